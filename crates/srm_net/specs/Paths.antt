@@ -1,0 +1,111 @@
+-- Routes between nodes and between members, and what becomes of a packet on them.
+use Rattle.std.specs.Prelude.{ℕ, zero, suc, ◌+◌, Bool, true, false, not, ◌&&◌, ◌||◌, List, [], ◌∷◌, Option, Some, None, unwrap_or, length, slice_get, slice_index, ◌==◌, if◌then◌else◌}
+use Rattle.std.specs.List.{list_any}
+use Rattle.std.specs.declared.cmp.Ordering.{Ordering}
+use Rattle.std.specs.Ordering.{nat_cmp}
+use Rattle.std.specs.Cmp.Lexicographic.{slice_cmp}
+use Rattle.srm_net.specs.declared.link.LinkSpec.{LinkSpec}
+use Rattle.srm_net.specs.declared.link.DropSpec.{DropSpec}
+use Rattle.srm_net.specs.declared.packet.PacketId.{PacketId}
+use Rattle.srm_net.specs.Network.{Network}
+
+-- ---- routes
+
+-- whether the number stands in the list
+abbrev pub is_in : List ℕ → ℕ → Bool
+is_in ns n = list_any (λ k. k == n) ns
+
+-- the node to which a link leads from node u, if it meets u
+abbrev pub far_end : LinkSpec → ℕ → Option ℕ
+far_end k u = if k.a == u then Some k.b else if k.b == u then Some k.a else None
+
+-- the way by link l and on from there, if there is one, or else another
+abbrev pub way_by : ℕ → Option (List ℕ) → Option (List ℕ) → Option (List ℕ)
+way_by l (Some ls) other = Some (l ∷ ls)
+way_by l None other = other
+
+-- `further x`, unless node x was passed
+abbrev pub unless_passed : Bool → ℕ → (ℕ → Option (List ℕ)) → Option (List ℕ)
+unless_passed true x further = None
+unless_passed false x further = further x
+
+-- the way on by a link that leads to this node, if any
+abbrev pub way_on : (ℕ → Option (List ℕ)) → List ℕ → Option ℕ → Option (List ℕ)
+way_on further passed None = None
+way_on further passed (Some x) = unless_passed (is_in passed x) x further
+
+-- the first way from node u, by the links in their order, l the number of the first of them
+abbrev pub first_way : (ℕ → Option (List ℕ)) → List ℕ → ℕ → ℕ → List LinkSpec → Option (List ℕ)
+first_way further passed u l [] = None
+first_way further passed u l (k ∷ ks) = way_by l (way_on further passed (far_end k u)) (first_way further passed u (l + 1) ks)
+
+-- a way of at most n links from node u to node v that meets none of the nodes passed, if there is one
+unfoldable pub route_within : ℕ → List LinkSpec → List ℕ → ℕ → ℕ → Option (List ℕ)
+route_within zero links passed u v = if u == v then Some [] else None
+route_within (suc n) links passed u v =
+    if u == v then Some [] else first_way (λ x. route_within n links (u ∷ passed) x v) (u ∷ passed) u 0 links
+
+-- the links, by number, of the way from node u to node v. In a tree it is the one path
+unfoldable pub route : Network → ℕ → ℕ → List ℕ
+route w u v = unwrap_or (route_within (length w.links) w.links [] u v) []
+
+-- ---- members
+
+-- the node of member m
+abbrev pub host : Network → ℕ → ℕ
+host w m = slice_index w.hosts m
+
+-- the way of packets from member a to member b
+abbrev pub member_route : Network → ℕ → ℕ → List ℕ
+member_route w a b = route w (host w a) (host w b)
+
+-- the delay of link l
+abbrev pub delay_of : Option LinkSpec → ℕ
+delay_of None = 0
+delay_of (Some k) = k.delay
+
+-- the sum of the delays of these links
+abbrev pub delay_along : List LinkSpec → List ℕ → ℕ
+delay_along links [] = 0
+delay_along links (l ∷ ls) = delay_of (slice_get links l) + delay_along links ls
+
+-- how long a packet takes from member a to member b, in ticks
+unfoldable pub distance : Network → ℕ → ℕ → ℕ
+distance w a b = delay_along w.links (member_route w a b)
+
+-- ---- drops
+
+-- drops are compared by link, sender and count
+abbrev pub drop_cmp : DropSpec → DropSpec → Ordering
+drop_cmp d e = slice_cmp nat_cmp (d.link ∷ d.id.sender ∷ d.id.count ∷ []) (e.link ∷ e.id.sender ∷ e.id.count ∷ [])
+
+-- whether link l is listed as dropping packet p
+abbrev pub is_listed : List DropSpec → PacketId → ℕ → Bool
+is_listed drops p l = list_any (λ d. (d.link == l) && ((d.id.sender == p.sender) && (d.id.count == p.count))) drops
+
+-- whether packet p reaches member m: no link of the way from its sender is listed for it
+unfoldable pub reaches : Network → List DropSpec → PacketId → ℕ → Bool
+reaches w drops p m = not (list_any (is_listed drops p) (member_route w p.sender m))
+
+-- whether link l is on the way, and neither it nor an earlier link of the way is listed
+abbrev pub crossed_on : (ℕ → Bool) → List ℕ → ℕ → Bool
+crossed_on listed [] l = false
+crossed_on listed (k ∷ ks) l = not (listed k) && ((k == l) || crossed_on listed ks l)
+
+-- whether link l is the first of the way that is listed
+abbrev pub dropped_on : (ℕ → Bool) → List ℕ → ℕ → Bool
+dropped_on listed [] l = false
+dropped_on listed (k ∷ ks) l = if listed k then (k == l) else dropped_on listed ks l
+
+-- whether a test holds of some number below n
+abbrev pub some_below : (ℕ → Bool) → ℕ → Bool
+some_below test zero = false
+some_below test (suc n) = test n || some_below test n
+
+-- whether packet p crosses link l on its way to some member, whether or not that member is present
+unfoldable pub crosses : Network → List DropSpec → PacketId → ℕ → Bool
+crosses w drops p l = some_below (λ m. crossed_on (is_listed drops p) (member_route w p.sender m) l) (length w.hosts)
+
+-- whether packet p is dropped at link l on its way to some member, whether or not that member is present
+unfoldable pub drops_at : Network → List DropSpec → PacketId → ℕ → Bool
+drops_at w drops p l = some_below (λ m. dropped_on (is_listed drops p) (member_route w p.sender m) l) (length w.hosts)

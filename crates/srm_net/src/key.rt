@@ -1,0 +1,29 @@
+//! Keys of events and their order.
+ghost use Rattle.std.specs.Prelude.{◌≡◌};
+
+/// The key of an event. Keys are compared by time, then member, then rank, then the three numbers.
+///
+/// | rank | event | `a`, `b`, `c` |
+/// |---|---|---|
+/// | 0 | join | 0, 0, 0 |
+/// | 1 | arrival of a packet | its sender, 0, its count |
+/// | 2 | request timer | source, page and number of its name |
+/// | 3 | repair timer | source, page and number of its name |
+/// | 4 | draw | 0, 0, its place in the scenario |
+/// | 5 | report | 0, 0, its place in the scenario |
+/// | 6 | leave | 0, 0, 0 |
+#[derive(Clone, Copy, Debug, PartialEq, Eq, PartialOrd, Ord)]
+pub struct Key {
+    /// When the event is, in ticks.
+    pub time: u64,
+    /// The member that handles the event.
+    pub member: u16,
+    /// The rank of the event's kind among events of one member and tick.
+    pub rank: u8,
+    /// The first number that tells events of one rank apart.
+    pub a: u16,
+    /// The second number.
+    pub b: u16,
+    /// The third number.
+    pub c: u64,
+}

@@ -1,0 +1,10 @@
+//! Nodes, links, paths and drops of a tree-shaped network, and the packets and event keys that travel in it.
+#![tactic(auto)]
+
+pub mod key;
+pub mod link;
+pub mod packet;
+pub mod role;
+pub mod sequence;
+
+pub mod example;

@@ -1,0 +1,84 @@
+//! Names of drawing operations, and packets.
+ghost use Rattle.std.specs.Prelude.{◌≡◌};
+
+use crate::sequence::Sequence;
+
+/// A packet's identity: its sender, and how many packets that member sent before it.
+#[derive(Clone, Copy, Debug, PartialEq, Eq, PartialOrd, Ord, Hash)]
+pub struct PacketId {
+    /// The member that sent the packet.
+    pub sender: u16,
+    /// The packet's place among all that its sender sends, from 0.
+    pub count: u64,
+}
+
+/// The name of a drawing operation (Floyd et al. 1997): who drew it, on which page, and its number there.
+#[derive(Clone, Copy, Debug, PartialEq, Eq, PartialOrd, Ord)]
+pub struct Name {
+    /// The member that drew.
+    pub source: u16,
+    /// The page of that source.
+    pub page: u16,
+    /// The operation's number on that page, from 0.
+    pub number: u32,
+}
+
+/// A page of one source (Floyd et al. 1997), on which drawing operations are numbered from 0.
+#[derive(Clone, Copy, Debug, PartialEq, Eq, PartialOrd, Ord)]
+pub struct PageId {
+    /// The member that drew.
+    pub source: u16,
+    /// The page of that source.
+    pub page: u16,
+}
+
+/// An entry of a session message: the highest number that its sender knows of one page.
+#[derive(Clone, Copy, Debug, PartialEq, Eq, PartialOrd, Ord)]
+pub struct Heard {
+    /// The member that drew.
+    pub source: u16,
+    /// The page of that source.
+    pub page: u16,
+    /// The highest number heard of.
+    pub highest: u32,
+}
+
+/// What a packet carries.
+#[derive(Clone, Debug, Drop)]
+pub enum Body {
+    /// A drawing operation, from its source.
+    Drawop {
+        /// The operation's name.
+        name: Name,
+        /// What was drawn.
+        ink: u32,
+    },
+    /// A request for a drawing operation.
+    Request {
+        /// The name that is asked for.
+        name: Name,
+    },
+    /// A drawing operation, sent again by whoever holds it.
+    Repair {
+        /// The operation's name.
+        name: Name,
+        /// What was drawn.
+        ink: u32,
+    },
+    /// A session message.
+    Session {
+        /// What its sender heard of each page.
+        heard: Sequence<Heard>,
+    },
+}
+
+/// A packet, sent to all members.
+#[derive(Clone, Debug, Drop)]
+pub struct Packet {
+    /// The packet's identity.
+    pub id: PacketId,
+    /// When it was sent, in ticks.
+    pub sent: u64,
+    /// What it carries.
+    pub body: Body,
+}
