@@ -64,7 +64,8 @@ impl<T> Sequence<T> {
 
     /// Appends an element. After an error the list is as it was.
     pub fn push(&mut self, item: T) -> Result<(), AllocError>
-        where T: Drop
+    where
+        T: Drop,
         ensures ok { OnOk result (self.new ≡ self.old ++ item ∷ []) }
         ensures err { OnErr result (self.new ≡ self.old) }
     {

@@ -1,0 +1,13 @@
+//! A member's next timer.
+use srm_net::packet::Name;
+
+/// A timer of a member.
+#[derive(Clone, Copy, Debug, PartialEq, Eq, PartialOrd, Ord)]
+pub struct Due {
+    /// When it expires, in ticks.
+    pub time: u64,
+    /// The rank of its event: 2 for a request timer, 3 for a repair timer.
+    pub rank: u8,
+    /// The name that it asks for or answers.
+    pub name: Name,
+}

@@ -1,0 +1,28 @@
+//! What never changes of a member.
+use srm_net::role::Role;
+use srm_net::sequence::Sequence;
+
+/// The part of a member's record that never changes.
+#[derive(Debug, Drop)]
+pub struct Fixed {
+    /// Its number.
+    pub member: u16,
+    /// What it does.
+    pub role: Role,
+    /// The least length of a request timer, in thousandths of the distance to the source (Floyd et al. 1997: C1).
+    pub c1: u32,
+    /// By how much a request timer may be longer, in thousandths (C2).
+    pub c2: u32,
+    /// The least length of a repair timer, in thousandths of the distance to the requester (D1).
+    pub d1: u32,
+    /// By how much a repair timer may be longer, in thousandths (D2).
+    pub d2: u32,
+    /// Its distance to each member, in ticks.
+    pub dist: Sequence<u64>,
+    /// Of a late member, the pages whose earlier operations it asks for.
+    pub pages: Sequence<u16>,
+    /// The seed of its generator.
+    pub seed: u64,
+    /// The stream of its generator.
+    pub stream: u64,
+}

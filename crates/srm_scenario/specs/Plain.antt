@@ -1,0 +1,68 @@
+-- A scenario as one plain record, its network, and the members' scripts.
+use Rattle.std.specs.Prelude.{ℕ, ◌+◌, List, [], ◌∷◌, ◌++◌, map, Option, Some, None, ◌==◌, if◌then◌else◌, length}
+use Rattle.std.specs.declared.cmp.Ordering.{Ordering}
+use Rattle.std.specs.Ordering.{nat_cmp}
+use Rattle.std.specs.Cmp.Lexicographic.{slice_cmp}
+use Rattle.srm_net.specs.declared.link.LinkSpec.{LinkSpec}
+use Rattle.srm_net.specs.declared.link.DropSpec.{DropSpec}
+use Rattle.srm_net.specs.Orders.{ordered}
+use Rattle.srm_net.specs.Network.{Network}
+use Rattle.srm_scenario.specs.declared.mark.Mark.{Mark}
+use Rattle.srm_scenario.specs.declared.parts.Constants.{Constants}
+use Rattle.srm_scenario.specs.declared.parts.MemberSpec.{MemberSpec}
+use Rattle.srm_scenario.specs.declared.parts.DrawSpec.{DrawSpec}
+use Rattle.srm_scenario.specs.declared.parts.SessionSpec.{SessionSpec}
+
+-- what a run is given: events before `until` are handled. Members, links, draws and sessions are numbered in their lists'
+-- order, and drops stand in rising order, each once
+pub record PlainScenario : Type 0 where
+  pub until : ℕ
+  pub constants : Constants
+  pub nodes : ℕ
+  pub links : List LinkSpec
+  pub members : List MemberSpec
+  pub draws : List DrawSpec
+  pub sessions : List SessionSpec
+  pub drops : List DropSpec
+
+-- the network of a scenario
+abbrev pub network_of : PlainScenario → Network
+network_of s = record { nodes = s.nodes; links = s.links; hosts = map (λ m. m.node) s.members }
+
+-- ---- scripts
+
+-- marks are compared by time, rank and place
+abbrev pub mark_cmp : Mark → Mark → Ordering
+mark_cmp k l = slice_cmp nat_cmp (k.at ∷ k.rank ∷ k.place ∷ []) (l.at ∷ l.rank ∷ l.place ∷ [])
+
+-- a mark that draws nothing
+abbrev pub plain_mark : ℕ → ℕ → ℕ → Mark
+plain_mark at rank place = record { at = at; rank = rank; place = place; page = 0; ink = 0 }
+
+-- member m's marks among these draws, the first of which is the scenario's draw i
+abbrev pub draw_marks : ℕ → ℕ → List DrawSpec → List Mark
+draw_marks m i [] = []
+draw_marks m i (d ∷ ds) =
+    if d.member == m
+    then record { at = d.at; rank = 4; place = i; page = d.page; ink = d.ink } ∷ draw_marks m (i + 1) ds
+    else draw_marks m (i + 1) ds
+
+-- member m's marks among these sessions, the first of which is the scenario's session i
+abbrev pub report_marks : ℕ → ℕ → List SessionSpec → List Mark
+report_marks m i [] = []
+report_marks m i (r ∷ rs) =
+    if r.member == m then plain_mark r.at 5 i ∷ report_marks m (i + 1) rs else report_marks m (i + 1) rs
+
+-- the mark of a leave, if there is one
+abbrev pub leave_marks : Option ℕ → List Mark
+leave_marks None = []
+leave_marks (Some at) = plain_mark at 6 0 ∷ []
+
+-- the marks of a member, without their order
+abbrev pub marks_of : PlainScenario → ℕ → Option MemberSpec → List Mark
+marks_of s m None = []
+marks_of s m (Some k) = plain_mark k.join 0 0 ∷ draw_marks m 0 s.draws ++ report_marks m 0 s.sessions ++ leave_marks k.leave
+
+-- member m's script: its join, draws, reports and leave, in the order of their keys
+unfoldable pub script_of : PlainScenario → ℕ → List Mark
+script_of s m = ordered mark_cmp (marks_of s m (Rattle.std.specs.Prelude.slice_get s.members m))

@@ -1,0 +1,5 @@
+//! Scenarios: what a run is given, and how it is read from TOML text.
+#![tactic(auto)]
+
+pub mod mark;
+pub mod parts;

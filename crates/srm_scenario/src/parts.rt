@@ -1,0 +1,55 @@
+//! The parts of a scenario.
+use srm_net::role::Role;
+use srm_net::sequence::Sequence;
+
+/// The constants of the timers (Floyd et al. 1997), in thousandths, each 0 to 64,000.
+#[derive(Clone, Copy, Debug, PartialEq, Eq)]
+pub struct Constants {
+    /// The least length of a request timer, in thousandths of the distance to the source.
+    pub c1: u32,
+    /// By how much a request timer may be longer, in thousandths of the same distance.
+    pub c2: u32,
+    /// The least length of a repair timer, in thousandths of the distance to the requester.
+    pub d1: u32,
+    /// By how much a repair timer may be longer, in thousandths of the same distance.
+    pub d2: u32,
+}
+
+/// A member of the session.
+#[derive(Clone, Debug, Drop)]
+pub struct MemberSpec {
+    /// The node that hosts it.
+    pub node: u16,
+    /// What it does.
+    pub role: Role,
+    /// The stream of its random words, below 2^63.
+    pub stream: u64,
+    /// When it joins, in ticks.
+    pub join: u64,
+    /// When it leaves, in ticks, if it does.
+    pub leave: Option<u64>,
+    /// Of a late member, the pages whose earlier operations it asks for.
+    pub pages: Sequence<u16>,
+}
+
+/// A drawing operation.
+#[derive(Clone, Copy, Debug, PartialEq, Eq)]
+pub struct DrawSpec {
+    /// The member that draws.
+    pub member: u16,
+    /// The page on which it draws.
+    pub page: u16,
+    /// What it draws.
+    pub ink: u32,
+    /// When it draws, in ticks.
+    pub at: u64,
+}
+
+/// A session message.
+#[derive(Clone, Copy, Debug, PartialEq, Eq)]
+pub struct SessionSpec {
+    /// The member that sends it.
+    pub member: u16,
+    /// When it sends it, in ticks.
+    pub at: u64,
+}
