@@ -8,3 +8,5 @@ pub mod PathLaws
 pub mod BuiltLemmas
 pub mod WayLemmas
 pub mod TreeWays
+pub mod ToldLemmas
+pub mod LeastLemmas

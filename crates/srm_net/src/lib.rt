@@ -14,4 +14,5 @@ pub mod packet;
 pub mod role;
 pub mod sequence;
 mod sides;
+mod tree;
 mod ways;
