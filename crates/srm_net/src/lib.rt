@@ -14,5 +14,6 @@ pub mod packet;
 pub mod role;
 pub mod sequence;
 mod sides;
+mod step;
 mod tree;
 mod ways;
