@@ -135,4 +135,3 @@ module _ (w : Network) (n : IsNetwork w) (l u near : ℕ) (any : Bool) (drops : 
       ∙ ap (λ v. is_listed drops p l && (some_beyond w l k.0 v && not (list_any (is_listed drops p) (route w v (near_end w l k.0 v))))) (sym e)
       ∙ ap (λ t. is_listed drops p l && (t && not (list_any (is_listed drops p) (route w u (near_end w l k.0 u))))) (sym a)
       ∙ ap (λ t. is_listed drops p l && (any && not (list_any (is_listed drops p) (route w u t)))) (sym b)
-

@@ -3,10 +3,12 @@ use Rattle.std.proofs.Common.{◌≡◌, ◌⊎◌, ℕ, suc, ◌+◌, ◌<◌, 
 use Rattle.std.proofs.lemmas.Bool.{both_ways}
 use Rattle.srm_net.specs.declared.link.LinkSpec.{LinkSpec}
 use Rattle.srm_net.specs.declared.step.Step.{Step}
-use Rattle.srm_net.specs.Network.{Network, plain_network, Joins, IsWithin, IsTree}
+use Rattle.srm_net.specs.Network.{Network, plain_network, Joins, IsWithin, IsTree, HasDelay, AreHosts, IsNetwork}
 use Rattle.srm_net.specs.Paths.{is_in}
 use Rattle.srm_net.specs.Growth.{Attaches, attached, Grows, LeadsOut, StaysWithin}
-use Rattle.srm_net.specs.Ways.{is_known}
+use Rattle.srm_net.specs.Ways.{is_known, TellsWays}
+use Rattle.srm_net.specs.declared.tree.Tree.TheInside.{Inside}
+use Rattle.srm_net.specs.Built.{IsBuilt}
 use Rattle.srm_net.proofs.Lists.{all_get}
 use Rattle.srm_net.proofs.Numbers.{in_tail, one_missing, distinct_from_apart}
 use Rattle.srm_net.proofs.Growing.{attached_length, joins_below, leaves_by, all_attached}
@@ -44,12 +46,23 @@ stuck_no_tree nodes links ss known agree few within t =
 -- what grew to all nodes is a tree
 pub whole_tree : (nodes : ℕ) (links : List LinkSpec) (ss : List Step) → 1 ≤ nodes → nodes ≤ 256 → All (IsWithin nodes) links → length links + 1 ≡ nodes → Grows links ss → length ss + 1 ≡ nodes → IsTree (plain_network nodes links [])
 whole_tree nodes links ss some few ends one g all = record {
-  some_nodes = some; few_nodes = few; ends = ends; one_fewer = one;
+  some_nodes = some;
+  few_nodes = few;
+  ends = ends;
+  one_fewer = one;
   connected = λ u v hu hv.
-    let b = both_ways_grown links ss g u v (all_attached nodes links ss some ends g all u hu) (all_attached nodes links ss some ends g all v hv) in
-    (b.there.path, (b.there.nodes, b.there.walk, distinct_from_apart b.there.nodes b.there.apart))
+      let b = both_ways_grown links ss g u v (all_attached nodes links ss some ends g all u hu) (all_attached nodes links ss some ends g all v hv) in
+      (b.there.path, (b.there.nodes, b.there.walk, distinct_from_apart b.there.nodes b.there.apart));
 }
 
 -- hosts do not matter
 pub tree_of_any : (nodes : ℕ) (links : List LinkSpec) (hs gs : List ℕ) → IsTree (plain_network nodes links hs) → IsTree (plain_network nodes links gs)
 tree_of_any nodes links hs gs t = record { some_nodes = t.some_nodes; few_nodes = t.few_nodes; ends = t.ends; one_fewer = t.one_fewer; connected = t.connected }
+
+-- a tree whose parts were checked is a network with its ways
+pub built_tree : (t : Inside) (links : List LinkSpec) (hosts : List ℕ) → t.links.items ≡ links → t.hosts.items ≡ hosts → IsTree (plain_network t.nodes links []) → All HasDelay links → AreHosts t.nodes hosts → TellsWays t.nodes links t.ways → IsBuilt t
+built_tree t links hosts e f tree delays are ways =
+    let whole : IsNetwork (plain_network t.nodes links hosts) = record { tree = tree_of_any t.nodes links [] hosts tree; delays = delays; hosts = are } in
+    let here : IsNetwork (plain_network t.nodes t.links.items t.hosts.items) =
+    subst (λ hs. IsNetwork (plain_network t.nodes t.links.items hs)) (sym f) (subst (λ ls. IsNetwork (plain_network t.nodes ls hosts)) (sym e) whole) in
+    record { network = here; ways = subst (λ ls. TellsWays t.nodes ls t.ways) (sym e) ways }

@@ -7,12 +7,15 @@ ghost use Rattle.srm_net.specs.declared.link.LinkSpec.{LinkSpec};
 ghost use Rattle.srm_net.specs.Tables.{near_end, some_beyond};
 ghost use Rattle.srm_net.specs.Least.{least_delay, out};
 
+use crate::checks::{are_hosts, have_delays};
 use crate::drops::Drops;
 use crate::fault::NetFault;
 use crate::link::LinkSpec;
+use crate::order::attaching_order;
 use crate::packet::PacketId;
 use crate::sides::Sides;
 use crate::tree::Tree;
+use crate::ways::Ways;
 use std::alloc::Global;
 use std::marker::Model;
 
@@ -70,7 +73,28 @@ impl Net {
         // and none but want of memory where the network is as it should be
         ensures accepted { IsNetwork (plain_network nodes links.now hosts.now) → IfErr result (λ e. e ≡ NetFault.NoMemory) }
     {
-        Err(NetFault::NoMemory)
+        let steps = attaching_order(alloc, nodes, links)?;
+        if !have_delays(links) {
+            return Err(NetFault::BadDelay);
+        }
+        if !are_hosts(nodes, hosts) {
+            return Err(NetFault::BadHost);
+        }
+        let tree = Tree {
+            nodes,
+            links: links.to_vec(alloc)?,
+            hosts: hosts.to_vec(alloc)?,
+            ways: Ways::of(alloc, nodes, links, steps.as_slice())?,
+        };
+        let sides = tree.all_sides(alloc)?;
+        let outs = tree.all_outs(alloc)?;
+        let least = tree.least_delay();
+        Ok(Net {
+            tree,
+            sides,
+            outs,
+            least,
+        })
     }
 
     /// How many members there are: at most 256.
@@ -133,7 +157,8 @@ impl Net {
         requires member { m < length self.now.hosts }
         ensures { result ≡ reaches self.now drops.now id m }
     {
-        self.tree.is_clear(drops, id, self.tree.host(id.sender), self.tree.host(m))
+        self.tree
+            .is_clear(drops, id, self.tree.host(id.sender), self.tree.host(m))
     }
 
     /// Whether a packet crosses a link: the link is on the way from its sender to some member, present or not, and

@@ -1,8 +1,9 @@
 //! The order in which the nodes of a tree are attached to one another.
-ghost use Rattle.std.specs.Prelude.{◌≡◌, ◌⊎◌, ◌↔◌, ◌+◌, ◌<◌, ◌≤◌, [], All, IsTrue, IfOk, IfErr, IfSome, IfNone, length, reverse};
+ghost use Rattle.std.specs.Prelude.{◌≡◌, ◌⊎◌, ◌+◌, ◌<◌, ◌≤◌, [], All, IfOk, IfErr, IfSome, IfNone, length, reverse};
 ghost use Rattle.srm_net.specs.Network.{plain_network, IsWithin, IsTree};
 ghost use Rattle.srm_net.specs.Growth.{Grows, LeadsOut, StaysWithin};
 
+use crate::checks::are_within;
 use crate::fault::NetFault;
 use crate::link::LinkSpec;
 use crate::step::Step;
@@ -11,13 +12,21 @@ use std::alloc::Global;
 /// The steps by which the tree of these links grows from node 0, one for each other node.
 ///
 /// [`NetFault::NotTree`] where it is no tree of 1 to 256 nodes.
-pub(crate) fn attaching_order(alloc: Global, nodes: u16, links: &[LinkSpec]) -> Result<Vec<Step>, NetFault>
+pub(crate) fn attaching_order(
+    alloc: Global,
+    nodes: u16,
+    links: &[LinkSpec],
+) -> Result<Vec<Step>, NetFault>
     ensures grows { IfOk result (λ steps. Grows links.now (reverse steps.items)) }
     ensures all { IfOk result (λ steps. length steps.items + 1 ≡ nodes) }
     ensures tree { IfOk result (λ _. IsTree (plain_network nodes links.now [])) }
     ensures fault { IfErr result (λ e. (e ≡ NetFault.NoMemory) ⊎ ((e ≡ NetFault.NotTree) × (¬ IsTree (plain_network nodes links.now [])))) }
 {
-    if nodes < 1 || nodes > 256 || links.len() + 1 != usize::from(nodes) || !are_within(nodes, links) {
+    if nodes < 1
+        || nodes > 256
+        || links.len() + 1 != usize::from(nodes)
+        || !are_within(nodes, links)
+    {
         return Err(NetFault::NotTree);
     }
     let mut known = vec![in alloc; false; usize::from(nodes)]?;
@@ -33,13 +42,6 @@ pub(crate) fn attaching_order(alloc: Global, nodes: u16, links: &[LinkSpec]) -> 
         };
     }
     Ok(steps)
-}
-
-/// Whether both ends of each link are nodes.
-fn are_within(nodes: u16, links: &[LinkSpec]) -> bool
-    ensures { IsTrue result ↔ All (IsWithin nodes) links.now }
-{
-    links.iter().all(|link| link.a < nodes && link.b < nodes)
 }
 
 /// A step over the first link that leads from a known node to another.

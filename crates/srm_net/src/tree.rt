@@ -1,17 +1,18 @@
 //! A tree of nodes and links with members on some nodes, and the ways in it.
-ghost use Rattle.std.specs.Prelude.{◌≡◌, ◌≢◌, ℕ, ◌<◌, ◌≤◌, not, ◌∷◌, Some, length, slice_get};
+ghost use Rattle.std.specs.Prelude.{◌≡◌, ◌≢◌, ℕ, ◌<◌, ◌≤◌, not, ◌∷◌, Some, IfOk, length, slice_get};
 ghost use Rattle.std.specs.List.{list_any};
 ghost use Rattle.srm_net.specs.declared.link.LinkSpec.{LinkSpec};
 ghost use Rattle.srm_net.specs.Network.{IsNetwork};
 ghost use Rattle.srm_net.specs.Paths.{is_listed, host, route, distance};
-ghost use Rattle.srm_net.specs.Least.{out};
-ghost use Rattle.srm_net.specs.Tables.{is_beyond, TellsSides};
+ghost use Rattle.srm_net.specs.Least.{least_delay, out};
+ghost use Rattle.srm_net.specs.Tables.{is_beyond, TellsSides, TellsAllSides, TellsOuts};
 
 use crate::drops::Drops;
 use crate::link::LinkSpec;
 use crate::packet::PacketId;
 use crate::sides::Sides;
 use crate::ways::Ways;
+use std::alloc::{AllocError, Global};
 use std::marker::Model;
 
 /// A tree of nodes and links, with members on some nodes, and the way between each two nodes.
@@ -155,6 +156,43 @@ impl Tree {
             least = match least {
                 None => Some(distance),
                 Some(known) => Some(known.min(distance)),
+            };
+        }
+        least
+    }
+
+    /// Whether members are on the two sides of each link.
+    pub(crate) fn all_sides(&self, alloc: Global) -> Result<Vec<Sides>, AllocError>
+        ensures { IfOk result (λ all. TellsAllSides self.now all.items) }
+    {
+        let mut all = Vec::new(alloc);
+        for link in 0..self.links().len() as u16 {
+            all.push(self.sides_of(link))?;
+        }
+        Ok(all)
+    }
+
+    /// Each member's least distance to another.
+    pub(crate) fn all_outs(&self, alloc: Global) -> Result<Vec<Option<u64>>, AllocError>
+        ensures { IfOk result (λ all. TellsOuts self.now all.items) }
+    {
+        let mut all = Vec::new(alloc);
+        for m in 0..self.members() {
+            all.push(self.out_of(m))?;
+        }
+        Ok(all)
+    }
+
+    /// The least delay of a link, in ticks, or none where there is no link.
+    pub(crate) fn least_delay(&self) -> Option<u64>
+        ensures value { result ≡ least_delay self.now }
+        ensures network { IsNetwork self.now }
+    {
+        let mut least = None;
+        for link in self.links() {
+            least = match least {
+                None => Some(link.delay),
+                Some(known) => Some(known.min(link.delay)),
             };
         }
         least

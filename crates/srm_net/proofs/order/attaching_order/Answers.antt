@@ -43,7 +43,7 @@ loop-size-preserved c =
       marks = length-set c.loop-size.known.items c.from-in-loop-size.result true ∙ inv.marks;
       known = subst (λ ts. KnownAre c.args.nodes ts (slice_set c.loop-size.known.items c.from-in-loop-size.result true)) (sym more)
           (subst (λ n. KnownAre c.args.nodes (s ∷ ss) (slice_set c.loop-size.known.items n true)) (sym c.from-in-loop-size.ensures) (known_more c.args.nodes ss s c.loop-size.known.items inv.marks below inv.known));
-      grown = subst (Grows c.args.links.now) (sym more) (a, inv.grown)
+      grown = subst (Grows c.args.links.now) (sym more) (a, inv.grown);
     }
 
 pub returns-clause-tree : goal.returns-clause-tree

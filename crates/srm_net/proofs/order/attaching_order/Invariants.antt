@@ -8,5 +8,5 @@ invariant-loop-size l = record {
   long : length l.steps.items + 1 ≡ l._size;
   marks : length l.known.items ≡ l.nodes;
   known : KnownAre l.nodes (reverse l.steps.items) l.known.items;
-  grown : Grows l.links (reverse l.steps.items)
+  grown : Grows l.links (reverse l.steps.items);
 }

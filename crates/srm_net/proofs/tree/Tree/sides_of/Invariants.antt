@@ -6,5 +6,5 @@ use Rattle.srm_net.proofs.tree.Tree.sides_of.Given as goal
 abbrev pub invariant-loop-m : goal.invariant-loop-m
 invariant-loop-m l = record {
   within : l.m-end ≡ length l.self.hosts;
-  told : (k : LinkSpec) → slice_get l.self.links l.link ≡ Some k → TellsFirst l.self l.link l.m l.sides k
+  told : (k : LinkSpec) → slice_get l.self.links l.link ≡ Some k → TellsFirst l.self l.link l.m l.sides k;
 }
