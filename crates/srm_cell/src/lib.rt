@@ -1,0 +1,4 @@
+//! Cells: a member with the packets on their way to it, the rest of its script and its packet count.
+#![tactic(auto)]
+
+pub mod flight;
