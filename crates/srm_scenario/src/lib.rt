@@ -1,5 +1,6 @@
 //! Scenarios: what a run is given, and how it is read from TOML text.
 #![tactic(auto)]
 
+pub mod laws;
 pub mod mark;
 pub mod parts;
