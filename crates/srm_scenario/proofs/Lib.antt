@@ -1,2 +1,7 @@
+<<<<<<< HEAD
 pub mod Sorting
 pub mod Marks
+=======
+pub mod Placed
+pub mod ScriptLemmas
+>>>>>>> scripts
