@@ -1,7 +1,4 @@
-<<<<<<< HEAD
-pub mod Sorting
 pub mod Marks
-=======
 pub mod Placed
 pub mod ScriptLemmas
->>>>>>> scripts
+pub mod Sorting
