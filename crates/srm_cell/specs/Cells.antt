@@ -2,8 +2,6 @@
 use Rattle.std.specs.Prelude.{◌≡◌, ℕ, ◌+◌, ◌^◌, Bool, true, List, [], ◌∷◌, Option, Some, None, nat_lt, ◌==◌, if◌then◌else◌}
 use Rattle.std.specs.declared.cmp.Ordering.{Ordering}
 use Rattle.std.specs.declared.cmp.Ordering.TheVariants.{Less, Equal, Greater}
-use Rattle.std.specs.Ordering.{nat_cmp}
-use Rattle.std.specs.Cmp.Lexicographic.{slice_cmp}
 use Rattle.srm_net.specs.declared.key.Key.{Key}
 use Rattle.srm_net.specs.declared.packet.Name.{Name}
 use Rattle.srm_net.specs.declared.packet.Body.{Body}
@@ -27,15 +25,9 @@ use Rattle.srm_member.specs.Record.{Record, Active, Gone, opening_record, timers
 use Rattle.srm_member.specs.React.{Reaction, is_listener, react}
 use Rattle.srm_cell.specs.declared.flight.Flight.{Flight}
 use Rattle.srm_cell.specs.Setting.{Setting, arrival_of, cause_of_mark}
+use Rattle.srm_cell.specs.Flights.{flight_cmp}
 
 -- ---- cells
-
--- flights are compared by arrival, and then by the packet's sender and count
-abbrev pub numbers_of_flight : Flight → List ℕ
-numbers_of_flight f = f.arrival ∷ f.packet.id.sender ∷ f.packet.id.count ∷ []
-
-abbrev pub flight_cmp : Flight → Flight → Ordering
-flight_cmp f g = slice_cmp nat_cmp (numbers_of_flight f) (numbers_of_flight g)
 
 -- a member's record, how many packets it sent, the flights to it in order, the rest of its script, and its exit once it left
 pub record PlainCell : Type 0 where

@@ -1,5 +1,6 @@
-//! One member's cell: its record, what is on the way to it, the rest of its script, and its own steps.
+//! Cells: a member with the packets on their way to it, the rest of its script and its packet count.
 #![tactic(auto)]
 
 pub mod flight;
+pub mod inbox;
 pub mod laws;

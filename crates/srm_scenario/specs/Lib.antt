@@ -1,2 +1,3 @@
 pub mod Plain
 pub mod Accepted
+pub mod Scripts

@@ -1,5 +1,8 @@
 //! Scenarios: what a run is given, and how it is read from TOML text.
 #![tactic(auto)]
 
+pub mod fault;
+pub mod laws;
 pub mod mark;
 pub mod parts;
+pub mod script;
