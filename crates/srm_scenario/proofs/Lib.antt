@@ -1,2 +1,3 @@
 pub mod Sorting
 pub mod Marks
+pub mod Tables

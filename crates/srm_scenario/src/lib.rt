@@ -5,3 +5,5 @@ pub mod fault;
 pub mod mark;
 pub mod parts;
 pub mod script;
+mod table;
+pub mod topology;
