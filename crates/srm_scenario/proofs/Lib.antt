@@ -1,3 +1,5 @@
-pub mod Sorting
 pub mod Marks
 pub mod Tables
+pub mod Placed
+pub mod ScriptLemmas
+pub mod Sorting

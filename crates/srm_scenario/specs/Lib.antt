@@ -5,3 +5,5 @@ pub mod Described
 pub mod Trees
 pub mod Faults
 pub mod Keys
+pub mod Feed
+pub mod Scripts
