@@ -3,3 +3,4 @@ pub mod Tables
 pub mod Placed
 pub mod ScriptLemmas
 pub mod Sorting
+pub mod Members

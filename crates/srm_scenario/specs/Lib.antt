@@ -1,5 +1,6 @@
 pub mod Plain
 pub mod Accepted
+pub mod Pages
 pub mod Rules
 pub mod Described
 pub mod Trees

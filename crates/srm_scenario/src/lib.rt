@@ -7,6 +7,7 @@ pub mod feed;
 pub mod laws;
 pub mod mark;
 pub mod parts;
+pub mod scenario;
 pub mod script;
 mod table;
 pub mod topology;

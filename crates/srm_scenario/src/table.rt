@@ -43,11 +43,9 @@ pub(crate) fn whole(value: &Value, low: u64, high: u64) -> Option<u64>
 
 /// The whole number at a key that must be there, if it is one from `low` to `high`.
 pub(crate) fn number(table: &Table, key: &str, low: u64, high: u64) -> Option<u64>
-    ensures {
-        MatchOption result
-            (is_met (table_view table.now) (rule key.now (whole low high) required) ≡ false)
-            (HasNumber key.now low high (table_view table.now))
-    }
+    ensures { MatchOption result
+        (is_met (table_view table.now) (rule key.now (whole low high) required) ≡ false)
+        (HasNumber key.now low high (table_view table.now)) }
 {
     match table.get(key) {
         Some(value) => whole(value, low, high),
@@ -57,11 +55,9 @@ pub(crate) fn number(table: &Table, key: &str, low: u64, high: u64) -> Option<u6
 
 /// The whole number at a key that need not be there, if it is one from `low` to `high`: `Some(None)` where the key is not there.
 pub(crate) fn optional_number(table: &Table, key: &str, low: u64, high: u64) -> Option<Option<u64>>
-    ensures {
-        MatchOption result
-            (is_met (table_view table.now) (rule key.now (whole low high) optional) ≡ false)
-            (MayHaveNumber key.now low high (table_view table.now))
-    }
+    ensures { MatchOption result
+        (is_met (table_view table.now) (rule key.now (whole low high) optional) ≡ false)
+        (MayHaveNumber key.now low high (table_view table.now)) }
 {
     match table.get(key) {
         Some(value) => match whole(value, low, high) {
