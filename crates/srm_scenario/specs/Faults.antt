@@ -31,7 +31,20 @@ faults_by fault test i (x ∷ xs) =
 abbrev pub fault_unless : Bool → ScenarioFault → List ScenarioFault
 fault_unless b fault = if b then [] else fault ∷ []
 
+-- the first fault, if there is one
+abbrev pub first : List ScenarioFault → Option ScenarioFault
+first [] = None
+first (fault ∷ faults) = Some fault
+
 -- ---- faults of keys
+
+-- what a table that fits rules is read as
+abbrev pub accepted : {A : Type 0} → List Rule → (Members → A) → Members → Option A
+accepted rules reading ms = if fits rules ms then Some (reading ms) else None
+
+-- what a table that fits rules is read as, where the value is one
+abbrev pub accepted_element : {A : Type 0} → List Rule → (Members → A) → Data → Option A
+accepted_element rules reading d = if fits_element rules d then Some (reading (table_of d)) else None
 
 -- the top table's rules, by the topology that it names
 abbrev pub rules_of_top : Members → List Rule

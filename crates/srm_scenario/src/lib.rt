@@ -9,5 +9,6 @@ pub mod mark;
 pub mod parts;
 pub mod scenario;
 pub mod script;
+mod element;
 mod table;
 pub mod topology;
