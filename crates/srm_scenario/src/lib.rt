@@ -10,5 +10,6 @@ pub mod parts;
 pub mod scenario;
 pub mod script;
 mod element;
+mod elements;
 mod table;
 pub mod topology;
