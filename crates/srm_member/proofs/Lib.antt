@@ -1,4 +1,6 @@
 mod Doublings
 pub mod AllIn
+pub mod OrderLemmas
 pub mod Bounds
 pub mod LawProofs
+pub mod FewerTimers
