@@ -1,0 +1,4 @@
+//! Engines: the sequential run of all members.
+#![tactic(auto)]
+
+pub mod next_times;
