@@ -1,1 +1,5 @@
+pub mod World
+pub mod Schedules
+pub mod Windows
+pub mod Laws
 pub mod NextTimes

@@ -1,0 +1,6 @@
+pub mod Timers
+pub mod Record
+pub mod React
+pub mod Reacts
+pub mod Examples
+pub mod Laws

@@ -4,7 +4,10 @@
 pub mod cause;
 pub mod due;
 pub mod exit;
+pub mod fault;
 pub mod fixed;
+pub mod laws;
 pub mod react;
 pub mod row;
+pub mod timers;
 pub mod told;

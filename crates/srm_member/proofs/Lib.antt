@@ -1,0 +1,4 @@
+mod Doublings
+pub mod AllIn
+pub mod Bounds
+pub mod LawProofs

@@ -1,0 +1,4 @@
+pub mod Marks
+pub mod Placed
+pub mod ScriptLemmas
+pub mod Sorting
