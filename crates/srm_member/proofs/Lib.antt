@@ -2,3 +2,5 @@ mod Doublings
 pub mod AllIn
 pub mod Bounds
 pub mod LawProofs
+pub mod Tables
+pub mod Changes
