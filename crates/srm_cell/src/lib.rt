@@ -3,3 +3,4 @@
 
 pub mod flight;
 pub mod inbox;
+pub mod laws;

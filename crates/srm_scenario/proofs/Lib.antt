@@ -1,2 +1,4 @@
-pub mod Sorting
 pub mod Marks
+pub mod Placed
+pub mod ScriptLemmas
+pub mod Sorting

@@ -1,2 +1,4 @@
 pub mod Plain
 pub mod Accepted
+pub mod Feed
+pub mod Scripts

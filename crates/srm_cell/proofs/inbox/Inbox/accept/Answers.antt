@@ -1,9 +1,5 @@
-use Rattle.std.proofs.Common.{◌≡◌, List, [], ◌∷◌, refl, subst, sym, ◌∙◌, ap}
-use Rattle.srm_net.specs.declared.packet.Packet.{Packet}
-use Rattle.srm_net.specs.declared.packet.PacketId.{PacketId}
-use Rattle.srm_net.specs.Orders.{place}
-use Rattle.srm_cell.specs.declared.flight.Flight.{Flight}
-use Rattle.srm_cell.specs.Flights.{flight_cmp, BringsNone}
+use Rattle.std.proofs.Common.{◌≡◌, refl, subst, sym, ◌∙◌, ap}
+use Rattle.srm_cell.specs.Flights.{BringsNone}
 use Rattle.srm_cell.specs.Entries.{flights_of, HaveKeys}
 use Rattle.srm_cell.proofs.Entries.{placed, keys_stay, if_ok}
 use Rattle.srm_cell.proofs.inbox.Inbox.accept.Goals as goal

@@ -1,0 +1,4 @@
+pub mod World
+pub mod Schedules
+pub mod Windows
+pub mod Laws

@@ -1,0 +1,4 @@
+//! The laws of the model: the sequential run, schedules, and windows.
+#![tactic(auto)]
+
+pub mod laws;
