@@ -7,4 +7,6 @@ mod Compare
 mod Earliest
 mod Indexes
 mod Maps
+pub mod Changes
 pub mod FewerTimers
+pub mod Tables
