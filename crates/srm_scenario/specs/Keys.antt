@@ -1,5 +1,5 @@
 -- What look-ups in a table give.
-use Rattle.std.specs.Prelude.{◌≡◌, ℕ, ◌≤◌, true, false, List, Option, Some, None, map, unwrap_or}
+use Rattle.std.specs.Prelude.{◌≡◌, ℕ, ◌≤◌, true, false, List, Option, Some, None, length}
 use Rattle.toml.specs.Data.{Data, Items, Members, get_member}
 use Rattle.srm_scenario.specs.Rules.{Kind, Need, Rule, rule, whole, numbers, elements, required, optional, is_met, is_whole, is_kind}
 use Rattle.srm_scenario.specs.Described.{number, number_at, number_of, items_list, array_at}
@@ -28,3 +28,9 @@ pub record MayHaveNumber (key : List ℕ) (low high : ℕ) (ms : Members) (n : O
   pub met : is_met ms (rule key (whole low high) optional) ≡ true
   pub is : number_at key ms ≡ n
   pub within : IsWithin low high n
+
+-- these values are those of the array at a key that need not be there
+pub record IsArray (key : List ℕ) (most : ℕ) (ms : Members) (values : List Data) : Type 0 where
+  pub met : is_met ms (rule key (elements most) optional) ≡ true
+  pub is : values ≡ array_at key ms
+  pub few : length values ≤ most

@@ -63,14 +63,21 @@ link_rules =
     ∷ rule (codes "delay") (whole 1 1000000) required
     ∷ []
 
+-- the rules of two keys of a member
+abbrev pub role_rule : Rule
+role_rule = rule (codes "role") (word (codes "sender" ∷ codes "receiver" ∷ codes "late" ∷ codes "listener" ∷ [])) required
+
+abbrev pub pages_rule : Rule
+pages_rule = rule (codes "pages") (numbers 256 65535) optional
+
 abbrev pub member_rules : List Rule
 member_rules =
     rule (codes "node") (whole 0 255) required
-    ∷ rule (codes "role") (word (codes "sender" ∷ codes "receiver" ∷ codes "late" ∷ codes "listener" ∷ [])) required
+    ∷ role_rule
     ∷ rule (codes "stream") (whole 0 9223372036854775807) required
     ∷ rule (codes "join") (whole 0 (2 ^ 40)) optional
     ∷ rule (codes "leave") (whole 1 (2 ^ 40)) optional
-    ∷ rule (codes "pages") (numbers 256 65535) optional
+    ∷ pages_rule
     ∷ []
 
 abbrev pub draw_rules : List Rule
