@@ -13,4 +13,5 @@ pub mod parts;
 pub mod scenario;
 pub mod script;
 mod table;
+mod top;
 pub mod topology;
