@@ -1,3 +1,4 @@
+pub mod Index
 pub mod Settled
 pub mod ScheduleLemmas
 pub mod RunLemmas

@@ -3,4 +3,10 @@ pub mod AllIn
 pub mod OrderLemmas
 pub mod Bounds
 pub mod LawProofs
+mod Compare
+mod Earliest
+mod Indexes
+mod Maps
+pub mod Changes
 pub mod FewerTimers
+pub mod Tables

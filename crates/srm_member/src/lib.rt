@@ -3,11 +3,17 @@
 
 pub mod cause;
 pub mod due;
+mod entries;
 pub mod exit;
 pub mod fault;
 pub mod fixed;
+mod index;
 pub mod laws;
+mod named;
+mod pages;
+mod pending;
 pub mod react;
 pub mod row;
+mod stream;
 pub mod timers;
 pub mod told;

@@ -1,4 +1,6 @@
 pub mod Marks
+pub mod Tables
 pub mod Placed
 pub mod ScriptLemmas
 pub mod Sorting
+pub mod Members

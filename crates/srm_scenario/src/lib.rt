@@ -1,8 +1,15 @@
 //! Scenarios: what a run is given, and how it is read from TOML text.
 #![tactic(auto)]
 
+pub mod bytes;
 pub mod fault;
+pub mod feed;
 pub mod laws;
 pub mod mark;
 pub mod parts;
+pub mod scenario;
 pub mod script;
+mod element;
+mod elements;
+mod table;
+pub mod topology;
