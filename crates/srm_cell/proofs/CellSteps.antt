@@ -1,6 +1,6 @@
 -- Whose events a cell's are, what a cell hears, and events before an end.
-use Rattle.std.proofs.Common.{◌≡◌, ℕ, zero, suc, ◌≤◌, ◌+◌, ◌^◌, Bool, true, false, cond, List, [], ◌∷◌, refl, sym, ap, ◌∙◌, subst, ◌≢◌, arith, Ordering, Less, Equal, Greater, eqb-true, nat_lt, ◌==◌, Option, Some, None, option_map, slice_get, add-zero}
-use Rattle.std.proofs.Common.{zero-add, ltb-true, lt-ltb, ◌<◌}
+use Rattle.std.proofs.Common.{◌≡◌, ℕ, ◌≤◌, ◌^◌, Bool, true, false, cond, List, [], ◌∷◌, refl, sym, ap, ◌∙◌, subst, ◌≢◌, arith, Ordering, Less, Equal, Greater, nat_lt, Option, Some, None}
+use Rattle.std.proofs.Common.{ltb-true, lt-ltb, ◌<◌}
 use Rattle.std.specs.Cmp.{IsTotalOrder, on_total}
 use Rattle.std.specs.Cmp.Lexicographic.{nat_list_cmp_total}
 use Rattle.srm_cell.proofs.CellLemmas.{first_timer, keep, next_event_is, outcome_map, own_step_late, stepped_map}
@@ -176,4 +176,3 @@ handle_not_idle e (Gone f) cause h = cc
 
 pub some_not_idle : (e : Event) → step_at (Some e) ≢ Idle
 some_not_idle e h = handle_not_idle e _ _ h
-

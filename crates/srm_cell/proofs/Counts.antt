@@ -1,10 +1,5 @@
 -- A step at a tick leaves fewer events pending at that tick.
-use Rattle.std.proofs.Common.{◌≡◌, ℕ, zero, suc, ◌<◌, ◌≤◌, ◌+◌, ◌/◌, ◌^◌, min, Bool, true, false, cond, not, ◌&&◌, T, List, [], ◌∷◌, ◌++◌, map, filter, refl, sym, ap, ◌∙◌, subst, ◌≢◌, ◌⊎◌, inl, inr, arith, Ordering, Less, Equal, Greater, Option, Some, None, nat_lt, is_lt, lt-ltb, le-ltb, eqb-true, eq-eqb, ◌==◌, le_refl}
-use Rattle.std.proofs.lemmas.Bool.{eqb-false}
-use Rattle.std.specs.Ordering.{eq_by_cmp, is_eq, ordering_reverse}
-use Rattle.std.specs.Cmp.{IsTotalOrder, on_total}
-use Rattle.std.specs.Cmp.Lexicographic.{nat_list_cmp_total}
-use Rattle.std.specs.FinMap.Entries.{put, find, by_order, is_sorted, below_all, is_sorted-put, is_sorted-where_key}
+use Rattle.std.proofs.Common.{◌≡◌, ℕ, suc, ◌<◌, ◌≤◌, ◌+◌, ◌^◌, Bool, true, false, cond, List, [], ◌∷◌, map, refl, sym, ap, ◌∙◌, subst, ◌⊎◌, inl, inr, arith, Option, Some, None, nat_lt, eq-eqb, ◌==◌, le_refl}
 use Rattle.srm_cell.proofs.CellLemmas.{first_timer, next_event_is}
 use Rattle.srm_cell.proofs.Rising.{Above, OnEvent, OnStep, arrival_key, earlier_on, mark_key, timer_key}
 use Rattle.srm_cell.specs.Cells.{Done, Event, Full, PlainCell, Stepped, cause_of_timer, first_arrival, first_mark, handle, next_event, pending_at, sending_step, step_at, untimed_at}
@@ -155,4 +150,3 @@ from_zero m c = record {
   marks = all_in_all (λ x. 0 ≤ (mark_key m x).time) (λ x. omega arith) c.script;
   dues = all_in_all (λ x. 0 ≤ (timer_key m x).time) (λ x. omega arith) (timers c.holds);
 }
-

@@ -7,18 +7,18 @@ use Rattle.srm_net.specs.Keys.{key_cmp}
 use Rattle.srm_scenario.specs.declared.mark.Mark.{Mark}
 use Rattle.srm_member.specs.declared.cause.Cause.{Cause}
 use Rattle.srm_member.specs.declared.due.Due.{Due}
-use Rattle.srm_member.specs.Record.{Memory, Record, Active, Gone, timers}
+use Rattle.srm_member.specs.Record.{Record, Active, Gone, timers}
 use Rattle.srm_member.specs.React.{Reaction, react}
 use Rattle.srm_member.proofs.AllIn.{AllIn, AllIn-place}
 use Rattle.srm_member.proofs.OrderLemmas.{key_total, from_refl, nat_cmp_self}
 use Rattle.srm_cell.specs.declared.flight.Flight.{Flight}
 use Rattle.srm_cell.specs.Flights.{flight_cmp}
 use Rattle.srm_cell.specs.Setting.{is_up_to, HasOwnRanks, EndsAtLeave, cause_of_mark}
-use Rattle.srm_cell.specs.Cells.{PlainCell, hear_at, Event, earlier, first_arrival, first_mark, next_event, before, StepOutcome, Idle, Full, Spent, Done, Stepped, sending_step, handle, step_at, own_step}
+use Rattle.srm_cell.specs.Cells.{PlainCell, hear_at, Event, earlier, first_arrival, first_mark, next_event, before, Idle, Full, Spent, Done, Stepped, sending_step, handle, step_at, own_step}
 use Rattle.srm_cell.specs.OwnRuns.{own_end}
 use Rattle.srm_cell.proofs.CellLemmas.{first_timer, next_event_is}
 use Rattle.srm_cell.proofs.CellSteps.{before_some}
-use Rattle.srm_cell.proofs.Rising.{arrival_key, mark_key, OnEvent, earlier_on, OnStep, Above}
+use Rattle.srm_cell.proofs.Rising.{arrival_key, mark_key, OnEvent, earlier_on, OnStep}
 use Rattle.srm_cell.proofs.Tidy.{NotBefore, Least, IsTidy, RestTidy, above_least, next_tidy, tidy_step}
 use Rattle.srm_cell.proofs.Counts.{Taken, next_taken}
 use Rattle.srm_cell.proofs.Clear.{IsTail, RestOf, next_rest, StepOf, step_is_of}
@@ -231,3 +231,14 @@ own_never_spent leave end m (suc n) c tidy s h = elim (own_step end m c) as (λ 
   | Done d ↦ λ q. let after = stays_own leave end m c d tidy s q in
       own_never_spent leave end m n d.cell after.1 after.0 (sym (ap (end_by end m n) q) ∙ sym (end_first end m n c) ∙ h)
 ] refl
+
+-- a member that is gone after a step left at the time of the step
+pub left_at : (leave : Option ℕ) (m : ℕ) (c : PlainCell) (e : Event) (d : Stepped) → Stays leave c → next_event m c ≡ Some e → step_at (Some e) ≡ Done d → IsActive d.cell.holds ⊎ (leave ≡ Some e.key.time)
+left_at leave m c e d s q x =
+    let active : ActiveOrLeft e d = subst (OnStep (ActiveOrLeft e)) x (active_handle e e.rest.holds e.cause refl) in
+    elim active [
+      | inl a ↦ inl a
+      | inr none ↦
+          let l = subst (OnEvent (LeaveOf m c)) q (next_leaves m c) none in
+          inr (((subst (EndsAtLeave leave) l.2 s.marks).0 l.3).0 ∙ ap (λ (k : Key). Some k.time) (sym l.6))
+    ]

@@ -1,10 +1,6 @@
 -- Own runs are finite: a step at a tick leaves fewer events at that tick, and nothing before it.
-use Rattle.std.proofs.Common.{◌≡◌, ℕ, zero, suc, ◌<◌, ◌≤◌, ◌+◌, ◌/◌, ◌^◌, min, Bool, true, false, cond, not, ◌&&◌, T, List, [], ◌∷◌, ◌++◌, map, filter, refl, sym, ap, ◌∙◌, subst, ◌≢◌, ◌⊎◌, inl, inr, arith, Ordering, Less, Equal, Greater, Option, Some, None, nat_lt, is_lt, lt-ltb, le-ltb, eqb-true, eq-eqb, ◌==◌, le_refl}
+use Rattle.std.proofs.Common.{◌≡◌, ℕ, zero, suc, ◌<◌, ◌≤◌, ◌+◌, true, false, refl, sym, ap, ◌∙◌, subst, ◌≢◌, ◌⊎◌, inl, inr, arith, Option, Some, None, nat_lt, lt-ltb, le-ltb, eqb-true, ◌==◌, le_refl}
 use Rattle.std.proofs.lemmas.Bool.{eqb-false}
-use Rattle.std.specs.Ordering.{eq_by_cmp, is_eq, ordering_reverse}
-use Rattle.std.specs.Cmp.{IsTotalOrder, on_total}
-use Rattle.std.specs.Cmp.Lexicographic.{nat_list_cmp_total}
-use Rattle.std.specs.FinMap.Entries.{put, find, by_order, is_sorted, below_all, is_sorted-put, is_sorted-where_key}
 use Rattle.srm_cell.proofs.CellLemmas.{keep}
 use Rattle.srm_cell.proofs.CellSteps.{some_not_idle}
 use Rattle.srm_cell.proofs.Counts.{Taken, above_weaker, fewer_pending, from_zero, next_taken, rest_sound, sound_step}

@@ -1,16 +1,13 @@
 -- Cells whose inboxes and scripts are in order, and what the least event says of them.
-use Rattle.std.proofs.Common.{◌≡◌, ℕ, zero, suc, ◌<◌, ◌≤◌, ◌+◌, ◌^◌, Bool, true, false, cond, not, ◌&&◌, List, [], ◌∷◌, refl, sym, ap, ◌∙◌, subst, ◌≢◌, arith, Ordering, Less, Equal, Greater, Option, Some, None, nat_lt, is_lt, slice_get, ltb-true, true≢false, add-zero, eqb-true, ◌==◌, nat_cmp, le-ltb, eq-eqb}
+use Rattle.std.proofs.Common.{◌≡◌, ℕ, ◌<◌, ◌≤◌, ◌+◌, ◌^◌, Bool, true, false, cond, not, ◌&&◌, List, [], ◌∷◌, refl, sym, ap, ◌∙◌, subst, ◌≢◌, arith, Ordering, Less, Equal, Greater, Option, Some, None, nat_lt, nat_le, is_lt, ltb-true, eqb-true, ◌==◌, le-ltb}
 use Rattle.std.proofs.lemmas.Bool.{eqb-false}
-use Rattle.std.specs.Ordering.{ordering_reverse}
-use Rattle.std.specs.Cmp.{IsTotalOrder, on_total}
-use Rattle.std.specs.Cmp.Lexicographic.{nat_list_cmp_total}
 use Rattle.srm_cell.proofs.CellLemmas.{first_le, first_timer, next_event_is}
 use Rattle.srm_cell.proofs.CellSteps.{flight_total}
 use Rattle.srm_cell.proofs.Rising.{Above, OnEvent, OnStep, arrival_key, earlier_on, mark_key, timer_key}
 use Rattle.srm_cell.specs.Cells.{Done, Event, Full, PlainCell, Stepped, by_key, earlier, first_arrival, first_mark, handle, hear, hear_at, next_event, sending_step, step_at}
 use Rattle.srm_cell.specs.Flights.{flight_cmp}
 use Rattle.srm_cell.specs.OwnRuns.{told_to}
-use Rattle.srm_cell.specs.Setting.{Setting, arrival_of}
+use Rattle.srm_cell.specs.Setting.{Setting, arrival_of, is_up_to}
 use Rattle.srm_cell.specs.declared.flight.Flight.{Flight}
 use Rattle.srm_member.proofs.AllIn.{AllIn}
 use Rattle.srm_member.proofs.OrderLemmas.{From, from_greater, from_not_greater, from_trans, key_total, nat_cmp_self, not_greater, rises_place}
@@ -165,3 +162,13 @@ arrival_is s p m at h =
     let h2 = and_parts (not (m == p.id.sender)) _ h1.1 in
     (ltb-true _ _ h1.0, eqb-false _ _ (not_true _ h2.0), h0.1)
 
+-- a packet does not arrive after the member left
+pub arrival_up_to : (s : Setting) (p : Packet) (m at : ℕ) → arrival_of s p m ≡ Some at → is_up_to at (s.leave m) ≡ true
+arrival_up_to s p m at h =
+    let h0 = if_some _ _ at h in
+    let h1 = and_parts (nat_lt m s.members) _ h0.0 in
+    let h2 = and_parts (not (m == p.id.sender)) _ h1.1 in
+    let h3 = and_parts (s.reaches p.id m) _ h2.1 in
+    let h4 = and_parts (nat_le (s.join m) _) _ h3.1 in
+    let h5 = and_parts (is_up_to _ (s.leave m)) _ h4.1 in
+    subst (λ t. is_up_to t (s.leave m) ≡ true) h0.1 h5.0

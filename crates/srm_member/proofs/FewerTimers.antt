@@ -1,6 +1,5 @@
 -- A reaction at a tick leaves no more timers at that tick, and fewer where it handles one of them.
-use Rattle.std.proofs.Common.{◌≡◌, ℕ, zero, suc, ◌<◌, ◌≤◌, ◌+◌, ◌/◌, ◌^◌, min, Bool, true, false, cond, not, ◌&&◌, T, List, [], ◌∷◌, ◌++◌, map, filter, refl, sym, ap, ◌∙◌, subst, ◌≢◌, ◌⊎◌, inl, inr, arith, Ordering, Less, Equal, Greater, Option, Some, None, nat_lt, is_lt, lt-ltb, le-ltb, eqb-true, eq-eqb, ◌==◌, le_refl}
-use Rattle.std.proofs.lemmas.Bool.{eqb-false}
+use Rattle.std.proofs.Common.{◌≡◌, ℕ, ◌<◌, ◌≤◌, ◌+◌, ◌/◌, min, Bool, true, false, cond, not, ◌&&◌, T, List, [], ◌∷◌, ◌++◌, map, filter, refl, sym, ap, ◌∙◌, subst, ◌≢◌, ◌⊎◌, inl, inr, arith, Ordering, Less, Equal, Greater, Option, Some, None, is_lt, eqb-true, ◌==◌, le_refl}
 use Rattle.std.specs.Ordering.{eq_by_cmp, is_eq, ordering_reverse}
 use Rattle.std.specs.Cmp.{IsTotalOrder, on_total}
 use Rattle.std.specs.Cmp.Lexicographic.{nat_list_cmp_total}
@@ -260,4 +259,3 @@ module _ (t : ℕ) (m : Memory) (sound : IsSound m) (n : Name) where
     | true ↦ λ l. absurd (no_table (n, w) m.repairs (sound.listener l).1 h)
     | false ↦ λ l. subst (λ (r : Reaction). timers_at t (Active r.memory) < timers_at t (Active m)) (sym (as_active m t (Answer n) l)) (fewer_answering w h some (find name_cmp n m.repairs) refl)
   ] refl
-

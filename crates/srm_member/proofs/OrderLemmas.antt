@@ -1,5 +1,5 @@
 -- Lists kept in an order, and the orders of numbers and keys.
-use Rattle.std.proofs.Common.{◌≡◌, ℕ, ◌<◌, ◌≤◌, true, false, List, [], ◌∷◌, refl, sym, ap, ◌∙◌, ◌≢◌, arith, Ordering, Less, Equal, Greater, nat_cmp, is_lt, ltb-true, eqb-true, true≢false, ◌==◌, nat_lt, cond, Bool, subst, le-ltb, eq-eqb}
+use Rattle.std.proofs.Common.{◌≡◌, ℕ, ◌<◌, ◌≤◌, true, false, List, [], ◌∷◌, refl, sym, ap, ◌∙◌, ◌≢◌, arith, Ordering, Less, Equal, Greater, nat_cmp, is_lt, ltb-true, eqb-true, true≢false, ◌==◌, nat_lt, cond, Bool, le-ltb, eq-eqb}
 use Rattle.std.specs.Ordering.{ordering_then, ordering_reverse}
 use Rattle.std.specs.Cmp.{IsTotalOrder}
 use Rattle.std.specs.Cmp.Lexicographic.{slice_cmp, nat_list_cmp_total}
@@ -133,4 +133,3 @@ module _ {A : Type 0} (cmp : A → A → Ordering) (o : IsTotalOrder cmp) where
   pub place_first : (x : A) (ys : List A) → NoneBelow cmp x ys → place cmp x ys ≡ x ∷ ys
   place_first x [] h = refl
   place_first x (y ∷ ys) h = let e = h.0 in rw e
-
