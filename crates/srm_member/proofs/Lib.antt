@@ -6,3 +6,4 @@ mod Maps
 mod Indexes
 mod Compare
 mod Earliest
+mod Losses
