@@ -15,5 +15,6 @@ mod pending;
 pub mod react;
 pub mod row;
 mod stream;
+mod tables;
 pub mod timers;
 pub mod told;
