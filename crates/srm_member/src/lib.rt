@@ -7,6 +7,7 @@ pub mod exit;
 pub mod fault;
 pub mod fixed;
 pub mod laws;
+pub mod member;
 pub mod react;
 pub mod row;
 pub mod timers;
