@@ -12,6 +12,7 @@ pub mod laws;
 mod named;
 mod pages;
 mod pending;
+pub mod member;
 pub mod react;
 pub mod row;
 mod stream;
