@@ -1,0 +1,3 @@
+pub mod OneStep
+pub mod TraceRows
+pub mod HandedOnce

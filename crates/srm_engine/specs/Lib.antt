@@ -2,3 +2,4 @@ pub mod World
 pub mod Schedules
 pub mod Windows
 pub mod Laws
+pub mod Handed
