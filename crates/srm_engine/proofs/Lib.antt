@@ -1,3 +1,4 @@
 pub mod OneStep
 pub mod TraceRows
 pub mod HandedOnce
+pub mod NamesKept

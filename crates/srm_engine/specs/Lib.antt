@@ -3,3 +3,4 @@ pub mod Schedules
 pub mod Windows
 pub mod Laws
 pub mod Handed
+pub mod Names

@@ -2,4 +2,5 @@
 #![tactic(auto)]
 
 pub mod laws;
+pub mod laws_of_names;
 pub mod laws_of_packets;
