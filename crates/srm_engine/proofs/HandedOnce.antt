@@ -21,7 +21,7 @@ use Rattle.srm_cell.specs.Setting.{Setting, arrival_of}
 use Rattle.srm_cell.specs.Cells.{PlainCell, hear_at, hear, Event, by_key, earlier, first_arrival, first_mark, next_timer, next_event, before, Idle, Stepped, word_of_body, word_of, drawn, about_of, packet_of}
 use Rattle.srm_cell.specs.OwnRuns.{told_to}
 use Rattle.srm_engine.specs.World.{World, settled, least_event, step, opening, opening_cells, IsReached, IsLast}
-use Rattle.srm_engine.specs.Handed.{SentIn, same_packet, is_arrival, handing_count, PacketsAreHandedOnce, HandedPacketsWereSent, PacketsAreTheirIdentities}
+use Rattle.srm_engine.specs.Handed.{SentIn, same_packet, is_arrival, handing_count, is_sending, sending_count, PacketsAreNumbered, PacketsAreHandedOnce, HandedPacketsWereSent, PacketsAreTheirIdentities}
 use Rattle.srm_engine.proofs.OneStep.{TakesFlight, NoArrival, Takes, Sends, Steps, StepFacts, step_facts, same_some, here_after, there_after, each_after, length_after, length_opening, nothing_left, run_keeps, arrival_is}
 use Rattle.srm_engine.proofs.TraceRows.{contains_none, contains_cases, sent_more, sent_cases, sent_now, one_if, count_last, count_first, count_none, count_place, not_same, same_self, elsewhere, not_arrival, here, IsSplit, split_cases}
 
@@ -82,6 +82,10 @@ module _ (s : Setting) where
   abbrev pub WasSent : List Row → Row → PacketId → Type 0
   WasSent before r k = (p : Packet) × SentIn p before × (p.id ≡ k) × (r.cause ≡ word_of_body p.body) × (arrival_of s p r.key.member ≡ Some r.key.time)
 
+  -- a packet's number, and when it is sent
+  abbrev pub IsNumbered : List Row → Row → Packet → Type 0
+  IsNumbered before r p = (p.id.sender ≡ r.key.member) × (p.id.count ≡ sending_count r.key.member before) × (p.sent ≡ r.key.time)
+
   pub record Handed (cs : List PlainCell) (trace : List Row) : Type 0 where
     pub members : length cs ≡ s.members
     pub counted : (p : Packet) → SentIn p trace → p.id.count < sent_of cs p.id.sender
@@ -89,6 +93,8 @@ module _ (s : Setting) where
     pub one : (p q : Packet) → SentIn p trace → SentIn q trace → p.id ≡ q.id → p ≡ q
     pub flights : EachCell (λ j c. AllIn (IsFlight trace j) c.inbox) cs
     pub once : (p : Packet) → SentIn p trace → (j : ℕ) → count_by (is_flight p.id) (inbox_of (slice_get cs j)) + handing_count p.id j trace ≡ one_if (is_some (arrival_of s p j))
+    pub sendings : (j : ℕ) → sent_of cs j ≡ sending_count j trace
+    pub numbers : (rows after : List Row) (r : Row) (p : Packet) → IsSplit trace rows r after → r.sent ≡ Some p → IsNumbered rows r p
     pub before : (rows after : List Row) (r : Row) (k : PacketId) → IsSplit trace rows r after → r.about ≡ Of k → WasSent rows r k
 
   -- ---- after a step
@@ -132,16 +138,20 @@ module _ (s : Setting) where
       pub sender : p.id.sender ≡ m
       pub count : p.id.count ≡ sent_of cs p.id.sender
       pub now : p.id.count < sent_of after p.id.sender
+      pub at : p.sent ≡ d.row.key.time
 
     -- by its body, if any
     Counts : Option Body → Type 0
-    Counts body = (e.rest.sent ≤ d.cell.sent) × ((p : Packet) → d.row.sent ≡ Some p → IsNew p)
+    Counts body = (d.cell.sent ≡ e.rest.sent + one_if (is_some d.row.sent)) × ((p : Packet) → d.row.sent ≡ Some p → IsNew p)
 
     counts_by : (body : Option Body) → Sends e body d → Counts body
     unfolding Counts
-    counts_by None h = (let same = h.1 in omega arith, λ p q. let x : None ≡ Some p = sym h.0 ∙ q in cc)
+    counts_by None h = (
+      (let none : one_if (is_some d.row.sent) ≡ 0 = ap (λ o. one_if (is_some o)) h.0 in let same = h.1 in omega arith),
+      λ p q. let x : None ≡ Some p = sym h.0 ∙ q in cc,
+    )
     counts_by (Some body) h = (
-      (let more = h.1 in omega arith),
+      (let some : one_if (is_some d.row.sent) ≡ 1 = ap (λ o. one_if (is_some o)) h.0 in let more = h.1 in omega arith),
       (λ p q.
           let same : packet_of e body ≡ p = same_some _ _ (sym h.0 ∙ q) in
           let sender : m ≡ p.id.sender = ap (λ (x : Packet). x.id.sender) same in
@@ -149,15 +159,19 @@ module _ (s : Setting) where
           let a : sent_of cs p.id.sender ≡ e.rest.sent = ap (sent_of cs) (sym sender) ∙ sent_was in
           let b : sent_of after p.id.sender ≡ d.cell.sent = ap (sent_of after) (sym sender) ∙ sent_is in
           let more = h.1 in
-          record { sender = sym sender; count = omega arith; now = omega arith }),
+          let at : p.sent ≡ d.row.key.time = ap (λ (x : Packet). x.sent) (sym same) ∙ sym (ap (λ (k : Key). k.time) facts.does.key) in
+          record { sender = sym sender; count = omega arith; now = omega arith; at = at }),
     )
 
     counts : (body : Option Body) × Counts body
     counts = elim facts.does.how [ inl a ↦ (_, counts_by _ a.sends) | inr l ↦ (_, counts_by None l.sends) ]
 
-    grows_here : e.rest.sent ≤ d.cell.sent
+    sent_then : d.cell.sent ≡ e.rest.sent + one_if (is_some d.row.sent)
     unfolding Counts
-    grows_here = counts.1.0
+    sent_then = counts.1.0
+
+    grows_here : e.rest.sent ≤ d.cell.sent
+    grows_here = let n = sent_then in omega arith
 
     pub is_new : (p : Packet) → d.row.sent ≡ Some p → IsNew p
     unfolding Counts
@@ -173,6 +187,47 @@ module _ (s : Setting) where
           omega arith
       | false ↦ λ q. let a = ap sent_by (there_after s m d cs j (eqb-false _ _ q)) ∙ told_sent d.row.sent j (slice_get cs j) in omega arith
     ] refl
+
+    -- the counts of the cells are those of the rows
+    sends_here : is_sending m d.row ≡ is_some d.row.sent
+    sends_here = let yes : (d.row.key.member == m) ≡ true = Rattle.std.proofs.Common.eq-eqb _ _ member in ap (λ b. b && is_some d.row.sent) yes
+
+    sends_there : (j : ℕ) → j ≢ m → is_sending j d.row ≡ false
+    sends_there j ne = elim (d.row.key.member == j) as (λ b. (d.row.key.member == j) ≡ b → is_sending j d.row ≡ false) [
+      | true ↦ λ q. absurd (ne (sym (eqb-true _ _ q) ∙ member))
+      | false ↦ λ q. ap (λ b. b && is_some d.row.sent) q
+    ] refl
+
+    sendings_after : (j : ℕ) → sent_of after j ≡ sending_count j rows
+    sendings_after j =
+        let last = count_last (is_sending j) trace d.row in
+        let old = was.sendings j in
+        elim (j == m) as (λ b. (j == m) ≡ b → sent_of after j ≡ sending_count j rows) [
+          | true ↦ λ q.
+              let same : j ≡ m = eqb-true _ _ q in
+              let a = ap (sent_of cs) same ∙ sent_was in
+              let b = ap (sent_of after) same ∙ sent_is in
+              let n = sent_then in
+              let one : one_if (is_sending j d.row) ≡ one_if (is_some d.row.sent) = ap (λ i. one_if (is_sending i d.row)) same ∙ ap one_if sends_here in
+              omega arith
+          | false ↦ λ q.
+              let ne = eqb-false _ _ q in
+              let a = ap sent_by (there_after s m d cs j ne) ∙ told_sent d.row.sent j (slice_get cs j) in
+              let none : one_if (is_sending j d.row) ≡ 0 = ap one_if (sends_there j ne) in
+              omega arith
+        ] refl
+
+    numbered_now : (p : Packet) → d.row.sent ≡ Some p → IsNumbered trace d.row p
+    numbered_now p q =
+        let n = is_new p q in
+        let sender : p.id.sender ≡ d.row.key.member = n.sender ∙ sym member in
+        (sender, n.count ∙ was.sendings p.id.sender ∙ ap (λ j. sending_count j trace) sender, n.at)
+
+    numbers_after : (first last : List Row) (r : Row) (p : Packet) → IsSplit rows first r last → r.sent ≡ Some p → IsNumbered first r p
+    numbers_after first last r p split q = elim (split_cases trace d.row first r last split) [
+      | inl g ↦ subst (λ l. IsNumbered l r p) (sym g.1) (subst (λ y. IsNumbered trace y p) g.0 (numbered_now p (ap (λ (y : Row). y.sent) g.0 ∙ q)))
+      | inr g ↦ was.numbers first g.0 r p g.1 q
+    ]
 
     -- another packet than all before
     pub new_id : (p : Packet) → IsNew p → (k : PacketId) → k.count < sent_of cs k.sender → p.id ≢ k
@@ -417,6 +472,8 @@ module _ (s : Setting) where
       one = one_after;
       flights = flights_after;
       once = once_after;
+      sendings = sendings_after;
+      numbers = numbers_after;
       before = before_after;
     }
 
@@ -427,6 +484,12 @@ module _ (s : Setting) where
   opening_empty zero i j c h = cc
   opening_empty (suc n) i zero c h = ap (λ (b : PlainCell). b.inbox) (sym (same_some _ _ h))
   opening_empty (suc n) i (suc j) c h = opening_empty n (suc i) j c h
+
+  opening_sent : (n i j : ℕ) → sent_of (opening_cells s n i) j ≡ 0
+  unfolding opening_cells
+  opening_sent zero i j = refl
+  opening_sent (suc n) i zero = refl
+  opening_sent (suc n) i (suc j) = opening_sent n (suc i) j
 
   pub no_split : (rows after : List Row) (r : Row) → IsSplit [] rows r after → ⊥
   no_split [] after r e = cc
@@ -441,6 +504,8 @@ module _ (s : Setting) where
     one = λ p q t g e. absurd (contains_none t.0 t.1);
     flights = λ j c h. subst (AllIn (IsFlight [] j)) (sym (opening_empty s.members 0 j c h)) tt;
     once = λ p t j. absurd (contains_none t.0 t.1);
+    sendings = opening_sent s.members 0;
+    numbers = λ rows after r p split q. absurd (no_split rows after r split);
     before = λ rows after r k split q. absurd (no_split rows after r split);
   }
 
@@ -520,6 +585,9 @@ module _ (s : Setting) where
 
 pub packets_are_handed_once : PacketsAreHandedOnce
 packets_are_handed_once s w last p t m = handed_in_the_end s w last p t m
+
+pub packets_are_numbered : PacketsAreNumbered
+packets_are_numbered s w reached rows after r p split q = (handed_reached s w reached).numbers rows after r p split q
 
 pub handed_packets_were_sent : HandedPacketsWereSent
 handed_packets_were_sent s w reached rows after r k split q = (handed_reached s w reached).before rows after r k split q

@@ -32,7 +32,23 @@ is_arrival p m r = (r.key.member == m) && is_of p r.about
 abbrev pub handing_count : PacketId → ℕ → List Row → ℕ
 handing_count p m rows = count_by (is_arrival p m) rows
 
+-- whether a row sends a packet of member m
+abbrev pub is_sending : ℕ → Row → Bool
+is_sending m r = (r.key.member == m) && is_some r.sent
+
+-- how many packets the rows send of member m
+abbrev pub sending_count : ℕ → List Row → ℕ
+sending_count m rows = count_by (is_sending m) rows
+
 -- ---- laws
+
+-- a packet's identity is its sender, which is the row's member, and how many packets that member sent in earlier rows; and it is
+-- sent at the row's time
+abbrev pub PacketsAreNumbered : Type 0
+PacketsAreNumbered =
+    (s : Setting) (w : World) → IsReached s w → (before after : List Row) (r : Row) (p : Packet)
+    → w.trace ≡ before ++ r ∷ after → r.sent ≡ Some p
+    → (p.id.sender ≡ r.key.member) × (p.id.count ≡ sending_count r.key.member before) × (p.sent ≡ r.key.time)
 
 -- a packet that was sent is handed once to each member to which it has a flight, and never to any other
 abbrev pub PacketsAreHandedOnce : Type 0

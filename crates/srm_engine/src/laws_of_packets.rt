@@ -1,5 +1,10 @@
 //! The laws of packets: each is handed once to every member to which it has a flight.
-ghost use Rattle.srm_engine.specs.Handed.{PacketsAreHandedOnce, HandedPacketsWereSent, PacketsAreTheirIdentities};
+ghost use Rattle.srm_engine.specs.Handed.{PacketsAreNumbered, PacketsAreHandedOnce, HandedPacketsWereSent, PacketsAreTheirIdentities};
+
+/// A packet's identity is its sender, and how many packets that member sent in earlier rows.
+pub fn packets_are_numbered()
+    ensures { PacketsAreNumbered }
+{}
 
 /// In a complete run each packet that was sent is handed exactly once to every member to which it has a flight, and never to
 /// another.
