@@ -1,4 +1,5 @@
 pub mod Entries
+pub mod Nexts
 pub mod OwnRunLemmas
 pub mod CellLemmas
 pub mod CellSteps

@@ -6,6 +6,7 @@ pub mod LawProofs
 mod Compare
 mod Earliest
 mod Indexes
+mod Losses
 mod Maps
 pub mod Changes
 pub mod FewerTimers

@@ -5,3 +5,4 @@ pub mod Reacts
 pub mod Examples
 pub mod Laws
 pub mod Pending
+pub mod Fit

@@ -4,3 +4,5 @@ pub mod DropLemmas
 pub mod Walks
 pub mod Growing
 pub mod RouteLemmas
+pub mod PathLaws
+pub mod BuiltLemmas

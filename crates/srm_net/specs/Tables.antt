@@ -1,5 +1,5 @@
 -- What the tables of a network tell.
-use Rattle.std.specs.Prelude.{◌≡◌, ℕ, ◌<◌, Bool, not, List, Option, Some, length, slice_get}
+use Rattle.std.specs.Prelude.{◌≡◌, ℕ, ◌<◌, Bool, not, List, Option, Some, length, slice_get, if◌then◌else◌}
 use Rattle.srm_net.specs.declared.link.LinkSpec.{LinkSpec}
 use Rattle.srm_net.specs.declared.sides.Sides.{Sides}
 use Rattle.srm_net.specs.Network.{Network}
@@ -9,6 +9,15 @@ use Rattle.srm_net.specs.Least.{out}
 -- whether node x is beyond link l, this link, as seen from the link's end a
 abbrev pub is_beyond : Network → ℕ → LinkSpec → ℕ → Bool
 is_beyond w l k x = is_in (route w k.a x) l
+
+-- the end of a link that is nearer to node u
+abbrev pub near_end : Network → ℕ → LinkSpec → ℕ → ℕ
+near_end w l k u = if is_beyond w l k u then k.b else k.a
+
+-- whether some member is on the other side of a link than node u
+abbrev pub some_beyond : Network → ℕ → LinkSpec → ℕ → Bool
+some_beyond w l k u =
+    some_below (λ m. if is_beyond w l k u then not (is_beyond w l k (host w m)) else is_beyond w l k (host w m)) (length w.hosts)
 
 -- whether a member is on either side of a link
 pub record TellsSides (w : Network) (l : ℕ) (k : LinkSpec) (s : Sides) : Type 0 where

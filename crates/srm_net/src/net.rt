@@ -1,8 +1,10 @@
 //! A tree of nodes and links with members on some nodes, and what becomes of packets in it.
-ghost use Rattle.std.specs.Prelude.{◌≡◌, ◌≢◌, ℕ, ◌<◌, ◌≤◌, not, ◌&&◌, All, IfOk, IfErr, length};
+ghost use Rattle.std.specs.Prelude.{◌≡◌, ◌≢◌, ℕ, ◌<◌, ◌≤◌, not, ◌&&◌, ◌∷◌, All, IfOk, IfErr, length, slice_get};
 ghost use Rattle.std.specs.List.{list_any};
 ghost use Rattle.srm_net.specs.Network.{plain_network, IsTree, HasDelay, AreHosts, IsNetwork};
-ghost use Rattle.srm_net.specs.Paths.{is_listed, route, distance, reaches, crosses, drops_at};
+ghost use Rattle.srm_net.specs.Paths.{is_listed, host, route, distance, reaches, crosses, drops_at};
+ghost use Rattle.srm_net.specs.declared.link.LinkSpec.{LinkSpec};
+ghost use Rattle.srm_net.specs.Tables.{is_beyond, near_end, some_beyond};
 ghost use Rattle.srm_net.specs.Least.{least_delay, out};
 
 use crate::drops::Drops;
@@ -90,6 +92,15 @@ impl Net {
         self.links.as_slice()
     }
 
+    /// The node of member `m`.
+    pub fn host(&self, m: u16) -> u16
+        requires { m < length self.now.hosts }
+        ensures value { result ≡ host self.now m }
+        ensures node { result < self.now.nodes }
+    {
+        self.hosts[usize::from(m)]
+    }
+
     /// How long a packet takes from member `a` to member `b`, in ticks: at most 255,000,000.
     pub fn distance(&self, a: u16, b: u16) -> u64
         requires a { a < length self.now.hosts }
@@ -99,8 +110,7 @@ impl Net {
         ensures bounded { result ≤ 255000000 }
         ensures network { IsNetwork self.now }
     {
-        self.ways
-            .delay(self.hosts[usize::from(a)], self.hosts[usize::from(b)])
+        self.ways.delay(self.host(a), self.host(b))
     }
 
     /// The least delay of a link, in ticks, or none where there is no link.
@@ -124,15 +134,9 @@ impl Net {
     pub fn reaches(&self, drops: &Drops, id: PacketId, m: u16) -> bool
         requires sender { id.sender < length self.now.hosts }
         requires member { m < length self.now.hosts }
-        ensures value { result ≡ reaches self.now drops.now id m }
-        ensures network { IsNetwork self.now }
+        ensures { result ≡ reaches self.now drops.now id m }
     {
-        self.is_clear(
-            drops,
-            id,
-            self.hosts[usize::from(id.sender)],
-            self.hosts[usize::from(m)],
-        )
+        self.is_clear(drops, id, self.host(id.sender), self.host(m))
     }
 
     /// Whether a packet crosses a link: the link is on the way from its sender to some member, present or not, and
@@ -140,8 +144,7 @@ impl Net {
     pub fn crosses(&self, drops: &Drops, id: PacketId, link: u16) -> bool
         requires sender { id.sender < length self.now.hosts }
         requires link { link < length self.now.links }
-        ensures value { result ≡ crosses self.now drops.now id link }
-        ensures network { IsNetwork self.now }
+        ensures { result ≡ crosses self.now drops.now id link }
     {
         !drops.lists(link, id) && self.comes_to(drops, id, link)
     }
@@ -151,10 +154,23 @@ impl Net {
     pub fn drops_at(&self, drops: &Drops, id: PacketId, link: u16) -> bool
         requires sender { id.sender < length self.now.hosts }
         requires link { link < length self.now.links }
-        ensures value { result ≡ drops_at self.now drops.now id link }
-        ensures network { IsNetwork self.now }
+        ensures { result ≡ drops_at self.now drops.now id link }
     {
         drops.lists(link, id) && self.comes_to(drops, id, link)
+    }
+
+    /// The first link of the way between two nodes, and the node to which it leads.
+    fn first_step(&self, from: u16, to: u16) -> (u16, u16)
+        requires from { from < self.now.nodes }
+        requires to { to < self.now.nodes }
+        requires apart { from ≢ to }
+        ensures route { route self.now from to ≡ result.0 ∷ route self.now result.1 to }
+        ensures node { result.1 < self.now.nodes }
+    {
+        let link = self.ways.first(from, to);
+        let spec = self.links[usize::from(link)];
+        let next = if spec.a == from { spec.b } else { spec.a };
+        (link, next)
     }
 
     /// Whether no link of the way between two nodes is to drop a packet. Where no link is to drop it this takes no walk.
@@ -168,14 +184,41 @@ impl Net {
         }
         let mut at = from;
         while at != to {
-            let link = self.ways.first(at, to);
+            let (link, next) = self.first_step(at, to);
             if drops.lists(link, id) {
                 return false;
             }
-            let spec = self.links[usize::from(link)];
-            at = if spec.a == at { spec.b } else { spec.a };
+            at = next;
         }
         true
+    }
+
+    /// Whether a node is beyond a link, as seen from the link's end `a`.
+    fn is_beyond(&self, link: u16, node: u16) -> bool
+        requires link { link < length self.now.links }
+        requires node { node < self.now.nodes }
+        ensures { (k : LinkSpec) → slice_get self.now.links link ≡ Some k → result ≡ is_beyond self.now link k node }
+    {
+        let end = self.links[usize::from(link)].a;
+        node != end && self.ways.first(end, node) == link
+    }
+
+    /// The end of a link that is nearer to a node, and whether any member is beyond the link from there.
+    fn beyond(&self, link: u16, node: u16) -> (u16, bool)
+        requires link { link < length self.now.links }
+        requires node { node < self.now.nodes }
+        ensures near { (k : LinkSpec) → slice_get self.now.links link ≡ Some k → result.0 ≡ near_end self.now link k node }
+        ensures below { result.0 < self.now.nodes }
+        ensures any { (k : LinkSpec) → slice_get self.now.links link ≡ Some k → result.1 ≡ some_beyond self.now link k node }
+        ensures network { IsNetwork self.now }
+    {
+        let spec = self.links[usize::from(link)];
+        let sides = self.sides[usize::from(link)];
+        if self.is_beyond(link, node) {
+            (spec.b, sides.a)
+        } else {
+            (spec.a, sides.b)
+        }
     }
 
     /// Whether a packet comes to a link on its way to some member, where the link may yet drop it.
@@ -185,14 +228,8 @@ impl Net {
         ensures crossed { crosses self.now drops.now id link ≡ (not (is_listed drops.now id link) && result) }
         ensures dropped { drops_at self.now drops.now id link ≡ (is_listed drops.now id link && result) }
     {
-        let from = self.hosts[usize::from(id.sender)];
-        let spec = self.links[usize::from(link)];
-        let sides = self.sides[usize::from(link)];
-        let is_beyond = from != spec.a && self.ways.first(spec.a, from) == link;
-        if is_beyond {
-            sides.a && self.is_clear(drops, id, from, spec.b)
-        } else {
-            sides.b && self.is_clear(drops, id, from, spec.a)
-        }
+        let from = self.host(id.sender);
+        let (near, is_any_beyond) = self.beyond(link, from);
+        is_any_beyond && self.is_clear(drops, id, from, near)
     }
 }

@@ -4,3 +4,5 @@ pub mod Placed
 pub mod ScriptLemmas
 pub mod Sorting
 pub mod Members
+pub mod Words
+pub mod Arrays

@@ -9,6 +9,7 @@ use Rattle.srm_net.specs.declared.role.Role.TheVariants.{Sender, Receiver, Late,
 use Rattle.srm_net.specs.declared.link.LinkSpec.{LinkSpec}
 use Rattle.srm_net.specs.declared.link.DropSpec.{DropSpec}
 use Rattle.srm_net.specs.Paths.{drop_cmp}
+use Rattle.srm_scenario.specs.declared.parts.Constants.{Constants}
 use Rattle.srm_scenario.specs.declared.parts.MemberSpec.{MemberSpec}
 use Rattle.srm_scenario.specs.declared.parts.DrawSpec.{DrawSpec}
 use Rattle.srm_scenario.specs.declared.parts.SessionSpec.{SessionSpec}
@@ -104,11 +105,9 @@ elements_at key reading ms = map (λ d. reading (table_of d)) (array_at key ms)
 -- the topology that a file names
 abbrev pub topology_of : Members → Option Topology
 topology_of ms =
-    if says (codes "topology") (codes "chain") ms
-    then Some Chain
-    else if says (codes "topology") (codes "star") ms
-    then Some Star
-    else if says (codes "topology") (codes "tree") ms then Some (Tree (number (codes "degree") ms)) else None
+    if says (codes "topology") (codes "tree") ms
+    then Some (Tree (number (codes "degree") ms))
+    else if says (codes "topology") (codes "chain") ms then Some Chain else if says (codes "topology") (codes "star") ms then Some Star else None
 
 -- the node to which node v, not 0, is joined. Nodes of a chain are numbered along it, the hub of a star is node 0, and a tree
 -- is numbered breadth first: the root has `degree` children, and every other inner node one fewer
@@ -146,10 +145,13 @@ each_once cmp (x ∷ xs) = place_once cmp x (each_once cmp xs)
 abbrev pub listed_drops : Members → List DropSpec
 listed_drops ms = elements_at (codes "drop") drop_of ms
 
+abbrev pub constants_of : Members → Constants
+constants_of ms = record { c1 = number (codes "c1") ms; c2 = number (codes "c2") ms; d1 = number (codes "d1") ms; d2 = number (codes "d2") ms }
+
 unfoldable pub described : Members → PlainScenario
 described ms = record {
   until = number (codes "until") ms;
-  constants = record { c1 = number (codes "c1") ms; c2 = number (codes "c2") ms; d1 = number (codes "d1") ms; d2 = number (codes "d2") ms };
+  constants = constants_of ms;
   nodes = nodes_in (topology_of ms) ms;
   links = links_in (topology_of ms) ms;
   members = elements_at (codes "member") member_of ms;

@@ -11,6 +11,7 @@ use Rattle.srm_scenario.specs.declared.fault.Part.{Part}
 use Rattle.srm_scenario.specs.declared.fault.Part.TheVariants as part
 use Rattle.srm_scenario.specs.declared.fault.ScenarioFault.{ScenarioFault}
 use Rattle.srm_scenario.specs.declared.fault.ScenarioFault.TheVariants.{TooLong, NotToml, BadKey, NotTree, BadMember, BadDraw, BadSession, BadDrop}
+use Rattle.srm_scenario.specs.declared.entry.MemberEntry.{MemberEntry}
 use Rattle.srm_scenario.specs.declared.parts.MemberSpec.{MemberSpec}
 use Rattle.srm_scenario.specs.declared.parts.DrawSpec.{DrawSpec}
 use Rattle.srm_scenario.specs.declared.parts.SessionSpec.{SessionSpec}
@@ -87,26 +88,23 @@ leaves_after join None = true
 leaves_after join (Some end) = nat_lt join end
 
 -- a member, and whether pages are given for it
-abbrev pub Entry : Type 0
-Entry = MemberSpec × Bool
-
--- the members of a table
-abbrev pub entries_of : Members → List Entry
-entries_of ms = elements_at (codes "member") (λ m. (member_of m, is_some (get_member (codes "pages") m))) ms
+abbrev pub entry_of : Members → MemberEntry
+entry_of ms = record { spec = member_of ms; has_pages = is_some (get_member (codes "pages") ms) }
 
 -- its node is a node of the network, not the hub of a star, and not one of those taken; it joins before the end of the run, and
 -- before it leaves; and pages are given for a late member alone
-abbrev pub fits_member : ℕ → ℕ → Bool → List ℕ → Entry → Bool
-fits_member until nodes star taken (k, has_pages) =
+abbrev pub fits_member : ℕ → ℕ → Bool → List ℕ → MemberEntry → Bool
+fits_member until nodes star taken e =
+    let k = e.spec in
     nat_lt k.node nodes
     && (not (star && (k.node == 0))
-    && (not (is_in taken k.node) && (nat_lt k.join until && (leaves_after k.join k.leave && (not has_pages || is_late k.role)))))
+    && (not (is_in taken k.node) && (nat_lt k.join until && (leaves_after k.join k.leave && (not e.has_pages || is_late k.role)))))
 
 -- the faults of members from place i on, those before them on the nodes taken
-abbrev pub member_faults : ℕ → ℕ → Bool → List ℕ → ℕ → List Entry → List ScenarioFault
+abbrev pub member_faults : ℕ → ℕ → Bool → List ℕ → ℕ → List MemberEntry → List ScenarioFault
 member_faults until nodes star taken i [] = []
 member_faults until nodes star taken i (e ∷ es) =
-    fault_unless (fits_member until nodes star taken e) (BadMember i) ++ member_faults until nodes star (e.0.node ∷ taken) (i + 1) es
+    fault_unless (fits_member until nodes star taken e) (BadMember i) ++ member_faults until nodes star (e.spec.node ∷ taken) (i + 1) es
 
 abbrev pub if_member : Option MemberSpec → (MemberSpec → Bool) → Bool
 if_member None test = false
@@ -143,7 +141,7 @@ faults_of ms =
     ∷ element_faults part.Session session_rules (array_at (codes "session") ms)
     ∷ element_faults part.Drop drop_rules (array_at (codes "drop") ms)
     ∷ fault_unless (is_tree (network_of s)) NotTree
-    ∷ member_faults s.until s.nodes (is_star (topology_of ms)) [] 0 (entries_of ms)
+    ∷ member_faults s.until s.nodes (is_star (topology_of ms)) [] 0 (elements_at (codes "member") entry_of ms)
     ∷ faults_by BadDraw (fits_draw s.until s.members) 0 s.draws
     ∷ faults_by BadSession (fits_session s.until s.members) 0 s.sessions
     ∷ faults_by BadDrop (fits_drop (length s.links) (length s.members)) 0 (listed_drops ms)

@@ -1,5 +1,5 @@
 -- The keys of a scenario file, format version 1: what each may hold, and whether it must be there.
-use Rattle.std.specs.Prelude.{ℕ, suc, ◌+◌, ◌^◌, pos, Bool, true, false, ◌&&◌, List, [], ◌∷◌, Option, Some, None, is_some, codes, map, nat_le, if◌then◌else◌}
+use Rattle.std.specs.Prelude.{ℕ, suc, ◌+◌, ◌^◌, pos, Bool, true, false, ◌&&◌, List, [], ◌∷◌, ◌++◌, Option, Some, None, codes, map, nat_le, if◌then◌else◌}
 use Rattle.std.specs.List.{list_any, list_all}
 use Rattle.std.specs.Str.{bytes_eq}
 use Rattle.toml.specs.Data.{Data, Items, Members, integer, string, array, table, no_items, item, no_members, member, get_member}
@@ -30,31 +30,48 @@ pub record Rule : Type 0 where
 abbrev pub rule : List ℕ → Kind → Need → Rule
 rule key kind need = record { key = key; kind = kind; need = need }
 
-abbrev pub required_if : Bool → Need
-required_if b = if b then required else refused
-
 -- ---- the table of the format
 
--- the top table: `shaped` where the file names a topology, `tree` where that is a tree
-abbrev pub top_rules : Bool → Bool → List Rule
-top_rules shaped tree =
+-- numbers of the top table
+abbrev pub number_rules : List Rule
+number_rules =
     rule (codes "version") (whole 1 1) required
     ∷ rule (codes "until") (whole 1 (2 ^ 40)) required
     ∷ rule (codes "c1") (whole 0 64000) required
     ∷ rule (codes "c2") (whole 0 64000) required
     ∷ rule (codes "d1") (whole 0 64000) required
     ∷ rule (codes "d2") (whole 0 64000) required
-    ∷ rule (codes "nodes") (whole 1 256) (if shaped then refused else required)
-    ∷ rule (codes "topology") (word (codes "chain" ∷ codes "star" ∷ codes "tree" ∷ [])) optional
+    ∷ []
+
+-- the topology that the top table names, and the degree of its tree
+abbrev pub topology_rule : Rule
+topology_rule = rule (codes "topology") (word (codes "chain" ∷ codes "star" ∷ codes "tree" ∷ [])) optional
+
+abbrev pub degree_rule : Bool → Rule
+degree_rule tree = rule (codes "degree") (whole 2 255) (if tree then required else refused)
+
+-- nodes and links, in the top table: `shaped` where it names a topology, `tree` where that is a tree
+abbrev pub shape_rules : Bool → Bool → List Rule
+shape_rules shaped tree =
+    rule (codes "nodes") (whole 1 256) (if shaped then refused else required)
+    ∷ topology_rule
     ∷ rule (codes "size") (whole 1 256) (if shaped then required else refused)
     ∷ rule (codes "delay") (whole 1 1000000) (if shaped then required else refused)
-    ∷ rule (codes "degree") (whole 2 255) (if tree then required else refused)
+    ∷ degree_rule tree
     ∷ rule (codes "link") (elements 255) (if shaped then refused else optional)
-    ∷ rule (codes "member") (elements 256) optional
+    ∷ []
+
+-- the other arrays of the top table
+abbrev pub array_rules : List Rule
+array_rules =
+    rule (codes "member") (elements 256) optional
     ∷ rule (codes "draw") (elements 4096) optional
     ∷ rule (codes "session") (elements 4096) optional
     ∷ rule (codes "drop") (elements 4096) optional
     ∷ []
+
+abbrev pub top_rules : Bool → Bool → List Rule
+top_rules shaped tree = number_rules ++ (shape_rules shaped tree ++ array_rules)
 
 abbrev pub link_rules : List Rule
 link_rules =
@@ -63,14 +80,21 @@ link_rules =
     ∷ rule (codes "delay") (whole 1 1000000) required
     ∷ []
 
+-- the rules of two keys of a member
+abbrev pub role_rule : Rule
+role_rule = rule (codes "role") (word (codes "sender" ∷ codes "receiver" ∷ codes "late" ∷ codes "listener" ∷ [])) required
+
+abbrev pub pages_rule : Rule
+pages_rule = rule (codes "pages") (numbers 256 65535) optional
+
 abbrev pub member_rules : List Rule
 member_rules =
     rule (codes "node") (whole 0 255) required
-    ∷ rule (codes "role") (word (codes "sender" ∷ codes "receiver" ∷ codes "late" ∷ codes "listener" ∷ [])) required
+    ∷ role_rule
     ∷ rule (codes "stream") (whole 0 9223372036854775807) required
     ∷ rule (codes "join") (whole 0 (2 ^ 40)) optional
     ∷ rule (codes "leave") (whole 1 (2 ^ 40)) optional
-    ∷ rule (codes "pages") (numbers 256 65535) optional
+    ∷ pages_rule
     ∷ []
 
 abbrev pub draw_rules : List Rule

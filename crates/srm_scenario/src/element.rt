@@ -26,7 +26,11 @@ pub(crate) trait Element: Sized + Drop {
 }
 
 /// Reads the elements of an array. The first that does not fit the rules of its part is a fault.
-pub(crate) fn read_elements<E: Element>(alloc: Global, part: Part, values: &[Value]) -> Result<Vec<E>, ScenarioFault>
+pub(crate) fn read_elements<E: Element>(
+    alloc: Global,
+    part: Part,
+    values: &[Value],
+) -> Result<Vec<E>, ScenarioFault>
     ensures no_fault { IfOk result (λ _. element_faults part E.rules (map view values.now) ≡ []) }
     ensures read { IfOk result (λ elements. elements.items ≡ map (λ d. E.reading (table_of (view d))) values.now) }
     ensures fault { IfErr result (λ e. (e ≡ ScenarioFault.NoMemory) ⊎ (first (element_faults part E.rules (map view values.now)) ≡ Some e)) }

@@ -2,6 +2,9 @@
 #![tactic(auto)]
 
 pub mod bytes;
+mod element;
+mod elements;
+mod entry;
 pub mod fault;
 pub mod feed;
 pub mod laws;
@@ -9,7 +12,6 @@ pub mod mark;
 pub mod parts;
 pub mod scenario;
 pub mod script;
-mod element;
-mod elements;
 mod table;
+mod top;
 pub mod topology;

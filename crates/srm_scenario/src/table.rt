@@ -1,10 +1,12 @@
 //! Looking up the keys of a table.
-ghost use Rattle.std.specs.Prelude.{◌≡◌, ℕ, ◌≤◌, true, false, length, map, MatchOption, Some, None};
+ghost use Rattle.std.specs.Prelude.{◌≡◌, ℕ, ◌≤◌, true, false, length, map, MatchOption, Some, None, option_map, is_some};
+ghost use Rattle.std.specs.Option.{option_and_then};
+ghost use Rattle.toml.specs.Data.{as_str, get_member};
 ghost use Rattle.std.specs.List.{list_any};
 ghost use Rattle.std.specs.Str.{bytes_eq};
 ghost use Rattle.toml.specs.View.{view, table_view, items_view};
-ghost use Rattle.srm_scenario.specs.Rules.{rule, whole, required, optional, is_met, is_whole, has_only};
-ghost use Rattle.srm_scenario.specs.Keys.{IsNumber, HasNumber, MayHaveNumber};
+ghost use Rattle.srm_scenario.specs.Rules.{rule, whole, elements, required, optional, is_met, is_whole, has_only};
+ghost use Rattle.srm_scenario.specs.Keys.{IsNumber, HasNumber, MayHaveNumber, IsArray};
 
 use toml::{Table, Value};
 
@@ -65,5 +67,42 @@ pub(crate) fn optional_number(table: &Table, key: &str, low: u64, high: u64) -> 
             None => None,
         },
         None => Some(None),
+    }
+}
+
+/// Whether the table has a key.
+pub(crate) fn has_key(table: &Table, key: &str) -> bool
+    ensures { result ≡ is_some (get_member key.now (table_view table.now)) }
+{
+    table.get(key).is_some()
+}
+
+/// The text at a key, if there is one.
+pub(crate) fn text<'a>(table: &'a Table, key: &str) -> Option<&'a str>
+    ensures { option_map (λ s. s.now) result ≡ option_and_then as_str (get_member key.now (table_view table.now)) }
+{
+    match table.get(key) {
+        Some(value) => value.as_str(),
+        None => None,
+    }
+}
+
+/// The values of the array at a key that need not be there, if there are at most so many: none where the key is not there.
+pub(crate) fn array<'a>(table: &'a Table, key: &str, most: usize) -> Option<&'a [Value]>
+    ensures { MatchOption result
+        (is_met (table_view table.now) (rule key.now (elements most) optional) ≡ false)
+        (λ values. IsArray key.now most (table_view table.now) (map view values.now)) }
+{
+    match table.get(key) {
+        Some(value) => match value.as_array() {
+            Some(values) => {
+                if values.len() > most {
+                    return None;
+                }
+                Some(values.as_slice())
+            }
+            None => None,
+        },
+        None => Some(&[]),
     }
 }
