@@ -7,3 +7,4 @@ mod Indexes
 mod Compare
 mod Earliest
 mod Losses
+mod Calls
