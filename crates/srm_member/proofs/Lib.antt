@@ -7,6 +7,7 @@ mod Compare
 mod Earliest
 mod Indexes
 mod Losses
+mod Calls
 mod Maps
 pub mod Changes
 pub mod FewerTimers
