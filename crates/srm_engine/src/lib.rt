@@ -2,4 +2,6 @@
 #![tactic(auto)]
 
 pub mod laws;
+pub mod laws_of_names;
+pub mod laws_of_packets;
 pub mod next_times;
