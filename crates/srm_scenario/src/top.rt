@@ -2,8 +2,9 @@
 ghost use Rattle.std.specs.Prelude.{◌≡◌, true, false, ◌&&◌, codes, map, MatchOption};
 ghost use Rattle.toml.specs.View.{view, table_view};
 ghost use Rattle.std.specs.List.{list_all};
-ghost use Rattle.srm_scenario.specs.Rules.{is_met, topology_rule, degree_rule, number_rules, array_rules};
+ghost use Rattle.srm_scenario.specs.Rules.{fits, is_met, topology_rule, degree_rule, number_rules, array_rules};
 ghost use Rattle.srm_scenario.specs.Described.{says};
+ghost use Rattle.srm_scenario.specs.Faults.{rules_of_top};
 ghost use Rattle.srm_scenario.specs.Keys.{HasTopology, HasNumbers, HasShape, HasArrays, shape_of};
 
 use crate::elements::LAST_TICK;
@@ -151,5 +152,46 @@ fn arrays_of(table: &Table) -> Option<Arrays<'_>>
         draws,
         sessions,
         drops,
+    })
+}
+
+/// What the top table holds.
+#[derive(Clone, Copy, Debug)]
+pub(crate) struct Top<'a> {
+    /// Its numbers.
+    pub(crate) numbers: Numbers,
+    /// Its nodes and links.
+    pub(crate) shape: Shape<'a>,
+    /// Its other arrays.
+    pub(crate) arrays: Arrays<'a>,
+}
+
+/// What the table holds, if it is as a top table must be.
+pub(crate) fn top_of(table: &Table) -> Option<Top<'_>>
+    ensures {
+        MatchOption result
+            (fits (rules_of_top (table_view table.now)) (table_view table.now) ≡ false)
+            (λ t. (fits (rules_of_top (table_view table.now)) (table_view table.now) ≡ true)
+                × HasNumbers (table_view table.now) t.numbers.until t.numbers.constants
+                × HasShape (table_view table.now) t.shape.topology t.shape.nodes t.shape.delay (map view t.shape.links.now)
+                × HasArrays (table_view table.now) (map view t.arrays.members.now) (map view t.arrays.draws.now) (map view t.arrays.sessions.now) (map view t.arrays.drops.now))
+    }
+{
+    if !has_only(
+        table,
+        &[
+            "version", "until", "c1", "c2", "d1", "d2", "nodes", "topology", "size", "delay",
+            "degree", "link", "member", "draw", "session", "drop",
+        ],
+    ) {
+        return None;
+    }
+    let numbers = numbers_of(table)?;
+    let shape = shape_of(table)?;
+    let arrays = arrays_of(table)?;
+    Some(Top {
+        numbers,
+        shape,
+        arrays,
     })
 }
