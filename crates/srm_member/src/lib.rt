@@ -3,8 +3,19 @@
 
 pub mod cause;
 pub mod due;
+mod entries;
 pub mod exit;
+pub mod fault;
 pub mod fixed;
+mod index;
+pub mod laws;
+mod named;
+mod pages;
+mod pending;
+pub mod member;
 pub mod react;
 pub mod row;
+mod stream;
+mod tables;
+pub mod timers;
 pub mod told;

@@ -1,0 +1,13 @@
+mod Doublings
+pub mod AllIn
+pub mod OrderLemmas
+pub mod Bounds
+pub mod LawProofs
+mod Compare
+mod Earliest
+mod Indexes
+mod Losses
+mod Maps
+pub mod Changes
+pub mod FewerTimers
+pub mod Tables
