@@ -1,14 +1,14 @@
-mod Doublings
 pub mod AllIn
-pub mod OrderLemmas
 pub mod Bounds
-pub mod LawProofs
-mod Compare
-mod Earliest
-mod Indexes
-mod Losses
 mod Calls
-mod Maps
 pub mod Changes
+mod Compare
+mod Doublings
+mod Earliest
 pub mod FewerTimers
-pub mod Tables
+mod Indexes
+pub mod LawProofs
+mod Losses
+mod Maps
+pub mod OrderLemmas
+pub mod TableChanges
