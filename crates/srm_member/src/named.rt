@@ -5,6 +5,7 @@ ghost use Rattle.srm_net.specs.Names.{name_cmp};
 ghost use Rattle.srm_member.specs.React.{without};
 
 use srm_net::packet::Name;
+use srm_net::sequence::Sequence;
 use std::alloc::{AllocError, Global};
 use std::collections::BTreeMap;
 use std::marker::Model;
@@ -56,5 +57,25 @@ impl<V: Copy> Named<V> {
         ensures rest { self.new ≡ without name self.old }
     {
         self.map.remove(&name)
+    }
+
+    /// The entries, the names rising.
+    pub fn entries(&self, alloc: Global) -> Result<Sequence<(Name, V)>, AllocError>
+        ensures { IfOk result (λ es. es ≡ self.now) }
+    {
+        let entries: Vec<(Name, V)> = self
+            .map
+            .iter()
+            .map(|(name, value)| (*name, *value))
+            .collect(alloc)?;
+        Ok(Sequence::from_vec(entries))
+    }
+
+    /// The names, rising.
+    pub fn names(&self, alloc: Global) -> Result<Sequence<Name>, AllocError>
+        ensures { IfOk result (λ ns. ns ≡ map (λ e. e.0) self.now) }
+    {
+        let names: Vec<Name> = self.map.keys().copied().collect(alloc)?;
+        Ok(Sequence::from_vec(names))
     }
 }

@@ -2,9 +2,11 @@
 ghost use Rattle.std.specs.Prelude.{◌≡◌, [], OnErr, OnOk, IfOk, map};
 ghost use Rattle.std.specs.FinMap.Entries.{put, find};
 ghost use Rattle.srm_net.specs.Names.{page_cmp};
+ghost use Rattle.srm_member.specs.Fit.{heard_of};
 
 use crate::stream::Stream;
-use srm_net::packet::PageId;
+use srm_net::packet::{Heard, PageId};
+use srm_net::sequence::Sequence;
 use std::alloc::{AllocError, Global};
 use std::collections::BTreeMap;
 use std::marker::Model;
@@ -49,5 +51,27 @@ impl Pages {
     {
         self.map.insert(page, stream)?;
         Ok(())
+    }
+
+    /// The highest number heard of each page, the pages rising.
+    pub fn heard(&self, alloc: Global) -> Result<Sequence<Heard>, AllocError>
+        ensures { IfOk result (λ hs. hs ≡ map (λ e. heard_of e.0 e.1) self.now) }
+    {
+        let mut heard = Sequence::new(alloc);
+        for (page, stream) in &self.map {
+            heard.push(heard_of(*page, *stream))?;
+        }
+        Ok(heard)
+    }
+}
+
+// The entry of a session message for a page.
+fn heard_of(page: PageId, stream: Stream) -> Heard
+    ensures { result ≡ heard_of page stream }
+{
+    Heard {
+        source: page.source,
+        page: page.page,
+        highest: stream.next().saturating_sub(1) as u32,
     }
 }

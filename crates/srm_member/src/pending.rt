@@ -1,5 +1,5 @@
 //! A member's pending timers.
-ghost use Rattle.std.specs.Prelude.{◌≡◌, [], OnErr, OnOk};
+ghost use Rattle.std.specs.Prelude.{◌≡◌, [], OnOk, IfOk, map};
 ghost use Rattle.std.specs.FinMap.Entries.{put, find};
 ghost use Rattle.srm_net.specs.Names.{name_cmp};
 ghost use Rattle.srm_member.specs.Record.{earliest};
@@ -11,6 +11,7 @@ use crate::entries::{Missing, Repairing};
 use crate::index::Index;
 use crate::named::Named;
 use srm_net::packet::Name;
+use srm_net::sequence::Sequence;
 use std::alloc::{AllocError, Global};
 use std::marker::Model;
 
@@ -65,6 +66,13 @@ impl Pending {
         ensures { result ≡ find name_cmp name self.now.1 }
     {
         self.repairs.get(name)
+    }
+
+    /// The names that are missing, rising.
+    pub fn names(&self, alloc: Global) -> Result<Sequence<Name>, AllocError>
+        ensures { IfOk result (λ ns. ns ≡ map (λ e. e.0) self.now.0) }
+    {
+        self.missing.names(alloc)
     }
 
     /// The least timer by time, rank and name.

@@ -1,12 +1,15 @@
 //! What an active member knows, and how it answers.
-ghost use Rattle.std.specs.Prelude.{◌≡◌, ◌+◌, ◌-◌, ◌<◌, ◌≤◌, ◌^◌, [], ◌∷◌, ◌++◌, IsTrue, IfOk, OnOk, None};
+ghost use Rattle.std.specs.Prelude.{◌≡◌, ◌+◌, ◌-◌, ◌<◌, ◌≤◌, ◌^◌, [], ◌∷◌, ◌++◌, IsTrue, IfOk, OnOk, Some, None};
 ghost use Rattle.srm_net.specs.Names;
 ghost use Rattle.srm_member.specs.Timers;
-ghost use Rattle.srm_member.specs.Record.{opening_memory};
-ghost use Rattle.srm_member.specs.React.{distance_to, length_in, with_next_word, request_length, repair_length, back_off, wants, is_late, begins_at, meet, lose_one, lose_from, lose_below, names_from, lost_below, got, base, resting, got_repair, planning, asked_missing, asked_held, requested, after_entry, lost_by_entry, informed, hear_body, asking, answering, drawing, session_of, sending};
+ghost use Rattle.srm_member.specs.declared.told.Told.TheVariants.{Sent};
+ghost use Rattle.srm_member.specs.Record.{opening_memory, exit_of, earliest, timers_of};
+ghost use Rattle.srm_member.specs.React.{distance_to, length_in, with_next_word, request_length, repair_length, back_off, wants, is_late, begins_at, meet, lose_one, lose_from, lose_below, names_from, lost_below, got, base, resting, got_repair, planning, asked_missing, asked_held, requested, after_entry, lost_by_entry, informed, hear_body, asking, answering, own_stream, drawing, session_of, sending};
 ghost use Rattle.srm_member.specs.Fit.{IsFit, Gives};
 
+use crate::due::Due;
 use crate::entries::{Missing, Repairing};
+use crate::exit::Exit;
 use crate::fixed::Fixed;
 use crate::named::Named;
 use crate::pages::Pages;
@@ -17,7 +20,7 @@ use crate::timers::{draw, span};
 use crate::told::Told;
 use rand_core::utils::NextWord;
 use rand_pcg::Lcg64Xsh32;
-use srm_net::packet::{Heard, Name, PageId};
+use srm_net::packet::{Body, Heard, Name, Packet, PageId};
 use srm_net::role::Role;
 use srm_net::sequence::Sequence;
 use std::alloc::{AllocError, Global};
@@ -60,6 +63,13 @@ impl Tables {
             pending: Pending::new(alloc),
             rests: Named::new(alloc),
         }
+    }
+
+    /// The member's number.
+    pub fn number(&self) -> u16
+        ensures { result ≡ self.now.fixed.member }
+    {
+        self.fixed.member
     }
 
     // The distance to a member, in ticks.
@@ -432,6 +442,117 @@ impl Tables {
         }
         Ok(quietly(Told::Heard, lost))
     }
+
+    /// Takes in a packet.
+    pub fn hear(&mut self, alloc: Global, at: u64, packet: &Packet) -> Result<React, AllocError>
+        requires { at < 2 ^ 40 }
+        ensures ok { IfOk result (λ a. Gives a self.new (hear_body at packet.now.id.sender packet.now.body self.old)) }
+        ensures fixed { self.new.fixed ≡ self.old.fixed }
+    {
+        let who = packet.id.sender;
+        match &packet.body {
+            Body::Drawop { name, ink } => self.got(alloc, at, *name, *ink),
+            Body::Repair { name, ink } => self.got_repair(alloc, at, *name, *ink, who),
+            Body::Request { name } => self.requested(alloc, at, *name, who),
+            Body::Session { heard } => self.informed(alloc, at, heard.as_slice()),
+        }
+    }
+
+    /// The request timer of a name expires: the member asks for the name, and backs off.
+    #[tactic(auto, unfolding(crate::specs::React::asking))]
+    pub fn ask(&mut self, alloc: Global, at: u64, name: Name) -> Result<React, AllocError>
+        requires { at < 2 ^ 40 }
+        ensures ok { IfOk result (λ a. Gives a self.new (asking at name self.old)) }
+        ensures fixed { self.new.fixed ≡ self.old.fixed }
+    {
+        match self.pending.missing(name) {
+            None => Ok(quietly(Told::Skip, Sequence::new(alloc))),
+            Some(missing) => {
+                self.back_off(at, name, missing)?;
+                Ok(sending(alloc, Body::Request { name }))
+            }
+        }
+    }
+
+    /// The repair timer of a name expires: the member sends what it holds.
+    #[tactic(auto, unfolding(crate::specs::React::answering))]
+    pub fn answer(&mut self, alloc: Global, at: u64, name: Name) -> Result<React, AllocError>
+        requires { at < 2 ^ 40 }
+        ensures ok { IfOk result (λ a. Gives a self.new (answering at name self.old)) }
+        ensures fixed { self.new.fixed ≡ self.old.fixed }
+    {
+        match self.pending.repair(name) {
+            None => Ok(quietly(Told::Skip, Sequence::new(alloc))),
+            Some(_) => {
+                let ink = self.held.get(name).unwrap_or(0);
+                let own = self.fixed.member;
+                self.rest(at, name, own)?;
+                Ok(sending(alloc, Body::Repair { name, ink }))
+            }
+        }
+    }
+
+    // How far the member follows a page of its own.
+    fn own_stream(&self, page: PageId) -> Stream
+        ensures { result ≡ own_stream self.now page }
+    {
+        match self.streams.get(page) {
+            Some(stream) => stream,
+            None => Stream::new(0, 0),
+        }
+    }
+
+    /// A sender draws, up to 4,096 operations on a page.
+    #[tactic(auto, unfolding(crate::specs::React::drawing))]
+    pub fn draw_op(&mut self, alloc: Global, page: u16, ink: u32) -> Result<React, AllocError>
+        ensures ok { IfOk result (λ a. Gives a self.new (drawing page ink self.old)) }
+        ensures fixed { self.new.fixed ≡ self.old.fixed }
+    {
+        let source = self.fixed.member;
+        let place = PageId { source, page };
+        let stream = self.own_stream(place);
+        let next = stream.next();
+        if !matches!(self.fixed.role, Role::Sender) || next >= 4096 {
+            return Ok(quietly(Told::Skip, Sequence::new(alloc)));
+        }
+        let name = Name {
+            source,
+            page,
+            number: next as u32,
+        };
+        self.streams
+            .put(place, Stream::new(stream.floor(), next + 1))?;
+        self.held.put(name, ink)?;
+        Ok(sending(alloc, Body::Drawop { name, ink }))
+    }
+
+    /// The session message that tells of every page that the member follows.
+    pub fn report(&self, alloc: Global) -> Result<React, AllocError>
+        ensures { IfOk result (λ a. Gives a self.now (sending self.now (session_of self.now))) }
+    {
+        let heard = self.streams.heard(alloc)?;
+        Ok(sending(alloc, Body::Session { heard }))
+    }
+
+    /// What the member ends with.
+    pub fn exit(&self, alloc: Global) -> Result<Exit, AllocError>
+        ensures { IfOk result (λ e. e ≡ exit_of self.now) }
+    {
+        let held = self.held.entries(alloc)?;
+        let missing = self.pending.names(alloc)?;
+        Ok(Exit {
+            member: self.fixed.member,
+            held,
+            missing,
+        })
+    }
+
+    /// The least timer by time, rank and name.
+    pub fn due(&self) -> Option<Due>
+        ensures { result ≡ earliest (timers_of self.now) }
+    {
+        self.pending.due()
+    }
 }
 
 fn page_of(name: Name) -> PageId
@@ -450,5 +571,15 @@ fn quietly(told: Told, lost: Sequence<Name>) -> React
         told,
         lost,
         body: None,
+    }
+}
+
+fn sending(alloc: Global, body: Body) -> React
+    ensures { result ≡ record { told = Sent; lost = []; body = Some body } }
+{
+    React {
+        told: Told::Sent,
+        lost: Sequence::new(alloc),
+        body: Some(body),
     }
 }
