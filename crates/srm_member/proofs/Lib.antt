@@ -10,4 +10,4 @@ mod Losses
 mod Maps
 pub mod Changes
 pub mod FewerTimers
-pub mod Tables
+pub mod NameTables
