@@ -1,5 +1,5 @@
 -- Names, pages and timers are compared by their numbers.
-use Rattle.std.proofs.Common.{arith, length, ◌<◌, ◌↔◌, IsSome, IfSome, IsTrue, Bor, Some, [], ◌∷◌, ◌≡◌, Bool, true, false, cond, List, Option, None, refl, sym, ap, subst, ◌∙◌}
+use Rattle.std.proofs.Common.{arith, length, ◌<◌, ◌↔◌, IsSome, IfSome, IsTrue, Bor, Some, [], ◌∷◌, ◌≡◌, Bool, false, cond, List, Option, None, refl, sym, ap, subst, ◌∙◌}
 use Rattle.std.specs.Ordering.{nat_cmp, ordering_then, eq_by_cmp, is_gt}
 use Rattle.std.specs.List.{list_any}
 use Rattle.std.specs.FinMap.Entries.{put, find}

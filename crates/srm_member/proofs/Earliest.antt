@@ -1,6 +1,5 @@
 -- The first timer of an index is the earliest of the tables.
 use Rattle.std.proofs.Common.{◌≡◌, ℕ, eqb, Bool, true, false, cond, ◌&&◌, ◌||◌, T, List, [], ◌∷◌, ◌++◌, map, Option, Some, None, refl, sym, ap, ◌∙◌, subst, arith, ◌==◌}
-use Rattle.std.specs.List.{list_any}
 use Rattle.std.specs.Option.{option_map}
 use Rattle.std.specs.declared.cmp.Ordering.{Ordering}
 use Rattle.std.specs.declared.cmp.Ordering.TheVariants.{Less, Equal, Greater}
@@ -12,7 +11,7 @@ use Rattle.srm_net.specs.Names.{name_cmp}
 use Rattle.srm_member.specs.declared.due.Due.{Due}
 use Rattle.srm_member.specs.Record.{Missing, Repairing, due_cmp, by_order, sooner, earliest}
 use Rattle.srm_member.specs.Pending.{has, Rises, IsFirst, IsIndexed, pending_timers, request_timer, repair_timer, expiry_of, is_at_time}
-use Rattle.srm_member.proofs.Indexes.{name_total, due_total, due_same, same, due_eq, due_itself, name_same}
+use Rattle.srm_member.proofs.Indexes.{due_total, due_same, same, due_eq, due_itself, name_same}
 
 -- ---- the earliest of a list is its first
 

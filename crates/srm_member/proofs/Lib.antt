@@ -1,13 +1,14 @@
-mod Doublings
 pub mod AllIn
-pub mod OrderLemmas
 pub mod Bounds
-pub mod LawProofs
+mod Calls
+pub mod Changes
 mod Compare
+mod Doublings
 mod Earliest
+pub mod FewerTimers
 mod Indexes
+pub mod LawProofs
 mod Losses
 mod Maps
-pub mod Changes
-pub mod FewerTimers
-pub mod NameTables
+pub mod OrderLemmas
+pub mod TableChanges

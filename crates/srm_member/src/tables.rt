@@ -65,6 +65,13 @@ impl Tables {
         }
     }
 
+    /// The member's number.
+    pub fn number(&self) -> u16
+        ensures { result ≡ self.now.fixed.member }
+    {
+        self.fixed.member
+    }
+
     // The distance to a member, in ticks.
     fn distance_to(&self, who: u16) -> u64
         ensures value { result ≡ distance_to self.now who }

@@ -1,7 +1,6 @@
-use Rattle.std.proofs.Common.{◌≡◌, Option, None, sym, ap, ◌∙◌}
+use Rattle.std.proofs.Common.{ap, ◌∙◌}
 use Rattle.srm_net.specs.Names.{name_cmp}
 use Rattle.std.specs.FinMap.Entries.{put, find}
-use Rattle.srm_member.specs.React.{without}
 use Rattle.srm_member.proofs.Indexes.{missed-step, missed-back, find-none, put-without}
 use Rattle.srm_member.proofs.pending.Pending.miss.Goals as goal
 

@@ -1,4 +1,4 @@
-use Rattle.std.proofs.Common.{◌≡◌, [], sym, ap, ◌∙◌}
+use Rattle.std.proofs.Common.{sym, ap, ◌∙◌}
 use Rattle.srm_member.proofs.Losses.{informed-turn, informed-end}
 use Rattle.srm_member.proofs.tables.Tables.informed.Goals as goal
 

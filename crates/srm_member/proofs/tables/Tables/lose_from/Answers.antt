@@ -1,7 +1,7 @@
-use Rattle.std.proofs.Common.{◌≡◌, ◌+◌, ◌-◌, ◌∷◌, [], ◌++◌, sym, ap, ◌∙◌, append_assoc}
+use Rattle.std.proofs.Common.{◌+◌, ◌-◌, ◌∷◌, [], ◌++◌, sym, ap, ◌∙◌, append_assoc}
 use Rattle.srm_net.specs.Names.{name_in}
 use Rattle.srm_member.specs.React.{lose_from, names_from}
-use Rattle.srm_member.proofs.Losses.{lose_from-next, lose_from-end, names_from-next, names_from-end}
+use Rattle.srm_member.proofs.Losses.{lose_from-next, lose_from-end, names_from-next}
 use Rattle.srm_member.proofs.tables.Tables.lose_from.Goals as goal
 
 pub loop-number-preserved : goal.loop-number-preserved
