@@ -1,10 +1,14 @@
 mod Doublings
 pub mod AllIn
+pub mod OrderLemmas
 pub mod Bounds
 pub mod LawProofs
-mod Maps
-mod Indexes
 mod Compare
 mod Earliest
+mod Indexes
 mod Losses
 mod Calls
+mod Maps
+pub mod Changes
+pub mod FewerTimers
+pub mod Tables

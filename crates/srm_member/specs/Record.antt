@@ -1,5 +1,5 @@
 -- What a member knows: its record, the timers in it, and what it ends with.
-use Rattle.std.specs.Prelude.{ℕ, List, [], ◌∷◌, ◌++◌, map, Option, Some, None}
+use Rattle.std.specs.Prelude.{ℕ, ◌+◌, Bool, ◌==◌, if◌then◌else◌, List, [], ◌∷◌, ◌++◌, map, Option, Some, None}
 use Rattle.std.specs.declared.cmp.Ordering.{Ordering}
 use Rattle.std.specs.declared.cmp.Ordering.TheVariants.{Less, Equal, Greater}
 use Rattle.std.specs.Ordering.{nat_cmp}
@@ -75,15 +75,15 @@ numbers_of_due d = d.time ∷ d.rank ∷ d.name.source ∷ d.name.page ∷ d.nam
 abbrev pub due_cmp : Due → Due → Ordering
 due_cmp d e = slice_cmp nat_cmp (numbers_of_due d) (numbers_of_due e)
 
-abbrev pub by_order : Ordering → Due → Due → Due
-by_order Less d e = d
-by_order Equal d e = d
-by_order Greater d e = e
+abbrev pub sooner_by : Ordering → Due → Due → Due
+sooner_by Less d e = d
+sooner_by Equal d e = d
+sooner_by Greater d e = e
 
 -- the earlier of a timer and another, if there is another
 abbrev pub sooner : Due → Option Due → Due
 sooner d None = d
-sooner d (Some e) = by_order (due_cmp d e) d e
+sooner d (Some e) = sooner_by (due_cmp d e) d e
 
 -- the least of these timers
 abbrev pub earliest : List Due → Option Due
@@ -93,6 +93,15 @@ earliest (d ∷ ds) = Some (sooner d (earliest ds))
 -- a record's next timer
 abbrev pub due_of : Record → Option Due
 due_of r = earliest (timers r)
+
+-- how many elements pass a test
+abbrev pub count_if : {A : Type 0} → (A → Bool) → List A → ℕ
+count_if p [] = 0
+count_if p (x ∷ xs) = (if p x then 1 else 0) + count_if p xs
+
+-- how many timers of a record expire at a tick
+abbrev pub timers_at : ℕ → Record → ℕ
+timers_at t r = count_if (λ d. d.time == t) (timers r)
 
 -- ---- the end
 

@@ -1,4 +1,8 @@
 pub mod Marks
+pub mod Tables
 pub mod Placed
 pub mod ScriptLemmas
 pub mod Sorting
+pub mod Members
+pub mod Words
+pub mod Arrays

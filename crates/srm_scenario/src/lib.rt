@@ -2,9 +2,16 @@
 #![tactic(auto)]
 
 pub mod bytes;
+mod element;
+mod elements;
+mod entry;
 pub mod fault;
 pub mod feed;
 pub mod laws;
 pub mod mark;
 pub mod parts;
+pub mod scenario;
 pub mod script;
+mod table;
+mod top;
+pub mod topology;

@@ -1,0 +1,48 @@
+-- What look-ups in a table give.
+use Rattle.std.specs.Prelude.{◌≡◌, ℕ, ◌≤◌, Bool, true, false, ◌&&◌, List, Option, Some, None, codes, is_some, length}
+use Rattle.std.specs.List.{list_all}
+use Rattle.toml.specs.Data.{Data, Items, Members, get_member}
+use Rattle.srm_scenario.specs.declared.topology.Topology.{Topology}
+use Rattle.srm_scenario.specs.declared.parts.Constants.{Constants}
+use Rattle.srm_scenario.specs.Rules.{Kind, Need, Rule, rule, whole, numbers, elements, required, optional, is_met, is_whole, is_kind, topology_rule, degree_rule, number_rules, shape_rules, array_rules}
+use Rattle.srm_scenario.specs.Described.{number, number_at, number_of, items_list, array_at, says, topology_of, constants_of, nodes_in}
+
+-- the value is this whole number, from low to high
+pub record IsNumber (low high : ℕ) (d : Data) (n : ℕ) : Type 0 where
+  pub whole : is_whole low high d ≡ true
+  pub is : number_of d ≡ Some n
+  pub least : low ≤ n
+  pub most : n ≤ high
+
+-- this number stands at a key that must be there
+pub record HasNumber (key : List ℕ) (low high : ℕ) (ms : Members) (n : ℕ) : Type 0 where
+  pub met : is_met ms (rule key (whole low high) required) ≡ true
+  pub is : number key ms ≡ n
+  pub least : low ≤ n
+  pub most : n ≤ high
+
+-- a number that is there is from low to high
+abbrev pub IsWithin : ℕ → ℕ → Option ℕ → Type 0
+IsWithin low high None = Unit {0}
+IsWithin low high (Some n) = (low ≤ n) × (n ≤ high)
+
+-- this number, or none, stands at a key that need not be there
+pub record MayHaveNumber (key : List ℕ) (low high : ℕ) (ms : Members) (n : Option ℕ) : Type 0 where
+  pub met : is_met ms (rule key (whole low high) optional) ≡ true
+  pub is : number_at key ms ≡ n
+  pub within : IsWithin low high n
+
+-- these values are those of the array at a key that need not be there
+pub record IsArray (key : List ℕ) (most : ℕ) (ms : Members) (values : List Data) : Type 0 where
+  pub met : is_met ms (rule key (elements most) optional) ≡ true
+  pub is : values ≡ array_at key ms
+  pub few : length values ≤ most
+
+-- ---- the top table
+
+-- this topology, or none, is the one that the table names
+pub record HasTopology (ms : Members) (t : Option Topology) : Type 0 where
+  pub topology : is_met ms topology_rule ≡ true
+  pub degree : is_met ms (degree_rule (says (codes "topology") (codes "tree") ms)) ≡ true
+  pub is : topology_of ms ≡ t
+  pub there : is_some (get_member (codes "topology") ms) ≡ is_some t
