@@ -6,7 +6,7 @@ use Rattle.srm_cell.specs.Flights.{flight_cmp}
 use Rattle.srm_cell.specs.declared.flight.Flight.{Flight}
 use Rattle.srm_member.proofs.OrderLemmas.{head_le, key_total, nat_cmp_self}
 use Rattle.srm_member.specs.React.{Reaction, react}
-use Rattle.srm_member.specs.Record.{Active, Gone, Record, due_cmp, earliest, sooner, sooner_by, timers}
+use Rattle.srm_member.specs.Record.{Active, Gone, Record, due_cmp, earliest, sooner, by_order, timers}
 use Rattle.srm_member.specs.declared.cause.Cause.{Cause}
 use Rattle.srm_member.specs.declared.due.Due.{Due}
 use Rattle.srm_net.specs.Keys.{key_cmp}
@@ -77,7 +77,7 @@ first_timer m c (d ∷ ds) = earlier (Some (timer_event m c d)) (first_timer m c
 timer_keys : (m : ℕ) (c : PlainCell) (d e : Due) → key_cmp (timer_event m c d).key (timer_event m c e).key ≡ due_cmp d e
 timer_keys m c d e = let q = nat_cmp_self m in simp q
 
-by_key-timers : (m : ℕ) (c : PlainCell) (r : Ordering) (d e : Due) → by_key r (timer_event m c d) (timer_event m c e) ≡ timer_event m c (sooner_by r d e)
+by_key-timers : (m : ℕ) (c : PlainCell) (r : Ordering) (d e : Due) → by_key r (timer_event m c d) (timer_event m c e) ≡ timer_event m c (by_order r d e)
 by_key-timers m c Less d e = refl
 by_key-timers m c Equal d e = refl
 by_key-timers m c Greater d e = refl

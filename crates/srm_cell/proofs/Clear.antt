@@ -16,7 +16,9 @@ use Rattle.srm_member.proofs.FewerTimers.{In, IsSound, SoundRecord, T_first, T_l
 use Rattle.srm_member.proofs.LawProofs.{as_active}
 use Rattle.srm_member.proofs.OrderLemmas.{key_total, same_numbers}
 use Rattle.srm_member.specs.React.{Reaction, answering, answering_at, asking, asking_at, back_off, distance_to, is_listener, react, request_length, resting, without}
-use Rattle.srm_member.specs.Record.{Active, Gone, Memory, Missing, Record, Repairing, timers, timers_of}
+use Rattle.srm_member.specs.declared.entries.Missing.{Missing}
+use Rattle.srm_member.specs.declared.entries.Repairing.{Repairing}
+use Rattle.srm_member.specs.Record.{Active, Gone, Memory, Record, timers, timers_of}
 use Rattle.srm_member.specs.Timers.{span}
 use Rattle.srm_member.specs.declared.cause.Cause.{Cause}
 use Rattle.srm_member.specs.declared.cause.Cause.TheVariants.{Answer, Ask}

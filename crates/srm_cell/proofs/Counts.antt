@@ -7,7 +7,9 @@ use Rattle.srm_cell.specs.declared.flight.Flight.{Flight}
 use Rattle.srm_member.proofs.AllIn.{AllIn}
 use Rattle.srm_member.proofs.FewerTimers.{In, IsSound, SoundRecord, fewer_answers, fewer_asks, in_append, in_map, no_more, one_if, sound_react}
 use Rattle.srm_member.specs.React.{Reaction, react}
-use Rattle.srm_member.specs.Record.{Active, Gone, Missing, Record, Repairing, count_if, timers, timers_at}
+use Rattle.srm_member.specs.declared.entries.Missing.{Missing}
+use Rattle.srm_member.specs.declared.entries.Repairing.{Repairing}
+use Rattle.srm_member.specs.Record.{Active, Gone, Record, count_if, timers, timers_at}
 use Rattle.srm_member.specs.declared.cause.Cause.{Cause}
 use Rattle.srm_member.specs.declared.due.Due.{Due}
 use Rattle.srm_net.specs.declared.key.Key.{Key}

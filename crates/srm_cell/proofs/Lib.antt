@@ -1,5 +1,7 @@
 pub mod Entries
 pub mod Nexts
+pub mod Telling
+pub mod Saying
 pub mod OwnRunLemmas
 pub mod CellLemmas
 pub mod CellSteps

@@ -1,12 +1,14 @@
 -- Where a cell has its next event.
-use Rattle.std.proofs.Common.{◌≡◌, ℕ, List, [], ◌∷◌, Option, Some, None, option_map, slice_get, refl, sym, ap, ◌∙◌, subst}
+use Rattle.std.proofs.Common.{◌≡◌, ◌<◌, ◌≤◌, true, false, cond, nat_lt, lt-ltb, le-ltb, ℕ, List, [], ◌∷◌, Option, Some, None, option_map, slice_get, refl, sym, ap, ◌∙◌, subst}
 use Rattle.srm_net.specs.declared.key.Key.{Key}
 use Rattle.srm_net.specs.declared.packet.PacketId.{PacketId}
 use Rattle.srm_scenario.specs.declared.mark.Mark.{Mark}
 use Rattle.srm_member.specs.declared.due.Due.{Due}
 use Rattle.srm_member.specs.Record.{Record, Active, Gone, due_of}
 use Rattle.srm_cell.specs.declared.flight.Flight.{Flight}
-use Rattle.srm_cell.specs.Cells.{PlainCell, Event, first_arrival, first_mark, next_timer, timer_event}
+use Rattle.srm_cell.specs.Cells.{PlainCell, Event, first_arrival, first_mark, next_timer, timer_event, next_event, before, step_at, own_step, handle, Idle}
+use Rattle.srm_cell.specs.declared.pending.Pending.{Pending}
+use Rattle.srm_cell.specs.Pending.{Stands}
 use Rattle.srm_cell.specs.Views.{HoldsRecord, due_in}
 
 -- an event with this key, which is what is pending
@@ -43,3 +45,24 @@ timer_known m n p o d number holds h =
 
 pub no_timer : (m : ℕ) (p : PlainCell) (o : Option Record) → HoldsRecord o p.holds → None ≡ due_in o → next_timer m p (due_of p.holds) ≡ None
 no_timer m p o holds h = ap (next_timer m p) (held_due o p.holds holds ∙ sym h)
+
+-- ---- the own step
+
+module _ (end m : ℕ) (p : PlainCell) where
+  pub none_pending : Stands m p None (next_event m p) → own_step end m p ≡ Idle
+  unfolding own_step
+  none_pending h = ap (λ o. step_at (before end o)) h
+
+  pub none_before : (q : Pending) → Stands m p (Some q) (next_event m p) → end ≤ q.key.time → own_step end m p ≡ Idle
+  unfolding own_step
+  none_before q h le =
+      let late : end ≤ h.0.key.time = subst (λ (k : Key). end ≤ k.time) h.2 le in
+      let no : nat_lt h.0.key.time end ≡ false = le-ltb _ _ late in
+      ap (λ o. step_at (before end o)) h.1 ∙ ap (λ b. step_at (cond b (Some h.0) None)) no
+
+  pub takes : (q : Pending) → (h : Stands m p (Some q) (next_event m p)) → q.key.time < end → own_step end m p ≡ handle h.0 h.0.rest.holds h.0.cause
+  unfolding own_step
+  takes q h lt =
+      let early : h.0.key.time < end = subst (λ (k : Key). k.time < end) h.2 lt in
+      let yes : nat_lt h.0.key.time end ≡ true = lt-ltb _ _ early in
+      ap (λ o. step_at (before end o)) h.1 ∙ ap (λ b. step_at (cond b (Some h.0) None)) yes

@@ -1,11 +1,12 @@
 -- What is seen of a cell, and what its calls tell.
-use Rattle.std.specs.Prelude.{◌≡◌, ℕ, List, Option, Some, None, Result, Ok, Err}
+use Rattle.std.specs.Prelude.{◌≡◌, ◌⊎◌, ℕ, List, Option, Some, None, Result, Ok, Err}
 use Rattle.std.specs.declared.dyn_box.DynBox.{DynBox}
 use Rattle.std.specs.Global.{Global}
 use Rattle.srm_net.specs.declared.key.Key.{Key}
 use Rattle.srm_member.specs.declared.due.Due.{Due}
+use Rattle.srm_member.specs.declared.exit.Exit.{Exit}
 use Rattle.srm_member.specs.declared.row.Row.{Row}
-use Rattle.srm_member.specs.Record.{Record, Active, Gone, due_of}
+use Rattle.srm_member.specs.Record.{Record, Active, Gone, due_of, exit_of}
 use Rattle.srm_cell.specs.declared.cell.Cell.{Cell}
 use Rattle.srm_cell.specs.declared.fault.CellFault.{CellFault}
 use Rattle.srm_cell.specs.declared.fault.CellFault.TheVariants as fault
@@ -15,6 +16,11 @@ use Rattle.srm_cell.specs.Cells.{PlainCell, Event, StepOutcome, Idle, Full, Spen
 abbrev pub IsGone : Record → Type 0
 IsGone (Active m) = ⊥
 IsGone (Gone f) = Unit {0}
+
+-- what an active member ends with
+abbrev pub EndsWith : Record → Exit → Type 0
+EndsWith (Active m) x = x ≡ exit_of m
+EndsWith (Gone f) x = ⊥
 
 -- the record of the box that a cell holds; where it holds none, the member is gone
 abbrev pub HoldsRecord : Option Record → Record → Type 0
@@ -29,6 +35,13 @@ record_in f (Some b) = Some (f b)
 abbrev pub due_in : Option Record → Option Due
 due_in None = None
 due_in (Some r) = due_of r
+
+-- what a cell's end tells: what the member ended with as it left, or else what it ends with now, unless it is gone
+abbrev pub TellsExit : PlainCell → Result Exit CellFault → Type 0
+TellsExit p (Ok x) = (p.exit ≡ Some x) ⊎ ((p.exit ≡ None) × EndsWith p.holds x)
+TellsExit p (Err fault.NoMemory) = p.exit ≡ None
+TellsExit p (Err fault.Spent) = (p.exit ≡ None) × IsGone p.holds
+TellsExit p (Err fault.CountFull) = ⊥
 
 module _ {X : Type 0} {H : X → Type 0} where
   -- the cell of member m is seen as this plain cell, where f is what is seen of its box

@@ -9,4 +9,5 @@ pub mod inbox;
 pub mod laws;
 mod next;
 mod pending;
+mod rows;
 pub mod script;

@@ -19,7 +19,7 @@ use Rattle.srm_member.specs.declared.row.About.TheVariants.{Of}
 use Rattle.srm_member.specs.declared.row.Row.{Row}
 use Rattle.srm_member.specs.Record.{Memory, Missing, Record, Active, Gone, exit_of}
 use Rattle.srm_member.specs.React.{Reaction, react}
-use Rattle.srm_member.proofs.Tables.{Has, names_apart, put_here, put_there, has_put, has_more, without_less, without_there, sorted_put, sorted_without, has_some, ascend, contained_found, found_contained, named, has_name}
+use Rattle.srm_member.proofs.TableChanges.{Has, names_apart, put_here, put_there, has_put, has_more, without_less, without_there, sorted_put, sorted_without, has_some, ascend, contained_found, found_contained, named, has_name}
 use Rattle.srm_member.proofs.Changes.{Below, Grows, Allowed, Quiet, Brings, Mends, Brought, Drawn, effect}
 use Rattle.srm_cell.specs.Setting.{Setting, IsFit, arrival_of}
 use Rattle.srm_cell.specs.Cells.{PlainCell, opening_cell, hear_at, hear, Event, Stepped, word_of, about_of, packet_of}

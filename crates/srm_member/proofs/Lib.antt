@@ -1,6 +1,4 @@
-mod Doublings
 pub mod AllIn
-pub mod OrderLemmas
 pub mod Bounds
 pub mod LawProofs
 mod Compare
@@ -11,4 +9,6 @@ mod Calls
 mod Maps
 pub mod Changes
 pub mod FewerTimers
-pub mod Tables
+mod Doublings
+pub mod OrderLemmas
+pub mod TableChanges

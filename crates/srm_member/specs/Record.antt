@@ -75,15 +75,15 @@ numbers_of_due d = d.time ∷ d.rank ∷ d.name.source ∷ d.name.page ∷ d.nam
 abbrev pub due_cmp : Due → Due → Ordering
 due_cmp d e = slice_cmp nat_cmp (numbers_of_due d) (numbers_of_due e)
 
-abbrev pub sooner_by : Ordering → Due → Due → Due
-sooner_by Less d e = d
-sooner_by Equal d e = d
-sooner_by Greater d e = e
+abbrev pub by_order : Ordering → Due → Due → Due
+by_order Less d e = d
+by_order Equal d e = d
+by_order Greater d e = e
 
 -- the earlier of a timer and another, if there is another
 abbrev pub sooner : Due → Option Due → Due
 sooner d None = d
-sooner d (Some e) = sooner_by (due_cmp d e) d e
+sooner d (Some e) = by_order (due_cmp d e) d e
 
 -- the least of these timers
 abbrev pub earliest : List Due → Option Due

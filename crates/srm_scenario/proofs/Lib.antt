@@ -6,3 +6,4 @@ pub mod Sorting
 pub mod Members
 pub mod Words
 pub mod Arrays
+pub mod TopRules

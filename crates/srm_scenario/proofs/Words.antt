@@ -51,8 +51,8 @@ topology_by_word ms s a b c got p q r = record {
   met = ap (meets topology_rule.need topology_rule.kind) got ∙ (λ i. q i || (r i || (p i || false)));
   tree_said = ap (is_text_or (codes "tree")) got ∙ p;
   is =
-    ap (λ (o : Option Data). if is_text_or (codes "tree") o then Some (Tree (number (codes "degree") ms)) else if is_text_or (codes "chain") o then Some Chain else if is_text_or (codes "star") o then Some Star else None) got
-    ∙ (λ i. if p i then Some (Tree (number (codes "degree") ms)) else if q i then Some Chain else if r i then Some Star else None);
+      ap (λ (o : Option Data). if is_text_or (codes "tree") o then Some (Tree (number (codes "degree") ms)) else if is_text_or (codes "chain") o then Some Chain else if is_text_or (codes "star") o then Some Star else None) got
+      ∙ (λ i. if p i then Some (Tree (number (codes "degree") ms)) else if q i then Some Chain else if r i then Some Star else None);
   there = ap is_some got;
 }
 

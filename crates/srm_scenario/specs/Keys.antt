@@ -46,3 +46,31 @@ pub record HasTopology (ms : Members) (t : Option Topology) : Type 0 where
   pub degree : is_met ms (degree_rule (says (codes "topology") (codes "tree") ms)) ≡ true
   pub is : topology_of ms ≡ t
   pub there : is_some (get_member (codes "topology") ms) ≡ is_some t
+
+-- the table's end of the run and constants, as they must be
+pub record HasNumbers (ms : Members) (until : ℕ) (constants : Constants) : Type 0 where
+  pub met : list_all (is_met ms) number_rules ≡ true
+  pub until_is : number (codes "until") ms ≡ until
+  pub constants_are : constants_of ms ≡ constants
+
+-- the rules of the table's nodes and links
+abbrev pub shape_of : Members → List Rule
+shape_of ms = shape_rules (is_some (get_member (codes "topology") ms)) (says (codes "topology") (codes "tree") ms)
+
+-- the table's topology, nodes, delay of each link, and links, as they must be
+pub record HasShape (ms : Members) (t : Option Topology) (nodes delay : ℕ) (links : List Data) : Type 0 where
+  pub met : list_all (is_met ms) (shape_of ms) ≡ true
+  pub topology_is : topology_of ms ≡ t
+  pub nodes_are : nodes_in (topology_of ms) ms ≡ nodes
+  pub some_nodes : 1 ≤ nodes
+  pub few_nodes : nodes ≤ 256
+  pub delay_is : number (codes "delay") ms ≡ delay
+  pub links_are : links ≡ array_at (codes "link") ms
+
+-- the table's other arrays, as they must be
+pub record HasArrays (ms : Members) (members draws sessions drops : List Data) : Type 0 where
+  pub met : list_all (is_met ms) array_rules ≡ true
+  pub members_are : members ≡ array_at (codes "member") ms
+  pub draws_are : draws ≡ array_at (codes "draw") ms
+  pub sessions_are : sessions ≡ array_at (codes "session") ms
+  pub drops_are : drops ≡ array_at (codes "drop") ms
