@@ -1,14 +1,21 @@
 pub mod AllIn
 pub mod Bounds
 mod Calls
-pub mod Changes
 mod Compare
 mod Doublings
 mod Earliest
-pub mod FewerTimers
 mod Indexes
+pub mod Changes
+pub mod FewerTimers
 pub mod LawProofs
+mod Compare
+mod Earliest
+mod Indexes
 mod Losses
+mod Calls
 mod Maps
+pub mod Changes
+pub mod FewerTimers
+mod Doublings
 pub mod OrderLemmas
 pub mod TableChanges
