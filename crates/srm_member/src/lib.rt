@@ -13,7 +13,6 @@ pub mod member;
 mod named;
 mod pages;
 mod pending;
-pub mod member;
 pub mod react;
 pub mod recovery;
 pub mod row;
