@@ -41,7 +41,12 @@ impl Topology {
     }
 
     /// The links of the topology with `size` nodes, each of this delay.
-    pub(crate) fn links(self, alloc: Global, size: u16, delay: u64) -> Result<Vec<LinkSpec>, AllocError>
+    pub(crate) fn links(
+        self,
+        alloc: Global,
+        size: u16,
+        delay: u64,
+    ) -> Result<Vec<LinkSpec>, AllocError>
         requires size { 1 ≤ size }
         requires degree { HasDegree (Some self) }
         ensures { IfOk result (λ links. links.items ≡ links_to_parents self delay 1 (size - 1)) }
