@@ -1,5 +1,5 @@
 -- One member's cell: its record, what is on the way to it, and the rest of its script. A cell's own step.
-use Rattle.std.specs.Prelude.{◌≡◌, ℕ, ◌+◌, ◌^◌, Bool, true, List, [], ◌∷◌, Option, Some, None, nat_lt, ◌==◌, if◌then◌else◌}
+use Rattle.std.specs.Prelude.{◌≡◌, ℕ, ◌+◌, ◌^◌, true, List, [], ◌∷◌, Option, Some, None, nat_lt, ◌==◌, if◌then◌else◌}
 use Rattle.std.specs.declared.cmp.Ordering.{Ordering}
 use Rattle.std.specs.declared.cmp.Ordering.TheVariants.{Less, Equal, Greater}
 use Rattle.srm_net.specs.declared.key.Key.{Key}
@@ -21,7 +21,7 @@ use Rattle.srm_member.specs.declared.row.Row.{Row}
 use Rattle.srm_member.specs.declared.due.Due.{Due}
 use Rattle.srm_member.specs.declared.exit.Exit.{Exit}
 use Rattle.srm_member.specs.declared.react.React.{React}
-use Rattle.srm_member.specs.Record.{Record, Active, Gone, opening_record, timers, due_of, exit_of}
+use Rattle.srm_member.specs.Record.{Record, Active, Gone, opening_record, due_of, exit_of, count_if, timers_at}
 use Rattle.srm_member.specs.React.{Reaction, is_listener, react}
 use Rattle.srm_cell.specs.declared.flight.Flight.{Flight}
 use Rattle.srm_cell.specs.Setting.{Setting, arrival_of, cause_of_mark}
@@ -221,13 +221,7 @@ Silent (Gone f) = Unit {0}
 
 -- ---- what is pending at a tick
 
-abbrev pub count_if : {A : Type 0} → (A → Bool) → List A → ℕ
-count_if p [] = 0
-count_if p (x ∷ xs) = (if p x then 1 else 0) + count_if p xs
-
-abbrev pub timers_at : ℕ → Record → ℕ
-timers_at t r = count_if (λ d. d.time == t) (timers r)
-
+-- how many flights and marks it has
 abbrev pub untimed_at : ℕ → PlainCell → ℕ
 untimed_at t c = count_if (λ f. f.arrival == t) c.inbox + count_if (λ k. k.at == t) c.script
 

@@ -1,0 +1,13 @@
+pub mod Departed
+pub mod HandedOnce
+pub mod Index
+pub mod LawProofs
+pub mod Merge
+pub mod NamesKept
+pub mod OneStep
+pub mod RunLemmas
+pub mod ScheduleLemmas
+pub mod Sequential
+pub mod Settled
+pub mod StrictRuns
+pub mod TraceRows

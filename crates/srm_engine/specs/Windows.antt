@@ -1,5 +1,5 @@
 -- Windows of time, and where they end.
-use Rattle.std.specs.Prelude.{◌≡◌, ℕ, ◌+◌, ◌<◌, ◌≤◌, Bool, true, false, not, min, List, [], ◌∷◌, map, filter, Option, Some, None, ◌==◌, if◌then◌else◌}
+use Rattle.std.specs.Prelude.{◌≡◌, ℕ, ◌+◌, ◌<◌, not, min, List, [], ◌∷◌, map, filter, Option, Some, None, ◌==◌, if◌then◌else◌}
 use Rattle.std.specs.List.{range_with_len}
 use Rattle.srm_member.specs.Record.{fixed_part}
 use Rattle.srm_member.specs.React.{is_listener}

@@ -1,7 +1,57 @@
-//! The laws of the model.
-ghost use Rattle.srm_engine.specs.Laws.{RunsBeginEmpty};
+//! The laws of the model, over its definitions alone.
+ghost use Rattle.srm_engine.specs.Laws.{RunsBeginEmpty, KeysRise, RunEnds, OwnRunsEnd, NeverSpent, SchedulesAgree, RefusalsAreMet, CellsRunAlone, WindowsAreSafe, PromisesAreSafe, MergesAgree};
 
 /// A run begins with no row.
 pub fn runs_begin_empty()
     ensures { RunsBeginEmpty }
+{}
+
+/// The keys of the rows of a sequential run rise: no two events have one key.
+pub fn keys_rise()
+    ensures { KeysRise }
+{}
+
+/// The sequential run ends: nothing is pending, or the packet count is used up.
+pub fn run_ends()
+    ensures { RunEnds }
+{}
+
+/// Every own run of a world of the sequential run is finite.
+pub fn own_runs_end()
+    ensures { OwnRunsEnd }
+{}
+
+/// Neither the sequential run nor an own run meets an event at a member that left.
+pub fn never_spent()
+    ensures { NeverSpent }
+{}
+
+/// Every complete schedule to a safe end comes to the world to which the sequential run comes.
+pub fn schedules_agree()
+    ensures { SchedulesAgree }
+{}
+
+/// Where an own run to a safe end has no result, the sequential run meets a step that has none.
+pub fn refusals_are_met()
+    ensures { RefusalsAreMet }
+{}
+
+/// After a complete schedule to a safe end each cell is what its own run alone leaves, and has heard all packets since.
+pub fn cells_run_alone()
+    ensures { CellsRunAlone }
+{}
+
+/// Windows no wider than any two members are apart are safe.
+pub fn windows_are_safe()
+    ensures { WindowsAreSafe }
+{}
+
+/// An end that no member's next event, with the way from it, falls short of is safe.
+pub fn promises_are_safe()
+    ensures { PromisesAreSafe }
+{}
+
+/// The members' rows of a part of the run, merged in order of their keys, are the rows of that part.
+pub fn merges_agree()
+    ensures { MergesAgree }
 {}

@@ -4,3 +4,5 @@ pub mod React
 pub mod Reacts
 pub mod Examples
 pub mod Laws
+pub mod Pending
+pub mod Fit

@@ -1,5 +1,5 @@
 -- What a member knows: its record, the timers in it, and what it ends with.
-use Rattle.std.specs.Prelude.{ℕ, List, [], ◌∷◌, ◌++◌, map, Option, Some, None}
+use Rattle.std.specs.Prelude.{ℕ, ◌+◌, Bool, ◌==◌, if◌then◌else◌, List, [], ◌∷◌, ◌++◌, map, Option, Some, None}
 use Rattle.std.specs.declared.cmp.Ordering.{Ordering}
 use Rattle.std.specs.declared.cmp.Ordering.TheVariants.{Less, Equal, Greater}
 use Rattle.std.specs.Ordering.{nat_cmp}
@@ -11,24 +11,13 @@ use Rattle.srm_net.specs.declared.packet.PageId.{PageId}
 use Rattle.srm_member.specs.declared.fixed.Fixed.{Fixed}
 use Rattle.srm_member.specs.declared.due.Due.{Due}
 use Rattle.srm_member.specs.declared.exit.Exit.{Exit}
+pub use Rattle.srm_member.specs.declared.entries.Missing.{Missing}
+pub use Rattle.srm_member.specs.declared.entries.Repairing.{Repairing}
 
 -- of one page: numbers below floor do not concern the member, and next is the first number not heard of
 pub record Stream : Type 0 where
   pub floor : ℕ
   pub next : ℕ
-
--- a name that the member lacks: when the loss was detected, when its request timer expires, how often that backed off, and
--- before which time a request for the name backs off no further
-pub record Missing : Type 0 where
-  pub detected : ℕ
-  pub expiry : ℕ
-  pub backoffs : ℕ
-  pub ignore : ℕ
-
--- a repair timer: when it expires, and whose request set it
-pub record Repairing : Type 0 where
-  pub expiry : ℕ
-  pub requester : ℕ
 
 -- what an active member knows: its fixed part; its generator; the streams of pages; the inks of the names that it holds; the
 -- names that it lacks; its repair timers; and, of names that it answered or heard repaired, the time before which it does not
@@ -104,6 +93,15 @@ earliest (d ∷ ds) = Some (sooner d (earliest ds))
 -- a record's next timer
 abbrev pub due_of : Record → Option Due
 due_of r = earliest (timers r)
+
+-- how many elements pass a test
+abbrev pub count_if : {A : Type 0} → (A → Bool) → List A → ℕ
+count_if p [] = 0
+count_if p (x ∷ xs) = (if p x then 1 else 0) + count_if p xs
+
+-- how many timers of a record expire at a tick
+abbrev pub timers_at : ℕ → Record → ℕ
+timers_at t r = count_if (λ d. d.time == t) (timers r)
 
 -- ---- the end
 

@@ -3,5 +3,12 @@ pub mod Keys
 pub mod Names
 pub mod Network
 pub mod Paths
+pub mod Least
+pub mod DropSets
+pub mod Grids
+pub mod Growth
+pub mod Ways
+pub mod Tables
+pub mod Built
 pub mod Laws
 pub mod Example

@@ -9,6 +9,10 @@ pub record Network : Type 0 where
   pub links : List LinkSpec
   pub hosts : List ℕ
 
+-- the network with these nodes, links and hosts
+abbrev pub plain_network : ℕ → List LinkSpec → List ℕ → Network
+plain_network nodes links hosts = record { nodes = nodes; links = links; hosts = hosts }
+
 -- the link joins these nodes, in either direction
 abbrev pub Joins : LinkSpec → ℕ → ℕ → Type 0
 Joins k u v = ((k.a ≡ u) × (k.b ≡ v)) ⊎ ((k.b ≡ u) × (k.a ≡ v))

@@ -1,9 +1,17 @@
 //! Nodes, links, paths and drops of a tree-shaped network, and the packets and event keys that travel in it.
 #![tactic(auto)]
 
+pub mod drops;
 pub mod example;
+pub mod fault;
+mod grid;
 pub mod key;
+pub mod laws;
 pub mod link;
+pub mod net;
+mod order;
 pub mod packet;
 pub mod role;
 pub mod sequence;
+mod sides;
+mod ways;

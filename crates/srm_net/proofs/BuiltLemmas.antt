@@ -1,0 +1,153 @@
+-- What a built network's tables give.
+use Rattle.std.proofs.Common.{◌≡◌, ◌≢◌, ℕ, suc, ◌+◌, ◌<◌, ◌≤◌, Bool, true, false, not, cond, ◌&&◌, ◌||◌, List, [], ◌∷◌, length, Some, refl, sym, ap, ◌∙◌, subst, inl, inr, arith, eqb, eq-eqb, eqb-true, slice_get, slice_index_or}
+use Rattle.std.specs.List.{list_any}
+use Rattle.std.proofs.lemmas.Bool.{ne_eqb, eqb-false, cases_Bool, cases_eq}
+use Rattle.srm_net.specs.declared.link.LinkSpec.{LinkSpec}
+use Rattle.srm_net.specs.declared.link.DropSpec.{DropSpec}
+use Rattle.srm_net.specs.declared.packet.PacketId.{PacketId}
+use Rattle.srm_net.specs.declared.sides.Sides.{Sides}
+use Rattle.srm_net.specs.declared.ways.Ways.{Ways}
+use Rattle.srm_net.specs.declared.net.Net.TheInside.{Inside}
+use Rattle.srm_net.specs.Network.{Network, Joins, IsWithin, IsTree, IsNetwork}
+use Rattle.srm_net.specs.Paths.{is_in, route, host, member_route, delay_along, distance, is_listed, crosses, drops_at}
+use Rattle.srm_net.specs.Grids.{number_at}
+use Rattle.srm_net.specs.Ways.{IsWayOf, TellsWays}
+use Rattle.srm_net.specs.Tables.{is_beyond, near_end, some_beyond, TellsSides}
+use Rattle.srm_net.specs.Built.{plain_of, IsBuilt}
+use Rattle.srm_net.proofs.Lists.{get_below, below_get, read_get, get_index, all_get}
+use Rattle.srm_net.proofs.Numbers.{apart_from_distinct, not_in}
+use Rattle.srm_net.proofs.RouteLemmas.{route_path, route_only}
+use Rattle.srm_net.proofs.PathLaws.{Begins, host_below, route_begins, route_self, first_or_never, crosses_is, drops_is}
+
+-- the way that the tables tell is the route
+pub told_route : (w : Network) → IsTree w → (ways : Ways) → TellsWays w.nodes w.links ways → (u v : ℕ) → u < w.nodes → v < w.nodes
+    → (number_at ways.delays.width ways.delays.cells.items u v ≡ delay_along w.links (route w u v))
+    × (u ≢ v → (rest : List ℕ) × (route w u v ≡ number_at ways.firsts.width ways.firsts.cells.items u v ∷ rest))
+told_route w t ways told u v hu hv =
+    let way = told.each u v hu hv in
+    let same : way.0 ≡ route w u v = route_only w t u v hu hv way.0 way.1.0 way.1.1 (apart_from_distinct way.1.0 way.1.2) in (
+      ap (λ n. number_at n ways.delays.cells.items u v) told.delays_width ∙ sym way.2 ∙ ap (delay_along w.links) same,
+      λ d. let r = way.3 d in (r.0, sym same ∙ r.1 ∙ ap (λ n. number_at n ways.firsts.cells.items u v ∷ r.0) (sym told.firsts_width)),
+    )
+
+pub told_distance : (n : Inside) → IsBuilt n → (a b : ℕ) → a < length n.hosts.items → b < length n.hosts.items
+    → number_at n.ways.delays.width n.ways.delays.cells.items (host (plain_of n) a) (host (plain_of n) b) ≡ distance (plain_of n) a b
+unfolding distance
+told_distance n i a b ha hb =
+    (told_route (plain_of n) i.network.tree n.ways i.ways (host (plain_of n) a) (host (plain_of n) b) (host_below (plain_of n) i.network a ha) (host_below (plain_of n) i.network b hb)).0
+
+-- ---- the first step of a route
+
+pub told_step : (w : Network) → IsTree w → (ways : Ways) → TellsWays w.nodes w.links ways → (u v : ℕ) → u < w.nodes → v < w.nodes → u ≢ v
+    → (rest : List ℕ) × (route w u v ≡ number_at ways.firsts.width ways.firsts.cells.items u v ∷ rest) × Begins w u v (number_at ways.firsts.width ways.firsts.cells.items u v) rest
+told_step w t ways told u v hu hv d =
+    let r = (told_route w t ways told u v hu hv).1 d in
+    (r.0, r.1, route_begins w t u v hu hv (number_at ways.firsts.width ways.firsts.cells.items u v) r.0 r.1)
+
+-- the other end is the next node
+pub next_is : (k : LinkSpec) (u x : ℕ) → Joins k u x → x ≡ cond (eqb k.a u) k.b k.a
+next_is k u x (inl p) = rw (eq-eqb k.a u p.0) (sym p.1)
+next_is k u x (inr p) = elim (cases_Bool (eqb k.a u)) [ inl e ↦ rw e (sym p.1 ∙ eqb-true k.a u e ∙ sym p.0) | inr e ↦ rw e (sym p.1) ]
+
+-- ---- beyond a link
+
+pub told_beyond : (w : Network) → IsTree w → (ways : Ways) → TellsWays w.nodes w.links ways → (l : ℕ) (k : LinkSpec) → slice_get w.links l ≡ Some k → (x : ℕ) → x < w.nodes → k.a < w.nodes → x ≢ k.a
+    → eqb (number_at ways.firsts.width ways.firsts.cells.items k.a x) l ≡ is_beyond w l k x
+told_beyond w t ways told l k g x hx ha d =
+    let r = (told_route w t ways told k.a x ha hx).1 (λ e. d (sym e)) in
+    sym (first_or_never w t k.a x ha hx l (number_at ways.firsts.width ways.firsts.cells.items k.a x) k.b k r.0 g (inl (refl, refl)) r.1)
+
+pub not_beyond : (w : Network) → IsTree w → (l : ℕ) (k : LinkSpec) (x : ℕ) → k.a < w.nodes → x ≡ k.a → is_beyond w l k x ≡ false
+not_beyond w t l k x ha e = ap (λ t. is_in t l) (ap (route w k.a) e ∙ route_self w t k.a ha)
+
+-- ---- the same of what a network holds
+
+first_of : Inside → ℕ → ℕ → ℕ
+first_of n u v = number_at n.ways.firsts.width n.ways.firsts.cells.items u v
+
+pub first_below : (n : Inside) → IsBuilt n → (u v f : ℕ) → u < n.nodes → v < n.nodes → u ≢ v → f ≡ number_at n.ways.firsts.width n.ways.firsts.cells.items u v → f < length n.links.items
+first_below n i u v f hu hv d e =
+    let r = told_step (plain_of n) i.network.tree n.ways i.ways u v hu hv d in
+    subst (λ t. t < length n.links.items) (sym e) (get_below n.links.items (number_at n.ways.firsts.width n.ways.firsts.cells.items u v) r.2.spec r.2.link)
+
+pub first_route : (n : Inside) → IsBuilt n → (u v f : ℕ) (k : LinkSpec) → u < n.nodes → v < n.nodes → u ≢ v → f ≡ number_at n.ways.firsts.width n.ways.firsts.cells.items u v → k ≡ slice_index_or n.links.items f k
+    → (route (plain_of n) u v ≡ f ∷ route (plain_of n) (cond (eqb k.a u) k.b k.a) v) × (cond (eqb k.a u) k.b k.a < n.nodes)
+first_route n i u v f k hu hv d e q =
+    let r = told_step (plain_of n) i.network.tree n.ways i.ways u v hu hv d in
+    let g : slice_get n.links.items f ≡ Some k = read_get n.links.items f k (first_below n i u v f hu hv d e) q in
+    let g2 : slice_get n.links.items f ≡ Some r.2.spec = subst (λ t. slice_get n.links.items t ≡ Some r.2.spec) (sym e) r.2.link in
+    let same : r.2.spec ≡ k = (let s : Some r.2.spec ≡ Some k = sym g2 ∙ g in cc) in
+    let next : r.2.next ≡ cond (eqb k.a u) k.b k.a = next_is k u r.2.next (subst (λ t. Joins t u r.2.next) same r.2.joins) in (
+      r.1 ∙ ap (λ ls. number_at n.ways.firsts.width n.ways.firsts.cells.items u v ∷ ls) (r.2.rest_is ∙ ap (λ t. route (plain_of n) t v) next) ∙ ap (λ t. t ∷ route (plain_of n) (cond (eqb k.a u) k.b k.a) v) (sym e),
+      subst (λ t. t < n.nodes) next r.2.below,
+    )
+
+pub end_below : (n : Inside) → IsBuilt n → (l : ℕ) (k : LinkSpec) → slice_get n.links.items l ≡ Some k → (k.a < n.nodes) × (k.b < n.nodes)
+end_below n i l k g = all_get (IsWithin n.nodes) n.links.items l k i.network.tree.ends g
+
+pub beyond_by_first : (n : Inside) → IsBuilt n → (l : ℕ) (k : LinkSpec) → slice_get n.links.items l ≡ Some k → (x f : ℕ) → x < n.nodes → x ≢ k.a → f ≡ number_at n.ways.firsts.width n.ways.firsts.cells.items k.a x
+    → eqb f l ≡ is_beyond (plain_of n) l k x
+beyond_by_first n i l k g x f hx d e =
+    ap (λ t. eqb t l) e ∙ told_beyond (plain_of n) i.network.tree n.ways i.ways l k g x hx (end_below n i l k g).0 d
+
+pub at_its_end : (n : Inside) → IsBuilt n → (l : ℕ) (k : LinkSpec) → slice_get n.links.items l ≡ Some k → (x : ℕ) → x ≡ k.a → is_beyond (plain_of n) l k x ≡ false
+at_its_end n i l k g x e = not_beyond (plain_of n) i.network.tree l k x (end_below n i l k g).0 e
+
+-- ---- at the network that callers see
+
+pub seen_below : (n m : Network) (a : ℕ) → n ≡ m → a < m.nodes → a < n.nodes
+seen_below n m a e h = subst (λ (w : Network). a < w.nodes) (sym e) h
+
+pub seen_link : (n m : Network) (a : ℕ) → n ≡ m → a < length m.links → a < length n.links
+seen_link n m a e h = subst (λ (w : Network). a < length w.links) (sym e) h
+
+pub seen_member : (n m : Network) (a : ℕ) → n ≡ m → a < length m.hosts → a < length n.hosts
+seen_member n m a e h = subst (λ (w : Network). a < length w.hosts) (sym e) h
+
+pub first_seen : (n : Inside) → IsBuilt n → (w : Network) → plain_of n ≡ w → (u v f g : ℕ) (k : LinkSpec) → u < w.nodes → v < w.nodes → u ≢ v
+    → f ≡ number_at n.ways.firsts.width n.ways.firsts.cells.items u v → g ≡ f → k ≡ slice_index_or n.links.items g k → (x : ℕ) → x ≡ cond (eqb k.a u) k.b k.a
+    → (route w u v ≡ f ∷ route w x v) × (x < w.nodes)
+first_seen n i w e u v f g k hu hv d q p r x y =
+    let t = first_route n i u v f k (seen_below (plain_of n) w u e hu) (seen_below (plain_of n) w v e hv) d q (subst (λ z. k ≡ slice_index_or n.links.items z k) p r) in
+    let z : (route (plain_of n) u v ≡ f ∷ route (plain_of n) x v) × (x < n.nodes) = subst (λ z. (route (plain_of n) u v ≡ f ∷ route (plain_of n) z v) × (z < n.nodes)) (sym y) t in
+    subst (λ (m : Network). (route m u v ≡ f ∷ route m x v) × (x < m.nodes)) e z
+
+-- ---- what comes to a link
+
+module _ (w : Network) (n : IsNetwork w) (l u near : ℕ) (any : Bool) (drops : List DropSpec) (p : PacketId) (ht : l < length w.links) (hs : p.sender < length w.hosts) (e : u ≡ host w p.sender)
+    (nears : (k : LinkSpec) → slice_get w.links l ≡ Some k → near ≡ near_end w l k u) (anys : (k : LinkSpec) → slice_get w.links l ≡ Some k → any ≡ some_beyond w l k u) where
+  pub told_crossed : crosses w drops p l ≡ (not (is_listed drops p l) && (any && not (list_any (is_listed drops p) (route w u near))))
+  told_crossed =
+      let k = below_get w.links l ht in
+      let a = anys k.0 k.1 in
+      let b = nears k.0 k.1 in
+      crosses_is w n l k.0 k.1 drops p hs
+      ∙ ap (λ v. not (is_listed drops p l) && (some_beyond w l k.0 v && not (list_any (is_listed drops p) (route w v (near_end w l k.0 v))))) (sym e)
+      ∙ ap (λ t. not (is_listed drops p l) && (t && not (list_any (is_listed drops p) (route w u (near_end w l k.0 u))))) (sym a)
+      ∙ ap (λ t. not (is_listed drops p l) && (any && not (list_any (is_listed drops p) (route w u t)))) (sym b)
+
+  pub told_dropped : drops_at w drops p l ≡ (is_listed drops p l && (any && not (list_any (is_listed drops p) (route w u near))))
+  told_dropped =
+      let k = below_get w.links l ht in
+      let a = anys k.0 k.1 in
+      let b = nears k.0 k.1 in
+      drops_is w n l k.0 k.1 drops p hs
+      ∙ ap (λ v. is_listed drops p l && (some_beyond w l k.0 v && not (list_any (is_listed drops p) (route w v (near_end w l k.0 v))))) (sym e)
+      ∙ ap (λ t. is_listed drops p l && (t && not (list_any (is_listed drops p) (route w u (near_end w l k.0 u))))) (sym a)
+      ∙ ap (λ t. is_listed drops p l && (any && not (list_any (is_listed drops p) (route w u t)))) (sym b)
+
+-- what the sides of a link tell
+pub sides_told : (n : Inside) → IsBuilt n → (w : Network) → plain_of n ≡ w → (l : ℕ) (k : LinkSpec) → slice_get w.links l ≡ Some k → (s : Sides) → s ≡ slice_index_or n.sides.items l s → (u : ℕ) → (b : Bool) → is_beyond w l k u ≡ b
+    → cond b s.a s.b ≡ some_beyond w l k u
+sides_told n i w e l k g s r u b q =
+    let told = i.sides l k (ap (λ (v : Network). slice_get v.links l) e ∙ g) in
+    let same : s ≡ told.0 = r ∙ get_index n.sides.items l told.0 s told.1 in
+    let here : cond b s.a s.b ≡ some_beyond (plain_of n) l k u =
+    elim b as (λ t. is_beyond (plain_of n) l k u ≡ t → cond t s.a s.b ≡ some_beyond (plain_of n) l k u) [
+      | true ↦ λ h. rw h (ap (λ (x : Sides). x.a) same ∙ told.2.a)
+      | false ↦ λ h. rw h (ap (λ (x : Sides). x.b) same ∙ told.2.b)
+    ] (ap (λ (v : Network). is_beyond v l k u) e ∙ q) in
+    here ∙ ap (λ (v : Network). some_beyond v l k u) e
+
+pub side_below : (n : Inside) → IsBuilt n → (l : ℕ) → l < length n.links.items → l < length n.sides.items
+side_below n i l h = let k = below_get n.links.items l h in let told = i.sides l k.0 k.1 in get_below n.sides.items l told.0 told.1

@@ -1,0 +1,160 @@
+-- Sets of drops, and what their lists have.
+use Rattle.std.proofs.Common.{◌≡◌, ◌≢◌, ◌⊎◌, ◌↔◌, ℕ, zero, suc, ◌+◌, ◌<◌, Bool, true, false, not, cond, ◌&&◌, ◌||◌, ◌==◌, List, [], ◌∷◌, ◌++◌, length, refl, sym, ap, ◌∙◌, subst, inl, inr, arith, eqb, eq-eqb, eqb-true, Contains, Ordering, Less, Equal, Greater, slice_index_or}
+use Rattle.std.specs.List.{list_any}
+use Rattle.std.specs.Ordering.{nat_cmp, match_ordering, ordering_reverse}
+use Rattle.std.specs.Cmp.{IsTotalOrder, on_total}
+use Rattle.std.specs.Cmp.Lexicographic.{nat_list_cmp_total, slice_cmp}
+use Rattle.std.specs.FinMap.{slice_cmp-IsAntisymmetric, nat_cmp-IsAntisymmetric}
+use Rattle.std.proofs.lemmas.Bool.{ne_eqb, eqb-false, cases_Bool, cases_eq, both_ways, and_parts, and_from, or_cases, or_left, or_right, true≢false, false≢true, false_from_ne_true}
+use Rattle.srm_net.specs.declared.link.DropSpec.{DropSpec}
+use Rattle.srm_net.specs.declared.packet.PacketId.{PacketId}
+use Rattle.srm_net.specs.Orders.{AllAfter, Ascends}
+use Rattle.srm_net.specs.Paths.{drop_cmp, is_listed}
+use Rattle.srm_net.specs.DropSets.{with_once, ordered_once, has_packet}
+
+-- ---- lists in order, each element once
+
+module _ {A : Type 0} (cmp : A → A → Ordering) (o : IsTotalOrder cmp) where
+  after_less : (x y : A) (zs : List A) → cmp x y ≡ Less → AllAfter cmp y zs → AllAfter cmp x zs
+  after_less x y [] h a = tt
+  after_less x y (z ∷ zs) h a = (o.trans x y z h a.0, after_less x y zs h a.1)
+
+  after_once : (x y : A) (zs : List A) → cmp y x ≡ Less → AllAfter cmp y zs → AllAfter cmp y (with_once cmp x zs)
+  after_once x y [] h a = (h, tt)
+  after_once x y (z ∷ zs) h a =
+      elim (cmp x z) as (λ r. AllAfter cmp y (match_ordering r (x ∷ z ∷ zs) (z ∷ zs) (z ∷ with_once cmp x zs))) [
+        | Less ↦ (h, a)
+        | Equal ↦ a
+        | Greater ↦ (a.0, after_once x y zs h a.1)
+      ]
+
+  ascends_once : (x : A) (zs : List A) → Ascends cmp zs → Ascends cmp (with_once cmp x zs)
+  ascends_once x [] a = (tt, tt)
+  ascends_once x (z ∷ zs) a =
+      elim (cmp x z) as (λ r. cmp x z ≡ r → Ascends cmp (match_ordering r (x ∷ z ∷ zs) (z ∷ zs) (z ∷ with_once cmp x zs))) [
+        | Less ↦ λ e. ((e, after_less x z zs e a.0), a)
+        | Equal ↦ λ e. a
+        | Greater ↦ λ e. (after_once x z zs (o.antisymm z x ∙ ap ordering_reverse e) a.0, ascends_once x zs a.1)
+      ] refl
+
+  pub ordered_ascends : (xs : List A) → Ascends cmp (ordered_once cmp xs)
+  ordered_ascends [] = tt
+  ordered_ascends (x ∷ xs) = ascends_once x (ordered_once cmp xs) (ordered_ascends xs)
+
+or_same : (b c : Bool) → (b || c) ≡ (b || (b || c))
+or_same true c = refl
+or_same false c = refl
+
+or_turn : (a b c : Bool) → (a || (b || c)) ≡ (b || (a || c))
+or_turn true true c = refl
+or_turn true false c = refl
+or_turn false true c = refl
+or_turn false false c = refl
+
+module _ {A : Type 0} (cmp : A → A → Ordering) (f : A → Bool) (same : (x y : A) → cmp x y ≡ Equal → f x ≡ f y) where
+  any_once : (x : A) (zs : List A) → list_any f (with_once cmp x zs) ≡ (f x || list_any f zs)
+  any_once x [] = refl
+  any_once x (z ∷ zs) =
+      elim (cmp x z) as (λ r. cmp x z ≡ r → list_any f (match_ordering r (x ∷ z ∷ zs) (z ∷ zs) (z ∷ with_once cmp x zs)) ≡ (f x || (f z || list_any f zs))) [
+        | Less ↦ λ e. refl
+        | Equal ↦ λ e. rw (same x z e) (or_same (f z) (list_any f zs))
+        | Greater ↦ λ e. ap (λ t. f z || t) (any_once x zs) ∙ or_turn (f z) (f x) (list_any f zs)
+      ] refl
+
+  pub any_ordered : (xs : List A) → list_any f (ordered_once cmp xs) ≡ list_any f xs
+  any_ordered [] = refl
+  any_ordered (x ∷ xs) = any_once x (ordered_once cmp xs) ∙ ap (λ t. f x || t) (any_ordered xs)
+
+-- ---- drops
+
+drop_total : IsTotalOrder drop_cmp
+drop_total = on_total (λ (d : DropSpec). d.link ∷ d.id.sender ∷ d.id.count ∷ []) nat_list_cmp_total
+
+pub drops_ascend : (ds : List DropSpec) → Ascends drop_cmp (ordered_once drop_cmp ds)
+drops_ascend ds = ordered_ascends drop_cmp drop_total ds
+
+same_drop : (d e : DropSpec) → drop_cmp d e ≡ Equal → d ≡ e
+same_drop d e h =
+    let q : d.link ∷ d.id.sender ∷ d.id.count ∷ [] ≡ e.link ∷ e.id.sender ∷ e.id.count ∷ [] = slice_cmp-IsAntisymmetric nat_cmp-IsAntisymmetric _ _ h in
+    let a : d.link ≡ e.link = cc in
+    let b : d.id.sender ≡ e.id.sender = cc in
+    let c : d.id.count ≡ e.id.count = cc in
+    λ i. record { link = a i; id = record { sender = b i; count = c i } }
+
+pub listed_ordered : (ds : List DropSpec) (p : PacketId) (l : ℕ) → is_listed (ordered_once drop_cmp ds) p l ≡ is_listed ds p l
+listed_ordered ds p l = any_ordered drop_cmp (λ d. (d.link == l) && ((d.id.sender == p.sender) && (d.id.count == p.count))) (λ x y h. ap (λ d. (d.link == l) && ((d.id.sender == p.sender) && (d.id.count == p.count))) (same_drop x y h)) ds
+
+eqb_turn : (a b : ℕ) → eqb a b ≡ eqb b a
+eqb_turn a b = elim (cases_eq a b) [ inl e ↦ eq-eqb a b e ∙ sym (eq-eqb b a (sym e)) | inr n ↦ ne_eqb a b n ∙ sym (ne_eqb b a (λ e. n (sym e))) ]
+
+-- the test by which a set of drops looks for an entry
+abbrev pub sought : PacketId → ℕ → DropSpec → Bool
+sought p l e = (l == e.link) && ((p.sender == e.id.sender) && (p.count == e.id.count))
+
+pub listed_sought : (ds : List DropSpec) (p : PacketId) (l : ℕ) → list_any (sought p l) ds ≡ is_listed ds p l
+listed_sought [] p l = refl
+listed_sought (d ∷ ds) p l =
+    let a : eqb l d.link ≡ eqb d.link l = eqb_turn l d.link in
+    let b : eqb p.sender d.id.sender ≡ eqb d.id.sender p.sender = eqb_turn p.sender d.id.sender in
+    let c : eqb p.count d.id.count ≡ eqb d.id.count p.count = eqb_turn p.count d.id.count in
+    rw (a, b, c, listed_sought ds p l) refl
+
+-- ---- the elements of a list of drops
+
+pub listed_drop : (d : DropSpec) (p : PacketId) (l : ℕ) → ((d.link == l) && ((d.id.sender == p.sender) && (d.id.count == p.count))) ≡ true → d ≡ record { link = l; id = p }
+listed_drop d p l h =
+    let m = and_parts _ _ h in
+    let n = and_parts _ _ m.1 in
+    let a : d.link ≡ l = eqb-true _ _ m.0 in
+    let b : d.id.sender ≡ p.sender = eqb-true _ _ n.0 in
+    let c : d.id.count ≡ p.count = eqb-true _ _ n.1 in
+    λ i. record { link = a i; id = record { sender = b i; count = c i } }
+
+pub contains_listed : (ds : List DropSpec) (d : DropSpec) → is_listed ds d.id d.link ≡ true → Contains ds d
+contains_listed [] d h = absurd (false≢true h)
+contains_listed (e ∷ ds) d h =
+    elim (or_cases _ _ h) [
+      | inl t ↦ (0, omega arith, listed_drop e d.id d.link t)
+      | inr t ↦ (let r = contains_listed ds d t in (suc r.0, (let k : r.0 < length ds = r.1 in omega arith), r.2))
+    ]
+
+pub listed_contains : (ds : List DropSpec) (d : DropSpec) → Contains ds d → is_listed ds d.id d.link ≡ true
+listed_contains [] d (k, lt, e) = absurd (omega arith)
+listed_contains (e ∷ ds) d (zero, lt, q) = or_left _ _ (and_from _ _ (eq-eqb e.link d.link (ap (λ (x : DropSpec). x.link) q)) (and_from _ _ (eq-eqb e.id.sender d.id.sender (ap (λ (x : DropSpec). x.id.sender) q)) (eq-eqb e.id.count d.id.count (ap (λ (x : DropSpec). x.id.count) q))))
+listed_contains (e ∷ ds) d (suc k, lt, q) = or_right _ _ (listed_contains ds d (k, omega arith, q))
+
+-- ---- one more entry
+
+any_push : {A : Type 0} (f : A → Bool) (xs : List A) (x : A) → list_any f (xs ++ x ∷ []) ≡ cond (f x) true (list_any f xs)
+any_push f [] x = elim (f x) as (λ b. (b || false) ≡ cond b true false) [ true ↦ refl | false ↦ refl ]
+any_push f (y ∷ ys) x = ap (λ t. f y || t) (any_push f ys x) ∙ turn (f y) (f x) (list_any f ys)
+  where
+    turn : (a b c : Bool) → (a || cond b true c) ≡ cond b true (a || c)
+    turn true true c = refl
+    turn true false c = refl
+    turn false true c = refl
+    turn false false c = refl
+
+asked_turn : (d : DropSpec) (p : PacketId) (l : ℕ) → sought d.id d.link (record { link = l; id = p }) ≡ ((d.link == l) && ((d.id.sender == p.sender) && (d.id.count == p.count)))
+asked_turn d p l = refl
+
+-- what an insertion says, as what is listed
+pub listed_more : (old new : List DropSpec) (d : DropSpec) (xs : List DropSpec) (p : PacketId) (l : ℕ)
+    → list_any (sought p l) new ≡ cond (sought d.id d.link (record { link = l; id = p })) true (list_any (sought p l) old)
+    → is_listed old p l ≡ is_listed xs p l → is_listed new p l ≡ is_listed (xs ++ d ∷ []) p l
+listed_more old new d xs p l h e =
+    sym (listed_sought new p l) ∙ h ∙ ap (λ t. cond (sought d.id d.link (record { link = l; id = p })) true t) (listed_sought old p l ∙ e)
+    ∙ sym (any_push (λ d. (d.link == l) && ((d.id.sender == p.sender) && (d.id.count == p.count))) xs d)
+
+pub known_more : (old new : List DropSpec) (ps qs : List PacketId) (d : DropSpec) (p : PacketId) (l : ℕ)
+    → list_any (sought p l) new ≡ cond (sought d.id d.link (record { link = l; id = p })) true (list_any (sought p l) old)
+    → has_packet qs p ≡ cond ((d.id.sender == p.sender) && (d.id.count == p.count)) true (has_packet ps p)
+    → (is_listed old p l ≡ true → has_packet ps p ≡ true) → is_listed new p l ≡ true → has_packet qs p ≡ true
+known_more old new ps qs d p l h g k i =
+    let j : cond (sought d.id d.link (record { link = l; id = p })) true (list_any (sought p l) old) ≡ true = sym h ∙ listed_sought new p l ∙ i in
+    elim (cases_Bool (sought d.id d.link (record { link = l; id = p }))) [
+      | inl t ↦ (let m = (and_parts _ _ t).1 in g ∙ ap (λ b. cond b true (has_packet ps p)) m)
+      | inr t ↦ (let m : list_any (sought p l) old ≡ true = rw t at j in
+          let n = k (sym (listed_sought old p l) ∙ m) in
+          g ∙ elim (cases_Bool ((d.id.sender == p.sender) && (d.id.count == p.count))) [ inl b ↦ rw b refl | inr b ↦ rw b n ])
+    ]

@@ -1,0 +1,66 @@
+-- Elements of lists by their numbers.
+use Rattle.std.proofs.Common.{◌≡◌, ◌≢◌, ℕ, zero, suc, ◌+◌, ◌*◌, ◌<◌, ◌==◌, ◌&&◌, cond, inl, inr, eq-eqb, slice_set, List, [], ◌∷◌, ◌++◌, length, Option, Some, None, refl, ap, ◌∙◌, sym, arith, slice_get, slice_index_or, All}
+use Rattle.std.proofs.lemmas.Bool.{ne_eqb, cases_eq}
+use Rattle.std.proofs.lemmas.Nat.{mul-add-lt, same_from_place}
+use Rattle.srm_net.specs.Grids.{cell}
+
+pub get_below : {A : Type 0} (xs : List A) (i : ℕ) (x : A) → slice_get xs i ≡ Some x → i < length xs
+get_below [] i x h = cc
+get_below (y ∷ ys) zero x h = omega arith
+get_below (y ∷ ys) (suc i) x h = let k = get_below ys i x h in omega arith
+
+pub below_get : {A : Type 0} (xs : List A) (i : ℕ) → i < length xs → (x : A) × (slice_get xs i ≡ Some x)
+below_get [] i h = absurd (omega arith)
+below_get (y ∷ ys) zero h = (y, refl)
+below_get (y ∷ ys) (suc i) h = below_get ys i (omega arith)
+
+pub get_index : {A : Type 0} (xs : List A) (i : ℕ) (x d : A) → slice_get xs i ≡ Some x → slice_index_or xs i d ≡ x
+get_index [] i x d h = cc
+get_index (y ∷ ys) zero x d h = cc
+get_index (y ∷ ys) (suc i) x d h = get_index ys i x d h
+
+pub index_get : {A : Type 0} (xs : List A) (i : ℕ) (d : A) → i < length xs → slice_get xs i ≡ Some (slice_index_or xs i d)
+index_get [] i d h = absurd (omega arith)
+index_get (y ∷ ys) zero d h = refl
+index_get (y ∷ ys) (suc i) d h = index_get ys i d (omega arith)
+
+pub all_get : {A : Type 0} (P : A → Type 0) (xs : List A) (i : ℕ) (x : A) → All P xs → slice_get xs i ≡ Some x → P x
+all_get P xs i x a h = let e = get_index xs i x x h in let p : P (slice_index_or xs i x) = a i x (get_below xs i x h) in rw e at p
+
+-- what reading an element says
+pub read_get : {A : Type 0} (xs : List A) (i : ℕ) (x : A) → i < length xs → x ≡ slice_index_or xs i x → slice_get xs i ≡ Some x
+read_get xs i x h e = index_get xs i x h ∙ ap Some (sym e)
+
+-- ---- writing an element
+
+pub get_set_same : {A : Type 0} (xs : List A) (i : ℕ) (x : A) → i < length xs → slice_get (slice_set xs i x) i ≡ Some x
+get_set_same [] i x h = absurd (omega arith)
+get_set_same (y ∷ ys) zero x h = refl
+get_set_same (y ∷ ys) (suc i) x h = get_set_same ys i x (omega arith)
+
+pub get_set_other : {A : Type 0} (xs : List A) (i j : ℕ) (x : A) → i ≢ j → slice_get (slice_set xs i x) j ≡ slice_get xs j
+get_set_other [] i j x n = refl
+get_set_other (y ∷ ys) zero zero x n = absurd (n refl)
+get_set_other (y ∷ ys) zero (suc j) x n = refl
+get_set_other (y ∷ ys) (suc i) zero x n = refl
+get_set_other (y ∷ ys) (suc i) (suc j) x n = get_set_other ys i j x (λ e. n (ap suc e))
+
+-- ---- writing a value into a table
+
+-- a value put into a row and a column stands there, and each other stays
+pub cell_put : {A : Type 0} (width : ℕ) (xs : List A) (row column : ℕ) (x : A) → length xs ≡ width * width → row < width → column < width → (r c : ℕ) → c < width
+    → cell width (slice_set xs (row * width + column) x) r c ≡ cond ((r == row) && (c == column)) (Some x) (cell width xs r c)
+cell_put width xs row column x e hr hc r c h =
+    elim (cases_eq r row) [
+      | inl p ↦ elim (cases_eq c column) [
+        | inl q ↦
+            (let fits : row * width + column < width * width = mul-add-lt row width column width hr hc in
+            let same : r * width + c ≡ row * width + column = ap (λ t. t * width + c) p ∙ ap (λ t. row * width + t) q in
+            ap (slice_get (slice_set xs (row * width + column) x)) same ∙ get_set_same xs (row * width + column) x (omega arith)
+            ∙ sym (rw (eq-eqb r row p, eq-eqb c column q) refl))
+        | inr n ↦
+            get_set_other xs (row * width + column) (r * width + c) x (λ s. n ((same_from_place r c row column width h hc (sym s)).1)) ∙ sym (rw (eq-eqb r row p, ne_eqb c column n) refl)
+      ]
+      | inr n ↦
+          get_set_other xs (row * width + column) (r * width + c) x (λ s. n ((same_from_place r c row column width h hc (sym s)).0)) ∙ sym (rw (ne_eqb r row n) refl)
+    ]

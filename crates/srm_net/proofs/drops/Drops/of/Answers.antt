@@ -1,0 +1,41 @@
+use Rattle.std.proofs.Common.{◌≡◌, ◌∙◌, sym, subst, ap, take, get_or, ◌+◌, ◌++◌, ◌∷◌, [], length, arith, ℕ, ◌<◌, Contains, ◌≤◌}
+use Rattle.std.proofs.lemmas.List.{take_all, take_more}
+use Rattle.srm_net.specs.declared.link.DropSpec.{DropSpec}
+use Rattle.srm_net.specs.declared.packet.PacketId.{PacketId}
+use Rattle.srm_net.specs.Paths.{is_listed, drop_cmp}
+use Rattle.srm_net.specs.DropSets.{ordered_once}
+use Rattle.srm_net.proofs.DropLemmas.{drops_ascend, listed_ordered, contains_listed, listed_contains, listed_more, known_more}
+use Rattle.srm_net.proofs.drops.Drops.of.Goals as goal
+
+-- an entry of no use but as a default
+abbrev nothing : DropSpec
+nothing = record { link = 0; id = record { sender = 0; count = 0 } }
+
+pub loop-entry-preserved : goal.loop-entry-preserved
+loop-entry-preserved c =
+    let xs = c.args.list.now in
+    let i = c.loop-entry.entry-index in
+    let d = get_or xs i nothing in
+    let more : take (i + 1) xs ≡ take i xs ++ d ∷ [] = take_more xs i nothing c.loop-entry-test.true in
+    record {
+      same = λ p link. listed_more c.loop-entry.entries.keys c.insert.new.self.keys d (take i xs) p link (c.in-Ok.ensures.updates.0 (record { link = link; id = p })) (c.loop-entry.invariant.same p link) ∙ ap (λ ds. is_listed ds p link) (sym more);
+      known = λ p link. known_more c.loop-entry.entries.keys c.insert.new.self.keys c.loop-entry.packets.keys c.insert-in-loop-entry.new.self.keys d p link (c.in-Ok.ensures.updates.0 (record { link = link; id = p })) (c.in-Ok-insert.ensures.updates.0 p) (c.loop-entry.invariant.known p link);
+    }
+
+pub invariant_of-result : goal.invariant_of-result
+invariant_of-result c p l = c.loop-entry.invariant.known p l
+
+same_all : (c : goal.After-loop-entry) (p : PacketId) (l : ℕ) → is_listed (ordered_once drop_cmp c.loop-entry.entries.keys) p l ≡ is_listed c.args.list.now p l
+same_all c p l =
+    listed_ordered c.loop-entry.entries.keys p l ∙ c.loop-entry.invariant.same p l
+    ∙ ap (λ ds. is_listed ds p l) (take_all c.loop-entry.entry-index c.args.list.now c.loop-entry-test.false)
+
+pub returns-clause-entries : goal.returns-clause-entries
+returns-clause-entries c d =
+    let e = same_all c d.id d.link in (
+      λ h. contains_listed c.args.list.now d (sym e ∙ listed_contains (ordered_once drop_cmp c.loop-entry.entries.keys) d h),
+      λ h. contains_listed (ordered_once drop_cmp c.loop-entry.entries.keys) d (e ∙ listed_contains c.args.list.now d h),
+    )
+
+pub returns-clause-once_in_order : goal.returns-clause-once_in_order
+returns-clause-once_in_order c = drops_ascend c.loop-entry.entries.keys

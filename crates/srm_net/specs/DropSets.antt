@@ -1,0 +1,31 @@
+-- The entries of a set of drops.
+use Rattle.std.specs.Prelude.{◌≡◌, ℕ, Bool, true, ◌&&◌, ◌==◌, List, [], ◌∷◌}
+use Rattle.std.specs.List.{list_any}
+use Rattle.std.specs.declared.cmp.Ordering.{Ordering}
+use Rattle.std.specs.Ordering.{match_ordering}
+use Rattle.srm_net.specs.declared.link.DropSpec.{DropSpec}
+use Rattle.srm_net.specs.declared.packet.PacketId.{PacketId}
+use Rattle.srm_net.specs.declared.drops.Drops.TheInside.{Inside}
+use Rattle.srm_net.specs.Paths.{drop_cmp, is_listed}
+
+-- the list with x at its place, unless it has x already
+abbrev pub with_once : {A : Type 0} → (A → A → Ordering) → A → List A → List A
+with_once cmp x [] = x ∷ []
+with_once cmp x (y ∷ ys) = match_ordering (cmp x y) (x ∷ y ∷ ys) (y ∷ ys) (y ∷ with_once cmp x ys)
+
+-- the elements in order, each once
+abbrev pub ordered_once : {A : Type 0} → (A → A → Ordering) → List A → List A
+ordered_once cmp [] = []
+ordered_once cmp (x ∷ xs) = with_once cmp x (ordered_once cmp xs)
+
+-- the entries of a set of drops, in order
+abbrev pub entries_of : Inside → List DropSpec
+entries_of s = ordered_once drop_cmp s.entries.keys
+
+-- whether the packet is in the list
+abbrev pub has_packet : List PacketId → PacketId → Bool
+has_packet ps p = list_any (λ q. (p.sender == q.sender) && (p.count == q.count)) ps
+
+-- each entry's packet is among the packets
+abbrev pub KnowsItsPackets : Inside → Type 0
+KnowsItsPackets s = (p : PacketId) (l : ℕ) → is_listed s.entries.keys p l ≡ true → has_packet s.packets.keys p ≡ true

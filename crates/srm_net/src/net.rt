@@ -1,0 +1,235 @@
+//! A tree of nodes and links with members on some nodes, and what becomes of packets in it.
+ghost use Rattle.std.specs.Prelude.{◌≡◌, ◌≢◌, ℕ, ◌<◌, ◌≤◌, not, ◌&&◌, ◌∷◌, All, IfOk, IfErr, length, slice_get};
+ghost use Rattle.std.specs.List.{list_any};
+ghost use Rattle.srm_net.specs.Network.{plain_network, IsTree, HasDelay, AreHosts, IsNetwork};
+ghost use Rattle.srm_net.specs.Paths.{is_listed, host, route, distance, reaches, crosses, drops_at};
+ghost use Rattle.srm_net.specs.declared.link.LinkSpec.{LinkSpec};
+ghost use Rattle.srm_net.specs.Tables.{is_beyond, near_end, some_beyond};
+ghost use Rattle.srm_net.specs.Least.{least_delay, out};
+
+use crate::drops::Drops;
+use crate::fault::NetFault;
+use crate::link::LinkSpec;
+use crate::packet::PacketId;
+use crate::sides::Sides;
+use crate::ways::Ways;
+use std::alloc::Global;
+use std::marker::Model;
+
+/// A tree of nodes and links, with members on some nodes. Contracts see it as its plain network.
+///
+/// Each member is on a node of its own. A packet takes each link's delay, in ticks, in either direction.
+#[derive(Drop)]
+pub struct Net {
+    nodes: u16,
+    links: Vec<LinkSpec>,
+    hosts: Vec<u16>,
+    ways: Ways,
+    sides: Vec<Sides>,
+    outs: Vec<Option<u64>>,
+    least: Option<u64>,
+}
+
+impl Model for Net {
+    ghost use Rattle.srm_net.specs.Network.{Network};
+
+    ghost Value = { Network };
+
+    ghost use Rattle.srm_net.specs.Built.{plain_of, IsBuilt};
+
+    ghost view = { plain_of };
+
+    ghost invariant = { IsBuilt };
+}
+
+impl Net {
+    /// The network of nodes 0 to `nodes - 1` with these links, and member m on the node `hosts[m]`.
+    ///
+    /// # Errors
+    ///
+    /// The first of these that applies, though memory may be wanting at any place:
+    ///
+    /// 1. [`NetFault::NotTree`]: `nodes` is not 1 to 256, an end of a link is no node, there are not `nodes - 1`
+    ///    links, or they do not connect the nodes.
+    /// 2. [`NetFault::BadDelay`]: a delay is not 1 to 1,000,000 ticks.
+    /// 3. [`NetFault::BadHost`]: a member is on no node, or two members share one.
+    /// 4. [`NetFault::NoMemory`].
+    pub fn build(
+        alloc: Global,
+        nodes: u16,
+        links: &[LinkSpec],
+        hosts: &[u16],
+    ) -> Result<Net, NetFault>
+        ensures same { IfOk result (λ net. net ≡ plain_network nodes links.now hosts.now) }
+        ensures network { IfOk result IsNetwork }
+
+        // each refusal comes only where it is the first
+        ensures not_tree { result ≡ Err NetFault.NotTree → ¬ IsTree (plain_network nodes links.now hosts.now) }
+        ensures bad_delay { result ≡ Err NetFault.BadDelay
+            → IsTree (plain_network nodes links.now hosts.now) × (¬ All HasDelay links.now) }
+        ensures bad_host { result ≡ Err NetFault.BadHost
+            → IsTree (plain_network nodes links.now hosts.now) × All HasDelay links.now × (¬ AreHosts nodes hosts.now) }
+
+        // and none but want of memory where the network is as it should be
+        ensures accepted { IsNetwork (plain_network nodes links.now hosts.now) → IfErr result (λ e. e ≡ NetFault.NoMemory) }
+    {
+        Err(NetFault::NoMemory)
+    }
+
+    /// How many members there are: at most 256.
+    pub fn members(&self) -> u16
+        ensures members { result ≡ length self.now.hosts }
+        ensures network { IsNetwork self.now }
+    {
+        self.hosts.len() as u16
+    }
+
+    /// The links, in the order of their numbers: at most 255.
+    pub fn links(&self) -> &[LinkSpec]
+        ensures links { result.now ≡ self.now.links }
+        ensures network { IsNetwork self.now }
+    {
+        self.links.as_slice()
+    }
+
+    /// The node of member `m`.
+    pub fn host(&self, m: u16) -> u16
+        requires { m < length self.now.hosts }
+        ensures value { result ≡ host self.now m }
+        ensures node { result < self.now.nodes }
+    {
+        self.hosts[usize::from(m)]
+    }
+
+    /// How long a packet takes from member `a` to member `b`, in ticks: at most 255,000,000.
+    pub fn distance(&self, a: u16, b: u16) -> u64
+        requires a { a < length self.now.hosts }
+        requires b { b < length self.now.hosts }
+        ensures value { result ≡ distance self.now a b }
+        ensures apart { a ≢ b → 1 ≤ result }
+        ensures bounded { result ≤ 255000000 }
+        ensures network { IsNetwork self.now }
+    {
+        self.ways.delay(self.host(a), self.host(b))
+    }
+
+    /// The least delay of a link, in ticks, or none where there is no link.
+    pub fn least_delay(&self) -> Option<u64>
+        ensures value { result ≡ least_delay self.now }
+        ensures network { IsNetwork self.now }
+    {
+        self.least
+    }
+
+    /// The least distance from member `m` to another, in ticks, or none where there is no other.
+    pub fn out(&self, m: u16) -> Option<u64>
+        requires { m < length self.now.hosts }
+        ensures value { result ≡ out self.now m }
+        ensures network { IsNetwork self.now }
+    {
+        self.outs[usize::from(m)]
+    }
+
+    /// Whether a packet reaches member `m`: no link of the way from its sender is to drop it. It reaches its sender.
+    pub fn reaches(&self, drops: &Drops, id: PacketId, m: u16) -> bool
+        requires sender { id.sender < length self.now.hosts }
+        requires member { m < length self.now.hosts }
+        ensures { result ≡ reaches self.now drops.now id m }
+    {
+        self.is_clear(drops, id, self.host(id.sender), self.host(m))
+    }
+
+    /// Whether a packet crosses a link: the link is on the way from its sender to some member, present or not, and
+    /// neither it nor an earlier link of that way is to drop the packet.
+    pub fn crosses(&self, drops: &Drops, id: PacketId, link: u16) -> bool
+        requires sender { id.sender < length self.now.hosts }
+        requires link { link < length self.now.links }
+        ensures { result ≡ crosses self.now drops.now id link }
+    {
+        !drops.lists(link, id) && self.comes_to(drops, id, link)
+    }
+
+    /// Whether a packet is dropped at a link: the link is to drop it and is on the way from its sender to some member,
+    /// present or not, and no earlier link of that way is to drop it.
+    pub fn drops_at(&self, drops: &Drops, id: PacketId, link: u16) -> bool
+        requires sender { id.sender < length self.now.hosts }
+        requires link { link < length self.now.links }
+        ensures { result ≡ drops_at self.now drops.now id link }
+    {
+        drops.lists(link, id) && self.comes_to(drops, id, link)
+    }
+
+    /// The first link of the way between two nodes, and the node to which it leads.
+    fn first_step(&self, from: u16, to: u16) -> (u16, u16)
+        requires from { from < self.now.nodes }
+        requires to { to < self.now.nodes }
+        requires apart { from ≢ to }
+        ensures route { route self.now from to ≡ result.0 ∷ route self.now result.1 to }
+        ensures node { result.1 < self.now.nodes }
+    {
+        let link = self.ways.first(from, to);
+        let spec = self.links[usize::from(link)];
+        let next = if spec.a == from { spec.b } else { spec.a };
+        (link, next)
+    }
+
+    /// Whether no link of the way between two nodes is to drop a packet. Where no link is to drop it this takes no walk.
+    fn is_clear(&self, drops: &Drops, id: PacketId, from: u16, to: u16) -> bool
+        requires from { from < self.now.nodes }
+        requires to { to < self.now.nodes }
+        ensures { result ≡ not (list_any (is_listed drops.now id) (route self.now from to)) }
+    {
+        if !drops.lists_packet(id) {
+            return true;
+        }
+        let mut at = from;
+        while at != to {
+            let (link, next) = self.first_step(at, to);
+            if drops.lists(link, id) {
+                return false;
+            }
+            at = next;
+        }
+        true
+    }
+
+    /// Whether a node is beyond a link, as seen from the link's end `a`.
+    fn is_beyond(&self, link: u16, node: u16) -> bool
+        requires link { link < length self.now.links }
+        requires node { node < self.now.nodes }
+        ensures { (k : LinkSpec) → slice_get self.now.links link ≡ Some k → result ≡ is_beyond self.now link k node }
+    {
+        let end = self.links[usize::from(link)].a;
+        node != end && self.ways.first(end, node) == link
+    }
+
+    /// The end of a link that is nearer to a node, and whether any member is beyond the link from there.
+    fn beyond(&self, link: u16, node: u16) -> (u16, bool)
+        requires link { link < length self.now.links }
+        requires node { node < self.now.nodes }
+        ensures near { (k : LinkSpec) → slice_get self.now.links link ≡ Some k → result.0 ≡ near_end self.now link k node }
+        ensures below { result.0 < self.now.nodes }
+        ensures any { (k : LinkSpec) → slice_get self.now.links link ≡ Some k → result.1 ≡ some_beyond self.now link k node }
+        ensures network { IsNetwork self.now }
+    {
+        let spec = self.links[usize::from(link)];
+        let sides = self.sides[usize::from(link)];
+        if self.is_beyond(link, node) {
+            (spec.b, sides.a)
+        } else {
+            (spec.a, sides.b)
+        }
+    }
+
+    /// Whether a packet comes to a link on its way to some member, where the link may yet drop it.
+    fn comes_to(&self, drops: &Drops, id: PacketId, link: u16) -> bool
+        requires sender { id.sender < length self.now.hosts }
+        requires link { link < length self.now.links }
+        ensures crossed { crosses self.now drops.now id link ≡ (not (is_listed drops.now id link) && result) }
+        ensures dropped { drops_at self.now drops.now id link ≡ (is_listed drops.now id link && result) }
+    {
+        let from = self.host(id.sender);
+        let (near, is_any_beyond) = self.beyond(link, from);
+        is_any_beyond && self.is_clear(drops, id, from, near)
+    }
+}
