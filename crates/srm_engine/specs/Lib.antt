@@ -5,3 +5,4 @@ pub mod Laws
 pub mod Handed
 pub mod Names
 pub mod NextTimes
+pub mod OneLoss
