@@ -2,7 +2,7 @@ use Rattle.std.proofs.Common.{◌≡◌, ◌∙◌, sym, refl, arith, eq-eqb, �
 use Rattle.std.proofs.lemmas.Bool.{ne_eqb}
 use Rattle.srm_net.specs.Built.{plain_of}
 use Rattle.srm_net.proofs.BuiltLemmas.{first_below, first_seen, seen_below}
-use Rattle.srm_net.proofs.net.Net.first_step.Goals as goal
+use Rattle.srm_net.proofs.tree.Tree.first_step.Goals as goal
 
 pub index-spec-requires : goal.index-spec-requires
 index-spec-requires c =

@@ -1,7 +1,7 @@
 use Rattle.std.proofs.Common.{◌≡◌, ◌<◌, length}
 use Rattle.std.specs.List.{list_any}
 use Rattle.srm_net.specs.Paths.{is_listed, route}
-use Rattle.srm_net.proofs.net.Net.is_clear.Given as goal
+use Rattle.srm_net.proofs.tree.Tree.is_clear.Given as goal
 
 abbrev pub invariant-loop-at : goal.invariant-loop-at
 invariant-loop-at l = record {

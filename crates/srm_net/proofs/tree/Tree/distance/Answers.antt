@@ -5,7 +5,7 @@ use Rattle.srm_net.specs.Grids.{number_at}
 use Rattle.srm_net.specs.Built.{plain_of}
 use Rattle.srm_net.proofs.PathLaws.{distance_bounded, distance_apart}
 use Rattle.srm_net.proofs.BuiltLemmas.{told_distance}
-use Rattle.srm_net.proofs.net.Net.distance.Goals as goal
+use Rattle.srm_net.proofs.tree.Tree.distance.Goals as goal
 
 in_range : (n m : Network) (a : ℕ) → n ≡ m → a < length m.hosts → a < length n.hosts
 in_range n m a e h = subst (λ (w : Network). a < length w.hosts) (sym e) h

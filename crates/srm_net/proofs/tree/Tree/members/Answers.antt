@@ -1,7 +1,7 @@
 use Rattle.std.proofs.Common.{arith, ◌≤◌, length}
 use Rattle.srm_net.specs.Built.{plain_of}
 use Rattle.srm_net.proofs.PathLaws.{few_members}
-use Rattle.srm_net.proofs.net.Net.members.Goals as goal
+use Rattle.srm_net.proofs.tree.Tree.members.Goals as goal
 
 pub overflow_cast-result : goal.overflow_cast-result
 overflow_cast-result c =

@@ -2,7 +2,7 @@ use Rattle.std.proofs.Common.{◌≡◌, ◌∙◌, sym, ap, not}
 use Rattle.std.specs.List.{list_any}
 use Rattle.srm_net.specs.Paths.{is_listed, route}
 use Rattle.srm_net.proofs.PathLaws.{any_none, route_nowhere}
-use Rattle.srm_net.proofs.net.Net.is_clear.Goals as goal
+use Rattle.srm_net.proofs.tree.Tree.is_clear.Goals as goal
 
 pub returns-then-not-lists_packet : goal.returns-then-not-lists_packet
 returns-then-not-lists_packet c =
