@@ -9,7 +9,7 @@ use Rattle.std.proofs.lemmas.Bool.Decides.{nat_tests}
 use Rattle.srm_net.specs.declared.packet.Name.{Name}
 use Rattle.srm_net.specs.Names.{name_cmp}
 use Rattle.srm_member.specs.declared.due.Due.{Due}
-use Rattle.srm_member.specs.Record.{Missing, Repairing, due_cmp, sooner_by, sooner, earliest}
+use Rattle.srm_member.specs.Record.{Missing, Repairing, due_cmp, by_order, sooner, earliest}
 use Rattle.srm_member.specs.Pending.{has, Rises, IsFirst, IsIndexed, pending_timers, request_timer, repair_timer, expiry_of, is_at_time}
 use Rattle.srm_member.proofs.Indexes.{due_total, due_same, same, due_eq, due_itself, name_same}
 
@@ -54,7 +54,7 @@ step_none d ds e = (
       (λ t. let no = sym (ap (λ l. has l x) e) ∙ t in cc),
 )
 
-step_some : (d m : Due) (ds : List Due) → IsFirst ds (Some m) → (o : Ordering) → due_cmp d m ≡ o → IsFirst (d ∷ ds) (Some (sooner_by o d m))
+step_some : (d m : Due) (ds : List Due) → IsFirst ds (Some m) → (o : Ordering) → due_cmp d m ≡ o → IsFirst (d ∷ ds) (Some (by_order o d m))
 step_some d m ds h Less e = (
   at_head d ds,
   λ x k. either (eq_by_cmp due_cmp x d) (has ds x) k (is_gt (due_cmp d x) ≡ false)
