@@ -3,7 +3,7 @@
 
 pub mod cause;
 pub mod due;
-mod entries;
+pub mod entries;
 pub mod exit;
 pub mod fault;
 pub mod fixed;
