@@ -11,3 +11,4 @@ pub mod Sequential
 pub mod Settled
 pub mod StrictRuns
 pub mod TraceRows
+pub mod Lookahead
