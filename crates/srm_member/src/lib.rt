@@ -3,13 +3,14 @@
 
 pub mod cause;
 pub mod due;
-mod entries;
+pub mod entries;
 pub mod exit;
 pub mod fault;
 pub mod fixed;
 mod index;
 pub mod laws;
 pub mod member;
+mod memory;
 mod named;
 mod pages;
 mod pending;
@@ -17,6 +18,5 @@ pub mod react;
 pub mod recovery;
 pub mod row;
 mod stream;
-mod tables;
 pub mod timers;
 pub mod told;

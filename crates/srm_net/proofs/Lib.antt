@@ -6,3 +6,5 @@ pub mod Growing
 pub mod RouteLemmas
 pub mod PathLaws
 pub mod BuiltLemmas
+pub mod WayLemmas
+pub mod TreeWays

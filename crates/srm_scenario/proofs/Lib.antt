@@ -7,3 +7,4 @@ pub mod Members
 pub mod Words
 pub mod Arrays
 pub mod TopRules
+pub mod Shapes

@@ -1,12 +1,12 @@
 -- What is wrong with a table or a text that is to be a scenario, and the scenario where nothing is.
 use Rattle.std.specs.Prelude.{ℕ, ◌+◌, Bool, true, false, not, ◌&&◌, ◌||◌, List, [], ◌∷◌, ◌++◌, Option, Some, None, Result, Ok, Err, is_some, codes, length, slice_get, map, nat_le, nat_lt, ◌==◌, if◌then◌else◌}
+use Rattle.std.specs.List.{list_any}
 use Rattle.std.specs.Str.{is_utf8}
 use Rattle.toml.specs.Data.{Data, Members, get_member}
 use Rattle.toml.specs.Parse.{parse_document}
 use Rattle.srm_net.specs.declared.role.Role.{Role}
 use Rattle.srm_net.specs.declared.role.Role.TheVariants.{Sender, Receiver, Late, Listener}
 use Rattle.srm_net.specs.declared.link.DropSpec.{DropSpec}
-use Rattle.srm_net.specs.Paths.{is_in}
 use Rattle.srm_scenario.specs.declared.fault.Part.{Part}
 use Rattle.srm_scenario.specs.declared.fault.Part.TheVariants as part
 use Rattle.srm_scenario.specs.declared.fault.ScenarioFault.{ScenarioFault}
@@ -91,20 +91,27 @@ leaves_after join (Some end) = nat_lt join end
 abbrev pub entry_of : Members → MemberEntry
 entry_of ms = record { spec = member_of ms; has_pages = is_some (get_member (codes "pages") ms) }
 
--- its node is a node of the network, not the hub of a star, and not one of those taken; it joins before the end of the run, and
--- before it leaves; and pages are given for a late member alone
-abbrev pub fits_member : ℕ → ℕ → Bool → List ℕ → MemberEntry → Bool
-fits_member until nodes star taken e =
+-- whether one of these members is on the node
+abbrev pub is_taken : List MemberEntry → ℕ → Bool
+is_taken es node = list_any (λ e. e.spec.node == node) es
+
+-- its node is a node of the network, not the hub of a star, and not that of an earlier member; it joins before the end of the
+-- run, and before it leaves; and pages are given for a late member alone
+abbrev pub fits_member : ℕ → ℕ → Bool → List MemberEntry → MemberEntry → Bool
+fits_member until nodes star earlier e =
     let k = e.spec in
     nat_lt k.node nodes
-    && (not (star && (k.node == 0))
-    && (not (is_in taken k.node) && (nat_lt k.join until && (leaves_after k.join k.leave && (not e.has_pages || is_late k.role)))))
+    && not (star && (k.node == 0))
+    && not (is_taken earlier k.node)
+    && nat_lt k.join until
+    && leaves_after k.join k.leave
+    && (not e.has_pages || is_late k.role)
 
--- the faults of members from place i on, those before them on the nodes taken
-abbrev pub member_faults : ℕ → ℕ → Bool → List ℕ → ℕ → List MemberEntry → List ScenarioFault
-member_faults until nodes star taken i [] = []
-member_faults until nodes star taken i (e ∷ es) =
-    fault_unless (fits_member until nodes star taken e) (BadMember i) ++ member_faults until nodes star (e.spec.node ∷ taken) (i + 1) es
+-- the faults of members from place i on, after the earlier ones
+abbrev pub member_faults : ℕ → ℕ → Bool → List MemberEntry → ℕ → List MemberEntry → List ScenarioFault
+member_faults until nodes star earlier i [] = []
+member_faults until nodes star earlier i (e ∷ es) =
+    fault_unless (fits_member until nodes star earlier e) (BadMember i) ++ member_faults until nodes star (earlier ++ e ∷ []) (i + 1) es
 
 abbrev pub if_member : Option MemberSpec → (MemberSpec → Bool) → Bool
 if_member None test = false

@@ -2,6 +2,7 @@
 #![tactic(auto)]
 
 pub mod bytes;
+mod checks;
 mod element;
 mod elements;
 mod entry;

@@ -1,5 +1,5 @@
 //! Scenarios.
-ghost use Rattle.std.specs.Prelude.{◌≡◌, ◌<◌, ◌^◌, Some, length, map, slice_get, option_map, MatchResult, Contains, IsTrue, ◌↔◌};
+ghost use Rattle.std.specs.Prelude.{◌≡◌, ◌<◌, Some, length, map, slice_get, option_map, MatchResult, IfOk};
 ghost use Rattle.srm_scenario.specs.Accepted.{IsAccepted};
 ghost use Rattle.srm_scenario.specs.Plain.{network_of, script_of};
 ghost use Rattle.srm_scenario.specs.Pages.{wants};
@@ -8,9 +8,12 @@ use crate::fault::ScenarioFault;
 use crate::mark::Mark;
 use crate::parts::{Constants, DrawSpec, MemberSpec, SessionSpec};
 use crate::script::script_of;
-use srm_net::link::{DropSpec, LinkSpec};
+use srm_net::drops::Drops;
+use srm_net::fault::NetFault;
+use srm_net::link::LinkSpec;
+use srm_net::net::Net;
 use srm_net::role::Role;
-use std::alloc::Global;
+use std::alloc::{AllocError, Global};
 use std::marker::Model;
 
 /// What a run is given: a network, the members on it, what they draw and report, and which packets are dropped. Contracts see it as
@@ -24,7 +27,7 @@ pub struct Scenario {
     pub(crate) members: Vec<MemberSpec>,
     pub(crate) draws: Vec<DrawSpec>,
     pub(crate) sessions: Vec<SessionSpec>,
-    pub(crate) drops: Vec<DropSpec>,
+    pub(crate) drops: Drops,
 }
 
 impl Model for Scenario {
@@ -34,9 +37,9 @@ impl Model for Scenario {
 
     ghost use Rattle.srm_scenario.specs.Accepted.{IsAccepted};
 
-    ghost view = { λ s. record { until = s.until; constants = s.constants; nodes = s.nodes; links = s.links.items; members = s.members.items; draws = s.draws.items; sessions = s.sessions.items; drops = s.drops.items } };
+    ghost view = { λ s. record { until = s.until; constants = s.constants; nodes = s.nodes; links = s.links.items; members = s.members.items; draws = s.draws.items; sessions = s.sessions.items; drops = s.drops } };
 
-    ghost invariant = { λ s. IsAccepted (record { until = s.until; constants = s.constants; nodes = s.nodes; links = s.links.items; members = s.members.items; draws = s.draws.items; sessions = s.sessions.items; drops = s.drops.items }) };
+    ghost invariant = { λ s. IsAccepted (record { until = s.until; constants = s.constants; nodes = s.nodes; links = s.links.items; members = s.members.items; draws = s.draws.items; sessions = s.sessions.items; drops = s.drops }) };
 }
 
 impl Scenario {
@@ -125,6 +128,25 @@ impl Scenario {
         self.links.as_slice()
     }
 
+    /// The packets that links drop.
+    pub fn drops(&self) -> &Drops
+        ensures { result.now ≡ self.now.drops }
+    {
+        &self.drops
+    }
+
+    /// The scenario's network.
+    ///
+    /// # Errors
+    ///
+    /// [`NetFault::NoMemory`] alone.
+    pub fn net(&self, alloc: Global) -> Result<Net, NetFault>
+        ensures { MatchResult result (λ net. net ≡ network_of self.now) (λ e. e ≡ NetFault.NoMemory) }
+    {
+        let hosts = hosts_of(alloc, &self.members)?;
+        Net::build(alloc, self.nodes, &self.links, &hosts)
+    }
+
     /// The script of member m: its join, draws, session messages and leave, in the order of their keys.
     ///
     /// # Errors
@@ -145,4 +167,11 @@ impl Scenario {
         )?;
         Ok(marks)
     }
+}
+
+/// The nodes that host members.
+fn hosts_of(alloc: Global, members: &[MemberSpec]) -> Result<Vec<u16>, AllocError>
+    ensures { IfOk result (λ hosts. hosts.items ≡ map (λ k. k.node) members.now) }
+{
+    members.iter().map(|member| member.node).collect(alloc)
 }

@@ -168,14 +168,12 @@ pub(crate) struct Top<'a> {
 
 /// What the table holds, if it is as a top table must be.
 pub(crate) fn top_of(table: &Table) -> Option<Top<'_>>
-    ensures {
-        MatchOption result
-            (fits (rules_of_top (table_view table.now)) (table_view table.now) ≡ false)
-            (λ t. (fits (rules_of_top (table_view table.now)) (table_view table.now) ≡ true)
-                × HasNumbers (table_view table.now) t.numbers.until t.numbers.constants
-                × HasShape (table_view table.now) t.shape.topology t.shape.nodes t.shape.delay (map view t.shape.links.now)
-                × HasArrays (table_view table.now) (map view t.arrays.members.now) (map view t.arrays.draws.now) (map view t.arrays.sessions.now) (map view t.arrays.drops.now))
-    }
+    ensures { MatchOption result
+        (fits (rules_of_top (table_view table.now)) (table_view table.now) ≡ false)
+        (λ t. (fits (rules_of_top (table_view table.now)) (table_view table.now) ≡ true)
+        × HasNumbers (table_view table.now) t.numbers.until t.numbers.constants
+        × HasShape (table_view table.now) t.shape.topology t.shape.nodes t.shape.delay (map view t.shape.links.now)
+        × HasArrays (table_view table.now) (map view t.arrays.members.now) (map view t.arrays.draws.now) (map view t.arrays.sessions.now) (map view t.arrays.drops.now)) }
 {
     if !has_only(
         table,

@@ -20,6 +20,7 @@ returns-then-eq c =
       degree = degree_by ms _ _ h.tree_said d.met;
       is = h.is ∙ rw d.is;
       there = h.there;
+      fits = (d.least, d.most);
     }
 
 pub returns-then-has_key-2 : goal.returns-then-has_key-2
@@ -37,6 +38,7 @@ returns-then-eq-2 c =
       degree = degree_by ms _ _ h.tree_said (refused-met (codes "degree") (whole 2 255) ms _ c.if-has_key-2.ensures);
       is = h.is;
       there = h.there;
+      fits = tt;
     }
 
 pub returns-then-eq-3 : goal.returns-then-eq-3
@@ -48,6 +50,7 @@ returns-then-eq-3 c =
       degree = degree_by ms _ _ h.tree_said (refused-met (codes "degree") (whole 2 255) ms _ c.if-has_key-2.ensures);
       is = h.is;
       there = h.there;
+      fits = tt;
     }
 
 pub returns-else-eq-3 : goal.returns-else-eq-3

@@ -1,6 +1,6 @@
 use Rattle.std.proofs.Common.{sym, ap, ◌∙◌}
 use Rattle.srm_member.proofs.Losses.{informed-turn, informed-end}
-use Rattle.srm_member.proofs.tables.Tables.informed.Goals as goal
+use Rattle.srm_member.proofs.memory.Memory.informed.Goals as goal
 
 pub loop-entry-preserved : goal.loop-entry-preserved
 loop-entry-preserved c = record {

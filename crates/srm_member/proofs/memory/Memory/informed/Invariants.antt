@@ -1,6 +1,6 @@
 use Rattle.std.proofs.Common.{◌≡◌, drop, []}
 use Rattle.srm_member.specs.React.{informed}
-use Rattle.srm_member.proofs.tables.Tables.informed.Given as goal
+use Rattle.srm_member.proofs.memory.Memory.informed.Given as goal
 
 -- the entries still to come
 abbrev pub invariant-loop-entry : goal.invariant-loop-entry

@@ -28,7 +28,7 @@ use std::marker::Model;
 
 /// What an active member knows: its fixed part, its generator, and its tables.
 #[derive(Drop)]
-pub struct Tables {
+pub struct Memory {
     fixed: Fixed,
     words: Lcg64Xsh32,
     streams: Pages,
@@ -37,25 +37,25 @@ pub struct Tables {
     rests: Named<u64>,
 }
 
-impl Model for Tables {
-    ghost use Rattle.srm_member.specs.Record.{Memory};
+impl Model for Memory {
+    ghost use Rattle.srm_member.specs.Record.{Memory as Seen};
     ghost use Rattle.srm_member.specs.Fit.{IsFit};
 
-    ghost Value = { Memory };
+    ghost Value = { Seen };
 
     ghost view = { λ t. record { fixed = t.fixed; words = t.words; streams = t.streams; held = t.held; missing = t.pending.0; repairs = t.pending.1; rests = t.rests } };
 
     ghost invariant = { λ t. IsFit t.fixed };
 }
 
-impl Tables {
+impl Memory {
     /// What a member knows at first. It takes no memory.
     pub fn new(alloc: Global, fixed: Fixed) -> Self
         requires { IsFit fixed }
         ensures { result ≡ opening_memory fixed }
     {
         let words = Lcg64Xsh32::new(fixed.seed, fixed.stream);
-        Tables {
+        Memory {
             fixed,
             words,
             streams: Pages::new(alloc),
