@@ -9,6 +9,7 @@ mod entry;
 pub mod fault;
 pub mod feed;
 pub mod laws;
+mod listed;
 pub mod mark;
 pub mod parts;
 pub mod scenario;
