@@ -10,3 +10,4 @@ pub mod TopRules
 pub mod Shapes
 pub mod FaultLists
 pub mod TreeLemmas
+pub mod Once

@@ -9,3 +9,4 @@ pub mod Keys
 pub mod Feed
 pub mod Scripts
 pub mod Listed
+pub mod Ranges

@@ -12,6 +12,7 @@ pub mod laws;
 mod listed;
 pub mod mark;
 pub mod parts;
+pub mod reading;
 pub mod scenario;
 pub mod script;
 mod table;
