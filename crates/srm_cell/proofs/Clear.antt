@@ -4,9 +4,9 @@ use Rattle.std.specs.Ordering.{eq_by_cmp, is_eq, ordering_reverse}
 use Rattle.std.specs.FinMap.Entries.{put, find, by_order, is_sorted, below_all}
 use Rattle.rand_pcg.specs.Pcg.{pcg32}
 use Rattle.srm_cell.proofs.CellLemmas.{first_timer, next_event_is}
-use Rattle.srm_cell.proofs.Rising.{Above, OnEvent, OnStep, arrival_key, earlier_on, mark_key, step_above, timer_key}
+use Rattle.srm_cell.proofs.Rising.{Above, OnEvent, OnStep, earlier_on, step_above}
+use Rattle.srm_cell.specs.Cells.{arrival_key, mark_key, timer_key, Done, Event, Full, PlainCell, Stepped, before, cause_of_timer, first_arrival, first_mark, handle, next_event, sending_step, step_at}
 use Rattle.srm_cell.proofs.Tidy.{NotBefore, flight_keys, mark_keys}
-use Rattle.srm_cell.specs.Cells.{Done, Event, Full, PlainCell, Stepped, before, cause_of_timer, first_arrival, first_mark, handle, next_event, sending_step, step_at}
 use Rattle.srm_cell.specs.Flights.{flight_cmp}
 use Rattle.srm_cell.specs.Setting.{HasOwnRanks}
 use Rattle.srm_cell.specs.declared.flight.Flight.{Flight}

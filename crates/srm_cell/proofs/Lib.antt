@@ -11,3 +11,4 @@ pub mod Counts
 pub mod Clear
 pub mod Leaving
 pub mod OwnRunsEnd
+pub mod FitSettings

@@ -1,6 +1,8 @@
 pub mod Departed
 pub mod HandedOnce
 pub mod Index
+pub mod Hearing
+pub mod SeenLemmas
 pub mod LawProofs
 pub mod Merge
 pub mod NamesKept
@@ -11,3 +13,4 @@ pub mod Sequential
 pub mod Settled
 pub mod StrictRuns
 pub mod TraceRows
+pub mod Lookahead

@@ -4,9 +4,9 @@ use Rattle.std.specs.Ordering.{ordering_reverse}
 use Rattle.std.specs.Cmp.{IsTotalOrder}
 use Rattle.srm_cell.proofs.CellSteps.{SentBy, flight_total}
 use Rattle.srm_cell.proofs.Clear.{Besides, CountAfter, Differs, IsDistinct, IsTail, RestOf, StepOf, clear_step, differ_member, later_differs, next_besides, next_rest, step_is_of, then_after}
-use Rattle.srm_cell.proofs.Rising.{Above, IsAbove, OnEvent, OnStep, arrival_key, before_on, mark_key, next_above, step_above, timer_key}
+use Rattle.srm_cell.proofs.Rising.{Above, IsAbove, OnEvent, OnStep, before_on, next_above, step_above}
+use Rattle.srm_cell.specs.Cells.{arrival_key, mark_key, timer_key, Done, Event, PlainCell, StepOutcome, Stepped, before, hear, hear_at, next_event, step_at}
 use Rattle.srm_cell.proofs.Tidy.{NotBefore, later_not_before}
-use Rattle.srm_cell.specs.Cells.{Done, Event, PlainCell, StepOutcome, Stepped, before, hear, hear_at, next_event, step_at}
 use Rattle.srm_cell.specs.Flights.{flight_cmp, numbers_of_flight}
 use Rattle.srm_cell.specs.OwnRuns.{told_to}
 use Rattle.srm_cell.specs.Setting.{HasOwnRanks, IsFit, Setting, arrival_of}
