@@ -12,3 +12,4 @@ pub mod Settled
 pub mod StrictRuns
 pub mod TraceRows
 pub mod Lookahead
+pub mod PendingKeys

@@ -82,7 +82,7 @@ all_both P Q R f (x ∷ xs) h g = (f x h.0 g.0, all_both P Q R f xs h.1 g.1)
 
 -- ---- how many packets each member sent
 
-sent_by : Option PlainCell → ℕ
+pub sent_by : Option PlainCell → ℕ
 sent_by None = 0
 sent_by (Some c) = c.sent
 
@@ -113,9 +113,9 @@ fresh_apart cs f (g ∷ gs) h a = (
 )
 
 module _ (s : Setting) (fit : IsFit s) where
-  record Strict (cs : List PlainCell) : Type 0 where
-    distinct : EachCell s fit (λ j c. IsDistinct c) cs
-    fresh : EachCell s fit (λ j c. IsFresh cs c) cs
+  pub record Strict (cs : List PlainCell) : Type 0 where
+    pub distinct : EachCell s fit (λ j c. IsDistinct c) cs
+    pub fresh : EachCell s fit (λ j c. IsFresh cs c) cs
 
   hear_at_sent : (p : Packet) (o : Option ℕ) (c : PlainCell) → (hear_at p o c).sent ≡ c.sent
   hear_at_sent p None c = refl
@@ -199,7 +199,7 @@ module _ (s : Setting) (fit : IsFit s) where
     told_strict (Some p) q by count j c t f = hear_at_strict p (arrival_of s p j) c by count t f
 
     -- both hold after the step
-    strict_step : Strict after
+    pub strict_step : Strict after
     strict_step =
         let c = facts.cell in
         let was = strict.distinct m c facts.here in
@@ -275,7 +275,7 @@ module _ (s : Setting) (fit : IsFit s) where
   opening_empty all (suc n) i zero c h = subst (IsFresh all) (same_Some _ _ h) tt
   opening_empty all (suc n) i (suc j) c h = opening_empty all n (suc i) j c h
 
-  strict_opening : Strict (opening s).cells
+  pub strict_opening : Strict (opening s).cells
   unfolding opening
   strict_opening = record { distinct = opening_distinct s.members 0 (zero-add s.members); fresh = opening_empty (opening_cells s s.members 0) s.members 0 }
 
