@@ -1,6 +1,8 @@
 pub mod Departed
 pub mod HandedOnce
 pub mod Index
+pub mod Hearing
+pub mod SeenLemmas
 pub mod LawProofs
 pub mod Merge
 pub mod NamesKept

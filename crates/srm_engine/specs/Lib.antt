@@ -5,3 +5,6 @@ pub mod Laws
 pub mod Handed
 pub mod Names
 pub mod NextTimes
+pub mod Seen
+pub mod Totalled
+pub mod Shown

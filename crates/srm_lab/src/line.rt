@@ -74,3 +74,54 @@ fn word_of_part(part: Part) -> &'static str
         Part::Drop => "drop",
     }
 }
+
+#[cfg(test)]
+mod tests {
+    use super::*;
+    use std::test::Fail;
+
+    #[test]
+    fn each_refusal_has_its_line(rt: HostRuntime) -> Result<(), Fail> {
+        let bad_key = |part: Part, place: usize| ScenarioFault::BadKey { part, place };
+        for (fault, want) in [
+            (ScenarioFault::ReadFault, "refused: read-fault"),
+            (ScenarioFault::TooLong, "refused: too-long"),
+            (ScenarioFault::NotToml, "refused: not-toml"),
+            (bad_key(Part::Top, 0), "refused: bad-key top 0"),
+            (bad_key(Part::Link, 254), "refused: bad-key link 254"),
+            (bad_key(Part::Member, 2), "refused: bad-key member 2"),
+            (bad_key(Part::Draw, 1), "refused: bad-key draw 1"),
+            (bad_key(Part::Session, 0), "refused: bad-key session 0"),
+            (bad_key(Part::Drop, 4095), "refused: bad-key drop 4095"),
+            (ScenarioFault::NotTree, "refused: not-tree"),
+            (
+                ScenarioFault::BadMember { place: 1 },
+                "refused: bad-member 1",
+            ),
+            (ScenarioFault::BadDraw { place: 0 }, "refused: bad-draw 0"),
+            (
+                ScenarioFault::BadSession { place: 0 },
+                "refused: bad-session 0",
+            ),
+            (ScenarioFault::BadDrop { place: 0 }, "refused: bad-drop 0"),
+            (ScenarioFault::NoMemory, "refused: no-memory"),
+        ] {
+            let line = line_of(rt.alloc(), &Fault::Scenario(fault));
+            assert_eq!(rt; line.map_err(|_| "no line")?.as_str(), want);
+        }
+        let written = 10;
+        for (fault, want) in [
+            (Fault::Lab(LabFault::NoMemory), "refused: no-memory"),
+            (Fault::Lab(LabFault::CountFull), "refused: count-full"),
+            (
+                Fault::Lab(LabFault::WriteFault { written }),
+                "refused: write-fault 10",
+            ),
+            (Fault::NoMemory, "refused: no-memory"),
+        ] {
+            let line = line_of(rt.alloc(), &fault);
+            assert_eq!(rt; line.map_err(|_| "no line")?.as_str(), want);
+        }
+        Ok(())
+    }
+}

@@ -11,7 +11,7 @@ mod index;
 pub mod laws;
 pub mod member;
 mod memory;
-mod named;
+pub mod named;
 mod pages;
 mod pending;
 pub mod react;

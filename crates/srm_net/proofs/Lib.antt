@@ -8,3 +8,6 @@ pub mod PathLaws
 pub mod BuiltLemmas
 pub mod WayLemmas
 pub mod TreeWays
+pub mod OrderLemmas
+pub mod ToldLemmas
+pub mod LeastLemmas

@@ -3,7 +3,7 @@ use Rattle.std.proofs.Common.{◌≡◌, ◌≢◌, ◌⊎◌, ℕ, zero, suc, �
 use Rattle.std.proofs.lemmas.Bool.{ne_eqb, eqb-false, cases_Bool, cases_eq, both_ways, true≢false, false≢true}
 use Rattle.std.proofs.lemmas.List.{take-append-drop, reverse-append, take_more, length-replicate, get_or-set_same, get_or-set_other}
 use Rattle.srm_net.specs.declared.link.LinkSpec.{LinkSpec}
-use Rattle.srm_net.specs.declared.order.Step.{Step}
+use Rattle.srm_net.specs.declared.step.Step.{Step}
 use Rattle.srm_net.specs.declared.ways.Ways.{Ways}
 use Rattle.srm_net.specs.Network.{Network, Joins, IsWalk, IsPath, IsWithin, HasDelay}
 use Rattle.srm_net.specs.Paths.{is_in, delay_of, delay_along}

@@ -1,6 +1,7 @@
 //! Nodes, links, paths and drops of a tree-shaped network, and the packets and event keys that travel in it.
 #![tactic(auto)]
 
+mod checks;
 pub mod drops;
 pub mod example;
 pub mod fault;
@@ -14,4 +15,6 @@ pub mod packet;
 pub mod role;
 pub mod sequence;
 mod sides;
+mod step;
+mod tree;
 mod ways;

@@ -7,7 +7,7 @@ ghost use Rattle.srm_net.specs.Ways.{TellsWays, Extends, Leads};
 
 use crate::grid::Grid;
 use crate::link::LinkSpec;
-use crate::order::Step;
+use crate::step::Step;
 use std::alloc::{AllocError, Global};
 
 /// For each two nodes the delay between them, in ticks, and the first link of the way from the one to the other.

@@ -8,7 +8,7 @@ use Rattle.toml.specs.Data.{Data, Items, Members, no_items, item, string, intege
 use Rattle.toml.specs.View.{view, items_of, items_view}
 use Rattle.toml.specs.declared.value.Value.{Value}
 use Rattle.srm_scenario.specs.Rules.{is_met, is_kind, rule, meets, elements, numbers, optional, count_items, all_whole}
-use Rattle.srm_scenario.specs.Described.{items_list, array_of, array_at, number_of}
+use Rattle.srm_scenario.specs.Described.{items_list, array_of, array_at, number_of, table_of}
 use Rattle.srm_scenario.specs.Keys.{IsArray}
 
 pub items_list-of : (ds : List Data) → items_list (items_of ds) ≡ ds
@@ -108,9 +108,15 @@ numbers-wrong key most high ms h =
     by (Some (datetime t)) met = refl
     by (Some (table t)) met = refl
 
-map-view : (vs : List Value) → map (λ d. unwrap_or (number_of d) 0) (map view vs) ≡ map (λ v. unwrap_or (number_of (view v)) 0) vs
-map-view [] = refl
-map-view (v ∷ vs) = ap (λ l. unwrap_or (number_of (view v)) 0 ∷ l) (map-view vs)
+map-view : {A : Type 0} (f : Data → A) (vs : List Value) → map f (map view vs) ≡ map (λ v. f (view v)) vs
+map-view f [] = refl
+map-view f (v ∷ vs) = ap (λ (l : List _). f (view v) ∷ l) (map-view f vs)
+
+-- what values are read as is what the elements at their key are read as
+pub elements-read : {A : Type 0} (reading : Members → A) (vs : List Value) (ds : List Data) (xs : List A) → map view vs ≡ ds → xs ≡ map (λ v. reading (table_of (view v))) vs
+    → map (λ d. reading (table_of d)) ds ≡ xs
+elements-read reading vs ds xs same read =
+    ap (map (λ d. reading (table_of d))) (sym same) ∙ map-view (λ d. reading (table_of d)) vs ∙ sym read
 
 one-read : (key : List ℕ) (most high : ℕ) (ms : Members) (vs : List Value) (o : Option (List ℕ)) → IsArray key most ms (map view vs)
     → MatchOption o (all_whole high (items_view vs) ≡ false) (λ pages. (all_whole high (items_view vs) ≡ true) × (pages ≡ map (λ v. unwrap_or (number_of (view v)) 0) vs))
@@ -119,7 +125,7 @@ one-read : (key : List ℕ) (most high : ℕ) (ms : Members) (vs : List Value) (
 one-read key most high ms vs None h read = numbers-met key most high ms vs false h read
 one-read key most high ms vs (Some pages) h read = (
   numbers-met key most high ms vs true h read.0,
-  read.1 ∙ sym (map-view vs) ∙ ap (map (λ d. unwrap_or (number_of d) 0)) h.is,
+  read.1 ∙ sym (map-view (λ d. unwrap_or (number_of d) 0) vs) ∙ ap (map (λ d. unwrap_or (number_of d) 0)) h.is,
 )
 
 -- the numbers of an array's values are those of the array at its key

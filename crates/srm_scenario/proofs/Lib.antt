@@ -8,3 +8,6 @@ pub mod Words
 pub mod Arrays
 pub mod TopRules
 pub mod Shapes
+pub mod FaultLists
+pub mod TreeLemmas
+pub mod Once

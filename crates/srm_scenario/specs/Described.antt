@@ -1,13 +1,12 @@
 -- The scenario that a table describes, wherever its keys are as the format asks.
 use Rattle.std.specs.Prelude.{ℕ, zero, suc, ◌+◌, ◌-◌, ◌/◌, pos, Bool, true, false, List, [], ◌∷◌, Option, Some, None, is_some, unwrap_or, codes, map, nat_le, if◌then◌else◌}
-use Rattle.std.specs.declared.cmp.Ordering.{Ordering}
 use Rattle.std.specs.Option.{option_and_then}
-use Rattle.std.specs.Ordering.{match_ordering}
 use Rattle.toml.specs.Data.{Data, Items, Members, integer, array, table, no_items, item, no_members, get_member}
 use Rattle.srm_net.specs.declared.role.Role.{Role}
 use Rattle.srm_net.specs.declared.role.Role.TheVariants.{Sender, Receiver, Late, Listener}
 use Rattle.srm_net.specs.declared.link.LinkSpec.{LinkSpec}
 use Rattle.srm_net.specs.declared.link.DropSpec.{DropSpec}
+use Rattle.srm_net.specs.DropSets.{ordered_once}
 use Rattle.srm_net.specs.Paths.{drop_cmp}
 use Rattle.srm_scenario.specs.declared.parts.Constants.{Constants}
 use Rattle.srm_scenario.specs.declared.parts.MemberSpec.{MemberSpec}
@@ -131,16 +130,6 @@ links_in (Some t) ms = links_to_parents t (number (codes "delay") ms) 1 (number 
 
 -- ---- the scenario
 
--- x in its place, unless it is there already
-abbrev pub place_once : {A : Type 0} → (A → A → Ordering) → A → List A → List A
-place_once cmp x [] = x ∷ []
-place_once cmp x (y ∷ ys) = match_ordering (cmp x y) (x ∷ y ∷ ys) (y ∷ ys) (y ∷ place_once cmp x ys)
-
--- the elements in rising order, each once
-abbrev pub each_once : {A : Type 0} → (A → A → Ordering) → List A → List A
-each_once cmp [] = []
-each_once cmp (x ∷ xs) = place_once cmp x (each_once cmp xs)
-
 -- the drops as they are listed
 abbrev pub listed_drops : Members → List DropSpec
 listed_drops ms = elements_at (codes "drop") drop_of ms
@@ -157,5 +146,5 @@ described ms = record {
   members = elements_at (codes "member") member_of ms;
   draws = elements_at (codes "draw") draw_of ms;
   sessions = elements_at (codes "session") session_of ms;
-  drops = each_once drop_cmp (listed_drops ms);
+  drops = ordered_once drop_cmp (listed_drops ms);
 }

@@ -1,5 +1,5 @@
 -- What is wrong with a table or a text that is to be a scenario, and the scenario where nothing is.
-use Rattle.std.specs.Prelude.{ℕ, ◌+◌, Bool, true, false, not, ◌&&◌, ◌||◌, List, [], ◌∷◌, ◌++◌, Option, Some, None, Result, Ok, Err, is_some, codes, length, slice_get, map, nat_le, nat_lt, ◌==◌, if◌then◌else◌}
+use Rattle.std.specs.Prelude.{◌≡◌, ◌⊎◌, ℕ, ◌+◌, Bool, true, false, not, ◌&&◌, ◌||◌, List, [], ◌∷◌, ◌++◌, Option, Some, None, Result, Ok, Err, is_some, codes, length, slice_get, map, nat_le, nat_lt, ◌==◌, if◌then◌else◌}
 use Rattle.std.specs.List.{list_any}
 use Rattle.std.specs.Str.{is_utf8}
 use Rattle.toml.specs.Data.{Data, Members, get_member}
@@ -10,7 +10,7 @@ use Rattle.srm_net.specs.declared.link.DropSpec.{DropSpec}
 use Rattle.srm_scenario.specs.declared.fault.Part.{Part}
 use Rattle.srm_scenario.specs.declared.fault.Part.TheVariants as part
 use Rattle.srm_scenario.specs.declared.fault.ScenarioFault.{ScenarioFault}
-use Rattle.srm_scenario.specs.declared.fault.ScenarioFault.TheVariants.{TooLong, NotToml, BadKey, NotTree, BadMember, BadDraw, BadSession, BadDrop}
+use Rattle.srm_scenario.specs.declared.fault.ScenarioFault.TheVariants.{NoMemory, TooLong, NotToml, BadKey, NotTree, BadMember, BadDraw, BadSession, BadDrop}
 use Rattle.srm_scenario.specs.declared.entry.MemberEntry.{MemberEntry}
 use Rattle.srm_scenario.specs.declared.parts.MemberSpec.{MemberSpec}
 use Rattle.srm_scenario.specs.declared.parts.DrawSpec.{DrawSpec}
@@ -36,6 +36,10 @@ fault_unless b fault = if b then [] else fault ∷ []
 abbrev pub first : List ScenarioFault → Option ScenarioFault
 first [] = None
 first (fault ∷ faults) = Some fault
+
+-- memory ran out, or this is the first of the faults
+abbrev pub IsFault : ScenarioFault → List ScenarioFault → Type 0
+IsFault e faults = (e ≡ NoMemory) ⊎ (first faults ≡ Some e)
 
 -- ---- faults of keys
 
@@ -136,10 +140,9 @@ abbrev pub all_of : List (List ScenarioFault) → List ScenarioFault
 all_of [] = []
 all_of (fs ∷ rest) = fs ++ all_of rest
 
--- all faults of a table, in the order in which they are told
-unfoldable pub faults_of : Members → List ScenarioFault
-faults_of ms =
-    let s = described ms in
+-- the faults of the keys of a table, part by part
+unfoldable pub key_faults : Members → List ScenarioFault
+key_faults ms =
     all_of (
     top_faults ms
     ∷ element_faults part.Link link_rules (array_at (codes "link") ms)
@@ -147,12 +150,24 @@ faults_of ms =
     ∷ element_faults part.Draw draw_rules (array_at (codes "draw") ms)
     ∷ element_faults part.Session session_rules (array_at (codes "session") ms)
     ∷ element_faults part.Drop drop_rules (array_at (codes "drop") ms)
-    ∷ fault_unless (is_tree (network_of s)) NotTree
-    ∷ member_faults s.until s.nodes (is_star (topology_of ms)) [] 0 (elements_at (codes "member") entry_of ms)
+    ∷ [])
+
+-- the faults of what a table describes: a scenario, whether its topology is a star, its members with whether pages are given for
+-- them, and its drops as they are listed
+unfoldable pub meaning_faults : PlainScenario → Bool → List MemberEntry → List DropSpec → List ScenarioFault
+meaning_faults s star entries listed =
+    all_of (
+    fault_unless (is_tree (network_of s)) NotTree
+    ∷ member_faults s.until s.nodes star [] 0 entries
     ∷ faults_by BadDraw (fits_draw s.until s.members) 0 s.draws
     ∷ faults_by BadSession (fits_session s.until s.members) 0 s.sessions
-    ∷ faults_by BadDrop (fits_drop (length s.links) (length s.members)) 0 (listed_drops ms)
+    ∷ faults_by BadDrop (fits_drop (length s.links) (length s.members)) 0 listed
     ∷ [])
+
+-- all faults of a table, in the order in which they are told
+unfoldable pub faults_of : Members → List ScenarioFault
+faults_of ms =
+    key_faults ms ++ meaning_faults (described ms) (is_star (topology_of ms)) (elements_at (codes "member") entry_of ms) (listed_drops ms)
 
 -- the scenario, or the first of the faults
 abbrev pub answer : List ScenarioFault → PlainScenario → Result PlainScenario ScenarioFault

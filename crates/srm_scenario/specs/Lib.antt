@@ -8,3 +8,5 @@ pub mod Faults
 pub mod Keys
 pub mod Feed
 pub mod Scripts
+pub mod Listed
+pub mod Ranges

@@ -1,7 +1,7 @@
 //! The elements of a scenario file's arrays.
-ghost use Rattle.std.specs.Prelude.{◌≡◌, ◌⊎◌, IfOk, IfErr, [], Some, map};
+ghost use Rattle.std.specs.Prelude.{◌≡◌, IfOk, IfErr, [], map};
 ghost use Rattle.toml.specs.View.{table_view, items_view, view};
-ghost use Rattle.srm_scenario.specs.Faults.{accepted, accepted_element, element_faults, first};
+ghost use Rattle.srm_scenario.specs.Faults.{accepted, accepted_element, element_faults, IsFault};
 ghost use Rattle.srm_scenario.specs.Described.{table_of};
 
 use crate::fault::{Part, ScenarioFault};
@@ -33,7 +33,7 @@ pub(crate) fn read_elements<E: Element>(
 ) -> Result<Vec<E>, ScenarioFault>
     ensures no_fault { IfOk result (λ _. element_faults part E.rules (map view values.now) ≡ []) }
     ensures read { IfOk result (λ elements. elements.items ≡ map (λ d. E.reading (table_of (view d))) values.now) }
-    ensures fault { IfErr result (λ e. (e ≡ ScenarioFault.NoMemory) ⊎ (first (element_faults part E.rules (map view values.now)) ≡ Some e)) }
+    ensures fault { IfErr result (λ e. IsFault e (element_faults part E.rules (map view values.now))) }
 {
     let mut elements = Vec::new(alloc);
     for (place, value) in values.iter().enumerate() {

@@ -1,0 +1,67 @@
+//! Reading scenarios.
+ghost use Rattle.std.specs.Prelude.{◌≡◌, ◌⊎◌, ◌≤◌, ◌<◌, true, false, [], Ok, Err, length, map, IfOk, IfErr, MatchResult};
+ghost use Rattle.std.specs.List.{AllByRecursion};
+ghost use Rattle.toml.specs.View.{table_view};
+ghost use Rattle.srm_net.specs.Network.{plain_network, HasDelay};
+ghost use Rattle.srm_net.specs.DropSets.{ordered_once};
+ghost use Rattle.srm_net.specs.Paths.{drop_cmp};
+ghost use Rattle.srm_scenario.specs.Accepted.{IsAccepted};
+ghost use Rattle.srm_scenario.specs.Faults.{IsFault, is_star, scenario_of_table};
+ghost use Rattle.srm_scenario.specs.Listed.{links_listed, plain_of, faults_in};
+ghost use Rattle.srm_scenario.specs.Ranges.{InRange};
+ghost use Rattle.srm_scenario.specs.Trees.{is_tree};
+
+use crate::checks::{check_draws, check_drops, check_members, check_sessions};
+use crate::entry::MemberEntry;
+use crate::fault::ScenarioFault;
+use crate::listed::Listed;
+use crate::parts::MemberSpec;
+use crate::scenario::Scenario;
+use crate::topology::Topology;
+use srm_net::drops::Drops;
+use srm_net::fault::NetFault;
+use srm_net::link::{DropSpec, LinkSpec};
+use srm_net::net::Net;
+use std::alloc::{AllocError, Global};
+use toml::Table;
+
+/// Links that do not make a tree of the nodes are a fault.
+fn check_tree(alloc: Global, nodes: u16, links: &[LinkSpec]) -> Result<(), ScenarioFault>
+    requires { AllByRecursion HasDelay links.now }
+    ensures {
+        MatchResult result
+            (λ _. is_tree (plain_network nodes links.now []) ≡ true)
+            (λ e. (e ≡ ScenarioFault.NoMemory) ⊎ ((e ≡ ScenarioFault.NotTree) × (is_tree (plain_network nodes links.now []) ≡ false)))
+    }
+{
+    match Net::build(alloc, nodes, links, &[]) {
+        Ok(_) => return Ok(()),
+        Err(NetFault::NotTree) => return Err(ScenarioFault::NotTree),
+        Err(NetFault::BadDelay) => unreachable!(),
+        Err(NetFault::BadHost) => unreachable!(),
+        Err(NetFault::NoMemory) => return Err(ScenarioFault::NoMemory),
+    }
+}
+
+/// The members without what is only needed to read them.
+fn members_of(alloc: Global, entries: Vec<MemberEntry>) -> Result<Vec<MemberSpec>, AllocError>
+    ensures { IfOk result (λ members. members.items ≡ map (λ e. e.spec) entries.items) }
+{
+    entries
+        .into_iter()
+        .map(|entry| {
+            let MemberEntry { spec, has_pages: _ } = entry;
+            spec
+        })
+        .collect(alloc)
+}
+
+/// The drops, each once.
+fn drops_of(alloc: Global, drops: &[DropSpec]) -> Result<Drops, ScenarioFault>
+    ensures { MatchResult result (λ set. set ≡ ordered_once drop_cmp drops.now) (λ e. e ≡ ScenarioFault.NoMemory) }
+{
+    match Drops::of(alloc, drops) {
+        Ok(set) => return Ok(set),
+        Err(_) => return Err(ScenarioFault::NoMemory),
+    }
+}
