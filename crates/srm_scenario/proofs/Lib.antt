@@ -11,3 +11,5 @@ pub mod Shapes
 pub mod FaultLists
 pub mod TreeLemmas
 pub mod Once
+pub mod Acceptance
+pub mod Meanings

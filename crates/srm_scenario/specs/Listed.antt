@@ -1,5 +1,5 @@
 -- What is read from a table before its parts are held against one another.
-use Rattle.std.specs.Prelude.{◌≡◌, ◌-◌, List, [], Option, Some, None, codes, map}
+use Rattle.std.specs.Prelude.{◌≡◌, ℕ, ◌-◌, ◌≤◌, List, [], Option, Some, None, codes, map}
 use Rattle.toml.specs.Data.{Members}
 use Rattle.srm_net.specs.declared.link.LinkSpec.{LinkSpec}
 use Rattle.srm_net.specs.DropSets.{ordered_once}
@@ -20,6 +20,7 @@ pub record IsListed (ms : Members) (l : Listed) : Type 0 where
   pub topology : topology_of ms ≡ l.topology
   pub degree : HasDegree l.topology
   pub nodes : nodes_in (topology_of ms) ms ≡ l.nodes
+  pub some_nodes : 1 ≤ l.nodes
   pub delay : number (codes "delay") ms ≡ l.delay
   pub delay_fits : IsDelay l.topology l.delay
   pub links : elements_at (codes "link") link_of ms ≡ l.links.items
@@ -30,9 +31,10 @@ pub record IsListed (ms : Members) (l : Listed) : Type 0 where
 
 -- ---- the scenario of what is listed
 
-abbrev pub links_listed : Option Topology → Listed → List LinkSpec
-links_listed None l = l.links.items
-links_listed (Some t) l = links_to_parents t l.delay 1 (l.nodes - 1)
+-- the links of a topology with so many nodes, or else those listed
+abbrev pub links_listed : Option Topology → ℕ → ℕ → List LinkSpec → List LinkSpec
+links_listed None nodes delay links = links
+links_listed (Some t) nodes delay links = links_to_parents t delay 1 (nodes - 1)
 
 -- the scenario of what is listed
 unfoldable pub plain_of : Listed → PlainScenario
@@ -40,7 +42,7 @@ plain_of l = record {
   until = l.until;
   constants = l.constants;
   nodes = l.nodes;
-  links = links_listed l.topology l;
+  links = links_listed l.topology l.nodes l.delay l.links.items;
   members = map (λ e. e.spec) l.members.items;
   draws = l.draws.items;
   sessions = l.sessions.items;

@@ -63,6 +63,7 @@ returns-clause-listed c =
       topology = t.2.topology_is;
       degree = t.2.topology_fits;
       nodes = t.2.nodes_are;
+      some_nodes = t.2.some_nodes;
       delay = t.2.delay_is;
       delay_fits = t.2.delay_fits;
       links = elements-read link_of c.in-Some.top.shape.links.now _ _ t.2.links_are c.in_ok-links.ensures.read;
