@@ -13,3 +13,5 @@ pub mod TreeLemmas
 pub mod Once
 pub mod Acceptance
 pub mod Meanings
+pub mod InRanges
+pub mod TableAnswers

@@ -131,3 +131,18 @@ fn scenario_from(alloc: Global, listed: Listed) -> Result<Scenario, ScenarioFaul
         drops,
     })
 }
+
+/// The scenario of a table, the top table of a scenario file.
+///
+/// # Errors
+///
+/// The first fault of the table, unless memory runs out: faults of keys part by part, each part's in the order of their places,
+/// and then what does not fit the rest of the scenario.
+pub fn scenario_of(alloc: Global, table: &Table) -> Result<Scenario, ScenarioFault>
+    ensures scenario { IfOk result (λ s. scenario_of_table (table_view table.now) ≡ Ok s) }
+    ensures accepted { IfOk result IsAccepted }
+    ensures fault { IfErr result (λ e. (e ≡ ScenarioFault.NoMemory) ⊎ (scenario_of_table (table_view table.now) ≡ Err e)) }
+{
+    let listed = Listed::read(alloc, table)?;
+    scenario_from(alloc, listed)
+}
