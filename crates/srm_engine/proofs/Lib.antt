@@ -1,6 +1,8 @@
 pub mod Departed
 pub mod HandedOnce
 pub mod Index
+pub mod Counting
+pub mod NewPackets
 pub mod Hearing
 pub mod SeenLemmas
 pub mod LawProofs

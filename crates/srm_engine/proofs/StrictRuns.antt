@@ -64,7 +64,7 @@ ranks_tail : (ys xs : List Mark) → IsTail ys xs → HasOwnRanks xs → HasOwnR
 ranks_tail ys xs (inl e) h = subst HasOwnRanks (sym e) h
 ranks_tail ys xs (inr e) h = (subst HasOwnRanks e.1 h).1
 
-all_tail : {A : Type 0} (Q : A → Type 0) (ys xs : List A) → IsTail ys xs → AllIn Q xs → AllIn Q ys
+pub all_tail : {A : Type 0} (Q : A → Type 0) (ys xs : List A) → IsTail ys xs → AllIn Q xs → AllIn Q ys
 all_tail Q ys xs (inl e) h = subst (AllIn Q) (sym e) h
 all_tail Q ys xs (inr e) h = (subst (AllIn Q) e.1 h).1
 
@@ -83,14 +83,15 @@ all_both P Q R f (x ∷ xs) h g = (f x h.0 g.0, all_both P Q R f xs h.1 g.1)
 -- ---- how many packets each member sent
 
 pub sent_by : Option PlainCell → ℕ
+unfoldable pub sent_by : Option PlainCell → ℕ
 sent_by None = 0
 sent_by (Some c) = c.sent
 
-abbrev sent_of : List PlainCell → ℕ → ℕ
+abbrev pub sent_of : List PlainCell → ℕ → ℕ
 sent_of cs x = sent_by (slice_get cs x)
 
 -- the packets in an inbox were sent
-abbrev IsFresh : List PlainCell → PlainCell → Type 0
+abbrev pub IsFresh : List PlainCell → PlainCell → Type 0
 IsFresh cs c = AllIn (λ f. f.packet.id.count < sent_of cs f.packet.id.sender) c.inbox
 
 nth_number : ℕ → List ℕ → ℕ
@@ -151,7 +152,7 @@ module _ (s : Setting) (fit : IsFit s) where
         let yes : (m == m) ≡ true = eq-eqb _ _ refl in
         get_after s m d m cs ∙ ap (option_map (at_member s m d m)) facts.here ∙ ap (λ b. Some (cond b d.cell (told_to s d.row.sent m facts.cell))) yes
 
-    sent_here : sent_of cs m ≡ e.rest.sent
+    pub sent_here : sent_of cs m ≡ e.rest.sent
     unfolding sent_by
     sent_here = ap sent_by facts.here ∙ sym rest_of.sent
 
