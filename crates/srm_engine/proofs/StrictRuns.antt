@@ -82,7 +82,6 @@ all_both P Q R f (x ∷ xs) h g = (f x h.0 g.0, all_both P Q R f xs h.1 g.1)
 
 -- ---- how many packets each member sent
 
-pub sent_by : Option PlainCell → ℕ
 unfoldable pub sent_by : Option PlainCell → ℕ
 sent_by None = 0
 sent_by (Some c) = c.sent
