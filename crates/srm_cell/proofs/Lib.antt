@@ -12,3 +12,4 @@ pub mod Clear
 pub mod Leaving
 pub mod OwnRunsEnd
 pub mod FitSettings
+pub mod CellKeys

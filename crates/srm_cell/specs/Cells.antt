@@ -1,5 +1,5 @@
 -- One member's cell: its record, what is on the way to it, and the rest of its script. A cell's own step.
-use Rattle.std.specs.Prelude.{◌≡◌, ℕ, ◌+◌, ◌^◌, true, List, [], ◌∷◌, ◌++◌, map, Option, Some, None, nat_lt, ◌==◌, if◌then◌else◌}
+use Rattle.std.specs.Prelude.{◌≡◌, ◌≢◌, ℕ, ◌+◌, ◌^◌, true, List, [], ◌∷◌, ◌++◌, map, Option, Some, None, nat_lt, ◌==◌, if◌then◌else◌}
 use Rattle.std.specs.declared.cmp.Ordering.{Ordering}
 use Rattle.std.specs.declared.cmp.Ordering.TheVariants.{Less, Equal, Greater}
 use Rattle.srm_net.specs.declared.key.Key.{Key}
@@ -88,6 +88,16 @@ timer_key m d = record { time = d.time; member = m; rank = d.rank; a = d.name.so
 -- the keys of all that member m's cell has pending
 abbrev pub pending_keys : ℕ → PlainCell → List Key
 pending_keys m c = map (arrival_key m) c.inbox ++ (map (mark_key m) c.script ++ map (timer_key m) (timers c.holds))
+
+-- the key is none of the list
+abbrev pub DiffersFrom : Key → List Key → Type 0
+DiffersFrom k [] = Unit {0}
+DiffersFrom k (l ∷ ls) = (k ≢ l) × DiffersFrom k ls
+
+-- no two keys of the list are equal
+abbrev pub AllDiffer : List Key → Type 0
+AllDiffer [] = Unit {0}
+AllDiffer (k ∷ ks) = DiffersFrom k ks × AllDiffer ks
 
 -- the first arrival
 abbrev pub first_arrival : ℕ → PlainCell → List Flight → Option Event

@@ -1,6 +1,8 @@
 pub mod Departed
 pub mod HandedOnce
 pub mod Index
+pub mod Counting
+pub mod NewPackets
 pub mod Hearing
 pub mod SeenLemmas
 pub mod LawProofs
@@ -14,3 +16,4 @@ pub mod Settled
 pub mod StrictRuns
 pub mod TraceRows
 pub mod Lookahead
+pub mod PendingKeys

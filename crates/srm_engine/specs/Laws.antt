@@ -6,7 +6,7 @@ use Rattle.srm_scenario.specs.Plain.{PlainScenario, network_of}
 use Rattle.srm_scenario.specs.Accepted.{IsAccepted}
 use Rattle.srm_member.specs.declared.row.Row.{Row}
 use Rattle.srm_cell.specs.Setting.{Setting, IsFit, setting_of}
-use Rattle.srm_cell.specs.Cells.{PlainCell, Event, Silent, pending_keys, next_event, before, Idle, Full, Spent, Done}
+use Rattle.srm_cell.specs.Cells.{PlainCell, Event, Silent, pending_keys, AllDiffer, next_event, before, Idle, Full, Spent, Done}
 use Rattle.srm_cell.specs.OwnRuns.{own_end, own_rows, own_after, hear_rows}
 use Rattle.srm_engine.specs.World.{World, row_cmp, least_event, step, run, opening, IsReached}
 use Rattle.srm_engine.specs.Schedules.{scheduled, IsQuiet, rows_of, HasResult, HasNoResult, IsSafe}
@@ -34,15 +34,6 @@ KeysRise = (s : Setting) (w : World) → IsFit s → IsReached s w → Ascends r
 abbrev pub keys_from : ℕ → List PlainCell → List Key
 keys_from i [] = []
 keys_from i (c ∷ cs) = pending_keys i c ++ keys_from (suc i) cs
-
--- no two keys of the list are equal
-abbrev pub Differs : Key → List Key → Type 0
-Differs k [] = Unit {0}
-Differs k (l ∷ ls) = (k ≢ l) × Differs k ls
-
-abbrev pub AllDiffer : List Key → Type 0
-AllDiffer [] = Unit {0}
-AllDiffer (k ∷ ks) = Differs k ks × AllDiffer ks
 
 -- no two pending events of a world of the sequential run have one key
 abbrev pub PendingKeysDiffer : Type 0

@@ -5,7 +5,7 @@ pub mod Laws
 pub mod Handed
 pub mod Names
 pub mod NextTimes
-pub mod Seen
-pub mod Totalled
-pub mod Shown
 pub mod OneLoss
+pub mod Seen
+pub mod Shown
+pub mod Totalled

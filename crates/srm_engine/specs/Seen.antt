@@ -28,6 +28,11 @@ abbrev pub heard_below : Setting → Packet → ℕ → ℕ → List PlainCell �
 heard_below s p k i [] = []
 heard_below s p k i (c ∷ cs) = (if nat_lt i k then hear s p i c else c) ∷ heard_below s p k (suc i) cs
 
+-- every cell hears the packet that was sent, if any was
+abbrev pub all_hear : Setting → Option Packet → List PlainCell → List PlainCell
+all_hear s None cs = cs
+all_hear s (Some p) cs = heard_below s p (length cs) 0 cs
+
 module _ {X : Type 0} {H : X → Type 0} where
   -- the cells are seen as these plain cells, where f is what is seen of a box
   pub record AreCells (f : DynBox X Global H → Record) (cs : List (Cell X H)) (ps : List PlainCell) : Type 0 where

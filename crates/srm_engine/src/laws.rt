@@ -1,5 +1,5 @@
 //! The laws of the model, over its definitions alone.
-ghost use Rattle.srm_engine.specs.Laws.{RunsBeginEmpty, KeysRise, RunEnds, OwnRunsEnd, NeverSpent, SchedulesAgree, RefusalsAreMet, CellsRunAlone, WindowsAreSafe, PromisesAreSafe, LinkDelaysAreSafe, PromiseEndsAreSafe, MergesAgree};
+ghost use Rattle.srm_engine.specs.Laws.{RunsBeginEmpty, KeysRise, PendingKeysDiffer, CreatedEventsAreLater, RunEnds, OwnRunsEnd, NeverSpent, SchedulesAgree, RefusalsAreMet, CellsRunAlone, WindowsAreSafe, PromisesAreSafe, LinkDelaysAreSafe, PromiseEndsAreSafe, MergesAgree};
 
 /// A run begins with no row.
 pub fn runs_begin_empty()
@@ -9,6 +9,16 @@ pub fn runs_begin_empty()
 /// The keys of the rows of a sequential run rise: no two events have one key.
 pub fn keys_rise()
     ensures { KeysRise }
+{}
+
+/// No two pending events of a world of the sequential run have one key.
+pub fn pending_keys_differ()
+    ensures { PendingKeysDiffer }
+{}
+
+/// Every event that an event creates has a later time.
+pub fn created_events_are_later()
+    ensures { CreatedEventsAreLater }
 {}
 
 /// The sequential run ends: nothing is pending, or the packet count is used up.

@@ -3,6 +3,8 @@
 
 mod fault;
 mod line;
+mod options;
+mod report;
 
 use std::process::ExitCode;
 

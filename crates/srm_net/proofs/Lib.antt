@@ -11,3 +11,4 @@ pub mod TreeWays
 pub mod OrderLemmas
 pub mod ToldLemmas
 pub mod LeastLemmas
+pub mod LawProofs

@@ -34,7 +34,7 @@ apart_index (x ∷ xs) a (suc i) (suc j) h g e = ap suc (apart_index xs a.1 i j 
 pub hosts_apart : (w : Network) → IsNetwork w → (a b : ℕ) → a < length w.hosts → b < length w.hosts → a ≢ b → host w a ≢ host w b
 hosts_apart w n a b ha hb d e = d (apart_index w.hosts (apart_from_distinct w.hosts n.hosts.1) a b ha hb e)
 
-hosts_in : (nodes : ℕ) (xs : List ℕ) → All (λ n. n < nodes) xs → Below nodes xs
+pub hosts_in : (nodes : ℕ) (xs : List ℕ) → All (λ n. n < nodes) xs → Below nodes xs
 hosts_in nodes [] a x i = absurd (false≢true i)
 hosts_in nodes (y ∷ ys) a x i =
     elim (in_cases y x ys i) [ inl e ↦ subst (λ t. t < nodes) e (a 0 0 (omega arith)) | inr e ↦ hosts_in nodes ys (λ k d h. a (suc k) d (omega arith)) x e ]

@@ -12,4 +12,4 @@ pub mod Tables
 pub mod Built
 pub mod Told
 pub mod Laws
-pub mod Example
+pub mod Examples

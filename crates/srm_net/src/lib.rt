@@ -3,7 +3,6 @@
 
 mod checks;
 pub mod drops;
-pub mod example;
 pub mod fault;
 mod grid;
 pub mod key;
@@ -16,5 +15,7 @@ pub mod role;
 pub mod sequence;
 mod sides;
 mod step;
+#[cfg(test)]
+mod tests;
 mod tree;
 mod ways;

@@ -135,3 +135,9 @@ pub numbers-read : {E : Type 0} (key : List ℕ) (most high : ℕ) (ms : Members
     (λ pages. (is_met ms (rule key (numbers most high) optional) ≡ true) × (pages ≡ map (λ d. unwrap_or (number_of d) 0) (array_at key ms))))
 numbers-read key most high ms vs (Ok o) h read = one-read key most high ms vs o h read
 numbers-read key most high ms vs (Err e) h read = tt
+
+pub few_read : {A : Type 0} (vs : List Value) (reading : Value → A) (xs : List A) → xs ≡ map reading vs → length (map view vs) ≤ 4096 → length xs ≤ 4096
+few_read vs reading xs read few =
+    let a : length xs ≡ length vs = ap length read ∙ length-map vs reading in
+    let b : length (map view vs) ≡ length vs = length-map vs view in
+    omega arith

@@ -11,3 +11,7 @@ pub mod Shapes
 pub mod FaultLists
 pub mod TreeLemmas
 pub mod Once
+pub mod Acceptance
+pub mod Meanings
+pub mod InRanges
+pub mod TableAnswers

@@ -1,10 +1,11 @@
 -- What look-ups in a table give.
-use Rattle.std.specs.Prelude.{◌≡◌, ℕ, ◌≤◌, Bool, true, false, ◌&&◌, List, Option, Some, None, codes, is_some, length}
+use Rattle.std.specs.Prelude.{◌≡◌, ℕ, ◌≤◌, ◌^◌, Bool, true, false, ◌&&◌, List, Option, Some, None, codes, is_some, length}
 use Rattle.std.specs.List.{list_all}
 use Rattle.toml.specs.Data.{Data, Items, Members, get_member}
 use Rattle.srm_scenario.specs.declared.topology.Topology.{Topology}
 use Rattle.srm_scenario.specs.declared.topology.Topology.TheVariants.{Tree}
 use Rattle.srm_scenario.specs.declared.parts.Constants.{Constants}
+use Rattle.srm_scenario.specs.Accepted.{AreConstants}
 use Rattle.srm_scenario.specs.Rules.{Kind, Need, Rule, rule, whole, numbers, elements, required, optional, is_met, is_whole, is_kind, topology_rule, degree_rule, number_rules, shape_rules, array_rules}
 use Rattle.srm_scenario.specs.Described.{number, number_at, number_of, items_list, array_at, says, topology_of, constants_of, nodes_in}
 
@@ -58,7 +59,10 @@ pub record HasTopology (ms : Members) (t : Option Topology) : Type 0 where
 pub record HasNumbers (ms : Members) (until : ℕ) (constants : Constants) : Type 0 where
   pub met : list_all (is_met ms) number_rules ≡ true
   pub until_is : number (codes "until") ms ≡ until
+  pub some_ticks : 1 ≤ until
+  pub few_ticks : until ≤ 2 ^ 40
   pub constants_are : constants_of ms ≡ constants
+  pub constants_fit : AreConstants constants
 
 -- the rules of the table's nodes and links
 abbrev pub shape_of : Members → List Rule
@@ -87,4 +91,6 @@ pub record HasArrays (ms : Members) (members draws sessions drops : List Data) :
   pub members_are : members ≡ array_at (codes "member") ms
   pub draws_are : draws ≡ array_at (codes "draw") ms
   pub sessions_are : sessions ≡ array_at (codes "session") ms
+  pub few_draws : length draws ≤ 4096
+  pub few_sessions : length sessions ≤ 4096
   pub drops_are : drops ≡ array_at (codes "drop") ms

@@ -1,12 +1,12 @@
 //! Whether the parts of a scenario fit one another.
-ghost use Rattle.std.specs.Prelude.{◌≡◌, [], Some, MatchResult};
+ghost use Rattle.std.specs.Prelude.{◌≡◌, [], Some, MatchResult, length};
 ghost use Rattle.srm_scenario.specs.declared.fault.ScenarioFault.TheVariants.{BadDraw, BadSession, BadDrop};
 ghost use Rattle.srm_scenario.specs.Faults.{first, faults_by, is_taken, member_faults, fits_member, is_there, fits_draw, fits_session, fits_drop};
 
 use crate::entry::MemberEntry;
 use crate::fault::ScenarioFault;
 use crate::parts::{DrawSpec, MemberSpec, SessionSpec};
-use srm_net::link::DropSpec;
+use srm_net::link::{DropSpec, LinkSpec};
 use srm_net::role::Role;
 
 /// Whether a member is there at this time, which is before the end of the run.
@@ -80,16 +80,16 @@ pub(crate) fn check_sessions(
 
 /// The first drop that names no link or no member is a fault.
 pub(crate) fn check_drops(
-    links: usize,
-    members: usize,
+    links: &[LinkSpec],
+    members: &[MemberSpec],
     drops: &[DropSpec],
 ) -> Result<(), ScenarioFault>
     ensures { MatchResult result
-        (λ _. faults_by BadDrop (fits_drop links members) 0 drops.now ≡ [])
-        (λ e. first (faults_by BadDrop (fits_drop links members) 0 drops.now) ≡ Some e) }
+        (λ _. faults_by BadDrop (fits_drop (length links.now) (length members.now)) 0 drops.now ≡ [])
+        (λ e. first (faults_by BadDrop (fits_drop (length links.now) (length members.now)) 0 drops.now) ≡ Some e) }
 {
     for (place, drop) in drops.iter().enumerate() {
-        let fits = (drop.link as usize) < links && (drop.id.sender as usize) < members;
+        let fits = (drop.link as usize) < links.len() && (drop.id.sender as usize) < members.len();
         if !fits {
             return Err(ScenarioFault::BadDrop { place });
         }

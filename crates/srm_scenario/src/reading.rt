@@ -7,8 +7,9 @@ ghost use Rattle.srm_net.specs.DropSets.{ordered_once};
 ghost use Rattle.srm_net.specs.Paths.{drop_cmp};
 ghost use Rattle.srm_scenario.specs.Accepted.{IsAccepted};
 ghost use Rattle.srm_scenario.specs.Faults.{IsFault, is_star, scenario_of_table};
+ghost use Rattle.srm_scenario.specs.Keys.{HasDegree};
 ghost use Rattle.srm_scenario.specs.Listed.{links_listed, plain_of, faults_in};
-ghost use Rattle.srm_scenario.specs.Ranges.{InRange};
+ghost use Rattle.srm_scenario.specs.Ranges.{InRange, HasItsPages};
 ghost use Rattle.srm_scenario.specs.Trees.{is_tree};
 
 use crate::checks::{check_draws, check_drops, check_members, check_sessions};
@@ -28,11 +29,9 @@ use toml::Table;
 /// Links that do not make a tree of the nodes are a fault.
 fn check_tree(alloc: Global, nodes: u16, links: &[LinkSpec]) -> Result<(), ScenarioFault>
     requires { AllByRecursion HasDelay links.now }
-    ensures {
-        MatchResult result
-            (λ _. is_tree (plain_network nodes links.now []) ≡ true)
-            (λ e. (e ≡ ScenarioFault.NoMemory) ⊎ ((e ≡ ScenarioFault.NotTree) × (is_tree (plain_network nodes links.now []) ≡ false)))
-    }
+    ensures { MatchResult result
+        (λ _. is_tree (plain_network nodes links.now []) ≡ true)
+        (λ e. (e ≡ ScenarioFault.NoMemory) ⊎ ((e ≡ ScenarioFault.NotTree) × (is_tree (plain_network nodes links.now []) ≡ false))) }
 {
     match Net::build(alloc, nodes, links, &[]) {
         Ok(_) => return Ok(()),
@@ -64,4 +63,86 @@ fn drops_of(alloc: Global, drops: &[DropSpec]) -> Result<Drops, ScenarioFault>
         Ok(set) => return Ok(set),
         Err(_) => return Err(ScenarioFault::NoMemory),
     }
+}
+
+/// Whether the topology is a star, whose hub hosts nobody.
+fn is_star(topology: Option<Topology>) -> bool
+    ensures { result ≡ is_star topology }
+{
+    matches!(topology, Some(Topology::Star))
+}
+
+/// The links of the topology, or else those listed.
+fn links_of(
+    alloc: Global,
+    topology: Option<Topology>,
+    nodes: u16,
+    delay: u64,
+    links: Vec<LinkSpec>,
+) -> Result<Vec<LinkSpec>, AllocError>
+    requires nodes { 1 ≤ nodes }
+    requires degree { HasDegree topology }
+    ensures { IfOk result (λ all. all.items ≡ links_listed topology nodes delay links.items) }
+{
+    match topology {
+        Some(topology) => topology.links(alloc, nodes, delay),
+        None => Ok(links),
+    }
+}
+
+/// The scenario of what is listed, whose numbers are in range. What does not fit the rest is refused, the first of it.
+fn scenario_from(alloc: Global, listed: Listed) -> Result<Scenario, ScenarioFault>
+    requires nodes { 1 ≤ listed.nodes }
+    requires degree { HasDegree listed.topology }
+    requires range { InRange (plain_of listed) }
+    requires pages { AllByRecursion HasItsPages listed.members.items }
+    ensures no_fault { IfOk result (λ _. faults_in listed ≡ []) }
+    ensures plain { IfOk result (λ s. s ≡ plain_of listed) }
+    ensures fault { IfErr result (λ e. IsFault e (faults_in listed)) }
+{
+    let Listed {
+        until,
+        constants,
+        topology,
+        nodes,
+        delay,
+        links,
+        members: entries,
+        draws,
+        sessions,
+        drops,
+    } = listed;
+    let links = links_of(alloc, topology, nodes, delay, links)?;
+    check_tree(alloc, nodes, &links)?;
+    check_members(until, nodes, is_star(topology), &entries)?;
+    let members = members_of(alloc, entries)?;
+    check_draws(until, &members, &draws)?;
+    check_sessions(until, &members, &sessions)?;
+    check_drops(&links, &members, &drops)?;
+    let drops = drops_of(alloc, &drops)?;
+    Ok(Scenario {
+        until,
+        constants,
+        nodes,
+        links,
+        members,
+        draws,
+        sessions,
+        drops,
+    })
+}
+
+/// The scenario of a table, the top table of a scenario file.
+///
+/// # Errors
+///
+/// The first fault of the table, unless memory runs out: faults of keys part by part, each part's in the order of their places,
+/// and then what does not fit the rest of the scenario.
+pub fn scenario_of(alloc: Global, table: &Table) -> Result<Scenario, ScenarioFault>
+    ensures scenario { IfOk result (λ s. scenario_of_table (table_view table.now) ≡ Ok s) }
+    ensures accepted { IfOk result IsAccepted }
+    ensures fault { IfErr result (λ e. (e ≡ ScenarioFault.NoMemory) ⊎ (scenario_of_table (table_view table.now) ≡ Err e)) }
+{
+    let listed = Listed::read(alloc, table)?;
+    scenario_from(alloc, listed)
 }

@@ -6,7 +6,7 @@ use Rattle.srm_scenario.specs.declared.fault.Part.TheVariants as part
 use Rattle.srm_scenario.specs.Rules.{link_rules, member_rules, draw_rules, session_rules, drop_rules}
 use Rattle.srm_scenario.specs.Described.{array_at, link_of, draw_of, session_of, drop_of}
 use Rattle.srm_scenario.specs.Faults.{IsFault, element_faults, entry_of}
-use Rattle.srm_scenario.proofs.Arrays.{elements-read}
+use Rattle.srm_scenario.proofs.Arrays.{elements-read, few_read}
 use Rattle.srm_scenario.proofs.FaultLists.{top_fault, link_fault, member_fault, draw_fault, session_fault, drop_fault, no_key_fault}
 use Rattle.srm_scenario.proofs.listed.Listed.read.Goals as goal
 
@@ -59,10 +59,14 @@ returns-clause-listed c =
     record {
       no_fault = no_key_fault (table_view c.args.table.now) t.0 (ap (element_faults part.Link link_rules) (sym t.2.links_are) ∙ c.in_ok-links.ensures.no_fault) (ap (element_faults part.Member member_rules) (sym t.3.members_are) ∙ c.in_ok-members.ensures.no_fault) (ap (element_faults part.Draw draw_rules) (sym t.3.draws_are) ∙ c.in_ok-draws.ensures.no_fault) (ap (element_faults part.Session session_rules) (sym t.3.sessions_are) ∙ c.in_ok-sessions.ensures.no_fault) (ap (element_faults part.Drop drop_rules) (sym t.3.drops_are) ∙ c.in_ok-drops.ensures.no_fault);
       until = t.1.until_is;
+      some_ticks = t.1.some_ticks;
+      few_ticks = t.1.few_ticks;
       constants = t.1.constants_are;
+      constants_fit = t.1.constants_fit;
       topology = t.2.topology_is;
       degree = t.2.topology_fits;
       nodes = t.2.nodes_are;
+      some_nodes = t.2.some_nodes;
       delay = t.2.delay_is;
       delay_fits = t.2.delay_fits;
       links = elements-read link_of c.in-Some.top.shape.links.now _ _ t.2.links_are c.in_ok-links.ensures.read;
@@ -70,4 +74,6 @@ returns-clause-listed c =
       draws = elements-read draw_of c.in-Some.top.arrays.draws.now _ _ t.3.draws_are c.in_ok-draws.ensures.read;
       sessions = elements-read session_of c.in-Some.top.arrays.sessions.now _ _ t.3.sessions_are c.in_ok-sessions.ensures.read;
       drops = elements-read drop_of c.in-Some.top.arrays.drops.now _ _ t.3.drops_are c.in_ok-drops.ensures.read;
+      few_draws = few_read c.in-Some.top.arrays.draws.now _ _ c.in_ok-draws.ensures.read t.3.few_draws;
+      few_sessions = few_read c.in-Some.top.arrays.sessions.now _ _ c.in_ok-sessions.ensures.read t.3.few_sessions;
     }
