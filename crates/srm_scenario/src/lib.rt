@@ -18,3 +18,6 @@ pub mod script;
 mod table;
 mod top;
 pub mod topology;
+
+#[cfg(test)]
+mod tests;
