@@ -4,9 +4,9 @@ use Rattle.std.specs.Ordering.{eq_by_cmp, is_eq, ordering_reverse}
 use Rattle.std.specs.FinMap.Entries.{put, find, by_order, is_sorted, below_all}
 use Rattle.rand_pcg.specs.Pcg.{pcg32}
 use Rattle.srm_cell.proofs.CellLemmas.{first_timer, next_event_is}
-use Rattle.srm_cell.proofs.Rising.{Above, OnEvent, OnStep, arrival_key, earlier_on, mark_key, step_above, timer_key}
+use Rattle.srm_cell.proofs.Rising.{Above, OnEvent, OnStep, earlier_on, step_above}
+use Rattle.srm_cell.specs.Cells.{arrival_key, mark_key, timer_key, Done, Event, Full, PlainCell, Stepped, before, cause_of_timer, first_arrival, first_mark, handle, next_event, sending_step, step_at}
 use Rattle.srm_cell.proofs.Tidy.{NotBefore, flight_keys, mark_keys}
-use Rattle.srm_cell.specs.Cells.{Done, Event, Full, PlainCell, Stepped, before, cause_of_timer, first_arrival, first_mark, handle, next_event, sending_step, step_at}
 use Rattle.srm_cell.specs.Flights.{flight_cmp}
 use Rattle.srm_cell.specs.Setting.{HasOwnRanks}
 use Rattle.srm_cell.specs.declared.flight.Flight.{Flight}
@@ -70,7 +70,7 @@ then_after k l h ne = elim (key_cmp k l) as (λ r. key_cmp k l ≡ r → key_cmp
 ] refl
 
 -- timers of two names at one tick and of one rank have different keys
-timer_differs : (m rank t : ℕ) (n k : Name) (u : ℕ) → (name_cmp n k ≡ Equal → u ≢ t) → Differs (timer_key m (record { time = t; rank = rank; name = n })) (timer_key m (record { time = u; rank = rank; name = k }))
+pub timer_differs : (m rank t : ℕ) (n k : Name) (u : ℕ) → (name_cmp n k ≡ Equal → u ≢ t) → Differs (timer_key m (record { time = t; rank = rank; name = n })) (timer_key m (record { time = u; rank = rank; name = k }))
 unfolding nth_number
 timer_differs m rank t n k u apart e =
     let same = same_keys (timer_key m (record { time = t; rank = rank; name = n })) (timer_key m (record { time = u; rank = rank; name = k })) e in
@@ -108,11 +108,11 @@ module _ {V : Type 0} (p : V → Type 0) where
     | false ↦ λ q. ((λ x. absurd (true≢false (sym (ap is_eq x) ∙ q))), without_clear n es)
   ] refl
 
-all_in : {A : Type 0} (P Q : A → Type 0) → ((x : A) → P x → Q x) → (xs : List A) → AllIn P xs → AllIn Q xs
+pub all_in : {A : Type 0} (P Q : A → Type 0) → ((x : A) → P x → Q x) → (xs : List A) → AllIn P xs → AllIn Q xs
 all_in P Q f [] h = tt
 all_in P Q f (x ∷ xs) h = (f x h.0, all_in P Q f xs h.1)
 
-all_here : {A : Type 0} (Q : A → Type 0) → ((x : A) → Q x) → (xs : List A) → AllIn Q xs
+pub all_here : {A : Type 0} (Q : A → Type 0) → ((x : A) → Q x) → (xs : List A) → AllIn Q xs
 all_here Q f [] = tt
 all_here Q f (x ∷ xs) = (f x, all_here Q f xs)
 
@@ -178,27 +178,27 @@ Besides m c e =
     ⊎ ((e.rest ≡ c) × (AllIn (λ f. Differs e.key (arrival_key m f)) c.inbox) × (AllIn (λ k. Differs e.key (mark_key m k)) c.script)
     × ((d : Due) × In d (timers c.holds) × (e.key ≡ timer_key m d) × (e.cause ≡ Some (cause_of_timer d.rank d.name))))
 
-flights_differ : (m : ℕ) (f : Flight) (fs : List Flight) → AllAfter flight_cmp f fs → AllIn (λ g. Differs (arrival_key m f) (arrival_key m g)) fs
+pub flights_differ : (m : ℕ) (f : Flight) (fs : List Flight) → AllAfter flight_cmp f fs → AllIn (λ g. Differs (arrival_key m f) (arrival_key m g)) fs
 flights_differ m f [] h = tt
 flights_differ m f (g ∷ gs) h = ((λ e. let x : Less ≡ Equal = sym h.0 ∙ sym (flight_keys m f g) ∙ e in cc), flights_differ m f gs h.1)
 
-marks_differ : (m : ℕ) (k : Mark) (ks : List Mark) → AllAfter mark_cmp k ks → AllIn (λ l. Differs (mark_key m k) (mark_key m l)) ks
+pub marks_differ : (m : ℕ) (k : Mark) (ks : List Mark) → AllAfter mark_cmp k ks → AllIn (λ l. Differs (mark_key m k) (mark_key m l)) ks
 marks_differ m k [] h = tt
 marks_differ m k (l ∷ ls) h = ((λ e. let x : Less ≡ Equal = sym h.0 ∙ sym (mark_keys m k l) ∙ e in cc), marks_differ m k ls h.1)
 
 -- marks have other ranks than arrivals and timers
-marks_apart : (m : ℕ) (k : Key) (ks : List Mark) → HasOwnRanks ks → 0 < k.rank → k.rank ≤ 3 → AllIn (λ l. Differs k (mark_key m l)) ks
+pub marks_apart : (m : ℕ) (k : Key) (ks : List Mark) → HasOwnRanks ks → 0 < k.rank → k.rank ≤ 3 → AllIn (λ l. Differs k (mark_key m l)) ks
 marks_apart m k [] h low high = tt
 marks_apart m k (l ∷ ls) h low high = (differ_rank k (mark_key m l) (λ e. elim h.0 [ inl z ↦ (let q : k.rank ≡ l.rank = e in omega arith) | inr z ↦ (let q : k.rank ≡ l.rank = e in omega arith) ]), marks_apart m k ls h.1 low high)
 
 -- a cell's timers have ranks 2 and 3
-due_ranks : (holds : Record) → AllIn (λ (d : Due). (d.rank ≡ 2) ⊎ (d.rank ≡ 3)) (timers holds)
+pub due_ranks : (holds : Record) → AllIn (λ (d : Due). (d.rank ≡ 2) ⊎ (d.rank ≡ 3)) (timers holds)
 due_ranks (Active m) = AllIn-append (λ (d : Due). (d.rank ≡ 2) ⊎ (d.rank ≡ 3)) _ _
     (AllIn-map (λ (d : Due). (d.rank ≡ 2) ⊎ (d.rank ≡ 3)) _ m.missing (all_here _ (λ e. inl refl) m.missing))
     (AllIn-map (λ (d : Due). (d.rank ≡ 2) ⊎ (d.rank ≡ 3)) _ m.repairs (all_here _ (λ e. inr refl) m.repairs))
 due_ranks (Gone f) = tt
 
-dues_apart : (m : ℕ) (k : Key) (ds : List Due) → k.rank ≢ 2 → k.rank ≢ 3 → AllIn (λ (d : Due). (d.rank ≡ 2) ⊎ (d.rank ≡ 3)) ds → AllIn (λ d. Differs k (timer_key m d)) ds
+pub dues_apart : (m : ℕ) (k : Key) (ds : List Due) → k.rank ≢ 2 → k.rank ≢ 3 → AllIn (λ (d : Due). (d.rank ≡ 2) ⊎ (d.rank ≡ 3)) ds → AllIn (λ d. Differs k (timer_key m d)) ds
 dues_apart m k ds two three h = all_in (λ (d : Due). (d.rank ≡ 2) ⊎ (d.rank ≡ 3)) (λ d. Differs k (timer_key m d)) (λ d r. differ_rank k (timer_key m d) (λ e. elim r [ inl q ↦ two (e ∙ q) | inr q ↦ three (e ∙ q) ])) ds h
 
 rank_in : (d : Due) (ds : List Due) → AllIn (λ (d : Due). (d.rank ≡ 2) ⊎ (d.rank ≡ 3)) ds → In d ds → (d.rank ≡ 2) ⊎ (d.rank ≡ 3)

@@ -1,8 +1,8 @@
 -- A step at a tick leaves fewer events pending at that tick.
 use Rattle.std.proofs.Common.{◌≡◌, ℕ, suc, ◌<◌, ◌≤◌, ◌+◌, ◌^◌, Bool, true, false, cond, List, [], ◌∷◌, map, refl, sym, ap, ◌∙◌, subst, ◌⊎◌, inl, inr, arith, Option, Some, None, nat_lt, eq-eqb, ◌==◌, le_refl}
 use Rattle.srm_cell.proofs.CellLemmas.{first_timer, next_event_is}
-use Rattle.srm_cell.proofs.Rising.{Above, OnEvent, OnStep, arrival_key, earlier_on, mark_key, timer_key}
-use Rattle.srm_cell.specs.Cells.{Done, Event, Full, PlainCell, Stepped, cause_of_timer, first_arrival, first_mark, handle, next_event, pending_at, sending_step, step_at, untimed_at}
+use Rattle.srm_cell.proofs.Rising.{Above, OnEvent, OnStep, earlier_on}
+use Rattle.srm_cell.specs.Cells.{arrival_key, mark_key, timer_key, Done, Event, Full, PlainCell, Stepped, cause_of_timer, first_arrival, first_mark, handle, next_event, pending_at, sending_step, step_at, untimed_at}
 use Rattle.srm_cell.specs.declared.flight.Flight.{Flight}
 use Rattle.srm_member.proofs.AllIn.{AllIn}
 use Rattle.srm_member.proofs.FewerTimers.{In, IsSound, SoundRecord, fewer_answers, fewer_asks, in_append, in_map, no_more, one_if, sound_react}

@@ -11,3 +11,5 @@ pub mod Counts
 pub mod Clear
 pub mod Leaving
 pub mod OwnRunsEnd
+pub mod FitSettings
+pub mod CellKeys

@@ -1,7 +1,7 @@
 -- Bounds on all that a cell has pending, and the row of a step.
 use Rattle.std.proofs.Common.{◌≡◌, ℕ, ◌<◌, ◌^◌, Bool, true, false, cond, List, [], ◌∷◌, refl, sym, subst, Ordering, Less, Equal, Greater, Option, Some, None, nat_lt}
 use Rattle.srm_cell.proofs.CellLemmas.{first_timer, keep, next_event_is}
-use Rattle.srm_cell.specs.Cells.{Done, Event, Full, Idle, PlainCell, Spent, StepOutcome, Stepped, before, by_key, earlier, first_arrival, first_mark, handle, hear_at, next_event, sending_step, step_at}
+use Rattle.srm_cell.specs.Cells.{arrival_key, mark_key, timer_key, Done, Event, Full, Idle, PlainCell, Spent, StepOutcome, Stepped, before, by_key, earlier, first_arrival, first_mark, handle, hear_at, next_event, sending_step, step_at}
 use Rattle.srm_cell.specs.Flights.{flight_cmp}
 use Rattle.srm_cell.specs.declared.flight.Flight.{Flight}
 use Rattle.srm_member.proofs.AllIn.{AllIn, AllIn-place}
@@ -15,15 +15,6 @@ use Rattle.srm_net.specs.declared.key.Key.{Key}
 use Rattle.srm_net.specs.declared.packet.Body.{Body}
 use Rattle.srm_net.specs.declared.packet.Packet.{Packet}
 use Rattle.srm_scenario.specs.declared.mark.Mark.{Mark}
-
-abbrev pub arrival_key : ℕ → Flight → Key
-arrival_key m f = record { time = f.arrival; member = m; rank = 1; a = f.packet.id.sender; b = 0; c = f.packet.id.count }
-
-abbrev pub mark_key : ℕ → Mark → Key
-mark_key m k = record { time = k.at; member = m; rank = k.rank; a = 0; b = 0; c = k.place }
-
-abbrev pub timer_key : ℕ → Due → Key
-timer_key m d = record { time = d.time; member = m; rank = d.rank; a = d.name.source; b = d.name.page; c = d.name.number }
 
 abbrev pub OnEvent : (Event → Type 0) → Option Event → Type 0
 OnEvent Q None = Unit {0}

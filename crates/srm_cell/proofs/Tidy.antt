@@ -3,8 +3,8 @@ use Rattle.std.proofs.Common.{◌≡◌, ℕ, ◌<◌, ◌≤◌, ◌+◌, ◌^�
 use Rattle.std.proofs.lemmas.Bool.{eqb-false}
 use Rattle.srm_cell.proofs.CellLemmas.{first_le, first_timer, next_event_is}
 use Rattle.srm_cell.proofs.CellSteps.{flight_total}
-use Rattle.srm_cell.proofs.Rising.{Above, OnEvent, OnStep, arrival_key, earlier_on, mark_key, timer_key}
-use Rattle.srm_cell.specs.Cells.{Done, Event, Full, PlainCell, Stepped, by_key, earlier, first_arrival, first_mark, handle, hear, hear_at, next_event, sending_step, step_at}
+use Rattle.srm_cell.proofs.Rising.{Above, OnEvent, OnStep, earlier_on}
+use Rattle.srm_cell.specs.Cells.{arrival_key, mark_key, timer_key, Done, Event, Full, PlainCell, Stepped, by_key, earlier, first_arrival, first_mark, handle, hear, hear_at, next_event, sending_step, step_at}
 use Rattle.srm_cell.specs.Flights.{flight_cmp}
 use Rattle.srm_cell.specs.OwnRuns.{told_to}
 use Rattle.srm_cell.specs.Setting.{Setting, arrival_of, is_up_to}

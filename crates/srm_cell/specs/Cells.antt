@@ -1,5 +1,5 @@
 -- One member's cell: its record, what is on the way to it, and the rest of its script. A cell's own step.
-use Rattle.std.specs.Prelude.{◌≡◌, ℕ, ◌+◌, ◌^◌, true, List, [], ◌∷◌, Option, Some, None, nat_lt, ◌==◌, if◌then◌else◌}
+use Rattle.std.specs.Prelude.{◌≡◌, ◌≢◌, ℕ, ◌+◌, ◌^◌, true, List, [], ◌∷◌, ◌++◌, map, Option, Some, None, nat_lt, ◌==◌, if◌then◌else◌}
 use Rattle.std.specs.declared.cmp.Ordering.{Ordering}
 use Rattle.std.specs.declared.cmp.Ordering.TheVariants.{Less, Equal, Greater}
 use Rattle.srm_net.specs.declared.key.Key.{Key}
@@ -21,7 +21,7 @@ use Rattle.srm_member.specs.declared.row.Row.{Row}
 use Rattle.srm_member.specs.declared.due.Due.{Due}
 use Rattle.srm_member.specs.declared.exit.Exit.{Exit}
 use Rattle.srm_member.specs.declared.react.React.{React}
-use Rattle.srm_member.specs.Record.{Record, Active, Gone, opening_record, due_of, exit_of, count_if, timers_at}
+use Rattle.srm_member.specs.Record.{Record, Active, Gone, opening_record, timers, due_of, exit_of, count_if, timers_at}
 use Rattle.srm_member.specs.React.{Reaction, is_listener, react}
 use Rattle.srm_cell.specs.declared.flight.Flight.{Flight}
 use Rattle.srm_cell.specs.Setting.{Setting, arrival_of, cause_of_mark}
@@ -73,11 +73,37 @@ earlier None e = e
 earlier (Some d) None = Some d
 earlier (Some d) (Some e) = Some (by_key (key_cmp d.key e.key) d e)
 
+-- the key of an arrival
+abbrev pub arrival_key : ℕ → Flight → Key
+arrival_key m f = record { time = f.arrival; member = m; rank = 1; a = f.packet.id.sender; b = 0; c = f.packet.id.count }
+
+-- the key of a mark
+abbrev pub mark_key : ℕ → Mark → Key
+mark_key m k = record { time = k.at; member = m; rank = k.rank; a = 0; b = 0; c = k.place }
+
+-- the key of a timer
+abbrev pub timer_key : ℕ → Due → Key
+timer_key m d = record { time = d.time; member = m; rank = d.rank; a = d.name.source; b = d.name.page; c = d.name.number }
+
+-- the keys of all that member m's cell has pending
+abbrev pub pending_keys : ℕ → PlainCell → List Key
+pending_keys m c = map (arrival_key m) c.inbox ++ (map (mark_key m) c.script ++ map (timer_key m) (timers c.holds))
+
+-- the key is none of the list
+abbrev pub DiffersFrom : Key → List Key → Type 0
+DiffersFrom k [] = Unit {0}
+DiffersFrom k (l ∷ ls) = (k ≢ l) × DiffersFrom k ls
+
+-- no two keys of the list are equal
+abbrev pub AllDiffer : List Key → Type 0
+AllDiffer [] = Unit {0}
+AllDiffer (k ∷ ks) = DiffersFrom k ks × AllDiffer ks
+
 -- the first arrival
 abbrev pub first_arrival : ℕ → PlainCell → List Flight → Option Event
 first_arrival m c [] = None
 first_arrival m c (f ∷ fs) = Some (record {
-  key = record { time = f.arrival; member = m; rank = 1; a = f.packet.id.sender; b = 0; c = f.packet.id.count };
+  key = arrival_key m f;
   cause = Some (Arrival f.packet);
   rest = record c { inbox = fs };
 })
@@ -86,7 +112,7 @@ first_arrival m c (f ∷ fs) = Some (record {
 abbrev pub first_mark : ℕ → PlainCell → List Mark → Option Event
 first_mark m c [] = None
 first_mark m c (k ∷ ks) = Some (record {
-  key = record { time = k.at; member = m; rank = k.rank; a = 0; b = 0; c = k.place };
+  key = mark_key m k;
   cause = cause_of_mark k;
   rest = record c { script = ks };
 })
@@ -98,7 +124,7 @@ cause_of_timer rank n = if rank == 2 then Ask n else Answer n
 -- a timer of the record
 abbrev pub timer_event : ℕ → PlainCell → Due → Event
 timer_event m c d = record {
-  key = record { time = d.time; member = m; rank = d.rank; a = d.name.source; b = d.name.page; c = d.name.number };
+  key = timer_key m d;
   cause = Some (cause_of_timer d.rank d.name);
   rest = c;
 }

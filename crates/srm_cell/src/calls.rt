@@ -78,14 +78,14 @@ impl Cell {
     }
 
     // The member reacts to a cause. After an error the cell holds no box.
-    fn say(&mut self, key: Key, cause: &Cause) -> Result<Row, CellFault>
+    fn say(&mut self, alloc: Global, key: Key, cause: &Cause) -> Result<Row, CellFault>
         requires { key.time < 2 ^ 40 }
         ensures { (m : ℕ) (e : E) → IsCell (λ b. plain b) m self.old e.rest → key ≡ e.key → e.cause ≡ Some cause.now → TellsRow (λ b. plain b) m (handle e e.rest.holds e.cause) result self.new }
     {
         let Some(mut member) = self.member.take() else {
             return Err(CellFault::Spent);
         };
-        let reaction = match react(&mut member, key.time, cause) {
+        let reaction = match react(alloc, &mut member, key.time, cause) {
             Ok(reaction) => reaction,
             Err(MemberFault::NoMemory) => return Err(CellFault::NoMemory),
             Err(MemberFault::Spent) => return Err(CellFault::Spent),
@@ -133,7 +133,7 @@ impl Cell {
         let Some(mut member) = self.member.take() else {
             return Err(CellFault::Spent);
         };
-        match finish(&mut member) {
+        match finish(alloc, &mut member) {
             Err(MemberFault::NoMemory) => Err(CellFault::NoMemory),
             Err(MemberFault::Spent) => Err(CellFault::Spent),
             Ok(exit) => {
@@ -156,7 +156,7 @@ impl Cell {
         ensures { (m : ℕ) (e : E) → IsCell (λ b. plain b) m self.old e.rest → key ≡ e.key → e.cause ≡ cause → TellsRow (λ b. plain b) m (handle e e.rest.holds e.cause) result self.new }
     {
         match cause {
-            Some(cause) => self.say(key, &cause),
+            Some(cause) => self.say(alloc, key, &cause),
             None => self.leave(alloc, key),
         }
     }
@@ -181,7 +181,7 @@ impl Cell {
     }
 
     /// What the member ends with: as it left, or else as it ends now. Its box is dropped.
-    pub fn finish(self) -> Result<Exit, CellFault>
+    pub fn finish(self, alloc: Global) -> Result<Exit, CellFault>
         ensures { (m : ℕ) (p : PlainCell) → IsCell (λ b. plain b) m self p → TellsExit p result }
     {
         let Cell { member, exit, .. } = self;
@@ -191,7 +191,7 @@ impl Cell {
         let Some(mut member) = member else {
             return Err(CellFault::Spent);
         };
-        match finish(&mut member) {
+        match finish(alloc, &mut member) {
             Ok(exit) => Ok(exit),
             Err(MemberFault::NoMemory) => Err(CellFault::NoMemory),
             Err(MemberFault::Spent) => Err(CellFault::Spent),
@@ -199,15 +199,20 @@ impl Cell {
     }
 }
 
-fn react(member: &mut Box<dyn Member>, at: u64, cause: &Cause) -> Result<React, MemberFault>
+fn react(
+    alloc: Global,
+    member: &mut Box<dyn Member>,
+    at: u64,
+    cause: &Cause,
+) -> Result<React, MemberFault>
     requires { at < 2 ^ 40 }
     ensures { Reacts (plain member.old) at cause.now result (plain member.new) }
 {
-    member.react(at, cause)
+    member.react(alloc, at, cause)
 }
 
-fn finish(member: &mut Box<dyn Member>) -> Result<Exit, MemberFault>
+fn finish(alloc: Global, member: &mut Box<dyn Member>) -> Result<Exit, MemberFault>
     ensures { Finishes (plain member.old) result (plain member.new) }
 {
-    member.finish()
+    member.finish(alloc)
 }

@@ -20,6 +20,7 @@ use Rattle.srm_cell.specs.Flights.{flight_cmp}
 use Rattle.srm_cell.specs.Setting.{Setting, arrival_of}
 use Rattle.srm_cell.specs.Cells.{PlainCell, hear_at, hear, Event, by_key, earlier, first_arrival, first_mark, next_timer, next_event, before, Idle, Stepped, word_of_body, word_of, drawn, about_of, packet_of}
 use Rattle.srm_cell.specs.OwnRuns.{told_to}
+use Rattle.srm_cell.proofs.CellLemmas.{first_le, second_le}
 use Rattle.srm_engine.specs.World.{World, settled, least_event, step, opening, opening_cells, IsReached, IsLast}
 use Rattle.srm_engine.specs.Handed.{SentIn, same_packet, is_arrival, handing_count, is_sending, sending_count, PacketsAreNumbered, PacketsAreHandedOnce, HandedPacketsWereSent, PacketsAreTheirIdentities}
 use Rattle.srm_engine.proofs.OneStep.{TakesFlight, NoArrival, Takes, Sends, Steps, StepFacts, step_facts, same_some, here_after, there_after, each_after, length_after, length_opening, nothing_left, run_keeps, arrival_is}
@@ -527,29 +528,10 @@ module _ (s : Setting) where
   late_none None h = tt
   late_none (Some e) h = Rattle.std.proofs.Common.ltb-false _ _ (none_kept (nat_lt e.key.time s.until) e h)
 
-  head_le : (a b : ℕ) (o : Ordering) → Rattle.std.specs.Ordering.ordering_then (Rattle.std.proofs.Common.nat_cmp a b) o ≢ Greater → a ≤ b
-  head_le a b o h = elim (nat_lt a b) as (λ l. nat_lt a b ≡ l → a ≤ b) [
-    | true ↦ λ e. let f : a < b = Rattle.std.proofs.Common.ltb-true a b e in omega arith
-    | false ↦ λ e. elim (a == b) as (λ q. (a == b) ≡ q → a ≤ b) [
-      | true ↦ λ q. let f : a ≡ b = eqb-true a b q in omega arith
-      | false ↦ λ q. absurd (h (simp (e, q)))
-    ] refl
-  ] refl
-
-  -- of two keys the greater has no earlier time
-  greater_time : (k l : Key) → key_cmp k l ≡ Greater → l.time ≤ k.time
-  greater_time k l h = elim (nat_lt k.time l.time) as (λ b. nat_lt k.time l.time ≡ b → l.time ≤ k.time) [
-    | true ↦ λ e. let x : Less ≡ Greater = sym (less_first e) ∙ h in cc
-    | false ↦ λ e. Rattle.std.proofs.Common.ltb-false _ _ e
-  ] refl
-    where
-      less_first : nat_lt k.time l.time ≡ true → key_cmp k l ≡ Less
-      less_first e = simp e
-
   late_by : (r : Ordering) (d e : Event) → key_cmp d.key e.key ≡ r → s.until ≤ (by_key r d e).key.time → (s.until ≤ d.key.time) × (s.until ≤ e.key.time)
-  late_by Less d e q h = (h, (let le : d.key.time ≤ e.key.time = head_le d.key.time e.key.time _ (λ g. let x : Less ≡ Greater = sym q ∙ g in cc) in omega arith))
-  late_by Equal d e q h = (h, (let le : d.key.time ≤ e.key.time = head_le d.key.time e.key.time _ (λ g. let x : Equal ≡ Greater = sym q ∙ g in cc) in omega arith))
-  late_by Greater d e q h = ((let le = greater_time d.key e.key q in omega arith), h)
+  late_by Less d e q h = (h, (let le : d.key.time ≤ e.key.time = first_le d.key e.key (λ g. let x : Less ≡ Greater = sym q ∙ g in cc) in omega arith))
+  late_by Equal d e q h = (h, (let le : d.key.time ≤ e.key.time = first_le d.key e.key (λ g. let x : Equal ≡ Greater = sym q ∙ g in cc) in omega arith))
+  late_by Greater d e q h = ((let le = second_le d.key e.key q in omega arith), h)
 
   late_earlier : (x y : Option Event) → Late (earlier x y) → Late x × Late y
   late_earlier None y h = (tt, h)

@@ -56,12 +56,12 @@ left u m old new h t n =
 
 -- ---- a time is set
 
-get_set_same : {A : Type 0} (xs : List A) (i : ℕ) (x : A) → i < length xs → slice_get (slice_set xs i x) i ≡ Some x
+pub get_set_same : {A : Type 0} (xs : List A) (i : ℕ) (x : A) → i < length xs → slice_get (slice_set xs i x) i ≡ Some x
 get_set_same [] i x h = absurd (omega arith)
 get_set_same (y ∷ ys) zero x h = refl
 get_set_same (y ∷ ys) (suc i) x h = get_set_same ys i x (omega arith)
 
-get_set_other : {A : Type 0} (xs : List A) (i j : ℕ) (x : A) → i ≢ j → slice_get (slice_set xs i x) j ≡ slice_get xs j
+pub get_set_other : {A : Type 0} (xs : List A) (i j : ℕ) (x : A) → i ≢ j → slice_get (slice_set xs i x) j ≡ slice_get xs j
 get_set_other [] i j x h = refl
 get_set_other (y ∷ ys) zero zero x h = absurd (h refl)
 get_set_other (y ∷ ys) zero (suc j) x h = refl

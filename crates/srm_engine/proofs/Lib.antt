@@ -1,6 +1,10 @@
 pub mod Departed
 pub mod HandedOnce
 pub mod Index
+pub mod Counting
+pub mod NewPackets
+pub mod Hearing
+pub mod SeenLemmas
 pub mod LawProofs
 pub mod Merge
 pub mod NamesKept
@@ -11,3 +15,5 @@ pub mod Sequential
 pub mod Settled
 pub mod StrictRuns
 pub mod TraceRows
+pub mod Lookahead
+pub mod PendingKeys

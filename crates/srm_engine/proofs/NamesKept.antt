@@ -17,7 +17,8 @@ use Rattle.srm_member.specs.declared.exit.Exit.{Exit}
 use Rattle.srm_member.specs.declared.fixed.Fixed.{Fixed as FixedPart}
 use Rattle.srm_member.specs.declared.row.About.TheVariants.{Of}
 use Rattle.srm_member.specs.declared.row.Row.{Row}
-use Rattle.srm_member.specs.Record.{Memory, Missing, Record, Active, Gone, exit_of}
+use Rattle.srm_member.specs.declared.entries.Missing.{Missing}
+use Rattle.srm_member.specs.Record.{Memory, Record, Active, Gone, exit_of}
 use Rattle.srm_member.specs.React.{Reaction, react}
 use Rattle.srm_member.proofs.TableChanges.{Has, names_apart, put_here, put_there, has_put, has_more, without_less, without_there, sorted_put, sorted_without, has_some, ascend, contained_found, found_contained, named, has_name}
 use Rattle.srm_member.proofs.Changes.{Below, Grows, Allowed, Quiet, Brings, Mends, Brought, Drawn, effect}

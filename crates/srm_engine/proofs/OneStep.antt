@@ -1,10 +1,9 @@
 -- One step of the sequential run: the event that it takes, the cell from which, the row, and the cells after it.
-use Rattle.std.proofs.Common.{◌≡◌, ℕ, zero, suc, ◌<◌, ◌+◌, ◌^◌, Bool, true, false, cond, not, ◌&&◌, List, [], ◌∷◌, ◌++◌, length, refl, sym, ap, ◌∙◌, subst, ◌≢◌, ◌⊎◌, inl, inr, arith, Ordering, Less, Equal, Greater, Option, Some, None, option_map, nat_lt, nat_le, slice_get, ltb-true, eqb-true, eq-eqb, ◌==◌, zero-add, add-zero}
+use Rattle.std.proofs.Common.{◌≡◌, ℕ, zero, suc, ◌<◌, ◌≤◌, ◌+◌, ◌^◌, Bool, true, false, cond, not, ◌&&◌, List, [], ◌∷◌, ◌++◌, length, refl, sym, ap, ◌∙◌, subst, ◌≢◌, ◌⊎◌, inl, inr, arith, Option, Some, None, option_map, nat_lt, nat_le, slice_get, ltb-true, eqb-true, eq-eqb, ◌==◌, zero-add, le_refl}
 use Rattle.std.proofs.lemmas.Bool.{eqb-false}
 use Rattle.srm_net.specs.declared.packet.Name.{Name}
 use Rattle.srm_net.specs.declared.packet.Body.{Body}
 use Rattle.srm_net.specs.declared.packet.Packet.{Packet}
-use Rattle.srm_net.specs.Keys.{key_cmp}
 use Rattle.srm_scenario.specs.declared.mark.Mark.{Mark}
 use Rattle.srm_member.specs.declared.cause.Cause.{Cause}
 use Rattle.srm_member.specs.declared.cause.Cause.TheVariants.{Join, Arrival, Ask, Answer, Draw, Report}
@@ -13,29 +12,13 @@ use Rattle.srm_member.specs.Record.{Memory, Record, Active, Gone, due_of, exit_o
 use Rattle.srm_member.specs.React.{Reaction, react}
 use Rattle.srm_cell.specs.declared.flight.Flight.{Flight}
 use Rattle.srm_cell.specs.Setting.{Setting, arrival_of, is_up_to, cause_of_mark}
-use Rattle.srm_cell.specs.Cells.{PlainCell, Event, by_key, earlier, first_arrival, first_mark, next_timer, next_event, before, StepOutcome, Idle, Full, Spent, Done, Stepped, word_of, about_of, row_of, packet_of, sending_step, parting, handle, step_at}
+use Rattle.srm_cell.specs.Cells.{PlainCell, Event, first_arrival, first_mark, next_timer, next_event, before, StepOutcome, Idle, Full, Spent, Done, Stepped, word_of, about_of, row_of, packet_of, sending_step, parting, handle, step_at}
 use Rattle.srm_cell.specs.OwnRuns.{told_to}
-use Rattle.srm_engine.specs.World.{World, settled, after_step, least_event, step_of, step_to, step, run, opening_cells}
-
--- ---- what holds of an event, if there is one
-
-abbrev pub OnEvent : (Event → Type 0) → Option Event → Type 0
-OnEvent Q None = Unit {0}
-OnEvent Q (Some e) = Q e
-
-keep : Bool → Event → Option Event
-keep b e = cond b (Some e) None
-
-module _ (Q : Event → Type 0) where
-  by_key_on : (r : Ordering) (d e : Event) → Q d → Q e → Q (by_key r d e)
-  by_key_on Less d e h g = h
-  by_key_on Equal d e h g = h
-  by_key_on Greater d e h g = g
-
-  earlier_on : (x y : Option Event) → OnEvent Q x → OnEvent Q y → OnEvent Q (earlier x y)
-  earlier_on None y h g = g
-  earlier_on (Some d) None h g = h
-  earlier_on (Some d) (Some e) h g = by_key_on (key_cmp d.key e.key) d e h g
+use Rattle.srm_cell.proofs.Rising.{OnEvent, earlier_on, before_on, OnStep}
+use Rattle.srm_cell.proofs.CellSteps.{some_not_idle}
+use Rattle.srm_engine.proofs.Settled.{at_member, get_after}
+use Rattle.srm_engine.proofs.RunLemmas.{least_from, run_by, run_first, step_none, step_is}
+use Rattle.srm_engine.specs.World.{World, settled, after_step, least_event, step, run, opening_cells}
 
 -- ---- what a cell's least event is
 
@@ -128,12 +111,6 @@ pub record Does (e : Event) (d : Stepped) : Type 0 where
   pub inbox : d.cell.inbox ≡ e.rest.inbox
   pub how : Answers e d ⊎ Leaves e d
 
-abbrev OnStep : (Stepped → Type 0) → StepOutcome Stepped → Type 0
-OnStep Q Idle = Unit {0}
-OnStep Q Full = Unit {0}
-OnStep Q Spent = Unit {0}
-OnStep Q (Done d) = Q d
-
 on_full : (Q : Stepped → Type 0) (b : Bool) (x : Stepped) → Q x → OnStep Q (cond b (Done x) Full)
 on_full Q true x h = h
 on_full Q false x h = tt
@@ -199,36 +176,6 @@ does_handle e (Gone f) cause h c = tt
 does_step : (e : Event) → OnStep (Does e) (step_at (Some e))
 does_step e = does_handle e e.rest.holds e.cause refl refl
 
--- ---- the least event of all
-
-from_by_key : (r : Ordering) (d e : Event) → (by_key r d e ≡ d) ⊎ (by_key r d e ≡ e)
-from_by_key Less d e = inl refl
-from_by_key Equal d e = inl refl
-from_by_key Greater d e = inr refl
-
-from_earlier : (x y : Option Event) (e : Event) → earlier x y ≡ Some e → (x ≡ Some e) ⊎ (y ≡ Some e)
-from_earlier None y e h = inr h
-from_earlier (Some d) None e h = inl h
-from_earlier (Some d) (Some f) e h = elim (from_by_key (key_cmp d.key f.key) d f) [ inl g ↦ inl (ap Some (sym g) ∙ h) | inr g ↦ inr (ap Some (sym g) ∙ h) ]
-
-least_from : (i : ℕ) (cs : List PlainCell) (e : Event) → least_event i cs ≡ Some e → (j : ℕ) × (c : PlainCell) × (slice_get cs j ≡ Some c) × (next_event (i + j) c ≡ Some e)
-unfolding least_event
-least_from i [] e h = cc
-least_from i (c ∷ cs) e h = elim (from_earlier (next_event i c) (least_event (suc i) cs) e h) [
-  | inl g ↦ (0, c, refl, rw add-zero g)
-  | inr g ↦ let r = least_from (suc i) cs e g in
-      let same : i + suc r.0 ≡ suc i + r.0 = omega arith in
-      (suc r.0, r.1, r.2, rw same r.3)
-]
-
-keep_some : (b : Bool) (d e : Event) → cond b (Some d) None ≡ Some e → d ≡ e
-keep_some true d e h = cc
-keep_some false d e h = cc
-
-before_some : (end : ℕ) (x : Option Event) (e : Event) → before end x ≡ Some e → x ≡ Some e
-before_some end None e h = cc
-before_some end (Some d) e h = ap Some (keep_some (nat_lt d.key.time end) d e h)
-
 -- ---- a step of the sequential run
 
 pub record Steps (until : ℕ) (cs : List PlainCell) (e : Event) (d : Stepped) : Type 0 where
@@ -244,9 +191,9 @@ pub record StepFacts (cs : List PlainCell) (e : Event) (d : Stepped) : Type 0 wh
 
 pub step_facts : (until : ℕ) (cs : List PlainCell) (e : Event) (d : Stepped) → Steps until cs e d → StepFacts cs e d
 step_facts until cs e d h =
-    let r = least_from 0 cs e (before_some until (least_event 0 cs) e h.least) in
-    let at_j : next_event r.0 r.1 ≡ Some e = rw zero-add at r.3 in
-    let pends : IsPending r.0 r.1 e = subst (OnEvent (IsPending r.0 r.1)) at_j (next_pends r.0 r.1) in
+    let r = least_from until 0 cs e h.least in
+    let at_j : before until (next_event r.0 r.1) ≡ Some e = rw zero-add at r.3 in
+    let pends : IsPending r.0 r.1 e = subst (OnEvent (IsPending r.0 r.1)) at_j (before_on (IsPending r.0 r.1) until (next_event r.0 r.1) (next_pends r.0 r.1)) in
     record {
       cell = r.1;
       here = ap (slice_get cs) pends.member ∙ r.2;
@@ -260,31 +207,17 @@ pub same_some : {A : Type 0} (x y : A) → Some x ≡ Some y → x ≡ y
 same_some x y e = cc
 
 module _ (s : Setting) where
-  at_member : ℕ → Stepped → ℕ → PlainCell → PlainCell
-  at_member m d k c = cond (k == m) d.cell (told_to s d.row.sent k c)
-
-  get_settled : (m : ℕ) (d : Stepped) (i j : ℕ) (cs : List PlainCell) → slice_get (settled s m d i cs) j ≡ option_map (at_member m d (i + j)) (slice_get cs j)
-  unfolding settled at_member
-  get_settled m d i j [] = refl
-  get_settled m d i zero (c ∷ cs) = rw add-zero
-  get_settled m d i (suc j) (c ∷ cs) = let e : i + suc j ≡ suc i + j = omega arith in rw e (get_settled m d (suc i) j cs)
-
-  get_after : (m : ℕ) (d : Stepped) (j : ℕ) (cs : List PlainCell) → slice_get (settled s m d 0 cs) j ≡ option_map (at_member m d j) (slice_get cs j)
-  get_after m d j cs = rw zero-add at (get_settled m d 0 j cs)
-
   -- the stepping member's cell is the step's
   pub here_after : (m : ℕ) (d : Stepped) (cs : List PlainCell) (c : PlainCell) → slice_get cs m ≡ Some c → slice_get (settled s m d 0 cs) m ≡ Some d.cell
-  unfolding at_member
   here_after m d cs c h =
       let yes : (m == m) ≡ true = eq-eqb _ _ refl in
-      get_after m d m cs ∙ ap (option_map (at_member m d m)) h ∙ ap (λ b. Some (cond b d.cell (told_to s d.row.sent m c))) yes
+      get_after s m d m cs ∙ ap (option_map (at_member s m d m)) h ∙ ap (λ b. Some (cond b d.cell (told_to s d.row.sent m c))) yes
 
   -- every other hears what was sent
   pub there_after : (m : ℕ) (d : Stepped) (cs : List PlainCell) (j : ℕ) → j ≢ m → slice_get (settled s m d 0 cs) j ≡ option_map (told_to s d.row.sent j) (slice_get cs j)
-  unfolding at_member
   there_after m d cs j ne =
       let no : (j == m) ≡ false = (elim (j == m) as (λ b. (j == m) ≡ b → (j == m) ≡ false) [ true ↦ λ q. absurd (ne (eqb-true _ _ q)) | false ↦ λ q. q ] refl) in
-      get_after m d j cs ∙ ap (λ b. option_map (λ c. cond b d.cell (told_to s d.row.sent j c)) (slice_get cs j)) no
+      get_after s m d j cs ∙ ap (λ b. option_map (λ c. cond b d.cell (told_to s d.row.sent j c)) (slice_get cs j)) no
 
   -- what holds of the step's cell, and of every other after it heard what was sent, holds of each cell
   pub each_after : (Q : ℕ → PlainCell → Type 0) (cs : List PlainCell) (m : ℕ) (d : Stepped) (b : PlainCell) → slice_get cs m ≡ Some b → Q m d.cell
@@ -316,43 +249,13 @@ module _ (s : Setting) where
 
   -- ---- the run, step by step
 
-  run_by : ℕ → StepOutcome World → StepOutcome World
-  run_by n o = elim o as (λ x. StepOutcome World) [ Idle ↦ Idle | Full ↦ Full | Spent ↦ Spent | Done v ↦ run s n v ]
-
-  run_first : (n : ℕ) (w : World) → run s (suc n) w ≡ run_by n (step s w)
-  unfolding run run_by
-  run_first n w = refl
-
-  after_done : (w : World) (m : ℕ) (d : Stepped) → after_step s w m (Done d) ≡ Done (record { cells = settled s m d 0 w.cells; trace = w.trace ++ d.row ∷ [] })
-  unfolding after_step
-  after_done w m d = refl
-
-  step_none : (w : World) → before s.until (least_event 0 w.cells) ≡ None → step s w ≡ Idle
-  unfolding step_to step_of
-  step_none w h = ap (step_of s w) h
-
-  step_some : (w : World) (e : Event) → before s.until (least_event 0 w.cells) ≡ Some e → step s w ≡ after_step s w e.key.member (step_at (Some e))
-  unfolding step_to step_of
-  step_some w e h = ap (step_of s w) h
-
-  sending_moves : (b : Bool) (x : Stepped) → cond b (Done x) Full ≢ Idle
-  sending_moves true x h = cc
-  sending_moves false x h = cc
-
-  handle_moves : (e : Event) (holds : Record) (cause : Option Cause) → handle e holds cause ≢ Idle
-  unfolding handle
-  handle_moves e (Active m) (Some cause) h = let r = react m e.key.time cause in by_body r r.answer.body h
-    where
-      by_body : (r : Reaction) (body : Option Body) → sending_step e r body ≢ Idle
-      by_body r None h = cc
-      by_body r (Some body) h = sending_moves _ _ h
-  handle_moves e (Active m) None h = cc
-  handle_moves e (Gone f) cause h = cc
+  within : s.until ≤ s.until
+  within = le_refl s.until
 
   -- an event is a step, or is refused
   after_moves : (w : World) (e : Event) (o : StepOutcome Stepped) → step_at (Some e) ≡ o → after_step s w e.key.member o ≢ Idle
   unfolding after_step
-  after_moves w e Idle h g = handle_moves e e.rest.holds e.cause h
+  after_moves w e Idle h g = some_not_idle e h
   after_moves w e Full h g = cc
   after_moves w e Spent h g = cc
   after_moves w e (Done d) h g = cc
@@ -361,31 +264,32 @@ module _ (s : Setting) where
   pub nothing_left : (w : World) → step s w ≡ Idle → before s.until (least_event 0 w.cells) ≡ None
   nothing_left w h = elim (before s.until (least_event 0 w.cells)) as (λ o. before s.until (least_event 0 w.cells) ≡ o → before s.until (least_event 0 w.cells) ≡ None) [
     | None ↦ λ q. q
-    | Some e ↦ λ q. absurd (after_moves w e (step_at (Some e)) refl (sym (step_some w e q) ∙ h))
+    | Some e ↦ λ q. absurd (after_moves w e (step_at (Some e)) refl (sym (step_is s s.until within w e q) ∙ h))
   ] refl
 
   -- what holds of a world, and is kept by each step, holds of all worlds to which the run comes from there
   pub run_keeps : (P : World → Type 0)
       → ((w : World) (e : Event) (d : Stepped) → Steps s.until w.cells e d → P w → P (record { cells = settled s e.key.member d 0 w.cells; trace = w.trace ++ d.row ∷ [] }))
       → (n : ℕ) (w v : World) → P w → run s n w ≡ Done v → P v
-  unfolding run run_by after_step
+  unfolding run after_step
   run_keeps P kept zero w v p h = let e : w ≡ v = same_done w v h in subst P e p
     where
       same_done : (a b : World) → Done a ≡ Done b → a ≡ b
       same_done a b e = cc
   run_keeps P kept (suc n) w v p h =
-      let by = sym (run_first n w) ∙ h in
+      let by = sym (run_first s s.until within n w) ∙ h in
       elim (before s.until (least_event 0 w.cells)) as (λ o. before s.until (least_event 0 w.cells) ≡ o → P v) [
-        | None ↦ λ e. let x : Idle ≡ Done v = sym (ap (run_by n) (step_none w e)) ∙ by in cc
-        | Some e ↦ λ b. elim (step_at (Some e)) as (λ o. step_at (Some e) ≡ o → P v) [
-          | Idle ↦ λ x. let y : Idle ≡ Done v = sym (ap (run_by n) (step_some w e b ∙ ap (after_step s w e.key.member) x)) ∙ by in cc
-          | Full ↦ λ x. let y : Full ≡ Done v = sym (ap (run_by n) (step_some w e b ∙ ap (after_step s w e.key.member) x)) ∙ by in cc
-          | Spent ↦ λ x. let y : Spent ≡ Done v = sym (ap (run_by n) (step_some w e b ∙ ap (after_step s w e.key.member) x)) ∙ by in cc
-          | Done d ↦ λ x.
-              run_keeps P kept n (record { cells = settled s e.key.member d 0 w.cells; trace = w.trace ++ d.row ∷ [] }) v
-              (kept w e d (record { least = b; stepped = x }) p)
-              (sym (ap (run_by n) (step_some w e b ∙ ap (after_step s w e.key.member) x ∙ after_done w e.key.member d)) ∙ by)
-        ] refl
+        | None ↦ λ e. let x : Idle ≡ Done v = sym (ap (run_by s s.until within n) (step_none s s.until within w e)) ∙ by in cc
+        | Some e ↦ λ b.
+            let stepped = λ (o : StepOutcome Stepped) (x : step_at (Some e) ≡ o). sym (ap (run_by s s.until within n) (step_is s s.until within w e b ∙ ap (after_step s w e.key.member) x)) ∙ by in
+            elim (step_at (Some e)) as (λ o. step_at (Some e) ≡ o → P v) [
+              | Idle ↦ λ x. absurd (some_not_idle e x)
+              | Full ↦ λ x. let y : Full ≡ Done v = stepped Full x in cc
+              | Spent ↦ λ x. let y : Spent ≡ Done v = stepped Spent x in cc
+              | Done d ↦ λ x.
+                  run_keeps P kept n (record { cells = settled s e.key.member d 0 w.cells; trace = w.trace ++ d.row ∷ [] }) v
+                  (kept w e d (record { least = b; stepped = x }) p) (stepped (Done d) x)
+            ] refl
       ] refl
 
   -- ---- flights

@@ -4,9 +4,9 @@ use Rattle.std.specs.Ordering.{ordering_reverse}
 use Rattle.std.specs.Cmp.{IsTotalOrder}
 use Rattle.srm_cell.proofs.CellSteps.{SentBy, flight_total}
 use Rattle.srm_cell.proofs.Clear.{Besides, CountAfter, Differs, IsDistinct, IsTail, RestOf, StepOf, clear_step, differ_member, later_differs, next_besides, next_rest, step_is_of, then_after}
-use Rattle.srm_cell.proofs.Rising.{Above, IsAbove, OnEvent, OnStep, arrival_key, before_on, mark_key, next_above, step_above, timer_key}
+use Rattle.srm_cell.proofs.Rising.{Above, IsAbove, OnEvent, OnStep, before_on, next_above, step_above}
+use Rattle.srm_cell.specs.Cells.{arrival_key, mark_key, timer_key, Done, Event, PlainCell, StepOutcome, Stepped, before, hear, hear_at, next_event, step_at}
 use Rattle.srm_cell.proofs.Tidy.{NotBefore, later_not_before}
-use Rattle.srm_cell.specs.Cells.{Done, Event, PlainCell, StepOutcome, Stepped, before, hear, hear_at, next_event, step_at}
 use Rattle.srm_cell.specs.Flights.{flight_cmp, numbers_of_flight}
 use Rattle.srm_cell.specs.OwnRuns.{told_to}
 use Rattle.srm_cell.specs.Setting.{HasOwnRanks, IsFit, Setting, arrival_of}
@@ -64,7 +64,7 @@ ranks_tail : (ys xs : List Mark) → IsTail ys xs → HasOwnRanks xs → HasOwnR
 ranks_tail ys xs (inl e) h = subst HasOwnRanks (sym e) h
 ranks_tail ys xs (inr e) h = (subst HasOwnRanks e.1 h).1
 
-all_tail : {A : Type 0} (Q : A → Type 0) (ys xs : List A) → IsTail ys xs → AllIn Q xs → AllIn Q ys
+pub all_tail : {A : Type 0} (Q : A → Type 0) (ys xs : List A) → IsTail ys xs → AllIn Q xs → AllIn Q ys
 all_tail Q ys xs (inl e) h = subst (AllIn Q) (sym e) h
 all_tail Q ys xs (inr e) h = (subst (AllIn Q) e.1 h).1
 
@@ -82,15 +82,15 @@ all_both P Q R f (x ∷ xs) h g = (f x h.0 g.0, all_both P Q R f xs h.1 g.1)
 
 -- ---- how many packets each member sent
 
-sent_by : Option PlainCell → ℕ
+unfoldable pub sent_by : Option PlainCell → ℕ
 sent_by None = 0
 sent_by (Some c) = c.sent
 
-abbrev sent_of : List PlainCell → ℕ → ℕ
+abbrev pub sent_of : List PlainCell → ℕ → ℕ
 sent_of cs x = sent_by (slice_get cs x)
 
 -- the packets in an inbox were sent
-abbrev IsFresh : List PlainCell → PlainCell → Type 0
+abbrev pub IsFresh : List PlainCell → PlainCell → Type 0
 IsFresh cs c = AllIn (λ f. f.packet.id.count < sent_of cs f.packet.id.sender) c.inbox
 
 nth_number : ℕ → List ℕ → ℕ
@@ -113,9 +113,9 @@ fresh_apart cs f (g ∷ gs) h a = (
 )
 
 module _ (s : Setting) (fit : IsFit s) where
-  record Strict (cs : List PlainCell) : Type 0 where
-    distinct : EachCell s fit (λ j c. IsDistinct c) cs
-    fresh : EachCell s fit (λ j c. IsFresh cs c) cs
+  pub record Strict (cs : List PlainCell) : Type 0 where
+    pub distinct : EachCell s fit (λ j c. IsDistinct c) cs
+    pub fresh : EachCell s fit (λ j c. IsFresh cs c) cs
 
   hear_at_sent : (p : Packet) (o : Option ℕ) (c : PlainCell) → (hear_at p o c).sent ≡ c.sent
   hear_at_sent p None c = refl
@@ -151,7 +151,7 @@ module _ (s : Setting) (fit : IsFit s) where
         let yes : (m == m) ≡ true = eq-eqb _ _ refl in
         get_after s m d m cs ∙ ap (option_map (at_member s m d m)) facts.here ∙ ap (λ b. Some (cond b d.cell (told_to s d.row.sent m facts.cell))) yes
 
-    sent_here : sent_of cs m ≡ e.rest.sent
+    pub sent_here : sent_of cs m ≡ e.rest.sent
     unfolding sent_by
     sent_here = ap sent_by facts.here ∙ sym rest_of.sent
 
@@ -199,7 +199,7 @@ module _ (s : Setting) (fit : IsFit s) where
     told_strict (Some p) q by count j c t f = hear_at_strict p (arrival_of s p j) c by count t f
 
     -- both hold after the step
-    strict_step : Strict after
+    pub strict_step : Strict after
     strict_step =
         let c = facts.cell in
         let was = strict.distinct m c facts.here in
@@ -275,7 +275,7 @@ module _ (s : Setting) (fit : IsFit s) where
   opening_empty all (suc n) i zero c h = subst (IsFresh all) (same_Some _ _ h) tt
   opening_empty all (suc n) i (suc j) c h = opening_empty all n (suc i) j c h
 
-  strict_opening : Strict (opening s).cells
+  pub strict_opening : Strict (opening s).cells
   unfolding opening
   strict_opening = record { distinct = opening_distinct s.members 0 (zero-add s.members); fresh = opening_empty (opening_cells s s.members 0) s.members 0 }
 

@@ -1,13 +1,16 @@
 -- The laws on which windows rest.
-use Rattle.std.specs.Prelude.{◌≡◌, ◌≢◌, ◌⊎◌, ℕ, ◌+◌, ◌<◌, ◌≤◌, zero, suc, List, [], ◌∷◌, ◌++◌, Some, slice_get, length, drop, IsPermutation}
+use Rattle.std.specs.Prelude.{◌≡◌, ◌≢◌, ◌⊎◌, ℕ, ◌+◌, ◌<◌, ◌≤◌, zero, suc, List, [], ◌∷◌, ◌++◌, Some, slice_get, length, drop, IsPermutation, Contains}
 use Rattle.srm_net.specs.Orders.{ordered, Ascends, Rises}
+use Rattle.srm_net.specs.declared.key.Key.{Key}
+use Rattle.srm_scenario.specs.Plain.{PlainScenario, network_of}
+use Rattle.srm_scenario.specs.Accepted.{IsAccepted}
 use Rattle.srm_member.specs.declared.row.Row.{Row}
-use Rattle.srm_cell.specs.Setting.{Setting, IsFit}
-use Rattle.srm_cell.specs.Cells.{PlainCell, Event, Silent, next_event, before, Idle, Full, Spent, Done}
+use Rattle.srm_cell.specs.Setting.{Setting, IsFit, setting_of}
+use Rattle.srm_cell.specs.Cells.{PlainCell, Event, Silent, pending_keys, AllDiffer, next_event, before, Idle, Full, Spent, Done}
 use Rattle.srm_cell.specs.OwnRuns.{own_end, own_rows, own_after, hear_rows}
-use Rattle.srm_engine.specs.World.{World, row_cmp, least_event, run, opening, IsReached}
+use Rattle.srm_engine.specs.World.{World, row_cmp, least_event, step, run, opening, IsReached}
 use Rattle.srm_engine.specs.Schedules.{scheduled, IsQuiet, rows_of, HasResult, HasNoResult, IsSafe}
-use Rattle.srm_engine.specs.Windows.{IsFirstQuiet}
+use Rattle.srm_engine.specs.Windows.{IsWidth, promise_end, IsFirstQuiet}
 
 -- the rows of v after those of w
 abbrev pub new_rows : World → World → List Row
@@ -26,6 +29,22 @@ RunsBeginEmpty = (s : Setting) → IsReached s (opening s) × ((opening s).trace
 -- the keys of the rows of a sequential run rise: no two events have one key
 abbrev pub KeysRise : Type 0
 KeysRise = (s : Setting) (w : World) → IsFit s → IsReached s w → Ascends row_cmp w.trace
+
+-- the keys of all that is pending, of the members from i on
+abbrev pub keys_from : ℕ → List PlainCell → List Key
+keys_from i [] = []
+keys_from i (c ∷ cs) = pending_keys i c ++ keys_from (suc i) cs
+
+-- no two pending events of a world of the sequential run have one key
+abbrev pub PendingKeysDiffer : Type 0
+PendingKeysDiffer = (s : Setting) (w : World) → IsFit s → IsReached s w → AllDiffer (keys_from 0 w.cells)
+
+-- every event that an event creates is later: what is pending after a step was pending before it, or has a later time
+abbrev pub CreatedEventsAreLater : Type 0
+CreatedEventsAreLater =
+    (s : Setting) (w v : World) (e : Event) → IsFit s → IsReached s w
+    → before s.until (least_event 0 w.cells) ≡ Some e → step s w ≡ Done v
+    → (k : Key) → Contains (keys_from 0 v.cells) k → (e.key.time < k.time) ⊎ Contains (keys_from 0 w.cells) k
 
 -- the sequential run ends: nothing is pending, or the packet count is used up
 abbrev pub RunEnds : Type 0
@@ -91,6 +110,21 @@ PromisesAreSafe =
     → ((m : ℕ) (c : PlainCell) (e : Event) → slice_get w.cells m ≡ Some c → next_event m c ≡ Some e
     → Silent c.holds ⊎ ((b : ℕ) → b < s.members → b ≢ m → end ≤ e.key.time + s.distance m b))
     → IsSafe s end w
+
+-- so is one that is no further from the least pending time than the least link delay, and every end where there is no link
+abbrev pub LinkDelaysAreSafe : Type 0
+LinkDelaysAreSafe =
+    (p : PlainScenario) (seed : ℕ) → IsAccepted p
+    → (w : World) (e : Event) (width end : ℕ) → IsReached (setting_of p (network_of p) seed) w
+    → before p.until (least_event 0 w.cells) ≡ Some e → IsWidth (network_of p) width
+    → end ≤ e.key.time + width → IsSafe (setting_of p (network_of p) seed) end w
+
+-- the end of a promise window is safe, and later than the least pending time
+abbrev pub PromiseEndsAreSafe : Type 0
+PromiseEndsAreSafe =
+    (s : Setting) (w : World) → IsFit s → IsReached s w
+    → IsSafe s (promise_end s w) w
+    × ((e : Event) → before s.until (least_event 0 w.cells) ≡ Some e → e.key.time < promise_end s w)
 
 -- ---- merging
 

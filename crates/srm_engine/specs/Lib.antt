@@ -5,3 +5,7 @@ pub mod Laws
 pub mod Handed
 pub mod Names
 pub mod NextTimes
+pub mod OneLoss
+pub mod Seen
+pub mod Shown
+pub mod Totalled

@@ -1,6 +1,8 @@
 -- Windows of time, and where they end.
-use Rattle.std.specs.Prelude.{◌≡◌, ℕ, ◌+◌, ◌<◌, not, min, List, [], ◌∷◌, map, filter, Option, Some, None, ◌==◌, if◌then◌else◌}
+use Rattle.std.specs.Prelude.{◌≡◌, ℕ, ◌+◌, ◌<◌, ◌≤◌, not, min, List, [], ◌∷◌, map, filter, Option, Some, None, ◌==◌, if◌then◌else◌}
 use Rattle.std.specs.List.{range_with_len}
+use Rattle.srm_net.specs.Network.{Network}
+use Rattle.srm_net.specs.Least.{least, least_delay}
 use Rattle.srm_member.specs.Record.{fixed_part}
 use Rattle.srm_member.specs.React.{is_listener}
 use Rattle.srm_cell.specs.Setting.{Setting}
@@ -8,22 +10,22 @@ use Rattle.srm_cell.specs.Cells.{PlainCell, time_of, next_event, Done}
 use Rattle.srm_engine.specs.World.{World, least_event, run}
 use Rattle.srm_engine.specs.Schedules.{IsQuiet}
 
--- the least number of a list, if it has any
+-- the lesser of a number and another, if there is another
 abbrev pub least_with : ℕ → Option ℕ → ℕ
 least_with n None = n
 least_with n (Some k) = min n k
 
-abbrev pub least_of : List ℕ → Option ℕ
-least_of [] = None
-least_of (n ∷ ns) = Some (least_with n (least_of ns))
-
 -- the least distance from a member to another, if there is another
 unfoldable pub out : Setting → ℕ → Option ℕ
-out s m = least_of (map (s.distance m) (filter (λ b. not (b == m)) (range_with_len 0 s.members)))
+out s m = least (map (s.distance m) (filter (λ b. not (b == m)) (range_with_len 0 s.members)))
 
 -- the least pending time of all
 abbrev pub least_time : World → Option ℕ
 least_time w = time_of (least_event 0 w.cells)
+
+-- a width that no link's delay falls short of. Any is one where there is no link
+abbrev pub IsWidth : Network → ℕ → Type 0
+IsWidth net width = (delay : ℕ) → least_delay net ≡ Some delay → width ≤ delay
 
 -- the end of a window of this width that begins at a time: no event at `until` or later is handled
 abbrev pub width_end : Setting → ℕ → ℕ → ℕ

@@ -1,5 +1,5 @@
 //! The laws of the model, over its definitions alone.
-ghost use Rattle.srm_engine.specs.Laws.{RunsBeginEmpty, KeysRise, RunEnds, OwnRunsEnd, NeverSpent, SchedulesAgree, RefusalsAreMet, CellsRunAlone, WindowsAreSafe, PromisesAreSafe, MergesAgree};
+ghost use Rattle.srm_engine.specs.Laws.{RunsBeginEmpty, KeysRise, PendingKeysDiffer, CreatedEventsAreLater, RunEnds, OwnRunsEnd, NeverSpent, SchedulesAgree, RefusalsAreMet, CellsRunAlone, WindowsAreSafe, PromisesAreSafe, LinkDelaysAreSafe, PromiseEndsAreSafe, MergesAgree};
 
 /// A run begins with no row.
 pub fn runs_begin_empty()
@@ -9,6 +9,16 @@ pub fn runs_begin_empty()
 /// The keys of the rows of a sequential run rise: no two events have one key.
 pub fn keys_rise()
     ensures { KeysRise }
+{}
+
+/// No two pending events of a world of the sequential run have one key.
+pub fn pending_keys_differ()
+    ensures { PendingKeysDiffer }
+{}
+
+/// Every event that an event creates has a later time.
+pub fn created_events_are_later()
+    ensures { CreatedEventsAreLater }
 {}
 
 /// The sequential run ends: nothing is pending, or the packet count is used up.
@@ -49,6 +59,16 @@ pub fn windows_are_safe()
 /// An end that no member's next event, with the way from it, falls short of is safe.
 pub fn promises_are_safe()
     ensures { PromisesAreSafe }
+{}
+
+/// A window no wider than the least link delay is safe, and every end where there is no link.
+pub fn link_delays_are_safe()
+    ensures { LinkDelaysAreSafe }
+{}
+
+/// The end of a promise window is safe, and later than the least pending time.
+pub fn promise_ends_are_safe()
+    ensures { PromiseEndsAreSafe }
 {}
 
 /// The members' rows of a part of the run, merged in order of their keys, are the rows of that part.

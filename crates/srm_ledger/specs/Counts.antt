@@ -1,5 +1,5 @@
--- Five numbers for each link, one for each kind.
-use Rattle.std.specs.Prelude.{ℕ, ◌+◌, List, [], ◌∷◌, replicate, slice_index, slice_index_or, slice_set}
+-- Five numbers for each link, one for each kind, in one list.
+use Rattle.std.specs.Prelude.{ℕ, ◌+◌, ◌*◌, List, replicate, slice_index, slice_set}
 use Rattle.srm_ledger.specs.declared.kind.Kind.{Kind}
 use Rattle.srm_ledger.specs.declared.kind.Kind.TheVariants.{Drawop, Request, Repair, Session, Dropped}
 
@@ -11,22 +11,18 @@ place_of Repair = 2
 place_of Session = 3
 place_of Dropped = 4
 
--- the five numbers of link l
-abbrev pub numbers_at : List (List ℕ) → ℕ → List ℕ
-numbers_at links l = slice_index_or links l []
+-- the place of the number of a kind at link l
+abbrev pub place_at : ℕ → Kind → ℕ
+place_at l k = 5 * l + place_of k
 
 -- the number of a kind at link l
-abbrev pub number_of : List (List ℕ) → ℕ → Kind → ℕ
-number_of links l k = slice_index (numbers_at links l) (place_of k)
-
--- one more of a kind among five numbers
-abbrev pub one_more : Kind → List ℕ → List ℕ
-one_more k ns = slice_set ns (place_of k) (slice_index ns (place_of k) + 1)
+abbrev pub number_at : List ℕ → ℕ → Kind → ℕ
+number_at ns l k = slice_index ns (place_at l k)
 
 -- one more of a kind at link l
-abbrev pub counted : List (List ℕ) → ℕ → Kind → List (List ℕ)
-counted links l k = slice_set links l (one_more k (numbers_at links l))
+abbrev pub one_more : List ℕ → ℕ → Kind → List ℕ
+one_more ns l k = slice_set ns (place_at l k) (number_at ns l k + 1)
 
 -- nothing counted at any of n links
-abbrev pub nothing_at : ℕ → List (List ℕ)
-nothing_at n = replicate n (0 ∷ 0 ∷ 0 ∷ 0 ∷ 0 ∷ [])
+abbrev pub nothing_at : ℕ → List ℕ
+nothing_at n = replicate (5 * n) 0

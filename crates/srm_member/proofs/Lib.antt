@@ -1,12 +1,12 @@
 pub mod AllIn
 pub mod Bounds
 mod Calls
-pub mod Changes
 mod Compare
 mod Doublings
 mod Earliest
-pub mod FewerTimers
 mod Indexes
+pub mod Changes
+pub mod FewerTimers
 pub mod LawProofs
 mod Losses
 mod Maps

@@ -3,20 +3,20 @@
 
 pub mod cause;
 pub mod due;
-mod entries;
+pub mod entries;
 pub mod exit;
 pub mod fault;
 pub mod fixed;
 mod index;
 pub mod laws;
 pub mod member;
-mod named;
+mod memory;
+pub mod named;
 mod pages;
 mod pending;
 pub mod react;
 pub mod recovery;
 pub mod row;
 mod stream;
-mod tables;
 pub mod timers;
 pub mod told;

@@ -11,8 +11,8 @@ use crate::due::Due;
 use crate::exit::Exit;
 use crate::fault::MemberFault;
 use crate::fixed::Fixed;
+use crate::memory::Memory;
 use crate::react::React;
-use crate::tables::Tables;
 use crate::told::Told;
 use srm_net::packet::{Name, Packet};
 use srm_net::sequence::Sequence;
@@ -26,7 +26,7 @@ use std::marker::Model;
 /// [`MemberFault::Spent`], and `due` answers `None`.
 #[derive(Drop)]
 pub struct Recovery {
-    tables: Tables,
+    memory: Memory,
     gone: bool,
 }
 
@@ -38,9 +38,9 @@ impl Model for Recovery {
 
     ghost Value = { Record };
 
-    ghost view = { λ r. record_of r.gone r.tables };
+    ghost view = { λ r. record_of r.gone r.memory };
 
-    ghost invariant = { λ r. is_listener r.tables.fixed.role ≡ false };
+    ghost invariant = { λ r. is_listener r.memory.fixed.role ≡ false };
 }
 
 impl Recovery {
@@ -51,7 +51,7 @@ impl Recovery {
         ensures { result ≡ opening_record fixed }
     {
         Recovery {
-            tables: Tables::new(alloc, fixed),
+            memory: Memory::new(alloc, fixed),
             gone: false,
         }
     }
@@ -60,7 +60,7 @@ impl Recovery {
     pub fn number(&self) -> u16
         ensures { result ≡ (fixed_part self.now).member }
     {
-        self.tables.number()
+        self.memory.number()
     }
 
     /// The least timer by time, rank and name. It takes no memory.
@@ -70,7 +70,7 @@ impl Recovery {
         if self.gone {
             return None;
         }
-        self.tables.due()
+        self.memory.due()
     }
 
     /// The member joins.
@@ -96,7 +96,7 @@ impl Recovery {
             return Err(MemberFault::Spent);
         }
         self.gone = true;
-        let react = self.tables.hear(alloc, at, packet)?;
+        let react = self.memory.hear(alloc, at, packet)?;
         self.gone = false;
         Ok(react)
     }
@@ -110,7 +110,7 @@ impl Recovery {
             return Err(MemberFault::Spent);
         }
         self.gone = true;
-        let react = self.tables.ask(alloc, at, name)?;
+        let react = self.memory.ask(alloc, at, name)?;
         self.gone = false;
         Ok(react)
     }
@@ -124,7 +124,7 @@ impl Recovery {
             return Err(MemberFault::Spent);
         }
         self.gone = true;
-        let react = self.tables.answer(alloc, at, name)?;
+        let react = self.memory.answer(alloc, at, name)?;
         self.gone = false;
         Ok(react)
     }
@@ -143,7 +143,7 @@ impl Recovery {
             return Err(MemberFault::Spent);
         }
         self.gone = true;
-        let react = self.tables.draw_op(alloc, page, ink)?;
+        let react = self.memory.draw_op(alloc, page, ink)?;
         self.gone = false;
         Ok(react)
     }
@@ -156,7 +156,7 @@ impl Recovery {
             return Err(MemberFault::Spent);
         }
         self.gone = true;
-        let react = self.tables.report(alloc)?;
+        let react = self.memory.report(alloc)?;
         self.gone = false;
         Ok(react)
     }
@@ -184,7 +184,7 @@ impl Recovery {
             return Err(MemberFault::Spent);
         }
         self.gone = true;
-        let exit = self.tables.exit(alloc)?;
+        let exit = self.memory.exit(alloc)?;
         Ok(exit)
     }
 }

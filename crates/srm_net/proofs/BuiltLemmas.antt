@@ -1,4 +1,4 @@
--- What a built network's tables give.
+-- What the ways of a built tree give.
 use Rattle.std.proofs.Common.{◌≡◌, ◌≢◌, ℕ, suc, ◌+◌, ◌<◌, ◌≤◌, Bool, true, false, not, cond, ◌&&◌, ◌||◌, List, [], ◌∷◌, length, Some, refl, sym, ap, ◌∙◌, subst, inl, inr, arith, eqb, eq-eqb, eqb-true, slice_get, slice_index_or}
 use Rattle.std.specs.List.{list_any}
 use Rattle.std.proofs.lemmas.Bool.{ne_eqb, eqb-false, cases_Bool, cases_eq}
@@ -7,7 +7,7 @@ use Rattle.srm_net.specs.declared.link.DropSpec.{DropSpec}
 use Rattle.srm_net.specs.declared.packet.PacketId.{PacketId}
 use Rattle.srm_net.specs.declared.sides.Sides.{Sides}
 use Rattle.srm_net.specs.declared.ways.Ways.{Ways}
-use Rattle.srm_net.specs.declared.net.Net.TheInside.{Inside}
+use Rattle.srm_net.specs.declared.tree.Tree.TheInside.{Inside}
 use Rattle.srm_net.specs.Network.{Network, Joins, IsWithin, IsTree, IsNetwork}
 use Rattle.srm_net.specs.Paths.{is_in, route, host, member_route, delay_along, distance, is_listed, crosses, drops_at}
 use Rattle.srm_net.specs.Grids.{number_at}
@@ -135,19 +135,3 @@ module _ (w : Network) (n : IsNetwork w) (l u near : ℕ) (any : Bool) (drops : 
       ∙ ap (λ v. is_listed drops p l && (some_beyond w l k.0 v && not (list_any (is_listed drops p) (route w v (near_end w l k.0 v))))) (sym e)
       ∙ ap (λ t. is_listed drops p l && (t && not (list_any (is_listed drops p) (route w u (near_end w l k.0 u))))) (sym a)
       ∙ ap (λ t. is_listed drops p l && (any && not (list_any (is_listed drops p) (route w u t)))) (sym b)
-
--- what the sides of a link tell
-pub sides_told : (n : Inside) → IsBuilt n → (w : Network) → plain_of n ≡ w → (l : ℕ) (k : LinkSpec) → slice_get w.links l ≡ Some k → (s : Sides) → s ≡ slice_index_or n.sides.items l s → (u : ℕ) → (b : Bool) → is_beyond w l k u ≡ b
-    → cond b s.a s.b ≡ some_beyond w l k u
-sides_told n i w e l k g s r u b q =
-    let told = i.sides l k (ap (λ (v : Network). slice_get v.links l) e ∙ g) in
-    let same : s ≡ told.0 = r ∙ get_index n.sides.items l told.0 s told.1 in
-    let here : cond b s.a s.b ≡ some_beyond (plain_of n) l k u =
-    elim b as (λ t. is_beyond (plain_of n) l k u ≡ t → cond t s.a s.b ≡ some_beyond (plain_of n) l k u) [
-      | true ↦ λ h. rw h (ap (λ (x : Sides). x.a) same ∙ told.2.a)
-      | false ↦ λ h. rw h (ap (λ (x : Sides). x.b) same ∙ told.2.b)
-    ] (ap (λ (v : Network). is_beyond v l k u) e ∙ q) in
-    here ∙ ap (λ (v : Network). some_beyond v l k u) e
-
-pub side_below : (n : Inside) → IsBuilt n → (l : ℕ) → l < length n.links.items → l < length n.sides.items
-side_below n i l h = let k = below_get n.links.items l h in let told = i.sides l k.0 k.1 in get_below n.sides.items l told.0 told.1

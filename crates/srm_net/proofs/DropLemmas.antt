@@ -67,7 +67,7 @@ module _ {A : Type 0} (cmp : A → A → Ordering) (f : A → Bool) (same : (x y
 
 -- ---- drops
 
-drop_total : IsTotalOrder drop_cmp
+pub drop_total : IsTotalOrder drop_cmp
 drop_total = on_total (λ (d : DropSpec). d.link ∷ d.id.sender ∷ d.id.count ∷ []) nat_list_cmp_total
 
 pub drops_ascend : (ds : List DropSpec) → Ascends drop_cmp (ordered_once drop_cmp ds)

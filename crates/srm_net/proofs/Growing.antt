@@ -2,7 +2,7 @@
 use Rattle.std.proofs.Common.{◌≡◌, ◌≢◌, ◌⊎◌, ℕ, zero, suc, ◌+◌, ◌<◌, ◌≤◌, Bool, true, false, not, cond, List, [], ◌∷◌, ◌++◌, length, map, Option, Some, None, refl, sym, ap, ◌∙◌, subst, inl, inr, arith, eqb, eq-eqb, eqb-true, slice_get, All}
 use Rattle.std.proofs.lemmas.Bool.{ne_eqb, eqb-false, cases_Bool, cases_eq, both_ways, true≢false, false≢true}
 use Rattle.srm_net.specs.declared.link.LinkSpec.{LinkSpec}
-use Rattle.srm_net.specs.declared.order.Step.{Step}
+use Rattle.srm_net.specs.declared.step.Step.{Step}
 use Rattle.srm_net.specs.Network.{Network, Joins, IsWalk, IsPath, IsWithin, IsTree}
 use Rattle.srm_net.specs.Paths.{is_in}
 use Rattle.srm_net.specs.Growth.{Attaches, attached, used, Grows}

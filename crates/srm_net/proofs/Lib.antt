@@ -6,3 +6,9 @@ pub mod Growing
 pub mod RouteLemmas
 pub mod PathLaws
 pub mod BuiltLemmas
+pub mod WayLemmas
+pub mod TreeWays
+pub mod OrderLemmas
+pub mod ToldLemmas
+pub mod LeastLemmas
+pub mod LawProofs

@@ -64,3 +64,16 @@ cell_put width xs row column x e hr hc r c h =
       | inr n ↦
           get_set_other xs (row * width + column) (r * width + c) x (λ s. n ((same_from_place r c row column width h hc (sym s)).0)) ∙ sym (rw (ne_eqb r row n) refl)
     ]
+
+-- ---- one element more
+
+pub get_push_old : {A : Type 0} (xs : List A) (x : A) (i : ℕ) → i < length xs → slice_get (xs ++ x ∷ []) i ≡ slice_get xs i
+get_push_old [] x i h = absurd (omega arith)
+get_push_old (y ∷ ys) x zero h = refl
+get_push_old (y ∷ ys) x (suc i) h = get_push_old ys x i (omega arith)
+
+pub get_push_new : {A : Type 0} (xs : List A) (x : A) (i : ℕ) → length xs ≡ i → slice_get (xs ++ x ∷ []) i ≡ Some x
+get_push_new [] x zero h = refl
+get_push_new [] x (suc i) h = absurd (omega arith)
+get_push_new (y ∷ ys) x zero h = absurd (omega arith)
+get_push_new (y ∷ ys) x (suc i) h = get_push_new ys x i (omega arith)

@@ -19,12 +19,12 @@ use Rattle.srm_net.proofs.RouteLemmas.{route_path, route_only, path_length}
 pub host_below : (w : Network) → IsNetwork w → (m : ℕ) → m < length w.hosts → host w m < w.nodes
 host_below w n m h = n.hosts.0 m 0 h
 
-index_in : (xs : List ℕ) (i : ℕ) → i < length xs → is_in xs (slice_index xs i) ≡ true
+pub index_in : (xs : List ℕ) (i : ℕ) → i < length xs → is_in xs (slice_index xs i) ≡ true
 index_in [] i h = absurd (omega arith)
 index_in (x ∷ xs) zero h = in_head x xs
 index_in (x ∷ xs) (suc i) h = in_tail x (slice_index xs i) xs (index_in xs i (omega arith))
 
-apart_index : (xs : List ℕ) → Apart xs → (i j : ℕ) → i < length xs → j < length xs → slice_index xs i ≡ slice_index xs j → i ≡ j
+pub apart_index : (xs : List ℕ) → Apart xs → (i j : ℕ) → i < length xs → j < length xs → slice_index xs i ≡ slice_index xs j → i ≡ j
 apart_index [] a i j h g e = absurd (omega arith)
 apart_index (x ∷ xs) a zero zero h g e = refl
 apart_index (x ∷ xs) a zero (suc j) h g e = absurd (both_ways _ a.0 (subst (λ t. is_in xs t ≡ true) (sym e) (index_in xs j (omega arith))))
@@ -34,7 +34,7 @@ apart_index (x ∷ xs) a (suc i) (suc j) h g e = ap suc (apart_index xs a.1 i j 
 pub hosts_apart : (w : Network) → IsNetwork w → (a b : ℕ) → a < length w.hosts → b < length w.hosts → a ≢ b → host w a ≢ host w b
 hosts_apart w n a b ha hb d e = d (apart_index w.hosts (apart_from_distinct w.hosts n.hosts.1) a b ha hb e)
 
-hosts_in : (nodes : ℕ) (xs : List ℕ) → All (λ n. n < nodes) xs → Below nodes xs
+pub hosts_in : (nodes : ℕ) (xs : List ℕ) → All (λ n. n < nodes) xs → Below nodes xs
 hosts_in nodes [] a x i = absurd (false≢true i)
 hosts_in nodes (y ∷ ys) a x i =
     elim (in_cases y x ys i) [ inl e ↦ subst (λ t. t < nodes) e (a 0 0 (omega arith)) | inr e ↦ hosts_in nodes ys (λ k d h. a (suc k) d (omega arith)) x e ]

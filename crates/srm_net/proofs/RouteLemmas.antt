@@ -138,7 +138,7 @@ path_found (suc n) links passed u (l ∷ ls) v ns w a o h =
 
 -- ---- in a tree
 
-walk_length : (links : List LinkSpec) (u : ℕ) (ls : List ℕ) (v : ℕ) (ns : List ℕ) → IsWalk links u ls v ns → length ns ≡ length ls + 1
+pub walk_length : (links : List LinkSpec) (u : ℕ) (ls : List ℕ) (v : ℕ) (ns : List ℕ) → IsWalk links u ls v ns → length ns ≡ length ls + 1
 walk_length links u [] v ns w = ap length w.1
 walk_length links u (l ∷ ls) v ns w = let k = walk_length links w.1 ls v w.2 w.6 in let e : length ns ≡ length (u ∷ w.2) = ap length w.5 in omega arith
 

@@ -1,7 +1,7 @@
 -- A tree grown from node 0 by attaching one node after the other.
-use Rattle.std.specs.Prelude.{◌≡◌, ℕ, true, false, List, [], ◌∷◌, Some, map, slice_get}
+use Rattle.std.specs.Prelude.{◌≡◌, ℕ, Bool, true, false, List, [], ◌∷◌, Some, map, slice_get, slice_index_or}
 use Rattle.srm_net.specs.declared.link.LinkSpec.{LinkSpec}
-use Rattle.srm_net.specs.declared.order.Step.{Step}
+use Rattle.srm_net.specs.declared.step.Step.{Step}
 use Rattle.srm_net.specs.Network.{Joins}
 use Rattle.srm_net.specs.Paths.{is_in}
 
@@ -26,3 +26,15 @@ used ss = map (λ s. s.link) ss
 abbrev pub Grows : List LinkSpec → List Step → Type 0
 Grows links [] = Unit {0}
 Grows links (s ∷ ss) = Attaches links (attached ss) s × Grows links ss
+
+-- the step's link leads from a known node to another
+pub record LeadsOut (links : List LinkSpec) (known : List Bool) (s : Step) : Type 0 where
+  pub spec : LinkSpec
+  pub link : slice_get links s.link ≡ Some spec
+  pub joins : Joins spec s.parent s.node
+  pub parent : slice_index_or known s.parent false ≡ true
+  pub node : slice_index_or known s.node false ≡ false
+
+-- the link's ends are both known, or neither is
+abbrev pub StaysWithin : List Bool → LinkSpec → Type 0
+StaysWithin known k = slice_index_or known k.a false ≡ slice_index_or known k.b false

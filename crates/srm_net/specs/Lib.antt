@@ -10,5 +10,6 @@ pub mod Growth
 pub mod Ways
 pub mod Tables
 pub mod Built
+pub mod Told
 pub mod Laws
-pub mod Example
+pub mod Examples

@@ -1,7 +1,7 @@
 -- Tables of the ways between the nodes of a tree.
 use Rattle.std.specs.Prelude.{◌≡◌, ◌≢◌, ◌⊎◌, ℕ, ◌+◌, ◌<◌, ◌==◌, Bool, true, false, List, ◌∷◌, length, slice_index_or, if◌then◌else◌}
 use Rattle.srm_net.specs.declared.link.LinkSpec.{LinkSpec}
-use Rattle.srm_net.specs.declared.order.Step.{Step}
+use Rattle.srm_net.specs.declared.step.Step.{Step}
 use Rattle.srm_net.specs.declared.ways.Ways.{Ways}
 use Rattle.srm_net.specs.Network.{IsPath}
 use Rattle.srm_net.specs.Paths.{delay_along}

@@ -1,5 +1,5 @@
 //! Square tables.
-ghost use Rattle.std.specs.Prelude.{◌≡◌, ℕ, ◌*◌, ◌<◌, ◌==◌, ◌&&◌, Some, IfOk, vec_len, if◌then◌else◌};
+ghost use Rattle.std.specs.Prelude.{◌≡◌, ℕ, ◌*◌, ◌<◌, ◌==◌, ◌&&◌, Some, IfOk, replicate, vec_len, if◌then◌else◌};
 ghost use Rattle.srm_net.specs.Grids.{cell};
 
 use std::alloc::{AllocError, Global};
@@ -18,7 +18,8 @@ impl<T: Copy> Grid<T> {
     /// A table with `width` rows and columns, all of its values `value`.
     pub(crate) fn filled(alloc: Global, width: usize, value: T) -> Result<Grid<T>, AllocError>
         requires { width < 65536 }
-        ensures { IfOk result (λ g. g.width ≡ width) }
+        ensures width { IfOk result (λ g. g.width ≡ width) }
+        ensures cells { ((y : T) → T.is_clone value y → y ≡ value) → IfOk result (λ g. g.cells.items ≡ replicate (width * width) value) }
     {
         Ok(Grid {
             width,

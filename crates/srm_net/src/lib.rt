@@ -1,8 +1,8 @@
 //! Nodes, links, paths and drops of a tree-shaped network, and the packets and event keys that travel in it.
 #![tactic(auto)]
 
+mod checks;
 pub mod drops;
-pub mod example;
 pub mod fault;
 mod grid;
 pub mod key;
@@ -14,4 +14,8 @@ pub mod packet;
 pub mod role;
 pub mod sequence;
 mod sides;
+mod step;
+#[cfg(test)]
+mod tests;
+mod tree;
 mod ways;

@@ -4,14 +4,17 @@ ghost use Rattle.std.specs.List.{list_any};
 ghost use Rattle.srm_net.specs.Network.{plain_network, IsTree, HasDelay, AreHosts, IsNetwork};
 ghost use Rattle.srm_net.specs.Paths.{is_listed, host, route, distance, reaches, crosses, drops_at};
 ghost use Rattle.srm_net.specs.declared.link.LinkSpec.{LinkSpec};
-ghost use Rattle.srm_net.specs.Tables.{is_beyond, near_end, some_beyond};
+ghost use Rattle.srm_net.specs.Tables.{near_end, some_beyond};
 ghost use Rattle.srm_net.specs.Least.{least_delay, out};
 
+use crate::checks::{are_hosts, have_delays};
 use crate::drops::Drops;
 use crate::fault::NetFault;
 use crate::link::LinkSpec;
+use crate::order::attaching_order;
 use crate::packet::PacketId;
 use crate::sides::Sides;
+use crate::tree::Tree;
 use crate::ways::Ways;
 use std::alloc::Global;
 use std::marker::Model;
@@ -21,10 +24,7 @@ use std::marker::Model;
 /// Each member is on a node of its own. A packet takes each link's delay, in ticks, in either direction.
 #[derive(Drop)]
 pub struct Net {
-    nodes: u16,
-    links: Vec<LinkSpec>,
-    hosts: Vec<u16>,
-    ways: Ways,
+    tree: Tree,
     sides: Vec<Sides>,
     outs: Vec<Option<u64>>,
     least: Option<u64>,
@@ -35,11 +35,11 @@ impl Model for Net {
 
     ghost Value = { Network };
 
-    ghost use Rattle.srm_net.specs.Built.{plain_of, IsBuilt};
+    ghost use Rattle.srm_net.specs.Told.{tree_of, IsTold};
 
-    ghost view = { plain_of };
+    ghost view = { tree_of };
 
-    ghost invariant = { IsBuilt };
+    ghost invariant = { IsTold };
 }
 
 impl Net {
@@ -73,7 +73,28 @@ impl Net {
         // and none but want of memory where the network is as it should be
         ensures accepted { IsNetwork (plain_network nodes links.now hosts.now) → IfErr result (λ e. e ≡ NetFault.NoMemory) }
     {
-        Err(NetFault::NoMemory)
+        let steps = attaching_order(alloc, nodes, links)?;
+        if !have_delays(links) {
+            return Err(NetFault::BadDelay);
+        }
+        if !are_hosts(nodes, hosts) {
+            return Err(NetFault::BadHost);
+        }
+        let tree = Tree {
+            nodes,
+            links: links.to_vec(alloc)?,
+            hosts: hosts.to_vec(alloc)?,
+            ways: Ways::of(alloc, nodes, links, steps.as_slice())?,
+        };
+        let sides = tree.all_sides(alloc)?;
+        let outs = tree.all_outs(alloc)?;
+        let least = tree.least_delay();
+        Ok(Net {
+            tree,
+            sides,
+            outs,
+            least,
+        })
     }
 
     /// How many members there are: at most 256.
@@ -81,7 +102,7 @@ impl Net {
         ensures members { result ≡ length self.now.hosts }
         ensures network { IsNetwork self.now }
     {
-        self.hosts.len() as u16
+        self.tree.members()
     }
 
     /// The links, in the order of their numbers: at most 255.
@@ -89,7 +110,7 @@ impl Net {
         ensures links { result.now ≡ self.now.links }
         ensures network { IsNetwork self.now }
     {
-        self.links.as_slice()
+        self.tree.links()
     }
 
     /// The node of member `m`.
@@ -98,7 +119,7 @@ impl Net {
         ensures value { result ≡ host self.now m }
         ensures node { result < self.now.nodes }
     {
-        self.hosts[usize::from(m)]
+        self.tree.host(m)
     }
 
     /// How long a packet takes from member `a` to member `b`, in ticks: at most 255,000,000.
@@ -110,7 +131,7 @@ impl Net {
         ensures bounded { result ≤ 255000000 }
         ensures network { IsNetwork self.now }
     {
-        self.ways.delay(self.host(a), self.host(b))
+        self.tree.distance(a, b)
     }
 
     /// The least delay of a link, in ticks, or none where there is no link.
@@ -136,7 +157,8 @@ impl Net {
         requires member { m < length self.now.hosts }
         ensures { result ≡ reaches self.now drops.now id m }
     {
-        self.is_clear(drops, id, self.host(id.sender), self.host(m))
+        self.tree
+            .is_clear(drops, id, self.tree.host(id.sender), self.tree.host(m))
     }
 
     /// Whether a packet crosses a link: the link is on the way from its sender to some member, present or not, and
@@ -159,50 +181,6 @@ impl Net {
         drops.lists(link, id) && self.comes_to(drops, id, link)
     }
 
-    /// The first link of the way between two nodes, and the node to which it leads.
-    fn first_step(&self, from: u16, to: u16) -> (u16, u16)
-        requires from { from < self.now.nodes }
-        requires to { to < self.now.nodes }
-        requires apart { from ≢ to }
-        ensures route { route self.now from to ≡ result.0 ∷ route self.now result.1 to }
-        ensures node { result.1 < self.now.nodes }
-    {
-        let link = self.ways.first(from, to);
-        let spec = self.links[usize::from(link)];
-        let next = if spec.a == from { spec.b } else { spec.a };
-        (link, next)
-    }
-
-    /// Whether no link of the way between two nodes is to drop a packet. Where no link is to drop it this takes no walk.
-    fn is_clear(&self, drops: &Drops, id: PacketId, from: u16, to: u16) -> bool
-        requires from { from < self.now.nodes }
-        requires to { to < self.now.nodes }
-        ensures { result ≡ not (list_any (is_listed drops.now id) (route self.now from to)) }
-    {
-        if !drops.lists_packet(id) {
-            return true;
-        }
-        let mut at = from;
-        while at != to {
-            let (link, next) = self.first_step(at, to);
-            if drops.lists(link, id) {
-                return false;
-            }
-            at = next;
-        }
-        true
-    }
-
-    /// Whether a node is beyond a link, as seen from the link's end `a`.
-    fn is_beyond(&self, link: u16, node: u16) -> bool
-        requires link { link < length self.now.links }
-        requires node { node < self.now.nodes }
-        ensures { (k : LinkSpec) → slice_get self.now.links link ≡ Some k → result ≡ is_beyond self.now link k node }
-    {
-        let end = self.links[usize::from(link)].a;
-        node != end && self.ways.first(end, node) == link
-    }
-
     /// The end of a link that is nearer to a node, and whether any member is beyond the link from there.
     fn beyond(&self, link: u16, node: u16) -> (u16, bool)
         requires link { link < length self.now.links }
@@ -212,9 +190,9 @@ impl Net {
         ensures any { (k : LinkSpec) → slice_get self.now.links link ≡ Some k → result.1 ≡ some_beyond self.now link k node }
         ensures network { IsNetwork self.now }
     {
-        let spec = self.links[usize::from(link)];
+        let spec = self.tree.link(link);
         let sides = self.sides[usize::from(link)];
-        if self.is_beyond(link, node) {
+        if self.tree.is_beyond(link, node) {
             (spec.b, sides.a)
         } else {
             (spec.a, sides.b)
@@ -230,6 +208,6 @@ impl Net {
     {
         let from = self.host(id.sender);
         let (near, is_any_beyond) = self.beyond(link, from);
-        is_any_beyond && self.is_clear(drops, id, from, near)
+        is_any_beyond && self.tree.is_clear(drops, id, from, near)
     }
 }

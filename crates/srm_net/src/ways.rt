@@ -6,6 +6,10 @@ ghost use Rattle.srm_net.specs.Network.{HasDelay, IsWithin};
 ghost use Rattle.srm_net.specs.Ways.{TellsWays, Extends, Leads};
 
 use crate::grid::Grid;
+use crate::link::LinkSpec;
+use crate::step::Step;
+use std::alloc::{AllocError, Global};
+
 /// For each two nodes the delay between them, in ticks, and the first link of the way from the one to the other.
 #[derive(Drop)]
 pub(crate) struct Ways {
@@ -14,6 +18,36 @@ pub(crate) struct Ways {
 }
 
 impl Ways {
+    /// The ways in the tree that grows by these steps.
+    pub(crate) fn of(
+        alloc: Global,
+        nodes: u16,
+        links: &[LinkSpec],
+        steps: &[Step],
+    ) -> Result<Ways, AllocError>
+        requires some_nodes { 1 ≤ nodes }
+        requires few_nodes { nodes ≤ 256 }
+        requires ends { All (IsWithin nodes) links.now }
+        requires delays { All HasDelay links.now }
+        requires grows { Grows links.now (reverse steps.now) }
+        requires all { length steps.now + 1 ≡ nodes }
+        ensures { IfOk result (λ ways. TellsWays nodes links.now ways) }
+    {
+        let width = usize::from(nodes);
+        let mut ways = Ways {
+            delays: Grid::filled(alloc, width, 0)?,
+            firsts: Grid::filled(alloc, width, 0)?,
+        };
+        let mut known = vec![in alloc; false; width]?;
+        known[0] = true;
+        for step in steps {
+            let delay = links[usize::from(step.link)].delay as u32;
+            ways.attach(known.as_slice(), *step, delay);
+            known[usize::from(step.node)] = true;
+        }
+        Ok(ways)
+    }
+
     /// How long the way between two nodes is, in ticks.
     pub(crate) fn delay(&self, from: u16, to: u16) -> u64
         requires from { from < self.now.delays.width }
@@ -30,5 +64,39 @@ impl Ways {
         ensures { result ≡ number_at self.now.firsts.width self.now.firsts.cells.items from to }
     {
         self.firsts.at(usize::from(from), usize::from(to))
+    }
+
+    /// Writes the ways between a new node and the known ones.
+    fn attach(&mut self, known: &[bool], step: Step, delay: u32)
+        requires delays_width { self.old.delays.width ≡ length known.now }
+        requires firsts_width { self.old.firsts.width ≡ length known.now }
+        requires node { step.node < length known.now }
+        requires parent { step.parent < length known.now }
+        requires new { slice_index_or known.now step.node false ≡ false }
+        requires old { slice_index_or known.now step.parent false ≡ true }
+        requires fits { (u : ℕ) → u < length known.now → slice_index_or known.now u false ≡ true
+            → number_at self.old.delays.width self.old.delays.cells.items u step.parent + delay < 4294967296 }
+        ensures delays_width { self.new.delays.width ≡ self.old.delays.width }
+        ensures firsts_width { self.new.firsts.width ≡ self.old.firsts.width }
+        ensures delays { Extends known.now step delay self.old.delays.width self.old.delays.cells.items self.new.delays.cells.items }
+        ensures firsts { Leads known.now step self.old.firsts.width self.old.firsts.cells.items self.new.firsts.cells.items }
+    {
+        let node = usize::from(step.node);
+        let parent = usize::from(step.parent);
+        for near in 0..known.len() {
+            if !known[near] {
+                continue;
+            }
+            let far = self.delays.at(near, parent) + delay;
+            let first = if near == parent {
+                step.link
+            } else {
+                self.firsts.at(near, parent)
+            };
+            self.delays.put(near, node, far);
+            self.delays.put(node, near, far);
+            self.firsts.put(near, node, first);
+            self.firsts.put(node, near, step.link);
+        }
     }
 }

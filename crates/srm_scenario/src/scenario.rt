@@ -53,7 +53,8 @@ impl Scenario {
 
     /// The constants of the timers, in thousandths.
     pub fn constants(&self) -> Constants
-        ensures { result ≡ self.now.constants }
+        ensures constants { result ≡ self.now.constants }
+        ensures accepted { IsAccepted self.now }
     {
         self.constants
     }

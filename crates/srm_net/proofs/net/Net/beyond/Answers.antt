@@ -1,13 +1,26 @@
-use Rattle.std.proofs.Common.{◌≡◌, ◌∙◌, sym, ap, subst, arith, refl, cond, true, false, ◌<◌, length, get_or, slice_get, Some}
-use Rattle.srm_net.specs.declared.link.LinkSpec.{LinkSpec}
-use Rattle.srm_net.specs.Network.{Network}
-use Rattle.srm_net.specs.Tables.{is_beyond, near_end}
-use Rattle.srm_net.specs.Built.{plain_of}
-use Rattle.srm_net.proofs.Lists.{get_index}
-use Rattle.srm_net.proofs.BuiltLemmas.{sides_told, side_below, seen_link}
+use Rattle.std.proofs.Common.{◌≡◌, ◌∙◌, sym, ap, arith, ◌<◌, length, true, false}
+use Rattle.srm_net.proofs.BuiltLemmas.{seen_link}
+use Rattle.srm_net.proofs.ToldLemmas.{side_below, near_seen, any_seen}
 use Rattle.srm_net.proofs.net.Net.beyond.Goals as goal
+
+pub index-sides-requires : goal.index-sides-requires
+index-sides-requires c =
+    let lt = seen_link c.self.inside.tree c.args.self.now c.args.link c.self.view_is c.requires.link in
+    let k : c.args.link < length c.self.inside.sides.items = side_below c.self.inside c.self.invariant c.args.link lt in
+    omega (arith, c.self.inside.sides.ok.0)
+
+pub returns-then-is_beyond-clause-near : goal.returns-then-is_beyond-clause-near
+returns-then-is_beyond-clause-near c k g =
+    near_seen c.self.inside.tree c.args.self.now c.self.view_is c.args.link c.args.node c.link-spec.result c.link-spec.ensures k g true (λ j h. sym c.if-is_beyond.true ∙ c.is_beyond.ensures j h)
 
 pub returns-then-is_beyond-clause-any : goal.returns-then-is_beyond-clause-any
 returns-then-is_beyond-clause-any c k g =
-    sides_told c.self.inside c.self.invariant c.args.self.now c.self.view_is c.args.link k g c.index-sides.result.now
-    (subst (λ i. c.index-sides.result.now ≡ get_or c.self.inside.sides.items i c.index-sides.result.now) c.from-2.ensures c.index-sides.ensures) c.args.node true (sym (c.is_beyond.ensures k g) ∙ c.if-is_beyond.true)
+    any_seen c.self.inside c.self.invariant c.args.self.now c.self.view_is c.args.link c.args.node c.from.result c.index-sides.result.now c.from.ensures c.index-sides.ensures k g true (λ j h. sym c.if-is_beyond.true ∙ c.is_beyond.ensures j h)
+
+pub returns-else-is_beyond-clause-near : goal.returns-else-is_beyond-clause-near
+returns-else-is_beyond-clause-near c k g =
+    near_seen c.self.inside.tree c.args.self.now c.self.view_is c.args.link c.args.node c.link-spec.result c.link-spec.ensures k g false (λ j h. sym c.if-is_beyond.false ∙ c.is_beyond.ensures j h)
+
+pub returns-else-is_beyond-clause-any : goal.returns-else-is_beyond-clause-any
+returns-else-is_beyond-clause-any c k g =
+    any_seen c.self.inside c.self.invariant c.args.self.now c.self.view_is c.args.link c.args.node c.from.result c.index-sides.result.now c.from.ensures c.index-sides.ensures k g false (λ j h. sym c.if-is_beyond.false ∙ c.is_beyond.ensures j h)

@@ -1,5 +1,6 @@
 use Rattle.std.proofs.Common.{◌≡◌, ◌∙◌, ap, not}
 use Rattle.std.specs.List.{list_any}
+use Rattle.srm_net.specs.Network.{Network}
 use Rattle.srm_net.specs.Paths.{is_listed, host, route, reaches}
 use Rattle.srm_net.proofs.net.Net.reaches.Goals as goal
 
@@ -7,6 +8,8 @@ pub returns : goal.returns
 unfolding reaches
 returns c =
     let f = is_listed c.args.drops.now c.args.id in
+    let w = c.self.inside.tree in
     c.is_clear.ensures
-    ∙ ap (λ u. not (list_any f (route c.args.self.now u c.host-2.result))) c.host.ensures.value
-    ∙ ap (λ u. not (list_any f (route c.args.self.now (host c.args.self.now c.args.id.sender) u))) c.host-2.ensures.value
+    ∙ ap (λ u. not (list_any f (route w u c.host-2.result))) c.host.ensures.value
+    ∙ ap (λ u. not (list_any f (route w (host w c.args.id.sender) u))) c.host-2.ensures.value
+    ∙ ap (λ (v : Network). not (list_any f (route v (host v c.args.id.sender) (host v c.args.m)))) c.self.view_is

@@ -1,0 +1,105 @@
+-- What a network's tables of sides and of least distances give.
+use Rattle.std.proofs.Common.{◌≡◌, ℕ, suc, ◌+◌, ◌<◌, ◌≤◌, Bool, true, false, not, cond, ◌||◌, List, [], ◌∷◌, ◌++◌, length, Option, Some, None, refl, sym, ap, ◌∙◌, subst, inl, inr, arith, slice_get, slice_index_or, get_or}
+use Rattle.std.proofs.lemmas.Bool.{cases_eq}
+use Rattle.srm_net.specs.declared.link.LinkSpec.{LinkSpec}
+use Rattle.srm_net.specs.declared.sides.Sides.{Sides}
+use Rattle.srm_net.specs.declared.net.Net.TheInside.{Inside}
+use Rattle.srm_net.specs.Network.{Network, IsNetwork}
+use Rattle.srm_net.specs.Paths.{host, some_below}
+use Rattle.srm_net.specs.Tables.{is_beyond, near_end, some_beyond, TellsSides}
+use Rattle.srm_net.specs.Least.{out}
+use Rattle.srm_net.specs.Told.{IsTold}
+use Rattle.srm_net.proofs.Lists.{get_below, below_get, get_index, get_push_old, get_push_new}
+
+-- whether one of the first n members is on the side of a link's end a, and of its end b
+
+abbrev pub some_near_a : Network → ℕ → LinkSpec → ℕ → Bool
+some_near_a w l k n = some_below (λ m. not (is_beyond w l k (host w m))) n
+
+abbrev pub some_near_b : Network → ℕ → LinkSpec → ℕ → Bool
+some_near_b w l k n = some_below (λ m. is_beyond w l k (host w m)) n
+
+-- the sides as told by the first n members
+pub record TellsFirst (w : Network) (l n : ℕ) (s : Sides) (k : LinkSpec) : Type 0 where
+  pub a : s.a ≡ some_near_a w l k n
+  pub b : s.b ≡ some_near_b w l k n
+
+some_next : (f : ℕ → Bool) (n : ℕ) → some_below f (n + 1) ≡ (f n || some_below f n)
+some_next f n = let e : n + 1 ≡ suc n = omega arith in ap (some_below f) e
+
+pub first_beyond : (w : Network) (l n u : ℕ) (s t : Sides) (k : LinkSpec) → u ≡ host w n → is_beyond w l k u ≡ true → t ≡ record s { b = true } → TellsFirst w l n s k → TellsFirst w l (n + 1) t k
+first_beyond w l n u s t k e y r f =
+    let here : is_beyond w l k (host w n) ≡ true = subst (λ v. is_beyond w l k v ≡ true) e y in
+    record {
+      a = ap (λ (x : Sides). x.a) r ∙ f.a ∙ sym (some_next (λ m. not (is_beyond w l k (host w m))) n ∙ ap (λ b. not b || some_near_a w l k n) here);
+      b = ap (λ (x : Sides). x.b) r ∙ sym (some_next (λ m. is_beyond w l k (host w m)) n ∙ ap (λ b. b || some_near_b w l k n) here);
+    }
+
+pub first_near : (w : Network) (l n u : ℕ) (s t : Sides) (k : LinkSpec) → u ≡ host w n → is_beyond w l k u ≡ false → t ≡ record s { a = true } → TellsFirst w l n s k → TellsFirst w l (n + 1) t k
+first_near w l n u s t k e y r f =
+    let here : is_beyond w l k (host w n) ≡ false = subst (λ v. is_beyond w l k v ≡ false) e y in
+    record {
+      a = ap (λ (x : Sides). x.a) r ∙ sym (some_next (λ m. not (is_beyond w l k (host w m))) n ∙ ap (λ b. not b || some_near_a w l k n) here);
+      b = ap (λ (x : Sides). x.b) r ∙ f.b ∙ sym (some_next (λ m. is_beyond w l k (host w m)) n ∙ ap (λ b. b || some_near_b w l k n) here);
+    }
+
+-- what the sides of a link tell
+pub sides_told : (n : Inside) → IsTold n → (l : ℕ) (k : LinkSpec) → slice_get n.tree.links l ≡ Some k → (s : Sides) → s ≡ slice_index_or n.sides.items l s → (u : ℕ) → (b : Bool) → is_beyond n.tree l k u ≡ b
+    → cond b s.a s.b ≡ some_beyond n.tree l k u
+sides_told n i l k g s r u b q =
+    let told = i.sides l k g in
+    let same : s ≡ told.0 = r ∙ get_index n.sides.items l told.0 s told.1 in
+    elim b as (λ t. is_beyond n.tree l k u ≡ t → cond t s.a s.b ≡ some_beyond n.tree l k u) [
+      | true ↦ λ h. rw h (ap (λ (x : Sides). x.a) same ∙ told.2.a)
+      | false ↦ λ h. rw h (ap (λ (x : Sides). x.b) same ∙ told.2.b)
+    ] q
+
+pub side_below : (n : Inside) → IsTold n → (l : ℕ) → l < length n.tree.links → l < length n.sides.items
+side_below n i l h = let k = below_get n.tree.links l h in let told = i.sides l k.0 k.1 in get_below n.sides.items l told.0 told.1
+
+-- ---- at the network that callers see
+
+module _ (w n : Network) (e : w ≡ n) (l u : ℕ) (spec : LinkSpec) (g : slice_get w.links l ≡ Some spec) (k : LinkSpec) (h : slice_get n.links l ≡ Some k) where
+  spec_same : spec ≡ k
+  spec_same = let r : Some spec ≡ Some k = sym g ∙ ap (λ (v : Network). slice_get v.links l) e ∙ h in cc
+
+  pub near_seen : (b : Bool) → ((j : LinkSpec) → slice_get w.links l ≡ Some j → b ≡ is_beyond w l j u) → cond b spec.b spec.a ≡ near_end n l k u
+  near_seen b t =
+      let q : b ≡ is_beyond n l k u = t spec g ∙ ap (λ (j : LinkSpec). is_beyond w l j u) spec_same ∙ ap (λ (v : Network). is_beyond v l k u) e in
+      ap (λ (j : LinkSpec). cond b j.b j.a) spec_same ∙ ap (λ c. cond c k.b k.a) q
+
+pub any_seen : (i : Inside) → IsTold i → (n : Network) → i.tree ≡ n → (l u f : ℕ) (s : Sides) → f ≡ l → s ≡ slice_index_or i.sides.items f s → (k : LinkSpec) → slice_get n.links l ≡ Some k
+    → (b : Bool) → ((j : LinkSpec) → slice_get i.tree.links l ≡ Some j → b ≡ is_beyond i.tree l j u) → cond b s.a s.b ≡ some_beyond n l k u
+any_seen i t n e l u f s q r k h b y =
+    let g : slice_get i.tree.links l ≡ Some k = ap (λ (v : Network). slice_get v.links l) e ∙ h in
+    sides_told i t l k g s (r ∙ ap (λ z. slice_index_or i.sides.items z s) q) u b (sym (y k g)) ∙ ap (λ (v : Network). some_beyond v l k u) e
+
+-- ---- making the tables
+
+-- the sides of the links below a number are told
+abbrev pub SidesBelow : Network → ℕ → List Sides → Type 0
+SidesBelow w n all = (l : ℕ) (k : LinkSpec) → l < n → slice_get w.links l ≡ Some k → (s : Sides) × (slice_get all l ≡ Some s) × TellsSides w l k s
+
+pub sides_more : (w : Network) (n : ℕ) (all : List Sides) (s : Sides) → length all ≡ n → SidesBelow w n all → ((k : LinkSpec) → slice_get w.links n ≡ Some k → TellsSides w n k s) → SidesBelow w (n + 1) (all ++ s ∷ [])
+sides_more w n all s e below new l k h g =
+    elim (cases_eq l n) [
+      | inl q ↦ subst (λ m. (t : Sides) × (slice_get (all ++ s ∷ []) m ≡ Some t) × TellsSides w m k t) (sym q) (s, get_push_new all s n e, new k (subst (λ m. slice_get w.links m ≡ Some k) q g))
+      | inr q ↦ (let b = below l k (omega arith) g in (b.0, get_push_old all s l (omega arith) ∙ b.1, b.2))
+    ]
+
+-- the least distances of the members below a number are told
+abbrev pub OutsBelow : Network → ℕ → List (Option ℕ) → Type 0
+OutsBelow w n all = (m : ℕ) → m < n → slice_get all m ≡ Some (out w m)
+
+pub outs_more : (w : Network) (n : ℕ) (all : List (Option ℕ)) (o : Option ℕ) → length all ≡ n → OutsBelow w n all → o ≡ out w n → OutsBelow w (n + 1) (all ++ o ∷ [])
+outs_more w n all o e below new m h =
+    elim (cases_eq m n) [
+      | inl q ↦ subst (λ t. slice_get (all ++ o ∷ []) t ≡ Some (out w t)) (sym q) (get_push_new all o n e ∙ ap Some new)
+      | inr q ↦ get_push_old all o m (omega arith) ∙ below m (omega arith)
+    ]
+
+pub few_links : (w : Network) → IsNetwork w → length w.links ≤ 255
+few_links w n =
+    let few : w.nodes ≤ 256 = n.tree.few_nodes in
+    let one : length w.links + 1 ≡ w.nodes = n.tree.one_fewer in
+    omega arith

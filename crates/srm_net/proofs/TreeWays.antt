@@ -1,0 +1,320 @@
+-- The ways between the nodes of a growing tree.
+use Rattle.std.proofs.Common.{◌≡◌, ◌≢◌, ◌⊎◌, ℕ, zero, suc, ◌+◌, ◌*◌, ◌<◌, ◌≤◌, Bool, true, false, not, cond, List, [], ◌∷◌, ◌++◌, length, take, drop, reverse, replicate, Option, Some, None, refl, sym, ap, ◌∙◌, subst, inl, inr, arith, eqb, eq-eqb, eqb-true, slice_get, slice_set, slice_index_or, unwrap_or, All, get_or, ◌||◌}
+use Rattle.std.proofs.lemmas.Bool.{ne_eqb, eqb-false, cases_Bool, cases_eq, both_ways, true≢false, false≢true}
+use Rattle.std.proofs.lemmas.List.{take-append-drop, reverse-append, take_more, length-replicate, get_or-set_same, get_or-set_other}
+use Rattle.srm_net.specs.declared.link.LinkSpec.{LinkSpec}
+use Rattle.srm_net.specs.declared.step.Step.{Step}
+use Rattle.srm_net.specs.declared.ways.Ways.{Ways}
+use Rattle.srm_net.specs.Network.{Network, Joins, IsWalk, IsPath, IsWithin, HasDelay}
+use Rattle.srm_net.specs.Paths.{is_in, delay_of, delay_along}
+use Rattle.srm_net.specs.Growth.{Attaches, attached, Grows}
+use Rattle.srm_net.specs.Grids.{cell, number_at}
+use Rattle.srm_net.specs.Ways.{is_known, Extends, Leads, IsWayOf, TellsWays}
+use Rattle.srm_net.proofs.Lists.{get_below, all_get}
+use Rattle.srm_net.proofs.Numbers.{Apart, Below, in_head, in_tail, in_cases, not_in, in_append_cases, apart_push, few_apart, distinct_from_apart}
+use Rattle.srm_net.proofs.Walks.{walk_first, walk_last, turned}
+use Rattle.srm_net.proofs.Growing.{attached_below, all_attached}
+use Rattle.srm_net.proofs.RouteLemmas.{walk_length}
+use Rattle.srm_net.proofs.PathLaws.{delay_at_most}
+
+-- a path among these nodes with this delay, which begins with this link
+pub record IsWay (links : List LinkSpec) (inside : List ℕ) (u x delay first : ℕ) : Type 0 where
+  pub path : List ℕ
+  pub nodes : List ℕ
+  pub walk : IsWalk links u path x nodes
+  pub apart : Apart nodes
+  pub within : (n : ℕ) → is_in nodes n ≡ true → is_in inside n ≡ true
+  pub delay_is : delay_along links path ≡ delay
+  pub first_is : u ≢ x → (rest : List ℕ) × (path ≡ first ∷ rest)
+
+-- ---- a walk and one link more
+
+walk_push : (links : List LinkSpec) (u : ℕ) (ls : List ℕ) (p : ℕ) (ns : List ℕ) (l : ℕ) (k : LinkSpec) (v : ℕ) → IsWalk links u ls p ns → slice_get links l ≡ Some k → Joins k p v → IsWalk links u (ls ++ l ∷ []) v (ns ++ v ∷ [])
+walk_push links u [] p ns l k v w g j =
+    (k, v, v ∷ [], g, subst (λ t. Joins k t v) (sym w.0) j, ap (λ t. t ++ v ∷ []) w.1, (refl, refl))
+walk_push links u (m ∷ ls) p ns l k v w g j =
+    (w.0, w.1, w.2 ++ v ∷ [], w.3, w.4, ap (λ t. t ++ v ∷ []) w.5, walk_push links w.1 ls p w.2 l k v w.6 g j)
+
+delay_push : (links : List LinkSpec) (ls : List ℕ) (l : ℕ) → delay_along links (ls ++ l ∷ []) ≡ delay_along links ls + delay_of (slice_get links l)
+delay_push links [] l = omega arith
+delay_push links (m ∷ ls) l = let k = delay_push links ls l in omega arith
+
+closed_empty : (links : List LinkSpec) (u : ℕ) (ls : List ℕ) (v : ℕ) (ns : List ℕ) → IsWalk links u ls v ns → Apart ns → u ≡ v → ls ≡ []
+closed_empty links u [] v ns w a e = refl
+closed_empty links u (l ∷ ls) v ns w a e =
+    let b : Apart (u ∷ w.2) = subst Apart w.5 a in
+    absurd (both_ways _ b.0 (subst (λ t. is_in w.2 t ≡ true) (sym e) (walk_last links w.1 ls v w.2 w.6)))
+
+-- ---- a new node
+
+pub way_stay : (links : List LinkSpec) (inside : List ℕ) (u first : ℕ) → is_in inside u ≡ true → IsWay links inside u u 0 first
+way_stay links inside u first i = record {
+  path = [];
+  nodes = u ∷ [];
+  walk = (refl, refl);
+  apart = (refl, tt);
+  within = λ n h. elim (in_cases u n [] h) [ inl e ↦ subst (λ t. is_in inside t ≡ true) e i | inr e ↦ absurd (false≢true e) ];
+  delay_is = refl;
+  first_is = λ d. absurd (d refl);
+}
+
+pub way_kept : (links : List LinkSpec) (inside : List ℕ) (n u x delay first : ℕ) → IsWay links inside u x delay first → IsWay links (n ∷ inside) u x delay first
+way_kept links inside n u x delay first w = record {
+  path = w.path;
+  nodes = w.nodes;
+  walk = w.walk;
+  apart = w.apart;
+  within = λ m h. in_tail n m inside (w.within m h);
+  delay_is = w.delay_is;
+  first_is = w.first_is;
+}
+
+pub way_there : (links : List LinkSpec) (inside : List ℕ) (s : Step) (a : Attaches links inside s) (u delay first : ℕ) → IsWay links inside u s.parent delay first
+    → IsWay links (s.node ∷ inside) u s.node (delay + a.spec.delay) (cond (eqb u s.parent) s.link first)
+way_there links inside s a u delay first w =
+    let new : is_in w.nodes s.node ≡ false = not_in w.nodes s.node (λ i. both_ways _ a.node (w.within s.node i)) in
+    let e : delay_of (slice_get links s.link) ≡ a.spec.delay = ap delay_of a.link in
+    let d = delay_push links w.path s.link in
+    let q : delay_along links w.path ≡ delay = w.delay_is in
+    record {
+      path = w.path ++ s.link ∷ [];
+      nodes = w.nodes ++ s.node ∷ [];
+      walk = walk_push links u w.path s.parent w.nodes s.link a.spec s.node w.walk a.link a.joins;
+      apart = apart_push w.nodes s.node w.apart new;
+      within = λ n h. elim (in_append_cases w.nodes (s.node ∷ []) n h) [
+        | inl i ↦ in_tail s.node n inside (w.within n i)
+        | inr i ↦ elim (in_cases s.node n [] i) [ inl f ↦ subst (λ t. is_in (s.node ∷ inside) t ≡ true) f (in_head s.node inside) | inr f ↦ absurd (false≢true f) ]
+      ];
+      delay_is = omega arith;
+      first_is = λ _. elim (cases_eq u s.parent) [
+        | inl f ↦ ([], ap (λ t. t ++ s.link ∷ []) (closed_empty links u w.path s.parent w.nodes w.walk w.apart f) ∙ sym (ap (λ b. cond b s.link first ∷ []) (eq-eqb u s.parent f)))
+        | inr f ↦ ((w.first_is f).0 ++ s.link ∷ [], ap (λ t. t ++ s.link ∷ []) ((w.first_is f).1) ∙ sym (ap (λ b. cond b s.link first ∷ ((w.first_is f).0 ++ s.link ∷ [])) (ne_eqb u s.parent f)))
+      ];
+    }
+
+pub way_back : (links : List LinkSpec) (inside : List ℕ) (s : Step) (a : Attaches links inside s) (x delay first : ℕ) → IsWay links inside s.parent x delay first
+    → IsWay links (s.node ∷ inside) s.node x (delay + a.spec.delay) s.link
+way_back links inside s a x delay first w =
+    let new : is_in w.nodes s.node ≡ false = not_in w.nodes s.node (λ i. both_ways _ a.node (w.within s.node i)) in
+    let e : delay_of (slice_get links s.link) ≡ a.spec.delay = ap delay_of a.link in
+    let q : delay_along links w.path ≡ delay = w.delay_is in
+    record {
+      path = s.link ∷ w.path;
+      nodes = s.node ∷ w.nodes;
+      walk = (a.spec, s.parent, w.nodes, a.link, turned a.spec s.parent s.node a.joins, refl, w.walk);
+      apart = (new, w.apart);
+      within = λ n h. elim (in_cases s.node n w.nodes h) [
+        | inl f ↦ subst (λ t. is_in (s.node ∷ inside) t ≡ true) f (in_head s.node inside)
+        | inr i ↦ in_tail s.node n inside (w.within n i)
+      ];
+      delay_is = omega arith;
+      first_is = λ _. (w.path, refl);
+    }
+
+-- ---- both ways between any two nodes of a grown tree
+
+pub record BothWays (links : List LinkSpec) (inside : List ℕ) (u x : ℕ) : Type 0 where
+  pub delay : ℕ
+  pub one : ℕ
+  pub two : ℕ
+  pub there : IsWay links inside u x delay one
+  pub back : IsWay links inside x u delay two
+
+pub both_ways_grown : (links : List LinkSpec) (ss : List Step) → Grows links ss → (u x : ℕ) → is_in (attached ss) u ≡ true → is_in (attached ss) x ≡ true → BothWays links (attached ss) u x
+both_ways_grown links [] g u x i j =
+    let zero_in : (y : ℕ) → is_in (0 ∷ []) y ≡ true → 0 ≡ y = λ y h. elim (in_cases 0 y [] h) [ inl e ↦ e | inr e ↦ absurd (false≢true e) ] in
+    let same : u ≡ x = sym (zero_in u i) ∙ zero_in x j in
+    subst (λ t. BothWays links (0 ∷ []) u t) same (record { delay = 0; one = 0; two = 0; there = way_stay links (0 ∷ []) u 0 i; back = way_stay links (0 ∷ []) u 0 i })
+both_ways_grown links (s ∷ ss) g u x i j =
+    elim (in_cases s.node u (attached ss) i) [
+      | inl e ↦ elim (in_cases s.node x (attached ss) j) [
+        | inl f ↦ subst (λ t. BothWays links (s.node ∷ attached ss) u t) (sym e ∙ f) (record { delay = 0; one = 0; two = 0; there = way_stay links (s.node ∷ attached ss) u 0 i; back = way_stay links (s.node ∷ attached ss) u 0 i })
+        | inr f ↦
+            (let b = both_ways_grown links ss g.1 s.parent x g.0.parent f in
+            subst (λ t. BothWays links (s.node ∷ attached ss) t x) e
+            (record {
+              delay = b.delay + g.0.spec.delay;
+              one = s.link;
+              two = cond (eqb x s.parent) s.link b.two;
+              there = way_back links (attached ss) s g.0 x b.delay b.one b.there;
+              back = way_there links (attached ss) s g.0 x b.delay b.two b.back;
+            }))
+      ]
+      | inr e ↦ elim (in_cases s.node x (attached ss) j) [
+        | inl f ↦
+            (let b = both_ways_grown links ss g.1 u s.parent e g.0.parent in
+            subst (λ t. BothWays links (s.node ∷ attached ss) u t) f
+            (record {
+              delay = b.delay + g.0.spec.delay;
+              one = cond (eqb u s.parent) s.link b.one;
+              two = s.link;
+              there = way_there links (attached ss) s g.0 u b.delay b.one b.there;
+              back = way_back links (attached ss) s g.0 u b.delay b.two b.back;
+            }))
+        | inr f ↦
+            (let b = both_ways_grown links ss g.1 u x e f in
+            record { delay = b.delay; one = b.one; two = b.two; there = way_kept links (attached ss) s.node u x b.delay b.one b.there; back = way_kept links (attached ss) s.node x u b.delay b.two b.back })
+      ]
+    ]
+
+-- ---- tables of a growing tree
+
+-- the nodes marked as known are the attached ones
+abbrev pub KnownAre : ℕ → List Step → List Bool → Type 0
+KnownAre nodes ss known = (x : ℕ) → x < nodes → is_known known x ≡ is_in (attached ss) x
+
+-- the tables tell the ways between the attached nodes
+pub record TellsSoFar (nodes : ℕ) (links : List LinkSpec) (ss : List Step) (delays firsts : List ℕ) : Type 0 where
+  pub ways : (u x : ℕ) → is_in (attached ss) u ≡ true → is_in (attached ss) x ≡ true → IsWay links (attached ss) u x (number_at nodes delays u x) (number_at nodes firsts u x)
+  pub turns : (u x : ℕ) → is_in (attached ss) u ≡ true → is_in (attached ss) x ≡ true → number_at nodes delays u x ≡ number_at nodes delays x u
+  pub still : (u : ℕ) → u < nodes → number_at nodes delays u u ≡ 0
+
+way_as : (links : List LinkSpec) (inside : List ℕ) (u x a b c d : ℕ) → a ≡ b → c ≡ d → IsWay links inside u x a c → IsWay links inside u x b d
+way_as links inside u x a b c d e f w = subst (λ t. IsWay links inside u x b t) f (subst (λ t. IsWay links inside u x t c) e w)
+
+pub tells_more : (nodes : ℕ) (links : List LinkSpec) (ss : List Step) (s : Step) (known : List Bool) (delay : ℕ) (d0 f0 d1 f1 : List ℕ)
+    → length known ≡ nodes → Below nodes (attached ss) → s.node < nodes → KnownAre nodes ss known → (a : Attaches links (attached ss) s) → delay ≡ a.spec.delay
+    → TellsSoFar nodes links ss d0 f0 → Extends known s delay nodes d0 d1 → Leads known s nodes f0 f1 → TellsSoFar nodes links (s ∷ ss) d1 f1
+tells_more nodes links ss s known delay d0 f0 d1 f1 size below new agree a same t e l =
+    let old : (y : ℕ) → is_in (attached ss) y ≡ true → y ≢ s.node = λ y i q. both_ways _ a.node (subst (λ z. is_in (attached ss) z ≡ true) q i) in
+    let fits : (y : ℕ) → is_in (attached ss) y ≡ true → y < length known = λ y i. (let k = below y i in omega arith) in
+    let marked : (y : ℕ) → is_in (attached ss) y ≡ true → is_known known y ≡ true = λ y i. agree y (below y i) ∙ i in
+    let here : s.node < length known = omega arith in
+    record {
+      ways = λ u x i j. elim (in_cases s.node u (attached ss) i) [
+        | inl p ↦ elim (in_cases s.node x (attached ss) j) [
+          | inl q ↦ subst (λ z. IsWay links (s.node ∷ attached ss) z x (number_at nodes d1 z x) (number_at nodes f1 z x)) p
+              (subst (λ z. IsWay links (s.node ∷ attached ss) s.node z (number_at nodes d1 s.node z) (number_at nodes f1 s.node z)) q
+              (way_as links (s.node ∷ attached ss) s.node s.node 0 (number_at nodes d1 s.node s.node) (number_at nodes f1 s.node s.node) (number_at nodes f1 s.node s.node)
+              (sym (e.kept s.node s.node here (inr refl) ∙ t.still s.node new)) refl
+              (way_stay links (s.node ∷ attached ss) s.node (number_at nodes f1 s.node s.node) (in_head s.node (attached ss)))))
+          | inr q ↦ subst (λ z. IsWay links (s.node ∷ attached ss) z x (number_at nodes d1 z x) (number_at nodes f1 z x)) p
+              (way_as links (s.node ∷ attached ss) s.node x (number_at nodes d0 s.parent x + a.spec.delay) (number_at nodes d1 s.node x) s.link (number_at nodes f1 s.node x)
+              (sym (e.back x (fits x q) (marked x q) ∙ ap (λ z. z + delay) (t.turns x s.parent q a.parent) ∙ ap (λ z. number_at nodes d0 s.parent x + z) same)) (sym (l.back x (fits x q) (marked x q)))
+              (way_back links (attached ss) s a x (number_at nodes d0 s.parent x) (number_at nodes f0 s.parent x) (t.ways s.parent x a.parent q)))
+        ]
+        | inr p ↦ elim (in_cases s.node x (attached ss) j) [
+          | inl q ↦ subst (λ z. IsWay links (s.node ∷ attached ss) u z (number_at nodes d1 u z) (number_at nodes f1 u z)) q
+              (way_as links (s.node ∷ attached ss) u s.node (number_at nodes d0 u s.parent + a.spec.delay) (number_at nodes d1 u s.node) (cond (eqb u s.parent) s.link (number_at nodes f0 u s.parent)) (number_at nodes f1 u s.node)
+              (sym (e.there u (fits u p) (marked u p) ∙ ap (λ z. number_at nodes d0 u s.parent + z) same)) (sym (l.there u (fits u p) (marked u p)))
+              (way_there links (attached ss) s a u (number_at nodes d0 u s.parent) (number_at nodes f0 u s.parent) (t.ways u s.parent p a.parent)))
+          | inr q ↦ way_as links (s.node ∷ attached ss) u x (number_at nodes d0 u x) (number_at nodes d1 u x) (number_at nodes f0 u x) (number_at nodes f1 u x)
+              (sym (e.kept u x (fits x q) (inl (old u p, old x q)))) (sym (l.kept u x (fits x q) (inl (old u p, old x q))))
+              (way_kept links (attached ss) s.node u x (number_at nodes d0 u x) (number_at nodes f0 u x) (t.ways u x p q))
+        ]
+      ];
+      turns = λ u x i j. elim (in_cases s.node u (attached ss) i) [
+        | inl p ↦ elim (in_cases s.node x (attached ss) j) [
+          | inl q ↦ ap (λ z. number_at nodes d1 z x) (sym p ∙ q) ∙ ap (λ z. number_at nodes d1 x z) (sym q ∙ p)
+          | inr q ↦ subst (λ z. number_at nodes d1 z x ≡ number_at nodes d1 x z) p (e.back x (fits x q) (marked x q) ∙ sym (e.there x (fits x q) (marked x q)))
+        ]
+        | inr p ↦ elim (in_cases s.node x (attached ss) j) [
+          | inl q ↦ subst (λ z. number_at nodes d1 u z ≡ number_at nodes d1 z u) q (e.there u (fits u p) (marked u p) ∙ sym (e.back u (fits u p) (marked u p)))
+          | inr q ↦ e.kept u x (fits x q) (inl (old u p, old x q)) ∙ t.turns u x p q ∙ sym (e.kept x u (fits u p) (inl (old x q, old u p)))
+        ]
+      ];
+      still = λ u h. e.kept u u (omega arith) (inr refl) ∙ t.still u h;
+    }
+
+-- no delay between attached nodes is above 255,000,000
+pub told_bounded : (nodes : ℕ) (links : List LinkSpec) (ss : List Step) (delays firsts : List ℕ) → nodes ≤ 256 → All HasDelay links → Below nodes (attached ss) → TellsSoFar nodes links ss delays firsts
+    → (u x : ℕ) → is_in (attached ss) u ≡ true → is_in (attached ss) x ≡ true → number_at nodes delays u x ≤ 255000000
+told_bounded nodes links ss delays firsts few d below t u x i j =
+    let w = t.ways u x i j in
+    let a = delay_at_most links d u w.path x w.nodes w.walk in
+    let b = walk_length links u w.path x w.nodes w.walk in
+    let c = few_apart nodes w.nodes w.apart (λ n h. below n (w.within n h)) in
+    let e : delay_along links w.path ≡ number_at nodes delays u x = w.delay_is in
+    omega arith
+
+-- ---- the beginning
+
+get_replicate : (n x i : ℕ) → unwrap_or (slice_get (replicate n x) i) x ≡ x
+get_replicate zero x i = refl
+get_replicate (suc n) x zero = refl
+get_replicate (suc n) x (suc i) = get_replicate n x i
+
+pub tells_root : (nodes size : ℕ) (links : List LinkSpec) (delays firsts : List ℕ) → delays ≡ replicate size 0 → TellsSoFar nodes links [] delays firsts
+tells_root nodes size links delays firsts e =
+    let zero_at : (u x : ℕ) → number_at nodes delays u x ≡ 0 = λ u x. ap (λ xs. number_at nodes xs u x) e ∙ get_replicate size 0 (u * nodes + x) in
+    let only : (y : ℕ) → is_in (0 ∷ []) y ≡ true → 0 ≡ y = λ y h. elim (in_cases 0 y [] h) [ inl q ↦ q | inr q ↦ absurd (false≢true q) ] in
+    record {
+      ways = λ u x i j. subst (λ z. IsWay links (0 ∷ []) u z (number_at nodes delays u z) (number_at nodes firsts u z)) (sym (only u i) ∙ only x j)
+          (way_as links (0 ∷ []) u u 0 (number_at nodes delays u u) (number_at nodes firsts u u) (number_at nodes firsts u u) (sym (zero_at u u)) refl (way_stay links (0 ∷ []) u (number_at nodes firsts u u) i));
+      turns = λ u x i j. zero_at u x ∙ sym (zero_at x u);
+      still = λ u h. zero_at u u;
+    }
+
+-- ---- steps one by one
+
+grows_tail : (links : List LinkSpec) (xs ys : List Step) → Grows links (xs ++ ys) → Grows links ys
+grows_tail links [] ys g = g
+grows_tail links (x ∷ xs) ys g = grows_tail links xs ys g.1
+
+pub grows_front : (links : List LinkSpec) (steps : List Step) (i : ℕ) → Grows links (reverse steps) → Grows links (reverse (take i steps))
+grows_front links steps i g =
+    let e : reverse steps ≡ reverse (drop i steps) ++ reverse (take i steps) = ap reverse (sym (take-append-drop i steps)) ∙ reverse-append (take i steps) (drop i steps) in
+    grows_tail links (reverse (drop i steps)) (reverse (take i steps)) (subst (Grows links) e g)
+
+pub reverse_more : (steps : List Step) (i : ℕ) (d : Step) → i < length steps → reverse (take (i + 1) steps) ≡ get_or steps i d ∷ reverse (take i steps)
+reverse_more steps i d h = ap reverse (take_more steps i d h) ∙ reverse-append (take i steps) (get_or steps i d ∷ [])
+
+-- ---- the end
+
+pub tells_all : (nodes : ℕ) (links : List LinkSpec) (ss : List Step) (ways : Ways) → 1 ≤ nodes → All (IsWithin nodes) links → Grows links ss → length ss + 1 ≡ nodes → ways.delays.width ≡ nodes → ways.firsts.width ≡ nodes
+    → TellsSoFar nodes links ss ways.delays.cells.items ways.firsts.cells.items → TellsWays nodes links ways
+tells_all nodes links ss ways some ends g size dw fw t = record {
+  delays_width = dw;
+  firsts_width = fw;
+  each = λ u v hu hv.
+      let w = t.ways u v (all_attached nodes links ss some ends g size u hu) (all_attached nodes links ss some ends g size v hv) in
+      (w.path, (w.nodes, w.walk, distinct_from_apart w.nodes w.apart), w.delay_is, w.first_is);
+}
+
+-- a step of no use but as a default
+abbrev pub no_step : Step
+no_step = record { node = 0; parent = 0; link = 0 }
+
+-- what is known at the i-th step
+pub record Turn (nodes : ℕ) (links : List LinkSpec) (steps : List Step) (i : ℕ) : Type 0 where
+  pub grown : Grows links (reverse (take i steps))
+  pub attaches : Attaches links (attached (reverse (take i steps))) (get_or steps i no_step)
+  pub below : Below nodes (attached (reverse (take i steps)))
+  pub node : (get_or steps i no_step).node < nodes
+  pub link : (get_or steps i no_step).link < length links
+
+pub turn_at : (nodes : ℕ) (links : List LinkSpec) (steps : List Step) (i : ℕ) → 1 ≤ nodes → All (IsWithin nodes) links → Grows links (reverse steps) → i < length steps → Turn nodes links steps i
+turn_at nodes links steps i some ends g h =
+    let next : Grows links (get_or steps i no_step ∷ reverse (take i steps)) = subst (Grows links) (reverse_more steps i no_step h) (grows_front links steps (i + 1) g) in
+    let a = next.0 in
+    record {
+      grown = next.1;
+      attaches = a;
+      below = attached_below nodes links (reverse (take i steps)) some ends next.1;
+      node = attached_below nodes links (get_or steps i no_step ∷ reverse (take i steps)) some ends next (get_or steps i no_step).node (in_head (get_or steps i no_step).node (attached (reverse (take i steps))));
+      link = get_below links (get_or steps i no_step).link a.spec a.link;
+    }
+
+known_set : (known : List Bool) (n : ℕ) → n < length known → (x : ℕ) → is_known (slice_set known n true) x ≡ cond (eqb n x) true (is_known known x)
+known_set known n h x =
+    elim (cases_eq n x) [
+      | inl e ↦ subst (λ t. is_known (slice_set known n true) t ≡ cond (eqb n t) true (is_known known t)) e (get_or-set_same known n true false h ∙ sym (ap (λ b. cond b true (is_known known n)) (eq-eqb n n refl)))
+      | inr d ↦ get_or-set_other known n x true false (λ e. d (sym e)) ∙ sym (ap (λ b. cond b true (is_known known x)) (ne_eqb n x d))
+    ]
+
+in_cons : (n : ℕ) (xs : List ℕ) (x : ℕ) → is_in (n ∷ xs) x ≡ cond (eqb n x) true (is_in xs x)
+in_cons n xs x = elim (eqb n x) as (λ b. (b || is_in xs x) ≡ cond b true (is_in xs x)) [ true ↦ refl | false ↦ refl ]
+
+pub known_more : (nodes : ℕ) (ss : List Step) (s : Step) (known : List Bool) → length known ≡ nodes → s.node < nodes → KnownAre nodes ss known → KnownAre nodes (s ∷ ss) (slice_set known s.node true)
+known_more nodes ss s known e h k x lt =
+    known_set known s.node (omega arith) x ∙ ap (λ b. cond (eqb s.node x) true b) (k x lt) ∙ sym (in_cons s.node (attached ss) x)
+
+none_known : (n x : ℕ) → is_known (replicate n false) x ≡ false
+none_known zero x = refl
+none_known (suc n) zero = refl
+none_known (suc n) (suc x) = none_known n x
+
+pub known_root : (nodes : ℕ) (known : List Bool) → 1 ≤ nodes → known ≡ replicate nodes false → KnownAre nodes [] (slice_set known 0 true)
+known_root nodes known some e x lt =
+    let size : length known ≡ nodes = ap length e ∙ length-replicate nodes false in
+    known_set known 0 (omega arith) x ∙ ap (λ b. cond (eqb 0 x) true b) (ap (λ k. is_known k x) e ∙ none_known nodes x) ∙ sym (in_cons 0 [] x)

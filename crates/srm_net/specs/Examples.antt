@@ -1,0 +1,20 @@
+-- Two small networks.
+use Rattle.std.specs.Prelude.{ℕ, [], ◌∷◌}
+use Rattle.srm_net.specs.Network.{Network}
+use Rattle.srm_net.specs.declared.link.LinkSpec.{LinkSpec}
+
+-- a link of delay 2
+abbrev pub short_link : ℕ → ℕ → LinkSpec
+short_link a b = record { a = a; b = b; delay = 2 }
+
+-- a tree of eight nodes with a member on each, in which nodes 1 to 7 have the parents 0, 0, 0, 1, 1, 2 and 2
+abbrev pub tree_of_eight : Network
+tree_of_eight = record {
+  nodes = 8;
+  links = short_link 1 0 ∷ short_link 2 0 ∷ short_link 3 0 ∷ short_link 4 1 ∷ short_link 5 1 ∷ short_link 6 2 ∷ short_link 7 2 ∷ [];
+  hosts = 0 ∷ 1 ∷ 2 ∷ 3 ∷ 4 ∷ 5 ∷ 6 ∷ 7 ∷ [];
+}
+
+-- one node with one member
+abbrev pub lone_node : Network
+lone_node = record { nodes = 1; links = []; hosts = 0 ∷ [] }

@@ -1,0 +1,44 @@
+//! What links and hosts are checked for.
+ghost use Rattle.std.specs.Prelude.{◌≡◌, ◌↔◌, All, IsTrue};
+ghost use Rattle.srm_net.specs.Network.{IsWithin, HasDelay, AreHosts};
+ghost use Rattle.srm_net.specs.Paths.{is_in};
+
+use crate::link::LinkSpec;
+
+/// Whether both ends of each link are nodes.
+pub(crate) fn are_within(nodes: u16, links: &[LinkSpec]) -> bool
+    ensures { IsTrue result ↔ All (IsWithin nodes) links.now }
+{
+    links.iter().all(|link| link.a < nodes && link.b < nodes)
+}
+
+/// Whether each link's delay is 1 to 1,000,000 ticks.
+pub(crate) fn have_delays(links: &[LinkSpec]) -> bool
+    ensures { IsTrue result ↔ All HasDelay links.now }
+{
+    links
+        .iter()
+        .all(|link| link.delay >= 1 && link.delay <= 1_000_000)
+}
+
+/// Whether each host is a node, and no two members share one.
+pub(crate) fn are_hosts(nodes: u16, hosts: &[u16]) -> bool
+    ensures { IsTrue result ↔ AreHosts nodes hosts.now }
+{
+    for (m, host) in hosts.iter().enumerate() {
+        if *host >= nodes {
+            return false;
+        }
+        if stands_in(&hosts[..m], *host) {
+            return false;
+        }
+    }
+    true
+}
+
+/// Whether a node is in the list.
+fn stands_in(hosts: &[u16], node: u16) -> bool
+    ensures { result ≡ is_in hosts.now node }
+{
+    hosts.iter().any(|host| *host == node)
+}

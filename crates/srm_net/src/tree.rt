@@ -1,0 +1,200 @@
+//! A tree of nodes and links with members on some nodes, and the ways in it.
+ghost use Rattle.std.specs.Prelude.{◌≡◌, ◌≢◌, ℕ, ◌<◌, ◌≤◌, not, ◌∷◌, Some, IfOk, length, slice_get};
+ghost use Rattle.std.specs.List.{list_any};
+ghost use Rattle.srm_net.specs.declared.link.LinkSpec.{LinkSpec};
+ghost use Rattle.srm_net.specs.Network.{IsNetwork};
+ghost use Rattle.srm_net.specs.Paths.{is_listed, host, route, distance};
+ghost use Rattle.srm_net.specs.Least.{least_delay, out};
+ghost use Rattle.srm_net.specs.Tables.{is_beyond, TellsSides, TellsAllSides, TellsOuts};
+
+use crate::drops::Drops;
+use crate::link::LinkSpec;
+use crate::packet::PacketId;
+use crate::sides::Sides;
+use crate::ways::Ways;
+use std::alloc::{AllocError, Global};
+use std::marker::Model;
+
+/// A tree of nodes and links, with members on some nodes, and the way between each two nodes.
+#[derive(Drop)]
+pub(crate) struct Tree {
+    pub(crate) nodes: u16,
+    pub(crate) links: Vec<LinkSpec>,
+    pub(crate) hosts: Vec<u16>,
+    pub(crate) ways: Ways,
+}
+
+impl Model for Tree {
+    ghost use Rattle.srm_net.specs.Network.{Network};
+
+    ghost Value = { Network };
+
+    ghost use Rattle.srm_net.specs.Built.{plain_of, IsBuilt};
+
+    ghost view = { plain_of };
+
+    ghost invariant = { IsBuilt };
+}
+
+impl Tree {
+    /// How many members there are: at most 256.
+    pub(crate) fn members(&self) -> u16
+        ensures members { result ≡ length self.now.hosts }
+        ensures network { IsNetwork self.now }
+    {
+        self.hosts.len() as u16
+    }
+
+    /// The links, in the order of their numbers.
+    pub(crate) fn links(&self) -> &[LinkSpec]
+        ensures links { result.now ≡ self.now.links }
+        ensures network { IsNetwork self.now }
+    {
+        self.links.as_slice()
+    }
+
+    /// A link by its number.
+    pub(crate) fn link(&self, link: u16) -> LinkSpec
+        requires { link < length self.now.links }
+        ensures { slice_get self.now.links link ≡ Some result }
+    {
+        self.links[usize::from(link)]
+    }
+
+    /// The node of a member.
+    pub(crate) fn host(&self, m: u16) -> u16
+        requires { m < length self.now.hosts }
+        ensures value { result ≡ host self.now m }
+        ensures node { result < self.now.nodes }
+    {
+        self.hosts[usize::from(m)]
+    }
+
+    /// How long a packet takes from member `a` to member `b`, in ticks.
+    pub(crate) fn distance(&self, a: u16, b: u16) -> u64
+        requires a { a < length self.now.hosts }
+        requires b { b < length self.now.hosts }
+        ensures value { result ≡ distance self.now a b }
+        ensures apart { a ≢ b → 1 ≤ result }
+        ensures bounded { result ≤ 255000000 }
+        ensures network { IsNetwork self.now }
+    {
+        self.ways.delay(self.host(a), self.host(b))
+    }
+
+    /// The first link of the way between two nodes, and the node to which it leads.
+    fn first_step(&self, from: u16, to: u16) -> (u16, u16)
+        requires from { from < self.now.nodes }
+        requires to { to < self.now.nodes }
+        requires apart { from ≢ to }
+        ensures route { route self.now from to ≡ result.0 ∷ route self.now result.1 to }
+        ensures node { result.1 < self.now.nodes }
+    {
+        let link = self.ways.first(from, to);
+        let spec = self.links[usize::from(link)];
+        let next = if spec.a == from { spec.b } else { spec.a };
+        (link, next)
+    }
+
+    /// Whether no link of the way between two nodes is to drop a packet. Where no link is to drop it this takes no walk.
+    pub(crate) fn is_clear(&self, drops: &Drops, id: PacketId, from: u16, to: u16) -> bool
+        requires from { from < self.now.nodes }
+        requires to { to < self.now.nodes }
+        ensures { result ≡ not (list_any (is_listed drops.now id) (route self.now from to)) }
+    {
+        if !drops.lists_packet(id) {
+            return true;
+        }
+        let mut at = from;
+        while at != to {
+            let (link, next) = self.first_step(at, to);
+            if drops.lists(link, id) {
+                return false;
+            }
+            at = next;
+        }
+        true
+    }
+
+    /// Whether a node is beyond a link, as seen from the link's end `a`.
+    pub(crate) fn is_beyond(&self, link: u16, node: u16) -> bool
+        requires link { link < length self.now.links }
+        requires node { node < self.now.nodes }
+        ensures { (k : LinkSpec) → slice_get self.now.links link ≡ Some k → result ≡ is_beyond self.now link k node }
+    {
+        let end = self.link(link).a;
+        node != end && self.ways.first(end, node) == link
+    }
+
+    /// Whether members are on the two sides of a link.
+    pub(crate) fn sides_of(&self, link: u16) -> Sides
+        requires { link < length self.now.links }
+        ensures { (k : LinkSpec) → slice_get self.now.links link ≡ Some k → TellsSides self.now link k result }
+    {
+        let mut sides = Sides { a: false, b: false };
+        for m in 0..self.members() {
+            if self.is_beyond(link, self.host(m)) {
+                sides.b = true;
+            } else {
+                sides.a = true;
+            }
+        }
+        sides
+    }
+
+    /// The least distance from a member to another, in ticks, or none where there is no other.
+    pub(crate) fn out_of(&self, m: u16) -> Option<u64>
+        requires { m < length self.now.hosts }
+        ensures { result ≡ out self.now m }
+    {
+        let mut least = None;
+        for b in 0..self.members() {
+            if b == m {
+                continue;
+            }
+            let distance = self.distance(m, b);
+            least = match least {
+                None => Some(distance),
+                Some(known) => Some(known.min(distance)),
+            };
+        }
+        least
+    }
+
+    /// Whether members are on the two sides of each link.
+    pub(crate) fn all_sides(&self, alloc: Global) -> Result<Vec<Sides>, AllocError>
+        ensures { IfOk result (λ all. TellsAllSides self.now all.items) }
+    {
+        let mut all = Vec::new(alloc);
+        for link in 0..self.links().len() as u16 {
+            all.push(self.sides_of(link))?;
+        }
+        Ok(all)
+    }
+
+    /// Each member's least distance to another.
+    pub(crate) fn all_outs(&self, alloc: Global) -> Result<Vec<Option<u64>>, AllocError>
+        ensures { IfOk result (λ all. TellsOuts self.now all.items) }
+    {
+        let mut all = Vec::new(alloc);
+        for m in 0..self.members() {
+            all.push(self.out_of(m))?;
+        }
+        Ok(all)
+    }
+
+    /// The least delay of a link, in ticks, or none where there is no link.
+    pub(crate) fn least_delay(&self) -> Option<u64>
+        ensures value { result ≡ least_delay self.now }
+        ensures network { IsNetwork self.now }
+    {
+        let mut least = None;
+        for link in self.links() {
+            least = match least {
+                None => Some(link.delay),
+                Some(known) => Some(known.min(link.delay)),
+            };
+        }
+        least
+    }
+}
