@@ -16,8 +16,7 @@ pub mod reading;
 pub mod scenario;
 pub mod script;
 mod table;
-mod top;
-pub mod topology;
-
 #[cfg(test)]
 mod tests;
+mod top;
+pub mod topology;
