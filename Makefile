@@ -1,5 +1,28 @@
-.PHONY: test
+PROGRAM := crates/srm_lab/out/srm_lab
+SOURCES := crates.txt $(shell find crates -path '*/out' -prune -o \( -name '*.rt' -o -name '*.antt' \) -print)
+PREFIX ?= /usr/local
+SCENARIO ?= examples/two-nodes.toml
 
-# proves every crate from nothing, with its tests, its must-fail edits and its programs
+.PHONY: build run test bench install
+
+# proves and builds the program, if a source is newer than it
+build: $(PROGRAM)
+
+$(PROGRAM): $(SOURCES)
+	cd crates/srm_lab && rt run < stdin > /dev/null
+	touch $@
+
+# prints the trace of a scenario: make run SCENARIO=examples/two-nodes.toml
+run: $(PROGRAM)
+	@$(PROGRAM) < $(SCENARIO)
+
+# proves every crate from nothing, with its tests, its must-fail edits and its program
 test:
 	rt ci
+
+# prints how many events the program handles in a second
+bench: $(PROGRAM)
+	bench/events_per_second.py $(PROGRAM)
+
+install: $(PROGRAM)
+	install -D -m 755 $(PROGRAM) $(DESTDIR)$(PREFIX)/bin/srm_lab

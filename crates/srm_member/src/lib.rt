@@ -3,8 +3,20 @@
 
 pub mod cause;
 pub mod due;
+pub mod entries;
 pub mod exit;
+pub mod fault;
 pub mod fixed;
+mod index;
+pub mod laws;
+pub mod member;
+mod memory;
+pub mod named;
+mod pages;
+mod pending;
 pub mod react;
+pub mod recovery;
 pub mod row;
+mod stream;
+pub mod timers;
 pub mod told;

@@ -82,7 +82,7 @@ go links passed u l k x ms v n g j f = (
   λ m i. elim (in_cases u m f.0 i) [ inl q ↦ subst (λ t. is_in passed t ≡ false) q n | inr q ↦ not_tail u m passed (f.3 m q) ],
 )
 
-found_path : (n : ℕ) (links : List LinkSpec) (passed : List ℕ) (u v : ℕ) (ls : List ℕ) → is_in passed u ≡ false → route_within n links passed u v ≡ Some ls → FreePath links passed u ls v
+pub found_path : (n : ℕ) (links : List LinkSpec) (passed : List ℕ) (u v : ℕ) (ls : List ℕ) → is_in passed u ≡ false → route_within n links passed u v ≡ Some ls → FreePath links passed u ls v
 unfolding route_within
 found_path zero links passed u v ls n h =
     elim (cases_Bool (eqb u v)) [
@@ -101,7 +101,7 @@ found_path (suc m) links passed u v ls n h =
 
 -- ---- a path that there is is found
 
-abbrev Found : Option (List ℕ) → Type 0
+abbrev pub Found : Option (List ℕ) → Type 0
 Found o = (ls : List ℕ) × (o ≡ Some ls)
 
 way_by_there : (l : ℕ) (o p : Option (List ℕ)) → Found o ⊎ Found p → Found (way_by l o p)
@@ -121,7 +121,7 @@ first_way_there further passed u l (h ∷ ks) zero k x g j n f =
 first_way_there further passed u l (h ∷ ks) (suc i) k x g j n f =
     way_by_there l (way_on further passed (far_end h u)) (first_way further passed u (l + 1) ks) (inr (first_way_there further passed u (l + 1) ks i k x g j n f))
 
-path_found : (n : ℕ) (links : List LinkSpec) (passed : List ℕ) (u : ℕ) (ls : List ℕ) (v : ℕ) (ns : List ℕ) → IsWalk links u ls v ns → Apart ns → Avoids passed ns → length ls ≤ n → Found (route_within n links passed u v)
+pub path_found : (n : ℕ) (links : List LinkSpec) (passed : List ℕ) (u : ℕ) (ls : List ℕ) (v : ℕ) (ns : List ℕ) → IsWalk links u ls v ns → Apart ns → Avoids passed ns → length ls ≤ n → Found (route_within n links passed u v)
 unfolding route_within
 path_found zero links passed u [] v ns w a o h = rw (eq-eqb u v w.0) ([], refl)
 path_found zero links passed u (l ∷ ls) v ns w a o h = absurd (omega arith)

@@ -2,6 +2,7 @@
 ghost use Rattle.std.specs.Prelude.{◌≡◌};
 
 use crate::sequence::Sequence;
+use std::alloc::AllocError;
 
 /// A packet's identity: its sender, and how many packets that member sent before it.
 #[derive(Clone, Copy, Debug, PartialEq, Eq, PartialOrd, Ord, Hash)]
@@ -44,7 +45,7 @@ pub struct Heard {
 }
 
 /// What a packet carries.
-#[derive(Clone, Debug, Drop)]
+#[derive(Debug, Drop)]
 pub enum Body {
     /// A drawing operation, from its source.
     Drawop {
@@ -70,6 +71,28 @@ pub enum Body {
         /// What its sender heard of each page.
         heard: Sequence<Heard>,
     },
+}
+
+// By hand, so that contracts see that the copy is equal.
+impl Clone for Body {
+    ghost is_clone = { λ s t. t ≡ s };
+
+    fn clone(&self) -> Result<Self, AllocError> {
+        match self {
+            Body::Drawop { name, ink } => Ok(Body::Drawop {
+                name: *name,
+                ink: *ink,
+            }),
+            Body::Request { name } => Ok(Body::Request { name: *name }),
+            Body::Repair { name, ink } => Ok(Body::Repair {
+                name: *name,
+                ink: *ink,
+            }),
+            Body::Session { heard } => Ok(Body::Session {
+                heard: heard.clone()?,
+            }),
+        }
+    }
 }
 
 /// A packet, sent to all members.

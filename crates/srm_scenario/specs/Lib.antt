@@ -1,2 +1,12 @@
 pub mod Plain
 pub mod Accepted
+pub mod Pages
+pub mod Rules
+pub mod Described
+pub mod Trees
+pub mod Faults
+pub mod Keys
+pub mod Feed
+pub mod Scripts
+pub mod Listed
+pub mod Ranges

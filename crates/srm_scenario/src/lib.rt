@@ -1,5 +1,22 @@
 //! Scenarios: what a run is given, and how it is read from TOML text.
 #![tactic(auto)]
 
+pub mod bytes;
+mod checks;
+mod element;
+mod elements;
+mod entry;
+pub mod fault;
+pub mod feed;
+pub mod laws;
+mod listed;
 pub mod mark;
 pub mod parts;
+pub mod reading;
+pub mod scenario;
+pub mod script;
+mod table;
+#[cfg(test)]
+mod tests;
+mod top;
+pub mod topology;

@@ -1,0 +1,178 @@
+-- Whose events a cell's are, what a cell hears, and events before an end.
+use Rattle.std.proofs.Common.{◌≡◌, ℕ, ◌≤◌, ◌^◌, Bool, true, false, cond, List, [], ◌∷◌, refl, sym, ap, ◌∙◌, subst, ◌≢◌, arith, Ordering, Less, Equal, Greater, nat_lt, Option, Some, None}
+use Rattle.std.proofs.Common.{ltb-true, lt-ltb, ◌<◌}
+use Rattle.std.specs.Cmp.{IsTotalOrder, on_total}
+use Rattle.std.specs.Cmp.Lexicographic.{nat_list_cmp_total}
+use Rattle.srm_cell.proofs.CellLemmas.{first_timer, keep, next_event_is, outcome_map, own_step_late, stepped_map}
+use Rattle.srm_cell.specs.Cells.{Done, Event, Full, Idle, PlainCell, Spent, StepOutcome, Stepped, before, by_key, earlier, first_arrival, first_mark, handle, hear, hear_at, next_event, own_step, sending_step, step_at}
+use Rattle.srm_cell.specs.Flights.{flight_cmp, numbers_of_flight}
+use Rattle.srm_cell.specs.OwnRuns.{told_to}
+use Rattle.srm_cell.specs.Setting.{Setting, arrival_of}
+use Rattle.srm_cell.specs.declared.flight.Flight.{Flight}
+use Rattle.srm_member.proofs.OrderLemmas.{place-comm, same_numbers}
+use Rattle.srm_member.specs.React.{Reaction, react}
+use Rattle.srm_member.specs.Record.{Active, Gone, Record, timers}
+use Rattle.srm_member.specs.declared.cause.Cause.{Cause}
+use Rattle.srm_member.specs.declared.due.Due.{Due}
+use Rattle.srm_net.specs.Keys.{key_cmp}
+use Rattle.srm_net.specs.declared.packet.Body.{Body}
+use Rattle.srm_net.specs.declared.packet.Packet.{Packet}
+use Rattle.srm_scenario.specs.declared.mark.Mark.{Mark}
+
+-- ---- whose events a cell's are
+
+abbrev pub IsOf : ℕ → Option Event → Type 0
+IsOf m None = Unit {0}
+IsOf m (Some e) = e.key.member ≡ m
+
+pub by_key_of : (m : ℕ) (r : Ordering) (d e : Event) → d.key.member ≡ m → e.key.member ≡ m → (by_key r d e).key.member ≡ m
+by_key_of m Less d e h g = h
+by_key_of m Equal d e h g = h
+by_key_of m Greater d e h g = g
+
+earlier_of : (m : ℕ) (x y : Option Event) → IsOf m x → IsOf m y → IsOf m (earlier x y)
+earlier_of m None y h g = g
+earlier_of m (Some d) None h g = h
+earlier_of m (Some d) (Some e) h g = by_key_of m (key_cmp d.key e.key) d e h g
+
+keep_of : (m : ℕ) (b : Bool) (e : Event) → IsOf m (Some e) → IsOf m (keep b e)
+keep_of m true e h = h
+keep_of m false e h = tt
+
+pub before_of : (m end : ℕ) (x : Option Event) → IsOf m x → IsOf m (before end x)
+before_of m end None h = tt
+before_of m end (Some e) h = keep_of m (nat_lt e.key.time end) e h
+
+arrival_is_of : (m : ℕ) (c : PlainCell) (fs : List Flight) → IsOf m (first_arrival m c fs)
+arrival_is_of m c [] = tt
+arrival_is_of m c (f ∷ fs) = refl
+
+mark_is_of : (m : ℕ) (c : PlainCell) (ks : List Mark) → IsOf m (first_mark m c ks)
+mark_is_of m c [] = tt
+mark_is_of m c (k ∷ ks) = refl
+
+timer_is_of : (m : ℕ) (c : PlainCell) (ds : List Due) → IsOf m (first_timer m c ds)
+timer_is_of m c [] = tt
+timer_is_of m c (d ∷ ds) = earlier_of m (Some _) (first_timer m c ds) refl (timer_is_of m c ds)
+
+pub next_event_of : (m : ℕ) (c : PlainCell) → IsOf m (next_event m c)
+next_event_of m c = subst (IsOf m) (sym (next_event_is m c)) (earlier_of m _ _ (arrival_is_of m c c.inbox) (earlier_of m _ _ (mark_is_of m c c.script) (timer_is_of m c (timers c.holds))))
+
+-- a packet of this sender, if any
+abbrev pub SentBy : ℕ → Option Packet → Type 0
+SentBy m None = Unit {0}
+SentBy m (Some p) = p.id.sender ≡ m
+
+abbrev pub IsStepOf : ℕ → StepOutcome Stepped → Type 0
+IsStepOf m Idle = Unit {0}
+IsStepOf m Full = Unit {0}
+IsStepOf m Spent = Unit {0}
+IsStepOf m (Done d) = (d.row.key.member ≡ m) × SentBy m d.row.sent
+
+sending_by : (m : ℕ) (b : Bool) (x : Stepped) → IsStepOf m (Done x) → IsStepOf m (cond b (Done x) Full)
+sending_by m true x h = h
+sending_by m false x h = tt
+
+sending_of : (m : ℕ) (e : Event) (r : Reaction) (body : Option Body) → e.key.member ≡ m → IsStepOf m (sending_step e r body)
+sending_of m e r None h = (h, tt)
+sending_of m e r (Some body) h = sending_by m (nat_lt e.rest.sent (2 ^ 48)) _ (h, h)
+
+pub handle_of : (m : ℕ) (e : Event) (holds : Record) (cause : Option Cause) → e.key.member ≡ m → IsStepOf m (handle e holds cause)
+unfolding handle
+handle_of m e (Active k) (Some cause) h = let r = react k e.key.time cause in sending_of m e r r.answer.body h
+handle_of m e (Active k) None h = (h, tt)
+handle_of m e (Gone f) cause h = tt
+
+pub step_at_of : (m : ℕ) (x : Option Event) → IsOf m x → IsStepOf m (step_at x)
+step_at_of m None h = tt
+step_at_of m (Some e) h = handle_of m e e.rest.holds e.cause h
+
+pub own_step_of : (end m : ℕ) (c : PlainCell) → IsStepOf m (own_step end m c)
+unfolding own_step
+own_step_of end m c = step_at_of m (before end (next_event m c)) (before_of m end (next_event m c) (next_event_of m c))
+
+pub own_step_is : (end m : ℕ) (c : PlainCell) (d : Stepped) → own_step end m c ≡ Done d → (d.row.key.member ≡ m) × SentBy m d.row.sent
+own_step_is end m c d e = subst (IsStepOf m) e (own_step_of end m c)
+
+-- ---- two packets of different senders may be heard in either order
+
+pub flight_total : IsTotalOrder flight_cmp
+flight_total = on_total numbers_of_flight nat_list_cmp_total
+
+second_number : List ℕ → ℕ
+second_number (a ∷ b ∷ s) = b
+second_number _ = 0
+
+apart_flights : (f g : Flight) → f.packet.id.sender ≢ g.packet.id.sender → flight_cmp f g ≢ Equal
+unfolding second_number
+apart_flights f g ne e = ne (ap second_number (same_numbers (numbers_of_flight f) (numbers_of_flight g) e))
+
+hear_at_comm : (p q : Packet) (a b : Option ℕ) (c : PlainCell) → p.id.sender ≢ q.id.sender → hear_at p a (hear_at q b c) ≡ hear_at q b (hear_at p a c)
+hear_at_comm p q None b c ne = refl
+hear_at_comm p q (Some a) None c ne = refl
+hear_at_comm p q (Some a) (Some b) c ne =
+    let f : Flight = record { arrival = a; packet = p } in
+    let g : Flight = record { arrival = b; packet = q } in
+    ap (λ (i : List Flight). record c { inbox = i }) (place-comm flight_cmp flight_total f g (apart_flights f g ne) c.inbox)
+
+unmapped : (x : StepOutcome Stepped) → x ≡ outcome_map (stepped_map (λ c. c)) x
+unmapped Idle = refl
+unmapped Full = refl
+unmapped Spent = refl
+unmapped (Done d) = refl
+
+module _ (s : Setting) where
+  pub told_comm : (a b : ℕ) → a ≢ b → (x y : Option Packet) → SentBy a x → SentBy b y → (m : ℕ) (c : PlainCell) → told_to s x m (told_to s y m c) ≡ told_to s y m (told_to s x m c)
+  unfolding hear
+  told_comm a b ne None y h g m c = refl
+  told_comm a b ne (Some p) None h g m c = refl
+  told_comm a b ne (Some p) (Some q) h g m c = hear_at_comm p q (arrival_of s p m) (arrival_of s q m) c (λ e. ne (sym h ∙ e ∙ g))
+
+  -- ---- a cell hears late packets alone
+
+  abbrev IsLateFor : ℕ → Option Packet → Type 0
+  IsLateFor end x = (p : Packet) → x ≡ Some p → (m at : ℕ) → arrival_of s p m ≡ Some at → end ≤ at
+
+  hear_at_late : (end m : ℕ) (p : Packet) (a : Option ℕ) → ((at : ℕ) → a ≡ Some at → end ≤ at) → (c : PlainCell) → own_step end m (hear_at p a c) ≡ outcome_map (stepped_map (hear_at p a)) (own_step end m c)
+  hear_at_late end m p None h c = unmapped (own_step end m c)
+  hear_at_late end m p (Some at) h c = own_step_late end p at (h at refl) m c
+
+  pub told_late : (end m : ℕ) (x : Option Packet) → IsLateFor end x → (c : PlainCell) → own_step end m (told_to s x m c) ≡ outcome_map (stepped_map (told_to s x m)) (own_step end m c)
+  unfolding hear
+  told_late end m None h c = unmapped (own_step end m c)
+  told_late end m (Some p) h c = hear_at_late end m p (arrival_of s p m) (h p refl m) c
+
+-- ---- events before an end
+
+keep_some : (b : Bool) (d e : Event) → keep b d ≡ Some e → (b ≡ true) × (d ≡ e)
+keep_some true d e h = (refl, cc)
+keep_some false d e h = cc
+
+pub before_some : (end : ℕ) (x : Option Event) (e : Event) → before end x ≡ Some e → (x ≡ Some e) × (e.key.time < end)
+before_some end None e h = cc
+before_some end (Some d) e h = let k = keep_some (nat_lt d.key.time end) d e h in (ap Some k.1, subst (λ (f : Event). f.key.time < end) k.1 (ltb-true _ _ k.0))
+
+pub before_more : (end until : ℕ) → end ≤ until → (x : Option Event) (e : Event) → before end x ≡ Some e → before until x ≡ Some e
+before_more end until le x e h = let b = before_some end x e h in
+    let lt : e.key.time < end = b.1 in
+    let yes : nat_lt e.key.time until ≡ true = lt-ltb _ _ (omega arith) in
+    ap (before until) b.0 ∙ ap (λ b. keep b e) yes
+
+-- ---- steps that are neither the last nor refused
+
+sending_moves : (b : Bool) (x : Stepped) → cond b (Done x) Full ≢ Idle
+sending_moves true x h = cc
+sending_moves false x h = cc
+
+sending_not_idle : (e : Event) (r : Reaction) (body : Option Body) → sending_step e r body ≢ Idle
+sending_not_idle e r None h = cc
+sending_not_idle e r (Some body) h = sending_moves _ _ h
+
+handle_not_idle : (e : Event) (holds : Record) (cause : Option Cause) → handle e holds cause ≢ Idle
+unfolding handle
+handle_not_idle e (Active m) (Some cause) h = let r = react m e.key.time cause in sending_not_idle e r r.answer.body h
+handle_not_idle e (Active m) None h = cc
+handle_not_idle e (Gone f) cause h = cc
+
+pub some_not_idle : (e : Event) → step_at (Some e) ≢ Idle
+some_not_idle e h = handle_not_idle e _ _ h

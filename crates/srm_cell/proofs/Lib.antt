@@ -1,0 +1,15 @@
+pub mod Entries
+pub mod Nexts
+pub mod Telling
+pub mod Saying
+pub mod OwnRunLemmas
+pub mod CellLemmas
+pub mod CellSteps
+pub mod Rising
+pub mod Tidy
+pub mod Counts
+pub mod Clear
+pub mod Leaving
+pub mod OwnRunsEnd
+pub mod FitSettings
+pub mod CellKeys

@@ -1,0 +1,68 @@
+-- Where a cell has its next event.
+use Rattle.std.proofs.Common.{◌≡◌, ◌<◌, ◌≤◌, true, false, cond, nat_lt, lt-ltb, le-ltb, ℕ, List, [], ◌∷◌, Option, Some, None, option_map, slice_get, refl, sym, ap, ◌∙◌, subst}
+use Rattle.srm_net.specs.declared.key.Key.{Key}
+use Rattle.srm_net.specs.declared.packet.PacketId.{PacketId}
+use Rattle.srm_scenario.specs.declared.mark.Mark.{Mark}
+use Rattle.srm_member.specs.declared.due.Due.{Due}
+use Rattle.srm_member.specs.Record.{Record, Active, Gone, due_of}
+use Rattle.srm_cell.specs.declared.flight.Flight.{Flight}
+use Rattle.srm_cell.specs.Cells.{PlainCell, Event, first_arrival, first_mark, next_timer, timer_event, next_event, before, step_at, own_step, handle, Idle}
+use Rattle.srm_cell.specs.declared.pending.Pending.{Pending}
+use Rattle.srm_cell.specs.Pending.{Stands}
+use Rattle.srm_cell.specs.Views.{HoldsRecord, due_in}
+
+-- an event with this key, which is what is pending
+abbrev pub Known : Key → Option Event → Option Event → Type 0
+Known k o q = (e : Event) × (o ≡ Some e) × (k ≡ e.key) × (q ≡ Some e)
+
+pub arrival_known : (m n : ℕ) (p : PlainCell) (fs : List Flight) (t : ℕ) (id : PacketId) → n ≡ m → p.inbox ≡ fs → ◌≡◌ {A = Option (ℕ × PacketId)} (Some (t, id)) (option_map (λ (f : Flight). (f.arrival, f.packet.id)) (slice_get fs 0))
+    → Known (record { time = t; member = n; rank = 1; a = id.sender; b = 0; c = id.count }) (first_arrival m p p.inbox) (first_arrival m p p.inbox)
+arrival_known m n p fs t id number inbox h = subst (λ xs. Known (record { time = t; member = n; rank = 1; a = id.sender; b = 0; c = id.count }) (first_arrival m p xs) (first_arrival m p xs)) (sym inbox) (by fs h)
+  where
+    by : (fs : List Flight) → ◌≡◌ {A = Option (ℕ × PacketId)} (Some (t, id)) (option_map (λ (f : Flight). (f.arrival, f.packet.id)) (slice_get fs 0)) → Known (record { time = t; member = n; rank = 1; a = id.sender; b = 0; c = id.count }) (first_arrival m p fs) (first_arrival m p fs)
+    by [] h = cc
+    by (f ∷ fs) h =
+        let pair : ◌≡◌ {A = ℕ × PacketId} (t, id) (f.arrival, f.packet.id) = cc in
+        let time : t ≡ f.arrival = ap (λ (x : ℕ × PacketId). x.0) pair in
+        let same : id ≡ f.packet.id = ap (λ (x : ℕ × PacketId). x.1) pair in
+        (_, refl, (λ i. record { time = time i; member = number i; rank = 1; a = (same i).sender; b = 0; c = (same i).count }), refl)
+
+pub mark_known : (m n : ℕ) (p : PlainCell) (ks rest : List Mark) (k : Mark) → n ≡ m → p.script ≡ ks → ks ≡ k ∷ rest
+    → Known (record { time = k.at; member = n; rank = k.rank; a = 0; b = 0; c = k.place }) (first_mark m p p.script) (first_mark m p p.script)
+mark_known m n p ks rest k number script h = subst (λ xs. Known (record { time = k.at; member = n; rank = k.rank; a = 0; b = 0; c = k.place }) (first_mark m p xs) (first_mark m p xs)) (sym (script ∙ h))
+    (_, refl, (λ i. record { time = k.at; member = number i; rank = k.rank; a = 0; b = 0; c = k.place }), refl)
+
+pub held_due : (o : Option Record) (h : Record) → HoldsRecord o h → due_of h ≡ due_in o
+held_due None (Active m) g = absurd g
+held_due None (Gone f) g = refl
+held_due (Some r) h g = ap due_of g
+
+pub timer_known : (m n : ℕ) (p : PlainCell) (o : Option Record) (d : Due) → n ≡ m → HoldsRecord o p.holds → Some d ≡ due_in o
+    → Known (record { time = d.time; member = n; rank = d.rank; a = d.name.source; b = d.name.page; c = d.name.number }) (next_timer m p (due_of p.holds)) (Some (timer_event m p d))
+timer_known m n p o d number holds h =
+    let due : due_of p.holds ≡ Some d = held_due o p.holds holds ∙ sym h in
+    (timer_event m p d, ap (next_timer m p) due, (λ i. record { time = d.time; member = number i; rank = d.rank; a = d.name.source; b = d.name.page; c = d.name.number }), refl)
+
+pub no_timer : (m : ℕ) (p : PlainCell) (o : Option Record) → HoldsRecord o p.holds → None ≡ due_in o → next_timer m p (due_of p.holds) ≡ None
+no_timer m p o holds h = ap (next_timer m p) (held_due o p.holds holds ∙ sym h)
+
+-- ---- the own step
+
+module _ (end m : ℕ) (p : PlainCell) where
+  pub none_pending : Stands m p None (next_event m p) → own_step end m p ≡ Idle
+  unfolding own_step
+  none_pending h = ap (λ o. step_at (before end o)) h
+
+  pub none_before : (q : Pending) → Stands m p (Some q) (next_event m p) → end ≤ q.key.time → own_step end m p ≡ Idle
+  unfolding own_step
+  none_before q h le =
+      let late : end ≤ h.0.key.time = subst (λ (k : Key). end ≤ k.time) h.2 le in
+      let no : nat_lt h.0.key.time end ≡ false = le-ltb _ _ late in
+      ap (λ o. step_at (before end o)) h.1 ∙ ap (λ b. step_at (cond b (Some h.0) None)) no
+
+  pub takes : (q : Pending) → (h : Stands m p (Some q) (next_event m p)) → q.key.time < end → own_step end m p ≡ handle h.0 h.0.rest.holds h.0.cause
+  unfolding own_step
+  takes q h lt =
+      let early : h.0.key.time < end = subst (λ (k : Key). k.time < end) h.2 lt in
+      let yes : nat_lt h.0.key.time end ≡ true = lt-ltb _ _ early in
+      ap (λ o. step_at (before end o)) h.1 ∙ ap (λ b. step_at (cond b (Some h.0) None)) yes

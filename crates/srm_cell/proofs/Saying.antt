@@ -1,0 +1,97 @@
+-- What a member's answer makes of an event.
+use Rattle.std.proofs.Common.{◌≡◌, ℕ, ◌+◌, ◌<◌, ◌≤◌, ◌^◌, Bool, true, false, cond, Option, Some, None, Result, Ok, Err, refl, sym, ap, ◌∙◌, subst, nat_lt, lt-ltb, le-ltb}
+use Rattle.srm_net.specs.declared.key.Key.{Key}
+use Rattle.srm_net.specs.declared.packet.Body.{Body}
+use Rattle.srm_net.specs.declared.packet.Packet.{Packet}
+use Rattle.srm_member.specs.declared.cause.Cause.{Cause}
+use Rattle.srm_member.specs.declared.react.React.{React}
+use Rattle.srm_member.specs.declared.row.Row.{Row}
+use Rattle.srm_member.specs.declared.row.Word.{Word}
+use Rattle.srm_member.specs.declared.row.About.{About}
+use Rattle.srm_member.specs.declared.exit.Exit.{Exit}
+use Rattle.srm_member.specs.declared.fault.MemberFault.TheVariants as member
+use Rattle.srm_member.specs.Record.{Record, Active, Gone, Memory}
+use Rattle.srm_member.specs.React.{Reaction, react}
+use Rattle.srm_member.specs.Reacts.{Reacts, Finishes}
+use Rattle.srm_cell.specs.Cells.{PlainCell, Event, StepOutcome, Idle, Full, Spent, Done, Stepped, handle, sending_step, row_of, packet_of, parting, word_of, about_of}
+use Rattle.srm_cell.specs.Views.{IsGone, HoldsRecord, record_in}
+
+-- a member that is gone has no answer
+pub gone_has_none : (e : Event) (h : Record) (c : Option Cause) → IsGone h → handle e h c ≡ Spent
+unfolding handle
+gone_has_none e (Active m) c g = absurd g
+gone_has_none e (Gone f) c g = refl
+
+pub spent_is_gone : (r s : Record) (at : ℕ) (cause : Cause) → Reacts r at cause (Err member.Spent) s → IsGone r
+spent_is_gone (Active m) s at cause h = h
+spent_is_gone (Gone f) s at cause h = tt
+
+pub ended_is_gone : (r s : Record) → Finishes r (Err member.Spent) s → IsGone r
+ended_is_gone (Active m) s h = h
+ended_is_gone (Gone f) s h = tt
+
+-- what is known where a member answered
+module _ (e : Event) (key : Key) (cause : Cause) (same : key ≡ e.key) (caused : e.cause ≡ Some cause) where
+  abbrev Handled : Record → StepOutcome Stepped → Type 0
+  Handled h o = handle e h e.cause ≡ o
+
+  answered : (r s : Record) (a : React) → Reacts r key.time cause (Ok a) s → (o : Option Body) → a.body ≡ o → (x : Reaction) × (x.answer ≡ a) × (s ≡ Active x.memory) × (handle e r e.cause ≡ sending_step e x o)
+  unfolding handle
+  answered (Gone f) s a h o b = absurd h
+  answered (Active m) s a h o b =
+      let time : key.time ≡ e.key.time = ap (λ (k : Key). k.time) same in
+      let x = react m e.key.time cause in
+      let is : a ≡ x.answer = h.0 ∙ ap (λ t. (react m t cause).answer) time in (
+        x,
+        sym is,
+        h.1 ∙ ap (λ t. Active (react m t cause).memory) time,
+        ap (handle e (Active m)) caused ∙ ap (sending_step e x) (ap (λ (r : React). r.body) (sym is) ∙ b),
+      )
+
+  -- and sends nothing
+  pub said_nothing : (r s : Record) (a : React) → e.rest.holds ≡ r → Reacts r key.time cause (Ok a) s → a.body ≡ None
+      → handle e e.rest.holds e.cause ≡ Done (record { cell = record e.rest { holds = s }; row = row_of e a None })
+  said_nothing r s a holds h b =
+      let k = answered r s a h None b in
+      ap (λ q. handle e q e.cause) holds ∙ k.3 ∙ (λ i. Done (record { cell = record e.rest { holds = sym k.2 i }; row = row_of e (k.1 i) None }))
+
+  -- and sends a packet
+  pub said : (r s : Record) (a : React) (body : Body) → e.rest.holds ≡ r → Reacts r key.time cause (Ok a) s → a.body ≡ Some body → e.rest.sent < 2 ^ 48
+      → handle e e.rest.holds e.cause ≡ Done (record { cell = record e.rest { holds = s; sent = e.rest.sent + 1 }; row = row_of e a (Some (packet_of e body)) })
+  said r s a body holds h b lt =
+      let k = answered r s a h (Some body) b in
+      let yes : nat_lt e.rest.sent (2 ^ 48) ≡ true = lt-ltb _ _ lt in
+      ap (λ q. handle e q e.cause) holds ∙ k.3
+      ∙ ap (λ t. cond t (Done (record { cell = record e.rest { holds = Active k.0.memory; sent = e.rest.sent + 1 }; row = row_of e k.0.answer (Some (packet_of e body)) })) Full) yes
+      ∙ (λ i. Done (record { cell = record e.rest { holds = sym k.2 i; sent = e.rest.sent + 1 }; row = row_of e (k.1 i) (Some (packet_of e body)) }))
+
+  -- where the count is used up there is no packet
+  pub not_said : (r s : Record) (a : React) (body : Body) → e.rest.holds ≡ r → Reacts r key.time cause (Ok a) s → a.body ≡ Some body → 2 ^ 48 ≤ e.rest.sent
+      → handle e e.rest.holds e.cause ≡ Full
+  not_said r s a body holds h b le =
+      let k = answered r s a h (Some body) b in
+      let no : nat_lt e.rest.sent (2 ^ 48) ≡ false = le-ltb _ _ le in
+      ap (λ q. handle e q e.cause) holds ∙ k.3
+      ∙ ap (λ t. cond t (Done (record { cell = record e.rest { holds = Active k.0.memory; sent = e.rest.sent + 1 }; row = row_of e k.0.answer (Some (packet_of e body)) })) Full) no
+
+-- at a leave
+pub left : (e : Event) (r s : Record) (x : Exit) → e.rest.holds ≡ r → e.cause ≡ None → Finishes r (Ok x) s
+    → IsGone s × (handle e e.rest.holds e.cause ≡ Done (record { cell = record e.rest { holds = s; exit = Some x }; row = row_of e parting None }))
+unfolding handle
+left e (Gone f) s x holds caused h = absurd h
+left e (Active m) s x holds caused h = (
+  subst IsGone (sym h.1) tt,
+  ap (λ q. handle e q e.cause) holds ∙ ap (handle e (Active m)) caused ∙ (λ i. Done (record { cell = record e.rest { holds = sym h.1 i; exit = Some (sym h.0 i) }; row = row_of e parting None })),
+)
+
+-- ---- the box
+
+module _ {B : Type 0} (f : B → Record) (o : Option B) (h : Record) (g : HoldsRecord (record_in f o) h) where
+  pub held : (b : B) → Some b ≡ o → h ≡ f b
+  held b e = subst (λ q. HoldsRecord (record_in f q) h) (sym e) g
+
+  pub empty : None ≡ o → IsGone h
+  empty e = subst (λ q. HoldsRecord (record_in f q) h) (sym e) g
+
+pub now_empty : {B : Type 0} (f : B → Record) (o : Option B) (h : Record) → o ≡ None → IsGone h → HoldsRecord (record_in f o) h
+now_empty f o h e g = subst (λ q. HoldsRecord (record_in f q) h) (sym e) g

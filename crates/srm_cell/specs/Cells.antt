@@ -1,0 +1,256 @@
+-- One member's cell: its record, what is on the way to it, and the rest of its script. A cell's own step.
+use Rattle.std.specs.Prelude.{◌≡◌, ◌≢◌, ℕ, ◌+◌, ◌^◌, true, List, [], ◌∷◌, ◌++◌, map, Option, Some, None, nat_lt, ◌==◌, if◌then◌else◌}
+use Rattle.std.specs.declared.cmp.Ordering.{Ordering}
+use Rattle.std.specs.declared.cmp.Ordering.TheVariants.{Less, Equal, Greater}
+use Rattle.srm_net.specs.declared.key.Key.{Key}
+use Rattle.srm_net.specs.declared.packet.Name.{Name}
+use Rattle.srm_net.specs.declared.packet.Body.{Body}
+use Rattle.srm_net.specs.declared.packet.Body.TheVariants.{Drawop, Request, Repair, Session}
+use Rattle.srm_net.specs.declared.packet.Packet.{Packet}
+use Rattle.srm_net.specs.Keys.{key_cmp}
+use Rattle.srm_net.specs.Orders.{place}
+use Rattle.srm_scenario.specs.declared.mark.Mark.{Mark}
+use Rattle.srm_member.specs.declared.cause.Cause.{Cause}
+use Rattle.srm_member.specs.declared.cause.Cause.TheVariants.{Join, Arrival, Ask, Answer, Draw, Report}
+use Rattle.srm_member.specs.declared.told.Told.TheVariants.{Parted}
+use Rattle.srm_member.specs.declared.row.Word.{Word}
+use Rattle.srm_member.specs.declared.row.Word.TheVariants as word
+use Rattle.srm_member.specs.declared.row.About.{About}
+use Rattle.srm_member.specs.declared.row.About.TheVariants.{Nothing, Of, Named}
+use Rattle.srm_member.specs.declared.row.Row.{Row}
+use Rattle.srm_member.specs.declared.due.Due.{Due}
+use Rattle.srm_member.specs.declared.exit.Exit.{Exit}
+use Rattle.srm_member.specs.declared.react.React.{React}
+use Rattle.srm_member.specs.Record.{Record, Active, Gone, opening_record, timers, due_of, exit_of, count_if, timers_at}
+use Rattle.srm_member.specs.React.{Reaction, is_listener, react}
+use Rattle.srm_cell.specs.declared.flight.Flight.{Flight}
+use Rattle.srm_cell.specs.Setting.{Setting, arrival_of, cause_of_mark}
+use Rattle.srm_cell.specs.Flights.{flight_cmp}
+
+-- ---- cells
+
+-- a member's record, how many packets it sent, the flights to it in order, the rest of its script, and its exit once it left
+pub record PlainCell : Type 0 where
+  pub holds : Record
+  pub sent : ℕ
+  pub inbox : List Flight
+  pub script : List Mark
+  pub exit : Option Exit
+
+-- a cell at the beginning, with a record, a script and a packet count
+abbrev pub new_cell : Record → List Mark → ℕ → PlainCell
+new_cell r script sent = record { holds = r; sent = sent; inbox = []; script = script; exit = None }
+
+-- member m's cell at the beginning of a run
+abbrev pub opening_cell : Setting → ℕ → PlainCell
+opening_cell s m = new_cell (opening_record (s.fixed m)) (s.script m) 0
+
+-- a packet's flight to this cell's member, if it has one, joins the inbox
+abbrev pub hear_at : Packet → Option ℕ → PlainCell → PlainCell
+hear_at p None c = c
+hear_at p (Some at) c = record c { inbox = place flight_cmp (record { arrival = at; packet = p }) c.inbox }
+
+-- member m's cell after another member sent a packet
+unfoldable pub hear : Setting → Packet → ℕ → PlainCell → PlainCell
+hear s p m c = hear_at p (arrival_of s p m) c
+
+-- ---- pending events
+
+-- an event that a cell has pending, and the cell without it. There is no cause at a leave
+pub record Event : Type 0 where
+  pub key : Key
+  pub cause : Option Cause
+  pub rest : PlainCell
+
+-- the one with the lesser key
+abbrev pub by_key : Ordering → Event → Event → Event
+by_key Less d e = d
+by_key Equal d e = d
+by_key Greater d e = e
+
+abbrev pub earlier : Option Event → Option Event → Option Event
+earlier None e = e
+earlier (Some d) None = Some d
+earlier (Some d) (Some e) = Some (by_key (key_cmp d.key e.key) d e)
+
+-- the key of an arrival
+abbrev pub arrival_key : ℕ → Flight → Key
+arrival_key m f = record { time = f.arrival; member = m; rank = 1; a = f.packet.id.sender; b = 0; c = f.packet.id.count }
+
+-- the key of a mark
+abbrev pub mark_key : ℕ → Mark → Key
+mark_key m k = record { time = k.at; member = m; rank = k.rank; a = 0; b = 0; c = k.place }
+
+-- the key of a timer
+abbrev pub timer_key : ℕ → Due → Key
+timer_key m d = record { time = d.time; member = m; rank = d.rank; a = d.name.source; b = d.name.page; c = d.name.number }
+
+-- the keys of all that member m's cell has pending
+abbrev pub pending_keys : ℕ → PlainCell → List Key
+pending_keys m c = map (arrival_key m) c.inbox ++ (map (mark_key m) c.script ++ map (timer_key m) (timers c.holds))
+
+-- the key is none of the list
+abbrev pub DiffersFrom : Key → List Key → Type 0
+DiffersFrom k [] = Unit {0}
+DiffersFrom k (l ∷ ls) = (k ≢ l) × DiffersFrom k ls
+
+-- no two keys of the list are equal
+abbrev pub AllDiffer : List Key → Type 0
+AllDiffer [] = Unit {0}
+AllDiffer (k ∷ ks) = DiffersFrom k ks × AllDiffer ks
+
+-- the first arrival
+abbrev pub first_arrival : ℕ → PlainCell → List Flight → Option Event
+first_arrival m c [] = None
+first_arrival m c (f ∷ fs) = Some (record {
+  key = arrival_key m f;
+  cause = Some (Arrival f.packet);
+  rest = record c { inbox = fs };
+})
+
+-- the first mark of the rest of the script
+abbrev pub first_mark : ℕ → PlainCell → List Mark → Option Event
+first_mark m c [] = None
+first_mark m c (k ∷ ks) = Some (record {
+  key = mark_key m k;
+  cause = cause_of_mark k;
+  rest = record c { script = ks };
+})
+
+-- a request timer has rank 2, and a repair timer rank 3
+abbrev pub cause_of_timer : ℕ → Name → Cause
+cause_of_timer rank n = if rank == 2 then Ask n else Answer n
+
+-- a timer of the record
+abbrev pub timer_event : ℕ → PlainCell → Due → Event
+timer_event m c d = record {
+  key = timer_key m d;
+  cause = Some (cause_of_timer d.rank d.name);
+  rest = c;
+}
+
+-- the record's next timer
+abbrev pub next_timer : ℕ → PlainCell → Option Due → Option Event
+next_timer m c None = None
+next_timer m c (Some d) = Some (timer_event m c d)
+
+-- a cell's least own pending event
+unfoldable pub next_event : ℕ → PlainCell → Option Event
+next_event m c = earlier (first_arrival m c c.inbox) (earlier (first_mark m c c.script) (next_timer m c (due_of c.holds)))
+
+-- the time of an event, if there is one
+abbrev pub time_of : Option Event → Option ℕ
+time_of None = None
+time_of (Some e) = Some e.key.time
+
+-- the least own pending time of a cell, whose member's number is of no account for it
+abbrev pub next_time : PlainCell → Option ℕ
+next_time c = time_of (next_event 0 c)
+
+-- the event, if its time is before the end
+abbrev pub before : ℕ → Option Event → Option Event
+before end None = None
+before end (Some e) = if nat_lt e.key.time end then Some e else None
+
+-- ---- steps
+
+-- what a step gives: nothing is pending before the end; the packet count is used up; the record is gone, and has no answer; or
+-- this
+pub data StepOutcome (A : Type 0) : Type 0 where
+  Idle : StepOutcome A
+  Full : StepOutcome A
+  Spent : StepOutcome A
+  Done : (value : A) → StepOutcome A
+
+-- a cell after its step, and the step's row. The packet that was sent, if any, is the row's
+pub record Stepped : Type 0 where
+  pub cell : PlainCell
+  pub row : Row
+
+-- the kind of an arrival is that of its packet
+abbrev pub word_of_body : Body → Word
+word_of_body (Drawop n ink) = word.Data
+word_of_body (Request n) = word.Request
+word_of_body (Repair n ink) = word.Repair
+word_of_body (Session hs) = word.Session
+
+-- the kind of an event
+abbrev pub word_of : Option Cause → Word
+word_of None = word.Leave
+word_of (Some Join) = word.Join
+word_of (Some (Arrival p)) = word_of_body p.body
+word_of (Some (Ask n)) = word.Ask
+word_of (Some (Answer n)) = word.Answer
+word_of (Some (Draw page ink)) = word.Draw
+word_of (Some Report) = word.Report
+
+-- a draw is about what it drew, if it drew
+abbrev pub drawn : Option Body → About
+drawn (Some (Drawop n ink)) = Named n
+drawn _ = Nothing
+
+-- what an event is about
+abbrev pub about_of : Option Cause → Option Body → About
+about_of (Some (Arrival p)) body = Of p.id
+about_of (Some (Ask n)) body = Named n
+about_of (Some (Answer n)) body = Named n
+about_of (Some (Draw page ink)) body = drawn body
+about_of _ body = Nothing
+
+-- the row of an event, with the member's answer and the packet that it sent
+abbrev pub row_of : Event → React → Option Packet → Row
+row_of e a sent = record { key = e.key; cause = word_of e.cause; about = about_of e.cause a.body; told = a.told; lost = a.lost; sent = sent }
+
+-- the member's next packet, with this body
+abbrev pub packet_of : Event → Body → Packet
+packet_of e body = record { id = record { sender = e.key.member; count = e.rest.sent }; sent = e.key.time; body = body }
+
+-- an answer's body becomes a packet, for which the count must not be used up
+abbrev pub sending_step : Event → Reaction → Option Body → StepOutcome Stepped
+sending_step e r None = Done (record {
+  cell = record e.rest { holds = Active r.memory };
+  row = row_of e r.answer None;
+})
+sending_step e r (Some body) =
+    if nat_lt e.rest.sent (2 ^ 48)
+    then Done (record {
+      cell = record e.rest { holds = Active r.memory; sent = e.rest.sent + 1 };
+      row = row_of e r.answer (Some (packet_of e body));
+    })
+    else Full
+
+-- what a leave tells
+abbrev pub parting : React
+parting = record { told = Parted; lost = []; body = None }
+
+-- the member handles the event. At its leave it ends; once it is gone it has no answer
+unfoldable pub handle : Event → Record → Option Cause → StepOutcome Stepped
+handle e (Active m) (Some cause) = let r = react m e.key.time cause in sending_step e r r.answer.body
+handle e (Active m) None = Done (record {
+  cell = record e.rest { holds = Gone m.fixed; exit = Some (exit_of m) };
+  row = row_of e parting None;
+})
+handle e (Gone f) cause = Spent
+
+abbrev pub step_at : Option Event → StepOutcome Stepped
+step_at None = Idle
+step_at (Some e) = handle e e.rest.holds e.cause
+
+-- the cell's own step to an end: it takes its least own pending event, if that is before the end
+unfoldable pub own_step : ℕ → ℕ → PlainCell → StepOutcome Stepped
+own_step end m c = step_at (before end (next_event m c))
+
+-- a record that sends nothing: a listener's, or that of a member that left
+abbrev pub Silent : Record → Type 0
+Silent (Active m) = is_listener m.fixed.role ≡ true
+Silent (Gone f) = Unit {0}
+
+-- ---- what is pending at a tick
+
+-- how many flights and marks it has
+abbrev pub untimed_at : ℕ → PlainCell → ℕ
+untimed_at t c = count_if (λ f. f.arrival == t) c.inbox + count_if (λ k. k.at == t) c.script
+
+-- how many events a cell has pending at a tick
+abbrev pub pending_at : ℕ → PlainCell → ℕ
+pending_at t c = untimed_at t c + timers_at t c.holds

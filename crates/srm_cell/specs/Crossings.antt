@@ -1,0 +1,35 @@
+-- Crossings of a list of rows: five numbers for each link.
+use Rattle.std.specs.Prelude.{ℕ, ◌&&◌, List, [], ◌∷◌, ◌==◌}
+use Rattle.std.specs.List.{filter_map, flat_map, count_by, range_with_len}
+use Rattle.srm_net.specs.declared.packet.Body.{Body}
+use Rattle.srm_net.specs.declared.packet.Body.TheVariants.{Drawop, Request, Repair, Session}
+use Rattle.srm_net.specs.declared.packet.Packet.{Packet}
+use Rattle.srm_member.specs.declared.row.Row.{Row}
+use Rattle.srm_cell.specs.Setting.{Setting}
+
+-- the packets that the rows' members sent
+abbrev pub packets_of : List Row → List Packet
+packets_of rows = filter_map (λ r. r.sent) rows
+
+-- the kinds of packets: 0 data, 1 requests, 2 repairs, 3 session messages
+abbrev pub kind_of : Body → ℕ
+kind_of (Drawop n ink) = 0
+kind_of (Request n) = 1
+kind_of (Repair n ink) = 2
+kind_of (Session hs) = 3
+
+-- how many packets of a kind cross link l
+abbrev pub crossed : Setting → ℕ → ℕ → List Packet → ℕ
+crossed s kind l ps = count_by (λ p. (kind_of p.body == kind) && s.crosses p.id l) ps
+
+-- how many packets are dropped at link l
+abbrev pub dropped : Setting → ℕ → List Packet → ℕ
+dropped s l ps = count_by (λ p. s.drops_at p.id l) ps
+
+-- of link l: data, requests, repairs and session messages that cross it, and packets dropped at it
+abbrev pub crossings_at : Setting → List Packet → ℕ → List ℕ
+crossings_at s ps l = crossed s 0 l ps ∷ crossed s 1 l ps ∷ crossed s 2 l ps ∷ crossed s 3 l ps ∷ dropped s l ps ∷ []
+
+-- the five numbers of each link in turn
+unfoldable pub crossings : Setting → List Row → List ℕ
+crossings s rows = flat_map (crossings_at s (packets_of rows)) (range_with_len 0 s.links)

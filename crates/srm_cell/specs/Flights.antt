@@ -1,0 +1,20 @@
+-- Flights, and their order.
+use Rattle.std.specs.Prelude.{◌≢◌, ℕ, List, [], ◌∷◌}
+use Rattle.std.specs.declared.cmp.Ordering.{Ordering}
+use Rattle.std.specs.Ordering.{nat_cmp}
+use Rattle.std.specs.Cmp.Lexicographic.{slice_cmp}
+use Rattle.srm_net.specs.declared.packet.PacketId.{PacketId}
+use Rattle.srm_cell.specs.declared.flight.Flight.{Flight}
+
+-- a flight as its numbers: when it arrives, and its packet's sender and count
+abbrev pub numbers_of_flight : Flight → List ℕ
+numbers_of_flight f = f.arrival ∷ f.packet.id.sender ∷ f.packet.id.count ∷ []
+
+-- flights are compared by arrival, sender and count
+abbrev pub flight_cmp : Flight → Flight → Ordering
+flight_cmp f g = slice_cmp nat_cmp (numbers_of_flight f) (numbers_of_flight g)
+
+-- none of these flights brings this packet
+abbrev pub BringsNone : PacketId → List Flight → Type 0
+BringsNone id [] = Unit {0}
+BringsNone id (f ∷ fs) = (f.packet.id ≢ id) × BringsNone id fs

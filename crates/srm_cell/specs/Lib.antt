@@ -1,0 +1,9 @@
+pub mod Setting
+pub mod Flights
+pub mod Entries
+pub mod Cells
+pub mod Pending
+pub mod Views
+pub mod OwnRuns
+pub mod Crossings
+pub mod Laws

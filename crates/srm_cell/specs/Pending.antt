@@ -1,0 +1,17 @@
+-- Where a cell has its next event.
+use Rattle.std.specs.Prelude.{◌≡◌, ℕ, Option, Some, None}
+use Rattle.srm_cell.specs.declared.pending.Source.{Source}
+use Rattle.srm_cell.specs.declared.pending.Source.TheVariants.{Inbox, Script, Timer}
+use Rattle.srm_cell.specs.declared.pending.Pending.{Pending}
+use Rattle.srm_cell.specs.Cells.{PlainCell, Event, first_arrival, first_mark, timer_event}
+
+-- the first event of a source
+abbrev pub first_of : Source → ℕ → PlainCell → Option Event
+first_of Inbox m c = first_arrival m c c.inbox
+first_of Script m c = first_mark m c c.script
+first_of (Timer d) m c = Some (timer_event m c d)
+
+-- what is pending stands for this event, if for any: it has the event's key, and its source has that event first
+abbrev pub Stands : ℕ → PlainCell → Option Pending → Option Event → Type 0
+Stands m c None o = o ≡ None
+Stands m c (Some p) o = (e : Event) × (o ≡ Some e) × (p.key ≡ e.key) × (first_of p.source m c ≡ Some e)

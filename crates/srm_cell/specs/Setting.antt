@@ -1,0 +1,122 @@
+-- What the model needs of a scenario, its network and a seed.
+use Rattle.std.specs.Prelude.{◌≡◌, ◌≢◌, ◌⊎◌, ℕ, ◌+◌, ◌<◌, Bool, true, not, ◌&&◌, List, [], ◌∷◌, map, length, Option, Some, None, unwrap_or, slice_get, nat_lt, nat_le, ◌==◌, if◌then◌else◌}
+use Rattle.std.specs.List.{range_with_len}
+use Rattle.srm_net.specs.declared.packet.PacketId.{PacketId}
+use Rattle.srm_net.specs.declared.packet.Packet.{Packet}
+use Rattle.srm_net.specs.declared.role.Role.TheVariants.{Receiver}
+use Rattle.srm_net.specs.Orders.{Ascends}
+use Rattle.srm_net.specs.Network.{Network}
+use Rattle.srm_net.specs.Paths as paths
+use Rattle.srm_scenario.specs.declared.mark.Mark.{Mark}
+use Rattle.srm_scenario.specs.declared.parts.MemberSpec.{MemberSpec}
+use Rattle.srm_scenario.specs.Plain.{PlainScenario, mark_cmp, script_of}
+use Rattle.srm_member.specs.declared.cause.Cause.{Cause}
+use Rattle.srm_member.specs.declared.cause.Cause.TheVariants.{Join, Draw, Report}
+use Rattle.srm_member.specs.declared.fixed.Fixed.{Fixed}
+
+-- events before `until` are handled. Of each member: its fixed part, its script, when it joins and when it leaves. Of each two
+-- members: how long a packet is on its way. Of each packet: whom it reaches, which links it crosses, and at which it is dropped
+pub record Setting : Type 0 where
+  pub until : ℕ
+  pub members : ℕ
+  pub fixed : ℕ → Fixed
+  pub script : ℕ → List Mark
+  pub join : ℕ → ℕ
+  pub leave : ℕ → Option ℕ
+  pub distance : ℕ → ℕ → ℕ
+  pub reaches : PacketId → ℕ → Bool
+  pub links : ℕ
+  pub crosses : PacketId → ℕ → Bool
+  pub drops_at : PacketId → ℕ → Bool
+
+-- ---- the setting of a scenario
+
+-- in place of a member that is not there
+abbrev pub no_member : MemberSpec
+no_member = record { node = 0; role = Receiver; stream = 0; join = 0; leave = None; pages = [] }
+
+abbrev pub member_at : PlainScenario → ℕ → MemberSpec
+member_at s m = unwrap_or (slice_get s.members m) no_member
+
+-- the distances from a member to each member in turn
+abbrev pub distances_from : Network → ℕ → List ℕ
+distances_from net m = map (λ b. paths.distance net m b) (range_with_len 0 (length net.hosts))
+
+-- the part of member m's record that never changes
+abbrev pub fixed_of : PlainScenario → Network → ℕ → ℕ → Fixed
+fixed_of s net seed m = record {
+  member = m;
+  role = (member_at s m).role;
+  c1 = s.constants.c1;
+  c2 = s.constants.c2;
+  d1 = s.constants.d1;
+  d2 = s.constants.d2;
+  dist = distances_from net m;
+  pages = (member_at s m).pages;
+  seed = seed;
+  stream = (member_at s m).stream;
+}
+
+-- the setting of a scenario, its network and a seed
+abbrev pub setting_of : PlainScenario → Network → ℕ → Setting
+setting_of s net seed = record {
+  until = s.until;
+  members = length s.members;
+  fixed = fixed_of s net seed;
+  script = script_of s;
+  join = λ m. (member_at s m).join;
+  leave = λ m. (member_at s m).leave;
+  distance = paths.distance net;
+  reaches = paths.reaches net s.drops;
+  links = length net.links;
+  crosses = paths.crosses net s.drops;
+  drops_at = paths.drops_at net s.drops;
+}
+
+-- ---- flights
+
+-- a member that leaves hears nothing after that
+abbrev pub is_up_to : ℕ → Option ℕ → Bool
+is_up_to at None = true
+is_up_to at (Some end) = nat_le at end
+
+-- whether member m is present at this time, before the end of the run
+abbrev pub is_present : Setting → ℕ → ℕ → Bool
+is_present s m at = nat_le (s.join m) at && (is_up_to at (s.leave m) && nat_lt at s.until)
+
+-- when member m is handed packet p, if it is: another member than the sender, that the packet reaches, and that is present
+abbrev pub arrival_of : Setting → Packet → ℕ → Option ℕ
+arrival_of s p m =
+    let at = p.sent + s.distance p.id.sender m in
+    if nat_lt m s.members && (not (m == p.id.sender) && (s.reaches p.id m && is_present s m at)) then Some at else None
+
+-- ---- marks
+
+-- what a mark of a script is to a member: a join, a draw, a report, or, where there is no cause, its leave
+abbrev pub cause_of_mark : Mark → Option Cause
+cause_of_mark k =
+    if k.rank == 0 then Some Join
+    else if k.rank == 4 then Some (Draw k.page k.ink)
+    else if k.rank == 5 then Some Report
+    else None
+
+-- ---- fit settings
+
+-- the ranks of joins, and of draws, reports and leaves
+abbrev pub HasOwnRanks : List Mark → Type 0
+HasOwnRanks [] = Unit {0}
+HasOwnRanks (k ∷ ks) = ((k.rank ≡ 0) ⊎ (3 < k.rank)) × HasOwnRanks ks
+
+-- a leave is at the time at which the member leaves, and no mark comes after it
+abbrev pub EndsAtLeave : Option ℕ → List Mark → Type 0
+EndsAtLeave leave [] = Unit {0}
+EndsAtLeave leave (k ∷ ks) = (cause_of_mark k ≡ None → (leave ≡ Some k.at) × (ks ≡ [])) × EndsAtLeave leave ks
+
+-- what the setting of a scenario has: members' numbers in their fixed parts, scripts in order, that end at the leave, and no two
+-- members at one place
+pub record IsFit (s : Setting) : Type 0 where
+  pub numbers : (m : ℕ) → m < s.members → (s.fixed m).member ≡ m
+  pub scripts : (m : ℕ) → m < s.members → Ascends mark_cmp (s.script m)
+  pub ranks : (m : ℕ) → m < s.members → HasOwnRanks (s.script m)
+  pub leaves : (m : ℕ) → m < s.members → EndsAtLeave (s.leave m) (s.script m)
+  pub apart : (a b : ℕ) → a < s.members → b < s.members → a ≢ b → 0 < s.distance a b

@@ -1,0 +1,12 @@
+//! What holds of every cell.
+ghost use Rattle.srm_cell.specs.Laws.{OwnRunsAreOne, SettingsAreFit};
+
+/// An own run has one result.
+pub fn own_runs_are_one()
+    ensures { OwnRunsAreOne }
+{}
+
+/// The setting of an accepted scenario is fit: scripts ascend and end at the leave, and no two members are at one place.
+pub fn settings_are_fit()
+    ensures { SettingsAreFit }
+{}

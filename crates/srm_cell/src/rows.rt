@@ -1,0 +1,70 @@
+//! What a row tells of its event.
+ghost use Rattle.std.specs.Prelude.{◌≡◌, Some, Option};
+ghost use Rattle.srm_cell.specs.Cells.{word_of, about_of, cause_of_timer};
+ghost use Rattle.srm_cell.specs.Setting.{cause_of_mark};
+
+use srm_member::cause::Cause;
+use srm_member::due::Due;
+use srm_member::row::{About, Word};
+use srm_net::packet::Body;
+use srm_scenario::mark::Mark;
+
+// The kind of an event that has a cause.
+pub(crate) fn word(cause: &Cause) -> Word
+    ensures { result ≡ word_of (Some cause.now) }
+{
+    match cause {
+        Cause::Join => Word::Join,
+        Cause::Arrival { packet } => match &packet.body {
+            Body::Drawop { .. } => Word::Data,
+            Body::Request { .. } => Word::Request,
+            Body::Repair { .. } => Word::Repair,
+            Body::Session { .. } => Word::Session,
+        },
+        Cause::Ask { .. } => Word::Ask,
+        Cause::Answer { .. } => Word::Answer,
+        Cause::Draw { .. } => Word::Draw,
+        Cause::Report => Word::Report,
+    }
+}
+
+// What an event that has a cause is about, where the member sends this body.
+pub(crate) fn about(cause: &Cause, body: &Option<Body>) -> About
+    ensures { result ≡ about_of (Some cause.now) body.now }
+{
+    match cause {
+        Cause::Arrival { packet } => About::Of { packet: packet.id },
+        Cause::Ask { name } | Cause::Answer { name } => About::Named { name: *name },
+        Cause::Draw { .. } => match body {
+            Some(Body::Drawop { name, .. }) => About::Named { name: *name },
+            _ => About::Nothing,
+        },
+        Cause::Join | Cause::Report => About::Nothing,
+    }
+}
+
+// What a mark is to a member; at its leave nothing.
+pub(crate) fn cause_at(mark: Mark) -> Option<Cause>
+    ensures { result ≡ cause_of_mark mark }
+{
+    match mark.rank {
+        0 => Some(Cause::Join),
+        4 => Some(Cause::Draw {
+            page: mark.page,
+            ink: mark.ink,
+        }),
+        5 => Some(Cause::Report),
+        _ => None,
+    }
+}
+
+// What a timer is to a member.
+pub(crate) fn expiry(due: Due) -> Cause
+    ensures { result ≡ cause_of_timer due.rank due.name }
+{
+    if due.rank == 2 {
+        Cause::Ask { name: due.name }
+    } else {
+        Cause::Answer { name: due.name }
+    }
+}

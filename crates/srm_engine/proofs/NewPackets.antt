@@ -1,0 +1,64 @@
+-- A packet that a step sends is new to every cell.
+use Rattle.std.proofs.Common.{◌≡◌, ◌≢◌, ℕ, ◌<◌, Bool, true, false, List, [], ◌∷◌, length, Option, Some, None, refl, sym, ap, ◌∙◌, subst, slice_get, slice_set, ◌==◌, eqb-true, arith}
+use Rattle.std.proofs.lemmas.Bool.{eqb-false}
+use Rattle.srm_net.specs.declared.packet.Packet.{Packet}
+use Rattle.srm_net.specs.declared.packet.PacketId.{PacketId}
+use Rattle.srm_cell.specs.declared.flight.Flight.{Flight}
+use Rattle.srm_cell.specs.Setting.{Setting, IsFit}
+use Rattle.srm_cell.specs.Flights.{BringsNone}
+use Rattle.srm_cell.specs.Cells.{PlainCell, Event, before, StepOutcome, Done, Stepped, step_at, next_event}
+use Rattle.srm_cell.proofs.Rising.{OnEvent, before_on, OnStep}
+use Rattle.srm_cell.proofs.CellSteps.{SentBy}
+use Rattle.srm_cell.proofs.Clear.{CountAfter, StepOf, step_is_of, RestOf, next_rest}
+use Rattle.srm_member.proofs.Bounds.{AllIn}
+use Rattle.srm_engine.specs.World.{World, least_event, run, opening}
+use Rattle.srm_engine.specs.Seen.{IsNew}
+use Rattle.srm_engine.proofs.RunLemmas.{Seq, rest, next}
+use Rattle.srm_engine.proofs.Sequential.{Good, StepFacts, step_facts, good_step, good_opening, run_seq, get_below}
+use Rattle.srm_engine.proofs.StrictRuns.{Strict, strict_step, strict_opening, sent_of, IsFresh, sent_here, all_tail}
+use Rattle.srm_engine.proofs.Index.{get_set_same, get_set_other}
+use Rattle.srm_engine.proofs.SeenLemmas.{same_some}
+
+abbrev WereSent : List PlainCell → List Flight → Type 0
+WereSent cs fs = AllIn (λ f. f.packet.id.count < sent_of cs f.packet.id.sender) fs
+
+apart : (cs : List PlainCell) (id : PacketId) (fs : List Flight) → id.count ≡ sent_of cs id.sender → WereSent cs fs → BringsNone id fs
+apart cs id [] now a = tt
+apart cs id (f ∷ fs) now a = (
+  (λ e. let less : id.count < sent_of cs id.sender = subst (λ (k : PacketId). k.count < sent_of cs k.sender) e a.0 in omega arith),
+  apart cs id fs now a.1,
+)
+
+sender_of : (m : ℕ) (o : Option Packet) (p : Packet) → o ≡ Some p → SentBy m o → p.id.sender ≡ m
+sender_of m o p e h = subst (SentBy m) e h
+
+count_of : (b a : ℕ) (o : Option Packet) (p : Packet) → o ≡ Some p → CountAfter b o a → p.id.count ≡ b
+count_of b a o p e h = (subst (λ x. CountAfter b x a) e h).0
+
+module _ (s : Setting) (fit : IsFit s) where
+  strict_seq : (end : ℕ) {cs ds : List PlainCell} {rows : List _} → Seq s end cs rows ds → Good s fit cs → Strict s fit cs → Strict s fit ds
+  strict_seq end rest good strict = strict
+  strict_seq end (next {cs = cs} {e = e} {d = d} h x more) good strict = strict_seq end more (good_step s fit end cs e d good h x) (strict_step s fit end cs e d good strict h x)
+
+  pub strict_reached : (n : ℕ) (w : World) → run s n (opening s) ≡ Done w → Strict s fit w.cells
+  strict_reached n w h = strict_seq s.until (run_seq s fit n (opening s) w h).1 (good_opening s fit) (strict_opening s fit)
+
+  module _ (end : ℕ) (cs : List PlainCell) (e : Event) (d : Stepped) (good : Good s fit cs) (strict : Strict s fit cs) (h : before end (least_event 0 cs) ≡ Some e) (x : step_at (Some e) ≡ Done d) where
+    pub is_new : (p : Packet) → d.row.sent ≡ Some p → IsNew p.id (slice_set cs e.key.member d.cell)
+    is_new p sent j q g =
+        let m = e.key.member in
+        let f = step_facts s fit end cs e d h x in
+        let did = subst (OnStep (StepOf e)) x (step_is_of e) in
+        let of = subst (OnEvent (RestOf f.cell)) f.event (before_on (RestOf f.cell) end (next_event m f.cell) (next_rest m f.cell)) in
+        let sender = sender_of m d.row.sent p sent f.sender in
+        let now : p.id.count ≡ sent_of cs p.id.sender = count_of e.rest.sent d.cell.sent d.row.sent p sent did.count ∙ sym (sent_here s fit end cs e d good strict h x) ∙ ap (sent_of cs) (sym sender) in
+        elim (m == j) as (λ b. (m == j) ≡ b → BringsNone p.id q.inbox) [
+          | true ↦ λ r.
+              let here : m ≡ j = eqb-true m j r in
+              let is : d.cell ≡ q = same_some d.cell q (sym (get_set_same cs m d.cell (get_below cs m f.cell f.here)) ∙ ap (slice_get (slice_set cs m d.cell)) here ∙ g) in
+              subst (λ (c : PlainCell). BringsNone p.id c.inbox) is (apart cs p.id d.cell.inbox now
+                (subst (WereSent cs) (sym did.inbox) (all_tail _ _ _ of.inbox (strict.fresh m f.cell f.here))))
+          | false ↦ λ r.
+              let ne : m ≢ j = eqb-false m j r in
+              apart cs p.id q.inbox now (strict.fresh j q (sym (get_set_other cs m j d.cell ne) ∙ g))
+        ] refl

@@ -1,0 +1,11 @@
+pub mod World
+pub mod Schedules
+pub mod Windows
+pub mod Laws
+pub mod Handed
+pub mod Names
+pub mod NextTimes
+pub mod OneLoss
+pub mod Seen
+pub mod Shown
+pub mod Totalled

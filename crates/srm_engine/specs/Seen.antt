@@ -1,0 +1,53 @@
+-- What is seen of the cells and next times of all members.
+use Rattle.std.specs.Prelude.{◌≡◌, ℕ, suc, ◌+◌, ◌<◌, ◌^◌, List, [], ◌∷◌, ◌++◌, Option, Some, None, Result, Ok, Err, length, slice_get, slice_set, nat_lt, if◌then◌else◌}
+use Rattle.std.specs.declared.dyn_box.DynBox.{DynBox}
+use Rattle.std.specs.Global.{Global}
+use Rattle.srm_net.specs.declared.packet.Packet.{Packet}
+use Rattle.srm_net.specs.declared.packet.PacketId.{PacketId}
+use Rattle.srm_member.specs.declared.row.Row.{Row}
+use Rattle.srm_member.specs.Record.{Record}
+use Rattle.srm_cell.specs.declared.cell.Cell.{Cell}
+use Rattle.srm_cell.specs.declared.fault.CellFault.{CellFault}
+use Rattle.srm_cell.specs.declared.fault.CellFault.TheVariants as fault
+use Rattle.srm_cell.specs.Setting.{Setting}
+use Rattle.srm_cell.specs.Flights.{BringsNone}
+use Rattle.srm_cell.specs.Cells.{PlainCell, hear, next_event, time_of, own_step, StepOutcome, Idle, Full, Spent, Done, Stepped}
+use Rattle.srm_cell.specs.Views.{IsCell}
+
+-- the next times are those of the cells
+pub record AreTimes (ts : List (Option ℕ)) (ps : List PlainCell) : Type 0 where
+  pub as_many : length ts ≡ length ps
+  pub each : (j : ℕ) (p : PlainCell) → slice_get ps j ≡ Some p → slice_get ts j ≡ Some (time_of (next_event j p))
+
+-- no cell hears this packet yet
+abbrev pub IsNew : PacketId → List PlainCell → Type 0
+IsNew id ps = (j : ℕ) (p : PlainCell) → slice_get ps j ≡ Some p → BringsNone id p.inbox
+
+-- the cells of members i and on, of which those below member k have heard the packet
+abbrev pub heard_below : Setting → Packet → ℕ → ℕ → List PlainCell → List PlainCell
+heard_below s p k i [] = []
+heard_below s p k i (c ∷ cs) = (if nat_lt i k then hear s p i c else c) ∷ heard_below s p k (suc i) cs
+
+-- every cell hears the packet that was sent, if any was
+abbrev pub all_hear : Setting → Option Packet → List PlainCell → List PlainCell
+all_hear s None cs = cs
+all_hear s (Some p) cs = heard_below s p (length cs) 0 cs
+
+module _ {X : Type 0} {H : X → Type 0} where
+  -- the cells are seen as these plain cells, where f is what is seen of a box
+  pub record AreCells (f : DynBox X Global H → Record) (cs : List (Cell X H)) (ps : List PlainCell) : Type 0 where
+    pub as_many : length cs ≡ length ps
+    pub each : (j : ℕ) (c : Cell X H) (p : PlainCell) → slice_get cs j ≡ Some c → slice_get ps j ≡ Some p → IsCell f j c p
+
+  -- the cells and their next times are seen as these plain cells
+  pub record AreSeen (f : DynBox X Global H → Record) (cs : List (Cell X H)) (ts : List (Option ℕ)) (ps : List PlainCell) : Type 0 where
+    pub cells : AreCells f cs ps
+    pub times : AreTimes ts ps
+
+  -- what a member's own step tells, where its cell was p among ps, and what it leaves
+  abbrev pub TellsTake : (DynBox X Global H → Record) → ℕ → List PlainCell → StepOutcome Stepped → Result (Option Row) CellFault → List (Cell X H) → List (Option ℕ) → Type 0
+  TellsTake f m ps o (Ok None) cs ts = (o ≡ Idle) × AreSeen f cs ts ps
+  TellsTake f m ps o (Ok (Some row)) cs ts = (d : Stepped) × (o ≡ Done d) × (d.row ≡ row) × AreSeen f cs ts (slice_set ps m d.cell)
+  TellsTake f m ps o (Err fault.NoMemory) cs ts = Unit {0}
+  TellsTake f m ps o (Err fault.Spent) cs ts = o ≡ Spent
+  TellsTake f m ps o (Err fault.CountFull) cs ts = o ≡ Full

@@ -1,0 +1,13 @@
+//! Engines: the sequential run of all members, and the laws of the model: schedules and windows.
+#![tactic(auto)]
+
+pub mod arrival;
+mod cells;
+mod count;
+mod engine;
+pub mod fault;
+pub mod laws;
+pub mod laws_of_names;
+pub mod laws_of_packets;
+mod moves;
+pub mod next_times;

@@ -1,0 +1,15 @@
+//! What the program is asked for.
+
+/// What is shown of a run.
+#[derive(Clone, Copy, Debug, PartialEq, Eq)]
+pub enum Show {
+    /// The trace: every event, in order.
+    Trace,
+}
+
+/// What the program is asked for.
+#[derive(Clone, Copy, Debug, PartialEq, Eq)]
+pub struct Options {
+    /// What is shown.
+    pub show: Show,
+}

@@ -1,0 +1,40 @@
+//! Writing the report of a run.
+ghost use Rattle.std.specs.Prelude.{◌≡◌, ◌≢◌, ◌<◌, ◌-◌, ◌^◌};
+ghost use Rattle.srm_lab.specs.Reports.{failures_after, report_of, Writes};
+
+use crate::fault::LabFault;
+use crate::options::{Options, Show};
+use srm_member::row::Row;
+use srm_report::fault::ReportFault;
+use srm_report::outlet::Outlet;
+use srm_report::trace::trace_text;
+use srm_report::writing::{WriteFault, write_out};
+use std::alloc::Global;
+
+/// Writes the report of a run that left these rows.
+///
+/// # Errors
+/// In this order: memory ran out, and nothing was written; the outlet failed, and has taken as many bytes as the fault
+/// tells.
+pub(crate) fn write_report<O: Outlet>(
+    alloc: Global,
+    rows: &[Row],
+    options: Options,
+    outlet: &mut O,
+) -> Result<(), LabFault>
+    requires { O.failures outlet.old < 2 ^ 64 - 1 }
+    ensures failures { O.failures outlet.new ≡ failures_after result (O.failures outlet.old) }
+    ensures run { result ≢ Err LabFault.CountFull }
+    ensures taken { Writes (O.taken outlet.old) (O.taken outlet.new) (report_of options rows.now) result }
+{
+    let text = match options.show {
+        Show::Trace => trace_text(alloc, rows),
+    };
+    match text {
+        Err(ReportFault::NoMemory) => Err(LabFault::NoMemory),
+        Ok(text) => match write_out(outlet, text.as_slice()) {
+            Ok(()) => Ok(()),
+            Err(WriteFault { written }) => Err(LabFault::WriteFault { written }),
+        },
+    }
+}

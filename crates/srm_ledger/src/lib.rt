@@ -1,0 +1,5 @@
+//! Counts of packets on links.
+#![tactic(auto)]
+
+pub mod kind;
+pub mod totals;

@@ -1,0 +1,56 @@
+//! Counts of packets, link by link.
+ghost use Rattle.std.specs.Prelude.{◌≡◌, ◌<◌, ◌+◌, ◌*◌, ◌^◌, List, ℕ, length, IfOk};
+ghost use Rattle.srm_ledger.specs.Counts.{number_at, one_more, nothing_at};
+
+use crate::kind::Kind;
+use std::alloc::{AllocError, Global};
+use std::marker::Model;
+
+/// Five numbers for each link: the packets of each [`Kind`]. Contracts see them as one list, the five of link 0 first.
+#[derive(Debug, Drop)]
+pub struct Totals {
+    numbers: Vec<u64>,
+}
+
+impl Model for Totals {
+    ghost use Rattle.std.specs.Prelude.{List, ℕ};
+
+    ghost Value = { List ℕ };
+
+    ghost view = { λ t. t.numbers.items };
+}
+
+impl Totals {
+    /// Nothing counted yet at any of `links` links.
+    pub fn new(alloc: Global, links: u16) -> Result<Self, AllocError>
+        ensures { IfOk result (λ t. t ≡ nothing_at links) }
+    {
+        let numbers = Vec::from_elem(alloc, 0, 5 * usize::from(links))?;
+        Ok(Totals { numbers })
+    }
+
+    /// Counts one more packet of a kind at a link. It takes no memory.
+    pub fn count(&mut self, link: u16, kind: Kind)
+        requires within { 5 * link + 4 < length self.old }
+        requires room { number_at self.old link kind + 1 < 2 ^ 64 }
+        ensures { self.new ≡ one_more self.old link kind }
+    {
+        let place = 5 * usize::from(link) + kind.place();
+        self.numbers[place] += 1;
+    }
+
+    /// How many packets of a kind were counted at a link.
+    pub fn number(&self, link: u16, kind: Kind) -> u64
+        requires { 5 * link + 4 < length self.now }
+        ensures { result ≡ number_at self.now link kind }
+    {
+        self.numbers[5 * usize::from(link) + kind.place()]
+    }
+
+    /// The numbers, five for each link, in the order of [`Kind`]'s variants.
+    pub fn as_slice(&self) -> &[u64]
+        ensures { result.now ≡ self.now }
+    {
+        self.numbers.as_slice()
+    }
+}

@@ -1,0 +1,165 @@
+-- The first timer of an index is the earliest of the tables.
+use Rattle.std.proofs.Common.{◌≡◌, ℕ, eqb, Bool, true, false, cond, ◌&&◌, ◌||◌, T, List, [], ◌∷◌, ◌++◌, map, Option, Some, None, refl, sym, ap, ◌∙◌, subst, arith, ◌==◌}
+use Rattle.std.specs.Option.{option_map}
+use Rattle.std.specs.declared.cmp.Ordering.{Ordering}
+use Rattle.std.specs.declared.cmp.Ordering.TheVariants.{Less, Equal, Greater}
+use Rattle.std.specs.Ordering.{eq_by_cmp, is_eq, is_gt, is_lt, ordering_reverse}
+use Rattle.std.specs.FinMap.Entries.{find, is_sorted, below_all}
+use Rattle.std.proofs.lemmas.Bool.Decides.{nat_tests}
+use Rattle.srm_net.specs.declared.packet.Name.{Name}
+use Rattle.srm_net.specs.Names.{name_cmp}
+use Rattle.srm_member.specs.declared.due.Due.{Due}
+use Rattle.srm_member.specs.Record.{Missing, Repairing, due_cmp, by_order, sooner, earliest}
+use Rattle.srm_member.specs.Pending.{has, Rises, IsFirst, IsIndexed, pending_timers, request_timer, repair_timer, expiry_of, is_at_time}
+use Rattle.srm_member.proofs.Indexes.{due_total, due_same, same, due_eq, due_itself, name_same}
+
+-- ---- the earliest of a list is its first
+
+not_after : (d e f : Due) → is_gt (due_cmp d e) ≡ false → is_gt (due_cmp e f) ≡ false → is_gt (due_cmp d f) ≡ false
+not_after d e f p q =
+    elim (due_cmp d e) as (λ o. due_cmp d e ≡ o → is_gt o ≡ false → is_gt (due_cmp d f) ≡ false) [
+      | Less ↦ λ a _. elim (due_cmp e f) as (λ o. due_cmp e f ≡ o → is_gt o ≡ false → is_gt (due_cmp d f) ≡ false) [
+        | Less ↦ λ b _. ap is_gt (due_total.trans d e f a b)
+        | Equal ↦ λ b _. subst (λ x. is_gt (due_cmp d x) ≡ false) (due_same e f b) p
+        | Greater ↦ λ _ no. cc
+      ] refl q
+      | Equal ↦ λ a _. ap is_gt (due_total.congr d e f a) ∙ q
+      | Greater ↦ λ _ no. cc
+    ] refl p
+
+either : (a b : Bool) → (a || b) ≡ true → (P : Type 0) → (a ≡ true → P) → (b ≡ true → P) → P
+either true b e P f g = f refl
+either false b e P f g = g e
+
+is_eq-Equal : (o : Ordering) → is_eq o ≡ true → o ≡ Equal
+is_eq-Equal Less e = cc
+is_eq-Equal Equal e = refl
+is_eq-Equal Greater e = cc
+
+or-right : (a b : Bool) → b ≡ true → (a || b) ≡ true
+or-right true b e = refl
+or-right false b e = e
+
+at_head : (d : Due) (ds : List Due) → has (d ∷ ds) d ≡ true
+at_head d ds = ap (λ b. b || has ds d) (due_itself d)
+
+abbrev by_step : Due → List Due → Option Due → Type 0
+by_step d ds o = IsFirst ds o → IsFirst (d ∷ ds) (Some (sooner d o))
+
+step_none : (d : Due) (ds : List Due) → ds ≡ [] → IsFirst (d ∷ ds) (Some d)
+step_none d ds e = (
+  at_head d ds,
+  λ x h. either (eq_by_cmp due_cmp x d) (has ds x) h (is_gt (due_cmp d x) ≡ false)
+      (λ t. subst (λ y. is_gt (due_cmp d y) ≡ false) (sym (due_same x d (is_eq-Equal _ t))) (ap is_gt (is_eq-Equal _ (due_itself d))))
+      (λ t. let no = sym (ap (λ l. has l x) e) ∙ t in cc),
+)
+
+step_some : (d m : Due) (ds : List Due) → IsFirst ds (Some m) → (o : Ordering) → due_cmp d m ≡ o → IsFirst (d ∷ ds) (Some (by_order o d m))
+step_some d m ds h Less e = (
+  at_head d ds,
+  λ x k. either (eq_by_cmp due_cmp x d) (has ds x) k (is_gt (due_cmp d x) ≡ false)
+      (λ t. subst (λ y. is_gt (due_cmp d y) ≡ false) (sym (due_same x d (is_eq-Equal _ t))) (ap is_gt (is_eq-Equal _ (due_itself d))))
+      (λ t. not_after d m x (ap is_gt e) (h.1 x t)),
+)
+step_some d m ds h Equal e = (
+  at_head d ds,
+  λ x k. either (eq_by_cmp due_cmp x d) (has ds x) k (is_gt (due_cmp d x) ≡ false)
+      (λ t. subst (λ y. is_gt (due_cmp d y) ≡ false) (sym (due_same x d (is_eq-Equal _ t))) (ap is_gt (is_eq-Equal _ (due_itself d))))
+      (λ t. not_after d m x (ap is_gt e) (h.1 x t)),
+)
+step_some d m ds h Greater e = (
+  or-right (eq_by_cmp due_cmp m d) (has ds m) h.0,
+  λ x k. either (eq_by_cmp due_cmp x d) (has ds x) k (is_gt (due_cmp m x) ≡ false)
+      (λ t. subst (λ y. is_gt (due_cmp m y) ≡ false) (sym (due_same x d (is_eq-Equal _ t))) (ap is_gt (due_total.antisymm m d ∙ ap ordering_reverse e)))
+      (λ t. h.1 x t),
+)
+
+first-earliest : (ds : List Due) → IsFirst ds (earliest ds)
+first-earliest [] = refl
+first-earliest (d ∷ ds) =
+    elim (earliest ds) as (λ o. IsFirst ds o → IsFirst (d ∷ ds) (Some (sooner d o))) [
+      | None ↦ λ h. step_none d ds h
+      | Some m ↦ λ h. step_some d m ds h (due_cmp d m) refl
+    ] (first-earliest ds)
+
+both_equal : (o : Ordering) → is_gt o ≡ false → is_gt (ordering_reverse o) ≡ false → o ≡ Equal
+both_equal Less a b = cc
+both_equal Equal a b = refl
+both_equal Greater a b = cc
+
+-- of lists with the same timers the first is the same
+same_first : (xs ys : List Due) → ((d : Due) → has xs d ≡ has ys d) → (r q : Option Due) → IsFirst xs r → IsFirst ys q → r ≡ q
+same_first xs ys h None None f g = refl
+same_first xs ys h None (Some e) f g = let no = sym g.0 ∙ sym (h e) ∙ ap (λ l. has l e) f in cc
+same_first xs ys h (Some d) None f g = let no = sym f.0 ∙ h d ∙ ap (λ l. has l d) g in cc
+same_first xs ys h (Some d) (Some e) f g =
+    let a = f.1 e (h e ∙ g.0) in
+    let b = g.1 d (sym (h d) ∙ f.0) in
+    ap Some (due_same d e (both_equal (due_cmp d e) a (sym (ap is_gt (due_total.antisymm e d)) ∙ b)))
+
+-- ---- the timers of a table, by the test of its elements
+
+has-append : (xs ys : List Due) (d : Due) → has (xs ++ ys) d ≡ (has xs d || has ys d)
+has-append [] ys d = refl
+has-append (x ∷ xs) ys d = elim (eq_by_cmp due_cmp d x) as (λ b. (b || has (xs ++ ys) d) ≡ ((b || has xs d) || has ys d)) [ true ↦ refl | false ↦ has-append xs ys d ]
+
+eqb-swap : (a b : ℕ) → (a == b) ≡ (b == a)
+eqb-swap a b = grind (arith, nat_tests)
+
+below-none : {V : Type 0} (x : Name) (es : List (Name × V)) → T (below_all name_cmp x es) → find name_cmp x es ≡ None
+below-none x [] h = refl
+below-none x (f ∷ es) h =
+    elim (name_cmp x f.0) as (λ o. T (is_lt o && below_all name_cmp x es) → cond (is_eq o) (Some f.1) (find name_cmp x es) ≡ None) [
+      | Less ↦ λ t. below-none x es t
+      | Equal ↦ λ t. absurd t
+      | Greater ↦ λ t. absurd t
+    ] h
+
+T-left : (a b : Bool) → T (a && b) → T a
+T-left true b h = tt
+T-left false b h = h
+
+T-right : (a b : Bool) → T (a && b) → T b
+T-right true b h = h
+T-right false b h = absurd h
+
+not_found : {V : Type 0} (q : Name) (e : Name × V) (es : List (Name × V)) → Rises (e ∷ es) → same q e.0 ≡ true → find name_cmp q es ≡ None
+not_found q e es h t = subst (λ n. find name_cmp n es ≡ None) (sym (name_same q e.0 (is_eq-Equal _ t))) (below-none e.0 es (T-left _ (is_sorted name_cmp es) h))
+
+at_entry : (x y b c r t : Bool) → (c ≡ true → t ≡ false) → x ≡ y → (((x && (b && c)) || (b && t)) ≡ (b && cond c y t))
+at_entry x y true true r t h e = ap (λ z. (x && true) || z) (h refl) ∙ elim x as (λ x. ((x && true) || false) ≡ x) [ true ↦ refl | false ↦ refl ] ∙ e
+at_entry x y true false r t h e = elim x as (λ x. ((x && false) || t) ≡ t) [ true ↦ refl | false ↦ refl ]
+at_entry x y false c r t h e = elim x as (λ x. ((x && false) || false) ≡ false) [ true ↦ refl | false ↦ refl ]
+
+at_time-cond : {V : Type 0} (f : V → ℕ) (t : ℕ) (c : Bool) (v : V) (o : Option V) → is_at_time t (option_map f (cond c (Some v) o)) ≡ cond c (f v == t) (is_at_time t (option_map f o))
+at_time-cond f t true v o = refl
+at_time-cond f t false v o = refl
+
+has-map : {V : Type 0} (f : V → ℕ) (r : ℕ) (d : Due) (es : List (Name × V)) → Rises es
+    → has (map (λ e. record { time = f e.1; rank = r; name = e.0 }) es) d ≡ ((r == d.rank) && is_at_time d.time (option_map f (find name_cmp d.name es)))
+has-map f r d [] h = elim (r == d.rank) as (λ b. false ≡ (b && false)) [ true ↦ refl | false ↦ refl ]
+has-map {V = V} f r d (e ∷ es) h =
+    let rest : Bool = is_at_time d.time (option_map f (find name_cmp d.name es)) in
+    let c : Bool = same d.name e.0 in
+    ap (λ b. b || has (map (λ (e : Name × V). record { time = f e.1; rank = r; name = e.0 }) es) d) (due_eq d (record { time = f e.1; rank = r; name = e.0 }))
+    ∙ ap (λ b. ((d.time == f e.1) && ((d.rank == r) && c)) || b) (has-map f r d es (T-right (below_all name_cmp e.0 es) _ h))
+    ∙ ap (λ b. ((d.time == f e.1) && (b && c)) || ((r == d.rank) && rest)) (eqb-swap d.rank r)
+    ∙ at_entry (d.time == f e.1) (f e.1 == d.time) (r == d.rank) c true rest (λ t. ap (λ o. is_at_time d.time (option_map f o)) (not_found d.name e es h t)) (eqb-swap d.time (f e.1))
+    ∙ ap (λ b. (r == d.rank) && b) (sym (at_time-cond f d.time c e.1 (find name_cmp d.name es)))
+
+by_rank : (k t : ℕ) (x y : Option ℕ) → (((2 == k) && is_at_time t x) || ((3 == k) && is_at_time t y)) ≡ is_at_time t (cond (eqb 2 k) x (cond (eqb 3 k) y None))
+by_rank k t x y =
+    elim (2 == k) as (λ a. eqb 2 k ≡ a → ((a && is_at_time t x) || ((3 == k) && is_at_time t y)) ≡ is_at_time t (cond a x (cond (eqb 3 k) y None))) [
+      | true ↦ λ e. let three : eqb 3 k ≡ false = grind (arith, nat_tests) in ap (λ b. is_at_time t x || (b && is_at_time t y)) three ∙ elim (is_at_time t x) as (λ b. (b || false) ≡ b) [ true ↦ refl | false ↦ refl ]
+      | false ↦ λ e. elim (3 == k) as (λ b. (b && is_at_time t y) ≡ is_at_time t (cond b y None)) [ true ↦ refl | false ↦ refl ]
+    ] refl
+
+has-timers : (ms : List (Name × Missing)) (rs : List (Name × Repairing)) → Rises ms → Rises rs → (d : Due) → has (pending_timers ms rs) d ≡ is_at_time d.time (expiry_of ms rs d.rank d.name)
+has-timers ms rs g h d =
+    has-append (map (λ (e : Name × Missing). request_timer e.0 e.1) ms) (map (λ (e : Name × Repairing). repair_timer e.0 e.1) rs) d
+    ∙ (λ i. has-map (λ (e : Missing). e.expiry) 2 d ms g i || has-map (λ (e : Repairing). e.expiry) 3 d rs h i)
+    ∙ by_rank d.rank d.time _ _
+
+pub index_first : (index : List Due) (ms : List (Name × Missing)) (rs : List (Name × Repairing)) (r : Option Due) → IsIndexed index ms rs → IsFirst index r → r ≡ earliest (pending_timers ms rs)
+index_first index ms rs r h first =
+    same_first index (pending_timers ms rs) (λ d. h.timers d ∙ sym (has-timers ms rs h.missing_rise h.repairs_rise d)) r (earliest (pending_timers ms rs)) first (first-earliest (pending_timers ms rs))

@@ -1,0 +1,135 @@
+-- Lists kept in an order, and the orders of numbers and keys.
+use Rattle.std.proofs.Common.{◌≡◌, ℕ, ◌<◌, ◌≤◌, true, false, List, [], ◌∷◌, refl, sym, ap, ◌∙◌, ◌≢◌, arith, Ordering, Less, Equal, Greater, nat_cmp, is_lt, ltb-true, eqb-true, true≢false, ◌==◌, nat_lt, cond, Bool, le-ltb, eq-eqb}
+use Rattle.std.specs.Ordering.{ordering_then, ordering_reverse}
+use Rattle.std.specs.Cmp.{IsTotalOrder}
+use Rattle.std.specs.Cmp.Lexicographic.{slice_cmp, nat_list_cmp_total}
+use Rattle.std.specs.FinMap.{slice_cmp-IsAntisymmetric, nat_cmp-IsAntisymmetric}
+use Rattle.srm_net.specs.Keys.{key_cmp, numbers_of_key}
+use Rattle.srm_net.specs.Orders.{place, NoneBelow, Rises, AllAfter, Ascends}
+
+pub is_Less : (r : Ordering) → is_lt r ≡ true → r ≡ Less
+is_Less Less h = refl
+is_Less Equal h = absurd (true≢false (sym h))
+is_Less Greater h = absurd (true≢false (sym h))
+
+pub not_less : (r : Ordering) → r ≡ Less → is_lt (ordering_reverse r) ≡ false
+not_less r e = rw e
+
+module _ {A : Type 0} (cmp : A → A → Ordering) (o : IsTotalOrder cmp) where
+  pub lt-trans : (x y z : A) → is_lt (cmp x y) ≡ true → is_lt (cmp y z) ≡ true → is_lt (cmp x z) ≡ true
+  lt-trans x y z h g = ap is_lt (o.trans x y z (is_Less _ h) (is_Less _ g))
+
+  pub lt-asym : (x y : A) → is_lt (cmp x y) ≡ true → is_lt (cmp y x) ≡ false
+  lt-asym x y h = ap is_lt (o.antisymm y x) ∙ not_less (cmp x y) (is_Less _ h)
+
+  -- two elements, one less than the other, may be placed in either order
+  pub place-swap : (x y : A) → is_lt (cmp x y) ≡ true → (zs : List A) → place cmp x (place cmp y zs) ≡ place cmp y (place cmp x zs)
+  place-swap x y h [] = let g : is_lt (cmp y x) ≡ false = lt-asym x y h in rw (h, g)
+  place-swap x y h (z ∷ zs) = let g : is_lt (cmp y x) ≡ false = lt-asym x y h in
+      elim (is_lt (cmp z x)) as (λ b. is_lt (cmp z x) ≡ b → place cmp x (place cmp y (z ∷ zs)) ≡ place cmp y (place cmp x (z ∷ zs))) [
+        | true ↦ λ zx. let zy : is_lt (cmp z y) ≡ true = lt-trans z x y zx h in simp (zx, zy) (ap (λ l. z ∷ l) (place-swap x y h zs))
+        | false ↦ λ zx. elim (is_lt (cmp z y)) as (λ b. is_lt (cmp z y) ≡ b → place cmp x (place cmp y (z ∷ zs)) ≡ place cmp y (place cmp x (z ∷ zs))) [
+          | true ↦ λ zy. simp (zx, zy, h)
+          | false ↦ λ zy. simp (zx, zy, h, g)
+        ] refl
+      ] refl
+
+-- the same, whichever of the two is less
+pub place-comm : {A : Type 0} (cmp : A → A → Ordering) (o : IsTotalOrder cmp) (x y : A) → cmp x y ≢ Equal → (zs : List A) → place cmp x (place cmp y zs) ≡ place cmp y (place cmp x zs)
+place-comm cmp o x y apart zs = elim (cmp x y) as (λ r. cmp x y ≡ r → place cmp x (place cmp y zs) ≡ place cmp y (place cmp x zs)) [
+  | Less ↦ λ e. place-swap cmp o x y (ap is_lt e) zs
+  | Equal ↦ λ e. absurd (apart e)
+  | Greater ↦ λ e. sym (place-swap cmp o y x (ap is_lt (o.antisymm y x ∙ ap ordering_reverse e)) zs)
+] refl
+
+-- lists of numbers that the order does not tell apart are equal
+pub same_numbers : (xs ys : List ℕ) → slice_cmp nat_cmp xs ys ≡ Equal → xs ≡ ys
+same_numbers xs ys e = slice_cmp-IsAntisymmetric nat_cmp-IsAntisymmetric xs ys e
+
+-- the first numbers are in order
+pub head_le : (a b : ℕ) (o : Ordering) → ordering_then (nat_cmp a b) o ≢ Greater → a ≤ b
+head_le a b o h = elim (nat_lt a b) as (λ l. nat_lt a b ≡ l → a ≤ b) [
+  | true ↦ λ e. let f : a < b = ltb-true a b e in omega arith
+  | false ↦ λ e. elim (a == b) as (λ q. (a == b) ≡ q → a ≤ b) [
+    | true ↦ λ q. let f : a ≡ b = eqb-true a b q in omega arith
+    | false ↦ λ q. absurd (h (simp (e, q)))
+  ] refl
+] refl
+
+pub key_total : IsTotalOrder key_cmp
+key_total = Rattle.std.specs.Cmp.on_total numbers_of_key nat_list_cmp_total
+
+pub nat_cmp_self : (n : ℕ) → nat_cmp n n ≡ Equal
+nat_cmp_self n = let l : nat_lt n n ≡ false = le-ltb _ _ (omega arith) in let e : (n == n) ≡ true = eq-eqb _ _ refl in simp (l, e)
+
+-- ---- orders, where not less is the other way round
+
+module _ {A : Type 0} (cmp : A → A → Ordering) (o : IsTotalOrder cmp) where
+  -- x is not before k
+  abbrev pub From : A → A → Type 0
+  From k x = is_lt (cmp x k) ≡ false
+
+  from_less : (k x : A) → cmp k x ≡ Less → From k x
+  from_less k x h = lt-asym cmp o k x (ap is_lt h)
+
+  pub from_not_greater : (k x : A) → cmp k x ≢ Greater → From k x
+  from_not_greater k x h = elim (cmp k x) as (λ r. cmp k x ≡ r → From k x) [
+    | Less ↦ λ e. from_less k x e
+    | Equal ↦ λ e. ap is_lt (o.antisymm x k ∙ ap ordering_reverse e)
+    | Greater ↦ λ e. absurd (h e)
+  ] refl
+
+  pub from_greater : (k x : A) → cmp x k ≡ Greater → From k x
+  from_greater k x h = ap is_lt h
+
+  pub not_greater : (k x : A) → From k x → cmp k x ≢ Greater
+  not_greater k x h g = true≢false (sym (ap is_lt (o.antisymm x k ∙ ap ordering_reverse g)) ∙ h)
+
+  pub from_refl : (k : A) → From k k
+  from_refl k = elim (cmp k k) as (λ r. cmp k k ≡ r → From k k) [
+    | Less ↦ λ e. from_less k k e
+    | Equal ↦ λ e. ap is_lt e
+    | Greater ↦ λ e. ap is_lt e
+  ] refl
+
+  pub from_trans : (x y z : A) → From x y → From y z → From x z
+  from_trans x y z h g = elim (is_lt (cmp z x)) as (λ b. is_lt (cmp z x) ≡ b → From x z) [
+    | false ↦ λ e. e
+    | true ↦ λ e. elim (cmp z y) as (λ r. cmp z y ≡ r → From x z) [
+      | Less ↦ λ q. absurd (true≢false (sym (ap is_lt q) ∙ g))
+      | Equal ↦ λ q. absurd (true≢false (sym e ∙ ap is_lt (o.congr z y x q) ∙ h))
+      | Greater ↦ λ q. absurd (true≢false (sym (ap is_lt (o.trans y z x (o.antisymm y z ∙ ap ordering_reverse q) (is_Less _ e))) ∙ h))
+    ] refl
+  ] refl
+
+  none_below_cond : (k : A) (b : Bool) (xs ys : List A) → NoneBelow cmp k xs → NoneBelow cmp k ys → NoneBelow cmp k (cond b xs ys)
+  none_below_cond k true xs ys h g = h
+  none_below_cond k false xs ys h g = g
+
+  none_below_place : (k x : A) (ys : List A) → From k x → NoneBelow cmp k ys → NoneBelow cmp k (place cmp x ys)
+  none_below_place k x [] h g = (h, tt)
+  none_below_place k x (y ∷ ys) h g = none_below_cond k (is_lt (cmp y x)) (y ∷ place cmp x ys) (x ∷ y ∷ ys) (g.0, none_below_place k x ys h g.1) (h, g)
+
+  pub none_below_from : (k x : A) (ys : List A) → From k x → NoneBelow cmp x ys → NoneBelow cmp k ys
+  none_below_from k x [] h g = tt
+  none_below_from k x (y ∷ ys) h g = (from_trans k x y h g.0, none_below_from k x ys h g.1)
+
+  pub rises_place : (x : A) (ys : List A) → Rises cmp ys → Rises cmp (place cmp x ys)
+  rises_place x [] h = (tt, tt)
+  rises_place x (y ∷ ys) h = elim (is_lt (cmp y x)) as (λ b. is_lt (cmp y x) ≡ b → Rises cmp (place cmp x (y ∷ ys))) [
+    | true ↦ λ e. rw e (none_below_place y x ys (from_less y x (is_Less _ e)) h.0, rises_place x ys h.1)
+    | false ↦ λ e. rw e ((e, none_below_from x y ys e h.0), h)
+  ] refl
+
+  none_below_after : (x : A) (ys : List A) → AllAfter cmp x ys → NoneBelow cmp x ys
+  none_below_after x [] h = tt
+  none_below_after x (y ∷ ys) h = (from_less x y h.0, none_below_after x ys h.1)
+
+  pub rises : (xs : List A) → Ascends cmp xs → Rises cmp xs
+  rises [] h = tt
+  rises (x ∷ xs) h = (none_below_after x xs h.0, rises xs h.1)
+
+  -- a list that rises is in order
+  pub place_first : (x : A) (ys : List A) → NoneBelow cmp x ys → place cmp x ys ≡ x ∷ ys
+  place_first x [] h = refl
+  place_first x (y ∷ ys) h = let e = h.0 in rw e

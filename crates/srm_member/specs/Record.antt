@@ -1,0 +1,110 @@
+-- What a member knows: its record, the timers in it, and what it ends with.
+use Rattle.std.specs.Prelude.{ℕ, ◌+◌, Bool, ◌==◌, if◌then◌else◌, List, [], ◌∷◌, ◌++◌, map, Option, Some, None}
+use Rattle.std.specs.declared.cmp.Ordering.{Ordering}
+use Rattle.std.specs.declared.cmp.Ordering.TheVariants.{Less, Equal, Greater}
+use Rattle.std.specs.Ordering.{nat_cmp}
+use Rattle.std.specs.Cmp.Lexicographic.{slice_cmp}
+use Rattle.rand_pcg.specs.Lcg.{Lcg, started, increment_of}
+use Rattle.rand_pcg.specs.Pcg.{multiplier_64}
+use Rattle.srm_net.specs.declared.packet.Name.{Name}
+use Rattle.srm_net.specs.declared.packet.PageId.{PageId}
+use Rattle.srm_member.specs.declared.fixed.Fixed.{Fixed}
+use Rattle.srm_member.specs.declared.due.Due.{Due}
+use Rattle.srm_member.specs.declared.exit.Exit.{Exit}
+pub use Rattle.srm_member.specs.declared.entries.Missing.{Missing}
+pub use Rattle.srm_member.specs.declared.entries.Repairing.{Repairing}
+
+-- of one page: numbers below floor do not concern the member, and next is the first number not heard of
+pub record Stream : Type 0 where
+  pub floor : ℕ
+  pub next : ℕ
+
+-- what an active member knows: its fixed part; its generator; the streams of pages; the inks of the names that it holds; the
+-- names that it lacks; its repair timers; and, of names that it answered or heard repaired, the time before which it does not
+-- answer again. Finite maps are lists of entries whose keys rise
+pub record Memory : Type 0 where
+  pub fixed : Fixed
+  pub words : Lcg
+  pub streams : List (PageId × Stream)
+  pub held : List (Name × ℕ)
+  pub missing : List (Name × Missing)
+  pub repairs : List (Name × Repairing)
+  pub rests : List (Name × ℕ)
+
+-- a member's record: active, or gone, which keeps the fixed part alone
+pub data Record : Type 0 where
+  Active : (memory : Memory) → Record
+  Gone : (fixed : Fixed) → Record
+
+-- what a member knows at first
+abbrev pub opening_memory : Fixed → Memory
+opening_memory f = record {
+  fixed = f;
+  words = started 64 multiplier_64 f.seed (increment_of 64 f.stream);
+  streams = [];
+  held = [];
+  missing = [];
+  repairs = [];
+  rests = [];
+}
+
+abbrev pub opening_record : Fixed → Record
+opening_record f = Active (opening_memory f)
+
+-- the part that never changes
+abbrev pub fixed_part : Record → Fixed
+fixed_part (Active m) = m.fixed
+fixed_part (Gone f) = f
+
+-- ---- timers
+
+-- the request timers and the repair timers of what a member knows
+abbrev pub timers_of : Memory → List Due
+timers_of m =
+    map (λ e. record { time = e.1.expiry; rank = 2; name = e.0 }) m.missing
+    ++ map (λ e. record { time = e.1.expiry; rank = 3; name = e.0 }) m.repairs
+
+abbrev pub timers : Record → List Due
+timers (Active m) = timers_of m
+timers (Gone f) = []
+
+-- timers are compared by time, rank and name
+abbrev pub numbers_of_due : Due → List ℕ
+numbers_of_due d = d.time ∷ d.rank ∷ d.name.source ∷ d.name.page ∷ d.name.number ∷ []
+
+abbrev pub due_cmp : Due → Due → Ordering
+due_cmp d e = slice_cmp nat_cmp (numbers_of_due d) (numbers_of_due e)
+
+abbrev pub by_order : Ordering → Due → Due → Due
+by_order Less d e = d
+by_order Equal d e = d
+by_order Greater d e = e
+
+-- the earlier of a timer and another, if there is another
+abbrev pub sooner : Due → Option Due → Due
+sooner d None = d
+sooner d (Some e) = by_order (due_cmp d e) d e
+
+-- the least of these timers
+abbrev pub earliest : List Due → Option Due
+earliest [] = None
+earliest (d ∷ ds) = Some (sooner d (earliest ds))
+
+-- a record's next timer
+abbrev pub due_of : Record → Option Due
+due_of r = earliest (timers r)
+
+-- how many elements pass a test
+abbrev pub count_if : {A : Type 0} → (A → Bool) → List A → ℕ
+count_if p [] = 0
+count_if p (x ∷ xs) = (if p x then 1 else 0) + count_if p xs
+
+-- how many timers of a record expire at a tick
+abbrev pub timers_at : ℕ → Record → ℕ
+timers_at t r = count_if (λ d. d.time == t) (timers r)
+
+-- ---- the end
+
+-- what a member ends with: the names that it holds, with their inks, and those that it lacks
+abbrev pub exit_of : Memory → Exit
+exit_of m = record { member = m.fixed.member; held = m.held; missing = map (λ e. e.0) m.missing }

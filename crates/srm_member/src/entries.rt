@@ -1,0 +1,23 @@
+//! What stands in a member's tables.
+
+/// A name that a member lacks, with its request timer.
+#[derive(Clone, Copy, Debug, PartialEq, Eq)]
+pub struct Missing {
+    /// When the loss was detected, in ticks.
+    pub detected: u64,
+    /// When the request timer expires, in ticks.
+    pub expiry: u64,
+    /// How often the timer backed off, counted up to 10.
+    pub backoffs: u32,
+    /// Before which time a request for the name backs off no further, in ticks.
+    pub ignore: u64,
+}
+
+/// A repair timer.
+#[derive(Clone, Copy, Debug, PartialEq, Eq)]
+pub struct Repairing {
+    /// When it expires, in ticks.
+    pub expiry: u64,
+    /// The member whose request set it.
+    pub requester: u16,
+}

@@ -1,0 +1,585 @@
+//! What an active member knows, and how it answers.
+ghost use Rattle.std.specs.Prelude.{◌≡◌, ◌+◌, ◌-◌, ◌<◌, ◌≤◌, ◌^◌, [], ◌∷◌, ◌++◌, IsTrue, IfOk, OnOk, Some, None};
+ghost use Rattle.srm_net.specs.Names;
+ghost use Rattle.srm_member.specs.Timers;
+ghost use Rattle.srm_member.specs.declared.told.Told.TheVariants.{Sent};
+ghost use Rattle.srm_member.specs.Record.{opening_memory, exit_of, earliest, timers_of};
+ghost use Rattle.srm_member.specs.React.{distance_to, length_in, with_next_word, request_length, repair_length, back_off, wants, is_late, begins_at, meet, lose_one, lose_from, lose_below, names_from, lost_below, got, base, resting, got_repair, planning, asked_missing, asked_held, requested, after_entry, lost_by_entry, informed, hear_body, asking, answering, own_stream, drawing, session_of, sending};
+ghost use Rattle.srm_member.specs.Fit.{IsFit, Gives};
+
+use crate::due::Due;
+use crate::entries::{Missing, Repairing};
+use crate::exit::Exit;
+use crate::fixed::Fixed;
+use crate::named::Named;
+use crate::pages::Pages;
+use crate::pending::Pending;
+use crate::react::React;
+use crate::stream::Stream;
+use crate::timers::{draw, span};
+use crate::told::Told;
+use rand_core::utils::NextWord;
+use rand_pcg::Lcg64Xsh32;
+use srm_net::packet::{Body, Heard, Name, Packet, PageId};
+use srm_net::role::Role;
+use srm_net::sequence::Sequence;
+use std::alloc::{AllocError, Global};
+use std::marker::Model;
+
+/// What an active member knows: its fixed part, its generator, and its tables.
+#[derive(Drop)]
+pub struct Memory {
+    fixed: Fixed,
+    words: Lcg64Xsh32,
+    streams: Pages,
+    held: Named<u32>,
+    pending: Pending,
+    rests: Named<u64>,
+}
+
+impl Model for Memory {
+    ghost use Rattle.srm_member.specs.Record.{Memory as Seen};
+    ghost use Rattle.srm_member.specs.Fit.{IsFit};
+
+    ghost Value = { Seen };
+
+    ghost view = { λ t. record { fixed = t.fixed; words = t.words; streams = t.streams; held = t.held; missing = t.pending.0; repairs = t.pending.1; rests = t.rests } };
+
+    ghost invariant = { λ t. IsFit t.fixed };
+}
+
+impl Memory {
+    /// What a member knows at first. It takes no memory.
+    pub fn new(alloc: Global, fixed: Fixed) -> Self
+        requires { IsFit fixed }
+        ensures { result ≡ opening_memory fixed }
+    {
+        let words = Lcg64Xsh32::new(fixed.seed, fixed.stream);
+        Memory {
+            fixed,
+            words,
+            streams: Pages::new(alloc),
+            held: Named::new(alloc),
+            pending: Pending::new(alloc),
+            rests: Named::new(alloc),
+        }
+    }
+
+    /// The member's number.
+    pub fn number(&self) -> u16
+        ensures { result ≡ self.now.fixed.member }
+    {
+        self.fixed.member
+    }
+
+    // The distance to a member, in ticks.
+    fn distance_to(&self, who: u16) -> u64
+        ensures value { result ≡ distance_to self.now who }
+        ensures bound { result ≤ 255000000 }
+    {
+        self.fixed
+            .dist
+            .as_slice()
+            .get(usize::from(who))
+            .copied()
+            .unwrap_or(0)
+    }
+
+    // The length of a new timer, in ticks, which takes one word of the generator.
+    fn length(&mut self, i: u32, x: u32, y: u32, d: u64) -> u64
+        requires least { x ≤ 64000 }
+        requires more { y ≤ 64000 }
+        requires distance { d ≤ 255000000 }
+        ensures length { result ≡ length_in self.old (Timers.span i x y d) }
+        ensures word { self.new ≡ with_next_word self.old }
+        ensures bound { result < 2 ^ 45 }
+    {
+        let (lo, hi) = span(i, x, y, d);
+        draw(self.words.next_word(), lo, hi)
+    }
+
+    // The length of a new request timer after `i` backoffs, in ticks.
+    fn request_length(&mut self, i: u32, name: Name) -> u64
+        ensures length { result ≡ request_length self.old i name }
+        ensures word { self.new ≡ with_next_word self.old }
+        ensures bound { result < 2 ^ 45 }
+    {
+        let distance = self.distance_to(name.source);
+        self.length(i, self.fixed.c1, self.fixed.c2, distance)
+    }
+
+    // The length of a new repair timer for a request of this member, in ticks.
+    fn repair_length(&mut self, who: u16) -> u64
+        ensures length { result ≡ repair_length self.old who }
+        ensures word { self.new ≡ with_next_word self.old }
+        ensures bound { result < 2 ^ 45 }
+    {
+        let distance = self.distance_to(who);
+        self.length(0, self.fixed.d1, self.fixed.d2, distance)
+    }
+
+    // Backs off: the request timer of a missing name is set anew (Floyd et al. 1997), at most ten times longer and longer.
+    fn back_off(&mut self, at: u64, name: Name, missing: Missing) -> Result<(), AllocError>
+        requires { at < 2 ^ 40 }
+        ensures ok { OnOk result (self.new ≡ back_off at name missing self.old) }
+        ensures fixed { self.new.fixed ≡ self.old.fixed }
+    {
+        let backoffs = missing.backoffs.min(9) + 1;
+        let length = self.request_length(backoffs, name);
+        let later = Missing {
+            detected: missing.detected,
+            expiry: at + length,
+            backoffs,
+            ignore: at + length / 2,
+        };
+        self.pending.miss(name, later)?;
+        Ok(())
+    }
+
+    // Loses a name: it is missing from here on, with a new request timer.
+    fn lose_one(&mut self, at: u64, name: Name) -> Result<(), AllocError>
+        requires { at < 2 ^ 40 }
+        ensures ok { OnOk result (self.new ≡ lose_one at name self.old) }
+        ensures fixed { self.new.fixed ≡ self.old.fixed }
+    {
+        let length = self.request_length(0, name);
+        let missing = Missing {
+            detected: at,
+            expiry: at + length,
+            backoffs: 0,
+            ignore: at,
+        };
+        self.pending.miss(name, missing)?;
+        Ok(())
+    }
+
+    // Loses the names of a page from number `from` to below `to`, in rising order, and lists them.
+    fn lose_from(
+        &mut self,
+        at: u64,
+        page: PageId,
+        from: u64,
+        to: u64,
+        lost: &mut Sequence<Name>,
+    ) -> Result<(), AllocError>
+        requires time { at < 2 ^ 40 }
+        requires numbers { to ≤ 2 ^ 32 }
+        ensures ok { OnOk result (self.new ≡ lose_from at page (to - from) from self.old) }
+        ensures names { OnOk result (lost.new ≡ lost.old ++ names_from page (to - from) from) }
+        ensures fixed { self.new.fixed ≡ self.old.fixed }
+    {
+        for number in from..to {
+            let name = Name {
+                source: page.source,
+                page: page.page,
+                number: number as u32,
+            };
+            self.lose_one(at, name)?;
+            lost.push(name)?;
+        }
+        Ok(())
+    }
+
+    // Whether a page is one of those that a late member wants whole.
+    fn wants(&self, page: u16) -> bool
+        ensures { result ≡ wants self.now page }
+    {
+        self.fixed.pages.as_slice().iter().any(|p| *p == page)
+    }
+
+    // Where a page begins for this member: a late member does not ask for what came before on pages that it does not want.
+    fn begins_at(&self, page: PageId, begin: u64) -> u64
+        ensures value { result ≡ begins_at self.now page begin }
+        ensures bound { result ≤ begin }
+    {
+        if matches!(self.fixed.role, Role::Late) && !self.wants(page.page) {
+            begin
+        } else {
+            0
+        }
+    }
+
+    // How far the member follows a page, which it may meet here for the first time.
+    fn meet(&self, page: PageId, begin: u64) -> Stream
+        requires { begin ≤ 2 ^ 32 }
+        ensures { result ≡ meet self.now page begin }
+    {
+        match self.streams.get(page) {
+            Some(stream) => stream,
+            None => {
+                let begin = self.begins_at(page, begin);
+                Stream::new(begin, begin)
+            }
+        }
+    }
+
+    // Loses every number of a page below `n` that was not heard of, and lists them; the page's next number is then `next`.
+    #[tactic(auto, unfolding(crate::specs::React::lose_below))]
+    fn lose_below(
+        &mut self,
+        at: u64,
+        page: PageId,
+        n: u64,
+        next: u64,
+        stream: Stream,
+        lost: &mut Sequence<Name>,
+    ) -> Result<(), AllocError>
+        requires time { at < 2 ^ 40 }
+        requires numbers { n ≤ 2 ^ 32 }
+        requires after { next ≤ 2 ^ 32 }
+        ensures ok { OnOk result (self.new ≡ lose_below at page n next stream self.old) }
+        ensures names { OnOk result (lost.new ≡ lost.old ++ lost_below page n stream) }
+        ensures fixed { self.new.fixed ≡ self.old.fixed }
+    {
+        self.lose_from(at, page, stream.next(), n, lost)?;
+        self.streams.put(page, Stream::new(stream.floor(), next))?;
+        Ok(())
+    }
+
+    // Takes in data or a repair of a name.
+    #[tactic(auto, unfolding(crate::specs::React::got))]
+    fn got(&mut self, alloc: Global, at: u64, name: Name, ink: u32) -> Result<React, AllocError>
+        requires { at < 2 ^ 40 }
+        ensures ok { IfOk result (λ a. Gives a self.new (got at name ink self.old)) }
+        ensures fixed { self.new.fixed ≡ self.old.fixed }
+    {
+        let page = page_of(name);
+        let number = u64::from(name.number);
+        let stream = self.meet(page, number);
+        if number < stream.floor() {
+            self.streams.put(page, stream)?;
+            return Ok(quietly(Told::Skip, Sequence::new(alloc)));
+        }
+        if number >= stream.next() {
+            let mut lost = Sequence::new(alloc);
+            self.lose_below(at, page, number, number + 1, stream, &mut lost)?;
+            self.held.put(name, ink)?;
+            return Ok(quietly(Told::Fresh, lost));
+        }
+        self.streams.put(page, stream)?;
+        if self.pending.missing(name).is_some() {
+            self.held.put(name, ink)?;
+            self.pending.find(name);
+            return Ok(quietly(Told::Fixed, Sequence::new(alloc)));
+        }
+        Ok(quietly(Told::Again, Sequence::new(alloc)))
+    }
+
+    // The distance on which a name's rest is based, in ticks: that to its source; at the source itself that to whoever set the
+    // pending repair timer, or without one to the member that sent the repair.
+    fn base(&self, name: Name, who: u16) -> u64
+        ensures value { result ≡ base self.now name who }
+        ensures bound { result ≤ 255000000 }
+    {
+        if name.source != self.fixed.member {
+            return self.distance_to(name.source);
+        }
+        match self.pending.repair(name) {
+            Some(repair) => self.distance_to(repair.requester),
+            None => self.distance_to(who),
+        }
+    }
+
+    // A repair was sent: the member does not answer for the name for a while, and a pending repair timer ends.
+    fn rest(&mut self, at: u64, name: Name, who: u16) -> Result<(), AllocError>
+        requires { at < 2 ^ 40 }
+        ensures ok { OnOk result (self.new ≡ resting at name who self.old) }
+        ensures fixed { self.new.fixed ≡ self.old.fixed }
+    {
+        let base = self.base(name, who);
+        self.rests.put(name, at + 3 * base)?;
+        self.pending.forget(name);
+        Ok(())
+    }
+
+    // Takes in a repair of a name, by this member.
+    fn got_repair(
+        &mut self,
+        alloc: Global,
+        at: u64,
+        name: Name,
+        ink: u32,
+        who: u16,
+    ) -> Result<React, AllocError>
+        requires { at < 2 ^ 40 }
+        ensures ok { IfOk result (λ a. Gives a self.new (got_repair at name ink who self.old)) }
+        ensures fixed { self.new.fixed ≡ self.old.fixed }
+    {
+        let react = self.got(alloc, at, name, ink)?;
+        if matches!(react.told, Told::Skip) {
+            return Ok(react);
+        }
+        self.rest(at, name, who)?;
+        Ok(react)
+    }
+
+    // Plans a repair, for a request of this member (Floyd et al. 1997).
+    fn plan(&mut self, at: u64, name: Name, who: u16) -> Result<(), AllocError>
+        requires { at < 2 ^ 40 }
+        ensures ok { OnOk result (self.new ≡ planning at name who self.old) }
+        ensures fixed { self.new.fixed ≡ self.old.fixed }
+    {
+        let length = self.repair_length(who);
+        let repair = Repairing {
+            expiry: at + length,
+            requester: who,
+        };
+        self.pending.plan(name, repair)?;
+        Ok(())
+    }
+
+    // A request for a name that is missing.
+    fn asked_missing(
+        &mut self,
+        at: u64,
+        name: Name,
+        lost: Sequence<Name>,
+    ) -> Result<React, AllocError>
+        requires { at < 2 ^ 40 }
+        ensures ok { IfOk result (λ a. Gives a self.new (asked_missing at name lost self.old)) }
+        ensures fixed { self.new.fixed ≡ self.old.fixed }
+    {
+        match self.pending.missing(name) {
+            None => Ok(quietly(Told::Hold, lost)),
+            Some(missing) => {
+                if at < missing.ignore {
+                    return Ok(quietly(Told::Hold, lost));
+                }
+                self.back_off(at, name, missing)?;
+                Ok(quietly(Told::Back, lost))
+            }
+        }
+    }
+
+    // A request for a name that is held, by this member.
+    fn asked_held(
+        &mut self,
+        alloc: Global,
+        at: u64,
+        name: Name,
+        who: u16,
+    ) -> Result<React, AllocError>
+        requires { at < 2 ^ 40 }
+        ensures ok { IfOk result (λ a. Gives a self.new (asked_held at name who self.old)) }
+        ensures fixed { self.new.fixed ≡ self.old.fixed }
+    {
+        if at < self.rests.get(name).unwrap_or(0) {
+            return Ok(quietly(Told::Rest, Sequence::new(alloc)));
+        }
+        if self.pending.repair(name).is_some() {
+            return Ok(quietly(Told::Busy, Sequence::new(alloc)));
+        }
+        self.plan(at, name, who)?;
+        Ok(quietly(Told::Plan, Sequence::new(alloc)))
+    }
+
+    // A request for a name, by this member.
+    #[tactic(auto, unfolding(crate::specs::React::requested))]
+    fn requested(
+        &mut self,
+        alloc: Global,
+        at: u64,
+        name: Name,
+        who: u16,
+    ) -> Result<React, AllocError>
+        requires { at < 2 ^ 40 }
+        ensures ok { IfOk result (λ a. Gives a self.new (requested at name who self.old)) }
+        ensures fixed { self.new.fixed ≡ self.old.fixed }
+    {
+        let page = page_of(name);
+        let number = u64::from(name.number);
+        let stream = self.meet(page, number + 1);
+        self.streams.put(page, stream)?;
+        if number < stream.floor() {
+            return Ok(quietly(Told::Skip, Sequence::new(alloc)));
+        }
+        if self.held.get(name).is_some() {
+            return self.asked_held(alloc, at, name, who);
+        }
+        let mut lost = Sequence::new(alloc);
+        if number >= stream.next() {
+            self.lose_below(at, page, number + 1, number + 1, stream, &mut lost)?;
+        }
+        self.asked_missing(at, name, lost)
+    }
+
+    // Takes in an entry of a session message, and lists the names that are lost by it.
+    #[tactic(auto, unfolding(crate::specs::React::after_entry))]
+    fn after_entry(
+        &mut self,
+        at: u64,
+        heard: Heard,
+        lost: &mut Sequence<Name>,
+    ) -> Result<(), AllocError>
+        requires { at < 2 ^ 40 }
+        ensures ok { OnOk result (self.new ≡ after_entry at heard self.old) }
+        ensures names { OnOk result (lost.new ≡ lost.old ++ lost_by_entry heard self.old) }
+        ensures fixed { self.new.fixed ≡ self.old.fixed }
+    {
+        let page = PageId {
+            source: heard.source,
+            page: heard.page,
+        };
+        let highest = u64::from(heard.highest);
+        let stream = self.meet(page, highest + 1);
+        if highest >= stream.next() {
+            self.lose_below(at, page, highest + 1, highest + 1, stream, lost)?;
+        } else {
+            self.streams.put(page, stream)?;
+        }
+        Ok(())
+    }
+
+    // Takes in a session message.
+    fn informed(&mut self, alloc: Global, at: u64, heard: &[Heard]) -> Result<React, AllocError>
+        requires { at < 2 ^ 40 }
+        ensures ok { IfOk result (λ a. Gives a self.new (informed at heard.now self.old [])) }
+        ensures fixed { self.new.fixed ≡ self.old.fixed }
+    {
+        let mut lost = Sequence::new(alloc);
+        for entry in heard {
+            self.after_entry(at, *entry, &mut lost)?;
+        }
+        Ok(quietly(Told::Heard, lost))
+    }
+
+    /// Takes in a packet.
+    pub fn hear(&mut self, alloc: Global, at: u64, packet: &Packet) -> Result<React, AllocError>
+        requires { at < 2 ^ 40 }
+        ensures ok { IfOk result (λ a. Gives a self.new (hear_body at packet.now.id.sender packet.now.body self.old)) }
+        ensures fixed { self.new.fixed ≡ self.old.fixed }
+    {
+        let who = packet.id.sender;
+        match &packet.body {
+            Body::Drawop { name, ink } => self.got(alloc, at, *name, *ink),
+            Body::Repair { name, ink } => self.got_repair(alloc, at, *name, *ink, who),
+            Body::Request { name } => self.requested(alloc, at, *name, who),
+            Body::Session { heard } => self.informed(alloc, at, heard.as_slice()),
+        }
+    }
+
+    /// The request timer of a name expires: the member asks for the name, and backs off.
+    #[tactic(auto, unfolding(crate::specs::React::asking))]
+    pub fn ask(&mut self, alloc: Global, at: u64, name: Name) -> Result<React, AllocError>
+        requires { at < 2 ^ 40 }
+        ensures ok { IfOk result (λ a. Gives a self.new (asking at name self.old)) }
+        ensures fixed { self.new.fixed ≡ self.old.fixed }
+    {
+        match self.pending.missing(name) {
+            None => Ok(quietly(Told::Skip, Sequence::new(alloc))),
+            Some(missing) => {
+                self.back_off(at, name, missing)?;
+                Ok(sending(alloc, Body::Request { name }))
+            }
+        }
+    }
+
+    /// The repair timer of a name expires: the member sends what it holds.
+    #[tactic(auto, unfolding(crate::specs::React::answering))]
+    pub fn answer(&mut self, alloc: Global, at: u64, name: Name) -> Result<React, AllocError>
+        requires { at < 2 ^ 40 }
+        ensures ok { IfOk result (λ a. Gives a self.new (answering at name self.old)) }
+        ensures fixed { self.new.fixed ≡ self.old.fixed }
+    {
+        match self.pending.repair(name) {
+            None => Ok(quietly(Told::Skip, Sequence::new(alloc))),
+            Some(_) => {
+                let ink = self.held.get(name).unwrap_or(0);
+                let own = self.fixed.member;
+                self.rest(at, name, own)?;
+                Ok(sending(alloc, Body::Repair { name, ink }))
+            }
+        }
+    }
+
+    // How far the member follows a page of its own.
+    fn own_stream(&self, page: PageId) -> Stream
+        ensures { result ≡ own_stream self.now page }
+    {
+        match self.streams.get(page) {
+            Some(stream) => stream,
+            None => Stream::new(0, 0),
+        }
+    }
+
+    /// A sender draws, up to 4,096 operations on a page.
+    #[tactic(auto, unfolding(crate::specs::React::drawing))]
+    pub fn draw_op(&mut self, alloc: Global, page: u16, ink: u32) -> Result<React, AllocError>
+        ensures ok { IfOk result (λ a. Gives a self.new (drawing page ink self.old)) }
+        ensures fixed { self.new.fixed ≡ self.old.fixed }
+    {
+        let source = self.fixed.member;
+        let place = PageId { source, page };
+        let stream = self.own_stream(place);
+        let next = stream.next();
+        if !matches!(self.fixed.role, Role::Sender) || next >= 4096 {
+            return Ok(quietly(Told::Skip, Sequence::new(alloc)));
+        }
+        let name = Name {
+            source,
+            page,
+            number: next as u32,
+        };
+        self.streams
+            .put(place, Stream::new(stream.floor(), next + 1))?;
+        self.held.put(name, ink)?;
+        Ok(sending(alloc, Body::Drawop { name, ink }))
+    }
+
+    /// The session message that tells of every page that the member follows.
+    pub fn report(&self, alloc: Global) -> Result<React, AllocError>
+        ensures { IfOk result (λ a. Gives a self.now (sending self.now (session_of self.now))) }
+    {
+        let heard = self.streams.heard(alloc)?;
+        Ok(sending(alloc, Body::Session { heard }))
+    }
+
+    /// What the member ends with.
+    pub fn exit(&self, alloc: Global) -> Result<Exit, AllocError>
+        ensures { IfOk result (λ e. e ≡ exit_of self.now) }
+    {
+        let held = self.held.entries(alloc)?;
+        let missing = self.pending.names(alloc)?;
+        Ok(Exit {
+            member: self.fixed.member,
+            held,
+            missing,
+        })
+    }
+
+    /// The least timer by time, rank and name.
+    pub fn due(&self) -> Option<Due>
+        ensures { result ≡ earliest (timers_of self.now) }
+    {
+        self.pending.due()
+    }
+}
+
+fn page_of(name: Name) -> PageId
+    ensures { result ≡ Names.page_of name }
+{
+    PageId {
+        source: name.source,
+        page: name.page,
+    }
+}
+
+fn quietly(told: Told, lost: Sequence<Name>) -> React
+    ensures { result ≡ record { told = told; lost = lost; body = None } }
+{
+    React {
+        told,
+        lost,
+        body: None,
+    }
+}
+
+fn sending(alloc: Global, body: Body) -> React
+    ensures { result ≡ record { told = Sent; lost = []; body = Some body } }
+{
+    React {
+        told: Told::Sent,
+        lost: Sequence::new(alloc),
+        body: Some(body),
+    }
+}

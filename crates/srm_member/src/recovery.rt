@@ -1,0 +1,190 @@
+//! Loss recovery.
+ghost use Rattle.std.specs.Prelude.{◌≡◌, ◌≢◌, ℕ, ◌<◌, ◌^◌};
+ghost use Rattle.srm_net.specs.declared.role.Role.TheVariants.{Listener};
+ghost use Rattle.srm_member.specs.declared.cause.Cause.TheVariants.{Join, Arrival, Ask, Answer, Draw, Report};
+ghost use Rattle.srm_member.specs.Record.{fixed_part, due_of, opening_record};
+ghost use Rattle.srm_member.specs.Reacts.{Reacts, Finishes};
+ghost use Rattle.srm_member.specs.Fit.{IsFit};
+
+use crate::cause::Cause;
+use crate::due::Due;
+use crate::exit::Exit;
+use crate::fault::MemberFault;
+use crate::fixed::Fixed;
+use crate::memory::Memory;
+use crate::react::React;
+use crate::told::Told;
+use srm_net::packet::{Name, Packet};
+use srm_net::sequence::Sequence;
+use std::alloc::Global;
+use std::marker::Model;
+
+/// The loss recovery of a sender, a receiver or a late joiner (Floyd et al. 1997), which contracts see as its record.
+///
+/// Each timer that is set takes one word of the member's own generator, and nothing else takes one. After
+/// [`MemberFault::NoMemory`], and after a `finish` that answered `Ok`, the record is gone: every later call answers
+/// [`MemberFault::Spent`], and `due` answers `None`.
+#[derive(Drop)]
+pub struct Recovery {
+    memory: Memory,
+    gone: bool,
+}
+
+impl Model for Recovery {
+    ghost use Rattle.std.specs.Prelude.{◌≡◌, false};
+    ghost use Rattle.srm_member.specs.React.{is_listener};
+    ghost use Rattle.srm_member.specs.Record.{Record};
+    ghost use Rattle.srm_member.specs.Fit.{record_of};
+
+    ghost Value = { Record };
+
+    ghost view = { λ r. record_of r.gone r.memory };
+
+    ghost invariant = { λ r. is_listener r.memory.fixed.role ≡ false };
+}
+
+impl Recovery {
+    /// The record with which a member begins. It takes no memory.
+    pub fn new(alloc: Global, fixed: Fixed) -> Self
+        requires active { fixed.role ≢ Listener }
+        requires fit { IsFit fixed }
+        ensures { result ≡ opening_record fixed }
+    {
+        Recovery {
+            memory: Memory::new(alloc, fixed),
+            gone: false,
+        }
+    }
+
+    /// The member's number. It takes no memory.
+    pub fn number(&self) -> u16
+        ensures { result ≡ (fixed_part self.now).member }
+    {
+        self.memory.number()
+    }
+
+    /// The least timer by time, rank and name. It takes no memory.
+    pub fn due(&self) -> Option<Due>
+        ensures { result ≡ due_of self.now }
+    {
+        if self.gone {
+            return None;
+        }
+        self.memory.due()
+    }
+
+    /// The member joins.
+    pub fn join(&mut self, alloc: Global) -> Result<React, MemberFault>
+        ensures { (at : ℕ) → Reacts self.old at Join result self.new }
+    {
+        if self.gone {
+            return Err(MemberFault::Spent);
+        }
+        Ok(React {
+            told: Told::Entered,
+            lost: Sequence::new(alloc),
+            body: None,
+        })
+    }
+
+    /// A packet arrives at a time, in ticks, below 2^40.
+    pub fn hear(&mut self, alloc: Global, at: u64, packet: &Packet) -> Result<React, MemberFault>
+        requires { at < 2 ^ 40 }
+        ensures { Reacts self.old at (Arrival packet.now) result self.new }
+    {
+        if self.gone {
+            return Err(MemberFault::Spent);
+        }
+        self.gone = true;
+        let react = self.memory.hear(alloc, at, packet)?;
+        self.gone = false;
+        Ok(react)
+    }
+
+    /// The request timer of a name expires at a time, in ticks, below 2^40.
+    pub fn ask(&mut self, alloc: Global, at: u64, name: Name) -> Result<React, MemberFault>
+        requires { at < 2 ^ 40 }
+        ensures { Reacts self.old at (Ask name) result self.new }
+    {
+        if self.gone {
+            return Err(MemberFault::Spent);
+        }
+        self.gone = true;
+        let react = self.memory.ask(alloc, at, name)?;
+        self.gone = false;
+        Ok(react)
+    }
+
+    /// The repair timer of a name expires at a time, in ticks, below 2^40.
+    pub fn answer(&mut self, alloc: Global, at: u64, name: Name) -> Result<React, MemberFault>
+        requires { at < 2 ^ 40 }
+        ensures { Reacts self.old at (Answer name) result self.new }
+    {
+        if self.gone {
+            return Err(MemberFault::Spent);
+        }
+        self.gone = true;
+        let react = self.memory.answer(alloc, at, name)?;
+        self.gone = false;
+        Ok(react)
+    }
+
+    /// The member is to draw on a page at a time, in ticks.
+    pub fn draw_op(
+        &mut self,
+        alloc: Global,
+        at: u64,
+        page: u16,
+        ink: u32,
+    ) -> Result<React, MemberFault>
+        ensures { Reacts self.old at (Draw page ink) result self.new }
+    {
+        if self.gone {
+            return Err(MemberFault::Spent);
+        }
+        self.gone = true;
+        let react = self.memory.draw_op(alloc, page, ink)?;
+        self.gone = false;
+        Ok(react)
+    }
+
+    /// The member is to send a session message.
+    pub fn report(&mut self, alloc: Global) -> Result<React, MemberFault>
+        ensures { (at : ℕ) → Reacts self.old at Report result self.new }
+    {
+        if self.gone {
+            return Err(MemberFault::Spent);
+        }
+        self.gone = true;
+        let react = self.memory.report(alloc)?;
+        self.gone = false;
+        Ok(react)
+    }
+
+    /// Handles a cause at a time, in ticks, below 2^40.
+    pub fn react(&mut self, alloc: Global, at: u64, cause: &Cause) -> Result<React, MemberFault>
+        requires { at < 2 ^ 40 }
+        ensures { Reacts self.old at cause.now result self.new }
+    {
+        match cause {
+            Cause::Join => self.join(alloc),
+            Cause::Arrival { packet } => self.hear(alloc, at, packet),
+            Cause::Ask { name } => self.ask(alloc, at, *name),
+            Cause::Answer { name } => self.answer(alloc, at, *name),
+            Cause::Draw { page, ink } => self.draw_op(alloc, at, *page, *ink),
+            Cause::Report => self.report(alloc),
+        }
+    }
+
+    /// Ends the member, and gives what it holds and lacks.
+    pub fn finish(&mut self, alloc: Global) -> Result<Exit, MemberFault>
+        ensures { Finishes self.old result self.new }
+    {
+        if self.gone {
+            return Err(MemberFault::Spent);
+        }
+        self.gone = true;
+        let exit = self.memory.exit(alloc)?;
+        Ok(exit)
+    }
+}

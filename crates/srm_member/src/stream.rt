@@ -1,0 +1,49 @@
+//! How far a member follows a page.
+ghost use Rattle.std.specs.Prelude.{◌≡◌, ◌≤◌, ◌^◌};
+
+use std::marker::Model;
+
+/// How far a member follows a page of one source.
+#[derive(Clone, Copy, Debug)]
+pub struct Stream {
+    floor: u64,
+    next: u64,
+}
+
+impl Model for Stream {
+    ghost use Rattle.std.specs.Prelude.{◌≤◌, ◌^◌};
+    ghost use Rattle.srm_member.specs.Record.{Stream as Seen};
+
+    ghost Value = { Seen };
+
+    ghost view = { λ s. record { floor = s.floor; next = s.next } };
+
+    ghost invariant = { λ s. s.next ≤ 2 ^ 32 };
+
+    ghost inverse = { λ s. record { floor = s.floor; next = s.next } };
+}
+
+impl Stream {
+    /// A stream whose numbers below `floor` do not concern the member, and whose first number not heard of is `next`.
+    pub fn new(floor: u64, next: u64) -> Stream
+        requires { next ≤ 2 ^ 32 }
+        ensures { result ≡ record { floor = floor; next = next } }
+    {
+        Stream { floor, next }
+    }
+
+    /// Numbers below this one do not concern the member.
+    pub fn floor(self) -> u64
+        ensures { result ≡ self.floor }
+    {
+        self.floor
+    }
+
+    /// The first number not heard of.
+    pub fn next(self) -> u64
+        ensures value { result ≡ self.next }
+        ensures bound { result ≤ 2 ^ 32 }
+    {
+        self.next
+    }
+}

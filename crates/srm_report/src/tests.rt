@@ -1,0 +1,288 @@
+use crate::fault::ReportFault;
+use crate::outlet::WriteOutlet;
+use crate::trace::trace_text;
+use crate::writing::{WriteFault, write_out};
+use srm_member::row::{About, Row, Word};
+use srm_member::told::Told;
+use srm_net::key::Key;
+use srm_net::packet::{Body, Name, Packet, PacketId};
+use srm_net::sequence::Sequence;
+use std::alloc::{AllocError, Global};
+use std::io;
+use std::io::{ErrorKind, Write};
+use std::test::Fail;
+
+fn named(source: u16, page: u16, number: u32) -> About {
+    About::Named {
+        name: Name {
+            source,
+            page,
+            number,
+        },
+    }
+}
+
+fn of(sender: u16, count: u64) -> About {
+    About::Of {
+        packet: PacketId { sender, count },
+    }
+}
+
+// A row that lost so many names, and may have sent a packet.
+fn row_of(
+    alloc: Global,
+    at: (u64, u16),
+    what: (Word, About, Told),
+    lost: usize,
+    sent: Option<PacketId>,
+) -> Result<Row, AllocError> {
+    let (time, member) = at;
+    let (cause, about, told) = what;
+    let name = Name {
+        source: 0,
+        page: 0,
+        number: 0,
+    };
+    let mut names = Sequence::new(alloc);
+    for _ in 0..lost {
+        names.push(name)?;
+    }
+    let key = Key {
+        time,
+        member,
+        rank: 0,
+        a: 0,
+        b: 0,
+        c: 0,
+    };
+    let sent = sent.map(|id| Packet {
+        id,
+        sent: time,
+        body: Body::Request { name },
+    });
+    Ok(Row {
+        key,
+        cause,
+        about,
+        told,
+        lost: names,
+        sent,
+    })
+}
+
+// Each word once, and the greatest numbers.
+fn lines() -> [(
+    (u64, u16),
+    (Word, About, Told),
+    usize,
+    Option<PacketId>,
+    &'static str,
+); 18] {
+    let from = |sender: u16, count: u64| Some(PacketId { sender, count });
+    let draw = named(0, 0, 0);
+    [
+        (
+            (0, 0),
+            (Word::Join, About::Nothing, Told::Entered),
+            0,
+            None,
+            "0,0,join,-,in,0,-",
+        ),
+        (
+            (0, 0),
+            (Word::Draw, draw, Told::Sent),
+            0,
+            from(0, 0),
+            "0,0,draw,0/0/0,sent,0,0:0",
+        ),
+        (
+            (1, 1),
+            (Word::Data, of(0, 0), Told::Fresh),
+            0,
+            None,
+            "1,1,data,0:0,fresh,0,-",
+        ),
+        (
+            (12, 2),
+            (Word::Data, of(0, 1), Told::Fresh),
+            1,
+            None,
+            "12,2,data,0:1,fresh,1,-",
+        ),
+        (
+            (14, 2),
+            (Word::Ask, draw, Told::Sent),
+            0,
+            from(2, 0),
+            "14,2,ask,0/0/0,sent,0,2:0",
+        ),
+        (
+            (15, 1),
+            (Word::Request, of(2, 0), Told::Plan),
+            0,
+            None,
+            "15,1,request,2:0,plan,0,-",
+        ),
+        (
+            (15, 3),
+            (Word::Request, of(2, 0), Told::Back),
+            0,
+            None,
+            "15,3,request,2:0,back,0,-",
+        ),
+        (
+            (16, 1),
+            (Word::Answer, draw, Told::Sent),
+            0,
+            from(1, 0),
+            "16,1,answer,0/0/0,sent,0,1:0",
+        ),
+        (
+            (17, 0),
+            (Word::Repair, of(1, 0), Told::Again),
+            0,
+            None,
+            "17,0,repair,1:0,again,0,-",
+        ),
+        (
+            (17, 2),
+            (Word::Repair, of(1, 0), Told::Fixed),
+            0,
+            None,
+            "17,2,repair,1:0,fixed,0,-",
+        ),
+        (
+            (130, 0),
+            (Word::Request, of(2, 0), Told::Busy),
+            0,
+            None,
+            "130,0,request,2:0,busy,0,-",
+        ),
+        (
+            (130, 1),
+            (Word::Request, of(3, 0), Told::Hold),
+            0,
+            None,
+            "130,1,request,3:0,hold,0,-",
+        ),
+        (
+            (15, 0),
+            (Word::Request, of(1, 1), Told::Rest),
+            0,
+            None,
+            "15,0,request,1:1,rest,0,-",
+        ),
+        (
+            (13, 2),
+            (Word::Request, of(1, 0), Told::Skip),
+            0,
+            None,
+            "13,2,request,1:0,skip,0,-",
+        ),
+        (
+            (21, 1),
+            (Word::Session, of(0, 1), Told::Heard),
+            1,
+            None,
+            "21,1,session,0:1,told,1,-",
+        ),
+        (
+            (59, 0),
+            (Word::Report, About::Nothing, Told::Sent),
+            0,
+            from(0, 2),
+            "59,0,report,-,sent,0,0:2",
+        ),
+        (
+            (1, 1),
+            (Word::Leave, About::Nothing, Told::Parted),
+            0,
+            None,
+            "1,1,leave,-,out,0,-",
+        ),
+        (
+            (1_099_511_627_775, 255),
+            (Word::Ask, named(255, 65535, 4095), Told::Sent),
+            12,
+            from(255, 281_474_976_710_655),
+            "1099511627775,255,ask,255/65535/4095,sent,12,255:281474976710655",
+        ),
+    ]
+}
+
+#[test]
+fn a_trace_has_its_header_and_a_line_for_each_row(rt: HostRuntime) -> Result<(), Fail> {
+    let mut rows = Vec::new(rt.alloc());
+    let mut want = String::from_str(rt.alloc(), "time,member,cause,ref,result,lost,sent\n")?;
+    let header = trace_text(rt.alloc(), rows.as_slice()).map_err(|_| "no header")?;
+    assert_eq!(rt; header.as_slice(), want.as_bytes());
+    for (at, what, lost, sent, line) in lines() {
+        rows.push(row_of(rt.alloc(), at, what, lost, sent)?)?;
+        want.push_str(line)?;
+        want.push_str("\n")?;
+    }
+    match trace_text(rt.alloc(), rows.as_slice()) {
+        Ok(text) => assert_eq!(rt; text.as_slice(), want.as_bytes()),
+        Err(ReportFault::NoMemory) => return Err(Fail::from("no memory")),
+    }
+    Ok(())
+}
+
+// Takes at most three bytes at a time, as long as it has room, and then fails, or takes nothing.
+#[derive(Drop)]
+struct Narrow {
+    taken: Vec<u8>,
+    room: usize,
+    fails: bool,
+}
+
+impl Write for Narrow {
+    fn write(&mut self, piece: &[u8]) -> io::Result<usize> {
+        let count = piece.len().min(self.room).min(3);
+        if count == 0 && self.fails {
+            return Err(io::Error::from(ErrorKind::Other));
+        }
+        self.taken.extend_from_slice(&piece[..count])?;
+        self.room -= count;
+        Ok(count)
+    }
+
+    fn flush(&mut self) -> io::Result<()> {
+        Ok(())
+    }
+}
+
+#[test]
+fn writing_stops_where_the_writer_does(rt: HostRuntime) -> Result<(), Fail> {
+    let text = b"time,member,cause";
+    for (room, fails, taken, want) in [
+        (10, true, &text[..10], Err(WriteFault { written: 10 })),
+        (10, false, &text[..10], Err(WriteFault { written: 10 })),
+        (0, true, &text[..0], Err(WriteFault { written: 0 })),
+        (17, true, &text[..], Ok(())),
+        (99, false, &text[..], Ok(())),
+    ] {
+        let mut outlet = WriteOutlet::new(Narrow {
+            taken: Vec::new(rt.alloc()),
+            room,
+            fails,
+        });
+        assert_eq!(rt; write_out(&mut outlet, text), want, "with room for {room}");
+        assert_eq!(rt;
+            outlet.into_inner().taken.as_slice(),
+            taken,
+            "with room for {room}"
+        );
+    }
+    Ok(())
+}
+
+#[test]
+fn an_empty_text_asks_nothing_of_the_writer(rt: HostRuntime) {
+    let mut outlet = WriteOutlet::new(Narrow {
+        taken: Vec::new(rt.alloc()),
+        room: 0,
+        fails: true,
+    });
+    assert_eq!(rt; write_out(&mut outlet, b""), Ok(()));
+}

@@ -1,0 +1,59 @@
+//! The part of a member's record that never changes.
+ghost use Rattle.std.specs.Prelude.{◌≡◌, ◌<◌, ◌≤◌, length, All, IfOk};
+ghost use Rattle.srm_scenario.specs.Plain.{network_of};
+ghost use Rattle.srm_member.specs.Fit.{IsFit};
+ghost use Rattle.srm_roles.specs.Opening.{distances_from, fixed_of};
+
+use srm_member::fixed::Fixed;
+use srm_net::net::Net;
+use srm_net::sequence::Sequence;
+use srm_scenario::scenario::Scenario;
+use std::alloc::{AllocError, Global};
+
+/// The part of member m's record that never changes, of a scenario, its network and a seed.
+///
+/// # Errors
+///
+/// Only want of memory.
+pub fn fixed_of(
+    alloc: Global,
+    scenario: &Scenario,
+    net: &Net,
+    seed: u64,
+    m: u16,
+) -> Result<Fixed, AllocError>
+    requires member { m < length scenario.now.members }
+    requires network { net.now ≡ network_of scenario.now }
+    ensures value { IfOk result (λ f. f ≡ fixed_of scenario.now net.now seed m) }
+    ensures fit { IfOk result IsFit }
+{
+    let dist = distances(alloc, net, m)?;
+    let member = scenario.member(m);
+    let pages = member.pages.clone()?;
+    let constants = scenario.constants();
+    Ok(Fixed {
+        member: m,
+        role: member.role,
+        c1: constants.c1,
+        c2: constants.c2,
+        d1: constants.d1,
+        d2: constants.d2,
+        dist,
+        pages,
+        seed,
+        stream: member.stream,
+    })
+}
+
+// The distances from a member to each member in turn, in ticks.
+fn distances(alloc: Global, net: &Net, m: u16) -> Result<Sequence<u64>, AllocError>
+    requires { m < length net.now.hosts }
+    ensures value { IfOk result (λ ds. ds ≡ distances_from net.now m) }
+    ensures bounded { IfOk result (All (λ d. d ≤ 255000000)) }
+{
+    let mut dist = Sequence::new(alloc);
+    for b in 0..net.members() {
+        dist.push(net.distance(m, b))?;
+    }
+    Ok(dist)
+}

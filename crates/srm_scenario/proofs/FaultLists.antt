@@ -1,0 +1,76 @@
+-- The first fault of a list that is made of others.
+use Rattle.std.proofs.Common.{◌≡◌, ℕ, Bool, true, false, List, [], ◌∷◌, ◌++◌, Option, Some, codes, refl, sym, ap, ◌∙◌, inl, inr}
+use Rattle.toml.specs.Data.{Data, Members}
+use Rattle.srm_scenario.specs.declared.fault.Part.TheVariants as part
+use Rattle.srm_scenario.specs.declared.fault.ScenarioFault.{ScenarioFault}
+use Rattle.srm_scenario.specs.declared.fault.ScenarioFault.TheVariants.{BadKey}
+use Rattle.srm_scenario.specs.Rules.{fits, link_rules, member_rules, draw_rules, session_rules, drop_rules}
+use Rattle.srm_scenario.specs.Described.{array_at}
+use Rattle.srm_scenario.specs.Faults.{first, IsFault, all_of, fault_unless, rules_of_top, top_faults, element_faults, key_faults}
+
+pub first-left : (xs ys : List ScenarioFault) (e : ScenarioFault) → first xs ≡ Some e → first (xs ++ ys) ≡ Some e
+first-left [] ys e h = cc
+first-left (x ∷ xs) ys e h = h
+
+-- a fault of the first of several lists
+pub here : (fs rest : List ScenarioFault) (e : ScenarioFault) → IsFault e fs → IsFault e (fs ++ rest)
+here fs rest e (inl memory) = inl memory
+here fs rest e (inr h) = inr (first-left fs rest e h)
+
+-- a fault of a later one, where the first has none
+pub later : (fs rest : List ScenarioFault) (e : ScenarioFault) → fs ≡ [] → IsFault e rest → IsFault e (fs ++ rest)
+later fs rest e none (inl memory) = inl memory
+later fs rest e none (inr h) = inr (ap (λ xs. first (xs ++ rest)) none ∙ h)
+
+pub no_faults : (fs rest : List ScenarioFault) → fs ≡ [] → rest ≡ [] → fs ++ rest ≡ []
+no_faults fs rest p q = (λ i. p i ++ q i)
+
+module _ (ms : Members) where
+  abbrev links : List ScenarioFault
+  links = element_faults part.Link link_rules (array_at (codes "link") ms)
+
+  abbrev members : List ScenarioFault
+  members = element_faults part.Member member_rules (array_at (codes "member") ms)
+
+  abbrev draws : List ScenarioFault
+  draws = element_faults part.Draw draw_rules (array_at (codes "draw") ms)
+
+  abbrev sessions : List ScenarioFault
+  sessions = element_faults part.Session session_rules (array_at (codes "session") ms)
+
+  abbrev drops : List ScenarioFault
+  drops = element_faults part.Drop drop_rules (array_at (codes "drop") ms)
+
+  no_top_fault : fits (rules_of_top ms) ms ≡ true → top_faults ms ≡ []
+  no_top_fault h = ap (λ b. fault_unless b (BadKey part.Top 0)) h
+
+  pub top_fault : fits (rules_of_top ms) ms ≡ false → first (key_faults ms) ≡ Some (BadKey part.Top 0)
+  unfolding key_faults
+  top_fault h = first-left (top_faults ms) _ (BadKey part.Top 0) (ap (λ b. first (fault_unless b (BadKey part.Top 0))) h)
+
+  pub link_fault : (e : ScenarioFault) → fits (rules_of_top ms) ms ≡ true → IsFault e links → IsFault e (key_faults ms)
+  unfolding key_faults
+  link_fault e top h = later (top_faults ms) _ e (no_top_fault top) (here links _ e h)
+
+  pub member_fault : (e : ScenarioFault) → fits (rules_of_top ms) ms ≡ true → links ≡ [] → IsFault e members → IsFault e (key_faults ms)
+  unfolding key_faults
+  member_fault e top l h = later (top_faults ms) _ e (no_top_fault top) (later links _ e l (here members _ e h))
+
+  pub draw_fault : (e : ScenarioFault) → fits (rules_of_top ms) ms ≡ true → links ≡ [] → members ≡ [] → IsFault e draws → IsFault e (key_faults ms)
+  unfolding key_faults
+  draw_fault e top l m h = later (top_faults ms) _ e (no_top_fault top) (later links _ e l (later members _ e m (here draws _ e h)))
+
+  pub session_fault : (e : ScenarioFault) → fits (rules_of_top ms) ms ≡ true → links ≡ [] → members ≡ [] → draws ≡ [] → IsFault e sessions → IsFault e (key_faults ms)
+  unfolding key_faults
+  session_fault e top l m d h =
+      later (top_faults ms) _ e (no_top_fault top) (later links _ e l (later members _ e m (later draws _ e d (here sessions _ e h))))
+
+  pub drop_fault : (e : ScenarioFault) → fits (rules_of_top ms) ms ≡ true → links ≡ [] → members ≡ [] → draws ≡ [] → sessions ≡ [] → IsFault e drops → IsFault e (key_faults ms)
+  unfolding key_faults
+  drop_fault e top l m d s h =
+      later (top_faults ms) _ e (no_top_fault top) (later links _ e l (later members _ e m (later draws _ e d (later sessions _ e s (here drops _ e h)))))
+
+  pub no_key_fault : fits (rules_of_top ms) ms ≡ true → links ≡ [] → members ≡ [] → draws ≡ [] → sessions ≡ [] → drops ≡ [] → key_faults ms ≡ []
+  unfolding key_faults
+  no_key_fault top l m d s p =
+      no_faults (top_faults ms) _ (no_top_fault top) (no_faults links _ l (no_faults members _ m (no_faults draws _ d (no_faults sessions _ s (no_faults drops _ p refl)))))

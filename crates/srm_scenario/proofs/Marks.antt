@@ -1,0 +1,52 @@
+-- The order of marks.
+use Rattle.std.proofs.Common.{◌≡◌, ℕ, Bool, List, [], ◌∷◌, ◌++◌, Option, Some, Ordering, Less, Equal, Greater, nat_cmp, is_lt, refl, sym, ap, ◌∙◌, subst}
+use Rattle.std.proofs.lemmas.Cmp.{nat_list_cmp_total}
+use Rattle.std.proofs.lemmas.List.Sorted.{ranks_by}
+use Rattle.std.specs.Cmp.{IsStrictWeakOrder}
+use Rattle.std.specs.List.Sorted.{IsSortedBy, IsStableBy}
+use Rattle.std.specs.Ordering.{ordering_then}
+use Rattle.std.specs.List.{slice_get}
+use Rattle.srm_net.specs.Orders.{ordered}
+use Rattle.srm_scenario.specs.declared.mark.Mark.{Mark}
+use Rattle.srm_scenario.specs.declared.parts.MemberSpec.{MemberSpec}
+use Rattle.srm_scenario.specs.declared.parts.DrawSpec.{DrawSpec}
+use Rattle.srm_scenario.specs.declared.parts.SessionSpec.{SessionSpec}
+use Rattle.srm_scenario.specs.Plain.{PlainScenario, mark_cmp, plain_mark, draw_marks, report_marks, leave_marks, marks_of, script_of}
+use Rattle.srm_scenario.proofs.Sorting.{ordered-from_sort}
+
+-- the order of the tuples by which the code sorts
+abbrev pub keyed : Mark → Mark → Ordering
+keyed x y = ordering_then (ordering_then (nat_cmp x.at y.at) (nat_cmp x.rank y.rank)) (nat_cmp x.place y.place)
+
+regrouped : (a b c : Ordering) → ordering_then (ordering_then a b) c ≡ ordering_then a (ordering_then b (ordering_then c Equal))
+regrouped Less b c = refl
+regrouped Equal Less c = refl
+regrouped Equal Equal Less = refl
+regrouped Equal Equal Equal = refl
+regrouped Equal Equal Greater = refl
+regrouped Equal Greater c = refl
+regrouped Greater b c = refl
+
+keyed-is : (x y : Mark) → keyed x y ≡ mark_cmp x y
+keyed-is x y = regrouped (nat_cmp x.at y.at) (nat_cmp x.rank y.rank) (nat_cmp x.place y.place)
+
+same_test : ◌≡◌ {A = Mark → Mark → Bool} (λ x y. is_lt (keyed x y)) (λ x y. is_lt (mark_cmp x y))
+same_test = λ i x y. is_lt (keyed-is x y i)
+
+-- marks compare as any two numbers do
+pub mark_cmp-order : IsStrictWeakOrder (λ x y. is_lt (mark_cmp x y))
+mark_cmp-order = ranks_by nat_list_cmp_total (λ (m : Mark). m.at ∷ m.rank ∷ m.place ∷ [])
+
+-- a stable sort by those tuples gives the marks in the order of their keys
+pub marks-from_sort : (xs ys : List Mark) → IsSortedBy (λ x y. is_lt (keyed x y)) ys → IsStableBy (λ x y. is_lt (keyed x y)) xs ys → ys ≡ ordered mark_cmp xs
+marks-from_sort xs ys sorted stable =
+    ordered-from_sort mark_cmp mark_cmp-order xs ys (subst (λ (lt : Mark → Mark → Bool). IsSortedBy lt ys) same_test sorted) (subst (λ (lt : Mark → Mark → Bool). IsStableBy lt xs ys) same_test stable)
+
+-- the script by its member, draws and sessions
+pub script_by_parts : (s : PlainScenario) (m : ℕ) (k : MemberSpec) (draws : List DrawSpec) (sessions : List SessionSpec)
+    → slice_get s.members m ≡ Some k → draws ≡ s.draws → sessions ≡ s.sessions
+    → ordered mark_cmp (plain_mark k.join 0 0 ∷ draw_marks m 0 draws ++ report_marks m 0 sessions ++ leave_marks k.leave) ≡ script_of s m
+unfolding script_of
+script_by_parts s m k draws sessions at by_draws by_sessions =
+    (λ i. ordered mark_cmp (plain_mark k.join 0 0 ∷ draw_marks m 0 (by_draws i) ++ report_marks m 0 (by_sessions i) ++ leave_marks k.leave))
+    ∙ ap (λ (o : Option MemberSpec). ordered mark_cmp (marks_of s m o)) (sym at)

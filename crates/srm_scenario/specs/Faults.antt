@@ -1,0 +1,204 @@
+-- What is wrong with a table or a text that is to be a scenario, and the scenario where nothing is.
+use Rattle.std.specs.Prelude.{⊤, ◌≡◌, ◌⊎◌, ℕ, ◌+◌, Bool, true, false, not, ◌&&◌, ◌||◌, List, [], ◌∷◌, ◌++◌, Option, Some, None, Result, Ok, Err, is_some, codes, length, slice_get, map, nat_le, nat_lt, ◌==◌, if◌then◌else◌}
+use Rattle.std.specs.List.{list_any}
+use Rattle.std.specs.Str.{is_utf8}
+use Rattle.toml.specs.Data.{Data, Members, get_member}
+use Rattle.toml.specs.Parse.{parse_document}
+use Rattle.srm_net.specs.declared.role.Role.{Role}
+use Rattle.srm_net.specs.declared.role.Role.TheVariants.{Sender, Receiver, Late, Listener}
+use Rattle.srm_net.specs.declared.link.DropSpec.{DropSpec}
+use Rattle.srm_scenario.specs.declared.fault.Part.{Part}
+use Rattle.srm_scenario.specs.declared.fault.Part.TheVariants as part
+use Rattle.srm_scenario.specs.declared.fault.ScenarioFault.{ScenarioFault}
+use Rattle.srm_scenario.specs.declared.fault.ScenarioFault.TheVariants.{NoMemory, ReadFault, TooLong, NotToml, BadKey, NotTree, BadMember, BadDraw, BadSession, BadDrop}
+use Rattle.srm_scenario.specs.declared.entry.MemberEntry.{MemberEntry}
+use Rattle.srm_scenario.specs.declared.parts.MemberSpec.{MemberSpec}
+use Rattle.srm_scenario.specs.declared.parts.DrawSpec.{DrawSpec}
+use Rattle.srm_scenario.specs.declared.parts.SessionSpec.{SessionSpec}
+use Rattle.srm_scenario.specs.declared.topology.Topology.{Topology}
+use Rattle.srm_scenario.specs.declared.topology.Topology.TheVariants.{Chain, Star, Tree}
+use Rattle.srm_scenario.specs.Plain.{PlainScenario, network_of}
+use Rattle.srm_scenario.specs.Trees.{is_tree}
+use Rattle.srm_scenario.specs.Rules.{Rule, top_rules, link_rules, member_rules, draw_rules, session_rules, drop_rules, fits, fits_element}
+use Rattle.srm_scenario.specs.Described.{member_of, says, array_at, table_of, elements_at, topology_of, listed_drops, described}
+
+-- one fault for each element that fails a test, at its place, the first element being at place i
+abbrev pub faults_by : {A : Type 0} → (ℕ → ScenarioFault) → (A → Bool) → ℕ → List A → List ScenarioFault
+faults_by fault test i [] = []
+faults_by fault test i (x ∷ xs) =
+    if test x then faults_by fault test (i + 1) xs else fault i ∷ faults_by fault test (i + 1) xs
+
+-- the fault, if the test fails
+abbrev pub fault_unless : Bool → ScenarioFault → List ScenarioFault
+fault_unless b fault = if b then [] else fault ∷ []
+
+-- the first fault, if there is one
+abbrev pub first : List ScenarioFault → Option ScenarioFault
+first [] = None
+first (fault ∷ faults) = Some fault
+
+-- memory ran out, or this is the first of the faults
+abbrev pub IsFault : ScenarioFault → List ScenarioFault → Type 0
+IsFault e faults = (e ≡ NoMemory) ⊎ (first faults ≡ Some e)
+
+-- ---- faults of keys
+
+-- what a table that fits rules is read as
+abbrev pub accepted : {A : Type 0} → List Rule → (Members → A) → Members → Option A
+accepted rules reading ms = if fits rules ms then Some (reading ms) else None
+
+-- what a table that fits rules is read as, where the value is one
+abbrev pub accepted_element : {A : Type 0} → List Rule → (Members → A) → Data → Option A
+accepted_element rules reading d = if fits_element rules d then Some (reading (table_of d)) else None
+
+-- the top table's rules, by the topology that it names
+abbrev pub rules_of_top : Members → List Rule
+rules_of_top ms = top_rules (is_some (get_member (codes "topology") ms)) (says (codes "topology") (codes "tree") ms)
+
+abbrev pub top_faults : Members → List ScenarioFault
+top_faults ms = fault_unless (fits (rules_of_top ms) ms) (BadKey part.Top 0)
+
+abbrev pub element_faults : Part → List Rule → List Data → List ScenarioFault
+element_faults p rules ds = faults_by (BadKey p) (fits_element rules) 0 ds
+
+-- ---- faults of meaning
+
+-- the member is there at this time, before the end of the run
+abbrev pub stays_to : ℕ → Option ℕ → Bool
+stays_to at None = true
+stays_to at (Some end) = nat_le at end
+
+abbrev pub is_there : ℕ → ℕ → MemberSpec → Bool
+is_there until at k = nat_le k.join at && (stays_to at k.leave && nat_lt at until)
+
+abbrev pub is_sender : Role → Bool
+is_sender Sender = true
+is_sender r = false
+
+abbrev pub is_late : Role → Bool
+is_late Late = true
+is_late r = false
+
+abbrev pub is_listener : Role → Bool
+is_listener Listener = true
+is_listener r = false
+
+abbrev pub is_star : Option Topology → Bool
+is_star (Some Star) = true
+is_star t = false
+
+abbrev pub leaves_after : ℕ → Option ℕ → Bool
+leaves_after join None = true
+leaves_after join (Some end) = nat_lt join end
+
+-- a member, and whether pages are given for it
+abbrev pub entry_of : Members → MemberEntry
+entry_of ms = record { spec = member_of ms; has_pages = is_some (get_member (codes "pages") ms) }
+
+-- whether one of these members is on the node
+abbrev pub is_taken : List MemberEntry → ℕ → Bool
+is_taken es node = list_any (λ e. e.spec.node == node) es
+
+-- its node is a node of the network, not the hub of a star, and not that of an earlier member; it joins before the end of the
+-- run, and before it leaves; and pages are given for a late member alone
+abbrev pub fits_member : ℕ → ℕ → Bool → List MemberEntry → MemberEntry → Bool
+fits_member until nodes star earlier e =
+    let k = e.spec in
+    nat_lt k.node nodes
+    && not (star && (k.node == 0))
+    && not (is_taken earlier k.node)
+    && nat_lt k.join until
+    && leaves_after k.join k.leave
+    && (not e.has_pages || is_late k.role)
+
+-- the faults of members from place i on, after the earlier ones
+abbrev pub member_faults : ℕ → ℕ → Bool → List MemberEntry → ℕ → List MemberEntry → List ScenarioFault
+member_faults until nodes star earlier i [] = []
+member_faults until nodes star earlier i (e ∷ es) =
+    fault_unless (fits_member until nodes star earlier e) (BadMember i) ++ member_faults until nodes star (earlier ++ e ∷ []) (i + 1) es
+
+abbrev pub if_member : Option MemberSpec → (MemberSpec → Bool) → Bool
+if_member None test = false
+if_member (Some k) test = test k
+
+-- a draw is by a sender that is there
+abbrev pub fits_draw : ℕ → List MemberSpec → DrawSpec → Bool
+fits_draw until members d = if_member (slice_get members d.member) (λ k. is_sender k.role && is_there until d.at k)
+
+-- a session message is by a member that is there and is no listener
+abbrev pub fits_session : ℕ → List MemberSpec → SessionSpec → Bool
+fits_session until members r = if_member (slice_get members r.member) (λ k. not (is_listener k.role) && is_there until r.at k)
+
+-- a drop names a link and a member
+abbrev pub fits_drop : ℕ → ℕ → DropSpec → Bool
+fits_drop links members d = nat_lt d.link links && nat_lt d.id.sender members
+
+-- ---- the answer
+
+-- all lists, one after the other
+abbrev pub all_of : List (List ScenarioFault) → List ScenarioFault
+all_of [] = []
+all_of (fs ∷ rest) = fs ++ all_of rest
+
+-- the faults of the keys of a table, part by part
+unfoldable pub key_faults : Members → List ScenarioFault
+key_faults ms =
+    all_of (
+    top_faults ms
+    ∷ element_faults part.Link link_rules (array_at (codes "link") ms)
+    ∷ element_faults part.Member member_rules (array_at (codes "member") ms)
+    ∷ element_faults part.Draw draw_rules (array_at (codes "draw") ms)
+    ∷ element_faults part.Session session_rules (array_at (codes "session") ms)
+    ∷ element_faults part.Drop drop_rules (array_at (codes "drop") ms)
+    ∷ [])
+
+-- the faults of what a table describes: a scenario, whether its topology is a star, its members with whether pages are given for
+-- them, and its drops as they are listed
+unfoldable pub meaning_faults : PlainScenario → Bool → List MemberEntry → List DropSpec → List ScenarioFault
+meaning_faults s star entries listed =
+    all_of (
+    fault_unless (is_tree (network_of s)) NotTree
+    ∷ member_faults s.until s.nodes star [] 0 entries
+    ∷ faults_by BadDraw (fits_draw s.until s.members) 0 s.draws
+    ∷ faults_by BadSession (fits_session s.until s.members) 0 s.sessions
+    ∷ faults_by BadDrop (fits_drop (length s.links) (length s.members)) 0 listed
+    ∷ [])
+
+-- all faults of a table, in the order in which they are told
+unfoldable pub faults_of : Members → List ScenarioFault
+faults_of ms =
+    key_faults ms ++ meaning_faults (described ms) (is_star (topology_of ms)) (elements_at (codes "member") entry_of ms) (listed_drops ms)
+
+-- the scenario, or the first of the faults
+abbrev pub answer : List ScenarioFault → PlainScenario → Result PlainScenario ScenarioFault
+answer [] s = Ok s
+answer (fault ∷ faults) s = Err fault
+
+-- the scenario of a table, or the first of its faults
+unfoldable pub scenario_of_table : Members → Result PlainScenario ScenarioFault
+scenario_of_table ms = answer (faults_of ms) (described ms)
+
+abbrev pub scenario_of_document : Option Members → Result PlainScenario ScenarioFault
+scenario_of_document None = Err NotToml
+scenario_of_document (Some ms) = scenario_of_table ms
+
+-- the scenario of a text, or its first fault
+unfoldable pub scenario_of_text : List ℕ → Result PlainScenario ScenarioFault
+scenario_of_text text =
+    if nat_lt 1048576 (length text)
+    then Err TooLong
+    else if is_utf8 text then scenario_of_document (parse_document text) else Err NotToml
+
+-- ---- what a read leaves
+
+-- the count of a feed's failures after a scenario was read from it: one more exactly where the answer is that it failed
+abbrev pub failures_after : Result PlainScenario ScenarioFault → ℕ → ℕ
+failures_after (Err ReadFault) n = n + 1
+failures_after r n = n
+
+-- the answer is that of a text, unless the feed failed or memory ran out
+abbrev pub AnswersText : Result PlainScenario ScenarioFault → List ℕ → Type 0
+AnswersText (Ok s) text = scenario_of_text text ≡ Ok s
+AnswersText (Err ReadFault) text = ⊤
+AnswersText (Err NoMemory) text = ⊤
+AnswersText (Err e) text = scenario_of_text text ≡ Err e

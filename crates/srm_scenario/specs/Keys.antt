@@ -1,0 +1,96 @@
+-- What look-ups in a table give.
+use Rattle.std.specs.Prelude.{◌≡◌, ℕ, ◌≤◌, ◌^◌, Bool, true, false, ◌&&◌, List, Option, Some, None, codes, is_some, length}
+use Rattle.std.specs.List.{list_all}
+use Rattle.toml.specs.Data.{Data, Items, Members, get_member}
+use Rattle.srm_scenario.specs.declared.topology.Topology.{Topology}
+use Rattle.srm_scenario.specs.declared.topology.Topology.TheVariants.{Tree}
+use Rattle.srm_scenario.specs.declared.parts.Constants.{Constants}
+use Rattle.srm_scenario.specs.Accepted.{AreConstants}
+use Rattle.srm_scenario.specs.Rules.{Kind, Need, Rule, rule, whole, numbers, elements, required, optional, is_met, is_whole, is_kind, topology_rule, degree_rule, number_rules, shape_rules, array_rules}
+use Rattle.srm_scenario.specs.Described.{number, number_at, number_of, items_list, array_at, says, topology_of, constants_of, nodes_in}
+
+-- the value is this whole number, from low to high
+pub record IsNumber (low high : ℕ) (d : Data) (n : ℕ) : Type 0 where
+  pub whole : is_whole low high d ≡ true
+  pub is : number_of d ≡ Some n
+  pub least : low ≤ n
+  pub most : n ≤ high
+
+-- this number stands at a key that must be there
+pub record HasNumber (key : List ℕ) (low high : ℕ) (ms : Members) (n : ℕ) : Type 0 where
+  pub met : is_met ms (rule key (whole low high) required) ≡ true
+  pub is : number key ms ≡ n
+  pub least : low ≤ n
+  pub most : n ≤ high
+
+-- a number that is there is from low to high
+abbrev pub IsWithin : ℕ → ℕ → Option ℕ → Type 0
+IsWithin low high None = Unit {0}
+IsWithin low high (Some n) = (low ≤ n) × (n ≤ high)
+
+-- this number, or none, stands at a key that need not be there
+pub record MayHaveNumber (key : List ℕ) (low high : ℕ) (ms : Members) (n : Option ℕ) : Type 0 where
+  pub met : is_met ms (rule key (whole low high) optional) ≡ true
+  pub is : number_at key ms ≡ n
+  pub within : IsWithin low high n
+
+-- these values are those of the array at a key that need not be there
+pub record IsArray (key : List ℕ) (most : ℕ) (ms : Members) (values : List Data) : Type 0 where
+  pub met : is_met ms (rule key (elements most) optional) ≡ true
+  pub is : values ≡ array_at key ms
+  pub few : length values ≤ most
+
+-- ---- the top table
+
+-- the degree of a tree is 2 to 255
+abbrev pub HasDegree : Option Topology → Type 0
+HasDegree (Some (Tree degree)) = (2 ≤ degree) × (degree ≤ 255)
+HasDegree t = Unit {0}
+
+-- this topology, or none, is the one that the table names
+pub record HasTopology (ms : Members) (t : Option Topology) : Type 0 where
+  pub topology : is_met ms topology_rule ≡ true
+  pub degree : is_met ms (degree_rule (says (codes "topology") (codes "tree") ms)) ≡ true
+  pub is : topology_of ms ≡ t
+  pub there : is_some (get_member (codes "topology") ms) ≡ is_some t
+  pub fits : HasDegree t
+
+-- the table's end of the run and constants, as they must be
+pub record HasNumbers (ms : Members) (until : ℕ) (constants : Constants) : Type 0 where
+  pub met : list_all (is_met ms) number_rules ≡ true
+  pub until_is : number (codes "until") ms ≡ until
+  pub some_ticks : 1 ≤ until
+  pub few_ticks : until ≤ 2 ^ 40
+  pub constants_are : constants_of ms ≡ constants
+  pub constants_fit : AreConstants constants
+
+-- the rules of the table's nodes and links
+abbrev pub shape_of : Members → List Rule
+shape_of ms = shape_rules (is_some (get_member (codes "topology") ms)) (says (codes "topology") (codes "tree") ms)
+
+-- the delay of a topology's links is 1 to 1,000,000
+abbrev pub IsDelay : Option Topology → ℕ → Type 0
+IsDelay None delay = Unit {0}
+IsDelay (Some t) delay = (1 ≤ delay) × (delay ≤ 1000000)
+
+-- the table's topology, nodes, delay of each link, and links, as they must be
+pub record HasShape (ms : Members) (t : Option Topology) (nodes delay : ℕ) (links : List Data) : Type 0 where
+  pub met : list_all (is_met ms) (shape_of ms) ≡ true
+  pub topology_is : topology_of ms ≡ t
+  pub topology_fits : HasDegree t
+  pub nodes_are : nodes_in (topology_of ms) ms ≡ nodes
+  pub some_nodes : 1 ≤ nodes
+  pub few_nodes : nodes ≤ 256
+  pub delay_is : number (codes "delay") ms ≡ delay
+  pub delay_fits : IsDelay t delay
+  pub links_are : links ≡ array_at (codes "link") ms
+
+-- the table's other arrays, as they must be
+pub record HasArrays (ms : Members) (members draws sessions drops : List Data) : Type 0 where
+  pub met : list_all (is_met ms) array_rules ≡ true
+  pub members_are : members ≡ array_at (codes "member") ms
+  pub draws_are : draws ≡ array_at (codes "draw") ms
+  pub sessions_are : sessions ≡ array_at (codes "session") ms
+  pub few_draws : length draws ≤ 4096
+  pub few_sessions : length sessions ≤ 4096
+  pub drops_are : drops ≡ array_at (codes "drop") ms

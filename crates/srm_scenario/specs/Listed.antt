@@ -1,0 +1,60 @@
+-- What is read from a table before its parts are held against one another.
+use Rattle.std.specs.Prelude.{◌≡◌, ℕ, ◌-◌, ◌≤◌, ◌^◌, List, [], Option, Some, None, codes, map, length}
+use Rattle.toml.specs.Data.{Members}
+use Rattle.srm_net.specs.declared.link.LinkSpec.{LinkSpec}
+use Rattle.srm_net.specs.DropSets.{ordered_once}
+use Rattle.srm_net.specs.Paths.{drop_cmp}
+use Rattle.srm_scenario.specs.declared.fault.ScenarioFault.{ScenarioFault}
+use Rattle.srm_scenario.specs.declared.listed.Listed.{Listed}
+use Rattle.srm_scenario.specs.declared.topology.Topology.{Topology}
+use Rattle.srm_scenario.specs.Accepted.{AreConstants}
+use Rattle.srm_scenario.specs.Plain.{PlainScenario}
+use Rattle.srm_scenario.specs.Described.{number, constants_of, topology_of, nodes_in, elements_at, link_of, draw_of, session_of, listed_drops, links_to_parents}
+use Rattle.srm_scenario.specs.Faults.{key_faults, meaning_faults, is_star, entry_of}
+use Rattle.srm_scenario.specs.Keys.{HasDegree, IsDelay}
+
+-- this is what the table lists, no key of which is a fault
+pub record IsListed (ms : Members) (l : Listed) : Type 0 where
+  pub no_fault : key_faults ms ≡ []
+  pub until : number (codes "until") ms ≡ l.until
+  pub some_ticks : 1 ≤ l.until
+  pub few_ticks : l.until ≤ 2 ^ 40
+  pub constants : constants_of ms ≡ l.constants
+  pub constants_fit : AreConstants l.constants
+  pub topology : topology_of ms ≡ l.topology
+  pub degree : HasDegree l.topology
+  pub nodes : nodes_in (topology_of ms) ms ≡ l.nodes
+  pub some_nodes : 1 ≤ l.nodes
+  pub delay : number (codes "delay") ms ≡ l.delay
+  pub delay_fits : IsDelay l.topology l.delay
+  pub links : elements_at (codes "link") link_of ms ≡ l.links.items
+  pub members : elements_at (codes "member") entry_of ms ≡ l.members.items
+  pub draws : elements_at (codes "draw") draw_of ms ≡ l.draws.items
+  pub sessions : elements_at (codes "session") session_of ms ≡ l.sessions.items
+  pub drops : listed_drops ms ≡ l.drops.items
+  pub few_draws : length l.draws.items ≤ 4096
+  pub few_sessions : length l.sessions.items ≤ 4096
+
+-- ---- the scenario of what is listed
+
+-- the links of a topology with so many nodes, or else those listed
+abbrev pub links_listed : Option Topology → ℕ → ℕ → List LinkSpec → List LinkSpec
+links_listed None nodes delay links = links
+links_listed (Some t) nodes delay links = links_to_parents t delay 1 (nodes - 1)
+
+-- the scenario of what is listed
+unfoldable pub plain_of : Listed → PlainScenario
+plain_of l = record {
+  until = l.until;
+  constants = l.constants;
+  nodes = l.nodes;
+  links = links_listed l.topology l.nodes l.delay l.links.items;
+  members = map (λ e. e.spec) l.members.items;
+  draws = l.draws.items;
+  sessions = l.sessions.items;
+  drops = ordered_once drop_cmp l.drops.items;
+}
+
+-- the faults of what is listed
+abbrev pub faults_in : Listed → List ScenarioFault
+faults_in l = meaning_faults (plain_of l) (is_star l.topology) l.members.items l.drops.items

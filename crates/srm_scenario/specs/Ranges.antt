@@ -1,0 +1,27 @@
+-- What the ranges of a scenario file's keys give.
+use Rattle.std.specs.Prelude.{◌≡◌, ℕ, ◌≤◌, ◌<◌, ◌^◌, false, [], Some, length}
+use Rattle.std.specs.List.{AllByRecursion}
+use Rattle.srm_net.specs.Network.{HasDelay}
+use Rattle.srm_scenario.specs.declared.entry.MemberEntry.{MemberEntry}
+use Rattle.srm_scenario.specs.declared.parts.MemberSpec.{MemberSpec}
+use Rattle.srm_scenario.specs.Plain.{PlainScenario}
+use Rattle.srm_scenario.specs.Accepted.{AreConstants}
+
+-- a member's stream and leave are in their ranges
+pub record MemberInRange (k : MemberSpec) : Type 0 where
+  pub stream : k.stream < 2 ^ 63
+  pub leave : (at : ℕ) → k.leave ≡ Some at → at ≤ 2 ^ 40
+
+-- a member for which no pages are given has none
+abbrev pub HasItsPages : MemberEntry → Type 0
+HasItsPages e = e.has_pages ≡ false → e.spec.pages ≡ []
+
+-- the numbers of a scenario are in their ranges
+pub record InRange (s : PlainScenario) : Type 0 where
+  pub some_ticks : 1 ≤ s.until
+  pub few_ticks : s.until ≤ 2 ^ 40
+  pub constants : AreConstants s.constants
+  pub delays : AllByRecursion HasDelay s.links
+  pub members : AllByRecursion MemberInRange s.members
+  pub few_draws : length s.draws ≤ 4096
+  pub few_sessions : length s.sessions ≤ 4096

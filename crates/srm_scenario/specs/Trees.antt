@@ -1,0 +1,24 @@
+-- Whether links make a tree of nodes.
+use Rattle.std.specs.Prelude.{ℕ, zero, suc, ◌+◌, Bool, true, ◌&&◌, [], is_some, length, nat_le, nat_lt, ◌==◌}
+use Rattle.std.specs.List.{list_all}
+use Rattle.srm_net.specs.declared.link.LinkSpec.{LinkSpec}
+use Rattle.srm_net.specs.Network.{Network}
+use Rattle.srm_net.specs.Paths.{route_within}
+
+-- whether a test holds of each number below n
+abbrev pub all_below : (ℕ → Bool) → ℕ → Bool
+all_below test zero = true
+all_below test (suc n) = test n && all_below test n
+
+-- whether there is a way from node u to node v
+abbrev pub has_way : Network → ℕ → ℕ → Bool
+has_way w u v = is_some (route_within (length w.links) w.links [] u v)
+
+-- whether there are 1 to 256 nodes, each end of a link is one of them, the links are one fewer than the nodes, and there is a way
+-- between any two nodes
+unfoldable pub is_tree : Network → Bool
+is_tree w =
+    nat_le 1 w.nodes
+    && (nat_le w.nodes 256
+    && (list_all (λ k. nat_lt k.a w.nodes && nat_lt k.b w.nodes) w.links
+    && ((length w.links + 1 == w.nodes) && all_below (λ u. all_below (has_way w u) w.nodes) w.nodes)))

@@ -1,0 +1,72 @@
+//! What is read from a table before its parts are held against one another.
+ghost use Rattle.std.specs.Prelude.{IfOk, IfErr};
+ghost use Rattle.toml.specs.View.{table_view};
+ghost use Rattle.srm_scenario.specs.Faults.{IsFault, key_faults};
+ghost use Rattle.srm_scenario.specs.Listed.{IsListed};
+
+use crate::element::read_elements;
+use crate::entry::MemberEntry;
+use crate::fault::{Part, ScenarioFault};
+use crate::parts::{Constants, DrawSpec, SessionSpec};
+use crate::top::top_of;
+use crate::topology::Topology;
+use srm_net::link::{DropSpec, LinkSpec};
+use std::alloc::Global;
+use toml::Table;
+
+/// What a table lists.
+#[derive(Debug, Drop)]
+pub(crate) struct Listed {
+    /// When the run ends, in ticks.
+    pub(crate) until: u64,
+    /// The constants of the timers.
+    pub(crate) constants: Constants,
+    /// The topology that the table names.
+    pub(crate) topology: Option<Topology>,
+    /// How many nodes there are.
+    pub(crate) nodes: u16,
+    /// The delay of each link of the topology, in ticks.
+    pub(crate) delay: u64,
+    /// The links that the table lists.
+    pub(crate) links: Vec<LinkSpec>,
+    /// The members.
+    pub(crate) members: Vec<MemberEntry>,
+    /// The draws.
+    pub(crate) draws: Vec<DrawSpec>,
+    /// The session messages.
+    pub(crate) sessions: Vec<SessionSpec>,
+    /// The drops, as they are listed.
+    pub(crate) drops: Vec<DropSpec>,
+}
+
+impl Listed {
+    /// What a table lists. A fault of its keys is refused, the first one.
+    pub(crate) fn read(alloc: Global, table: &Table) -> Result<Listed, ScenarioFault>
+        ensures listed { IfOk result (IsListed (table_view table.now)) }
+        ensures fault { IfErr result (λ e. IsFault e (key_faults (table_view table.now))) }
+    {
+        let Some(top) = top_of(table) else {
+            return Err(ScenarioFault::BadKey {
+                part: Part::Top,
+                place: 0,
+            });
+        };
+        let links = read_elements(alloc, Part::Link, top.shape.links)?;
+        let members = read_elements(alloc, Part::Member, top.arrays.members)?;
+        let draws = read_elements(alloc, Part::Draw, top.arrays.draws)?;
+        let sessions = read_elements(alloc, Part::Session, top.arrays.sessions)?;
+        let drops = read_elements(alloc, Part::Drop, top.arrays.drops)?;
+        Ok(Listed {
+            until: top.numbers.until,
+            constants: top.numbers.constants,
+            topology: top.shape.topology,
+            nodes: top.shape.nodes,
+            delay: top.shape.delay,
+            links,
+            members,
+            draws,
+            sessions,
+            drops,
+        })
+    }
+}

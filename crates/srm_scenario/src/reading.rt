@@ -1,0 +1,196 @@
+//! Reading scenarios.
+ghost use Rattle.std.specs.Prelude.{◌≡◌, ◌⊎◌, ◌≤◌, ◌<◌, true, false, [], Ok, Err, length, map, IfOk, IfErr, IfSome, MatchResult, List, ℕ, ◌+◌, ◌-◌, ◌^◌};
+ghost use Rattle.std.specs.Io.KnownBytes.{Consumes};
+ghost use Rattle.std.specs.List.{AllByRecursion};
+ghost use Rattle.toml.specs.View.{table_view};
+ghost use Rattle.srm_net.specs.Network.{plain_network, HasDelay};
+ghost use Rattle.srm_net.specs.DropSets.{ordered_once};
+ghost use Rattle.srm_net.specs.Paths.{drop_cmp};
+ghost use Rattle.srm_scenario.specs.Accepted.{IsAccepted};
+ghost use Rattle.srm_scenario.specs.Faults.{IsFault, is_star, scenario_of_table, scenario_of_text, failures_after, AnswersText};
+ghost use Rattle.srm_scenario.specs.Keys.{HasDegree};
+ghost use Rattle.srm_scenario.specs.Listed.{links_listed, plain_of, faults_in};
+ghost use Rattle.srm_scenario.specs.Ranges.{InRange, HasItsPages};
+ghost use Rattle.srm_scenario.specs.Trees.{is_tree};
+
+use crate::bytes::{LONGEST_TEXT, TextFault, read_text};
+use crate::checks::{check_draws, check_drops, check_members, check_sessions};
+use crate::entry::MemberEntry;
+use crate::fault::ScenarioFault;
+use crate::feed::Feed;
+use crate::listed::Listed;
+use crate::parts::MemberSpec;
+use crate::scenario::Scenario;
+use crate::topology::Topology;
+use srm_net::drops::Drops;
+use srm_net::fault::NetFault;
+use srm_net::link::{DropSpec, LinkSpec};
+use srm_net::net::Net;
+use std::alloc::{AllocError, Global};
+use toml::Table;
+
+/// Links that do not make a tree of the nodes are a fault.
+fn check_tree(alloc: Global, nodes: u16, links: &[LinkSpec]) -> Result<(), ScenarioFault>
+    requires { AllByRecursion HasDelay links.now }
+    ensures { MatchResult result
+        (λ _. is_tree (plain_network nodes links.now []) ≡ true)
+        (λ e. (e ≡ ScenarioFault.NoMemory) ⊎ ((e ≡ ScenarioFault.NotTree) × (is_tree (plain_network nodes links.now []) ≡ false))) }
+{
+    match Net::build(alloc, nodes, links, &[]) {
+        Ok(_) => return Ok(()),
+        Err(NetFault::NotTree) => return Err(ScenarioFault::NotTree),
+        Err(NetFault::BadDelay) => unreachable!(),
+        Err(NetFault::BadHost) => unreachable!(),
+        Err(NetFault::NoMemory) => return Err(ScenarioFault::NoMemory),
+    }
+}
+
+/// The members without what is only needed to read them.
+fn members_of(alloc: Global, entries: Vec<MemberEntry>) -> Result<Vec<MemberSpec>, AllocError>
+    ensures { IfOk result (λ members. members.items ≡ map (λ e. e.spec) entries.items) }
+{
+    entries
+        .into_iter()
+        .map(|entry| {
+            let MemberEntry { spec, has_pages: _ } = entry;
+            spec
+        })
+        .collect(alloc)
+}
+
+/// The drops, each once.
+fn drops_of(alloc: Global, drops: &[DropSpec]) -> Result<Drops, ScenarioFault>
+    ensures { MatchResult result (λ set. set ≡ ordered_once drop_cmp drops.now) (λ e. e ≡ ScenarioFault.NoMemory) }
+{
+    match Drops::of(alloc, drops) {
+        Ok(set) => return Ok(set),
+        Err(_) => return Err(ScenarioFault::NoMemory),
+    }
+}
+
+/// Whether the topology is a star, whose hub hosts nobody.
+fn is_star(topology: Option<Topology>) -> bool
+    ensures { result ≡ is_star topology }
+{
+    matches!(topology, Some(Topology::Star))
+}
+
+/// The links of the topology, or else those listed.
+fn links_of(
+    alloc: Global,
+    topology: Option<Topology>,
+    nodes: u16,
+    delay: u64,
+    links: Vec<LinkSpec>,
+) -> Result<Vec<LinkSpec>, AllocError>
+    requires nodes { 1 ≤ nodes }
+    requires degree { HasDegree topology }
+    ensures { IfOk result (λ all. all.items ≡ links_listed topology nodes delay links.items) }
+{
+    match topology {
+        Some(topology) => topology.links(alloc, nodes, delay),
+        None => Ok(links),
+    }
+}
+
+/// The scenario of what is listed, whose numbers are in range. What does not fit the rest is refused, the first of it.
+fn scenario_from(alloc: Global, listed: Listed) -> Result<Scenario, ScenarioFault>
+    requires nodes { 1 ≤ listed.nodes }
+    requires degree { HasDegree listed.topology }
+    requires range { InRange (plain_of listed) }
+    requires pages { AllByRecursion HasItsPages listed.members.items }
+    ensures no_fault { IfOk result (λ _. faults_in listed ≡ []) }
+    ensures plain { IfOk result (λ s. s ≡ plain_of listed) }
+    ensures fault { IfErr result (λ e. IsFault e (faults_in listed)) }
+{
+    let Listed {
+        until,
+        constants,
+        topology,
+        nodes,
+        delay,
+        links,
+        members: entries,
+        draws,
+        sessions,
+        drops,
+    } = listed;
+    let links = links_of(alloc, topology, nodes, delay, links)?;
+    check_tree(alloc, nodes, &links)?;
+    check_members(until, nodes, is_star(topology), &entries)?;
+    let members = members_of(alloc, entries)?;
+    check_draws(until, &members, &draws)?;
+    check_sessions(until, &members, &sessions)?;
+    check_drops(&links, &members, &drops)?;
+    let drops = drops_of(alloc, &drops)?;
+    Ok(Scenario {
+        until,
+        constants,
+        nodes,
+        links,
+        members,
+        draws,
+        sessions,
+        drops,
+    })
+}
+
+/// The scenario of a table, the top table of a scenario file.
+///
+/// # Errors
+///
+/// The first fault of the table, unless memory runs out: faults of keys part by part, each part's in the order of their places,
+/// and then what does not fit the rest of the scenario.
+pub fn scenario_of(alloc: Global, table: &Table) -> Result<Scenario, ScenarioFault>
+    ensures scenario { IfOk result (λ s. scenario_of_table (table_view table.now) ≡ Ok s) }
+    ensures accepted { IfOk result IsAccepted }
+    ensures fault { IfErr result (λ e. (e ≡ ScenarioFault.NoMemory) ⊎ (scenario_of_table (table_view table.now) ≡ Err e)) }
+{
+    let listed = Listed::read(alloc, table)?;
+    scenario_from(alloc, listed)
+}
+
+/// The scenario of a text that is not too long.
+fn scenario_of_bytes(alloc: Global, text: &[u8]) -> Result<Scenario, ScenarioFault>
+    requires { length text.now ≤ LONGEST_TEXT }
+    ensures scenario { IfOk result (λ s. scenario_of_text text.now ≡ Ok s) }
+    ensures accepted { IfOk result IsAccepted }
+    ensures fault { IfErr result (λ e. (e ≡ ScenarioFault.NoMemory) ⊎ (scenario_of_text text.now ≡ Err e)) }
+{
+    match toml::table_from_slice(alloc, text) {
+        Ok(table) => scenario_of(alloc, &table),
+        Err(error) => {
+            if error.is_memory() {
+                Err(ScenarioFault::NoMemory)
+            } else {
+                Err(ScenarioFault::NotToml)
+            }
+        }
+    }
+}
+
+/// Reads a scenario from a feed, of which it takes at most 1,048,577 bytes.
+///
+/// # Errors
+///
+/// The first of these, unless memory runs out: [`ScenarioFault::ReadFault`] where the feed failed, [`ScenarioFault::TooLong`]
+/// where it has more than 1,048,576 bytes, [`ScenarioFault::NotToml`] where they are not UTF-8 or no TOML document, and then those
+/// of [`scenario_of`].
+pub fn read_scenario<F: Feed>(alloc: Global, feed: &mut F) -> Result<Scenario, ScenarioFault>
+    requires { F.failures feed.old < 2 ^ 64 - 1 }
+    // The count rises exactly where the answer is `ReadFault`, and then by one.
+    ensures failures { F.failures feed.new ≡ failures_after result (F.failures feed.old) }
+    // What is known to be still to come decides the answer.
+    ensures answer { IfSome (F.remaining feed.old) (AnswersText result) }
+    ensures accepted { IfOk result IsAccepted }
+    ensures taken { (given : List ℕ) × Consumes (F.remaining feed.old) (F.remaining feed.new) given
+        × (length given ≤ LONGEST_TEXT + 1) }
+{
+    let text = match read_text(alloc, feed) {
+        Ok(text) => text,
+        Err(TextFault::ReadFault) => return Err(ScenarioFault::ReadFault),
+        Err(TextFault::TooLong) => return Err(ScenarioFault::TooLong),
+        Err(TextFault::NoMemory) => return Err(ScenarioFault::NoMemory),
+    };
+    scenario_of_bytes(alloc, &text)
+}

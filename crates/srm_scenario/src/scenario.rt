@@ -1,0 +1,178 @@
+//! Scenarios.
+ghost use Rattle.std.specs.Prelude.{◌≡◌, ◌<◌, Some, length, map, slice_get, option_map, MatchResult, IfOk};
+ghost use Rattle.srm_scenario.specs.Accepted.{IsAccepted};
+ghost use Rattle.srm_scenario.specs.Plain.{network_of, script_of};
+ghost use Rattle.srm_scenario.specs.Pages.{wants};
+
+use crate::fault::ScenarioFault;
+use crate::mark::Mark;
+use crate::parts::{Constants, DrawSpec, MemberSpec, SessionSpec};
+use crate::script::script_of;
+use srm_net::drops::Drops;
+use srm_net::fault::NetFault;
+use srm_net::link::LinkSpec;
+use srm_net::net::Net;
+use srm_net::role::Role;
+use std::alloc::{AllocError, Global};
+use std::marker::Model;
+
+/// What a run is given: a network, the members on it, what they draw and report, and which packets are dropped. Contracts see it as
+/// one plain record, and it is as every accepted scenario is.
+#[derive(Drop)]
+pub struct Scenario {
+    pub(crate) until: u64,
+    pub(crate) constants: Constants,
+    pub(crate) nodes: u16,
+    pub(crate) links: Vec<LinkSpec>,
+    pub(crate) members: Vec<MemberSpec>,
+    pub(crate) draws: Vec<DrawSpec>,
+    pub(crate) sessions: Vec<SessionSpec>,
+    pub(crate) drops: Drops,
+}
+
+impl Model for Scenario {
+    ghost use Rattle.srm_scenario.specs.Plain.{PlainScenario};
+
+    ghost Value = { PlainScenario };
+
+    ghost use Rattle.srm_scenario.specs.Accepted.{IsAccepted};
+
+    ghost view = { λ s. record { until = s.until; constants = s.constants; nodes = s.nodes; links = s.links.items; members = s.members.items; draws = s.draws.items; sessions = s.sessions.items; drops = s.drops } };
+
+    ghost invariant = { λ s. IsAccepted (record { until = s.until; constants = s.constants; nodes = s.nodes; links = s.links.items; members = s.members.items; draws = s.draws.items; sessions = s.sessions.items; drops = s.drops }) };
+}
+
+impl Scenario {
+    /// The tick at which the run ends: 1 to 2^40. Events before it are handled.
+    pub fn until(&self) -> u64
+        ensures until { result ≡ self.now.until }
+        ensures accepted { IsAccepted self.now }
+    {
+        self.until
+    }
+
+    /// The constants of the timers, in thousandths.
+    pub fn constants(&self) -> Constants
+        ensures constants { result ≡ self.now.constants }
+        ensures accepted { IsAccepted self.now }
+    {
+        self.constants
+    }
+
+    /// How many members there are: at most 256. They are numbered from 0.
+    pub fn members(&self) -> u16
+        ensures { result ≡ length self.now.members }
+    {
+        self.members.len() as u16
+    }
+
+    /// Member m.
+    pub fn member(&self, m: u16) -> &MemberSpec
+        requires { m < length self.now.members }
+        ensures { slice_get self.now.members m ≡ Some result.now }
+    {
+        &self.members[m as usize]
+    }
+
+    /// What member m does.
+    pub fn role(&self, m: u16) -> Role
+        requires { m < length self.now.members }
+        ensures { option_map (λ k. k.role) (slice_get self.now.members m) ≡ Some result }
+    {
+        self.member(m).role
+    }
+
+    /// The node that hosts member m.
+    pub fn node(&self, m: u16) -> u16
+        requires { m < length self.now.members }
+        ensures { option_map (λ k. k.node) (slice_get self.now.members m) ≡ Some result }
+    {
+        self.member(m).node
+    }
+
+    /// The stream of member m's random words, below 2^63.
+    pub fn stream(&self, m: u16) -> u64
+        requires { m < length self.now.members }
+        ensures { option_map (λ k. k.stream) (slice_get self.now.members m) ≡ Some result }
+    {
+        self.member(m).stream
+    }
+
+    /// When member m joins, in ticks.
+    pub fn join(&self, m: u16) -> u64
+        requires { m < length self.now.members }
+        ensures { option_map (λ k. k.join) (slice_get self.now.members m) ≡ Some result }
+    {
+        self.member(m).join
+    }
+
+    /// When member m leaves, in ticks, if it does.
+    pub fn leave(&self, m: u16) -> Option<u64>
+        requires { m < length self.now.members }
+        ensures { option_map (λ k. k.leave) (slice_get self.now.members m) ≡ Some result }
+    {
+        self.member(m).leave
+    }
+
+    /// Whether member m's list of pages has this page. Only a late member has one.
+    pub fn wants(&self, m: u16, page: u16) -> bool
+        requires { m < length self.now.members }
+        ensures { result ≡ wants self.now m page }
+    {
+        self.member(m).pages.as_slice().contains(&page)
+    }
+
+    /// The links, in the order of their numbers.
+    pub fn links(&self) -> &[LinkSpec]
+        ensures { result.now ≡ self.now.links }
+    {
+        self.links.as_slice()
+    }
+
+    /// The packets that links drop.
+    pub fn drops(&self) -> &Drops
+        ensures { result.now ≡ self.now.drops }
+    {
+        &self.drops
+    }
+
+    /// The scenario's network.
+    ///
+    /// # Errors
+    ///
+    /// [`NetFault::NoMemory`] alone.
+    pub fn net(&self, alloc: Global) -> Result<Net, NetFault>
+        ensures { MatchResult result (λ net. net ≡ network_of self.now) (λ e. e ≡ NetFault.NoMemory) }
+    {
+        let hosts = hosts_of(alloc, &self.members)?;
+        Net::build(alloc, self.nodes, &self.links, &hosts)
+    }
+
+    /// The script of member m: its join, draws, session messages and leave, in the order of their keys.
+    ///
+    /// # Errors
+    ///
+    /// [`ScenarioFault::NoMemory`] alone.
+    pub fn script(&self, alloc: Global, m: u16) -> Result<Vec<Mark>, ScenarioFault>
+        requires { m < length self.now.members }
+        ensures { MatchResult result (λ marks. marks.items ≡ script_of self.now m) (λ e. e ≡ ScenarioFault.NoMemory) }
+    {
+        let member = self.member(m);
+        let marks = script_of(
+            alloc,
+            m,
+            member.join,
+            member.leave,
+            &self.draws,
+            &self.sessions,
+        )?;
+        Ok(marks)
+    }
+}
+
+/// The nodes that host members.
+fn hosts_of(alloc: Global, members: &[MemberSpec]) -> Result<Vec<u16>, AllocError>
+    ensures { IfOk result (λ hosts. hosts.items ≡ map (λ k. k.node) members.now) }
+{
+    members.iter().map(|member| member.node).collect(alloc)
+}

@@ -1,0 +1,195 @@
+//! What the top table of a scenario file holds.
+ghost use Rattle.std.specs.Prelude.{◌≡◌, true, false, ◌&&◌, codes, map, MatchOption};
+ghost use Rattle.toml.specs.View.{view, table_view};
+ghost use Rattle.std.specs.List.{list_all};
+ghost use Rattle.srm_scenario.specs.Rules.{fits, is_met, topology_rule, degree_rule, number_rules, array_rules};
+ghost use Rattle.srm_scenario.specs.Described.{says};
+ghost use Rattle.srm_scenario.specs.Faults.{rules_of_top};
+ghost use Rattle.srm_scenario.specs.Keys.{HasTopology, HasNumbers, HasShape, HasArrays, shape_of};
+
+use crate::elements::LAST_TICK;
+use crate::parts::Constants;
+use crate::table::{array, has_key, has_only, number, text};
+use crate::topology::Topology;
+use toml::{Table, Value};
+
+/// The topology that the table names: `Some(None)` where it names none.
+fn topology(table: &Table) -> Option<Option<Topology>>
+    ensures { MatchOption result
+        ((is_met (table_view table.now) topology_rule
+        && is_met (table_view table.now) (degree_rule (says (codes "topology") (codes "tree") (table_view table.now)))) ≡ false)
+        (HasTopology (table_view table.now)) }
+{
+    if !has_key(table, "topology") {
+        return if has_key(table, "degree") {
+            None
+        } else {
+            Some(None)
+        };
+    }
+    let word = text(table, "topology")?;
+    if word == "tree" {
+        let degree = number(table, "degree", 2, 255)?;
+        return Some(Some(Topology::Tree {
+            degree: degree as u16,
+        }));
+    }
+    if has_key(table, "degree") {
+        return None;
+    }
+    if word == "chain" {
+        Some(Some(Topology::Chain))
+    } else if word == "star" {
+        Some(Some(Topology::Star))
+    } else {
+        None
+    }
+}
+
+/// The numbers of the top table.
+#[derive(Clone, Copy, Debug)]
+pub(crate) struct Numbers {
+    /// When the run ends, in ticks.
+    pub(crate) until: u64,
+    /// The constants of the timers.
+    pub(crate) constants: Constants,
+}
+
+/// The numbers of the table, if they are as they must be.
+fn numbers_of(table: &Table) -> Option<Numbers>
+    ensures { MatchOption result
+        (list_all (is_met (table_view table.now)) number_rules ≡ false)
+        (λ n. HasNumbers (table_view table.now) n.until n.constants) }
+{
+    number(table, "version", 1, 1)?;
+    let until = number(table, "until", 1, LAST_TICK)?;
+    let c1 = number(table, "c1", 0, 64000)?;
+    let c2 = number(table, "c2", 0, 64000)?;
+    let d1 = number(table, "d1", 0, 64000)?;
+    let d2 = number(table, "d2", 0, 64000)?;
+    Some(Numbers {
+        until,
+        constants: Constants {
+            c1: c1 as u32,
+            c2: c2 as u32,
+            d1: d1 as u32,
+            d2: d2 as u32,
+        },
+    })
+}
+
+/// The nodes and links of the top table.
+#[derive(Clone, Copy, Debug)]
+pub(crate) struct Shape<'a> {
+    /// The topology that the table names.
+    pub(crate) topology: Option<Topology>,
+    /// How many nodes there are: 1 to 256.
+    pub(crate) nodes: u16,
+    /// The delay of each link of the topology, in ticks.
+    pub(crate) delay: u64,
+    /// The links, where they are listed.
+    pub(crate) links: &'a [Value],
+}
+
+/// The nodes and links of the table, if they are as they must be.
+fn shape_of(table: &Table) -> Option<Shape<'_>>
+    ensures { MatchOption result
+        (list_all (is_met (table_view table.now)) (shape_of (table_view table.now)) ≡ false)
+        (λ s. HasShape (table_view table.now) s.topology s.nodes s.delay (map view s.links.now)) }
+{
+    let topology = topology(table)?;
+    if topology.is_none() {
+        if has_key(table, "size") || has_key(table, "delay") {
+            return None;
+        }
+        let nodes = number(table, "nodes", 1, 256)?;
+        let links = array(table, "link", 255)?;
+        return Some(Shape {
+            topology,
+            nodes: nodes as u16,
+            delay: 0,
+            links,
+        });
+    }
+    if has_key(table, "nodes") || has_key(table, "link") {
+        return None;
+    }
+    let size = number(table, "size", 1, 256)?;
+    let delay = number(table, "delay", 1, 1_000_000)?;
+    Some(Shape {
+        topology,
+        nodes: size as u16,
+        delay,
+        links: &[],
+    })
+}
+
+/// The other arrays of the top table.
+#[derive(Clone, Copy, Debug)]
+pub(crate) struct Arrays<'a> {
+    /// The members.
+    pub(crate) members: &'a [Value],
+    /// The draws.
+    pub(crate) draws: &'a [Value],
+    /// The session messages.
+    pub(crate) sessions: &'a [Value],
+    /// The drops.
+    pub(crate) drops: &'a [Value],
+}
+
+/// The other arrays of the table, if they are as they must be.
+fn arrays_of(table: &Table) -> Option<Arrays<'_>>
+    ensures { MatchOption result
+        (list_all (is_met (table_view table.now)) array_rules ≡ false)
+        (λ a. HasArrays (table_view table.now) (map view a.members.now) (map view a.draws.now) (map view a.sessions.now) (map view a.drops.now)) }
+{
+    let members = array(table, "member", 256)?;
+    let draws = array(table, "draw", 4096)?;
+    let sessions = array(table, "session", 4096)?;
+    let drops = array(table, "drop", 4096)?;
+    Some(Arrays {
+        members,
+        draws,
+        sessions,
+        drops,
+    })
+}
+
+/// What the top table holds.
+#[derive(Clone, Copy, Debug)]
+pub(crate) struct Top<'a> {
+    /// Its numbers.
+    pub(crate) numbers: Numbers,
+    /// Its nodes and links.
+    pub(crate) shape: Shape<'a>,
+    /// Its other arrays.
+    pub(crate) arrays: Arrays<'a>,
+}
+
+/// What the table holds, if it is as a top table must be.
+pub(crate) fn top_of(table: &Table) -> Option<Top<'_>>
+    ensures { MatchOption result
+        (fits (rules_of_top (table_view table.now)) (table_view table.now) ≡ false)
+        (λ t. (fits (rules_of_top (table_view table.now)) (table_view table.now) ≡ true)
+        × HasNumbers (table_view table.now) t.numbers.until t.numbers.constants
+        × HasShape (table_view table.now) t.shape.topology t.shape.nodes t.shape.delay (map view t.shape.links.now)
+        × HasArrays (table_view table.now) (map view t.arrays.members.now) (map view t.arrays.draws.now) (map view t.arrays.sessions.now) (map view t.arrays.drops.now)) }
+{
+    if !has_only(
+        table,
+        &[
+            "version", "until", "c1", "c2", "d1", "d2", "nodes", "topology", "size", "delay",
+            "degree", "link", "member", "draw", "session", "drop",
+        ],
+    ) {
+        return None;
+    }
+    let numbers = numbers_of(table)?;
+    let shape = shape_of(table)?;
+    let arrays = arrays_of(table)?;
+    Some(Top {
+        numbers,
+        shape,
+        arrays,
+    })
+}

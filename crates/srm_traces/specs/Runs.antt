@@ -1,0 +1,61 @@
+-- Whole runs, and a short form of their rows.
+use Rattle.std.specs.Prelude.{◌≡◌, ℕ, zero, suc, List, map, Option, Some, None, length}
+use Rattle.srm_net.specs.declared.packet.PacketId.{PacketId}
+use Rattle.srm_net.specs.declared.packet.Name.{Name}
+use Rattle.srm_net.specs.declared.packet.Packet.{Packet}
+use Rattle.srm_scenario.specs.Plain.{PlainScenario, network_of}
+use Rattle.srm_member.specs.declared.row.Word.{Word}
+use Rattle.srm_member.specs.declared.row.About.{About}
+use Rattle.srm_member.specs.declared.row.Row.{Row}
+use Rattle.srm_member.specs.declared.told.Told.{Told}
+use Rattle.srm_cell.specs.Setting.{Setting, setting_of}
+use Rattle.srm_cell.specs.Cells.{Idle, Full, Spent, Done}
+use Rattle.srm_cell.specs.Crossings.{crossings}
+use Rattle.srm_engine.specs.World.{World, step, opening}
+
+-- a row in short: its time, its member, its kind, what it is about, what was told, how many names were lost, and the packet sent
+pub record Brief : Type 0 where
+  pub time : ℕ
+  pub member : ℕ
+  pub cause : Word
+  pub about : About
+  pub told : Told
+  pub lost : ℕ
+  pub sent : Option PacketId
+
+abbrev pub row : ℕ → ℕ → Word → About → Told → ℕ → Option PacketId → Brief
+row time member cause about told lost sent = record { time = time; member = member; cause = cause; about = about; told = told; lost = lost; sent = sent }
+
+abbrev pub packet : ℕ → ℕ → PacketId
+packet sender count = record { sender = sender; count = count }
+
+abbrev pub name : ℕ → ℕ → ℕ → Name
+name source page number = record { source = source; page = page; number = number }
+
+abbrev pub id_of : Option Packet → Option PacketId
+id_of None = None
+id_of (Some p) = Some p.id
+
+abbrev pub brief : Row → Brief
+brief r = row r.key.time r.key.member r.cause r.about r.told (length r.lost) (id_of r.sent)
+
+-- the world in which the sequential run ends, if it does within so many steps
+unfoldable pub ended : Setting → ℕ → World → World
+ended s zero w = w
+ended s (suc n) w = elim (step s w) [ Idle ↦ w | Full ↦ w | Spent ↦ w | Done v ↦ ended s n v ]
+
+-- the last world of a scenario and a seed
+unfoldable pub last_world : PlainScenario → ℕ → World
+last_world p seed = let s = setting_of p (network_of p) seed in ended s 100 (opening s)
+
+-- nothing is pending in it: the run is whole
+abbrev pub IsWhole : PlainScenario → ℕ → Type 0
+IsWhole p seed = step (setting_of p (network_of p) seed) (last_world p seed) ≡ Idle
+
+-- its trace, in short
+unfoldable pub whole_trace : PlainScenario → ℕ → List Brief
+whole_trace p seed = map brief (last_world p seed).trace
+
+-- the crossings of its trace
+unfoldable pub whole_totals : PlainScenario → ℕ → List ℕ
+whole_totals p seed = crossings (setting_of p (network_of p) seed) (last_world p seed).trace

@@ -1,0 +1,194 @@
+-- Worked scenarios.
+use Rattle.std.specs.Prelude.{ℕ, zero, suc, List, [], ◌∷◌, Some, None}
+use Rattle.srm_net.specs.declared.role.Role.{Role}
+use Rattle.srm_net.specs.declared.role.Role.TheVariants.{Sender, Receiver, Late, Listener}
+use Rattle.srm_net.specs.declared.link.LinkSpec.{LinkSpec}
+use Rattle.srm_net.specs.declared.link.DropSpec.{DropSpec}
+use Rattle.srm_scenario.specs.declared.parts.MemberSpec.{MemberSpec}
+use Rattle.srm_scenario.specs.declared.parts.DrawSpec.{DrawSpec}
+use Rattle.srm_scenario.specs.declared.parts.SessionSpec.{SessionSpec}
+use Rattle.srm_scenario.specs.Plain.{PlainScenario}
+
+-- a link between two nodes, with its delay
+abbrev pub link : ℕ → ℕ → ℕ → LinkSpec
+link a b delay = record { a = a; b = b; delay = delay }
+
+-- the links of a chain, from node i on
+abbrev pub chain_links : ℕ → ℕ → ℕ → List LinkSpec
+chain_links delay i zero = []
+chain_links delay i (suc n) = link i (suc i) delay ∷ chain_links delay (suc i) n
+
+-- the links of a star, whose hub is node 0, from node i + 1 on
+abbrev pub star_links : ℕ → ℕ → ℕ → List LinkSpec
+star_links delay i zero = []
+star_links delay i (suc n) = link 0 (suc i) delay ∷ star_links delay (suc i) n
+
+-- a member on this node, from the beginning to the end
+abbrev pub member : ℕ → Role → ℕ → MemberSpec
+member node role stream = record { node = node; role = role; stream = stream; join = 0; leave = None; pages = [] }
+
+abbrev pub draw : ℕ → ℕ → ℕ → ℕ → DrawSpec
+draw m page ink at = record { member = m; page = page; ink = ink; at = at }
+
+abbrev pub session : ℕ → ℕ → SessionSpec
+session m at = record { member = m; at = at }
+
+-- a link is to drop a packet, by its sender and count
+abbrev pub drop : ℕ → ℕ → ℕ → DropSpec
+drop l sender count = record { link = l; id = record { sender = sender; count = count } }
+
+-- one loss on a chain of five: its request, and the repair by the nearest that holds it
+abbrev pub chain_of_five_one_loss : PlainScenario
+chain_of_five_one_loss = record {
+  until = 100;
+  constants = record { c1 = 1000; c2 = 0; d1 = 1000; d2 = 0 };
+  nodes = 5;
+  links = chain_links 1 0 4;
+  members = member 0 Sender 1 ∷ member 1 Receiver 2 ∷ member 2 Receiver 3 ∷ member 3 Receiver 4 ∷ member 4 Receiver 5 ∷ [];
+  draws = draw 0 0 7 0 ∷ draw 0 0 8 10 ∷ [];
+  sessions = [];
+  drops = drop 1 0 0 ∷ [];
+}
+
+-- a loss on the link of the source: the second request comes at an ignore time, and during a rest
+abbrev pub loss_on_the_source_link : PlainScenario
+loss_on_the_source_link = record {
+  until = 1000;
+  constants = record { c1 = 1000; c2 = 0; d1 = 1000; d2 = 0 };
+  nodes = 3;
+  links = chain_links 1 0 2;
+  members = member 0 Sender 1 ∷ member 1 Receiver 2 ∷ member 2 Receiver 3 ∷ [];
+  draws = draw 0 0 7 0 ∷ draw 0 0 8 10 ∷ [];
+  sessions = [];
+  drops = drop 0 0 0 ∷ [];
+}
+
+-- a repair that arrives at the tick of the request timer ends it
+abbrev pub repair_before_the_timer_of_its_tick : PlainScenario
+repair_before_the_timer_of_its_tick = record {
+  until = 1000;
+  constants = record { c1 = 1500; c2 = 0; d1 = 1000; d2 = 0 };
+  nodes = 2;
+  links = chain_links 1 0 1;
+  members = member 0 Sender 1 ∷ member 1 Receiver 2 ∷ [];
+  draws = draw 0 0 7 0 ∷ draw 0 0 8 10 ∷ [];
+  sessions = [];
+  drops = drop 0 0 0 ∷ [];
+}
+
+-- timers of random length
+abbrev pub drawn_timers : PlainScenario
+drawn_timers = record {
+  until = 1000;
+  constants = record { c1 = 2000; c2 = 2000; d1 = 1000; d2 = 0 };
+  nodes = 2;
+  links = chain_links 10 0 1;
+  members = member 0 Sender 1 ∷ member 1 Receiver 54 ∷ [];
+  draws = draw 0 0 7 0 ∷ draw 0 0 8 100 ∷ [];
+  sessions = [];
+  drops = drop 0 0 0 ∷ [];
+}
+
+-- a loss at the source of a star: three requests at one tick, one repair
+abbrev pub star_loss_at_the_source : PlainScenario
+star_loss_at_the_source = record {
+  until = 1000;
+  constants = record { c1 = 1000; c2 = 0; d1 = 1000; d2 = 0 };
+  nodes = 5;
+  links = star_links 5 0 4;
+  members = member 1 Sender 1 ∷ member 2 Receiver 2 ∷ member 3 Receiver 3 ∷ member 4 Receiver 4 ∷ [];
+  draws = draw 0 0 7 0 ∷ draw 0 0 8 100 ∷ [];
+  sessions = [];
+  drops = drop 0 0 0 ∷ [];
+}
+
+-- a loss at one member of a star: one request, three repairs
+abbrev pub star_loss_at_one_member : PlainScenario
+star_loss_at_one_member = record {
+  until = 1000;
+  constants = record { c1 = 1000; c2 = 0; d1 = 1000; d2 = 0 };
+  nodes = 5;
+  links = star_links 5 0 4;
+  members = member 1 Sender 1 ∷ member 2 Receiver 2 ∷ member 3 Receiver 3 ∷ member 4 Receiver 4 ∷ [];
+  draws = draw 0 0 7 0 ∷ draw 0 0 8 100 ∷ [];
+  sessions = [];
+  drops = drop 3 0 0 ∷ [];
+}
+
+-- a receiver that leaves hears what arrives at that tick, and nothing more
+abbrev pub receiver_that_leaves : PlainScenario
+receiver_that_leaves = record {
+  until = 1000;
+  constants = record { c1 = 1000; c2 = 0; d1 = 1000; d2 = 0 };
+  nodes = 2;
+  links = chain_links 1 0 1;
+  members = member 0 Sender 1 ∷ record (member 1 Receiver 2) { leave = Some 1 } ∷ [];
+  draws = draw 0 0 7 0 ∷ draw 0 0 8 10 ∷ [];
+  sessions = [];
+  drops = [];
+}
+
+-- a late joiner asks for the page that it wants, and not for the other
+abbrev pub late_joiner : PlainScenario
+late_joiner = record {
+  until = 1000;
+  constants = record { c1 = 1000; c2 = 0; d1 = 1000; d2 = 0 };
+  nodes = 2;
+  links = chain_links 1 0 1;
+  members = member 0 Sender 1 ∷ record (member 1 Late 2) { join = 50; pages = 1 ∷ [] } ∷ [];
+  draws = draw 0 0 7 0 ∷ draw 0 1 8 1 ∷ draw 0 0 9 70 ∷ [];
+  sessions = session 0 59 ∷ [];
+  drops = [];
+}
+
+-- a session message reveals a loss
+abbrev pub session_reveals_a_loss : PlainScenario
+session_reveals_a_loss = record {
+  until = 1000;
+  constants = record { c1 = 1000; c2 = 0; d1 = 1000; d2 = 0 };
+  nodes = 2;
+  links = chain_links 1 0 1;
+  members = member 0 Sender 1 ∷ member 1 Receiver 2 ∷ [];
+  draws = draw 0 0 7 0 ∷ [];
+  sessions = session 0 20 ∷ session 0 40 ∷ [];
+  drops = drop 0 0 0 ∷ [];
+}
+
+-- a sender and a listener
+abbrev pub two_nodes : PlainScenario
+two_nodes = record {
+  until = 20;
+  constants = record { c1 = 1000; c2 = 0; d1 = 1000; d2 = 0 };
+  nodes = 2;
+  links = link 0 1 3 ∷ [];
+  members = member 0 Sender 1 ∷ member 1 Listener 2 ∷ [];
+  draws = draw 0 0 7 0 ∷ draw 0 0 8 5 ∷ [];
+  sessions = [];
+  drops = [];
+}
+
+-- a loss that the data itself mends in the same tick
+abbrev pub mended_by_the_data_itself : PlainScenario
+mended_by_the_data_itself = record {
+  until = 1000;
+  constants = record { c1 = 1000; c2 = 0; d1 = 1000; d2 = 0 };
+  nodes = 3;
+  links = chain_links 1 0 2;
+  members = member 1 Receiver 1 ∷ member 0 Sender 2 ∷ member 2 Receiver 3 ∷ [];
+  draws = draw 1 0 7 0 ∷ [];
+  sessions = session 0 1 ∷ [];
+  drops = [];
+}
+
+-- a loss that a request reveals, which backs off at once
+abbrev pub loss_learnt_from_a_request : PlainScenario
+loss_learnt_from_a_request = record {
+  until = 1000;
+  constants = record { c1 = 1000; c2 = 0; d1 = 1000; d2 = 0 };
+  nodes = 3;
+  links = chain_links 1 0 2;
+  members = member 0 Sender 1 ∷ member 1 Receiver 2 ∷ member 2 Receiver 3 ∷ [];
+  draws = draw 0 0 7 0 ∷ draw 0 0 8 10 ∷ [];
+  sessions = [];
+  drops = drop 0 0 0 ∷ drop 1 0 1 ∷ [];
+}
