@@ -15,3 +15,4 @@ pub mod Acceptance
 pub mod Meanings
 pub mod InRanges
 pub mod TableAnswers
+pub mod Texts
