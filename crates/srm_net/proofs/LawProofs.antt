@@ -11,7 +11,7 @@ use Rattle.srm_net.specs.declared.link.LinkSpec.{LinkSpec}
 use Rattle.srm_net.specs.declared.link.DropSpec.{DropSpec}
 use Rattle.srm_net.specs.Orders.{AllAfter}
 use Rattle.srm_net.specs.Keys.{key_cmp, numbers_of_key}
-use Rattle.srm_net.specs.Network.{Network, IsWalk, HasDelay, IsNetwork}
+use Rattle.srm_net.specs.Network.{Network, IsTree, IsWalk, HasDelay, IsNetwork}
 use Rattle.srm_net.specs.Paths.{is_in, host, member_route, delay_of, delay_along, distance, drop_cmp, is_listed, reaches}
 use Rattle.srm_net.specs.Least.{least, least_delay, others, out}
 use Rattle.srm_net.specs.Growth.{attached}
