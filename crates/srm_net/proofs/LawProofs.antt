@@ -12,7 +12,7 @@ use Rattle.srm_net.specs.declared.link.DropSpec.{DropSpec}
 use Rattle.srm_net.specs.Orders.{AllAfter}
 use Rattle.srm_net.specs.Keys.{key_cmp, numbers_of_key}
 use Rattle.srm_net.specs.Network.{Network, IsTree, IsWalk, HasDelay, IsNetwork}
-use Rattle.srm_net.specs.Paths.{is_in, host, member_route, delay_of, delay_along, distance, drop_cmp, is_listed, reaches}
+use Rattle.srm_net.specs.Paths.{is_in, route, host, member_route, delay_of, delay_along, distance, drop_cmp, is_listed, reaches}
 use Rattle.srm_net.specs.Least.{least, least_delay, others, out}
 use Rattle.srm_net.specs.Growth.{attached}
 use Rattle.srm_net.specs.Laws.{DistancesFit, LeastDelayFits, NoLinkNoTwo, OutFits, OutOfTheOnlyOne, ReachesItsSender, SameDropsListed, OneListOfDrops, KeysOrdered}
@@ -21,7 +21,7 @@ use Rattle.srm_net.proofs.Numbers.{in_head, in_tail, in_cases, few_apart, apart_
 use Rattle.srm_net.proofs.Growing.{grows_to, all_attached}
 use Rattle.srm_net.proofs.RouteLemmas.{route_path, route_only}
 use Rattle.srm_net.proofs.PathLaws.{host_below, hosts_apart, hosts_in, distance_bounded, distance_apart, route_nowhere}
-use Rattle.srm_net.proofs.TreeWays.{both_ways_grown}
+use Rattle.srm_net.proofs.TreeWays.{BothWays, both_ways_grown}
 use Rattle.srm_net.proofs.DropLemmas.{contains_listed, listed_contains, drop_total}
 
 -- ---- distances
