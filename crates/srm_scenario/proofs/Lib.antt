@@ -15,3 +15,5 @@ pub mod Acceptance
 pub mod Meanings
 pub mod InRanges
 pub mod TableAnswers
+pub mod Texts
+pub mod TopologyTrees

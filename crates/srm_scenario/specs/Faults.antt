@@ -1,5 +1,5 @@
 -- What is wrong with a table or a text that is to be a scenario, and the scenario where nothing is.
-use Rattle.std.specs.Prelude.{◌≡◌, ◌⊎◌, ℕ, ◌+◌, Bool, true, false, not, ◌&&◌, ◌||◌, List, [], ◌∷◌, ◌++◌, Option, Some, None, Result, Ok, Err, is_some, codes, length, slice_get, map, nat_le, nat_lt, ◌==◌, if◌then◌else◌}
+use Rattle.std.specs.Prelude.{⊤, ◌≡◌, ◌⊎◌, ℕ, ◌+◌, Bool, true, false, not, ◌&&◌, ◌||◌, List, [], ◌∷◌, ◌++◌, Option, Some, None, Result, Ok, Err, is_some, codes, length, slice_get, map, nat_le, nat_lt, ◌==◌, if◌then◌else◌}
 use Rattle.std.specs.List.{list_any}
 use Rattle.std.specs.Str.{is_utf8}
 use Rattle.toml.specs.Data.{Data, Members, get_member}
@@ -10,7 +10,7 @@ use Rattle.srm_net.specs.declared.link.DropSpec.{DropSpec}
 use Rattle.srm_scenario.specs.declared.fault.Part.{Part}
 use Rattle.srm_scenario.specs.declared.fault.Part.TheVariants as part
 use Rattle.srm_scenario.specs.declared.fault.ScenarioFault.{ScenarioFault}
-use Rattle.srm_scenario.specs.declared.fault.ScenarioFault.TheVariants.{NoMemory, TooLong, NotToml, BadKey, NotTree, BadMember, BadDraw, BadSession, BadDrop}
+use Rattle.srm_scenario.specs.declared.fault.ScenarioFault.TheVariants.{NoMemory, ReadFault, TooLong, NotToml, BadKey, NotTree, BadMember, BadDraw, BadSession, BadDrop}
 use Rattle.srm_scenario.specs.declared.entry.MemberEntry.{MemberEntry}
 use Rattle.srm_scenario.specs.declared.parts.MemberSpec.{MemberSpec}
 use Rattle.srm_scenario.specs.declared.parts.DrawSpec.{DrawSpec}
@@ -188,3 +188,17 @@ scenario_of_text text =
     if nat_lt 1048576 (length text)
     then Err TooLong
     else if is_utf8 text then scenario_of_document (parse_document text) else Err NotToml
+
+-- ---- what a read leaves
+
+-- the count of a feed's failures after a scenario was read from it: one more exactly where the answer is that it failed
+abbrev pub failures_after : Result PlainScenario ScenarioFault → ℕ → ℕ
+failures_after (Err ReadFault) n = n + 1
+failures_after r n = n
+
+-- the answer is that of a text, unless the feed failed or memory ran out
+abbrev pub AnswersText : Result PlainScenario ScenarioFault → List ℕ → Type 0
+AnswersText (Ok s) text = scenario_of_text text ≡ Ok s
+AnswersText (Err ReadFault) text = ⊤
+AnswersText (Err NoMemory) text = ⊤
+AnswersText (Err e) text = scenario_of_text text ≡ Err e

@@ -16,5 +16,7 @@ pub mod reading;
 pub mod scenario;
 pub mod script;
 mod table;
+#[cfg(test)]
+mod tests;
 mod top;
 pub mod topology;

@@ -1,20 +1,23 @@
 //! Reading scenarios.
-ghost use Rattle.std.specs.Prelude.{◌≡◌, ◌⊎◌, ◌≤◌, ◌<◌, true, false, [], Ok, Err, length, map, IfOk, IfErr, MatchResult};
+ghost use Rattle.std.specs.Prelude.{◌≡◌, ◌⊎◌, ◌≤◌, ◌<◌, true, false, [], Ok, Err, length, map, IfOk, IfErr, IfSome, MatchResult, List, ℕ, ◌+◌, ◌-◌, ◌^◌};
+ghost use Rattle.std.specs.Io.KnownBytes.{Consumes};
 ghost use Rattle.std.specs.List.{AllByRecursion};
 ghost use Rattle.toml.specs.View.{table_view};
 ghost use Rattle.srm_net.specs.Network.{plain_network, HasDelay};
 ghost use Rattle.srm_net.specs.DropSets.{ordered_once};
 ghost use Rattle.srm_net.specs.Paths.{drop_cmp};
 ghost use Rattle.srm_scenario.specs.Accepted.{IsAccepted};
-ghost use Rattle.srm_scenario.specs.Faults.{IsFault, is_star, scenario_of_table};
+ghost use Rattle.srm_scenario.specs.Faults.{IsFault, is_star, scenario_of_table, scenario_of_text, failures_after, AnswersText};
 ghost use Rattle.srm_scenario.specs.Keys.{HasDegree};
 ghost use Rattle.srm_scenario.specs.Listed.{links_listed, plain_of, faults_in};
 ghost use Rattle.srm_scenario.specs.Ranges.{InRange, HasItsPages};
 ghost use Rattle.srm_scenario.specs.Trees.{is_tree};
 
+use crate::bytes::{LONGEST_TEXT, TextFault, read_text};
 use crate::checks::{check_draws, check_drops, check_members, check_sessions};
 use crate::entry::MemberEntry;
 use crate::fault::ScenarioFault;
+use crate::feed::Feed;
 use crate::listed::Listed;
 use crate::parts::MemberSpec;
 use crate::scenario::Scenario;
@@ -145,4 +148,49 @@ pub fn scenario_of(alloc: Global, table: &Table) -> Result<Scenario, ScenarioFau
 {
     let listed = Listed::read(alloc, table)?;
     scenario_from(alloc, listed)
+}
+
+/// The scenario of a text that is not too long.
+fn scenario_of_bytes(alloc: Global, text: &[u8]) -> Result<Scenario, ScenarioFault>
+    requires { length text.now ≤ LONGEST_TEXT }
+    ensures scenario { IfOk result (λ s. scenario_of_text text.now ≡ Ok s) }
+    ensures accepted { IfOk result IsAccepted }
+    ensures fault { IfErr result (λ e. (e ≡ ScenarioFault.NoMemory) ⊎ (scenario_of_text text.now ≡ Err e)) }
+{
+    match toml::table_from_slice(alloc, text) {
+        Ok(table) => scenario_of(alloc, &table),
+        Err(error) => {
+            if error.is_memory() {
+                Err(ScenarioFault::NoMemory)
+            } else {
+                Err(ScenarioFault::NotToml)
+            }
+        }
+    }
+}
+
+/// Reads a scenario from a feed, of which it takes at most 1,048,577 bytes.
+///
+/// # Errors
+///
+/// The first of these, unless memory runs out: [`ScenarioFault::ReadFault`] where the feed failed, [`ScenarioFault::TooLong`]
+/// where it has more than 1,048,576 bytes, [`ScenarioFault::NotToml`] where they are not UTF-8 or no TOML document, and then those
+/// of [`scenario_of`].
+pub fn read_scenario<F: Feed>(alloc: Global, feed: &mut F) -> Result<Scenario, ScenarioFault>
+    requires { F.failures feed.old < 2 ^ 64 - 1 }
+    // The count rises exactly where the answer is `ReadFault`, and then by one.
+    ensures failures { F.failures feed.new ≡ failures_after result (F.failures feed.old) }
+    // What is known to be still to come decides the answer.
+    ensures answer { IfSome (F.remaining feed.old) (AnswersText result) }
+    ensures accepted { IfOk result IsAccepted }
+    ensures taken { (given : List ℕ) × Consumes (F.remaining feed.old) (F.remaining feed.new) given
+        × (length given ≤ LONGEST_TEXT + 1) }
+{
+    let text = match read_text(alloc, feed) {
+        Ok(text) => text,
+        Err(TextFault::ReadFault) => return Err(ScenarioFault::ReadFault),
+        Err(TextFault::TooLong) => return Err(ScenarioFault::TooLong),
+        Err(TextFault::NoMemory) => return Err(ScenarioFault::NoMemory),
+    };
+    scenario_of_bytes(alloc, &text)
 }

@@ -1,0 +1,12 @@
+use Rattle.std.proofs.Common.{◌≤◌, length, ◌∙◌}
+use Rattle.srm_scenario.proofs.Texts.{count_stays, answers_known, long_known}
+use Rattle.srm_scenario.proofs.reading.read_scenario.Goals as goal
+
+pub returns-in-Err-TooLong-clause-answer : goal.returns-in-Err-TooLong-clause-answer
+returns-in-Err-TooLong-clause-answer g c =
+    long_known (g.F.Feed.remaining c.args.feed.now) (rw c.in-Err-TooLong.field-0-is at c.in-Err-TooLong.ensures.text)
+
+pub returns-clause-failures : goal.returns-clause-failures
+returns-clause-failures g c =
+    let few : length c.deref.result.now ≤ 1048576 = rw c.deref.ensures.value c.in-Ok.ensures.bound in
+    c.in-Ok.ensures.failures ∙ count_stays c.deref.result.now c.scenario_of_bytes.result (g.F.Feed.failures c.args.feed.now) few c.scenario_of_bytes.ensures.fault
