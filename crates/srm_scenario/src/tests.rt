@@ -9,8 +9,11 @@ use std::test::Fail;
 
 // The numbers of a top table, a chain of three nodes, and on it a sender, a late member and a listener.
 const TOP: &str = "version = 1\nuntil = 100\nc1 = 1000\nc2 = 0\nd1 = 1000\nd2 = 0\n";
+
 const CHAIN: &str = "topology = \"chain\"\nsize = 3\ndelay = 1\n";
-const MEMBERS: &str = "member = [{ node = 0, role = \"sender\", stream = 1, leave = 60 }, { node = 1, role = \"late\", stream = 2, join = 20, pages = [1, 65535] }, { node = 2, role = \"listener\", stream = 3 }]\n";
+
+const MEMBERS: &str =
+    "member = [{ node = 0, role = \"sender\", stream = 1, leave = 60 }, { node = 1, role = \"late\", stream = 2, join = 20, pages = [1, 65535] }, { node = 2, role = \"listener\", stream = 3 }]\n";
 
 // What is told of a table: `accepted`, or its fault.
 fn told(alloc: Global, text: &str) -> Result<String, Fail> {
@@ -48,7 +51,8 @@ fn scenario(alloc: Global, text: &str) -> Result<Scenario, Fail> {
     Ok(read_scenario(alloc, &mut feed)?)
 }
 
-const TOP_RANGES: &str = "bad-key top 0 | version = 0; until = 9; c1 = 0; c2 = 0; d1 = 0; d2 = 0; nodes = 1
+const TOP_RANGES: &str =
+    "bad-key top 0 | version = 0; until = 9; c1 = 0; c2 = 0; d1 = 0; d2 = 0; nodes = 1
 accepted | version = 1; until = 9; c1 = 0; c2 = 0; d1 = 0; d2 = 0; nodes = 1
 bad-key top 0 | version = 2; until = 9; c1 = 0; c2 = 0; d1 = 0; d2 = 0; nodes = 1
 bad-key top 0 | until = 0; version = 1; c1 = 0; c2 = 0; d1 = 0; d2 = 0; nodes = 1
@@ -210,9 +214,11 @@ bad-drop 0 | drop = [{link = 1, sender = 3, count = 0}]";
 fn what_does_not_fit(rt: HostRuntime) -> Result<(), Fail> {
     let front = format!(in rt.alloc(); "{TOP}{CHAIN}{MEMBERS}")?;
     check(&rt, rt.alloc(), front.as_str(), FITS)?;
-    let star = "bad-member 0 | topology = \"star\"; size = 2; delay = 1; member = [{node = 0, role = \"late\", stream = 0}]";
+    let star =
+        "bad-member 0 | topology = \"star\"; size = 2; delay = 1; member = [{node = 0, role = \"late\", stream = 0}]";
     check(&rt, rt.alloc(), TOP, star)?;
-    let shared = "bad-member 1 | nodes = 1; member = [{node = 0, role = \"late\", stream = 0}, {node = 0, role = \"late\", stream = 0}]";
+    let shared =
+        "bad-member 1 | nodes = 1; member = [{node = 0, role = \"late\", stream = 0}, {node = 0, role = \"late\", stream = 0}]";
     check(&rt, rt.alloc(), TOP, shared)?;
     Ok(())
 }
@@ -278,7 +284,10 @@ fn texts_that_are_not_read(rt: HostRuntime) -> Result<(), Fail> {
         part: Part::Top,
         place: 0,
     };
-    assert_eq!(rt; read_scenario(alloc, &mut ReadFeed::new(&b""[..])).err(), Some(empty));
+    assert_eq!(rt;
+        read_scenario(alloc, &mut ReadFeed::new(&b""[..])).err(),
+        Some(empty)
+    );
     Ok(())
 }
 
