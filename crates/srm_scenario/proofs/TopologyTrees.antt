@@ -7,11 +7,8 @@ use Rattle.std.proofs.Math.Nat.{div-le_self}
 use Rattle.std.specs.List.{AllByRecursion}
 use Rattle.std.specs.Prelude.{◌||◌, ◌==◌}
 use Rattle.srm_net.specs.declared.link.LinkSpec.{LinkSpec}
-use Rattle.srm_net.specs.declared.order.Step.{Step}
-use Rattle.srm_net.specs.Growth.{Attaches, attached, Grows}
 use Rattle.srm_net.specs.Network.{IsWithin, IsTree, plain_network}
-use Rattle.srm_net.specs.Paths.{is_in}
-use Rattle.srm_net.proofs.OrderLemmas.{whole_tree}
+use Rattle.srm_net.proofs.Parents.{JoinsParents, parents_tree}
 use Rattle.srm_scenario.specs.declared.topology.Topology.{Topology}
 use Rattle.srm_scenario.specs.declared.topology.Topology.TheVariants.{Chain, Star, Tree}
 use Rattle.srm_scenario.specs.Described.{parent_in, links_to_parents}
@@ -35,16 +32,6 @@ parent_below (Tree degree) v h some =
 link_at : Topology → ℕ → ℕ → LinkSpec
 link_at t delay v = record { a = parent_in t v; b = v; delay = delay }
 
--- the steps that attach nodes 1 to n, the newest first
-steps : Topology → ℕ → List Step
-steps t zero = []
-steps t (suc n) = record { link = n; parent = parent_in t (n + 1); node = n + 1 } ∷ steps t n
-
-steps_length : (t : Topology) (n : ℕ) → length (steps t n) ≡ n
-unfolding steps
-steps_length t zero = refl
-steps_length t (suc n) = ap suc (steps_length t n)
-
 links_length : (t : Topology) (delay v n : ℕ) → length (links_to_parents t delay v n) ≡ n
 links_length t delay v zero = refl
 links_length t delay v (suc n) = ap suc (links_length t delay (v + 1) n)
@@ -56,39 +43,6 @@ nth_link t delay v zero i lt = absurd (omega arith)
 nth_link t delay v (suc n) zero lt = ap (λ k. Some (link_at t delay k)) (omega arith)
 nth_link t delay v (suc n) (suc i) lt = nth_link t delay (v + 1) n i (omega arith) ∙ ap (λ k. Some (link_at t delay k)) (omega arith)
 
-has_node : (t : Topology) (n x : ℕ) → x ≤ n → is_in (attached (steps t n)) x ≡ true
-unfolding steps
-has_node t zero x le = grind (arith, nat_tests)
-has_node t (suc n) x le =
-    elim (cases_Bool ((n + 1) == x)) [
-      | inl same ↦ ap (λ b. b || is_in (attached (steps t n)) x) same
-      | inr other ↦ (let less : x ≤ n = grind (arith, nat_tests) in ap (λ b. b || is_in (attached (steps t n)) x) other ∙ has_node t n x less)
-    ]
-
-no_node : (t : Topology) (n x : ℕ) → n < x → is_in (attached (steps t n)) x ≡ false
-unfolding steps
-no_node t zero x lt = grind (arith, nat_tests)
-no_node t (suc n) x lt =
-    let other : ((n + 1) == x) ≡ false = grind (arith, nat_tests) in
-    ap (λ b. b || is_in (attached (steps t n)) x) other ∙ no_node t n x (omega arith)
-
-grows : (t : Topology) (delay all n : ℕ) → HasDegree (Some t) → n ≤ all → Grows (links_to_parents t delay 1 all) (steps t n)
-unfolding steps link_at
-grows t delay all zero h le = tt
-grows t delay all (suc n) h le =
-    let below : parent_in t (n + 1) < n + 1 = parent_below t (n + 1) h (omega arith) in
-    let at : slice_get (links_to_parents t delay 1 all) n ≡ Some (link_at t delay (n + 1)) = nth_link t delay 1 all n (omega arith) ∙ ap (λ k. Some (link_at t delay k)) (omega arith) in
-    (
-      record {
-        spec = link_at t delay (n + 1);
-        link = at;
-        joins = inl (refl, refl);
-        parent = has_node t n (parent_in t (n + 1)) (omega arith);
-        node = no_node t n (n + 1) (omega arith);
-      },
-      grows t delay all n h (omega arith),
-    )
-
 ends_within : (t : Topology) (delay nodes v n : ℕ) → HasDegree (Some t) → 1 ≤ v → v + n ≤ nodes → AllByRecursion (IsWithin nodes) (links_to_parents t delay v n)
 ends_within t delay nodes v zero h some le = tt
 ends_within t delay nodes v (suc n) h some le =
@@ -96,8 +50,13 @@ ends_within t delay nodes v (suc n) h some le =
     ((omega arith, omega arith), ends_within t delay nodes (v + 1) n h (omega arith) (omega arith))
 
 pub topologies : TopologiesAreTrees
+unfolding link_at
 topologies t h delay nodes some few =
     let ks = links_to_parents t delay 1 (nodes - 1) in
     let many : length ks + 1 ≡ nodes = omega (arith, links_length t delay 1 (nodes - 1)) in
-    let taken : length (steps t (nodes - 1)) + 1 ≡ nodes = omega (arith, steps_length t (nodes - 1)) in
-    whole_tree nodes ks (steps t (nodes - 1)) some few (All-from_recursion (IsWithin nodes) ks (ends_within t delay nodes 1 (nodes - 1) h (omega arith) (omega arith))) many (grows t delay (nodes - 1) (nodes - 1) h (omega arith)) taken
+    parents_tree (parent_in t) nodes ks some few (All-from_recursion (IsWithin nodes) ks (ends_within t delay nodes 1 (nodes - 1) h (omega arith) (omega arith))) many
+    (record {
+      below = λ v one. parent_below t v h one;
+      delay = λ i. delay;
+      link = λ i lt. nth_link t delay 1 (nodes - 1) i (omega (arith, links_length t delay 1 (nodes - 1))) ∙ ap (λ k. Some (link_at t delay k)) (omega arith);
+    })
