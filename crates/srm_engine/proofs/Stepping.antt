@@ -18,7 +18,7 @@ use Rattle.srm_cell.specs.Cells.{PlainCell, Event, by_key, earlier, next_event, 
 use Rattle.srm_cell.specs.OwnRuns.{told_to}
 use Rattle.srm_cell.proofs.CellSteps.{IsOf, IsStepOf, next_event_of, step_at_of, SentBy, before_some, some_not_idle}
 use Rattle.srm_cell.proofs.Rising.{SentAt}
-use Rattle.srm_engine.specs.World.{World, settled, after_step, least_event, step, step_to, step_of, run, opening, IsReached}
+use Rattle.srm_engine.specs.World.{World, settled, after_step, least_event, step, step_to, step_of, run, opening, IsReached, RunMeetsFull}
 use Rattle.srm_engine.specs.Schedules.{own_of}
 use Rattle.srm_engine.specs.NextTimes.{sooner, least_time}
 use Rattle.srm_engine.specs.Seen.{AreTimes, heard_below, all_hear}
@@ -31,7 +31,7 @@ use Rattle.srm_engine.proofs.Settled.{at_member, get_after}
 use Rattle.srm_engine.proofs.OneStep.{arrival_is}
 use Rattle.srm_engine.proofs.Sequential.{Good, good_reached, StepFacts, step_facts, get_below}
 use Rattle.srm_engine.proofs.NewPackets.{strict_reached, is_new}
-use Rattle.srm_engine.proofs.LawProofs.{never_spent}
+use Rattle.srm_engine.proofs.LawProofs.{never_spent, run_on}
 
 -- ---- the least event of all has the least of the next times
 
@@ -315,3 +315,20 @@ packets_more (q ∷ rows) r = ap (cons_option q.sent) (packets_more rows r) ∙ 
     by None (Some p) ps = refl
     by (Some q) None ps = refl
     by (Some q) (Some p) ps = refl
+
+-- ---- worlds that the run comes to
+
+pub reached_more : (s : Setting) (w v : World) → IsReached s w → step s w ≡ Done v → IsReached s v
+unfolding run
+reached_more s w v r h = (r.0 + 1, run_on s r.0 1 (opening s) w r.1 ∙ run_first s s.until (le_refl s.until) 0 w ∙ ap (run_by s s.until (le_refl s.until) 0) h)
+
+pub meets_full : (s : Setting) (w : World) → IsReached s w → step s w ≡ Full → RunMeetsFull s
+meets_full s w r h = (r.0 + 1, run_on s r.0 1 (opening s) w r.1 ∙ run_first s s.until (le_refl s.until) 0 w ∙ ap (run_by s s.until (le_refl s.until) 0) h)
+
+pub opening_reached : (s : Setting) → IsReached s (opening s)
+unfolding run
+opening_reached s = (0, refl)
+
+pub opening_trace : (s : Setting) → (opening s).trace ≡ []
+unfolding opening
+opening_trace s = refl
