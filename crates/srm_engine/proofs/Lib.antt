@@ -5,6 +5,7 @@ pub mod Counting
 pub mod NewPackets
 pub mod Hearing
 pub mod SeenLemmas
+pub mod Stepping
 pub mod LawProofs
 pub mod Merge
 pub mod NamesKept
