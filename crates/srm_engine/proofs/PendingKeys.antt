@@ -1,5 +1,5 @@
 -- No two pending events of a world of the sequential run have one key, and what an event creates is later.
-use Rattle.std.proofs.Common.{◌≡◌, ◌≢◌, ℕ, zero, suc, ◌<◌, ◌≤◌, ◌+◌, List, [], ◌∷◌, ◌++◌, map, length, refl, sym, ap, ◌∙◌, subst, ◌⊎◌, inl, inr, arith, Option, Some, None, slice_get, add-zero, zero-add, le_refl, Contains}
+use Rattle.std.proofs.Common.{◌≡◌, ℕ, zero, suc, ◌<◌, ◌≤◌, ◌+◌, List, [], ◌∷◌, ◌++◌, map, refl, sym, ap, ◌∙◌, subst, ◌⊎◌, inl, inr, arith, Some, slice_get, add-zero, zero-add, le_refl, Contains}
 use Rattle.std.proofs.lemmas.List.Elements.{All-contains, All-contains_itself}
 use Rattle.srm_net.specs.declared.key.Key.{Key}
 use Rattle.srm_member.specs.declared.row.Row.{Row}
@@ -9,9 +9,9 @@ use Rattle.srm_cell.specs.Setting.{Setting, IsFit}
 use Rattle.srm_cell.specs.Cells.{PlainCell, Event, arrival_key, mark_key, timer_key, pending_keys, DiffersFrom, AllDiffer, next_event, before, StepOutcome, Idle, Full, Spent, Done, Stepped, step_at}
 use Rattle.srm_cell.proofs.CellSteps.{some_not_idle}
 use Rattle.srm_cell.proofs.Rising.{OnEvent, before_on, OnStep, Above, IsAbove, next_above, step_above}
-use Rattle.srm_cell.proofs.Clear.{Differs, differ_member, all_here, all_in}
+use Rattle.srm_cell.proofs.Clear.{differ_member, all_here, all_in}
 use Rattle.srm_cell.proofs.CellKeys.{not_same, all_differ_append, cell_keys_differ}
-use Rattle.srm_engine.specs.World.{World, settled, after_step, least_event, step, step_to, run, opening, opening_cells}
+use Rattle.srm_engine.specs.World.{World, settled, after_step, least_event, step, run, opening}
 use Rattle.srm_engine.specs.Laws.{keys_from, PendingKeysDiffer, CreatedEventsAreLater}
 use Rattle.srm_engine.proofs.RunLemmas.{Seq, rest, next, shifted, step_is, after_stepped, after_full, after_spent}
 use Rattle.srm_engine.proofs.Sequential.{EachCell, Good, step_facts, good_step, above_step, run_seq, good_opening, good_reached}
