@@ -11,3 +11,7 @@ pub mod laws_of_names;
 pub mod laws_of_packets;
 mod moves;
 pub mod next_times;
+pub mod outcome;
+mod phases;
+mod start;
+pub mod step_run;

@@ -1,23 +1,22 @@
 -- What the ways of a built tree give.
-use Rattle.std.proofs.Common.{◌≡◌, ◌≢◌, ℕ, suc, ◌+◌, ◌<◌, ◌≤◌, Bool, true, false, not, cond, ◌&&◌, ◌||◌, List, [], ◌∷◌, length, Some, refl, sym, ap, ◌∙◌, subst, inl, inr, arith, eqb, eq-eqb, eqb-true, slice_get, slice_index_or}
+use Rattle.std.proofs.Common.{◌≡◌, ◌≢◌, ℕ, ◌<◌, Bool, not, cond, ◌&&◌, List, ◌∷◌, length, Some, refl, sym, ap, ◌∙◌, subst, inl, inr, eqb, eq-eqb, eqb-true, slice_get, slice_index_or}
 use Rattle.std.specs.List.{list_any}
-use Rattle.std.proofs.lemmas.Bool.{ne_eqb, eqb-false, cases_Bool, cases_eq}
+use Rattle.std.proofs.lemmas.Bool.{cases_Bool}
 use Rattle.srm_net.specs.declared.link.LinkSpec.{LinkSpec}
 use Rattle.srm_net.specs.declared.link.DropSpec.{DropSpec}
 use Rattle.srm_net.specs.declared.packet.PacketId.{PacketId}
-use Rattle.srm_net.specs.declared.sides.Sides.{Sides}
 use Rattle.srm_net.specs.declared.ways.Ways.{Ways}
 use Rattle.srm_net.specs.declared.tree.Tree.TheInside.{Inside}
 use Rattle.srm_net.specs.Network.{Network, Joins, IsWithin, IsTree, IsNetwork}
-use Rattle.srm_net.specs.Paths.{is_in, route, host, member_route, delay_along, distance, is_listed, crosses, drops_at}
+use Rattle.srm_net.specs.Paths.{route, host, delay_along, distance, is_listed, crosses, drops_at}
 use Rattle.srm_net.specs.Grids.{number_at}
-use Rattle.srm_net.specs.Ways.{IsWayOf, TellsWays}
-use Rattle.srm_net.specs.Tables.{is_beyond, near_end, some_beyond, TellsSides}
+use Rattle.srm_net.specs.Ways.{TellsWays}
+use Rattle.srm_net.specs.Tables.{is_beyond, near_end, some_beyond}
 use Rattle.srm_net.specs.Built.{plain_of, IsBuilt}
-use Rattle.srm_net.proofs.Lists.{get_below, below_get, read_get, get_index, all_get}
-use Rattle.srm_net.proofs.Numbers.{apart_from_distinct, not_in}
-use Rattle.srm_net.proofs.RouteLemmas.{route_path, route_only}
-use Rattle.srm_net.proofs.PathLaws.{Begins, host_below, route_begins, route_self, first_or_never, crosses_is, drops_is}
+use Rattle.srm_net.proofs.Lists.{get_below, below_get, read_get, all_get}
+use Rattle.srm_net.proofs.Numbers.{apart_from_distinct}
+use Rattle.srm_net.proofs.RouteLemmas.{route_only}
+use Rattle.srm_net.proofs.PathLaws.{Begins, host_below, route_begins, first_or_never, crosses_is, drops_is}
 
 -- the way that the tables tell is the route
 pub told_route : (w : Network) → IsTree w → (ways : Ways) → TellsWays w.nodes w.links ways → (u v : ℕ) → u < w.nodes → v < w.nodes
@@ -57,13 +56,7 @@ told_beyond w t ways told l k g x hx ha d =
     let r = (told_route w t ways told k.a x ha hx).1 (λ e. d (sym e)) in
     sym (first_or_never w t k.a x ha hx l (number_at ways.firsts.width ways.firsts.cells.items k.a x) k.b k r.0 g (inl (refl, refl)) r.1)
 
-pub not_beyond : (w : Network) → IsTree w → (l : ℕ) (k : LinkSpec) (x : ℕ) → k.a < w.nodes → x ≡ k.a → is_beyond w l k x ≡ false
-not_beyond w t l k x ha e = ap (λ t. is_in t l) (ap (route w k.a) e ∙ route_self w t k.a ha)
-
 -- ---- the same of what a network holds
-
-first_of : Inside → ℕ → ℕ → ℕ
-first_of n u v = number_at n.ways.firsts.width n.ways.firsts.cells.items u v
 
 pub first_below : (n : Inside) → IsBuilt n → (u v f : ℕ) → u < n.nodes → v < n.nodes → u ≢ v → f ≡ number_at n.ways.firsts.width n.ways.firsts.cells.items u v → f < length n.links.items
 first_below n i u v f hu hv d e =
@@ -89,9 +82,6 @@ pub beyond_by_first : (n : Inside) → IsBuilt n → (l : ℕ) (k : LinkSpec) �
     → eqb f l ≡ is_beyond (plain_of n) l k x
 beyond_by_first n i l k g x f hx d e =
     ap (λ t. eqb t l) e ∙ told_beyond (plain_of n) i.network.tree n.ways i.ways l k g x hx (end_below n i l k g).0 d
-
-pub at_its_end : (n : Inside) → IsBuilt n → (l : ℕ) (k : LinkSpec) → slice_get n.links.items l ≡ Some k → (x : ℕ) → x ≡ k.a → is_beyond (plain_of n) l k x ≡ false
-at_its_end n i l k g x e = not_beyond (plain_of n) i.network.tree l k x (end_below n i l k g).0 e
 
 -- ---- at the network that callers see
 

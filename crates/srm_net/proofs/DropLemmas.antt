@@ -1,11 +1,11 @@
 -- Sets of drops, and what their lists have.
-use Rattle.std.proofs.Common.{◌≡◌, ◌≢◌, ◌⊎◌, ◌↔◌, ℕ, zero, suc, ◌+◌, ◌<◌, Bool, true, false, not, cond, ◌&&◌, ◌||◌, ◌==◌, List, [], ◌∷◌, ◌++◌, length, refl, sym, ap, ◌∙◌, subst, inl, inr, arith, eqb, eq-eqb, eqb-true, Contains, Ordering, Less, Equal, Greater, slice_index_or}
+use Rattle.std.proofs.Common.{◌≡◌, ℕ, zero, suc, ◌<◌, Bool, true, false, cond, ◌&&◌, ◌||◌, ◌==◌, List, [], ◌∷◌, ◌++◌, length, refl, sym, ap, ◌∙◌, inl, inr, arith, eqb, eq-eqb, eqb-true, Contains, Ordering, Less, Equal, Greater}
 use Rattle.std.specs.List.{list_any}
-use Rattle.std.specs.Ordering.{nat_cmp, match_ordering, ordering_reverse}
+use Rattle.std.specs.Ordering.{match_ordering, ordering_reverse}
 use Rattle.std.specs.Cmp.{IsTotalOrder, on_total}
-use Rattle.std.specs.Cmp.Lexicographic.{nat_list_cmp_total, slice_cmp}
+use Rattle.std.specs.Cmp.Lexicographic.{nat_list_cmp_total}
 use Rattle.std.specs.FinMap.{slice_cmp-IsAntisymmetric, nat_cmp-IsAntisymmetric}
-use Rattle.std.proofs.lemmas.Bool.{ne_eqb, eqb-false, cases_Bool, cases_eq, both_ways, and_parts, and_from, or_cases, or_left, or_right, true≢false, false≢true, false_from_ne_true}
+use Rattle.std.proofs.lemmas.Bool.{ne_eqb, cases_Bool, cases_eq, and_parts, and_from, or_cases, or_left, or_right, false≢true}
 use Rattle.srm_net.specs.declared.link.DropSpec.{DropSpec}
 use Rattle.srm_net.specs.declared.packet.PacketId.{PacketId}
 use Rattle.srm_net.specs.Orders.{AllAfter, Ascends}
@@ -134,9 +134,6 @@ any_push f (y ∷ ys) x = ap (λ t. f y || t) (any_push f ys x) ∙ turn (f y) (
     turn true false c = refl
     turn false true c = refl
     turn false false c = refl
-
-asked_turn : (d : DropSpec) (p : PacketId) (l : ℕ) → sought d.id d.link (record { link = l; id = p }) ≡ ((d.link == l) && ((d.id.sender == p.sender) && (d.id.count == p.count)))
-asked_turn d p l = refl
 
 -- what an insertion says, as what is listed
 pub listed_more : (old new : List DropSpec) (d : DropSpec) (xs : List DropSpec) (p : PacketId) (l : ℕ)

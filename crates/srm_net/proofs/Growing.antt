@@ -1,14 +1,14 @@
 -- What a grown tree has: all nodes and links once it is large enough, and a cut at each link.
-use Rattle.std.proofs.Common.{◌≡◌, ◌≢◌, ◌⊎◌, ℕ, zero, suc, ◌+◌, ◌<◌, ◌≤◌, Bool, true, false, not, cond, List, [], ◌∷◌, ◌++◌, length, map, Option, Some, None, refl, sym, ap, ◌∙◌, subst, inl, inr, arith, eqb, eq-eqb, eqb-true, slice_get, All}
-use Rattle.std.proofs.lemmas.Bool.{ne_eqb, eqb-false, cases_Bool, cases_eq, both_ways, true≢false, false≢true}
+use Rattle.std.proofs.Common.{◌≡◌, ℕ, zero, suc, ◌+◌, ◌<◌, ◌≤◌, Bool, true, false, not, cond, List, [], ◌∷◌, length, Some, refl, sym, ap, ◌∙◌, subst, inl, inr, arith, eqb, eq-eqb, eqb-true, slice_get, All}
+use Rattle.std.proofs.lemmas.Bool.{ne_eqb, cases_Bool, both_ways, false≢true}
 use Rattle.srm_net.specs.declared.link.LinkSpec.{LinkSpec}
 use Rattle.srm_net.specs.declared.step.Step.{Step}
-use Rattle.srm_net.specs.Network.{Network, Joins, IsWalk, IsPath, IsWithin, IsTree}
+use Rattle.srm_net.specs.Network.{Network, Joins, IsWalk, IsWithin, IsTree}
 use Rattle.srm_net.specs.Paths.{is_in}
 use Rattle.srm_net.specs.Growth.{Attaches, attached, used, Grows}
 use Rattle.srm_net.proofs.Lists.{get_below, all_get}
 use Rattle.srm_net.proofs.Numbers.{Apart, Below, in_head, in_tail, in_cases, not_head, not_tail, not_in, all_below, one_missing}
-use Rattle.srm_net.proofs.Walks.{same_ends, same_link, turned, IsCut, HasCuts}
+use Rattle.srm_net.proofs.Walks.{same_ends, same_link, turned, HasCuts}
 
 pub attached_length : (ss : List Step) → length (attached ss) ≡ length ss + 1
 attached_length [] = refl

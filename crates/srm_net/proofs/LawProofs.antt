@@ -1,22 +1,22 @@
 -- The laws of distances, of the least of them, and of drops.
-use Rattle.std.proofs.Common.{◌≡◌, ◌≢◌, ◌⊎◌, ◌↔◌, ℕ, zero, suc, ◌+◌, ◌*◌, ◌<◌, ◌≤◌, min, Bool, true, false, not, cond, ◌&&◌, ◌||◌, ◌==◌, List, [], ◌∷◌, ◌++◌, length, map, filter, fold, Option, Some, None, refl, sym, ap, ◌∙◌, subst, inl, inr, arith, eqb, eq-eqb, eqb-true, slice_get, slice_index_or, All, Contains, Ordering, Less, Equal, Greater}
+use Rattle.std.proofs.Common.{◌≡◌, ◌≢◌, ◌⊎◌, ◌↔◌, ℕ, zero, suc, ◌+◌, ◌<◌, ◌≤◌, min, Bool, true, false, not, ◌==◌, List, [], ◌∷◌, length, map, filter, fold, Some, None, refl, sym, ap, ◌∙◌, subst, inl, inr, arith, eqb, slice_get, Contains, Less, Equal, Greater}
 use Rattle.std.specs.List.{range_with_len, list_any}
-use Rattle.std.specs.Ordering.{nat_cmp, ordering_reverse}
+use Rattle.std.specs.Ordering.{ordering_reverse}
 use Rattle.std.specs.Cmp.{IsTotalOrder, on_total}
-use Rattle.std.specs.Cmp.Lexicographic.{nat_list_cmp_total, slice_cmp}
+use Rattle.std.specs.Cmp.Lexicographic.{nat_list_cmp_total}
 use Rattle.std.specs.FinMap.{slice_cmp-IsAntisymmetric, nat_cmp-IsAntisymmetric}
-use Rattle.std.proofs.lemmas.Bool.{ne_eqb, eqb-false, cases_Bool, cases_eq, both_ways, true≢false, false≢true, not-true}
+use Rattle.std.proofs.lemmas.Bool.{ne_eqb, eqb-false, cases_Bool, cases_eq, false≢true}
 use Rattle.srm_net.specs.declared.key.Key.{Key}
 use Rattle.srm_net.specs.declared.link.LinkSpec.{LinkSpec}
 use Rattle.srm_net.specs.declared.link.DropSpec.{DropSpec}
-use Rattle.srm_net.specs.declared.packet.PacketId.{PacketId}
-use Rattle.srm_net.specs.Orders.{AllAfter, Ascends}
+use Rattle.srm_net.specs.Orders.{AllAfter}
 use Rattle.srm_net.specs.Keys.{key_cmp, numbers_of_key}
-use Rattle.srm_net.specs.Network.{Network, IsWalk, IsTree, HasDelay, IsNetwork}
+use Rattle.srm_net.specs.Network.{Network, IsTree, IsWalk, HasDelay, IsNetwork}
 use Rattle.srm_net.specs.Paths.{is_in, route, host, member_route, delay_of, delay_along, distance, drop_cmp, is_listed, reaches}
 use Rattle.srm_net.specs.Least.{least, least_delay, others, out}
-use Rattle.srm_net.specs.Laws.{OnePath, DistancesFit, LeastDelayFits, NoLinkNoTwo, OutFits, OutOfTheOnlyOne, ReachesItsSender, SameDropsListed, OneListOfDrops, KeysOrdered}
-use Rattle.srm_net.proofs.Lists.{get_below, below_get, all_get, index_get, get_index}
+use Rattle.srm_net.specs.Growth.{attached}
+use Rattle.srm_net.specs.Laws.{DistancesFit, LeastDelayFits, NoLinkNoTwo, OutFits, OutOfTheOnlyOne, ReachesItsSender, SameDropsListed, OneListOfDrops, KeysOrdered}
+use Rattle.srm_net.proofs.Lists.{all_get}
 use Rattle.srm_net.proofs.Numbers.{in_head, in_tail, in_cases, few_apart, apart_from_distinct}
 use Rattle.srm_net.proofs.Growing.{grows_to, all_attached}
 use Rattle.srm_net.proofs.RouteLemmas.{route_path, route_only}
@@ -26,6 +26,12 @@ use Rattle.srm_net.proofs.DropLemmas.{contains_listed, listed_contains, drop_tot
 
 -- ---- distances
 
+turned_by : (w : Network) → IsTree w → (inside : List ℕ) (u v : ℕ) → u < w.nodes → v < w.nodes → BothWays w.links inside u v → delay_along w.links (route w u v) ≡ delay_along w.links (route w v u)
+turned_by w t inside u v hu hv both =
+    let there = route_only w t u v hu hv both.there.path both.there.nodes both.there.walk both.there.apart in
+    let back = route_only w t v u hv hu both.back.path both.back.nodes both.back.walk both.back.apart in
+    sym (ap (delay_along w.links) there) ∙ both.there.delay_is ∙ sym both.back.delay_is ∙ ap (delay_along w.links) back
+
 pub distance_turns : (w : Network) → IsNetwork w → (a b : ℕ) → a < length w.hosts → b < length w.hosts → distance w a b ≡ distance w b a
 unfolding distance
 distance_turns w n a b ha hb =
@@ -33,13 +39,12 @@ distance_turns w n a b ha hb =
     let one : length w.links + 1 ≡ w.nodes = t.one_fewer in
     let grown = grows_to w t (length w.links) (omega arith) in
     let size : length grown.0 ≡ length w.links = grown.2 in
+    let all : length grown.0 + 1 ≡ w.nodes = omega arith in
     let hu = host_below w n a ha in
     let hv = host_below w n b hb in
-    let both = both_ways_grown w.links grown.0 grown.1 (host w a) (host w b)
-    (all_attached w.nodes w.links grown.0 t.some_nodes t.ends grown.1 (omega arith) (host w a) hu) (all_attached w.nodes w.links grown.0 t.some_nodes t.ends grown.1 (omega arith) (host w b) hv) in
-    let there = route_only w t (host w a) (host w b) hu hv both.there.path both.there.nodes both.there.walk both.there.apart in
-    let back = route_only w t (host w b) (host w a) hv hu both.back.path both.back.nodes both.back.walk both.back.apart in
-    sym (ap (delay_along w.links) there) ∙ both.there.delay_is ∙ sym both.back.delay_is ∙ ap (delay_along w.links) back
+    turned_by w t (attached grown.0) (host w a) (host w b) hu hv
+    (both_ways_grown w.links grown.0 grown.1 (host w a) (host w b)
+    (all_attached w.nodes w.links grown.0 t.some_nodes t.ends grown.1 all (host w a) hu) (all_attached w.nodes w.links grown.0 t.some_nodes t.ends grown.1 all (host w b) hv))
 
 pub distances_fit : DistancesFit
 distances_fit w n a b ha hb = (distance_turns w n a b ha hb, λ d. distance_apart w n a b ha hb d, distance_bounded w n a b ha hb)

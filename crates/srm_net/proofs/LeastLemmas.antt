@@ -1,13 +1,13 @@
 -- Least numbers of lists, and least distances.
-use Rattle.std.proofs.Common.{◌≡◌, ◌≢◌, ◌⊎◌, ℕ, zero, suc, ◌+◌, ◌<◌, ◌≤◌, min, Bool, true, false, not, cond, ◌==◌, List, [], ◌∷◌, ◌++◌, length, take, get_or, map, filter, fold, Option, Some, None, refl, sym, ap, ◌∙◌, subst, inl, inr, arith, eqb, eq-eqb, eqb-true}
+use Rattle.std.proofs.Common.{◌≡◌, ◌≢◌, ℕ, zero, suc, ◌+◌, ◌≤◌, min, not, cond, ◌==◌, List, [], ◌∷◌, ◌++◌, length, take, map, filter, fold, Option, Some, None, refl, sym, ap, ◌∙◌, arith, eq-eqb}
 use Rattle.std.specs.List.{range_with_len}
-use Rattle.std.proofs.lemmas.Bool.{ne_eqb, cases_eq}
-use Rattle.std.proofs.lemmas.List.{map-append, append-nil, map_more, take_all}
+use Rattle.std.proofs.lemmas.Bool.{ne_eqb}
+use Rattle.std.proofs.lemmas.List.{map-append, append-nil, take_all}
 use Rattle.std.proofs.lemmas.List.Elements.{filter-append}
 use Rattle.srm_net.specs.declared.link.LinkSpec.{LinkSpec}
 use Rattle.srm_net.specs.Network.{Network}
 use Rattle.srm_net.specs.Paths.{distance}
-use Rattle.srm_net.specs.Least.{least, least_delay, others, out}
+use Rattle.srm_net.specs.Least.{least, least_delay, out}
 
 -- the least of what there was, if anything, and one more
 abbrev pub least_with : Option ℕ → ℕ → Option ℕ
@@ -57,10 +57,6 @@ out_is w m = refl
 -- the least delay of the first n links
 abbrev pub least_of_first : List LinkSpec → ℕ → Option ℕ
 least_of_first links n = least (map (λ k. k.delay) (take n links))
-
-pub first_links_more : (links : List LinkSpec) (n : ℕ) (d : LinkSpec) → n < length links → least_of_first links (n + 1) ≡ least_with (least_of_first links n) (get_or links n d).delay
-first_links_more links n d h =
-    ap least (map_more (λ (k : LinkSpec). k.delay) links n d h) ∙ least_push (map (λ k. k.delay) (take n links)) (get_or links n d).delay
 
 pub least_delay_is : (w : Network) (n : ℕ) → length w.links ≤ n → least_delay w ≡ least_of_first w.links n
 unfolding least_delay

@@ -1,9 +1,9 @@
 -- Finding the order in which a tree grows.
-use Rattle.std.proofs.Common.{◌≡◌, ◌⊎◌, ℕ, suc, ◌+◌, ◌<◌, ◌≤◌, Bool, true, false, List, [], ◌∷◌, ◌++◌, length, Some, refl, sym, ap, ◌∙◌, subst, inl, inr, arith, slice_get, All}
+use Rattle.std.proofs.Common.{◌≡◌, ℕ, ◌+◌, ◌<◌, ◌≤◌, Bool, true, false, List, [], ◌∷◌, length, refl, sym, ap, ◌∙◌, subst, inl, inr, arith, All}
 use Rattle.std.proofs.lemmas.Bool.{both_ways}
 use Rattle.srm_net.specs.declared.link.LinkSpec.{LinkSpec}
 use Rattle.srm_net.specs.declared.step.Step.{Step}
-use Rattle.srm_net.specs.Network.{Network, plain_network, Joins, IsWithin, IsTree, HasDelay, AreHosts, IsNetwork}
+use Rattle.srm_net.specs.Network.{plain_network, Joins, IsWithin, IsTree, HasDelay, AreHosts, IsNetwork}
 use Rattle.srm_net.specs.Paths.{is_in}
 use Rattle.srm_net.specs.Growth.{Attaches, attached, Grows, LeadsOut, StaysWithin}
 use Rattle.srm_net.specs.Ways.{is_known, TellsWays}

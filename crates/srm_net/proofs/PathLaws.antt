@@ -1,16 +1,16 @@
 -- Members' ways: their delays, and what crosses and is dropped on them.
-use Rattle.std.proofs.Common.{◌≡◌, ◌≢◌, ◌⊎◌, ℕ, zero, suc, ◌+◌, ◌*◌, ◌<◌, ◌≤◌, Bool, true, false, not, cond, ◌&&◌, ◌||◌, List, [], ◌∷◌, ◌++◌, length, Option, Some, None, refl, sym, ap, ◌∙◌, subst, inl, inr, arith, eqb, eq-eqb, eqb-true, slice_get, slice_index, slice_index_or, All, unwrap_or}
-use Rattle.std.specs.List.{list_any, IsDistinct}
-use Rattle.std.proofs.lemmas.Bool.{ne_eqb, eqb-false, cases_Bool, cases_eq, both_ways, true≢false, false≢true, or_left, or_right, or_parts, or_from}
+use Rattle.std.proofs.Common.{◌≡◌, ◌≢◌, ℕ, zero, suc, ◌+◌, ◌*◌, ◌<◌, ◌≤◌, Bool, true, false, not, cond, ◌&&◌, ◌||◌, List, [], ◌∷◌, ◌++◌, length, Some, refl, sym, ap, ◌∙◌, subst, inl, inr, arith, eqb, eq-eqb, eqb-true, slice_get, slice_index, All, unwrap_or}
+use Rattle.std.specs.List.{list_any}
+use Rattle.std.proofs.lemmas.Bool.{ne_eqb, eqb-false, cases_Bool, cases_eq, both_ways, false≢true, or_from}
 use Rattle.srm_net.specs.declared.link.LinkSpec.{LinkSpec}
 use Rattle.srm_net.specs.declared.link.DropSpec.{DropSpec}
 use Rattle.srm_net.specs.declared.packet.PacketId.{PacketId}
-use Rattle.srm_net.specs.Network.{Network, Joins, IsWalk, IsPath, IsWithin, IsTree, HasDelay, AreHosts, IsNetwork}
-use Rattle.srm_net.specs.Paths.{is_in, route_within, route, host, member_route, delay_of, delay_along, distance, is_listed, reaches, crossed_on, dropped_on, some_below, crosses, drops_at}
+use Rattle.srm_net.specs.Network.{Network, Joins, IsWalk, IsWithin, IsTree, HasDelay, IsNetwork}
+use Rattle.srm_net.specs.Paths.{is_in, route_within, route, host, member_route, delay_of, delay_along, distance, is_listed, crossed_on, dropped_on, some_below, crosses, drops_at}
 use Rattle.srm_net.specs.Tables.{is_beyond, near_end, some_beyond}
-use Rattle.srm_net.proofs.Lists.{get_below, below_get, all_get, index_get}
-use Rattle.srm_net.proofs.Numbers.{Apart, Below, in_head, in_tail, in_cases, not_head, not_tail, not_in, not_in_cons, few_apart, apart_from_distinct, distinct_from_apart}
-use Rattle.srm_net.proofs.Walks.{IsCut, HasCuts, way_crosses, walk_first, walk_ends, same_far, same_link, same_ends}
+use Rattle.srm_net.proofs.Lists.{all_get}
+use Rattle.srm_net.proofs.Numbers.{Apart, Below, in_head, in_tail, in_cases, not_head, not_tail, not_in, not_in_cons, few_apart, apart_from_distinct}
+use Rattle.srm_net.proofs.Walks.{IsCut, way_crosses, walk_ends, same_link}
 use Rattle.srm_net.proofs.Growing.{joins_below, tree_cuts}
 use Rattle.srm_net.proofs.RouteLemmas.{route_path, route_only, path_length}
 

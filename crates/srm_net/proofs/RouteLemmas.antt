@@ -1,11 +1,11 @@
 -- The route between two nodes is a path, and is found where there is one.
-use Rattle.std.proofs.Common.{◌≡◌, ◌≢◌, ◌⊎◌, ℕ, zero, suc, ◌+◌, ◌<◌, ◌≤◌, Bool, true, false, not, cond, List, [], ◌∷◌, ◌++◌, length, Option, Some, None, refl, sym, ap, ◌∙◌, subst, inl, inr, arith, eqb, eq-eqb, eqb-true, slice_get, All, unwrap_or}
-use Rattle.std.proofs.lemmas.Bool.{ne_eqb, eqb-false, cases_Bool, cases_eq, both_ways, true≢false, false≢true}
+use Rattle.std.proofs.Common.{◌≡◌, ◌⊎◌, ℕ, zero, suc, ◌+◌, ◌<◌, ◌≤◌, Bool, true, false, List, [], ◌∷◌, length, Option, Some, None, refl, sym, ap, ◌∙◌, subst, inl, inr, arith, eqb, eq-eqb, eqb-true, slice_get, All, unwrap_or}
+use Rattle.std.proofs.lemmas.Bool.{cases_Bool, both_ways, false≢true}
 use Rattle.srm_net.specs.declared.link.LinkSpec.{LinkSpec}
-use Rattle.srm_net.specs.Network.{Network, Joins, IsWalk, IsPath, IsWithin, IsTree}
+use Rattle.srm_net.specs.Network.{Network, Joins, IsWalk, IsWithin, IsTree}
 use Rattle.srm_net.specs.Paths.{is_in, far_end, way_by, unless_passed, way_on, first_way, route_within, route}
-use Rattle.srm_net.proofs.Lists.{get_below, all_get}
-use Rattle.srm_net.proofs.Numbers.{Apart, Below, in_head, in_tail, in_cases, not_head, not_tail, not_in, not_in_cons, few_apart, apart_from_distinct, distinct_from_apart}
+use Rattle.srm_net.proofs.Lists.{all_get}
+use Rattle.srm_net.proofs.Numbers.{Apart, Below, in_tail, in_cases, not_head, not_tail, not_in, not_in_cons, few_apart, apart_from_distinct}
 use Rattle.srm_net.proofs.Walks.{only_path, walk_first}
 use Rattle.srm_net.proofs.Growing.{joins_below, tree_cuts}
 
@@ -38,9 +38,6 @@ joins_far k u x (inr p) =
     ]
 
 -- ---- what was found is a path
-
-abbrev Finds : (ℕ → Option (List ℕ)) → (ℕ → List ℕ → Type 0) → Type 0
-Finds further P = (x : ℕ) (ls : List ℕ) → further x ≡ Some ls → P x ls
 
 unless_found : (further : ℕ → Option (List ℕ)) (passed : List ℕ) (b : Bool) (x : ℕ) (ls : List ℕ) → unless_passed b x further ≡ Some ls → (b ≡ false) × (further x ≡ Some ls)
 unless_found further passed true x ls h = cc

@@ -1,10 +1,10 @@
 -- What a network's tables of sides and of least distances give.
-use Rattle.std.proofs.Common.{◌≡◌, ℕ, suc, ◌+◌, ◌<◌, ◌≤◌, Bool, true, false, not, cond, ◌||◌, List, [], ◌∷◌, ◌++◌, length, Option, Some, None, refl, sym, ap, ◌∙◌, subst, inl, inr, arith, slice_get, slice_index_or, get_or}
+use Rattle.std.proofs.Common.{◌≡◌, ℕ, suc, ◌+◌, ◌<◌, Bool, true, false, not, cond, ◌||◌, List, [], ◌∷◌, ◌++◌, length, Option, Some, sym, ap, ◌∙◌, subst, inl, inr, arith, slice_get, slice_index_or}
 use Rattle.std.proofs.lemmas.Bool.{cases_eq}
 use Rattle.srm_net.specs.declared.link.LinkSpec.{LinkSpec}
 use Rattle.srm_net.specs.declared.sides.Sides.{Sides}
 use Rattle.srm_net.specs.declared.net.Net.TheInside.{Inside}
-use Rattle.srm_net.specs.Network.{Network, IsNetwork}
+use Rattle.srm_net.specs.Network.{Network}
 use Rattle.srm_net.specs.Paths.{host, some_below}
 use Rattle.srm_net.specs.Tables.{is_beyond, near_end, some_beyond, TellsSides}
 use Rattle.srm_net.specs.Least.{out}
@@ -90,16 +90,3 @@ sides_more w n all s e below new l k h g =
 -- the least distances of the members below a number are told
 abbrev pub OutsBelow : Network → ℕ → List (Option ℕ) → Type 0
 OutsBelow w n all = (m : ℕ) → m < n → slice_get all m ≡ Some (out w m)
-
-pub outs_more : (w : Network) (n : ℕ) (all : List (Option ℕ)) (o : Option ℕ) → length all ≡ n → OutsBelow w n all → o ≡ out w n → OutsBelow w (n + 1) (all ++ o ∷ [])
-outs_more w n all o e below new m h =
-    elim (cases_eq m n) [
-      | inl q ↦ subst (λ t. slice_get (all ++ o ∷ []) t ≡ Some (out w t)) (sym q) (get_push_new all o n e ∙ ap Some new)
-      | inr q ↦ get_push_old all o m (omega arith) ∙ below m (omega arith)
-    ]
-
-pub few_links : (w : Network) → IsNetwork w → length w.links ≤ 255
-few_links w n =
-    let few : w.nodes ≤ 256 = n.tree.few_nodes in
-    let one : length w.links + 1 ≡ w.nodes = n.tree.one_fewer in
-    omega arith

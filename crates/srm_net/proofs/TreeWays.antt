@@ -1,18 +1,18 @@
 -- The ways between the nodes of a growing tree.
-use Rattle.std.proofs.Common.{◌≡◌, ◌≢◌, ◌⊎◌, ℕ, zero, suc, ◌+◌, ◌*◌, ◌<◌, ◌≤◌, Bool, true, false, not, cond, List, [], ◌∷◌, ◌++◌, length, take, drop, reverse, replicate, Option, Some, None, refl, sym, ap, ◌∙◌, subst, inl, inr, arith, eqb, eq-eqb, eqb-true, slice_get, slice_set, slice_index_or, unwrap_or, All, get_or, ◌||◌}
-use Rattle.std.proofs.lemmas.Bool.{ne_eqb, eqb-false, cases_Bool, cases_eq, both_ways, true≢false, false≢true}
+use Rattle.std.proofs.Common.{◌≡◌, ◌≢◌, ℕ, zero, suc, ◌+◌, ◌*◌, ◌<◌, ◌≤◌, Bool, true, false, cond, List, [], ◌∷◌, ◌++◌, length, take, drop, reverse, replicate, Some, refl, sym, ap, ◌∙◌, subst, inl, inr, arith, eqb, eq-eqb, slice_get, slice_set, unwrap_or, All, get_or, ◌||◌}
+use Rattle.std.proofs.lemmas.Bool.{ne_eqb, cases_eq, both_ways, false≢true}
 use Rattle.std.proofs.lemmas.List.{take-append-drop, reverse-append, take_more, length-replicate, get_or-set_same, get_or-set_other}
 use Rattle.srm_net.specs.declared.link.LinkSpec.{LinkSpec}
 use Rattle.srm_net.specs.declared.step.Step.{Step}
 use Rattle.srm_net.specs.declared.ways.Ways.{Ways}
-use Rattle.srm_net.specs.Network.{Network, Joins, IsWalk, IsPath, IsWithin, HasDelay}
+use Rattle.srm_net.specs.Network.{Joins, IsWalk, IsWithin, HasDelay}
 use Rattle.srm_net.specs.Paths.{is_in, delay_of, delay_along}
 use Rattle.srm_net.specs.Growth.{Attaches, attached, Grows}
-use Rattle.srm_net.specs.Grids.{cell, number_at}
-use Rattle.srm_net.specs.Ways.{is_known, Extends, Leads, IsWayOf, TellsWays}
-use Rattle.srm_net.proofs.Lists.{get_below, all_get}
+use Rattle.srm_net.specs.Grids.{number_at}
+use Rattle.srm_net.specs.Ways.{is_known, Extends, Leads, TellsWays}
+use Rattle.srm_net.proofs.Lists.{get_below}
 use Rattle.srm_net.proofs.Numbers.{Apart, Below, in_head, in_tail, in_cases, not_in, in_append_cases, apart_push, few_apart, distinct_from_apart}
-use Rattle.srm_net.proofs.Walks.{walk_first, walk_last, turned}
+use Rattle.srm_net.proofs.Walks.{walk_last, turned}
 use Rattle.srm_net.proofs.Growing.{attached_below, all_attached}
 use Rattle.srm_net.proofs.RouteLemmas.{walk_length}
 use Rattle.srm_net.proofs.PathLaws.{delay_at_most}

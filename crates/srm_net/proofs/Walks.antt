@@ -1,14 +1,10 @@
 -- Walks and paths in a list of links.
-use Rattle.std.proofs.Common.{◌≡◌, ◌≢◌, ◌⊎◌, ℕ, zero, suc, ◌+◌, ◌<◌, ◌≤◌, Bool, true, false, not, cond, ◌||◌, List, [], ◌∷◌, ◌++◌, length, Option, Some, None, refl, sym, ap, ◌∙◌, subst, inl, inr, arith, eqb, nat_eq, eq-eqb, eqb-true, slice_get}
-use Rattle.std.proofs.lemmas.Bool.{or_cases, or_parts, or_left, or_right, or_from, ne_eqb, cases_Bool, cases_eq, both_ways, true≢false, false≢true, false_from_ne_true}
+use Rattle.std.proofs.Common.{◌≡◌, ◌⊎◌, ℕ, Bool, true, false, not, cond, List, [], ◌∷◌, Some, refl, sym, ap, ◌∙◌, subst, inl, inr, eqb, eqb-true, slice_get}
+use Rattle.std.proofs.lemmas.Bool.{cases_Bool, both_ways, true≢false, false≢true}
 use Rattle.srm_net.specs.declared.link.LinkSpec.{LinkSpec}
-use Rattle.srm_net.specs.Network.{Joins, IsWalk, IsPath}
+use Rattle.srm_net.specs.Network.{Joins, IsWalk}
 use Rattle.srm_net.specs.Paths.{is_in}
-use Rattle.srm_net.proofs.Numbers.{Apart, in_head, in_tail, in_cases, not_head, not_tail, not_in, not_in_cons}
-
--- a path, with its nodes
-abbrev pub Way : List LinkSpec → ℕ → List ℕ → ℕ → List ℕ → Type 0
-Way links u ls v ns = IsWalk links u ls v ns × Apart ns
+use Rattle.srm_net.proofs.Numbers.{Apart, in_head, in_tail, in_cases, not_in}
 
 pub walk_first : (links : List LinkSpec) (u : ℕ) (ls : List ℕ) (v : ℕ) (ns : List ℕ) → IsWalk links u ls v ns → is_in ns u ≡ true
 walk_first links u [] v ns w = subst (λ z. is_in z u ≡ true) (sym w.1) (in_head u [])

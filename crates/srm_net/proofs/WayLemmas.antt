@@ -1,6 +1,6 @@
 -- Tables of ways, and how they grow by a node.
-use Rattle.std.proofs.Common.{◌≡◌, ◌≢◌, ◌⊎◌, ℕ, suc, ◌+◌, ◌*◌, ◌<◌, ◌≤◌, Bool, true, false, not, cond, ◌&&◌, ◌||◌, ◌==◌, List, [], ◌∷◌, length, Option, Some, None, refl, sym, ap, ◌∙◌, subst, inl, inr, arith, eqb, eq-eqb, eqb-true, slice_get, slice_index_or, unwrap_or}
-use Rattle.std.proofs.lemmas.Bool.{ne_eqb, eqb-false, cases_Bool, cases_eq, both_ways, true≢false, false≢true}
+use Rattle.std.proofs.Common.{◌≡◌, ◌≢◌, ℕ, ◌+◌, ◌<◌, Bool, true, false, cond, ◌&&◌, ◌==◌, List, Some, refl, sym, ap, ◌∙◌, subst, inl, inr, arith, eq-eqb, unwrap_or}
+use Rattle.std.proofs.lemmas.Bool.{ne_eqb, cases_eq, both_ways}
 use Rattle.srm_net.specs.Grids.{cell, number_at}
 use Rattle.srm_net.specs.Ways.{is_known, IsApartFrom}
 
@@ -27,13 +27,6 @@ pub record Filled (upto : ℕ) (known : List Bool) (node : ℕ) (there back : �
   pub there_is : (u : ℕ) → u < upto → u < width → is_known known u ≡ true → number_at width new u node ≡ there u
   pub back_is : (u : ℕ) → u < upto → u < width → is_known known u ≡ true → number_at width new node u ≡ back u
   pub kept : (u x : ℕ) → x < width → IsApartFrom node u x → number_at width new u x ≡ number_at width old u x
-
-pub filled_none : (known : List Bool) (node : ℕ) (there back : ℕ → ℕ) (width : ℕ) (xs : List ℕ) → Filled 0 known node there back width xs xs
-filled_none known node there back width xs = record {
-  there_is = λ u h. absurd (omega arith);
-  back_is = λ u h. absurd (omega arith);
-  kept = λ u x h a. refl;
-}
 
 pub filled_more : (i : ℕ) (known : List Bool) (node : ℕ) (there back : ℕ → ℕ) (width : ℕ) (old now mid new : List ℕ)
     → Filled i known node there back width old now → i < width → node < width → i ≢ node → Puts width now mid i node (there i) → Puts width mid new node i (back i)
@@ -62,13 +55,6 @@ filled_more i known node there back width old now mid new f hi hn d p q = record
   where
     put_other_column_or_row : (u x : ℕ) → u ≡ node → u ≡ x → x < width → number_at width mid u x ≡ number_at width old u x
     put_other_column_or_row u x s e h = put_other_row width now mid i node (there i) u x p h (λ t. d (sym t ∙ s)) ∙ f.kept u x h (inr e)
-
-pub filled_skip : (i : ℕ) (known : List Bool) (node : ℕ) (there back : ℕ → ℕ) (width : ℕ) (old new : List ℕ) → Filled i known node there back width old new → is_known known i ≡ false → Filled (i + 1) known node there back width old new
-filled_skip i known node there back width old new f n = record {
-  there_is = λ u lt h k. elim (cases_eq u i) [ inl e ↦ absurd (both_ways _ n (subst (λ t. is_known known t ≡ true) e k)) | inr m ↦ f.there_is u (omega arith) h k ];
-  back_is = λ u lt h k. elim (cases_eq u i) [ inl e ↦ absurd (both_ways _ n (subst (λ t. is_known known t ≡ true) e k)) | inr m ↦ f.back_is u (omega arith) h k ];
-  kept = f.kept;
-}
 
 -- ---- one node's writes
 

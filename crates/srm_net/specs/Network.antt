@@ -1,5 +1,5 @@
 -- A plain network: nodes, links between them, and the nodes that host members.
-use Rattle.std.specs.Prelude.{◌≡◌, ◌⊎◌, ℕ, ◌+◌, ◌<◌, ◌≤◌, All, List, [], ◌∷◌, Option, Some, length, slice_get, nat_eq}
+use Rattle.std.specs.Prelude.{◌≡◌, ◌⊎◌, ℕ, ◌+◌, ◌<◌, ◌≤◌, All, List, [], ◌∷◌, Some, length, slice_get, nat_eq}
 use Rattle.std.specs.List.{IsDistinct}
 use Rattle.srm_net.specs.declared.link.LinkSpec.{LinkSpec}
 

@@ -78,7 +78,7 @@ impl<T: Copy> Clone for Sequence<T> {
     ghost is_clone = { λ s t. t ≡ s };
 
     fn clone(&self) -> Result<Self, AllocError> {
-        let items = Vec::from_slice(*self.items.allocator(), self.items.as_slice())?;
+        let items = Vec::from_slice(*self.items.allocator(), self.as_slice())?;
         Ok(Sequence { items })
     }
 }

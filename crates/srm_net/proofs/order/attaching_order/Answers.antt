@@ -1,7 +1,7 @@
-use Rattle.std.proofs.Common.{◌≡◌, ◌∙◌, sym, ap, subst, inr, refl, arith, length, reverse, ◌+◌, ◌<◌, ◌≤◌, ◌∷◌, ◌++◌, [], All, true, slice_set}
+use Rattle.std.proofs.Common.{◌≡◌, ◌∙◌, sym, ap, subst, inr, refl, arith, length, reverse, ◌+◌, ◌<◌, ◌∷◌, ◌++◌, [], All, true, slice_set}
 use Rattle.std.proofs.lemmas.List.{length-set, length-reverse, reverse-append, length_push}
 use Rattle.srm_net.specs.Network.{IsWithin}
-use Rattle.srm_net.specs.Growth.{Attaches, attached, Grows, LeadsOut, StaysWithin}
+use Rattle.srm_net.specs.Growth.{Grows}
 use Rattle.srm_net.proofs.TreeWays.{KnownAre, known_more}
 use Rattle.srm_net.proofs.OrderLemmas.{stuck_no_tree, whole_tree, leads_attaches, leads_below}
 use Rattle.srm_net.proofs.order.attaching_order.Goals as goal

@@ -1,4 +1,4 @@
-use Rattle.std.proofs.Common.{◌∙◌, ◌≡◌, sym, ap, false}
+use Rattle.std.proofs.Common.{◌∙◌, ◌≡◌, sym, ap}
 use Rattle.std.proofs.lemmas.Bool.{both_ways, false_from_ne_true}
 use Rattle.srm_net.specs.DropSets.{has_packet}
 use Rattle.srm_net.specs.Paths.{is_listed}

@@ -1,4 +1,4 @@
-use Rattle.std.proofs.Common.{◌≡◌, ◌∙◌, sym, ap, arith, ◌<◌, length, true, false}
+use Rattle.std.proofs.Common.{◌∙◌, sym, arith, ◌<◌, length, true, false}
 use Rattle.srm_net.proofs.BuiltLemmas.{seen_link}
 use Rattle.srm_net.proofs.ToldLemmas.{side_below, near_seen, any_seen}
 use Rattle.srm_net.proofs.net.Net.beyond.Goals as goal

@@ -1,4 +1,4 @@
-use Rattle.std.proofs.Common.{◌≡◌, ◌∙◌, sym, subst, All, rules}
+use Rattle.std.proofs.Common.{◌≡◌, All, rules}
 use Rattle.srm_net.specs.Network.{HasDelay, AreHosts}
 use Rattle.srm_net.proofs.OrderLemmas.{built_tree}
 use Rattle.srm_net.proofs.net.Net.build.Goals as goal

@@ -1,4 +1,4 @@
-use Rattle.std.proofs.Common.{◌≡◌, ◌∙◌, sym, ap, arith, subst, ◌<◌, length, get_or}
+use Rattle.std.proofs.Common.{◌∙◌, ap, arith, ◌<◌, length, get_or}
 use Rattle.srm_net.specs.Network.{Network}
 use Rattle.srm_net.specs.Least.{out}
 use Rattle.srm_net.proofs.Lists.{get_below, get_index}

@@ -1,4 +1,4 @@
-use Rattle.std.proofs.Common.{◌≡◌, ◌∙◌, ap, not}
+use Rattle.std.proofs.Common.{◌∙◌, ap, not}
 use Rattle.std.specs.List.{list_any}
 use Rattle.srm_net.specs.Network.{Network}
 use Rattle.srm_net.specs.Paths.{is_listed, host, route, reaches}

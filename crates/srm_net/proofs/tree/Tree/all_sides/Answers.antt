@@ -1,4 +1,4 @@
-use Rattle.std.proofs.Common.{◌≡◌, ◌∙◌, sym, ap, subst, arith, length, ◌+◌, ◌++◌, ◌∷◌, [], ◌<◌, ◌≤◌}
+use Rattle.std.proofs.Common.{◌∙◌, sym, ap, subst, arith, length, ◌+◌}
 use Rattle.std.proofs.lemmas.List.{length_push}
 use Rattle.srm_net.proofs.Lists.{get_below}
 use Rattle.srm_net.proofs.ToldLemmas.{SidesBelow, sides_more}

@@ -1,4 +1,4 @@
-use Rattle.std.proofs.Common.{◌≡◌, ◌∙◌, sym, refl, arith, eq-eqb, ◌<◌, length}
+use Rattle.std.proofs.Common.{refl, arith, eq-eqb, ◌<◌, length}
 use Rattle.std.proofs.lemmas.Bool.{ne_eqb}
 use Rattle.srm_net.specs.Built.{plain_of}
 use Rattle.srm_net.proofs.BuiltLemmas.{first_below, first_seen, seen_below}

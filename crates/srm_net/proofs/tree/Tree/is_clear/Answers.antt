@@ -1,4 +1,4 @@
-use Rattle.std.proofs.Common.{◌≡◌, ◌∙◌, sym, ap, not}
+use Rattle.std.proofs.Common.{◌∙◌, sym, ap, not}
 use Rattle.std.specs.List.{list_any}
 use Rattle.srm_net.specs.Paths.{is_listed, route}
 use Rattle.srm_net.proofs.PathLaws.{any_none, route_nowhere}

@@ -1,4 +1,4 @@
-use Rattle.std.proofs.Common.{◌≡◌, ◌∙◌, sym, ap, subst, ◌≤◌, length}
+use Rattle.std.proofs.Common.{◌∙◌, sym, ap, subst, ◌≤◌, length}
 use Rattle.srm_net.proofs.LeastLemmas.{least_delay_is}
 use Rattle.srm_net.proofs.tree.Tree.least_delay.Goals as goal
 

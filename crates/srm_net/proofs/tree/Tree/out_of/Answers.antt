@@ -1,4 +1,4 @@
-use Rattle.std.proofs.Common.{◌≡◌, ◌∙◌, sym, ap, subst, arith, Some, length, ◌≤◌, ℕ}
+use Rattle.std.proofs.Common.{◌≡◌, ◌∙◌, sym, ap, arith, Some, length}
 use Rattle.srm_net.proofs.LeastLemmas.{least_below, least_with, least_same, least_other, out_is}
 use Rattle.srm_net.proofs.tree.Tree.out_of.Goals as goal
 use Rattle.srm_net.proofs.tree.Tree.out_of.Goals.{in-None, in-Some}

@@ -1,4 +1,4 @@
-use Rattle.std.proofs.Common.{◌≡◌, ◌∙◌, sym, ap, subst, arith, length}
+use Rattle.std.proofs.Common.{◌≡◌, ◌∙◌, sym, ap, arith, length}
 use Rattle.srm_net.proofs.ToldLemmas.{some_near_a, some_near_b, first_beyond, first_near}
 use Rattle.srm_net.proofs.tree.Tree.sides_of.Goals as goal
 use Rattle.srm_net.proofs.tree.Tree.sides_of.Goals.{then-is_beyond, else-is_beyond}

@@ -1,8 +1,8 @@
-use Rattle.std.proofs.Common.{◌≡◌, ◌≢◌, ◌∙◌, sym, ap, subst, refl, ℕ, ◌+◌, ◌<◌, cond, eqb, true, inl, length, arith, eq-eqb, unwrap_or}
+use Rattle.std.proofs.Common.{◌≡◌, ◌≢◌, ◌∙◌, sym, ap, refl, ◌+◌, cond, eqb, true, inl, length, eq-eqb}
 use Rattle.std.proofs.lemmas.Bool.{ne_eqb}
 use Rattle.srm_net.specs.Grids.{number_at}
 use Rattle.srm_net.specs.Ways.{is_known}
-use Rattle.srm_net.proofs.WayLemmas.{Filled, Puts, filled_more, puts_as, number_read, known_differ}
+use Rattle.srm_net.proofs.WayLemmas.{Puts, filled_more, puts_as, number_read, known_differ}
 use Rattle.srm_net.proofs.ways.Ways.attach.Goals as goal
 use Rattle.srm_net.proofs.ways.Ways.attach.Goals.{then-near-parent, else-near-parent}
 

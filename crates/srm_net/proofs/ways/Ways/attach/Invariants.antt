@@ -1,6 +1,5 @@
-use Rattle.std.proofs.Common.{◌≡◌, ℕ, ◌+◌, ◌<◌, length, true, cond, eqb}
+use Rattle.std.proofs.Common.{◌≡◌, ◌+◌, length, cond, eqb}
 use Rattle.srm_net.specs.Grids.{number_at}
-use Rattle.srm_net.specs.Ways.{is_known, IsApartFrom}
 use Rattle.srm_net.proofs.WayLemmas.{Filled}
 use Rattle.srm_net.proofs.ways.Ways.attach.Given as goal
 

@@ -1,14 +1,12 @@
-use Rattle.std.proofs.Common.{◌≡◌, ◌∙◌, sym, ap, subst, arith, ℕ, ◌+◌, ◌<◌, ◌≤◌, true, false, length, take, reverse, get_or, ◌∷◌, ◌*◌, [], slice_set}
-use Rattle.std.proofs.lemmas.List.{take_all, length-set, length-replicate, length-take, length-reverse}
+use Rattle.std.proofs.Common.{◌≡◌, ◌∙◌, sym, ap, subst, arith, ◌+◌, ◌<◌, ◌≤◌, true, false, length, take, reverse, get_or, ◌∷◌, ◌*◌, [], slice_set}
+use Rattle.std.proofs.lemmas.List.{take_all, length-set, length-replicate, length-reverse}
 use Rattle.srm_net.specs.declared.link.LinkSpec.{LinkSpec}
-use Rattle.srm_net.specs.declared.step.Step.{Step}
-use Rattle.srm_net.specs.Network.{IsWithin, HasDelay}
 use Rattle.srm_net.specs.Paths.{is_in}
-use Rattle.srm_net.specs.Growth.{Attaches, attached, Grows}
+use Rattle.srm_net.specs.Growth.{attached}
 use Rattle.srm_net.specs.Grids.{number_at}
 use Rattle.srm_net.specs.Ways.{is_known, Extends, Leads}
 use Rattle.srm_net.proofs.Lists.{get_index}
-use Rattle.srm_net.proofs.TreeWays.{TellsSoFar, KnownAre, tells_more, tells_root, tells_all, told_bounded, Turn, turn_at, no_step, known_more, known_root, reverse_more}
+use Rattle.srm_net.proofs.TreeWays.{TellsSoFar, KnownAre, tells_more, tells_root, tells_all, told_bounded, turn_at, no_step, known_more, known_root, reverse_more}
 use Rattle.srm_net.proofs.ways.Ways.of.Goals as goal
 
 -- a link of no use but as a default
