@@ -1,5 +1,5 @@
 -- No two events that a cell has pending have one key.
-use Rattle.std.proofs.Common.{◌≡◌, ◌≢◌, ℕ, suc, ◌<◌, ◌≤◌, T, List, [], ◌∷◌, ◌++◌, map, refl, sym, ap, ◌∙◌, ◌⊎◌, inl, inr, arith, Less, Equal, Greater}
+use Rattle.std.proofs.Common.{◌≡◌, ◌≢◌, ℕ, T, List, [], ◌∷◌, ◌++◌, map, refl, sym, ap, ◌∙◌, inl, inr, arith, Less, Equal, Greater}
 use Rattle.std.specs.Ordering.{ordering_reverse}
 use Rattle.std.specs.FinMap.Entries.{is_sorted, below_all}
 use Rattle.srm_net.specs.declared.key.Key.{Key}
@@ -13,14 +13,14 @@ use Rattle.srm_member.specs.declared.due.Due.{Due}
 use Rattle.srm_member.specs.declared.entries.Missing.{Missing}
 use Rattle.srm_member.specs.declared.entries.Repairing.{Repairing}
 use Rattle.srm_member.specs.Record.{Memory, Record, Active, Gone, timers}
-use Rattle.srm_member.proofs.AllIn.{AllIn, AllIn-map}
+use Rattle.srm_member.proofs.AllIn.{AllIn, AllIn-each, AllIn-map}
 use Rattle.srm_member.proofs.OrderLemmas.{key_total}
 use Rattle.srm_member.proofs.FewerTimers.{T_first, T_second, T_less, SoundRecord}
 use Rattle.srm_cell.specs.declared.flight.Flight.{Flight}
 use Rattle.srm_cell.specs.Flights.{flight_cmp}
 use Rattle.srm_cell.specs.Setting.{HasOwnRanks}
 use Rattle.srm_cell.specs.Cells.{PlainCell, arrival_key, mark_key, timer_key, pending_keys, DiffersFrom, AllDiffer}
-use Rattle.srm_cell.proofs.Clear.{Differs, differ_rank, timer_differs, IsDistinct, flights_differ, marks_differ, marks_apart, due_ranks, dues_apart, all_here}
+use Rattle.srm_cell.proofs.Clear.{Differs, differ_rank, timer_differs, IsDistinct, flights_differ, marks_differ, marks_apart, due_ranks, dues_apart}
 
 key_self : (k : Key) → key_cmp k k ≡ Equal
 key_self k = elim (key_cmp k k) as (λ r. key_cmp k k ≡ r → key_cmp k k ≡ Equal) [
@@ -82,8 +82,8 @@ memory_differs m mem h g =
     rw (map_both (timer_key m) (due (λ (v : Missing). v.expiry) m 2) (due (λ (v : Repairing). v.expiry) m 3) mem.missing mem.repairs)
     (all_differ_append _ _ (dues_differ (λ (v : Missing). v.expiry) m 2 mem.missing h) (dues_differ (λ (v : Repairing). v.expiry) m 3 mem.repairs g)
     (AllIn-map (λ x. DiffersFrom x (map (λ e. timer_key m (due (λ (v : Repairing). v.expiry) m 3 e)) mem.repairs)) _ mem.missing
-    (all_here _ (λ e. from_all (timer_key m (due (λ (v : Missing). v.expiry) m 2 e)) _ mem.repairs
-    (all_here _ (λ x. differ_rank (timer_key m (due (λ (v : Missing). v.expiry) m 2 e)) (timer_key m (due (λ (v : Repairing). v.expiry) m 3 x)) (λ q. let r : ◌≡◌ {A = ℕ} 2 3 = q in omega arith)) mem.repairs)) mem.missing)))
+    (AllIn-each _ (λ e. from_all (timer_key m (due (λ (v : Missing). v.expiry) m 2 e)) _ mem.repairs
+    (AllIn-each _ (λ x. differ_rank (timer_key m (due (λ (v : Missing). v.expiry) m 2 e)) (timer_key m (due (λ (v : Repairing). v.expiry) m 3 x)) (λ q. let r : ◌≡◌ {A = ℕ} 2 3 = q in omega arith)) mem.repairs)) mem.missing)))
 
 timers_differ : (m : ℕ) (r : Record) → SoundRecord r → AllDiffer (map (timer_key m) (timers r))
 timers_differ m (Active mem) s = memory_differs m mem s.asks s.answers
@@ -94,8 +94,8 @@ marks_and_timers m r [] h = tt
 marks_and_timers m r (k ∷ ks) h =
     let own = h.0 in (
       from_all (mark_key m k) (timer_key m) (timers r) (dues_apart m (mark_key m k) (timers r)
-      (λ e. let q : k.rank ≡ 2 = e in elim own [ inl z ↦ omega arith | inr z ↦ omega arith ])
-      (λ e. let q : k.rank ≡ 3 = e in elim own [ inl z ↦ omega arith | inr z ↦ omega arith ]) (due_ranks r)),
+          (λ e. let q : k.rank ≡ 2 = e in elim own [ inl z ↦ omega arith | inr z ↦ omega arith ])
+          (λ e. let q : k.rank ≡ 3 = e in elim own [ inl z ↦ omega arith | inr z ↦ omega arith ]) (due_ranks r)),
       marks_and_timers m r ks h.1,
     )
 
@@ -107,6 +107,6 @@ cell_keys_differ m c d s =
     (all_differ_append marks dues (all_marks_differ m c.script d.marks) (timers_differ m c.holds s)
     (AllIn-map (λ x. DiffersFrom x (map (timer_key m) (timers c.holds))) (mark_key m) c.script (marks_and_timers m c.holds c.script d.ranks)))
     (AllIn-map (λ x. DiffersFrom x (map (mark_key m) c.script ++ map (timer_key m) (timers c.holds))) (arrival_key m) c.inbox
-    (all_here _ (λ f. differs_append (arrival_key m f) (map (mark_key m) c.script) (map (timer_key m) (timers c.holds))
+    (AllIn-each _ (λ f. differs_append (arrival_key m f) (map (mark_key m) c.script) (map (timer_key m) (timers c.holds))
     (from_all (arrival_key m f) (mark_key m) c.script (marks_apart m (arrival_key m f) c.script d.ranks (omega arith) (omega arith)))
     (from_all (arrival_key m f) (timer_key m) (timers c.holds) (dues_apart m (arrival_key m f) (timers c.holds) (λ e. let q : ◌≡◌ {A = ℕ} 1 2 = e in omega arith) (λ e. let q : ◌≡◌ {A = ℕ} 1 3 = e in omega arith) (due_ranks c.holds)))) c.inbox))

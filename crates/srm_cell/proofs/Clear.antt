@@ -10,7 +10,7 @@ use Rattle.srm_cell.proofs.Tidy.{NotBefore, flight_keys, mark_keys}
 use Rattle.srm_cell.specs.Flights.{flight_cmp}
 use Rattle.srm_cell.specs.Setting.{HasOwnRanks}
 use Rattle.srm_cell.specs.declared.flight.Flight.{Flight}
-use Rattle.srm_member.proofs.AllIn.{AllIn, AllIn-append, AllIn-map}
+use Rattle.srm_member.proofs.AllIn.{AllIn, AllIn-append, AllIn-each, AllIn-map, AllIn-weaker}
 use Rattle.srm_member.proofs.Bounds.{draw_pos}
 use Rattle.srm_member.proofs.FewerTimers.{In, IsSound, SoundRecord, T_first, T_less, T_second, found, in_append, in_map, name_self, name_total, no_table}
 use Rattle.srm_member.proofs.LawProofs.{as_active}
@@ -108,14 +108,6 @@ module _ {V : Type 0} (p : V → Type 0) where
     | false ↦ λ q. ((λ x. absurd (true≢false (sym (ap is_eq x) ∙ q))), without_clear n es)
   ] refl
 
-pub all_in : {A : Type 0} (P Q : A → Type 0) → ((x : A) → P x → Q x) → (xs : List A) → AllIn P xs → AllIn Q xs
-all_in P Q f [] h = tt
-all_in P Q f (x ∷ xs) h = (f x h.0, all_in P Q f xs h.1)
-
-pub all_here : {A : Type 0} (Q : A → Type 0) → ((x : A) → Q x) → (xs : List A) → AllIn Q xs
-all_here Q f [] = tt
-all_here Q f (x ∷ xs) = (f x, all_here Q f xs)
-
 -- ---- after a timer is handled, no timer has its key
 
 module _ (m t : ℕ) (mem : Memory) (sound : IsSound mem) (n : Name) where
@@ -138,16 +130,16 @@ module _ (m t : ℕ) (mem : Memory) (sound : IsSound mem) (n : Name) where
       let lt : t < t + len = (let one = draw_pos (pcg32 mem.words).0 (span (min (x.backoffs + 1) 10) mem.fixed.c1 mem.fixed.c2 (distance_to mem n.source)) in omega arith) in
       let v : Missing = record { detected = x.detected; expiry = t + len; backoffs = min (x.backoffs + 1) 10; ignore = t + len / 2 } in
       clear_of AskKey (back_off t n x mem)
-      (all_in (Clear (λ (y : Missing). y.expiry ≢ t) n) (λ e. Differs AskKey (timer_key m (record { time = e.1.expiry; rank = 2; name = e.0 }))) (λ e c. timer_differs m 2 t n e.0 e.1.expiry c) (put name_cmp n v mem.missing)
+      (AllIn-weaker (Clear (λ (y : Missing). y.expiry ≢ t) n) (λ e. Differs AskKey (timer_key m (record { time = e.1.expiry; rank = 2; name = e.0 }))) (λ e c. timer_differs m 2 t n e.0 e.1.expiry c) (put name_cmp n v mem.missing)
       (put_clear (λ (y : Missing). y.expiry ≢ t) n v mem.missing sound.asks (λ q. omega arith)))
-      (all_here (λ e. Differs AskKey (timer_key m (record { time = e.1.expiry; rank = 3; name = e.0 }))) (λ e. differ_rank AskKey (timer_key m (record { time = e.1.expiry; rank = 3; name = e.0 })) (λ q. let r : ◌≡◌ {A = ℕ} 2 3 = q in omega arith)) mem.repairs)
+      (AllIn-each (λ e. Differs AskKey (timer_key m (record { time = e.1.expiry; rank = 3; name = e.0 }))) (λ e. differ_rank AskKey (timer_key m (record { time = e.1.expiry; rank = 3; name = e.0 })) (λ q. let r : ◌≡◌ {A = ℕ} 2 3 = q in omega arith)) mem.repairs)
 
   answered_clear : (w : Repairing) → In (n, w) mem.repairs → (o : Option Repairing) → find name_cmp n mem.repairs ≡ o → ClearOf AnswerKey (answering_at t n mem o).memory
   answered_clear w h None e = absurd (found (λ (x : Repairing). true) n w mem.repairs h e)
   answered_clear w h (Some x) e =
       clear_of AnswerKey (resting t n mem.fixed.member mem)
-      (all_here (λ e. Differs AnswerKey (timer_key m (record { time = e.1.expiry; rank = 2; name = e.0 }))) (λ e. differ_rank AnswerKey (timer_key m (record { time = e.1.expiry; rank = 2; name = e.0 })) (λ q. let r : ◌≡◌ {A = ℕ} 3 2 = q in omega arith)) mem.missing)
-      (all_in (Clear (λ (y : Repairing). y.expiry ≢ t) n) (λ e. Differs AnswerKey (timer_key m (record { time = e.1.expiry; rank = 3; name = e.0 }))) (λ e c. timer_differs m 3 t n e.0 e.1.expiry c) (without n mem.repairs)
+      (AllIn-each (λ e. Differs AnswerKey (timer_key m (record { time = e.1.expiry; rank = 2; name = e.0 }))) (λ e. differ_rank AnswerKey (timer_key m (record { time = e.1.expiry; rank = 2; name = e.0 })) (λ q. let r : ◌≡◌ {A = ℕ} 3 2 = q in omega arith)) mem.missing)
+      (AllIn-weaker (Clear (λ (y : Repairing). y.expiry ≢ t) n) (λ e. Differs AnswerKey (timer_key m (record { time = e.1.expiry; rank = 3; name = e.0 }))) (λ e c. timer_differs m 3 t n e.0 e.1.expiry c) (without n mem.repairs)
       (without_clear (λ (y : Repairing). y.expiry ≢ t) n mem.repairs))
 
   pub asks_clear : (w : Missing) → In (n, w) mem.missing → ClearOf AskKey (react mem t (Ask n)).memory
@@ -194,12 +186,12 @@ marks_apart m k (l ∷ ls) h low high = (differ_rank k (mark_key m l) (λ e. eli
 -- a cell's timers have ranks 2 and 3
 pub due_ranks : (holds : Record) → AllIn (λ (d : Due). (d.rank ≡ 2) ⊎ (d.rank ≡ 3)) (timers holds)
 due_ranks (Active m) = AllIn-append (λ (d : Due). (d.rank ≡ 2) ⊎ (d.rank ≡ 3)) _ _
-    (AllIn-map (λ (d : Due). (d.rank ≡ 2) ⊎ (d.rank ≡ 3)) _ m.missing (all_here _ (λ e. inl refl) m.missing))
-    (AllIn-map (λ (d : Due). (d.rank ≡ 2) ⊎ (d.rank ≡ 3)) _ m.repairs (all_here _ (λ e. inr refl) m.repairs))
+    (AllIn-map (λ (d : Due). (d.rank ≡ 2) ⊎ (d.rank ≡ 3)) _ m.missing (AllIn-each _ (λ e. inl refl) m.missing))
+    (AllIn-map (λ (d : Due). (d.rank ≡ 2) ⊎ (d.rank ≡ 3)) _ m.repairs (AllIn-each _ (λ e. inr refl) m.repairs))
 due_ranks (Gone f) = tt
 
 pub dues_apart : (m : ℕ) (k : Key) (ds : List Due) → k.rank ≢ 2 → k.rank ≢ 3 → AllIn (λ (d : Due). (d.rank ≡ 2) ⊎ (d.rank ≡ 3)) ds → AllIn (λ d. Differs k (timer_key m d)) ds
-dues_apart m k ds two three h = all_in (λ (d : Due). (d.rank ≡ 2) ⊎ (d.rank ≡ 3)) (λ d. Differs k (timer_key m d)) (λ d r. differ_rank k (timer_key m d) (λ e. elim r [ inl q ↦ two (e ∙ q) | inr q ↦ three (e ∙ q) ])) ds h
+dues_apart m k ds two three h = AllIn-weaker (λ (d : Due). (d.rank ≡ 2) ⊎ (d.rank ≡ 3)) (λ d. Differs k (timer_key m d)) (λ d r. differ_rank k (timer_key m d) (λ e. elim r [ inl q ↦ two (e ∙ q) | inr q ↦ three (e ∙ q) ])) ds h
 
 rank_in : (d : Due) (ds : List Due) → AllIn (λ (d : Due). (d.rank ≡ 2) ⊎ (d.rank ≡ 3)) ds → In d ds → (d.rank ≡ 2) ⊎ (d.rank ≡ 3)
 rank_in d [] h g = absurd g
@@ -219,7 +211,7 @@ mark_besides m c [] t a r = tt
 mark_besides m c (k ∷ ks) t a r =
     let own = r.0 in
     inl (record {
-      flights = all_here (λ f. Differs (mark_key m k) (arrival_key m f)) (λ f. differ_rank (mark_key m k) (arrival_key m f) (λ e. let q : k.rank ≡ 1 = e in elim own [ inl z ↦ omega arith | inr z ↦ omega arith ])) c.inbox;
+      flights = AllIn-each (λ f. Differs (mark_key m k) (arrival_key m f)) (λ f. differ_rank (mark_key m k) (arrival_key m f) (λ e. let q : k.rank ≡ 1 = e in elim own [ inl z ↦ omega arith | inr z ↦ omega arith ])) c.inbox;
       marks = marks_differ m k ks a.0;
       dues = dues_apart m (mark_key m k) (timers c.holds) (λ e. let q : k.rank ≡ 2 = e in elim own [ inl z ↦ omega arith | inr z ↦ omega arith ]) (λ e. let q : k.rank ≡ 3 = e in elim own [ inl z ↦ omega arith | inr z ↦ omega arith ]) (due_ranks c.holds);
     })
@@ -231,7 +223,7 @@ timer_besides m c (d ∷ ds) t h =
     earlier_on (Besides m c) (Some _) (first_timer m c ds)
     (inr (
       refl,
-      all_here (λ f. Differs (timer_key m d) (arrival_key m f)) (λ f. differ_rank (timer_key m d) (arrival_key m f) (λ e. let q : d.rank ≡ 1 = e in elim rank [ inl z ↦ omega arith | inr z ↦ omega arith ])) c.inbox,
+      AllIn-each (λ f. Differs (timer_key m d) (arrival_key m f)) (λ f. differ_rank (timer_key m d) (arrival_key m f) (λ e. let q : d.rank ≡ 1 = e in elim rank [ inl z ↦ omega arith | inr z ↦ omega arith ])) c.inbox,
       marks_apart m (timer_key m d) c.script t.ranks (elim rank [ inl z ↦ omega arith | inr z ↦ omega arith ]) (elim rank [ inl z ↦ omega arith | inr z ↦ omega arith ]),
       (d, h d (inl refl), refl, refl),
     ))

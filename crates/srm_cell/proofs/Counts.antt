@@ -4,7 +4,7 @@ use Rattle.srm_cell.proofs.CellLemmas.{first_timer, next_event_is}
 use Rattle.srm_cell.proofs.Rising.{Above, OnEvent, OnStep, earlier_on}
 use Rattle.srm_cell.specs.Cells.{arrival_key, mark_key, timer_key, Done, Event, Full, PlainCell, Stepped, cause_of_timer, first_arrival, first_mark, handle, next_event, pending_at, sending_step, step_at, untimed_at}
 use Rattle.srm_cell.specs.declared.flight.Flight.{Flight}
-use Rattle.srm_member.proofs.AllIn.{AllIn}
+use Rattle.srm_member.proofs.AllIn.{AllIn-each, AllIn-weaker}
 use Rattle.srm_member.proofs.FewerTimers.{In, IsSound, SoundRecord, fewer_answers, fewer_asks, in_append, in_map, no_more, one_if, sound_react}
 use Rattle.srm_member.specs.React.{Reaction, react}
 use Rattle.srm_member.specs.declared.entries.Missing.{Missing}
@@ -131,24 +131,16 @@ pub rest_sound : (c : PlainCell) (e : Event) → Taken c e → SoundRecord c.hol
 rest_sound c e (inl h) s = subst SoundRecord (sym h.0) s
 rest_sound c e (inr h) s = subst (λ (b : PlainCell). SoundRecord b.holds) (sym h.0) s
 
-pub all_in_weaker : {A : Type 0} (P Q : A → Type 0) → ((x : A) → P x → Q x) → (xs : List A) → AllIn P xs → AllIn Q xs
-all_in_weaker P Q f [] h = tt
-all_in_weaker P Q f (x ∷ xs) h = (f x h.0, all_in_weaker P Q f xs h.1)
-
 pub above_weaker : (P Q : Key → Type 0) → ((k : Key) → P k → Q k) → (m : ℕ) (c : PlainCell) → Above P m c → Above Q m c
 above_weaker P Q f m c a = record {
-  flights = all_in_weaker (λ x. P (arrival_key m x)) (λ x. Q (arrival_key m x)) (λ x h. f (arrival_key m x) h) c.inbox a.flights;
-  marks = all_in_weaker (λ x. P (mark_key m x)) (λ x. Q (mark_key m x)) (λ x h. f (mark_key m x) h) c.script a.marks;
-  dues = all_in_weaker (λ x. P (timer_key m x)) (λ x. Q (timer_key m x)) (λ x h. f (timer_key m x) h) (timers c.holds) a.dues;
+  flights = AllIn-weaker (λ x. P (arrival_key m x)) (λ x. Q (arrival_key m x)) (λ x h. f (arrival_key m x) h) c.inbox a.flights;
+  marks = AllIn-weaker (λ x. P (mark_key m x)) (λ x. Q (mark_key m x)) (λ x h. f (mark_key m x) h) c.script a.marks;
+  dues = AllIn-weaker (λ x. P (timer_key m x)) (λ x. Q (timer_key m x)) (λ x h. f (timer_key m x) h) (timers c.holds) a.dues;
 }
-
-all_in_all : {A : Type 0} (Q : A → Type 0) → ((x : A) → Q x) → (xs : List A) → AllIn Q xs
-all_in_all Q f [] = tt
-all_in_all Q f (x ∷ xs) = (f x, all_in_all Q f xs)
 
 pub from_zero : (m : ℕ) (c : PlainCell) → Above (λ k. 0 ≤ k.time) m c
 from_zero m c = record {
-  flights = all_in_all (λ x. 0 ≤ (arrival_key m x).time) (λ x. omega arith) c.inbox;
-  marks = all_in_all (λ x. 0 ≤ (mark_key m x).time) (λ x. omega arith) c.script;
-  dues = all_in_all (λ x. 0 ≤ (timer_key m x).time) (λ x. omega arith) (timers c.holds);
+  flights = AllIn-each (λ x. 0 ≤ (arrival_key m x).time) (λ x. omega arith) c.inbox;
+  marks = AllIn-each (λ x. 0 ≤ (mark_key m x).time) (λ x. omega arith) c.script;
+  dues = AllIn-each (λ x. 0 ≤ (timer_key m x).time) (λ x. omega arith) (timers c.holds);
 }

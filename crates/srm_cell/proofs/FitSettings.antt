@@ -1,10 +1,9 @@
 -- The setting of an accepted scenario is fit.
-use Rattle.std.proofs.Common.{◌≡◌, ◌≢◌, ℕ, zero, suc, ◌<◌, ◌≤◌, ◌^◌, true, false, List, [], ◌∷◌, refl, sym, ap, ◌∙◌, subst, ◌⊎◌, inl, inr, arith, Option, Some, None, unwrap_or, length, map, slice_get, get_or, ◌==◌, eqb-true, eq-eqb, Ordering, Less, Equal, Greater, nat_cmp, All}
+use Rattle.std.proofs.Common.{◌≡◌, ◌≢◌, ℕ, ◌<◌, true, false, List, [], ◌∷◌, refl, sym, ap, ◌∙◌, subst, inl, inr, arith, Option, Some, None, unwrap_or, length, slice_get, ◌==◌, Ordering, Less, Equal, Greater, nat_cmp}
 use Rattle.std.proofs.lemmas.Bool.{eqb-false}
 use Rattle.std.proofs.lemmas.List.{length-map}
 use Rattle.std.proofs.lemmas.Option.{slice_get-get_or}
 use Rattle.std.specs.Ordering.{ordering_then}
-use Rattle.std.specs.Cmp.Lexicographic.{slice_cmp}
 use Rattle.srm_net.specs.Orders.{Ascends, AllAfter}
 use Rattle.srm_net.proofs.PathLaws.{distance_apart}
 use Rattle.srm_scenario.specs.declared.mark.Mark.{Mark}
@@ -17,7 +16,7 @@ use Rattle.srm_member.specs.declared.cause.Cause.{Cause}
 use Rattle.srm_member.specs.declared.cause.Cause.TheVariants.{Join, Draw, Report}
 use Rattle.srm_member.proofs.AllIn.{AllIn, AllIn-at_places}
 use Rattle.srm_member.proofs.OrderLemmas.{head_le, nat_cmp_self}
-use Rattle.srm_cell.specs.Setting.{HasOwnRanks, EndsAtLeave, IsFit, cause_of_mark, member_at, no_member, setting_of}
+use Rattle.srm_cell.specs.Setting.{HasOwnRanks, EndsAtLeave, cause_of_mark, member_at, no_member}
 use Rattle.srm_cell.specs.Laws.{SettingsAreFit}
 
 some_not_none : (c : Cause) (o : Option Cause) → o ≡ Some c → o ≡ None → ⊥

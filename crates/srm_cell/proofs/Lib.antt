@@ -13,3 +13,4 @@ pub mod Leaving
 pub mod OwnRunsEnd
 pub mod FitSettings
 pub mod CellKeys
+pub mod CrossingLemmas

@@ -68,6 +68,7 @@ by_key Less d e = d
 by_key Equal d e = d
 by_key Greater d e = e
 
+-- the event with the lesser key, if there is any
 abbrev pub earlier : Option Event → Option Event → Option Event
 earlier None e = e
 earlier (Some d) None = Some d
@@ -232,6 +233,7 @@ handle e (Active m) None = Done (record {
 })
 handle e (Gone f) cause = Spent
 
+-- what the cell makes of the event, if there is one
 abbrev pub step_at : Option Event → StepOutcome Stepped
 step_at None = Idle
 step_at (Some e) = handle e e.rest.holds e.cause

@@ -1,5 +1,5 @@
 -- Crossings of a list of rows: five numbers for each link.
-use Rattle.std.specs.Prelude.{ℕ, ◌&&◌, List, [], ◌∷◌, ◌==◌}
+use Rattle.std.specs.Prelude.{ℕ, ◌+◌, ◌&&◌, List, [], ◌∷◌, ◌==◌}
 use Rattle.std.specs.List.{filter_map, flat_map, count_by, range_with_len}
 use Rattle.srm_net.specs.declared.packet.Body.{Body}
 use Rattle.srm_net.specs.declared.packet.Body.TheVariants.{Drawop, Request, Repair, Session}
@@ -29,6 +29,12 @@ dropped s l ps = count_by (λ p. s.drops_at p.id l) ps
 -- of link l: data, requests, repairs and session messages that cross it, and packets dropped at it
 abbrev pub crossings_at : Setting → List Packet → ℕ → List ℕ
 crossings_at s ps l = crossed s 0 l ps ∷ crossed s 1 l ps ∷ crossed s 2 l ps ∷ crossed s 3 l ps ∷ dropped s l ps ∷ []
+
+-- two lists of numbers, added number by number
+abbrev pub added : List ℕ → List ℕ → List ℕ
+added [] ns = []
+added (m ∷ ms) [] = []
+added (m ∷ ms) (n ∷ ns) = (m + n) ∷ added ms ns
 
 -- the five numbers of each link in turn
 unfoldable pub crossings : Setting → List Row → List ℕ

@@ -35,6 +35,7 @@ pub record Setting : Type 0 where
 abbrev pub no_member : MemberSpec
 no_member = record { node = 0; role = Receiver; stream = 0; join = 0; leave = None; pages = [] }
 
+-- member m of a scenario
 abbrev pub member_at : PlainScenario → ℕ → MemberSpec
 member_at s m = unwrap_or (slice_get s.members m) no_member
 

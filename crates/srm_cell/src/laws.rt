@@ -1,5 +1,5 @@
 //! What holds of every cell.
-ghost use Rattle.srm_cell.specs.Laws.{OwnRunsAreOne, SettingsAreFit};
+ghost use Rattle.srm_cell.specs.Laws.{OwnRunsAreOne, SettingsAreFit, CrossingsAdd};
 
 /// An own run has one result.
 pub fn own_runs_are_one()
@@ -9,4 +9,9 @@ pub fn own_runs_are_one()
 /// The setting of an accepted scenario is fit: scripts ascend and end at the leave, and no two members are at one place.
 pub fn settings_are_fit()
     ensures { SettingsAreFit }
+{}
+
+/// The crossings of two lists of rows together are those of each, added.
+pub fn crossings_add()
+    ensures { CrossingsAdd }
 {}

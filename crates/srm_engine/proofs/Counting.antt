@@ -100,7 +100,7 @@ module _ (s : Setting) (ps : List Packet) (p : Packet) where
       ap (λ m. bump (s.drops_at p.id m) 4 (bump (s.crosses p.id m) (5 * 0 + place_of (crossing_kind p.body)) (mixed m l (suc n)))) e
       ∙ ap (λ m. bump (s.drops_at p.id l) 4 (bump (s.crosses p.id l) m (mixed l l (suc n)))) z
       ∙ ap (λ x. bump (s.drops_at p.id l) 4 (bump (s.crosses p.id l) (place_of (crossing_kind p.body)) x))
-        (ap (λ b. crossings_at s (cond b all ps) l ++ mixed l (l + 1) n) (le-ltb l l (le_refl l)) ∙ ap (λ t. crossings_at s ps l ++ t) (all_old l (l + 1) n (omega arith)))
+      (ap (λ b. crossings_at s (cond b all ps) l ++ mixed l (l + 1) n) (le-ltb l l (le_refl l)) ∙ ap (λ t. crossings_at s ps l ++ t) (all_old l (l + 1) n (omega arith)))
       ∙ here l (flat ps (l + 1) n)
       ∙ sym (ap (λ b. crossings_at s (cond b all ps) l ++ mixed (l + 0 + 1) (l + 1) n) (lt-ltb l (l + 0 + 1) (omega arith)) ∙ ap (λ t. crossings_at s all l ++ t) (all_old (l + 0 + 1) (l + 1) n (omega arith)))
   more l (suc j) (suc n) lt =
@@ -111,7 +111,7 @@ module _ (s : Setting) (ps : List Packet) (p : Packet) where
       ∙ ap (bump (s.drops_at p.id (l + suc j)) (5 * suc j + 4)) (skip (s.crosses p.id (l + suc j)) j (place_of (crossing_kind p.body)) (crossed s 0 l all) (crossed s 1 l all) (crossed s 2 l all) (crossed s 3 l all) (dropped s l all) (mixed (l + suc j) (l + 1) n))
       ∙ skip (s.drops_at p.id (l + suc j)) j 4 (crossed s 0 l all) (crossed s 1 l all) (crossed s 2 l all) (crossed s 3 l all) (dropped s l all) (bump (s.crosses p.id (l + suc j)) (5 * j + place_of (crossing_kind p.body)) (mixed (l + suc j) (l + 1) n))
       ∙ ap (λ t. crossings_at s all l ++ t)
-        (ap (λ m. bump (s.drops_at p.id m) (5 * j + 4) (bump (s.crosses p.id m) (5 * j + place_of (crossing_kind p.body)) (mixed m (l + 1) n))) e ∙ more (l + 1) j n (omega arith) ∙ ap (λ m. mixed (m + 1) (l + 1) n) (sym e))
+      (ap (λ m. bump (s.drops_at p.id m) (5 * j + 4) (bump (s.crosses p.id m) (5 * j + place_of (crossing_kind p.body)) (mixed m (l + 1) n))) e ∙ more (l + 1) j n (omega arith) ∙ ap (λ m. mixed (m + 1) (l + 1) n) (sym e))
       ∙ ap (λ b. crossings_at s (cond b all ps) l ++ mixed (l + suc j + 1) (l + 1) n) (sym now)
 
   pub counted_at : (k : ℕ) → k < s.links → bump (s.drops_at p.id k) (5 * k + 4) (bump (s.crosses p.id k) (5 * k + place_of (crossing_kind p.body)) (mixed k 0 s.links)) ≡ mixed (k + 1) 0 s.links

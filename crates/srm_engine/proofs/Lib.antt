@@ -4,7 +4,9 @@ pub mod Index
 pub mod Counting
 pub mod NewPackets
 pub mod Hearing
+pub mod PhaseLemmas
 pub mod SeenLemmas
+pub mod Stepping
 pub mod LawProofs
 pub mod Merge
 pub mod NamesKept

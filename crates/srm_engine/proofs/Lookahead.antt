@@ -1,5 +1,5 @@
 -- Windows no wider than the least link delay, and promise windows.
-use Rattle.std.proofs.Common.{◌≡◌, ◌≢◌, ℕ, zero, suc, ◌<◌, ◌≤◌, ◌+◌, min, Bool, true, false, cond, not, List, [], ◌∷◌, refl, sym, ap, ◌∙◌, subst, ◌⊎◌, inl, inr, arith, Option, Some, None, length, map, filter, fold, slice_get, ◌==◌, eqb-true, add-zero, zero-add, ltb-true}
+use Rattle.std.proofs.Common.{◌≡◌, ◌≢◌, ℕ, zero, suc, ◌<◌, ◌≤◌, ◌+◌, min, Bool, true, false, cond, not, List, [], ◌∷◌, refl, sym, ap, ◌∙◌, subst, ◌⊎◌, inl, inr, arith, Option, Some, None, length, map, filter, fold, slice_get, ◌==◌, eqb-true, add-zero, zero-add}
 use Rattle.std.proofs.lemmas.Bool.{eqb-false}
 use Rattle.std.proofs.lemmas.List.{length-map}
 use Rattle.std.proofs.Math.Nat.{min-le_left, min-le_right}
@@ -11,14 +11,14 @@ use Rattle.srm_net.specs.Least.{least, least_delay}
 use Rattle.srm_net.proofs.RouteLemmas.{route_path}
 use Rattle.srm_net.proofs.PathLaws.{host_below, hosts_apart}
 use Rattle.srm_scenario.specs.declared.parts.MemberSpec.{MemberSpec}
-use Rattle.srm_scenario.specs.Plain.{PlainScenario, network_of}
+use Rattle.srm_scenario.specs.Plain.{network_of}
 use Rattle.srm_member.specs.Record.{Record, Active, Gone, fixed_part}
 use Rattle.srm_member.specs.React.{is_listener}
 use Rattle.srm_member.proofs.AllIn.{AllIn}
 use Rattle.srm_member.proofs.FewerTimers.{In}
 use Rattle.srm_member.proofs.OrderLemmas.{key_total, from_refl}
-use Rattle.srm_cell.specs.Setting.{Setting, IsFit, setting_of}
-use Rattle.srm_cell.specs.Cells.{PlainCell, Event, Silent, next_event, before, time_of}
+use Rattle.srm_cell.specs.Setting.{Setting, setting_of}
+use Rattle.srm_cell.specs.Cells.{PlainCell, Event, Silent, next_event, time_of}
 use Rattle.srm_cell.proofs.CellSteps.{before_some}
 use Rattle.srm_cell.proofs.Tidy.{Least, not_before_time}
 use Rattle.srm_cell.proofs.FitSettings.{settings_are_fit}
@@ -27,7 +27,7 @@ use Rattle.srm_engine.specs.World.{World, least_event}
 use Rattle.srm_engine.specs.Windows.{IsWidth, least_with, out, promise_by, promise_of, least_promise, promise_end}
 use Rattle.srm_engine.specs.Laws.{LinkDelaysAreSafe, PromiseEndsAreSafe}
 use Rattle.srm_engine.proofs.LawProofs.{windows_are_safe, promises_are_safe}
-use Rattle.srm_engine.proofs.Sequential.{Good, good_reached, get_below, least_of_all}
+use Rattle.srm_engine.proofs.Sequential.{good_reached, least_of_all}
 
 -- ---- the least of a list
 

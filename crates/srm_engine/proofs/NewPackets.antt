@@ -10,7 +10,7 @@ use Rattle.srm_cell.specs.Cells.{PlainCell, Event, before, StepOutcome, Done, St
 use Rattle.srm_cell.proofs.Rising.{OnEvent, before_on, OnStep}
 use Rattle.srm_cell.proofs.CellSteps.{SentBy}
 use Rattle.srm_cell.proofs.Clear.{CountAfter, StepOf, step_is_of, RestOf, next_rest}
-use Rattle.srm_member.proofs.Bounds.{AllIn}
+use Rattle.srm_member.proofs.AllIn.{AllIn}
 use Rattle.srm_engine.specs.World.{World, least_event, run, opening}
 use Rattle.srm_engine.specs.Seen.{IsNew}
 use Rattle.srm_engine.proofs.RunLemmas.{Seq, rest, next}
@@ -57,7 +57,7 @@ module _ (s : Setting) (fit : IsFit s) where
               let here : m ≡ j = eqb-true m j r in
               let is : d.cell ≡ q = same_some d.cell q (sym (get_set_same cs m d.cell (get_below cs m f.cell f.here)) ∙ ap (slice_get (slice_set cs m d.cell)) here ∙ g) in
               subst (λ (c : PlainCell). BringsNone p.id c.inbox) is (apart cs p.id d.cell.inbox now
-                (subst (WereSent cs) (sym did.inbox) (all_tail _ _ _ of.inbox (strict.fresh m f.cell f.here))))
+              (subst (WereSent cs) (sym did.inbox) (all_tail _ _ _ of.inbox (strict.fresh m f.cell f.here))))
           | false ↦ λ r.
               let ne : m ≢ j = eqb-false m j r in
               apart cs p.id q.inbox now (strict.fresh j q (sym (get_set_other cs m j d.cell ne) ∙ g))

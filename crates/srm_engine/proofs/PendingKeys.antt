@@ -1,17 +1,17 @@
 -- No two pending events of a world of the sequential run have one key, and what an event creates is later.
-use Rattle.std.proofs.Common.{◌≡◌, ◌≢◌, ℕ, zero, suc, ◌<◌, ◌≤◌, ◌+◌, List, [], ◌∷◌, ◌++◌, map, length, refl, sym, ap, ◌∙◌, subst, ◌⊎◌, inl, inr, arith, Option, Some, None, slice_get, add-zero, zero-add, le_refl, Contains}
+use Rattle.std.proofs.Common.{◌≡◌, ℕ, zero, suc, ◌<◌, ◌≤◌, ◌+◌, List, [], ◌∷◌, ◌++◌, map, refl, sym, ap, ◌∙◌, subst, ◌⊎◌, inl, inr, arith, Some, slice_get, add-zero, zero-add, le_refl, Contains}
 use Rattle.std.proofs.lemmas.List.Elements.{All-contains, All-contains_itself}
 use Rattle.srm_net.specs.declared.key.Key.{Key}
 use Rattle.srm_member.specs.declared.row.Row.{Row}
 use Rattle.srm_member.specs.Record.{timers}
-use Rattle.srm_member.proofs.AllIn.{AllIn, AllIn-append, AllIn-first, AllIn-second, AllIn-map, AllIn-unmap, AllIn-places, AllIn-at_places}
+use Rattle.srm_member.proofs.AllIn.{AllIn, AllIn-append, AllIn-at_places, AllIn-each, AllIn-first, AllIn-map, AllIn-places, AllIn-second, AllIn-unmap, AllIn-weaker}
 use Rattle.srm_cell.specs.Setting.{Setting, IsFit}
 use Rattle.srm_cell.specs.Cells.{PlainCell, Event, arrival_key, mark_key, timer_key, pending_keys, DiffersFrom, AllDiffer, next_event, before, StepOutcome, Idle, Full, Spent, Done, Stepped, step_at}
 use Rattle.srm_cell.proofs.CellSteps.{some_not_idle}
 use Rattle.srm_cell.proofs.Rising.{OnEvent, before_on, OnStep, Above, IsAbove, next_above, step_above}
-use Rattle.srm_cell.proofs.Clear.{Differs, differ_member, all_here, all_in}
+use Rattle.srm_cell.proofs.Clear.{differ_member}
 use Rattle.srm_cell.proofs.CellKeys.{not_same, all_differ_append, cell_keys_differ}
-use Rattle.srm_engine.specs.World.{World, settled, after_step, least_event, step, step_to, run, opening, opening_cells}
+use Rattle.srm_engine.specs.World.{World, settled, after_step, least_event, step, run, opening}
 use Rattle.srm_engine.specs.Laws.{keys_from, PendingKeysDiffer, CreatedEventsAreLater}
 use Rattle.srm_engine.proofs.RunLemmas.{Seq, rest, next, shifted, step_is, after_stepped, after_full, after_spent}
 use Rattle.srm_engine.proofs.Sequential.{EachCell, Good, step_facts, good_step, above_step, run_seq, good_opening, good_reached}
@@ -21,16 +21,16 @@ use Rattle.srm_engine.proofs.StrictRuns.{Strict, strict_step, strict_opening}
 
 member_keys : (m : ℕ) (c : PlainCell) → AllIn (λ k. k.member ≡ m) (pending_keys m c)
 member_keys m c = AllIn-append (λ (k : Key). k.member ≡ m) (map (arrival_key m) c.inbox) (map (mark_key m) c.script ++ map (timer_key m) (timers c.holds))
-    (AllIn-map (λ (k : Key). k.member ≡ m) (arrival_key m) c.inbox (all_here _ (λ f. refl) c.inbox))
+    (AllIn-map (λ (k : Key). k.member ≡ m) (arrival_key m) c.inbox (AllIn-each _ (λ f. refl) c.inbox))
     (AllIn-append (λ (k : Key). k.member ≡ m) (map (mark_key m) c.script) (map (timer_key m) (timers c.holds))
-    (AllIn-map (λ (k : Key). k.member ≡ m) (mark_key m) c.script (all_here _ (λ f. refl) c.script))
-    (AllIn-map (λ (k : Key). k.member ≡ m) (timer_key m) (timers c.holds) (all_here _ (λ f. refl) (timers c.holds))))
+    (AllIn-map (λ (k : Key). k.member ≡ m) (mark_key m) c.script (AllIn-each _ (λ f. refl) c.script))
+    (AllIn-map (λ (k : Key). k.member ≡ m) (timer_key m) (timers c.holds) (AllIn-each _ (λ f. refl) (timers c.holds))))
 
 members_from : (i : ℕ) (cs : List PlainCell) → AllIn (λ k. i ≤ k.member) (keys_from i cs)
 members_from i [] = tt
 members_from i (c ∷ cs) = AllIn-append (λ (k : Key). i ≤ k.member) (pending_keys i c) (keys_from (suc i) cs)
-    (all_in (λ (k : Key). k.member ≡ i) (λ (k : Key). i ≤ k.member) (λ k h. omega arith) (pending_keys i c) (member_keys i c))
-    (all_in (λ (k : Key). suc i ≤ k.member) (λ (k : Key). i ≤ k.member) (λ k h. omega arith) (keys_from (suc i) cs) (members_from (suc i) cs))
+    (AllIn-weaker (λ (k : Key). k.member ≡ i) (λ (k : Key). i ≤ k.member) (λ k h. omega arith) (pending_keys i c) (member_keys i c))
+    (AllIn-weaker (λ (k : Key). suc i ≤ k.member) (λ (k : Key). i ≤ k.member) (λ k h. omega arith) (keys_from (suc i) cs) (members_from (suc i) cs))
 
 above_differs : (i : ℕ) (k : Key) → k.member ≡ i → (ks : List Key) → AllIn (λ l. suc i ≤ l.member) ks → DiffersFrom k ks
 above_differs i k h [] a = tt
@@ -41,7 +41,7 @@ all_keys_differ i [] h = tt
 all_keys_differ i (c ∷ cs) h = all_differ_append (pending_keys i c) (keys_from (suc i) cs)
     (rw add-zero at (h 0 c refl))
     (all_keys_differ (suc i) cs (λ j b g. rw (shifted i j) at (h (suc j) b g)))
-    (all_in (λ (k : Key). k.member ≡ i) (λ k. DiffersFrom k (keys_from (suc i) cs)) (λ k e. above_differs i k e (keys_from (suc i) cs) (members_from (suc i) cs)) (pending_keys i c) (member_keys i c))
+    (AllIn-weaker (λ (k : Key). k.member ≡ i) (λ k. DiffersFrom k (keys_from (suc i) cs)) (λ k e. above_differs i k e (keys_from (suc i) cs) (members_from (suc i) cs)) (pending_keys i c) (member_keys i c))
 
 module _ (s : Setting) (fit : IsFit s) where
   strict_seq : {end : ℕ} {cs ds : List PlainCell} {rows : List Row} → Seq s end cs rows ds → Good s fit cs → Strict s fit cs → Strict s fit ds

@@ -17,7 +17,7 @@ use Rattle.srm_engine.proofs.Sequential.{EachCell, Good, StepFacts, above_after,
 use Rattle.srm_engine.proofs.Settled.{at_member, get_after}
 use Rattle.srm_engine.specs.Laws.{KeysRise}
 use Rattle.srm_engine.specs.World.{World, least_event, opening, opening_cells, row_cmp, run, settled}
-use Rattle.srm_member.proofs.AllIn.{AllIn, AllIn-place}
+use Rattle.srm_member.proofs.AllIn.{AllIn, AllIn-both, AllIn-each, AllIn-place, AllIn-weaker}
 use Rattle.srm_member.proofs.OrderLemmas.{is_Less, key_total, same_numbers}
 use Rattle.srm_member.specs.Record.{timers}
 use Rattle.srm_member.specs.declared.row.Row.{Row}
@@ -67,18 +67,6 @@ ranks_tail ys xs (inr e) h = (subst HasOwnRanks e.1 h).1
 pub all_tail : {A : Type 0} (Q : A → Type 0) (ys xs : List A) → IsTail ys xs → AllIn Q xs → AllIn Q ys
 all_tail Q ys xs (inl e) h = subst (AllIn Q) (sym e) h
 all_tail Q ys xs (inr e) h = (subst (AllIn Q) e.1 h).1
-
-all_in : {A : Type 0} (P Q : A → Type 0) → ((x : A) → P x → Q x) → (xs : List A) → AllIn P xs → AllIn Q xs
-all_in P Q f [] h = tt
-all_in P Q f (x ∷ xs) h = (f x h.0, all_in P Q f xs h.1)
-
-all_here : {A : Type 0} (Q : A → Type 0) → ((x : A) → Q x) → (xs : List A) → AllIn Q xs
-all_here Q f [] = tt
-all_here Q f (x ∷ xs) = (f x, all_here Q f xs)
-
-all_both : {A : Type 0} (P Q R : A → Type 0) → ((x : A) → P x → Q x → R x) → (xs : List A) → AllIn P xs → AllIn Q xs → AllIn R xs
-all_both P Q R f [] h g = tt
-all_both P Q R f (x ∷ xs) h g = (f x h.0 g.0, all_both P Q R f xs h.1 g.1)
 
 -- ---- how many packets each member sent
 
@@ -179,7 +167,7 @@ module _ (s : Setting) (fit : IsFit s) where
         by (Some c) g = sent_at y c g
 
     fresh_after : (c : PlainCell) → IsFresh cs c → IsFresh after c
-    fresh_after c f = all_in (λ (g : Flight). g.packet.id.count < sent_of cs g.packet.id.sender) (λ (g : Flight). g.packet.id.count < sent_of after g.packet.id.sender) (λ g l. let up = sent_grows g.packet.id.sender in omega arith) c.inbox f
+    fresh_after c f = AllIn-weaker (λ (g : Flight). g.packet.id.count < sent_of cs g.packet.id.sender) (λ (g : Flight). g.packet.id.count < sent_of after g.packet.id.sender) (λ g l. let up = sent_grows g.packet.id.sender in omega arith) c.inbox f
 
     hear_at_strict : (p : Packet) (o : Option ℕ) (c : PlainCell) → p.id.sender ≡ m → CountAfter e.rest.sent (Some p) d.cell.sent → IsDistinct c → IsFresh cs c → IsDistinct (hear_at p o c) × IsFresh after (hear_at p o c)
     hear_at_strict p None c by count t f = (t, fresh_after c f)
@@ -221,16 +209,16 @@ module _ (s : Setting) (fit : IsFit s) where
 
     other_member : (k : Key) (j : ℕ) (c : PlainCell) → k.member ≢ j → Above (Differs k) j c
     other_member k j c ne = record {
-      flights = all_here (λ f. Differs k (arrival_key j f)) (λ f. differ_member k (arrival_key j f) ne) c.inbox;
-      marks = all_here (λ f. Differs k (mark_key j f)) (λ f. differ_member k (mark_key j f) ne) c.script;
-      dues = all_here (λ f. Differs k (timer_key j f)) (λ f. differ_member k (timer_key j f) ne) (timers c.holds);
+      flights = AllIn-each (λ f. Differs k (arrival_key j f)) (λ f. differ_member k (arrival_key j f) ne) c.inbox;
+      marks = AllIn-each (λ f. Differs k (mark_key j f)) (λ f. differ_member k (mark_key j f) ne) c.script;
+      dues = AllIn-each (λ f. Differs k (timer_key j f)) (λ f. differ_member k (timer_key j f) ne) (timers c.holds);
     }
 
     both : (k : Key) (j : ℕ) (c : PlainCell) → Above (NotBefore k) j c → Above (Differs k) j c → Above (After k) j c
     both k j c a b = record {
-      flights = all_both (λ f. NotBefore k (arrival_key j f)) (λ f. Differs k (arrival_key j f)) (λ f. After k (arrival_key j f)) (λ f u v. then_after k (arrival_key j f) u v) c.inbox a.flights b.flights;
-      marks = all_both (λ f. NotBefore k (mark_key j f)) (λ f. Differs k (mark_key j f)) (λ f. After k (mark_key j f)) (λ f u v. then_after k (mark_key j f) u v) c.script a.marks b.marks;
-      dues = all_both (λ f. NotBefore k (timer_key j f)) (λ f. Differs k (timer_key j f)) (λ f. After k (timer_key j f)) (λ f u v. then_after k (timer_key j f) u v) (timers c.holds) a.dues b.dues;
+      flights = AllIn-both (λ f. NotBefore k (arrival_key j f)) (λ f. Differs k (arrival_key j f)) (λ f. After k (arrival_key j f)) (λ f u v. then_after k (arrival_key j f) u v) c.inbox a.flights b.flights;
+      marks = AllIn-both (λ f. NotBefore k (mark_key j f)) (λ f. Differs k (mark_key j f)) (λ f. After k (mark_key j f)) (λ f u v. then_after k (mark_key j f) u v) c.script a.marks b.marks;
+      dues = AllIn-both (λ f. NotBefore k (timer_key j f)) (λ f. Differs k (timer_key j f)) (λ f. After k (timer_key j f)) (λ f u v. then_after k (timer_key j f) u v) (timers c.holds) a.dues b.dues;
     }
 
     strictly_after : EachCell s fit (Above (After e.key)) after

@@ -128,6 +128,7 @@ PromiseEndsAreSafe =
 
 -- ---- merging
 
+-- the lists one after the other
 abbrev pub joined : {A : Type 0} → List (List A) → List A
 joined [] = []
 joined (l ∷ ls) = l ++ joined ls

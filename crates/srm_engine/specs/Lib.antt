@@ -8,4 +8,5 @@ pub mod NextTimes
 pub mod OneLoss
 pub mod Seen
 pub mod Shown
+pub mod Outcomes
 pub mod Totalled

@@ -33,6 +33,7 @@ HasNoResult end w m = (c : PlainCell) × (slice_get w.cells m ≡ Some c) × Mee
 abbrev pub SendsLate : Setting → ℕ → Row → Type 0
 SendsLate s end r = (p : Packet) → r.sent ≡ Some p → (m at : ℕ) → arrival_of s p m ≡ Some at → end ≤ at
 
+-- so for each of the rows
 abbrev pub AllSendLate : Setting → ℕ → List Row → Type 0
 AllSendLate s end [] = Unit {0}
 AllSendLate s end (r ∷ rs) = SendsLate s end r × AllSendLate s end rs

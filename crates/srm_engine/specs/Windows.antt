@@ -38,9 +38,11 @@ abbrev pub promise_by : Option ℕ → Option ℕ → Option ℕ
 promise_by (Some time) (Some way) = Some (time + way)
 promise_by _ _ = None
 
+-- before which time no packet of member m's arrives anywhere, if it is no listener, has an event pending and there is another member
 abbrev pub promise_of : Setting → ℕ → PlainCell → Option ℕ
 promise_of s m c = if is_listener (fixed_part c.holds).role then None else promise_by (time_of (next_event m c)) (out s m)
 
+-- the least of `until` and of the promises of the members from i on
 abbrev pub least_promise : Setting → ℕ → List PlainCell → ℕ
 least_promise s i [] = s.until
 least_promise s i (c ∷ cs) = least_with (least_promise s (i + 1) cs) (promise_of s i c)

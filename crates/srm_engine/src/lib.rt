@@ -11,3 +11,5 @@ pub mod laws_of_names;
 pub mod laws_of_packets;
 mod moves;
 pub mod next_times;
+pub mod outcome;
+mod phases;

@@ -1,6 +1,7 @@
 //! Whole scenarios, each with the trace that it gives.
 
 /// A scenario as text, and the trace of its run with seed 0 as CSV.
+#[derive(Clone, Copy, Debug)]
 pub struct Example {
     /// What it shows, in a word.
     pub name: &'static str,
@@ -750,3 +751,61 @@ stream = 5
 19,4,repair,1:0,fixed,0,-
 "#,
 };
+
+/// A member that draws the lengths of its request timers. The trace is that of seed 42.
+pub const DRAWN_TIMERS: Example = Example {
+    name: "drawn_timers",
+    scenario: r#"version = 1
+until = 1000
+c1 = 2000
+c2 = 2000
+d1 = 1000
+d2 = 0
+topology = "chain"
+size = 2
+delay = 10
+member = [
+  { node = 0, role = "sender", stream = 1 },
+  { node = 1, role = "receiver", stream = 54 },
+]
+draw = [
+  { member = 0, page = 0, ink = 7, at = 0 },
+  { member = 0, page = 0, ink = 8, at = 100 },
+]
+drop = [{ link = 0, sender = 0, count = 0 }]
+"#,
+    trace: r#"time,member,cause,ref,result,lost,sent
+0,0,join,-,in,0,-
+0,0,draw,0/0/0,sent,0,0:0
+0,1,join,-,in,0,-
+100,0,draw,0/0/1,sent,0,0:1
+110,1,data,0:1,fresh,1,-
+143,1,ask,0/0/0,sent,0,1:0
+153,0,request,1:0,plan,0,-
+163,0,answer,0/0/0,sent,0,0:2
+173,1,repair,0:2,fixed,0,-
+"#,
+};
+
+/// All examples that are run with seed 0.
+pub const EXAMPLES: [Example; 19] = [
+    CHAIN_OF_FIVE_ONE_LOSS,
+    LOSS_ON_THE_SOURCE_LINK,
+    REPAIR_BEFORE_THE_TIMER_OF_ITS_TICK,
+    STAR_LOSS_AT_THE_SOURCE,
+    STAR_LOSS_AT_ONE_MEMBER,
+    RECEIVER_THAT_LEAVES,
+    LISTENER_THAT_LEAVES,
+    LATE_JOINER,
+    SESSION_REVEALS_A_LOSS,
+    LONE_SENDER,
+    STOPPED_IN_MID_RECOVERY,
+    STOPPED_BEFORE_THE_REPAIR,
+    TWO_NODES,
+    NO_MEMBER,
+    LISTENER_BESIDE_A_RECOVERY,
+    MENDED_BY_THE_DATA_ITSELF,
+    LOSS_LEARNT_FROM_A_REQUEST,
+    DROP_ON_THE_SECOND_LINK,
+    TABLES_AFTER_ALL_KEYS,
+];

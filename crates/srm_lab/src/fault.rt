@@ -1,5 +1,7 @@
 //! Why the program refuses.
+use srm_member::fault::MemberFault;
 use srm_scenario::fault::ScenarioFault;
+use std::alloc::{AllocError, AllocFailed};
 use thiserror::Error;
 
 /// Why a run gave no report.
@@ -28,4 +30,38 @@ pub enum Fault {
     Lab(LabFault),
     /// Memory ran out elsewhere.
     NoMemory,
+}
+
+impl From<AllocError> for Fault {
+    ghost use Rattle.std.specs.Prelude.{◌≡◌};
+    ghost use Rattle.srm_lab.specs.declared.fault.Fault.TheVariants.{NoMemory};
+
+    ghost from_gives = { λ _ e. e ≡ NoMemory };
+
+    fn from(_fault: AllocError) -> Fault {
+        Fault::NoMemory
+    }
+}
+
+impl<T: Drop> From<AllocFailed<T>> for Fault {
+    ghost use Rattle.std.specs.Prelude.{◌≡◌};
+    ghost use Rattle.srm_lab.specs.declared.fault.Fault.TheVariants.{NoMemory};
+
+    ghost from_gives = { λ _ e. e ≡ NoMemory };
+
+    fn from(_fault: AllocFailed<T>) -> Fault {
+        Fault::NoMemory
+    }
+}
+
+// A member that was just made is not gone.
+impl From<MemberFault> for Fault {
+    ghost use Rattle.std.specs.Prelude.{◌≡◌};
+    ghost use Rattle.srm_lab.specs.declared.fault.Fault.TheVariants.{NoMemory};
+
+    ghost from_gives = { λ _ e. e ≡ NoMemory };
+
+    fn from(_fault: MemberFault) -> Fault {
+        Fault::NoMemory
+    }
 }

@@ -5,6 +5,8 @@ mod fault;
 mod line;
 mod options;
 mod report;
+mod run;
+mod session;
 
 use std::process::ExitCode;
 

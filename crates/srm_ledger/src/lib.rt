@@ -2,4 +2,6 @@
 #![tactic(auto)]
 
 pub mod kind;
+#[cfg(test)]
+mod tests;
 pub mod totals;

@@ -50,6 +50,18 @@ module _ {K V : Type 0} (Q : (K × V) → Type 0) (cmp : K → K → Ordering) w
   AllIn-put k v [] q h = (q k, tt)
   AllIn-put k v (e ∷ es) q h = AllIn-order (cmp k e.0) _ _ _ (q k, h) (q e.0, h.1) (h.0, AllIn-put k v es q h.1)
 
+pub AllIn-weaker : {A : Type 0} (P Q : A → Type 0) → ((x : A) → P x → Q x) → (xs : List A) → AllIn P xs → AllIn Q xs
+AllIn-weaker P Q f [] h = tt
+AllIn-weaker P Q f (x ∷ xs) h = (f x h.0, AllIn-weaker P Q f xs h.1)
+
+pub AllIn-each : {A : Type 0} (Q : A → Type 0) → ((x : A) → Q x) → (xs : List A) → AllIn Q xs
+AllIn-each Q f [] = tt
+AllIn-each Q f (x ∷ xs) = (f x, AllIn-each Q f xs)
+
+pub AllIn-both : {A : Type 0} (P Q R : A → Type 0) → ((x : A) → P x → Q x → R x) → (xs : List A) → AllIn P xs → AllIn Q xs → AllIn R xs
+AllIn-both P Q R f [] h g = tt
+AllIn-both P Q R f (x ∷ xs) h g = (f x h.0 g.0, AllIn-both P Q R f xs h.1 g.1)
+
 -- ---- by places
 
 pub AllIn-places : {A : Type 0} (Q : A → Type 0) (xs : List A) → AllIn Q xs → All Q xs

@@ -43,6 +43,7 @@ has_entry n es = is_some (find name_cmp n es)
 
 -- ---- timers: each takes one word
 
+-- how long a packet takes to this member
 abbrev pub distance_to : Memory → ℕ → ℕ
 distance_to m who = slice_index m.fixed.dist who
 
@@ -75,6 +76,7 @@ back_off at n e m =
 abbrev pub wants : Memory → ℕ → Bool
 wants m page = list_any (λ p. p == page) m.fixed.pages
 
+-- a late joiner
 abbrev pub is_late : Role → Bool
 is_late Late = true
 is_late _ = false
@@ -87,6 +89,7 @@ begins_at m p begin = if is_late m.fixed.role && not (wants m p.page) then begin
 abbrev pub meet : Memory → PageId → ℕ → Stream
 meet m p begin = unwrap_or (find page_cmp p m.streams) (record { floor = begins_at m p begin; next = begins_at m p begin })
 
+-- after the page's entry is set
 abbrev pub with_stream : PageId → Stream → Memory → Memory
 with_stream p s m = record m { streams = put page_cmp p s m.streams }
 
@@ -146,6 +149,7 @@ base m n who = distance_to m (if n.source == m.fixed.member then requester_or wh
 abbrev pub resting : ℕ → Name → ℕ → Memory → Memory
 resting at n who m = record m { rests = put name_cmp n (at + 3 * base m n who) m.rests; repairs = without n m.repairs }
 
+-- the event did not concern the member
 abbrev pub is_skip : Told → Bool
 is_skip Skip = true
 is_skip _ = false
@@ -166,6 +170,7 @@ abbrev pub asked_missing_at : ℕ → Name → List Name → Memory → Option M
 asked_missing_at at n lost m None = quietly m Hold lost
 asked_missing_at at n lost m (Some e) = if nat_lt at e.ignore then quietly m Hold lost else quietly (back_off at n e m) Back lost
 
+-- a request for a name that is not held
 abbrev pub asked_missing : ℕ → Name → List Name → Memory → Reaction
 asked_missing at n lost m = asked_missing_at at n lost m (find name_cmp n m.missing)
 
@@ -217,6 +222,7 @@ abbrev pub asking_at : ℕ → Name → Memory → Option Missing → Reaction
 asking_at at n m None = quietly m Skip []
 asking_at at n m (Some e) = sending (back_off at n e m) (Request n)
 
+-- what a member answers to it: it asks, and backs off
 unfoldable pub asking : ℕ → Name → Memory → Reaction
 asking at n m = asking_at at n m (find name_cmp n m.missing)
 
@@ -225,9 +231,11 @@ abbrev pub answering_at : ℕ → Name → Memory → Option Repairing → React
 answering_at at n m None = quietly m Skip []
 answering_at at n m (Some e) = sending (resting at n m.fixed.member m) (Repair n (unwrap_or (find name_cmp n m.held) 0))
 
+-- what a member answers to it: it sends a repair, and rests
 unfoldable pub answering : ℕ → Name → Memory → Reaction
 answering at n m = answering_at at n m (find name_cmp n m.repairs)
 
+-- a sender
 abbrev pub is_sender : Role → Bool
 is_sender Sender = true
 is_sender _ = false
@@ -257,6 +265,7 @@ drawing page ink m =
 abbrev pub session_of : Memory → Body
 session_of m = Session (map (λ e. record { source = e.0.source; page = e.0.page; highest = e.1.next - 1 }) m.streams)
 
+-- the table, by causes
 abbrev pub react_active : Memory → ℕ → Cause → Reaction
 react_active m at Join = quietly m Entered []
 react_active m at (Arrival k) = hear_body at k.id.sender k.body m
@@ -271,12 +280,14 @@ react_active m at Report = sending m (session_of m)
 abbrev pub listened : Name → ℕ → Memory → Reaction
 listened n ink m = if has_entry n m.held then quietly m Again [] else quietly (holding n ink m) Fresh []
 
+-- a packet
 abbrev pub listen : Body → Memory → Reaction
 listen (Drawop n ink) m = listened n ink m
 listen (Repair n ink) m = listened n ink m
 listen (Request n) m = quietly m Skip []
 listen (Session hs) m = quietly m Skip []
 
+-- the table, by causes
 abbrev pub react_listener : Memory → Cause → Reaction
 react_listener m Join = quietly m Entered []
 react_listener m (Arrival k) = listen k.body m
@@ -284,6 +295,7 @@ react_listener m _ = quietly m Skip []
 
 -- ---- both
 
+-- a listener
 abbrev pub is_listener : Role → Bool
 is_listener Listener = true
 is_listener _ = false

@@ -48,6 +48,7 @@ opening_memory f = record {
   rests = [];
 }
 
+-- the record of a member at first
 abbrev pub opening_record : Fixed → Record
 opening_record f = Active (opening_memory f)
 
@@ -64,6 +65,7 @@ timers_of m =
     map (λ e. record { time = e.1.expiry; rank = 2; name = e.0 }) m.missing
     ++ map (λ e. record { time = e.1.expiry; rank = 3; name = e.0 }) m.repairs
 
+-- the timers of a record: none where it is gone
 abbrev pub timers : Record → List Due
 timers (Active m) = timers_of m
 timers (Gone f) = []
@@ -72,9 +74,11 @@ timers (Gone f) = []
 abbrev pub numbers_of_due : Due → List ℕ
 numbers_of_due d = d.time ∷ d.rank ∷ d.name.source ∷ d.name.page ∷ d.name.number ∷ []
 
+-- number by number
 abbrev pub due_cmp : Due → Due → Ordering
 due_cmp d e = slice_cmp nat_cmp (numbers_of_due d) (numbers_of_due e)
 
+-- the first of two timers, by how they compare
 abbrev pub by_order : Ordering → Due → Due → Due
 by_order Less d e = d
 by_order Equal d e = d

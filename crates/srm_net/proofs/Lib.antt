@@ -12,3 +12,4 @@ pub mod OrderLemmas
 pub mod ToldLemmas
 pub mod LeastLemmas
 pub mod LawProofs
+pub mod Parents

@@ -16,3 +16,4 @@ pub mod Meanings
 pub mod InRanges
 pub mod TableAnswers
 pub mod Texts
+pub mod TopologyTrees

@@ -10,3 +10,4 @@ pub mod Feed
 pub mod Scripts
 pub mod Listed
 pub mod Ranges
+pub mod Topologies

@@ -1,7 +1,13 @@
 //! Laws of scenarios, over the definitions alone.
 ghost use Rattle.srm_scenario.specs.Scripts.{ScriptsFit};
+ghost use Rattle.srm_scenario.specs.Topologies.{TopologiesAreTrees};
 
 /// The script of each member of an accepted scenario rises by time, rank and place, and its marks are the member's own.
 pub fn scripts_fit()
     ensures { ScriptsFit }
+{}
+
+/// Each topology is a tree, so that a file that names one is never refused because its links make none.
+pub fn topologies_are_trees()
+    ensures { TopologiesAreTrees }
 {}

@@ -23,19 +23,24 @@ pub record Brief : Type 0 where
   pub lost : ℕ
   pub sent : Option PacketId
 
+-- a row in short
 abbrev pub row : ℕ → ℕ → Word → About → Told → ℕ → Option PacketId → Brief
 row time member cause about told lost sent = record { time = time; member = member; cause = cause; about = about; told = told; lost = lost; sent = sent }
 
+-- a packet, by its sender and count
 abbrev pub packet : ℕ → ℕ → PacketId
 packet sender count = record { sender = sender; count = count }
 
+-- a name, by its source, page and number
 abbrev pub name : ℕ → ℕ → ℕ → Name
 name source page number = record { source = source; page = page; number = number }
 
+-- the identity of a packet, if there is one
 abbrev pub id_of : Option Packet → Option PacketId
 id_of None = None
 id_of (Some p) = Some p.id
 
+-- a row, in short
 abbrev pub brief : Row → Brief
 brief r = row r.key.time r.key.member r.cause r.about r.told (length r.lost) (id_of r.sent)
 

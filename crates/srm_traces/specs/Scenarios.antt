@@ -27,9 +27,11 @@ star_links delay i (suc n) = link 0 (suc i) delay ∷ star_links delay (suc i) n
 abbrev pub member : ℕ → Role → ℕ → MemberSpec
 member node role stream = record { node = node; role = role; stream = stream; join = 0; leave = None; pages = [] }
 
+-- a drawing operation
 abbrev pub draw : ℕ → ℕ → ℕ → ℕ → DrawSpec
 draw m page ink at = record { member = m; page = page; ink = ink; at = at }
 
+-- a session message
 abbrev pub session : ℕ → ℕ → SessionSpec
 session m at = record { member = m; at = at }
 

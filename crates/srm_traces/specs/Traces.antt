@@ -5,6 +5,7 @@ use Rattle.srm_member.specs.declared.row.About.TheVariants.{Nothing, Of, Named}
 use Rattle.srm_member.specs.declared.told.Told.TheVariants as told
 use Rattle.srm_traces.specs.Runs.{Brief, row, packet, name}
 
+-- one loss on a chain of five: its request, and the repair by the nearest that holds it: its trace
 abbrev pub chain_of_five_one_loss_trace : List Brief
 chain_of_five_one_loss_trace =
     row 0 0 word.Join Nothing told.Entered 0 None
@@ -31,9 +32,11 @@ chain_of_five_one_loss_trace =
     ∷ row 19 4 word.Repair (Of (packet 1 0)) told.Fixed 0 None
     ∷ []
 
+-- and its crossings
 abbrev pub chain_of_five_one_loss_totals : List ℕ
 chain_of_five_one_loss_totals = 2 ∷ 1 ∷ 1 ∷ 0 ∷ 0 ∷ 1 ∷ 1 ∷ 1 ∷ 0 ∷ 1 ∷ 1 ∷ 1 ∷ 1 ∷ 0 ∷ 0 ∷ 1 ∷ 1 ∷ 1 ∷ 0 ∷ 0 ∷ []
 
+-- a loss on the link of the source: the second request comes at an ignore time, and during a rest: its trace
 abbrev pub loss_on_the_source_link_trace : List Brief
 loss_on_the_source_link_trace =
     row 0 0 word.Join Nothing told.Entered 0 None
@@ -54,9 +57,11 @@ loss_on_the_source_link_trace =
     ∷ row 16 2 word.Repair (Of (packet 0 2)) told.Fixed 0 None
     ∷ []
 
+-- and its crossings
 abbrev pub loss_on_the_source_link_totals : List ℕ
 loss_on_the_source_link_totals = 1 ∷ 2 ∷ 1 ∷ 0 ∷ 1 ∷ 1 ∷ 2 ∷ 1 ∷ 0 ∷ 0 ∷ []
 
+-- a repair that arrives at the tick of the request timer ends it: its trace
 abbrev pub repair_before_the_timer_of_its_tick_trace : List Brief
 repair_before_the_timer_of_its_tick_trace =
     row 0 0 word.Join Nothing told.Entered 0 None
@@ -70,9 +75,11 @@ repair_before_the_timer_of_its_tick_trace =
     ∷ row 15 1 word.Repair (Of (packet 0 2)) told.Fixed 0 None
     ∷ []
 
+-- and its crossings
 abbrev pub repair_before_the_timer_of_its_tick_totals : List ℕ
 repair_before_the_timer_of_its_tick_totals = 1 ∷ 1 ∷ 1 ∷ 0 ∷ 1 ∷ []
 
+-- timers of random length: its trace
 abbrev pub drawn_timers_trace : List Brief
 drawn_timers_trace =
     row 0 0 word.Join Nothing told.Entered 0 None
@@ -86,9 +93,11 @@ drawn_timers_trace =
     ∷ row 173 1 word.Repair (Of (packet 0 2)) told.Fixed 0 None
     ∷ []
 
+-- and its crossings
 abbrev pub drawn_timers_totals : List ℕ
 drawn_timers_totals = 1 ∷ 1 ∷ 1 ∷ 0 ∷ 1 ∷ []
 
+-- a loss at the source of a star: three requests at one tick, one repair: its trace
 abbrev pub star_loss_at_the_source_trace : List Brief
 star_loss_at_the_source_trace =
     row 0 0 word.Join Nothing told.Entered 0 None
@@ -118,9 +127,11 @@ star_loss_at_the_source_trace =
     ∷ row 150 3 word.Repair (Of (packet 0 2)) told.Fixed 0 None
     ∷ []
 
+-- and its crossings
 abbrev pub star_loss_at_the_source_totals : List ℕ
 star_loss_at_the_source_totals = 1 ∷ 3 ∷ 1 ∷ 0 ∷ 1 ∷ 1 ∷ 3 ∷ 1 ∷ 0 ∷ 0 ∷ 1 ∷ 3 ∷ 1 ∷ 0 ∷ 0 ∷ 1 ∷ 3 ∷ 1 ∷ 0 ∷ 0 ∷ []
 
+-- a loss at one member of a star: one request, three repairs: its trace
 abbrev pub star_loss_at_one_member_trace : List Brief
 star_loss_at_one_member_trace =
     row 0 0 word.Join Nothing told.Entered 0 None
@@ -156,9 +167,11 @@ star_loss_at_one_member_trace =
     ∷ row 150 3 word.Repair (Of (packet 2 0)) told.Again 0 None
     ∷ []
 
+-- and its crossings
 abbrev pub star_loss_at_one_member_totals : List ℕ
 star_loss_at_one_member_totals = 2 ∷ 2 ∷ 3 ∷ 0 ∷ 0 ∷ 2 ∷ 2 ∷ 3 ∷ 0 ∷ 0 ∷ 2 ∷ 2 ∷ 3 ∷ 0 ∷ 0 ∷ 1 ∷ 2 ∷ 3 ∷ 0 ∷ 1 ∷ []
 
+-- a receiver that leaves hears what arrives at that tick, and nothing more: its trace
 abbrev pub receiver_that_leaves_trace : List Brief
 receiver_that_leaves_trace =
     row 0 0 word.Join Nothing told.Entered 0 None
@@ -169,9 +182,11 @@ receiver_that_leaves_trace =
     ∷ row 10 0 word.Draw (Named (name 0 0 1)) told.Sent 0 (Some (packet 0 1))
     ∷ []
 
+-- and its crossings
 abbrev pub receiver_that_leaves_totals : List ℕ
 receiver_that_leaves_totals = 2 ∷ 0 ∷ 0 ∷ 0 ∷ 0 ∷ []
 
+-- a late joiner asks for the page that it wants, and not for the other: its trace
 abbrev pub late_joiner_trace : List Brief
 late_joiner_trace =
     row 0 0 word.Join Nothing told.Entered 0 None
@@ -190,9 +205,11 @@ late_joiner_trace =
     ∷ row 71 1 word.Data (Of (packet 0 4)) told.Fresh 0 None
     ∷ []
 
+-- and its crossings
 abbrev pub late_joiner_totals : List ℕ
 late_joiner_totals = 3 ∷ 2 ∷ 1 ∷ 1 ∷ 0 ∷ []
 
+-- a session message reveals a loss: its trace
 abbrev pub session_reveals_a_loss_trace : List Brief
 session_reveals_a_loss_trace =
     row 0 0 word.Join Nothing told.Entered 0 None
@@ -210,9 +227,11 @@ session_reveals_a_loss_trace =
     ∷ row 41 1 word.Session (Of (packet 0 3)) told.Heard 0 None
     ∷ []
 
+-- and its crossings
 abbrev pub session_reveals_a_loss_totals : List ℕ
 session_reveals_a_loss_totals = 0 ∷ 2 ∷ 1 ∷ 2 ∷ 1 ∷ []
 
+-- a sender and a listener: its trace
 abbrev pub two_nodes_trace : List Brief
 two_nodes_trace =
     row 0 0 word.Join Nothing told.Entered 0 None
@@ -223,9 +242,11 @@ two_nodes_trace =
     ∷ row 8 1 word.Data (Of (packet 0 1)) told.Fresh 0 None
     ∷ []
 
+-- and its crossings
 abbrev pub two_nodes_totals : List ℕ
 two_nodes_totals = 2 ∷ 0 ∷ 0 ∷ 0 ∷ 0 ∷ []
 
+-- a loss that the data itself mends in the same tick: its trace
 abbrev pub mended_by_the_data_itself_trace : List Brief
 mended_by_the_data_itself_trace =
     row 0 0 word.Join Nothing told.Entered 0 None
@@ -239,9 +260,11 @@ mended_by_the_data_itself_trace =
     ∷ row 2 2 word.Data (Of (packet 1 0)) told.Fixed 0 None
     ∷ []
 
+-- and its crossings
 abbrev pub mended_by_the_data_itself_totals : List ℕ
 mended_by_the_data_itself_totals = 1 ∷ 0 ∷ 0 ∷ 1 ∷ 0 ∷ 1 ∷ 0 ∷ 0 ∷ 1 ∷ 0 ∷ []
 
+-- a loss that a request reveals, which backs off at once: its trace
 abbrev pub loss_learnt_from_a_request_trace : List Brief
 loss_learnt_from_a_request_trace =
     row 0 0 word.Join Nothing told.Entered 0 None
@@ -261,5 +284,6 @@ loss_learnt_from_a_request_trace =
     ∷ row 16 2 word.Repair (Of (packet 0 2)) told.Fixed 0 None
     ∷ []
 
+-- and its crossings
 abbrev pub loss_learnt_from_a_request_totals : List ℕ
 loss_learnt_from_a_request_totals = 1 ∷ 2 ∷ 1 ∷ 0 ∷ 1 ∷ 0 ∷ 2 ∷ 1 ∷ 0 ∷ 1 ∷ []

@@ -1,5 +1,5 @@
 use Rattle.std.proofs.Common.{◌≤◌, length, ◌∙◌}
-use Rattle.srm_scenario.proofs.Texts.{count_stays, answers_known, long_known}
+use Rattle.srm_scenario.proofs.Texts.{count_stays, long_known}
 use Rattle.srm_scenario.proofs.reading.read_scenario.Goals as goal
 
 pub returns-in-Err-TooLong-clause-answer : goal.returns-in-Err-TooLong-clause-answer

@@ -1,0 +1,29 @@
+-- The crossings of two lists together.
+use Rattle.std.proofs.Common.{◌≡◌, ℕ, ◌+◌, Bool, cond, ◌&&◌, ◌==◌, List, [], ◌∷◌, ◌++◌, refl, ap, ◌∙◌}
+use Rattle.std.specs.List.{count_by, flat_map, range_with_len}
+use Rattle.std.proofs.lemmas.List.Sums.{sum_by-append}
+use Rattle.std.proofs.lemmas.List.Elements.{filter_map-append}
+use Rattle.srm_net.specs.declared.packet.Packet.{Packet}
+use Rattle.srm_member.specs.declared.row.Row.{Row}
+use Rattle.srm_cell.specs.Setting.{Setting}
+use Rattle.srm_cell.specs.Crossings.{packets_of, kind_of, crossings_at, added, crossings}
+use Rattle.srm_cell.specs.Laws.{CrossingsAdd}
+
+count_add : (p : Packet → Bool) (ps qs : List Packet) → count_by p (ps ++ qs) ≡ count_by p ps + count_by p qs
+count_add p ps qs = sum_by-append (λ x. cond (p x) 1 0) ps qs
+
+module _ (s : Setting) (ps qs : List Packet) where
+  link_add : (l : ℕ) (ms ns : List ℕ) → crossings_at s (ps ++ qs) l ++ added ms ns ≡ added (crossings_at s ps l ++ ms) (crossings_at s qs l ++ ns)
+  link_add l ms ns =
+      let c = λ (kind : ℕ). count_add (λ p. (kind_of p.body == kind) && s.crosses p.id l) ps qs in
+      let d = count_add (λ p. s.drops_at p.id l) ps qs in
+      λ i. c 0 i ∷ c 1 i ∷ c 2 i ∷ c 3 i ∷ d i ∷ added ms ns
+
+  pub links_add : (ls : List ℕ) → flat_map (crossings_at s (ps ++ qs)) ls ≡ added (flat_map (crossings_at s ps) ls) (flat_map (crossings_at s qs) ls)
+  links_add [] = refl
+  links_add (l ∷ ls) = ap (λ ns. crossings_at s (ps ++ qs) l ++ ns) (links_add ls) ∙ link_add l (flat_map (crossings_at s ps) ls) (flat_map (crossings_at s qs) ls)
+
+pub crossings_add : CrossingsAdd
+unfolding crossings
+crossings_add s qs rs =
+    ap (λ ps. flat_map (crossings_at s ps) (range_with_len 0 s.links)) (filter_map-append (λ (r : Row). r.sent) qs rs) ∙ links_add s (packets_of qs) (packets_of rs) (range_with_len 0 s.links)

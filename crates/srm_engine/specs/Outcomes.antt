@@ -1,0 +1,47 @@
+-- What a run is given, and what it tells.
+use Rattle.std.specs.Prelude.{◌≡◌, ℕ, zero, suc, ◌+◌, List, [], ◌∷◌, length, Result, Ok, Err}
+use Rattle.std.specs.declared.dyn_box.DynBox.{DynBox}
+use Rattle.std.specs.Global.{Global, Vec}
+use Rattle.srm_net.specs.Network.{Network}
+use Rattle.srm_scenario.specs.Plain.{PlainScenario}
+use Rattle.srm_member.specs.declared.row.Row.{Row}
+use Rattle.srm_member.specs.declared.exit.Exit.{Exit}
+use Rattle.srm_member.specs.Record.{Record, opening_record}
+use Rattle.srm_cell.specs.declared.cell.Cell.{Cell}
+use Rattle.srm_cell.specs.Setting.{Setting, fixed_of}
+use Rattle.srm_cell.specs.Cells.{PlainCell}
+use Rattle.srm_cell.specs.Views.{IsCell}
+use Rattle.srm_engine.specs.declared.cells.Engine.{Engine}
+use Rattle.srm_engine.specs.declared.fault.RunFault.{RunFault}
+use Rattle.srm_engine.specs.declared.fault.RunFault.TheVariants as fault
+use Rattle.srm_engine.specs.declared.outcome.Outcome.{Outcome}
+use Rattle.srm_engine.specs.World.{World, IsLast, IsOutcome, RunMeetsFull, exit_at}
+use Rattle.srm_engine.specs.Shown.{Shows}
+
+-- the opening records of n members from i on, for a scenario, its network and a seed
+abbrev pub records_from : PlainScenario → Network → ℕ → ℕ → ℕ → List Record
+records_from p net seed i zero = []
+records_from p net seed i (suc n) = opening_record (fixed_of p net seed i) ∷ records_from p net seed (suc i) n
+
+-- the records are the opening records of all members of the scenario, in order of their numbers
+abbrev pub HoldOpeningRecords : PlainScenario → Network → ℕ → List Record → Type 0
+HoldOpeningRecords p net seed rs = rs ≡ records_from p net seed 0 (length p.members)
+
+-- what a run tells: the outcome of the sequential run; or that it meets a step for which the packet count is used up
+abbrev pub TellsRun : Setting → Result Outcome RunFault → Type 0
+TellsRun s (Ok v) = IsOutcome s v.trace.items v.exits.items v.totals
+TellsRun s (Err fault.NoMemory) = Unit {0}
+TellsRun s (Err fault.CountFull) = RunMeetsFull s
+
+module _ {X : Type 0} {H : X → Type 0} where
+  -- what the steps of a run tell: the rows up to the last world of the sequential run, in which the engine is then
+  abbrev pub TellsTrace : (DynBox X Global H → Record) → Setting → Result (Vec Row) RunFault → Engine X H → Type 0
+  TellsTrace f s (Ok rows) after = (w : World) × IsLast s w × (rows.items ≡ w.trace) × Shows f s after w
+  TellsTrace f s (Err fault.NoMemory) after = Unit {0}
+  TellsTrace f s (Err fault.CountFull) after = RunMeetsFull s
+
+  -- each exit is what the cell's member ends with, as it left or as it is
+  abbrev pub EndAs : (DynBox X Global H → Record) → List (Cell X H) → List Exit → Type 0
+  EndAs f [] [] = Unit {0}
+  EndAs f (c ∷ cs) (x ∷ xs) = ((m : ℕ) (p : PlainCell) → IsCell f m c p → x ≡ exit_at p.holds p.exit) × EndAs f cs xs
+  EndAs f cs xs = ⊥
