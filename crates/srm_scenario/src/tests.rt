@@ -379,3 +379,68 @@ fn links_of_topologies(rt: HostRuntime) -> Result<(), Fail> {
     assert_eq!(rt; wide.as_slice(), [0, 0, 0, 1, 1, 2, 2, 3].as_slice());
     Ok(())
 }
+
+// Sees what is told of an array of so many equal elements.
+fn check_many(
+    rt: &impl Abort,
+    alloc: Global,
+    front: &str,
+    item: &str,
+    count: u32,
+    want: &str,
+) -> Result<(), Fail> {
+    let mut text = String::from_str(alloc, front)?;
+    for _ in 0..count {
+        text.push_str(item)?;
+        text.push(',')?;
+    }
+    text.push_str("]\n")?;
+    let told = told(alloc, text.as_str())?;
+    assert_eq!(rt; told.as_str(), want, "{count} of {item}");
+    Ok(())
+}
+
+#[test]
+fn lengths_of_arrays(rt: HostRuntime) -> Result<(), Fail> {
+    let alloc = rt.alloc();
+    let links = format!(in alloc; "{TOP}nodes = 9\nlink = [")?;
+    let link = "{a = 0, b = 0, delay = 1}";
+    check_many(&rt, alloc, links.as_str(), link, 255, "not-tree")?;
+    check_many(&rt, alloc, links.as_str(), link, 256, "bad-key top 0")?;
+    let members = format!(in alloc; "{TOP}nodes = 1\nmember = [")?;
+    let member = "{node = 0, role = \"sender\", stream = 0}";
+    check_many(&rt, alloc, members.as_str(), member, 256, "bad-member 1")?;
+    check_many(&rt, alloc, members.as_str(), member, 257, "bad-key top 0")?;
+    let draws = format!(in alloc; "{TOP}nodes = 1\ndraw = [")?;
+    let draw = "{member = 0, page = 0, ink = 0, at = 0}";
+    check_many(&rt, alloc, draws.as_str(), draw, 4096, "bad-draw 0")?;
+    check_many(&rt, alloc, draws.as_str(), draw, 4097, "bad-key top 0")?;
+    let sessions = format!(in alloc; "{TOP}nodes = 1\nsession = [")?;
+    let session = "{member = 0, at = 0}";
+    check_many(
+        &rt,
+        alloc,
+        sessions.as_str(),
+        session,
+        4096,
+        "bad-session 0",
+    )?;
+    check_many(
+        &rt,
+        alloc,
+        sessions.as_str(),
+        session,
+        4097,
+        "bad-key top 0",
+    )?;
+    let drops = format!(in alloc; "{TOP}nodes = 1\ndrop = [")?;
+    let drop = "{link = 0, sender = 0, count = 0}";
+    check_many(&rt, alloc, drops.as_str(), drop, 4096, "bad-drop 0")?;
+    check_many(&rt, alloc, drops.as_str(), drop, 4097, "bad-key top 0")?;
+    let pages = format!(in alloc;
+        "{TOP}nodes = 1\n[[member]]\nnode = 0\nrole = \"late\"\nstream = 0\npages = ["
+    )?;
+    check_many(&rt, alloc, pages.as_str(), "7", 256, "accepted")?;
+    check_many(&rt, alloc, pages.as_str(), "7", 257, "bad-key member 0")?;
+    Ok(())
+}
