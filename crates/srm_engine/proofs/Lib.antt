@@ -4,6 +4,7 @@ pub mod Index
 pub mod Counting
 pub mod NewPackets
 pub mod Hearing
+pub mod Opened
 pub mod PhaseLemmas
 pub mod SeenLemmas
 pub mod Stepping

@@ -1,5 +1,5 @@
 -- What the phases of a run tell.
-use Rattle.std.proofs.Common.{◌≡◌, ℕ, Bool, true, false, cond, List, [], ◌∷◌, ◌++◌, Option, Some, None, Result, Ok, Err, inl, inr, refl, sym, ap, ◌∙◌, true≢false}
+use Rattle.std.proofs.Common.{◌≡◌, ℕ, Bool, true, false, cond, List, [], ◌∷◌, ◌++◌, Option, Some, None, Result, Ok, Err, inl, inr, refl, sym, ap, ◌∙◌, true≢false, zero, suc, ◌+◌, length, map, slice_get, subst, arith, zero-add}
 use Rattle.std.specs.Result.{is_ok, is_err}
 use Rattle.std.specs.declared.dyn_box.DynBox.{DynBox}
 use Rattle.std.specs.Global.{Global}
@@ -7,13 +7,15 @@ use Rattle.srm_member.specs.declared.exit.Exit.{Exit}
 use Rattle.srm_member.specs.Record.{Record, Active, Gone}
 use Rattle.srm_cell.specs.Setting.{Setting}
 use Rattle.srm_cell.specs.Cells.{PlainCell, StepOutcome}
-use Rattle.srm_cell.specs.Views.{TellsExit, EndsWith}
+use Rattle.srm_cell.specs.Views.{TellsExit, EndsWith, IsCell}
 use Rattle.srm_engine.specs.declared.cells.Engine.{Engine}
 use Rattle.srm_engine.specs.declared.fault.RunFault.{RunFault}
 use Rattle.srm_engine.specs.declared.fault.RunFault.TheVariants as fault
-use Rattle.srm_engine.specs.World.{World, IsReached, step, exit_at}
+use Rattle.srm_engine.specs.World.{World, IsReached, step, exit_at, exits_of}
 use Rattle.srm_engine.specs.Shown.{TellsWorld}
-use Rattle.srm_engine.specs.Outcomes.{TellsTrace}
+use Rattle.srm_engine.specs.Outcomes.{TellsTrace, TellsRun, EndAs}
+use Rattle.srm_engine.specs.Seen.{AreCells}
+use Rattle.srm_cell.specs.declared.cell.Cell.{Cell}
 use Rattle.srm_engine.proofs.Stepping.{meets_full}
 
 pub pushed_if : {A E : Type 0} {B : Type 0} (r : Result A E) (xs ys zs : List B) → is_err r ≡ false → zs ≡ cond (is_ok r) xs ys → zs ≡ xs
@@ -32,3 +34,25 @@ module _ {X : Type 0} {H : X → Type 0} where
   pub not_traced : (f : DynBox X Global H → Record) (s : Setting) (w : World) (x : RunFault) (after : Engine X H) → IsReached s w → TellsWorld f s w (step s w) (Err x) after → TellsTrace f s (Err x) after
   not_traced f s w fault.NoMemory after r h = tt
   not_traced f s w fault.CountFull after r h = meets_full s w r h
+
+  ended_from : (f : DynBox X Global H → Record) (i : ℕ) (cs : List (Cell X H)) (ps : List PlainCell) (xs : List Exit) → length cs ≡ length ps
+      → ((j : ℕ) (c : Cell X H) (p : PlainCell) → slice_get cs j ≡ Some c → slice_get ps j ≡ Some p → IsCell f (i + j) c p) → EndAs f cs xs → xs ≡ map (λ (c : PlainCell). exit_at c.holds c.exit) ps
+  ended_from f i [] [] [] len each h = refl
+  ended_from f i [] [] (x ∷ xs) len each h = absurd h
+  ended_from f i [] (p ∷ ps) xs len each h = absurd (omega arith)
+  ended_from f i (c ∷ cs) [] xs len each h = absurd (omega arith)
+  ended_from f i (c ∷ cs) (p ∷ ps) [] len each h = absurd h
+  ended_from f i (c ∷ cs) (p ∷ ps) (x ∷ xs) len each h =
+      let first = h.0 (i + 0) p (each 0 c p refl refl) in
+      let rest = ended_from f (suc i) cs ps xs (omega arith) (λ j d q a b. subst (λ k. IsCell f k d q) (shift i j) (each (suc j) d q a b)) h.1 in
+      λ t. first t ∷ rest t
+    where
+      shift : (i j : ℕ) → i + suc j ≡ suc i + j
+      shift i j = omega arith
+
+  pub exits_are : (f : DynBox X Global H → Record) (cs : List (Cell X H)) (w : World) (xs : List Exit) → AreCells f cs w.cells → EndAs f cs xs → xs ≡ exits_of w
+  exits_are f cs w xs h e = ended_from f 0 cs w.cells xs h.as_many (λ j c p a b. subst (λ k. IsCell f k c p) (sym (zero-add j)) (h.each j c p a b)) e
+
+  pub not_run : (f : DynBox X Global H → Record) (s : Setting) (x : RunFault) (after : Engine X H) → TellsTrace f s (Err x) after → TellsRun s (Err x)
+  not_run f s fault.NoMemory after h = tt
+  not_run f s fault.CountFull after h = h

@@ -13,3 +13,5 @@ mod moves;
 pub mod next_times;
 pub mod outcome;
 mod phases;
+mod start;
+pub mod step_run;
