@@ -1,10 +1,12 @@
 //! A session of members, as a scenario describes it.
 ghost use Rattle.std.specs.Prelude.{◌≡◌, ◌<◌, ◌-◌, ◌^◌};
+ghost use Rattle.srm_scenario.specs.Plain.{network_of};
 
 use crate::fault::Fault;
 use crate::options::Options;
 use crate::run::run;
 use srm_member::member::Member;
+use srm_net::net::Net;
 use srm_net::role::Role;
 use srm_report::outlet::Outlet;
 use srm_roles::late::Late;
@@ -14,28 +16,38 @@ use srm_roles::sender::Sender;
 use srm_scenario::scenario::Scenario;
 use std::alloc::Global;
 
-/// Makes the members of a scenario, runs them, and writes the report of the run.
-pub fn run_scenario<O: Outlet>(
+// Makes the members of a scenario, runs them, and writes the report of the run.
+fn run_members<O: Outlet>(
     alloc: Global,
     scenario: &Scenario,
+    net: &Net,
     seed: u64,
     options: Options,
     outlet: &mut O,
 ) -> Result<(), Fault>
-    requires { O.failures outlet.old < 2 ^ 64 - 1 }
+    requires network { net.now ≡ network_of scenario.now }
+    requires count { O.failures outlet.old < 2 ^ 64 - 1 }
 {
-    let Ok(net) = scenario.net(alloc) else {
-        return Err(Fault::NoMemory);
-    };
     let mut members: Vec<Box<dyn Member>> = Vec::new(alloc);
     for m in 0..scenario.members() {
-        let member: Box<dyn Member> = match scenario.role(m) {
-            Role::Sender => Box::new(alloc, Sender::new(alloc, scenario, &net, seed, m)?)?,
-            Role::Receiver => Box::new(alloc, Receiver::new(alloc, scenario, &net, seed, m)?)?,
-            Role::Late => Box::new(alloc, Late::new(alloc, scenario, &net, seed, m)?)?,
-            Role::Listener => Box::new(alloc, Listener::new(alloc, scenario, &net, seed, m)?)?,
-        };
-        members.push(member)?;
+        match scenario.role(m) {
+            Role::Sender => {
+                let sender = Sender::new(alloc, scenario, net, seed, m)?;
+                members.push(Box::new(alloc, sender)?)?;
+            }
+            Role::Receiver => {
+                let receiver = Receiver::new(alloc, scenario, net, seed, m)?;
+                members.push(Box::new(alloc, receiver)?)?;
+            }
+            Role::Late => {
+                let late = Late::new(alloc, scenario, net, seed, m)?;
+                members.push(Box::new(alloc, late)?)?;
+            }
+            Role::Listener => {
+                let listener = Listener::new(alloc, scenario, net, seed, m)?;
+                members.push(Box::new(alloc, listener)?)?;
+            }
+        }
     }
-    run(alloc, scenario, &net, members, options, outlet).map_err(Fault::Lab)
+    run(alloc, scenario, net, members, options, outlet).map_err(Fault::Lab)
 }
