@@ -9,7 +9,6 @@ use Rattle.srm_cell.specs.Setting.{Setting, IsFit}
 use Rattle.srm_cell.specs.Cells.{PlainCell, Event, arrival_key, mark_key, timer_key, pending_keys, DiffersFrom, AllDiffer, next_event, before, StepOutcome, Idle, Full, Spent, Done, Stepped, step_at}
 use Rattle.srm_cell.proofs.CellSteps.{some_not_idle}
 use Rattle.srm_cell.proofs.Rising.{OnEvent, before_on, OnStep, Above, IsAbove, next_above, step_above}
-use Rattle.srm_cell.proofs.Clear.{differ_member, all_here, all_in}
 use Rattle.srm_cell.proofs.Clear.{differ_member}
 use Rattle.srm_cell.proofs.CellKeys.{not_same, all_differ_append, cell_keys_differ}
 use Rattle.srm_engine.specs.World.{World, settled, after_step, least_event, step, run, opening}
