@@ -94,8 +94,8 @@ marks_and_timers m r [] h = tt
 marks_and_timers m r (k ∷ ks) h =
     let own = h.0 in (
       from_all (mark_key m k) (timer_key m) (timers r) (dues_apart m (mark_key m k) (timers r)
-      (λ e. let q : k.rank ≡ 2 = e in elim own [ inl z ↦ omega arith | inr z ↦ omega arith ])
-      (λ e. let q : k.rank ≡ 3 = e in elim own [ inl z ↦ omega arith | inr z ↦ omega arith ]) (due_ranks r)),
+          (λ e. let q : k.rank ≡ 2 = e in elim own [ inl z ↦ omega arith | inr z ↦ omega arith ])
+          (λ e. let q : k.rank ≡ 3 = e in elim own [ inl z ↦ omega arith | inr z ↦ omega arith ]) (due_ranks r)),
       marks_and_timers m r ks h.1,
     )
 
