@@ -291,55 +291,72 @@ fn texts_that_are_not_read(rt: HostRuntime) -> Result<(), Fail> {
     Ok(())
 }
 
+// The chain with its members, two draws by member 0, two session messages, and a drop that is listed twice.
+fn sample(alloc: Global) -> Result<Scenario, Fail> {
+    let rest =
+        "draw = [{member = 0, page = 5, ink = 7, at = 9}, {member = 0, page = 6, ink = 8, at = 3}]\nsession = [{member = 0, at = 3}, {member = 1, at = 70}]\ndrop = [{link = 1, sender = 0, count = 4}, {link = 1, sender = 0, count = 4}]\n";
+    let text = format!(in alloc; "{TOP}{CHAIN}{MEMBERS}{rest}")?;
+    scenario(alloc, text.as_str())
+}
+
 #[test]
-fn what_is_read(rt: HostRuntime) -> Result<(), Fail> {
-    let alloc = rt.alloc();
-    let text = format!(in alloc;
-        "{TOP}{CHAIN}{MEMBERS}draw = [{{member = 0, page = 5, ink = 7, at = 9}}, {{member = 0, page = 6, ink = 8, at = 3}}]\nsession = [{{member = 0, at = 3}}, {{member = 1, at = 70}}]\ndrop = [{{link = 1, sender = 0, count = 4}}, {{link = 1, sender = 0, count = 4}}]\n"
-    )?;
-    let s = scenario(alloc, text.as_str())?;
+fn getters_of_the_run(rt: HostRuntime) -> Result<(), Fail> {
+    let s = sample(rt.alloc())?;
     assert_eq!(rt; s.until(), 100);
-    assert_eq!(rt;
-        (
-            s.constants().c1,
-            s.constants().c2,
-            s.constants().d1,
-            s.constants().d2
-        ),
-        (1000, 0, 1000, 0)
-    );
-    assert_eq!(rt; s.members(), 3);
-    assert_eq!(rt;
-        (s.role(0), s.role(1), s.role(2)),
-        (Role::Sender, Role::Late, Role::Listener)
-    );
-    assert_eq!(rt; (s.node(1), s.stream(1), s.join(1)), (1, 2, 20));
-    assert_eq!(rt; (s.leave(0), s.leave(1)), (Some(60), None));
-    assert!(rt; s.wants(1, 65535) && !s.wants(1, 2) && !s.wants(0, 1));
+    let constants = s.constants();
+    assert_eq!(rt; constants.c1, 1000);
+    assert_eq!(rt; constants.d2, 0);
     assert_eq!(rt; s.links().len(), 2);
+    Ok(())
+}
+
+#[test]
+fn getters_of_members(rt: HostRuntime) -> Result<(), Fail> {
+    let s = sample(rt.alloc())?;
+    assert_eq!(rt; s.members(), 3);
+    assert!(rt; s.role(1) == Role::Late);
+    assert_eq!(rt; s.node(1), 1);
+    assert_eq!(rt; s.stream(1), 2);
+    assert_eq!(rt; s.join(1), 20);
+    assert_eq!(rt; s.leave(1), None);
+    assert!(rt; s.wants(1, 65535));
+    assert!(rt; !s.wants(1, 2));
+    Ok(())
+}
+
+#[test]
+fn drops_and_network(rt: HostRuntime) -> Result<(), Fail> {
+    let s = sample(rt.alloc())?;
     let id = srm_net::packet::PacketId {
         sender: 0,
         count: 4,
     };
-    assert!(rt; s.drops().lists(1, id) && !s.drops().lists(0, id));
-    let net = s.net(alloc).map_err(|_| "no net")?;
+    assert!(rt; s.drops().lists(1, id));
+    assert!(rt; !s.drops().lists(0, id));
+    let net = s.net(rt.alloc()).map_err(|_| "no net")?;
     assert_eq!(rt; net.members(), 3);
     assert_eq!(rt; net.distance(0, 2), 2);
-    let marks = s.script(alloc, 0)?;
-    let mut row = Vec::new(alloc);
+    Ok(())
+}
+
+#[test]
+fn script_in_order(rt: HostRuntime) -> Result<(), Fail> {
+    let s = sample(rt.alloc())?;
+    assert_eq!(rt; s.members(), 3);
+    let marks = s.script(rt.alloc(), 0)?;
+    let mut text = String::new(rt.alloc());
     for mark in marks.iter() {
-        row.push((mark.at, mark.rank, mark.place, mark.page, mark.ink))?;
+        let at = mark.at;
+        let rank = mark.rank;
+        let place = mark.place;
+        let page = mark.page;
+        let ink = mark.ink;
+        let line = format!(in rt.alloc(); "{at}/{rank}/{place}/{page}/{ink} ")?;
+        text.push_str(line.as_str())?;
     }
     assert_eq!(rt;
-        row.as_slice(),
-        [
-            (0, 0, 0, 0, 0),
-            (3, 4, 1, 6, 8),
-            (3, 5, 0, 0, 0),
-            (9, 4, 0, 5, 7),
-            (60, 6, 0, 0, 0)
-        ]
-        .as_slice()
+        text.as_str(),
+        "0/0/0/0/0 3/4/1/6/8 3/5/0/0/0 9/4/0/5/7 60/6/0/0/0 "
     );
     Ok(())
 }
