@@ -1,8 +1,8 @@
 //! A session of members, as a scenario describes it.
-ghost use Rattle.std.specs.Prelude.{◌≡◌, ◌<◌, ◌-◌, ◌^◌};
+ghost use Rattle.std.specs.Prelude.{◌≡◌, ◌<◌, ◌-◌, ◌^◌, IfSome};
 ghost use Rattle.srm_scenario.specs.Plain.{network_of};
 ghost use Rattle.srm_cell.specs.Setting.{setting_of};
-ghost use Rattle.srm_lab.specs.Sessions.{session_failures, TellsSession};
+ghost use Rattle.srm_lab.specs.Sessions.{reading_failures, session_failures, TellsSession, TellsText};
 
 use crate::fault::Fault;
 use crate::options::Options;
@@ -75,6 +75,10 @@ pub fn simulate<F: Feed, O: Outlet>(
 ) -> Result<(), Fault>
     requires feed { F.failures feed.old < 2 ^ 64 - 1 }
     requires outlet { O.failures outlet.old < 2 ^ 64 - 1 }
+    ensures read { F.failures feed.new ≡ reading_failures result (F.failures feed.old) }
+    ensures failures { O.failures outlet.new ≡ session_failures result (O.failures outlet.old) }
+    // From the feed's bytes to the outlet's.
+    ensures report { IfSome (F.remaining feed.old) (λ text. TellsText seed options text (O.taken outlet.old) (O.taken outlet.new) result) }
 {
     let scenario = match read_scenario(alloc, feed) {
         Ok(scenario) => scenario,
