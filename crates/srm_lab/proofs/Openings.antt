@@ -1,32 +1,30 @@
 -- Members that are made one by one, each with the record with which it begins.
-use Rattle.std.proofs.Common.{◌≡◌, ◌∙◌, ◌⊎◌, inl, inr, ℕ, zero, suc, refl, ◌+◌, ◌<◌, ◌≤◌, List, [], ◌∷◌, ◌++◌, length, Some, sym, ap, rules, arith, length-append}
-use Rattle.std.specs.Prelude.{slice_get}
-use Rattle.std.proofs.lemmas.Grind.{common_steps}
+use Rattle.std.proofs.Common.{◌≡◌, ◌∙◌, ℕ, zero, suc, ◌+◌, List, [], ◌∷◌, ◌++◌, length, map, sym, ap, arith}
+use Rattle.std.proofs.lemmas.List.{map-append}
+use Rattle.srm_net.specs.Network.{Network}
+use Rattle.srm_scenario.specs.Plain.{PlainScenario}
 use Rattle.srm_member.specs.Record.{Record, opening_record}
-use Rattle.srm_cell.specs.Setting.{Setting}
-use Rattle.srm_lab.specs.Boxes.{AreOpening}
+use Rattle.srm_cell.specs.Setting.{fixed_of}
+use Rattle.srm_engine.specs.Outcomes.{records_from}
 
--- the members below member n
-pub record OpeningBelow {B : Type 0} (f : B → Record) (s : Setting) (n : ℕ) (members : List B) : Type 0 where
-  pub as_many : length members ≡ n
-  pub each : (m : ℕ) (b : B) → slice_get members m ≡ Some b → f b ≡ opening_record (s.fixed m)
-
--- what an item of a list with one more at its end is
-last_or_before : {B : Type 0} (bs : List B) (b : B) (m : ℕ) (c : B) → slice_get (bs ++ b ∷ []) m ≡ Some c
-    → (slice_get bs m ≡ Some c) ⊎ ((m ≡ length bs) × (b ≡ c))
-last_or_before [] b zero c h = inr (refl, (cc))
-last_or_before [] b (suc m) c h = absurd (cc)
-last_or_before (x ∷ bs) b zero c h = inl h
-last_or_before (x ∷ bs) b (suc m) c h =
-    elim (last_or_before bs b m c h) [ inl p ↦ inl p | inr p ↦ inr (ap suc p.0, p.1) ]
+-- one record more, at the end
+pub records_from-suc : (p : PlainScenario) (net : Network) (seed i n : ℕ)
+    → records_from p net seed i (suc n) ≡ records_from p net seed i n ++ opening_record (fixed_of p net seed (i + n)) ∷ []
+records_from-suc p net seed i zero = let e : i ≡ i + 0 = omega arith in ap (λ k. opening_record (fixed_of p net seed k) ∷ []) e
+records_from-suc p net seed i (suc n) =
+    let e : suc i + n ≡ i + suc n = omega arith in
+    ap (λ rs. opening_record (fixed_of p net seed i) ∷ rs)
+    (records_from-suc p net seed (suc i) n ∙ ap (λ k. records_from p net seed (suc i) n ++ opening_record (fixed_of p net seed k) ∷ []) e)
 
 -- one member more
-pub opening-push : {B : Type 0} (f : B → Record) (s : Setting) (n : ℕ) (bs : List B) (b : B) → OpeningBelow f s n bs
-    → f b ≡ opening_record (s.fixed n) → OpeningBelow f s (n + 1) (bs ++ b ∷ [])
-opening-push f s n bs b h e = record {
-    as_many = length-append bs (b ∷ []) ∙ ap (λ k. k + 1) h.as_many;
-    each = λ m c at. elim (last_or_before bs b m c at) [
-        inl before ↦ h.each m c before
-        | inr last ↦ ap f (sym last.1) ∙ e ∙ ap (λ k. opening_record (s.fixed k)) (sym h.as_many ∙ sym last.0)
-    ]
-}
+pub opening-push : {B : Type 0} (f : B → Record) (p : PlainScenario) (net : Network) (seed n : ℕ) (bs : List B) (b : B)
+    → map f bs ≡ records_from p net seed 0 n → f b ≡ opening_record (fixed_of p net seed n)
+    → map f (bs ++ b ∷ []) ≡ records_from p net seed 0 (n + 1)
+opening-push f p net seed n bs b before at =
+    let zero_plus : 0 + n ≡ n = omega arith in
+    let one_more : n + 1 ≡ suc n = omega arith in
+    map-append f bs (b ∷ [])
+    ∙ ap (λ rs. rs ++ f b ∷ []) before
+    ∙ ap (λ r. records_from p net seed 0 n ++ r ∷ []) (at ∙ ap (λ k. opening_record (fixed_of p net seed k)) (sym zero_plus))
+    ∙ sym (records_from-suc p net seed 0 n)
+    ∙ ap (records_from p net seed 0) (sym one_more)

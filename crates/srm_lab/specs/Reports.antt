@@ -2,6 +2,8 @@
 use Rattle.std.specs.Prelude.{◌≡◌, ℕ, ◌+◌, ◌<◌, List, length, take, Option, Result, Ok, Err}
 use Rattle.std.specs.Io.KnownBytes.{Appends, Keeps}
 use Rattle.srm_member.specs.declared.row.Row.{Row}
+use Rattle.srm_cell.specs.Setting.{Setting}
+use Rattle.srm_engine.specs.World.{World, IsLast, RunMeetsFull}
 use Rattle.srm_report.specs.Trace.{trace_of_rows}
 use Rattle.srm_lab.specs.declared.fault.LabFault.{LabFault}
 use Rattle.srm_lab.specs.declared.fault.LabFault.TheVariants.{NoMemory, CountFull, WriteFault}
@@ -30,3 +32,12 @@ Writes old new report (Ok v) = Appends old new report
 Writes old new report (Err NoMemory) = Keeps old new
 Writes old new report (Err CountFull) = Keeps old new
 Writes old new report (Err (WriteFault written)) = Appends old new (take written report) × (written < length report)
+
+-- what an outlet took of the report of a scenario's sequential run: all of it, or as many bytes as the fault tells; and nothing after
+-- another refusal, of which CountFull says that the run meets a step for which the packet count is used up
+abbrev pub TellsReport : {T : Type 0} → Setting → Options → Option (List ℕ) → Option (List ℕ) → Result T LabFault → Type 0
+TellsReport s o old new (Ok v) = (w : World) × IsLast s w × Appends old new (report_of o w.trace)
+TellsReport s o old new (Err NoMemory) = Keeps old new
+TellsReport s o old new (Err CountFull) = RunMeetsFull s × Keeps old new
+TellsReport s o old new (Err (WriteFault written)) =
+    (w : World) × IsLast s w × Appends old new (take written (report_of o w.trace)) × (written < length (report_of o w.trace))

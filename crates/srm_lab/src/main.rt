@@ -8,8 +8,25 @@ mod report;
 mod run;
 mod session;
 
+use crate::line::{NoMemory, line_of};
+use crate::options::{Options, Show};
+use crate::session::simulate;
+use srm_report::outlet::WriteOutlet;
+use srm_scenario::feed::ReadFeed;
 use std::process::ExitCode;
 
-fn main(_rt: HostRuntime) -> ExitCode {
-    ExitCode::SUCCESS
+fn main(rt: HostRuntime) -> ExitCode {
+    let mut feed = ReadFeed::new(rt.stdin());
+    let mut outlet = WriteOutlet::new(rt.stdout());
+    let options = Options { show: Show::Trace };
+    match simulate(rt.alloc(), &mut feed, 0, options, &mut outlet) {
+        Ok(()) => ExitCode::SUCCESS,
+        Err(fault) => {
+            let _ = match line_of(rt.alloc(), &fault) {
+                Ok(line) => eprintln!(rt; "{line}"),
+                Err(NoMemory) => eprintln!(rt; "refused: no-memory"),
+            };
+            ExitCode::FAILURE
+        }
+    }
 }
