@@ -7,6 +7,8 @@ mod options;
 mod report;
 mod run;
 mod session;
+#[cfg(test)]
+mod tests;
 
 use crate::line::{NoMemory, line_of};
 use crate::options::{Options, Show};
