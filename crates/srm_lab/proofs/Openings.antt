@@ -14,7 +14,7 @@ records_from-suc p net seed i zero = let e : i ≡ i + 0 = omega arith in ap (λ
 records_from-suc p net seed i (suc n) =
     let e : suc i + n ≡ i + suc n = omega arith in
     ap (λ rs. opening_record (fixed_of p net seed i) ∷ rs)
-        (records_from-suc p net seed (suc i) n ∙ ap (λ k. records_from p net seed (suc i) n ++ opening_record (fixed_of p net seed k) ∷ []) e)
+    (records_from-suc p net seed (suc i) n ∙ ap (λ k. records_from p net seed (suc i) n ++ opening_record (fixed_of p net seed k) ∷ []) e)
 
 -- one member more
 pub opening-push : {B : Type 0} (f : B → Record) (p : PlainScenario) (net : Network) (seed n : ℕ) (bs : List B) (b : B)
