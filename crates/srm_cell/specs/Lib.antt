@@ -3,6 +3,7 @@ pub mod Flights
 pub mod Entries
 pub mod Cells
 pub mod Pending
+pub mod Probes
 pub mod Views
 pub mod OwnRuns
 pub mod Crossings

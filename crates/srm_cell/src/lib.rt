@@ -11,3 +11,5 @@ mod next;
 mod pending;
 mod rows;
 pub mod script;
+#[cfg(test)]
+mod tests;

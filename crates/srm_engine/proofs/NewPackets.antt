@@ -1,12 +1,12 @@
 -- A packet that a step sends is new to every cell.
-use Rattle.std.proofs.Common.{◌≡◌, ◌≢◌, ℕ, ◌<◌, Bool, true, false, List, [], ◌∷◌, length, Option, Some, None, refl, sym, ap, ◌∙◌, subst, slice_get, slice_set, ◌==◌, eqb-true, arith}
+use Rattle.std.proofs.Common.{◌≡◌, ◌≢◌, ℕ, ◌<◌, true, false, List, [], ◌∷◌, Option, Some, refl, sym, ap, ◌∙◌, subst, slice_get, slice_set, ◌==◌, eqb-true, arith}
 use Rattle.std.proofs.lemmas.Bool.{eqb-false}
 use Rattle.srm_net.specs.declared.packet.Packet.{Packet}
 use Rattle.srm_net.specs.declared.packet.PacketId.{PacketId}
 use Rattle.srm_cell.specs.declared.flight.Flight.{Flight}
 use Rattle.srm_cell.specs.Setting.{Setting, IsFit}
 use Rattle.srm_cell.specs.Flights.{BringsNone}
-use Rattle.srm_cell.specs.Cells.{PlainCell, Event, before, StepOutcome, Done, Stepped, step_at, next_event}
+use Rattle.srm_cell.specs.Cells.{PlainCell, Event, before, Done, Stepped, step_at, next_event}
 use Rattle.srm_cell.proofs.Rising.{OnEvent, before_on, OnStep}
 use Rattle.srm_cell.proofs.CellSteps.{SentBy}
 use Rattle.srm_cell.proofs.Clear.{CountAfter, StepOf, step_is_of, RestOf, next_rest}
@@ -14,8 +14,8 @@ use Rattle.srm_member.proofs.AllIn.{AllIn}
 use Rattle.srm_engine.specs.World.{World, least_event, run, opening}
 use Rattle.srm_engine.specs.Seen.{IsNew}
 use Rattle.srm_engine.proofs.RunLemmas.{Seq, rest, next}
-use Rattle.srm_engine.proofs.Sequential.{Good, StepFacts, step_facts, good_step, good_opening, run_seq, get_below}
-use Rattle.srm_engine.proofs.StrictRuns.{Strict, strict_step, strict_opening, sent_of, IsFresh, sent_here, all_tail}
+use Rattle.srm_engine.proofs.Sequential.{Good, step_facts, good_step, good_opening, run_seq, get_below}
+use Rattle.srm_engine.proofs.StrictRuns.{Strict, strict_step, strict_opening, sent_of, sent_here, all_tail}
 use Rattle.srm_engine.proofs.Index.{get_set_same, get_set_other}
 use Rattle.srm_engine.proofs.SeenLemmas.{same_some}
 

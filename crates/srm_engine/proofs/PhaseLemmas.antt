@@ -1,12 +1,12 @@
 -- What the phases of a run tell.
-use Rattle.std.proofs.Common.{◌≡◌, ℕ, Bool, true, false, cond, List, [], ◌∷◌, ◌++◌, Option, Some, None, Result, Ok, Err, inl, inr, refl, sym, ap, ◌∙◌, true≢false, zero, suc, ◌+◌, length, map, slice_get, subst, arith, zero-add}
+use Rattle.std.proofs.Common.{◌≡◌, ℕ, false, cond, List, [], ◌∷◌, Some, None, Result, Ok, Err, inl, inr, refl, sym, ap, ◌∙◌, true≢false, suc, ◌+◌, length, map, slice_get, subst, arith, zero-add}
 use Rattle.std.specs.Result.{is_ok, is_err}
 use Rattle.std.specs.declared.dyn_box.DynBox.{DynBox}
 use Rattle.std.specs.Global.{Global}
 use Rattle.srm_member.specs.declared.exit.Exit.{Exit}
 use Rattle.srm_member.specs.Record.{Record, Active, Gone}
 use Rattle.srm_cell.specs.Setting.{Setting}
-use Rattle.srm_cell.specs.Cells.{PlainCell, StepOutcome}
+use Rattle.srm_cell.specs.Cells.{PlainCell}
 use Rattle.srm_cell.specs.Views.{TellsExit, EndsWith, IsCell}
 use Rattle.srm_engine.specs.declared.cells.Engine.{Engine}
 use Rattle.srm_engine.specs.declared.fault.RunFault.{RunFault}

@@ -1,5 +1,5 @@
 -- What is seen of the cells and next times of all members, where one of them changes.
-use Rattle.std.proofs.Common.{◌≡◌, ◌≢◌, ℕ, zero, suc, ◌+◌, ◌<◌, Bool, true, false, List, [], ◌∷◌, length, Option, Some, None, Result, Ok, Err, refl, sym, ap, ◌∙◌, subst, slice_get, slice_set, ◌==◌, eqb-true, arith}
+use Rattle.std.proofs.Common.{◌≡◌, ◌≢◌, ℕ, zero, suc, ◌<◌, true, false, List, [], ◌∷◌, length, Option, Some, None, Ok, Err, refl, sym, ap, ◌∙◌, subst, slice_get, slice_set, ◌==◌, eqb-true, arith}
 use Rattle.std.proofs.lemmas.Bool.{eqb-false}
 use Rattle.std.proofs.Math.ListN.{length-set}
 use Rattle.std.specs.declared.dyn_box.DynBox.{DynBox}
@@ -9,8 +9,8 @@ use Rattle.srm_member.specs.Record.{Record}
 use Rattle.srm_cell.specs.declared.cell.Cell.{Cell}
 use Rattle.srm_cell.specs.declared.fault.CellFault.{CellFault}
 use Rattle.srm_cell.specs.declared.fault.CellFault.TheVariants as fault
-use Rattle.srm_cell.specs.Cells.{PlainCell, next_event, time_of, StepOutcome, Idle, Full, Spent, Done, Stepped}
-use Rattle.srm_cell.specs.Views.{IsCell, TellsRow, TellsStep}
+use Rattle.srm_cell.specs.Cells.{PlainCell, next_event, time_of, StepOutcome, Stepped}
+use Rattle.srm_cell.specs.Views.{IsCell, TellsStep}
 use Rattle.srm_engine.specs.Seen.{AreTimes, AreCells, AreSeen, TellsTake}
 use Rattle.srm_engine.proofs.Index.{get_set_same, get_set_other}
 

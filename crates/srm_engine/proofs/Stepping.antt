@@ -1,11 +1,11 @@
 -- The step of the engine is the step of the model.
-use Rattle.std.proofs.Common.{◌≡◌, ◌≢◌, ℕ, zero, suc, ◌+◌, ◌<◌, ◌≤◌, ◌^◌, Bool, true, false, cond, List, [], ◌∷◌, ◌++◌, length, Option, Some, None, option_map, refl, sym, ap, ◌∙◌, subst, slice_get, slice_set, nat_le, nat_lt, ◌==◌, eqb-true, eq-eqb, lt-ltb, le-ltb, le_refl, arith, zero-add, Ordering, Less, Equal, Greater}
+use Rattle.std.proofs.Common.{◌≡◌, ◌≢◌, ℕ, suc, ◌+◌, ◌<◌, ◌≤◌, ◌^◌, Bool, true, false, cond, List, [], ◌∷◌, ◌++◌, length, Option, Some, None, option_map, refl, sym, ap, ◌∙◌, subst, slice_get, slice_set, nat_le, nat_lt, ◌==◌, eqb-true, eq-eqb, lt-ltb, le-ltb, le_refl, arith, zero-add, Ordering, Less, Equal, Greater}
 use Rattle.std.proofs.lemmas.Bool.{eqb-false}
 use Rattle.std.proofs.lemmas.Bool.Decides.{nat_tests}
 use Rattle.std.proofs.lemmas.Cmp.{ranked, by_ranked}
 use Rattle.std.specs.Cmp.Lexicographic.{slice_cmp}
 use Rattle.std.specs.Ordering.{nat_cmp, ordering_then}
-use Rattle.std.specs.List.{filter_map, cons_option}
+use Rattle.std.specs.List.{cons_option}
 use Rattle.std.proofs.Math.ListN.{length-set}
 use Rattle.srm_net.specs.declared.key.Key.{Key}
 use Rattle.srm_net.specs.declared.packet.Packet.{Packet}
@@ -14,11 +14,11 @@ use Rattle.srm_member.specs.declared.row.Row.{Row}
 use Rattle.srm_cell.specs.Setting.{Setting, IsFit, arrival_of}
 use Rattle.srm_cell.specs.Flights.{BringsNone}
 use Rattle.srm_cell.specs.Crossings.{packets_of}
-use Rattle.srm_cell.specs.Cells.{PlainCell, Event, by_key, earlier, next_event, time_of, before, StepOutcome, Idle, Full, Spent, Done, Stepped, step_at, own_step, hear}
+use Rattle.srm_cell.specs.Cells.{PlainCell, Event, by_key, earlier, next_event, time_of, before, Idle, Full, Spent, Done, Stepped, step_at, own_step, hear}
 use Rattle.srm_cell.specs.OwnRuns.{told_to}
 use Rattle.srm_cell.proofs.CellSteps.{IsOf, IsStepOf, next_event_of, step_at_of, SentBy, before_some, some_not_idle}
 use Rattle.srm_cell.proofs.Rising.{SentAt}
-use Rattle.srm_engine.specs.World.{World, settled, after_step, least_event, step, step_to, step_of, run, opening, IsReached, RunMeetsFull}
+use Rattle.srm_engine.specs.World.{World, settled, after_step, least_event, step, run, opening, IsReached, RunMeetsFull}
 use Rattle.srm_engine.specs.Schedules.{own_of}
 use Rattle.srm_engine.specs.NextTimes.{sooner, least_time}
 use Rattle.srm_engine.specs.Seen.{AreTimes, heard_below, all_hear}
@@ -26,10 +26,10 @@ use Rattle.srm_engine.specs.Totalled.{MaySend, and_sent}
 use Rattle.srm_engine.proofs.Index.{get_set_same, get_set_other}
 use Rattle.srm_engine.proofs.SeenLemmas.{same_some, there}
 use Rattle.srm_engine.proofs.Hearing.{hears_not, get_heard, if_below}
-use Rattle.srm_engine.proofs.RunLemmas.{least_own, run_by, run_first, step_none, step_is, after_stepped, after_full, after_spent}
+use Rattle.srm_engine.proofs.RunLemmas.{least_own, run_by, run_first, step_none, step_is, after_stepped}
 use Rattle.srm_engine.proofs.Settled.{at_member, get_after}
 use Rattle.srm_engine.proofs.OneStep.{arrival_is}
-use Rattle.srm_engine.proofs.Sequential.{Good, good_reached, StepFacts, step_facts, get_below}
+use Rattle.srm_engine.proofs.Sequential.{good_reached, step_facts, get_below}
 use Rattle.srm_engine.proofs.NewPackets.{strict_reached, is_new}
 use Rattle.srm_engine.proofs.LawProofs.{never_spent, run_on}
 

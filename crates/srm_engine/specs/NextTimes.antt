@@ -1,5 +1,5 @@
 -- The least of the next times of all members.
-use Rattle.std.specs.Prelude.{◌≡◌, ℕ, suc, Bool, true, not, ◌&&◌, ◌||◌, false, List, [], ◌∷◌, Option, Some, None, ◌==◌, nat_le, if◌then◌else◌, slice_get}
+use Rattle.std.specs.Prelude.{◌≡◌, ℕ, suc, Bool, not, ◌&&◌, ◌||◌, false, List, [], ◌∷◌, Option, Some, None, ◌==◌, nat_le, if◌then◌else◌, slice_get}
 
 -- a time and a member, and another pair of these: the one with the lesser time, or the first where the times are the same
 abbrev pub sooner : (ℕ × ℕ) → Option (ℕ × ℕ) → ℕ × ℕ

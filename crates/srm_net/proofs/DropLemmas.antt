@@ -5,11 +5,12 @@ use Rattle.std.specs.Ordering.{match_ordering, ordering_reverse}
 use Rattle.std.specs.Cmp.{IsTotalOrder, on_total}
 use Rattle.std.specs.Cmp.Lexicographic.{nat_list_cmp_total}
 use Rattle.std.specs.FinMap.{slice_cmp-IsAntisymmetric, nat_cmp-IsAntisymmetric}
-use Rattle.std.proofs.lemmas.Bool.{ne_eqb, cases_Bool, cases_eq, and_parts, and_from, or_cases, or_left, or_right, false≢true}
+use Rattle.std.proofs.lemmas.Bool.{both_ways, false_from_ne_true, ne_eqb, cases_Bool, cases_eq, and_parts, and_from, or_cases, or_left, or_right, false≢true}
 use Rattle.srm_net.specs.declared.link.DropSpec.{DropSpec}
 use Rattle.srm_net.specs.declared.packet.PacketId.{PacketId}
 use Rattle.srm_net.specs.Orders.{AllAfter, Ascends}
 use Rattle.srm_net.specs.Paths.{drop_cmp, is_listed}
+use Rattle.srm_net.specs.Listed.{is_listed_somewhere}
 use Rattle.srm_net.specs.DropSets.{with_once, ordered_once, has_packet}
 
 -- ---- lists in order, each element once
@@ -143,15 +144,39 @@ listed_more old new d xs p l h e =
     sym (listed_sought new p l) ∙ h ∙ ap (λ t. cond (sought d.id d.link (record { link = l; id = p })) true t) (listed_sought old p l ∙ e)
     ∙ sym (any_push (λ d. (d.link == l) && ((d.id.sender == p.sender) && (d.id.count == p.count))) xs d)
 
-pub known_more : (old new : List DropSpec) (ps qs : List PacketId) (d : DropSpec) (p : PacketId) (l : ℕ)
-    → list_any (sought p l) new ≡ cond (sought d.id d.link (record { link = l; id = p })) true (list_any (sought p l) old)
+pub known_more : (ps qs : List PacketId) (d : DropSpec) (xs : List DropSpec) (p : PacketId)
     → has_packet qs p ≡ cond ((d.id.sender == p.sender) && (d.id.count == p.count)) true (has_packet ps p)
-    → (is_listed old p l ≡ true → has_packet ps p ≡ true) → is_listed new p l ≡ true → has_packet qs p ≡ true
-known_more old new ps qs d p l h g k i =
-    let j : cond (sought d.id d.link (record { link = l; id = p })) true (list_any (sought p l) old) ≡ true = sym h ∙ listed_sought new p l ∙ i in
-    elim (cases_Bool (sought d.id d.link (record { link = l; id = p }))) [
-      | inl t ↦ (let m = (and_parts _ _ t).1 in g ∙ ap (λ b. cond b true (has_packet ps p)) m)
-      | inr t ↦ (let m : list_any (sought p l) old ≡ true = rw t at j in
-          let n = k (sym (listed_sought old p l) ∙ m) in
-          g ∙ elim (cases_Bool ((d.id.sender == p.sender) && (d.id.count == p.count))) [ inl b ↦ rw b refl | inr b ↦ rw b n ])
+    → has_packet ps p ≡ is_listed_somewhere xs p → has_packet qs p ≡ is_listed_somewhere (xs ++ d ∷ []) p
+known_more ps qs d xs p g e =
+    g ∙ ap (λ t. cond ((d.id.sender == p.sender) && (d.id.count == p.count)) true t) e ∙ sym (any_push (λ d. (d.id.sender == p.sender) && (d.id.count == p.count)) xs d)
+
+-- ---- listed at some link
+
+pub somewhere_ordered : (ds : List DropSpec) (p : PacketId) → is_listed_somewhere (ordered_once drop_cmp ds) p ≡ is_listed_somewhere ds p
+somewhere_ordered ds p = any_ordered drop_cmp (λ d. (d.id.sender == p.sender) && (d.id.count == p.count)) (λ x y h. ap (λ d. (d.id.sender == p.sender) && (d.id.count == p.count)) (same_drop x y h)) ds
+
+somewhere_from : (ds : List DropSpec) (p : PacketId) (l : ℕ) → is_listed ds p l ≡ true → is_listed_somewhere ds p ≡ true
+somewhere_from [] p l h = absurd (false≢true h)
+somewhere_from (d ∷ ds) p l h =
+    elim (or_cases ((d.link == l) && ((d.id.sender == p.sender) && (d.id.count == p.count))) (is_listed ds p l) h) [
+      | inl t ↦ or_left ((d.id.sender == p.sender) && (d.id.count == p.count)) (is_listed_somewhere ds p) ((and_parts (d.link == l) ((d.id.sender == p.sender) && (d.id.count == p.count)) t).1)
+      | inr t ↦ or_right ((d.id.sender == p.sender) && (d.id.count == p.count)) (is_listed_somewhere ds p) (somewhere_from ds p l t)
+    ]
+
+somewhere_to : (ds : List DropSpec) (p : PacketId) → is_listed_somewhere ds p ≡ true → (l : ℕ) × (is_listed ds p l ≡ true)
+somewhere_to [] p h = absurd (false≢true h)
+somewhere_to (d ∷ ds) p h =
+    elim (or_cases ((d.id.sender == p.sender) && (d.id.count == p.count)) (is_listed_somewhere ds p) h) [
+      | inl t ↦ (d.link, or_left ((d.link == d.link) && ((d.id.sender == p.sender) && (d.id.count == p.count))) (is_listed ds p d.link) (and_from (d.link == d.link) ((d.id.sender == p.sender) && (d.id.count == p.count)) (eq-eqb d.link d.link refl) t))
+      | inr t ↦ (let r = somewhere_to ds p t in (r.0, or_right ((d.link == r.0) && ((d.id.sender == p.sender) && (d.id.count == p.count))) (is_listed ds p r.0) r.1))
+    ]
+
+pub nowhere_listed : (ds : List DropSpec) (p : PacketId) (l : ℕ) → is_listed_somewhere ds p ≡ false → is_listed ds p l ≡ false
+nowhere_listed ds p l h = false_from_ne_true (is_listed ds p l) (λ t. both_ways (is_listed_somewhere ds p) h (somewhere_from ds p l t))
+
+pub same_somewhere : (ds es : List DropSpec) (p : PacketId) → ((l : ℕ) → is_listed ds p l ≡ is_listed es p l) → is_listed_somewhere ds p ≡ is_listed_somewhere es p
+same_somewhere ds es p h =
+    elim (cases_Bool (is_listed_somewhere ds p)) [
+      | inl t ↦ (let r = somewhere_to ds p t in t ∙ sym (somewhere_from es p r.0 (sym (h r.0) ∙ r.1)))
+      | inr f ↦ f ∙ sym (false_from_ne_true (is_listed_somewhere es p) (λ t. let r = somewhere_to es p t in both_ways (is_listed_somewhere ds p) f (somewhere_from ds p r.0 (h r.0 ∙ r.1))))
     ]

@@ -1,12 +1,13 @@
 -- The entries of a set of drops.
-use Rattle.std.specs.Prelude.{◌≡◌, ℕ, Bool, true, ◌&&◌, ◌==◌, List, [], ◌∷◌}
+use Rattle.std.specs.Prelude.{◌≡◌, Bool, ◌&&◌, ◌==◌, List, [], ◌∷◌}
 use Rattle.std.specs.List.{list_any}
 use Rattle.std.specs.declared.cmp.Ordering.{Ordering}
 use Rattle.std.specs.Ordering.{match_ordering}
 use Rattle.srm_net.specs.declared.link.DropSpec.{DropSpec}
 use Rattle.srm_net.specs.declared.packet.PacketId.{PacketId}
 use Rattle.srm_net.specs.declared.drops.Drops.TheInside.{Inside}
-use Rattle.srm_net.specs.Paths.{drop_cmp, is_listed}
+use Rattle.srm_net.specs.Paths.{drop_cmp}
+use Rattle.srm_net.specs.Listed.{is_listed_somewhere}
 
 -- the list with x at its place, unless it has x already
 abbrev pub with_once : {A : Type 0} → (A → A → Ordering) → A → List A → List A
@@ -26,6 +27,6 @@ entries_of s = ordered_once drop_cmp s.entries.keys
 abbrev pub has_packet : List PacketId → PacketId → Bool
 has_packet ps p = list_any (λ q. (p.sender == q.sender) && (p.count == q.count)) ps
 
--- each entry's packet is among the packets
+-- the packets are those of the entries
 abbrev pub KnowsItsPackets : Inside → Type 0
-KnowsItsPackets s = (p : PacketId) (l : ℕ) → is_listed s.entries.keys p l ≡ true → has_packet s.packets.keys p ≡ true
+KnowsItsPackets s = (p : PacketId) → has_packet s.packets.keys p ≡ is_listed_somewhere s.entries.keys p

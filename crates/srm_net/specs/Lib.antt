@@ -4,6 +4,7 @@ pub mod Names
 pub mod Network
 pub mod Paths
 pub mod Least
+pub mod Listed
 pub mod DropSets
 pub mod Grids
 pub mod Growth

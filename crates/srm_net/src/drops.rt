@@ -1,7 +1,8 @@
 //! Which packets are to be dropped at which links.
-ghost use Rattle.std.specs.Prelude.{◌≡◌, ◌↔◌, ℕ, false, Contains, IfOk, IfErr};
+ghost use Rattle.std.specs.Prelude.{◌≡◌, ◌↔◌, Contains, IfOk, IfErr};
 ghost use Rattle.srm_net.specs.declared.link.DropSpec.{DropSpec};
 ghost use Rattle.srm_net.specs.Orders.{Ascends};
+ghost use Rattle.srm_net.specs.Listed.{is_listed_somewhere};
 ghost use Rattle.srm_net.specs.Paths.{drop_cmp, is_listed};
 
 use crate::fault::NetFault;
@@ -64,7 +65,7 @@ impl Drops {
 
     /// Whether any link is to drop a packet.
     pub fn lists_packet(&self, id: PacketId) -> bool
-        ensures { result ≡ false → (l : ℕ) → is_listed self.now id l ≡ false }
+        ensures { result ≡ is_listed_somewhere self.now id }
     {
         self.packets.contains(&id)
     }

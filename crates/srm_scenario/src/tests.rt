@@ -291,55 +291,72 @@ fn texts_that_are_not_read(rt: HostRuntime) -> Result<(), Fail> {
     Ok(())
 }
 
+// The chain with its members, two draws by member 0, two session messages, and a drop that is listed twice.
+fn sample(alloc: Global) -> Result<Scenario, Fail> {
+    let rest =
+        "draw = [{member = 0, page = 5, ink = 7, at = 9}, {member = 0, page = 6, ink = 8, at = 3}]\nsession = [{member = 0, at = 3}, {member = 1, at = 70}]\ndrop = [{link = 1, sender = 0, count = 4}, {link = 1, sender = 0, count = 4}]\n";
+    let text = format!(in alloc; "{TOP}{CHAIN}{MEMBERS}{rest}")?;
+    scenario(alloc, text.as_str())
+}
+
 #[test]
-fn what_is_read(rt: HostRuntime) -> Result<(), Fail> {
-    let alloc = rt.alloc();
-    let text = format!(in alloc;
-        "{TOP}{CHAIN}{MEMBERS}draw = [{{member = 0, page = 5, ink = 7, at = 9}}, {{member = 0, page = 6, ink = 8, at = 3}}]\nsession = [{{member = 0, at = 3}}, {{member = 1, at = 70}}]\ndrop = [{{link = 1, sender = 0, count = 4}}, {{link = 1, sender = 0, count = 4}}]\n"
-    )?;
-    let s = scenario(alloc, text.as_str())?;
+fn getters_of_the_run(rt: HostRuntime) -> Result<(), Fail> {
+    let s = sample(rt.alloc())?;
     assert_eq!(rt; s.until(), 100);
-    assert_eq!(rt;
-        (
-            s.constants().c1,
-            s.constants().c2,
-            s.constants().d1,
-            s.constants().d2
-        ),
-        (1000, 0, 1000, 0)
-    );
-    assert_eq!(rt; s.members(), 3);
-    assert_eq!(rt;
-        (s.role(0), s.role(1), s.role(2)),
-        (Role::Sender, Role::Late, Role::Listener)
-    );
-    assert_eq!(rt; (s.node(1), s.stream(1), s.join(1)), (1, 2, 20));
-    assert_eq!(rt; (s.leave(0), s.leave(1)), (Some(60), None));
-    assert!(rt; s.wants(1, 65535) && !s.wants(1, 2) && !s.wants(0, 1));
+    let constants = s.constants();
+    assert_eq!(rt; constants.c1, 1000);
+    assert_eq!(rt; constants.d2, 0);
     assert_eq!(rt; s.links().len(), 2);
+    Ok(())
+}
+
+#[test]
+fn getters_of_members(rt: HostRuntime) -> Result<(), Fail> {
+    let s = sample(rt.alloc())?;
+    assert_eq!(rt; s.members(), 3);
+    assert!(rt; s.role(1) == Role::Late);
+    assert_eq!(rt; s.node(1), 1);
+    assert_eq!(rt; s.stream(1), 2);
+    assert_eq!(rt; s.join(1), 20);
+    assert_eq!(rt; s.leave(1), None);
+    assert!(rt; s.wants(1, 65535));
+    assert!(rt; !s.wants(1, 2));
+    Ok(())
+}
+
+#[test]
+fn drops_and_network(rt: HostRuntime) -> Result<(), Fail> {
+    let s = sample(rt.alloc())?;
     let id = srm_net::packet::PacketId {
         sender: 0,
         count: 4,
     };
-    assert!(rt; s.drops().lists(1, id) && !s.drops().lists(0, id));
-    let net = s.net(alloc).map_err(|_| "no net")?;
+    assert!(rt; s.drops().lists(1, id));
+    assert!(rt; !s.drops().lists(0, id));
+    let net = s.net(rt.alloc()).map_err(|_| "no net")?;
     assert_eq!(rt; net.members(), 3);
     assert_eq!(rt; net.distance(0, 2), 2);
-    let marks = s.script(alloc, 0)?;
-    let mut row = Vec::new(alloc);
+    Ok(())
+}
+
+#[test]
+fn script_in_order(rt: HostRuntime) -> Result<(), Fail> {
+    let s = sample(rt.alloc())?;
+    assert_eq!(rt; s.members(), 3);
+    let marks = s.script(rt.alloc(), 0)?;
+    let mut text = String::new(rt.alloc());
     for mark in marks.iter() {
-        row.push((mark.at, mark.rank, mark.place, mark.page, mark.ink))?;
+        let at = mark.at;
+        let rank = mark.rank;
+        let place = mark.place;
+        let page = mark.page;
+        let ink = mark.ink;
+        let line = format!(in rt.alloc(); "{at}/{rank}/{place}/{page}/{ink} ")?;
+        text.push_str(line.as_str())?;
     }
     assert_eq!(rt;
-        row.as_slice(),
-        [
-            (0, 0, 0, 0, 0),
-            (3, 4, 1, 6, 8),
-            (3, 5, 0, 0, 0),
-            (9, 4, 0, 5, 7),
-            (60, 6, 0, 0, 0)
-        ]
-        .as_slice()
+        text.as_str(),
+        "0/0/0/0/0 3/4/1/6/8 3/5/0/0/0 9/4/0/5/7 60/6/0/0/0 "
     );
     Ok(())
 }
@@ -377,5 +394,70 @@ fn links_of_topologies(rt: HostRuntime) -> Result<(), Fail> {
         "topology = \"tree\"\nsize = 9\ndelay = 1\ndegree = 3\n",
     )?;
     assert_eq!(rt; wide.as_slice(), [0, 0, 0, 1, 1, 2, 2, 3].as_slice());
+    Ok(())
+}
+
+// Sees what is told of an array of so many equal elements.
+fn check_many(
+    rt: &impl Abort,
+    alloc: Global,
+    front: &str,
+    item: &str,
+    count: u32,
+    want: &str,
+) -> Result<(), Fail> {
+    let mut text = String::from_str(alloc, front)?;
+    for _ in 0..count {
+        text.push_str(item)?;
+        text.push(',')?;
+    }
+    text.push_str("]\n")?;
+    let told = told(alloc, text.as_str())?;
+    assert_eq!(rt; told.as_str(), want, "{count} of {item}");
+    Ok(())
+}
+
+#[test]
+fn lengths_of_arrays(rt: HostRuntime) -> Result<(), Fail> {
+    let alloc = rt.alloc();
+    let links = format!(in alloc; "{TOP}nodes = 9\nlink = [")?;
+    let link = "{a = 0, b = 0, delay = 1}";
+    check_many(&rt, alloc, links.as_str(), link, 255, "not-tree")?;
+    check_many(&rt, alloc, links.as_str(), link, 256, "bad-key top 0")?;
+    let members = format!(in alloc; "{TOP}nodes = 1\nmember = [")?;
+    let member = "{node = 0, role = \"sender\", stream = 0}";
+    check_many(&rt, alloc, members.as_str(), member, 256, "bad-member 1")?;
+    check_many(&rt, alloc, members.as_str(), member, 257, "bad-key top 0")?;
+    let draws = format!(in alloc; "{TOP}nodes = 1\ndraw = [")?;
+    let draw = "{member = 0, page = 0, ink = 0, at = 0}";
+    check_many(&rt, alloc, draws.as_str(), draw, 4096, "bad-draw 0")?;
+    check_many(&rt, alloc, draws.as_str(), draw, 4097, "bad-key top 0")?;
+    let sessions = format!(in alloc; "{TOP}nodes = 1\nsession = [")?;
+    let session = "{member = 0, at = 0}";
+    check_many(
+        &rt,
+        alloc,
+        sessions.as_str(),
+        session,
+        4096,
+        "bad-session 0",
+    )?;
+    check_many(
+        &rt,
+        alloc,
+        sessions.as_str(),
+        session,
+        4097,
+        "bad-key top 0",
+    )?;
+    let drops = format!(in alloc; "{TOP}nodes = 1\ndrop = [")?;
+    let drop = "{link = 0, sender = 0, count = 0}";
+    check_many(&rt, alloc, drops.as_str(), drop, 4096, "bad-drop 0")?;
+    check_many(&rt, alloc, drops.as_str(), drop, 4097, "bad-key top 0")?;
+    let pages = format!(in alloc;
+        "{TOP}nodes = 1\n[[member]]\nnode = 0\nrole = \"late\"\nstream = 0\npages = ["
+    )?;
+    check_many(&rt, alloc, pages.as_str(), "7", 256, "accepted")?;
+    check_many(&rt, alloc, pages.as_str(), "7", 257, "bad-key member 0")?;
     Ok(())
 }

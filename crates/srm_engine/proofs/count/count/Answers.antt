@@ -1,8 +1,8 @@
-use Rattle.std.proofs.Common.{◌≡◌, ◌<◌, ◌≤◌, ◌+◌, ◌*◌, sym, ◌∙◌, ap, subst, length, List, arith, ℕ, slice_index}
+use Rattle.std.proofs.Common.{◌≡◌, ◌≤◌, ◌+◌, ◌*◌, sym, ◌∙◌, ap, subst, length, arith, slice_index}
 use Rattle.srm_net.specs.Paths.{crosses, drops_at}
 use Rattle.srm_ledger.specs.Counts.{place_at, place_of}
 use Rattle.srm_cell.specs.Setting.{setting_of}
-use Rattle.srm_engine.specs.Totalled.{numbers_of, bump, crossing_kind}
+use Rattle.srm_engine.specs.Totalled.{bump}
 use Rattle.srm_engine.proofs.Counting.{mixed, none_counted, all_counted, counted_at, length_mixed, most, bumped, length_bumped}
 use Rattle.srm_engine.proofs.count.count.Goals as goal
 

@@ -1,4 +1,4 @@
-use Rattle.std.proofs.Common.{◌≡◌, sym, ◌∙◌, ap, subst, slice_set, List}
+use Rattle.std.proofs.Common.{sym, ◌∙◌, ap, subst, slice_set, List}
 use Rattle.srm_cell.specs.Setting.{setting_of}
 use Rattle.srm_cell.specs.Cells.{PlainCell}
 use Rattle.srm_engine.specs.Seen.{AreSeen}

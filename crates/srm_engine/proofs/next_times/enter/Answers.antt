@@ -1,4 +1,4 @@
-use Rattle.std.proofs.Common.{◌≡◌, sym, ◌∙◌}
+use Rattle.std.proofs.Common.{sym, ◌∙◌}
 use Rattle.srm_engine.proofs.Index.{entered, if_ok}
 use Rattle.srm_engine.proofs.next_times.enter.Goals as goal
 

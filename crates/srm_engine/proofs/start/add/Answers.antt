@@ -1,7 +1,7 @@
-use Rattle.std.proofs.Common.{◌≡◌, ◌+◌, List, Option, ◌++◌, ◌∷◌, [], sym, ◌∙◌, ap, subst, length, ℕ}
+use Rattle.std.proofs.Common.{◌≡◌, List, Option, ◌++◌, ◌∷◌, [], sym, ◌∙◌, ap, subst, length, ℕ}
 use Rattle.srm_scenario.specs.Plain.{script_of}
 use Rattle.srm_cell.specs.Setting.{setting_of}
-use Rattle.srm_cell.specs.Cells.{PlainCell, opening_cell, time_of, next_event}
+use Rattle.srm_cell.specs.Cells.{PlainCell, opening_cell}
 use Rattle.srm_cell.specs.Views.{IsCell}
 use Rattle.srm_engine.specs.World.{opening_cells}
 use Rattle.srm_engine.specs.Seen.{AreSeen}

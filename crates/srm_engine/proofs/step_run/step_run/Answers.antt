@@ -1,4 +1,4 @@
-use Rattle.std.proofs.Common.{◌≡◌, ◌∙◌}
+use Rattle.std.proofs.Common.{◌∙◌}
 use Rattle.srm_cell.specs.Setting.{setting_of}
 use Rattle.srm_engine.proofs.Opened.{totals_are}
 use Rattle.srm_engine.proofs.PhaseLemmas.{exits_are}

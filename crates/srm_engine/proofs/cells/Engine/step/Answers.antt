@@ -1,16 +1,13 @@
-use Rattle.std.proofs.Common.{◌≡◌, ◌<◌, ◌≤◌, ◌++◌, ◌∷◌, [], ℕ, List, Option, Some, sym, ◌∙◌, ap, subst, length, slice_get, slice_set, arith, le_refl}
+use Rattle.std.proofs.Common.{◌≡◌, ◌<◌, ◌≤◌, ◌++◌, ◌∷◌, [], List, Some, sym, ◌∙◌, ap, subst, slice_set, arith, le_refl}
 use Rattle.srm_net.specs.Network.{Network}
-use Rattle.srm_net.specs.declared.packet.Packet.{Packet}
-use Rattle.srm_scenario.specs.Plain.{network_of}
 use Rattle.srm_member.specs.declared.row.Row.{Row}
-use Rattle.srm_cell.specs.Setting.{Setting, setting_of, IsFit}
+use Rattle.srm_cell.specs.Setting.{setting_of, IsFit}
 use Rattle.srm_cell.specs.Crossings.{packets_of}
-use Rattle.srm_cell.specs.Cells.{PlainCell, Event, Stepped, Done, step_at, own_step}
+use Rattle.srm_cell.specs.Cells.{PlainCell, Done, step_at, own_step}
 use Rattle.srm_cell.proofs.FitSettings.{settings_are_fit}
 use Rattle.srm_cell.proofs.CellSteps.{SentBy}
-use Rattle.srm_engine.specs.World.{World, after_step, settled}
-use Rattle.srm_engine.specs.Seen.{AreSeen, TellsTake, all_hear}
-use Rattle.srm_engine.specs.Shown.{Shows}
+use Rattle.srm_engine.specs.World.{after_step, settled}
+use Rattle.srm_engine.specs.Seen.{AreSeen, all_hear}
 use Rattle.srm_engine.specs.Totalled.{numbers_of, MaySend, and_sent}
 use Rattle.srm_engine.proofs.RunLemmas.{after_full, after_spent}
 use Rattle.srm_engine.proofs.Sequential.{get_below}

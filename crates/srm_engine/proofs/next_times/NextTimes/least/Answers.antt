@@ -1,6 +1,6 @@
-use Rattle.std.proofs.Common.{◌≡◌, ℕ, sym, ◌∙◌, ap, refl, Some, None, true, false, List, [], ◌∷◌, length, arith, subst, ◌<◌, true≢false, zero-add}
+use Rattle.std.proofs.Common.{sym, ◌∙◌, ap, Some, subst, true≢false, zero-add}
 use Rattle.std.specs.Option.{IsSome}
-use Rattle.srm_engine.specs.NextTimes.{least_time, is_listed, is_time}
+use Rattle.srm_engine.specs.NextTimes.{least_time}
 use Rattle.srm_engine.proofs.Index.{least_is, no_least, listed_is, not_above, none_listed}
 use Rattle.srm_engine.proofs.next_times.NextTimes.least.Goals as goal
 

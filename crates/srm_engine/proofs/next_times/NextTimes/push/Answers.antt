@@ -1,4 +1,4 @@
-use Rattle.std.proofs.Common.{◌≡◌, sym, ◌∙◌, ap, slice_set, Some, None, ◌++◌, ◌∷◌, []}
+use Rattle.std.proofs.Common.{sym, ◌∙◌, ap, slice_set, None, ◌++◌, ◌∷◌, []}
 use Rattle.std.proofs.Math.Seq.{set-append_seam}
 use Rattle.srm_engine.proofs.Index.{if_ok}
 use Rattle.srm_engine.proofs.next_times.NextTimes.push.Goals as goal

@@ -1,4 +1,4 @@
-use Rattle.std.proofs.Common.{◌≡◌, ◌<◌, length, ◌≤◌, ◌≢◌, ap, sym, ◌∙◌, subst, refl, Option, Some, None, ℕ, slice_get, slice_set, true≢false, eq-eqb, arith, true, false, Bool}
+use Rattle.std.proofs.Common.{◌≡◌, ◌<◌, length, ◌≢◌, ap, sym, ◌∙◌, subst, refl, Option, Some, None, ℕ, slice_get, slice_set, true≢false, eq-eqb, arith, true}
 use Rattle.std.specs.Option.{option_eq}
 use Rattle.std.proofs.lemmas.Option.{slice_get-get_or}
 use Rattle.std.proofs.Math.ListN.{length-set}

@@ -3,8 +3,9 @@ use Rattle.std.proofs.lemmas.List.{take_all, take_more}
 use Rattle.srm_net.specs.declared.link.DropSpec.{DropSpec}
 use Rattle.srm_net.specs.declared.packet.PacketId.{PacketId}
 use Rattle.srm_net.specs.Paths.{is_listed, drop_cmp}
+use Rattle.srm_net.specs.Listed.{is_listed_somewhere}
 use Rattle.srm_net.specs.DropSets.{ordered_once}
-use Rattle.srm_net.proofs.DropLemmas.{drops_ascend, listed_ordered, contains_listed, listed_contains, listed_more, known_more}
+use Rattle.srm_net.proofs.DropLemmas.{drops_ascend, listed_ordered, contains_listed, listed_contains, listed_more, known_more, same_somewhere}
 use Rattle.srm_net.proofs.drops.Drops.of.Goals as goal
 
 -- an entry of no use but as a default
@@ -19,11 +20,14 @@ loop-entry-preserved c =
     let more : take (i + 1) xs ≡ take i xs ++ d ∷ [] = take_more xs i nothing c.loop-entry-test.true in
     record {
       same = λ p link. listed_more c.loop-entry.entries.keys c.insert.new.self.keys d (take i xs) p link (c.in-Ok.ensures.updates.0 (record { link = link; id = p })) (c.loop-entry.invariant.same p link) ∙ ap (λ ds. is_listed ds p link) (sym more);
-      known = λ p link. known_more c.loop-entry.entries.keys c.insert.new.self.keys c.loop-entry.packets.keys c.insert-in-loop-entry.new.self.keys d p link (c.in-Ok.ensures.updates.0 (record { link = link; id = p })) (c.in-Ok-insert.ensures.updates.0 p) (c.loop-entry.invariant.known p link);
+      known = λ p. known_more c.loop-entry.packets.keys c.insert-in-loop-entry.new.self.keys d (take i xs) p (c.in-Ok-insert.ensures.updates.0 p) (c.loop-entry.invariant.known p) ∙ ap (λ ds. is_listed_somewhere ds p) (sym more);
     }
 
 pub invariant_of-result : goal.invariant_of-result
-invariant_of-result c p l = c.loop-entry.invariant.known p l
+invariant_of-result c p =
+    let xs = c.args.list.now in
+    c.loop-entry.invariant.known p
+    ∙ sym (same_somewhere c.loop-entry.entries.keys (take c.loop-entry.entry-index xs) p (λ l. c.loop-entry.invariant.same p l))
 
 same_all : (c : goal.After-loop-entry) (p : PacketId) (l : ℕ) → is_listed (ordered_once drop_cmp c.loop-entry.entries.keys) p l ≡ is_listed c.args.list.now p l
 same_all c p l =
