@@ -95,3 +95,11 @@ module _ {B : Type 0} (f : B → Record) (o : Option B) (h : Record) (g : HoldsR
 
 pub now_empty : {B : Type 0} (f : B → Record) (o : Option B) (h : Record) → o ≡ None → IsGone h → HoldsRecord (record_in f o) h
 now_empty f o h e g = subst (λ q. HoldsRecord (record_in f q) h) (sym e) g
+
+-- where there is a box there is a record
+pub holds_one : {B : Type 0} (f : B → Record) (o : Option B) (b : B) → Some b ≡ o → record_in f o ≡ None → ⊥
+holds_one f o b e none = let q : Some (f b) ≡ None = ap (record_in f) e ∙ none in cc
+
+-- a cell without a box holds no record
+pub no_record : {B : Type 0} (f : B → Record) (o : Option B) → o ≡ None → record_in f o ≡ None
+no_record f o e = ap (record_in f) e

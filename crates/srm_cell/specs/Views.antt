@@ -52,6 +52,8 @@ module _ {X : Type 0} {H : X → Type 0} where
     pub inbox : p.inbox ≡ c.inbox
     pub script : p.script ≡ c.script
     pub exit : p.exit ≡ c.exit
+    -- once the member has left there is no box
+    pub none_once_left : (x : Exit) → c.exit ≡ Some x → record_in f c.member ≡ None
 
   -- a step of member m's cell with this outcome tells this, and leaves this cell. After a refusal nothing is known of the cell
   abbrev pub TellsRow : (DynBox X Global H → Record) → ℕ → StepOutcome Stepped → Result Row CellFault → Cell X H → Type 0

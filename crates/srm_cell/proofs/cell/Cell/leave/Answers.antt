@@ -1,7 +1,7 @@
 use Rattle.std.proofs.Common.{◌≡◌, ap, sym, ◌∙◌, refl, Some, None}
 use Rattle.srm_member.specs.declared.told.Told.TheVariants.{Parted}
 use Rattle.srm_cell.specs.Cells.{Event, handle, word_of, about_of}
-use Rattle.srm_cell.proofs.Saying.{gone_has_none, ended_is_gone, left, held, empty, now_empty}
+use Rattle.srm_cell.proofs.Saying.{gone_has_none, ended_is_gone, left, held, empty, now_empty, no_record}
 use Rattle.srm_cell.proofs.cell.Cell.leave.Goals as goal
 
 pub returns-in_default : goal.returns-in_default
@@ -19,5 +19,5 @@ returns g c = λ m e h k q.
       _,
       done.1,
       (λ i. record { key = sym k i; cause = ap word_of q i; about = ap (λ x. about_of x None) q i; told = Parted; lost = sym c.new.ensures i; sent = None }),
-      record { number = h.number; holds = now_empty _ c.take.new.self _ c.take.ensures.after done.0; sent = h.sent; inbox = h.inbox; script = h.script; exit = refl },
+      record { number = h.number; holds = now_empty _ c.take.new.self _ c.take.ensures.after done.0; none_once_left = λ x left. no_record _ c.take.new.self c.take.ensures.after; sent = h.sent; inbox = h.inbox; script = h.script; exit = refl },
     )

@@ -3,7 +3,7 @@ use Rattle.srm_net.specs.declared.key.Key.{Key}
 use Rattle.srm_member.specs.declared.cause.Cause.{Cause}
 use Rattle.srm_member.specs.declared.react.React.{React}
 use Rattle.srm_cell.specs.Cells.{Event, handle, row_of, packet_of, word_of, about_of}
-use Rattle.srm_cell.proofs.Saying.{gone_has_none, spent_is_gone, said_nothing, said, not_said, held, empty}
+use Rattle.srm_cell.proofs.Saying.{gone_has_none, spent_is_gone, said_nothing, said, not_said, held, empty, holds_one}
 use Rattle.srm_cell.proofs.cell.Cell.say.Goals as goal
 
 pub returns-in_default : goal.returns-in_default
@@ -22,7 +22,7 @@ returns-in_default-body g c = λ m e h k q.
       _,
       said_nothing e c.args.key c.args.cause.now k q _ _ c.in-Ok.reaction is c.in-Ok.ensures body,
       (λ i. record { key = sym k i; cause = (ap word_of q ∙ sym c.word-cause_word.ensures) i; about = about i; told = c.in-Ok.reaction.told; lost = c.in-Ok.reaction.lost; sent = None }),
-      record { number = h.number; holds = refl; sent = h.sent; inbox = h.inbox; script = h.script; exit = h.exit },
+      record { number = h.number; holds = refl; none_once_left = λ x left. absurd (holds_one _ c.args.self.now.member c.in-Some.member c.in-Some.ensures.value (h.none_once_left x left)); sent = h.sent; inbox = h.inbox; script = h.script; exit = h.exit },
     )
 
 pub returns-then-self-ge-COUNT_LIMIT : goal.returns-then-self-ge-COUNT_LIMIT
@@ -41,5 +41,5 @@ returns g c = λ m e h k q.
       _,
       said e c.args.key c.args.cause.now k q _ _ c.in-Ok.reaction c.in-Some-body.body is c.in-Ok.ensures c.in-Some-body.is lt,
       (λ i. record { key = sym k i; cause = (ap word_of q ∙ sym c.word-cause_word.ensures) i; about = about i; told = c.in-Ok.reaction.told; lost = c.in-Ok.reaction.lost; sent = Some (record { id = record { sender = (sym k i).member; count = same i }; sent = (sym k i).time; body = c.in-Some-body.body }) }),
-      record { number = h.number; holds = refl; sent = ap (λ n. n + 1) same; inbox = h.inbox; script = h.script; exit = h.exit },
+      record { number = h.number; holds = refl; none_once_left = λ x left. absurd (holds_one _ c.args.self.now.member c.in-Some.member c.in-Some.ensures.value (h.none_once_left x left)); sent = ap (λ n. n + 1) same; inbox = h.inbox; script = h.script; exit = h.exit },
     )
