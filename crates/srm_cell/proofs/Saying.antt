@@ -1,19 +1,15 @@
 -- What a member's answer makes of an event.
-use Rattle.std.proofs.Common.{◌≡◌, ℕ, ◌+◌, ◌<◌, ◌≤◌, ◌^◌, Bool, true, false, cond, Option, Some, None, Result, Ok, Err, refl, sym, ap, ◌∙◌, subst, nat_lt, lt-ltb, le-ltb}
+use Rattle.std.proofs.Common.{◌≡◌, ℕ, ◌+◌, ◌<◌, ◌≤◌, ◌^◌, true, false, cond, Option, Some, None, Ok, Err, refl, sym, ap, ◌∙◌, subst, nat_lt, lt-ltb, le-ltb}
 use Rattle.srm_net.specs.declared.key.Key.{Key}
 use Rattle.srm_net.specs.declared.packet.Body.{Body}
-use Rattle.srm_net.specs.declared.packet.Packet.{Packet}
 use Rattle.srm_member.specs.declared.cause.Cause.{Cause}
 use Rattle.srm_member.specs.declared.react.React.{React}
-use Rattle.srm_member.specs.declared.row.Row.{Row}
-use Rattle.srm_member.specs.declared.row.Word.{Word}
-use Rattle.srm_member.specs.declared.row.About.{About}
 use Rattle.srm_member.specs.declared.exit.Exit.{Exit}
 use Rattle.srm_member.specs.declared.fault.MemberFault.TheVariants as member
-use Rattle.srm_member.specs.Record.{Record, Active, Gone, Memory}
+use Rattle.srm_member.specs.Record.{Record, Active, Gone}
 use Rattle.srm_member.specs.React.{Reaction, react}
 use Rattle.srm_member.specs.Reacts.{Reacts, Finishes}
-use Rattle.srm_cell.specs.Cells.{PlainCell, Event, StepOutcome, Idle, Full, Spent, Done, Stepped, handle, sending_step, row_of, packet_of, parting, word_of, about_of}
+use Rattle.srm_cell.specs.Cells.{Event, StepOutcome, Full, Spent, Done, Stepped, handle, sending_step, row_of, packet_of, parting}
 use Rattle.srm_cell.specs.Views.{IsGone, HoldsRecord, record_in}
 
 -- a member that is gone has no answer

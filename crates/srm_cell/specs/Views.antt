@@ -1,8 +1,7 @@
 -- What is seen of a cell, and what its calls tell.
-use Rattle.std.specs.Prelude.{◌≡◌, ◌⊎◌, ℕ, List, Option, Some, None, Result, Ok, Err}
+use Rattle.std.specs.Prelude.{◌≡◌, ◌⊎◌, ℕ, Option, Some, None, Result, Ok, Err}
 use Rattle.std.specs.declared.dyn_box.DynBox.{DynBox}
 use Rattle.std.specs.Global.{Global}
-use Rattle.srm_net.specs.declared.key.Key.{Key}
 use Rattle.srm_member.specs.declared.due.Due.{Due}
 use Rattle.srm_member.specs.declared.exit.Exit.{Exit}
 use Rattle.srm_member.specs.declared.row.Row.{Row}
@@ -10,7 +9,7 @@ use Rattle.srm_member.specs.Record.{Record, Active, Gone, due_of, exit_of}
 use Rattle.srm_cell.specs.declared.cell.Cell.{Cell}
 use Rattle.srm_cell.specs.declared.fault.CellFault.{CellFault}
 use Rattle.srm_cell.specs.declared.fault.CellFault.TheVariants as fault
-use Rattle.srm_cell.specs.Cells.{PlainCell, Event, StepOutcome, Idle, Full, Spent, Done, Stepped}
+use Rattle.srm_cell.specs.Cells.{PlainCell, StepOutcome, Idle, Full, Spent, Done, Stepped}
 
 -- a record that is gone
 abbrev pub IsGone : Record → Type 0

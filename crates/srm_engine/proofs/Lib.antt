@@ -1,4 +1,5 @@
 pub mod Departed
+pub mod ExitsKept
 pub mod HandedOnce
 pub mod Index
 pub mod Counting

@@ -1,12 +1,12 @@
 -- What a run is given, and what it tells.
-use Rattle.std.specs.Prelude.{◌≡◌, ℕ, zero, suc, List, [], ◌∷◌, length, Result, Ok, Err}
+use Rattle.std.specs.Prelude.{◌≡◌, ◌≢◌, ℕ, zero, suc, List, [], ◌∷◌, length, Option, None, Result, Ok, Err}
 use Rattle.std.specs.declared.dyn_box.DynBox.{DynBox}
 use Rattle.std.specs.Global.{Global, Vec}
 use Rattle.srm_net.specs.Network.{Network}
 use Rattle.srm_scenario.specs.Plain.{PlainScenario}
 use Rattle.srm_member.specs.declared.row.Row.{Row}
 use Rattle.srm_member.specs.declared.exit.Exit.{Exit}
-use Rattle.srm_member.specs.Record.{Record, opening_record}
+use Rattle.srm_member.specs.Record.{Record, Active, Gone, opening_record}
 use Rattle.srm_cell.specs.declared.cell.Cell.{Cell}
 use Rattle.srm_cell.specs.Setting.{Setting, fixed_of}
 use Rattle.srm_cell.specs.Cells.{PlainCell}
@@ -33,12 +33,22 @@ TellsRun s (Ok v) = IsOutcome s v.trace.items v.exits.items v.totals
 TellsRun s (Err fault.NoMemory) = Unit {0}
 TellsRun s (Err fault.CountFull) = RunMeetsFull s
 
+-- a member whose record is gone has left its exit
+abbrev pub HasEnd : Record → Option Exit → Type 0
+HasEnd (Active m) x = Unit {0}
+HasEnd (Gone f) x = x ≢ None
+
 module _ {X : Type 0} {H : X → Type 0} where
   -- what the steps of a run tell: the rows up to the last world of the sequential run, in which the engine is then
   abbrev pub TellsTrace : (DynBox X Global H → Record) → Setting → Result (Vec Row) RunFault → Engine X H → Type 0
   TellsTrace f s (Ok rows) after = (w : World) × IsLast s w × (rows.items ≡ w.trace) × Shows f s after w
   TellsTrace f s (Err fault.NoMemory) after = Unit {0}
   TellsTrace f s (Err fault.CountFull) after = RunMeetsFull s
+
+  -- each cell may be seen as one whose member is there, or has left its exit
+  abbrev pub AllEnd : (DynBox X Global H → Record) → List (Cell X H) → Type 0
+  AllEnd f [] = Unit {0}
+  AllEnd f (c ∷ cs) = ((m : ℕ) × (p : PlainCell) × IsCell f m c p × HasEnd p.holds p.exit) × AllEnd f cs
 
   -- each exit is what the cell's member ends with, as it left or as it is
   abbrev pub EndAs : (DynBox X Global H → Record) → List (Cell X H) → List Exit → Type 0

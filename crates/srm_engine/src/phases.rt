@@ -1,14 +1,15 @@
 //! The phases of a run.
-ghost use Rattle.std.specs.Prelude.{◌≡◌, ◌<◌, ◌^◌, ℕ, List, IfOk};
+ghost use Rattle.std.specs.Prelude.{◌≡◌, ◌<◌, ◌^◌, ℕ, List, IfOk, IfErr};
 ghost use Rattle.srm_scenario.specs.Plain.{network_of};
 ghost use Rattle.srm_cell.specs.Setting.{setting_of};
 ghost use Rattle.srm_engine.specs.World.{opening};
 ghost use Rattle.srm_engine.specs.Shown.{Shows};
-ghost use Rattle.srm_engine.specs.Outcomes.{TellsTrace, EndAs};
+ghost use Rattle.srm_engine.specs.Outcomes.{TellsTrace, AllEnd, EndAs};
 
 use crate::cells::Engine;
 use crate::fault::RunFault;
 use srm_cell::cell::Cell;
+use srm_cell::fault::CellFault;
 use srm_member::exit::Exit;
 use srm_member::member::Member;
 use srm_member::row::Row;
@@ -41,14 +42,19 @@ pub(crate) fn run(
     }
 }
 
-/// What each member ends with, as it left or as it is.
+/// What each member ends with, as it left or as it is. Only memory can be wanting.
 pub(crate) fn finish(alloc: Global, cells: Vec<Cell>) -> Result<Vec<Exit>, RunFault>
-    ensures { IfOk result (λ exits. EndAs (λ b. (⟦<dyn Member as Member>⟧ b.vtable).plain b.value) cells.items exits.items) }
+    requires ends { AllEnd (λ b. (⟦<dyn Member as Member>⟧ b.vtable).plain b.value) cells.items }
+    ensures exits { IfOk result (λ exits. EndAs (λ b. (⟦<dyn Member as Member>⟧ b.vtable).plain b.value) cells.items exits.items) }
+    ensures fault { IfErr result (λ e. e ≡ RunFault.NoMemory) }
 {
     let mut exits = Vec::new(alloc);
     for cell in cells {
-        let Ok(exit) = cell.finish(alloc) else {
-            return Err(RunFault::NoMemory);
+        let exit = match cell.finish(alloc) {
+            Ok(exit) => exit,
+            Err(CellFault::NoMemory) => return Err(RunFault::NoMemory),
+            Err(CellFault::Spent) => unreachable!(),
+            Err(CellFault::CountFull) => unreachable!(),
         };
         if exits.push(exit).is_err() {
             return Err(RunFault::NoMemory);

@@ -39,7 +39,7 @@ pub fn step_run(
     let Engine { cells, totals, .. } = engine;
     let exits = match finish(alloc, cells) {
         Ok(exits) => exits,
-        Err(_) => return Err(RunFault::NoMemory),
+        Err(fault) => return Err(fault),
     };
     Ok(Outcome {
         trace,

@@ -1,6 +1,6 @@
-use Rattle.std.proofs.Common.{◌≡◌, ap, sym, ◌∙◌, refl, Some, None}
+use Rattle.std.proofs.Common.{ap, sym, ◌∙◌, refl, None}
 use Rattle.srm_member.specs.declared.told.Told.TheVariants.{Parted}
-use Rattle.srm_cell.specs.Cells.{Event, handle, word_of, about_of}
+use Rattle.srm_cell.specs.Cells.{handle, word_of, about_of}
 use Rattle.srm_cell.proofs.Saying.{gone_has_none, ended_is_gone, left, held, empty, now_empty, no_record}
 use Rattle.srm_cell.proofs.cell.Cell.leave.Goals as goal
 

@@ -1,8 +1,5 @@
-use Rattle.std.proofs.Common.{◌≡◌, ap, sym, ◌∙◌, refl, subst, ◌<◌, ◌≤◌, ◌+◌, ◌^◌, arith, Some, None, ℕ}
-use Rattle.srm_net.specs.declared.key.Key.{Key}
-use Rattle.srm_member.specs.declared.cause.Cause.{Cause}
-use Rattle.srm_member.specs.declared.react.React.{React}
-use Rattle.srm_cell.specs.Cells.{Event, handle, row_of, packet_of, word_of, about_of}
+use Rattle.std.proofs.Common.{◌≡◌, ap, sym, ◌∙◌, refl, ◌<◌, ◌≤◌, ◌+◌, ◌^◌, arith, Some, None}
+use Rattle.srm_cell.specs.Cells.{handle, word_of, about_of}
 use Rattle.srm_cell.proofs.Saying.{gone_has_none, spent_is_gone, said_nothing, said, not_said, held, empty, holds_one}
 use Rattle.srm_cell.proofs.cell.Cell.say.Goals as goal
 

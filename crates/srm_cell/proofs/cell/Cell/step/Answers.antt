@@ -1,4 +1,4 @@
-use Rattle.std.proofs.Common.{◌≡◌, ap, sym, ◌∙◌, refl, subst, Some, None, rules}
+use Rattle.std.proofs.Common.{sym, ◌∙◌}
 use Rattle.srm_cell.proofs.Nexts.{none_pending, none_before, takes}
 use Rattle.srm_cell.proofs.Telling.{tells_fault}
 use Rattle.srm_cell.proofs.cell.Cell.step.Goals as goal

@@ -1,4 +1,4 @@
-use Rattle.srm_cell.proofs.Nexts.{timer_known, no_timer}
+use Rattle.srm_cell.proofs.Nexts.{timer_known}
 use Rattle.srm_cell.proofs.cell.Cell.timer.Goals as goal
 
 pub returns : goal.returns

@@ -1,4 +1,4 @@
-use Rattle.std.proofs.Common.{◌≡◌, ◌+◌, ℕ, zero, suc, List, [], ◌∷◌, drop, ap, sym, ◌∙◌, add-one}
+use Rattle.std.proofs.Common.{◌≡◌, ℕ, zero, suc, List, [], ◌∷◌, drop, ap, sym, ◌∙◌, add-one}
 use Rattle.srm_cell.proofs.script.Script.pop_first.Goals as goal
 
 drop_step : {A : Type 0} (n : ℕ) (xs : List A) (k : A) (rest : List A) → drop n xs ≡ k ∷ rest → drop (suc n) xs ≡ rest

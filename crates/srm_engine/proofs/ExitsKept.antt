@@ -1,0 +1,128 @@
+-- A member that is gone has left its exit.
+use Rattle.std.proofs.Common.{◌≡◌, ℕ, zero, suc, ◌+◌, ◌^◌, Bool, true, false, cond, List, [], ◌∷◌, ◌++◌, ◌==◌, length, Option, Some, None, Err, refl, sym, ap, ◌∙◌, subst, slice_get, nat_lt, le_refl, arith, zero-add}
+use Rattle.std.specs.declared.dyn_box.DynBox.{DynBox}
+use Rattle.std.specs.Global.{Global}
+use Rattle.srm_net.specs.declared.packet.Body.{Body}
+use Rattle.srm_net.specs.declared.packet.Packet.{Packet}
+use Rattle.srm_member.specs.declared.cause.Cause.{Cause}
+use Rattle.srm_member.specs.declared.exit.Exit.{Exit}
+use Rattle.srm_member.specs.Record.{Record, Active, Gone}
+use Rattle.srm_member.specs.React.{Reaction, react}
+use Rattle.srm_member.proofs.AllIn.{AllIn}
+use Rattle.srm_cell.specs.declared.cell.Cell.{Cell}
+use Rattle.srm_cell.specs.Setting.{Setting, arrival_of}
+use Rattle.srm_cell.specs.Cells.{PlainCell, Event, StepOutcome, Idle, Full, Spent, Done, Stepped, handle, sending_step, step_at, before, hear, hear_at}
+use Rattle.srm_cell.specs.OwnRuns.{told_to}
+use Rattle.srm_cell.specs.declared.fault.CellFault.TheVariants as fault
+use Rattle.srm_cell.specs.Views.{IsCell, IsGone, TellsExit}
+use Rattle.srm_cell.proofs.Rising.{OnStep}
+use Rattle.srm_engine.specs.World.{World, IsReached, after_step, least_event, opening, opening_cells, run, settled, step, step_of, step_to}
+use Rattle.srm_engine.specs.Outcomes.{HasEnd, AllEnd}
+use Rattle.srm_engine.specs.Seen.{AreCells}
+use Rattle.srm_engine.proofs.RunLemmas.{run_by, run_first}
+
+abbrev Kept : PlainCell → Type 0
+Kept c = HasEnd c.holds c.exit
+
+-- ---- one step
+
+kept_by : (b : Bool) (x : Stepped) → Kept x.cell → OnStep (λ d. Kept d.cell) (cond b (Done x) Full)
+kept_by true x h = h
+kept_by false x h = tt
+
+kept_sending : (e : Event) (r : Reaction) (body : Option Body) → OnStep (λ d. Kept d.cell) (sending_step e r body)
+kept_sending e r None = tt
+kept_sending e r (Some body) = kept_by (nat_lt e.rest.sent (2 ^ 48)) _ tt
+
+kept_handle : (e : Event) (holds : Record) (cause : Option Cause) → OnStep (λ d. Kept d.cell) (handle e holds cause)
+unfolding handle
+kept_handle e (Active m) (Some cause) = let r = react m e.key.time cause in kept_sending e r r.answer.body
+kept_handle e (Active m) None = λ h. let q : Some _ ≡ None = h in cc
+kept_handle e (Gone f) cause = tt
+
+kept_hear_at : (p : Packet) (o : Option ℕ) (c : PlainCell) → Kept c → Kept (hear_at p o c)
+kept_hear_at p None c h = h
+kept_hear_at p (Some at) c h = h
+
+module _ (s : Setting) where
+  kept_told : (x : Option Packet) (m : ℕ) (c : PlainCell) → Kept c → Kept (told_to s x m c)
+  unfolding hear
+  kept_told None m c h = h
+  kept_told (Some p) m c h = kept_hear_at p (arrival_of s p m) c h
+
+  kept_if : (b : Bool) (d : Stepped) (i : ℕ) (c : PlainCell) → Kept d.cell → Kept c → Kept (cond b d.cell (told_to s d.row.sent i c))
+  kept_if true d i c h g = h
+  kept_if false d i c h g = kept_told d.row.sent i c g
+
+  kept_settled : (m : ℕ) (d : Stepped) (i : ℕ) (cs : List PlainCell) → Kept d.cell → AllIn Kept cs → AllIn Kept (settled s m d i cs)
+  unfolding settled
+  kept_settled m d i [] h g = tt
+  kept_settled m d i (c ∷ cs) h g = (kept_if (i == m) d i c h g.0, kept_settled m d (suc i) cs h g.1)
+
+  -- ---- the sequential run
+
+  kept_after : (w v : World) (m : ℕ) (o : StepOutcome Stepped) → OnStep (λ d. Kept d.cell) o → after_step s w m o ≡ Done v → AllIn Kept w.cells → AllIn Kept v.cells
+  unfolding after_step
+  kept_after w v m Idle k h g = let q : Idle ≡ Done v = h in cc
+  kept_after w v m Full k h g = let q : Full ≡ Done v = h in cc
+  kept_after w v m Spent k h g = let q : Spent ≡ Done v = h in cc
+  kept_after w v m (Done d) k h g =
+      let q : Done (record { cells = settled s m d 0 w.cells; trace = w.trace ++ d.row ∷ [] }) ≡ Done v = h in
+      let same : record { cells = settled s m d 0 w.cells; trace = w.trace ++ d.row ∷ [] } ≡ v = cc in
+      subst (λ (u : World). AllIn Kept u.cells) same (kept_settled m d 0 w.cells k g)
+
+  kept_step : (w v : World) (o : Option Event) → step_of s w o ≡ Done v → AllIn Kept w.cells → AllIn Kept v.cells
+  unfolding step_of
+  kept_step w v None h g = let q : Idle ≡ Done v = h in cc
+  kept_step w v (Some e) h g = kept_after w v e.key.member (step_at (Some e)) (kept_handle e e.rest.holds e.cause) h g
+
+  stepped : (w v : World) → step s w ≡ Done v → AllIn Kept w.cells → AllIn Kept v.cells
+  unfolding step_to
+  stepped w v h g = kept_step w v (before s.until (least_event 0 w.cells)) h g
+
+  kept_run : (n : ℕ) (w v : World) → run s n w ≡ Done v → AllIn Kept w.cells → AllIn Kept v.cells
+  unfolding run
+  kept_run zero w v h g = let same : w ≡ v = cc in subst (λ (u : World). AllIn Kept u.cells) same g
+  kept_run (suc n) w v h g =
+      let first = sym (run_first s s.until (le_refl s.until) n w) ∙ h in
+      elim (step s w) as (λ o. step s w ≡ o → AllIn Kept v.cells) [
+        | Idle ↦ λ q. let x : Idle ≡ Done v = sym (ap (run_by s s.until (le_refl s.until) n) q) ∙ first in cc
+        | Full ↦ λ q. let x : Full ≡ Done v = sym (ap (run_by s s.until (le_refl s.until) n) q) ∙ first in cc
+        | Spent ↦ λ q. let x : Spent ≡ Done v = sym (ap (run_by s s.until (le_refl s.until) n) q) ∙ first in cc
+        | Done u ↦ λ q. kept_run n u v (sym (ap (run_by s s.until (le_refl s.until) n) q) ∙ first) (stepped w u q g)
+      ] refl
+
+  kept_opening : (n i : ℕ) → AllIn Kept (opening_cells s n i)
+  unfolding opening_cells
+  kept_opening zero i = tt
+  kept_opening (suc n) i = (tt, kept_opening n (suc i))
+
+  kept_reached : (w : World) → IsReached s w → AllIn Kept w.cells
+  unfolding opening
+  kept_reached w r = kept_run r.0 (opening s) w r.1 (kept_opening s.members 0)
+
+-- ---- the cells of the engine
+
+module _ {X : Type 0} {H : X → Type 0} (f : DynBox X Global H → Record) where
+  all_end_from : (i : ℕ) (cs : List (Cell X H)) (ps : List PlainCell) → length cs ≡ length ps → ((j : ℕ) (c : Cell X H) (p : PlainCell) → slice_get cs j ≡ Some c → slice_get ps j ≡ Some p → IsCell f (i + j) c p) → AllIn Kept ps → AllEnd f cs
+  all_end_from i [] ps len each kept = tt
+  all_end_from i (c ∷ cs) [] len each kept = absurd (omega arith)
+  all_end_from i (c ∷ cs) (p ∷ ps) len each kept = (
+    (i + 0, p, each 0 c p refl refl, kept.0),
+    all_end_from (suc i) cs ps (omega arith) (λ j d q a b. subst (λ k. IsCell f k d q) (shift i j) (each (suc j) d q a b)) kept.1,
+  )
+    where
+      shift : (i j : ℕ) → i + suc j ≡ suc i + j
+      shift i j = omega arith
+
+  -- each cell of an engine in a reached world has a member, or the exit of one that left
+  pub all_end : (s : Setting) (cs : List (Cell X H)) (w : World) → IsReached s w → AreCells f cs w.cells → AllEnd f cs
+  all_end s cs w r h = all_end_from 0 cs w.cells h.as_many (λ j c p a b. subst (λ k. IsCell f k c p) (sym (zero-add j)) (h.each j c p a b)) (kept_reached s w r)
+
+gone_without : (r : Record) (x : Option Exit) → HasEnd r x → IsGone r → x ≡ None → ⊥
+gone_without (Active m) x h g e = g
+gone_without (Gone f) x h g e = h e
+
+-- a cell whose member is there, or has left its exit, is not told that it is gone
+pub never_spent : (p : PlainCell) → HasEnd p.holds p.exit → TellsExit p (Err fault.Spent) → ⊥
+never_spent p h t = gone_without p.holds p.exit h t.1 t.0
