@@ -1,0 +1,97 @@
+//! What stands beside loss recovery in members: maps from names, copies of causes, lengths of timers.
+use crate::stories::carried::Carried;
+use crate::stories::event::Event;
+use crate::stories::following::attempt_twice;
+use srm_member::cause::Cause;
+use srm_member::named::Named;
+use srm_member::timers::{draw, span};
+use srm_net::packet::{Heard, Name};
+use std::alloc::{AllocError, Global};
+use std::process::Abort;
+
+const FIRST: Name = Name {
+    source: 0,
+    page: 3,
+    number: 0,
+};
+
+const SECOND: Name = Name {
+    source: 0,
+    page: 3,
+    number: 1,
+};
+
+const THIRD: Name = Name {
+    source: 1,
+    page: 0,
+    number: 0,
+};
+
+// Puts a value in, and asserts that the map is as it was where memory is refused.
+fn put(rt: &impl Abort, map: &mut Named<u32>, name: Name, value: u32) -> Result<(), AllocError> {
+    let values = [FIRST, SECOND, THIRD].map(|n| map.get(n));
+    let Err(error) = map.put(name, value) else {
+        assert_eq!(rt; map.get(name), Some(value));
+        return Ok(());
+    };
+    assert_eq!(rt; [FIRST, SECOND, THIRD].map(|n| map.get(n)), values);
+    Err(error)
+}
+
+// Puts entries in and takes one out.
+fn fill(rt: &impl Abort, alloc: Global) -> Result<(), AllocError> {
+    let mut map = Named::new(alloc);
+    for (name, value) in [(THIRD, 9), (FIRST, 7), (SECOND, 5), (SECOND, 8)] {
+        put(rt, &mut map, name, value)?;
+    }
+    let entries = map.entries(alloc)?;
+    assert_eq!(rt;
+        entries.as_slice(),
+        [(FIRST, 7), (SECOND, 8), (THIRD, 9)].as_slice()
+    );
+    assert_eq!(rt; map.take(FIRST), Some(7));
+    assert_eq!(rt; map.take(FIRST), None);
+    let names = map.names(alloc)?;
+    assert_eq!(rt; names.as_slice(), [SECOND, THIRD].as_slice());
+    Ok(())
+}
+
+#[test]
+fn a_map_has_what_was_put_in_and_not_taken_out(rt: HostRuntime) -> Result<(), AllocError> {
+    attempt_twice(&rt, || fill(&rt, rt.alloc()))
+}
+
+// Copies a cause.
+fn copy(rt: &impl Abort, alloc: Global) -> Result<(), AllocError> {
+    let carried = Carried::Session {
+        heard: &[Heard {
+            source: 1,
+            page: 2,
+            highest: 3,
+        }],
+    };
+    let event = Event::Arrival { sender: 4, carried };
+    let copy = event.cause(alloc)?.clone()?;
+    assert!(rt;
+        matches!(&copy, Cause::Arrival { packet } if packet.id.sender == 4 && carried.is_in(&packet.body))
+    );
+    Ok(())
+}
+
+#[test]
+fn the_copy_of_a_cause_is_that_cause(rt: HostRuntime) -> Result<(), AllocError> {
+    attempt_twice(&rt, || copy(&rt, rt.alloc()))
+}
+
+// The words are the first two of seed 42 and stream 54, the distance is 10 ticks.
+#[test]
+fn lengths_of_timers(rt: HostRuntime) {
+    for (backoffs, word, ends, length) in [
+        (0, 0xa15c_02b7, (20, 40), 33),
+        (1, 0x7b47_f409, (40, 80), 59),
+    ] {
+        let (lo, hi) = span(backoffs, 2000, 2000, 10);
+        assert_eq!(rt; (lo, hi), ends);
+        assert_eq!(rt; draw(word, lo, hi), length);
+    }
+}
