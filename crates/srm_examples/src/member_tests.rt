@@ -9,50 +9,47 @@ use srm_net::packet::{Heard, Name};
 use std::alloc::{AllocError, Global};
 use std::process::Abort;
 
-const FIRST: Name = Name {
-    source: 0,
-    page: 3,
-    number: 0,
-};
+// How many names are put into a map: more than it keeps in one block.
+const COUNT: u32 = 20;
 
-const SECOND: Name = Name {
-    source: 0,
-    page: 3,
-    number: 1,
-};
-
-const THIRD: Name = Name {
-    source: 1,
-    page: 0,
-    number: 0,
-};
+fn name(number: u32) -> Name {
+    Name {
+        source: 1,
+        page: 2,
+        number,
+    }
+}
 
 // Puts a value in, and asserts that the map is as it was where memory is refused.
 fn put(rt: &impl Abort, map: &mut Named<u32>, name: Name, value: u32) -> Result<(), AllocError> {
-    let values = [FIRST, SECOND, THIRD].map(|n| map.get(n));
-    let Err(error) = map.put(name, value) else {
-        assert_eq!(rt; map.get(name), Some(value));
-        return Ok(());
-    };
-    assert_eq!(rt; [FIRST, SECOND, THIRD].map(|n| map.get(n)), values);
-    Err(error)
+    let before = map.get(name);
+    if let Err(_) = map.put(name, value) {
+        assert_eq!(rt; map.get(name), before);
+        return Err(AllocError);
+    }
+    assert_eq!(rt; map.get(name), Some(value));
+    Ok(())
 }
 
-// Puts entries in and takes one out.
+// Puts two values in for each name, in no order, and takes one out.
 fn fill(rt: &impl Abort, alloc: Global) -> Result<(), AllocError> {
     let mut map = Named::new(alloc);
-    for (name, value) in [(THIRD, 9), (FIRST, 7), (SECOND, 5), (SECOND, 8)] {
-        put(rt, &mut map, name, value)?;
+    for value in 0..2 * COUNT {
+        put(rt, &mut map, name(7 * value % COUNT), value)?;
     }
     let entries = map.entries(alloc)?;
-    assert_eq!(rt;
-        entries.as_slice(),
-        [(FIRST, 7), (SECOND, 8), (THIRD, 9)].as_slice()
-    );
-    assert_eq!(rt; map.take(FIRST), Some(7));
-    assert_eq!(rt; map.take(FIRST), None);
+    assert_eq!(rt; entries.len(), 20);
+    for number in 0..COUNT {
+        // 7 * 3 is 1 more than 20.
+        let value = COUNT + 3 * number % COUNT;
+        let entry = entries.as_slice().get(number as usize);
+        assert_eq!(rt; entry.copied(), Some((name(number), value)));
+    }
+    assert_eq!(rt; map.take(name(0)), Some(20));
+    assert_eq!(rt; map.take(name(0)), None);
     let names = map.names(alloc)?;
-    assert_eq!(rt; names.as_slice(), [SECOND, THIRD].as_slice());
+    assert_eq!(rt; names.len(), 19);
+    assert_eq!(rt; names.as_slice().first().copied(), Some(name(1)));
     Ok(())
 }
 

@@ -56,6 +56,7 @@ pub const LATE: Story = Story {
             sent: None,
             due: None,
         },
+        // page 0 is not wanted: it begins with number 2
         Step {
             at: 30,
             event: Event::Arrival {
@@ -103,6 +104,7 @@ pub const LATE: Story = Story {
                 name: PAGE_1_NUMBER_0,
             }),
         },
+        // page 2 is not wanted: it begins with number 5
         Step {
             at: 45,
             event: Event::Arrival {
@@ -120,7 +122,7 @@ pub const LATE: Story = Story {
                 name: PAGE_1_NUMBER_0,
             }),
         },
-        // 20 to 40 ticks: 50 + 30
+        // page 3 is not wanted: it begins with number 7; of page 1 a number is lost, for 20 to 40 ticks: 50 + 30
         Step {
             at: 50,
             event: Event::Arrival {

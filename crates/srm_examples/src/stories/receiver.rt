@@ -31,8 +31,14 @@ const PAGE_0_NUMBER_3: Name = Name {
     number: 3,
 };
 
+const PAGE_0_NUMBER_4: Name = Name {
+    source: 0,
+    page: 0,
+    number: 4,
+};
+
 /// A receiver, with distance 5 to members 0 and 2, and request timers of two to four times the distance, of the words 0xa15c02b7,
-/// 0x7b47f409, 0xba1d3330 and 0x83d2f293.
+/// 0x7b47f409, 0xba1d3330, 0x83d2f293, 0xbfa4784b and 0xcbed606e.
 pub const RECEIVER: Story = Story {
     member: 1,
     steps: &[
@@ -223,11 +229,49 @@ pub const RECEIVER: Story = Story {
                 name: PAGE_0_NUMBER_3,
             }),
         },
+        // a loss learnt from a request takes two words, here for 18 and for 36 ticks
+        Step {
+            at: 80,
+            event: Event::Arrival {
+                sender: 2,
+                carried: Carried::Request {
+                    name: PAGE_0_NUMBER_4,
+                },
+            },
+            told: Told::Back,
+            lost: &[PAGE_0_NUMBER_4],
+            sent: None,
+            due: Some(Due {
+                time: 85,
+                rank: 2,
+                name: PAGE_0_NUMBER_3,
+            }),
+        },
+        // 80 + 36
+        Step {
+            at: 81,
+            event: Event::Arrival {
+                sender: 2,
+                carried: Carried::Repair {
+                    name: PAGE_0_NUMBER_3,
+                    ink: 6,
+                },
+            },
+            told: Told::Fixed,
+            lost: &[],
+            sent: None,
+            due: Some(Due {
+                time: 116,
+                rank: 2,
+                name: PAGE_0_NUMBER_4,
+            }),
+        },
     ],
     held: &[
         (PAGE_0_NUMBER_0, 7),
         (PAGE_0_NUMBER_1, 8),
         (PAGE_0_NUMBER_2, 9),
+        (PAGE_0_NUMBER_3, 6),
     ],
-    missing: &[PAGE_0_NUMBER_3],
+    missing: &[PAGE_0_NUMBER_4],
 };

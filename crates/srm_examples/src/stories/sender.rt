@@ -177,6 +177,69 @@ pub const SENDER: Story = Story {
                 name: PAGE_3_NUMBER_0,
             }),
         },
+        // rests until 43 + 3 * 10
+        Step {
+            at: 43,
+            event: Event::Arrival {
+                sender: 2,
+                carried: Carried::Repair {
+                    name: PAGE_3_NUMBER_1,
+                    ink: 8,
+                },
+            },
+            told: Told::Again,
+            lost: &[],
+            sent: None,
+            due: Some(Due {
+                time: 50,
+                rank: 3,
+                name: PAGE_3_NUMBER_0,
+            }),
+        },
+        Step {
+            at: 50,
+            event: Event::Answer {
+                name: PAGE_3_NUMBER_0,
+            },
+            told: Told::Sent,
+            lost: &[],
+            sent: Some(Carried::Repair {
+                name: PAGE_3_NUMBER_0,
+                ink: 7,
+            }),
+            due: None,
+        },
+        Step {
+            at: 72,
+            event: Event::Arrival {
+                sender: 1,
+                carried: Carried::Request {
+                    name: PAGE_3_NUMBER_1,
+                },
+            },
+            told: Told::Rest,
+            lost: &[],
+            sent: None,
+            due: None,
+        },
+        // 73 + 5
+        Step {
+            at: 73,
+            event: Event::Arrival {
+                sender: 1,
+                carried: Carried::Request {
+                    name: PAGE_3_NUMBER_1,
+                },
+            },
+            told: Told::Plan,
+            lost: &[],
+            sent: None,
+            due: Some(Due {
+                time: 78,
+                rank: 3,
+                name: PAGE_3_NUMBER_1,
+            }),
+        },
     ],
     held: &[(PAGE_3_NUMBER_0, 7), (PAGE_3_NUMBER_1, 8)],
     missing: &[],
