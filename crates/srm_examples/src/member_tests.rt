@@ -9,8 +9,10 @@ use srm_net::packet::{Heard, Name};
 use std::alloc::{AllocError, Global};
 use std::process::Abort;
 
-// How many names are put into a map: more than it keeps in one block.
-const COUNT: u32 = 20;
+// The numbers of the names that are put into a map: more than it keeps in one block.
+const NUMBERS: [u32; 20] = [
+    0, 1, 2, 3, 4, 5, 6, 7, 8, 9, 10, 11, 12, 13, 14, 15, 16, 17, 18, 19,
+];
 
 fn name(number: u32) -> Name {
     Name {
@@ -21,27 +23,27 @@ fn name(number: u32) -> Name {
 }
 
 // Puts a value in, and asserts that the map is as it was where memory is refused.
-fn put(rt: &impl Abort, map: &mut Named<u32>, name: Name, value: u32) -> Result<(), AllocError> {
-    let before = map.get(name);
-    if let Err(_) = map.put(name, value) {
-        assert_eq!(rt; map.get(name), before);
+fn put(rt: &impl Abort, map: &mut Named<u32>, key: Name, value: u32) -> Result<(), AllocError> {
+    let before = NUMBERS.map(|number| map.get(name(number)));
+    if map.put(key, value).is_err() {
+        assert_eq!(rt; NUMBERS.map(|number| map.get(name(number))), before);
         return Err(AllocError);
     }
-    assert_eq!(rt; map.get(name), Some(value));
+    assert_eq!(rt; map.get(key), Some(value));
     Ok(())
 }
 
 // Puts two values in for each name, in no order, and takes one out.
 fn fill(rt: &impl Abort, alloc: Global) -> Result<(), AllocError> {
     let mut map = Named::new(alloc);
-    for value in 0..2 * COUNT {
-        put(rt, &mut map, name(7 * value % COUNT), value)?;
+    for value in 0..40 {
+        put(rt, &mut map, name(7 * value % 20), value)?;
     }
     let entries = map.entries(alloc)?;
     assert_eq!(rt; entries.len(), 20);
-    for number in 0..COUNT {
-        // 7 * 3 is 1 more than 20.
-        let value = COUNT + 3 * number % COUNT;
+    for number in 0..20 {
+        // The second value of the name: 7 * 3 is one more than 20.
+        let value = 20 + 3 * number % 20;
         let entry = entries.as_slice().get(number as usize);
         assert_eq!(rt; entry.copied(), Some((name(number), value)));
     }
