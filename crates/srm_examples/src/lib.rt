@@ -1,4 +1,12 @@
-//! Tests that cross crates: whole scenarios, each with every byte that it must give.
+//! Tests that cross crates: whole scenarios, each with every byte that it must give, and what members answer, call by call.
 #![tactic(auto)]
 
+#[cfg(test)]
+mod member_tests;
+#[cfg(test)]
+mod recovery_tests;
+#[cfg(test)]
+mod role_tests;
 pub mod scenarios;
+#[cfg(test)]
+mod stories;

@@ -1,0 +1,36 @@
+//! One event of a story.
+use crate::stories::carried::Carried;
+use crate::stories::event::Event;
+use srm_member::due::Due;
+use srm_member::react::React;
+use srm_member::told::Told;
+use srm_net::packet::Name;
+
+/// An event, and what must come of it.
+#[derive(Clone, Copy, Debug)]
+pub struct Step {
+    /// When it happens, in ticks.
+    pub at: u32,
+    /// What happens.
+    pub event: Event,
+    /// What the member tells of it.
+    pub told: Told,
+    /// The names that it finds to be missing.
+    pub lost: &'static [Name],
+    /// What it sends, if anything.
+    pub sent: Option<Carried>,
+    /// Its next timer afterwards.
+    pub due: Option<Due>,
+}
+
+impl Step {
+    /// Whether an answer is what must come of the event.
+    pub fn expects(&self, react: &React) -> bool {
+        let sent = match (self.sent, &react.body) {
+            (None, None) => true,
+            (Some(carried), Some(body)) => carried.is_in(body),
+            _ => false,
+        };
+        sent && react.told == self.told && react.lost.as_slice() == self.lost
+    }
+}
