@@ -1,11 +1,13 @@
 //! Whole scenarios from bytes to bytes, over devices in memory.
-use crate::fault::Fault;
+use crate::fault::{Fault, LabFault};
 use crate::options::{Options, Show};
 use crate::session::simulate;
-use srm_examples::scenarios::{DRAWN_TIMERS, EXAMPLES};
+use srm_examples::scenarios::{CHAIN_OF_FIVE_ONE_LOSS, DRAWN_TIMERS, EXAMPLES};
 use srm_report::outlet::WriteOutlet;
 use srm_scenario::feed::ReadFeed;
 use std::alloc::Global;
+use std::io;
+use std::io::{ErrorKind, Write};
 use std::test::Fail;
 
 // What is written of a scenario text.
@@ -38,5 +40,46 @@ fn drawn_timers_follow_the_seed(rt: HostRuntime) -> Result<(), Fail> {
         return Err(Fail::from("refused"));
     };
     assert!(rt; text.as_slice() == DRAWN_TIMERS.trace.as_bytes());
+    Ok(())
+}
+
+// Takes as many bytes as it has room for, and then fails.
+#[derive(Drop)]
+struct Narrow {
+    taken: Vec<u8>,
+    room: usize,
+}
+
+impl Write for Narrow {
+    fn write(&mut self, piece: &[u8]) -> io::Result<usize> {
+        let count = piece.len().min(self.room);
+        if count == 0 {
+            return Err(io::Error::from(ErrorKind::Other));
+        }
+        self.taken.extend_from_slice(&piece[..count])?;
+        self.room -= count;
+        Ok(count)
+    }
+
+    fn flush(&mut self) -> io::Result<()> {
+        Ok(())
+    }
+}
+
+#[test]
+fn an_outlet_that_fails_has_taken_the_front_of_the_trace(rt: HostRuntime) -> Result<(), Fail> {
+    let options = Options { show: Show::Trace };
+    let mut feed = ReadFeed::new(CHAIN_OF_FIVE_ONE_LOSS.scenario.as_bytes());
+    let mut outlet = WriteOutlet::new(Narrow {
+        taken: Vec::new(rt.alloc()),
+        room: 10,
+    });
+    let refused = simulate(rt.alloc(), &mut feed, 0, options, &mut outlet);
+    let fault = LabFault::WriteFault { written: 10 };
+    assert_eq!(rt; refused, Err(Fault::Lab(fault)));
+    assert_eq!(rt;
+        outlet.into_inner().taken.as_slice(),
+        b"time,membe".as_slice()
+    );
     Ok(())
 }

@@ -1,0 +1,130 @@
+//! What whole runs count on each link, and what members end with, against numbers worked by hand.
+use srm_engine::outcome::Outcome;
+use srm_engine::step_run::step_run;
+use srm_examples::scenarios::{
+    CHAIN_OF_FIVE_ONE_LOSS, DROP_ON_THE_SECOND_LINK, Example, LATE_JOINER, LISTENER_THAT_LEAVES,
+    LONE_SENDER, RECEIVER_THAT_LEAVES, STAR_LOSS_AT_ONE_MEMBER, STAR_LOSS_AT_THE_SOURCE,
+    STOPPED_BEFORE_THE_REPAIR,
+};
+use srm_member::member::Member;
+use srm_net::packet::Name;
+use srm_net::role::Role;
+use srm_roles::late::Late;
+use srm_roles::listener::Listener;
+use srm_roles::receiver::Receiver;
+use srm_roles::sender::Sender;
+use srm_scenario::feed::ReadFeed;
+use srm_scenario::reading::read_scenario;
+use std::alloc::Global;
+use std::test::Fail;
+
+// The outcome of an example with random words of seed 0.
+fn outcome_of(alloc: Global, example: &Example) -> Result<Outcome, Fail> {
+    let mut feed = ReadFeed::new(example.scenario.as_bytes());
+    let scenario = read_scenario(alloc, &mut feed)?;
+    let net = scenario.net(alloc)?;
+    let mut members: Vec<Box<dyn Member>> = Vec::new(alloc);
+    for m in 0..scenario.members() {
+        let member: Box<dyn Member> = match scenario.role(m) {
+            Role::Sender => Box::new(alloc, Sender::new(alloc, &scenario, &net, 0, m)?)?,
+            Role::Receiver => Box::new(alloc, Receiver::new(alloc, &scenario, &net, 0, m)?)?,
+            Role::Late => Box::new(alloc, Late::new(alloc, &scenario, &net, 0, m)?)?,
+            Role::Listener => Box::new(alloc, Listener::new(alloc, &scenario, &net, 0, m)?)?,
+        };
+        members.push(member)?;
+    }
+    Ok(step_run(alloc, &scenario, &net, members)?)
+}
+
+// For each link in turn the data, requests, repairs and session messages that cross it, and the packets that it drops.
+#[test]
+fn packets_are_counted_on_each_link(rt: HostRuntime) -> Result<(), Fail> {
+    for (example, links) in [
+        (
+            CHAIN_OF_FIVE_ONE_LOSS,
+            [
+                [2, 1, 1, 0, 0],
+                [1, 1, 1, 0, 1],
+                [1, 1, 1, 0, 0],
+                [1, 1, 1, 0, 0],
+            ]
+            .as_slice(),
+        ),
+        (
+            STAR_LOSS_AT_THE_SOURCE,
+            &[
+                [1, 3, 1, 0, 1],
+                [1, 3, 1, 0, 0],
+                [1, 3, 1, 0, 0],
+                [1, 3, 1, 0, 0],
+            ],
+        ),
+        (
+            STAR_LOSS_AT_ONE_MEMBER,
+            &[
+                [2, 2, 3, 0, 0],
+                [2, 2, 3, 0, 0],
+                [2, 2, 3, 0, 0],
+                [1, 2, 3, 0, 1],
+            ],
+        ),
+        (RECEIVER_THAT_LEAVES, &[[2, 0, 0, 0, 0]]),
+        (LISTENER_THAT_LEAVES, &[[2, 0, 0, 0, 0]]),
+        (LONE_SENDER, &[]),
+        (DROP_ON_THE_SECOND_LINK, &[[2, 0, 0, 0, 0], [1, 0, 0, 0, 1]]),
+    ] {
+        let outcome = outcome_of(rt.alloc(), &example)?;
+        let (counted, rest) = outcome.totals.as_slice().as_chunks::<5>();
+        assert_eq!(rt; counted, links, "{}", example.name);
+        assert!(rt; rest.is_empty(), "{}", example.name);
+    }
+    Ok(())
+}
+
+// What the sender draws first and second on page 0, and first on page 1.
+const FIRST: Name = Name {
+    source: 0,
+    page: 0,
+    number: 0,
+};
+
+const SECOND: Name = Name {
+    source: 0,
+    page: 0,
+    number: 1,
+};
+
+const ON_PAGE_ONE: Name = Name {
+    source: 0,
+    page: 1,
+    number: 0,
+};
+
+// The names that a member holds, with their inks, and those that it lacks.
+#[test]
+fn members_end_with_what_they_hold_and_lack(rt: HostRuntime) -> Result<(), Fail> {
+    for (example, member, held, missing) in [
+        (
+            LATE_JOINER,
+            0,
+            [(FIRST, 7), (SECOND, 9), (ON_PAGE_ONE, 8)].as_slice(),
+            [].as_slice(),
+        ),
+        (LATE_JOINER, 1, &[(SECOND, 9), (ON_PAGE_ONE, 8)], &[]),
+        (
+            STOPPED_BEFORE_THE_REPAIR,
+            0,
+            &[(FIRST, 7), (SECOND, 8)],
+            &[],
+        ),
+        (STOPPED_BEFORE_THE_REPAIR, 1, &[(SECOND, 8)], &[FIRST]),
+        (RECEIVER_THAT_LEAVES, 1, &[(FIRST, 7)], &[]),
+    ] {
+        let outcome = outcome_of(rt.alloc(), &example)?;
+        let exit = outcome.exits.get(member).ok_or("no exit")?;
+        assert_eq!(rt; usize::from(exit.member), member, "{}", example.name);
+        assert_eq!(rt; exit.held.as_slice(), held, "{}", example.name);
+        assert_eq!(rt; exit.missing.as_slice(), missing, "{}", example.name);
+    }
+    Ok(())
+}
