@@ -5,7 +5,7 @@ use crate::options::{Options, Show};
 use crate::session::simulate;
 use srm_report::outlet::WriteOutlet;
 use srm_scenario::fault::{Part, ScenarioFault};
-use srm_scenario::feed::{Feed, ReadFeed};
+use srm_scenario::feed::ReadFeed;
 use std::alloc::Global;
 use std::io;
 use std::io::{ErrorKind, Read};
@@ -22,17 +22,18 @@ impl Read for Broken {
     }
 }
 
-// That what is fed is refused with this fault and this line, and nothing is written.
-fn check<F: Feed>(
+// That what is read is refused with this fault and this line, and nothing is written.
+fn check<R: Read + Drop>(
     rt: &impl Abort,
     alloc: Global,
-    feed: &mut F,
+    reader: R,
     fault: ScenarioFault,
     line: &str,
 ) -> Result<(), Fail> {
+    let mut feed = ReadFeed::new(reader);
     let mut outlet = WriteOutlet::new(Vec::new(alloc));
     let options = Options { show: Show::Trace };
-    let refused = simulate(alloc, feed, 0, options, &mut outlet);
+    let refused = simulate(alloc, &mut feed, 0, options, &mut outlet);
     assert_eq!(rt; refused, Err(Fault::Scenario(fault)));
     assert_eq!(rt; outlet.into_inner().len(), 0, "{line}");
     let told = line_of(alloc, &Fault::Scenario(fault));
@@ -103,8 +104,7 @@ drop = [{ link = 0, sender = 0, count = 0 }]",
 fn each_refused_text_gives_its_line_alone(rt: HostRuntime) -> Result<(), Fail> {
     for (below, fault, line) in REFUSED {
         let text = format!(in rt.alloc(); "{TOP}{below}")?;
-        let mut feed = ReadFeed::new(text.as_bytes());
-        check(&rt, rt.alloc(), &mut feed, fault, line)?;
+        check(&rt, rt.alloc(), text.as_bytes(), fault, line)?;
     }
     Ok(())
 }
@@ -115,21 +115,19 @@ fn an_empty_text_lacks_its_keys(rt: HostRuntime) -> Result<(), Fail> {
         part: Part::Top,
         place: 0,
     };
-    let mut feed = ReadFeed::new(b"".as_slice());
-    check(&rt, rt.alloc(), &mut feed, fault, "refused: bad-key top 0")
+    let line = "refused: bad-key top 0";
+    check(&rt, rt.alloc(), b"".as_slice(), fault, line)
 }
 
 #[test]
 fn a_text_of_one_byte_too_many_is_too_long(rt: HostRuntime) -> Result<(), Fail> {
     let text = Vec::from_elem(rt.alloc(), b' ', 1_048_577)?;
-    let mut feed = ReadFeed::new(text.as_slice());
     let fault = ScenarioFault::TooLong;
-    check(&rt, rt.alloc(), &mut feed, fault, "refused: too-long")
+    check(&rt, rt.alloc(), text.as_slice(), fault, "refused: too-long")
 }
 
 #[test]
 fn a_feed_that_fails_is_no_scenario(rt: HostRuntime) -> Result<(), Fail> {
-    let mut feed = ReadFeed::new(Broken);
     let fault = ScenarioFault::ReadFault;
-    check(&rt, rt.alloc(), &mut feed, fault, "refused: read-fault")
+    check(&rt, rt.alloc(), Broken, fault, "refused: read-fault")
 }

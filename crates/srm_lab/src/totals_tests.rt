@@ -1,4 +1,7 @@
 //! What whole runs count on each link, and what members end with, against numbers worked by hand.
+ghost use Rattle.std.specs.Prelude.{◌≡◌};
+ghost use Rattle.srm_scenario.specs.Plain.{network_of};
+
 use srm_engine::outcome::Outcome;
 use srm_engine::step_run::step_run;
 use srm_examples::scenarios::{
@@ -7,6 +10,7 @@ use srm_examples::scenarios::{
     STOPPED_BEFORE_THE_REPAIR,
 };
 use srm_member::member::Member;
+use srm_net::net::Net;
 use srm_net::packet::Name;
 use srm_net::role::Role;
 use srm_roles::late::Late;
@@ -15,25 +19,33 @@ use srm_roles::receiver::Receiver;
 use srm_roles::sender::Sender;
 use srm_scenario::feed::ReadFeed;
 use srm_scenario::reading::read_scenario;
+use srm_scenario::scenario::Scenario;
 use std::alloc::Global;
 use std::test::Fail;
 
-// The outcome of an example with random words of seed 0.
+// Runs the members of a scenario, made by their roles with random words of seed 0.
+fn run_scenario(alloc: Global, scenario: &Scenario, net: &Net) -> Result<Outcome, Fail>
+    requires { net.now ≡ network_of scenario.now }
+{
+    let mut members: Vec<Box<dyn Member>> = Vec::new(alloc);
+    for m in 0..scenario.members() {
+        let member: Box<dyn Member> = match scenario.role(m) {
+            Role::Sender => Box::new(alloc, Sender::new(alloc, scenario, net, 0, m)?)?,
+            Role::Receiver => Box::new(alloc, Receiver::new(alloc, scenario, net, 0, m)?)?,
+            Role::Late => Box::new(alloc, Late::new(alloc, scenario, net, 0, m)?)?,
+            Role::Listener => Box::new(alloc, Listener::new(alloc, scenario, net, 0, m)?)?,
+        };
+        members.push(member)?;
+    }
+    Ok(step_run(alloc, scenario, net, members)?)
+}
+
+// What the run of an example gives.
 fn outcome_of(alloc: Global, example: &Example) -> Result<Outcome, Fail> {
     let mut feed = ReadFeed::new(example.scenario.as_bytes());
     let scenario = read_scenario(alloc, &mut feed)?;
     let net = scenario.net(alloc)?;
-    let mut members: Vec<Box<dyn Member>> = Vec::new(alloc);
-    for m in 0..scenario.members() {
-        let member: Box<dyn Member> = match scenario.role(m) {
-            Role::Sender => Box::new(alloc, Sender::new(alloc, &scenario, &net, 0, m)?)?,
-            Role::Receiver => Box::new(alloc, Receiver::new(alloc, &scenario, &net, 0, m)?)?,
-            Role::Late => Box::new(alloc, Late::new(alloc, &scenario, &net, 0, m)?)?,
-            Role::Listener => Box::new(alloc, Listener::new(alloc, &scenario, &net, 0, m)?)?,
-        };
-        members.push(member)?;
-    }
-    Ok(step_run(alloc, &scenario, &net, members)?)
+    run_scenario(alloc, &scenario, &net)
 }
 
 // For each link in turn the data, requests, repairs and session messages that cross it, and the packets that it drops.
