@@ -2,13 +2,19 @@
 use crate::fault::{Fault, LabFault};
 use crate::options::{Options, Show};
 use crate::session::simulate;
-use srm_examples::scenarios::{CHAIN_OF_FIVE_ONE_LOSS, DRAWN_TIMERS, EXAMPLES};
+use srm_examples::scenarios::{DRAWN_TIMERS, EXAMPLES, Example};
 use srm_report::outlet::WriteOutlet;
 use srm_scenario::feed::ReadFeed;
 use std::alloc::Global;
 use std::io;
 use std::io::{ErrorKind, Write};
 use std::test::Fail;
+
+// The example of this name.
+pub(crate) fn example(name: &str) -> Result<Example, Fail> {
+    let found = EXAMPLES.iter().find(|example| example.name == name);
+    Ok(*found.ok_or("no such example")?)
+}
 
 // What is written of a scenario text.
 fn written(alloc: Global, text: &str, seed: u64) -> Result<Vec<u8>, Fault> {
@@ -69,7 +75,8 @@ impl Write for Narrow {
 #[test]
 fn an_outlet_that_fails_has_taken_the_front_of_the_trace(rt: HostRuntime) -> Result<(), Fail> {
     let options = Options { show: Show::Trace };
-    let mut feed = ReadFeed::new(CHAIN_OF_FIVE_ONE_LOSS.scenario.as_bytes());
+    let example = example("chain_of_five_one_loss")?;
+    let mut feed = ReadFeed::new(example.scenario.as_bytes());
     let mut outlet = WriteOutlet::new(Narrow {
         taken: Vec::new(rt.alloc()),
         room: 10,

@@ -2,13 +2,9 @@
 ghost use Rattle.std.specs.Prelude.{◌≡◌};
 ghost use Rattle.srm_scenario.specs.Plain.{network_of};
 
+use crate::tests::example;
 use srm_engine::outcome::Outcome;
 use srm_engine::step_run::step_run;
-use srm_examples::scenarios::{
-    CHAIN_OF_FIVE_ONE_LOSS, DROP_ON_THE_SECOND_LINK, Example, LATE_JOINER, LISTENER_THAT_LEAVES,
-    LONE_SENDER, RECEIVER_THAT_LEAVES, STAR_LOSS_AT_ONE_MEMBER, STAR_LOSS_AT_THE_SOURCE,
-    STOPPED_BEFORE_THE_REPAIR,
-};
 use srm_member::member::Member;
 use srm_net::net::Net;
 use srm_net::packet::Name;
@@ -40,9 +36,9 @@ fn run_scenario(alloc: Global, scenario: &Scenario, net: &Net) -> Result<Outcome
     Ok(step_run(alloc, scenario, net, members)?)
 }
 
-// What the run of an example gives.
-fn outcome_of(alloc: Global, example: &Example) -> Result<Outcome, Fail> {
-    let mut feed = ReadFeed::new(example.scenario.as_bytes());
+// What the run of the example of this name gives.
+fn outcome_of(alloc: Global, name: &str) -> Result<Outcome, Fail> {
+    let mut feed = ReadFeed::new(example(name)?.scenario.as_bytes());
     let scenario = read_scenario(alloc, &mut feed)?;
     let net = scenario.net(alloc)?;
     run_scenario(alloc, &scenario, &net)
@@ -51,9 +47,9 @@ fn outcome_of(alloc: Global, example: &Example) -> Result<Outcome, Fail> {
 // For each link in turn the data, requests, repairs and session messages that cross it, and the packets that it drops.
 #[test]
 fn packets_are_counted_on_each_link(rt: HostRuntime) -> Result<(), Fail> {
-    for (example, links) in [
+    for (name, links) in [
         (
-            CHAIN_OF_FIVE_ONE_LOSS,
+            "chain_of_five_one_loss",
             [
                 [2, 1, 1, 0, 0],
                 [1, 1, 1, 0, 1],
@@ -63,7 +59,7 @@ fn packets_are_counted_on_each_link(rt: HostRuntime) -> Result<(), Fail> {
             .as_slice(),
         ),
         (
-            STAR_LOSS_AT_THE_SOURCE,
+            "star_loss_at_the_source",
             &[
                 [1, 3, 1, 0, 1],
                 [1, 3, 1, 0, 0],
@@ -72,7 +68,7 @@ fn packets_are_counted_on_each_link(rt: HostRuntime) -> Result<(), Fail> {
             ],
         ),
         (
-            STAR_LOSS_AT_ONE_MEMBER,
+            "star_loss_at_one_member",
             &[
                 [2, 2, 3, 0, 0],
                 [2, 2, 3, 0, 0],
@@ -80,15 +76,18 @@ fn packets_are_counted_on_each_link(rt: HostRuntime) -> Result<(), Fail> {
                 [1, 2, 3, 0, 1],
             ],
         ),
-        (RECEIVER_THAT_LEAVES, &[[2, 0, 0, 0, 0]]),
-        (LISTENER_THAT_LEAVES, &[[2, 0, 0, 0, 0]]),
-        (LONE_SENDER, &[]),
-        (DROP_ON_THE_SECOND_LINK, &[[2, 0, 0, 0, 0], [1, 0, 0, 0, 1]]),
+        ("receiver_that_leaves", &[[2, 0, 0, 0, 0]]),
+        ("listener_that_leaves", &[[2, 0, 0, 0, 0]]),
+        ("lone_sender", &[]),
+        (
+            "drop_on_the_second_link",
+            &[[2, 0, 0, 0, 0], [1, 0, 0, 0, 1]],
+        ),
     ] {
-        let outcome = outcome_of(rt.alloc(), &example)?;
+        let outcome = outcome_of(rt.alloc(), name)?;
         let (counted, rest) = outcome.totals.as_slice().as_chunks::<5>();
-        assert_eq!(rt; counted, links, "{}", example.name);
-        assert!(rt; rest.is_empty(), "{}", example.name);
+        assert_eq!(rt; counted, links, "{name}");
+        assert!(rt; rest.is_empty(), "{name}");
     }
     Ok(())
 }
@@ -115,28 +114,28 @@ const ON_PAGE_ONE: Name = Name {
 // The names that a member holds, with their inks, and those that it lacks.
 #[test]
 fn members_end_with_what_they_hold_and_lack(rt: HostRuntime) -> Result<(), Fail> {
-    for (example, member, held, missing) in [
+    for (name, member, held, missing) in [
         (
-            LATE_JOINER,
+            "late_joiner",
             0,
             [(FIRST, 7), (SECOND, 9), (ON_PAGE_ONE, 8)].as_slice(),
             [].as_slice(),
         ),
-        (LATE_JOINER, 1, &[(SECOND, 9), (ON_PAGE_ONE, 8)], &[]),
+        ("late_joiner", 1, &[(SECOND, 9), (ON_PAGE_ONE, 8)], &[]),
         (
-            STOPPED_BEFORE_THE_REPAIR,
+            "stopped_before_the_repair",
             0,
             &[(FIRST, 7), (SECOND, 8)],
             &[],
         ),
-        (STOPPED_BEFORE_THE_REPAIR, 1, &[(SECOND, 8)], &[FIRST]),
-        (RECEIVER_THAT_LEAVES, 1, &[(FIRST, 7)], &[]),
+        ("stopped_before_the_repair", 1, &[(SECOND, 8)], &[FIRST]),
+        ("receiver_that_leaves", 1, &[(FIRST, 7)], &[]),
     ] {
-        let outcome = outcome_of(rt.alloc(), &example)?;
+        let outcome = outcome_of(rt.alloc(), name)?;
         let exit = outcome.exits.get(member).ok_or("no exit")?;
-        assert_eq!(rt; usize::from(exit.member), member, "{}", example.name);
-        assert_eq!(rt; exit.held.as_slice(), held, "{}", example.name);
-        assert_eq!(rt; exit.missing.as_slice(), missing, "{}", example.name);
+        assert_eq!(rt; usize::from(exit.member), member, "{name}");
+        assert_eq!(rt; exit.held.as_slice(), held, "{name}");
+        assert_eq!(rt; exit.missing.as_slice(), missing, "{name}");
     }
     Ok(())
 }
