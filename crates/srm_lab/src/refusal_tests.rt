@@ -12,7 +12,7 @@ use std::io::{ErrorKind, Read};
 use std::process::Abort;
 use std::test::Fail;
 
-// Fails.
+// A device that fails.
 #[derive(Drop)]
 struct Broken;
 

@@ -14,7 +14,7 @@ use std::alloc::Global;
 /// outlet.
 ///
 /// # Errors
-/// The scenario is refused, and nothing is written; or the run is, as [`run`] says; or memory runs out in between.
+/// The scenario is refused, and nothing is written; or the run is, as [`run`](crate::run::run) says; or memory runs out in between.
 pub fn simulate<F: Feed, O: Outlet>(
     alloc: Global,
     feed: &mut F,

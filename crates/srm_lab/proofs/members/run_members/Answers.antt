@@ -1,4 +1,4 @@
-use Rattle.std.proofs.Common.{◌≡◌, ◌∙◌, ℕ, length, map, ap, refl, arith}
+use Rattle.std.proofs.Common.{◌≡◌, ◌∙◌, length, map, ap, refl, arith}
 use denote.Param.Object.{read_made}
 use Rattle.srm_member.specs.Record.{Record}
 use Rattle.srm_engine.specs.Outcomes.{records_from}
