@@ -2,7 +2,6 @@ PROGRAM := crates/srm_lab/out/srm_lab
 SOURCES := crates.txt $(shell find crates -path '*/out' -prune -o \( -name '*.rt' -o -name '*.antt' \) -print)
 PREFIX ?= /usr/local
 SCENARIO ?= examples/two-nodes.toml
-FROM ?= 1
 
 .PHONY: build run test test-memory bench install
 
@@ -21,18 +20,10 @@ run: $(PROGRAM)
 test:
 	rt ci
 
-# runs the tests of srm_examples with each one's first allocation refused, then the second, and so on, until ten runs in a row tell of
-# no refusal; fails where an answer is wrong, a member lives on without its memory, or a run is stopped. Each run builds the tests
-# anew, so it takes an hour; make test-memory FROM=31 goes on at the 31st allocation
-test-memory:
-	@cd crates/srm_examples && n=$$(($(FROM) - 1)) && quiet=0 && while [ $$quiet -lt 10 ]; do \
-		n=$$((n + 1)); \
-		told=$$(rt try --test --fail-alloc $$n 2>&1) || { status=$$?; echo "$$told"; echo "allocation $$n refused: status $$status"; exit 1; }; \
-		case "$$told" in \
-			*"memory was refused"*) quiet=0; echo "allocation $$n refused: no fault" ;; \
-			*) quiet=$$((quiet + 1)); echo "allocation $$n refused: no fault, and no call was refused memory" ;; \
-		esac; \
-	done
+# refuses each allocation in turn, of the program on each scenario of examples/ and of each test of members and roles
+test-memory: $(PROGRAM)
+	cd crates/srm_examples && rt test > /dev/null
+	tests/refuse_allocations.py --program $(PROGRAM) examples/*.toml --tests crates/srm_examples/out/srm_examples_tests
 
 # prints how many events the program handles in a second
 bench: $(PROGRAM)

@@ -3,12 +3,17 @@
 
 mod fault;
 mod line;
+mod members;
 mod options;
+#[cfg(test)]
+mod refusal_tests;
 mod report;
 mod run;
 mod session;
 #[cfg(test)]
 mod tests;
+#[cfg(test)]
+mod totals_tests;
 
 use crate::line::{NoMemory, line_of};
 use crate::options::{Options, Show};

@@ -1,7 +1,7 @@
 use Rattle.std.proofs.Common.{◌≡◌, map}
 use Rattle.srm_engine.specs.Outcomes.{records_from}
-use Rattle.srm_lab.proofs.session.run_members.OwnLists.{own-1}
-use Rattle.srm_lab.proofs.session.run_members.Given as goal
+use Rattle.srm_lab.proofs.members.run_members.OwnLists.{own-1}
+use Rattle.srm_lab.proofs.members.run_members.Given as goal
 
 -- the members so far hold their opening records
 abbrev pub invariant-loop-m : goal.invariant-loop-m

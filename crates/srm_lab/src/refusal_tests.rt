@@ -1,0 +1,133 @@
+//! What is told of each scenario that is refused, over devices in memory.
+use crate::fault::Fault;
+use crate::line::line_of;
+use crate::options::{Options, Show};
+use crate::session::simulate;
+use srm_report::outlet::WriteOutlet;
+use srm_scenario::fault::{Part, ScenarioFault};
+use srm_scenario::feed::ReadFeed;
+use std::alloc::Global;
+use std::io;
+use std::io::{ErrorKind, Read};
+use std::process::Abort;
+use std::test::Fail;
+
+// A device that fails.
+#[derive(Drop)]
+struct Broken;
+
+impl Read for Broken {
+    fn read(&mut self, _buf: &mut [u8]) -> io::Result<usize> {
+        Err(io::Error::from(ErrorKind::Other))
+    }
+}
+
+// That what is read is refused with this fault and this line, and nothing is written.
+fn check<R: Read + Drop>(
+    rt: &impl Abort,
+    alloc: Global,
+    reader: R,
+    fault: ScenarioFault,
+    line: &str,
+) -> Result<(), Fail> {
+    let mut feed = ReadFeed::new(reader);
+    let mut outlet = WriteOutlet::new(Vec::new(alloc));
+    let options = Options { show: Show::Trace };
+    let refused = simulate(alloc, &mut feed, 0, options, &mut outlet);
+    assert_eq!(rt; refused, Err(Fault::Scenario(fault)));
+    assert_eq!(rt; outlet.into_inner().len(), 0, "{line}");
+    let told = line_of(alloc, &Fault::Scenario(fault));
+    assert_eq!(rt; told.map_err(|_| "no line")?.as_str(), line);
+    Ok(())
+}
+
+// The keys that every scenario has.
+const TOP: &str = "version = 1\nuntil = 20\nc1 = 1000\nc2 = 0\nd1 = 1000\nd2 = 0\n";
+
+// Each text stands below these keys.
+const REFUSED: [(&str, ScenarioFault, &str); 8] = [
+    ("[[member", ScenarioFault::NotToml, "refused: not-toml"),
+    (
+        "",
+        ScenarioFault::BadKey {
+            part: Part::Top,
+            place: 0,
+        },
+        "refused: bad-key top 0",
+    ),
+    (
+        "nodes = 1
+member = [{ node = 0, role = 'sender', stream = 1 }]
+draw = [{ member = 0, page = 0, ink = 7, at = 0 }, { member = 0, page = 0, ink = 8, at = 5, color = 1 }]",
+        ScenarioFault::BadKey {
+            part: Part::Draw,
+            place: 1,
+        },
+        "refused: bad-key draw 1",
+    ),
+    (
+        "nodes = 3
+link = [{ a = 0, b = 1, delay = 1 }, { a = 1, b = 0, delay = 1 }]",
+        ScenarioFault::NotTree,
+        "refused: not-tree",
+    ),
+    (
+        "nodes = 1
+member = [{ node = 0, role = 'sender', stream = 1 }, { node = 0, role = 'receiver', stream = 2 }]",
+        ScenarioFault::BadMember { place: 1 },
+        "refused: bad-member 1",
+    ),
+    (
+        "nodes = 1
+member = [{ node = 0, role = 'listener', stream = 1 }]
+draw = [{ member = 0, page = 0, ink = 7, at = 0 }]",
+        ScenarioFault::BadDraw { place: 0 },
+        "refused: bad-draw 0",
+    ),
+    (
+        "nodes = 1
+member = [{ node = 0, role = 'listener', stream = 1 }]
+session = [{ member = 0, at = 0 }]",
+        ScenarioFault::BadSession { place: 0 },
+        "refused: bad-session 0",
+    ),
+    (
+        "nodes = 1
+member = [{ node = 0, role = 'sender', stream = 1 }]
+drop = [{ link = 0, sender = 0, count = 0 }]",
+        ScenarioFault::BadDrop { place: 0 },
+        "refused: bad-drop 0",
+    ),
+];
+
+#[test]
+fn each_refused_text_gives_its_line_alone(rt: HostRuntime) -> Result<(), Fail> {
+    for (below, fault, line) in REFUSED {
+        let text = format!(in rt.alloc(); "{TOP}{below}")?;
+        check(&rt, rt.alloc(), text.as_bytes(), fault, line)?;
+    }
+    Ok(())
+}
+
+#[test]
+fn an_empty_text_lacks_its_keys(rt: HostRuntime) -> Result<(), Fail> {
+    let fault = ScenarioFault::BadKey {
+        part: Part::Top,
+        place: 0,
+    };
+    let line = "refused: bad-key top 0";
+    check(&rt, rt.alloc(), b"".as_slice(), fault, line)
+}
+
+#[test]
+fn a_text_of_one_byte_too_many_is_too_long(rt: HostRuntime) -> Result<(), Fail> {
+    let text = Vec::from_elem(rt.alloc(), b' ', 1_048_577)?;
+    let fault = ScenarioFault::TooLong;
+    check(&rt, rt.alloc(), text.as_slice(), fault, "refused: too-long")
+}
+
+#[test]
+fn a_feed_that_fails_is_no_scenario(rt: HostRuntime) -> Result<(), Fail> {
+    let fault = ScenarioFault::ReadFault;
+    check(&rt, rt.alloc(), Broken, fault, "refused: read-fault")
+}

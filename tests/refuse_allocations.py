@@ -1,0 +1,83 @@
+#!/usr/bin/env python3
+"""Runs programs once for each allocation that they make, with that one refused.
+
+usage: tests/refuse_allocations.py [--program PROGRAM SCENARIO ..] [--tests PROGRAM ..]
+
+--program: the simulator, on each of these scenarios, must end as it does with ample memory, or with the line that memory
+ran out on standard error, nothing on standard output, and status 1.
+--tests: each test of a test program must pass, whichever of its allocations is refused.
+
+Needs a C compiler, `cc`. Prints a line for each scenario and test, and ends with status 1 where one of them failed.
+"""
+import argparse
+import os
+import pathlib
+import subprocess
+import sys
+import tempfile
+
+REFUSED = (1, b"", b"refused: no-memory\n")
+
+
+def built(folder):
+    """The library that refuses an allocation, built from the source beside this script."""
+    library = pathlib.Path(folder) / "refuse_allocation.so"
+    source = pathlib.Path(__file__).with_name("refuse_allocation.c")
+    subprocess.run(["cc", "-O2", "-shared", "-fPIC", "-o", library, source, "-ldl"], check=True)
+    return library
+
+
+def ended(library, command, text, number):
+    """Status, standard output and standard error of a run whose allocation of this number is refused."""
+    environment = {"LD_PRELOAD": str(library), "REFUSE": str(number)}
+    done = subprocess.run(command, input=text, capture_output=True, env=environment)
+    return done.returncode, done.stdout, done.stderr
+
+
+def allocations(library, command, text):
+    """How many allocations a run makes."""
+    reader, writer = os.pipe()
+    environment = {"LD_PRELOAD": str(library), "TELL": "1"}
+    tell = ["sh", "-c", f'exec 3>&{writer}; exec "$0" "$@"', *command]
+    subprocess.run(tell, input=text, capture_output=True, env=environment, pass_fds=[writer])
+    os.close(writer)
+    with os.fdopen(reader) as told:
+        return int(told.read().split()[-1])
+
+
+def each_refused(library, name, command, text, is_right):
+    """Refuses each allocation in turn, and tells whether each run ended as it must."""
+    total = allocations(library, command, text)
+    wrong = [number for number in range(1, total + 1) if not is_right(ended(library, command, text, number))]
+    verdict = f"wrong where these are refused: {wrong}" if wrong else "ok"
+    print(f"{name}: {total} allocations, each refused in turn: {verdict}")
+    return not wrong
+
+
+def tests_of(program):
+    """The names of the tests of a test program."""
+    lines = subprocess.run([program, "--list"], capture_output=True, text=True, check=True).stdout.splitlines()
+    return [line.removesuffix(": test") for line in lines if line.endswith(": test")]
+
+
+def main():
+    parser = argparse.ArgumentParser(description=__doc__, formatter_class=argparse.RawDescriptionHelpFormatter)
+    parser.add_argument("--program", nargs="+", default=[], metavar=("PROGRAM", "SCENARIO"))
+    parser.add_argument("--tests", nargs="+", default=[], metavar="PROGRAM")
+    options = parser.parse_args()
+    right = True
+    with tempfile.TemporaryDirectory() as folder:
+        library = built(folder)
+        for scenario in options.program[1:]:
+            text = pathlib.Path(scenario).read_bytes()
+            command = options.program[:1]
+            ample = ended(library, command, text, 0)
+            right &= each_refused(library, scenario, command, text, lambda end: end in (ample, REFUSED))
+        for program in options.tests:
+            for test in tests_of(program):
+                right &= each_refused(library, test, [program, test], b"", lambda end: end[0] == 0)
+    sys.exit(0 if right else 1)
+
+
+if __name__ == "__main__":
+    main()
