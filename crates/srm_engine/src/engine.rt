@@ -18,7 +18,7 @@ use srm_member::member::Member;
 use srm_member::row::Row;
 use srm_net::net::Net;
 use srm_scenario::scenario::Scenario;
-use std::alloc::Global;
+use std::alloc::{AllocError, Global};
 
 impl Engine {
     /// The step of the sequential run: the least pending event of all is taken, and its packet handed out.
@@ -72,7 +72,7 @@ impl Engine {
             packet,
         ) {
             Ok(()) => Ok(()),
-            Err(_) => Err(RunFault::NoMemory),
+            Err(AllocError) => Err(RunFault::NoMemory),
         }
     }
 }

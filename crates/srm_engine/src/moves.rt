@@ -16,7 +16,7 @@ use srm_net::drops::Drops;
 use srm_net::net::Net;
 use srm_net::packet::Packet;
 use srm_scenario::scenario::Scenario;
-use std::alloc::Global;
+use std::alloc::{AllocError, Global};
 
 /// A member's own step to tick `until`. Its next time is known afterwards.
 pub(crate) fn take(
@@ -50,18 +50,18 @@ pub(crate) fn hand(
     member: u16,
     packet: &Packet,
     at: u64,
-) -> Result<(), CellFault>
+) -> Result<(), AllocError>
     requires place { member < length cells.old.items }
     requires time { member < length times.old }
     requires new { (c : _) → slice_get cells.old.items member ≡ Some c → BringsNone packet.now.id c.inbox }
     ensures { IfOk result (λ _. (ps : List PlainCell) (p : PlainCell) → AreSeen (λ b. (⟦<dyn Member as Member>⟧ b.vtable).plain b.value) cells.old.items times.old ps → slice_get ps member ≡ Some p → AreSeen (λ b. (⟦<dyn Member as Member>⟧ b.vtable).plain b.value) cells.new.items times.new (slice_set ps member (hear_at packet.now (Some at) p))) }
 {
     let cell = &mut cells[usize::from(member)];
-    cell.accept(packet, at)?;
+    let Ok(()) = cell.accept(packet, at) else {
+        return Err(AllocError);
+    };
     let next = cell.next_time();
-    if times.set(member, next).is_err() {
-        return Err(CellFault::NoMemory);
-    }
+    times.set(member, next)?;
     Ok(())
 }
 
@@ -74,7 +74,7 @@ fn tell(
     times: &mut NextTimes,
     packet: &Packet,
     member: u16,
-) -> Result<(), CellFault>
+) -> Result<(), AllocError>
     requires network { net.now ≡ network_of scenario.now }
     requires drops { drops.now ≡ scenario.now.drops }
     requires sent { packet.now.sent < 2 ^ 40 }
@@ -102,7 +102,7 @@ pub(crate) fn deliver(
     cells: &mut Vec<Cell>,
     times: &mut NextTimes,
     packet: &Packet,
-) -> Result<(), CellFault>
+) -> Result<(), AllocError>
     requires network { net.now ≡ network_of scenario.now }
     requires drops { drops.now ≡ scenario.now.drops }
     requires sent { packet.now.sent < 2 ^ 40 }
