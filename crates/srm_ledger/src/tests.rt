@@ -13,8 +13,8 @@ fn counts_of_two_links(rt: HostRuntime) -> Result<(), Fail> {
     assert_eq!(rt; totals.number(1, Kind::Repair), 2);
     assert_eq!(rt; totals.number(0, Kind::Repair), 0);
     assert_eq!(rt;
-        totals.as_slice(),
-        [1, 0, 0, 0, 0, 0, 0, 2, 0, 1].as_slice()
+        totals.links(),
+        [[1, 0, 0, 0, 0], [0, 0, 2, 0, 1]].as_slice()
     );
     Ok(())
 }
