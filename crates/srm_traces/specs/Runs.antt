@@ -23,9 +23,9 @@ pub record Brief : Type 0 where
   pub lost : ℕ
   pub sent : Option PacketId
 
--- a row in short
-abbrev pub row : ℕ → ℕ → Word → About → Told → ℕ → Option PacketId → Brief
-row time member cause about told lost sent = record { time = time; member = member; cause = cause; about = about; told = told; lost = lost; sent = sent }
+-- an event that was handled: when, by whom, its kind, what it is about, what was told, how many names were lost, and the packet sent
+abbrev pub handled : ℕ → ℕ → Word → About → Told → ℕ → Option PacketId → Brief
+handled time member cause about told lost sent = record { time = time; member = member; cause = cause; about = about; told = told; lost = lost; sent = sent }
 
 -- a packet, by its sender and count
 abbrev pub packet : ℕ → ℕ → PacketId
@@ -42,7 +42,7 @@ id_of (Some p) = Some p.id
 
 -- a row, in short
 abbrev pub brief : Row → Brief
-brief r = row r.key.time r.key.member r.cause r.about r.told (length r.lost) (id_of r.sent)
+brief r = handled r.key.time r.key.member r.cause r.about r.told (length r.lost) (id_of r.sent)
 
 -- the world in which the sequential run ends, if it does within so many steps
 unfoldable pub ended : Setting → ℕ → World → World

@@ -3,33 +3,33 @@ use Rattle.std.specs.Prelude.{ℕ, List, [], ◌∷◌, Some, None}
 use Rattle.srm_member.specs.declared.row.Word.TheVariants as word
 use Rattle.srm_member.specs.declared.row.About.TheVariants.{Nothing, Of, Named}
 use Rattle.srm_member.specs.declared.told.Told.TheVariants as told
-use Rattle.srm_traces.specs.Runs.{Brief, row, packet, name}
+use Rattle.srm_traces.specs.Runs.{Brief, handled, packet, name}
 
 -- one loss on a chain of five: its request, and the repair by the nearest that holds it: its trace
 abbrev pub chain_of_five_one_loss_trace : List Brief
 chain_of_five_one_loss_trace =
-    row 0 0 word.Join Nothing told.Entered 0 None
-    ∷ row 0 0 word.Draw (Named (name 0 0 0)) told.Sent 0 (Some (packet 0 0))
-    ∷ row 0 1 word.Join Nothing told.Entered 0 None
-    ∷ row 0 2 word.Join Nothing told.Entered 0 None
-    ∷ row 0 3 word.Join Nothing told.Entered 0 None
-    ∷ row 0 4 word.Join Nothing told.Entered 0 None
-    ∷ row 1 1 word.Data (Of (packet 0 0)) told.Fresh 0 None
-    ∷ row 10 0 word.Draw (Named (name 0 0 1)) told.Sent 0 (Some (packet 0 1))
-    ∷ row 11 1 word.Data (Of (packet 0 1)) told.Fresh 0 None
-    ∷ row 12 2 word.Data (Of (packet 0 1)) told.Fresh 1 None
-    ∷ row 13 3 word.Data (Of (packet 0 1)) told.Fresh 1 None
-    ∷ row 14 2 word.Ask (Named (name 0 0 0)) told.Sent 0 (Some (packet 2 0))
-    ∷ row 14 4 word.Data (Of (packet 0 1)) told.Fresh 1 None
-    ∷ row 15 1 word.Request (Of (packet 2 0)) told.Plan 0 None
-    ∷ row 15 3 word.Request (Of (packet 2 0)) told.Back 0 None
-    ∷ row 16 0 word.Request (Of (packet 2 0)) told.Plan 0 None
-    ∷ row 16 1 word.Answer (Named (name 0 0 0)) told.Sent 0 (Some (packet 1 0))
-    ∷ row 16 4 word.Request (Of (packet 2 0)) told.Back 0 None
-    ∷ row 17 0 word.Repair (Of (packet 1 0)) told.Again 0 None
-    ∷ row 17 2 word.Repair (Of (packet 1 0)) told.Fixed 0 None
-    ∷ row 18 3 word.Repair (Of (packet 1 0)) told.Fixed 0 None
-    ∷ row 19 4 word.Repair (Of (packet 1 0)) told.Fixed 0 None
+    handled 0 0 word.Join Nothing told.Entered 0 None
+    ∷ handled 0 0 word.Draw (Named (name 0 0 0)) told.Sent 0 (Some (packet 0 0))
+    ∷ handled 0 1 word.Join Nothing told.Entered 0 None
+    ∷ handled 0 2 word.Join Nothing told.Entered 0 None
+    ∷ handled 0 3 word.Join Nothing told.Entered 0 None
+    ∷ handled 0 4 word.Join Nothing told.Entered 0 None
+    ∷ handled 1 1 word.Data (Of (packet 0 0)) told.Fresh 0 None
+    ∷ handled 10 0 word.Draw (Named (name 0 0 1)) told.Sent 0 (Some (packet 0 1))
+    ∷ handled 11 1 word.Data (Of (packet 0 1)) told.Fresh 0 None
+    ∷ handled 12 2 word.Data (Of (packet 0 1)) told.Fresh 1 None
+    ∷ handled 13 3 word.Data (Of (packet 0 1)) told.Fresh 1 None
+    ∷ handled 14 2 word.Ask (Named (name 0 0 0)) told.Sent 0 (Some (packet 2 0))
+    ∷ handled 14 4 word.Data (Of (packet 0 1)) told.Fresh 1 None
+    ∷ handled 15 1 word.Request (Of (packet 2 0)) told.Plan 0 None
+    ∷ handled 15 3 word.Request (Of (packet 2 0)) told.Back 0 None
+    ∷ handled 16 0 word.Request (Of (packet 2 0)) told.Plan 0 None
+    ∷ handled 16 1 word.Answer (Named (name 0 0 0)) told.Sent 0 (Some (packet 1 0))
+    ∷ handled 16 4 word.Request (Of (packet 2 0)) told.Back 0 None
+    ∷ handled 17 0 word.Repair (Of (packet 1 0)) told.Again 0 None
+    ∷ handled 17 2 word.Repair (Of (packet 1 0)) told.Fixed 0 None
+    ∷ handled 18 3 word.Repair (Of (packet 1 0)) told.Fixed 0 None
+    ∷ handled 19 4 word.Repair (Of (packet 1 0)) told.Fixed 0 None
     ∷ []
 
 -- and its crossings
@@ -39,22 +39,22 @@ chain_of_five_one_loss_totals = 2 ∷ 1 ∷ 1 ∷ 0 ∷ 0 ∷ 1 ∷ 1 ∷ 1 ∷ 
 -- a loss on the link of the source: the second request comes at an ignore time, and during a rest: its trace
 abbrev pub loss_on_the_source_link_trace : List Brief
 loss_on_the_source_link_trace =
-    row 0 0 word.Join Nothing told.Entered 0 None
-    ∷ row 0 0 word.Draw (Named (name 0 0 0)) told.Sent 0 (Some (packet 0 0))
-    ∷ row 0 1 word.Join Nothing told.Entered 0 None
-    ∷ row 0 2 word.Join Nothing told.Entered 0 None
-    ∷ row 10 0 word.Draw (Named (name 0 0 1)) told.Sent 0 (Some (packet 0 1))
-    ∷ row 11 1 word.Data (Of (packet 0 1)) told.Fresh 1 None
-    ∷ row 12 1 word.Ask (Named (name 0 0 0)) told.Sent 0 (Some (packet 1 0))
-    ∷ row 12 2 word.Data (Of (packet 0 1)) told.Fresh 1 None
-    ∷ row 13 0 word.Request (Of (packet 1 0)) told.Plan 0 None
-    ∷ row 13 2 word.Request (Of (packet 1 0)) told.Back 0 None
-    ∷ row 14 0 word.Answer (Named (name 0 0 0)) told.Sent 0 (Some (packet 0 2))
-    ∷ row 14 1 word.Ask (Named (name 0 0 0)) told.Sent 0 (Some (packet 1 1))
-    ∷ row 15 0 word.Request (Of (packet 1 1)) told.Rest 0 None
-    ∷ row 15 1 word.Repair (Of (packet 0 2)) told.Fixed 0 None
-    ∷ row 15 2 word.Request (Of (packet 1 1)) told.Back 0 None
-    ∷ row 16 2 word.Repair (Of (packet 0 2)) told.Fixed 0 None
+    handled 0 0 word.Join Nothing told.Entered 0 None
+    ∷ handled 0 0 word.Draw (Named (name 0 0 0)) told.Sent 0 (Some (packet 0 0))
+    ∷ handled 0 1 word.Join Nothing told.Entered 0 None
+    ∷ handled 0 2 word.Join Nothing told.Entered 0 None
+    ∷ handled 10 0 word.Draw (Named (name 0 0 1)) told.Sent 0 (Some (packet 0 1))
+    ∷ handled 11 1 word.Data (Of (packet 0 1)) told.Fresh 1 None
+    ∷ handled 12 1 word.Ask (Named (name 0 0 0)) told.Sent 0 (Some (packet 1 0))
+    ∷ handled 12 2 word.Data (Of (packet 0 1)) told.Fresh 1 None
+    ∷ handled 13 0 word.Request (Of (packet 1 0)) told.Plan 0 None
+    ∷ handled 13 2 word.Request (Of (packet 1 0)) told.Back 0 None
+    ∷ handled 14 0 word.Answer (Named (name 0 0 0)) told.Sent 0 (Some (packet 0 2))
+    ∷ handled 14 1 word.Ask (Named (name 0 0 0)) told.Sent 0 (Some (packet 1 1))
+    ∷ handled 15 0 word.Request (Of (packet 1 1)) told.Rest 0 None
+    ∷ handled 15 1 word.Repair (Of (packet 0 2)) told.Fixed 0 None
+    ∷ handled 15 2 word.Request (Of (packet 1 1)) told.Back 0 None
+    ∷ handled 16 2 word.Repair (Of (packet 0 2)) told.Fixed 0 None
     ∷ []
 
 -- and its crossings
@@ -64,15 +64,15 @@ loss_on_the_source_link_totals = 1 ∷ 2 ∷ 1 ∷ 0 ∷ 1 ∷ 1 ∷ 2 ∷ 1 ∷
 -- a repair that arrives at the tick of the request timer ends it: its trace
 abbrev pub repair_before_the_timer_of_its_tick_trace : List Brief
 repair_before_the_timer_of_its_tick_trace =
-    row 0 0 word.Join Nothing told.Entered 0 None
-    ∷ row 0 0 word.Draw (Named (name 0 0 0)) told.Sent 0 (Some (packet 0 0))
-    ∷ row 0 1 word.Join Nothing told.Entered 0 None
-    ∷ row 10 0 word.Draw (Named (name 0 0 1)) told.Sent 0 (Some (packet 0 1))
-    ∷ row 11 1 word.Data (Of (packet 0 1)) told.Fresh 1 None
-    ∷ row 12 1 word.Ask (Named (name 0 0 0)) told.Sent 0 (Some (packet 1 0))
-    ∷ row 13 0 word.Request (Of (packet 1 0)) told.Plan 0 None
-    ∷ row 14 0 word.Answer (Named (name 0 0 0)) told.Sent 0 (Some (packet 0 2))
-    ∷ row 15 1 word.Repair (Of (packet 0 2)) told.Fixed 0 None
+    handled 0 0 word.Join Nothing told.Entered 0 None
+    ∷ handled 0 0 word.Draw (Named (name 0 0 0)) told.Sent 0 (Some (packet 0 0))
+    ∷ handled 0 1 word.Join Nothing told.Entered 0 None
+    ∷ handled 10 0 word.Draw (Named (name 0 0 1)) told.Sent 0 (Some (packet 0 1))
+    ∷ handled 11 1 word.Data (Of (packet 0 1)) told.Fresh 1 None
+    ∷ handled 12 1 word.Ask (Named (name 0 0 0)) told.Sent 0 (Some (packet 1 0))
+    ∷ handled 13 0 word.Request (Of (packet 1 0)) told.Plan 0 None
+    ∷ handled 14 0 word.Answer (Named (name 0 0 0)) told.Sent 0 (Some (packet 0 2))
+    ∷ handled 15 1 word.Repair (Of (packet 0 2)) told.Fixed 0 None
     ∷ []
 
 -- and its crossings
@@ -82,15 +82,15 @@ repair_before_the_timer_of_its_tick_totals = 1 ∷ 1 ∷ 1 ∷ 0 ∷ 1 ∷ []
 -- timers of random length: its trace
 abbrev pub drawn_timers_trace : List Brief
 drawn_timers_trace =
-    row 0 0 word.Join Nothing told.Entered 0 None
-    ∷ row 0 0 word.Draw (Named (name 0 0 0)) told.Sent 0 (Some (packet 0 0))
-    ∷ row 0 1 word.Join Nothing told.Entered 0 None
-    ∷ row 100 0 word.Draw (Named (name 0 0 1)) told.Sent 0 (Some (packet 0 1))
-    ∷ row 110 1 word.Data (Of (packet 0 1)) told.Fresh 1 None
-    ∷ row 143 1 word.Ask (Named (name 0 0 0)) told.Sent 0 (Some (packet 1 0))
-    ∷ row 153 0 word.Request (Of (packet 1 0)) told.Plan 0 None
-    ∷ row 163 0 word.Answer (Named (name 0 0 0)) told.Sent 0 (Some (packet 0 2))
-    ∷ row 173 1 word.Repair (Of (packet 0 2)) told.Fixed 0 None
+    handled 0 0 word.Join Nothing told.Entered 0 None
+    ∷ handled 0 0 word.Draw (Named (name 0 0 0)) told.Sent 0 (Some (packet 0 0))
+    ∷ handled 0 1 word.Join Nothing told.Entered 0 None
+    ∷ handled 100 0 word.Draw (Named (name 0 0 1)) told.Sent 0 (Some (packet 0 1))
+    ∷ handled 110 1 word.Data (Of (packet 0 1)) told.Fresh 1 None
+    ∷ handled 143 1 word.Ask (Named (name 0 0 0)) told.Sent 0 (Some (packet 1 0))
+    ∷ handled 153 0 word.Request (Of (packet 1 0)) told.Plan 0 None
+    ∷ handled 163 0 word.Answer (Named (name 0 0 0)) told.Sent 0 (Some (packet 0 2))
+    ∷ handled 173 1 word.Repair (Of (packet 0 2)) told.Fixed 0 None
     ∷ []
 
 -- and its crossings
@@ -100,31 +100,31 @@ drawn_timers_totals = 1 ∷ 1 ∷ 1 ∷ 0 ∷ 1 ∷ []
 -- a loss at the source of a star: three requests at one tick, one repair: its trace
 abbrev pub star_loss_at_the_source_trace : List Brief
 star_loss_at_the_source_trace =
-    row 0 0 word.Join Nothing told.Entered 0 None
-    ∷ row 0 0 word.Draw (Named (name 0 0 0)) told.Sent 0 (Some (packet 0 0))
-    ∷ row 0 1 word.Join Nothing told.Entered 0 None
-    ∷ row 0 2 word.Join Nothing told.Entered 0 None
-    ∷ row 0 3 word.Join Nothing told.Entered 0 None
-    ∷ row 100 0 word.Draw (Named (name 0 0 1)) told.Sent 0 (Some (packet 0 1))
-    ∷ row 110 1 word.Data (Of (packet 0 1)) told.Fresh 1 None
-    ∷ row 110 2 word.Data (Of (packet 0 1)) told.Fresh 1 None
-    ∷ row 110 3 word.Data (Of (packet 0 1)) told.Fresh 1 None
-    ∷ row 120 1 word.Ask (Named (name 0 0 0)) told.Sent 0 (Some (packet 1 0))
-    ∷ row 120 2 word.Ask (Named (name 0 0 0)) told.Sent 0 (Some (packet 2 0))
-    ∷ row 120 3 word.Ask (Named (name 0 0 0)) told.Sent 0 (Some (packet 3 0))
-    ∷ row 130 0 word.Request (Of (packet 1 0)) told.Plan 0 None
-    ∷ row 130 0 word.Request (Of (packet 2 0)) told.Busy 0 None
-    ∷ row 130 0 word.Request (Of (packet 3 0)) told.Busy 0 None
-    ∷ row 130 1 word.Request (Of (packet 2 0)) told.Back 0 None
-    ∷ row 130 1 word.Request (Of (packet 3 0)) told.Hold 0 None
-    ∷ row 130 2 word.Request (Of (packet 1 0)) told.Back 0 None
-    ∷ row 130 2 word.Request (Of (packet 3 0)) told.Hold 0 None
-    ∷ row 130 3 word.Request (Of (packet 1 0)) told.Back 0 None
-    ∷ row 130 3 word.Request (Of (packet 2 0)) told.Hold 0 None
-    ∷ row 140 0 word.Answer (Named (name 0 0 0)) told.Sent 0 (Some (packet 0 2))
-    ∷ row 150 1 word.Repair (Of (packet 0 2)) told.Fixed 0 None
-    ∷ row 150 2 word.Repair (Of (packet 0 2)) told.Fixed 0 None
-    ∷ row 150 3 word.Repair (Of (packet 0 2)) told.Fixed 0 None
+    handled 0 0 word.Join Nothing told.Entered 0 None
+    ∷ handled 0 0 word.Draw (Named (name 0 0 0)) told.Sent 0 (Some (packet 0 0))
+    ∷ handled 0 1 word.Join Nothing told.Entered 0 None
+    ∷ handled 0 2 word.Join Nothing told.Entered 0 None
+    ∷ handled 0 3 word.Join Nothing told.Entered 0 None
+    ∷ handled 100 0 word.Draw (Named (name 0 0 1)) told.Sent 0 (Some (packet 0 1))
+    ∷ handled 110 1 word.Data (Of (packet 0 1)) told.Fresh 1 None
+    ∷ handled 110 2 word.Data (Of (packet 0 1)) told.Fresh 1 None
+    ∷ handled 110 3 word.Data (Of (packet 0 1)) told.Fresh 1 None
+    ∷ handled 120 1 word.Ask (Named (name 0 0 0)) told.Sent 0 (Some (packet 1 0))
+    ∷ handled 120 2 word.Ask (Named (name 0 0 0)) told.Sent 0 (Some (packet 2 0))
+    ∷ handled 120 3 word.Ask (Named (name 0 0 0)) told.Sent 0 (Some (packet 3 0))
+    ∷ handled 130 0 word.Request (Of (packet 1 0)) told.Plan 0 None
+    ∷ handled 130 0 word.Request (Of (packet 2 0)) told.Busy 0 None
+    ∷ handled 130 0 word.Request (Of (packet 3 0)) told.Busy 0 None
+    ∷ handled 130 1 word.Request (Of (packet 2 0)) told.Back 0 None
+    ∷ handled 130 1 word.Request (Of (packet 3 0)) told.Hold 0 None
+    ∷ handled 130 2 word.Request (Of (packet 1 0)) told.Back 0 None
+    ∷ handled 130 2 word.Request (Of (packet 3 0)) told.Hold 0 None
+    ∷ handled 130 3 word.Request (Of (packet 1 0)) told.Back 0 None
+    ∷ handled 130 3 word.Request (Of (packet 2 0)) told.Hold 0 None
+    ∷ handled 140 0 word.Answer (Named (name 0 0 0)) told.Sent 0 (Some (packet 0 2))
+    ∷ handled 150 1 word.Repair (Of (packet 0 2)) told.Fixed 0 None
+    ∷ handled 150 2 word.Repair (Of (packet 0 2)) told.Fixed 0 None
+    ∷ handled 150 3 word.Repair (Of (packet 0 2)) told.Fixed 0 None
     ∷ []
 
 -- and its crossings
@@ -134,37 +134,37 @@ star_loss_at_the_source_totals = 1 ∷ 3 ∷ 1 ∷ 0 ∷ 1 ∷ 1 ∷ 3 ∷ 1 ∷
 -- a loss at one member of a star: one request, three repairs: its trace
 abbrev pub star_loss_at_one_member_trace : List Brief
 star_loss_at_one_member_trace =
-    row 0 0 word.Join Nothing told.Entered 0 None
-    ∷ row 0 0 word.Draw (Named (name 0 0 0)) told.Sent 0 (Some (packet 0 0))
-    ∷ row 0 1 word.Join Nothing told.Entered 0 None
-    ∷ row 0 2 word.Join Nothing told.Entered 0 None
-    ∷ row 0 3 word.Join Nothing told.Entered 0 None
-    ∷ row 10 1 word.Data (Of (packet 0 0)) told.Fresh 0 None
-    ∷ row 10 2 word.Data (Of (packet 0 0)) told.Fresh 0 None
-    ∷ row 100 0 word.Draw (Named (name 0 0 1)) told.Sent 0 (Some (packet 0 1))
-    ∷ row 110 1 word.Data (Of (packet 0 1)) told.Fresh 0 None
-    ∷ row 110 2 word.Data (Of (packet 0 1)) told.Fresh 0 None
-    ∷ row 110 3 word.Data (Of (packet 0 1)) told.Fresh 1 None
-    ∷ row 120 3 word.Ask (Named (name 0 0 0)) told.Sent 0 (Some (packet 3 0))
-    ∷ row 130 0 word.Request (Of (packet 3 0)) told.Plan 0 None
-    ∷ row 130 1 word.Request (Of (packet 3 0)) told.Plan 0 None
-    ∷ row 130 2 word.Request (Of (packet 3 0)) told.Plan 0 None
-    ∷ row 140 0 word.Answer (Named (name 0 0 0)) told.Sent 0 (Some (packet 0 2))
-    ∷ row 140 1 word.Answer (Named (name 0 0 0)) told.Sent 0 (Some (packet 1 0))
-    ∷ row 140 2 word.Answer (Named (name 0 0 0)) told.Sent 0 (Some (packet 2 0))
-    ∷ row 140 3 word.Ask (Named (name 0 0 0)) told.Sent 0 (Some (packet 3 1))
-    ∷ row 150 0 word.Repair (Of (packet 1 0)) told.Again 0 None
-    ∷ row 150 0 word.Repair (Of (packet 2 0)) told.Again 0 None
-    ∷ row 150 0 word.Request (Of (packet 3 1)) told.Rest 0 None
-    ∷ row 150 1 word.Repair (Of (packet 0 2)) told.Again 0 None
-    ∷ row 150 1 word.Repair (Of (packet 2 0)) told.Again 0 None
-    ∷ row 150 1 word.Request (Of (packet 3 1)) told.Rest 0 None
-    ∷ row 150 2 word.Repair (Of (packet 0 2)) told.Again 0 None
-    ∷ row 150 2 word.Repair (Of (packet 1 0)) told.Again 0 None
-    ∷ row 150 2 word.Request (Of (packet 3 1)) told.Rest 0 None
-    ∷ row 150 3 word.Repair (Of (packet 0 2)) told.Fixed 0 None
-    ∷ row 150 3 word.Repair (Of (packet 1 0)) told.Again 0 None
-    ∷ row 150 3 word.Repair (Of (packet 2 0)) told.Again 0 None
+    handled 0 0 word.Join Nothing told.Entered 0 None
+    ∷ handled 0 0 word.Draw (Named (name 0 0 0)) told.Sent 0 (Some (packet 0 0))
+    ∷ handled 0 1 word.Join Nothing told.Entered 0 None
+    ∷ handled 0 2 word.Join Nothing told.Entered 0 None
+    ∷ handled 0 3 word.Join Nothing told.Entered 0 None
+    ∷ handled 10 1 word.Data (Of (packet 0 0)) told.Fresh 0 None
+    ∷ handled 10 2 word.Data (Of (packet 0 0)) told.Fresh 0 None
+    ∷ handled 100 0 word.Draw (Named (name 0 0 1)) told.Sent 0 (Some (packet 0 1))
+    ∷ handled 110 1 word.Data (Of (packet 0 1)) told.Fresh 0 None
+    ∷ handled 110 2 word.Data (Of (packet 0 1)) told.Fresh 0 None
+    ∷ handled 110 3 word.Data (Of (packet 0 1)) told.Fresh 1 None
+    ∷ handled 120 3 word.Ask (Named (name 0 0 0)) told.Sent 0 (Some (packet 3 0))
+    ∷ handled 130 0 word.Request (Of (packet 3 0)) told.Plan 0 None
+    ∷ handled 130 1 word.Request (Of (packet 3 0)) told.Plan 0 None
+    ∷ handled 130 2 word.Request (Of (packet 3 0)) told.Plan 0 None
+    ∷ handled 140 0 word.Answer (Named (name 0 0 0)) told.Sent 0 (Some (packet 0 2))
+    ∷ handled 140 1 word.Answer (Named (name 0 0 0)) told.Sent 0 (Some (packet 1 0))
+    ∷ handled 140 2 word.Answer (Named (name 0 0 0)) told.Sent 0 (Some (packet 2 0))
+    ∷ handled 140 3 word.Ask (Named (name 0 0 0)) told.Sent 0 (Some (packet 3 1))
+    ∷ handled 150 0 word.Repair (Of (packet 1 0)) told.Again 0 None
+    ∷ handled 150 0 word.Repair (Of (packet 2 0)) told.Again 0 None
+    ∷ handled 150 0 word.Request (Of (packet 3 1)) told.Rest 0 None
+    ∷ handled 150 1 word.Repair (Of (packet 0 2)) told.Again 0 None
+    ∷ handled 150 1 word.Repair (Of (packet 2 0)) told.Again 0 None
+    ∷ handled 150 1 word.Request (Of (packet 3 1)) told.Rest 0 None
+    ∷ handled 150 2 word.Repair (Of (packet 0 2)) told.Again 0 None
+    ∷ handled 150 2 word.Repair (Of (packet 1 0)) told.Again 0 None
+    ∷ handled 150 2 word.Request (Of (packet 3 1)) told.Rest 0 None
+    ∷ handled 150 3 word.Repair (Of (packet 0 2)) told.Fixed 0 None
+    ∷ handled 150 3 word.Repair (Of (packet 1 0)) told.Again 0 None
+    ∷ handled 150 3 word.Repair (Of (packet 2 0)) told.Again 0 None
     ∷ []
 
 -- and its crossings
@@ -174,12 +174,12 @@ star_loss_at_one_member_totals = 2 ∷ 2 ∷ 3 ∷ 0 ∷ 0 ∷ 2 ∷ 2 ∷ 3 ∷
 -- a receiver that leaves hears what arrives at that tick, and nothing more: its trace
 abbrev pub receiver_that_leaves_trace : List Brief
 receiver_that_leaves_trace =
-    row 0 0 word.Join Nothing told.Entered 0 None
-    ∷ row 0 0 word.Draw (Named (name 0 0 0)) told.Sent 0 (Some (packet 0 0))
-    ∷ row 0 1 word.Join Nothing told.Entered 0 None
-    ∷ row 1 1 word.Data (Of (packet 0 0)) told.Fresh 0 None
-    ∷ row 1 1 word.Leave Nothing told.Parted 0 None
-    ∷ row 10 0 word.Draw (Named (name 0 0 1)) told.Sent 0 (Some (packet 0 1))
+    handled 0 0 word.Join Nothing told.Entered 0 None
+    ∷ handled 0 0 word.Draw (Named (name 0 0 0)) told.Sent 0 (Some (packet 0 0))
+    ∷ handled 0 1 word.Join Nothing told.Entered 0 None
+    ∷ handled 1 1 word.Data (Of (packet 0 0)) told.Fresh 0 None
+    ∷ handled 1 1 word.Leave Nothing told.Parted 0 None
+    ∷ handled 10 0 word.Draw (Named (name 0 0 1)) told.Sent 0 (Some (packet 0 1))
     ∷ []
 
 -- and its crossings
@@ -189,20 +189,20 @@ receiver_that_leaves_totals = 2 ∷ 0 ∷ 0 ∷ 0 ∷ 0 ∷ []
 -- a late joiner asks for the page that it wants, and not for the other: its trace
 abbrev pub late_joiner_trace : List Brief
 late_joiner_trace =
-    row 0 0 word.Join Nothing told.Entered 0 None
-    ∷ row 0 0 word.Draw (Named (name 0 0 0)) told.Sent 0 (Some (packet 0 0))
-    ∷ row 1 0 word.Draw (Named (name 0 1 0)) told.Sent 0 (Some (packet 0 1))
-    ∷ row 50 1 word.Join Nothing told.Entered 0 None
-    ∷ row 59 0 word.Report Nothing told.Sent 0 (Some (packet 0 2))
-    ∷ row 60 1 word.Session (Of (packet 0 2)) told.Heard 1 None
-    ∷ row 61 1 word.Ask (Named (name 0 1 0)) told.Sent 0 (Some (packet 1 0))
-    ∷ row 62 0 word.Request (Of (packet 1 0)) told.Plan 0 None
-    ∷ row 63 0 word.Answer (Named (name 0 1 0)) told.Sent 0 (Some (packet 0 3))
-    ∷ row 63 1 word.Ask (Named (name 0 1 0)) told.Sent 0 (Some (packet 1 1))
-    ∷ row 64 0 word.Request (Of (packet 1 1)) told.Rest 0 None
-    ∷ row 64 1 word.Repair (Of (packet 0 3)) told.Fixed 0 None
-    ∷ row 70 0 word.Draw (Named (name 0 0 1)) told.Sent 0 (Some (packet 0 4))
-    ∷ row 71 1 word.Data (Of (packet 0 4)) told.Fresh 0 None
+    handled 0 0 word.Join Nothing told.Entered 0 None
+    ∷ handled 0 0 word.Draw (Named (name 0 0 0)) told.Sent 0 (Some (packet 0 0))
+    ∷ handled 1 0 word.Draw (Named (name 0 1 0)) told.Sent 0 (Some (packet 0 1))
+    ∷ handled 50 1 word.Join Nothing told.Entered 0 None
+    ∷ handled 59 0 word.Report Nothing told.Sent 0 (Some (packet 0 2))
+    ∷ handled 60 1 word.Session (Of (packet 0 2)) told.Heard 1 None
+    ∷ handled 61 1 word.Ask (Named (name 0 1 0)) told.Sent 0 (Some (packet 1 0))
+    ∷ handled 62 0 word.Request (Of (packet 1 0)) told.Plan 0 None
+    ∷ handled 63 0 word.Answer (Named (name 0 1 0)) told.Sent 0 (Some (packet 0 3))
+    ∷ handled 63 1 word.Ask (Named (name 0 1 0)) told.Sent 0 (Some (packet 1 1))
+    ∷ handled 64 0 word.Request (Of (packet 1 1)) told.Rest 0 None
+    ∷ handled 64 1 word.Repair (Of (packet 0 3)) told.Fixed 0 None
+    ∷ handled 70 0 word.Draw (Named (name 0 0 1)) told.Sent 0 (Some (packet 0 4))
+    ∷ handled 71 1 word.Data (Of (packet 0 4)) told.Fresh 0 None
     ∷ []
 
 -- and its crossings
@@ -212,19 +212,19 @@ late_joiner_totals = 3 ∷ 2 ∷ 1 ∷ 1 ∷ 0 ∷ []
 -- a session message reveals a loss: its trace
 abbrev pub session_reveals_a_loss_trace : List Brief
 session_reveals_a_loss_trace =
-    row 0 0 word.Join Nothing told.Entered 0 None
-    ∷ row 0 0 word.Draw (Named (name 0 0 0)) told.Sent 0 (Some (packet 0 0))
-    ∷ row 0 1 word.Join Nothing told.Entered 0 None
-    ∷ row 20 0 word.Report Nothing told.Sent 0 (Some (packet 0 1))
-    ∷ row 21 1 word.Session (Of (packet 0 1)) told.Heard 1 None
-    ∷ row 22 1 word.Ask (Named (name 0 0 0)) told.Sent 0 (Some (packet 1 0))
-    ∷ row 23 0 word.Request (Of (packet 1 0)) told.Plan 0 None
-    ∷ row 24 0 word.Answer (Named (name 0 0 0)) told.Sent 0 (Some (packet 0 2))
-    ∷ row 24 1 word.Ask (Named (name 0 0 0)) told.Sent 0 (Some (packet 1 1))
-    ∷ row 25 0 word.Request (Of (packet 1 1)) told.Rest 0 None
-    ∷ row 25 1 word.Repair (Of (packet 0 2)) told.Fixed 0 None
-    ∷ row 40 0 word.Report Nothing told.Sent 0 (Some (packet 0 3))
-    ∷ row 41 1 word.Session (Of (packet 0 3)) told.Heard 0 None
+    handled 0 0 word.Join Nothing told.Entered 0 None
+    ∷ handled 0 0 word.Draw (Named (name 0 0 0)) told.Sent 0 (Some (packet 0 0))
+    ∷ handled 0 1 word.Join Nothing told.Entered 0 None
+    ∷ handled 20 0 word.Report Nothing told.Sent 0 (Some (packet 0 1))
+    ∷ handled 21 1 word.Session (Of (packet 0 1)) told.Heard 1 None
+    ∷ handled 22 1 word.Ask (Named (name 0 0 0)) told.Sent 0 (Some (packet 1 0))
+    ∷ handled 23 0 word.Request (Of (packet 1 0)) told.Plan 0 None
+    ∷ handled 24 0 word.Answer (Named (name 0 0 0)) told.Sent 0 (Some (packet 0 2))
+    ∷ handled 24 1 word.Ask (Named (name 0 0 0)) told.Sent 0 (Some (packet 1 1))
+    ∷ handled 25 0 word.Request (Of (packet 1 1)) told.Rest 0 None
+    ∷ handled 25 1 word.Repair (Of (packet 0 2)) told.Fixed 0 None
+    ∷ handled 40 0 word.Report Nothing told.Sent 0 (Some (packet 0 3))
+    ∷ handled 41 1 word.Session (Of (packet 0 3)) told.Heard 0 None
     ∷ []
 
 -- and its crossings
@@ -234,12 +234,12 @@ session_reveals_a_loss_totals = 0 ∷ 2 ∷ 1 ∷ 2 ∷ 1 ∷ []
 -- a sender and a listener: its trace
 abbrev pub two_nodes_trace : List Brief
 two_nodes_trace =
-    row 0 0 word.Join Nothing told.Entered 0 None
-    ∷ row 0 0 word.Draw (Named (name 0 0 0)) told.Sent 0 (Some (packet 0 0))
-    ∷ row 0 1 word.Join Nothing told.Entered 0 None
-    ∷ row 3 1 word.Data (Of (packet 0 0)) told.Fresh 0 None
-    ∷ row 5 0 word.Draw (Named (name 0 0 1)) told.Sent 0 (Some (packet 0 1))
-    ∷ row 8 1 word.Data (Of (packet 0 1)) told.Fresh 0 None
+    handled 0 0 word.Join Nothing told.Entered 0 None
+    ∷ handled 0 0 word.Draw (Named (name 0 0 0)) told.Sent 0 (Some (packet 0 0))
+    ∷ handled 0 1 word.Join Nothing told.Entered 0 None
+    ∷ handled 3 1 word.Data (Of (packet 0 0)) told.Fresh 0 None
+    ∷ handled 5 0 word.Draw (Named (name 0 0 1)) told.Sent 0 (Some (packet 0 1))
+    ∷ handled 8 1 word.Data (Of (packet 0 1)) told.Fresh 0 None
     ∷ []
 
 -- and its crossings
@@ -249,15 +249,15 @@ two_nodes_totals = 2 ∷ 0 ∷ 0 ∷ 0 ∷ 0 ∷ []
 -- a loss that the data itself mends in the same tick: its trace
 abbrev pub mended_by_the_data_itself_trace : List Brief
 mended_by_the_data_itself_trace =
-    row 0 0 word.Join Nothing told.Entered 0 None
-    ∷ row 0 1 word.Join Nothing told.Entered 0 None
-    ∷ row 0 1 word.Draw (Named (name 1 0 0)) told.Sent 0 (Some (packet 1 0))
-    ∷ row 0 2 word.Join Nothing told.Entered 0 None
-    ∷ row 1 0 word.Data (Of (packet 1 0)) told.Fresh 0 None
-    ∷ row 1 0 word.Report Nothing told.Sent 0 (Some (packet 0 0))
-    ∷ row 2 1 word.Session (Of (packet 0 0)) told.Heard 0 None
-    ∷ row 2 2 word.Session (Of (packet 0 0)) told.Heard 1 None
-    ∷ row 2 2 word.Data (Of (packet 1 0)) told.Fixed 0 None
+    handled 0 0 word.Join Nothing told.Entered 0 None
+    ∷ handled 0 1 word.Join Nothing told.Entered 0 None
+    ∷ handled 0 1 word.Draw (Named (name 1 0 0)) told.Sent 0 (Some (packet 1 0))
+    ∷ handled 0 2 word.Join Nothing told.Entered 0 None
+    ∷ handled 1 0 word.Data (Of (packet 1 0)) told.Fresh 0 None
+    ∷ handled 1 0 word.Report Nothing told.Sent 0 (Some (packet 0 0))
+    ∷ handled 2 1 word.Session (Of (packet 0 0)) told.Heard 0 None
+    ∷ handled 2 2 word.Session (Of (packet 0 0)) told.Heard 1 None
+    ∷ handled 2 2 word.Data (Of (packet 1 0)) told.Fixed 0 None
     ∷ []
 
 -- and its crossings
@@ -267,21 +267,21 @@ mended_by_the_data_itself_totals = 1 ∷ 0 ∷ 0 ∷ 1 ∷ 0 ∷ 1 ∷ 0 ∷ 0 �
 -- a loss that a request reveals, which backs off at once: its trace
 abbrev pub loss_learnt_from_a_request_trace : List Brief
 loss_learnt_from_a_request_trace =
-    row 0 0 word.Join Nothing told.Entered 0 None
-    ∷ row 0 0 word.Draw (Named (name 0 0 0)) told.Sent 0 (Some (packet 0 0))
-    ∷ row 0 1 word.Join Nothing told.Entered 0 None
-    ∷ row 0 2 word.Join Nothing told.Entered 0 None
-    ∷ row 10 0 word.Draw (Named (name 0 0 1)) told.Sent 0 (Some (packet 0 1))
-    ∷ row 11 1 word.Data (Of (packet 0 1)) told.Fresh 1 None
-    ∷ row 12 1 word.Ask (Named (name 0 0 0)) told.Sent 0 (Some (packet 1 0))
-    ∷ row 13 0 word.Request (Of (packet 1 0)) told.Plan 0 None
-    ∷ row 13 2 word.Request (Of (packet 1 0)) told.Back 1 None
-    ∷ row 14 0 word.Answer (Named (name 0 0 0)) told.Sent 0 (Some (packet 0 2))
-    ∷ row 14 1 word.Ask (Named (name 0 0 0)) told.Sent 0 (Some (packet 1 1))
-    ∷ row 15 0 word.Request (Of (packet 1 1)) told.Rest 0 None
-    ∷ row 15 1 word.Repair (Of (packet 0 2)) told.Fixed 0 None
-    ∷ row 15 2 word.Request (Of (packet 1 1)) told.Back 0 None
-    ∷ row 16 2 word.Repair (Of (packet 0 2)) told.Fixed 0 None
+    handled 0 0 word.Join Nothing told.Entered 0 None
+    ∷ handled 0 0 word.Draw (Named (name 0 0 0)) told.Sent 0 (Some (packet 0 0))
+    ∷ handled 0 1 word.Join Nothing told.Entered 0 None
+    ∷ handled 0 2 word.Join Nothing told.Entered 0 None
+    ∷ handled 10 0 word.Draw (Named (name 0 0 1)) told.Sent 0 (Some (packet 0 1))
+    ∷ handled 11 1 word.Data (Of (packet 0 1)) told.Fresh 1 None
+    ∷ handled 12 1 word.Ask (Named (name 0 0 0)) told.Sent 0 (Some (packet 1 0))
+    ∷ handled 13 0 word.Request (Of (packet 1 0)) told.Plan 0 None
+    ∷ handled 13 2 word.Request (Of (packet 1 0)) told.Back 1 None
+    ∷ handled 14 0 word.Answer (Named (name 0 0 0)) told.Sent 0 (Some (packet 0 2))
+    ∷ handled 14 1 word.Ask (Named (name 0 0 0)) told.Sent 0 (Some (packet 1 1))
+    ∷ handled 15 0 word.Request (Of (packet 1 1)) told.Rest 0 None
+    ∷ handled 15 1 word.Repair (Of (packet 0 2)) told.Fixed 0 None
+    ∷ handled 15 2 word.Request (Of (packet 1 1)) told.Back 0 None
+    ∷ handled 16 2 word.Repair (Of (packet 0 2)) told.Fixed 0 None
     ∷ []
 
 -- and its crossings

@@ -34,7 +34,7 @@ pub enum Carried {
 
 impl Carried {
     /// The body of a packet that carries this.
-    pub fn body(self, alloc: Global) -> Result<Body, AllocError> {
+    pub(crate) fn body(self, alloc: Global) -> Result<Body, AllocError> {
         match self {
             Carried::Data { name, ink } => Ok(Body::Drawop { name, ink }),
             Carried::Request { name } => Ok(Body::Request { name }),
@@ -46,7 +46,7 @@ impl Carried {
     }
 
     /// Whether a body carries this.
-    pub fn is_in(self, body: &Body) -> bool {
+    pub(crate) fn is_in(self, body: &Body) -> bool {
         match (self, body) {
             (Carried::Data { name, ink }, Body::Drawop { name: n, ink: i }) => {
                 name == *n && ink == *i

@@ -39,7 +39,7 @@ pub enum Event {
 
 impl Event {
     /// The cause that a member handles then. Of an arriving packet the count and the time do not matter to a member.
-    pub fn cause(self, alloc: Global) -> Result<Cause, AllocError> {
+    pub(crate) fn cause(self, alloc: Global) -> Result<Cause, AllocError> {
         match self {
             Event::Join => Ok(Cause::Join),
             Event::Arrival { sender, carried } => Ok(Cause::Arrival {

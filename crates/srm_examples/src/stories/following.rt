@@ -32,7 +32,7 @@ const EVENTS: [Event; 6] = [
 ///
 /// # Errors
 /// Memory was refused. Where it was refused to a call of the member, the member is gone, which is asserted.
-pub fn follow(
+pub(crate) fn follow(
     rt: &impl Abort,
     alloc: Global,
     member: &mut Box<dyn Member>,
@@ -106,7 +106,7 @@ fn stay_gone(
 }
 
 /// Makes an attempt, and another one where the first is refused memory, which is then told on standard error.
-pub fn attempt_twice<F: Fn() -> Result<(), AllocError>>(
+pub(crate) fn attempt_twice<F: Fn() -> Result<(), AllocError>>(
     rt: &impl Eprint,
     attempt: F,
 ) -> Result<(), AllocError>

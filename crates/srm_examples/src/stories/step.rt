@@ -25,7 +25,7 @@ pub struct Step {
 
 impl Step {
     /// Whether an answer is what must come of the event.
-    pub fn expects(&self, react: &React) -> bool {
+    pub(crate) fn expects(&self, react: &React) -> bool {
         let sent = match (self.sent, &react.body) {
             (None, None) => true,
             (Some(carried), Some(body)) => carried.is_in(body),

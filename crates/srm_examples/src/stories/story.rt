@@ -18,7 +18,7 @@ pub struct Story {
 
 impl Story {
     /// Whether a member that lived through the story ends with this.
-    pub fn expects(&self, exit: &Exit) -> bool {
+    pub(crate) fn expects(&self, exit: &Exit) -> bool {
         exit.member == self.member
             && exit.held.as_slice() == self.held
             && exit.missing.as_slice() == self.missing
