@@ -1,33 +1,55 @@
+RT ?= rt
 PROGRAM := crates/srm_lab/out/srm_lab
 SOURCES := crates.txt $(shell find crates -path '*/out' -prune -o \( -name '*.rt' -o -name '*.antt' \) -print)
+CRATES := $(notdir $(patsubst %/src,%,$(wildcard crates/*/src)))
 PREFIX ?= /usr/local
 SCENARIO ?= examples/two-nodes.toml
+CRATE ?=
+export RT
 
-.PHONY: build run test test-memory bench install
+.PHONY: build run try check test test-memory bench install fmt clean help
 
-# proves and builds the program, if a source is newer than it
-build: $(PROGRAM)
+build: $(PROGRAM) ## proves and builds the program, if a source is newer than it (the first time some fifteen minutes)
 
 $(PROGRAM): $(SOURCES)
-	cd crates/srm_lab && rt run < stdin > /dev/null
-	touch $@
+	@tools/prove.py --program crates/srm_lab
+	@touch $@
 
-# prints the trace of a scenario: make run SCENARIO=examples/two-nodes.toml
-run: $(PROGRAM)
+run: $(PROGRAM) ## prints the trace of a scenario: make run SCENARIO=examples/two-nodes.toml
 	@$(PROGRAM) < $(SCENARIO)
 
-# proves every crate from nothing, with its tests, its must-fail edits and its program
-test:
-	rt ci
+try: ## the same program, unproved and with no build before it, in under a minute: make try SCENARIO=..
+	@cd crates/srm_lab && $(RT) try < $(abspath $(SCENARIO))
 
-# refuses each allocation in turn, of the program on each scenario of examples/ and of each test of members and roles
-test-memory: $(PROGRAM)
-	cd crates/srm_examples && rt test > /dev/null
-	tests/refuse_allocations.py --program $(PROGRAM) examples/*.toml --tests crates/srm_examples/out/srm_examples_tests
+check: ## what an edit needs: proves each crate that changed, or CRATE=srm_net with the crates below it; checks scripts and documents
+	@tests/tools_tests.py -q
+	@tests/architecture.py
+	@tools/prove.py $(if $(CRATE),crates/$(CRATE),crates)
 
-# prints how many events the program handles in a second
-bench: $(PROGRAM)
+test: $(PROGRAM) ## the merge gate: compares the program with examples/, and proves everything from nothing, with tests, must-fail edits and the program; tells the times
+	@tests/tools_tests.py -q
+	@tests/architecture.py
+	@tests/compare_program.py $(PROGRAM) examples
+	@tools/gate.py
+
+test-memory: $(PROGRAM) ## refuses each allocation in turn, of the program on each example, and of each test of members, roles and the ledger
+	cd crates/srm_examples && $(RT) test > /dev/null
+	cd crates/srm_ledger && $(RT) test > /dev/null
+	tests/refuse_allocations.py --program $(PROGRAM) examples/*.toml --tests crates/srm_examples/out/srm_examples_tests crates/srm_ledger/out/srm_ledger_tests
+
+bench: $(PROGRAM) ## prints how many events the program handles in a second
 	bench/events_per_second.py $(PROGRAM)
 
-install: $(PROGRAM)
+fmt: ## lays out the sources of each crate
+	@for crate in $(CRATES); do (cd crates/$$crate && $(RT) fmt) || exit 1; done
+
+clean: ## removes what was built, and every proof that was kept
+	rm -rf out crates/*/out
+
+help: ## lists these targets
+	@sed -n 's/^\([a-z0-9-]*\):[^#]*## \(.*\)/\1\t\2/p' $(MAKEFILE_LIST) | awk -F '\t' '{ printf "make %-12s %s\n", $$1, $$2 }'
+
+install: $(PROGRAM) ## copies the program to PREFIX/bin, by default /usr/local/bin
 	install -D -m 755 $(PROGRAM) $(DESTDIR)$(PREFIX)/bin/srm_lab
+
+include experiments/targets.mk

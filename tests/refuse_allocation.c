@@ -1,21 +1,26 @@
 /* A library to be loaded before a program (LD_PRELOAD): it refuses the program's allocation of the number that the variable
-   REFUSE gives, counted from 1, and where TELL is set it tells their count at the end, on descriptor 3. */
+   REFUSE gives, counted from 1, and appends one byte for each allocation to the file that TELL names, if it does. */
 #define _GNU_SOURCE
 #include <dlfcn.h>
-#include <stdio.h>
+#include <fcntl.h>
 #include <stdlib.h>
 #include <unistd.h>
 
 static unsigned long count;
 static unsigned long refused;
+static int told = -1;
 
 static int is_refused(void) {
     if (count == 0) {
         const char *number = getenv("REFUSE");
         refused = number ? strtoul(number, NULL, 10) : 0;
+        const char *file = getenv("TELL");
+        told = file ? open(file, O_WRONLY | O_APPEND) : -1;
     }
-    count += 1;
-    return count == refused;
+    if (told >= 0 && write(told, ".", 1) != 1) {
+        abort();
+    }
+    return __atomic_add_fetch(&count, 1, __ATOMIC_SEQ_CST) == refused;
 }
 
 void *malloc(size_t size) {
@@ -32,10 +37,4 @@ void *realloc(void *block, size_t size) {
         next = (void *(*)(void *, size_t))dlsym(RTLD_NEXT, "realloc");
     }
     return is_refused() ? NULL : next(block, size);
-}
-
-__attribute__((destructor)) static void tell(void) {
-    if (getenv("TELL")) {
-        dprintf(3, "%lu\n", count);
-    }
 }

@@ -36,13 +36,10 @@ def ended(library, command, text, number):
 
 def allocations(library, command, text):
     """How many allocations a run makes."""
-    reader, writer = os.pipe()
-    environment = {"LD_PRELOAD": str(library), "TELL": "1"}
-    tell = ["sh", "-c", f'exec 3>&{writer}; exec "$0" "$@"', *command]
-    subprocess.run(tell, input=text, capture_output=True, env=environment, pass_fds=[writer])
-    os.close(writer)
-    with os.fdopen(reader) as told:
-        return int(told.read().split()[-1])
+    with tempfile.NamedTemporaryFile() as told:
+        environment = {"LD_PRELOAD": str(library), "TELL": told.name}
+        subprocess.run(command, input=text, capture_output=True, env=environment)
+        return os.path.getsize(told.name)
 
 
 def each_refused(library, name, command, text, is_right):

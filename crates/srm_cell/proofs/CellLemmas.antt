@@ -114,7 +114,7 @@ by_key-map h Less d e = refl
 by_key-map h Equal d e = refl
 by_key-map h Greater d e = refl
 
-earlier-map : (h : PlainCell → PlainCell) (x y : Option Event) → earlier (option_map (event_map h) x) (option_map (event_map h) y) ≡ option_map (event_map h) (earlier x y)
+pub earlier-map : (h : PlainCell → PlainCell) (x y : Option Event) → earlier (option_map (event_map h) x) (option_map (event_map h) y) ≡ option_map (event_map h) (earlier x y)
 earlier-map h None y = refl
 earlier-map h (Some d) None = refl
 earlier-map h (Some d) (Some e) = ap Some (by_key-map h (key_cmp d.key e.key) d e)

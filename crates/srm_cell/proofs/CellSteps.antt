@@ -7,7 +7,7 @@ use Rattle.srm_cell.proofs.CellLemmas.{first_timer, keep, next_event_is, outcome
 use Rattle.srm_cell.specs.Cells.{Done, Event, Full, Idle, PlainCell, Spent, StepOutcome, Stepped, before, by_key, earlier, first_arrival, first_mark, handle, hear, hear_at, next_event, own_step, sending_step, step_at}
 use Rattle.srm_cell.specs.Flights.{flight_cmp, numbers_of_flight}
 use Rattle.srm_cell.specs.OwnRuns.{told_to}
-use Rattle.srm_cell.specs.Setting.{Setting, arrival_of}
+use Rattle.srm_cell.specs.Setting.{Traffic, arrival_of}
 use Rattle.srm_cell.specs.declared.flight.Flight.{Flight}
 use Rattle.srm_member.proofs.OrderLemmas.{place-comm, same_numbers}
 use Rattle.srm_member.specs.React.{Reaction, react}
@@ -121,7 +121,7 @@ unmapped Full = refl
 unmapped Spent = refl
 unmapped (Done d) = refl
 
-module _ (s : Setting) where
+module _ (s : Traffic) where
   pub told_comm : (a b : ℕ) → a ≢ b → (x y : Option Packet) → SentBy a x → SentBy b y → (m : ℕ) (c : PlainCell) → told_to s x m (told_to s y m c) ≡ told_to s y m (told_to s x m c)
   unfolding hear
   told_comm a b ne None y h g m c = refl

@@ -3,6 +3,8 @@ pub mod Nexts
 pub mod Telling
 pub mod Saying
 pub mod OwnRunLemmas
+pub mod Pushes
+pub mod Leading
 pub mod CellLemmas
 pub mod CellSteps
 pub mod Rising
@@ -14,3 +16,10 @@ pub mod OwnRunsEnd
 pub mod FitSettings
 pub mod CellKeys
 pub mod CrossingLemmas
+pub mod Counting
+pub mod RowPackets
+pub mod SoFar
+pub mod SentRows
+pub mod LeastEvents
+pub mod Heard
+pub mod Parts

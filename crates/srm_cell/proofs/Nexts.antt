@@ -1,14 +1,16 @@
 -- Where a cell has its next event.
-use Rattle.std.proofs.Common.{◌≡◌, ◌<◌, ◌≤◌, true, false, cond, nat_lt, lt-ltb, le-ltb, ℕ, List, [], ◌∷◌, Option, Some, None, option_map, slice_get, refl, sym, ap, ◌∙◌, subst}
+use Rattle.std.proofs.Common.{◌≡◌, ◌<◌, ◌≤◌, true, false, cond, nat_lt, lt-ltb, le-ltb, ℕ, List, [], ◌∷◌, Option, Some, None, option_map, slice_get, refl, sym, ap, ◌∙◌, subst, Ordering, Less, Equal, Greater}
+use Rattle.std.specs.Ordering.{is_gt}
+use Rattle.srm_net.specs.Keys.{key_cmp}
 use Rattle.srm_net.specs.declared.key.Key.{Key}
 use Rattle.srm_net.specs.declared.packet.PacketId.{PacketId}
 use Rattle.srm_scenario.specs.declared.mark.Mark.{Mark}
 use Rattle.srm_member.specs.declared.due.Due.{Due}
 use Rattle.srm_member.specs.Record.{Record, Active, Gone, due_of}
 use Rattle.srm_cell.specs.declared.flight.Flight.{Flight}
-use Rattle.srm_cell.specs.Cells.{PlainCell, Event, first_arrival, first_mark, next_timer, timer_event, next_event, before, step_at, own_step, handle, Idle}
+use Rattle.srm_cell.specs.Cells.{PlainCell, Event, first_arrival, first_mark, next_timer, timer_event, next_event, earlier, by_key, before, step_at, own_step, handle, Idle}
 use Rattle.srm_cell.specs.declared.pending.Pending.{Pending}
-use Rattle.srm_cell.specs.Pending.{Stands}
+use Rattle.srm_cell.specs.Pending.{Stands, sooner}
 use Rattle.srm_cell.specs.Views.{HoldsRecord, due_in}
 
 -- an event with this key, which is what is pending
@@ -45,6 +47,19 @@ timer_known m n p o d number holds h =
 
 pub no_timer : (m : ℕ) (p : PlainCell) (o : Option Record) → HoldsRecord o p.holds → None ≡ due_in o → next_timer m p (due_of p.holds) ≡ None
 no_timer m p o holds h = ap (next_timer m p) (held_due o p.holds holds ∙ sym h)
+
+-- ---- the sooner of two
+
+sooner_by : (m : ℕ) (c : PlainCell) (p q : Pending) (x y : Option Event) (r : Ordering) → key_cmp p.key q.key ≡ r → Stands m c (Some p) x → Stands m c (Some q) y
+    → Stands m c (cond (is_gt r) (Some q) (Some p)) (earlier x y)
+sooner_by m c p q x y Less r h g = (h.0, (λ i. earlier (h.1 i) (g.1 i)) ∙ ap (λ o. Some (by_key o h.0 g.0)) ((λ i. key_cmp (sym h.2 i) (sym g.2 i)) ∙ r), h.2, h.3)
+sooner_by m c p q x y Equal r h g = (h.0, (λ i. earlier (h.1 i) (g.1 i)) ∙ ap (λ o. Some (by_key o h.0 g.0)) ((λ i. key_cmp (sym h.2 i) (sym g.2 i)) ∙ r), h.2, h.3)
+sooner_by m c p q x y Greater r h g = (g.0, (λ i. earlier (h.1 i) (g.1 i)) ∙ ap (λ o. Some (by_key o h.0 g.0)) ((λ i. key_cmp (sym h.2 i) (sym g.2 i)) ∙ r), g.2, g.3)
+
+pub sooner_stands : (m : ℕ) (c : PlainCell) (d e : Option Pending) (x y : Option Event) → Stands m c d x → Stands m c e y → Stands m c (sooner d e) (earlier x y)
+sooner_stands m c None e x y h g = subst (λ o. Stands m c e (earlier o y)) (sym h) g
+sooner_stands m c (Some p) None x y h g = (h.0, (λ i. earlier (h.1 i) (g i)), h.2, h.3)
+sooner_stands m c (Some p) (Some q) x y h g = sooner_by m c p q x y (key_cmp p.key q.key) refl h g
 
 -- ---- the own step
 

@@ -52,6 +52,16 @@ module _ (end m : ℕ) where
   pub after_done : (n : ℕ) (c : PlainCell) (d : Stepped) → own_step end m c ≡ Done d → own_after end m (suc n) c ≡ own_after end m n d.cell
   after_done n c d e = after_first n c ∙ ap (after_by n c) e
 
+  -- ---- where the first step is the last
+
+  pub idle_ends : (n : ℕ) (c : PlainCell) → own_step end m c ≡ Idle → own_end end m n c ≡ Idle
+  idle_ends zero c e = end_now c ∙ e
+  idle_ends (suc n) c e = end_first n c ∙ ap (end_by n) e
+
+  pub spent_ends : (n : ℕ) (c : PlainCell) → own_step end m c ≡ Spent → own_end end m n c ≡ Spent
+  spent_ends zero c e = end_now c ∙ e
+  spent_ends (suc n) c e = end_first n c ∙ ap (end_by n) e
+
   -- ---- where nothing is pending
 
   pub rows_idle : (n : ℕ) (c : PlainCell) → own_step end m c ≡ Idle → own_rows end m n c ≡ []

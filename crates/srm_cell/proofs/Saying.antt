@@ -1,5 +1,5 @@
 -- What a member's answer makes of an event.
-use Rattle.std.proofs.Common.{◌≡◌, ℕ, ◌+◌, ◌<◌, ◌≤◌, ◌^◌, true, false, cond, Option, Some, None, Ok, Err, refl, sym, ap, ◌∙◌, subst, nat_lt, lt-ltb, le-ltb}
+use Rattle.std.proofs.Common.{◌≡◌, ℕ, ◌+◌, ◌<◌, ◌≤◌, ◌^◌, true, false, Bool, cond, Option, Some, None, Ok, Err, refl, sym, ap, ◌∙◌, subst, nat_lt, lt-ltb, le-ltb}
 use Rattle.srm_net.specs.declared.key.Key.{Key}
 use Rattle.srm_net.specs.declared.packet.Body.{Body}
 use Rattle.srm_member.specs.declared.cause.Cause.{Cause}
@@ -10,7 +10,7 @@ use Rattle.srm_member.specs.Record.{Record, Active, Gone}
 use Rattle.srm_member.specs.React.{Reaction, react}
 use Rattle.srm_member.specs.Reacts.{Reacts, Finishes}
 use Rattle.srm_cell.specs.Cells.{Event, StepOutcome, Full, Spent, Done, Stepped, handle, sending_step, row_of, packet_of, parting}
-use Rattle.srm_cell.specs.Views.{IsGone, HoldsRecord, record_in}
+use Rattle.srm_cell.specs.Views.{IsGone, IsHere, HasWork, HoldsRecord, record_in}
 
 -- a member that is gone has no answer
 pub gone_has_none : (e : Event) (h : Record) (c : Option Cause) → IsGone h → handle e h c ≡ Spent
@@ -69,6 +69,30 @@ module _ (e : Event) (key : Key) (cause : Cause) (same : key ≡ e.key) (caused 
       let no : nat_lt e.rest.sent (2 ^ 48) ≡ false = le-ltb _ _ le in
       ap (λ q. handle e q e.cause) holds ∙ k.3
       ∙ ap (λ t. cond t (Done (record { cell = record e.rest { holds = Active k.0.memory; sent = e.rest.sent + 1 }; row = row_of e k.0.answer (Some (packet_of e body)) })) Full) no
+
+-- ---- where memory was refused there was something to do
+work_by : (b : Bool) (x : Stepped) → HasWork (cond b (Done x) Full)
+work_by true x = tt
+work_by false x = tt
+
+sending_work : (e : Event) (r : Reaction) (body : Option Body) → HasWork (sending_step e r body)
+sending_work e r None = tt
+sending_work e r (Some body) = work_by (nat_lt e.rest.sent (2 ^ 48)) _
+
+pub wanting : (e : Event) (cause : Cause) (at : ℕ) (r s : Record) → e.rest.holds ≡ r → e.cause ≡ Some cause → Reacts r at cause (Err member.NoMemory) s → HasWork (handle e e.rest.holds e.cause)
+unfolding handle
+wanting e cause at (Gone f) s holds caused h = absurd h
+wanting e cause at (Active m) s holds caused h =
+    subst HasWork (sym (ap (λ q. handle e q e.cause) holds ∙ ap (handle e (Active m)) caused)) (sending_work e (react m e.key.time cause) (react m e.key.time cause).answer.body)
+
+pub wanting_end : (e : Event) (r s : Record) → e.rest.holds ≡ r → e.cause ≡ None → Finishes r (Err member.NoMemory) s → HasWork (handle e e.rest.holds e.cause)
+unfolding handle
+wanting_end e (Gone f) s holds caused h = absurd h
+wanting_end e (Active m) s holds caused h = subst HasWork (sym (ap (λ q. handle e q e.cause) holds ∙ ap (handle e (Active m)) caused)) tt
+
+pub ending_is_here : (r s : Record) → Finishes r (Err member.NoMemory) s → IsHere r
+ending_is_here (Active m) s h = tt
+ending_is_here (Gone f) s h = h
 
 -- at a leave
 pub left : (e : Event) (r s : Record) (x : Exit) → e.rest.holds ≡ r → e.cause ≡ None → Finishes r (Ok x) s

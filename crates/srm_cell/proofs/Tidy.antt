@@ -7,7 +7,7 @@ use Rattle.srm_cell.proofs.Rising.{Above, OnEvent, OnStep, earlier_on}
 use Rattle.srm_cell.specs.Cells.{arrival_key, mark_key, timer_key, Done, Event, Full, PlainCell, Stepped, by_key, earlier, first_arrival, first_mark, handle, hear, hear_at, next_event, sending_step, step_at}
 use Rattle.srm_cell.specs.Flights.{flight_cmp}
 use Rattle.srm_cell.specs.OwnRuns.{told_to}
-use Rattle.srm_cell.specs.Setting.{Setting, arrival_of, is_up_to}
+use Rattle.srm_cell.specs.Setting.{Traffic, arrival_of, is_up_to}
 use Rattle.srm_cell.specs.declared.flight.Flight.{Flight}
 use Rattle.srm_member.proofs.AllIn.{AllIn}
 use Rattle.srm_member.proofs.OrderLemmas.{From, from_greater, from_not_greater, from_trans, key_total, nat_cmp_self, not_greater, rises_place}
@@ -135,7 +135,7 @@ tidy_hear_at : (p : Packet) (o : Option ℕ) (c : PlainCell) → IsTidy c → Is
 tidy_hear_at p None c t = t
 tidy_hear_at p (Some at) c t = record { flights = rises_place flight_cmp flight_total _ c.inbox t.flights; marks = t.marks }
 
-pub tidy_told : (s : Setting) (x : Option Packet) (m : ℕ) (c : PlainCell) → IsTidy c → IsTidy (told_to s x m c)
+pub tidy_told : (s : Traffic) (x : Option Packet) (m : ℕ) (c : PlainCell) → IsTidy c → IsTidy (told_to s x m c)
 unfolding hear
 tidy_told s None m c t = t
 tidy_told s (Some p) m c t = tidy_hear_at p (arrival_of s p m) c t
@@ -155,7 +155,7 @@ not_true true h = cc
 not_true false h = refl
 
 -- a packet reaches another member after the distance to it
-pub arrival_is : (s : Setting) (p : Packet) (m at : ℕ) → arrival_of s p m ≡ Some at → (m < s.members) × (m ≢ p.id.sender) × (p.sent + s.distance p.id.sender m ≡ at)
+pub arrival_is : (s : Traffic) (p : Packet) (m at : ℕ) → arrival_of s p m ≡ Some at → (m < s.members) × (m ≢ p.id.sender) × (p.sent + s.distance p.id.sender m ≡ at)
 arrival_is s p m at h =
     let h0 = if_some _ _ at h in
     let h1 = and_parts (nat_lt m s.members) _ h0.0 in
@@ -163,12 +163,12 @@ arrival_is s p m at h =
     (ltb-true _ _ h1.0, eqb-false _ _ (not_true _ h2.0), h0.1)
 
 -- a packet does not arrive after the member left
-pub arrival_up_to : (s : Setting) (p : Packet) (m at : ℕ) → arrival_of s p m ≡ Some at → is_up_to at (s.leave m) ≡ true
+pub arrival_up_to : (s : Traffic) (p : Packet) (m at : ℕ) → arrival_of s p m ≡ Some at → is_up_to at (s.leave m) ≡ true
 arrival_up_to s p m at h =
     let h0 = if_some _ _ at h in
     let h1 = and_parts (nat_lt m s.members) _ h0.0 in
     let h2 = and_parts (not (m == p.id.sender)) _ h1.1 in
-    let h3 = and_parts (s.reaches p.id m) _ h2.1 in
+    let h3 = and_parts (s.reaches p m) _ h2.1 in
     let h4 = and_parts (nat_le (s.join m) _) _ h3.1 in
     let h5 = and_parts (is_up_to _ (s.leave m)) _ h4.1 in
     subst (λ t. is_up_to t (s.leave m) ≡ true) h0.1 h5.0

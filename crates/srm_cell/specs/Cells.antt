@@ -24,7 +24,7 @@ use Rattle.srm_member.specs.declared.react.React.{React}
 use Rattle.srm_member.specs.Record.{Record, Active, Gone, opening_record, timers, due_of, exit_of, count_if, timers_at}
 use Rattle.srm_member.specs.React.{Reaction, is_listener, react}
 use Rattle.srm_cell.specs.declared.flight.Flight.{Flight}
-use Rattle.srm_cell.specs.Setting.{Setting, arrival_of, cause_of_mark}
+use Rattle.srm_cell.specs.Setting.{Traffic, Setting, arrival_of, cause_of_mark}
 use Rattle.srm_cell.specs.Flights.{flight_cmp}
 
 -- ---- cells
@@ -51,8 +51,8 @@ hear_at p None c = c
 hear_at p (Some at) c = record c { inbox = place flight_cmp (record { arrival = at; packet = p }) c.inbox }
 
 -- member m's cell after another member sent a packet
-unfoldable pub hear : Setting → Packet → ℕ → PlainCell → PlainCell
-hear s p m c = hear_at p (arrival_of s p m) c
+unfoldable pub hear : Traffic → Packet → ℕ → PlainCell → PlainCell
+hear t p m c = hear_at p (arrival_of t p m) c
 
 -- ---- pending events
 
@@ -76,7 +76,8 @@ earlier (Some d) (Some e) = Some (by_key (key_cmp d.key e.key) d e)
 
 -- the key of an arrival
 abbrev pub arrival_key : ℕ → Flight → Key
-arrival_key m f = record { time = f.arrival; member = m; rank = 1; a = f.packet.id.sender; b = 0; c = f.packet.id.count }
+arrival_key m f =
+    record { time = f.arrival; member = m; rank = 1; a = f.packet.id.sender; b = 0; c = f.packet.id.count }
 
 -- the key of a mark
 abbrev pub mark_key : ℕ → Mark → Key
@@ -84,7 +85,8 @@ mark_key m k = record { time = k.at; member = m; rank = k.rank; a = 0; b = 0; c 
 
 -- the key of a timer
 abbrev pub timer_key : ℕ → Due → Key
-timer_key m d = record { time = d.time; member = m; rank = d.rank; a = d.name.source; b = d.name.page; c = d.name.number }
+timer_key m d =
+    record { time = d.time; member = m; rank = d.rank; a = d.name.source; b = d.name.page; c = d.name.number }
 
 -- the keys of all that member m's cell has pending
 abbrev pub pending_keys : ℕ → PlainCell → List Key
@@ -137,7 +139,8 @@ next_timer m c (Some d) = Some (timer_event m c d)
 
 -- a cell's least own pending event
 unfoldable pub next_event : ℕ → PlainCell → Option Event
-next_event m c = earlier (first_arrival m c c.inbox) (earlier (first_mark m c c.script) (next_timer m c (due_of c.holds)))
+next_event m c =
+    earlier (first_arrival m c c.inbox) (earlier (first_mark m c c.script) (next_timer m c (due_of c.holds)))
 
 -- the time of an event, if there is one
 abbrev pub time_of : Option Event → Option ℕ
@@ -192,7 +195,7 @@ drawn _ = Nothing
 
 -- what an event is about
 abbrev pub about_of : Option Cause → Option Body → About
-about_of (Some (Arrival p)) body = Of p.id
+about_of (Some (Arrival p)) body = Of p
 about_of (Some (Ask n)) body = Named n
 about_of (Some (Answer n)) body = Named n
 about_of (Some (Draw page ink)) body = drawn body
@@ -200,7 +203,14 @@ about_of _ body = Nothing
 
 -- the row of an event, with the member's answer and the packet that it sent
 abbrev pub row_of : Event → React → Option Packet → Row
-row_of e a sent = record { key = e.key; cause = word_of e.cause; about = about_of e.cause a.body; told = a.told; lost = a.lost; sent = sent }
+row_of e a sent = record {
+  key = e.key;
+  cause = word_of e.cause;
+  about = about_of e.cause a.body;
+  told = a.told;
+  lost = a.lost;
+  sent = sent;
+}
 
 -- the member's next packet, with this body
 abbrev pub packet_of : Event → Body → Packet

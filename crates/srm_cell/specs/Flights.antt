@@ -4,6 +4,8 @@ use Rattle.std.specs.declared.cmp.Ordering.{Ordering}
 use Rattle.std.specs.Ordering.{nat_cmp}
 use Rattle.std.specs.Cmp.Lexicographic.{slice_cmp}
 use Rattle.srm_net.specs.declared.packet.PacketId.{PacketId}
+use Rattle.srm_net.specs.declared.packet.Packet.{Packet}
+use Rattle.srm_net.specs.Orders.{place}
 use Rattle.srm_cell.specs.declared.flight.Flight.{Flight}
 
 -- a flight as its numbers: when it arrives, and its packet's sender and count
@@ -13,6 +15,10 @@ numbers_of_flight f = f.arrival ∷ f.packet.id.sender ∷ f.packet.id.count ∷
 -- flights are compared by arrival, sender and count
 abbrev pub flight_cmp : Flight → Flight → Ordering
 flight_cmp f g = slice_cmp nat_cmp (numbers_of_flight f) (numbers_of_flight g)
+
+-- the flights with that of a packet that arrives at this time, in its place among them
+abbrev pub with_flight : Packet → ℕ → List Flight → List Flight
+with_flight p at fs = place flight_cmp (record { arrival = at; packet = p }) fs
 
 -- none of these flights brings this packet
 abbrev pub BringsNone : PacketId → List Flight → Type 0

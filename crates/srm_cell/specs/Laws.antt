@@ -1,10 +1,13 @@
 -- What holds of every cell.
-use Rattle.std.specs.Prelude.{◌≡◌, ℕ, List, ◌++◌}
-use Rattle.srm_scenario.specs.Plain.{PlainScenario, network_of}
+use Rattle.std.specs.Prelude.{◌≡◌, ℕ, List, [], ◌++◌, Some, None}
+use Rattle.srm_net.specs.Keys.{key_cmp}
+use Rattle.srm_net.specs.Orders.{Rises, NoneBelow}
+use Rattle.srm_scenario.specs.Plain.{PlainScenario, network_of, mark_cmp}
 use Rattle.srm_scenario.specs.Accepted.{IsAccepted}
 use Rattle.srm_member.specs.declared.row.Row.{Row}
-use Rattle.srm_cell.specs.Setting.{Setting, IsFit, setting_of}
-use Rattle.srm_cell.specs.Cells.{PlainCell}
+use Rattle.srm_cell.specs.Setting.{Traffic, IsFit, setting_of}
+use Rattle.srm_cell.specs.Flights.{flight_cmp}
+use Rattle.srm_cell.specs.Cells.{PlainCell, Event, next_event, pending_keys}
 use Rattle.srm_cell.specs.OwnRuns.{IsOwnRun}
 use Rattle.srm_cell.specs.Crossings.{crossings, added}
 
@@ -20,4 +23,11 @@ SettingsAreFit = (s : PlainScenario) (seed : ℕ) → IsAccepted s → IsFit (se
 
 -- the crossings of two lists of rows together are those of each, added
 abbrev pub CrossingsAdd : Type 0
-CrossingsAdd = (s : Setting) (qs rs : List Row) → crossings s (qs ++ rs) ≡ added (crossings s qs) (crossings s rs)
+CrossingsAdd = (t : Traffic) (qs rs : List Row) → crossings t (qs ++ rs) ≡ added (crossings t qs) (crossings t rs)
+
+-- a cell whose inbox and script rise has nothing pending before its next event, and nothing at all where it has none
+abbrev pub NextEventsAreLeast : Type 0
+NextEventsAreLeast =
+    (m : ℕ) (c : PlainCell) → Rises flight_cmp c.inbox → Rises mark_cmp c.script
+    → ((e : Event) → next_event m c ≡ Some e → NoneBelow key_cmp e.key (pending_keys m c))
+    × (next_event m c ≡ None → pending_keys m c ≡ [])

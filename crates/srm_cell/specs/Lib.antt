@@ -5,6 +5,9 @@ pub mod Cells
 pub mod Pending
 pub mod Probes
 pub mod Views
+pub mod InnerSteps
 pub mod OwnRuns
+pub mod Jobs
 pub mod Crossings
 pub mod Laws
+pub mod Totalled

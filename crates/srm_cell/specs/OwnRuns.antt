@@ -2,23 +2,26 @@
 use Rattle.std.specs.Prelude.{◌≡◌, ℕ, zero, suc, List, [], ◌∷◌, Option, Some, None}
 use Rattle.srm_net.specs.declared.packet.Packet.{Packet}
 use Rattle.srm_member.specs.declared.row.Row.{Row}
-use Rattle.srm_cell.specs.Setting.{Setting}
+use Rattle.srm_cell.specs.Setting.{Traffic}
 use Rattle.srm_cell.specs.Cells.{PlainCell, hear, StepOutcome, Idle, Full, Spent, Done, Stepped, own_step}
 
 -- the rows of the first n own steps, or of fewer where the own run ends before
 unfoldable pub own_rows : ℕ → ℕ → ℕ → PlainCell → List Row
 own_rows end m zero c = []
-own_rows end m (suc n) c = elim (own_step end m c) [ Idle ↦ [] | Full ↦ [] | Spent ↦ [] | Done d ↦ d.row ∷ own_rows end m n d.cell ]
+own_rows end m (suc n) c =
+    elim (own_step end m c) [ Idle ↦ [] | Full ↦ [] | Spent ↦ [] | Done d ↦ d.row ∷ own_rows end m n d.cell ]
 
 -- what ends the own run within n steps
 unfoldable pub own_end : ℕ → ℕ → ℕ → PlainCell → StepOutcome Stepped
 own_end end m zero c = own_step end m c
-own_end end m (suc n) c = elim (own_step end m c) [ Idle ↦ Idle | Full ↦ Full | Spent ↦ Spent | Done d ↦ own_end end m n d.cell ]
+own_end end m (suc n) c =
+    elim (own_step end m c) [ Idle ↦ Idle | Full ↦ Full | Spent ↦ Spent | Done d ↦ own_end end m n d.cell ]
 
 -- the cell after the first n own steps, or fewer where the own run ends before
 unfoldable pub own_after : ℕ → ℕ → ℕ → PlainCell → PlainCell
 own_after end m zero c = c
-own_after end m (suc n) c = elim (own_step end m c) [ Idle ↦ c | Full ↦ c | Spent ↦ c | Done d ↦ own_after end m n d.cell ]
+own_after end m (suc n) c =
+    elim (own_step end m c) [ Idle ↦ c | Full ↦ c | Spent ↦ c | Done d ↦ own_after end m n d.cell ]
 
 -- member m's own run to the end has these rows and leaves this cell, with no own event before the end pending
 pub record IsOwnRun (end m : ℕ) (c : PlainCell) (rows : List Row) (d : PlainCell) : Type 0 where
@@ -38,11 +41,11 @@ MeetsSpent end m c = (n : ℕ) × (own_end end m n c ≡ Spent)
 -- ---- what others sent
 
 -- member m's cell after this packet was sent by another member, if any was
-abbrev pub told_to : Setting → Option Packet → ℕ → PlainCell → PlainCell
-told_to s None m c = c
-told_to s (Some p) m c = hear s p m c
+abbrev pub told_to : Traffic → Option Packet → ℕ → PlainCell → PlainCell
+told_to t None m c = c
+told_to t (Some p) m c = hear t p m c
 
 -- the cell after it hears the packets of the rows, in their order
-abbrev pub hear_rows : Setting → ℕ → List Row → PlainCell → PlainCell
-hear_rows s m [] c = c
-hear_rows s m (r ∷ rs) c = hear_rows s m rs (told_to s r.sent m c)
+abbrev pub hear_rows : Traffic → ℕ → List Row → PlainCell → PlainCell
+hear_rows t m [] c = c
+hear_rows t m (r ∷ rs) c = hear_rows t m rs (told_to t r.sent m c)

@@ -1,5 +1,8 @@
 -- Where a cell has its next event.
-use Rattle.std.specs.Prelude.{◌≡◌, ℕ, Option, Some, None}
+use Rattle.std.specs.Prelude.{◌≡◌, ℕ, Option, Some, None, if◌then◌else◌}
+use Rattle.std.specs.Ordering.{is_gt}
+use Rattle.srm_net.specs.declared.packet.PacketId.{PacketId}
+use Rattle.srm_net.specs.Keys.{key_cmp}
 use Rattle.srm_cell.specs.declared.pending.Source.{Source}
 use Rattle.srm_cell.specs.declared.pending.Source.TheVariants.{Inbox, Script, Timer}
 use Rattle.srm_cell.specs.declared.pending.Pending.{Pending}
@@ -15,3 +18,16 @@ first_of (Timer d) m c = Some (timer_event m c d)
 abbrev pub Stands : ℕ → PlainCell → Option Pending → Option Event → Type 0
 Stands m c None o = o ≡ None
 Stands m c (Some p) o = (e : Event) × (o ≡ Some e) × (p.key ≡ e.key) × (first_of p.source m c ≡ Some e)
+
+-- a packet on its way to member m, as it is pending
+abbrev pub arriving : ℕ → ℕ → PacketId → Pending
+arriving m time id = record {
+  key = record { time = time; member = m; rank = 1; a = id.sender; b = 0; c = id.count };
+  source = Inbox;
+}
+
+-- of two that are pending the one with the lesser key; of two with one key the first
+abbrev pub sooner : Option Pending → Option Pending → Option Pending
+sooner None q = q
+sooner (Some p) None = Some p
+sooner (Some p) (Some q) = if is_gt (key_cmp p.key q.key) then Some q else Some p

@@ -1,13 +1,20 @@
--- A member of the tests: it joins no recovery, and counts the drops of its box.
+-- Members of the tests.
 use Rattle.std.specs.Prelude.{ℕ, Bool, [], if◌then◌else◌}
-use Rattle.srm_net.specs.declared.role.Role.TheVariants.{Listener}
+use Rattle.srm_net.specs.declared.role.Role.{Role}
+use Rattle.srm_net.specs.declared.role.Role.TheVariants.{Listener, Receiver}
 use Rattle.srm_member.specs.declared.fixed.Fixed.{Fixed}
 use Rattle.srm_member.specs.Record.{Record, Active, Gone, opening_memory}
 
--- its part that never changes
-abbrev pub probe_fixed : ℕ → Fixed
-probe_fixed m = record { member = m; role = Listener; c1 = 0; c2 = 0; d1 = 0; d2 = 0; dist = []; pages = []; seed = 0; stream = 0 }
+-- the part that never changes of a member that knows no distance and wants no page
+abbrev pub plain_fixed : Role → ℕ → Fixed
+plain_fixed role m =
+    record { member = m; role = role; c1 = 0; c2 = 0; d1 = 0; d2 = 0; dist = []; pages = []; seed = 0; stream = 0 }
 
--- its record, by whether it is gone
+-- the record, by whether it is gone, of a member that joins no recovery and counts the drops of its box
 abbrev pub probe_record : ℕ → Bool → Record
-probe_record m gone = if gone then Gone (probe_fixed m) else Active (opening_memory (probe_fixed m))
+probe_record m gone = if gone then Gone (plain_fixed Listener m) else Active (opening_memory (plain_fixed Listener m))
+
+-- the record, by whether it is gone, of a member that has heard of no page and sends its reports
+abbrev pub reporter_record : ℕ → Bool → Record
+reporter_record m gone =
+    if gone then Gone (plain_fixed Receiver m) else Active (opening_memory (plain_fixed Receiver m))

@@ -14,20 +14,24 @@ use Rattle.srm_member.specs.declared.cause.Cause.{Cause}
 use Rattle.srm_member.specs.declared.cause.Cause.TheVariants.{Join, Draw, Report}
 use Rattle.srm_member.specs.declared.fixed.Fixed.{Fixed}
 
--- events before `until` are handled. Of each member: its fixed part, its script, when it joins and when it leaves. Of each two
+-- what becomes of packets. Events before `until` are handled. Of each member: when it joins and when it leaves. Of each two
 -- members: how long a packet is on its way. Of each packet: whom it reaches, which links it crosses, and at which it is dropped
-pub record Setting : Type 0 where
+pub record Traffic : Type 0 where
   pub until : ℕ
   pub members : ℕ
-  pub fixed : ℕ → Fixed
-  pub script : ℕ → List Mark
   pub join : ℕ → ℕ
   pub leave : ℕ → Option ℕ
   pub distance : ℕ → ℕ → ℕ
-  pub reaches : PacketId → ℕ → Bool
+  pub reaches : Packet → ℕ → Bool
   pub links : ℕ
-  pub crosses : PacketId → ℕ → Bool
-  pub drops_at : PacketId → ℕ → Bool
+  pub crosses : Packet → ℕ → Bool
+  pub drops_at : Packet → ℕ → Bool
+
+-- a traffic, and of each member its fixed part, in which a seed stands, and its script
+pub record Setting : Type 0 where
+  pub traffic : Traffic
+  pub fixed : ℕ → Fixed
+  pub script : ℕ → List Mark
 
 -- ---- the setting of a scenario
 
@@ -58,21 +62,23 @@ fixed_of s net seed m = record {
   stream = (member_at s m).stream;
 }
 
--- the setting of a scenario, its network and a seed
-abbrev pub setting_of : PlainScenario → Network → ℕ → Setting
-setting_of s net seed = record {
+-- the traffic of a scenario and its network
+abbrev pub traffic_of : PlainScenario → Network → Traffic
+traffic_of s net = record {
   until = s.until;
   members = length s.members;
-  fixed = fixed_of s net seed;
-  script = script_of s;
   join = λ m. (member_at s m).join;
   leave = λ m. (member_at s m).leave;
   distance = paths.distance net;
-  reaches = paths.reaches net s.drops;
+  reaches = λ p. paths.reaches net s.drops p.id;
   links = length net.links;
-  crosses = paths.crosses net s.drops;
-  drops_at = paths.drops_at net s.drops;
+  crosses = λ p. paths.crosses net s.drops p.id;
+  drops_at = λ p. paths.drops_at net s.drops p.id;
 }
+
+-- the setting of a scenario, its network and a seed
+abbrev pub setting_of : PlainScenario → Network → ℕ → Setting
+setting_of s net seed = record { traffic = traffic_of s net; fixed = fixed_of s net seed; script = script_of s }
 
 -- ---- flights
 
@@ -82,14 +88,14 @@ is_up_to at None = true
 is_up_to at (Some end) = nat_le at end
 
 -- whether member m is present at this time, before the end of the run
-abbrev pub is_present : Setting → ℕ → ℕ → Bool
-is_present s m at = nat_le (s.join m) at && (is_up_to at (s.leave m) && nat_lt at s.until)
+abbrev pub is_present : Traffic → ℕ → ℕ → Bool
+is_present t m at = nat_le (t.join m) at && (is_up_to at (t.leave m) && nat_lt at t.until)
 
 -- when member m is handed packet p, if it is: another member than the sender, that the packet reaches, and that is present
-abbrev pub arrival_of : Setting → Packet → ℕ → Option ℕ
-arrival_of s p m =
-    let at = p.sent + s.distance p.id.sender m in
-    if nat_lt m s.members && (not (m == p.id.sender) && (s.reaches p.id m && is_present s m at)) then Some at else None
+abbrev pub arrival_of : Traffic → Packet → ℕ → Option ℕ
+arrival_of t p m =
+    let at = p.sent + t.distance p.id.sender m in
+    if nat_lt m t.members && (not (m == p.id.sender) && (t.reaches p m && is_present t m at)) then Some at else None
 
 -- ---- marks
 
@@ -116,8 +122,8 @@ EndsAtLeave leave (k ∷ ks) = (cause_of_mark k ≡ None → (leave ≡ Some k.a
 -- what the setting of a scenario has: members' numbers in their fixed parts, scripts in order, that end at the leave, and no two
 -- members at one place
 pub record IsFit (s : Setting) : Type 0 where
-  pub numbers : (m : ℕ) → m < s.members → (s.fixed m).member ≡ m
-  pub scripts : (m : ℕ) → m < s.members → Ascends mark_cmp (s.script m)
-  pub ranks : (m : ℕ) → m < s.members → HasOwnRanks (s.script m)
-  pub leaves : (m : ℕ) → m < s.members → EndsAtLeave (s.leave m) (s.script m)
-  pub apart : (a b : ℕ) → a < s.members → b < s.members → a ≢ b → 0 < s.distance a b
+  pub numbers : (m : ℕ) → m < s.traffic.members → (s.fixed m).member ≡ m
+  pub scripts : (m : ℕ) → m < s.traffic.members → Ascends mark_cmp (s.script m)
+  pub ranks : (m : ℕ) → m < s.traffic.members → HasOwnRanks (s.script m)
+  pub leaves : (m : ℕ) → m < s.traffic.members → EndsAtLeave (s.traffic.leave m) (s.script m)
+  pub apart : (a b : ℕ) → a < s.traffic.members → b < s.traffic.members → a ≢ b → 0 < s.traffic.distance a b

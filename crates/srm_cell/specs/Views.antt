@@ -1,15 +1,17 @@
 -- What is seen of a cell, and what its calls tell.
-use Rattle.std.specs.Prelude.{◌≡◌, ◌⊎◌, ℕ, Option, Some, None, Result, Ok, Err}
+use Rattle.std.specs.Prelude.{◌≡◌, ◌⊎◌, ℕ, List, Option, Some, None, Result, Ok, Err}
 use Rattle.std.specs.declared.dyn_box.DynBox.{DynBox}
 use Rattle.std.specs.Global.{Global}
+use Rattle.srm_scenario.specs.declared.mark.Mark.{Mark}
 use Rattle.srm_member.specs.declared.due.Due.{Due}
 use Rattle.srm_member.specs.declared.exit.Exit.{Exit}
 use Rattle.srm_member.specs.declared.row.Row.{Row}
-use Rattle.srm_member.specs.Record.{Record, Active, Gone, due_of, exit_of}
+use Rattle.srm_member.specs.Record.{Record, Active, Gone, fixed_part, due_of, exit_of}
 use Rattle.srm_cell.specs.declared.cell.Cell.{Cell}
 use Rattle.srm_cell.specs.declared.fault.CellFault.{CellFault}
 use Rattle.srm_cell.specs.declared.fault.CellFault.TheVariants as fault
-use Rattle.srm_cell.specs.Cells.{PlainCell, StepOutcome, Idle, Full, Spent, Done, Stepped}
+use Rattle.srm_cell.specs.Cells.{PlainCell, StepOutcome, Idle, Full, Spent, Done, Stepped, new_cell, next_event, own_step, time_of}
+use Rattle.srm_cell.specs.Pending.{Stands}
 
 -- a record that is gone
 abbrev pub IsGone : Record → Type 0
@@ -20,6 +22,18 @@ IsGone (Gone f) = Unit {0}
 abbrev pub EndsWith : Record → Exit → Type 0
 EndsWith (Active m) x = x ≡ exit_of m
 EndsWith (Gone f) x = ⊥
+
+-- a record that is there
+abbrev pub IsHere : Record → Type 0
+IsHere (Active m) = Unit {0}
+IsHere (Gone f) = ⊥
+
+-- there is an event, and a member to answer it: only then may memory be wanted
+abbrev pub HasWork : {A : Type 0} → StepOutcome A → Type 0
+HasWork Idle = ⊥
+HasWork Spent = ⊥
+HasWork Full = Unit {0}
+HasWork (Done d) = Unit {0}
 
 -- the record of the box that a cell holds; where it holds none, the member is gone
 abbrev pub HoldsRecord : Option Record → Record → Type 0
@@ -38,13 +52,20 @@ due_in (Some r) = due_of r
 -- what a cell's end tells: what the member ended with as it left, or else what it ends with now, unless it is gone
 abbrev pub TellsExit : PlainCell → Result Exit CellFault → Type 0
 TellsExit p (Ok x) = (p.exit ≡ Some x) ⊎ ((p.exit ≡ None) × EndsWith p.holds x)
-TellsExit p (Err fault.NoMemory) = p.exit ≡ None
+TellsExit p (Err fault.NoMemory) = (p.exit ≡ None) × IsHere p.holds
 TellsExit p (Err fault.Spent) = (p.exit ≡ None) × IsGone p.holds
 TellsExit p (Err fault.CountFull) = ⊥
 
+-- a step with this outcome tells this, where `P` is what is so of the cell that it leaves. After a refusal nothing is known of it
+abbrev pub TellsOf : (PlainCell → Type 0) → StepOutcome Stepped → Result Row CellFault → Type 0
+TellsOf P o (Ok row) = (d : Stepped) × (o ≡ Done d) × (d.row ≡ row) × P d.cell
+TellsOf P o (Err fault.NoMemory) = HasWork o
+TellsOf P o (Err fault.Spent) = o ≡ Spent
+TellsOf P o (Err fault.CountFull) = o ≡ Full
+
 module _ {X : Type 0} {H : X → Type 0} where
-  -- the cell of member m is seen as this plain cell, where f is what is seen of its box
-  pub record IsCell (f : DynBox X Global H → Record) (m : ℕ) (c : Cell X H) (p : PlainCell) : Type 0 where
+  -- the cell of member m has this plain cell's parts, where f is what is seen of its box
+  pub record HasParts (f : DynBox X Global H → Record) (m : ℕ) (c : Cell X H) (p : PlainCell) : Type 0 where
     pub number : c.number ≡ m
     pub holds : HoldsRecord (record_in f c.member) p.holds
     pub sent : p.sent ≡ c.sent
@@ -54,15 +75,45 @@ module _ {X : Type 0} {H : X → Type 0} where
     -- once the member has left there is no box
     pub none_once_left : (x : Exit) → c.exit ≡ Some x → record_in f c.member ≡ None
 
-  -- a step of member m's cell with this outcome tells this, and leaves this cell. After a refusal nothing is known of the cell
-  abbrev pub TellsRow : (DynBox X Global H → Record) → ℕ → StepOutcome Stepped → Result Row CellFault → Cell X H → Type 0
-  TellsRow f m o (Ok row) after = (d : Stepped) × (o ≡ Done d) × (d.row ≡ row) × IsCell f m after d.cell
-  TellsRow f m o (Err fault.NoMemory) after = Unit {0}
-  TellsRow f m o (Err fault.Spent) after = o ≡ Spent
-  TellsRow f m o (Err fault.CountFull) after = o ≡ Full
+  -- the cell of member m is seen as this plain cell, where f is what is seen of its box.
+  --
+  -- A cell whose member is gone may be seen as several plain cells: its box was dropped, and with it the member's part that never
+  -- changes, so its record may be gone with any such part. Nothing depends on which: a record that is gone has no timer and no
+  -- answer, what the member ended with stands in the exit, and no definition looks at the part that a gone record keeps
+  pub record IsCell (f : DynBox X Global H → Record) (m : ℕ) (c : Cell X H) (p : PlainCell) : Type 0 where
+    pub parts : HasParts f m c p
+    -- what the cell keeps as its next event is that
+    pub next : Stands m p c.next (next_event m p)
+
+  -- the cell is that of a member with this record, at the beginning, with this script and packet count
+  abbrev pub IsNew : (DynBox X Global H → Record) → Record → List Mark → ℕ → Cell X H → Type 0
+  IsNew f r script sent c = IsCell f (fixed_part r).member c (new_cell r script sent)
+
+  -- each plain cell that the first is seen as becomes, by h, one that the second is seen as
+  abbrev pub Becomes : (DynBox X Global H → Record) → (PlainCell → PlainCell) → Cell X H → Cell X H → Type 0
+  Becomes f h old new = (m : ℕ) (p : PlainCell) → IsCell f m old p → IsCell f m new (h p)
+
+  -- a step of member m's cell with this outcome tells this, and leaves this cell
+  abbrev pub TellsRow : (DynBox X Global H → Record) → ℕ → StepOutcome Stepped
+      → Result Row CellFault → Cell X H → Type 0
+  TellsRow f m o result after = TellsOf (λ p. IsCell f m after p) o result
 
   -- the same of a cell that was this one before, where there may be nothing to do
-  abbrev pub TellsStep : (DynBox X Global H → Record) → ℕ → PlainCell → StepOutcome Stepped → Result (Option Row) CellFault → Cell X H → Type 0
+  abbrev pub TellsStep : (DynBox X Global H → Record) → ℕ → PlainCell → StepOutcome Stepped
+      → Result (Option Row) CellFault → Cell X H → Type 0
   TellsStep f m p o (Ok None) after = (o ≡ Idle) × IsCell f m after p
   TellsStep f m p o (Ok (Some row)) after = TellsRow f m o (Ok row) after
   TellsStep f m p o (Err e) after = TellsRow f m o (Err e) after
+
+  -- what the own step to an end tells, of each plain cell that the cell is seen as
+  abbrev pub Steps : (DynBox X Global H → Record) → ℕ → Cell X H → Result (Option Row) CellFault → Cell X H → Type 0
+  Steps f end old result new =
+      (m : ℕ) (p : PlainCell) → IsCell f m old p → TellsStep f m p (own_step end m p) result new
+
+  -- the least time at which the cell has anything pending, of each plain cell that the cell is seen as
+  abbrev pub IsNextTime : (DynBox X Global H → Record) → Cell X H → Option ℕ → Type 0
+  IsNextTime f c time = (m : ℕ) (p : PlainCell) → IsCell f m c p → time ≡ time_of (next_event m p)
+
+  -- what the cell's end tells, of each plain cell that the cell is seen as
+  abbrev pub Ends : (DynBox X Global H → Record) → Cell X H → Result Exit CellFault → Type 0
+  Ends f c result = (m : ℕ) (p : PlainCell) → IsCell f m c p → TellsExit p result

@@ -1,17 +1,312 @@
 //! A member's cell.
-use crate::inbox::Inbox;
-use crate::script::Script;
-use srm_member::exit::Exit;
-use srm_member::member::Member;
+ghost use Rattle.std.specs.Prelude.{◌≡◌, ◌≤◌, ◌<◌, ◌^◌, Some, None, OnOk, OnErr, IfErr};
+ghost use Rattle.srm_net.specs.Orders.{Rises};
+ghost use Rattle.srm_scenario.specs.Plain.{mark_cmp};
+ghost use Rattle.srm_member.specs.Record.{due_of};
+ghost use Rattle.srm_cell.specs.Flights.{BringsNone};
+ghost use Rattle.srm_cell.specs.Cells.{hear_at, next_event, first_arrival, first_mark, next_timer};
+ghost use Rattle.srm_cell.specs.Views.{IsNew, Becomes, Steps, Ends, IsNextTime, record_in, due_in};
+ghost use Rattle.srm_cell.specs.InnerSteps.{StandsFor, Takes, Answers};
+ghost use Rattle.srm_cell.specs.Jobs.{Runs};
 
-/// A member's cell: its box, the packets on their way to it, the rest of its script, its packet count and, once it left, what it
-/// ended with.
+use crate::boxes::{finish, react};
+use crate::fault::CellFault;
+use crate::inbox::Inbox;
+use crate::pending::{Pending, Source, sooner};
+use crate::rows::{about, cause_at, expiry, word};
+use crate::script::Script;
+use srm_member::cause::Cause;
+use srm_member::due::Due;
+use srm_member::exit::Exit;
+use srm_member::fault::MemberFault;
+use srm_member::member::Member;
+use srm_member::react::React;
+use srm_member::row::{About, Row, Word};
+use srm_member::told::Told;
+use srm_net::key::Key;
+use srm_net::packet::{Packet, PacketId};
+use srm_net::sequence::Sequence;
+use srm_scenario::mark::Mark;
+use std::alloc::Global;
+
+// A member sends at most this many packets.
+const COUNT_LIMIT: u64 = 281_474_976_710_656;
+
+/// A member's cell: its box, the packets on their way to it, the rest of its script, its packet count, once it left what it ended
+/// with, and which of all that is pending is next.
 #[derive(Drop)]
 pub struct Cell {
-    pub(crate) number: u16,
-    pub(crate) member: Option<Box<dyn Member>>,
-    pub(crate) inbox: Inbox,
-    pub(crate) script: Script,
-    pub(crate) sent: u64,
-    pub(crate) exit: Option<Exit>,
+    number: u16,
+    member: Option<Box<dyn Member>>,
+    inbox: Inbox,
+    script: Script,
+    sent: u64,
+    exit: Option<Exit>,
+    next: Option<Pending>,
+}
+
+impl Cell {
+    /// A member's cell with this script. The member's next packet has count `sent`. It takes no memory.
+    pub fn new(alloc: Global, member: Box<dyn Member>, script: Vec<Mark>, sent: u64) -> Cell
+        requires sent { sent ≤ 2 ^ 48 }
+        requires script { Rises mark_cmp script.items }
+        ensures { IsNew (λ b. plain b) (plain member) script.items sent result }
+    {
+        let number = member.number();
+        let mut cell = Cell {
+            number,
+            member: Some(member),
+            inbox: Inbox::new(alloc),
+            script: Script::new(script),
+            sent,
+            exit: None,
+            next: None,
+        };
+        cell.next = cell.least();
+        cell
+    }
+
+    /// The least time of the cell's pending events, in ticks: of packets on their way, of the script and of timers, whenever the
+    /// run ends. It takes no memory.
+    pub fn next_time(&self) -> Option<u64>
+        ensures { IsNextTime (λ b. plain b) self.now result }
+    {
+        let next = self.next?;
+        Some(next.key.time)
+    }
+
+    /// Adds a packet that arrives at tick `arrival`. After an error, which is want of memory, the cell is as it was.
+    pub fn accept(&mut self, packet: &Packet, arrival: u64) -> Result<(), CellFault>
+        requires { BringsNone packet.now.id self.old.inbox }
+        ensures ok { OnOk result (Becomes (λ b. plain b) (λ p. hear_at packet.now (Some arrival) p) self.old self.new) }
+        ensures memory { IfErr result (λ e. e ≡ CellFault.NoMemory) }
+        ensures err { OnErr result (Becomes (λ b. plain b) (λ p. p) self.old self.new) }
+    {
+        if self.inbox.accept(packet, arrival).is_err() {
+            return Err(CellFault::NoMemory);
+        }
+        let arriving = Pending::arriving(self.number, arrival, packet.id);
+        self.next = sooner(Some(arriving), self.next);
+        Ok(())
+    }
+
+    /// Takes the cell's least pending event, if it is before tick `end`, and gives its row. At a leave the member is finished and its
+    /// box is dropped. After an error the cell is of no more use.
+    pub fn step(&mut self, alloc: Global, end: u64) -> Result<Option<Row>, CellFault>
+        requires { end ≤ 2 ^ 40 }
+        ensures { Steps (λ b. plain b) end self.old result self.new }
+    {
+        let Some(next) = self.next else {
+            return Ok(None);
+        };
+        if next.key.time >= end {
+            return Ok(None);
+        }
+        let cause = self.take(next.source);
+        match self.answer(alloc, next.key, cause) {
+            Ok(row) => {
+                self.next = self.least();
+                Ok(Some(row))
+            }
+            Err(fault) => Err(fault),
+        }
+    }
+
+    /// The cell's own events before tick `end`, one after the other, and a row for each. After an error the cell is of no more use.
+    /// Where there is none it takes no memory.
+    pub fn run(&mut self, alloc: Global, end: u64) -> Result<Sequence<Row>, CellFault>
+        requires { end ≤ 2 ^ 40 }
+        ensures { Runs (λ b. plain b) end self.old result self.new }
+    {
+        let mut rows = Vec::new(alloc);
+        loop {
+            match self.step(alloc, end) {
+                Ok(None) => return Ok(Sequence::from_vec(rows)),
+                Ok(Some(row)) => {
+                    if rows.push(row).is_err() {
+                        return Err(CellFault::NoMemory);
+                    }
+                }
+                Err(fault) => return Err(fault),
+            }
+        }
+    }
+
+    /// What the member ends with: as it left, or else as it ends now. Its box is dropped.
+    pub fn finish(self, alloc: Global) -> Result<Exit, CellFault>
+        ensures { Ends (λ b. plain b) self result }
+    {
+        let Cell { member, exit, .. } = self;
+        if let Some(exit) = exit {
+            return Ok(exit);
+        }
+        let Some(mut member) = member else {
+            return Err(CellFault::Spent);
+        };
+        match finish(alloc, &mut member) {
+            Ok(exit) => Ok(exit),
+            Err(MemberFault::NoMemory) => Err(CellFault::NoMemory),
+            Err(MemberFault::Spent) => Err(CellFault::Spent),
+        }
+    }
+
+    // Takes the first event of a source, and gives its cause; at a leave there is none.
+    fn take(&mut self, source: Source) -> Option<Cause>
+        ensures { Takes (λ b. plain b) source self.old result self.new }
+    {
+        match source {
+            Source::Inbox => {
+                let flight = self.inbox.pop_first()?;
+                Some(Cause::Arrival {
+                    packet: flight.packet,
+                })
+            }
+            Source::Script => {
+                let mark = self.script.pop_first()?;
+                cause_at(mark)
+            }
+            Source::Timer(due) => Some(expiry(due)),
+        }
+    }
+
+    // The member answers an event, or leaves where there is no cause.
+    fn answer(&mut self, alloc: Global, key: Key, cause: Option<Cause>) -> Result<Row, CellFault>
+        requires { key.time < 2 ^ 40 }
+        ensures { Answers (λ b. plain b) key cause self.old result self.new }
+    {
+        match cause {
+            Some(cause) => self.say(alloc, key, cause),
+            None => self.leave(alloc, key),
+        }
+    }
+
+    // The member reacts to a cause. After an error the cell holds no box.
+    fn say(&mut self, alloc: Global, key: Key, cause: Cause) -> Result<Row, CellFault>
+        requires { key.time < 2 ^ 40 }
+        ensures { Answers (λ b. plain b) key (Some cause) self.old result self.new }
+    {
+        let Some(mut member) = self.member.take() else {
+            return Err(CellFault::Spent);
+        };
+        let reaction = match react(alloc, &mut member, key.time, &cause) {
+            Ok(reaction) => reaction,
+            Err(MemberFault::NoMemory) => return Err(CellFault::NoMemory),
+            Err(MemberFault::Spent) => return Err(CellFault::Spent),
+        };
+        let React { told, lost, body } = reaction;
+        let cause_word = word(&cause);
+        let subject = about(cause, &body);
+        self.member = Some(member);
+        let Some(body) = body else {
+            return Ok(Row {
+                key,
+                cause: cause_word,
+                about: subject,
+                told,
+                lost,
+                sent: None,
+            });
+        };
+        if self.sent >= COUNT_LIMIT {
+            return Err(CellFault::CountFull);
+        }
+        let id = PacketId {
+            sender: key.member,
+            count: self.sent,
+        };
+        self.sent += 1;
+        Ok(Row {
+            key,
+            cause: cause_word,
+            about: subject,
+            told,
+            lost,
+            sent: Some(Packet {
+                id,
+                sent: key.time,
+                body,
+            }),
+        })
+    }
+
+    // The member leaves: it ends, and its box is dropped.
+    fn leave(&mut self, alloc: Global, key: Key) -> Result<Row, CellFault>
+        ensures { Answers (λ b. plain b) key None self.old result self.new }
+    {
+        let Some(mut member) = self.member.take() else {
+            return Err(CellFault::Spent);
+        };
+        match finish(alloc, &mut member) {
+            Err(MemberFault::NoMemory) => Err(CellFault::NoMemory),
+            Err(MemberFault::Spent) => Err(CellFault::Spent),
+            Ok(exit) => {
+                self.exit = Some(exit);
+                Ok(Row {
+                    key,
+                    cause: Word::Leave,
+                    about: About::Nothing,
+                    told: Told::Parted,
+                    lost: Sequence::new(alloc),
+                    sent: None,
+                })
+            }
+        }
+    }
+
+    // The least event of the cell, looked for among all that it has.
+    fn least(&self) -> Option<Pending>
+        ensures { StandsFor (λ b. plain b) (λ m p. next_event m p) self.now result }
+    {
+        sooner(self.arrival(), sooner(self.mark(), self.timer()))
+    }
+
+    fn arrival(&self) -> Option<Pending>
+        ensures { StandsFor (λ b. plain b) (λ m p. first_arrival m p p.inbox) self.now result }
+    {
+        let (time, id) = self.inbox.first()?;
+        Some(Pending::arriving(self.number, time, id))
+    }
+
+    fn mark(&self) -> Option<Pending>
+        ensures { StandsFor (λ b. plain b) (λ m p. first_mark m p p.script) self.now result }
+    {
+        let mark = self.script.first()?;
+        Some(Pending {
+            key: Key {
+                time: mark.at,
+                member: self.number,
+                rank: mark.rank,
+                a: 0,
+                b: 0,
+                c: u64::from(mark.place),
+            },
+            source: Source::Script,
+        })
+    }
+
+    fn timer(&self) -> Option<Pending>
+        ensures { StandsFor (λ b. plain b) (λ m p. next_timer m p (due_of p.holds)) self.now result }
+    {
+        let due = self.due()?;
+        Some(Pending {
+            key: Key {
+                time: due.time,
+                member: self.number,
+                rank: due.rank,
+                a: due.name.source,
+                b: due.name.page,
+                c: u64::from(due.name.number),
+            },
+            source: Source::Timer(due),
+        })
+    }
+
+    fn due(&self) -> Option<Due>
+        ensures { result ≡ due_in (record_in (λ b. plain b) self.now.member) }
+    {
+        match &self.member {
+            None => None,
+            Some(member) => member.due(),
+        }
+    }
 }

@@ -1,8 +1,7 @@
 //! The packets on their way to one member.
 ghost use Rattle.std.specs.Prelude.{◌≡◌, List, [], ◌∷◌, MatchOption, OnOk, OnErr, slice_get, Option, map};
 ghost use Rattle.std.specs.Option.{option_map};
-ghost use Rattle.srm_net.specs.Orders.{place};
-ghost use Rattle.srm_cell.specs.Flights.{flight_cmp, BringsNone};
+ghost use Rattle.srm_cell.specs.Flights.{with_flight, BringsNone};
 
 use crate::flight::Flight;
 use srm_net::packet::{Packet, PacketId};
@@ -41,7 +40,7 @@ impl Inbox {
     /// Adds a packet that arrives at tick `arrival`. After an error the inbox is as it was.
     pub fn accept(&mut self, packet: &Packet, arrival: u64) -> Result<(), AllocError>
         requires { BringsNone packet.now.id self.old }
-        ensures ok { OnOk result (self.new ≡ place flight_cmp (record { arrival = arrival; packet = packet.now }) self.old) }
+        ensures ok { OnOk result (self.new ≡ with_flight packet.now arrival self.old) }
         ensures err { OnErr result (self.new ≡ self.old) }
     {
         let packet = packet.clone()?;

@@ -1,5 +1,5 @@
 //! What holds of every cell.
-ghost use Rattle.srm_cell.specs.Laws.{OwnRunsAreOne, SettingsAreFit, CrossingsAdd};
+ghost use Rattle.srm_cell.specs.Laws.{OwnRunsAreOne, SettingsAreFit, CrossingsAdd, NextEventsAreLeast};
 
 /// An own run has one result.
 pub fn own_runs_are_one()
@@ -14,4 +14,9 @@ pub fn settings_are_fit()
 /// The crossings of two lists of rows together are those of each, added.
 pub fn crossings_add()
     ensures { CrossingsAdd }
+{}
+
+/// A cell has nothing pending before its next event.
+pub fn next_events_are_least()
+    ensures { NextEventsAreLeast }
 {}

@@ -1,13 +1,16 @@
 //! Cells: a member with the packets on their way to it, the rest of its script and its packet count.
 #![tactic(auto)]
 
-pub mod calls;
+pub mod advance;
+mod boxes;
 pub mod cell;
+pub mod count;
+pub mod crossings;
 pub mod fault;
 pub mod flight;
 pub mod inbox;
+pub mod job;
 pub mod laws;
-mod next;
 mod pending;
 mod rows;
 pub mod script;

@@ -1,10 +1,12 @@
 //! Which of a cell's events is next.
-ghost use Rattle.std.specs.Prelude.{◌≡◌, ℕ, Option};
-ghost use Rattle.srm_net.specs.Keys.{key_cmp};
+ghost use Rattle.std.specs.Prelude.{◌≡◌};
 ghost use Rattle.std.specs.Ordering.{is_gt};
+ghost use Rattle.srm_net.specs.Keys.{key_cmp};
+ghost use Rattle.srm_cell.specs.Pending as pending;
 
 use srm_member::due::Due;
 use srm_net::key::Key;
+use srm_net::packet::PacketId;
 use std::cmp::Ordering;
 
 /// Where a cell has an event.
@@ -27,9 +29,39 @@ pub(crate) struct Pending {
     pub(crate) source: Source,
 }
 
-// Whether the first key is the greater.
-pub(crate) fn is_later(k: Key, l: Key) -> bool
-    ensures { result ≡ is_gt (key_cmp k l) }
+impl Pending {
+    /// A packet that arrives at tick `time`.
+    pub(crate) fn arriving(member: u16, time: u64, id: PacketId) -> Self
+        ensures { result ≡ pending.arriving member time id }
+    {
+        Pending {
+            key: Key {
+                time,
+                member,
+                rank: 1,
+                a: id.sender,
+                b: 0,
+                c: id.count,
+            },
+            source: Source::Inbox,
+        }
+    }
+
+    // Whether another has the lesser key.
+    fn is_after(&self, other: &Pending) -> bool
+        ensures { result ≡ is_gt (key_cmp self.now.key other.now.key) }
+    {
+        self.key.cmp(&other.key) == Ordering::Greater
+    }
+}
+
+/// The one with the lesser key; of two with one key the first.
+pub(crate) fn sooner(first: Option<Pending>, second: Option<Pending>) -> Option<Pending>
+    ensures { result ≡ pending.sooner first second }
 {
-    k.cmp(&l) == Ordering::Greater
+    match (first, second) {
+        (None, second) => second,
+        (first, None) => first,
+        (Some(a), Some(b)) => { if a.is_after(&b) { second } else { first } }
+    }
 }

@@ -29,12 +29,12 @@ pub(crate) fn word(cause: &Cause) -> Word
 }
 
 // What an event that has a cause is about, where the member sends this body.
-pub(crate) fn about(cause: &Cause, body: &Option<Body>) -> About
-    ensures { result ≡ about_of (Some cause.now) body.now }
+pub(crate) fn about(cause: Cause, body: &Option<Body>) -> About
+    ensures { result ≡ about_of (Some cause) body.now }
 {
     match cause {
-        Cause::Arrival { packet } => About::Of { packet: packet.id },
-        Cause::Ask { name } | Cause::Answer { name } => About::Named { name: *name },
+        Cause::Arrival { packet } => About::Of { packet },
+        Cause::Ask { name } | Cause::Answer { name } => About::Named { name },
         Cause::Draw { .. } => match body {
             Some(Body::Drawop { name, .. }) => About::Named { name: *name },
             _ => About::Nothing,

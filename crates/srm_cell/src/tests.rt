@@ -1,6 +1,8 @@
 //! What no clause says of cells: when a box is dropped, and that the calls answer with ample memory.
 ghost use Rattle.std.specs.Prelude.{◌≡◌, ◌<◌, [], IfOk};
-ghost use Rattle.srm_cell.specs.Probes.{probe_record};
+ghost use Rattle.srm_net.specs.Orders.{Rises};
+ghost use Rattle.srm_scenario.specs.Plain.{mark_cmp};
+ghost use Rattle.srm_cell.specs.Probes.{probe_record, reporter_record};
 
 use crate::cell::Cell;
 use crate::fault::CellFault;
@@ -14,7 +16,7 @@ use srm_member::told::Told;
 use srm_net::packet::{Body, Name, Packet, PacketId};
 use srm_net::sequence::Sequence;
 use srm_scenario::mark::Mark;
-use std::alloc::Global;
+use std::alloc::{AllocError, Global};
 use std::sync::Arc;
 use std::sync::atomic::{AtomicU64, Ordering};
 use std::test::Fail;
@@ -69,20 +71,34 @@ impl Member for Probe {
     }
 }
 
-fn cell_of(alloc: Global, drops: &Arc<AtomicU64>, leave: u64) -> Result<Cell, Fail>
-    requires { leave < 100 }
+const fn leave(at: u64) -> Mark
+    ensures { result ≡ record { at = at; rank = 6; place = 0; page = 0; ink = 0 } }
+{
+    Mark {
+        at,
+        rank: 6,
+        place: 0,
+        page: 0,
+        ink: 0,
+    }
+}
+
+const fn report(at: u64) -> Mark
+    ensures { result ≡ record { at = at; rank = 5; place = 0; page = 0; ink = 0 } }
+{
+    Mark {
+        at,
+        rank: 5,
+        place: 0,
+        page: 0,
+        ink: 0,
+    }
+}
+
+fn cell_of(alloc: Global, drops: &Arc<AtomicU64>, script: Vec<Mark>) -> Result<Cell, Fail>
+    requires { Rises mark_cmp script.items }
     ensures { IfOk result (λ c. [] ≡ c.inbox) }
 {
-    let mut script = Vec::new(alloc);
-    for (at, rank) in [(leave, 6), (leave + 1, 5)] {
-        script.push(Mark {
-            at,
-            rank,
-            place: 0,
-            page: 0,
-            ink: 0,
-        })?;
-    }
     let probe = Probe {
         drops: Arc::try_clone(drops)?,
         number: 7,
@@ -95,7 +111,11 @@ fn cell_of(alloc: Global, drops: &Arc<AtomicU64>, leave: u64) -> Result<Cell, Fa
 fn a_box_is_dropped_before_the_row_after_its_leave(rt: HostRuntime) -> Result<(), Fail> {
     let alloc = rt.alloc();
     let drops = Arc::new(alloc, AtomicU64::new(0))?;
-    let mut cell = cell_of(alloc, &drops, 3)?;
+    let mut cell = cell_of(
+        alloc,
+        &drops,
+        Vec::from_array(alloc, [leave(3), report(4)])?,
+    )?;
     assert_eq!(rt; cell.next_time(), Some(3));
     assert!(rt; cell.step(alloc, 3).ok().expect(&rt, "a step").is_none());
     assert_eq!(rt; drops.load(Ordering::SeqCst), 0);
@@ -118,7 +138,8 @@ fn a_box_is_dropped_before_the_row_after_its_leave(rt: HostRuntime) -> Result<()
 fn a_box_that_stays_is_dropped_with_its_cell(rt: HostRuntime) -> Result<(), Fail> {
     let alloc = rt.alloc();
     let drops = Arc::new(alloc, AtomicU64::new(0))?;
-    let mut cell = cell_of(alloc, &drops, 9)?;
+    let script = Vec::from_array(alloc, [leave(9), report(10)])?;
+    let mut cell = cell_of(alloc, &drops, script)?;
     let packet = Packet {
         id: PacketId {
             sender: 1,
@@ -138,7 +159,90 @@ fn a_box_that_stays_is_dropped_with_its_cell(rt: HostRuntime) -> Result<(), Fail
     let exit = cell.finish(alloc).ok().expect(&rt, "an exit");
     assert_eq!(rt; exit.member, 7);
     assert_eq!(rt; drops.load(Ordering::SeqCst), 1);
-    drop(cell_of(alloc, &drops, 9)?);
+    let script = Vec::from_array(alloc, [leave(9), report(10)])?;
+    drop(cell_of(alloc, &drops, script)?);
     assert_eq!(rt; drops.load(Ordering::SeqCst), 2);
+    Ok(())
+}
+
+/// A member that has heard of no page, and sends a session message at each report.
+struct Reporter {
+    number: u16,
+    gone: bool,
+}
+
+impl Drop for Reporter {
+    fn drop(self) {
+        let Reporter { number: _, gone: _ } = self;
+    }
+}
+
+impl Member for Reporter {
+    ghost plain = { λ p. reporter_record p.number p.gone };
+
+    fn number(&self) -> u16 {
+        self.number
+    }
+
+    fn due(&self) -> Option<Due> {
+        None
+    }
+
+    fn react(&mut self, alloc: Global, _at: u64, cause: &Cause) -> Result<React, MemberFault> {
+        if self.gone {
+            return Err(MemberFault::Spent);
+        }
+        if let Cause::Report = cause {
+            return Ok(React {
+                told: Told::Sent,
+                lost: Sequence::new(alloc),
+                body: Some(Body::Session {
+                    heard: Sequence::new(alloc),
+                }),
+            });
+        }
+        self.gone = true;
+        Err(MemberFault::NoMemory)
+    }
+
+    fn finish(&mut self, alloc: Global) -> Result<Exit, MemberFault> {
+        if self.gone {
+            return Err(MemberFault::Spent);
+        }
+        self.gone = true;
+        Ok(Exit {
+            member: self.number,
+            held: Sequence::new(alloc),
+            missing: Sequence::new(alloc),
+        })
+    }
+}
+
+// A cell of a member that reports at ticks 4 and 6, and has one packet left to send.
+fn last_packet(alloc: Global) -> Result<Cell, AllocError> {
+    let script = Vec::from_array(alloc, [report(4), report(6)])?;
+    let reporter = Reporter {
+        number: 1,
+        gone: false,
+    };
+    let sent = 281_474_976_710_655;
+    Ok(Cell::new(alloc, Box::new(alloc, reporter)?, script, sent))
+}
+
+#[test]
+fn a_cell_sends_its_last_packet_and_then_answers_count_full(rt: HostRuntime) -> Result<(), Fail> {
+    let alloc = rt.alloc();
+    let mut cell = last_packet(alloc)?;
+    let row = cell
+        .step(alloc, 20)
+        .ok()
+        .expect(&rt, "a step")
+        .expect(&rt, "a row");
+    let last = PacketId {
+        sender: 1,
+        count: 281_474_976_710_655,
+    };
+    assert_eq!(rt; row.sent.as_ref().expect(&rt, "a packet").id, last);
+    assert!(rt; matches!(&cell.step(alloc, 20), Err(CellFault::CountFull)));
     Ok(())
 }

@@ -20,18 +20,18 @@ module _ (s : Setting) (fit : IsFit s) where
   -- a member that is gone left at a time before which nothing is pending
   abbrev Past : List PlainCell → ℕ → Record → Type 0
   Past cs j (Active m) = Unit {0}
-  Past cs j (Gone f) = (t : ℕ) × (s.leave j ≡ Some t) × EachCell s fit (Above (λ k. t ≤ k.time)) cs
+  Past cs j (Gone f) = (t : ℕ) × (s.traffic.leave j ≡ Some t) × EachCell s fit (Above (λ k. t ≤ k.time)) cs
 
   pub record Stable (cs : List PlainCell) : Type 0 where
     pub good : Good s fit cs
-    pub stays : EachCell s fit (λ j c. Stays (s.leave j) c) cs
+    pub stays : EachCell s fit (λ j c. Stays (s.traffic.leave j) c) cs
     pub past : EachCell s fit (λ j c. Past cs j c.holds) cs
 
   past_active : (cs : List PlainCell) (j : ℕ) (r : Record) → IsActive r → Past cs j r
   past_active cs j (Active m) h = tt
   past_active cs j (Gone f) h = absurd h
 
-  past_gone : (cs : List PlainCell) (j : ℕ) (r : Record) → (t : ℕ) × (s.leave j ≡ Some t) × EachCell s fit (Above (λ k. t ≤ k.time)) cs → Past cs j r
+  past_gone : (cs : List PlainCell) (j : ℕ) (r : Record) → (t : ℕ) × (s.traffic.leave j ≡ Some t) × EachCell s fit (Above (λ k. t ≤ k.time)) cs → Past cs j r
   past_gone cs j (Active m) h = tt
   past_gone cs j (Gone f) h = h
 
@@ -39,10 +39,10 @@ module _ (s : Setting) (fit : IsFit s) where
   hear_at_holds p None c = refl
   hear_at_holds p (Some at) c = refl
 
-  told_holds : (x : Option Packet) (m : ℕ) (c : PlainCell) → (told_to s x m c).holds ≡ c.holds
+  told_holds : (x : Option Packet) (m : ℕ) (c : PlainCell) → (told_to s.traffic x m c).holds ≡ c.holds
   unfolding hear
   told_holds None m c = refl
-  told_holds (Some p) m c = hear_at_holds p (arrival_of s p m) c
+  told_holds (Some p) m c = hear_at_holds p (arrival_of s.traffic p m) c
 
   not_after : (t at : ℕ) (o : Option ℕ) → o ≡ Some t → t < at → is_up_to at o ≡ true → ⊥
   not_after t at o e lt h =
@@ -62,7 +62,7 @@ module _ (s : Setting) (fit : IsFit s) where
     next_is : next_event m facts.cell ≡ Some e
     next_is = (before_some end (next_event m facts.cell) e facts.event).0
 
-    below : m < s.members
+    below : m < s.traffic.members
     below = member_below s fit end cs e d stable.good h x
 
     all_after : EachCell s fit (Above (λ k. e.key.time ≤ k.time)) after
@@ -77,7 +77,7 @@ module _ (s : Setting) (fit : IsFit s) where
         let from = event_after t all in
         above_weaker (λ k. e.key.time ≤ k.time) (λ k. t ≤ k.time) (λ k le. omega arith) j c (all_after j c g)
 
-    mine_past : (IsActive d.cell.holds ⊎ (s.leave m ≡ Some e.key.time)) → Past after m d.cell.holds
+    mine_past : (IsActive d.cell.holds ⊎ (s.traffic.leave m ≡ Some e.key.time)) → Past after m d.cell.holds
     mine_past (inl a) = past_active after m d.cell.holds a
     mine_past (inr left) = past_gone after m d.cell.holds (e.key.time, left, all_after)
 
@@ -86,20 +86,20 @@ module _ (s : Setting) (fit : IsFit s) where
     kept_past j (Gone f) p = (p.0, p.1, still_after p.0 p.2)
 
     -- a member that is gone is handed nothing more
-    handed_active : (j : ℕ) (r : Record) → Past cs j r → (p : Packet) → p.id.sender ≡ m → p.sent ≡ e.key.time → (at : ℕ) → arrival_of s p j ≡ Some at → IsActive r
+    handed_active : (j : ℕ) (r : Record) → Past cs j r → (p : Packet) → p.id.sender ≡ m → p.sent ≡ e.key.time → (at : ℕ) → arrival_of s.traffic p j ≡ Some at → IsActive r
     handed_active j (Active k) past p by sent at a = tt
     handed_active j (Gone f) past p by sent at a =
-        let g = arrival_is s p j at a in
-        let away : 0 < s.distance p.id.sender j = fit.apart p.id.sender j (subst (λ n. n < s.members) (sym by) below) g.0 (λ q. g.1 (sym q)) in
+        let g = arrival_is s.traffic p j at a in
+        let away : 0 < s.traffic.distance p.id.sender j = fit.apart p.id.sender j (subst (λ n. n < s.traffic.members) (sym by) below) g.0 (λ q. g.1 (sym q)) in
         let arrives = g.2 in
         let from = event_after past.0 past.2 in
-        not_after past.0 at (s.leave j) past.1 (omega arith) (arrival_up_to s p j at a)
+        not_after past.0 at (s.traffic.leave j) past.1 (omega arith) (arrival_up_to s.traffic p j at a)
 
-    told_stays : (y : Option Packet) → SentBy m y → SentAt e.key.time y → (j : ℕ) (c : PlainCell) → Stays (s.leave j) c → Past cs j c.holds → Stays (s.leave j) (told_to s y j c)
+    told_stays : (y : Option Packet) → SentBy m y → SentAt e.key.time y → (j : ℕ) (c : PlainCell) → Stays (s.traffic.leave j) c → Past cs j c.holds → Stays (s.traffic.leave j) (told_to s.traffic y j c)
     unfolding hear
     told_stays None by at j c stays past = stays
-    told_stays (Some p) by at j c stays past = stays_hear_at (s.leave j) p (arrival_of s p j) c
-        (λ t a. (arrival_up_to s p j t a, handed_active j c.holds past p by at t a)) stays
+    told_stays (Some p) by at j c stays past = stays_hear_at (s.traffic.leave j) p (arrival_of s.traffic p j) c
+        (λ t a. (arrival_up_to s.traffic p j t a, handed_active j c.holds past p by at t a)) stays
 
     pub stable_step : Stable after
     stable_step =
@@ -107,11 +107,11 @@ module _ (s : Setting) (fit : IsFit s) where
         let stays = stable.stays m c facts.here in
         record {
           good = good_step s fit end cs e d stable.good h x;
-          stays = each_after s fit (λ j c. Stays (s.leave j) c) cs m d
-              (stays_step (s.leave m) m c e d (stable.good.tidy m c facts.here) stays next_is x)
+          stays = each_after s fit (λ j c. Stays (s.traffic.leave j) c) cs m d
+              (stays_step (s.traffic.leave m) m c e d (stable.good.tidy m c facts.here) stays next_is x)
               (λ j b g ne. told_stays d.row.sent facts.sender facts.sent_at j b (stable.stays j b g) (stable.past j b g));
           past = each_after s fit (λ j c. Past after j c.holds) cs m d
-              (mine_past (left_at (s.leave m) m c e d stays next_is x))
+              (mine_past (left_at (s.traffic.leave m) m c e d stays next_is x))
               (λ j b g ne. subst (Past after j) (sym (told_holds d.row.sent j b)) (kept_past j b.holds (stable.past j b g)));
         }
 
@@ -119,10 +119,10 @@ module _ (s : Setting) (fit : IsFit s) where
   stable_seq rest stable = stable
   stable_seq {end} (next {cs = cs} {e = e} {d = d} h x more) stable = stable_seq more (stable_step end cs e d stable h x)
 
-  opening_stays : (n i : ℕ) → i + n ≡ s.members → (j : ℕ) (c : PlainCell) → slice_get (opening_cells s n i) j ≡ Some c → Stays (s.leave (i + j)) c
+  opening_stays : (n i : ℕ) → i + n ≡ s.traffic.members → (j : ℕ) (c : PlainCell) → slice_get (opening_cells s n i) j ≡ Some c → Stays (s.traffic.leave (i + j)) c
   unfolding opening_cells
   opening_stays zero i e j c h = cc
-  opening_stays (suc n) i e zero c h = subst (Stays (s.leave (i + 0))) (same_Some _ _ h) (record {
+  opening_stays (suc n) i e zero c h = subst (Stays (s.traffic.leave (i + 0))) (same_Some _ _ h) (record {
     flights = tt;
     marks = rw add-zero (fit.leaves i (omega arith));
     ranks = fit.ranks i (omega arith);
@@ -140,8 +140,8 @@ module _ (s : Setting) (fit : IsFit s) where
   unfolding opening
   stable_opening = record {
     good = good_opening s fit;
-    stays = λ j c g. rw zero-add at (opening_stays s.members 0 (zero-add s.members) j c g);
-    past = λ j c g. past_active (opening_cells s s.members 0) j c.holds (opening_active s.members 0 j c g);
+    stays = λ j c g. rw zero-add at (opening_stays s.traffic.members 0 (zero-add s.traffic.members) j c g);
+    past = λ j c g. past_active (opening_cells s s.traffic.members 0) j c.holds (opening_active s.traffic.members 0 j c g);
   }
 
   pub stable_reached : (n : ℕ) (w : World) → run s n (opening s) ≡ Done w → Stable w.cells
@@ -152,4 +152,4 @@ module _ (s : Setting) (fit : IsFit s) where
   least_not_spent end cs e stable h x =
       let r = least_from end 0 cs e h in
       let q = (before_some end (next_event (0 + r.0) r.1) e r.3).0 in
-      not_spent e (rest_active (s.leave r.0) (0 + r.0) r.1 (stable.stays r.0 r.1 r.2) e q) x
+      not_spent e (rest_active (s.traffic.leave r.0) (0 + r.0) r.1 (stable.stays r.0 r.1 r.2) e q) x

@@ -45,12 +45,12 @@ kept_hear_at p None c h = h
 kept_hear_at p (Some at) c h = h
 
 module _ (s : Setting) where
-  kept_told : (x : Option Packet) (m : ℕ) (c : PlainCell) → Kept c → Kept (told_to s x m c)
+  kept_told : (x : Option Packet) (m : ℕ) (c : PlainCell) → Kept c → Kept (told_to s.traffic x m c)
   unfolding hear
   kept_told None m c h = h
-  kept_told (Some p) m c h = kept_hear_at p (arrival_of s p m) c h
+  kept_told (Some p) m c h = kept_hear_at p (arrival_of s.traffic p m) c h
 
-  kept_if : (b : Bool) (d : Stepped) (i : ℕ) (c : PlainCell) → Kept d.cell → Kept c → Kept (cond b d.cell (told_to s d.row.sent i c))
+  kept_if : (b : Bool) (d : Stepped) (i : ℕ) (c : PlainCell) → Kept d.cell → Kept c → Kept (cond b d.cell (told_to s.traffic d.row.sent i c))
   kept_if true d i c h g = h
   kept_if false d i c h g = kept_told d.row.sent i c g
 
@@ -78,18 +78,18 @@ module _ (s : Setting) where
 
   stepped : (w v : World) → step s w ≡ Done v → AllIn Kept w.cells → AllIn Kept v.cells
   unfolding step_to
-  stepped w v h g = kept_step w v (before s.until (least_event 0 w.cells)) h g
+  stepped w v h g = kept_step w v (before s.traffic.until (least_event 0 w.cells)) h g
 
   kept_run : (n : ℕ) (w v : World) → run s n w ≡ Done v → AllIn Kept w.cells → AllIn Kept v.cells
   unfolding run
   kept_run zero w v h g = let same : w ≡ v = cc in subst (λ (u : World). AllIn Kept u.cells) same g
   kept_run (suc n) w v h g =
-      let first = sym (run_first s s.until (le_refl s.until) n w) ∙ h in
+      let first = sym (run_first s s.traffic.until (le_refl s.traffic.until) n w) ∙ h in
       elim (step s w) as (λ o. step s w ≡ o → AllIn Kept v.cells) [
-        | Idle ↦ λ q. let x : Idle ≡ Done v = sym (ap (run_by s s.until (le_refl s.until) n) q) ∙ first in cc
-        | Full ↦ λ q. let x : Full ≡ Done v = sym (ap (run_by s s.until (le_refl s.until) n) q) ∙ first in cc
-        | Spent ↦ λ q. let x : Spent ≡ Done v = sym (ap (run_by s s.until (le_refl s.until) n) q) ∙ first in cc
-        | Done u ↦ λ q. kept_run n u v (sym (ap (run_by s s.until (le_refl s.until) n) q) ∙ first) (stepped w u q g)
+        | Idle ↦ λ q. let x : Idle ≡ Done v = sym (ap (run_by s s.traffic.until (le_refl s.traffic.until) n) q) ∙ first in cc
+        | Full ↦ λ q. let x : Full ≡ Done v = sym (ap (run_by s s.traffic.until (le_refl s.traffic.until) n) q) ∙ first in cc
+        | Spent ↦ λ q. let x : Spent ≡ Done v = sym (ap (run_by s s.traffic.until (le_refl s.traffic.until) n) q) ∙ first in cc
+        | Done u ↦ λ q. kept_run n u v (sym (ap (run_by s s.traffic.until (le_refl s.traffic.until) n) q) ∙ first) (stepped w u q g)
       ] refl
 
   kept_opening : (n i : ℕ) → AllIn Kept (opening_cells s n i)
@@ -99,7 +99,7 @@ module _ (s : Setting) where
 
   kept_reached : (w : World) → IsReached s w → AllIn Kept w.cells
   unfolding opening
-  kept_reached w r = kept_run r.0 (opening s) w r.1 (kept_opening s.members 0)
+  kept_reached w r = kept_run r.0 (opening s) w r.1 (kept_opening s.traffic.members 0)
 
 -- ---- the cells of the engine
 

@@ -26,14 +26,14 @@ use Rattle.srm_engine.specs.Handed.{SentIn, same_packet, is_arrival, handing_cou
 use Rattle.srm_engine.proofs.OneStep.{TakesFlight, NoArrival, Takes, Sends, Steps, StepFacts, step_facts, same_some, here_after, there_after, each_after, length_after, length_opening, nothing_left, run_keeps, arrival_is}
 use Rattle.srm_engine.proofs.TraceRows.{contains_none, contains_cases, sent_more, sent_cases, sent_now, one_if, count_last, count_first, count_none, count_place, not_same, same_self, elsewhere, not_arrival, here, IsSplit, split_cases}
 
-drawn_not_of : (body : Option Body) (k : PacketId) → drawn body ≢ Of k
+drawn_not_of : (body : Option Body) (k : Packet) → drawn body ≢ Of k
 drawn_not_of None k h = cc
 drawn_not_of (Some (Drawop n ink)) k h = cc
 drawn_not_of (Some (Request n)) k h = cc
 drawn_not_of (Some (Repair n ink)) k h = cc
 drawn_not_of (Some (Session hs)) k h = cc
 
-about_other : (cause : Option Cause) (body : Option Body) → NoArrival cause → (k : PacketId) → about_of cause body ≢ Of k
+about_other : (cause : Option Cause) (body : Option Body) → NoArrival cause → (k : Packet) → about_of cause body ≢ Of k
 about_other None body none k h = cc
 about_other (Some Join) body none k h = cc
 about_other (Some (Arrival p)) body none k h = none p refl
@@ -42,8 +42,8 @@ about_other (Some (Answer n)) body none k h = cc
 about_other (Some (Draw page ink)) body none k h = drawn_not_of body k h
 about_other (Some Report) body none k h = cc
 
-same_id : (p q : PacketId) → Of p ≡ Of q → p ≡ q
-same_id p q h = cc
+same_of : (p q : Packet) → Of p ≡ Of q → p ≡ q
+same_of p q h = cc
 
 -- ---- flights
 
@@ -77,30 +77,30 @@ EachCell Q cs = (j : ℕ) (c : PlainCell) → slice_get cs j ≡ Some c → Q j 
 module _ (s : Setting) where
   -- of a flight to member j: its packet was sent, and it arrives when that packet does
   abbrev pub IsFlight : List Row → ℕ → Flight → Type 0
-  IsFlight trace j f = SentIn f.packet trace × (arrival_of s f.packet j ≡ Some f.arrival)
+  IsFlight trace j f = SentIn f.packet trace × (arrival_of s.traffic f.packet j ≡ Some f.arrival)
 
-  -- what is known of a row that hands packet k, and of the rows before it
-  abbrev pub WasSent : List Row → Row → PacketId → Type 0
-  WasSent before r k = (p : Packet) × SentIn p before × (p.id ≡ k) × (r.cause ≡ word_of_body p.body) × (arrival_of s p r.key.member ≡ Some r.key.time)
+  -- what is known of a row that hands packet p, and of the rows before it
+  abbrev pub WasSent : List Row → Row → Packet → Type 0
+  WasSent before r p = SentIn p before × (r.cause ≡ word_of_body p.body) × (arrival_of s.traffic p r.key.member ≡ Some r.key.time)
 
   -- a packet's number, and when it is sent
   abbrev pub IsNumbered : List Row → Row → Packet → Type 0
   IsNumbered before r p = (p.id.sender ≡ r.key.member) × (p.id.count ≡ sending_count r.key.member before) × (p.sent ≡ r.key.time)
 
   pub record Handed (cs : List PlainCell) (trace : List Row) : Type 0 where
-    pub members : length cs ≡ s.members
+    pub members : length cs ≡ s.traffic.members
     pub counted : (p : Packet) → SentIn p trace → p.id.count < sent_of cs p.id.sender
-    pub handed : (r : Row) → Contains trace r → (k : PacketId) → r.about ≡ Of k → k.count < sent_of cs k.sender
+    pub handed : (r : Row) → Contains trace r → (p : Packet) → r.about ≡ Of p → p.id.count < sent_of cs p.id.sender
     pub one : (p q : Packet) → SentIn p trace → SentIn q trace → p.id ≡ q.id → p ≡ q
     pub flights : EachCell (λ j c. AllIn (IsFlight trace j) c.inbox) cs
-    pub once : (p : Packet) → SentIn p trace → (j : ℕ) → count_by (is_flight p.id) (inbox_of (slice_get cs j)) + handing_count p.id j trace ≡ one_if (is_some (arrival_of s p j))
+    pub once : (p : Packet) → SentIn p trace → (j : ℕ) → count_by (is_flight p.id) (inbox_of (slice_get cs j)) + handing_count p.id j trace ≡ one_if (is_some (arrival_of s.traffic p j))
     pub sendings : (j : ℕ) → sent_of cs j ≡ sending_count j trace
     pub numbers : (rows after : List Row) (r : Row) (p : Packet) → IsSplit trace rows r after → r.sent ≡ Some p → IsNumbered rows r p
-    pub before : (rows after : List Row) (r : Row) (k : PacketId) → IsSplit trace rows r after → r.about ≡ Of k → WasSent rows r k
+    pub before : (rows after : List Row) (r : Row) (p : Packet) → IsSplit trace rows r after → r.about ≡ Of p → WasSent rows r p
 
   -- ---- after a step
 
-  module _ (cs : List PlainCell) (trace : List Row) (e : Event) (d : Stepped) (was : Handed cs trace) (steps : Steps s.until cs e d) where
+  module _ (cs : List PlainCell) (trace : List Row) (e : Event) (d : Stepped) (was : Handed cs trace) (steps : Steps s.traffic.until cs e d) where
     abbrev m : ℕ
     m = e.key.member
 
@@ -111,7 +111,7 @@ module _ (s : Setting) where
     rows = trace ++ d.row ∷ []
 
     pub facts : StepFacts cs e d
-    facts = step_facts s.until cs e d steps
+    facts = step_facts s.traffic.until cs e d steps
 
     pub member : d.row.key.member ≡ m
     member = ap (λ (k : Key). k.member) facts.does.key
@@ -122,11 +122,11 @@ module _ (s : Setting) where
     hear_at_sent p None c = refl
     hear_at_sent p (Some at) c = refl
 
-    told_sent : (y : Option Packet) (j : ℕ) (o : Option PlainCell) → sent_by (option_map (told_to s y j) o) ≡ sent_by o
+    told_sent : (y : Option Packet) (j : ℕ) (o : Option PlainCell) → sent_by (option_map (told_to s.traffic y j) o) ≡ sent_by o
     unfolding hear
     told_sent y j None = refl
     told_sent None j (Some c) = refl
-    told_sent (Some p) j (Some c) = hear_at_sent p (arrival_of s p j) c
+    told_sent (Some p) j (Some c) = hear_at_sent p (arrival_of s.traffic p j) c
 
     sent_was : sent_of cs m ≡ e.rest.sent
     sent_was = ap sent_by facts.here ∙ sym facts.pending.sent
@@ -252,10 +252,10 @@ module _ (s : Setting) where
       | inr l ↦ (None, l.about ∙ ap (λ c. about_of c None) (sym l.is))
     ]
 
-    pub about_arrival : (t : TakesFlight facts.cell e) → d.row.about ≡ Of t.flight.packet.id
+    pub about_arrival : (t : TakesFlight facts.cell e) → d.row.about ≡ Of t.flight.packet
     about_arrival t = about_is.1 ∙ ap (λ c. about_of c about_is.0) t.cause
 
-    pub about_none : NoArrival e.cause → (k : PacketId) → d.row.about ≢ Of k
+    pub about_none : NoArrival e.cause → (k : Packet) → d.row.about ≢ Of k
     about_none none k q = about_other e.cause about_is.0 none k (sym about_is.1 ∙ q)
 
     inbox_was : AllIn (IsFlight trace m) facts.cell.inbox
@@ -272,21 +272,21 @@ module _ (s : Setting) where
     left = subst (AllIn (IsFlight trace m)) (sym facts.does.inbox) (left_by facts.pending.takes)
 
     -- a packet that the row hands was counted
-    row_counted_by : Takes facts.cell e → (k : PacketId) → d.row.about ≡ Of k → k.count < sent_of cs k.sender
+    row_counted_by : Takes facts.cell e → (k : Packet) → d.row.about ≡ Of k → k.id.count < sent_of cs k.id.sender
     row_counted_by (inl t) k q =
-        let same : t.flight.packet.id ≡ k = same_id _ _ (sym (about_arrival t) ∙ q) in
-        subst (λ (i : PacketId). i.count < sent_of cs i.sender) same (was.counted t.flight.packet (taken t).0)
+        let same : t.flight.packet ≡ k = same_of _ _ (sym (about_arrival t) ∙ q) in
+        subst (λ (i : Packet). i.id.count < sent_of cs i.id.sender) same (was.counted t.flight.packet (taken t).0)
     row_counted_by (inr t) k q = absurd (about_none t.1 k q)
 
     -- and so was every packet that an earlier row hands
-    pub handed_was : (r : Row) → Contains rows r → (k : PacketId) → r.about ≡ Of k → k.count < sent_of cs k.sender
+    pub handed_was : (r : Row) → Contains rows r → (p : Packet) → r.about ≡ Of p → p.id.count < sent_of cs p.id.sender
     handed_was r t k q = elim (contains_cases trace d.row r t) [
       | inl g ↦ was.handed r g k q
       | inr g ↦ row_counted_by facts.pending.takes k (ap (λ (y : Row). y.about) g ∙ q)
     ]
 
-    handed_after : (r : Row) → Contains rows r → (k : PacketId) → r.about ≡ Of k → k.count < sent_of after k.sender
-    handed_after r t k q = let a = handed_was r t k q in let b = sent_grows k.sender in omega arith
+    handed_after : (r : Row) → Contains rows r → (p : Packet) → r.about ≡ Of p → p.id.count < sent_of after p.id.sender
+    handed_after r t k q = let a = handed_was r t k q in let b = sent_grows k.id.sender in omega arith
 
     one_after : (p q : Packet) → SentIn p rows → SentIn q rows → p.id ≡ q.id → p ≡ q
     one_after p q hp hq same = elim (sent_cases p trace d.row hp) [
@@ -305,14 +305,14 @@ module _ (s : Setting) where
     flights_more : (j : ℕ) (fs : List Flight) → AllIn (IsFlight trace j) fs → AllIn (IsFlight rows j) fs
     flights_more j fs a = all_weaker (IsFlight trace j) (IsFlight rows j) (λ f g. (sent_more f.packet trace (d.row ∷ []) g.0, g.1)) fs a
 
-    flights_hear : (p : Packet) → d.row.sent ≡ Some p → (j : ℕ) (o : Option ℕ) (c : PlainCell) → arrival_of s p j ≡ o → AllIn (IsFlight trace j) c.inbox → AllIn (IsFlight rows j) (hear_at p o c).inbox
+    flights_hear : (p : Packet) → d.row.sent ≡ Some p → (j : ℕ) (o : Option ℕ) (c : PlainCell) → arrival_of s.traffic p j ≡ o → AllIn (IsFlight trace j) c.inbox → AllIn (IsFlight rows j) (hear_at p o c).inbox
     flights_hear p y j None c q a = flights_more j c.inbox a
     flights_hear p y j (Some at) c q a = AllIn-place (IsFlight rows j) flight_cmp _ c.inbox (sent_now p trace d.row y, q) (flights_more j c.inbox a)
 
-    flights_told : (y : Option Packet) → d.row.sent ≡ y → (j : ℕ) (c : PlainCell) → AllIn (IsFlight trace j) c.inbox → AllIn (IsFlight rows j) (told_to s y j c).inbox
+    flights_told : (y : Option Packet) → d.row.sent ≡ y → (j : ℕ) (c : PlainCell) → AllIn (IsFlight trace j) c.inbox → AllIn (IsFlight rows j) (told_to s.traffic y j c).inbox
     unfolding hear
     flights_told None y j c a = flights_more j c.inbox a
-    flights_told (Some p) y j c a = flights_hear p y j (arrival_of s p j) c refl a
+    flights_told (Some p) y j c a = flights_hear p y j (arrival_of s.traffic p j) c refl a
 
     flights_after : EachCell (λ j c. AllIn (IsFlight rows j) c.inbox) after
     flights_after = each_after s (λ j c. AllIn (IsFlight rows j) c.inbox) cs m d facts.cell facts.here (flights_more m d.cell.inbox left) (λ j c g ne. flights_told d.row.sent refl j c (was.flights j c g))
@@ -324,13 +324,13 @@ module _ (s : Setting) where
     none_flying k new j fs a = count_none (is_flight k) fs (λ f g. not_same k f.packet.id (new f.packet.id (was.counted f.packet (all_contained (IsFlight trace j) fs a f g).0)))
 
     none_handed : (k : PacketId) → ((q : PacketId) → q.count < sent_of cs q.sender → k ≢ q) → (j : ℕ) → handing_count k j rows ≡ 0
-    none_handed k new j = count_none (is_arrival k j) rows (λ r g. not_arrival k j r (λ q y. new q (handed_was r g q y)))
+    none_handed k new j = count_none (is_arrival k j) rows (λ r g. not_arrival k j r (λ q y. new q.id (handed_was r g q y)))
 
     -- the stepping member's inbox and its new row
     once_here_by : Takes facts.cell e → (k : PacketId) → count_by (is_flight k) facts.cell.inbox ≡ one_if (is_arrival k m d.row) + count_by (is_flight k) e.rest.inbox
     once_here_by (inl t) k =
         ap (count_by (is_flight k)) t.inbox ∙ count_first (is_flight k) t.flight e.rest.inbox
-        ∙ ap (λ b. one_if b + count_by (is_flight k) e.rest.inbox) (sym (here k t.flight.packet.id m d.row member (about_arrival t)))
+        ∙ ap (λ b. one_if b + count_by (is_flight k) e.rest.inbox) (sym (here k t.flight.packet m d.row member (about_arrival t)))
     once_here_by (inr t) k =
         let no : one_if (is_arrival k m d.row) ≡ 0 = ap one_if (not_arrival k m d.row (λ q y. absurd (about_none t.1 q y))) in
         let same : count_by (is_flight k) e.rest.inbox ≡ count_by (is_flight k) facts.cell.inbox = ap (count_by (is_flight k)) t.0 in
@@ -349,18 +349,18 @@ module _ (s : Setting) where
     put_in : PacketId → ℕ → Option Packet → Option PlainCell → ℕ
     put_in k j None o = 0
     put_in k j (Some p) None = 0
-    put_in k j (Some p) (Some c) = one_if (is_some (arrival_of s p j) && same_packet k p.id)
+    put_in k j (Some p) (Some c) = one_if (is_some (arrival_of s.traffic p j) && same_packet k p.id)
 
     hear_count : (k : PacketId) (p : Packet) (o : Option ℕ) (c : PlainCell) → count_by (is_flight k) (hear_at p o c).inbox ≡ one_if (is_some o && same_packet k p.id) + count_by (is_flight k) c.inbox
     hear_count k p None c = omega arith
     hear_count k p (Some at) c = count_place (is_flight k) flight_cmp _ c.inbox
 
-    told_count : (k : PacketId) (j : ℕ) (y : Option Packet) (o : Option PlainCell) → count_by (is_flight k) (inbox_of (option_map (told_to s y j) o)) ≡ put_in k j y o + count_by (is_flight k) (inbox_of o)
+    told_count : (k : PacketId) (j : ℕ) (y : Option Packet) (o : Option PlainCell) → count_by (is_flight k) (inbox_of (option_map (told_to s.traffic y j) o)) ≡ put_in k j y o + count_by (is_flight k) (inbox_of o)
     unfolding hear put_in
     told_count k j None None = omega arith
     told_count k j None (Some c) = omega arith
     told_count k j (Some p) None = omega arith
-    told_count k j (Some p) (Some c) = hear_count k p (arrival_of s p j) c
+    told_count k j (Some p) (Some c) = hear_count k p (arrival_of s.traffic p j) c
 
     once_there : (k : PacketId) (j : ℕ) → j ≢ m → count_by (is_flight k) (inbox_of (slice_get after j)) + handing_count k j rows
         ≡ put_in k j d.row.sent (slice_get cs j) + (count_by (is_flight k) (inbox_of (slice_get cs j)) + handing_count k j trace)
@@ -377,16 +377,16 @@ module _ (s : Setting) where
     put_no k lt j (Some p) y None = refl
     put_no k lt j (Some p) y (Some c) =
         let no : same_packet k p.id ≡ false = not_same k p.id (λ q. new_id p (is_new p y) k lt (sym q)) in
-        ap (λ b. one_if (is_some (arrival_of s p j) && b)) no ∙ and_no (is_some (arrival_of s p j))
+        ap (λ b. one_if (is_some (arrival_of s.traffic p j) && b)) no ∙ and_no (is_some (arrival_of s.traffic p j))
       where
         and_no : (b : Bool) → one_if (b && false) ≡ 0
         and_no true = refl
         and_no false = refl
 
-    once_old : (p : Packet) → SentIn p trace → (j : ℕ) → count_by (is_flight p.id) (inbox_of (slice_get after j)) + handing_count p.id j rows ≡ one_if (is_some (arrival_of s p j))
+    once_old : (p : Packet) → SentIn p trace → (j : ℕ) → count_by (is_flight p.id) (inbox_of (slice_get after j)) + handing_count p.id j rows ≡ one_if (is_some (arrival_of s.traffic p j))
     once_old p t j =
         let o = was.once p t j in
-        elim (j == m) as (λ b. (j == m) ≡ b → count_by (is_flight p.id) (inbox_of (slice_get after j)) + handing_count p.id j rows ≡ one_if (is_some (arrival_of s p j))) [
+        elim (j == m) as (λ b. (j == m) ≡ b → count_by (is_flight p.id) (inbox_of (slice_get after j)) + handing_count p.id j rows ≡ one_if (is_some (arrival_of s.traffic p j))) [
           | true ↦ λ q.
               let same : j ≡ m = eqb-true _ _ q in
               subst (λ i. count_by (is_flight p.id) (inbox_of (slice_get after i)) + handing_count p.id i rows ≡ count_by (is_flight p.id) (inbox_of (slice_get cs i)) + handing_count p.id i trace) (sym same) (once_here p.id) ∙ o
@@ -397,8 +397,8 @@ module _ (s : Setting) where
         ] refl
 
     -- a packet has no flight to its sender, nor to one that is no member
-    no_flight : (p : Packet) (j : ℕ) → ((at : ℕ) → arrival_of s p j ≢ Some at) → one_if (is_some (arrival_of s p j)) ≡ 0
-    no_flight p j none = elim (arrival_of s p j) as (λ o. arrival_of s p j ≡ o → one_if (is_some (arrival_of s p j)) ≡ 0) [
+    no_flight : (p : Packet) (j : ℕ) → ((at : ℕ) → arrival_of s.traffic p j ≢ Some at) → one_if (is_some (arrival_of s.traffic p j)) ≡ 0
+    no_flight p j none = elim (arrival_of s.traffic p j) as (λ o. arrival_of s.traffic p j ≡ o → one_if (is_some (arrival_of s.traffic p j)) ≡ 0) [
       | None ↦ λ q. ap (λ o. one_if (is_some o)) q
       | Some at ↦ λ q. absurd (none at q)
     ] refl
@@ -408,12 +408,12 @@ module _ (s : Setting) where
     get_some (c ∷ cells) zero lt q = cc
     get_some (c ∷ cells) (suc j) lt q = get_some cells j (omega arith) q
 
-    put_new : (p : Packet) → d.row.sent ≡ Some p → (j : ℕ) (o : Option PlainCell) → slice_get cs j ≡ o → put_in p.id j (Some p) o ≡ one_if (is_some (arrival_of s p j))
+    put_new : (p : Packet) → d.row.sent ≡ Some p → (j : ℕ) (o : Option PlainCell) → slice_get cs j ≡ o → put_in p.id j (Some p) o ≡ one_if (is_some (arrival_of s.traffic p j))
     unfolding put_in
     put_new p y j None q = sym (no_flight p j (λ at g.
-        let lt : j < s.members = (arrival_is s p j at g).0 in
+        let lt : j < s.traffic.members = (arrival_is s p j at g).0 in
         get_some cs j (subst (λ n. j < n) (sym was.members) lt) q))
-    put_new p y j (Some c) q = ap (λ b. one_if (is_some (arrival_of s p j) && b)) (same_self p.id) ∙ and_yes (is_some (arrival_of s p j))
+    put_new p y j (Some c) q = ap (λ b. one_if (is_some (arrival_of s.traffic p j) && b)) (same_self p.id) ∙ and_yes (is_some (arrival_of s.traffic p j))
       where
         and_yes : (b : Bool) → one_if (b && true) ≡ one_if b
         and_yes true = refl
@@ -423,12 +423,12 @@ module _ (s : Setting) where
     all_of_inbox j None q = tt
     all_of_inbox j (Some c) q = was.flights j c q
 
-    once_new : (p : Packet) → d.row.sent ≡ Some p → (j : ℕ) → count_by (is_flight p.id) (inbox_of (slice_get after j)) + handing_count p.id j rows ≡ one_if (is_some (arrival_of s p j))
+    once_new : (p : Packet) → d.row.sent ≡ Some p → (j : ℕ) → count_by (is_flight p.id) (inbox_of (slice_get after j)) + handing_count p.id j rows ≡ one_if (is_some (arrival_of s.traffic p j))
     once_new p y j =
         let new = new_id p (is_new p y) in
         let handed_none = none_handed p.id new j in
         let flying_none = none_flying p.id new j (inbox_of (slice_get cs j)) (all_of_inbox j (slice_get cs j) refl) in
-        elim (j == m) as (λ b. (j == m) ≡ b → count_by (is_flight p.id) (inbox_of (slice_get after j)) + handing_count p.id j rows ≡ one_if (is_some (arrival_of s p j))) [
+        elim (j == m) as (λ b. (j == m) ≡ b → count_by (is_flight p.id) (inbox_of (slice_get after j)) + handing_count p.id j rows ≡ one_if (is_some (arrival_of s.traffic p j))) [
           | true ↦ λ q.
               let same : j ≡ m = eqb-true _ _ q in
               let here_none : count_by (is_flight p.id) (inbox_of (slice_get after j)) ≡ 0 =
@@ -437,29 +437,27 @@ module _ (s : Setting) where
               omega arith
           | false ↦ λ q.
               let a = once_there p.id j (eqb-false _ _ q) in
-              let b : put_in p.id j d.row.sent (slice_get cs j) ≡ one_if (is_some (arrival_of s p j)) = ap (λ z. put_in p.id j z (slice_get cs j)) y ∙ put_new p y j (slice_get cs j) refl in
+              let b : put_in p.id j d.row.sent (slice_get cs j) ≡ one_if (is_some (arrival_of s.traffic p j)) = ap (λ z. put_in p.id j z (slice_get cs j)) y ∙ put_new p y j (slice_get cs j) refl in
               let l = count_last (is_arrival p.id j) trace d.row in
               omega arith
         ] refl
 
-    once_after : (p : Packet) → SentIn p rows → (j : ℕ) → count_by (is_flight p.id) (inbox_of (slice_get after j)) + handing_count p.id j rows ≡ one_if (is_some (arrival_of s p j))
+    once_after : (p : Packet) → SentIn p rows → (j : ℕ) → count_by (is_flight p.id) (inbox_of (slice_get after j)) + handing_count p.id j rows ≡ one_if (is_some (arrival_of s.traffic p j))
     once_after p t j = elim (sent_cases p trace d.row t) [ inl g ↦ once_old p g j | inr g ↦ once_new p g j ]
 
     -- ---- earlier rows
 
-    last_row_by : Takes facts.cell e → (k : PacketId) → d.row.about ≡ Of k → WasSent trace d.row k
+    last_row_by : Takes facts.cell e → (k : Packet) → d.row.about ≡ Of k → WasSent trace d.row k
     last_row_by (inl t) k q =
-        let p = t.flight.packet in
-        let f = taken t in (
-          p,
+        let f = taken t in
+        subst (λ p. WasSent trace d.row p) (same_of _ _ (sym (about_arrival t) ∙ q)) (
           f.0,
-          same_id _ _ (sym (about_arrival t) ∙ q),
           facts.does.cause ∙ ap word_of t.cause,
-          ap (arrival_of s p) member ∙ f.1 ∙ ap Some (sym t.time ∙ sym (ap (λ (i : Key). i.time) facts.does.key)),
+          ap (arrival_of s.traffic t.flight.packet) member ∙ f.1 ∙ ap Some (sym t.time ∙ sym (ap (λ (i : Key). i.time) facts.does.key)),
         )
     last_row_by (inr t) k q = absurd (about_none t.1 k q)
 
-    before_after : (first last : List Row) (r : Row) (k : PacketId) → IsSplit rows first r last → r.about ≡ Of k → WasSent first r k
+    before_after : (first last : List Row) (r : Row) (k : Packet) → IsSplit rows first r last → r.about ≡ Of k → WasSent first r k
     before_after first last r k split q = elim (split_cases trace d.row first r last split) [
       | inl g ↦ subst (λ l. WasSent l r k) (sym g.1) (subst (λ y. WasSent trace y k) g.0 (last_row_by facts.pending.takes k (ap (λ (y : Row). y.about) g.0 ∙ q)))
       | inr g ↦ was.before first g.0 r k g.1 q
@@ -499,13 +497,13 @@ module _ (s : Setting) where
   pub handed_opening : Handed (opening s).cells (opening s).trace
   unfolding opening
   handed_opening = record {
-    members = length_opening s s.members 0;
+    members = length_opening s s.traffic.members 0;
     counted = λ p t. absurd (contains_none t.0 t.1);
     handed = λ r t k q. absurd (contains_none r t);
     one = λ p q t g e. absurd (contains_none t.0 t.1);
-    flights = λ j c h. subst (AllIn (IsFlight [] j)) (sym (opening_empty s.members 0 j c h)) tt;
+    flights = λ j c h. subst (AllIn (IsFlight [] j)) (sym (opening_empty s.traffic.members 0 j c h)) tt;
     once = λ p t j. absurd (contains_none t.0 t.1);
-    sendings = opening_sent s.members 0;
+    sendings = opening_sent s.traffic.members 0;
     numbers = λ rows after r p split q. absurd (no_split rows after r split);
     before = λ rows after r k split q. absurd (no_split rows after r split);
   }
@@ -522,13 +520,13 @@ module _ (s : Setting) where
   -- an event of a later time is no earlier one
   abbrev Late : Option Event → Type 0
   Late None = Unit {0}
-  Late (Some e) = s.until ≤ e.key.time
+  Late (Some e) = s.traffic.until ≤ e.key.time
 
-  late_none : (x : Option Event) → before s.until x ≡ None → Late x
+  late_none : (x : Option Event) → before s.traffic.until x ≡ None → Late x
   late_none None h = tt
-  late_none (Some e) h = Rattle.std.proofs.Common.ltb-false _ _ (none_kept (nat_lt e.key.time s.until) e h)
+  late_none (Some e) h = Rattle.std.proofs.Common.ltb-false _ _ (none_kept (nat_lt e.key.time s.traffic.until) e h)
 
-  late_by : (r : Ordering) (d e : Event) → key_cmp d.key e.key ≡ r → s.until ≤ (by_key r d e).key.time → (s.until ≤ d.key.time) × (s.until ≤ e.key.time)
+  late_by : (r : Ordering) (d e : Event) → key_cmp d.key e.key ≡ r → s.traffic.until ≤ (by_key r d e).key.time → (s.traffic.until ≤ d.key.time) × (s.traffic.until ≤ e.key.time)
   late_by Less d e q h = (h, (let le : d.key.time ≤ e.key.time = first_le d.key e.key (λ g. let x : Less ≡ Greater = sym q ∙ g in cc) in omega arith))
   late_by Equal d e q h = (h, (let le : d.key.time ≤ e.key.time = first_le d.key e.key (λ g. let x : Equal ≡ Greater = sym q ∙ g in cc) in omega arith))
   late_by Greater d e q h = ((let le = second_le d.key e.key q in omega arith), h)
@@ -558,7 +556,7 @@ module _ (s : Setting) where
       let n = late_all 0 w.cells (late_none (least_event 0 w.cells) (nothing_left s w over)) j c q in
       empty_inbox n.0 j w.trace c c.inbox (first_late n.0 c n.1) (g.flights j c q)
 
-  handed_in_the_end : (w : World) → IsLast s w → (p : Packet) → SentIn p w.trace → (m : ℕ) → handing_count p.id m w.trace ≡ one_if (is_some (arrival_of s p m))
+  handed_in_the_end : (w : World) → IsLast s w → (p : Packet) → SentIn p w.trace → (m : ℕ) → handing_count p.id m w.trace ≡ one_if (is_some (arrival_of s.traffic p m))
   handed_in_the_end w last p t m =
       let g = handed_reached w last.reached in
       let o = g.once p t m in

@@ -1,12 +1,12 @@
 -- Members that hear a packet one after the other.
 use Rattle.std.proofs.Common.{◌≡◌, ℕ, zero, suc, ◌+◌, ◌≤◌, true, cond, List, [], ◌∷◌, length, Option, Some, None, option_map, refl, sym, ap, ◌∙◌, slice_get, slice_set, nat_lt, lt-ltb, le-ltb, arith, zero-add}
 use Rattle.srm_net.specs.declared.packet.Packet.{Packet}
-use Rattle.srm_cell.specs.Setting.{Setting, arrival_of}
+use Rattle.srm_cell.specs.Setting.{Traffic, arrival_of}
 use Rattle.srm_cell.specs.Cells.{PlainCell, hear, hear_at}
 use Rattle.srm_engine.specs.Seen.{heard_below}
 use Rattle.srm_engine.proofs.SeenLemmas.{same_some}
 
-module _ (s : Setting) (p : Packet) where
+module _ (s : Traffic) (p : Packet) where
   pub hears_not : (m : ℕ) (c : PlainCell) → arrival_of s p m ≡ None → hear s p m c ≡ c
   unfolding hear
   hears_not m c h = ap (λ o. hear_at p o c) h

@@ -54,13 +54,13 @@ module _ (s : Setting) (end : ℕ) where
 
   -- ---- each cell's own run alone
 
-  after_late : (x : Option Packet) → ((p : Packet) → x ≡ Some p → (m at : ℕ) → arrival_of s p m ≡ Some at → end ≤ at) → (m n : ℕ) (c : PlainCell) → own_after end m n (told_to s x m c) ≡ told_to s x m (own_after end m n c)
+  after_late : (x : Option Packet) → ((p : Packet) → x ≡ Some p → (m at : ℕ) → arrival_of s.traffic p m ≡ Some at → end ≤ at) → (m n : ℕ) (c : PlainCell) → own_after end m n (told_to s.traffic x m c) ≡ told_to s.traffic x m (own_after end m n c)
   unfolding own_after
   after_late x late m zero c = refl
   after_late x late m (suc n) c =
-      let step = λ (o : StepOutcome Stepped) (e : own_step end m c ≡ o). after_first end m n (told_to s x m c) ∙ ap (after_by end m n (told_to s x m c)) (told_late s end m x late c ∙ ap (outcome_map (stepped_map (told_to s x m))) e) in
-      let was = λ (o : StepOutcome Stepped) (e : own_step end m c ≡ o). ap (told_to s x m) (sym (after_first end m n c ∙ ap (after_by end m n c) e)) in
-      elim (own_step end m c) as (λ o. own_step end m c ≡ o → own_after end m (suc n) (told_to s x m c) ≡ told_to s x m (own_after end m (suc n) c)) [
+      let step = λ (o : StepOutcome Stepped) (e : own_step end m c ≡ o). after_first end m n (told_to s.traffic x m c) ∙ ap (after_by end m n (told_to s.traffic x m c)) (told_late s.traffic end m x late c ∙ ap (outcome_map (stepped_map (told_to s.traffic x m))) e) in
+      let was = λ (o : StepOutcome Stepped) (e : own_step end m c ≡ o). ap (told_to s.traffic x m) (sym (after_first end m n c ∙ ap (after_by end m n c) e)) in
+      elim (own_step end m c) as (λ o. own_step end m c ≡ o → own_after end m (suc n) (told_to s.traffic x m c) ≡ told_to s.traffic x m (own_after end m (suc n) c)) [
         | Idle ↦ λ e. step Idle e ∙ was Idle e
         | Full ↦ λ e. step Full e ∙ was Full e
         | Spent ↦ λ e. step Spent e ∙ was Spent e
@@ -68,20 +68,20 @@ module _ (s : Setting) (end : ℕ) where
       ] refl
 
   -- a member does not hear itself
-  not_heard : (m : ℕ) (x : Option Packet) (c : PlainCell) → SentBy m x → told_to s x m c ≡ c
+  not_heard : (m : ℕ) (x : Option Packet) (c : PlainCell) → SentBy m x → told_to s.traffic x m c ≡ c
   unfolding hear
   not_heard m None c h = refl
   not_heard m (Some p) c h =
       let q : (m == p.id.sender) ≡ true = eq-eqb _ _ (sym h) in
-      let none : arrival_of s p m ≡ None = simp q (simp (and_no (nat_lt m s.members))) in
+      let none : arrival_of s.traffic p m ≡ None = simp q (simp (and_no (nat_lt m s.traffic.members))) in
       ap (λ o. hear_at p o c) none
 
-  end_map : (x : Option Packet) → ((p : Packet) → x ≡ Some p → (m at : ℕ) → arrival_of s p m ≡ Some at → end ≤ at) → (m n : ℕ) (c : PlainCell) → own_end end m n (told_to s x m c) ≡ outcome_map (stepped_map (told_to s x m)) (own_end end m n c)
-  end_map x late m zero c = end_now end m (told_to s x m c) ∙ told_late s end m x late c ∙ ap (outcome_map (stepped_map (told_to s x m))) (sym (end_now end m c))
+  end_map : (x : Option Packet) → ((p : Packet) → x ≡ Some p → (m at : ℕ) → arrival_of s.traffic p m ≡ Some at → end ≤ at) → (m n : ℕ) (c : PlainCell) → own_end end m n (told_to s.traffic x m c) ≡ outcome_map (stepped_map (told_to s.traffic x m)) (own_end end m n c)
+  end_map x late m zero c = end_now end m (told_to s.traffic x m c) ∙ told_late s.traffic end m x late c ∙ ap (outcome_map (stepped_map (told_to s.traffic x m))) (sym (end_now end m c))
   end_map x late m (suc n) c =
-      let step = λ (o : StepOutcome Stepped) (e : own_step end m c ≡ o). end_first end m n (told_to s x m c) ∙ ap (end_by end m n) (told_late s end m x late c ∙ ap (outcome_map (stepped_map (told_to s x m))) e) in
-      let was = λ (o : StepOutcome Stepped) (e : own_step end m c ≡ o). ap (outcome_map (stepped_map (told_to s x m))) (sym (end_first end m n c ∙ ap (end_by end m n) e)) in
-      elim (own_step end m c) as (λ o. own_step end m c ≡ o → own_end end m (suc n) (told_to s x m c) ≡ outcome_map (stepped_map (told_to s x m)) (own_end end m (suc n) c)) [
+      let step = λ (o : StepOutcome Stepped) (e : own_step end m c ≡ o). end_first end m n (told_to s.traffic x m c) ∙ ap (end_by end m n) (told_late s.traffic end m x late c ∙ ap (outcome_map (stepped_map (told_to s.traffic x m))) e) in
+      let was = λ (o : StepOutcome Stepped) (e : own_step end m c ≡ o). ap (outcome_map (stepped_map (told_to s.traffic x m))) (sym (end_first end m n c ∙ ap (end_by end m n) e)) in
+      elim (own_step end m c) as (λ o. own_step end m c ≡ o → own_end end m (suc n) (told_to s.traffic x m c) ≡ outcome_map (stepped_map (told_to s.traffic x m)) (own_end end m (suc n) c)) [
         | Idle ↦ λ e. step Idle e ∙ was Idle e
         | Full ↦ λ e. step Full e ∙ was Full e
         | Spent ↦ λ e. step Spent e ∙ was Spent e
@@ -95,7 +95,7 @@ module _ (s : Setting) (end : ℕ) where
   from_idle f (Done d) h = cc
 
   abbrev pub Alone : ℕ → List Row → PlainCell → Option PlainCell → Type 0
-  Alone m rows c o = (n : ℕ) × (own_end end m n c ≡ Idle) × (rows_of m rows ≡ own_rows end m n c) × (o ≡ Some (hear_rows s m rows (own_after end m n c)))
+  Alone m rows c o = (n : ℕ) × (own_end end m n c ≡ Idle) × (rows_of m rows ≡ own_rows end m n c) × (o ≡ Some (hear_rows s.traffic m rows (own_after end m n c)))
 
   alone : {cs ds : List PlainCell} {ms : List ℕ} {rows : List Row} → Sched s end cs ms rows ds → Quiet end ds → Safe s end cs → (m : ℕ) (c : PlainCell) → slice_get cs m ≡ Some c → Alone m rows c (slice_get ds m)
   unfolding own_rows own_after
@@ -105,24 +105,24 @@ module _ (s : Setting) (end : ℕ) where
         | true ↦ λ mb.
             let own : own_step end m c ≡ Done d = sym (ap (own_of end m) g) ∙ ap (λ k. own_of end k (slice_get cs k)) (eqb-true _ _ mb) ∙ e in
             let is = own_of_is end b (slice_get cs b) d e in
-            let here : slice_get (settled s b d 0 cs) m ≡ Some d.cell = get_after s b d m cs ∙ ap (option_map (at_member s b d m)) g ∙ ap (λ x. Some (cond x d.cell (told_to s d.row.sent m c))) mb in
+            let here : slice_get (settled s b d 0 cs) m ≡ Some d.cell = get_after s b d m cs ∙ ap (option_map (at_member s b d m)) g ∙ ap (λ x. Some (cond x d.cell (told_to s.traffic d.row.sent m c))) mb in
             let mine : (d.row.key.member == m) ≡ true = eq-eqb _ _ (is.0 ∙ sym (eqb-true _ _ mb)) in
             let r = alone more quiet (safe_after s end cs safe b d e) m d.cell here in (
               suc r.0,
               end_first end m r.0 c ∙ ap (end_by end m r.0) own ∙ r.1,
               rw mine (ap (λ l. d.row ∷ l) r.2 ∙ sym (rows_done end m r.0 c d own)),
-              r.3 ∙ ap (λ x. Some (hear_rows s m rows x)) (sym (not_heard m d.row.sent (own_after end m (suc r.0) c) (subst (λ k. SentBy k d.row.sent) (sym (eqb-true _ _ mb)) is.1) ∙ after_done end m r.0 c d own)),
+              r.3 ∙ ap (λ x. Some (hear_rows s.traffic m rows x)) (sym (not_heard m d.row.sent (own_after end m (suc r.0) c) (subst (λ k. SentBy k d.row.sent) (sym (eqb-true _ _ mb)) is.1) ∙ after_done end m r.0 c d own)),
             )
         | false ↦ λ mb.
             let is = own_of_is end b (slice_get cs b) d e in
             let late = step_late s end cs safe b d e in
-            let here : slice_get (settled s b d 0 cs) m ≡ Some (told_to s d.row.sent m c) = get_after s b d m cs ∙ ap (option_map (at_member s b d m)) g ∙ ap (λ x. Some (cond x d.cell (told_to s d.row.sent m c))) mb in
+            let here : slice_get (settled s b d 0 cs) m ≡ Some (told_to s.traffic d.row.sent m c) = get_after s b d m cs ∙ ap (option_map (at_member s b d m)) g ∙ ap (λ x. Some (cond x d.cell (told_to s.traffic d.row.sent m c))) mb in
             let other : (d.row.key.member == m) ≡ false = not_me s end d.row.key.member m (λ q. eqb-false _ _ mb (sym q ∙ is.0)) in
-            let r = alone more quiet (safe_after s end cs safe b d e) m (told_to s d.row.sent m c) here in (
+            let r = alone more quiet (safe_after s end cs safe b d e) m (told_to s.traffic d.row.sent m c) here in (
               r.0,
-              from_idle (stepped_map (told_to s d.row.sent m)) _ (sym (end_map d.row.sent late m r.0 c) ∙ r.1),
+              from_idle (stepped_map (told_to s.traffic d.row.sent m)) _ (sym (end_map d.row.sent late m r.0 c) ∙ r.1),
               rw other (r.2 ∙ own_rows_late s end d.row.sent late m r.0 c),
-              r.3 ∙ ap (λ x. Some (hear_rows s m rows x)) (after_late d.row.sent late m r.0 c),
+              r.3 ∙ ap (λ x. Some (hear_rows s.traffic m rows x)) (after_late d.row.sent late m r.0 c),
             )
       ] refl
 
@@ -209,7 +209,20 @@ schedules_agree s w end fit reached within safe results =
 pub own_runs_end : OwnRunsEnd
 own_runs_end s w end fit reached m c g =
     let stable = stable_reached s fit reached.0 w reached.1 in
-    own_run_ends (s.leave m) end m c (stable.good.tidy m c g) (stable.good.sound m c g) (stable.stays m c g)
+    own_run_ends (s.traffic.leave m) end m c (stable.good.tidy m c g) (stable.good.sound m c g) (stable.stays m c g)
+
+pub run_on : (s : Setting) (a b : ℕ) (w v : World) → run s a w ≡ Done v → run s (a + b) w ≡ run s b v
+unfolding run
+run_on s zero b w v h = let e : w ≡ v = cc in rw zero-add (ap (run s b) e)
+run_on s (suc a) b w v h =
+    let within = le_refl s.traffic.until in
+    let first = λ (n : ℕ) (o : StepOutcome World) (e : step_to s s.traffic.until w ≡ o). run_first s s.traffic.until within n w ∙ ap (run_by s s.traffic.until within n) e in
+    ap (λ n. run s n w) (suc-add a b) ∙ (elim (step_to s s.traffic.until w) as (λ o. step_to s s.traffic.until w ≡ o → run s (suc (a + b)) w ≡ run s b v) [
+      | Idle ↦ λ e. let x : Idle ≡ Done v = sym (first a Idle e) ∙ h in cc
+      | Full ↦ λ e. let x : Full ≡ Done v = sym (first a Full e) ∙ h in cc
+      | Spent ↦ λ e. let x : Spent ≡ Done v = sym (first a Spent e) ∙ h in cc
+      | Done u ↦ λ e. first (a + b) (Done u) e ∙ run_on s a b u v (sym (first a (Done u) e) ∙ h)
+    ] refl)
 
 pub refusals_are_met : RefusalsAreMet
 refusals_are_met s w end fit reached within safe m none =
@@ -221,11 +234,11 @@ refusals_are_met s w end fit reached within safe m none =
           let f = flag_of s end 0 w.cells all.0 all.1 all.2 m none.0 none.1 in
           let b : f.1 ≡ true = one_ending s end (0 + m) f.0 none.2.0 none.0 f.1 true f.2 (subst (λ k. own_end end k none.2.0 none.0 ≡ Full) (sym (zero-add m)) none.2.1) in
           absurd (q.1 m (f.3 ∙ ap Some b))
-      | inr r ↦ (suc (length done.0), seq_refused s end within done.2 r.0 w.trace)
+      | inr r ↦ (let refused = seq_refused s end within done.2 r.0 w.trace in ((suc (length done.0), refused), (reached.0 + suc (length done.0), run_on s reached.0 (suc (length done.0)) (opening s) w reached.1 ∙ refused)))
     ]
 
 pub windows_are_safe : WindowsAreSafe
-windows_are_safe s w e width end fit reached h wide within = window_safe s fit w.cells (good_reached s fit reached.0 w reached.1) s.until e h width end within wide
+windows_are_safe s w e width end fit reached h wide within = window_safe s fit w.cells (good_reached s fit reached.0 w reached.1) s.traffic.until e h width end within wide
 
 pub cells_run_alone : CellsRunAlone
 cells_run_alone s w end safe ms u h quiet m c g =
@@ -238,44 +251,31 @@ promises_are_safe s w end fit reached promise = promise_safe s fit w.cells (good
 
 -- ---- the sequential run ends
 
-pub run_on : (s : Setting) (a b : ℕ) (w v : World) → run s a w ≡ Done v → run s (a + b) w ≡ run s b v
-unfolding run
-run_on s zero b w v h = let e : w ≡ v = cc in rw zero-add (ap (run s b) e)
-run_on s (suc a) b w v h =
-    let within = le_refl s.until in
-    let first = λ (n : ℕ) (o : StepOutcome World) (e : step_to s s.until w ≡ o). run_first s s.until within n w ∙ ap (run_by s s.until within n) e in
-    ap (λ n. run s n w) (suc-add a b) ∙ (elim (step_to s s.until w) as (λ o. step_to s s.until w ≡ o → run s (suc (a + b)) w ≡ run s b v) [
-      | Idle ↦ λ e. let x : Idle ≡ Done v = sym (first a Idle e) ∙ h in cc
-      | Full ↦ λ e. let x : Full ≡ Done v = sym (first a Full e) ∙ h in cc
-      | Spent ↦ λ e. let x : Spent ≡ Done v = sym (first a Spent e) ∙ h in cc
-      | Done u ↦ λ e. first (a + b) (Done u) e ∙ run_on s a b u v (sym (first a (Done u) e) ∙ h)
-    ] refl)
-
 module _ (s : Setting) (fit : IsFit s) where
   abbrev RunsOut : World → Type 0
   RunsOut w = (n : ℕ) × ((run s n w ≡ Idle) ⊎ (run s n w ≡ Full))
 
   -- after the run to an end what is pending is from there on
-  from_end : (end : ℕ) (ds : List PlainCell) → Quiet end ds → (e : Event) → before s.until (least_event 0 ds) ≡ Some e → end ≤ e.key.time
+  from_end : (end : ℕ) (ds : List PlainCell) → Quiet end ds → (e : Event) → before s.traffic.until (least_event 0 ds) ≡ Some e → end ≤ e.key.time
   from_end end ds quiet e h = elim (nat_lt e.key.time end) as (λ b. nat_lt e.key.time end ≡ b → end ≤ e.key.time) [
     | true ↦ λ q.
-        let b = before_some s.until (least_event 0 ds) e h in
+        let b = before_some s.traffic.until (least_event 0 ds) e h in
         let early : before end (least_event 0 ds) ≡ Some e = ap (before end) b.0 ∙ ap (λ x. keep x e) q in
         absurd (some_not_idle e (sym (least_own end ds e early) ∙ quiet e.key.member))
     | false ↦ λ q. ltb-false _ _ q
   ] refl
 
-  no_more : (w : World) → before s.until (least_event 0 w.cells) ≡ None → RunsOut w
-  no_more w h = (1, inl (run_first s s.until (le_refl s.until) 0 w ∙ ap (run_by s s.until (le_refl s.until) 0) (step_none s s.until (le_refl s.until) w h)))
+  no_more : (w : World) → before s.traffic.until (least_event 0 w.cells) ≡ None → RunsOut w
+  no_more w h = (1, inl (run_first s s.traffic.until (le_refl s.traffic.until) 0 w ∙ ap (run_by s s.traffic.until (le_refl s.traffic.until) 0) (step_none s s.traffic.until (le_refl s.traffic.until) w h)))
 
   -- one window of a tick
-  one_window : (w : World) → Stable s fit w.cells → (e : Event) → before s.until (least_event 0 w.cells) ≡ Some e
-      → ((v : World) → Stable s fit v.cells → ((d : Event) → before s.until (least_event 0 v.cells) ≡ Some d → suc e.key.time ≤ d.key.time) → RunsOut v) → RunsOut w
+  one_window : (w : World) → Stable s fit w.cells → (e : Event) → before s.traffic.until (least_event 0 w.cells) ≡ Some e
+      → ((v : World) → Stable s fit v.cells → ((d : Event) → before s.traffic.until (least_event 0 v.cells) ≡ Some d → suc e.key.time ≤ d.key.time) → RunsOut v) → RunsOut w
   one_window w stable e h again =
       let end = suc e.key.time in
-      let within : end ≤ s.until = (before_some s.until (least_event 0 w.cells) e h).1 in
-      let safe = window_safe s fit w.cells stable.good s.until e h 1 end (omega arith) (λ a b al bl ne. fit.apart a b al bl ne) in
-      let all = collected_all s end w.cells (λ j c g. own_run_ends (s.leave j) end j c (stable.good.tidy j c g) (stable.good.sound j c g) (stable.stays j c g)) in
+      let within : end ≤ s.traffic.until = (before_some s.traffic.until (least_event 0 w.cells) e h).1 in
+      let safe = window_safe s fit w.cells stable.good s.traffic.until e h 1 end (omega arith) (λ a b al bl ne. fit.apart a b al bl ne) in
+      let all = collected_all s end w.cells (λ j c g. own_run_ends (s.traffic.leave j) end j c (stable.good.tidy j c g) (stable.good.sound j c g) (stable.stays j c g)) in
       let done = to_the_end s end (total all.0) w.cells all.0 all.1 (le_refl (total all.0)) safe all.2 in
       elim done.3 [
         | inl q ↦
@@ -286,46 +286,46 @@ module _ (s : Setting) (fit : IsFit s) where
         | inr r ↦ (suc (length done.0), inr (seq_refused s end within done.2 r.0 w.trace))
       ]
 
-  ends_from : (k : ℕ) (w : World) → Stable s fit w.cells → ((e : Event) → before s.until (least_event 0 w.cells) ≡ Some e → s.until ≤ e.key.time + k) → RunsOut w
-  ends_from zero w stable room = elim (before s.until (least_event 0 w.cells)) as (λ o. before s.until (least_event 0 w.cells) ≡ o → RunsOut w) [
+  ends_from : (k : ℕ) (w : World) → Stable s fit w.cells → ((e : Event) → before s.traffic.until (least_event 0 w.cells) ≡ Some e → s.traffic.until ≤ e.key.time + k) → RunsOut w
+  ends_from zero w stable room = elim (before s.traffic.until (least_event 0 w.cells)) as (λ o. before s.traffic.until (least_event 0 w.cells) ≡ o → RunsOut w) [
     | None ↦ λ h. no_more w h
-    | Some e ↦ λ h. let early = (before_some s.until (least_event 0 w.cells) e h).1 in let late = room e h in absurd (omega arith)
+    | Some e ↦ λ h. let early = (before_some s.traffic.until (least_event 0 w.cells) e h).1 in let late = room e h in absurd (omega arith)
   ] refl
-  ends_from (suc k) w stable room = elim (before s.until (least_event 0 w.cells)) as (λ o. before s.until (least_event 0 w.cells) ≡ o → RunsOut w) [
+  ends_from (suc k) w stable room = elim (before s.traffic.until (least_event 0 w.cells)) as (λ o. before s.traffic.until (least_event 0 w.cells) ≡ o → RunsOut w) [
     | None ↦ λ h. no_more w h
     | Some e ↦ λ h. one_window w stable e h (λ v g next. ends_from k v g (λ d x. let late = room e h in let from = next d x in omega arith))
   ] refl
 
 pub run_ends : RunEnds
-run_ends s fit = ends_from s fit s.until (opening s) (stable_opening s fit) (λ e h. omega arith)
+run_ends s fit = ends_from s fit s.traffic.until (opening s) (stable_opening s fit) (λ e h. omega arith)
 
 -- ---- no event is pending at a record that is gone
 
-no_spent_step : (s : Setting) (fit : IsFit s) (w : World) → Stable s fit w.cells → (o : Option Event) → before s.until (least_event 0 w.cells) ≡ o → step_to s s.until w ≢ Spent
+no_spent_step : (s : Setting) (fit : IsFit s) (w : World) → Stable s fit w.cells → (o : Option Event) → before s.traffic.until (least_event 0 w.cells) ≡ o → step_to s s.traffic.until w ≢ Spent
 unfolding step_to step_of
 no_spent_step s fit w stable None h x = let y : Idle ≡ Spent = sym (ap (step_of s w) h) ∙ x in cc
 no_spent_step s fit w stable (Some e) h x = elim (step_at (Some e)) as (λ o. step_at (Some e) ≡ o → ⊥) [
   | Idle ↦ λ q. absurd (some_not_idle e q)
-  | Full ↦ λ q. let y : Full ≡ Spent = sym (after_full s s.until (le_refl s.until) w e.key.member) ∙ sym (ap (after_step s w e.key.member) q) ∙ sym (ap (step_of s w) h) ∙ x in cc
-  | Spent ↦ λ q. least_not_spent s fit s.until w.cells e stable h q
-  | Done d ↦ λ q. let v : World = record { cells = settled s e.key.member d 0 w.cells; trace = w.trace ++ d.row ∷ [] } in let y : Done v ≡ Spent = sym (after_stepped s s.until (le_refl s.until) w e.key.member d) ∙ sym (ap (after_step s w e.key.member) q) ∙ sym (ap (step_of s w) h) ∙ x in cc
+  | Full ↦ λ q. let y : Full ≡ Spent = sym (after_full s s.traffic.until (le_refl s.traffic.until) w e.key.member) ∙ sym (ap (after_step s w e.key.member) q) ∙ sym (ap (step_of s w) h) ∙ x in cc
+  | Spent ↦ λ q. least_not_spent s fit s.traffic.until w.cells e stable h q
+  | Done d ↦ λ q. let v : World = record { cells = settled s e.key.member d 0 w.cells; trace = w.trace ++ d.row ∷ [] } in let y : Done v ≡ Spent = sym (after_stepped s s.traffic.until (le_refl s.traffic.until) w e.key.member d) ∙ sym (ap (after_step s w e.key.member) q) ∙ sym (ap (step_of s w) h) ∙ x in cc
 ] refl
 
 no_spent_run : (s : Setting) (fit : IsFit s) (n k : ℕ) (w : World) → run s k (opening s) ≡ Done w → run s n w ≢ Spent
 unfolding run
 no_spent_run s fit zero k w reached h = cc
 no_spent_run s fit (suc n) k w reached h =
-    let within = le_refl s.until in
-    let by = λ (o : StepOutcome World) (e : step_to s s.until w ≡ o). sym (ap (run_by s s.until within n) e) ∙ sym (run_first s s.until within n w) ∙ h in
-    elim (step_to s s.until w) as (λ o. step_to s s.until w ≡ o → ⊥) [
+    let within = le_refl s.traffic.until in
+    let by = λ (o : StepOutcome World) (e : step_to s s.traffic.until w ≡ o). sym (ap (run_by s s.traffic.until within n) e) ∙ sym (run_first s s.traffic.until within n w) ∙ h in
+    elim (step_to s s.traffic.until w) as (λ o. step_to s s.traffic.until w ≡ o → ⊥) [
       | Idle ↦ λ e. let x : Idle ≡ Spent = by Idle e in cc
       | Full ↦ λ e. let x : Full ≡ Spent = by Full e in cc
-      | Spent ↦ λ e. no_spent_step s fit w (stable_reached s fit k w reached) (before s.until (least_event 0 w.cells)) refl e
-      | Done v ↦ λ e. no_spent_run s fit n (k + 1) v (run_on s k 1 (opening s) w reached ∙ run_first s s.until within 0 w ∙ ap (run_by s s.until within 0) e) (by (Done v) e)
+      | Spent ↦ λ e. no_spent_step s fit w (stable_reached s fit k w reached) (before s.traffic.until (least_event 0 w.cells)) refl e
+      | Done v ↦ λ e. no_spent_run s fit n (k + 1) v (run_on s k 1 (opening s) w reached ∙ run_first s s.traffic.until within 0 w ∙ ap (run_by s s.traffic.until within 0) e) (by (Done v) e)
     ] refl
 
 pub never_spent : NeverSpent
 never_spent s w fit reached = (
   λ n. no_spent_run s fit n reached.0 w reached.1,
-  λ end m n c g. let stable = stable_reached s fit reached.0 w reached.1 in own_never_spent (s.leave m) end m n c (stable.good.tidy m c g) (stable.stays m c g),
+  λ end m n c g. let stable = stable_reached s fit reached.0 w reached.1 in own_never_spent (s.traffic.leave m) end m n c (stable.good.tidy m c g) (stable.stays m c g),
 )

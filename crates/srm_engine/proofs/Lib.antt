@@ -2,7 +2,6 @@ pub mod Departed
 pub mod ExitsKept
 pub mod HandedOnce
 pub mod Index
-pub mod Counting
 pub mod NewPackets
 pub mod Hearing
 pub mod Opened
@@ -13,6 +12,13 @@ pub mod LawProofs
 pub mod Merge
 pub mod NamesKept
 pub mod OneStep
+pub mod OneWindow
+pub mod SortedRows
+pub mod WindowChain
+pub mod WindowEnds
+pub mod WindowJobs
+pub mod WindowPackets
+pub mod WindowRows
 pub mod RunLemmas
 pub mod ScheduleLemmas
 pub mod Sequential
@@ -21,3 +27,6 @@ pub mod StrictRuns
 pub mod TraceRows
 pub mod Lookahead
 pub mod PendingKeys
+mod OneOutcome
+mod LeastOfAll
+mod AllSchedules

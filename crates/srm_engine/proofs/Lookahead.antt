@@ -119,9 +119,9 @@ link_delays_are_safe p seed accepted w e width end reached least wide within =
 -- ---- promises
 
 module _ (s : Setting) where
-  out_near : (m b : ℕ) → b < s.members → b ≢ m → (k : ℕ) × (out s m ≡ Some k) × (k ≤ s.distance m b)
+  out_near : (m b : ℕ) → b < s.traffic.members → b ≢ m → (k : ℕ) × (out s m ≡ Some k) × (k ≤ s.traffic.distance m b)
   unfolding out
-  out_near m b lt ne = least_in (s.distance m b) _ (in_mapped (s.distance m) b _ (in_filtered (λ x. not (x == m)) b (is_other b m ne) _ (in_range s.members 0 b (omega arith) (omega arith))))
+  out_near m b lt ne = least_in (s.traffic.distance m b) _ (in_mapped (s.traffic.distance m) b _ (in_filtered (λ x. not (x == m)) b (is_other b m ne) _ (in_range s.traffic.members 0 b (omega arith) (omega arith))))
 
   least_with_le : (n : ℕ) (o : Option ℕ) → least_with n o ≤ n
   least_with_le n None = omega arith
@@ -150,8 +150,8 @@ module _ (s : Setting) where
   promise_is m c e k role next way =
       ap (λ b. cond b None (promise_by (time_of (next_event m c)) (out s m))) role ∙ (λ i. promise_by (time_of (next i)) (way i))
 
-  promised : (w : World) (m : ℕ) (c : PlainCell) (e : Event) → slice_get w.cells m ≡ Some c → next_event m c ≡ Some e → Silent c.holds ⊎ ((b : ℕ) → b < s.members → b ≢ m → promise_end s w ≤ e.key.time + s.distance m b)
-  promised w m c e g next = elim (is_listener (fixed_part c.holds).role) as (λ q. is_listener (fixed_part c.holds).role ≡ q → Silent c.holds ⊎ ((b : ℕ) → b < s.members → b ≢ m → promise_end s w ≤ e.key.time + s.distance m b)) [
+  promised : (w : World) (m : ℕ) (c : PlainCell) (e : Event) → slice_get w.cells m ≡ Some c → next_event m c ≡ Some e → Silent c.holds ⊎ ((b : ℕ) → b < s.traffic.members → b ≢ m → promise_end s w ≤ e.key.time + s.traffic.distance m b)
+  promised w m c e g next = elim (is_listener (fixed_part c.holds).role) as (λ q. is_listener (fixed_part c.holds).role ≡ q → Silent c.holds ⊎ ((b : ℕ) → b < s.traffic.members → b ≢ m → promise_end s w ≤ e.key.time + s.traffic.distance m b)) [
     | true ↦ λ q. inl (silent_listener c.holds q)
     | false ↦ λ q. inr (λ b lt ne.
         let way = out_near m b lt ne in
@@ -163,16 +163,16 @@ module _ (s : Setting) where
 
   -- ---- the end is later than the least pending time
 
-  all_away : (m : ℕ) → ((b : ℕ) → b < s.members → b ≢ m → 0 < s.distance m b) → (n a : ℕ) → a + n ≤ s.members → AllIn (λ x. 0 < x) (map (s.distance m) (filter (λ x. not (x == m)) (range_with_len a n)))
+  all_away : (m : ℕ) → ((b : ℕ) → b < s.traffic.members → b ≢ m → 0 < s.traffic.distance m b) → (n a : ℕ) → a + n ≤ s.traffic.members → AllIn (λ x. 0 < x) (map (s.traffic.distance m) (filter (λ x. not (x == m)) (range_with_len a n)))
   all_away m away zero a le = tt
-  all_away m away (suc n) a le = elim (a == m) as (λ q. (a == m) ≡ q → AllIn (λ x. 0 < x) (map (s.distance m) (cond (not (a == m)) (a ∷ filter (λ x. not (x == m)) (range_with_len (a + 1) n)) (filter (λ x. not (x == m)) (range_with_len (a + 1) n))))) [
+  all_away m away (suc n) a le = elim (a == m) as (λ q. (a == m) ≡ q → AllIn (λ x. 0 < x) (map (s.traffic.distance m) (cond (not (a == m)) (a ∷ filter (λ x. not (x == m)) (range_with_len (a + 1) n)) (filter (λ x. not (x == m)) (range_with_len (a + 1) n))))) [
     | true ↦ λ e. rw e (all_away m away n (a + 1) (omega arith))
     | false ↦ λ e. rw e (away a (omega arith) (eqb-false _ _ e), all_away m away n (a + 1) (omega arith))
   ] refl
 
-  out_pos : (m k : ℕ) → ((b : ℕ) → b < s.members → b ≢ m → 0 < s.distance m b) → out s m ≡ Some k → 0 < k
+  out_pos : (m k : ℕ) → ((b : ℕ) → b < s.traffic.members → b ≢ m → 0 < s.traffic.distance m b) → out s m ≡ Some k → 0 < k
   unfolding out
-  out_pos m k away h = least_pos _ k h (all_away m away s.members 0 (omega arith))
+  out_pos m k away h = least_pos _ k h (all_away m away s.traffic.members 0 (omega arith))
 
   with_later : (t n : ℕ) (o : Option ℕ) → t < n → ((k : ℕ) → o ≡ Some k → t < k) → t < least_with n o
   with_later t n None h g = h
@@ -191,7 +191,7 @@ module _ (s : Setting) where
   time_from t m c None f a h = let z : ⊥ = cc in absurd z
   time_from t m c (Some e) f a h = let q = same_number _ _ h in let p = f e refl in omega arith
 
-  all_later : (t : ℕ) → t < s.until → (i : ℕ) (cs : List PlainCell) → ((j : ℕ) (c : PlainCell) (e : Event) → slice_get cs j ≡ Some c → next_event (i + j) c ≡ Some e → t ≤ e.key.time)
+  all_later : (t : ℕ) → t < s.traffic.until → (i : ℕ) (cs : List PlainCell) → ((j : ℕ) (c : PlainCell) (e : Event) → slice_get cs j ≡ Some c → next_event (i + j) c ≡ Some e → t ≤ e.key.time)
       → ((m : ℕ) → i ≤ m → m < i + length cs → (k : ℕ) → out s m ≡ Some k → 0 < k) → t < least_promise s i cs
   all_later t lt i [] from away = lt
   all_later t lt i (c ∷ cs) from away =
@@ -206,7 +206,7 @@ promise_ends_are_safe s w fit reached = (
   promises_are_safe s w (promise_end s w) fit reached (promised s w),
   λ e h.
       let good = good_reached s fit reached.0 w reached.1 in
-      let b = before_some s.until (least_event 0 w.cells) e h in
+      let b = before_some s.traffic.until (least_event 0 w.cells) e h in
       let least : Least e.key (least_event 0 w.cells) = subst (Least e.key) (sym b.0) (from_refl key_cmp key_total e.key) in
       all_later s e.key.time b.1 0 w.cells
       (λ j c d g next. not_before_time e.key d.key (subst (Least e.key) next (least_of_all e.key 0 w.cells least j c g)))

@@ -16,7 +16,8 @@ use Rattle.srm_engine.proofs.RunLemmas.{Seq, next, rest, seq_run}
 use Rattle.srm_engine.proofs.ScheduleLemmas.{row_total}
 use Rattle.srm_engine.proofs.Sequential.{Good, good_reached, good_step, member_below, run_seq, step_facts}
 use Rattle.srm_engine.proofs.StrictRuns.{keys_rise}
-use Rattle.srm_engine.specs.Laws.{MergesAgree, by_member, joined, new_rows}
+use Rattle.srm_cell.specs.Crossings.{joined}
+use Rattle.srm_engine.specs.Laws.{MergesAgree, by_member, new_rows}
 use Rattle.srm_engine.specs.Schedules.{rows_of}
 use Rattle.srm_engine.specs.World.{World, opening, row_cmp, run}
 use Rattle.srm_member.proofs.AllIn.{AllIn}
@@ -205,31 +206,31 @@ ascends_second [] ys h = h
 ascends_second (x ∷ xs) ys h = ascends_second xs ys h.1
 
 module _ (s : Setting) (fit : IsFit s) where
-  seq_members : {end : ℕ} {cs ds : List PlainCell} {rows : List Row} → Seq s end cs rows ds → Good s fit cs → AllIn (λ r. r.key.member < s.members) rows
+  seq_members : {end : ℕ} {cs ds : List PlainCell} {rows : List Row} → Seq s end cs rows ds → Good s fit cs → AllIn (λ r. r.key.member < s.traffic.members) rows
   seq_members rest good = tt
   seq_members {end} (next {cs = cs} {e = e} {d = d} h x more) good =
       let f = step_facts s fit end cs e d h x in
-      (subst (λ (k : Key). k.member < s.members) (sym f.key) (member_below s fit end cs e d good h x), seq_members more (good_step s fit end cs e d good h x))
+      (subst (λ (k : Key). k.member < s.traffic.members) (sym f.key) (member_below s fit end cs e d good h x), seq_members more (good_step s fit end cs e d good h x))
 
 pub merges_agree : MergesAgree
 merges_agree s w v fit reached n h rows rises perm =
     let good = good_reached s fit reached.0 w reached.1 in
     let r = run_seq s fit n w v h in
     let again : run s n w ≡ Done (record { cells = v.cells; trace = w.trace ++ r.0 }) =
-    ap (λ k. run s k w) (sym r.2) ∙ seq_run s s.until (le_refl s.until) r.1 w.trace in
+    ap (λ k. run s k w) (sym r.2) ∙ seq_run s s.traffic.until (le_refl s.traffic.until) r.1 w.trace in
     let same_worlds : ◌≡◌ {A = StepOutcome World} (Done (record { cells = v.cells; trace = w.trace ++ r.0 })) (Done v) = sym again ∙ h in
     let worlds : ◌≡◌ {A = World} (record { cells = v.cells; trace = w.trace ++ r.0 }) v = cc in
     let trace : w.trace ++ r.0 ≡ v.trace = ap (λ (u : World). u.trace) worlds in
     let new : new_rows w v ≡ r.0 = ap (λ t. drop (length w.trace) t) (sym trace) ∙ drop-append_seam w.trace r.0 in
     let all_rise = keys_rise s v fit (reached.0 + n, run_on s reached.0 n (opening s) w reached.1 ∙ h) in
     let rise : Ascends row_cmp (new_rows w v) = subst (Ascends row_cmp) (sym new) (ascends_second w.trace r.0 (subst (Ascends row_cmp) (sym trace) all_rise)) in
-    let members : AllIn (λ r. r.key.member < s.members) (new_rows w v) = subst (AllIn (λ r. r.key.member < s.members)) (sym new) (seq_members s fit r.1 good) in
-    let parts = joined (by_member 0 s.members (new_rows w v)) in
+    let members : AllIn (λ r. r.key.member < s.traffic.members) (new_rows w v) = subst (AllIn (λ r. r.key.member < s.traffic.members)) (sym new) (seq_members s fit r.1 good) in
+    let parts = joined (by_member 0 s.traffic.members (new_rows w v)) in
     same_merge row_cmp (row_total s 0) (new_rows w v) rows rise rises
     (λ k.
     let p = λ (x : Row). is_eq (row_cmp k x) in
     count-sum_by p rows ∙ sum_by-IsPermutation (λ x. one_if (p x)) parts rows perm ∙ sym (count-sum_by p parts)
-    ∙ count-by_member p s.members 0 (new_rows w v) ∙ all_counted p s.members (new_rows w v) members)
+    ∙ count-by_member p s.traffic.members 0 (new_rows w v) ∙ all_counted p s.traffic.members (new_rows w v) members)
     (λ z g.
     let Q = λ (x : Row). In x (new_rows w v) in
-    each_in Q z rows (recursion_from_All Q rows (All-permutation Q parts rows perm (All-from_recursion Q parts (in_each Q parts (λ x i. in_joined x s.members 0 (new_rows w v) i))))) g)
+    each_in Q z rows (recursion_from_All Q rows (All-permutation Q parts rows perm (All-from_recursion Q parts (in_each Q parts (λ x i. in_joined x s.traffic.members 0 (new_rows w v) i))))) g)

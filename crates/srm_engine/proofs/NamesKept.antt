@@ -99,7 +99,7 @@ module _ (s : Setting) (fit : IsFit s) where
 
   -- ---- after a step
 
-  module _ (cs : List PlainCell) (trace : List Row) (e : Event) (d : Stepped) (was : Names cs trace) (steps : Steps s.until cs e d) where
+  module _ (cs : List PlainCell) (trace : List Row) (e : Event) (d : Stepped) (was : Names cs trace) (steps : Steps s.traffic.until cs e d) where
     abbrev m : ℕ
     m = e.key.member
 
@@ -140,10 +140,10 @@ module _ (s : Setting) (fit : IsFit s) where
     told_now t j n h = (d.row, contains_last trace d.row, tells_more t j n d.row h)
 
     -- a packet that a row hands was sent before
-    sent_before : (r : Row) → Contains rows r → (p : Packet) → r.about ≡ Of p.id → SentIn p rows → SentIn p trace
+    sent_before : (r : Row) → Contains rows r → (p : Packet) → r.about ≡ Of p → SentIn p rows → SentIn p trace
     sent_before r c p a h = elim (sent_cases p trace d.row h) [
       | inl g ↦ g
-      | inr g ↦ absurd (handing.new_id s cs trace e d was.handed steps p (handing.is_new s cs trace e d was.handed steps p g) p.id (handing.handed_was s cs trace e d was.handed steps r c p.id a) refl)
+      | inr g ↦ absurd (handing.new_id s cs trace e d was.handed steps p (handing.is_new s cs trace e d was.handed steps p g) p.id (handing.handed_was s cs trace e d was.handed steps r c p a) refl)
     ]
 
     told_cases : (t : Told) (j : ℕ) (n : Name) → ToldOf t j n rows → ToldOf t j n trace ⊎ Now t j n
@@ -222,15 +222,15 @@ module _ (s : Setting) (fit : IsFit s) where
     hear_at_holds p None c = (refl, refl)
     hear_at_holds p (Some at) c = (refl, refl)
 
-    told_holds : (y : Option Packet) (j : ℕ) (c : PlainCell) → ((told_to s y j c).holds ≡ c.holds) × ((told_to s y j c).exit ≡ c.exit)
+    told_holds : (y : Option Packet) (j : ℕ) (c : PlainCell) → ((told_to s.traffic y j c).holds ≡ c.holds) × ((told_to s.traffic y j c).exit ≡ c.exit)
     unfolding hear
     told_holds None j c = (refl, refl)
-    told_holds (Some p) j c = hear_at_holds p (arrival_of s p j) c
+    told_holds (Some p) j c = hear_at_holds p (arrival_of s.traffic p j) c
 
-    knows_told : (j : ℕ) (c : PlainCell) → slice_get cs j ≡ Some c → j ≢ m → CellKnows rows j (told_to s d.row.sent j c).holds (told_to s d.row.sent j c).exit
+    knows_told : (j : ℕ) (c : PlainCell) → slice_get cs j ≡ Some c → j ≢ m → CellKnows rows j (told_to s.traffic d.row.sent j c).holds (told_to s.traffic d.row.sent j c).exit
     knows_told j c g ne =
         let same = told_holds d.row.sent j c in
-        subst (λ r. CellKnows rows j r (told_to s d.row.sent j c).exit) (sym same.0) (subst (CellKnows rows j c.holds) (sym same.1) (knows_on j ne c.holds c.exit (was.knows j c g)))
+        subst (λ r. CellKnows rows j r (told_to s.traffic d.row.sent j c).exit) (sym same.0) (subst (CellKnows rows j c.holds) (sym same.1) (knows_on j ne c.holds c.exit (was.knows j c g)))
 
     -- ---- the stepping member
 
@@ -392,7 +392,7 @@ module _ (s : Setting) (fit : IsFit s) where
           let held : r.memory.held ≡ put name_cmp n0 b.ink mem.held = b.held ∙ ap (put name_cmp n0 b.ink) g.held in
           let here : (t : Told) → d.row.told ≡ t → Now t m n0 = λ t h. record { member = row_member; told_so = h; packet = p; about = about; sent = sent; carries = carries_it p.body n0 b.ink b.brings } in
           let drawn : Drew n0.source n0 b.ink trace = was.inks p n0 b.ink sent b.brings in
-          let only : (t : Told) (n : Name) → Now t m n → n0 ≡ n = λ t n h. (let same : h.packet ≡ p = was.handed.one h.packet p h.sent sent (same_of h.packet.id p.id (sym h.about ∙ about)) in
+          let only : (t : Told) (n : Name) → Now t m n → n0 ≡ n = λ t n h. (let same : h.packet ≡ p = same_of h.packet p (sym h.about ∙ about) in
           carries_one p.body n0 n b.ink b.brings (subst (λ (x : Packet). Carries n x.body) same h.carries)) in
           let got_it : Got m n0 rows = (elim b.mends [
             | inl h ↦ inr (inl (told_now Fresh m n0 (here Fresh (a.told ∙ h.0))))
@@ -460,7 +460,7 @@ module _ (s : Setting) (fit : IsFit s) where
           same_packet : (x y : Packet) → Some (Arrival x) ≡ Some (Arrival y) → x ≡ y
           same_packet x y h = cc
 
-          same_of : (x y : PacketId) → Of x ≡ Of y → x ≡ y
+          same_of : (x y : Packet) → Of x ≡ Of y → x ≡ y
           same_of x y h = cc
 
           not_both : d.row.told ≡ Fresh → d.row.told ≡ Fixed → ⊥
@@ -469,7 +469,7 @@ module _ (s : Setting) (fit : IsFit s) where
           is_arrival : e.cause ≡ Some (Arrival p)
           is_arrival = a.is ∙ ap Some arrives
 
-          about : d.row.about ≡ Of p.id
+          about : d.row.about ≡ Of p
           about = a.about ∙ ap (λ c. about_of (Some c) r.answer.body) arrives
 
           sent_by : Takes facts.cell e → SentIn p trace
@@ -603,7 +603,7 @@ module _ (s : Setting) (fit : IsFit s) where
   none_lost_yet : (j : ℕ) (n : Name) → ¬ Lost j n []
   none_lost_yet j n h = contains_none h.0 h.1
 
-  knows_nothing : (j : ℕ) → j < s.members → CellKnows [] j (opening_cell s j).holds (opening_cell s j).exit
+  knows_nothing : (j : ℕ) → j < s.traffic.members → CellKnows [] j (opening_cell s j).holds (opening_cell s j).exit
   knows_nothing j lt = record {
     member = fit.numbers j lt;
     keeps = record {
@@ -620,7 +620,7 @@ module _ (s : Setting) (fit : IsFit s) where
     plans = λ n h. cc;
   }
 
-  opening_knows : (n i : ℕ) → i + n ≡ s.members → (j : ℕ) (c : PlainCell) → slice_get (opening_cells s n i) j ≡ Some c → CellKnows [] (i + j) c.holds c.exit
+  opening_knows : (n i : ℕ) → i + n ≡ s.traffic.members → (j : ℕ) (c : PlainCell) → slice_get (opening_cells s n i) j ≡ Some c → CellKnows [] (i + j) c.holds c.exit
   unfolding opening_cells
   opening_knows zero i e j c h = cc
   opening_knows (suc n) i e zero c h =
@@ -634,7 +634,7 @@ module _ (s : Setting) (fit : IsFit s) where
   unfolding opening
   names_opening = record {
     handed = handed_opening s;
-    knows = λ j c h. (let same : 0 + j ≡ j = omega arith in subst (λ x. CellKnows [] x c.holds c.exit) same (opening_knows s.members 0 (omega arith) j c h));
+    knows = λ j c h. (let same : 0 + j ≡ j = omega arith in subst (λ x. CellKnows [] x c.holds c.exit) same (opening_knows s.traffic.members 0 (omega arith) j c h));
     source = λ j n ink h. absurd (none_drew j n ink h);
     one = λ n a b h g. absurd (none_drew n.source n a h);
     inks = λ p n ink h b. absurd (contains_none h.0 h.1);

@@ -41,7 +41,7 @@ module _ (s : Setting) (fit : IsFit s) where
   strict_seq end (next {cs = cs} {e = e} {d = d} h x more) good strict = strict_seq end more (good_step s fit end cs e d good h x) (strict_step s fit end cs e d good strict h x)
 
   pub strict_reached : (n : ℕ) (w : World) → run s n (opening s) ≡ Done w → Strict s fit w.cells
-  strict_reached n w h = strict_seq s.until (run_seq s fit n (opening s) w h).1 (good_opening s fit) (strict_opening s fit)
+  strict_reached n w h = strict_seq s.traffic.until (run_seq s fit n (opening s) w h).1 (good_opening s fit) (strict_opening s fit)
 
   module _ (end : ℕ) (cs : List PlainCell) (e : Event) (d : Stepped) (good : Good s fit cs) (strict : Strict s fit cs) (h : before end (least_event 0 cs) ≡ Some e) (x : step_at (Some e) ≡ Done d) where
     pub is_new : (p : Packet) → d.row.sent ≡ Some p → IsNew p.id (slice_set cs e.key.member d.cell)

@@ -211,17 +211,17 @@ module _ (s : Setting) where
   pub here_after : (m : ℕ) (d : Stepped) (cs : List PlainCell) (c : PlainCell) → slice_get cs m ≡ Some c → slice_get (settled s m d 0 cs) m ≡ Some d.cell
   here_after m d cs c h =
       let yes : (m == m) ≡ true = eq-eqb _ _ refl in
-      get_after s m d m cs ∙ ap (option_map (at_member s m d m)) h ∙ ap (λ b. Some (cond b d.cell (told_to s d.row.sent m c))) yes
+      get_after s m d m cs ∙ ap (option_map (at_member s m d m)) h ∙ ap (λ b. Some (cond b d.cell (told_to s.traffic d.row.sent m c))) yes
 
   -- every other hears what was sent
-  pub there_after : (m : ℕ) (d : Stepped) (cs : List PlainCell) (j : ℕ) → j ≢ m → slice_get (settled s m d 0 cs) j ≡ option_map (told_to s d.row.sent j) (slice_get cs j)
+  pub there_after : (m : ℕ) (d : Stepped) (cs : List PlainCell) (j : ℕ) → j ≢ m → slice_get (settled s m d 0 cs) j ≡ option_map (told_to s.traffic d.row.sent j) (slice_get cs j)
   there_after m d cs j ne =
       let no : (j == m) ≡ false = (elim (j == m) as (λ b. (j == m) ≡ b → (j == m) ≡ false) [ true ↦ λ q. absurd (ne (eqb-true _ _ q)) | false ↦ λ q. q ] refl) in
-      get_after s m d j cs ∙ ap (λ b. option_map (λ c. cond b d.cell (told_to s d.row.sent j c)) (slice_get cs j)) no
+      get_after s m d j cs ∙ ap (λ b. option_map (λ c. cond b d.cell (told_to s.traffic d.row.sent j c)) (slice_get cs j)) no
 
   -- what holds of the step's cell, and of every other after it heard what was sent, holds of each cell
   pub each_after : (Q : ℕ → PlainCell → Type 0) (cs : List PlainCell) (m : ℕ) (d : Stepped) (b : PlainCell) → slice_get cs m ≡ Some b → Q m d.cell
-      → ((j : ℕ) (c : PlainCell) → slice_get cs j ≡ Some c → j ≢ m → Q j (told_to s d.row.sent j c))
+      → ((j : ℕ) (c : PlainCell) → slice_get cs j ≡ Some c → j ≢ m → Q j (told_to s.traffic d.row.sent j c))
       → (j : ℕ) (c : PlainCell) → slice_get (settled s m d 0 cs) j ≡ Some c → Q j c
   each_after Q cs m d b here h g j c e = elim (j == m) as (λ x. (j == m) ≡ x → Q j c) [
     | true ↦ λ q.
@@ -232,9 +232,9 @@ module _ (s : Setting) where
   ] refl
     where
       by_cell : (o : Option PlainCell) → slice_get cs j ≡ o → j ≢ m → Q j c
-      by_cell None f ne = let x : None ≡ Some c = sym (there_after m d cs j ne ∙ ap (option_map (told_to s d.row.sent j)) f) ∙ e in cc
+      by_cell None f ne = let x : None ≡ Some c = sym (there_after m d cs j ne ∙ ap (option_map (told_to s.traffic d.row.sent j)) f) ∙ e in cc
       by_cell (Some a) f ne =
-          let cell : told_to s d.row.sent j a ≡ c = same_some _ _ (sym (there_after m d cs j ne ∙ ap (option_map (told_to s d.row.sent j)) f) ∙ e) in
+          let cell : told_to s.traffic d.row.sent j a ≡ c = same_some _ _ (sym (there_after m d cs j ne ∙ ap (option_map (told_to s.traffic d.row.sent j)) f) ∙ e) in
           subst (Q j) cell (g j a f ne)
 
   pub length_after : (m : ℕ) (d : Stepped) (i : ℕ) (cs : List PlainCell) → length (settled s m d i cs) ≡ length cs
@@ -249,8 +249,8 @@ module _ (s : Setting) where
 
   -- ---- the run, step by step
 
-  within : s.until ≤ s.until
-  within = le_refl s.until
+  within : s.traffic.until ≤ s.traffic.until
+  within = le_refl s.traffic.until
 
   -- an event is a step, or is refused
   after_moves : (w : World) (e : Event) (o : StepOutcome Stepped) → step_at (Some e) ≡ o → after_step s w e.key.member o ≢ Idle
@@ -261,15 +261,15 @@ module _ (s : Setting) where
   after_moves w e (Done d) h g = cc
 
   -- where the run is over, nothing is pending before `until`
-  pub nothing_left : (w : World) → step s w ≡ Idle → before s.until (least_event 0 w.cells) ≡ None
-  nothing_left w h = elim (before s.until (least_event 0 w.cells)) as (λ o. before s.until (least_event 0 w.cells) ≡ o → before s.until (least_event 0 w.cells) ≡ None) [
+  pub nothing_left : (w : World) → step s w ≡ Idle → before s.traffic.until (least_event 0 w.cells) ≡ None
+  nothing_left w h = elim (before s.traffic.until (least_event 0 w.cells)) as (λ o. before s.traffic.until (least_event 0 w.cells) ≡ o → before s.traffic.until (least_event 0 w.cells) ≡ None) [
     | None ↦ λ q. q
-    | Some e ↦ λ q. absurd (after_moves w e (step_at (Some e)) refl (sym (step_is s s.until within w e q) ∙ h))
+    | Some e ↦ λ q. absurd (after_moves w e (step_at (Some e)) refl (sym (step_is s s.traffic.until within w e q) ∙ h))
   ] refl
 
   -- what holds of a world, and is kept by each step, holds of all worlds to which the run comes from there
   pub run_keeps : (P : World → Type 0)
-      → ((w : World) (e : Event) (d : Stepped) → Steps s.until w.cells e d → P w → P (record { cells = settled s e.key.member d 0 w.cells; trace = w.trace ++ d.row ∷ [] }))
+      → ((w : World) (e : Event) (d : Stepped) → Steps s.traffic.until w.cells e d → P w → P (record { cells = settled s e.key.member d 0 w.cells; trace = w.trace ++ d.row ∷ [] }))
       → (n : ℕ) (w v : World) → P w → run s n w ≡ Done v → P v
   unfolding run after_step
   run_keeps P kept zero w v p h = let e : w ≡ v = same_done w v h in subst P e p
@@ -277,11 +277,11 @@ module _ (s : Setting) where
       same_done : (a b : World) → Done a ≡ Done b → a ≡ b
       same_done a b e = cc
   run_keeps P kept (suc n) w v p h =
-      let by = sym (run_first s s.until within n w) ∙ h in
-      elim (before s.until (least_event 0 w.cells)) as (λ o. before s.until (least_event 0 w.cells) ≡ o → P v) [
-        | None ↦ λ e. let x : Idle ≡ Done v = sym (ap (run_by s s.until within n) (step_none s s.until within w e)) ∙ by in cc
+      let by = sym (run_first s s.traffic.until within n w) ∙ h in
+      elim (before s.traffic.until (least_event 0 w.cells)) as (λ o. before s.traffic.until (least_event 0 w.cells) ≡ o → P v) [
+        | None ↦ λ e. let x : Idle ≡ Done v = sym (ap (run_by s s.traffic.until within n) (step_none s s.traffic.until within w e)) ∙ by in cc
         | Some e ↦ λ b.
-            let stepped = λ (o : StepOutcome Stepped) (x : step_at (Some e) ≡ o). sym (ap (run_by s s.until within n) (step_is s s.until within w e b ∙ ap (after_step s w e.key.member) x)) ∙ by in
+            let stepped = λ (o : StepOutcome Stepped) (x : step_at (Some e) ≡ o). sym (ap (run_by s s.traffic.until within n) (step_is s s.traffic.until within w e b ∙ ap (after_step s w e.key.member) x)) ∙ by in
             elim (step_at (Some e)) as (λ o. step_at (Some e) ≡ o → P v) [
               | Idle ↦ λ x. absurd (some_not_idle e x)
               | Full ↦ λ x. let y : Full ≡ Done v = stepped Full x in cc
@@ -307,13 +307,13 @@ module _ (s : Setting) where
   not_true false h = refl
 
   -- a flight is to another member, and arrives before the end of the run
-  pub arrival_is : (p : Packet) (m at : ℕ) → arrival_of s p m ≡ Some at → (m < s.members) × (m ≢ p.id.sender) × (at < s.until)
+  pub arrival_is : (p : Packet) (m at : ℕ) → arrival_of s.traffic p m ≡ Some at → (m < s.traffic.members) × (m ≢ p.id.sender) × (at < s.traffic.until)
   arrival_is p m at h =
-      let time = p.sent + s.distance p.id.sender m in
+      let time = p.sent + s.traffic.distance p.id.sender m in
       let h0 = if_some _ _ at h in
-      let h1 = and_parts (nat_lt m s.members) _ h0.0 in
+      let h1 = and_parts (nat_lt m s.traffic.members) _ h0.0 in
       let h2 = and_parts (not (m == p.id.sender)) _ h1.1 in
-      let h3 = and_parts (s.reaches p.id m) _ h2.1 in
-      let h4 = and_parts (nat_le (s.join m) time) _ h3.1 in
-      let h5 = and_parts (is_up_to time (s.leave m)) _ h4.1 in
+      let h3 = and_parts (s.traffic.reaches p m) _ h2.1 in
+      let h4 = and_parts (nat_le (s.traffic.join m) time) _ h3.1 in
+      let h5 = and_parts (is_up_to time (s.traffic.leave m)) _ h4.1 in
       (ltb-true _ _ h1.0, eqb-false _ _ (not_true _ h2.0), (let lt = ltb-true _ _ h5.1 in let same = h0.1 in omega arith))

@@ -15,8 +15,8 @@ use Rattle.srm_cell.specs.Cells.{PlainCell, new_cell, opening_cell, next_event, 
 use Rattle.srm_cell.specs.Views.{IsCell}
 use Rattle.srm_engine.specs.World.{World, opening, opening_cells}
 use Rattle.srm_engine.specs.Seen.{AreTimes, AreCells, AreSeen}
-use Rattle.srm_engine.specs.Totalled.{numbers_of}
-use Rattle.srm_engine.specs.Outcomes.{records_from}
+use Rattle.srm_cell.specs.Totalled.{numbers_of}
+use Rattle.srm_engine.specs.Openings.{records_from}
 use Rattle.srm_engine.proofs.SeenLemmas.{same_some}
 
 get_last : {A : Type 0} (xs : List A) (x y : A) (j : ℕ) → slice_get (xs ++ x ∷ []) j ≡ Some y → (slice_get xs j ≡ Some y) ⊎ ((j ≡ length xs) × (x ≡ y))
@@ -90,23 +90,23 @@ one_more_cell s (suc n) i = let e : suc i + n ≡ i + suc n = omega arith in ap 
 pub next_opening : (s : Setting) (n : ℕ) → opening_cells s (n + 1) 0 ≡ opening_cells s n 0 ++ opening_cell s n ∷ []
 next_opening s n = let e : 0 + n ≡ n = omega arith in ap (λ k. opening_cells s k 0) (add-one n) ∙ one_more_cell s n 0 ∙ ap (λ k. opening_cells s n 0 ++ opening_cell s k ∷ []) e
 
-pub opening_is : (s : Setting) → opening_cells s s.members 0 ≡ (opening s).cells
+pub opening_is : (s : Setting) → opening_cells s s.traffic.members 0 ≡ (opening s).cells
 unfolding opening
 opening_is s = refl
 
 -- ---- nothing is counted yet
 
-nothing_from : (s : Setting) (l n : ℕ) → replicate (5 * n) 0 ≡ flat_map (crossings_at s []) (range_with_len l n)
+nothing_from : (s : Setting) (l n : ℕ) → replicate (5 * n) 0 ≡ flat_map (crossings_at s.traffic []) (range_with_len l n)
 nothing_from s l zero = refl
 nothing_from s l (suc n) =
     let e : 5 * suc n ≡ suc (suc (suc (suc (suc (5 * n))))) = omega arith in
     ap (λ k. replicate k 0) e ∙ ap (λ t. 0 ∷ 0 ∷ 0 ∷ 0 ∷ 0 ∷ t) (nothing_from s (l + 1) n)
 
-pub nothing_counted : (s : Setting) → nothing_at s.links ≡ numbers_of s (packets_of (opening s).trace)
+pub nothing_counted : (s : Setting) → nothing_at s.traffic.links ≡ numbers_of s.traffic (packets_of (opening s).trace)
 unfolding numbers_of opening
-nothing_counted s = nothing_from s 0 s.links
+nothing_counted s = nothing_from s 0 s.traffic.links
 
-pub totals_are : (s : Setting) (w : World) → numbers_of s (packets_of w.trace) ≡ crossings s w.trace
+pub totals_are : (s : Setting) (w : World) → numbers_of s.traffic (packets_of w.trace) ≡ crossings s.traffic w.trace
 unfolding numbers_of crossings
 totals_are s w = refl
 

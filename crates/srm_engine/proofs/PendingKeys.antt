@@ -73,39 +73,39 @@ module _ (P : Key → Type 0) where
   above_keys m c a = AllIn-append P (map (arrival_key m) c.inbox) (map (mark_key m) c.script ++ map (timer_key m) (timers c.holds)) (AllIn-map P (arrival_key m) c.inbox a.flights)
       (AllIn-append P (map (mark_key m) c.script) (map (timer_key m) (timers c.holds)) (AllIn-map P (mark_key m) c.script a.marks) (AllIn-map P (timer_key m) (timers c.holds) a.dues))
 
-  each_above : (i : ℕ) (cs : List PlainCell) → AllIn P (keys_from i cs) → (j : ℕ) (c : PlainCell) → slice_get cs j ≡ Some c → Above P (i + j) c
+  pub each_above : (i : ℕ) (cs : List PlainCell) → AllIn P (keys_from i cs) → (j : ℕ) (c : PlainCell) → slice_get cs j ≡ Some c → Above P (i + j) c
   each_above i [] h j c g = let y : ⊥ = cc in absurd y
   each_above i (x ∷ cs) h zero c g =
       let same : x ≡ c = cc in
       rw add-zero (subst (Above P i) same (cell_above i x (AllIn-first P (pending_keys i x) (keys_from (suc i) cs) h)))
   each_above i (x ∷ cs) h (suc j) c g = rw (shifted i j) (each_above (suc i) cs (AllIn-second P (pending_keys i x) (keys_from (suc i) cs) h) j c g)
 
-  all_above_keys : (i : ℕ) (cs : List PlainCell) → ((j : ℕ) (c : PlainCell) → slice_get cs j ≡ Some c → Above P (i + j) c) → AllIn P (keys_from i cs)
+  pub all_above_keys : (i : ℕ) (cs : List PlainCell) → ((j : ℕ) (c : PlainCell) → slice_get cs j ≡ Some c → Above P (i + j) c) → AllIn P (keys_from i cs)
   all_above_keys i [] h = tt
   all_above_keys i (c ∷ cs) h = AllIn-append P (pending_keys i c) (keys_from (suc i) cs) (above_keys i c (rw add-zero at (h 0 c refl)))
       (all_above_keys (suc i) cs (λ j b g. rw (shifted i j) at (h (suc j) b g)))
 
   -- where P holds of later keys, and of all that is pending before a step, it holds of all that is pending after it
-  kept_above : (s : Setting) (fit : IsFit s) (cs : List PlainCell) (e : Event) (d : Stepped) → Good s fit cs → before s.until (least_event 0 cs) ≡ Some e → step_at (Some e) ≡ Done d
+  kept_above : (s : Setting) (fit : IsFit s) (cs : List PlainCell) (e : Event) (d : Stepped) → Good s fit cs → before s.traffic.until (least_event 0 cs) ≡ Some e → step_at (Some e) ≡ Done d
       → ((k : Key) → e.key.time < k.time → P k) → EachCell s fit (Above P) cs → EachCell s fit (Above P) (settled s e.key.member d 0 cs)
   kept_above s fit cs e d good h x later all =
-      let f = step_facts s fit s.until cs e d h x in
+      let f = step_facts s fit s.traffic.until cs e d h x in
       let m = e.key.member in
-      let a = subst (OnEvent (IsAbove P m)) f.event (before_on (IsAbove P m) s.until (next_event m f.cell) (next_above P m f.cell (all m f.cell f.here))) in
-      above_step s fit s.until P cs e d good h x later (subst (OnStep (λ d. Above P m d.cell)) x (step_above P m e.key.time later e refl a.1)) (λ j c g ne. all j c g)
+      let a = subst (OnEvent (IsAbove P m)) f.event (before_on (IsAbove P m) s.traffic.until (next_event m f.cell) (next_above P m f.cell (all m f.cell f.here))) in
+      above_step s fit s.traffic.until P cs e d good h x later (subst (OnStep (λ d. Above P m d.cell)) x (step_above P m e.key.time later e refl a.1)) (λ j c g ne. all j c g)
 
 -- the cells after a step that is made
-step_cells : (s : Setting) (w v : World) (e : Event) → before s.until (least_event 0 w.cells) ≡ Some e → step s w ≡ Done v → (d : Stepped) × (step_at (Some e) ≡ Done d) × (v.cells ≡ settled s e.key.member d 0 w.cells)
+step_cells : (s : Setting) (w v : World) (e : Event) → before s.traffic.until (least_event 0 w.cells) ≡ Some e → step s w ≡ Done v → (d : Stepped) × (step_at (Some e) ≡ Done d) × (v.cells ≡ settled s e.key.member d 0 w.cells)
 step_cells s w v e h done =
-    let within = le_refl s.until in
-    let is = λ (o : StepOutcome Stepped) (x : step_at (Some e) ≡ o). sym (step_is s s.until within w e h ∙ ap (after_step s w e.key.member) x) ∙ done in
+    let within = le_refl s.traffic.until in
+    let is = λ (o : StepOutcome Stepped) (x : step_at (Some e) ≡ o). sym (step_is s s.traffic.until within w e h ∙ ap (after_step s w e.key.member) x) ∙ done in
     elim (step_at (Some e)) as (λ o. step_at (Some e) ≡ o → (d : Stepped) × (step_at (Some e) ≡ Done d) × (v.cells ≡ settled s e.key.member d 0 w.cells)) [
       | Idle ↦ λ x. absurd (some_not_idle e x)
-      | Full ↦ λ x. let y : Full ≡ Done v = sym (after_full s s.until within w e.key.member) ∙ is Full x in let z : ⊥ = cc in absurd z
-      | Spent ↦ λ x. let y : Spent ≡ Done v = sym (after_spent s s.until within w e.key.member) ∙ is Spent x in let z : ⊥ = cc in absurd z
+      | Full ↦ λ x. let y : Full ≡ Done v = sym (after_full s s.traffic.until within w e.key.member) ∙ is Full x in let z : ⊥ = cc in absurd z
+      | Spent ↦ λ x. let y : Spent ≡ Done v = sym (after_spent s s.traffic.until within w e.key.member) ∙ is Spent x in let z : ⊥ = cc in absurd z
       | Done d ↦ λ x.
           let u : World = record { cells = settled s e.key.member d 0 w.cells; trace = w.trace ++ d.row ∷ [] } in
-          let y : ◌≡◌ {A = StepOutcome World} (Done u) (Done v) = sym (after_stepped s s.until within w e.key.member d) ∙ is (Done d) x in
+          let y : ◌≡◌ {A = StepOutcome World} (Done u) (Done v) = sym (after_stepped s s.traffic.until within w e.key.member d) ∙ is (Done d) x in
           let same : u ≡ v = cc in
           (d, x, ap (λ (b : World). b.cells) (sym same))
     ] refl

@@ -1,21 +1,25 @@
 -- What the phases of a run tell.
-use Rattle.std.proofs.Common.{◌≡◌, ℕ, false, cond, List, [], ◌∷◌, Some, None, Result, Ok, Err, inl, inr, refl, sym, ap, ◌∙◌, true≢false, suc, ◌+◌, length, map, slice_get, subst, arith, zero-add}
+use Rattle.std.proofs.Common.{◌≡◌, ◌≢◌, ℕ, Option, le_refl, false, cond, List, [], ◌∷◌, Some, None, Result, Ok, Err, inl, inr, refl, sym, ap, ◌∙◌, true≢false, suc, ◌+◌, length, map, slice_get, subst, arith, zero-add}
 use Rattle.std.specs.Result.{is_ok, is_err}
 use Rattle.std.specs.declared.dyn_box.DynBox.{DynBox}
 use Rattle.std.specs.Global.{Global}
 use Rattle.srm_member.specs.declared.exit.Exit.{Exit}
 use Rattle.srm_member.specs.Record.{Record, Active, Gone}
 use Rattle.srm_cell.specs.Setting.{Setting}
-use Rattle.srm_cell.specs.Cells.{PlainCell}
+use Rattle.srm_cell.specs.declared.fault.CellFault.{CellFault}
+use Rattle.srm_cell.specs.declared.fault.CellFault.TheVariants as cell
+use Rattle.srm_cell.specs.Cells.{PlainCell, StepOutcome, Stepped}
 use Rattle.srm_cell.specs.Views.{TellsExit, EndsWith, IsCell}
-use Rattle.srm_engine.specs.declared.cells.Engine.{Engine}
+use Rattle.srm_engine.specs.declared.engine.Engine.{Engine}
 use Rattle.srm_engine.specs.declared.fault.RunFault.{RunFault}
 use Rattle.srm_engine.specs.declared.fault.RunFault.TheVariants as fault
-use Rattle.srm_engine.specs.World.{World, IsReached, step, exit_at, exits_of}
-use Rattle.srm_engine.specs.Shown.{TellsWorld}
+use Rattle.srm_engine.specs.World.{World, IsReached, step, after_step, exit_at, exits_of}
+use Rattle.srm_engine.specs.Faults.{fault_of}
+use Rattle.srm_engine.specs.Engines.{TellsWorld}
 use Rattle.srm_engine.specs.Outcomes.{TellsTrace, TellsRun, EndAs}
-use Rattle.srm_engine.specs.Seen.{AreCells}
+use Rattle.srm_engine.specs.Seen.{AreCells, TellsTake}
 use Rattle.srm_cell.specs.declared.cell.Cell.{Cell}
+use Rattle.srm_engine.proofs.RunLemmas.{after_full}
 use Rattle.srm_engine.proofs.Stepping.{meets_full}
 
 pub pushed_if : {A E : Type 0} {B : Type 0} (r : Result A E) (xs ys zs : List B) → is_err r ≡ false → zs ≡ cond (is_ok r) xs ys → zs ≡ xs
@@ -31,7 +35,14 @@ ended p x (inl e) = sym (ap (exit_at p.holds) e)
 ended p x (inr e) = ends p.holds x e.1 ∙ sym (ap (exit_at p.holds) e.0)
 
 module _ {X : Type 0} {H : X → Type 0} where
-  pub not_traced : (f : DynBox X Global H → Record) (s : Setting) (w : World) (x : RunFault) (after : Engine X H) → IsReached s w → TellsWorld f s w (step s w) (Err x) after → TellsTrace f s (Err x) after
+  -- what a member's refused step tells of the step of the run
+  pub refused : (f : DynBox X Global H → Record) (s : Setting) (w : World) (m : ℕ) (ps : List PlainCell) (o : StepOutcome Stepped) (x : CellFault) (cs : List (Cell X H)) (ts : List (Option ℕ)) (after : Engine X H)
+      → x ≢ cell.Spent → TellsTake f m ps o (Err x) cs ts → step s w ≡ after_step s w m o → TellsWorld f w (step s w) (Err (fault_of x)) after
+  refused f s w m ps o cell.NoMemory cs ts after ne h e = tt
+  refused f s w m ps o cell.CountFull cs ts after ne h e = e ∙ ap (after_step s w m) h ∙ after_full s s.traffic.until (le_refl s.traffic.until) w m
+  refused f s w m ps o cell.Spent cs ts after ne h e = absurd (ne refl)
+
+  pub not_traced : (f : DynBox X Global H → Record) (s : Setting) (w : World) (x : RunFault) (after : Engine X H) → IsReached s w → TellsWorld f w (step s w) (Err x) after → TellsTrace f s (Err x) after
   not_traced f s w fault.NoMemory after r h = tt
   not_traced f s w fault.CountFull after r h = meets_full s w r h
 

@@ -82,12 +82,12 @@ total (n ∷ ns) = n + total ns
 
 module _ (s : Setting) (end : ℕ) where
   -- an own run ends as it would have without a late packet
-  pub end_late : (x : Option Packet) → ((p : Packet) → x ≡ Some p → (m at : ℕ) → arrival_of s p m ≡ Some at → end ≤ at) → (m n : ℕ) (c : PlainCell) (b : Bool) → own_end end m n c ≡ ending b → own_end end m n (told_to s x m c) ≡ ending b
-  end_late x late m zero c b h = end_now end m (told_to s x m c) ∙ told_late s end m x late c ∙ ap (outcome_map (stepped_map (told_to s x m))) (sym (end_now end m c) ∙ h) ∙ map_ending _ b
+  pub end_late : (x : Option Packet) → ((p : Packet) → x ≡ Some p → (m at : ℕ) → arrival_of s.traffic p m ≡ Some at → end ≤ at) → (m n : ℕ) (c : PlainCell) (b : Bool) → own_end end m n c ≡ ending b → own_end end m n (told_to s.traffic x m c) ≡ ending b
+  end_late x late m zero c b h = end_now end m (told_to s.traffic x m c) ∙ told_late s.traffic end m x late c ∙ ap (outcome_map (stepped_map (told_to s.traffic x m))) (sym (end_now end m c) ∙ h) ∙ map_ending _ b
   end_late x late m (suc n) c b h =
-      let step = λ (o : StepOutcome Stepped) (e : own_step end m c ≡ o). end_first end m n (told_to s x m c) ∙ ap (end_by end m n) (told_late s end m x late c ∙ ap (outcome_map (stepped_map (told_to s x m))) e) in
+      let step = λ (o : StepOutcome Stepped) (e : own_step end m c ≡ o). end_first end m n (told_to s.traffic x m c) ∙ ap (end_by end m n) (told_late s.traffic end m x late c ∙ ap (outcome_map (stepped_map (told_to s.traffic x m))) e) in
       let was = λ (o : StepOutcome Stepped) (e : own_step end m c ≡ o). sym (ap (end_by end m n) e) ∙ sym (end_first end m n c) ∙ h in
-      elim (own_step end m c) as (λ o. own_step end m c ≡ o → own_end end m (suc n) (told_to s x m c) ≡ ending b) [
+      elim (own_step end m c) as (λ o. own_step end m c ≡ o → own_end end m (suc n) (told_to s.traffic x m c) ≡ ending b) [
         | Idle ↦ λ e. step Idle e ∙ was Idle e
         | Full ↦ λ e. step Full e ∙ was Full e
         | Spent ↦ λ e. step Spent e ∙ was Spent e
@@ -101,7 +101,7 @@ module _ (s : Setting) (end : ℕ) where
   Ends i _ _ _ = ⊥
 
   IsLateRow : Option Packet → Type 0
-  IsLateRow x = (p : Packet) → x ≡ Some p → (m at : ℕ) → arrival_of s p m ≡ Some at → end ≤ at
+  IsLateRow x = (p : Packet) → x ≡ Some p → (m at : ℕ) → arrival_of s.traffic p m ≡ Some at → end ≤ at
 
   off : (i a : ℕ) → i ≢ a → (i == a) ≡ false
   off i a ne = elim (i == a) as (λ x. (i == a) ≡ x → (i == a) ≡ false) [ true ↦ λ e. absurd (ne (eqb-true _ _ e)) | false ↦ λ e. e ] refl
@@ -246,21 +246,21 @@ module _ (s : Setting) (end : ℕ) where
   seq_schedule rest = ([], stop)
   seq_schedule (next {cs = cs} {e = e} {d = d} h x more) = let g = seq_schedule more in (e.key.member ∷ g.0, go (least_own end cs e h ∙ x) g.1)
 
-  module _ (within : end ≤ s.until) where
+  module _ (within : end ≤ s.traffic.until) where
     abbrev pub run_by : ℕ → StepOutcome World → StepOutcome World
     run_by n o = elim o [ Idle ↦ Idle | Full ↦ Full | Spent ↦ Spent | Done v ↦ run s n v ]
 
-    pub run_first : (n : ℕ) (w : World) → run s (suc n) w ≡ run_by n (step_to s s.until w)
+    pub run_first : (n : ℕ) (w : World) → run s (suc n) w ≡ run_by n (step_to s s.traffic.until w)
     unfolding run
     run_first n w = refl
 
-    pub step_none : (w : World) → before s.until (least_event 0 w.cells) ≡ None → step_to s s.until w ≡ Idle
+    pub step_none : (w : World) → before s.traffic.until (least_event 0 w.cells) ≡ None → step_to s s.traffic.until w ≡ Idle
     unfolding step_to step_of
     step_none w h = ap (step_of s w) h
 
-    pub step_is : (w : World) (e : Event) → before end (least_event 0 w.cells) ≡ Some e → step_to s s.until w ≡ after_step s w e.key.member (step_at (Some e))
+    pub step_is : (w : World) (e : Event) → before end (least_event 0 w.cells) ≡ Some e → step_to s s.traffic.until w ≡ after_step s w e.key.member (step_at (Some e))
     unfolding step_to step_of
-    step_is w e h = ap (step_of s w) (before_more end s.until within (least_event 0 w.cells) e h)
+    step_is w e h = ap (step_of s w) (before_more end s.traffic.until within (least_event 0 w.cells) e h)
 
     pub after_stepped : (w : World) (m : ℕ) (d : Stepped) → after_step s w m (Done d) ≡ Done (record { cells = settled s m d 0 w.cells; trace = w.trace ++ d.row ∷ [] })
     unfolding after_step

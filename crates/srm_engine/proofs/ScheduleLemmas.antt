@@ -50,13 +50,13 @@ module _ (s : Setting) (end : ℕ) where
   step_late cs safe m d e = let h = present end m (slice_get cs m) d e in first_late m h.0 d h.2 (safe m h.0 h.1)
 
   -- a late packet changes none of the rows of an own run
-  pub own_rows_late : (x : Option Packet) → ((p : Packet) → x ≡ Some p → (m at : ℕ) → arrival_of s p m ≡ Some at → end ≤ at) → (m n : ℕ) (c : PlainCell) → own_rows end m n (told_to s x m c) ≡ own_rows end m n c
+  pub own_rows_late : (x : Option Packet) → ((p : Packet) → x ≡ Some p → (m at : ℕ) → arrival_of s.traffic p m ≡ Some at → end ≤ at) → (m n : ℕ) (c : PlainCell) → own_rows end m n (told_to s.traffic x m c) ≡ own_rows end m n c
   unfolding own_rows
   own_rows_late x late m zero c = refl
   own_rows_late x late m (suc n) c =
-      let step = λ (o : StepOutcome Stepped) (e : own_step end m c ≡ o). rows_first end m n (told_to s x m c) ∙ ap (rows_by end m n) (told_late s end m x late c ∙ ap (outcome_map (stepped_map (told_to s x m))) e) in
+      let step = λ (o : StepOutcome Stepped) (e : own_step end m c ≡ o). rows_first end m n (told_to s.traffic x m c) ∙ ap (rows_by end m n) (told_late s.traffic end m x late c ∙ ap (outcome_map (stepped_map (told_to s.traffic x m))) e) in
       let was = λ (o : StepOutcome Stepped) (e : own_step end m c ≡ o). rows_first end m n c ∙ ap (rows_by end m n) e in
-      elim (own_step end m c) as (λ o. own_step end m c ≡ o → own_rows end m (suc n) (told_to s x m c) ≡ own_rows end m (suc n) c) [
+      elim (own_step end m c) as (λ o. own_step end m c ≡ o → own_rows end m (suc n) (told_to s.traffic x m c) ≡ own_rows end m (suc n) c) [
         | Idle ↦ λ e. step Idle e ∙ sym (was Idle e)
         | Full ↦ λ e. step Full e ∙ sym (was Full e)
         | Spent ↦ λ e. step Spent e ∙ sym (was Spent e)
@@ -85,11 +85,11 @@ module _ (s : Setting) (end : ℕ) where
   not_me k m ne = elim (k == m) as (λ x. (k == m) ≡ x → (k == m) ≡ false) [ true ↦ λ e. absurd (ne (eqb-true _ _ e)) | false ↦ λ e. e ] refl
 
   own_later : (cs : List PlainCell) → Safe s end cs → (a b : ℕ) (da db : Stepped) → a ≢ b → own_of end a (slice_get cs a) ≡ Done da → own_of end b (slice_get cs b) ≡ Done db →
-      own_of end b (slice_get (settled s a da 0 cs) b) ≡ Done (stepped_map (told_to s da.row.sent b) db)
+      own_of end b (slice_get (settled s a da 0 cs) b) ≡ Done (stepped_map (told_to s.traffic da.row.sent b) db)
   own_later cs safe a b da db ne ea eb =
       let h = present end b (slice_get cs b) db eb in
       let off : (b == a) ≡ false = not_me b a (λ e. ne (sym e)) in
-      rw (get_after s a da b cs, h.1) (rw off (rw (told_late s end b da.row.sent (step_late cs safe a da ea) h.0, h.2) refl))
+      rw (get_after s a da b cs, h.1) (rw off (rw (told_late s.traffic end b da.row.sent (step_late cs safe a da ea) h.0, h.2) refl))
 
   -- ---- what comes first may be any member's that has an event pending
 
@@ -115,7 +115,7 @@ module _ (s : Setting) (end : ℕ) where
             let ib = own_of_is end b (slice_get cs b) db eb in
             let ea' = own_later cs safe b a db da (λ e. ne (sym e)) eb ea in
             let eb' = own_later cs safe a b da db ne ea eb in
-            let h = bring a (stepped_map (told_to s db.row.sent a) da) rest (safe_after cs safe b db eb) ea' quiet in
+            let h = bring a (stepped_map (told_to s.traffic db.row.sent a) da) rest (safe_after cs safe b db eb) ea' quiet in
             let swapped = swap_cells s a b ne da db ia.1 ib.1 0 cs in (
               b ∷ h.0,
               db.row ∷ h.1,

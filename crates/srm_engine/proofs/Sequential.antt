@@ -50,13 +50,13 @@ module _ (s : Setting) (fit : IsFit s) where
   abbrev pub EachCell : (ℕ → PlainCell → Type 0) → List PlainCell → Type 0
   EachCell Q cs = (j : ℕ) (c : PlainCell) → slice_get cs j ≡ Some c → Q j c
 
-  each_at : (Q : ℕ → PlainCell → Type 0) (m : ℕ) (d : Stepped) (j : ℕ) (b : PlainCell) → Q m d.cell → (j ≢ m → Q j (told_to s d.row.sent j b)) → Q j (at_member s m d j b)
+  each_at : (Q : ℕ → PlainCell → Type 0) (m : ℕ) (d : Stepped) (j : ℕ) (b : PlainCell) → Q m d.cell → (j ≢ m → Q j (told_to s.traffic d.row.sent j b)) → Q j (at_member s m d j b)
   each_at Q m d j b h g = elim (j == m) as (λ x. (j == m) ≡ x → Q j (at_member s m d j b)) [
     | true ↦ λ e. rw e (subst (λ k. Q k d.cell) (sym (eqb-true _ _ e)) h)
     | false ↦ λ e. rw e (g (eqb-false _ _ e))
   ] refl
 
-  pub each_after : (Q : ℕ → PlainCell → Type 0) (cs : List PlainCell) (m : ℕ) (d : Stepped) → Q m d.cell → ((j : ℕ) (c : PlainCell) → slice_get cs j ≡ Some c → j ≢ m → Q j (told_to s d.row.sent j c)) → EachCell Q (settled s m d 0 cs)
+  pub each_after : (Q : ℕ → PlainCell → Type 0) (cs : List PlainCell) (m : ℕ) (d : Stepped) → Q m d.cell → ((j : ℕ) (c : PlainCell) → slice_get cs j ≡ Some c → j ≢ m → Q j (told_to s.traffic d.row.sent j c)) → EachCell Q (settled s m d 0 cs)
   each_after Q cs m d h g j c e =
       let w = was_some s 0 (at_member s m d j) (slice_get cs j) c (sym (get_after s m d j cs) ∙ e) in
       subst (Q j) w.2 (each_at Q m d j w.0 h (g j w.0 w.1))
@@ -65,13 +65,13 @@ module _ (s : Setting) (fit : IsFit s) where
   hear_at_sound p None c h = h
   hear_at_sound p (Some at) c h = h
 
-  pub told_sound : (x : Option Packet) (m : ℕ) (c : PlainCell) → SoundRecord c.holds → SoundRecord (told_to s x m c).holds
+  pub told_sound : (x : Option Packet) (m : ℕ) (c : PlainCell) → SoundRecord c.holds → SoundRecord (told_to s.traffic x m c).holds
   unfolding hear
   told_sound None m c h = h
-  told_sound (Some p) m c h = hear_at_sound p (arrival_of s p m) c h
+  told_sound (Some p) m c h = hear_at_sound p (arrival_of s.traffic p m) c h
 
   pub record Good (cs : List PlainCell) : Type 0 where
-    pub members : length cs ≡ s.members
+    pub members : length cs ≡ s.traffic.members
     pub tidy : EachCell (λ j c. IsTidy c) cs
     pub sound : EachCell (λ j c. SoundRecord c.holds) cs
 
@@ -107,7 +107,7 @@ module _ (s : Setting) (fit : IsFit s) where
         let taken = subst (OnEvent (Taken f.cell)) f.event (before_on (Taken f.cell) end (next_event e.key.member f.cell) (next_taken e.key.member f.cell)) in
         record {
           members = length-settled e.key.member d 0 cs ∙ good.members;
-          tidy = each_after (λ j c. IsTidy c) cs e.key.member d (subst (OnStep (λ d. IsTidy d.cell)) x (tidy_step e t)) (λ j c g ne. tidy_told s d.row.sent j c (good.tidy j c g));
+          tidy = each_after (λ j c. IsTidy c) cs e.key.member d (subst (OnStep (λ d. IsTidy d.cell)) x (tidy_step e t)) (λ j c g ne. tidy_told s.traffic d.row.sent j c (good.tidy j c g));
           sound = each_after (λ j c. SoundRecord c.holds) cs e.key.member d (subst (OnStep (λ d. SoundRecord d.cell.holds)) x (sound_step e (rest_sound f.cell e taken (good.sound e.key.member f.cell f.here)))) (λ j c g ne. told_sound d.row.sent j c (good.sound j c g));
         }
 
@@ -123,26 +123,26 @@ module _ (s : Setting) (fit : IsFit s) where
         above_least e.key j c (good.tidy j c g) (rw zero-add at (least_of_all e.key 0 cs least j c g))
 
     -- a packet's arrivals come later than the step that sent it
-    told_above : (k : Key) (m : ℕ) (x : Option Packet) → m < s.members → SentBy m x → SentAt k.time x → (j : ℕ) (c : PlainCell) → Above (NotBefore k) j c → Above (NotBefore k) j (told_to s x j c)
+    told_above : (k : Key) (m : ℕ) (x : Option Packet) → m < s.traffic.members → SentBy m x → SentAt k.time x → (j : ℕ) (c : PlainCell) → Above (NotBefore k) j c → Above (NotBefore k) j (told_to s.traffic x j c)
     unfolding hear
     told_above k m None lt by at j c a = a
-    told_above k m (Some p) lt by at j c a = hear_at_above (NotBefore k) j p (arrival_of s p j) c
-        (λ t g. let f = arrival_is s p j t g in
-        let away : 0 < s.distance p.id.sender j = fit.apart p.id.sender j (subst (λ n. n < s.members) (sym by) lt) f.0 (λ e. f.1 (sym e)) in
+    told_above k m (Some p) lt by at j c a = hear_at_above (NotBefore k) j p (arrival_of s.traffic p j) c
+        (λ t g. let f = arrival_is s.traffic p j t g in
+        let away : 0 < s.traffic.distance p.id.sender j = fit.apart p.id.sender j (subst (λ n. n < s.traffic.members) (sym by) lt) f.0 (λ e. f.1 (sym e)) in
         let later = f.2 in
         later_not_before k _ (omega arith)) a
 
     -- a predicate on keys that holds of all that is pending, and of all keys of later times, holds of what is pending after the step
-    told_above_by : (P : Key → Type 0) (t m : ℕ) (x : Option Packet) → ((k : Key) → t < k.time → P k) → m < s.members → SentBy m x → SentAt t x → (j : ℕ) (c : PlainCell) → Above P j c → Above P j (told_to s x j c)
+    told_above_by : (P : Key → Type 0) (t m : ℕ) (x : Option Packet) → ((k : Key) → t < k.time → P k) → m < s.traffic.members → SentBy m x → SentAt t x → (j : ℕ) (c : PlainCell) → Above P j c → Above P j (told_to s.traffic x j c)
     unfolding hear
     told_above_by P t m None later lt by at j c a = a
-    told_above_by P t m (Some p) later lt by at j c a = hear_at_above P j p (arrival_of s p j) c
-        (λ u g. let f = arrival_is s p j u g in
-        let away : 0 < s.distance p.id.sender j = fit.apart p.id.sender j (subst (λ n. n < s.members) (sym by) lt) f.0 (λ e. f.1 (sym e)) in
+    told_above_by P t m (Some p) later lt by at j c a = hear_at_above P j p (arrival_of s.traffic p j) c
+        (λ u g. let f = arrival_is s.traffic p j u g in
+        let away : 0 < s.traffic.distance p.id.sender j = fit.apart p.id.sender j (subst (λ n. n < s.traffic.members) (sym by) lt) f.0 (λ e. f.1 (sym e)) in
         let arrives = f.2 in
         later _ (omega arith)) a
 
-    pub member_below : (cs : List PlainCell) (e : Event) (d : Stepped) → Good cs → before end (least_event 0 cs) ≡ Some e → step_at (Some e) ≡ Done d → e.key.member < s.members
+    pub member_below : (cs : List PlainCell) (e : Event) (d : Stepped) → Good cs → before end (least_event 0 cs) ≡ Some e → step_at (Some e) ≡ Done d → e.key.member < s.traffic.members
     member_below cs e d good h x = let f = step_facts cs e d h x in subst (λ n. e.key.member < n) good.members (get_below cs e.key.member f.cell f.here)
 
     pub above_step : (P : Key → Type 0) (cs : List PlainCell) (e : Event) (d : Stepped) → Good cs → before end (least_event 0 cs) ≡ Some e → step_at (Some e) ≡ Done d → ((k : Key) → e.key.time < k.time → P k)
@@ -156,7 +156,7 @@ module _ (s : Setting) (fit : IsFit s) where
         let f = step_facts cs e d h x in
         let all = above_all cs e good h in
         let m = e.key.member in
-        let lt : m < s.members = subst (λ n. m < n) good.members (get_below cs m f.cell f.here) in
+        let lt : m < s.traffic.members = subst (λ n. m < n) good.members (get_below cs m f.cell f.here) in
         let a = subst (OnEvent (IsAbove (NotBefore e.key) m)) f.event (before_on (IsAbove (NotBefore e.key) m) end (next_event m f.cell) (next_above (NotBefore e.key) m f.cell (all m f.cell f.here))) in
         each_after (Above (NotBefore e.key)) cs m d
         (subst (OnStep (λ d. Above (NotBefore e.key) m d.cell)) x (step_above (NotBefore e.key) m e.key.time (later_not_before e.key) e refl a.1))
@@ -191,26 +191,26 @@ module _ (s : Setting) (fit : IsFit s) where
 
   -- ---- worlds of the sequential run
 
-  pub run_seq : (n : ℕ) (w v : World) → run s n w ≡ Done v → (rows : List Row) × Seq s s.until w.cells rows v.cells × (length rows ≡ n)
+  pub run_seq : (n : ℕ) (w v : World) → run s n w ≡ Done v → (rows : List Row) × Seq s s.traffic.until w.cells rows v.cells × (length rows ≡ n)
   unfolding run
-  run_seq zero w v h = let e : w ≡ v = cc in ([], subst (λ (u : World). Seq s s.until w.cells [] u.cells) e rest, refl)
+  run_seq zero w v h = let e : w ≡ v = cc in ([], subst (λ (u : World). Seq s s.traffic.until w.cells [] u.cells) e rest, refl)
   run_seq (suc n) w v h =
-      let within = le_refl s.until in
-      let by = sym (run_first s s.until within n w) ∙ h in
-      elim (before s.until (least_event 0 w.cells)) as (λ o. before s.until (least_event 0 w.cells) ≡ o → (rows : List Row) × Seq s s.until w.cells rows v.cells × (length rows ≡ suc n)) [
-        | None ↦ λ e. let x : Idle ≡ Done v = sym (ap (run_by s s.until within n) (step_none s s.until within w e)) ∙ by in cc
-        | Some e ↦ λ b. elim (step_at (Some e)) as (λ o. step_at (Some e) ≡ o → (rows : List Row) × Seq s s.until w.cells rows v.cells × (length rows ≡ suc n)) [
+      let within = le_refl s.traffic.until in
+      let by = sym (run_first s s.traffic.until within n w) ∙ h in
+      elim (before s.traffic.until (least_event 0 w.cells)) as (λ o. before s.traffic.until (least_event 0 w.cells) ≡ o → (rows : List Row) × Seq s s.traffic.until w.cells rows v.cells × (length rows ≡ suc n)) [
+        | None ↦ λ e. let x : Idle ≡ Done v = sym (ap (run_by s s.traffic.until within n) (step_none s s.traffic.until within w e)) ∙ by in cc
+        | Some e ↦ λ b. elim (step_at (Some e)) as (λ o. step_at (Some e) ≡ o → (rows : List Row) × Seq s s.traffic.until w.cells rows v.cells × (length rows ≡ suc n)) [
           | Idle ↦ λ x. absurd (some_not_idle e x)
-          | Full ↦ λ x. let y : Full ≡ Done v = sym (ap (run_by s s.until within n) (step_is s s.until within w e b ∙ ap (after_step s w e.key.member) x ∙ after_full s s.until within w e.key.member)) ∙ by in cc
-          | Spent ↦ λ x. let y : Spent ≡ Done v = sym (ap (run_by s s.until within n) (step_is s s.until within w e b ∙ ap (after_step s w e.key.member) x ∙ after_spent s s.until within w e.key.member)) ∙ by in cc
+          | Full ↦ λ x. let y : Full ≡ Done v = sym (ap (run_by s s.traffic.until within n) (step_is s s.traffic.until within w e b ∙ ap (after_step s w e.key.member) x ∙ after_full s s.traffic.until within w e.key.member)) ∙ by in cc
+          | Spent ↦ λ x. let y : Spent ≡ Done v = sym (ap (run_by s s.traffic.until within n) (step_is s s.traffic.until within w e b ∙ ap (after_step s w e.key.member) x ∙ after_spent s s.traffic.until within w e.key.member)) ∙ by in cc
           | Done d ↦ λ x.
               let g = run_seq n (record { cells = settled s e.key.member d 0 w.cells; trace = w.trace ++ d.row ∷ [] }) v
-              (sym (ap (run_by s s.until within n) (step_is s s.until within w e b ∙ ap (after_step s w e.key.member) x ∙ after_stepped s s.until within w e.key.member d)) ∙ by) in
+              (sym (ap (run_by s s.traffic.until within n) (step_is s s.traffic.until within w e b ∙ ap (after_step s w e.key.member) x ∙ after_stepped s s.traffic.until within w e.key.member d)) ∙ by) in
               (d.row ∷ g.0, next b x g.1, ap suc g.2)
         ] refl
       ] refl
 
-  opening_tidy : (n i : ℕ) → i + n ≡ s.members → (j : ℕ) (c : PlainCell) → slice_get (opening_cells s n i) j ≡ Some c → IsTidy c
+  opening_tidy : (n i : ℕ) → i + n ≡ s.traffic.members → (j : ℕ) (c : PlainCell) → slice_get (opening_cells s n i) j ≡ Some c → IsTidy c
   unfolding opening_cells
   opening_tidy zero i e j c h = cc
   opening_tidy (suc n) i e zero c h = subst IsTidy (same_Some _ _ h) (record { flights = tt; marks = rises mark_cmp mark_total (s.script i) (fit.scripts i (omega arith)) })
@@ -229,10 +229,10 @@ module _ (s : Setting) (fit : IsFit s) where
 
   pub good_opening : Good (opening s).cells
   unfolding opening
-  good_opening = record { members = length-opening s.members 0; tidy = opening_tidy s.members 0 (zero-add s.members); sound = opening_sound s.members 0 }
+  good_opening = record { members = length-opening s.traffic.members 0; tidy = opening_tidy s.traffic.members 0 (zero-add s.traffic.members); sound = opening_sound s.traffic.members 0 }
 
   pub good_reached : (n : ℕ) (w : World) → run s n (opening s) ≡ Done w → Good w.cells
-  good_reached n w h = good_seq s.until (run_seq n (opening s) w h).1 good_opening
+  good_reached n w h = good_seq s.traffic.until (run_seq n (opening s) w h).1 good_opening
 
   -- ---- windows
 
@@ -240,14 +240,14 @@ module _ (s : Setting) (fit : IsFit s) where
     abbrev FromTime : Key → Type 0
     FromTime k = start ≤ k.time
 
-    module _ (m : ℕ) (lt : m < s.members) (far : (b : ℕ) → b < s.members → b ≢ m → end ≤ start + s.distance m b) where
+    module _ (m : ℕ) (lt : m < s.traffic.members) (far : (b : ℕ) → b < s.traffic.members → b ≢ m → end ≤ start + s.traffic.distance m b) where
       sends_late : (t : ℕ) (r : Row) → start ≤ t → SentBy m r.sent → SentAt t r.sent → SendsLate s end r
       sends_late t r from by at p e j a g =
-          let f = arrival_is s p j a g in
+          let f = arrival_is s.traffic p j a g in
           let sender : p.id.sender ≡ m = subst (SentBy m) e by in
           let time : p.sent ≡ t = subst (SentAt t) e at in
-          let off : end ≤ start + s.distance m j = far j f.0 (λ q. f.1 (q ∙ sym sender)) in
-          let arrives : p.sent + s.distance m j ≡ a = subst (λ k. p.sent + s.distance k j ≡ a) sender f.2 in
+          let off : end ≤ start + s.traffic.distance m j = far j f.0 (λ q. f.1 (q ∙ sym sender)) in
+          let arrives : p.sent + s.traffic.distance m j ≡ a = subst (λ k. p.sent + s.traffic.distance k j ≡ a) sender f.2 in
           omega arith
 
       pub own_late : (n : ℕ) (c : PlainCell) → Above FromTime m c → AllSendLate s end (own_rows end m n c)
@@ -277,7 +277,7 @@ module _ (s : Setting) (fit : IsFit s) where
 
   -- a window from the least pending time is safe, where it is no wider than any distance
   pub window_safe : (cs : List PlainCell) → Good cs → (until : ℕ) (e : Event) → before until (least_event 0 cs) ≡ Some e → (width end : ℕ) → end ≤ e.key.time + width →
-      ((a b : ℕ) → a < s.members → b < s.members → a ≢ b → width ≤ s.distance a b) → Safe s end cs
+      ((a b : ℕ) → a < s.traffic.members → b < s.traffic.members → a ≢ b → width ≤ s.traffic.distance a b) → Safe s end cs
   window_safe cs good until e h width end within wide m c g n =
       let lt = subst (λ k. m < k) good.members (get_below cs m c g) in
       own_late e.key.time end m lt (λ b bl ne. let w = wide m b lt bl (λ q. ne (sym q)) in omega arith) n c
@@ -312,7 +312,7 @@ module _ (s : Setting) (fit : IsFit s) where
 
   -- an end that no member's next event, with the way from it to any other, falls short of is safe
   pub promise_safe : (cs : List PlainCell) → Good cs → (end : ℕ)
-      → ((m : ℕ) (c : PlainCell) (e : Event) → slice_get cs m ≡ Some c → next_event m c ≡ Some e → Silent c.holds ⊎ ((b : ℕ) → b < s.members → b ≢ m → end ≤ e.key.time + s.distance m b))
+      → ((m : ℕ) (c : PlainCell) (e : Event) → slice_get cs m ≡ Some c → next_event m c ≡ Some e → Silent c.holds ⊎ ((b : ℕ) → b < s.traffic.members → b ≢ m → end ≤ e.key.time + s.traffic.distance m b))
       → Safe s end cs
   promise_safe cs good end promise m c g n = elim (next_event m c) as (λ o. next_event m c ≡ o → AllSendLate s end (own_rows end m n c)) [
     | None ↦ λ h. idle_late end m n c h

@@ -12,7 +12,7 @@ module _ (s : Setting) where
   -- ---- the cells after a step, one by one
 
   abbrev pub at_member : ℕ → Stepped → ℕ → PlainCell → PlainCell
-  at_member m d k c = cond (k == m) d.cell (told_to s d.row.sent k c)
+  at_member m d k c = cond (k == m) d.cell (told_to s.traffic d.row.sent k c)
 
   pub get_settled : (m : ℕ) (d : Stepped) (i j : ℕ) (cs : List PlainCell) → slice_get (settled s m d i cs) j ≡ option_map (at_member m d (i + j)) (slice_get cs j)
   unfolding settled
@@ -25,21 +25,21 @@ module _ (s : Setting) where
 
   module _ (a b : ℕ) (ne : a ≢ b) (da db : Stepped) (ha : SentBy a da.row.sent) (hb : SentBy b db.row.sent) where
     abbrev pub a_later : Stepped
-    a_later = stepped_map (told_to s db.row.sent a) da
+    a_later = stepped_map (told_to s.traffic db.row.sent a) da
 
     abbrev pub b_later : Stepped
-    b_later = stepped_map (told_to s da.row.sent b) db
+    b_later = stepped_map (told_to s.traffic da.row.sent b) db
 
     swap_at : (i : ℕ) (c : PlainCell) → at_member b b_later i (at_member a da i c) ≡ at_member a a_later i (at_member b db i c)
     swap_at i c =
         elim (i == a) as (λ x. (i == a) ≡ x → at_member b b_later i (at_member a da i c) ≡ at_member a a_later i (at_member b db i c)) [
           | true ↦ λ ia. elim (i == b) as (λ y. (i == b) ≡ y → at_member b b_later i (at_member a da i c) ≡ at_member a a_later i (at_member b db i c)) [
             | true ↦ λ ib. absurd (ne (sym (eqb-true _ _ ia) ∙ eqb-true _ _ ib))
-            | false ↦ λ ib. simp (ia, ib) (ap (λ k. told_to s db.row.sent k da.cell) (eqb-true _ _ ia))
+            | false ↦ λ ib. simp (ia, ib) (ap (λ k. told_to s.traffic db.row.sent k da.cell) (eqb-true _ _ ia))
           ] refl
           | false ↦ λ ia. elim (i == b) as (λ y. (i == b) ≡ y → at_member b b_later i (at_member a da i c) ≡ at_member a a_later i (at_member b db i c)) [
-            | true ↦ λ ib. simp (ia, ib) (ap (λ k. told_to s da.row.sent k db.cell) (sym (eqb-true _ _ ib)))
-            | false ↦ λ ib. simp (ia, ib) (told_comm s b a (λ e. ne (sym e)) db.row.sent da.row.sent hb ha i c)
+            | true ↦ λ ib. simp (ia, ib) (ap (λ k. told_to s.traffic da.row.sent k db.cell) (sym (eqb-true _ _ ib)))
+            | false ↦ λ ib. simp (ia, ib) (told_comm s.traffic b a (λ e. ne (sym e)) db.row.sent da.row.sent hb ha i c)
           ] refl
         ] refl
 

@@ -129,23 +129,23 @@ from_pair (Some q) None h = cc
 from_pair (Some q) (Some e) h = let same : q ≡ time_and_member e = same_some _ _ h in (e, refl, sym (ap (λ (x : ℕ × ℕ). x.0) same), sym (ap (λ (x : ℕ × ℕ). x.1) same))
 
 module _ (s : Setting) (w : World) (ts : List (Option ℕ)) (times : AreTimes ts w.cells) where
-  within : s.until ≤ s.until
-  within = le_refl s.until
+  within : s.traffic.until ≤ s.traffic.until
+  within = le_refl s.traffic.until
 
   pub is_over : None ≡ least_time 0 ts → step s w ≡ Idle
-  is_over h = let none : least_event 0 w.cells ≡ None = from_pair None (least_event 0 w.cells) (h ∙ least_is_event ts w.cells times) in step_none s s.until within w (ap (before s.until) none)
+  is_over h = let none : least_event 0 w.cells ≡ None = from_pair None (least_event 0 w.cells) (h ∙ least_is_event ts w.cells times) in step_none s s.traffic.until within w (ap (before s.traffic.until) none)
 
   module _ (t m : ℕ) (h : Some (t, m) ≡ least_time 0 ts) where
     found : FromPair (Some (t, m)) (least_event 0 w.cells)
     found = from_pair (Some (t, m)) (least_event 0 w.cells) (h ∙ least_is_event ts w.cells times)
 
-    pub is_late : s.until ≤ t → step s w ≡ Idle
+    pub is_late : s.traffic.until ≤ t → step s w ≡ Idle
     is_late le =
         let time = found.2 in
-        let late : s.until ≤ found.0.key.time = omega arith in
-        step_none s s.until within w (ap (before s.until) found.1 ∙ ap (λ b. cond b (Some found.0) None) (le-ltb found.0.key.time s.until late))
+        let late : s.traffic.until ≤ found.0.key.time = omega arith in
+        step_none s s.traffic.until within w (ap (before s.traffic.until) found.1 ∙ ap (λ b. cond b (Some found.0) None) (le-ltb found.0.key.time s.traffic.until late))
 
-    module _ (early : t < s.until) where
+    module _ (early : t < s.traffic.until) where
       pub event : Event
       unfolding found
       event = (from_pair (Some (t, m)) (least_event 0 w.cells) (h ∙ least_is_event ts w.cells times)).0
@@ -158,36 +158,36 @@ module _ (s : Setting) (w : World) (ts : List (Option ℕ)) (times : AreTimes ts
       unfolding event
       time_is = (from_pair (Some (t, m)) (least_event 0 w.cells) (h ∙ least_is_event ts w.cells times)).2
 
-      pub is_least : before s.until (least_event 0 w.cells) ≡ Some event
+      pub is_least : before s.traffic.until (least_event 0 w.cells) ≡ Some event
       unfolding event
       is_least =
           let f = from_pair (Some (t, m)) (least_event 0 w.cells) (h ∙ least_is_event ts w.cells times) in
           let time = f.2 in
-          let lt : f.0.key.time < s.until = omega arith in
-          ap (before s.until) f.1 ∙ ap (λ b. cond b (Some f.0) None) (lt-ltb f.0.key.time s.until lt)
+          let lt : f.0.key.time < s.traffic.until = omega arith in
+          ap (before s.traffic.until) f.1 ∙ ap (λ b. cond b (Some f.0) None) (lt-ltb f.0.key.time s.traffic.until lt)
 
-      pub own_is : (p : PlainCell) → slice_get w.cells m ≡ Some p → own_step s.until m p ≡ step_at (Some event)
+      pub own_is : (p : PlainCell) → slice_get w.cells m ≡ Some p → own_step s.traffic.until m p ≡ step_at (Some event)
       own_is p g =
-          ap (own_of s.until m) (sym g)
-          ∙ ap (λ k. own_of s.until k (slice_get w.cells k)) (sym member_is) ∙ least_own s.until w.cells event is_least
+          ap (own_of s.traffic.until m) (sym g)
+          ∙ ap (λ k. own_of s.traffic.until k (slice_get w.cells k)) (sym member_is) ∙ least_own s.traffic.until w.cells event is_least
 
       pub cell_there : (p : PlainCell) × (slice_get w.cells m ≡ Some p)
       cell_there = by (slice_get w.cells m) refl
         where
           by : (o : Option PlainCell) → slice_get w.cells m ≡ o → (p : PlainCell) × (slice_get w.cells m ≡ Some p)
           by (Some p) g = (p, g)
-          by None g = absurd (some_not_idle event (sym (ap (own_of s.until m) (sym g)
-              ∙ ap (λ k. own_of s.until k (slice_get w.cells k)) (sym member_is) ∙ least_own s.until w.cells event is_least)))
+          by None g = absurd (some_not_idle event (sym (ap (own_of s.traffic.until m) (sym g)
+              ∙ ap (λ k. own_of s.traffic.until k (slice_get w.cells k)) (sym member_is) ∙ least_own s.traffic.until w.cells event is_least)))
 
-      pub step_by : (p : PlainCell) → slice_get w.cells m ≡ Some p → step s w ≡ after_step s w m (own_step s.until m p)
-      step_by p g = step_is s s.until within w event is_least ∙ ap (λ k. after_step s w k (step_at (Some event))) member_is ∙ ap (after_step s w m) (sym (own_is p g))
+      pub step_by : (p : PlainCell) → slice_get w.cells m ≡ Some p → step s w ≡ after_step s w m (own_step s.traffic.until m p)
+      step_by p g = step_is s s.traffic.until within w event is_least ∙ ap (λ k. after_step s w k (step_at (Some event))) member_is ∙ ap (after_step s w m) (sym (own_is p g))
 
 pub after_idle : (s : Setting) (w : World) (m : ℕ) → after_step s w m Idle ≡ Idle
 unfolding after_step
 after_idle s w m = refl
 
 pub after_done : (s : Setting) (w : World) (m : ℕ) (d : Stepped) → after_step s w m (Done d) ≡ Done (record { cells = settled s m d 0 w.cells; trace = w.trace ++ d.row ∷ [] })
-after_done s w m d = after_stepped s s.until (le_refl s.until) w m d
+after_done s w m d = after_stepped s s.traffic.until (le_refl s.traffic.until) w m d
 
 -- ---- the cells after a step
 
@@ -210,35 +210,35 @@ module _ (s : Setting) (m : ℕ) (d : Stepped) (cs : List PlainCell) (lt : m < l
       let at : slice_get cs j ≡ Some c.0 = ap (slice_get cs) (sym e) ∙ c.1 in
       let now : slice_get (slice_set cs m d.cell) j ≡ Some d.cell = ap (slice_get (slice_set cs m d.cell)) (sym e) ∙ get_set_same cs m d.cell lt in
       let yes : (j == m) ≡ true = eq-eqb j m (sym e) in
-      ap (option_map (at_member s m d j)) at ∙ ap (λ b. Some (cond b d.cell (told_to s d.row.sent j c.0))) yes ∙ ap Some (sym same) ∙ sym (ap (option_map f) now)
+      ap (option_map (at_member s m d j)) at ∙ ap (λ b. Some (cond b d.cell (told_to s.traffic d.row.sent j c.0))) yes ∙ ap Some (sym same) ∙ sym (ap (option_map f) now)
 
-  elsewhere : (j : ℕ) (f : PlainCell → PlainCell) → m ≢ j → ((c : PlainCell) → told_to s d.row.sent j c ≡ f c) → Placed j f
+  elsewhere : (j : ℕ) (f : PlainCell → PlainCell) → m ≢ j → ((c : PlainCell) → told_to s.traffic d.row.sent j c ≡ f c) → Placed j f
   elsewhere j f ne same =
       sym (ap (option_map f) (get_set_other cs m j d.cell ne) ∙ by (slice_get cs j))
     where
       by : (o : Option PlainCell) → option_map f o ≡ option_map (at_member s m d j) o
       by None = refl
-      by (Some c) = let no : (j == m) ≡ false = not_equal (j == m) refl in ap Some (sym (same c)) ∙ sym (ap (λ b. Some (cond b d.cell (told_to s d.row.sent j c))) no)
+      by (Some c) = let no : (j == m) ≡ false = not_equal (j == m) refl in ap Some (sym (same c)) ∙ sym (ap (λ b. Some (cond b d.cell (told_to s.traffic d.row.sent j c))) no)
         where
           not_equal : (b : Bool) → (j == m) ≡ b → (j == m) ≡ false
           not_equal true e = absurd (ne (sym (eqb-true j m e)))
           not_equal false e = e
 
   -- where nothing was sent, one cell is new; where a packet was, every other has heard it
-  pub settled_is : SentBy m d.row.sent → settled s m d 0 cs ≡ all_hear s d.row.sent (slice_set cs m d.cell)
+  pub settled_is : SentBy m d.row.sent → settled s m d 0 cs ≡ all_hear s.traffic d.row.sent (slice_set cs m d.cell)
   settled_is by = by_sent d.row.sent refl by
     where
-      told : (o : Option Packet) → d.row.sent ≡ o → (j : ℕ) (c : PlainCell) → told_to s d.row.sent j c ≡ told_to s o j c
-      told o e j c = ap (λ x. told_to s x j c) e
+      told : (o : Option Packet) → d.row.sent ≡ o → (j : ℕ) (c : PlainCell) → told_to s.traffic d.row.sent j c ≡ told_to s.traffic o j c
+      told o e j c = ap (λ x. told_to s.traffic x j c) e
 
-      silent : (p : Packet) → p.id.sender ≡ m → hear s p m d.cell ≡ d.cell
-      silent p e = no (arrival_of s p m) refl
+      silent : (p : Packet) → p.id.sender ≡ m → hear s.traffic p m d.cell ≡ d.cell
+      silent p e = no (arrival_of s.traffic p m) refl
         where
-          no : (o : Option ℕ) → arrival_of s p m ≡ o → hear s p m d.cell ≡ d.cell
-          no None h = hears_not s p m d.cell h
+          no : (o : Option ℕ) → arrival_of s.traffic p m ≡ o → hear s.traffic p m d.cell ≡ d.cell
+          no None h = hears_not s.traffic p m d.cell h
           no (Some at) h = absurd ((arrival_is s p m at h).1 (sym e))
 
-      by_sent : (o : Option Packet) → d.row.sent ≡ o → SentBy m o → settled s m d 0 cs ≡ all_hear s o (slice_set cs m d.cell)
+      by_sent : (o : Option Packet) → d.row.sent ≡ o → SentBy m o → settled s m d 0 cs ≡ all_hear s.traffic o (slice_set cs m d.cell)
       by_sent None e b = same_list _ _ (λ j. nobody j ∙ elim (m == j) as (λ t. (m == j) ≡ t → option_map (at_member s m d j) (slice_get cs j) ≡ slice_get (slice_set cs m d.cell) j) [
         | true ↦ λ q. here j (λ c. c) (eqb-true m j q) refl ∙ plain (slice_get (slice_set cs m d.cell) j)
         | false ↦ λ q. elsewhere j (λ c. c) (eqb-false m j q) (λ c. told None e j c) ∙ plain (slice_get (slice_set cs m d.cell) j)
@@ -247,20 +247,20 @@ module _ (s : Setting) (m : ℕ) (d : Stepped) (cs : List PlainCell) (lt : m < l
           plain : (o : Option PlainCell) → option_map (λ c. c) o ≡ o
           plain None = refl
           plain (Some c) = refl
-      by_sent (Some p) e b = same_list _ _ (λ j. nobody j ∙ elim (m == j) as (λ t. (m == j) ≡ t → option_map (at_member s m d j) (slice_get cs j) ≡ slice_get (heard_below s p (length (slice_set cs m d.cell)) 0 (slice_set cs m d.cell)) j) [
-        | true ↦ λ q. here j (hear s p j) (eqb-true m j q) (ap (λ k. hear s p k d.cell) (sym (eqb-true m j q)) ∙ silent p b) ∙ heard j
-        | false ↦ λ q. elsewhere j (hear s p j) (eqb-false m j q) (λ c. told (Some p) e j c) ∙ heard j
+      by_sent (Some p) e b = same_list _ _ (λ j. nobody j ∙ elim (m == j) as (λ t. (m == j) ≡ t → option_map (at_member s m d j) (slice_get cs j) ≡ slice_get (heard_below s.traffic p (length (slice_set cs m d.cell)) 0 (slice_set cs m d.cell)) j) [
+        | true ↦ λ q. here j (hear s.traffic p j) (eqb-true m j q) (ap (λ k. hear s.traffic p k d.cell) (sym (eqb-true m j q)) ∙ silent p b) ∙ heard j
+        | false ↦ λ q. elsewhere j (hear s.traffic p j) (eqb-false m j q) (λ c. told (Some p) e j c) ∙ heard j
       ] refl)
         where
-          heard : (j : ℕ) → option_map (hear s p j) (slice_get (slice_set cs m d.cell) j) ≡ slice_get (heard_below s p (length (slice_set cs m d.cell)) 0 (slice_set cs m d.cell)) j
-          heard j = within_all (slice_get (slice_set cs m d.cell) j) refl ∙ sym (get_heard s p (length (slice_set cs m d.cell)) 0 j (slice_set cs m d.cell))
+          heard : (j : ℕ) → option_map (hear s.traffic p j) (slice_get (slice_set cs m d.cell) j) ≡ slice_get (heard_below s.traffic p (length (slice_set cs m d.cell)) 0 (slice_set cs m d.cell)) j
+          heard j = within_all (slice_get (slice_set cs m d.cell) j) refl ∙ sym (get_heard s.traffic p (length (slice_set cs m d.cell)) 0 j (slice_set cs m d.cell))
             where
-              within_all : (o : Option PlainCell) → slice_get (slice_set cs m d.cell) j ≡ o → option_map (hear s p j) o ≡ option_map (if_below s p (length (slice_set cs m d.cell)) (0 + j)) o
+              within_all : (o : Option PlainCell) → slice_get (slice_set cs m d.cell) j ≡ o → option_map (hear s.traffic p j) o ≡ option_map (if_below s.traffic p (length (slice_set cs m d.cell)) (0 + j)) o
               within_all None g = refl
               within_all (Some c) g =
                   let lt : j < length (slice_set cs m d.cell) = get_below (slice_set cs m d.cell) j c g in
                   let yes : nat_lt j (length (slice_set cs m d.cell)) ≡ true = lt-ltb j (length (slice_set cs m d.cell)) lt in
-                  sym (ap (λ k. Some (if_below s p (length (slice_set cs m d.cell)) k c)) (zero-add j) ∙ ap (λ t. Some (cond t (hear s p j c) c)) yes)
+                  sym (ap (λ k. Some (if_below s.traffic p (length (slice_set cs m d.cell)) k c)) (zero-add j) ∙ ap (λ t. Some (cond t (hear s.traffic p j c) c)) yes)
 
 -- ---- what a step may send
 
@@ -272,32 +272,32 @@ few_packets (r ∷ rows) = let h = few_packets rows in by r.sent (packets_of row
     by None ps h = omega arith
     by (Some p) ps h = omega arith
 
-module _ (s : Setting) (fit : IsFit s) (w : World) (reached : IsReached s w) (e : Event) (d : Stepped) (least : before s.until (least_event 0 w.cells) ≡ Some e) (done : step_at (Some e) ≡ Done d) (early : s.until ≤ 2 ^ 40) (short : length w.trace + 3 < 2 ^ 64) where
-  pub may_send : MaySend s.members (slice_set w.cells e.key.member d.cell) (packets_of w.trace) d.row.sent
+module _ (s : Setting) (fit : IsFit s) (w : World) (reached : IsReached s w) (e : Event) (d : Stepped) (least : before s.traffic.until (least_event 0 w.cells) ≡ Some e) (done : step_at (Some e) ≡ Done d) (early : s.traffic.until ≤ 2 ^ 40) (short : length w.trace + 3 < 2 ^ 64) where
+  pub may_send : MaySend s.traffic.members (slice_set w.cells e.key.member d.cell) (packets_of w.trace) d.row.sent
   may_send =
       let good = good_reached s fit reached.0 w reached.1 in
-      let f = step_facts s fit s.until w.cells e d least done in
-      let new = is_new s fit s.until w.cells e d good (strict_reached s fit reached.0 w reached.1) least done in
+      let f = step_facts s fit s.traffic.until w.cells e d least done in
+      let new = is_new s fit s.traffic.until w.cells e d good (strict_reached s fit reached.0 w reached.1) least done in
       by d.row.sent refl f.sender f.sent_at (get_below w.cells e.key.member f.cell f.here) good.members new
     where
-      by : (o : Option Packet) → d.row.sent ≡ o → SentBy e.key.member o → SentAt e.key.time o → e.key.member < length w.cells → length w.cells ≡ s.members
+      by : (o : Option Packet) → d.row.sent ≡ o → SentBy e.key.member o → SentAt e.key.time o → e.key.member < length w.cells → length w.cells ≡ s.traffic.members
           → ((p : Packet) → d.row.sent ≡ Some p → (j : ℕ) (q : PlainCell) → slice_get (slice_set w.cells e.key.member d.cell) j ≡ Some q → BringsNone p.id q.inbox)
-          → MaySend s.members (slice_set w.cells e.key.member d.cell) (packets_of w.trace) o
+          → MaySend s.traffic.members (slice_set w.cells e.key.member d.cell) (packets_of w.trace) o
       by None q sb sa lt len new = tt
       by (Some p) q sb sa lt len new =
           let few = few_packets w.trace in
-          let before = (before_some s.until (least_event 0 w.cells) e least).1 in
+          let before = (before_some s.traffic.until (least_event 0 w.cells) e least).1 in
           (length-set w.cells e.key.member d.cell ∙ len, omega arith, omega arith, omega arith, new p q)
 
   -- the sender of the step's packet
   pub sent_by : SentBy e.key.member d.row.sent
-  sent_by = (step_facts s fit s.until w.cells e d least done).sender
+  sent_by = (step_facts s fit s.traffic.until w.cells e d least done).sender
 
   pub place_of : e.key.member < length w.cells
-  place_of = let f = step_facts s fit s.until w.cells e d least done in get_below w.cells e.key.member f.cell f.here
+  place_of = let f = step_facts s fit s.traffic.until w.cells e d least done in get_below w.cells e.key.member f.cell f.here
 
 pub not_spent : (s : Setting) (fit : IsFit s) (w : World) → IsReached s w → step s w ≢ Spent
-not_spent s fit w reached h = (never_spent s w fit reached).0 1 (run_first s s.until (le_refl s.until) 0 w ∙ ap (run_by s s.until (le_refl s.until) 0) h)
+not_spent s fit w reached h = (never_spent s w fit reached).0 1 (run_first s s.traffic.until (le_refl s.traffic.until) 0 w ∙ ap (run_by s s.traffic.until (le_refl s.traffic.until) 0) h)
 
 pub sent_by_member : (e : Event) (d : Stepped) → step_at (Some e) ≡ Done d → SentBy e.key.member d.row.sent
 sent_by_member e d x = (subst (IsStepOf e.key.member) x (step_at_of e.key.member (Some e) refl)).1
@@ -320,10 +320,10 @@ packets_more (q ∷ rows) r = ap (cons_option q.sent) (packets_more rows r) ∙ 
 
 pub reached_more : (s : Setting) (w v : World) → IsReached s w → step s w ≡ Done v → IsReached s v
 unfolding run
-reached_more s w v r h = (r.0 + 1, run_on s r.0 1 (opening s) w r.1 ∙ run_first s s.until (le_refl s.until) 0 w ∙ ap (run_by s s.until (le_refl s.until) 0) h)
+reached_more s w v r h = (r.0 + 1, run_on s r.0 1 (opening s) w r.1 ∙ run_first s s.traffic.until (le_refl s.traffic.until) 0 w ∙ ap (run_by s s.traffic.until (le_refl s.traffic.until) 0) h)
 
 pub meets_full : (s : Setting) (w : World) → IsReached s w → step s w ≡ Full → RunMeetsFull s
-meets_full s w r h = (r.0 + 1, run_on s r.0 1 (opening s) w r.1 ∙ run_first s s.until (le_refl s.until) 0 w ∙ ap (run_by s s.until (le_refl s.until) 0) h)
+meets_full s w r h = (r.0 + 1, run_on s r.0 1 (opening s) w r.1 ∙ run_first s s.traffic.until (le_refl s.traffic.until) 0 w ∙ ap (run_by s s.traffic.until (le_refl s.traffic.until) 0) h)
 
 pub opening_reached : (s : Setting) → IsReached s (opening s)
 unfolding run

@@ -109,10 +109,10 @@ module _ (s : Setting) (fit : IsFit s) where
   hear_at_sent p None c = refl
   hear_at_sent p (Some at) c = refl
 
-  told_sent : (x : Option Packet) (m : ℕ) (c : PlainCell) → (told_to s x m c).sent ≡ c.sent
+  told_sent : (x : Option Packet) (m : ℕ) (c : PlainCell) → (told_to s.traffic x m c).sent ≡ c.sent
   unfolding hear
   told_sent None m c = refl
-  told_sent (Some p) m c = hear_at_sent p (arrival_of s p m) c
+  told_sent (Some p) m c = hear_at_sent p (arrival_of s.traffic p m) c
 
   module _ (end : ℕ) (cs : List PlainCell) (e : Event) (d : Stepped) (good : Good s fit cs) (strict : Strict cs) (h : before end (least_event 0 cs) ≡ Some e) (x : step_at (Some e) ≡ Done d) where
     abbrev m : ℕ
@@ -137,7 +137,7 @@ module _ (s : Setting) (fit : IsFit s) where
     here_after : slice_get after m ≡ Some d.cell
     here_after =
         let yes : (m == m) ≡ true = eq-eqb _ _ refl in
-        get_after s m d m cs ∙ ap (option_map (at_member s m d m)) facts.here ∙ ap (λ b. Some (cond b d.cell (told_to s d.row.sent m facts.cell))) yes
+        get_after s m d m cs ∙ ap (option_map (at_member s m d m)) facts.here ∙ ap (λ b. Some (cond b d.cell (told_to s.traffic d.row.sent m facts.cell))) yes
 
     pub sent_here : sent_of cs m ≡ e.rest.sent
     unfolding sent_by
@@ -149,7 +149,7 @@ module _ (s : Setting) (fit : IsFit s) where
 
     sent_at : (y : ℕ) (c : PlainCell) → slice_get cs y ≡ Some c → c.sent ≤ (at_member s m d y c).sent
     unfolding sent_by
-    sent_at y c g = elim (y == m) as (λ b. (y == m) ≡ b → c.sent ≤ (cond b d.cell (told_to s d.row.sent y c)).sent) [
+    sent_at y c g = elim (y == m) as (λ b. (y == m) ≡ b → c.sent ≤ (cond b d.cell (told_to s.traffic d.row.sent y c)).sent) [
       | true ↦ λ q.
           let same : c.sent ≡ sent_of cs m = sym (ap sent_by g) ∙ ap (sent_of cs) (eqb-true _ _ q) in
           let now = sent_here in
@@ -181,10 +181,10 @@ module _ (s : Setting) (fit : IsFit s) where
           AllIn-place (λ (g : Flight). g.packet.id.count < sent_of after g.packet.id.sender) flight_cmp flight c.inbox (omega arith) (fresh_after c f),
         )
 
-    told_strict : (y : Option Packet) → y ≡ d.row.sent → SentBy m y → CountAfter e.rest.sent y d.cell.sent → (j : ℕ) (c : PlainCell) → IsDistinct c → IsFresh cs c → IsDistinct (told_to s y j c) × IsFresh after (told_to s y j c)
+    told_strict : (y : Option Packet) → y ≡ d.row.sent → SentBy m y → CountAfter e.rest.sent y d.cell.sent → (j : ℕ) (c : PlainCell) → IsDistinct c → IsFresh cs c → IsDistinct (told_to s.traffic y j c) × IsFresh after (told_to s.traffic y j c)
     unfolding hear
     told_strict None q by count j c t f = (t, fresh_after c f)
-    told_strict (Some p) q by count j c t f = hear_at_strict p (arrival_of s p j) c by count t f
+    told_strict (Some p) q by count j c t f = hear_at_strict p (arrival_of s.traffic p j) c by count t f
 
     -- both hold after the step
     pub strict_step : Strict after
@@ -251,7 +251,7 @@ module _ (s : Setting) (fit : IsFit s) where
       let all = strictly_after end cs e d good strict h x in
       (seq_after d.row more good' strict' (subst (λ k. EachCell s fit (Above (λ l. key_cmp k l ≡ Less)) (settled s e.key.member d 0 cs)) (sym f.key) all), seq_ascends more good' strict')
 
-  opening_distinct : (n i : ℕ) → i + n ≡ s.members → (j : ℕ) (c : PlainCell) → slice_get (opening_cells s n i) j ≡ Some c → IsDistinct c
+  opening_distinct : (n i : ℕ) → i + n ≡ s.traffic.members → (j : ℕ) (c : PlainCell) → slice_get (opening_cells s n i) j ≡ Some c → IsDistinct c
   unfolding opening_cells
   opening_distinct zero i e j c h = cc
   opening_distinct (suc n) i e zero c h = subst IsDistinct (same_Some _ _ h) (record { flights = tt; marks = fit.scripts i (omega arith); ranks = fit.ranks i (omega arith) })
@@ -265,7 +265,7 @@ module _ (s : Setting) (fit : IsFit s) where
 
   pub strict_opening : Strict (opening s).cells
   unfolding opening
-  strict_opening = record { distinct = opening_distinct s.members 0 (zero-add s.members); fresh = opening_empty (opening_cells s s.members 0) s.members 0 }
+  strict_opening = record { distinct = opening_distinct s.traffic.members 0 (zero-add s.traffic.members); fresh = opening_empty (opening_cells s s.traffic.members 0) s.traffic.members 0 }
 
   opening_trace : opening s ≡ record { cells = (opening s).cells; trace = [] }
   unfolding opening
@@ -275,7 +275,7 @@ pub keys_rise : KeysRise
 keys_rise s w fit reached =
     let r = run_seq s fit reached.0 (opening s) w reached.1 in
     let again : run s reached.0 (opening s) ≡ Done (record { cells = w.cells; trace = r.0 }) =
-    ap (λ n. run s n (opening s)) (sym r.2) ∙ ap (run s (length r.0)) (opening_trace s fit) ∙ seq_run s s.until (le_refl s.until) r.1 [] in
+    ap (λ n. run s n (opening s)) (sym r.2) ∙ ap (run s (length r.0)) (opening_trace s fit) ∙ seq_run s s.traffic.until (le_refl s.traffic.until) r.1 [] in
     let same : ◌≡◌ {A = StepOutcome World} (Done (record { cells = w.cells; trace = r.0 })) (Done w) = sym again ∙ reached.1 in
     let worlds : ◌≡◌ {A = World} (record { cells = w.cells; trace = r.0 }) w = cc in
     subst (Ascends row_cmp) (ap (λ (v : World). v.trace) worlds) (seq_ascends s fit r.1 (good_opening s fit) (strict_opening s fit))

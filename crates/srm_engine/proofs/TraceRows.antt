@@ -99,15 +99,15 @@ and_false : (b : Bool) → (b && false) ≡ false
 and_false true = refl
 and_false false = refl
 
-pub not_of : (k : PacketId) (a : About) → ((q : PacketId) → a ≡ Of q → k ≢ q) → is_of k a ≡ false
+pub not_of : (k : PacketId) (a : About) → ((q : Packet) → a ≡ Of q → k ≢ q.id) → is_of k a ≡ false
 not_of k Nothing h = refl
 not_of k (Named n) h = refl
-not_of k (Of q) h = not_same k q (h q refl)
+not_of k (Of q) h = not_same k q.id (h q refl)
 
-pub not_arrival : (k : PacketId) (m : ℕ) (r : Row) → ((q : PacketId) → r.about ≡ Of q → k ≢ q) → is_arrival k m r ≡ false
+pub not_arrival : (k : PacketId) (m : ℕ) (r : Row) → ((q : Packet) → r.about ≡ Of q → k ≢ q.id) → is_arrival k m r ≡ false
 not_arrival k m r h = ap (λ b. (r.key.member == m) && b) (not_of k r.about h) ∙ and_false (r.key.member == m)
 
-pub here : (k q : PacketId) (m : ℕ) (r : Row) → r.key.member ≡ m → r.about ≡ Of q → is_arrival k m r ≡ same_packet k q
+pub here : (k : PacketId) (q : Packet) (m : ℕ) (r : Row) → r.key.member ≡ m → r.about ≡ Of q → is_arrival k m r ≡ same_packet k q.id
 here k q m r e a = let b : (r.key.member == m) ≡ true = Rattle.std.proofs.Common.eq-eqb _ _ e in ap (λ b. b && is_of k r.about) b ∙ ap (is_of k) a
 
 -- ---- a row of a list, and the rows before it

@@ -20,7 +20,7 @@ same_packet p q = (p.sender == q.sender) && (p.count == q.count)
 
 -- whether an event is about this packet, which arrives
 abbrev pub is_of : PacketId → About → Bool
-is_of p (Of q) = same_packet p q
+is_of p (Of q) = same_packet p q.id
 is_of p Nothing = false
 is_of p (Named n) = false
 
@@ -54,16 +54,17 @@ PacketsAreNumbered =
 abbrev pub PacketsAreHandedOnce : Type 0
 PacketsAreHandedOnce =
     (s : Setting) (w : World) → IsLast s w → (p : Packet) → SentIn p w.trace → (m : ℕ)
-    → handing_count p.id m w.trace ≡ (if is_some (arrival_of s p m) then 1 else 0)
+    → handing_count p.id m w.trace ≡ (if is_some (arrival_of s.traffic p m) then 1 else 0)
 
 -- what is handed was sent in an earlier row, and is handed at the time at which it arrives
 abbrev pub HandedPacketsWereSent : Type 0
 HandedPacketsWereSent =
-    (s : Setting) (w : World) → IsReached s w → (before after : List Row) (r : Row) (id : PacketId)
-    → w.trace ≡ before ++ r ∷ after → r.about ≡ Of id
-    → (p : Packet) × SentIn p before × (p.id ≡ id) × (r.cause ≡ word_of_body p.body) × (arrival_of s p r.key.member ≡ Some r.key.time)
+    (s : Setting) (w : World) → IsReached s w → (before after : List Row) (r : Row) (p : Packet)
+    → w.trace ≡ before ++ r ∷ after → r.about ≡ Of p
+    → SentIn p before × (r.cause ≡ word_of_body p.body) × (arrival_of s.traffic p r.key.member ≡ Some r.key.time)
 
 -- packets of one identity are one packet
 abbrev pub PacketsAreTheirIdentities : Type 0
 PacketsAreTheirIdentities =
-    (s : Setting) (w : World) → IsReached s w → (p q : Packet) → SentIn p w.trace → SentIn q w.trace → p.id ≡ q.id → p ≡ q
+    (s : Setting) (w : World) → IsReached s w → (p q : Packet) → SentIn p w.trace → SentIn q w.trace → p.id ≡ q.id
+    → p ≡ q

@@ -41,7 +41,7 @@ pub record TellsOf (told : Told) (m : ℕ) (n : Name) (rows : List Row) (r : Row
   pub member : r.key.member ≡ m
   pub told_so : r.told ≡ told
   pub packet : Packet
-  pub about : r.about ≡ Of packet.id
+  pub about : r.about ≡ Of packet
   pub sent : SentIn packet rows
   pub carries : Carries n packet.body
 
@@ -81,7 +81,8 @@ pub record EndsWith (rows : List Row) (m : ℕ) (x : Exit) : Type 0 where
 abbrev pub ExitsAreWhatRowsSay : Type 0
 ExitsAreWhatRowsSay =
     (s : Setting) (w : World) → IsFit s → IsReached s w
-    → (length (exits_of w) ≡ s.members) × ((m : ℕ) (x : Exit) → slice_get (exits_of w) m ≡ Some x → EndsWith w.trace m x)
+    → (length (exits_of w) ≡ s.traffic.members)
+    × ((m : ℕ) (x : Exit) → slice_get (exits_of w) m ≡ Some x → EndsWith w.trace m x)
 
 -- a request is sent only for a name that its sender lost, and has not fixed
 abbrev pub RequestsAreForLosses : Type 0
@@ -92,6 +93,7 @@ RequestsAreForLosses =
 -- a repair is sent only for a name that its sender drew or took in earlier, with the ink with which its source drew it
 abbrev pub RepairsAreOfHeld : Type 0
 RepairsAreOfHeld =
-    (s : Setting) (w : World) → IsFit s → IsReached s w → (before after : List Row) (r : Row) (p : Packet) (n : Name) (ink : ℕ)
+    (s : Setting) (w : World) → IsFit s → IsReached s w
+    → (before after : List Row) (r : Row) (p : Packet) (n : Name) (ink : ℕ)
     → w.trace ≡ before ++ r ∷ after → r.sent ≡ Some p → p.body ≡ Repair n ink
     → Got p.id.sender n before × Drew n.source n ink before

@@ -17,8 +17,17 @@ mark at rank place ink = record { at = at; rank = rank; place = place; page = 0;
 -- and repair timers take one and a half, and one, times the distance
 abbrev pub one_loss : ℕ → Setting
 one_loss until = record {
-  until = until;
-  members = 2;
+  traffic = record {
+    until = until;
+    members = 2;
+    join = λ m. 0;
+    leave = λ m. None;
+    distance = λ a b. (a - b) + (b - a);
+    reaches = λ p m. not (p.id.sender == 0 && (p.id.count == 0 && m == 1));
+    links = 1;
+    crosses = λ p l. not (p.id.sender == 0 && p.id.count == 0);
+    drops_at = λ p l. p.id.sender == 0 && p.id.count == 0;
+  };
   fixed = λ m. record {
     member = m;
     role = if m == 0 then Sender else Receiver;
@@ -32,13 +41,6 @@ one_loss until = record {
     stream = m + 1;
   };
   script = λ m. if m == 0 then mark 0 0 0 0 ∷ mark 0 4 0 7 ∷ mark 10 4 1 8 ∷ [] else mark 0 0 0 0 ∷ [];
-  join = λ m. 0;
-  leave = λ m. None;
-  distance = λ a b. (a - b) + (b - a);
-  reaches = λ k m. not (k.sender == 0 && (k.count == 0 && m == 1));
-  links = 1;
-  crosses = λ k l. not (k.sender == 0 && k.count == 0);
-  drops_at = λ k l. k.sender == 0 && k.count == 0;
 }
 
 -- the last world of a run that ends within so many steps
@@ -48,7 +50,8 @@ last_world s (suc n) w = elim (step s w) [ Idle ↦ w | Full ↦ w | Spent ↦ w
 
 -- how often the whole run hands each of these packets, of a sender and a count, to a member
 unfoldable pub handings : Setting → List (ℕ × ℕ × ℕ) → List ℕ
-handings s ks = map (λ k. handing_count (record { sender = k.0; count = k.1 }) k.2 (last_world s 100 (opening s)).trace) ks
+handings s ks =
+    map (λ k. handing_count (record { sender = k.0; count = k.1 }) k.2 (last_world s 100 (opening s)).trace) ks
 
 -- what the members end with
 unfoldable pub ends : Setting → List Exit

@@ -15,7 +15,14 @@ own_of end m (Some c) = own_step end m c
 -- a schedule: the members of the list take their least own pending events before the end, one after the other
 unfoldable pub scheduled : Setting → ℕ → List ℕ → World → StepOutcome World
 scheduled s end [] w = Done w
-scheduled s end (m ∷ ms) w = elim (after_step s w m (own_of end m (slice_get w.cells m))) [ Idle ↦ Idle | Full ↦ Full | Spent ↦ Spent | Done v ↦ scheduled s end ms v ]
+scheduled s end (m ∷ ms) w =
+    elim (after_step s w m (own_of end m (slice_get w.cells m))) [
+      | Idle ↦ Idle
+      | Full ↦ Full
+      | Spent ↦ Spent
+      | Done v
+          ↦ scheduled s end ms v
+    ]
 
 -- no member has an event before the end pending. A schedule that comes to such a world is complete
 abbrev pub IsQuiet : ℕ → World → Type 0
@@ -31,7 +38,7 @@ HasNoResult end w m = (c : PlainCell) × (slice_get w.cells m ≡ Some c) × Mee
 
 -- a packet that the row sent is handed to nobody before the end
 abbrev pub SendsLate : Setting → ℕ → Row → Type 0
-SendsLate s end r = (p : Packet) → r.sent ≡ Some p → (m at : ℕ) → arrival_of s p m ≡ Some at → end ≤ at
+SendsLate s end r = (p : Packet) → r.sent ≡ Some p → (m at : ℕ) → arrival_of s.traffic p m ≡ Some at → end ≤ at
 
 -- so for each of the rows
 abbrev pub AllSendLate : Setting → ℕ → List Row → Type 0
@@ -40,7 +47,8 @@ AllSendLate s end (r ∷ rs) = SendsLate s end r × AllSendLate s end rs
 
 -- a safe end: no packet that is sent in a member's own run to the end arrives before it
 abbrev pub IsSafe : Setting → ℕ → World → Type 0
-IsSafe s end w = (m : ℕ) (c : PlainCell) → slice_get w.cells m ≡ Some c → (n : ℕ) → AllSendLate s end (own_rows end m n c)
+IsSafe s end w =
+    (m : ℕ) (c : PlainCell) → slice_get w.cells m ≡ Some c → (n : ℕ) → AllSendLate s end (own_rows end m n c)
 
 -- member m's rows
 abbrev pub rows_of : ℕ → List Row → List Row

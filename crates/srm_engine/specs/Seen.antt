@@ -9,10 +9,11 @@ use Rattle.srm_member.specs.Record.{Record}
 use Rattle.srm_cell.specs.declared.cell.Cell.{Cell}
 use Rattle.srm_cell.specs.declared.fault.CellFault.{CellFault}
 use Rattle.srm_cell.specs.declared.fault.CellFault.TheVariants as fault
-use Rattle.srm_cell.specs.Setting.{Setting}
+use Rattle.srm_cell.specs.Setting.{Traffic}
 use Rattle.srm_cell.specs.Flights.{BringsNone}
-use Rattle.srm_cell.specs.Cells.{PlainCell, hear, next_event, time_of, StepOutcome, Idle, Full, Spent, Done, Stepped}
+use Rattle.srm_cell.specs.Cells.{PlainCell, hear, hear_at, own_step, next_event, time_of, StepOutcome, Idle, Full, Spent, Done, Stepped}
 use Rattle.srm_cell.specs.Views.{IsCell}
+use Rattle.srm_engine.specs.declared.cells.Cells.{Cells}
 
 -- the next times are those of the cells
 pub record AreTimes (ts : List (Option ℕ)) (ps : List PlainCell) : Type 0 where
@@ -24,30 +25,55 @@ abbrev pub IsNew : PacketId → List PlainCell → Type 0
 IsNew id ps = (j : ℕ) (p : PlainCell) → slice_get ps j ≡ Some p → BringsNone id p.inbox
 
 -- the cells of members i and on, of which those below member k have heard the packet
-abbrev pub heard_below : Setting → Packet → ℕ → ℕ → List PlainCell → List PlainCell
-heard_below s p k i [] = []
-heard_below s p k i (c ∷ cs) = (if nat_lt i k then hear s p i c else c) ∷ heard_below s p k (suc i) cs
+abbrev pub heard_below : Traffic → Packet → ℕ → ℕ → List PlainCell → List PlainCell
+heard_below t p k i [] = []
+heard_below t p k i (c ∷ cs) = (if nat_lt i k then hear t p i c else c) ∷ heard_below t p k (suc i) cs
 
 -- every cell hears the packet that was sent, if any was
-abbrev pub all_hear : Setting → Option Packet → List PlainCell → List PlainCell
-all_hear s None cs = cs
-all_hear s (Some p) cs = heard_below s p (length cs) 0 cs
+abbrev pub all_hear : Traffic → Option Packet → List PlainCell → List PlainCell
+all_hear t None cs = cs
+all_hear t (Some p) cs = heard_below t p (length cs) 0 cs
 
 module _ {X : Type 0} {H : X → Type 0} where
   -- the cells are seen as these plain cells, where f is what is seen of a box
   pub record AreCells (f : DynBox X Global H → Record) (cs : List (Cell X H)) (ps : List PlainCell) : Type 0 where
     pub as_many : length cs ≡ length ps
-    pub each : (j : ℕ) (c : Cell X H) (p : PlainCell) → slice_get cs j ≡ Some c → slice_get ps j ≡ Some p → IsCell f j c p
+    pub each : (j : ℕ) (c : Cell X H) (p : PlainCell) → slice_get cs j ≡ Some c → slice_get ps j ≡ Some p
+        → IsCell f j c p
 
   -- the cells and their next times are seen as these plain cells
-  pub record AreSeen (f : DynBox X Global H → Record) (cs : List (Cell X H)) (ts : List (Option ℕ)) (ps : List PlainCell) : Type 0 where
+  pub record AreSeen (f : DynBox X Global H → Record) (cs : List (Cell X H)) (ts : List (Option ℕ))
+      (ps : List PlainCell) : Type 0 where
     pub cells : AreCells f cs ps
     pub times : AreTimes ts ps
 
+  -- the cells of all members are seen as these plain cells
+  abbrev pub ShowCells : (DynBox X Global H → Record) → Cells X H → List PlainCell → Type 0
+  ShowCells f cs ps = AreSeen f cs.cells.items cs.times ps
+
   -- what a member's own step tells, where its cell was p among ps, and what it leaves
-  abbrev pub TellsTake : (DynBox X Global H → Record) → ℕ → List PlainCell → StepOutcome Stepped → Result (Option Row) CellFault → List (Cell X H) → List (Option ℕ) → Type 0
+  abbrev pub TellsTake : (DynBox X Global H → Record) → ℕ → List PlainCell → StepOutcome Stepped
+      → Result (Option Row) CellFault → List (Cell X H) → List (Option ℕ) → Type 0
   TellsTake f m ps o (Ok None) cs ts = (o ≡ Idle) × AreSeen f cs ts ps
-  TellsTake f m ps o (Ok (Some row)) cs ts = (d : Stepped) × (o ≡ Done d) × (d.row ≡ row) × AreSeen f cs ts (slice_set ps m d.cell)
+  TellsTake f m ps o (Ok (Some row)) cs ts =
+      (d : Stepped) × (o ≡ Done d) × (d.row ≡ row) × AreSeen f cs ts (slice_set ps m d.cell)
   TellsTake f m ps o (Err fault.NoMemory) cs ts = Unit {0}
   TellsTake f m ps o (Err fault.Spent) cs ts = o ≡ Spent
   TellsTake f m ps o (Err fault.CountFull) cs ts = o ≡ Full
+
+  -- so of whatever the cells are seen as
+  abbrev pub TakesStep : (DynBox X Global H → Record) → ℕ → ℕ → Cells X H → Result (Option Row) CellFault → Cells X H
+      → Type 0
+  TakesStep f m end old r new =
+      (ps : List PlainCell) (p : PlainCell) → ShowCells f old ps → slice_get ps m ≡ Some p
+      → TellsTake f m ps (own_step end m p) r new.cells.items new.times
+
+  -- the cell of member m has no such packet on its way
+  abbrev pub IsNewAt : ℕ → PacketId → Cells X H → Type 0
+  IsNewAt m id cs = (c : Cell X H) → slice_get cs.cells.items m ≡ Some c → BringsNone id c.inbox
+
+  -- after member m was handed a packet, which arrives at a tick
+  abbrev pub HandsTo : (DynBox X Global H → Record) → ℕ → Packet → ℕ → Cells X H → Cells X H → Type 0
+  HandsTo f m p at old new =
+      (ps : List PlainCell) (q : PlainCell) → ShowCells f old ps → slice_get ps m ≡ Some q
+      → ShowCells f new (slice_set ps m (hear_at p (Some at) q))

@@ -17,7 +17,7 @@ least_with n (Some k) = min n k
 
 -- the least distance from a member to another, if there is another
 unfoldable pub out : Setting → ℕ → Option ℕ
-out s m = least (map (s.distance m) (filter (λ b. not (b == m)) (range_with_len 0 s.members)))
+out s m = least (map (s.traffic.distance m) (filter (λ b. not (b == m)) (range_with_len 0 s.traffic.members)))
 
 -- the least pending time of all
 abbrev pub least_time : World → Option ℕ
@@ -29,7 +29,7 @@ IsWidth net width = (delay : ℕ) → least_delay net ≡ Some delay → width �
 
 -- the end of a window of this width that begins at a time: no event at `until` or later is handled
 abbrev pub width_end : Setting → ℕ → ℕ → ℕ
-width_end s width start = min (start + width) s.until
+width_end s width start = min (start + width) s.traffic.until
 
 -- ---- promises
 
@@ -40,11 +40,12 @@ promise_by _ _ = None
 
 -- before which time no packet of member m's arrives anywhere, if it is no listener, has an event pending and there is another member
 abbrev pub promise_of : Setting → ℕ → PlainCell → Option ℕ
-promise_of s m c = if is_listener (fixed_part c.holds).role then None else promise_by (time_of (next_event m c)) (out s m)
+promise_of s m c =
+    if is_listener (fixed_part c.holds).role then None else promise_by (time_of (next_event m c)) (out s m)
 
 -- the least of `until` and of the promises of the members from i on
 abbrev pub least_promise : Setting → ℕ → List PlainCell → ℕ
-least_promise s i [] = s.until
+least_promise s i [] = s.traffic.until
 least_promise s i (c ∷ cs) = least_with (least_promise s (i + 1) cs) (promise_of s i c)
 
 -- the end of a window before which no member that is no listener may be heard: the least of `until` and of all promises

@@ -24,7 +24,7 @@ pub record World : Type 0 where
 -- the cells of member i and on after member m's step: its own is the new one, and every other hears the packet
 unfoldable pub settled : Setting → ℕ → Stepped → ℕ → List PlainCell → List PlainCell
 settled s m d i [] = []
-settled s m d i (c ∷ cs) = (if i == m then d.cell else told_to s d.row.sent i c) ∷ settled s m d (suc i) cs
+settled s m d i (c ∷ cs) = (if i == m then d.cell else told_to s.traffic d.row.sent i c) ∷ settled s m d (suc i) cs
 
 -- the world after member m's step
 unfoldable pub after_step : Setting → World → ℕ → StepOutcome Stepped → StepOutcome World
@@ -49,7 +49,7 @@ step_to s end w = step_of s w (before end (least_event 0 w.cells))
 
 -- the step of the sequential run
 abbrev pub step : Setting → World → StepOutcome World
-step s w = step_to s s.until w
+step s w = step_to s s.traffic.until w
 
 -- ---- the sequential run
 
@@ -65,7 +65,7 @@ opening_cells s (suc n) i = opening_cell s i ∷ opening_cells s n (suc i)
 
 -- the world at the beginning
 unfoldable pub opening : Setting → World
-opening s = record { cells = opening_cells s s.members 0; trace = [] }
+opening s = record { cells = opening_cells s s.traffic.members 0; trace = [] }
 
 -- the sequential run comes to this world
 abbrev pub IsReached : Setting → World → Type 0
@@ -102,4 +102,4 @@ pub record IsOutcome (s : Setting) (trace : List Row) (exits : List Exit) (total
   pub last : IsLast s world
   pub trace_is : trace ≡ world.trace
   pub exits_are : exits ≡ exits_of world
-  pub totals_are : totals ≡ crossings s world.trace
+  pub totals_are : totals ≡ crossings s.traffic world.trace

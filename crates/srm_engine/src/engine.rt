@@ -1,78 +1,129 @@
-//! The cells of all members, and the sequential step.
-ghost use Rattle.std.specs.Prelude.{◌≡◌, ◌<◌, ◌+◌, ◌^◌, ℕ, List, IfOk, IfErr, length};
-ghost use Rattle.srm_net.specs.declared.packet.Packet.{Packet as P};
+//! The sequential engine.
+ghost use Rattle.std.specs.Prelude.{◌≡◌, ℕ, IfOk, map};
 ghost use Rattle.srm_scenario.specs.Plain.{network_of};
-ghost use Rattle.srm_cell.specs.Setting.{setting_of, IsFit};
-ghost use Rattle.srm_cell.specs.Cells.{PlainCell};
-ghost use Rattle.srm_engine.specs.Seen.{AreSeen, all_hear};
-ghost use Rattle.srm_engine.specs.Totalled.{numbers_of, and_sent, MaySend};
-ghost use Rattle.srm_engine.specs.World.{World, IsReached, step};
-ghost use Rattle.srm_engine.specs.Shown.{Shows, TellsWorld};
+ghost use Rattle.srm_engine.specs.Openings.{HoldOpeningRecords};
+ghost use Rattle.srm_engine.specs.Outcomes.{Runs};
+ghost use Rattle.srm_engine.specs.Engines.{IsSetUp, IsStillOf, MayStep, StepsOn, MaySendNow, Sends, MayDeliver, Delivers, IsOpened, OpensFrom};
 
-use crate::cells::Engine;
-use crate::count::count;
-use crate::fault::RunFault;
-use crate::moves::{deliver, take};
-use srm_cell::fault::CellFault;
+use crate::arrival::arrival;
+use crate::cells::Cells;
+use crate::fault::{RunFault, run_fault};
+use srm_cell::count::count;
+use srm_ledger::totals::Totals;
 use srm_member::member::Member;
 use srm_member::row::Row;
 use srm_net::net::Net;
+use srm_net::packet::Packet;
 use srm_scenario::scenario::Scenario;
 use std::alloc::{AllocError, Global};
 
-impl Engine {
-    /// The step of the sequential run: the least pending event of all is taken, and its packet handed out.
-    pub(crate) fn step(
-        &mut self,
+/// A run of a scenario: the cells of all members, and the totals so far.
+#[derive(Drop)]
+pub(crate) struct Engine<'a> {
+    pub(crate) scenario: &'a Scenario,
+    pub(crate) net: &'a Net,
+    pub(crate) cells: Cells,
+    pub(crate) totals: Totals,
+}
+
+impl<'a> Engine<'a> {
+    /// The cells of all members at the beginning, nothing counted.
+    pub(crate) fn open(
         alloc: Global,
-        scenario: &Scenario,
-        net: &Net,
-    ) -> Result<Option<Row>, RunFault>
+        scenario: &'a Scenario,
+        net: &'a Net,
+        members: Vec<Box<dyn Member>>,
+    ) -> Result<Engine<'a>, AllocError>
         requires network { net.now ≡ network_of scenario.now }
-        requires known { (seed : ℕ) × (w : World) × IsReached (setting_of scenario.now net.now seed) w × Shows (λ b. (⟦<dyn Member as Member>⟧ b.vtable).plain b.value) (setting_of scenario.now net.now seed) self.old w × (length w.trace + 3 < 2 ^ 64) }
-        ensures { (seed : ℕ) (w : World) → Shows (λ b. (⟦<dyn Member as Member>⟧ b.vtable).plain b.value) (setting_of scenario.now net.now seed) self.old w → TellsWorld (λ b. (⟦<dyn Member as Member>⟧ b.vtable).plain b.value) (setting_of scenario.now net.now seed) w (step (setting_of scenario.now net.now seed) w) result self.new }
+        requires boxes { (seed : ℕ) × HoldOpeningRecords scenario.now net.now seed (map (λ b. plain b) members.items) }
+        ensures given { IfOk result (λ e. (e.scenario.now ≡ scenario.now) × (e.net.now ≡ net.now)) }
+        ensures opened { IfOk result (λ e. OpensFrom (λ b. plain b) scenario.now net.now (map (λ b. plain b) members.items) e) }
     {
-        let until = scenario.until();
-        let Some((time, member)) = self.times.least() else {
+        let totals = Totals::new(alloc, net.links().len() as u16)?;
+        let cells = Cells::open(alloc, scenario, members)?;
+        Ok(Engine {
+            scenario,
+            net,
+            cells,
+            totals,
+        })
+    }
+
+    /// Steps, one after the other, until nothing is pending before the end of the run.
+    pub(crate) fn run(&mut self, alloc: Global) -> Result<Vec<Row>, RunFault>
+        requires network { IsSetUp self.old }
+        requires opened { (seed : ℕ) × IsOpened (λ b. plain (b.vtable, b.value)) seed self.old }
+        ensures same { IsStillOf self.old self.new }
+        ensures trace { Runs (λ b. plain (b.vtable, b.value)) self.old result self.new }
+    {
+        let mut trace = Vec::new(alloc);
+        loop {
+            match self.step(alloc) {
+                Ok(None) => return Ok(trace),
+                Ok(Some(row)) => {
+                    if trace.push(row).is_err() {
+                        return Err(RunFault::NoMemory);
+                    }
+                }
+                Err(fault) => return Err(fault),
+            }
+        }
+    }
+
+    /// The step of the sequential run: the least pending event of all is taken, and its packet handed out.
+    pub(crate) fn step(&mut self, alloc: Global) -> Result<Option<Row>, RunFault>
+        requires network { IsSetUp self.old }
+        requires known { MayStep (λ b. plain (b.vtable, b.value)) self.old }
+        ensures same { IsStillOf self.old self.new }
+        ensures step { StepsOn (λ b. plain (b.vtable, b.value)) self.old result self.new }
+    {
+        let until = self.scenario.until();
+        let Some((time, member)) = self.cells.times.least() else {
             return Ok(None);
         };
         if time >= until {
             return Ok(None);
         }
-        let row = match take(alloc, &mut self.cells, &mut self.times, member, until) {
+        let row = match self.cells.step(alloc, member, until) {
             Ok(Some(row)) => row,
             Ok(None) => return Ok(None),
-            Err(CellFault::NoMemory) => return Err(RunFault::NoMemory),
-            Err(CellFault::CountFull) => return Err(RunFault::CountFull),
-            Err(CellFault::Spent) => unreachable!(),
+            Err(fault) => return Err(run_fault(fault)),
         };
-        match self.send(scenario, net, &row) {
+        match self.send(&row) {
             Ok(()) => Ok(Some(row)),
-            Err(fault) => Err(fault),
+            Err(AllocError) => Err(RunFault::NoMemory),
         }
     }
 
     // Counts and hands out the packet that a row sent, if any.
-    fn send(&mut self, scenario: &Scenario, net: &Net, row: &Row) -> Result<(), RunFault>
-        requires network { net.now ≡ network_of scenario.now }
-        requires known { (seed : ℕ) × (ps : List PlainCell) × (qs : List P) × AreSeen (λ b. (⟦<dyn Member as Member>⟧ b.vtable).plain b.value) self.old.cells.items self.old.times ps × (self.old.totals ≡ numbers_of (setting_of scenario.now net.now seed) qs) × MaySend (length scenario.now.members) ps qs row.now.sent }
-        ensures fault { IfErr result (λ e. e ≡ RunFault.NoMemory) }
-        ensures sent { IfOk result (λ _. (seed : ℕ) (ps : List PlainCell) (qs : List P) → AreSeen (λ b. (⟦<dyn Member as Member>⟧ b.vtable).plain b.value) self.old.cells.items self.old.times ps → self.old.totals ≡ numbers_of (setting_of scenario.now net.now seed) qs → AreSeen (λ b. (⟦<dyn Member as Member>⟧ b.vtable).plain b.value) self.new.cells.items self.new.times (all_hear (setting_of scenario.now net.now seed) row.now.sent ps) × (self.new.totals ≡ numbers_of (setting_of scenario.now net.now seed) (and_sent row.now.sent qs))) }
+    fn send(&mut self, row: &Row) -> Result<(), AllocError>
+        requires network { IsSetUp self.old }
+        requires may { MaySendNow (λ b. plain (b.vtable, b.value)) self.old row.now.sent }
+        ensures same { IsStillOf self.old self.new }
+        ensures sent { IfOk result (λ _. Sends (λ b. plain (b.vtable, b.value)) row.now.sent self.old self.new) }
     {
         let Some(packet) = &row.sent else {
             return Ok(());
         };
-        count(&mut self.totals, net, scenario.drops(), packet);
-        match deliver(
-            scenario,
-            net,
-            scenario.drops(),
-            &mut self.cells,
-            &mut self.times,
-            packet,
-        ) {
-            Ok(()) => Ok(()),
-            Err(AllocError) => Err(RunFault::NoMemory),
+        count(&mut self.totals, self.scenario, self.net, packet);
+        self.deliver(packet)?;
+        Ok(())
+    }
+
+    // Every member to which a packet has a flight is handed it.
+    fn deliver(&mut self, packet: &Packet) -> Result<(), AllocError>
+        requires network { IsSetUp self.old }
+        requires may { MayDeliver (λ b. plain (b.vtable, b.value)) packet.now self.old }
+        ensures same { IsStillOf self.old self.new }
+        ensures totals { self.new.totals ≡ self.old.totals }
+        ensures heard { IfOk result (λ _. Delivers (λ b. plain (b.vtable, b.value)) packet.now self.old self.new) }
+    {
+        let listed = self.scenario.drops().lists_packet(packet.id);
+        for member in 0..self.scenario.members() {
+            if let Some(at) = arrival(self.scenario, self.net, packet, listed, member) {
+                self.cells.hand(member, packet, at)?;
+            }
         }
+        Ok(())
     }
 }

@@ -1,4 +1,8 @@
 //! Why a run gives no outcome.
+ghost use Rattle.std.specs.Prelude.{◌≡◌, ◌≢◌};
+ghost use Rattle.srm_engine.specs.Faults.{fault_of};
+
+use srm_cell::fault::CellFault;
 
 /// Why a run gives no outcome.
 #[derive(Clone, Copy, Debug, PartialEq, Eq)]
@@ -7,4 +11,16 @@ pub enum RunFault {
     NoMemory,
     /// A member was to send a packet, and its packet count, 2^48, is used up.
     CountFull,
+}
+
+// What a cell's refusal is to a run, in which no cell meets an event after its member left.
+pub(crate) fn run_fault(fault: CellFault) -> RunFault
+    requires { fault ≢ CellFault.Spent }
+    ensures { result ≡ fault_of fault }
+{
+    match fault {
+        CellFault::NoMemory => RunFault::NoMemory,
+        CellFault::CountFull => RunFault::CountFull,
+        CellFault::Spent => unreachable!(),
+    }
 }

@@ -1,9 +1,14 @@
 //! The laws of the model, over its definitions alone.
-ghost use Rattle.srm_engine.specs.Laws.{RunsBeginEmpty, KeysRise, PendingKeysDiffer, CreatedEventsAreLater, RunEnds, OwnRunsEnd, NeverSpent, SchedulesAgree, RefusalsAreMet, CellsRunAlone, WindowsAreSafe, PromisesAreSafe, LinkDelaysAreSafe, PromiseEndsAreSafe, MergesAgree};
+ghost use Rattle.srm_engine.specs.Laws.{RunsBeginEmpty, OutcomesAreOne, KeysRise, PendingKeysDiffer, StepsTakeTheLeast, CreatedEventsAreLater, RunEnds, OwnRunsEnd, NeverSpent, SchedulesAgree, SchedulesAreAnswered, RefusalsAreMet, CellsRunAlone, WindowsAreSafe, PromisesAreSafe, LinkDelaysAreSafe, PromiseEndsAreSafe, MergesAgree};
 
 /// A run begins with no row.
 pub fn runs_begin_empty()
     ensures { RunsBeginEmpty }
+{}
+
+/// A complete run has one last world, and no step of it meets a packet count that is used up.
+pub fn outcomes_are_one()
+    ensures { OutcomesAreOne }
 {}
 
 /// The keys of the rows of a sequential run rise: no two events have one key.
@@ -14,6 +19,11 @@ pub fn keys_rise()
 /// No two pending events of a world of the sequential run have one key.
 pub fn pending_keys_differ()
     ensures { PendingKeysDiffer }
+{}
+
+/// Each step of the sequential run takes the least pending event of all members.
+pub fn steps_take_the_least()
+    ensures { StepsTakeTheLeast }
 {}
 
 /// Every event that an event creates has a later time.
@@ -39,6 +49,11 @@ pub fn never_spent()
 /// Every complete schedule to a safe end comes to the world to which the sequential run comes.
 pub fn schedules_agree()
     ensures { SchedulesAgree }
+{}
+
+/// Where every own run to a safe end has a result, no schedule to that end meets a step that has none.
+pub fn schedules_are_answered()
+    ensures { SchedulesAreAnswered }
 {}
 
 /// Where an own run to a safe end has no result, the sequential run meets a step that has none.

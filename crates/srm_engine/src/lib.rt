@@ -3,15 +3,12 @@
 
 pub mod arrival;
 mod cells;
-mod count;
 mod engine;
 pub mod fault;
 pub mod laws;
 pub mod laws_of_names;
 pub mod laws_of_packets;
-mod moves;
+pub mod laws_of_windows;
 pub mod next_times;
 pub mod outcome;
-mod phases;
-mod start;
 pub mod step_run;

@@ -1,14 +1,12 @@
 //! The sequential run.
 ghost use Rattle.std.specs.Prelude.{◌≡◌, ℕ, map};
 ghost use Rattle.srm_scenario.specs.Plain.{network_of};
-ghost use Rattle.srm_cell.specs.Setting.{setting_of};
-ghost use Rattle.srm_engine.specs.Outcomes.{HoldOpeningRecords, TellsRun};
+ghost use Rattle.srm_engine.specs.Openings.{HoldOpeningRecords};
+ghost use Rattle.srm_engine.specs.Outcomes.{RunsFrom};
 
-use crate::cells::Engine;
+use crate::engine::Engine;
 use crate::fault::RunFault;
 use crate::outcome::Outcome;
-use crate::phases::{finish, run};
-use crate::start::open;
 use srm_member::member::Member;
 use srm_net::net::Net;
 use srm_scenario::scenario::Scenario;
@@ -26,18 +24,17 @@ pub fn step_run(
 ) -> Result<Outcome, RunFault>
     requires network { net.now ≡ network_of scenario.now }
     requires boxes { (seed : ℕ) × HoldOpeningRecords scenario.now net.now seed (map (λ b. plain b) members.items) }
-    ensures { (seed : ℕ) → HoldOpeningRecords scenario.now net.now seed (map (λ b. plain b) members.items) → TellsRun (setting_of scenario.now net.now seed) result }
+    ensures { RunsFrom scenario.now net.now (map (λ b. plain b) members.items) result }
 {
-    let mut engine = match open(alloc, scenario, net, members) {
-        Ok(engine) => engine,
-        Err(_) => return Err(RunFault::NoMemory),
+    let Ok(mut engine) = Engine::open(alloc, scenario, net, members) else {
+        return Err(RunFault::NoMemory);
     };
-    let trace = match run(alloc, scenario, net, &mut engine) {
+    let trace = match engine.run(alloc) {
         Ok(trace) => trace,
         Err(fault) => return Err(fault),
     };
     let Engine { cells, totals, .. } = engine;
-    let exits = match finish(alloc, cells) {
+    let exits = match cells.finish(alloc) {
         Ok(exits) => exits,
         Err(fault) => return Err(fault),
     };

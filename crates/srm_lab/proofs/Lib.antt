@@ -1,2 +1,4 @@
+pub mod CommandLines
 pub mod Openings
 pub mod Refusals
+pub mod Texts

@@ -1,11 +1,13 @@
 -- The line that tells why the program refuses, without its line feed.
-use Rattle.std.specs.Prelude.{ℕ, List, ◌++◌, codes, decimal}
+use Rattle.std.specs.Prelude.{ℕ, List, [], ◌++◌, codes, decimal}
 use Rattle.srm_scenario.specs.declared.fault.Part.{Part}
 use Rattle.srm_scenario.specs.declared.fault.Part.TheVariants as part
 use Rattle.srm_scenario.specs.declared.fault.ScenarioFault.{ScenarioFault}
 use Rattle.srm_scenario.specs.declared.fault.ScenarioFault.TheVariants as scenario
 use Rattle.srm_lab.specs.declared.fault.LabFault.{LabFault}
 use Rattle.srm_lab.specs.declared.fault.LabFault.TheVariants as lab
+use Rattle.srm_lab.specs.declared.fault.LineFault.{LineFault}
+use Rattle.srm_lab.specs.declared.fault.LineFault.TheVariants as line
 use Rattle.srm_lab.specs.declared.fault.Fault.{Fault}
 use Rattle.srm_lab.specs.declared.fault.Fault.TheVariants as fault
 
@@ -17,6 +19,13 @@ part_word part.Member = codes "member"
 part_word part.Draw = codes "draw"
 part_word part.Session = codes "session"
 part_word part.Drop = codes "drop"
+
+-- the line of a command line for which nothing is run; where help is asked for there is none
+abbrev pub command_line : LineFault → List ℕ
+command_line line.Line = codes "command line refused"
+command_line line.BadWord = codes "command line refused"
+command_line (line.Help text) = []
+command_line line.NoMemory = codes "refused: no-memory"
 
 -- the line of a scenario that is refused
 abbrev pub scenario_line : ScenarioFault → List ℕ
@@ -39,6 +48,7 @@ lab_line (lab.WriteFault written) = codes "refused: write-fault " ++ decimal wri
 
 -- the line of a refusal
 abbrev pub line_of_fault : Fault → List ℕ
+line_of_fault (fault.Line f) = command_line f
 line_of_fault (fault.Scenario f) = scenario_line f
 line_of_fault (fault.Lab f) = lab_line f
 line_of_fault fault.NoMemory = codes "refused: no-memory"

@@ -1,23 +1,30 @@
 -- The report of a run, and what an outlet takes of it.
 use Rattle.std.specs.Prelude.{ℕ, ◌+◌, ◌<◌, List, length, take, Option, Result, Ok, Err}
 use Rattle.std.specs.Io.KnownBytes.{Appends, Keeps}
+use Rattle.srm_net.specs.Network.{Network}
+use Rattle.srm_scenario.specs.Plain.{PlainScenario}
 use Rattle.srm_member.specs.declared.row.Row.{Row}
-use Rattle.srm_cell.specs.Setting.{Setting}
+use Rattle.srm_cell.specs.Crossings.{crossings}
+use Rattle.srm_cell.specs.Setting.{setting_of, traffic_of}
 use Rattle.srm_engine.specs.World.{World, IsLast, RunMeetsFull}
+use Rattle.srm_report.specs.Links.{links_table}
+use Rattle.srm_report.specs.Members.{members_table}
 use Rattle.srm_report.specs.Trace.{trace_of_rows}
 use Rattle.srm_lab.specs.declared.fault.LabFault.{LabFault}
 use Rattle.srm_lab.specs.declared.fault.LabFault.TheVariants.{NoMemory, CountFull, WriteFault}
 use Rattle.srm_lab.specs.declared.options.Options.{Options}
 use Rattle.srm_lab.specs.declared.options.Show.{Show}
-use Rattle.srm_lab.specs.declared.options.Show.TheVariants.{Trace}
+use Rattle.srm_lab.specs.declared.options.Show.TheVariants.{Trace, Members, Links}
 
--- what is shown of these rows
-abbrev pub shown : Show → List Row → List ℕ
-shown Trace rows = trace_of_rows rows
+-- what is shown of a run of a scenario on its network that left these rows and totals
+abbrev pub shown : Show → PlainScenario → Network → List Row → List ℕ → List ℕ
+shown Trace p net rows totals = trace_of_rows rows
+shown Members p net rows totals = members_table p rows
+shown Links p net rows totals = links_table totals
 
--- the report of a run that left these rows
-abbrev pub report_of : Options → List Row → List ℕ
-report_of o rows = shown o.show rows
+-- the report of a run of a scenario on its network that ended in this world: its totals are the crossings of its packets
+abbrev pub report_of : Options → PlainScenario → Network → World → List ℕ
+report_of o p net w = shown o.show p net w.trace (crossings (traffic_of p net) w.trace)
 
 -- the count of an outlet's failures after a report was written to it: one more exactly where the answer is that it failed
 abbrev pub failures_after : {T : Type 0} → Result T LabFault → ℕ → ℕ
@@ -33,11 +40,17 @@ Writes old new report (Err NoMemory) = Keeps old new
 Writes old new report (Err CountFull) = Keeps old new
 Writes old new report (Err (WriteFault written)) = Appends old new (take written report) × (written < length report)
 
+-- the sequential run of a scenario on its network, with random words of this seed, ends in this world
+abbrev pub EndsIn : PlainScenario → Network → ℕ → World → Type 0
+EndsIn p net seed w = IsLast (setting_of p net seed) w
+
 -- what an outlet took of the report of a scenario's sequential run: all of it, or as many bytes as the fault tells; and nothing after
 -- another refusal, of which CountFull says that the run meets a step for which the packet count is used up
-abbrev pub TellsReport : {T : Type 0} → Setting → Options → Option (List ℕ) → Option (List ℕ) → Result T LabFault → Type 0
-TellsReport s o old new (Ok v) = (w : World) × IsLast s w × Appends old new (report_of o w.trace)
-TellsReport s o old new (Err NoMemory) = Keeps old new
-TellsReport s o old new (Err CountFull) = RunMeetsFull s × Keeps old new
-TellsReport s o old new (Err (WriteFault written)) =
-    (w : World) × IsLast s w × Appends old new (take written (report_of o w.trace)) × (written < length (report_of o w.trace))
+abbrev pub TellsReport : {T : Type 0} → PlainScenario → Network → ℕ → Options
+    → Option (List ℕ) → Option (List ℕ) → Result T LabFault → Type 0
+TellsReport p net seed o old new (Ok v) = (w : World) × EndsIn p net seed w × Appends old new (report_of o p net w)
+TellsReport p net seed o old new (Err NoMemory) = Keeps old new
+TellsReport p net seed o old new (Err CountFull) = RunMeetsFull (setting_of p net seed) × Keeps old new
+TellsReport p net seed o old new (Err (WriteFault written)) =
+    (w : World) × EndsIn p net seed w
+    × Appends old new (take written (report_of o p net w)) × (written < length (report_of o p net w))

@@ -1,8 +1,8 @@
 //! The line of a refusal.
 ghost use Rattle.std.specs.Prelude.{◌≡◌, IfOk, string_bytes};
-ghost use Rattle.srm_lab.specs.Lines.{lab_line, line_of_fault, part_word, scenario_line};
+ghost use Rattle.srm_lab.specs.Lines.{command_line, lab_line, line_of_fault, part_word, scenario_line};
 
-use crate::fault::{Fault, LabFault};
+use crate::fault::{Fault, LabFault, LineFault};
 use srm_scenario::fault::{Part, ScenarioFault};
 use std::alloc::{AllocError, Global};
 
@@ -23,11 +23,24 @@ impl From<AllocError> for NoMemory {
 pub fn line_of(alloc: Global, fault: &Fault) -> Result<String, NoMemory>
     ensures { IfOk result (λ line. string_bytes line ≡ line_of_fault fault.now) }
 {
-    match *fault {
-        Fault::Scenario(fault) => line_of_scenario_fault(alloc, fault),
-        Fault::Lab(fault) => line_of_lab_fault(alloc, fault),
+    match fault {
+        Fault::Line(fault) => line_of_line_fault(alloc, fault),
+        Fault::Scenario(fault) => line_of_scenario_fault(alloc, *fault),
+        Fault::Lab(fault) => line_of_lab_fault(alloc, *fault),
         Fault::NoMemory => Ok(String::from_str(alloc, "refused: no-memory")?),
     }
+}
+
+fn line_of_line_fault(alloc: Global, fault: &LineFault) -> Result<String, NoMemory>
+    ensures { IfOk result (λ line. string_bytes line ≡ command_line fault.now) }
+{
+    let line = match fault {
+        LineFault::Line => "command line refused",
+        LineFault::BadWord => "command line refused",
+        LineFault::Help { .. } => "",
+        LineFault::NoMemory => "refused: no-memory",
+    };
+    Ok(String::from_str(alloc, line)?)
 }
 
 fn line_of_scenario_fault(alloc: Global, fault: ScenarioFault) -> Result<String, NoMemory>
@@ -110,7 +123,14 @@ mod tests {
             assert_eq!(rt; line.map_err(|_| "no line")?.as_str(), want);
         }
         let written = 10;
+        let help = LineFault::Help {
+            text: String::from_str(rt.alloc(), "usage")?,
+        };
         for (fault, want) in [
+            (Fault::Line(LineFault::Line), "command line refused"),
+            (Fault::Line(LineFault::BadWord), "command line refused"),
+            (Fault::Line(help), ""),
+            (Fault::Line(LineFault::NoMemory), "refused: no-memory"),
             (Fault::Lab(LabFault::NoMemory), "refused: no-memory"),
             (Fault::Lab(LabFault::CountFull), "refused: count-full"),
             (

@@ -1,10 +1,16 @@
 //! Runs a scenario of SRM loss recovery and writes its report.
 #![tactic(auto)]
 
+mod command_line;
+#[cfg(test)]
+mod command_line_tests;
 mod fault;
 mod line;
 mod members;
 mod options;
+mod program;
+#[cfg(test)]
+mod program_tests;
 #[cfg(test)]
 mod refusal_tests;
 mod report;
@@ -15,9 +21,7 @@ mod tests;
 #[cfg(test)]
 mod totals_tests;
 
-use crate::line::{NoMemory, line_of};
-use crate::options::{Options, Show};
-use crate::session::simulate;
+use crate::program::program;
 use srm_report::outlet::WriteOutlet;
 use srm_scenario::feed::ReadFeed;
 use std::process::ExitCode;
@@ -25,15 +29,7 @@ use std::process::ExitCode;
 fn main(rt: HostRuntime) -> ExitCode {
     let mut feed = ReadFeed::new(rt.stdin());
     let mut outlet = WriteOutlet::new(rt.stdout());
-    let options = Options { show: Show::Trace };
-    match simulate(rt.alloc(), &mut feed, 0, options, &mut outlet) {
-        Ok(()) => ExitCode::SUCCESS,
-        Err(fault) => {
-            let _ = match line_of(rt.alloc(), &fault) {
-                Ok(line) => eprintln!(rt; "{line}"),
-                Err(NoMemory) => eprintln!(rt; "refused: no-memory"),
-            };
-            ExitCode::FAILURE
-        }
-    }
+    let mut errors = WriteOutlet::new(rt.stderr());
+    let words = std::env::args(&rt);
+    ExitCode::from(program(rt.alloc(), words, &mut feed, &mut outlet, &mut errors))
 }

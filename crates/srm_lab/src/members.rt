@@ -1,7 +1,6 @@
 //! The members of a scenario, made by their roles.
 ghost use Rattle.std.specs.Prelude.{◌≡◌, ◌<◌, ◌-◌, ◌^◌};
 ghost use Rattle.srm_scenario.specs.Plain.{network_of};
-ghost use Rattle.srm_cell.specs.Setting.{setting_of};
 ghost use Rattle.srm_lab.specs.Sessions.{session_failures, TellsSession};
 
 use crate::fault::Fault;
@@ -33,7 +32,8 @@ pub(crate) fn run_members<O: Outlet>(
     requires network { net.now ≡ network_of scenario.now }
     requires count { O.failures outlet.old < 2 ^ 64 - 1 }
     ensures failures { O.failures outlet.new ≡ session_failures result (O.failures outlet.old) }
-    ensures report { TellsSession (setting_of scenario.now net.now seed) options (O.taken outlet.old) (O.taken outlet.new) result }
+    ensures report { TellsSession scenario.now net.now seed options
+        (O.taken outlet.old) (O.taken outlet.new) result }
 {
     let mut members: Vec<Box<dyn Member>> = Vec::new(alloc);
     for m in 0..scenario.members() {

@@ -5,6 +5,10 @@
 pub enum Show {
     /// The trace: every event, in order.
     Trace,
+    /// A row for each member.
+    Members,
+    /// A row for each link.
+    Links,
 }
 
 /// What the program is asked for.

@@ -14,7 +14,7 @@ use std::test::Fail;
 
 // A device that fails.
 #[derive(Drop)]
-struct Broken;
+pub(crate) struct Broken;
 
 impl Read for Broken {
     fn read(&mut self, _buf: &mut [u8]) -> io::Result<usize> {

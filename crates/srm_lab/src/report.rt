@@ -1,34 +1,46 @@
 //! Writing the report of a run.
 ghost use Rattle.std.specs.Prelude.{◌≡◌, ◌≢◌, ◌<◌, ◌-◌, ◌^◌};
-ghost use Rattle.srm_lab.specs.Reports.{failures_after, report_of, Writes};
+ghost use Rattle.srm_lab.specs.Reports.{failures_after, shown, Writes};
 
 use crate::fault::LabFault;
 use crate::options::{Options, Show};
+use srm_ledger::totals::Totals;
 use srm_member::row::Row;
+use srm_net::net::Net;
 use srm_report::fault::ReportFault;
+use srm_report::links::links_text;
+use srm_report::members::members_text;
 use srm_report::outlet::Outlet;
 use srm_report::trace::trace_text;
 use srm_report::writing::{WriteFault, write_out};
+use srm_scenario::scenario::Scenario;
 use std::alloc::Global;
 
-/// Writes the report of a run that left these rows.
+/// Writes the report of a run of a scenario on its network, which left these rows and totals.
 ///
 /// # Errors
 /// In this order: memory ran out, and nothing was written; the outlet failed, and has taken as many bytes as the fault
 /// tells.
 pub(crate) fn write_report<O: Outlet>(
     alloc: Global,
+    scenario: &Scenario,
+    net: &Net,
     rows: &[Row],
+    totals: &Totals,
     options: Options,
     outlet: &mut O,
 ) -> Result<(), LabFault>
     requires { O.failures outlet.old < 2 ^ 64 - 1 }
     ensures failures { O.failures outlet.new ≡ failures_after result (O.failures outlet.old) }
     ensures run { result ≢ Err LabFault.CountFull }
-    ensures taken { Writes (O.taken outlet.old) (O.taken outlet.new) (report_of options rows.now) result }
+    ensures taken { Writes (O.taken outlet.old) (O.taken outlet.new)
+        (shown options.show scenario.now net.now rows.now totals.now) result }
 {
+    let _ = net;
     let text = match options.show {
         Show::Trace => trace_text(alloc, rows),
+        Show::Members => members_text(alloc, scenario, rows),
+        Show::Links => links_text(alloc, totals),
     };
     match text {
         Err(ReportFault::NoMemory) => Err(LabFault::NoMemory),

@@ -1,7 +1,6 @@
 //! One run of a scenario, and its report.
 ghost use Rattle.std.specs.Prelude.{◌≡◌, ◌<◌, ◌-◌, ◌^◌, ℕ, map};
 ghost use Rattle.srm_scenario.specs.Plain.{network_of};
-ghost use Rattle.srm_cell.specs.Setting.{setting_of};
 ghost use Rattle.srm_engine.specs.Outcomes.{HoldOpeningRecords};
 ghost use Rattle.srm_lab.specs.Reports.{failures_after, TellsReport};
 
@@ -38,10 +37,18 @@ pub fn run<O: Outlet>(
     // The count rises exactly where the answer is `WriteFault`, and then by one.
     ensures failures { O.failures outlet.new ≡ failures_after result (O.failures outlet.old) }
     ensures report { (seed : ℕ) → HoldOpeningRecords scenario.now net.now seed (map (λ b. plain b) members.items)
-        → TellsReport (setting_of scenario.now net.now seed) options (O.taken outlet.old) (O.taken outlet.new) result }
+        → TellsReport scenario.now net.now seed options (O.taken outlet.old) (O.taken outlet.new) result }
 {
     match step_run(alloc, scenario, net, members) {
-        Ok(outcome) => write_report(alloc, outcome.trace.as_slice(), options, outlet),
+        Ok(outcome) => write_report(
+            alloc,
+            scenario,
+            net,
+            &outcome.trace,
+            &outcome.totals,
+            options,
+            outlet,
+        ),
         Err(RunFault::NoMemory) => Err(LabFault::NoMemory),
         Err(RunFault::CountFull) => Err(LabFault::CountFull),
     }

@@ -51,9 +51,18 @@ fn drawn_timers_follow_the_seed(rt: HostRuntime) -> Result<(), Fail> {
 
 // Takes as many bytes as it has room for, and then fails.
 #[derive(Drop)]
-struct Narrow {
-    taken: Vec<u8>,
+pub(crate) struct Narrow {
+    pub(crate) taken: Vec<u8>,
     room: usize,
+}
+
+impl Narrow {
+    pub(crate) fn new(alloc: Global, room: usize) -> Self {
+        Narrow {
+            taken: Vec::new(alloc),
+            room,
+        }
+    }
 }
 
 impl Write for Narrow {
@@ -77,10 +86,7 @@ fn an_outlet_that_fails_has_taken_the_front_of_the_trace(rt: HostRuntime) -> Res
     let options = Options { show: Show::Trace };
     let example = example("chain_of_five_one_loss")?;
     let mut feed = ReadFeed::new(example.scenario.as_bytes());
-    let mut outlet = WriteOutlet::new(Narrow {
-        taken: Vec::new(rt.alloc()),
-        room: 10,
-    });
+    let mut outlet = WriteOutlet::new(Narrow::new(rt.alloc(), 10));
     let refused = simulate(rt.alloc(), &mut feed, 0, options, &mut outlet);
     let fault = LabFault::WriteFault { written: 10 };
     assert_eq!(rt; refused, Err(Fault::Lab(fault)));

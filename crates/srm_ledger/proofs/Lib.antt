@@ -1,1 +1,4 @@
 pub mod Joined
+pub mod Zips
+pub mod Keeps
+pub mod Tied

@@ -1,7 +1,7 @@
 pub mod AllIn
 pub mod Bounds
 mod Calls
-mod Compare
+pub mod Compare
 mod Doublings
 mod Earliest
 mod Indexes
@@ -9,6 +9,6 @@ pub mod Changes
 pub mod FewerTimers
 pub mod LawProofs
 mod Losses
-mod Maps
+pub mod Maps
 pub mod OrderLemmas
 pub mod TableChanges

@@ -6,3 +6,4 @@ pub mod Examples
 pub mod Laws
 pub mod Pending
 pub mod Fit
+pub mod Orderly

@@ -1,7 +1,7 @@
 //! Rows of a trace.
 use crate::told::Told;
 use srm_net::key::Key;
-use srm_net::packet::{Name, Packet, PacketId};
+use srm_net::packet::{Name, Packet};
 use srm_net::sequence::Sequence;
 
 /// The kind of a row's event, as a trace names it.
@@ -30,14 +30,14 @@ pub enum Word {
 }
 
 /// What a row's event is about.
-#[derive(Clone, Copy, Debug, PartialEq, Eq)]
+#[derive(Debug, Drop)]
 pub enum About {
     /// Nothing.
     Nothing,
     /// A packet that arrived.
     Of {
         /// The packet.
-        packet: PacketId,
+        packet: Packet,
     },
     /// A name: that of a timer, or what was drawn.
     Named {

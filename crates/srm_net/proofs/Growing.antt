@@ -3,7 +3,7 @@ use Rattle.std.proofs.Common.{◌≡◌, ℕ, zero, suc, ◌+◌, ◌<◌, ◌�
 use Rattle.std.proofs.lemmas.Bool.{ne_eqb, cases_Bool, both_ways, false≢true}
 use Rattle.srm_net.specs.declared.link.LinkSpec.{LinkSpec}
 use Rattle.srm_net.specs.declared.step.Step.{Step}
-use Rattle.srm_net.specs.Network.{Network, Joins, IsWalk, IsWithin, IsTree}
+use Rattle.srm_net.specs.Network.{Network, Joins, IsWalk, IsWithin, IsConnected, IsTree}
 use Rattle.srm_net.specs.Paths.{is_in}
 use Rattle.srm_net.specs.Growth.{Attaches, attached, used, Grows}
 use Rattle.srm_net.proofs.Lists.{get_below, all_get}
@@ -141,21 +141,24 @@ leaves_by links nodes u (l ∷ ls) v ns w i n =
       | inr e ↦ (record { node = w.1; parent = u; link = l }, record { spec = w.0; link = w.3; joins = w.4; parent = i; node = e })
     ]
 
--- a tree grows to any size
-pub grows_to : (w : Network) → IsTree w → (n : ℕ) → n < w.nodes → (ss : List Step) × Grows w.links ss × (length ss ≡ n)
-grows_to w t zero h = ([], tt, refl)
-grows_to w t (suc n) h =
-    let before = grows_to w t n (omega arith) in
+pub root_attached : (ss : List Step) → is_in (attached ss) 0 ≡ true
+root_attached [] = refl
+root_attached (s ∷ ss) = in_tail s.node 0 (attached ss) (root_attached ss)
+
+-- where all nodes are connected a tree grows to any size
+pub grows_in : (w : Network) → 1 ≤ w.nodes → IsConnected w → (n : ℕ) → n < w.nodes → (ss : List Step) × Grows w.links ss × (length ss ≡ n)
+grows_in w some connected zero h = ([], tt, refl)
+grows_in w some connected (suc n) h =
+    let before = grows_in w some connected n (omega arith) in
     let many = attached_length before.0 in
     let size : length before.0 ≡ n = before.2 in
     let missing = one_missing w.nodes (attached before.0) (omega arith) in
-    let path = t.connected 0 missing.0 t.some_nodes missing.1 in
+    let path = connected 0 missing.0 some missing.1 in
     let more = leaves_by w.links (attached before.0) 0 path.0 missing.0 path.1.0 path.1.1 (root_attached before.0) missing.2 in
     (more.0 ∷ before.0, (more.1, before.1), omega arith)
-  where
-    root_attached : (ss : List Step) → is_in (attached ss) 0 ≡ true
-    root_attached [] = refl
-    root_attached (s ∷ ss) = in_tail s.node 0 (attached ss) (root_attached ss)
+
+pub grows_to : (w : Network) → IsTree w → (n : ℕ) → n < w.nodes → (ss : List Step) × Grows w.links ss × (length ss ≡ n)
+grows_to w t n h = grows_in w t.some_nodes t.connected n h
 
 pub tree_cuts : (w : Network) → IsTree w → HasCuts w.links
 tree_cuts w t =

@@ -7,15 +7,20 @@ use Rattle.std.specs.Cmp.Lexicographic.{nat_list_cmp_total}
 use Rattle.std.specs.FinMap.{slice_cmp-IsAntisymmetric, nat_cmp-IsAntisymmetric}
 use Rattle.std.proofs.lemmas.Bool.{ne_eqb, eqb-false, cases_Bool, cases_eq, false≢true}
 use Rattle.srm_net.specs.declared.key.Key.{Key}
+use Rattle.srm_net.specs.declared.packet.Heard.{Heard}
+use Rattle.srm_net.specs.declared.packet.Name.{Name}
+use Rattle.srm_net.specs.declared.packet.PacketId.{PacketId}
+use Rattle.srm_net.specs.declared.packet.PageId.{PageId}
 use Rattle.srm_net.specs.declared.link.LinkSpec.{LinkSpec}
 use Rattle.srm_net.specs.declared.link.DropSpec.{DropSpec}
 use Rattle.srm_net.specs.Orders.{AllAfter}
 use Rattle.srm_net.specs.Keys.{key_cmp, numbers_of_key}
+use Rattle.srm_net.specs.Names.{name_cmp, page_cmp, id_cmp, heard_cmp}
 use Rattle.srm_net.specs.Network.{Network, IsTree, IsWalk, HasDelay, IsNetwork}
 use Rattle.srm_net.specs.Paths.{is_in, route, host, member_route, delay_of, delay_along, distance, drop_cmp, is_listed, reaches}
 use Rattle.srm_net.specs.Least.{least, least_delay, others, out}
 use Rattle.srm_net.specs.Growth.{attached}
-use Rattle.srm_net.specs.Laws.{DistancesFit, LeastDelayFits, NoLinkNoTwo, OutFits, OutOfTheOnlyOne, ReachesItsSender, SameDropsListed, OneListOfDrops, KeysOrdered}
+use Rattle.srm_net.specs.Laws.{DistancesFit, LeastDelayFits, NoLinkNoTwo, OutFits, OutOfTheOnlyOne, ReachesItsSender, SameDropsListed, OneListOfDrops, OrdersTotally}
 use Rattle.srm_net.proofs.Lists.{all_get}
 use Rattle.srm_net.proofs.Numbers.{in_head, in_tail, in_cases, few_apart, apart_from_distinct}
 use Rattle.srm_net.proofs.Growing.{grows_to, all_attached}
@@ -292,5 +297,49 @@ same_key k l e =
     let g : k.c ≡ l.c = cc in
     λ i. record { time = a i; member = b i; rank = c i; a = d i; b = f i; c = g i }
 
-pub keys_ordered : KeysOrdered
+pub keys_ordered : OrdersTotally key_cmp
 keys_ordered = (key_total, same_key)
+
+-- ---- names, pages, identities of packets, and entries of session messages
+
+same_name : (n o : Name) → name_cmp n o ≡ Equal → n ≡ o
+same_name n o e =
+    let q : n.source ∷ n.page ∷ n.number ∷ [] ≡ o.source ∷ o.page ∷ o.number ∷ [] = slice_cmp-IsAntisymmetric nat_cmp-IsAntisymmetric _ _ e in
+    let a : n.source ≡ o.source = cc in
+    let b : n.page ≡ o.page = cc in
+    let c : n.number ≡ o.number = cc in
+    λ i. record { source = a i; page = b i; number = c i }
+
+pub names_ordered : OrdersTotally name_cmp
+names_ordered = (on_total (λ (n : Name). n.source ∷ n.page ∷ n.number ∷ []) nat_list_cmp_total, same_name)
+
+same_page : (p q : PageId) → page_cmp p q ≡ Equal → p ≡ q
+same_page p q e =
+    let r : p.source ∷ p.page ∷ [] ≡ q.source ∷ q.page ∷ [] = slice_cmp-IsAntisymmetric nat_cmp-IsAntisymmetric _ _ e in
+    let a : p.source ≡ q.source = cc in
+    let b : p.page ≡ q.page = cc in
+    λ i. record { source = a i; page = b i }
+
+pub pages_ordered : OrdersTotally page_cmp
+pages_ordered = (on_total (λ (p : PageId). p.source ∷ p.page ∷ []) nat_list_cmp_total, same_page)
+
+same_identity : (p q : PacketId) → id_cmp p q ≡ Equal → p ≡ q
+same_identity p q e =
+    let r : p.sender ∷ p.count ∷ [] ≡ q.sender ∷ q.count ∷ [] = slice_cmp-IsAntisymmetric nat_cmp-IsAntisymmetric _ _ e in
+    let a : p.sender ≡ q.sender = cc in
+    let b : p.count ≡ q.count = cc in
+    λ i. record { sender = a i; count = b i }
+
+pub identities_ordered : OrdersTotally id_cmp
+identities_ordered = (on_total (λ (p : PacketId). p.sender ∷ p.count ∷ []) nat_list_cmp_total, same_identity)
+
+same_entry : (h j : Heard) → heard_cmp h j ≡ Equal → h ≡ j
+same_entry h j e =
+    let q : h.source ∷ h.page ∷ h.highest ∷ [] ≡ j.source ∷ j.page ∷ j.highest ∷ [] = slice_cmp-IsAntisymmetric nat_cmp-IsAntisymmetric _ _ e in
+    let a : h.source ≡ j.source = cc in
+    let b : h.page ≡ j.page = cc in
+    let c : h.highest ≡ j.highest = cc in
+    λ i. record { source = a i; page = b i; highest = c i }
+
+pub entries_ordered : OrdersTotally heard_cmp
+entries_ordered = (on_total (λ (h : Heard). h.source ∷ h.page ∷ h.highest ∷ []) nat_list_cmp_total, same_entry)

@@ -13,3 +13,5 @@ pub mod ToldLemmas
 pub mod LeastLemmas
 pub mod LawProofs
 pub mod Parents
+pub mod FateLemmas
+pub mod OnePaths

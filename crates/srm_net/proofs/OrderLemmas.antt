@@ -1,22 +1,17 @@
 -- Finding the order in which a tree grows.
-use Rattle.std.proofs.Common.{◌≡◌, ℕ, ◌+◌, ◌<◌, ◌≤◌, Bool, true, false, List, [], ◌∷◌, length, refl, sym, ap, ◌∙◌, subst, inl, inr, arith, All}
+use Rattle.std.proofs.Common.{◌≡◌, ℕ, ◌+◌, ◌<◌, ◌≤◌, Bool, true, false, List, [], length, sym, ap, ◌∙◌, subst, inl, inr, arith, All}
 use Rattle.std.proofs.lemmas.Bool.{both_ways}
 use Rattle.srm_net.specs.declared.link.LinkSpec.{LinkSpec}
 use Rattle.srm_net.specs.declared.step.Step.{Step}
 use Rattle.srm_net.specs.Network.{plain_network, Joins, IsWithin, IsTree, HasDelay, AreHosts, IsNetwork}
-use Rattle.srm_net.specs.Paths.{is_in}
 use Rattle.srm_net.specs.Growth.{Attaches, attached, Grows, LeadsOut, StaysWithin}
 use Rattle.srm_net.specs.Ways.{is_known, TellsWays}
 use Rattle.srm_net.specs.declared.tree.Tree.TheInside.{Inside}
 use Rattle.srm_net.specs.Built.{IsBuilt}
 use Rattle.srm_net.proofs.Lists.{all_get}
-use Rattle.srm_net.proofs.Numbers.{in_tail, one_missing, distinct_from_apart}
-use Rattle.srm_net.proofs.Growing.{attached_length, joins_below, leaves_by, all_attached}
+use Rattle.srm_net.proofs.Numbers.{one_missing, distinct_from_apart}
+use Rattle.srm_net.proofs.Growing.{attached_length, joins_below, leaves_by, root_attached, all_attached}
 use Rattle.srm_net.proofs.TreeWays.{KnownAre, both_ways_grown}
-
-pub root_attached : (ss : List Step) → is_in (attached ss) 0 ≡ true
-root_attached [] = refl
-root_attached (s ∷ ss) = in_tail s.node 0 (attached ss) (root_attached ss)
 
 -- a step that leads out of the known nodes attaches a new one
 pub leads_attaches : (nodes : ℕ) (links : List LinkSpec) (ss : List Step) (known : List Bool) (s : Step) → KnownAre nodes ss known → All (IsWithin nodes) links → LeadsOut links known s → Attaches links (attached ss) s

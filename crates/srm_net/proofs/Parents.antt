@@ -1,11 +1,11 @@
 -- Links that join each node to an earlier one make a tree.
-use Rattle.std.proofs.Common.{◌≡◌, ℕ, zero, suc, ◌+◌, ◌<◌, ◌≤◌, Bool, true, false, List, [], ◌∷◌, length, Some, All, slice_get, refl, sym, ap, ◌∙◌, arith, inl, inr}
+use Rattle.std.proofs.Common.{◌≡◌, ℕ, zero, suc, ◌+◌, ◌<◌, ◌≤◌, true, false, List, [], ◌∷◌, length, Some, All, slice_get, refl, ap, ◌∙◌, arith, inl, inr}
 use Rattle.std.proofs.lemmas.Bool.{cases_Bool}
 use Rattle.std.proofs.lemmas.Bool.Decides.{nat_tests}
 use Rattle.std.specs.Prelude.{◌||◌, ◌==◌}
 use Rattle.srm_net.specs.declared.link.LinkSpec.{LinkSpec}
 use Rattle.srm_net.specs.declared.step.Step.{Step}
-use Rattle.srm_net.specs.Growth.{Attaches, attached, Grows}
+use Rattle.srm_net.specs.Growth.{attached, Grows}
 use Rattle.srm_net.specs.Network.{IsWithin, IsTree, plain_network}
 use Rattle.srm_net.specs.Paths.{is_in}
 use Rattle.srm_net.proofs.OrderLemmas.{whole_tree}

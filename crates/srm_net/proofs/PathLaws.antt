@@ -1,7 +1,7 @@
 -- Members' ways: their delays, and what crosses and is dropped on them.
 use Rattle.std.proofs.Common.{◌≡◌, ◌≢◌, ℕ, zero, suc, ◌+◌, ◌*◌, ◌<◌, ◌≤◌, Bool, true, false, not, cond, ◌&&◌, ◌||◌, List, [], ◌∷◌, ◌++◌, length, Some, refl, sym, ap, ◌∙◌, subst, inl, inr, arith, eqb, eq-eqb, eqb-true, slice_get, slice_index, All, unwrap_or}
 use Rattle.std.specs.List.{list_any}
-use Rattle.std.proofs.lemmas.Bool.{ne_eqb, eqb-false, cases_Bool, cases_eq, both_ways, false≢true, or_from}
+use Rattle.std.proofs.lemmas.Bool.{ne_eqb, eqb-false, cases_Bool, both_ways, false≢true, or_from}
 use Rattle.srm_net.specs.declared.link.LinkSpec.{LinkSpec}
 use Rattle.srm_net.specs.declared.link.DropSpec.{DropSpec}
 use Rattle.srm_net.specs.declared.packet.PacketId.{PacketId}
@@ -334,7 +334,7 @@ dropped_is w l k o f u v hu hv =
 
 -- ---- some member
 
-some_same : (f g : ℕ → Bool) (n : ℕ) → ((m : ℕ) → m < n → f m ≡ g m) → some_below f n ≡ some_below g n
+pub some_same : (f g : ℕ → Bool) (n : ℕ) → ((m : ℕ) → m < n → f m ≡ g m) → some_below f n ≡ some_below g n
 some_same f g zero h = refl
 some_same f g (suc n) h = let a : f n ≡ g n = h n (omega arith) in let b : some_below f n ≡ some_below g n = some_same f g n (λ m l. h m (omega arith)) in rw (a, b) refl
 
@@ -374,23 +374,11 @@ drops_is w n l k g drops p h =
     (λ m lt. let hv = host_below w n m lt in dropped_is w l k o f u (host w m) hu hv ∙ ap (λ b. f l && (b && is_free w l k f u)) (on_route w l k o u (host w m) hu hv))
     ∙ some_and (f l) (is_free w l k f u) (λ m. cond (is_beyond w l k u) (not (is_beyond w l k (host w m))) (is_beyond w l k (host w m))) (length w.hosts)
 
--- a link that is listed is never crossed, and one that is not is never dropped at
-
-crossed_listed : (f : ℕ → Bool) (ls : List ℕ) (l : ℕ) → f l ≡ true → crossed_on f ls l ≡ false
-crossed_listed f [] l y = refl
-crossed_listed f (k ∷ ks) l y =
-    elim (cases_eq k l) [
-      | inl e ↦ (let g : f k ≡ true = subst (λ t. f t ≡ true) (sym e) y in rw g refl)
-      | inr e ↦ rw (ne_eqb k l e, crossed_listed f ks l y) (elim (f k) as (λ b. (not b && false) ≡ false) [ true ↦ refl | false ↦ refl ])
-    ]
+-- a link that is not listed drops nothing
 
 none_below : (f : ℕ → Bool) (n : ℕ) → ((m : ℕ) → f m ≡ false) → some_below f n ≡ false
 none_below f zero h = refl
 none_below f (suc n) h = rw (h n) (none_below f n h)
-
-pub crosses_listed : (w : Network) (drops : List DropSpec) (p : PacketId) (l : ℕ) → is_listed drops p l ≡ true → crosses w drops p l ≡ false
-unfolding crosses
-crosses_listed w drops p l y = none_below (λ m. crossed_on (is_listed drops p) (member_route w p.sender m) l) (length w.hosts) (λ m. crossed_listed (is_listed drops p) (member_route w p.sender m) l y)
 
 pub drops_unlisted : (w : Network) (drops : List DropSpec) (p : PacketId) (l : ℕ) → is_listed drops p l ≡ false → drops_at w drops p l ≡ false
 unfolding drops_at

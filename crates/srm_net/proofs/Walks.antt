@@ -75,7 +75,7 @@ way_crosses links l side cut u (m ∷ ls) v ns w a =
 abbrev pub HasCuts : List LinkSpec → Type 0
 HasCuts links = (l : ℕ) → (side : ℕ → Bool) × IsCut links l side
 
-flips : (b : Bool) → not b ≡ b → ⊥
+pub flips : (b : Bool) → not b ≡ b → ⊥
 flips true e = false≢true e
 flips false e = true≢false e
 

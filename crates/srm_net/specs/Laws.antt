@@ -1,14 +1,16 @@
 -- What holds of every network, and of the orders.
-use Rattle.std.specs.Prelude.{◌≡◌, ◌≢◌, ◌↔◌, ℕ, ◌<◌, ◌≤◌, true, Contains, List, length, Some, None}
+use Rattle.std.specs.Prelude.{◌≡◌, ◌≢◌, ◌↔◌, ℕ, ◌<◌, ◌≤◌, true, false, All, Contains, List, length, Some, None}
+use Rattle.std.specs.declared.cmp.Ordering.{Ordering}
 use Rattle.std.specs.declared.cmp.Ordering.TheVariants.{Equal}
 use Rattle.std.specs.Cmp.{IsTotalOrder}
-use Rattle.srm_net.specs.declared.key.Key.{Key}
 use Rattle.srm_net.specs.declared.link.DropSpec.{DropSpec}
 use Rattle.srm_net.specs.declared.packet.PacketId.{PacketId}
 use Rattle.srm_net.specs.Orders.{Ascends}
-use Rattle.srm_net.specs.Keys.{key_cmp}
+use Rattle.srm_net.specs.declared.link.LinkSpec.{LinkSpec}
 use Rattle.srm_net.specs.Network.{Network, IsPath, IsTree, IsNetwork}
-use Rattle.srm_net.specs.Paths.{route, distance, drop_cmp, is_listed, reaches}
+use Rattle.srm_net.specs.Paths.{route, distance, drop_cmp, is_listed, reaches, crosses, drops_at}
+use Rattle.srm_net.specs.Listed.{is_listed_somewhere}
+use Rattle.srm_net.specs.Fates.{is_on_way}
 use Rattle.srm_net.specs.Least.{least_delay, out}
 
 -- in a tree the route between two nodes is a path, and there is no other
@@ -16,6 +18,25 @@ abbrev pub OnePath : Type 0
 OnePath =
     (w : Network) → IsTree w → (u v : ℕ) → u < w.nodes → v < w.nodes
     → IsPath w.links u (route w u v) v × ((ls : List ℕ) → IsPath w.links u ls v → ls ≡ route w u v)
+
+-- there is a path from node u to node v, and no other
+abbrev pub HasOnePath : List LinkSpec → ℕ → ℕ → Type 0
+HasOnePath links u v = (ls : List ℕ) × IsPath links u ls v × ((ms : List ℕ) → IsPath links u ms v → ms ≡ ls)
+
+-- the link joins two nodes
+abbrev pub JoinsTwo : ℕ → LinkSpec → Type 0
+JoinsTwo nodes k = (k.a < nodes) × (k.b < nodes) × (k.a ≢ k.b)
+
+-- 1 to 256 nodes, each link between two of them, and exactly one path between any two
+pub record HasOnePathEach (w : Network) : Type 0 where
+  pub some_nodes : 1 ≤ w.nodes
+  pub few_nodes : w.nodes ≤ 256
+  pub ends : All (JoinsTwo w.nodes) w.links
+  pub one_path : (u v : ℕ) → u < w.nodes → v < w.nodes → HasOnePath w.links u v
+
+-- trees, which are said to be connected by one link fewer, are the networks that have one path between any two nodes
+abbrev pub TreesHaveOnePath : Type 0
+TreesHaveOnePath = (w : Network) → IsTree w ↔ HasOnePathEach w
 
 -- distances are the same in both directions, at least 1 between different members, and at most 255,000,000
 abbrev pub DistancesFit : Type 0
@@ -50,6 +71,24 @@ OutOfTheOnlyOne = (w : Network) (m : ℕ) → out w m ≡ None → (b : ℕ) →
 abbrev pub ReachesItsSender : Type 0
 ReachesItsSender = (w : Network) (drops : List DropSpec) (p : PacketId) → reaches w drops p p.sender ≡ true
 
+-- a packet that no link is listed for reaches every member
+abbrev pub UnlistedReachesAll : Type 0
+UnlistedReachesAll =
+    (w : Network) (drops : List DropSpec) (p : PacketId) → is_listed_somewhere drops p ≡ false
+    → (m : ℕ) → reaches w drops p m ≡ true
+
+-- it crosses the links on the ways from its sender to members, and no other
+abbrev pub UnlistedCrossesItsWays : Type 0
+UnlistedCrossesItsWays =
+    (w : Network) (drops : List DropSpec) (p : PacketId) → is_listed_somewhere drops p ≡ false
+    → (l : ℕ) → crosses w drops p l ≡ is_on_way w p.sender l
+
+-- and is dropped nowhere
+abbrev pub UnlistedIsNowhereDropped : Type 0
+UnlistedIsNowhereDropped =
+    (w : Network) (drops : List DropSpec) (p : PacketId) → is_listed_somewhere drops p ≡ false
+    → (l : ℕ) → drops_at w drops p l ≡ false
+
 -- lists with the same drops list the same
 abbrev pub SameDropsListed : Type 0
 SameDropsListed =
@@ -59,8 +98,9 @@ SameDropsListed =
 -- a set of drops is one list in rising order
 abbrev pub OneListOfDrops : Type 0
 OneListOfDrops =
-    (ds es : List DropSpec) → Ascends drop_cmp ds → Ascends drop_cmp es → ((d : DropSpec) → Contains ds d ↔ Contains es d) → ds ≡ es
+    (ds es : List DropSpec) → Ascends drop_cmp ds → Ascends drop_cmp es
+    → ((d : DropSpec) → Contains ds d ↔ Contains es d) → ds ≡ es
 
--- keys are totally ordered, and only equal keys are not told apart
-abbrev pub KeysOrdered : Type 0
-KeysOrdered = IsTotalOrder key_cmp × ((k l : Key) → key_cmp k l ≡ Equal → k ≡ l)
+-- a total order in which only equal values are not told apart
+abbrev pub OrdersTotally : {A : Type 0} → (A → A → Ordering) → Type 0
+OrdersTotally {A} cmp = IsTotalOrder cmp × ((x y : A) → cmp x y ≡ Equal → x ≡ y)

@@ -3,6 +3,7 @@ pub mod Keys
 pub mod Names
 pub mod Network
 pub mod Paths
+pub mod Fates
 pub mod Least
 pub mod Listed
 pub mod DropSets

@@ -1,8 +1,9 @@
--- Names of drawing operations, the pages that they stand on, and their order.
+-- Names of drawing operations, the pages that they stand on, packet identities, and their orders.
 use Rattle.std.specs.Prelude.{ℕ, [], ◌∷◌}
 use Rattle.std.specs.declared.cmp.Ordering.{Ordering}
 use Rattle.std.specs.Ordering.{nat_cmp}
 use Rattle.std.specs.Cmp.Lexicographic.{slice_cmp}
+use Rattle.srm_net.specs.declared.packet.Heard.{Heard}
 use Rattle.srm_net.specs.declared.packet.Name.{Name}
 use Rattle.srm_net.specs.declared.packet.PageId.{PageId}
 use Rattle.srm_net.specs.declared.packet.PacketId.{PacketId}
@@ -26,3 +27,7 @@ page_cmp p q = slice_cmp nat_cmp (p.source ∷ p.page ∷ []) (q.source ∷ q.pa
 -- packet identities are compared by sender and count
 abbrev pub id_cmp : PacketId → PacketId → Ordering
 id_cmp p q = slice_cmp nat_cmp (p.sender ∷ p.count ∷ []) (q.sender ∷ q.count ∷ [])
+
+-- entries of session messages are compared by source, page and highest number
+abbrev pub heard_cmp : Heard → Heard → Ordering
+heard_cmp h i = slice_cmp nat_cmp (h.source ∷ h.page ∷ h.highest ∷ []) (i.source ∷ i.page ∷ i.highest ∷ [])

@@ -21,7 +21,8 @@ Joins k u v = ((k.a ≡ u) × (k.b ≡ v)) ⊎ ((k.b ≡ u) × (k.a ≡ v))
 abbrev pub IsWalk : List LinkSpec → ℕ → List ℕ → ℕ → List ℕ → Type 0
 IsWalk links u [] v ns = (u ≡ v) × (ns ≡ u ∷ [])
 IsWalk links u (l ∷ ls) v ns =
-    (k : LinkSpec) × (x : ℕ) × (ms : List ℕ) × (slice_get links l ≡ Some k) × Joins k u x × (ns ≡ u ∷ ms) × IsWalk links x ls v ms
+    (k : LinkSpec) × (x : ℕ) × (ms : List ℕ) × (slice_get links l ≡ Some k) × Joins k u x × (ns ≡ u ∷ ms)
+    × IsWalk links x ls v ms
 
 -- a path from node u to node v: a list of links, each meeting the next, with no node twice
 abbrev pub IsPath : List LinkSpec → ℕ → List ℕ → ℕ → Type 0

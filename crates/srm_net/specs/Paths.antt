@@ -37,7 +37,8 @@ way_on further passed (Some x) = unless_passed (is_in passed x) x further
 -- the first way from node u, by the links in their order, l the number of the first of them
 abbrev pub first_way : (ℕ → Option (List ℕ)) → List ℕ → ℕ → ℕ → List LinkSpec → Option (List ℕ)
 first_way further passed u l [] = None
-first_way further passed u l (k ∷ ks) = way_by l (way_on further passed (far_end k u)) (first_way further passed u (l + 1) ks)
+first_way further passed u l (k ∷ ks) =
+    way_by l (way_on further passed (far_end k u)) (first_way further passed u (l + 1) ks)
 
 -- a way of at most n links from node u to node v that meets none of the nodes passed, if there is one
 unfoldable pub route_within : ℕ → List LinkSpec → List ℕ → ℕ → ℕ → Option (List ℕ)

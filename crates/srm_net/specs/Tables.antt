@@ -17,7 +17,8 @@ near_end w l k u = if is_beyond w l k u then k.b else k.a
 -- whether some member is on the other side of a link than node u
 abbrev pub some_beyond : Network → ℕ → LinkSpec → ℕ → Bool
 some_beyond w l k u =
-    some_below (λ m. if is_beyond w l k u then not (is_beyond w l k (host w m)) else is_beyond w l k (host w m)) (length w.hosts)
+    some_below (λ m. if is_beyond w l k u then not (is_beyond w l k (host w m)) else is_beyond w l k (host w m))
+    (length w.hosts)
 
 -- whether a member is on either side of a link
 pub record TellsSides (w : Network) (l : ℕ) (k : LinkSpec) (s : Sides) : Type 0 where
@@ -26,7 +27,8 @@ pub record TellsSides (w : Network) (l : ℕ) (k : LinkSpec) (s : Sides) : Type 
 
 -- each link's sides are told
 abbrev pub TellsAllSides : Network → List Sides → Type 0
-TellsAllSides w sides = (l : ℕ) (k : LinkSpec) → slice_get w.links l ≡ Some k → (s : Sides) × (slice_get sides l ≡ Some s) × TellsSides w l k s
+TellsAllSides w sides =
+    (l : ℕ) (k : LinkSpec) → slice_get w.links l ≡ Some k → (s : Sides) × (slice_get sides l ≡ Some s) × TellsSides w l k s
 
 -- each member's least distance is told
 abbrev pub TellsOuts : Network → List (Option ℕ) → Type 0

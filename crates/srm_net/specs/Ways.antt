@@ -10,13 +10,15 @@ use Rattle.srm_net.specs.Grids.{number_at}
 -- a path between two nodes has this delay, and begins with this link
 abbrev pub IsWayOf : List LinkSpec → ℕ → ℕ → ℕ → ℕ → Type 0
 IsWayOf links u v delay first =
-    (ls : List ℕ) × IsPath links u ls v × (delay_along links ls ≡ delay) × (u ≢ v → (rest : List ℕ) × (ls ≡ first ∷ rest))
+    (ls : List ℕ) × IsPath links u ls v × (delay_along links ls ≡ delay)
+    × (u ≢ v → (rest : List ℕ) × (ls ≡ first ∷ rest))
 
 -- the tables tell the delay and the first link of the way between any two nodes
 pub record TellsWays (nodes : ℕ) (links : List LinkSpec) (ways : Ways) : Type 0 where
   pub delays_width : ways.delays.width ≡ nodes
   pub firsts_width : ways.firsts.width ≡ nodes
-  pub each : (u v : ℕ) → u < nodes → v < nodes → IsWayOf links u v (number_at nodes ways.delays.cells.items u v) (number_at nodes ways.firsts.cells.items u v)
+  pub each : (u v : ℕ) → u < nodes → v < nodes
+      → IsWayOf links u v (number_at nodes ways.delays.cells.items u v) (number_at nodes ways.firsts.cells.items u v)
 
 -- whether a node is known
 abbrev pub is_known : List Bool → ℕ → Bool
@@ -28,12 +30,15 @@ IsApartFrom node u x = ((u ≢ node) × (x ≢ node)) ⊎ (u ≡ x)
 
 -- the new table has the delays between the step's node and the known ones, by way of its parent
 pub record Extends (known : List Bool) (s : Step) (delay width : ℕ) (old new : List ℕ) : Type 0 where
-  pub there : (u : ℕ) → u < length known → is_known known u ≡ true → number_at width new u s.node ≡ number_at width old u s.parent + delay
-  pub back : (u : ℕ) → u < length known → is_known known u ≡ true → number_at width new s.node u ≡ number_at width old u s.parent + delay
+  pub there : (u : ℕ) → u < length known → is_known known u ≡ true
+      → number_at width new u s.node ≡ number_at width old u s.parent + delay
+  pub back : (u : ℕ) → u < length known → is_known known u ≡ true
+      → number_at width new s.node u ≡ number_at width old u s.parent + delay
   pub kept : (u x : ℕ) → x < length known → IsApartFrom s.node u x → number_at width new u x ≡ number_at width old u x
 
 -- the new table has the first links between the step's node and the known ones
 pub record Leads (known : List Bool) (s : Step) (width : ℕ) (old new : List ℕ) : Type 0 where
-  pub there : (u : ℕ) → u < length known → is_known known u ≡ true → number_at width new u s.node ≡ (if u == s.parent then s.link else number_at width old u s.parent)
+  pub there : (u : ℕ) → u < length known → is_known known u ≡ true
+      → number_at width new u s.node ≡ (if u == s.parent then s.link else number_at width old u s.parent)
   pub back : (u : ℕ) → u < length known → is_known known u ≡ true → number_at width new s.node u ≡ s.link
   pub kept : (u x : ℕ) → x < length known → IsApartFrom s.node u x → number_at width new u x ≡ number_at width old u x

@@ -19,7 +19,8 @@ impl<T: Copy> Grid<T> {
     pub(crate) fn filled(alloc: Global, width: usize, value: T) -> Result<Grid<T>, AllocError>
         requires { width < 65536 }
         ensures width { IfOk result (λ g. g.width ≡ width) }
-        ensures cells { ((y : T) → T.is_clone value y → y ≡ value) → IfOk result (λ g. g.cells.items ≡ replicate (width * width) value) }
+        ensures cells { ((y : T) → T.is_clone value y → y ≡ value)
+            → IfOk result (λ g. g.cells.items ≡ replicate (width * width) value) }
     {
         Ok(Grid {
             width,

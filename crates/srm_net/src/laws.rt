@@ -1,15 +1,27 @@
 //! What holds of every network and of the orders, as laws over the definitions.
 ghost use Rattle.std.specs.Prelude.{◌≡◌, Some, None};
 ghost use Rattle.srm_net.specs.declared.key.Key.{Key};
+ghost use Rattle.srm_net.specs.declared.packet.Heard.{Heard};
+ghost use Rattle.srm_net.specs.declared.packet.Name.{Name};
+ghost use Rattle.srm_net.specs.declared.packet.PacketId.{PacketId};
+ghost use Rattle.srm_net.specs.declared.packet.PageId.{PageId};
 ghost use Rattle.srm_net.specs.Keys.{key_cmp};
+ghost use Rattle.srm_net.specs.Names.{name_cmp, page_cmp, id_cmp, heard_cmp};
 ghost use Rattle.srm_net.specs.Paths.{distance};
 ghost use Rattle.srm_net.specs.Least.{least_delay, out};
 ghost use Rattle.srm_net.specs.Examples.{tree_of_eight, lone_node};
-ghost use Rattle.srm_net.specs.Laws.{OnePath, DistancesFit, LeastDelayFits, NoLinkNoTwo, OutFits, OutOfTheOnlyOne, ReachesItsSender, SameDropsListed, OneListOfDrops, KeysOrdered};
+ghost use Rattle.srm_net.specs.Laws.{OnePath, TreesHaveOnePath, DistancesFit, LeastDelayFits, NoLinkNoTwo, OutFits, OutOfTheOnlyOne};
+ghost use Rattle.srm_net.specs.Laws.{ReachesItsSender, UnlistedReachesAll, UnlistedCrossesItsWays, UnlistedIsNowhereDropped};
+ghost use Rattle.srm_net.specs.Laws.{SameDropsListed, OneListOfDrops, OrdersTotally};
 
 /// In a tree the route between two nodes is a path, and there is no other.
 pub fn one_path()
     ensures { OnePath }
+{}
+
+/// Trees are exactly the networks of 1 to 256 nodes, each link between two of them, that have exactly one path between any two nodes.
+pub fn trees_have_one_path()
+    ensures { TreesHaveOnePath }
 {}
 
 /// Distances are the same in both directions, at least 1 between different members, and at most 255,000,000 ticks.
@@ -34,6 +46,14 @@ pub fn reaches_its_sender()
     ensures { ReachesItsSender }
 {}
 
+/// A packet that no link is to drop reaches every member, crosses exactly the links on the ways from its sender to members, and is
+/// dropped nowhere.
+pub fn unlisted_packets_go_everywhere()
+    ensures reaches { UnlistedReachesAll }
+    ensures crosses { UnlistedCrossesItsWays }
+    ensures dropped { UnlistedIsNowhereDropped }
+{}
+
 /// A set of drops is one list in rising order, and what it lists depends on its entries alone.
 pub fn drops_are_a_set()
     ensures listed { SameDropsListed }
@@ -42,8 +62,32 @@ pub fn drops_are_a_set()
 
 /// Keys are totally ordered, by time, member, rank and the three numbers, and only equal keys are not told apart.
 pub fn keys_are_ordered()
-    ensures order { KeysOrdered }
+    ensures order { OrdersTotally key_cmp }
     ensures derived { (k l : Key) → ⟦<crate::key::Key as Ord>⟧.cmp k l ≡ key_cmp k l }
+{}
+
+/// Names are totally ordered, by source, page and number, and only equal names are not told apart.
+pub fn names_are_ordered()
+    ensures order { OrdersTotally name_cmp }
+    ensures derived { (n o : Name) → ⟦<crate::packet::Name as Ord>⟧.cmp n o ≡ name_cmp n o }
+{}
+
+/// Pages are totally ordered, by source and page, and only equal pages are not told apart.
+pub fn pages_are_ordered()
+    ensures order { OrdersTotally page_cmp }
+    ensures derived { (p q : PageId) → ⟦<crate::packet::PageId as Ord>⟧.cmp p q ≡ page_cmp p q }
+{}
+
+/// Identities of packets are totally ordered, by sender and count, and only equal ones are not told apart.
+pub fn packet_identities_are_ordered()
+    ensures order { OrdersTotally id_cmp }
+    ensures derived { (p q : PacketId) → ⟦<crate::packet::PacketId as Ord>⟧.cmp p q ≡ id_cmp p q }
+{}
+
+/// Entries of session messages are totally ordered, by source, page and highest number, and only equal ones are not told apart.
+pub fn entries_are_ordered()
+    ensures order { OrdersTotally heard_cmp }
+    ensures derived { (h i : Heard) → ⟦<crate::packet::Heard as Ord>⟧.cmp h i ≡ heard_cmp h i }
 {}
 
 /// What the definitions say of a tree of eight nodes and of a lone node.

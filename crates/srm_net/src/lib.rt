@@ -3,6 +3,7 @@
 
 mod checks;
 pub mod drops;
+pub mod fate;
 pub mod fault;
 mod grid;
 pub mod key;

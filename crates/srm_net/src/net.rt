@@ -3,12 +3,14 @@ ghost use Rattle.std.specs.Prelude.{◌≡◌, ◌≢◌, ℕ, ◌<◌, ◌≤�
 ghost use Rattle.std.specs.List.{list_any};
 ghost use Rattle.srm_net.specs.Network.{plain_network, IsTree, HasDelay, AreHosts, IsNetwork};
 ghost use Rattle.srm_net.specs.Paths.{is_listed, host, route, distance, reaches, crosses, drops_at};
+ghost use Rattle.srm_net.specs.Fates.{is_crossing, is_dropping, is_on_way};
 ghost use Rattle.srm_net.specs.declared.link.LinkSpec.{LinkSpec};
 ghost use Rattle.srm_net.specs.Tables.{near_end, some_beyond};
 ghost use Rattle.srm_net.specs.Least.{least_delay, out};
 
 use crate::checks::{are_hosts, have_delays};
 use crate::drops::Drops;
+use crate::fate::Fate;
 use crate::fault::NetFault;
 use crate::link::LinkSpec;
 use crate::order::attaching_order;
@@ -71,7 +73,8 @@ impl Net {
             → IsTree (plain_network nodes links.now hosts.now) × All HasDelay links.now × (¬ AreHosts nodes hosts.now) }
 
         // and none but want of memory where the network is as it should be
-        ensures accepted { IsNetwork (plain_network nodes links.now hosts.now) → IfErr result (λ e. e ≡ NetFault.NoMemory) }
+        ensures accepted { IsNetwork (plain_network nodes links.now hosts.now)
+            → IfErr result (λ e. e ≡ NetFault.NoMemory) }
     {
         let steps = attaching_order(alloc, nodes, links)?;
         if !have_delays(links) {
@@ -168,7 +171,7 @@ impl Net {
         requires link { link < length self.now.links }
         ensures { result ≡ crosses self.now drops.now id link }
     {
-        !drops.lists(link, id) && self.comes_to(drops, id, link)
+        matches!(self.fate(drops, id, link), Fate::Crosses)
     }
 
     /// Whether a packet is dropped at a link: the link is to drop it and is on the way from its sender to some member,
@@ -178,16 +181,50 @@ impl Net {
         requires link { link < length self.now.links }
         ensures { result ≡ drops_at self.now drops.now id link }
     {
-        drops.lists(link, id) && self.comes_to(drops, id, link)
+        matches!(self.fate(drops, id, link), Fate::Dropped)
+    }
+
+    /// What becomes of a packet at a link, by one walk: whether it crosses the link, or is dropped there, on its way to some
+    /// member, present or not.
+    ///
+    /// Of a packet that no link is to drop, [`is_on_way`](Net::is_on_way) tells the same without a look at the drops.
+    pub fn fate(&self, drops: &Drops, id: PacketId, link: u16) -> Fate
+        requires sender { id.sender < length self.now.hosts }
+        requires link { link < length self.now.links }
+        ensures crosses { is_crossing result ≡ crosses self.now drops.now id link }
+        ensures dropped { is_dropping result ≡ drops_at self.now drops.now id link }
+    {
+        if !self.comes_to(drops, id, link) {
+            Fate::Neither
+        } else if drops.lists(link, id) {
+            Fate::Dropped
+        } else {
+            Fate::Crosses
+        }
+    }
+
+    /// Whether a link is on the way from member `m` to some member, present or not. It takes no walk.
+    ///
+    /// A packet of `m` that no link is to drop crosses exactly these links
+    /// ([`unlisted_packets_go_everywhere`](crate::laws::unlisted_packets_go_everywhere)).
+    pub fn is_on_way(&self, m: u16, link: u16) -> bool
+        requires member { m < length self.now.hosts }
+        requires link { link < length self.now.links }
+        ensures { result ≡ is_on_way self.now m link }
+    {
+        let (_, is_any_beyond) = self.beyond(link, self.host(m));
+        is_any_beyond
     }
 
     /// The end of a link that is nearer to a node, and whether any member is beyond the link from there.
     fn beyond(&self, link: u16, node: u16) -> (u16, bool)
         requires link { link < length self.now.links }
         requires node { node < self.now.nodes }
-        ensures near { (k : LinkSpec) → slice_get self.now.links link ≡ Some k → result.0 ≡ near_end self.now link k node }
+        ensures near { (k : LinkSpec) → slice_get self.now.links link ≡ Some k
+            → result.0 ≡ near_end self.now link k node }
         ensures below { result.0 < self.now.nodes }
-        ensures any { (k : LinkSpec) → slice_get self.now.links link ≡ Some k → result.1 ≡ some_beyond self.now link k node }
+        ensures any { (k : LinkSpec) → slice_get self.now.links link ≡ Some k
+            → result.1 ≡ some_beyond self.now link k node }
         ensures network { IsNetwork self.now }
     {
         let spec = self.tree.link(link);

@@ -20,7 +20,8 @@ pub(crate) fn attaching_order(
     ensures grows { IfOk result (λ steps. Grows links.now (reverse steps.items)) }
     ensures all { IfOk result (λ steps. length steps.items + 1 ≡ nodes) }
     ensures tree { IfOk result (λ _. IsTree (plain_network nodes links.now [])) }
-    ensures fault { IfErr result (λ e. (e ≡ NetFault.NoMemory) ⊎ ((e ≡ NetFault.NotTree) × (¬ IsTree (plain_network nodes links.now [])))) }
+    ensures fault { IfErr result (λ e. (e ≡ NetFault.NoMemory)
+        ⊎ ((e ≡ NetFault.NotTree) × (¬ IsTree (plain_network nodes links.now [])))) }
 {
     if nodes < 1
         || nodes > 256

@@ -1,5 +1,6 @@
 //! The calls on small networks.
 use crate::drops::Drops;
+use crate::fate::Fate;
 use crate::fault::NetFault;
 use crate::link::{DropSpec, LinkSpec};
 use crate::net::Net;
@@ -113,6 +114,27 @@ fn one_drop(rt: HostRuntime) -> Result<(), Fail> {
             && !net.drops_at(&drops, first, 2)
             && !net.drops_at(&drops, second, 1)
     );
+    assert_eq!(rt; net.fate(&drops, first, 0), Fate::Crosses);
+    assert_eq!(rt; net.fate(&drops, first, 1), Fate::Dropped);
+    assert_eq!(rt; net.fate(&drops, first, 2), Fate::Neither);
+    assert_eq!(rt; net.fate(&drops, second, 2), Fate::Crosses);
+    Ok(())
+}
+
+// A chain of nodes 0 to 2 with members on nodes 0 and 1: link 1 leads to nobody.
+#[test]
+fn link_to_nobody(rt: HostRuntime) -> Result<(), Fail> {
+    let links = [short_link(0, 1), short_link(1, 2)];
+    let net = Net::build(rt.alloc(), 3, &links, &[0, 1])?;
+    let drops = Drops::of(rt.alloc(), &[])?;
+    let id = PacketId {
+        sender: 1,
+        count: 0,
+    };
+    assert!(rt; net.is_on_way(0, 0) && net.is_on_way(1, 0));
+    assert!(rt; !net.is_on_way(0, 1) && !net.is_on_way(1, 1));
+    assert_eq!(rt; net.fate(&drops, id, 0), Fate::Crosses);
+    assert_eq!(rt; net.fate(&drops, id, 1), Fate::Neither);
     Ok(())
 }
 

@@ -78,8 +78,10 @@ impl Ways {
             → number_at self.old.delays.width self.old.delays.cells.items u step.parent + delay < 4294967296 }
         ensures delays_width { self.new.delays.width ≡ self.old.delays.width }
         ensures firsts_width { self.new.firsts.width ≡ self.old.firsts.width }
-        ensures delays { Extends known.now step delay self.old.delays.width self.old.delays.cells.items self.new.delays.cells.items }
-        ensures firsts { Leads known.now step self.old.firsts.width self.old.firsts.cells.items self.new.firsts.cells.items }
+        ensures delays { Extends known.now step delay self.old.delays.width
+            self.old.delays.cells.items self.new.delays.cells.items }
+        ensures firsts { Leads known.now step self.old.firsts.width
+            self.old.firsts.cells.items self.new.firsts.cells.items }
     {
         let node = usize::from(step.node);
         let parent = usize::from(step.parent);

@@ -1,3 +1,10 @@
+pub mod Counted
+pub mod Courses
 pub mod Devices
 pub mod Lines
+pub mod Links
+pub mod Losses
+pub mod Members
+pub mod Rows
+pub mod Tables
 pub mod Trace

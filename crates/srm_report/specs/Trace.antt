@@ -53,7 +53,7 @@ name_text n = decimal n.source ++ codes "/" ++ decimal n.page ++ codes "/" ++ de
 -- what an event is about, `-` where that is nothing
 abbrev pub ref_text : About → List ℕ
 ref_text Nothing = codes "-"
-ref_text (Of packet) = packet_text packet
+ref_text (Of packet) = packet_text packet.id
 ref_text (Named name) = name_text name
 
 -- the packet that an event sent, `-` where there is none

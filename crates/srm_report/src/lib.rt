@@ -1,10 +1,22 @@
 //! The report of a run: its texts as CSV, and writing them to a device.
 #![tactic(auto)]
 
+mod by_loss;
+mod counts;
+mod course;
+mod courses;
 pub mod fault;
 mod fields;
 mod lines;
+pub mod links;
+mod loss;
+pub mod losses;
+pub mod members;
 pub mod outlet;
+#[cfg(test)]
+mod outlet_tests;
+#[cfg(test)]
+mod table_tests;
 #[cfg(test)]
 mod tests;
 pub mod trace;

@@ -22,9 +22,19 @@ fn named(source: u16, page: u16, number: u32) -> About {
     }
 }
 
+// An arrival of a packet with this identity.
 fn of(sender: u16, count: u64) -> About {
+    let name = Name {
+        source: 0,
+        page: 0,
+        number: 0,
+    };
     About::Of {
-        packet: PacketId { sender, count },
+        packet: Packet {
+            id: PacketId { sender, count },
+            sent: 0,
+            body: Body::Request { name },
+        },
     }
 }
 
@@ -79,7 +89,7 @@ fn lines() -> [(
     &'static str,
 ); 18] {
     let from = |sender: u16, count: u64| Some(PacketId { sender, count });
-    let draw = named(0, 0, 0);
+    let draw = || named(0, 0, 0);
     [
         (
             (0, 0),
@@ -90,7 +100,7 @@ fn lines() -> [(
         ),
         (
             (0, 0),
-            (Word::Draw, draw, Told::Sent),
+            (Word::Draw, draw(), Told::Sent),
             0,
             from(0, 0),
             "0,0,draw,0/0/0,sent,0,0:0",
@@ -111,7 +121,7 @@ fn lines() -> [(
         ),
         (
             (14, 2),
-            (Word::Ask, draw, Told::Sent),
+            (Word::Ask, draw(), Told::Sent),
             0,
             from(2, 0),
             "14,2,ask,0/0/0,sent,0,2:0",
@@ -132,7 +142,7 @@ fn lines() -> [(
         ),
         (
             (16, 1),
-            (Word::Answer, draw, Told::Sent),
+            (Word::Answer, draw(), Told::Sent),
             0,
             from(1, 0),
             "16,1,answer,0/0/0,sent,0,1:0",

@@ -67,10 +67,10 @@ fn put_ref(record: &mut ByteRecord, digits: &mut String, about: &About) -> Resul
     ensures fields { OnOk result (fields_of record.new ≡ fields_of record.old ++ ref_text about.now ∷ []) }
     ensures whole { OnOk result (partial_of record.new ≡ []) }
 {
-    match *about {
+    match about {
         About::Nothing => record.push_field(b"-"),
-        About::Of { packet } => put_packet(record, digits, packet),
-        About::Named { name } => put_name(record, digits, name),
+        About::Of { packet } => put_packet(record, digits, packet.id),
+        About::Named { name } => put_name(record, digits, *name),
     }
 }
 

@@ -6,13 +6,13 @@ use Rattle.std.specs.Cmp.{IsStrictWeakOrder}
 use Rattle.std.specs.List.Sorted.{IsSortedBy, IsStableBy}
 use Rattle.std.specs.Ordering.{ordering_then}
 use Rattle.std.specs.List.{slice_get}
-use Rattle.srm_net.specs.Orders.{ordered}
+use Rattle.srm_net.specs.Orders.{ordered, Rises}
 use Rattle.srm_scenario.specs.declared.mark.Mark.{Mark}
 use Rattle.srm_scenario.specs.declared.parts.MemberSpec.{MemberSpec}
 use Rattle.srm_scenario.specs.declared.parts.DrawSpec.{DrawSpec}
 use Rattle.srm_scenario.specs.declared.parts.SessionSpec.{SessionSpec}
 use Rattle.srm_scenario.specs.Plain.{PlainScenario, mark_cmp, plain_mark, draw_marks, report_marks, leave_marks, marks_of, script_of}
-use Rattle.srm_scenario.proofs.Sorting.{ordered-from_sort}
+use Rattle.srm_scenario.proofs.Sorting.{ordered-from_sort, Rises-ordered}
 
 -- the order of the tuples by which the code sorts
 abbrev pub keyed : Mark → Mark → Ordering
@@ -41,6 +41,11 @@ mark_cmp-order = ranks_by nat_list_cmp_total (λ (m : Mark). m.at ∷ m.rank ∷
 pub marks-from_sort : (xs ys : List Mark) → IsSortedBy (λ x y. is_lt (keyed x y)) ys → IsStableBy (λ x y. is_lt (keyed x y)) xs ys → ys ≡ ordered mark_cmp xs
 marks-from_sort xs ys sorted stable =
     ordered-from_sort mark_cmp mark_cmp-order xs ys (subst (λ (lt : Mark → Mark → Bool). IsSortedBy lt ys) same_test sorted) (subst (λ (lt : Mark → Mark → Bool). IsStableBy lt xs ys) same_test stable)
+
+-- the marks of a script rise
+pub scripts_rise : (s : PlainScenario) (m : ℕ) → Rises mark_cmp (script_of s m)
+unfolding script_of
+scripts_rise s m = Rises-ordered mark_cmp mark_cmp-order (marks_of s m (slice_get s.members m))
 
 -- the script by its member, draws and sessions
 pub script_by_parts : (s : PlainScenario) (m : ℕ) (k : MemberSpec) (draws : List DrawSpec) (sessions : List SessionSpec)

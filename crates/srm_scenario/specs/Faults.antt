@@ -1,6 +1,7 @@
 -- What is wrong with a table or a text that is to be a scenario, and the scenario where nothing is.
 use Rattle.std.specs.Prelude.{⊤, ◌≡◌, ◌⊎◌, ℕ, ◌+◌, Bool, true, false, not, ◌&&◌, ◌||◌, List, [], ◌∷◌, ◌++◌, Option, Some, None, Result, Ok, Err, is_some, codes, length, slice_get, map, nat_le, nat_lt, ◌==◌, if◌then◌else◌}
 use Rattle.std.specs.List.{list_any}
+use Rattle.std.specs.Io.KnownBytes.{IsAtEnd}
 use Rattle.std.specs.Str.{is_utf8}
 use Rattle.toml.specs.Data.{Data, Members, get_member}
 use Rattle.toml.specs.Parse.{parse_document}
@@ -202,3 +203,14 @@ AnswersText (Ok s) text = scenario_of_text text ≡ Ok s
 AnswersText (Err ReadFault) text = ⊤
 AnswersText (Err NoMemory) text = ⊤
 AnswersText (Err e) text = scenario_of_text text ≡ Err e
+
+-- a text is refused with its first fault, unless memory ran out
+abbrev pub RefusesText : ScenarioFault → List ℕ → Type 0
+RefusesText e text = (e ≡ NoMemory) ⊎ (scenario_of_text text ≡ Err e)
+
+-- where a text was read whole, no byte is left to come: so it is for a scenario, and for each fault that is one of its text
+abbrev pub ReadsToEnd : Result PlainScenario ScenarioFault → Option (List ℕ) → Type 0
+ReadsToEnd (Err ReadFault) left = ⊤
+ReadsToEnd (Err TooLong) left = ⊤
+ReadsToEnd (Err NoMemory) left = ⊤
+ReadsToEnd r left = IsAtEnd left

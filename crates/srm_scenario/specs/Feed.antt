@@ -27,3 +27,9 @@ TextOf (Ok text) bytes = (text.items ≡ bytes) × (length bytes ≤ LONGEST_TEX
 TextOf (Err ReadFault) bytes = ⊤
 TextOf (Err TooLong) bytes = LONGEST_TEXT < length bytes
 TextOf (Err NoMemory) bytes = ⊤
+
+-- what was taken from a feed: the whole text, or one byte more than a text may have, or no more than that
+abbrev pub Took : {A : Type 0} → Result (Vec ℕ A) TextFault → List ℕ → Type 0
+Took (Ok text) given = (given ≡ text.items) × (length given ≤ LONGEST_TEXT)
+Took (Err TooLong) given = length given ≡ LONGEST_TEXT + 1
+Took (Err e) given = length given ≤ LONGEST_TEXT + 1

@@ -1,9 +1,10 @@
 -- Whether links make a tree of nodes.
-use Rattle.std.specs.Prelude.{ℕ, zero, suc, ◌+◌, Bool, true, ◌&&◌, [], is_some, length, nat_le, nat_lt, ◌==◌}
+use Rattle.std.specs.Prelude.{◌≡◌, ◌↔◌, ℕ, zero, suc, ◌+◌, Bool, true, ◌&&◌, [], is_some, length, nat_le, nat_lt, ◌==◌}
 use Rattle.std.specs.List.{list_all}
 use Rattle.srm_net.specs.declared.link.LinkSpec.{LinkSpec}
 use Rattle.srm_net.specs.Network.{Network}
 use Rattle.srm_net.specs.Paths.{route_within}
+use Rattle.srm_net.specs.Laws.{HasOnePathEach}
 
 -- whether a test holds of each number below n
 abbrev pub all_below : (ℕ → Bool) → ℕ → Bool
@@ -22,3 +23,8 @@ is_tree w =
     && (nat_le w.nodes 256
     && (list_all (λ k. nat_lt k.a w.nodes && nat_lt k.b w.nodes) w.links
     && ((length w.links + 1 == w.nodes) && all_below (λ u. all_below (has_way w u) w.nodes) w.nodes)))
+
+-- the test, which searches for ways, is passed exactly where there are 1 to 256 nodes, each link joins two of them, and between any
+-- two nodes there is exactly one path
+abbrev pub TestTellsTrees : Type 0
+TestTellsTrees = (w : Network) → is_tree w ≡ true ↔ HasOnePathEach w

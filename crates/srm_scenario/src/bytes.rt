@@ -1,7 +1,7 @@
 //! Reading a text from a device.
 ghost use Rattle.std.specs.Prelude.{◌≡◌, ℕ, List, ◌<◌, ◌≤◌, ◌+◌, ◌-◌, ◌^◌, length, IfSome, IfOk, OnOk};
 ghost use Rattle.std.specs.Io.KnownBytes.{Consumes, IsAtEnd};
-ghost use Rattle.srm_scenario.specs.Feed.{failures_after, TextOf};
+ghost use Rattle.srm_scenario.specs.Feed.{failures_after, TextOf, Took};
 
 use crate::feed::{Feed, FeedFault};
 use std::alloc::Global;
@@ -36,8 +36,7 @@ pub fn read_text<F: Feed>(alloc: Global, feed: &mut F) -> Result<Vec<u8>, TextFa
     ensures text { IfSome (F.remaining feed.old) (TextOf result) }
     ensures end { OnOk result (IsAtEnd (F.remaining feed.new)) }
     ensures bound { IfOk result (λ text. length text.items ≤ LONGEST_TEXT) }
-    ensures taken { (given : List ℕ) × Consumes (F.remaining feed.old) (F.remaining feed.new) given
-        × (length given ≤ LONGEST_TEXT + 1) }
+    ensures taken { (given : List ℕ) × Consumes (F.remaining feed.old) (F.remaining feed.new) given × Took result given }
 {
     let mut text = Vec::new(alloc);
     let mut piece = [0; PIECE];

@@ -1,6 +1,7 @@
 //! Laws of scenarios, over the definitions alone.
 ghost use Rattle.srm_scenario.specs.Scripts.{ScriptsFit};
 ghost use Rattle.srm_scenario.specs.Topologies.{TopologiesAreTrees};
+ghost use Rattle.srm_scenario.specs.Trees.{TestTellsTrees};
 
 /// The script of each member of an accepted scenario rises by time, rank and place, and its marks are the member's own.
 pub fn scripts_fit()
@@ -10,4 +11,9 @@ pub fn scripts_fit()
 /// Each topology is a tree, so that a file that names one is never refused because its links make none.
 pub fn topologies_are_trees()
     ensures { TopologiesAreTrees }
+{}
+
+/// A scenario's links are taken for a tree exactly where there is exactly one path between any two nodes.
+pub fn tree_test_is_exact()
+    ensures { TestTellsTrees }
 {}

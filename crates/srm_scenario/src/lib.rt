@@ -8,6 +8,8 @@ mod elements;
 mod entry;
 pub mod fault;
 pub mod feed;
+#[cfg(test)]
+mod feed_tests;
 pub mod laws;
 mod listed;
 pub mod mark;

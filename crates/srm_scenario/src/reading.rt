@@ -7,7 +7,7 @@ ghost use Rattle.srm_net.specs.Network.{plain_network, HasDelay};
 ghost use Rattle.srm_net.specs.DropSets.{ordered_once};
 ghost use Rattle.srm_net.specs.Paths.{drop_cmp};
 ghost use Rattle.srm_scenario.specs.Accepted.{IsAccepted};
-ghost use Rattle.srm_scenario.specs.Faults.{IsFault, is_star, scenario_of_table, scenario_of_text, failures_after, AnswersText};
+ghost use Rattle.srm_scenario.specs.Faults.{IsFault, is_star, scenario_of_table, scenario_of_text, failures_after, AnswersText, ReadsToEnd, RefusesText};
 ghost use Rattle.srm_scenario.specs.Keys.{HasDegree};
 ghost use Rattle.srm_scenario.specs.Listed.{links_listed, plain_of, faults_in};
 ghost use Rattle.srm_scenario.specs.Ranges.{InRange, HasItsPages};
@@ -150,13 +150,20 @@ pub fn scenario_of(alloc: Global, table: &Table) -> Result<Scenario, ScenarioFau
     scenario_from(alloc, listed)
 }
 
-/// The scenario of a text that is not too long.
-fn scenario_of_bytes(alloc: Global, text: &[u8]) -> Result<Scenario, ScenarioFault>
-    requires { length text.now ≤ LONGEST_TEXT }
+/// The scenario of a text.
+///
+/// # Errors
+///
+/// The first of these, unless memory runs out: [`ScenarioFault::TooLong`] where the text has more than 1,048,576 bytes,
+/// [`ScenarioFault::NotToml`] where they are not UTF-8 or no TOML document, and then those of [`scenario_of`].
+pub fn scenario_of_text(alloc: Global, text: &[u8]) -> Result<Scenario, ScenarioFault>
     ensures scenario { IfOk result (λ s. scenario_of_text text.now ≡ Ok s) }
     ensures accepted { IfOk result IsAccepted }
-    ensures fault { IfErr result (λ e. (e ≡ ScenarioFault.NoMemory) ⊎ (scenario_of_text text.now ≡ Err e)) }
+    ensures fault { IfErr result (λ e. RefusesText e text.now) }
 {
+    if text.len() > LONGEST_TEXT {
+        return Err(ScenarioFault::TooLong);
+    }
     match toml::table_from_slice(alloc, text) {
         Ok(table) => scenario_of(alloc, &table),
         Err(error) => {
@@ -183,8 +190,11 @@ pub fn read_scenario<F: Feed>(alloc: Global, feed: &mut F) -> Result<Scenario, S
     // What is known to be still to come decides the answer.
     ensures answer { IfSome (F.remaining feed.old) (AnswersText result) }
     ensures accepted { IfOk result IsAccepted }
+    // A text that was read whole leaves nothing to come.
+    ensures end { ReadsToEnd result (F.remaining feed.new) }
+    // What was taken decides the answer, also where nothing is known of the feed.
     ensures taken { (given : List ℕ) × Consumes (F.remaining feed.old) (F.remaining feed.new) given
-        × (length given ≤ LONGEST_TEXT + 1) }
+        × (length given ≤ LONGEST_TEXT + 1) × AnswersText result given }
 {
     let text = match read_text(alloc, feed) {
         Ok(text) => text,
@@ -192,5 +202,5 @@ pub fn read_scenario<F: Feed>(alloc: Global, feed: &mut F) -> Result<Scenario, S
         Err(TextFault::TooLong) => return Err(ScenarioFault::TooLong),
         Err(TextFault::NoMemory) => return Err(ScenarioFault::NoMemory),
     };
-    scenario_of_bytes(alloc, &text)
+    scenario_of_text(alloc, &text)
 }

@@ -1,7 +1,8 @@
 //! Scenarios.
-ghost use Rattle.std.specs.Prelude.{◌≡◌, ◌<◌, Some, length, map, slice_get, option_map, MatchResult, IfOk};
+ghost use Rattle.std.specs.Prelude.{◌≡◌, ◌<◌, Some, length, map, slice_get, option_map, MatchResult, IfOk, IfErr};
+ghost use Rattle.srm_net.specs.Orders.{Rises};
 ghost use Rattle.srm_scenario.specs.Accepted.{IsAccepted};
-ghost use Rattle.srm_scenario.specs.Plain.{network_of, script_of};
+ghost use Rattle.srm_scenario.specs.Plain.{network_of, script_of, mark_cmp};
 ghost use Rattle.srm_scenario.specs.Pages.{wants};
 
 use crate::fault::ScenarioFault;
@@ -155,7 +156,9 @@ impl Scenario {
     /// [`ScenarioFault::NoMemory`] alone.
     pub fn script(&self, alloc: Global, m: u16) -> Result<Vec<Mark>, ScenarioFault>
         requires { m < length self.now.members }
-        ensures { MatchResult result (λ marks. marks.items ≡ script_of self.now m) (λ e. e ≡ ScenarioFault.NoMemory) }
+        ensures script { IfOk result (λ marks. marks.items ≡ script_of self.now m) }
+        ensures rises { IfOk result (λ marks. Rises mark_cmp marks.items) }
+        ensures fault { IfErr result (λ e. e ≡ ScenarioFault.NoMemory) }
     {
         let member = self.member(m);
         let marks = script_of(

@@ -6,25 +6,37 @@ use Rattle.srm_net.specs.declared.packet.Packet.{Packet}
 use Rattle.srm_scenario.specs.Plain.{PlainScenario, network_of}
 use Rattle.srm_member.specs.declared.row.Word.{Word}
 use Rattle.srm_member.specs.declared.row.About.{About}
+use Rattle.srm_member.specs.declared.row.About.TheVariants as about
 use Rattle.srm_member.specs.declared.row.Row.{Row}
 use Rattle.srm_member.specs.declared.told.Told.{Told}
-use Rattle.srm_cell.specs.Setting.{Setting, setting_of}
+use Rattle.srm_cell.specs.Setting.{Setting, traffic_of, setting_of}
 use Rattle.srm_cell.specs.Cells.{Idle, Full, Spent, Done}
 use Rattle.srm_cell.specs.Crossings.{crossings}
 use Rattle.srm_engine.specs.World.{World, step, opening}
+
+-- what an event is about, in short: nothing, a packet by its identity, or a name
+pub data Subject : Type 0 where
+  Nothing : Subject
+  Of : (packet : PacketId) → Subject
+  Named : (name : Name) → Subject
+
+abbrev pub subject_of : About → Subject
+subject_of about.Nothing = Nothing
+subject_of (about.Of packet) = Of packet.id
+subject_of (about.Named name) = Named name
 
 -- a row in short: its time, its member, its kind, what it is about, what was told, how many names were lost, and the packet sent
 pub record Brief : Type 0 where
   pub time : ℕ
   pub member : ℕ
   pub cause : Word
-  pub about : About
+  pub about : Subject
   pub told : Told
   pub lost : ℕ
   pub sent : Option PacketId
 
 -- an event that was handled: when, by whom, its kind, what it is about, what was told, how many names were lost, and the packet sent
-abbrev pub handled : ℕ → ℕ → Word → About → Told → ℕ → Option PacketId → Brief
+abbrev pub handled : ℕ → ℕ → Word → Subject → Told → ℕ → Option PacketId → Brief
 handled time member cause about told lost sent = record { time = time; member = member; cause = cause; about = about; told = told; lost = lost; sent = sent }
 
 -- a packet, by its sender and count
@@ -42,7 +54,7 @@ id_of (Some p) = Some p.id
 
 -- a row, in short
 abbrev pub brief : Row → Brief
-brief r = handled r.key.time r.key.member r.cause r.about r.told (length r.lost) (id_of r.sent)
+brief r = handled r.key.time r.key.member r.cause (subject_of r.about) r.told (length r.lost) (id_of r.sent)
 
 -- the world in which the sequential run ends, if it does within so many steps
 unfoldable pub ended : Setting → ℕ → World → World
@@ -63,4 +75,4 @@ whole_trace p seed = map brief (last_world p seed).trace
 
 -- the crossings of its trace
 unfoldable pub whole_totals : PlainScenario → ℕ → List ℕ
-whole_totals p seed = crossings (setting_of p (network_of p) seed) (last_world p seed).trace
+whole_totals p seed = crossings (traffic_of p (network_of p)) (last_world p seed).trace

@@ -1,9 +1,8 @@
 -- The traces of the worked scenarios, and their crossings: for each link data, requests, repairs, session messages and drops.
 use Rattle.std.specs.Prelude.{ℕ, List, [], ◌∷◌, Some, None}
 use Rattle.srm_member.specs.declared.row.Word.TheVariants as word
-use Rattle.srm_member.specs.declared.row.About.TheVariants.{Nothing, Of, Named}
 use Rattle.srm_member.specs.declared.told.Told.TheVariants as told
-use Rattle.srm_traces.specs.Runs.{Brief, handled, packet, name}
+use Rattle.srm_traces.specs.Runs.{Brief, Nothing, Of, Named, handled, packet, name}
 
 -- one loss on a chain of five: its request, and the repair by the nearest that holds it: its trace
 abbrev pub chain_of_five_one_loss_trace : List Brief

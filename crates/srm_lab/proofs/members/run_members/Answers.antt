@@ -9,7 +9,7 @@ use Rattle.srm_lab.proofs.members.run_members.Goals as goal
 use Rattle.srm_lab.proofs.members.run_members.Goals.{in-Sender+in_ok-new-in-Sender+in_ok-new-in-Sender-2, in-Receiver+in_ok-new-in-Receiver+in_ok-new-in-Receiver-2, in-Late+in_ok-new-in-Late+in_ok-new-in-Late-2, in-Listener+in_ok-new-in-Listener+in_ok-new-in-Listener-2}
 
 pub returns-in_err-push-clause-report : goal.returns-in_err-push-clause-report
-returns-in_err-push-clause-report g c = tells-nothing _ _ _ _ c.from_residual-in_err-push.ensures.1
+returns-in_err-push-clause-report g c = tells-nothing _ _ _ _ _ _ c.from_residual-in_err-push.ensures.1
 
 pub loop-m-preserved : goal.loop-m-preserved
 loop-m-preserved g c =

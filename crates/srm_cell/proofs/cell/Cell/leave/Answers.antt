@@ -1,11 +1,16 @@
 use Rattle.std.proofs.Common.{ap, sym, ◌∙◌, refl, None}
 use Rattle.srm_member.specs.declared.told.Told.TheVariants.{Parted}
 use Rattle.srm_cell.specs.Cells.{handle, word_of, about_of}
-use Rattle.srm_cell.proofs.Saying.{gone_has_none, ended_is_gone, left, held, empty, now_empty, no_record}
+use Rattle.srm_cell.proofs.Saying.{wanting_end, gone_has_none, ended_is_gone, left, held, empty, now_empty, no_record}
 use Rattle.srm_cell.proofs.cell.Cell.leave.Goals as goal
 
 pub returns-in_default : goal.returns-in_default
 returns-in_default g c = λ m e h k q. gone_has_none e e.rest.holds e.cause (empty _ c.args.self.now.member e.rest.holds h.holds c.in_default.ensures.value)
+
+pub returns-in-Err-NoMemory : goal.returns-in-Err-NoMemory
+returns-in-Err-NoMemory g c = λ m e h k q.
+    let is = held _ c.args.self.now.member e.rest.holds h.holds c.in-Some.member c.in-Some.ensures.value in
+    wanting_end e _ _ is q (rw c.in-Err-NoMemory.field-0-is at c.in-Err-NoMemory.ensures)
 
 pub returns-in-Err-Spent : goal.returns-in-Err-Spent
 returns-in-Err-Spent g c = λ m e h k q.

@@ -1,0 +1,196 @@
+-- A cell's next event after it hears a packet: the packet's arrival, or what was next.
+use Rattle.std.proofs.Common.{◌≡◌, ◌≢◌, ℕ, Bool, true, false, cond, List, [], ◌∷◌, Option, Some, None, option_map, refl, sym, ap, ◌∙◌, subst, Ordering, Less, Equal, Greater, is_lt}
+use Rattle.std.specs.Ordering.{is_gt, ordering_reverse}
+use Rattle.srm_net.specs.declared.key.Key.{Key}
+use Rattle.srm_net.specs.declared.packet.Packet.{Packet}
+use Rattle.srm_net.specs.Keys.{key_cmp}
+use Rattle.srm_net.specs.Orders.{place}
+use Rattle.srm_scenario.specs.declared.mark.Mark.{Mark}
+use Rattle.srm_member.specs.declared.cause.Cause.TheVariants.{Arrival}
+use Rattle.srm_member.specs.declared.due.Due.{Due}
+use Rattle.srm_member.specs.Record.{due_of}
+use Rattle.srm_member.proofs.OrderLemmas.{key_total, from_refl, from_trans, from_not_greater, not_greater}
+use Rattle.srm_cell.specs.declared.flight.Flight.{Flight}
+use Rattle.srm_cell.specs.declared.pending.Source.{Source}
+use Rattle.srm_cell.specs.declared.pending.Source.TheVariants.{Inbox, Script, Timer}
+use Rattle.srm_cell.specs.declared.pending.Pending.{Pending}
+use Rattle.srm_cell.specs.Flights.{flight_cmp}
+use Rattle.srm_cell.specs.Cells.{PlainCell, Event, arrival_key, by_key, earlier, first_arrival, first_mark, next_timer, next_event, hear_at}
+use Rattle.srm_cell.specs.Pending.{Stands, arriving, first_of, sooner}
+use Rattle.srm_cell.proofs.CellLemmas.{earlier-map, event_map}
+use Rattle.srm_cell.proofs.Tidy.{NotBefore, Least, flight_keys, least_earlier}
+
+-- ---- of three events the least is found in either order
+
+lesser_once : (k l n : Key) → key_cmp k l ≢ Greater → key_cmp l n ≢ Greater → key_cmp k n ≢ Greater
+lesser_once k l n h g =
+    not_greater key_cmp key_total k n
+    (from_trans key_cmp key_total k l n (from_not_greater key_cmp key_total k l h) (from_not_greater key_cmp key_total l n g))
+
+turned : (k l : Key) (r : Ordering) → key_cmp k l ≡ r → key_cmp l k ≡ ordering_reverse r
+turned k l r h = key_total.antisymm l k ∙ ap ordering_reverse h
+
+greater_once : (k l n : Key) → key_cmp k l ≡ Greater → key_cmp l n ≡ Greater → key_cmp k n ≡ Greater
+greater_once k l n h g = turned n k Less (key_total.trans n l k (turned l n Greater g) (turned k l Greater h))
+
+less_not : (r : Ordering) → r ≡ Less → r ≢ Greater
+less_not r h g = let x : Less ≡ Greater = sym h ∙ g in cc
+
+equal_not : (r : Ordering) → r ≡ Equal → r ≢ Greater
+equal_not r h g = let x : Equal ≡ Greater = sym h ∙ g in cc
+
+first_kept : (r : Ordering) (d e : Event) → r ≢ Greater → by_key r d e ≡ d
+first_kept Less d e h = refl
+first_kept Equal d e h = refl
+first_kept Greater d e h = absurd (h refl)
+
+second_kept : (r : Ordering) (d e : Event) → r ≡ Greater → by_key r d e ≡ e
+second_kept r d e h = ap (λ q. by_key q d e) h
+
+all_kept : (d e f : Event) → key_cmp d.key e.key ≢ Greater → key_cmp e.key f.key ≢ Greater
+    → by_key (key_cmp d.key f.key) d f ≡ by_key (key_cmp d.key e.key) d e
+all_kept d e f h g = first_kept _ d f (lesser_once d.key e.key f.key h g) ∙ sym (first_kept _ d e h)
+
+of_three : (d e f : Event) (r s : Ordering) → key_cmp d.key e.key ≡ r → key_cmp e.key f.key ≡ s
+    → by_key (key_cmp (by_key r d e).key f.key) (by_key r d e) f ≡ by_key (key_cmp d.key (by_key s e f).key) d (by_key s e f)
+of_three d e f Less Less h g = all_kept d e f (less_not _ h) (less_not _ g)
+of_three d e f Less Equal h g = all_kept d e f (less_not _ h) (equal_not _ g)
+of_three d e f Less Greater h g = refl
+of_three d e f Equal Less h g = all_kept d e f (equal_not _ h) (less_not _ g)
+of_three d e f Equal Equal h g = all_kept d e f (equal_not _ h) (equal_not _ g)
+of_three d e f Equal Greater h g = refl
+of_three d e f Greater Less h g = first_kept _ e f (less_not _ g) ∙ sym (second_kept _ d e h)
+of_three d e f Greater Equal h g = first_kept _ e f (equal_not _ g) ∙ sym (second_kept _ d e h)
+of_three d e f Greater Greater h g = second_kept _ e f g ∙ sym (second_kept _ d f (greater_once d.key e.key f.key h g))
+
+earlier_of_three : (x y z : Option Event) → earlier (earlier x y) z ≡ earlier x (earlier y z)
+earlier_of_three None y z = refl
+earlier_of_three (Some d) None z = refl
+earlier_of_three (Some d) (Some e) None = refl
+earlier_of_three (Some d) (Some e) (Some f) = ap Some (of_three d e f (key_cmp d.key e.key) (key_cmp e.key f.key) refl refl)
+
+some_first : (d : Event) (o : Option Event) → earlier (Some d) o ≢ None
+some_first d None h = cc
+some_first d (Some e) h = cc
+
+none_of_two : (x y : Option Event) → earlier x y ≡ None → x ≡ None
+none_of_two None y h = refl
+none_of_two (Some d) y h = absurd (some_first d y h)
+
+-- ---- what is next
+
+module _ (m : ℕ) (p : Packet) (at : ℕ) where
+  abbrev heard : PlainCell → PlainCell
+  heard c = hear_at p (Some at) c
+
+  abbrev flight : Flight
+  flight = record { arrival = at; packet = p }
+
+  -- the arrival of a flight, and the cell without it
+  abbrev coming : Flight → PlainCell → Event
+  coming f c = record { key = arrival_key m f; cause = Some (Arrival f.packet); rest = c }
+
+  place_by : (c : PlainCell) (f : Flight) (fs : List Flight) (r : Ordering) (b : Bool) → b ≡ is_lt (ordering_reverse r)
+      → first_arrival m (heard c) (cond b (f ∷ place flight_cmp flight fs) (flight ∷ f ∷ fs))
+      ≡ Some (by_key r (coming flight (record c { inbox = f ∷ fs })) (event_map heard (coming f (record c { inbox = fs }))))
+  place_by c f fs Less b h = rw h refl
+  place_by c f fs Equal b h = rw h refl
+  place_by c f fs Greater b h = rw h refl
+
+  -- the first arrival is the packet's, or what was the first
+  first_heard : (c : PlainCell) (fs : List Flight) → first_arrival m (heard c) (place flight_cmp flight fs)
+      ≡ earlier (Some (coming flight (record c { inbox = fs }))) (option_map (event_map heard) (first_arrival m c fs))
+  first_heard c [] = refl
+  first_heard c (f ∷ fs) =
+      let same = flight_keys m flight f in
+      let back : is_lt (flight_cmp f flight) ≡ is_lt (ordering_reverse (key_cmp (arrival_key m flight) (arrival_key m f))) = ap is_lt (sym (flight_keys m f flight) ∙ key_total.antisymm (arrival_key m f) (arrival_key m flight)) in
+      place_by c f fs (key_cmp (arrival_key m flight) (arrival_key m f)) (is_lt (flight_cmp f flight)) back
+
+  marks_alike : (c : PlainCell) (ks : List Mark) → first_mark m (heard c) ks ≡ option_map (event_map heard) (first_mark m c ks)
+  marks_alike c [] = refl
+  marks_alike c (k ∷ ks) = refl
+
+  timers_alike : (c : PlainCell) (o : Option Due) → next_timer m (heard c) o ≡ option_map (event_map heard) (next_timer m c o)
+  timers_alike c None = refl
+  timers_alike c (Some d) = refl
+
+  -- the next event is the packet's arrival, or what was next
+  next_heard : (c : PlainCell) → next_event m (heard c) ≡ earlier (Some (coming flight c)) (option_map (event_map heard) (next_event m c))
+  unfolding next_event
+  next_heard c =
+      let a = first_arrival m c c.inbox in
+      let k = first_mark m c c.script in
+      let t = next_timer m c (due_of c.holds) in
+      ap (λ o. earlier o (earlier (first_mark m (heard c) c.script) (next_timer m (heard c) (due_of c.holds)))) (first_heard c c.inbox)
+      ∙ ap (λ o. earlier (earlier (Some (coming flight c)) (option_map (event_map heard) a)) (earlier o (next_timer m (heard c) (due_of c.holds)))) (marks_alike c c.script)
+      ∙ ap (λ o. earlier (earlier (Some (coming flight c)) (option_map (event_map heard) a)) (earlier (option_map (event_map heard) k) o)) (timers_alike c (due_of c.holds))
+      ∙ ap (earlier (earlier (Some (coming flight c)) (option_map (event_map heard) a))) (earlier-map heard k t)
+      ∙ earlier_of_three (Some (coming flight c)) (option_map (event_map heard) a) (option_map (event_map heard) (earlier k t))
+      ∙ ap (earlier (Some (coming flight c))) (earlier-map heard a (earlier k t))
+
+  first_of_two : (d : Event) (x : Option Event) → ((a : Event) → x ≡ Some a → key_cmp d.key a.key ≢ Greater) → earlier (Some d) (option_map (event_map heard) x) ≡ Some d
+  first_of_two d None b = refl
+  first_of_two d (Some a) b = ap Some (first_kept _ d (event_map heard a) (b a refl))
+
+  -- the packet's arrival is the first where it is not after another
+  is_first : (c : PlainCell) → ((a : Event) → first_arrival m c c.inbox ≡ Some a → key_cmp (arrival_key m flight) a.key ≢ Greater)
+      → first_of Inbox m (heard c) ≡ Some (coming flight c)
+  is_first c b = first_heard c c.inbox ∙ first_of_two (coming flight c) (first_arrival m c c.inbox) b
+
+  -- no arrival is where nothing is next, or before what is next
+  no_arrival : (c : PlainCell) → next_event m c ≡ None → first_arrival m c c.inbox ≡ None
+  unfolding next_event
+  no_arrival c h = none_of_two (first_arrival m c c.inbox) _ h
+
+  arrivals_from : (c : PlainCell) (e : Event) → next_event m c ≡ Some e → Least e.key (first_arrival m c c.inbox)
+  unfolding next_event
+  arrivals_from c e h = (least_earlier e.key (first_arrival m c c.inbox) _ (subst (Least e.key) (sym h) (from_refl key_cmp key_total e.key))).0
+
+  none_before : (c : PlainCell) (e a : Event) → next_event m c ≡ Some e → first_arrival m c c.inbox ≡ Some a → key_cmp e.key a.key ≢ Greater
+  none_before c e a h g = not_greater key_cmp key_total e.key a.key (subst (Least e.key) g (arrivals_from c e h))
+
+  source_alike : (c : PlainCell) (s : Source) (e : Event) → first_of s m c ≡ Some e → key_cmp (arrival_key m flight) e.key ≡ Greater
+      → first_of s m (heard c) ≡ Some (event_map heard e)
+  source_alike c Inbox e h after =
+      first_heard c c.inbox ∙ ap (λ o. earlier (Some (coming flight c)) (option_map (event_map heard) o)) h
+      ∙ ap Some (second_kept _ (coming flight c) (event_map heard e) after)
+  source_alike c Script e h after = marks_alike c c.script ∙ ap (option_map (event_map heard)) h
+  source_alike c (Timer d) e h after = ap (option_map (event_map heard)) h
+
+  next_with : (c : PlainCell) (o : Option Event) → next_event m c ≡ o → next_event m (heard c) ≡ earlier (Some (coming flight c)) (option_map (event_map heard) o)
+  next_with c o h = next_heard c ∙ ap (λ o. earlier (Some (coming flight c)) (option_map (event_map heard) o)) h
+
+  stands_none : (c : PlainCell) → next_event m c ≡ None → Stands m (heard c) (Some (arriving m at p.id)) (next_event m (heard c))
+  stands_none c h = (
+    coming flight c,
+    next_with c None h,
+    refl,
+    is_first c (λ a q. let x : None ≡ Some a = sym (no_arrival c h) ∙ q in cc),
+  )
+
+  stands_first : (c : PlainCell) (e : Event) → next_event m c ≡ Some e → key_cmp (arrival_key m flight) e.key ≢ Greater
+      → Stands m (heard c) (Some (arriving m at p.id)) (next_event m (heard c))
+  stands_first c e h b = (
+    coming flight c,
+    next_with c (Some e) h ∙ ap Some (first_kept _ (coming flight c) (event_map heard e) b),
+    refl,
+    is_first c (λ a q. lesser_once (arrival_key m flight) e.key a.key b (none_before c e a h q)),
+  )
+
+  stands_some : (c : PlainCell) (q : Pending) (r : Ordering) → key_cmp (arrival_key m flight) q.key ≡ r → Stands m c (Some q) (next_event m c)
+      → Stands m (heard c) (cond (is_gt r) (Some q) (Some (arriving m at p.id))) (next_event m (heard c))
+  stands_some c q Less k h = stands_first c h.0 h.1 (less_not _ (ap (key_cmp (arrival_key m flight)) (sym h.2) ∙ k))
+  stands_some c q Equal k h = stands_first c h.0 h.1 (equal_not _ (ap (key_cmp (arrival_key m flight)) (sym h.2) ∙ k))
+  stands_some c q Greater k h =
+      let after : key_cmp (arrival_key m flight) h.0.key ≡ Greater = ap (key_cmp (arrival_key m flight)) (sym h.2) ∙ k in (
+        event_map heard h.0,
+        next_with c (Some h.0) h.1 ∙ ap Some (second_kept _ (coming flight c) (event_map heard h.0) after),
+        h.2,
+        source_alike c q.source h.0 h.3 after,
+      )
+
+  -- the sooner of the packet and what was next stands for what is next now
+  pub stands_heard : (c : PlainCell) (o : Option Pending) → Stands m c o (next_event m c)
+      → Stands m (heard c) (sooner (Some (arriving m at p.id)) o) (next_event m (heard c))
+  stands_heard c None h = stands_none c h
+  stands_heard c (Some q) h = stands_some c q _ refl h

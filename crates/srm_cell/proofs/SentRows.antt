@@ -1,0 +1,128 @@
+-- The packets of an own run: whose they are, and how many.
+use Rattle.std.proofs.Common.{◌≡◌, ◌<◌, ◌≤◌, ℕ, zero, suc, ◌-◌, ◌*◌, ◌^◌, Bool, true, false, cond, List, [], ◌∷◌, length, Option, Some, None, refl, sym, ap, ◌∙◌, subst, arith, nat_lt, ltb-true, length-append, All}
+use Rattle.std.specs.List.{cons_option}
+use Rattle.std.proofs.lemmas.List.Elements.{All-nil, All-cons}
+use Rattle.std.specs.declared.dyn_box.DynBox.{DynBox}
+use Rattle.std.specs.Global.{Global}
+use Rattle.srm_net.specs.declared.packet.Body.{Body}
+use Rattle.srm_net.specs.declared.packet.Packet.{Packet}
+use Rattle.srm_member.specs.declared.cause.Cause.{Cause}
+use Rattle.srm_member.specs.declared.row.Row.{Row}
+use Rattle.srm_member.specs.React.{Reaction, react}
+use Rattle.srm_member.specs.Record.{Active, Gone, Record}
+use Rattle.srm_cell.specs.declared.cell.Cell.{Cell}
+use Rattle.srm_cell.specs.Cells.{PlainCell, Event, StepOutcome, Idle, Full, Spent, Done, Stepped, before, handle, next_event, own_step, sending_step, step_at}
+use Rattle.srm_cell.specs.OwnRuns.{own_rows}
+use Rattle.srm_cell.specs.Crossings.{packets_of, joined}
+use Rattle.srm_cell.specs.Totalled.{IsSentBelow}
+use Rattle.srm_cell.specs.Jobs.{OwnCell, AreMembers, AreCells, RanEach}
+use Rattle.srm_cell.proofs.Clear.{RestOf, next_rest}
+use Rattle.srm_cell.proofs.CellSteps.{SentBy, own_step_is}
+use Rattle.srm_cell.proofs.OwnRunLemmas.{rows_by, rows_first, rows_none}
+use Rattle.srm_cell.proofs.RowPackets.{packets_joined}
+use Rattle.srm_cell.proofs.Rising.{OnEvent, OnStep, before_on}
+
+-- ---- how many
+
+-- the count before and after what was sent, if anything was
+abbrev Counts : ℕ → Option Packet → ℕ → Type 0
+Counts before None after = after ≡ before
+Counts before (Some p) after = (before < 2 ^ 48) × (after ≡ suc before)
+
+abbrev CountsFrom : ℕ → StepOutcome Stepped → Type 0
+CountsFrom n = OnStep (λ d. Counts n d.row.sent d.cell.sent)
+
+counts_by : (n : ℕ) (b : Bool) (x : Stepped) → (b ≡ true → Counts n x.row.sent x.cell.sent) → CountsFrom n (cond b (Done x) Full)
+counts_by n true x h = h refl
+counts_by n false x h = tt
+
+counts_sending : (e : Event) (r : Reaction) (body : Option Body) → CountsFrom e.rest.sent (sending_step e r body)
+counts_sending e r None = refl
+counts_sending e r (Some body) = counts_by e.rest.sent (nat_lt e.rest.sent (2 ^ 48)) _ (λ t. (ltb-true _ _ t, omega arith))
+
+counts_handle : (e : Event) (holds : Record) (cause : Option Cause) → CountsFrom e.rest.sent (handle e holds cause)
+unfolding handle
+counts_handle e (Active m) (Some cause) = let r = react m e.key.time cause in counts_sending e r r.answer.body
+counts_handle e (Active m) None = refl
+counts_handle e (Gone f) cause = tt
+
+counts_at : (c : PlainCell) (x : Option Event) → OnEvent (RestOf c) x → CountsFrom c.sent (step_at x)
+counts_at c None h = tt
+counts_at c (Some e) h = subst (λ n. CountsFrom n (step_at (Some e))) h.sent (counts_handle e e.rest.holds e.cause)
+
+counts_own : (end m : ℕ) (c : PlainCell) → CountsFrom c.sent (own_step end m c)
+unfolding own_step
+counts_own end m c = counts_at c (before end (next_event m c)) (before_on (RestOf c) end (next_event m c) (next_rest m c))
+
+one_packet : (b a : ℕ) (o : Option Packet) (ps : List Packet) → Counts b o a → length ps ≤ 2 ^ 48 - a → length (cons_option o ps) ≤ 2 ^ 48 - b
+one_packet b a None ps h le = omega arith
+one_packet b a (Some p) ps h le = let lt = h.0 in let e = h.1 in omega arith
+
+module _ (end m : ℕ) where
+  few_by : (n before : ℕ) → ((d : PlainCell) → length (packets_of (own_rows end m n d)) ≤ 2 ^ 48 - d.sent) → (o : StepOutcome Stepped) → CountsFrom before o → length (packets_of (rows_by end m n o)) ≤ 2 ^ 48 - before
+  few_by n before more Idle h = omega arith
+  few_by n before more Full h = omega arith
+  few_by n before more Spent h = omega arith
+  few_by n before more (Done d) h = one_packet before d.cell.sent d.row.sent _ h (more d.cell)
+
+  few_left : (n : ℕ) (c : PlainCell) → length (packets_of (own_rows end m n c)) ≤ 2 ^ 48 - c.sent
+  few_left zero c = let e = ap (λ rs. length (packets_of rs)) (rows_none end m c) in omega (arith, e)
+  few_left (suc n) c = subst (λ rs. length (packets_of rs) ≤ 2 ^ 48 - c.sent) (sym (rows_first end m n c)) (few_by n c.sent (λ d. few_left n d) (own_step end m c) (counts_own end m c))
+
+  -- ---- whose
+
+  sent_below : (k : ℕ) (o : Option Packet) → m < k → SentBy m o → IsSentBelow k o
+  sent_below k None lt h = tt
+  sent_below k (Some p) lt h = omega arith
+
+  below_by : (k n : ℕ) → m < k → ((d : PlainCell) → All (λ r. IsSentBelow k r.sent) (own_rows end m n d)) → (o : StepOutcome Stepped) → ((d : Stepped) → o ≡ Done d → SentBy m d.row.sent) → All (λ r. IsSentBelow k r.sent) (rows_by end m n o)
+  below_by k n lt more Idle h = All-nil (λ (r : Row). IsSentBelow k r.sent)
+  below_by k n lt more Full h = All-nil (λ (r : Row). IsSentBelow k r.sent)
+  below_by k n lt more Spent h = All-nil (λ (r : Row). IsSentBelow k r.sent)
+  below_by k n lt more (Done d) h = All-cons (λ (r : Row). IsSentBelow k r.sent) d.row _ (sent_below k d.row.sent lt (h d refl)) (more d.cell)
+
+  own_below : (k n : ℕ) (c : PlainCell) → m < k → All (λ r. IsSentBelow k r.sent) (own_rows end m n c)
+  own_below k zero c lt = subst (All (λ r. IsSentBelow k r.sent)) (sym (rows_none end m c)) (All-nil (λ (r : Row). IsSentBelow k r.sent))
+  own_below k (suc n) c lt = subst (All (λ r. IsSentBelow k r.sent)) (sym (rows_first end m n c)) (below_by k n lt (λ d. own_below k n d lt) (own_step end m c) (λ d e. (own_step_is end m c d e).1))
+
+-- ---- of several cells
+
+module _ {X : Type 0} {H : X → Type 0} where
+  pub rows_few : (f : DynBox X Global H → Record) (end : ℕ) (qs : List OwnCell) (rows : List (List Row)) (cs : List (Cell X H)) → RanEach f end qs rows cs → length (packets_of (joined rows)) ≤ length cs * 2 ^ 48
+  rows_few f end [] [] [] h = omega arith
+  rows_few f end [] [] (c ∷ cs) h = absurd h
+  rows_few f end [] (r ∷ rs) cs h = absurd h
+  rows_few f end (q ∷ qs) [] cs h = absurd h
+  rows_few f end (q ∷ qs) (r ∷ rs) [] h = absurd h
+  rows_few f end (q ∷ qs) (r ∷ rs) (c ∷ cs) h =
+      let run = h.0.1 in
+      let one : length (packets_of r) ≤ 2 ^ 48 - q.cell.sent = subst (λ xs. length (packets_of xs) ≤ 2 ^ 48 - q.cell.sent) (sym run.rows_are) (few_left end q.member run.steps q.cell) in
+      let more = rows_few f end qs rs cs h.1 in
+      let e = ap length (packets_joined r rs) ∙ length-append (packets_of r) (packets_of (joined rs)) in
+      omega (arith, one, more, e)
+
+  pub rows_below : (f : DynBox X Global H → Record) (end k : ℕ) (qs : List OwnCell) (rows : List (List Row)) (cs : List (Cell X H)) → AreMembers k qs → RanEach f end qs rows cs → All (λ rs. All (λ r. IsSentBelow k r.sent) rs) rows
+  rows_below f end k [] [] [] a h = All-nil (λ (rs : List Row). All (λ r. IsSentBelow k r.sent) rs)
+  rows_below f end k [] [] (c ∷ cs) a h = absurd h
+  rows_below f end k [] (r ∷ rs) cs a h = absurd h
+  rows_below f end k (q ∷ qs) [] cs a h = absurd h
+  rows_below f end k (q ∷ qs) (r ∷ rs) [] a h = absurd h
+  rows_below f end k (q ∷ qs) (r ∷ rs) (c ∷ cs) a h =
+      let run = h.0.1 in
+      All-cons (λ (rs : List Row). All (λ r. IsSentBelow k r.sent) rs) r rs
+      (subst (All (λ r. IsSentBelow k r.sent)) (sym run.rows_are) (own_below end q.member k run.steps q.cell a.0))
+      (rows_below f end k qs rs cs a.1 h.1)
+
+  pub as_many : (f : DynBox X Global H → Record) (end : ℕ) (qs : List OwnCell) (rows : List (List Row)) (cs : List (Cell X H)) → RanEach f end qs rows cs → length cs ≡ length qs
+  as_many f end [] [] [] h = refl
+  as_many f end [] [] (c ∷ cs) h = absurd h
+  as_many f end [] (r ∷ rs) cs h = absurd h
+  as_many f end (q ∷ qs) [] cs h = absurd h
+  as_many f end (q ∷ qs) (r ∷ rs) [] h = absurd h
+  as_many f end (q ∷ qs) (r ∷ rs) (c ∷ cs) h = ap suc (as_many f end qs rs cs h.1)
+
+  pub as_many_seen : (f : DynBox X Global H → Record) (cs : List (Cell X H)) (qs : List OwnCell) → AreCells f cs qs → length cs ≡ length qs
+  as_many_seen f [] [] h = refl
+  as_many_seen f [] (q ∷ qs) h = absurd h
+  as_many_seen f (c ∷ cs) [] h = absurd h
+  as_many_seen f (c ∷ cs) (q ∷ qs) h = ap suc (as_many_seen f cs qs h.1)

@@ -1,0 +1,11 @@
+use Rattle.std.proofs.Common.{◌≡◌, List}
+use Rattle.srm_net.specs.declared.packet.Packet.{Packet}
+use Rattle.srm_cell.specs.Setting.{traffic_of}
+use Rattle.srm_cell.specs.Totalled.{numbers_of}
+use Rattle.srm_cell.proofs.Counting.{mixed}
+use Rattle.srm_cell.proofs.count.count.Given as goal
+
+abbrev pub invariant-loop-link : goal.invariant-loop-link
+invariant-loop-link l =
+    (ps : List Packet) → l.fn.totals ≡ numbers_of (traffic_of l.scenario l.net) ps
+    → l.totals ≡ mixed (traffic_of l.scenario l.net) ps l.packet l.link 0 (traffic_of l.scenario l.net).links

@@ -1,0 +1,85 @@
+//! Own runs of a job's cells.
+ghost use Rattle.std.specs.Prelude.{◌≡◌, ◌<◌, ◌≤◌, ◌+◌, ◌^◌, ℕ, List, length, All, IfOk, IfErr};
+ghost use Rattle.srm_cell.specs.Setting.{traffic_of};
+ghost use Rattle.srm_cell.specs.Crossings.{packets_of, joined, crossings};
+ghost use Rattle.srm_cell.specs.Totalled.{IsSentBelow};
+ghost use Rattle.srm_cell.specs.Jobs.{OwnCell, AreCells, MayAdvance, Advances, TellsRuns};
+
+use crate::cell::Cell;
+use crate::crossings::Crossings;
+use crate::fault::CellFault;
+use crate::job::{Done, Job};
+use srm_member::member::Member;
+use srm_member::row::Row;
+use srm_net::net::Net;
+use srm_net::sequence::Sequence;
+use srm_scenario::scenario::Scenario;
+use std::alloc::{AllocError, Global};
+
+/// Each cell of the job handles its own events before the job's end, in key order, and none of another cell. After an error the
+/// cells are gone: want of memory, or the first of the other two that is met where the cells are taken one after the other.
+pub fn advance(alloc: Global, scenario: &Scenario, net: &Net, job: Job) -> Result<Done, CellFault>
+    requires { MayAdvance (λ b. plain b) (length net.now.hosts) job }
+    ensures { Advances (λ b. plain b) scenario.now net.now job result }
+{
+    let Job { place, till, cells } = job;
+    let (cells, rows) = match run_each(alloc, till, cells) {
+        Ok(ran) => ran,
+        Err(fault) => return Err(fault),
+    };
+    let Ok(crossings) = crossings_of(alloc, scenario, net, rows.as_slice()) else {
+        return Err(CellFault::NoMemory);
+    };
+    Ok(Done {
+        place,
+        cells,
+        rows,
+        crossings,
+    })
+}
+
+// Each cell's own run, and its rows.
+fn run_each(
+    alloc: Global,
+    till: u64,
+    waiting: Vec<Cell>,
+) -> Result<(Vec<Cell>, Vec<Sequence<Row>>), CellFault>
+    requires { till ≤ 2 ^ 40 }
+    ensures { (qs : List OwnCell) → AreCells (λ b. plain b) waiting.items qs → TellsRuns (λ b. plain b) till qs result }
+{
+    let mut cells = Vec::new(alloc);
+    let mut rows = Vec::new(alloc);
+    for cell in waiting {
+        let mut cell = cell;
+        let new = match cell.run(alloc, till) {
+            Ok(new) => new,
+            Err(fault) => return Err(fault),
+        };
+        if rows.push(new).is_err() {
+            return Err(CellFault::NoMemory);
+        }
+        if cells.push(cell).is_err() {
+            return Err(CellFault::NoMemory);
+        }
+    }
+    Ok((cells, rows))
+}
+
+// The crossings of all these rows. Where nothing was sent they take no memory.
+fn crossings_of(
+    alloc: Global,
+    scenario: &Scenario,
+    net: &Net,
+    lists: &[Sequence<Row>],
+) -> Result<Crossings, AllocError>
+    requires senders { All (λ rs. All (λ r. IsSentBelow (length net.now.hosts) r.sent) rs) lists.now }
+    requires few { length (packets_of (joined lists.now)) + 2 < 2 ^ 64 }
+    ensures counted { IfOk result (λ c. c ≡ crossings (traffic_of scenario.now net.now) (joined lists.now)) }
+    ensures asked { IfErr result (λ _. 0 < length (packets_of (joined lists.now))) }
+{
+    let mut crossings = Crossings::none(net.links().len() as u16);
+    for rows in lists {
+        crossings.count_rows(alloc, scenario, net, rows.as_slice())?;
+    }
+    Ok(crossings)
+}

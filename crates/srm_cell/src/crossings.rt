@@ -1,0 +1,93 @@
+//! Crossings of rows.
+ghost use Rattle.std.specs.Prelude.{◌≡◌, ◌<◌, ◌∷◌, [], ℕ, length, All, IfOk, IfErr, MatchOption};
+ghost use Rattle.srm_ledger.specs.Counts.{nothing_at};
+ghost use Rattle.srm_cell.specs.Setting.{traffic_of};
+ghost use Rattle.srm_cell.specs.Crossings.{packets_of};
+ghost use Rattle.srm_cell.specs.Totalled.{MayCount, Counts, IsSentBelow};
+
+use crate::count::count;
+use srm_ledger::totals::Totals;
+use srm_member::row::Row;
+use srm_net::net::Net;
+use srm_net::packet::Packet;
+use srm_scenario::scenario::Scenario;
+use std::alloc::{AllocError, Global};
+use std::marker::Model;
+
+/// Five numbers for each link, of which none takes memory as long as all are 0. Contracts see them as one list, the five of link 0
+/// first.
+#[derive(Drop)]
+pub struct Crossings {
+    links: u16,
+    counted: Option<Totals>,
+}
+
+impl Model for Crossings {
+    ghost use Rattle.std.specs.Prelude.{List, ℕ, unwrap_or};
+    ghost use Rattle.srm_ledger.specs.Counts.{nothing_at};
+
+    ghost Value = { List ℕ };
+
+    ghost view = { λ c. unwrap_or c.counted (nothing_at c.links) };
+}
+
+impl Crossings {
+    /// Nothing counted yet at any of `links` links. It takes no memory.
+    pub fn none(links: u16) -> Self
+        ensures { result ≡ nothing_at links }
+    {
+        Crossings {
+            links,
+            counted: None,
+        }
+    }
+
+    /// What was counted, if there is anything.
+    pub fn counted(&self) -> Option<&Totals>
+        ensures { MatchOption result ((links : ℕ) × (self.now ≡ nothing_at links)) (λ totals. totals.now ≡ self.now) }
+    {
+        self.counted.as_ref()
+    }
+
+    // Counts a packet at each link that it crosses, and at each that drops it.
+    fn count_packet(
+        &mut self,
+        alloc: Global,
+        scenario: &Scenario,
+        net: &Net,
+        packet: &Packet,
+    ) -> Result<(), AllocError>
+        requires sender { packet.now.id.sender < length net.now.hosts }
+        requires room { MayCount (traffic_of scenario.now net.now) 1 self.old }
+        ensures { IfOk result (λ _. Counts scenario.now net.now (packet.now ∷ []) self.old self.new) }
+    {
+        let mut totals = match self.counted.take() {
+            Some(totals) => totals,
+            None => Totals::new(alloc, self.links)?,
+        };
+        count(&mut totals, scenario, net, packet);
+        self.counted = Some(totals);
+        Ok(())
+    }
+
+    /// Counts the packets that the rows' members sent. Where none was sent it takes no memory.
+    pub fn count_rows(
+        &mut self,
+        alloc: Global,
+        scenario: &Scenario,
+        net: &Net,
+        rows: &[Row],
+    ) -> Result<(), AllocError>
+        requires senders { All (λ r. IsSentBelow (length net.now.hosts) r.sent) rows.now }
+        requires room { MayCount (traffic_of scenario.now net.now) (length (packets_of rows.now)) self.old }
+        ensures counted { IfOk result (λ _. Counts scenario.now net.now (packets_of rows.now) self.old self.new) }
+        ensures asked { IfErr result (λ _. 0 < length (packets_of rows.now)) }
+    {
+        for row in rows {
+            if let Some(packet) = &row.sent {
+                self.count_packet(alloc, scenario, net, packet)?;
+            }
+        }
+        Ok(())
+    }
+}

@@ -1,0 +1,34 @@
+-- What a recording crew has noted after several calls.
+use Rattle.std.specs.Prelude.{IfOk}
+use Rattle.std.proofs.Common.{Result, Ok, Err, ◌≡◌, ◌<◌, ◌+◌, ℕ, List, [], ◌∷◌, ◌++◌, length, take, get_or, map, refl, sym, ap, ◌∙◌}
+use Rattle.std.proofs.lemmas.List.{take_more, map-append}
+use Rattle.std.specs.declared.dyn_box.DynBox.{DynBox}
+use Rattle.std.specs.Global.{Global}
+use Rattle.srm_member.specs.Record.{Record}
+use Rattle.srm_cell.specs.declared.job.Job.{Job}
+use Rattle.srm_cell.specs.Jobs.{PlainJob}
+use Rattle.srm_cell.proofs.SentRows.{as_many_seen}
+use Rattle.srm_crew.specs.declared.recording.Note.{Note}
+use Rattle.srm_crew.specs.Crews.{AreJobs}
+use Rattle.srm_crew.specs.Notes.{notes_of}
+
+module _ {X : Type 0} {H : X → Type 0} where
+  -- the note of a job as it is
+  abbrev pub own_note : Job X H → Note
+  own_note j = record { place = j.place; till = j.till; cells = length j.cells.items }
+
+  pub notes_more : (js : List (Job X H)) (i : ℕ) (j : Job X H) → i < length js → j ≡ get_or js i j → map own_note (take i js) ++ own_note j ∷ [] ≡ map own_note (take (i + 1) js)
+  notes_more js i j lt e = sym (ap (map own_note) (take_more js i j lt) ∙ map-append own_note (take i js) (get_or js i j ∷ []) ∙ ap (λ (k : Job X H). map own_note (take i js) ++ own_note k ∷ []) (sym e))
+
+  pub notes_seen : (f : DynBox X Global H → Record) (js : List (Job X H)) (ps : List PlainJob) → AreJobs f js ps → map own_note js ≡ notes_of ps
+  notes_seen f [] [] h = refl
+  notes_seen f [] (p ∷ ps) h = absurd h
+  notes_seen f (j ∷ js) [] h = absurd h
+  notes_seen f (j ∷ js) (p ∷ ps) h =
+      let many = as_many_seen f j.cells.items p.cells h.0.cells in
+      let more = notes_seen f js ps h.1 in
+      λ i. record { place = h.0.place i; till = h.0.till i; cells = many i } ∷ more i
+
+pub always_ok : {A E : Type 0} (r : Result A E) (Q : Type 0) → Q → IfOk r (λ x. Q)
+always_ok (Ok x) Q q = q
+always_ok (Err e) Q q = tt

@@ -1,0 +1,15 @@
+use Rattle.std.proofs.Common.{ℕ, List, All, length}
+use Rattle.std.specs.Vec.Iter.{into_iter_items}
+use Rattle.srm_cell.specs.Setting.{traffic_of}
+use Rattle.srm_cell.specs.Jobs.{PlainJob, MayAdvance}
+use Rattle.srm_crew.specs.Crews.{AreJobs}
+use Rattle.srm_crew.proofs.JobsSoFar.{SoFar}
+use Rattle.srm_crew.proofs.each.advance_each.Given as goal
+
+abbrev pub invariant-loop-job : goal.invariant-loop-job
+invariant-loop-job g l =
+    (goal.iterator-loop-job g).can_next l.job-iterator
+    × (goal.iterator-loop-job g).is_finite l.job-iterator
+    × All (λ j. MayAdvance (λ b. (goal.Member-dyn g (b.vtable, b.value)).plain b.value) (length l.net.hosts) j) (into_iter_items l.job-iterator)
+    × ((ps : List PlainJob) → AreJobs (λ b. (goal.Member-dyn g (b.vtable, b.value)).plain b.value) l.fn.jobs.items ps
+    → SoFar (λ b. (goal.Member-dyn g (b.vtable, b.value)).plain b.value) (traffic_of l.scenario l.net) ps l.all.items (into_iter_items l.job-iterator))

@@ -1,0 +1,4 @@
+pub mod Crews
+pub mod Notes
+pub mod Places
+pub mod Passes

@@ -1,0 +1,96 @@
+//! Crossings, added to a ledger.
+ghost use Rattle.std.specs.Prelude.{◌≡◌, ◌<◌, ◌≤◌, ◌+◌, ◌*◌, ◌^◌, ℕ, List, length, All, MatchResult};
+ghost use Rattle.srm_ledger.specs.Counts.{place_of};
+ghost use Rattle.srm_cell.specs.Jobs.{PlainJob};
+ghost use Rattle.srm_cell.specs.Setting.{Traffic};
+ghost use Rattle.srm_crew.specs.Crews.{HasGrown, IsPast, word_of, sum_at, TellsEach, TellsMap};
+
+use crate::fault::CrewFault;
+use srm_cell::crossings::Crossings;
+use srm_cell::fault::CellFault;
+use srm_cell::job::Done;
+use srm_ledger::kind::Kind;
+use srm_ledger::ledger::{Ledger, Seat, ShareFull};
+use srm_ledger::totals::Totals;
+use srm_member::member::Member;
+
+// The kind at a place.
+fn kind_at(place: usize) -> Kind
+    requires { place < 5 }
+    ensures { place_of result ≡ place }
+{
+    match place {
+        0 => Kind::Drawop,
+        1 => Kind::Request,
+        2 => Kind::Repair,
+        3 => Kind::Session,
+        _ => Kind::Dropped,
+    }
+}
+
+// Adds each number of the totals.
+fn add_totals(ledger: &Ledger, seat: &mut Seat, totals: &Totals) -> Result<(), ShareFull>
+    requires seat { seat.old.ledger ≡ ledger.now.name }
+    requires long { length totals.now ≡ 5 * ledger.now.links }
+    ensures { MatchResult result (λ _. HasGrown (word_of totals.now) seat.old seat.new) (λ _. IsPast (word_of totals.now) seat.old) }
+{
+    for i in 0..5 * ledger.links() {
+        let link = i / 5;
+        let kind = kind_at(i % 5);
+        let number = totals.number(link as u16, kind);
+        if ledger.add(seat, link, kind, number).is_err() {
+            return Err(ShareFull);
+        }
+    }
+    Ok(())
+}
+
+// Adds crossings, of which there may be none.
+fn add_crossings(ledger: &Ledger, seat: &mut Seat, crossings: &Crossings) -> Result<(), ShareFull>
+    requires seat { seat.old.ledger ≡ ledger.now.name }
+    requires long { length crossings.now ≡ 5 * ledger.now.links }
+    ensures { MatchResult result (λ _. HasGrown (word_of crossings.now) seat.old seat.new) (λ _. IsPast (word_of crossings.now) seat.old) }
+{
+    match crossings.counted() {
+        None => Ok(()),
+        Some(totals) => add_totals(ledger, seat, totals),
+    }
+}
+
+/// Adds the crossings of all that is done.
+pub(crate) fn add_each(ledger: &Ledger, seat: &mut Seat, all: &[Done]) -> Result<(), ShareFull>
+    requires seat { seat.old.ledger ≡ ledger.now.name }
+    requires long { All (λ d. length d.crossings ≡ 5 * ledger.now.links) all.now }
+    ensures { MatchResult result (λ _. HasGrown (λ k. sum_at k all.now) seat.old seat.new) (λ _. IsPast (λ k. sum_at k all.now) seat.old) }
+{
+    for done in all {
+        match add_crossings(ledger, seat, &done.crossings) {
+            Ok(()) => {}
+            Err(fault) => return Err(fault),
+        }
+    }
+    Ok(())
+}
+
+/// The jobs that are done, with a seat that has grown by the crossings of all of them; or why not.
+pub(crate) fn settle(
+    ledger: &Ledger,
+    seat: Seat,
+    advanced: Result<Vec<Done>, CellFault>,
+) -> Result<(Vec<Done>, Seat), CrewFault>
+    requires seat { seat.ledger ≡ ledger.now.name }
+    requires known { (s : Traffic) × (ps : List PlainJob) × (s.links ≡ ledger.now.links) × TellsEach (λ b. (⟦<dyn Member as Member>⟧ b.vtable).plain b.value) s ps advanced }
+    ensures { (s : Traffic) (ps : List PlainJob) → s.links ≡ ledger.now.links → TellsEach (λ b. (⟦<dyn Member as Member>⟧ b.vtable).plain b.value) s ps advanced → TellsMap (λ b. (⟦<dyn Member as Member>⟧ b.vtable).plain b.value) s seat ps result }
+{
+    let all = match advanced {
+        Ok(all) => all,
+        Err(CellFault::NoMemory) => return Err(CrewFault::NoMemory),
+        Err(CellFault::Spent) => return Err(CrewFault::Spent),
+        Err(CellFault::CountFull) => return Err(CrewFault::CountFull),
+    };
+    let mut seat = seat;
+    match add_each(ledger, &mut seat, all.as_slice()) {
+        Ok(()) => Ok((all, seat)),
+        Err(ShareFull) => Err(CrewFault::ShareFull),
+    }
+}

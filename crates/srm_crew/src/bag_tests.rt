@@ -1,0 +1,95 @@
+//! A bag of numbers: calls in a row, and the refusals between them.
+ghost use Rattle.std.specs.Prelude.{◌≡◌, IfSome};
+
+use crate::bag::Bag;
+use crate::bag_fault::{EmptyFault, PutFault, SplitFault};
+use crate::pass::Pass;
+use std::alloc::Global;
+use std::test::Fail;
+
+#[test]
+fn each_number_is_taken_once_by_two_passes(rt: HostRuntime) -> Result<(), Fail> {
+    let alloc = rt.alloc();
+    let opened: Result<(Bag<u32>, Pass<u32>), _> = Bag::open(alloc, 3);
+    let Ok((bag, mut pass)) = opened else {
+        assert!(rt; false, "no bag");
+        return Ok(());
+    };
+    assert_eq!(rt; bag.put(&rt, &mut pass, 10), Ok(()));
+    assert_eq!(rt; bag.put(&rt, &mut pass, 11), Ok(()));
+    assert_eq!(rt; bag.put(&rt, &mut pass, 12), Ok(()));
+    assert_eq!(rt; bag.put(&rt, &mut pass, 13), Err((13, PutFault::Full)));
+    let Ok((mut first, mut second)) = bag.split(alloc, pass) else {
+        assert!(rt; false, "no halves");
+        return Ok(());
+    };
+    assert_eq!(rt; bag.put(&rt, &mut first, 13), Err((13, PutFault::NotWhole)));
+    assert_eq!(rt; bag.take(&rt, &mut first), Some(10));
+    assert_eq!(rt; bag.take(&rt, &mut second), Some(11));
+    let pass = bag.join(first, second);
+    let Err((bag, pass, fault)) = bag.empty(pass) else {
+        assert!(rt; false, "emptied with an item in it");
+        return Ok(());
+    };
+    assert_eq!(rt; fault, EmptyFault::NotEmpty);
+    let Ok((mut first, mut second)) = bag.split(alloc, pass) else {
+        assert!(rt; false, "no halves");
+        return Ok(());
+    };
+    assert_eq!(rt; bag.take(&rt, &mut first), Some(12));
+    assert_eq!(rt; bag.take(&rt, &mut first), None);
+    assert_eq!(rt; bag.take(&rt, &mut second), None);
+    let Err((bag, first, fault)) = bag.empty(first) else {
+        assert!(rt; false, "emptied by a half");
+        return Ok(());
+    };
+    assert_eq!(rt; fault, EmptyFault::NotWhole);
+    let pass = bag.join(first, second);
+    let Ok(taken) = bag.empty(pass) else {
+        assert!(rt; false, "not emptied");
+        return Ok(());
+    };
+    // The first pass took 0, and after the join with the second, which took 1, its first half took 2.
+    assert_eq!(rt; taken.places.as_slice(), [0, 1, 2].as_slice());
+    Ok(())
+}
+
+#[test]
+fn a_pass_is_split_sixteen_times_and_no_more(rt: HostRuntime) -> Result<(), Fail> {
+    let alloc = rt.alloc();
+    let opened: Result<(Bag<u32>, Pass<u32>), _> = Bag::open(alloc, 1);
+    let Ok((bag, pass)) = opened else {
+        assert!(rt; false, "no bag");
+        return Ok(());
+    };
+    let Some(least) = first_half_of_each(alloc, &bag, pass, 16) else {
+        assert!(rt; false, "refused too soon");
+        return Ok(());
+    };
+    let Err((_, fault)) = bag.split(alloc, least) else {
+        assert!(rt; false, "split once more");
+        return Ok(());
+    };
+    assert_eq!(rt; fault, SplitFault::TooManySeats);
+    Ok(())
+}
+
+// The first half of the first half and so on, after so many splits.
+fn first_half_of_each(
+    alloc: Global,
+    bag: &Bag<u32>,
+    pass: Pass<u32>,
+    splits: usize,
+) -> Option<Pass<u32>>
+    requires { pass.bag ≡ bag.now.name }
+    ensures { IfSome result (λ p. p.bag ≡ bag.now.name) }
+{
+    let mut left = pass;
+    for _ in 0..splits {
+        let Ok((first, _)) = bag.split(alloc, left) else {
+            return None;
+        };
+        left = first;
+    }
+    Some(left)
+}

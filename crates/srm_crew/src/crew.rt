@@ -1,0 +1,47 @@
+//! What a crew is.
+ghost use Rattle.std.specs.Prelude.{◌≡◌, ◌≤◌, ◌∷◌, ◌++◌, [], ℕ, List, length, map, All, IfOk};
+ghost use Rattle.std.specs.List.{range_with_len};
+ghost use Rattle.srm_cell.specs.Jobs.{PlainJob, MayAdvance};
+ghost use Rattle.srm_crew.specs.Crews.{AreJobs, Maps};
+
+use crate::fault::CrewFault;
+use srm_cell::job::{Done, Job};
+use srm_ledger::ledger::{Ledger, Seat};
+use srm_member::member::Member;
+use srm_net::net::Net;
+use srm_scenario::scenario::Scenario;
+use std::alloc::Global;
+
+/// Who advances jobs.
+pub trait Crew {
+    // It may be called.
+    ghost ready: { Self → Type 0 };
+
+    // Between these two values it was handed exactly these calls, each the list of its jobs.
+    ghost handed: { Self → List (List PlainJob) → Self → Type 0 };
+
+    /// For each job, in order of places, what `advance` gives. The seat's shares grow by the crossings of all their rows. After an
+    /// error the jobs and the seat are gone.
+    fn map(
+        &mut self,
+        alloc: Global,
+        scenario: &Scenario,
+        net: &Net,
+        ledger: &Ledger,
+        seat: Seat,
+        jobs: Vec<Job>,
+    ) -> Result<(Vec<Done>, Seat), CrewFault>
+        requires ready { ready self.old }
+        requires jobs { All (λ j. MayAdvance (λ b. (⟦<dyn Member as Member>⟧ b.vtable).plain b.value) (length net.now.hosts) j) jobs.items }
+        requires many { length jobs.items ≤ 1024 }
+        requires places { map (λ j. j.place) jobs.items ≡ range_with_len 0 (length jobs.items) }
+        requires links { ledger.now.links ≡ length net.now.links }
+        requires seat { seat.ledger ≡ ledger.now.name }
+        ensures ready { ready self.new }
+        ensures done { Maps (λ b. (⟦<dyn Member as Member>⟧ b.vtable).plain b.value) scenario.now net.now seat jobs.items result }
+        ensures handed { IfOk result (λ _. (ps : List PlainJob) → AreJobs (λ b. (⟦<dyn Member as Member>⟧ b.vtable).plain b.value) jobs.items ps → handed self.old (ps ∷ []) self.new) };
+
+    ghost handed_none: { (c : Self) → handed c [] c };
+
+    ghost handed_more: { (a b c : Self) (xs ys : List (List PlainJob)) → handed a xs b → handed b ys c → handed a (xs ++ ys) c };
+}

@@ -1,0 +1,36 @@
+//! Jobs, advanced one after the other.
+ghost use Rattle.std.specs.Prelude.{◌≡◌, ℕ, List, length, All};
+ghost use Rattle.srm_cell.specs.Setting.{setting_of};
+ghost use Rattle.srm_cell.specs.Jobs.{PlainJob, MayAdvance};
+ghost use Rattle.srm_crew.specs.Crews.{AreJobs, AdvanceEach};
+
+use srm_cell::advance::advance;
+use srm_cell::fault::CellFault;
+use srm_cell::job::{Done, Job};
+use srm_member::member::Member;
+use srm_net::net::Net;
+use srm_scenario::scenario::Scenario;
+use std::alloc::Global;
+
+/// Advances each job, one after the other.
+pub(crate) fn advance_each(
+    alloc: Global,
+    scenario: &Scenario,
+    net: &Net,
+    jobs: Vec<Job>,
+) -> Result<Vec<Done>, CellFault>
+    requires { All (λ j. MayAdvance (λ b. (⟦<dyn Member as Member>⟧ b.vtable).plain b.value) (length net.now.hosts) j) jobs.items }
+    ensures { AdvanceEach (λ b. (⟦<dyn Member as Member>⟧ b.vtable).plain b.value) scenario.now net.now jobs.items result }
+{
+    let mut all = Vec::new(alloc);
+    for job in jobs {
+        let done = match advance(alloc, scenario, net, job) {
+            Ok(done) => done,
+            Err(fault) => return Err(fault),
+        };
+        if all.push(done).is_err() {
+            return Err(CellFault::NoMemory);
+        }
+    }
+    Ok(all)
+}

@@ -1,0 +1,30 @@
+//! Passes: leave to take from a bag, and with the whole of them to put into it.
+
+use crate::rule::{Hold, Spot};
+use std::marker::Model;
+
+/// The weights of all passes of a bag, added up.
+pub const WHOLE: u64 = 65_536;
+
+/// Leave to take items from a bag. It has a weight, knows what was put, and lists the places that it took.
+#[derive(Drop)]
+pub struct Pass<T> {
+    pub(crate) hold: crossbeam_queue::Pass<Spot<T>, Hold<T>>,
+    pub(crate) room: usize,
+    pub(crate) weight: u64,
+    pub(crate) puts: usize,
+    pub(crate) taken: Vec<usize>,
+}
+
+impl<T> Model for Pass<T> {
+    ghost use Rattle.std.specs.Prelude.{◌≡◌, ◌≤◌, [], length, vec_capacity};
+    ghost use Rattle.crossbeam_queue.specs.Passes.{view as known};
+    ghost use Rattle.srm_crew.specs.Places.{hold_of};
+    ghost use Rattle.srm_crew.specs.Passes.{PassView};
+
+    ghost Value = { PassView T };
+
+    ghost view = { λ p. record { bag = p.hold.table_id; weight = p.weight; put = (known p.hold).put; taken = p.taken.items } };
+
+    ghost invariant = { λ p. (p.hold.me.1 ≡ []) × (known p.hold ≡ hold_of p.weight (known p.hold).put p.taken.items) × (p.puts ≡ length (known p.hold).put) × (p.puts ≤ p.room) × (p.room ≤ vec_capacity p.taken) × (p.room ≡ p.hold.table_id.slots) × (1 ≤ p.weight) × (p.weight ≤ 65536) };
+}

@@ -1,0 +1,100 @@
+//! A crew of the threads that `rayon` runs.
+ghost use Rattle.std.specs.Prelude.{ℕ, List, length, All};
+ghost use denote.Param.Send.{IsSync};
+ghost use Rattle.srm_cell.specs.Jobs.{PlainJob, MayAdvance, Advances};
+ghost use Rattle.srm_crew.specs.Crews.{AdvanceEach, GathersEach};
+
+use crate::add::settle;
+use crate::crew::Crew;
+use crate::fault::CrewFault;
+use rayon::prelude::*;
+use srm_cell::advance::advance;
+use srm_cell::fault::CellFault;
+use srm_cell::job::{Done, Job};
+use srm_ledger::ledger::{Ledger, Seat};
+use srm_member::member::Member;
+use srm_net::net::Net;
+use srm_scenario::scenario::Scenario;
+use std::alloc::{AllocError, Global};
+use std::marker::{Send, Sync};
+use std::thread::Threads;
+
+// Each job, handed to `work` on some thread of a pool.
+fn in_pool<J: Send + Drop, D: Send + Drop, F: Fn(J) -> Result<D, CellFault> + Copy + Send + Sync>(
+    rt: &(impl Threads + Sync),
+    alloc: Global,
+    jobs: Vec<J>,
+    work: F,
+) -> Result<Vec<D>, CellFault>
+    requires { All (λ j. F.pre work j) jobs.items }
+    ensures { GathersEach (λ j r. F.post work j r) jobs.items result }
+{
+    let all: Result<Result<Vec<D>, CellFault>, AllocError> = jobs
+        .into_par_iter()
+        .map(work)
+        .collect(rt, alloc);
+    match all {
+        Ok(done) => done,
+        Err(AllocError) => Err(CellFault::NoMemory),
+    }
+}
+
+/// Advances each job, on some thread of a pool.
+pub(crate) fn advance_in_pool(
+    rt: &(impl Threads + Sync),
+    alloc: Global,
+    scenario: &Scenario,
+    net: &Net,
+    jobs: Vec<Job>,
+) -> Result<Vec<Done>, CellFault>
+    requires { All (λ j. MayAdvance (λ b. (⟦<dyn Member as Member>⟧ b.vtable).plain b.value) (length net.now.hosts) j) jobs.items }
+    ensures { AdvanceEach (λ b. (⟦<dyn Member as Member>⟧ b.vtable).plain b.value) scenario.now net.now jobs.items result }
+{
+    in_pool(
+        rt,
+        alloc,
+        jobs,
+        move |job: Job| -> Result<Done, CellFault>
+            requires { MayAdvance (λ b. plain (b.vtable, b.value)) (length net.now.hosts) job }
+            ensures { Advances (λ b. plain (b.vtable, b.value)) scenario.entry.now net.entry.now job result }
+        { advance(alloc, scenario, net, job) },
+    )
+}
+
+/// Advances jobs on the threads of a pool.
+#[derive(Drop)]
+pub struct PoolCrew<R> {
+    rt: R,
+}
+
+impl<R: Threads + Sync> PoolCrew<R> {
+    /// It takes no memory.
+    pub fn new(rt: R) -> PoolCrew<R>
+        ensures { ⟦<PoolCrew<R> as Crew>⟧.ready result }
+    {
+        PoolCrew { rt }
+    }
+}
+
+impl<R: Threads + Sync> Crew for PoolCrew<R> {
+    ghost ready = { λ _. IsSync R.row };
+
+    ghost handed = { λ _ _ _. Unit {0} };
+
+    ghost handed_none = { λ c. tt };
+
+    ghost handed_more = { λ a b c xs ys p q. tt };
+
+    fn map(
+        &mut self,
+        alloc: Global,
+        scenario: &Scenario,
+        net: &Net,
+        ledger: &Ledger,
+        seat: Seat,
+        jobs: Vec<Job>,
+    ) -> Result<(Vec<Done>, Seat), CrewFault> {
+        let advanced = advance_in_pool(&self.rt, alloc, scenario, net, jobs);
+        settle(ledger, seat, advanced)
+    }
+}

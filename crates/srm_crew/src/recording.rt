@@ -1,0 +1,93 @@
+//! A crew that notes what it is handed.
+ghost use Rattle.std.specs.Prelude.{◌≡◌, ◌++◌, ◌∷◌, [], ℕ, List, map, IfOk};
+ghost use Rattle.srm_cell.specs.Jobs.{PlainJob};
+ghost use Rattle.srm_crew.specs.Crews.{AreJobs};
+ghost use Rattle.srm_crew.specs.Notes.{notes_of, noted_none, noted_more};
+
+use crate::crew::Crew;
+use crate::fault::CrewFault;
+use crate::plain::PlainCrew;
+use srm_cell::job::{Done, Job};
+use srm_ledger::ledger::{Ledger, Seat};
+use srm_member::member::Member;
+use srm_net::net::Net;
+use srm_net::sequence::Sequence;
+use srm_scenario::scenario::Scenario;
+use std::alloc::{AllocError, Global};
+
+/// What is noted of a job.
+#[derive(Clone, Copy, Debug, PartialEq, Eq)]
+pub struct Note {
+    /// Its place.
+    pub place: usize,
+    /// Its end.
+    pub till: u64,
+    /// How many cells it has.
+    pub cells: usize,
+}
+
+/// A plain crew that notes each call.
+#[derive(Drop)]
+pub struct Recording {
+    inner: PlainCrew,
+    calls: Vec<Sequence<Note>>,
+}
+
+impl Recording {
+    /// It has noted nothing yet.
+    pub fn new(alloc: Global) -> Recording {
+        Recording {
+            inner: PlainCrew::new(),
+            calls: Vec::new(alloc),
+        }
+    }
+
+    /// The calls so far.
+    pub fn calls(&self) -> &[Sequence<Note>] {
+        self.calls.as_slice()
+    }
+}
+
+// A note of each job.
+fn notes(alloc: Global, jobs: &[Job]) -> Result<Sequence<Note>, AllocError>
+    ensures { IfOk result (λ v. (ps : List PlainJob) → AreJobs (λ b. (⟦<dyn Member as Member>⟧ b.vtable).plain b.value) jobs.now ps → v ≡ notes_of ps) }
+{
+    let mut all = Sequence::new(alloc);
+    for job in jobs {
+        let note = Note {
+            place: job.place,
+            till: job.till,
+            cells: job.cells.len(),
+        };
+        all.push(note)?;
+    }
+    Ok(all)
+}
+
+impl Crew for Recording {
+    ghost ready = { λ _. Unit {0} };
+
+    ghost handed = { λ a calls b. b.calls.items ≡ a.calls.items ++ map notes_of calls };
+
+    ghost handed_none = { λ c. noted_none c.calls.items };
+
+    ghost handed_more = { λ a b c xs ys p q. noted_more a.calls.items b.calls.items c.calls.items xs ys p q };
+
+    fn map(
+        &mut self,
+        alloc: Global,
+        scenario: &Scenario,
+        net: &Net,
+        ledger: &Ledger,
+        seat: Seat,
+        jobs: Vec<Job>,
+    ) -> Result<(Vec<Done>, Seat), CrewFault> {
+        let Ok(call) = notes(alloc, jobs.as_slice()) else {
+            return Err(CrewFault::NoMemory);
+        };
+        if self.calls.push(call).is_err() {
+            return Err(CrewFault::NoMemory);
+        }
+        self.inner.map(alloc, scenario, net, ledger, seat, jobs)
+    }
+}

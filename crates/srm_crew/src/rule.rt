@@ -1,0 +1,95 @@
+//! The rule of a bag's queue, which each step of each thread keeps.
+
+use crossbeam_queue::protocol::{Join, Lesson, Outcome, Protocol, Split};
+use std::collections::LinkedList;
+
+/// What the rule knows of a pass. No value of it is made.
+pub struct Hold<T> {
+    /// Its weight, 0 where it was joined away.
+    pub weight: u64,
+    /// The items that were put, each at its place.
+    pub put: LinkedList<T>,
+    /// The places that it took.
+    pub taken: LinkedList<usize>,
+}
+
+/// An item in the queue, with its place.
+#[derive(Drop)]
+pub struct Spot<T> {
+    /// How many items were put before it.
+    pub place: usize,
+    /// The item.
+    pub item: T,
+}
+
+/// The rule: each place put stands exactly once, in the queue or in one pass's list, with the item put there.
+pub struct OncePlaced;
+
+impl<T> Protocol<Spot<T>, Hold<T>> for OncePlaced {
+    ghost use Rattle.srm_crew.specs.Places.{Kept, first_whole};
+
+    ghost holds = { Kept };
+
+    ghost first = { first_whole };
+}
+
+// A push, by `put`.
+pub(crate) struct Puts;
+
+impl<T> Outcome<Spot<T>, Hold<T>> for Puts {
+    ghost use Rattle.srm_crew.specs.Places.{puts};
+
+    ghost then = { puts };
+}
+
+impl<T> Lesson<Spot<T>, Hold<T>> for Puts {
+    ghost use Rattle.srm_crew.specs.Places.{short};
+
+    ghost fact = { short };
+}
+
+// A pop, by `take`.
+pub(crate) struct Takes;
+
+impl<T> Outcome<Spot<T>, Hold<T>> for Takes {
+    ghost use Rattle.srm_crew.specs.Places.{takes};
+
+    ghost then = { takes };
+}
+
+impl<T> Lesson<Spot<T>, Hold<T>> for Takes {
+    ghost use Rattle.srm_crew.specs.Places.{rests};
+
+    ghost fact = { rests };
+}
+
+// A look at what one pass took, by `join`.
+pub(crate) struct Fits;
+
+impl<T> Lesson<Spot<T>, Hold<T>> for Fits {
+    ghost use Rattle.srm_crew.specs.Places.{fits};
+
+    ghost fact = { fits };
+}
+
+// A pass's halves, by `split`.
+pub(crate) struct Halves;
+
+impl<T> Split<Hold<T>> for Halves {
+    ghost use Rattle.srm_crew.specs.Places.{first_half, second_half};
+
+    ghost left = { first_half };
+
+    ghost right = { second_half };
+}
+
+// Two passes in one, by `join`.
+pub(crate) struct Both;
+
+impl<T> Join<Hold<T>> for Both {
+    ghost use Rattle.srm_crew.specs.Places.{both_holds, spent};
+
+    ghost both = { both_holds };
+
+    ghost spent = { spent };
+}

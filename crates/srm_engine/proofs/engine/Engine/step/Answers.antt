@@ -1,0 +1,132 @@
+use Rattle.std.proofs.Common.{◌≡◌, ◌<◌, ◌≤◌, ◌++◌, ◌∷◌, [], List, Some, sym, ◌∙◌, ap, subst, slice_set, arith, le_refl}
+use Rattle.srm_net.specs.Network.{Network}
+use Rattle.srm_member.specs.declared.row.Row.{Row}
+use Rattle.srm_cell.specs.Setting.{setting_of, traffic_of, IsFit}
+use Rattle.srm_cell.specs.Crossings.{packets_of}
+use Rattle.srm_cell.specs.Cells.{PlainCell, Done, step_at, own_step}
+use Rattle.srm_cell.proofs.FitSettings.{settings_are_fit}
+use Rattle.srm_cell.proofs.CellSteps.{SentBy}
+use Rattle.srm_engine.specs.World.{after_step, settled}
+use Rattle.srm_engine.specs.Engines.{setting_in}
+use Rattle.srm_engine.specs.Seen.{AreSeen, all_hear}
+use Rattle.srm_cell.specs.Totalled.{numbers_of}
+use Rattle.srm_engine.specs.Totalled.{MaySend, and_sent}
+use Rattle.srm_engine.proofs.PhaseLemmas.{refused}
+use Rattle.srm_engine.proofs.RunLemmas.{after_spent}
+use Rattle.srm_engine.proofs.Sequential.{get_below}
+use Rattle.srm_engine.proofs.Stepping.{is_over, is_late, step_by, cell_there, event, member_is, is_least, own_is, after_idle, after_done, settled_is, may_send, not_spent, sent_by_member, packets_more}
+use Rattle.srm_engine.proofs.engine.Engine.step.Goals as goal
+
+pub returns-in_default-clause-step : goal.returns-in_default-clause-step
+returns-in_default-clause-step g c = λ seed w h. (is_over (setting_in c.args.self.now seed) w c.args.self.now.cells.times h.seen.times c.in_default.ensures, h)
+
+pub returns-then-time-until-clause-step : goal.returns-then-time-until-clause-step
+returns-then-time-until-clause-step g c = λ seed w h.
+    let late : c.args.self.now.scenario.now.until ≤ c.in-Some.time = (let le = c.if-time-until.true in let u = c.until-until.ensures.until in omega arith) in
+    (is_late (setting_in c.args.self.now seed) w c.args.self.now.cells.times h.seen.times c.in-Some.time c.in-Some.member c.in-Some.ensures late, h)
+
+pub step-requires-clause-place : goal.step-requires-clause-place
+step-requires-clause-place g c =
+    let k = c.requires.known in
+    let early : c.in-Some.time < c.args.self.now.scenario.now.until = (let lt = c.if-time-until.false in let u = c.until-until.ensures.until in omega arith) in
+    let p = cell_there (setting_in c.args.self.now k.0) k.1 c.args.self.now.cells.times k.3.seen.times c.in-Some.time c.in-Some.member c.in-Some.ensures early in
+    let lt = get_below k.1.cells c.in-Some.member p.0 p.1 in
+    let many = k.3.seen.cells.as_many in
+    omega arith
+
+pub step-requires-clause-time : goal.step-requires-clause-time
+step-requires-clause-time g c =
+    let k = c.requires.known in
+    let early : c.in-Some.time < c.args.self.now.scenario.now.until = (let lt = c.if-time-until.false in let u = c.until-until.ensures.until in omega arith) in
+    let p = cell_there (setting_in c.args.self.now k.0) k.1 c.args.self.now.cells.times k.3.seen.times c.in-Some.time c.in-Some.member c.in-Some.ensures early in
+    let lt = get_below k.1.cells c.in-Some.member p.0 p.1 in
+    let many = k.3.seen.times.as_many in
+    omega arith
+
+pub returns-in-Ok-None-clause-step : goal.returns-in-Ok-None-clause-step
+returns-in-Ok-None-clause-step g c = λ seed w h.
+    let s = setting_in c.args.self.now seed in
+    let early : c.in-Some.time < c.args.self.now.scenario.now.until = (let lt = c.if-time-until.false in let u = c.until-until.ensures.until in omega arith) in
+    let p = cell_there s w c.args.self.now.cells.times h.seen.times c.in-Some.time c.in-Some.member c.in-Some.ensures early in
+    let told = rw c.in-Ok-None.field-0-is at c.in-Ok-None.ensures in
+    let t = told w.cells p.0 h.seen p.1 in (
+      step_by s w c.args.self.now.cells.times h.seen.times c.in-Some.time c.in-Some.member c.in-Some.ensures early p.0 p.1
+          ∙ ap (λ u. after_step s w c.in-Some.member (own_step u c.in-Some.member p.0)) (sym c.until-until.ensures.until)
+          ∙ ap (after_step s w c.in-Some.member) t.0 ∙ after_idle s w c.in-Some.member,
+      record { seen = t.1; totals = h.totals },
+    )
+
+pub run_fault-requires : goal.run_fault-requires
+run_fault-requires g c = λ spent.
+    let k = c.requires.known in
+    let s = setting_in c.args.self.now k.0 in
+    let fit : IsFit s = subst (λ (n : Network). IsFit (setting_of c.args.self.now.scenario.now n k.0)) (sym c.requires.network) (settings_are_fit c.args.self.now.scenario.now k.0 c.until-until.ensures.accepted) in
+    let early : c.in-Some.time < c.args.self.now.scenario.now.until = (let lt = c.if-time-until.false in let u = c.until-until.ensures.until in omega arith) in
+    let p = cell_there s k.1 c.args.self.now.cells.times k.3.seen.times c.in-Some.time c.in-Some.member c.in-Some.ensures early in
+    let told = rw spent at c.in-Err.ensures in
+    not_spent s fit k.1 k.2
+    (step_by s k.1 c.args.self.now.cells.times k.3.seen.times c.in-Some.time c.in-Some.member c.in-Some.ensures early p.0 p.1
+    ∙ ap (λ u. after_step s k.1 c.in-Some.member (own_step u c.in-Some.member p.0)) (sym c.until-until.ensures.until)
+    ∙ ap (after_step s k.1 c.in-Some.member) (told k.1.cells p.0 k.3.seen p.1) ∙ after_spent s s.traffic.until (le_refl s.traffic.until) k.1 c.in-Some.member)
+
+pub returns-in-Err-clause-step : goal.returns-in-Err-clause-step
+returns-in-Err-clause-step g c = λ seed w h.
+    let s = setting_in c.args.self.now seed in
+    let early : c.in-Some.time < c.args.self.now.scenario.now.until = (let lt = c.if-time-until.false in let u = c.until-until.ensures.until in omega arith) in
+    let p = cell_there s w c.args.self.now.cells.times h.seen.times c.in-Some.time c.in-Some.member c.in-Some.ensures early in
+    rw c.run_fault.ensures (refused (λ b. (goal.Member-dyn g (b.vtable, b.value)).plain b.value) s w c.in-Some.member w.cells (own_step c.until-until.result c.in-Some.member p.0) c.in-Err.fault c.step.new.self.cells.items c.step.new.self.times _ (run_fault-requires g c.before) (c.in-Err.ensures w.cells p.0 h.seen p.1)
+    (step_by s w c.args.self.now.cells.times h.seen.times c.in-Some.time c.in-Some.member c.in-Some.ensures early p.0 p.1
+    ∙ ap (λ u. after_step s w c.in-Some.member (own_step u c.in-Some.member p.0)) (sym c.until-until.ensures.until)))
+
+pub send-requires-clause-may : goal.send-requires-clause-may
+send-requires-clause-may g c =
+    let k = c.requires.known in
+    let s = setting_in c.args.self.now k.0 in
+    let fit : IsFit s = subst (λ (n : Network). IsFit (setting_of c.args.self.now.scenario.now n k.0)) (sym c.requires.network) (settings_are_fit c.args.self.now.scenario.now k.0 c.until-until.ensures.accepted) in
+    let early : c.in-Some.time < c.args.self.now.scenario.now.until = (let lt = c.if-time-until.false in let u = c.until-until.ensures.until in omega arith) in
+    let p = cell_there s k.1 c.args.self.now.cells.times k.3.seen.times c.in-Some.time c.in-Some.member c.in-Some.ensures early in
+    let told = rw c.in-Ok-Some.field-0-is at c.in-Ok-Some.ensures in
+    let t = told k.1.cells p.0 k.3.seen p.1 in
+    let e = event s k.1 c.args.self.now.cells.times k.3.seen.times c.in-Some.time c.in-Some.member c.in-Some.ensures early in
+    let of = member_is s k.1 c.args.self.now.cells.times k.3.seen.times c.in-Some.time c.in-Some.member c.in-Some.ensures early in
+    let least = is_least s k.1 c.args.self.now.cells.times k.3.seen.times c.in-Some.time c.in-Some.member c.in-Some.ensures early in
+    let done : step_at (Some e) ≡ Done t.0 =
+    sym (own_is s k.1 c.args.self.now.cells.times k.3.seen.times c.in-Some.time c.in-Some.member c.in-Some.ensures early p.0 p.1)
+    ∙ ap (λ u. own_step u c.in-Some.member p.0) (sym c.until-until.ensures.until) ∙ t.1 in
+    let may = may_send s fit k.1 k.2 e t.0 least done c.until-until.ensures.accepted.few_ticks k.4 in (
+      slice_set k.1.cells c.in-Some.member t.0.cell,
+      packets_of k.1.trace,
+      t.3,
+      k.3.totals,
+      subst (λ (r : Row). MaySend s.traffic.members (slice_set k.1.cells c.in-Some.member t.0.cell) (packets_of k.1.trace) r.sent) t.2
+          (subst (λ m. MaySend s.traffic.members (slice_set k.1.cells m t.0.cell) (packets_of k.1.trace) t.0.row.sent) of may),
+    )
+
+pub returns-in-Ok-clause-step : goal.returns-in-Ok-clause-step
+returns-in-Ok-clause-step g c = λ seed w h.
+    let s = setting_in c.args.self.now seed in
+    let early : c.in-Some.time < c.args.self.now.scenario.now.until = (let lt = c.if-time-until.false in let u = c.until-until.ensures.until in omega arith) in
+    let p = cell_there s w c.args.self.now.cells.times h.seen.times c.in-Some.time c.in-Some.member c.in-Some.ensures early in
+    let told = rw c.in-Ok-Some.field-0-is at c.in-Ok-Some.ensures in
+    let t = told w.cells p.0 h.seen p.1 in
+    let e = event s w c.args.self.now.cells.times h.seen.times c.in-Some.time c.in-Some.member c.in-Some.ensures early in
+    let of = member_is s w c.args.self.now.cells.times h.seen.times c.in-Some.time c.in-Some.member c.in-Some.ensures early in
+    let done : step_at (Some e) ≡ Done t.0 =
+    sym (own_is s w c.args.self.now.cells.times h.seen.times c.in-Some.time c.in-Some.member c.in-Some.ensures early p.0 p.1)
+    ∙ ap (λ u. own_step u c.in-Some.member p.0) (sym c.until-until.ensures.until) ∙ t.1 in
+    let by = subst (λ m. SentBy m t.0.row.sent) of (sent_by_member e t.0 done) in
+    let same = c.send.ensures.same in
+    let sent = c.in-Ok.ensures.sent (slice_set w.cells c.in-Some.member t.0.cell) (packets_of w.trace) t.3 h.totals in
+    let cells = settled_is s c.in-Some.member t.0 w.cells (get_below w.cells c.in-Some.member p.0 p.1) by
+    ∙ ap (λ (r : Row). all_hear s.traffic r.sent (slice_set w.cells c.in-Some.member t.0.cell)) t.2 in (
+      record { cells = settled s c.in-Some.member t.0 0 w.cells; trace = w.trace ++ t.0.row ∷ [] },
+      step_by s w c.args.self.now.cells.times h.seen.times c.in-Some.time c.in-Some.member c.in-Some.ensures early p.0 p.1
+          ∙ ap (λ u. after_step s w c.in-Some.member (own_step u c.in-Some.member p.0)) (sym c.until-until.ensures.until)
+          ∙ ap (after_step s w c.in-Some.member) t.1 ∙ after_done s w c.in-Some.member t.0,
+      ap (λ (r : Row). w.trace ++ r ∷ []) t.2,
+      record {
+        seen = subst (λ (qs : List PlainCell). AreSeen (λ b. (goal.Member-dyn g (b.vtable, b.value)).plain b.value) c.send.new.self.cells.cells.items c.send.new.self.cells.times qs) (sym cells) sent.0;
+        totals = sent.1 ∙ ap (numbers_of s.traffic) (ap (λ (r : Row). and_sent r.sent (packets_of w.trace)) (sym t.2) ∙ sym (packets_more w.trace t.0.row))
+            ∙ sym (λ k. numbers_of (traffic_of (same.0 k).now (same.1 k).now) (packets_of (w.trace ++ t.0.row ∷ [])));
+      },
+    )

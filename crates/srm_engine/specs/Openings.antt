@@ -1,0 +1,38 @@
+-- The boxes that a run is given, and the cells that it opens.
+use Rattle.std.specs.Prelude.{◌≡◌, ◌+◌, ℕ, zero, suc, List, [], ◌∷◌, length}
+use Rattle.std.specs.declared.dyn_box.DynBox.{DynBox}
+use Rattle.std.specs.Global.{Global}
+use Rattle.srm_net.specs.Network.{Network}
+use Rattle.srm_scenario.specs.Plain.{PlainScenario}
+use Rattle.srm_member.specs.Record.{Record, opening_record}
+use Rattle.srm_cell.specs.Setting.{setting_of, fixed_of}
+use Rattle.srm_engine.specs.declared.cells.Cells.{Cells}
+use Rattle.srm_engine.specs.World.{opening_cells}
+use Rattle.srm_engine.specs.Seen.{ShowCells}
+
+-- the opening records of n members from i on, for a scenario, its network and a seed
+abbrev pub records_from : PlainScenario → Network → ℕ → ℕ → ℕ → List Record
+records_from p net seed i zero = []
+records_from p net seed i (suc n) = opening_record (fixed_of p net seed i) ∷ records_from p net seed (suc i) n
+
+-- the records are the opening records of all members of the scenario, in order of their numbers
+abbrev pub HoldOpeningRecords : PlainScenario → Network → ℕ → List Record → Type 0
+HoldOpeningRecords p net seed rs = rs ≡ records_from p net seed 0 (length p.members)
+
+-- the records are so with some network and some seed
+abbrev pub MayOpen : PlainScenario → List Record → Type 0
+MayOpen p rs = (net : Network) × (seed : ℕ) × HoldOpeningRecords p net seed rs
+
+module _ {X : Type 0} {H : X → Type 0} where
+  -- the cells of all members at the beginning, with the network and the seed of which the records are
+  abbrev pub Opens : (DynBox X Global H → Record) → PlainScenario → List Record → Cells X H → Type 0
+  Opens f p rs cells =
+      (net : Network) (seed : ℕ) → HoldOpeningRecords p net seed rs
+      → ShowCells f cells (opening_cells (setting_of p net seed) (length p.members) 0)
+
+  -- after the next member's cell was added to those of the members before it
+  abbrev pub AddsMember : (DynBox X Global H → Record) → PlainScenario → Record → Cells X H → Cells X H → Type 0
+  AddsMember f p r old new =
+      (net : Network) (seed : ℕ) → let n = length old.cells.items in
+      r ≡ opening_record (fixed_of p net seed n) → ShowCells f old (opening_cells (setting_of p net seed) n 0)
+      → ShowCells f new (opening_cells (setting_of p net seed) (n + 1) 0)

@@ -1,0 +1,146 @@
+//! What the words of a command line ask for, against the table of arguments in the document of formats.
+use crate::command_line::options_of;
+use crate::fault::LineFault;
+use crate::options::{Options, Show};
+use std::alloc::Global;
+use std::test::Fail;
+
+// What these words ask for, after the program's name.
+fn asked(alloc: Global, words: &[&str]) -> Result<Result<(u64, Options), LineFault>, Fail> {
+    let mut all = Vec::new(alloc);
+    all.push("srm_lab")?;
+    all.extend_from_slice(words)?;
+    Ok(options_of(alloc, all.as_slice()))
+}
+
+#[test]
+fn words_ask_for_a_seed_and_a_table(rt: HostRuntime) -> Result<(), Fail> {
+    for (words, seed, show) in [
+        ([].as_slice(), 0, Show::Trace),
+        (&["--seed", "42"], 42, Show::Trace),
+        (&["--seed=42"], 42, Show::Trace),
+        (&["--seed", "+7"], 7, Show::Trace),
+        (&["--seed", "007"], 7, Show::Trace),
+        (&["--seed", "0"], 0, Show::Trace),
+        (
+            &["--seed", "9223372036854775807"],
+            9_223_372_036_854_775_807,
+            Show::Trace,
+        ),
+        (&["--show", "trace"], 0, Show::Trace),
+        (&["--show", "members"], 0, Show::Members),
+        (&["--show=links"], 0, Show::Links),
+        (&["--show", "links", "--seed", "3"], 3, Show::Links),
+    ] {
+        assert_eq!(rt;
+            asked(rt.alloc(), words)?,
+            Ok((seed, Options { show })),
+            "{words:?}"
+        );
+    }
+    Ok(())
+}
+
+#[test]
+fn words_that_clap_refuses_are_one_fault(rt: HostRuntime) -> Result<(), Fail> {
+    for words in [
+        ["--seed", "9223372036854775808"].as_slice(),
+        &["--seed", "18446744073709551616"],
+        &["--seed", "-1"],
+        &["--seed", "x"],
+        &["--seed", ""],
+        &["--seed"],
+        &["--show"],
+        &["--seed", "1", "--seed", "2"],
+        &["--show", "trace", "--show", "trace"],
+        &["--workers", "65"],
+        &["--see", "1"],
+        &["-s"],
+        &["scenario.toml"],
+        // Before a text that is no word, and before help.
+        &["--show", "colors", "--seed", "x"],
+        &["--seed", "x", "--help"],
+        &["--colors", "--help"],
+    ] {
+        assert_eq!(rt;
+            asked(rt.alloc(), words)?,
+            Err(LineFault::Line),
+            "{words:?}"
+        );
+    }
+    Ok(())
+}
+
+#[test]
+fn a_text_that_is_no_word_of_its_option_is_refused(rt: HostRuntime) -> Result<(), Fail> {
+    for words in [
+        ["--show", "colors"].as_slice(),
+        &["--show", "Trace"],
+        &["--show", "trace "],
+        &["--show", ""],
+        &["--show=tracelinks"],
+    ] {
+        assert_eq!(rt;
+            asked(rt.alloc(), words)?,
+            Err(LineFault::BadWord),
+            "{words:?}"
+        );
+    }
+    Ok(())
+}
+
+// The help or the version that these words ask for.
+fn help(alloc: Global, words: &[&str]) -> Result<String, Fail> {
+    match asked(alloc, words)? {
+        Err(LineFault::Help { text }) => Ok(text),
+        _ => Err(Fail::from("no help")),
+    }
+}
+
+#[test]
+fn help_tells_each_option_with_what_it_takes(rt: HostRuntime) -> Result<(), Fail> {
+    let text = help(rt.alloc(), &["--help"])?;
+    for part in [
+        "standard input",
+        "standard output",
+        "CSV",
+        "Usage: srm_lab [OPTIONS]",
+        "--seed <0..=9223372036854775807>",
+        "[default: 0]",
+        "--show <trace|members|links>",
+        "[default: trace]",
+        "Exit status:\n  0 ",
+        "\n  1 ",
+        "\n  2 ",
+        "Example:\n  srm_lab --seed 7",
+    ] {
+        assert!(rt; text.as_str().contains(part), "{part}");
+    }
+    Ok(())
+}
+
+#[test]
+fn help_that_is_met_first_is_given(rt: HostRuntime) -> Result<(), Fail> {
+    let text = help(rt.alloc(), &["--help"])?;
+    for words in [
+        ["-h"].as_slice(),
+        &["--show", "colors", "--help"],
+        &["--help", "--show", "colors"],
+        &["--seed", "1", "-h", "--colors"],
+    ] {
+        assert_eq!(rt;
+            help(rt.alloc(), words)?.as_str(),
+            text.as_str(),
+            "{words:?}"
+        );
+    }
+    Ok(())
+}
+
+#[test]
+fn the_version_is_the_program_and_its_number(rt: HostRuntime) -> Result<(), Fail> {
+    for words in [["--version"], ["-V"]] {
+        assert_eq!(rt; help(rt.alloc(), &words)?.as_str(), "srm_lab 0.2.0\n");
+    }
+    Ok(())
+}

@@ -1,0 +1,156 @@
+//! The whole program over devices in memory: exit status, standard output, and the line on standard error.
+use crate::program::program;
+use crate::refusal_tests::Broken;
+use crate::tests::{Narrow, example};
+use srm_examples::scenarios::DRAWN_TIMERS;
+use srm_report::outlet::WriteOutlet;
+use srm_scenario::feed::ReadFeed;
+use std::alloc::Global;
+use std::io::Read;
+use std::test::Fail;
+
+// Room for all that is written.
+const AMPLE: usize = 1_000_000;
+
+// What a run of the program leaves.
+#[derive(Drop)]
+struct Ended {
+    status: u8,
+    outlet: Vec<u8>,
+    errors: Vec<u8>,
+}
+
+// Runs the program with these words after its name, on what is read, with an outlet that has room for so many bytes and one for
+// errors that has room for so many.
+fn run_program<R: Read + Drop>(
+    alloc: Global,
+    words: &[&str],
+    reader: R,
+    room: usize,
+    room_for_errors: usize,
+) -> Result<Ended, Fail> {
+    let mut all = Vec::new(alloc);
+    all.push(String::from_str(alloc, "srm_lab")?)?;
+    for word in words {
+        all.push(String::from_str(alloc, word)?)?;
+    }
+    let mut feed = ReadFeed::new(reader);
+    let mut outlet = WriteOutlet::new(Narrow::new(alloc, room));
+    let mut errors = WriteOutlet::new(Narrow::new(alloc, room_for_errors));
+    let words = Ok(all.into_iter());
+    let status = program(alloc, words, &mut feed, &mut outlet, &mut errors);
+    Ok(Ended {
+        status,
+        outlet: outlet.into_inner().taken,
+        errors: errors.into_inner().taken,
+    })
+}
+
+#[test]
+fn a_seed_that_is_asked_for_draws_the_timers(rt: HostRuntime) -> Result<(), Fail> {
+    let text = DRAWN_TIMERS.scenario.as_bytes();
+    let ended = run_program(rt.alloc(), &["--seed", "42"], text, AMPLE, AMPLE)?;
+    assert_eq!(rt; ended.status, 0);
+    assert!(rt; ended.outlet.as_slice() == DRAWN_TIMERS.trace.as_bytes());
+    assert_eq!(rt; ended.errors.len(), 0);
+    Ok(())
+}
+
+const MEMBERS: &str =
+    "member,role,node,joined,left,drawn,heard,lost,fixed,open,requests,repairs,sessions
+0,sender,0,0,-,2,2,0,0,0,0,0,0
+1,receiver,1,0,-,0,3,0,0,0,0,1,0
+2,receiver,2,0,-,0,2,1,1,0,1,0,0
+3,receiver,3,0,-,0,3,1,1,0,0,0,0
+4,receiver,4,0,-,0,3,1,1,0,0,0,0
+";
+
+const LINKS: &str = "link,data,requests,repairs,sessions,dropped
+0,2,1,1,0,0
+1,1,1,1,0,1
+2,1,1,1,0,0
+3,1,1,1,0,0
+";
+
+#[test]
+fn the_table_that_is_asked_for_is_written(rt: HostRuntime) -> Result<(), Fail> {
+    let example = example("chain_of_five_one_loss")?;
+    for (show, table) in [
+        ("trace", example.trace),
+        ("members", MEMBERS),
+        ("links", LINKS),
+    ] {
+        let text = example.scenario.as_bytes();
+        let ended = run_program(rt.alloc(), &["--show", show], text, AMPLE, AMPLE)?;
+        assert_eq!(rt; ended.status, 0, "{show}");
+        assert!(rt; ended.outlet.as_slice() == table.as_bytes(), "{show}");
+        assert_eq!(rt; ended.errors.len(), 0, "{show}");
+    }
+    Ok(())
+}
+
+#[test]
+fn refused_words_leave_the_feed_unread(rt: HostRuntime) -> Result<(), Fail> {
+    for words in [
+        ["--show", "colors"].as_slice(),
+        &["--workers", "65"],
+        &["--seed", "-1"],
+    ] {
+        let ended = run_program(rt.alloc(), words, Broken, AMPLE, AMPLE)?;
+        assert_eq!(rt; ended.status, 2, "{words:?}");
+        assert_eq!(rt; ended.outlet.len(), 0, "{words:?}");
+        assert_eq!(rt;
+            ended.errors.as_slice(),
+            b"command line refused\n".as_slice(),
+            "{words:?}"
+        );
+    }
+    Ok(())
+}
+
+#[test]
+fn help_is_written_and_the_feed_left_unread(rt: HostRuntime) -> Result<(), Fail> {
+    let ended = run_program(rt.alloc(), &["--version"], Broken, AMPLE, AMPLE)?;
+    assert_eq!(rt; ended.status, 0);
+    assert_eq!(rt; ended.outlet.as_slice(), b"srm_lab 0.2.0\n".as_slice());
+    assert_eq!(rt; ended.errors.len(), 0);
+    let ended = run_program(rt.alloc(), &["--version"], Broken, 10, AMPLE)?;
+    assert_eq!(rt; ended.status, 1);
+    assert_eq!(rt; ended.outlet.as_slice(), b"srm_lab 0.".as_slice());
+    assert_eq!(rt;
+        ended.errors.as_slice(),
+        b"refused: write-fault 10\n".as_slice()
+    );
+    Ok(())
+}
+
+#[test]
+fn each_refusal_after_the_words_ends_with_its_line(rt: HostRuntime) -> Result<(), Fail> {
+    let scenario = example("chain_of_five_one_loss")?.scenario;
+    for (text, room, written, line) in [
+        ("[[member", AMPLE, "", "refused: not-toml\n"),
+        ("", AMPLE, "", "refused: bad-key top 0\n"),
+        (scenario, 10, "time,membe", "refused: write-fault 10\n"),
+        (scenario, 0, "", "refused: write-fault 0\n"),
+    ] {
+        let ended = run_program(rt.alloc(), &[], text.as_bytes(), room, AMPLE)?;
+        assert_eq!(rt; ended.status, 1, "{line}");
+        assert_eq!(rt; ended.outlet.as_slice(), written.as_bytes(), "{line}");
+        assert_eq!(rt; ended.errors.as_slice(), line.as_bytes());
+    }
+    let ended = run_program(rt.alloc(), &[], Broken, AMPLE, AMPLE)?;
+    assert_eq!(rt; ended.status, 1);
+    assert_eq!(rt;
+        ended.errors.as_slice(),
+        b"refused: read-fault\n".as_slice()
+    );
+    Ok(())
+}
+
+#[test]
+fn a_line_that_is_not_taken_changes_no_status(rt: HostRuntime) -> Result<(), Fail> {
+    let ended = run_program(rt.alloc(), &["--show", "colors"], Broken, AMPLE, 7)?;
+    assert_eq!(rt; ended.status, 2);
+    assert_eq!(rt; ended.errors.as_slice(), b"command".as_slice());
+    Ok(())
+}

@@ -1,0 +1,17 @@
+//! Laws of the rule that a ledger's words keep at every moment.
+ghost use Rattle.srm_ledger.specs.Laws.{WordsNeverWrap, WholeSeatsHaveTheWords, ReadsAreNotAbove};
+
+/// No word is ever above 2^63, so none wraps: at most 65,536 seats hold at most 2^47 of it each.
+pub fn words_never_wrap()
+    ensures { WordsNeverWrap }
+{}
+
+/// Where a seat has the whole weight, its shares are the words.
+pub fn whole_seats_have_the_words()
+    ensures { WholeSeatsHaveTheWords }
+{}
+
+/// What a seat read of a word is never above it.
+pub fn reads_are_not_above()
+    ensures { ReadsAreNotAbove }
+{}

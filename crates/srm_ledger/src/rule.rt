@@ -1,0 +1,66 @@
+//! The rule that the words of a ledger keep, and what a seat may do to one: add, read, be split, be joined.
+ghost use Rattle.std.specs.Prelude.{ℕ};
+
+use atomic_table::{Join, Play, Split, TableRule};
+use std::collections::LinkedList;
+
+/// What the rule knows of a seat. No value of it is made.
+pub struct Holding {
+    /// The seat's part of the weight of all seats.
+    pub weight: u64,
+    /// What the seat added to each word, the spare one first.
+    pub shares: LinkedList<u64>,
+    /// What the seat last read of each word, the spare one first.
+    pub seen: LinkedList<u64>,
+}
+
+/// Each word is the sum of its seats' shares, all weights add up to 65,536, and no seat has read more than its words.
+pub struct SumsOfShares;
+
+impl TableRule<(), Holding, usize> for SumsOfShares {
+    ghost use Rattle.srm_ledger.specs.Tally.{Tallied, opened};
+
+    ghost holds = { λ n. Tallied n };
+
+    ghost first = { λ n. opened n };
+}
+
+/// An addition to one word.
+pub(crate) struct Add;
+
+impl Play<(), Holding> for Add {
+    ghost use Rattle.srm_ledger.specs.Tally.{adds};
+
+    ghost then = { adds };
+}
+
+/// A look at one word.
+pub(crate) struct Read;
+
+impl Play<(), Holding> for Read {
+    ghost use Rattle.srm_ledger.specs.Tally.{reads};
+
+    ghost then = { reads };
+}
+
+/// A seat in two halves.
+pub(crate) struct Halves;
+
+impl Split<Holding> for Halves {
+    ghost use Rattle.srm_ledger.specs.Tally.{first_half, second_half};
+
+    ghost left = { first_half };
+
+    ghost right = { second_half };
+}
+
+/// Two seats in one.
+pub(crate) struct Both;
+
+impl Join<Holding> for Both {
+    ghost use Rattle.srm_ledger.specs.Tally.{joined, spent};
+
+    ghost both = { joined };
+
+    ghost spent = { spent };
+}

@@ -1,0 +1,458 @@
+-- What became of losses, row by row.
+use Rattle.std.proofs.Common.{◌≡◌, ◌∙◌, ℕ, zero, suc, ◌<◌, ◌≢◌, ◌⊎◌, inl, inr, Bool, true, false, cond, T, ◌&&◌, ◌||◌, List, [], ◌∷◌, ◌++◌, length, map, Option, Some, None, is_some, refl, ap, sym, subst, append-nil, append_assoc, ◌==◌, eqb-true, eq-eqb, true≢false, arith, Ordering, Less, Equal, Greater, is_lt, get_or}
+use Rattle.std.specs.List.{Contains, list_any}
+use Rattle.std.specs.List as lists
+use Rattle.std.specs.Option.{option_map, option_map_or, option_or}
+use Rattle.std.specs.Ordering.{eq_by_cmp, is_eq, ordering_reverse}
+use Rattle.std.specs.Cmp.{IsTotalOrder, on_total}
+use Rattle.std.specs.Cmp.Lexicographic.{nat_list_cmp_total}
+use Rattle.std.specs.FinMap.Entries.{put, find, find-put, is_some-find, is_sorted, is_sorted-put, below_all, by_order}
+use Rattle.std.proofs.lemmas.List.Folds.{find-append}
+use Rattle.std.proofs.lemmas.Grind.{flat_map-append}
+use Rattle.std.proofs.lemmas.List.{map-append}
+use Rattle.std.proofs.lemmas.List.Elements.{Contains-append_left, Contains-append_right}
+use Rattle.std.proofs.lemmas.Map.Views.{Contains-from_any}
+use Rattle.srm_net.specs.declared.packet.Name.{Name}
+use Rattle.srm_net.specs.Orders.{place, ordered}
+use Rattle.srm_member.specs.declared.told.Told.{Told}
+use Rattle.srm_member.specs.declared.told.Told.TheVariants.{Fixed}
+use Rattle.srm_member.specs.declared.told.Told.TheVariants as told
+use Rattle.srm_member.specs.declared.row.Row.{Row}
+use Rattle.srm_member.specs.Orderly.{LostIn, FixedIn, brought}
+use Rattle.srm_member.proofs.OrderLemmas.{place-comm, same_numbers, nat_cmp_self}
+use Rattle.srm_member.proofs.TableChanges.{same_names, name_is}
+use Rattle.srm_report.specs.declared.course.Course.{Course}
+use Rattle.srm_report.specs.declared.loss.Loss.{Loss}
+use Rattle.srm_report.specs.Courses.{TellLosses, after_fix, fixed_at, course_of, losing, name_fixed}
+use Rattle.srm_report.specs.Losses.{loss_cmp, numbers_of_loss, losses_in, detects, fixes, detected_at, recovered_at}
+use Rattle.srm_report.specs.Rows.{is_fixed, is_name, time_of}
+
+-- ---- losses that tie are the same
+
+pub loss_total : IsTotalOrder loss_cmp
+loss_total = on_total numbers_of_loss nat_list_cmp_total
+
+is_Equal : (o : Ordering) → is_eq o ≡ true → o ≡ Equal
+is_Equal Less h = absurd (true≢false (sym h))
+is_Equal Equal h = refl
+is_Equal Greater h = absurd (true≢false (sym h))
+
+same_losses : (j k : Loss) → eq_by_cmp loss_cmp j k ≡ true → j ≡ k
+same_losses j k h =
+    let e = same_numbers (numbers_of_loss j) (numbers_of_loss k) (is_Equal _ h) in
+    let member : j.member ≡ k.member = cc in
+    let source : j.name.source ≡ k.name.source = cc in
+    let page : j.name.page ≡ k.name.page = cc in
+    let number : j.name.number ≡ k.name.number = cc in
+    λ i. record { member = member i; name = record { source = source i; page = page i; number = number i } }
+
+loss_self : (k : Loss) → loss_cmp k k ≡ Equal
+loss_self k =
+    let a = nat_cmp_self k.member in
+    let b = nat_cmp_self k.name.source in
+    let c = nat_cmp_self k.name.page in
+    let d = nat_cmp_self k.name.number in
+    simp (a, b, c, d)
+
+loss_is : (k : Loss) → eq_by_cmp loss_cmp k k ≡ true
+loss_is k = ap is_eq (loss_self k)
+
+losses_apart : (j k : Loss) → (j ≡ k) ⊎ (eq_by_cmp loss_cmp j k ≡ false)
+losses_apart j k = elim (eq_by_cmp loss_cmp j k) as (λ b. eq_by_cmp loss_cmp j k ≡ b → (j ≡ k) ⊎ (eq_by_cmp loss_cmp j k ≡ false)) [
+  | true ↦ λ e. inl (same_losses j k e)
+  | false ↦ λ e. inr e
+] refl
+
+differ : (j k : Loss) → eq_by_cmp loss_cmp j k ≡ false → j ≢ k
+differ j k h e = true≢false (sym (subst (λ x. eq_by_cmp loss_cmp j x ≡ true) e (loss_is j)) ∙ h)
+
+-- ---- tests
+
+pub first_true : (a b : Bool) → (a && b) ≡ true → a ≡ true
+first_true true b h = refl
+first_true false b h = absurd (true≢false (sym h))
+
+pub second_true : (a b : Bool) → (a && b) ≡ true → b ≡ true
+second_true true b h = h
+second_true false b h = absurd (true≢false (sym h))
+
+and_false : (a b : Bool) → b ≡ false → (a && b) ≡ false
+and_false true b h = h
+and_false false b h = refl
+
+both_true : (a b : Bool) → a ≡ true → b ≡ true → (a && b) ≡ true
+both_true a b p q = ap (λ x. x && b) p ∙ q
+
+first_false : (a b : Bool) → (a || b) ≡ false → a ≡ false
+first_false true b h = h
+first_false false b h = refl
+
+second_false : (a b : Bool) → (a || b) ≡ false → b ≡ false
+second_false true b h = absurd (true≢false h)
+second_false false b h = h
+
+or_swap : (a b c : Bool) → (a || (b || c)) ≡ (b || (a || c))
+or_swap true true c = refl
+or_swap true false c = refl
+or_swap false b c = refl
+
+not_true : (b : Bool) → (b ≡ true → ⊥) → b ≡ false
+not_true true h = absurd (h refl)
+not_true false h = refl
+
+T_first : (a b : Bool) → T (a && b) → T a
+T_first true b h = tt
+T_first false b h = h
+
+T_second : (a b : Bool) → T (a && b) → T b
+T_second true b h = h
+T_second false b h = absurd h
+
+T_both : (a b : Bool) → T a → T b → T (a && b)
+T_both true b p q = q
+T_both false b p q = p
+
+is_less : (o : Ordering) → T (is_lt o) → o ≡ Less
+is_less Less h = refl
+is_less Equal h = absurd h
+is_less Greater h = absurd h
+
+any_append : {A : Type 0} (p : A → Bool) (xs ys : List A) → list_any p (xs ++ ys) ≡ (list_any p xs || list_any p ys)
+any_append p [] ys = refl
+any_append p (x ∷ xs) ys = ap (λ b. p x || b) (any_append p xs ys) ∙ sym (grouped (p x) (list_any p xs) (list_any p ys))
+  where
+    grouped : (a b c : Bool) → ((a || b) || c) ≡ (a || (b || c))
+    grouped true b c = refl
+    grouped false b c = refl
+
+pub told_is : (t : Told) → is_fixed t ≡ true → t ≡ Fixed
+told_is told.Fixed h = refl
+told_is told.Entered h = absurd (true≢false (sym h))
+told_is told.Parted h = absurd (true≢false (sym h))
+told_is told.Fresh h = absurd (true≢false (sym h))
+told_is told.Again h = absurd (true≢false (sym h))
+told_is told.Skip h = absurd (true≢false (sym h))
+told_is told.Rest h = absurd (true≢false (sym h))
+told_is told.Busy h = absurd (true≢false (sym h))
+told_is told.Plan h = absurd (true≢false (sym h))
+told_is told.Hold h = absurd (true≢false (sym h))
+told_is told.Back h = absurd (true≢false (sym h))
+told_is told.Heard h = absurd (true≢false (sym h))
+told_is told.Sent h = absurd (true≢false (sym h))
+
+brought_is : (n : Name) (o : Option Name) → option_map_or (is_name n) o false ≡ true → o ≡ Some n
+brought_is n None h = absurd (true≢false (sym h))
+brought_is n (Some x) h = ap (λ y. Some y) (sym (same_names n x h))
+
+-- ---- names in lists
+
+pub named_in : (n : Name) (ns : List Name) → list_any (is_name n) ns ≡ true → Contains ns n
+named_in n ns h = Contains-from_any {eq = is_name} same_names n ns h
+
+in_named : (n : Name) (ns : List Name) → Contains ns n → list_any (is_name n) ns ≡ true
+in_named n [] c = absurd (let l = c.1 in omega arith)
+in_named n (x ∷ xs) (zero, l, e) = ap (λ b. b || list_any (is_name n) xs) (ap (is_name n) e ∙ name_is n)
+in_named n (x ∷ xs) (suc i, l, e) = right (is_name n x) (list_any (is_name n) xs) (in_named n xs (i, omega arith, e))
+  where
+    right : (a b : Bool) → b ≡ true → (a || b) ≡ true
+    right true b h = refl
+    right false b h = h
+
+-- ---- entries
+
+abbrev keys : List (Loss × Course) → List Loss
+keys es = map (λ e. e.0) es
+
+-- a new entry takes its place among the losses
+keys_put : (k : Loss) (c : Course) (es : List (Loss × Course)) → find loss_cmp k es ≡ None → keys (put loss_cmp k c es) ≡ place loss_cmp k (keys es)
+keys_put k c [] none = refl
+keys_put k c (e ∷ es) none =
+    elim (loss_cmp k e.0) as (λ o. loss_cmp k e.0 ≡ o → keys (by_order o ((k, c) ∷ e ∷ es) ((e.0, c) ∷ es) (e ∷ put loss_cmp k c es)) ≡ place loss_cmp k (e.0 ∷ keys es)) [
+      | Less ↦ λ q. ap (λ b. cond b (e.0 ∷ place loss_cmp k (keys es)) (k ∷ e.0 ∷ keys es)) (sym (ap is_lt (loss_total.antisymm e.0 k ∙ ap ordering_reverse q)))
+      | Equal ↦ λ q. let n : Some e.1 ≡ None = sym (ap (λ o. cond (is_eq o) (Some e.1) (find loss_cmp k es)) q) ∙ none in cc
+      | Greater ↦ λ q.
+          ap (λ ks. e.0 ∷ ks) (keys_put k c es (sym (ap (λ o. cond (is_eq o) (Some e.1) (find loss_cmp k es)) q) ∙ none))
+          ∙ ap (λ b. cond b (e.0 ∷ place loss_cmp k (keys es)) (k ∷ e.0 ∷ keys es)) (sym (ap is_lt (loss_total.antisymm e.0 k ∙ ap ordering_reverse q)))
+    ] refl
+
+below_less : (k x : Loss) (es : List (Loss × Course)) → loss_cmp k x ≡ Less → T (below_all loss_cmp x es) → T (below_all loss_cmp k es)
+below_less k x [] q h = tt
+below_less k x (e ∷ es) q h =
+    T_both _ _ (subst (λ o. T (is_lt o)) (sym (loss_total.trans k x e.0 q (is_less _ (T_first _ _ h)))) tt) (below_less k x es q (T_second _ _ h))
+
+below_none : (k : Loss) (es : List (Loss × Course)) → T (below_all loss_cmp k es) → find loss_cmp k es ≡ None
+below_none k [] h = refl
+below_none k (e ∷ es) h = ap (λ o. cond (is_eq o) (Some e.1) (find loss_cmp k es)) (is_less _ (T_first _ _ h)) ∙ below_none k es (T_second _ _ h)
+
+-- an entry put in anew leaves the losses as they are
+keys_same : (k : Loss) (c : Course) (es : List (Loss × Course)) → T (is_sorted loss_cmp es) → (old : Course) → find loss_cmp k es ≡ Some old → keys (put loss_cmp k c es) ≡ keys es
+keys_same k c [] s old h = cc
+keys_same k c (e ∷ es) s old h =
+    elim (loss_cmp k e.0) as (λ o. loss_cmp k e.0 ≡ o → keys (by_order o ((k, c) ∷ e ∷ es) ((e.0, c) ∷ es) (e ∷ put loss_cmp k c es)) ≡ e.0 ∷ keys es) [
+      | Less ↦ λ q.
+          let none = below_none k es (below_less k e.0 es q (T_first _ _ s)) in
+          let n : None ≡ Some old = sym none ∙ sym (ap (λ o. cond (is_eq o) (Some e.1) (find loss_cmp k es)) q) ∙ h in
+          cc
+      | Equal ↦ λ q. refl
+      | Greater ↦ λ q. ap (λ ks. e.0 ∷ ks) (keys_same k c es (T_second _ _ s) old (sym (ap (λ o. cond (is_eq o) (Some e.1) (find loss_cmp k es)) q) ∙ h))
+    ] refl
+
+-- each entry is found
+pub found : (es : List (Loss × Course)) → T (is_sorted loss_cmp es) → (i : ℕ) (d : Loss × Course) → i < length es → find loss_cmp (get_or es i d).0 es ≡ Some (get_or es i d).1
+found [] s i d l = absurd (omega arith)
+found (e ∷ es) s zero d l = ap (λ b. cond b (Some e.1) (find loss_cmp e.0 es)) (loss_is e.0)
+found (e ∷ es) s (suc i) d l = elim (losses_apart (get_or es i d).0 e.0) [
+  | inl same ↦
+      let rest : find loss_cmp (get_or es i d).0 es ≡ Some (get_or es i d).1 = found es (T_second _ _ s) i d (omega arith) in
+      let none : find loss_cmp e.0 es ≡ None = below_none e.0 es (T_first _ _ s) in
+      let n : None ≡ Some (get_or es i d).1 = sym none ∙ ap (λ k. find loss_cmp k es) (sym same) ∙ rest in
+      cc
+  | inr ne ↦ ap (λ b. cond b (Some e.1) (find loss_cmp (get_or es i d).0 es)) ne ∙ found es (T_second _ _ s) i d (omega arith)
+]
+
+-- ---- order
+
+ordered_push : (xs : List Loss) (x : Loss) → list_any (eq_by_cmp loss_cmp x) xs ≡ false → ordered loss_cmp (xs ++ x ∷ []) ≡ place loss_cmp x (ordered loss_cmp xs)
+ordered_push [] x h = refl
+ordered_push (y ∷ ys) x h =
+    ap (place loss_cmp y) (ordered_push ys x (second_false (eq_by_cmp loss_cmp x y) _ h))
+    ∙ place-comm loss_cmp loss_total y x (λ e. true≢false (sym (ap is_eq (loss_total.antisymm x y ∙ ap ordering_reverse e)) ∙ first_false _ _ h)) (ordered loss_cmp ys)
+
+any_cond : (p : Loss → Bool) (b : Bool) (x y : Loss) (xs ys : List Loss) → list_any p xs ≡ (p x || list_any p ys) → list_any p (cond b (y ∷ xs) (x ∷ y ∷ ys)) ≡ (p x || (p y || list_any p ys))
+any_cond p true x y xs ys h = ap (λ b. p y || b) h ∙ or_swap (p y) (p x) (list_any p ys)
+any_cond p false x y xs ys h = refl
+
+any_place : (p : Loss → Bool) (x : Loss) (ys : List Loss) → list_any p (place loss_cmp x ys) ≡ (p x || list_any p ys)
+any_place p x [] = refl
+any_place p x (y ∷ ys) = any_cond p (is_lt (loss_cmp y x)) x y (place loss_cmp x ys) ys (any_place p x ys)
+
+any_ordered : (p : Loss → Bool) (xs : List Loss) → list_any p (ordered loss_cmp xs) ≡ list_any p xs
+any_ordered p [] = refl
+any_ordered p (x ∷ xs) = any_place p x (ordered loss_cmp xs) ∙ ap (λ b. p x || b) (any_ordered p xs)
+
+-- ---- one row more
+
+-- when the first of the rows is that passes a test
+abbrev at : (Row → Bool) → List Row → Option ℕ
+at t rows = time_of (lists.find t rows)
+
+abbrev if_so : Bool → Row → Option Row
+if_so b q = cond b (Some q) None
+
+at_push : (t : Row → Bool) (rows : List Row) (q : Row) → at t (rows ++ q ∷ []) ≡ time_of (option_or (lists.find t rows) (if_so (t q) q))
+at_push t rows q = ap time_of (find-append t rows (q ∷ []))
+
+alike : (o : Option Row) (b : Bool) (p q : Row) → p.key.time ≡ q.key.time → time_of (option_or o (if_so b p)) ≡ time_of (option_or o (if_so b q))
+alike (Some r) b p q e = refl
+alike None true p q e = ap (λ n. Some n) e
+alike None false p q e = refl
+
+none_more : (o : Option Row) → time_of (option_or o None) ≡ time_of o
+none_more (Some r) = refl
+none_more None = refl
+
+at_same : (t : Row → Bool) (rows : List Row) (p q : Row) → p.key.time ≡ q.key.time → t p ≡ t q → at t (rows ++ p ∷ []) ≡ at t (rows ++ q ∷ [])
+at_same t rows p q e h =
+    at_push t rows p ∙ ap (λ b. time_of (option_or (lists.find t rows) (if_so b p))) h ∙ alike (lists.find t rows) (t q) p q e ∙ sym (at_push t rows q)
+
+at_none : (t : Row → Bool) (rows : List Row) (q : Row) → t q ≡ false → at t (rows ++ q ∷ []) ≡ at t rows
+at_none t rows q h = at_push t rows q ∙ ap (λ b. time_of (option_or (lists.find t rows) (if_so b q))) h ∙ none_more (lists.find t rows)
+
+at_first : (t : Row → Bool) (rows : List Row) (q : Row) → lists.find t rows ≡ None → t q ≡ true → at t (rows ++ q ∷ []) ≡ Some q.key.time
+at_first t rows q none h =
+    at_push t rows q ∙ ap (λ b. time_of (option_or (lists.find t rows) (if_so b q))) h ∙ ap (λ o. time_of (option_or o (Some q))) none
+
+find_none : (t : Row → Bool) (rows : List Row) → ((q : Row) → Contains rows q → t q ≡ true → ⊥) → lists.find t rows ≡ None
+find_none t [] h = refl
+find_none t (q ∷ rows) h =
+    ap (λ b. cond b (Some q) (lists.find t rows)) (not_true (t q) (h q (0, omega arith, refl)))
+    ∙ find_none t rows (λ r c. h r (Contains-append_right (q ∷ []) rows r c))
+
+find_some : (t : Row → Bool) (rows : List Row) (q : Row) → Contains rows q → t q ≡ true → (n : ℕ) × (at t rows ≡ Some n)
+find_some t [] q c h = absurd (let l = c.1 in omega arith)
+find_some t (r ∷ rows) q (zero, l, e) h = (r.key.time, ap (λ b. time_of (cond b (Some r) (lists.find t rows))) (ap t e ∙ h))
+find_some t (r ∷ rows) q (suc i, l, e) h =
+    let rest = find_some t rows q (i, omega arith, e) h in
+    elim (t r) as (λ b. (n : ℕ) × (time_of (cond b (Some r) (lists.find t rows)) ≡ Some n)) [ true ↦ (r.key.time, refl) | false ↦ rest ]
+
+course_same : (rows more : List Row) (k : Loss) → detected_at rows k ≡ detected_at more k → recovered_at rows k ≡ recovered_at more k → course_of rows k ≡ course_of more k
+course_same rows more k d r = λ i. option_map (λ at. record { detected = at; recovered = r i }) (d i)
+
+course_is : (rows : List Row) (k : Loss) (n : ℕ) (o : Option ℕ) → detected_at rows k ≡ Some n → recovered_at rows k ≡ o → course_of rows k ≡ Some (record { detected = n; recovered = o })
+course_is rows k n o d r = λ i. option_map (λ at. record { detected = at; recovered = r i }) (d i)
+
+losses_push : (rows : List Row) (q : Row) → losses_in (rows ++ q ∷ []) ≡ losses_in rows ++ map (λ n. record { member = q.key.member; name = n }) q.lost
+losses_push rows q =
+    flat_map-append (λ (r : Row). map (λ n. let k : Loss = record { member = r.key.member; name = n } in k) r.lost) rows (q ∷ [])
+    ∙ ap (λ l. losses_in rows ++ l) (append-nil (map (λ n. record { member = q.key.member; name = n }) q.lost))
+
+-- ---- no loss
+
+pub nothing : (rows : List Row) (r : Row) (es : List (Loss × Course)) → TellLosses rows es → TellLosses (rows ++ losing r [] ∷ []) es
+nothing rows r es was = record {
+  sorted = was.sorted;
+  losses = was.losses ∙ ap (ordered loss_cmp) (sym (losses_push rows (losing r []) ∙ append-nil (losses_in rows)));
+  courses = λ j. was.courses j ∙ sym (course_same (rows ++ losing r [] ∷ []) rows j
+      (at_none (detects j) rows (losing r []) (and_false (r.key.member == j.member) false refl))
+      (at_none (fixes j) rows (losing r []) (and_false (r.key.member == j.member) false refl)));
+}
+
+-- ---- one loss more
+
+module _ (rows : List Row) (r : Row) (front : List Name) (n : Name) (es : List (Loss × Course)) (was : TellLosses (rows ++ losing r front ∷ []) es)
+    (new : ¬ LostIn r.key.member n rows) (new_here : ¬ Contains front n) (unfixed : ¬ FixedIn r.key.member n rows) where
+  abbrev m : ℕ
+  m = r.key.member
+
+  abbrev k : Loss
+  k = record { member = m; name = n }
+
+  abbrev q0 : Row
+  q0 = losing r front
+
+  abbrev q1 : Row
+  q1 = losing r (front ++ n ∷ [])
+
+  not_before : lists.find (detects k) rows ≡ None
+  not_before = find_none (detects k) rows (λ q c h.
+      new (q, c, eqb-true _ _ (first_true (q.key.member == m) _ h), named_in n q.lost (second_true (q.key.member == m) _ h)))
+
+  not_fixed : lists.find (fixes k) rows ≡ None
+  not_fixed = find_none (fixes k) rows (λ q c h.
+      (let g = second_true (q.key.member == m) _ h in
+      unfixed (q, c, eqb-true _ _ (first_true (q.key.member == m) _ h), told_is q.told (first_true (is_fixed q.told) _ g), brought_is n (brought q.about) (second_true (is_fixed q.told) _ g))))
+
+  detects_not : detects k q0 ≡ false
+  detects_not = and_false (m == m) _ (not_true _ (λ h. new_here (named_in n front h)))
+
+  none : find loss_cmp k es ≡ None
+  none =
+      was.courses k
+      ∙ (λ i. option_map (λ at. let c : Course = record { detected = at; recovered = recovered_at (rows ++ q0 ∷ []) k } in c)
+      ((at_none (detects k) rows q0 detects_not ∙ ap time_of not_before) i))
+
+  grown : losses_in (rows ++ q1 ∷ []) ≡ losses_in (rows ++ q0 ∷ []) ++ k ∷ []
+  grown =
+      losses_push rows q1
+      ∙ ap (λ l. losses_in rows ++ l) (map-append (λ x. let j : Loss = record { member = m; name = x } in j) front (n ∷ []))
+      ∙ sym (append_assoc (losses_in rows) (map (λ x. record { member = m; name = x }) front) (k ∷ []))
+      ∙ ap (λ l. l ++ k ∷ []) (sym (losses_push rows q0))
+
+  not_among : list_any (eq_by_cmp loss_cmp k) (losses_in (rows ++ q0 ∷ [])) ≡ false
+  not_among =
+      sym (any_ordered (eq_by_cmp loss_cmp k) (losses_in (rows ++ q0 ∷ []))) ∙ ap (list_any (eq_by_cmp loss_cmp k)) (sym was.losses)
+      ∙ sym (is_some-find loss_cmp k es) ∙ ap is_some none
+
+  course : Course
+  course = record { detected = r.key.time; recovered = None }
+
+  lost_now : course_of (rows ++ q1 ∷ []) k ≡ Some (record { detected = r.key.time; recovered = None })
+  lost_now = course_is (rows ++ q1 ∷ []) k r.key.time None
+      (at_first (detects k) rows q1 not_before (both_true (m == m) _ (eq-eqb m m refl) (in_named n (front ++ n ∷ []) (Contains-append_right front (n ∷ []) n (0, omega arith, refl)))))
+      (at_none (fixes k) rows q1 (and_false (m == m) false refl) ∙ ap time_of not_fixed)
+
+  -- another loss, in the row with one loss more
+  other : (j : Loss) → eq_by_cmp loss_cmp j k ≡ false → detects j q1 ≡ detects j q0
+  other j ne = elim (m == j.member) as (λ b. (m == j.member) ≡ b → (b && list_any (is_name j.name) (front ++ n ∷ [])) ≡ (b && list_any (is_name j.name) front)) [
+    | true ↦ λ e.
+        let name : is_name j.name n ≡ false = not_true (is_name j.name n) (λ h.
+        (let s = same_names j.name n h in let g = eqb-true m j.member e in differ j k ne (λ i. record { member = sym g i; name = s i }))) in
+        any_append (is_name j.name) front (n ∷ []) ∙ ap (λ b. list_any (is_name j.name) front || (b || false)) name ∙ or_false (list_any (is_name j.name) front)
+    | false ↦ λ e. refl
+  ] refl
+    where
+      or_false : (b : Bool) → (b || (false || false)) ≡ b
+      or_false true = refl
+      or_false false = refl
+
+  pub one_more : TellLosses (rows ++ losing r (front ++ n ∷ []) ∷ []) (put loss_cmp (record { member = r.key.member; name = n }) (record { detected = r.key.time; recovered = None }) es)
+  one_more = record {
+    sorted = is_sorted-put loss_cmp loss_total k (record { detected = r.key.time; recovered = None }) es was.sorted;
+    losses =
+        keys_put k (record { detected = r.key.time; recovered = None }) es none
+        ∙ ap (place loss_cmp k) was.losses
+        ∙ sym (ordered_push (losses_in (rows ++ q0 ∷ [])) k not_among)
+        ∙ ap (ordered loss_cmp) (sym grown);
+    courses = λ j. find-put loss_cmp loss_total j k (record { detected = r.key.time; recovered = None }) es ∙ elim (losses_apart j k) [
+      | inl e ↦ subst (λ x. cond (eq_by_cmp loss_cmp x k) (Some (record { detected = r.key.time; recovered = None })) (find loss_cmp x es) ≡ course_of (rows ++ q1 ∷ []) x) (sym e)
+          (ap (λ b. cond b (Some (record { detected = r.key.time; recovered = None })) (find loss_cmp k es)) (loss_is k) ∙ sym lost_now)
+      | inr ne ↦ ap (λ b. cond b (Some (record { detected = r.key.time; recovered = None })) (find loss_cmp j es)) ne
+          ∙ was.courses j
+          ∙ sym (course_same (rows ++ q1 ∷ []) (rows ++ q0 ∷ []) j
+          (at_same (detects j) rows q1 q0 refl (other j ne)) (at_same (fixes j) rows q1 q0 refl refl))
+    ];
+  }
+
+-- ---- what was fixed
+
+fixes_by : (f : Name → Bool) (b : Bool) (o : Option Name) → (b && option_map_or f o false) ≡ option_map_or f (cond b o None) false
+fixes_by f true o = refl
+fixes_by f false o = refl
+
+module _ (rows : List Row) (r : Row) (es : List (Loss × Course)) (was : TellLosses (rows ++ losing r r.lost ∷ []) es) where
+  abbrev q : Row
+  q = losing r r.lost
+
+  fixes_is : (j : Loss) → fixes j r ≡ ((r.key.member == j.member) && option_map_or (is_name j.name) (name_fixed r) false)
+  fixes_is j = ap (λ b. (r.key.member == j.member) && b) (fixes_by (is_name j.name) (is_fixed r.told) (brought r.about))
+
+  unfixed_now : (j : Loss) → fixes j q ≡ false
+  unfixed_now j = and_false (r.key.member == j.member) false refl
+
+  -- a loss that the row does not fix
+  course_stays : (j : Loss) → fixes j r ≡ false → course_of (rows ++ r ∷ []) j ≡ course_of (rows ++ q ∷ []) j
+  course_stays j h =
+      course_same (rows ++ r ∷ []) (rows ++ q ∷ []) j (at_same (detects j) rows r q refl refl) (at_same (fixes j) rows r q refl (h ∙ sym (unfixed_now j)))
+
+  losses_stay : losses_in (rows ++ q ∷ []) ≡ losses_in (rows ++ r ∷ [])
+  losses_stay = losses_push rows q ∙ sym (losses_push rows r)
+
+  pub fixed_none : name_fixed r ≡ None → TellLosses (rows ++ r ∷ []) es
+  fixed_none h = record {
+    sorted = was.sorted;
+    losses = was.losses ∙ ap (ordered loss_cmp) losses_stay;
+    courses = λ j. was.courses j ∙ sym (course_stays j (fixes_is j ∙ and_false (r.key.member == j.member) _ (ap (λ o. option_map_or (is_name j.name) o false) h)));
+  }
+
+  module _ (n : Name) (fix : name_fixed r ≡ Some n) (lost : LostIn r.key.member n rows) (unfixed : ¬ FixedIn r.key.member n rows) where
+    abbrev k2 : Loss
+    k2 = record { member = r.key.member; name = n }
+
+    not_fixed_yet : lists.find (fixes k2) rows ≡ None
+    not_fixed_yet = find_none (fixes k2) rows (λ p c h.
+        (let g = second_true (p.key.member == r.key.member) _ h in
+        unfixed (p, c, eqb-true _ _ (first_true (p.key.member == r.key.member) _ h), told_is p.told (first_true (is_fixed p.told) _ g), brought_is n (brought p.about) (second_true (is_fixed p.told) _ g))))
+
+    detected : (d : ℕ) × (detected_at (rows ++ q ∷ []) k2 ≡ Some d)
+    detected = find_some (detects k2) (rows ++ q ∷ []) lost.0 (Contains-append_left rows (q ∷ []) lost.0 lost.1) (both_true (lost.0.key.member == r.key.member) _ (eq-eqb _ _ lost.2) (in_named n lost.0.lost lost.3))
+
+    before_fix : course_of (rows ++ q ∷ []) k2 ≡ Some (record { detected = detected.0; recovered = None })
+    before_fix = course_is (rows ++ q ∷ []) k2 detected.0 None detected.1 (at_none (fixes k2) rows q (unfixed_now k2) ∙ ap time_of not_fixed_yet)
+
+    abbrev mended : Course
+    mended = record { detected = detected.0; recovered = Some r.key.time }
+
+    after : course_of (rows ++ r ∷ []) k2 ≡ Some mended
+    after = course_is (rows ++ r ∷ []) k2 detected.0 (Some r.key.time) (at_same (detects k2) rows r q refl refl ∙ detected.1)
+        (at_first (fixes k2) rows r not_fixed_yet
+        (fixes_is k2 ∙ both_true (r.key.member == r.key.member) _ (eq-eqb _ _ refl) (ap (λ o. option_map_or (is_name n) o false) fix ∙ name_is n)))
+
+    apart : (j : Loss) → eq_by_cmp loss_cmp j k2 ≡ false → fixes j r ≡ false
+    apart j ne = fixes_is j ∙ ap (λ o. (r.key.member == j.member) && option_map_or (is_name j.name) o false) fix ∙ not_true _ (λ h.
+        (let s = same_names j.name n (second_true (r.key.member == j.member) _ h) in
+        let g = eqb-true r.key.member j.member (first_true (r.key.member == j.member) _ h) in
+        differ j k2 ne (λ i. record { member = sym g i; name = s i })))
+
+    put_now : TellLosses (rows ++ r ∷ []) (put loss_cmp k2 mended es)
+    put_now = record {
+      sorted = is_sorted-put loss_cmp loss_total k2 mended es was.sorted;
+      losses = keys_same k2 mended es was.sorted _ (was.courses k2 ∙ before_fix) ∙ was.losses ∙ ap (ordered loss_cmp) losses_stay;
+      courses = λ j. find-put loss_cmp loss_total j k2 mended es ∙ elim (losses_apart j k2) [
+        | inl e ↦ subst (λ x. cond (eq_by_cmp loss_cmp x k2) (Some mended) (find loss_cmp x es) ≡ course_of (rows ++ r ∷ []) x) (sym e)
+            (ap (λ b. cond b (Some mended) (find loss_cmp k2 es)) (loss_is k2) ∙ sym after)
+        | inr ne ↦ ap (λ b. cond b (Some mended) (find loss_cmp j es)) ne ∙ was.courses j ∙ sym (course_stays j (apart j ne))
+      ];
+    }
+
+    pub fixed_some : TellLosses (rows ++ r ∷ []) (after_fix r.key.time (record { member = r.key.member; name = n }) es)
+    fixed_some = subst (λ o. TellLosses (rows ++ r ∷ []) (fixed_at r.key.time k2 es o)) (sym (was.courses k2 ∙ before_fix)) put_now

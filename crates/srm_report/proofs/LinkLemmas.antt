@@ -1,0 +1,49 @@
+-- The table of links, link by link.
+use Rattle.std.proofs.Common.{◌≡◌, ◌∙◌, ℕ, ◌<◌, ◌+◌, ◌*◌, List, ◌++◌, length, map, ap, sym, arith, slice_index, slice_index_or}
+use Rattle.std.specs.List.{range_with_len, concat}
+use Rattle.std.proofs.lemmas.List.FromFn.{map-range_with_len_more}
+use Rattle.csv.specs.Writing.{default_writer, row_text}
+use Rattle.srm_ledger.specs.declared.kind.Kind.{Kind}
+use Rattle.srm_ledger.specs.declared.kind.Kind.TheVariants.{Drawop, Request, Repair, Session, Dropped}
+use Rattle.srm_ledger.specs.Counts.{place_of, number_at}
+use Rattle.srm_report.proofs.Fives.{FiveEach, length_joined, index_joined}
+use Rattle.srm_report.specs.Links.{link_columns, link_fields, links_in, links_table}
+use Rattle.srm_report.specs.Tables.{table_of}
+use Rattle.srm_report.proofs.TableLemmas.{table_first, table_more}
+
+-- the rows of the first n links
+abbrev pub first_rows : List ℕ → ℕ → List (List (List ℕ))
+first_rows totals n = map (λ l. link_fields l (number_at totals l)) (range_with_len 0 n)
+
+place_below : (k : Kind) → place_of k < 5
+place_below Drawop = omega arith
+place_below Request = omega arith
+place_below Repair = omega arith
+place_below Session = omega arith
+place_below Dropped = omega arith
+
+module _ (ls : List (List ℕ)) (five : FiveEach ls) (totals : List ℕ) (joined : concat ls ≡ totals) where
+  -- the five numbers at place i are those of link i
+  numbers_are : (i : ℕ) (d : List ℕ) → i < length ls → (k : Kind) → slice_index (slice_index_or ls i d) (place_of k) ≡ number_at totals i k
+  numbers_are i d lt k =
+      sym (index_joined ls five i (place_of k) d lt (place_below k))
+      ∙ ap (λ t. slice_index t (5 * i + place_of k)) joined
+
+  pub links_are : links_in totals ≡ length ls
+  links_are = let long = length_joined ls five in let same : length (concat ls) ≡ length totals = ap length joined in omega arith
+
+  pub text_more : (i : ℕ) (d : List ℕ) (fields : List (List ℕ)) (old new : List ℕ) → i < length ls
+      → old ≡ table_of link_columns (first_rows totals i) → fields ≡ link_fields i (λ k. slice_index (slice_index_or ls i d) (place_of k))
+      → new ≡ old ++ row_text default_writer fields → new ≡ table_of link_columns (first_rows totals (i + 1))
+  text_more i d fields old new lt before is grown =
+      let same : fields ≡ link_fields i (number_at totals i) = is ∙ (λ t. link_fields i (λ k. numbers_are i d lt k t)) in
+      table_more link_columns (first_rows totals i) (link_fields i (number_at totals i)) fields old new before same grown
+      ∙ ap (table_of link_columns) (sym (map-range_with_len_more (λ l. link_fields l (number_at totals l)) 0 i i (omega arith)))
+
+  pub text_all : (i : ℕ) (text : List ℕ) → i ≡ length ls → text ≡ table_of link_columns (first_rows totals i) → text ≡ links_table totals
+  unfolding links_table
+  text_all i text whole is = is ∙ ap (λ n. table_of link_columns (first_rows totals n)) (whole ∙ sym links_are)
+
+-- the table before its first link
+pub text_first : (totals : List ℕ) (text : List ℕ) → text ≡ row_text default_writer link_columns → text ≡ table_of link_columns (first_rows totals 0)
+text_first totals text e = table_first link_columns text e

@@ -1,0 +1,25 @@
+-- Tables, row by row.
+use Rattle.std.proofs.Common.{◌≡◌, ◌∙◌, ℕ, List, [], ◌∷◌, ◌++◌, ap, sym, append-nil, append_assoc}
+use Rattle.std.proofs.lemmas.Grind.{flat_map-append}
+use Rattle.csv.specs.Writing.{default_writer, row_text}
+use Rattle.srm_report.specs.Tables.{lines_of, table_of}
+
+-- a table of no rows is the line of its columns
+pub table_first : (columns : List (List ℕ)) (text : List ℕ) → text ≡ row_text default_writer columns → text ≡ table_of columns []
+unfolding table_of lines_of
+table_first columns text e = e ∙ sym (append-nil (row_text default_writer columns))
+
+lines_more : (rows : List (List (List ℕ))) (r : List (List ℕ)) → lines_of (rows ++ r ∷ []) ≡ lines_of rows ++ row_text default_writer r
+unfolding lines_of
+lines_more rows r =
+    flat_map-append (row_text default_writer) rows (r ∷ [])
+    ∙ ap (λ l. lines_of rows ++ l) (append-nil (row_text default_writer r))
+
+-- a text that grows by the line of one row more
+pub table_more : (columns : List (List ℕ)) (rows : List (List (List ℕ))) (r fields : List (List ℕ)) (old new : List ℕ)
+    → old ≡ table_of columns rows → fields ≡ r → new ≡ old ++ row_text default_writer fields → new ≡ table_of columns (rows ++ r ∷ [])
+unfolding table_of
+table_more columns rows r fields old new before is grown =
+    grown ∙ ap (λ f. old ++ row_text default_writer f) is ∙ ap (λ l. l ++ row_text default_writer r) before
+    ∙ append_assoc (row_text default_writer columns) (lines_of rows) (row_text default_writer r)
+    ∙ ap (λ l. row_text default_writer columns ++ l) (sym (lines_more rows r))

@@ -1,0 +1,73 @@
+-- The table of losses: of each name that a member lost, when that was detected, and when it was fixed.
+use Rattle.std.specs.Prelude.{ℕ, ◌-◌, ◌*◌, Bool, false, ◌&&◌, List, [], ◌∷◌, ◌++◌, map, Option, Some, ◌==◌, codes, decimal}
+use Rattle.std.specs.declared.cmp.Ordering.{Ordering}
+use Rattle.std.specs.Ordering.{nat_cmp}
+use Rattle.std.specs.Cmp.Lexicographic.{slice_cmp}
+use Rattle.std.specs.List.{find, flat_map, list_any}
+use Rattle.std.specs.Option.{option_map_or}
+use Rattle.srm_net.specs.Network.{Network}
+use Rattle.srm_net.specs.Orders.{ordered}
+use Rattle.srm_net.specs.Paths.{distance}
+use Rattle.srm_member.specs.declared.row.Row.{Row}
+use Rattle.srm_member.specs.Orderly.{brought}
+use Rattle.srm_report.specs.declared.loss.Loss.{Loss}
+use Rattle.srm_report.specs.Rows.{is_fixed, is_name, time_of, time_text}
+use Rattle.srm_report.specs.Tables.{table_of}
+
+-- losses are compared by member, source, page and number
+abbrev pub numbers_of_loss : Loss → List ℕ
+numbers_of_loss k = k.member ∷ k.name.source ∷ k.name.page ∷ k.name.number ∷ []
+
+-- number by number
+abbrev pub loss_cmp : Loss → Loss → Ordering
+loss_cmp k l = slice_cmp nat_cmp (numbers_of_loss k) (numbers_of_loss l)
+
+-- the losses of these rows, in the order in which they were detected
+abbrev pub losses_in : List Row → List Loss
+losses_in rows = flat_map (λ r. map (λ n. record { member = r.key.member; name = n }) r.lost) rows
+
+-- whether the member lost the name in this row
+abbrev pub detects : Loss → Row → Bool
+detects k r = (r.key.member == k.member) && list_any (is_name k.name) r.lost
+
+-- whether the member took in the name as `fixed` in this row
+abbrev pub fixes : Loss → Row → Bool
+fixes k r = (r.key.member == k.member) && (is_fixed r.told && option_map_or (is_name k.name) (brought r.about) false)
+
+-- when the loss was detected
+abbrev pub detected_at : List Row → Loss → Option ℕ
+detected_at rows k = time_of (find (detects k) rows)
+
+-- when it was fixed
+abbrev pub recovered_at : List Row → Loss → Option ℕ
+recovered_at rows k = time_of (find (fixes k) rows)
+
+-- a time over another, not reduced
+abbrev pub ratio : ℕ → ℕ → List ℕ
+ratio took way = decimal took ++ codes "/" ++ decimal way
+
+-- how long it took, over twice the distance to the source
+abbrev pub delay_text : ℕ → Option ℕ → Option ℕ → List ℕ
+delay_text d (Some detected) (Some recovered) = ratio (recovered - detected) (2 * d)
+delay_text d _ _ = codes "-"
+
+-- the columns of the table
+abbrev pub loss_columns : List (List ℕ)
+loss_columns =
+    codes "member" ∷ codes "source" ∷ codes "page" ∷ codes "number"
+    ∷ codes "detected" ∷ codes "recovered" ∷ codes "delay" ∷ []
+
+-- the row of a loss that was detected and fixed at these times
+abbrev pub loss_fields : Network → Loss → Option ℕ → Option ℕ → List (List ℕ)
+loss_fields net k detected recovered =
+    decimal k.member ∷ decimal k.name.source ∷ decimal k.name.page ∷ decimal k.name.number
+    ∷ time_text detected ∷ time_text recovered
+    ∷ delay_text (distance net k.member k.name.source) detected recovered ∷ []
+
+-- the row of a loss, as these rows tell of it
+abbrev pub loss_row : Network → List Row → Loss → List (List ℕ)
+loss_row net rows k = loss_fields net k (detected_at rows k) (recovered_at rows k)
+
+-- the table of all losses of these rows, in rising order
+unfoldable pub losses_table : Network → List Row → List ℕ
+losses_table net rows = table_of loss_columns (map (loss_row net rows) (ordered loss_cmp (losses_in rows)))

@@ -1,0 +1,124 @@
+#!/usr/bin/env python3
+"""Tests of the scripts in tools/ and of tests/architecture.py, on what `rt` prints. No proof is run."""
+import collections
+import pathlib
+import sys
+import unittest
+from unittest import mock
+
+sys.dont_write_bytecode = True
+TOP = pathlib.Path(__file__).resolve().parent.parent
+sys.path[:0] = [str(TOP / "tools"), str(TOP / "tests")]
+
+import architecture
+import gate
+import prove
+import watch
+
+ONE_FAILS = """\
+only=0 proved=0
+== low
+fn low::half: proved
+logic=proved functions=1 sum=0
+== middle
+note: src/lib.rt:3:1: it is not proved that what the function ensures holds when it returns
+note: to see how far a `search` got, write `search rules`
+fn middle::third: no proof: expected answers in ./proofs/third/Answers.antt
+./proofs/Lib.antt:9:5: error: `half` is not in scope
+logic=not-proved
+rt: rt lemma WORD.. finds a lemma by guessed names or words of the goal
+== summary
+low: ok
+middle: failed (1)
+top: not run, since middle failed
+1 of 3 crates ok
+"""
+
+
+def running(spent):
+    """What a watch saw: seconds by crate, part and folder."""
+    it = mock.Mock(spec=watch.Watch, spent=collections.Counter({watch.Sight(*sight): seconds for sight, seconds in spent}))
+    it.seconds = lambda crate, part: watch.Watch.seconds(it, crate, part)
+    return it
+
+
+def report_on(text, spent=()):
+    """The report on what `rt all check` printed, and the lines that it said."""
+    report = prove.Report(running(spent))
+    with mock.patch.object(prove, "say") as say:
+        for line in text.splitlines(keepends=True):
+            report.read(line)
+    return report, [call.args[0] for call in say.call_args_list]
+
+
+class Proving(unittest.TestCase):
+    def test_each_crate_has_one_line_with_its_time(self):
+        _, said = report_on(ONE_FAILS, [(("low", "proof", "/low"), 75), (("middle", "proof", "/middle"), 3)])
+        self.assertEqual(said, ["low            proved in 1:15", "middle         NOT PROVED in 0:03"])
+
+    def test_crates_that_failed_and_that_were_not_begun_are_told_apart(self):
+        report, _ = report_on(ONE_FAILS)
+        self.assertEqual((report.named("failed"), report.named("not run")), (["middle"], ["top"]))
+
+    def test_errors_are_those_of_the_crate_that_failed_and_no_hints(self):
+        report, _ = report_on(ONE_FAILS)
+        wrong = ("note: src/lib.rt", "fn middle::third", "./proofs/Lib.antt")
+        self.assertEqual(report.errors(), [line for line in ONE_FAILS.splitlines() if line.startswith(wrong)])
+
+    def test_errors_before_the_first_crate_are_told(self):
+        report, said = report_on("src/main.rt:1:1: error[name]: no such item\nrt: mend these first: no library was built\n")
+        self.assertEqual((len(report.errors()), said), (2, []))
+
+    def test_a_crate_of_which_nothing_is_printed_was_proved_before(self):
+        _, said = report_on("== low\n== middle\nlogic=proved functions=2\n== summary\nlow: ok\nmiddle: ok\n2 of 2 crates ok\n")
+        self.assertEqual(said, ["low            as it was proved before", "middle         proved in 0:00"])
+
+    def test_a_crate_that_breaks_off_is_not_proved(self):
+        _, said = report_on("== low\nrattle: killed\n== summary\nlow: failed (-9)\n0 of 1 crates ok\n")
+        self.assertEqual(said, ["low            NOT PROVED"])
+
+
+class Gate(unittest.TestCase):
+    def test_times_of_edits_are_named_in_the_order_in_which_they_are_tried(self):
+        spent = [(("low", "edits", f"/tmp/rt-edit-{at}"), 10 - at) for at in range(3)]
+        with mock.patch.object(gate, "edits_of", return_value=["first", "second"]):
+            self.assertEqual(gate.times_of_edits(running(spent), "low"), {"first": 10, "second": 9})
+
+    def test_no_edit_is_named_where_one_was_not_seen(self):
+        spent = [(("low", "edits", "/tmp/rt-edit-0"), 10)]
+        with mock.patch.object(gate, "edits_of", return_value=["first", "second"]):
+            self.assertEqual(gate.times_of_edits(running(spent), "low"), {})
+
+    def test_the_table_has_each_part_of_a_crate(self):
+        spent = [(("low", "proof", "/low"), 61), (("low", "tests", "/low"), 5), (("low", "edits", "/tmp/rt-edit-0"), 7)]
+        with mock.patch.object(gate, "edits_of", return_value=["first"]):
+            lines = gate.table(running(spent), 70)
+        self.assertEqual(lines[2].split(), ["low", "1:01", "0:05", "0:07", "1"])
+        self.assertEqual((lines[-2].split(), lines[-1]), (["0:07", "low/first"], "all of it took 1:10"))
+
+
+class Architecture(unittest.TestCase):
+    LOWER = {"top": ["middle", "low"], "middle": ["low"], "low": []}
+    PAGE = "| `low` |\n| `middle` |\n| `top` |\n\n{}"
+
+    def faults(self, page):
+        return list(architecture.faults(self.LOWER, page))
+
+    def test_arrows_to_which_others_lead_are_left_out(self):
+        lines = architecture.graph(self.LOWER).splitlines()
+        self.assertEqual(lines[2:-1], ["    top --> middle", "    middle --> low", "    low"])
+
+    def test_a_page_that_is_true_has_no_fault(self):
+        self.assertEqual(self.faults(self.PAGE.format(architecture.graph(self.LOWER))), [])
+
+    def test_another_graph_a_missing_row_and_a_wrong_order_are_faults(self):
+        graph = architecture.graph(self.LOWER)
+        another = self.PAGE.format(graph.replace("top -->", "low -->"))
+        missing = f"| `low` |\n| `top` |\n{graph}"
+        wrong_order = f"| `middle` |\n| `low` |\n| `top` |\n{graph}"
+        for page in (another, missing, wrong_order):
+            self.assertEqual(len(self.faults(page)), 1, page)
+
+
+if __name__ == "__main__":
+    unittest.main()

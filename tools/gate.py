@@ -1,0 +1,89 @@
+#!/usr/bin/env python3
+"""Runs the merge gate, `rt ci`, and tells at its end how long the prover worked on each crate and on its must-fail edits.
+
+usage: tools/gate.py [--edits CRATE ..]
+
+Hands on all that `rt ci` prints, and keeps it in out/gate.log too. The table of times stands before its last line, which is
+'N passed, M failed'. With --edits it runs `rt must-fail CRATE ..` in its place: the must-fail edits of these crates alone.
+Ends with the status of what it ran. The environment's RT is the command to call in place of `rt`.
+"""
+import argparse
+import os
+import pathlib
+import subprocess
+import sys
+import time
+
+import watch
+
+TOP = pathlib.Path(__file__).resolve().parent.parent
+RT = os.environ.get("RT", "rt").split()
+LONGEST = 10
+
+
+def edits_of(crate):
+    """The names of a crate's must-fail edits, in the order in which they are tried."""
+    return sorted(it.stem for it in (TOP / "crates" / crate / "must-fail").glob("*.edit"))
+
+
+def times_of_edits(running, crate):
+    """The seconds of each of a crate's edits by name, where each was seen in a folder of its own, and else none.
+
+    The edits are tried in order, and after several of them the crate itself once more.
+    """
+    # (folders stand in the order in which they were first seen)
+    spent = [it for sight, it in running.spent.items() if (sight.crate, sight.part) == (crate, "edits")]
+    names = edits_of(crate)
+    looks = len(names) + (len(names) > 1)
+    return dict(zip(names, spent)) if len(spent) == looks else {}
+
+
+def table(running, passed):
+    """The lines of the table of times."""
+    crates = dict.fromkeys(sight.crate for sight in running.spent)
+    lines = ["how long the prover worked on each crate, its tests and its must-fail edits, beside other crates (minutes:seconds)"]
+    lines += [f"{'crate':14} {'proof':>7} {'tests':>7} {'edits':>7} {'how many edits':>16}"]
+    edits = {}
+    for crate in sorted(crates):
+        times = [running.seconds(crate, part) for part in ("proof", "tests", "edits")]
+        proof, tests, tried = (watch.clock(it) if it else "-" for it in times)
+        lines.append(f"{crate:14} {proof:>7} {tests:>7} {tried:>7} {len(edits_of(crate)) if times[2] else '-':>16}")
+        edits |= {f"{crate}/{name}": spent for name, spent in times_of_edits(running, crate).items()}
+    longest = sorted(edits, key=edits.get, reverse=True)[:LONGEST]
+    if longest:
+        lines += ["the longest edits:", *(f"{watch.clock(edits[it]):>7} {it}" for it in longest)]
+    return [*lines, f"all of it took {watch.clock(passed)}"]
+
+
+def main():
+    parser = argparse.ArgumentParser(description=__doc__, formatter_class=argparse.RawDescriptionHelpFormatter)
+    parser.add_argument("--edits", nargs="+", metavar="CRATE")
+    options = parser.parse_args()
+    command = [*RT, "must-fail", *options.edits] if options.edits else [*RT, "ci"]
+    log = TOP / "out" / "gate.log"
+    log.parent.mkdir(exist_ok=True)
+    began = time.monotonic()
+    running = watch.Watch(command, TOP, stdin=subprocess.DEVNULL, stdout=subprocess.PIPE, stderr=subprocess.STDOUT)
+    last = ""
+    with open(log, "w", encoding="utf-8") as kept:
+
+        def hand_on(line):
+            for to in (sys.stdout, kept):
+                to.write(line)
+                to.flush()
+
+        for line in running.process.stdout:
+            hand_on(last)
+            last = line
+        status = running.wait()
+        for line in table(running, time.monotonic() - began):
+            hand_on(f"{line}\n")
+        hand_on(last)
+    sys.exit(status)
+
+
+if __name__ == "__main__":
+    try:
+        main()
+    except KeyboardInterrupt:
+        sys.exit(130)

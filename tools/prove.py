@@ -1,0 +1,166 @@
+#!/usr/bin/env python3
+"""Proves crates side by side, and tells of each crate in one line how long its proof took.
+
+usage: tools/prove.py [--program] [--jobs N] FOLDER
+
+Proves each crate in FOLDER and below it, and each crate that these stand on, over what earlier runs proved. With
+--program FOLDER is the crate of a program, which is then built. Everything that the prover says goes to a log in out/;
+the lines for people go to standard error. Ends with status 1 where a crate is not proved, and then shows its errors.
+
+N crates are proved at a time; without --jobs as many as there are processors, with 4 GB of free memory for each.
+The environment's RT is the command to call in place of `rt`.
+"""
+import argparse
+import os
+import pathlib
+import re
+import subprocess
+import sys
+import time
+
+import watch
+
+TOP = pathlib.Path(__file__).resolve().parent.parent
+RT = os.environ.get("RT", "rt").split()
+MEMORY_OF_A_CRATE = 4_000_000_000
+ERRORS_SHOWN = 20
+
+FIRST_BUILD = """\
+Nothing is proved yet. The first build proves the program: some fifteen minutes on 4 processors.
+`make try SCENARIO=..` runs the same program unproved, in under a minute."""
+
+# Lines that say what is wrong: an error, a note on a place or a goal, a function without its proof, a complaint of rt itself.
+ERROR = re.compile(
+    r"error(\[[\w-]+\])?:|^note: (\S+:\d+:\d+:|.* (must prove|may be false)\b)|: (not proved|no proof)\b"
+    r"|^rt: (?!note|warning|chose|rt )"
+)
+
+# On a terminal a line that the next one overwrites shows what is proved just now.
+ERASE = "\r\033[K" if sys.stderr.isatty() else ""
+
+
+def say(text):
+    print(f"{ERASE}{text}", file=sys.stderr, flush=True)
+
+
+def show(sights):
+    if ERASE and sights:
+        print(f"{ERASE}proving {', '.join(sorted({it.crate for it in sights}))} ..", end="", file=sys.stderr, flush=True)
+
+
+def jobs():
+    """How many crates are proved at a time: one a processor, as far as memory goes."""
+    free = 0
+    for line in pathlib.Path("/proc/meminfo").read_text().splitlines():
+        if line.startswith("MemAvailable:"):
+            free = 1024 * int(line.split()[1])
+    return max(1, min(len(os.sched_getaffinity(0)), free // MEMORY_OF_A_CRATE))
+
+
+class Report:
+    """Reads what `rt all check` prints, a section for each crate once it ended, and says a line for each."""
+
+    def __init__(self, running):
+        self.running = running
+        self.crate = None
+        self.lines = {None: []}
+        self.told = set()
+
+    def read(self, line):
+        found = re.fullmatch(r"== (\w+)\n", line)
+        if found:
+            # a section with no verdict is of a crate that broke off, and one with no line of a crate that rt left as it was
+            self.tell("NOT PROVED" if self.lines[self.crate] else "as it was proved before")
+            self.crate = found[1]
+            self.lines.setdefault(self.crate, [])
+            return
+        self.lines[self.crate].append(line.rstrip("\n"))
+        if line.startswith("logic="):
+            verdict = "proved" if line.startswith("logic=proved") else "NOT PROVED"
+            self.tell(f"{verdict} in {watch.clock(self.running.seconds(self.crate, 'proof'))}")
+
+    def tell(self, verdict):
+        """Says the line of the crate whose section is read, once."""
+        if self.crate not in (None, "summary", *self.told):
+            self.told.add(self.crate)
+            say(f"{self.crate:14} {verdict}")
+
+    def named(self, word):
+        """The crates of which rt's summary says this word."""
+        summary = self.lines.get("summary", [])
+        return [line.partition(":")[0] for line in summary if re.match(rf"\w+: {word}\b", line)]
+
+    def errors(self):
+        """What is wrong, in the sections of the crates that failed, or before the first section."""
+        sections = [name for name in self.named("failed") if name in self.lines] or [None]
+        return [line for name in sections for line in self.lines[name] if ERROR.search(line)]
+
+
+def show_errors(log, lines):
+    for line in lines[:ERRORS_SHOWN]:
+        say(f"  {line[:300]}")
+    more = len(lines) - ERRORS_SHOWN
+    say(f"The log {os.path.relpath(log)} has {f'{more} lines of errors more, and ' if more > 0 else ''}all that the prover said.")
+
+
+def prove(folder, at_once, log):
+    """Proves the crates of a folder and those that they stand on, and tells whether all are proved."""
+    command = [*RT, "all", "check", "--jobs", str(at_once)]
+    running = watch.Watch(command, folder, show, stdin=subprocess.DEVNULL, stdout=subprocess.PIPE, stderr=subprocess.STDOUT)
+    report = Report(running)
+    with open(log, "w", encoding="utf-8") as kept:
+        for line in running.process.stdout:
+            kept.write(line)
+            kept.flush()
+            report.read(line)
+    status = running.wait()
+    if status == 0:
+        return True
+    failed, left = report.named("failed"), report.named("not run")
+    say(f"NOT PROVED: {', '.join(failed) if failed else f'rt ended with status {status}'}")
+    if left:
+        say(f"Not begun, since they stand on these: {', '.join(left)}")
+    show_errors(log, report.errors())
+    return False
+
+
+def build(folder, log):
+    """Builds the proved program of a folder, which is run once on the folder's own file of standard input."""
+    began = time.monotonic()
+    given = folder / "stdin"
+    with open(given if given.exists() else os.devnull, "rb") as text:
+        done = subprocess.run([*RT, "run"], cwd=folder, stdin=text, stdout=subprocess.DEVNULL, stderr=subprocess.PIPE)
+    said = done.stderr.decode(errors="replace")
+    with open(log, "a", encoding="utf-8") as kept:
+        kept.write(said)
+    if done.returncode == 0:
+        say(f"{folder.name:14} built in {watch.clock(time.monotonic() - began)}: {os.path.relpath(folder)}/out/{folder.name}")
+        return True
+    say(f"NOT BUILT: {folder.name}: `rt run` ended with status {done.returncode}")
+    lines = said.splitlines()
+    show_errors(log, [line for line in lines if ERROR.search(line)] or lines[-ERRORS_SHOWN:])
+    return False
+
+
+def main():
+    parser = argparse.ArgumentParser(description=__doc__, formatter_class=argparse.RawDescriptionHelpFormatter)
+    parser.add_argument("folder", type=pathlib.Path)
+    parser.add_argument("--program", action="store_true")
+    parser.add_argument("--jobs", type=int, default=jobs())
+    options = parser.parse_args()
+    folder = options.folder.resolve()
+    log = TOP / "out" / ("build.log" if options.program else "check.log")
+    log.parent.mkdir(exist_ok=True)
+    if options.program and not any(TOP.glob("crates/*/out/rlib/stamp")):
+        say(FIRST_BUILD)
+    say(f"Proving, {options.jobs} crates at a time; what the prover says goes to {os.path.relpath(log)}.")
+    done = prove(folder, options.jobs, log) and (not options.program or build(folder, log))
+    sys.exit(0 if done else 1)
+
+
+if __name__ == "__main__":
+    try:
+        main()
+    except KeyboardInterrupt:
+        say("Interrupted. What was proved is kept.")
+        sys.exit(130)
