@@ -1,0 +1,335 @@
+"""Compares srm_lab with the SRM agent of ns-2: lost packets, requests, repairs and their times.
+
+usage: compare_ns2.py PROGRAM [--only FAMILY] [--table FILE]
+
+Timers have no random part in the families of FAMILIES, so that each request and repair has its one tick in both
+programs. Where they differ, rules of srm_lab are put into ns-2's agent until they do not: the fewest that do so
+explain the difference. Each rule has a scenario in ns2/differences that shows it. Last, a star with random timers is
+compared by its mean number of requests, and run times stand side by side. Ends with status 1 if a difference stays
+unexplained.
+"""
+import argparse
+import csv
+import random
+import subprocess
+import sys
+import tempfile
+import time
+from dataclasses import dataclass
+from itertools import combinations
+from pathlib import Path
+
+from srm_scenarios import tree
+from srm_scenarios.cli import build, parser
+from srm_scenarios.losses import links_in_use
+from srm_scenarios.reading import read_scenario
+from srm_scenarios.scenario import Scenario
+from srm_scenarios.tables import read_trace
+
+HERE = Path(__file__).resolve().parent
+RULES = {
+    "arrivals-first": "of what happens at one tick, arrivals come before own timers; ns-2 takes the order of setting",
+    "hold-off-by-source": "the hold-off after a repair is three times the distance to the source (at the source itself "
+                          "to the requester or repairer), not to the requester",
+    "back-off-at-once": "a loss learnt from a request backs off at once; ns-2 sets a first timer",
+    "hold-off-when-held": "a repair heard by a member that holds the packet and has no timer starts a hold-off",
+    "hold-off-extended": "a further repair during a hold-off starts it anew",
+    "ten-doublings": "request timers double up to ten times, and not up to five",
+}
+
+
+@dataclass
+class Result:
+    """What a run did: (time, member, ask or answer, number) sent, and (member, number) lost with its two times."""
+
+    sent: list
+    losses: dict
+    seconds: float = 0.0
+    processor: float = 0.0
+
+    def same(self, other):
+        return self.sent == other.sent and self.losses == other.losses
+
+
+class Programs:
+    """Both programs, each running one scenario's text."""
+
+    def __init__(self, program):
+        self.program = program
+
+    def ours(self, text, seed=0):
+        begin = time.perf_counter()
+        trace = self._srm_lab(text, seed, "trace")
+        spent = time.perf_counter() - begin
+        sent = [(row.time, row.member, row.cause, int(row.ref.split("/")[2])) for row in read_trace(trace.splitlines())
+                if row.cause in ("ask", "answer") and row.result == "sent"]
+        losses = {}
+        for row in csv.DictReader(self._srm_lab(text, seed, "losses").splitlines()):
+            recovered = None if row["recovered"] == "-" else int(row["recovered"])
+            losses[int(row["member"]), int(row["number"])] = (int(row["detected"]), recovered)
+        return Result(sorted(sent), losses, spent)
+
+    def _srm_lab(self, text, seed, show):
+        done = subprocess.run([self.program, "--seed", str(seed), "--show", show], input=text.encode(),
+                              capture_output=True, check=False)
+        if done.returncode:
+            raise SystemExit(f"{self.program}: {done.stderr.decode().strip()}")
+        return done.stdout.decode()
+
+    def ns2(self, text, rules=(), seed=1, cycle=None):
+        with tempfile.NamedTemporaryFile("w", suffix=".txt") as given:
+            given.write(ns2_input(text, rules, seed, cycle))
+            given.flush()
+            begin = time.perf_counter()
+            done = subprocess.run(["ns", HERE / "ns2/srm.tcl", given.name], capture_output=True, text=True, check=False)
+            spent = time.perf_counter() - begin
+        if done.returncode or "cost" not in done.stdout:
+            raise SystemExit(f"ns: {done.stderr.strip() or done.stdout.strip()}")
+        result = Result([], {}, spent)
+        for line in done.stdout.splitlines():
+            words = line.split()
+            if words[0] == "event":
+                result.sent.append((whole(words[1]), int(words[2]), words[3], int(words[4])))
+            elif words[0] == "lost":
+                result.losses[int(words[1]), int(words[2])] = (whole(words[3]), None)
+            elif words[0] == "recovered":
+                key = int(words[1]), int(words[2])
+                result.losses[key] = (result.losses[key][0], whole(words[3]))
+            elif words[0] == "cost":
+                result.processor = float(words[1])
+        result.sent.sort()
+        return result
+
+
+def whole(text):
+    """A time of ns-2: a whole number where timers have no random part."""
+    number = float(text)
+    return int(number) if number == int(number) else number
+
+
+def ns2_input(text, rules, seed, cycle=None):
+    """A scenario's text as ns2/srm.tcl reads it; `cycle` is (link, K) in place of the drops of every K-th draw."""
+    given = read_scenario(text)
+    table = given.table
+    draws = sorted(draw["at"] for draw in table["draw"])
+    every = draws[1] - draws[0] if len(draws) > 1 else 1
+    assert draws == [place * every for place in range(len(draws))], "draws have to be equally far apart, from tick 0"
+    lines = ["constants " + " ".join(str(table[name] / 1000) for name in ("c1", "c2", "d1", "d2")),
+             f"seed {seed}", f"end {table['until']}"]
+    lines += [f"link {a} {b} {delay}" for a, b, delay in given.tree.links]
+    lines += [f"member {member['node']}" for member in table["member"]]
+    lines += [f"draws {len(draws)} {every}"]
+    lines += [f"session {session['at']}" for session in table["session"]]
+    if cycle:
+        lines.append(f"cycle {cycle[0]} {cycle[1]}")
+    else:
+        links = [drop["link"] for drop in table["drop"]]
+        assert len(links) == len(set(links)), "ns-2 drops one packet at a link"
+        lines += [f"drop {drop['link']} {drop['count']}" for drop in table["drop"]]
+    return "\n".join([*lines, *(f"rule {rule}" for rule in rules), ""])
+
+
+# ---- families ------------------------------------------------------------------
+
+def from_words(words):
+    return build(parser().parse_args(words.split())).text()
+
+
+def one_loss_on_a_chain(rng):
+    size = rng.randint(3, 30)
+    return from_words(f"chain --size {size} --delay {2 * rng.randint(1, 20)} --every 1000 --no-session "
+                      f"--drop-link hops:{rng.randint(1, size - 1)} {constants(rng)}")
+
+
+def one_loss_on_a_star(rng):
+    size = rng.randint(4, 20)
+    link = rng.randint(0, size - 2)
+    return from_words(f"star --size {size} --delay {2 * rng.randint(1, 20)} --every 1000 --no-session "
+                      f"--drop-link {link} {constants(rng)}")
+
+
+def one_loss_on_a_regular_tree(rng):
+    return from_words(f"tree --size {rng.randint(4, 40)} --degree {rng.randint(3, 5)} --delay {2 * rng.randint(1, 20)} "
+                      f"--every 1000 --no-session --drop-link random --seed {rng.randrange(10**6)} {constants(rng)}")
+
+
+def random_tree(rng):
+    """A random tree with random even delays, so that half of a timer is a whole number."""
+    made = tree.random_labelled(rng.randint(3, 25), 2, rng)
+    return tree.Tree(made.nodes, tuple((a, b, 2 * rng.randint(1, 50)) for a, b, _ in made.links))
+
+
+def scenario(rng, made, lost, draws, every, sessions=()):
+    """Members on all nodes, the source on a random one; `lost` random links lose a random draw each."""
+    nodes = list(range(made.nodes))
+    source = nodes.pop(rng.randrange(made.nodes))
+    links = rng.sample(sorted(links_in_use(made, source, nodes)), min(lost, made.nodes - 1))
+    last = draws if sessions or lost > 1 else draws - 1  # alone, the loss of the last draw would show to nobody
+    drops = [(link, rng.randrange(last)) for link in links]
+    c1, d1 = rng.choice(CONSTANTS)
+    farthest = 2 * max(made.distances(source).values())
+    until = draws * every + max([0, *sessions]) + 200 * (2 + c1 + d1) * farthest
+    return Scenario(made, [(source, "sender"), *((node, "receiver") for node in nodes)], until,
+                    1000 * c1, 0, 1000 * d1, 0, [place * every for place in range(draws)],
+                    [(draws - 1) * every + after for after in sessions], drops).text()
+
+
+def one_loss_on_a_random_tree(rng):
+    return scenario(rng, random_tree(rng), 1, 2, 1000)
+
+
+def losses_at_several_links(rng):
+    """Different draws are lost at different links, at once: the source sends no repair before its last draw."""
+    return scenario(rng, random_tree(rng), rng.randint(2, 6), rng.randint(2, 4), 1)
+
+
+def loss_found_by_a_session_message(rng):
+    return scenario(rng, random_tree(rng), 1, 1, 1, [100])
+
+
+CONSTANTS = [(1, 1), (2, 1), (3, 1), (1, 2), (3, 2), (5, 3)]
+
+
+def constants(rng):
+    c1, d1 = rng.choice(CONSTANTS)
+    return f"--c1 {c1} --c2 0 --d1 {d1} --d2 0"
+
+
+FAMILIES = {
+    one_loss_on_a_chain: 40, one_loss_on_a_star: 30, one_loss_on_a_regular_tree: 40, one_loss_on_a_random_tree: 60,
+    losses_at_several_links: 60, loss_found_by_a_session_message: 30,
+}
+
+
+# ---- comparing -----------------------------------------------------------------
+
+def explain(programs, text, ours):
+    """The fewest rules with which ns-2 does what srm_lab did, or None."""
+    for count in range(len(RULES) + 1):
+        for rules in combinations(RULES, count):
+            if count and programs.ns2(text, rules).same(ours):
+                return rules
+        if count == 1 and not programs.ns2(text, RULES).same(ours):
+            return None
+    return None
+
+
+def simultaneous(text, ours_trace):
+    """Whether two packets about one name come to a member at one tick: then srm_lab takes them by sender."""
+    seen, about = set(), {}
+    for row in read_trace(ours_trace.splitlines()):
+        if row.sent != "-":
+            about[row.sent] = row.ref
+        if row.cause in ("request", "repair", "data"):
+            key = row.time, row.member, about[row.ref]
+            if key in seen:
+                return True
+            seen.add(key)
+    return False
+
+
+def compare_families(programs, only, rows):
+    """Runs every scenario of every family; how many differences stay unexplained."""
+    open_ones = 0
+    for make, count in FAMILIES.items():
+        if only not in make.__name__:
+            continue
+        rng = random.Random(make.__name__)
+        told = {}
+        for place in range(count):
+            text = make(rng)
+            ours, theirs = programs.ours(text), programs.ns2(text)
+            why = "same"
+            if not ours.same(theirs):
+                rules = explain(programs, text, ours)
+                if rules is not None:
+                    why = " + ".join(rules)
+                elif simultaneous(text, programs._srm_lab(text, 0, "trace")):
+                    why = "packets at one tick"
+                else:
+                    why, open_ones = "unexplained", open_ones + 1
+                    sys.stderr.write(f"{make.__name__} {place}:\n{text}\n")
+            told[why] = told.get(why, 0) + 1
+            rows.append([make.__name__, place, len(ours.losses), *counts(ours), *counts(theirs), why,
+                         f"{ours.seconds:.4f}", f"{theirs.seconds:.4f}", f"{theirs.processor:.4f}"])
+        print(f"{make.__name__.replace('_', ' ')}: {count} scenarios; "
+              + ", ".join(f"{number} {why}" for why, number in sorted(told.items(), key=lambda one: -one[1])))
+    return open_ones
+
+
+def counts(result):
+    """How many requests and how many repairs were sent."""
+    asks = sum(1 for one in result.sent if one[2] == "ask")
+    return asks, len(result.sent) - asks
+
+
+def compare_differences(programs):
+    """Shows each rule by its scenario of ns2/differences; how many do not show it.
+
+    There both programs differ; with all rules of srm_lab ns-2 does the same; with all but this one it does not.
+    """
+    wrong = 0
+    for rule, told in RULES.items():
+        path = HERE / f"ns2/differences/{rule}.toml"
+        text = path.read_text()
+        ours, theirs = programs.ours(text), programs.ns2(text)
+        others = [other for other in RULES if other != rule]
+        right = (not ours.same(theirs) and programs.ns2(text, RULES).same(ours)
+                 and not programs.ns2(text, others).same(ours))
+        wrong += not right
+        alone = " alone" if programs.ns2(text, [rule]).same(ours) else " and others"
+        print(f"{rule}: {told}")
+        print(f"    {path.name}: srm_lab sends {said(ours)}, ns-2 {said(theirs)}; "
+              + (f"with this rule{alone} ns-2 does as srm_lab" if right else "NOT AS STATED"))
+    return wrong
+
+
+def said(result):
+    asks, answers = counts(result)
+    last = max((at for _, at in result.losses.values() if at is not None), default=0)
+    return f"{asks} request{'s' * (asks != 1)} and {answers} repair{'s' * (answers != 1)}, last recovery at {last:g}"
+
+
+def compare_star(programs, members=33, lost=40, seeds=5):
+    """Mean requests of a star with random timers; the time of both programs."""
+    print(f"star of {members} members, {members - 1} losers, {seeds} seeds of {lost} losses: "
+          "mean requests for a loss; seconds for all seeds")
+    print(f"{'C2':>4} {'srm_lab':>8} {'ns-2':>8} {'1+(G-2)/C2':>11} {'apart':>7} {'srm_lab s':>10} {'ns-2 s':>8}")
+    for c2 in (2, 4, 8, 16, 32):
+        means, spent = [], []
+        text = from_words(f"star --size {members + 1} --delay 1000 --draws {2 * lost} --drop-every 2 --no-session "
+                          f"--drop-link adjacent --c1 2 --c2 {c2} --d1 1 --d2 0 --until 2000000")
+        for run in (lambda seed: programs.ours(text, seed), lambda seed: programs.ns2(text, (), seed, (0, 2))):
+            results = [run(seed) for seed in range(1, seeds + 1)]
+            means.append(sum(counts(result)[0] for result in results) / (seeds * lost))
+            spent.append(sum(result.seconds for result in results))
+        print(f"{c2:4} {means[0]:8.3f} {means[1]:8.3f} {1 + (members - 2) / c2:11.3f} {means[0] / means[1] - 1:+7.1%} "
+              f"{spent[0]:10.2f} {spent[1]:8.2f}")
+
+
+def main():
+    words = argparse.ArgumentParser(description=__doc__, formatter_class=argparse.RawDescriptionHelpFormatter)
+    words.add_argument("program")
+    words.add_argument("--only", default="", help="a part of a family's name; then nothing else is run")
+    words.add_argument("--table", type=Path, help="where a CSV row for each scenario is written")
+    options = words.parse_args()
+    programs, rows = Programs(options.program), []
+    wrong = compare_families(programs, options.only, rows)
+    if options.table:
+        options.table.parent.mkdir(parents=True, exist_ok=True)
+        with open(options.table, "w", newline="") as out:
+            csv.writer(out, lineterminator="\n").writerows([
+                ["family", "place", "losses", "requests", "repairs", "ns2_requests", "ns2_repairs", "difference",
+                 "seconds", "ns2_seconds", "ns2_run_seconds"], *rows])
+    print(f"{len(rows)} scenarios: {sum(row[7] == 'same' for row in rows)} the same, "
+          f"{sum(row[7] not in ('same', 'unexplained') for row in rows)} explained, {wrong} not")
+    print(f"seconds for all: srm_lab {sum(float(row[8]) for row in rows):.2f}, "
+          f"ns-2 {sum(float(row[9]) for row in rows):.2f}, {sum(float(row[10]) for row in rows):.2f} of them its runs")
+    if not options.only:
+        wrong += compare_differences(programs)
+        compare_star(programs)
+    return 1 if wrong else 0
+
+
+if __name__ == "__main__":
+    sys.exit(main())

@@ -1,0 +1,78 @@
+# What stands beside the proved crates: generators of scenarios, sweeps, figures, a check against ns-2.
+# All of it needs the packages in experiments/packages.txt, and Debian's own Python.
+PYTHON ?= /usr/bin/python3
+SRM_LAB ?= $(PROGRAM)
+
+.PHONY: experiments-packages check-experiments
+
+# installs the Debian packages that experiments need
+experiments-packages:
+	apt-get install -y --no-install-recommends $$(cat experiments/packages.txt)
+
+# runs a linter over all Python code here, the tests, and every command of the tutorial
+check-experiments: $(SRM_LAB)
+	cd experiments && flake8 .
+	cd experiments && SRM_LAB=$(abspath $(SRM_LAB)) $(PYTHON) -m pytest -q -p no:cacheprovider
+	$(PYTHON) experiments/check_tutorial.py $(SRM_LAB) docs/TUTORIAL.md
+
+.PHONY: picture
+# draws a run: make picture SCENARIO=examples/star-loss-at-one-member.toml > star.svg
+picture: $(SRM_LAB)
+	@trace=$$(mktemp) && trap 'rm -f "$$trace"' EXIT && $(SRM_LAB) < $(SCENARIO) > "$$trace" && \
+		PYTHONPATH=experiments $(PYTHON) -m srm_scenarios.picture $(SCENARIO) "$$trace"
+
+CONFIG ?= config.yaml
+JOBS ?= $(shell nproc)
+# only one sweep at a time; the lock is the process's, so that a sweep that was killed leaves none behind
+SNAKEMAKE = cd experiments && mkdir -p results && flock --verbose --nonblock --conflict-exit-code 3 results/.lock \
+	snakemake --nolock --rerun-incomplete --keep-going --show-failed-logs --configfile $(CONFIG)
+
+.PHONY: experiments experiments-slurm
+# makes the tables and figures of CONFIG under experiments/results; what is there already is kept
+experiments: $(SRM_LAB)
+	$(SNAKEMAKE) --cores $(JOBS) --config program=$(abspath $(SRM_LAB))
+
+# the same, its runs submitted to Slurm: fifty in a job, of which as many run side by side as the job has processors;
+# the directory has to be one that all nodes share
+experiments-slurm: CORES ?= 4
+experiments-slurm: $(SRM_LAB)
+	$(SNAKEMAKE) --jobs $(JOBS) --cores $(CORES) --config program=$(abspath $(SRM_LAB)) \
+		--group-components runs=50 --latency-wait 60 \
+		--cluster "sbatch --parsable --cpus-per-task={threads} --output=$(abspath experiments)/.snakemake/slurm-%j.log"
+
+# ---- a program that installs ---------------------------------------------------
+SHARE = $(DESTDIR)$(PREFIX)/share
+VERSION ?= $(shell git describe --tags --always)
+DIST = srm_lab-$(VERSION)
+
+.PHONY: install-shared dist compare-ns2
+
+# `make install` puts the program in place, and with it these
+install: install-shared
+
+install-shared:
+	install -D -m 644 man/srm_lab.1 $(SHARE)/man/man1/srm_lab.1
+	install -D -m 644 completions/srm_lab.bash $(SHARE)/bash-completion/completions/srm_lab
+	install -D -m 644 completions/_srm_lab $(SHARE)/zsh/site-functions/_srm_lab
+	install -D -m 644 completions/srm_lab.fish $(SHARE)/fish/vendor_completions.d/srm_lab.fish
+	mkdir -p $(SHARE)/doc/srm_lab
+	cp -r --no-preserve=mode README.md docs examples $(SHARE)/doc/srm_lab/
+
+# packs the program with its man page, completions, examples and docs: out/srm_lab-VERSION.tar.gz, for machines without
+# the toolchain; the same files give the same bytes
+dist: $(PROGRAM)
+	rm -rf out/$(DIST) && mkdir -p out
+	$(MAKE) --no-print-directory install PREFIX= DESTDIR=$(abspath out/$(DIST))
+	strip out/$(DIST)/bin/srm_lab
+	tar -C out --sort=name --owner=0 --group=0 --numeric-owner --mtime=@$$(git log -1 --format=%ct) -cf - $(DIST) \
+		| gzip -n9 > out/$(DIST).tar.gz
+	@echo out/$(DIST).tar.gz
+
+# runs scenarios in srm_lab and in ns-2, and explains each difference
+compare-ns2: $(SRM_LAB)
+	cd experiments && $(PYTHON) -u compare_ns2.py $(abspath $(SRM_LAB)) --table results/compare-ns2.csv
+
+.PHONY: experiments-figures
+# puts the figures of the last `make experiments` where docs/EXPERIMENTS.md shows them
+experiments-figures:
+	install -D -m 644 -t docs/figures experiments/results/figures/*.svg
