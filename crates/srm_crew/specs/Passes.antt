@@ -61,7 +61,8 @@ module _ {T : Type 0} where
   -- what a take tells: the item put at a place, greater than all in the list, to which it goes; at nothing, a whole pass took all
   abbrev pub TellsTake : PassView T → Option T → PassView T → Type 0
   TellsTake old None new = (new ≡ old) × (old.weight ≡ 65536 → EachOnce old.taken (length old.put))
-  TellsTake old (Some x) new = (place : ℕ) × (new ≡ with_taken old place) × (slice_get old.put place ≡ Some x) × AllBelow old.taken place × IsFit new
+  TellsTake old (Some x) new = (place : ℕ) × (new ≡ with_taken old place) × (slice_get old.put place ≡ Some x)
+      × AllBelow old.taken place × IsFit new
 
   -- why a bag is not emptied
   abbrev pub RefusesEmpty : PassView T → EmptyFault → Type 0
@@ -70,5 +71,6 @@ module _ {T : Type 0} where
 
   -- what emptying a bag tells: the list, with each place put once; or bag and pass back as they were
   abbrev pub TellsEmpty : BagView → PassView T → Result Taken (BagView × PassView T × EmptyFault) → Type 0
-  TellsEmpty b p (Ok t) = (p.weight ≡ 65536) × (t.places ≡ p.taken) × (length p.taken ≡ length p.put) × EachOnce p.taken (length p.put)
+  TellsEmpty b p (Ok t) = (p.weight ≡ 65536) × (t.places ≡ p.taken) × (length p.taken ≡ length p.put)
+      × EachOnce p.taken (length p.put)
   TellsEmpty b p (Err e) = (e.0 ≡ b) × (e.1 ≡ p) × RefusesEmpty p e.2

@@ -58,7 +58,8 @@ pub record Kept {T : Type 0} (items : List (Spot T)) (views : List (Hold T)) : T
   pub put : List T
   pub popped : ℕ
   pub behind : popped + length items ≡ length put
-  pub queued : (k : ℕ) (x : Spot T) → get_elem? items k ≡ some x → (x.place ≡ popped + k) × (slice_get put (popped + k) ≡ Some x.item)
+  pub queued : (k : ℕ) (x : Spot T) → get_elem? items k ≡ some x → (x.place ≡ popped + k)
+      × (slice_get put (popped + k) ≡ Some x.item)
   pub whole : total weight_of views ≡ 65536
   pub counted : total count_of views ≡ popped
   pub once : (p : ℕ) → p < popped → total (times_of p) views ≡ 1
@@ -71,7 +72,9 @@ module _ {T : Type 0} where
   puts v x w = w ≡ hold_of v.weight (v.put ++ x.item ∷ []) v.taken
 
   abbrev pub takes : Hold T → Spot T → Hold T → Type 0
-  takes v x w = (w ≡ hold_of v.weight v.put (v.taken ++ x.place ∷ [])) × (slice_get v.put x.place ≡ Some x.item) × AllBelow v.taken x.place × (length v.taken < length v.put) × EachAtMostOnce (v.taken ++ x.place ∷ []) (length v.put)
+  takes v x w = (w ≡ hold_of v.weight v.put (v.taken ++ x.place ∷ [])) × (slice_get v.put x.place ≡ Some x.item)
+      × AllBelow v.taken x.place × (length v.taken < length v.put)
+      × EachAtMostOnce (v.taken ++ x.place ∷ []) (length v.put)
 
 module _ {T : Type 0} where
   -- no more is queued than was put
@@ -80,7 +83,8 @@ module _ {T : Type 0} where
 
   -- where the whole pass looks, all that is not queued is in its list
   abbrev pub rests : Hold T → List (Spot T) → Type 0
-  rests v items = v.weight ≡ 65536 → (length v.taken + length items ≡ length v.put) × (length items ≡ 0 → EachOnce v.taken (length v.put))
+  rests v items = v.weight ≡ 65536 → (length v.taken + length items ≡ length v.put)
+      × (length items ≡ 0 → EachOnce v.taken (length v.put))
 
   -- a pass weighs no more than the whole, took no place twice, and took no more places than were put
   abbrev pub fits : Hold T → List (Spot T) → Type 0

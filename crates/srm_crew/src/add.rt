@@ -32,7 +32,8 @@ fn kind_at(place: usize) -> Kind
 fn add_totals(ledger: &Ledger, seat: &mut Seat, totals: &Totals) -> Result<(), ShareFull>
     requires seat { seat.old.ledger ≡ ledger.now.name }
     requires long { length totals.now ≡ 5 * ledger.now.links }
-    ensures { MatchResult result (λ _. HasGrown (word_of totals.now) seat.old seat.new) (λ _. IsPast (word_of totals.now) seat.old) }
+    ensures { MatchResult result (λ _. HasGrown (word_of totals.now) seat.old seat.new)
+        (λ _. IsPast (word_of totals.now) seat.old) }
 {
     for i in 0..5 * ledger.links() {
         let link = i / 5;
@@ -49,7 +50,8 @@ fn add_totals(ledger: &Ledger, seat: &mut Seat, totals: &Totals) -> Result<(), S
 fn add_crossings(ledger: &Ledger, seat: &mut Seat, crossings: &Crossings) -> Result<(), ShareFull>
     requires seat { seat.old.ledger ≡ ledger.now.name }
     requires long { length crossings.now ≡ 5 * ledger.now.links }
-    ensures { MatchResult result (λ _. HasGrown (word_of crossings.now) seat.old seat.new) (λ _. IsPast (word_of crossings.now) seat.old) }
+    ensures { MatchResult result (λ _. HasGrown (word_of crossings.now) seat.old seat.new)
+        (λ _. IsPast (word_of crossings.now) seat.old) }
 {
     match crossings.counted() {
         None => Ok(()),
@@ -61,7 +63,8 @@ fn add_crossings(ledger: &Ledger, seat: &mut Seat, crossings: &Crossings) -> Res
 pub(crate) fn add_each(ledger: &Ledger, seat: &mut Seat, all: &[Done]) -> Result<(), ShareFull>
     requires seat { seat.old.ledger ≡ ledger.now.name }
     requires long { All (λ d. length d.crossings ≡ 5 * ledger.now.links) all.now }
-    ensures { MatchResult result (λ _. HasGrown (λ k. sum_at k all.now) seat.old seat.new) (λ _. IsPast (λ k. sum_at k all.now) seat.old) }
+    ensures { MatchResult result (λ _. HasGrown (λ k. sum_at k all.now) seat.old seat.new)
+        (λ _. IsPast (λ k. sum_at k all.now) seat.old) }
 {
     for done in all {
         match add_crossings(ledger, seat, &done.crossings) {
@@ -79,8 +82,11 @@ pub(crate) fn settle(
     advanced: Result<Vec<Done>, CellFault>,
 ) -> Result<(Vec<Done>, Seat), CrewFault>
     requires seat { seat.ledger ≡ ledger.now.name }
-    requires known { (s : Traffic) × (ps : List PlainJob) × (s.links ≡ ledger.now.links) × TellsEach (λ b. (⟦<dyn Member as Member>⟧ b.vtable).plain b.value) s ps advanced }
-    ensures { (s : Traffic) (ps : List PlainJob) → s.links ≡ ledger.now.links → TellsEach (λ b. (⟦<dyn Member as Member>⟧ b.vtable).plain b.value) s ps advanced → TellsMap (λ b. (⟦<dyn Member as Member>⟧ b.vtable).plain b.value) s seat ps result }
+    requires known { (s : Traffic) × (ps : List PlainJob) × (s.links ≡ ledger.now.links)
+        × TellsEach (λ b. (⟦<dyn Member as Member>⟧ b.vtable).plain b.value) s ps advanced }
+    ensures { (s : Traffic) (ps : List PlainJob) → s.links ≡ ledger.now.links
+        → TellsEach (λ b. (⟦<dyn Member as Member>⟧ b.vtable).plain b.value) s ps advanced
+        → TellsMap (λ b. (⟦<dyn Member as Member>⟧ b.vtable).plain b.value) s seat ps result }
 {
     let all = match advanced {
         Ok(all) => all,

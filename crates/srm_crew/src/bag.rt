@@ -97,7 +97,8 @@ impl<T> Bag<T> {
         pass: Pass<T>,
     ) -> Result<(Pass<T>, Pass<T>), (Pass<T>, SplitFault)>
         requires { pass.bag ≡ self.now.name }
-        ensures { MatchResult result (λ h. (2 ≤ pass.weight) × (h.0 ≡ half_with_list pass) × (h.1 ≡ half_without pass)) (λ e. (e.0 ≡ pass) × (e.1 ≡ SplitFault.TooManySeats ↔ pass.weight ≡ 1)) }
+        ensures { MatchResult result (λ h. (2 ≤ pass.weight) × (h.0 ≡ half_with_list pass)
+            × (h.1 ≡ half_without pass)) (λ e. (e.0 ≡ pass) × (e.1 ≡ SplitFault.TooManySeats ↔ pass.weight ≡ 1)) }
     {
         if pass.weight < 2 {
             return Err((pass, SplitFault::TooManySeats));

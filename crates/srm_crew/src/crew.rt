@@ -32,16 +32,20 @@ pub trait Crew {
         jobs: Vec<Job>,
     ) -> Result<(Vec<Done>, Seat), CrewFault>
         requires ready { ready self.old }
-        requires jobs { All (λ j. MayAdvance (λ b. (⟦<dyn Member as Member>⟧ b.vtable).plain b.value) (length net.now.hosts) j) jobs.items }
+        requires jobs { All (λ j. MayAdvance (λ b. (⟦<dyn Member as Member>⟧ b.vtable).plain b.value)
+            (length net.now.hosts) j) jobs.items }
         requires many { length jobs.items ≤ 1024 }
         requires places { map (λ j. j.place) jobs.items ≡ range_with_len 0 (length jobs.items) }
         requires links { ledger.now.links ≡ length net.now.links }
         requires seat { seat.ledger ≡ ledger.now.name }
         ensures ready { ready self.new }
         ensures done { Maps (λ b. (⟦<dyn Member as Member>⟧ b.vtable).plain b.value) scenario.now net.now seat jobs.items result }
-        ensures handed { IfOk result (λ _. (ps : List PlainJob) → AreJobs (λ b. (⟦<dyn Member as Member>⟧ b.vtable).plain b.value) jobs.items ps → handed self.old (ps ∷ []) self.new) };
+        ensures handed { IfOk result (λ _. (ps : List PlainJob)
+            → AreJobs (λ b. (⟦<dyn Member as Member>⟧ b.vtable).plain b.value) jobs.items ps
+            → handed self.old (ps ∷ []) self.new) };
 
     ghost handed_none: { (c : Self) → handed c [] c };
 
-    ghost handed_more: { (a b c : Self) (xs ys : List (List PlainJob)) → handed a xs b → handed b ys c → handed a (xs ++ ys) c };
+    ghost handed_more: { (a b c : Self) (xs ys : List (List PlainJob)) → handed a xs b → handed b ys c
+        → handed a (xs ++ ys) c };
 }

@@ -24,7 +24,14 @@ impl<T> Model for Pass<T> {
 
     ghost Value = { PassView T };
 
-    ghost view = { λ p. record { bag = p.hold.table_id; weight = p.weight; put = (known p.hold).put; taken = p.taken.items } };
+    ghost view = { λ p. record {
+      bag = p.hold.table_id;
+      weight = p.weight;
+      put = (known p.hold).put;
+      taken = p.taken.items;
+    } };
 
-    ghost invariant = { λ p. (p.hold.me.1 ≡ []) × (known p.hold ≡ hold_of p.weight (known p.hold).put p.taken.items) × (p.puts ≡ length (known p.hold).put) × (p.puts ≤ p.room) × (p.room ≤ vec_capacity p.taken) × (p.room ≡ p.hold.table_id.slots) × (1 ≤ p.weight) × (p.weight ≤ 65536) };
+    ghost invariant = { λ p. (p.hold.me.1 ≡ []) × (known p.hold ≡ hold_of p.weight (known p.hold).put p.taken.items)
+        × (p.puts ≡ length (known p.hold).put) × (p.puts ≤ p.room) × (p.room ≤ vec_capacity p.taken)
+        × (p.room ≡ p.hold.table_id.slots) × (1 ≤ p.weight) × (p.weight ≤ 65536) };
 }

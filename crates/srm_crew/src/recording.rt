@@ -50,7 +50,8 @@ impl Recording {
 
 // A note of each job.
 fn notes(alloc: Global, jobs: &[Job]) -> Result<Sequence<Note>, AllocError>
-    ensures { IfOk result (λ v. (ps : List PlainJob) → AreJobs (λ b. (⟦<dyn Member as Member>⟧ b.vtable).plain b.value) jobs.now ps → v ≡ notes_of ps) }
+    ensures { IfOk result (λ v. (ps : List PlainJob)
+        → AreJobs (λ b. (⟦<dyn Member as Member>⟧ b.vtable).plain b.value) jobs.now ps → v ≡ notes_of ps) }
 {
     let mut all = Sequence::new(alloc);
     for job in jobs {

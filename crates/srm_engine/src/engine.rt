@@ -37,7 +37,8 @@ impl<'a> Engine<'a> {
         requires network { net.now ≡ network_of scenario.now }
         requires boxes { (seed : ℕ) × HoldOpeningRecords scenario.now net.now seed (map (λ b. plain b) members.items) }
         ensures given { IfOk result (λ e. (e.scenario.now ≡ scenario.now) × (e.net.now ≡ net.now)) }
-        ensures opened { IfOk result (λ e. OpensFrom (λ b. plain b) scenario.now net.now (map (λ b. plain b) members.items) e) }
+        ensures opened { IfOk result (λ e. OpensFrom (λ b. plain b) scenario.now net.now
+            (map (λ b. plain b) members.items) e) }
     {
         let totals = Totals::new(alloc, net.links().len() as u16)?;
         let cells = Cells::open(alloc, scenario, members)?;

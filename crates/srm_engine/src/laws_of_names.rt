@@ -22,11 +22,14 @@ pub fn repairs_are_of_held()
 /// A worked run: a packet is lost, and its operation is asked for and repaired. The lost packet is handed to nobody; the second
 /// one, the request and the repair are handed once to the other member, and never to their sender.
 pub fn a_loss_is_repaired()
-    ensures handed { handings (one_loss 1000) ((0, 0, 1) ∷ (0, 1, 1) ∷ (0, 1, 0) ∷ (1, 0, 0) ∷ (0, 2, 1) ∷ (0, 3, 1) ∷ []) ≡ 0 ∷ 1 ∷ 0 ∷ 1 ∷ 1 ∷ 0 ∷ [] }
-    ensures ends { ends (one_loss 1000) ≡ an_exit 0 ((first, 7) ∷ (second, 8) ∷ []) [] ∷ an_exit 1 ((first, 7) ∷ (second, 8) ∷ []) [] ∷ [] }
+    ensures handed { handings (one_loss 1000)
+        ((0, 0, 1) ∷ (0, 1, 1) ∷ (0, 1, 0) ∷ (1, 0, 0) ∷ (0, 2, 1) ∷ (0, 3, 1) ∷ []) ≡ 0 ∷ 1 ∷ 0 ∷ 1 ∷ 1 ∷ 0 ∷ [] }
+    ensures ends { ends (one_loss 1000) ≡ an_exit 0 ((first, 7) ∷ (second, 8) ∷ []) []
+        ∷ an_exit 1 ((first, 7) ∷ (second, 8) ∷ []) [] ∷ [] }
 {}
 
 /// The same run, cut short before the repair: the operation stays missing.
 pub fn a_loss_stays()
-    ensures { ends (one_loss 15) ≡ an_exit 0 ((first, 7) ∷ (second, 8) ∷ []) [] ∷ an_exit 1 ((second, 8) ∷ []) (first ∷ []) ∷ [] }
+    ensures { ends (one_loss 15) ≡ an_exit 0 ((first, 7) ∷ (second, 8) ∷ []) []
+        ∷ an_exit 1 ((second, 8) ∷ []) (first ∷ []) ∷ [] }
 {}

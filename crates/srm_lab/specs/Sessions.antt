@@ -33,7 +33,8 @@ TellsSession p net seed o old new (Err fault.NoMemory) = Keeps old new
 -- the count of a feed's failures after a session: one more exactly where the answer is that it failed
 abbrev pub reading_failures : {T : Type 0} → Result T Fault → ℕ → ℕ
 reading_failures (Ok v) n = n
-reading_failures (Err (fault.Scenario f)) n = let r : Result PlainScenario ScenarioFault = Err f in faults.failures_after r n
+reading_failures (Err (fault.Scenario f)) n =
+    let r : Result PlainScenario ScenarioFault = Err f in faults.failures_after r n
 reading_failures (Err (fault.Line f)) n = n
 reading_failures (Err (fault.Lab f)) n = n
 reading_failures (Err fault.NoMemory) n = n

@@ -48,7 +48,8 @@ IsFirst index None = index ≡ []
 IsFirst index (Some d) = (has index d ≡ true) × ((e : Due) → has index e ≡ true → is_gt (due_cmp d e) ≡ false)
 
 -- the keys of both tables rise, and the index has a timer exactly where it is pending
-pub record IsIndexed (index : List Due) (missing : List (Name × Missing)) (repairs : List (Name × Repairing)) : Type 0 where
+pub record IsIndexed (index : List Due) (missing : List (Name × Missing))
+    (repairs : List (Name × Repairing)) : Type 0 where
   pub missing_rise : Rises missing
   pub repairs_rise : Rises repairs
   pub timers : (d : Due) → has index d ≡ is_at_time d.time (expiry_of missing repairs d.rank d.name)

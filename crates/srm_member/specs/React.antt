@@ -68,7 +68,10 @@ abbrev pub back_off : ℕ → Name → Missing → Memory → Memory
 back_off at n e m =
     let i = min (e.backoffs + 1) 10 in
     let len = request_length m i n in
-    record (with_next_word m) { missing = put name_cmp n (record { detected = e.detected; expiry = at + len; backoffs = i; ignore = at + len / 2 }) m.missing }
+    record (with_next_word m) {
+      missing = put name_cmp n
+          (record { detected = e.detected; expiry = at + len; backoffs = i; ignore = at + len / 2 }) m.missing;
+    }
 
 -- ---- streams and losses
 
@@ -87,7 +90,8 @@ begins_at m p begin = if is_late m.fixed.role && not (wants m p.page) then begin
 
 -- meet a page: its entry, which is made where there is none
 abbrev pub meet : Memory → PageId → ℕ → Stream
-meet m p begin = unwrap_or (find page_cmp p m.streams) (record { floor = begins_at m p begin; next = begins_at m p begin })
+meet m p begin = unwrap_or (find page_cmp p m.streams)
+    (record { floor = begins_at m p begin; next = begins_at m p begin })
 
 -- after the page's entry is set
 abbrev pub with_stream : PageId → Stream → Memory → Memory
@@ -96,7 +100,10 @@ with_stream p s m = record m { streams = put page_cmp p s m.streams }
 -- a loss: the name is missing, with a new request timer. A request for it backs off at once
 abbrev pub lose_one : ℕ → Name → Memory → Memory
 lose_one at n m =
-    record (with_next_word m) { missing = put name_cmp n (record { detected = at; expiry = at + request_length m 0 n; backoffs = 0; ignore = at }) m.missing }
+    record (with_next_word m) {
+      missing = put name_cmp n
+          (record { detected = at; expiry = at + request_length m 0 n; backoffs = 0; ignore = at }) m.missing;
+    }
 
 -- after the loss of `count` names of a page from number k on
 unfoldable pub lose_from : ℕ → PageId → ℕ → ℕ → Memory → Memory
@@ -110,7 +117,8 @@ names_from p (suc count) k = name_in p k ∷ names_from p count (suc k)
 
 -- lose every number below n that was not heard of; from there on the next number is this
 unfoldable pub lose_below : ℕ → PageId → ℕ → ℕ → Stream → Memory → Memory
-lose_below at p n next s m = with_stream p (record { floor = s.floor; next = next }) (lose_from at p (n - s.next) s.next m)
+lose_below at p n next s m = with_stream p (record { floor = s.floor; next = next })
+    (lose_from at p (n - s.next) s.next m)
 
 -- the names that are lost by that
 abbrev pub lost_below : PageId → ℕ → Stream → List Name
@@ -131,7 +139,9 @@ unfoldable pub got : ℕ → Name → ℕ → Memory → Reaction
 got at n ink m =
     let s = meet m (page_of n) n.number in
     if nat_lt n.number s.floor then quietly (with_stream (page_of n) s m) Skip []
-    else if nat_le s.next n.number then quietly (holding n ink (lose_below at (page_of n) n.number (n.number + 1) s m)) Fresh (lost_below (page_of n) n.number s)
+    else if nat_le s.next n.number then
+    quietly (holding n ink (lose_below at (page_of n) n.number (n.number + 1) s m)) Fresh
+    (lost_below (page_of n) n.number s)
     else if has_entry n m.missing then quietly (mending n ink (with_stream (page_of n) s m)) Fixed []
     else quietly (with_stream (page_of n) s m) Again []
 
@@ -143,7 +153,8 @@ requester_or who (Some r) = r.requester
 -- the base of a name's rest: the distance to its source; at the source itself the distance to the requester of the pending
 -- repair timer, or without one to the member that sent the repair
 abbrev pub base : Memory → Name → ℕ → ℕ
-base m n who = distance_to m (if n.source == m.fixed.member then requester_or who (find name_cmp n m.repairs) else n.source)
+base m n who = distance_to m
+    (if n.source == m.fixed.member then requester_or who (find name_cmp n m.repairs) else n.source)
 
 -- after a repair by this member, which ends a pending repair timer
 abbrev pub resting : ℕ → Name → ℕ → Memory → Memory
@@ -163,12 +174,16 @@ got_repair at n ink who m =
 -- plan a repair, for a request of this member
 abbrev pub planning : ℕ → Name → ℕ → Memory → Memory
 planning at n who m =
-    record (with_next_word m) { repairs = put name_cmp n (record { expiry = at + repair_length m who; requester = who }) m.repairs }
+    record (with_next_word m) {
+      repairs = put name_cmp n
+          (record { expiry = at + repair_length m who; requester = who }) m.repairs;
+    }
 
 -- a request for a name that is missing
 abbrev pub asked_missing_at : ℕ → Name → List Name → Memory → Option Missing → Reaction
 asked_missing_at at n lost m None = quietly m Hold lost
-asked_missing_at at n lost m (Some e) = if nat_lt at e.ignore then quietly m Hold lost else quietly (back_off at n e m) Back lost
+asked_missing_at at n lost m (Some e) = if nat_lt at e.ignore then quietly m Hold lost
+    else quietly (back_off at n e m) Back lost
 
 -- a request for a name that is not held
 abbrev pub asked_missing : ℕ → Name → List Name → Memory → Reaction
@@ -188,7 +203,8 @@ requested at n who m0 =
     let m = with_stream (page_of n) s m0 in
     if nat_lt n.number s.floor then quietly m Skip []
     else if has_entry n m.held then asked_held at n who m
-    else if nat_le s.next n.number then asked_missing at n (lost_below (page_of n) (n.number + 1) s) (lose_below at (page_of n) (n.number + 1) (n.number + 1) s m)
+    else if nat_le s.next n.number then asked_missing at n (lost_below (page_of n) (n.number + 1) s)
+    (lose_below at (page_of n) (n.number + 1) (n.number + 1) s m)
     else asked_missing at n [] m
 
 -- the page of an entry of a session message
@@ -199,7 +215,8 @@ page_heard h = record { source = h.source; page = h.page }
 unfoldable pub after_entry : ℕ → Heard → Memory → Memory
 after_entry at h m =
     let s = meet m (page_heard h) (h.highest + 1) in
-    if nat_le s.next h.highest then lose_below at (page_heard h) (h.highest + 1) (h.highest + 1) s m else with_stream (page_heard h) s m
+    if nat_le s.next h.highest then lose_below at (page_heard h) (h.highest + 1) (h.highest + 1) s m
+    else with_stream (page_heard h) s m
 
 -- the names that are lost by it: none where the next number is above the highest
 abbrev pub lost_by_entry : Heard → Memory → List Name

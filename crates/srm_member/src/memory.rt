@@ -43,7 +43,15 @@ impl Model for Memory {
 
     ghost Value = { Seen };
 
-    ghost view = { λ t. record { fixed = t.fixed; words = t.words; streams = t.streams; held = t.held; missing = t.pending.0; repairs = t.pending.1; rests = t.rests } };
+    ghost view = { λ t. record {
+      fixed = t.fixed;
+      words = t.words;
+      streams = t.streams;
+      held = t.held;
+      missing = t.pending.0;
+      repairs = t.pending.1;
+      rests = t.rests;
+    } };
 
     ghost invariant = { λ t. IsFit t.fixed };
 }

@@ -12,7 +12,8 @@ abbrev pub tree_of_eight : Network
 tree_of_eight = record {
   nodes = 8;
   links =
-      short_link 1 0 ∷ short_link 2 0 ∷ short_link 3 0 ∷ short_link 4 1 ∷ short_link 5 1 ∷ short_link 6 2 ∷ short_link 7 2 ∷ [];
+      short_link 1 0 ∷ short_link 2 0 ∷ short_link 3 0 ∷ short_link 4 1 ∷ short_link 5 1 ∷ short_link 6 2
+      ∷ short_link 7 2 ∷ [];
   hosts = 0 ∷ 1 ∷ 2 ∷ 3 ∷ 4 ∷ 5 ∷ 6 ∷ 7 ∷ [];
 }
 

@@ -28,7 +28,8 @@ pub record TellsSides (w : Network) (l : ℕ) (k : LinkSpec) (s : Sides) : Type 
 -- each link's sides are told
 abbrev pub TellsAllSides : Network → List Sides → Type 0
 TellsAllSides w sides =
-    (l : ℕ) (k : LinkSpec) → slice_get w.links l ≡ Some k → (s : Sides) × (slice_get sides l ≡ Some s) × TellsSides w l k s
+    (l : ℕ) (k : LinkSpec) → slice_get w.links l ≡ Some k → (s : Sides) × (slice_get sides l ≡ Some s)
+    × TellsSides w l k s
 
 -- each member's least distance is told
 abbrev pub TellsOuts : Network → List (Option ℕ) → Type 0

@@ -63,11 +63,13 @@ sent_text (Some packet) = packet_text packet.id
 
 -- the columns of a trace
 abbrev pub trace_columns : List (List ℕ)
-trace_columns = codes "time" ∷ codes "member" ∷ codes "cause" ∷ codes "ref" ∷ codes "result" ∷ codes "lost" ∷ codes "sent" ∷ []
+trace_columns = codes "time" ∷ codes "member" ∷ codes "cause" ∷ codes "ref" ∷ codes "result" ∷ codes "lost"
+    ∷ codes "sent" ∷ []
 
 -- the fields of a row of a trace
 abbrev pub trace_fields : Row → List (List ℕ)
-trace_fields r = decimal r.key.time ∷ decimal r.key.member ∷ cause_word r.cause ∷ ref_text r.about ∷ told_word r.told ∷ decimal (length r.lost) ∷ sent_text r.sent ∷ []
+trace_fields r = decimal r.key.time ∷ decimal r.key.member ∷ cause_word r.cause ∷ ref_text r.about ∷ told_word r.told
+    ∷ decimal (length r.lost) ∷ sent_text r.sent ∷ []
 
 -- the line of the columns
 unfoldable pub trace_header : List ℕ

@@ -11,7 +11,8 @@ use std::alloc::Global;
 // A text that starts with a line of these columns.
 pub(crate) fn start_lines(alloc: Global, columns: &[&[u8]]) -> Result<Writer<Vec<u8>>, ReportFault>
     ensures between { IfOk result (λ writer. IsBetweenLines writer) }
-    ensures text { IfOk result (λ writer. lines_written writer ≡ row_text default_writer (map (λ c. c.now) columns.now)) }
+    ensures text { IfOk result (λ writer. lines_written writer ≡ row_text default_writer
+        (map (λ c. c.now) columns.now)) }
 {
     let mut writer = Writer::from_writer(Vec::new(alloc));
     match writer.write_fields(columns) {
@@ -27,7 +28,8 @@ pub(crate) fn write_line(
 ) -> Result<(), ReportFault>
     requires { IsBetweenLines writer.old }
     ensures between { OnOk result (IsBetweenLines writer.new) }
-    ensures text { OnOk result (lines_written writer.new ≡ lines_written writer.old ++ row_text default_writer (fields_of record.now)) }
+    ensures text { OnOk result (lines_written writer.new ≡ lines_written writer.old
+        ++ row_text default_writer (fields_of record.now)) }
 {
     match writer.write_byte_record(record) {
         Ok(()) => Ok(()),

@@ -59,7 +59,8 @@ impl Listener {
         m: u16,
     ) -> Result<Self, MemberFault>
         requires { HasRole scenario.now net.now m role.Listener }
-        ensures { MatchResult result (λ s. s ≡ opening_record (fixed_of scenario.now net.now seed m)) (λ e. e ≡ NoMemory) }
+        ensures { MatchResult result (λ s. s ≡ opening_record (fixed_of scenario.now net.now seed m))
+            (λ e. e ≡ NoMemory) }
     {
         let fixed = fixed_of(alloc, scenario, net, seed, m)?;
         Ok(Listener {
@@ -112,7 +113,8 @@ impl Member for Listener {
 
 // What comes of a cause, and the names held after it.
 fn listen(held: &mut Named<u32>, cause: &Cause) -> Result<Told, AllocError>
-    ensures ok { IfOk result (λ told. (m : Memory) → m.held ≡ held.old → react_listener m cause.now ≡ quietly (record m { held = held.new }) told []) }
+    ensures ok { IfOk result (λ told. (m : Memory) → m.held ≡ held.old
+        → react_listener m cause.now ≡ quietly (record m { held = held.new }) told []) }
     ensures err { OnErr result (held.new ≡ held.old) }
 {
     match cause {
@@ -132,7 +134,8 @@ fn listen(held: &mut Named<u32>, cause: &Cause) -> Result<Told, AllocError>
 
 // Takes in data or a repair of a name.
 fn hold(held: &mut Named<u32>, name: Name, ink: u32) -> Result<Told, AllocError>
-    ensures ok { IfOk result (λ told. (m : Memory) → m.held ≡ held.old → listened name ink m ≡ quietly (record m { held = held.new }) told []) }
+    ensures ok { IfOk result (λ told. (m : Memory) → m.held ≡ held.old
+        → listened name ink m ≡ quietly (record m { held = held.new }) told []) }
     ensures err { OnErr result (held.new ≡ held.old) }
 {
     if held.get(name).is_some() {

@@ -37,7 +37,8 @@ IsDraw s d = (k : MemberSpec) × (slice_get s.members d.member ≡ Some k) × (k
 
 -- a session message is by a member that is there and is no listener
 abbrev pub IsSession : PlainScenario → SessionSpec → Type 0
-IsSession s r = (k : MemberSpec) × (slice_get s.members r.member ≡ Some k) × (k.role ≢ Listener) × IsThere s.until r.at k
+IsSession s r = (k : MemberSpec) × (slice_get s.members r.member ≡ Some k) × (k.role ≢ Listener)
+    × IsThere s.until r.at k
 
 -- a drop names a link and a member
 abbrev pub IsDrop : PlainScenario → DropSpec → Type 0

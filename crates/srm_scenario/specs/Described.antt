@@ -66,7 +66,8 @@ abbrev pub role_of : Members → Role
 role_of ms =
     if says (codes "role") (codes "sender") ms
     then Sender
-    else if says (codes "role") (codes "receiver") ms then Receiver else if says (codes "role") (codes "late") ms then Late else Listener
+    else if says (codes "role") (codes "receiver") ms then Receiver
+    else if says (codes "role") (codes "late") ms then Late else Listener
 
 abbrev pub member_of : Members → MemberSpec
 member_of ms = record {
@@ -106,7 +107,8 @@ abbrev pub topology_of : Members → Option Topology
 topology_of ms =
     if says (codes "topology") (codes "tree") ms
     then Some (Tree (number (codes "degree") ms))
-    else if says (codes "topology") (codes "chain") ms then Some Chain else if says (codes "topology") (codes "star") ms then Some Star else None
+    else if says (codes "topology") (codes "chain") ms then Some Chain
+    else if says (codes "topology") (codes "star") ms then Some Star else None
 
 -- the node to which node v, not 0, is joined. Nodes of a chain are numbered along it, the hub of a star is node 0, and a tree
 -- is numbered breadth first: the root has `degree` children, and every other inner node one fewer
@@ -118,7 +120,8 @@ parent_in (Tree degree) v = if nat_le v degree then 0 else 1 + (v - degree - 1) 
 -- n links, each joining a node to its parent, from node v on
 abbrev pub links_to_parents : Topology → ℕ → ℕ → ℕ → List LinkSpec
 links_to_parents t delay v zero = []
-links_to_parents t delay v (suc n) = record { a = parent_in t v; b = v; delay = delay } ∷ links_to_parents t delay (v + 1) n
+links_to_parents t delay v (suc n) = record { a = parent_in t v; b = v; delay = delay }
+    ∷ links_to_parents t delay (v + 1) n
 
 abbrev pub nodes_in : Option Topology → Members → ℕ
 nodes_in None ms = number (codes "nodes") ms
@@ -135,7 +138,12 @@ abbrev pub listed_drops : Members → List DropSpec
 listed_drops ms = elements_at (codes "drop") drop_of ms
 
 abbrev pub constants_of : Members → Constants
-constants_of ms = record { c1 = number (codes "c1") ms; c2 = number (codes "c2") ms; d1 = number (codes "d1") ms; d2 = number (codes "d2") ms }
+constants_of ms = record {
+  c1 = number (codes "c1") ms;
+  c2 = number (codes "c2") ms;
+  d1 = number (codes "d1") ms;
+  d2 = number (codes "d2") ms;
+}
 
 unfoldable pub described : Members → PlainScenario
 described ms = record {

@@ -116,7 +116,8 @@ fits_member until nodes star earlier e =
 abbrev pub member_faults : ℕ → ℕ → Bool → List MemberEntry → ℕ → List MemberEntry → List ScenarioFault
 member_faults until nodes star earlier i [] = []
 member_faults until nodes star earlier i (e ∷ es) =
-    fault_unless (fits_member until nodes star earlier e) (BadMember i) ++ member_faults until nodes star (earlier ++ e ∷ []) (i + 1) es
+    fault_unless (fits_member until nodes star earlier e) (BadMember i)
+    ++ member_faults until nodes star (earlier ++ e ∷ []) (i + 1) es
 
 abbrev pub if_member : Option MemberSpec → (MemberSpec → Bool) → Bool
 if_member None test = false
@@ -128,7 +129,8 @@ fits_draw until members d = if_member (slice_get members d.member) (λ k. is_sen
 
 -- a session message is by a member that is there and is no listener
 abbrev pub fits_session : ℕ → List MemberSpec → SessionSpec → Bool
-fits_session until members r = if_member (slice_get members r.member) (λ k. not (is_listener k.role) && is_there until r.at k)
+fits_session until members r = if_member (slice_get members r.member)
+    (λ k. not (is_listener k.role) && is_there until r.at k)
 
 -- a drop names a link and a member
 abbrev pub fits_drop : ℕ → ℕ → DropSpec → Bool
@@ -168,7 +170,8 @@ meaning_faults s star entries listed =
 -- all faults of a table, in the order in which they are told
 unfoldable pub faults_of : Members → List ScenarioFault
 faults_of ms =
-    key_faults ms ++ meaning_faults (described ms) (is_star (topology_of ms)) (elements_at (codes "member") entry_of ms) (listed_drops ms)
+    key_faults ms ++ meaning_faults (described ms) (is_star (topology_of ms))
+    (elements_at (codes "member") entry_of ms) (listed_drops ms)
 
 -- the scenario, or the first of the faults
 abbrev pub answer : List ScenarioFault → PlainScenario → Result PlainScenario ScenarioFault

@@ -61,7 +61,8 @@ leave_marks (Some at) = plain_mark at 6 0 ∷ []
 -- the marks of a member, without their order
 abbrev pub marks_of : PlainScenario → ℕ → Option MemberSpec → List Mark
 marks_of s m None = []
-marks_of s m (Some k) = plain_mark k.join 0 0 ∷ draw_marks m 0 s.draws ++ report_marks m 0 s.sessions ++ leave_marks k.leave
+marks_of s m (Some k) = plain_mark k.join 0 0 ∷ draw_marks m 0 s.draws ++ report_marks m 0 s.sessions
+    ++ leave_marks k.leave
 
 -- member m's script: its join, draws, reports and leave, in the order of their keys
 unfoldable pub script_of : PlainScenario → ℕ → List Mark

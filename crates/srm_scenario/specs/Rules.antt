@@ -82,7 +82,8 @@ link_rules =
 
 -- the rules of two keys of a member
 abbrev pub role_rule : Rule
-role_rule = rule (codes "role") (word (codes "sender" ∷ codes "receiver" ∷ codes "late" ∷ codes "listener" ∷ [])) required
+role_rule = rule (codes "role")
+    (word (codes "sender" ∷ codes "receiver" ∷ codes "late" ∷ codes "listener" ∷ [])) required
 
 abbrev pub pages_rule : Rule
 pages_rule = rule (codes "pages") (numbers 256 65535) optional

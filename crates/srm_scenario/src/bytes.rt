@@ -36,7 +36,8 @@ pub fn read_text<F: Feed>(alloc: Global, feed: &mut F) -> Result<Vec<u8>, TextFa
     ensures text { IfSome (F.remaining feed.old) (TextOf result) }
     ensures end { OnOk result (IsAtEnd (F.remaining feed.new)) }
     ensures bound { IfOk result (λ text. length text.items ≤ LONGEST_TEXT) }
-    ensures taken { (given : List ℕ) × Consumes (F.remaining feed.old) (F.remaining feed.new) given × Took result given }
+    ensures taken { (given : List ℕ) × Consumes (F.remaining feed.old) (F.remaining feed.new) given
+        × Took result given }
 {
     let mut text = Vec::new(alloc);
     let mut piece = [0; PIECE];

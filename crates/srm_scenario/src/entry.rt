@@ -47,7 +47,8 @@ fn role(table: &Table) -> Option<Role>
 fn pages_of(alloc: Global, values: &[Value]) -> Result<Option<Sequence<u16>>, AllocError>
     ensures { IfOk result (λ o. MatchOption o
         (all_whole 65535 (items_view values.now) ≡ false)
-        (λ pages. (all_whole 65535 (items_view values.now) ≡ true) × (pages ≡ map (λ v. unwrap_or (number_of (view v)) 0) values.now))) }
+        (λ pages. (all_whole 65535 (items_view values.now) ≡ true)
+        × (pages ≡ map (λ v. unwrap_or (number_of (view v)) 0) values.now))) }
 {
     let mut pages = Sequence::new(alloc);
     for value in values {

@@ -34,7 +34,8 @@ fn check_tree(alloc: Global, nodes: u16, links: &[LinkSpec]) -> Result<(), Scena
     requires { AllByRecursion HasDelay links.now }
     ensures { MatchResult result
         (λ _. is_tree (plain_network nodes links.now []) ≡ true)
-        (λ e. (e ≡ ScenarioFault.NoMemory) ⊎ ((e ≡ ScenarioFault.NotTree) × (is_tree (plain_network nodes links.now []) ≡ false))) }
+        (λ e. (e ≡ ScenarioFault.NoMemory) ⊎ ((e ≡ ScenarioFault.NotTree)
+        × (is_tree (plain_network nodes links.now []) ≡ false))) }
 {
     match Net::build(alloc, nodes, links, &[]) {
         Ok(_) => return Ok(()),
@@ -144,7 +145,8 @@ fn scenario_from(alloc: Global, listed: Listed) -> Result<Scenario, ScenarioFaul
 pub fn scenario_of(alloc: Global, table: &Table) -> Result<Scenario, ScenarioFault>
     ensures scenario { IfOk result (λ s. scenario_of_table (table_view table.now) ≡ Ok s) }
     ensures accepted { IfOk result IsAccepted }
-    ensures fault { IfErr result (λ e. (e ≡ ScenarioFault.NoMemory) ⊎ (scenario_of_table (table_view table.now) ≡ Err e)) }
+    ensures fault { IfErr result (λ e. (e ≡ ScenarioFault.NoMemory)
+        ⊎ (scenario_of_table (table_view table.now) ≡ Err e)) }
 {
     let listed = Listed::read(alloc, table)?;
     scenario_from(alloc, listed)

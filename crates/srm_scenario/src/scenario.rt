@@ -38,9 +38,27 @@ impl Model for Scenario {
 
     ghost use Rattle.srm_scenario.specs.Accepted.{IsAccepted};
 
-    ghost view = { λ s. record { until = s.until; constants = s.constants; nodes = s.nodes; links = s.links.items; members = s.members.items; draws = s.draws.items; sessions = s.sessions.items; drops = s.drops } };
+    ghost view = { λ s. record {
+      until = s.until;
+      constants = s.constants;
+      nodes = s.nodes;
+      links = s.links.items;
+      members = s.members.items;
+      draws = s.draws.items;
+      sessions = s.sessions.items;
+      drops = s.drops;
+    } };
 
-    ghost invariant = { λ s. IsAccepted (record { until = s.until; constants = s.constants; nodes = s.nodes; links = s.links.items; members = s.members.items; draws = s.draws.items; sessions = s.sessions.items; drops = s.drops }) };
+    ghost invariant = { λ s. IsAccepted (record {
+      until = s.until;
+      constants = s.constants;
+      nodes = s.nodes;
+      links = s.links.items;
+      members = s.members.items;
+      draws = s.draws.items;
+      sessions = s.sessions.items;
+      drops = s.drops;
+    }) };
 }
 
 impl Scenario {

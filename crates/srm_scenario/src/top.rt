@@ -17,7 +17,8 @@ use toml::{Table, Value};
 fn topology(table: &Table) -> Option<Option<Topology>>
     ensures { MatchOption result
         ((is_met (table_view table.now) topology_rule
-        && is_met (table_view table.now) (degree_rule (says (codes "topology") (codes "tree") (table_view table.now)))) ≡ false)
+        && is_met (table_view table.now) (degree_rule
+        (says (codes "topology") (codes "tree") (table_view table.now)))) ≡ false)
         (HasTopology (table_view table.now)) }
 {
     if !has_key(table, "topology") {
@@ -141,7 +142,8 @@ pub(crate) struct Arrays<'a> {
 fn arrays_of(table: &Table) -> Option<Arrays<'_>>
     ensures { MatchOption result
         (list_all (is_met (table_view table.now)) array_rules ≡ false)
-        (λ a. HasArrays (table_view table.now) (map view a.members.now) (map view a.draws.now) (map view a.sessions.now) (map view a.drops.now)) }
+        (λ a. HasArrays (table_view table.now) (map view a.members.now) (map view a.draws.now)
+        (map view a.sessions.now) (map view a.drops.now)) }
 {
     let members = array(table, "member", 256)?;
     let draws = array(table, "draw", 4096)?;
@@ -173,7 +175,8 @@ pub(crate) fn top_of(table: &Table) -> Option<Top<'_>>
         (λ t. (fits (rules_of_top (table_view table.now)) (table_view table.now) ≡ true)
         × HasNumbers (table_view table.now) t.numbers.until t.numbers.constants
         × HasShape (table_view table.now) t.shape.topology t.shape.nodes t.shape.delay (map view t.shape.links.now)
-        × HasArrays (table_view table.now) (map view t.arrays.members.now) (map view t.arrays.draws.now) (map view t.arrays.sessions.now) (map view t.arrays.drops.now)) }
+        × HasArrays (table_view table.now) (map view t.arrays.members.now) (map view t.arrays.draws.now)
+        (map view t.arrays.sessions.now) (map view t.arrays.drops.now)) }
 {
     if !has_only(
         table,

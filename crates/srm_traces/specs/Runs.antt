@@ -37,7 +37,8 @@ pub record Brief : Type 0 where
 
 -- an event that was handled: when, by whom, its kind, what it is about, what was told, how many names were lost, and the packet sent
 abbrev pub handled : ℕ → ℕ → Word → Subject → Told → ℕ → Option PacketId → Brief
-handled time member cause about told lost sent = record { time = time; member = member; cause = cause; about = about; told = told; lost = lost; sent = sent }
+handled time member cause about told lost sent =
+    record { time = time; member = member; cause = cause; about = about; told = told; lost = lost; sent = sent }
 
 -- a packet, by its sender and count
 abbrev pub packet : ℕ → ℕ → PacketId

@@ -46,7 +46,8 @@ chain_of_five_one_loss = record {
   constants = record { c1 = 1000; c2 = 0; d1 = 1000; d2 = 0 };
   nodes = 5;
   links = chain_links 1 0 4;
-  members = member 0 Sender 1 ∷ member 1 Receiver 2 ∷ member 2 Receiver 3 ∷ member 3 Receiver 4 ∷ member 4 Receiver 5 ∷ [];
+  members = member 0 Sender 1 ∷ member 1 Receiver 2 ∷ member 2 Receiver 3 ∷ member 3 Receiver 4
+      ∷ member 4 Receiver 5 ∷ [];
   draws = draw 0 0 7 0 ∷ draw 0 0 8 10 ∷ [];
   sessions = [];
   drops = drop 1 0 0 ∷ [];

@@ -22,8 +22,10 @@ pub fn loss_on_the_source_link()
 
 /// A repair that arrives at the tick of the request timer ends it.
 pub fn repair_before_the_timer_of_its_tick()
-    ensures trace { whole_trace Scenarios.repair_before_the_timer_of_its_tick 0 ≡ repair_before_the_timer_of_its_tick_trace }
-    ensures totals { whole_totals Scenarios.repair_before_the_timer_of_its_tick 0 ≡ repair_before_the_timer_of_its_tick_totals }
+    ensures trace { whole_trace Scenarios.repair_before_the_timer_of_its_tick 0
+        ≡ repair_before_the_timer_of_its_tick_trace }
+    ensures totals { whole_totals Scenarios.repair_before_the_timer_of_its_tick 0
+        ≡ repair_before_the_timer_of_its_tick_totals }
     ensures whole { IsWhole Scenarios.repair_before_the_timer_of_its_tick 0 }
 {}
 
