@@ -2,12 +2,13 @@ RT ?= rt
 PROGRAM := crates/srm_lab/out/srm_lab
 SOURCES := crates.txt $(shell find crates -path '*/out' -prune -o \( -name '*.rt' -o -name '*.antt' \) -print)
 CRATES := $(notdir $(patsubst %/src,%,$(wildcard crates/*/src)))
+TEST_PROGRAMS := crates/srm_examples/out/srm_examples_tests crates/srm_ledger/out/srm_ledger_tests
 PREFIX ?= /usr/local
 SCENARIO ?= examples/two-nodes.toml
 CRATE ?=
 export RT
 
-.PHONY: build run try check test test-memory bench install fmt clean help
+.PHONY: build run try check test test-program test-memory bench install fmt clean help
 
 build: $(PROGRAM) ## proves and builds the program, if a source is newer than it (the first time some fifteen minutes)
 
@@ -26,16 +27,20 @@ check: ## what an edit needs: proves each crate that changed, or CRATE=srm_net w
 	@tests/architecture.py
 	@tools/prove.py $(if $(CRATE),crates/$(CRATE),crates)
 
-test: $(PROGRAM) ## the merge gate: compares the program with examples/, and proves everything from nothing, with tests, must-fail edits and the program; tells the times
+test: ## the merge gate: proves everything from nothing, with tests and must-fail edits, and checks the program that this made; tells the times
 	@tests/tools_tests.py -q
 	@tests/architecture.py
-	@tests/compare_program.py $(PROGRAM) examples
-	@tools/gate.py
+	@tools/gate.py -- make --no-print-directory test-program test-memory
 
-test-memory: $(PROGRAM) ## refuses each allocation in turn, of the program on each example, and of each test of members, roles and the ledger
-	cd crates/srm_examples && $(RT) test > /dev/null
-	cd crates/srm_ledger && $(RT) test > /dev/null
-	tests/refuse_allocations.py --program $(PROGRAM) examples/*.toml --tests crates/srm_examples/out/srm_examples_tests crates/srm_ledger/out/srm_ledger_tests
+test-program: $(PROGRAM) ## compares what the program prints with each file of examples/
+	@tests/compare_program.py $(PROGRAM) examples
+
+test-memory: $(PROGRAM) $(TEST_PROGRAMS) ## refuses each allocation in turn, of the program on each example, and of each test of members, roles and the ledger
+	@tests/refuse_allocations.py --program $(PROGRAM) examples/*.toml --tests $(TEST_PROGRAMS)
+
+$(TEST_PROGRAMS): $(SOURCES)
+	cd $(@D)/.. && $(RT) test > /dev/null
+	@touch $@
 
 bench: $(PROGRAM) ## prints how many events the program handles in a second
 	bench/events_per_second.py $(PROGRAM)

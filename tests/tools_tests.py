@@ -51,6 +51,14 @@ def report_on(text, spent=()):
     return report, [call.args[0] for call in say.call_args_list]
 
 
+class Refusals(unittest.TestCase):
+    def test_lines_that_tell_what_failed_are_found(self):
+        found = [line for line in ONE_FAILS.splitlines() if gate.is_refusal(line)]
+        self.assertEqual([line.partition(":")[0] for line in found], ["fn middle", "./proofs/Lib.antt"])
+        for line in ("FAILED: low/a.edit", "low NOT PROVED", "low/a: NOT REFUSED: the crate is still proved with this edit"):
+            self.assertTrue(gate.is_refusal(line))
+
+
 class Proving(unittest.TestCase):
     def test_each_crate_has_one_line_with_its_time(self):
         _, said = report_on(ONE_FAILS, [(("low", "proof", "/low"), 75), (("middle", "proof", "/middle"), 3)])

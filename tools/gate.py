@@ -1,15 +1,17 @@
 #!/usr/bin/env python3
 """Runs the merge gate, `rt ci`, and tells at its end how long the prover worked on each crate and on its must-fail edits.
 
-usage: tools/gate.py [--edits CRATE ..]
+usage: tools/gate.py [--edits CRATE ..] [-- COMMAND ..]
 
-Hands on all that `rt ci` prints, and keeps it in out/gate.log too. The table of times stands before its last line, which is
-'N passed, M failed'. With --edits it runs `rt must-fail CRATE ..` in its place: the must-fail edits of these crates alone.
-Ends with the status of what it ran. The environment's RT is the command to call in place of `rt`.
+Hands on all that `rt ci` prints, and keeps it in out/gate.log too. The table of times, and each line that tells what failed once
+more, stand before its last line, which is 'N passed, M failed'. With --edits it runs `rt must-fail CRATE ..` in its place: the
+must-fail edits of these crates alone. Where nothing failed, it then runs the command, which may use the programs that `rt ci` built,
+before that last line. Ends with the first status that is not 0. The environment's RT is the command to call in place of `rt`.
 """
 import argparse
 import os
 import pathlib
+import re
 import subprocess
 import sys
 import time
@@ -19,6 +21,7 @@ import watch
 TOP = pathlib.Path(__file__).resolve().parent.parent
 RT = os.environ.get("RT", "rt").split()
 LONGEST = 10
+REFUSALS = 20
 
 
 def edits_of(crate):
@@ -55,16 +58,22 @@ def table(running, passed):
     return [*lines, f"all of it took {watch.clock(passed)}"]
 
 
+def is_refusal(line):
+    """Whether a line of rt's tells what failed, or an error of the prover."""
+    return re.search(r"^FAILED:|NOT PROVED|NOT REFUSED|(^|: )error(\[|:)|no proof:", line) is not None
+
+
 def main():
     parser = argparse.ArgumentParser(description=__doc__, formatter_class=argparse.RawDescriptionHelpFormatter)
     parser.add_argument("--edits", nargs="+", metavar="CRATE")
+    parser.add_argument("after", nargs="*", metavar="COMMAND")
     options = parser.parse_args()
     command = [*RT, "must-fail", *options.edits] if options.edits else [*RT, "ci"]
     log = TOP / "out" / "gate.log"
     log.parent.mkdir(exist_ok=True)
     began = time.monotonic()
     running = watch.Watch(command, TOP, stdin=subprocess.DEVNULL, stdout=subprocess.PIPE, stderr=subprocess.STDOUT)
-    last = ""
+    last, refusals = "", []
     with open(log, "w", encoding="utf-8") as kept:
 
         def hand_on(line):
@@ -75,9 +84,15 @@ def main():
         for line in running.process.stdout:
             hand_on(last)
             last = line
+            if is_refusal(line):
+                refusals.append(line)
         status = running.wait()
         for line in table(running, time.monotonic() - began):
             hand_on(f"{line}\n")
+        for line in refusals[-REFUSALS:] if status else []:
+            hand_on(line)
+        if options.after and not status:
+            status = subprocess.call(options.after, cwd=TOP)
         hand_on(last)
     sys.exit(status)
 
