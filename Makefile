@@ -25,11 +25,13 @@ try: ## the same program, unproved and with no build before it, in under a minut
 check: ## what an edit needs: proves each crate that changed, or CRATE=srm_net with the crates below it; checks scripts and documents
 	@tests/tools_tests.py -q
 	@tests/architecture.py
+	@tests/promises.py
 	@tools/prove.py $(if $(CRATE),crates/$(CRATE),crates)
 
 test: ## the merge gate: proves everything from nothing, with tests and must-fail edits, and checks the program that this made; tells the times
 	@tests/tools_tests.py -q
 	@tests/architecture.py
+	@tests/promises.py
 	@tools/gate.py -- make --no-print-directory test-program test-memory
 
 test-program: $(PROGRAM) ## compares what the program prints with each file of examples/
