@@ -13,6 +13,7 @@ pub mod Merge
 pub mod NamesKept
 pub mod OneStep
 pub mod OneWindow
+pub mod OrderlyRuns
 pub mod SortedRows
 pub mod WindowChain
 pub mod WindowEnds
