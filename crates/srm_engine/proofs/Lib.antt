@@ -13,6 +13,8 @@ pub mod Merge
 pub mod NamesKept
 pub mod OneStep
 pub mod OneWindow
+pub mod LostNames
+pub mod MarkRows
 pub mod OrderlyRuns
 pub mod SortedRows
 pub mod WindowChain
