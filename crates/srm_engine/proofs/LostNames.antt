@@ -15,7 +15,9 @@ use Rattle.srm_member.specs.declared.cause.Cause.{Cause}
 use Rattle.srm_member.specs.declared.cause.Cause.TheVariants.{Join, Arrival, Ask, Answer, Draw, Report}
 use Rattle.srm_member.specs.declared.told.Told.{Told}
 use Rattle.srm_member.specs.declared.told.Told.TheVariants.{Entered, Fresh, Fixed, Again, Skip, Rest, Busy, Plan, Hold, Heard as Informed}
-use Rattle.srm_member.specs.Record.{Memory, Missing, Repairing, Stream}
+use Rattle.srm_member.specs.declared.entries.Missing.{Missing}
+use Rattle.srm_member.specs.declared.entries.Repairing.{Repairing}
+use Rattle.srm_member.specs.Record.{Memory, Stream}
 use Rattle.srm_member.specs.React.{Reaction, quietly, has_entry, with_stream, meet, lose_one, lose_from, names_from, lose_below, lost_below, holding, mending, got, resting, got_repair, planning, asked_missing_at, asked_held, requested, page_heard, after_entry, lost_by_entry, informed, hear_body, asking_at, asking, answering_at, answering, own_page, own_stream, drawing, is_skip, is_sender, is_listener, react_active, listened, listen, react_listener, react}
 use Rattle.srm_member.proofs.AllIn.{AllIn, AllIn-append, AllIn-map}
 use Rattle.srm_member.proofs.Changes.{Below, Grows, Brings, from_page, effect}
@@ -55,10 +57,10 @@ any_order Q Greater a b c h g f = f
 -- an entry of a session message, for a member that is no listener
 entry_grows : (at : ℕ) (h : Heard) (m : Memory) → is_listener m.fixed.role ≡ false → Grows (lost_by_entry h m) m (after_entry at h m)
 unfolding react informed
-entry_grows at h m no =
+entry_grows at h m awake =
     let p : Packet = record { id = record { sender = 0; count = 0 }; sent = 0; body = Session (h ∷ []) } in
     let same : react m at (Arrival p) ≡ quietly (after_entry at h m) Informed (lost_by_entry h m) =
-    ap (λ b. cond b (react_listener m (Arrival p)) (react_active m at (Arrival p))) no in
+    ap (λ b. cond b (react_listener m (Arrival p)) (react_active m at (Arrival p))) awake in
     elim (effect m at (Arrival p)) [
       | inl q ↦ subst (λ (r : Reaction). Grows r.answer.lost m r.memory) same q.grows
       | inr b ↦ absurd (elim b [ inl x ↦ no_name x.name x.ink x.brings | inr x ↦ x ])
@@ -128,11 +130,11 @@ module _ (members : ℕ) where
     names_apart p count (suc first),
   )
 
-  plain : (m : Memory) (told : Told) → PagesOf m.streams → Known (quietly m told [])
-  plain m told g = record { pages = g; lost = tt; apart = tt; session = tt }
+  plain : (m : Memory) (answer : Told) → PagesOf m.streams → Known (quietly m answer [])
+  plain m answer g = record { pages = g; lost = tt; apart = tt; session = tt }
 
-  losing : (m : Memory) (told : Told) (p : PageId) (n : ℕ) (s : Stream) → p.source < members → PagesOf m.streams → Known (quietly m told (lost_below p n s))
-  losing m told p n s h g = record { pages = g; lost = names_of p (n - s.next) s.next h; apart = names_apart p (n - s.next) s.next; session = tt }
+  losing : (m : Memory) (answer : Told) (p : PageId) (n : ℕ) (s : Stream) → p.source < members → PagesOf m.streams → Known (quietly m answer (lost_below p n s))
+  losing m answer p n s h g = record { pages = g; lost = names_of p (n - s.next) s.next h; apart = names_apart p (n - s.next) s.next; session = tt }
 
   -- ---- packets
 
@@ -187,13 +189,13 @@ module _ (members : ℕ) where
   -- names of later entries are new, and so others than those lost by the entries before
   informed_known : (at : ℕ) (hs : List Heard) (m : Memory) (lost : List Name) → is_listener m.fixed.role ≡ false → HeardOf hs → ((n : Name) → Contains lost n → Below n m) → Known (quietly m Informed lost) → Known (informed at hs m lost)
   unfolding informed
-  informed_known at [] m lost no of_hs below k = k
-  informed_known at (h ∷ hs) m lost no of_hs below k =
-      let g = entry_grows at h m no in
+  informed_known at [] m lost awake of_hs below k = k
+  informed_known at (h ∷ hs) m lost awake of_hs below k =
+      let g = entry_grows at h m awake in
       let p = page_heard h in
       let s = meet m p (h.highest + 1) in
       let more = lost_by_entry h m in
-      informed_known at hs (after_entry at h m) (lost ++ more) (ap (λ (f : FixedPart). is_listener f.role) g.fixed ∙ no) of_hs.1
+      informed_known at hs (after_entry at h m) (lost ++ more) (ap (λ (f : FixedPart). is_listener f.role) g.fixed ∙ awake) of_hs.1
       (λ n c. elim (Contains-append_cases lost more n c) [ inl x ↦ g.below n (below n x) | inr x ↦ g.heard n x ])
       (record {
         pages = entry_pages at h m of_hs.0 k.pages;
@@ -203,10 +205,10 @@ module _ (members : ℕ) where
       })
 
   hear_known : (at who : ℕ) (b : Body) (m : Memory) → is_listener m.fixed.role ≡ false → BodyOf b → PagesOf m.streams → Known (hear_body at who b m)
-  hear_known at who (Drawop n ink) m no h g = got_known at n ink m h g
-  hear_known at who (Repair n ink) m no h g = repair_known at n ink who m h g
-  hear_known at who (Request n) m no h g = request_known at n who m h g
-  hear_known at who (Session hs) m no h g = informed_known at hs m [] no h (λ n c. absurd (contains_none n c)) (plain m Informed g)
+  hear_known at who (Drawop n ink) m awake h g = got_known at n ink m h g
+  hear_known at who (Repair n ink) m awake h g = repair_known at n ink who m h g
+  hear_known at who (Request n) m awake h g = request_known at n who m h g
+  hear_known at who (Session hs) m awake h g = informed_known at hs m [] awake h (λ n c. absurd (contains_none n c)) (plain m Informed g)
 
   -- ---- timers, draws and reports
 
@@ -229,12 +231,12 @@ module _ (members : ℕ) where
 
   active_known : (m : Memory) (at : ℕ) (cause : Cause) → is_listener m.fixed.role ≡ false → m.fixed.member < members → CauseOf cause → PagesOf m.streams → Known (react_active m at cause)
   unfolding asking answering
-  active_known m at Join no h c g = plain m Entered g
-  active_known m at (Arrival p) no h c g = hear_known at p.id.sender p.body m no c g
-  active_known m at (Ask n) no h c g = asking_known at n m (find name_cmp n m.missing) g
-  active_known m at (Answer n) no h c g = answering_known at n m (find name_cmp n m.repairs) g
-  active_known m at (Draw page ink) no h c g = drawing_known page ink m h g
-  active_known m at Report no h c g = record {
+  active_known m at Join awake h c g = plain m Entered g
+  active_known m at (Arrival p) awake h c g = hear_known at p.id.sender p.body m awake c g
+  active_known m at (Ask n) awake h c g = asking_known at n m (find name_cmp n m.missing) g
+  active_known m at (Answer n) awake h c g = answering_known at n m (find name_cmp n m.repairs) g
+  active_known m at (Draw page ink) awake h c g = drawing_known page ink m h g
+  active_known m at Report awake h c g = record {
     pages = g;
     lost = tt;
     apart = tt;
