@@ -6,6 +6,7 @@ TEST_PROGRAMS := crates/srm_examples/out/srm_examples_tests crates/srm_ledger/ou
 PREFIX ?= /usr/local
 SCENARIO ?= examples/two-nodes.toml
 CRATE ?=
+BENCH ?=
 export RT
 
 .PHONY: build run try check test test-program test-memory bench install fmt clean help
@@ -44,8 +45,8 @@ $(TEST_PROGRAMS): $(SOURCES)
 	cd $(@D)/.. && $(RT) test > /dev/null
 	@touch $@
 
-bench: $(PROGRAM) ## prints how many events the program handles in a second
-	bench/events_per_second.py $(PROGRAM)
+bench: $(PROGRAM) ## prints how many rows the program handles in a second, beside a plain simulator: make bench BENCH=--long
+	@bench/events_per_second.py $(PROGRAM) $(BENCH)
 
 fmt: ## lays out the sources of each crate
 	@for crate in $(CRATES); do (cd crates/$$crate && $(RT) fmt) || exit 1; done
