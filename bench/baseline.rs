@@ -4,12 +4,13 @@
 //!
 //! One binary heap has all pending events, and the least is taken until none is left before the end. Each member has
 //! tables by name, ordered maps as in the proved program; distances, and the ways of each sender's packets, are worked
-//! out once. A timer that was set anew or has ended stays in the heap, and is passed over when it comes up. All rows are
-//! kept, and written as text after the run.
+//! out once. A timer that was set anew or has ended stays in the heap, and is passed over when it comes up. All rows
+//! are kept, and written as text after the run.
 //!
 //! It reads a part of TOML: comments, whole decimal numbers, strings in double quotes without escapes, arrays, inline
-//! tables and `[[name]]`, which is what examples/ and the scenarios of events_per_second.py consist of. It takes what it
-//! reads to be a scenario that the proved program accepts: on any other it may stop with a message, or answer as it likes.
+//! tables and `[[name]]`, which is what examples/ and the scenarios of events_per_second.py consist of. It takes what
+//! it reads to be a scenario that the proved program accepts: on any other it may stop with a message, or answer as it
+//! likes.
 
 use std::cmp::Reverse;
 use std::collections::{BTreeMap, BinaryHeap, HashMap};

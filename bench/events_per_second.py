@@ -3,11 +3,11 @@
 
 usage: bench/events_per_second.py PROGRAM [--repeat N] [--long] [--only TEXT] [--instructions]
 
-First both are compared, byte for byte: the tables of traces and links of each scenario of examples/, with two seeds, and
-the trace of each generated scenario. Where one differs nothing is timed, and the exit status is 1. Then both run in turn,
-N times each (3, if not said otherwise), with standard output on /dev/null; the least processor time of each (user and
-system, from the start of the process to its end) is printed, with rows per second and the ratio of the two times. README.md
-in this folder tells what the scenarios are. It asserts nothing about speed.
+First both are compared, byte for byte: the traces and the tables of links of each scenario of examples/, with two
+seeds, and the traces of the generated scenarios. Where one differs nothing is timed, and the status is 1. Then both
+run in turn, N times each (3 by default), with standard output on /dev/null; the least processor time of each
+(user and system, from the start of the process to its end) is printed, with rows per second and the ratio of the two
+times. README.md in this folder tells what the scenarios are. Nothing is asserted about speed.
 
 --long          1,000 draws in place of 200, and the scenario at the limits of the format (some minutes)
 --only TEXT     only the scenarios whose name has TEXT in it
@@ -48,7 +48,7 @@ def ordinary(shape, nodes, draws):
 
 
 def at_the_limits():
-    """As much as the format allows of everything but time: 256 nodes and members, 4,096 draws, sessions and drops each."""
+    """256 nodes and members, and 4,096 draws, session messages and drops each: as many as the format allows."""
     drops = [drop(count % 255, count) for count in range(4096)]
     sessions = [f"[[session]]\nmember = {k % 256}\nat = {k * 1000 + 500}" for k in range(4096)]
     return Scenario("at the limits", "chain", 256, 4096, 2**40, drops, sessions)
@@ -67,7 +67,7 @@ def scenarios_of_instructions():
 
 
 def text_of(scenario):
-    """The scenario as a file's text. A star's hub has no member; every other node has one, and the first is the sender."""
+    """The scenario as a file's text. Each node but a star's hub has a member, and the first of them is the sender."""
     shape, first = scenario.shape, 1 if scenario.shape == "star" else 0
     lines = ["version = 1", f"until = {scenario.until}", "c1 = 2000", "c2 = 2000", "d1 = 1000", "d2 = 1000"]
     lines += [f'topology = "{shape}"', f"size = {scenario.nodes}", "delay = 5"]
@@ -160,24 +160,26 @@ def print_head(programs, unit):
     print(f"{'scenario':28} {'rows':>9}" + "".join(f" {it:>18}" for it in columns) + "  ratio" * (len(programs) > 1))
 
 
+def print_line(name, rows, columns, found):
+    ratio = f" {found[0] / found[1]:6.2f}" if len(found) > 1 else ""
+    print(f"{name:28} {rows:9}" + "".join(f" {it:>18}" for it in columns) + ratio, flush=True)
+
+
 def print_times(name, rows, best):
-    line = f"{name:28} {rows:9}" + "".join(f" {it:18.3f}" for it in best) + "".join(f" {rows / it:18.0f}" for it in best)
-    print(line + (f" {best[0] / best[1]:6.2f}" if len(best) > 1 else ""), flush=True)
+    print_line(name, rows, [f"{it:.3f}" for it in best] + [f"{rows / it:.0f}" for it in best], best)
 
 
 def print_instructions(name, rows, counted):
-    line = f"{name:28} {rows:9}" + "".join(f" {it / rows:18.0f}" for it in counted)
-    print(line + (f" {counted[0] / counted[1]:6.2f}" if len(counted) > 1 else ""), flush=True)
+    print_line(name, rows, [f"{it / rows:.0f}" for it in counted], counted)
 
 
 def measure(programs, chosen, figures, show, repeat):
-    """A line for each scenario; gives, by shape and nodes, each program's figure for a row."""
+    """A line for each scenario, and rows that all programs agree on; gives each program's figure for a row."""
     by_row = {}
     with tempfile.TemporaryDirectory() as folder:
         path = pathlib.Path(folder) / "scenario.toml"
-        for scenario in chosen:
+        for scenario, rows in chosen:
             path.write_bytes(text_of(scenario))
-            rows = compare(programs, scenario.name, [], path.read_bytes())
             found = figures(programs, path, repeat)
             show(scenario.name, rows, found)
             by_row[scenario.shape, scenario.nodes, scenario.draws] = [figure / rows for figure in found]
@@ -209,9 +211,12 @@ def main():
         print("rustc is missing: no baseline, the program is timed alone")
     else:
         programs.append(plain)
-        print(f"program and baseline write the same for {compare_examples(programs)} scenarios of examples/", flush=True)
+    examples = compare_examples(programs)
     chosen = scenarios_of_instructions() if options.instructions else scenarios(options.long)
     chosen = [scenario for scenario in chosen if options.only in scenario.name]
+    chosen = [(scenario, compare(programs, scenario.name, [], text_of(scenario))) for scenario in chosen]
+    if plain is not None:
+        print(f"the same bytes from both: {examples} scenarios of examples/, {len(chosen)} generated ones", flush=True)
     if options.instructions:
         print_head(programs, ["instr./row"])
         measure(programs, chosen, instructions, print_instructions, options.repeat)
