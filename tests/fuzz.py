@@ -19,6 +19,7 @@ A table that the program's --help does not name is left out. Prints each case th
 """
 import argparse
 import collections
+import itertools
 import pathlib
 import random
 import re
@@ -26,6 +27,8 @@ import resource
 import subprocess
 import sys
 import time
+
+sys.dont_write_bytecode = True
 
 import fuzz_replay
 import fuzz_scenarios
@@ -35,12 +38,12 @@ from fuzz_tables import Wrong
 
 TOP = pathlib.Path(__file__).resolve().parent.parent
 PROGRAM = TOP / "crates" / "srm_lab" / "out" / "srm_lab"
-# the options of each engine; over all of them the tables of a scenario are the same bytes
+# sets of options, each good for every scenario, with all of which the tables of a scenario are the same bytes
 ENGINES = [
     [],
 ]
 LONGEST = 20
-MEMORY = 2 * 2**30
+MEMORY = 2**30
 MOST_FAILURES = 10
 REFUSAL = re.compile(
     rb"refused: (not-toml|too-long|not-tree|bad-key top 0"
@@ -71,21 +74,22 @@ def tables_named(run):
 
 
 def is_same(what, got, must):
-    """Refuses an end that is not as it must be: shows the first difference."""
-    if got != must:
-        at = next((at for at, (a, b) in enumerate(zip(got[1], must[1])) if a != b), min(len(got[1]), len(must[1])))
-        line = must[1][:at].count(b"\n")
-        shown = [it[1].split(b"\n")[line:line + 1] for it in (got, must)]
-        raise Wrong(f"{what}: got {got[0], shown[0], got[2]}, and not {must[0], shown[1], must[2]}, in line {line + 1}")
+    """Refuses an end that is not as it must be: tells the first line that differs."""
+    if (got[0], got[2]) != (must[0], must[2]):
+        raise Wrong(f"{what}: status {got[0]}, {got[2][:200]} on standard error, and not status {must[0]}, {must[2][:200]}")
+    if got[1] != must[1]:
+        lines = itertools.zip_longest(got[1].splitlines(), must[1].splitlines())
+        number, pair = next((at, pair) for at, pair in enumerate(lines, 1) if pair[0] != pair[1])
+        raise Wrong(f"{what}: line {number} is {pair[0]}, and not {pair[1]}")
 
 
-def is_in_form(what, end):
-    """Refuses an end that is neither a table nor a refusal of a scenario."""
+def is_in_form(table, end):
+    """Refuses an end that is neither this table nor a refusal of a scenario."""
     status, printed, told = end
-    is_table = status == 0 and printed and not told
-    is_refusal = status == 1 and not printed and REFUSAL.fullmatch(told)
-    if not (is_table or is_refusal or end == NO_MEMORY):
-        raise Wrong(f"{what}: status {status}, {len(printed)} bytes on standard output, {told[:200]} on standard error")
+    if status == 0 and not told:
+        fuzz_tables.lines_of(table, printed)
+    elif not (status == 1 and not printed and REFUSAL.fullmatch(told)) and end != NO_MEMORY:
+        raise Wrong(f"{table}: status {status}, {len(printed)} bytes on standard output, {told[:200]} on standard error")
 
 
 def expected(scenario, seed, trace):
@@ -100,28 +104,33 @@ def expected(scenario, seed, trace):
     }
 
 
+def ends(tables, case, first):
+    """How a run for each table must end, as far as it is known, from the end of a first one, which wrote the trace."""
+    if first[0] != 0 or case.must == fuzz_scenarios.UNKNOWN:
+        return {"trace": first} if first[0] == 0 else dict.fromkeys(tables, first)
+    texts = expected(Scenario(case.must), case.seed, first[1])
+    return {table: (0, texts[table], b"") for table in tables}
+
+
 def check(run, tables, case):
     """Runs one case, and raises Wrong where the program does what it must not."""
     if case.words is not None:
         is_same(case.words, run(case.words, case.text), (2, b"", b"command line refused\n"))
         return
-    words = ["--seed", str(case.seed)]
-    first = run(words, case.text)
+    first = run(["--seed", str(case.seed)] if case.seed else [], case.text)
     is_in_form("trace", first)
-    must = dict.fromkeys(tables, first)
-    if isinstance(case.must, dict):
-        is_same("trace", (first[0], b"", first[2]), (0, b"", b""))
-        texts = expected(Scenario(case.must), case.seed, first[1])
-        must = {table: (0, texts[table], b"") for table in tables}
-    elif case.must != fuzz_scenarios.UNKNOWN:
+    if case.must == fuzz_scenarios.UNKNOWN and first == NO_MEMORY:
+        return
+    if isinstance(case.must, dict) and first[0] != 0:
+        raise Wrong(f"it must be accepted: {first[2]}")
+    if isinstance(case.must, str) and case.must != fuzz_scenarios.UNKNOWN:
         is_same("refusal", first, (1, b"", f"refused: {case.must}\n".encode()))
+    must = ends(tables, case, first)
     for table in tables:
         for engine in ENGINES:
-            end = run([*words, *engine, "--show", table], case.text)
-            if case.must == fuzz_scenarios.UNKNOWN and first[0] == 0 and table != "trace":
-                is_in_form(table, end)
-            else:
-                is_same(" ".join(["--show", table, *engine]), end, must[table])
+            end = run([f"--seed={case.seed}", *engine, "--show", table], case.text)
+            is_in_form(table, end)
+            is_same(" ".join(["--show", table, *engine]), end, must.setdefault(table, end))
 
 
 def case_of(seed):
@@ -134,7 +143,10 @@ def failure(run, tables, seed):
     case = case_of(seed)
     try:
         check(run, tables, case)
-    except Wrong as wrong:
+    except Exception as wrong:
+        if not isinstance(wrong, Wrong):
+            print(f"case {seed}: the check itself broke off")
+            raise
         kept = TOP / "out" / f"fuzz-{seed}.toml"
         kept.parent.mkdir(exist_ok=True)
         kept.write_bytes(case.text)

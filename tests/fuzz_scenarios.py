@@ -3,7 +3,9 @@ import collections
 import copy
 import re
 
-from fuzz_format import LATEST, LENGTHS, LONGEST_TEXT, NUMBERS, PAGES, ROLES, TOPOLOGIES, links_of, refusal_of
+from fuzz_format import (
+    LATEST, LENGTHS, LONGEST_TEXT, NUMBERS, PAGES, ROLES, TOPOLOGIES, Scenario, links_of, refusal_of,
+)
 
 try:
     import tomllib
@@ -80,39 +82,42 @@ def members(rng, top):
 
 def scenario(rng):
     """The plain data of a scenario that is accepted."""
-    constants = [0, 0, 500, 1000, 1000, 2000, rng.randrange(4000), rng.randrange(64001), 64000]
-    top = {"version": 1, "until": 1, **{it: rng.choice(constants) for it in ("c1", "c2", "d1", "d2")}, **network(rng)}
+    usual = rng.choice([[0], [1000], [0, 500, 1000, 2000, 3000], [0, 500, 1000, 2000, 3000], [0, 64000, rng.randrange(64001)]])
+    top = {"version": 1, "until": 1, **{it: rng.choice(usual) for it in ("c1", "c2", "d1", "d2")}, **network(rng)}
     top["member"] = members(rng, top)
-    delays = sorted(delay for _, _, delay in links_of(top)) or [1]
+    network_of = Scenario(top)
+    far = max((network_of.distance(0, it) for it in range(len(top["member"]))), default=0)
     drawn, told = small(rng, 1, 6, 20, 60, 600, 4096), small(rng, 0, 3, 8, 40, 4096)
-    hour = delays[len(delays) // 2] * rng.choice([2, 10, 60, 400]) + rng.choice([0, 5, 50])
-    wish = rng.choice([hour, hour, hour, 2 * hour, 2 * hour, 20 * hour, 1, LATEST])
-    top["until"] = bounded_until(top, delays[0], drawn, told, wish)
+    hour = 1 + far * rng.choice([0, 1, 3, 10, 40]) + rng.choice([0, 5, 50])
+    wish = hour + rng.choice([0, far, 5 * far, 20 * far, 20 * far, 100 * far, LATEST - hour])
+    top["until"] = bounded_until(top, drawn, told, wish)
     for member in top["member"]:
         stay(rng, member, min(hour, top["until"]), top["until"])
     top["draw"] = [
         {"member": it, "page": rng.choice([0, 0, 0, 1, 2, 65535]), "ink": rng.choice([7, rng.randrange(2**32)]), "at": at}
-        for it, at in acts(rng, top, ROLES[:1], hour, drawn)
+        for it, at in acts(rng, top, ROLES[:1], hour, drawn, {})
     ]
-    top["session"] = [{"member": it, "at": at} for it, at in acts(rng, top, ROLES[:3], hour, told)]
-    top["drop"] = drops(rng, top, len(delays) if links_of(top) else 0)
+    heard = arrivals(rng, top, network_of)
+    meet_packets(rng, top, heard)
+    top["session"] = [{"member": it, "at": at} for it, at in acts(rng, top, ROLES[:3], hour, told, heard)]
+    top["drop"] = drops(rng, top, network_of)
     for part in LENGTHS:
         if part in top and not top[part] and rng.random() < 0.5:
             del top[part]
     return top
 
 
-def bounded_until(top, delay, drawn, told, until):
+def bounded_until(top, drawn, told, until):
     """The greatest end below a wish at which a run has not too many rows, whatever is lost."""
-    while until > 1 and rows_at_most(top, delay, drawn, told, until) > MOST_ROWS:
+    while until > 1 and rows_at_most(top, drawn, told, until) > MOST_ROWS:
         until //= 2
     return until
 
 
-def rows_at_most(top, delay, drawn, told, until):
-    """About how many rows a run has in which all is lost: each loser asks, backs off, and is heard by all."""
-    hearers, least = len(top.get("member", [])), (top["c1"] + top["c2"] / 2) * delay / 1000
-    asks, time = 0, 0
+def rows_at_most(top, drawn, told, until):
+    """About how many rows a run has in which much is lost: each loser asks, backs off, and is heard by all."""
+    hearers, delay = len(top.get("member", [])), min((delay for _, _, delay in links_of(top)), default=1)
+    least, asks, time = (top["c1"] + top["c2"] / 2) * delay / 1000, 0, 0
     while time < until and asks < MOST_ROWS:
         if asks > 10:
             asks += (until - time) / max(1, least * 1024)
@@ -125,36 +130,56 @@ def rows_at_most(top, delay, drawn, told, until):
 
 def stay(rng, member, hour, until):
     """Some members join late, and some leave."""
-    if rng.random() < 0.25 or member["role"] == "late":
-        member["join"] = rng.choice([0, rng.randrange(hour), rng.randrange(until), until - 1])
-    if rng.random() < 0.2:
+    if rng.random() < 0.1 or (member["role"] == "late" and rng.random() < 0.7):
+        member["join"] = rng.choice([0, rng.randrange(hour), rng.randrange(hour), rng.randrange(until), until - 1])
+    if rng.random() < 0.15:
         join = member.get("join", 0)
-        member["leave"] = rng.choice([join + 1, join + rng.randint(1, hour), until, LATEST, join + rng.randint(1, until)])
-        member["leave"] = min(member["leave"], LATEST)
+        times = [join + 1, join + rng.randint(1, hour), join + rng.randint(1, until), until, LATEST]
+        member["leave"] = min(LATEST, rng.choice(times))
 
 
-def acts(rng, top, roles, hour, most):
-    """Who acts, and when, while it is there: mostly close together, now and then at the edges."""
+def arrivals(rng, top, network_of):
+    """For each member some of the times at which what is drawn arrives at it."""
+    heard = collections.defaultdict(list)
+    for draw in top["draw"][:100]:
+        member = rng.randrange(len(top["member"]))
+        heard[member].append(draw["at"] + network_of.distance(draw["member"], member))
+    return heard
+
+
+def meet_packets(rng, top, heard):
+    """Some members join or leave in the tick in which a packet arrives."""
+    for number, times in heard.items():
+        member, time = top["member"][number], rng.choice(times)
+        if member["role"] == "sender" or rng.random() < 0.7:
+            continue
+        if rng.random() < 0.5 and time < min(top["until"], member.get("leave", LATEST)):
+            member["join"] = time
+        elif member.get("join", 0) < time <= LATEST:
+            member["leave"] = time
+
+
+def acts(rng, top, roles, hour, most, heard):
+    """Who acts, and when, while it is there: mostly close together, now and then at the edges or as a packet arrives."""
     able = [(number, it) for number, it in enumerate(top["member"]) if it["role"] in roles]
     found = []
     for _ in range(most if able else 0):
         number, member = rng.choice(able)
         join, last = member.get("join", 0), min(member.get("leave", LATEST), top["until"] - 1)
-        at = rng.choice([join + rng.randrange(hour), join + rng.randrange(hour), rng.randint(join, last), join, last])
-        found.append((number, min(at, last)))
+        times = [rng.randrange(hour), rng.randrange(hour), rng.randint(join, last), join, last, *heard.get(number, [])[:3]]
+        found.append((number, min(max(join, rng.choice(times)), last)))
     return found if rng.random() < 0.3 else sorted(found, key=lambda it: it[1])
 
 
-def drops(rng, top, links):
-    """Which packets are dropped where: mostly early ones of senders."""
-    if not links or not top["member"]:
-        return []
-    senders = [number for number, it in enumerate(top["member"]) if it["role"] == "sender"]
-    found = []
-    for _ in range(small(rng, 0, 6, 20, 80, 4096)):
-        sender = rng.choice([rng.choice(senders), rng.randrange(len(top["member"]))])
-        count = rng.choice([0, rng.randrange(4), rng.randrange(40), 2**32 - 1])
-        found.append({"link": rng.randrange(links), "sender": sender, "count": count})
+def drops(rng, top, network_of):
+    """Which packets are dropped where: mostly early ones of those that draw, on the way to some member."""
+    found, sent = [], [it["member"] for it in top["draw"] + top["session"]]
+    for _ in range(small(rng, 0, 6, 20, 80, 4096) if sent else 0):
+        sender = rng.choice([rng.choice(sent), rng.choice(sent), rng.randrange(len(top["member"]))])
+        path = network_of.path(sender, rng.randrange(len(top["member"])))
+        if path:
+            count = rng.choice([0, rng.randrange(1 + min(9, sent.count(sender))), rng.randrange(40), 2**32 - 1])
+            found.append({"link": rng.choice([path[0], rng.choice(path)]), "sender": sender, "count": count})
     return found + found[:rng.choice([0, 0, 1])]
 
 
@@ -296,12 +321,11 @@ def has_long_number(value):
 
 def is_short(top):
     """Whether a run of an accepted scenario has not too many rows for a check in Python."""
-    delay = min((delay for _, _, delay in links_of(top)), default=1)
-    return rows_at_most(top, delay, len(top.get("draw", [])), len(top.get("session", [])), top["until"]) <= 4 * MOST_ROWS
+    return rows_at_most(top, len(top.get("draw", [])), len(top.get("session", [])), top["until"]) <= 4 * MOST_ROWS
 
 
 def must_of(top):
-    """What must come of plain data: its refusal, itself, or UNKNOWN where it runs for too long."""
+    """What must come of plain data: its refusal, itself, or None where it runs for too long."""
     if has_long_number(top):
         return "not-toml"
     return refusal_of(top) or (top if is_short(top) else None)
@@ -357,7 +381,7 @@ CHANGES = [other_byte, other_byte, other_number, other_number, without_line, dou
 
 
 def must_of_text(text):
-    """What must come of a text, as far as Python can tell."""
+    """What must come of a text, as far as Python can tell; Python before 3.11 reads no TOML."""
     if len(text) > LONGEST_TEXT:
         return "too-long"
     try:
@@ -367,7 +391,7 @@ def must_of_text(text):
     if tomllib is None:
         return UNKNOWN
     try:
-        return must_of(tomllib.loads(read.removeprefix("\ufeff")))
+        return must_of(tomllib.loads(read.removeprefix("\ufeff"))) or UNKNOWN
     except (tomllib.TOMLDecodeError, ValueError, RecursionError):
         return UNKNOWN
 

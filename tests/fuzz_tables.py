@@ -35,7 +35,9 @@ def numbers(text):
 
 def lines_of(table, text):
     """The lines of a table below its header, each of which ended with a line feed."""
-    lines = text.decode("ascii").split("\n")
+    if not text.isascii():
+        raise Wrong(f"{table}: not all of it is ASCII")
+    lines = text.decode().split("\n")
     if lines[0] != HEADERS[table] or lines[-1] != "":
         raise Wrong(f"{table}: another header, or no line feed at the end")
     return lines[1:-1]

@@ -83,11 +83,11 @@ class Tables(unittest.TestCase):
 class Endings(unittest.TestCase):
     def test_ends_of_another_form_are_refused(self):
         line = b"refused: bad-key top 0\n"
-        self.assertIsNone(fuzz.is_in_form("", (1, b"", line)))
+        self.assertIsNone(fuzz.is_in_form("trace", (1, b"", line)))
         ends = [(status, b"", line) for status in (2, 101)] + [(0, b"", b""), (-11, b"", b""), (0, b"x", line)]
         for end in [*ends, (1, b"x", line), (1, b"", line + line), (1, b"", line[:-1])]:
             with self.assertRaises(fuzz_tables.Wrong):
-                fuzz.is_in_form("", end)
+                fuzz.is_in_form("trace", end)
 
     def test_a_scenario_that_must_be_refused_and_is_not_is_told(self):
         self.assertIsNotNone(told(worked(), "bad-draw 0"))
