@@ -78,7 +78,7 @@ def is_same(what, got, must):
     if (got[0], got[2]) != (must[0], must[2]):
         raise Wrong(f"{what}: status {got[0]}, {got[2][:200]} on standard error, and not status {must[0]}, {must[2][:200]}")
     if got[1] != must[1]:
-        lines = itertools.zip_longest(got[1].splitlines(), must[1].splitlines())
+        lines = itertools.zip_longest(got[1].split(b"\n"), must[1].split(b"\n"))
         number, pair = next((at, pair) for at, pair in enumerate(lines, 1) if pair[0] != pair[1])
         raise Wrong(f"{what}: line {number} is {pair[0]}, and not {pair[1]}")
 

@@ -13,6 +13,8 @@ except ImportError:
     tomllib = None
 
 MOST_ROWS = 20000
+FEW = 60
+INKS = (0, 7, 255, 2**31, 2**32 - 1)
 UNKNOWN = "unknown"
 EDGES = (0, 1, 2, 255, 256, 257, 4095, 4096, 64000, 65535, 65536, 2**32 - 1, 2**32, LATEST, LATEST + 1, 2**63 - 1, 2**63)
 COMMAND_LINES = (
@@ -34,14 +36,14 @@ Case.__doc__ = """One case: the scenario's text, the seed, and what must come of
 
 
 def small(rng, *limits):
-    """The index of a limit, the earlier ones far more often, as a number between the limit before it and itself."""
-    at = min(int(rng.expovariate(1.2)), len(limits) - 2)
-    return rng.randint(limits[at], limits[at + 1])
+    """A number between two limits that stand side by side, the first ones far more often; now and then the last limit itself."""
+    at = min(int(rng.expovariate(1.2)), len(limits) - 1)
+    return rng.randint(limits[at], limits[min(at + 1, len(limits) - 1)])
 
 
 def network(rng):
     """The keys of a network."""
-    nodes = small(rng, 1, 8, 24, 64, 256)
+    nodes = small(rng, 2, 8, 24, 64, 256) if rng.random() < 0.95 else 1
     shape = rng.choice([*TOPOLOGIES, "links", "links"])
     delay = rng.choice([1, 1, rng.randint(2, 9), rng.randint(10, 1000), 1000000])
     if shape == "links":
@@ -87,35 +89,38 @@ def scenario(rng):
     top["member"] = members(rng, top)
     network_of = Scenario(top)
     far = max((network_of.distance(0, it) for it in range(len(top["member"]))), default=0)
-    drawn, told = small(rng, 1, 6, 20, 60, 600, 4096), small(rng, 0, 3, 8, 40, 4096)
+    most = MOST_ROWS // max(1, len(top["member"]))
+    drawn, told = (min(most, small(rng, *limits)) for limits in ((1, 6, 20, FEW, 600, 4096), (0, 3, 8, 40, 4096)))
+    dropped = small(rng, 1, 6, 20, 80, 4096) if rng.random() < 0.85 else 0
     hour = 1 + far * rng.choice([0, 1, 3, 10, 40]) + rng.choice([0, 5, 50])
     wish = hour + rng.choice([0, far, 5 * far, 20 * far, 20 * far, 100 * far, LATEST - hour])
-    top["until"] = bounded_until(top, drawn, told, wish)
-    for member in top["member"]:
+    top["until"] = bounded_until(top, drawn if drawn <= FEW else min(drawn, dropped), wish)
+    for member in top["member"] if drawn <= FEW else []:
         stay(rng, member, min(hour, top["until"]), top["until"])
     top["draw"] = [
-        {"member": it, "page": rng.choice([0, 0, 0, 1, 2, 65535]), "ink": rng.choice([7, rng.randrange(2**32)]), "at": at}
+        {"member": it, "page": rng.choice([0, 0, 0, 1, 2, 65535]), "ink": rng.choice(INKS), "at": at}
         for it, at in acts(rng, top, ROLES[:1], hour, drawn, {})
     ]
     heard = arrivals(rng, top, network_of)
-    meet_packets(rng, top, heard)
+    if drawn <= FEW:
+        meet_packets(rng, top, heard)
     top["session"] = [{"member": it, "at": at} for it, at in acts(rng, top, ROLES[:3], hour, told, heard)]
-    top["drop"] = drops(rng, top, network_of)
+    top["drop"] = drops(rng, top, network_of, dropped)
     for part in LENGTHS:
         if part in top and not top[part] and rng.random() < 0.5:
             del top[part]
     return top
 
 
-def bounded_until(top, drawn, told, until):
-    """The greatest end below a wish at which a run has not too many rows, whatever is lost."""
-    while until > 1 and rows_at_most(top, drawn, told, until) > MOST_ROWS:
+def bounded_until(top, losses, until):
+    """An end at or below a wish at which a run has not too many rows, whatever becomes of its losses."""
+    while until > 1 and rows_at_most(top, losses, until) > MOST_ROWS:
         until //= 2
     return until
 
 
-def rows_at_most(top, drawn, told, until):
-    """About how many rows a run has in which much is lost: each loser asks, backs off, and is heard by all."""
+def rows_at_most(top, losses, until):
+    """About how many rows losses make that nobody mends: each loser asks and backs off, and each request is heard by all."""
     hearers, delay = len(top.get("member", [])), min((delay for _, _, delay in links_of(top)), default=1)
     least, asks, time = (top["c1"] + top["c2"] / 2) * delay / 1000, 0, 0
     while time < until and asks < MOST_ROWS:
@@ -124,8 +129,7 @@ def rows_at_most(top, drawn, told, until):
             break
         time += max(1, least * 2**asks)
         asks += 1
-    losers = 1 + 0.1 * hearers
-    return hearers * (drawn * losers * asks + told + drawn)
+    return losses * hearers * (1 + 0.1 * hearers) * asks
 
 
 def stay(rng, member, hour, until):
@@ -171,16 +175,16 @@ def acts(rng, top, roles, hour, most, heard):
     return found if rng.random() < 0.3 else sorted(found, key=lambda it: it[1])
 
 
-def drops(rng, top, network_of):
+def drops(rng, top, network_of, most):
     """Which packets are dropped where: mostly early ones of those that draw, on the way to some member."""
     found, sent = [], [it["member"] for it in top["draw"] + top["session"]]
-    for _ in range(small(rng, 0, 6, 20, 80, 4096) if sent else 0):
+    for _ in range(most if sent else 0):
         sender = rng.choice([rng.choice(sent), rng.choice(sent), rng.randrange(len(top["member"]))])
         path = network_of.path(sender, rng.randrange(len(top["member"])))
         if path:
             count = rng.choice([0, rng.randrange(1 + min(9, sent.count(sender))), rng.randrange(40), 2**32 - 1])
             found.append({"link": rng.choice([path[0], rng.choice(path)]), "sender": sender, "count": count})
-    return found + found[:rng.choice([0, 0, 1])]
+    return (found + found[:rng.choice([0, 0, 1])])[:LENGTHS["drop"]]
 
 
 # ---- as text -------------------------------------------------------------------
@@ -321,7 +325,10 @@ def has_long_number(value):
 
 def is_short(top):
     """Whether a run of an accepted scenario has not too many rows for a check in Python."""
-    return rows_at_most(top, len(top.get("draw", [])), len(top.get("session", [])), top["until"]) <= 4 * MOST_ROWS
+    drawn, told, dropped, members = (len(top.get(part, [])) for part in ("draw", "session", "drop", "member"))
+    is_steady = not any(member.get("join") or "leave" in member for member in top.get("member", []))
+    losses = min(drawn, dropped) if is_steady else drawn
+    return rows_at_most(top, losses, top["until"]) + members * (drawn + told) <= 4 * MOST_ROWS
 
 
 def must_of(top):
