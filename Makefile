@@ -7,7 +7,7 @@ PREFIX ?= /usr/local
 SCENARIO ?= examples/two-nodes.toml
 CRATE ?=
 SECONDS ?= 60
-FEW_CASES := 120
+FEW_CASES := 100
 export RT
 
 .PHONY: build run try check test test-program test-memory fuzz bench install fmt clean help

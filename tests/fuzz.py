@@ -178,7 +178,10 @@ def main():
     options = parser.parse_args()
     resource.setrlimit(resource.RLIMIT_AS, (MEMORY, resource.getrlimit(resource.RLIMIT_AS)[1]))
     run = runner(options.program.absolute())
-    tables = tables_named(run)
+    try:
+        tables = tables_named(run)
+    except (OSError, Wrong) as wrong:
+        sys.exit(f"{options.program}: {wrong}")
     kinds, failed, began = collections.Counter(), 0, time.monotonic()
     for seed in seeds(options):
         told, kind = failure(run, tables, seed)
