@@ -6,6 +6,7 @@ TEST_PROGRAMS := crates/srm_examples/out/srm_examples_tests crates/srm_ledger/ou
 PREFIX ?= /usr/local
 SCENARIO ?= examples/two-nodes.toml
 CRATE ?=
+BENCH ?=
 SECONDS ?= 60
 FEW_CASES := 100
 export RT
@@ -28,12 +29,14 @@ check: ## what an edit needs: proves each crate that changed, or CRATE=srm_net w
 	@tests/tools_tests.py -q
 	@tests/fuzz_tests.py -q
 	@tests/architecture.py
+	@tests/promises.py
 	@tools/prove.py $(if $(CRATE),crates/$(CRATE),crates)
 
 test: ## the merge gate: proves everything from nothing, with tests and must-fail edits, and checks the program that this made; tells the times
 	@tests/tools_tests.py -q
 	@tests/fuzz_tests.py -q
 	@tests/architecture.py
+	@tests/promises.py
 	@tools/gate.py -- make --no-print-directory test-program test-memory
 
 test-program: $(PROGRAM) ## compares what the program prints with each file of examples/, and tries it on some random scenarios
@@ -50,8 +53,8 @@ $(TEST_PROGRAMS): $(SOURCES)
 fuzz: $(PROGRAM) ## tries the program on random scenarios, and computes its tables a second time: make fuzz SECONDS=60
 	@tests/fuzz.py --seconds $(SECONDS) $(PROGRAM)
 
-bench: $(PROGRAM) ## prints how many events the program handles in a second
-	bench/events_per_second.py $(PROGRAM)
+bench: $(PROGRAM) ## prints how many rows the program handles in a second, beside a plain simulator: make bench BENCH=--long
+	@bench/events_per_second.py $(PROGRAM) $(BENCH)
 
 fmt: ## lays out the sources of each crate
 	@for crate in $(CRATES); do (cd crates/$$crate && $(RT) fmt) || exit 1; done

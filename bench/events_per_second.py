@@ -1,78 +1,228 @@
 #!/usr/bin/env python3
-"""Events per second of the built program, and how the time for an event grows with the number of nodes.
+"""Rows per second of the built program, beside a plain simulator of the same model (baseline.rs).
 
-usage: bench/events_per_second.py PROGRAM [--repeat N]
+usage: bench/events_per_second.py PROGRAM [--repeat N] [--long] [--only TEXT] [--instructions]
 
-Runs PROGRAM on generated scenarios: a chain, a tree of degree 4 and a star, each with a member on every node but the
-star's hub, with 1,000 draws by member 0 and one of its packets in ten dropped. Prints, for each, the rows of its
-trace, the least wall time of N runs, rows per second and microseconds a row; then the growth of the time for a row from
-16 nodes to 256. It asserts nothing.
+First both are compared, byte for byte: the traces and the tables of links of each scenario of examples/, with two
+seeds, and the traces of the generated scenarios. Where one differs nothing is timed, and the status is 1. Then both
+run in turn, N times each (3 by default), with standard output on /dev/null; the least processor time of each
+(user and system, from the start of the process to its end) is printed, with rows per second and the ratio of the two
+times. README.md in this folder tells what the scenarios are. Nothing is asserted about speed.
+
+--long          1,000 draws in place of 200, and the scenario at the limits of the format (some minutes)
+--only TEXT     only the scenarios whose name has TEXT in it
+--instructions  in place of times: instructions that valgrind's callgrind counts, on the two scenarios for it
+
+The baseline is built with `rustc -O` into out/. Without rustc the program is timed alone.
 """
 import argparse
+import collections
+import os
+import pathlib
+import re
+import shutil
 import subprocess
 import sys
-import time
+import tempfile
 
-DRAWS = 1000
+TOP = pathlib.Path(__file__).resolve().parent.parent
+SOURCE = TOP / "bench" / "baseline.rs"
+BASELINE = TOP / "out" / "baseline"
+SIZES = [16, 64, 256]
+
+# A generated scenario; `drops` and `sessions` are lists of the lines of these elements.
+Scenario = collections.namedtuple("Scenario", ["name", "shape", "nodes", "draws", "until", "drops", "sessions"])
+
+# A program under measurement, with its name in the tables.
+Program = collections.namedtuple("Program", ["name", "path"])
 
 
-def links(shape, nodes):
-    """How many links the topology has: a chain's or a tree's are its nodes less one, and so are a star's."""
-    return nodes - 1
+def drop(link, count):
+    return f"[[drop]]\nlink = {link}\nsender = 0\ncount = {count}"
 
 
-def scenario(shape, nodes):
-    first = 1 if shape == "star" else 0
-    lines = [
-        "version = 1",
-        "until = 2000000",
-        "c1 = 2000",
-        "c2 = 2000",
-        "d1 = 1000",
-        "d2 = 1000",
-        f'topology = "{shape}"',
-        f"size = {nodes}",
-        "delay = 5",
-    ]
-    if shape == "tree":
-        lines.append("degree = 4")
-    for node in range(first, nodes):
+def ordinary(shape, nodes, draws):
+    """One sender; of its packets 0, 10, 20 .. below `draws` each is dropped, at link 0, 10, 20 .. in turn."""
+    drops = [drop(count % (nodes - 1), count) for count in range(0, draws, 10)]
+    return Scenario(f"{shape} of {nodes}, {draws:,} draws", shape, nodes, draws, 2_000_000, drops, [])
+
+
+def at_the_limits():
+    """256 nodes and members, and 4,096 draws, session messages and drops each: as many as the format allows."""
+    drops = [drop(count % 255, count) for count in range(4096)]
+    sessions = [f"[[session]]\nmember = {k % 256}\nat = {k * 1000 + 500}" for k in range(4096)]
+    return Scenario("at the limits", "chain", 256, 4096, 2**40, drops, sessions)
+
+
+def scenarios(long):
+    """What is timed."""
+    draws = 1000 if long else 200
+    found = [ordinary(shape, nodes, draws) for shape in ["chain", "tree", "star"] for nodes in SIZES]
+    return found + [at_the_limits()] if long else found
+
+
+def scenarios_of_instructions():
+    """Those whose instructions are counted."""
+    return [ordinary("chain", 256, 1024), ordinary("star", 256, 400)]
+
+
+def text_of(scenario):
+    """The scenario as a file's text. Each node but a star's hub has a member, and the first of them is the sender."""
+    shape, first = scenario.shape, 1 if scenario.shape == "star" else 0
+    lines = ["version = 1", f"until = {scenario.until}", "c1 = 2000", "c2 = 2000", "d1 = 1000", "d2 = 1000"]
+    lines += [f'topology = "{shape}"', f"size = {scenario.nodes}", "delay = 5"]
+    lines += ["degree = 4"] if shape == "tree" else []
+    for node in range(first, scenario.nodes):
         role = "sender" if node == first else "receiver"
         lines += ["[[member]]", f"node = {node}", f'role = "{role}"', f"stream = {node}"]
-    for draw in range(DRAWS):
-        lines += ["[[draw]]", "member = 0", "page = 0", f"ink = {draw}", f"at = {draw * 1000}"]
-    for count in range(0, DRAWS, 10):
-        lines += ["[[drop]]", f"link = {count % links(shape, nodes)}", "sender = 0", f"count = {count}"]
-    return ("\n".join(lines) + "\n").encode()
+    for ink in range(scenario.draws):
+        lines += ["[[draw]]", "member = 0", "page = 0", f"ink = {ink}", f"at = {ink * 1000}"]
+    return ("\n".join(lines + scenario.sessions + scenario.drops) + "\n").encode()
 
 
-def measure(program, text, repeat):
-    """Rows of the trace, and the least wall time in seconds."""
-    best, rows = None, 0
+def baseline():
+    """The built baseline, or None where there is no rustc."""
+    if shutil.which("rustc") is None:
+        return None
+    if not BASELINE.exists() or BASELINE.stat().st_mtime < SOURCE.stat().st_mtime:
+        BASELINE.parent.mkdir(exist_ok=True)
+        subprocess.run(["rustc", "-O", "--edition", "2021", "-o", BASELINE, SOURCE], check=True)
+    return Program("baseline", BASELINE)
+
+
+def output(program, words, text):
+    """What a program writes on standard output."""
+    done = subprocess.run([program.path, *words], input=text, capture_output=True)
+    if done.returncode != 0:
+        told = done.stderr.decode(errors="replace").strip()
+        sys.exit(f"{program.path} {' '.join(words)}: status {done.returncode}: {told}")
+    return done.stdout
+
+
+def compare(programs, what, words, text):
+    """The rows that all programs write; ends this script where two differ."""
+    first = output(programs[0], words, text)
+    for other in programs[1:]:
+        second = output(other, words, text)
+        if first != second:
+            ours, theirs = first.split(b"\n"), second.split(b"\n")
+            both = zip(ours, theirs)
+            at = next((k for k, (a, b) in enumerate(both) if a != b), min(len(ours), len(theirs)))
+            print(f"{what}: line {at + 1} differs, and so nothing is timed", file=sys.stderr)
+            for program, lines in [(programs[0], ours), (other, theirs)]:
+                line = lines[at].decode() if at < len(lines) else "(none)"
+                print(f"  {program.name}: {line}", file=sys.stderr)
+            sys.exit(1)
+    return first.count(b"\n") - 1
+
+
+def compare_examples(programs):
+    examples = sorted((TOP / "examples").glob("*.toml"))
+    for example in examples:
+        for seed in ["0", "42"]:
+            for show in ["trace", "links"]:
+                compare(programs, example.name, ["--seed", seed, "--show", show], example.read_bytes())
+    return len(examples)
+
+
+def processor_time(program, path):
+    """Seconds, of the user's and the system's processor time, that a program takes for a scenario's file."""
+    with open(path, "rb") as text:
+        process = subprocess.Popen([program.path], stdin=text, stdout=subprocess.DEVNULL)
+    _, status, usage = os.wait4(process.pid, 0)
+    process.returncode = os.waitstatus_to_exitcode(status)
+    if process.returncode != 0:
+        sys.exit(f"{program.path}: status {process.returncode}")
+    return usage.ru_utime + usage.ru_stime
+
+
+def times(programs, path, repeat):
+    """For each program its least time, where they run in turn."""
+    best = [float("inf")] * len(programs)
     for _ in range(repeat):
-        begin = time.perf_counter()
-        done = subprocess.run([program], input=text, capture_output=True)
-        spent = time.perf_counter() - begin
-        if done.returncode != 0:
-            sys.exit(f"{program}: status {done.returncode}: {done.stderr.decode(errors='replace').strip()}")
-        rows = done.stdout.count(b"\n") - 1
-        best = spent if best is None else min(best, spent)
-    return rows, best
+        best = [min(least, processor_time(program, path)) for least, program in zip(best, programs)]
+    return best
+
+
+def instructions(programs, path, _):
+    """For each program the instructions that callgrind counts."""
+    counted = []
+    for program in programs:
+        command = ["valgrind", "--tool=callgrind", "--callgrind-out-file=/dev/null", program.path]
+        with open(path, "rb") as text:
+            done = subprocess.run(command, stdin=text, stdout=subprocess.DEVNULL, stderr=subprocess.PIPE, check=True)
+        counted.append(int(re.search(rb"Collected : (\d+)", done.stderr)[1]))
+    return counted
+
+
+def print_head(programs, unit):
+    columns = [f"{program.name} {it}" for it in unit for program in programs]
+    print(f"{'scenario':28} {'rows':>9}" + "".join(f" {it:>18}" for it in columns) + "  ratio" * (len(programs) > 1))
+
+
+def print_line(name, rows, columns, found):
+    ratio = f" {found[0] / found[1]:6.2f}" if len(found) > 1 else ""
+    print(f"{name:28} {rows:9}" + "".join(f" {it:>18}" for it in columns) + ratio, flush=True)
+
+
+def print_times(name, rows, best):
+    print_line(name, rows, [f"{it:.3f}" for it in best] + [f"{rows / it:.0f}" for it in best], best)
+
+
+def print_instructions(name, rows, counted):
+    print_line(name, rows, [f"{it / rows:.0f}" for it in counted], counted)
+
+
+def measure(programs, chosen, figures, show, repeat):
+    """A line for each scenario, and rows that all programs agree on; gives each program's figure for a row."""
+    by_row = {}
+    with tempfile.TemporaryDirectory() as folder:
+        path = pathlib.Path(folder) / "scenario.toml"
+        for scenario, rows in chosen:
+            path.write_bytes(text_of(scenario))
+            found = figures(programs, path, repeat)
+            show(scenario.name, rows, found)
+            by_row[scenario.shape, scenario.nodes, scenario.draws] = [figure / rows for figure in found]
+    return by_row
+
+
+def print_growth(programs, by_row):
+    """How the time for a row grows from the least network to the greatest of a shape."""
+    for shape, nodes, draws in by_row:
+        if nodes == SIZES[0] and (shape, SIZES[-1], draws) in by_row:
+            growth = zip(programs, by_row[shape, SIZES[-1], draws], by_row[shape, nodes, draws])
+            told = ", ".join(f"{program.name} {large / small:.2f}" for program, large, small in growth)
+            print(f"time for a row, {shape} of {SIZES[-1]} over {shape} of {SIZES[0]}: {told}")
 
 
 def main():
     parser = argparse.ArgumentParser(description=__doc__, formatter_class=argparse.RawDescriptionHelpFormatter)
     parser.add_argument("program")
     parser.add_argument("--repeat", type=int, default=3)
+    parser.add_argument("--long", action="store_true")
+    parser.add_argument("--only", default="")
+    parser.add_argument("--instructions", action="store_true")
     options = parser.parse_args()
-    print(f"{'shape':6} {'nodes':>5} {'rows':>9} {'seconds':>8} {'rows/s':>10} {'us/row':>7}")
-    for shape in ["chain", "tree", "star"]:
-        cost = {}
-        for nodes in [16, 64, 256]:
-            rows, spent = measure(options.program, scenario(shape, nodes), options.repeat)
-            cost[nodes] = spent / rows
-            print(f"{shape:6} {nodes:5} {rows:9} {spent:8.3f} {rows / spent:10.0f} {1e6 * cost[nodes]:7.2f}")
-        print(f"{shape:6} time for a row, 256 nodes over 16: {cost[256] / cost[16]:.2f}")
+    if options.instructions and shutil.which("valgrind") is None:
+        sys.exit("valgrind is missing: it counts the instructions")
+    programs = [Program("program", os.path.abspath(options.program))]
+    plain = baseline()
+    if plain is None:
+        print("rustc is missing: no baseline, the program is timed alone")
+    else:
+        programs.append(plain)
+    examples = compare_examples(programs)
+    chosen = scenarios_of_instructions() if options.instructions else scenarios(options.long)
+    chosen = [scenario for scenario in chosen if options.only in scenario.name]
+    chosen = [(scenario, compare(programs, scenario.name, [], text_of(scenario))) for scenario in chosen]
+    if plain is not None:
+        print(f"the same bytes from both: {examples} scenarios of examples/, {len(chosen)} generated ones", flush=True)
+    if options.instructions:
+        print_head(programs, ["instr./row"])
+        measure(programs, chosen, instructions, print_instructions, options.repeat)
+    else:
+        print_head(programs, ["seconds", "rows/s"])
+        print_growth(programs, measure(programs, chosen, times, print_times, options.repeat))
 
 
 if __name__ == "__main__":

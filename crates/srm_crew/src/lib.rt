@@ -16,5 +16,3 @@ pub mod pool;
 pub mod recording;
 pub mod rule;
 pub mod taken;
-#[cfg(test)]
-mod tests;

@@ -15,7 +15,10 @@ use Rattle.srm_member.specs.declared.cause.Cause.{Cause}
 use Rattle.srm_member.specs.declared.cause.Cause.TheVariants.{Join, Arrival, Ask, Answer, Draw, Report}
 use Rattle.srm_member.specs.declared.told.Told.{Told}
 use Rattle.srm_member.specs.declared.told.Told.TheVariants.{Entered, Fresh, Fixed, Again, Skip, Rest, Busy, Plan, Hold, Heard as Informed}
-use Rattle.srm_member.specs.Record.{Memory, Missing, Repairing, Stream}
+use Rattle.srm_member.specs.declared.entries.Missing.{Missing}
+use Rattle.srm_member.specs.declared.entries.Repairing.{Repairing}
+use Rattle.srm_member.specs.Fit.{heard_of}
+use Rattle.srm_member.specs.Record.{Memory, Stream}
 use Rattle.srm_member.specs.React.{Reaction, quietly, has_entry, with_stream, meet, lose_one, lose_from, names_from, lose_below, lost_below, holding, mending, got, resting, got_repair, planning, asked_missing_at, asked_held, requested, page_heard, after_entry, lost_by_entry, informed, hear_body, asking_at, asking, answering_at, answering, own_page, own_stream, drawing, is_skip, is_sender, is_listener, react_active, listened, listen, react_listener, react}
 use Rattle.srm_member.proofs.AllIn.{AllIn, AllIn-append, AllIn-map}
 use Rattle.srm_member.proofs.Changes.{Below, Grows, Brings, from_page, effect}
@@ -55,10 +58,10 @@ any_order Q Greater a b c h g f = f
 -- an entry of a session message, for a member that is no listener
 entry_grows : (at : ℕ) (h : Heard) (m : Memory) → is_listener m.fixed.role ≡ false → Grows (lost_by_entry h m) m (after_entry at h m)
 unfolding react informed
-entry_grows at h m no =
+entry_grows at h m no_listener =
     let p : Packet = record { id = record { sender = 0; count = 0 }; sent = 0; body = Session (h ∷ []) } in
     let same : react m at (Arrival p) ≡ quietly (after_entry at h m) Informed (lost_by_entry h m) =
-    ap (λ b. cond b (react_listener m (Arrival p)) (react_active m at (Arrival p))) no in
+    ap (λ b. cond b (react_listener m (Arrival p)) (react_active m at (Arrival p))) no_listener in
     elim (effect m at (Arrival p)) [
       | inl q ↦ subst (λ (r : Reaction). Grows r.answer.lost m r.memory) same q.grows
       | inr b ↦ absurd (elim b [ inl x ↦ no_name x.name x.ink x.brings | inr x ↦ x ])
@@ -112,10 +115,12 @@ module _ (members : ℕ) where
   lose_pages at p zero first m = refl
   lose_pages at p (suc count) first m = lose_pages at p count (suc first) (lose_one at (name_in p first) m)
 
-  pages_below : (at : ℕ) (p : PageId) (n next : ℕ) (s : Stream) (m : Memory) → p.source < members → PagesOf m.streams → PagesOf (lose_below at p n next s m).streams
+  pages_below : (at : ℕ) (p : PageId) (n next : ℕ) (s : Stream) (m : Memory) → p.source < members → PagesOf m.streams
+      → PagesOf (lose_below at p n next s m).streams
   unfolding lose_below
   pages_below at p n next s m h g =
-      pages_put p (record { floor = s.floor; next = next }) (lose_from at p (n - s.next) s.next m).streams h (subst PagesOf (sym (lose_pages at p (n - s.next) s.next m)) g)
+      let k = lose_from at p (n - s.next) s.next m in
+      pages_put p (record { floor = s.floor; next = next }) k.streams h (subst PagesOf (sym (lose_pages at p (n - s.next) s.next m)) g)
 
   names_of : (p : PageId) (count first : ℕ) → p.source < members → OfMembers (names_from p count first)
   names_of p zero first h = tt
@@ -128,11 +133,14 @@ module _ (members : ℕ) where
     names_apart p count (suc first),
   )
 
-  plain : (m : Memory) (told : Told) → PagesOf m.streams → Known (quietly m told [])
-  plain m told g = record { pages = g; lost = tt; apart = tt; session = tt }
+  plain : (m : Memory) (answer : Told) → PagesOf m.streams → Known (quietly m answer [])
+  plain m answer g = record { pages = g; lost = tt; apart = tt; session = tt }
 
-  losing : (m : Memory) (told : Told) (p : PageId) (n : ℕ) (s : Stream) → p.source < members → PagesOf m.streams → Known (quietly m told (lost_below p n s))
-  losing m told p n s h g = record { pages = g; lost = names_of p (n - s.next) s.next h; apart = names_apart p (n - s.next) s.next; session = tt }
+  losing : (m : Memory) (answer : Told) (p : PageId) (n : ℕ) (s : Stream) → p.source < members → PagesOf m.streams
+      → Known (quietly m answer (lost_below p n s))
+  losing m answer p n s h g =
+      let count = n - s.next in
+      record { pages = g; lost = names_of p count s.next h; apart = names_apart p count s.next; session = tt }
 
   -- ---- packets
 
@@ -141,21 +149,26 @@ module _ (members : ℕ) where
   got_known at n ink m h g =
       let p = page_of n in
       let s = meet m p n.number in
-      let met : PagesOf (with_stream p s m).streams = pages_put p s m.streams h g in
-      either_way Known (nat_lt n.number s.floor) _ _ (plain (with_stream p s m) Skip met)
-      (either_way Known (nat_le s.next n.number) _ _
-      (losing (holding n ink (lose_below at p n.number (n.number + 1) s m)) Fresh p n.number s h (pages_below at p n.number (n.number + 1) s m h g))
-      (either_way Known (has_entry n m.missing) _ _ (plain (mending n ink (with_stream p s m)) Fixed met) (plain (with_stream p s m) Again met)))
+      let k = with_stream p s m in
+      let met : PagesOf k.streams = pages_put p s m.streams h g in
+      let lose = lose_below at p n.number (n.number + 1) s m in
+      let lost : PagesOf lose.streams = pages_below at p n.number (n.number + 1) s m h g in
+      either_way Known (nat_lt n.number s.floor) _ _ (plain k Skip met)
+      (either_way Known (nat_le s.next n.number) _ _ (losing (holding n ink lose) Fresh p n.number s h lost)
+      (either_way Known (has_entry n m.missing) _ _ (plain (mending n ink k) Fixed met) (plain k Again met)))
 
   repair_known : (at : ℕ) (n : Name) (ink who : ℕ) (m : Memory) → n.source < members → PagesOf m.streams → Known (got_repair at n ink who m)
   repair_known at n ink who m h g =
       let r = got at n ink m in
       let k = got_known at n ink m h g in
-      either_way Known (is_skip r.answer.told) r (record r { memory = resting at n who r.memory }) k (record { pages = k.pages; lost = k.lost; apart = k.apart; session = k.session })
+      either_way Known (is_skip r.answer.told) r (record r { memory = resting at n who r.memory }) k
+      (record { pages = k.pages; lost = k.lost; apart = k.apart; session = k.session })
 
-  asked_known : (at : ℕ) (n : Name) (lost : List Name) (m : Memory) (o : Option Missing) → Known (quietly m Hold lost) → Known (asked_missing_at at n lost m o)
+  asked_known : (at : ℕ) (n : Name) (lost : List Name) (m : Memory) (o : Option Missing) → Known (quietly m Hold lost)
+      → Known (asked_missing_at at n lost m o)
   asked_known at n lost m None k = k
-  asked_known at n lost m (Some e) k = either_way Known (nat_lt at e.ignore) _ _ k (record { pages = k.pages; lost = k.lost; apart = k.apart; session = tt })
+  asked_known at n lost m (Some e) k =
+      either_way Known (nat_lt at e.ignore) _ _ k (record { pages = k.pages; lost = k.lost; apart = k.apart; session = tt })
 
   held_known : (at : ℕ) (n : Name) (who : ℕ) (m : Memory) → PagesOf m.streams → Known (asked_held at n who m)
   held_known at n who m g =
@@ -170,10 +183,11 @@ module _ (members : ℕ) where
       let k = with_stream p s m in
       let met : PagesOf k.streams = pages_put p s m.streams h g in
       let lose = lose_below at p (n.number + 1) (n.number + 1) s k in
+      let lost : PagesOf lose.streams = pages_below at p (n.number + 1) (n.number + 1) s k h met in
       either_way Known (nat_lt n.number s.floor) _ _ (plain k Skip met)
       (either_way Known (has_entry n k.held) _ _ (held_known at n who k met)
       (either_way Known (nat_le s.next n.number) _ _
-      (asked_known at n (lost_below p (n.number + 1) s) lose (find name_cmp n lose.missing) (losing lose Hold p (n.number + 1) s h (pages_below at p (n.number + 1) (n.number + 1) s k h met)))
+      (asked_known at n (lost_below p (n.number + 1) s) lose (find name_cmp n lose.missing) (losing lose Hold p (n.number + 1) s h lost))
       (asked_known at n [] k (find name_cmp n k.missing) (plain k Hold met))))
 
   entry_pages : (at : ℕ) (h : Heard) (m : Memory) → h.source < members → PagesOf m.streams → PagesOf (after_entry at h m).streams
@@ -185,15 +199,16 @@ module _ (members : ℕ) where
       (pages_below at p (h.highest + 1) (h.highest + 1) s m lt g) (pages_put p s m.streams lt g)
 
   -- names of later entries are new, and so others than those lost by the entries before
-  informed_known : (at : ℕ) (hs : List Heard) (m : Memory) (lost : List Name) → is_listener m.fixed.role ≡ false → HeardOf hs → ((n : Name) → Contains lost n → Below n m) → Known (quietly m Informed lost) → Known (informed at hs m lost)
+  informed_known : (at : ℕ) (hs : List Heard) (m : Memory) (lost : List Name) → is_listener m.fixed.role ≡ false → HeardOf hs
+      → ((n : Name) → Contains lost n → Below n m) → Known (quietly m Informed lost) → Known (informed at hs m lost)
   unfolding informed
-  informed_known at [] m lost no of_hs below k = k
-  informed_known at (h ∷ hs) m lost no of_hs below k =
-      let g = entry_grows at h m no in
+  informed_known at [] m lost no_listener of_hs below k = k
+  informed_known at (h ∷ hs) m lost no_listener of_hs below k =
+      let g = entry_grows at h m no_listener in
       let p = page_heard h in
       let s = meet m p (h.highest + 1) in
       let more = lost_by_entry h m in
-      informed_known at hs (after_entry at h m) (lost ++ more) (ap (λ (f : FixedPart). is_listener f.role) g.fixed ∙ no) of_hs.1
+      informed_known at hs (after_entry at h m) (lost ++ more) (ap (λ (f : FixedPart). is_listener f.role) g.fixed ∙ no_listener) of_hs.1
       (λ n c. elim (Contains-append_cases lost more n c) [ inl x ↦ g.below n (below n x) | inr x ↦ g.heard n x ])
       (record {
         pages = entry_pages at h m of_hs.0 k.pages;
@@ -202,11 +217,13 @@ module _ (members : ℕ) where
         session = tt;
       })
 
-  hear_known : (at who : ℕ) (b : Body) (m : Memory) → is_listener m.fixed.role ≡ false → BodyOf b → PagesOf m.streams → Known (hear_body at who b m)
-  hear_known at who (Drawop n ink) m no h g = got_known at n ink m h g
-  hear_known at who (Repair n ink) m no h g = repair_known at n ink who m h g
-  hear_known at who (Request n) m no h g = request_known at n who m h g
-  hear_known at who (Session hs) m no h g = informed_known at hs m [] no h (λ n c. absurd (contains_none n c)) (plain m Informed g)
+  hear_known : (at who : ℕ) (b : Body) (m : Memory) → is_listener m.fixed.role ≡ false → BodyOf b → PagesOf m.streams
+      → Known (hear_body at who b m)
+  hear_known at who (Drawop n ink) m no_listener h g = got_known at n ink m h g
+  hear_known at who (Repair n ink) m no_listener h g = repair_known at n ink who m h g
+  hear_known at who (Request n) m no_listener h g = request_known at n who m h g
+  hear_known at who (Session hs) m no_listener h g =
+      informed_known at hs m [] no_listener h (λ n c. absurd (contains_none n c)) (plain m Informed g)
 
   -- ---- timers, draws and reports
 
@@ -227,18 +244,19 @@ module _ (members : ℕ) where
       (record { pages = pages_put p (record { floor = s.floor; next = s.next + 1 }) m.streams h g; lost = tt; apart = tt; session = tt })
       (plain m Skip g)
 
-  active_known : (m : Memory) (at : ℕ) (cause : Cause) → is_listener m.fixed.role ≡ false → m.fixed.member < members → CauseOf cause → PagesOf m.streams → Known (react_active m at cause)
+  active_known : (m : Memory) (at : ℕ) (cause : Cause) → is_listener m.fixed.role ≡ false → m.fixed.member < members
+      → CauseOf cause → PagesOf m.streams → Known (react_active m at cause)
   unfolding asking answering
-  active_known m at Join no h c g = plain m Entered g
-  active_known m at (Arrival p) no h c g = hear_known at p.id.sender p.body m no c g
-  active_known m at (Ask n) no h c g = asking_known at n m (find name_cmp n m.missing) g
-  active_known m at (Answer n) no h c g = answering_known at n m (find name_cmp n m.repairs) g
-  active_known m at (Draw page ink) no h c g = drawing_known page ink m h g
-  active_known m at Report no h c g = record {
+  active_known m at Join no_listener h c g = plain m Entered g
+  active_known m at (Arrival p) no_listener h c g = hear_known at p.id.sender p.body m no_listener c g
+  active_known m at (Ask n) no_listener h c g = asking_known at n m (find name_cmp n m.missing) g
+  active_known m at (Answer n) no_listener h c g = answering_known at n m (find name_cmp n m.repairs) g
+  active_known m at (Draw page ink) no_listener h c g = drawing_known page ink m h g
+  active_known m at Report no_listener h c g = record {
     pages = g;
     lost = tt;
     apart = tt;
-    session = AllIn-map (λ (x : Heard). x.source < members) (λ (e : PageId × Stream). record { source = e.0.source; page = e.0.page; highest = e.1.next - 1 }) m.streams g;
+    session = AllIn-map (λ (x : Heard). x.source < members) (λ e. heard_of e.0 e.1) m.streams g;
   }
 
   -- ---- listeners
@@ -260,11 +278,13 @@ module _ (members : ℕ) where
   listener_known m (Draw page ink) g = plain m Skip g
   listener_known m Report g = plain m Skip g
 
-  by_role : (m : Memory) (at : ℕ) (cause : Cause) (b : Bool) → is_listener m.fixed.role ≡ b → m.fixed.member < members → CauseOf cause → PagesOf m.streams → Known (cond b (react_listener m cause) (react_active m at cause))
+  by_role : (m : Memory) (at : ℕ) (cause : Cause) (b : Bool) → is_listener m.fixed.role ≡ b → m.fixed.member < members
+      → CauseOf cause → PagesOf m.streams → Known (cond b (react_listener m cause) (react_active m at cause))
   by_role m at cause true q h c g = listener_known m cause g
   by_role m at cause false q h c g = active_known m at cause q h c g
 
   -- what a member answers, where it and all that it heard of are members
-  pub known : (m : Memory) (at : ℕ) (cause : Cause) → m.fixed.member < members → CauseOf cause → PagesOf m.streams → Known (react m at cause)
+  pub known : (m : Memory) (at : ℕ) (cause : Cause) → m.fixed.member < members → CauseOf cause → PagesOf m.streams
+      → Known (react m at cause)
   unfolding react
   known m at cause h c g = by_role m at cause (is_listener m.fixed.role) refl h c g

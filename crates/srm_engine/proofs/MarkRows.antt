@@ -120,12 +120,19 @@ module _ (Q : Mark → Type 0) (m : ℕ) (c : PlainCell) (all : AllIn Q c.script
 
   timer_marks : (o : Option Due) → OnEvent (MarksOf Q m) (next_timer m c o)
   timer_marks None = tt
-  timer_marks (Some d) = record { member = refl; rest = all; from = inr (cause_of_timer d.rank d.name, refl, timer_no_join (d.rank == 2) d.name) }
+  timer_marks (Some d) = record {
+    member = refl;
+    rest = all;
+    from = inr (cause_of_timer d.rank d.name, refl, timer_no_join (d.rank == 2) d.name);
+  }
 
   pub next_marks : OnEvent (MarksOf Q m) (next_event m c)
   unfolding next_event
-  next_marks = earlier_on (MarksOf Q m) (first_arrival m c c.inbox) _ (arrival_marks c.inbox)
-      (earlier_on (MarksOf Q m) (first_mark m c c.script) (next_timer m c (due_of c.holds)) (script_marks c.script all) (timer_marks (due_of c.holds)))
+  next_marks =
+      let marks = script_marks c.script all in
+      let timers = timer_marks (due_of c.holds) in
+      earlier_on (MarksOf Q m) (first_arrival m c c.inbox) _ (arrival_marks c.inbox)
+      (earlier_on (MarksOf Q m) (first_mark m c c.script) (next_timer m c (due_of c.holds)) marks timers)
 
 -- ---- the script after a step
 
@@ -186,7 +193,8 @@ module _ (t : Traffic) (m : ℕ) (e : Event) (d : Stepped) (does : Does e d) whe
         join = λ w. elim (kinds k) [
           | inl j ↦
               let o = own.join j.0 in
-              let same : mark_key m k ≡ own_key (t.join m) m 0 = λ i. record { time = o.0 i; member = m; rank = j.0 i; a = 0; b = 0; c = o.1 i } in
+              let same : mark_key m k ≡ own_key (t.join m) m 0 =
+              λ i. record { time = o.0 i; member = m; rank = j.0 i; a = 0; b = 0; c = o.1 i } in
               subst (λ x. d.row.key ≡ own_key (t.join x) x 0) member (at ∙ same)
           | inr x ↦ elim x [
             | inl y ↦ absurd ((cause_word y.cause).0 y.no_join (sym (ap word_of y.is) ∙ says ∙ w))
@@ -200,7 +208,8 @@ module _ (t : Traffic) (m : ℕ) (e : Event) (d : Stepped) (does : Does e d) whe
             | inr y ↦
                 let six = own.ranks y.not_join y.not_draw y.not_report in
                 let o = own.leave six in
-                let same : mark_key m k ≡ own_key k.at m 6 = λ i. record { time = k.at; member = m; rank = six i; a = 0; b = 0; c = o.1 i } in
+                let same : mark_key m k ≡ own_key k.at m 6 =
+                λ i. record { time = k.at; member = m; rank = six i; a = 0; b = 0; c = o.1 i } in
                 (k.at, subst (λ x. t.leave x ≡ Some k.at) member o.0, subst (λ x. d.row.key ≡ own_key k.at x 6) member (at ∙ same))
           ]
         ];
@@ -239,9 +248,9 @@ module _ (t : Traffic) (rows : List Row) (rise : Ascends row_cmp rows) (marks : 
 
   pub joins_once : IsOnce word.Join rows
   joins_once before after r e cause h =
-      let mine : r.key ≡ own_key (t.join r.key.member) r.key.member 0 = (here before after r e).join cause in
-      let other : h.0.key ≡ own_key (t.join h.0.key.member) h.0.key.member 0 = (earlier_row before after h.0 r e h.1).join h.3 in
-      let same : own_key (t.join h.0.key.member) h.0.key.member 0 ≡ own_key (t.join r.key.member) r.key.member 0 = ap (λ m. own_key (t.join m) m 0) h.2 in
+      let mine = (here before after r e).join cause in
+      let other = (earlier_row before after h.0 r e h.1).join h.3 in
+      let same = ap (λ m. own_key (t.join m) m 0) h.2 in
       keys_differ before after h.0 r (split_order before after r e) h.1 (other ∙ same ∙ sym mine)
 
   pub leaves_once : IsOnce word.Leave rows

@@ -1,5 +1,5 @@
 -- The rows of a run of an accepted scenario are orderly.
-use Rattle.std.proofs.Common.{◌≡◌, ℕ, zero, suc, ◌<◌, ◌+◌, List, [], ◌∷◌, ◌++◌, length, refl, sym, ap, ◌∙◌, subst, inl, inr, arith, Option, Some, None, unwrap_or, slice_get, append_assoc, zero-add}
+use Rattle.std.proofs.Common.{◌≡◌, ℕ, zero, suc, ◌<◌, ◌+◌, List, [], ◌∷◌, ◌++◌, length, refl, sym, ap, ◌∙◌, subst, inl, inr, arith, Option, Some, None, unwrap_or, slice_get, append_assoc, append-nil, zero-add}
 use Rattle.std.specs.List.{Contains}
 use Rattle.std.proofs.lemmas.List.Elements.{Contains-append_left, Contains-append_right}
 use Rattle.std.proofs.lemmas.Option.{slice_get-get_or}
@@ -31,7 +31,7 @@ use Rattle.srm_cell.specs.Cells.{PlainCell, opening_cell, hear_at, hear, Event, 
 use Rattle.srm_cell.specs.OwnRuns.{told_to}
 use Rattle.srm_cell.proofs.FitSettings.{settings_are_fit}
 use Rattle.srm_cell.proofs.Rising.{OnEvent, before_on}
-use Rattle.srm_engine.specs.World.{World, settled, opening, opening_cells, run, row_cmp, IsReached}
+use Rattle.srm_engine.specs.World.{World, settled, opening, opening_cells, run, row_cmp, IsReached, IsOutcome}
 use Rattle.srm_engine.specs.Handed.{SentIn}
 use Rattle.srm_engine.specs.Names.{Drew, Carries, ToldOf, Lost, Lacks}
 use Rattle.srm_engine.specs.Tables.{TracesAreOrderly}
@@ -88,7 +88,8 @@ module _ (s : Setting) (fit : IsFit s) (own : (j : ℕ) → j < s.traffic.member
 
   -- ---- after a step
 
-  module _ (cs : List PlainCell) (trace : List Row) (e : Event) (d : Stepped) (was : Runs cs trace) (steps : Steps s.traffic.until cs e d) where
+  module _ (cs : List PlainCell) (trace : List Row) (e : Event) (d : Stepped) (was : Runs cs trace)
+      (steps : Steps s.traffic.until cs e d) where
     abbrev m : ℕ
     m = e.key.member
 
@@ -109,11 +110,15 @@ module _ (s : Setting) (fit : IsFit s) (own : (j : ℕ) → j < s.traffic.member
 
     -- ---- cells
 
-    hear_at_same : (p : Packet) (o : Option ℕ) (c : PlainCell) → ((hear_at p o c).holds ≡ c.holds) × ((hear_at p o c).script ≡ c.script)
+    -- what is handed to a cell leaves its record and its script
+    abbrev Same : PlainCell → PlainCell → Type 0
+    Same b c = (b.holds ≡ c.holds) × (b.script ≡ c.script)
+
+    hear_at_same : (p : Packet) (o : Option ℕ) (c : PlainCell) → Same (hear_at p o c) c
     hear_at_same p None c = (refl, refl)
     hear_at_same p (Some at) c = (refl, refl)
 
-    told_same : (y : Option Packet) (j : ℕ) (c : PlainCell) → ((told_to s.traffic y j c).holds ≡ c.holds) × ((told_to s.traffic y j c).script ≡ c.script)
+    told_same : (y : Option Packet) (j : ℕ) (c : PlainCell) → Same (told_to s.traffic y j c) c
     unfolding hear
     told_same None j c = (refl, refl)
     told_same (Some p) j c = hear_at_same p (arrival_of s.traffic p j) c
@@ -123,7 +128,9 @@ module _ (s : Setting) (fit : IsFit s) (own : (j : ℕ) → j < s.traffic.member
         let r = least_from s.traffic.until 0 cs e steps.least in
         let at_j : before s.traffic.until (next_event r.0 r.1) ≡ Some e = rw zero-add at r.3 in
         let Q = IsOwnMark s.traffic r.0 in
-        let event : MarksOf Q r.0 e = subst (OnEvent (MarksOf Q r.0)) at_j (before_on (MarksOf Q r.0) s.traffic.until (next_event r.0 r.1) (next_marks Q r.0 r.1 (was.marks r.0 r.1 r.2))) in
+        let P = MarksOf Q r.0 in
+        let next : OnEvent P (next_event r.0 r.1) = next_marks Q r.0 r.1 (was.marks r.0 r.1 r.2) in
+        let event : P e = subst (OnEvent P) at_j (before_on P s.traffic.until (next_event r.0 r.1) next) in
         subst (λ j. MarksOf (IsOwnMark s.traffic j) j e) (sym event.member) event
 
     now_marks : AllIn (IsOwnMark s.traffic m) d.cell.script
@@ -184,8 +191,10 @@ module _ (s : Setting) (fit : IsFit s) (own : (j : ℕ) → j < s.traffic.member
       cause_by Report is (inr t) = tt
 
       knows : Known members r
-      knows = known members mem e.key.time a.cause (subst (λ j. j < members) (sym k.member) below) (cause_by a.cause a.is facts.pending.takes)
-          (subst RecordOf holds (was.pages m facts.cell facts.here))
+      knows =
+          let member : mem.fixed.member < members = subst (λ j. j < members) (sym k.member) below in
+          let heard : CauseOf members a.cause = cause_by a.cause a.is facts.pending.takes in
+          known members mem e.key.time a.cause member heard (subst RecordOf holds (was.pages m facts.cell facts.here))
 
       new_by : (cause : Cause) → Effect mem cause r → (n : Name) → Contains r.answer.lost n → ¬ Below n mem
       new_by cause (inl q) n c = q.grows.new n c
@@ -217,7 +226,8 @@ module _ (s : Setting) (fit : IsFit s) (own : (j : ℕ) → j < s.traffic.member
       fixed_by (Draw page ink) is (inr (inl h)) t = absurd h
       fixed_by Report is (inr h) t = absurd (elim h [ inl x ↦ x | inr x ↦ x ])
 
-      session_by : (body : Option Body) → Sends e body d → SessionOf members body → (p : Packet) → d.row.sent ≡ Some p → SessionOf members (Some p.body)
+      session_by : (body : Option Body) → Sends e body d → SessionOf members body → (p : Packet) → d.row.sent ≡ Some p
+          → SessionOf members (Some p.body)
       session_by None h g p q = let x : None ≡ Some p = sym h.0 ∙ q in cc
       session_by (Some b) h g p q =
           let same : packet_of e b ≡ p = same_some _ _ (sym h.0 ∙ q) in
@@ -235,6 +245,10 @@ module _ (s : Setting) (fit : IsFit s) (own : (j : ℕ) → j < s.traffic.member
 
     now : Now
     now = elim facts.does.how [ inl a ↦ answer_now a | inr l ↦ leave_now l ]
+
+    pages_after : EachCell (λ j c. RecordOf c.holds) (settled s m d 0 cs)
+    pages_after = each_after s (λ j c. RecordOf c.holds) cs m d facts.cell facts.here now.pages
+        (λ j c g ne. subst RecordOf (sym (told_same d.row.sent j c).0) (was.pages j c g))
 
     -- ---- rows
 
@@ -268,13 +282,15 @@ module _ (s : Setting) (fit : IsFit s) (own : (j : ℕ) → j < s.traffic.member
     bodies_after p h = elim (sent_cases p trace d.row h) [ inl g ↦ was.bodies p g | inr g ↦ body_now p g p.body refl ]
 
     abbrev LosesNew : List Row → Row → Type 0
-    LosesNew before x = (front back : List Name) (n : Name) → x.lost ≡ front ++ n ∷ back → (¬ LostIn x.key.member n before) × (¬ Contains front n)
+    LosesNew before x =
+        (front back : List Name) (n : Name) → x.lost ≡ front ++ n ∷ back → (¬ LostIn x.key.member n before) × (¬ Contains front n)
 
     loses_new : LosesNew trace d.row
-    loses_new front back n is = (
-      (λ h. now.new n (subst (λ ns. Contains ns n) (sym is) (Contains-append_right front (n ∷ back) n (0, omega arith, refl))) (h.0, h.1, h.2 ∙ row_member, h.3)),
-      none_before front back n (subst Apart is now.apart),
-    )
+    loses_new front back n is =
+        let here : Contains (front ++ n ∷ back) n = Contains-append_right front (n ∷ back) n (0, omega arith, refl) in (
+          (λ h. now.new n (subst (λ ns. Contains ns n) (sym is) here) (h.0, h.1, h.2 ∙ row_member, h.3)),
+          none_before front back n (subst Apart is now.apart),
+        )
 
     lost_once_after : AreLostOnce rows
     lost_once_after first last x front back n split is = elim (split_cases trace d.row first x last split) [
@@ -287,18 +303,23 @@ module _ (s : Setting) (fit : IsFit s) (own : (j : ℕ) → j < s.traffic.member
     told_fixed n h =
         let b = brought_of h.0.about n h.4 in
         let at = split_at trace h.0 h.1 in
-        let sent = (was.names.handed.before at.0 at.1 h.0 b.0 at.2 b.1).0 in
-        (h.0, h.1, record {
-          member = h.2;
-          told_so = h.3;
-          packet = b.0;
-          about = b.1;
-          sent = subst (SentIn b.0) (sym at.2) (sent_more b.0 at.0 (h.0 ∷ at.1) sent);
-          carries = b.2;
-        })
+        let sent = (was.names.handed.before at.0 at.1 h.0 b.0 at.2 b.1).0 in (
+          h.0,
+          h.1,
+          record {
+            member = h.2;
+            told_so = h.3;
+            packet = b.0;
+            about = b.1;
+            sent = subst (SentIn b.0) (sym at.2) (sent_more b.0 at.0 (h.0 ∷ at.1) sent);
+            carries = b.2;
+          },
+        )
 
     abbrev FixesLost : List Row → Row → Type 0
-    FixesLost before x = x.told ≡ Fixed → (n : Name) × (brought x.about ≡ Some n) × LostIn x.key.member n before × ¬ FixedIn x.key.member n before
+    FixesLost before x =
+        x.told ≡ Fixed
+        → (n : Name) × (brought x.about ≡ Some n) × LostIn x.key.member n before × ¬ FixedIn x.key.member n before
 
     fixes_lost : FixesLost trace d.row
     fixes_lost told =
@@ -317,7 +338,7 @@ module _ (s : Setting) (fit : IsFit s) (own : (j : ℕ) → j < s.traffic.member
     runs_step = record {
       names = now_names;
       marks = marks_after;
-      pages = each_after s (λ j c. RecordOf c.holds) cs m d facts.cell facts.here now.pages (λ j c g ne. subst RecordOf (sym (told_same d.row.sent j c).0) (was.pages j c g));
+      pages = pages_after;
       among = among_after;
       keyed = keyed_after;
       bodies = bodies_after;
@@ -327,7 +348,8 @@ module _ (s : Setting) (fit : IsFit s) (own : (j : ℕ) → j < s.traffic.member
 
   -- ---- the sequential run
 
-  opening_each : (Q : ℕ → PlainCell → Type 0) → ((j : ℕ) → j < members → Q j (opening_cell s j)) → (n i : ℕ) → i + n ≡ members → (j : ℕ) (c : PlainCell) → slice_get (opening_cells s n i) j ≡ Some c → Q (i + j) c
+  opening_each : (Q : ℕ → PlainCell → Type 0) → ((j : ℕ) → j < members → Q j (opening_cell s j)) → (n i : ℕ) → i + n ≡ members
+      → (j : ℕ) (c : PlainCell) → slice_get (opening_cells s n i) j ≡ Some c → Q (i + j) c
   unfolding opening_cells
   opening_each Q all zero i e j c h = cc
   opening_each Q all (suc n) i e zero c h =
@@ -337,7 +359,8 @@ module _ (s : Setting) (fit : IsFit s) (own : (j : ℕ) → j < s.traffic.member
       let there : suc i + j ≡ i + suc j = omega arith in
       subst (λ x. Q x c) there (opening_each Q all n (suc i) (omega arith) j c h)
 
-  opening_all : (Q : ℕ → PlainCell → Type 0) → ((j : ℕ) → j < members → Q j (opening_cell s j)) → EachCell Q (opening_cells s members 0)
+  opening_all : (Q : ℕ → PlainCell → Type 0) → ((j : ℕ) → j < members → Q j (opening_cell s j))
+      → EachCell Q (opening_cells s members 0)
   opening_all Q all j c h = let same : 0 + j ≡ j = omega arith in subst (λ x. Q x c) same (opening_each Q all members 0 (omega arith) j c h)
 
   reached_first : IsReached s (opening s)
@@ -362,7 +385,8 @@ module _ (s : Setting) (fit : IsFit s) (own : (j : ℕ) → j < s.traffic.member
 
   runs_reached : (w : World) → IsReached s w → Runs w.cells w.trace
   unfolding opening
-  runs_reached w h = run_keeps s (λ v. Runs v.cells v.trace) (λ v e d steps g. runs_step v.cells v.trace e d g steps) h.0 (opening s) w runs_opening h.1
+  runs_reached w h =
+      run_keeps s (λ v. Runs v.cells v.trace) (λ v e d steps g. runs_step v.cells v.trace e d g steps) h.0 (opening s) w runs_opening h.1
 
   -- ---- the first rows of a run
 
@@ -388,7 +412,8 @@ module _ (s : Setting) (fit : IsFit s) (own : (j : ℕ) → j < s.traffic.member
       among = AllIn-places (IsAmong members) first (contained_all (IsAmong members) first (λ r c. all_of.among r (in_trace r c)));
       joins = joins_once s.traffic first rise marked;
       leaves = leaves_once s.traffic first rise marked;
-      lost_once = λ before after r front back n e is. all_of.lost_once before (after ++ last) r front back n (whole_split before after r e) is;
+      lost_once = λ before after r front back n e.
+          all_of.lost_once before (after ++ last) r front back n (whole_split before after r e);
       fixed_after = λ before after r e told. all_of.fixed_after before (after ++ last) r (whole_split before after r e) told;
     }
 
@@ -402,16 +427,25 @@ module _ (p : PlainScenario) (a : IsAccepted p) (seed : ℕ) where
   own_mark j k h = record {
     join = h.join;
     leave = h.leave;
-    ranks = λ not_join not_draw not_report. (let last = h.last_rank in elim h.rank [ inl z ↦ absurd (not_join z) | inr more ↦ omega arith ]);
+    ranks = λ not_join not_draw not_report.
+        (let last = h.last_rank in elim h.rank [ inl z ↦ absurd (not_join z) | inr more ↦ omega arith ]);
   }
 
   own_marks : (j : ℕ) → j < length p.members → AllIn (IsOwnMark t j) (script_of p j)
   own_marks j lt =
       let there = slice_get-get_or p.members j no_member lt in
       let is : slice_get p.members j ≡ Some (member_at p j) = there ∙ ap Some (sym (ap (λ o. unwrap_or o no_member) there)) in
-      let script = scripts_fit p a j (member_at p j) is in
-      AllIn-weaker (IsMark p.until (member_at p j)) (IsOwnMark t j) (own_mark j) (script_of p j) (AllIn-at_places (IsMark p.until (member_at p j)) (script_of p j) script.marks)
+      let Q = IsMark p.until (member_at p j) in
+      let marks : AllIn Q (script_of p j) = AllIn-at_places Q (script_of p j) (scripts_fit p a j (member_at p j) is).marks in
+      AllIn-weaker Q (IsOwnMark t j) (own_mark j) (script_of p j) marks
 
 pub traces_are_orderly : TracesAreOrderly
 traces_are_orderly p seed a w reached before after parts =
     first_orderly (setting_of p (network_of p) seed) (settings_are_fit p seed a) (own_marks p a seed) w reached before after parts
+
+-- so are the rows of a complete run
+pub outcome_is_orderly : (p : PlainScenario) (seed : ℕ) → IsAccepted p → (trace : List Row) (exits : List Exit) (totals : List ℕ)
+    → IsOutcome (setting_of p (network_of p) seed) trace exits totals → IsOrderly (length p.members) trace
+outcome_is_orderly p seed a trace exits totals o =
+    let all = traces_are_orderly p seed a o.world o.last.reached o.world.trace [] (sym (append-nil o.world.trace)) in
+    subst (IsOrderly (length p.members)) (sym o.trace_is) all

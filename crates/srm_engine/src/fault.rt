@@ -13,8 +13,8 @@ pub enum RunFault {
     CountFull,
 }
 
-// What a cell's refusal is to a run, in which no cell meets an event after its member left.
-pub(crate) fn run_fault(fault: CellFault) -> RunFault
+/// What a cell's refusal is to a run, in which no cell meets an event after its member left.
+pub fn run_fault(fault: CellFault) -> RunFault
     requires { fault ≢ CellFault.Spent }
     ensures { result ≡ fault_of fault }
 {

@@ -1,8 +1,10 @@
 //! What is told of each scenario that is refused, over devices in memory.
-use crate::fault::Fault;
+use crate::fault::{Fault, LabFault};
 use crate::line::line_of;
 use crate::options::{Options, Show};
 use crate::session::simulate;
+use srm_cell::fault::CellFault;
+use srm_engine::fault::{RunFault, run_fault};
 use srm_report::outlet::WriteOutlet;
 use srm_scenario::fault::{Part, ScenarioFault};
 use srm_scenario::feed::ReadFeed;
@@ -130,4 +132,16 @@ fn a_text_of_one_byte_too_many_is_too_long(rt: HostRuntime) -> Result<(), Fail> 
 fn a_feed_that_fails_is_no_scenario(rt: HostRuntime) -> Result<(), Fail> {
     let fault = ScenarioFault::ReadFault;
     check(&rt, rt.alloc(), Broken, fault, "refused: read-fault")
+}
+
+#[test]
+fn a_used_up_packet_count_ends_a_run_and_has_its_line(rt: HostRuntime) -> Result<(), Fail> {
+    assert_eq!(rt; run_fault(CellFault::CountFull), RunFault::CountFull);
+    assert_eq!(rt; run_fault(CellFault::NoMemory), RunFault::NoMemory);
+    let told = line_of(rt.alloc(), &Fault::Lab(LabFault::CountFull));
+    assert_eq!(rt;
+        told.map_err(|_| "no line")?.as_str(),
+        "refused: count-full"
+    );
+    Ok(())
 }
