@@ -7,9 +7,11 @@ PREFIX ?= /usr/local
 SCENARIO ?= examples/two-nodes.toml
 CRATE ?=
 BENCH ?=
+SECONDS ?= 60
+FEW_CASES := 100
 export RT
 
-.PHONY: build run try check test test-program test-memory bench install fmt clean help
+.PHONY: build run try check test test-program test-memory fuzz bench install fmt clean help
 
 build: $(PROGRAM) ## proves and builds the program, if a source is newer than it (the first time some fifteen minutes)
 
@@ -25,18 +27,21 @@ try: ## the same program, unproved and with no build before it, in under a minut
 
 check: ## what an edit needs: proves each crate that changed, or CRATE=srm_net with the crates below it; checks scripts and documents
 	@tests/tools_tests.py -q
+	@tests/fuzz_tests.py -q
 	@tests/architecture.py
 	@tests/promises.py
 	@tools/prove.py $(if $(CRATE),crates/$(CRATE),crates)
 
 test: ## the merge gate: proves everything from nothing, with tests and must-fail edits, and checks the program that this made; tells the times
 	@tests/tools_tests.py -q
+	@tests/fuzz_tests.py -q
 	@tests/architecture.py
 	@tests/promises.py
 	@tools/gate.py -- make --no-print-directory test-program test-memory
 
-test-program: $(PROGRAM) ## compares what the program prints with each file of examples/
+test-program: $(PROGRAM) ## compares what the program prints with each file of examples/, and tries it on some random scenarios
 	@tests/compare_program.py $(PROGRAM) examples
+	@tests/fuzz.py --from 1 --cases $(FEW_CASES) $(PROGRAM)
 
 test-memory: $(PROGRAM) $(TEST_PROGRAMS) ## refuses each allocation in turn, of the program on each example, and of each test of members, roles and the ledger
 	@tests/refuse_allocations.py --program $(PROGRAM) examples/*.toml --tests $(TEST_PROGRAMS)
@@ -44,6 +49,9 @@ test-memory: $(PROGRAM) $(TEST_PROGRAMS) ## refuses each allocation in turn, of 
 $(TEST_PROGRAMS): $(SOURCES)
 	cd $(@D)/.. && $(RT) test > /dev/null
 	@touch $@
+
+fuzz: $(PROGRAM) ## tries the program on random scenarios, and computes its tables a second time: make fuzz SECONDS=60
+	@tests/fuzz.py --seconds $(SECONDS) $(PROGRAM)
 
 bench: $(PROGRAM) ## prints how many rows the program handles in a second, beside a plain simulator: make bench BENCH=--long
 	@bench/events_per_second.py $(PROGRAM) $(BENCH)

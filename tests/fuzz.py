@@ -1,0 +1,201 @@
+#!/usr/bin/env python3
+"""Runs the program on scenarios made at random, and holds what it writes to a second computation from the documents.
+
+usage: tests/fuzz.py [--seconds N | --cases N] [--from SEED] [--case SEED] [PROGRAM]
+
+Each case is made from its number, its seed: a scenario of the format's grammar, one that is spoiled in one place, an example or a
+scenario with bytes or numbers changed, or a command line that must be refused. Of each this is asserted:
+
+- Each row of the trace is of an event that was pending, and is what the model's tables say; nothing is passed over, and nothing
+  left (fuzz_replay.py).
+- The other tables are those of the trace: its rows are counted, and its packets followed along the paths (fuzz_tables.py,
+  fuzz_format.py).
+- A refusal is the one that comes first by docs/FORMATS.md, as one line on standard error, with nothing on standard output and
+  status 1. Where Python cannot read the text as TOML, any refusal of a scenario may come. A refused command line has status 2.
+- The same input gives the same bytes, with each engine of ENGINES, and each run ends within LONGEST seconds.
+
+A table that the program's --help does not name is left out. Prints each case that fails and writes its scenario to out/;
+--case SEED runs one case again. Without --from the first seed is a random one. Ends with status 1 where a case failed.
+"""
+import argparse
+import collections
+import itertools
+import pathlib
+import random
+import re
+import resource
+import subprocess
+import sys
+import time
+
+sys.dont_write_bytecode = True
+
+import fuzz_replay
+import fuzz_scenarios
+import fuzz_tables
+from fuzz_format import Scenario
+from fuzz_tables import Wrong
+
+TOP = pathlib.Path(__file__).resolve().parent.parent
+PROGRAM = TOP / "crates" / "srm_lab" / "out" / "srm_lab"
+# sets of options, each good for every scenario, with all of which the tables of a scenario are the same bytes
+ENGINES = [
+    [],
+]
+LONGEST = 20
+MEMORY = 2**30
+MOST_FAILURES = 10
+REFUSAL = re.compile(
+    rb"refused: (not-toml|too-long|not-tree|bad-key top 0"
+    rb"|bad-(key )?(member|draw|session|drop) (0|[1-9][0-9]*)|bad-key link (0|[1-9][0-9]*))\n"
+)
+NO_MEMORY = (1, b"", b"refused: no-memory\n")
+
+
+def runner(program):
+    """The program as a function of its words and its standard input: status, standard output and standard error."""
+
+    def run(words, text):
+        try:
+            done = subprocess.run([program, *words], input=text, capture_output=True, timeout=LONGEST)
+        except subprocess.TimeoutExpired as late:
+            raise Wrong(f"{words}: it runs for more than {LONGEST} seconds") from late
+        return done.returncode, done.stdout, done.stderr
+
+    return run
+
+
+def tables_named(run):
+    """The tables that the program's help names."""
+    status, told, _ = run(["--help"], b"")
+    if status != 0:
+        raise Wrong("--help: another status than 0")
+    return [table for table in fuzz_tables.HEADERS if re.search(rf"\b{table}\b", told.decode())]
+
+
+def is_same(what, got, must):
+    """Refuses an end that is not as it must be: tells the first line that differs."""
+    if (got[0], got[2]) != (must[0], must[2]):
+        raise Wrong(f"{what}: status {got[0]}, {got[2][:200]} on standard error, and not status {must[0]}, {must[2][:200]}")
+    if got[1] != must[1]:
+        lines = itertools.zip_longest(got[1].split(b"\n"), must[1].split(b"\n"))
+        number, pair = next((at, pair) for at, pair in enumerate(lines, 1) if pair[0] != pair[1])
+        raise Wrong(f"{what}: line {number} is {pair[0]}, and not {pair[1]}")
+
+
+def is_in_form(table, end):
+    """Refuses an end that is neither this table nor a refusal of a scenario."""
+    status, printed, told = end
+    if status == 0 and not told:
+        fuzz_tables.lines_of(table, printed)
+    elif not (status == 1 and not printed and REFUSAL.fullmatch(told)) and end != NO_MEMORY:
+        raise Wrong(f"{table}: status {status}, {len(printed)} bytes on standard output, {told[:200]} on standard error")
+
+
+def expected(scenario, seed, trace):
+    """The other tables, from a trace that is first held to the model."""
+    rows = fuzz_tables.rows_of(trace)
+    losses = fuzz_replay.Replay(scenario, seed).run(rows)
+    return {
+        "trace": trace,
+        "members": fuzz_tables.members_table(scenario, rows),
+        "losses": fuzz_tables.losses_table(scenario, losses),
+        "links": fuzz_tables.links_table(scenario, rows),
+    }
+
+
+def ends(tables, case, first):
+    """How a run for each table must end, as far as it is known, from the end of a first one, which wrote the trace."""
+    if first[0] != 0 or case.must == fuzz_scenarios.UNKNOWN:
+        return {"trace": first} if first[0] == 0 else dict.fromkeys(tables, first)
+    texts = expected(Scenario(case.must), case.seed, first[1])
+    return {table: (0, texts[table], b"") for table in tables}
+
+
+def check(run, tables, case):
+    """Runs one case, and raises Wrong where the program does what it must not."""
+    if case.words is not None:
+        is_same(case.words, run(case.words, case.text), (2, b"", b"command line refused\n"))
+        return
+    first = run(["--seed", str(case.seed)] if case.seed else [], case.text)
+    is_in_form("trace", first)
+    if case.must == fuzz_scenarios.UNKNOWN and first == NO_MEMORY:
+        return
+    if isinstance(case.must, dict) and first[0] != 0:
+        raise Wrong(f"it must be accepted: {first[2]}")
+    if isinstance(case.must, str) and case.must != fuzz_scenarios.UNKNOWN:
+        is_same("refusal", first, (1, b"", f"refused: {case.must}\n".encode()))
+    must = ends(tables, case, first)
+    for table in tables:
+        for engine in ENGINES:
+            end = run([f"--seed={case.seed}", *engine, "--show", table], case.text)
+            is_in_form(table, end)
+            is_same(" ".join(["--show", table, *engine]), end, must.setdefault(table, end))
+
+
+def case_of(seed):
+    examples = [it.read_bytes() for it in sorted((TOP / "examples").glob("*.toml"))]
+    return fuzz_scenarios.case_of(random.Random(seed), examples)
+
+
+def failure(run, tables, seed):
+    """Runs the case of a seed; the line that tells what is wrong with it, or None, and what kind of case it is."""
+    case = case_of(seed)
+    try:
+        check(run, tables, case)
+    except Exception as wrong:
+        if not isinstance(wrong, Wrong):
+            print(f"case {seed}: the check itself broke off")
+            raise
+        kept = TOP / "out" / f"fuzz-{seed}.toml"
+        kept.parent.mkdir(exist_ok=True)
+        kept.write_bytes(case.text)
+        words = case.words if case.words is not None else ["--seed", case.seed]
+        return f"case {seed} ({case.kind}, {words}): {wrong}\n  its scenario: {kept.relative_to(TOP)}", case.kind
+    return None, case.kind
+
+
+def seeds(options):
+    """The seeds of the cases to run, until the time is over or there were enough."""
+    if options.case is not None:
+        yield options.case
+        return
+    first = random.SystemRandom().randrange(2**40) if options.first is None else options.first
+    began = time.monotonic()
+    seed = first
+    while seed < first + options.cases if options.cases else time.monotonic() - began < options.seconds:
+        yield seed
+        seed += 1
+
+
+def main():
+    parser = argparse.ArgumentParser(description=__doc__, formatter_class=argparse.RawDescriptionHelpFormatter)
+    parser.add_argument("program", nargs="?", type=pathlib.Path, default=PROGRAM)
+    parser.add_argument("--seconds", type=float, default=60)
+    parser.add_argument("--cases", type=int)
+    parser.add_argument("--from", type=int, dest="first", metavar="SEED")
+    parser.add_argument("--case", type=int, metavar="SEED")
+    options = parser.parse_args()
+    resource.setrlimit(resource.RLIMIT_AS, (MEMORY, resource.getrlimit(resource.RLIMIT_AS)[1]))
+    run = runner(options.program.absolute())
+    try:
+        tables = tables_named(run)
+    except (OSError, Wrong) as wrong:
+        sys.exit(f"{options.program}: {wrong}")
+    kinds, failed, began = collections.Counter(), 0, time.monotonic()
+    for seed in seeds(options):
+        told, kind = failure(run, tables, seed)
+        kinds[kind] += 1
+        if told:
+            failed += 1
+            print(told, flush=True)
+        if failed == MOST_FAILURES:
+            break
+    spent = time.monotonic() - began
+    counts = ", ".join(f"{number} {kind}" for kind, number in sorted(kinds.items()))
+    print(f"{sum(kinds.values())} cases in {spent:.0f} seconds ({counts}), {failed} failed; tables: {', '.join(tables)}")
+    return failed > 0
+
+
+if __name__ == "__main__":
+    sys.exit(main())

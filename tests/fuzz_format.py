@@ -1,0 +1,218 @@
+"""Scenarios as docs/FORMATS.md has them: the first refusal of one, and its network, from the text's plain data alone.
+
+The plain data is what a TOML reader makes of a text: a dict of numbers, words, lists and dicts. Nothing here is taken from the
+program: ranges, refusals and what becomes of a packet are written from the two documents, docs/FORMATS.md and docs/MODEL.md.
+"""
+import collections
+import functools
+
+LATEST = 2**40
+LONGEST_TEXT = 1048576
+ROLES = ("sender", "receiver", "late", "listener")
+TOPOLOGIES = ("chain", "star", "tree")
+NEEDED = {"version", "until", "c1", "c2", "d1", "d2"}
+NUMBERS = {
+    "top": {
+        "version": (1, 1), "until": (1, LATEST),
+        "c1": (0, 64000), "c2": (0, 64000), "d1": (0, 64000), "d2": (0, 64000),
+        "nodes": (1, 256), "size": (1, 256), "delay": (1, 1000000), "degree": (2, 255),
+    },
+    "link": {"a": (0, 255), "b": (0, 255), "delay": (1, 1000000)},
+    "member": {"node": (0, 255), "stream": (0, 2**63 - 1), "join": (0, LATEST), "leave": (1, LATEST)},
+    "draw": {"member": (0, 255), "page": (0, 65535), "ink": (0, 2**32 - 1), "at": (0, LATEST)},
+    "session": {"member": (0, 255), "at": (0, LATEST)},
+    "drop": {"link": (0, 255), "sender": (0, 255), "count": (0, 2**32 - 1)},
+}
+LENGTHS = {"link": 255, "member": 256, "draw": 4096, "session": 4096, "drop": 4096}
+PAGES = 256
+PAGE = (0, 65535)
+
+
+# ---- refusals ------------------------------------------------------------------
+
+
+def is_number(value, limits):
+    """Whether this is an integer in a range; True and False are none."""
+    return type(value) is int and limits[0] <= value <= limits[1]
+
+
+def is_array(value, most):
+    return isinstance(value, list) and len(value) <= most
+
+
+def top_keys(top):
+    """The keys that must stand in the top table, and those that may."""
+    if "topology" not in top:
+        needed = NEEDED | {"nodes"}
+        return needed, needed | set(LENGTHS)
+    needed = NEEDED | {"topology", "size", "delay"} | ({"degree"} if top["topology"] == "tree" else set())
+    return needed, needed | set(LENGTHS) - {"link"}
+
+
+def top_is_right(top):
+    needed, allowed = top_keys(top)
+    return needed <= set(top) <= allowed and all(top_value_is_right(key, value) for key, value in top.items())
+
+
+def top_value_is_right(key, value):
+    if key == "topology":
+        return value in TOPOLOGIES
+    return is_array(value, LENGTHS[key]) if key in LENGTHS else is_number(value, NUMBERS["top"][key])
+
+
+def element_is_right(part, element):
+    """Whether an element of an array has the keys of its part, and these what they must have."""
+    if not isinstance(element, dict):
+        return False
+    allowed = set(NUMBERS[part]) | ({"role", "pages"} if part == "member" else set())
+    needed = allowed - {"join", "leave", "pages"}
+    return needed <= set(element) <= allowed and all(value_is_right(part, key, value) for key, value in element.items())
+
+
+def value_is_right(part, key, value):
+    if key == "role":
+        return value in ROLES
+    if key == "pages":
+        return is_array(value, PAGES) and all(is_number(page, PAGE) for page in value)
+    return is_number(value, NUMBERS[part][key])
+
+
+def links_of(top):
+    """Each link as the two nodes that it joins and its delay."""
+    if "topology" not in top:
+        return [(link["a"], link["b"], link["delay"]) for link in top.get("link", [])]
+    return [(parent(top, node), node, top["delay"]) for node in range(1, top["size"])]
+
+
+def parent(top, node):
+    """The parent of a node in a topology."""
+    if top["topology"] == "chain":
+        return node - 1
+    if top["topology"] == "star":
+        return 0
+    degree = top["degree"]
+    return 0 if node <= degree else 1 + (node - degree - 1) // (degree - 1)
+
+
+def is_tree(nodes, links):
+    """Whether there is one link fewer than nodes, and each node is reached from the first."""
+    if len(links) != nodes - 1 or any(end >= nodes for a, b, _ in links for end in (a, b)):
+        return False
+    return len(ways_from(0, links)) == nodes
+
+
+def member_fits(top, place, nodes):
+    member = top["member"][place]
+    taken = {earlier["node"] for earlier in top["member"][:place]}
+    is_hub = top.get("topology") == "star" and member["node"] == 0
+    in_time = member.get("join", 0) < top["until"] and member.get("leave", LATEST + 1) > member.get("join", 0)
+    has_pages = "pages" in member and member["role"] != "late"
+    return member["node"] < nodes and not is_hub and member["node"] not in taken and in_time and not has_pages
+
+
+def act_fits(top, act, roles):
+    """Whether a draw or a session message is by a member of these roles, while it is there."""
+    members = top.get("member", [])
+    if act["member"] >= len(members) or members[act["member"]]["role"] not in roles:
+        return False
+    member = members[act["member"]]
+    return member.get("join", 0) <= act["at"] <= member.get("leave", LATEST) and act["at"] < top["until"]
+
+
+def first_wrong(elements, is_right):
+    """The lowest place of an element that is not right, or None."""
+    return next((place for place, it in enumerate(elements) if not is_right(it)), None)
+
+
+def refusal_of(top):
+    """The words of the line that refuses a scenario, as `bad-key draw 1`, or None for one that is accepted."""
+    if not top_is_right(top):
+        return "bad-key top 0"
+    for part in LENGTHS:
+        place = first_wrong(top.get(part, []), functools.partial(element_is_right, part))
+        if place is not None:
+            return f"bad-key {part} {place}"
+    nodes, links, members = top.get("nodes", top.get("size")), links_of(top), top.get("member", [])
+    if not is_tree(nodes, links):
+        return "not-tree"
+    wrong = {
+        "member": first_wrong(range(len(members)), lambda place: member_fits(top, place, nodes)),
+        "draw": first_wrong(top.get("draw", []), lambda it: act_fits(top, it, ROLES[:1])),
+        "session": first_wrong(top.get("session", []), lambda it: act_fits(top, it, ROLES[:3])),
+        "drop": first_wrong(top.get("drop", []), lambda it: it["link"] < len(links) and it["sender"] < len(members)),
+    }
+    return next((f"bad-{part} {place}" for part, place in wrong.items() if place is not None), None)
+
+
+# ---- networks ------------------------------------------------------------------
+
+
+def ways_from(start, links):
+    """For each node that is reached, the list of links from a start to it."""
+    beside = collections.defaultdict(list)
+    for number, (a, b, _) in enumerate(links):
+        beside[a].append((b, number))
+        beside[b].append((a, number))
+    ways, waiting = {start: []}, [start]
+    for node in waiting:
+        for other, link in beside[node]:
+            if other not in ways:
+                ways[other] = [*ways[node], link]
+                waiting.append(other)
+    return ways
+
+
+Fate = collections.namedtuple("Fate", "reached crossed dropped")
+Fate.__doc__ = "What becomes of a packet: the members that it reaches, the links that it crosses, those at which it is dropped."
+
+
+class Scenario:
+    """An accepted scenario: its members, and the paths between them."""
+
+    def __init__(self, top):
+        self.top = top
+        self.until = top["until"]
+        self.members = [{"join": 0, "leave": None, "pages": [], **member} for member in top.get("member", [])]
+        self.links = links_of(top)
+        self.listed = collections.defaultdict(set)
+        for drop in top.get("drop", []):
+            self.listed[drop["sender"], drop["count"]].add(drop["link"])
+        self.ways, self.distances, self.fates = {}, {}, {}
+
+    def path(self, a, b):
+        """The links on the way from one member to another."""
+        if a not in self.ways:
+            self.ways[a] = ways_from(self.members[a]["node"], self.links)
+        return self.ways[a][self.members[b]["node"]]
+
+    def distance(self, a, b):
+        """The sum of the delays on the path between two members."""
+        if (a, b) not in self.distances:
+            self.distances[a, b] = sum(self.links[link][2] for link in self.path(a, b))
+        return self.distances[a, b]
+
+    def is_present(self, member, time):
+        """Whether a packet that arrives at this time is heard."""
+        leave = self.members[member]["leave"]
+        return self.members[member]["join"] <= time < self.until and (leave is None or time <= leave)
+
+    def fate(self, sender, count):
+        """What becomes of a packet; the first link on a path that is configured to drop it is where it ends."""
+        listed = frozenset(self.listed.get((sender, count), ()))
+        if (sender, listed) not in self.fates:
+            fate = Fate(set(), set(), set())
+            for member in range(len(self.members)):
+                if member != sender:
+                    self.follow(self.path(sender, member), listed, member, fate)
+            self.fates[sender, listed] = fate
+        return self.fates[sender, listed]
+
+    @staticmethod
+    def follow(path, listed, member, fate):
+        """Adds to a fate what becomes of a packet on the path to one member."""
+        for link in path:
+            if link in listed:
+                fate.dropped.add(link)
+                return
+            fate.crossed.add(link)
+        fate.reached.add(member)

@@ -1,0 +1,112 @@
+"""Reads a trace, and computes from its rows the other three tables, as docs/FORMATS.md says what they have."""
+import collections
+import re
+
+HEADERS = {
+    "trace": "time,member,cause,ref,result,lost,sent",
+    "members": "member,role,node,joined,left,drawn,heard,lost,fixed,open,requests,repairs,sessions",
+    "losses": "member,source,page,number,detected,recovered,delay",
+    "links": "link,data,requests,repairs,sessions,dropped",
+}
+ARRIVALS = ("data", "request", "repair", "session")
+SENDS = {"draw": "data", "ask": "request", "answer": "repair", "report": "session"}
+RESULTS = {
+    "join": ("in",), "leave": ("out",), "ask": ("sent",), "answer": ("sent",), "draw": ("sent", "skip"), "report": ("sent",),
+    "data": ("fresh", "fixed", "again", "skip"), "repair": ("fresh", "fixed", "again", "skip"), "session": ("told", "skip"),
+    "request": ("skip", "rest", "busy", "plan", "hold", "back"),
+}
+
+NUMBER = "(?:0|[1-9][0-9]*)"
+PACKET = re.compile(f"{NUMBER}:{NUMBER}")
+NAME = re.compile(f"{NUMBER}/{NUMBER}/{NUMBER}")
+ROW = re.compile(f"({NUMBER}),({NUMBER}),([a-z]+),([0-9:/]+|-),([a-z]+),({NUMBER}),({NUMBER}:{NUMBER}|-)")
+
+Row = collections.namedtuple("Row", "time member cause ref result lost sent")
+
+
+class Wrong(Exception):
+    """Something that the program must not do."""
+
+
+def numbers(text):
+    """The numbers of a packet, 2:0, or of a name, 0/0/1."""
+    return tuple(int(it) for it in re.split("[:/]", text))
+
+
+def lines_of(table, text):
+    """The lines of a table below its header, each of which ended with a line feed."""
+    if not text.isascii():
+        raise Wrong(f"{table}: not all of it is ASCII")
+    lines = text.decode().split("\n")
+    if lines[0] != HEADERS[table] or lines[-1] != "":
+        raise Wrong(f"{table}: another header, or no line feed at the end")
+    return lines[1:-1]
+
+
+def row_of(line):
+    """One row of a trace, if it has the form of one."""
+    found = ROW.fullmatch(line)
+    if found is None or found[5] not in RESULTS.get(found[3], ()):
+        raise Wrong(f"trace: no row: {line}")
+    time, member, cause, ref, result, lost, sent = found.groups()
+    has = PACKET if cause in ARRIVALS else NAME if cause in SENDS and cause != "report" and result == "sent" else re.compile("-")
+    if not has.fullmatch(ref) or (sent != "-") != (cause in SENDS and result == "sent"):
+        raise Wrong(f"trace: no row: {line}")
+    as_numbers = None if sent == "-" else numbers(sent)
+    return Row(int(time), int(member), cause, None if ref == "-" else numbers(ref), result, int(lost), as_numbers)
+
+
+def rows_of(trace):
+    """The rows of a trace."""
+    return [row_of(line) for line in lines_of("trace", trace)]
+
+
+def table(name, lines):
+    """The bytes of a table."""
+    return "".join(f"{line}\n" for line in [HEADERS[name], *lines]).encode()
+
+
+def csv(*fields):
+    """One line; a dash stands for None."""
+    return ",".join("-" if it is None else str(it) for it in fields)
+
+
+def members_table(scenario, rows):
+    """One line for each member: filters, counts and sums over its rows."""
+    by_member = collections.defaultdict(list)
+    for row in rows:
+        by_member[row.member].append(row)
+    lines = []
+    for number, member in enumerate(scenario.members):
+        own = by_member[number]
+        joined, left = (next((row.time for row in own if row.cause == cause), None) for cause in ("join", "leave"))
+        drawn, requests, repairs, sessions = (
+            sum(row.cause == cause and row.result == "sent" for row in own) for cause in SENDS
+        )
+        heard, lost = sum(row.cause in ARRIVALS for row in own), sum(row.lost for row in own)
+        fixed = sum(row.result == "fixed" for row in own)
+        counts = (drawn, heard, lost, fixed, lost - fixed, requests, repairs, sessions)
+        lines.append(csv(number, member["role"], member["node"], joined, left, *counts))
+    return table("members", lines)
+
+
+def losses_table(scenario, losses):
+    """One line for each lost name, from the times at which a member missed a name and took it in, if it did."""
+    lines = []
+    for (member, name), (detected, recovered) in sorted(losses.items()):
+        round_trip = 2 * scenario.distance(member, name[0])
+        delay = None if recovered is None else f"{recovered - detected}/{round_trip}"
+        lines.append(csv(member, *name, detected, recovered, delay))
+    return table("losses", lines)
+
+
+def links_table(scenario, rows):
+    """One line for each link: of the packets that were sent, those that crossed it, by kind, and those dropped at it."""
+    crossed, dropped = collections.Counter(), collections.Counter()
+    for row in rows:
+        if row.sent is not None:
+            fate = scenario.fate(*row.sent)
+            crossed.update((link, SENDS[row.cause]) for link in fate.crossed)
+            dropped.update(fate.dropped)
+    links = range(len(scenario.links))
+    return table("links", [csv(link, *(crossed[link, kind] for kind in ARRIVALS), dropped[link]) for link in links])
