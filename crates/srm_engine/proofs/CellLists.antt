@@ -225,6 +225,10 @@ module _ {A : Type 0} where
       ap (λ l. (all_in hs ++ l) ++ more) pushed ∙ ap (λ l. l ++ more) (sym (append_assoc (all_in hs) h.items (c ∷ []))) ∙ append_assoc (all_in hs ++ h.items) (c ∷ []) more
       ∙ ap (λ l. l ++ c ∷ more) same ∙ ap (λ l. (all_in gs ++ g.items) ++ l) (sym r) ∙ e
 
+  pub nothing_in : (xs : List A) → length xs ≡ 0 → xs ≡ []
+  nothing_in [] e = refl
+  nothing_in (x ∷ xs) e = absurd (omega arith)
+
   take_sum : (i n : ℕ) (xs : List A) → take (i + n) xs ≡ take i xs ++ take n (drop i xs)
   take_sum zero n xs = ap (λ k. take k xs) (zero-add n)
   take_sum (suc i) n [] = none (suc i + n) ∙ sym (none n)
@@ -253,7 +257,7 @@ module _ {X : Type 0} {H : X → Type 0} (f : DynBox X Global H → Record) wher
       let parts = split_from f 0 before (g.items ++ rest) ps here in
       let own = split_from f (0 + length before) g.items rest (drop (length before) ps) parts.1 in
       let qs = take (length g.items) (drop (length before) ps) in
-      let more : take (suc k) gs ≡ take k gs ++ g ∷ [] = ap (λ n. take n gs) (sym (add-one k)) ∙ take-suc gs k g lt ∙ ap (λ (v : Vec (Cell X H)). take k gs ++ v ∷ []) (sym is) in
+      let more : take (suc k) gs ≡ take k gs ++ g ∷ [] = take-suc gs k g lt ∙ ap (λ (v : Vec (Cell X H)). take k gs ++ v ∷ []) (sym is) in
       let size : length (all_in (take (suc k) gs)) ≡ length before + length g.items =
       ap (λ l. length (all_in l)) more ∙ ap length (all_in_append (take k gs) (g ∷ []) ∙ ap (λ l. before ++ l) (append-nil g.items)) ∙ length-append before g.items in
       let many = as_many_from f 0 (before ++ (g.items ++ rest)) ps here in

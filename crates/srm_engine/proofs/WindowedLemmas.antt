@@ -1,5 +1,5 @@
 -- Windows of the engine, one after the other.
-use Rattle.std.proofs.Common.{◌≡◌, ℕ, zero, suc, ◌<◌, ◌≤◌, ◌+◌, ◌^◌, min, true, false, List, [], ◌∷◌, ◌++◌, Option, Some, None, Err, option_map, unwrap_or, refl, sym, ap, ◌∙◌, subst, arith, All, IsSorted, IsPermutation, zero-add, add-zero, length, map, nat_le, cond, slice_get, take}
+use Rattle.std.proofs.Common.{◌≡◌, ℕ, zero, suc, ◌<◌, ◌≤◌, ◌+◌, ◌^◌, min, true, false, List, [], ◌∷◌, ◌++◌, Option, Some, None, Err, option_map, unwrap_or, refl, sym, ap, ◌∙◌, subst, arith, All, IsSorted, IsPermutation, zero-add, add-zero, length, map, nat_le, cond, slice_get, take, drop, slice_index, replicate, ◌*◌, ◌≢◌}
 use Rattle.std.proofs.lemmas.Bool.Decides.{nat_tests}
 use Rattle.std.proofs.lemmas.List.{map-append, length-map}
 use Rattle.std.specs.List.{AllZip, range_with_len}
@@ -12,7 +12,8 @@ use Rattle.srm_scenario.specs.declared.parts.MemberSpec.{MemberSpec}
 use Rattle.srm_scenario.proofs.Members.{few_members}
 use Rattle.srm_member.specs.declared.row.Row.{Row}
 use Rattle.srm_member.specs.Record.{Record}
-use Rattle.srm_ledger.specs.Seats.{LedgerView, SeatView}
+use Rattle.srm_ledger.specs.Seats.{LedgerView, SeatView, whole_seat, words_of}
+use Rattle.srm_cell.proofs.RowPackets.{nothing_counted, numbers_are}
 use Rattle.srm_cell.specs.declared.cell.Cell.{Cell}
 use Rattle.srm_cell.specs.declared.job.Job.{Job}
 use Rattle.srm_cell.specs.declared.job.Done as job
@@ -25,7 +26,7 @@ use Rattle.srm_crew.specs.Crews.{AreJobs, AnyEnds, HasGrown, word_of, rows_of}
 use Rattle.srm_engine.specs.declared.fault.RunFault.{RunFault}
 use Rattle.srm_engine.specs.declared.fault.RunFault.TheVariants as fault
 use Rattle.srm_engine.specs.declared.window.Grouped.{Grouped}
-use Rattle.srm_engine.specs.World.{World, row_cmp, IsReached, RunMeetsFull, least_event}
+use Rattle.srm_engine.specs.World.{World, row_cmp, IsReached, RunMeetsFull, least_event, opening, opening_cells}
 use Rattle.srm_engine.specs.Schedules.{IsSafe, HasNoResult}
 use Rattle.srm_engine.specs.NextTimes.{least_time, sooner}
 use Rattle.srm_engine.specs.Seen.{AreCells, AreTimes}
@@ -33,13 +34,14 @@ use Rattle.srm_engine.specs.Windows.{IsWidth, least_with}
 use Rattle.srm_engine.specs.WindowRuns.{OwnResult, AreOwnRuns, rows_in, cells_in, IsMerge, AreNewInTurn, IsWindow, each_hears, after_window, jobs_of}
 use Rattle.srm_engine.specs.WindowChains.{IsNext, start_of, IsEndRule, width_rule, AreWindows, window_jobs}
 use Rattle.srm_engine.specs.Groups.{handed_jobs, least_among, AreCuts, AreGrouped, sizes, all_in, jobs_with, groups_of, lists_of, some_of}
-use Rattle.srm_engine.specs.Windowed.{IsCut, IsCounted, Holds, PassesShare, calls_of, TellsJobs, TellsWindow, TellsWindows}
+use Rattle.srm_engine.specs.Windowed.{IsCut, IsCounted, Holds, PassesShare, calls_of, TellsJobs, TellsWindow, TellsWindows, TellsWindowRun}
 use Rattle.srm_engine.proofs.CellLists.{from_seen, seen_from, few_groups}
 use Rattle.srm_engine.proofs.JobLemmas.{any_cell, are_jobs, may_advance, as_many_jobs, places_with, job_results, cuts_kept, joined_some, all_some, counted_merged}
 use Rattle.srm_engine.proofs.LawProofs.{never_spent}
 use Rattle.srm_engine.proofs.OneWindow.{as_many_results}
 use Rattle.srm_engine.proofs.Sequential.{good_reached}
-use Rattle.srm_engine.proofs.Stepping.{time_and_member, least_is_event}
+use Rattle.srm_engine.proofs.Stepping.{time_and_member, least_is_event, opening_trace}
+use Rattle.srm_engine.proofs.Opened.{opening_is}
 use Rattle.srm_engine.proofs.WindowJobs.{jobs_run_all}
 use Rattle.srm_engine.proofs.WindowRows.{own_rows_are_sorted}
 use Rattle.srm_engine.proofs.WindowPackets.{window_packets_are_new}
@@ -258,3 +260,60 @@ module _ (p : PlainScenario) (net : Network) (is : net ≡ network_of p) (accept
           (begins, w, chain, subst (λ n. PassesShare s.traffic w.trace (handed_jobs 0 (jobs_of cut n w))) end_is h)
       not_windowed l cut first old fault.BadCut new h = h
       not_windowed l cut first old fault.BadWidth new h = h
+
+-- ---- the beginning of a run
+
+zeros : (n k : ℕ) → slice_index (replicate n 0) k ≡ 0
+zeros zero k = refl
+zeros (suc n) zero = refl
+zeros (suc n) (suc k) = zeros n k
+
+none_crossed : (t : Traffic) (k : ℕ) → word_of (crossings t []) k ≡ 0
+none_crossed t zero = refl
+none_crossed t (suc k) = ap (λ ns. slice_index ns k) (sym (nothing_counted t ∙ numbers_are t [])) ∙ zeros (5 * t.links) k
+
+module _ {X : Type 0} {H : X → Type 0} (f : DynBox X Global H → Record) where
+  pub opened : (s : Setting) (l : LedgerView) (cut links : ℕ) (e : Grouped X H) (cs : List (Cell X H)) → AreCells f cs (opening_cells s s.traffic.members 0) → all_in e.groups.items ≡ cs → AreCuts cut (sizes e.groups.items)
+      → e.seat ≡ whole_seat l.name links → Holds f s.traffic l cut e (opening s)
+  opened s l cut links e cs seen same cuts seat = record {
+    grouped = record { cells = subst (λ ps. AreCells f (all_in e.groups.items) ps) (opening_is s) (subst (λ l. AreCells f l (opening_cells s s.traffic.members 0)) (sym same) seen); cuts = cuts };
+    counted = record {
+      ledger = ap (λ (v : SeatView). v.ledger) seat;
+      weight = ap (λ (v : SeatView). v.weight) seat;
+      shares = λ k. ap (λ (v : SeatView). slice_index v.shares k) seat ∙ zeros (words_of links) k ∙ sym (none_crossed s.traffic k) ∙ ap (λ rows. word_of (crossings s.traffic rows) k) (sym (opening_trace s));
+    };
+  }
+
+-- ---- its end
+
+same_list : (xs ys : List ℕ) → length xs ≡ length ys → ((k : ℕ) → slice_index xs k ≡ slice_index ys k) → xs ≡ ys
+same_list [] [] e each = refl
+same_list [] (y ∷ ys) e each = absurd (omega arith)
+same_list (x ∷ xs) [] e each = absurd (omega arith)
+same_list (x ∷ xs) (y ∷ ys) e each = (λ i. each 0 i ∷ xs) ∙ ap (λ l. y ∷ l) (same_list xs ys (omega arith) (λ k. each (suc k)))
+
+pub total_words : (totals shares numbers : List ℕ) → totals ≡ drop 1 shares → length totals ≡ length numbers → ((k : ℕ) → slice_index shares k ≡ word_of numbers k) → totals ≡ numbers
+total_words totals [] numbers e long each = e ∙ nothing numbers (sym long ∙ ap length e)
+  where
+    nothing : (ns : List ℕ) → length ns ≡ 0 → [] ≡ ns
+    nothing [] z = refl
+    nothing (n ∷ ns) z = absurd (omega arith)
+total_words totals (x ∷ xs) numbers e long each = e ∙ same_list xs numbers (sym (ap length e) ∙ long) (λ k. each (suc k))
+
+module _ {C X : Type 0} {H : X → Type 0} (handed : C → List (List cell.PlainJob) → C → Type 0) (f : DynBox X Global H → Record) where
+  pub not_asked : (s : Setting) (l : LedgerView) (cut : ℕ) (rule : World → ℕ) (old : C) (x : RunFault) (new : C) → TellsWindows handed f s l cut rule old (Err x) new → (x ≢ fault.BadCut) × (x ≢ fault.BadWidth)
+  not_asked s l cut rule old fault.NoMemory new h = ((λ e. cc), (λ e. cc))
+  not_asked s l cut rule old fault.CountFull new h = ((λ e. cc), (λ e. cc))
+  not_asked s l cut rule old fault.ShareFull new h = ((λ e. cc), (λ e. cc))
+  not_asked s l cut rule old fault.BadCut new h = absurd h
+  not_asked s l cut rule old fault.BadWidth new h = absurd h
+
+  pub not_outcome : (s : Setting) (l : LedgerView) (cut : ℕ) (rule : World → ℕ) (old : C) (x : RunFault) (new : C) → TellsWindows handed f s l cut rule old (Err x) new → TellsWindowRun handed s rule cut old (Err x) new
+  not_outcome s l cut rule old fault.NoMemory new h = tt
+  not_outcome s l cut rule old fault.CountFull new h = h
+  not_outcome s l cut rule old fault.ShareFull new h = h
+  not_outcome s l cut rule old fault.BadCut new h = absurd h
+  not_outcome s l cut rule old fault.BadWidth new h = absurd h
+
+pub same_number : (x y : ℕ) → Some x ≡ Some y → x ≡ y
+same_number x y e = cc

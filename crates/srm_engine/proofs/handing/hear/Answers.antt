@@ -42,7 +42,7 @@ loop-row-preserved g c =
     let done = take c.loop-row.row-index c.args.rows.now in
     let i = c.loop-row.row-index in
     let more : take (i + 1) c.args.rows.now ≡ done ++ c.row-item.result ∷ [] =
-    take-suc c.args.rows.now i c.row-item.result c.loop-row-test.true ∙ ap (λ r. done ++ r ∷ []) (sym c.row-item.is) in
+    ap (λ k. take k c.args.rows.now) (add-one i) ∙ take-suc c.args.rows.now i c.row-item.result c.loop-row-test.true ∙ ap (λ r. done ++ r ∷ []) (sym c.row-item.is) in
     elim c.match-row.branch [
       | in-Some+in_ok-deliver w ↦ rw w.groups-is (
         λ ps h.
