@@ -71,7 +71,8 @@ module _ {A : Type 0} where
 
 module _ {X : Type 0} {H : X → Type 0} where
   -- the groups are those of all these plain cells, in runs of `cut`
-  pub record AreGrouped (f : DynBox X Global H → Record) (cut : ℕ) (gs : List (Vec (Cell X H))) (ps : List PlainCell) : Type 0 where
+  pub record AreGrouped (f : DynBox X Global H → Record) (cut : ℕ) (gs : List (Vec (Cell X H)))
+      (ps : List PlainCell) : Type 0 where
     pub cells : AreCells f (all_in gs) ps
     pub cuts : AreCuts cut (sizes gs)
 
@@ -95,13 +96,15 @@ module _ {X : Type 0} {H : X → Type 0} where
   IsNewTo m id gs = (c : Cell X H) → slice_get (all_in gs) m ≡ Some c → BringsNone id c.inbox
 
   -- after member m was handed a packet, which arrives at a tick
-  abbrev pub HandsIn : (DynBox X Global H → Record) → ℕ → ℕ → Packet → ℕ → List (Vec (Cell X H)) → List (Vec (Cell X H)) → Type 0
+  abbrev pub HandsIn : (DynBox X Global H → Record) → ℕ → ℕ → Packet → ℕ → List (Vec (Cell X H))
+      → List (Vec (Cell X H)) → Type 0
   HandsIn f cut m p at old new =
       (ps : List PlainCell) (q : PlainCell) → AreGrouped f cut old ps → slice_get ps m ≡ Some q
       → AreGrouped f cut new (slice_set ps m (hear_at p (Some at) q))
 
-  -- a packet may be handed out: a member sent it before the latest end of all, and it is new to the cells of all members
-  pub record MayDeliverIn (f : DynBox X Global H → Record) (cut members : ℕ) (p : Packet) (gs : List (Vec (Cell X H))) : Type 0 where
+  -- a packet may be handed out: a member sent it before the latest end of all, and it is new to the cells of all
+  pub record MayDeliverIn (f : DynBox X Global H → Record) (cut members : ℕ) (p : Packet)
+      (gs : List (Vec (Cell X H))) : Type 0 where
     pub sent : p.sent < 2 ^ 40
     pub sender : p.id.sender < members
     pub cells : List PlainCell
@@ -110,7 +113,8 @@ module _ {X : Type 0} {H : X → Type 0} where
     pub new : IsNew p.id cells
 
   -- after a packet was handed out: every cell has heard it
-  abbrev pub DeliversIn : (DynBox X Global H → Record) → Traffic → ℕ → Packet → List (Vec (Cell X H)) → List (Vec (Cell X H)) → Type 0
+  abbrev pub DeliversIn : (DynBox X Global H → Record) → Traffic → ℕ → Packet → List (Vec (Cell X H))
+      → List (Vec (Cell X H)) → Type 0
   DeliversIn f t cut p old new =
       (ps : List PlainCell) → AreGrouped f cut old ps → AreGrouped f cut new (heard_below t p (length ps) 0 ps)
 
@@ -120,6 +124,7 @@ module _ {X : Type 0} {H : X → Type 0} where
       (ps : List PlainCell) × AreGrouped f cut gs ps × (length ps ≡ t.members) × AreNewInTurn t rows ps
 
   -- after that every cell has heard them
-  abbrev pub Hears : (DynBox X Global H → Record) → Traffic → ℕ → List Row → List (Vec (Cell X H)) → List (Vec (Cell X H)) → Type 0
+  abbrev pub Hears : (DynBox X Global H → Record) → Traffic → ℕ → List Row → List (Vec (Cell X H))
+      → List (Vec (Cell X H)) → Type 0
   Hears f t cut rows old new =
       (ps : List PlainCell) → AreGrouped f cut old ps → AreGrouped f cut new (each_hears t 0 rows ps)

@@ -64,37 +64,44 @@ pub record IsCounted (t : Traffic) (l : LedgerView) (rows : List Row) (seat : Se
 
 module _ {X : Type 0} {H : X → Type 0} where
   -- the cells in groups and the seat are those of a world
-  pub record Holds (f : DynBox X Global H → Record) (t : Traffic) (l : LedgerView) (cut : ℕ) (e : Grouped X H) (w : World) : Type 0 where
+  pub record Holds (f : DynBox X Global H → Record) (t : Traffic) (l : LedgerView) (cut : ℕ) (e : Grouped X H)
+      (w : World) : Type 0 where
     pub grouped : AreGrouped f cut e.groups.items w.cells
     pub counted : IsCounted t l w.trace e.seat
 
   module _ {C : Type 0} (handed : C → List (List cell.PlainJob) → C → Type 0) (f : DynBox X Global H → Record) where
     -- what the own runs of all cells tell, to an end
-    abbrev pub TellsJobs : Setting → LedgerView → ℕ → ℕ → World → C → Result (Grouped X H × Vec (Vec Row)) RunFault → C → Type 0
+    abbrev pub TellsJobs : Setting → LedgerView → ℕ → ℕ → World → C
+        → Result (Grouped X H × Vec (Vec Row)) RunFault → C → Type 0
     TellsJobs s l cut end w old (Ok v) new =
-        (results : List OwnResult) × AreOwnRuns end 0 w.cells results × AreGrouped f cut v.0.groups.items (cells_in results)
+        (results : List OwnResult) × AreOwnRuns end 0 w.cells results
+        × AreGrouped f cut v.0.groups.items (cells_in results)
         × (map (λ (rows : Vec Row). rows.items) v.1.items ≡ some_of (rows_in results))
         × IsCounted s.traffic l (w.trace ++ joined (rows_in results)) v.0.seat
         × handed old (handed_jobs 0 (jobs_of cut end w) ∷ []) new
     TellsJobs s l cut end w old (Err fault.NoMemory) new = Unit {0}
     TellsJobs s l cut end w old (Err fault.CountFull) new = (m : ℕ) × HasNoResult end w m
-    TellsJobs s l cut end w old (Err fault.ShareFull) new = PassesShare s.traffic w.trace (handed_jobs 0 (jobs_of cut end w))
+    TellsJobs s l cut end w old (Err fault.ShareFull) new =
+        PassesShare s.traffic w.trace (handed_jobs 0 (jobs_of cut end w))
     TellsJobs s l cut end w old (Err fault.BadCut) new = ⊥
     TellsJobs s l cut end w old (Err fault.BadWidth) new = ⊥
 
     -- what one window tells
-    abbrev pub TellsWindow : Setting → LedgerView → ℕ → ℕ → World → C → Result (Grouped X H × Vec Row) RunFault → C → Type 0
+    abbrev pub TellsWindow : Setting → LedgerView → ℕ → ℕ → World → C
+        → Result (Grouped X H × Vec Row) RunFault → C → Type 0
     TellsWindow s l cut end w old (Ok v) new =
         (u : World) × IsWindow s end w u × (u.trace ≡ w.trace ++ v.1.items) × Holds f s.traffic l cut v.0 u
         × handed old (handed_jobs 0 (jobs_of cut end w) ∷ []) new
     TellsWindow s l cut end w old (Err fault.NoMemory) new = Unit {0}
     TellsWindow s l cut end w old (Err fault.CountFull) new = (m : ℕ) × HasNoResult end w m
-    TellsWindow s l cut end w old (Err fault.ShareFull) new = PassesShare s.traffic w.trace (handed_jobs 0 (jobs_of cut end w))
+    TellsWindow s l cut end w old (Err fault.ShareFull) new =
+        PassesShare s.traffic w.trace (handed_jobs 0 (jobs_of cut end w))
     TellsWindow s l cut end w old (Err fault.BadCut) new = ⊥
     TellsWindow s l cut end w old (Err fault.BadWidth) new = ⊥
 
     -- what the windows of a run tell, up to its last world
-    abbrev pub TellsWindows : Setting → LedgerView → ℕ → (World → ℕ) → C → Result (Grouped X H × Vec Row) RunFault → C → Type 0
+    abbrev pub TellsWindows : Setting → LedgerView → ℕ → (World → ℕ) → C
+        → Result (Grouped X H × Vec Row) RunFault → C → Type 0
     TellsWindows s l cut rule old (Ok v) new =
         (begins : List World) × (w : World) × AreWindows s rule begins w × IsLast s w × (v.1.items ≡ w.trace)
         × Holds f s.traffic l cut v.0 w × handed old (calls_of rule cut begins) new
@@ -118,8 +125,9 @@ TellsAsked net asked (Err fault.CountFull) = IsCut asked.cut × MayBeWide net as
 TellsAsked net asked (Ok v) = IsCut asked.cut × MayBeWide net asked.width
 
 module _ {C : Type 0} (handed : C → List (List cell.PlainJob) → C → Type 0) where
-  -- what a run in windows tells: the outcome of the sequential run, for which the crew was handed exactly the windows' jobs, window
-  -- after window. A share is full where the crossings up to a window, with those of some of its jobs, are too many for it
+  -- what a run in windows tells: the outcome of the sequential run, for which the crew was handed exactly the windows'
+  -- jobs, window after window. A share is full where the crossings up to a window, with those of some of its jobs, are
+  -- too many for it
   abbrev pub TellsWindowRun : Setting → (World → ℕ) → ℕ → C → Result Outcome RunFault → C → Type 0
   TellsWindowRun s rule cut old (Ok v) new =
       IsOutcome s v.trace.items v.exits.items v.totals
@@ -134,7 +142,8 @@ module _ {C : Type 0} (handed : C → List (List cell.PlainJob) → C → Type 0
   TellsWindowRun s rule cut old (Err fault.BadWidth) new = new ≡ old
 
   -- so with each seed of which the records, those of the boxes, are opening records
-  abbrev pub RunsInWindows : PlainScenario → Network → List Record → (Setting → World → ℕ) → ℕ → C → Result Outcome RunFault → C → Type 0
+  abbrev pub RunsInWindows : PlainScenario → Network → List Record → (Setting → World → ℕ) → ℕ → C
+      → Result Outcome RunFault → C → Type 0
   RunsInWindows p net rs rule cut old r new =
       (seed : ℕ) → HoldOpeningRecords p net seed rs
       → TellsWindowRun (setting_of p net seed) (rule (setting_of p net seed)) cut old r new

@@ -25,8 +25,8 @@ fn hand(
     requires cuts { AreCuts cut (sizes groups.old.items) }
     requires place { member < length (all_in groups.old.items) }
     requires new { IsNewTo member packet.now.id groups.old.items }
-    ensures { IfOk result (λ _. HandsIn (λ b. (⟦<dyn Member as Member>⟧ b.vtable).plain b.value) cut member packet.now at
-        groups.old.items groups.new.items) }
+    ensures { IfOk result (λ _. HandsIn (λ b. (⟦<dyn Member as Member>⟧ b.vtable).plain b.value) cut member
+        packet.now at groups.old.items groups.new.items) }
 {
     let place = usize::from(member);
     let group = &mut groups[place / cut];

@@ -33,7 +33,8 @@ pub(crate) struct Grouped {
 // The rows of all cells in order of their keys.
 fn merge(alloc: Global, rows: Vec<Vec<Row>>) -> Result<Vec<Row>, AllocError>
     requires sorted { All (IsSorted row_cmp) (map (λ v. v.items) rows.items) }
-    ensures { IfOk result (λ v. IsPermutation (joined (map (λ v. v.items) rows.items)) v.items × IsSorted row_cmp v.items) }
+    ensures { IfOk result (λ v. IsPermutation (joined (map (λ v. v.items) rows.items)) v.items
+        × IsSorted row_cmp v.items) }
 {
     rows.into_iter()
         .kmerge_by(
@@ -63,12 +64,14 @@ fn run_jobs<C: Crew>(
     requires cut { IsCut cut }
     requires end { end ≤ scenario.now.until }
     requires known { (seed : ℕ) × (w : World) × IsReached (setting_of scenario.now net.now seed) w
-        × Holds (λ b. (⟦<dyn Member as Member>⟧ b.vtable).plain b.value) (traffic_of scenario.now net.now) ledger.now cut cells w }
+        × Holds (λ b. (⟦<dyn Member as Member>⟧ b.vtable).plain b.value) (traffic_of scenario.now net.now)
+            ledger.now cut cells w }
     ensures ready { C.ready crew.new }
     ensures runs { (seed : ℕ) (w : World) → IsReached (setting_of scenario.now net.now seed) w
-        → Holds (λ b. (⟦<dyn Member as Member>⟧ b.vtable).plain b.value) (traffic_of scenario.now net.now) ledger.now cut cells w
-        → TellsJobs C.handed (λ b. (⟦<dyn Member as Member>⟧ b.vtable).plain b.value) (setting_of scenario.now net.now seed)
-            ledger.now cut end w crew.old result crew.new }
+        → Holds (λ b. (⟦<dyn Member as Member>⟧ b.vtable).plain b.value) (traffic_of scenario.now net.now)
+            ledger.now cut cells w
+        → TellsJobs C.handed (λ b. (⟦<dyn Member as Member>⟧ b.vtable).plain b.value)
+            (setting_of scenario.now net.now seed) ledger.now cut end w crew.old result crew.new }
 {
     let Grouped { groups, seat } = cells;
     let Ok(jobs) = jobs(alloc, groups, end) else {
@@ -106,13 +109,15 @@ pub(crate) fn window<C: Crew>(
     requires end { end ≤ scenario.now.until }
     requires known { (seed : ℕ) × (w : World) × IsReached (setting_of scenario.now net.now seed) w
         × IsSafe (setting_of scenario.now net.now seed) end w
-        × Holds (λ b. (⟦<dyn Member as Member>⟧ b.vtable).plain b.value) (traffic_of scenario.now net.now) ledger.now cut cells w }
+        × Holds (λ b. (⟦<dyn Member as Member>⟧ b.vtable).plain b.value) (traffic_of scenario.now net.now)
+            ledger.now cut cells w }
     ensures ready { C.ready crew.new }
     ensures window { (seed : ℕ) (w : World) → IsReached (setting_of scenario.now net.now seed) w
         → IsSafe (setting_of scenario.now net.now seed) end w
-        → Holds (λ b. (⟦<dyn Member as Member>⟧ b.vtable).plain b.value) (traffic_of scenario.now net.now) ledger.now cut cells w
-        → TellsWindow C.handed (λ b. (⟦<dyn Member as Member>⟧ b.vtable).plain b.value) (setting_of scenario.now net.now seed)
-            ledger.now cut end w crew.old result crew.new }
+        → Holds (λ b. (⟦<dyn Member as Member>⟧ b.vtable).plain b.value) (traffic_of scenario.now net.now)
+            ledger.now cut cells w
+        → TellsWindow C.handed (λ b. (⟦<dyn Member as Member>⟧ b.vtable).plain b.value)
+            (setting_of scenario.now net.now seed) ledger.now cut end w crew.old result crew.new }
 {
     let (cells, lists) = match run_jobs(alloc, scenario, net, ledger, crew, cut, cells, end) {
         Ok(ran) => ran,
