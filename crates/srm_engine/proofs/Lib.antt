@@ -22,6 +22,10 @@ pub mod WindowEnds
 pub mod WindowJobs
 pub mod WindowPackets
 pub mod WindowRows
+pub mod CellLists
+pub mod JobLemmas
+pub mod KMerging
+pub mod WindowedLemmas
 pub mod RunLemmas
 pub mod ScheduleLemmas
 pub mod Sequential

@@ -45,6 +45,9 @@ module _ {X : Type 0} {H : X → Type 0} where
   pub not_traced : (f : DynBox X Global H → Record) (s : Setting) (w : World) (x : RunFault) (after : Engine X H) → IsReached s w → TellsWorld f w (step s w) (Err x) after → TellsTrace f s (Err x) after
   not_traced f s w fault.NoMemory after r h = tt
   not_traced f s w fault.CountFull after r h = meets_full s w r h
+  not_traced f s w fault.BadCut after r h = absurd h
+  not_traced f s w fault.BadWidth after r h = absurd h
+  not_traced f s w fault.ShareFull after r h = absurd h
 
   ended_from : (f : DynBox X Global H → Record) (i : ℕ) (cs : List (Cell X H)) (ps : List PlainCell) (xs : List Exit) → length cs ≡ length ps
       → ((j : ℕ) (c : Cell X H) (p : PlainCell) → slice_get cs j ≡ Some c → slice_get ps j ≡ Some p → IsCell f (i + j) c p) → EndAs f cs xs → xs ≡ map (λ (c : PlainCell). exit_at c.holds c.exit) ps
@@ -67,3 +70,6 @@ module _ {X : Type 0} {H : X → Type 0} where
   pub not_run : (f : DynBox X Global H → Record) (s : Setting) (x : RunFault) (after : Engine X H) → TellsTrace f s (Err x) after → TellsRun s (Err x)
   not_run f s fault.NoMemory after h = tt
   not_run f s fault.CountFull after h = h
+  not_run f s fault.BadCut after h = h
+  not_run f s fault.BadWidth after h = h
+  not_run f s fault.ShareFull after h = h

@@ -19,7 +19,7 @@ use Rattle.srm_engine.specs.WindowLaws.{JobsAreRuns, JobsAreInPlace, JobsRunAll,
 
 -- ---- jobs
 
-shorter : (cut n : ℕ) (c : PlainCell) (cs : List PlainCell) → 0 < cut → length (c ∷ cs) ≤ suc n → length (drop cut (c ∷ cs)) ≤ n
+pub shorter : (cut n : ℕ) (c : PlainCell) (cs : List PlainCell) → 0 < cut → length (c ∷ cs) ≤ suc n → length (drop cut (c ∷ cs)) ≤ n
 shorter cut n c cs pos le = let e = length-drop cut (c ∷ cs) in omega arith
 
 -- more than enough is enough
@@ -96,12 +96,12 @@ jobs_run_all w cut end rss pos h = jobs_run (length w.cells) cut end 0 0 w.cells
 
 -- ---- jobs that meet a step without a result
 
-get_first : {A : Type 0} (xs ys : List A) (j : ℕ) (x : A) → slice_get xs j ≡ Some x → slice_get (xs ++ ys) j ≡ Some x
+pub get_first : {A : Type 0} (xs ys : List A) (j : ℕ) (x : A) → slice_get xs j ≡ Some x → slice_get (xs ++ ys) j ≡ Some x
 get_first [] ys j x h = cc
 get_first (z ∷ xs) ys zero x h = h
 get_first (z ∷ xs) ys (suc j) x h = get_first xs ys j x h
 
-get_second : {A : Type 0} (xs ys : List A) (j : ℕ) → slice_get (xs ++ ys) (length xs + j) ≡ slice_get ys j
+pub get_second : {A : Type 0} (xs ys : List A) (j : ℕ) → slice_get (xs ++ ys) (length xs + j) ≡ slice_get ys j
 get_second [] ys j = ap (slice_get ys) (zero-add j)
 get_second (z ∷ xs) ys j = let e : suc (length xs) + j ≡ suc (length xs + j) = omega arith in rw e (get_second xs ys j)
 
@@ -152,7 +152,7 @@ crossings_keep s qs rs h = links_keep s qs rs h (range_with_len 0 s.traffic.link
 
 -- ---- crossings of jobs
 
-joined-append : {A : Type 0} (xs ys : List (List A)) → joined (xs ++ ys) ≡ joined xs ++ joined ys
+pub joined-append : {A : Type 0} (xs ys : List (List A)) → joined (xs ++ ys) ≡ joined xs ++ joined ys
 joined-append [] ys = refl
 joined-append (x ∷ xs) ys = ap (λ l. x ++ l) (joined-append xs ys) ∙ sym (append_assoc x (joined xs) (joined ys))
 

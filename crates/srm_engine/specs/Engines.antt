@@ -53,6 +53,9 @@ module _ {X : Type 0} {H : X → Type 0} where
       (v : World) × (o ≡ Done v) × (v.trace ≡ w.trace ++ row ∷ []) × Shows f after v
   TellsWorld f w o (Err fault.NoMemory) after = Unit {0}
   TellsWorld f w o (Err fault.CountFull) after = o ≡ Full
+  TellsWorld f w o (Err fault.BadCut) after = ⊥
+  TellsWorld f w o (Err fault.BadWidth) after = ⊥
+  TellsWorld f w o (Err fault.ShareFull) after = ⊥
 
   -- so of whatever world the engine is seen as, with every seed
   abbrev pub StepsOn : (DynBox X Global H → Record) → Engine X H → Result (Option Row) RunFault → Engine X H → Type 0

@@ -16,3 +16,5 @@ pub mod Openings
 pub mod Engines
 pub mod Outcomes
 pub mod Totalled
+pub mod Groups
+pub mod Windowed

@@ -24,6 +24,9 @@ abbrev pub TellsRun : Setting → Result Outcome RunFault → Type 0
 TellsRun s (Ok v) = IsOutcome s v.trace.items v.exits.items v.totals
 TellsRun s (Err fault.NoMemory) = Unit {0}
 TellsRun s (Err fault.CountFull) = RunMeetsFull s
+TellsRun s (Err fault.BadCut) = ⊥
+TellsRun s (Err fault.BadWidth) = ⊥
+TellsRun s (Err fault.ShareFull) = ⊥
 
 -- so with each seed of which the records, those of the boxes, are opening records
 abbrev pub RunsFrom : PlainScenario → Network → List Record → Result Outcome RunFault → Type 0
@@ -40,6 +43,9 @@ module _ {X : Type 0} {H : X → Type 0} where
   TellsTrace f s (Ok rows) after = (w : World) × IsLast s w × (rows.items ≡ w.trace) × Shows f after w
   TellsTrace f s (Err fault.NoMemory) after = Unit {0}
   TellsTrace f s (Err fault.CountFull) after = RunMeetsFull s
+  TellsTrace f s (Err fault.BadCut) after = ⊥
+  TellsTrace f s (Err fault.BadWidth) after = ⊥
+  TellsTrace f s (Err fault.ShareFull) after = ⊥
 
   -- so of an engine that is opened, with every seed
   abbrev pub Runs : (DynBox X Global H → Record) → Engine X H → Result (Vec Row) RunFault → Engine X H → Type 0

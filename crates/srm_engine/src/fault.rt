@@ -7,6 +7,12 @@ use srm_cell::fault::CellFault;
 /// Why a run gives no outcome.
 #[derive(Clone, Copy, Debug, PartialEq, Eq)]
 pub enum RunFault {
+    /// A job was to have no cell, or more than 1,024.
+    BadCut,
+    /// Windows were to be no tick wide, or wider than the least delay of a link.
+    BadWidth,
+    /// More packets crossed a link, or were dropped at it, than the ledger counts: 2^47 of a kind.
+    ShareFull,
     /// Memory was refused.
     NoMemory,
     /// A member was to send a packet, and its packet count, 2^48, is used up.

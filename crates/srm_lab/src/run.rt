@@ -51,5 +51,8 @@ pub fn run<O: Outlet>(
         ),
         Err(RunFault::NoMemory) => Err(LabFault::NoMemory),
         Err(RunFault::CountFull) => Err(LabFault::CountFull),
+        Err(RunFault::BadCut) => unreachable!(),
+        Err(RunFault::BadWidth) => unreachable!(),
+        Err(RunFault::ShareFull) => unreachable!(),
     }
 }

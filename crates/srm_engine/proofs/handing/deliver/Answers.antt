@@ -1,0 +1,78 @@
+use Rattle.std.proofs.Common.{◌≡◌, ◌<◌, refl, sym, ◌∙◌, ap, subst, length, slice_set, List, arith, le_refl}
+use Rattle.srm_cell.specs.Setting.{arrival_of, traffic_of}
+use Rattle.srm_cell.specs.Cells.{PlainCell}
+use Rattle.srm_cell.specs.Flights.{BringsNone}
+use Rattle.srm_engine.specs.Seen.{heard_below}
+use Rattle.srm_engine.specs.Groups.{AreGrouped}
+use Rattle.srm_engine.proofs.Hearing.{none_heard, length_heard, get_next, heard_next, hears_not, hears_at}
+use Rattle.srm_engine.proofs.SeenLemmas.{there, set_same}
+use Rattle.srm_engine.proofs.handing.deliver.Goals.{in-Some+in_ok-hand, in_default}
+use Rattle.srm_engine.proofs.handing.deliver.Goals as goal
+
+pub loop-member-init : goal.loop-member-init
+loop-member-init g c = λ ps h.
+    subst (λ (qs : List PlainCell). AreGrouped (λ b. (goal.Member-dyn g (b.vtable, b.value)).plain b.value) c.args.cut c.args.groups.now.items qs)
+    (sym (none_heard (traffic_of c.args.scenario.now c.args.net.now) c.args.packet.now 0 0 ps (le_refl 0))) h
+
+pub hand-requires-clause-cuts : goal.hand-requires-clause-cuts
+hand-requires-clause-cuts g c = let n = c.requires.may in (c.loop-member.invariant n.cells n.seen).cuts
+
+pub hand-requires-clause-place : goal.hand-requires-clause-place
+hand-requires-clause-place g c =
+    let n = c.requires.may in
+    let many = (c.loop-member.invariant n.cells n.seen).cells.as_many in
+    let same = length_heard (traffic_of c.args.scenario.now c.args.net.now) c.args.packet.now c.loop-member.member 0 n.cells in
+    let members = n.many in
+    omega arith
+
+pub hand-requires-clause-new : goal.hand-requires-clause-new
+hand-requires-clause-new g c = λ cell e.
+    let n = c.requires.may in
+    let t = traffic_of c.args.scenario.now c.args.net.now in
+    let seen = c.loop-member.invariant n.cells n.seen in
+    let members = n.many in
+    let within : c.loop-member.member < length n.cells = omega arith in
+    let p = there n.cells c.loop-member.member within in
+    let is = seen.cells.each c.loop-member.member cell p.0 e (get_next t c.args.packet.now c.loop-member.member n.cells ∙ p.1) in
+    subst (BringsNone c.args.packet.now.id) is.parts.inbox (n.new c.loop-member.member p.0 p.1)
+
+pub loop-member-preserved : goal.loop-member-preserved
+loop-member-preserved g c =
+    let i = c.loop-member.invariant in
+    let t = traffic_of c.args.scenario.now c.args.net.now in
+    let p = c.args.packet.now in
+    let m = c.loop-member.member in
+    let flight : arrival_of t p m ≡ c.arrival.result = sym c.arrival.ensures in
+    let members = c.requires.may.many in
+    elim c.match-arrival.branch [
+      | in-Some+in_ok-hand w ↦ rw w.groups-is (
+        λ ps h.
+            let old = h.cells.as_many in
+            let was = c.requires.may.seen.cells.as_many in
+            let within : m < length ps = omega arith in
+            let q = there ps m within in
+            let heard = heard_below t p m 0 ps in
+            subst (λ (qs : List PlainCell). AreGrouped (λ b. (goal.Member-dyn g (b.vtable, b.value)).plain b.value) c.args.cut w.hand.new.groups.items qs)
+            (ap (slice_set heard m) (sym (hears_at t p m w.in-Some.at q.0 (flight ∙ w.in-Some.is))) ∙ heard_next t p m ps q.0 q.1)
+            (w.in_ok-hand.ensures heard q.0 (i ps h) (get_next t p m ps ∙ q.1))
+      )
+      | in_default w ↦ rw w.groups-is (
+        λ ps h.
+            let old = h.cells.as_many in
+            let was = c.requires.may.seen.cells.as_many in
+            let within : m < length ps = omega arith in
+            let q = there ps m within in
+            let heard = heard_below t p m 0 ps in
+            subst (λ (qs : List PlainCell). AreGrouped (λ b. (goal.Member-dyn g (b.vtable, b.value)).plain b.value) c.args.cut c.loop-member.groups.items qs)
+            (sym (set_same heard m q.0 (get_next t p m ps ∙ q.1)) ∙ ap (slice_set heard m) (sym (hears_not t p m q.0 (flight ∙ w.in_default.is))) ∙ heard_next t p m ps q.0 q.1)
+            (i ps h)
+      )
+    ]
+
+pub returns : goal.returns
+returns g c = λ ps h.
+    let old = h.cells.as_many in
+    let was = c.requires.may.seen.cells.as_many in
+    let members = c.requires.may.many in
+    let all : c.loop-member.member ≡ length ps = omega arith in
+    subst (λ n. AreGrouped (λ b. (goal.Member-dyn g (b.vtable, b.value)).plain b.value) c.args.cut c.loop-member.groups.items (heard_below (traffic_of c.args.scenario.now c.args.net.now) c.args.packet.now n 0 ps)) all (c.loop-member.invariant ps h)
