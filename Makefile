@@ -37,8 +37,9 @@ test-memory: $(PROGRAM) ## refuses each allocation in turn, of the program on ea
 	cd crates/srm_ledger && $(RT) test > /dev/null
 	tests/refuse_allocations.py --program $(PROGRAM) examples/*.toml --tests crates/srm_examples/out/srm_examples_tests crates/srm_ledger/out/srm_ledger_tests
 
-bench: $(PROGRAM) ## prints how many events the program handles in a second
+bench: $(PROGRAM) ## prints how many events the program handles in a second, and how long each table takes
 	bench/events_per_second.py $(PROGRAM)
+	bench/time_of_tables.py $(PROGRAM)
 
 fmt: ## lays out the sources of each crate
 	@for crate in $(CRATES); do (cd crates/$$crate && $(RT) fmt) || exit 1; done
