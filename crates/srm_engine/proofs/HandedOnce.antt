@@ -61,7 +61,7 @@ sent_by (Some c) = c.sent
 abbrev pub sent_of : List PlainCell → ℕ → ℕ
 sent_of cs x = sent_by (slice_get cs x)
 
-all_contained : {A : Type 0} (Q : A → Type 0) (xs : List A) → AllIn Q xs → (x : A) → Contains xs x → Q x
+pub all_contained : {A : Type 0} (Q : A → Type 0) (xs : List A) → AllIn Q xs → (x : A) → Contains xs x → Q x
 all_contained Q [] h x c = absurd (contains_none x c)
 all_contained Q (y ∷ ys) h x (zero, l, e) = subst Q e h.0
 all_contained Q (y ∷ ys) h x (suc k, l, e) = all_contained Q ys h.1 x (k, omega arith, e)

@@ -13,6 +13,9 @@ pub mod Merge
 pub mod NamesKept
 pub mod OneStep
 pub mod OneWindow
+pub mod LostNames
+pub mod MarkRows
+pub mod OrderlyRuns
 pub mod SortedRows
 pub mod WindowChain
 pub mod WindowEnds

@@ -51,7 +51,7 @@ all_at Q xs y ys h = (AllIn-second Q xs (y ∷ ys) h).0
 
 -- ---- packets that are sent later are others
 
-split_at : {A : Type 0} (xs : List A) (x : A) → Contains xs x → (before : List A) × (after : List A) × (xs ≡ before ++ x ∷ after)
+pub split_at : {A : Type 0} (xs : List A) (x : A) → Contains xs x → (before : List A) × (after : List A) × (xs ≡ before ++ x ∷ after)
 split_at [] x h = absurd (contains_none x h)
 split_at (y ∷ ys) x (zero, l, e) = ([], ys, ap (λ z. z ∷ ys) e)
 split_at (y ∷ ys) x (suc k, l, e) = let r = split_at ys x (k, omega arith, e) in (y ∷ r.0, r.1, ap (λ l. y ∷ l) r.2)

@@ -10,6 +10,7 @@ pub mod Names
 pub mod NextTimes
 pub mod OneLoss
 pub mod Seen
+pub mod Tables
 pub mod Faults
 pub mod Openings
 pub mod Engines

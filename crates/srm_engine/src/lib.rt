@@ -8,6 +8,7 @@ pub mod fault;
 pub mod laws;
 pub mod laws_of_names;
 pub mod laws_of_packets;
+pub mod laws_of_tables;
 pub mod laws_of_windows;
 pub mod next_times;
 pub mod outcome;
