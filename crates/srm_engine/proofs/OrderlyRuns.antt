@@ -1,5 +1,5 @@
 -- The rows of a run of an accepted scenario are orderly.
-use Rattle.std.proofs.Common.{◌≡◌, ℕ, zero, suc, ◌<◌, ◌+◌, List, [], ◌∷◌, ◌++◌, length, refl, sym, ap, ◌∙◌, subst, inl, inr, arith, Option, Some, None, unwrap_or, slice_get, append_assoc, zero-add}
+use Rattle.std.proofs.Common.{◌≡◌, ℕ, zero, suc, ◌<◌, ◌+◌, List, [], ◌∷◌, ◌++◌, length, refl, sym, ap, ◌∙◌, subst, inl, inr, arith, Option, Some, None, unwrap_or, slice_get, append_assoc, append-nil, zero-add}
 use Rattle.std.specs.List.{Contains}
 use Rattle.std.proofs.lemmas.List.Elements.{Contains-append_left, Contains-append_right}
 use Rattle.std.proofs.lemmas.Option.{slice_get-get_or}
@@ -31,7 +31,7 @@ use Rattle.srm_cell.specs.Cells.{PlainCell, opening_cell, hear_at, hear, Event, 
 use Rattle.srm_cell.specs.OwnRuns.{told_to}
 use Rattle.srm_cell.proofs.FitSettings.{settings_are_fit}
 use Rattle.srm_cell.proofs.Rising.{OnEvent, before_on}
-use Rattle.srm_engine.specs.World.{World, settled, opening, opening_cells, run, row_cmp, IsReached}
+use Rattle.srm_engine.specs.World.{World, settled, opening, opening_cells, run, row_cmp, IsReached, IsOutcome}
 use Rattle.srm_engine.specs.Handed.{SentIn}
 use Rattle.srm_engine.specs.Names.{Drew, Carries, ToldOf, Lost, Lacks}
 use Rattle.srm_engine.specs.Tables.{TracesAreOrderly}
@@ -303,15 +303,18 @@ module _ (s : Setting) (fit : IsFit s) (own : (j : ℕ) → j < s.traffic.member
     told_fixed n h =
         let b = brought_of h.0.about n h.4 in
         let at = split_at trace h.0 h.1 in
-        let sent = (was.names.handed.before at.0 at.1 h.0 b.0 at.2 b.1).0 in
-        (h.0, h.1, record {
-          member = h.2;
-          told_so = h.3;
-          packet = b.0;
-          about = b.1;
-          sent = subst (SentIn b.0) (sym at.2) (sent_more b.0 at.0 (h.0 ∷ at.1) sent);
-          carries = b.2;
-        })
+        let sent = (was.names.handed.before at.0 at.1 h.0 b.0 at.2 b.1).0 in (
+          h.0,
+          h.1,
+          record {
+            member = h.2;
+            told_so = h.3;
+            packet = b.0;
+            about = b.1;
+            sent = subst (SentIn b.0) (sym at.2) (sent_more b.0 at.0 (h.0 ∷ at.1) sent);
+            carries = b.2;
+          },
+        )
 
     abbrev FixesLost : List Row → Row → Type 0
     FixesLost before x =
@@ -439,3 +442,10 @@ module _ (p : PlainScenario) (a : IsAccepted p) (seed : ℕ) where
 pub traces_are_orderly : TracesAreOrderly
 traces_are_orderly p seed a w reached before after parts =
     first_orderly (setting_of p (network_of p) seed) (settings_are_fit p seed a) (own_marks p a seed) w reached before after parts
+
+-- so are the rows of a complete run
+pub outcome_is_orderly : (p : PlainScenario) (seed : ℕ) → IsAccepted p → (trace : List Row) (exits : List Exit) (totals : List ℕ)
+    → IsOutcome (setting_of p (network_of p) seed) trace exits totals → IsOrderly (length p.members) trace
+outcome_is_orderly p seed a trace exits totals o =
+    let all = traces_are_orderly p seed a o.world o.last.reached o.world.trace [] (sym (append-nil o.world.trace)) in
+    subst (IsOrderly (length p.members)) (sym o.trace_is) all
