@@ -8,18 +8,20 @@ use Rattle.srm_cell.specs.Crossings.{crossings}
 use Rattle.srm_cell.specs.Setting.{setting_of, traffic_of}
 use Rattle.srm_engine.specs.World.{World, IsLast, RunMeetsFull}
 use Rattle.srm_report.specs.Links.{links_table}
+use Rattle.srm_report.specs.Losses.{losses_table}
 use Rattle.srm_report.specs.Members.{members_table}
 use Rattle.srm_report.specs.Trace.{trace_of_rows}
 use Rattle.srm_lab.specs.declared.fault.LabFault.{LabFault}
 use Rattle.srm_lab.specs.declared.fault.LabFault.TheVariants.{NoMemory, CountFull, WriteFault}
 use Rattle.srm_lab.specs.declared.options.Options.{Options}
 use Rattle.srm_lab.specs.declared.options.Show.{Show}
-use Rattle.srm_lab.specs.declared.options.Show.TheVariants.{Trace, Members, Links}
+use Rattle.srm_lab.specs.declared.options.Show.TheVariants.{Trace, Members, Losses, Links}
 
 -- what is shown of a run of a scenario on its network that left these rows and totals
 abbrev pub shown : Show → PlainScenario → Network → List Row → List ℕ → List ℕ
 shown Trace p net rows totals = trace_of_rows rows
 shown Members p net rows totals = members_table p rows
+shown Losses p net rows totals = losses_table net rows
 shown Links p net rows totals = links_table totals
 
 -- the report of a run of a scenario on its network that ended in this world: its totals are the crossings of its packets

@@ -66,9 +66,9 @@ const SEED: OptionLine = OptionLine {
 
 const SHOW: OptionLine = OptionLine {
     name: "show",
-    takes: "trace|members|links",
+    takes: "trace|members|losses|links",
     default: "trace",
-    about: "The table: a row for each event, each member or each link",
+    about: "The table: a row for each event, member, loss or link",
     reader: Reader::Text,
 };
 
@@ -76,9 +76,10 @@ const SHOW: OptionLine = OptionLine {
 const OPTIONS: [OptionLine; 2] = [SEED, SHOW];
 
 /// The words of `--show`.
-const SHOWS: [(&str, Show); 3] = [
+const SHOWS: [(&str, Show); 4] = [
     ("trace", Show::Trace),
     ("members", Show::Members),
+    ("losses", Show::Losses),
     ("links", Show::Links),
 ];
 

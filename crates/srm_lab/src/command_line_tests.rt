@@ -29,6 +29,7 @@ fn words_ask_for_a_seed_and_a_table(rt: HostRuntime) -> Result<(), Fail> {
         ),
         (&["--show", "trace"], 0, Show::Trace),
         (&["--show", "members"], 0, Show::Members),
+        (&["--show", "losses"], 0, Show::Losses),
         (&["--show=links"], 0, Show::Links),
         (&["--show", "links", "--seed", "3"], 3, Show::Links),
     ] {
@@ -107,7 +108,7 @@ fn help_tells_each_option_with_what_it_takes(rt: HostRuntime) -> Result<(), Fail
         "Usage: srm_lab [OPTIONS]",
         "--seed <0..=9223372036854775807>",
         "[default: 0]",
-        "--show <trace|members|links>",
+        "--show <trace|members|losses|links>",
         "[default: trace]",
         "Exit status:\n  0 ",
         "\n  1 ",

@@ -7,6 +7,8 @@ pub enum Show {
     Trace,
     /// A row for each member.
     Members,
+    /// A row for each name that a member lost.
+    Losses,
     /// A row for each link.
     Links,
 }

@@ -65,6 +65,12 @@ const MEMBERS: &str =
 4,receiver,4,0,-,0,3,1,1,0,0,0,0
 ";
 
+const LOSSES: &str = "member,source,page,number,detected,recovered,delay
+2,0,0,0,12,17,5/4
+3,0,0,0,13,18,5/6
+4,0,0,0,14,19,5/8
+";
+
 const LINKS: &str = "link,data,requests,repairs,sessions,dropped
 0,2,1,1,0,0
 1,1,1,1,0,1
@@ -78,6 +84,7 @@ fn the_table_that_is_asked_for_is_written(rt: HostRuntime) -> Result<(), Fail> {
     for (show, table) in [
         ("trace", example.trace),
         ("members", MEMBERS),
+        ("losses", LOSSES),
         ("links", LINKS),
     ] {
         let text = example.scenario.as_bytes();
@@ -85,6 +92,27 @@ fn the_table_that_is_asked_for_is_written(rt: HostRuntime) -> Result<(), Fail> {
         assert_eq!(rt; ended.status, 0, "{show}");
         assert!(rt; ended.outlet.as_slice() == table.as_bytes(), "{show}");
         assert_eq!(rt; ended.errors.len(), 0, "{show}");
+    }
+    Ok(())
+}
+
+// A loss on a page that a late member wants; one that the run's end leaves open; one that is mended in the tick in which it is
+// found; and no loss, since the member has left.
+#[test]
+fn losses_have_a_line_each(rt: HostRuntime) -> Result<(), Fail> {
+    for (name, lines) in [
+        ("late_joiner", "1,0,1,0,60,64,4/2\n"),
+        ("stopped_in_mid_recovery", "1,0,0,0,11,-,-\n"),
+        ("mended_by_the_data_itself", "2,1,0,0,2,2,0/4\n"),
+        ("receiver_that_leaves", ""),
+    ] {
+        let text = example(name)?.scenario.as_bytes();
+        let ended = run_program(rt.alloc(), &["--show", "losses"], text, AMPLE, AMPLE)?;
+        assert_eq!(rt; ended.status, 0, "{name}");
+        let header = "member,source,page,number,detected,recovered,delay\n";
+        let table = format!(in rt.alloc(); "{header}{lines}")?;
+        assert!(rt; ended.outlet.as_slice() == table.as_bytes(), "{name}");
+        assert_eq!(rt; ended.errors.len(), 0, "{name}");
     }
     Ok(())
 }

