@@ -1,5 +1,5 @@
 -- Cells in groups: each seen as the cell of its member.
-use Rattle.std.proofs.Common.{◌≡◌, ℕ, zero, suc, ◌+◌, ◌*◌, ◌/◌, ◌%◌, ◌<◌, ◌≤◌, ◌⊎◌, inl, inr, List, [], ◌∷◌, ◌++◌, length, take, drop, map, min, Option, Some, None, refl, sym, ap, ◌∙◌, subst, arith, slice_get, slice_set, get_or, add-zero, zero-add, add-one, unwrap_or, length-append, append-nil, append_assoc}
+use Rattle.std.proofs.Common.{◌≡◌, ℕ, zero, suc, ◌+◌, ◌*◌, ◌/◌, ◌%◌, ◌<◌, ◌≤◌, ◌⊎◌, inl, inr, List, [], ◌∷◌, ◌++◌, length, take, drop, Some, refl, sym, ap, ◌∙◌, subst, arith, slice_get, slice_set, get_or, add-zero, zero-add, length-append, append-nil, append_assoc}
 use Rattle.std.proofs.Math.Nat.{suc-mul}
 use Rattle.std.proofs.Math.Seq.{split_at, take-suc}
 use Rattle.std.proofs.lemmas.List.{map-append}
@@ -9,13 +9,11 @@ use Rattle.std.specs.declared.dyn_box.DynBox.{DynBox}
 use Rattle.std.specs.Global.{Global, Vec}
 use Rattle.srm_member.specs.Record.{Record}
 use Rattle.srm_cell.specs.declared.cell.Cell.{Cell}
-use Rattle.srm_cell.specs.Cells.{PlainCell, Event, by_key, earlier, next_event, time_of}
+use Rattle.srm_cell.specs.Cells.{PlainCell}
 use Rattle.srm_cell.specs.Views.{IsCell}
 use Rattle.srm_cell.specs.Jobs as cell
-use Rattle.srm_engine.specs.World.{least_event}
-use Rattle.srm_engine.specs.Windows.{least_with}
 use Rattle.srm_engine.specs.Seen.{AreCells}
-use Rattle.srm_engine.specs.Groups.{numbered, least_among, AreCuts, AreFull, sizes, all_in}
+use Rattle.srm_engine.specs.Groups.{numbered, AreCuts, AreFull, sizes, all_in}
 use Rattle.srm_engine.proofs.RunLemmas.{shifted}
 
 same_some : {A : Type 0} (x y : A) → Some x ≡ Some y → x ≡ y

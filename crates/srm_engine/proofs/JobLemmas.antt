@@ -1,5 +1,5 @@
 -- Jobs as crews are handed them, and what is done of them.
-use Rattle.std.proofs.Common.{◌≡◌, ℕ, zero, suc, ◌+◌, ◌<◌, ◌≤◌, ◌^◌, ◌⊎◌, inl, inr, List, [], ◌∷◌, ◌++◌, length, take, drop, map, min, Option, Some, None, refl, sym, ap, ◌∙◌, subst, arith, slice_get, slice_index, add-zero, zero-add, add-one, All, length-append, append-nil, append_assoc, IsPermutation, IsSorted, le_refl}
+use Rattle.std.proofs.Common.{◌≡◌, ℕ, zero, suc, ◌+◌, ◌<◌, ◌≤◌, ◌^◌, ◌⊎◌, inl, inr, List, [], ◌∷◌, ◌++◌, length, take, drop, map, Some, refl, sym, ap, ◌∙◌, subst, arith, slice_get, slice_index, add-zero, zero-add, add-one, All, length-append, IsPermutation}
 use Rattle.std.specs.List.{AllZip, range_with_len}
 use Rattle.std.proofs.lemmas.List.{map-append, take-append-drop}
 use Rattle.std.proofs.lemmas.List.Elements.{All-nil, All-cons, All-head, All-tail}
@@ -12,7 +12,7 @@ use Rattle.srm_cell.specs.declared.cell.Cell.{Cell}
 use Rattle.srm_cell.specs.declared.job.Job.{Job}
 use Rattle.srm_cell.specs.declared.job.Done as job
 use Rattle.srm_cell.specs.Setting.{Traffic, Setting}
-use Rattle.srm_cell.specs.Cells.{PlainCell, StepOutcome, Full, Spent, Stepped}
+use Rattle.srm_cell.specs.Cells.{PlainCell, StepOutcome, Stepped}
 use Rattle.srm_cell.specs.OwnRuns.{own_end}
 use Rattle.srm_cell.specs.Crossings.{joined, crossings, added}
 use Rattle.srm_cell.specs.Jobs as cell
@@ -24,8 +24,8 @@ use Rattle.srm_engine.specs.Groups.{numbered, handed_jobs, AreCuts, sizes, all_i
 use Rattle.srm_engine.specs.Windowed.{IsCounted}
 use Rattle.srm_engine.proofs.RunLemmas.{shifted}
 use Rattle.srm_engine.proofs.OneWindow.{as_many_results}
-use Rattle.srm_engine.proofs.WindowJobs.{jobs_are_runs, crossings_keep, get_first, get_second, joined-append, shorter}
-use Rattle.srm_engine.proofs.CellLists.{AreFrom, as_many_from, split_from, join_from, First, first_cut, no_more_groups, few_groups}
+use Rattle.srm_engine.proofs.WindowJobs.{jobs_are_runs, crossings_keep, get_first, get_second, joined-append}
+use Rattle.srm_engine.proofs.CellLists.{AreFrom, as_many_from, split_from, join_from, first_cut, no_more_groups}
 
 -- ---- cells with their members
 

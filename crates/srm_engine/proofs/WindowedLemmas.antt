@@ -1,5 +1,5 @@
 -- Windows of the engine, one after the other.
-use Rattle.std.proofs.Common.{◌≡◌, ℕ, zero, suc, ◌<◌, ◌≤◌, ◌+◌, ◌^◌, min, true, false, List, [], ◌∷◌, ◌++◌, Option, Some, None, Err, option_map, unwrap_or, refl, sym, ap, ◌∙◌, subst, arith, All, IsSorted, IsPermutation, zero-add, add-zero, length, map, nat_le, cond, slice_get, take, drop, slice_index, replicate, ◌*◌, ◌≢◌}
+use Rattle.std.proofs.Common.{◌≡◌, ℕ, zero, suc, ◌<◌, ◌≤◌, ◌+◌, min, true, false, List, [], ◌∷◌, ◌++◌, Option, Some, None, Err, option_map, unwrap_or, refl, sym, ap, ◌∙◌, subst, arith, All, IsSorted, IsPermutation, zero-add, add-zero, length, map, nat_le, cond, slice_get, take, drop, slice_index, replicate, ◌*◌, ◌≢◌}
 use Rattle.std.proofs.lemmas.Bool.Decides.{nat_tests}
 use Rattle.std.proofs.lemmas.List.{map-append, length-map}
 use Rattle.std.specs.List.{AllZip, range_with_len}
@@ -22,7 +22,7 @@ use Rattle.srm_cell.specs.Cells.{PlainCell, Event, next_event, time_of, Full, Sp
 use Rattle.srm_cell.specs.Crossings.{joined, crossings}
 use Rattle.srm_cell.specs.Jobs as cell
 use Rattle.srm_cell.proofs.FitSettings.{settings_are_fit}
-use Rattle.srm_crew.specs.Crews.{AreJobs, AnyEnds, HasGrown, word_of, rows_of}
+use Rattle.srm_crew.specs.Crews.{AreJobs, AnyEnds, word_of}
 use Rattle.srm_engine.specs.declared.fault.RunFault.{RunFault}
 use Rattle.srm_engine.specs.declared.fault.RunFault.TheVariants as fault
 use Rattle.srm_engine.specs.declared.window.Grouped.{Grouped}
@@ -31,12 +31,12 @@ use Rattle.srm_engine.specs.Schedules.{IsSafe, HasNoResult}
 use Rattle.srm_engine.specs.NextTimes.{least_time, sooner}
 use Rattle.srm_engine.specs.Seen.{AreCells, AreTimes}
 use Rattle.srm_engine.specs.Windows.{IsWidth, least_with}
-use Rattle.srm_engine.specs.WindowRuns.{OwnResult, AreOwnRuns, rows_in, cells_in, IsMerge, AreNewInTurn, IsWindow, each_hears, after_window, jobs_of}
+use Rattle.srm_engine.specs.WindowRuns.{OwnResult, AreOwnRuns, rows_in, cells_in, IsMerge, AreNewInTurn, IsWindow, jobs_of}
 use Rattle.srm_engine.specs.WindowChains.{IsNext, start_of, IsEndRule, width_rule, AreWindows, window_jobs}
 use Rattle.srm_engine.specs.Groups.{handed_jobs, least_among, AreCuts, AreGrouped, sizes, all_in, jobs_with, groups_of, lists_of, some_of}
-use Rattle.srm_engine.specs.Windowed.{IsCut, IsCounted, Holds, PassesShare, calls_of, TellsJobs, TellsWindow, TellsWindows, TellsWindowRun}
+use Rattle.srm_engine.specs.Windowed.{IsCut, Holds, PassesShare, calls_of, TellsJobs, TellsWindow, TellsWindows, TellsWindowRun}
 use Rattle.srm_engine.proofs.CellLists.{from_seen, seen_from, few_groups}
-use Rattle.srm_engine.proofs.JobLemmas.{any_cell, are_jobs, may_advance, as_many_jobs, places_with, job_results, cuts_kept, joined_some, all_some, counted_merged}
+use Rattle.srm_engine.proofs.JobLemmas.{any_cell, are_jobs, may_advance, as_many_jobs, places_with, job_results, cuts_kept, joined_some, all_some}
 use Rattle.srm_engine.proofs.LawProofs.{never_spent}
 use Rattle.srm_engine.proofs.OneWindow.{as_many_results}
 use Rattle.srm_engine.proofs.Sequential.{good_reached}

@@ -1,5 +1,5 @@
 -- The cells of all members, those of each job together.
-use Rattle.std.specs.Prelude.{◌≡◌, ◌+◌, ◌<◌, ◌≤◌, ◌^◌, ℕ, suc, List, [], ◌∷◌, ◌++◌, length, map, min, Option, slice_get, slice_set, Some}
+use Rattle.std.specs.Prelude.{◌≡◌, ◌+◌, ◌<◌, ◌≤◌, ◌^◌, ℕ, suc, List, [], ◌∷◌, ◌++◌, length, map, slice_get, slice_set, Some}
 use Rattle.std.specs.declared.dyn_box.DynBox.{DynBox}
 use Rattle.std.specs.Global.{Global, Vec}
 use Rattle.srm_net.specs.declared.packet.Packet.{Packet}
@@ -12,7 +12,6 @@ use Rattle.srm_cell.specs.declared.job.Done as job
 use Rattle.srm_cell.specs.Flights.{BringsNone}
 use Rattle.srm_cell.specs.Setting.{Traffic}
 use Rattle.srm_cell.specs.Cells.{PlainCell, hear_at, next_event, time_of}
-use Rattle.srm_cell.specs.Crossings.{joined}
 use Rattle.srm_cell.specs.Jobs as cell
 use Rattle.srm_engine.specs.Seen.{AreCells, IsNew, heard_below}
 use Rattle.srm_engine.specs.Windows.{least_with}

@@ -1,5 +1,5 @@
 -- What the windowed engine is given, and what it tells.
-use Rattle.std.specs.Prelude.{◌≡◌, ◌<◌, ◌≤◌, ◌+◌, ◌^◌, ℕ, List, [], ◌∷◌, ◌++◌, length, map, min, slice_index, Result, Ok, Err}
+use Rattle.std.specs.Prelude.{◌≡◌, ◌<◌, ◌≤◌, ◌+◌, ◌^◌, ℕ, List, [], ◌∷◌, ◌++◌, map, slice_index, Result, Ok, Err}
 use Rattle.std.specs.declared.dyn_box.DynBox.{DynBox}
 use Rattle.std.specs.Global.{Global, Vec}
 use Rattle.srm_net.specs.Network.{Network}
@@ -18,8 +18,8 @@ use Rattle.srm_engine.specs.declared.fault.RunFault.{RunFault}
 use Rattle.srm_engine.specs.declared.fault.RunFault.TheVariants as fault
 use Rattle.srm_engine.specs.declared.outcome.Outcome.{Outcome}
 use Rattle.srm_engine.specs.declared.window.Grouped.{Grouped}
-use Rattle.srm_engine.specs.World.{World, IsReached, IsLast, IsOutcome, RunMeetsFull, opening}
-use Rattle.srm_engine.specs.Schedules.{IsSafe, HasNoResult}
+use Rattle.srm_engine.specs.World.{World, IsLast, IsOutcome, RunMeetsFull}
+use Rattle.srm_engine.specs.Schedules.{HasNoResult}
 use Rattle.srm_engine.specs.Windows.{IsWidth}
 use Rattle.srm_engine.specs.WindowRuns.{OwnResult, AreOwnRuns, rows_in, cells_in, IsWindow, jobs_of}
 use Rattle.srm_engine.specs.WindowChains.{AreWindows, width_rule, least_width, window_jobs}

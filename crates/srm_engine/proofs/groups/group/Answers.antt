@@ -1,4 +1,4 @@
-use Rattle.std.proofs.Common.{◌≡◌, ◌∙◌, ◌≤◌, ◌<◌, ◌++◌, ◌∷◌, [], sym, ap, subst, length, arith, refl, length-append, append-nil}
+use Rattle.std.proofs.Common.{◌≡◌, ◌∙◌, ◌≤◌, ◌<◌, ◌++◌, ◌∷◌, [], sym, ap, length, arith, refl, length-append, append-nil}
 use Rattle.std.specs.Vec.Iter.{into_iter_items}
 use Rattle.srm_engine.specs.Groups.{all_in, sizes}
 use Rattle.std.proofs.lemmas.Grind.{common_steps}

@@ -1,4 +1,4 @@
-use Rattle.std.proofs.Common.{◌≡◌, ◌≤◌, ◌++◌, length, List, [], ◌<◌}
+use Rattle.std.proofs.Common.{◌≡◌, ◌≤◌, ◌++◌, length}
 use Rattle.std.specs.Vec.Iter.{into_iter_items}
 use Rattle.srm_engine.specs.Groups.{all_in, sizes, AreFull}
 use Rattle.srm_engine.proofs.groups.group.Given as goal

@@ -1,4 +1,4 @@
-use Rattle.std.proofs.Common.{◌≡◌, ◌+◌, ℕ, suc, List, sym, ap, ◌∙◌, subst, take, length, zero-add, add-one}
+use Rattle.std.proofs.Common.{◌≡◌, ◌+◌, sym, ap, ◌∙◌, subst, take, length, zero-add, add-one}
 use Rattle.srm_cell.specs.Jobs.{AreCells}
 use Rattle.srm_engine.specs.Groups.{numbered, least_among, all_in}
 use Rattle.srm_engine.proofs.CellLists.{from_seen, group_at}

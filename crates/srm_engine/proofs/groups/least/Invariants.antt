@@ -1,4 +1,4 @@
-use Rattle.std.proofs.Common.{◌≡◌, ℕ, List, take, length}
+use Rattle.std.proofs.Common.{◌≡◌, List, take, length}
 use Rattle.srm_cell.specs.Cells.{PlainCell}
 use Rattle.srm_engine.specs.Seen.{AreCells}
 use Rattle.srm_engine.specs.Groups.{all_in, least_among}

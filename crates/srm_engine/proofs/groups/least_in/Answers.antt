@@ -1,6 +1,5 @@
-use Rattle.std.proofs.Common.{◌≡◌, ◌<◌, ◌+◌, ℕ, suc, List, sym, ap, ◌∙◌, take, length, arith, add-one}
+use Rattle.std.proofs.Common.{◌+◌, sym, ap, ◌∙◌, take, arith, add-one}
 use Rattle.std.proofs.lemmas.List.{take_all}
-use Rattle.srm_cell.specs.Cells.{next_event, time_of}
 use Rattle.srm_engine.specs.Windows.{least_with}
 use Rattle.srm_engine.specs.Groups.{least_among}
 use Rattle.srm_engine.proofs.CellLists.{as_many_from, cell_at}

@@ -1,4 +1,4 @@
-use Rattle.std.proofs.Common.{◌≡◌, ◌∙◌, ◌<◌, ◌≤◌, List, Some, None, sym, ap, subst, take, drop, ◌∷◌, ◌++◌, [], suc, ◌+◌, add-one, arith, length}
+use Rattle.std.proofs.Common.{◌≡◌, ◌∙◌, List, sym, ap, subst, take, drop, ◌∷◌, ◌++◌, [], suc, ◌+◌, add-one, arith}
 use Rattle.std.proofs.Math.Seq.{split_at, take-suc}
 use Rattle.std.proofs.lemmas.List.{take_all}
 use Rattle.srm_cell.specs.Setting.{setting_of, traffic_of}

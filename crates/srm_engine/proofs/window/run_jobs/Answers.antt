@@ -1,5 +1,5 @@
-use Rattle.std.proofs.Common.{◌≡◌, ◌∙◌, ◌<◌, ◌+◌, ◌^◌, List, sym, ap, ◌++◌, subst, refl}
-use Rattle.srm_cell.specs.Setting.{setting_of, traffic_of}
+use Rattle.std.proofs.Common.{◌∙◌, ◌<◌, ◌+◌, ◌^◌, sym, ap, subst}
+use Rattle.srm_cell.specs.Setting.{traffic_of}
 use Rattle.srm_cell.specs.Crossings.{joined, crossings}
 use Rattle.srm_crew.specs.Crews.{word_of, rows_of}
 use Rattle.srm_engine.specs.WindowRuns.{rows_in, cells_in, jobs_of}

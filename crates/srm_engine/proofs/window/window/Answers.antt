@@ -1,8 +1,6 @@
-use Rattle.std.proofs.Common.{◌≡◌, ◌∙◌, List, sym, ap, ◌++◌, subst, refl, All, IsSorted}
-use Rattle.srm_member.specs.declared.row.Row.{Row}
+use Rattle.std.proofs.Common.{sym, subst, refl}
 use Rattle.srm_cell.specs.Setting.{setting_of, traffic_of}
 use Rattle.srm_cell.specs.Crossings.{joined}
-use Rattle.srm_engine.specs.World.{row_cmp}
 use Rattle.srm_engine.specs.WindowRuns.{rows_in, cells_in, after_window, AreNewInTurn}
 use Rattle.srm_engine.proofs.JobLemmas.{counted_merged}
 use Rattle.srm_engine.proofs.WindowedLemmas.{lists_sorted, merge_of, new_in_turn, all_members, refused}

@@ -1,6 +1,6 @@
-use Rattle.std.proofs.Common.{◌≡◌, ◌∙◌, ◌*◌, List, sym, ap, subst, length, arith}
+use Rattle.std.proofs.Common.{◌≡◌, ◌∙◌, ◌*◌, sym, ap, subst, length, arith}
 use Rattle.srm_ledger.specs.Seats.{whole_seat}
-use Rattle.srm_cell.specs.Setting.{setting_of, traffic_of}
+use Rattle.srm_cell.specs.Setting.{setting_of}
 use Rattle.srm_cell.specs.Crossings.{crossings}
 use Rattle.srm_crew.proofs.Sums.{crossings_long}
 use Rattle.srm_engine.specs.WindowChains.{width_rule}

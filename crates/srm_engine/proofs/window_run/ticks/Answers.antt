@@ -1,4 +1,4 @@
-use Rattle.std.proofs.Common.{◌≡◌, ◌∙◌, ◌≤◌, ℕ, Some, sym, ap, unwrap_or, arith}
+use Rattle.std.proofs.Common.{◌≡◌, ◌∙◌, sym, ap, unwrap_or, arith}
 use Rattle.srm_net.proofs.LawProofs.{least_delay_fits}
 use Rattle.srm_cell.specs.Setting.{setting_of}
 use Rattle.srm_engine.specs.WindowChains.{width_rule}

@@ -1,12 +1,10 @@
-use Rattle.std.proofs.Common.{◌≡◌, ◌∙◌, ◌<◌, ◌≤◌, List, sym, ap, ◌++◌, ◌∷◌, [], arith, subst, min}
+use Rattle.std.proofs.Common.{◌∙◌, ◌<◌, ◌≤◌, List, sym, ap, ◌++◌, ◌∷◌, [], arith, subst}
 use Rattle.srm_member.specs.declared.row.Row.{Row}
 use Rattle.srm_cell.specs.Setting.{setting_of}
 use Rattle.srm_engine.specs.World.{opening}
 use Rattle.srm_engine.specs.WindowChains.{no_window, start_of, width_rule}
-use Rattle.srm_engine.specs.WindowRuns.{jobs_of}
 use Rattle.srm_engine.specs.Seen.{AreCells}
-use Rattle.srm_engine.specs.Groups.{handed_jobs, all_in}
-use Rattle.srm_engine.specs.Windowed.{calls_of}
+use Rattle.srm_engine.specs.Groups.{all_in}
 use Rattle.srm_engine.proofs.PhaseLemmas.{pushed_if}
 use Rattle.srm_engine.proofs.Stepping.{opening_trace}
 use Rattle.srm_engine.proofs.WindowEnds.{starts_tell}
