@@ -39,7 +39,8 @@ pub trait Crew {
         requires links { ledger.now.links ≡ length net.now.links }
         requires seat { seat.ledger ≡ ledger.now.name }
         ensures ready { ready self.new }
-        ensures done { Maps (λ b. (⟦<dyn Member as Member>⟧ b.vtable).plain b.value) scenario.now net.now seat jobs.items result }
+        ensures done { Maps (λ b. (⟦<dyn Member as Member>⟧ b.vtable).plain b.value) scenario.now net.now seat
+            jobs.items result }
         ensures handed { IfOk result (λ _. (ps : List PlainJob)
             → AreJobs (λ b. (⟦<dyn Member as Member>⟧ b.vtable).plain b.value) jobs.items ps
             → handed self.old (ps ∷ []) self.new) };

@@ -21,7 +21,8 @@ pub(crate) fn advance_each(
 ) -> Result<Vec<Done>, CellFault>
     requires { All (λ j. MayAdvance (λ b. (⟦<dyn Member as Member>⟧ b.vtable).plain b.value)
         (length net.now.hosts) j) jobs.items }
-    ensures { AdvanceEach (λ b. (⟦<dyn Member as Member>⟧ b.vtable).plain b.value) scenario.now net.now jobs.items result }
+    ensures { AdvanceEach (λ b. (⟦<dyn Member as Member>⟧ b.vtable).plain b.value) scenario.now net.now
+        jobs.items result }
 {
     let mut all = Vec::new(alloc);
     for job in jobs {

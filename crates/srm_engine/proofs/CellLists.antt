@@ -259,8 +259,7 @@ module _ {X : Type 0} {H : X → Type 0} (f : DynBox X Global H → Record) wher
       let size : length (all_in (take (suc k) gs)) ≡ length before + length g.items =
       ap (λ l. length (all_in l)) more ∙ ap length (all_in_append (take k gs) (g ∷ []) ∙ ap (λ l. before ++ l) (append-nil g.items)) ∙ length-append before g.items in
       let many = as_many_from f 0 (before ++ (g.items ++ rest)) ps here in
-      let long = length-append before (g.items ++ rest) in
-      (
+      let long = length-append before (g.items ++ rest) in (
         qs,
         subst (λ n. AreFrom f n g.items qs) (zero-add (length before)) own.0,
         ap (λ n. take n ps) size ∙ take_sum (length before) (length g.items) ps,

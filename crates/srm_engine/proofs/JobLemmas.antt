@@ -95,8 +95,7 @@ some_job o (suc k) cut end place i (c ∷ cs) (inl h) =
 some_job o (suc k) cut end place i (c ∷ cs) (inr h) =
     let all = c ∷ cs in
     let r = some_job o k cut end (suc place) (i + length (take cut all)) (drop cut all) h in
-    let at : i + length (take cut all) + r.0 ≡ i + (length (take cut all) + r.0) = omega arith in
-    (
+    let at : i + length (take cut all) + r.0 ≡ i + (length (take cut all) + r.0) = omega arith in (
       length (take cut all) + r.0,
       r.1,
       subst (λ l. slice_get l (length (take cut all) + r.0) ≡ Some r.1) (take-append-drop cut all) (get_second (take cut all) (drop cut all) r.0 ∙ r.2),
@@ -187,8 +186,7 @@ module _ {X : Type 0} {H : X → Type 0} (f : DynBox X Global H → Record) wher
       let many : length (cells_in one.0) ≡ length j.cells = as_many_results j.till i j.cells one.0 one.1 in
       let size : length d.cells.items ≡ length j.cells = as_many_from f i d.cells.items (cells_in one.0) one.2 ∙ many in
       let next = subst (λ n. AreFrom f (i + n) (all_in (groups_of ds)) (cells_in (joined more.0))) (sym many) more.2 in
-      let both = join_from f i d.cells.items (all_in (groups_of ds)) (cells_in one.0) (cells_in (joined more.0)) one.2 next in
-      (
+      let both = join_from f i d.cells.items (all_in (groups_of ds)) (cells_in one.0) (cells_in (joined more.0)) one.2 next in (
         one.0 ∷ more.0,
         (one.1, more.1),
         subst (λ ps. AreFrom f i (d.cells.items ++ all_in (groups_of ds)) ps) (sym (map-append (λ (r : OwnResult). r.cell) one.0 (joined more.0))) both,

@@ -167,8 +167,7 @@ module _ {X : Type 0} {H : X → Type 0} (f : DynBox X Global H → Record) (p :
   pub jobs_done : (t : Traffic) (ds : List (job.Done X H)) → AllZip (λ p d. cell.IsDone f t p d) (handed_jobs 0 (jobs_of cut end w)) ds
       → (results : List OwnResult) × AreOwnRuns end 0 w.cells results × AreGrouped f cut (groups_of ds) (cells_in results) × (lists_of ds ≡ rows_in results)
   jobs_done t ds h =
-      let r = job_results f t 0 (jobs_of cut end w) ds h in
-      (
+      let r = job_results f t 0 (jobs_of cut end w) ds h in (
         joined r.0,
         jobs_run_all w cut end r.0 cuts.0 r.1,
         record { cells = seen_from f (all_in (groups_of ds)) (cells_in (joined r.0)) r.2; cuts = cuts_kept f cut end gs (jobs_of cut end w) ds grouped.cuts own_jobs r.4 },

@@ -15,7 +15,11 @@ use srm_net::sequence::Sequence;
 use std::alloc::{AllocError, Global};
 
 /// The cells in groups of `cut`, the last of which may have fewer.
-pub(crate) fn group(alloc: Global, cells: Vec<Cell>, cut: usize) -> Result<Vec<Vec<Cell>>, AllocError>
+pub(crate) fn group(
+    alloc: Global,
+    cells: Vec<Cell>,
+    cut: usize,
+) -> Result<Vec<Vec<Cell>>, AllocError>
     requires { 0 < cut }
     ensures same { IfOk result (λ groups. all_in groups.items ≡ cells.items) }
     ensures cuts { IfOk result (λ groups. AreCuts cut (sizes groups.items)) }

@@ -65,13 +65,13 @@ fn run_jobs<C: Crew>(
     requires end { end ≤ scenario.now.until }
     requires known { (seed : ℕ) × (w : World) × IsReached (setting_of scenario.now net.now seed) w
         × Holds (λ b. (⟦<dyn Member as Member>⟧ b.vtable).plain b.value) (traffic_of scenario.now net.now)
-            ledger.now cut cells w }
+        ledger.now cut cells w }
     ensures ready { C.ready crew.new }
     ensures runs { (seed : ℕ) (w : World) → IsReached (setting_of scenario.now net.now seed) w
         → Holds (λ b. (⟦<dyn Member as Member>⟧ b.vtable).plain b.value) (traffic_of scenario.now net.now)
-            ledger.now cut cells w
+        ledger.now cut cells w
         → TellsJobs C.handed (λ b. (⟦<dyn Member as Member>⟧ b.vtable).plain b.value)
-            (setting_of scenario.now net.now seed) ledger.now cut end w crew.old result crew.new }
+        (setting_of scenario.now net.now seed) ledger.now cut end w crew.old result crew.new }
 {
     let Grouped { groups, seat } = cells;
     let Ok(jobs) = jobs(alloc, groups, end) else {
@@ -110,14 +110,14 @@ pub(crate) fn window<C: Crew>(
     requires known { (seed : ℕ) × (w : World) × IsReached (setting_of scenario.now net.now seed) w
         × IsSafe (setting_of scenario.now net.now seed) end w
         × Holds (λ b. (⟦<dyn Member as Member>⟧ b.vtable).plain b.value) (traffic_of scenario.now net.now)
-            ledger.now cut cells w }
+        ledger.now cut cells w }
     ensures ready { C.ready crew.new }
     ensures window { (seed : ℕ) (w : World) → IsReached (setting_of scenario.now net.now seed) w
         → IsSafe (setting_of scenario.now net.now seed) end w
         → Holds (λ b. (⟦<dyn Member as Member>⟧ b.vtable).plain b.value) (traffic_of scenario.now net.now)
-            ledger.now cut cells w
+        ledger.now cut cells w
         → TellsWindow C.handed (λ b. (⟦<dyn Member as Member>⟧ b.vtable).plain b.value)
-            (setting_of scenario.now net.now seed) ledger.now cut end w crew.old result crew.new }
+        (setting_of scenario.now net.now seed) ledger.now cut end w crew.old result crew.new }
 {
     let (cells, lists) = match run_jobs(alloc, scenario, net, ledger, crew, cut, cells, end) {
         Ok(ran) => ran,

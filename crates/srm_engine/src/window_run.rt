@@ -27,7 +27,7 @@ fn ticks(scenario: &Scenario, net: &Net, width: Width) -> Option<u64>
     requires network { net.now ≡ network_of scenario.now }
     ensures { MatchOption result (¬ MayBeWide net.now width) (λ n. MayBeWide net.now width × (0 < n) × IsWidth net.now n
         × ((seed : ℕ) → rule_of (setting_of scenario.now net.now seed) net.now width
-            ≡ width_rule (setting_of scenario.now net.now seed) n)) }
+        ≡ width_rule (setting_of scenario.now net.now seed) n)) }
 {
     let most = net.least_delay();
     match width {
@@ -132,5 +132,13 @@ pub fn window_run<C: Crew>(
     let Some(width) = ticks(scenario, net, asked.width) else {
         return Err(RunFault::BadWidth);
     };
-    run(alloc, scenario, net, members, crew, asked.cut as usize, width)
+    run(
+        alloc,
+        scenario,
+        net,
+        members,
+        crew,
+        asked.cut as usize,
+        width,
+    )
 }

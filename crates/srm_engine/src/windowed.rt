@@ -51,10 +51,10 @@ pub(crate) fn windows<C: Crew>(
         (traffic_of scenario.now net.now) ledger.now cut cells (opening (setting_of scenario.now net.now seed)) }
     ensures ready { C.ready crew.new }
     ensures windows { (seed : ℕ) → Holds (λ b. (⟦<dyn Member as Member>⟧ b.vtable).plain b.value)
-            (traffic_of scenario.now net.now) ledger.now cut cells (opening (setting_of scenario.now net.now seed))
+        (traffic_of scenario.now net.now) ledger.now cut cells (opening (setting_of scenario.now net.now seed))
         → TellsWindows C.handed (λ b. (⟦<dyn Member as Member>⟧ b.vtable).plain b.value)
-            (setting_of scenario.now net.now seed) ledger.now cut
-            (width_rule (setting_of scenario.now net.now seed) width) crew.old result crew.new }
+        (setting_of scenario.now net.now seed) ledger.now cut
+        (width_rule (setting_of scenario.now net.now seed) width) crew.old result crew.new }
 {
     let until = scenario.until();
     let mut trace = Vec::new(alloc);

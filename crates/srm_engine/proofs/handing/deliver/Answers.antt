@@ -46,27 +46,27 @@ loop-member-preserved g c =
     let members = c.requires.may.many in
     elim c.match-arrival.branch [
       | in-Some+in_ok-hand w ↦ rw w.groups-is (
-        λ ps h.
-            let old = h.cells.as_many in
-            let was = c.requires.may.seen.cells.as_many in
-            let within : m < length ps = omega arith in
-            let q = there ps m within in
-            let heard = heard_below t p m 0 ps in
-            subst (λ (qs : List PlainCell). AreGrouped (λ b. (goal.Member-dyn g (b.vtable, b.value)).plain b.value) c.args.cut w.hand.new.groups.items qs)
-            (ap (slice_set heard m) (sym (hears_at t p m w.in-Some.at q.0 (flight ∙ w.in-Some.is))) ∙ heard_next t p m ps q.0 q.1)
-            (w.in_ok-hand.ensures heard q.0 (i ps h) (get_next t p m ps ∙ q.1))
-      )
+          λ ps h.
+          let old = h.cells.as_many in
+          let was = c.requires.may.seen.cells.as_many in
+          let within : m < length ps = omega arith in
+          let q = there ps m within in
+          let heard = heard_below t p m 0 ps in
+          subst (λ (qs : List PlainCell). AreGrouped (λ b. (goal.Member-dyn g (b.vtable, b.value)).plain b.value) c.args.cut w.hand.new.groups.items qs)
+          (ap (slice_set heard m) (sym (hears_at t p m w.in-Some.at q.0 (flight ∙ w.in-Some.is))) ∙ heard_next t p m ps q.0 q.1)
+          (w.in_ok-hand.ensures heard q.0 (i ps h) (get_next t p m ps ∙ q.1))
+          )
       | in_default w ↦ rw w.groups-is (
-        λ ps h.
-            let old = h.cells.as_many in
-            let was = c.requires.may.seen.cells.as_many in
-            let within : m < length ps = omega arith in
-            let q = there ps m within in
-            let heard = heard_below t p m 0 ps in
-            subst (λ (qs : List PlainCell). AreGrouped (λ b. (goal.Member-dyn g (b.vtable, b.value)).plain b.value) c.args.cut c.loop-member.groups.items qs)
-            (sym (set_same heard m q.0 (get_next t p m ps ∙ q.1)) ∙ ap (slice_set heard m) (sym (hears_not t p m q.0 (flight ∙ w.in_default.is))) ∙ heard_next t p m ps q.0 q.1)
-            (i ps h)
-      )
+          λ ps h.
+          let old = h.cells.as_many in
+          let was = c.requires.may.seen.cells.as_many in
+          let within : m < length ps = omega arith in
+          let q = there ps m within in
+          let heard = heard_below t p m 0 ps in
+          subst (λ (qs : List PlainCell). AreGrouped (λ b. (goal.Member-dyn g (b.vtable, b.value)).plain b.value) c.args.cut c.loop-member.groups.items qs)
+          (sym (set_same heard m q.0 (get_next t p m ps ∙ q.1)) ∙ ap (slice_set heard m) (sym (hears_not t p m q.0 (flight ∙ w.in_default.is))) ∙ heard_next t p m ps q.0 q.1)
+          (i ps h)
+          )
     ]
 
 pub returns : goal.returns

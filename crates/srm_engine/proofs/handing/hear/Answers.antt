@@ -45,19 +45,19 @@ loop-row-preserved g c =
     ap (λ k. take k c.args.rows.now) (add-one i) ∙ take-suc c.args.rows.now i c.row-item.result c.loop-row-test.true ∙ ap (λ r. done ++ r ∷ []) (sym c.row-item.is) in
     elim c.match-row.branch [
       | in-Some+in_ok-deliver w ↦ rw w.groups-is (
-        λ ps h.
-            let cs = each_hears t 0 done ps in
-            subst (λ (qs : List PlainCell). AreGrouped (λ b. (goal.Member-dyn g (b.vtable, b.value)).plain b.value) c.args.cut w.deliver.new.groups.items qs)
-            (ap (λ o. all_hear t o cs) (sym w.in-Some.is) ∙ sym ((packets_are_heard_in_turn s ps).1 done c.row-item.result) ∙ ap (λ rs. each_hears t 0 rs ps) (sym more))
-            (w.in_ok-deliver.ensures cs (c.loop-row.invariant ps h))
-      )
+          λ ps h.
+          let cs = each_hears t 0 done ps in
+          subst (λ (qs : List PlainCell). AreGrouped (λ b. (goal.Member-dyn g (b.vtable, b.value)).plain b.value) c.args.cut w.deliver.new.groups.items qs)
+          (ap (λ o. all_hear t o cs) (sym w.in-Some.is) ∙ sym ((packets_are_heard_in_turn s ps).1 done c.row-item.result) ∙ ap (λ rs. each_hears t 0 rs ps) (sym more))
+          (w.in_ok-deliver.ensures cs (c.loop-row.invariant ps h))
+          )
       | in_default w ↦ rw w.groups-is (
-        λ ps h.
-            let cs = each_hears t 0 done ps in
-            subst (λ (qs : List PlainCell). AreGrouped (λ b. (goal.Member-dyn g (b.vtable, b.value)).plain b.value) c.args.cut c.loop-row.groups.items qs)
-            (ap (λ o. all_hear t o cs) (sym w.in_default.is) ∙ sym ((packets_are_heard_in_turn s ps).1 done c.row-item.result) ∙ ap (λ rs. each_hears t 0 rs ps) (sym more))
-            (c.loop-row.invariant ps h)
-      )
+          λ ps h.
+          let cs = each_hears t 0 done ps in
+          subst (λ (qs : List PlainCell). AreGrouped (λ b. (goal.Member-dyn g (b.vtable, b.value)).plain b.value) c.args.cut c.loop-row.groups.items qs)
+          (ap (λ o. all_hear t o cs) (sym w.in_default.is) ∙ sym ((packets_are_heard_in_turn s ps).1 done c.row-item.result) ∙ ap (λ rs. each_hears t 0 rs ps) (sym more))
+          (c.loop-row.invariant ps h)
+          )
     ]
 
 pub returns : goal.returns
