@@ -132,13 +132,6 @@ pub fn window_run<C: Crew>(
     let Some(width) = ticks(scenario, net, asked.width) else {
         return Err(RunFault::BadWidth);
     };
-    run(
-        alloc,
-        scenario,
-        net,
-        members,
-        crew,
-        asked.cut as usize,
-        width,
-    )
+    let cut = asked.cut as usize;
+    run(alloc, scenario, net, members, crew, cut, width)
 }
