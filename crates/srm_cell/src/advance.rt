@@ -16,8 +16,11 @@ use srm_net::sequence::Sequence;
 use srm_scenario::scenario::Scenario;
 use std::alloc::{AllocError, Global};
 
-/// Each cell of the job handles its own events before the job's end, in key order, and none of another cell. After an error the
-/// cells are gone: want of memory, or the first of the other two that is met where the cells are taken one after the other.
+/// Each cell of the job handles its own events before the job's end, in key order, and none of another cell.
+///
+/// # Errors
+/// `NoMemory`, or of `Spent` and `CountFull` the first that is met where the cells are taken one after the other. The cells are
+/// then gone.
 pub fn advance(alloc: Global, scenario: &Scenario, net: &Net, job: Job) -> Result<Done, CellFault>
     requires { MayAdvance (λ b. plain b) (length net.now.hosts) job }
     ensures { Advances (λ b. plain b) scenario.now net.now job result }

@@ -75,7 +75,10 @@ impl Cell {
         Some(next.key.time)
     }
 
-    /// Adds a packet that arrives at tick `arrival`. After an error, which is want of memory, the cell is as it was.
+    /// Adds a packet that arrives at tick `arrival`.
+    ///
+    /// # Errors
+    /// `NoMemory` alone; the cell is then as it was.
     pub fn accept(&mut self, packet: &Packet, arrival: u64) -> Result<(), CellFault>
         requires { BringsNone packet.now.id self.old.inbox }
         ensures ok { OnOk result (Becomes (λ b. plain b) (λ p. hear_at packet.now (Some arrival) p) self.old self.new) }
@@ -91,7 +94,11 @@ impl Cell {
     }
 
     /// Takes the cell's least pending event, if it is before tick `end`, and gives its row. At a leave the member is finished and its
-    /// box is dropped. After an error the cell is of no more use.
+    /// box is dropped.
+    ///
+    /// # Errors
+    /// `NoMemory` only where there is an event to handle; `Spent` where its member is gone; `CountFull` where the member is to send a
+    /// packet with its packet count used up. The cell is then of no more use.
     pub fn step(&mut self, alloc: Global, end: u64) -> Result<Option<Row>, CellFault>
         requires { end ≤ 2 ^ 40 }
         ensures { Steps (λ b. plain b) end self.old result self.new }
@@ -112,8 +119,10 @@ impl Cell {
         }
     }
 
-    /// The cell's own events before tick `end`, one after the other, and a row for each. After an error the cell is of no more use.
-    /// Where there is none it takes no memory.
+    /// The cell's own events before tick `end`, one after the other, and a row for each. Where there is none it takes no memory.
+    ///
+    /// # Errors
+    /// That of the first [`Cell::step`] that is refused. The cell is then of no more use.
     pub fn run(&mut self, alloc: Global, end: u64) -> Result<Sequence<Row>, CellFault>
         requires { end ≤ 2 ^ 40 }
         ensures { Runs (λ b. plain b) end self.old result self.new }
@@ -133,6 +142,9 @@ impl Cell {
     }
 
     /// What the member ends with: as it left, or else as it ends now. Its box is dropped.
+    ///
+    /// # Errors
+    /// `NoMemory`, or `Spent` where the member is gone and left no exit.
     pub fn finish(self, alloc: Global) -> Result<Exit, CellFault>
         ensures { Ends (λ b. plain b) self result }
     {

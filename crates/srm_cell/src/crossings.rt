@@ -71,6 +71,9 @@ impl Crossings {
     }
 
     /// Counts the packets that the rows' members sent. Where none was sent it takes no memory.
+    ///
+    /// # Errors
+    /// Memory was refused; nothing is known of the numbers then.
     pub fn count_rows(
         &mut self,
         alloc: Global,

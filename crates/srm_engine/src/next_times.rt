@@ -35,7 +35,10 @@ impl NextTimes {
         }
     }
 
-    /// Adds the next time of one more member. After an error the times are as they were.
+    /// Adds the next time of one more member, in ticks.
+    ///
+    /// # Errors
+    /// Memory was refused; the times are then as they were.
     pub fn push(&mut self, time: Option<u64>) -> Result<(), AllocError>
         requires { length self.old < 65536 }
         ensures ok { OnOk result (self.new ≡ self.old ++ time ∷ []) }
@@ -51,7 +54,10 @@ impl NextTimes {
         Ok(())
     }
 
-    /// Sets the next time of a member. After an error the times are as they were.
+    /// Sets the next time of a member, in ticks.
+    ///
+    /// # Errors
+    /// Memory was refused; the times are then as they were.
     pub fn set(&mut self, member: u16, time: Option<u64>) -> Result<(), AllocError>
         requires { member < length self.old }
         ensures ok { OnOk result (self.new ≡ slice_set self.old member time) }

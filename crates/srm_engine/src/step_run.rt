@@ -14,8 +14,11 @@ use std::alloc::Global;
 
 /// The sequential run of a scenario: its least pending event is taken, one after the other, until nothing is pending before the end.
 ///
-/// There is one box for each member, in order of their numbers, each holding its opening record for this scenario and one seed. After
-/// an error the boxes are gone.
+/// There is one box for each member, in order of their numbers, each holding its opening record for this scenario and one seed.
+///
+/// # Errors
+/// `CountFull` only where the run comes to a member that is to send a packet with its packet count used up; else `NoMemory`. The
+/// boxes are then gone.
 pub fn step_run(
     alloc: Global,
     scenario: &Scenario,

@@ -42,7 +42,10 @@ impl<V: Copy> Named<V> {
         self.map.get(&name).copied()
     }
 
-    /// Gives a name this value. After an error the map is as it was.
+    /// Gives a name this value.
+    ///
+    /// # Errors
+    /// Memory was refused; the map is then as it was.
     pub fn put(&mut self, name: Name, value: V) -> Result<(), AllocError>
         ensures ok { OnOk result (self.new ≡ put name_cmp name value self.old) }
         ensures err { OnErr result (self.new ≡ self.old) }
@@ -60,6 +63,9 @@ impl<V: Copy> Named<V> {
     }
 
     /// The entries, the names rising.
+    ///
+    /// # Errors
+    /// Memory was refused.
     pub fn entries(&self, alloc: Global) -> Result<Sequence<(Name, V)>, AllocError>
         ensures { IfOk result (λ es. es ≡ self.now) }
     {
@@ -72,6 +78,9 @@ impl<V: Copy> Named<V> {
     }
 
     /// The names, rising.
+    ///
+    /// # Errors
+    /// Memory was refused.
     pub fn names(&self, alloc: Global) -> Result<Sequence<Name>, AllocError>
         ensures { IfOk result (λ ns. ns ≡ map (λ e. e.0) self.now) }
     {

@@ -74,6 +74,9 @@ impl Recovery {
     }
 
     /// The member joins.
+    ///
+    /// # Errors
+    /// `Spent` where the member is gone already.
     pub fn join(&mut self, alloc: Global) -> Result<React, MemberFault>
         ensures { (at : ℕ) → Reacts self.old at Join result self.new }
     {
@@ -88,6 +91,9 @@ impl Recovery {
     }
 
     /// A packet arrives at a time, in ticks, below 2^40.
+    ///
+    /// # Errors
+    /// `Spent` where the member is gone already, and else `NoMemory`, after which it is.
     pub fn hear(&mut self, alloc: Global, at: u64, packet: &Packet) -> Result<React, MemberFault>
         requires { at < 2 ^ 40 }
         ensures { Reacts self.old at (Arrival packet.now) result self.new }
@@ -102,6 +108,9 @@ impl Recovery {
     }
 
     /// The request timer of a name expires at a time, in ticks, below 2^40.
+    ///
+    /// # Errors
+    /// `Spent` where the member is gone already, and else `NoMemory`, after which it is.
     pub fn ask(&mut self, alloc: Global, at: u64, name: Name) -> Result<React, MemberFault>
         requires { at < 2 ^ 40 }
         ensures { Reacts self.old at (Ask name) result self.new }
@@ -116,6 +125,9 @@ impl Recovery {
     }
 
     /// The repair timer of a name expires at a time, in ticks, below 2^40.
+    ///
+    /// # Errors
+    /// `Spent` where the member is gone already, and else `NoMemory`, after which it is.
     pub fn answer(&mut self, alloc: Global, at: u64, name: Name) -> Result<React, MemberFault>
         requires { at < 2 ^ 40 }
         ensures { Reacts self.old at (Answer name) result self.new }
@@ -130,6 +142,9 @@ impl Recovery {
     }
 
     /// The member is to draw on a page at a time, in ticks.
+    ///
+    /// # Errors
+    /// `Spent` where the member is gone already, and else `NoMemory`, after which it is.
     pub fn draw_op(
         &mut self,
         alloc: Global,
@@ -149,6 +164,9 @@ impl Recovery {
     }
 
     /// The member is to send a session message.
+    ///
+    /// # Errors
+    /// `Spent` where the member is gone already, and else `NoMemory`, after which it is.
     pub fn report(&mut self, alloc: Global) -> Result<React, MemberFault>
         ensures { (at : ℕ) → Reacts self.old at Report result self.new }
     {
@@ -162,6 +180,9 @@ impl Recovery {
     }
 
     /// Handles a cause at a time, in ticks, below 2^40.
+    ///
+    /// # Errors
+    /// `Spent` where the member is gone already, and else `NoMemory`, after which it is.
     pub fn react(&mut self, alloc: Global, at: u64, cause: &Cause) -> Result<React, MemberFault>
         requires { at < 2 ^ 40 }
         ensures { Reacts self.old at cause.now result self.new }
@@ -176,7 +197,10 @@ impl Recovery {
         }
     }
 
-    /// Ends the member, and gives what it holds and lacks.
+    /// Ends the member, and gives what it holds and lacks. It is gone then, whatever the answer.
+    ///
+    /// # Errors
+    /// `Spent` where the member is gone already, and else `NoMemory`.
     pub fn finish(&mut self, alloc: Global) -> Result<Exit, MemberFault>
         ensures { Finishes self.old result self.new }
     {

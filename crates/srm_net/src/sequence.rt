@@ -62,7 +62,10 @@ impl<T> Sequence<T> {
         self.items.is_empty()
     }
 
-    /// Appends an element. After an error the list is as it was.
+    /// Appends an element.
+    ///
+    /// # Errors
+    /// Memory was refused; the list is then as it was.
     pub fn push(&mut self, item: T) -> Result<(), AllocError>
     where
         T: Drop,
