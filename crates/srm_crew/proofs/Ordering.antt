@@ -43,6 +43,9 @@ place_of (q ∷ qs) p h = dite (ℕ_discrete p q)
 -- ---- lists
 
 module _ {A : Type 0} where
+  same_some : (x y : A) → Some x ≡ Some y → x ≡ y
+  same_some x y e = cc
+
   get_there : (l : List A) (k : ℕ) → k < length l → (a : A) × (slice_get l k ≡ Some a)
   get_there [] k lt = absurd (omega arith)
   get_there (x ∷ xs) zero lt = (x, refl)
@@ -150,6 +153,18 @@ module _ {D : Type 0} where
             get_set_other slots place (slice_index places k) (Some x) (λ e. once_apart places (length all) m k once after (omega (arith, far, many)) (sym e))
             ∙ filled k (omega (arith, after, one_less)) far);
       }
+
+  -- what a slot of full ones holds
+  pub full_there : (vs : List D) (slots : List (Option D)) (slot : Option D) (rest more : List (Option D)) → map (λ (x : D). Some x) vs ++ rest ≡ slots → rest ≡ slot ∷ more
+      → ((p : ℕ) → p < length slots → (d : D) × (slice_get slots p ≡ Some (Some d))) → (d : D) × (slot ≡ Some d)
+  full_there vs slots slot rest more split is full =
+      let parts : slots ≡ (map (λ (x : D). Some x) vs ++ slot ∷ []) ++ more = sym split ∙ ap (λ l. map (λ (x : D). Some x) vs ++ l) is ∙ sym (append_assoc (map (λ (x : D). Some x) vs) (slot ∷ []) more) in
+      let m : ℕ = length (map (λ (x : D). Some x) vs) in
+      let long : length slots ≡ (m + 1) + length more =
+          ap length parts ∙ length-append (map (λ (x : D). Some x) vs ++ slot ∷ []) more ∙ ap (λ n. n + length more) (length-append (map (λ (x : D). Some x) vs) (slot ∷ [])) in
+      let f = full m (omega (arith, long)) in
+      let here : slice_get slots m ≡ Some slot = ap (λ l. slice_get l m) parts ∙ get_middle (map (λ (x : D). Some x) vs) more slot in
+      (f.0, same_some slot (Some f.0) (sym here ∙ f.1))
 
   pub all_full : (places : List ℕ) (all : List D) (slots : List (Option D)) → EachOnce places (length all) → length places ≡ length all → FilledFrom places all 0 slots
       → (p : ℕ) → p < length all → (d : D) × (slice_get slots p ≡ Some (Some d))

@@ -1,6 +1,8 @@
 -- What workers did, put together: one item more, more work with the same pass, and the work of two.
-use Rattle.std.proofs.Common.{◌≡◌, ◌<◌, ◌≤◌, ℕ, zero, suc, ◌+◌, ◌-◌, ◌*◌, ◌/◌, ◌^◌, List, [], ◌∷◌, ◌++◌, length, slice_get, slice_index, replicate, Some, Result, Ok, Err, IfOk, refl, sym, ap, ◌∙◌, subst, arith, append_assoc, append-nil}
+use Rattle.std.proofs.Common.{◌≡◌, ◌<◌, ◌≤◌, ℕ, zero, suc, ◌+◌, ◌-◌, ◌*◌, ◌/◌, ◌^◌, List, [], ◌∷◌, ◌++◌, length, slice_get, slice_index, replicate, Some, All, Result, Ok, Err, IfOk, refl, sym, ap, ◌∙◌, subst, arith, append_assoc, append-nil}
 use Rattle.std.specs.List.{AllZip}
+use Rattle.std.proofs.lemmas.Option.{get_or_from_slice_get, slice_get_within}
+use Rattle.std.proofs.lemmas.List.Elements.{All-get_or}
 use Rattle.std.specs.Global.{Vec}
 use Rattle.atomic_table.specs.Seated.{TableId}
 use Rattle.srm_ledger.specs.Seats.{SeatView, half_with_shares, both_seats}
@@ -29,6 +31,12 @@ sum_of-append numbers k (x ∷ xs) ys = let e = sum_of-append numbers k xs ys in
 
 halves_of : (w : ℕ) → w - w / 2 + w / 2 ≡ w
 halves_of w = let h : w / 2 * 2 ≤ w = omega arith in omega arith
+
+-- what holds of each item that was put holds of one that is taken
+pub ready_at : {T : Type 0} (P : T → Type 0) (put : List T) (p q : PassView T) (x : T) → p.put ≡ put → All P put → TellsTake p (Some x) q → P x
+ready_at P put p q x same all take =
+    let e : slice_get put take.0 ≡ Some x = subst (λ l. slice_get l take.0 ≡ Some x) same take.2 in
+    subst P (get_or_from_slice_get put take.0 x x e) (All-get_or P put take.0 x (slice_get_within put take.0 x e) all)
 
 pub one_pass_again : {T : Type 0} (p : PassView T) → both_passes (half_with_list p) (half_without p) ≡ p
 one_pass_again p = λ i. record { bag = p.bag; weight = halves_of p.weight i; put = p.put; taken = append-nil p.taken i }
