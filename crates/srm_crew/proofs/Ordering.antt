@@ -6,7 +6,9 @@ use native.Mathlib.Decide.{ℕ_discrete, dec_le}
 use Rattle.srm_ledger.specs.Seats.{SeatView}
 use Rattle.srm_cell.specs.declared.fault.CellFault.{CellFault}
 use Rattle.srm_crew.specs.Places.{times, EachOnce}
-use Rattle.srm_crew.specs.Passes.{PassView}
+use Rattle.srm_crew.specs.declared.bag_fault.EmptyFault.{EmptyFault}
+use Rattle.srm_crew.specs.declared.bag_fault.EmptyFault.TheVariants as empty
+use Rattle.srm_crew.specs.Passes.{PassView, RefusesEmpty}
 use Rattle.srm_crew.specs.Crews.{HasGrown}
 use Rattle.srm_crew.specs.Shared.{HoldsAt, sum_of, InOrder, ComeOf, Worked}
 use Rattle.srm_crew.proofs.Peeling.{once_length, sum_same}
@@ -211,3 +213,22 @@ module _ {T D : Type 0} (R : T → Result D CellFault → Type 0) (numbers : D �
               let b : sum_of numbers k r ≡ sum_of numbers k w.more = ap (sum_of numbers k) w.gave in omega (arith, e, a, b);
         },
       )
+
+  -- the places of all results
+  pub record Placed (items : List T) (r : List D) (places : List ℕ) : Type 0 where
+    pub once : EachOnce places (length r)
+    pub many : length places ≡ length r
+    pub whole : EachOnce places (length items)
+
+  pub all_placed : (items : List T) (P p : PassView T) (S s : SeatView) (r : List D) (places : List ℕ) → P.put ≡ items → P.taken ≡ [] → Worked R numbers P S [] p s r → places ≡ p.taken → EachOnce p.taken (length p.put) → Placed items r places
+  all_placed items P p S s r places put none w is once =
+      let put2 : p.put ≡ items = ap (λ q. q.put) w.taken ∙ put in
+      let same : places ≡ w.places = is ∙ ap (λ q. q.taken) w.taken ∙ ap (λ l. l ++ w.places) none in
+      let whole : EachOnce places (length items) = subst (λ l. EachOnce places (length l)) put2 (subst (λ l. EachOnce l (length p.put)) (sym is) once) in
+      let many : length places ≡ length r = ap length same ∙ zip_long (λ p d. HoldsAt (λ x. R x (Ok d)) P.put p) w.places w.more w.come ∙ sym (ap length w.gave) in
+      record { once = subst (EachOnce places) (sym (once_length (length items) places whole) ∙ many) whole; many = many; whole = whole }
+
+  -- the bag is emptied
+  pub not_refused : (P p : PassView T) (S s : SeatView) (r : List D) (e : EmptyFault) → P.weight ≡ 65536 → Worked R numbers P S [] p s r → (p.weight ≡ 65536 → EachOnce p.taken (length p.put)) → RefusesEmpty p e → ⊥
+  not_refused P p S s r empty.NotWhole is w whole h = let weight : p.weight ≡ 65536 = ap (λ q. q.weight) w.taken ∙ is in omega (arith, weight, h)
+  not_refused P p S s r empty.NotEmpty is w whole h = let long = once_length (length p.put) p.taken (whole h.0) in let short = h.1 in omega (arith, long, short)

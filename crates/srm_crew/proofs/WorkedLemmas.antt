@@ -179,3 +179,18 @@ module _ {T D : Type 0} (R : T → Result D CellFault → Type 0) (numbers : D �
       → IfOk r (λ v. (v.0.bag ≡ bag) × (v.1.ledger ≡ ledger))
   tells_names P S u bag ledger (Ok v) x y h = (ap (λ p. p.bag) h.taken ∙ x, h.grown.ledger ∙ y)
   tells_names P S u bag ledger (Err e) x y h = tt
+
+  -- the same work, of a pass and a seat that are these
+  pub tells_same : (P p : PassView T) (S s : SeatView) (u : List D) (x : Result (PassView T × SeatView × Vec D) CrewFault) → p ≡ P → s ≡ S → u ≡ [] → TellsWork R numbers p s u x → TellsWork R numbers P S [] x
+  tells_same P p S s u x a b z h =
+      subst (λ l. TellsWork R numbers P S l x) z (subst (λ q. TellsWork R numbers P q u x) b (subst (λ q. TellsWork R numbers q s u x) a h))
+
+  pub halves_told : (P p q : PassView T) (S s t : SeatView) (a b r : Result (PassView T × SeatView × Vec D) CrewFault) → P.taken ≡ []
+      → p ≡ half_with_list P → s ≡ half_with_shares S → q ≡ half_without P → t ≡ seats.half_without S
+      → TellsWork R numbers p s [] a → TellsWork R numbers q t [] b → TellsBoth a b r → TellsWork R numbers P S [] r
+  halves_told P p q S s t a b r none ps ss qs ts x y h =
+      halves_tell P S a b r none (tells_same (half_with_list P) p (half_with_shares S) s [] a ps ss refl x) (tells_same (half_without P) q (seats.half_without S) t [] b qs ts refl y) h
+
+  -- why workers stop, of these items
+  pub stops_of : (items : List T) (p : PassView T) (S : SeatView) (e : CrewFault) → p.put ≡ items → p.taken ≡ [] → Stops R numbers p.put p.taken S e → Stops R numbers items [] S e
+  stops_of items p S e put none h = subst (λ l. Stops R numbers items l S e) none (subst (λ l. Stops R numbers l p.taken S e) put h)
