@@ -1,6 +1,6 @@
 //! Workers made by halving: each has a pass and a seat of its own, split off from one of each, and joined again.
 ghost use Rattle.std.specs.Prelude.{◌≡◌, ◌≤◌, ◌*◌, ℕ, List, [], length, All, Ok, IfOk, MatchResult};
-ghost use denote.Param.Send.{IsSync};
+ghost use denote.Param.Send.{IsSend, IsSync};
 ghost use Rattle.srm_ledger.specs.Seats.{half_with_shares};
 ghost use Rattle.srm_ledger.specs.Seats as seats;
 ghost use Rattle.srm_crew.specs.Passes.{half_with_list, half_without};
@@ -120,14 +120,14 @@ pub(crate) fn share_out<
     let (second, first) = join(
         rt,
         move || -> Result<(Pass<T>, Seat, Vec<D>), CrewFault>
-            requires { IsSync R.row × IsSync G.row × (theirs.bag ≡ bag.now.name) × (theirs.taken ≡ [])
-                × (other.ledger ≡ ledger.now.name) × All (λ x. F.pre work x) theirs.put
+            requires { IsSync R.row × IsSync G.row × IsSend F.row × IsSync F.row × (theirs.bag ≡ bag.now.name)
+                × (theirs.taken ≡ []) × (other.ledger ≡ ledger.now.name) × All (λ x. F.pre work x) theirs.put
                 × ((x : T) (d : D) → F.pre work x → F.post work x (Ok d) → length (D.numbers d) ≡ 5 * ledger.now.links) }
             ensures { TellsWork (λ x r. F.post work x r) D.numbers theirs other [] result }
         { share_out(rt, alloc, less, bag, ledger, gate, work, theirs, other) },
         move || -> Result<(Pass<T>, Seat, Vec<D>), CrewFault>
-            requires { IsSync R.row × IsSync G.row × (mine.bag ≡ bag.now.name) × (mine.taken ≡ [])
-                × (seat.ledger ≡ ledger.now.name) × All (λ x. F.pre work x) mine.put
+            requires { IsSync R.row × IsSync G.row × IsSend F.row × IsSync F.row × (mine.bag ≡ bag.now.name)
+                × (mine.taken ≡ []) × (seat.ledger ≡ ledger.now.name) × All (λ x. F.pre work x) mine.put
                 × ((x : T) (d : D) → F.pre work x → F.post work x (Ok d) → length (D.numbers d) ≡ 5 * ledger.now.links) }
             ensures { TellsWork (λ x r. F.post work x r) D.numbers mine seat [] result }
         { share_out(rt, alloc, more, bag, ledger, gate, work, mine, seat) },
