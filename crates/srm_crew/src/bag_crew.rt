@@ -6,7 +6,7 @@ ghost use Rattle.srm_crew.specs.Crews.{Maps};
 
 use crate::crew::Crew;
 use crate::fault::CrewFault;
-use crate::gate::Gate;
+use crate::gate::{Gate, OpenGate};
 use crate::shared::by_workers;
 use srm_cell::advance::advance;
 use srm_cell::fault::CellFault;
@@ -29,16 +29,6 @@ pub struct BagCrew<R, G> {
     workers: u8,
 }
 
-impl<R: Threads + Wait + Sync, G: Gate + Sync> BagCrew<R, G> {
-    /// A crew of 1 to 64 workers. It takes no memory.
-    pub fn new(rt: R, gate: G, workers: u8) -> BagCrew<R, G>
-        requires { (1 ≤ workers) × (workers ≤ 64) }
-        ensures { ⟦<BagCrew<R, G> as Crew>⟧.ready result }
-    {
-        BagCrew { rt, gate, workers }
-    }
-}
-
 // Advances each job, on threads that take them from a bag.
 fn advance_in_bag<R: Threads + Wait + Sync, G: Gate + Sync>(
     rt: &R,
@@ -56,7 +46,8 @@ fn advance_in_bag<R: Threads + Wait + Sync, G: Gate + Sync>(
     requires many { length jobs.items ≤ 1024 }
     requires links { ledger.now.links ≡ length net.now.links }
     requires seat { seat.ledger ≡ ledger.now.name }
-    ensures { Maps (λ b. (⟦<dyn Member as Member>⟧ b.vtable).plain b.value) scenario.now net.now seat jobs.items result }
+    ensures { Maps (λ b. (⟦<dyn Member as Member>⟧ b.vtable).plain b.value) scenario.now net.now seat
+        jobs.items result }
 {
     by_workers(
         rt,
@@ -73,8 +64,49 @@ fn advance_in_bag<R: Threads + Wait + Sync, G: Gate + Sync>(
     )
 }
 
-impl<R: Threads + Wait + Sync, G: Gate + Sync> Crew for BagCrew<R, G> {
-    ghost ready = { λ _. IsSync R.row × IsSync G.row };
+impl<R: Threads + Wait + Sync, G: Gate + Sync> BagCrew<R, G> {
+    /// A crew of 1 to 64 workers. It takes no memory.
+    pub fn new(rt: R, gate: G, workers: u8) -> BagCrew<R, G>
+        requires { (1 ≤ workers) × (workers ≤ 64) }
+        ensures { IsSync R.row }
+    {
+        BagCrew { rt, gate, workers }
+    }
+
+    /// As `Crew::map`, whatever the gate is: a crew with a gate of its own calls it.
+    pub fn map_with_gate(
+        &self,
+        alloc: Global,
+        scenario: &Scenario,
+        net: &Net,
+        ledger: &Ledger,
+        seat: Seat,
+        jobs: Vec<Job>,
+    ) -> Result<(Vec<Done>, Seat), CrewFault>
+        requires jobs { All (λ j. MayAdvance (λ b. (⟦<dyn Member as Member>⟧ b.vtable).plain b.value)
+            (length net.now.hosts) j) jobs.items }
+        requires many { length jobs.items ≤ 1024 }
+        requires links { ledger.now.links ≡ length net.now.links }
+        requires seat { seat.ledger ≡ ledger.now.name }
+        ensures { Maps (λ b. (⟦<dyn Member as Member>⟧ b.vtable).plain b.value) scenario.now net.now seat
+            jobs.items result }
+    {
+        advance_in_bag(
+            &self.rt,
+            alloc,
+            self.workers,
+            &self.gate,
+            scenario,
+            net,
+            ledger,
+            seat,
+            jobs,
+        )
+    }
+}
+
+impl<R: Threads + Wait + Sync> Crew for BagCrew<R, OpenGate> {
+    ghost ready = { λ _. IsSync R.row };
 
     ghost handed = { λ _ _ _. Unit {0} };
 

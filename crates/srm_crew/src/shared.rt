@@ -55,7 +55,8 @@ fn share_all<
     requires bag { (pass.bag ≡ bag.now.name) × (pass.taken ≡ []) }
     requires seat { seat.ledger ≡ ledger.now.name }
     requires ready { All (λ x. F.pre work x) pass.put }
-    requires long { (x : T) (d : D) → F.pre work x → F.post work x (Ok d) → length (D.numbers d) ≡ 5 * ledger.now.links }
+    requires long { (x : T) (d : D) → F.pre work x → F.post work x (Ok d)
+        → length (D.numbers d) ≡ 5 * ledger.now.links }
     ensures work { TellsWork (λ x r. F.post work x r) D.numbers pass seat [] result }
     ensures whole { IfOk result (λ v. v.0.weight ≡ 65536 → EachOnce v.0.taken (length v.0.put)) }
 {
@@ -87,7 +88,8 @@ pub(crate) fn by_workers<
     requires many { length items.items ≤ 1024 }
     requires seat { seat.ledger ≡ ledger.now.name }
     requires ready { All (λ x. F.pre work x) items.items }
-    requires long { (x : T) (d : D) → F.pre work x → F.post work x (Ok d) → length (D.numbers d) ≡ 5 * ledger.now.links }
+    requires long { (x : T) (d : D) → F.pre work x → F.post work x (Ok d)
+        → length (D.numbers d) ≡ 5 * ledger.now.links }
     ensures { TellsAll (λ x r. F.post work x r) D.numbers items.items seat result }
 {
     if items.is_empty() {

@@ -62,7 +62,8 @@ pub(crate) fn work_alone<
     requires bag { pass.bag ≡ bag.now.name }
     requires seat { seat.ledger ≡ ledger.now.name }
     requires ready { All (λ x. F.pre work x) pass.put }
-    requires long { (x : T) (d : D) → F.pre work x → F.post work x (Ok d) → length (D.numbers d) ≡ 5 * ledger.now.links }
+    requires long { (x : T) (d : D) → F.pre work x → F.post work x (Ok d)
+        → length (D.numbers d) ≡ 5 * ledger.now.links }
     ensures work { TellsWork (λ x r. F.post work x r) D.numbers pass seat results.items result }
     ensures whole { IfOk result (λ v. v.0.weight ≡ 65536 → EachOnce v.0.taken (length v.0.put)) }
 {

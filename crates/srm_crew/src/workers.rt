@@ -102,7 +102,8 @@ pub(crate) fn share_out<
     requires bag { (pass.bag ≡ bag.now.name) × (pass.taken ≡ []) }
     requires seat { seat.ledger ≡ ledger.now.name }
     requires ready { All (λ x. F.pre work x) pass.put }
-    requires long { (x : T) (d : D) → F.pre work x → F.post work x (Ok d) → length (D.numbers d) ≡ 5 * ledger.now.links }
+    requires long { (x : T) (d : D) → F.pre work x → F.post work x (Ok d)
+        → length (D.numbers d) ≡ 5 * ledger.now.links }
     ensures { TellsWork (λ x r. F.post work x r) D.numbers pass seat [] result }
 {
     if workers <= 1 {
@@ -122,13 +123,15 @@ pub(crate) fn share_out<
         move || -> Result<(Pass<T>, Seat, Vec<D>), CrewFault>
             requires { IsSync R.row × IsSync G.row × IsSend F.row × IsSync F.row × (theirs.bag ≡ bag.now.name)
                 × (theirs.taken ≡ []) × (other.ledger ≡ ledger.now.name) × All (λ x. F.pre work x) theirs.put
-                × ((x : T) (d : D) → F.pre work x → F.post work x (Ok d) → length (D.numbers d) ≡ 5 * ledger.now.links) }
+                × ((x : T) (d : D) → F.pre work x → F.post work x (Ok d)
+                → length (D.numbers d) ≡ 5 * ledger.now.links) }
             ensures { TellsWork (λ x r. F.post work x r) D.numbers theirs other [] result }
         { share_out(rt, alloc, less, bag, ledger, gate, work, theirs, other) },
         move || -> Result<(Pass<T>, Seat, Vec<D>), CrewFault>
             requires { IsSync R.row × IsSync G.row × IsSend F.row × IsSync F.row × (mine.bag ≡ bag.now.name)
                 × (mine.taken ≡ []) × (seat.ledger ≡ ledger.now.name) × All (λ x. F.pre work x) mine.put
-                × ((x : T) (d : D) → F.pre work x → F.post work x (Ok d) → length (D.numbers d) ≡ 5 * ledger.now.links) }
+                × ((x : T) (d : D) → F.pre work x → F.post work x (Ok d)
+                → length (D.numbers d) ≡ 5 * ledger.now.links) }
             ensures { TellsWork (λ x r. F.post work x r) D.numbers mine seat [] result }
         { share_out(rt, alloc, more, bag, ledger, gate, work, mine, seat) },
     );
