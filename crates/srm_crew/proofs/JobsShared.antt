@@ -1,6 +1,5 @@
 -- What workers tell of jobs, as a crew tells it.
-use Rattle.std.proofs.Common.{◌≡◌, ◌<◌, ◌≤◌, ◌⊎◌, ◌^◌, ℕ, zero, suc, ◌+◌, ◌*◌, List, [], ◌∷◌, ◌++◌, length, slice_get, slice_index, Some, Result, Ok, Err, refl, sym, ap, ◌∙◌, subst, inl, inr, ⊎_elim, arith}
-use Rattle.std.specs.List.{AllZip}
+use Rattle.std.proofs.Common.{◌≡◌, ◌<◌, ◌≤◌, ◌^◌, ℕ, zero, suc, ◌+◌, ◌*◌, List, [], ◌∷◌, ◌++◌, length, slice_get, slice_index, Some, Result, Ok, Err, refl, sym, ap, ◌∙◌, subst, inl, inr, ⊎_elim, arith}
 use Rattle.std.specs.declared.dyn_box.DynBox.{DynBox}
 use Rattle.std.specs.Global.{Global, Vec}
 use Rattle.srm_net.specs.Network.{Network}
@@ -12,14 +11,14 @@ use Rattle.srm_cell.specs.declared.job.Job.{Job}
 use Rattle.srm_cell.specs.declared.job.Done as job
 use Rattle.srm_cell.specs.declared.fault.CellFault.{CellFault}
 use Rattle.srm_cell.specs.declared.fault.CellFault.TheVariants as cell
-use Rattle.srm_cell.specs.Setting.{Traffic, traffic_of}
+use Rattle.srm_cell.specs.Setting.{traffic_of}
 use Rattle.srm_cell.specs.Crossings.{joined, crossings}
-use Rattle.srm_cell.specs.Jobs.{PlainJob, IsDone, TellsFault, Advances, MayAdvance}
+use Rattle.srm_cell.specs.Jobs.{PlainJob, TellsFault, Advances, MayAdvance}
 use Rattle.srm_cell.proofs.CrossingLemmas.{crossings_add}
 use Rattle.srm_crew.specs.declared.fault.CrewFault.{CrewFault}
 use Rattle.srm_crew.specs.declared.fault.CrewFault.TheVariants as fault
 use Rattle.srm_crew.specs.Places.{times}
-use Rattle.srm_crew.specs.Crews.{AreJobs, AnyEnds, AreRowsOfSome, HasGrown, IsPast, Maps, TellsMap, rows_of, sum_at, word_of}
+use Rattle.srm_crew.specs.Crews.{AreJobs, AnyEnds, AreRowsOfSome, Maps, TellsMap, sum_at, word_of}
 use Rattle.srm_crew.specs.Shared.{HoldsAt, sum_of, ComeOf, Stops, TellsAll}
 use Rattle.srm_crew.proofs.Gathering.{all_done}
 use Rattle.srm_crew.proofs.Peeling.{lower, lower_times, peel}

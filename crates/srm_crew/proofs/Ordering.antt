@@ -163,7 +163,7 @@ module _ {D : Type 0} where
       let parts : slots ≡ (map (λ (x : D). Some x) vs ++ slot ∷ []) ++ more = sym split ∙ ap (λ l. map (λ (x : D). Some x) vs ++ l) is ∙ sym (append_assoc (map (λ (x : D). Some x) vs) (slot ∷ []) more) in
       let m : ℕ = length (map (λ (x : D). Some x) vs) in
       let long : length slots ≡ (m + 1) + length more =
-          ap length parts ∙ length-append (map (λ (x : D). Some x) vs ++ slot ∷ []) more ∙ ap (λ n. n + length more) (length-append (map (λ (x : D). Some x) vs) (slot ∷ [])) in
+      ap length parts ∙ length-append (map (λ (x : D). Some x) vs ++ slot ∷ []) more ∙ ap (λ n. n + length more) (length-append (map (λ (x : D). Some x) vs) (slot ∷ [])) in
       let f = full m (omega (arith, long)) in
       let here : slice_get slots m ≡ Some slot = ap (λ l. slice_get l m) parts ∙ get_middle (map (λ (x : D). Some x) vs) more slot in
       (f.0, same_some slot (Some f.0) (sym here ∙ f.1))

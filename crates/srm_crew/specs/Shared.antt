@@ -1,5 +1,5 @@
 -- Workers that share a bag of items and a seat: what they tell, where R says what may come of an item.
-use Rattle.std.specs.Prelude.{◌≡◌, ◌<◌, ◌+◌, ◌++◌, ◌∷◌, ℕ, List, [], length, slice_get, Some, Result, Ok, Err}
+use Rattle.std.specs.Prelude.{◌≡◌, ◌+◌, ◌++◌, ◌∷◌, ℕ, List, [], length, slice_get, Some, Result, Ok, Err}
 use Rattle.std.specs.List.{AllZip}
 use Rattle.std.specs.Global.{Vec}
 use Rattle.srm_ledger.specs.Seats.{SeatView, both_seats}
@@ -79,8 +79,8 @@ module _ {T D : Type 0} where
   TellsAll R numbers items seat (Err e) = Stops R numbers items [] seat e
 
   -- what comes of two workers: both passes and seats in one, and the results of the first before those of the second
-  abbrev pub TellsBoth : Result (PassView T × SeatView × Vec D) CrewFault → Result (PassView T × SeatView × Vec D) CrewFault
-      → Result (PassView T × SeatView × Vec D) CrewFault → Type 0
+  abbrev pub TellsBoth : Result (PassView T × SeatView × Vec D) CrewFault
+      → Result (PassView T × SeatView × Vec D) CrewFault → Result (PassView T × SeatView × Vec D) CrewFault → Type 0
   TellsBoth (Err e) b r = r ≡ Err e
   TellsBoth (Ok a) (Err e) r = r ≡ Err e
   TellsBoth (Ok a) (Ok b) (Ok r) = (r.0 ≡ both_passes a.0 b.0) × (r.1 ≡ both_seats a.1 b.1)

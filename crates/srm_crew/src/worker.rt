@@ -24,7 +24,8 @@ fn work_on<T, D: Counted + Drop, F: Fn(T) -> Result<D, CellFault>>(
     requires seat { seat.old.ledger ≡ ledger.now.name }
     requires ready { F.pre work item }
     requires long { (d : D) → F.post work item (Ok d) → length (D.numbers d) ≡ 5 * ledger.now.links }
-    ensures { TellsItem (λ r. F.post work item r) D.numbers seat.old results.old.items result seat.new results.new.items }
+    ensures { TellsItem (λ r. F.post work item r) D.numbers seat.old results.old.items result
+        seat.new results.new.items }
 {
     let done = match work(item) {
         Ok(done) => done,

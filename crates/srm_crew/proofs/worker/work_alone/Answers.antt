@@ -8,13 +8,13 @@ loop-init g c = record { worked = worked_none _ _ _ _ _; bag = c.requires.bag; l
 pub work_on-requires-clause-ready : goal.work_on-requires-clause-ready
 work_on-requires-clause-ready g c =
     ready_at (λ x. goal.F-pre g c.args.work x) c.args.pass.put c.loop.pass c.take.new.pass c.in-Some-take.item
-      (ap (λ p. p.put) c.loop.invariant.worked.taken) c.requires.ready c.in-Some-take.ensures.taken
+    (ap (λ p. p.put) c.loop.invariant.worked.taken) c.requires.ready c.in-Some-take.ensures.taken
 
 pub work_on-requires-clause-long : goal.work_on-requires-clause-long
 work_on-requires-clause-long g c = λ d came.
     c.requires.long c.in-Some-take.item d
-      (ready_at (λ x. goal.F-pre g c.args.work x) c.args.pass.put c.loop.pass c.take.new.pass c.in-Some-take.item
-      (ap (λ p. p.put) c.loop.invariant.worked.taken) c.requires.ready c.in-Some-take.ensures.taken) came
+    (ready_at (λ x. goal.F-pre g c.args.work x) c.args.pass.put c.loop.pass c.take.new.pass c.in-Some-take.item
+    (ap (λ p. p.put) c.loop.invariant.worked.taken) c.requires.ready c.in-Some-take.ensures.taken) came
 
 pub loop-preserved : goal.loop-preserved
 loop-preserved g c = record {
@@ -28,5 +28,5 @@ loop-preserved g c = record {
 pub returns-in-Err-clause-work : goal.returns-in-Err-clause-work
 returns-in-Err-clause-work g c =
     stops_after (λ x r. goal.F-post g c.args.work x r) g.D.Counted.numbers _ _ _ _ _ _ _ c.loop.invariant.worked
-      (item_stops (λ x r. goal.F-post g c.args.work x r) g.D.Counted.numbers c.loop.pass c.take.new.pass c.loop.seat c.work_on.new.seat c.loop.results.items c.work_on.new.results.items
-      c.in-Some-take.item c.in-Err.fault c.in-Some-take.ensures.taken c.in-Err.ensures)
+    (item_stops (λ x r. goal.F-post g c.args.work x r) g.D.Counted.numbers c.loop.pass c.take.new.pass c.loop.seat c.work_on.new.seat c.loop.results.items c.work_on.new.results.items
+    c.in-Some-take.item c.in-Err.fault c.in-Some-take.ensures.taken c.in-Err.ensures)

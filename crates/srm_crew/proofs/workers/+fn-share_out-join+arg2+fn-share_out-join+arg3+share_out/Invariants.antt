@@ -1,4 +1,4 @@
-use Rattle.std.proofs.Common.{ℕ, ◌+◌, ◌*◌}
+use Rattle.std.proofs.Common.{◌+◌, ◌*◌}
 use Rattle.srm_crew.proofs.workers.+fn-share_out-join+arg2+fn-share_out-join+arg3+share_out.Given as goal
 
 abbrev pub decreases-share_out : goal.decreases-share_out
