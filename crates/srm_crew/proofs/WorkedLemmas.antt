@@ -1,10 +1,9 @@
 -- What workers did, put together: one item more, more work with the same pass, and the work of two.
-use Rattle.std.proofs.Common.{◌≡◌, ◌≤◌, ℕ, ◌+◌, ◌-◌, ◌*◌, ◌/◌, List, [], ◌∷◌, ◌++◌, length, slice_get, slice_index, Some, All, Result, Ok, Err, IfOk, refl, sym, ap, ◌∙◌, subst, arith, append_assoc, append-nil}
+use Rattle.std.proofs.Common.{◌≡◌, ◌≤◌, ℕ, ◌+◌, ◌-◌, ◌*◌, ◌/◌, List, [], ◌∷◌, ◌++◌, length, slice_get, slice_index, Some, All, Result, Ok, Err, refl, sym, ap, ◌∙◌, subst, arith, append_assoc, append-nil}
 use Rattle.std.specs.List.{AllZip}
 use Rattle.std.proofs.lemmas.Option.{get_or_from_slice_get, slice_get_within}
 use Rattle.std.proofs.lemmas.List.Elements.{All-get_or}
 use Rattle.std.specs.Global.{Vec}
-use Rattle.atomic_table.specs.Seated.{TableId}
 use Rattle.srm_ledger.specs.Seats.{SeatView, half_with_shares, both_seats}
 use Rattle.srm_ledger.specs.Seats as seats
 use Rattle.srm_ledger.specs.Tally.{added}
@@ -36,9 +35,6 @@ pub ready_at : {T : Type 0} (P : T → Type 0) (put : List T) (p q : PassView T)
 ready_at P put p q x same all take =
     let e : slice_get put take.0 ≡ Some x = subst (λ l. slice_get l take.0 ≡ Some x) same take.2 in
     subst P (get_or_from_slice_get put take.0 x x e) (All-get_or P put take.0 x (slice_get_within put take.0 x e) all)
-
-pub one_pass_again : {T : Type 0} (p : PassView T) → both_passes (half_with_list p) (half_without p) ≡ p
-one_pass_again p = λ i. record { bag = p.bag; weight = halves_of p.weight i; put = p.put; taken = append-nil p.taken i }
 
 module _ {T D : Type 0} (R : T → Result D CellFault → Type 0) (numbers : D → List ℕ) where
   pub worked_none : (p : PassView T) (s : SeatView) (r : List D) → Worked R numbers p s r p s r
@@ -172,12 +168,6 @@ module _ {T D : Type 0} (R : T → Result D CellFault → Type 0) (numbers : D �
               let e = sum_of-append numbers h.1.0 x.more y.more in omega (arith, o, m, n, z, e)),
         ),
       )
-
-  -- workers give back a pass and a seat of the same bag and ledger
-  pub tells_names : (P : PassView T) (S : SeatView) (u : List D) (bag ledger : TableId) (r : Result (PassView T × SeatView × Vec D) CrewFault) → P.bag ≡ bag → S.ledger ≡ ledger → TellsWork R numbers P S u r
-      → IfOk r (λ v. (v.0.bag ≡ bag) × (v.1.ledger ≡ ledger))
-  tells_names P S u bag ledger (Ok v) x y h = (ap (λ p. p.bag) h.taken ∙ x, h.grown.ledger ∙ y)
-  tells_names P S u bag ledger (Err e) x y h = tt
 
   -- the same work, of a pass and a seat that are these
   pub tells_same : (P p : PassView T) (S s : SeatView) (u : List D) (x : Result (PassView T × SeatView × Vec D) CrewFault) → p ≡ P → s ≡ S → u ≡ [] → TellsWork R numbers p s u x → TellsWork R numbers P S [] x
