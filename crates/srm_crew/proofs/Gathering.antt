@@ -29,7 +29,7 @@ module _ {J D : Type 0} (R : J → Result D CellFault → Type 0) where
   gathered js rs (Err cell.CountFull) z m = (rs, z, m)
 
 module _ {X : Type 0} {H : X → Type 0} where
-  all_done : (f : DynBox X Global H → Record) (k : PlainScenario) (net : Network) (js : List (Job X H)) (ps : List PlainJob) (ds : List (job.Done X H))
+  pub all_done : (f : DynBox X Global H → Record) (k : PlainScenario) (net : Network) (js : List (Job X H)) (ps : List PlainJob) (ds : List (job.Done X H))
       → AllZip (λ j d. Advances f k net j (Ok d)) js ds → AreJobs f js ps → AllZip (λ p d. IsDone f (traffic_of k net) p d) ps ds
   all_done f k net [] [] [] z h = tt
   all_done f k net [] (p ∷ ps) ds z h = absurd h

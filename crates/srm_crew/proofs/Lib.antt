@@ -4,3 +4,7 @@ pub mod Sums
 pub mod Gathering
 pub mod NoteLemmas
 pub mod Keeps
+pub mod Peeling
+pub mod WorkedLemmas
+pub mod Ordering
+pub mod JobsShared

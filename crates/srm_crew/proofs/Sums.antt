@@ -26,7 +26,7 @@ word_added (x ∷ xs) [] e k = absurd (omega arith)
 word_added (x ∷ xs) (y ∷ ys) e zero = refl
 word_added (x ∷ xs) (y ∷ ys) e (suc k) = word_added xs ys (omega arith) k
 
-word_of_added : (xs ys : List ℕ) → length xs ≡ length ys → (k : ℕ) → word_of (added xs ys) k ≡ word_of xs k + word_of ys k
+pub word_of_added : (xs ys : List ℕ) → length xs ≡ length ys → (k : ℕ) → word_of (added xs ys) k ≡ word_of xs k + word_of ys k
 word_of_added xs ys e zero = omega arith
 word_of_added xs ys e (suc k) = word_added xs ys e k
 
@@ -43,7 +43,7 @@ pub crossings_long : (s : Traffic) (rows : List Row) → length (crossings s row
 unfolding crossings
 crossings_long s rows = five_each s (packets_of rows) 0 s.links
 
-none_crossed : (s : Traffic) (k : ℕ) → word_of (crossings s []) k ≡ 0
+pub none_crossed : (s : Traffic) (k : ℕ) → word_of (crossings s []) k ≡ 0
 none_crossed s zero = refl
 none_crossed s (suc k) = ap (λ ns. slice_index ns k) (sym (nothing_counted s ∙ numbers_are s [])) ∙ zeros (5 * s.links) k
 
@@ -80,7 +80,7 @@ module _ {X : Type 0} {H : X → Type 0} where
       let both = ap (λ ns. word_of ns k) (crossings_add s own (rows_of ds)) ∙ word_of_added (crossings s own) (crossings s (rows_of ds)) (crossings_long s own ∙ sym (crossings_long s (rows_of ds))) k in
       omega (arith, one, more, both)
 
-  rows_are : (f : DynBox X Global H → Record) (end : ℕ) (qs : List OwnCell) (rows : List (List Row)) (cs : List (Cell X H)) → RanEach f end qs rows cs → AreRowsOf end qs (joined rows)
+  pub rows_are : (f : DynBox X Global H → Record) (end : ℕ) (qs : List OwnCell) (rows : List (List Row)) (cs : List (Cell X H)) → RanEach f end qs rows cs → AreRowsOf end qs (joined rows)
   rows_are f end [] [] [] h = refl
   rows_are f end [] [] (c ∷ cs) h = absurd h
   rows_are f end [] (r ∷ rs) cs h = absurd h

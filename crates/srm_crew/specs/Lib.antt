@@ -2,3 +2,4 @@ pub mod Crews
 pub mod Notes
 pub mod Places
 pub mod Passes
+pub mod Shared

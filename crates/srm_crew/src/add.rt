@@ -46,8 +46,12 @@ fn add_totals(ledger: &Ledger, seat: &mut Seat, totals: &Totals) -> Result<(), S
     Ok(())
 }
 
-// Adds crossings, of which there may be none.
-fn add_crossings(ledger: &Ledger, seat: &mut Seat, crossings: &Crossings) -> Result<(), ShareFull>
+/// Adds crossings, of which there may be none.
+pub(crate) fn add_crossings(
+    ledger: &Ledger,
+    seat: &mut Seat,
+    crossings: &Crossings,
+) -> Result<(), ShareFull>
     requires seat { seat.old.ledger ≡ ledger.now.name }
     requires long { length crossings.now ≡ 5 * ledger.now.links }
     ensures { MatchResult result (λ _. HasGrown (word_of crossings.now) seat.old seat.new)

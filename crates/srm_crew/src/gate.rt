@@ -1,21 +1,20 @@
-//! What a worker passes with each job that it has taken.
+//! What a worker passes with each item that it has taken.
 ghost use Rattle.srm_crew.specs.Passes.{IsLast};
 
 use crate::pass::Pass;
-use srm_cell::job::Job;
 use std::sync::Wait;
 
-/// What a worker passes with each job, after it took the job and before it advances it.
+/// What a worker passes with each item, after it took the item and before it works on it.
 pub trait Gate {
-    /// Called with the place of the job and the pass that took it, last of all.
-    fn enter<R: Wait>(&self, rt: &R, place: usize, pass: &Pass<Job>)
+    /// Called with the place of the item and the pass that took it, last of all.
+    fn enter<T, R: Wait>(&self, rt: &R, place: usize, pass: &Pass<T>)
         requires { IsLast place pass.now };
 }
 
-/// A gate that lets each job pass.
+/// A gate that lets each item pass.
 #[derive(Drop)]
 pub struct OpenGate;
 
 impl Gate for OpenGate {
-    fn enter<R: Wait>(&self, _rt: &R, _place: usize, _pass: &Pass<Job>) {}
+    fn enter<T, R: Wait>(&self, _rt: &R, _place: usize, _pass: &Pass<T>) {}
 }

@@ -1,4 +1,6 @@
 //! Passes: leave to take from a bag, and with the whole of them to put into it.
+ghost use Rattle.std.specs.Prelude.{◌≡◌, [], MatchOption};
+ghost use Rattle.srm_crew.specs.Passes.{IsLast};
 
 use crate::rule::{Hold, Spot};
 use std::marker::Model;
@@ -34,4 +36,16 @@ impl<T> Model for Pass<T> {
     ghost invariant = { λ p. (p.hold.me.1 ≡ []) × (known p.hold ≡ hold_of p.weight (known p.hold).put p.taken.items)
         × (p.puts ≡ length (known p.hold).put) × (p.puts ≤ p.room) × (p.room ≤ vec_capacity p.taken)
         × (p.room ≡ p.hold.table_id.slots) × (1 ≤ p.weight) × (p.weight ≤ 65536) };
+}
+
+impl<T> Pass<T> {
+    /// The place that it took last, if it took any.
+    pub fn last(&self) -> Option<usize>
+        ensures { MatchOption result (self.now.taken ≡ []) (λ place. IsLast place self.now) }
+    {
+        if self.taken.is_empty() {
+            return None;
+        }
+        Some(self.taken[self.taken.len() - 1])
+    }
 }

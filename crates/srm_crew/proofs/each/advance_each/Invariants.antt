@@ -1,4 +1,4 @@
-use Rattle.std.proofs.Common.{ℕ, List, All, length}
+use Rattle.std.proofs.Common.{List, All, length}
 use Rattle.std.specs.Vec.Iter.{into_iter_items}
 use Rattle.srm_cell.specs.Setting.{traffic_of}
 use Rattle.srm_cell.specs.Jobs.{PlainJob, MayAdvance}

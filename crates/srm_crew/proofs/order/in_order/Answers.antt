@@ -1,0 +1,18 @@
+use Rattle.std.proofs.Common.{Result, Ok, Err, IfOk, arith}
+use Rattle.srm_crew.proofs.Ordering.{all_full, ordered}
+use Rattle.srm_crew.proofs.order.in_order.Goals as goal
+
+if_ok : {A E : Type 0} (P Q : A → Type 0) (r : Result A E) → IfOk r P → ((a : A) → P a → Q a) → IfOk r Q
+if_ok P Q (Ok a) h f = f a h
+if_ok P Q (Err e) h f = tt
+
+pub collect-requires : goal.collect-requires
+collect-requires g c = λ p lt.
+    let long = c.scatter.ensures.long in
+    all_full c.args.places.now c.args.results.items c.scatter.new.slots.items c.requires.once c.requires.places
+    (λ k from far. c.scatter.ensures.filled k far) p (omega (arith, lt, long))
+
+pub returns : goal.returns
+returns g c = if_ok _ _ c.collect.result c.collect.ensures (λ v same.
+    ordered c.args.places.now c.args.results.items v.items c.scatter.new.slots.items c.requires.places c.scatter.ensures.long
+    (λ k from far. c.scatter.ensures.filled k far) same)

@@ -1,0 +1,90 @@
+-- Workers that share a bag of items and a seat: what they tell, where R says what may come of an item.
+use Rattle.std.specs.Prelude.{◌≡◌, ◌+◌, ◌++◌, ◌∷◌, ℕ, List, [], length, slice_get, Some, Result, Ok, Err}
+use Rattle.std.specs.List.{AllZip}
+use Rattle.std.specs.Global.{Vec}
+use Rattle.srm_ledger.specs.Seats.{SeatView, both_seats}
+use Rattle.srm_ledger.specs.Tally.{SomePast}
+use Rattle.srm_cell.specs.declared.fault.CellFault.{CellFault}
+use Rattle.srm_cell.specs.declared.fault.CellFault.TheVariants as cell
+use Rattle.srm_crew.specs.declared.fault.CrewFault.{CrewFault}
+use Rattle.srm_crew.specs.declared.fault.CrewFault.TheVariants as fault
+use Rattle.srm_crew.specs.Places.{EachAtMostOnce}
+use Rattle.srm_crew.specs.Passes.{PassView, both_passes, IsFit}
+use Rattle.srm_crew.specs.Crews.{HasGrown, IsPast, word_of}
+
+-- P holds of the item at a place of the list
+abbrev pub HoldsAt : {T : Type 0} → (T → Type 0) → List T → ℕ → Type 0
+HoldsAt {T} P items place = (x : T) × (slice_get items place ≡ Some x) × P x
+
+-- the numbers at a word of all results, added up
+abbrev pub sum_of : {D : Type 0} → (D → List ℕ) → ℕ → List D → ℕ
+sum_of numbers k [] = 0
+sum_of numbers k (d ∷ ds) = word_of (numbers d) k + sum_of numbers k ds
+
+-- the pass, with a list
+abbrev pub with_list : {T : Type 0} → PassView T → List ℕ → PassView T
+with_list p taken = record { bag = p.bag; weight = p.weight; put = p.put; taken = taken }
+
+-- each of these results stands at its place of the list
+abbrev pub InOrder : {D : Type 0} → List ℕ → List D → List D → Type 0
+InOrder places results all = (length all ≡ length results) × AllZip (λ p d. slice_get all p ≡ Some d) places results
+
+module _ {D : Type 0} where
+  -- what one item more tells, of which P says what may come: a result more, and a seat that has grown by its numbers
+  abbrev pub TellsItem : (Result D CellFault → Type 0) → (D → List ℕ) → SeatView → List D → Result (Unit {0}) CrewFault
+      → SeatView → List D → Type 0
+  TellsItem P numbers seat results (Ok u) new_seat new_results =
+      (d : D) × P (Ok d) × (new_results ≡ results ++ d ∷ []) × HasGrown (word_of (numbers d)) seat new_seat
+  TellsItem P numbers seat results (Err fault.NoMemory) new_seat new_results = Unit {0}
+  TellsItem P numbers seat results (Err fault.Spent) new_seat new_results = P (Err cell.Spent)
+  TellsItem P numbers seat results (Err fault.CountFull) new_seat new_results = P (Err cell.CountFull)
+  TellsItem P numbers seat results (Err fault.ShareFull) new_seat new_results =
+      (d : D) × P (Ok d) × IsPast (word_of (numbers d)) seat
+
+module _ {T D : Type 0} where
+  -- these may come of the items at these places
+  abbrev pub ComeOf : (T → Result D CellFault → Type 0) → List T → List ℕ → List D → Type 0
+  ComeOf R items places results = AllZip (λ p d. HoldsAt (λ x. R x (Ok d)) items p) places results
+
+  -- why workers stop: nothing comes of an item; or the results of items, each taken once, are too many for the seat
+  abbrev pub Stops : (T → Result D CellFault → Type 0) → (D → List ℕ) → List T → List ℕ → SeatView → CrewFault → Type 0
+  Stops R numbers items taken seat fault.NoMemory = Unit {0}
+  Stops R numbers items taken seat fault.Spent = (place : ℕ) × HoldsAt (λ x. R x (Err cell.Spent)) items place
+  Stops R numbers items taken seat fault.CountFull = (place : ℕ) × HoldsAt (λ x. R x (Err cell.CountFull)) items place
+  Stops R numbers items taken seat fault.ShareFull =
+      (places : List ℕ) × (results : List D) × EachAtMostOnce (taken ++ places) (length items)
+      × ComeOf R items places results × IsPast (λ k. sum_of numbers k results) seat
+
+  -- items at more places were taken, what came of them stands behind the other results, and the seat has grown by their numbers
+  pub record Worked (R : T → Result D CellFault → Type 0) (numbers : D → List ℕ) (pass : PassView T) (seat : SeatView)
+      (results : List D) (new_pass : PassView T) (new_seat : SeatView) (new_results : List D) : Type 0 where
+    pub places : List ℕ
+    pub more : List D
+    pub taken : new_pass ≡ with_list pass (pass.taken ++ places)
+    pub gave : new_results ≡ results ++ more
+    pub come : ComeOf R pass.put places more
+    pub grown : HasGrown (λ k. sum_of numbers k more) seat new_seat
+
+  -- what workers tell
+  abbrev pub TellsWork : (T → Result D CellFault → Type 0) → (D → List ℕ) → PassView T → SeatView → List D
+      → Result (PassView T × SeatView × Vec D) CrewFault → Type 0
+  TellsWork R numbers pass seat results (Ok v) = Worked R numbers pass seat results v.0 v.1 v.2.items
+  TellsWork R numbers pass seat results (Err e) = Stops R numbers pass.put pass.taken seat e
+
+  -- what work on every item tells: what came of each, in order, and a seat that has grown by the numbers of all
+  abbrev pub TellsAll : (T → Result D CellFault → Type 0) → (D → List ℕ) → List T → SeatView
+      → Result (Vec D × SeatView) CrewFault → Type 0
+  TellsAll R numbers items seat (Ok v) = AllZip (λ x d. R x (Ok d)) items v.0.items
+      × HasGrown (λ k. sum_of numbers k v.0.items) seat v.1
+  TellsAll R numbers items seat (Err e) = Stops R numbers items [] seat e
+
+  -- what comes of two workers: both passes and seats in one, and the results of the first before those of the second
+  abbrev pub TellsBoth : Result (PassView T × SeatView × Vec D) CrewFault
+      → Result (PassView T × SeatView × Vec D) CrewFault → Result (PassView T × SeatView × Vec D) CrewFault → Type 0
+  TellsBoth (Err e) b r = r ≡ Err e
+  TellsBoth (Ok a) (Err e) r = r ≡ Err e
+  TellsBoth (Ok a) (Ok b) (Ok r) = (r.0 ≡ both_passes a.0 b.0) × (r.1 ≡ both_seats a.1 b.1)
+      × (r.2.items ≡ a.2.items ++ b.2.items)
+  TellsBoth (Ok a) (Ok b) (Err fault.NoMemory) = Unit {0}
+  TellsBoth (Ok a) (Ok b) (Err fault.ShareFull) = IsFit (both_passes a.0 b.0) × SomePast a.1.shares b.1.shares
+  TellsBoth (Ok a) (Ok b) (Err e) = ⊥

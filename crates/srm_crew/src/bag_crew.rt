@@ -1,0 +1,138 @@
+//! A crew of threads of its own, which take jobs from a bag.
+ghost use Rattle.std.specs.Prelude.{◌≡◌, ◌≤◌, ℕ, List, length, All};
+ghost use denote.Param.Send.{IsSync};
+ghost use Rattle.srm_cell.specs.Jobs.{PlainJob, MayAdvance, Advances};
+ghost use Rattle.srm_crew.specs.Crews.{Maps};
+
+use crate::crew::Crew;
+use crate::fault::CrewFault;
+use crate::gate::{Gate, OpenGate};
+use crate::shared::by_workers;
+use srm_cell::advance::advance;
+use srm_cell::fault::CellFault;
+use srm_cell::job::{Done, Job};
+use srm_ledger::ledger::{Ledger, Seat};
+use srm_member::member::Member;
+use srm_net::net::Net;
+use srm_scenario::scenario::Scenario;
+use std::alloc::Global;
+use std::marker::Sync;
+use std::sync::Wait;
+use std::thread::Threads;
+
+/// Advances jobs on scoped threads, each of which takes the oldest job left from a bag, passes the gate with it, advances it,
+/// and adds its crossings with a seat of its own.
+#[derive(Drop)]
+pub struct BagCrew<R, G> {
+    rt: R,
+    gate: G,
+    workers: u8,
+}
+
+// Advances each job, on threads that take them from a bag.
+fn advance_in_bag<R: Threads + Wait + Sync, G: Gate + Sync>(
+    rt: &R,
+    alloc: Global,
+    workers: u8,
+    gate: &G,
+    scenario: &Scenario,
+    net: &Net,
+    ledger: &Ledger,
+    seat: Seat,
+    jobs: Vec<Job>,
+) -> Result<(Vec<Done>, Seat), CrewFault>
+    requires jobs { All (λ j. MayAdvance (λ b. (⟦<dyn Member as Member>⟧ b.vtable).plain b.value)
+        (length net.now.hosts) j) jobs.items }
+    requires many { length jobs.items ≤ 1024 }
+    requires links { ledger.now.links ≡ length net.now.links }
+    requires seat { seat.ledger ≡ ledger.now.name }
+    ensures { Maps (λ b. (⟦<dyn Member as Member>⟧ b.vtable).plain b.value) scenario.now net.now seat
+        jobs.items result }
+{
+    by_workers(
+        rt,
+        alloc,
+        workers,
+        ledger,
+        gate,
+        move |job: Job| -> Result<Done, CellFault>
+            requires { MayAdvance (λ b. plain (b.vtable, b.value)) (length net.now.hosts) job }
+            ensures { Advances (λ b. plain (b.vtable, b.value)) scenario.entry.now net.entry.now job result }
+        { advance(alloc, scenario, net, job) },
+        seat,
+        jobs,
+    )
+}
+
+impl<R: Threads + Wait + Sync, G: Gate + Sync> BagCrew<R, G> {
+    /// A crew of 1 to 64 workers. It takes no memory.
+    pub fn new(rt: R, gate: G, workers: u8) -> BagCrew<R, G>
+        requires { (1 ≤ workers) × (workers ≤ 64) }
+        ensures { IsSync R.row }
+    {
+        BagCrew { rt, gate, workers }
+    }
+
+    /// As `Crew::map`, whatever the gate is: a crew with a gate of its own calls it.
+    pub fn map_with_gate(
+        &self,
+        alloc: Global,
+        scenario: &Scenario,
+        net: &Net,
+        ledger: &Ledger,
+        seat: Seat,
+        jobs: Vec<Job>,
+    ) -> Result<(Vec<Done>, Seat), CrewFault>
+        requires jobs { All (λ j. MayAdvance (λ b. (⟦<dyn Member as Member>⟧ b.vtable).plain b.value)
+            (length net.now.hosts) j) jobs.items }
+        requires many { length jobs.items ≤ 1024 }
+        requires links { ledger.now.links ≡ length net.now.links }
+        requires seat { seat.ledger ≡ ledger.now.name }
+        ensures { Maps (λ b. (⟦<dyn Member as Member>⟧ b.vtable).plain b.value) scenario.now net.now seat
+            jobs.items result }
+    {
+        advance_in_bag(
+            &self.rt,
+            alloc,
+            self.workers,
+            &self.gate,
+            scenario,
+            net,
+            ledger,
+            seat,
+            jobs,
+        )
+    }
+}
+
+impl<R: Threads + Wait + Sync> Crew for BagCrew<R, OpenGate> {
+    ghost ready = { λ _. IsSync R.row };
+
+    ghost handed = { λ _ _ _. Unit {0} };
+
+    ghost handed_none = { λ c. tt };
+
+    ghost handed_more = { λ a b c xs ys p q. tt };
+
+    fn map(
+        &mut self,
+        alloc: Global,
+        scenario: &Scenario,
+        net: &Net,
+        ledger: &Ledger,
+        seat: Seat,
+        jobs: Vec<Job>,
+    ) -> Result<(Vec<Done>, Seat), CrewFault> {
+        advance_in_bag(
+            &self.rt,
+            alloc,
+            self.workers,
+            &self.gate,
+            scenario,
+            net,
+            ledger,
+            seat,
+            jobs,
+        )
+    }
+}
