@@ -1,11 +1,12 @@
 #!/usr/bin/env python3
 """Runs programs once for each allocation that they make, with that one refused.
 
-usage: tests/refuse_allocations.py [--program PROGRAM SCENARIO ..] [--tests PROGRAM ..]
+usage: tests/refuse_allocations.py [--program PROGRAM SCENARIO ..] [--tests PROGRAM ..] [--without TEST ..]
 
 --program: the simulator, on each of these scenarios, must end as it does with ample memory, or with the line that memory
 ran out on standard error, nothing on standard output, and status 1.
 --tests: each test of a test program must pass, whichever of its allocations is refused.
+--without: these tests are left out, since they make too many allocations.
 
 Needs a C compiler, `cc`. Prints a line for each scenario and test, and ends with status 1 where one of them failed.
 """
@@ -61,6 +62,7 @@ def main():
     parser = argparse.ArgumentParser(description=__doc__, formatter_class=argparse.RawDescriptionHelpFormatter)
     parser.add_argument("--program", nargs="+", default=[], metavar=("PROGRAM", "SCENARIO"))
     parser.add_argument("--tests", nargs="+", default=[], metavar="PROGRAM")
+    parser.add_argument("--without", nargs="+", default=[], metavar="TEST")
     options = parser.parse_args()
     right = True
     with tempfile.TemporaryDirectory() as folder:
@@ -71,7 +73,7 @@ def main():
             ample = ended(library, command, text, 0)
             right &= each_refused(library, scenario, command, text, lambda end: end in (ample, REFUSED))
         for program in options.tests:
-            for test in tests_of(program):
+            for test in [test for test in tests_of(program) if test not in options.without]:
                 right &= each_refused(library, test, [program, test], b"", lambda end: end[0] == 0)
     sys.exit(0 if right else 1)
 

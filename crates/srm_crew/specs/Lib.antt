@@ -1,4 +1,5 @@
 pub mod Crews
+pub mod Handed
 pub mod Notes
 pub mod Places
 pub mod Passes

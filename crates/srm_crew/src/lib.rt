@@ -20,5 +20,7 @@ pub mod recording;
 pub mod rule;
 mod shared;
 pub mod taken;
+#[cfg(test)]
+mod tests;
 mod worker;
 mod workers;

@@ -1,0 +1,84 @@
+//! What a test of crews hands to them, and what it wants of them.
+use crate::fault::CrewFault;
+use crate::tests::seen::{Seen, Window};
+use srm_ledger::totals::Totals;
+use std::alloc::AllocError;
+use std::process::Abort;
+
+/// What has to come of a window's jobs.
+#[derive(Clone, Copy)]
+pub(crate) struct Wanted {
+    /// The rows, cell by cell.
+    pub(crate) rows: &'static [Seen],
+    /// For each job whose rows have crossings its place, with the five numbers of each link.
+    pub(crate) crossings: &'static [(usize, [u64; 5])],
+    /// The next time of each cell.
+    pub(crate) next_times: &'static [Option<u64>],
+}
+
+/// Two windows, each of whose jobs has the cell of one member.
+#[derive(Clone, Copy)]
+pub(crate) struct Case {
+    /// The scenario.
+    pub(crate) scenario: &'static str,
+    /// How many packets each member has sent at the beginning.
+    pub(crate) sent: u64,
+    /// Whether each member has ended at the beginning.
+    pub(crate) is_over: bool,
+    /// The ends of the two windows, in ticks.
+    pub(crate) ends: [u64; 2],
+    /// What has to come of each window that is not refused.
+    pub(crate) windows: &'static [Wanted],
+    /// Why the window after these is refused, if there is one.
+    pub(crate) fault: Option<CrewFault>,
+    /// The five numbers of each link after the two windows.
+    pub(crate) totals: &'static [[u64; 5]],
+}
+
+impl Case {
+    /// Asserts that this came of a window.
+    pub(crate) fn expect(&self, rt: &impl Abort, place: usize, window: &Window) {
+        let Some(wanted) = self.windows.get(place).copied() else {
+            assert!(rt; false, "window {place} is not refused");
+            return;
+        };
+        assert_eq!(rt;
+            window.rows.as_slice(),
+            wanted.rows,
+            "rows of window {place}"
+        );
+        assert_eq!(rt;
+            window.crossings.as_slice(),
+            wanted.crossings,
+            "crossings of window {place}"
+        );
+        assert_eq!(rt;
+            window.next_times.as_slice(),
+            wanted.next_times,
+            "next times after window {place}"
+        );
+    }
+
+    /// Asserts that a window is refused for this, unless memory was refused.
+    ///
+    /// # Errors
+    /// Memory was refused.
+    pub(crate) fn expect_fault(
+        &self,
+        rt: &impl Abort,
+        place: usize,
+        fault: CrewFault,
+    ) -> Result<(), AllocError> {
+        if fault == CrewFault::NoMemory {
+            return Err(AllocError);
+        }
+        assert_eq!(rt; (place, Some(fault)), (self.windows.len(), self.fault));
+        Ok(())
+    }
+
+    /// Asserts that no window was to be refused, and that these are the totals.
+    pub(crate) fn expect_totals(&self, rt: &impl Abort, totals: &Totals) {
+        assert_eq!(rt; self.fault, None);
+        assert_eq!(rt; totals.links(), self.totals);
+    }
+}

@@ -1,0 +1,228 @@
+//! What each crew gives for two windows.
+ghost use Rattle.std.specs.Prelude.{◌≡◌, length, IfOk, IfSome};
+ghost use Rattle.srm_scenario.specs.Plain.{network_of};
+ghost use Rattle.srm_crew.specs.Handed.{MayMap};
+
+use crate::bag_crew::BagCrew;
+use crate::crew::Crew;
+use crate::gate::OpenGate;
+use crate::plain::PlainCrew;
+use crate::pool::PoolCrew;
+use crate::tests::case::Case;
+use crate::tests::cases::{FOUR_ROUND_A_NODE, LAST_PACKET, OVER, SENDER_AND_LISTENER};
+use crate::tests::handing::{add_job, map_window, opened};
+use srm_cell::job::Job;
+use srm_ledger::ledger::{Ledger, Seat, SplitFault};
+use srm_member::member::Member;
+use srm_net::net::Net;
+use srm_net::role::Role;
+use srm_roles::listener::Listener;
+use srm_roles::receiver::Receiver;
+use srm_roles::sender::Sender;
+use srm_scenario::scenario::Scenario;
+use std::alloc::{AllocError, Global};
+use std::process::Abort;
+
+// No run ends later, in ticks, and no member sends more packets.
+const LAST_END: u64 = 1_099_511_627_776;
+
+const MOST_PACKETS: u64 = 281_474_976_710_656;
+
+/// How much of the weight of all seats the crew's seat has.
+#[derive(Clone, Copy, PartialEq, Eq)]
+pub(crate) enum Weight {
+    /// All of it.
+    Whole,
+    /// One part of 65,536.
+    One,
+}
+
+// The larger half of the larger half and so on, after sixteen splits.
+fn sixteenth_half(
+    rt: &impl Abort,
+    alloc: Global,
+    ledger: &Ledger,
+    seat: Seat,
+) -> Result<Seat, AllocError>
+    requires { seat.ledger ≡ ledger.now.name }
+    ensures { IfOk result (λ s. s.ledger ≡ ledger.now.name) }
+{
+    let mut left = seat;
+    for _ in 0..16 {
+        left = match ledger.split(alloc, left) {
+            Ok((half, _)) => half,
+            Err((_, fault)) => {
+                assert_eq!(rt; fault, SplitFault::NoMemory);
+                return Err(AllocError);
+            }
+        };
+    }
+    Ok(left)
+}
+
+// Asserts that the seat has this weight still and, where that is all of it, that the case's totals were counted.
+fn expect_end(
+    rt: &impl Abort,
+    alloc: Global,
+    ledger: Ledger,
+    seat: Seat,
+    case: &Case,
+    weight: Weight,
+)
+    requires { seat.ledger ≡ ledger.name }
+{
+    match weight {
+        Weight::Whole => match ledger.close(seat) {
+            Ok(totals) => case.expect_totals(rt, &totals),
+            Err(_) => assert!(rt; false, "not closed"),
+        },
+        Weight::One => match ledger.split(alloc, seat) {
+            Ok(_) => assert!(rt; false, "more than one part"),
+            Err((_, fault)) => assert_eq!(rt; fault, SplitFault::TooManySeats),
+        },
+    }
+}
+
+// Hands the jobs of a case's two windows to a crew. Gives the seat where none is refused.
+fn map_both<C: Crew>(
+    rt: &impl Abort,
+    alloc: Global,
+    crew: &mut C,
+    scenario: &Scenario,
+    net: &Net,
+    ledger: &Ledger,
+    seat: Seat,
+    jobs: Vec<Job>,
+    case: &Case,
+) -> Result<Option<Seat>, AllocError>
+    requires ready { C.ready crew.old }
+    requires jobs { MayMap (λ b. (⟦<dyn Member as Member>⟧ b.vtable).plain b.value) (length net.now.hosts) jobs.items }
+    requires links { ledger.now.links ≡ length net.now.links }
+    requires seat { seat.ledger ≡ ledger.now.name }
+    ensures { IfOk result (λ left. IfSome left (λ s. s.ledger ≡ ledger.now.name)) }
+{
+    let [_, end] = case.ends;
+    assert!(rt; end <= LAST_END);
+    let (jobs, seat) = match map_window(alloc, crew, scenario, net, ledger, seat, jobs, end) {
+        Ok((jobs, seat, window)) => {
+            case.expect(rt, 0, &window);
+            (jobs, seat)
+        }
+        Err(fault) => {
+            case.expect_fault(rt, 0, fault)?;
+            return Ok(None);
+        }
+    };
+    match map_window(alloc, crew, scenario, net, ledger, seat, jobs, end) {
+        Ok((_jobs, seat, window)) => {
+            case.expect(rt, 1, &window);
+            Ok(Some(seat))
+        }
+        Err(fault) => {
+            case.expect_fault(rt, 1, fault)?;
+            Ok(None)
+        }
+    }
+}
+
+/// Hands the jobs of a case's two windows to a crew, with a seat of this weight, and asserts that what the case says comes of them.
+pub(crate) fn map_twice<C: Crew>(
+    rt: &impl Abort,
+    alloc: Global,
+    crew: &mut C,
+    case: &Case,
+    weight: Weight,
+) -> Result<(), AllocError>
+    requires { C.ready crew.old }
+{
+    let (scenario, net) = opened(rt, alloc, case.scenario)?;
+    let [till, _] = case.ends;
+    assert!(rt; till <= LAST_END);
+    assert!(rt; case.sent <= MOST_PACKETS);
+    let mut jobs = Vec::new(alloc);
+    for m in 0..scenario.members() {
+        let mut member: Box<dyn Member> = match scenario.role(m) {
+            Role::Sender => {
+                let Ok(sender) = Sender::new(alloc, &scenario, &net, 0, m) else {
+                    return Err(AllocError);
+                };
+                Box::new(alloc, sender)?
+            }
+            Role::Receiver => {
+                let Ok(receiver) = Receiver::new(alloc, &scenario, &net, 0, m) else {
+                    return Err(AllocError);
+                };
+                Box::new(alloc, receiver)?
+            }
+            Role::Listener => {
+                let Ok(listener) = Listener::new(alloc, &scenario, &net, 0, m) else {
+                    return Err(AllocError);
+                };
+                Box::new(alloc, listener)?
+            }
+            Role::Late => {
+                assert!(rt; false, "a late joiner");
+                return Ok(());
+            }
+        };
+        if case.is_over && member.finish(alloc).is_err() {
+            return Err(AllocError);
+        }
+        let Ok(script) = scenario.script(alloc, m) else {
+            return Err(AllocError);
+        };
+        add_job(rt, alloc, &net, &mut jobs, till, member, script, case.sent)?;
+    }
+    let links = net.links().len();
+    assert!(rt; links <= 255);
+    let Ok((ledger, seat)) = Ledger::open(alloc, links) else {
+        return Err(AllocError);
+    };
+    let seat = match weight {
+        Weight::Whole => seat,
+        Weight::One => sixteenth_half(rt, alloc, &ledger, seat)?,
+    };
+    if let Some(seat) = map_both(rt, alloc, crew, &scenario, &net, &ledger, seat, jobs, case)? {
+        expect_end(rt, alloc, ledger, seat, case, weight);
+    }
+    Ok(())
+}
+
+const CASES: [Case; 4] = [SENDER_AND_LISTENER, FOUR_ROUND_A_NODE, LAST_PACKET, OVER];
+
+#[test]
+fn a_plain_crew_maps_two_windows(rt: HostRuntime) -> Result<(), AllocError> {
+    for case in &CASES {
+        map_twice(&rt, rt.alloc(), &mut PlainCrew::new(), case, Weight::Whole)?;
+    }
+    Ok(())
+}
+
+#[test]
+fn a_crew_of_pool_threads_maps_two_windows(rt: HostRuntime) -> Result<(), AllocError> {
+    for case in &CASES {
+        map_twice(
+            &rt,
+            rt.alloc(),
+            &mut PoolCrew::new(&rt),
+            case,
+            Weight::Whole,
+        )?;
+    }
+    Ok(())
+}
+
+#[test]
+fn a_crew_of_workers_maps_two_windows(rt: HostRuntime) -> Result<(), AllocError> {
+    for case in &CASES {
+        let mut crew = BagCrew::new(&rt, OpenGate, 3);
+        map_twice(&rt, rt.alloc(), &mut crew, case, Weight::Whole)?;
+    }
+    Ok(())
+}
+
+#[test]
+fn a_seat_that_is_not_split_serves_four_workers(rt: HostRuntime) -> Result<(), AllocError> {
+    let mut crew = BagCrew::new(&rt, OpenGate, 4);
+    map_twice(&rt, rt.alloc(), &mut crew, &FOUR_ROUND_A_NODE, Weight::One)
+}
