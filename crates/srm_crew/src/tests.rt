@@ -1,6 +1,10 @@
 //! Crews on jobs, worked by hand.
 mod case;
 mod cases;
-mod handing;
+mod dropped;
+mod gated;
+pub(crate) mod handing;
 mod mapped;
+mod meeting;
+mod probe;
 mod seen;

@@ -21,6 +21,22 @@ use srm_scenario::scenario::Scenario;
 use std::alloc::{AllocError, Global};
 use std::process::Abort;
 
+/// Makes an attempt, and another one where the first is refused memory, which is then told on standard error.
+pub(crate) fn attempt_twice<F: Fn() -> Result<(), AllocError>>(
+    rt: &impl Eprint,
+    attempt: F,
+) -> Result<(), AllocError>
+    requires { F.IsAlwaysCallable attempt }
+{
+    match attempt() {
+        Ok(()) => Ok(()),
+        Err(_) => {
+            let _ = eprintln!(rt; "memory was refused");
+            attempt()
+        }
+    }
+}
+
 /// A scenario that is accepted, and its network.
 pub(crate) fn opened(
     rt: &impl Abort,

@@ -10,7 +10,7 @@ use crate::plain::PlainCrew;
 use crate::pool::PoolCrew;
 use crate::tests::case::Case;
 use crate::tests::cases::{FOUR_ROUND_A_NODE, LAST_PACKET, OVER, SENDER_AND_LISTENER};
-use crate::tests::handing::{add_job, map_window, opened};
+use crate::tests::handing::{add_job, attempt_twice, map_window, opened};
 use srm_cell::job::Job;
 use srm_ledger::ledger::{Ledger, Seat, SplitFault};
 use srm_member::member::Member;
@@ -193,7 +193,9 @@ const CASES: [Case; 4] = [SENDER_AND_LISTENER, FOUR_ROUND_A_NODE, LAST_PACKET, O
 #[test]
 fn a_plain_crew_maps_two_windows(rt: HostRuntime) -> Result<(), AllocError> {
     for case in &CASES {
-        map_twice(&rt, rt.alloc(), &mut PlainCrew::new(), case, Weight::Whole)?;
+        attempt_twice(&rt, || {
+            map_twice(&rt, rt.alloc(), &mut PlainCrew::new(), case, Weight::Whole)
+        })?;
     }
     Ok(())
 }
@@ -201,13 +203,15 @@ fn a_plain_crew_maps_two_windows(rt: HostRuntime) -> Result<(), AllocError> {
 #[test]
 fn a_crew_of_pool_threads_maps_two_windows(rt: HostRuntime) -> Result<(), AllocError> {
     for case in &CASES {
-        map_twice(
-            &rt,
-            rt.alloc(),
-            &mut PoolCrew::new(&rt),
-            case,
-            Weight::Whole,
-        )?;
+        attempt_twice(&rt, || {
+            map_twice(
+                &rt,
+                rt.alloc(),
+                &mut PoolCrew::new(&rt),
+                case,
+                Weight::Whole,
+            )
+        })?;
     }
     Ok(())
 }
@@ -215,14 +219,28 @@ fn a_crew_of_pool_threads_maps_two_windows(rt: HostRuntime) -> Result<(), AllocE
 #[test]
 fn a_crew_of_workers_maps_two_windows(rt: HostRuntime) -> Result<(), AllocError> {
     for case in &CASES {
-        let mut crew = BagCrew::new(&rt, OpenGate, 3);
-        map_twice(&rt, rt.alloc(), &mut crew, case, Weight::Whole)?;
+        attempt_twice(&rt, || {
+            map_twice(
+                &rt,
+                rt.alloc(),
+                &mut BagCrew::new(&rt, OpenGate, 3),
+                case,
+                Weight::Whole,
+            )
+        })?;
     }
     Ok(())
 }
 
 #[test]
 fn a_seat_that_is_not_split_serves_four_workers(rt: HostRuntime) -> Result<(), AllocError> {
-    let mut crew = BagCrew::new(&rt, OpenGate, 4);
-    map_twice(&rt, rt.alloc(), &mut crew, &FOUR_ROUND_A_NODE, Weight::One)
+    attempt_twice(&rt, || {
+        map_twice(
+            &rt,
+            rt.alloc(),
+            &mut BagCrew::new(&rt, OpenGate, 4),
+            &FOUR_ROUND_A_NODE,
+            Weight::One,
+        )
+    })
 }
