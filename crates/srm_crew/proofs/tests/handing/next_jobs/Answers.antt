@@ -39,3 +39,24 @@ loop-done-preserved g c =
       All-tail (λ d. AreKnown (λ b. (goal.Member-dyn g (b.vtable, b.value)).plain b.value) (length c.args.net.now.hosts) d.cells.items) _ _ known,
       omega arith,
     )
+
+pub loop-done-preserved-in_ok-push : goal.loop-done-preserved-in_ok-push
+loop-done-preserved-in_ok-push g c =
+    let i = c.loop-done.invariant in
+    let pushed = c.in_ok-push.ensures.items in
+    let steps = c.in-Some.ensures.steps.0 in
+    let long : length (into_iter_items c.loop-done.done-iterator) ≡ suc (length (into_iter_items c.next.new.self)) = ap length steps in
+    let more : length c.push.new.self.items ≡ length c.loop-done.jobs.items + 1 = ap length pushed ∙ length-append c.loop-done.jobs.items _ in
+    let sum = i.4 in
+    let size = c.loop-done.jobs.ok.0 in
+    let found = c.len-place.ensures in
+    let at : c.len-place.result ≡ length c.loop-done.jobs.items = omega arith in
+    let known = rw steps at i.3 in (
+      tt,
+      tt,
+      rw pushed (one_more (λ b. (goal.Member-dyn g (b.vtable, b.value)).plain b.value) (length c.args.net.now.hosts) c.loop-done.jobs.items _ i.2 at (omega arith)
+          (may_go_on (λ b. (goal.Member-dyn g (b.vtable, b.value)).plain b.value) (length c.args.net.now.hosts) _
+          (All-head (λ d. AreKnown (λ b. (goal.Member-dyn g (b.vtable, b.value)).plain b.value) (length c.args.net.now.hosts) d.cells.items) _ _ known) c.requires.till)),
+      All-tail (λ d. AreKnown (λ b. (goal.Member-dyn g (b.vtable, b.value)).plain b.value) (length c.args.net.now.hosts) d.cells.items) _ _ known,
+      omega arith,
+    )
