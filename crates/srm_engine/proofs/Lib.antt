@@ -25,6 +25,8 @@ pub mod WindowRows
 pub mod CellLists
 pub mod JobLemmas
 pub mod KMerging
+pub mod FixedParts
+pub mod Promises
 pub mod WindowedLemmas
 pub mod RunLemmas
 pub mod ScheduleLemmas

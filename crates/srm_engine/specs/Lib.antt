@@ -18,3 +18,4 @@ pub mod Outcomes
 pub mod Totalled
 pub mod Groups
 pub mod Windowed
+pub mod Ends

@@ -3,6 +3,7 @@
 
 pub mod arrival;
 mod cells;
+mod ends;
 mod engine;
 pub mod fault;
 mod groups;
