@@ -5,6 +5,7 @@ CRATES := $(notdir $(patsubst %/src,%,$(wildcard crates/*/src)))
 TEST_PROGRAMS := crates/srm_examples/out/srm_examples_tests crates/srm_ledger/out/srm_ledger_tests
 PREFIX ?= /usr/local
 SCENARIO ?= examples/two-nodes.toml
+ARGUMENTS ?=
 CRATE ?=
 BENCH ?=
 SECONDS ?= 60
@@ -19,8 +20,8 @@ $(PROGRAM): $(SOURCES)
 	@tools/prove.py --program crates/srm_lab
 	@touch $@
 
-run: $(PROGRAM) ## prints the trace of a scenario: make run SCENARIO=examples/two-nodes.toml
-	@$(PROGRAM) < $(SCENARIO)
+run: $(PROGRAM) ## prints the trace of a scenario, or what ARGUMENTS ask for: make run SCENARIO=examples/two-nodes.toml ARGUMENTS="--show links"
+	@$(PROGRAM) $(ARGUMENTS) < $(SCENARIO)
 
 try: ## the same program, unproved and with no build before it, in under a minute: make try SCENARIO=..
 	@cd crates/srm_lab && $(RT) try < $(abspath $(SCENARIO))

@@ -31,5 +31,5 @@ fn main(rt: HostRuntime) -> ExitCode {
     let mut outlet = WriteOutlet::new(rt.stdout());
     let mut errors = WriteOutlet::new(rt.stderr());
     let words = std::env::args(&rt);
-    ExitCode::from(program(rt.alloc(), words, &mut feed, &mut outlet, &mut errors))
+    ExitCode::from(program(&rt, rt.alloc(), words, &mut feed, &mut outlet, &mut errors))
 }
