@@ -54,9 +54,10 @@ $(TEST_PROGRAMS): $(SOURCES)
 fuzz: $(PROGRAM) ## tries the program on random scenarios, and computes its tables a second time: make fuzz SECONDS=60
 	@tests/fuzz.py --seconds $(SECONDS) $(PROGRAM)
 
-bench: $(PROGRAM) ## prints how many rows the program handles in a second, beside a plain simulator, and how long each table takes: make bench BENCH=--long
+bench: $(PROGRAM) ## prints how many rows the program handles in a second, beside a plain simulator, and how long each table and engine takes: make bench BENCH=--long
 	@bench/events_per_second.py $(PROGRAM) $(BENCH)
 	@bench/time_of_tables.py $(PROGRAM)
+	@bench/time_of_engines.py $(PROGRAM)
 
 fmt: ## lays out the sources of each crate
 	@for crate in $(CRATES); do (cd crates/$$crate && $(RT) fmt) || exit 1; done
