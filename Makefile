@@ -42,6 +42,7 @@ test: ## the merge gate: proves everything from nothing, with tests and must-fai
 
 test-program: $(PROGRAM) ## compares what the program prints with each file of examples/, and tries it on some random scenarios
 	@tests/compare_program.py $(PROGRAM) examples
+	@tests/hostile.py $(PROGRAM) -q
 	@tests/fuzz.py --from 1 --cases $(FEW_CASES) $(PROGRAM)
 
 test-memory: $(PROGRAM) $(TEST_PROGRAMS) ## refuses each allocation in turn, of the program on each example, and of each test of members, roles and the ledger
@@ -54,9 +55,10 @@ $(TEST_PROGRAMS): $(SOURCES)
 fuzz: $(PROGRAM) ## tries the program on random scenarios, and computes its tables a second time: make fuzz SECONDS=60
 	@tests/fuzz.py --seconds $(SECONDS) $(PROGRAM)
 
-bench: $(PROGRAM) ## prints how many rows the program handles in a second, beside a plain simulator, and how long each table takes: make bench BENCH=--long
+bench: $(PROGRAM) ## prints how many rows the program handles in a second, beside a plain simulator, and how long each table and engine takes: make bench BENCH=--long
 	@bench/events_per_second.py $(PROGRAM) $(BENCH)
 	@bench/time_of_tables.py $(PROGRAM)
+	@bench/time_of_engines.py $(PROGRAM)
 
 fmt: ## lays out the sources of each crate
 	@for crate in $(CRATES); do (cd crates/$$crate && $(RT) fmt) || exit 1; done
