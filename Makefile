@@ -45,7 +45,7 @@ test-program: $(PROGRAM) ## compares what the program prints with each file of e
 	@tests/hostile.py $(PROGRAM) -q
 	@tests/fuzz.py --from 1 --cases $(FEW_CASES) $(PROGRAM)
 
-test-memory: $(PROGRAM) $(TEST_PROGRAMS) ## refuses each allocation in turn, of the program on each example, and of each test of members, roles and the ledger
+test-memory: $(PROGRAM) $(TEST_PROGRAMS) ## refuses each allocation in turn, of the program on each example with each engine, and of each test of members, roles and the ledger
 	@tests/refuse_allocations.py --program $(PROGRAM) examples/*.toml --tests $(TEST_PROGRAMS)
 
 $(TEST_PROGRAMS): $(SOURCES)

@@ -3,8 +3,8 @@
 
 usage: tests/refuse_allocations.py [--program PROGRAM SCENARIO ..] [--tests PROGRAM ..]
 
---program: the simulator, on each of these scenarios, must end as it does with ample memory, or with the line that memory
-ran out on standard error, nothing on standard output, and status 1.
+--program: the simulator, on each of these scenarios with each engine, must end as it does with ample memory, or with the line that
+memory ran out on standard error, nothing on standard output, and status 1.
 --tests: each test of a test program must pass, whichever of its allocations is refused.
 
 Needs a C compiler, `cc`. Prints a line for each scenario and test, and ends with status 1 where one of them failed.
@@ -17,6 +17,7 @@ import sys
 import tempfile
 
 REFUSED = (1, b"", b"refused: no-memory\n")
+ENGINES = ("step", "window")
 
 
 def built(folder):
@@ -67,9 +68,10 @@ def main():
         library = built(folder)
         for scenario in options.program[1:]:
             text = pathlib.Path(scenario).read_bytes()
-            command = options.program[:1]
-            ample = ended(library, command, text, 0)
-            right &= each_refused(library, scenario, command, text, lambda end: end in (ample, REFUSED))
+            for engine in ENGINES:
+                command = [*options.program[:1], "--engine", engine]
+                ample = ended(library, command, text, 0)
+                right &= each_refused(library, f"{scenario}, {engine}", command, text, lambda end: end in (ample, REFUSED))
         for program in options.tests:
             for test in tests_of(program):
                 right &= each_refused(library, test, [program, test], b"", lambda end: end[0] == 0)
