@@ -43,6 +43,7 @@ test: ## the merge gate: proves everything from nothing, with tests and must-fai
 test-program: $(PROGRAM) ## compares what the program prints with each file of examples/, and tries it on some random scenarios
 	@tests/compare_program.py $(PROGRAM) examples
 	@tests/hostile.py $(PROGRAM) -q
+	@tests/same_bytes.py --runs $(FEW_CASES) $(PROGRAM)
 	@tests/fuzz.py --from 1 --cases $(FEW_CASES) $(PROGRAM)
 
 test-memory: $(PROGRAM) $(TEST_PROGRAMS) ## refuses each allocation in turn, of the program on each example with each engine, and of each test of members, roles and the ledger
