@@ -30,13 +30,16 @@ kept_by : (f : FixedPart) (b : Bool) (d : Stepped) → Keeps f d → OnStep (Kee
 kept_by f true d h = h
 kept_by f false d h = tt
 
-kept_sending : (f : FixedPart) (e : Event) (r : Reaction) (body : Option Body) → r.memory.fixed ≡ f → OnStep (Keeps f) (sending_step e r body)
+kept_sending : (f : FixedPart) (e : Event) (r : Reaction) (body : Option Body) → r.memory.fixed ≡ f
+    → OnStep (Keeps f) (sending_step e r body)
 kept_sending f e r None h = h
 kept_sending f e r (Some body) h = kept_by f (nat_lt e.rest.sent (2 ^ 48)) _ h
 
-kept_handle : (f : FixedPart) (e : Event) (holds : Record) (cause : Option Cause) → fixed_part holds ≡ f → OnStep (Keeps f) (handle e holds cause)
+kept_handle : (f : FixedPart) (e : Event) (holds : Record) (cause : Option Cause) → fixed_part holds ≡ f
+    → OnStep (Keeps f) (handle e holds cause)
 unfolding handle
-kept_handle f e (Active m) (Some cause) h = let r = react m e.key.time cause in kept_sending f e r r.answer.body (same_fixed m e.key.time cause ∙ h)
+kept_handle f e (Active m) (Some cause) h = let r = react m e.key.time cause in kept_sending f e r r.answer.body
+    (same_fixed m e.key.time cause ∙ h)
 kept_handle f e (Active m) None h = h
 kept_handle f e (Gone g) cause h = tt
 
@@ -54,16 +57,19 @@ module _ (s : Setting) (fit : IsFit s) where
   heard_keeps p None c f h = h
   heard_keeps p (Some at) c f h = h
 
-  told_keeps : (x : Option Packet) (m : ℕ) (c : PlainCell) (f : FixedPart) → fixed_part c.holds ≡ f → fixed_part (told_to s.traffic x m c).holds ≡ f
+  told_keeps : (x : Option Packet) (m : ℕ) (c : PlainCell) (f : FixedPart) → fixed_part c.holds ≡ f
+      → fixed_part (told_to s.traffic x m c).holds ≡ f
   unfolding hear
   told_keeps None m c f h = h
   told_keeps (Some p) m c f h = heard_keeps p (arrival_of s.traffic p m) c f h
 
-  kept_after : (cs : List PlainCell) (e : Event) (d : Stepped) → KeepFixed s cs → before s.traffic.until (least_event 0 cs) ≡ Some e → step_at (Some e) ≡ Done d → KeepFixed s (settled s e.key.member d 0 cs)
+  kept_after : (cs : List PlainCell) (e : Event) (d : Stepped) → KeepFixed s cs → before s.traffic.until (least_event 0 cs) ≡ Some e
+      → step_at (Some e) ≡ Done d → KeepFixed s (settled s e.key.member d 0 cs)
   kept_after cs e d kept h x =
       let t = step_facts s fit s.traffic.until cs e d h x in
       let m = e.key.member in
-      let taken = subst (OnEvent (Taken t.cell)) t.event (before_on (Taken t.cell) s.traffic.until (next_event m t.cell) (next_taken m t.cell)) in
+      let taken = subst (OnEvent (Taken t.cell)) t.event (before_on (Taken t.cell) s.traffic.until (next_event m t.cell)
+      (next_taken m t.cell)) in
       each_after s fit (λ j c. fixed_part c.holds ≡ s.fixed j) cs m d
       (subst (OnStep (Keeps (s.fixed m))) x (kept_step (s.fixed m) e (rest_keeps (s.fixed m) t.cell e taken (kept m t.cell t.here))))
       (λ j c g ne. told_keeps d.row.sent j c (s.fixed j) (kept j c g))
@@ -75,7 +81,8 @@ module _ (s : Setting) (fit : IsFit s) where
   opening_keeps : (n i j : ℕ) (c : PlainCell) → slice_get (opening_cells s n i) j ≡ Some c → fixed_part c.holds ≡ s.fixed (i + j)
   unfolding opening_cells
   opening_keeps zero i j c h = cc
-  opening_keeps (suc n) i zero c h = ap (λ (b : PlainCell). fixed_part b.holds) (sym (same_some (opening_cell s i) c h)) ∙ ap s.fixed (sym (add-zero i))
+  opening_keeps (suc n) i zero c h = ap (λ (b : PlainCell). fixed_part b.holds) (sym (same_some (opening_cell s i) c h))
+      ∙ ap s.fixed (sym (add-zero i))
   opening_keeps (suc n) i (suc j) c h = opening_keeps n (suc i) j c h ∙ ap s.fixed (sym (shifted i j))
 
   kept_opening : KeepFixed s (opening s).cells

@@ -31,7 +31,7 @@ pub record AreWays (s : Setting) (ways : List (Option ℕ)) : Type 0 where
   pub many : length ways ≡ s.traffic.members
   pub each : (m : ℕ) → m < s.traffic.members → slice_get ways m ≡ Some (way_of s m)
 
--- every cell holds a record of its member: with the part that never changes
+-- each cell's record keeps the part that never changes of its member
 abbrev pub KeepFixed : Setting → List PlainCell → Type 0
 KeepFixed s cs = (m : ℕ) (c : PlainCell) → slice_get cs m ≡ Some c → fixed_part c.holds ≡ s.fixed m
 

@@ -6,7 +6,8 @@ use Rattle.srm_engine.proofs.ends.ways.Goals as goal
 pub loop-member-preserved : goal.loop-member-preserved
 loop-member-preserved c = λ seed.
     let s = setting_of c.args.scenario.now c.args.net.now seed in
-    subst (λ l. AreFirstWays s (c.loop-member.member + 1) l) (sym c.in_ok-push.ensures.items) (one_way_more s c.loop-member.member c.loop-member.ways.items c.way.result (c.loop-member.invariant seed) (c.way.ensures seed))
+    subst (λ l. AreFirstWays s (c.loop-member.member + 1) l) (sym c.in_ok-push.ensures.items)
+    (one_way_more s c.loop-member.member c.loop-member.ways.items c.way.result (c.loop-member.invariant seed) (c.way.ensures seed))
 
 pub returns : goal.returns
 returns c = λ seed.
