@@ -2,7 +2,7 @@ RT ?= rt
 PROGRAM := crates/srm_lab/out/srm_lab
 SOURCES := crates.txt $(shell find crates -path '*/out' -prune -o \( -name '*.rt' -o -name '*.antt' \) -print)
 CRATES := $(notdir $(patsubst %/src,%,$(wildcard crates/*/src)))
-TEST_PROGRAMS := crates/srm_examples/out/srm_examples_tests crates/srm_ledger/out/srm_ledger_tests
+TEST_PROGRAMS := crates/srm_examples/out/srm_examples_tests crates/srm_calls/out/srm_calls_tests
 PREFIX ?= /usr/local
 SCENARIO ?= examples/two-nodes.toml
 ARGUMENTS ?=
@@ -40,14 +40,15 @@ test: ## the merge gate: proves everything from nothing, with tests and must-fai
 	@tests/promises.py
 	@tools/gate.py -- make --no-print-directory test-program test-memory
 
-test-program: $(PROGRAM) ## compares what the program prints with each file of examples/, and tries it on some random scenarios
+test-program: $(PROGRAM) ## compares what the program prints with each file of examples/, and its refusals, and tries it on some random scenarios
 	@tests/compare_program.py $(PROGRAM) examples
+	@tests/refusals.py $(PROGRAM)
 	@tests/hostile.py $(PROGRAM) -q
 	@tests/same_bytes.py --runs $(FEW_CASES) $(PROGRAM)
 	@tests/fuzz.py --from 1 --cases $(FEW_CASES) $(PROGRAM)
 
 test-memory: $(PROGRAM) $(TEST_PROGRAMS) ## refuses each allocation in turn, of the program on each example with each engine, and of each test of members, roles and the ledger
-	@tests/refuse_allocations.py --program $(PROGRAM) examples/*.toml --tests $(TEST_PROGRAMS)
+	@tests/refuse_allocations.py --program $(PROGRAM) examples/*.toml --tests $(TEST_PROGRAMS:%/srm_calls_tests=%/srm_calls_tests:ledger_tests)
 
 $(TEST_PROGRAMS): $(SOURCES)
 	cd $(@D)/.. && $(RT) test > /dev/null

@@ -13,11 +13,5 @@ mod loss;
 pub mod losses;
 pub mod members;
 pub mod outlet;
-#[cfg(test)]
-mod outlet_tests;
-#[cfg(test)]
-mod table_tests;
-#[cfg(test)]
-mod tests;
 pub mod trace;
 pub mod writing;
