@@ -60,60 +60,42 @@ fn a_seed_that_is_asked_for_draws_the_timers(rt: HostRuntime) -> Result<(), Fail
     Ok(())
 }
 
-const MEMBERS: &str =
-    "member,role,node,joined,left,drawn,heard,lost,fixed,open,requests,repairs,sessions
-0,sender,0,0,-,2,2,0,0,0,0,0,0
-1,receiver,1,0,-,0,3,0,0,0,0,1,0
-2,receiver,2,0,-,0,2,1,1,0,1,0,0
-3,receiver,3,0,-,0,3,1,1,0,0,0,0
-4,receiver,4,0,-,0,3,1,1,0,0,0,0
-";
+const LOSSES: &str = "member,source,page,number,detected,recovered,delay\n";
 
-const LOSSES: &str = "member,source,page,number,detected,recovered,delay
-2,0,0,0,12,17,5/4
-3,0,0,0,13,18,5/6
-4,0,0,0,14,19,5/8
-";
-
-const LINKS: &str = "link,data,requests,repairs,sessions,dropped
-0,2,1,1,0,0
-1,1,1,1,0,1
-2,1,1,1,0,0
-3,1,1,1,0,0
-";
-
-#[test]
-fn the_table_that_is_asked_for_is_written(rt: HostRuntime) -> Result<(), Fail> {
-    let example = example("chain_of_five_one_loss")?;
-    for (show, table) in [
-        ("trace", example.trace),
-        ("members", MEMBERS),
-        ("losses", LOSSES),
-        ("links", LINKS),
-    ] {
-        let text = example.scenario.as_bytes();
-        let ended = run_program(&rt, rt.alloc(), &["--show", show], text, AMPLE, AMPLE)?;
-        assert_eq!(rt; ended.status, 0, "{show}");
-        assert!(rt; ended.outlet.as_slice() == table.as_bytes(), "{show}");
-        assert_eq!(rt; ended.errors.len(), 0, "{show}");
-    }
-    Ok(())
-}
+const LINKS: &str = "link,data,requests,repairs,sessions,dropped\n";
 
 // A loss on a page that a late member wants; one that the run's end leaves open; one that is mended in the tick in which it is
-// found; and no loss, since the member has left.
+// found; and no loss, since the member has left. Packets to a listener that leaves, from a sender alone, and dropped at the second
+// link.
 #[test]
-fn losses_have_a_line_each(rt: HostRuntime) -> Result<(), Fail> {
-    for (name, lines) in [
-        ("late_joiner", "1,0,1,0,60,64,4/2\n"),
-        ("stopped_in_mid_recovery", "1,0,0,0,11,-,-\n"),
-        ("mended_by_the_data_itself", "2,1,0,0,2,2,0/4\n"),
-        ("receiver_that_leaves", ""),
+fn losses_and_links_have_a_line_each(rt: HostRuntime) -> Result<(), Fail> {
+    for (name, show, header, lines) in [
+        ("late_joiner", "losses", LOSSES, "1,0,1,0,60,64,4/2\n"),
+        (
+            "stopped_in_mid_recovery",
+            "losses",
+            LOSSES,
+            "1,0,0,0,11,-,-\n",
+        ),
+        (
+            "mended_by_the_data_itself",
+            "losses",
+            LOSSES,
+            "2,1,0,0,2,2,0/4\n",
+        ),
+        ("receiver_that_leaves", "losses", LOSSES, ""),
+        ("listener_that_leaves", "links", LINKS, "0,2,0,0,0,0\n"),
+        ("lone_sender", "links", LINKS, ""),
+        (
+            "drop_on_the_second_link",
+            "links",
+            LINKS,
+            "0,2,0,0,0,0\n1,1,0,0,0,1\n",
+        ),
     ] {
         let text = example(name)?.scenario.as_bytes();
-        let ended = run_program(&rt, rt.alloc(), &["--show", "losses"], text, AMPLE, AMPLE)?;
+        let ended = run_program(&rt, rt.alloc(), &["--show", show], text, AMPLE, AMPLE)?;
         assert_eq!(rt; ended.status, 0, "{name}");
-        let header = "member,source,page,number,detected,recovered,delay\n";
         let table = format!(in rt.alloc(); "{header}{lines}")?;
         assert!(rt; ended.outlet.as_slice() == table.as_bytes(), "{name}");
         assert_eq!(rt; ended.errors.len(), 0, "{name}");

@@ -116,26 +116,10 @@ fn each_refused_text_gives_its_line_alone(rt: HostRuntime) -> Result<(), Fail> {
 }
 
 #[test]
-fn an_empty_text_lacks_its_keys(rt: HostRuntime) -> Result<(), Fail> {
-    let fault = ScenarioFault::BadKey {
-        part: Part::Top,
-        place: 0,
-    };
-    let line = "refused: bad-key top 0";
-    check(&rt, rt.alloc(), b"".as_slice(), fault, line)
-}
-
-#[test]
 fn a_text_of_one_byte_too_many_is_too_long(rt: HostRuntime) -> Result<(), Fail> {
     let text = Vec::from_elem(rt.alloc(), b' ', 1_048_577)?;
     let fault = ScenarioFault::TooLong;
     check(&rt, rt.alloc(), text.as_slice(), fault, "refused: too-long")
-}
-
-#[test]
-fn a_feed_that_fails_is_no_scenario(rt: HostRuntime) -> Result<(), Fail> {
-    let fault = ScenarioFault::ReadFault;
-    check(&rt, rt.alloc(), Broken, fault, "refused: read-fault")
 }
 
 // The least delay of a link is one tick.

@@ -1,13 +1,12 @@
 //! Whole scenarios from bytes to bytes, over devices in memory.
 ghost use Rattle.srm_lab.specs.Runs.{MayShareBag};
 
-use crate::fault::{Fault, LabFault};
+use crate::fault::Fault;
 use crate::options::{CrewKind, Engine, Options, Show};
-use crate::session::{simulate, simulate_text};
+use crate::session::simulate_text;
 use srm_engine::width::Width;
-use srm_examples::scenarios::{DRAWN_TIMERS, EXAMPLES, Example};
+use srm_examples::scenarios::{EXAMPLES, Example};
 use srm_report::outlet::WriteOutlet;
-use srm_scenario::feed::ReadFeed;
 use std::alloc::Global;
 use std::io;
 use std::io::{ErrorKind, Write};
@@ -45,18 +44,17 @@ const WAYS: [(Engine, CrewKind, u8, u32, Width); 9] = [
     (Engine::Window, CrewKind::Bag, 7, 1, Width::Least),
 ];
 
-// What is written of a scenario text.
+// What is written of a scenario text with the seed 0.
 fn written<R: Threads + Wait + Sync>(
     rt: &R,
     alloc: Global,
     text: &str,
-    seed: u64,
     options: Options,
 ) -> Result<Vec<u8>, Fault>
     requires { MayShareBag options.workers }
 {
     let mut outlet = WriteOutlet::new(Vec::new(alloc));
-    simulate_text(rt, alloc, text.as_bytes(), seed, options, &mut outlet)?;
+    simulate_text(rt, alloc, text.as_bytes(), 0, options, &mut outlet)?;
     Ok(outlet.into_inner())
 }
 
@@ -73,7 +71,7 @@ fn each_scenario_gives_its_trace_in_each_way(rt: HostRuntime) -> Result<(), Fail
             show: Show::Trace,
         };
         for example in EXAMPLES {
-            let Ok(text) = written(&rt, rt.alloc(), example.scenario, 0, options) else {
+            let Ok(text) = written(&rt, rt.alloc(), example.scenario, options) else {
                 return Err(Fail::from(example.name));
             };
             assert!(rt;
@@ -83,15 +81,6 @@ fn each_scenario_gives_its_trace_in_each_way(rt: HostRuntime) -> Result<(), Fail
             );
         }
     }
-    Ok(())
-}
-
-#[test]
-fn drawn_timers_follow_the_seed(rt: HostRuntime) -> Result<(), Fail> {
-    let Ok(text) = written(&rt, rt.alloc(), DRAWN_TIMERS.scenario, 42, PLAIN) else {
-        return Err(Fail::from("refused"));
-    };
-    assert!(rt; text.as_slice() == DRAWN_TIMERS.trace.as_bytes());
     Ok(())
 }
 
@@ -125,19 +114,4 @@ impl Write for Narrow {
     fn flush(&mut self) -> io::Result<()> {
         Ok(())
     }
-}
-
-#[test]
-fn an_outlet_that_fails_has_taken_the_front_of_the_trace(rt: HostRuntime) -> Result<(), Fail> {
-    let example = example("chain_of_five_one_loss")?;
-    let mut feed = ReadFeed::new(example.scenario.as_bytes());
-    let mut outlet = WriteOutlet::new(Narrow::new(rt.alloc(), 10));
-    let refused = simulate(&rt, rt.alloc(), &mut feed, 0, PLAIN, &mut outlet);
-    let fault = LabFault::WriteFault { written: 10 };
-    assert_eq!(rt; refused, Err(Fault::Lab(fault)));
-    assert_eq!(rt;
-        outlet.into_inner().taken.as_slice(),
-        b"time,membe".as_slice()
-    );
-    Ok(())
 }

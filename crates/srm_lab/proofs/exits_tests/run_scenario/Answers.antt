@@ -3,9 +3,9 @@ use denote.Param.Object.{read_made}
 use Rattle.srm_member.specs.Record.{Record}
 use Rattle.srm_engine.specs.Outcomes.{records_from}
 use Rattle.srm_lab.proofs.Openings.{opening-push}
-use Rattle.srm_lab.proofs.totals_tests.run_scenario.OwnLists.{own-1, at-1-1, at-1-2, at-1-3, at-1-4}
-use Rattle.srm_lab.proofs.totals_tests.run_scenario.Goals as goal
-use Rattle.srm_lab.proofs.totals_tests.run_scenario.Goals.{in-Sender+in_ok-new-in-Sender+in_ok-new-in-Sender-2, in-Receiver+in_ok-new-in-Receiver+in_ok-new-in-Receiver-2, in-Late+in_ok-new-in-Late+in_ok-new-in-Late-2, in-Listener+in_ok-new-in-Listener+in_ok-new-in-Listener-2}
+use Rattle.srm_lab.proofs.exits_tests.run_scenario.OwnLists.{own-1, at-1-1, at-1-2, at-1-3, at-1-4}
+use Rattle.srm_lab.proofs.exits_tests.run_scenario.Goals as goal
+use Rattle.srm_lab.proofs.exits_tests.run_scenario.Goals.{in-Sender+in_ok-new-in-Sender+in_ok-new-in-Sender-2, in-Receiver+in_ok-new-in-Receiver+in_ok-new-in-Receiver-2, in-Late+in_ok-new-in-Late+in_ok-new-in-Late-2, in-Listener+in_ok-new-in-Listener+in_ok-new-in-Listener-2}
 
 pub loop-m-preserved : goal.loop-m-preserved
 loop-m-preserved c =

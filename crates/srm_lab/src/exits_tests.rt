@@ -1,4 +1,4 @@
-//! What whole runs count on each link, and what members end with, against numbers worked by hand.
+//! What members end with, in whole runs, against names worked by hand.
 ghost use Rattle.std.specs.Prelude.{◌≡◌};
 ghost use Rattle.srm_scenario.specs.Plain.{network_of};
 
@@ -42,52 +42,6 @@ fn outcome_of(alloc: Global, name: &str) -> Result<Outcome, Fail> {
     let scenario = read_scenario(alloc, &mut feed)?;
     let net = scenario.net(alloc)?;
     run_scenario(alloc, &scenario, &net)
-}
-
-// For each link in turn the data, requests, repairs and session messages that cross it, and the packets that it drops.
-#[test]
-fn packets_are_counted_on_each_link(rt: HostRuntime) -> Result<(), Fail> {
-    for (name, links) in [
-        (
-            "chain_of_five_one_loss",
-            [
-                [2, 1, 1, 0, 0],
-                [1, 1, 1, 0, 1],
-                [1, 1, 1, 0, 0],
-                [1, 1, 1, 0, 0],
-            ]
-            .as_slice(),
-        ),
-        (
-            "star_loss_at_the_source",
-            &[
-                [1, 3, 1, 0, 1],
-                [1, 3, 1, 0, 0],
-                [1, 3, 1, 0, 0],
-                [1, 3, 1, 0, 0],
-            ],
-        ),
-        (
-            "star_loss_at_one_member",
-            &[
-                [2, 2, 3, 0, 0],
-                [2, 2, 3, 0, 0],
-                [2, 2, 3, 0, 0],
-                [1, 2, 3, 0, 1],
-            ],
-        ),
-        ("receiver_that_leaves", &[[2, 0, 0, 0, 0]]),
-        ("listener_that_leaves", &[[2, 0, 0, 0, 0]]),
-        ("lone_sender", &[]),
-        (
-            "drop_on_the_second_link",
-            &[[2, 0, 0, 0, 0], [1, 0, 0, 0, 1]],
-        ),
-    ] {
-        let outcome = outcome_of(rt.alloc(), name)?;
-        assert_eq!(rt; outcome.totals.links(), links, "{name}");
-    }
-    Ok(())
 }
 
 // What the sender draws first and second on page 0, and first on page 1.

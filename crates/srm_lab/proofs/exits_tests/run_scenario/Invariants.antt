@@ -1,7 +1,7 @@
 use Rattle.std.proofs.Common.{◌≡◌, map}
 use Rattle.srm_engine.specs.Outcomes.{records_from}
-use Rattle.srm_lab.proofs.totals_tests.run_scenario.OwnLists.{own-1}
-use Rattle.srm_lab.proofs.totals_tests.run_scenario.Given as goal
+use Rattle.srm_lab.proofs.exits_tests.run_scenario.OwnLists.{own-1}
+use Rattle.srm_lab.proofs.exits_tests.run_scenario.Given as goal
 
 -- the members so far hold their opening records
 abbrev pub invariant-loop-m : goal.invariant-loop-m
