@@ -18,3 +18,6 @@ pub mod Outcomes
 pub mod Totalled
 pub mod Groups
 pub mod Windowed
+pub mod Sinks
+pub mod Kept
+pub mod KeptLaws
