@@ -15,9 +15,11 @@ pub mod members;
 pub mod outlet;
 #[cfg(test)]
 mod outlet_tests;
+mod standing;
 #[cfg(test)]
 mod table_tests;
 #[cfg(test)]
 mod tests;
 pub mod trace;
+pub mod trace_sink;
 pub mod writing;

@@ -23,7 +23,7 @@ fn named(source: u16, page: u16, number: u32) -> About {
 }
 
 // An arrival of a packet with this identity.
-fn of(sender: u16, count: u64) -> About {
+pub(crate) fn of(sender: u16, count: u64) -> About {
     let name = Name {
         source: 0,
         page: 0,
@@ -39,7 +39,7 @@ fn of(sender: u16, count: u64) -> About {
 }
 
 // A row that lost so many names, and may have sent a packet.
-fn row_of(
+pub(crate) fn row_of(
     alloc: Global,
     at: (u64, u16),
     what: (Word, About, Told),
