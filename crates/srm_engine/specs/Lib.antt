@@ -21,3 +21,4 @@ pub mod Windowed
 pub mod Sinks
 pub mod Kept
 pub mod KeptLaws
+pub mod Streams

@@ -17,6 +17,8 @@ pub mod next_times;
 pub mod outcome;
 pub mod sink;
 pub mod step_run;
+pub mod step_stream;
+pub mod stream_fault;
 pub mod width;
 mod window;
 pub mod window_run;
