@@ -6,6 +6,7 @@ pub mod NewPackets
 pub mod Hearing
 pub mod Opened
 pub mod PhaseLemmas
+pub mod StreamLemmas
 pub mod SeenLemmas
 pub mod Stepping
 pub mod LawProofs

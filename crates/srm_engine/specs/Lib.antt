@@ -19,3 +19,7 @@ pub mod Totalled
 pub mod Groups
 pub mod Windowed
 pub mod Ends
+pub mod Sinks
+pub mod Kept
+pub mod KeptLaws
+pub mod Streams

@@ -13,5 +13,7 @@ mod loss;
 pub mod losses;
 pub mod members;
 pub mod outlet;
+mod standing;
 pub mod trace;
+pub mod trace_sink;
 pub mod writing;
