@@ -2,9 +2,10 @@ RT ?= rt
 PROGRAM := crates/srm_lab/out/srm_lab
 SOURCES := crates.txt $(shell find crates -path '*/out' -prune -o \( -name '*.rt' -o -name '*.antt' \) -print)
 CRATES := $(notdir $(patsubst %/src,%,$(wildcard crates/*/src)))
-TEST_PROGRAMS := crates/srm_examples/out/srm_examples_tests crates/srm_ledger/out/srm_ledger_tests
+TEST_PROGRAMS := crates/srm_examples/out/srm_examples_tests crates/srm_calls/out/srm_calls_tests
 PREFIX ?= /usr/local
 SCENARIO ?= examples/two-nodes.toml
+ARGUMENTS ?=
 CRATE ?=
 BENCH ?=
 SECONDS ?= 60
@@ -19,8 +20,8 @@ $(PROGRAM): $(SOURCES)
 	@tools/prove.py --program crates/srm_lab
 	@touch $@
 
-run: $(PROGRAM) ## prints the trace of a scenario: make run SCENARIO=examples/two-nodes.toml
-	@$(PROGRAM) < $(SCENARIO)
+run: $(PROGRAM) ## prints the trace of a scenario, or what ARGUMENTS ask for: make run SCENARIO=examples/two-nodes.toml ARGUMENTS="--show links"
+	@$(PROGRAM) $(ARGUMENTS) < $(SCENARIO)
 
 try: ## the same program, unproved and with no build before it, in under a minute: make try SCENARIO=..
 	@cd crates/srm_lab && $(RT) try < $(abspath $(SCENARIO))
@@ -39,12 +40,15 @@ test: ## the merge gate: proves everything from nothing, with tests and must-fai
 	@tests/promises.py
 	@tools/gate.py -- make --no-print-directory test-program test-memory
 
-test-program: $(PROGRAM) ## compares what the program prints with each file of examples/, and tries it on some random scenarios
+test-program: $(PROGRAM) ## compares what the program prints with each file of examples/, and its refusals, and tries it on some random scenarios
 	@tests/compare_program.py $(PROGRAM) examples
+	@tests/refusals.py $(PROGRAM)
+	@tests/hostile.py $(PROGRAM) -q
+	@tests/same_bytes.py --runs $(FEW_CASES) $(PROGRAM)
 	@tests/fuzz.py --from 1 --cases $(FEW_CASES) $(PROGRAM)
 
-test-memory: $(PROGRAM) $(TEST_PROGRAMS) ## refuses each allocation in turn, of the program on each example, and of each test of members, roles and the ledger
-	@tests/refuse_allocations.py --program $(PROGRAM) examples/*.toml --tests $(TEST_PROGRAMS)
+test-memory: $(PROGRAM) $(TEST_PROGRAMS) ## refuses each allocation in turn, of the program on each example with each engine, and of each test of members, roles and the ledger
+	@tests/refuse_allocations.py --program $(PROGRAM) examples/*.toml --tests $(TEST_PROGRAMS:%/srm_calls_tests=%/srm_calls_tests:ledger_tests)
 
 $(TEST_PROGRAMS): $(SOURCES)
 	cd $(@D)/.. && $(RT) test > /dev/null
@@ -53,9 +57,10 @@ $(TEST_PROGRAMS): $(SOURCES)
 fuzz: $(PROGRAM) ## tries the program on random scenarios, and computes its tables a second time: make fuzz SECONDS=60
 	@tests/fuzz.py --seconds $(SECONDS) $(PROGRAM)
 
-bench: $(PROGRAM) ## prints how many rows the program handles in a second, beside a plain simulator, and how long each table takes: make bench BENCH=--long
+bench: $(PROGRAM) ## prints how many rows the program handles in a second, beside a plain simulator, and how long each table and engine takes: make bench BENCH=--long
 	@bench/events_per_second.py $(PROGRAM) $(BENCH)
 	@bench/time_of_tables.py $(PROGRAM)
+	@bench/time_of_engines.py $(PROGRAM)
 
 fmt: ## lays out the sources of each crate
 	@for crate in $(CRATES); do (cd crates/$$crate && $(RT) fmt) || exit 1; done

@@ -4,8 +4,11 @@ _srm_lab() {
     COMPREPLY=()
     case $before in
         --show) mapfile -t COMPREPLY < <(compgen -W "trace members losses links" -- "$word") ;;
-        --seed) ;;
-        *) mapfile -t COMPREPLY < <(compgen -W "--seed --show --help --version" -- "$word") ;;
+        --engine) mapfile -t COMPREPLY < <(compgen -W "step window" -- "$word") ;;
+        --crew) mapfile -t COMPREPLY < <(compgen -W "plain pool bag" -- "$word") ;;
+        --width) mapfile -t COMPREPLY < <(compgen -W "least promise" -- "$word") ;;
+        --seed | --workers | --cut) ;;
+        *) mapfile -t COMPREPLY < <(compgen -W "--seed --engine --crew --workers --cut --width --show --help --version" -- "$word") ;;
     esac
 }
 complete -o default -F _srm_lab srm_lab

@@ -11,10 +11,10 @@ unexplained.
 import argparse
 import csv
 import random
+import resource
 import subprocess
 import sys
 import tempfile
-import time
 from dataclasses import dataclass
 from itertools import combinations
 from pathlib import Path
@@ -44,8 +44,8 @@ class Result:
 
     sent: list
     losses: dict
-    seconds: float = 0.0
-    processor: float = 0.0
+    seconds: float = 0.0  # of processor time, from the start of the program to its end
+    of_run: float = 0.0  # those of them that ns-2 took for the run, without its start and its setup
 
     def same(self, other):
         return self.sent == other.sent and self.losses == other.losses
@@ -58,9 +58,9 @@ class Programs:
         self.program = program
 
     def ours(self, text, seed=0):
-        begin = time.perf_counter()
+        begin = children_seconds()
         trace = self._srm_lab(text, seed, "trace")
-        spent = time.perf_counter() - begin
+        spent = children_seconds() - begin
         sent = [(row.time, row.member, row.cause, int(row.ref.split("/")[2])) for row in read_trace(trace.splitlines())
                 if row.cause in ("ask", "answer") and row.result == "sent"]
         losses = {}
@@ -80,9 +80,9 @@ class Programs:
         with tempfile.NamedTemporaryFile("w", suffix=".txt") as given:
             given.write(ns2_input(text, rules, seed, cycle))
             given.flush()
-            begin = time.perf_counter()
+            begin = children_seconds()
             done = subprocess.run(["ns", HERE / "ns2/srm.tcl", given.name], capture_output=True, text=True, check=False)
-            spent = time.perf_counter() - begin
+            spent = children_seconds() - begin
         if done.returncode or "cost" not in done.stdout:
             raise SystemExit(f"ns: {done.stderr.strip() or done.stdout.strip()}")
         result = Result([], {}, spent)
@@ -96,9 +96,15 @@ class Programs:
                 key = int(words[1]), int(words[2])
                 result.losses[key] = (result.losses[key][0], whole(words[3]))
             elif words[0] == "cost":
-                result.processor = float(words[1])
+                result.of_run = float(words[1])
         result.sent.sort()
         return result
+
+
+def children_seconds():
+    """The processor time of all programs that this one ran to their ends; other work of the machine does not count."""
+    usage = resource.getrusage(resource.RUSAGE_CHILDREN)
+    return usage.ru_utime + usage.ru_stime
 
 
 def whole(text):
@@ -251,7 +257,7 @@ def compare_families(programs, only, rows):
                     sys.stderr.write(f"{make.__name__} {place}:\n{text}\n")
             told[why] = told.get(why, 0) + 1
             rows.append([make.__name__, place, len(ours.losses), *counts(ours), *counts(theirs), why,
-                         f"{ours.seconds:.4f}", f"{theirs.seconds:.4f}", f"{theirs.processor:.4f}"])
+                         f"{ours.seconds:.4f}", f"{theirs.seconds:.4f}", f"{theirs.of_run:.4f}"])
         print(f"{make.__name__.replace('_', ' ')}: {count} scenarios; "
               + ", ".join(f"{number} {why}" for why, number in sorted(told.items(), key=lambda one: -one[1])))
     return open_ones
@@ -293,7 +299,7 @@ def said(result):
 def compare_star(programs, members=33, lost=40, seeds=5):
     """Mean requests of a star with random timers; the time of both programs."""
     print(f"star of {members} members, {members - 1} losers, {seeds} seeds of {lost} losses: "
-          "mean requests for a loss; seconds for all seeds")
+          "mean requests for a loss; seconds of processor time for all seeds")
     print(f"{'C2':>4} {'srm_lab':>8} {'ns-2':>8} {'1+(G-2)/C2':>11} {'apart':>7} {'srm_lab s':>10} {'ns-2 s':>8}")
     for c2 in (2, 4, 8, 16, 32):
         means, spent = [], []
@@ -323,7 +329,7 @@ def main():
                  "seconds", "ns2_seconds", "ns2_run_seconds"], *rows])
     print(f"{len(rows)} scenarios: {sum(row[7] == 'same' for row in rows)} the same, "
           f"{sum(row[7] not in ('same', 'unexplained') for row in rows)} explained, {wrong} not")
-    print(f"seconds for all: srm_lab {sum(float(row[8]) for row in rows):.2f}, "
+    print(f"seconds of processor time for all: srm_lab {sum(float(row[8]) for row in rows):.2f}, "
           f"ns-2 {sum(float(row[9]) for row in rows):.2f}, {sum(float(row[10]) for row in rows):.2f} of them its runs")
     if not options.only:
         wrong += compare_differences(programs)

@@ -60,8 +60,8 @@ def over_session_size(tables, over):
     ):
         points = bars(axes, table, over, column, colour, label)
         axes.set_ylabel(unit)
-        axes.set_ylim(0, 1.15 * points.to_numpy().max())
-        axes.legend(fontsize=8)
+        axes.set_ylim(0, 1.35 * points.to_numpy().max())  # room for the legend above all points
+        axes.legend(fontsize=8, loc="upper right")
         axes.grid(alpha=0.3)
     parts[2].set_xlabel("session size (members)")
     return figure

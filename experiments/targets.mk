@@ -5,19 +5,16 @@ SRM_LAB ?= $(PROGRAM)
 
 .PHONY: experiments-packages check-experiments
 
-# installs the Debian packages that experiments need
-experiments-packages:
+experiments-packages: ## installs the Debian packages that experiments need (as root, after apt-get update)
 	apt-get install -y --no-install-recommends $$(cat experiments/packages.txt)
 
-# runs a linter over all Python code here, the tests, and every command of the tutorial
-check-experiments: $(SRM_LAB)
+check-experiments: $(SRM_LAB) ## runs a linter over the Python code of experiments, its tests, and every command of the tutorial
 	cd experiments && flake8 .
 	cd experiments && SRM_LAB=$(abspath $(SRM_LAB)) $(PYTHON) -m pytest -q -p no:cacheprovider
 	$(PYTHON) experiments/check_tutorial.py $(SRM_LAB) docs/TUTORIAL.md
 
 .PHONY: picture
-# draws a run: make picture SCENARIO=examples/star-loss-at-one-member.toml > star.svg
-picture: $(SRM_LAB)
+picture: $(SRM_LAB) ## draws a run: make picture SCENARIO=examples/star-loss-at-one-member.toml > star.svg
 	@trace=$$(mktemp) && trap 'rm -f "$$trace"' EXIT && $(SRM_LAB) < $(SCENARIO) > "$$trace" && \
 		PYTHONPATH=experiments $(PYTHON) -m srm_scenarios.picture $(SCENARIO) "$$trace"
 
@@ -28,14 +25,13 @@ SNAKEMAKE = cd experiments && mkdir -p results && flock --verbose --nonblock --c
 	snakemake --nolock --rerun-incomplete --keep-going --show-failed-logs --configfile $(CONFIG)
 
 .PHONY: experiments experiments-slurm
-# makes the tables and figures of CONFIG under experiments/results; what is there already is kept
-experiments: $(SRM_LAB)
+experiments: $(SRM_LAB) ## runs the sweeps of experiments/config.yaml, or CONFIG=.., with their tables and figures; what is there is kept
 	$(SNAKEMAKE) --cores $(JOBS) --config program=$(abspath $(SRM_LAB))
 
-# the same, its runs submitted to Slurm: fifty in a job, of which as many run side by side as the job has processors;
-# the directory has to be one that all nodes share
+# fifty runs in a job, of which as many run side by side as the job has processors; the directory has to be one that all
+# nodes share
 experiments-slurm: CORES ?= 4
-experiments-slurm: $(SRM_LAB)
+experiments-slurm: $(SRM_LAB) ## the same, its runs submitted to Slurm: make experiments-slurm JOBS=2 CORES=2
 	$(SNAKEMAKE) --jobs $(JOBS) --cores $(CORES) --config program=$(abspath $(SRM_LAB)) \
 		--group-components runs=50 --latency-wait 60 \
 		--cluster "sbatch --parsable --cpus-per-task={threads} --output=$(abspath experiments)/.snakemake/slurm-%j.log"
@@ -58,9 +54,8 @@ install-shared:
 	mkdir -p $(SHARE)/doc/srm_lab
 	cp -r --no-preserve=mode README.md docs examples $(SHARE)/doc/srm_lab/
 
-# packs the program with its man page, completions, examples and docs: out/srm_lab-VERSION.tar.gz, for machines without
-# the toolchain; the same files give the same bytes
-dist: $(PROGRAM)
+# the same files give the same bytes
+dist: $(PROGRAM) ## packs program, man page, completions, examples and docs for machines without the toolchain: out/srm_lab-VERSION.tar.gz
 	rm -rf out/$(DIST) && mkdir -p out
 	$(MAKE) --no-print-directory install PREFIX= DESTDIR=$(abspath out/$(DIST))
 	strip out/$(DIST)/bin/srm_lab
@@ -68,11 +63,9 @@ dist: $(PROGRAM)
 		| gzip -n9 > out/$(DIST).tar.gz
 	@echo out/$(DIST).tar.gz
 
-# runs scenarios in srm_lab and in ns-2, and explains each difference
-compare-ns2: $(SRM_LAB)
+compare-ns2: $(SRM_LAB) ## runs 260 scenarios in srm_lab and in ns-2, and explains each difference
 	cd experiments && $(PYTHON) -u compare_ns2.py $(abspath $(SRM_LAB)) --table results/compare-ns2.csv
 
 .PHONY: experiments-figures
-# puts the figures of the last `make experiments` where docs/EXPERIMENTS.md shows them
-experiments-figures:
+experiments-figures: ## puts the figures of the last `make experiments` where docs/EXPERIMENTS.md shows them
 	install -D -m 644 -t docs/figures experiments/results/figures/*.svg

@@ -4,14 +4,23 @@
 usage: tests/compare_program.py PROGRAM EXAMPLES
 
 EXAMPLES is a folder with scenarios NAME.toml and tables NAME.TABLE.csv, or NAME.seed-N.TABLE.csv where the seed is not 0.
+Each stored table is compared with what the sequential engine writes. Then each scenario is run in windows, for each of the four
+tables, with each crew, numbers of workers, cuts and widths that --help names, and has to give the sequential engine's bytes; so it has
+to with each seed for which a table is stored. Last, command lines and texts that are refused have to end with their line and status.
 Prints a line for each difference, and ends with status 1 where there is one.
 """
+import itertools
 import os
 import pathlib
 import subprocess
 import sys
 
 REFUSED = (2, b"", b"command line refused\n")
+SHOWS = ("trace", "members", "losses", "links")
+CREWS = ("plain", "pool", "bag")
+WORKERS = ("1", "2", "7")
+CUTS = ("1", "3", "1024")
+WIDTHS = ("1", "least", "promise")
 
 
 def ended(program, words, text):
@@ -34,12 +43,71 @@ def tables(program, examples):
             yield f"{table.name}: not what the program writes with {' '.join(words)}"
 
 
+def seeds(examples, name):
+    """The seeds for which a table of this scenario is stored, and 0."""
+    parts = [table.name.split(".")[1:-2] for table in examples.glob(f"{name}.*.csv")]
+    return sorted({"0", *(seed.removeprefix("seed-") for part in parts for seed in part)})
+
+
+def engines(program):
+    """The words that ask for the run in windows, in each way."""
+    printed = ended(program, ["--help"], b"")[0][1].decode()
+    for crew, workers, cut, width in itertools.product(CREWS, WORKERS, CUTS, WIDTHS):
+        if width != "promise" or width in printed:
+            yield ["--engine", "window", "--crew", crew, "--workers", workers, "--cut", cut, "--width", width]
+
+
+def windows(program, examples, ways):
+    """A line for each run in one of these ways that writes other bytes than the sequential engine."""
+    for scenario in sorted(examples.glob("*.toml")):
+        text = scenario.read_bytes()
+        for seed, show in itertools.product(seeds(examples, scenario.stem), SHOWS):
+            words = ["--seed", seed, "--show", show]
+            must = ended(program, words, text)
+            for way in ways:
+                if must[0][0] != 0 or ended(program, words + way, text) != must:
+                    yield f"{scenario.name}: with {' '.join(words + way)} not what the sequential engine writes"
+
+
+def cuts_and_widths(program, examples):
+    """A line for each cut and width that is not refused, or accepted, as it must be. The least delay of the chain is 1 tick."""
+    chain, lone = ((examples / f"{name}.toml").read_bytes() for name in ("chain-of-five-one-loss", "no-member"))
+    accepted = ended(program, [], chain)[0]
+    refused = {line: (1, b"", f"refused: {line}\n".encode()) for line in ("bad-cut", "bad-width", "bad-key top 0")}
+    runs = [
+        (["--cut", "0"], chain, refused["bad-cut"]),
+        (["--cut", "1025"], chain, refused["bad-cut"]),
+        (["--cut", "4294967295"], chain, refused["bad-cut"]),
+        (["--cut", "0", "--width", "0"], chain, refused["bad-cut"]),
+        (["--width", "0"], chain, refused["bad-width"]),
+        (["--width", "2"], chain, refused["bad-width"]),
+        (["--width", "18446744073709551615"], chain, refused["bad-width"]),
+        (["--width", "0"], lone, refused["bad-width"]),
+        (["--width", "18446744073709551615"], lone, ended(program, [], lone)[0]),
+        (["--cut", "0"], b"version = 1\n", refused["bad-key top 0"]),
+        (["--cut", "0001024", "--width", "01", "--workers", "64", "--crew", "bag"], chain, accepted),
+    ]
+    for words, text, must in runs:
+        got = ended(program, ["--engine", "window", *words], text)[0]
+        if got != must:
+            yield f"--engine window {' '.join(words)}: got {got}, and not {must}"
+    if ended(program, ["--cut", "0", "--width", "0"], chain)[0] != accepted:
+        yield "the sequential engine looks at the cut or the width"
+
+
 def statuses(program):
     """A line for each command line or text that does not end as it must."""
     text = b"version = 1\n"
     runs = [
         (["--show", "colors"], REFUSED, len(text)),
         (["--workers", "65"], REFUSED, len(text)),
+        (["--workers", "0"], REFUSED, len(text)),
+        (["--engine", "fast"], REFUSED, len(text)),
+        (["--crew", "six"], REFUSED, len(text)),
+        (["--cut", "+1"], REFUSED, len(text)),
+        (["--cut", "4294967296"], REFUSED, len(text)),
+        (["--width", "18446744073709551616"], REFUSED, len(text)),
+        (["--width", "most"], REFUSED, len(text)),
         (["--seed", "-1"], REFUSED, len(text)),
         (["--seed", "9223372036854775808"], REFUSED, len(text)),
         (["--seed", b"\xff"], REFUSED, len(text)),
@@ -58,10 +126,13 @@ def statuses(program):
 
 def main():
     program, examples = os.path.abspath(sys.argv[1]), pathlib.Path(sys.argv[2])
-    differences = [*tables(program, examples), *statuses(program)]
+    ways = [*engines(program)]
+    differences = [
+        *tables(program, examples), *windows(program, examples, ways), *cuts_and_widths(program, examples), *statuses(program),
+    ]
     for line in differences:
         print(line)
-    print(f"{len(list(examples.glob('*.csv')))} tables compared, {len(differences)} differences")
+    print(f"{len(list(examples.glob('*.csv')))} tables compared, and {len(ways)} ways to run in windows, {len(differences)} differences")
     return len(differences) > 0
 
 

@@ -12,9 +12,11 @@ scenario with bytes or numbers changed, or a command line that must be refused. 
   fuzz_format.py).
 - A refusal is the one that comes first by docs/FORMATS.md, as one line on standard error, with nothing on standard output and
   status 1. Where Python cannot read the text as TOML, any refusal of a scenario may come. A refused command line has status 2.
-- The same input gives the same bytes, with each engine of ENGINES, and each run ends within LONGEST seconds.
+- The run in windows, with a crew, workers, a cut and a width at random, gives the sequential engine's bytes; and where the cut or
+  the width is none that the scenario allows, their refusal (fuzz_windows.py).
+- Each run ends within LONGEST seconds.
 
-A table that the program's --help does not name is left out. Prints each case that fails and writes its scenario to out/;
+A table, or a width, that the program's --help does not name is left out. Prints each case that fails and writes its scenario to out/;
 --case SEED runs one case again. Without --from the first seed is a random one. Ends with status 1 where a case failed.
 """
 import argparse
@@ -33,15 +35,12 @@ sys.dont_write_bytecode = True
 import fuzz_replay
 import fuzz_scenarios
 import fuzz_tables
+import fuzz_windows
 from fuzz_format import Scenario
 from fuzz_tables import Wrong
 
 TOP = pathlib.Path(__file__).resolve().parent.parent
 PROGRAM = TOP / "crates" / "srm_lab" / "out" / "srm_lab"
-# sets of options, each good for every scenario, with all of which the tables of a scenario are the same bytes
-ENGINES = [
-    [],
-]
 LONGEST = 20
 MEMORY = 2**30
 MOST_FAILURES = 10
@@ -65,12 +64,12 @@ def runner(program):
     return run
 
 
-def tables_named(run):
-    """The tables that the program's help names."""
+def words_named(run):
+    """The words of the program's help."""
     status, told, _ = run(["--help"], b"")
     if status != 0:
         raise Wrong("--help: another status than 0")
-    return [table for table in fuzz_tables.HEADERS if re.search(rf"\b{table}\b", told.decode())]
+    return set(re.findall(r"\w+", told.decode()))
 
 
 def is_same(what, got, must):
@@ -112,8 +111,20 @@ def ends(tables, case, first):
     return {table: (0, texts[table], b"") for table in tables}
 
 
-def check(run, tables, case):
-    """Runs one case, and raises Wrong where the program does what it must not."""
+def check_windows(run, named, case, must):
+    """Runs an accepted case in windows, for each table, and once with a cut or a width that is refused."""
+    rng = fuzz_windows.random_of(case)
+    top = case.must if isinstance(case.must, dict) else None
+    for table, end in must.items():
+        words = fuzz_windows.windows(rng, top, end[1].count(b"\n"), named)
+        is_same(" ".join(["--show", table, *words]), run([f"--seed={case.seed}", *words, "--show", table], case.text), end)
+    if top is not None:
+        words, line = fuzz_windows.refused(rng, top)
+        is_same(" ".join(words), run(words, case.text), (1, b"", f"refused: {line}\n".encode()))
+
+
+def check(run, named, case):
+    """Runs one case, and raises Wrong where the program does what it must not. Its help names these words."""
     if case.words is not None:
         is_same(case.words, run(case.words, case.text), (2, b"", b"command line refused\n"))
         return
@@ -125,12 +136,18 @@ def check(run, tables, case):
         raise Wrong(f"it must be accepted: {first[2]}")
     if isinstance(case.must, str) and case.must != fuzz_scenarios.UNKNOWN:
         is_same("refusal", first, (1, b"", f"refused: {case.must}\n".encode()))
+    tables = [table for table in fuzz_tables.HEADERS if table in named]
     must = ends(tables, case, first)
     for table in tables:
-        for engine in ENGINES:
-            end = run([f"--seed={case.seed}", *engine, "--show", table], case.text)
-            is_in_form(table, end)
-            is_same(" ".join(["--show", table, *engine]), end, must.setdefault(table, end))
+        end = run([f"--seed={case.seed}", "--show", table], case.text)
+        is_in_form(table, end)
+        is_same(f"--show {table}", end, must.setdefault(table, end))
+    if "window" not in named:
+        return
+    if first[0] == 0:
+        check_windows(run, named, case, must)
+    else:
+        is_same("--engine window", run(["--engine", "window", "--cut", "0", "--width", "0"], case.text), first)
 
 
 def case_of(seed):
@@ -138,11 +155,11 @@ def case_of(seed):
     return fuzz_scenarios.case_of(random.Random(seed), examples)
 
 
-def failure(run, tables, seed):
+def failure(run, named, seed):
     """Runs the case of a seed; the line that tells what is wrong with it, or None, and what kind of case it is."""
     case = case_of(seed)
     try:
-        check(run, tables, case)
+        check(run, named, case)
     except Exception as wrong:
         if not isinstance(wrong, Wrong):
             print(f"case {seed}: the check itself broke off")
@@ -179,12 +196,12 @@ def main():
     resource.setrlimit(resource.RLIMIT_AS, (MEMORY, resource.getrlimit(resource.RLIMIT_AS)[1]))
     run = runner(options.program.absolute())
     try:
-        tables = tables_named(run)
+        named = words_named(run)
     except (OSError, Wrong) as wrong:
         sys.exit(f"{options.program}: {wrong}")
     kinds, failed, began = collections.Counter(), 0, time.monotonic()
     for seed in seeds(options):
-        told, kind = failure(run, tables, seed)
+        told, kind = failure(run, named, seed)
         kinds[kind] += 1
         if told:
             failed += 1
@@ -193,7 +210,8 @@ def main():
             break
     spent = time.monotonic() - began
     counts = ", ".join(f"{number} {kind}" for kind, number in sorted(kinds.items()))
-    print(f"{sum(kinds.values())} cases in {spent:.0f} seconds ({counts}), {failed} failed; tables: {', '.join(tables)}")
+    tables = ", ".join(table for table in fuzz_tables.HEADERS if table in named)
+    print(f"{sum(kinds.values())} cases in {spent:.0f} seconds ({counts}), {failed} failed; tables: {tables}")
     return failed > 0
 
 

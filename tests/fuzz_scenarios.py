@@ -21,6 +21,9 @@ COMMAND_LINES = (
     ["--show", "colors"], ["--show"], ["--show", "Trace"], ["--show", ""], ["--seed"], ["--seed", "-1"], ["--seed", "1.0"],
     ["--seed", "9223372036854775808"], ["--seed", "18446744073709551616"], ["--seed", ""], ["--seed=x"], ["--seed", "0x1"],
     ["--seed", "1", "--seed", "1"], ["--show", "links", "--show", "links"], ["--seed", "1", "--show", "row"], ["--color"],
+    ["--workers", "0"], ["--workers", "65"], ["--workers", "x"], ["--crew", "six"], ["--engine", "fast"], ["--engine", ""],
+    ["--cut", "+1"], ["--cut", "4294967296"], ["--cut", "-1"], ["--cut", ""], ["--cut", "1", "--cut", "1"],
+    ["--width", "18446744073709551616"], ["--width", "most"], ["--width", "1.0"],
     ["trace"], ["-s", "1"], ["--show", "trace", "more"], ["-"], [b"\xff"], ["--seed", b"\xff"], ["--show", b"trace\xff"],
 )
 

@@ -44,7 +44,7 @@ def program(tables):
 def told(tables, must=CHAIN_OF_FIVE):
     """What is said of a program that writes these tables for the example, or None."""
     try:
-        fuzz.check(program(tables), list(fuzz_tables.HEADERS), fuzz_scenarios.Case("worked", b"", 0, must, None))
+        fuzz.check(program(tables), set(fuzz_tables.HEADERS), fuzz_scenarios.Case("worked", b"", 0, must, None))
     except fuzz_tables.Wrong as wrong:
         return str(wrong)
     return None

@@ -1,12 +1,11 @@
 #!/usr/bin/env python3
 """Runs programs once for each allocation that they make, with that one refused.
 
-usage: tests/refuse_allocations.py [--program PROGRAM SCENARIO ..] [--tests PROGRAM ..] [--without TEST ..]
+usage: tests/refuse_allocations.py [--program PROGRAM SCENARIO ..] [--tests PROGRAM[:MODULE] ..]
 
---program: the simulator, on each of these scenarios, must end as it does with ample memory, or with the line that memory
-ran out on standard error, nothing on standard output, and status 1.
---tests: each test of a test program must pass, whichever of its allocations is refused.
---without: these tests are left out, since they make too many allocations.
+--program: the simulator, on each of these scenarios with each engine, must end as it does with ample memory, or with the line that
+memory ran out on standard error, nothing on standard output, and status 1.
+--tests: each test of a test program, or of one of its modules, must pass, whichever of its allocations is refused.
 
 Needs a C compiler, `cc`. Prints a line for each scenario and test, and ends with status 1 where one of them failed.
 """
@@ -18,6 +17,7 @@ import sys
 import tempfile
 
 REFUSED = (1, b"", b"refused: no-memory\n")
+ENGINES = ("step", "window")
 
 
 def built(folder):
@@ -52,28 +52,29 @@ def each_refused(library, name, command, text, is_right):
     return not wrong
 
 
-def tests_of(program):
-    """The names of the tests of a test program."""
+def tests_of(program, module):
+    """The names of the tests of a test program, or of those in a module of it."""
     lines = subprocess.run([program, "--list"], capture_output=True, text=True, check=True).stdout.splitlines()
-    return [line.removesuffix(": test") for line in lines if line.endswith(": test")]
+    names = [line.removesuffix(": test") for line in lines if line.endswith(": test")]
+    return [name for name in names if not module or name.startswith(f"{module}::")]
 
 
 def main():
     parser = argparse.ArgumentParser(description=__doc__, formatter_class=argparse.RawDescriptionHelpFormatter)
     parser.add_argument("--program", nargs="+", default=[], metavar=("PROGRAM", "SCENARIO"))
-    parser.add_argument("--tests", nargs="+", default=[], metavar="PROGRAM")
-    parser.add_argument("--without", nargs="+", default=[], metavar="TEST")
+    parser.add_argument("--tests", nargs="+", default=[], metavar="PROGRAM[:MODULE]")
     options = parser.parse_args()
     right = True
     with tempfile.TemporaryDirectory() as folder:
         library = built(folder)
         for scenario in options.program[1:]:
             text = pathlib.Path(scenario).read_bytes()
-            command = options.program[:1]
-            ample = ended(library, command, text, 0)
-            right &= each_refused(library, scenario, command, text, lambda end: end in (ample, REFUSED))
-        for program in options.tests:
-            for test in [test for test in tests_of(program) if test not in options.without]:
+            for engine in ENGINES:
+                command = [*options.program[:1], "--engine", engine]
+                ample = ended(library, command, text, 0)
+                right &= each_refused(library, f"{scenario}, {engine}", command, text, lambda end: end in (ample, REFUSED))
+        for program, _, module in (named.partition(":") for named in options.tests):
+            for test in tests_of(program, module):
                 right &= each_refused(library, test, [program, test], b"", lambda end: end[0] == 0)
     sys.exit(0 if right else 1)
 

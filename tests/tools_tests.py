@@ -3,6 +3,7 @@
 import collections
 import pathlib
 import sys
+import tempfile
 import unittest
 from unittest import mock
 
@@ -103,6 +104,23 @@ class Gate(unittest.TestCase):
             lines = gate.table(running(spent), 70)
         self.assertEqual(lines[2].split(), ["low", "1:01", "0:05", "0:07", "1"])
         self.assertEqual((lines[-2].split(), lines[-1]), (["0:07", "low/first"], "all of it took 1:10"))
+
+    def test_a_proof_for_each_processor_only_where_there_is_memory_for_them(self):
+        self.assertEqual(gate.side_by_side({"HOME": "/"}, 4, 20_000_000_000), {"HOME": "/", "RT_JOBS": "4"})
+        self.assertEqual(gate.side_by_side({"HOME": "/"}, 4, 19_999_999_999), {"HOME": "/"})
+        self.assertEqual(gate.side_by_side({"RT_JOBS": "2"}, 4, 20_000_000_000), {"RT_JOBS": "2"})
+
+    def test_free_memory_is_below_the_limit_of_the_control_group(self):
+        with tempfile.TemporaryDirectory() as folder:
+            system = pathlib.Path(folder)
+            (system / "proc").mkdir()
+            (system / "proc/meminfo").write_text("MemTotal: 99 kB\nMemAvailable:    9 kB\n")
+            self.assertEqual(gate.free_memory(system), 9216)
+            (system / "sys/fs/cgroup").mkdir(parents=True)
+            (system / "sys/fs/cgroup/memory.stat").write_text("anon 1000\nfile 7000\n")
+            for limit, free in (("max", 9216), ("5000", 4000), ("99999", 9216)):
+                (system / "sys/fs/cgroup/memory.max").write_text(f"{limit}\n")
+                self.assertEqual(gate.free_memory(system), free)
 
 
 class Architecture(unittest.TestCase):

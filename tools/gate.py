@@ -7,6 +7,10 @@ Hands on all that `rt ci` prints, and keeps it in out/gate.log too. The table of
 more, stand before its last line, which is 'N passed, M failed'. With --edits it runs `rt must-fail CRATE ..` in its place: the
 must-fail edits of these crates alone. Where nothing failed, it then runs the command, which may use the programs that `rt ci` built,
 before that last line. Ends with the first status that is not 0. The environment's RT is the command to call in place of `rt`.
+
+`rt ci` begins a proof only where the most memory that it may take is free, so that a long one may wait for others, and processors
+stand idle. Where 5 GB are free for each processor, RT_JOBS is set to the number of processors, if the environment has none: so many
+proofs are then run side by side.
 """
 import argparse
 import os
@@ -22,6 +26,24 @@ TOP = pathlib.Path(__file__).resolve().parent.parent
 RT = os.environ.get("RT", "rt").split()
 LONGEST = 10
 REFUSALS = 20
+MOST_OF_A_PROOF = 5_000_000_000
+
+
+def free_memory(system=pathlib.Path("/")):
+    """The free memory in bytes, under the limit of the control group too."""
+    free = 1024 * int(re.search(r"^MemAvailable:\s+(\d+)", (system / "proc/meminfo").read_text(), re.M)[1])
+    group = system / "sys/fs/cgroup"
+    try:
+        limit, held = (group / "memory.max").read_text(), re.search(r"^anon (\d+)", (group / "memory.stat").read_text(), re.M)
+        return min(free, int(limit) - int(held[1]))
+    except (OSError, ValueError, TypeError):
+        return free
+
+
+def side_by_side(environment, processors, memory):
+    """The environment of `rt ci`, with the number of proofs to run side by side where there is memory for them all."""
+    jobs = {} if memory < processors * MOST_OF_A_PROOF else {"RT_JOBS": str(processors)}
+    return {**jobs, **environment}
 
 
 def edits_of(crate):
@@ -72,7 +94,9 @@ def main():
     log = TOP / "out" / "gate.log"
     log.parent.mkdir(exist_ok=True)
     began = time.monotonic()
-    running = watch.Watch(command, TOP, stdin=subprocess.DEVNULL, stdout=subprocess.PIPE, stderr=subprocess.STDOUT)
+    environment = side_by_side(os.environ, len(os.sched_getaffinity(0)), free_memory())
+    streams = {"stdin": subprocess.DEVNULL, "stdout": subprocess.PIPE, "stderr": subprocess.STDOUT}
+    running = watch.Watch(command, TOP, env=environment, **streams)
     last, refusals = "", []
     with open(log, "w", encoding="utf-8") as kept:
 

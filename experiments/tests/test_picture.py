@@ -57,7 +57,8 @@ def test_page_that_a_late_joiner_wants():
 
 @pytest.mark.parametrize("trace", TRACES, ids=lambda trace: trace.name.removesuffix(".trace.csv"))
 def test_each_example_has_a_picture(trace, capsys):
-    assert main([str(trace).replace(".trace.csv", ".toml"), str(trace)]) == 0
+    scenario = trace.with_name(trace.name.split(".")[0] + ".toml")  # NAME.trace.csv, or NAME.seed-N.trace.csv
+    assert main([str(scenario), str(trace)]) == 0
     ElementTree.fromstring(capsys.readouterr().out)
 
 

@@ -14,5 +14,3 @@ pub mod laws;
 mod pending;
 mod rows;
 pub mod script;
-#[cfg(test)]
-mod tests;

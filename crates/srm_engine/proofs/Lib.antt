@@ -6,6 +6,7 @@ pub mod NewPackets
 pub mod Hearing
 pub mod Opened
 pub mod PhaseLemmas
+pub mod StreamLemmas
 pub mod SeenLemmas
 pub mod Stepping
 pub mod LawProofs
@@ -25,6 +26,8 @@ pub mod WindowRows
 pub mod CellLists
 pub mod JobLemmas
 pub mod KMerging
+pub mod FixedParts
+pub mod Promises
 pub mod WindowedLemmas
 pub mod RunLemmas
 pub mod ScheduleLemmas

@@ -34,6 +34,9 @@ use Rattle.srm_engine.specs.Windows.{IsWidth, least_with}
 use Rattle.srm_engine.specs.WindowRuns.{OwnResult, AreOwnRuns, rows_in, cells_in, IsMerge, AreNewInTurn, IsWindow, jobs_of}
 use Rattle.srm_engine.specs.WindowChains.{IsNext, start_of, IsEndRule, width_rule, AreWindows, window_jobs}
 use Rattle.srm_engine.specs.Groups.{handed_jobs, least_among, AreCuts, AreGrouped, sizes, all_in, jobs_with, groups_of, lists_of, some_of}
+use Rattle.srm_engine.specs.declared.ends.Ends.{Ends}
+use Rattle.srm_engine.specs.declared.ends.Ends.TheVariants.{After, Promised}
+use Rattle.srm_engine.specs.Ends.{BeginsAt, HasWays, MayEnd, ends_rule}
 use Rattle.srm_engine.specs.Windowed.{IsCut, Holds, PassesShare, calls_of, TellsJobs, TellsWindow, TellsWindows, TellsWindowRun}
 use Rattle.srm_engine.proofs.CellLists.{from_seen, seen_from, few_groups}
 use Rattle.srm_engine.proofs.JobLemmas.{any_cell, are_jobs, may_advance, as_many_jobs, places_with, job_results, cuts_kept, joined_some, all_some}
@@ -45,7 +48,7 @@ use Rattle.srm_engine.proofs.Opened.{opening_is}
 use Rattle.srm_engine.proofs.WindowJobs.{jobs_run_all}
 use Rattle.srm_engine.proofs.WindowRows.{own_rows_are_sorted}
 use Rattle.srm_engine.proofs.WindowPackets.{window_packets_are_new}
-use Rattle.srm_engine.proofs.WindowEnds.{widths_are_rules, starts_tell}
+use Rattle.srm_engine.proofs.WindowEnds.{widths_are_rules, promises_are_a_rule, starts_tell}
 use Rattle.srm_engine.proofs.WindowChain.{windows_are_reached, windows_follow, refused_windows_meet_full, calls_follow}
 
 -- ---- the least next time
@@ -205,20 +208,31 @@ module _ {C X : Type 0} {H : X → Type 0} (handed : C → List (List cell.Plain
 
 -- ---- windows
 
-module _ (p : PlainScenario) (net : Network) (is : net ≡ network_of p) (accepted : IsAccepted p) (seed width : ℕ) (pos : 0 < width) (wide : IsWidth net width) where
+-- windows that end so follow a rule
+pub ends_are_rules : (p : PlainScenario) (net : Network) → net ≡ network_of p → IsAccepted p → (seed : ℕ) (ends : Ends) → MayEnd p net ends → IsEndRule (setting_of p net seed) (ends_rule (setting_of p net seed) ends)
+ends_are_rules p net is accepted seed (After n) may =
+    subst (λ (k : Network). IsEndRule (setting_of p k seed) (width_rule (setting_of p k seed) n)) (sym is) (widths_are_rules p seed n accepted may.0 (subst (λ (k : Network). IsWidth k n) is may.1))
+ends_are_rules p net is accepted seed (Promised ways) may =
+    promises_are_a_rule (setting_of p net seed) (subst (λ (k : Network). IsFit (setting_of p k seed)) (sym is) (settings_are_fit p seed accepted))
+
+has_ways : (p : PlainScenario) (net : Network) (seed : ℕ) (ends : Ends) → MayEnd p net ends → HasWays (setting_of p net seed) ends
+has_ways p net seed (After n) may = tt
+has_ways p net seed (Promised ways) may = may seed
+
+module _ {X : Type 0} {H : X → Type 0} (f : DynBox X Global H → Record) (p : PlainScenario) (net : Network) (is : net ≡ network_of p) (accepted : IsAccepted p) (seed : ℕ) (ends : Ends) (may : MayEnd p net ends) where
   abbrev pub s : Setting
   s = setting_of p net seed
 
   abbrev pub rule : World → ℕ
-  rule = width_rule s width
+  rule = ends_rule s ends
 
   fit : IsFit s
   fit = subst (λ (n : Network). IsFit (setting_of p n seed)) (sym is) (settings_are_fit p seed accepted)
 
   rule_is : IsEndRule s rule
-  rule_is = subst (λ (n : Network). IsEndRule (setting_of p n seed) (width_rule (setting_of p n seed) width)) (sym is) (widths_are_rules p seed width accepted pos (subst (λ (n : Network). IsWidth n width) is wide))
+  rule_is = ends_are_rules p net is accepted seed ends may
 
-  module _ (begins : List World) (w : World) (chain : AreWindows s rule begins w) (begin until end : ℕ) (at_min : begin ≡ min until (start_of s w)) (whole : until ≡ p.until) (early : begin < until) (ends : end ≡ min (begin + width) until) where
+  module _ (begins : List World) (w : World) (chain : AreWindows s rule begins w) (begin until : ℕ) (at_min : begin ≡ min until (start_of s w)) (whole : until ≡ p.until) (early : begin < until) (cut : ℕ) (cells : Grouped X H) (grouped : AreGrouped f cut cells.groups.items w.cells) where
     pub reached : IsReached s w
     reached = (windows_are_reached s rule begins w chain).0
 
@@ -228,37 +242,44 @@ module _ (p : PlainScenario) (net : Network) (is : net ≡ network_of p) (accept
     event : (e : Event) × IsNext s w e × (e.key.time ≡ start_of s w)
     event = (starts_tell s w).0 (let b = begin_is in omega arith)
 
-    pub end_is : end ≡ rule w
-    end_is = ends ∙ (λ i. min (begin_is i + width) (whole i))
+    pub begins_now : BeginsAt f s w ends cut cells begin until
+    begins_now = record { fit = fit; ways = has_ways p net seed ends may; reached = reached; grouped = grouped; begin_is = begin_is; until_is = whole }
 
-    pub safe : IsSafe s end w
-    safe = subst (λ n. IsSafe s n w) (sym end_is) (rule_is.safe w event.0 reached event.1)
+    module _ (end : ℕ) (told : (s : Setting) (w : World) → BeginsAt f s w ends cut cells begin until → end ≡ ends_rule s ends w) where
+      pub end_is : end ≡ rule w
+      end_is = told s w begins_now
 
-    pub follows : (v : World) → IsWindow s end w v → AreWindows s rule (begins ++ w ∷ []) v × (start_of s w < start_of s v)
-    follows v window = windows_follow s rule begins w v event.0 fit rule_is chain event.1 (subst (λ n. IsWindow s n w v) end_is window)
+      pub safe : IsSafe s end w
+      safe = subst (λ n. IsSafe s n w) (sym end_is) (rule_is.safe w event.0 reached event.1)
 
-    pub later : (v : World) (next : ℕ) → IsWindow s end w v → next ≡ min until (start_of s v) → begin < next
-    later v next window e =
-        let more = (follows v window).1 in
-        let b = begin_is in
-        omega (arith, e)
+      pub within : end ≤ until
+      within = let e = end_is in let a = rule_is.within w in omega (arith, e, whole)
 
-    pub call_more : (cut : ℕ) → calls_of rule cut (begins ++ w ∷ []) ≡ calls_of rule cut begins ++ handed_jobs 0 (jobs_of cut end w) ∷ []
-    call_more cut =
-        ap (map (handed_jobs 0)) ((calls_follow rule cut).1 begins w) ∙ map-append (handed_jobs 0) (window_jobs rule cut begins) (jobs_of cut (rule w) w ∷ [])
-        ∙ ap (λ n. calls_of rule cut begins ++ handed_jobs 0 (jobs_of cut n w) ∷ []) (sym end_is)
+      pub follows : (v : World) → IsWindow s end w v → AreWindows s rule (begins ++ w ∷ []) v × (start_of s w < start_of s v)
+      follows v window = windows_follow s rule begins w v event.0 fit rule_is chain event.1 (subst (λ n. IsWindow s n w v) end_is window)
 
-    meets : (m : ℕ) → HasNoResult end w m → RunMeetsFull s
-    meets m none = refused_windows_meet_full s rule begins w event.0 fit rule_is chain event.1 m (subst (λ n. HasNoResult n w m) end_is none)
+      pub later : (v : World) (next : ℕ) → IsWindow s end w v → next ≡ min until (start_of s v) → begin < next
+      later v next window e =
+          let more = (follows v window).1 in
+          let b = begin_is in
+          omega (arith, e)
 
-    module _ {C X : Type 0} {H : X → Type 0} (handed : C → List (List cell.PlainJob) → C → Type 0) (f : DynBox X Global H → Record) where
-      pub not_windowed : (l : LedgerView) (cut : ℕ) (first old : C) (x : RunFault) (new : C) → TellsWindow handed f s l cut end w old (Err x) new → TellsWindows handed f s l cut rule first (Err x) new
-      not_windowed l cut first old fault.NoMemory new h = tt
-      not_windowed l cut first old fault.CountFull new h = meets h.0 h.1
-      not_windowed l cut first old fault.ShareFull new h =
-          (begins, w, chain, subst (λ n. PassesShare s.traffic w.trace (handed_jobs 0 (jobs_of cut n w))) end_is h)
-      not_windowed l cut first old fault.BadCut new h = h
-      not_windowed l cut first old fault.BadWidth new h = h
+      pub call_more : calls_of rule cut (begins ++ w ∷ []) ≡ calls_of rule cut begins ++ handed_jobs 0 (jobs_of cut end w) ∷ []
+      call_more =
+          ap (map (handed_jobs 0)) ((calls_follow rule cut).1 begins w) ∙ map-append (handed_jobs 0) (window_jobs rule cut begins) (jobs_of cut (rule w) w ∷ [])
+          ∙ ap (λ n. calls_of rule cut begins ++ handed_jobs 0 (jobs_of cut n w) ∷ []) (sym end_is)
+
+      meets : (m : ℕ) → HasNoResult end w m → RunMeetsFull s
+      meets m none = refused_windows_meet_full s rule begins w event.0 fit rule_is chain event.1 m (subst (λ n. HasNoResult n w m) end_is none)
+
+      module _ {C : Type 0} (handed : C → List (List cell.PlainJob) → C → Type 0) where
+        pub not_windowed : (l : LedgerView) (first old : C) (x : RunFault) (new : C) → TellsWindow handed f s l cut end w old (Err x) new → TellsWindows handed f s l cut rule first (Err x) new
+        not_windowed l first old fault.NoMemory new h = tt
+        not_windowed l first old fault.CountFull new h = meets h.0 h.1
+        not_windowed l first old fault.ShareFull new h =
+            (begins, w, chain, subst (λ n. PassesShare s.traffic w.trace (handed_jobs 0 (jobs_of cut n w))) end_is h)
+        not_windowed l first old fault.BadCut new h = h
+        not_windowed l first old fault.BadWidth new h = h
 
 -- ---- the beginning of a run
 

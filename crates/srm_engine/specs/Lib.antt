@@ -18,3 +18,8 @@ pub mod Outcomes
 pub mod Totalled
 pub mod Groups
 pub mod Windowed
+pub mod Ends
+pub mod Sinks
+pub mod Kept
+pub mod KeptLaws
+pub mod Streams

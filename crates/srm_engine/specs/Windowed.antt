@@ -20,7 +20,7 @@ use Rattle.srm_engine.specs.declared.outcome.Outcome.{Outcome}
 use Rattle.srm_engine.specs.declared.window.Grouped.{Grouped}
 use Rattle.srm_engine.specs.World.{World, IsLast, IsOutcome, RunMeetsFull}
 use Rattle.srm_engine.specs.Schedules.{HasNoResult}
-use Rattle.srm_engine.specs.Windows.{IsWidth}
+use Rattle.srm_engine.specs.Windows.{IsWidth, promise_end}
 use Rattle.srm_engine.specs.WindowRuns.{OwnResult, AreOwnRuns, rows_in, cells_in, IsWindow, jobs_of}
 use Rattle.srm_engine.specs.WindowChains.{AreWindows, width_rule, least_width, window_jobs}
 use Rattle.srm_engine.specs.Openings.{HoldOpeningRecords}
@@ -36,11 +36,13 @@ IsCut cut = (0 < cut) × (cut ≤ 1024)
 abbrev pub MayBeWide : Network → Width → Type 0
 MayBeWide net (width.Ticks n) = (0 < n) × IsWidth net n
 MayBeWide net width.Least = Unit {0}
+MayBeWide net width.Promise = Unit {0}
 
 -- where the windows of a run end
 abbrev pub rule_of : Setting → Network → Width → World → ℕ
 rule_of s net (width.Ticks n) = width_rule s n
 rule_of s net width.Least = width_rule s (least_width s net)
+rule_of s net width.Promise = promise_end s
 
 -- ---- calls of a crew
 

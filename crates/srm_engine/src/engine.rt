@@ -1,13 +1,18 @@
 //! The sequential engine.
-ghost use Rattle.std.specs.Prelude.{◌≡◌, ℕ, IfOk, map};
+ghost use Rattle.std.specs.Prelude.{◌≡◌, ◌<◌, ◌+◌, ◌-◌, ◌^◌, ℕ, IfOk, MatchResult, map};
 ghost use Rattle.srm_scenario.specs.Plain.{network_of};
 ghost use Rattle.srm_engine.specs.Openings.{HoldOpeningRecords};
 ghost use Rattle.srm_engine.specs.Outcomes.{Runs};
 ghost use Rattle.srm_engine.specs.Engines.{IsSetUp, IsStillOf, MayStep, StepsOn, MaySendNow, Sends, MayDeliver, Delivers, IsOpened, OpensFrom};
+ghost use Rattle.srm_engine.specs.Sinks.{IsOpen};
+ghost use Rattle.srm_engine.specs.declared.sink.SinkFault.{SinkFault as AFault};
+ghost use Rattle.srm_engine.specs.Streams.{fault_of_sink, StandsAs, stopped_in, MayTake, TakesSteps, StreamsRows};
 
 use crate::arrival::arrival;
 use crate::cells::Cells;
 use crate::fault::{RunFault, run_fault};
+use crate::sink::RowSink;
+use crate::stream_fault::{StreamFault, stream_fault};
 use srm_cell::count::count;
 use srm_ledger::totals::Totals;
 use srm_member::member::Member;
@@ -16,6 +21,28 @@ use srm_net::net::Net;
 use srm_net::packet::Packet;
 use srm_scenario::scenario::Scenario;
 use std::alloc::{AllocError, Global};
+
+// How many rows are handed on at a time.
+const PIECE: usize = 256;
+
+// No run has so many pieces: 2^62 rows.
+const MOST_PIECES: u64 = 18_014_398_509_481_984;
+
+// Hands rows to a sink.
+fn hand<S: RowSink>(alloc: Global, sink: &mut S, rows: Vec<Row>) -> Result<(), StreamFault>
+    requires open { IsOpen (S.stage sink.old) }
+    requires failures { S.failures sink.old < 2 ^ 64 - 1 }
+    ensures device { S.same sink.old sink.new }
+    ensures stands { StandsAs result (S.stage sink.new) }
+    ensures failures { S.failures sink.new ≡ S.failures sink.old + stopped_in result }
+    ensures rows { MatchResult result (λ _. S.took sink.old rows.items sink.new)
+        (λ e. S.part sink.old rows.items sink.new × ((f : AFault) × (e ≡ fault_of_sink f))) }
+{
+    match sink.rows(alloc, rows) {
+        Ok(()) => Ok(()),
+        Err(fault) => Err(stream_fault(fault)),
+    }
+}
 
 /// A run of a scenario: the cells of all members, and the totals so far.
 #[derive(Drop)]
@@ -57,18 +84,68 @@ impl<'a> Engine<'a> {
         ensures same { IsStillOf self.old self.new }
         ensures trace { Runs (λ b. plain (b.vtable, b.value)) self.old result self.new }
     {
-        let mut trace = Vec::new(alloc);
-        loop {
+        self.steps(alloc, usize::MAX)
+    }
+
+    /// The same, and the rows are handed to a sink, in pieces: first none, and then all of them, in order.
+    pub(crate) fn stream<S: RowSink>(
+        &mut self,
+        alloc: Global,
+        sink: &mut S,
+    ) -> Result<(), StreamFault>
+        requires network { IsSetUp self.old }
+        requires opened { (seed : ℕ) × IsOpened (λ b. plain (b.vtable, b.value)) seed self.old }
+        requires open { IsOpen (S.stage sink.old) }
+        requires failures { S.failures sink.old < 2 ^ 64 - 1 }
+        ensures same { IsStillOf self.old self.new }
+        ensures device { S.same sink.old sink.new }
+        ensures stands { StandsAs result (S.stage sink.new) }
+        ensures failures { S.failures sink.new ≡ S.failures sink.old + stopped_in result }
+        ensures rows { StreamsRows S.took S.part (λ b. plain (b.vtable, b.value)) self.old sink.old result sink.new self.new }
+    {
+        if let Err(fault) = hand(alloc, sink, Vec::new(alloc)) {
+            return Err(fault);
+        }
+        let mut left = MOST_PIECES;
+        while left > 0 {
+            let rows = match self.steps(alloc, PIECE) {
+                Ok(rows) => rows,
+                Err(fault) => return Err(StreamFault::Run { fault }),
+            };
+            let is_last = rows.len() < PIECE;
+            if let Err(fault) = hand(alloc, sink, rows) {
+                return Err(fault);
+            }
+            if is_last {
+                return Ok(());
+            }
+            left -= 1;
+        }
+        Err(StreamFault::Run {
+            fault: RunFault::NoMemory,
+        })
+    }
+
+    /// Steps, one after the other, until nothing is pending before the end of the run, or there are so many rows.
+    pub(crate) fn steps(&mut self, alloc: Global, most: usize) -> Result<Vec<Row>, RunFault>
+        requires network { IsSetUp self.old }
+        requires known { MayTake (λ b. plain (b.vtable, b.value)) self.old }
+        ensures same { IsStillOf self.old self.new }
+        ensures steps { TakesSteps (λ b. plain (b.vtable, b.value)) most self.old result self.new }
+    {
+        let mut rows = Vec::new(alloc);
+        while rows.len() < most {
             match self.step(alloc) {
-                Ok(None) => return Ok(trace),
+                Ok(None) => return Ok(rows),
                 Ok(Some(row)) => {
-                    if trace.push(row).is_err() {
+                    if rows.push(row).is_err() {
                         return Err(RunFault::NoMemory);
                     }
                 }
                 Err(fault) => return Err(fault),
             }
         }
+        Ok(rows)
     }
 
     /// The step of the sequential run: the least pending event of all is taken, and its packet handed out.

@@ -3,10 +3,12 @@
 
 pub mod arrival;
 mod cells;
+mod ends;
 mod engine;
 pub mod fault;
 mod groups;
 mod handing;
+pub mod kept_rows;
 pub mod laws;
 pub mod laws_of_names;
 pub mod laws_of_packets;
@@ -14,7 +16,10 @@ pub mod laws_of_tables;
 pub mod laws_of_windows;
 pub mod next_times;
 pub mod outcome;
+pub mod sink;
 pub mod step_run;
+pub mod step_stream;
+pub mod stream_fault;
 pub mod width;
 mod window;
 pub mod window_run;

@@ -7,6 +7,9 @@ pub enum Width {
     Ticks(u64),
     /// The least delay of a link. Where there is no link, a window ends with the run.
     Least,
+    /// As wide as members promise: a member that is no listener sends nothing before its next event, and what it sends then takes at
+    /// least the way to the nearest other member. A window ends at the least sum of the two, or with the run.
+    Promise,
 }
 
 /// How a run is cut into windows, and windows into jobs.

@@ -1,18 +1,17 @@
 //! The run in windows.
-ghost use Rattle.std.specs.Prelude.{◌≡◌, ◌<◌, ◌≤◌, ◌^◌, ◌≢◌, ℕ, IfErr, MatchOption, map};
+ghost use Rattle.std.specs.Prelude.{◌≡◌, ◌<◌, ◌≤◌, ◌^◌, ◌≢◌, ℕ, IfErr, map};
 ghost use Rattle.srm_scenario.specs.Plain.{network_of};
-ghost use Rattle.srm_cell.specs.Setting.{setting_of};
 ghost use Rattle.srm_engine.specs.Openings.{HoldOpeningRecords};
-ghost use Rattle.srm_engine.specs.Windows.{IsWidth};
-ghost use Rattle.srm_engine.specs.WindowChains.{width_rule};
-ghost use Rattle.srm_engine.specs.Windowed.{IsCut, MayBeWide, rule_of, TellsAsked, RunsInWindows};
+ghost use Rattle.srm_engine.specs.Windowed.{IsCut, rule_of, TellsAsked, RunsInWindows};
+ghost use Rattle.srm_engine.specs.Ends.{ends_rule, MayEnd};
 
 use crate::cells::Cells;
+use crate::ends::Ends;
 use crate::fault::RunFault;
 use crate::groups::{flatten, group};
 use crate::next_times::NextTimes;
 use crate::outcome::Outcome;
-use crate::width::{Width, Windows};
+use crate::width::Windows;
 use crate::window::Grouped;
 use crate::windowed::windows;
 use srm_crew::crew::Crew;
@@ -22,28 +21,7 @@ use srm_net::net::Net;
 use srm_scenario::scenario::Scenario;
 use std::alloc::Global;
 
-// How many ticks windows are wide, if they may be so wide.
-fn ticks(scenario: &Scenario, net: &Net, width: Width) -> Option<u64>
-    requires network { net.now ≡ network_of scenario.now }
-    ensures { MatchOption result (¬ MayBeWide net.now width) (λ n. MayBeWide net.now width × (0 < n) × IsWidth net.now n
-        × ((seed : ℕ) → rule_of (setting_of scenario.now net.now seed) net.now width
-        ≡ width_rule (setting_of scenario.now net.now seed) n)) }
-{
-    let most = net.least_delay();
-    match width {
-        Width::Least => match most {
-            Some(delay) => Some(delay),
-            None => Some(scenario.until()),
-        },
-        Width::Ticks(0) => None,
-        Width::Ticks(ticks) => match most {
-            Some(delay) if ticks > delay => None,
-            _ => Some(ticks),
-        },
-    }
-}
-
-// The run in windows of so many ticks.
+// The run in windows that end so.
 fn run<C: Crew>(
     alloc: Global,
     scenario: &Scenario,
@@ -51,17 +29,17 @@ fn run<C: Crew>(
     members: Vec<Box<dyn Member>>,
     crew: &mut C,
     cut: usize,
-    width: u64,
+    ends: &Ends,
 ) -> Result<Outcome, RunFault>
     requires ready { C.ready crew.old }
     requires network { net.now ≡ network_of scenario.now }
     requires boxes { (seed : ℕ) × HoldOpeningRecords scenario.now net.now seed (map (λ b. plain b) members.items) }
     requires cut { IsCut cut }
-    requires width { (0 < width) × IsWidth net.now width }
+    requires ends { MayEnd scenario.now net.now ends.now }
     ensures ready { C.ready crew.new }
     ensures fault { IfErr result (λ e. (e ≢ RunFault.BadCut) × (e ≢ RunFault.BadWidth)) }
     ensures run { RunsInWindows C.handed scenario.now net.now (map (λ b. plain b) members.items)
-        (λ s. width_rule s width) cut crew.old result crew.new }
+        (λ s. ends_rule s ends.now) cut crew.old result crew.new }
 {
     let Ok((ledger, seat)) = Ledger::open(alloc, net.links().len()) else {
         return Err(RunFault::NoMemory);
@@ -74,7 +52,7 @@ fn run<C: Crew>(
         return Err(RunFault::NoMemory);
     };
     let cells = Grouped { groups, seat };
-    let (cells, trace) = match windows(alloc, scenario, net, &ledger, crew, cut, width, cells) {
+    let (cells, trace) = match windows(alloc, scenario, net, &ledger, crew, cut, ends, cells) {
         Ok(done) => done,
         Err(fault) => return Err(fault),
     };
@@ -129,9 +107,10 @@ pub fn window_run<C: Crew>(
     if asked.cut == 0 || asked.cut > 1024 {
         return Err(RunFault::BadCut);
     }
-    let Some(width) = ticks(scenario, net, asked.width) else {
-        return Err(RunFault::BadWidth);
+    let ends = match Ends::of(alloc, scenario, net, asked.width) {
+        Ok(ends) => ends,
+        Err(fault) => return Err(fault),
     };
     let cut = asked.cut as usize;
-    run(alloc, scenario, net, members, crew, cut, width)
+    run(alloc, scenario, net, members, crew, cut, &ends)
 }

@@ -1,13 +1,13 @@
 //! Windows one after the other.
-ghost use Rattle.std.specs.Prelude.{◌≡◌, ◌<◌, ◌≤◌, ◌+◌, ◌^◌, min, ℕ, length};
+ghost use Rattle.std.specs.Prelude.{◌≡◌, ◌<◌, ◌≤◌, ◌^◌, ℕ, length};
 ghost use Rattle.srm_scenario.specs.Plain.{network_of};
 ghost use Rattle.srm_scenario.specs.Accepted.{IsAccepted};
 ghost use Rattle.srm_cell.specs.Setting.{traffic_of, setting_of};
 ghost use Rattle.srm_engine.specs.World.{opening};
-ghost use Rattle.srm_engine.specs.Windows.{IsWidth};
-ghost use Rattle.srm_engine.specs.WindowChains.{width_rule};
+ghost use Rattle.srm_engine.specs.Ends.{ends_rule, MayEnd};
 ghost use Rattle.srm_engine.specs.Windowed.{IsCut, Holds, TellsWindows};
 
+use crate::ends::Ends;
 use crate::fault::RunFault;
 use crate::groups::least;
 use crate::window::{Grouped, window};
@@ -19,19 +19,7 @@ use srm_net::net::Net;
 use srm_scenario::scenario::Scenario;
 use std::alloc::Global;
 
-// When a window of this width ends.
-fn end(begin: u64, width: u64, until: u64) -> u64
-    requires { begin < until }
-    ensures { result ≡ min (begin + width) until }
-{
-    if until - begin <= width {
-        until
-    } else {
-        begin + width
-    }
-}
-
-/// Windows of a width, one after the other, until nothing is pending before the end of the run.
+/// Windows that end so, one after the other, until nothing is pending before the end of the run.
 pub(crate) fn windows<C: Crew>(
     alloc: Global,
     scenario: &Scenario,
@@ -39,14 +27,14 @@ pub(crate) fn windows<C: Crew>(
     ledger: &Ledger,
     crew: &mut C,
     cut: usize,
-    width: u64,
+    ends: &Ends,
     cells: Grouped,
 ) -> Result<(Grouped, Vec<Row>), RunFault>
     requires ready { C.ready crew.old }
     requires network { net.now ≡ network_of scenario.now }
     requires links { ledger.now.links ≡ length net.now.links }
     requires cut { IsCut cut }
-    requires width { (0 < width) × IsWidth net.now width }
+    requires ends { MayEnd scenario.now net.now ends.now }
     requires opened { (seed : ℕ) × Holds (λ b. (⟦<dyn Member as Member>⟧ b.vtable).plain b.value)
         (traffic_of scenario.now net.now) ledger.now cut cells (opening (setting_of scenario.now net.now seed)) }
     ensures ready { C.ready crew.new }
@@ -54,14 +42,14 @@ pub(crate) fn windows<C: Crew>(
         (traffic_of scenario.now net.now) ledger.now cut cells (opening (setting_of scenario.now net.now seed))
         → TellsWindows C.handed (λ b. (⟦<dyn Member as Member>⟧ b.vtable).plain b.value)
         (setting_of scenario.now net.now seed) ledger.now cut
-        (width_rule (setting_of scenario.now net.now seed) width) crew.old result crew.new }
+        (ends_rule (setting_of scenario.now net.now seed) ends.now) crew.old result crew.new }
 {
     let until = scenario.until();
     let mut trace = Vec::new(alloc);
     let mut cells = cells;
     let mut begin = least(cells.groups.as_slice(), until);
     while begin < until {
-        let end = end(begin, width, until);
+        let end = ends.end(&cells, cut, begin, until);
         let (next, rows) = match window(alloc, scenario, net, ledger, crew, cut, cells, end) {
             Ok(done) => done,
             Err(fault) => return Err(fault),

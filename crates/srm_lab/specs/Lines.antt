@@ -42,6 +42,9 @@ scenario_line scenario.NoMemory = codes "refused: no-memory"
 
 -- the line of a run that is refused
 abbrev pub lab_line : LabFault → List ℕ
+lab_line lab.BadCut = codes "refused: bad-cut"
+lab_line lab.BadWidth = codes "refused: bad-width"
+lab_line lab.ShareFull = codes "refused: share-full"
 lab_line lab.NoMemory = codes "refused: no-memory"
 lab_line lab.CountFull = codes "refused: count-full"
 lab_line (lab.WriteFault written) = codes "refused: write-fault " ++ decimal written

@@ -12,8 +12,7 @@ use Rattle.srm_report.specs.Losses.{losses_table}
 use Rattle.srm_report.specs.Members.{members_table}
 use Rattle.srm_report.specs.Trace.{trace_of_rows}
 use Rattle.srm_lab.specs.declared.fault.LabFault.{LabFault}
-use Rattle.srm_lab.specs.declared.fault.LabFault.TheVariants.{NoMemory, CountFull, WriteFault}
-use Rattle.srm_lab.specs.declared.options.Options.{Options}
+use Rattle.srm_lab.specs.declared.fault.LabFault.TheVariants.{BadCut, BadWidth, ShareFull, NoMemory, CountFull, WriteFault}
 use Rattle.srm_lab.specs.declared.options.Show.{Show}
 use Rattle.srm_lab.specs.declared.options.Show.TheVariants.{Trace, Members, Losses, Links}
 
@@ -25,22 +24,20 @@ shown Losses p net rows totals = losses_table net rows
 shown Links p net rows totals = links_table totals
 
 -- the report of a run of a scenario on its network that ended in this world: its totals are the crossings of its packets
-abbrev pub report_of : Options → PlainScenario → Network → World → List ℕ
-report_of o p net w = shown o.show p net w.trace (crossings (traffic_of p net) w.trace)
+abbrev pub report_of : Show → PlainScenario → Network → World → List ℕ
+report_of show p net w = shown show p net w.trace (crossings (traffic_of p net) w.trace)
 
 -- the count of an outlet's failures after a report was written to it: one more exactly where the answer is that it failed
 abbrev pub failures_after : {T : Type 0} → Result T LabFault → ℕ → ℕ
-failures_after (Ok v) n = n
-failures_after (Err NoMemory) n = n
-failures_after (Err CountFull) n = n
 failures_after (Err (WriteFault written)) n = n + 1
+failures_after r n = n
 
--- what an outlet took of a report: all of it, or as many bytes as the fault tells; and nothing after another refusal
+-- what an outlet took of a report: all of it, or as many bytes as the fault tells; and nothing where memory ran out
 abbrev pub Writes : {T : Type 0} → Option (List ℕ) → Option (List ℕ) → List ℕ → Result T LabFault → Type 0
 Writes old new report (Ok v) = Appends old new report
 Writes old new report (Err NoMemory) = Keeps old new
-Writes old new report (Err CountFull) = Keeps old new
 Writes old new report (Err (WriteFault written)) = Appends old new (take written report) × (written < length report)
+Writes old new report (Err f) = ⊥
 
 -- the sequential run of a scenario on its network, with random words of this seed, ends in this world
 abbrev pub EndsIn : PlainScenario → Network → ℕ → World → Type 0
@@ -48,11 +45,12 @@ EndsIn p net seed w = IsLast (setting_of p net seed) w
 
 -- what an outlet took of the report of a scenario's sequential run: all of it, or as many bytes as the fault tells; and nothing after
 -- another refusal, of which CountFull says that the run meets a step for which the packet count is used up
-abbrev pub TellsReport : {T : Type 0} → PlainScenario → Network → ℕ → Options
+abbrev pub TellsReport : {T : Type 0} → PlainScenario → Network → ℕ → Show
     → Option (List ℕ) → Option (List ℕ) → Result T LabFault → Type 0
-TellsReport p net seed o old new (Ok v) = (w : World) × EndsIn p net seed w × Appends old new (report_of o p net w)
-TellsReport p net seed o old new (Err NoMemory) = Keeps old new
-TellsReport p net seed o old new (Err CountFull) = RunMeetsFull (setting_of p net seed) × Keeps old new
-TellsReport p net seed o old new (Err (WriteFault written)) =
+TellsReport p net seed show old new (Ok v) =
+    (w : World) × EndsIn p net seed w × Appends old new (report_of show p net w)
+TellsReport p net seed show old new (Err (WriteFault written)) =
     (w : World) × EndsIn p net seed w
-    × Appends old new (take written (report_of o p net w)) × (written < length (report_of o p net w))
+    × Appends old new (take written (report_of show p net w)) × (written < length (report_of show p net w))
+TellsReport p net seed show old new (Err CountFull) = RunMeetsFull (setting_of p net seed) × Keeps old new
+TellsReport p net seed show old new (Err f) = Keeps old new

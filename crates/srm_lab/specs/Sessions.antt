@@ -10,7 +10,8 @@ use Rattle.srm_lab.specs.declared.fault.LabFault.{LabFault}
 use Rattle.srm_lab.specs.declared.fault.Fault.{Fault}
 use Rattle.srm_lab.specs.declared.fault.Fault.TheVariants as fault
 use Rattle.srm_lab.specs.declared.options.Options.{Options}
-use Rattle.srm_lab.specs.Reports.{failures_after, TellsReport}
+use Rattle.srm_lab.specs.Reports.{failures_after}
+use Rattle.srm_lab.specs.Runs.{TellsRun}
 
 -- the count of an outlet's failures after a session: one more exactly where the answer is that it failed
 abbrev pub session_failures : {T : Type 0} → Result T Fault → ℕ → ℕ
@@ -23,9 +24,9 @@ session_failures (Err fault.NoMemory) n = n
 -- what an outlet took of the session of an accepted scenario: what its run tells, and nothing where memory ran out before
 abbrev pub TellsSession : {T : Type 0} → PlainScenario → Network → ℕ → Options
     → Option (List ℕ) → Option (List ℕ) → Result T Fault → Type 0
-TellsSession p net seed o old new (Ok v) = TellsReport p net seed o old new (let r : Result _ LabFault = Ok v in r)
+TellsSession p net seed o old new (Ok v) = TellsRun p net seed o old new (let r : Result _ LabFault = Ok v in r)
 TellsSession {T} p net seed o old new (Err (fault.Lab f)) =
-    TellsReport p net seed o old new (let r : Result T LabFault = Err f in r)
+    TellsRun p net seed o old new (let r : Result T LabFault = Err f in r)
 TellsSession p net seed o old new (Err (fault.Line f)) = ⊥
 TellsSession p net seed o old new (Err (fault.Scenario f)) = ⊥
 TellsSession p net seed o old new (Err fault.NoMemory) = Keeps old new
@@ -45,10 +46,10 @@ abbrev pub TellsText : {T : Type 0} → ℕ → Options → List ℕ
     → Option (List ℕ) → Option (List ℕ) → Result T Fault → Type 0
 TellsText seed o text old new (Ok v) =
     (p : PlainScenario) × (faults.scenario_of_text text ≡ Ok p)
-    × TellsReport p (network_of p) seed o old new (let r : Result _ LabFault = Ok v in r)
+    × TellsRun p (network_of p) seed o old new (let r : Result _ LabFault = Ok v in r)
 TellsText {T} seed o text old new (Err (fault.Lab f)) =
     (p : PlainScenario) × (faults.scenario_of_text text ≡ Ok p)
-    × TellsReport p (network_of p) seed o old new (let r : Result T LabFault = Err f in r)
+    × TellsRun p (network_of p) seed o old new (let r : Result T LabFault = Err f in r)
 TellsText seed o text old new (Err (fault.Line f)) = ⊥
 TellsText seed o text old new (Err (fault.Scenario f)) = faults.RefusesText f text × Keeps old new
 TellsText seed o text old new (Err fault.NoMemory) = Keeps old new

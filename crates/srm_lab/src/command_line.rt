@@ -1,13 +1,15 @@
 //! What the words of the command line ask for.
-ghost use Rattle.std.specs.Prelude.{◌≡◌, ◌<◌, ◌^◌, IfOk};
+ghost use Rattle.std.specs.Prelude.{IfOk};
 ghost use Rattle.clap.specs.Words.{kind_of};
 ghost use Rattle.srm_lab.specs.CommandLine.{TakesNumber, TellsKind};
+ghost use Rattle.srm_lab.specs.Program.{MayBeAsked};
 
 use crate::fault::LineFault;
-use crate::options::{Options, Show};
+use crate::options::{CrewKind, Engine, Options, Show};
 use clap::builder::ValueParser;
 use clap::error::ErrorKind;
 use clap::{Arg, ArgMatches, Command, Error};
+use srm_engine::width::Width;
 use std::alloc::{AllocError, Global};
 use std::convert::AsStr;
 
@@ -64,6 +66,46 @@ const SEED: OptionLine = OptionLine {
     },
 };
 
+const ENGINE: OptionLine = OptionLine {
+    name: "engine",
+    takes: "step|window",
+    default: "step",
+    about: "One event at a time, or windows of time; the table is the same",
+    reader: Reader::Text,
+};
+
+const CREW: OptionLine = OptionLine {
+    name: "crew",
+    takes: "plain|pool|bag",
+    default: "plain",
+    about: "Who works in a window: one thread, a pool of threads, or workers that share a bag of jobs",
+    reader: Reader::Text,
+};
+
+const WORKERS: OptionLine = OptionLine {
+    name: "workers",
+    takes: "1..=64",
+    default: "1",
+    about: "How many workers share the bag",
+    reader: Reader::Number { least: 1, most: 64 },
+};
+
+const CUT: OptionLine = OptionLine {
+    name: "cut",
+    takes: "N",
+    default: "1",
+    about: "How many members a job of a window has, 1 to 1024",
+    reader: Reader::Text,
+};
+
+const WIDTH: OptionLine = OptionLine {
+    name: "width",
+    takes: "least|promise|N",
+    default: "least",
+    about: "How wide windows are: the least delay of a link, as members promise, or so many ticks, from 1 to that delay",
+    reader: Reader::Text,
+};
+
 const SHOW: OptionLine = OptionLine {
     name: "show",
     takes: "trace|members|losses|links",
@@ -73,7 +115,20 @@ const SHOW: OptionLine = OptionLine {
 };
 
 /// The options, in the order in which help lists them.
-const OPTIONS: [OptionLine; 2] = [SEED, SHOW];
+const OPTIONS: [OptionLine; 7] = [SEED, ENGINE, CREW, WORKERS, CUT, WIDTH, SHOW];
+
+/// The words of `--engine`.
+const ENGINES: [(&str, Engine); 2] = [("step", Engine::Step), ("window", Engine::Window)];
+
+/// The words of `--crew`.
+const CREWS: [(&str, CrewKind); 3] = [
+    ("plain", CrewKind::Plain),
+    ("pool", CrewKind::Pool),
+    ("bag", CrewKind::Bag),
+];
+
+/// The words of `--width`, which takes a number besides.
+const WIDTHS: [(&str, Width); 2] = [("least", Width::Least), ("promise", Width::Promise)];
 
 /// The words of `--show`.
 const SHOWS: [(&str, Show); 4] = [
@@ -86,17 +141,23 @@ const SHOWS: [(&str, Show); 4] = [
 /// The seed and the options that the words of a command line ask for, of which the first is the program's name.
 ///
 /// # Errors
-/// The first of these, unless memory runs out: the words are refused by `clap`; the text of an option is none of its words. Where
-/// help or the version is asked for before `clap` meets a fault, the answer is its text.
+/// The first of these, unless memory runs out: the words are refused by `clap`; the text of an option is none of its words, and no
+/// number that it takes. Where help or the version is asked for before `clap` meets a fault, the answer is its text.
 pub fn options_of<S: AsStr>(alloc: Global, words: &[S]) -> Result<(u64, Options), LineFault>
-    ensures { IfOk result (λ asked. asked.0 < 2 ^ 63) }
+    ensures { IfOk result MayBeAsked }
 {
     let matches = match command(alloc)?.try_get_matches_from(words) {
         Ok(matches) => matches,
         Err(error) => return Err(fault_of(alloc, &error)),
     };
     let seed = number(&matches, SEED)?;
+    let workers = number(&matches, WORKERS)?;
     let options = Options {
+        engine: word(&matches, ENGINE, &ENGINES)?,
+        crew: word(&matches, CREW, &CREWS)?,
+        workers: workers as u8,
+        cut: cut(&matches)?,
+        width: width(&matches)?,
         show: word(&matches, SHOW, &SHOWS)?,
     };
     Ok((seed, options))
@@ -154,19 +215,57 @@ fn number(matches: &ArgMatches<'_>, option: OptionLine) -> Result<u64, LineFault
     }
 }
 
+// The text of an option.
+fn text<'a>(matches: &ArgMatches<'a>, option: OptionLine) -> Result<&'a str, LineFault> {
+    matches.get_str(option.name).ok_or(LineFault::BadWord)
+}
+
+// What a text stands for among these words, if it is one of them.
+fn meaning<T: Copy>(text: &str, words: &[(&'static str, T)]) -> Option<T> {
+    for (word, meaning) in words {
+        if *word == text {
+            return Some(*meaning);
+        }
+    }
+    None
+}
+
 // What the word of an option stands for.
 fn word<T: Copy>(
     matches: &ArgMatches<'_>,
     option: OptionLine,
     words: &[(&'static str, T)],
 ) -> Result<T, LineFault> {
-    let Some(text) = matches.get_str(option.name) else {
-        return Err(LineFault::BadWord);
-    };
-    for (word, meaning) in words {
-        if *word == text {
-            return Ok(*meaning);
-        }
+    match meaning(text(matches, option)?, words) {
+        Some(meaning) => Ok(meaning),
+        None => Err(LineFault::BadWord),
     }
-    Err(LineFault::BadWord)
+}
+
+// The number that a text of digits writes, if it is below 2^64.
+fn digits(text: &str) -> Result<u64, LineFault> {
+    if !text.bytes().all(|byte| byte.is_ascii_digit()) {
+        return Err(LineFault::BadWord);
+    }
+    match text.parse::<u64>() {
+        Ok(number) => Ok(number),
+        Err(_) => Err(LineFault::BadWord),
+    }
+}
+
+// How many members a job is to have.
+fn cut(matches: &ArgMatches<'_>) -> Result<u32, LineFault> {
+    match u32::try_from(digits(text(matches, CUT)?)?) {
+        Ok(cut) => Ok(cut),
+        Err(_) => Err(LineFault::BadWord),
+    }
+}
+
+// How wide windows are to be.
+fn width(matches: &ArgMatches<'_>) -> Result<Width, LineFault> {
+    let text = text(matches, WIDTH)?;
+    match meaning(text, &WIDTHS) {
+        Some(width) => Ok(width),
+        None => Ok(Width::Ticks(digits(text)?)),
+    }
 }

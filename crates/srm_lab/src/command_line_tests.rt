@@ -1,7 +1,9 @@
 //! What the words of a command line ask for, against the table of arguments in the document of formats.
 use crate::command_line::options_of;
 use crate::fault::LineFault;
-use crate::options::{Options, Show};
+use crate::options::{CrewKind, Engine, Options, Show};
+use crate::tests::PLAIN;
+use srm_engine::width::Width;
 use std::alloc::Global;
 use std::test::Fail;
 
@@ -35,9 +37,165 @@ fn words_ask_for_a_seed_and_a_table(rt: HostRuntime) -> Result<(), Fail> {
     ] {
         assert_eq!(rt;
             asked(rt.alloc(), words)?,
-            Ok((seed, Options { show })),
+            Ok((seed, Options { show, ..PLAIN })),
             "{words:?}"
         );
+    }
+    Ok(())
+}
+
+#[test]
+fn words_ask_for_an_engine_and_its_windows(rt: HostRuntime) -> Result<(), Fail> {
+    for (words, engine, crew, workers, cut, width) in [
+        (
+            [].as_slice(),
+            Engine::Step,
+            CrewKind::Plain,
+            1,
+            1,
+            Width::Least,
+        ),
+        (
+            &["--engine", "step"],
+            Engine::Step,
+            CrewKind::Plain,
+            1,
+            1,
+            Width::Least,
+        ),
+        (
+            &["--engine=window"],
+            Engine::Window,
+            CrewKind::Plain,
+            1,
+            1,
+            Width::Least,
+        ),
+        (
+            &["--crew", "plain"],
+            Engine::Step,
+            CrewKind::Plain,
+            1,
+            1,
+            Width::Least,
+        ),
+        (
+            &["--crew", "pool"],
+            Engine::Step,
+            CrewKind::Pool,
+            1,
+            1,
+            Width::Least,
+        ),
+        (
+            &["--crew", "bag"],
+            Engine::Step,
+            CrewKind::Bag,
+            1,
+            1,
+            Width::Least,
+        ),
+        (
+            &["--workers", "1"],
+            Engine::Step,
+            CrewKind::Plain,
+            1,
+            1,
+            Width::Least,
+        ),
+        (
+            &["--workers", "+64"],
+            Engine::Step,
+            CrewKind::Plain,
+            64,
+            1,
+            Width::Least,
+        ),
+        (
+            &["--cut", "0"],
+            Engine::Step,
+            CrewKind::Plain,
+            1,
+            0,
+            Width::Least,
+        ),
+        (
+            &["--cut", "0010"],
+            Engine::Step,
+            CrewKind::Plain,
+            1,
+            10,
+            Width::Least,
+        ),
+        (
+            &["--cut", "4294967295"],
+            Engine::Step,
+            CrewKind::Plain,
+            1,
+            4_294_967_295,
+            Width::Least,
+        ),
+        (
+            &["--width", "promise"],
+            Engine::Step,
+            CrewKind::Plain,
+            1,
+            1,
+            Width::Promise,
+        ),
+        (
+            &["--width", "0"],
+            Engine::Step,
+            CrewKind::Plain,
+            1,
+            1,
+            Width::Ticks(0),
+        ),
+        (
+            &["--width=0007"],
+            Engine::Step,
+            CrewKind::Plain,
+            1,
+            1,
+            Width::Ticks(7),
+        ),
+        (
+            &["--width", "18446744073709551615"],
+            Engine::Step,
+            CrewKind::Plain,
+            1,
+            1,
+            Width::Ticks(18_446_744_073_709_551_615),
+        ),
+        (
+            &[
+                "--width",
+                "5",
+                "--cut",
+                "3",
+                "--workers",
+                "2",
+                "--crew",
+                "bag",
+                "--engine",
+                "window",
+            ],
+            Engine::Window,
+            CrewKind::Bag,
+            2,
+            3,
+            Width::Ticks(5),
+        ),
+    ] {
+        let options = Options {
+            engine,
+            crew,
+            workers,
+            cut,
+            width,
+            ..PLAIN
+        };
+        assert_eq!(rt; asked(rt.alloc(), words)?, Ok((0, options)), "{words:?}");
     }
     Ok(())
 }
@@ -55,6 +213,9 @@ fn words_that_clap_refuses_are_one_fault(rt: HostRuntime) -> Result<(), Fail> {
         &["--seed", "1", "--seed", "2"],
         &["--show", "trace", "--show", "trace"],
         &["--workers", "65"],
+        &["--workers", "0"],
+        &["--workers", "two"],
+        &["--cut", "1", "--cut", "1"],
         &["--see", "1"],
         &["-s"],
         &["scenario.toml"],
@@ -80,6 +241,16 @@ fn a_text_that_is_no_word_of_its_option_is_refused(rt: HostRuntime) -> Result<()
         &["--show", "trace "],
         &["--show", ""],
         &["--show=tracelinks"],
+        &["--engine", "windows"],
+        &["--engine", ""],
+        &["--crew", "six"],
+        &["--cut", "+1"],
+        &["--cut", ""],
+        &["--cut", "4294967296"],
+        &["--cut", "one"],
+        &["--width", "+1"],
+        &["--width", "18446744073709551616"],
+        &["--width", "Least"],
     ] {
         assert_eq!(rt;
             asked(rt.alloc(), words)?,
@@ -108,6 +279,16 @@ fn help_tells_each_option_with_what_it_takes(rt: HostRuntime) -> Result<(), Fail
         "Usage: srm_lab [OPTIONS]",
         "--seed <0..=9223372036854775807>",
         "[default: 0]",
+        "--engine <step|window>",
+        "[default: step]",
+        "--crew <plain|pool|bag>",
+        "[default: plain]",
+        "--workers <1..=64>",
+        "[default: 1]",
+        "--cut <N>",
+        "1 to 1024",
+        "--width <least|promise|N>",
+        "[default: least]",
         "--show <trace|members|losses|links>",
         "[default: trace]",
         "Exit status:\n  0 ",

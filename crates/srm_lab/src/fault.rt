@@ -7,6 +7,15 @@ use thiserror::Error;
 /// Why a run gave no report.
 #[derive(Clone, Copy, Debug, PartialEq, Eq, Error)]
 pub enum LabFault {
+    /// A job of the run in windows was to have no member, or more than 1,024.
+    #[error("a job is to have 1 to 1024 members")]
+    BadCut,
+    /// Windows were to be no tick wide, or wider than the least delay of a link.
+    #[error("windows are to be 1 tick wide or more, and no wider than the least delay of a link")]
+    BadWidth,
+    /// In the run in windows more packets crossed a link, or were dropped at it, than are counted: 2^47 of a kind.
+    #[error("more than 140737488355328 packets of a kind were counted at a link")]
+    ShareFull,
     /// Memory ran out.
     #[error("out of memory")]
     NoMemory,

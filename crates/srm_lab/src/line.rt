@@ -68,6 +68,9 @@ fn line_of_lab_fault(alloc: Global, fault: LabFault) -> Result<String, NoMemory>
     ensures { IfOk result (λ line. string_bytes line ≡ lab_line fault) }
 {
     let line = match fault {
+        LabFault::BadCut => String::from_str(alloc, "refused: bad-cut")?,
+        LabFault::BadWidth => String::from_str(alloc, "refused: bad-width")?,
+        LabFault::ShareFull => String::from_str(alloc, "refused: share-full")?,
         LabFault::NoMemory => String::from_str(alloc, "refused: no-memory")?,
         LabFault::CountFull => String::from_str(alloc, "refused: count-full")?,
         LabFault::WriteFault { written } => format!(in alloc; "refused: write-fault {written}")?,
@@ -131,6 +134,9 @@ mod tests {
             (Fault::Line(LineFault::BadWord), "command line refused"),
             (Fault::Line(help), ""),
             (Fault::Line(LineFault::NoMemory), "refused: no-memory"),
+            (Fault::Lab(LabFault::BadCut), "refused: bad-cut"),
+            (Fault::Lab(LabFault::BadWidth), "refused: bad-width"),
+            (Fault::Lab(LabFault::ShareFull), "refused: share-full"),
             (Fault::Lab(LabFault::NoMemory), "refused: no-memory"),
             (Fault::Lab(LabFault::CountFull), "refused: count-full"),
             (

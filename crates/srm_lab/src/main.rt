@@ -4,6 +4,8 @@
 mod command_line;
 #[cfg(test)]
 mod command_line_tests;
+#[cfg(test)]
+mod exits_tests;
 mod fault;
 mod line;
 mod members;
@@ -18,8 +20,6 @@ mod run;
 mod session;
 #[cfg(test)]
 mod tests;
-#[cfg(test)]
-mod totals_tests;
 
 use crate::program::program;
 use srm_report::outlet::WriteOutlet;
@@ -31,5 +31,5 @@ fn main(rt: HostRuntime) -> ExitCode {
     let mut outlet = WriteOutlet::new(rt.stdout());
     let mut errors = WriteOutlet::new(rt.stderr());
     let words = std::env::args(&rt);
-    ExitCode::from(program(rt.alloc(), words, &mut feed, &mut outlet, &mut errors))
+    ExitCode::from(program(&rt, rt.alloc(), words, &mut feed, &mut outlet, &mut errors))
 }

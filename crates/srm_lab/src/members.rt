@@ -1,6 +1,7 @@
 //! The members of a scenario, made by their roles.
 ghost use Rattle.std.specs.Prelude.{◌≡◌, ◌<◌, ◌-◌, ◌^◌};
 ghost use Rattle.srm_scenario.specs.Plain.{network_of};
+ghost use Rattle.srm_lab.specs.Runs.{MayShareBag};
 ghost use Rattle.srm_lab.specs.Sessions.{session_failures, TellsSession};
 
 use crate::fault::Fault;
@@ -16,12 +17,16 @@ use srm_roles::receiver::Receiver;
 use srm_roles::sender::Sender;
 use srm_scenario::scenario::Scenario;
 use std::alloc::Global;
+use std::marker::Sync;
+use std::sync::Wait;
+use std::thread::Threads;
 
 /// Makes a box for each member of a scenario by its role, with random words of this seed, runs them, and writes the report of the run.
 ///
 /// # Errors
 /// Memory runs out before the run, and nothing is written; or the run is refused, as [`run`] says.
-pub(crate) fn run_members<O: Outlet>(
+pub(crate) fn run_members<R: Threads + Wait + Sync, O: Outlet>(
+    rt: &R,
     alloc: Global,
     scenario: &Scenario,
     net: &Net,
@@ -30,6 +35,7 @@ pub(crate) fn run_members<O: Outlet>(
     outlet: &mut O,
 ) -> Result<(), Fault>
     requires network { net.now ≡ network_of scenario.now }
+    requires workers { MayShareBag options.workers }
     requires count { O.failures outlet.old < 2 ^ 64 - 1 }
     ensures failures { O.failures outlet.new ≡ session_failures result (O.failures outlet.old) }
     ensures report { TellsSession scenario.now net.now seed options
@@ -45,7 +51,7 @@ pub(crate) fn run_members<O: Outlet>(
         };
         members.push(member)?;
     }
-    match run(alloc, scenario, net, members, options, outlet) {
+    match run(rt, alloc, scenario, net, members, options, outlet) {
         Ok(()) => Ok(()),
         Err(fault) => Err(Fault::Lab(fault)),
     }

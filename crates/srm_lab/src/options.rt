@@ -1,4 +1,25 @@
 //! What the program is asked for.
+use srm_engine::width::Width;
+
+/// Which engine runs a scenario. The table is the same.
+#[derive(Clone, Copy, Debug, PartialEq, Eq)]
+pub enum Engine {
+    /// The earliest event of all members is taken each time.
+    Step,
+    /// In each window of time every member handles its own events.
+    Window,
+}
+
+/// Who works in a window.
+#[derive(Clone, Copy, Debug, PartialEq, Eq)]
+pub enum CrewKind {
+    /// One thread, one job after the other.
+    Plain,
+    /// The threads that `rayon` runs.
+    Pool,
+    /// Workers that take jobs from a bag.
+    Bag,
+}
 
 /// What is shown of a run.
 #[derive(Clone, Copy, Debug, PartialEq, Eq)]
@@ -16,6 +37,16 @@ pub enum Show {
 /// What the program is asked for.
 #[derive(Clone, Copy, Debug, PartialEq, Eq)]
 pub struct Options {
+    /// Which engine runs the scenario.
+    pub engine: Engine,
+    /// Who works in a window. The sequential engine does not look at it.
+    pub crew: CrewKind,
+    /// How many workers share a bag, 1 to 64. No other crew looks at it.
+    pub workers: u8,
+    /// How many members a job of a window has, 1 to 1,024. The sequential engine does not look at it.
+    pub cut: u32,
+    /// How wide windows are, in ticks. The sequential engine does not look at it.
+    pub width: Width,
     /// What is shown.
     pub show: Show,
 }

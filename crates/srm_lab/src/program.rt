@@ -5,7 +5,7 @@ ghost use Rattle.srm_scenario.specs.declared.bytes.TheConstants.{LONGEST_TEXT};
 ghost use Rattle.srm_lab.specs.declared.fault.LineFault.{LineFault};
 ghost use Rattle.srm_lab.specs.declared.options.Options.{Options};
 ghost use Rattle.srm_lab.specs.Lines.{line_of_fault};
-ghost use Rattle.srm_lab.specs.Program.{device, full_line, status_of_fault, Answers, CarriesOut, TakesFaultLine, TakesLine};
+ghost use Rattle.srm_lab.specs.Program.{device, full_line, status_of_fault, Answers, CarriesOut, MayBeAsked, TakesFaultLine, TakesLine};
 ghost use Rattle.srm_lab.specs.Sessions.{reading_failures, session_failures};
 
 use crate::command_line::options_of;
@@ -19,6 +19,9 @@ use srm_scenario::feed::Feed;
 use std::alloc::Global;
 use std::env::Args;
 use std::io;
+use std::marker::Sync;
+use std::sync::Wait;
+use std::thread::Threads;
 
 // The exit status where the command line is refused.
 const REFUSED_WORDS: u8 = 2;
@@ -26,7 +29,8 @@ const REFUSED_WORDS: u8 = 2;
 /// Does what the words ask for, the program's name first: reads a scenario from the feed and writes the report of its run to the
 /// outlet, or writes help there. A refusal is told as one line on the outlet for errors. Answers the exit status: 0 where all was
 /// written, 1 after a refusal, and 2 where the command line is refused. For help and a refused command line nothing is read.
-pub fn program<F: Feed, O: Outlet, E: Outlet>(
+pub fn program<R: Threads + Wait + Sync, F: Feed, O: Outlet, E: Outlet>(
+    rt: &R,
     alloc: Global,
     words: io::Result<Args>,
     feed: &mut F,
@@ -36,19 +40,19 @@ pub fn program<F: Feed, O: Outlet, E: Outlet>(
     requires feed { F.failures feed.old < 2 ^ 64 - 1 }
     requires outlet { O.failures outlet.old < 2 ^ 64 - 1 }
     requires errors { E.failures errors.old < 2 ^ 64 - 1 }
-    ensures { (asked : Result (ℕ × Options) LineFault) × IfOk asked (λ a. a.0 < 2 ^ 63)
+    ensures { (asked : Result (ℕ × Options) LineFault) × IfOk asked MayBeAsked
         × Answers asked
         (device (F.remaining feed.old) (F.remaining feed.new) (F.failures feed.old) (F.failures feed.new))
         (device (O.taken outlet.old) (O.taken outlet.new) (O.failures outlet.old) (O.failures outlet.new))
         (device (E.taken errors.old) (E.taken errors.new) (E.failures errors.old) (E.failures errors.new))
         result }
 {
-    answer(alloc, asked(alloc, words), feed, outlet, errors)
+    answer(rt, alloc, asked(alloc, words), feed, outlet, errors)
 }
 
 // What the words ask for. A word that is no text is refused.
 fn asked(alloc: Global, words: io::Result<Args>) -> Result<(u64, Options), LineFault>
-    ensures { IfOk result (λ a. a.0 < 2 ^ 63) }
+    ensures { IfOk result MayBeAsked }
 {
     match words {
         Ok(words) => {
@@ -62,13 +66,15 @@ fn asked(alloc: Global, words: io::Result<Args>) -> Result<(u64, Options), LineF
 
 /// Does what is asked for, and answers the exit status: 0 where all was written, 1 after a refusal, and 2 where the command line is
 /// refused. A refusal is told as one line on the outlet for errors, as far as that takes it.
-pub fn answer<F: Feed, O: Outlet, E: Outlet>(
+pub fn answer<R: Threads + Wait + Sync, F: Feed, O: Outlet, E: Outlet>(
+    rt: &R,
     alloc: Global,
     asked: Result<(u64, Options), LineFault>,
     feed: &mut F,
     outlet: &mut O,
     errors: &mut E,
 ) -> u8
+    requires asked { IfOk asked MayBeAsked }
     requires feed { F.failures feed.old < 2 ^ 64 - 1 }
     requires outlet { O.failures outlet.old < 2 ^ 64 - 1 }
     requires errors { E.failures errors.old < 2 ^ 64 - 1 }
@@ -78,7 +84,7 @@ pub fn answer<F: Feed, O: Outlet, E: Outlet>(
         (device (E.taken errors.old) (E.taken errors.new) (E.failures errors.old) (E.failures errors.new))
         result }
 {
-    match carry_out(alloc, asked, feed, outlet) {
+    match carry_out(rt, alloc, asked, feed, outlet) {
         Ok(()) => 0,
         Err(fault) => {
             tell(alloc, &fault, errors);
@@ -88,12 +94,14 @@ pub fn answer<F: Feed, O: Outlet, E: Outlet>(
 }
 
 // Runs what is asked for, or writes the help that is asked for.
-fn carry_out<F: Feed, O: Outlet>(
+fn carry_out<R: Threads + Wait + Sync, F: Feed, O: Outlet>(
+    rt: &R,
     alloc: Global,
     asked: Result<(u64, Options), LineFault>,
     feed: &mut F,
     outlet: &mut O,
 ) -> Result<(), Fault>
+    requires asked { IfOk asked MayBeAsked }
     requires feed { F.failures feed.old < 2 ^ 64 - 1 }
     requires outlet { O.failures outlet.old < 2 ^ 64 - 1 }
     ensures unread { IfErr asked (λ _. feed.new ≡ feed.old) }
@@ -104,7 +112,7 @@ fn carry_out<F: Feed, O: Outlet>(
         × CarriesOut asked given (O.taken outlet.old) (O.taken outlet.new) (F.remaining feed.new) result }
 {
     match asked {
-        Ok((seed, options)) => simulate(alloc, feed, seed, options, outlet),
+        Ok((seed, options)) => simulate(rt, alloc, feed, seed, options, outlet),
         Err(LineFault::Help { text }) => match write_out(outlet, text.as_bytes()) {
             Ok(()) => Ok(()),
             Err(WriteFault { written }) => Err(Fault::Lab(LabFault::WriteFault { written })),

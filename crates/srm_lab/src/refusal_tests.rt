@@ -1,18 +1,23 @@
 //! What is told of each scenario that is refused, over devices in memory.
 use crate::fault::{Fault, LabFault};
 use crate::line::line_of;
-use crate::options::{Options, Show};
-use crate::session::simulate;
+use crate::options::{Engine, Options};
+use crate::session::{simulate, simulate_text};
+use crate::tests::{PLAIN, example};
 use srm_cell::fault::CellFault;
 use srm_engine::fault::{RunFault, run_fault};
+use srm_engine::width::Width;
 use srm_report::outlet::WriteOutlet;
 use srm_scenario::fault::{Part, ScenarioFault};
 use srm_scenario::feed::ReadFeed;
 use std::alloc::Global;
 use std::io;
 use std::io::{ErrorKind, Read};
+use std::marker::Sync;
 use std::process::Abort;
+use std::sync::Wait;
 use std::test::Fail;
+use std::thread::Threads;
 
 // A device that fails.
 #[derive(Drop)]
@@ -25,8 +30,8 @@ impl Read for Broken {
 }
 
 // That what is read is refused with this fault and this line, and nothing is written.
-fn check<R: Read + Drop>(
-    rt: &impl Abort,
+fn check<R: Read + Drop, H: Abort + Threads + Wait + Sync>(
+    rt: &H,
     alloc: Global,
     reader: R,
     fault: ScenarioFault,
@@ -34,8 +39,7 @@ fn check<R: Read + Drop>(
 ) -> Result<(), Fail> {
     let mut feed = ReadFeed::new(reader);
     let mut outlet = WriteOutlet::new(Vec::new(alloc));
-    let options = Options { show: Show::Trace };
-    let refused = simulate(alloc, &mut feed, 0, options, &mut outlet);
+    let refused = simulate(rt, alloc, &mut feed, 0, PLAIN, &mut outlet);
     assert_eq!(rt; refused, Err(Fault::Scenario(fault)));
     assert_eq!(rt; outlet.into_inner().len(), 0, "{line}");
     let told = line_of(alloc, &Fault::Scenario(fault));
@@ -112,26 +116,41 @@ fn each_refused_text_gives_its_line_alone(rt: HostRuntime) -> Result<(), Fail> {
 }
 
 #[test]
-fn an_empty_text_lacks_its_keys(rt: HostRuntime) -> Result<(), Fail> {
-    let fault = ScenarioFault::BadKey {
-        part: Part::Top,
-        place: 0,
-    };
-    let line = "refused: bad-key top 0";
-    check(&rt, rt.alloc(), b"".as_slice(), fault, line)
-}
-
-#[test]
 fn a_text_of_one_byte_too_many_is_too_long(rt: HostRuntime) -> Result<(), Fail> {
     let text = Vec::from_elem(rt.alloc(), b' ', 1_048_577)?;
     let fault = ScenarioFault::TooLong;
     check(&rt, rt.alloc(), text.as_slice(), fault, "refused: too-long")
 }
 
+// The least delay of a link is one tick.
 #[test]
-fn a_feed_that_fails_is_no_scenario(rt: HostRuntime) -> Result<(), Fail> {
-    let fault = ScenarioFault::ReadFault;
-    check(&rt, rt.alloc(), Broken, fault, "refused: read-fault")
+fn a_run_in_windows_refuses_its_cut_before_its_width(rt: HostRuntime) -> Result<(), Fail> {
+    let chain = example("chain_of_five_one_loss")?.scenario.as_bytes();
+    for (cut, width, fault) in [
+        (0, Width::Least, LabFault::BadCut),
+        (0, Width::Ticks(0), LabFault::BadCut),
+        (1025, Width::Ticks(1), LabFault::BadCut),
+        (4_294_967_295, Width::Least, LabFault::BadCut),
+        (1024, Width::Ticks(0), LabFault::BadWidth),
+        (1, Width::Ticks(2), LabFault::BadWidth),
+        (
+            1,
+            Width::Ticks(18_446_744_073_709_551_615),
+            LabFault::BadWidth,
+        ),
+    ] {
+        let options = Options {
+            engine: Engine::Window,
+            cut,
+            width,
+            ..PLAIN
+        };
+        let mut outlet = WriteOutlet::new(Vec::new(rt.alloc()));
+        let refused = simulate_text(&rt, rt.alloc(), chain, 0, options, &mut outlet);
+        assert_eq!(rt; refused, Err(Fault::Lab(fault)), "{options:?}");
+        assert_eq!(rt; outlet.into_inner().len(), 0, "{options:?}");
+    }
+    Ok(())
 }
 
 #[test]

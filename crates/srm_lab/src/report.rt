@@ -1,10 +1,10 @@
 //! Writing the report of a run.
-ghost use Rattle.std.specs.Prelude.{◌≡◌, ◌≢◌, ◌<◌, ◌-◌, ◌^◌, length};
+ghost use Rattle.std.specs.Prelude.{◌≡◌, ◌<◌, ◌-◌, ◌^◌, length};
 ghost use Rattle.srm_member.specs.Orderly.{IsOrderly};
 ghost use Rattle.srm_lab.specs.Reports.{failures_after, shown, Writes};
 
 use crate::fault::LabFault;
-use crate::options::{Options, Show};
+use crate::options::Show;
 use srm_ledger::totals::Totals;
 use srm_member::row::Row;
 use srm_net::net::Net;
@@ -29,17 +29,16 @@ pub(crate) fn write_report<O: Outlet>(
     net: &Net,
     rows: &[Row],
     totals: &Totals,
-    options: Options,
+    show: Show,
     outlet: &mut O,
 ) -> Result<(), LabFault>
     requires rows { IsOrderly (length net.now.hosts) rows.now }
     requires count { O.failures outlet.old < 2 ^ 64 - 1 }
     ensures failures { O.failures outlet.new ≡ failures_after result (O.failures outlet.old) }
-    ensures run { result ≢ Err LabFault.CountFull }
     ensures taken { Writes (O.taken outlet.old) (O.taken outlet.new)
-        (shown options.show scenario.now net.now rows.now totals.now) result }
+        (shown show scenario.now net.now rows.now totals.now) result }
 {
-    let text = match options.show {
+    let text = match show {
         Show::Trace => trace_text(alloc, rows),
         Show::Members => members_text(alloc, scenario, rows),
         Show::Losses => losses_text(alloc, net, rows),

@@ -2,6 +2,7 @@
 ghost use Rattle.std.specs.Prelude.{◌≡◌, ◌<◌, ◌≤◌, ◌+◌, ◌-◌, ◌^◌, ℕ, List, length, IfSome};
 ghost use Rattle.std.specs.Io.KnownBytes.{Consumes};
 ghost use Rattle.srm_scenario.specs.declared.bytes.TheConstants.{LONGEST_TEXT};
+ghost use Rattle.srm_lab.specs.Runs.{MayShareBag};
 ghost use Rattle.srm_lab.specs.Sessions.{reading_failures, session_failures, ReadsToEnd, TellsFeed, TellsText};
 
 use crate::fault::Fault;
@@ -13,18 +14,23 @@ use srm_scenario::fault::ScenarioFault;
 use srm_scenario::feed::Feed;
 use srm_scenario::reading::scenario_of_text;
 use std::alloc::Global;
+use std::marker::Sync;
+use std::sync::Wait;
+use std::thread::Threads;
 
 /// Reads a text from a feed, and simulates it as [`simulate_text`] does.
 ///
 /// # Errors
 /// The feed failed or gives more than 1,048,576 bytes, and nothing is written; or what [`simulate_text`] answers.
-pub fn simulate<F: Feed, O: Outlet>(
+pub fn simulate<R: Threads + Wait + Sync, F: Feed, O: Outlet>(
+    rt: &R,
     alloc: Global,
     feed: &mut F,
     seed: u64,
     options: Options,
     outlet: &mut O,
 ) -> Result<(), Fault>
+    requires workers { MayShareBag options.workers }
     requires feed { F.failures feed.old < 2 ^ 64 - 1 }
     requires outlet { O.failures outlet.old < 2 ^ 64 - 1 }
     ensures read { F.failures feed.new ≡ reading_failures result (F.failures feed.old) }
@@ -45,7 +51,7 @@ pub fn simulate<F: Feed, O: Outlet>(
         Err(TextFault::TooLong) => return Err(Fault::Scenario(ScenarioFault::TooLong)),
         Err(TextFault::NoMemory) => return Err(Fault::NoMemory),
     };
-    simulate_text(alloc, &text, seed, options, outlet)
+    simulate_text(rt, alloc, &text, seed, options, outlet)
 }
 
 /// Makes the members of the scenario that a text describes with random words of this seed, runs them, and writes the report of the
@@ -53,14 +59,16 @@ pub fn simulate<F: Feed, O: Outlet>(
 ///
 /// # Errors
 /// The text is refused, and nothing is written; or the run is, as [`run`](crate::run::run) says; or memory runs out in between.
-pub fn simulate_text<O: Outlet>(
+pub fn simulate_text<R: Threads + Wait + Sync, O: Outlet>(
+    rt: &R,
     alloc: Global,
     text: &[u8],
     seed: u64,
     options: Options,
     outlet: &mut O,
 ) -> Result<(), Fault>
-    requires { O.failures outlet.old < 2 ^ 64 - 1 }
+    requires workers { MayShareBag options.workers }
+    requires count { O.failures outlet.old < 2 ^ 64 - 1 }
     // The count rises exactly where the answer is `WriteFault`, and then by one.
     ensures failures { O.failures outlet.new ≡ session_failures result (O.failures outlet.old) }
     ensures report { TellsText seed options text.now (O.taken outlet.old) (O.taken outlet.new) result }
@@ -72,5 +80,5 @@ pub fn simulate_text<O: Outlet>(
     let Ok(net) = scenario.net(alloc) else {
         return Err(Fault::NoMemory);
     };
-    run_members(alloc, &scenario, &net, seed, options, outlet)
+    run_members(rt, alloc, &scenario, &net, seed, options, outlet)
 }

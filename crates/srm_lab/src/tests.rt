@@ -1,14 +1,19 @@
 //! Whole scenarios from bytes to bytes, over devices in memory.
-use crate::fault::{Fault, LabFault};
-use crate::options::{Options, Show};
-use crate::session::simulate;
-use srm_examples::scenarios::{DRAWN_TIMERS, EXAMPLES, Example};
+ghost use Rattle.srm_lab.specs.Runs.{MayShareBag};
+
+use crate::fault::Fault;
+use crate::options::{CrewKind, Engine, Options, Show};
+use crate::session::simulate_text;
+use srm_engine::width::Width;
+use srm_examples::scenarios::{EXAMPLES, Example};
 use srm_report::outlet::WriteOutlet;
-use srm_scenario::feed::ReadFeed;
 use std::alloc::Global;
 use std::io;
 use std::io::{ErrorKind, Write};
+use std::marker::Sync;
+use std::sync::Wait;
 use std::test::Fail;
+use std::thread::Threads;
 
 // The example of this name.
 pub(crate) fn example(name: &str) -> Result<Example, Fail> {
@@ -16,36 +21,66 @@ pub(crate) fn example(name: &str) -> Result<Example, Fail> {
     Ok(*found.ok_or("no such example")?)
 }
 
-// What is written of a scenario text.
-fn written(alloc: Global, text: &str, seed: u64) -> Result<Vec<u8>, Fault> {
-    let mut feed = ReadFeed::new(text.as_bytes());
+// What the program is asked for where the command line has no words.
+pub(crate) const PLAIN: Options = Options {
+    engine: Engine::Step,
+    crew: CrewKind::Plain,
+    workers: 1,
+    cut: 1,
+    width: Width::Least,
+    show: Show::Trace,
+};
+
+// Engines, crews, numbers of workers, cuts and widths. A width of one tick is one for every scenario.
+const WAYS: [(Engine, CrewKind, u8, u32, Width); 9] = [
+    (Engine::Step, CrewKind::Plain, 1, 1, Width::Least),
+    (Engine::Step, CrewKind::Bag, 1, 0, Width::Ticks(0)),
+    (Engine::Window, CrewKind::Plain, 1, 1, Width::Least),
+    (Engine::Window, CrewKind::Plain, 1, 1024, Width::Ticks(1)),
+    (Engine::Window, CrewKind::Pool, 1, 3, Width::Ticks(1)),
+    (Engine::Window, CrewKind::Pool, 1, 1, Width::Least),
+    (Engine::Window, CrewKind::Bag, 1, 3, Width::Least),
+    (Engine::Window, CrewKind::Bag, 2, 1, Width::Ticks(1)),
+    (Engine::Window, CrewKind::Bag, 7, 1, Width::Least),
+];
+
+// What is written of a scenario text with the seed 0.
+fn written<R: Threads + Wait + Sync>(
+    rt: &R,
+    alloc: Global,
+    text: &str,
+    options: Options,
+) -> Result<Vec<u8>, Fault>
+    requires { MayShareBag options.workers }
+{
     let mut outlet = WriteOutlet::new(Vec::new(alloc));
-    let options = Options { show: Show::Trace };
-    simulate(alloc, &mut feed, seed, options, &mut outlet)?;
+    simulate_text(rt, alloc, text.as_bytes(), 0, options, &mut outlet)?;
     Ok(outlet.into_inner())
 }
 
 #[test]
-fn each_scenario_gives_its_trace(rt: HostRuntime) -> Result<(), Fail> {
-    for example in EXAMPLES {
-        let Ok(text) = written(rt.alloc(), example.scenario, 0) else {
-            return Err(Fail::from(example.name));
+fn each_scenario_gives_its_trace_in_each_way(rt: HostRuntime) -> Result<(), Fail> {
+    for (engine, crew, workers, cut, width) in WAYS {
+        assert!(rt; 1 <= workers && workers <= 64);
+        let options = Options {
+            engine,
+            crew,
+            workers,
+            cut,
+            width,
+            show: Show::Trace,
         };
-        assert!(rt;
-            text.as_slice() == example.trace.as_bytes(),
-            "{}",
-            example.name
-        );
+        for example in EXAMPLES {
+            let Ok(text) = written(&rt, rt.alloc(), example.scenario, options) else {
+                return Err(Fail::from(example.name));
+            };
+            assert!(rt;
+                text.as_slice() == example.trace.as_bytes(),
+                "{}: {options:?}",
+                example.name
+            );
+        }
     }
-    Ok(())
-}
-
-#[test]
-fn drawn_timers_follow_the_seed(rt: HostRuntime) -> Result<(), Fail> {
-    let Ok(text) = written(rt.alloc(), DRAWN_TIMERS.scenario, 42) else {
-        return Err(Fail::from("refused"));
-    };
-    assert!(rt; text.as_slice() == DRAWN_TIMERS.trace.as_bytes());
     Ok(())
 }
 
@@ -79,20 +114,4 @@ impl Write for Narrow {
     fn flush(&mut self) -> io::Result<()> {
         Ok(())
     }
-}
-
-#[test]
-fn an_outlet_that_fails_has_taken_the_front_of_the_trace(rt: HostRuntime) -> Result<(), Fail> {
-    let options = Options { show: Show::Trace };
-    let example = example("chain_of_five_one_loss")?;
-    let mut feed = ReadFeed::new(example.scenario.as_bytes());
-    let mut outlet = WriteOutlet::new(Narrow::new(rt.alloc(), 10));
-    let refused = simulate(rt.alloc(), &mut feed, 0, options, &mut outlet);
-    let fault = LabFault::WriteFault { written: 10 };
-    assert_eq!(rt; refused, Err(Fault::Lab(fault)));
-    assert_eq!(rt;
-        outlet.into_inner().taken.as_slice(),
-        b"time,membe".as_slice()
-    );
-    Ok(())
 }

@@ -7,7 +7,5 @@ pub mod laws;
 pub mod ledger;
 pub mod rule;
 pub mod seat;
-#[cfg(test)]
-mod tests;
 pub mod totals;
 mod words;

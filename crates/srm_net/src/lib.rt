@@ -16,7 +16,5 @@ pub mod role;
 pub mod sequence;
 mod sides;
 mod step;
-#[cfg(test)]
-mod tests;
 mod tree;
 mod ways;

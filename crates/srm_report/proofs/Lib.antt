@@ -5,5 +5,6 @@ pub mod CourseLemmas
 pub mod LinkLemmas
 pub mod LossLemmas
 pub mod MemberLemmas
+pub mod SinkLemmas
 pub mod TableLemmas
 pub mod TraceLemmas

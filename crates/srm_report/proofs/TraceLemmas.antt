@@ -5,7 +5,7 @@ use Rattle.std.proofs.lemmas.List.{take_more}
 use Rattle.std.proofs.lemmas.Grind.{flat_map-append}
 use Rattle.csv.specs.Writing.{default_writer, row_text}
 use Rattle.srm_member.specs.declared.row.Row.{Row}
-use Rattle.srm_report.specs.Trace.{trace_fields, trace_header, trace_line, trace_lines, trace_of_rows}
+use Rattle.srm_report.specs.Trace.{trace_fields, trace_line, trace_lines}
 
 -- the lines of one more row
 trace_lines-more : (rows : List Row) (i : ℕ) (r : Row) → i < length rows → r ≡ get_or rows i r
@@ -18,16 +18,15 @@ trace_lines-more rows i r h e =
     ∙ ap (λ q. trace_lines (take i rows) ++ trace_line q) (sym e)
 
 -- a text that grows by the line of the next row
-pub text-more : (rows : List Row) (i : ℕ) (r : Row) (old new : List ℕ) (fields : List (List ℕ)) → i < length rows → r ≡ get_or rows i r
-    → old ≡ trace_header ++ trace_lines (take i rows) → fields ≡ trace_fields r → new ≡ old ++ row_text default_writer fields
-    → new ≡ trace_header ++ trace_lines (take (i + 1) rows)
+pub text-more : (front : List ℕ) (rows : List Row) (i : ℕ) (r : Row) (old new : List ℕ) (fields : List (List ℕ)) → i < length rows → r ≡ get_or rows i r
+    → old ≡ front ++ trace_lines (take i rows) → fields ≡ trace_fields r → new ≡ old ++ row_text default_writer fields
+    → new ≡ front ++ trace_lines (take (i + 1) rows)
 unfolding trace_line
-text-more rows i r old new fields h e before is grown =
+text-more front rows i r old new fields h e before is grown =
     grown ∙ ap (λ f. old ++ row_text default_writer f) is ∙ ap (λ l. l ++ trace_line r) before
-    ∙ append_assoc trace_header (trace_lines (take i rows)) (trace_line r)
-    ∙ ap (λ l. trace_header ++ l) (sym (trace_lines-more rows i r h e))
+    ∙ append_assoc front (trace_lines (take i rows)) (trace_line r)
+    ∙ ap (λ l. front ++ l) (sym (trace_lines-more rows i r h e))
 
--- a text of all rows is the trace
-pub text-all : (rows : List Row) (i : ℕ) (text : List ℕ) → i ≡ length rows → text ≡ trace_header ++ trace_lines (take i rows) → text ≡ trace_of_rows rows
-unfolding trace_of_rows
-text-all rows i text whole is = is ∙ ap (λ n. trace_header ++ trace_lines (take n rows)) whole ∙ ap (λ l. trace_header ++ trace_lines l) (take-length rows)
+-- a text of all rows has their lines
+pub text-all : (front : List ℕ) (rows : List Row) (i : ℕ) (text : List ℕ) → i ≡ length rows → text ≡ front ++ trace_lines (take i rows) → text ≡ front ++ trace_lines rows
+text-all front rows i text whole is = is ∙ ap (λ n. front ++ trace_lines (take n rows)) whole ∙ ap (λ l. front ++ trace_lines l) (take-length rows)

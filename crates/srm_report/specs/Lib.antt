@@ -8,3 +8,5 @@ pub mod Members
 pub mod Rows
 pub mod Tables
 pub mod Trace
+pub mod TraceSinks
+pub mod SinkLaws

@@ -13,11 +13,7 @@ mod loss;
 pub mod losses;
 pub mod members;
 pub mod outlet;
-#[cfg(test)]
-mod outlet_tests;
-#[cfg(test)]
-mod table_tests;
-#[cfg(test)]
-mod tests;
+mod standing;
 pub mod trace;
+pub mod trace_sink;
 pub mod writing;

@@ -1,12 +1,13 @@
 //! The trace of a run as CSV.
 ghost use Rattle.std.specs.Prelude.{◌≡◌, [], ◌∷◌, ◌++◌, IfOk, OnOk};
 ghost use Rattle.csv.specs.Records.{fields_of, partial_of};
-ghost use Rattle.srm_report.specs.Trace.{cause_word, told_word, ref_text, sent_text, trace_fields, trace_of_rows};
+ghost use Rattle.srm_report.specs.Lines.{IsBetweenLines, lines_written};
+ghost use Rattle.srm_report.specs.Trace.{cause_word, told_word, ref_text, sent_text, trace_fields, trace_lines, trace_of_rows};
 
 use crate::fault::ReportFault;
 use crate::fields::{put_name, put_number, put_packet};
 use crate::lines::{start_lines, text_of, write_line};
-use csv::ByteRecord;
+use csv::{ByteRecord, Writer};
 use srm_member::row::{About, Row, Word};
 use srm_member::told::Told;
 use srm_net::packet::Packet;
@@ -35,14 +36,36 @@ pub fn trace_text(alloc: Global, rows: &[Row]) -> Result<Vec<u8>, ReportFault>
             b"time", b"member", b"cause", b"ref", b"result", b"lost", b"sent",
         ],
     )?;
+    put_rows(alloc, &mut writer, rows)?;
+    text_of(writer)
+}
+
+/// The lines of these rows, as they stand in the text of a trace: without a header.
+///
+/// # Errors
+/// Memory ran out.
+pub fn lines_text(alloc: Global, rows: &[Row]) -> Result<Vec<u8>, ReportFault>
+    ensures { IfOk result (λ text. text.items ≡ trace_lines rows.now) }
+{
+    let mut writer = Writer::from_writer(Vec::new(alloc));
+    put_rows(alloc, &mut writer, rows)?;
+    text_of(writer)
+}
+
+// Appends the lines of these rows.
+fn put_rows(alloc: Global, writer: &mut Writer<Vec<u8>>, rows: &[Row]) -> Result<(), ReportFault>
+    requires { IsBetweenLines writer.old }
+    ensures between { OnOk result (IsBetweenLines writer.new) }
+    ensures text { OnOk result (lines_written writer.new ≡ lines_written writer.old ++ trace_lines rows.now) }
+{
     let mut record = ByteRecord::new(alloc);
     let mut digits = String::new(alloc);
     for row in rows {
         record.clear();
         put_row(&mut record, &mut digits, row)?;
-        write_line(&mut writer, &record)?;
+        write_line(writer, &record)?;
     }
-    text_of(writer)
+    Ok(())
 }
 
 // Appends the fields of a row to an empty record. The digits are written in the text given for them.

@@ -8,8 +8,6 @@ mod elements;
 mod entry;
 pub mod fault;
 pub mod feed;
-#[cfg(test)]
-mod feed_tests;
 pub mod laws;
 mod listed;
 pub mod mark;
@@ -18,7 +16,5 @@ pub mod reading;
 pub mod scenario;
 pub mod script;
 mod table;
-#[cfg(test)]
-mod tests;
 mod top;
 pub mod topology;

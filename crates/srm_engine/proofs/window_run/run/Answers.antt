@@ -3,7 +3,7 @@ use Rattle.srm_ledger.specs.Seats.{whole_seat}
 use Rattle.srm_cell.specs.Setting.{setting_of}
 use Rattle.srm_cell.specs.Crossings.{crossings}
 use Rattle.srm_crew.proofs.Sums.{crossings_long}
-use Rattle.srm_engine.specs.WindowChains.{width_rule}
+use Rattle.srm_engine.specs.Ends.{ends_rule}
 use Rattle.srm_engine.specs.Seen.{AreCells}
 use Rattle.srm_engine.proofs.ExitsKept.{all_end}
 use Rattle.srm_engine.proofs.PhaseLemmas.{exits_are}
@@ -18,12 +18,12 @@ windows-requires-clause-opened g c =
 pub returns-in-Err-clause-fault : goal.returns-in-Err-clause-fault
 returns-in-Err-clause-fault g c =
     let b = c.requires.boxes in
-    not_asked g.C.Crew.handed (λ b. (goal.Member-dyn g (b.vtable, b.value)).plain b.value) (setting_of c.args.scenario.now c.args.net.now b.0) c.in-Ok.ledger c.args.cut (width_rule (setting_of c.args.scenario.now c.args.net.now b.0) c.args.width) c.args.crew.now c.in-Err.fault c.windows.new.crew
+    not_asked g.C.Crew.handed (λ b. (goal.Member-dyn g (b.vtable, b.value)).plain b.value) (setting_of c.args.scenario.now c.args.net.now b.0) c.in-Ok.ledger c.args.cut (ends_rule (setting_of c.args.scenario.now c.args.net.now b.0) c.args.ends.now) c.args.crew.now c.in-Err.fault c.windows.new.crew
     (c.in-Err.ensures.windows b.0 (opened (λ b. (goal.Member-dyn g (b.vtable, b.value)).plain b.value) (setting_of c.args.scenario.now c.args.net.now b.0) c.in-Ok.ledger c.args.cut (length c.args.net.now.links) (record { groups = c.in-Ok-group.groups; seat = c.in-Ok.seat }) c.in-Ok-open.cells.cells.items (c.in-Ok-open.ensures c.args.net.now b.0 b.1).cells c.in-Ok-group.ensures.same c.in-Ok-group.ensures.cuts (c.in-Ok.ensures.1 ∙ ap (λ n. whole_seat c.in-Ok.ledger.name n) (ap length c.links.ensures.links))))
 
 pub returns-in-Err-clause-run : goal.returns-in-Err-clause-run
 returns-in-Err-clause-run g c = λ seed h.
-    not_outcome g.C.Crew.handed (λ b. (goal.Member-dyn g (b.vtable, b.value)).plain b.value) (setting_of c.args.scenario.now c.args.net.now seed) c.in-Ok.ledger c.args.cut (width_rule (setting_of c.args.scenario.now c.args.net.now seed) c.args.width) c.args.crew.now c.in-Err.fault c.windows.new.crew
+    not_outcome g.C.Crew.handed (λ b. (goal.Member-dyn g (b.vtable, b.value)).plain b.value) (setting_of c.args.scenario.now c.args.net.now seed) c.in-Ok.ledger c.args.cut (ends_rule (setting_of c.args.scenario.now c.args.net.now seed) c.args.ends.now) c.args.crew.now c.in-Err.fault c.windows.new.crew
     (c.in-Err.ensures.windows seed (opened (λ b. (goal.Member-dyn g (b.vtable, b.value)).plain b.value) (setting_of c.args.scenario.now c.args.net.now seed) c.in-Ok.ledger c.args.cut (length c.args.net.now.links) (record { groups = c.in-Ok-group.groups; seat = c.in-Ok.seat }) c.in-Ok-open.cells.cells.items (c.in-Ok-open.ensures c.args.net.now seed h).cells c.in-Ok-group.ensures.same c.in-Ok-group.ensures.cuts (c.in-Ok.ensures.1 ∙ ap (λ n. whole_seat c.in-Ok.ledger.name n) (ap length c.links.ensures.links))))
 
 pub finish-requires : goal.finish-requires

@@ -1,7 +1,8 @@
 use Rattle.std.proofs.Common.{◌≡◌, ℕ, ◌-◌, List, min}
 use Rattle.srm_cell.specs.Setting.{setting_of, traffic_of}
 use Rattle.srm_engine.specs.World.{World, opening}
-use Rattle.srm_engine.specs.WindowChains.{AreWindows, start_of, width_rule}
+use Rattle.srm_engine.specs.WindowChains.{AreWindows, start_of}
+use Rattle.srm_engine.specs.Ends.{ends_rule}
 use Rattle.srm_engine.specs.Windowed.{Holds, calls_of}
 use Rattle.srm_engine.proofs.windowed.windows.Given as goal
 
@@ -9,10 +10,10 @@ abbrev pub invariant-loop-begin : goal.invariant-loop-begin
 invariant-loop-begin g l =
     g.C.Crew.ready l.crew
     × ((seed : ℕ) → Holds (λ b. (goal.Member-dyn g (b.vtable, b.value)).plain b.value) (traffic_of l.scenario l.net) l.ledger l.cut l.fn.cells (opening (setting_of l.scenario l.net seed))
-    → (begins : List World) × (w : World) × AreWindows (setting_of l.scenario l.net seed) (width_rule (setting_of l.scenario l.net seed) l.width) begins w
+    → (begins : List World) × (w : World) × AreWindows (setting_of l.scenario l.net seed) (ends_rule (setting_of l.scenario l.net seed) l.ends) begins w
     × (l.trace.items ≡ w.trace) × (l.begin ≡ min l.until (start_of (setting_of l.scenario l.net seed) w))
     × Holds (λ b. (goal.Member-dyn g (b.vtable, b.value)).plain b.value) (traffic_of l.scenario l.net) l.ledger l.cut l.cells w
-    × g.C.Crew.handed l.fn.crew (calls_of (width_rule (setting_of l.scenario l.net seed) l.width) l.cut begins) l.crew)
+    × g.C.Crew.handed l.fn.crew (calls_of (ends_rule (setting_of l.scenario l.net seed) l.ends) l.cut begins) l.crew)
 
 abbrev pub decreases-loop-begin : goal.decreases-loop-begin
 decreases-loop-begin g l = l.until - l.begin

@@ -9,7 +9,7 @@ use Rattle.srm_lab.proofs.members.run_members.Goals as goal
 use Rattle.srm_lab.proofs.members.run_members.Goals.{in-Sender+in_ok-new-in-Sender+in_ok-new-in-Sender-2, in-Receiver+in_ok-new-in-Receiver+in_ok-new-in-Receiver-2, in-Late+in_ok-new-in-Late+in_ok-new-in-Late-2, in-Listener+in_ok-new-in-Listener+in_ok-new-in-Listener-2}
 
 pub returns-in_err-push-clause-report : goal.returns-in_err-push-clause-report
-returns-in_err-push-clause-report g c = tells-nothing _ _ _ _ _ _ c.from_residual-in_err-push.ensures.1
+returns-in_err-push-clause-report g c = tells-nothing c.args.scenario.now c.args.net.now c.args.seed c.args.options _ _ c.from_residual-in_err-push.ensures.1
 
 pub loop-m-preserved : goal.loop-m-preserved
 loop-m-preserved g c =
@@ -37,4 +37,14 @@ loop-m-preserved g c =
 pub run-requires-clause-boxes : goal.run-requires-clause-boxes
 run-requires-clause-boxes g c =
     let whole : c.loop-m.m ≡ length c.args.scenario.now.members = omega (arith, c.members-m-end.ensures) in
-    (c.args.seed, c.loop-m.invariant ∙ ap (records_from c.args.scenario.now c.args.net.now c.args.seed 0) whole)
+    λ κs alive. (c.args.seed, c.loop-m.invariant ∙ ap (records_from c.args.scenario.now c.args.net.now c.args.seed 0) whole)
+
+pub returns-in-Ok-clause-report : goal.returns-in-Ok-clause-report
+returns-in-Ok-clause-report g c =
+    let whole : c.loop-m.m ≡ length c.args.scenario.now.members = omega (arith, c.members-m-end.ensures) in
+    c.in-Ok.ensures.report c.args.seed (c.loop-m.invariant ∙ ap (records_from c.args.scenario.now c.args.net.now c.args.seed 0) whole)
+
+pub returns-in-Err-clause-report : goal.returns-in-Err-clause-report
+returns-in-Err-clause-report g c =
+    let whole : c.loop-m.m ≡ length c.args.scenario.now.members = omega (arith, c.members-m-end.ensures) in
+    c.in-Err.ensures.report c.args.seed (c.loop-m.invariant ∙ ap (records_from c.args.scenario.now c.args.net.now c.args.seed 0) whole)

@@ -1,0 +1,389 @@
+//! The text of a trace, over rows written by hand, and writing it.
+use srm_member::row::{About, Row, Word};
+use srm_member::told::Told;
+use srm_net::key::Key;
+use srm_net::packet::{Body, Name, Packet, PacketId};
+use srm_net::sequence::Sequence;
+use srm_report::fault::ReportFault;
+use srm_report::outlet::WriteOutlet;
+use srm_report::trace::trace_text;
+use srm_report::writing::{WriteFault, write_out};
+use std::alloc::{AllocError, Global};
+use std::io;
+use std::io::{ErrorKind, Write};
+use std::test::Fail;
+
+// What a row is about.
+#[derive(Clone, Copy)]
+enum Of {
+    Nothing,
+    Name(Name),
+    // An arrival of a packet with this identity.
+    Packet(PacketId),
+}
+
+// Time, member, cause, what it is about, and result.
+type Event = (u64, u16, Word, Of, Told);
+
+const FIRST: Name = Name {
+    source: 0,
+    page: 0,
+    number: 0,
+};
+
+const GREATEST: Name = Name {
+    source: 255,
+    page: 65535,
+    number: 4095,
+};
+
+// Each word once, and the greatest numbers: an event, how many names were lost, the packet that was sent, and the line.
+const LINES: [(Event, usize, Option<PacketId>, &str); 18] = [
+    (
+        (0, 0, Word::Join, Of::Nothing, Told::Entered),
+        0,
+        None,
+        "0,0,join,-,in,0,-",
+    ),
+    (
+        (0, 0, Word::Draw, Of::Name(FIRST), Told::Sent),
+        0,
+        Some(PacketId {
+            sender: 0,
+            count: 0,
+        }),
+        "0,0,draw,0/0/0,sent,0,0:0",
+    ),
+    (
+        (
+            1,
+            1,
+            Word::Data,
+            Of::Packet(PacketId {
+                sender: 0,
+                count: 0,
+            }),
+            Told::Fresh,
+        ),
+        0,
+        None,
+        "1,1,data,0:0,fresh,0,-",
+    ),
+    (
+        (
+            12,
+            2,
+            Word::Data,
+            Of::Packet(PacketId {
+                sender: 0,
+                count: 1,
+            }),
+            Told::Fresh,
+        ),
+        1,
+        None,
+        "12,2,data,0:1,fresh,1,-",
+    ),
+    (
+        (14, 2, Word::Ask, Of::Name(FIRST), Told::Sent),
+        0,
+        Some(PacketId {
+            sender: 2,
+            count: 0,
+        }),
+        "14,2,ask,0/0/0,sent,0,2:0",
+    ),
+    (
+        (
+            15,
+            1,
+            Word::Request,
+            Of::Packet(PacketId {
+                sender: 2,
+                count: 0,
+            }),
+            Told::Plan,
+        ),
+        0,
+        None,
+        "15,1,request,2:0,plan,0,-",
+    ),
+    (
+        (
+            15,
+            3,
+            Word::Request,
+            Of::Packet(PacketId {
+                sender: 2,
+                count: 0,
+            }),
+            Told::Back,
+        ),
+        0,
+        None,
+        "15,3,request,2:0,back,0,-",
+    ),
+    (
+        (16, 1, Word::Answer, Of::Name(FIRST), Told::Sent),
+        0,
+        Some(PacketId {
+            sender: 1,
+            count: 0,
+        }),
+        "16,1,answer,0/0/0,sent,0,1:0",
+    ),
+    (
+        (
+            17,
+            0,
+            Word::Repair,
+            Of::Packet(PacketId {
+                sender: 1,
+                count: 0,
+            }),
+            Told::Again,
+        ),
+        0,
+        None,
+        "17,0,repair,1:0,again,0,-",
+    ),
+    (
+        (
+            17,
+            2,
+            Word::Repair,
+            Of::Packet(PacketId {
+                sender: 1,
+                count: 0,
+            }),
+            Told::Fixed,
+        ),
+        0,
+        None,
+        "17,2,repair,1:0,fixed,0,-",
+    ),
+    (
+        (
+            130,
+            0,
+            Word::Request,
+            Of::Packet(PacketId {
+                sender: 2,
+                count: 0,
+            }),
+            Told::Busy,
+        ),
+        0,
+        None,
+        "130,0,request,2:0,busy,0,-",
+    ),
+    (
+        (
+            130,
+            1,
+            Word::Request,
+            Of::Packet(PacketId {
+                sender: 3,
+                count: 0,
+            }),
+            Told::Hold,
+        ),
+        0,
+        None,
+        "130,1,request,3:0,hold,0,-",
+    ),
+    (
+        (
+            15,
+            0,
+            Word::Request,
+            Of::Packet(PacketId {
+                sender: 1,
+                count: 1,
+            }),
+            Told::Rest,
+        ),
+        0,
+        None,
+        "15,0,request,1:1,rest,0,-",
+    ),
+    (
+        (
+            13,
+            2,
+            Word::Request,
+            Of::Packet(PacketId {
+                sender: 1,
+                count: 0,
+            }),
+            Told::Skip,
+        ),
+        0,
+        None,
+        "13,2,request,1:0,skip,0,-",
+    ),
+    (
+        (
+            21,
+            1,
+            Word::Session,
+            Of::Packet(PacketId {
+                sender: 0,
+                count: 1,
+            }),
+            Told::Heard,
+        ),
+        1,
+        None,
+        "21,1,session,0:1,told,1,-",
+    ),
+    (
+        (59, 0, Word::Report, Of::Nothing, Told::Sent),
+        0,
+        Some(PacketId {
+            sender: 0,
+            count: 2,
+        }),
+        "59,0,report,-,sent,0,0:2",
+    ),
+    (
+        (1, 1, Word::Leave, Of::Nothing, Told::Parted),
+        0,
+        None,
+        "1,1,leave,-,out,0,-",
+    ),
+    (
+        (
+            1_099_511_627_775,
+            255,
+            Word::Ask,
+            Of::Name(GREATEST),
+            Told::Sent,
+        ),
+        12,
+        Some(PacketId {
+            sender: 255,
+            count: 281_474_976_710_655,
+        }),
+        "1099511627775,255,ask,255/65535/4095,sent,12,255:281474976710655",
+    ),
+];
+
+// A packet of this identity that asks for the first name.
+fn request(id: PacketId, sent: u64) -> Packet {
+    Packet {
+        id,
+        sent,
+        body: Body::Request { name: FIRST },
+    }
+}
+
+// A row that lost so many names, and may have sent a packet.
+fn row_of(
+    alloc: Global,
+    event: Event,
+    lost: usize,
+    sent: Option<PacketId>,
+) -> Result<Row, AllocError> {
+    let (time, member, cause, of, told) = event;
+    let about = match of {
+        Of::Nothing => About::Nothing,
+        Of::Name(name) => About::Named { name },
+        Of::Packet(id) => About::Of {
+            packet: request(id, 0),
+        },
+    };
+    let key = Key {
+        time,
+        member,
+        rank: 0,
+        a: 0,
+        b: 0,
+        c: 0,
+    };
+    Ok(Row {
+        key,
+        cause,
+        about,
+        told,
+        lost: Sequence::from_vec(Vec::from_elem(alloc, FIRST, lost)?),
+        sent: sent.map(|id| request(id, time)),
+    })
+}
+
+#[test]
+fn a_trace_has_its_header_and_a_line_for_each_row(rt: HostRuntime) -> Result<(), Fail> {
+    let mut rows = Vec::new(rt.alloc());
+    let mut want = String::from_str(rt.alloc(), "time,member,cause,ref,result,lost,sent\n")?;
+    let header = trace_text(rt.alloc(), rows.as_slice()).map_err(|_| "no header")?;
+    assert_eq!(rt; header.as_slice(), want.as_bytes());
+    for (event, lost, sent, line) in LINES {
+        rows.push(row_of(rt.alloc(), event, lost, sent)?)?;
+        want.push_str(line)?;
+        want.push_str("\n")?;
+    }
+    match trace_text(rt.alloc(), rows.as_slice()) {
+        Ok(text) => assert_eq!(rt; text.as_slice(), want.as_bytes()),
+        Err(ReportFault::NoMemory) => return Err(Fail::from("no memory")),
+    }
+    Ok(())
+}
+
+// Takes at most three bytes at a time, as long as it has room, and then fails, or takes nothing.
+#[derive(Drop)]
+struct Narrow {
+    taken: Vec<u8>,
+    room: usize,
+    fails: bool,
+}
+
+impl Write for Narrow {
+    fn write(&mut self, piece: &[u8]) -> io::Result<usize> {
+        let count = piece.len().min(self.room).min(3);
+        if count == 0 && self.fails {
+            return Err(io::Error::from(ErrorKind::Other));
+        }
+        self.taken.extend_from_slice(&piece[..count])?;
+        self.room -= count;
+        Ok(count)
+    }
+
+    fn flush(&mut self) -> io::Result<()> {
+        Ok(())
+    }
+}
+
+#[test]
+fn writing_stops_where_the_writer_does(rt: HostRuntime) -> Result<(), Fail> {
+    let text = b"time,member,cause";
+    for (room, fails, taken, want) in [
+        (10, true, &text[..10], Err(WriteFault { written: 10 })),
+        (10, false, &text[..10], Err(WriteFault { written: 10 })),
+        (0, true, &text[..0], Err(WriteFault { written: 0 })),
+        (17, true, &text[..], Ok(())),
+        (99, false, &text[..], Ok(())),
+    ] {
+        let mut outlet = WriteOutlet::new(Narrow {
+            taken: Vec::new(rt.alloc()),
+            room,
+            fails,
+        });
+        assert_eq!(rt; write_out(&mut outlet, text), want, "with room for {room}");
+        assert_eq!(rt;
+            outlet.into_inner().taken.as_slice(),
+            taken,
+            "with room for {room}"
+        );
+    }
+    Ok(())
+}
+
+#[test]
+fn an_empty_text_asks_nothing_of_the_writer(rt: HostRuntime) {
+    let mut outlet = WriteOutlet::new(Narrow {
+        taken: Vec::new(rt.alloc()),
+        room: 0,
+        fails: true,
+    });
+    assert_eq!(rt; write_out(&mut outlet, b""), Ok(()));
+}

@@ -1,0 +1,94 @@
+-- A member's fixed part stays the same in a run.
+use Rattle.std.proofs.Common.{◌≡◌, ℕ, zero, suc, ◌+◌, ◌^◌, Bool, true, false, cond, List, sym, ap, ◌∙◌, subst, inl, inr, Option, Some, None, slice_get, nat_lt, add-zero, zero-add}
+use Rattle.srm_net.specs.declared.packet.Packet.{Packet}
+use Rattle.srm_net.specs.declared.packet.Body.{Body}
+use Rattle.srm_member.specs.declared.cause.Cause.{Cause}
+use Rattle.srm_member.specs.declared.fixed.Fixed.{Fixed as FixedPart}
+use Rattle.srm_member.specs.declared.row.Row.{Row}
+use Rattle.srm_member.specs.Record.{Record, Active, Gone, fixed_part}
+use Rattle.srm_member.specs.React.{Reaction, react}
+use Rattle.srm_member.proofs.LawProofs.{same_fixed}
+use Rattle.srm_cell.specs.Setting.{Setting, IsFit, arrival_of}
+use Rattle.srm_cell.specs.Cells.{PlainCell, Event, Stepped, Full, Done, before, handle, hear, hear_at, next_event, opening_cell, sending_step, step_at}
+use Rattle.srm_cell.specs.OwnRuns.{told_to}
+use Rattle.srm_cell.proofs.Counts.{Taken, next_taken}
+use Rattle.srm_cell.proofs.Rising.{OnEvent, OnStep, before_on}
+use Rattle.srm_engine.specs.World.{World, least_event, opening, opening_cells, run, settled}
+use Rattle.srm_engine.specs.Ends.{KeepFixed}
+use Rattle.srm_engine.proofs.RunLemmas.{Seq, next, rest, shifted}
+use Rattle.srm_engine.proofs.Sequential.{each_after, run_seq, step_facts}
+
+same_some : {A : Type 0} (x y : A) → Some x ≡ Some y → x ≡ y
+same_some x y h = cc
+
+-- ---- a step
+
+abbrev Keeps : FixedPart → Stepped → Type 0
+Keeps f d = fixed_part d.cell.holds ≡ f
+
+kept_by : (f : FixedPart) (b : Bool) (d : Stepped) → Keeps f d → OnStep (Keeps f) (cond b (Done d) Full)
+kept_by f true d h = h
+kept_by f false d h = tt
+
+kept_sending : (f : FixedPart) (e : Event) (r : Reaction) (body : Option Body) → r.memory.fixed ≡ f
+    → OnStep (Keeps f) (sending_step e r body)
+kept_sending f e r None h = h
+kept_sending f e r (Some body) h = kept_by f (nat_lt e.rest.sent (2 ^ 48)) _ h
+
+kept_handle : (f : FixedPart) (e : Event) (holds : Record) (cause : Option Cause) → fixed_part holds ≡ f
+    → OnStep (Keeps f) (handle e holds cause)
+unfolding handle
+kept_handle f e (Active m) (Some cause) h = let r = react m e.key.time cause in kept_sending f e r r.answer.body
+    (same_fixed m e.key.time cause ∙ h)
+kept_handle f e (Active m) None h = h
+kept_handle f e (Gone g) cause h = tt
+
+kept_step : (f : FixedPart) (e : Event) → fixed_part e.rest.holds ≡ f → OnStep (Keeps f) (step_at (Some e))
+kept_step f e h = kept_handle f e e.rest.holds e.cause h
+
+rest_keeps : (f : FixedPart) (c : PlainCell) (e : Event) → Taken c e → fixed_part c.holds ≡ f → fixed_part e.rest.holds ≡ f
+rest_keeps f c e (inl h) s = ap fixed_part h.0 ∙ s
+rest_keeps f c e (inr h) s = ap (λ (b : PlainCell). fixed_part b.holds) h.0 ∙ s
+
+-- ---- a run
+
+module _ (s : Setting) (fit : IsFit s) where
+  heard_keeps : (p : Packet) (o : Option ℕ) (c : PlainCell) (f : FixedPart) → fixed_part c.holds ≡ f → fixed_part (hear_at p o c).holds ≡ f
+  heard_keeps p None c f h = h
+  heard_keeps p (Some at) c f h = h
+
+  told_keeps : (x : Option Packet) (m : ℕ) (c : PlainCell) (f : FixedPart) → fixed_part c.holds ≡ f
+      → fixed_part (told_to s.traffic x m c).holds ≡ f
+  unfolding hear
+  told_keeps None m c f h = h
+  told_keeps (Some p) m c f h = heard_keeps p (arrival_of s.traffic p m) c f h
+
+  kept_after : (cs : List PlainCell) (e : Event) (d : Stepped) → KeepFixed s cs → before s.traffic.until (least_event 0 cs) ≡ Some e
+      → step_at (Some e) ≡ Done d → KeepFixed s (settled s e.key.member d 0 cs)
+  kept_after cs e d kept h x =
+      let t = step_facts s fit s.traffic.until cs e d h x in
+      let m = e.key.member in
+      let taken = subst (OnEvent (Taken t.cell)) t.event (before_on (Taken t.cell) s.traffic.until (next_event m t.cell)
+      (next_taken m t.cell)) in
+      each_after s fit (λ j c. fixed_part c.holds ≡ s.fixed j) cs m d
+      (subst (OnStep (Keeps (s.fixed m))) x (kept_step (s.fixed m) e (rest_keeps (s.fixed m) t.cell e taken (kept m t.cell t.here))))
+      (λ j c g ne. told_keeps d.row.sent j c (s.fixed j) (kept j c g))
+
+  kept_seq : {cs ds : List PlainCell} {rows : List Row} → Seq s s.traffic.until cs rows ds → KeepFixed s cs → KeepFixed s ds
+  kept_seq rest kept = kept
+  kept_seq (next {cs = cs} {e = e} {d = d} h x more) kept = kept_seq more (kept_after cs e d kept h x)
+
+  opening_keeps : (n i j : ℕ) (c : PlainCell) → slice_get (opening_cells s n i) j ≡ Some c → fixed_part c.holds ≡ s.fixed (i + j)
+  unfolding opening_cells
+  opening_keeps zero i j c h = cc
+  opening_keeps (suc n) i zero c h = ap (λ (b : PlainCell). fixed_part b.holds) (sym (same_some (opening_cell s i) c h))
+      ∙ ap s.fixed (sym (add-zero i))
+  opening_keeps (suc n) i (suc j) c h = opening_keeps n (suc i) j c h ∙ ap s.fixed (sym (shifted i j))
+
+  kept_opening : KeepFixed s (opening s).cells
+  unfolding opening
+  kept_opening m c h = opening_keeps s.traffic.members 0 m c h ∙ ap s.fixed (zero-add m)
+
+  -- in each world of a run every cell keeps its member's fixed part
+  pub kept_reached : (n : ℕ) (w : World) → run s n (opening s) ≡ Done w → KeepFixed s w.cells
+  kept_reached n w h = kept_seq (run_seq s fit n (opening s) w h).1 kept_opening

@@ -1,0 +1,15 @@
+use Rattle.std.proofs.Common.{◌≡◌, ◌≤◌, ◌-◌, ◌++◌, ℕ, length, vec_len}
+use Rattle.srm_engine.specs.World.{World, IsReached}
+use Rattle.srm_engine.specs.Engines.{IsStillOf, Shows, setting_in}
+use Rattle.srm_engine.proofs.engine.Engine.steps.Given as goal
+
+-- the rows so far lead from the world at the beginning to that in which the engine is
+abbrev pub invariant-loop-alloc : goal.invariant-loop-alloc
+invariant-loop-alloc g l =
+    IsStillOf l.fn.self l.self
+    × ((seed : ℕ) (w : World) → IsReached (setting_in l.fn.self seed) w → Shows (λ b. (goal.Member-dyn g (b.vtable, b.value)).plain b.value) l.fn.self w
+    → (v : World) × IsReached (setting_in l.fn.self seed) v × (v.trace ≡ w.trace ++ l.rows.items) × Shows (λ b. (goal.Member-dyn g (b.vtable, b.value)).plain b.value) l.self v)
+    × (length l.rows.items ≤ l.most)
+
+abbrev pub decreases-loop-alloc : goal.decreases-loop-alloc
+decreases-loop-alloc g l = l.most - vec_len l.rows

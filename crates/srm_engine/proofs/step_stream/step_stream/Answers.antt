@@ -1,0 +1,76 @@
+use Rattle.std.proofs.Common.{◌≡◌, List, [], Err, refl, sym, ◌∙◌, subst, append-nil}
+use Rattle.srm_member.specs.declared.row.Row.{Row}
+use Rattle.srm_cell.specs.Crossings.{packets_of}
+use Rattle.srm_cell.specs.Setting.{Setting, setting_of, traffic_of}
+use Rattle.srm_cell.specs.Totalled.{numbers_of}
+use Rattle.srm_engine.specs.declared.fault.RunFault.{RunFault}
+use Rattle.srm_engine.specs.World.{opening, IsReached, IsLast}
+use Rattle.srm_engine.specs.Engines.{setting_in, traffic_in}
+use Rattle.srm_engine.specs.Outcomes.{TellsRun}
+use Rattle.srm_engine.specs.Streams.{MeetsRefusal}
+use Rattle.srm_engine.proofs.ExitsKept.{all_end}
+use Rattle.srm_engine.proofs.Opened.{totals_are}
+use Rattle.srm_engine.proofs.PhaseLemmas.{exits_are}
+use Rattle.srm_engine.proofs.Stepping.{opening_reached, opening_trace}
+use Rattle.srm_engine.proofs.step_stream.step_stream.Goals as goal
+
+pub finish-requires : goal.finish-requires
+finish-requires g c =
+    let seed = c.requires.boxes.0 in
+    let t = (c.in_default.ensures.rows seed (c.in-Ok.ensures.opened seed c.requires.boxes.1)).0 in
+    record { ends = all_end _ (setting_in c.in-Ok.engine seed) c.stream.new.self.cells.cells.items t.0 t.1.reached t.3.seen.cells }
+
+pub returns-in-Err-clause-stream : goal.returns-in-Err-clause-stream
+returns-in-Err-clause-stream g c = λ seed h.
+    let s = setting_of c.args.scenario.now c.args.net.now seed in
+    (opening s, opening_reached s, subst (λ (l : List Row). g.S.RowSink.part c.args.sink.now l c.args.sink.now) (sym (opening_trace s)) (g.met.S.RowSink.part_none c.args.sink.now))
+
+pub returns-in-Err-stream-clause-stream : goal.returns-in-Err-stream-clause-stream
+returns-in-Err-stream-clause-stream g c = λ seed h.
+    let given = c.in-Ok.ensures.given in
+    let here : setting_in c.in-Ok.engine seed ≡ setting_of c.args.scenario.now c.args.net.now seed = λ k. setting_of (given.0 k) (given.1 k) seed in
+    let t = (c.in-Err-stream.ensures.rows seed (c.in-Ok.ensures.opened seed h)).0 in
+    (t.0, subst (λ (x : Setting). IsReached x t.0) here t.1, t.2)
+
+pub returns-in-Err-stream-clause-refused : goal.returns-in-Err-stream-clause-refused
+returns-in-Err-stream-clause-refused g c = λ seed h.
+    let given = c.in-Ok.ensures.given in
+    let here : setting_in c.in-Ok.engine seed ≡ setting_of c.args.scenario.now c.args.net.now seed = λ k. setting_of (given.0 k) (given.1 k) seed in
+    subst (λ (x : Setting). MeetsRefusal {A = Unit {0}} x (Err c.in-Err-stream.fault)) here (c.in-Err-stream.ensures.rows seed (c.in-Ok.ensures.opened seed h)).1
+
+pub returns-in-Err-finish-clause-stream : goal.returns-in-Err-finish-clause-stream
+returns-in-Err-finish-clause-stream g c = λ seed h.
+    let given = c.in-Ok.ensures.given in
+    let here : setting_in c.in-Ok.engine seed ≡ setting_of c.args.scenario.now c.args.net.now seed = λ k. setting_of (given.0 k) (given.1 k) seed in
+    let t = (c.in_default.ensures.rows seed (c.in-Ok.ensures.opened seed h)).0 in (
+      t.0,
+      subst (λ (x : Setting). IsReached x t.0) here t.1.reached,
+      subst (λ (l : List Row). g.S.RowSink.part c.args.sink.now l c.stream.new.sink) (append-nil t.0.trace)
+          (g.met.S.RowSink.part_more c.args.sink.now c.stream.new.sink c.stream.new.sink t.0.trace [] t.2 (g.met.S.RowSink.part_none c.stream.new.sink)),
+    )
+
+pub returns-in-Err-finish-clause-refused : goal.returns-in-Err-finish-clause-refused
+returns-in-Err-finish-clause-refused g c = λ seed h.
+    subst (λ (x : RunFault). TellsRun (setting_of c.args.scenario.now c.args.net.now seed) (Err x)) (sym c.in-Err-finish.ensures.fault) tt
+
+pub returns-in-Ok-finish-clause-stream : goal.returns-in-Ok-finish-clause-stream
+returns-in-Ok-finish-clause-stream g c = λ seed h.
+    let s = setting_of c.args.scenario.now c.args.net.now seed in
+    let given = c.in-Ok.ensures.given in
+    let same = c.in_default.ensures.same in
+    let here : setting_in c.in-Ok.engine seed ≡ s = λ k. setting_of (given.0 k) (given.1 k) seed in
+    let t = (c.in_default.ensures.rows seed (c.in-Ok.ensures.opened seed h)).0 in
+    let packets = packets_of t.0.trace in
+    let kept : numbers_of (traffic_in c.stream.new.self) packets ≡ numbers_of (traffic_in c.in-Ok.engine) packets =
+    λ k. numbers_of (traffic_of (same.0 k).now (same.1 k).now) packets in
+    let its : numbers_of (traffic_in c.in-Ok.engine) packets ≡ numbers_of s.traffic packets = λ k. numbers_of (traffic_of (given.0 k) (given.1 k)) packets in (
+      t.0.trace,
+      record {
+        world = t.0;
+        last = subst (λ (x : Setting). IsLast x t.0) here t.1;
+        trace_is = refl;
+        exits_are = exits_are _ _ t.0 c.in-Ok-finish.exits.items t.3.seen.cells c.in-Ok-finish.ensures.exits;
+        totals_are = t.3.totals ∙ kept ∙ its ∙ totals_are s t.0;
+      },
+      t.2,
+    )

@@ -1,0 +1,21 @@
+-- Sinks in memory.
+use Rattle.std.specs.Prelude.{◌≡◌, List, ◌++◌}
+use Rattle.srm_member.specs.declared.row.Row.{Row}
+use Rattle.srm_engine.specs.declared.sink.Stage.{Stage}
+use Rattle.srm_engine.specs.declared.kept_rows.KeptRows.{KeptRows}
+
+-- the rows that a sink keeps
+abbrev pub rows_kept : KeptRows → List Row
+rows_kept k = k.rows.items
+
+-- where it stands
+abbrev pub stage_of_kept : KeptRows → Stage
+stage_of_kept k = k.stage
+
+-- it keeps these rows besides
+abbrev pub Keeps : KeptRows → List Row → KeptRows → Type 0
+Keeps a xs b = rows_kept b ≡ rows_kept a ++ xs
+
+-- it keeps a front of these rows besides
+abbrev pub KeepsFront : KeptRows → List Row → KeptRows → Type 0
+KeepsFront a xs b = (front rest : List Row) × (xs ≡ front ++ rest) × Keeps a front b

@@ -1,0 +1,63 @@
+//! The sequential run, its rows handed on as they come.
+ghost use Rattle.std.specs.Prelude.{◌≡◌, ◌<◌, ◌+◌, ◌-◌, ◌^◌, ℕ, map};
+ghost use Rattle.srm_scenario.specs.Plain.{network_of};
+ghost use Rattle.srm_engine.specs.Openings.{HoldOpeningRecords};
+ghost use Rattle.srm_engine.specs.Sinks.{IsOpen};
+ghost use Rattle.srm_engine.specs.Streams.{StandsAs, stopped_in, StreamsFrom, RefusedFrom};
+
+use crate::engine::Engine;
+use crate::fault::RunFault;
+use crate::sink::RowSink;
+use crate::stream_fault::StreamFault;
+use srm_ledger::totals::Totals;
+use srm_member::exit::Exit;
+use srm_member::member::Member;
+use srm_net::net::Net;
+use srm_scenario::scenario::Scenario;
+use std::alloc::Global;
+
+/// The sequential run of a scenario, as `step_run`'s, its rows handed to a sink as they come: first none, and then all of them, in
+/// order, some 256 at a time. So no more than these are in memory at once. What is answered are the exits of the members, in order
+/// of their numbers, and the crossings and drops of the trace's packets.
+///
+/// There is one box for each member, in order of their numbers, each holding its opening record for this scenario and one seed.
+///
+/// # Errors
+/// `Stopped` exactly where the device under the sink failed, with the number that the sink told; `Run` with `CountFull` only where the
+/// run comes to a member that is to send a packet with its packet count used up; else `Run` with `NoMemory`, also where the run would
+/// have more than 2^62 rows. The sink has then taken no more than a front of the trace. The boxes are gone.
+pub fn step_stream<S: RowSink>(
+    alloc: Global,
+    scenario: &Scenario,
+    net: &Net,
+    members: Vec<Box<dyn Member>>,
+    sink: &mut S,
+) -> Result<(Vec<Exit>, Totals), StreamFault>
+    requires network { net.now ≡ network_of scenario.now }
+    requires boxes { (seed : ℕ) × HoldOpeningRecords scenario.now net.now seed (map (λ b. plain b) members.items) }
+    requires open { IsOpen (S.stage sink.old) }
+    requires failures { S.failures sink.old < 2 ^ 64 - 1 }
+    ensures device { S.same sink.old sink.new }
+    ensures stands { StandsAs result (S.stage sink.new) }
+    ensures failures { S.failures sink.new ≡ S.failures sink.old + stopped_in result }
+    ensures stream { StreamsFrom S.took S.part scenario.now net.now (map (λ b. plain b) members.items)
+        sink.old result sink.new }
+    ensures refused { RefusedFrom scenario.now net.now (map (λ b. plain b) members.items) result }
+{
+    let mut engine = match Engine::open(alloc, scenario, net, members) {
+        Ok(engine) => engine,
+        Err(_) => {
+            return Err(StreamFault::Run {
+                fault: RunFault::NoMemory,
+            });
+        }
+    };
+    if let Err(fault) = engine.stream(alloc, sink) {
+        return Err(fault);
+    }
+    let Engine { cells, totals, .. } = engine;
+    match cells.finish(alloc) {
+        Ok(exits) => Ok((exits, totals)),
+        Err(fault) => Err(StreamFault::Run { fault }),
+    }
+}

@@ -1,5 +1,0 @@
-//! The calls with ample memory, and with each allocation refused in turn where these tests are run by themselves.
-mod stories;
-mod threads;
-mod totals;
-mod worked;

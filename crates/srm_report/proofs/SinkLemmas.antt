@@ -1,0 +1,39 @@
+-- What writing after what is gathered does to a sink.
+use Rattle.std.proofs.Common.{◌≡◌, ◌∙◌, ℕ, List, [], ◌++◌, Option, Result, Ok, Err, refl, ap, sym, subst, append-nil}
+use Rattle.std.specs.Result.{MatchResult}
+use Rattle.srm_member.specs.declared.row.Row.{Row}
+use Rattle.srm_engine.specs.declared.sink.SinkFault.{SinkFault}
+use Rattle.srm_engine.specs.declared.sink.SinkFault.TheVariants as fault
+use Rattle.srm_report.specs.declared.standing.Standing.{Standing}
+use Rattle.srm_report.specs.declared.trace_sink.TraceSink.{TraceSink}
+use Rattle.srm_report.specs.TraceSinks.{outlet_under, gathered_by, written_by, text_next, IsText, after_answer, TakesText, Wrote, PutsAll, PutsText, PutsRows, PutsPart, WritesThrough}
+use Rattle.srm_report.specs.SinkLaws.{all_more, front_more}
+
+-- after what was gathered is written, a text is
+pub written_after : {O A E : Type 0} (taken : O → Option (List ℕ)) (a b c : TraceSink O) (text : List ℕ) (r : Result A E)
+    → gathered_by b ≡ [] → gathered_by c ≡ gathered_by b → PutsAll taken a [] b
+    → TakesText taken (outlet_under b) (written_by b) text r (outlet_under c) (written_by c) → WritesThrough taken a text r c
+written_after taken a b c text (Ok v) none same h k =
+    all_more taken a b c [] text h (
+      text,
+      ap (λ (l : List ℕ). l ++ text) none ∙ sym (append-nil text) ∙ ap (λ (l : List ℕ). text ++ l) (sym (same ∙ none)),
+      record { bytes = k.0; counted = k.1 },
+    )
+written_after taken a b c text (Err e) none same h k =
+    front_more taken a b c [] text h (k.0, k.1, ap (λ (l : List ℕ). l ++ text) none ∙ k.2, record { bytes = k.3; counted = k.4 })
+
+-- where a sink stands has no part in what it wrote
+stood : {O : Type 0} (taken : O → Option (List ℕ)) (a b : TraceSink O) (out : List ℕ) (s : Standing) → Wrote taken a out b → Wrote taken a out (record b { standing = s })
+stood taken a b out s h = record { bytes = h.bytes; counted = h.counted }
+
+-- after the text of rows was put, and the sink stands as the answer says
+pub rows_put : {O A : Type 0} (taken : O → Option (List ℕ)) (a b : TraceSink O) (rows : List Row) (r : Result A SinkFault) (s : Standing)
+    → PutsText taken a (text_next a.standing rows) r b → s ≡ after_answer r
+    → MatchResult r (λ (_ : A). PutsRows taken a rows (record b { standing = s })) (λ (_ : SinkFault). PutsPart taken a rows (record b { standing = s }))
+rows_put taken a b rows (Ok v) s h e = (
+  text_next a.standing rows,
+  subst (λ (at : Standing). IsText a.standing at rows (text_next a.standing rows)) (sym e) refl,
+  (h.0, h.1, stood taken a b h.0 s h.2),
+)
+rows_put taken a b rows (Err fault.NoMemory) s h e = (h.0, h.1, h.2, stood taken a b h.0 s h.3)
+rows_put taken a b rows (Err (fault.Stopped n)) s h e = (h.0.0, h.0.1, h.0.2, stood taken a b h.0.0 s h.0.3)

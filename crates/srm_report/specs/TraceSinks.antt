@@ -1,0 +1,126 @@
+-- A trace that is written as its rows come.
+use Rattle.std.specs.Prelude.{◌≡◌, ℕ, ◌+◌, ◌-◌, ◌^◌, min, List, [], ◌++◌, length, Option, Result, Ok, Err}
+use Rattle.std.specs.Io.KnownBytes.{Appends}
+use Rattle.srm_member.specs.declared.row.Row.{Row}
+use Rattle.srm_engine.specs.declared.sink.SinkFault.{SinkFault}
+use Rattle.srm_engine.specs.declared.sink.SinkFault.TheVariants as fault
+use Rattle.srm_engine.specs.declared.sink.Stage.{Stage}
+use Rattle.srm_engine.specs.declared.sink.Stage.TheVariants as stage
+use Rattle.srm_report.specs.declared.standing.Standing.{Standing}
+use Rattle.srm_report.specs.declared.standing.Standing.TheVariants.{Fresh, Live, NoMemory, Stopped}
+use Rattle.srm_report.specs.declared.trace_sink.TraceSink.{TraceSink}
+use Rattle.srm_report.specs.declared.writing.WriteFault.{WriteFault}
+use Rattle.srm_report.specs.Trace.{trace_header, trace_lines}
+
+-- ---- text
+
+-- what comes before the rows that a sink takes next: the header, where it took none yet
+abbrev pub lead : Standing → List ℕ
+lead Fresh = trace_header
+lead Live = []
+lead NoMemory = []
+lead Stopped = []
+
+-- the text of the rows that a sink takes next
+abbrev pub text_next : Standing → List Row → List ℕ
+text_next at rows = lead at ++ trace_lines rows
+
+-- this is the text of all rows that a sink took between these two standings: none where it is still fresh
+abbrev pub IsText : Standing → Standing → List Row → List ℕ → Type 0
+IsText old Fresh rows text = (old ≡ Fresh) × (rows ≡ []) × (text ≡ [])
+IsText old Live rows text = text ≡ text_next old rows
+IsText old NoMemory rows text = text ≡ text_next old rows
+IsText old Stopped rows text = text ≡ text_next old rows
+
+-- where a sink stands after this answer
+abbrev pub after_answer : {A : Type 0} → Result A SinkFault → Standing
+after_answer (Ok v) = Live
+after_answer (Err fault.NoMemory) = NoMemory
+after_answer (Err (fault.Stopped n)) = Stopped
+
+-- ---- counts
+
+-- a count has grown by a number, and stays at 2^64 - 1 once there
+abbrev pub GrewBy : ℕ → ℕ → ℕ → Type 0
+GrewBy old n new = min new (2 ^ 64 - 1) ≡ min (old + n) (2 ^ 64 - 1)
+
+-- what is taken of a text: all of it, or else a front; and the bytes are counted
+abbrev pub TakesText : {O A E : Type 0} → (O → Option (List ℕ)) → O → ℕ → List ℕ → Result A E → O → ℕ → Type 0
+TakesText taken old n text (Ok v) new m = Appends (taken old) (taken new) text × GrewBy n (length text) m
+TakesText taken old n text (Err e) new m =
+    (out rest : List ℕ) × (text ≡ out ++ rest) × Appends (taken old) (taken new) out × GrewBy n (length out) m
+
+-- ---- sinks
+
+-- where a sink stands for its callers, which stands so and wrote so many bytes
+abbrev pub stage_at : Standing → ℕ → Stage
+stage_at Fresh n = stage.Fresh
+stage_at Live n = stage.Live
+stage_at NoMemory n = stage.Refused fault.NoMemory
+stage_at Stopped n = stage.Refused (fault.Stopped n)
+
+module _ {O : Type 0} where
+  abbrev pub stage_of : TraceSink O → Stage
+  stage_of s = stage_at s.standing s.written
+
+  abbrev pub standing_of : TraceSink O → Standing
+  standing_of s = s.standing
+
+  -- the outlet
+  abbrev pub outlet_under : TraceSink O → O
+  outlet_under s = s.outlet.now
+
+  -- what is still to be written
+  abbrev pub gathered_by : TraceSink O → List ℕ
+  gathered_by s = s.gathered.items
+
+  -- how many bytes the outlet took by the sink, up to 2^64 - 1
+  abbrev pub written_by : TraceSink O → ℕ
+  written_by s = s.written
+
+  -- both write to one outlet
+  abbrev pub AreOverOne : TraceSink O → TraceSink O → Type 0
+  AreOverOne a b = b.outlet.ghost_name ≡ a.outlet.ghost_name
+
+  module _ (taken : O → Option (List ℕ)) where
+    -- between these two values the outlet took these bytes, and they were counted
+    pub record Wrote (a : TraceSink O) (out : List ℕ) (b : TraceSink O) : Type 0 where
+      pub bytes : Appends (taken (outlet_under a)) (taken (outlet_under b)) out
+      pub counted : GrewBy (written_by a) (length out) (written_by b)
+
+    -- this text was put between these two values: the outlet took what was gathered and the text, but for what is gathered now
+    abbrev pub PutsAll : TraceSink O → List ℕ → TraceSink O → Type 0
+    PutsAll a text b = (out : List ℕ) × (gathered_by a ++ text ≡ out ++ gathered_by b) × Wrote a out b
+
+    -- no more than a front of what was gathered and this text was taken
+    abbrev pub PutsFront : TraceSink O → List ℕ → TraceSink O → Type 0
+    PutsFront a text b = (out rest : List ℕ) × (gathered_by a ++ text ≡ out ++ rest) × Wrote a out b
+
+    -- the text of exactly these rows was put
+    abbrev pub PutsRows : TraceSink O → List Row → TraceSink O → Type 0
+    PutsRows a rows b = (text : List ℕ) × IsText a.standing b.standing rows text × PutsAll a text b
+
+    -- no more than a front of the text of these rows was taken
+    abbrev pub PutsPart : TraceSink O → List Row → TraceSink O → Type 0
+    PutsPart a rows b = PutsFront a (text_next a.standing rows) b
+
+    -- what is gathered was written, or else a front of it
+    abbrev pub WritesGathered : {A E : Type 0} → TraceSink O → Result A E → TraceSink O → Type 0
+    WritesGathered a (Ok v) b = (gathered_by b ≡ []) × PutsAll a [] b
+    WritesGathered a (Err e) b = PutsFront a [] b
+
+    -- so was a text after it
+    abbrev pub WritesThrough : {A E : Type 0} → TraceSink O → List ℕ → Result A E → TraceSink O → Type 0
+    WritesThrough a text (Ok v) b = PutsAll a text b
+    WritesThrough a text (Err e) b = PutsFront a text b
+
+    -- a text was put, or else no more than a front of it; a fault of the outlet tells how many bytes it took in all
+    abbrev pub PutsText : {A : Type 0} → TraceSink O → List ℕ → Result A SinkFault → TraceSink O → Type 0
+    PutsText a text (Ok v) b = PutsAll a text b
+    PutsText a text (Err fault.NoMemory) b = PutsFront a text b
+    PutsText a text (Err (fault.Stopped n)) b = PutsFront a text b × (n ≡ written_by b)
+
+    -- nothing is left to be written; or a front was written, and the fault tells how many bytes the outlet took in all
+    abbrev pub Flushes : {A : Type 0} → TraceSink O → Result A WriteFault → TraceSink O → Type 0
+    Flushes a (Ok v) b = (gathered_by b ≡ []) × PutsAll a [] b × (standing_of b ≡ standing_of a)
+    Flushes a (Err e) b = PutsFront a [] b × (stage_of b ≡ stage.Refused (fault.Stopped e.written))

@@ -1,0 +1,225 @@
+//! A trace that is written as its rows come.
+ghost use Rattle.std.specs.Prelude.{◌≡◌, ◌<◌, ◌+◌, ◌-◌, ◌^◌, [], is_ok, if◌then◌else◌, IfOk};
+ghost use Rattle.srm_report.specs.TraceSinks.{text_next, after_answer, TakesText};
+
+use crate::fault::ReportFault;
+use crate::outlet::{OutFault, Outlet};
+use crate::standing::Standing;
+use crate::trace::{lines_text, trace_text};
+use crate::writing::{WriteFault, write_out};
+use srm_engine::sink::{RowSink, SinkFault};
+use srm_member::row::Row;
+use std::alloc::Global;
+
+/// Writes a trace to an outlet as its rows come: the header before the first of them. What is short may be gathered before the outlet
+/// is asked to take it; `flush` writes what is left at the end.
+#[derive(Drop)]
+pub struct TraceSink<'a, O> {
+    outlet: &'a mut O,
+    // What is still to be written, and how long that may be.
+    gathered: Vec<u8>,
+    room: usize,
+    // How many bytes the outlet took, up to 2^64 - 1.
+    written: u64,
+    standing: Standing,
+}
+
+// The text of the rows that a sink takes next.
+fn text_of(alloc: Global, standing: Standing, rows: &[Row]) -> Result<Vec<u8>, ReportFault>
+    ensures { IfOk result (λ text. text.items ≡ text_next standing rows.now) }
+{
+    match standing {
+        Standing::Fresh => trace_text(alloc, rows),
+        Standing::Live | Standing::NoMemory | Standing::Stopped => lines_text(alloc, rows),
+    }
+}
+
+// Where a sink stands after this answer.
+fn standing_after(answer: &Result<(), SinkFault>) -> Standing
+    ensures { result ≡ after_answer answer.now }
+{
+    match answer {
+        Ok(()) => Standing::Live,
+        Err(SinkFault::NoMemory) => Standing::NoMemory,
+        Err(SinkFault::Stopped { .. }) => Standing::Stopped,
+    }
+}
+
+// Writes a text, and counts the bytes of it that were taken.
+fn write<O: Outlet>(outlet: &mut O, written: &mut u64, text: &[u8]) -> Result<(), OutFault>
+    requires { O.failures outlet.old < 2 ^ 64 - 1 }
+    ensures failures { O.failures outlet.new
+        ≡ (if is_ok result then O.failures outlet.old else O.failures outlet.old + 1) }
+    ensures taken { TakesText O.taken outlet.old written.old text.now result outlet.new written.new }
+{
+    match write_out(outlet, text) {
+        Ok(()) => {
+            *written = written.saturating_add(text.len() as u64);
+            Ok(())
+        }
+        Err(fault) => {
+            *written = written.saturating_add(fault.written);
+            Err(OutFault)
+        }
+    }
+}
+
+impl<'a, O: Outlet> TraceSink<'a, O> {
+    ghost use Rattle.srm_engine.specs.declared.sink.Stage.{Stage as AStage};
+    ghost use Rattle.srm_engine.specs.Sinks.{IsOpen, stops_in};
+    ghost use Rattle.srm_report.specs.TraceSinks.{stage_of, standing_of, outlet_under, gathered_by, written_by, AreOverOne, PutsText, WritesGathered, WritesThrough, Flushes};
+
+    /// A sink over this outlet, which took no rows yet. It writes each piece of the trace as it comes. It takes no memory.
+    pub fn over(alloc: Global, outlet: &'a mut O) -> Self
+        ensures outlet { result.outlet.ghost_name ≡ outlet.entry.ghost_name }
+        ensures same { outlet_under result ≡ outlet.old }
+        ensures stage { stage_of result ≡ AStage.Fresh }
+        ensures gathered { gathered_by result ≡ [] }
+        ensures written { written_by result ≡ 0 }
+    {
+        TraceSink::gathering(alloc, outlet, 0)
+    }
+
+    /// The same, but that up to so many bytes are gathered before they are written.
+    pub fn gathering(alloc: Global, outlet: &'a mut O, room: usize) -> Self
+        ensures outlet { result.outlet.ghost_name ≡ outlet.entry.ghost_name }
+        ensures same { outlet_under result ≡ outlet.old }
+        ensures stage { stage_of result ≡ AStage.Fresh }
+        ensures gathered { gathered_by result ≡ [] }
+        ensures written { written_by result ≡ 0 }
+    {
+        TraceSink {
+            outlet,
+            gathered: Vec::new(alloc),
+            room,
+            written: 0,
+            standing: Standing::Fresh,
+        }
+    }
+
+    /// Writes what is gathered.
+    ///
+    /// # Errors
+    /// The outlet failed. The fault says how many bytes of the trace it took by this sink in all, up to 2^64 - 1. The sink may not be
+    /// asked again.
+    pub fn flush(&mut self) -> Result<(), WriteFault>
+        requires open { IsOpen (stage_of self.old) }
+        requires failures { O.failures (outlet_under self.old) < 2 ^ 64 - 1 }
+        ensures outlet { AreOverOne self.old self.new }
+        ensures failures { O.failures (outlet_under self.new)
+            ≡ (if is_ok result then O.failures (outlet_under self.old) else O.failures (outlet_under self.old) + 1) }
+        ensures flushed { Flushes O.taken self.old result self.new }
+    {
+        match self.write_gathered() {
+            Ok(()) => Ok(()),
+            Err(OutFault) => {
+                self.standing = Standing::Stopped;
+                let written = self.written;
+                Err(WriteFault { written })
+            }
+        }
+    }
+
+    // Writes what is gathered.
+    fn write_gathered(&mut self) -> Result<(), OutFault>
+        requires failures { O.failures (outlet_under self.old) < 2 ^ 64 - 1 }
+        ensures outlet { AreOverOne self.old self.new }
+        ensures standing { standing_of self.new ≡ standing_of self.old }
+        ensures failures { O.failures (outlet_under self.new)
+            ≡ (if is_ok result then O.failures (outlet_under self.old) else O.failures (outlet_under self.old) + 1) }
+        ensures written { WritesGathered O.taken self.old result self.new }
+    {
+        write(self.outlet, &mut self.written, self.gathered.as_slice())?;
+        self.gathered.clear();
+        Ok(())
+    }
+
+    // Puts the text of the rows that come next.
+    fn put_rows(&mut self, alloc: Global, rows: &[Row]) -> Result<(), SinkFault>
+        requires failures { O.failures (outlet_under self.old) < 2 ^ 64 - 1 }
+        ensures outlet { AreOverOne self.old self.new }
+        ensures standing { standing_of self.new ≡ standing_of self.old }
+        ensures failures { O.failures (outlet_under self.new) ≡ O.failures (outlet_under self.old) + stops_in result }
+        ensures text { PutsText O.taken self.old (text_next (standing_of self.old) rows.now) result self.new }
+    {
+        match text_of(alloc, self.standing, rows) {
+            Ok(text) => self.put(text.as_slice()),
+            Err(ReportFault::NoMemory) => Err(SinkFault::NoMemory),
+        }
+    }
+
+    // Gathers a text, or writes it after what is gathered.
+    fn put(&mut self, text: &[u8]) -> Result<(), SinkFault>
+        requires failures { O.failures (outlet_under self.old) < 2 ^ 64 - 1 }
+        ensures outlet { AreOverOne self.old self.new }
+        ensures standing { standing_of self.new ≡ standing_of self.old }
+        ensures failures { O.failures (outlet_under self.new) ≡ O.failures (outlet_under self.old) + stops_in result }
+        ensures text { PutsText O.taken self.old text.now result self.new }
+    {
+        if self.gathered.len() + text.len() <= self.room {
+            return match self.gathered.extend_from_slice(text) {
+                Ok(()) => Ok(()),
+                Err(_) => Err(SinkFault::NoMemory),
+            };
+        }
+        match self.write_through(text) {
+            Ok(()) => Ok(()),
+            Err(OutFault) => {
+                let written = self.written;
+                Err(SinkFault::Stopped { written })
+            }
+        }
+    }
+
+    // Writes what is gathered, and a text after it.
+    fn write_through(&mut self, text: &[u8]) -> Result<(), OutFault>
+        requires failures { O.failures (outlet_under self.old) < 2 ^ 64 - 1 }
+        ensures outlet { AreOverOne self.old self.new }
+        ensures standing { standing_of self.new ≡ standing_of self.old }
+        ensures failures { O.failures (outlet_under self.new)
+            ≡ (if is_ok result then O.failures (outlet_under self.old) else O.failures (outlet_under self.old) + 1) }
+        ensures text { WritesThrough O.taken self.old text.now result self.new }
+    {
+        match self.write_gathered() {
+            Ok(()) => write(self.outlet, &mut self.written, text),
+            Err(OutFault) => Err(OutFault),
+        }
+    }
+}
+
+impl<'a, O: Outlet> RowSink for TraceSink<'a, O> {
+    ghost use Rattle.std.specs.Prelude.{refl};
+    ghost use Rattle.std.proofs.Common.{◌∙◌};
+    ghost use Rattle.srm_report.specs.TraceSinks.{stage_of, outlet_under, AreOverOne, PutsRows, PutsPart};
+    ghost use Rattle.srm_report.specs.SinkLaws.{one_self, one_more, rows_none, rows_more, part_none, part_more, part_longer};
+
+    ghost stage = { stage_of };
+
+    ghost failures = { λ s. O.failures (outlet_under s) };
+
+    ghost same = { AreOverOne };
+
+    ghost took = { PutsRows O.taken };
+
+    ghost part = { PutsPart O.taken };
+
+    ghost same_self = { one_self };
+
+    ghost same_more = { one_more };
+
+    ghost took_none = { rows_none O.taken };
+
+    ghost took_more = { rows_more O.taken };
+
+    ghost part_none = { part_none O.taken };
+
+    ghost part_more = { part_more O.taken };
+
+    ghost part_longer = { part_longer O.taken };
+
+    fn rows(&mut self, alloc: Global, rows: Vec<Row>) -> Result<(), SinkFault> {
+        let answer = self.put_rows(alloc, rows.as_slice());
+        self.standing = standing_after(&answer);
+        answer
+    }
+}

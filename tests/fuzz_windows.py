@@ -1,0 +1,50 @@
+"""Words that ask for the run in windows, made at random, and what must come of them by docs/FORMATS.md."""
+import random
+
+from fuzz_format import links_of
+
+CREWS = ("plain", "pool", "bag")
+MOST_WORKERS = 64
+MOST_CUT = 1024
+GREATEST_CUT = 2**32 - 1
+GREATEST_WIDTH = 2**64 - 1
+# threads that a run may start in all, so that it does not take long: a bag's workers are threads of each window
+THREADS = 20000
+
+
+def often_small(rng, most):
+    """A number from 1 to a limit: a small one half of the time, and now and then the limit."""
+    return rng.choice([rng.randint(1, min(8, most)), rng.randint(1, min(8, most)), rng.randint(1, most), most])
+
+
+def widest(top):
+    """The greatest width that this scenario allows: the least delay of its links."""
+    return min((link[2] for link in links_of(top)), default=GREATEST_WIDTH)
+
+
+def asked(crew, workers, cut, width):
+    words = {"engine": "window", "crew": crew, "workers": workers, "cut": cut, "width": width}
+    return [word for name, value in words.items() for word in (f"--{name}", str(value))]
+
+
+def windows(rng, top, rows, words):
+    """Words that each accepted scenario allows; top is None where its plain data is not known. The trace has so many rows, and --help
+    names these words."""
+    widths = [1, "least", *(word for word in ["promise"] if word in words)]
+    width = rng.choice(widths) if top is None or rng.random() < 0.7 else often_small(rng, widest(top))
+    workers = often_small(rng, max(1, min(MOST_WORKERS, THREADS // max(rows, 1))))
+    return asked(rng.choice(CREWS), workers, often_small(rng, MOST_CUT), width)
+
+
+def refused(rng, top):
+    """Words that this accepted scenario does not allow, and the word of the line that tells so."""
+    wide = [0, *([widest(top) + 1, GREATEST_WIDTH] if widest(top) < GREATEST_WIDTH else [])]
+    cut = rng.choice([0, MOST_CUT + 1, GREATEST_CUT, rng.randint(MOST_CUT + 1, GREATEST_CUT)])
+    if rng.random() < 0.5:
+        return asked(rng.choice(CREWS), 1, cut, rng.choice([1, *wide])), "bad-cut"
+    return asked(rng.choice(CREWS), 1, rng.randint(1, MOST_CUT), rng.choice(wide)), "bad-width"
+
+
+def random_of(case):
+    """The random numbers of a case's windows, apart from those that made its scenario."""
+    return random.Random(case.text + str(case.seed).encode())

@@ -1,0 +1,64 @@
+#!/usr/bin/env python3
+"""Runs the built program on the scenario texts of tests/refusals.txt, and compares what it answers with what stands there.
+
+usage: tests/refusals.py PROGRAM
+
+They are each end of each range of the format, each two neighbours in the order of its faults, and what does not fit. A text that is
+accepted must end with status 0 and a trace; one that is refused with status 1, its line on standard error and nothing written.
+Prints a line for each difference, and ends with status 1 where there is one.
+"""
+import os
+import pathlib
+import re
+import subprocess
+import sys
+
+CASES = pathlib.Path(__file__).with_name("refusals.txt")
+HEADER = b"time,member,cause,ref,result,lost,sent\n"
+
+
+def lines_of(text):
+    """The lines that stand with semicolons between them, with their elements repeated."""
+    text = re.sub(r"<(\d+) of ([^>]*)>", lambda found: ",".join([found[2]] * int(found[1])), text)
+    return [line.strip() for line in text.split(";")]
+
+
+def cases(text):
+    """The number of each case's line, its text and its answer."""
+    front = []
+    for number, line in enumerate(text.splitlines(), 1):
+        answer, bar, rest = line.partition(" | ")
+        if line.startswith("front:"):
+            front = lines_of(line.removeprefix("front:"))
+        elif bar and not line.startswith("#"):
+            yield number, "\n".join([*front, *lines_of(rest), ""]), answer
+        elif line and not line.startswith("#"):
+            raise ValueError(f"line {number} of {CASES.name} is no case")
+
+
+def answered(program, text):
+    """What the program answers: `accepted`, the rest of the line of its refusal, or how else it ended."""
+    done = subprocess.run([program], input=text.encode(), capture_output=True, timeout=60)
+    told = done.stderr.decode(errors="replace")
+    if done.returncode == 0 and not told and done.stdout.startswith(HEADER):
+        return "accepted"
+    if done.returncode == 1 and not done.stdout and re.fullmatch(r"refused: [^\n]*\n", told):
+        return told.removeprefix("refused: ").rstrip("\n")
+    return f"status {done.returncode}, {len(done.stdout)} bytes, {told!r}"
+
+
+def main():
+    program = os.path.abspath(sys.argv[1])
+    tried, differences = 0, 0
+    for number, text, answer in cases(CASES.read_text(encoding="utf-8")):
+        tried += 1
+        got = answered(program, text)
+        if got != answer:
+            differences += 1
+            print(f"tests/refusals.txt:{number}: got {got}, and not {answer}")
+    print(f"{tried} texts tried, {differences} differences")
+    return differences > 0 or not tried
+
+
+if __name__ == "__main__":
+    sys.exit(main())

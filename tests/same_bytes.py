@@ -1,0 +1,52 @@
+#!/usr/bin/env python3
+"""Runs the built program again and again with many threads, and compares what it writes with the sequential engine's.
+
+usage: tests/same_bytes.py PROGRAM [--runs N]
+
+The scenario is a tree of 256 nodes with a member on each, of which member 0 draws, and some of whose packets are dropped; each run
+has 64 workers, which share a bag of jobs of 4 members each. Prints how many runs there were, and ends with status 1 at the first that
+differs.
+"""
+import argparse
+import subprocess
+import sys
+
+NODES = 256
+DRAWS = 3
+WORDS = ["--engine", "window", "--crew", "bag", "--workers", "64", "--cut", "4"]
+
+
+def scenario():
+    """The text of the scenario. Timers have a random part."""
+    lines = ["version = 1", "until = 4000", "c1 = 2000", "c2 = 2000", "d1 = 1000", "d2 = 1000"]
+    lines += ['topology = "tree"', f"size = {NODES}", "delay = 20", "degree = 4"]
+    for node in range(NODES):
+        role = "receiver" if node else "sender"
+        lines += ["[[member]]", f"node = {node}", f'role = "{role}"', f"stream = {node}"]
+    for draw in range(DRAWS):
+        lines += ["[[draw]]", "member = 0", "page = 0", f"ink = {draw}", f"at = {draw * 100}"]
+    lines += ["[[drop]]", "link = 1", "sender = 0", "count = 0", "[[drop]]", "link = 100", "sender = 0", "count = 1"]
+    return ("\n".join(lines) + "\n").encode()
+
+
+def written(program, words, text):
+    """What a run writes, which must succeed."""
+    return subprocess.run([program, *words], input=text, stdout=subprocess.PIPE, check=True, timeout=60).stdout
+
+
+def main():
+    parser = argparse.ArgumentParser(description=__doc__, formatter_class=argparse.RawDescriptionHelpFormatter)
+    parser.add_argument("program")
+    parser.add_argument("--runs", type=int, default=1000)
+    options = parser.parse_args()
+    text = scenario()
+    must = written(options.program, [], text)
+    for run in range(options.runs):
+        if written(options.program, WORDS, text) != must:
+            sys.exit(f"run {run}: not the bytes of the sequential engine")
+    rows = must.count(b"\n") - 1
+    print(f"{options.runs} runs with 64 workers: the same {rows} rows")
+
+
+if __name__ == "__main__":
+    main()
