@@ -1,5 +1,5 @@
 -- Jobs as crews may be handed them.
-use Rattle.std.proofs.Common.{◌≡◌, ℕ, zero, suc, ◌+◌, ◌<◌, ◌≤◌, ◌^◌, List, [], ◌∷◌, ◌++◌, length, map, Ok, refl, sym, ap, ◌∙◌, subst, arith, add-zero, zero-add, add-one, All, length-append}
+use Rattle.std.proofs.Common.{◌≡◌, ℕ, zero, suc, ◌+◌, ◌<◌, ◌≤◌, ◌^◌, List, [], ◌∷◌, ◌++◌, length, Ok, refl, sym, ap, ◌∙◌, subst, arith, add-zero, zero-add, add-one, All, length-append}
 use Rattle.std.specs.List.{AllZip, range_with_len}
 use Rattle.std.proofs.lemmas.List.{map-append}
 use Rattle.std.proofs.lemmas.List.Elements.{All-nil, All-cons, All-head, All-tail, All-push}
@@ -40,16 +40,6 @@ module _ {X : Type 0} {H : X → Type 0} (f : DynBox X Global H → Record) (n :
         map-append (λ (j : Job X H). j.place) js (j ∷ []) ∙ ap (λ l. l ++ j.place ∷ []) h.places ∙ ap (λ k. range_with_len 0 (length js) ++ k ∷ []) (at ∙ sym (zero-add (length js)))
         ∙ sym (ap (λ k. range_with_len 0 k) (length-append js (j ∷ []) ∙ add-one (length js)) ∙ range_more 0 (length js));
     few = (let long = length-append js (j ∷ []) in omega arith);
-  }
-
-  -- a job without a cell may be advanced
-  pub idle : (j : Job X H) → j.cells.items ≡ [] → j.till ≤ 1024 → MayAdvance f n j
-  idle j none soon = record {
-    plain_job = record { place = j.place; till = j.till; cells = [] };
-    is = record { place = refl; till = refl; cells = subst (λ cs. AreCells f cs []) (sym none) tt };
-    till = omega arith;
-    few = omega arith;
-    of_members = tt;
   }
 
   -- ---- what is done

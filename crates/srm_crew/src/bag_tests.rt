@@ -1,56 +1,44 @@
 //! A bag of numbers: calls in a row, and the refusals between them.
-ghost use Rattle.std.specs.Prelude.{◌≡◌, IfOk};
+ghost use Rattle.std.specs.Prelude.{◌≡◌, IfSome};
 
 use crate::bag::Bag;
 use crate::bag_fault::{EmptyFault, PutFault, SplitFault};
 use crate::pass::Pass;
-use crate::tests::handing::attempt_twice;
-use std::alloc::{AllocError, Global};
-use std::process::Abort;
-use std::sync::Wait;
+use std::alloc::Global;
+use std::test::Fail;
 
-// The halves of a pass of more than one part.
-fn halves(
-    rt: &impl Abort,
-    alloc: Global,
-    bag: &Bag<u32>,
-    pass: Pass<u32>,
-) -> Result<(Pass<u32>, Pass<u32>), AllocError>
-    requires { pass.bag ≡ bag.now.name }
-    ensures { IfOk result (λ h. (h.0.bag ≡ bag.now.name) × (h.1.bag ≡ bag.now.name)) }
-{
-    match bag.split(alloc, pass) {
-        Ok(both) => Ok(both),
-        Err((_pass, fault)) => {
-            assert_eq!(rt; fault, SplitFault::NoMemory);
-            Err(AllocError)
-        }
-    }
-}
-
-fn take_by_halves(rt: &(impl Abort + Wait), alloc: Global) -> Result<(), AllocError> {
+#[test]
+fn each_number_is_taken_once_by_two_passes(rt: HostRuntime) -> Result<(), Fail> {
+    let alloc = rt.alloc();
     let opened: Result<(Bag<u32>, Pass<u32>), _> = Bag::open(alloc, 3);
     let Ok((bag, mut pass)) = opened else {
-        return Err(AllocError);
+        assert!(rt; false, "no bag");
+        return Ok(());
     };
-    assert_eq!(rt; bag.put(rt, &mut pass, 10), Ok(()));
-    assert_eq!(rt; bag.put(rt, &mut pass, 11), Ok(()));
-    assert_eq!(rt; bag.put(rt, &mut pass, 12), Ok(()));
-    assert_eq!(rt; bag.put(rt, &mut pass, 13), Err((13, PutFault::Full)));
-    let (mut first, mut second) = halves(rt, alloc, &bag, pass)?;
-    assert_eq!(rt; bag.put(rt, &mut first, 13), Err((13, PutFault::NotWhole)));
-    assert_eq!(rt; bag.take(rt, &mut first), Some(10));
-    assert_eq!(rt; bag.take(rt, &mut second), Some(11));
+    assert_eq!(rt; bag.put(&rt, &mut pass, 10), Ok(()));
+    assert_eq!(rt; bag.put(&rt, &mut pass, 11), Ok(()));
+    assert_eq!(rt; bag.put(&rt, &mut pass, 12), Ok(()));
+    assert_eq!(rt; bag.put(&rt, &mut pass, 13), Err((13, PutFault::Full)));
+    let Ok((mut first, mut second)) = bag.split(alloc, pass) else {
+        assert!(rt; false, "no halves");
+        return Ok(());
+    };
+    assert_eq!(rt; bag.put(&rt, &mut first, 13), Err((13, PutFault::NotWhole)));
+    assert_eq!(rt; bag.take(&rt, &mut first), Some(10));
+    assert_eq!(rt; bag.take(&rt, &mut second), Some(11));
     let pass = bag.join(first, second);
     let Err((bag, pass, fault)) = bag.empty(pass) else {
         assert!(rt; false, "emptied with an item in it");
         return Ok(());
     };
     assert_eq!(rt; fault, EmptyFault::NotEmpty);
-    let (mut first, mut second) = halves(rt, alloc, &bag, pass)?;
-    assert_eq!(rt; bag.take(rt, &mut first), Some(12));
-    assert_eq!(rt; bag.take(rt, &mut first), None);
-    assert_eq!(rt; bag.take(rt, &mut second), None);
+    let Ok((mut first, mut second)) = bag.split(alloc, pass) else {
+        assert!(rt; false, "no halves");
+        return Ok(());
+    };
+    assert_eq!(rt; bag.take(&rt, &mut first), Some(12));
+    assert_eq!(rt; bag.take(&rt, &mut first), None);
+    assert_eq!(rt; bag.take(&rt, &mut second), None);
     let Err((bag, first, fault)) = bag.empty(first) else {
         assert!(rt; false, "emptied by a half");
         return Ok(());
@@ -67,17 +55,18 @@ fn take_by_halves(rt: &(impl Abort + Wait), alloc: Global) -> Result<(), AllocEr
 }
 
 #[test]
-fn each_number_is_taken_once_by_two_passes(rt: HostRuntime) -> Result<(), AllocError> {
-    attempt_twice(&rt, || take_by_halves(&rt, rt.alloc()))
-}
-
-fn split_to_the_end(rt: &impl Abort, alloc: Global) -> Result<(), AllocError> {
+fn a_pass_is_split_sixteen_times_and_no_more(rt: HostRuntime) -> Result<(), Fail> {
+    let alloc = rt.alloc();
     let opened: Result<(Bag<u32>, Pass<u32>), _> = Bag::open(alloc, 1);
     let Ok((bag, pass)) = opened else {
-        return Err(AllocError);
+        assert!(rt; false, "no bag");
+        return Ok(());
     };
-    let least = first_half_of_each(rt, alloc, &bag, pass)?;
-    let Err((_pass, fault)) = bag.split(alloc, least) else {
+    let Some(least) = first_half_of_each(alloc, &bag, pass, 16) else {
+        assert!(rt; false, "refused too soon");
+        return Ok(());
+    };
+    let Err((_, fault)) = bag.split(alloc, least) else {
         assert!(rt; false, "split once more");
         return Ok(());
     };
@@ -85,25 +74,22 @@ fn split_to_the_end(rt: &impl Abort, alloc: Global) -> Result<(), AllocError> {
     Ok(())
 }
 
-#[test]
-fn a_pass_is_split_sixteen_times_and_no_more(rt: HostRuntime) -> Result<(), AllocError> {
-    attempt_twice(&rt, || split_to_the_end(&rt, rt.alloc()))
-}
-
-// The first half of the first half and so on, after sixteen splits.
+// The first half of the first half and so on, after so many splits.
 fn first_half_of_each(
-    rt: &impl Abort,
     alloc: Global,
     bag: &Bag<u32>,
     pass: Pass<u32>,
-) -> Result<Pass<u32>, AllocError>
+    splits: usize,
+) -> Option<Pass<u32>>
     requires { pass.bag ≡ bag.now.name }
-    ensures { IfOk result (λ p. p.bag ≡ bag.now.name) }
+    ensures { IfSome result (λ p. p.bag ≡ bag.now.name) }
 {
     let mut left = pass;
-    for _ in 0..16 {
-        let (first, _) = halves(rt, alloc, bag, left)?;
+    for _ in 0..splits {
+        let Ok((first, _)) = bag.split(alloc, left) else {
+            return None;
+        };
         left = first;
     }
-    Ok(left)
+    Some(left)
 }

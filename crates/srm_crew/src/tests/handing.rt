@@ -2,6 +2,7 @@
 ghost use Rattle.std.specs.Prelude.{◌≡◌, ◌≤◌, ◌^◌, length, map, All, IfOk};
 ghost use Rattle.srm_net.specs.Orders.{Rises};
 ghost use Rattle.srm_scenario.specs.Plain.{mark_cmp, network_of};
+ghost use Rattle.srm_member.specs.Record.{fixed_part};
 ghost use Rattle.srm_cell.specs.Jobs.{MayAdvance};
 ghost use Rattle.srm_crew.specs.Handed.{MayMap, AreKnown};
 
@@ -20,22 +21,6 @@ use srm_scenario::reading::read_scenario;
 use srm_scenario::scenario::Scenario;
 use std::alloc::{AllocError, Global};
 use std::process::Abort;
-
-/// Makes an attempt, and another one where the first is refused memory, which is then told on standard error.
-pub(crate) fn attempt_twice<F: Fn() -> Result<(), AllocError>>(
-    rt: &impl Eprint,
-    attempt: F,
-) -> Result<(), AllocError>
-    requires { F.IsAlwaysCallable attempt }
-{
-    match attempt() {
-        Ok(()) => Ok(()),
-        Err(_) => {
-            let _ = eprintln!(rt; "memory was refused");
-            attempt()
-        }
-    }
-}
 
 /// A scenario that is accepted, and its network.
 pub(crate) fn opened(
@@ -62,6 +47,13 @@ pub(crate) fn opened(
 // As many jobs as a crew is handed at most.
 const MOST_JOBS: usize = 1024;
 
+// The number of the member in a box.
+fn number_of(member: &Box<dyn Member>) -> u16
+    ensures { result ≡ (fixed_part ((⟦<dyn Member as Member>⟧ member.now.vtable).plain member.now.value)).member }
+{
+    member.number()
+}
+
 // The job of a member's cell alone.
 fn job_of(
     rt: &impl Abort,
@@ -80,7 +72,7 @@ fn job_of(
     ensures job { IfOk result (λ j. MayAdvance (λ b. (⟦<dyn Member as Member>⟧ b.vtable).plain b.value)
         (length net.now.hosts) j) }
 {
-    let number = member.number();
+    let number = number_of(&member);
     let members = net.members();
     if number >= members {
         assert!(rt; false, "no member {number}");

@@ -10,9 +10,9 @@ use crate::plain::PlainCrew;
 use crate::pool::PoolCrew;
 use crate::tests::case::Case;
 use crate::tests::cases::{FOUR_ROUND_A_NODE, LAST_PACKET, OVER, SENDER_AND_LISTENER};
-use crate::tests::handing::{add_job, attempt_twice, map_window, opened};
+use crate::tests::handing::{add_job, map_window, opened};
 use srm_cell::job::Job;
-use srm_ledger::ledger::{Ledger, Seat, SplitFault};
+use srm_ledger::ledger::{Ledger, Seat};
 use srm_member::member::Member;
 use srm_net::net::Net;
 use srm_net::role::Role;
@@ -28,58 +28,13 @@ const LAST_END: u64 = 1_099_511_627_776;
 
 const MOST_PACKETS: u64 = 281_474_976_710_656;
 
-/// How much of the weight of all seats the crew's seat has.
-#[derive(Clone, Copy, PartialEq, Eq)]
-pub(crate) enum Weight {
-    /// All of it.
-    Whole,
-    /// One part of 65,536.
-    One,
-}
-
-// The larger half of the larger half and so on, after sixteen splits.
-fn sixteenth_half(
-    rt: &impl Abort,
-    alloc: Global,
-    ledger: &Ledger,
-    seat: Seat,
-) -> Result<Seat, AllocError>
-    requires { seat.ledger ≡ ledger.now.name }
-    ensures { IfOk result (λ s. s.ledger ≡ ledger.now.name) }
-{
-    let mut left = seat;
-    for _ in 0..16 {
-        left = match ledger.split(alloc, left) {
-            Ok((half, _)) => half,
-            Err((_, fault)) => {
-                assert_eq!(rt; fault, SplitFault::NoMemory);
-                return Err(AllocError);
-            }
-        };
-    }
-    Ok(left)
-}
-
-// Asserts that the seat has this weight still and, where that is all of it, that the case's totals were counted.
-fn expect_end(
-    rt: &impl Abort,
-    alloc: Global,
-    ledger: Ledger,
-    seat: Seat,
-    case: &Case,
-    weight: Weight,
-)
+// Asserts that the seat can close its ledger, and that the case's totals were counted.
+fn expect_end(rt: &impl Abort, ledger: Ledger, seat: Seat, case: &Case)
     requires { seat.ledger ≡ ledger.name }
 {
-    match weight {
-        Weight::Whole => match ledger.close(seat) {
-            Ok(totals) => case.expect_totals(rt, &totals),
-            Err(_) => assert!(rt; false, "not closed"),
-        },
-        Weight::One => match ledger.split(alloc, seat) {
-            Ok(_) => assert!(rt; false, "more than one part"),
-            Err((_, fault)) => assert_eq!(rt; fault, SplitFault::TooManySeats),
-        },
+    match ledger.close(seat) {
+        Ok(totals) => case.expect_totals(rt, &totals),
+        Err(_) => assert!(rt; false, "not closed"),
     }
 }
 
@@ -125,17 +80,18 @@ fn map_both<C: Crew>(
     }
 }
 
-/// Hands the jobs of a case's two windows to a crew, with a seat of this weight, and asserts that what the case says comes of them.
-pub(crate) fn map_twice<C: Crew>(
+// Hands the jobs of a case's two windows to a crew, and asserts that what the case says comes of them.
+fn map_members<C: Crew>(
     rt: &impl Abort,
     alloc: Global,
     crew: &mut C,
+    scenario: &Scenario,
+    net: &Net,
     case: &Case,
-    weight: Weight,
 ) -> Result<(), AllocError>
-    requires { C.ready crew.old }
+    requires ready { C.ready crew.old }
+    requires network { net.now ≡ network_of scenario.now }
 {
-    let (scenario, net) = opened(rt, alloc, case.scenario)?;
     let [till, _] = case.ends;
     assert!(rt; till <= LAST_END);
     assert!(rt; case.sent <= MOST_PACKETS);
@@ -143,19 +99,19 @@ pub(crate) fn map_twice<C: Crew>(
     for m in 0..scenario.members() {
         let mut member: Box<dyn Member> = match scenario.role(m) {
             Role::Sender => {
-                let Ok(sender) = Sender::new(alloc, &scenario, &net, 0, m) else {
+                let Ok(sender) = Sender::new(alloc, scenario, net, 0, m) else {
                     return Err(AllocError);
                 };
                 Box::new(alloc, sender)?
             }
             Role::Receiver => {
-                let Ok(receiver) = Receiver::new(alloc, &scenario, &net, 0, m) else {
+                let Ok(receiver) = Receiver::new(alloc, scenario, net, 0, m) else {
                     return Err(AllocError);
                 };
                 Box::new(alloc, receiver)?
             }
             Role::Listener => {
-                let Ok(listener) = Listener::new(alloc, &scenario, &net, 0, m) else {
+                let Ok(listener) = Listener::new(alloc, scenario, net, 0, m) else {
                     return Err(AllocError);
                 };
                 Box::new(alloc, listener)?
@@ -171,21 +127,30 @@ pub(crate) fn map_twice<C: Crew>(
         let Ok(script) = scenario.script(alloc, m) else {
             return Err(AllocError);
         };
-        add_job(rt, alloc, &net, &mut jobs, till, member, script, case.sent)?;
+        add_job(rt, alloc, net, &mut jobs, till, member, script, case.sent)?;
     }
     let links = net.links().len();
     assert!(rt; links <= 255);
     let Ok((ledger, seat)) = Ledger::open(alloc, links) else {
         return Err(AllocError);
     };
-    let seat = match weight {
-        Weight::Whole => seat,
-        Weight::One => sixteenth_half(rt, alloc, &ledger, seat)?,
-    };
-    if let Some(seat) = map_both(rt, alloc, crew, &scenario, &net, &ledger, seat, jobs, case)? {
-        expect_end(rt, alloc, ledger, seat, case, weight);
+    if let Some(seat) = map_both(rt, alloc, crew, scenario, net, &ledger, seat, jobs, case)? {
+        expect_end(rt, ledger, seat, case);
     }
     Ok(())
+}
+
+/// The same, of the case's scenario.
+pub(crate) fn map_twice<C: Crew>(
+    rt: &impl Abort,
+    alloc: Global,
+    crew: &mut C,
+    case: &Case,
+) -> Result<(), AllocError>
+    requires { C.ready crew.old }
+{
+    let (scenario, net) = opened(rt, alloc, case.scenario)?;
+    map_members(rt, alloc, crew, &scenario, &net, case)
 }
 
 const CASES: [Case; 4] = [SENDER_AND_LISTENER, FOUR_ROUND_A_NODE, LAST_PACKET, OVER];
@@ -193,9 +158,7 @@ const CASES: [Case; 4] = [SENDER_AND_LISTENER, FOUR_ROUND_A_NODE, LAST_PACKET, O
 #[test]
 fn a_plain_crew_maps_two_windows(rt: HostRuntime) -> Result<(), AllocError> {
     for case in &CASES {
-        attempt_twice(&rt, || {
-            map_twice(&rt, rt.alloc(), &mut PlainCrew::new(), case, Weight::Whole)
-        })?;
+        map_twice(&rt, rt.alloc(), &mut PlainCrew::new(), case)?;
     }
     Ok(())
 }
@@ -203,15 +166,7 @@ fn a_plain_crew_maps_two_windows(rt: HostRuntime) -> Result<(), AllocError> {
 #[test]
 fn a_crew_of_pool_threads_maps_two_windows(rt: HostRuntime) -> Result<(), AllocError> {
     for case in &CASES {
-        attempt_twice(&rt, || {
-            map_twice(
-                &rt,
-                rt.alloc(),
-                &mut PoolCrew::new(&rt),
-                case,
-                Weight::Whole,
-            )
-        })?;
+        map_twice(&rt, rt.alloc(), &mut PoolCrew::new(&rt), case)?;
     }
     Ok(())
 }
@@ -219,28 +174,7 @@ fn a_crew_of_pool_threads_maps_two_windows(rt: HostRuntime) -> Result<(), AllocE
 #[test]
 fn a_crew_of_workers_maps_two_windows(rt: HostRuntime) -> Result<(), AllocError> {
     for case in &CASES {
-        attempt_twice(&rt, || {
-            map_twice(
-                &rt,
-                rt.alloc(),
-                &mut BagCrew::new(&rt, OpenGate, 3),
-                case,
-                Weight::Whole,
-            )
-        })?;
+        map_twice(&rt, rt.alloc(), &mut BagCrew::new(&rt, OpenGate, 3), case)?;
     }
     Ok(())
-}
-
-#[test]
-fn a_seat_that_is_not_split_serves_four_workers(rt: HostRuntime) -> Result<(), AllocError> {
-    attempt_twice(&rt, || {
-        map_twice(
-            &rt,
-            rt.alloc(),
-            &mut BagCrew::new(&rt, OpenGate, 4),
-            &FOUR_ROUND_A_NODE,
-            Weight::One,
-        )
-    })
 }

@@ -1,4 +1,4 @@
-use Rattle.std.proofs.Common.{◌≡◌, ◌<◌, ◌++◌, ◌∷◌, [], List, length, ap, ◌∙◌, arith}
+use Rattle.std.proofs.Common.{◌<◌, ◌++◌, ◌∷◌, [], length, ap, ◌∙◌, arith}
 use Rattle.srm_member.specs.Record.{fixed_part}
 use Rattle.srm_crew.proofs.HandedLemmas.{may_go_on, new_known}
 use Rattle.srm_crew.proofs.tests.handing.job_of.Goals as goal
@@ -6,7 +6,7 @@ use Rattle.srm_crew.proofs.tests.handing.job_of.Goals as goal
 pub returns-clause-job : goal.returns-clause-job
 returns-clause-job g c =
     let own = (goal.Member-dyn g (c.args.member.vtable, c.args.member.value)).plain c.args.member.value in
-    let number = c.number-number.ensures in
+    let number = c.number_of-number.ensures in
     let members = c.members-members.ensures.members in
     let below = c.if-number-members.false in
     let lt : (fixed_part own).member < length c.args.net.now.hosts = omega arith in

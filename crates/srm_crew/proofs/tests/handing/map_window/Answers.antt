@@ -1,4 +1,4 @@
-use Rattle.std.proofs.Common.{◌≡◌, ◌∙◌, length}
+use Rattle.std.proofs.Common.{◌∙◌, length}
 use Rattle.srm_crew.proofs.HandedLemmas.{known_done, few_done, same_ledger}
 use Rattle.srm_crew.proofs.tests.handing.map_window.Goals as goal
 

@@ -1,4 +1,4 @@
-use Rattle.std.proofs.Common.{◌≡◌, ◌≤◌, ◌<◌, ◌+◌, ◌∷◌, [], length, suc, ap, ◌∙◌, arith, length-append}
+use Rattle.std.proofs.Common.{◌≡◌, ◌+◌, length, suc, ap, ◌∙◌, arith, length-append}
 use Rattle.std.proofs.lemmas.List.Elements.{All-head, All-tail}
 use Rattle.std.specs.Vec.Iter.{into_iter_items}
 use Rattle.srm_crew.specs.Handed.{AreKnown}
