@@ -22,4 +22,6 @@ mod table_tests;
 mod tests;
 pub mod trace;
 pub mod trace_sink;
+#[cfg(test)]
+mod trace_sink_tests;
 pub mod writing;
