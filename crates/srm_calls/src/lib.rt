@@ -18,4 +18,6 @@ mod table_tests;
 #[cfg(test)]
 mod text_tests;
 #[cfg(test)]
+mod trace_sink_tests;
+#[cfg(test)]
 mod trace_tests;

@@ -15,7 +15,7 @@ use std::test::Fail;
 
 // What a row is about.
 #[derive(Clone, Copy)]
-enum Of {
+pub(crate) enum Of {
     Nothing,
     Name(Name),
     // An arrival of a packet with this identity.
@@ -23,7 +23,7 @@ enum Of {
 }
 
 // Time, member, cause, what it is about, and result.
-type Event = (u64, u16, Word, Of, Told);
+pub(crate) type Event = (u64, u16, Word, Of, Told);
 
 const FIRST: Name = Name {
     source: 0,
@@ -279,7 +279,7 @@ fn request(id: PacketId, sent: u64) -> Packet {
 }
 
 // A row that lost so many names, and may have sent a packet.
-fn row_of(
+pub(crate) fn row_of(
     alloc: Global,
     event: Event,
     lost: usize,

@@ -19,11 +19,13 @@ use Rattle.srm_engine.specs.Streams.{fault_of_sink, TakesFront, TellsSteps, Meet
 use Rattle.srm_engine.proofs.Stepping.{meets_full, opening_trace}
 
 -- rows that a list in memory has after few others are few enough to be counted
-pub countable : (before rows all : List Row) → all ≡ before ++ rows → length before ≤ 2 ^ 62 → length rows < 2 ^ 63 → length all + 3 < 2 ^ 64
+pub countable : (before rows all : List Row) → all ≡ before ++ rows → length before ≤ 2 ^ 62 → length rows < 2 ^ 63
+    → length all + 3 < 2 ^ 64
 countable before rows all e few short = omega (arith, ap length e, length-append before rows)
 
 -- a sink's refusal is none of a run that is not its own
-pub sink_refuses : (A : Type 0) (s : Setting) (e : StreamFault) → ((f : SinkFault) × (e ≡ fault_of_sink f)) → MeetsRefusal {A = A} s (Err e)
+pub sink_refuses : (A : Type 0) (s : Setting) (e : StreamFault) → ((f : SinkFault) × (e ≡ fault_of_sink f))
+    → MeetsRefusal {A = A} s (Err e)
 sink_refuses A s e h = subst (λ (x : StreamFault). MeetsRefusal {A = A} s (Err x)) (sym h.1) (by h.0)
   where
     by : (f : SinkFault) → MeetsRefusal {A = A} s (Err (fault_of_sink f))

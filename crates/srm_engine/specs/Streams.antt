@@ -56,8 +56,10 @@ module _ {S : Type 0} (took part : S → List Row → S → Type 0) where
   TellsStream s old (Err e) new = TakesFront s old new
 
   -- so with each seed of which the records, those of the boxes, are opening records
-  abbrev pub StreamsFrom : PlainScenario → Network → List Record → S → Result (Vec Exit × List ℕ) StreamFault → S → Type 0
-  StreamsFrom p net rs old r new = (seed : ℕ) → HoldOpeningRecords p net seed rs → TellsStream (setting_of p net seed) old r new
+  abbrev pub StreamsFrom : PlainScenario → Network → List Record → S → Result (Vec Exit × List ℕ) StreamFault → S
+      → Type 0
+  StreamsFrom p net rs old r new = (seed : ℕ) → HoldOpeningRecords p net seed rs
+      → TellsStream (setting_of p net seed) old r new
 
 -- when a run that is not cut into windows is refused: where `step_run` is, or where the sink was
 abbrev pub MeetsRefusal : {A : Type 0} → Setting → Result A StreamFault → Type 0
@@ -77,7 +79,8 @@ module _ {X : Type 0} {H : X → Type 0} where
   MayTake f e = (seed : ℕ) × (w : World) × IsReached (setting_in e seed) w × Shows f e w × (length w.trace ≤ 2 ^ 62)
 
   -- what steps from a world on tell, up to so many: the rows up to a later world, the last of the run where there are fewer
-  abbrev pub TellsSteps : (DynBox X Global H → Record) → Setting → ℕ → World → Result (Vec Row) RunFault → Engine X H → Type 0
+  abbrev pub TellsSteps : (DynBox X Global H → Record) → Setting → ℕ → World → Result (Vec Row) RunFault
+      → Engine X H → Type 0
   TellsSteps f s most w (Ok rows) after =
       (v : World) × IsReached s v × (v.trace ≡ w.trace ++ rows.items) × Shows f after v
       × (length rows.items ≤ most) × (length rows.items < most → step s v ≡ Idle)
@@ -88,19 +91,23 @@ module _ {X : Type 0} {H : X → Type 0} where
   TellsSteps f s most w (Err fault.ShareFull) after = ⊥
 
   -- so of whatever world of a run the engine is seen as, with every seed
-  abbrev pub TakesSteps : (DynBox X Global H → Record) → ℕ → Engine X H → Result (Vec Row) RunFault → Engine X H → Type 0
+  abbrev pub TakesSteps : (DynBox X Global H → Record) → ℕ → Engine X H → Result (Vec Row) RunFault → Engine X H
+      → Type 0
   TakesSteps f most old r new =
-      (seed : ℕ) (w : World) → IsReached (setting_in old seed) w → Shows f old w → TellsSteps f (setting_in old seed) most w r new
+      (seed : ℕ) (w : World) → IsReached (setting_in old seed) w → Shows f old w
+      → TellsSteps f (setting_in old seed) most w r new
 
   module _ {S : Type 0} (took part : S → List Row → S → Type 0) where
     -- what the steps of a run tell, the rows of which are handed to a sink: the last world of the sequential run, of which the sink
     -- took the trace
-    abbrev pub TellsRows : {A : Type 0} → (DynBox X Global H → Record) → Setting → S → Result A StreamFault → S → Engine X H → Type 0
+    abbrev pub TellsRows : {A : Type 0} → (DynBox X Global H → Record) → Setting → S → Result A StreamFault → S
+        → Engine X H → Type 0
     TellsRows f s old (Ok v) new after = (w : World) × IsLast s w × took old w.trace new × Shows f after w
     TellsRows f s old (Err e) new after = TakesFront took part s old new
 
     -- so of an engine that is opened, with every seed
-    abbrev pub StreamsRows : {A : Type 0} → (DynBox X Global H → Record) → Engine X H → S → Result A StreamFault → S → Engine X H
+    abbrev pub StreamsRows : {A : Type 0} → (DynBox X Global H → Record) → Engine X H → S → Result A StreamFault
+        → S → Engine X H
         → Type 0
     StreamsRows f e old r new after =
         (seed : ℕ) → IsOpened f seed e

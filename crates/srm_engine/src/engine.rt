@@ -101,7 +101,8 @@ impl<'a> Engine<'a> {
         ensures device { S.same sink.old sink.new }
         ensures stands { StandsAs result (S.stage sink.new) }
         ensures failures { S.failures sink.new ≡ S.failures sink.old + stopped_in result }
-        ensures rows { StreamsRows S.took S.part (λ b. plain (b.vtable, b.value)) self.old sink.old result sink.new self.new }
+        ensures rows { StreamsRows S.took S.part (λ b. plain (b.vtable, b.value)) self.old sink.old result
+            sink.new self.new }
     {
         if let Err(fault) = hand(alloc, sink, Vec::new(alloc)) {
             return Err(fault);

@@ -23,13 +23,15 @@ written_after taken a b c text (Err e) none same h k =
     front_more taken a b c [] text h (k.0, k.1, ap (λ (l : List ℕ). l ++ text) none ∙ k.2, record { bytes = k.3; counted = k.4 })
 
 -- where a sink stands has no part in what it wrote
-stood : {O : Type 0} (taken : O → Option (List ℕ)) (a b : TraceSink O) (out : List ℕ) (s : Standing) → Wrote taken a out b → Wrote taken a out (record b { standing = s })
+stood : {O : Type 0} (taken : O → Option (List ℕ)) (a b : TraceSink O) (out : List ℕ) (s : Standing)
+    → Wrote taken a out b → Wrote taken a out (record b { standing = s })
 stood taken a b out s h = record { bytes = h.bytes; counted = h.counted }
 
 -- after the text of rows was put, and the sink stands as the answer says
 pub rows_put : {O A : Type 0} (taken : O → Option (List ℕ)) (a b : TraceSink O) (rows : List Row) (r : Result A SinkFault) (s : Standing)
     → PutsText taken a (text_next a.standing rows) r b → s ≡ after_answer r
-    → MatchResult r (λ (_ : A). PutsRows taken a rows (record b { standing = s })) (λ (_ : SinkFault). PutsPart taken a rows (record b { standing = s }))
+    → MatchResult r (λ (_ : A). PutsRows taken a rows (record b { standing = s }))
+    (λ (_ : SinkFault). PutsPart taken a rows (record b { standing = s }))
 rows_put taken a b rows (Ok v) s h e = (
   text_next a.standing rows,
   subst (λ (at : Standing). IsText a.standing at rows (text_next a.standing rows)) (sym e) refl,

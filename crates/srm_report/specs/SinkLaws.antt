@@ -34,12 +34,14 @@ none_text Stopped = sym no_lines
 -- after these rows, those that come next have no header, or these were none
 text_after : (at mid : Standing) (xs ys : List Row) (t : List ℕ) → IsText at mid xs t → text_next at (xs ++ ys) ≡ t ++ text_next mid ys
 text_after at Fresh xs ys t h =
-    ap (λ (s : Standing). text_next s (xs ++ ys)) h.0 ∙ ap (λ (l : List Row). text_next Fresh (l ++ ys)) h.1 ∙ ap (λ (l : List ℕ). l ++ text_next Fresh ys) (sym h.2)
+    ap (λ (s : Standing). text_next s (xs ++ ys)) h.0 ∙ ap (λ (l : List Row). text_next Fresh (l ++ ys)) h.1
+    ∙ ap (λ (l : List ℕ). l ++ text_next Fresh ys) (sym h.2)
 text_after at Live xs ys t h = next_more at xs ys ∙ ap (λ (l : List ℕ). l ++ trace_lines ys) (sym h)
 text_after at NoMemory xs ys t h = next_more at xs ys ∙ ap (λ (l : List ℕ). l ++ trace_lines ys) (sym h)
 text_after at Stopped xs ys t h = next_more at xs ys ∙ ap (λ (l : List ℕ). l ++ trace_lines ys) (sym h)
 
-text_more : (at mid end : Standing) (xs ys : List Row) (t u : List ℕ) → IsText at mid xs t → IsText mid end ys u → IsText at end (xs ++ ys) (t ++ u)
+text_more : (at mid end : Standing) (xs ys : List Row) (t u : List ℕ) → IsText at mid xs t → IsText mid end ys u
+    → IsText at end (xs ++ ys) (t ++ u)
 text_more at mid Live xs ys t u h k = ap (λ (l : List ℕ). t ++ l) k ∙ sym (text_after at mid xs ys t h)
 text_more at mid NoMemory xs ys t u h k = ap (λ (l : List ℕ). t ++ l) k ∙ sym (text_after at mid xs ys t h)
 text_more at mid Stopped xs ys t u h k = ap (λ (l : List ℕ). t ++ l) k ∙ sym (text_after at mid xs ys t h)
@@ -69,7 +71,8 @@ count_cut a n b e = ap (λ x. min x (2 ^ 64 - 1)) e ∙ min-eq_left (min-le_righ
 
 joins : (g t o b u p r : List ℕ) → g ++ t ≡ o ++ b → b ++ u ≡ p ++ r → g ++ (t ++ u) ≡ (o ++ p) ++ r
 joins g t o b u p r h k =
-    sym (append_assoc g t u) ∙ ap (λ (l : List ℕ). l ++ u) h ∙ append_assoc o b u ∙ ap (λ (l : List ℕ). o ++ l) k ∙ sym (append_assoc o p r)
+    sym (append_assoc g t u) ∙ ap (λ (l : List ℕ). l ++ u) h ∙ append_assoc o b u ∙ ap (λ (l : List ℕ). o ++ l) k
+    ∙ sym (append_assoc o p r)
 
 pub one_self : {O : Type 0} (a : TraceSink O) → AreOverOne a a
 one_self a = refl

@@ -1,0 +1,171 @@
+//! A trace that is written as its rows come, to outlets that fail.
+ghost use Rattle.std.specs.Prelude.{◌<◌, ◌-◌, ◌^◌};
+ghost use Rattle.srm_engine.specs.Sinks.{IsOpen};
+ghost use Rattle.srm_report.specs.TraceSinks.{stage_of, outlet_under};
+
+use crate::trace_tests::{Of, row_of};
+use srm_engine::sink::{RowSink, SinkFault};
+use srm_member::row::{Row, Word};
+use srm_member::told::Told;
+use srm_net::packet::PacketId;
+use srm_report::outlet::{Outlet, WriteOutlet};
+use srm_report::trace_sink::TraceSink;
+use srm_report::writing::WriteFault;
+use std::alloc::{AllocError, Global};
+use std::io;
+use std::io::{ErrorKind, Write};
+use std::test::Fail;
+
+// Takes so many bytes, and then refuses.
+#[derive(Drop)]
+struct TakesOnly {
+    taken: Vec<u8>,
+    room: usize,
+}
+
+impl Write for TakesOnly {
+    fn write(&mut self, piece: &[u8]) -> io::Result<usize> {
+        let count = piece.len().min(self.room);
+        if count == 0 {
+            return Err(io::Error::from(ErrorKind::Other));
+        }
+        self.taken.extend_from_slice(&piece[..count])?;
+        self.room -= count;
+        Ok(count)
+    }
+
+    fn flush(&mut self) -> io::Result<()> {
+        Ok(())
+    }
+}
+
+const TEXT: &[u8] =
+    b"time,member,cause,ref,result,lost,sent\n0,0,join,-,in,0,-\n3,1,data,0:0,fresh,0,-\n";
+
+fn join(alloc: Global) -> Result<Row, AllocError> {
+    row_of(
+        alloc,
+        (0, 0, Word::Join, Of::Nothing, Told::Entered),
+        0,
+        None,
+    )
+}
+
+fn arrival(alloc: Global) -> Result<Row, AllocError> {
+    let data = PacketId {
+        sender: 0,
+        count: 0,
+    };
+    row_of(
+        alloc,
+        (3, 1, Word::Data, Of::Packet(data), Told::Fresh),
+        0,
+        None,
+    )
+}
+
+// How a call ended: with the number of bytes that its fault tells.
+fn told(answer: Result<(), SinkFault>) -> Result<Option<u64>, AllocError> {
+    match answer {
+        Ok(()) => Ok(None),
+        Err(SinkFault::NoMemory) => Err(AllocError),
+        Err(SinkFault::Stopped { written }) => Ok(Some(written)),
+    }
+}
+
+// A list of one row.
+fn one(alloc: Global, row: Row) -> Result<Vec<Row>, AllocError> {
+    let mut rows = Vec::new(alloc);
+    rows.push(row)?;
+    Ok(rows)
+}
+
+// Hands a sink no rows, then one row, then another, and flushes it. What the first fault tells, if there is one.
+fn written<O: Outlet>(alloc: Global, sink: TraceSink<O>) -> Result<Option<u64>, AllocError>
+    requires open { IsOpen (stage_of sink) }
+    requires failures { O.failures (outlet_under sink) < 2 ^ 64 - 1 }
+{
+    let mut sink = sink;
+    let first = one(alloc, join(alloc)?)?;
+    let second = one(alloc, arrival(alloc)?)?;
+    if let Err(fault) = sink.rows(alloc, Vec::new(alloc)) {
+        return told(Err(fault));
+    }
+    if let Err(fault) = sink.rows(alloc, first) {
+        return told(Err(fault));
+    }
+    if let Err(fault) = sink.rows(alloc, second) {
+        return told(Err(fault));
+    }
+    match sink.flush() {
+        Ok(()) => Ok(None),
+        Err(WriteFault { written }) => Ok(Some(written)),
+    }
+}
+
+// Hands a sink one row. What the fault tells, if there is one.
+fn written_at_once<O: Outlet>(alloc: Global, sink: TraceSink<O>) -> Result<Option<u64>, AllocError>
+    requires open { IsOpen (stage_of sink) }
+    requires failures { O.failures (outlet_under sink) < 2 ^ 64 - 1 }
+{
+    let mut sink = sink;
+    let rows = one(alloc, join(alloc)?)?;
+    told(sink.rows(alloc, rows))
+}
+
+// What an outlet that takes so many bytes took, and what the first fault told, where so many bytes may be gathered.
+fn written_to(
+    alloc: Global,
+    takes: usize,
+    gathers: usize,
+) -> Result<(Vec<u8>, Option<u64>), AllocError> {
+    let mut outlet = WriteOutlet::new(TakesOnly {
+        taken: Vec::new(alloc),
+        room: takes,
+    });
+    let told = written(alloc, TraceSink::gathering(alloc, &mut outlet, gathers))?;
+    Ok((outlet.into_inner().taken, told))
+}
+
+#[test]
+fn an_outlet_that_fails_has_the_front_that_is_told(rt: HostRuntime) -> Result<(), Fail> {
+    for gathers in [0, 1, 40, 60, 1_000] {
+        for takes in 0..TEXT.len() {
+            let (taken, told) = written_to(rt.alloc(), takes, gathers)?;
+            assert_eq!(rt;
+                told,
+                Some(takes as u64),
+                "{takes} bytes, {gathers} gathered"
+            );
+            assert_eq!(rt;
+                taken.as_slice(),
+                &TEXT[..takes],
+                "{takes} bytes, {gathers} gathered"
+            );
+        }
+    }
+    Ok(())
+}
+
+#[test]
+fn pieces_are_the_text_of_the_whole(rt: HostRuntime) -> Result<(), Fail> {
+    for gathers in [0, 1, 40, 60, 1_000] {
+        let (taken, told) = written_to(rt.alloc(), 1_000, gathers)?;
+        assert_eq!(rt; told, None, "{gathers} gathered");
+        assert_eq!(rt; taken.as_slice(), TEXT, "{gathers} gathered");
+    }
+    Ok(())
+}
+
+#[test]
+fn a_sink_over_an_outlet_writes_each_piece_as_it_comes(rt: HostRuntime) -> Result<(), Fail> {
+    let alloc = rt.alloc();
+    let mut outlet = WriteOutlet::new(TakesOnly {
+        taken: Vec::new(alloc),
+        room: 1_000,
+    });
+    let told = written_at_once(alloc, TraceSink::over(alloc, &mut outlet))?;
+    assert_eq!(rt; told, None);
+    assert_eq!(rt; outlet.into_inner().taken.as_slice(), &TEXT[..57]);
+    Ok(())
+}
