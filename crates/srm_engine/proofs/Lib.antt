@@ -28,6 +28,9 @@ pub mod JobLemmas
 pub mod KMerging
 pub mod FixedParts
 pub mod Promises
+pub mod SoonLemmas
+pub mod SoonGroups
+pub mod Beginnings
 pub mod WindowedLemmas
 pub mod RunLemmas
 pub mod ScheduleLemmas

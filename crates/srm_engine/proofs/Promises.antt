@@ -1,6 +1,5 @@
 -- The least promise of all cells, one cell after the other.
-use Rattle.std.proofs.Common.{◌≡◌, ◌≢◌, ℕ, zero, suc, ◌<◌, ◌+◌, ◌==◌, Bool, true, false, not, cond, List, [], ◌∷◌, ◌++◌, refl, sym, ap, ◌∙◌, arith, Option, Some, None, option_map, unwrap_or, length, map, filter, take, slice_get, add-zero, zero-add, eqb-true, length-append}
-use Rattle.std.proofs.lemmas.Bool.{eqb-false}
+use Rattle.std.proofs.Common.{◌≡◌, ◌≢◌, ◌⊎◌, inl, inr, ℕ, zero, suc, ◌≤◌, ◌+◌, ◌==◌, Bool, true, false, not, cond, List, [], ◌∷◌, refl, sym, ap, ◌∙◌, arith, Option, Some, None, option_map, unwrap_or, length, map, filter, slice_get, zero-add}
 use Rattle.std.proofs.lemmas.List.{length-map}
 use Rattle.std.specs.List.{range_with_len}
 use Rattle.srm_net.specs.declared.role.Role.{Role}
@@ -15,18 +14,13 @@ use Rattle.srm_member.specs.React.{is_listener}
 use Rattle.srm_member.specs.declared.fixed.Fixed.{Fixed as FixedPart}
 use Rattle.srm_cell.specs.Setting.{Setting, setting_of, member_at, no_member}
 use Rattle.srm_cell.specs.Cells.{PlainCell, time_of, next_event}
-use Rattle.srm_engine.specs.Windows.{least_with, out, promise_by, promise_of, least_promise}
-use Rattle.srm_engine.specs.Ends.{AreWays, KeepFixed, way_of}
+use Rattle.srm_engine.specs.Windows.{out, promise_by, promise_of, least_promise, way_of}
+use Rattle.srm_engine.specs.Ends.{KeepFixed}
+use Rattle.srm_engine.specs.Soonest.{IsLeast, promised}
+use Rattle.srm_engine.proofs.SoonLemmas.{Any, with_le, with_in, with_one}
 
 same_some : {A : Type 0} (x y : A) → Some x ≡ Some y → x ≡ y
 same_some x y h = cc
-
--- two more, in either order
-least_either : (n : ℕ) (x y : Option ℕ) → least_with (least_with n x) y ≡ least_with (least_with n y) x
-least_either n None None = refl
-least_either n None (Some k) = refl
-least_either n (Some j) None = refl
-least_either n (Some j) (Some k) = omega arith
 
 -- no promise without a way
 no_promise : (x : Option ℕ) → promise_by x None ≡ None
@@ -39,61 +33,59 @@ promise_if false x way = refl
 
 module _ (s : Setting) where
   -- a cell's promise is by its next time and its member's way
-  promise_is : (m : ℕ) (c : PlainCell) → fixed_part c.holds ≡ s.fixed m
-      → promise_of s m c ≡ promise_by (time_of (next_event m c)) (way_of s m)
+  pub promise_is : (m : ℕ) (c : PlainCell) → fixed_part c.holds ≡ s.fixed m
+      → promise_of s m c ≡ promised s m c
   promise_is m c e =
       ap (λ (f : FixedPart). cond (is_listener f.role) None (promise_by (time_of (next_event m c)) (out s m))) e
       ∙ promise_if (is_listener (s.fixed m).role) (time_of (next_event m c)) (out s m)
 
-  -- one cell more
-  least_more : (i : ℕ) (cs : List PlainCell) (k : ℕ) (c : PlainCell) → slice_get cs k ≡ Some c
-      → least_promise s i (take (suc k) cs) ≡ least_with (least_promise s i (take k cs)) (promise_of s (i + k) c)
-  least_more i [] k c h = cc
-  least_more i (x ∷ cs) zero c h =
-      ap (λ y. least_with s.traffic.until (promise_of s i y)) (same_some x c h)
-      ∙ ap (λ n. least_with s.traffic.until (promise_of s n c)) (sym (add-zero i))
-  least_more i (x ∷ cs) (suc k) c h =
-      let e : (i + 1) + k ≡ i + suc k = omega arith in
-      ap (λ n. least_with n (promise_of s i x)) (least_more (i + 1) cs k c h
-      ∙ ap (λ n. least_with (least_promise s (i + 1) (take k cs)) (promise_of s n c)) e)
-      ∙ least_either (least_promise s (i + 1) (take k cs)) (promise_of s (i + suc k) c) (promise_of s i x)
+  -- ---- the least promise of all
 
-  -- one cell more, of which the way is given
-  pub least_promise_next : (ways : List (Option ℕ)) (ps : List PlainCell) (k : ℕ) (way time : Option ℕ) (c : PlainCell) → AreWays s ways
-      → KeepFixed s ps → k < s.traffic.members → slice_get ways k ≡ Some way
-      → slice_get ps k ≡ Some c → time ≡ time_of (next_event k c)
-      → least_promise s 0 (take (suc k) ps) ≡ least_with (least_promise s 0 (take k ps)) (promise_by time way)
-  least_promise_next ways ps k way time c are kept lt w h t =
-      let same : way ≡ way_of s k = same_some way (way_of s k) (sym w ∙ are.each k lt) in
-      least_more 0 ps k c h ∙ ap (λ n. least_with (least_promise s 0 (take k ps)) (promise_of s n c)) (zero-add k)
-      ∙ ap (least_with (least_promise s 0 (take k ps))) (promise_is k c (kept k c h) ∙ (λ i. promise_by (sym t i) (sym same i)))
+  promise_most : (i : ℕ) (cs : List PlainCell) → least_promise s i cs ≤ s.traffic.until
+  promise_most i [] = omega arith
+  promise_most i (c ∷ cs) = let more = promise_most (i + 1) cs in let le = with_le (least_promise s (i + 1) cs) (promise_of s i c) in omega arith
+
+  promise_none_less : (i : ℕ) (cs : List PlainCell) (j : ℕ) (c : PlainCell) (u : ℕ) → slice_get cs j ≡ Some c → promise_of s (i + j) c ≡ Some u
+      → least_promise s i cs ≤ u
+  promise_none_less i [] j c u h e = cc
+  promise_none_less i (x ∷ cs) zero c u h e =
+      let here : i + 0 ≡ i = omega arith in
+      with_in (least_promise s (i + 1) cs) u (promise_of s i x)
+      (ap (promise_of s i) (same_some x c h) ∙ ap (λ m. promise_of s m c) (sym here) ∙ e)
+  promise_none_less i (x ∷ cs) (suc j) c u h e =
+      let at : (i + 1) + j ≡ i + suc j = omega arith in
+      let more = promise_none_less (i + 1) cs j c u h (ap (λ m. promise_of s m c) at ∙ e) in
+      let le = with_le (least_promise s (i + 1) cs) (promise_of s i x) in
+      omega arith
+
+  abbrev Some_promise : ℕ → List PlainCell → ℕ → Type 0
+  Some_promise i cs t =
+      (t ≡ s.traffic.until) ⊎ ((j : ℕ) × (c : PlainCell) × (slice_get cs j ≡ Some c) × (promise_of s (i + j) c ≡ Some t))
+
+  promise_one : (i : ℕ) (cs : List PlainCell) → Some_promise i cs (least_promise s i cs)
+  promise_one i [] = inl refl
+  promise_one i (x ∷ cs) = by (with_one (least_promise s (i + 1) cs) (promise_of s i x)) (promise_one (i + 1) cs)
+    where
+      by : (least_promise s i (x ∷ cs) ≡ least_promise s (i + 1) cs) ⊎ (promise_of s i x ≡ Some (least_promise s i (x ∷ cs)))
+          → Some_promise (i + 1) cs (least_promise s (i + 1) cs) → Some_promise i (x ∷ cs) (least_promise s i (x ∷ cs))
+      by (inr e) old = let here : i + 0 ≡ i = omega arith in inr (0, x, refl, ap (λ m. promise_of s m x) here ∙ e)
+      by (inl e) (inl was) = inl (e ∙ was)
+      by (inl e) (inr a) = let at : i + suc a.0 ≡ (i + 1) + a.0 = omega arith in
+          inr (suc a.0, a.1, a.2, ap (λ m. promise_of s m a.1) at ∙ a.3 ∙ ap Some (sym e))
+
+  pub promise_is_least : (cs : List PlainCell) → KeepFixed s cs → IsLeast (promised s) Any s.traffic.until cs (least_promise s 0 cs)
+  promise_is_least cs kept = record {
+    most = promise_most 0 cs;
+    none_less = λ m c u p h e. promise_none_less 0 cs m c u h (ap (λ k. promise_of s k c) (zero-add m) ∙ promise_is m c (kept m c h) ∙ e);
+    one = by (promise_one 0 cs);
+  }
+    where
+      by : Some_promise 0 cs (least_promise s 0 cs)
+          → (least_promise s 0 cs ≡ s.traffic.until) ⊎ ((m : ℕ) × (c : PlainCell) × Any m × (slice_get cs m ≡ Some c) × (promised s m c ≡ Some (least_promise s 0 cs)))
+      by (inl e) = inl e
+      by (inr a) = inr (a.0, a.1, tt, a.2, sym (promise_is a.0 a.1 (kept a.0 a.1 a.2)) ∙ ap (λ k. promise_of s k a.1) (sym (zero-add a.0)) ∙ a.3)
 
 -- ---- ways
-
-get_pushed : {A : Type 0} (xs : List A) (x : A) → slice_get (xs ++ x ∷ []) (length xs) ≡ Some x
-get_pushed [] x = refl
-get_pushed (y ∷ xs) x = get_pushed xs x
-
-get_kept : {A : Type 0} (xs : List A) (x : A) (m : ℕ) → m < length xs → slice_get (xs ++ x ∷ []) m ≡ slice_get xs m
-get_kept [] x m lt = absurd (omega arith)
-get_kept (y ∷ xs) x zero lt = refl
-get_kept (y ∷ xs) x (suc m) lt = get_kept xs x m (omega arith)
-
--- these are the ways of the first n members
-abbrev pub AreFirstWays : Setting → ℕ → List (Option ℕ) → Type 0
-AreFirstWays s n ways = (length ways ≡ n) × ((m : ℕ) → m < n → slice_get ways m ≡ Some (way_of s m))
-
-pub one_way_more : (s : Setting) (n : ℕ) (ways : List (Option ℕ)) (way : Option ℕ) → AreFirstWays s n ways → way ≡ way_of s n
-    → AreFirstWays s (n + 1) (ways ++ way ∷ [])
-one_way_more s n ways way h e = (
-  length-append ways (way ∷ []) ∙ ap (λ k. k + 1) h.0,
-  λ m lt. elim (m == n) as (λ b. (m == n) ≡ b → slice_get (ways ++ way ∷ []) m ≡ Some (way_of s m)) [
-    | true ↦ λ q. let same : m ≡ n = eqb-true _ _ q in ap (slice_get (ways ++ way ∷ [])) (same ∙ sym h.0) ∙ get_pushed ways way
-        ∙ ap Some (e ∙ ap (way_of s) (sym same))
-    | false ↦ λ q. let ne = eqb-false _ _ q in let many = h.0 in let less : m < n = omega arith in get_kept ways way m (omega arith)
-        ∙ h.1 m less
-  ] refl,
-)
 
 out_of : (p : PlainScenario) (net : Network) (seed m : ℕ) → net ≡ network_of p → net_out net m ≡ out (setting_of p net seed) m
 unfolding net_out out

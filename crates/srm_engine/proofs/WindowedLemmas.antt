@@ -1,6 +1,5 @@
 -- Windows of the engine, one after the other.
-use Rattle.std.proofs.Common.{◌≡◌, ℕ, zero, suc, ◌<◌, ◌≤◌, ◌+◌, min, true, false, List, [], ◌∷◌, ◌++◌, Option, Some, None, Err, option_map, unwrap_or, refl, sym, ap, ◌∙◌, subst, arith, All, IsSorted, IsPermutation, zero-add, add-zero, length, map, nat_le, cond, slice_get, take, drop, slice_index, replicate, ◌*◌, ◌≢◌}
-use Rattle.std.proofs.lemmas.Bool.Decides.{nat_tests}
+use Rattle.std.proofs.Common.{◌≡◌, ℕ, zero, suc, ◌<◌, ◌≤◌, min, List, [], ◌∷◌, ◌++◌, Some, Err, refl, sym, ap, ◌∙◌, subst, arith, All, IsSorted, IsPermutation, length, map, drop, slice_index, replicate, ◌*◌, ◌≢◌}
 use Rattle.std.proofs.lemmas.List.{map-append, length-map}
 use Rattle.std.specs.List.{AllZip, range_with_len}
 use Rattle.std.specs.declared.dyn_box.DynBox.{DynBox}
@@ -18,7 +17,7 @@ use Rattle.srm_cell.specs.declared.cell.Cell.{Cell}
 use Rattle.srm_cell.specs.declared.job.Job.{Job}
 use Rattle.srm_cell.specs.declared.job.Done as job
 use Rattle.srm_cell.specs.Setting.{Traffic, Setting, IsFit, setting_of}
-use Rattle.srm_cell.specs.Cells.{PlainCell, Event, next_event, time_of, Full, Spent}
+use Rattle.srm_cell.specs.Cells.{PlainCell, Event, Full, Spent}
 use Rattle.srm_cell.specs.Crossings.{joined, crossings}
 use Rattle.srm_cell.specs.Jobs as cell
 use Rattle.srm_cell.proofs.FitSettings.{settings_are_fit}
@@ -26,97 +25,31 @@ use Rattle.srm_crew.specs.Crews.{AreJobs, AnyEnds, word_of}
 use Rattle.srm_engine.specs.declared.fault.RunFault.{RunFault}
 use Rattle.srm_engine.specs.declared.fault.RunFault.TheVariants as fault
 use Rattle.srm_engine.specs.declared.window.Grouped.{Grouped}
-use Rattle.srm_engine.specs.World.{World, row_cmp, IsReached, RunMeetsFull, least_event, opening, opening_cells}
+use Rattle.srm_engine.specs.World.{World, row_cmp, IsReached, RunMeetsFull, opening, opening_cells}
 use Rattle.srm_engine.specs.Schedules.{IsSafe, HasNoResult}
-use Rattle.srm_engine.specs.NextTimes.{least_time, sooner}
-use Rattle.srm_engine.specs.Seen.{AreCells, AreTimes}
-use Rattle.srm_engine.specs.Windows.{IsWidth, least_with}
+use Rattle.srm_engine.specs.Seen.{AreCells}
+use Rattle.srm_engine.specs.Windows.{IsWidth}
 use Rattle.srm_engine.specs.WindowRuns.{OwnResult, AreOwnRuns, rows_in, cells_in, IsMerge, AreNewInTurn, IsWindow, jobs_of}
 use Rattle.srm_engine.specs.WindowChains.{IsNext, start_of, IsEndRule, width_rule, AreWindows, window_jobs}
-use Rattle.srm_engine.specs.Groups.{handed_jobs, least_among, AreCuts, AreGrouped, sizes, all_in, jobs_with, groups_of, lists_of, some_of}
+use Rattle.srm_engine.specs.Groups.{handed_jobs, AreCuts, AreGrouped, sizes, all_in, jobs_with, groups_of, lists_of, some_of}
 use Rattle.srm_engine.specs.declared.ends.Ends.{Ends}
 use Rattle.srm_engine.specs.declared.ends.Ends.TheVariants.{After, Promised}
-use Rattle.srm_engine.specs.Ends.{BeginsAt, HasWays, MayEnd, ends_rule}
+use Rattle.srm_engine.specs.declared.soonest.Soonest.{Soonest}
+use Rattle.srm_engine.specs.Soonest.{AreSoonest}
+use Rattle.srm_engine.specs.Ends.{BeginsAt, MayEnd, ends_rule}
 use Rattle.srm_engine.specs.Windowed.{IsCut, Holds, PassesShare, calls_of, TellsJobs, TellsWindow, TellsWindows, TellsWindowRun}
 use Rattle.srm_engine.proofs.CellLists.{from_seen, seen_from, few_groups}
 use Rattle.srm_engine.proofs.JobLemmas.{any_cell, are_jobs, may_advance, as_many_jobs, places_with, job_results, cuts_kept, joined_some, all_some}
 use Rattle.srm_engine.proofs.LawProofs.{never_spent}
 use Rattle.srm_engine.proofs.OneWindow.{as_many_results}
 use Rattle.srm_engine.proofs.Sequential.{good_reached}
-use Rattle.srm_engine.proofs.Stepping.{time_and_member, least_is_event, opening_trace}
+use Rattle.srm_engine.proofs.Stepping.{opening_trace}
 use Rattle.srm_engine.proofs.Opened.{opening_is}
 use Rattle.srm_engine.proofs.WindowJobs.{jobs_run_all}
 use Rattle.srm_engine.proofs.WindowRows.{own_rows_are_sorted}
 use Rattle.srm_engine.proofs.WindowPackets.{window_packets_are_new}
 use Rattle.srm_engine.proofs.WindowEnds.{widths_are_rules, promises_are_a_rule, starts_tell}
 use Rattle.srm_engine.proofs.WindowChain.{windows_are_reached, windows_follow, refused_windows_meet_full, calls_follow}
-
--- ---- the least next time
-
-abbrev times_from : ℕ → List PlainCell → List (Option ℕ)
-times_from i [] = []
-times_from i (c ∷ cs) = time_of (next_event i c) ∷ times_from (suc i) cs
-
-length_times : (i : ℕ) (cs : List PlainCell) → length (times_from i cs) ≡ length cs
-length_times i [] = refl
-length_times i (c ∷ cs) = ap suc (length_times (suc i) cs)
-
-same_some : {A : Type 0} (x y : A) → Some x ≡ Some y → x ≡ y
-same_some x y h = cc
-
-get_time : (i : ℕ) (cs : List PlainCell) (j : ℕ) (c : PlainCell) → slice_get cs j ≡ Some c → slice_get (times_from i cs) j ≡ Some (time_of (next_event (i + j) c))
-get_time i [] j c h = cc
-get_time i (x ∷ cs) zero c h = ap (λ k. Some (time_of (next_event k x))) (sym (add-zero i)) ∙ ap (λ y. Some (time_of (next_event (i + 0) y))) (same_some x c h)
-get_time i (x ∷ cs) (suc j) c h = let e : suc i + j ≡ i + suc j = omega arith in get_time (suc i) cs j c h ∙ ap (λ k. Some (time_of (next_event k c))) e
-
-are_times : (cs : List PlainCell) → AreTimes (times_from 0 cs) cs
-are_times cs = record { as_many = length_times 0 cs; each = λ j c h. get_time 0 cs j c h ∙ ap (λ k. Some (time_of (next_event k c))) (zero-add j) }
-
-abbrev first_min : ℕ → Option (ℕ × ℕ) → ℕ
-first_min n None = n
-first_min n (Some q) = min n q.0
-
-lesser : (n u i : ℕ) (o : Option (ℕ × ℕ)) → first_min (min n u) o ≡ min n (sooner (u, i) o).0
-lesser n u i None = refl
-lesser n u i (Some q) = elim (nat_le u q.0) as (λ b. nat_le u q.0 ≡ b → min (min n u) q.0 ≡ min n (cond b (u, i) q).0) [
-  | true ↦ λ e. let le : u ≤ q.0 = grind (arith, nat_tests) in omega arith
-  | false ↦ λ e. let gt : q.0 < u = grind (arith, nat_tests) in omega arith
-] refl
-
-least_step : (n i : ℕ) (o : Option ℕ) (cs : List PlainCell) → ((m : ℕ) → least_among m (suc i) cs ≡ first_min m (least_time (suc i) (times_from (suc i) cs)))
-    → least_among (least_with n o) (suc i) cs ≡ first_min n (least_time i (o ∷ times_from (suc i) cs))
-least_step n i None cs more = more n
-least_step n i (Some u) cs more = more (min n u) ∙ lesser n u i (least_time (suc i) (times_from (suc i) cs))
-
-least_is : (n i : ℕ) (cs : List PlainCell) → least_among n i cs ≡ first_min n (least_time i (times_from i cs))
-least_is n i [] = refl
-least_is n i (c ∷ cs) = least_step n i (time_of (next_event i c)) cs (λ m. least_is m (suc i) cs)
-
-of_event : (n : ℕ) (o : Option Event) → first_min n (option_map time_and_member o) ≡ min n (unwrap_or (time_of o) n)
-of_event n None = omega arith
-of_event n (Some e) = refl
-
--- one cell more
-pub least_next : (n i : ℕ) (cs : List PlainCell) (k : ℕ) (c : PlainCell) → slice_get cs k ≡ Some c → least_among n i (take (suc k) cs) ≡ least_with (least_among n i (take k cs)) (time_of (next_event (i + k) c))
-least_next n i [] k c h = cc
-least_next n i (x ∷ cs) zero c h =
-    ap (λ y. least_with n (time_of (next_event i y))) (same_some x c h) ∙ ap (λ m. least_with n (time_of (next_event m c))) (sym (add-zero i))
-least_next n i (x ∷ cs) (suc k) c h =
-    let e : suc i + k ≡ i + suc k = omega arith in
-    least_next (least_with n (time_of (next_event i x))) (suc i) cs k c h ∙ ap (λ m. least_with (least_among (least_with n (time_of (next_event i x))) (suc i) (take k cs)) (time_of (next_event m c))) e
-
--- cells, and others after them
-pub least_append : (n i : ℕ) (cs ds : List PlainCell) → least_among n i (cs ++ ds) ≡ least_among (least_among n i cs) (i + length cs) ds
-least_append n i [] ds = ap (λ m. least_among n m ds) (sym (add-zero i))
-least_append n i (c ∷ cs) ds =
-    let e : suc i + length cs ≡ i + suc (length cs) = omega arith in
-    least_append (least_with n (time_of (next_event i c))) (suc i) cs ds ∙ ap (λ m. least_among (least_among (least_with n (time_of (next_event i c))) (suc i) cs) m ds) e
-
--- the least next time, or the end of the run where that is earlier, is when the next window begins
-pub begins_at : (s : Setting) (w : World) (begin until : ℕ) → begin ≡ least_among until 0 w.cells → until ≡ s.traffic.until → begin ≡ min until (start_of s w)
-begins_at s w begin until e is =
-    e ∙ least_is until 0 w.cells ∙ ap (first_min until) (least_is_event (times_from 0 w.cells) w.cells (are_times w.cells))
-    ∙ of_event until (least_event 0 w.cells) ∙ ap (λ u. min until (unwrap_or (time_of (least_event 0 w.cells)) u)) is
 
 -- ---- the jobs of a window
 
@@ -127,7 +60,7 @@ module _ {X : Type 0} {H : X → Type 0} (f : DynBox X Global H → Record) (p :
   fit_jobs : IsFit in_jobs
   fit_jobs = subst (λ (n : Network). IsFit (setting_of p n seed)) (sym is) (settings_are_fit p seed accepted)
 
-  members_are : length w.cells ≡ length p.members
+  pub members_are : length w.cells ≡ length p.members
   members_are = (good_reached in_jobs fit_jobs reached.0 w reached.1).members
 
   hosts_are : length net.hosts ≡ length p.members
@@ -209,17 +142,13 @@ module _ {C X : Type 0} {H : X → Type 0} (handed : C → List (List cell.Plain
 -- ---- windows
 
 -- windows that end so follow a rule
-pub ends_are_rules : (p : PlainScenario) (net : Network) → net ≡ network_of p → IsAccepted p → (seed : ℕ) (ends : Ends) → MayEnd p net ends → IsEndRule (setting_of p net seed) (ends_rule (setting_of p net seed) ends)
+pub ends_are_rules : (p : PlainScenario) (net : Network) → net ≡ network_of p → IsAccepted p → (seed : ℕ) (ends : Ends) → MayEnd net ends → IsEndRule (setting_of p net seed) (ends_rule (setting_of p net seed) ends)
 ends_are_rules p net is accepted seed (After n) may =
     subst (λ (k : Network). IsEndRule (setting_of p k seed) (width_rule (setting_of p k seed) n)) (sym is) (widths_are_rules p seed n accepted may.0 (subst (λ (k : Network). IsWidth k n) is may.1))
-ends_are_rules p net is accepted seed (Promised ways) may =
+ends_are_rules p net is accepted seed Promised may =
     promises_are_a_rule (setting_of p net seed) (subst (λ (k : Network). IsFit (setting_of p k seed)) (sym is) (settings_are_fit p seed accepted))
 
-has_ways : (p : PlainScenario) (net : Network) (seed : ℕ) (ends : Ends) → MayEnd p net ends → HasWays (setting_of p net seed) ends
-has_ways p net seed (After n) may = tt
-has_ways p net seed (Promised ways) may = may seed
-
-module _ {X : Type 0} {H : X → Type 0} (f : DynBox X Global H → Record) (p : PlainScenario) (net : Network) (is : net ≡ network_of p) (accepted : IsAccepted p) (seed : ℕ) (ends : Ends) (may : MayEnd p net ends) where
+module _ (p : PlainScenario) (net : Network) (is : net ≡ network_of p) (accepted : IsAccepted p) (seed : ℕ) (ends : Ends) (may : MayEnd net ends) where
   abbrev pub s : Setting
   s = setting_of p net seed
 
@@ -232,7 +161,7 @@ module _ {X : Type 0} {H : X → Type 0} (f : DynBox X Global H → Record) (p :
   rule_is : IsEndRule s rule
   rule_is = ends_are_rules p net is accepted seed ends may
 
-  module _ (begins : List World) (w : World) (chain : AreWindows s rule begins w) (begin until : ℕ) (at_min : begin ≡ min until (start_of s w)) (whole : until ≡ p.until) (early : begin < until) (cut : ℕ) (cells : Grouped X H) (grouped : AreGrouped f cut cells.groups.items w.cells) where
+  module _ (begins : List World) (w : World) (chain : AreWindows s rule begins w) (begin until : ℕ) (at_min : begin ≡ min until (start_of s w)) (whole : until ≡ p.until) (early : begin < until) (cut : ℕ) (xs : List Soonest) (soon : AreSoonest s cut xs w.cells) where
     pub reached : IsReached s w
     reached = (windows_are_reached s rule begins w chain).0
 
@@ -242,12 +171,12 @@ module _ {X : Type 0} {H : X → Type 0} (f : DynBox X Global H → Record) (p :
     event : (e : Event) × IsNext s w e × (e.key.time ≡ start_of s w)
     event = (starts_tell s w).0 (let b = begin_is in omega arith)
 
-    pub begins_now : BeginsAt f s w ends cut cells begin until
-    begins_now = record { fit = fit; ways = has_ways p net seed ends may; reached = reached; grouped = grouped; begin_is = begin_is; until_is = whole }
+    begins_now : BeginsAt s w cut xs begin until
+    begins_now = record { fit = fit; reached = reached; soon = soon; begin_is = begin_is; until_is = whole }
 
-    module _ (end : ℕ) (told : (s : Setting) (w : World) → BeginsAt f s w ends cut cells begin until → end ≡ ends_rule s ends w) where
+    module _ (end : ℕ) (told : (s : Setting) (w : World) (cut : ℕ) → BeginsAt s w cut xs begin until → end ≡ ends_rule s ends w) where
       pub end_is : end ≡ rule w
-      end_is = told s w begins_now
+      end_is = told s w cut begins_now
 
       pub safe : IsSafe s end w
       safe = subst (λ n. IsSafe s n w) (sym end_is) (rule_is.safe w event.0 reached event.1)
@@ -272,7 +201,7 @@ module _ {X : Type 0} {H : X → Type 0} (f : DynBox X Global H → Record) (p :
       meets : (m : ℕ) → HasNoResult end w m → RunMeetsFull s
       meets m none = refused_windows_meet_full s rule begins w event.0 fit rule_is chain event.1 m (subst (λ n. HasNoResult n w m) end_is none)
 
-      module _ {C : Type 0} (handed : C → List (List cell.PlainJob) → C → Type 0) where
+      module _ {C X : Type 0} {H : X → Type 0} (handed : C → List (List cell.PlainJob) → C → Type 0) (f : DynBox X Global H → Record) where
         pub not_windowed : (l : LedgerView) (first old : C) (x : RunFault) (new : C) → TellsWindow handed f s l cut end w old (Err x) new → TellsWindows handed f s l cut rule first (Err x) new
         not_windowed l first old fault.NoMemory new h = tt
         not_windowed l first old fault.CountFull new h = meets h.0 h.1
@@ -294,15 +223,19 @@ none_crossed t (suc k) = ap (λ ns. slice_index ns k) (sym (nothing_counted t �
 
 module _ {X : Type 0} {H : X → Type 0} (f : DynBox X Global H → Record) where
   pub opened : (s : Setting) (l : LedgerView) (cut links : ℕ) (e : Grouped X H) (cs : List (Cell X H)) → AreCells f cs (opening_cells s s.traffic.members 0) → all_in e.groups.items ≡ cs → AreCuts cut (sizes e.groups.items)
-      → e.seat ≡ whole_seat l.name links → Holds f s.traffic l cut e (opening s)
-  opened s l cut links e cs seen same cuts seat = record {
-    grouped = record { cells = subst (λ ps. AreCells f (all_in e.groups.items) ps) (opening_is s) (subst (λ l. AreCells f l (opening_cells s s.traffic.members 0)) (sym same) seen); cuts = cuts };
+      → ((ps : List PlainCell) → AreGrouped f cut e.groups.items ps → AreSoonest s cut e.soon.items ps)
+      → e.seat ≡ whole_seat l.name links → Holds f s l cut e (opening s)
+  opened s l cut links e cs seen same cuts soon seat = record {
+    kept = record { grouped = grouped; soon = soon (opening s).cells grouped };
     counted = record {
       ledger = ap (λ (v : SeatView). v.ledger) seat;
       weight = ap (λ (v : SeatView). v.weight) seat;
       shares = λ k. ap (λ (v : SeatView). slice_index v.shares k) seat ∙ zeros (words_of links) k ∙ sym (none_crossed s.traffic k) ∙ ap (λ rows. word_of (crossings s.traffic rows) k) (sym (opening_trace s));
     };
   }
+    where
+      grouped : AreGrouped f cut e.groups.items (opening s).cells
+      grouped = record { cells = subst (λ ps. AreCells f (all_in e.groups.items) ps) (opening_is s) (subst (λ l. AreCells f l (opening_cells s s.traffic.members 0)) (sym same) seen); cuts = cuts }
 
 -- ---- its end
 

@@ -10,11 +10,12 @@ use Rattle.srm_cell.specs.declared.cell.Cell.{Cell}
 use Rattle.srm_cell.specs.declared.job.Job.{Job}
 use Rattle.srm_cell.specs.declared.job.Done as job
 use Rattle.srm_cell.specs.Flights.{BringsNone}
-use Rattle.srm_cell.specs.Setting.{Traffic}
-use Rattle.srm_cell.specs.Cells.{PlainCell, hear_at, next_event, time_of}
+use Rattle.srm_cell.specs.Setting.{Setting}
+use Rattle.srm_cell.specs.Cells.{PlainCell, hear_at}
 use Rattle.srm_cell.specs.Jobs as cell
 use Rattle.srm_engine.specs.Seen.{AreCells, IsNew, heard_below}
-use Rattle.srm_engine.specs.Windows.{least_with}
+use Rattle.srm_engine.specs.declared.window.Grouped.{Grouped}
+use Rattle.srm_engine.specs.Soonest.{AreSoonest}
 use Rattle.srm_engine.specs.WindowRuns.{PlainJob, AreNewInTurn, each_hears}
 
 -- ---- jobs as crews see them
@@ -37,13 +38,6 @@ abbrev pub some_of : {A : Type 0} → List (List A) → List (List A)
 some_of [] = []
 some_of ([] ∷ ls) = some_of ls
 some_of ((x ∷ xs) ∷ ls) = (x ∷ xs) ∷ some_of ls
-
--- ---- times
-
--- the least of a number and of the next times of the cells of member i and on
-abbrev pub least_among : ℕ → ℕ → List PlainCell → ℕ
-least_among n i [] = n
-least_among n i (c ∷ cs) = least_among (least_with n (time_of (next_event i c))) (suc i) cs
 
 -- ---- groups
 
@@ -94,36 +88,39 @@ module _ {X : Type 0} {H : X → Type 0} where
   abbrev pub IsNewTo : ℕ → PacketId → List (Vec (Cell X H)) → Type 0
   IsNewTo m id gs = (c : Cell X H) → slice_get (all_in gs) m ≡ Some c → BringsNone id c.inbox
 
+  -- the groups are those of all these plain cells, and what is kept of them is how soon something is due in each
+  pub record AreKept (f : DynBox X Global H → Record) (s : Setting) (cut : ℕ) (e : Grouped X H)
+      (ps : List PlainCell) : Type 0 where
+    pub grouped : AreGrouped f cut e.groups.items ps
+    pub soon : AreSoonest s cut e.soon.items ps
+
   -- after member m was handed a packet, which arrives at a tick
-  abbrev pub HandsIn : (DynBox X Global H → Record) → ℕ → ℕ → Packet → ℕ → List (Vec (Cell X H))
-      → List (Vec (Cell X H)) → Type 0
-  HandsIn f cut m p at old new =
-      (ps : List PlainCell) (q : PlainCell) → AreGrouped f cut old ps → slice_get ps m ≡ Some q
-      → AreGrouped f cut new (slice_set ps m (hear_at p (Some at) q))
+  abbrev pub HandsIn : (DynBox X Global H → Record) → Setting → ℕ → ℕ → Packet → ℕ → Grouped X H → Grouped X H → Type 0
+  HandsIn f s cut m p at old new =
+      (ps : List PlainCell) (q : PlainCell) → AreKept f s cut old ps → slice_get ps m ≡ Some q
+      → AreKept f s cut new (slice_set ps m (hear_at p (Some at) q))
 
   -- a packet may be handed out: a member sent it before the latest end of all, and it is new to the cells of all
-  pub record MayDeliverIn (f : DynBox X Global H → Record) (cut members : ℕ) (p : Packet)
-      (gs : List (Vec (Cell X H))) : Type 0 where
+  pub record MayDeliverIn (f : DynBox X Global H → Record) (s : Setting) (cut : ℕ) (p : Packet)
+      (e : Grouped X H) : Type 0 where
     pub sent : p.sent < 2 ^ 40
-    pub sender : p.id.sender < members
+    pub sender : p.id.sender < s.traffic.members
     pub cells : List PlainCell
-    pub many : length cells ≡ members
-    pub seen : AreGrouped f cut gs cells
+    pub many : length cells ≡ s.traffic.members
+    pub seen : AreKept f s cut e cells
     pub new : IsNew p.id cells
 
   -- after a packet was handed out: every cell has heard it
-  abbrev pub DeliversIn : (DynBox X Global H → Record) → Traffic → ℕ → Packet → List (Vec (Cell X H))
-      → List (Vec (Cell X H)) → Type 0
-  DeliversIn f t cut p old new =
-      (ps : List PlainCell) → AreGrouped f cut old ps → AreGrouped f cut new (heard_below t p (length ps) 0 ps)
+  abbrev pub DeliversIn : (DynBox X Global H → Record) → Setting → ℕ → Packet → Grouped X H → Grouped X H → Type 0
+  DeliversIn f s cut p old new =
+      (ps : List PlainCell) → AreKept f s cut old ps → AreKept f s cut new (heard_below s.traffic p (length ps) 0 ps)
 
   -- the packets of rows may be handed out, one after the other
-  abbrev pub MayHear : (DynBox X Global H → Record) → Traffic → ℕ → List Row → List (Vec (Cell X H)) → Type 0
-  MayHear f t cut rows gs =
-      (ps : List PlainCell) × AreGrouped f cut gs ps × (length ps ≡ t.members) × AreNewInTurn t rows ps
+  abbrev pub MayHear : (DynBox X Global H → Record) → Setting → ℕ → List Row → Grouped X H → Type 0
+  MayHear f s cut rows e =
+      (ps : List PlainCell) × AreKept f s cut e ps × (length ps ≡ s.traffic.members) × AreNewInTurn s.traffic rows ps
 
   -- after that every cell has heard them
-  abbrev pub Hears : (DynBox X Global H → Record) → Traffic → ℕ → List Row → List (Vec (Cell X H))
-      → List (Vec (Cell X H)) → Type 0
-  Hears f t cut rows old new =
-      (ps : List PlainCell) → AreGrouped f cut old ps → AreGrouped f cut new (each_hears t 0 rows ps)
+  abbrev pub Hears : (DynBox X Global H → Record) → Setting → ℕ → List Row → Grouped X H → Grouped X H → Type 0
+  Hears f s cut rows old new =
+      (ps : List PlainCell) → AreKept f s cut old ps → AreKept f s cut new (each_hears s.traffic 0 rows ps)

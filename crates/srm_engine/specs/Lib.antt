@@ -16,6 +16,7 @@ pub mod Openings
 pub mod Engines
 pub mod Outcomes
 pub mod Totalled
+pub mod Soonest
 pub mod Groups
 pub mod Windowed
 pub mod Ends

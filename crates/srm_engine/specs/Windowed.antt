@@ -24,7 +24,7 @@ use Rattle.srm_engine.specs.Windows.{IsWidth, promise_end}
 use Rattle.srm_engine.specs.WindowRuns.{OwnResult, AreOwnRuns, rows_in, cells_in, IsWindow, jobs_of}
 use Rattle.srm_engine.specs.WindowChains.{AreWindows, width_rule, least_width, window_jobs}
 use Rattle.srm_engine.specs.Openings.{HoldOpeningRecords}
-use Rattle.srm_engine.specs.Groups.{AreGrouped, handed_jobs, some_of}
+use Rattle.srm_engine.specs.Groups.{AreKept, handed_jobs, some_of}
 
 -- ---- what is given
 
@@ -65,11 +65,11 @@ pub record IsCounted (t : Traffic) (l : LedgerView) (rows : List Row) (seat : Se
   pub shares : (k : ℕ) → slice_index seat.shares k ≡ word_of (crossings t rows) k
 
 module _ {X : Type 0} {H : X → Type 0} where
-  -- the cells in groups and the seat are those of a world
-  pub record Holds (f : DynBox X Global H → Record) (t : Traffic) (l : LedgerView) (cut : ℕ) (e : Grouped X H)
+  -- the cells in groups, what is kept of them and the seat are those of a world
+  pub record Holds (f : DynBox X Global H → Record) (s : Setting) (l : LedgerView) (cut : ℕ) (e : Grouped X H)
       (w : World) : Type 0 where
-    pub grouped : AreGrouped f cut e.groups.items w.cells
-    pub counted : IsCounted t l w.trace e.seat
+    pub kept : AreKept f s cut e w.cells
+    pub counted : IsCounted s.traffic l w.trace e.seat
 
   module _ {C : Type 0} (handed : C → List (List cell.PlainJob) → C → Type 0) (f : DynBox X Global H → Record) where
     -- what the own runs of all cells tell, to an end
@@ -77,7 +77,7 @@ module _ {X : Type 0} {H : X → Type 0} where
         → Result (Grouped X H × Vec (Vec Row)) RunFault → C → Type 0
     TellsJobs s l cut end w old (Ok v) new =
         (results : List OwnResult) × AreOwnRuns end 0 w.cells results
-        × AreGrouped f cut v.0.groups.items (cells_in results)
+        × AreKept f s cut v.0 (cells_in results)
         × (map (λ (rows : Vec Row). rows.items) v.1.items ≡ some_of (rows_in results))
         × IsCounted s.traffic l (w.trace ++ joined (rows_in results)) v.0.seat
         × handed old (handed_jobs 0 (jobs_of cut end w) ∷ []) new
@@ -92,7 +92,7 @@ module _ {X : Type 0} {H : X → Type 0} where
     abbrev pub TellsWindow : Setting → LedgerView → ℕ → ℕ → World → C
         → Result (Grouped X H × Vec Row) RunFault → C → Type 0
     TellsWindow s l cut end w old (Ok v) new =
-        (u : World) × IsWindow s end w u × (u.trace ≡ w.trace ++ v.1.items) × Holds f s.traffic l cut v.0 u
+        (u : World) × IsWindow s end w u × (u.trace ≡ w.trace ++ v.1.items) × Holds f s l cut v.0 u
         × handed old (handed_jobs 0 (jobs_of cut end w) ∷ []) new
     TellsWindow s l cut end w old (Err fault.NoMemory) new = Unit {0}
     TellsWindow s l cut end w old (Err fault.CountFull) new = (m : ℕ) × HasNoResult end w m
@@ -106,7 +106,7 @@ module _ {X : Type 0} {H : X → Type 0} where
         → Result (Grouped X H × Vec Row) RunFault → C → Type 0
     TellsWindows s l cut rule old (Ok v) new =
         (begins : List World) × (w : World) × AreWindows s rule begins w × IsLast s w × (v.1.items ≡ w.trace)
-        × Holds f s.traffic l cut v.0 w × handed old (calls_of rule cut begins) new
+        × Holds f s l cut v.0 w × handed old (calls_of rule cut begins) new
     TellsWindows s l cut rule old (Err fault.NoMemory) new = Unit {0}
     TellsWindows s l cut rule old (Err fault.CountFull) new = RunMeetsFull s
     TellsWindows s l cut rule old (Err fault.ShareFull) new =

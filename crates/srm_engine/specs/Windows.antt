@@ -43,6 +43,10 @@ abbrev pub promise_of : Setting → ℕ → PlainCell → Option ℕ
 promise_of s m c =
     if is_listener (fixed_part c.holds).role then None else promise_by (time_of (next_event m c)) (out s m)
 
+-- the least way that member m's packets have before them: that to the nearest other member, if m may send any and there is one
+abbrev pub way_of : Setting → ℕ → Option ℕ
+way_of s m = if is_listener (s.fixed m).role then None else out s m
+
 -- the least of `until` and of the promises of the members from i on
 abbrev pub least_promise : Setting → ℕ → List PlainCell → ℕ
 least_promise s i [] = s.traffic.until

@@ -1,43 +1,34 @@
 //! Where windows end.
-ghost use Rattle.std.specs.Prelude.{◌≡◌, ◌<◌, ◌≤◌, ◌+◌, ◌↔◌, ℕ, IfOk, IsTrue, min, length};
+ghost use Rattle.std.specs.Prelude.{◌≡◌, ◌<◌, ◌≤◌, ◌+◌, ◌↔◌, ℕ, IsTrue, min, length};
 ghost use Rattle.srm_scenario.specs.Plain.{network_of};
 ghost use Rattle.srm_cell.specs.Setting.{Setting, setting_of};
 ghost use Rattle.srm_engine.specs.World.{World};
-ghost use Rattle.srm_engine.specs.Windows.{IsWidth};
+ghost use Rattle.srm_engine.specs.Windows.{IsWidth, way_of};
 ghost use Rattle.srm_engine.specs.WindowChains.{least_width};
-ghost use Rattle.srm_engine.specs.Ends.{way_of, AreWays, ends_rule, BeginsAt, TellsEnds};
+ghost use Rattle.srm_engine.specs.Ends.{ends_rule, BeginsAt, TellsEnds};
 
 use crate::fault::RunFault;
-use crate::groups::least_promise;
+use crate::soonest::{Soonest, least_promise};
 use crate::width::Width;
-use crate::window::Grouped;
-use srm_member::member::Member;
 use srm_net::net::Net;
 use srm_net::role::Role;
 use srm_scenario::scenario::Scenario;
-use std::alloc::{AllocError, Global};
 
 /// Where the windows of a run end.
 #[derive(Drop)]
 pub(crate) enum Ends {
     /// So many ticks after they begin, or with the run.
     After(u64),
-    /// At the least promise of a member, or with the run. A member's packets have at least this way before them, in ticks, by member:
-    /// none where it is a listener, which sends none, or where there is no other member.
-    Promised(Vec<Option<u64>>),
+    /// At the least promise of a member, or with the run.
+    Promised,
 }
 
 impl Ends {
     /// Where windows of this width end.
     ///
     /// # Errors
-    /// `BadWidth` where windows may not be so wide; else `NoMemory`.
-    pub(crate) fn of(
-        alloc: Global,
-        scenario: &Scenario,
-        net: &Net,
-        width: Width,
-    ) -> Result<Ends, RunFault>
+    /// `BadWidth` where windows may not be so wide.
+    pub(crate) fn of(scenario: &Scenario, net: &Net, width: Width) -> Result<Ends, RunFault>
         requires network { net.now ≡ network_of scenario.now }
         ensures { TellsEnds scenario.now net.now width result }
     {
@@ -50,27 +41,19 @@ impl Ends {
                     Err(RunFault::BadWidth)
                 }
             }
-            Width::Promise => match ways(alloc, scenario, net) {
-                Ok(ways) => Ok(Ends::Promised(ways)),
-                Err(AllocError) => Err(RunFault::NoMemory),
-            },
+            Width::Promise => Ok(Ends::Promised),
         }
     }
 
-    /// When the window of these cells ends that begins at tick `begin`.
-    pub(crate) fn end(&self, cells: &Grouped, cut: usize, begin: u64, until: u64) -> u64
-        requires cut { 0 < cut }
+    /// When the window ends that begins at tick `begin`, where something is due in the groups so soon.
+    pub(crate) fn end(&self, soon: &[Soonest], begin: u64, until: u64) -> u64
         requires early { begin < until }
-        requires known { (s : Setting) × (w : World) × BeginsAt (λ b. (⟦<dyn Member as Member>⟧ b.vtable).plain b.value)
-            s w self.now cut cells.now begin until }
-        ensures { (s : Setting) (w : World) → BeginsAt (λ b. (⟦<dyn Member as Member>⟧ b.vtable).plain b.value)
-            s w self.now cut cells.now begin until → result ≡ ends_rule s self.now w }
+        ensures { (s : Setting) (w : World) (cut : ℕ) → BeginsAt s w cut soon.now begin until
+            → result ≡ ends_rule s self.now w }
     {
         match self {
             Ends::After(width) => after(begin, *width, until),
-            Ends::Promised(ways) => {
-                least_promise(cells.groups.as_slice(), cut, ways.as_slice(), until)
-            }
+            Ends::Promised => least_promise(soon, until),
         }
     }
 }
@@ -109,20 +92,8 @@ fn may_be_wide(net: &Net, ticks: u64) -> bool
     }
 }
 
-// The way that each member's packets have before them.
-fn ways(alloc: Global, scenario: &Scenario, net: &Net) -> Result<Vec<Option<u64>>, AllocError>
-    requires network { net.now ≡ network_of scenario.now }
-    ensures { IfOk result (λ ways. (seed : ℕ) → AreWays (setting_of scenario.now net.now seed) ways.items) }
-{
-    let mut ways = Vec::new(alloc);
-    for member in 0..scenario.members() {
-        ways.push(way(scenario, net, member))?;
-    }
-    Ok(ways)
-}
-
-// The least way that a member's packets have before them: that to the nearest other member. A listener sends none.
-fn way(scenario: &Scenario, net: &Net, member: u16) -> Option<u64>
+/// The least way that a member's packets have before them, in ticks: that to the nearest other member. A listener sends none.
+pub(crate) fn way(scenario: &Scenario, net: &Net, member: u16) -> Option<u64>
     requires network { net.now ≡ network_of scenario.now }
     requires member { member < length scenario.now.members }
     ensures { (seed : ℕ) → result ≡ way_of (setting_of scenario.now net.now seed) member }

@@ -1,17 +1,9 @@
 //! The cells of all members, those of each job together.
-ghost use Rattle.std.specs.Prelude.{◌≡◌, ◌+◌, ◌<◌, ◌≤◌, ◌^◌, ◌++◌, ℕ, List, IfOk, length, map};
-ghost use Rattle.std.specs.List.{AllZip};
-ghost use Rattle.srm_cell.specs.Cells.{PlainCell};
-ghost use Rattle.srm_cell.specs.Jobs.{AreCells as AreOwnCells};
-ghost use Rattle.srm_cell.specs.Setting.{Setting};
-ghost use Rattle.srm_engine.specs.Seen.{AreCells};
-ghost use Rattle.srm_engine.specs.Ends.{AreWays, KeepFixed};
-ghost use Rattle.srm_engine.specs.Windows.{promise_by, least_promise as least_promised, least_with as lesser};
-ghost use Rattle.srm_engine.specs.Groups.{AreCuts, sizes, all_in, jobs_with, groups_of, lists_of, some_of, numbered, least_among};
+ghost use Rattle.std.specs.Prelude.{◌≡◌, ◌<◌, ◌++◌, IfOk, map};
+ghost use Rattle.srm_engine.specs.Groups.{AreCuts, sizes, all_in, jobs_with, groups_of, lists_of, some_of};
 
 use srm_cell::cell::Cell;
 use srm_cell::job::{Done, Job};
-use srm_member::member::Member;
 use srm_member::row::Row;
 use srm_net::sequence::Sequence;
 use std::alloc::{AllocError, Global};
@@ -94,72 +86,4 @@ pub(crate) fn flatten(alloc: Global, groups: Vec<Vec<Cell>>) -> Result<Vec<Cell>
         cells.append(&mut group)?;
     }
     Ok(cells)
-}
-
-// The lesser of a time and another, if there is another.
-fn least_with(time: u64, other: Option<u64>) -> u64
-    ensures { result ≡ lesser time other }
-{
-    match other {
-        Some(other) if other < time => other,
-        _ => time,
-    }
-}
-
-/// The least of a time and of the next times of all cells.
-pub(crate) fn least(groups: &[Vec<Cell>], time: u64) -> u64
-    ensures { (ps : List PlainCell)
-        → AreCells (λ b. (⟦<dyn Member as Member>⟧ b.vtable).plain b.value) (all_in groups.now) ps
-        → result ≡ least_among time 0 ps }
-{
-    let mut best = time;
-    for group in groups {
-        best = least_in(group.as_slice(), best);
-    }
-    best
-}
-
-// The least of a time and of the next times of these cells.
-fn least_in(cells: &[Cell], time: u64) -> u64
-    ensures { (i : ℕ) (ps : List PlainCell)
-        → AreOwnCells (λ b. (⟦<dyn Member as Member>⟧ b.vtable).plain b.value) cells.now (numbered i ps)
-        → result ≡ least_among time i ps }
-{
-    let mut best = time;
-    for cell in cells {
-        best = least_with(best, cell.next_time());
-    }
-    best
-}
-
-// The lesser of a time and the sum of another and a way, if there are both.
-fn least_with_sum(time: u64, next: Option<u64>, way: Option<u64>) -> u64
-    ensures { result ≡ lesser time (promise_by next way) }
-{
-    match (next, way) {
-        (Some(next), Some(way)) if next < time && way < time - next => next + way,
-        _ => time,
-    }
-}
-
-/// The least of the end of the run and of the promises of all cells, whose members' packets have these ways before them.
-pub(crate) fn least_promise(
-    groups: &[Vec<Cell>],
-    cut: usize,
-    ways: &[Option<u64>],
-    until: u64,
-) -> u64
-    requires cut { 0 < cut }
-    requires cuts { AreCuts cut (sizes groups.now) }
-    requires many { length ways.now ≡ length (all_in groups.now) }
-    ensures { (s : Setting) (ps : List PlainCell)
-        → AreCells (λ b. (⟦<dyn Member as Member>⟧ b.vtable).plain b.value) (all_in groups.now) ps
-        → AreWays s ways.now → KeepFixed s ps → until ≡ s.traffic.until → result ≡ least_promised s 0 ps }
-{
-    let mut best = until;
-    for (member, way) in ways.iter().enumerate() {
-        let cell = &groups[member / cut][member % cut];
-        best = least_with_sum(best, cell.next_time(), *way);
-    }
-    best
 }

@@ -1,11 +1,13 @@
 //! Handing out the packets of a window's rows.
-ghost use Rattle.std.specs.Prelude.{◌≡◌, ◌<◌, ◌≤◌, ◌^◌, ℕ, Some, IfOk, length};
+ghost use Rattle.std.specs.Prelude.{◌≡◌, ◌<◌, ◌≤◌, ◌/◌, ◌^◌, ℕ, Some, IfOk, length};
 ghost use Rattle.srm_scenario.specs.Plain.{network_of};
-ghost use Rattle.srm_cell.specs.Setting.{traffic_of};
+ghost use Rattle.srm_cell.specs.Setting.{Setting, setting_of};
+ghost use Rattle.srm_engine.specs.Windows.{way_of};
 ghost use Rattle.srm_engine.specs.Groups.{AreCuts, sizes, all_in, IsNewTo, HandsIn, MayDeliverIn, DeliversIn, MayHear, Hears};
 
 use crate::arrival::arrival;
-use srm_cell::cell::Cell;
+use crate::ends::way;
+use crate::window::Grouped;
 use srm_member::member::Member;
 use srm_member::row::Row;
 use srm_net::net::Net;
@@ -13,27 +15,34 @@ use srm_net::packet::Packet;
 use srm_scenario::scenario::Scenario;
 use std::alloc::AllocError;
 
-// A member is handed a packet, which arrives at tick `at`.
+// A member, whose own packets have this way before them, is handed a packet, which arrives at tick `at`.
 fn hand(
-    groups: &mut Vec<Vec<Cell>>,
+    cells: &mut Grouped,
     cut: usize,
     member: u16,
+    way: Option<u64>,
     packet: &Packet,
     at: u64,
 ) -> Result<(), AllocError>
     requires cut { 0 < cut }
-    requires cuts { AreCuts cut (sizes groups.old.items) }
-    requires place { member < length (all_in groups.old.items) }
-    requires new { IsNewTo member packet.now.id groups.old.items }
-    ensures { IfOk result (λ _. HandsIn (λ b. (⟦<dyn Member as Member>⟧ b.vtable).plain b.value) cut member
-        packet.now at groups.old.items groups.new.items) }
+    requires cuts { AreCuts cut (sizes cells.old.groups.items) }
+    requires place { member < length (all_in cells.old.groups.items) }
+    requires soon { member / cut < length cells.old.soon.items }
+    requires new { IsNewTo member packet.now.id cells.old.groups.items }
+    ensures seat { IfOk result (λ _. cells.new.seat ≡ cells.old.seat) }
+    ensures heard { IfOk result (λ _. (s : Setting) → way ≡ way_of s member
+        → HandsIn (λ b. (⟦<dyn Member as Member>⟧ b.vtable).plain b.value) s cut member packet.now at
+        cells.old cells.new) }
 {
     let place = usize::from(member);
-    let group = &mut groups[place / cut];
+    let group = &mut cells.groups[place / cut];
     let cell = &mut group[place % cut];
     let Ok(()) = cell.accept(packet, at) else {
         return Err(AllocError);
     };
+    let next = cell.next_time();
+    let soonest = &mut cells.soon[place / cut];
+    *soonest = soonest.with(next, way);
     Ok(())
 }
 
@@ -41,21 +50,23 @@ fn hand(
 fn deliver(
     scenario: &Scenario,
     net: &Net,
-    groups: &mut Vec<Vec<Cell>>,
+    cells: &mut Grouped,
     cut: usize,
     packet: &Packet,
 ) -> Result<(), AllocError>
     requires network { net.now ≡ network_of scenario.now }
     requires cut { 0 < cut }
-    requires may { MayDeliverIn (λ b. (⟦<dyn Member as Member>⟧ b.vtable).plain b.value) cut
-        (length scenario.now.members) packet.now groups.old.items }
-    ensures { IfOk result (λ _. DeliversIn (λ b. (⟦<dyn Member as Member>⟧ b.vtable).plain b.value)
-        (traffic_of scenario.now net.now) cut packet.now groups.old.items groups.new.items) }
+    requires may { (seed : ℕ) × MayDeliverIn (λ b. (⟦<dyn Member as Member>⟧ b.vtable).plain b.value)
+        (setting_of scenario.now net.now seed) cut packet.now cells.old }
+    ensures seat { IfOk result (λ _. cells.new.seat ≡ cells.old.seat) }
+    ensures heard { IfOk result (λ _. (seed : ℕ) → DeliversIn (λ b. (⟦<dyn Member as Member>⟧ b.vtable).plain b.value)
+        (setting_of scenario.now net.now seed) cut packet.now cells.old cells.new) }
 {
     let listed = scenario.drops().lists_packet(packet.id);
     for member in 0..scenario.members() {
         if let Some(at) = arrival(scenario, net, packet, listed, member) {
-            hand(groups, cut, member, packet, at)?;
+            let way = way(scenario, net, member);
+            hand(cells, cut, member, way, packet, at)?;
         }
     }
     Ok(())
@@ -65,21 +76,22 @@ fn deliver(
 pub(crate) fn hear(
     scenario: &Scenario,
     net: &Net,
-    groups: &mut Vec<Vec<Cell>>,
+    cells: &mut Grouped,
     cut: usize,
     rows: &[Row],
 ) -> Result<(), AllocError>
     requires network { net.now ≡ network_of scenario.now }
     requires until { scenario.now.until ≤ 2 ^ 40 }
     requires cut { 0 < cut }
-    requires may { MayHear (λ b. (⟦<dyn Member as Member>⟧ b.vtable).plain b.value)
-        (traffic_of scenario.now net.now) cut rows.now groups.old.items }
-    ensures { IfOk result (λ _. Hears (λ b. (⟦<dyn Member as Member>⟧ b.vtable).plain b.value)
-        (traffic_of scenario.now net.now) cut rows.now groups.old.items groups.new.items) }
+    requires may { (seed : ℕ) × MayHear (λ b. (⟦<dyn Member as Member>⟧ b.vtable).plain b.value)
+        (setting_of scenario.now net.now seed) cut rows.now cells.old }
+    ensures seat { IfOk result (λ _. cells.new.seat ≡ cells.old.seat) }
+    ensures heard { IfOk result (λ _. (seed : ℕ) → Hears (λ b. (⟦<dyn Member as Member>⟧ b.vtable).plain b.value)
+        (setting_of scenario.now net.now seed) cut rows.now cells.old cells.new) }
 {
     for row in rows {
         if let Some(packet) = &row.sent {
-            deliver(scenario, net, groups, cut, packet)?;
+            deliver(scenario, net, cells, cut, packet)?;
         }
     }
     Ok(())

@@ -17,6 +17,7 @@ pub mod laws_of_windows;
 pub mod next_times;
 pub mod outcome;
 pub mod sink;
+mod soonest;
 pub mod step_run;
 pub mod step_stream;
 pub mod stream_fault;

@@ -3,7 +3,7 @@ ghost use Rattle.std.specs.Prelude.{◌≡◌, ◌<◌, ◌≤◌, ◌^◌, ℕ,
 ghost use Rattle.std.specs.Ordering.{is_lt};
 ghost use Rattle.srm_scenario.specs.Plain.{network_of};
 ghost use Rattle.srm_scenario.specs.Accepted.{IsAccepted};
-ghost use Rattle.srm_cell.specs.Setting.{traffic_of, setting_of};
+ghost use Rattle.srm_cell.specs.Setting.{setting_of};
 ghost use Rattle.srm_cell.specs.Crossings.{joined};
 ghost use Rattle.srm_engine.specs.World.{World, row_cmp, IsReached};
 ghost use Rattle.srm_engine.specs.Schedules.{IsSafe};
@@ -12,6 +12,7 @@ ghost use Rattle.srm_engine.specs.Windowed.{IsCut, Holds, TellsJobs, TellsWindow
 use crate::fault::RunFault;
 use crate::groups::{apart, jobs};
 use crate::handing::hear;
+use crate::soonest::{Soonest, look_again};
 use itertools::Itertools;
 use srm_cell::cell::Cell;
 use srm_crew::crew::Crew;
@@ -23,10 +24,12 @@ use srm_net::net::Net;
 use srm_scenario::scenario::Scenario;
 use std::alloc::{AllocError, Global};
 
-/// The cells of all members, those of each job together, and the whole seat of the ledger.
+/// The cells of all members, those of each job together, how soon something is due in each of these groups, and the whole seat of
+/// the ledger.
 #[derive(Drop)]
 pub(crate) struct Grouped {
     pub(crate) groups: Vec<Vec<Cell>>,
+    pub(crate) soon: Vec<Soonest>,
     pub(crate) seat: Seat,
 }
 
@@ -64,16 +67,17 @@ fn run_jobs<C: Crew>(
     requires cut { IsCut cut }
     requires end { end ≤ scenario.now.until }
     requires known { (seed : ℕ) × (w : World) × IsReached (setting_of scenario.now net.now seed) w
-        × Holds (λ b. (⟦<dyn Member as Member>⟧ b.vtable).plain b.value) (traffic_of scenario.now net.now)
+        × Holds (λ b. (⟦<dyn Member as Member>⟧ b.vtable).plain b.value) (setting_of scenario.now net.now seed)
         ledger.now cut cells w }
     ensures ready { C.ready crew.new }
     ensures runs { (seed : ℕ) (w : World) → IsReached (setting_of scenario.now net.now seed) w
-        → Holds (λ b. (⟦<dyn Member as Member>⟧ b.vtable).plain b.value) (traffic_of scenario.now net.now)
+        → Holds (λ b. (⟦<dyn Member as Member>⟧ b.vtable).plain b.value) (setting_of scenario.now net.now seed)
         ledger.now cut cells w
         → TellsJobs C.handed (λ b. (⟦<dyn Member as Member>⟧ b.vtable).plain b.value)
         (setting_of scenario.now net.now seed) ledger.now cut end w crew.old result crew.new }
 {
-    let Grouped { groups, seat } = cells;
+    let Grouped { groups, soon, seat } = cells;
+    let mut soon = soon;
     let Ok(jobs) = jobs(alloc, groups, end) else {
         return Err(RunFault::NoMemory);
     };
@@ -87,7 +91,15 @@ fn run_jobs<C: Crew>(
     let Ok((groups, lists)) = apart(alloc, all) else {
         return Err(RunFault::NoMemory);
     };
-    Ok((Grouped { groups, seat }, lists))
+    look_again(
+        scenario,
+        net,
+        groups.as_slice(),
+        cut,
+        end,
+        soon.as_mut_slice(),
+    );
+    Ok((Grouped { groups, soon, seat }, lists))
 }
 
 /// One window: every cell runs alone to its end, the rows are merged, and every cell hears their packets.
@@ -109,12 +121,12 @@ pub(crate) fn window<C: Crew>(
     requires end { end ≤ scenario.now.until }
     requires known { (seed : ℕ) × (w : World) × IsReached (setting_of scenario.now net.now seed) w
         × IsSafe (setting_of scenario.now net.now seed) end w
-        × Holds (λ b. (⟦<dyn Member as Member>⟧ b.vtable).plain b.value) (traffic_of scenario.now net.now)
+        × Holds (λ b. (⟦<dyn Member as Member>⟧ b.vtable).plain b.value) (setting_of scenario.now net.now seed)
         ledger.now cut cells w }
     ensures ready { C.ready crew.new }
     ensures window { (seed : ℕ) (w : World) → IsReached (setting_of scenario.now net.now seed) w
         → IsSafe (setting_of scenario.now net.now seed) end w
-        → Holds (λ b. (⟦<dyn Member as Member>⟧ b.vtable).plain b.value) (traffic_of scenario.now net.now)
+        → Holds (λ b. (⟦<dyn Member as Member>⟧ b.vtable).plain b.value) (setting_of scenario.now net.now seed)
         ledger.now cut cells w
         → TellsWindow C.handed (λ b. (⟦<dyn Member as Member>⟧ b.vtable).plain b.value)
         (setting_of scenario.now net.now seed) ledger.now cut end w crew.old result crew.new }
@@ -126,9 +138,9 @@ pub(crate) fn window<C: Crew>(
     let Ok(rows) = merge(alloc, lists) else {
         return Err(RunFault::NoMemory);
     };
-    let Grouped { mut groups, seat } = cells;
-    let Ok(()) = hear(scenario, net, &mut groups, cut, rows.as_slice()) else {
+    let mut cells = cells;
+    let Ok(()) = hear(scenario, net, &mut cells, cut, rows.as_slice()) else {
         return Err(RunFault::NoMemory);
     };
-    Ok((Grouped { groups, seat }, rows))
+    Ok((cells, rows))
 }

@@ -11,6 +11,7 @@ use crate::fault::RunFault;
 use crate::groups::{flatten, group};
 use crate::next_times::NextTimes;
 use crate::outcome::Outcome;
+use crate::soonest::soonest_of_each;
 use crate::width::Windows;
 use crate::window::Grouped;
 use crate::windowed::windows;
@@ -35,7 +36,7 @@ fn run<C: Crew>(
     requires network { net.now ≡ network_of scenario.now }
     requires boxes { (seed : ℕ) × HoldOpeningRecords scenario.now net.now seed (map (λ b. plain b) members.items) }
     requires cut { IsCut cut }
-    requires ends { MayEnd scenario.now net.now ends.now }
+    requires ends { MayEnd net.now ends.now }
     ensures ready { C.ready crew.new }
     ensures fault { IfErr result (λ e. (e ≢ RunFault.BadCut) × (e ≢ RunFault.BadWidth)) }
     ensures run { RunsInWindows C.handed scenario.now net.now (map (λ b. plain b) members.items)
@@ -51,12 +52,15 @@ fn run<C: Crew>(
     let Ok(groups) = group(alloc, cells, cut) else {
         return Err(RunFault::NoMemory);
     };
-    let cells = Grouped { groups, seat };
+    let Ok(soon) = soonest_of_each(alloc, scenario, net, groups.as_slice(), cut) else {
+        return Err(RunFault::NoMemory);
+    };
+    let cells = Grouped { groups, soon, seat };
     let (cells, trace) = match windows(alloc, scenario, net, &ledger, crew, cut, ends, cells) {
         Ok(done) => done,
         Err(fault) => return Err(fault),
     };
-    let Grouped { groups, seat } = cells;
+    let Grouped { groups, seat, .. } = cells;
     let Ok(cells) = flatten(alloc, groups) else {
         return Err(RunFault::NoMemory);
     };
@@ -107,7 +111,7 @@ pub fn window_run<C: Crew>(
     if asked.cut == 0 || asked.cut > 1024 {
         return Err(RunFault::BadCut);
     }
-    let ends = match Ends::of(alloc, scenario, net, asked.width) {
+    let ends = match Ends::of(scenario, net, asked.width) {
         Ok(ends) => ends,
         Err(fault) => return Err(fault),
     };

@@ -1,35 +1,38 @@
-use Rattle.std.proofs.Common.{◌≡◌, ◌<◌, sym, ◌∙◌, ap, subst, length, slice_set, List, arith, le_refl}
-use Rattle.srm_cell.specs.Setting.{arrival_of, traffic_of}
+use Rattle.std.proofs.Common.{refl, ◌≡◌, ◌<◌, sym, ◌∙◌, ap, subst, length, slice_set, List, arith, le_refl}
+use Rattle.srm_cell.specs.Setting.{arrival_of, setting_of, traffic_of}
 use Rattle.srm_cell.specs.Cells.{PlainCell}
 use Rattle.srm_cell.specs.Flights.{BringsNone}
 use Rattle.srm_engine.specs.Seen.{heard_below}
-use Rattle.srm_engine.specs.Groups.{AreGrouped}
+use Rattle.srm_engine.specs.Groups.{AreKept}
 use Rattle.srm_engine.proofs.Hearing.{none_heard, length_heard, get_next, heard_next, hears_not, hears_at}
 use Rattle.srm_engine.proofs.SeenLemmas.{there, set_same}
 use Rattle.srm_engine.proofs.handing.deliver.Goals.{in-Some+in_ok-hand, in_default}
 use Rattle.srm_engine.proofs.handing.deliver.Goals as goal
 
 pub loop-member-init : goal.loop-member-init
-loop-member-init g c = λ ps h.
-    subst (λ (qs : List PlainCell). AreGrouped (λ b. (goal.Member-dyn g (b.vtable, b.value)).plain b.value) c.args.cut c.args.groups.now.items qs)
-    (sym (none_heard (traffic_of c.args.scenario.now c.args.net.now) c.args.packet.now 0 0 ps (le_refl 0))) h
+loop-member-init g c = (
+  refl,
+  λ seed ps h.
+      subst (λ (qs : List PlainCell). AreKept (λ b. (goal.Member-dyn g (b.vtable, b.value)).plain b.value) (setting_of c.args.scenario.now c.args.net.now seed) c.args.cut c.args.cells.now qs)
+      (sym (none_heard (traffic_of c.args.scenario.now c.args.net.now) c.args.packet.now 0 0 ps (le_refl 0))) h,
+)
 
 pub hand-requires-clause-cuts : goal.hand-requires-clause-cuts
-hand-requires-clause-cuts g c = let n = c.requires.may in (c.loop-member.invariant n.cells n.seen).cuts
+hand-requires-clause-cuts g c = let n = c.requires.may.1 in (c.loop-member.invariant.1 c.requires.may.0 n.cells n.seen).grouped.cuts
 
 pub hand-requires-clause-place : goal.hand-requires-clause-place
 hand-requires-clause-place g c =
-    let n = c.requires.may in
-    let many = (c.loop-member.invariant n.cells n.seen).cells.as_many in
+    let n = c.requires.may.1 in
+    let many = (c.loop-member.invariant.1 c.requires.may.0 n.cells n.seen).grouped.cells.as_many in
     let same = length_heard (traffic_of c.args.scenario.now c.args.net.now) c.args.packet.now c.loop-member.member 0 n.cells in
     let members = n.many in
     omega arith
 
 pub hand-requires-clause-new : goal.hand-requires-clause-new
 hand-requires-clause-new g c = λ cell e.
-    let n = c.requires.may in
+    let n = c.requires.may.1 in
     let t = traffic_of c.args.scenario.now c.args.net.now in
-    let seen = c.loop-member.invariant n.cells n.seen in
+    let seen = (c.loop-member.invariant.1 c.requires.may.0 n.cells n.seen).grouped in
     let members = n.many in
     let within : c.loop-member.member < length n.cells = omega arith in
     let p = there n.cells c.loop-member.member within in
@@ -38,41 +41,51 @@ hand-requires-clause-new g c = λ cell e.
 
 pub loop-member-preserved : goal.loop-member-preserved
 loop-member-preserved g c =
-    let i = c.loop-member.invariant in
+    let i = c.loop-member.invariant.1 in
     let t = traffic_of c.args.scenario.now c.args.net.now in
     let p = c.args.packet.now in
     let m = c.loop-member.member in
     let flight : arrival_of t p m ≡ c.arrival.result = sym c.arrival.ensures in
-    let members = c.requires.may.many in
+    let members = c.requires.may.1.many in
     elim c.match-arrival.branch [
-      | in-Some+in_ok-hand w ↦ rw w.groups-is (
-          λ ps h.
-          let old = h.cells.as_many in
-          let was = c.requires.may.seen.cells.as_many in
-          let within : m < length ps = omega arith in
-          let q = there ps m within in
-          let heard = heard_below t p m 0 ps in
-          subst (λ (qs : List PlainCell). AreGrouped (λ b. (goal.Member-dyn g (b.vtable, b.value)).plain b.value) c.args.cut w.hand.new.groups.items qs)
-          (ap (slice_set heard m) (sym (hears_at t p m w.in-Some.at q.0 (flight ∙ w.in-Some.is))) ∙ heard_next t p m ps q.0 q.1)
-          (w.in_ok-hand.ensures heard q.0 (i ps h) (get_next t p m ps ∙ q.1))
-          )
-      | in_default w ↦ rw w.groups-is (
-          λ ps h.
-          let old = h.cells.as_many in
-          let was = c.requires.may.seen.cells.as_many in
-          let within : m < length ps = omega arith in
-          let q = there ps m within in
-          let heard = heard_below t p m 0 ps in
-          subst (λ (qs : List PlainCell). AreGrouped (λ b. (goal.Member-dyn g (b.vtable, b.value)).plain b.value) c.args.cut c.loop-member.groups.items qs)
-          (sym (set_same heard m q.0 (get_next t p m ps ∙ q.1)) ∙ ap (slice_set heard m) (sym (hears_not t p m q.0 (flight ∙ w.in_default.is))) ∙ heard_next t p m ps q.0 q.1)
-          (i ps h)
-          )
+      | in-Some+in_ok-hand w ↦ rw w.cells-is (
+        w.in_ok-hand.ensures.seat ∙ c.loop-member.invariant.0,
+        λ seed ps h.
+            let old = h.grouped.cells.as_many in
+            let was = c.requires.may.1.seen.grouped.cells.as_many in
+            let within : m < length ps = omega arith in
+            let q = there ps m within in
+            let heard = heard_below t p m 0 ps in
+            subst (λ (qs : List PlainCell). AreKept (λ b. (goal.Member-dyn g (b.vtable, b.value)).plain b.value) (setting_of c.args.scenario.now c.args.net.now seed) c.args.cut w.hand.new.cells qs)
+            (ap (slice_set heard m) (sym (hears_at t p m w.in-Some.at q.0 (flight ∙ w.in-Some.is))) ∙ heard_next t p m ps q.0 q.1)
+            (w.in_ok-hand.ensures.heard (setting_of c.args.scenario.now c.args.net.now seed) (w.way-way.ensures seed) heard q.0 (i seed ps h) (get_next t p m ps ∙ q.1)),
+      )
+      | in_default w ↦ rw w.cells-is (
+        c.loop-member.invariant.0,
+        λ seed ps h.
+            let old = h.grouped.cells.as_many in
+            let was = c.requires.may.1.seen.grouped.cells.as_many in
+            let within : m < length ps = omega arith in
+            let q = there ps m within in
+            let heard = heard_below t p m 0 ps in
+            subst (λ (qs : List PlainCell). AreKept (λ b. (goal.Member-dyn g (b.vtable, b.value)).plain b.value) (setting_of c.args.scenario.now c.args.net.now seed) c.args.cut c.loop-member.cells qs)
+            (sym (set_same heard m q.0 (get_next t p m ps ∙ q.1)) ∙ ap (slice_set heard m) (sym (hears_not t p m q.0 (flight ∙ w.in_default.is))) ∙ heard_next t p m ps q.0 q.1)
+            (i seed ps h),
+      )
     ]
 
-pub returns : goal.returns
-returns g c = λ ps h.
-    let old = h.cells.as_many in
-    let was = c.requires.may.seen.cells.as_many in
-    let members = c.requires.may.many in
+pub returns-clause-heard : goal.returns-clause-heard
+returns-clause-heard g c = λ seed ps h.
+    let old = h.grouped.cells.as_many in
+    let was = c.requires.may.1.seen.grouped.cells.as_many in
+    let members = c.requires.may.1.many in
     let all : c.loop-member.member ≡ length ps = omega arith in
-    subst (λ n. AreGrouped (λ b. (goal.Member-dyn g (b.vtable, b.value)).plain b.value) c.args.cut c.loop-member.groups.items (heard_below (traffic_of c.args.scenario.now c.args.net.now) c.args.packet.now n 0 ps)) all (c.loop-member.invariant ps h)
+    subst (λ n. AreKept (λ b. (goal.Member-dyn g (b.vtable, b.value)).plain b.value) (setting_of c.args.scenario.now c.args.net.now seed) c.args.cut c.loop-member.cells (heard_below (traffic_of c.args.scenario.now c.args.net.now) c.args.packet.now n 0 ps)) all (c.loop-member.invariant.1 seed ps h)
+
+pub hand-requires-clause-soon : goal.hand-requires-clause-soon
+hand-requires-clause-soon g c =
+    let n = c.requires.may.1 in
+    let kept = c.loop-member.invariant.1 c.requires.may.0 n.cells n.seen in
+    let same = length_heard (traffic_of c.args.scenario.now c.args.net.now) c.args.packet.now c.loop-member.member 0 n.cells in
+    let members = n.many in
+    kept.soon.many c.loop-member.member (omega arith)

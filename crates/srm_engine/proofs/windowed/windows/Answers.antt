@@ -4,13 +4,12 @@ use Rattle.srm_cell.specs.Setting.{setting_of}
 use Rattle.srm_engine.specs.World.{opening}
 use Rattle.srm_engine.specs.WindowChains.{no_window, start_of}
 use Rattle.srm_engine.specs.Ends.{ends_rule}
-use Rattle.srm_engine.specs.Seen.{AreCells}
-use Rattle.srm_engine.specs.Groups.{all_in}
+use Rattle.srm_engine.specs.Soonest.{AreSoonest}
 use Rattle.srm_engine.proofs.PhaseLemmas.{pushed_if}
 use Rattle.srm_engine.proofs.Stepping.{opening_trace}
 use Rattle.srm_engine.proofs.WindowEnds.{starts_tell}
 use Rattle.srm_engine.proofs.WindowChain.{windows_are_reached}
-use Rattle.srm_engine.proofs.WindowedLemmas.{begins_at, reached, begins_now, safe, within, follows, later, call_more, not_windowed}
+use Rattle.srm_engine.proofs.WindowedLemmas.{reached, safe, within, follows, later, call_more, not_windowed}
 use Rattle.srm_engine.proofs.windowed.windows.Goals as goal
 
 pub loop-begin-init : goal.loop-begin-init
@@ -18,20 +17,15 @@ loop-begin-init g c = (
   c.requires.ready,
   λ seed h.
       let s = setting_of c.args.scenario.now c.args.net.now seed in
-      ([], opening s, no_window, c.new-trace.ensures.items ∙ sym (opening_trace s), begins_at s (opening s) c.least-begin.result c.until-until.result (c.least-begin.ensures (opening s).cells (subst (λ l. AreCells (λ b. (goal.Member-dyn g (b.vtable, b.value)).plain b.value) (all_in l) (opening s).cells) (sym c.as_slice.ensures.value) h.grouped.cells)) c.until-until.ensures.until, h, g.met.C.Crew.handed_none c.args.crew.now),
+      ([], opening s, no_window, c.new-trace.ensures.items ∙ sym (opening_trace s), c.least-begin.ensures s c.args.cut (opening s) (subst (λ l. AreSoonest s c.args.cut l (opening s).cells) (sym c.as_slice.ensures.value) h.kept.soon) c.until-until.ensures.until, h, g.met.C.Crew.handed_none c.args.crew.now),
 )
-
-pub end-end-requires-clause-known : goal.end-end-requires-clause-known
-end-end-requires-clause-known g c =
-    let k = c.requires.opened in
-    let i = c.loop-begin.invariant.1 k.0 k.1 in
-    (setting_of c.args.scenario.now c.args.net.now k.0, i.1, begins_now (λ b. (goal.Member-dyn g (b.vtable, b.value)).plain b.value) c.args.scenario.now c.args.net.now c.requires.network c.until-until.ensures.accepted k.0 c.args.ends.now c.requires.ends i.0 i.1 i.2 c.loop-begin.begin c.until-until.result i.4 c.until-until.ensures.until c.loop-begin-test.true c.args.cut c.loop-begin.cells i.5.grouped)
 
 pub window-requires-clause-end : goal.window-requires-clause-end
 window-requires-clause-end g c =
     let k = c.requires.opened in
     let i = c.loop-begin.invariant.1 k.0 k.1 in
-    let le = within (λ b. (goal.Member-dyn g (b.vtable, b.value)).plain b.value) c.args.scenario.now c.args.net.now c.requires.network c.until-until.ensures.accepted k.0 c.args.ends.now c.requires.ends i.0 i.1 i.2 c.loop-begin.begin c.until-until.result i.4 c.until-until.ensures.until c.loop-begin-test.true c.args.cut c.loop-begin.cells i.5.grouped c.end-end.result c.end-end.ensures in
+    let soon_now = subst (λ l. AreSoonest (setting_of c.args.scenario.now c.args.net.now k.0) c.args.cut l i.1.cells) (sym c.as_slice-in-loop-begin.ensures.value) i.5.kept.soon in
+    let le = within c.args.scenario.now c.args.net.now c.requires.network c.until-until.ensures.accepted k.0 c.args.ends.now c.requires.ends i.0 i.1 i.2 c.loop-begin.begin c.until-until.result i.4 c.until-until.ensures.until c.loop-begin-test.true c.args.cut c.as_slice-in-loop-begin.result.now soon_now c.end-end.result c.end-end.ensures in
     let until = c.until-until.ensures.until in
     omega arith
 
@@ -39,23 +33,26 @@ pub window-requires-clause-known : goal.window-requires-clause-known
 window-requires-clause-known g c =
     let k = c.requires.opened in
     let i = c.loop-begin.invariant.1 k.0 k.1 in
-    (k.0, i.1, reached (λ b. (goal.Member-dyn g (b.vtable, b.value)).plain b.value) c.args.scenario.now c.args.net.now c.requires.network c.until-until.ensures.accepted k.0 c.args.ends.now c.requires.ends i.0 i.1 i.2 c.loop-begin.begin c.until-until.result i.4 c.until-until.ensures.until c.loop-begin-test.true c.args.cut c.loop-begin.cells i.5.grouped, safe (λ b. (goal.Member-dyn g (b.vtable, b.value)).plain b.value) c.args.scenario.now c.args.net.now c.requires.network c.until-until.ensures.accepted k.0 c.args.ends.now c.requires.ends i.0 i.1 i.2 c.loop-begin.begin c.until-until.result i.4 c.until-until.ensures.until c.loop-begin-test.true c.args.cut c.loop-begin.cells i.5.grouped c.end-end.result c.end-end.ensures, i.5)
+    let soon_now = subst (λ l. AreSoonest (setting_of c.args.scenario.now c.args.net.now k.0) c.args.cut l i.1.cells) (sym c.as_slice-in-loop-begin.ensures.value) i.5.kept.soon in
+    (k.0, i.1, reached c.args.scenario.now c.args.net.now c.requires.network c.until-until.ensures.accepted k.0 c.args.ends.now c.requires.ends i.0 i.1 i.2 c.loop-begin.begin c.until-until.result i.4 c.until-until.ensures.until c.loop-begin-test.true c.args.cut c.as_slice-in-loop-begin.result.now soon_now, safe c.args.scenario.now c.args.net.now c.requires.network c.until-until.ensures.accepted k.0 c.args.ends.now c.requires.ends i.0 i.1 i.2 c.loop-begin.begin c.until-until.result i.4 c.until-until.ensures.until c.loop-begin-test.true c.args.cut c.as_slice-in-loop-begin.result.now soon_now c.end-end.result c.end-end.ensures, i.5)
 
 pub returns-in-Err-clause-windows : goal.returns-in-Err-clause-windows
 returns-in-Err-clause-windows g c = λ seed h.
     let i = c.loop-begin.invariant.1 seed h in
-    not_windowed (λ b. (goal.Member-dyn g (b.vtable, b.value)).plain b.value) c.args.scenario.now c.args.net.now c.requires.network c.until-until.ensures.accepted seed c.args.ends.now c.requires.ends i.0 i.1 i.2 c.loop-begin.begin c.until-until.result i.4 c.until-until.ensures.until c.loop-begin-test.true c.args.cut c.loop-begin.cells i.5.grouped c.end-end.result c.end-end.ensures
-    g.C.Crew.handed c.args.ledger.now c.args.crew.now c.loop-begin.crew c.in-Err.fault c.window.new.crew
-    (c.in-Err.ensures.window seed i.1 (reached (λ b. (goal.Member-dyn g (b.vtable, b.value)).plain b.value) c.args.scenario.now c.args.net.now c.requires.network c.until-until.ensures.accepted seed c.args.ends.now c.requires.ends i.0 i.1 i.2 c.loop-begin.begin c.until-until.result i.4 c.until-until.ensures.until c.loop-begin-test.true c.args.cut c.loop-begin.cells i.5.grouped) (safe (λ b. (goal.Member-dyn g (b.vtable, b.value)).plain b.value) c.args.scenario.now c.args.net.now c.requires.network c.until-until.ensures.accepted seed c.args.ends.now c.requires.ends i.0 i.1 i.2 c.loop-begin.begin c.until-until.result i.4 c.until-until.ensures.until c.loop-begin-test.true c.args.cut c.loop-begin.cells i.5.grouped c.end-end.result c.end-end.ensures) i.5)
+    let soon_now = subst (λ l. AreSoonest (setting_of c.args.scenario.now c.args.net.now seed) c.args.cut l i.1.cells) (sym c.as_slice-in-loop-begin.ensures.value) i.5.kept.soon in
+    not_windowed c.args.scenario.now c.args.net.now c.requires.network c.until-until.ensures.accepted seed c.args.ends.now c.requires.ends i.0 i.1 i.2 c.loop-begin.begin c.until-until.result i.4 c.until-until.ensures.until c.loop-begin-test.true c.args.cut c.as_slice-in-loop-begin.result.now soon_now c.end-end.result c.end-end.ensures
+    g.C.Crew.handed (λ b. (goal.Member-dyn g (b.vtable, b.value)).plain b.value) c.args.ledger.now c.args.crew.now c.loop-begin.crew c.in-Err.fault c.window.new.crew
+    (c.in-Err.ensures.window seed i.1 (reached c.args.scenario.now c.args.net.now c.requires.network c.until-until.ensures.accepted seed c.args.ends.now c.requires.ends i.0 i.1 i.2 c.loop-begin.begin c.until-until.result i.4 c.until-until.ensures.until c.loop-begin-test.true c.args.cut c.as_slice-in-loop-begin.result.now soon_now) (safe c.args.scenario.now c.args.net.now c.requires.network c.until-until.ensures.accepted seed c.args.ends.now c.requires.ends i.0 i.1 i.2 c.loop-begin.begin c.until-until.result i.4 c.until-until.ensures.until c.loop-begin-test.true c.args.cut c.as_slice-in-loop-begin.result.now soon_now c.end-end.result c.end-end.ensures) i.5)
 
 pub loop-begin-smaller : goal.loop-begin-smaller
 loop-begin-smaller g c =
     let k = c.requires.opened in
     let i = c.loop-begin.invariant.1 k.0 k.1 in
+    let soon_now = subst (λ l. AreSoonest (setting_of c.args.scenario.now c.args.net.now k.0) c.args.cut l i.1.cells) (sym c.as_slice-in-loop-begin.ensures.value) i.5.kept.soon in
     let s = setting_of c.args.scenario.now c.args.net.now k.0 in
-    let told = c.in-Ok.ensures.window k.0 i.1 (reached (λ b. (goal.Member-dyn g (b.vtable, b.value)).plain b.value) c.args.scenario.now c.args.net.now c.requires.network c.until-until.ensures.accepted k.0 c.args.ends.now c.requires.ends i.0 i.1 i.2 c.loop-begin.begin c.until-until.result i.4 c.until-until.ensures.until c.loop-begin-test.true c.args.cut c.loop-begin.cells i.5.grouped) (safe (λ b. (goal.Member-dyn g (b.vtable, b.value)).plain b.value) c.args.scenario.now c.args.net.now c.requires.network c.until-until.ensures.accepted k.0 c.args.ends.now c.requires.ends i.0 i.1 i.2 c.loop-begin.begin c.until-until.result i.4 c.until-until.ensures.until c.loop-begin-test.true c.args.cut c.loop-begin.cells i.5.grouped c.end-end.result c.end-end.ensures) i.5 in
-    let next = begins_at s told.0 c.least-begin-in-loop-begin.result c.until-until.result (c.least-begin-in-loop-begin.ensures told.0.cells (subst (λ l. AreCells (λ b. (goal.Member-dyn g (b.vtable, b.value)).plain b.value) (all_in l) told.0.cells) (sym c.as_slice-in-loop-begin.ensures.value) told.3.grouped.cells)) c.until-until.ensures.until in
-    let more = later (λ b. (goal.Member-dyn g (b.vtable, b.value)).plain b.value) c.args.scenario.now c.args.net.now c.requires.network c.until-until.ensures.accepted k.0 c.args.ends.now c.requires.ends i.0 i.1 i.2 c.loop-begin.begin c.until-until.result i.4 c.until-until.ensures.until c.loop-begin-test.true c.args.cut c.loop-begin.cells i.5.grouped c.end-end.result c.end-end.ensures told.0 c.least-begin-in-loop-begin.result told.1 next in
+    let told = c.in-Ok.ensures.window k.0 i.1 (reached c.args.scenario.now c.args.net.now c.requires.network c.until-until.ensures.accepted k.0 c.args.ends.now c.requires.ends i.0 i.1 i.2 c.loop-begin.begin c.until-until.result i.4 c.until-until.ensures.until c.loop-begin-test.true c.args.cut c.as_slice-in-loop-begin.result.now soon_now) (safe c.args.scenario.now c.args.net.now c.requires.network c.until-until.ensures.accepted k.0 c.args.ends.now c.requires.ends i.0 i.1 i.2 c.loop-begin.begin c.until-until.result i.4 c.until-until.ensures.until c.loop-begin-test.true c.args.cut c.as_slice-in-loop-begin.result.now soon_now c.end-end.result c.end-end.ensures) i.5 in
+    let next = c.least-begin-in-loop-begin.ensures s c.args.cut told.0 (subst (λ l. AreSoonest s c.args.cut l told.0.cells) (sym c.as_slice-in-loop-begin-2.ensures.value) told.3.kept.soon) c.until-until.ensures.until in
+    let more = later c.args.scenario.now c.args.net.now c.requires.network c.until-until.ensures.accepted k.0 c.args.ends.now c.requires.ends i.0 i.1 i.2 c.loop-begin.begin c.until-until.result i.4 c.until-until.ensures.until c.loop-begin-test.true c.args.cut c.as_slice-in-loop-begin.result.now soon_now c.end-end.result c.end-end.ensures told.0 c.least-begin-in-loop-begin.result told.1 next in
     let early : c.loop-begin.begin < c.until-until.result = c.loop-begin-test.true in
     omega arith
 
@@ -64,13 +61,14 @@ loop-begin-preserved g c = (
   c.in-Ok.ensures.ready,
   λ seed h.
       let i = c.loop-begin.invariant.1 seed h in
+      let soon_now = subst (λ l. AreSoonest (setting_of c.args.scenario.now c.args.net.now seed) c.args.cut l i.1.cells) (sym c.as_slice-in-loop-begin.ensures.value) i.5.kept.soon in
       let s = setting_of c.args.scenario.now c.args.net.now seed in
-      let told = c.in-Ok.ensures.window seed i.1 (reached (λ b. (goal.Member-dyn g (b.vtable, b.value)).plain b.value) c.args.scenario.now c.args.net.now c.requires.network c.until-until.ensures.accepted seed c.args.ends.now c.requires.ends i.0 i.1 i.2 c.loop-begin.begin c.until-until.result i.4 c.until-until.ensures.until c.loop-begin-test.true c.args.cut c.loop-begin.cells i.5.grouped) (safe (λ b. (goal.Member-dyn g (b.vtable, b.value)).plain b.value) c.args.scenario.now c.args.net.now c.requires.network c.until-until.ensures.accepted seed c.args.ends.now c.requires.ends i.0 i.1 i.2 c.loop-begin.begin c.until-until.result i.4 c.until-until.ensures.until c.loop-begin-test.true c.args.cut c.loop-begin.cells i.5.grouped c.end-end.result c.end-end.ensures) i.5 in
-      let more = follows (λ b. (goal.Member-dyn g (b.vtable, b.value)).plain b.value) c.args.scenario.now c.args.net.now c.requires.network c.until-until.ensures.accepted seed c.args.ends.now c.requires.ends i.0 i.1 i.2 c.loop-begin.begin c.until-until.result i.4 c.until-until.ensures.until c.loop-begin-test.true c.args.cut c.loop-begin.cells i.5.grouped c.end-end.result c.end-end.ensures told.0 told.1 in
+      let told = c.in-Ok.ensures.window seed i.1 (reached c.args.scenario.now c.args.net.now c.requires.network c.until-until.ensures.accepted seed c.args.ends.now c.requires.ends i.0 i.1 i.2 c.loop-begin.begin c.until-until.result i.4 c.until-until.ensures.until c.loop-begin-test.true c.args.cut c.as_slice-in-loop-begin.result.now soon_now) (safe c.args.scenario.now c.args.net.now c.requires.network c.until-until.ensures.accepted seed c.args.ends.now c.requires.ends i.0 i.1 i.2 c.loop-begin.begin c.until-until.result i.4 c.until-until.ensures.until c.loop-begin-test.true c.args.cut c.as_slice-in-loop-begin.result.now soon_now c.end-end.result c.end-end.ensures) i.5 in
+      let more = follows c.args.scenario.now c.args.net.now c.requires.network c.until-until.ensures.accepted seed c.args.ends.now c.requires.ends i.0 i.1 i.2 c.loop-begin.begin c.until-until.result i.4 c.until-until.ensures.until c.loop-begin-test.true c.args.cut c.as_slice-in-loop-begin.result.now soon_now c.end-end.result c.end-end.ensures told.0 told.1 in
       let rows = c.in-Ok.done.1.items in
       let whole = pushed_if c.append.result (c.loop-begin.trace.items ++ rows) c.loop-begin.trace.items c.append.new.self.items (sym c.is_err.ensures.value ∙ c.if-is_err.false) c.append.ensures.items in
-      let next = begins_at s told.0 c.least-begin-in-loop-begin.result c.until-until.result (c.least-begin-in-loop-begin.ensures told.0.cells (subst (λ l. AreCells (λ b. (goal.Member-dyn g (b.vtable, b.value)).plain b.value) (all_in l) told.0.cells) (sym c.as_slice-in-loop-begin.ensures.value) told.3.grouped.cells)) c.until-until.ensures.until in
-      let calls = subst (λ l. g.C.Crew.handed c.args.crew.now l c.window.new.crew) (sym (call_more (λ b. (goal.Member-dyn g (b.vtable, b.value)).plain b.value) c.args.scenario.now c.args.net.now c.requires.network c.until-until.ensures.accepted seed c.args.ends.now c.requires.ends i.0 i.1 i.2 c.loop-begin.begin c.until-until.result i.4 c.until-until.ensures.until c.loop-begin-test.true c.args.cut c.loop-begin.cells i.5.grouped c.end-end.result c.end-end.ensures)) (g.met.C.Crew.handed_more _ _ _ _ _ i.6 told.4) in
+      let next = c.least-begin-in-loop-begin.ensures s c.args.cut told.0 (subst (λ l. AreSoonest s c.args.cut l told.0.cells) (sym c.as_slice-in-loop-begin-2.ensures.value) told.3.kept.soon) c.until-until.ensures.until in
+      let calls = subst (λ l. g.C.Crew.handed c.args.crew.now l c.window.new.crew) (sym (call_more c.args.scenario.now c.args.net.now c.requires.network c.until-until.ensures.accepted seed c.args.ends.now c.requires.ends i.0 i.1 i.2 c.loop-begin.begin c.until-until.result i.4 c.until-until.ensures.until c.loop-begin-test.true c.args.cut c.as_slice-in-loop-begin.result.now soon_now c.end-end.result c.end-end.ensures)) (g.met.C.Crew.handed_more _ _ _ _ _ i.6 told.4) in
       (i.0 ++ i.1 ∷ [], told.0, more.0, whole ∙ ap (λ (l : List Row). l ++ rows) i.3 ∙ sym told.2, next, told.3, calls),
 )
 

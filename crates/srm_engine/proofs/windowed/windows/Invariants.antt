@@ -1,5 +1,5 @@
 use Rattle.std.proofs.Common.{◌≡◌, ℕ, ◌-◌, List, min}
-use Rattle.srm_cell.specs.Setting.{setting_of, traffic_of}
+use Rattle.srm_cell.specs.Setting.{setting_of}
 use Rattle.srm_engine.specs.World.{World, opening}
 use Rattle.srm_engine.specs.WindowChains.{AreWindows, start_of}
 use Rattle.srm_engine.specs.Ends.{ends_rule}
@@ -9,10 +9,10 @@ use Rattle.srm_engine.proofs.windowed.windows.Given as goal
 abbrev pub invariant-loop-begin : goal.invariant-loop-begin
 invariant-loop-begin g l =
     g.C.Crew.ready l.crew
-    × ((seed : ℕ) → Holds (λ b. (goal.Member-dyn g (b.vtable, b.value)).plain b.value) (traffic_of l.scenario l.net) l.ledger l.cut l.fn.cells (opening (setting_of l.scenario l.net seed))
+    × ((seed : ℕ) → Holds (λ b. (goal.Member-dyn g (b.vtable, b.value)).plain b.value) (setting_of l.scenario l.net seed) l.ledger l.cut l.fn.cells (opening (setting_of l.scenario l.net seed))
     → (begins : List World) × (w : World) × AreWindows (setting_of l.scenario l.net seed) (ends_rule (setting_of l.scenario l.net seed) l.ends) begins w
     × (l.trace.items ≡ w.trace) × (l.begin ≡ min l.until (start_of (setting_of l.scenario l.net seed) w))
-    × Holds (λ b. (goal.Member-dyn g (b.vtable, b.value)).plain b.value) (traffic_of l.scenario l.net) l.ledger l.cut l.cells w
+    × Holds (λ b. (goal.Member-dyn g (b.vtable, b.value)).plain b.value) (setting_of l.scenario l.net seed) l.ledger l.cut l.cells w
     × g.C.Crew.handed l.fn.crew (calls_of (ends_rule (setting_of l.scenario l.net seed) l.ends) l.cut begins) l.crew)
 
 abbrev pub decreases-loop-begin : goal.decreases-loop-begin

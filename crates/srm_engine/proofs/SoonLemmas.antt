@@ -1,0 +1,301 @@
+-- How soon something is due in the cells of some members.
+use Rattle.std.proofs.Common.{◌≡◌, ◌⊎◌, inl, inr, ℕ, zero, suc, ◌+◌, ◌/◌, ◌<◌, ◌≤◌, ◌==◌, min, true, false, List, [], ◌∷◌, Option, Some, None, refl, sym, ap, ◌∙◌, subst, arith, slice_get, slice_set, length, nat_le, eqb-true}
+use Rattle.std.proofs.lemmas.Bool.{eqb-false}
+use Rattle.std.proofs.lemmas.Bool.Decides.{nat_tests}
+use Rattle.std.proofs.lemmas.Option.{slice_get_within}
+use Rattle.std.proofs.Math.ListN.{length-set}
+use Rattle.srm_engine.proofs.Index.{get_set_same, get_set_other}
+use Rattle.srm_engine.proofs.SeenLemmas.{same_some}
+use Rattle.srm_engine.proofs.Sequential.{get_below}
+use Rattle.srm_cell.specs.Setting.{Setting}
+use Rattle.srm_cell.specs.Cells.{PlainCell}
+use Rattle.srm_engine.specs.declared.soonest.Soonest.{Soonest}
+use Rattle.srm_engine.specs.Windows.{least_with, promise_by, way_of}
+use Rattle.srm_engine.specs.Soonest.{IsLeast, IsSoonest, AreSoonest, IsAmong, due, promised}
+
+-- where the second is there at all, and is no later
+abbrev pub NoLater : Option ℕ → Option ℕ → Type 0
+NoLater x y = (u : ℕ) → x ≡ Some u → (v : ℕ) × (y ≡ Some v) × (v ≤ u)
+
+same_number : (x y : ℕ) → Some x ≡ Some y → x ≡ y
+same_number x y h = cc
+
+pub with_le : (n : ℕ) (o : Option ℕ) → least_with n o ≤ n
+with_le n None = omega arith
+with_le n (Some k) = omega arith
+
+pub with_in : (n u : ℕ) (o : Option ℕ) → o ≡ Some u → least_with n o ≤ u
+with_in n u None h = cc
+with_in n u (Some k) h = let e = same_number k u h in omega arith
+
+-- the lesser is the first, or the other
+pub with_one : (n : ℕ) (o : Option ℕ) → (least_with n o ≡ n) ⊎ (o ≡ Some (least_with n o))
+with_one n None = inl refl
+with_one n (Some k) = elim (nat_le n k) as (λ b. nat_le n k ≡ b → (min n k ≡ n) ⊎ (Some k ≡ Some (min n k))) [
+  | true ↦ λ e. let le : n ≤ k = grind (arith, nat_tests) in inl (omega arith)
+  | false ↦ λ e. let gt : k < n = grind (arith, nat_tests) in inr (ap Some (let x : k ≡ min n k = omega arith in x))
+] refl
+
+module _ (g : ℕ → PlainCell → Option ℕ) (n : ℕ) where
+  at_most : (P : ℕ → Type 0) (ps : List PlainCell) (t u : ℕ) → IsLeast g P n ps t → IsLeast g P n ps u → t ≤ u
+  at_most P ps t u h k = by k.one
+    where
+      by : (u ≡ n) ⊎ ((m : ℕ) × (c : PlainCell) × P m × (slice_get ps m ≡ Some c) × (g m c ≡ Some u)) → t ≤ u
+      by (inl e) = let le = h.most in omega arith
+      by (inr a) = h.none_less a.0 a.1 u a.2 a.3 a.4
+
+  -- there is one least
+  pub least_is_one : (P : ℕ → Type 0) (ps : List PlainCell) (t u : ℕ) → IsLeast g P n ps t → IsLeast g P n ps u → t ≡ u
+  least_is_one P ps t u h k = let a = at_most P ps t u h k in let b = at_most P ps u t k h in omega arith
+
+  pub none_yet : (i : ℕ) (ps : List PlainCell) → IsLeast g (IsAmong i 0) n ps n
+  none_yet i ps = record {
+    most = omega arith;
+    none_less = λ m c u p at e. let a = p.0 in let b = p.1 in absurd (omega arith);
+    one = inl refl;
+  }
+
+  -- one member more
+  pub one_more : (i k : ℕ) (ps : List PlainCell) (t : ℕ) (p : PlainCell) → slice_get ps (i + k) ≡ Some p → IsLeast g (IsAmong i k) n ps t
+      → IsLeast g (IsAmong i (k + 1)) n ps (least_with t (g (i + k) p))
+  one_more i k ps t p at h = record {
+    most = let a = with_le t (g (i + k) p) in let b = h.most in omega arith;
+    none_less = λ m c u q get e. elim (m == i + k) as (λ b. (m == i + k) ≡ b → least_with t (g (i + k) p) ≤ u) [
+      | true ↦ λ r.
+          let here : m ≡ i + k = eqb-true m (i + k) r in
+          let same : c ≡ p = same_some c p (sym get ∙ ap (slice_get ps) here ∙ at) in
+          with_in t u (g (i + k) p) (subst (λ d. g (i + k) d ≡ Some u) same (subst (λ j. g j c ≡ Some u) here e))
+      | false ↦ λ r.
+          let ne = eqb-false m (i + k) r in
+          let a = q.0 in
+          let b = q.1 in
+          let old = h.none_less m c u (a, omega arith) get e in
+          let le = with_le t (g (i + k) p) in
+          omega arith
+    ] refl;
+    one = by (with_one t (g (i + k) p)) h.one;
+  }
+    where
+      by : (least_with t (g (i + k) p) ≡ t) ⊎ (g (i + k) p ≡ Some (least_with t (g (i + k) p)))
+          → (t ≡ n) ⊎ ((m : ℕ) × (c : PlainCell) × IsAmong i k m × (slice_get ps m ≡ Some c) × (g m c ≡ Some t))
+          → (least_with t (g (i + k) p) ≡ n) ⊎ ((m : ℕ) × (c : PlainCell) × IsAmong i (k + 1) m × (slice_get ps m ≡ Some c) × (g m c ≡ Some (least_with t (g (i + k) p))))
+      by (inr e) old = inr (i + k, p, (omega arith, omega arith), at, e)
+      by (inl e) (inl was) = inl (e ∙ was)
+      by (inl e) (inr a) = let x = a.2.0 in let y = a.2.1 in inr (a.0, a.1, (x, omega arith), a.3, a.4 ∙ ap Some (sym e))
+
+  module _ (P : ℕ → Type 0) where
+    -- member m's cell becomes one whose time is no later
+    pub sooner_at : (ps : List PlainCell) (t m : ℕ) (q r : PlainCell) → P m → slice_get ps m ≡ Some q → NoLater (g m q) (g m r) → IsLeast g P n ps t
+        → IsLeast g P n (slice_set ps m r) (least_with t (g m r))
+    sooner_at ps t m q r p at early h = record {
+      most = let a = with_le t (g m r) in let b = h.most in omega arith;
+      none_less = λ j c u pj get e. elim (m == j) as (λ b. (m == j) ≡ b → least_with t (g m r) ≤ u) [
+        | true ↦ λ x.
+            let here : m ≡ j = eqb-true m j x in
+            let same : c ≡ r = same_some c r (sym get ∙ ap (slice_get (slice_set ps m r)) (sym here) ∙ get_set_same ps m r (get_below ps m q at)) in
+            with_in t u (g m r) (subst (λ d. g m d ≡ Some u) same (subst (λ k. g k c ≡ Some u) (sym here) e))
+        | false ↦ λ x.
+            let ne = eqb-false m j x in
+            let old = h.none_less j c u pj (sym (get_set_other ps m j r ne) ∙ get) e in
+            let le = with_le t (g m r) in
+            omega arith
+      ] refl;
+      one = by (with_one t (g m r)) h.one;
+    }
+      where
+        by : (least_with t (g m r) ≡ t) ⊎ (g m r ≡ Some (least_with t (g m r)))
+            → (t ≡ n) ⊎ ((j : ℕ) × (c : PlainCell) × P j × (slice_get ps j ≡ Some c) × (g j c ≡ Some t))
+            → (least_with t (g m r) ≡ n) ⊎ ((j : ℕ) × (c : PlainCell) × P j × (slice_get (slice_set ps m r) j ≡ Some c) × (g j c ≡ Some (least_with t (g m r))))
+        by (inr e) old = inr (m, r, p, get_set_same ps m r (get_below ps m q at), e)
+        by (inl e) (inl was) = inl (e ∙ was)
+        by (inl e) (inr a) = elim (m == a.0) as (λ b. (m == a.0) ≡ b → (least_with t (g m r) ≡ n) ⊎ ((j : ℕ) × (c : PlainCell) × P j × (slice_get (slice_set ps m r) j ≡ Some c) × (g j c ≡ Some (least_with t (g m r))))) [
+          | true ↦ λ x.
+              let here : m ≡ a.0 = eqb-true m a.0 x in
+              let same : a.1 ≡ q = same_some a.1 q (sym a.3 ∙ ap (slice_get ps) (sym here) ∙ at) in
+              let was : g m q ≡ Some t = subst (λ d. g m d ≡ Some t) same (subst (λ k. g k a.1 ≡ Some t) (sym here) a.4) in
+              let now = early t was in
+              let le = now.2 in
+              let low = with_in t now.0 (g m r) now.1 in
+              let is : now.0 ≡ least_with t (g m r) = omega (arith, e) in
+              inr (m, r, p, get_set_same ps m r (get_below ps m q at), now.1 ∙ ap Some is)
+          | false ↦ λ x. inr (a.0, a.1, a.2, get_set_other ps m a.0 r (eqb-false m a.0 x) ∙ a.3, a.4 ∙ ap Some (sym e))
+        ] refl
+
+    -- the cells of these members are the same
+    pub same_cells : (ps qs : List PlainCell) (t : ℕ) → ((m : ℕ) (c : PlainCell) → P m → slice_get ps m ≡ Some c → slice_get qs m ≡ Some c)
+        → ((m : ℕ) (c : PlainCell) → P m → slice_get qs m ≡ Some c → slice_get ps m ≡ Some c) → IsLeast g P n ps t → IsLeast g P n qs t
+    same_cells ps qs t to back h = record {
+      most = h.most;
+      none_less = λ m c u p get e. h.none_less m c u p (back m c p get) e;
+      one = by h.one;
+    }
+      where
+        by : (t ≡ n) ⊎ ((m : ℕ) × (c : PlainCell) × P m × (slice_get ps m ≡ Some c) × (g m c ≡ Some t))
+            → (t ≡ n) ⊎ ((m : ℕ) × (c : PlainCell) × P m × (slice_get qs m ≡ Some c) × (g m c ≡ Some t))
+        by (inl e) = inl e
+        by (inr a) = inr (a.0, a.1, a.2, to a.0 a.1 a.2 a.3, a.4)
+
+  -- the same members
+  pub same_members : (P Q : ℕ → Type 0) (ps : List PlainCell) (t : ℕ) → ((m : ℕ) → m < length ps → P m → Q m) → ((m : ℕ) → m < length ps → Q m → P m)
+      → IsLeast g P n ps t → IsLeast g Q n ps t
+  same_members P Q ps t to back h = record {
+    most = h.most;
+    none_less = λ m c u q get e. h.none_less m c u (back m (get_below ps m c get) q) get e;
+    one = by h.one;
+  }
+    where
+      by : (t ≡ n) ⊎ ((m : ℕ) × (c : PlainCell) × P m × (slice_get ps m ≡ Some c) × (g m c ≡ Some t))
+          → (t ≡ n) ⊎ ((m : ℕ) × (c : PlainCell) × Q m × (slice_get ps m ≡ Some c) × (g m c ≡ Some t))
+      by (inl e) = inl e
+      by (inr a) = inr (a.0, a.1, to a.0 (get_below ps a.0 a.1 a.3) a.2, a.3, a.4)
+
+-- ---- the least of all groups
+
+module _ (n : ℕ) where
+  -- best is the least of n and of the first k numbers
+  pub record BestOf (h : Soonest → ℕ) (xs : List Soonest) (k best : ℕ) : Type 0 where
+    pub most : best ≤ n
+    pub none_less : (j : ℕ) (x : Soonest) → j < k → slice_get xs j ≡ Some x → best ≤ h x
+    pub one : (best ≡ n) ⊎ ((j : ℕ) × (x : Soonest) × (slice_get xs j ≡ Some x) × (best ≡ h x))
+
+  pub best_none : (h : Soonest → ℕ) (xs : List Soonest) → BestOf h xs 0 n
+  best_none h xs = record { most = omega arith; none_less = λ j x lt get. absurd (omega arith); one = inl refl }
+
+  pub best_more : (h : Soonest → ℕ) (xs : List Soonest) (k best : ℕ) (x : Soonest) → slice_get xs k ≡ Some x → BestOf h xs k best
+      → BestOf h xs (k + 1) (min best (h x))
+  best_more h xs k best x at b = record {
+    most = let a = b.most in omega arith;
+    none_less = λ j y lt get. elim (j == k) as (λ q. (j == k) ≡ q → min best (h x) ≤ h y) [
+      | true ↦ λ r.
+          let here : j ≡ k = eqb-true j k r in
+          let same : y ≡ x = same_some y x (sym get ∙ ap (slice_get xs) here ∙ at) in
+          let e : h y ≡ h x = ap h same in
+          omega (arith, e)
+      | false ↦ λ r. let ne = eqb-false j k r in let old = b.none_less j y (omega arith) get in omega arith
+    ] refl;
+    one = by (with_one best (Some (h x))) b.one;
+  }
+    where
+      by : (min best (h x) ≡ best) ⊎ (Some (h x) ≡ Some (min best (h x))) → (best ≡ n) ⊎ ((j : ℕ) × (y : Soonest) × (slice_get xs j ≡ Some y) × (best ≡ h y))
+          → (min best (h x) ≡ n) ⊎ ((j : ℕ) × (y : Soonest) × (slice_get xs j ≡ Some y) × (min best (h x) ≡ h y))
+      by (inr e) old = inr (k, x, at, sym (same_number (h x) (min best (h x)) e))
+      by (inl e) (inl was) = inl (e ∙ was)
+      by (inl e) (inr a) = inr (a.0, a.1, a.2, e ∙ a.3)
+
+-- all members
+abbrev pub Any : ℕ → Type 0
+Any m = Unit {0}
+
+there : (xs : List Soonest) (k : ℕ) → k < length xs → (x : Soonest) × (slice_get xs k ≡ Some x)
+there [] k lt = absurd (omega arith)
+there (x ∷ xs) zero lt = (x, refl)
+there (x ∷ xs) (suc k) lt = there xs k (omega arith)
+
+module _ (g : ℕ → PlainCell → Option ℕ) (n : ℕ) where
+  -- the least of the groups' leasts is that of all
+  pub best_is_least : (h : Soonest → ℕ) (cut : ℕ) (xs : List Soonest) (ps : List PlainCell) (k best : ℕ) → length xs ≤ k
+      → ((m : ℕ) → m < length ps → m / cut < length xs) → ((j : ℕ) (x : Soonest) → slice_get xs j ≡ Some x → IsLeast g (λ m. m / cut ≡ j) n ps (h x))
+      → BestOf n h xs k best → IsLeast g Any n ps best
+  best_is_least h cut xs ps k best all many each b = record {
+    most = b.most;
+    none_less = λ m c u p get e.
+        let lt = many m (get_below ps m c get) in
+        let x = there xs (m / cut) lt in
+        let low = b.none_less (m / cut) x.0 (omega arith) x.1 in
+        let own = (each (m / cut) x.0 x.1).none_less m c u refl get e in
+        omega arith;
+    one = by b.one;
+  }
+    where
+      of : (x : Soonest) → best ≡ h x → (h x ≡ n) ⊎ ((m : ℕ) × (c : PlainCell) × Unit {0} × (slice_get ps m ≡ Some c) × (g m c ≡ Some (h x)))
+          → (best ≡ n) ⊎ ((m : ℕ) × (c : PlainCell) × Any m × (slice_get ps m ≡ Some c) × (g m c ≡ Some best))
+      of x e (inl was) = inl (e ∙ was)
+      of x e (inr a) = inr (a.0, a.1, tt, a.3, a.4 ∙ ap Some (sym e))
+
+      any : (j : ℕ) (x : Soonest) → (h x ≡ n) ⊎ ((m : ℕ) × (c : PlainCell) × (m / cut ≡ j) × (slice_get ps m ≡ Some c) × (g m c ≡ Some (h x)))
+          → (h x ≡ n) ⊎ ((m : ℕ) × (c : PlainCell) × Unit {0} × (slice_get ps m ≡ Some c) × (g m c ≡ Some (h x)))
+      any j x (inl e) = inl e
+      any j x (inr a) = inr (a.0, a.1, tt, a.3, a.4)
+
+      by : (best ≡ n) ⊎ ((j : ℕ) × (x : Soonest) × (slice_get xs j ≡ Some x) × (best ≡ h x))
+          → (best ≡ n) ⊎ ((m : ℕ) × (c : PlainCell) × Any m × (slice_get ps m ≡ Some c) × (g m c ≡ Some best))
+      by (inl e) = inl e
+      by (inr a) = of a.1 a.3 (any a.0 a.1 (each a.0 a.1 a.2).one)
+
+-- ---- how soon something is due
+
+no_later_promise : (x y way : Option ℕ) → NoLater x y → NoLater (promise_by x way) (promise_by y way)
+no_later_promise None y way h u e = none way e
+  where
+    none : (o : Option ℕ) → promise_by None o ≡ Some u → (v : ℕ) × (promise_by y o ≡ Some v) × (v ≤ u)
+    none None q = cc
+    none (Some k) q = cc
+no_later_promise (Some t) y None h u e = cc
+no_later_promise (Some t) y (Some k) h u e =
+    let now = h t refl in
+    let is = same_number (t + k) u e in
+    let le = now.2 in
+    (now.0 + k, ap (λ o. promise_by o (Some k)) now.1, omega (arith, is))
+
+module _ (s : Setting) where
+  -- one cell more
+  pub soon_more : (i k : ℕ) (ps : List PlainCell) (x y : Soonest) (p : PlainCell) (next way : Option ℕ) → slice_get ps (i + k) ≡ Some p
+      → next ≡ due (i + k) p → way ≡ way_of s (i + k) → y.time ≡ least_with x.time next → y.promise ≡ least_with x.promise (promise_by next way)
+      → IsSoonest s (IsAmong i k) ps x → IsSoonest s (IsAmong i (k + 1)) ps y
+  soon_more i k ps x y p next way at n w t r h = record {
+    time = subst (λ u. IsLeast due (IsAmong i (k + 1)) s.traffic.until ps u) (sym (t ∙ ap (least_with x.time) n))
+        (one_more due s.traffic.until i k ps x.time p at h.time);
+    promise = subst (λ u. IsLeast (promised s) (IsAmong i (k + 1)) s.traffic.until ps u) (sym (r ∙ (λ j. least_with x.promise (promise_by (n j) (w j)))))
+        (one_more (promised s) s.traffic.until i k ps x.promise p at h.promise);
+  }
+
+  -- member m's cell becomes one that has its next event no later
+  pub soon_heard : (P : ℕ → Type 0) (ps : List PlainCell) (x y : Soonest) (m : ℕ) (q r : PlainCell) (next way : Option ℕ) → P m → slice_get ps m ≡ Some q
+      → NoLater (due m q) (due m r) → next ≡ due m r → way ≡ way_of s m → y.time ≡ least_with x.time next
+      → y.promise ≡ least_with x.promise (promise_by next way) → IsSoonest s P ps x → IsSoonest s P (slice_set ps m r) y
+  soon_heard P ps x y m q r next way p at early n w t v h = record {
+    time = subst (λ u. IsLeast due P s.traffic.until (slice_set ps m r) u) (sym (t ∙ ap (least_with x.time) n))
+        (sooner_at due s.traffic.until P ps x.time m q r p at early h.time);
+    promise = subst (λ u. IsLeast (promised s) P s.traffic.until (slice_set ps m r) u) (sym (v ∙ (λ j. least_with x.promise (promise_by (n j) (w j)))))
+        (sooner_at (promised s) s.traffic.until P ps x.promise m q r p at (no_later_promise (due m q) (due m r) (way_of s m) early) h.promise);
+  }
+
+  pub soon_same_cells : (P : ℕ → Type 0) (ps qs : List PlainCell) (x : Soonest) → ((m : ℕ) (c : PlainCell) → P m → slice_get ps m ≡ Some c → slice_get qs m ≡ Some c)
+      → ((m : ℕ) (c : PlainCell) → P m → slice_get qs m ≡ Some c → slice_get ps m ≡ Some c) → IsSoonest s P ps x → IsSoonest s P qs x
+  soon_same_cells P ps qs x to back h = record {
+    time = same_cells due s.traffic.until P ps qs x.time to back h.time;
+    promise = same_cells (promised s) s.traffic.until P ps qs x.promise to back h.promise;
+  }
+
+  pub soon_same_members : (P Q : ℕ → Type 0) (ps : List PlainCell) (x : Soonest) → ((m : ℕ) → m < length ps → P m → Q m) → ((m : ℕ) → m < length ps → Q m → P m)
+      → IsSoonest s P ps x → IsSoonest s Q ps x
+  soon_same_members P Q ps x to back h = record {
+    time = same_members due s.traffic.until P Q ps x.time to back h.time;
+    promise = same_members (promised s) s.traffic.until P Q ps x.promise to back h.promise;
+  }
+
+  -- where member m's cell becomes such a one, and what is kept of its group is how soon something is due then
+  pub soonest_heard : (cut k : ℕ) (xs : List Soonest) (ps : List PlainCell) (x y : Soonest) (m : ℕ) (q r : PlainCell) (next way : Option ℕ) → m / cut ≡ k
+      → slice_get xs k ≡ Some x → slice_get ps m ≡ Some q → NoLater (due m q) (due m r) → next ≡ due m r → way ≡ way_of s m
+      → y.time ≡ least_with x.time next → y.promise ≡ least_with x.promise (promise_by next way) → AreSoonest s cut xs ps
+      → AreSoonest s cut (slice_set xs k y) (slice_set ps m r)
+  soonest_heard cut k xs ps x y m q r next way at here get early n w t v h = record {
+    many = λ j lt.
+        let a = length-set ps m r in
+        let b = length-set xs k y in
+        let c = h.many j (omega arith) in
+        omega arith;
+    each = λ j z g. elim (k == j) as (λ b. (k == j) ≡ b → IsSoonest s (λ i. i / cut ≡ j) (slice_set ps m r) z) [
+      | true ↦ λ e.
+          let same : k ≡ j = eqb-true k j e in
+          let is : y ≡ z = same_some y z (sym (get_set_same xs k y (slice_get_within xs k x here)) ∙ ap (slice_get (slice_set xs k y)) same ∙ g) in
+          subst (λ (a : Soonest). IsSoonest s (λ i. i / cut ≡ j) (slice_set ps m r) a) is
+          (soon_heard (λ i. i / cut ≡ j) ps x y m q r next way (at ∙ same) get early n w t v (h.each j x (ap (slice_get xs) (sym same) ∙ here)))
+      | false ↦ λ e.
+          let ne = eqb-false k j e in
+          soon_same_cells (λ i. i / cut ≡ j) ps (slice_set ps m r) z
+          (λ i c p a. get_set_other ps m i r (λ o. ne (sym at ∙ ap (λ l. l / cut) o ∙ p)) ∙ a)
+          (λ i c p a. sym (get_set_other ps m i r (λ o. ne (sym at ∙ ap (λ l. l / cut) o ∙ p))) ∙ a)
+          (h.each j z (sym (get_set_other xs k j y ne) ∙ g))
+    ] refl;
+  }

@@ -1,0 +1,58 @@
+use Rattle.std.proofs.Common.{◌≡◌, ◌∙◌, ◌+◌, ◌*◌, ◌/◌, ◌∷◌, [], sym, ap, subst, arith, length, length-append, get_or}
+use Rattle.srm_scenario.proofs.Members.{few_members}
+use Rattle.srm_cell.specs.Setting.{setting_of}
+use Rattle.srm_engine.specs.declared.soonest.Soonest.{Soonest}
+use Rattle.srm_engine.specs.Soonest.{AreThose, IsAmong, IsSoonest}
+use Rattle.srm_engine.proofs.SoonGroups.{soonest_of_group, those_of_group, group_within, group_below, pushed_each}
+use Rattle.srm_engine.proofs.soonest.soonest_of_each.Goals as goal
+
+pub overflow_mul-place : goal.overflow_mul-place
+overflow_mul-place g c =
+    let at = group_within c.args.cut c.args.groups.now c.loop-place.place c.index-groups-place.result c.requires.cut c.requires.cuts c.loop-place-test.true in
+    let within = at.within in
+    let few = few_members c.args.scenario.now c.until-until.ensures.accepted in
+    let members = c.requires.members in
+    omega arith
+
+pub soonest_in-requires-clause-members : goal.soonest_in-requires-clause-members
+soonest_in-requires-clause-members g c =
+    let group = c.index-groups-place.result in
+    let at = group_within c.args.cut c.args.groups.now c.loop-place.place group c.requires.cut c.requires.cuts c.loop-place-test.true in
+    let within = at.within in
+    let members = c.requires.members in
+    let own : length c.as_slice.result.now ≡ length (get_or c.args.groups.now c.loop-place.place group).items =
+    ap length c.as_slice.ensures.value ∙ ap (λ v. length v.items) c.index-groups-place.is in
+    omega arith
+
+pub soonest_in-requires-clause-few : goal.soonest_in-requires-clause-few
+soonest_in-requires-clause-few g c = let few = few_members c.args.scenario.now c.until-until.ensures.accepted in omega arith
+
+pub loop-place-preserved : goal.loop-place-preserved
+loop-place-preserved g c =
+    let old = c.loop-place.soonest.items in
+    let k = c.loop-place.place in
+    let gs = c.args.groups.now in
+    let group = c.index-groups-place.result in
+    let y = c.soonest_in.result in
+    let pushed = c.in_ok-push.ensures.items in
+    let i = c.loop-place.invariant in (
+      ap length pushed ∙ length-append old (y ∷ []) ∙ ap (λ n. n + 1) i.0,
+      λ seed ps h j x get.
+          let s = setting_of c.args.scenario.now c.args.net.now seed in
+          let own = subst (λ l. AreThose (λ b. (goal.Member-dyn g (b.vtable, b.value)).plain b.value) (k * c.args.cut) l ps) (sym c.as_slice.ensures.value)
+          (those_of_group (λ b. (goal.Member-dyn g (b.vtable, b.value)).plain b.value) c.args.cut gs ps c.requires.cut h k group c.loop-place-test.true c.index-groups-place.is) in
+          let told = subst (λ l. IsSoonest s (IsAmong (k * c.args.cut) (length l)) ps y) c.as_slice.ensures.value (c.soonest_in.ensures seed ps own) in
+          let new = soonest_of_group (λ b. (goal.Member-dyn g (b.vtable, b.value)).plain b.value) c.args.cut gs ps c.requires.cut h s k group y c.loop-place-test.true c.index-groups-place.is told in
+          pushed_each (λ n (z : Soonest). IsSoonest s (λ m. m / c.args.cut ≡ n) ps z) old y (i.1 seed ps h) (subst (λ n. IsSoonest s (λ m. m / c.args.cut ≡ n) ps y) (sym i.0) new) j x
+          (rw pushed at get),
+    )
+
+pub returns : goal.returns
+returns g c = λ seed ps h.
+    let past = c.loop-place-test.false in
+    let i = c.loop-place.invariant in
+    let long = i.0 in
+    record {
+      many = λ m lt. let below = group_below (λ b. (goal.Member-dyn g (b.vtable, b.value)).plain b.value) c.args.cut c.args.groups.now ps c.requires.cut h m lt in omega arith;
+      each = i.1 seed ps h;
+    }

@@ -1,0 +1,13 @@
+use Rattle.std.proofs.Common.{◌≡◌, ◌/◌, ℕ, List, Some, length, slice_get}
+use Rattle.srm_cell.specs.Setting.{setting_of}
+use Rattle.srm_cell.specs.Cells.{PlainCell}
+use Rattle.srm_engine.specs.declared.soonest.Soonest.{Soonest}
+use Rattle.srm_engine.specs.Groups.{AreGrouped}
+use Rattle.srm_engine.specs.Soonest.{IsSoonest}
+use Rattle.srm_engine.proofs.soonest.soonest_of_each.Given as goal
+
+abbrev pub invariant-loop-place : goal.invariant-loop-place
+invariant-loop-place g l =
+    (length l.soonest.items ≡ l.place)
+    × ((seed : ℕ) (ps : List PlainCell) → AreGrouped (λ b. (goal.Member-dyn g (b.vtable, b.value)).plain b.value) l.cut l.groups ps
+    → (j : ℕ) (x : Soonest) → slice_get l.soonest.items j ≡ Some x → IsSoonest (setting_of l.scenario l.net seed) (λ m. m / l.cut ≡ j) ps x)

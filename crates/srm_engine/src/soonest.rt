@@ -1,0 +1,158 @@
+//! How soon something is due in the cells of each group.
+ghost use Rattle.std.specs.Prelude.{◌≡◌, ◌+◌, ◌<◌, ◌≤◌, ℕ, List, IfOk, min, length};
+ghost use Rattle.srm_scenario.specs.Plain.{network_of};
+ghost use Rattle.srm_cell.specs.Cells.{PlainCell};
+ghost use Rattle.srm_cell.specs.Setting.{Setting, setting_of};
+ghost use Rattle.srm_engine.specs.Windows.{promise_by, least_with as lesser, least_promise as least_promised};
+ghost use Rattle.srm_engine.specs.Ends.{KeepFixed};
+ghost use Rattle.srm_engine.specs.Groups.{AreCuts, AreGrouped, sizes, all_in};
+ghost use Rattle.srm_engine.specs.World.{World};
+ghost use Rattle.srm_engine.specs.WindowChains.{start_of};
+ghost use Rattle.srm_engine.specs.WindowRuns.{OwnResult, AreOwnRuns, cells_in};
+ghost use Rattle.srm_engine.specs.Soonest.{IsAmong, IsSoonest, AreSoonest, AreThose};
+
+use crate::ends::way;
+use srm_cell::cell::Cell;
+use srm_member::member::Member;
+use srm_net::net::Net;
+use srm_scenario::scenario::Scenario;
+use std::alloc::{AllocError, Global};
+
+/// How soon something is due in some cells, at the end of the run at the latest.
+#[derive(Clone, Copy)]
+pub(crate) struct Soonest {
+    /// The least of their next times, in ticks.
+    pub(crate) time: u64,
+    /// The least of their promises, in ticks: before it no packet arrives anywhere that one of their members is yet to send.
+    pub(crate) promise: u64,
+}
+
+impl Soonest {
+    /// The same with one cell more, of which this is the next time and the way that its member's packets have before them.
+    pub(crate) fn with(self, next: Option<u64>, way: Option<u64>) -> Soonest
+        ensures time { result.time ≡ lesser self.time next }
+        ensures promise { result.promise ≡ lesser self.promise (promise_by next way) }
+    {
+        Soonest {
+            time: least_with(self.time, next),
+            promise: least_with_sum(self.promise, next, way),
+        }
+    }
+}
+
+// The lesser of a time and another, if there is another.
+fn least_with(time: u64, other: Option<u64>) -> u64
+    ensures { result ≡ lesser time other }
+{
+    match other {
+        Some(other) if other < time => other,
+        _ => time,
+    }
+}
+
+// The lesser of a time and the sum of another and a way, if there are both.
+fn least_with_sum(time: u64, next: Option<u64>, way: Option<u64>) -> u64
+    ensures { result ≡ lesser time (promise_by next way) }
+{
+    match (next, way) {
+        (Some(next), Some(way)) if next < time && way < time - next => next + way,
+        _ => time,
+    }
+}
+
+// How soon something is due in the cells of the members from `first` on, in a run that ends at tick `until`.
+fn soonest_in(scenario: &Scenario, net: &Net, cells: &[Cell], first: usize, until: u64) -> Soonest
+    requires network { net.now ≡ network_of scenario.now }
+    requires until { until ≡ scenario.now.until }
+    requires members { first + length cells.now ≤ length scenario.now.members }
+    requires few { length scenario.now.members < 65536 }
+    ensures { (seed : ℕ) (ps : List PlainCell)
+        → AreThose (λ b. (⟦<dyn Member as Member>⟧ b.vtable).plain b.value) first cells.now ps
+        → IsSoonest (setting_of scenario.now net.now seed) (IsAmong first (length cells.now)) ps result }
+{
+    let mut soonest = Soonest {
+        time: until,
+        promise: until,
+    };
+    for (place, cell) in cells.iter().enumerate() {
+        let way = way(scenario, net, (first + place) as u16);
+        soonest = soonest.with(cell.next_time(), way);
+    }
+    soonest
+}
+
+/// How soon something is due in each group of `cut` cells.
+pub(crate) fn soonest_of_each(
+    alloc: Global,
+    scenario: &Scenario,
+    net: &Net,
+    groups: &[Vec<Cell>],
+    cut: usize,
+) -> Result<Vec<Soonest>, AllocError>
+    requires network { net.now ≡ network_of scenario.now }
+    requires cut { 0 < cut }
+    requires cuts { AreCuts cut (sizes groups.now) }
+    requires members { length (all_in groups.now) ≤ length scenario.now.members }
+    ensures { IfOk result (λ xs. (seed : ℕ) (ps : List PlainCell)
+        → AreGrouped (λ b. (⟦<dyn Member as Member>⟧ b.vtable).plain b.value) cut groups.now ps
+        → AreSoonest (setting_of scenario.now net.now seed) cut xs.items ps) }
+{
+    let until = scenario.until();
+    let mut soonest = Vec::new(alloc);
+    for (place, group) in groups.iter().enumerate() {
+        soonest.push(soonest_in(scenario, net, group.as_slice(), place * cut, until))?;
+    }
+    Ok(soonest)
+}
+
+/// Looks again for how soon something is due in each group in which something was due before tick `end`, after the own runs of all
+/// cells to it: where nothing was, no cell has changed.
+pub(crate) fn look_again(
+    scenario: &Scenario,
+    net: &Net,
+    groups: &[Vec<Cell>],
+    cut: usize,
+    end: u64,
+    soon: &mut [Soonest],
+)
+    requires network { net.now ≡ network_of scenario.now }
+    requires cut { 0 < cut }
+    requires cuts { AreCuts cut (sizes groups.now) }
+    requires members { length (all_in groups.now) ≤ length scenario.now.members }
+    requires many { length groups.now ≤ length soon.old }
+    ensures { (seed : ℕ) (ps : List PlainCell) (results : List OwnResult) → AreOwnRuns end 0 ps results
+        → AreGrouped (λ b. (⟦<dyn Member as Member>⟧ b.vtable).plain b.value) cut groups.now (cells_in results)
+        → AreSoonest (setting_of scenario.now net.now seed) cut soon.old ps
+        → AreSoonest (setting_of scenario.now net.now seed) cut soon.new (cells_in results) }
+{
+    let until = scenario.until();
+    for (place, group) in groups.iter().enumerate() {
+        if soon[place].time < end {
+            soon[place] = soonest_in(scenario, net, group.as_slice(), place * cut, until);
+        }
+    }
+}
+
+/// When the next window begins, or the run ends: the least of the end of the run and of the next times of all cells.
+pub(crate) fn least(soon: &[Soonest], until: u64) -> u64
+    ensures { (s : Setting) (cut : ℕ) (w : World) → AreSoonest s cut soon.now w.cells → until ≡ s.traffic.until
+        → result ≡ min until (start_of s w) }
+{
+    let mut best = until;
+    for soonest in soon {
+        best = least_with(best, Some(soonest.time));
+    }
+    best
+}
+
+/// The least of the end of the run and of the promises of all cells.
+pub(crate) fn least_promise(soon: &[Soonest], until: u64) -> u64
+    ensures { (s : Setting) (cut : ℕ) (ps : List PlainCell) → AreSoonest s cut soon.now ps → KeepFixed s ps
+        → until ≡ s.traffic.until → result ≡ least_promised s 0 ps }
+{
+    let mut best = until;
+    for soonest in soon {
+        best = least_with(best, Some(soonest.promise));
+    }
+    best
+}
