@@ -10,6 +10,7 @@ CRATE ?=
 BENCH ?=
 SECONDS ?= 60
 FEW_CASES := 100
+THREADED := two-nodes chain-of-five-one-loss star-loss-at-the-source
 export RT
 
 .PHONY: build run try check test test-program test-memory fuzz bench install fmt clean help
@@ -31,6 +32,7 @@ check: ## what an edit needs: proves each crate that changed, or CRATE=srm_net w
 	@tests/fuzz_tests.py -q
 	@tests/architecture.py
 	@tests/promises.py
+	@tests/calls.py
 	@tools/prove.py $(if $(CRATE),crates/$(CRATE),crates)
 
 test: ## the merge gate: proves everything from nothing, with tests and must-fail edits, and checks the program that this made; tells the times
@@ -38,6 +40,7 @@ test: ## the merge gate: proves everything from nothing, with tests and must-fai
 	@tests/fuzz_tests.py -q
 	@tests/architecture.py
 	@tests/promises.py
+	@tests/calls.py
 	@tools/gate.py -- make --no-print-directory test-program test-memory
 
 test-program: $(PROGRAM) ## compares what the program prints with each file of examples/, and its refusals, and tries it on some random scenarios
@@ -47,8 +50,9 @@ test-program: $(PROGRAM) ## compares what the program prints with each file of e
 	@tests/same_bytes.py --runs $(FEW_CASES) $(PROGRAM)
 	@tests/fuzz.py --from 1 --cases $(FEW_CASES) $(PROGRAM)
 
-test-memory: $(PROGRAM) $(TEST_PROGRAMS) ## refuses each allocation in turn, of the program on each example with each engine, and of each test of members, roles and the ledger
+test-memory: $(PROGRAM) $(TEST_PROGRAMS) ## refuses each allocation in turn, of the program on each example with each engine, on three with each crew that takes threads, and of each test of members, roles and the ledger
 	@tests/refuse_allocations.py --program $(PROGRAM) examples/*.toml --tests $(TEST_PROGRAMS:%/srm_calls_tests=%/srm_calls_tests:ledger_tests)
+	@tests/refuse_allocations.py --threads $(PROGRAM) $(THREADED:%=examples/%.toml)
 
 $(TEST_PROGRAMS): $(SOURCES)
 	cd $(@D)/.. && $(RT) test > /dev/null

@@ -115,8 +115,9 @@ def check_windows(run, named, case, must):
     """Runs an accepted case in windows, for each table, and once with a cut or a width that is refused."""
     rng = fuzz_windows.random_of(case)
     top = case.must if isinstance(case.must, dict) else None
+    rows = must["trace"][1].count(b"\n")
     for table, end in must.items():
-        words = fuzz_windows.windows(rng, top, end[1].count(b"\n"), named)
+        words = fuzz_windows.windows(rng, top, rows, named)
         is_same(" ".join(["--show", table, *words]), run([f"--seed={case.seed}", *words, "--show", table], case.text), end)
     if top is not None:
         words, line = fuzz_windows.refused(rng, top)

@@ -14,6 +14,7 @@ import fuzz_format
 import fuzz_replay
 import fuzz_scenarios
 import fuzz_tables
+import fuzz_windows
 
 # what examples/chain-of-five-one-loss.toml says
 CHAIN_OF_FIVE = {
@@ -91,6 +92,23 @@ class Endings(unittest.TestCase):
 
     def test_a_scenario_that_must_be_refused_and_is_not_is_told(self):
         self.assertIsNotNone(told(worked(), "bad-draw 0"))
+
+
+class Windows(unittest.TestCase):
+    def test_runs_for_short_tables_of_long_traces_start_few_threads(self):
+        rows = 5000
+        must = {"trace": (0, b"\n" * rows, b""), "links": (0, b"\n" * 5, b"")}
+        ran = []
+
+        def run(words, text):
+            ran.append(words)
+            return must[words[-1]]
+
+        for seed in range(50):
+            fuzz.check_windows(run, {"promise"}, fuzz_scenarios.Case("worked", b"", seed, None, None), must)
+        self.assertEqual(len(ran), 100)
+        for words in ran:
+            self.assertLessEqual(int(words[words.index("--workers") + 1]) * rows, fuzz_windows.THREADS, words)
 
 
 class Refusals(unittest.TestCase):

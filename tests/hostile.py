@@ -5,16 +5,21 @@ usage: tests/hostile.py PROGRAM [-q] [TEST ..]
 
 What must come is written from docs/FORMATS.md: the first refusal of a text that was changed is computed by fuzz_format.py, and the
 trace of one that is accepted is held to the model by fuzz_replay.py. A device that takes so many bytes and then fails is a file
-with a limit on its size.
+with a limit on its size. One that gives so many and then fails is a socket whose other end is closed with a byte that was not read.
 """
+import contextlib
+import fcntl
 import os
 import pathlib
 import re
 import resource
 import signal
+import socket
 import subprocess
 import sys
 import tempfile
+import termios
+import time
 import tomllib
 import unittest
 
@@ -41,6 +46,7 @@ draw = [{ member = 0, page = 0, ink = 7, at = 0 }, { member = 0, page = 0, ink =
 WINDOW = ["--engine", "window"]
 ENGINES = [[], *([*WINDOW, "--crew", crew, "--workers", "2"] for crew in ("plain", "pool", "bag"))]
 BAD_LINE = (2, b"", b"command line refused\n")
+PIECE = 50
 program = None
 
 
@@ -81,6 +87,20 @@ def member_tables():
     return "".join(
         f'[[member]]\nnode = {it["node"]}\nrole = "{it["role"]}"\nstream = {it["stream"]}\n' for it in MEMBERS
     ).encode()
+
+
+@contextlib.contextmanager
+def failing_input():
+    """Two ends of a socket: what is read at the second fails once the first is closed and what was sent is read."""
+    ours, theirs = socket.socketpair()
+    with ours, theirs:
+        theirs.sendall(b"x")
+        yield ours, theirs
+
+
+def unread(end):
+    """How many bytes were sent to an end of a socket and not read."""
+    return int.from_bytes(fcntl.ioctl(end, termios.FIONREAD, bytes(4)), sys.byteorder)
 
 
 class Texts(unittest.TestCase):
@@ -187,6 +207,60 @@ class Devices(unittest.TestCase):
         done = subprocess.run([program], stdin=folder, capture_output=True)
         os.close(folder)
         self.assertEqual((done.returncode, done.stdout, done.stderr), refused("read-fault"))
+
+    def test_input_that_is_closed(self):
+        done = subprocess.run(["sh", "-c", 'exec "$0" <&-', program], capture_output=True)
+        self.assertEqual((done.returncode, done.stdout, done.stderr), refused("read-fault"))
+
+    def test_input_that_fails_after_each_byte(self):
+        for length in range(len(TEXT) + 1):
+            with self.subTest(length=length), failing_input() as (ours, theirs):
+                ours.sendall(TEXT[:length])
+                ours.close()
+                done = subprocess.run([program], stdin=theirs, capture_output=True, timeout=60)
+                self.assertEqual((done.returncode, done.stdout, done.stderr), refused("read-fault"))
+
+    def test_input_that_fails_at_each_call(self):
+        pieces = [TEXT[begin : begin + PIECE] for begin in range(0, len(TEXT), PIECE)]
+        for calls in range(len(pieces) + 1):
+            with self.subTest(calls=calls), failing_input() as (ours, theirs):
+                self.assertEqual(self.fed(ours, theirs, pieces[:calls]), refused("read-fault"))
+
+    @staticmethod
+    def fed(ours, theirs, pieces):
+        """How a run ends that is given these pieces, each after it took the one before, and whose input then fails."""
+        child = subprocess.Popen([program], stdin=theirs, stdout=subprocess.PIPE, stderr=subprocess.PIPE)
+        for piece in pieces:
+            ours.sendall(piece)
+            while unread(theirs):
+                time.sleep(0.0001)
+        ours.close()
+        written, told = child.communicate(timeout=60)
+        return child.returncode, written, told
+
+    def test_output_that_is_closed(self):
+        for words in ENGINES:
+            with self.subTest(words=words):
+                line = ["sh", "-c", 'exec "$0" "$@" >&-', program, *words]
+                done = subprocess.run(line, input=TEXT, stderr=subprocess.PIPE)
+                self.assertEqual((done.returncode, done.stderr), (1, b"refused: write-fault 0\n"))
+
+    def test_output_that_is_full(self):
+        for words in [*ENGINES, ["--help"], ["--show", "members"], ["--show", "losses"], ["--show", "links"]]:
+            with self.subTest(words=words), open("/dev/full", "wb") as full:
+                done = subprocess.run([program, *words], input=TEXT, stdout=full, stderr=subprocess.PIPE)
+                self.assertEqual((done.returncode, done.stderr), (1, b"refused: write-fault 0\n"))
+
+    def test_refused_text_writes_nothing_to_an_output_that_is_full(self):
+        with open("/dev/full", "wb") as full:
+            done = subprocess.run([program], input=b"", stdout=full, stderr=subprocess.PIPE)
+        self.assertEqual((done.returncode, done.stderr), (1, b"refused: bad-key top 0\n"))
+
+    def test_line_that_is_not_taken_changes_no_status(self):
+        for words, text, status in ([], TEXT, 0), ([], b"", 1), ([*WINDOW, "--cut", "0"], TEXT, 1), (["--workers", "0"], TEXT, 2):
+            with self.subTest(words=words, status=status), open("/dev/full", "wb") as full:
+                done = subprocess.run([program, *words], input=text, stdout=subprocess.PIPE, stderr=full)
+                self.assertEqual((done.returncode, done.stdout), (status, b"" if status else TRACE))
 
     def test_output_that_fails_after_each_byte(self):
         for words in ENGINES:

@@ -1,10 +1,12 @@
 #!/usr/bin/env python3
 """Runs programs once for each allocation that they make, with that one refused.
 
-usage: tests/refuse_allocations.py [--program PROGRAM SCENARIO ..] [--tests PROGRAM[:MODULE] ..]
+usage: tests/refuse_allocations.py [--program PROGRAM SCENARIO ..] [--threads PROGRAM SCENARIO ..] [--tests PROGRAM[:MODULE] ..]
 
 --program: the simulator, on each of these scenarios with each engine, must end as it does with ample memory, or with the line that
 memory ran out on standard error, nothing on standard output, and status 1.
+--threads: the same of runs in windows with the crews that take threads. Which allocation has which number differs from run to run
+there, so a run may also come to none with the number that is refused.
 --tests: each test of a test program, or of one of its modules, must pass, whichever of its allocations is refused.
 
 Needs a C compiler, `cc`. Prints a line for each scenario and test, and ends with status 1 where one of them failed.
@@ -17,7 +19,12 @@ import sys
 import tempfile
 
 REFUSED = (1, b"", b"refused: no-memory\n")
-ENGINES = ("step", "window")
+LONGEST = 60
+ENGINES = {"step": ["--engine", "step"], "window": ["--engine", "window"]}
+CREWS = {
+    "window, pool": ["--engine", "window", "--crew", "pool"],
+    "window, bag, 2 workers": ["--engine", "window", "--crew", "bag", "--workers", "2"],
+}
 
 
 def built(folder):
@@ -29,9 +36,12 @@ def built(folder):
 
 
 def ended(library, command, text, number):
-    """Status, standard output and standard error of a run whose allocation of this number is refused."""
+    """Status, standard output and standard error of a run whose allocation of this number is refused; nothing of one that hangs."""
     environment = {"LD_PRELOAD": str(library), "REFUSE": str(number)}
-    done = subprocess.run(command, input=text, capture_output=True, env=environment)
+    try:
+        done = subprocess.run(command, input=text, capture_output=True, env=environment, timeout=LONGEST)
+    except subprocess.TimeoutExpired:
+        return None, b"", b""
     return done.returncode, done.stdout, done.stderr
 
 
@@ -52,6 +62,18 @@ def each_refused(library, name, command, text, is_right):
     return not wrong
 
 
+def each_way(library, program, ways, scenarios):
+    """Whether the program ends as it must on each scenario in each of these ways, whichever of its allocations is refused."""
+    right = True
+    for scenario in scenarios:
+        text = pathlib.Path(scenario).read_bytes()
+        for name, words in ways.items():
+            ample = ended(library, [program, *words], text, 0)
+            must = (ample, REFUSED)
+            right &= each_refused(library, f"{scenario}, {name}", [program, *words], text, lambda end, must=must: end in must)
+    return right
+
+
 def tests_of(program, module):
     """The names of the tests of a test program, or of those in a module of it."""
     lines = subprocess.run([program, "--list"], capture_output=True, text=True, check=True).stdout.splitlines()
@@ -62,17 +84,14 @@ def tests_of(program, module):
 def main():
     parser = argparse.ArgumentParser(description=__doc__, formatter_class=argparse.RawDescriptionHelpFormatter)
     parser.add_argument("--program", nargs="+", default=[], metavar=("PROGRAM", "SCENARIO"))
+    parser.add_argument("--threads", nargs="+", default=[], metavar=("PROGRAM", "SCENARIO"))
     parser.add_argument("--tests", nargs="+", default=[], metavar="PROGRAM[:MODULE]")
     options = parser.parse_args()
     right = True
     with tempfile.TemporaryDirectory() as folder:
         library = built(folder)
-        for scenario in options.program[1:]:
-            text = pathlib.Path(scenario).read_bytes()
-            for engine in ENGINES:
-                command = [*options.program[:1], "--engine", engine]
-                ample = ended(library, command, text, 0)
-                right &= each_refused(library, f"{scenario}, {engine}", command, text, lambda end: end in (ample, REFUSED))
+        for ways, (program, *scenarios) in ((ENGINES, options.program or [None]), (CREWS, options.threads or [None])):
+            right &= each_way(library, program, ways, scenarios)
         for program, _, module in (named.partition(":") for named in options.tests):
             for test in tests_of(program, module):
                 right &= each_refused(library, test, [program, test], b"", lambda end: end[0] == 0)

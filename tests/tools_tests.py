@@ -1,5 +1,8 @@
 #!/usr/bin/env python3
-"""Tests of the scripts in tools/ and of tests/architecture.py, on what `rt` prints. No proof is run."""
+"""Tests of the scripts in tools/, of tests/architecture.py and of tests/calls.py, on what `rt` prints and on a small source.
+
+No proof is run.
+"""
 import collections
 import pathlib
 import sys
@@ -12,6 +15,7 @@ TOP = pathlib.Path(__file__).resolve().parent.parent
 sys.path[:0] = [str(TOP / "tools"), str(TOP / "tests")]
 
 import architecture
+import calls
 import gate
 import prove
 import watch
@@ -144,6 +148,99 @@ class Architecture(unittest.TestCase):
         wrong_order = f"| `middle` |\n| `low` |\n| `top` |\n{graph}"
         for page in (another, missing, wrong_order):
             self.assertEqual(len(self.faults(page)), 1, page)
+
+
+SHELF = """\
+pub trait Reader {
+    /// Reads.
+    fn read<R: Wait>(&self, rt: &R, into: &mut [u8]) -> Result<usize, ShelfFault>
+        requires { ready self }
+}
+
+#[derive(Clone, Debug)]
+pub struct Shelf {
+    books: Vec<u8>,
+}
+
+impl<F: Fn(u8) -> bool> Shelf<F> {
+    pub fn put<'a>(
+        &'a mut self,
+        alloc: Global,
+        book: u8,
+    ) -> Result<(), (u8, ShelfFault)>
+        ensures { kept }
+    {
+        self.books.push(book)
+    }
+
+    fn inner(&self) -> Result<(), ShelfFault> {}
+
+    pub fn len(&self) -> usize {}
+}
+
+impl Reader for Shelf {
+    fn read<R: Wait>(&self, rt: &R, into: &mut [u8]) -> Result<usize, ShelfFault> {}
+}
+
+impl Display for Shelf {
+    fn show(&self) -> Result<(), Full> {}
+}
+"""
+KNOWN = {"ShelfFault": (["Full", "Torn"], [])}
+SHELF_PAGE = """\
+## low
+
+| call | refusals | after |
+|---|---|---|
+| `Reader::read`, `Shelf::put` | 1. `Full`. 2. `Torn` | as it was |
+| `Shelf::clone` | `AllocError` | |
+| `Shelf::show` | refused | |
+
+## Calls that may wait
+
+- `Reader::read`: for a book.
+
+## Calls that take no memory
+
+- `Shelf::len`: always.
+"""
+
+
+class Calls(unittest.TestCase):
+    def faults(self, page=SHELF_PAGE, source=SHELF):
+        found = list(calls.calls_of_file("low", source, {"Reader"}))
+        with mock.patch.object(calls, "PREFIX", "low"):
+            return list(calls.faults(page, found, set(), KNOWN))
+
+    def test_public_calls_are_found_with_what_they_answer(self):
+        found = {call.name: call.answer for call in calls.calls_of_file("low", SHELF, {"Reader"})}
+        want = {"Reader::read": "Result<usize, ShelfFault>", "Shelf::put": "Result<(), (u8, ShelfFault)>", "Shelf::len": "usize"}
+        self.assertEqual(found, {**want, "Shelf::show": "Result<(), Full>", "Shelf::clone": "Result<Self, AllocError>"})
+
+    def test_page_that_fits_has_no_fault(self):
+        self.assertEqual(self.faults(), [])
+
+    def test_call_without_a_row_is_told(self):
+        page = SHELF_PAGE.replace(", `Shelf::put`", "")
+        self.assertEqual(self.faults(page), ["low: Shelf::put can refuse, and has no row"])
+
+    def test_row_of_no_call_is_told(self):
+        page = SHELF_PAGE.replace("`Shelf::put`", "`Shelf::put`, `Shelf::inner`, `Shelf::len`")
+        told = [f"low: Shelf::{name} has a row, and is no public call that can refuse" for name in ("inner", "len")]
+        self.assertEqual(self.faults(page), told)
+
+    def test_refusal_that_the_type_has_not_is_told(self):
+        page = SHELF_PAGE.replace("| `AllocError`", "| `Lost`")
+        self.assertEqual(self.faults(page), ["low: Shelf::clone has no refusal Lost"])
+
+    def test_refusal_that_no_row_names_is_told(self):
+        page = SHELF_PAGE.replace(" 2. `Torn`", "")
+        self.assertEqual(self.faults(page), ["no row names the refusal Torn of ShelfFault"])
+
+    def test_waiting_and_memory_are_told(self):
+        page = SHELF_PAGE.replace("- `Reader::read`", "- `Shelf::len`").replace("- `Shelf::len`: always", "- `Shelf::put`: always")
+        told = ["Reader::read may wait, and is not named there", "Shelf::len is named among the calls that may wait, and is none"]
+        self.assertEqual(self.faults(page), [*told, "Shelf::put is named among the calls that take no memory, and is none"])
 
 
 if __name__ == "__main__":

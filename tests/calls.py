@@ -1,0 +1,245 @@
+#!/usr/bin/env python3
+"""Holds docs/CALLS.md to the sources: each public call that can refuse stands there, once, and each that may wait is named.
+
+usage: tests/calls.py
+
+A public call is a `pub fn` of a public module, a method of a public trait, or a copy (`clone`) of a type whose copy takes memory;
+of a program, whose modules are all its own, each `pub fn`. It can refuse where it answers a Result, and may wait where it is given
+a runtime that may wait or start threads, or a crew. Each row's refusals have to be among those that the call's type has, and each
+that such a type has, has to stand in a row. What the page lists as taking no memory is given no allocator. Ends with status 1 where
+one of these is not so.
+"""
+import dataclasses
+import pathlib
+import re
+import sys
+
+TOP = pathlib.Path(__file__).resolve().parent.parent
+PAGE = TOP / "docs" / "CALLS.md"
+PREFIX = "srm_"
+WAITING = "Calls that may wait"
+WITHOUT_MEMORY = "Calls that take no memory"
+RUNTIMES = re.compile(r"\b(Wait|Threads)\b")
+OPENING, CLOSING = "<([{", ">)]}"
+
+
+@dataclasses.dataclass(frozen=True)
+class Call:
+    """A public call: its crate, its name with that of its type or trait, its answer, and what it takes with all bounds on it."""
+
+    crate: str
+    name: str
+    answer: str
+    bounds: str
+
+    def refuses(self):
+        return self.answer.startswith("Result<")
+
+    def fault(self):
+        """The type of what it answers where it refuses."""
+        return last_argument(self.answer)
+
+
+def closed(text, start):
+    """Where the bracket that opens at `start` is closed. An arrow is no bracket."""
+    depth = 0
+    for place in range(start, len(text)):
+        if text[place] in OPENING:
+            depth += 1
+        elif text[place] in CLOSING and text[place - 1 : place + 1] not in ("->", "=>"):
+            depth -= 1
+            if depth == 0:
+                return place
+    raise ValueError(f"not closed: {text[start:start + 60]}")
+
+
+def last_argument(answer):
+    """The last argument of a type."""
+    inner = answer[answer.index("<") + 1 : closed(answer, answer.index("<"))].rstrip(", ")
+    depth, begin = 0, 0
+    for place, letter in enumerate(inner):
+        depth += (letter in OPENING) - (letter in CLOSING)
+        if letter == "," and depth == 0:
+            begin = place + 1
+    return inner[begin:].strip()
+
+
+def head(lines, start):
+    """What stands of a function before its clauses and its body, on one line."""
+    kept = []
+    for line in lines[start:]:
+        part = line.strip()
+        if part.startswith(("requires", "ensures", "where", "{", "//")):
+            break
+        kept.append(re.sub(r"\s*(\{.*|;)$", "", part))
+        if part.endswith(("{", ";", "}")):
+            break
+    return " ".join(kept)
+
+
+def parts(text):
+    """The generic parameters of a function and its answer, of its head."""
+    place = re.search(r"fn \w+", text).end()
+    generic = ""
+    if text[place] == "<":
+        end = closed(text, place)
+        generic, place = text[place : end + 1], end + 1
+    end = closed(text, place)
+    return generic + text[place : end + 1], text[end + 1 :].partition("->")[2].strip()
+
+
+def block(line):
+    """The trait and the type of an impl, the trait of a declaration, or neither."""
+    if found := re.match(r"pub trait (\w+)", line):
+        return found[1], None
+    if line.startswith("impl"):
+        rest = line[closed(line, 4) + 1 :] if line.startswith("impl<") else line[4:]
+        names = re.match(r"\s*(?:([\w:]+)(?:<.*?>)? for )?&?(\w+)", rest)
+        return names[1], names[2]
+    return None, None
+
+
+def modules(crate):
+    """The files of a crate's public modules, or of all modules of a program but its tests."""
+    library = crate / "src" / "lib.rt"
+    root = library if library.is_file() else crate / "src" / "main.rt"
+    found = re.findall(r"^(#\[cfg\(test\)\]\n)?(pub )?mod (\w+);", root.read_text(encoding="utf-8"), re.M)
+    public = [name for test, shown, name in found if not test and (shown or root != library)]
+    return [crate / "src" / f"{name}.rt" for name in public]
+
+
+def copies(text):
+    """The types of a file whose copy is derived and takes memory."""
+    found = re.findall(r"^#\[derive\((.*)\)\]\n(?:#.*\n)*pub (?:struct|enum) (\w+)", text, re.M)
+    return [name for derived, name in found if "Clone" in derived and "Copy" not in derived]
+
+
+def calls_of_file(crate, text, traits):
+    """The public calls of a file."""
+    trait, kind, bounds = None, None, ""
+    lines = text.splitlines()
+    for number, line in enumerate(lines):
+        if re.match(r"(pub |impl|mod |fn |#)", line):
+            trait, kind = block(line)
+            bounds = line if line.startswith("impl") else ""
+        found = re.match(r"(    )?(pub )?fn (\w+)", line)
+        if not found or not (found[2] or (found[1] and trait and (kind is None or trait not in traits))):
+            continue
+        own, answer = parts(head(lines, number))
+        owner = (kind or trait) if found[1] else None
+        yield Call(crate, f"{owner}::{found[3]}" if owner else found[3], answer, bounds + own)
+    for name in copies(text):
+        yield Call(crate, f"{name}::clone", "Result<Self, AllocError>", "")
+
+
+def public_calls():
+    """The public calls of all crates, and the traits of which one impl may wait."""
+    files = [(crate.name, path.read_text(encoding="utf-8")) for crate in sorted((TOP / "crates").iterdir())
+             if (crate / "src").is_dir() for path in modules(crate)]
+    traits = {name for _, text in files for name in re.findall(r"^pub trait (\w+)", text, re.M)}
+    waiting = {trait for _, text in files for line in text.splitlines() if line.startswith("impl") and RUNTIMES.search(line)
+               for trait, _ in [block(line)] if trait in traits}
+    return [call for crate, text in files for call in calls_of_file(crate, text, traits)], waiting
+
+
+def variants():
+    """The names that each public type of the crates has: an enum's variants, or else its own; and the types that it is made of."""
+    found = {}
+    for path in sorted((TOP / "crates").glob("*/src/**/*.rt")):
+        text = path.read_text(encoding="utf-8")
+        for kind, name, body in re.findall(r"^pub (enum|struct) (\w+)[^{;]*(?:\{(.*?)^\}|;)", text, re.M | re.S):
+            names = re.findall(r"^    ([A-Z]\w*)", body, re.M) if kind == "enum" else [name]
+            plain = re.sub(r"^ *///.*$", "", body, flags=re.M)
+            found[name] = (names, re.findall(r"[:(] ?([A-Z]\w*)", plain))
+    return found
+
+
+def names_in(fault, known):
+    """The names of the refusals that a type has."""
+    names, seen, left = {"AllocError"} if "AllocError" in fault else set(), set(), re.findall(r"\w+", fault)
+    while left:
+        kind = left.pop()
+        if kind in known and kind not in seen:
+            seen.add(kind)
+            names.update(known[kind][0])
+            left += known[kind][1]
+    return names
+
+
+def may_wait(call, waiting):
+    """Whether a call may wait, by its bounds. A constructor only keeps what it is given."""
+    given = RUNTIMES.search(call.bounds) or any(re.search(rf": {trait}\b", call.bounds) for trait in waiting)
+    return bool(given or call.name.split("::")[0] in waiting) and not call.name.endswith("::new")
+
+
+def sections(text):
+    """The page's parts by their headings."""
+    pieces = re.split(r"^## (.*)\n", text, flags=re.M)
+    return dict(zip(pieces[1::2], pieces[2::2]))
+
+
+def rows(text):
+    """The calls that each row of a table is of, and the refusals that it names."""
+    for line in text.splitlines():
+        cells = line.strip("|").split(" | ")
+        if line.startswith("|") and len(cells) == 3 and "`" in cells[0]:
+            yield re.findall(r"`([\w:]+)`", cells[0]), re.findall(r"`([A-Z]\w*)`", cells[1])
+
+
+def listed(page, part):
+    """The calls that a part's list names before its colons."""
+    return {name for line in re.findall(r"^- (.*?): ", page.get(part, ""), re.M) for name in re.findall(r"`([\w:]+)`", line)}
+
+
+def faults_of_rows(crate, text, calls, known):
+    """What is wrong with the rows of a crate."""
+    refusing = {call.name: call for call in calls if call.crate == crate and call.refuses()}
+    told = [(name, names) for calls_told, names in rows(text) for name in calls_told]
+    for name in sorted(refusing.keys() - {name for name, _ in told}):
+        yield f"{crate}: {name} can refuse, and has no row"
+    for name, _ in told:
+        if name not in refusing:
+            yield f"{crate}: {name} has a row, and is no public call that can refuse"
+    for name in sorted({name for name, _ in told if [it for it, _ in told].count(name) > 1}):
+        yield f"{crate}: {name} has more than one row"
+    for name, names in told:
+        if name in refusing:
+            for wrong in sorted(set(names) - names_in(refusing[name].fault(), known)):
+                yield f"{crate}: {name} has no refusal {wrong}"
+
+
+def faults(text, calls, waiting, known):
+    """What is wrong with the page."""
+    page = sections(text)
+    for crate in sorted({call.crate for call in calls if call.refuses()} - page.keys()):
+        yield f"there is no part on {crate}"
+    for crate in page:
+        if crate.startswith(PREFIX):
+            yield from faults_of_rows(crate, page[crate], calls, known)
+    named = {name for part in page for _, names in rows(page[part]) for name in names}
+    types = {kind for call in calls if call.refuses() for kind in re.findall(r"\w+", call.fault()) if kind.endswith("Fault")}
+    for kind in sorted(types & known.keys()):
+        for name in sorted(set(known[kind][0]) - named):
+            yield f"no row names the refusal {name} of {kind}"
+    waits = {call.name for call in calls if may_wait(call, waiting)}
+    for name in sorted(waits - listed(page, WAITING)):
+        yield f"{name} may wait, and is not named there"
+    for name in sorted(listed(page, WAITING) - waits):
+        yield f"{name} is named among the calls that may wait, and is none"
+    for name in sorted(listed(page, WITHOUT_MEMORY) - {call.name for call in calls if not re.search(r"\balloc:", call.bounds)}):
+        yield f"{name} is named among the calls that take no memory, and is none"
+
+
+def main():
+    if len(sys.argv) > 1:
+        print(__doc__)
+        return
+    calls, waiting = public_calls()
+    found = list(faults(PAGE.read_text(encoding="utf-8"), calls, waiting, variants()))
+    for fault in found:
+        print(f"docs/CALLS.md: {fault}", file=sys.stderr)
+    sys.exit(1 if found else 0)
+
+
+if __name__ == "__main__":
+    main()
