@@ -29,6 +29,7 @@ pub mod KMerging
 pub mod FixedParts
 pub mod Promises
 pub mod WindowedLemmas
+pub mod WindowStreamLemmas
 pub mod RunLemmas
 pub mod ScheduleLemmas
 pub mod Sequential

@@ -23,3 +23,4 @@ pub mod Sinks
 pub mod Kept
 pub mod KeptLaws
 pub mod Streams
+pub mod WindowStreams
