@@ -32,6 +32,7 @@ pub mod SoonLemmas
 pub mod SoonGroups
 pub mod Beginnings
 pub mod WindowedLemmas
+pub mod WindowStreamLemmas
 pub mod RunLemmas
 pub mod ScheduleLemmas
 pub mod Sequential

@@ -1,5 +1,5 @@
 -- Windows of the engine, one after the other.
-use Rattle.std.proofs.Common.{◌≡◌, ℕ, zero, suc, ◌<◌, ◌≤◌, min, List, [], ◌∷◌, ◌++◌, Some, Err, refl, sym, ap, ◌∙◌, subst, arith, All, IsSorted, IsPermutation, length, map, drop, slice_index, replicate, ◌*◌, ◌≢◌}
+use Rattle.std.proofs.Common.{◌≡◌, ℕ, zero, suc, ◌<◌, ◌≤◌, min, List, [], ◌∷◌, ◌++◌, Some, Err, refl, sym, ap, ◌∙◌, subst, arith, All, IsSorted, IsPermutation, length, map, drop, slice_index, replicate, ◌*◌}
 use Rattle.std.proofs.lemmas.List.{map-append, length-map}
 use Rattle.std.specs.List.{AllZip, range_with_len}
 use Rattle.std.specs.declared.dyn_box.DynBox.{DynBox}
@@ -37,7 +37,9 @@ use Rattle.srm_engine.specs.declared.ends.Ends.TheVariants.{After, Promised}
 use Rattle.srm_engine.specs.declared.soonest.Soonest.{Soonest}
 use Rattle.srm_engine.specs.Soonest.{AreSoonest}
 use Rattle.srm_engine.specs.Ends.{BeginsAt, MayEnd, ends_rule}
-use Rattle.srm_engine.specs.Windowed.{IsCut, Holds, PassesShare, calls_of, TellsJobs, TellsWindow, TellsWindows, TellsWindowRun}
+use Rattle.srm_engine.specs.Windowed.{IsCut, Holds, PassesShare, calls_of, TellsJobs, TellsWindow}
+use Rattle.srm_engine.specs.declared.stream_fault.StreamFault.TheVariants.{Run}
+use Rattle.srm_engine.specs.WindowStreams.{MeetsWindowRefusal}
 use Rattle.srm_engine.proofs.CellLists.{from_seen, seen_from, few_groups}
 use Rattle.srm_engine.proofs.JobLemmas.{any_cell, are_jobs, may_advance, as_many_jobs, places_with, job_results, cuts_kept, joined_some, all_some}
 use Rattle.srm_engine.proofs.LawProofs.{never_spent}
@@ -202,13 +204,13 @@ module _ (p : PlainScenario) (net : Network) (is : net ≡ network_of p) (accept
       meets m none = refused_windows_meet_full s rule begins w event.0 fit rule_is chain event.1 m (subst (λ n. HasNoResult n w m) end_is none)
 
       module _ {C X : Type 0} {H : X → Type 0} (handed : C → List (List cell.PlainJob) → C → Type 0) (f : DynBox X Global H → Record) where
-        pub not_windowed : (l : LedgerView) (first old : C) (x : RunFault) (new : C) → TellsWindow handed f s l cut end w old (Err x) new → TellsWindows handed f s l cut rule first (Err x) new
+        pub not_windowed : (l : LedgerView) (first old : C) (x : RunFault) (new : C) → TellsWindow handed f s l cut end w old (Err x) new → MeetsWindowRefusal s rule cut first (Run x) new
         not_windowed l first old fault.NoMemory new h = tt
         not_windowed l first old fault.CountFull new h = meets h.0 h.1
         not_windowed l first old fault.ShareFull new h =
             (begins, w, chain, subst (λ n. PassesShare s.traffic w.trace (handed_jobs 0 (jobs_of cut n w))) end_is h)
-        not_windowed l first old fault.BadCut new h = h
-        not_windowed l first old fault.BadWidth new h = h
+        not_windowed l first old fault.BadCut new h = absurd h
+        not_windowed l first old fault.BadWidth new h = absurd h
 
 -- ---- the beginning of a run
 
@@ -252,21 +254,6 @@ total_words totals [] numbers e long each = e ∙ nothing numbers (sym long ∙ 
     nothing [] z = refl
     nothing (n ∷ ns) z = absurd (omega arith)
 total_words totals (x ∷ xs) numbers e long each = e ∙ same_list xs numbers (sym (ap length e) ∙ long) (λ k. each (suc k))
-
-module _ {C X : Type 0} {H : X → Type 0} (handed : C → List (List cell.PlainJob) → C → Type 0) (f : DynBox X Global H → Record) where
-  pub not_asked : (s : Setting) (l : LedgerView) (cut : ℕ) (rule : World → ℕ) (old : C) (x : RunFault) (new : C) → TellsWindows handed f s l cut rule old (Err x) new → (x ≢ fault.BadCut) × (x ≢ fault.BadWidth)
-  not_asked s l cut rule old fault.NoMemory new h = ((λ e. cc), (λ e. cc))
-  not_asked s l cut rule old fault.CountFull new h = ((λ e. cc), (λ e. cc))
-  not_asked s l cut rule old fault.ShareFull new h = ((λ e. cc), (λ e. cc))
-  not_asked s l cut rule old fault.BadCut new h = absurd h
-  not_asked s l cut rule old fault.BadWidth new h = absurd h
-
-  pub not_outcome : (s : Setting) (l : LedgerView) (cut : ℕ) (rule : World → ℕ) (old : C) (x : RunFault) (new : C) → TellsWindows handed f s l cut rule old (Err x) new → TellsWindowRun handed s rule cut old (Err x) new
-  not_outcome s l cut rule old fault.NoMemory new h = tt
-  not_outcome s l cut rule old fault.CountFull new h = h
-  not_outcome s l cut rule old fault.ShareFull new h = h
-  not_outcome s l cut rule old fault.BadCut new h = absurd h
-  not_outcome s l cut rule old fault.BadWidth new h = absurd h
 
 pub same_number : (x y : ℕ) → Some x ≡ Some y → x ≡ y
 same_number x y e = cc

@@ -24,3 +24,4 @@ pub mod Sinks
 pub mod Kept
 pub mod KeptLaws
 pub mod Streams
+pub mod WindowStreams

@@ -101,20 +101,6 @@ module _ {X : Type 0} {H : X → Type 0} where
     TellsWindow s l cut end w old (Err fault.BadCut) new = ⊥
     TellsWindow s l cut end w old (Err fault.BadWidth) new = ⊥
 
-    -- what the windows of a run tell, up to its last world
-    abbrev pub TellsWindows : Setting → LedgerView → ℕ → (World → ℕ) → C
-        → Result (Grouped X H × Vec Row) RunFault → C → Type 0
-    TellsWindows s l cut rule old (Ok v) new =
-        (begins : List World) × (w : World) × AreWindows s rule begins w × IsLast s w × (v.1.items ≡ w.trace)
-        × Holds f s l cut v.0 w × handed old (calls_of rule cut begins) new
-    TellsWindows s l cut rule old (Err fault.NoMemory) new = Unit {0}
-    TellsWindows s l cut rule old (Err fault.CountFull) new = RunMeetsFull s
-    TellsWindows s l cut rule old (Err fault.ShareFull) new =
-        (begins : List World) × (w : World) × AreWindows s rule begins w
-        × PassesShare s.traffic w.trace (handed_jobs 0 (jobs_of cut (rule w) w))
-    TellsWindows s l cut rule old (Err fault.BadCut) new = ⊥
-    TellsWindows s l cut rule old (Err fault.BadWidth) new = ⊥
-
 -- ---- a run
 
 -- whether what was asked for is refused, and when

@@ -1,18 +1,17 @@
 //! The sequential engine.
-ghost use Rattle.std.specs.Prelude.{◌≡◌, ◌<◌, ◌+◌, ◌-◌, ◌^◌, ℕ, IfOk, MatchResult, map};
+ghost use Rattle.std.specs.Prelude.{◌≡◌, ◌<◌, ◌+◌, ◌-◌, ◌^◌, ℕ, IfOk, map};
 ghost use Rattle.srm_scenario.specs.Plain.{network_of};
 ghost use Rattle.srm_engine.specs.Openings.{HoldOpeningRecords};
 ghost use Rattle.srm_engine.specs.Outcomes.{Runs};
 ghost use Rattle.srm_engine.specs.Engines.{IsSetUp, IsStillOf, MayStep, StepsOn, MaySendNow, Sends, MayDeliver, Delivers, IsOpened, OpensFrom};
 ghost use Rattle.srm_engine.specs.Sinks.{IsOpen};
-ghost use Rattle.srm_engine.specs.declared.sink.SinkFault.{SinkFault as AFault};
-ghost use Rattle.srm_engine.specs.Streams.{fault_of_sink, StandsAs, stopped_in, MayTake, TakesSteps, StreamsRows};
+ghost use Rattle.srm_engine.specs.Streams.{StandsAs, stopped_in, MayTake, TakesSteps, StreamsRows};
 
 use crate::arrival::arrival;
 use crate::cells::Cells;
 use crate::fault::{RunFault, run_fault};
 use crate::sink::RowSink;
-use crate::stream_fault::{StreamFault, stream_fault};
+use crate::stream_fault::{StreamFault, hand};
 use srm_cell::count::count;
 use srm_ledger::totals::Totals;
 use srm_member::member::Member;
@@ -27,22 +26,6 @@ const PIECE: usize = 256;
 
 // No run has so many pieces: 2^62 rows.
 const MOST_PIECES: u64 = 18_014_398_509_481_984;
-
-// Hands rows to a sink.
-fn hand<S: RowSink>(alloc: Global, sink: &mut S, rows: Vec<Row>) -> Result<(), StreamFault>
-    requires open { IsOpen (S.stage sink.old) }
-    requires failures { S.failures sink.old < 2 ^ 64 - 1 }
-    ensures device { S.same sink.old sink.new }
-    ensures stands { StandsAs result (S.stage sink.new) }
-    ensures failures { S.failures sink.new ≡ S.failures sink.old + stopped_in result }
-    ensures rows { MatchResult result (λ _. S.took sink.old rows.items sink.new)
-        (λ e. S.part sink.old rows.items sink.new × ((f : AFault) × (e ≡ fault_of_sink f))) }
-{
-    match sink.rows(alloc, rows) {
-        Ok(()) => Ok(()),
-        Err(fault) => Err(stream_fault(fault)),
-    }
-}
 
 /// A run of a scenario: the cells of all members, and the totals so far.
 #[derive(Drop)]

@@ -24,4 +24,5 @@ pub mod stream_fault;
 pub mod width;
 mod window;
 pub mod window_run;
+pub mod window_stream;
 mod windowed;
