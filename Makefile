@@ -33,6 +33,7 @@ check: ## what an edit needs: proves each crate that changed, or CRATE=srm_net w
 	@tests/architecture.py
 	@tests/promises.py
 	@tests/calls.py
+	@tests/lines.py
 	@tools/prove.py $(if $(CRATE),crates/$(CRATE),crates)
 
 test: ## the merge gate: proves everything from nothing, with tests and must-fail edits, and checks the program that this made; tells the times
@@ -41,12 +42,14 @@ test: ## the merge gate: proves everything from nothing, with tests and must-fai
 	@tests/architecture.py
 	@tests/promises.py
 	@tests/calls.py
+	@tests/lines.py
 	@tools/gate.py -- make --no-print-directory test-program test-memory
 
 test-program: $(PROGRAM) ## compares what the program prints with each file of examples/, and its refusals, and tries it on some random scenarios
-	@tests/compare_program.py $(PROGRAM) examples
+	@tests/compare_program.py $(PROGRAM) examples tests/scenarios
 	@tests/refusals.py $(PROGRAM)
 	@tests/hostile.py $(PROGRAM) -q
+	@tests/command_line.py $(PROGRAM) -q
 	@tests/same_bytes.py --runs $(FEW_CASES) $(PROGRAM)
 	@tests/fuzz.py --from 1 --cases $(FEW_CASES) $(PROGRAM)
 

@@ -1,12 +1,13 @@
 #!/usr/bin/env python3
 """Compares what the built program writes with the tables of the examples, and with its exit statuses.
 
-usage: tests/compare_program.py PROGRAM EXAMPLES
+usage: tests/compare_program.py PROGRAM FOLDER ..
 
-EXAMPLES is a folder with scenarios NAME.toml and tables NAME.TABLE.csv, or NAME.seed-N.TABLE.csv where the seed is not 0.
+A folder has scenarios NAME.toml and tables NAME.TABLE.csv, or NAME.seed-N.TABLE.csv where the seed is not 0; the first is examples/.
 Each stored table is compared with what the sequential engine writes. Then each scenario is run in windows, for each of the four
 tables, with each crew, numbers of workers, cuts and widths that --help names, and has to give the sequential engine's bytes; so it has
-to with each seed for which a table is stored. Last, command lines and texts that are refused have to end with their line and status.
+to with each seed for which a table is stored, and by the sequential engine with options that only windows look at. Last, command
+lines and texts that are refused have to end with their line and status.
 Prints a line for each difference, and ends with status 1 where there is one.
 """
 import itertools
@@ -50,7 +51,8 @@ def seeds(examples, name):
 
 
 def engines(program):
-    """The words that ask for the run in windows, in each way."""
+    """The words that ask for the run in windows, in each way, and for the sequential one with what only windows look at."""
+    yield ["--engine", "step", "--crew", "bag", "--workers", "7", "--cut", "0", "--width", "0"]
     printed = ended(program, ["--help"], b"")[0][1].decode()
     for crew, workers, cut, width in itertools.product(CREWS, WORKERS, CUTS, WIDTHS):
         if width != "promise" or width in printed:
@@ -91,8 +93,6 @@ def cuts_and_widths(program, examples):
         got = ended(program, ["--engine", "window", *words], text)[0]
         if got != must:
             yield f"--engine window {' '.join(words)}: got {got}, and not {must}"
-    if ended(program, ["--cut", "0", "--width", "0"], chain)[0] != accepted:
-        yield "the sequential engine looks at the cut or the width"
 
 
 def statuses(program):
@@ -125,14 +125,15 @@ def statuses(program):
 
 
 def main():
-    program, examples = os.path.abspath(sys.argv[1]), pathlib.Path(sys.argv[2])
+    program, folders = os.path.abspath(sys.argv[1]), [pathlib.Path(folder) for folder in sys.argv[2:]]
     ways = [*engines(program)]
-    differences = [
-        *tables(program, examples), *windows(program, examples, ways), *cuts_and_widths(program, examples), *statuses(program),
-    ]
+    differences = [*cuts_and_widths(program, folders[0]), *statuses(program)]
+    for folder in folders:
+        differences += [*tables(program, folder), *windows(program, folder, ways)]
     for line in differences:
         print(line)
-    print(f"{len(list(examples.glob('*.csv')))} tables compared, and {len(ways)} ways to run in windows, {len(differences)} differences")
+    stored = sum(len(list(folder.glob("*.csv"))) for folder in folders)
+    print(f"{stored} tables compared, and {len(ways)} ways to run, {len(differences)} differences")
     return len(differences) > 0
 
 

@@ -1,4 +1,5 @@
-//! The calls of totals and of a ledger with ample memory, and with each allocation refused in turn where these tests are run by themselves.
+//! The calls of totals and of a ledger with ample memory, and with each allocation refused in turn where these tests are run by
+//! themselves.
 mod stories;
 mod threads;
 mod totals;

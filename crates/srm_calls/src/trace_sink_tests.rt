@@ -3,7 +3,7 @@ ghost use Rattle.std.specs.Prelude.{◌<◌, ◌-◌, ◌^◌};
 ghost use Rattle.srm_engine.specs.Sinks.{IsOpen};
 ghost use Rattle.srm_report.specs.TraceSinks.{stage_of, outlet_under};
 
-use crate::trace_tests::{Of, row_of};
+use crate::trace_tests::{Narrow, Of, row_of};
 use srm_engine::sink::{RowSink, SinkFault};
 use srm_member::row::{Row, Word};
 use srm_member::told::Told;
@@ -12,32 +12,7 @@ use srm_report::outlet::{Outlet, WriteOutlet};
 use srm_report::trace_sink::TraceSink;
 use srm_report::writing::WriteFault;
 use std::alloc::{AllocError, Global};
-use std::io;
-use std::io::{ErrorKind, Write};
 use std::test::Fail;
-
-// Takes so many bytes, and then refuses.
-#[derive(Drop)]
-struct TakesOnly {
-    taken: Vec<u8>,
-    room: usize,
-}
-
-impl Write for TakesOnly {
-    fn write(&mut self, piece: &[u8]) -> io::Result<usize> {
-        let count = piece.len().min(self.room);
-        if count == 0 {
-            return Err(io::Error::from(ErrorKind::Other));
-        }
-        self.taken.extend_from_slice(&piece[..count])?;
-        self.room -= count;
-        Ok(count)
-    }
-
-    fn flush(&mut self) -> io::Result<()> {
-        Ok(())
-    }
-}
 
 const TEXT: &[u8] =
     b"time,member,cause,ref,result,lost,sent\n0,0,join,-,in,0,-\n3,1,data,0:0,fresh,0,-\n";
@@ -119,10 +94,7 @@ fn written_to(
     takes: usize,
     gathers: usize,
 ) -> Result<(Vec<u8>, Option<u64>), AllocError> {
-    let mut outlet = WriteOutlet::new(TakesOnly {
-        taken: Vec::new(alloc),
-        room: takes,
-    });
+    let mut outlet = WriteOutlet::new(Narrow::new(alloc, takes, true));
     let told = written(alloc, TraceSink::gathering(alloc, &mut outlet, gathers))?;
     Ok((outlet.into_inner().taken, told))
 }
@@ -160,10 +132,7 @@ fn pieces_are_the_text_of_the_whole(rt: HostRuntime) -> Result<(), Fail> {
 #[test]
 fn a_sink_over_an_outlet_writes_each_piece_as_it_comes(rt: HostRuntime) -> Result<(), Fail> {
     let alloc = rt.alloc();
-    let mut outlet = WriteOutlet::new(TakesOnly {
-        taken: Vec::new(alloc),
-        room: 1_000,
-    });
+    let mut outlet = WriteOutlet::new(Narrow::new(alloc, 1_000, true));
     let told = written_at_once(alloc, TraceSink::over(alloc, &mut outlet))?;
     assert_eq!(rt; told, None);
     assert_eq!(rt; outlet.into_inner().taken.as_slice(), &TEXT[..57]);

@@ -31,6 +31,7 @@ fn in_pool<J: Send + Drop, D: Send + Drop, F: Fn(J) -> Result<D, CellFault> + Co
 {
     let all: Result<Result<Vec<D>, CellFault>, AllocError> = jobs
         .into_par_iter()
+        .with_min_len(1)
         .map(work)
         .collect(rt, alloc);
     match all {

@@ -1,45 +1,9 @@
-//! Whole scenarios, each with the trace that it gives.
+//! Worked scenarios for tests of other crates, each with the trace that it gives. More stand in tests/scenarios/ and examples/.
 
-mod edges;
 pub mod example;
 mod losses;
 mod members;
 
-use crate::scenarios::edges::{
-    LONE_SENDER, NO_MEMBER, STOPPED_BEFORE_THE_REPAIR, STOPPED_IN_MID_RECOVERY,
-    TABLES_AFTER_ALL_KEYS,
-};
 pub use crate::scenarios::example::Example;
-pub use crate::scenarios::losses::DRAWN_TIMERS;
-use crate::scenarios::losses::{
-    CHAIN_OF_FIVE_ONE_LOSS, LOSS_LEARNT_FROM_A_REQUEST, LOSS_ON_THE_SOURCE_LINK,
-    MENDED_BY_THE_DATA_ITSELF, REPAIR_BEFORE_THE_TIMER_OF_ITS_TICK, SESSION_REVEALS_A_LOSS,
-    STAR_LOSS_AT_ONE_MEMBER, STAR_LOSS_AT_THE_SOURCE,
-};
-use crate::scenarios::members::{
-    DROP_ON_THE_SECOND_LINK, LATE_JOINER, LISTENER_BESIDE_A_RECOVERY, LISTENER_THAT_LEAVES,
-    RECEIVER_THAT_LEAVES, TWO_NODES,
-};
-
-/// All examples that are run with seed 0.
-pub const EXAMPLES: [Example; 19] = [
-    CHAIN_OF_FIVE_ONE_LOSS,
-    LOSS_ON_THE_SOURCE_LINK,
-    REPAIR_BEFORE_THE_TIMER_OF_ITS_TICK,
-    STAR_LOSS_AT_THE_SOURCE,
-    STAR_LOSS_AT_ONE_MEMBER,
-    RECEIVER_THAT_LEAVES,
-    LISTENER_THAT_LEAVES,
-    LATE_JOINER,
-    SESSION_REVEALS_A_LOSS,
-    LONE_SENDER,
-    STOPPED_IN_MID_RECOVERY,
-    STOPPED_BEFORE_THE_REPAIR,
-    TWO_NODES,
-    NO_MEMBER,
-    LISTENER_BESIDE_A_RECOVERY,
-    MENDED_BY_THE_DATA_ITSELF,
-    LOSS_LEARNT_FROM_A_REQUEST,
-    DROP_ON_THE_SECOND_LINK,
-    TABLES_AFTER_ALL_KEYS,
-];
+pub use crate::scenarios::losses::{CHAIN_OF_FIVE_ONE_LOSS, DRAWN_TIMERS, STAR_LOSS_AT_THE_SOURCE};
+pub use crate::scenarios::members::TWO_NODES;

@@ -2,24 +2,14 @@
 #![tactic(auto)]
 
 mod command_line;
-#[cfg(test)]
-mod command_line_tests;
-#[cfg(test)]
-mod exits_tests;
 mod fault;
 mod line;
 mod members;
 mod options;
 mod program;
-#[cfg(test)]
-mod program_tests;
-#[cfg(test)]
-mod refusal_tests;
 mod report;
 mod run;
 mod session;
-#[cfg(test)]
-mod tests;
 
 use crate::program::program;
 use srm_report::outlet::WriteOutlet;

@@ -9,10 +9,11 @@ use Rattle.srm_member.specs.declared.row.About.{About}
 use Rattle.srm_member.specs.declared.row.About.TheVariants as about
 use Rattle.srm_member.specs.declared.row.Row.{Row}
 use Rattle.srm_member.specs.declared.told.Told.{Told}
+use Rattle.srm_member.specs.declared.exit.Exit.{Exit}
 use Rattle.srm_cell.specs.Setting.{Setting, traffic_of, setting_of}
 use Rattle.srm_cell.specs.Cells.{Idle, Full, Spent, Done}
 use Rattle.srm_cell.specs.Crossings.{crossings}
-use Rattle.srm_engine.specs.World.{World, step, opening}
+use Rattle.srm_engine.specs.World.{World, step, opening, exits_of}
 
 -- what an event is about, in short: nothing, a packet by its identity, or a name
 pub data Subject : Type 0 where
@@ -77,3 +78,7 @@ whole_trace p seed = map brief (last_world p seed).trace
 -- the crossings of its trace
 unfoldable pub whole_totals : PlainScenario → ℕ → List ℕ
 whole_totals p seed = crossings (traffic_of p (network_of p)) (last_world p seed).trace
+
+-- what its members end with
+unfoldable pub whole_exits : PlainScenario → ℕ → List Exit
+whole_exits p seed = exits_of (last_world p seed)

@@ -79,6 +79,10 @@ repair_before_the_timer_of_its_tick = record {
   drops = drop 0 0 0 ∷ [];
 }
 
+-- the same, and the run ends before the repair is sent
+abbrev pub stopped_before_the_repair : PlainScenario
+stopped_before_the_repair = record repair_before_the_timer_of_its_tick { until = 14 }
+
 -- timers of random length
 abbrev pub drawn_timers : PlainScenario
 drawn_timers = record {

@@ -1,7 +1,10 @@
--- The traces of the worked scenarios, and their crossings: for each link data, requests, repairs, session messages and drops.
+-- The traces of the worked scenarios, and their crossings: for each link data, requests, repairs, session messages and drops. Of
+-- some, what their members end with.
 use Rattle.std.specs.Prelude.{ℕ, List, [], ◌∷◌, Some, None}
 use Rattle.srm_member.specs.declared.row.Word.TheVariants as word
+use Rattle.srm_member.specs.declared.exit.Exit.{Exit}
 use Rattle.srm_member.specs.declared.told.Told.TheVariants as told
+use Rattle.srm_engine.specs.OneLoss.{an_exit}
 use Rattle.srm_traces.specs.Runs.{Brief, Nothing, Of, Named, handled, packet, name}
 
 -- one loss on a chain of five: its request, and the repair by the nearest that holds it: its trace
@@ -77,6 +80,27 @@ repair_before_the_timer_of_its_tick_trace =
 -- and its crossings
 abbrev pub repair_before_the_timer_of_its_tick_totals : List ℕ
 repair_before_the_timer_of_its_tick_totals = 1 ∷ 1 ∷ 1 ∷ 0 ∷ 1 ∷ []
+
+-- a run that ends before the repair is sent: its trace
+abbrev pub stopped_before_the_repair_trace : List Brief
+stopped_before_the_repair_trace =
+    handled 0 0 word.Join Nothing told.Entered 0 None
+    ∷ handled 0 0 word.Draw (Named (name 0 0 0)) told.Sent 0 (Some (packet 0 0))
+    ∷ handled 0 1 word.Join Nothing told.Entered 0 None
+    ∷ handled 10 0 word.Draw (Named (name 0 0 1)) told.Sent 0 (Some (packet 0 1))
+    ∷ handled 11 1 word.Data (Of (packet 0 1)) told.Fresh 1 None
+    ∷ handled 12 1 word.Ask (Named (name 0 0 0)) told.Sent 0 (Some (packet 1 0))
+    ∷ handled 13 0 word.Request (Of (packet 1 0)) told.Plan 0 None
+    ∷ []
+
+-- and its crossings
+abbrev pub stopped_before_the_repair_totals : List ℕ
+stopped_before_the_repair_totals = 1 ∷ 1 ∷ 0 ∷ 0 ∷ 1 ∷ []
+
+-- and what its members end with
+abbrev pub stopped_before_the_repair_exits : List Exit
+stopped_before_the_repair_exits = an_exit 0 ((name 0 0 0, 7) ∷ (name 0 0 1, 8) ∷ []) []
+    ∷ an_exit 1 ((name 0 0 1, 8) ∷ []) (name 0 0 0 ∷ []) ∷ []
 
 -- timers of random length: its trace
 abbrev pub drawn_timers_trace : List Brief
@@ -185,6 +209,10 @@ receiver_that_leaves_trace =
 abbrev pub receiver_that_leaves_totals : List ℕ
 receiver_that_leaves_totals = 2 ∷ 0 ∷ 0 ∷ 0 ∷ 0 ∷ []
 
+-- and what its members end with
+abbrev pub receiver_that_leaves_exits : List Exit
+receiver_that_leaves_exits = an_exit 0 ((name 0 0 0, 7) ∷ (name 0 0 1, 8) ∷ []) [] ∷ an_exit 1 ((name 0 0 0, 7) ∷ []) [] ∷ []
+
 -- a late joiner asks for the page that it wants, and not for the other: its trace
 abbrev pub late_joiner_trace : List Brief
 late_joiner_trace =
@@ -207,6 +235,11 @@ late_joiner_trace =
 -- and its crossings
 abbrev pub late_joiner_totals : List ℕ
 late_joiner_totals = 3 ∷ 2 ∷ 1 ∷ 1 ∷ 0 ∷ []
+
+-- and what its members end with
+abbrev pub late_joiner_exits : List Exit
+late_joiner_exits = an_exit 0 ((name 0 0 0, 7) ∷ (name 0 0 1, 9) ∷ (name 0 1 0, 8) ∷ []) []
+    ∷ an_exit 1 ((name 0 0 1, 9) ∷ (name 0 1 0, 8) ∷ []) [] ∷ []
 
 -- a session message reveals a loss: its trace
 abbrev pub session_reveals_a_loss_trace : List Brief

@@ -1,10 +1,10 @@
-//! Worked scenarios, whose whole traces and crossings the checker computes from the definitions.
+//! Worked scenarios, whose whole traces and crossings the checker computes from the definitions; of some, what their members end with.
 #![tactic(auto)]
 
 ghost use Rattle.std.specs.Prelude.{◌≡◌};
-ghost use Rattle.srm_traces.specs.Runs.{whole_trace, whole_totals, IsWhole};
+ghost use Rattle.srm_traces.specs.Runs.{whole_trace, whole_totals, whole_exits, IsWhole};
 ghost use Rattle.srm_traces.specs.Scenarios;
-ghost use Rattle.srm_traces.specs.Traces.{chain_of_five_one_loss_trace, chain_of_five_one_loss_totals, loss_on_the_source_link_trace, loss_on_the_source_link_totals, repair_before_the_timer_of_its_tick_trace, repair_before_the_timer_of_its_tick_totals, drawn_timers_trace, drawn_timers_totals, star_loss_at_the_source_trace, star_loss_at_the_source_totals, star_loss_at_one_member_trace, star_loss_at_one_member_totals, receiver_that_leaves_trace, receiver_that_leaves_totals, late_joiner_trace, late_joiner_totals, session_reveals_a_loss_trace, session_reveals_a_loss_totals, two_nodes_trace, two_nodes_totals, mended_by_the_data_itself_trace, mended_by_the_data_itself_totals, loss_learnt_from_a_request_trace, loss_learnt_from_a_request_totals};
+ghost use Rattle.srm_traces.specs.Traces.{chain_of_five_one_loss_trace, chain_of_five_one_loss_totals, loss_on_the_source_link_trace, loss_on_the_source_link_totals, repair_before_the_timer_of_its_tick_trace, repair_before_the_timer_of_its_tick_totals, stopped_before_the_repair_trace, stopped_before_the_repair_totals, stopped_before_the_repair_exits, drawn_timers_trace, drawn_timers_totals, star_loss_at_the_source_trace, star_loss_at_the_source_totals, star_loss_at_one_member_trace, star_loss_at_one_member_totals, receiver_that_leaves_trace, receiver_that_leaves_totals, receiver_that_leaves_exits, late_joiner_trace, late_joiner_totals, late_joiner_exits, session_reveals_a_loss_trace, session_reveals_a_loss_totals, two_nodes_trace, two_nodes_totals, mended_by_the_data_itself_trace, mended_by_the_data_itself_totals, loss_learnt_from_a_request_trace, loss_learnt_from_a_request_totals};
 
 /// One loss on a chain of five: its request, and the repair by the nearest that holds it.
 pub fn chain_of_five_one_loss()
@@ -27,6 +27,14 @@ pub fn repair_before_the_timer_of_its_tick()
     ensures totals { whole_totals Scenarios.repair_before_the_timer_of_its_tick 0
         ≡ repair_before_the_timer_of_its_tick_totals }
     ensures whole { IsWhole Scenarios.repair_before_the_timer_of_its_tick 0 }
+{}
+
+/// The same run, cut short before the repair is sent: the operation stays missing.
+pub fn stopped_before_the_repair()
+    ensures trace { whole_trace Scenarios.stopped_before_the_repair 0 ≡ stopped_before_the_repair_trace }
+    ensures totals { whole_totals Scenarios.stopped_before_the_repair 0 ≡ stopped_before_the_repair_totals }
+    ensures exits { whole_exits Scenarios.stopped_before_the_repair 0 ≡ stopped_before_the_repair_exits }
+    ensures whole { IsWhole Scenarios.stopped_before_the_repair 0 }
 {}
 
 /// Timers of random length.
@@ -54,6 +62,7 @@ pub fn star_loss_at_one_member()
 pub fn receiver_that_leaves()
     ensures trace { whole_trace Scenarios.receiver_that_leaves 0 ≡ receiver_that_leaves_trace }
     ensures totals { whole_totals Scenarios.receiver_that_leaves 0 ≡ receiver_that_leaves_totals }
+    ensures exits { whole_exits Scenarios.receiver_that_leaves 0 ≡ receiver_that_leaves_exits }
     ensures whole { IsWhole Scenarios.receiver_that_leaves 0 }
 {}
 
@@ -61,6 +70,7 @@ pub fn receiver_that_leaves()
 pub fn late_joiner()
     ensures trace { whole_trace Scenarios.late_joiner 0 ≡ late_joiner_trace }
     ensures totals { whole_totals Scenarios.late_joiner 0 ≡ late_joiner_totals }
+    ensures exits { whole_exits Scenarios.late_joiner 0 ≡ late_joiner_exits }
     ensures whole { IsWhole Scenarios.late_joiner 0 }
 {}
 

@@ -4,7 +4,7 @@ use crate::stories::event::Event;
 use srm_member::due::Due;
 use srm_member::react::React;
 use srm_member::told::Told;
-use srm_net::packet::Name;
+use srm_net::packet::{Body, Name};
 
 /// An event, and what must come of it.
 #[derive(Clone, Copy, Debug)]
@@ -26,11 +26,14 @@ pub struct Step {
 impl Step {
     /// Whether an answer is what must come of the event.
     pub(crate) fn expects(&self, react: &React) -> bool {
-        let sent = match (self.sent, &react.body) {
-            (None, None) => true,
+        react.told == self.told && react.lost.as_slice() == self.lost && self.sends(&react.body)
+    }
+
+    // Whether this is what must be sent, if anything must.
+    fn sends(&self, body: &Option<Body>) -> bool {
+        match (self.sent, body) {
             (Some(carried), Some(body)) => carried.is_in(body),
-            _ => false,
-        };
-        sent && react.told == self.told && react.lost.as_slice() == self.lost
+            (sent, body) => sent.is_none() && body.is_none(),
+        }
     }
 }

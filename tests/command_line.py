@@ -1,0 +1,292 @@
+#!/usr/bin/env python3
+"""Runs the built program with each option, written in each way, and sees by what the run does that it was understood.
+
+usage: tests/command_line.py PROGRAM [-q] [TEST ..]
+
+A seed is seen by the trace, which fuzz_replay.py holds to the model; an engine by whether it refuses a cut of 0, a width by which
+least delay is wide enough for it, a crew and its workers by the threads that are started, and a cut by how much memory is asked
+for, which grows with the jobs of a window. Needs a C compiler, `cc`, for the libraries that count. What is refused is in
+compare_program.py and hostile.py too; here stand each option's words.
+"""
+import os
+import pathlib
+import resource
+import signal
+import subprocess
+import sys
+import tempfile
+import tomllib
+import unittest
+
+sys.dont_write_bytecode = True
+
+import fuzz
+import fuzz_format
+
+TOP = pathlib.Path(__file__).resolve().parent.parent
+EXAMPLES = TOP / "examples"
+CHAIN = (EXAMPLES / "chain-of-five-one-loss.toml").read_bytes()
+TRACE = (EXAMPLES / "chain-of-five-one-loss.trace.csv").read_bytes()
+DRAWN = (EXAMPLES / "drawn-timers.toml").read_bytes()
+WINDOW = ["--engine", "window"]
+VERSION = b"srm_lab 0.2.0\n"
+BAD_CUT, BAD_WIDTH = ((1, b"", f"refused: {line}\n".encode()) for line in ("bad-cut", "bad-width"))
+REFUSED = (2, b"", b"command line refused\n")
+program = None
+libraries = {}
+
+# One window and one job: a network of one node has no least delay.
+LONE = b"""\
+version = 1
+until = 50
+c1 = 1000
+c2 = 0
+d1 = 1000
+d2 = 0
+nodes = 1
+member = [{ node = 0, role = "sender", stream = 1 }]
+draw = [{ member = 0, page = 0, ink = 7, at = 0 }]
+"""
+
+
+def ended(words, text=CHAIN):
+    """Status, standard output and standard error of a run on this text, and how much of the text was left unread."""
+    reader, writer = os.pipe()
+    os.write(writer, text)
+    os.close(writer)
+    done = subprocess.run([program, *words], stdin=reader, capture_output=True, timeout=60)
+    with os.fdopen(reader, "rb") as rest:
+        return (done.returncode, done.stdout, done.stderr), len(rest.read())
+
+
+def counted(source, words, text):
+    """How often a run of the program does what a library counts."""
+    if source not in libraries:
+        libraries[source] = f"{libraries['folder']}/{source}.so"
+        built = ["cc", "-O2", "-shared", "-fPIC", "-o", libraries[source], TOP / "tests" / f"{source}.c", "-ldl"]
+        subprocess.run(built, check=True)
+    with tempfile.NamedTemporaryFile() as told:
+        environment = {"LD_PRELOAD": libraries[source], "TELL": told.name}
+        subprocess.run([program, *words], input=text, capture_output=True, env=environment, timeout=60)
+        return os.path.getsize(told.name)
+
+
+def threads(words, text=LONE):
+    """How many threads a run starts."""
+    return counted("count_threads", words, text)
+
+
+def allocations(words, text):
+    """How many allocations a run makes beside those for its words, which a refused text shows."""
+    return counted("refuse_allocation", words, text) - counted("refuse_allocation", words, b"[")
+
+
+def chain(nodes, delay, apart=90):
+    """A chain with a listener on each node, but for a sender on the first, which draws at tick 0 and so many ticks apart."""
+    members = "".join(f'  {{ node = {node}, role = "{"listener" if node else "sender"}", stream = 0 }},\n' for node in range(nodes))
+    draws = "".join(f"  {{ member = 0, page = 0, ink = 7, at = {at} }},\n" for at in range(0, 91, apart))
+    top = f'version = 1\nuntil = 100\nc1 = 0\nc2 = 0\nd1 = 0\nd2 = 0\ntopology = "chain"\nsize = {nodes}\ndelay = {delay}\n'
+    return f"{top}member = [\n{members}]\ndraw = [\n{draws}]\n".encode()
+
+
+class Seeds(unittest.TestCase):
+    def check(self, words, seed):
+        """Holds the trace of a run whose timers are drawn to the model, with this seed."""
+        (status, trace, told), _ = ended(words, DRAWN)
+        self.assertEqual((status, told), (0, b""))
+        fuzz.expected(fuzz_format.Scenario(tomllib.loads(DRAWN.decode())), seed, trace)
+        return trace
+
+    def test_each_way_to_write_a_seed(self):
+        for words, seed in (
+            ([], 0),
+            (["--seed", "0"], 0),
+            (["--seed", "42"], 42),
+            (["--seed=42"], 42),
+            (["--seed", "+7"], 7),
+            (["--seed", "007"], 7),
+            (["--seed", "9223372036854775807"], 9223372036854775807),
+            (["--show", "trace", "--seed", "3"], 3),
+        ):
+            with self.subTest(words=words):
+                self.check(words, seed)
+
+    def test_seeds_are_told_apart(self):
+        self.assertNotEqual(self.check(["--seed", "42"], 42), self.check([], 0))
+        self.assertEqual(self.check(["--seed", "42"], 42), (EXAMPLES / "drawn-timers.seed-42.trace.csv").read_bytes())
+
+
+class Tables(unittest.TestCase):
+    def test_each_table(self):
+        for words, show in (
+            ([], "trace"),
+            (["--show", "trace"], "trace"),
+            (["--show", "members"], "members"),
+            (["--show", "losses"], "losses"),
+            (["--show=links"], "links"),
+            (["--show", "links", "--seed", "3"], "links"),
+        ):
+            with self.subTest(words=words):
+                table = (EXAMPLES / f"chain-of-five-one-loss.{show}.csv").read_bytes()
+                self.assertEqual(ended(words)[0], (0, table, b""))
+
+
+class Windows(unittest.TestCase):
+    def test_only_the_run_in_windows_refuses_a_cut_of_0(self):
+        for words, end in (
+            ([], (0, TRACE, b"")),
+            (["--engine", "step"], (0, TRACE, b"")),
+            (["--engine=window"], BAD_CUT),
+            (["--engine", "window"], BAD_CUT),
+        ):
+            with self.subTest(words=words):
+                self.assertEqual(ended([*words, "--cut", "0"])[0], end)
+
+    def test_a_width_is_the_least_delay_that_is_wide_enough(self):
+        for word, least in (("=1", 1), ("=0007", 7), (" 7", 7), (" 12", 12)):
+            words = [*WINDOW, *f"--width{word}".split()]
+            with self.subTest(words=words):
+                self.assertEqual(ended(words, chain(3, least))[0][0], 0)
+                if least > 1:
+                    self.assertEqual(ended(words, chain(3, least - 1))[0], BAD_WIDTH)
+
+    def test_widths_that_no_network_with_a_link_allows(self):
+        for width in ("0", "18446744073709551615"):
+            with self.subTest(width=width):
+                self.assertEqual(ended([*WINDOW, "--width", width])[0], BAD_WIDTH)
+
+    def test_windows_are_as_wide_as_a_link_unless_another_width_is_asked_for(self):
+        text = chain(3, 7, 3)
+        least = allocations(WINDOW, text)
+        self.assertEqual(allocations([*WINDOW, "--width", "least"], text), least)
+        self.assertEqual(allocations([*WINDOW, "--width", "7"], text), least)
+        # narrower windows are more, and those of promises fewer, since listeners send nothing
+        self.assertGreater(allocations([*WINDOW, "--width", "2"], text), least)
+        self.assertLess(allocations([*WINDOW, "--width", "promise"], text), least)
+
+    def test_more_members_in_a_job_are_fewer_jobs(self):
+        text = chain(20, 1)
+        asked = {cut: allocations([*WINDOW, "--cut", cut], text) for cut in ("1", "2", "9", "10", "0010", "20", "1024")}
+        self.assertEqual(allocations(WINDOW, text), asked["1"])
+        self.assertEqual(asked["0010"], asked["10"])
+        self.assertEqual(asked["20"], asked["1024"])
+        # 20, 10, 3, 2 jobs and one
+        jobs = [asked[cut] for cut in ("1", "2", "9", "10", "20")]
+        self.assertEqual(jobs, sorted(set(jobs), reverse=True))
+
+
+class Crews(unittest.TestCase):
+    def test_workers_of_a_bag_are_threads_beside_the_first(self):
+        bag = [*WINDOW, "--crew", "bag"]
+        for words, more in (
+            ([], 0),
+            (["--workers", "1"], 0),
+            (["--workers", "2"], 1),
+            (["--workers=7"], 6),
+            (["--workers", "+64"], 63),
+        ):
+            with self.subTest(words=words):
+                self.assertEqual(threads([*bag, *words]), more)
+
+    def test_no_other_run_starts_a_thread_for_each_worker(self):
+        for words in ([], ["--crew", "bag"], ["--crew", "pool"], WINDOW, [*WINDOW, "--crew", "plain"], ["--engine", "step"]):
+            with self.subTest(words=words):
+                self.assertEqual(threads([*words, "--workers", "3"]), 0)
+
+    def test_a_bag_is_asked_for_by_its_name_alone(self):
+        text = chain(20, 1)
+        plain, pool, bag = (allocations([*WINDOW, "--crew", crew], text) for crew in ("plain", "pool", "bag"))
+        self.assertEqual(allocations(WINDOW, text), plain)
+        self.assertNotIn(bag, (plain, pool))
+        for crew in ("plain", "pool", "bag"):
+            self.assertEqual(allocations(["--engine", "step", "--crew", crew], text), allocations([], text))
+
+    def test_options_in_any_order(self):
+        words = ["--width", "7", "--cut", "3", "--workers", "3", "--crew", "bag", "--engine", "window"]
+        self.assertEqual(threads(words, LONE), 2)
+        self.assertEqual(ended(words, chain(3, 7))[0][0], 0)
+        self.assertEqual(ended(words, chain(3, 6))[0], BAD_WIDTH)
+
+
+class Refused(unittest.TestCase):
+    def check(self, all_words):
+        for words in all_words:
+            with self.subTest(words=words):
+                self.assertEqual(ended(words), (REFUSED, len(CHAIN)))
+
+    def test_numbers_that_do_not_fit(self):
+        self.check([
+            ["--seed", "9223372036854775808"], ["--seed", "18446744073709551616"], ["--seed", "-1"], ["--seed", "x"], ["--seed", ""],
+            ["--workers", "65"], ["--workers", "0"], ["--workers", "two"],
+            ["--cut", "+1"], ["--cut", ""], ["--cut", "4294967296"], ["--cut", "one"],
+            ["--width", "+1"], ["--width", "18446744073709551616"],
+        ])
+
+    def test_words_that_are_none_of_their_options(self):
+        self.check([
+            ["--show", "colors"], ["--show", "Trace"], ["--show", "trace "], ["--show", ""], ["--show=tracelinks"],
+            ["--engine", "windows"], ["--engine", ""], ["--crew", "six"], ["--width", "Least"],
+        ])
+
+    def test_options_that_are_none_or_lack_something_or_stand_twice(self):
+        self.check([
+            ["--seed"], ["--show"], ["--seed", "1", "--seed", "2"], ["--show", "trace", "--show", "trace"],
+            ["--cut", "1", "--cut", "1"], ["--see", "1"], ["-s"], ["scenario.toml"], ["--show", "colors", "--seed", "x"],
+        ])
+
+    def test_a_mistake_before_help(self):
+        self.check([["--seed", "x", "--help"], ["--colors", "--help"]])
+
+    def test_a_line_that_is_not_taken_changes_no_status(self):
+        with tempfile.TemporaryFile() as errors:
+            done = narrow(["--show", "colors"], 7, stdout=subprocess.PIPE, stderr=errors)
+            errors.seek(0)
+            self.assertEqual((done.returncode, done.stdout, errors.read()), (2, b"", b"command"))
+
+
+def narrow(words, most, **streams):
+    """A run whose files take at most so many bytes."""
+
+    def limit():
+        signal.signal(signal.SIGXFSZ, signal.SIG_IGN)
+        resource.setrlimit(resource.RLIMIT_FSIZE, (most, most))
+
+    return subprocess.run([program, *words], stdin=subprocess.DEVNULL, preexec_fn=limit, restore_signals=False, **streams)
+
+
+class Help(unittest.TestCase):
+    def test_help_tells_each_option_with_what_it_takes(self):
+        (status, text, told), unread = ended(["--help"])
+        self.assertEqual((status, told, unread), (0, b"", len(CHAIN)))
+        for part in (
+            "standard input", "standard output", "CSV", "Usage: srm_lab [OPTIONS]",
+            "--seed <0..=9223372036854775807>", "[default: 0]", "--engine <step|window>", "[default: step]",
+            "--crew <plain|pool|bag>", "[default: plain]", "--workers <1..=64>", "[default: 1]", "--cut <N>", "1 to 1024",
+            "--width <least|promise|N>", "[default: least]", "--show <trace|members|losses|links>", "[default: trace]",
+            "Exit status:\n  0 ", "\n  1 ", "\n  2 ", "Example:\n  srm_lab --seed 7",
+        ):
+            with self.subTest(part=part):
+                self.assertIn(part, text.decode())
+
+    def test_help_that_is_met_first_is_given(self):
+        must = ended(["--help"])
+        for words in (["-h"], ["--show", "colors", "--help"], ["--help", "--show", "colors"], ["--seed", "1", "-h", "--colors"]):
+            with self.subTest(words=words):
+                self.assertEqual(ended(words), must)
+
+    def test_the_version_is_the_program_and_its_number(self):
+        for words in (["--version"], ["-V"]):
+            with self.subTest(words=words):
+                self.assertEqual(ended(words), ((0, VERSION, b""), len(CHAIN)))
+
+    def test_a_version_that_is_not_taken_whole(self):
+        with tempfile.TemporaryFile() as output:
+            done = narrow(["--version"], 10, stdout=output, stderr=subprocess.PIPE)
+            output.seek(0)
+            self.assertEqual((done.returncode, output.read(), done.stderr), (1, b"srm_lab 0.", b"refused: write-fault 10\n"))
+
+
+if __name__ == "__main__":
+    program = os.path.abspath(sys.argv[1])
+    with tempfile.TemporaryDirectory() as libraries["folder"]:
+        unittest.main(argv=sys.argv[:1] + sys.argv[2:])
