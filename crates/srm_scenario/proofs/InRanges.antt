@@ -8,7 +8,7 @@ use Rattle.std.specs.Prelude.{◌&&◌}
 use Rattle.toml.specs.Data.{Data, Members, string, integer, float, boolean, datetime, array, table, get_member}
 use Rattle.srm_net.specs.declared.link.LinkSpec.{LinkSpec}
 use Rattle.srm_net.specs.DropSets.{ordered_once}
-use Rattle.srm_net.specs.Network.{HasDelay}
+use Rattle.srm_net.specs.Network.{HasDelays}
 use Rattle.srm_net.specs.Paths.{drop_cmp}
 use Rattle.srm_scenario.specs.declared.entry.MemberEntry.{MemberEntry}
 use Rattle.srm_scenario.specs.declared.fault.Part.{Part}
@@ -88,13 +88,14 @@ read_elements : {A : Type 0} (P : A → Type 0) (p : Part) (reading : Members �
     → element_faults p rules ds ≡ [] → AllByRecursion P (map (λ d. reading (table_of d)) ds)
 read_elements P p reading rules f ds h = all_read P reading rules f ds (none_by (BadKey p) (fits_element rules) 0 ds h)
 
-link_delay : (m : Members) → fits link_rules m ≡ true → HasDelay (link_of m)
+link_delay : (m : Members) → fits link_rules m ≡ true → HasDelays (link_of m)
 link_delay m h =
     let (keys, r1) = and_parts (has_only (map (λ r. r.key) link_rules) m) (list_all (is_met m) link_rules) h in
     let (a, r2) = and_parts (is_met m (rule (codes "a") (whole 0 255) required)) _ r1 in
     let (b, r3) = and_parts (is_met m (rule (codes "b") (whole 0 255) required)) _ r2 in
     let (delay, r4) = and_parts (is_met m (rule (codes "delay") (whole 1 1000000) required)) _ r3 in
-    required_number (codes "delay") 1 1000000 m delay
+    let fits = required_number (codes "delay") 1 1000000 m delay in
+    (fits, fits)
 
 member_range : (m : Members) → fits member_rules m ≡ true → MemberInRange (entry_of m).spec
 member_range m h =
@@ -123,11 +124,11 @@ all_spec (e ∷ es) h = (h.0, all_spec es h.1)
 
 -- ---- links of a topology
 
-parents_delay : (t : Topology) (delay v n : ℕ) → (1 ≤ delay) × (delay ≤ 1000000) → AllByRecursion HasDelay (links_to_parents t delay v n)
+parents_delay : (t : Topology) (delay v n : ℕ) → (1 ≤ delay) × (delay ≤ 1000000) → AllByRecursion HasDelays (links_to_parents t delay v n)
 parents_delay t delay v zero h = tt
-parents_delay t delay v (suc n) h = (h, parents_delay t delay (v + 1) n h)
+parents_delay t delay v (suc n) h = ((h, h), parents_delay t delay (v + 1) n h)
 
-listed_delay : (o : Option Topology) (nodes delay : ℕ) (links : List LinkSpec) → IsDelay o delay → AllByRecursion HasDelay links → AllByRecursion HasDelay (links_listed o nodes delay links)
+listed_delay : (o : Option Topology) (nodes delay : ℕ) (links : List LinkSpec) → IsDelay o delay → AllByRecursion HasDelays links → AllByRecursion HasDelays (links_listed o nodes delay links)
 listed_delay None nodes delay links h all = all
 listed_delay (Some t) nodes delay links h all = parents_delay t delay 1 (nodes - 1) h
 
@@ -151,7 +152,7 @@ member_part ms h =
 pub listed_range : (ms : Members) (l : Listed) → IsListed ms l → InRange (plain_of l)
 unfolding plain_of
 listed_range ms l h =
-    let links : AllByRecursion HasDelay l.links.items = subst (λ (ks : List LinkSpec). AllByRecursion HasDelay ks) h.links (read_elements HasDelay _ link_of link_rules link_delay _ (link_part ms h.no_fault)) in
+    let links : AllByRecursion HasDelays l.links.items = subst (λ (ks : List LinkSpec). AllByRecursion HasDelays ks) h.links (read_elements HasDelays _ link_of link_rules link_delay _ (link_part ms h.no_fault)) in
     let members : AllByRecursion (λ e. MemberInRange e.spec) l.members.items =
     subst (λ (es : List MemberEntry). AllByRecursion (λ e. MemberInRange e.spec) es) h.members (read_elements (λ e. MemberInRange e.spec) _ entry_of member_rules member_range _ (member_part ms h.no_fault)) in
     record {

@@ -3,7 +3,7 @@ use Rattle.std.proofs.Common.{◌≡◌, ◌⊎◌, ℕ, Bool, true, false, List
 use Rattle.srm_net.specs.declared.link.LinkSpec.{LinkSpec}
 use Rattle.srm_net.specs.declared.link.DropSpec.{DropSpec}
 use Rattle.srm_net.specs.DropSets.{ordered_once}
-use Rattle.srm_net.specs.Network.{plain_network, HasDelay}
+use Rattle.srm_net.specs.Network.{plain_network, HasDelays}
 use Rattle.srm_net.specs.Paths.{drop_cmp}
 use Rattle.srm_scenario.specs.declared.fault.ScenarioFault.{ScenarioFault}
 use Rattle.srm_scenario.specs.declared.fault.ScenarioFault.TheVariants.{NoMemory, NotTree, BadDraw, BadSession, BadDrop}
@@ -122,6 +122,6 @@ unfolding plain_of
 accepted_made l range pages none = accepted_from (plain_of l) (is_star l.topology) l.members.items l.drops.items range pages refl refl none
 
 -- the delays of the links that are made
-pub delays_made : (l : Listed) (links : List LinkSpec) → links ≡ links_listed l.topology l.nodes l.delay l.links.items → InRange (plain_of l) → AllByRecursion HasDelay links
+pub delays_made : (l : Listed) (links : List LinkSpec) → links ≡ links_listed l.topology l.nodes l.delay l.links.items → InRange (plain_of l) → AllByRecursion HasDelays links
 unfolding plain_of
-delays_made l links same range = subst (λ (ks : List LinkSpec). AllByRecursion HasDelay ks) (sym same) range.delays
+delays_made l links same range = subst (λ (ks : List LinkSpec). AllByRecursion HasDelays ks) (sym same) range.delays

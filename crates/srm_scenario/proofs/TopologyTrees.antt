@@ -30,7 +30,7 @@ parent_below (Tree degree) v h some =
     ]
 
 link_at : Topology → ℕ → ℕ → LinkSpec
-link_at t delay v = record { a = parent_in t v; b = v; delay = delay }
+link_at t delay v = record { a = parent_in t v; b = v; delay = delay; back = delay }
 
 links_length : (t : Topology) (delay v n : ℕ) → length (links_to_parents t delay v n) ≡ n
 links_length t delay v zero = refl
@@ -58,5 +58,6 @@ topologies t h delay nodes some few =
     (record {
       below = λ v one. parent_below t v h one;
       delay = λ i. delay;
+      back = λ i. delay;
       link = λ i lt. nth_link t delay 1 (nodes - 1) i (omega (arith, links_length t delay 1 (nodes - 1))) ∙ ap (λ k. Some (link_at t delay k)) (omega arith);
     })

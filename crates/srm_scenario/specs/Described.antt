@@ -59,8 +59,14 @@ table_of d = no_members
 
 -- ---- elements
 
+-- a link takes as long in both directions
 abbrev pub link_of : Members → LinkSpec
-link_of ms = record { a = number (codes "a") ms; b = number (codes "b") ms; delay = number (codes "delay") ms }
+link_of ms = record {
+  a = number (codes "a") ms;
+  b = number (codes "b") ms;
+  delay = number (codes "delay") ms;
+  back = number (codes "delay") ms;
+}
 
 abbrev pub role_of : Members → Role
 role_of ms =
@@ -117,10 +123,10 @@ parent_in Chain v = v - 1
 parent_in Star v = 0
 parent_in (Tree degree) v = if nat_le v degree then 0 else 1 + (v - degree - 1) / (degree - 1)
 
--- n links, each joining a node to its parent, from node v on
+-- n links, each joining a node to its parent, from node v on, each of this delay in both directions
 abbrev pub links_to_parents : Topology → ℕ → ℕ → ℕ → List LinkSpec
 links_to_parents t delay v zero = []
-links_to_parents t delay v (suc n) = record { a = parent_in t v; b = v; delay = delay }
+links_to_parents t delay v (suc n) = record { a = parent_in t v; b = v; delay = delay; back = delay }
     ∷ links_to_parents t delay (v + 1) n
 
 abbrev pub nodes_in : Option Topology → Members → ℕ

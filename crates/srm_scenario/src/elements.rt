@@ -29,6 +29,7 @@ fn link_of(table: &Table) -> Option<LinkSpec>
         a: a as u16,
         b: b as u16,
         delay,
+        back: delay,
     })
 }
 

@@ -3,7 +3,7 @@ ghost use Rattle.std.specs.Prelude.{◌≡◌, ◌⊎◌, ◌≤◌, ◌<◌, tr
 ghost use Rattle.std.specs.Io.KnownBytes.{Consumes};
 ghost use Rattle.std.specs.List.{AllByRecursion};
 ghost use Rattle.toml.specs.View.{table_view};
-ghost use Rattle.srm_net.specs.Network.{plain_network, HasDelay};
+ghost use Rattle.srm_net.specs.Network.{plain_network, HasDelays};
 ghost use Rattle.srm_net.specs.DropSets.{ordered_once};
 ghost use Rattle.srm_net.specs.Paths.{drop_cmp};
 ghost use Rattle.srm_scenario.specs.Accepted.{IsAccepted};
@@ -31,7 +31,7 @@ use toml::Table;
 
 /// Links that do not make a tree of the nodes are a fault.
 fn check_tree(alloc: Global, nodes: u16, links: &[LinkSpec]) -> Result<(), ScenarioFault>
-    requires { AllByRecursion HasDelay links.now }
+    requires { AllByRecursion HasDelays links.now }
     ensures { MatchResult result
         (λ _. is_tree (plain_network nodes links.now []) ≡ true)
         (λ e. (e ≡ ScenarioFault.NoMemory) ⊎ ((e ≡ ScenarioFault.NotTree)

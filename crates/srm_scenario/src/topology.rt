@@ -40,7 +40,7 @@ impl Topology {
         }
     }
 
-    /// The links of the topology with `size` nodes, each of this delay.
+    /// The links of the topology with `size` nodes, each of this delay in both directions.
     pub(crate) fn links(
         self,
         alloc: Global,
@@ -57,6 +57,7 @@ impl Topology {
                 a: self.parent(v),
                 b: v,
                 delay,
+                back: delay,
             })?;
         }
         Ok(links)
