@@ -15,6 +15,7 @@ ghost use Rattle.srm_scenario.specs.Trees.{is_tree};
 
 use crate::bytes::{LONGEST_TEXT, TextFault, read_text};
 use crate::checks::{check_draws, check_drops, check_members, check_sessions};
+use crate::delays::Delays;
 use crate::entry::MemberEntry;
 use crate::fault::ScenarioFault;
 use crate::feed::Feed;
@@ -81,15 +82,15 @@ fn links_of(
     alloc: Global,
     topology: Option<Topology>,
     nodes: u16,
-    delay: u64,
+    delays: Delays,
     links: Vec<LinkSpec>,
 ) -> Result<Vec<LinkSpec>, AllocError>
     requires nodes { 1 ≤ nodes }
     requires degree { HasDegree topology }
-    ensures { IfOk result (λ all. all.items ≡ links_listed topology nodes delay links.items) }
+    ensures { IfOk result (λ all. all.items ≡ links_listed topology nodes delays links.items) }
 {
     match topology {
-        Some(topology) => topology.links(alloc, nodes, delay),
+        Some(topology) => topology.links(alloc, nodes, delays),
         None => Ok(links),
     }
 }
@@ -109,14 +110,14 @@ fn scenario_from(alloc: Global, listed: Listed) -> Result<Scenario, ScenarioFaul
         constants,
         topology,
         nodes,
-        delay,
+        delays,
         links,
         members: entries,
         draws,
         sessions,
         drops,
     } = listed;
-    let links = links_of(alloc, topology, nodes, delay, links)?;
+    let links = links_of(alloc, topology, nodes, delays, links)?;
     check_tree(alloc, nodes, &links)?;
     check_members(until, nodes, is_star(topology), &entries)?;
     let members = members_of(alloc, entries)?;
