@@ -13,11 +13,11 @@ TOPOLOGIES = ("chain", "star", "tree")
 NEEDED = {"version", "until", "c1", "c2", "d1", "d2"}
 NUMBERS = {
     "top": {
-        "version": (1, 1), "until": (1, LATEST),
+        "version": (1, 2), "until": (1, LATEST),
         "c1": (0, 64000), "c2": (0, 64000), "d1": (0, 64000), "d2": (0, 64000),
-        "nodes": (1, 256), "size": (1, 256), "delay": (1, 1000000), "degree": (2, 255),
+        "nodes": (1, 256), "size": (1, 256), "delay": (1, 1000000), "back": (1, 1000000), "degree": (2, 255),
     },
-    "link": {"a": (0, 255), "b": (0, 255), "delay": (1, 1000000)},
+    "link": {"a": (0, 255), "b": (0, 255), "delay": (1, 1000000), "back": (1, 1000000)},
     "member": {"node": (0, 255), "stream": (0, 2**63 - 1), "join": (0, LATEST), "leave": (1, LATEST)},
     "draw": {"member": (0, 255), "page": (0, 65535), "ink": (0, 2**32 - 1), "at": (0, LATEST)},
     "session": {"member": (0, 255), "at": (0, LATEST)},
@@ -46,7 +46,12 @@ def top_keys(top):
         needed = NEEDED | {"nodes"}
         return needed, needed | set(LENGTHS)
     needed = NEEDED | {"topology", "size", "delay"} | ({"degree"} if top["topology"] == "tree" else set())
-    return needed, needed | set(LENGTHS) - {"link"}
+    return needed, needed | set(LENGTHS) - {"link"} | back_key(top.get("version"))
+
+
+def back_key(version):
+    """The key of a link's second delay, in a version that has it."""
+    return {"back"} if version == 2 else set()
 
 
 def top_is_right(top):
@@ -60,12 +65,13 @@ def top_value_is_right(key, value):
     return is_array(value, LENGTHS[key]) if key in LENGTHS else is_number(value, NUMBERS["top"][key])
 
 
-def element_is_right(part, element):
+def element_is_right(version, part, element):
     """Whether an element of an array has the keys of its part, and these what they must have."""
     if not isinstance(element, dict):
         return False
-    allowed = set(NUMBERS[part]) | ({"role", "pages"} if part == "member" else set())
+    allowed = set(NUMBERS[part]) - {"back"} | ({"role", "pages"} if part == "member" else set())
     needed = allowed - {"join", "leave", "pages"}
+    allowed |= back_key(version) if part == "link" else set()
     return needed <= set(element) <= allowed and all(value_is_right(part, key, value) for key, value in element.items())
 
 
@@ -78,10 +84,15 @@ def value_is_right(part, key, value):
 
 
 def links_of(top):
-    """Each link as the two nodes that it joins and its delay."""
+    """Each link as the two nodes that it joins, its delay from the first to the second, and that back."""
     if "topology" not in top:
-        return [(link["a"], link["b"], link["delay"]) for link in top.get("link", [])]
-    return [(parent(top, node), node, top["delay"]) for node in range(1, top["size"])]
+        return [(link["a"], link["b"], *delays_of(link)) for link in top.get("link", [])]
+    return [(parent(top, node), node, *delays_of(top)) for node in range(1, top["size"])]
+
+
+def delays_of(table):
+    """The delay of a link, or of each link of a topology, and that in the other direction."""
+    return table["delay"], table.get("back", table["delay"])
 
 
 def parent(top, node):
@@ -96,7 +107,7 @@ def parent(top, node):
 
 def is_tree(nodes, links):
     """Whether there is one link fewer than nodes, and each node is reached from the first."""
-    if len(links) != nodes - 1 or any(end >= nodes for a, b, _ in links for end in (a, b)):
+    if len(links) != nodes - 1 or any(end >= nodes for a, b, *_ in links for end in (a, b)):
         return False
     return len(ways_from(0, links)) == nodes
 
@@ -129,7 +140,7 @@ def refusal_of(top):
     if not top_is_right(top):
         return "bad-key top 0"
     for part in LENGTHS:
-        place = first_wrong(top.get(part, []), functools.partial(element_is_right, part))
+        place = first_wrong(top.get(part, []), functools.partial(element_is_right, top["version"], part))
         if place is not None:
             return f"bad-key {part} {place}"
     nodes, links, members = top.get("nodes", top.get("size")), links_of(top), top.get("member", [])
@@ -150,7 +161,7 @@ def refusal_of(top):
 def ways_from(start, links):
     """For each node that is reached, the list of links from a start to it."""
     beside = collections.defaultdict(list)
-    for number, (a, b, _) in enumerate(links):
+    for number, (a, b, *_) in enumerate(links):
         beside[a].append((b, number))
         beside[b].append((a, number))
     ways, waiting = {start: []}, [start]
@@ -186,10 +197,22 @@ class Scenario:
         return self.ways[a][self.members[b]["node"]]
 
     def distance(self, a, b):
-        """The sum of the delays on the path between two members."""
+        """The sum of the delays on the path from one member to another, each in the direction in which the path takes the link."""
         if (a, b) not in self.distances:
-            self.distances[a, b] = sum(self.links[link][2] for link in self.path(a, b))
+            node, total = self.members[a]["node"], 0
+            for link in self.path(a, b):
+                near, far, delay, back = self.links[link]
+                node, total = (far, total + delay) if node == near else (near, total + back)
+            self.distances[a, b] = total
         return self.distances[a, b]
+
+    def round_trip(self, a, b):
+        """How long a packet takes from one member to another, and another one back."""
+        return self.distance(a, b) + self.distance(b, a)
+
+    def half_round_trip(self, a, b):
+        """The distance that timers and rests go by."""
+        return self.round_trip(a, b) // 2
 
     def is_present(self, member, time):
         """Whether a packet that arrives at this time is heard."""

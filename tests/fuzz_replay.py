@@ -71,7 +71,7 @@ class Member:
     def drawn(self, backoffs, constants, other):
         """The length of a timer, which takes one word."""
         least, more = (self.scenario.top[constant] for constant in constants)
-        share = 2 ** min(backoffs, MOST_BACKOFFS) * self.scenario.distance(self.number, other)
+        share = 2 ** min(backoffs, MOST_BACKOFFS) * self.scenario.half_round_trip(self.number, other)
         low, high = share * least // 1000, share * (least + more) // 1000
         return max(1, low + self.words.next() * (high - low + 1) // 2**32)
 
@@ -88,8 +88,8 @@ class Member:
         lost.expiry, lost.ignore = row.time + length, row.time + length // 2
 
     def base(self, name, other):
-        """The distance by which a rest is measured: at the source that to another member, which asked or repaired."""
-        return self.scenario.distance(self.number, other if name[0] == self.number else name[0])
+        """Half the round trip by which a rest is measured: at the source that to another member, which asked or repaired."""
+        return self.scenario.half_round_trip(self.number, other if name[0] == self.number else name[0])
 
     # ---- pages -------------------------------------------------------------------
 

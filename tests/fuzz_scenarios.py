@@ -68,6 +68,14 @@ def explicit(rng, nodes, delay):
     return {"nodes": nodes, **({"link": links} if links or rng.random() < 0.5 else {})}
 
 
+def second_version(rng, top):
+    """Makes it a scenario of version 2, in which links may take longer in one direction than in the other."""
+    top["version"] = 2
+    for table in [top] if "topology" in top else top.get("link", []):
+        if rng.random() < 0.8:
+            table["back"] = rng.choice([table["delay"], small(rng, 1, 9, 1000, 1000000), rng.randint(1, table["delay"])])
+
+
 def members(rng, top):
     """Members on some of the nodes, when all run from the beginning to the end."""
     first = 1 if top.get("topology") == "star" else 0
@@ -89,6 +97,8 @@ def scenario(rng):
     """The plain data of a scenario that is accepted."""
     usual = rng.choice([[0], [1000], [0, 500, 1000, 2000, 3000], [0, 500, 1000, 2000, 3000], [0, 64000, rng.randrange(64001)]])
     top = {"version": 1, "until": 1, **{it: rng.choice(usual) for it in ("c1", "c2", "d1", "d2")}, **network(rng)}
+    if rng.random() < 0.4:
+        second_version(rng, top)
     top["member"] = members(rng, top)
     network_of = Scenario(top)
     far = max((network_of.distance(0, it) for it in range(len(top["member"]))), default=0)
@@ -124,7 +134,7 @@ def bounded_until(top, losses, until):
 
 def rows_at_most(top, losses, until):
     """About how many rows losses make that nobody mends: each loser asks and backs off, and each request is heard by all."""
-    hearers, delay = len(top.get("member", [])), min((delay for _, _, delay in links_of(top)), default=1)
+    hearers, delay = len(top.get("member", [])), min((min(delay, back) for _, _, delay, back in links_of(top)), default=1)
     least, asks, time = (top["c1"] + top["c2"] / 2) * delay / 1000, 0, 0
     while time < until and asks < MOST_ROWS:
         if asks > 10:

@@ -94,7 +94,7 @@ def losses_table(scenario, losses):
     """One line for each lost name, from the times at which a member missed a name and took it in, if it did."""
     lines = []
     for (member, name), (detected, recovered) in sorted(losses.items()):
-        round_trip = 2 * scenario.distance(member, name[0])
+        round_trip = scenario.round_trip(member, name[0])
         delay = None if recovered is None else f"{recovered - detected}/{round_trip}"
         lines.append(csv(member, *name, detected, recovered, delay))
     return table("losses", lines)

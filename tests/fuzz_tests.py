@@ -120,7 +120,14 @@ class Refusals(unittest.TestCase):
             (None, top()),
             ("bad-key top 0", top(until=fuzz_format.LATEST + 1)),
             ("bad-key top 0", top(until=1.0)),
-            ("bad-key top 0", top(version=2)),
+            ("bad-key top 0", top(version=3)),
+            (None, top(version=2)),
+            ("bad-key top 0", top(back=1)),
+            (None, top(version=2, back=1)),
+            ("bad-key top 0", top(version=2, back=0)),
+            ("bad-key top 0", top(version=2, **explicit, link=links, back=1)),
+            ("bad-key link 1", top(**explicit, link=[links[0], {**links[1], "back": 1}])),
+            ("not-tree", top(version=2, **explicit, link=[links[0], {**links[1], "back": 1}])),
             ("bad-key top 0", top(nodes=5)),
             ("bad-key top 0", top(degree=2)),
             ("bad-key top 0", top(member=257 * member[:1])),
@@ -150,7 +157,7 @@ class Model(unittest.TestCase):
     def test_parents_in_a_tree_are_numbered_breadth_first(self):
         for size, degree, parents in ((8, 3, [0, 0, 0, 1, 1, 2, 2]), (5, 2, [0, 0, 1, 2])):
             links = fuzz_format.links_of({"topology": "tree", "size": size, "degree": degree, "delay": 2})
-            self.assertEqual(links, [(parent, at + 1, 2) for at, parent in enumerate(parents)])
+            self.assertEqual(links, [(parent, at + 1, 2, 2) for at, parent in enumerate(parents)])
 
 
 if __name__ == "__main__":

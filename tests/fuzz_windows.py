@@ -18,8 +18,8 @@ def often_small(rng, most):
 
 
 def widest(top):
-    """The greatest width that this scenario allows: the least delay of its links."""
-    return min((link[2] for link in links_of(top)), default=GREATEST_WIDTH)
+    """The greatest width that this scenario allows: the least delay of its links, in either direction."""
+    return min((min(delay, back) for _, _, delay, back in links_of(top)), default=GREATEST_WIDTH)
 
 
 def asked(crew, workers, cut, width):

@@ -9,7 +9,21 @@ use srm_net::sequence::Sequence;
 use std::test::Fail;
 
 const fn short_link(a: u16, b: u16) -> LinkSpec {
-    LinkSpec { a, b, delay: 2 }
+    LinkSpec {
+        a,
+        b,
+        delay: 2,
+        back: 2,
+    }
+}
+
+const fn uneven_link(a: u16, b: u16) -> LinkSpec {
+    LinkSpec {
+        a,
+        b,
+        delay: 1,
+        back: 3,
+    }
 }
 
 #[test]
@@ -30,8 +44,35 @@ fn tree_of_eight(rt: HostRuntime) -> Result<(), Fail> {
     assert_eq!(rt; net.distance(4, 7), 8);
     assert_eq!(rt; net.distance(4, 5), 4);
     assert_eq!(rt; net.distance(6, 6), 0);
+    assert_eq!(rt; net.round(4, 7), 16);
     assert_eq!(rt; net.out(3), Some(2));
     assert_eq!(rt; net.least_delay(), Some(2));
+    Ok(())
+}
+
+// A chain of nodes 0 to 2 with a member on each. Its links take a tick one way, from node 0 to node 1 and from node 2 to node 1, and
+// three ticks the other.
+#[test]
+fn uneven_chain(rt: HostRuntime) -> Result<(), Fail> {
+    let links = [uneven_link(0, 1), uneven_link(2, 1)];
+    let net = Net::build(rt.alloc(), 3, &links, &[0, 1, 2])?;
+    assert_eq!(rt;
+        [net.distance(0, 1), net.distance(1, 2), net.distance(0, 2)],
+        [1, 3, 4]
+    );
+    assert_eq!(rt;
+        [net.distance(1, 0), net.distance(2, 1), net.distance(2, 0)],
+        [3, 1, 4]
+    );
+    assert_eq!(rt;
+        [net.round(0, 1), net.round(1, 2), net.round(2, 0)],
+        [4, 4, 8]
+    );
+    assert_eq!(rt;
+        [net.out(0), net.out(1), net.out(2)],
+        [Some(1), Some(3), Some(1)]
+    );
+    assert_eq!(rt; net.least_delay(), Some(1));
     Ok(())
 }
 
@@ -66,10 +107,23 @@ fn refusals(rt: HostRuntime) {
         a: 0,
         b: 1,
         delay: 0,
+        back: 1,
     }];
     assert!(rt;
         matches!(
             Net::build(alloc, 2, &still, &[0, 0]),
+            Err(NetFault::BadDelay)
+        )
+    );
+    let slow_back = [LinkSpec {
+        a: 0,
+        b: 1,
+        delay: 1,
+        back: 1_000_001,
+    }];
+    assert!(rt;
+        matches!(
+            Net::build(alloc, 2, &slow_back, &[0, 0]),
             Err(NetFault::BadDelay)
         )
     );

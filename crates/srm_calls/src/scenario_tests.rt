@@ -131,7 +131,12 @@ fn network_and_script_of_a_scenario(rt: HostRuntime) -> Result<(), Fail> {
 }
 
 const fn link(a: u16, b: u16) -> LinkSpec {
-    LinkSpec { a, b, delay: 1 }
+    LinkSpec {
+        a,
+        b,
+        delay: 1,
+        back: 1,
+    }
 }
 
 #[test]

@@ -1,5 +1,5 @@
 -- What the model needs of a scenario, its network and a seed.
-use Rattle.std.specs.Prelude.{◌≡◌, ◌≢◌, ◌⊎◌, ℕ, ◌+◌, ◌<◌, Bool, true, not, ◌&&◌, List, [], ◌∷◌, map, length, Option, Some, None, unwrap_or, slice_get, nat_lt, nat_le, ◌==◌, if◌then◌else◌}
+use Rattle.std.specs.Prelude.{◌≡◌, ◌≢◌, ◌⊎◌, ℕ, ◌+◌, ◌/◌, ◌<◌, Bool, true, not, ◌&&◌, List, [], ◌∷◌, map, length, Option, Some, None, unwrap_or, slice_get, nat_lt, nat_le, ◌==◌, if◌then◌else◌}
 use Rattle.std.specs.List.{range_with_len}
 use Rattle.srm_net.specs.declared.packet.PacketId.{PacketId}
 use Rattle.srm_net.specs.declared.packet.Packet.{Packet}
@@ -15,7 +15,7 @@ use Rattle.srm_member.specs.declared.cause.Cause.TheVariants.{Join, Draw, Report
 use Rattle.srm_member.specs.declared.fixed.Fixed.{Fixed}
 
 -- what becomes of packets. Events before `until` are handled. Of each member: when it joins and when it leaves. Of each two
--- members: how long a packet is on its way. Of each packet: whom it reaches, which links it crosses, and at which it is dropped
+-- members: how long a packet is on its way from the one to the other. Of each packet: whom it reaches, which links it crosses, and at which it is dropped
 pub record Traffic : Type 0 where
   pub until : ℕ
   pub members : ℕ
@@ -43,9 +43,9 @@ no_member = record { node = 0; role = Receiver; stream = 0; join = 0; leave = No
 abbrev pub member_at : PlainScenario → ℕ → MemberSpec
 member_at s m = unwrap_or (slice_get s.members m) no_member
 
--- the distances from a member to each member in turn
-abbrev pub distances_from : Network → ℕ → List ℕ
-distances_from net m = map (λ b. paths.distance net m b) (range_with_len 0 (length net.hosts))
+-- half the round trip between a member and each member in turn, rounded down: the distances that a member goes by
+abbrev pub half_rounds_from : Network → ℕ → List ℕ
+half_rounds_from net m = map (λ b. paths.round net m b / 2) (range_with_len 0 (length net.hosts))
 
 -- the part of member m's record that never changes
 abbrev pub fixed_of : PlainScenario → Network → ℕ → ℕ → Fixed
@@ -56,7 +56,7 @@ fixed_of s net seed m = record {
   c2 = s.constants.c2;
   d1 = s.constants.d1;
   d2 = s.constants.d2;
-  dist = distances_from net m;
+  dist = half_rounds_from net m;
   pages = (member_at s m).pages;
   seed = seed;
   stream = (member_at s m).stream;

@@ -6,10 +6,11 @@ use Rattle.std.proofs.Math.Nat.{min-le_left, min-le_right}
 use Rattle.std.specs.List.{range_with_len}
 use Rattle.srm_net.specs.declared.link.LinkSpec.{LinkSpec}
 use Rattle.srm_net.specs.Network.{Network, IsNetwork, IsWalk}
-use Rattle.srm_net.specs.Paths.{host, member_route, distance, delay_of, delay_along}
-use Rattle.srm_net.specs.Least.{least, least_delay}
+use Rattle.srm_net.specs.Paths.{host, member_route, distance, delay_from, delay_along}
+use Rattle.srm_net.specs.Least.{least, lesser_delay, least_delay}
 use Rattle.srm_net.proofs.RouteLemmas.{route_path}
-use Rattle.srm_net.proofs.PathLaws.{host_below, hosts_apart}
+use Rattle.srm_net.proofs.LawProofs.{lesser_each}
+use Rattle.srm_net.proofs.PathLaws.{host_below, hosts_apart, along_first}
 use Rattle.srm_scenario.specs.declared.parts.MemberSpec.{MemberSpec}
 use Rattle.srm_scenario.specs.Plain.{network_of}
 use Rattle.srm_member.specs.Record.{Record, Active, Gone, fixed_part}
@@ -87,21 +88,21 @@ is_other b m ne = elim (b == m) as (λ q. (b == m) ≡ q → not (b == m) ≡ tr
 
 -- ---- windows and link delays
 
-some_link : (links : List LinkSpec) (l : ℕ) (k : LinkSpec) → slice_get links l ≡ Some k → In k.delay (map (λ (x : LinkSpec). x.delay) links)
+some_link : (links : List LinkSpec) (l : ℕ) (k : LinkSpec) → slice_get links l ≡ Some k → In (lesser_delay k) (map lesser_delay links)
 some_link [] l k h = let y : ⊥ = cc in absurd y
-some_link (x ∷ xs) zero k h = let e : x ≡ k = cc in inl (ap (λ (y : LinkSpec). y.delay) e)
+some_link (x ∷ xs) zero k h = let e : x ≡ k = cc in inl (ap lesser_delay e)
 some_link (x ∷ xs) (suc l) k h = inr (some_link xs l k h)
 
 -- a way between two nodes that differ takes as long as its first link
-walk_wide : (net : Network) (width : ℕ) → IsWidth net width → (u : ℕ) (ls : List ℕ) (v : ℕ) (ns : List ℕ) → IsWalk net.links u ls v ns → u ≢ v → width ≤ delay_along net.links ls
+walk_wide : (net : Network) (width : ℕ) → IsWidth net width → (u : ℕ) (ls : List ℕ) (v : ℕ) (ns : List ℕ) → IsWalk net.links u ls v ns → u ≢ v → width ≤ delay_along net.links u ls
 unfolding least_delay
 walk_wide net width wide u [] v ns w ne = absurd (ne w.0)
 walk_wide net width wide u (l ∷ ls) v ns w ne =
-    let some = least_in w.0.delay (map (λ (x : LinkSpec). x.delay) net.links) (some_link net.links l w.0 w.3) in
+    let some = least_in (lesser_delay w.0) (map lesser_delay net.links) (some_link net.links l w.0 w.3) in
     let low = wide some.0 some.1 in
     let le = some.2 in
-    let e : delay_of (slice_get net.links l) ≡ w.0.delay = ap delay_of w.3 in
-    omega arith
+    let each = lesser_each u w.0 in
+    subst (λ n. width ≤ n) (sym (along_first net.links u l w.1 ls w.0 w.3 w.4)) (omega arith)
 
 distance_wide : (net : Network) → IsNetwork net → (width : ℕ) → IsWidth net width → (a b : ℕ) → a < length net.hosts → b < length net.hosts → a ≢ b → width ≤ distance net a b
 unfolding distance

@@ -43,7 +43,7 @@ has_entry n es = is_some (find name_cmp n es)
 
 -- ---- timers: each takes one word
 
--- how long a packet takes to this member
+-- the distance to this member that timers and rests go by
 abbrev pub distance_to : Memory → ℕ → ℕ
 distance_to m who = slice_index m.fixed.dist who
 

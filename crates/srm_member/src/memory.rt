@@ -80,7 +80,7 @@ impl Memory {
         self.fixed.member
     }
 
-    // The distance to a member, in ticks.
+    // The distance to a member that timers and rests go by, in ticks.
     fn distance_to(&self, who: u16) -> u64
         ensures value { result ≡ distance_to self.now who }
         ensures bound { result ≤ 255000000 }

@@ -20,12 +20,12 @@ use Rattle.srm_net.proofs.PathLaws.{Begins, host_below, route_begins, first_or_n
 
 -- the way that the tables tell is the route
 pub told_route : (w : Network) → IsTree w → (ways : Ways) → TellsWays w.nodes w.links ways → (u v : ℕ) → u < w.nodes → v < w.nodes
-    → (number_at ways.delays.width ways.delays.cells.items u v ≡ delay_along w.links (route w u v))
+    → (number_at ways.delays.width ways.delays.cells.items u v ≡ delay_along w.links u (route w u v))
     × (u ≢ v → (rest : List ℕ) × (route w u v ≡ number_at ways.firsts.width ways.firsts.cells.items u v ∷ rest))
 told_route w t ways told u v hu hv =
     let way = told.each u v hu hv in
     let same : way.0 ≡ route w u v = route_only w t u v hu hv way.0 way.1.0 way.1.1 (apart_from_distinct way.1.0 way.1.2) in (
-      ap (λ n. number_at n ways.delays.cells.items u v) told.delays_width ∙ sym way.2 ∙ ap (delay_along w.links) same,
+      ap (λ n. number_at n ways.delays.cells.items u v) told.delays_width ∙ sym way.2 ∙ ap (delay_along w.links u) same,
       λ d. let r = way.3 d in (r.0, sym same ∙ r.1 ∙ ap (λ n. number_at n ways.firsts.cells.items u v ∷ r.0) (sym told.firsts_width)),
     )
 

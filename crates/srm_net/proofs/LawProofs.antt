@@ -1,5 +1,5 @@
 -- The laws of distances, of the least of them, and of drops.
-use Rattle.std.proofs.Common.{◌≡◌, ◌≢◌, ◌⊎◌, ◌↔◌, ℕ, zero, suc, ◌+◌, ◌<◌, ◌≤◌, min, Bool, true, false, not, ◌==◌, List, [], ◌∷◌, length, map, filter, fold, Some, None, refl, sym, ap, ◌∙◌, subst, inl, inr, arith, eqb, slice_get, Contains, Less, Equal, Greater}
+use Rattle.std.proofs.Common.{◌≡◌, ◌≢◌, ◌⊎◌, ◌↔◌, ℕ, zero, suc, ◌+◌, ◌/◌, ◌<◌, ◌≤◌, min, Bool, true, false, not, cond, ◌==◌, List, [], ◌∷◌, length, map, filter, fold, Some, None, refl, sym, ap, ◌∙◌, subst, inl, inr, arith, eqb, slice_get, All, Contains, Less, Equal, Greater}
 use Rattle.std.specs.List.{range_with_len, list_any}
 use Rattle.std.specs.Ordering.{ordering_reverse}
 use Rattle.std.specs.Cmp.{IsTotalOrder, on_total}
@@ -16,30 +16,30 @@ use Rattle.srm_net.specs.declared.link.DropSpec.{DropSpec}
 use Rattle.srm_net.specs.Orders.{AllAfter}
 use Rattle.srm_net.specs.Keys.{key_cmp, numbers_of_key}
 use Rattle.srm_net.specs.Names.{name_cmp, page_cmp, id_cmp, heard_cmp}
-use Rattle.srm_net.specs.Network.{Network, IsTree, IsWalk, HasDelay, IsNetwork}
-use Rattle.srm_net.specs.Paths.{is_in, route, host, member_route, delay_of, delay_along, distance, drop_cmp, is_listed, reaches}
-use Rattle.srm_net.specs.Least.{least, least_delay, others, out}
+use Rattle.srm_net.specs.Network.{Network, IsTree, IsWalk, IsAlike, HasDelays, IsNetwork}
+use Rattle.srm_net.specs.Paths.{is_in, route, host, member_route, delay_from, delay_along, distance, drop_cmp, is_listed, reaches}
+use Rattle.srm_net.specs.Least.{least, lesser_delay, least_delay, others, out}
 use Rattle.srm_net.specs.Growth.{attached}
-use Rattle.srm_net.specs.Laws.{DistancesFit, LeastDelayFits, NoLinkNoTwo, OutFits, OutOfTheOnlyOne, ReachesItsSender, SameDropsListed, OneListOfDrops, OrdersTotally}
+use Rattle.srm_net.specs.Laws.{DistancesFit, AlikeBothWays, RoundsTurn, LeastDelayFits, NoLinkNoTwo, OutFits, OutOfTheOnlyOne, ReachesItsSender, SameDropsListed, OneListOfDrops, OrdersTotally}
 use Rattle.srm_net.proofs.Lists.{all_get}
 use Rattle.srm_net.proofs.Numbers.{in_head, in_tail, in_cases, few_apart, apart_from_distinct}
 use Rattle.srm_net.proofs.Growing.{grows_to, all_attached}
 use Rattle.srm_net.proofs.RouteLemmas.{route_path, route_only}
-use Rattle.srm_net.proofs.PathLaws.{host_below, hosts_apart, hosts_in, distance_bounded, distance_apart, route_nowhere}
+use Rattle.srm_net.proofs.PathLaws.{host_below, hosts_apart, hosts_in, along_first, distance_bounded, distance_apart, route_nowhere}
 use Rattle.srm_net.proofs.TreeWays.{BothWays, both_ways_grown}
 use Rattle.srm_net.proofs.DropLemmas.{contains_listed, listed_contains, drop_total}
 
 -- ---- distances
 
-turned_by : (w : Network) → IsTree w → (inside : List ℕ) (u v : ℕ) → u < w.nodes → v < w.nodes → BothWays w.links inside u v → delay_along w.links (route w u v) ≡ delay_along w.links (route w v u)
-turned_by w t inside u v hu hv both =
+turned_by : (w : Network) → IsTree w → All IsAlike w.links → (inside : List ℕ) (u v : ℕ) → u < w.nodes → v < w.nodes → BothWays w.links inside u v → delay_along w.links u (route w u v) ≡ delay_along w.links v (route w v u)
+turned_by w t alike inside u v hu hv both =
     let there = route_only w t u v hu hv both.there.path both.there.nodes both.there.walk both.there.apart in
     let back = route_only w t v u hv hu both.back.path both.back.nodes both.back.walk both.back.apart in
-    sym (ap (delay_along w.links) there) ∙ both.there.delay_is ∙ sym both.back.delay_is ∙ ap (delay_along w.links) back
+    sym (ap (delay_along w.links u) there) ∙ both.there.delay_is ∙ both.same alike ∙ sym both.back.delay_is ∙ ap (delay_along w.links v) back
 
-pub distance_turns : (w : Network) → IsNetwork w → (a b : ℕ) → a < length w.hosts → b < length w.hosts → distance w a b ≡ distance w b a
+pub distance_turns : (w : Network) → IsNetwork w → All IsAlike w.links → (a b : ℕ) → a < length w.hosts → b < length w.hosts → distance w a b ≡ distance w b a
 unfolding distance
-distance_turns w n a b ha hb =
+distance_turns w n alike a b ha hb =
     let t = n.tree in
     let one : length w.links + 1 ≡ w.nodes = t.one_fewer in
     let grown = grows_to w t (length w.links) (omega arith) in
@@ -47,12 +47,23 @@ distance_turns w n a b ha hb =
     let all : length grown.0 + 1 ≡ w.nodes = omega arith in
     let hu = host_below w n a ha in
     let hv = host_below w n b hb in
-    turned_by w t (attached grown.0) (host w a) (host w b) hu hv
+    turned_by w t alike (attached grown.0) (host w a) (host w b) hu hv
     (both_ways_grown w.links grown.0 grown.1 (host w a) (host w b)
     (all_attached w.nodes w.links grown.0 t.some_nodes t.ends grown.1 all (host w a) hu) (all_attached w.nodes w.links grown.0 t.some_nodes t.ends grown.1 all (host w b) hv))
 
 pub distances_fit : DistancesFit
-distances_fit w n a b ha hb = (distance_turns w n a b ha hb, λ d. distance_apart w n a b ha hb d, distance_bounded w n a b ha hb)
+distances_fit w n a b ha hb = (λ d. distance_apart w n a b ha hb d, distance_bounded w n a b ha hb)
+
+pub alike_both_ways : AlikeBothWays
+alike_both_ways w n alike a b ha hb =
+    let turns = distance_turns w n alike a b ha hb in
+    (turns, ap (λ d. (distance w a b + d) / 2) (sym turns) ∙ half_twice (distance w a b))
+  where
+    half_twice : (d : ℕ) → (d + d) / 2 ≡ d
+    half_twice d = omega arith
+
+pub rounds_turn : RoundsTurn
+rounds_turn w a b = omega arith
 
 -- ---- the least of a list
 
@@ -112,20 +123,26 @@ from_map f (y ∷ ys) n h =
       | inr e ↦ (let r = from_map f ys n e in (suc r.0, r.1, r.2, r.3))
     ]
 
-least_along : (w : Network) (d : ℕ) → least_delay w ≡ Some d → (u : ℕ) (ls : List ℕ) (v : ℕ) (ns : List ℕ) → IsWalk w.links u ls v ns → u ≢ v → d ≤ delay_along w.links ls
+-- a link takes no less in any direction
+pub lesser_each : (u : ℕ) (k : LinkSpec) → lesser_delay k ≤ delay_from u k
+lesser_each u k = elim (eqb k.a u) as (λ b. min k.delay k.back ≤ cond b k.delay k.back) [ true ↦ omega arith | false ↦ omega arith ]
+
+least_along : (w : Network) (d : ℕ) → least_delay w ≡ Some d → (u : ℕ) (ls : List ℕ) (v : ℕ) (ns : List ℕ) → IsWalk w.links u ls v ns → u ≢ v → d ≤ delay_along w.links u ls
 unfolding least_delay
 least_along w d e u [] v ns k n = absurd (n k.0)
 least_along w d e u (l ∷ ls) v ns k n =
-    let h : d ≤ k.0.delay = least_each (map (λ (j : LinkSpec). j.delay) w.links) d k.0.delay e (in_map (λ (j : LinkSpec). j.delay) w.links l k.0 k.3) in
-    let q : delay_of (slice_get w.links l) ≡ k.0.delay = ap delay_of k.3 in
-    omega arith
+    let h : d ≤ lesser_delay k.0 = least_each (map lesser_delay w.links) d (lesser_delay k.0) e (in_map lesser_delay w.links l k.0 k.3) in
+    let q = lesser_each u k.0 in
+    subst (λ n. d ≤ n) (sym (along_first w.links u l k.1 ls k.0 k.3 k.4)) (omega arith)
 
 least_positive : (w : Network) → IsNetwork w → (d : ℕ) → least_delay w ≡ Some d → 1 ≤ d
 unfolding least_delay
 least_positive w n d e =
-    let r = from_map (λ (j : LinkSpec). j.delay) w.links d (least_in (map (λ (j : LinkSpec). j.delay) w.links) d e) in
-    let h : 1 ≤ r.1.delay = (all_get HasDelay w.links r.0 r.1 n.delays r.2).0 in
-    subst (λ t. 1 ≤ t) r.3 h
+    let r = from_map lesser_delay w.links d (least_in (map lesser_delay w.links) d e) in
+    let h = all_get HasDelays w.links r.0 r.1 n.delays r.2 in
+    let there : 1 ≤ r.1.delay = h.0.0 in
+    let back : 1 ≤ r.1.back = h.1.0 in
+    subst (λ t. 1 ≤ t) r.3 (omega arith)
 
 least_below_distance : (w : Network) → IsNetwork w → (d : ℕ) → least_delay w ≡ Some d → (a b : ℕ) → a < length w.hosts → b < length w.hosts → a ≢ b → d ≤ distance w a b
 unfolding distance
@@ -138,9 +155,9 @@ least_delay_fits w n d e = (least_positive w n d e, least_below_distance w n d e
 
 no_links : (w : Network) → least_delay w ≡ None → length w.links ≡ 0
 unfolding least_delay
-no_links w e = none_mapped w.links (least_none (map (λ (j : LinkSpec). j.delay) w.links) e)
+no_links w e = none_mapped w.links (least_none (map lesser_delay w.links) e)
   where
-    none_mapped : (ks : List LinkSpec) → map (λ (j : LinkSpec). j.delay) ks ≡ [] → length ks ≡ 0
+    none_mapped : (ks : List LinkSpec) → map lesser_delay ks ≡ [] → length ks ≡ 0
     none_mapped [] h = refl
     none_mapped (k ∷ ks) h = cc
 

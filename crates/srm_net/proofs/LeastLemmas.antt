@@ -7,7 +7,7 @@ use Rattle.std.proofs.lemmas.List.Elements.{filter-append}
 use Rattle.srm_net.specs.declared.link.LinkSpec.{LinkSpec}
 use Rattle.srm_net.specs.Network.{Network}
 use Rattle.srm_net.specs.Paths.{distance}
-use Rattle.srm_net.specs.Least.{least, least_delay, out}
+use Rattle.srm_net.specs.Least.{least, lesser_delay, least_delay, out}
 
 -- the least of what there was, if anything, and one more
 abbrev pub least_with : Option ℕ → ℕ → Option ℕ
@@ -56,8 +56,8 @@ out_is w m = refl
 
 -- the least delay of the first n links
 abbrev pub least_of_first : List LinkSpec → ℕ → Option ℕ
-least_of_first links n = least (map (λ k. k.delay) (take n links))
+least_of_first links n = least (map lesser_delay (take n links))
 
 pub least_delay_is : (w : Network) (n : ℕ) → length w.links ≤ n → least_delay w ≡ least_of_first w.links n
 unfolding least_delay
-least_delay_is w n h = ap (λ (ks : List LinkSpec). least (map (λ k. k.delay) ks)) (sym (take_all n w.links h))
+least_delay_is w n h = ap (λ (ks : List LinkSpec). least (map lesser_delay ks)) (sym (take_all n w.links h))

@@ -36,7 +36,7 @@ one_path_from_tree w t = record {
 
 -- a link from a node to itself
 abbrev loop_of : LinkSpec → LinkSpec
-loop_of k = record { a = k.a; b = k.a; delay = k.delay }
+loop_of k = record { a = k.a; b = k.a; delay = k.delay; back = k.back }
 
 -- the links, with a loop in place of link l
 abbrev looped : List LinkSpec → ℕ → LinkSpec → List LinkSpec

@@ -3,7 +3,7 @@ use Rattle.std.proofs.Common.{◌≡◌, ℕ, ◌+◌, ◌<◌, ◌≤◌, Bool,
 use Rattle.std.proofs.lemmas.Bool.{both_ways}
 use Rattle.srm_net.specs.declared.link.LinkSpec.{LinkSpec}
 use Rattle.srm_net.specs.declared.step.Step.{Step}
-use Rattle.srm_net.specs.Network.{plain_network, Joins, IsWithin, IsTree, HasDelay, AreHosts, IsNetwork}
+use Rattle.srm_net.specs.Network.{plain_network, Joins, IsWithin, IsTree, HasDelays, AreHosts, IsNetwork}
 use Rattle.srm_net.specs.Growth.{Attaches, attached, Grows, LeadsOut, StaysWithin}
 use Rattle.srm_net.specs.Ways.{is_known, TellsWays}
 use Rattle.srm_net.specs.declared.tree.Tree.TheInside.{Inside}
@@ -55,7 +55,7 @@ pub tree_of_any : (nodes : ℕ) (links : List LinkSpec) (hs gs : List ℕ) → I
 tree_of_any nodes links hs gs t = record { some_nodes = t.some_nodes; few_nodes = t.few_nodes; ends = t.ends; one_fewer = t.one_fewer; connected = t.connected }
 
 -- a tree whose parts were checked is a network with its ways
-pub built_tree : (t : Inside) (links : List LinkSpec) (hosts : List ℕ) → t.links.items ≡ links → t.hosts.items ≡ hosts → IsTree (plain_network t.nodes links []) → All HasDelay links → AreHosts t.nodes hosts → TellsWays t.nodes links t.ways → IsBuilt t
+pub built_tree : (t : Inside) (links : List LinkSpec) (hosts : List ℕ) → t.links.items ≡ links → t.hosts.items ≡ hosts → IsTree (plain_network t.nodes links []) → All HasDelays links → AreHosts t.nodes hosts → TellsWays t.nodes links t.ways → IsBuilt t
 built_tree t links hosts e f tree delays are ways =
     let whole : IsNetwork (plain_network t.nodes links hosts) = record { tree = tree_of_any t.nodes links [] hosts tree; delays = delays; hosts = are } in
     let here : IsNetwork (plain_network t.nodes t.links.items t.hosts.items) =

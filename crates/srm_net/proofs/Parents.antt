@@ -14,7 +14,8 @@ use Rattle.srm_net.proofs.OrderLemmas.{whole_tree}
 pub record JoinsParents (parent : ℕ → ℕ) (links : List LinkSpec) : Type 0 where
   pub below : (v : ℕ) → 1 ≤ v → parent v < v
   pub delay : ℕ → ℕ
-  pub link : (i : ℕ) → i < length links → slice_get links i ≡ Some (record { a = parent (i + 1); b = i + 1; delay = delay i })
+  pub back : ℕ → ℕ
+  pub link : (i : ℕ) → i < length links → slice_get links i ≡ Some (record { a = parent (i + 1); b = i + 1; delay = delay i; back = back i })
 
 module _ (parent : ℕ → ℕ) where
   -- the steps that attach nodes 1 to n, the newest first
@@ -49,7 +50,7 @@ module _ (parent : ℕ → ℕ) where
   grows links (suc n) h le =
       let below : parent (n + 1) < n + 1 = h.below (n + 1) (omega arith) in (
         record {
-          spec = record { a = parent (n + 1); b = n + 1; delay = h.delay n };
+          spec = record { a = parent (n + 1); b = n + 1; delay = h.delay n; back = h.back n };
           link = h.link n (omega arith);
           joins = inl (refl, refl);
           parent = has_node n (parent (n + 1)) (omega arith);

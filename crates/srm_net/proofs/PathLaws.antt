@@ -5,14 +5,14 @@ use Rattle.std.proofs.lemmas.Bool.{ne_eqb, eqb-false, cases_Bool, both_ways, fal
 use Rattle.srm_net.specs.declared.link.LinkSpec.{LinkSpec}
 use Rattle.srm_net.specs.declared.link.DropSpec.{DropSpec}
 use Rattle.srm_net.specs.declared.packet.PacketId.{PacketId}
-use Rattle.srm_net.specs.Network.{Network, Joins, IsWalk, IsWithin, IsTree, HasDelay, IsNetwork}
-use Rattle.srm_net.specs.Paths.{is_in, route_within, route, host, member_route, delay_of, delay_along, distance, is_listed, crossed_on, dropped_on, some_below, crosses, drops_at}
+use Rattle.srm_net.specs.Network.{Network, Joins, IsWalk, IsWithin, IsTree, IsLinkDelay, HasDelays, IsNetwork}
+use Rattle.srm_net.specs.Paths.{is_in, route_within, route, host, member_route, delay_from, delay_of, end_of, delay_along, distance, is_listed, crossed_on, dropped_on, some_below, crosses, drops_at}
 use Rattle.srm_net.specs.Tables.{is_beyond, near_end, some_beyond}
 use Rattle.srm_net.proofs.Lists.{all_get}
 use Rattle.srm_net.proofs.Numbers.{Apart, Below, in_head, in_tail, in_cases, not_head, not_tail, not_in, not_in_cons, few_apart, apart_from_distinct}
 use Rattle.srm_net.proofs.Walks.{IsCut, way_crosses, walk_ends, same_link}
 use Rattle.srm_net.proofs.Growing.{joins_below, tree_cuts}
-use Rattle.srm_net.proofs.RouteLemmas.{route_path, route_only, path_length}
+use Rattle.srm_net.proofs.RouteLemmas.{joins_far, route_path, route_only, path_length}
 
 -- ---- members' nodes
 
@@ -47,20 +47,28 @@ few_members w n =
 
 -- ---- delays
 
-pub delay_at_most : (links : List LinkSpec) → All HasDelay links → (u : ℕ) (ls : List ℕ) (v : ℕ) (ns : List ℕ) → IsWalk links u ls v ns → delay_along links ls ≤ 1000000 * length ls
+-- links that begin with this one take its delay from there, and then theirs from its other end
+pub along_first : (links : List LinkSpec) (u l x : ℕ) (ls : List ℕ) (k : LinkSpec) → slice_get links l ≡ Some k → Joins k u x → delay_along links u (l ∷ ls) ≡ delay_from u k + delay_along links x ls
+along_first links u l x ls k g j =
+    let here : delay_of u (slice_get links l) ≡ delay_from u k = ap (delay_of u) g in
+    let next : end_of u (slice_get links l) ≡ x = ap (end_of u) g ∙ ap (λ o. unwrap_or o u) (joins_far k u x j) in
+    ap (λ n. n + delay_along links (end_of u (slice_get links l)) ls) here ∙ ap (λ y. delay_from u k + delay_along links y ls) next
+
+pub from_fits : (u : ℕ) (k : LinkSpec) → HasDelays k → IsLinkDelay (delay_from u k)
+from_fits u k h = elim (eqb k.a u) as (λ b. IsLinkDelay (cond b k.delay k.back)) [ true ↦ h.0 | false ↦ h.1 ]
+
+pub delay_at_most : (links : List LinkSpec) → All HasDelays links → (u : ℕ) (ls : List ℕ) (v : ℕ) (ns : List ℕ) → IsWalk links u ls v ns → delay_along links u ls ≤ 1000000 * length ls
 delay_at_most links d u [] v ns w = omega arith
 delay_at_most links d u (l ∷ ls) v ns w =
     let k = delay_at_most links d w.1 ls v w.2 w.6 in
-    let h : w.0.delay ≤ 1000000 = (all_get HasDelay links l w.0 d w.3).1 in
-    let e : delay_of (slice_get links l) ≡ w.0.delay = ap delay_of w.3 in
-    omega arith
+    let h : delay_from u w.0 ≤ 1000000 = (from_fits u w.0 (all_get HasDelays links l w.0 d w.3)).1 in
+    subst (λ n. n ≤ 1000000 * suc (length ls)) (sym (along_first links u l w.1 ls w.0 w.3 w.4)) (omega arith)
 
-pub delay_at_least : (links : List LinkSpec) → All HasDelay links → (u : ℕ) (ls : List ℕ) (v : ℕ) (ns : List ℕ) → IsWalk links u ls v ns → u ≢ v → 1 ≤ delay_along links ls
+pub delay_at_least : (links : List LinkSpec) → All HasDelays links → (u : ℕ) (ls : List ℕ) (v : ℕ) (ns : List ℕ) → IsWalk links u ls v ns → u ≢ v → 1 ≤ delay_along links u ls
 delay_at_least links d u [] v ns w n = absurd (n w.0)
 delay_at_least links d u (l ∷ ls) v ns w n =
-    let h : 1 ≤ w.0.delay = (all_get HasDelay links l w.0 d w.3).0 in
-    let e : delay_of (slice_get links l) ≡ w.0.delay = ap delay_of w.3 in
-    omega arith
+    let h : 1 ≤ delay_from u w.0 = (from_fits u w.0 (all_get HasDelays links l w.0 d w.3)).0 in
+    subst (λ n. 1 ≤ n) (sym (along_first links u l w.1 ls w.0 w.3 w.4)) (omega arith)
 
 pub distance_bounded : (w : Network) → IsNetwork w → (a b : ℕ) → a < length w.hosts → b < length w.hosts → distance w a b ≤ 255000000
 unfolding distance

@@ -29,7 +29,7 @@ far_joins k u x h =
       ]
     ]
 
-joins_far : (k : LinkSpec) (u x : ℕ) → Joins k u x → far_end k u ≡ Some x
+pub joins_far : (k : LinkSpec) (u x : ℕ) → Joins k u x → far_end k u ≡ Some x
 joins_far k u x (inl p) = rw (eq-eqb k.a u p.0) (ap Some p.1)
 joins_far k u x (inr p) =
     elim (cases_Bool (eqb k.a u)) [

@@ -67,5 +67,8 @@ puts_as w v old new row column r c x y e f g h p =
 pub number_read : (w v : ℕ) (xs : List ℕ) (r c d x : ℕ) → w ≡ v → c ≡ d → cell w xs r c ≡ Some x → x ≡ number_at v xs r d
 number_read w v xs r c d x e f g = sym (ap (λ o. unwrap_or o 0) (subst (λ t. cell t xs r d ≡ Some x) e (subst (λ t. cell w xs r t ≡ Some x) f g)))
 
+pub row_read : (w v : ℕ) (xs : List ℕ) (r s c x : ℕ) → w ≡ v → r ≡ s → cell w xs r c ≡ Some x → x ≡ number_at v xs s c
+row_read w v xs r s c x e f g = sym (ap (λ o. unwrap_or o 0) (subst (λ t. cell t xs s c ≡ Some x) e (subst (λ t. cell w xs t c ≡ Some x) f g)))
+
 pub known_differ : (known : List Bool) (i node : ℕ) → is_known known i ≡ true → is_known known node ≡ false → i ≢ node
 known_differ known i node y n e = both_ways _ n (subst (λ t. is_known known t ≡ true) e y)

@@ -1,11 +1,11 @@
--- Two small networks.
+-- Three small networks.
 use Rattle.std.specs.Prelude.{ℕ, [], ◌∷◌}
 use Rattle.srm_net.specs.Network.{Network}
 use Rattle.srm_net.specs.declared.link.LinkSpec.{LinkSpec}
 
--- a link of delay 2
+-- a link of delay 2 in both directions
 abbrev pub short_link : ℕ → ℕ → LinkSpec
-short_link a b = record { a = a; b = b; delay = 2 }
+short_link a b = record { a = a; b = b; delay = 2; back = 2 }
 
 -- a tree of eight nodes with a member on each, in which nodes 1 to 7 have the parents 0, 0, 0, 1, 1, 2 and 2
 abbrev pub tree_of_eight : Network
@@ -16,6 +16,14 @@ tree_of_eight = record {
       ∷ short_link 7 2 ∷ [];
   hosts = 0 ∷ 1 ∷ 2 ∷ 3 ∷ 4 ∷ 5 ∷ 6 ∷ 7 ∷ [];
 }
+
+-- a link of delay 1 in the one direction and 3 in the other
+abbrev pub uneven_link : ℕ → ℕ → LinkSpec
+uneven_link a b = record { a = a; b = b; delay = 1; back = 3 }
+
+-- a chain of three nodes with a member on each, whose second link is written from its higher node to its lower
+abbrev pub uneven_chain : Network
+uneven_chain = record { nodes = 3; links = uneven_link 0 1 ∷ uneven_link 2 1 ∷ []; hosts = 0 ∷ 1 ∷ 2 ∷ [] }
 
 -- one node with one member
 abbrev pub lone_node : Network

@@ -1,5 +1,5 @@
 -- What holds of every network, and of the orders.
-use Rattle.std.specs.Prelude.{◌≡◌, ◌≢◌, ◌↔◌, ℕ, ◌<◌, ◌≤◌, true, false, All, Contains, List, length, Some, None}
+use Rattle.std.specs.Prelude.{◌≡◌, ◌≢◌, ◌↔◌, ℕ, ◌/◌, ◌<◌, ◌≤◌, true, false, All, Contains, List, length, Some, None}
 use Rattle.std.specs.declared.cmp.Ordering.{Ordering}
 use Rattle.std.specs.declared.cmp.Ordering.TheVariants.{Equal}
 use Rattle.std.specs.Cmp.{IsTotalOrder}
@@ -7,8 +7,8 @@ use Rattle.srm_net.specs.declared.link.DropSpec.{DropSpec}
 use Rattle.srm_net.specs.declared.packet.PacketId.{PacketId}
 use Rattle.srm_net.specs.Orders.{Ascends}
 use Rattle.srm_net.specs.declared.link.LinkSpec.{LinkSpec}
-use Rattle.srm_net.specs.Network.{Network, IsPath, IsTree, IsNetwork}
-use Rattle.srm_net.specs.Paths.{route, distance, drop_cmp, is_listed, reaches, crosses, drops_at}
+use Rattle.srm_net.specs.Network.{Network, IsPath, IsTree, IsAlike, IsNetwork}
+use Rattle.srm_net.specs.Paths.{route, distance, round, drop_cmp, is_listed, reaches, crosses, drops_at}
 use Rattle.srm_net.specs.Listed.{is_listed_somewhere}
 use Rattle.srm_net.specs.Fates.{is_on_way}
 use Rattle.srm_net.specs.Least.{least_delay, out}
@@ -38,13 +38,23 @@ pub record HasOnePathEach (w : Network) : Type 0 where
 abbrev pub TreesHaveOnePath : Type 0
 TreesHaveOnePath = (w : Network) → IsTree w ↔ HasOnePathEach w
 
--- distances are the same in both directions, at least 1 between different members, and at most 255,000,000
+-- distances are at least 1 between different members, and at most 255,000,000
 abbrev pub DistancesFit : Type 0
 DistancesFit =
     (w : Network) → IsNetwork w → (a b : ℕ) → a < length w.hosts → b < length w.hosts
-    → (distance w a b ≡ distance w b a) × (a ≢ b → 1 ≤ distance w a b) × (distance w a b ≤ 255000000)
+    → (a ≢ b → 1 ≤ distance w a b) × (distance w a b ≤ 255000000)
 
--- the least delay of a link is at least 1, and no two members are nearer to one another
+-- where each link takes as long in both directions, so do distances, and half a round trip is the distance
+abbrev pub AlikeBothWays : Type 0
+AlikeBothWays =
+    (w : Network) → IsNetwork w → All IsAlike w.links → (a b : ℕ) → a < length w.hosts → b < length w.hosts
+    → (distance w a b ≡ distance w b a) × (round w a b / 2 ≡ distance w a b)
+
+-- a round trip takes as long from either end
+abbrev pub RoundsTurn : Type 0
+RoundsTurn = (w : Network) (a b : ℕ) → round w a b ≡ round w b a
+
+-- the least delay of a link is at least 1, and no member is nearer to another
 abbrev pub LeastDelayFits : Type 0
 LeastDelayFits =
     (w : Network) → IsNetwork w → (d : ℕ) → least_delay w ≡ Some d

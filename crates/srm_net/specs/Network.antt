@@ -44,9 +44,17 @@ pub record IsTree (w : Network) : Type 0 where
   pub one_fewer : length w.links + 1 ≡ w.nodes
   pub connected : IsConnected w
 
--- a delay of 1 to 1,000,000 ticks
-abbrev pub HasDelay : LinkSpec → Type 0
-HasDelay k = (1 ≤ k.delay) × (k.delay ≤ 1000000)
+-- 1 to 1,000,000 ticks
+abbrev pub IsLinkDelay : ℕ → Type 0
+IsLinkDelay d = (1 ≤ d) × (d ≤ 1000000)
+
+-- the link's two delays, from a to b and from b to a, are such
+abbrev pub HasDelays : LinkSpec → Type 0
+HasDelays k = IsLinkDelay k.delay × IsLinkDelay k.back
+
+-- the link takes as long in both directions
+abbrev pub IsAlike : LinkSpec → Type 0
+IsAlike k = k.delay ≡ k.back
 
 -- each host is a node, and no two members share one
 abbrev pub AreHosts : ℕ → List ℕ → Type 0
@@ -55,5 +63,5 @@ AreHosts nodes hosts = All (λ n. n < nodes) hosts × IsDistinct nat_eq hosts
 -- what every network of the simulator is
 pub record IsNetwork (w : Network) : Type 0 where
   pub tree : IsTree w
-  pub delays : All HasDelay w.links
+  pub delays : All HasDelays w.links
   pub hosts : AreHosts w.nodes w.hosts

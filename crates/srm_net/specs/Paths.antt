@@ -60,19 +60,32 @@ host w m = slice_index w.hosts m
 abbrev pub member_route : Network → ℕ → ℕ → List ℕ
 member_route w a b = route w (host w a) (host w b)
 
--- the delay of link l
-abbrev pub delay_of : Option LinkSpec → ℕ
-delay_of None = 0
-delay_of (Some k) = k.delay
+-- how long a packet takes over a link from node u, one of its ends
+abbrev pub delay_from : ℕ → LinkSpec → ℕ
+delay_from u k = if k.a == u then k.delay else k.back
 
--- the sum of the delays of these links
-abbrev pub delay_along : List LinkSpec → List ℕ → ℕ
-delay_along links [] = 0
-delay_along links (l ∷ ls) = delay_of (slice_get links l) + delay_along links ls
+-- the same where there may be no link
+abbrev pub delay_of : ℕ → Option LinkSpec → ℕ
+delay_of u None = 0
+delay_of u (Some k) = delay_from u k
+
+-- the node to which a link leads from node u, if there is a link
+abbrev pub end_of : ℕ → Option LinkSpec → ℕ
+end_of u None = u
+end_of u (Some k) = unwrap_or (far_end k u) u
+
+-- the sum of the delays of these links, taken one after the other from node u on, each in the direction in which it is taken
+abbrev pub delay_along : List LinkSpec → ℕ → List ℕ → ℕ
+delay_along links u [] = 0
+delay_along links u (l ∷ ls) = delay_of u (slice_get links l) + delay_along links (end_of u (slice_get links l)) ls
 
 -- how long a packet takes from member a to member b, in ticks
 unfoldable pub distance : Network → ℕ → ℕ → ℕ
-distance w a b = delay_along w.links (member_route w a b)
+distance w a b = delay_along w.links (host w a) (member_route w a b)
+
+-- the round trip between two members: how long a packet takes there, and another one back
+abbrev pub round : Network → ℕ → ℕ → ℕ
+round w a b = distance w a b + distance w b a
 
 -- ---- drops
 

@@ -10,7 +10,7 @@ use Rattle.srm_net.specs.Grids.{number_at}
 -- a path between two nodes has this delay, and begins with this link
 abbrev pub IsWayOf : List LinkSpec → ℕ → ℕ → ℕ → ℕ → Type 0
 IsWayOf links u v delay first =
-    (ls : List ℕ) × IsPath links u ls v × (delay_along links ls ≡ delay)
+    (ls : List ℕ) × IsPath links u ls v × (delay_along links u ls ≡ delay)
     × (u ≢ v → (rest : List ℕ) × (ls ≡ first ∷ rest))
 
 -- the tables tell the delay and the first link of the way between any two nodes
@@ -28,12 +28,13 @@ is_known known u = slice_index_or known u false
 abbrev pub IsApartFrom : ℕ → ℕ → ℕ → Type 0
 IsApartFrom node u x = ((u ≢ node) × (x ≢ node)) ⊎ (u ≡ x)
 
--- the new table has the delays between the step's node and the known ones, by way of its parent
-pub record Extends (known : List Bool) (s : Step) (delay width : ℕ) (old new : List ℕ) : Type 0 where
+-- the new table has the delays between the step's node and the known ones, by way of its parent, from which the link takes
+-- `down`, and to which it takes `up`
+pub record Extends (known : List Bool) (s : Step) (down up width : ℕ) (old new : List ℕ) : Type 0 where
   pub there : (u : ℕ) → u < length known → is_known known u ≡ true
-      → number_at width new u s.node ≡ number_at width old u s.parent + delay
+      → number_at width new u s.node ≡ number_at width old u s.parent + down
   pub back : (u : ℕ) → u < length known → is_known known u ≡ true
-      → number_at width new s.node u ≡ number_at width old u s.parent + delay
+      → number_at width new s.node u ≡ number_at width old s.parent u + up
   pub kept : (u x : ℕ) → x < length known → IsApartFrom s.node u x → number_at width new u x ≡ number_at width old u x
 
 -- the new table has the first links between the step's node and the known ones

@@ -1,6 +1,6 @@
 //! What links and hosts are checked for.
 ghost use Rattle.std.specs.Prelude.{◌≡◌, ◌↔◌, All, IsTrue};
-ghost use Rattle.srm_net.specs.Network.{IsWithin, HasDelay, AreHosts};
+ghost use Rattle.srm_net.specs.Network.{IsWithin, IsLinkDelay, HasDelays, AreHosts};
 ghost use Rattle.srm_net.specs.Paths.{is_in};
 
 use crate::link::LinkSpec;
@@ -12,13 +12,18 @@ pub(crate) fn are_within(nodes: u16, links: &[LinkSpec]) -> bool
     links.iter().all(|link| link.a < nodes && link.b < nodes)
 }
 
-/// Whether each link's delay is 1 to 1,000,000 ticks.
-pub(crate) fn have_delays(links: &[LinkSpec]) -> bool
-    ensures { IsTrue result ↔ All HasDelay links.now }
+/// Whether a delay is 1 to 1,000,000 ticks.
+fn is_link_delay(delay: u64) -> bool
+    ensures { IsTrue result ↔ IsLinkDelay delay }
 {
-    links
-        .iter()
-        .all(|link| link.delay >= 1 && link.delay <= 1_000_000)
+    delay >= 1 && delay <= 1_000_000
+}
+
+/// Whether each link's delays are 1 to 1,000,000 ticks, in both directions.
+pub(crate) fn have_delays(links: &[LinkSpec]) -> bool
+    ensures { IsTrue result ↔ All HasDelays links.now }
+{
+    links.iter().all(|link| is_link_delay(link.delay) && is_link_delay(link.back))
 }
 
 /// Whether each host is a node, and no two members share one.

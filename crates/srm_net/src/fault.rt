@@ -10,7 +10,7 @@ pub enum NetFault {
     /// The number of nodes is not 1 to 256, an end of a link is no node, the links are not one fewer than
     /// the nodes, or they do not connect them.
     NotTree,
-    /// A link's delay is not 1 to 1,000,000 ticks.
+    /// A link's delay, in either direction, is not 1 to 1,000,000 ticks.
     BadDelay,
     /// A member is on no node, or two share one.
     BadHost,

@@ -7,10 +7,10 @@ ghost use Rattle.srm_net.specs.declared.packet.PacketId.{PacketId};
 ghost use Rattle.srm_net.specs.declared.packet.PageId.{PageId};
 ghost use Rattle.srm_net.specs.Keys.{key_cmp};
 ghost use Rattle.srm_net.specs.Names.{name_cmp, page_cmp, id_cmp, heard_cmp};
-ghost use Rattle.srm_net.specs.Paths.{distance};
+ghost use Rattle.srm_net.specs.Paths.{distance, round};
 ghost use Rattle.srm_net.specs.Least.{least_delay, out};
-ghost use Rattle.srm_net.specs.Examples.{tree_of_eight, lone_node};
-ghost use Rattle.srm_net.specs.Laws.{OnePath, TreesHaveOnePath, DistancesFit, LeastDelayFits, NoLinkNoTwo, OutFits, OutOfTheOnlyOne};
+ghost use Rattle.srm_net.specs.Examples.{tree_of_eight, uneven_chain, lone_node};
+ghost use Rattle.srm_net.specs.Laws.{OnePath, TreesHaveOnePath, DistancesFit, AlikeBothWays, RoundsTurn, LeastDelayFits, NoLinkNoTwo, OutFits, OutOfTheOnlyOne};
 ghost use Rattle.srm_net.specs.Laws.{ReachesItsSender, UnlistedReachesAll, UnlistedCrossesItsWays, UnlistedIsNowhereDropped};
 ghost use Rattle.srm_net.specs.Laws.{SameDropsListed, OneListOfDrops, OrdersTotally};
 
@@ -24,12 +24,22 @@ pub fn trees_have_one_path()
     ensures { TreesHaveOnePath }
 {}
 
-/// Distances are the same in both directions, at least 1 between different members, and at most 255,000,000 ticks.
+/// Distances are at least 1 between different members, and at most 255,000,000 ticks.
 pub fn distances_fit()
     ensures { DistancesFit }
 {}
 
-/// The least delay of a link is at least 1 tick and at most each distance; without a link there are no two members.
+/// Where each link takes as long in both directions, so do distances, and half a round trip is the distance.
+pub fn alike_both_ways()
+    ensures { AlikeBothWays }
+{}
+
+/// A round trip takes as long from either end.
+pub fn rounds_turn()
+    ensures { RoundsTurn }
+{}
+
+/// The least delay of a link in either direction is at least 1 tick and at most each distance; without a link there are no two members.
 pub fn least_delay_fits()
     ensures least { LeastDelayFits }
     ensures none { NoLinkNoTwo }
@@ -90,12 +100,18 @@ pub fn entries_are_ordered()
     ensures derived { (h i : Heard) → ⟦<crate::packet::Heard as Ord>⟧.cmp h i ≡ heard_cmp h i }
 {}
 
-/// What the definitions say of a tree of eight nodes and of a lone node.
+/// What the definitions say of a tree of eight nodes, of a chain whose links take longer in one direction than in the other, and of a
+/// lone node.
 pub fn small_networks()
     ensures far { distance tree_of_eight 4 7 ≡ 8 }
     ensures near { distance tree_of_eight 4 5 ≡ 4 }
     ensures out { out tree_of_eight 3 ≡ Some 2 }
     ensures least { least_delay tree_of_eight ≡ Some 2 }
+    ensures there { distance uneven_chain 0 2 ≡ 4 }
+    ensures back { distance uneven_chain 2 1 ≡ 1 }
+    ensures round { round uneven_chain 0 1 ≡ 4 }
+    ensures uneven_out { out uneven_chain 1 ≡ Some 3 }
+    ensures uneven_least { least_delay uneven_chain ≡ Some 1 }
     ensures no_out { out lone_node 0 ≡ None }
     ensures no_least { least_delay lone_node ≡ None }
 {}

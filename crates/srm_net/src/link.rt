@@ -10,8 +10,33 @@ pub struct LinkSpec {
     pub a: u16,
     /// The node at the other end.
     pub b: u16,
-    /// How long a packet takes over the link, in ticks, in either direction.
+    /// How long a packet takes from `a` to `b`, in ticks.
     pub delay: u64,
+    /// How long a packet takes from `b` to `a`, in ticks.
+    pub back: u64,
+}
+
+impl LinkSpec {
+    ghost use Rattle.srm_net.specs.Paths.{delay_from};
+    ghost use Rattle.srm_net.specs.Least.{lesser_delay};
+
+    /// How long a packet takes over the link from one of its ends, in ticks.
+    pub(crate) fn delay_from(self, node: u16) -> u64
+        ensures { result ≡ delay_from node self }
+    {
+        if self.a == node {
+            self.delay
+        } else {
+            self.back
+        }
+    }
+
+    /// The delay in the direction in which it is less, in ticks.
+    pub(crate) fn lesser_delay(self) -> u64
+        ensures { result ≡ lesser_delay self }
+    {
+        self.delay.min(self.back)
+    }
 }
 
 /// A packet that a link is to drop.

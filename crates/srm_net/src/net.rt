@@ -1,8 +1,8 @@
 //! A tree of nodes and links with members on some nodes, and what becomes of packets in it.
 ghost use Rattle.std.specs.Prelude.{◌≡◌, ◌≢◌, ℕ, ◌<◌, ◌≤◌, not, ◌&&◌, ◌∷◌, All, IfOk, IfErr, length, slice_get};
 ghost use Rattle.std.specs.List.{list_any};
-ghost use Rattle.srm_net.specs.Network.{plain_network, IsTree, HasDelay, AreHosts, IsNetwork};
-ghost use Rattle.srm_net.specs.Paths.{is_listed, host, route, distance, reaches, crosses, drops_at};
+ghost use Rattle.srm_net.specs.Network.{plain_network, IsTree, HasDelays, AreHosts, IsNetwork};
+ghost use Rattle.srm_net.specs.Paths.{is_listed, host, route, distance, round, reaches, crosses, drops_at};
 ghost use Rattle.srm_net.specs.Fates.{is_crossing, is_dropping, is_on_way};
 ghost use Rattle.srm_net.specs.declared.link.LinkSpec.{LinkSpec};
 ghost use Rattle.srm_net.specs.Tables.{near_end, some_beyond};
@@ -23,7 +23,7 @@ use std::marker::Model;
 
 /// A tree of nodes and links, with members on some nodes. Contracts see it as its plain network.
 ///
-/// Each member is on a node of its own. A packet takes each link's delay, in ticks, in either direction.
+/// Each member is on a node of its own. A packet takes each link's delay in the direction in which it crosses it, in ticks.
 #[derive(Drop)]
 pub struct Net {
     tree: Tree,
@@ -53,7 +53,7 @@ impl Net {
     ///
     /// 1. [`NetFault::NotTree`]: `nodes` is not 1 to 256, an end of a link is no node, there are not `nodes - 1`
     ///    links, or they do not connect the nodes.
-    /// 2. [`NetFault::BadDelay`]: a delay is not 1 to 1,000,000 ticks.
+    /// 2. [`NetFault::BadDelay`]: a delay, in either direction, is not 1 to 1,000,000 ticks.
     /// 3. [`NetFault::BadHost`]: a member is on no node, or two members share one.
     /// 4. [`NetFault::NoMemory`].
     pub fn build(
@@ -68,9 +68,9 @@ impl Net {
         // each refusal comes only where it is the first
         ensures not_tree { result ≡ Err NetFault.NotTree → ¬ IsTree (plain_network nodes links.now hosts.now) }
         ensures bad_delay { result ≡ Err NetFault.BadDelay
-            → IsTree (plain_network nodes links.now hosts.now) × (¬ All HasDelay links.now) }
+            → IsTree (plain_network nodes links.now hosts.now) × (¬ All HasDelays links.now) }
         ensures bad_host { result ≡ Err NetFault.BadHost
-            → IsTree (plain_network nodes links.now hosts.now) × All HasDelay links.now × (¬ AreHosts nodes hosts.now) }
+            → IsTree (plain_network nodes links.now hosts.now) × All HasDelays links.now × (¬ AreHosts nodes hosts.now) }
 
         // and none but want of memory where the network is as it should be
         ensures accepted { IsNetwork (plain_network nodes links.now hosts.now)
@@ -137,7 +137,20 @@ impl Net {
         self.tree.distance(a, b)
     }
 
-    /// The least delay of a link, in ticks, or none where there is no link.
+    /// The round trip between members `a` and `b`: how long a packet takes from `a` to `b`, and another one back, in ticks. It is at
+    /// most 510,000,000, and the same from either end.
+    pub fn round(&self, a: u16, b: u16) -> u64
+        requires a { a < length self.now.hosts }
+        requires b { b < length self.now.hosts }
+        ensures value { result ≡ round self.now a b }
+        ensures apart { a ≢ b → 2 ≤ result }
+        ensures bounded { result ≤ 510000000 }
+        ensures network { IsNetwork self.now }
+    {
+        self.distance(a, b) + self.distance(b, a)
+    }
+
+    /// The least delay of a link in either direction, in ticks, or none where there is no link.
     pub fn least_delay(&self) -> Option<u64>
         ensures value { result ≡ least_delay self.now }
         ensures network { IsNetwork self.now }

@@ -183,7 +183,7 @@ impl Tree {
         Ok(all)
     }
 
-    /// The least delay of a link, in ticks, or none where there is no link.
+    /// The least delay of a link in either direction, in ticks, or none where there is no link.
     pub(crate) fn least_delay(&self) -> Option<u64>
         ensures value { result ≡ least_delay self.now }
         ensures network { IsNetwork self.now }
@@ -191,8 +191,8 @@ impl Tree {
         let mut least = None;
         for link in self.links() {
             least = match least {
-                None => Some(link.delay),
-                Some(known) => Some(known.min(link.delay)),
+                None => Some(link.lesser_delay()),
+                Some(known) => Some(known.min(link.lesser_delay())),
             };
         }
         least

@@ -2,7 +2,7 @@
 ghost use Rattle.std.specs.Prelude.{◌≡◌, ◌≢◌, ◌⊎◌, ℕ, ◌+◌, ◌<◌, ◌≤◌, ◌==◌, true, false, All, IfOk, length, reverse, slice_index_or, if◌then◌else◌};
 ghost use Rattle.srm_net.specs.Grids.{number_at};
 ghost use Rattle.srm_net.specs.Growth.{Grows};
-ghost use Rattle.srm_net.specs.Network.{HasDelay, IsWithin};
+ghost use Rattle.srm_net.specs.Network.{HasDelays, IsWithin};
 ghost use Rattle.srm_net.specs.Ways.{TellsWays, Extends, Leads};
 
 use crate::grid::Grid;
@@ -10,7 +10,7 @@ use crate::link::LinkSpec;
 use crate::step::Step;
 use std::alloc::{AllocError, Global};
 
-/// For each two nodes the delay between them, in ticks, and the first link of the way from the one to the other.
+/// For each two nodes the delay from the one to the other, in ticks, and the first link of the way.
 #[derive(Drop)]
 pub(crate) struct Ways {
     pub(crate) delays: Grid<u32>,
@@ -28,7 +28,7 @@ impl Ways {
         requires some_nodes { 1 ≤ nodes }
         requires few_nodes { nodes ≤ 256 }
         requires ends { All (IsWithin nodes) links.now }
-        requires delays { All HasDelay links.now }
+        requires delays { All HasDelays links.now }
         requires grows { Grows links.now (reverse steps.now) }
         requires all { length steps.now + 1 ≡ nodes }
         ensures { IfOk result (λ ways. TellsWays nodes links.now ways) }
@@ -41,14 +41,16 @@ impl Ways {
         let mut known = vec![in alloc; false; width]?;
         known[0] = true;
         for step in steps {
-            let delay = links[usize::from(step.link)].delay as u32;
-            ways.attach(known.as_slice(), *step, delay);
+            let link = links[usize::from(step.link)];
+            let down = link.delay_from(step.parent) as u32;
+            let up = link.delay_from(step.node) as u32;
+            ways.attach(known.as_slice(), *step, down, up);
             known[usize::from(step.node)] = true;
         }
         Ok(ways)
     }
 
-    /// How long the way between two nodes is, in ticks.
+    /// How long the way from one node to another is, in ticks.
     pub(crate) fn delay(&self, from: u16, to: u16) -> u64
         requires from { from < self.now.delays.width }
         requires to { to < self.now.delays.width }
@@ -66,8 +68,9 @@ impl Ways {
         self.firsts.at(usize::from(from), usize::from(to))
     }
 
-    /// Writes the ways between a new node and the known ones.
-    fn attach(&mut self, known: &[bool], step: Step, delay: u32)
+    /// Writes the ways between a new node and the known ones. The step's link takes `down` ticks to the new node, and `up` ticks from
+    /// it.
+    fn attach(&mut self, known: &[bool], step: Step, down: u32, up: u32)
         requires delays_width { self.old.delays.width ≡ length known.now }
         requires firsts_width { self.old.firsts.width ≡ length known.now }
         requires node { step.node < length known.now }
@@ -75,10 +78,12 @@ impl Ways {
         requires new { slice_index_or known.now step.node false ≡ false }
         requires old { slice_index_or known.now step.parent false ≡ true }
         requires fits { (u : ℕ) → u < length known.now → slice_index_or known.now u false ≡ true
-            → number_at self.old.delays.width self.old.delays.cells.items u step.parent + delay < 4294967296 }
+            → number_at self.old.delays.width self.old.delays.cells.items u step.parent + down < 4294967296 }
+        requires fits_back { (u : ℕ) → u < length known.now → slice_index_or known.now u false ≡ true
+            → number_at self.old.delays.width self.old.delays.cells.items step.parent u + up < 4294967296 }
         ensures delays_width { self.new.delays.width ≡ self.old.delays.width }
         ensures firsts_width { self.new.firsts.width ≡ self.old.firsts.width }
-        ensures delays { Extends known.now step delay self.old.delays.width
+        ensures delays { Extends known.now step down up self.old.delays.width
             self.old.delays.cells.items self.new.delays.cells.items }
         ensures firsts { Leads known.now step self.old.firsts.width
             self.old.firsts.cells.items self.new.firsts.cells.items }
@@ -89,14 +94,15 @@ impl Ways {
             if !known[near] {
                 continue;
             }
-            let far = self.delays.at(near, parent) + delay;
+            let there = self.delays.at(near, parent) + down;
+            let back = self.delays.at(parent, near) + up;
             let first = if near == parent {
                 step.link
             } else {
                 self.firsts.at(near, parent)
             };
-            self.delays.put(near, node, far);
-            self.delays.put(node, near, far);
+            self.delays.put(near, node, there);
+            self.delays.put(node, near, back);
             self.firsts.put(near, node, first);
             self.firsts.put(node, near, step.link);
         }

@@ -1,5 +1,5 @@
 -- The table of losses: of each name that a member lost, when that was detected, and when it was fixed.
-use Rattle.std.specs.Prelude.{ℕ, ◌-◌, ◌*◌, Bool, false, ◌&&◌, List, [], ◌∷◌, ◌++◌, map, Option, Some, ◌==◌, codes, decimal}
+use Rattle.std.specs.Prelude.{ℕ, ◌-◌, Bool, false, ◌&&◌, List, [], ◌∷◌, ◌++◌, map, Option, Some, ◌==◌, codes, decimal}
 use Rattle.std.specs.declared.cmp.Ordering.{Ordering}
 use Rattle.std.specs.Ordering.{nat_cmp}
 use Rattle.std.specs.Cmp.Lexicographic.{slice_cmp}
@@ -7,7 +7,7 @@ use Rattle.std.specs.List.{find, flat_map, list_any}
 use Rattle.std.specs.Option.{option_map_or}
 use Rattle.srm_net.specs.Network.{Network}
 use Rattle.srm_net.specs.Orders.{ordered}
-use Rattle.srm_net.specs.Paths.{distance}
+use Rattle.srm_net.specs.Paths.{round}
 use Rattle.srm_member.specs.declared.row.Row.{Row}
 use Rattle.srm_member.specs.Orderly.{brought}
 use Rattle.srm_report.specs.declared.loss.Loss.{Loss}
@@ -46,10 +46,10 @@ recovered_at rows k = time_of (find (fixes k) rows)
 abbrev pub ratio : ℕ → ℕ → List ℕ
 ratio took way = decimal took ++ codes "/" ++ decimal way
 
--- how long it took, over twice the distance to the source
+-- how long it took, over the round trip to the source
 abbrev pub delay_text : ℕ → Option ℕ → Option ℕ → List ℕ
-delay_text d (Some detected) (Some recovered) = ratio (recovered - detected) (2 * d)
-delay_text d _ _ = codes "-"
+delay_text trip (Some detected) (Some recovered) = ratio (recovered - detected) trip
+delay_text trip _ _ = codes "-"
 
 -- the columns of the table
 abbrev pub loss_columns : List (List ℕ)
@@ -62,7 +62,7 @@ abbrev pub loss_fields : Network → Loss → Option ℕ → Option ℕ → List
 loss_fields net k detected recovered =
     decimal k.member ∷ decimal k.name.source ∷ decimal k.name.page ∷ decimal k.name.number
     ∷ time_text detected ∷ time_text recovered
-    ∷ delay_text (distance net k.member k.name.source) detected recovered ∷ []
+    ∷ delay_text (round net k.member k.name.source) detected recovered ∷ []
 
 -- the row of a loss, as these rows tell of it
 abbrev pub loss_row : Network → List Row → Loss → List (List ℕ)

@@ -28,7 +28,7 @@ use std::alloc::{AllocError, Global};
 /// | `number` | the operation's number on that page |
 /// | `detected` | when the member found the name to be missing, in ticks |
 /// | `recovered` | when the member took in its operation, in ticks, or `-` |
-/// | `delay` | `recovered` less `detected`, a slash, and twice the distance to the source, in ticks; or `-` |
+/// | `delay` | `recovered` less `detected`, a slash, and the round trip to the source, in ticks; or `-` |
 ///
 /// The rows are orderly, as those of every run are.
 ///
@@ -100,8 +100,8 @@ pub(crate) fn put_loss(
         None => record.push_field(b"-"),
         Some(recovered) => {
             let took = recovered.saturating_sub(course.detected);
-            let way = net.distance(member, name.source);
-            put_delay(record, digits, took, 2 * way)
+            let round = net.round(member, name.source);
+            put_delay(record, digits, took, round)
         }
     }
 }

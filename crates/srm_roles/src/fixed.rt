@@ -2,7 +2,7 @@
 ghost use Rattle.std.specs.Prelude.{◌≡◌, ◌<◌, ◌≤◌, length, All, IfOk};
 ghost use Rattle.srm_scenario.specs.Plain.{network_of};
 ghost use Rattle.srm_member.specs.Fit.{IsFit};
-ghost use Rattle.srm_roles.specs.Opening.{distances_from, fixed_of};
+ghost use Rattle.srm_roles.specs.Opening.{half_rounds_from, fixed_of};
 
 use srm_member::fixed::Fixed;
 use srm_net::net::Net;
@@ -27,7 +27,7 @@ pub fn fixed_of(
     ensures value { IfOk result (λ f. f ≡ fixed_of scenario.now net.now seed m) }
     ensures fit { IfOk result IsFit }
 {
-    let dist = distances(alloc, net, m)?;
+    let dist = half_rounds(alloc, net, m)?;
     let member = scenario.member(m);
     let pages = member.pages.clone()?;
     let constants = scenario.constants();
@@ -45,15 +45,15 @@ pub fn fixed_of(
     })
 }
 
-// The distances from a member to each member in turn, in ticks.
-fn distances(alloc: Global, net: &Net, m: u16) -> Result<Sequence<u64>, AllocError>
+// Half the round trip between a member and each member in turn, rounded down, in ticks.
+fn half_rounds(alloc: Global, net: &Net, m: u16) -> Result<Sequence<u64>, AllocError>
     requires { m < length net.now.hosts }
-    ensures value { IfOk result (λ ds. ds ≡ distances_from net.now m) }
+    ensures value { IfOk result (λ ds. ds ≡ half_rounds_from net.now m) }
     ensures bounded { IfOk result (All (λ d. d ≤ 255000000)) }
 {
     let mut dist = Sequence::new(alloc);
     for b in 0..net.members() {
-        dist.push(net.distance(m, b))?;
+        dist.push(net.round(m, b) / 2)?;
     }
     Ok(dist)
 }

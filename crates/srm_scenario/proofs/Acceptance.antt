@@ -10,7 +10,7 @@ use Rattle.srm_net.specs.declared.link.DropSpec.{DropSpec}
 use Rattle.srm_net.specs.declared.role.Role.{Role}
 use Rattle.srm_net.specs.declared.role.Role.TheVariants.{Sender, Receiver, Late, Listener}
 use Rattle.srm_net.specs.DropSets.{with_once, ordered_once}
-use Rattle.srm_net.specs.Network.{IsNetwork, HasDelay, AreHosts}
+use Rattle.srm_net.specs.Network.{IsNetwork, HasDelays, AreHosts}
 use Rattle.srm_net.specs.Paths.{drop_cmp}
 use Rattle.srm_net.proofs.DropLemmas.{drops_ascend}
 use Rattle.srm_scenario.specs.declared.entry.MemberEntry.{MemberEntry}
@@ -244,7 +244,7 @@ accepted_from s star entries listed range its members drops h =
       constants = range.constants;
       network = record {
         tree = tree_from_test (network_of s) (unless_true _ NotTree tree);
-        delays = All-from_recursion HasDelay s.links range.delays;
+        delays = All-from_recursion HasDelays s.links range.delays;
         hosts = (All-from_recursion (λ n. n < s.nodes) _ hosts, apart);
       };
       members = All-from_recursion (IsMember s.until) s.members fit;

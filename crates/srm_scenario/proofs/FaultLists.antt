@@ -1,12 +1,12 @@
 -- The first fault of a list that is made of others.
-use Rattle.std.proofs.Common.{◌≡◌, ℕ, Bool, true, false, List, [], ◌∷◌, ◌++◌, Option, Some, codes, refl, sym, ap, ◌∙◌, inl, inr}
-use Rattle.toml.specs.Data.{Data, Members}
+use Rattle.std.proofs.Common.{◌≡◌, true, false, List, [], ◌∷◌, ◌++◌, Some, codes, refl, ap, ◌∙◌, inl, inr}
+use Rattle.toml.specs.Data.{Members}
 use Rattle.srm_scenario.specs.declared.fault.Part.TheVariants as part
 use Rattle.srm_scenario.specs.declared.fault.ScenarioFault.{ScenarioFault}
 use Rattle.srm_scenario.specs.declared.fault.ScenarioFault.TheVariants.{BadKey}
 use Rattle.srm_scenario.specs.Rules.{fits, link_rules, member_rules, draw_rules, session_rules, drop_rules}
-use Rattle.srm_scenario.specs.Described.{array_at}
-use Rattle.srm_scenario.specs.Faults.{first, IsFault, all_of, fault_unless, rules_of_top, top_faults, element_faults, key_faults}
+use Rattle.srm_scenario.specs.Described.{array_at, version_of}
+use Rattle.srm_scenario.specs.Faults.{first, IsFault, fault_unless, rules_of_top, top_faults, element_faults, key_faults}
 
 pub first-left : (xs ys : List ScenarioFault) (e : ScenarioFault) → first xs ≡ Some e → first (xs ++ ys) ≡ Some e
 first-left [] ys e h = cc
@@ -27,7 +27,7 @@ no_faults fs rest p q = (λ i. p i ++ q i)
 
 module _ (ms : Members) where
   abbrev links : List ScenarioFault
-  links = element_faults part.Link link_rules (array_at (codes "link") ms)
+  links = element_faults part.Link (link_rules (version_of ms)) (array_at (codes "link") ms)
 
   abbrev members : List ScenarioFault
   members = element_faults part.Member member_rules (array_at (codes "member") ms)

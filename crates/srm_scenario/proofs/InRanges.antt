@@ -1,28 +1,27 @@
 -- The ranges of a file's keys are those of the scenario.
-use Rattle.std.proofs.Common.{◌≡◌, ℕ, zero, suc, ◌+◌, ◌-◌, ◌<◌, ◌≤◌, ◌^◌, Bool, true, false, not, cond, ℤ, pos, negsuc, List, [], ◌∷◌, ◌++◌, length, map, Option, Some, None, is_some, unwrap_or, nat_le, codes, refl, sym, ap, ◌∙◌, subst, arith, inl, inr}
-use Rattle.std.proofs.lemmas.Bool.{and_parts, cases_Bool, false≢true}
+use Rattle.std.proofs.Common.{◌≡◌, ℕ, zero, suc, ◌+◌, ◌-◌, ◌≤◌, ◌^◌, Bool, true, false, cond, pos, negsuc, List, [], ◌∷◌, map, Option, Some, None, is_some, unwrap_or, nat_le, codes, refl, sym, ap, ◌∙◌, subst, arith}
+use Rattle.std.proofs.lemmas.Bool.{and_parts, false≢true}
 use Rattle.std.proofs.lemmas.Bool.Decides.{nat_tests}
 use Rattle.std.specs.List.{list_all, AllByRecursion}
 use Rattle.std.specs.Option.{option_and_then}
-use Rattle.std.specs.Prelude.{◌&&◌}
 use Rattle.toml.specs.Data.{Data, Members, string, integer, float, boolean, datetime, array, table, get_member}
 use Rattle.srm_net.specs.declared.link.LinkSpec.{LinkSpec}
 use Rattle.srm_net.specs.DropSets.{ordered_once}
-use Rattle.srm_net.specs.Network.{HasDelay}
+use Rattle.srm_net.specs.Network.{IsLinkDelay, HasDelays}
 use Rattle.srm_net.specs.Paths.{drop_cmp}
 use Rattle.srm_scenario.specs.declared.entry.MemberEntry.{MemberEntry}
 use Rattle.srm_scenario.specs.declared.fault.Part.{Part}
-use Rattle.srm_scenario.specs.declared.fault.ScenarioFault.{ScenarioFault}
 use Rattle.srm_scenario.specs.declared.fault.ScenarioFault.TheVariants.{BadKey}
 use Rattle.srm_scenario.specs.declared.listed.Listed.{Listed}
 use Rattle.srm_scenario.specs.declared.parts.MemberSpec.{MemberSpec}
+use Rattle.srm_scenario.specs.declared.delays.Delays.{Delays}
 use Rattle.srm_scenario.specs.declared.topology.Topology.{Topology}
-use Rattle.srm_scenario.specs.Rules.{Rule, rule, whole, required, optional, meets, is_met, is_whole, has_only, fits, fits_element, link_rules, member_rules, role_rule, pages_rule}
-use Rattle.srm_scenario.specs.Described.{number_of, number_at, number, array_of, array_at, table_of, link_of, member_of, elements_at, parent_in, links_to_parents, nodes_in, links_in, described, topology_of}
-use Rattle.srm_scenario.specs.Faults.{faults_by, element_faults, entry_of, key_faults, top_faults}
-use Rattle.srm_scenario.specs.Keys.{IsDelay}
+use Rattle.srm_scenario.specs.declared.version.Version.{Version}
+use Rattle.srm_scenario.specs.Rules.{Rule, rule, whole, required, optional, refused, meets, allows_back, back_rule, is_met, is_whole, has_only, fits, fits_element, link_rules, member_rules, role_rule}
+use Rattle.srm_scenario.specs.Described.{version_of, back_at, delays_of, number_of, number_at, number, array_of, array_at, table_of, link_of, member_of, elements_at, links_to_parents, nodes_in, links_in, described, topology_of}
+use Rattle.srm_scenario.specs.Faults.{element_faults, entry_of, key_faults, top_faults}
+use Rattle.srm_scenario.specs.Keys.{AreDelays}
 use Rattle.srm_scenario.specs.Listed.{IsListed, links_listed, plain_of}
-use Rattle.srm_scenario.specs.Plain.{PlainScenario}
 use Rattle.srm_scenario.specs.Ranges.{MemberInRange, HasItsPages, InRange}
 use Rattle.srm_scenario.proofs.Acceptance.{empty_parts, none_by}
 
@@ -41,24 +40,24 @@ whole_range low high (datetime t) h n e = absurd (false≢true h)
 whole_range low high (array t) h n e = absurd (false≢true h)
 whole_range low high (table t) h n e = absurd (false≢true h)
 
-whole_number : (low high : ℕ) (d : Data) → is_whole low high d ≡ true → (low ≤ unwrap_or (number_of d) 0) × (unwrap_or (number_of d) 0 ≤ high)
-whole_number low high (integer (pos m)) h =
+whole_number : (low high other : ℕ) (d : Data) → is_whole low high d ≡ true → (low ≤ unwrap_or (number_of d) other) × (unwrap_or (number_of d) other ≤ high)
+whole_number low high other (integer (pos m)) h =
     let (p, q) = and_parts (nat_le low m) (nat_le m high) h in
     (grind (arith, nat_tests), grind (arith, nat_tests))
-whole_number low high (integer (negsuc m)) h = absurd (false≢true h)
-whole_number low high (string t) h = absurd (false≢true h)
-whole_number low high (float t) h = absurd (false≢true h)
-whole_number low high (boolean t) h = absurd (false≢true h)
-whole_number low high (datetime t) h = absurd (false≢true h)
-whole_number low high (array t) h = absurd (false≢true h)
-whole_number low high (table t) h = absurd (false≢true h)
+whole_number low high other (integer (negsuc m)) h = absurd (false≢true h)
+whole_number low high other (string t) h = absurd (false≢true h)
+whole_number low high other (float t) h = absurd (false≢true h)
+whole_number low high other (boolean t) h = absurd (false≢true h)
+whole_number low high other (datetime t) h = absurd (false≢true h)
+whole_number low high other (array t) h = absurd (false≢true h)
+whole_number low high other (table t) h = absurd (false≢true h)
 
 required_number : (key : List ℕ) (low high : ℕ) (ms : Members) → is_met ms (rule key (whole low high) required) ≡ true → (low ≤ number key ms) × (number key ms ≤ high)
 required_number key low high ms h = by (get_member key ms) h
   where
     by : (o : Option Data) → meets required (whole low high) o ≡ true → (low ≤ unwrap_or (option_and_then number_of o) 0) × (unwrap_or (option_and_then number_of o) 0 ≤ high)
     by None e = absurd (false≢true e)
-    by (Some d) e = whole_number low high d e
+    by (Some d) e = whole_number low high 0 d e
 
 optional_number : (key : List ℕ) (low high : ℕ) (ms : Members) → is_met ms (rule key (whole low high) optional) ≡ true → (n : ℕ) → number_at key ms ≡ Some n → n ≤ high
 optional_number key low high ms h = by (get_member key ms) h
@@ -88,13 +87,24 @@ read_elements : {A : Type 0} (P : A → Type 0) (p : Part) (reading : Members �
     → element_faults p rules ds ≡ [] → AllByRecursion P (map (λ d. reading (table_of d)) ds)
 read_elements P p reading rules f ds h = all_read P reading rules f ds (none_by (BadKey p) (fits_element rules) 0 ds h)
 
-link_delay : (m : Members) → fits link_rules m ≡ true → HasDelay (link_of m)
-link_delay m h =
-    let (keys, r1) = and_parts (has_only (map (λ r. r.key) link_rules) m) (list_all (is_met m) link_rules) h in
+-- the second delay of a link is in range, where it is given or the first is in range
+back_fits : (m : Members) (allowed : Bool) → is_met m (back_rule allowed) ≡ true → IsLinkDelay (number (codes "delay") m) → IsLinkDelay (back_at m)
+back_fits m allowed h delay = by (get_member (codes "back") m) allowed h
+  where
+    by : (o : Option Data) (b : Bool) → meets (cond b optional refused) (whole 1 1000000) o ≡ true → IsLinkDelay (unwrap_or (option_and_then number_of o) (number (codes "delay") m))
+    by None b e = delay
+    by (Some d) true e = whole_number 1 1000000 (number (codes "delay") m) d e
+    by (Some d) false e = absurd (false≢true e)
+
+link_delay : (v : Version) (m : Members) → fits (link_rules v) m ≡ true → HasDelays (link_of m)
+link_delay v m h =
+    let (keys, r1) = and_parts (has_only (map (λ r. r.key) (link_rules v)) m) (list_all (is_met m) (link_rules v)) h in
     let (a, r2) = and_parts (is_met m (rule (codes "a") (whole 0 255) required)) _ r1 in
     let (b, r3) = and_parts (is_met m (rule (codes "b") (whole 0 255) required)) _ r2 in
     let (delay, r4) = and_parts (is_met m (rule (codes "delay") (whole 1 1000000) required)) _ r3 in
-    required_number (codes "delay") 1 1000000 m delay
+    let (back, r5) = and_parts (is_met m (back_rule (allows_back v))) _ r4 in
+    let there = required_number (codes "delay") 1 1000000 m delay in
+    (there, back_fits m (allows_back v) back there)
 
 member_range : (m : Members) → fits member_rules m ≡ true → MemberInRange (entry_of m).spec
 member_range m h =
@@ -123,42 +133,42 @@ all_spec (e ∷ es) h = (h.0, all_spec es h.1)
 
 -- ---- links of a topology
 
-parents_delay : (t : Topology) (delay v n : ℕ) → (1 ≤ delay) × (delay ≤ 1000000) → AllByRecursion HasDelay (links_to_parents t delay v n)
-parents_delay t delay v zero h = tt
-parents_delay t delay v (suc n) h = (h, parents_delay t delay (v + 1) n h)
+parents_delay : (t : Topology) (delays : Delays) (v n : ℕ) → IsLinkDelay delays.delay × IsLinkDelay delays.back → AllByRecursion HasDelays (links_to_parents t delays v n)
+parents_delay t delays v zero h = tt
+parents_delay t delays v (suc n) h = (h, parents_delay t delays (v + 1) n h)
 
-listed_delay : (o : Option Topology) (nodes delay : ℕ) (links : List LinkSpec) → IsDelay o delay → AllByRecursion HasDelay links → AllByRecursion HasDelay (links_listed o nodes delay links)
-listed_delay None nodes delay links h all = all
-listed_delay (Some t) nodes delay links h all = parents_delay t delay 1 (nodes - 1) h
+listed_delay : (o : Option Topology) (nodes : ℕ) (delays : Delays) (links : List LinkSpec) → AreDelays o delays → AllByRecursion HasDelays links → AllByRecursion HasDelays (links_listed o nodes delays links)
+listed_delay None nodes delays links h all = all
+listed_delay (Some t) nodes delays links h all = parents_delay t delays 1 (nodes - 1) h
 
 -- ---- all together
 
-link_part : (ms : Members) → key_faults ms ≡ [] → element_faults Rattle.srm_scenario.specs.declared.fault.Part.TheVariants.Link link_rules (array_at (codes "link") ms) ≡ []
+link_part : (ms : Members) → key_faults ms ≡ [] → element_faults Rattle.srm_scenario.specs.declared.fault.Part.TheVariants.Link (link_rules (version_of ms)) (array_at (codes "link") ms) ≡ []
 unfolding key_faults
 link_part ms h =
     let p = empty_parts (top_faults ms) _ h in
-    let q = empty_parts (element_faults Rattle.srm_scenario.specs.declared.fault.Part.TheVariants.Link link_rules (array_at (codes "link") ms)) _ p.1 in
+    let q = empty_parts (element_faults Rattle.srm_scenario.specs.declared.fault.Part.TheVariants.Link (link_rules (version_of ms)) (array_at (codes "link") ms)) _ p.1 in
     q.0
 
 member_part : (ms : Members) → key_faults ms ≡ [] → element_faults Rattle.srm_scenario.specs.declared.fault.Part.TheVariants.Member member_rules (array_at (codes "member") ms) ≡ []
 unfolding key_faults
 member_part ms h =
     let p = empty_parts (top_faults ms) _ h in
-    let q = empty_parts (element_faults Rattle.srm_scenario.specs.declared.fault.Part.TheVariants.Link link_rules (array_at (codes "link") ms)) _ p.1 in
+    let q = empty_parts (element_faults Rattle.srm_scenario.specs.declared.fault.Part.TheVariants.Link (link_rules (version_of ms)) (array_at (codes "link") ms)) _ p.1 in
     let r = empty_parts (element_faults Rattle.srm_scenario.specs.declared.fault.Part.TheVariants.Member member_rules (array_at (codes "member") ms)) _ q.1 in
     r.0
 
 pub listed_range : (ms : Members) (l : Listed) → IsListed ms l → InRange (plain_of l)
 unfolding plain_of
 listed_range ms l h =
-    let links : AllByRecursion HasDelay l.links.items = subst (λ (ks : List LinkSpec). AllByRecursion HasDelay ks) h.links (read_elements HasDelay _ link_of link_rules link_delay _ (link_part ms h.no_fault)) in
+    let links : AllByRecursion HasDelays l.links.items = subst (λ (ks : List LinkSpec). AllByRecursion HasDelays ks) h.links (read_elements HasDelays _ link_of (link_rules (version_of ms)) (link_delay (version_of ms)) _ (link_part ms h.no_fault)) in
     let members : AllByRecursion (λ e. MemberInRange e.spec) l.members.items =
     subst (λ (es : List MemberEntry). AllByRecursion (λ e. MemberInRange e.spec) es) h.members (read_elements (λ e. MemberInRange e.spec) _ entry_of member_rules member_range _ (member_part ms h.no_fault)) in
     record {
       some_ticks = h.some_ticks;
       few_ticks = h.few_ticks;
       constants = h.constants_fit;
-      delays = listed_delay l.topology l.nodes l.delay l.links.items h.delay_fits links;
+      delays = listed_delay l.topology l.nodes l.delays l.links.items h.delays_fit links;
       members = all_spec l.members.items members;
       few_draws = h.few_draws;
       few_sessions = h.few_sessions;
@@ -168,10 +178,10 @@ pub listed_pages : (ms : Members) (l : Listed) → IsListed ms l → AllByRecurs
 listed_pages ms l h =
     subst (λ (es : List MemberEntry). AllByRecursion HasItsPages es) h.members (read_elements HasItsPages _ entry_of member_rules pages_own _ (member_part ms h.no_fault))
 
-links_same : (ms : Members) (o : Option Topology) (nodes delay : ℕ) (links : List LinkSpec) → nodes_in o ms ≡ nodes → number (codes "delay") ms ≡ delay → elements_at (codes "link") link_of ms ≡ links
-    → links_in o ms ≡ links_listed o nodes delay links
-links_same ms None nodes delay links n d k = k
-links_same ms (Some t) nodes delay links n d k = (λ i. links_to_parents t (d i) 1 (n i - 1))
+links_same : (ms : Members) (o : Option Topology) (nodes : ℕ) (delays : Delays) (links : List LinkSpec) → nodes_in o ms ≡ nodes → delays_of ms ≡ delays → elements_at (codes "link") link_of ms ≡ links
+    → links_in o ms ≡ links_listed o nodes delays links
+links_same ms None nodes delays links n d k = k
+links_same ms (Some t) nodes delays links n d k = (λ i. links_to_parents t (d i) 1 (n i - 1))
 
 map_spec : (ds : List Data) → map (λ e. e.spec) (map (λ d. entry_of (table_of d)) ds) ≡ map (λ d. member_of (table_of d)) ds
 map_spec [] = refl
@@ -182,8 +192,8 @@ pub described_is : (ms : Members) (l : Listed) → IsListed ms l → described m
 unfolding described plain_of
 described_is ms l h =
     let nodes : nodes_in l.topology ms ≡ l.nodes = subst (λ o. nodes_in o ms ≡ l.nodes) h.topology h.nodes in
-    let links : links_in (topology_of ms) ms ≡ links_listed l.topology l.nodes l.delay l.links.items =
-    ap (λ o. links_in o ms) h.topology ∙ links_same ms l.topology l.nodes l.delay l.links.items nodes h.delay h.links in
+    let links : links_in (topology_of ms) ms ≡ links_listed l.topology l.nodes l.delays l.links.items =
+    ap (λ o. links_in o ms) h.topology ∙ links_same ms l.topology l.nodes l.delays l.links.items nodes h.delays h.links in
     let members : elements_at (codes "member") member_of ms ≡ map (λ e. e.spec) l.members.items = sym (map_spec (array_at (codes "member") ms)) ∙ ap (map (λ e. e.spec)) h.members in
     λ i. record {
       until = h.until i;

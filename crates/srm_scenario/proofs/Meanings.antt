@@ -1,9 +1,9 @@
 -- The faults of what is listed, one check after the other.
-use Rattle.std.proofs.Common.{◌≡◌, ◌⊎◌, ℕ, Bool, true, false, List, [], ◌∷◌, ◌++◌, length, map, Some, refl, sym, ap, ◌∙◌, subst, inl, inr}
+use Rattle.std.proofs.Common.{◌≡◌, ◌⊎◌, Bool, true, false, List, [], ◌++◌, length, map, Some, refl, sym, ap, ◌∙◌, subst, inl, inr}
 use Rattle.srm_net.specs.declared.link.LinkSpec.{LinkSpec}
 use Rattle.srm_net.specs.declared.link.DropSpec.{DropSpec}
 use Rattle.srm_net.specs.DropSets.{ordered_once}
-use Rattle.srm_net.specs.Network.{plain_network, HasDelay}
+use Rattle.srm_net.specs.Network.{plain_network, HasDelays}
 use Rattle.srm_net.specs.Paths.{drop_cmp}
 use Rattle.srm_scenario.specs.declared.fault.ScenarioFault.{ScenarioFault}
 use Rattle.srm_scenario.specs.declared.fault.ScenarioFault.TheVariants.{NoMemory, NotTree, BadDraw, BadSession, BadDrop}
@@ -17,12 +17,12 @@ use Rattle.srm_scenario.specs.Ranges.{InRange, HasItsPages}
 use Rattle.srm_scenario.specs.Trees.{is_tree}
 use Rattle.std.specs.List.{AllByRecursion}
 use Rattle.srm_scenario.proofs.Acceptance.{accepted_from}
-use Rattle.srm_scenario.proofs.FaultLists.{first-left, here, later, no_faults}
+use Rattle.srm_scenario.proofs.FaultLists.{here, later, no_faults}
 use Rattle.srm_scenario.proofs.TreeLemmas.{without_hosts}
 
 -- the links and members of what is listed, as the code has made them
 pub record Made (l : Listed) (links : List LinkSpec) (members : List MemberSpec) : Type 0 where
-  pub links_are : links ≡ links_listed l.topology l.nodes l.delay l.links.items
+  pub links_are : links ≡ links_listed l.topology l.nodes l.delays l.links.items
   pub members_are : members ≡ map (λ e. e.spec) l.members.items
 
 abbrev Tree : Listed → List ScenarioFault
@@ -48,24 +48,24 @@ are_all : (l : Listed) (links : List LinkSpec) (members : List MemberSpec) → M
 unfolding all_faults plain_of meaning_faults
 are_all l links members m =
     ap (λ (ks : List LinkSpec). Tree l ++ (Placed l ++ (Drawn l members ++ (Told l members ++ (Dropped l ks members ++ []))))) m.links_are
-    ∙ ap (λ (ms : List MemberSpec). Tree l ++ (Placed l ++ (Drawn l ms ++ (Told l ms ++ (Dropped l (links_listed l.topology l.nodes l.delay l.links.items) ms ++ []))))) m.members_are
+    ∙ ap (λ (ms : List MemberSpec). Tree l ++ (Placed l ++ (Drawn l ms ++ (Told l ms ++ (Dropped l (links_listed l.topology l.nodes l.delays l.links.items) ms ++ []))))) m.members_are
 
-tree_test : (l : Listed) (links : List LinkSpec) (b : Bool) → links ≡ links_listed l.topology l.nodes l.delay l.links.items → is_tree (plain_network l.nodes links []) ≡ b → is_tree (network_of (plain_of l)) ≡ b
+tree_test : (l : Listed) (links : List LinkSpec) (b : Bool) → links ≡ links_listed l.topology l.nodes l.delays l.links.items → is_tree (plain_network l.nodes links []) ≡ b → is_tree (network_of (plain_of l)) ≡ b
 unfolding plain_of
 tree_test l links b same h =
-    without_hosts l.nodes (links_listed l.topology l.nodes l.delay l.links.items) (network_of (plain_of l)).hosts [] ∙ ap (λ (ks : List LinkSpec). is_tree (plain_network l.nodes ks [])) (sym same) ∙ h
+    without_hosts l.nodes (links_listed l.topology l.nodes l.delays l.links.items) (network_of (plain_of l)).hosts [] ∙ ap (λ (ks : List LinkSpec). is_tree (plain_network l.nodes ks [])) (sym same) ∙ h
 
-no_tree_fault : (l : Listed) (links : List LinkSpec) → links ≡ links_listed l.topology l.nodes l.delay l.links.items → is_tree (plain_network l.nodes links []) ≡ true → Tree l ≡ []
+no_tree_fault : (l : Listed) (links : List LinkSpec) → links ≡ links_listed l.topology l.nodes l.delays l.links.items → is_tree (plain_network l.nodes links []) ≡ true → Tree l ≡ []
 no_tree_fault l links same h = ap (λ b. fault_unless b NotTree) (tree_test l links true same h)
 
-pub tree_fault : (l : Listed) (links : List LinkSpec) (e : ScenarioFault) → links ≡ links_listed l.topology l.nodes l.delay l.links.items
+pub tree_fault : (l : Listed) (links : List LinkSpec) (e : ScenarioFault) → links ≡ links_listed l.topology l.nodes l.delays l.links.items
     → (e ≡ NoMemory) ⊎ ((e ≡ NotTree) × (is_tree (plain_network l.nodes links []) ≡ false)) → IsFault e (faults_in l)
 unfolding meaning_faults
 tree_fault l links e same (inl memory) = inl memory
 tree_fault l links e same (inr (is, wrong)) =
     here (Tree l) _ e (inr (ap (λ b. first (fault_unless b NotTree)) (tree_test l links false same wrong) ∙ ap Some (sym is)))
 
-module _ (l : Listed) (links : List LinkSpec) (e : ScenarioFault) (same : links ≡ links_listed l.topology l.nodes l.delay l.links.items) (tree : is_tree (plain_network l.nodes links []) ≡ true) where
+module _ (l : Listed) (links : List LinkSpec) (e : ScenarioFault) (same : links ≡ links_listed l.topology l.nodes l.delays l.links.items) (tree : is_tree (plain_network l.nodes links []) ≡ true) where
   pub place_fault : first (Placed l) ≡ Some e → IsFault e (faults_in l)
   unfolding meaning_faults plain_of
   place_fault h = later (Tree l) _ e (no_tree_fault l links same tree) (here (Placed l) _ e (inr h))
@@ -122,6 +122,6 @@ unfolding plain_of
 accepted_made l range pages none = accepted_from (plain_of l) (is_star l.topology) l.members.items l.drops.items range pages refl refl none
 
 -- the delays of the links that are made
-pub delays_made : (l : Listed) (links : List LinkSpec) → links ≡ links_listed l.topology l.nodes l.delay l.links.items → InRange (plain_of l) → AllByRecursion HasDelay links
+pub delays_made : (l : Listed) (links : List LinkSpec) → links ≡ links_listed l.topology l.nodes l.delays l.links.items → InRange (plain_of l) → AllByRecursion HasDelays links
 unfolding plain_of
-delays_made l links same range = subst (λ (ks : List LinkSpec). AllByRecursion HasDelay ks) (sym same) range.delays
+delays_made l links same range = subst (λ (ks : List LinkSpec). AllByRecursion HasDelays ks) (sym same) range.delays

@@ -6,15 +6,14 @@ use Rattle.std.proofs.lemmas.Str.{is_utf8-from_IsUtf8, IsUtf8-from_is_utf8}
 use Rattle.std.specs.Prelude.{IfOk, IfErr, IfSome, IsUtf8}
 use Rattle.std.specs.List.{AllByRecursion}
 use Rattle.std.specs.Str.{is_utf8}
-use Rattle.toml.specs.Data.{Data, Members}
+use Rattle.toml.specs.Data.{Members}
 use Rattle.toml.specs.Parse.{parse_document}
 use Rattle.srm_scenario.specs.declared.entry.MemberEntry.{MemberEntry}
-use Rattle.srm_scenario.specs.declared.fault.Part.{Part}
 use Rattle.srm_scenario.specs.declared.fault.ScenarioFault.{ScenarioFault}
 use Rattle.srm_scenario.specs.declared.fault.ScenarioFault.TheVariants.{NoMemory, ReadFault, TooLong, NotToml, BadKey, NotTree, BadMember, BadDraw, BadSession, BadDrop}
 use Rattle.srm_net.specs.declared.link.DropSpec.{DropSpec}
 use Rattle.srm_scenario.specs.declared.fault.Part.TheVariants as part
-use Rattle.srm_scenario.specs.Described.{array_at, described}
+use Rattle.srm_scenario.specs.Described.{array_at, version_of, described}
 use Rattle.srm_scenario.specs.Rules.{fits, fits_element, link_rules, member_rules, draw_rules, session_rules, drop_rules}
 use Rattle.srm_scenario.specs.Trees.{is_tree}
 use Rattle.srm_scenario.specs.Faults.{fault_unless, faults_by, rules_of_top, top_faults, member_faults, fits_member, fits_draw, fits_session, fits_drop, key_faults, meaning_faults, faults_of, answer, scenario_of_table, scenario_of_document, scenario_of_text, failures_after, AnswersText}
@@ -95,7 +94,7 @@ key_all : (ms : Members) → AllByRecursion IsOfText (key_faults ms)
 unfolding IsOfText key_faults
 key_all ms =
     all_append (top_faults ms) _ (of_unless (fits (rules_of_top ms) ms) (BadKey part.Top 0) tt)
-    (all_append (faults_by (BadKey part.Link) (fits_element link_rules) 0 (array_at (codes "link") ms)) _ (of_faults_by (BadKey part.Link) (fits_element link_rules) 0 (array_at (codes "link") ms) (λ i. tt))
+    (all_append (faults_by (BadKey part.Link) (fits_element (link_rules (version_of ms))) 0 (array_at (codes "link") ms)) _ (of_faults_by (BadKey part.Link) (fits_element (link_rules (version_of ms))) 0 (array_at (codes "link") ms) (λ i. tt))
     (all_append (faults_by (BadKey part.Member) (fits_element member_rules) 0 (array_at (codes "member") ms)) _ (of_faults_by (BadKey part.Member) (fits_element member_rules) 0 (array_at (codes "member") ms) (λ i. tt))
     (all_append (faults_by (BadKey part.Draw) (fits_element draw_rules) 0 (array_at (codes "draw") ms)) _ (of_faults_by (BadKey part.Draw) (fits_element draw_rules) 0 (array_at (codes "draw") ms) (λ i. tt))
     (all_append (faults_by (BadKey part.Session) (fits_element session_rules) 0 (array_at (codes "session") ms)) _ (of_faults_by (BadKey part.Session) (fits_element session_rules) 0 (array_at (codes "session") ms) (λ i. tt))

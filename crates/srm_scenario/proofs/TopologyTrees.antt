@@ -1,14 +1,14 @@
 -- The topologies grow from node 0, one node after the other.
-use Rattle.std.proofs.Common.{◌≡◌, ◌≢◌, ◌⊎◌, ℕ, zero, suc, ◌+◌, ◌-◌, ◌/◌, ◌<◌, ◌≤◌, Bool, true, false, cond, List, [], ◌∷◌, length, Option, Some, None, All, slice_get, nat_le, refl, sym, ap, ◌∙◌, subst, arith, inl, inr, eqb}
+use Rattle.std.proofs.Common.{◌≡◌, ℕ, zero, suc, ◌+◌, ◌-◌, ◌/◌, ◌<◌, ◌≤◌, cond, length, Some, slice_get, nat_le, refl, ap, ◌∙◌, arith, inl, inr}
 use Rattle.std.proofs.lemmas.Bool.{cases_Bool}
 use Rattle.std.proofs.lemmas.Bool.Decides.{nat_tests}
 use Rattle.std.proofs.lemmas.List.Elements.{All-from_recursion}
 use Rattle.std.proofs.Math.Nat.{div-le_self}
 use Rattle.std.specs.List.{AllByRecursion}
-use Rattle.std.specs.Prelude.{◌||◌, ◌==◌}
 use Rattle.srm_net.specs.declared.link.LinkSpec.{LinkSpec}
-use Rattle.srm_net.specs.Network.{IsWithin, IsTree, plain_network}
-use Rattle.srm_net.proofs.Parents.{JoinsParents, parents_tree}
+use Rattle.srm_net.specs.Network.{IsWithin}
+use Rattle.srm_net.proofs.Parents.{parents_tree}
+use Rattle.srm_scenario.specs.declared.delays.Delays.{Delays}
 use Rattle.srm_scenario.specs.declared.topology.Topology.{Topology}
 use Rattle.srm_scenario.specs.declared.topology.Topology.TheVariants.{Chain, Star, Tree}
 use Rattle.srm_scenario.specs.Described.{parent_in, links_to_parents}
@@ -29,34 +29,35 @@ parent_below (Tree degree) v h some =
           omega (arith, div-le_self (v - degree - 1) (degree - 1)))
     ]
 
-link_at : Topology → ℕ → ℕ → LinkSpec
-link_at t delay v = record { a = parent_in t v; b = v; delay = delay }
+link_at : Topology → Delays → ℕ → LinkSpec
+link_at t delays v = record { a = parent_in t v; b = v; delay = delays.delay; back = delays.back }
 
-links_length : (t : Topology) (delay v n : ℕ) → length (links_to_parents t delay v n) ≡ n
-links_length t delay v zero = refl
-links_length t delay v (suc n) = ap suc (links_length t delay (v + 1) n)
+links_length : (t : Topology) (delays : Delays) (v n : ℕ) → length (links_to_parents t delays v n) ≡ n
+links_length t delays v zero = refl
+links_length t delays v (suc n) = ap suc (links_length t delays (v + 1) n)
 
 -- a link by its number
-nth_link : (t : Topology) (delay v n i : ℕ) → i < n → slice_get (links_to_parents t delay v n) i ≡ Some (link_at t delay (v + i))
+nth_link : (t : Topology) (delays : Delays) (v n i : ℕ) → i < n → slice_get (links_to_parents t delays v n) i ≡ Some (link_at t delays (v + i))
 unfolding link_at
-nth_link t delay v zero i lt = absurd (omega arith)
-nth_link t delay v (suc n) zero lt = ap (λ k. Some (link_at t delay k)) (omega arith)
-nth_link t delay v (suc n) (suc i) lt = nth_link t delay (v + 1) n i (omega arith) ∙ ap (λ k. Some (link_at t delay k)) (omega arith)
+nth_link t delays v zero i lt = absurd (omega arith)
+nth_link t delays v (suc n) zero lt = ap (λ k. Some (link_at t delays k)) (omega arith)
+nth_link t delays v (suc n) (suc i) lt = nth_link t delays (v + 1) n i (omega arith) ∙ ap (λ k. Some (link_at t delays k)) (omega arith)
 
-ends_within : (t : Topology) (delay nodes v n : ℕ) → HasDegree (Some t) → 1 ≤ v → v + n ≤ nodes → AllByRecursion (IsWithin nodes) (links_to_parents t delay v n)
-ends_within t delay nodes v zero h some le = tt
-ends_within t delay nodes v (suc n) h some le =
+ends_within : (t : Topology) (delays : Delays) (nodes v n : ℕ) → HasDegree (Some t) → 1 ≤ v → v + n ≤ nodes → AllByRecursion (IsWithin nodes) (links_to_parents t delays v n)
+ends_within t delays nodes v zero h some le = tt
+ends_within t delays nodes v (suc n) h some le =
     let below = parent_below t v h some in
-    ((omega arith, omega arith), ends_within t delay nodes (v + 1) n h (omega arith) (omega arith))
+    ((omega arith, omega arith), ends_within t delays nodes (v + 1) n h (omega arith) (omega arith))
 
 pub topologies : TopologiesAreTrees
 unfolding link_at
-topologies t h delay nodes some few =
-    let ks = links_to_parents t delay 1 (nodes - 1) in
-    let many : length ks + 1 ≡ nodes = omega (arith, links_length t delay 1 (nodes - 1)) in
-    parents_tree (parent_in t) nodes ks some few (All-from_recursion (IsWithin nodes) ks (ends_within t delay nodes 1 (nodes - 1) h (omega arith) (omega arith))) many
+topologies t h delays nodes some few =
+    let ks = links_to_parents t delays 1 (nodes - 1) in
+    let many : length ks + 1 ≡ nodes = omega (arith, links_length t delays 1 (nodes - 1)) in
+    parents_tree (parent_in t) nodes ks some few (All-from_recursion (IsWithin nodes) ks (ends_within t delays nodes 1 (nodes - 1) h (omega arith) (omega arith))) many
     (record {
       below = λ v one. parent_below t v h one;
-      delay = λ i. delay;
-      link = λ i lt. nth_link t delay 1 (nodes - 1) i (omega (arith, links_length t delay 1 (nodes - 1))) ∙ ap (λ k. Some (link_at t delay k)) (omega arith);
+      delay = λ i. delays.delay;
+      back = λ i. delays.back;
+      link = λ i lt. nth_link t delays 1 (nodes - 1) i (omega (arith, links_length t delays 1 (nodes - 1))) ∙ ap (λ k. Some (link_at t delays k)) (omega arith);
     })

@@ -1,5 +1,5 @@
 -- The scenario that a table describes, wherever its keys are as the format asks.
-use Rattle.std.specs.Prelude.{ℕ, zero, suc, ◌+◌, ◌-◌, ◌/◌, pos, Bool, true, false, List, [], ◌∷◌, Option, Some, None, is_some, unwrap_or, codes, map, nat_le, if◌then◌else◌}
+use Rattle.std.specs.Prelude.{ℕ, zero, suc, ◌+◌, ◌-◌, ◌/◌, pos, Bool, false, List, [], ◌∷◌, Option, Some, None, unwrap_or, codes, map, nat_le, ◌==◌, if◌then◌else◌}
 use Rattle.std.specs.Option.{option_and_then}
 use Rattle.toml.specs.Data.{Data, Items, Members, integer, array, table, no_items, item, no_members, get_member}
 use Rattle.srm_net.specs.declared.role.Role.{Role}
@@ -12,6 +12,9 @@ use Rattle.srm_scenario.specs.declared.parts.Constants.{Constants}
 use Rattle.srm_scenario.specs.declared.parts.MemberSpec.{MemberSpec}
 use Rattle.srm_scenario.specs.declared.parts.DrawSpec.{DrawSpec}
 use Rattle.srm_scenario.specs.declared.parts.SessionSpec.{SessionSpec}
+use Rattle.srm_scenario.specs.declared.delays.Delays.{Delays}
+use Rattle.srm_scenario.specs.declared.version.Version.{Version}
+use Rattle.srm_scenario.specs.declared.version.Version.TheVariants.{One, Two}
 use Rattle.srm_scenario.specs.declared.topology.Topology.{Topology}
 use Rattle.srm_scenario.specs.declared.topology.Topology.TheVariants.{Chain, Star, Tree}
 use Rattle.srm_scenario.specs.Plain.{PlainScenario}
@@ -57,10 +60,23 @@ abbrev pub table_of : Data → Members
 table_of (table ms) = ms
 table_of d = no_members
 
+-- the version of the format that a file names
+abbrev pub version_of : Members → Version
+version_of ms = if number (codes "version") ms == 2 then Two else One
+
 -- ---- elements
 
+-- the delay in the other direction, which is the same where none is given for it
+abbrev pub back_at : Members → ℕ
+back_at ms = unwrap_or (number_at (codes "back") ms) (number (codes "delay") ms)
+
 abbrev pub link_of : Members → LinkSpec
-link_of ms = record { a = number (codes "a") ms; b = number (codes "b") ms; delay = number (codes "delay") ms }
+link_of ms = record {
+  a = number (codes "a") ms;
+  b = number (codes "b") ms;
+  delay = number (codes "delay") ms;
+  back = back_at ms;
+}
 
 abbrev pub role_of : Members → Role
 role_of ms =
@@ -117,11 +133,15 @@ parent_in Chain v = v - 1
 parent_in Star v = 0
 parent_in (Tree degree) v = if nat_le v degree then 0 else 1 + (v - degree - 1) / (degree - 1)
 
--- n links, each joining a node to its parent, from node v on
-abbrev pub links_to_parents : Topology → ℕ → ℕ → ℕ → List LinkSpec
-links_to_parents t delay v zero = []
-links_to_parents t delay v (suc n) = record { a = parent_in t v; b = v; delay = delay }
-    ∷ links_to_parents t delay (v + 1) n
+-- n links, each joining a node to its parent, from node v on, with these delays from the parent to the node and back
+abbrev pub links_to_parents : Topology → Delays → ℕ → ℕ → List LinkSpec
+links_to_parents t delays v zero = []
+links_to_parents t delays v (suc n) = record { a = parent_in t v; b = v; delay = delays.delay; back = delays.back }
+    ∷ links_to_parents t delays (v + 1) n
+
+-- the delays of each link of a topology
+abbrev pub delays_of : Members → Delays
+delays_of ms = record { delay = number (codes "delay") ms; back = back_at ms }
 
 abbrev pub nodes_in : Option Topology → Members → ℕ
 nodes_in None ms = number (codes "nodes") ms
@@ -129,7 +149,7 @@ nodes_in (Some t) ms = number (codes "size") ms
 
 abbrev pub links_in : Option Topology → Members → List LinkSpec
 links_in None ms = elements_at (codes "link") link_of ms
-links_in (Some t) ms = links_to_parents t (number (codes "delay") ms) 1 (number (codes "size") ms - 1)
+links_in (Some t) ms = links_to_parents t (delays_of ms) 1 (number (codes "size") ms - 1)
 
 -- ---- the scenario
 

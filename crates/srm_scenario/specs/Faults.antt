@@ -1,12 +1,12 @@
 -- What is wrong with a table or a text that is to be a scenario, and the scenario where nothing is.
-use Rattle.std.specs.Prelude.{⊤, ◌≡◌, ◌⊎◌, ℕ, ◌+◌, Bool, true, false, not, ◌&&◌, ◌||◌, List, [], ◌∷◌, ◌++◌, Option, Some, None, Result, Ok, Err, is_some, codes, length, slice_get, map, nat_le, nat_lt, ◌==◌, if◌then◌else◌}
+use Rattle.std.specs.Prelude.{⊤, ◌≡◌, ◌⊎◌, ℕ, ◌+◌, Bool, true, false, not, ◌&&◌, ◌||◌, List, [], ◌∷◌, ◌++◌, Option, Some, None, Result, Ok, Err, is_some, codes, length, slice_get, nat_le, nat_lt, ◌==◌, if◌then◌else◌}
 use Rattle.std.specs.List.{list_any}
 use Rattle.std.specs.Io.KnownBytes.{IsAtEnd}
 use Rattle.std.specs.Str.{is_utf8}
 use Rattle.toml.specs.Data.{Data, Members, get_member}
 use Rattle.toml.specs.Parse.{parse_document}
 use Rattle.srm_net.specs.declared.role.Role.{Role}
-use Rattle.srm_net.specs.declared.role.Role.TheVariants.{Sender, Receiver, Late, Listener}
+use Rattle.srm_net.specs.declared.role.Role.TheVariants.{Sender, Late, Listener}
 use Rattle.srm_net.specs.declared.link.DropSpec.{DropSpec}
 use Rattle.srm_scenario.specs.declared.fault.Part.{Part}
 use Rattle.srm_scenario.specs.declared.fault.Part.TheVariants as part
@@ -17,11 +17,11 @@ use Rattle.srm_scenario.specs.declared.parts.MemberSpec.{MemberSpec}
 use Rattle.srm_scenario.specs.declared.parts.DrawSpec.{DrawSpec}
 use Rattle.srm_scenario.specs.declared.parts.SessionSpec.{SessionSpec}
 use Rattle.srm_scenario.specs.declared.topology.Topology.{Topology}
-use Rattle.srm_scenario.specs.declared.topology.Topology.TheVariants.{Chain, Star, Tree}
+use Rattle.srm_scenario.specs.declared.topology.Topology.TheVariants.{Star}
 use Rattle.srm_scenario.specs.Plain.{PlainScenario, network_of}
 use Rattle.srm_scenario.specs.Trees.{is_tree}
 use Rattle.srm_scenario.specs.Rules.{Rule, top_rules, link_rules, member_rules, draw_rules, session_rules, drop_rules, fits, fits_element}
-use Rattle.srm_scenario.specs.Described.{member_of, says, array_at, table_of, elements_at, topology_of, listed_drops, described}
+use Rattle.srm_scenario.specs.Described.{version_of, member_of, says, array_at, table_of, elements_at, topology_of, listed_drops, described}
 
 -- one fault for each element that fails a test, at its place, the first element being at place i
 abbrev pub faults_by : {A : Type 0} → (ℕ → ScenarioFault) → (A → Bool) → ℕ → List A → List ScenarioFault
@@ -52,9 +52,9 @@ accepted rules reading ms = if fits rules ms then Some (reading ms) else None
 abbrev pub accepted_element : {A : Type 0} → List Rule → (Members → A) → Data → Option A
 accepted_element rules reading d = if fits_element rules d then Some (reading (table_of d)) else None
 
--- the top table's rules, by the topology that it names
+-- the top table's rules, by its version and the topology that it names
 abbrev pub rules_of_top : Members → List Rule
-rules_of_top ms = top_rules (is_some (get_member (codes "topology") ms)) (says (codes "topology") (codes "tree") ms)
+rules_of_top ms = top_rules (version_of ms) (is_some (get_member (codes "topology") ms)) (says (codes "topology") (codes "tree") ms)
 
 abbrev pub top_faults : Members → List ScenarioFault
 top_faults ms = fault_unless (fits (rules_of_top ms) ms) (BadKey part.Top 0)
@@ -148,7 +148,7 @@ unfoldable pub key_faults : Members → List ScenarioFault
 key_faults ms =
     all_of (
     top_faults ms
-    ∷ element_faults part.Link link_rules (array_at (codes "link") ms)
+    ∷ element_faults part.Link (link_rules (version_of ms)) (array_at (codes "link") ms)
     ∷ element_faults part.Member member_rules (array_at (codes "member") ms)
     ∷ element_faults part.Draw draw_rules (array_at (codes "draw") ms)
     ∷ element_faults part.Session session_rules (array_at (codes "session") ms)

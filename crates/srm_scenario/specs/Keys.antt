@@ -1,13 +1,16 @@
 -- What look-ups in a table give.
-use Rattle.std.specs.Prelude.{◌≡◌, ℕ, ◌≤◌, ◌^◌, Bool, true, false, ◌&&◌, List, Option, Some, None, codes, is_some, length}
+use Rattle.std.specs.Prelude.{◌≡◌, ℕ, ◌≤◌, ◌^◌, Bool, true, List, Option, Some, None, codes, is_some, length}
 use Rattle.std.specs.List.{list_all}
-use Rattle.toml.specs.Data.{Data, Items, Members, get_member}
+use Rattle.toml.specs.Data.{Data, Members, get_member}
+use Rattle.srm_net.specs.Network.{IsLinkDelay}
+use Rattle.srm_scenario.specs.declared.delays.Delays.{Delays}
+use Rattle.srm_scenario.specs.declared.version.Version.{Version}
 use Rattle.srm_scenario.specs.declared.topology.Topology.{Topology}
 use Rattle.srm_scenario.specs.declared.topology.Topology.TheVariants.{Tree}
 use Rattle.srm_scenario.specs.declared.parts.Constants.{Constants}
 use Rattle.srm_scenario.specs.Accepted.{AreConstants}
-use Rattle.srm_scenario.specs.Rules.{Kind, Need, Rule, rule, whole, numbers, elements, required, optional, is_met, is_whole, is_kind, topology_rule, degree_rule, number_rules, shape_rules, array_rules}
-use Rattle.srm_scenario.specs.Described.{number, number_at, number_of, items_list, array_at, says, topology_of, constants_of, nodes_in}
+use Rattle.srm_scenario.specs.Rules.{Rule, rule, whole, elements, required, optional, is_met, is_whole, topology_rule, back_rule, degree_rule, number_rules, shape_rules, array_rules}
+use Rattle.srm_scenario.specs.Described.{number, number_at, number_of, array_at, says, version_of, topology_of, delays_of, constants_of, nodes_in}
 
 -- the value is this whole number, from low to high
 pub record IsNumber (low high : ℕ) (d : Data) (n : ℕ) : Type 0 where
@@ -34,6 +37,12 @@ pub record MayHaveNumber (key : List ℕ) (low high : ℕ) (ms : Members) (n : O
   pub is : number_at key ms ≡ n
   pub within : IsWithin low high n
 
+-- this delay, or none, stands at the key `back`, where a table may have one
+pub record HasBack (allowed : Bool) (ms : Members) (n : Option ℕ) : Type 0 where
+  pub met : is_met ms (back_rule allowed) ≡ true
+  pub is : number_at (codes "back") ms ≡ n
+  pub within : IsWithin 1 1000000 n
+
 -- these values are those of the array at a key that need not be there
 pub record IsArray (key : List ℕ) (most : ℕ) (ms : Members) (values : List Data) : Type 0 where
   pub met : is_met ms (rule key (elements most) optional) ≡ true
@@ -55,34 +64,36 @@ pub record HasTopology (ms : Members) (t : Option Topology) : Type 0 where
   pub there : is_some (get_member (codes "topology") ms) ≡ is_some t
   pub fits : HasDegree t
 
--- the table's end of the run and constants, as they must be
-pub record HasNumbers (ms : Members) (until : ℕ) (constants : Constants) : Type 0 where
+-- the table's version, end of the run and constants, as they must be
+pub record HasNumbers (ms : Members) (version : Version) (until : ℕ) (constants : Constants) : Type 0 where
   pub met : list_all (is_met ms) number_rules ≡ true
+  pub version_is : version_of ms ≡ version
   pub until_is : number (codes "until") ms ≡ until
   pub some_ticks : 1 ≤ until
   pub few_ticks : until ≤ 2 ^ 40
   pub constants_are : constants_of ms ≡ constants
   pub constants_fit : AreConstants constants
 
--- the rules of the table's nodes and links
-abbrev pub shape_of : Members → List Rule
-shape_of ms = shape_rules (is_some (get_member (codes "topology") ms)) (says (codes "topology") (codes "tree") ms)
+-- the rules of the table's nodes and links, in a version
+abbrev pub shape_of : Version → Members → List Rule
+shape_of version ms = shape_rules version (is_some (get_member (codes "topology") ms)) (says (codes "topology") (codes "tree") ms)
 
--- the delay of a topology's links is 1 to 1,000,000
-abbrev pub IsDelay : Option Topology → ℕ → Type 0
-IsDelay None delay = Unit {0}
-IsDelay (Some t) delay = (1 ≤ delay) × (delay ≤ 1000000)
+-- the delays of a topology's links are 1 to 1,000,000
+abbrev pub AreDelays : Option Topology → Delays → Type 0
+AreDelays None delays = Unit {0}
+AreDelays (Some t) delays = IsLinkDelay delays.delay × IsLinkDelay delays.back
 
--- the table's topology, nodes, delay of each link, and links, as they must be
-pub record HasShape (ms : Members) (t : Option Topology) (nodes delay : ℕ) (links : List Data) : Type 0 where
-  pub met : list_all (is_met ms) (shape_of ms) ≡ true
+-- the table's topology, nodes, delays of each link, and links, as they must be in a version
+pub record HasShape (version : Version) (ms : Members) (t : Option Topology) (nodes : ℕ) (delays : Delays)
+    (links : List Data) : Type 0 where
+  pub met : list_all (is_met ms) (shape_of version ms) ≡ true
   pub topology_is : topology_of ms ≡ t
   pub topology_fits : HasDegree t
   pub nodes_are : nodes_in (topology_of ms) ms ≡ nodes
   pub some_nodes : 1 ≤ nodes
   pub few_nodes : nodes ≤ 256
-  pub delay_is : number (codes "delay") ms ≡ delay
-  pub delay_fits : IsDelay t delay
+  pub delays_are : delays_of ms ≡ delays
+  pub delays_fit : AreDelays t delays
   pub links_are : links ≡ array_at (codes "link") ms
 
 -- the table's other arrays, as they must be

@@ -6,12 +6,13 @@ use Rattle.srm_net.specs.DropSets.{ordered_once}
 use Rattle.srm_net.specs.Paths.{drop_cmp}
 use Rattle.srm_scenario.specs.declared.fault.ScenarioFault.{ScenarioFault}
 use Rattle.srm_scenario.specs.declared.listed.Listed.{Listed}
+use Rattle.srm_scenario.specs.declared.delays.Delays.{Delays}
 use Rattle.srm_scenario.specs.declared.topology.Topology.{Topology}
 use Rattle.srm_scenario.specs.Accepted.{AreConstants}
 use Rattle.srm_scenario.specs.Plain.{PlainScenario}
-use Rattle.srm_scenario.specs.Described.{number, constants_of, topology_of, nodes_in, elements_at, link_of, draw_of, session_of, listed_drops, links_to_parents}
+use Rattle.srm_scenario.specs.Described.{number, constants_of, topology_of, delays_of, nodes_in, elements_at, link_of, draw_of, session_of, listed_drops, links_to_parents}
 use Rattle.srm_scenario.specs.Faults.{key_faults, meaning_faults, is_star, entry_of}
-use Rattle.srm_scenario.specs.Keys.{HasDegree, IsDelay}
+use Rattle.srm_scenario.specs.Keys.{HasDegree, AreDelays}
 
 -- this is what the table lists, no key of which is a fault
 pub record IsListed (ms : Members) (l : Listed) : Type 0 where
@@ -25,8 +26,8 @@ pub record IsListed (ms : Members) (l : Listed) : Type 0 where
   pub degree : HasDegree l.topology
   pub nodes : nodes_in (topology_of ms) ms ≡ l.nodes
   pub some_nodes : 1 ≤ l.nodes
-  pub delay : number (codes "delay") ms ≡ l.delay
-  pub delay_fits : IsDelay l.topology l.delay
+  pub delays : delays_of ms ≡ l.delays
+  pub delays_fit : AreDelays l.topology l.delays
   pub links : elements_at (codes "link") link_of ms ≡ l.links.items
   pub members : elements_at (codes "member") entry_of ms ≡ l.members.items
   pub draws : elements_at (codes "draw") draw_of ms ≡ l.draws.items
@@ -38,9 +39,9 @@ pub record IsListed (ms : Members) (l : Listed) : Type 0 where
 -- ---- the scenario of what is listed
 
 -- the links of a topology with so many nodes, or else those listed
-abbrev pub links_listed : Option Topology → ℕ → ℕ → List LinkSpec → List LinkSpec
-links_listed None nodes delay links = links
-links_listed (Some t) nodes delay links = links_to_parents t delay 1 (nodes - 1)
+abbrev pub links_listed : Option Topology → ℕ → Delays → List LinkSpec → List LinkSpec
+links_listed None nodes delays links = links
+links_listed (Some t) nodes delays links = links_to_parents t delays 1 (nodes - 1)
 
 -- the scenario of what is listed
 unfoldable pub plain_of : Listed → PlainScenario
@@ -48,7 +49,7 @@ plain_of l = record {
   until = l.until;
   constants = l.constants;
   nodes = l.nodes;
-  links = links_listed l.topology l.nodes l.delay l.links.items;
+  links = links_listed l.topology l.nodes l.delays l.links.items;
   members = map (λ e. e.spec) l.members.items;
   draws = l.draws.items;
   sessions = l.sessions.items;

@@ -1,7 +1,7 @@
 -- What the ranges of a scenario file's keys give.
 use Rattle.std.specs.Prelude.{◌≡◌, ℕ, ◌≤◌, ◌<◌, ◌^◌, false, [], Some, length}
 use Rattle.std.specs.List.{AllByRecursion}
-use Rattle.srm_net.specs.Network.{HasDelay}
+use Rattle.srm_net.specs.Network.{HasDelays}
 use Rattle.srm_scenario.specs.declared.entry.MemberEntry.{MemberEntry}
 use Rattle.srm_scenario.specs.declared.parts.MemberSpec.{MemberSpec}
 use Rattle.srm_scenario.specs.Plain.{PlainScenario}
@@ -21,7 +21,7 @@ pub record InRange (s : PlainScenario) : Type 0 where
   pub some_ticks : 1 ≤ s.until
   pub few_ticks : s.until ≤ 2 ^ 40
   pub constants : AreConstants s.constants
-  pub delays : AllByRecursion HasDelay s.links
+  pub delays : AllByRecursion HasDelays s.links
   pub members : AllByRecursion MemberInRange s.members
   pub few_draws : length s.draws ≤ 4096
   pub few_sessions : length s.sessions ≤ 4096

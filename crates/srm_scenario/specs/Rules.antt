@@ -1,7 +1,9 @@
--- The keys of a scenario file, format version 1: what each may hold, and whether it must be there.
-use Rattle.std.specs.Prelude.{ℕ, suc, ◌+◌, ◌^◌, pos, Bool, true, false, ◌&&◌, List, [], ◌∷◌, ◌++◌, Option, Some, None, codes, map, nat_le, if◌then◌else◌}
+-- The keys of a scenario file: what each may hold, and whether it must be there, in each version of the format.
+use Rattle.std.specs.Prelude.{ℕ, suc, ◌^◌, pos, Bool, true, false, ◌&&◌, List, [], ◌∷◌, ◌++◌, Option, Some, None, codes, map, nat_le, if◌then◌else◌}
 use Rattle.std.specs.List.{list_any, list_all}
 use Rattle.std.specs.Str.{bytes_eq}
+use Rattle.srm_scenario.specs.declared.version.Version.{Version}
+use Rattle.srm_scenario.specs.declared.version.Version.TheVariants.{One, Two}
 use Rattle.toml.specs.Data.{Data, Items, Members, integer, string, array, table, no_items, item, no_members, member, get_member}
 
 -- what a key may hold
@@ -35,7 +37,7 @@ rule key kind need = record { key = key; kind = kind; need = need }
 -- numbers of the top table
 abbrev pub number_rules : List Rule
 number_rules =
-    rule (codes "version") (whole 1 1) required
+    rule (codes "version") (whole 1 2) required
     ∷ rule (codes "until") (whole 1 (2 ^ 40)) required
     ∷ rule (codes "c1") (whole 0 64000) required
     ∷ rule (codes "c2") (whole 0 64000) required
@@ -50,13 +52,23 @@ topology_rule = rule (codes "topology") (word (codes "chain" ∷ codes "star" �
 abbrev pub degree_rule : Bool → Rule
 degree_rule tree = rule (codes "degree") (whole 2 255) (if tree then required else refused)
 
+-- whether links may have a second delay
+abbrev pub allows_back : Version → Bool
+allows_back One = false
+allows_back Two = true
+
+-- the second delay of a link, or of each link of a topology
+abbrev pub back_rule : Bool → Rule
+back_rule allowed = rule (codes "back") (whole 1 1000000) (if allowed then optional else refused)
+
 -- nodes and links, in the top table: `shaped` where it names a topology, `tree` where that is a tree
-abbrev pub shape_rules : Bool → Bool → List Rule
-shape_rules shaped tree =
+abbrev pub shape_rules : Version → Bool → Bool → List Rule
+shape_rules version shaped tree =
     rule (codes "nodes") (whole 1 256) (if shaped then refused else required)
     ∷ topology_rule
     ∷ rule (codes "size") (whole 1 256) (if shaped then required else refused)
     ∷ rule (codes "delay") (whole 1 1000000) (if shaped then required else refused)
+    ∷ back_rule (shaped && allows_back version)
     ∷ degree_rule tree
     ∷ rule (codes "link") (elements 255) (if shaped then refused else optional)
     ∷ []
@@ -70,14 +82,15 @@ array_rules =
     ∷ rule (codes "drop") (elements 4096) optional
     ∷ []
 
-abbrev pub top_rules : Bool → Bool → List Rule
-top_rules shaped tree = number_rules ++ (shape_rules shaped tree ++ array_rules)
+abbrev pub top_rules : Version → Bool → Bool → List Rule
+top_rules version shaped tree = number_rules ++ (shape_rules version shaped tree ++ array_rules)
 
-abbrev pub link_rules : List Rule
-link_rules =
+abbrev pub link_rules : Version → List Rule
+link_rules version =
     rule (codes "a") (whole 0 255) required
     ∷ rule (codes "b") (whole 0 255) required
     ∷ rule (codes "delay") (whole 1 1000000) required
+    ∷ back_rule (allows_back version)
     ∷ []
 
 -- the rules of two keys of a member

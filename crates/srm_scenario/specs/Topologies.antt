@@ -1,6 +1,7 @@
 -- What the topologies are.
 use Rattle.std.specs.Prelude.{ℕ, ◌-◌, ◌≤◌, [], Some}
 use Rattle.srm_net.specs.Network.{IsTree, plain_network}
+use Rattle.srm_scenario.specs.declared.delays.Delays.{Delays}
 use Rattle.srm_scenario.specs.declared.topology.Topology.{Topology}
 use Rattle.srm_scenario.specs.Described.{links_to_parents}
 use Rattle.srm_scenario.specs.Keys.{HasDegree}
@@ -8,5 +9,5 @@ use Rattle.srm_scenario.specs.Keys.{HasDegree}
 -- each topology with 1 to 256 nodes is a tree, so that none of them is refused as no tree
 abbrev pub TopologiesAreTrees : Type 0
 TopologiesAreTrees =
-    (t : Topology) → HasDegree (Some t) → (delay nodes : ℕ) → 1 ≤ nodes → nodes ≤ 256
-    → IsTree (plain_network nodes (links_to_parents t delay 1 (nodes - 1)) [])
+    (t : Topology) → HasDegree (Some t) → (delays : Delays) (nodes : ℕ) → 1 ≤ nodes → nodes ≤ 256
+    → IsTree (plain_network nodes (links_to_parents t delays 1 (nodes - 1)) [])

@@ -7,7 +7,8 @@ ghost use Rattle.srm_scenario.specs.Faults.{accepted};
 
 use crate::element::Element;
 use crate::parts::{DrawSpec, SessionSpec};
-use crate::table::{has_only, number};
+use crate::table::{back, has_only, number};
+use crate::version::Version;
 use srm_net::link::{DropSpec, LinkSpec};
 use srm_net::packet::PacketId;
 use std::alloc::{AllocError, Global};
@@ -16,19 +17,21 @@ use toml::Table;
 /// The last tick that a file may name: 2^40.
 pub(crate) const LAST_TICK: u64 = 1_099_511_627_776;
 
-fn link_of(table: &Table) -> Option<LinkSpec>
-    ensures { result ≡ accepted link_rules link_of (table_view table.now) }
+fn link_of(version: Version, table: &Table) -> Option<LinkSpec>
+    ensures { result ≡ accepted (link_rules version) link_of (table_view table.now) }
 {
-    if !has_only(table, &["a", "b", "delay"]) {
+    if !has_only(table, &["a", "b", "delay", "back"]) {
         return None;
     }
     let a = number(table, "a", 0, 255)?;
     let b = number(table, "b", 0, 255)?;
     let delay = number(table, "delay", 1, 1_000_000)?;
+    let back = back(table, version.allows_back())?;
     Some(LinkSpec {
         a: a as u16,
         b: b as u16,
         delay,
+        back: back.unwrap_or(delay),
     })
 }
 
@@ -90,8 +93,8 @@ impl Element for LinkSpec {
 
     ghost reading = { link_of };
 
-    fn read(_alloc: Global, table: &Table) -> Result<Option<Self>, AllocError> {
-        Ok(link_of(table))
+    fn read(_alloc: Global, version: Version, table: &Table) -> Result<Option<Self>, AllocError> {
+        Ok(link_of(version, table))
     }
 }
 
@@ -99,11 +102,11 @@ impl Element for DrawSpec {
     ghost use Rattle.srm_scenario.specs.Rules.{draw_rules};
     ghost use Rattle.srm_scenario.specs.Described.{draw_of};
 
-    ghost rules = { draw_rules };
+    ghost rules = { λ _. draw_rules };
 
     ghost reading = { draw_of };
 
-    fn read(_alloc: Global, table: &Table) -> Result<Option<Self>, AllocError> {
+    fn read(_alloc: Global, _version: Version, table: &Table) -> Result<Option<Self>, AllocError> {
         Ok(draw_of(table))
     }
 }
@@ -112,11 +115,11 @@ impl Element for SessionSpec {
     ghost use Rattle.srm_scenario.specs.Rules.{session_rules};
     ghost use Rattle.srm_scenario.specs.Described.{session_of};
 
-    ghost rules = { session_rules };
+    ghost rules = { λ _. session_rules };
 
     ghost reading = { session_of };
 
-    fn read(_alloc: Global, table: &Table) -> Result<Option<Self>, AllocError> {
+    fn read(_alloc: Global, _version: Version, table: &Table) -> Result<Option<Self>, AllocError> {
         Ok(session_of(table))
     }
 }
@@ -125,11 +128,11 @@ impl Element for DropSpec {
     ghost use Rattle.srm_scenario.specs.Rules.{drop_rules};
     ghost use Rattle.srm_scenario.specs.Described.{drop_of};
 
-    ghost rules = { drop_rules };
+    ghost rules = { λ _. drop_rules };
 
     ghost reading = { drop_of };
 
-    fn read(_alloc: Global, table: &Table) -> Result<Option<Self>, AllocError> {
+    fn read(_alloc: Global, _version: Version, table: &Table) -> Result<Option<Self>, AllocError> {
         Ok(drop_of(table))
     }
 }

@@ -9,6 +9,7 @@ use crate::element::Element;
 use crate::elements::LAST_TICK;
 use crate::parts::MemberSpec;
 use crate::table::{array, has_key, has_only, number, optional_number, text, whole};
+use crate::version::Version;
 use srm_net::role::Role;
 use srm_net::sequence::Sequence;
 use std::alloc::{AllocError, Global};
@@ -115,11 +116,11 @@ impl Element for MemberEntry {
     ghost use Rattle.srm_scenario.specs.Rules.{member_rules};
     ghost use Rattle.srm_scenario.specs.Faults.{entry_of};
 
-    ghost rules = { member_rules };
+    ghost rules = { λ _. member_rules };
 
     ghost reading = { entry_of };
 
-    fn read(alloc: Global, table: &Table) -> Result<Option<Self>, AllocError> {
+    fn read(alloc: Global, _version: Version, table: &Table) -> Result<Option<Self>, AllocError> {
         entry_of(alloc, table)
     }
 }

@@ -3,6 +3,7 @@
 
 pub mod bytes;
 mod checks;
+mod delays;
 mod element;
 mod elements;
 mod entry;
@@ -18,3 +19,4 @@ pub mod script;
 mod table;
 mod top;
 pub mod topology;
+mod version;

@@ -4,6 +4,7 @@ ghost use Rattle.toml.specs.View.{table_view};
 ghost use Rattle.srm_scenario.specs.Faults.{IsFault, key_faults};
 ghost use Rattle.srm_scenario.specs.Listed.{IsListed};
 
+use crate::delays::Delays;
 use crate::element::read_elements;
 use crate::entry::MemberEntry;
 use crate::fault::{Part, ScenarioFault};
@@ -25,8 +26,8 @@ pub(crate) struct Listed {
     pub(crate) topology: Option<Topology>,
     /// How many nodes there are.
     pub(crate) nodes: u16,
-    /// The delay of each link of the topology, in ticks.
-    pub(crate) delay: u64,
+    /// The delays of each link of the topology, in ticks.
+    pub(crate) delays: Delays,
     /// The links that the table lists.
     pub(crate) links: Vec<LinkSpec>,
     /// The members.
@@ -51,17 +52,18 @@ impl Listed {
                 place: 0,
             });
         };
-        let links = read_elements(alloc, Part::Link, top.shape.links)?;
-        let members = read_elements(alloc, Part::Member, top.arrays.members)?;
-        let draws = read_elements(alloc, Part::Draw, top.arrays.draws)?;
-        let sessions = read_elements(alloc, Part::Session, top.arrays.sessions)?;
-        let drops = read_elements(alloc, Part::Drop, top.arrays.drops)?;
+        let version = top.numbers.version;
+        let links = read_elements(alloc, Part::Link, version, top.shape.links)?;
+        let members = read_elements(alloc, Part::Member, version, top.arrays.members)?;
+        let draws = read_elements(alloc, Part::Draw, version, top.arrays.draws)?;
+        let sessions = read_elements(alloc, Part::Session, version, top.arrays.sessions)?;
+        let drops = read_elements(alloc, Part::Drop, version, top.arrays.drops)?;
         Ok(Listed {
             until: top.numbers.until,
             constants: top.numbers.constants,
             topology: top.shape.topology,
             nodes: top.shape.nodes,
-            delay: top.shape.delay,
+            delays: top.shape.delays,
             links,
             members,
             draws,

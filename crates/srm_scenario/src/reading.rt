@@ -3,7 +3,7 @@ ghost use Rattle.std.specs.Prelude.{◌≡◌, ◌⊎◌, ◌≤◌, ◌<◌, tr
 ghost use Rattle.std.specs.Io.KnownBytes.{Consumes};
 ghost use Rattle.std.specs.List.{AllByRecursion};
 ghost use Rattle.toml.specs.View.{table_view};
-ghost use Rattle.srm_net.specs.Network.{plain_network, HasDelay};
+ghost use Rattle.srm_net.specs.Network.{plain_network, HasDelays};
 ghost use Rattle.srm_net.specs.DropSets.{ordered_once};
 ghost use Rattle.srm_net.specs.Paths.{drop_cmp};
 ghost use Rattle.srm_scenario.specs.Accepted.{IsAccepted};
@@ -15,6 +15,7 @@ ghost use Rattle.srm_scenario.specs.Trees.{is_tree};
 
 use crate::bytes::{LONGEST_TEXT, TextFault, read_text};
 use crate::checks::{check_draws, check_drops, check_members, check_sessions};
+use crate::delays::Delays;
 use crate::entry::MemberEntry;
 use crate::fault::ScenarioFault;
 use crate::feed::Feed;
@@ -31,7 +32,7 @@ use toml::Table;
 
 /// Links that do not make a tree of the nodes are a fault.
 fn check_tree(alloc: Global, nodes: u16, links: &[LinkSpec]) -> Result<(), ScenarioFault>
-    requires { AllByRecursion HasDelay links.now }
+    requires { AllByRecursion HasDelays links.now }
     ensures { MatchResult result
         (λ _. is_tree (plain_network nodes links.now []) ≡ true)
         (λ e. (e ≡ ScenarioFault.NoMemory) ⊎ ((e ≡ ScenarioFault.NotTree)
@@ -81,15 +82,15 @@ fn links_of(
     alloc: Global,
     topology: Option<Topology>,
     nodes: u16,
-    delay: u64,
+    delays: Delays,
     links: Vec<LinkSpec>,
 ) -> Result<Vec<LinkSpec>, AllocError>
     requires nodes { 1 ≤ nodes }
     requires degree { HasDegree topology }
-    ensures { IfOk result (λ all. all.items ≡ links_listed topology nodes delay links.items) }
+    ensures { IfOk result (λ all. all.items ≡ links_listed topology nodes delays links.items) }
 {
     match topology {
-        Some(topology) => topology.links(alloc, nodes, delay),
+        Some(topology) => topology.links(alloc, nodes, delays),
         None => Ok(links),
     }
 }
@@ -109,14 +110,14 @@ fn scenario_from(alloc: Global, listed: Listed) -> Result<Scenario, ScenarioFaul
         constants,
         topology,
         nodes,
-        delay,
+        delays,
         links,
         members: entries,
         draws,
         sessions,
         drops,
     } = listed;
-    let links = links_of(alloc, topology, nodes, delay, links)?;
+    let links = links_of(alloc, topology, nodes, delays, links)?;
     check_tree(alloc, nodes, &links)?;
     check_members(until, nodes, is_star(topology), &entries)?;
     let members = members_of(alloc, entries)?;

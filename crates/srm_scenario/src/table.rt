@@ -5,8 +5,8 @@ ghost use Rattle.toml.specs.Data.{as_str, get_member};
 ghost use Rattle.std.specs.List.{list_any};
 ghost use Rattle.std.specs.Str.{bytes_eq};
 ghost use Rattle.toml.specs.View.{view, table_view, items_view};
-ghost use Rattle.srm_scenario.specs.Rules.{rule, whole, elements, required, optional, is_met, is_whole, has_only};
-ghost use Rattle.srm_scenario.specs.Keys.{IsNumber, HasNumber, MayHaveNumber, IsArray};
+ghost use Rattle.srm_scenario.specs.Rules.{rule, whole, elements, required, optional, back_rule, is_met, is_whole, has_only};
+ghost use Rattle.srm_scenario.specs.Keys.{IsNumber, HasNumber, MayHaveNumber, HasBack, IsArray};
 
 use toml::{Table, Value};
 
@@ -67,6 +67,21 @@ pub(crate) fn optional_number(table: &Table, key: &str, low: u64, high: u64) -> 
             None => None,
         },
         None => Some(None),
+    }
+}
+
+/// The delay at the key `back`, from 1 to 1,000,000, where a table may have one: `Some(None)` where the key is not there.
+pub(crate) fn back(table: &Table, is_allowed: bool) -> Option<Option<u64>>
+    ensures { MatchOption result
+        (is_met (table_view table.now) (back_rule is_allowed) ≡ false)
+        (HasBack is_allowed (table_view table.now)) }
+{
+    if is_allowed {
+        optional_number(table, "back", 1, 1_000_000)
+    } else if has_key(table, "back") {
+        None
+    } else {
+        Some(None)
     }
 }
 

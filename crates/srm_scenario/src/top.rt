@@ -7,10 +7,12 @@ ghost use Rattle.srm_scenario.specs.Described.{says};
 ghost use Rattle.srm_scenario.specs.Faults.{rules_of_top};
 ghost use Rattle.srm_scenario.specs.Keys.{HasTopology, HasNumbers, HasShape, HasArrays, shape_of};
 
+use crate::delays::Delays;
 use crate::elements::LAST_TICK;
 use crate::parts::Constants;
-use crate::table::{array, has_key, has_only, number, text};
+use crate::table::{array, back, has_key, has_only, number, text};
 use crate::topology::Topology;
+use crate::version::Version;
 use toml::{Table, Value};
 
 /// The topology that the table names: `Some(None)` where it names none.
@@ -50,6 +52,8 @@ fn topology(table: &Table) -> Option<Option<Topology>>
 /// The numbers of the top table.
 #[derive(Clone, Copy, Debug)]
 pub(crate) struct Numbers {
+    /// The version of the format.
+    pub(crate) version: Version,
     /// When the run ends, in ticks.
     pub(crate) until: u64,
     /// The constants of the timers.
@@ -60,15 +64,20 @@ pub(crate) struct Numbers {
 fn numbers_of(table: &Table) -> Option<Numbers>
     ensures { MatchOption result
         (list_all (is_met (table_view table.now)) number_rules ≡ false)
-        (λ n. HasNumbers (table_view table.now) n.until n.constants) }
+        (λ n. HasNumbers (table_view table.now) n.version n.until n.constants) }
 {
-    number(table, "version", 1, 1)?;
+    let version = number(table, "version", 1, 2)?;
     let until = number(table, "until", 1, LAST_TICK)?;
     let c1 = number(table, "c1", 0, 64000)?;
     let c2 = number(table, "c2", 0, 64000)?;
     let d1 = number(table, "d1", 0, 64000)?;
     let d2 = number(table, "d2", 0, 64000)?;
     Some(Numbers {
+        version: if version == 2 {
+            Version::Two
+        } else {
+            Version::One
+        },
         until,
         constants: Constants {
             c1: c1 as u32,
@@ -86,21 +95,21 @@ pub(crate) struct Shape<'a> {
     pub(crate) topology: Option<Topology>,
     /// How many nodes there are: 1 to 256.
     pub(crate) nodes: u16,
-    /// The delay of each link of the topology, in ticks.
-    pub(crate) delay: u64,
+    /// The delays of each link of the topology, in ticks.
+    pub(crate) delays: Delays,
     /// The links, where they are listed.
     pub(crate) links: &'a [Value],
 }
 
 /// The nodes and links of the table, if they are as they must be.
-fn shape_of(table: &Table) -> Option<Shape<'_>>
+fn shape_of(table: &Table, version: Version) -> Option<Shape<'_>>
     ensures { MatchOption result
-        (list_all (is_met (table_view table.now)) (shape_of (table_view table.now)) ≡ false)
-        (λ s. HasShape (table_view table.now) s.topology s.nodes s.delay (map view s.links.now)) }
+        (list_all (is_met (table_view table.now)) (shape_of version (table_view table.now)) ≡ false)
+        (λ s. HasShape version (table_view table.now) s.topology s.nodes s.delays (map view s.links.now)) }
 {
     let topology = topology(table)?;
     if topology.is_none() {
-        if has_key(table, "size") || has_key(table, "delay") {
+        if has_key(table, "size") || has_key(table, "delay") || has_key(table, "back") {
             return None;
         }
         let nodes = number(table, "nodes", 1, 256)?;
@@ -108,7 +117,7 @@ fn shape_of(table: &Table) -> Option<Shape<'_>>
         return Some(Shape {
             topology,
             nodes: nodes as u16,
-            delay: 0,
+            delays: Delays { delay: 0, back: 0 },
             links,
         });
     }
@@ -117,10 +126,12 @@ fn shape_of(table: &Table) -> Option<Shape<'_>>
     }
     let size = number(table, "size", 1, 256)?;
     let delay = number(table, "delay", 1, 1_000_000)?;
+    let back = back(table, version.allows_back())?;
+    let back = back.unwrap_or(delay);
     Some(Shape {
         topology,
         nodes: size as u16,
-        delay,
+        delays: Delays { delay, back },
         links: &[],
     })
 }
@@ -173,8 +184,9 @@ pub(crate) fn top_of(table: &Table) -> Option<Top<'_>>
     ensures { MatchOption result
         (fits (rules_of_top (table_view table.now)) (table_view table.now) ≡ false)
         (λ t. (fits (rules_of_top (table_view table.now)) (table_view table.now) ≡ true)
-        × HasNumbers (table_view table.now) t.numbers.until t.numbers.constants
-        × HasShape (table_view table.now) t.shape.topology t.shape.nodes t.shape.delay (map view t.shape.links.now)
+        × HasNumbers (table_view table.now) t.numbers.version t.numbers.until t.numbers.constants
+        × HasShape t.numbers.version (table_view table.now) t.shape.topology t.shape.nodes t.shape.delays
+        (map view t.shape.links.now)
         × HasArrays (table_view table.now) (map view t.arrays.members.now) (map view t.arrays.draws.now)
         (map view t.arrays.sessions.now) (map view t.arrays.drops.now)) }
 {
@@ -182,13 +194,13 @@ pub(crate) fn top_of(table: &Table) -> Option<Top<'_>>
         table,
         &[
             "version", "until", "c1", "c2", "d1", "d2", "nodes", "topology", "size", "delay",
-            "degree", "link", "member", "draw", "session", "drop",
+            "back", "degree", "link", "member", "draw", "session", "drop",
         ],
     ) {
         return None;
     }
     let numbers = numbers_of(table)?;
-    let shape = shape_of(table)?;
+    let shape = shape_of(table, numbers.version)?;
     let arrays = arrays_of(table)?;
     Some(Top {
         numbers,

@@ -3,6 +3,7 @@ ghost use Rattle.std.specs.Prelude.{◌≡◌, ◌≤◌, ◌<◌, ◌-◌, IfOk
 ghost use Rattle.srm_scenario.specs.Described.{parent_in, links_to_parents};
 ghost use Rattle.srm_scenario.specs.Keys.{HasDegree};
 
+use crate::delays::Delays;
 use srm_net::link::LinkSpec;
 use std::alloc::{AllocError, Global};
 
@@ -40,23 +41,24 @@ impl Topology {
         }
     }
 
-    /// The links of the topology with `size` nodes, each of this delay.
+    /// The links of the topology with `size` nodes, each of these delays.
     pub(crate) fn links(
         self,
         alloc: Global,
         size: u16,
-        delay: u64,
+        delays: Delays,
     ) -> Result<Vec<LinkSpec>, AllocError>
         requires size { 1 ≤ size }
         requires degree { HasDegree (Some self) }
-        ensures { IfOk result (λ links. links.items ≡ links_to_parents self delay 1 (size - 1)) }
+        ensures { IfOk result (λ links. links.items ≡ links_to_parents self delays 1 (size - 1)) }
     {
         let mut links = Vec::new(alloc);
         for v in 1..size {
             links.push(LinkSpec {
                 a: self.parent(v),
                 b: v,
-                delay,
+                delay: delays.delay,
+                back: delays.back,
             })?;
         }
         Ok(links)

@@ -9,9 +9,9 @@ use Rattle.srm_scenario.specs.declared.parts.DrawSpec.{DrawSpec}
 use Rattle.srm_scenario.specs.declared.parts.SessionSpec.{SessionSpec}
 use Rattle.srm_scenario.specs.Plain.{PlainScenario}
 
--- a link between two nodes, with its delay
+-- a link between two nodes, with its delay in both directions
 abbrev pub link : ℕ → ℕ → ℕ → LinkSpec
-link a b delay = record { a = a; b = b; delay = delay }
+link a b delay = record { a = a; b = b; delay = delay; back = delay }
 
 -- the links of a chain, from node i on
 abbrev pub chain_links : ℕ → ℕ → ℕ → List LinkSpec

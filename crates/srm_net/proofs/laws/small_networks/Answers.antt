@@ -19,6 +19,26 @@ pub returns-clause-least : goal.returns-clause-least
 unfolding least_delay
 returns-clause-least c = refl
 
+pub returns-clause-there : goal.returns-clause-there
+unfolding route_within route distance
+returns-clause-there c = refl
+
+pub returns-clause-back : goal.returns-clause-back
+unfolding route_within route distance
+returns-clause-back c = refl
+
+pub returns-clause-round : goal.returns-clause-round
+unfolding route_within route distance
+returns-clause-round c = refl
+
+pub returns-clause-uneven_out : goal.returns-clause-uneven_out
+unfolding route_within route distance out
+returns-clause-uneven_out c = refl
+
+pub returns-clause-uneven_least : goal.returns-clause-uneven_least
+unfolding least_delay
+returns-clause-uneven_least c = refl
+
 pub returns-clause-no_out : goal.returns-clause-no_out
 unfolding out
 returns-clause-no_out c = refl

@@ -1,17 +1,18 @@
-use Rattle.std.proofs.Common.{◌≡◌, ◌∙◌, sym, ap, subst, arith, ◌+◌, ◌<◌, ◌≤◌, true, false, length, take, reverse, get_or, ◌∷◌, ◌*◌, [], slice_set}
+use Rattle.std.proofs.Common.{ℕ, ◌≡◌, ◌∙◌, sym, ap, subst, arith, ◌+◌, ◌<◌, ◌≤◌, true, false, length, take, reverse, get_or, ◌∷◌, ◌*◌, [], slice_set}
 use Rattle.std.proofs.lemmas.List.{take_all, length-set, length-replicate, length-reverse}
 use Rattle.srm_net.specs.declared.link.LinkSpec.{LinkSpec}
-use Rattle.srm_net.specs.Paths.{is_in}
+use Rattle.srm_net.specs.Paths.{is_in, delay_from}
 use Rattle.srm_net.specs.Growth.{attached}
 use Rattle.srm_net.specs.Grids.{number_at}
 use Rattle.srm_net.specs.Ways.{is_known, Extends, Leads}
 use Rattle.srm_net.proofs.Lists.{get_index}
+use Rattle.srm_net.proofs.PathLaws.{from_fits}
 use Rattle.srm_net.proofs.TreeWays.{TellsSoFar, KnownAre, tells_more, tells_root, tells_all, told_bounded, turn_at, no_step, known_more, known_root, reverse_more}
 use Rattle.srm_net.proofs.ways.Ways.of.Goals as goal
 
 -- a link of no use but as a default
 abbrev no_link : LinkSpec
-no_link = record { a = 0; b = 0; delay = 0 }
+no_link = record { a = 0; b = 0; delay = 0; back = 0 }
 
 pub loop-step-init : goal.loop-step-init
 loop-step-init c =
@@ -64,7 +65,25 @@ attach-requires-clause-fits c u h k =
     let here : number_at c.loop-step.ways.delays.width c.loop-step.ways.delays.cells.items u (get_or c.args.steps.now c.loop-step.step-index no_step).parent ≤ 255000000 =
     subst (λ n. number_at n c.loop-step.ways.delays.cells.items u (get_or c.args.steps.now c.loop-step.step-index no_step).parent ≤ 255000000) (sym c.loop-step.invariant.delays_width) bound in
     let below : c.from.result < length c.args.links.now = subst (λ l. l < length c.args.links.now) (sym c.from.ensures) t.link in
-    let small : (get_or c.args.links.now c.from.result no_link).delay ≤ 1000000 = (c.requires.delays c.from.result no_link below).1 in
+    let small : delay_from (get_or c.args.steps.now c.loop-step.step-index no_step).parent (get_or c.args.links.now c.from.result no_link) ≤ 1000000 =
+    (from_fits (get_or c.args.steps.now c.loop-step.step-index no_step).parent (get_or c.args.links.now c.from.result no_link) (c.requires.delays c.from.result no_link below)).1 in
+    let same : c.delay_from-down.result ≡ delay_from (get_or c.args.steps.now c.loop-step.step-index no_step).parent (get_or c.args.links.now c.from.result no_link) = c.delay_from-down.ensures in
+    omega arith
+
+pub attach-requires-clause-fits_back : goal.attach-requires-clause-fits_back
+attach-requires-clause-fits_back c u h k =
+    let t = turn_at c.args.nodes c.args.links.now c.args.steps.now c.loop-step.step-index c.requires.some_nodes c.requires.ends c.requires.grows c.loop-step-test.true in
+    let size : length c.as_slice.result.now ≡ c.args.nodes = ap length c.as_slice.ensures.value ∙ c.loop-step.invariant.size in
+    let inside : is_in (attached (reverse (take c.loop-step.step-index c.args.steps.now))) u ≡ true =
+    sym (ap (λ x. is_known x u) c.as_slice.ensures.value ∙ c.loop-step.invariant.known u (omega arith)) ∙ k in
+    let bound : number_at c.args.nodes c.loop-step.ways.delays.cells.items (get_or c.args.steps.now c.loop-step.step-index no_step).parent u ≤ 255000000 =
+    told_bounded c.args.nodes c.args.links.now (reverse (take c.loop-step.step-index c.args.steps.now)) c.loop-step.ways.delays.cells.items c.loop-step.ways.firsts.cells.items c.requires.few_nodes c.requires.delays t.below c.loop-step.invariant.tells (get_or c.args.steps.now c.loop-step.step-index no_step).parent u t.attaches.parent inside in
+    let here : number_at c.loop-step.ways.delays.width c.loop-step.ways.delays.cells.items (get_or c.args.steps.now c.loop-step.step-index no_step).parent u ≤ 255000000 =
+    subst (λ n. number_at n c.loop-step.ways.delays.cells.items (get_or c.args.steps.now c.loop-step.step-index no_step).parent u ≤ 255000000) (sym c.loop-step.invariant.delays_width) bound in
+    let below : c.from.result < length c.args.links.now = subst (λ l. l < length c.args.links.now) (sym c.from.ensures) t.link in
+    let small : delay_from (get_or c.args.steps.now c.loop-step.step-index no_step).node (get_or c.args.links.now c.from.result no_link) ≤ 1000000 =
+    (from_fits (get_or c.args.steps.now c.loop-step.step-index no_step).node (get_or c.args.links.now c.from.result no_link) (c.requires.delays c.from.result no_link below)).1 in
+    let same : c.delay_from-up.result ≡ delay_from (get_or c.args.steps.now c.loop-step.step-index no_step).node (get_or c.args.links.now c.from.result no_link) = c.delay_from-up.ensures in
     omega arith
 
 pub index_mut-requires-in-loop-step : goal.index_mut-requires-in-loop-step
@@ -89,9 +108,9 @@ loop-step-preserved c =
     let agree : KnownAre nodes ss known = subst (KnownAre nodes ss) (sym c.as_slice.ensures.value) inv.known in
     let more : reverse (take (i + 1) c.args.steps.now) ≡ s ∷ ss = reverse_more c.args.steps.now i no_step c.loop-step-test.true in
     let spec : get_or links s.link no_link ≡ t.attaches.spec = get_index links s.link t.attaches.spec no_link t.attaches.link in
-    let same : (get_or links c.from.result no_link).delay ≡ t.attaches.spec.delay = ap (λ l. (get_or links l no_link).delay) c.from.ensures ∙ ap (λ (k : LinkSpec). k.delay) spec in
-    let delays : Extends known s (get_or links c.from.result no_link).delay nodes c.loop-step.ways.delays.cells.items c.attach.new.self.delays.cells.items =
-    subst (λ n. Extends known s (get_or links c.from.result no_link).delay n c.loop-step.ways.delays.cells.items c.attach.new.self.delays.cells.items) inv.delays_width c.attach.ensures.delays in
+    let same : (u : ℕ) → delay_from u (get_or links c.from.result no_link) ≡ delay_from u t.attaches.spec = λ u. ap (λ l. delay_from u (get_or links l no_link)) c.from.ensures ∙ ap (delay_from u) spec in
+    let delays : Extends known s c.delay_from-down.result c.delay_from-up.result nodes c.loop-step.ways.delays.cells.items c.attach.new.self.delays.cells.items =
+    subst (λ n. Extends known s c.delay_from-down.result c.delay_from-up.result n c.loop-step.ways.delays.cells.items c.attach.new.self.delays.cells.items) inv.delays_width c.attach.ensures.delays in
     let firsts : Leads known s nodes c.loop-step.ways.firsts.cells.items c.attach.new.self.firsts.cells.items =
     subst (λ n. Leads known s n c.loop-step.ways.firsts.cells.items c.attach.new.self.firsts.cells.items) inv.firsts_width c.attach.ensures.firsts in
     record {
@@ -101,8 +120,8 @@ loop-step-preserved c =
       known = subst (λ ts. KnownAre nodes ts (slice_set c.loop-step.known.items c.from-in-loop-step.result true)) (sym more)
           (subst (λ n. KnownAre nodes (s ∷ ss) (slice_set c.loop-step.known.items n true)) (sym c.from-in-loop-step.ensures) (known_more nodes ss s c.loop-step.known.items inv.size t.node inv.known));
       tells = subst (λ ts. TellsSoFar nodes links ts c.attach.new.self.delays.cells.items c.attach.new.self.firsts.cells.items) (sym more)
-          (tells_more nodes links ss s known (get_or links c.from.result no_link).delay c.loop-step.ways.delays.cells.items c.loop-step.ways.firsts.cells.items c.attach.new.self.delays.cells.items c.attach.new.self.firsts.cells.items
-          size t.below t.node agree t.attaches same inv.tells delays firsts);
+          (tells_more nodes links ss s known c.delay_from-down.result c.delay_from-up.result c.loop-step.ways.delays.cells.items c.loop-step.ways.firsts.cells.items c.attach.new.self.delays.cells.items c.attach.new.self.firsts.cells.items
+          size t.below t.node agree t.attaches (c.delay_from-down.ensures ∙ same s.parent) (c.delay_from-up.ensures ∙ same s.node) inv.tells delays firsts);
     }
 
 pub returns : goal.returns

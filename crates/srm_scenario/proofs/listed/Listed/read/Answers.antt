@@ -1,10 +1,10 @@
-use Rattle.std.proofs.Common.{◌≡◌, [], List, ap, sym, subst, ◌∙◌, inr, codes}
+use Rattle.std.proofs.Common.{List, map, ap, sym, subst, ◌∙◌, inr}
 use Rattle.std.proofs.lemmas.Result.{err_from_is_err_and}
 use Rattle.toml.specs.Data.{Data}
-use Rattle.toml.specs.View.{table_view}
+use Rattle.toml.specs.View.{table_view, view}
 use Rattle.srm_scenario.specs.declared.fault.Part.TheVariants as part
 use Rattle.srm_scenario.specs.Rules.{link_rules, member_rules, draw_rules, session_rules, drop_rules}
-use Rattle.srm_scenario.specs.Described.{array_at, link_of, draw_of, session_of, drop_of}
+use Rattle.srm_scenario.specs.Described.{version_of, link_of, draw_of, session_of, drop_of}
 use Rattle.srm_scenario.specs.Faults.{IsFault, element_faults, entry_of}
 use Rattle.srm_scenario.proofs.Arrays.{elements-read, few_read}
 use Rattle.srm_scenario.proofs.FaultLists.{top_fault, link_fault, member_fault, draw_fault, session_fault, drop_fault, no_key_fault}
@@ -19,14 +19,14 @@ returns-in_err-links-clause-fault c =
     let t = c.in-Some.ensures in
     let e = c.in_err-links.field-0.0 in
     rw (p.1, p.2) (link_fault (table_view c.args.table.now) e t.0
-    (subst (λ (ds : List Data). IsFault e (element_faults part.Link link_rules ds)) t.2.links_are c.in_err-links.ensures.fault))
+    (subst (λ (ds : List Data). IsFault e (element_faults part.Link (link_rules (version_of (table_view c.args.table.now))) ds)) t.2.links_are (subst (λ v. IsFault e (element_faults part.Link (link_rules v) (map view c.in-Some.top.shape.links.now))) (sym t.1.version_is) c.in_err-links.ensures.fault)))
 
 pub returns-in_err-members-clause-fault : goal.returns-in_err-members-clause-fault
 returns-in_err-members-clause-fault c =
     let p = err_from_is_err_and c.from_residual-in_err-members.result c.from_residual-in_err-members.ensures.1 in
     let t = c.in-Some.ensures in
     let e = c.in_err-members.field-0.0 in
-    rw (p.1, p.2) (member_fault (table_view c.args.table.now) e t.0 (ap (element_faults part.Link link_rules) (sym t.2.links_are) ∙ c.in_ok-links.ensures.no_fault)
+    rw (p.1, p.2) (member_fault (table_view c.args.table.now) e t.0 (ap (element_faults part.Link (link_rules (version_of (table_view c.args.table.now)))) (sym t.2.links_are) ∙ ap (λ v. element_faults part.Link (link_rules v) (map view c.in-Some.top.shape.links.now)) t.1.version_is ∙ c.in_ok-links.ensures.no_fault)
     (subst (λ (ds : List Data). IsFault e (element_faults part.Member member_rules ds)) t.3.members_are c.in_err-members.ensures.fault))
 
 pub returns-in_err-draws-clause-fault : goal.returns-in_err-draws-clause-fault
@@ -34,7 +34,7 @@ returns-in_err-draws-clause-fault c =
     let p = err_from_is_err_and c.from_residual-in_err-draws.result c.from_residual-in_err-draws.ensures.1 in
     let t = c.in-Some.ensures in
     let e = c.in_err-draws.field-0.0 in
-    rw (p.1, p.2) (draw_fault (table_view c.args.table.now) e t.0 (ap (element_faults part.Link link_rules) (sym t.2.links_are) ∙ c.in_ok-links.ensures.no_fault) (ap (element_faults part.Member member_rules) (sym t.3.members_are) ∙ c.in_ok-members.ensures.no_fault)
+    rw (p.1, p.2) (draw_fault (table_view c.args.table.now) e t.0 (ap (element_faults part.Link (link_rules (version_of (table_view c.args.table.now)))) (sym t.2.links_are) ∙ ap (λ v. element_faults part.Link (link_rules v) (map view c.in-Some.top.shape.links.now)) t.1.version_is ∙ c.in_ok-links.ensures.no_fault) (ap (element_faults part.Member member_rules) (sym t.3.members_are) ∙ c.in_ok-members.ensures.no_fault)
     (subst (λ (ds : List Data). IsFault e (element_faults part.Draw draw_rules ds)) t.3.draws_are c.in_err-draws.ensures.fault))
 
 pub returns-in_err-sessions-clause-fault : goal.returns-in_err-sessions-clause-fault
@@ -42,7 +42,7 @@ returns-in_err-sessions-clause-fault c =
     let p = err_from_is_err_and c.from_residual-in_err-sessions.result c.from_residual-in_err-sessions.ensures.1 in
     let t = c.in-Some.ensures in
     let e = c.in_err-sessions.field-0.0 in
-    rw (p.1, p.2) (session_fault (table_view c.args.table.now) e t.0 (ap (element_faults part.Link link_rules) (sym t.2.links_are) ∙ c.in_ok-links.ensures.no_fault) (ap (element_faults part.Member member_rules) (sym t.3.members_are) ∙ c.in_ok-members.ensures.no_fault) (ap (element_faults part.Draw draw_rules) (sym t.3.draws_are) ∙ c.in_ok-draws.ensures.no_fault)
+    rw (p.1, p.2) (session_fault (table_view c.args.table.now) e t.0 (ap (element_faults part.Link (link_rules (version_of (table_view c.args.table.now)))) (sym t.2.links_are) ∙ ap (λ v. element_faults part.Link (link_rules v) (map view c.in-Some.top.shape.links.now)) t.1.version_is ∙ c.in_ok-links.ensures.no_fault) (ap (element_faults part.Member member_rules) (sym t.3.members_are) ∙ c.in_ok-members.ensures.no_fault) (ap (element_faults part.Draw draw_rules) (sym t.3.draws_are) ∙ c.in_ok-draws.ensures.no_fault)
     (subst (λ (ds : List Data). IsFault e (element_faults part.Session session_rules ds)) t.3.sessions_are c.in_err-sessions.ensures.fault))
 
 pub returns-in_err-drops-clause-fault : goal.returns-in_err-drops-clause-fault
@@ -50,14 +50,14 @@ returns-in_err-drops-clause-fault c =
     let p = err_from_is_err_and c.from_residual-in_err-drops.result c.from_residual-in_err-drops.ensures.1 in
     let t = c.in-Some.ensures in
     let e = c.in_err-drops.field-0.0 in
-    rw (p.1, p.2) (drop_fault (table_view c.args.table.now) e t.0 (ap (element_faults part.Link link_rules) (sym t.2.links_are) ∙ c.in_ok-links.ensures.no_fault) (ap (element_faults part.Member member_rules) (sym t.3.members_are) ∙ c.in_ok-members.ensures.no_fault) (ap (element_faults part.Draw draw_rules) (sym t.3.draws_are) ∙ c.in_ok-draws.ensures.no_fault) (ap (element_faults part.Session session_rules) (sym t.3.sessions_are) ∙ c.in_ok-sessions.ensures.no_fault)
+    rw (p.1, p.2) (drop_fault (table_view c.args.table.now) e t.0 (ap (element_faults part.Link (link_rules (version_of (table_view c.args.table.now)))) (sym t.2.links_are) ∙ ap (λ v. element_faults part.Link (link_rules v) (map view c.in-Some.top.shape.links.now)) t.1.version_is ∙ c.in_ok-links.ensures.no_fault) (ap (element_faults part.Member member_rules) (sym t.3.members_are) ∙ c.in_ok-members.ensures.no_fault) (ap (element_faults part.Draw draw_rules) (sym t.3.draws_are) ∙ c.in_ok-draws.ensures.no_fault) (ap (element_faults part.Session session_rules) (sym t.3.sessions_are) ∙ c.in_ok-sessions.ensures.no_fault)
     (subst (λ (ds : List Data). IsFault e (element_faults part.Drop drop_rules ds)) t.3.drops_are c.in_err-drops.ensures.fault))
 
 pub returns-clause-listed : goal.returns-clause-listed
 returns-clause-listed c =
     let t = c.in-Some.ensures in
     record {
-      no_fault = no_key_fault (table_view c.args.table.now) t.0 (ap (element_faults part.Link link_rules) (sym t.2.links_are) ∙ c.in_ok-links.ensures.no_fault) (ap (element_faults part.Member member_rules) (sym t.3.members_are) ∙ c.in_ok-members.ensures.no_fault) (ap (element_faults part.Draw draw_rules) (sym t.3.draws_are) ∙ c.in_ok-draws.ensures.no_fault) (ap (element_faults part.Session session_rules) (sym t.3.sessions_are) ∙ c.in_ok-sessions.ensures.no_fault) (ap (element_faults part.Drop drop_rules) (sym t.3.drops_are) ∙ c.in_ok-drops.ensures.no_fault);
+      no_fault = no_key_fault (table_view c.args.table.now) t.0 (ap (element_faults part.Link (link_rules (version_of (table_view c.args.table.now)))) (sym t.2.links_are) ∙ ap (λ v. element_faults part.Link (link_rules v) (map view c.in-Some.top.shape.links.now)) t.1.version_is ∙ c.in_ok-links.ensures.no_fault) (ap (element_faults part.Member member_rules) (sym t.3.members_are) ∙ c.in_ok-members.ensures.no_fault) (ap (element_faults part.Draw draw_rules) (sym t.3.draws_are) ∙ c.in_ok-draws.ensures.no_fault) (ap (element_faults part.Session session_rules) (sym t.3.sessions_are) ∙ c.in_ok-sessions.ensures.no_fault) (ap (element_faults part.Drop drop_rules) (sym t.3.drops_are) ∙ c.in_ok-drops.ensures.no_fault);
       until = t.1.until_is;
       some_ticks = t.1.some_ticks;
       few_ticks = t.1.few_ticks;
@@ -67,8 +67,8 @@ returns-clause-listed c =
       degree = t.2.topology_fits;
       nodes = t.2.nodes_are;
       some_nodes = t.2.some_nodes;
-      delay = t.2.delay_is;
-      delay_fits = t.2.delay_fits;
+      delays = t.2.delays_are;
+      delays_fit = t.2.delays_fit;
       links = elements-read link_of c.in-Some.top.shape.links.now _ _ t.2.links_are c.in_ok-links.ensures.read;
       members = elements-read entry_of c.in-Some.top.arrays.members.now _ _ t.3.members_are c.in_ok-members.ensures.read;
       draws = elements-read draw_of c.in-Some.top.arrays.draws.now _ _ t.3.draws_are c.in_ok-draws.ensures.read;

@@ -1,0 +1,10 @@
+//! The delays of a topology's links.
+
+/// How long a packet takes over each link of a topology, in ticks.
+#[derive(Clone, Copy, Debug, PartialEq, Eq)]
+pub(crate) struct Delays {
+    /// From a node's parent to the node.
+    pub(crate) delay: u64,
+    /// From a node to its parent.
+    pub(crate) back: u64,
+}
