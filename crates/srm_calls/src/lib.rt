@@ -2,7 +2,11 @@
 #![tactic(auto)]
 
 #[cfg(test)]
+mod bag_tests;
+#[cfg(test)]
 mod cell_tests;
+#[cfg(test)]
+mod crew_tests;
 #[cfg(test)]
 mod feed_tests;
 #[cfg(test)]
@@ -21,3 +25,5 @@ mod text_tests;
 mod trace_sink_tests;
 #[cfg(test)]
 mod trace_tests;
+#[cfg(test)]
+mod watched;

@@ -8,4 +8,3 @@ pub mod Peeling
 pub mod WorkedLemmas
 pub mod Ordering
 pub mod JobsShared
-pub mod HandedLemmas

@@ -1,5 +1,4 @@
 pub mod Crews
-pub mod Handed
 pub mod Notes
 pub mod Places
 pub mod Passes

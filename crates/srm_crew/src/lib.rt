@@ -5,8 +5,6 @@ mod add;
 pub mod bag;
 pub mod bag_crew;
 pub mod bag_fault;
-#[cfg(test)]
-mod bag_tests;
 mod counted;
 pub mod crew;
 mod each;
@@ -20,7 +18,5 @@ pub mod recording;
 pub mod rule;
 mod shared;
 pub mod taken;
-#[cfg(test)]
-mod tests;
 mod worker;
 mod workers;

@@ -1,9 +1,9 @@
 //! A bag of numbers: calls in a row, and the refusals between them.
 ghost use Rattle.std.specs.Prelude.{◌≡◌, IfSome};
 
-use crate::bag::Bag;
-use crate::bag_fault::{EmptyFault, PutFault, SplitFault};
-use crate::pass::Pass;
+use srm_crew::bag::Bag;
+use srm_crew::bag_fault::{EmptyFault, PutFault, SplitFault};
+use srm_crew::pass::Pass;
 use std::alloc::Global;
 use std::test::Fail;
 

@@ -1,6 +1,7 @@
 //! What a test of crews hands to them, and what it wants of them.
-use crate::fault::CrewFault;
-use crate::tests::seen::{Seen, Window};
+use crate::crew_tests::seen::{Seen, Window};
+use srm_crew::fault::CrewFault;
+use srm_examples::scenarios::Example;
 use srm_ledger::totals::Totals;
 use std::alloc::AllocError;
 use std::process::Abort;
@@ -19,8 +20,8 @@ pub(crate) struct Wanted {
 /// Two windows, each of whose jobs has the cell of one member.
 #[derive(Clone, Copy)]
 pub(crate) struct Case {
-    /// The scenario.
-    pub(crate) scenario: &'static str,
+    /// The example whose scenario it is.
+    pub(crate) example: Example,
     /// How many packets each member has sent at the beginning.
     pub(crate) sent: u64,
     /// Whether each member has ended at the beginning.

@@ -1,7 +1,7 @@
 use Rattle.std.proofs.Common.{length}
-use Rattle.srm_crew.specs.Handed.{MayMap}
-use Rattle.srm_crew.proofs.tests.mapped.map_members.OwnLists.{own-1}
-use Rattle.srm_crew.proofs.tests.mapped.map_members.Given as goal
+use Rattle.srm_calls.specs.Handed.{MayMap}
+use Rattle.srm_calls.proofs.crew_tests.mapped.map_members.OwnLists.{own-1}
+use Rattle.srm_calls.proofs.crew_tests.mapped.map_members.Given as goal
 
 -- a crew may be handed the jobs so far
 abbrev pub invariant-loop-m : goal.invariant-loop-m

@@ -19,7 +19,7 @@ use Rattle.srm_cell.specs.Cells.{new_cell}
 use Rattle.srm_cell.specs.Views.{IsNew}
 use Rattle.srm_cell.specs.Jobs.{OwnCell, PlainJob, AreMembers, AreCells, MayAdvance, RanEach, IsDone}
 use Rattle.srm_crew.specs.Crews.{AreJobs, Maps}
-use Rattle.srm_crew.specs.Handed.{MayMap, AreKnown}
+use Rattle.srm_calls.specs.Handed.{MayMap, AreKnown}
 
 range_more : (a n : ℕ) → range_with_len a (suc n) ≡ range_with_len a n ++ (a + n) ∷ []
 range_more a zero = ap (λ k. k ∷ []) (sym (add-zero a))
@@ -52,6 +52,9 @@ module _ {X : Type 0} {H : X → Type 0} (f : DynBox X Global H → Record) (n :
     few = known.few;
     of_members = known.of_members;
   }
+
+  pub none_known : AreKnown {X = X} {H = H} f n []
+  none_known = record { seen = []; are = tt; of_members = tt; few = omega arith }
 
   -- a new cell of a member, alone
   pub new_known : (r : Record) (script : List Mark) (sent : ℕ) (c : Cell X H) (cs : List (Cell X H)) → cs ≡ c ∷ [] → IsNew f r script sent c → (fixed_part r).member < n → AreKnown f n cs

@@ -1,6 +1,6 @@
-use Rattle.std.proofs.Common.{◌≡◌, ◌∙◌, ◌<◌, length, arith}
-use Rattle.srm_crew.proofs.HandedLemmas.{one_more}
-use Rattle.srm_crew.proofs.tests.handing.add_job.Goals as goal
+use Rattle.std.proofs.Common.{◌≡◌, ◌<◌, length, arith}
+use Rattle.srm_calls.proofs.HandedLemmas.{one_more, may_go_on}
+use Rattle.srm_calls.proofs.crew_tests.handing.add_job.Goals as goal
 
 pub returns : goal.returns
 returns g c =
@@ -11,4 +11,4 @@ returns g c =
     let lt : length c.args.jobs.now.items < 1024 = omega arith in
     rw c.in_ok-push.ensures.items
     (one_more (λ b. (goal.Member-dyn g (b.vtable, b.value)).plain b.value) (length c.args.net.now.hosts) c.args.jobs.now.items _ c.requires.jobs
-    (c.in_ok-job.ensures.place ∙ at) lt c.in_ok-job.ensures.job)
+    at lt (may_go_on (λ b. (goal.Member-dyn g (b.vtable, b.value)).plain b.value) (length c.args.net.now.hosts) _ c.requires.known c.requires.till))

@@ -1,6 +1,6 @@
 use Rattle.std.proofs.Common.{◌∙◌, length}
-use Rattle.srm_crew.proofs.HandedLemmas.{known_done, few_done, same_ledger}
-use Rattle.srm_crew.proofs.tests.handing.map_window.Goals as goal
+use Rattle.srm_calls.proofs.HandedLemmas.{known_done, few_done, same_ledger}
+use Rattle.srm_calls.proofs.crew_tests.handing.map_window.Goals as goal
 
 pub map-requires-clause-jobs : goal.map-requires-clause-jobs
 map-requires-clause-jobs g c = c.requires.jobs.jobs

@@ -1,7 +1,7 @@
 use Rattle.std.proofs.Common.{◌≤◌, ◌+◌, All, length}
 use Rattle.std.specs.Vec.Iter.{into_iter_items}
-use Rattle.srm_crew.specs.Handed.{MayMap, AreKnown}
-use Rattle.srm_crew.proofs.tests.handing.next_jobs.Given as goal
+use Rattle.srm_calls.specs.Handed.{MayMap, AreKnown}
+use Rattle.srm_calls.proofs.crew_tests.handing.next_jobs.Given as goal
 
 abbrev pub invariant-loop-done : goal.invariant-loop-done
 invariant-loop-done g l =

@@ -1,17 +1,18 @@
 //! What each crew gives for two windows.
 ghost use Rattle.std.specs.Prelude.{◌≡◌, length, IfOk, IfSome};
 ghost use Rattle.srm_scenario.specs.Plain.{network_of};
-ghost use Rattle.srm_crew.specs.Handed.{MayMap};
+ghost use Rattle.srm_calls.specs.Handed.{MayMap};
 
-use crate::bag_crew::BagCrew;
-use crate::crew::Crew;
-use crate::gate::OpenGate;
-use crate::plain::PlainCrew;
-use crate::pool::PoolCrew;
-use crate::tests::case::Case;
-use crate::tests::cases::{FOUR_ROUND_A_NODE, LAST_PACKET, OVER, SENDER_AND_LISTENER};
-use crate::tests::handing::{add_job, map_window, opened};
+use crate::crew_tests::case::Case;
+use crate::crew_tests::cases::{FOUR_ROUND_A_NODE, LAST_PACKET, OVER, SENDER_AND_LISTENER};
+use crate::crew_tests::handing::{add_job, cell_of, map_window, opened};
+use crate::watched::Watch;
 use srm_cell::job::Job;
+use srm_crew::bag_crew::BagCrew;
+use srm_crew::crew::Crew;
+use srm_crew::gate::OpenGate;
+use srm_crew::plain::PlainCrew;
+use srm_crew::pool::PoolCrew;
 use srm_ledger::ledger::{Ledger, Seat};
 use srm_member::member::Member;
 use srm_net::net::Net;
@@ -54,7 +55,8 @@ fn map_both<C: Crew>(
     requires jobs { MayMap (λ b. (⟦<dyn Member as Member>⟧ b.vtable).plain b.value) (length net.now.hosts) jobs.items }
     requires links { ledger.now.links ≡ length net.now.links }
     requires seat { seat.ledger ≡ ledger.now.name }
-    ensures { IfOk result (λ left. IfSome left (λ s. s.ledger ≡ ledger.now.name)) }
+    ensures ready { C.ready crew.new }
+    ensures seat { IfOk result (λ left. IfSome left (λ s. s.ledger ≡ ledger.now.name)) }
 {
     let [_, end] = case.ends;
     assert!(rt; end <= LAST_END);
@@ -88,9 +90,11 @@ fn map_members<C: Crew>(
     scenario: &Scenario,
     net: &Net,
     case: &Case,
+    watch: &mut Watch,
 ) -> Result<(), AllocError>
     requires ready { C.ready crew.old }
     requires network { net.now ≡ network_of scenario.now }
+    ensures { C.ready crew.new }
 {
     let [till, _] = case.ends;
     assert!(rt; till <= LAST_END);
@@ -102,19 +106,19 @@ fn map_members<C: Crew>(
                 let Ok(sender) = Sender::new(alloc, scenario, net, 0, m) else {
                     return Err(AllocError);
                 };
-                Box::new(alloc, sender)?
+                Box::new(alloc, watch.over(alloc, sender)?)?
             }
             Role::Receiver => {
                 let Ok(receiver) = Receiver::new(alloc, scenario, net, 0, m) else {
                     return Err(AllocError);
                 };
-                Box::new(alloc, receiver)?
+                Box::new(alloc, watch.over(alloc, receiver)?)?
             }
             Role::Listener => {
                 let Ok(listener) = Listener::new(alloc, scenario, net, 0, m) else {
                     return Err(AllocError);
                 };
-                Box::new(alloc, listener)?
+                Box::new(alloc, watch.over(alloc, listener)?)?
             }
             Role::Late => {
                 assert!(rt; false, "a late joiner");
@@ -127,7 +131,8 @@ fn map_members<C: Crew>(
         let Ok(script) = scenario.script(alloc, m) else {
             return Err(AllocError);
         };
-        add_job(rt, alloc, net, &mut jobs, till, member, script, case.sent)?;
+        let cells = cell_of(rt, alloc, net, member, script, case.sent)?;
+        add_job(rt, net, &mut jobs, till, cells)?;
     }
     let links = net.links().len();
     assert!(rt; links <= 255);
@@ -140,41 +145,48 @@ fn map_members<C: Crew>(
     Ok(())
 }
 
-/// The same, of the case's scenario.
-pub(crate) fn map_twice<C: Crew>(
+// The same, of the case's scenario. Each box is dropped once, whatever comes of it.
+fn map_case<C: Crew>(
     rt: &impl Abort,
     alloc: Global,
     crew: &mut C,
     case: &Case,
 ) -> Result<(), AllocError>
     requires { C.ready crew.old }
+    ensures { C.ready crew.new }
 {
-    let (scenario, net) = opened(rt, alloc, case.scenario)?;
-    map_members(rt, alloc, crew, &scenario, &net, case)
+    let (scenario, net) = opened(rt, alloc, case.example.scenario)?;
+    let mut watch = Watch::new(alloc);
+    let answer = map_members(rt, alloc, crew, &scenario, &net, case, &mut watch);
+    watch.expect_each_dropped_once(rt);
+    answer
 }
 
 const CASES: [Case; 4] = [SENDER_AND_LISTENER, FOUR_ROUND_A_NODE, LAST_PACKET, OVER];
 
-#[test]
-fn a_plain_crew_maps_two_windows(rt: HostRuntime) -> Result<(), AllocError> {
+// The same, of each case, and once more where memory was refused.
+fn map_cases<C: Crew>(rt: &impl Abort, alloc: Global, crew: &mut C) -> Result<(), AllocError>
+    requires { C.ready crew.old }
+{
     for case in &CASES {
-        map_twice(&rt, rt.alloc(), &mut PlainCrew::new(), case)?;
+        if map_case(rt, alloc, crew, case).is_err() {
+            map_case(rt, alloc, crew, case)?;
+        }
     }
     Ok(())
+}
+
+#[test]
+fn a_plain_crew_maps_two_windows(rt: HostRuntime) -> Result<(), AllocError> {
+    map_cases(&rt, rt.alloc(), &mut PlainCrew::new())
 }
 
 #[test]
 fn a_crew_of_pool_threads_maps_two_windows(rt: HostRuntime) -> Result<(), AllocError> {
-    for case in &CASES {
-        map_twice(&rt, rt.alloc(), &mut PoolCrew::new(&rt), case)?;
-    }
-    Ok(())
+    map_cases(&rt, rt.alloc(), &mut PoolCrew::new(&rt))
 }
 
 #[test]
 fn a_crew_of_workers_maps_two_windows(rt: HostRuntime) -> Result<(), AllocError> {
-    for case in &CASES {
-        map_twice(&rt, rt.alloc(), &mut BagCrew::new(&rt, OpenGate, 3), case)?;
-    }
-    Ok(())
+    map_cases(&rt, rt.alloc(), &mut BagCrew::new(&rt, OpenGate, 3))
 }

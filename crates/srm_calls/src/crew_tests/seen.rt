@@ -7,33 +7,15 @@ use srm_member::told::Told;
 use srm_net::sequence::Sequence;
 use std::alloc::{AllocError, Global};
 
-/// A row.
-#[derive(Clone, Copy, Debug, PartialEq, Eq)]
-pub(crate) struct Seen {
-    /// When its event was, in ticks.
-    pub(crate) at: u64,
-    /// Whose event it was.
-    pub(crate) member: u16,
-    /// The kind of its event.
-    pub(crate) cause: Word,
-    /// What came of it.
-    pub(crate) told: Told,
-    /// The count of the packet that the member sent.
-    pub(crate) sent: Option<u64>,
-}
+/// A row: when its event was, in ticks; whose it was, of which kind, and what came of it; and the count of the packet that was sent.
+pub(crate) type Seen = (u64, u16, Word, Told, Option<u64>);
 
 fn row_seen(row: &Row) -> Seen {
     let sent = match &row.sent {
         None => None,
         Some(packet) => Some(packet.id.count),
     };
-    Seen {
-        at: row.key.time,
-        member: row.key.member,
-        cause: row.cause,
-        told: row.told,
-        sent,
-    }
+    (row.key.time, row.key.member, row.cause, row.told, sent)
 }
 
 /// What is done of all jobs of a window.

@@ -1,9 +1,9 @@
 use Rattle.std.proofs.Common.{◌≡◌, ◌+◌, length, suc, ap, ◌∙◌, arith, length-append}
 use Rattle.std.proofs.lemmas.List.Elements.{All-head, All-tail}
 use Rattle.std.specs.Vec.Iter.{into_iter_items}
-use Rattle.srm_crew.specs.Handed.{AreKnown}
-use Rattle.srm_crew.proofs.HandedLemmas.{none_handed, one_more, may_go_on}
-use Rattle.srm_crew.proofs.tests.handing.next_jobs.Goals as goal
+use Rattle.srm_calls.specs.Handed.{AreKnown}
+use Rattle.srm_calls.proofs.HandedLemmas.{none_handed, one_more, may_go_on}
+use Rattle.srm_calls.proofs.crew_tests.handing.next_jobs.Goals as goal
 
 pub loop-done-init : goal.loop-done-init
 loop-done-init g c =

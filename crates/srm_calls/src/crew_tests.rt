@@ -1,6 +1,7 @@
 //! Crews on jobs, worked by hand.
 mod case;
 mod cases;
-mod handing;
+pub(crate) mod handing;
 mod mapped;
+mod seats;
 mod seen;

@@ -3,14 +3,13 @@ ghost use Rattle.std.specs.Prelude.{◌≡◌, ◌≤◌, ◌^◌, length, map, 
 ghost use Rattle.srm_net.specs.Orders.{Rises};
 ghost use Rattle.srm_scenario.specs.Plain.{mark_cmp, network_of};
 ghost use Rattle.srm_member.specs.Record.{fixed_part};
-ghost use Rattle.srm_cell.specs.Jobs.{MayAdvance};
-ghost use Rattle.srm_crew.specs.Handed.{MayMap, AreKnown};
+ghost use Rattle.srm_calls.specs.Handed.{MayMap, AreKnown};
 
-use crate::crew::Crew;
-use crate::fault::CrewFault;
-use crate::tests::seen::Window;
+use crate::crew_tests::seen::Window;
 use srm_cell::cell::Cell;
 use srm_cell::job::{Done, Job};
+use srm_crew::crew::Crew;
+use srm_crew::fault::CrewFault;
 use srm_ledger::ledger::{Ledger, Seat};
 use srm_member::member::Member;
 use srm_net::net::Net;
@@ -54,23 +53,19 @@ fn number_of(member: &Box<dyn Member>) -> u16
     member.number()
 }
 
-// The job of a member's cell alone.
-fn job_of(
+/// The cell of a member, alone.
+pub(crate) fn cell_of(
     rt: &impl Abort,
     alloc: Global,
     net: &Net,
-    place: usize,
-    till: u64,
     member: Box<dyn Member>,
     script: Vec<Mark>,
     sent: u64,
-) -> Result<Job, AllocError>
-    requires till { till ≤ 2 ^ 40 }
+) -> Result<Vec<Cell>, AllocError>
     requires sent { sent ≤ 2 ^ 48 }
     requires script { Rises mark_cmp script.items }
-    ensures place { IfOk result (λ j. j.place ≡ place) }
-    ensures job { IfOk result (λ j. MayAdvance (λ b. (⟦<dyn Member as Member>⟧ b.vtable).plain b.value)
-        (length net.now.hosts) j) }
+    ensures { IfOk result (λ cells. AreKnown (λ b. (⟦<dyn Member as Member>⟧ b.vtable).plain b.value)
+        (length net.now.hosts) cells.items) }
 {
     let number = number_of(&member);
     let members = net.members();
@@ -80,24 +75,21 @@ fn job_of(
     }
     let mut cells = Vec::new(alloc);
     cells.push(Cell::new(alloc, member, script, sent))?;
-    Ok(Job { place, till, cells })
+    Ok(cells)
 }
 
-/// Adds the job of a member's cell alone.
+/// Adds a job of these cells, of which there may be none.
 pub(crate) fn add_job(
     rt: &impl Abort,
-    alloc: Global,
     net: &Net,
     jobs: &mut Vec<Job>,
     till: u64,
-    member: Box<dyn Member>,
-    script: Vec<Mark>,
-    sent: u64,
+    cells: Vec<Cell>,
 ) -> Result<(), AllocError>
     requires jobs { MayMap (λ b. (⟦<dyn Member as Member>⟧ b.vtable).plain b.value) (length net.now.hosts) jobs.old.items }
     requires till { till ≤ 2 ^ 40 }
-    requires sent { sent ≤ 2 ^ 48 }
-    requires script { Rises mark_cmp script.items }
+    requires known { AreKnown (λ b. (⟦<dyn Member as Member>⟧ b.vtable).plain b.value)
+        (length net.now.hosts) cells.items }
     ensures { IfOk result (λ _. MayMap (λ b. (⟦<dyn Member as Member>⟧ b.vtable).plain b.value)
         (length net.now.hosts) jobs.new.items) }
 {
@@ -106,9 +98,25 @@ pub(crate) fn add_job(
         assert!(rt; false, "too many jobs");
         return Err(AllocError);
     }
-    let job = job_of(rt, alloc, net, place, till, member, script, sent)?;
-    jobs.push(job)?;
+    jobs.push(Job { place, till, cells })?;
     Ok(())
+}
+
+/// Jobs that have no cells.
+pub(crate) fn idle_jobs(
+    rt: &impl Abort,
+    alloc: Global,
+    net: &Net,
+    count: usize,
+) -> Result<Vec<Job>, AllocError>
+    ensures { IfOk result (λ jobs. MayMap (λ b. (⟦<dyn Member as Member>⟧ b.vtable).plain b.value)
+        (length net.now.hosts) jobs.items) }
+{
+    let mut jobs = Vec::new(alloc);
+    for _ in 0..count {
+        add_job(rt, net, &mut jobs, 0, Vec::new(alloc))?;
+    }
+    Ok(jobs)
 }
 
 // The jobs of the same cells up to another end, and what was done.

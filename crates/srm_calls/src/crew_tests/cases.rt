@@ -1,0 +1,105 @@
+//! Cases, worked by hand.
+use crate::crew_tests::case::{Case, Wanted};
+use srm_crew::fault::CrewFault;
+use srm_examples::scenarios::{STAR_LOSS_AT_THE_SOURCE, TWO_NODES};
+use srm_member::row::Word;
+use srm_member::told::Told;
+
+/// The sender draws at ticks 0 and 5; the first packet crosses the link.
+pub(crate) const SENDER_AND_LISTENER: Case = Case {
+    example: TWO_NODES,
+    sent: 0,
+    is_over: false,
+    ends: [1, 5],
+    windows: &[
+        Wanted {
+            rows: &[
+                (0, 0, Word::Join, Told::Entered, None),
+                (0, 0, Word::Draw, Told::Sent, Some(0)),
+                (0, 1, Word::Join, Told::Entered, None),
+            ],
+            crossings: &[(0, [1, 0, 0, 0, 0])],
+            next_times: &[Some(5), None],
+        },
+        Wanted {
+            rows: &[],
+            crossings: &[],
+            next_times: &[Some(5), None],
+        },
+    ],
+    fault: None,
+    totals: &[[1, 0, 0, 0, 0]],
+};
+
+/// The first packet is dropped at once, and the second crosses all links.
+pub(crate) const FOUR_ROUND_A_NODE: Case = Case {
+    example: STAR_LOSS_AT_THE_SOURCE,
+    sent: 0,
+    is_over: false,
+    ends: [5, 105],
+    windows: &[
+        Wanted {
+            rows: &[
+                (0, 0, Word::Join, Told::Entered, None),
+                (0, 0, Word::Draw, Told::Sent, Some(0)),
+                (0, 1, Word::Join, Told::Entered, None),
+                (0, 2, Word::Join, Told::Entered, None),
+                (0, 3, Word::Join, Told::Entered, None),
+            ],
+            crossings: &[
+                (0, [0, 0, 0, 0, 1]),
+                (0, [0, 0, 0, 0, 0]),
+                (0, [0, 0, 0, 0, 0]),
+                (0, [0, 0, 0, 0, 0]),
+            ],
+            next_times: &[Some(100), None, None, None],
+        },
+        Wanted {
+            rows: &[(100, 0, Word::Draw, Told::Sent, Some(1))],
+            crossings: &[
+                (0, [1, 0, 0, 0, 0]),
+                (0, [1, 0, 0, 0, 0]),
+                (0, [1, 0, 0, 0, 0]),
+                (0, [1, 0, 0, 0, 0]),
+            ],
+            next_times: &[None, None, None, None],
+        },
+    ],
+    fault: None,
+    totals: &[
+        [1, 0, 0, 0, 1],
+        [1, 0, 0, 0, 0],
+        [1, 0, 0, 0, 0],
+        [1, 0, 0, 0, 0],
+    ],
+};
+
+/// The sender has one packet left, and is to send two.
+pub(crate) const LAST_PACKET: Case = Case {
+    example: TWO_NODES,
+    sent: 281_474_976_710_655,
+    is_over: false,
+    ends: [1, 6],
+    windows: &[Wanted {
+        rows: &[
+            (0, 0, Word::Join, Told::Entered, None),
+            (0, 0, Word::Draw, Told::Sent, Some(281_474_976_710_655)),
+            (0, 1, Word::Join, Told::Entered, None),
+        ],
+        crossings: &[(0, [1, 0, 0, 0, 0])],
+        next_times: &[Some(5), None],
+    }],
+    fault: Some(CrewFault::CountFull),
+    totals: &[],
+};
+
+/// Both members have ended before they join.
+pub(crate) const OVER: Case = Case {
+    example: TWO_NODES,
+    sent: 0,
+    is_over: true,
+    ends: [1, 5],
+    windows: &[],
+    fault: Some(CrewFault::Spent),
+    totals: &[],
+};
