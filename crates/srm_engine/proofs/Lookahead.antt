@@ -6,7 +6,7 @@ use Rattle.std.proofs.Math.Nat.{min-le_left, min-le_right}
 use Rattle.std.specs.List.{range_with_len}
 use Rattle.srm_net.specs.declared.link.LinkSpec.{LinkSpec}
 use Rattle.srm_net.specs.Network.{Network, IsNetwork, IsWalk}
-use Rattle.srm_net.specs.Paths.{host, member_route, distance, delay_from, delay_along}
+use Rattle.srm_net.specs.Paths.{host, member_route, distance, delay_along}
 use Rattle.srm_net.specs.Least.{least, lesser_delay, least_delay}
 use Rattle.srm_net.proofs.RouteLemmas.{route_path}
 use Rattle.srm_net.proofs.LawProofs.{lesser_each}
