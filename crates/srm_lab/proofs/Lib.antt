@@ -3,3 +3,4 @@ pub mod Openings
 pub mod OrderlyRows
 pub mod Refusals
 pub mod Texts
+pub mod TraceTexts

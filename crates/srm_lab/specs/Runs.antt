@@ -3,7 +3,15 @@ use Rattle.std.specs.Prelude.{◌≡◌, ℕ, ◌≤◌, List, Option, Result, O
 use Rattle.srm_net.specs.Network.{Network}
 use Rattle.srm_scenario.specs.Plain.{PlainScenario}
 use Rattle.srm_cell.specs.Setting.{Setting, setting_of}
-use Rattle.srm_engine.specs.declared.outcome.Outcome.{Outcome}
+use Rattle.srm_member.specs.declared.row.Row.{Row}
+use Rattle.srm_member.specs.declared.exit.Exit.{Exit}
+use Rattle.srm_engine.specs.declared.fault.RunFault.TheVariants as fault
+use Rattle.srm_engine.specs.declared.stream_fault.StreamFault.{StreamFault}
+use Rattle.srm_engine.specs.declared.stream_fault.StreamFault.TheVariants as stream
+use Rattle.srm_engine.specs.declared.sink.SinkFault.TheVariants.{Stopped}
+use Rattle.srm_engine.specs.declared.sink.Stage.{Stage}
+use Rattle.srm_engine.specs.declared.sink.Stage.TheVariants.{Live, Refused}
+use Rattle.srm_engine.specs.Streams.{TakesFront}
 use Rattle.srm_engine.specs.World.{World, IsOutcome, RunMeetsFull}
 use Rattle.srm_engine.specs.WindowChains.{AreWindows}
 use Rattle.srm_engine.specs.WindowRuns.{jobs_of}
@@ -45,13 +53,36 @@ abbrev pub TellsRun : {T : Type 0} → PlainScenario → Network → ℕ → Opt
     → Option (List ℕ) → Option (List ℕ) → Result T LabFault → Type 0
 TellsRun p net seed o old new r = TellsReport p net seed o.show old new r × TellsAsked p net seed o r
 
--- what an engine gives: the outcome of the sequential run; or that it meets a step for which the packet count is used up
-abbrev pub GivesOutcome : Setting → Result Outcome LabFault → Type 0
-GivesOutcome s (Ok v) = IsOutcome s v.trace.items v.exits.items v.totals
-GivesOutcome s (Err CountFull) = RunMeetsFull s
-GivesOutcome s (Err (WriteFault written)) = ⊥
-GivesOutcome s r = Unit {0}
+-- ---- rows that are handed to a sink
 
--- what the engine that is asked for gives, and refuses
-abbrev pub TellsOutcome : PlainScenario → Network → ℕ → Options → Result Outcome LabFault → Type 0
-TellsOutcome p net seed o r = GivesOutcome (setting_of p net seed) r × TellsAsked p net seed o r
+-- what a refusal of an engine is to the program
+abbrev pub fault_of_stream : StreamFault → LabFault
+fault_of_stream (stream.Run fault.BadCut) = BadCut
+fault_of_stream (stream.Run fault.BadWidth) = BadWidth
+fault_of_stream (stream.Run fault.ShareFull) = ShareFull
+fault_of_stream (stream.Run fault.NoMemory) = NoMemory
+fault_of_stream (stream.Run fault.CountFull) = CountFull
+fault_of_stream (stream.Stopped n) = WriteFault n
+
+-- a sink stands as this answer says: it took all, or its device failed and it told this number
+abbrev pub StandsAfter : {T : Type 0} → Result T LabFault → Stage → Type 0
+StandsAfter (Ok v) at = at ≡ Live
+StandsAfter (Err (WriteFault written)) at = at ≡ Refused (Stopped written)
+StandsAfter (Err f) at = Unit {0}
+
+module _ {S : Type 0} (took part : S → List Row → S → Type 0) where
+  -- what an engine tells that hands its rows to a sink: the sink took the trace of the sequential run, and these are its totals; or it
+  -- took no more than a front of the trace, and nothing where the run was refused before any work
+  abbrev pub HandsRows : Setting → S → Result (List ℕ) LabFault → S → Type 0
+  HandsRows s old (Ok totals) new =
+      (rows : List Row) × (exits : List Exit) × IsOutcome s rows exits totals × took old rows new
+  HandsRows s old (Err CountFull) new = RunMeetsFull s × TakesFront took part s old new
+  HandsRows s old (Err BadCut) new = new ≡ old
+  HandsRows s old (Err BadWidth) new = new ≡ old
+  HandsRows s old (Err ShareFull) new = TakesFront took part s old new
+  HandsRows s old (Err NoMemory) new = TakesFront took part s old new
+  HandsRows s old (Err (WriteFault written)) new = TakesFront took part s old new
+
+  -- what the engine that is asked for hands on, and refuses
+  abbrev pub TellsRows : PlainScenario → Network → ℕ → Options → S → Result (List ℕ) LabFault → S → Type 0
+  TellsRows p net seed o old r new = HandsRows (setting_of p net seed) old r new × TellsAsked p net seed o r

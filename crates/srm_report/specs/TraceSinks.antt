@@ -124,3 +124,9 @@ module _ {O : Type 0} where
     abbrev pub Flushes : {A : Type 0} → TraceSink O → Result A WriteFault → TraceSink O → Type 0
     Flushes a (Ok v) b = (gathered_by b ≡ []) × PutsAll a [] b × (standing_of b ≡ standing_of a)
     Flushes a (Err e) b = PutsFront a [] b × (stage_of b ≡ stage.Refused (fault.Stopped e.written))
+
+  -- where memory was refused, the outlet is as it was, and no byte more is counted
+  abbrev pub LeavesOutlet : {A : Type 0} → TraceSink O → Result A SinkFault → TraceSink O → Type 0
+  LeavesOutlet a (Ok v) b = Unit {0}
+  LeavesOutlet a (Err fault.NoMemory) b = (outlet_under b ≡ outlet_under a) × (written_by b ≡ written_by a)
+  LeavesOutlet a (Err (fault.Stopped n)) b = Unit {0}

@@ -67,7 +67,7 @@ fn write<O: Outlet>(outlet: &mut O, written: &mut u64, text: &[u8]) -> Result<()
 impl<'a, O: Outlet> TraceSink<'a, O> {
     ghost use Rattle.srm_engine.specs.declared.sink.Stage.{Stage as AStage};
     ghost use Rattle.srm_engine.specs.Sinks.{IsOpen, stops_in};
-    ghost use Rattle.srm_report.specs.TraceSinks.{stage_of, standing_of, outlet_under, gathered_by, written_by, AreOverOne, PutsText, WritesGathered, WritesThrough, Flushes};
+    ghost use Rattle.srm_report.specs.TraceSinks.{stage_of, standing_of, outlet_under, gathered_by, written_by, AreOverOne, PutsText, LeavesOutlet, WritesGathered, WritesThrough, Flushes};
 
     /// A sink over this outlet, which took no rows yet. It writes each piece of the trace as it comes. It takes no memory.
     pub fn over(alloc: Global, outlet: &'a mut O) -> Self
@@ -120,6 +120,15 @@ impl<'a, O: Outlet> TraceSink<'a, O> {
         }
     }
 
+    /// The outlet under the sink. What is still gathered is not written.
+    pub fn into_outlet(self) -> &'a mut O
+        ensures same_reference { result.ghost_name ≡ self.entry.outlet.ghost_name }
+        ensures outlet { result.now ≡ outlet_under self.entry }
+    {
+        let TraceSink { outlet, .. } = self;
+        outlet
+    }
+
     // Writes what is gathered.
     fn write_gathered(&mut self) -> Result<(), OutFault>
         requires failures { O.failures (outlet_under self.old) < 2 ^ 64 - 1 }
@@ -141,6 +150,7 @@ impl<'a, O: Outlet> TraceSink<'a, O> {
         ensures standing { standing_of self.new ≡ standing_of self.old }
         ensures failures { O.failures (outlet_under self.new) ≡ O.failures (outlet_under self.old) + stops_in result }
         ensures text { PutsText O.taken self.old (text_next (standing_of self.old) rows.now) result self.new }
+        ensures left { LeavesOutlet self.old result self.new }
     {
         match text_of(alloc, self.standing, rows) {
             Ok(text) => self.put(text.as_slice()),
@@ -155,6 +165,7 @@ impl<'a, O: Outlet> TraceSink<'a, O> {
         ensures standing { standing_of self.new ≡ standing_of self.old }
         ensures failures { O.failures (outlet_under self.new) ≡ O.failures (outlet_under self.old) + stops_in result }
         ensures text { PutsText O.taken self.old text.now result self.new }
+        ensures left { LeavesOutlet self.old result self.new }
     {
         if self.gathered.len() + text.len() <= self.room {
             return match self.gathered.extend_from_slice(text) {
@@ -190,7 +201,9 @@ impl<'a, O: Outlet> TraceSink<'a, O> {
 impl<'a, O: Outlet> RowSink for TraceSink<'a, O> {
     ghost use Rattle.std.specs.Prelude.{refl};
     ghost use Rattle.std.proofs.Common.{◌∙◌};
-    ghost use Rattle.srm_report.specs.TraceSinks.{stage_of, outlet_under, AreOverOne, PutsRows, PutsPart};
+    ghost use Rattle.std.specs.Prelude.{MatchResult};
+    ghost use Rattle.srm_engine.specs.Sinks.{IsOpen, stage_after, stops_in};
+    ghost use Rattle.srm_report.specs.TraceSinks.{stage_of, outlet_under, AreOverOne, LeavesOutlet, PutsRows, PutsPart};
     ghost use Rattle.srm_report.specs.SinkLaws.{one_self, one_more, rows_none, rows_more, part_none, part_more, part_longer};
 
     ghost stage = { stage_of };
@@ -217,7 +230,21 @@ impl<'a, O: Outlet> RowSink for TraceSink<'a, O> {
 
     ghost part_longer = { part_longer O.taken };
 
-    fn rows(&mut self, alloc: Global, rows: Vec<Row>) -> Result<(), SinkFault> {
+    /// Writes the rows, or gathers them, after those before; before the first of all, of which there may be none, the header.
+    ///
+    /// # Errors
+    /// `Stopped` exactly where the outlet failed, with how many bytes it took by this sink in all, the header's too, up to 2^64 - 1.
+    /// `NoMemory`: then the outlet took nothing in this call.
+    fn rows(&mut self, alloc: Global, rows: Vec<Row>) -> Result<(), SinkFault>
+        requires open { IsOpen (stage_of self.old) }
+        requires failures { O.failures (outlet_under self.old) < 2 ^ 64 - 1 }
+        ensures same { AreOverOne self.old self.new }
+        ensures stage { stage_of self.new ≡ stage_after result }
+        ensures failures { O.failures (outlet_under self.new) ≡ O.failures (outlet_under self.old) + stops_in result }
+        ensures rows { MatchResult result (λ _. PutsRows O.taken self.old rows.items self.new)
+            (λ _. PutsPart O.taken self.old rows.items self.new) }
+        ensures left { LeavesOutlet self.old result self.new }
+    {
         let answer = self.put_rows(alloc, rows.as_slice());
         self.standing = standing_after(&answer);
         answer
