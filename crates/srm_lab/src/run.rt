@@ -49,7 +49,8 @@ const GATHERED: usize = 65_536;
 /// # Errors
 /// The first that is met: of a run in windows the cut is none of 1 to 1,024 members, or the width is no width for this network, before
 /// any work; or more packets crossed a link than its threads count; memory ran out, or a member was to send a packet with its packet
-/// count used up, and nothing was written; or the outlet failed, and has taken as many bytes of the report as the fault tells.
+/// count used up, and of the trace a front was written, of another table nothing; or the outlet failed, and has taken as many bytes
+/// of the report as the fault tells, up to 2^64 - 1.
 pub fn run<R: Threads + Wait + Sync, O: Outlet>(
     rt: &R,
     alloc: Global,
