@@ -193,6 +193,10 @@ class Crews(unittest.TestCase):
             with self.subTest(words=words):
                 self.assertEqual(threads([*words, "--workers", "3"]), 0)
 
+    def test_a_pool_has_threads_of_its_own(self):
+        self.assertGreater(threads([*WINDOW, "--crew", "pool"], chain(20, 1)), 0)
+        self.assertEqual(threads([*WINDOW, "--crew", "plain"], chain(20, 1)), 0)
+
     def test_a_bag_is_asked_for_by_its_name_alone(self):
         text = chain(20, 1)
         plain, pool, bag = (allocations([*WINDOW, "--crew", crew], text) for crew in ("plain", "pool", "bag"))
