@@ -11,14 +11,17 @@ use srm_engine::sink::{RowSink, SinkFault};
 use srm_member::row::Row;
 use std::alloc::Global;
 
-/// Writes a trace to an outlet as its rows come: the header before the first of them. What is short may be gathered before the outlet
-/// is asked to take it; `flush` writes what is left at the end.
+/// Writes a trace to an outlet as its rows come: the header before the first of them. The header and the first rows are written at
+/// once, so that a long run is seen to go; what is short after them may be gathered before the outlet is asked to take it, and
+/// `flush` writes what is left at the end.
 #[derive(Drop)]
 pub struct TraceSink<'a, O> {
     outlet: &'a mut O,
     // What is still to be written, and how long that may be.
     gathered: Vec<u8>,
     room: usize,
+    // Whether it took rows: the first of them are not gathered.
+    has_begun: bool,
     // How many bytes the outlet took, up to 2^64 - 1.
     written: u64,
     standing: Standing,
@@ -80,7 +83,7 @@ impl<'a, O: Outlet> TraceSink<'a, O> {
         TraceSink::gathering(alloc, outlet, 0)
     }
 
-    /// The same, but that up to so many bytes are gathered before they are written.
+    /// The same, but that up to so many bytes are gathered before they are written, once the first rows were.
     pub fn gathering(alloc: Global, outlet: &'a mut O, room: usize) -> Self
         ensures outlet { result.outlet.ghost_name ≡ outlet.entry.ghost_name }
         ensures same { outlet_under result ≡ outlet.old }
@@ -92,6 +95,7 @@ impl<'a, O: Outlet> TraceSink<'a, O> {
             outlet,
             gathered: Vec::new(alloc),
             room,
+            has_begun: false,
             written: 0,
             standing: Standing::Fresh,
         }
@@ -167,7 +171,7 @@ impl<'a, O: Outlet> TraceSink<'a, O> {
         ensures text { PutsText O.taken self.old text.now result self.new }
         ensures left { LeavesOutlet self.old result self.new }
     {
-        if self.gathered.len() + text.len() <= self.room {
+        if self.has_begun && self.gathered.len() + text.len() <= self.room {
             return match self.gathered.extend_from_slice(text) {
                 Ok(()) => Ok(()),
                 Err(_) => Err(SinkFault::NoMemory),
@@ -246,6 +250,7 @@ impl<'a, O: Outlet> RowSink for TraceSink<'a, O> {
         ensures left { LeavesOutlet self.old result self.new }
     {
         let answer = self.put_rows(alloc, rows.as_slice());
+        self.has_begun = self.has_begun || !rows.is_empty();
         self.standing = standing_after(&answer);
         answer
     }
