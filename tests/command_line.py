@@ -59,7 +59,7 @@ def ended(words, text=CHAIN):
         return (done.returncode, done.stdout, done.stderr), len(rest.read())
 
 
-def counted(source, words, text):
+def counted(source, words, text, output=None):
     """How often a run of the program does what a library counts."""
     if source not in libraries:
         libraries[source] = f"{libraries['folder']}/{source}.so"
@@ -67,13 +67,19 @@ def counted(source, words, text):
         subprocess.run(built, check=True)
     with tempfile.NamedTemporaryFile() as told:
         environment = {"LD_PRELOAD": libraries[source], "TELL": told.name}
-        subprocess.run([program, *words], input=text, capture_output=True, env=environment, timeout=60)
+        with open(output or os.devnull, "wb") as taken:
+            subprocess.run([program, *words], input=text, stdout=taken, stderr=subprocess.PIPE, env=environment, timeout=60)
         return os.path.getsize(told.name)
 
 
 def threads(words, text=LONE):
     """How many threads a run starts."""
     return counted("count_threads", words, text)
+
+
+def allocations_with_full_output(words, text):
+    """How many allocations a run makes whose standard output takes nothing, beside those for its words."""
+    return counted("refuse_allocation", words, text, FULL) - counted("refuse_allocation", words, b"[")
 
 
 def allocations(words, text):

@@ -1,1 +1,2 @@
 mod HandedLemmas
+mod Openings

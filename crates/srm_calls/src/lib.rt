@@ -27,3 +27,5 @@ mod trace_sink_tests;
 mod trace_tests;
 #[cfg(test)]
 mod watched;
+#[cfg(test)]
+mod window_tests;
