@@ -5,7 +5,8 @@ usage: tests/command_line.py PROGRAM [-q] [TEST ..]
 
 A seed is seen by the trace, which fuzz_replay.py holds to the model; an engine by whether it refuses a cut of 0, a width by which
 least delay is wide enough for it, a crew and its workers by the threads that are started, and a cut by how much memory is asked
-for, which grows with the jobs of a window. Needs a C compiler, `cc`, for the libraries that count. What is refused is in
+for, which grows with the jobs of a window. That a trace is written as the run goes is seen by the memory that is asked for where
+its output takes nothing. Needs a C compiler, `cc`, for the libraries that count. What is refused is in
 compare_program.py and hostile.py too; here stand each option's words.
 """
 import os
@@ -32,6 +33,7 @@ WINDOW = ["--engine", "window"]
 VERSION = b"srm_lab 0.2.0\n"
 BAD_CUT, BAD_WIDTH = ((1, b"", f"refused: {line}\n".encode()) for line in ("bad-cut", "bad-width"))
 REFUSED = (2, b"", b"command line refused\n")
+FULL = "/dev/full"
 program = None
 libraries = {}
 
@@ -179,6 +181,21 @@ class Windows(unittest.TestCase):
         # 20, 10, 3, 2 jobs and one
         jobs = [asked[cut] for cut in ("1", "2", "9", "10", "20")]
         self.assertEqual(jobs, sorted(set(jobs), reverse=True))
+
+
+class Traces(unittest.TestCase):
+    def test_rows_are_written_before_the_run_ends(self):
+        text = chain(20, 1, 1)
+        for words in ([], WINDOW, [*WINDOW, "--width", "promise", "--cut", "7"], [*WINDOW, "--crew", "pool"], [*WINDOW, "--crew", "bag"]):
+            with self.subTest(words=words):
+                self.assertLess(allocations_with_full_output(words, text), allocations(words, text) / 2)
+
+    def test_other_tables_are_written_at_the_end(self):
+        text = chain(20, 1, 1)
+        for table in ("members", "losses", "links"):
+            words = ["--show", table]
+            with self.subTest(words=words):
+                self.assertGreater(allocations_with_full_output(words, text), allocations(words, text) / 2)
 
 
 class Crews(unittest.TestCase):
