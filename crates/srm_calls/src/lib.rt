@@ -10,6 +10,8 @@ mod crew_tests;
 #[cfg(test)]
 mod feed_tests;
 #[cfg(test)]
+mod gate_tests;
+#[cfg(test)]
 mod ledger_tests;
 #[cfg(test)]
 mod net_tests;
