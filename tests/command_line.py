@@ -185,17 +185,17 @@ class Windows(unittest.TestCase):
 
 class Traces(unittest.TestCase):
     def test_rows_are_written_before_the_run_ends(self):
-        text = chain(20, 1, 1)
+        text = chain(40, 1, 1)
         for words in ([], WINDOW, [*WINDOW, "--width", "promise", "--cut", "7"], [*WINDOW, "--crew", "pool"], [*WINDOW, "--crew", "bag"]):
             with self.subTest(words=words):
-                self.assertLess(allocations_with_full_output(words, text), allocations(words, text) / 2)
+                self.assertLess(allocations_with_full_output(words, text), 3 / 4 * allocations(words, text))
 
     def test_other_tables_are_written_at_the_end(self):
-        text = chain(20, 1, 1)
+        text = chain(40, 1, 1)
         for table in ("members", "losses", "links"):
             words = ["--show", table]
             with self.subTest(words=words):
-                self.assertGreater(allocations_with_full_output(words, text), allocations(words, text) / 2)
+                self.assertGreater(allocations_with_full_output(words, text), 9 / 10 * allocations(words, text))
 
 
 class Crews(unittest.TestCase):
