@@ -4,7 +4,7 @@
 usage: tests/refuse_allocations.py [--program PROGRAM SCENARIO ..] [--threads PROGRAM SCENARIO ..] [--tests PROGRAM[:MODULE] ..]
 
 --program: the simulator, on each of these scenarios with each engine, must end as it does with ample memory, or with the line that
-memory ran out on standard error, nothing on standard output, and status 1.
+memory ran out on standard error, a front of the trace on standard output, and status 1.
 --threads: the same of runs in windows with the crews that take threads. Which allocation has which number differs from run to run
 there, so a run may also come to none with the number that is refused.
 --tests: each test of a test program, or of one of its modules, must pass, whichever of its allocations is refused.
@@ -18,7 +18,7 @@ import subprocess
 import sys
 import tempfile
 
-REFUSED = (1, b"", b"refused: no-memory\n")
+NO_MEMORY = b"refused: no-memory\n"
 LONGEST = 60
 ENGINES = {"step": ["--engine", "step"], "window": ["--engine", "window"]}
 CREWS = {
@@ -53,13 +53,19 @@ def allocations(library, command, text):
         return os.path.getsize(told.name)
 
 
-def each_refused(library, name, command, text, is_right):
+def each_refused(library, name, command, text, may_be):
     """Refuses each allocation in turn, and tells whether each run ended as it must."""
     total = allocations(library, command, text)
-    wrong = [number for number in range(1, total + 1) if not is_right(ended(library, command, text, number))]
+    wrong = [number for number in range(1, total + 1) if not may_be(ended(library, command, text, number))]
     verdict = f"wrong where these are refused: {wrong}" if wrong else "ok"
     print(f"{name}: {total} allocations, each refused in turn: {verdict}")
     return not wrong
+
+
+def is_right(end, ample):
+    """Whether a run ended as it does with ample memory, or for want of it after a front of the trace, which is written as the run goes."""
+    status, written, told = end
+    return end == ample or (status == 1 and ample[1].startswith(written) and told == NO_MEMORY)
 
 
 def each_way(library, program, ways, scenarios):
@@ -69,8 +75,7 @@ def each_way(library, program, ways, scenarios):
         text = pathlib.Path(scenario).read_bytes()
         for name, words in ways.items():
             ample = ended(library, [program, *words], text, 0)
-            must = (ample, REFUSED)
-            right &= each_refused(library, f"{scenario}, {name}", [program, *words], text, lambda end, must=must: end in must)
+            right &= each_refused(library, f"{scenario}, {name}", [program, *words], text, lambda end, ample=ample: is_right(end, ample))
     return right
 
 
