@@ -3,36 +3,36 @@
 
 usage: bench/peak_memory.py PROGRAM [--show TABLE]
 
-Runs PROGRAM on a star of 65 nodes with 64 members, of which one draws 100 times on four pages, and then all send 250, 1,000 and 4,000
-session messages in turn: some 22,000, 70,000 and 262,000 rows, while what the members hold stays the same. Prints, for each engine
-and crew, the rows and the peak resident memory of each run, in KiB, and the greatest over the least. The text of the scenario, and
-the members' scripts of it, are in that memory. It asserts nothing.
+Runs PROGRAM on a star of 17 nodes with 16 members. The source's own link drops the first packet of each of four pages, later ones tell
+the others of the loss, and the source leaves. All constants are 0, so that the others ask for what nobody can mend at every tick
+until the run ends, at tick 1,000, 4,000 or 16,000: some 400,000, 1,750,000 and 7,150,000 rows of one and the same scenario. Prints,
+for each engine and crew, the rows and the peak resident memory of each run, in KiB, and the greatest over the least. It asserts
+nothing. With `--show links` the rows are kept: that takes some 2 GB.
 """
 import argparse
 import subprocess
 import sys
 import tempfile
 
-MEMBERS = 64
-DRAWS = 100
+MEMBERS = 16
 PAGES = 4
-MESSAGES = [250, 1000, 4000]
+ENDS = [1000, 4000, 16000]
 WINDOW = ["--engine", "window", "--workers", "2", "--crew"]
 ENGINES = [("step", []), *((f"window, {crew}", [*WINDOW, crew]) for crew in ("plain", "pool", "bag"))]
 
 
-def scenario(messages):
-    """Member 0 draws, and then all members send so many session messages in turn."""
-    until = 10 * (DRAWS + messages + 10)
-    lines = ["version = 1", f"until = {until}", "c1 = 2000", "c2 = 0", "d1 = 1000", "d2 = 0"]
+def scenario(until):
+    """Member 0 draws twice on each page and leaves; its link drops the first packet of each."""
+    lines = ["version = 1", f"until = {until}", "c1 = 0", "c2 = 0", "d1 = 0", "d2 = 0"]
     lines += ['topology = "star"', f"size = {MEMBERS + 1}", "delay = 5"]
-    for node in range(1, MEMBERS + 1):
-        role = "sender" if node == 1 else "receiver"
-        lines += ["[[member]]", f"node = {node}", f'role = "{role}"', f"stream = {node}"]
-    for draw in range(DRAWS):
-        lines += ["[[draw]]", "member = 0", f"page = {draw % PAGES}", f"ink = {draw}", f"at = {10 * draw + 5}"]
-    for message in range(messages):
-        lines += ["[[session]]", f"member = {message % MEMBERS}", f"at = {10 * (DRAWS + message) + 15}"]
+    lines += ["[[member]]", "node = 1", 'role = "sender"', "stream = 1", "leave = 100"]
+    for node in range(2, MEMBERS + 1):
+        lines += ["[[member]]", f"node = {node}", 'role = "receiver"', f"stream = {node}"]
+    for at in (90, 95):
+        for page in range(PAGES):
+            lines += ["[[draw]]", "member = 0", f"page = {page}", "ink = 7", f"at = {at}"]
+    for count in range(PAGES):
+        lines += ["[[drop]]", "link = 0", "sender = 0", f"count = {count}"]
     return ("\n".join(lines) + "\n").encode()
 
 
@@ -64,7 +64,7 @@ def main():
     parser.add_argument("--show", default="trace")
     given = parser.parse_args()
     for name, words in ENGINES:
-        runs = [measure(given.program, [*words, "--show", given.show], scenario(many)) for many in MESSAGES]
+        runs = [measure(given.program, [*words, "--show", given.show], scenario(until)) for until in ENDS]
         peaks = [peak for _, peak in runs]
         told = ", ".join(f"{rows} rows {peak} KiB" for rows, peak in runs)
         print(f"{name}: {told}; {max(peaks) / min(peaks):.2f} times")
