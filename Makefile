@@ -10,7 +10,7 @@ CRATE ?=
 BENCH ?=
 SECONDS ?= 60
 FEW_CASES := 100
-THREADED := two-nodes chain-of-five-one-loss star-loss-at-the-source
+FEW_SCENARIOS := two-nodes chain-of-five-one-loss star-loss-at-the-source
 export RT
 
 .PHONY: build run try check test test-program test-memory fuzz bench install fmt clean help
@@ -53,9 +53,9 @@ test-program: $(PROGRAM) ## compares what the program prints with each file of e
 	@tests/same_bytes.py --runs $(FEW_CASES) $(PROGRAM)
 	@tests/fuzz.py --from 1 --cases $(FEW_CASES) $(PROGRAM)
 
-test-memory: $(PROGRAM) $(TEST_PROGRAMS) ## refuses each allocation in turn, of the program on each example with each engine, on three with each crew that takes threads, and of each test of members, roles and the ledger
+test-memory: $(PROGRAM) $(TEST_PROGRAMS) ## refuses each allocation in turn, of the program on each example with each engine, on three with each table and each crew that takes threads, and of each test of members, roles and the ledger
 	@tests/refuse_allocations.py --program $(PROGRAM) examples/*.toml --tests $(TEST_PROGRAMS:%/srm_calls_tests=%/srm_calls_tests:ledger_tests)
-	@tests/refuse_allocations.py --threads $(PROGRAM) $(THREADED:%=examples/%.toml)
+	@tests/refuse_allocations.py --more $(PROGRAM) $(FEW_SCENARIOS:%=examples/%.toml)
 
 $(TEST_PROGRAMS): $(SOURCES)
 	cd $(@D)/.. && $(RT) test > /dev/null

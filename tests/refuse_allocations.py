@@ -1,12 +1,12 @@
 #!/usr/bin/env python3
 """Runs programs once for each allocation that they make, with that one refused.
 
-usage: tests/refuse_allocations.py [--program PROGRAM SCENARIO ..] [--threads PROGRAM SCENARIO ..] [--tests PROGRAM[:MODULE] ..]
+usage: tests/refuse_allocations.py [--program PROGRAM SCENARIO ..] [--more PROGRAM SCENARIO ..] [--tests PROGRAM[:MODULE] ..]
 
 --program: the simulator, on each of these scenarios with each engine, must end as it does with ample memory, or with the line that
-memory ran out on standard error, a front of the trace on standard output, and status 1.
---threads: the same of runs in windows with the crews that take threads. Which allocation has which number differs from run to run
-there, so a run may also come to none with the number that is refused.
+memory ran out on standard error, a front of the table on standard output, and status 1.
+--more: the same of runs that show each of the other tables, and of runs in windows with the crews that take threads. Which
+allocation has which number differs from run to run there, so such a run may also come to none with the number that is refused.
 --tests: each test of a test program, or of one of its modules, must pass, whichever of its allocations is refused.
 
 Needs a C compiler, `cc`. Prints a line for each scenario and test, and ends with status 1 where one of them failed.
@@ -25,6 +25,7 @@ CREWS = {
     "window, pool": ["--engine", "window", "--crew", "pool"],
     "window, bag, 2 workers": ["--engine", "window", "--crew", "bag", "--workers", "2"],
 }
+TABLES = {table: ["--show", table] for table in ("members", "losses", "links")}
 
 
 def built(folder):
@@ -63,7 +64,7 @@ def each_refused(library, name, command, text, may_be):
 
 
 def is_right(end, ample):
-    """Whether a run ended as it does with ample memory, or for want of it after a front of the trace, which is written as the run goes."""
+    """Whether a run ended as it does with ample memory, or for want of it after a front of its table."""
     status, written, told = end
     return end == ample or (status == 1 and ample[1].startswith(written) and told == NO_MEMORY)
 
@@ -89,13 +90,14 @@ def tests_of(program, module):
 def main():
     parser = argparse.ArgumentParser(description=__doc__, formatter_class=argparse.RawDescriptionHelpFormatter)
     parser.add_argument("--program", nargs="+", default=[], metavar=("PROGRAM", "SCENARIO"))
-    parser.add_argument("--threads", nargs="+", default=[], metavar=("PROGRAM", "SCENARIO"))
+    parser.add_argument("--more", nargs="+", default=[], metavar=("PROGRAM", "SCENARIO"))
     parser.add_argument("--tests", nargs="+", default=[], metavar="PROGRAM[:MODULE]")
     options = parser.parse_args()
     right = True
     with tempfile.TemporaryDirectory() as folder:
         library = built(folder)
-        for ways, (program, *scenarios) in ((ENGINES, options.program or [None]), (CREWS, options.threads or [None])):
+        given = [(ENGINES, options.program), ({**CREWS, **TABLES}, options.more)]
+        for ways, (program, *scenarios) in ((ways, named) for ways, named in given if named):
             right &= each_way(library, program, ways, scenarios)
         for program, _, module in (named.partition(":") for named in options.tests):
             for test in tests_of(program, module):
