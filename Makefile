@@ -3,6 +3,8 @@ PROGRAM := crates/srm_lab/out/srm_lab
 SOURCES := crates.txt $(shell find crates -path '*/out' -prune -o \( -name '*.rt' -o -name '*.antt' \) -print)
 CRATES := $(notdir $(patsubst %/src,%,$(wildcard crates/*/src)))
 TEST_PROGRAMS := crates/srm_examples/out/srm_examples_tests crates/srm_calls/out/srm_calls_tests
+# those that pass whichever allocation is refused
+TESTS_OF_MEMORY := $(TEST_PROGRAMS:%/srm_calls_tests=%/srm_calls_tests:ledger_tests) crates/srm_calls/out/srm_calls_tests:crew_tests
 PREFIX ?= /usr/local
 SCENARIO ?= examples/two-nodes.toml
 ARGUMENTS ?=
@@ -53,8 +55,8 @@ test-program: $(PROGRAM) ## compares what the program prints with each file of e
 	@tests/same_bytes.py --runs $(FEW_CASES) $(PROGRAM)
 	@tests/fuzz.py --from 1 --cases $(FEW_CASES) $(PROGRAM)
 
-test-memory: $(PROGRAM) $(TEST_PROGRAMS) ## refuses each allocation in turn, of the program on each example with each engine, on three with each table and each crew that takes threads, and of each test of members, roles and the ledger
-	@tests/refuse_allocations.py --program $(PROGRAM) examples/*.toml --tests $(TEST_PROGRAMS:%/srm_calls_tests=%/srm_calls_tests:ledger_tests)
+test-memory: $(PROGRAM) $(TEST_PROGRAMS) ## refuses each allocation in turn, of the program on each example with each engine, on three with each table and each crew that takes threads, and of each test of members, roles, the ledger and crews
+	@tests/refuse_allocations.py --program $(PROGRAM) examples/*.toml --tests $(TESTS_OF_MEMORY)
 	@tests/refuse_allocations.py --more $(PROGRAM) $(FEW_SCENARIOS:%=examples/%.toml)
 
 $(TEST_PROGRAMS): $(SOURCES)
