@@ -39,7 +39,7 @@ stuck_no_tree nodes links ss known agree few within t =
     never_leads known a.spec s.parent s.node (all_get (StaysWithin known) links s.link a.spec within a.link) a.joins (agree s.parent b.0 ∙ a.parent) (agree s.node b.1 ∙ a.node)
 
 -- what grew to all nodes is a tree
-pub whole_tree : (nodes : ℕ) (links : List LinkSpec) (ss : List Step) → 1 ≤ nodes → nodes ≤ 256 → All (IsWithin nodes) links → length links + 1 ≡ nodes → Grows links ss → length ss + 1 ≡ nodes → IsTree (plain_network nodes links [])
+pub whole_tree : (nodes : ℕ) (links : List LinkSpec) (ss : List Step) → 1 ≤ nodes → nodes ≤ 1024 → All (IsWithin nodes) links → length links + 1 ≡ nodes → Grows links ss → length ss + 1 ≡ nodes → IsTree (plain_network nodes links [])
 whole_tree nodes links ss some few ends one g all = record {
   some_nodes = some;
   few_nodes = few;

@@ -59,7 +59,7 @@ module _ (parent : ℕ → ℕ) where
         grows links n h (omega arith),
       )
 
-  pub parents_tree : (nodes : ℕ) (links : List LinkSpec) → 1 ≤ nodes → nodes ≤ 256 → All (IsWithin nodes) links → length links + 1 ≡ nodes → JoinsParents parent links → IsTree (plain_network nodes links [])
+  pub parents_tree : (nodes : ℕ) (links : List LinkSpec) → 1 ≤ nodes → nodes ≤ 1024 → All (IsWithin nodes) links → length links + 1 ≡ nodes → JoinsParents parent links → IsTree (plain_network nodes links [])
   parents_tree nodes links some few ends many h =
       let taken : length (steps (length links)) + 1 ≡ nodes = omega (arith, steps_length (length links)) in
       whole_tree nodes links (steps (length links)) some few ends many (grows links (length links) h (omega arith)) taken

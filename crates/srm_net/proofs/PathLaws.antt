@@ -39,9 +39,9 @@ hosts_in nodes [] a x i = absurd (false≢true i)
 hosts_in nodes (y ∷ ys) a x i =
     elim (in_cases y x ys i) [ inl e ↦ subst (λ t. t < nodes) e (a 0 0 (omega arith)) | inr e ↦ hosts_in nodes ys (λ k d h. a (suc k) d (omega arith)) x e ]
 
-pub few_members : (w : Network) → IsNetwork w → length w.hosts ≤ 256
+pub few_members : (w : Network) → IsNetwork w → length w.hosts ≤ 1024
 few_members w n =
-    let few : w.nodes ≤ 256 = n.tree.few_nodes in
+    let few : w.nodes ≤ 1024 = n.tree.few_nodes in
     let k = few_apart w.nodes w.hosts (apart_from_distinct w.hosts n.hosts.1) (hosts_in w.nodes w.hosts n.hosts.0) in
     omega arith
 
@@ -70,14 +70,14 @@ delay_at_least links d u (l ∷ ls) v ns w n =
     let h : 1 ≤ delay_from u w.0 = (from_fits u w.0 (all_get HasDelays links l w.0 d w.3)).0 in
     subst (λ n. 1 ≤ n) (sym (along_first links u l w.1 ls w.0 w.3 w.4)) (omega arith)
 
-pub distance_bounded : (w : Network) → IsNetwork w → (a b : ℕ) → a < length w.hosts → b < length w.hosts → distance w a b ≤ 255000000
+pub distance_bounded : (w : Network) → IsNetwork w → (a b : ℕ) → a < length w.hosts → b < length w.hosts → distance w a b ≤ 1023000000
 unfolding distance
 distance_bounded w n a b ha hb =
     let hu = host_below w n a ha in
     let r = route_path w n.tree (host w a) (host w b) hu (host_below w n b hb) in
     let k = delay_at_most w.links n.delays (host w a) (member_route w a b) (host w b) r.0 r.1.0 in
     let l : length (member_route w a b) ≤ length w.links = path_length w n.tree (host w a) (member_route w a b) (host w b) r.0 r.1.0 r.1.1 hu in
-    let few : w.nodes ≤ 256 = n.tree.few_nodes in
+    let few : w.nodes ≤ 1024 = n.tree.few_nodes in
     let one : length w.links + 1 ≡ w.nodes = n.tree.one_fewer in
     omega arith
 

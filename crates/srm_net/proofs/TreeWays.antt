@@ -216,9 +216,9 @@ tells_more nodes links ss s known down up d0 f0 d1 f1 size below new agree a sam
       still = λ u h. e.kept u u (omega arith) (inr refl) ∙ t.still u h;
     }
 
--- no delay between attached nodes is above 255,000,000
-pub told_bounded : (nodes : ℕ) (links : List LinkSpec) (ss : List Step) (delays firsts : List ℕ) → nodes ≤ 256 → All HasDelays links → Below nodes (attached ss) → TellsSoFar nodes links ss delays firsts
-    → (u x : ℕ) → is_in (attached ss) u ≡ true → is_in (attached ss) x ≡ true → number_at nodes delays u x ≤ 255000000
+-- no delay between attached nodes is above 1,023,000,000
+pub told_bounded : (nodes : ℕ) (links : List LinkSpec) (ss : List Step) (delays firsts : List ℕ) → nodes ≤ 1024 → All HasDelays links → Below nodes (attached ss) → TellsSoFar nodes links ss delays firsts
+    → (u x : ℕ) → is_in (attached ss) u ≡ true → is_in (attached ss) x ≡ true → number_at nodes delays u x ≤ 1023000000
 told_bounded nodes links ss delays firsts few d below t u x i j =
     let w = t.ways u x i j in
     let a = delay_at_most links d u w.path x w.nodes w.walk in

@@ -27,10 +27,10 @@ HasOnePath links u v = (ls : List ℕ) × IsPath links u ls v × ((ms : List ℕ
 abbrev pub JoinsTwo : ℕ → LinkSpec → Type 0
 JoinsTwo nodes k = (k.a < nodes) × (k.b < nodes) × (k.a ≢ k.b)
 
--- 1 to 256 nodes, each link between two of them, and exactly one path between any two
+-- 1 to 1,024 nodes, each link between two of them, and exactly one path between any two
 pub record HasOnePathEach (w : Network) : Type 0 where
   pub some_nodes : 1 ≤ w.nodes
-  pub few_nodes : w.nodes ≤ 256
+  pub few_nodes : w.nodes ≤ 1024
   pub ends : All (JoinsTwo w.nodes) w.links
   pub one_path : (u v : ℕ) → u < w.nodes → v < w.nodes → HasOnePath w.links u v
 
@@ -38,11 +38,11 @@ pub record HasOnePathEach (w : Network) : Type 0 where
 abbrev pub TreesHaveOnePath : Type 0
 TreesHaveOnePath = (w : Network) → IsTree w ↔ HasOnePathEach w
 
--- distances are at least 1 between different members, and at most 255,000,000
+-- distances are at least 1 between different members, and at most 1,023,000,000
 abbrev pub DistancesFit : Type 0
 DistancesFit =
     (w : Network) → IsNetwork w → (a b : ℕ) → a < length w.hosts → b < length w.hosts
-    → (a ≢ b → 1 ≤ distance w a b) × (distance w a b ≤ 255000000)
+    → (a ≢ b → 1 ≤ distance w a b) × (distance w a b ≤ 1023000000)
 
 -- where each link takes as long in both directions, so do distances, and half a round trip is the distance
 abbrev pub AlikeBothWays : Type 0

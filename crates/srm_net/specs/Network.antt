@@ -36,10 +36,10 @@ IsWithin nodes k = (k.a < nodes) × (k.b < nodes)
 abbrev pub IsConnected : Network → Type 0
 IsConnected w = (u v : ℕ) → u < w.nodes → v < w.nodes → (ls : List ℕ) × IsPath w.links u ls v
 
--- 1 to 256 nodes, connected by one link fewer
+-- 1 to 1,024 nodes, connected by one link fewer
 pub record IsTree (w : Network) : Type 0 where
   pub some_nodes : 1 ≤ w.nodes
-  pub few_nodes : w.nodes ≤ 256
+  pub few_nodes : w.nodes ≤ 1024
   pub ends : All (IsWithin w.nodes) w.links
   pub one_fewer : length w.links + 1 ≡ w.nodes
   pub connected : IsConnected w

@@ -7,7 +7,7 @@ use std::alloc::AllocError;
 /// `build` looks for them in this order, except that memory may be wanting at any place.
 #[derive(Clone, Copy, Debug, PartialEq, Eq)]
 pub enum NetFault {
-    /// The number of nodes is not 1 to 256, an end of a link is no node, the links are not one fewer than
+    /// The number of nodes is not 1 to 1,024, an end of a link is no node, the links are not one fewer than
     /// the nodes, or they do not connect them.
     NotTree,
     /// A link's delay, in either direction, is not 1 to 1,000,000 ticks.

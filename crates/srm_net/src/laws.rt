@@ -19,12 +19,12 @@ pub fn one_path()
     ensures { OnePath }
 {}
 
-/// Trees are exactly the networks of 1 to 256 nodes, each link between two of them, that have exactly one path between any two nodes.
+/// Trees are exactly the networks of 1 to 1,024 nodes, each link between two of them, that have exactly one path between any two nodes.
 pub fn trees_have_one_path()
     ensures { TreesHaveOnePath }
 {}
 
-/// Distances are at least 1 between different members, and at most 255,000,000 ticks.
+/// Distances are at least 1 between different members, and at most 1,023,000,000 ticks.
 pub fn distances_fit()
     ensures { DistancesFit }
 {}

@@ -51,7 +51,7 @@ impl Net {
     ///
     /// The first of these that applies, though memory may be wanting at any place:
     ///
-    /// 1. [`NetFault::NotTree`]: `nodes` is not 1 to 256, an end of a link is no node, there are not `nodes - 1`
+    /// 1. [`NetFault::NotTree`]: `nodes` is not 1 to 1,024, an end of a link is no node, there are not `nodes - 1`
     ///    links, or they do not connect the nodes.
     /// 2. [`NetFault::BadDelay`]: a delay, in either direction, is not 1 to 1,000,000 ticks.
     /// 3. [`NetFault::BadHost`]: a member is on no node, or two members share one.
@@ -100,7 +100,7 @@ impl Net {
         })
     }
 
-    /// How many members there are: at most 256.
+    /// How many members there are: at most 1,024.
     pub fn members(&self) -> u16
         ensures members { result ≡ length self.now.hosts }
         ensures network { IsNetwork self.now }
@@ -108,7 +108,7 @@ impl Net {
         self.tree.members()
     }
 
-    /// The links, in the order of their numbers: at most 255.
+    /// The links, in the order of their numbers: at most 1,023.
     pub fn links(&self) -> &[LinkSpec]
         ensures links { result.now ≡ self.now.links }
         ensures network { IsNetwork self.now }
@@ -125,26 +125,26 @@ impl Net {
         self.tree.host(m)
     }
 
-    /// How long a packet takes from member `a` to member `b`, in ticks: at most 255,000,000.
+    /// How long a packet takes from member `a` to member `b`, in ticks: at most 1,023,000,000.
     pub fn distance(&self, a: u16, b: u16) -> u64
         requires a { a < length self.now.hosts }
         requires b { b < length self.now.hosts }
         ensures value { result ≡ distance self.now a b }
         ensures apart { a ≢ b → 1 ≤ result }
-        ensures bounded { result ≤ 255000000 }
+        ensures bounded { result ≤ 1023000000 }
         ensures network { IsNetwork self.now }
     {
         self.tree.distance(a, b)
     }
 
     /// The round trip between members `a` and `b`: how long a packet takes from `a` to `b`, and another one back, in ticks. It is at
-    /// most 510,000,000, and the same from either end.
+    /// most 2,046,000,000, and the same from either end.
     pub fn round(&self, a: u16, b: u16) -> u64
         requires a { a < length self.now.hosts }
         requires b { b < length self.now.hosts }
         ensures value { result ≡ round self.now a b }
         ensures apart { a ≢ b → 2 ≤ result }
-        ensures bounded { result ≤ 510000000 }
+        ensures bounded { result ≤ 2046000000 }
         ensures network { IsNetwork self.now }
     {
         self.distance(a, b) + self.distance(b, a)

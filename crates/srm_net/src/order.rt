@@ -11,7 +11,7 @@ use std::alloc::Global;
 
 /// The steps by which the tree of these links grows from node 0, one for each other node.
 ///
-/// [`NetFault::NotTree`] where it is no tree of 1 to 256 nodes.
+/// [`NetFault::NotTree`] where it is no tree of 1 to 1,024 nodes.
 pub(crate) fn attaching_order(
     alloc: Global,
     nodes: u16,
@@ -24,7 +24,7 @@ pub(crate) fn attaching_order(
         ⊎ ((e ≡ NetFault.NotTree) × (¬ IsTree (plain_network nodes links.now [])))) }
 {
     if nodes < 1
-        || nodes > 256
+        || nodes > 1024
         || links.len() + 1 != usize::from(nodes)
         || !are_within(nodes, links)
     {

@@ -37,7 +37,7 @@ impl Model for Tree {
 }
 
 impl Tree {
-    /// How many members there are: at most 256.
+    /// How many members there are: at most 1,024.
     pub(crate) fn members(&self) -> u16
         ensures members { result ≡ length self.now.hosts }
         ensures network { IsNetwork self.now }
@@ -76,7 +76,7 @@ impl Tree {
         requires b { b < length self.now.hosts }
         ensures value { result ≡ distance self.now a b }
         ensures apart { a ≢ b → 1 ≤ result }
-        ensures bounded { result ≤ 255000000 }
+        ensures bounded { result ≤ 1023000000 }
         ensures network { IsNetwork self.now }
     {
         self.ways.delay(self.host(a), self.host(b))

@@ -26,7 +26,7 @@ impl Ways {
         steps: &[Step],
     ) -> Result<Ways, AllocError>
         requires some_nodes { 1 ≤ nodes }
-        requires few_nodes { nodes ≤ 256 }
+        requires few_nodes { nodes ≤ 1024 }
         requires ends { All (IsWithin nodes) links.now }
         requires delays { All HasDelays links.now }
         requires grows { Grows links.now (reverse steps.now) }

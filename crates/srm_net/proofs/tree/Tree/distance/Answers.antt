@@ -36,4 +36,4 @@ returns-clause-apart c d =
 
 pub returns-clause-bounded : goal.returns-clause-bounded
 returns-clause-bounded c =
-    subst (λ n. n ≤ 255000000) (sym (value_here c)) (distance_bounded c.args.self.now (network c) c.args.a c.args.b c.requires.a c.requires.b)
+    subst (λ n. n ≤ 1023000000) (sym (value_here c)) (distance_bounded c.args.self.now (network c) c.args.a c.args.b c.requires.a c.requires.b)

@@ -60,10 +60,10 @@ attach-requires-clause-fits c u h k =
     let size : length c.as_slice.result.now ≡ c.args.nodes = ap length c.as_slice.ensures.value ∙ c.loop-step.invariant.size in
     let inside : is_in (attached (reverse (take c.loop-step.step-index c.args.steps.now))) u ≡ true =
     sym (ap (λ x. is_known x u) c.as_slice.ensures.value ∙ c.loop-step.invariant.known u (omega arith)) ∙ k in
-    let bound : number_at c.args.nodes c.loop-step.ways.delays.cells.items u (get_or c.args.steps.now c.loop-step.step-index no_step).parent ≤ 255000000 =
+    let bound : number_at c.args.nodes c.loop-step.ways.delays.cells.items u (get_or c.args.steps.now c.loop-step.step-index no_step).parent ≤ 1023000000 =
     told_bounded c.args.nodes c.args.links.now (reverse (take c.loop-step.step-index c.args.steps.now)) c.loop-step.ways.delays.cells.items c.loop-step.ways.firsts.cells.items c.requires.few_nodes c.requires.delays t.below c.loop-step.invariant.tells u (get_or c.args.steps.now c.loop-step.step-index no_step).parent inside t.attaches.parent in
-    let here : number_at c.loop-step.ways.delays.width c.loop-step.ways.delays.cells.items u (get_or c.args.steps.now c.loop-step.step-index no_step).parent ≤ 255000000 =
-    subst (λ n. number_at n c.loop-step.ways.delays.cells.items u (get_or c.args.steps.now c.loop-step.step-index no_step).parent ≤ 255000000) (sym c.loop-step.invariant.delays_width) bound in
+    let here : number_at c.loop-step.ways.delays.width c.loop-step.ways.delays.cells.items u (get_or c.args.steps.now c.loop-step.step-index no_step).parent ≤ 1023000000 =
+    subst (λ n. number_at n c.loop-step.ways.delays.cells.items u (get_or c.args.steps.now c.loop-step.step-index no_step).parent ≤ 1023000000) (sym c.loop-step.invariant.delays_width) bound in
     let below : c.from.result < length c.args.links.now = subst (λ l. l < length c.args.links.now) (sym c.from.ensures) t.link in
     let small : delay_from (get_or c.args.steps.now c.loop-step.step-index no_step).parent (get_or c.args.links.now c.from.result no_link) ≤ 1000000 =
     (from_fits (get_or c.args.steps.now c.loop-step.step-index no_step).parent (get_or c.args.links.now c.from.result no_link) (c.requires.delays c.from.result no_link below)).1 in
@@ -76,10 +76,10 @@ attach-requires-clause-fits_back c u h k =
     let size : length c.as_slice.result.now ≡ c.args.nodes = ap length c.as_slice.ensures.value ∙ c.loop-step.invariant.size in
     let inside : is_in (attached (reverse (take c.loop-step.step-index c.args.steps.now))) u ≡ true =
     sym (ap (λ x. is_known x u) c.as_slice.ensures.value ∙ c.loop-step.invariant.known u (omega arith)) ∙ k in
-    let bound : number_at c.args.nodes c.loop-step.ways.delays.cells.items (get_or c.args.steps.now c.loop-step.step-index no_step).parent u ≤ 255000000 =
+    let bound : number_at c.args.nodes c.loop-step.ways.delays.cells.items (get_or c.args.steps.now c.loop-step.step-index no_step).parent u ≤ 1023000000 =
     told_bounded c.args.nodes c.args.links.now (reverse (take c.loop-step.step-index c.args.steps.now)) c.loop-step.ways.delays.cells.items c.loop-step.ways.firsts.cells.items c.requires.few_nodes c.requires.delays t.below c.loop-step.invariant.tells (get_or c.args.steps.now c.loop-step.step-index no_step).parent u t.attaches.parent inside in
-    let here : number_at c.loop-step.ways.delays.width c.loop-step.ways.delays.cells.items (get_or c.args.steps.now c.loop-step.step-index no_step).parent u ≤ 255000000 =
-    subst (λ n. number_at n c.loop-step.ways.delays.cells.items (get_or c.args.steps.now c.loop-step.step-index no_step).parent u ≤ 255000000) (sym c.loop-step.invariant.delays_width) bound in
+    let here : number_at c.loop-step.ways.delays.width c.loop-step.ways.delays.cells.items (get_or c.args.steps.now c.loop-step.step-index no_step).parent u ≤ 1023000000 =
+    subst (λ n. number_at n c.loop-step.ways.delays.cells.items (get_or c.args.steps.now c.loop-step.step-index no_step).parent u ≤ 1023000000) (sym c.loop-step.invariant.delays_width) bound in
     let below : c.from.result < length c.args.links.now = subst (λ l. l < length c.args.links.now) (sym c.from.ensures) t.link in
     let small : delay_from (get_or c.args.steps.now c.loop-step.step-index no_step).node (get_or c.args.links.now c.from.result no_link) ≤ 1000000 =
     (from_fits (get_or c.args.steps.now c.loop-step.step-index no_step).node (get_or c.args.links.now c.from.result no_link) (c.requires.delays c.from.result no_link below)).1 in
