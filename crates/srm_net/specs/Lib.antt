@@ -6,6 +6,7 @@ pub mod Paths
 pub mod Fates
 pub mod Least
 pub mod Listed
+pub mod DropRules
 pub mod DropSets
 pub mod Grids
 pub mod Growth

@@ -1,4 +1,4 @@
-//! Links of a network, and the packets that they are to drop.
+//! Links of a network, the packets that they are to drop, and their outages.
 ghost use Rattle.std.specs.Prelude.{◌≡◌};
 
 use crate::packet::PacketId;
@@ -46,4 +46,16 @@ pub struct DropSpec {
     pub link: u16,
     /// The packet that it drops.
     pub id: PacketId,
+}
+
+/// A span of time in which a link drops each packet that comes to it, from the tick `from` up to below the tick `to`. Where `to` is not
+/// above `from` it has no tick.
+#[derive(Clone, Copy, Debug, PartialEq, Eq, Hash)]
+pub struct OutageSpec {
+    /// The link's number.
+    pub link: u16,
+    /// The first tick of the outage.
+    pub from: u64,
+    /// The tick after its last.
+    pub to: u64,
 }

@@ -14,7 +14,7 @@ ghost use Rattle.srm_scenario.specs.Ranges.{InRange, HasItsPages};
 ghost use Rattle.srm_scenario.specs.Trees.{is_tree};
 
 use crate::bytes::{LONGEST_TEXT, TextFault, read_text};
-use crate::checks::{check_draws, check_drops, check_members, check_sessions};
+use crate::checks::{check_draws, check_drops, check_members, check_outages, check_sessions};
 use crate::delays::Delays;
 use crate::entry::MemberEntry;
 use crate::fault::ScenarioFault;
@@ -116,6 +116,7 @@ fn scenario_from(alloc: Global, listed: Listed) -> Result<Scenario, ScenarioFaul
         draws,
         sessions,
         drops,
+        outages,
     } = listed;
     let links = links_of(alloc, topology, nodes, delays, links)?;
     check_tree(alloc, nodes, &links)?;
@@ -124,6 +125,7 @@ fn scenario_from(alloc: Global, listed: Listed) -> Result<Scenario, ScenarioFaul
     check_draws(until, &members, &draws)?;
     check_sessions(until, &members, &sessions)?;
     check_drops(&links, &members, &drops)?;
+    check_outages(&links, &outages)?;
     let drops = drops_of(alloc, &drops)?;
     Ok(Scenario {
         until,
@@ -134,6 +136,7 @@ fn scenario_from(alloc: Global, listed: Listed) -> Result<Scenario, ScenarioFaul
         draws,
         sessions,
         drops,
+        outages,
     })
 }
 

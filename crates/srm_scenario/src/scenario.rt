@@ -11,7 +11,7 @@ use crate::parts::{Constants, DrawSpec, MemberSpec, SessionSpec};
 use crate::script::script_of;
 use srm_net::drops::Drops;
 use srm_net::fault::NetFault;
-use srm_net::link::LinkSpec;
+use srm_net::link::{LinkSpec, OutageSpec};
 use srm_net::net::Net;
 use srm_net::role::Role;
 use std::alloc::{AllocError, Global};
@@ -29,6 +29,7 @@ pub struct Scenario {
     pub(crate) draws: Vec<DrawSpec>,
     pub(crate) sessions: Vec<SessionSpec>,
     pub(crate) drops: Drops,
+    pub(crate) outages: Vec<OutageSpec>,
 }
 
 impl Model for Scenario {
@@ -46,7 +47,7 @@ impl Model for Scenario {
       members = s.members.items;
       draws = s.draws.items;
       sessions = s.sessions.items;
-      drops = s.drops;
+      drops = record { listed = s.drops; outages = s.outages.items };
     } };
 
     ghost invariant = { λ s. IsAccepted (record {
@@ -57,7 +58,7 @@ impl Model for Scenario {
       members = s.members.items;
       draws = s.draws.items;
       sessions = s.sessions.items;
-      drops = s.drops;
+      drops = record { listed = s.drops; outages = s.outages.items };
     }) };
 }
 
@@ -78,7 +79,7 @@ impl Scenario {
         self.constants
     }
 
-    /// How many members there are: at most 256. They are numbered from 0.
+    /// How many members there are: at most 1,024. They are numbered from 0.
     pub fn members(&self) -> u16
         ensures { result ≡ length self.now.members }
     {
@@ -150,7 +151,7 @@ impl Scenario {
 
     /// The packets that links drop.
     pub fn drops(&self) -> &Drops
-        ensures { result.now ≡ self.now.drops }
+        ensures { result.now ≡ self.now.drops.listed }
     {
         &self.drops
     }
