@@ -11,21 +11,42 @@ LONGEST_TEXT = 1048576
 ROLES = ("sender", "receiver", "late", "listener")
 TOPOLOGIES = ("chain", "star", "tree")
 NEEDED = {"version", "until", "c1", "c2", "d1", "d2"}
-NUMBERS = {
-    "top": {
-        "version": (1, 2), "until": (1, LATEST),
-        "c1": (0, 64000), "c2": (0, 64000), "d1": (0, 64000), "d2": (0, 64000),
-        "nodes": (1, 256), "size": (1, 256), "delay": (1, 1000000), "back": (1, 1000000), "degree": (2, 255),
-    },
-    "link": {"a": (0, 255), "b": (0, 255), "delay": (1, 1000000), "back": (1, 1000000)},
-    "member": {"node": (0, 255), "stream": (0, 2**63 - 1), "join": (0, LATEST), "leave": (1, LATEST)},
-    "draw": {"member": (0, 255), "page": (0, 65535), "ink": (0, 2**32 - 1), "at": (0, LATEST)},
-    "session": {"member": (0, 255), "at": (0, LATEST)},
-    "drop": {"link": (0, 255), "sender": (0, 255), "count": (0, 2**32 - 1)},
-}
-LENGTHS = {"link": 255, "member": 256, "draw": 4096, "session": 4096, "drop": 4096}
+PARTS = ("link", "member", "draw", "session", "drop", "outage")
 PAGES = 256
 PAGE = (0, 65535)
+
+
+def numbers_with(nodes):
+    """The ranges of numbers in a version with at most so many nodes."""
+    number = (0, nodes - 1)
+    return {
+        "top": {
+            "version": (1, 2), "until": (1, LATEST),
+            "c1": (0, 64000), "c2": (0, 64000), "d1": (0, 64000), "d2": (0, 64000),
+            "nodes": (1, nodes), "size": (1, nodes), "delay": (1, 1000000), "back": (1, 1000000), "degree": (2, nodes - 1),
+        },
+        "link": {"a": number, "b": number, "delay": (1, 1000000), "back": (1, 1000000)},
+        "member": {"node": number, "stream": (0, 2**63 - 1), "join": (0, LATEST), "leave": (1, LATEST)},
+        "draw": {"member": number, "page": (0, 65535), "ink": (0, 2**32 - 1), "at": (0, LATEST)},
+        "session": {"member": number, "at": (0, LATEST)},
+        "drop": {"link": number, "sender": number, "count": (0, 2**32 - 1)},
+        "outage": {"link": number, "from": (0, LATEST), "to": (1, LATEST)},
+    }
+
+
+def lengths_with(nodes):
+    """The lengths of arrays in a version with at most so many nodes."""
+    return {"link": nodes - 1, "member": nodes, "draw": 4096, "session": 4096, "drop": 4096}
+
+
+# by the version of the format, of which the first has no outages
+NUMBERS = {1: numbers_with(256), 2: numbers_with(1024)}
+LENGTHS = {1: lengths_with(256), 2: {**lengths_with(1024), "outage": 4096}}
+
+
+def version_of(top):
+    """The version whose ranges hold; a scenario that names another one is refused for that."""
+    return 2 if top.get("version") == 2 else 1
 
 
 # ---- refusals ------------------------------------------------------------------
@@ -42,11 +63,12 @@ def is_array(value, most):
 
 def top_keys(top):
     """The keys that must stand in the top table, and those that may."""
+    arrays = set(LENGTHS[version_of(top)])
     if "topology" not in top:
         needed = NEEDED | {"nodes"}
-        return needed, needed | set(LENGTHS)
+        return needed, needed | arrays
     needed = NEEDED | {"topology", "size", "delay"} | ({"degree"} if top["topology"] == "tree" else set())
-    return needed, needed | set(LENGTHS) - {"link"} | back_key(top.get("version"))
+    return needed, needed | arrays - {"link"} | back_key(version_of(top))
 
 
 def back_key(version):
@@ -56,31 +78,34 @@ def back_key(version):
 
 def top_is_right(top):
     needed, allowed = top_keys(top)
-    return needed <= set(top) <= allowed and all(top_value_is_right(key, value) for key, value in top.items())
+    version = version_of(top)
+    return needed <= set(top) <= allowed and all(top_value_is_right(version, key, value) for key, value in top.items())
 
 
-def top_value_is_right(key, value):
+def top_value_is_right(version, key, value):
     if key == "topology":
         return value in TOPOLOGIES
-    return is_array(value, LENGTHS[key]) if key in LENGTHS else is_number(value, NUMBERS["top"][key])
+    if key in PARTS:
+        return is_array(value, LENGTHS[version][key])
+    return is_number(value, NUMBERS[version]["top"][key])
 
 
 def element_is_right(version, part, element):
     """Whether an element of an array has the keys of its part, and these what they must have."""
     if not isinstance(element, dict):
         return False
-    allowed = set(NUMBERS[part]) - {"back"} | ({"role", "pages"} if part == "member" else set())
+    allowed = set(NUMBERS[version][part]) - {"back"} | ({"role", "pages"} if part == "member" else set())
     needed = allowed - {"join", "leave", "pages"}
     allowed |= back_key(version) if part == "link" else set()
-    return needed <= set(element) <= allowed and all(value_is_right(part, key, value) for key, value in element.items())
+    return needed <= set(element) <= allowed and all(value_is_right(version, part, *it) for it in element.items())
 
 
-def value_is_right(part, key, value):
+def value_is_right(version, part, key, value):
     if key == "role":
         return value in ROLES
     if key == "pages":
         return is_array(value, PAGES) and all(is_number(page, PAGE) for page in value)
-    return is_number(value, NUMBERS[part][key])
+    return is_number(value, NUMBERS[version][part][key])
 
 
 def links_of(top):
@@ -139,7 +164,7 @@ def refusal_of(top):
     """The words of the line that refuses a scenario, as `bad-key draw 1`, or None for one that is accepted."""
     if not top_is_right(top):
         return "bad-key top 0"
-    for part in LENGTHS:
+    for part in PARTS:
         place = first_wrong(top.get(part, []), functools.partial(element_is_right, top["version"], part))
         if place is not None:
             return f"bad-key {part} {place}"
@@ -151,6 +176,7 @@ def refusal_of(top):
         "draw": first_wrong(top.get("draw", []), lambda it: act_fits(top, it, ROLES[:1])),
         "session": first_wrong(top.get("session", []), lambda it: act_fits(top, it, ROLES[:3])),
         "drop": first_wrong(top.get("drop", []), lambda it: it["link"] < len(links) and it["sender"] < len(members)),
+        "outage": first_wrong(top.get("outage", []), lambda it: it["link"] < len(links) and it["from"] < it["to"]),
     }
     return next((f"bad-{part} {place}" for part, place in wrong.items() if place is not None), None)
 
@@ -188,6 +214,9 @@ class Scenario:
         self.listed = collections.defaultdict(set)
         for drop in top.get("drop", []):
             self.listed[drop["sender"], drop["count"]].add(drop["link"])
+        self.outages = collections.defaultdict(list)
+        for outage in top.get("outage", []):
+            self.outages[outage["link"]].append((outage["from"], outage["to"]))
         self.ways, self.distances, self.fates = {}, {}, {}
 
     def path(self, a, b):
@@ -199,12 +228,17 @@ class Scenario:
     def distance(self, a, b):
         """The sum of the delays on the path from one member to another, each in the direction in which the path takes the link."""
         if (a, b) not in self.distances:
-            node, total = self.members[a]["node"], 0
-            for link in self.path(a, b):
-                near, far, delay, back = self.links[link]
-                node, total = (far, total + delay) if node == near else (near, total + back)
-            self.distances[a, b] = total
+            self.distances[a, b] = self.times(a, b, 0)[-1]
         return self.distances[a, b]
+
+    def times(self, a, b, sent):
+        """When a packet that one member sends comes to each link on the path to another, and at last to that member."""
+        node, times = self.members[a]["node"], [sent]
+        for link in self.path(a, b):
+            near, far, delay, back = self.links[link]
+            node, time = (far, times[-1] + delay) if node == near else (near, times[-1] + back)
+            times.append(time)
+        return times
 
     def round_trip(self, a, b):
         """How long a packet takes from one member to another, and another one back."""
@@ -219,22 +253,26 @@ class Scenario:
         leave = self.members[member]["leave"]
         return self.members[member]["join"] <= time < self.until and (leave is None or time <= leave)
 
-    def fate(self, sender, count):
-        """What becomes of a packet; the first link on a path that is configured to drop it is where it ends."""
+    def fate(self, sender, count, sent):
+        """What becomes of a packet sent at a time; the first link on a path that drops it is where it ends."""
         listed = frozenset(self.listed.get((sender, count), ()))
-        if (sender, listed) not in self.fates:
+        key = sender, listed, sent if self.outages else None
+        if key not in self.fates:
             fate = Fate(set(), set(), set())
             for member in range(len(self.members)):
                 if member != sender:
-                    self.follow(self.path(sender, member), listed, member, fate)
-            self.fates[sender, listed] = fate
-        return self.fates[sender, listed]
+                    self.follow(self.path(sender, member), self.times(sender, member, sent), listed, member, fate)
+            self.fates[key] = fate
+        return self.fates[key]
 
-    @staticmethod
-    def follow(path, listed, member, fate):
-        """Adds to a fate what becomes of a packet on the path to one member."""
-        for link in path:
-            if link in listed:
+    def is_out(self, link, time):
+        """Whether a link is out at a time: from the first tick of an outage up to below its last."""
+        return any(first <= time < end for first, end in self.outages.get(link, ()))
+
+    def follow(self, path, times, listed, member, fate):
+        """Adds to a fate what becomes of a packet on the path to one member, which comes to the links of it at these times."""
+        for link, time in zip(path, times):
+            if link in listed or self.is_out(link, time):
                 fate.dropped.add(link)
                 return
             fate.crossed.add(link)

@@ -303,7 +303,7 @@ class Replay:
             return
         member.sent += 1
         self.packets[packet] = row.cause, sends
-        for hearer in self.scenario.fate(*packet).reached:
+        for hearer in self.scenario.fate(*packet, row.time).reached:
             arrival = row.time + self.scenario.distance(row.member, hearer)
             if self.scenario.is_present(hearer, arrival):
                 self.members[hearer].inbox[packet] = arrival

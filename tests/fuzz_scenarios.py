@@ -4,7 +4,7 @@ import copy
 import re
 
 from fuzz_format import (
-    LATEST, LENGTHS, LONGEST_TEXT, NUMBERS, PAGES, ROLES, TOPOLOGIES, Scenario, links_of, refusal_of,
+    LATEST, LENGTHS, LONGEST_TEXT, NUMBERS, PAGES, PARTS, ROLES, TOPOLOGIES, Scenario, links_of, refusal_of, version_of,
 )
 
 try:
@@ -16,7 +16,7 @@ MOST_ROWS = 20000
 FEW = 60
 INKS = (0, 7, 255, 2**31, 2**32 - 1)
 UNKNOWN = "unknown"
-EDGES = (0, 1, 2, 255, 256, 257, 4095, 4096, 64000, 65535, 65536, 2**32 - 1, 2**32, LATEST, LATEST + 1, 2**63 - 1, 2**63)
+EDGES = (0, 1, 2, 255, 256, 257, 1023, 1024, 1025, 4095, 4096, 64000, 65535, 65536, 2**32 - 1, 2**32, LATEST, LATEST + 1, 2**63 - 1, 2**63)
 COMMAND_LINES = (
     ["--show", "colors"], ["--show"], ["--show", "Trace"], ["--show", ""], ["--seed"], ["--seed", "-1"], ["--seed", "1.0"],
     ["--seed", "9223372036854775808"], ["--seed", "18446744073709551616"], ["--seed", ""], ["--seed=x"], ["--seed", "0x1"],
@@ -44,14 +44,15 @@ def small(rng, *limits):
     return rng.randint(limits[at], limits[min(at + 1, len(limits) - 1)])
 
 
-def network(rng):
+def network(rng, version):
     """The keys of a network."""
-    nodes = small(rng, 2, 8, 24, 64, 256) if rng.random() < 0.95 else 1
+    most = NUMBERS[version]["top"]["nodes"][1]
+    nodes = small(rng, *sorted({2, 8, 24, 64, 256, most})) if rng.random() < 0.95 else 1
     shape = rng.choice([*TOPOLOGIES, "links", "links"])
     delay = rng.choice([1, 1, rng.randint(2, 9), rng.randint(10, 1000), 1000000])
     if shape == "links":
         return explicit(rng, nodes, delay)
-    degree = {"degree": rng.choice([2, 3, 4, rng.randint(2, 255)])} if shape == "tree" else {}
+    degree = {"degree": rng.choice([2, 3, 4, rng.randint(2, most - 1)])} if shape == "tree" else {}
     return {"topology": shape, "size": nodes, "delay": delay, **degree}
 
 
@@ -68,9 +69,8 @@ def explicit(rng, nodes, delay):
     return {"nodes": nodes, **({"link": links} if links or rng.random() < 0.5 else {})}
 
 
-def second_version(rng, top):
-    """Makes it a scenario of version 2, in which links may take longer in one direction than in the other."""
-    top["version"] = 2
+def second_delays(rng, top):
+    """Some links take longer in one direction than in the other."""
     for table in [top] if "topology" in top else top.get("link", []):
         if rng.random() < 0.8:
             table["back"] = rng.choice([table["delay"], small(rng, 1, 9, 1000, 1000000), rng.randint(1, table["delay"])])
@@ -96,9 +96,11 @@ def members(rng, top):
 def scenario(rng):
     """The plain data of a scenario that is accepted."""
     usual = rng.choice([[0], [1000], [0, 500, 1000, 2000, 3000], [0, 500, 1000, 2000, 3000], [0, 64000, rng.randrange(64001)]])
-    top = {"version": 1, "until": 1, **{it: rng.choice(usual) for it in ("c1", "c2", "d1", "d2")}, **network(rng)}
-    if rng.random() < 0.4:
-        second_version(rng, top)
+    version = 2 if rng.random() < 0.5 else 1
+    constants = {it: rng.choice(usual) for it in ("c1", "c2", "d1", "d2")}
+    top = {"version": version, "until": 1, **constants, **network(rng, version)}
+    if version == 2 and rng.random() < 0.8:
+        second_delays(rng, top)
     top["member"] = members(rng, top)
     network_of = Scenario(top)
     far = max((network_of.distance(0, it) for it in range(len(top["member"]))), default=0)
@@ -119,7 +121,9 @@ def scenario(rng):
         meet_packets(rng, top, heard)
     top["session"] = [{"member": it, "at": at} for it, at in acts(rng, top, ROLES[:3], hour, told, heard)]
     top["drop"] = drops(rng, top, network_of, dropped)
-    for part in LENGTHS:
+    if version == 2 and drawn <= FEW:
+        top["outage"] = outages(rng, top, network_of, small(rng, 1, 3, 9, 60) if rng.random() < 0.7 else 0)
+    for part in PARTS:
         if part in top and not top[part] and rng.random() < 0.5:
             del top[part]
     return top
@@ -197,7 +201,21 @@ def drops(rng, top, network_of, most):
         if path:
             count = rng.choice([0, rng.randrange(1 + min(9, sent.count(sender))), rng.randrange(40), 2**32 - 1])
             found.append({"link": rng.choice([path[0], rng.choice(path)]), "sender": sender, "count": count})
-    return (found + found[:rng.choice([0, 0, 1])])[:LENGTHS["drop"]]
+    return (found + found[:rng.choice([0, 0, 1])])[:4096]
+
+
+def outages(rng, top, network_of, most):
+    """When links are out: mostly about when something that is drawn or told comes to them, now and then for long."""
+    found, sent = [], top["draw"] + top["session"]
+    for _ in range(most if sent else 0):
+        act, hearer = rng.choice(sent), rng.randrange(len(top["member"]))
+        path, times = network_of.path(act["member"], hearer), network_of.times(act["member"], hearer, act["at"])
+        if path:
+            place = rng.choice([0, rng.randrange(len(path))])
+            first = max(0, times[place] + rng.choice([-9, -1, 0, 0, 0, 1]))
+            end = rng.choice([times[place], times[place] + 1, times[place] + 1, times[-1], first + rng.randint(1, 99), LATEST])
+            found.append({"link": path[place], "from": first, "to": max(first + 1, end)})
+    return [it for it in found if it["to"] <= LATEST]
 
 
 # ---- as text -------------------------------------------------------------------
@@ -231,7 +249,7 @@ def pairs(rng, table):
 def text_of(rng, top):
     """A scenario's plain data as TOML: its arrays inline, or as tables below the top table."""
     tables = [
-        part for part in LENGTHS
+        part for part in PARTS
         if top.get(part) and all(isinstance(it, dict) for it in (top[part] if isinstance(top[part], list) else [0]))
         and rng.random() < 0.4
     ]
@@ -251,7 +269,7 @@ def spoiled(rng, top):
     """A scenario with one or two things changed: a key dropped or added, a value at an edge or of another type, and the like."""
     top = copy.deepcopy(top)
     for _ in range(rng.choice([1, 1, 2])):
-        arrays = [part for part in LENGTHS if isinstance(top.get(part), list) and top[part]]
+        arrays = [part for part in PARTS if isinstance(top.get(part), list) and top[part]]
         part = rng.choice(["top", *arrays])
         table = top if part == "top" else rng.choice(top[part])
         if isinstance(table, dict) and table:
@@ -264,7 +282,7 @@ def drop_key(rng, top, part, table):
 
 
 def add_key(rng, top, part, table):
-    keys = {"nodes", "link", "topology", "size", "delay", "degree", "pages", "join", "leave", "color", "back", "a", "at"}
+    keys = {"nodes", "link", "topology", "size", "delay", "degree", "pages", "join", "leave", "color", "back", "outage", "a", "at"}
     key = rng.choice(sorted(keys - set(table)) or ["color"])
     table[key] = rng.choice([0, 1, 2, [], "chain", "tree"])
 
@@ -275,10 +293,11 @@ def rename_key(rng, top, part, table):
 
 
 def at_an_edge(rng, top, part, table):
-    keys = [key for key in table if key in NUMBERS[part]]
+    ranges = NUMBERS[version_of(top)][part]
+    keys = [key for key in table if key in ranges]
     if keys:
         key = rng.choice(keys)
-        low, high = NUMBERS[part][key]
+        low, high = ranges[key]
         table[key] = rng.choice([low - 1, low, high, high + 1, *EDGES, top.get("until", 1)])
 
 
@@ -289,7 +308,7 @@ def another_type(rng, top, part, table):
 def doubled_element(rng, top, part, table):
     if part != "top":
         place = rng.randrange(len(top[part]) + 1)
-        top[part][place:place] = [copy.deepcopy(table)] * rng.choice([1, 1, LENGTHS[part]])
+        top[part][place:place] = [copy.deepcopy(table)] * rng.choice([1, 1, LENGTHS[version_of(top)].get(part, 1)])
 
 
 def odd_element(rng, top, part, table):
@@ -298,20 +317,20 @@ def odd_element(rng, top, part, table):
 
 
 def another_number(rng, top, part, table):
-    keys = [key for key in table if key in NUMBERS[part] and type(table[key]) is int]
+    keys = [key for key in table if key in NUMBERS[2][part] and type(table[key]) is int]
     if keys:
         key = rng.choice(keys)
         table[key] = max(0, table[key] + rng.choice([-1, 1, 2, rng.randint(-9, 9)]))
 
 
-PLACES = ("a", "b", "node", "member", "link", "sender", "join", "leave", "at")
+PLACES = ("a", "b", "node", "member", "link", "sender", "join", "leave", "at", "from", "to")
 
 
 def another_place(rng, top, part, table):
     """Another node, member, link or time, such as stands somewhere in the scenario, or one more or less."""
     keys = [key for key in table if key in PLACES and part != "top"]
     if keys:
-        numbers = [it[key] for key in keys for other in LENGTHS for it in array_of(top, other) if type(it.get(key)) is int]
+        numbers = [it[key] for key in keys for other in PARTS for it in array_of(top, other) if type(it.get(key)) is int]
         places = [rng.randrange(12), top.get("until", 1), *numbers]
         table[rng.choice(keys)] = max(0, rng.choice(places) + rng.choice([0, 0, -1, 1]))
 
@@ -339,7 +358,7 @@ def has_long_number(value):
 def is_short(top):
     """Whether a run of an accepted scenario has not too many rows for a check in Python."""
     drawn, told, dropped, members = (len(top.get(part, [])) for part in ("draw", "session", "drop", "member"))
-    is_steady = not any(member.get("join") or "leave" in member for member in top.get("member", []))
+    is_steady = not top.get("outage") and not any(member.get("join") or "leave" in member for member in top.get("member", []))
     losses = min(drawn, dropped) if is_steady else drawn
     return rows_at_most(top, losses, top["until"]) + members * (drawn + told) <= 4 * MOST_ROWS
 

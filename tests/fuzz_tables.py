@@ -105,7 +105,7 @@ def links_table(scenario, rows):
     crossed, dropped = collections.Counter(), collections.Counter()
     for row in rows:
         if row.sent is not None:
-            fate = scenario.fate(*row.sent)
+            fate = scenario.fate(*row.sent, row.time)
             crossed.update((link, SENDS[row.cause]) for link in fate.crossed)
             dropped.update(fate.dropped)
     links = range(len(scenario.links))

@@ -59,6 +59,7 @@ fn line_of_scenario_fault(alloc: Global, fault: ScenarioFault) -> Result<String,
         ScenarioFault::BadDraw { place } => format!(in alloc; "refused: bad-draw {place}")?,
         ScenarioFault::BadSession { place } => format!(in alloc; "refused: bad-session {place}")?,
         ScenarioFault::BadDrop { place } => format!(in alloc; "refused: bad-drop {place}")?,
+        ScenarioFault::BadOutage { place } => format!(in alloc; "refused: bad-outage {place}")?,
         ScenarioFault::NoMemory => String::from_str(alloc, "refused: no-memory")?,
     };
     Ok(line)
@@ -88,5 +89,6 @@ fn word_of_part(part: Part) -> &'static str
         Part::Draw => "draw",
         Part::Session => "session",
         Part::Drop => "drop",
+        Part::Outage => "outage",
     }
 }

@@ -1,26 +1,27 @@
 -- What has no fault is as every accepted scenario is.
-use Rattle.std.proofs.Common.{◌≡◌, ◌≢◌, ℕ, zero, suc, ◌+◌, ◌<◌, ◌≤◌, ◌^◌, Bool, true, false, not, cond, List, [], ◌∷◌, ◌++◌, length, map, Option, Some, None, All, nat_le, nat_lt, nat_eq, slice_get, Ordering, Less, Equal, Greater, refl, sym, ap, ◌∙◌, subst, arith, inl, inr}
+use Rattle.std.proofs.Common.{◌≡◌, ◌≢◌, ℕ, ◌+◌, ◌<◌, ◌≤◌, ◌^◌, Bool, true, false, not, cond, List, [], ◌∷◌, ◌++◌, length, map, Option, Some, None, nat_le, nat_lt, nat_eq, slice_get, Ordering, Less, Equal, Greater, refl, sym, ap, ◌∙◌, subst, arith, inl, inr}
 use Rattle.std.proofs.lemmas.Bool.{and_parts, cases_Bool, false≢true, not-true}
 use Rattle.std.proofs.lemmas.Bool.Decides.{nat_tests}
 use Rattle.std.proofs.lemmas.List.Elements.{All-from_recursion}
-use Rattle.std.specs.List.{list_any, AllByRecursion, IsDistinct}
+use Rattle.std.specs.List.{AllByRecursion, IsDistinct}
 use Rattle.std.specs.Ordering.{match_ordering}
 use Rattle.std.specs.Prelude.{◌&&◌, ◌||◌, ◌==◌}
 use Rattle.srm_net.specs.declared.link.DropSpec.{DropSpec}
+use Rattle.srm_net.specs.declared.link.OutageSpec.{OutageSpec}
 use Rattle.srm_net.specs.declared.role.Role.{Role}
 use Rattle.srm_net.specs.declared.role.Role.TheVariants.{Sender, Receiver, Late, Listener}
 use Rattle.srm_net.specs.DropSets.{with_once, ordered_once}
-use Rattle.srm_net.specs.Network.{IsNetwork, HasDelays, AreHosts}
+use Rattle.srm_net.specs.Network.{HasDelays}
 use Rattle.srm_net.specs.Paths.{drop_cmp}
 use Rattle.srm_net.proofs.DropLemmas.{drops_ascend}
 use Rattle.srm_scenario.specs.declared.entry.MemberEntry.{MemberEntry}
 use Rattle.srm_scenario.specs.declared.fault.ScenarioFault.{ScenarioFault}
-use Rattle.srm_scenario.specs.declared.fault.ScenarioFault.TheVariants.{NotTree, BadMember, BadDraw, BadSession, BadDrop}
+use Rattle.srm_scenario.specs.declared.fault.ScenarioFault.TheVariants.{NotTree, BadMember, BadDraw, BadSession, BadDrop, BadOutage}
 use Rattle.srm_scenario.specs.declared.parts.DrawSpec.{DrawSpec}
 use Rattle.srm_scenario.specs.declared.parts.MemberSpec.{MemberSpec}
 use Rattle.srm_scenario.specs.declared.parts.SessionSpec.{SessionSpec}
-use Rattle.srm_scenario.specs.Accepted.{IsMember, IsThere, IsDraw, IsSession, IsDrop, IsAccepted}
-use Rattle.srm_scenario.specs.Faults.{faults_by, fault_unless, stays_to, is_there, is_sender, is_late, is_listener, leaves_after, is_taken, fits_member, member_faults, if_member, fits_draw, fits_session, fits_drop, meaning_faults}
+use Rattle.srm_scenario.specs.Accepted.{IsMember, IsThere, IsDraw, IsSession, IsDrop, IsOutage, IsAccepted}
+use Rattle.srm_scenario.specs.Faults.{faults_by, fault_unless, stays_to, is_there, is_sender, is_late, is_listener, leaves_after, is_taken, fits_member, member_faults, if_member, fits_draw, fits_session, fits_drop, fits_outage, meaning_faults}
 use Rattle.srm_scenario.specs.Plain.{PlainScenario, network_of}
 use Rattle.srm_scenario.specs.Ranges.{MemberInRange, HasItsPages, InRange}
 use Rattle.srm_scenario.specs.Trees.{is_tree}
@@ -49,7 +50,7 @@ all_map : {A : Type 0} (P Q : A → Type 0) → ((x : A) → P x → Q x) → (x
 all_map P Q f [] h = tt
 all_map P Q f (x ∷ xs) h = (f x h.0, all_map P Q f xs h.1)
 
--- ---- draws, session messages and drops
+-- ---- draws, session messages, drops and outages
 
 stays : (at : ℕ) (o : Option ℕ) → stays_to at o ≡ true → (end : ℕ) → o ≡ Some end → at ≤ end
 stays at None h end e = cc
@@ -100,6 +101,11 @@ session_fits s r h = by (slice_get s.members r.member) refl h
 drop_fits : (s : PlainScenario) (d : DropSpec) → fits_drop (length s.links) (length s.members) d ≡ true → IsDrop s d
 drop_fits s d h =
     let (p, q) = and_parts (nat_lt d.link (length s.links)) (nat_lt d.id.sender (length s.members)) h in
+    (grind (arith, nat_tests), grind (arith, nat_tests))
+
+outage_fits : (s : PlainScenario) (o : OutageSpec) → fits_outage (length s.links) o ≡ true → IsOutage s o
+outage_fits s o h =
+    let (p, q) = and_parts (nat_lt o.link (length s.links)) (nat_lt o.from o.to) h in
     (grind (arith, nat_tests), grind (arith, nat_tests))
 
 all_matched : {A : Type 0} (P : A → Type 0) (o : Ordering) (xs ys zs : List A) → AllByRecursion P xs → AllByRecursion P ys → AllByRecursion P zs → AllByRecursion P (match_ordering o xs ys zs)
@@ -225,7 +231,7 @@ nodes_apart until nodes star earlier i (e ∷ es) h =
 -- ---- all together
 
 pub accepted_from : (s : PlainScenario) (star : Bool) (entries : List MemberEntry) (listed : List DropSpec) → InRange s → AllByRecursion HasItsPages entries
-    → s.members ≡ map (λ e. e.spec) entries → s.drops ≡ ordered_once drop_cmp listed → meaning_faults s star entries listed ≡ [] → IsAccepted s
+    → s.members ≡ map (λ e. e.spec) entries → s.drops.listed ≡ ordered_once drop_cmp listed → meaning_faults s star entries listed ≡ [] → IsAccepted s
 unfolding meaning_faults
 accepted_from s star entries listed range its members drops h =
     let (tree, h1) = empty_parts (fault_unless (is_tree (network_of s)) NotTree) _ h in
@@ -233,6 +239,7 @@ accepted_from s star entries listed range its members drops h =
     let (drawn, h3) = empty_parts (faults_by BadDraw (fits_draw s.until s.members) 0 s.draws) _ h2 in
     let (told, h4) = empty_parts (faults_by BadSession (fits_session s.until s.members) 0 s.sessions) _ h3 in
     let (dropped, h5) = empty_parts (faults_by BadDrop (fits_drop (length s.links) (length s.members)) 0 listed) _ h4 in
+    let (out, h6) = empty_parts (faults_by BadOutage (fits_outage (length s.links)) 0 s.drops.outages) _ h5 in
     let ranges : AllByRecursion MemberInRange (map (λ e. e.spec) entries) = subst (λ (l : List MemberSpec). AllByRecursion MemberInRange l) members range.members in
     let fit : AllByRecursion (IsMember s.until) s.members = subst (λ (l : List MemberSpec). AllByRecursion (IsMember s.until) l) (sym members) (members_fit s.until s.nodes star [] 0 entries placed ranges its) in
     let hosts : AllByRecursion (λ n. n < s.nodes) (map (λ k. k.node) s.members) = subst (λ (l : List MemberSpec). AllByRecursion (λ n. n < s.nodes) (map (λ k. k.node) l)) (sym members) (nodes_within s.until s.nodes star [] 0 entries placed) in
@@ -252,6 +259,7 @@ accepted_from s star entries listed range its members drops h =
       few_draws = range.few_draws;
       sessions = All-from_recursion (IsSession s) s.sessions (all_map _ (IsSession s) (session_fits s) s.sessions (none_by BadSession (fits_session s.until s.members) 0 s.sessions told));
       few_sessions = range.few_sessions;
-      drops = All-from_recursion (IsDrop s) s.drops (subst (λ (l : List DropSpec). AllByRecursion (IsDrop s) l) (sym drops) listed_fit);
+      drops = All-from_recursion (IsDrop s) s.drops.listed (subst (λ (l : List DropSpec). AllByRecursion (IsDrop s) l) (sym drops) listed_fit);
       drops_ascend = subst (λ (l : List DropSpec). Rattle.srm_net.specs.Orders.Ascends drop_cmp l) (sym drops) (drops_ascend listed);
+      outages = All-from_recursion (IsOutage s) s.drops.outages (all_map _ (IsOutage s) (outage_fits s) s.drops.outages (none_by BadOutage (fits_outage (length s.links)) 0 s.drops.outages out));
     }

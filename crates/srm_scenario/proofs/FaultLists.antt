@@ -1,10 +1,12 @@
 -- The first fault of a list that is made of others.
-use Rattle.std.proofs.Common.{◌≡◌, true, false, List, [], ◌∷◌, ◌++◌, Some, codes, refl, ap, ◌∙◌, inl, inr}
-use Rattle.toml.specs.Data.{Members}
+use Rattle.std.proofs.Common.{◌≡◌, ℕ, true, false, List, [], ◌∷◌, ◌++◌, Some, codes, refl, sym, ap, subst, ◌∙◌, inl, inr}
+use Rattle.toml.specs.Data.{Data, Members}
+use Rattle.srm_scenario.specs.declared.fault.Part.{Part}
 use Rattle.srm_scenario.specs.declared.fault.Part.TheVariants as part
+use Rattle.srm_scenario.specs.declared.version.Version.{Version}
 use Rattle.srm_scenario.specs.declared.fault.ScenarioFault.{ScenarioFault}
 use Rattle.srm_scenario.specs.declared.fault.ScenarioFault.TheVariants.{BadKey}
-use Rattle.srm_scenario.specs.Rules.{fits, link_rules, member_rules, draw_rules, session_rules, drop_rules}
+use Rattle.srm_scenario.specs.Rules.{Rule, fits, link_rules, member_rules, draw_rules, session_rules, drop_rules, outage_rules}
 use Rattle.srm_scenario.specs.Described.{array_at, version_of}
 use Rattle.srm_scenario.specs.Faults.{first, IsFault, fault_unless, rules_of_top, top_faults, element_faults, key_faults}
 
@@ -25,21 +27,34 @@ later fs rest e none (inr h) = inr (ap (λ xs. first (xs ++ rest)) none ∙ h)
 pub no_faults : (fs rest : List ScenarioFault) → fs ≡ [] → rest ≡ [] → fs ++ rest ≡ []
 no_faults fs rest p q = (λ i. p i ++ q i)
 
+-- the faults of an array's elements, by the version and the values that were read
+pub faults_read : (p : Part) (rules : Version → List Rule) (key : List ℕ) (ms : Members) (version : Version) (ds : List Data) → version_of ms ≡ version → ds ≡ array_at key ms
+    → element_faults p (rules (version_of ms)) (array_at key ms) ≡ element_faults p (rules version) ds
+faults_read p rules key ms version ds same is = λ i. element_faults p (rules (same i)) (sym is i)
+
+-- so the first of them
+pub fault_read : (p : Part) (rules : Version → List Rule) (key : List ℕ) (ms : Members) (version : Version) (ds : List Data) (e : ScenarioFault) → version_of ms ≡ version → ds ≡ array_at key ms
+    → IsFault e (element_faults p (rules version) ds) → IsFault e (element_faults p (rules (version_of ms)) (array_at key ms))
+fault_read p rules key ms version ds e same is = subst (λ (fs : List ScenarioFault). IsFault e fs) (sym (faults_read p rules key ms version ds same is))
+
 module _ (ms : Members) where
   abbrev links : List ScenarioFault
   links = element_faults part.Link (link_rules (version_of ms)) (array_at (codes "link") ms)
 
   abbrev members : List ScenarioFault
-  members = element_faults part.Member member_rules (array_at (codes "member") ms)
+  members = element_faults part.Member (member_rules (version_of ms)) (array_at (codes "member") ms)
 
   abbrev draws : List ScenarioFault
-  draws = element_faults part.Draw draw_rules (array_at (codes "draw") ms)
+  draws = element_faults part.Draw (draw_rules (version_of ms)) (array_at (codes "draw") ms)
 
   abbrev sessions : List ScenarioFault
-  sessions = element_faults part.Session session_rules (array_at (codes "session") ms)
+  sessions = element_faults part.Session (session_rules (version_of ms)) (array_at (codes "session") ms)
 
   abbrev drops : List ScenarioFault
-  drops = element_faults part.Drop drop_rules (array_at (codes "drop") ms)
+  drops = element_faults part.Drop (drop_rules (version_of ms)) (array_at (codes "drop") ms)
+
+  abbrev outages : List ScenarioFault
+  outages = element_faults part.Outage (outage_rules (version_of ms)) (array_at (codes "outage") ms)
 
   no_top_fault : fits (rules_of_top ms) ms ≡ true → top_faults ms ≡ []
   no_top_fault h = ap (λ b. fault_unless b (BadKey part.Top 0)) h
@@ -70,7 +85,14 @@ module _ (ms : Members) where
   drop_fault e top l m d s h =
       later (top_faults ms) _ e (no_top_fault top) (later links _ e l (later members _ e m (later draws _ e d (later sessions _ e s (here drops _ e h)))))
 
-  pub no_key_fault : fits (rules_of_top ms) ms ≡ true → links ≡ [] → members ≡ [] → draws ≡ [] → sessions ≡ [] → drops ≡ [] → key_faults ms ≡ []
+  pub outage_fault : (e : ScenarioFault) → fits (rules_of_top ms) ms ≡ true → links ≡ [] → members ≡ [] → draws ≡ [] → sessions ≡ [] → drops ≡ [] → IsFault e outages → IsFault e (key_faults ms)
   unfolding key_faults
-  no_key_fault top l m d s p =
-      no_faults (top_faults ms) _ (no_top_fault top) (no_faults links _ l (no_faults members _ m (no_faults draws _ d (no_faults sessions _ s (no_faults drops _ p refl)))))
+  outage_fault e top l m d s p h =
+      later (top_faults ms) _ e (no_top_fault top)
+      (later links _ e l (later members _ e m (later draws _ e d (later sessions _ e s (later drops _ e p (here outages _ e h))))))
+
+  pub no_key_fault : fits (rules_of_top ms) ms ≡ true → links ≡ [] → members ≡ [] → draws ≡ [] → sessions ≡ [] → drops ≡ [] → outages ≡ [] → key_faults ms ≡ []
+  unfolding key_faults
+  no_key_fault top l m d s p o =
+      no_faults (top_faults ms) _ (no_top_fault top)
+      (no_faults links _ l (no_faults members _ m (no_faults draws _ d (no_faults sessions _ s (no_faults drops _ p (no_faults outages _ o refl))))))

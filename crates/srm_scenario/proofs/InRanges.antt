@@ -17,7 +17,7 @@ use Rattle.srm_scenario.specs.declared.parts.MemberSpec.{MemberSpec}
 use Rattle.srm_scenario.specs.declared.delays.Delays.{Delays}
 use Rattle.srm_scenario.specs.declared.topology.Topology.{Topology}
 use Rattle.srm_scenario.specs.declared.version.Version.{Version}
-use Rattle.srm_scenario.specs.Rules.{Rule, rule, whole, required, optional, refused, meets, allows_back, back_rule, is_met, is_whole, has_only, fits, fits_element, link_rules, member_rules, role_rule}
+use Rattle.srm_scenario.specs.Rules.{Rule, rule, whole, required, optional, refused, meets, allows_back, index_rule, back_rule, is_met, is_whole, has_only, fits, fits_element, link_rules, member_rules, role_rule}
 use Rattle.srm_scenario.specs.Described.{version_of, back_at, delays_of, number_of, number_at, number, array_of, array_at, table_of, link_of, member_of, elements_at, links_to_parents, nodes_in, links_in, described, topology_of}
 use Rattle.srm_scenario.specs.Faults.{element_faults, entry_of, key_faults, top_faults}
 use Rattle.srm_scenario.specs.Keys.{AreDelays}
@@ -99,17 +99,17 @@ back_fits m allowed h delay = by (get_member (codes "back") m) allowed h
 link_delay : (v : Version) (m : Members) → fits (link_rules v) m ≡ true → HasDelays (link_of m)
 link_delay v m h =
     let (keys, r1) = and_parts (has_only (map (λ r. r.key) (link_rules v)) m) (list_all (is_met m) (link_rules v)) h in
-    let (a, r2) = and_parts (is_met m (rule (codes "a") (whole 0 255) required)) _ r1 in
-    let (b, r3) = and_parts (is_met m (rule (codes "b") (whole 0 255) required)) _ r2 in
+    let (a, r2) = and_parts (is_met m (index_rule (codes "a") v)) _ r1 in
+    let (b, r3) = and_parts (is_met m (index_rule (codes "b") v)) _ r2 in
     let (delay, r4) = and_parts (is_met m (rule (codes "delay") (whole 1 1000000) required)) _ r3 in
     let (back, r5) = and_parts (is_met m (back_rule (allows_back v))) _ r4 in
     let there = required_number (codes "delay") 1 1000000 m delay in
     (there, back_fits m (allows_back v) back there)
 
-member_range : (m : Members) → fits member_rules m ≡ true → MemberInRange (entry_of m).spec
-member_range m h =
-    let (keys, r1) = and_parts (has_only (map (λ r. r.key) member_rules) m) (list_all (is_met m) member_rules) h in
-    let (node, r2) = and_parts (is_met m (rule (codes "node") (whole 0 255) required)) _ r1 in
+member_range : (v : Version) (m : Members) → fits (member_rules v) m ≡ true → MemberInRange (entry_of m).spec
+member_range v m h =
+    let (keys, r1) = and_parts (has_only (map (λ r. r.key) (member_rules v)) m) (list_all (is_met m) (member_rules v)) h in
+    let (node, r2) = and_parts (is_met m (index_rule (codes "node") v)) _ r1 in
     let (role, r3) = and_parts (is_met m role_rule) _ r2 in
     let (stream, r4) = and_parts (is_met m (rule (codes "stream") (whole 0 9223372036854775807) required)) _ r3 in
     let (join, r5) = and_parts (is_met m (rule (codes "join") (whole 0 (2 ^ 40)) optional)) _ r4 in
@@ -120,8 +120,8 @@ member_range m h =
       leave = optional_number (codes "leave") 1 (2 ^ 40) m leave;
     }
 
-pages_own : (m : Members) → fits member_rules m ≡ true → HasItsPages (entry_of m)
-pages_own m h none = by (get_member (codes "pages") m) none
+pages_own : (v : Version) (m : Members) → fits (member_rules v) m ≡ true → HasItsPages (entry_of m)
+pages_own v m h none = by (get_member (codes "pages") m) none
   where
     by : (o : Option Data) → is_some o ≡ false → map (λ d. unwrap_or (number_of d) 0) (array_of o) ≡ []
     by None e = refl
@@ -150,12 +150,12 @@ link_part ms h =
     let q = empty_parts (element_faults Rattle.srm_scenario.specs.declared.fault.Part.TheVariants.Link (link_rules (version_of ms)) (array_at (codes "link") ms)) _ p.1 in
     q.0
 
-member_part : (ms : Members) → key_faults ms ≡ [] → element_faults Rattle.srm_scenario.specs.declared.fault.Part.TheVariants.Member member_rules (array_at (codes "member") ms) ≡ []
+member_part : (ms : Members) → key_faults ms ≡ [] → element_faults Rattle.srm_scenario.specs.declared.fault.Part.TheVariants.Member (member_rules (version_of ms)) (array_at (codes "member") ms) ≡ []
 unfolding key_faults
 member_part ms h =
     let p = empty_parts (top_faults ms) _ h in
     let q = empty_parts (element_faults Rattle.srm_scenario.specs.declared.fault.Part.TheVariants.Link (link_rules (version_of ms)) (array_at (codes "link") ms)) _ p.1 in
-    let r = empty_parts (element_faults Rattle.srm_scenario.specs.declared.fault.Part.TheVariants.Member member_rules (array_at (codes "member") ms)) _ q.1 in
+    let r = empty_parts (element_faults Rattle.srm_scenario.specs.declared.fault.Part.TheVariants.Member (member_rules (version_of ms)) (array_at (codes "member") ms)) _ q.1 in
     r.0
 
 pub listed_range : (ms : Members) (l : Listed) → IsListed ms l → InRange (plain_of l)
@@ -163,7 +163,7 @@ unfolding plain_of
 listed_range ms l h =
     let links : AllByRecursion HasDelays l.links.items = subst (λ (ks : List LinkSpec). AllByRecursion HasDelays ks) h.links (read_elements HasDelays _ link_of (link_rules (version_of ms)) (link_delay (version_of ms)) _ (link_part ms h.no_fault)) in
     let members : AllByRecursion (λ e. MemberInRange e.spec) l.members.items =
-    subst (λ (es : List MemberEntry). AllByRecursion (λ e. MemberInRange e.spec) es) h.members (read_elements (λ e. MemberInRange e.spec) _ entry_of member_rules member_range _ (member_part ms h.no_fault)) in
+    subst (λ (es : List MemberEntry). AllByRecursion (λ e. MemberInRange e.spec) es) h.members (read_elements (λ e. MemberInRange e.spec) _ entry_of (member_rules (version_of ms)) (member_range (version_of ms)) _ (member_part ms h.no_fault)) in
     record {
       some_ticks = h.some_ticks;
       few_ticks = h.few_ticks;
@@ -176,7 +176,7 @@ listed_range ms l h =
 
 pub listed_pages : (ms : Members) (l : Listed) → IsListed ms l → AllByRecursion HasItsPages l.members.items
 listed_pages ms l h =
-    subst (λ (es : List MemberEntry). AllByRecursion HasItsPages es) h.members (read_elements HasItsPages _ entry_of member_rules pages_own _ (member_part ms h.no_fault))
+    subst (λ (es : List MemberEntry). AllByRecursion HasItsPages es) h.members (read_elements HasItsPages _ entry_of (member_rules (version_of ms)) (pages_own (version_of ms)) _ (member_part ms h.no_fault))
 
 links_same : (ms : Members) (o : Option Topology) (nodes : ℕ) (delays : Delays) (links : List LinkSpec) → nodes_in o ms ≡ nodes → delays_of ms ≡ delays → elements_at (codes "link") link_of ms ≡ links
     → links_in o ms ≡ links_listed o nodes delays links
@@ -203,5 +203,5 @@ described_is ms l h =
       members = members i;
       draws = h.draws i;
       sessions = h.sessions i;
-      drops = ordered_once drop_cmp (h.drops i);
+      drops = record { listed = ordered_once drop_cmp (h.drops i); outages = h.outages i };
     }

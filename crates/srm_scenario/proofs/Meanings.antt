@@ -1,16 +1,16 @@
 -- The faults of what is listed, one check after the other.
 use Rattle.std.proofs.Common.{◌≡◌, ◌⊎◌, Bool, true, false, List, [], ◌++◌, length, map, Some, refl, sym, ap, ◌∙◌, subst, inl, inr}
 use Rattle.srm_net.specs.declared.link.LinkSpec.{LinkSpec}
-use Rattle.srm_net.specs.declared.link.DropSpec.{DropSpec}
 use Rattle.srm_net.specs.DropSets.{ordered_once}
 use Rattle.srm_net.specs.Network.{plain_network, HasDelays}
 use Rattle.srm_net.specs.Paths.{drop_cmp}
+use Rattle.srm_net.specs.DropRules.{DropRules}
 use Rattle.srm_scenario.specs.declared.fault.ScenarioFault.{ScenarioFault}
-use Rattle.srm_scenario.specs.declared.fault.ScenarioFault.TheVariants.{NoMemory, NotTree, BadDraw, BadSession, BadDrop}
+use Rattle.srm_scenario.specs.declared.fault.ScenarioFault.TheVariants.{NoMemory, NotTree, BadDraw, BadSession, BadDrop, BadOutage}
 use Rattle.srm_scenario.specs.declared.listed.Listed.{Listed}
 use Rattle.srm_scenario.specs.declared.parts.MemberSpec.{MemberSpec}
 use Rattle.srm_scenario.specs.Accepted.{IsAccepted}
-use Rattle.srm_scenario.specs.Faults.{first, IsFault, fault_unless, faults_by, is_star, member_faults, fits_draw, fits_session, fits_drop, meaning_faults}
+use Rattle.srm_scenario.specs.Faults.{first, IsFault, fault_unless, faults_by, is_star, member_faults, fits_draw, fits_session, fits_drop, fits_outage, meaning_faults}
 use Rattle.srm_scenario.specs.Listed.{links_listed, plain_of, faults_in}
 use Rattle.srm_scenario.specs.Plain.{PlainScenario, network_of}
 use Rattle.srm_scenario.specs.Ranges.{InRange, HasItsPages}
@@ -40,15 +40,18 @@ Told l members = faults_by BadSession (fits_session l.until members) 0 l.session
 abbrev Dropped : Listed → List LinkSpec → List MemberSpec → List ScenarioFault
 Dropped l links members = faults_by BadDrop (fits_drop (length links) (length members)) 0 l.drops.items
 
+abbrev Out : Listed → List LinkSpec → List ScenarioFault
+Out l links = faults_by BadOutage (fits_outage (length links)) 0 l.outages.items
+
 all_faults : Listed → List LinkSpec → List MemberSpec → List ScenarioFault
-all_faults l links members = Tree l ++ (Placed l ++ (Drawn l members ++ (Told l members ++ (Dropped l links members ++ []))))
+all_faults l links members = Tree l ++ (Placed l ++ (Drawn l members ++ (Told l members ++ (Dropped l links members ++ (Out l links ++ [])))))
 
 -- the faults, by the links and members that were made
 are_all : (l : Listed) (links : List LinkSpec) (members : List MemberSpec) → Made l links members → all_faults l links members ≡ faults_in l
 unfolding all_faults plain_of meaning_faults
 are_all l links members m =
-    ap (λ (ks : List LinkSpec). Tree l ++ (Placed l ++ (Drawn l members ++ (Told l members ++ (Dropped l ks members ++ []))))) m.links_are
-    ∙ ap (λ (ms : List MemberSpec). Tree l ++ (Placed l ++ (Drawn l ms ++ (Told l ms ++ (Dropped l (links_listed l.topology l.nodes l.delays l.links.items) ms ++ []))))) m.members_are
+    ap (λ (ks : List LinkSpec). Tree l ++ (Placed l ++ (Drawn l members ++ (Told l members ++ (Dropped l ks members ++ (Out l ks ++ [])))))) m.links_are
+    ∙ ap (λ (ms : List MemberSpec). Tree l ++ (Placed l ++ (Drawn l ms ++ (Told l ms ++ (Dropped l (links_listed l.topology l.nodes l.delays l.links.items) ms ++ (Out l (links_listed l.topology l.nodes l.delays l.links.items) ++ [])))))) m.members_are
 
 tree_test : (l : Listed) (links : List LinkSpec) (b : Bool) → links ≡ links_listed l.topology l.nodes l.delays l.links.items → is_tree (plain_network l.nodes links []) ≡ b → is_tree (network_of (plain_of l)) ≡ b
 unfolding plain_of
@@ -94,15 +97,23 @@ module _ (l : Listed) (links : List LinkSpec) (e : ScenarioFault) (same : links 
         later (Tree l) _ e (no_tree_fault l links same tree) (later (Placed l) _ e placed (later (Drawn l members) _ e drawn (later (Told l members) _ e told (here (Dropped l links members) _ e (inr h))))) in
         subst (λ (fs : List ScenarioFault). IsFault e fs) (are_all l links members made) f
 
+    pub outage_fault : Drawn l members ≡ [] → Told l members ≡ [] → Dropped l links members ≡ [] → first (Out l links) ≡ Some e → IsFault e (faults_in l)
+    unfolding all_faults made
+    outage_fault drawn told dropped h =
+        let f : IsFault e (all_faults l links members) =
+        later (Tree l) _ e (no_tree_fault l links same tree)
+        (later (Placed l) _ e placed (later (Drawn l members) _ e drawn (later (Told l members) _ e told (later (Dropped l links members) _ e dropped (here (Out l links) _ e (inr h)))))) in
+        subst (λ (fs : List ScenarioFault). IsFault e fs) (are_all l links members made) f
+
 pub no_fault : (l : Listed) (links : List LinkSpec) (members : List MemberSpec) → Made l links members → is_tree (plain_network l.nodes links []) ≡ true
-    → Placed l ≡ [] → Drawn l members ≡ [] → Told l members ≡ [] → Dropped l links members ≡ [] → faults_in l ≡ []
+    → Placed l ≡ [] → Drawn l members ≡ [] → Told l members ≡ [] → Dropped l links members ≡ [] → Out l links ≡ [] → faults_in l ≡ []
 unfolding all_faults
-no_fault l links members m tree placed drawn told dropped =
+no_fault l links members m tree placed drawn told dropped out =
     sym (are_all l links members m)
-    ∙ no_faults (Tree l) _ (no_tree_fault l links m.links_are tree) (no_faults (Placed l) _ placed (no_faults (Drawn l members) _ drawn (no_faults (Told l members) _ told (no_faults (Dropped l links members) _ dropped refl))))
+    ∙ no_faults (Tree l) _ (no_tree_fault l links m.links_are tree) (no_faults (Placed l) _ placed (no_faults (Drawn l members) _ drawn (no_faults (Told l members) _ told (no_faults (Dropped l links members) _ dropped (no_faults (Out l links) _ out refl)))))
 
 -- the scenario that is made is the plain one
-pub plain_made : (l : Listed) (links : List LinkSpec) (members : List MemberSpec) (drops : List DropSpec) → Made l links members → drops ≡ ordered_once drop_cmp l.drops.items
+pub plain_made : (l : Listed) (links : List LinkSpec) (members : List MemberSpec) (drops : DropRules) → Made l links members → drops ≡ record { listed = ordered_once drop_cmp l.drops.items; outages = l.outages.items }
     → ◌≡◌ {A = PlainScenario} (record { until = l.until; constants = l.constants; nodes = l.nodes; links = links; members = members; draws = l.draws.items; sessions = l.sessions.items; drops = drops }) (plain_of l)
 unfolding plain_of
 plain_made l links members drops m same = λ i. record {

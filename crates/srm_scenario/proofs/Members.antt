@@ -1,14 +1,13 @@
 -- How many members there are.
-use Rattle.std.proofs.Common.{◌≡◌, ℕ, ◌<◌, ◌≤◌, Bool, true, false, cond, ◌||◌, List, [], ◌∷◌, map, length, nat_eq, All, refl, arith, ap, sym, ◌∙◌, inl, inr}
+use Rattle.std.proofs.Common.{◌≡◌, ℕ, ◌<◌, ◌≤◌, true, ◌||◌, List, [], ◌∷◌, map, length, nat_eq, arith, ap, sym, ◌∙◌, inl, inr}
 use Rattle.std.proofs.lemmas.Bool.{cases_Bool, false≢true}
 use Rattle.std.proofs.lemmas.Bool.Decides.{nat_tests}
 use Rattle.std.proofs.lemmas.List.Elements.{recursion_from_All}
 use Rattle.std.proofs.lemmas.List.{length-map}
 use Rattle.std.proofs.lemmas.Map.Steps.{length-le_from_distinct_below}
-use Rattle.std.specs.List.{list_any, IsDistinct, AllByRecursion}
-use Rattle.srm_net.specs.Network.{IsNetwork}
+use Rattle.std.specs.List.{list_any, AllByRecursion}
 use Rattle.srm_scenario.specs.declared.parts.MemberSpec.{MemberSpec}
-use Rattle.srm_scenario.specs.Plain.{PlainScenario, network_of}
+use Rattle.srm_scenario.specs.Plain.{PlainScenario}
 use Rattle.srm_scenario.specs.Accepted.{IsAccepted}
 
 -- a number among numbers below n is below n
@@ -20,7 +19,7 @@ below_from_any n q (x ∷ xs) h e =
       | inr other ↦ below_from_any n q xs h.1 (ap (λ b. b || list_any (nat_eq q) xs) (sym other) ∙ e)
     ]
 
-pub few_members : (s : PlainScenario) → IsAccepted s → length s.members ≤ 256
+pub few_members : (s : PlainScenario) → IsAccepted s → length s.members ≤ 1024
 few_members s h =
     let hosts = map (λ (k : MemberSpec). k.node) s.members in
     let below = recursion_from_All (λ n. n < s.nodes) hosts h.network.hosts.0 in

@@ -10,13 +10,15 @@ use Rattle.toml.specs.Data.{Members}
 use Rattle.toml.specs.Parse.{parse_document}
 use Rattle.srm_scenario.specs.declared.entry.MemberEntry.{MemberEntry}
 use Rattle.srm_scenario.specs.declared.fault.ScenarioFault.{ScenarioFault}
-use Rattle.srm_scenario.specs.declared.fault.ScenarioFault.TheVariants.{NoMemory, ReadFault, TooLong, NotToml, BadKey, NotTree, BadMember, BadDraw, BadSession, BadDrop}
+use Rattle.srm_scenario.specs.declared.fault.ScenarioFault.TheVariants.{NoMemory, ReadFault, TooLong, NotToml, BadKey, NotTree, BadMember, BadDraw, BadSession, BadDrop, BadOutage}
 use Rattle.srm_net.specs.declared.link.DropSpec.{DropSpec}
+use Rattle.srm_scenario.specs.declared.fault.Part.{Part}
 use Rattle.srm_scenario.specs.declared.fault.Part.TheVariants as part
+use Rattle.srm_scenario.specs.declared.version.Version.{Version}
 use Rattle.srm_scenario.specs.Described.{array_at, version_of, described}
-use Rattle.srm_scenario.specs.Rules.{fits, fits_element, link_rules, member_rules, draw_rules, session_rules, drop_rules}
+use Rattle.srm_scenario.specs.Rules.{Rule, fits, fits_element, link_rules, member_rules, draw_rules, session_rules, drop_rules, outage_rules}
 use Rattle.srm_scenario.specs.Trees.{is_tree}
-use Rattle.srm_scenario.specs.Faults.{fault_unless, faults_by, rules_of_top, top_faults, member_faults, fits_member, fits_draw, fits_session, fits_drop, key_faults, meaning_faults, faults_of, answer, scenario_of_table, scenario_of_document, scenario_of_text, failures_after, AnswersText}
+use Rattle.srm_scenario.specs.Faults.{fault_unless, faults_by, rules_of_top, top_faults, member_faults, fits_member, fits_draw, fits_session, fits_drop, fits_outage, element_faults, key_faults, meaning_faults, faults_of, answer, scenario_of_table, scenario_of_document, scenario_of_text, failures_after, AnswersText}
 use Rattle.srm_scenario.specs.Plain.{PlainScenario, network_of}
 
 short_text : (text : List ℕ) → length text ≤ 1048576 → scenario_of_text text ≡ cond (is_utf8 text) (scenario_of_document (parse_document text)) (Err NotToml)
@@ -65,6 +67,7 @@ IsOfText (BadMember i) = Unit {0}
 IsOfText (BadDraw i) = Unit {0}
 IsOfText (BadSession i) = Unit {0}
 IsOfText (BadDrop i) = Unit {0}
+IsOfText (BadOutage i) = Unit {0}
 IsOfText NoMemory = Unit {0}
 
 all_append : (xs ys : List ScenarioFault) → AllByRecursion IsOfText xs → AllByRecursion IsOfText ys → AllByRecursion IsOfText (xs ++ ys)
@@ -94,12 +97,14 @@ key_all : (ms : Members) → AllByRecursion IsOfText (key_faults ms)
 unfolding IsOfText key_faults
 key_all ms =
     all_append (top_faults ms) _ (of_unless (fits (rules_of_top ms) ms) (BadKey part.Top 0) tt)
-    (all_append (faults_by (BadKey part.Link) (fits_element (link_rules (version_of ms))) 0 (array_at (codes "link") ms)) _ (of_faults_by (BadKey part.Link) (fits_element (link_rules (version_of ms))) 0 (array_at (codes "link") ms) (λ i. tt))
-    (all_append (faults_by (BadKey part.Member) (fits_element member_rules) 0 (array_at (codes "member") ms)) _ (of_faults_by (BadKey part.Member) (fits_element member_rules) 0 (array_at (codes "member") ms) (λ i. tt))
-    (all_append (faults_by (BadKey part.Draw) (fits_element draw_rules) 0 (array_at (codes "draw") ms)) _ (of_faults_by (BadKey part.Draw) (fits_element draw_rules) 0 (array_at (codes "draw") ms) (λ i. tt))
-    (all_append (faults_by (BadKey part.Session) (fits_element session_rules) 0 (array_at (codes "session") ms)) _ (of_faults_by (BadKey part.Session) (fits_element session_rules) 0 (array_at (codes "session") ms) (λ i. tt))
-    (all_append (faults_by (BadKey part.Drop) (fits_element drop_rules) 0 (array_at (codes "drop") ms)) _ (of_faults_by (BadKey part.Drop) (fits_element drop_rules) 0 (array_at (codes "drop") ms) (λ i. tt))
-    tt)))))
+    (of_array part.Link link_rules (codes "link") _ (of_array part.Member member_rules (codes "member") _
+    (of_array part.Draw draw_rules (codes "draw") _ (of_array part.Session session_rules (codes "session") _
+    (of_array part.Drop drop_rules (codes "drop") _ (of_array part.Outage outage_rules (codes "outage") _ tt))))))
+  where
+    of_array : (p : Part) (rules : Version → List Rule) (key : List ℕ) (rest : List ScenarioFault) → AllByRecursion IsOfText rest
+        → AllByRecursion IsOfText (element_faults p (rules (version_of ms)) (array_at key ms) ++ rest)
+    of_array p rules key rest h =
+        all_append (faults_by (BadKey p) (fits_element (rules (version_of ms))) 0 (array_at key ms)) rest (of_faults_by (BadKey p) (fits_element (rules (version_of ms))) 0 (array_at key ms) (λ i. tt)) h
 
 meaning_all : (s : PlainScenario) (star : Bool) (entries : List MemberEntry) (listed : List DropSpec) → AllByRecursion IsOfText (meaning_faults s star entries listed)
 unfolding IsOfText meaning_faults
@@ -109,7 +114,8 @@ meaning_all s star entries listed =
     (all_append (faults_by BadDraw (fits_draw s.until s.members) 0 s.draws) _ (of_faults_by BadDraw (fits_draw s.until s.members) 0 s.draws (λ i. tt))
     (all_append (faults_by BadSession (fits_session s.until s.members) 0 s.sessions) _ (of_faults_by BadSession (fits_session s.until s.members) 0 s.sessions (λ i. tt))
     (all_append (faults_by BadDrop (fits_drop (length s.links) (length s.members)) 0 listed) _ (of_faults_by BadDrop (fits_drop (length s.links) (length s.members)) 0 listed (λ i. tt))
-    tt))))
+    (all_append (faults_by BadOutage (fits_outage (length s.links)) 0 s.drops.outages) _ (of_faults_by BadOutage (fits_outage (length s.links)) 0 s.drops.outages (λ i. tt))
+    tt)))))
 
 of_answer : (fs : List ScenarioFault) (s : PlainScenario) (e : ScenarioFault) → AllByRecursion IsOfText fs → answer fs s ≡ Err e → IsOfText e
 of_answer [] s e h is = cc
@@ -144,6 +150,7 @@ same_count (Err (BadMember i)) n h = refl
 same_count (Err (BadDraw i)) n h = refl
 same_count (Err (BadSession i)) n h = refl
 same_count (Err (BadDrop i)) n h = refl
+same_count (Err (BadOutage i)) n h = refl
 same_count (Err NoMemory) n h = refl
 
 not_feed_fault : (text : List ℕ) (r : Result PlainScenario ScenarioFault) → length text ≤ 1048576 → IfErr r (λ e. (e ≡ NoMemory) ⊎ (scenario_of_text text ≡ Err e)) → r ≡ Err ReadFault → ⊥

@@ -1,12 +1,12 @@
 -- The test of a tree, and what a tree is.
-use Rattle.std.proofs.Common.{◌≡◌, ℕ, zero, suc, ◌+◌, ◌<◌, ◌≤◌, Bool, true, false, List, [], ◌∷◌, length, Option, Some, None, is_some, All, nat_le, nat_lt, refl, sym, ap, ◌∙◌, arith, inl, inr, eqb}
+use Rattle.std.proofs.Common.{◌≡◌, ℕ, zero, suc, ◌+◌, ◌<◌, Bool, true, false, List, [], ◌∷◌, length, Option, Some, None, is_some, nat_le, nat_lt, refl, ap, arith, inl, inr, eqb}
 use Rattle.std.proofs.lemmas.Bool.{and_parts, cases_Bool, false≢true}
 use Rattle.std.proofs.lemmas.Bool.Decides.{nat_tests}
 use Rattle.std.proofs.lemmas.List.Elements.{recursion_from_All, All-from_recursion}
 use Rattle.std.specs.List.{list_all, AllByRecursion, IsDistinct}
 use Rattle.std.specs.Prelude.{◌&&◌, ◌==◌}
 use Rattle.srm_net.specs.declared.link.LinkSpec.{LinkSpec}
-use Rattle.srm_net.specs.Network.{Network, IsWithin, IsPath, IsTree, IsNetwork, AreHosts, plain_network}
+use Rattle.srm_net.specs.Network.{Network, IsWithin, IsPath, IsTree, AreHosts, plain_network}
 use Rattle.srm_net.specs.Paths.{route_within}
 use Rattle.srm_net.proofs.Numbers.{apart_from_distinct, distinct_from_apart}
 use Rattle.srm_net.proofs.RouteLemmas.{Found, found_path, path_found, path_length}
@@ -69,7 +69,7 @@ unfolding is_tree
 tree_from_test w h =
     let n = w.nodes in
     let (some, rest) = and_parts (nat_le 1 n) _ h in
-    let (few, rest2) = and_parts (nat_le n 256) _ rest in
+    let (few, rest2) = and_parts (nat_le n 1024) _ rest in
     let (ends, rest3) = and_parts (list_all (λ k. nat_lt k.a n && nat_lt k.b n) w.links) _ rest2 in
     let (fewer, ways) = and_parts (length w.links + 1 == n) _ rest3 in
     record {
@@ -88,7 +88,7 @@ test_from_tree w t =
     let some = t.some_nodes in
     let few = t.few_nodes in
     let fewer = t.one_fewer in
-    both (nat_le 1 n) _ (grind (arith, nat_tests)) (both (nat_le n 256) _ (grind (arith, nat_tests)) (both _ _ (all_ends n w.links (recursion_from_All (IsWithin n) w.links t.ends)) (both (length w.links + 1 == n) _ (grind (arith, nat_tests))
+    both (nat_le 1 n) _ (grind (arith, nat_tests)) (both (nat_le n 1024) _ (grind (arith, nat_tests)) (both _ _ (all_ends n w.links (recursion_from_All (IsWithin n) w.links t.ends)) (both (length w.links + 1 == n) _ (grind (arith, nat_tests))
     (all_from_below _ n (λ u hu. all_from_below _ n (λ v hv. path_way w t u v hu hv))))))
 
 -- hosts play no part in it

@@ -1,14 +1,13 @@
 -- Words at the keys of a table.
-use Rattle.std.proofs.Common.{◌≡◌, ℕ, Bool, true, false, not, sym, cond, List, [], ◌∷◌, Option, Some, None, option_map, is_some, codes, refl, ap, ◌∙◌, Bor}
+use Rattle.std.proofs.Common.{◌≡◌, ℕ, Bool, true, false, not, sym, List, Option, Some, None, option_map, is_some, codes, refl, ap, ◌∙◌}
 use Rattle.std.specs.Option.{option_and_then}
 use Rattle.std.specs.Prelude.{◌||◌, ◌&&◌, if◌then◌else◌}
 use Rattle.std.specs.Str.{bytes_eq}
 use Rattle.toml.specs.Data.{Data, Members, string, integer, float, boolean, datetime, array, table, get_member, as_str}
-use Rattle.srm_net.specs.declared.role.Role.{Role}
 use Rattle.srm_net.specs.declared.role.Role.TheVariants.{Sender, Receiver, Late, Listener}
-use Rattle.srm_scenario.specs.declared.topology.Topology.{Topology}
 use Rattle.srm_scenario.specs.declared.topology.Topology.TheVariants.{Chain, Star, Tree}
-use Rattle.srm_scenario.specs.Rules.{Kind, is_met, is_text, rule, refused, meets, role_rule, topology_rule, degree_rule}
+use Rattle.srm_scenario.specs.declared.version.Version.{Version}
+use Rattle.srm_scenario.specs.Rules.{Kind, is_met, rule, refused, meets, role_rule, topology_rule, degree_rule}
 use Rattle.srm_scenario.specs.Described.{is_text_or, role_of, says, number, topology_of}
 
 -- what is read as a text is one
@@ -62,9 +61,9 @@ last_true false true = refl
 last_true false false = refl
 
 -- whether the rule of the degree is met, by whether a tree is named
-pub degree_by : (ms : Members) (tree b : Bool) → says (codes "topology") (codes "tree") ms ≡ tree → is_met ms (degree_rule tree) ≡ b
-    → is_met ms (degree_rule (says (codes "topology") (codes "tree") ms)) ≡ b
-degree_by ms tree b said met = ap (λ t. is_met ms (degree_rule t)) said ∙ met
+pub degree_by : (version : Version) (ms : Members) (tree b : Bool) → says (codes "topology") (codes "tree") ms ≡ tree → is_met ms (degree_rule version tree) ≡ b
+    → is_met ms (degree_rule version (says (codes "topology") (codes "tree") ms)) ≡ b
+degree_by version ms tree b said met = ap (λ t. is_met ms (degree_rule version t)) said ∙ met
 
 pub refused-met : (key : List ℕ) (k : Kind) (ms : Members) (b : Bool) → b ≡ is_some (get_member key ms) → is_met ms (rule key k refused) ≡ not b
 refused-met key k ms b h = by (get_member key ms) ∙ ap not (sym h)

@@ -2,6 +2,7 @@
 use Rattle.std.specs.Prelude.{◌≡◌, ◌≢◌, ℕ, ◌<◌, ◌≤◌, ◌^◌, All, [], Some, length, slice_get}
 use Rattle.srm_net.specs.declared.role.Role.TheVariants.{Sender, Late, Listener}
 use Rattle.srm_net.specs.declared.link.DropSpec.{DropSpec}
+use Rattle.srm_net.specs.declared.link.OutageSpec.{OutageSpec}
 use Rattle.srm_net.specs.Orders.{Ascends}
 use Rattle.srm_net.specs.Network.{IsNetwork}
 use Rattle.srm_net.specs.Paths.{drop_cmp}
@@ -44,6 +45,10 @@ IsSession s r = (k : MemberSpec) × (slice_get s.members r.member ≡ Some k) ×
 abbrev pub IsDrop : PlainScenario → DropSpec → Type 0
 IsDrop s d = (d.link < length s.links) × (d.id.sender < length s.members)
 
+-- an outage is of a link, and ends after it begins
+abbrev pub IsOutage : PlainScenario → OutageSpec → Type 0
+IsOutage s o = (o.link < length s.links) × (o.from < o.to)
+
 -- an accepted scenario
 pub record IsAccepted (s : PlainScenario) : Type 0 where
   pub some_ticks : 1 ≤ s.until
@@ -55,5 +60,6 @@ pub record IsAccepted (s : PlainScenario) : Type 0 where
   pub few_draws : length s.draws ≤ 4096
   pub sessions : All (IsSession s) s.sessions
   pub few_sessions : length s.sessions ≤ 4096
-  pub drops : All (IsDrop s) s.drops
-  pub drops_ascend : Ascends drop_cmp s.drops
+  pub drops : All (IsDrop s) s.drops.listed
+  pub drops_ascend : Ascends drop_cmp s.drops.listed
+  pub outages : All (IsOutage s) s.drops.outages

@@ -6,6 +6,7 @@ use Rattle.srm_net.specs.declared.role.Role.{Role}
 use Rattle.srm_net.specs.declared.role.Role.TheVariants.{Sender, Receiver, Late, Listener}
 use Rattle.srm_net.specs.declared.link.LinkSpec.{LinkSpec}
 use Rattle.srm_net.specs.declared.link.DropSpec.{DropSpec}
+use Rattle.srm_net.specs.declared.link.OutageSpec.{OutageSpec}
 use Rattle.srm_net.specs.DropSets.{ordered_once}
 use Rattle.srm_net.specs.Paths.{drop_cmp}
 use Rattle.srm_scenario.specs.declared.parts.Constants.{Constants}
@@ -112,6 +113,13 @@ drop_of ms = record {
   id = record { sender = number (codes "sender") ms; count = number (codes "count") ms };
 }
 
+abbrev pub outage_of : Members → OutageSpec
+outage_of ms = record {
+  link = number (codes "link") ms;
+  from = number (codes "from") ms;
+  to = number (codes "to") ms;
+}
+
 -- what the elements at a key are read as
 abbrev pub elements_at : {A : Type 0} → List ℕ → (Members → A) → Members → List A
 elements_at key reading ms = map (λ d. reading (table_of d)) (array_at key ms)
@@ -157,6 +165,10 @@ links_in (Some t) ms = links_to_parents t (delays_of ms) 1 (number (codes "size"
 abbrev pub listed_drops : Members → List DropSpec
 listed_drops ms = elements_at (codes "drop") drop_of ms
 
+-- the outages, in the order in which they are listed
+abbrev pub outages_in : Members → List OutageSpec
+outages_in ms = elements_at (codes "outage") outage_of ms
+
 abbrev pub constants_of : Members → Constants
 constants_of ms = record {
   c1 = number (codes "c1") ms;
@@ -174,5 +186,5 @@ described ms = record {
   members = elements_at (codes "member") member_of ms;
   draws = elements_at (codes "draw") draw_of ms;
   sessions = elements_at (codes "session") session_of ms;
-  drops = ordered_once drop_cmp (listed_drops ms);
+  drops = record { listed = ordered_once drop_cmp (listed_drops ms); outages = outages_in ms };
 }

@@ -8,10 +8,11 @@ use Rattle.toml.specs.Parse.{parse_document}
 use Rattle.srm_net.specs.declared.role.Role.{Role}
 use Rattle.srm_net.specs.declared.role.Role.TheVariants.{Sender, Late, Listener}
 use Rattle.srm_net.specs.declared.link.DropSpec.{DropSpec}
+use Rattle.srm_net.specs.declared.link.OutageSpec.{OutageSpec}
 use Rattle.srm_scenario.specs.declared.fault.Part.{Part}
 use Rattle.srm_scenario.specs.declared.fault.Part.TheVariants as part
 use Rattle.srm_scenario.specs.declared.fault.ScenarioFault.{ScenarioFault}
-use Rattle.srm_scenario.specs.declared.fault.ScenarioFault.TheVariants.{NoMemory, ReadFault, TooLong, NotToml, BadKey, NotTree, BadMember, BadDraw, BadSession, BadDrop}
+use Rattle.srm_scenario.specs.declared.fault.ScenarioFault.TheVariants.{NoMemory, ReadFault, TooLong, NotToml, BadKey, NotTree, BadMember, BadDraw, BadSession, BadDrop, BadOutage}
 use Rattle.srm_scenario.specs.declared.entry.MemberEntry.{MemberEntry}
 use Rattle.srm_scenario.specs.declared.parts.MemberSpec.{MemberSpec}
 use Rattle.srm_scenario.specs.declared.parts.DrawSpec.{DrawSpec}
@@ -20,7 +21,7 @@ use Rattle.srm_scenario.specs.declared.topology.Topology.{Topology}
 use Rattle.srm_scenario.specs.declared.topology.Topology.TheVariants.{Star}
 use Rattle.srm_scenario.specs.Plain.{PlainScenario, network_of}
 use Rattle.srm_scenario.specs.Trees.{is_tree}
-use Rattle.srm_scenario.specs.Rules.{Rule, top_rules, link_rules, member_rules, draw_rules, session_rules, drop_rules, fits, fits_element}
+use Rattle.srm_scenario.specs.Rules.{Rule, top_rules, link_rules, member_rules, draw_rules, session_rules, drop_rules, outage_rules, fits, fits_element}
 use Rattle.srm_scenario.specs.Described.{version_of, member_of, says, array_at, table_of, elements_at, topology_of, listed_drops, described}
 
 -- one fault for each element that fails a test, at its place, the first element being at place i
@@ -136,6 +137,10 @@ fits_session until members r = if_member (slice_get members r.member)
 abbrev pub fits_drop : ℕ → ℕ → DropSpec → Bool
 fits_drop links members d = nat_lt d.link links && nat_lt d.id.sender members
 
+-- an outage is of a link, and ends after it begins
+abbrev pub fits_outage : ℕ → OutageSpec → Bool
+fits_outage links o = nat_lt o.link links && nat_lt o.from o.to
+
 -- ---- the answer
 
 -- all lists, one after the other
@@ -149,10 +154,11 @@ key_faults ms =
     all_of (
     top_faults ms
     ∷ element_faults part.Link (link_rules (version_of ms)) (array_at (codes "link") ms)
-    ∷ element_faults part.Member member_rules (array_at (codes "member") ms)
-    ∷ element_faults part.Draw draw_rules (array_at (codes "draw") ms)
-    ∷ element_faults part.Session session_rules (array_at (codes "session") ms)
-    ∷ element_faults part.Drop drop_rules (array_at (codes "drop") ms)
+    ∷ element_faults part.Member (member_rules (version_of ms)) (array_at (codes "member") ms)
+    ∷ element_faults part.Draw (draw_rules (version_of ms)) (array_at (codes "draw") ms)
+    ∷ element_faults part.Session (session_rules (version_of ms)) (array_at (codes "session") ms)
+    ∷ element_faults part.Drop (drop_rules (version_of ms)) (array_at (codes "drop") ms)
+    ∷ element_faults part.Outage (outage_rules (version_of ms)) (array_at (codes "outage") ms)
     ∷ [])
 
 -- the faults of what a table describes: a scenario, whether its topology is a star, its members with whether pages are given for
@@ -165,6 +171,7 @@ meaning_faults s star entries listed =
     ∷ faults_by BadDraw (fits_draw s.until s.members) 0 s.draws
     ∷ faults_by BadSession (fits_session s.until s.members) 0 s.sessions
     ∷ faults_by BadDrop (fits_drop (length s.links) (length s.members)) 0 listed
+    ∷ faults_by BadOutage (fits_outage (length s.links)) 0 s.drops.outages
     ∷ [])
 
 -- all faults of a table, in the order in which they are told

@@ -9,7 +9,7 @@ use Rattle.srm_scenario.specs.declared.topology.Topology.{Topology}
 use Rattle.srm_scenario.specs.declared.topology.Topology.TheVariants.{Tree}
 use Rattle.srm_scenario.specs.declared.parts.Constants.{Constants}
 use Rattle.srm_scenario.specs.Accepted.{AreConstants}
-use Rattle.srm_scenario.specs.Rules.{Rule, rule, whole, elements, required, optional, is_met, is_whole, topology_rule, back_rule, degree_rule, number_rules, shape_rules, array_rules}
+use Rattle.srm_scenario.specs.Rules.{Rule, rule, whole, elements, required, optional, is_met, is_whole, most_nodes, index_rule, topology_rule, back_rule, outage_rule, degree_rule, number_rules, shape_rules, array_rules}
 use Rattle.srm_scenario.specs.Described.{number, number_at, number_of, array_at, says, version_of, topology_of, delays_of, constants_of, nodes_in}
 
 -- the value is this whole number, from low to high
@@ -49,17 +49,41 @@ pub record IsArray (key : List ℕ) (most : ℕ) (ms : Members) (values : List D
   pub is : values ≡ array_at key ms
   pub few : length values ≤ most
 
+-- these values are those of the array at the key `outage`, where a table may have one
+pub record HasOutages (allowed : Bool) (ms : Members) (values : List Data) : Type 0 where
+  pub met : is_met ms (outage_rule allowed) ≡ true
+  pub is : values ≡ array_at (codes "outage") ms
+
+-- the number of a node, a link or a member stands at a key that must be there
+pub record HasIndex (key : List ℕ) (version : Version) (ms : Members) (n : ℕ) : Type 0 where
+  pub met : is_met ms (index_rule key version) ≡ true
+  pub is : number key ms ≡ n
+
+-- a number of nodes stands at a key that must be there
+pub record HasNodes (key : List ℕ) (version : Version) (ms : Members) (n : ℕ) : Type 0 where
+  pub met : is_met ms (rule key (whole 1 (most_nodes version)) required) ≡ true
+  pub is : number key ms ≡ n
+  pub some : 1 ≤ n
+  pub few : n ≤ 1024
+
+-- the degree of a tree stands at its key
+pub record HasTreeDegree (version : Version) (ms : Members) (n : ℕ) : Type 0 where
+  pub met : is_met ms (degree_rule version true) ≡ true
+  pub is : number (codes "degree") ms ≡ n
+  pub least : 2 ≤ n
+  pub most : n ≤ 1023
+
 -- ---- the top table
 
--- the degree of a tree is 2 to 255
+-- the degree of a tree is 2 to 1,023
 abbrev pub HasDegree : Option Topology → Type 0
-HasDegree (Some (Tree degree)) = (2 ≤ degree) × (degree ≤ 255)
+HasDegree (Some (Tree degree)) = (2 ≤ degree) × (degree ≤ 1023)
 HasDegree t = Unit {0}
 
--- this topology, or none, is the one that the table names
-pub record HasTopology (ms : Members) (t : Option Topology) : Type 0 where
+-- this topology, or none, is the one that the table names, as it must be in a version
+pub record HasTopology (version : Version) (ms : Members) (t : Option Topology) : Type 0 where
   pub topology : is_met ms topology_rule ≡ true
-  pub degree : is_met ms (degree_rule (says (codes "topology") (codes "tree") ms)) ≡ true
+  pub degree : is_met ms (degree_rule version (says (codes "topology") (codes "tree") ms)) ≡ true
   pub is : topology_of ms ≡ t
   pub there : is_some (get_member (codes "topology") ms) ≡ is_some t
   pub fits : HasDegree t
@@ -91,17 +115,18 @@ pub record HasShape (version : Version) (ms : Members) (t : Option Topology) (no
   pub topology_fits : HasDegree t
   pub nodes_are : nodes_in (topology_of ms) ms ≡ nodes
   pub some_nodes : 1 ≤ nodes
-  pub few_nodes : nodes ≤ 256
+  pub few_nodes : nodes ≤ 1024
   pub delays_are : delays_of ms ≡ delays
   pub delays_fit : AreDelays t delays
   pub links_are : links ≡ array_at (codes "link") ms
 
--- the table's other arrays, as they must be
-pub record HasArrays (ms : Members) (members draws sessions drops : List Data) : Type 0 where
-  pub met : list_all (is_met ms) array_rules ≡ true
+-- the table's other arrays, as they must be in a version
+pub record HasArrays (version : Version) (ms : Members) (members draws sessions drops outages : List Data) : Type 0 where
+  pub met : list_all (is_met ms) (array_rules version) ≡ true
   pub members_are : members ≡ array_at (codes "member") ms
   pub draws_are : draws ≡ array_at (codes "draw") ms
   pub sessions_are : sessions ≡ array_at (codes "session") ms
   pub few_draws : length draws ≤ 4096
   pub few_sessions : length sessions ≤ 4096
   pub drops_are : drops ≡ array_at (codes "drop") ms
+  pub outages_are : outages ≡ array_at (codes "outage") ms

@@ -10,7 +10,7 @@ use Rattle.srm_scenario.specs.declared.delays.Delays.{Delays}
 use Rattle.srm_scenario.specs.declared.topology.Topology.{Topology}
 use Rattle.srm_scenario.specs.Accepted.{AreConstants}
 use Rattle.srm_scenario.specs.Plain.{PlainScenario}
-use Rattle.srm_scenario.specs.Described.{number, constants_of, topology_of, delays_of, nodes_in, elements_at, link_of, draw_of, session_of, listed_drops, links_to_parents}
+use Rattle.srm_scenario.specs.Described.{number, constants_of, topology_of, delays_of, nodes_in, elements_at, link_of, draw_of, session_of, listed_drops, outages_in, links_to_parents}
 use Rattle.srm_scenario.specs.Faults.{key_faults, meaning_faults, is_star, entry_of}
 use Rattle.srm_scenario.specs.Keys.{HasDegree, AreDelays}
 
@@ -33,6 +33,7 @@ pub record IsListed (ms : Members) (l : Listed) : Type 0 where
   pub draws : elements_at (codes "draw") draw_of ms ≡ l.draws.items
   pub sessions : elements_at (codes "session") session_of ms ≡ l.sessions.items
   pub drops : listed_drops ms ≡ l.drops.items
+  pub outages : outages_in ms ≡ l.outages.items
   pub few_draws : length l.draws.items ≤ 4096
   pub few_sessions : length l.sessions.items ≤ 4096
 
@@ -53,7 +54,7 @@ plain_of l = record {
   members = map (λ e. e.spec) l.members.items;
   draws = l.draws.items;
   sessions = l.sessions.items;
-  drops = ordered_once drop_cmp l.drops.items;
+  drops = record { listed = ordered_once drop_cmp l.drops.items; outages = l.outages.items };
 }
 
 -- the faults of what is listed

@@ -4,9 +4,9 @@ use Rattle.std.specs.declared.cmp.Ordering.{Ordering}
 use Rattle.std.specs.Ordering.{nat_cmp}
 use Rattle.std.specs.Cmp.Lexicographic.{slice_cmp}
 use Rattle.srm_net.specs.declared.link.LinkSpec.{LinkSpec}
-use Rattle.srm_net.specs.declared.link.DropSpec.{DropSpec}
 use Rattle.srm_net.specs.Orders.{ordered}
 use Rattle.srm_net.specs.Network.{Network}
+use Rattle.srm_net.specs.DropRules.{DropRules}
 use Rattle.srm_scenario.specs.declared.mark.Mark.{Mark}
 use Rattle.srm_scenario.specs.declared.parts.Constants.{Constants}
 use Rattle.srm_scenario.specs.declared.parts.MemberSpec.{MemberSpec}
@@ -14,7 +14,7 @@ use Rattle.srm_scenario.specs.declared.parts.DrawSpec.{DrawSpec}
 use Rattle.srm_scenario.specs.declared.parts.SessionSpec.{SessionSpec}
 
 -- what a run is given: events before `until` are handled. Members, links, draws and sessions are numbered in their lists'
--- order, and drops stand in rising order, each once
+-- order, listed drops stand in rising order, each once, and outages in the order of their list
 pub record PlainScenario : Type 0 where
   pub until : ℕ
   pub constants : Constants
@@ -23,7 +23,7 @@ pub record PlainScenario : Type 0 where
   pub members : List MemberSpec
   pub draws : List DrawSpec
   pub sessions : List SessionSpec
-  pub drops : List DropSpec
+  pub drops : DropRules
 
 -- the network of a scenario
 abbrev pub network_of : PlainScenario → Network

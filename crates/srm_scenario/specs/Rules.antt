@@ -1,5 +1,5 @@
 -- The keys of a scenario file: what each may hold, and whether it must be there, in each version of the format.
-use Rattle.std.specs.Prelude.{ℕ, suc, ◌^◌, pos, Bool, true, false, ◌&&◌, List, [], ◌∷◌, ◌++◌, Option, Some, None, codes, map, nat_le, if◌then◌else◌}
+use Rattle.std.specs.Prelude.{ℕ, suc, ◌-◌, ◌^◌, pos, Bool, true, false, ◌&&◌, List, [], ◌∷◌, ◌++◌, Option, Some, None, codes, map, nat_le, if◌then◌else◌}
 use Rattle.std.specs.List.{list_any, list_all}
 use Rattle.std.specs.Str.{bytes_eq}
 use Rattle.srm_scenario.specs.declared.version.Version.{Version}
@@ -32,7 +32,32 @@ pub record Rule : Type 0 where
 abbrev pub rule : List ℕ → Kind → Need → Rule
 rule key kind need = record { key = key; kind = kind; need = need }
 
+-- ---- what differs between the versions
+
+-- how many nodes there are at most, and how many members, each of which has a node of its own
+abbrev pub most_nodes : Version → ℕ
+most_nodes One = 256
+most_nodes Two = 1024
+
+-- the last number that a node, a link or a member may have
+abbrev pub last_number : Version → ℕ
+last_number version = most_nodes version - 1
+
+-- whether links may have a second delay
+abbrev pub allows_back : Version → Bool
+allows_back One = false
+allows_back Two = true
+
+-- whether links may have outages
+abbrev pub allows_outages : Version → Bool
+allows_outages One = false
+allows_outages Two = true
+
 -- ---- the table of the format
+
+-- the number of a node, a link or a member
+abbrev pub index_rule : List ℕ → Version → Rule
+index_rule key version = rule key (whole 0 (last_number version)) required
 
 -- numbers of the top table
 abbrev pub number_rules : List Rule
@@ -49,13 +74,8 @@ number_rules =
 abbrev pub topology_rule : Rule
 topology_rule = rule (codes "topology") (word (codes "chain" ∷ codes "star" ∷ codes "tree" ∷ [])) optional
 
-abbrev pub degree_rule : Bool → Rule
-degree_rule tree = rule (codes "degree") (whole 2 255) (if tree then required else refused)
-
--- whether links may have a second delay
-abbrev pub allows_back : Version → Bool
-allows_back One = false
-allows_back Two = true
+abbrev pub degree_rule : Version → Bool → Rule
+degree_rule version tree = rule (codes "degree") (whole 2 (last_number version)) (if tree then required else refused)
 
 -- the second delay of a link, or of each link of a topology
 abbrev pub back_rule : Bool → Rule
@@ -64,31 +84,36 @@ back_rule allowed = rule (codes "back") (whole 1 1000000) (if allowed then optio
 -- nodes and links, in the top table: `shaped` where it names a topology, `tree` where that is a tree
 abbrev pub shape_rules : Version → Bool → Bool → List Rule
 shape_rules version shaped tree =
-    rule (codes "nodes") (whole 1 256) (if shaped then refused else required)
+    rule (codes "nodes") (whole 1 (most_nodes version)) (if shaped then refused else required)
     ∷ topology_rule
-    ∷ rule (codes "size") (whole 1 256) (if shaped then required else refused)
+    ∷ rule (codes "size") (whole 1 (most_nodes version)) (if shaped then required else refused)
     ∷ rule (codes "delay") (whole 1 1000000) (if shaped then required else refused)
     ∷ back_rule (shaped && allows_back version)
-    ∷ degree_rule tree
-    ∷ rule (codes "link") (elements 255) (if shaped then refused else optional)
+    ∷ degree_rule version tree
+    ∷ rule (codes "link") (elements (last_number version)) (if shaped then refused else optional)
     ∷ []
 
+-- the outages of links
+abbrev pub outage_rule : Bool → Rule
+outage_rule allowed = rule (codes "outage") (elements 4096) (if allowed then optional else refused)
+
 -- the other arrays of the top table
-abbrev pub array_rules : List Rule
-array_rules =
-    rule (codes "member") (elements 256) optional
+abbrev pub array_rules : Version → List Rule
+array_rules version =
+    rule (codes "member") (elements (most_nodes version)) optional
     ∷ rule (codes "draw") (elements 4096) optional
     ∷ rule (codes "session") (elements 4096) optional
     ∷ rule (codes "drop") (elements 4096) optional
+    ∷ outage_rule (allows_outages version)
     ∷ []
 
 abbrev pub top_rules : Version → Bool → Bool → List Rule
-top_rules version shaped tree = number_rules ++ (shape_rules version shaped tree ++ array_rules)
+top_rules version shaped tree = number_rules ++ (shape_rules version shaped tree ++ array_rules version)
 
 abbrev pub link_rules : Version → List Rule
 link_rules version =
-    rule (codes "a") (whole 0 255) required
-    ∷ rule (codes "b") (whole 0 255) required
+    index_rule (codes "a") version
+    ∷ index_rule (codes "b") version
     ∷ rule (codes "delay") (whole 1 1000000) required
     ∷ back_rule (allows_back version)
     ∷ []
@@ -101,9 +126,9 @@ role_rule = rule (codes "role")
 abbrev pub pages_rule : Rule
 pages_rule = rule (codes "pages") (numbers 256 65535) optional
 
-abbrev pub member_rules : List Rule
-member_rules =
-    rule (codes "node") (whole 0 255) required
+abbrev pub member_rules : Version → List Rule
+member_rules version =
+    index_rule (codes "node") version
     ∷ role_rule
     ∷ rule (codes "stream") (whole 0 9223372036854775807) required
     ∷ rule (codes "join") (whole 0 (2 ^ 40)) optional
@@ -111,25 +136,32 @@ member_rules =
     ∷ pages_rule
     ∷ []
 
-abbrev pub draw_rules : List Rule
-draw_rules =
-    rule (codes "member") (whole 0 255) required
+abbrev pub draw_rules : Version → List Rule
+draw_rules version =
+    index_rule (codes "member") version
     ∷ rule (codes "page") (whole 0 65535) required
     ∷ rule (codes "ink") (whole 0 4294967295) required
     ∷ rule (codes "at") (whole 0 (2 ^ 40)) required
     ∷ []
 
-abbrev pub session_rules : List Rule
-session_rules =
-    rule (codes "member") (whole 0 255) required
+abbrev pub session_rules : Version → List Rule
+session_rules version =
+    index_rule (codes "member") version
     ∷ rule (codes "at") (whole 0 (2 ^ 40)) required
     ∷ []
 
-abbrev pub drop_rules : List Rule
-drop_rules =
-    rule (codes "link") (whole 0 255) required
-    ∷ rule (codes "sender") (whole 0 255) required
+abbrev pub drop_rules : Version → List Rule
+drop_rules version =
+    index_rule (codes "link") version
+    ∷ index_rule (codes "sender") version
     ∷ rule (codes "count") (whole 0 4294967295) required
+    ∷ []
+
+abbrev pub outage_rules : Version → List Rule
+outage_rules version =
+    index_rule (codes "link") version
+    ∷ rule (codes "from") (whole 0 (2 ^ 40)) required
+    ∷ rule (codes "to") (whole 1 (2 ^ 40)) required
     ∷ []
 
 -- ---- whether a table meets rules

@@ -6,8 +6,8 @@ use Rattle.srm_scenario.specs.declared.topology.Topology.{Topology}
 use Rattle.srm_scenario.specs.Described.{links_to_parents}
 use Rattle.srm_scenario.specs.Keys.{HasDegree}
 
--- each topology with 1 to 256 nodes is a tree, so that none of them is refused as no tree
+-- each topology with 1 to 1,024 nodes is a tree, so that none of them is refused as no tree
 abbrev pub TopologiesAreTrees : Type 0
 TopologiesAreTrees =
-    (t : Topology) → HasDegree (Some t) → (delays : Delays) (nodes : ℕ) → 1 ≤ nodes → nodes ≤ 256
+    (t : Topology) → HasDegree (Some t) → (delays : Delays) (nodes : ℕ) → 1 ≤ nodes → nodes ≤ 1024
     → IsTree (plain_network nodes (links_to_parents t delays 1 (nodes - 1)) [])

@@ -1,12 +1,12 @@
 //! Whether the parts of a scenario fit one another.
 ghost use Rattle.std.specs.Prelude.{◌≡◌, [], Some, MatchResult, length};
-ghost use Rattle.srm_scenario.specs.declared.fault.ScenarioFault.TheVariants.{BadDraw, BadSession, BadDrop};
-ghost use Rattle.srm_scenario.specs.Faults.{first, faults_by, is_taken, member_faults, fits_member, is_there, fits_draw, fits_session, fits_drop};
+ghost use Rattle.srm_scenario.specs.declared.fault.ScenarioFault.TheVariants.{BadDraw, BadSession, BadDrop, BadOutage};
+ghost use Rattle.srm_scenario.specs.Faults.{first, faults_by, is_taken, member_faults, fits_member, is_there, fits_draw, fits_session, fits_drop, fits_outage};
 
 use crate::entry::MemberEntry;
 use crate::fault::ScenarioFault;
 use crate::parts::{DrawSpec, MemberSpec, SessionSpec};
-use srm_net::link::{DropSpec, LinkSpec};
+use srm_net::link::{DropSpec, LinkSpec, OutageSpec};
 use srm_net::role::Role;
 
 /// Whether a member is there at this time, which is before the end of the run.
@@ -92,6 +92,21 @@ pub(crate) fn check_drops(
         let fits = (drop.link as usize) < links.len() && (drop.id.sender as usize) < members.len();
         if !fits {
             return Err(ScenarioFault::BadDrop { place });
+        }
+    }
+    Ok(())
+}
+
+/// The first outage that is of no link, or does not end after it begins, is a fault.
+pub(crate) fn check_outages(links: &[LinkSpec], outages: &[OutageSpec]) -> Result<(), ScenarioFault>
+    ensures { MatchResult result
+        (λ _. faults_by BadOutage (fits_outage (length links.now)) 0 outages.now ≡ [])
+        (λ e. first (faults_by BadOutage (fits_outage (length links.now)) 0 outages.now) ≡ Some e) }
+{
+    for (place, outage) in outages.iter().enumerate() {
+        let fits = (outage.link as usize) < links.len() && outage.from < outage.to;
+        if !fits {
+            return Err(ScenarioFault::BadOutage { place });
         }
     }
     Ok(())

@@ -8,7 +8,7 @@ ghost use Rattle.srm_scenario.specs.Faults.{accepted, entry_of};
 use crate::element::Element;
 use crate::elements::LAST_TICK;
 use crate::parts::MemberSpec;
-use crate::table::{array, has_key, has_only, number, optional_number, text, whole};
+use crate::table::{array, has_key, has_only, index, number, optional_number, text, whole};
 use crate::version::Version;
 use srm_net::role::Role;
 use srm_net::sequence::Sequence;
@@ -75,13 +75,17 @@ fn pages(alloc: Global, table: &Table) -> Result<Option<Sequence<u16>>, AllocErr
 }
 
 /// A member and whether pages are given for it, from its table.
-fn entry_of(alloc: Global, table: &Table) -> Result<Option<MemberEntry>, AllocError>
-    ensures { IfOk result (λ o. o ≡ accepted member_rules entry_of (table_view table.now)) }
+fn entry_of(
+    alloc: Global,
+    version: Version,
+    table: &Table,
+) -> Result<Option<MemberEntry>, AllocError>
+    ensures { IfOk result (λ o. o ≡ accepted (member_rules version) entry_of (table_view table.now)) }
 {
     if !has_only(table, &["node", "role", "stream", "join", "leave", "pages"]) {
         return Ok(None);
     }
-    let Some(node) = number(table, "node", 0, 255) else {
+    let Some(node) = index(table, "node", version) else {
         return Ok(None);
     };
     let Some(role) = role(table) else {
@@ -101,7 +105,7 @@ fn entry_of(alloc: Global, table: &Table) -> Result<Option<MemberEntry>, AllocEr
     };
     Ok(Some(MemberEntry {
         spec: MemberSpec {
-            node: node as u16,
+            node,
             role,
             stream,
             join: join.unwrap_or(0),
@@ -116,11 +120,11 @@ impl Element for MemberEntry {
     ghost use Rattle.srm_scenario.specs.Rules.{member_rules};
     ghost use Rattle.srm_scenario.specs.Faults.{entry_of};
 
-    ghost rules = { λ _. member_rules };
+    ghost rules = { member_rules };
 
     ghost reading = { entry_of };
 
-    fn read(alloc: Global, _version: Version, table: &Table) -> Result<Option<Self>, AllocError> {
-        entry_of(alloc, table)
+    fn read(alloc: Global, version: Version, table: &Table) -> Result<Option<Self>, AllocError> {
+        entry_of(alloc, version, table)
     }
 }

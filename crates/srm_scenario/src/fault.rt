@@ -18,6 +18,8 @@ pub enum Part {
     Session,
     /// The elements of `drop`.
     Drop,
+    /// The elements of `outage`.
+    Outage,
 }
 
 impl fmt::Display for Part {
@@ -29,6 +31,7 @@ impl fmt::Display for Part {
             Part::Draw => "draw",
             Part::Session => "session",
             Part::Drop => "drop",
+            Part::Outage => "outage",
         })
     }
 }
@@ -79,6 +82,12 @@ pub enum ScenarioFault {
     #[error("drop {place} does not fit the scenario")]
     BadDrop {
         /// The drop's place.
+        place: usize,
+    },
+    /// An outage is of no link, or does not end after it begins.
+    #[error("outage {place} does not fit the scenario")]
+    BadOutage {
+        /// The outage's place.
         place: usize,
     },
     /// Memory ran out. This may come in place of any other answer.

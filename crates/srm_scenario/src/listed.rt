@@ -11,7 +11,7 @@ use crate::fault::{Part, ScenarioFault};
 use crate::parts::{Constants, DrawSpec, SessionSpec};
 use crate::top::top_of;
 use crate::topology::Topology;
-use srm_net::link::{DropSpec, LinkSpec};
+use srm_net::link::{DropSpec, LinkSpec, OutageSpec};
 use std::alloc::Global;
 use toml::Table;
 
@@ -38,6 +38,8 @@ pub(crate) struct Listed {
     pub(crate) sessions: Vec<SessionSpec>,
     /// The drops, as they are listed.
     pub(crate) drops: Vec<DropSpec>,
+    /// The outages.
+    pub(crate) outages: Vec<OutageSpec>,
 }
 
 impl Listed {
@@ -58,6 +60,7 @@ impl Listed {
         let draws = read_elements(alloc, Part::Draw, version, top.arrays.draws)?;
         let sessions = read_elements(alloc, Part::Session, version, top.arrays.sessions)?;
         let drops = read_elements(alloc, Part::Drop, version, top.arrays.drops)?;
+        let outages = read_elements(alloc, Part::Outage, version, top.arrays.outages)?;
         Ok(Listed {
             until: top.numbers.until,
             constants: top.numbers.constants,
@@ -69,6 +72,7 @@ impl Listed {
             draws,
             sessions,
             drops,
+            outages,
         })
     }
 }

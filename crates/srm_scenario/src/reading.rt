@@ -14,7 +14,7 @@ ghost use Rattle.srm_scenario.specs.Ranges.{InRange, HasItsPages};
 ghost use Rattle.srm_scenario.specs.Trees.{is_tree};
 
 use crate::bytes::{LONGEST_TEXT, TextFault, read_text};
-use crate::checks::{check_draws, check_drops, check_members, check_sessions};
+use crate::checks::{check_draws, check_drops, check_members, check_outages, check_sessions};
 use crate::delays::Delays;
 use crate::entry::MemberEntry;
 use crate::fault::ScenarioFault;
@@ -25,7 +25,7 @@ use crate::scenario::Scenario;
 use crate::topology::Topology;
 use srm_net::drops::Drops;
 use srm_net::fault::NetFault;
-use srm_net::link::{DropSpec, LinkSpec};
+use srm_net::link::{DropSpec, LinkSpec, OutageSpec};
 use srm_net::net::Net;
 use std::alloc::{AllocError, Global};
 use toml::Table;
@@ -60,11 +60,17 @@ fn members_of(alloc: Global, entries: Vec<MemberEntry>) -> Result<Vec<MemberSpec
         .collect(alloc)
 }
 
-/// The drops, each once.
-fn drops_of(alloc: Global, drops: &[DropSpec]) -> Result<Drops, ScenarioFault>
-    ensures { MatchResult result (λ set. set ≡ ordered_once drop_cmp drops.now) (λ e. e ≡ ScenarioFault.NoMemory) }
+/// The drops, each once, and the outages.
+fn drops_of(
+    alloc: Global,
+    drops: &[DropSpec],
+    outages: &[OutageSpec],
+) -> Result<Drops, ScenarioFault>
+    ensures { MatchResult result
+        (λ set. set ≡ record { listed = ordered_once drop_cmp drops.now; outages = outages.now })
+        (λ e. e ≡ ScenarioFault.NoMemory) }
 {
-    match Drops::of(alloc, drops) {
+    match Drops::of(alloc, drops, outages) {
         Ok(set) => return Ok(set),
         Err(_) => return Err(ScenarioFault::NoMemory),
     }
@@ -116,6 +122,7 @@ fn scenario_from(alloc: Global, listed: Listed) -> Result<Scenario, ScenarioFaul
         draws,
         sessions,
         drops,
+        outages,
     } = listed;
     let links = links_of(alloc, topology, nodes, delays, links)?;
     check_tree(alloc, nodes, &links)?;
@@ -124,7 +131,8 @@ fn scenario_from(alloc: Global, listed: Listed) -> Result<Scenario, ScenarioFaul
     check_draws(until, &members, &draws)?;
     check_sessions(until, &members, &sessions)?;
     check_drops(&links, &members, &drops)?;
-    let drops = drops_of(alloc, &drops)?;
+    check_outages(&links, &outages)?;
+    let drops = drops_of(alloc, &drops, &outages)?;
     Ok(Scenario {
         until,
         constants,

@@ -78,7 +78,7 @@ impl Scenario {
         self.constants
     }
 
-    /// How many members there are: at most 256. They are numbered from 0.
+    /// How many members there are: at most 1,024. They are numbered from 0.
     pub fn members(&self) -> u16
         ensures { result ≡ length self.now.members }
     {
@@ -148,7 +148,7 @@ impl Scenario {
         self.links.as_slice()
     }
 
-    /// The packets that links drop.
+    /// The packets that links drop, and the outages of links.
     pub fn drops(&self) -> &Drops
         ensures { result.now ≡ self.now.drops }
     {

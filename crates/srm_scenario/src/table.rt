@@ -5,9 +5,10 @@ ghost use Rattle.toml.specs.Data.{as_str, get_member};
 ghost use Rattle.std.specs.List.{list_any};
 ghost use Rattle.std.specs.Str.{bytes_eq};
 ghost use Rattle.toml.specs.View.{view, table_view, items_view};
-ghost use Rattle.srm_scenario.specs.Rules.{rule, whole, elements, required, optional, back_rule, is_met, is_whole, has_only};
-ghost use Rattle.srm_scenario.specs.Keys.{IsNumber, HasNumber, MayHaveNumber, HasBack, IsArray};
+ghost use Rattle.srm_scenario.specs.Rules.{rule, whole, elements, required, optional, most_nodes, index_rule, back_rule, outage_rule, degree_rule, is_met, is_whole, has_only};
+ghost use Rattle.srm_scenario.specs.Keys.{IsNumber, HasNumber, MayHaveNumber, HasIndex, HasNodes, HasTreeDegree, HasBack, HasOutages, IsArray};
 
+use crate::version::Version;
 use toml::{Table, Value};
 
 /// Whether the key is one of these.
@@ -53,6 +54,36 @@ pub(crate) fn number(table: &Table, key: &str, low: u64, high: u64) -> Option<u6
         Some(value) => whole(value, low, high),
         None => None,
     }
+}
+
+/// The number of a node, a link or a member at a key that must be there, if it is one of the version.
+pub(crate) fn index(table: &Table, key: &str, version: Version) -> Option<u16>
+    ensures { MatchOption result
+        (is_met (table_view table.now) (index_rule key.now version) ≡ false)
+        (HasIndex key.now version (table_view table.now)) }
+{
+    let n = number(table, key, 0, u64::from(version.last_number()))?;
+    Some(n as u16)
+}
+
+/// The number of nodes at a key that must be there, if it is one of the version.
+pub(crate) fn nodes(table: &Table, key: &str, version: Version) -> Option<u16>
+    ensures { MatchOption result
+        (is_met (table_view table.now) (rule key.now (whole 1 (most_nodes version)) required) ≡ false)
+        (HasNodes key.now version (table_view table.now)) }
+{
+    let n = number(table, key, 1, u64::from(version.most_nodes()))?;
+    Some(n as u16)
+}
+
+/// The degree of a tree, which must be there, if it is one of the version.
+pub(crate) fn degree(table: &Table, version: Version) -> Option<u16>
+    ensures { MatchOption result
+        (is_met (table_view table.now) (degree_rule version true) ≡ false)
+        (HasTreeDegree version (table_view table.now)) }
+{
+    let n = number(table, "degree", 2, u64::from(version.last_number()))?;
+    Some(n as u16)
 }
 
 /// The whole number at a key that need not be there, if it is one from `low` to `high`: `Some(None)` where the key is not there.
@@ -119,5 +150,21 @@ pub(crate) fn array<'a>(table: &'a Table, key: &str, most: usize) -> Option<&'a 
             None => None,
         },
         None => Some(&[]),
+    }
+}
+
+/// The values of the array at the key `outage`, if there are at most 4,096, where a table may have one: none where the key is not
+/// there.
+pub(crate) fn outages(table: &Table, is_allowed: bool) -> Option<&[Value]>
+    ensures { MatchOption result
+        (is_met (table_view table.now) (outage_rule is_allowed) ≡ false)
+        (λ values. HasOutages is_allowed (table_view table.now) (map view values.now)) }
+{
+    if is_allowed {
+        array(table, "outage", 4096)
+    } else if has_key(table, "outage") {
+        None
+    } else {
+        Some(&[])
     }
 }

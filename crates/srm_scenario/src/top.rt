@@ -10,18 +10,18 @@ ghost use Rattle.srm_scenario.specs.Keys.{HasTopology, HasNumbers, HasShape, Has
 use crate::delays::Delays;
 use crate::elements::LAST_TICK;
 use crate::parts::Constants;
-use crate::table::{array, back, has_key, has_only, number, text};
+use crate::table::{array, back, degree, has_key, has_only, nodes, number, outages, text};
 use crate::topology::Topology;
 use crate::version::Version;
 use toml::{Table, Value};
 
 /// The topology that the table names: `Some(None)` where it names none.
-fn topology(table: &Table) -> Option<Option<Topology>>
+fn topology(table: &Table, version: Version) -> Option<Option<Topology>>
     ensures { MatchOption result
         ((is_met (table_view table.now) topology_rule
-        && is_met (table_view table.now) (degree_rule
+        && is_met (table_view table.now) (degree_rule version
         (says (codes "topology") (codes "tree") (table_view table.now)))) ≡ false)
-        (HasTopology (table_view table.now)) }
+        (HasTopology version (table_view table.now)) }
 {
     if !has_key(table, "topology") {
         return if has_key(table, "degree") {
@@ -32,10 +32,8 @@ fn topology(table: &Table) -> Option<Option<Topology>>
     }
     let word = text(table, "topology")?;
     if word == "tree" {
-        let degree = number(table, "degree", 2, 255)?;
-        return Some(Some(Topology::Tree {
-            degree: degree as u16,
-        }));
+        let degree = degree(table, version)?;
+        return Some(Some(Topology::Tree { degree }));
     }
     if has_key(table, "degree") {
         return None;
@@ -93,7 +91,7 @@ fn numbers_of(table: &Table) -> Option<Numbers>
 pub(crate) struct Shape<'a> {
     /// The topology that the table names.
     pub(crate) topology: Option<Topology>,
-    /// How many nodes there are: 1 to 256.
+    /// How many nodes there are: 1 to 1,024.
     pub(crate) nodes: u16,
     /// The delays of each link of the topology, in ticks.
     pub(crate) delays: Delays,
@@ -107,16 +105,16 @@ fn shape_of(table: &Table, version: Version) -> Option<Shape<'_>>
         (list_all (is_met (table_view table.now)) (shape_of version (table_view table.now)) ≡ false)
         (λ s. HasShape version (table_view table.now) s.topology s.nodes s.delays (map view s.links.now)) }
 {
-    let topology = topology(table)?;
+    let topology = topology(table, version)?;
     if topology.is_none() {
         if has_key(table, "size") || has_key(table, "delay") || has_key(table, "back") {
             return None;
         }
-        let nodes = number(table, "nodes", 1, 256)?;
-        let links = array(table, "link", 255)?;
+        let nodes = nodes(table, "nodes", version)?;
+        let links = array(table, "link", usize::from(version.last_number()))?;
         return Some(Shape {
             topology,
-            nodes: nodes as u16,
+            nodes,
             delays: Delays { delay: 0, back: 0 },
             links,
         });
@@ -124,13 +122,13 @@ fn shape_of(table: &Table, version: Version) -> Option<Shape<'_>>
     if has_key(table, "nodes") || has_key(table, "link") {
         return None;
     }
-    let size = number(table, "size", 1, 256)?;
+    let size = nodes(table, "size", version)?;
     let delay = number(table, "delay", 1, 1_000_000)?;
     let back = back(table, version.allows_back())?;
     let back = back.unwrap_or(delay);
     Some(Shape {
         topology,
-        nodes: size as u16,
+        nodes: size,
         delays: Delays { delay, back },
         links: &[],
     })
@@ -147,24 +145,28 @@ pub(crate) struct Arrays<'a> {
     pub(crate) sessions: &'a [Value],
     /// The drops.
     pub(crate) drops: &'a [Value],
+    /// The outages.
+    pub(crate) outages: &'a [Value],
 }
 
 /// The other arrays of the table, if they are as they must be.
-fn arrays_of(table: &Table) -> Option<Arrays<'_>>
+fn arrays_of(table: &Table, version: Version) -> Option<Arrays<'_>>
     ensures { MatchOption result
-        (list_all (is_met (table_view table.now)) array_rules ≡ false)
-        (λ a. HasArrays (table_view table.now) (map view a.members.now) (map view a.draws.now)
-        (map view a.sessions.now) (map view a.drops.now)) }
+        (list_all (is_met (table_view table.now)) (array_rules version) ≡ false)
+        (λ a. HasArrays version (table_view table.now) (map view a.members.now) (map view a.draws.now)
+        (map view a.sessions.now) (map view a.drops.now) (map view a.outages.now)) }
 {
-    let members = array(table, "member", 256)?;
+    let members = array(table, "member", usize::from(version.most_nodes()))?;
     let draws = array(table, "draw", 4096)?;
     let sessions = array(table, "session", 4096)?;
     let drops = array(table, "drop", 4096)?;
+    let outages = outages(table, version.allows_outages())?;
     Some(Arrays {
         members,
         draws,
         sessions,
         drops,
+        outages,
     })
 }
 
@@ -187,21 +189,22 @@ pub(crate) fn top_of(table: &Table) -> Option<Top<'_>>
         × HasNumbers (table_view table.now) t.numbers.version t.numbers.until t.numbers.constants
         × HasShape t.numbers.version (table_view table.now) t.shape.topology t.shape.nodes t.shape.delays
         (map view t.shape.links.now)
-        × HasArrays (table_view table.now) (map view t.arrays.members.now) (map view t.arrays.draws.now)
-        (map view t.arrays.sessions.now) (map view t.arrays.drops.now)) }
+        × HasArrays t.numbers.version (table_view table.now) (map view t.arrays.members.now)
+        (map view t.arrays.draws.now) (map view t.arrays.sessions.now) (map view t.arrays.drops.now)
+        (map view t.arrays.outages.now)) }
 {
     if !has_only(
         table,
         &[
             "version", "until", "c1", "c2", "d1", "d2", "nodes", "topology", "size", "delay",
-            "back", "degree", "link", "member", "draw", "session", "drop",
+            "back", "degree", "link", "member", "draw", "session", "drop", "outage",
         ],
     ) {
         return None;
     }
     let numbers = numbers_of(table)?;
     let shape = shape_of(table, numbers.version)?;
-    let arrays = arrays_of(table)?;
+    let arrays = arrays_of(table, numbers.version)?;
     Some(Top {
         numbers,
         shape,

@@ -1,17 +1,17 @@
 //! Versions of the scenario format.
-ghost use Rattle.std.specs.Prelude.{◌≡◌};
+ghost use Rattle.std.specs.Prelude.{◌≡◌, ◌≤◌};
 
 /// A version of the scenario format.
 #[derive(Clone, Copy, Debug, PartialEq, Eq)]
 pub(crate) enum Version {
-    /// A link takes as long in both directions.
+    /// A link takes as long in both directions, and is never out. There are at most 256 nodes.
     One,
-    /// A link may have a second delay, `back`.
+    /// A link may have a second delay, `back`, and outages. There are at most 1,024 nodes.
     Two,
 }
 
 impl Version {
-    ghost use Rattle.srm_scenario.specs.Rules.{allows_back};
+    ghost use Rattle.srm_scenario.specs.Rules.{allows_back, allows_outages, most_nodes, last_number};
 
     /// Whether links may have a second delay.
     pub(crate) fn allows_back(self) -> bool
@@ -21,5 +21,35 @@ impl Version {
             Version::One => false,
             Version::Two => true,
         }
+    }
+
+    /// Whether links may have outages.
+    pub(crate) fn allows_outages(self) -> bool
+        ensures { result ≡ allows_outages self }
+    {
+        match self {
+            Version::One => false,
+            Version::Two => true,
+        }
+    }
+
+    /// How many nodes there are at most, and how many members: 256 or 1,024.
+    pub(crate) fn most_nodes(self) -> u16
+        ensures nodes { result ≡ most_nodes self }
+        ensures some { 1 ≤ result }
+        ensures few { result ≤ 1024 }
+    {
+        match self {
+            Version::One => 256,
+            Version::Two => 1024,
+        }
+    }
+
+    /// The last number that a node, a link or a member may have: 255 or 1,023.
+    pub(crate) fn last_number(self) -> u16
+        ensures number { result ≡ last_number self }
+        ensures few { result ≤ 1023 }
+    {
+        self.most_nodes() - 1
     }
 }

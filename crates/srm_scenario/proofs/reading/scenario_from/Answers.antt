@@ -1,11 +1,17 @@
-use Rattle.std.proofs.Common.{◌≡◌, [], List, ap, sym, subst, ◌∙◌}
+use Rattle.std.proofs.Common.{◌≡◌, List, sym, subst, ◌∙◌}
 use Rattle.std.proofs.lemmas.Result.{err_from_is_err_and}
+use Rattle.srm_net.specs.declared.link.DropSpec.{DropSpec}
+use Rattle.srm_net.specs.declared.link.OutageSpec.{OutageSpec}
+use Rattle.srm_net.specs.DropRules.{DropRules}
 use Rattle.srm_net.specs.DropSets.{ordered_once}
 use Rattle.srm_net.specs.Paths.{drop_cmp}
 use Rattle.srm_scenario.specs.Accepted.{IsAccepted}
 use Rattle.srm_scenario.specs.Plain.{PlainScenario}
-use Rattle.srm_scenario.proofs.Meanings.{Made, tree_fault, place_fault, draw_fault, session_fault, drop_fault, no_fault, plain_made, accepted_made, delays_made}
+use Rattle.srm_scenario.proofs.Meanings.{Made, tree_fault, place_fault, draw_fault, session_fault, drop_fault, outage_fault, no_fault, plain_made, accepted_made, delays_made}
 use Rattle.srm_scenario.proofs.reading.scenario_from.Goals as goal
+
+rules_same : {ds es : List DropSpec} {os qs : List OutageSpec} → ds ≡ es → os ≡ qs → ◌≡◌ {A = DropRules} (record { listed = ordered_once drop_cmp ds; outages = os }) (record { listed = ordered_once drop_cmp es; outages = qs })
+rules_same e f = λ i. record { listed = ordered_once drop_cmp (e i); outages = f i }
 
 pub check_tree-requires : goal.check_tree-requires
 check_tree-requires c =
@@ -61,6 +67,19 @@ returns-in_err-check_drops-clause-fault c =
     let told = rw (c.deref-5.ensures.value, c.deref-6.ensures.value) at c.in_ok-check_sessions.ensures in
     rw (p.1, p.2) (drop_fault c.args.listed links e same tree c.in_ok-members.members.items c.in_ok-members.ensures placed drawn told (rw (c.deref-7.ensures.value, c.deref-8.ensures.value, c.deref-9.ensures.value) at c.in_err-check_drops.ensures))
 
+pub returns-in_err-check_outages-clause-fault : goal.returns-in_err-check_outages-clause-fault
+returns-in_err-check_outages-clause-fault c =
+    let p = err_from_is_err_and c.from_residual-in_err-check_outages.result c.from_residual-in_err-check_outages.ensures.1 in
+    let links = c.in_ok-links.links.items in
+    let same = c.in_ok-links.ensures in
+    let e = c.in_err-check_outages.field-0.0 in
+    let tree = rw c.deref.ensures.value at c.in_ok-check_tree.ensures in
+    let placed = rw (c.is_star.ensures, c.deref-2.ensures.value) at c.in_ok-check_members.ensures in
+    let drawn = rw (c.deref-3.ensures.value, c.deref-4.ensures.value) at c.in_ok-check_draws.ensures in
+    let told = rw (c.deref-5.ensures.value, c.deref-6.ensures.value) at c.in_ok-check_sessions.ensures in
+    let dropped = rw (c.deref-7.ensures.value, c.deref-8.ensures.value, c.deref-9.ensures.value) at c.in_ok-check_drops.ensures in
+    rw (p.1, p.2) (outage_fault c.args.listed links e same tree c.in_ok-members.members.items c.in_ok-members.ensures placed drawn told dropped (rw (c.deref-10.ensures.value, c.deref-11.ensures.value) at c.in_err-check_outages.ensures))
+
 pub returns-clause-no_fault : goal.returns-clause-no_fault
 returns-clause-no_fault c =
     let made : Made c.args.listed c.in_ok-links.links.items c.in_ok-members.members.items = record { links_are = c.in_ok-links.ensures; members_are = c.in_ok-members.ensures } in
@@ -69,12 +88,13 @@ returns-clause-no_fault c =
     let drawn = rw (c.deref-3.ensures.value, c.deref-4.ensures.value) at c.in_ok-check_draws.ensures in
     let told = rw (c.deref-5.ensures.value, c.deref-6.ensures.value) at c.in_ok-check_sessions.ensures in
     let dropped = rw (c.deref-7.ensures.value, c.deref-8.ensures.value, c.deref-9.ensures.value) at c.in_ok-check_drops.ensures in
-    no_fault c.args.listed c.in_ok-links.links.items c.in_ok-members.members.items made tree placed drawn told dropped
+    let out = rw (c.deref-10.ensures.value, c.deref-11.ensures.value) at c.in_ok-check_outages.ensures in
+    no_fault c.args.listed c.in_ok-links.links.items c.in_ok-members.members.items made tree placed drawn told dropped out
 
 pub returns-clause-plain : goal.returns-clause-plain
 returns-clause-plain c =
     let made : Made c.args.listed c.in_ok-links.links.items c.in_ok-members.members.items = record { links_are = c.in_ok-links.ensures; members_are = c.in_ok-members.ensures } in
-    plain_made c.args.listed c.in_ok-links.links.items c.in_ok-members.members.items c.in_ok-drops.drops made (c.in_ok-drops.ensures ∙ ap (ordered_once drop_cmp) c.deref-10.ensures.value)
+    plain_made c.args.listed c.in_ok-links.links.items c.in_ok-members.members.items c.in_ok-drops.drops made (c.in_ok-drops.ensures ∙ rules_same c.deref-12.ensures.value c.deref-13.ensures.value)
 
 pub invariant_of-result : goal.invariant_of-result
 invariant_of-result c =
@@ -84,6 +104,7 @@ invariant_of-result c =
     let drawn = rw (c.deref-3.ensures.value, c.deref-4.ensures.value) at c.in_ok-check_draws.ensures in
     let told = rw (c.deref-5.ensures.value, c.deref-6.ensures.value) at c.in_ok-check_sessions.ensures in
     let dropped = rw (c.deref-7.ensures.value, c.deref-8.ensures.value, c.deref-9.ensures.value) at c.in_ok-check_drops.ensures in
-    let none = no_fault c.args.listed c.in_ok-links.links.items c.in_ok-members.members.items made tree placed drawn told dropped in
-    let plain = plain_made c.args.listed c.in_ok-links.links.items c.in_ok-members.members.items c.in_ok-drops.drops made (c.in_ok-drops.ensures ∙ ap (ordered_once drop_cmp) c.deref-10.ensures.value) in
+    let out = rw (c.deref-10.ensures.value, c.deref-11.ensures.value) at c.in_ok-check_outages.ensures in
+    let none = no_fault c.args.listed c.in_ok-links.links.items c.in_ok-members.members.items made tree placed drawn told dropped out in
+    let plain = plain_made c.args.listed c.in_ok-links.links.items c.in_ok-members.members.items c.in_ok-drops.drops made (c.in_ok-drops.ensures ∙ rules_same c.deref-12.ensures.value c.deref-13.ensures.value) in
     subst (λ (s : PlainScenario). IsAccepted s) (sym plain) (accepted_made c.args.listed c.requires.range c.requires.pages none)
