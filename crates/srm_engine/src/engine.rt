@@ -180,9 +180,9 @@ impl<'a> Engine<'a> {
         ensures totals { self.new.totals ≡ self.old.totals }
         ensures heard { IfOk result (λ _. Delivers (λ b. plain (b.vtable, b.value)) packet.now self.old self.new) }
     {
-        let listed = self.scenario.drops().lists_packet(packet.id);
+        let may_be_dropped = self.scenario.drops().may_drop(packet.id);
         for member in 0..self.scenario.members() {
-            if let Some(at) = arrival(self.scenario, self.net, packet, listed, member) {
+            if let Some(at) = arrival(self.scenario, self.net, packet, may_be_dropped, member) {
                 self.cells.hand(member, packet, at)?;
             }
         }

@@ -62,9 +62,9 @@ fn deliver(
     ensures heard { IfOk result (λ _. (seed : ℕ) → DeliversIn (λ b. (⟦<dyn Member as Member>⟧ b.vtable).plain b.value)
         (setting_of scenario.now net.now seed) cut packet.now cells.old cells.new) }
 {
-    let listed = scenario.drops().lists_packet(packet.id);
+    let may_be_dropped = scenario.drops().may_drop(packet.id);
     for member in 0..scenario.members() {
-        if let Some(at) = arrival(scenario, net, packet, listed, member) {
+        if let Some(at) = arrival(scenario, net, packet, may_be_dropped, member) {
             let way = way(scenario, net, member);
             hand(cells, cut, member, way, packet, at)?;
         }
