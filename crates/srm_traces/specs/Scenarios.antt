@@ -4,6 +4,7 @@ use Rattle.srm_net.specs.declared.role.Role.{Role}
 use Rattle.srm_net.specs.declared.role.Role.TheVariants.{Sender, Receiver, Late, Listener}
 use Rattle.srm_net.specs.declared.link.LinkSpec.{LinkSpec}
 use Rattle.srm_net.specs.declared.link.DropSpec.{DropSpec}
+use Rattle.srm_net.specs.DropRules.{DropRules}
 use Rattle.srm_scenario.specs.declared.parts.MemberSpec.{MemberSpec}
 use Rattle.srm_scenario.specs.declared.parts.DrawSpec.{DrawSpec}
 use Rattle.srm_scenario.specs.declared.parts.SessionSpec.{SessionSpec}
@@ -39,6 +40,10 @@ session m at = record { member = m; at = at }
 abbrev pub drop : ℕ → ℕ → ℕ → DropSpec
 drop l sender count = record { link = l; id = record { sender = sender; count = count } }
 
+-- these drops, and no outage
+abbrev pub lists_alone : List DropSpec → DropRules
+lists_alone drops = record { listed = drops; outages = [] }
+
 -- one loss on a chain of five: its request, and the repair by the nearest that holds it
 abbrev pub chain_of_five_one_loss : PlainScenario
 chain_of_five_one_loss = record {
@@ -50,7 +55,7 @@ chain_of_five_one_loss = record {
       ∷ member 4 Receiver 5 ∷ [];
   draws = draw 0 0 7 0 ∷ draw 0 0 8 10 ∷ [];
   sessions = [];
-  drops = drop 1 0 0 ∷ [];
+  drops = lists_alone (drop 1 0 0 ∷ []);
 }
 
 -- a loss on the link of the source: the second request comes at an ignore time, and during a rest
@@ -63,7 +68,7 @@ loss_on_the_source_link = record {
   members = member 0 Sender 1 ∷ member 1 Receiver 2 ∷ member 2 Receiver 3 ∷ [];
   draws = draw 0 0 7 0 ∷ draw 0 0 8 10 ∷ [];
   sessions = [];
-  drops = drop 0 0 0 ∷ [];
+  drops = lists_alone (drop 0 0 0 ∷ []);
 }
 
 -- a repair that arrives at the tick of the request timer ends it
@@ -76,7 +81,7 @@ repair_before_the_timer_of_its_tick = record {
   members = member 0 Sender 1 ∷ member 1 Receiver 2 ∷ [];
   draws = draw 0 0 7 0 ∷ draw 0 0 8 10 ∷ [];
   sessions = [];
-  drops = drop 0 0 0 ∷ [];
+  drops = lists_alone (drop 0 0 0 ∷ []);
 }
 
 -- the same, and the run ends before the repair is sent
@@ -93,7 +98,7 @@ drawn_timers = record {
   members = member 0 Sender 1 ∷ member 1 Receiver 54 ∷ [];
   draws = draw 0 0 7 0 ∷ draw 0 0 8 100 ∷ [];
   sessions = [];
-  drops = drop 0 0 0 ∷ [];
+  drops = lists_alone (drop 0 0 0 ∷ []);
 }
 
 -- a loss at the source of a star: three requests at one tick, one repair
@@ -106,7 +111,7 @@ star_loss_at_the_source = record {
   members = member 1 Sender 1 ∷ member 2 Receiver 2 ∷ member 3 Receiver 3 ∷ member 4 Receiver 4 ∷ [];
   draws = draw 0 0 7 0 ∷ draw 0 0 8 100 ∷ [];
   sessions = [];
-  drops = drop 0 0 0 ∷ [];
+  drops = lists_alone (drop 0 0 0 ∷ []);
 }
 
 -- a loss at one member of a star: one request, three repairs
@@ -119,7 +124,7 @@ star_loss_at_one_member = record {
   members = member 1 Sender 1 ∷ member 2 Receiver 2 ∷ member 3 Receiver 3 ∷ member 4 Receiver 4 ∷ [];
   draws = draw 0 0 7 0 ∷ draw 0 0 8 100 ∷ [];
   sessions = [];
-  drops = drop 3 0 0 ∷ [];
+  drops = lists_alone (drop 3 0 0 ∷ []);
 }
 
 -- a receiver that leaves hears what arrives at that tick, and nothing more
@@ -132,7 +137,7 @@ receiver_that_leaves = record {
   members = member 0 Sender 1 ∷ record (member 1 Receiver 2) { leave = Some 1 } ∷ [];
   draws = draw 0 0 7 0 ∷ draw 0 0 8 10 ∷ [];
   sessions = [];
-  drops = [];
+  drops = lists_alone [];
 }
 
 -- a late joiner asks for the page that it wants, and not for the other
@@ -145,7 +150,7 @@ late_joiner = record {
   members = member 0 Sender 1 ∷ record (member 1 Late 2) { join = 50; pages = 1 ∷ [] } ∷ [];
   draws = draw 0 0 7 0 ∷ draw 0 1 8 1 ∷ draw 0 0 9 70 ∷ [];
   sessions = session 0 59 ∷ [];
-  drops = [];
+  drops = lists_alone [];
 }
 
 -- a session message reveals a loss
@@ -158,7 +163,7 @@ session_reveals_a_loss = record {
   members = member 0 Sender 1 ∷ member 1 Receiver 2 ∷ [];
   draws = draw 0 0 7 0 ∷ [];
   sessions = session 0 20 ∷ session 0 40 ∷ [];
-  drops = drop 0 0 0 ∷ [];
+  drops = lists_alone (drop 0 0 0 ∷ []);
 }
 
 -- a sender and a listener
@@ -171,7 +176,7 @@ two_nodes = record {
   members = member 0 Sender 1 ∷ member 1 Listener 2 ∷ [];
   draws = draw 0 0 7 0 ∷ draw 0 0 8 5 ∷ [];
   sessions = [];
-  drops = [];
+  drops = lists_alone [];
 }
 
 -- a loss that the data itself mends in the same tick
@@ -184,7 +189,7 @@ mended_by_the_data_itself = record {
   members = member 1 Receiver 1 ∷ member 0 Sender 2 ∷ member 2 Receiver 3 ∷ [];
   draws = draw 1 0 7 0 ∷ [];
   sessions = session 0 1 ∷ [];
-  drops = [];
+  drops = lists_alone [];
 }
 
 -- a loss that a request reveals, which backs off at once
@@ -197,5 +202,5 @@ loss_learnt_from_a_request = record {
   members = member 0 Sender 1 ∷ member 1 Receiver 2 ∷ member 2 Receiver 3 ∷ [];
   draws = draw 0 0 7 0 ∷ draw 0 0 8 10 ∷ [];
   sessions = [];
-  drops = drop 0 0 0 ∷ drop 1 0 1 ∷ [];
+  drops = lists_alone (drop 0 0 0 ∷ drop 1 0 1 ∷ []);
 }
