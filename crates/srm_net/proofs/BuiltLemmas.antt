@@ -1,22 +1,22 @@
 -- What the ways of a built tree give.
-use Rattle.std.proofs.Common.{◌≡◌, ◌≢◌, ℕ, ◌<◌, Bool, not, cond, ◌&&◌, List, ◌∷◌, length, Some, refl, sym, ap, ◌∙◌, subst, inl, inr, eqb, eq-eqb, eqb-true, slice_get, slice_index_or}
+use Rattle.std.proofs.Common.{◌≡◌, ◌≢◌, ℕ, ◌+◌, ◌<◌, Bool, true, false, not, cond, ◌&&◌, List, ◌∷◌, length, Some, refl, sym, ap, ◌∙◌, subst, inl, inr, eqb, eq-eqb, eqb-true, slice_get, slice_index_or, unwrap_or}
 use Rattle.std.specs.List.{list_any}
 use Rattle.std.proofs.lemmas.Bool.{cases_Bool}
 use Rattle.srm_net.specs.declared.link.LinkSpec.{LinkSpec}
-use Rattle.srm_net.specs.declared.link.DropSpec.{DropSpec}
 use Rattle.srm_net.specs.declared.packet.PacketId.{PacketId}
 use Rattle.srm_net.specs.declared.ways.Ways.{Ways}
 use Rattle.srm_net.specs.declared.tree.Tree.TheInside.{Inside}
 use Rattle.srm_net.specs.Network.{Network, Joins, IsWithin, IsTree, IsNetwork}
-use Rattle.srm_net.specs.Paths.{route, host, delay_along, distance, is_listed, crosses, drops_at}
+use Rattle.srm_net.specs.Paths.{route, host, delay_along, end_of, far_end, distance, Stop, stop, stops, takes_out, crosses, drops_at}
+use Rattle.srm_net.specs.DropRules.{DropRules}
 use Rattle.srm_net.specs.Grids.{number_at}
 use Rattle.srm_net.specs.Ways.{TellsWays}
 use Rattle.srm_net.specs.Tables.{is_beyond, near_end, some_beyond}
 use Rattle.srm_net.specs.Built.{plain_of, IsBuilt}
 use Rattle.srm_net.proofs.Lists.{get_below, below_get, read_get, all_get}
 use Rattle.srm_net.proofs.Numbers.{apart_from_distinct}
-use Rattle.srm_net.proofs.RouteLemmas.{route_only}
-use Rattle.srm_net.proofs.PathLaws.{Begins, host_below, route_begins, first_or_never, crosses_is, drops_is}
+use Rattle.srm_net.proofs.RouteLemmas.{route_only, joins_far}
+use Rattle.srm_net.proofs.PathLaws.{Begins, host_below, route_begins, first_or_never, near_stop, is_free, crosses_is, drops_is}
 
 -- the way that the tables tell is the route
 pub told_route : (w : Network) → IsTree w → (ways : Ways) → TellsWays w.nodes w.links ways → (u v : ℕ) → u < w.nodes → v < w.nodes
@@ -64,7 +64,7 @@ first_below n i u v f hu hv d e =
     subst (λ t. t < length n.links.items) (sym e) (get_below n.links.items (number_at n.ways.firsts.width n.ways.firsts.cells.items u v) r.2.spec r.2.link)
 
 pub first_route : (n : Inside) → IsBuilt n → (u v f : ℕ) (k : LinkSpec) → u < n.nodes → v < n.nodes → u ≢ v → f ≡ number_at n.ways.firsts.width n.ways.firsts.cells.items u v → k ≡ slice_index_or n.links.items f k
-    → (route (plain_of n) u v ≡ f ∷ route (plain_of n) (cond (eqb k.a u) k.b k.a) v) × (cond (eqb k.a u) k.b k.a < n.nodes)
+    → (route (plain_of n) u v ≡ f ∷ route (plain_of n) (cond (eqb k.a u) k.b k.a) v) × (cond (eqb k.a u) k.b k.a < n.nodes) × (far_end k u ≡ Some (cond (eqb k.a u) k.b k.a))
 first_route n i u v f k hu hv d e q =
     let r = told_step (plain_of n) i.network.tree n.ways i.ways u v hu hv d in
     let g : slice_get n.links.items f ≡ Some k = read_get n.links.items f k (first_below n i u v f hu hv d e) q in
@@ -73,6 +73,7 @@ first_route n i u v f k hu hv d e q =
     let next : r.2.next ≡ cond (eqb k.a u) k.b k.a = next_is k u r.2.next (subst (λ t. Joins t u r.2.next) same r.2.joins) in (
       r.1 ∙ ap (λ ls. number_at n.ways.firsts.width n.ways.firsts.cells.items u v ∷ ls) (r.2.rest_is ∙ ap (λ t. route (plain_of n) t v) next) ∙ ap (λ t. t ∷ route (plain_of n) (cond (eqb k.a u) k.b k.a) v) (sym e),
       subst (λ t. t < n.nodes) next r.2.below,
+      joins_far k u (cond (eqb k.a u) k.b k.a) (subst (λ t. Joins k u t) next (subst (λ t. Joins t u r.2.next) same r.2.joins)),
     )
 
 pub end_below : (n : Inside) → IsBuilt n → (l : ℕ) (k : LinkSpec) → slice_get n.links.items l ≡ Some k → (k.a < n.nodes) × (k.b < n.nodes)
@@ -94,34 +95,77 @@ seen_link n m a e h = subst (λ (w : Network). a < length w.links) (sym e) h
 pub seen_member : (n m : Network) (a : ℕ) → n ≡ m → a < length m.hosts → a < length n.hosts
 seen_member n m a e h = subst (λ (w : Network). a < length w.hosts) (sym e) h
 
+-- the first link leads to the next node
+pub first_end : (n : Inside) → (w : Network) → plain_of n ≡ w → (u f g : ℕ) (k : LinkSpec) → f < length n.links.items → g ≡ f → k ≡ slice_index_or n.links.items g k
+    → (x : ℕ) → far_end k u ≡ Some x → (f < length w.links) × (end_of u (slice_get w.links f) ≡ x)
+first_end n w e u f g k lt p r x far =
+    let q : slice_get n.links.items f ≡ Some k = read_get n.links.items f k lt (subst (λ z. k ≡ slice_index_or n.links.items z k) p r) in (
+      subst (λ (m : Network). f < length m.links) e lt,
+      ap (λ (m : Network). end_of u (slice_get m.links f)) (sym e) ∙ ap (end_of u) q ∙ ap (λ o. unwrap_or o u) far,
+    )
+
 pub first_seen : (n : Inside) → IsBuilt n → (w : Network) → plain_of n ≡ w → (u v f g : ℕ) (k : LinkSpec) → u < w.nodes → v < w.nodes → u ≢ v
     → f ≡ number_at n.ways.firsts.width n.ways.firsts.cells.items u v → g ≡ f → k ≡ slice_index_or n.links.items g k → (x : ℕ) → x ≡ cond (eqb k.a u) k.b k.a
-    → (route w u v ≡ f ∷ route w x v) × (x < w.nodes)
+    → (route w u v ≡ f ∷ route w x v) × (x < w.nodes) × (f < length w.links) × (end_of u (slice_get w.links f) ≡ x)
 first_seen n i w e u v f g k hu hv d q p r x y =
     let t = first_route n i u v f k (seen_below (plain_of n) w u e hu) (seen_below (plain_of n) w v e hv) d q (subst (λ z. k ≡ slice_index_or n.links.items z k) p r) in
-    let z : (route (plain_of n) u v ≡ f ∷ route (plain_of n) x v) × (x < n.nodes) = subst (λ z. (route (plain_of n) u v ≡ f ∷ route (plain_of n) z v) × (z < n.nodes)) (sym y) t in
-    subst (λ (m : Network). (route m u v ≡ f ∷ route m x v) × (x < m.nodes)) e z
+    let lt = first_below n i u v f (seen_below (plain_of n) w u e hu) (seen_below (plain_of n) w v e hv) d q in
+    let far : far_end k u ≡ Some x = subst (λ z. far_end k u ≡ Some z) (sym y) t.2 in
+    let ends = first_end n w e u f g k lt p r x far in (
+      subst (λ (m : Network). route m u v ≡ f ∷ route m x v) e (subst (λ z. route (plain_of n) u v ≡ f ∷ route (plain_of n) z v) (sym y) t.0),
+      subst (λ (m : Network). x < m.nodes) e (subst (λ z. z < n.nodes) (sym y) t.1),
+      ends.0,
+      ends.1,
+    )
+
+pub told_delay : (n : Inside) → IsBuilt n → (w : Network) → plain_of n ≡ w → (u v : ℕ) → u < w.nodes → v < w.nodes
+    → number_at n.ways.delays.width n.ways.delays.cells.items u v ≡ delay_along w.links u (route w u v)
+told_delay n i w e u v hu hv =
+    (told_route (plain_of n) i.network.tree n.ways i.ways u v (seen_below (plain_of n) w u e hu) (seen_below (plain_of n) w v e hv)).0
+    ∙ ap (λ (m : Network). delay_along m.links u (route m u v)) e
 
 -- ---- what comes to a link
 
-module _ (w : Network) (n : IsNetwork w) (l u near : ℕ) (any : Bool) (drops : List DropSpec) (p : PacketId) (ht : l < length w.links) (hs : p.sender < length w.hosts) (e : u ≡ host w p.sender)
+and_true : (b : Bool) → (b && true) ≡ b
+and_true true = refl
+and_true false = refl
+
+and_false : (b : Bool) → (b && false) ≡ false
+and_false true = refl
+and_false false = refl
+
+module _ (w : Network) (n : IsNetwork w) (l u near sent : ℕ) (any : Bool) (rules : DropRules) (p : PacketId) (ht : l < length w.links) (hs : p.sender < length w.hosts) (e : u ≡ host w p.sender)
     (nears : (k : LinkSpec) → slice_get w.links l ≡ Some k → near ≡ near_end w l k u) (anys : (k : LinkSpec) → slice_get w.links l ≡ Some k → any ≡ some_beyond w l k u) where
-  pub told_crossed : crosses w drops p l ≡ (not (is_listed drops p l) && (any && not (list_any (is_listed drops p) (route w u near))))
+  -- the stop at the link
+  abbrev pub stop_there : Stop
+  stop_there = stop l (sent + delay_along w.links u (route w u near))
+
+  -- whether the packet comes there
+  abbrev pub comes : Bool
+  comes = any && not (list_any (takes_out rules p) (stops w.links u sent (route w u near)))
+
+  pub told_crossed : crosses w rules p sent l ≡ (not (takes_out rules p stop_there) && comes)
   told_crossed =
       let k = below_get w.links l ht in
-      let a = anys k.0 k.1 in
-      let b = nears k.0 k.1 in
-      crosses_is w n l k.0 k.1 drops p hs
-      ∙ ap (λ v. not (is_listed drops p l) && (some_beyond w l k.0 v && not (list_any (is_listed drops p) (route w v (near_end w l k.0 v))))) (sym e)
-      ∙ ap (λ t. not (is_listed drops p l) && (t && not (list_any (is_listed drops p) (route w u (near_end w l k.0 u))))) (sym a)
-      ∙ ap (λ t. not (is_listed drops p l) && (any && not (list_any (is_listed drops p) (route w u t)))) (sym b)
+      let f = takes_out rules p in
+      crosses_is w n l k.0 k.1 rules p sent hs
+      ∙ ap (λ v. not (f (near_stop w l k.0 v sent)) && (some_beyond w l k.0 v && is_free w l k.0 f v sent)) (sym e)
+      ∙ ap (λ t. not (f (near_stop w l k.0 u sent)) && (t && is_free w l k.0 f u sent)) (sym (anys k.0 k.1))
+      ∙ ap (λ t. not (f (stop l (sent + delay_along w.links u (route w u t)))) && (any && not (list_any f (stops w.links u sent (route w u t))))) (sym (nears k.0 k.1))
 
-  pub told_dropped : drops_at w drops p l ≡ (is_listed drops p l && (any && not (list_any (is_listed drops p) (route w u near))))
+  pub told_dropped : drops_at w rules p sent l ≡ (takes_out rules p stop_there && comes)
   told_dropped =
       let k = below_get w.links l ht in
-      let a = anys k.0 k.1 in
-      let b = nears k.0 k.1 in
-      drops_is w n l k.0 k.1 drops p hs
-      ∙ ap (λ v. is_listed drops p l && (some_beyond w l k.0 v && not (list_any (is_listed drops p) (route w v (near_end w l k.0 v))))) (sym e)
-      ∙ ap (λ t. is_listed drops p l && (t && not (list_any (is_listed drops p) (route w u (near_end w l k.0 u))))) (sym a)
-      ∙ ap (λ t. is_listed drops p l && (any && not (list_any (is_listed drops p) (route w u t)))) (sym b)
+      let f = takes_out rules p in
+      drops_is w n l k.0 k.1 rules p sent hs
+      ∙ ap (λ v. f (near_stop w l k.0 v sent) && (some_beyond w l k.0 v && is_free w l k.0 f v sent)) (sym e)
+      ∙ ap (λ t. f (near_stop w l k.0 u sent) && (t && is_free w l k.0 f u sent)) (sym (anys k.0 k.1))
+      ∙ ap (λ t. f (stop l (sent + delay_along w.links u (route w u t))) && (any && not (list_any f (stops w.links u sent (route w u t))))) (sym (nears k.0 k.1))
+
+  -- at a link to which it comes
+  pub comes_there : comes ≡ true → (crosses w rules p sent l ≡ not (takes_out rules p stop_there)) × (drops_at w rules p sent l ≡ takes_out rules p stop_there)
+  comes_there h = (told_crossed ∙ ap (λ b. not (takes_out rules p stop_there) && b) h ∙ and_true (not (takes_out rules p stop_there)), told_dropped ∙ ap (λ b. takes_out rules p stop_there && b) h ∙ and_true (takes_out rules p stop_there))
+
+  -- and at one to which it does not
+  pub comes_not : comes ≡ false → (crosses w rules p sent l ≡ false) × (drops_at w rules p sent l ≡ false)
+  comes_not h = (told_crossed ∙ ap (λ b. not (takes_out rules p stop_there) && b) h ∙ and_false (not (takes_out rules p stop_there)), told_dropped ∙ ap (λ b. takes_out rules p stop_there && b) h ∙ and_false (takes_out rules p stop_there))

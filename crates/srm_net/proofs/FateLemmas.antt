@@ -1,33 +1,90 @@
--- What becomes of packets that no link is listed for, and which links are on members' ways.
-use Rattle.std.proofs.Common.{◌≡◌, ℕ, ◌<◌, Bool, false, not, List, [], ◌∷◌, length, Some, refl, sym, ap, ◌∙◌, slice_get}
+-- What becomes of packets that are not dropped, and which links are on members' ways.
+use Rattle.std.proofs.Common.{◌≡◌, ℕ, ◌+◌, ◌==◌, ◌<◌, ◌≤◌, Bool, true, false, cond, not, ◌&&◌, ◌||◌, List, [], ◌∷◌, length, Some, refl, sym, ap, ◌∙◌, arith, slice_get, nat_lt}
+use Rattle.std.specs.List.{list_any}
+use Rattle.std.proofs.lemmas.Bool.{ltb-false, or_parts, or_from}
 use Rattle.srm_net.specs.declared.link.LinkSpec.{LinkSpec}
+use Rattle.srm_net.specs.declared.link.DropSpec.{DropSpec}
+use Rattle.srm_net.specs.declared.link.OutageSpec.{OutageSpec}
+use Rattle.srm_net.specs.declared.packet.PacketId.{PacketId}
 use Rattle.srm_net.specs.Network.{Network, IsNetwork}
-use Rattle.srm_net.specs.Paths.{is_in, host, member_route, is_listed, crossed_on, reaches, crosses}
+use Rattle.srm_net.specs.Paths.{is_in, host, delay_of, end_of, member_route, is_listed, Stop, stops, takes_out, member_stops, crossed_on, dropped_on, reaches, crosses, drops_at}
+use Rattle.srm_net.specs.DropRules.{DropRules, is_out, may_drop}
+use Rattle.srm_net.specs.Listed.{is_listed_somewhere}
 use Rattle.srm_net.specs.Tables.{some_beyond}
 use Rattle.srm_net.specs.Fates.{is_on_way}
-use Rattle.srm_net.specs.Laws.{UnlistedReachesAll, UnlistedCrossesItsWays, UnlistedIsNowhereDropped}
+use Rattle.srm_net.specs.Laws.{UnlistedReachesAll, UnlistedCrossesItsWays, UnlistedIsNowhereDropped, WithoutOutagesReaches, WithoutOutagesAtAnyTime}
 use Rattle.srm_net.proofs.Lists.{below_get}
 use Rattle.srm_net.proofs.DropLemmas.{nowhere_listed}
-use Rattle.srm_net.proofs.PathLaws.{LinkOf, host_below, any_none, on_route, some_same, drops_unlisted}
+use Rattle.srm_net.proofs.PathLaws.{LinkOf, host_below, any_none, on_route, some_same, none_below, stops_in, dropped_nowhere, crossed_where_stops}
 
--- ---- a packet that no link is listed for
+-- ---- a packet that is not dropped
+
+none_out : (os : List OutageSpec) (l t : ℕ) → nat_lt 0 (length os) ≡ false → is_out os l t ≡ false
+none_out [] l t h = refl
+none_out (o ∷ os) l t h = absurd (let k : length (o ∷ os) ≤ 0 = ltb-false 0 (length (o ∷ os)) h in omega arith)
+
+-- nothing takes it out
+pub spared : (rules : DropRules) (p : PacketId) → may_drop rules p ≡ false → (s : Stop) → takes_out rules p s ≡ false
+spared rules p h s =
+    let n = or_parts (is_listed_somewhere rules.listed p) (nat_lt 0 (length rules.outages)) h in
+    or_from (is_listed rules.listed p s.link) (is_out rules.outages s.link s.at) (nowhere_listed rules.listed p s.link n.0) (none_out rules.outages s.link s.at n.1)
 
 pub unlisted_reaches_all : UnlistedReachesAll
 unfolding reaches
-unlisted_reaches_all w drops p h m = ap not (any_none (is_listed drops p) (member_route w p.sender m) (λ l. nowhere_listed drops p l h))
-
-crossed_where_in : (f : ℕ → Bool) → ((l : ℕ) → f l ≡ false) → (ls : List ℕ) (l : ℕ) → crossed_on f ls l ≡ is_in ls l
-crossed_where_in f h [] l = refl
-crossed_where_in f h (k ∷ ks) l = rw (h k, crossed_where_in f h ks l) refl
+unlisted_reaches_all w rules p h sent m = ap not (any_none (takes_out rules p) (member_stops w p.sender sent m) (spared rules p h))
 
 pub unlisted_crosses_its_ways : UnlistedCrossesItsWays
 unfolding crosses is_on_way
-unlisted_crosses_its_ways w drops p h l =
-    some_same (λ m. crossed_on (is_listed drops p) (member_route w p.sender m) l) (λ m. is_in (member_route w p.sender m) l) (length w.hosts)
-    (λ m _. crossed_where_in (is_listed drops p) (λ k. nowhere_listed drops p k h) (member_route w p.sender m) l)
+unlisted_crosses_its_ways w rules p h sent l =
+    some_same (λ m. crossed_on (takes_out rules p) (member_stops w p.sender sent m) l) (λ m. is_in (member_route w p.sender m) l) (length w.hosts)
+    (λ m _. crossed_where_stops (takes_out rules p) (spared rules p h) (member_stops w p.sender sent m) l ∙ stops_in w.links (host w p.sender) sent (member_route w p.sender m) l)
 
 pub unlisted_is_nowhere_dropped : UnlistedIsNowhereDropped
-unlisted_is_nowhere_dropped w drops p h l = drops_unlisted w drops p l (nowhere_listed drops p l h)
+unfolding drops_at
+unlisted_is_nowhere_dropped w rules p h sent l =
+    none_below (λ m. dropped_on (takes_out rules p) (member_stops w p.sender sent m) l) (length w.hosts)
+    (λ m. dropped_nowhere (takes_out rules p) (spared rules p h) (member_stops w p.sender sent m) l)
+
+-- ---- without outages
+
+or_none : (b : Bool) → (b || false) ≡ b
+or_none true = refl
+or_none false = refl
+
+module _ (drops : List DropSpec) (p : PacketId) (links : List LinkSpec) where
+  abbrev lists_alone : DropRules
+  lists_alone = record { listed = drops; outages = [] }
+
+  any_listed : (u t : ℕ) (ls : List ℕ) → list_any (takes_out lists_alone p) (stops links u t ls) ≡ list_any (is_listed drops p) ls
+  any_listed u t [] = refl
+  any_listed u t (l ∷ ls) =
+      λ i. or_none (is_listed drops p l) i || any_listed (end_of u (slice_get links l)) (t + delay_of u (slice_get links l)) ls i
+
+  crossed_any_time : (u s t : ℕ) (ls : List ℕ) (l : ℕ) → crossed_on (takes_out lists_alone p) (stops links u s ls) l ≡ crossed_on (takes_out lists_alone p) (stops links u t ls) l
+  crossed_any_time u s t [] l = refl
+  crossed_any_time u s t (k ∷ ks) l =
+      let d = delay_of u (slice_get links k) in
+      ap (λ b. not (is_listed drops p k || false) && ((k == l) || b)) (crossed_any_time (end_of u (slice_get links k)) (s + d) (t + d) ks l)
+
+  dropped_any_time : (u s t : ℕ) (ls : List ℕ) (l : ℕ) → dropped_on (takes_out lists_alone p) (stops links u s ls) l ≡ dropped_on (takes_out lists_alone p) (stops links u t ls) l
+  dropped_any_time u s t [] l = refl
+  dropped_any_time u s t (k ∷ ks) l =
+      let d = delay_of u (slice_get links k) in
+      ap (λ b. cond (is_listed drops p k || false) (k == l) b) (dropped_any_time (end_of u (slice_get links k)) (s + d) (t + d) ks l)
+
+pub without_outages_reaches : WithoutOutagesReaches
+unfolding reaches
+without_outages_reaches w drops p sent m = ap not (any_listed drops p w.links (host w p.sender) sent (member_route w p.sender m))
+
+pub without_outages_at_any_time : WithoutOutagesAtAnyTime
+unfolding crosses drops_at
+without_outages_at_any_time w drops p sent later l =
+    let rules : DropRules = record { listed = drops; outages = [] } in (
+      some_same (λ m. crossed_on (takes_out rules p) (member_stops w p.sender sent m) l) (λ m. crossed_on (takes_out rules p) (member_stops w p.sender later m) l) (length w.hosts)
+          (λ m _. crossed_any_time drops p w.links (host w p.sender) sent later (member_route w p.sender m) l),
+      some_same (λ m. dropped_on (takes_out rules p) (member_stops w p.sender sent m) l) (λ m. dropped_on (takes_out rules p) (member_stops w p.sender later m) l) (length w.hosts)
+          (λ m _. dropped_any_time drops p w.links (host w p.sender) sent later (member_route w p.sender m) l),
+    )
 
 -- ---- a link on members' ways
 

@@ -17,7 +17,7 @@ use Rattle.srm_net.specs.Orders.{AllAfter}
 use Rattle.srm_net.specs.Keys.{key_cmp, numbers_of_key}
 use Rattle.srm_net.specs.Names.{name_cmp, page_cmp, id_cmp, heard_cmp}
 use Rattle.srm_net.specs.Network.{Network, IsTree, IsWalk, IsAlike, HasDelays, IsNetwork}
-use Rattle.srm_net.specs.Paths.{is_in, route, host, member_route, delay_from, delay_along, distance, drop_cmp, is_listed, reaches}
+use Rattle.srm_net.specs.Paths.{is_in, route, host, member_route, delay_from, delay_along, distance, drop_cmp, is_listed, stops, takes_out, reaches}
 use Rattle.srm_net.specs.Least.{least, lesser_delay, least_delay, others, out}
 use Rattle.srm_net.specs.Growth.{attached}
 use Rattle.srm_net.specs.Laws.{DistancesFit, AlikeBothWays, RoundsTurn, LeastDelayFits, NoLinkNoTwo, OutFits, OutOfTheOnlyOne, ReachesItsSender, SameDropsListed, OneListOfDrops, OrdersTotally}
@@ -237,7 +237,7 @@ out_of_the_only_one w m e b h =
 
 pub reaches_its_sender : ReachesItsSender
 unfolding reaches
-reaches_its_sender w drops p = ap (λ ls. not (list_any (is_listed drops p) ls)) (route_nowhere w (host w p.sender))
+reaches_its_sender w rules p sent = ap (λ ls. not (list_any (takes_out rules p) (stops w.links (host w p.sender) sent ls))) (route_nowhere w (host w p.sender))
 
 -- ---- sets of drops
 

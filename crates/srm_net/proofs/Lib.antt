@@ -14,4 +14,5 @@ pub mod LeastLemmas
 pub mod LawProofs
 pub mod Parents
 pub mod FateLemmas
+pub mod OutageLemmas
 pub mod OnePaths

@@ -1,15 +1,15 @@
 -- Members' ways: their delays, and what crosses and is dropped on them.
-use Rattle.std.proofs.Common.{◌≡◌, ◌≢◌, ℕ, zero, suc, ◌+◌, ◌*◌, ◌<◌, ◌≤◌, Bool, true, false, not, cond, ◌&&◌, ◌||◌, List, [], ◌∷◌, ◌++◌, length, Some, refl, sym, ap, ◌∙◌, subst, inl, inr, arith, eqb, eq-eqb, eqb-true, slice_get, slice_index, All, unwrap_or}
+use Rattle.std.proofs.Common.{◌≡◌, ◌≢◌, ℕ, zero, suc, ◌+◌, ◌*◌, ◌<◌, ◌≤◌, Bool, true, false, not, cond, ◌&&◌, ◌||◌, List, [], ◌∷◌, ◌++◌, length, Some, refl, sym, ap, ◌∙◌, subst, inl, inr, arith, eqb, ◌==◌, eq-eqb, eqb-true, slice_get, slice_index, All, unwrap_or}
 use Rattle.std.specs.List.{list_any}
-use Rattle.std.proofs.lemmas.Bool.{ne_eqb, eqb-false, cases_Bool, both_ways, false≢true, or_from}
+use Rattle.std.proofs.lemmas.Bool.{eqb-false, cases_Bool, both_ways, false≢true, or_from, or_parts}
 use Rattle.srm_net.specs.declared.link.LinkSpec.{LinkSpec}
-use Rattle.srm_net.specs.declared.link.DropSpec.{DropSpec}
 use Rattle.srm_net.specs.declared.packet.PacketId.{PacketId}
 use Rattle.srm_net.specs.Network.{Network, Joins, IsWalk, IsWithin, IsTree, IsLinkDelay, HasDelays, IsNetwork}
-use Rattle.srm_net.specs.Paths.{is_in, route_within, route, host, member_route, delay_from, delay_of, end_of, delay_along, distance, is_listed, crossed_on, dropped_on, some_below, crosses, drops_at}
+use Rattle.srm_net.specs.Paths.{is_in, route_within, route, host, member_route, delay_from, delay_of, end_of, delay_along, distance, Stop, stop, stops, takes_out, member_stops, crossed_on, dropped_on, some_below, crosses, drops_at}
+use Rattle.srm_net.specs.DropRules.{DropRules}
 use Rattle.srm_net.specs.Tables.{is_beyond, near_end, some_beyond}
 use Rattle.srm_net.proofs.Lists.{all_get}
-use Rattle.srm_net.proofs.Numbers.{Apart, Below, in_head, in_tail, in_cases, not_head, not_tail, not_in, not_in_cons, few_apart, apart_from_distinct}
+use Rattle.srm_net.proofs.Numbers.{Apart, Below, in_head, in_tail, in_cases, not_in, not_in_cons, few_apart, apart_from_distinct}
 use Rattle.srm_net.proofs.Walks.{IsCut, way_crosses, walk_ends, same_link}
 use Rattle.srm_net.proofs.Growing.{joins_below, tree_cuts}
 use Rattle.srm_net.proofs.RouteLemmas.{joins_far, route_path, route_only, path_length}
@@ -70,16 +70,18 @@ delay_at_least links d u (l ∷ ls) v ns w n =
     let h : 1 ≤ delay_from u w.0 = (from_fits u w.0 (all_get HasDelays links l w.0 d w.3)).0 in
     subst (λ n. 1 ≤ n) (sym (along_first links u l w.1 ls w.0 w.3 w.4)) (omega arith)
 
-pub distance_bounded : (w : Network) → IsNetwork w → (a b : ℕ) → a < length w.hosts → b < length w.hosts → distance w a b ≤ 1023000000
-unfolding distance
-distance_bounded w n a b ha hb =
-    let hu = host_below w n a ha in
-    let r = route_path w n.tree (host w a) (host w b) hu (host_below w n b hb) in
-    let k = delay_at_most w.links n.delays (host w a) (member_route w a b) (host w b) r.0 r.1.0 in
-    let l : length (member_route w a b) ≤ length w.links = path_length w n.tree (host w a) (member_route w a b) (host w b) r.0 r.1.0 r.1.1 hu in
+pub delay_bounded : (w : Network) → IsNetwork w → (u v : ℕ) → u < w.nodes → v < w.nodes → delay_along w.links u (route w u v) ≤ 1023000000
+delay_bounded w n u v hu hv =
+    let r = route_path w n.tree u v hu hv in
+    let k = delay_at_most w.links n.delays u (route w u v) v r.0 r.1.0 in
+    let l : length (route w u v) ≤ length w.links = path_length w n.tree u (route w u v) v r.0 r.1.0 r.1.1 hu in
     let few : w.nodes ≤ 1024 = n.tree.few_nodes in
     let one : length w.links + 1 ≡ w.nodes = n.tree.one_fewer in
     omega arith
+
+pub distance_bounded : (w : Network) → IsNetwork w → (a b : ℕ) → a < length w.hosts → b < length w.hosts → distance w a b ≤ 1023000000
+unfolding distance
+distance_bounded w n a b ha hb = delay_bounded w n (host w a) (host w b) (host_below w n a ha) (host_below w n b hb)
 
 pub distance_apart : (w : Network) → IsNetwork w → (a b : ℕ) → a < length w.hosts → b < length w.hosts → a ≢ b → 1 ≤ distance w a b
 unfolding distance
@@ -118,7 +120,7 @@ pub route_nowhere : (w : Network) (u : ℕ) → route w u u ≡ []
 unfolding route
 route_nowhere w u = nowhere_within (length w.links) w.links u
 
-pub any_none : (f : ℕ → Bool) (ls : List ℕ) → ((l : ℕ) → f l ≡ false) → list_any f ls ≡ false
+pub any_none : {A : Type 0} (f : A → Bool) (ls : List A) → ((l : A) → f l ≡ false) → list_any f ls ≡ false
 any_none f [] h = refl
 any_none f (l ∷ ls) h = or_from _ _ (h l) (any_none f ls h)
 
@@ -142,6 +144,7 @@ pub record Parts (links : List LinkSpec) (u : ℕ) (ls : List ℕ) (ns : List �
   pub nodes : List ℕ
   pub is : ls ≡ before ++ l ∷ after
   pub fresh : is_in before l ≡ false
+  pub fresh_after : is_in after l ≡ false
   pub walk : IsWalk links u before near nodes
   pub apart : Apart nodes
   pub within : (n : ℕ) → is_in nodes n ≡ true → is_in ns n ≡ true
@@ -163,6 +166,7 @@ parted links l u (m ∷ ls) v ns w a i =
             nodes = u ∷ [];
             is = ap (λ t. t ∷ ls) (eqb-true m l e);
             fresh = refl;
+            fresh_after = subst (λ t. is_in ls t ≡ false) (eqb-true m l e) (not_in ls m (λ j. both_ways _ b.0 (walk_ends links w.1 ls v w.2 m w.0 u w.1 w.6 j w.3 w.4)));
             walk = (refl, refl);
             apart = (refl, tt);
             within = λ n j. elim (in_cases u n [] j) [ inl q ↦ subst (λ t. is_in t n ≡ true) (sym w.5) (subst (λ t. is_in (u ∷ w.2) t ≡ true) q (in_head u w.2)) | inr q ↦ absurd (false≢true q) ];
@@ -181,6 +185,7 @@ parted links l u (m ∷ ls) v ns w a i =
             nodes = u ∷ r.nodes;
             is = ap (λ t. m ∷ t) r.is;
             fresh = not_in_cons m l r.before (eqb-false m l e) r.fresh;
+            fresh_after = r.fresh_after;
             walk = (w.0, w.1, r.nodes, w.3, w.4, refl, r.walk);
             apart = (not_in r.nodes u (λ q. both_ways _ b.0 (r.within u q)), r.apart);
             within = λ n q. subst (λ t. is_in t n ≡ true) (sym w.5) (elim (in_cases u n r.nodes q) [ inl p ↦ subst (λ t. is_in (u ∷ w.2) t ≡ true) p (in_head u w.2) | inr p ↦ in_tail u n w.2 (r.within n p) ]);
@@ -252,41 +257,66 @@ near_is w l k o u hu ls ns p =
           ]))
     ]
 
+-- ---- the stops of a way
+
+-- whether link l is among the stops
+abbrev pub stops_at : List Stop → ℕ → Bool
+stops_at ss l = list_any (λ s. s.link == l) ss
+
+pub stops_in : (links : List LinkSpec) (u t : ℕ) (ls : List ℕ) (l : ℕ) → stops_at (stops links u t ls) l ≡ is_in ls l
+stops_in links u t [] l = refl
+stops_in links u t (k ∷ ks) l = ap (λ b. (k == l) || b) (stops_in links (end_of u (slice_get links k)) (t + delay_of u (slice_get links k)) ks l)
+
+-- a packet comes to a link of its way after the delays of the earlier ones
+record SplitsAt (links : List LinkSpec) (u t : ℕ) (xs ys : List ℕ) (l : ℕ) : Type 0 where
+  after : List Stop
+  in_after : (k : ℕ) → stops_at after k ≡ is_in ys k
+  is : stops links u t (xs ++ l ∷ ys) ≡ stops links u t xs ++ stop l (t + delay_along links u xs) ∷ after
+
+split_at : (links : List LinkSpec) (u t : ℕ) (xs ys : List ℕ) (l : ℕ) → SplitsAt links u t xs ys l
+split_at links u t [] ys l =
+    let v = end_of u (slice_get links l) in
+    let d = t + delay_of u (slice_get links l) in
+    let e : t ≡ t + 0 = omega arith in
+    record { after = stops links v d ys; in_after = λ k. stops_in links v d ys k; is = ap (λ n. stop l n ∷ stops links v d ys) e }
+split_at links u t (x ∷ xs) ys l =
+    let v = end_of u (slice_get links x) in
+    let d = delay_of u (slice_get links x) in
+    let r = split_at links v (t + d) xs ys l in
+    let e : (t + d) + delay_along links v xs ≡ t + (d + delay_along links v xs) = omega arith in
+    record { after = r.after; in_after = r.in_after; is = ap (λ ss. stop x t ∷ ss) (r.is ∙ ap (λ n. stops links v (t + d) xs ++ stop l n ∷ r.after) e) }
+
 -- ---- crossed and dropped on a way
 
-crossed_absent : (f : ℕ → Bool) (ls : List ℕ) (l : ℕ) → is_in ls l ≡ false → crossed_on f ls l ≡ false
+crossed_absent : (f : Stop → Bool) (ss : List Stop) (l : ℕ) → stops_at ss l ≡ false → crossed_on f ss l ≡ false
 crossed_absent f [] l n = refl
-crossed_absent f (k ∷ ks) l n =
-    rw (ne_eqb k l (not_head k l ks n), crossed_absent f ks l (not_tail k l ks n)) (elim (f k) as (λ b. (not b && false) ≡ false) [ true ↦ refl | false ↦ refl ])
+crossed_absent f (s ∷ ss) l n =
+    let p = or_parts (s.link == l) (stops_at ss l) n in
+    rw (p.0, crossed_absent f ss l p.1) (elim (f s) as (λ b. (not b && false) ≡ false) [ true ↦ refl | false ↦ refl ])
 
-dropped_absent : (f : ℕ → Bool) (ls : List ℕ) (l : ℕ) → is_in ls l ≡ false → dropped_on f ls l ≡ false
+dropped_absent : (f : Stop → Bool) (ss : List Stop) (l : ℕ) → stops_at ss l ≡ false → dropped_on f ss l ≡ false
 dropped_absent f [] l n = refl
-dropped_absent f (k ∷ ks) l n =
-    rw (ne_eqb k l (not_head k l ks n), dropped_absent f ks l (not_tail k l ks n)) (elim (f k) as (λ b. cond b false false ≡ false) [ true ↦ refl | false ↦ refl ])
+dropped_absent f (s ∷ ss) l n =
+    let p = or_parts (s.link == l) (stops_at ss l) n in
+    rw (p.0, dropped_absent f ss l p.1) (elim (f s) as (λ b. cond b false false ≡ false) [ true ↦ refl | false ↦ refl ])
 
-crossed_parts : (f : ℕ → Bool) (xs ys : List ℕ) (l : ℕ) → is_in xs l ≡ false → crossed_on f (xs ++ l ∷ ys) l ≡ (not (f l) && not (list_any f xs))
-crossed_parts f [] ys l n = rw (eq-eqb l l refl) refl
-crossed_parts f (x ∷ xs) ys l n =
-    rw (ne_eqb x l (not_head x l xs n), crossed_parts f xs ys l (not_tail x l xs n)) (turn (f x) (f l) (list_any f xs))
+crossed_parts : (f : Stop → Bool) (xs : List Stop) (s : Stop) (ys : List Stop) → stops_at xs s.link ≡ false → crossed_on f (xs ++ s ∷ ys) s.link ≡ (not (f s) && not (list_any f xs))
+crossed_parts f [] s ys n = rw (eq-eqb s.link s.link refl) refl
+crossed_parts f (x ∷ xs) s ys n =
+    let p = or_parts (x.link == s.link) (stops_at xs s.link) n in
+    rw (p.0, crossed_parts f xs s ys p.1) (turn (f x) (f s) (list_any f xs))
   where
     turn : (a b c : Bool) → (not a && (not b && not c)) ≡ (not b && not (a || c))
     turn true true c = refl
     turn true false c = refl
     turn false b c = refl
 
-dropped_unlisted : (f : ℕ → Bool) (ls : List ℕ) (l : ℕ) → f l ≡ false → dropped_on f ls l ≡ false
-dropped_unlisted f [] l n = refl
-dropped_unlisted f (k ∷ ks) l n =
-    elim (cases_Bool (f k)) [
-      | inl e ↦ rw e (ne_eqb k l (λ q. both_ways _ n (subst (λ t. f t ≡ true) q e)))
-      | inr e ↦ rw e (dropped_unlisted f ks l n)
-    ]
-
-dropped_parts : (f : ℕ → Bool) (xs ys : List ℕ) (l : ℕ) → is_in xs l ≡ false → dropped_on f (xs ++ l ∷ ys) l ≡ (f l && not (list_any f xs))
-dropped_parts f [] ys l n =
-    elim (cases_Bool (f l)) [ inl e ↦ rw (e, eq-eqb l l refl) refl | inr e ↦ rw e (dropped_unlisted f ys l e) ]
-dropped_parts f (x ∷ xs) ys l n =
-    rw (ne_eqb x l (not_head x l xs n), dropped_parts f xs ys l (not_tail x l xs n)) (turn (f x) (f l) (list_any f xs))
+dropped_parts : (f : Stop → Bool) (xs : List Stop) (s : Stop) (ys : List Stop) → stops_at xs s.link ≡ false → stops_at ys s.link ≡ false → dropped_on f (xs ++ s ∷ ys) s.link ≡ (f s && not (list_any f xs))
+dropped_parts f [] s ys n m =
+    elim (cases_Bool (f s)) [ inl e ↦ rw (e, eq-eqb s.link s.link refl) refl | inr e ↦ rw e (dropped_absent f ys s.link m) ]
+dropped_parts f (x ∷ xs) s ys n m =
+    let p = or_parts (x.link == s.link) (stops_at xs s.link) n in
+    rw (p.0, dropped_parts f xs s ys p.1 m) (turn (f x) (f s) (list_any f xs))
   where
     turn : (a b c : Bool) → cond a false (b && not c) ≡ (b && not (a || c))
     turn true true c = refl
@@ -299,6 +329,7 @@ pub record Reached (w : Network) (l : ℕ) (k : LinkSpec) (u v : ℕ) : Type 0 w
   pub after : List ℕ
   pub is : route w u v ≡ before ++ l ∷ after
   pub fresh : is_in before l ≡ false
+  pub fresh_after : is_in after l ≡ false
   pub before_is : before ≡ route w u (near_end w l k u)
 
 near_below : (w : Network) (l : ℕ) (k : LinkSpec) → LinkOf w l k → (u : ℕ) → near_end w l k u < w.nodes
@@ -315,30 +346,50 @@ reached w l k o u v hu hv i =
       after = p.after;
       is = p.is;
       fresh = p.fresh;
+      fresh_after = p.fresh_after;
       before_is = route_only w o.tree u (near_end w l k u) hu (near_below w l k o u) p.before p.nodes n p.apart;
     }
 
--- whether nothing on the way to the near end of a link is listed
-abbrev pub is_free : Network → ℕ → LinkSpec → (ℕ → Bool) → ℕ → Bool
-is_free w l k f u = not (list_any f (route w u (near_end w l k u)))
+-- the stop at a link of a packet that is at node u at tick t
+abbrev pub near_stop : Network → ℕ → LinkSpec → ℕ → ℕ → Stop
+near_stop w l k u t = stop l (t + delay_along w.links u (route w u (near_end w l k u)))
 
-pub crossed_is : (w : Network) (l : ℕ) (k : LinkSpec) → LinkOf w l k → (f : ℕ → Bool) (u v : ℕ) → u < w.nodes → v < w.nodes
-    → crossed_on f (route w u v) l ≡ (not (f l) && (is_in (route w u v) l && is_free w l k f u))
-crossed_is w l k o f u v hu hv =
-    elim (cases_Bool (is_in (route w u v) l)) [
-      | inl i ↦ (let r = reached w l k o u v hu hv i in
-          ap (λ ls. crossed_on f ls l) r.is ∙ crossed_parts f r.before r.after l r.fresh ∙ ap (λ ls. not (f l) && not (list_any f ls)) r.before_is ∙ ap (λ b. not (f l) && (b && is_free w l k f u)) (sym i))
-      | inr n ↦ crossed_absent f (route w u v) l n ∙ rw n (elim (f l) as (λ b. false ≡ (not b && false)) [ true ↦ refl | false ↦ refl ])
-    ]
+-- whether no stop on the way to the near end of a link passes a test
+abbrev pub is_free : Network → ℕ → LinkSpec → (Stop → Bool) → ℕ → ℕ → Bool
+is_free w l k f u t = not (list_any f (stops w.links u t (route w u (near_end w l k u))))
 
-pub dropped_is : (w : Network) (l : ℕ) (k : LinkSpec) → LinkOf w l k → (f : ℕ → Bool) (u v : ℕ) → u < w.nodes → v < w.nodes
-    → dropped_on f (route w u v) l ≡ (f l && (is_in (route w u v) l && is_free w l k f u))
-dropped_is w l k o f u v hu hv =
-    elim (cases_Bool (is_in (route w u v) l)) [
-      | inl i ↦ (let r = reached w l k o u v hu hv i in
-          ap (λ ls. dropped_on f ls l) r.is ∙ dropped_parts f r.before r.after l r.fresh ∙ ap (λ ls. f l && not (list_any f ls)) r.before_is ∙ ap (λ b. f l && (b && is_free w l k f u)) (sym i))
-      | inr n ↦ dropped_absent f (route w u v) l n ∙ rw n (elim (f l) as (λ b. false ≡ (b && false)) [ true ↦ refl | false ↦ refl ])
-    ]
+module _ (w : Network) (l : ℕ) (k : LinkSpec) (o : LinkOf w l k) (f : Stop → Bool) (u v t : ℕ) (hu : u < w.nodes) (hv : v < w.nodes) where
+  absent : is_in (route w u v) l ≡ false → stops_at (stops w.links u t (route w u v)) l ≡ false
+  absent n = stops_in w.links u t (route w u v) l ∙ n
+
+  pub crossed_is : crossed_on f (stops w.links u t (route w u v)) l ≡ (not (f (near_stop w l k u t)) && (is_in (route w u v) l && is_free w l k f u t))
+  crossed_is =
+      elim (cases_Bool (is_in (route w u v) l)) [
+        | inl i ↦ (let r = reached w l k o u v hu hv i in
+            let s = split_at w.links u t r.before r.after l in
+            let n = stops_in w.links u t r.before l ∙ r.fresh in
+            ap (λ ls. crossed_on f (stops w.links u t ls) l) r.is ∙ ap (λ ss. crossed_on f ss l) s.is
+            ∙ crossed_parts f (stops w.links u t r.before) (stop l (t + delay_along w.links u r.before)) s.after n
+            ∙ ap (λ ls. not (f (stop l (t + delay_along w.links u ls))) && not (list_any f (stops w.links u t ls))) r.before_is
+            ∙ ap (λ b. not (f (near_stop w l k u t)) && (b && is_free w l k f u t)) (sym i))
+        | inr n ↦ crossed_absent f (stops w.links u t (route w u v)) l (absent n)
+            ∙ rw n (elim (f (near_stop w l k u t)) as (λ b. false ≡ (not b && false)) [ true ↦ refl | false ↦ refl ])
+      ]
+
+  pub dropped_is : dropped_on f (stops w.links u t (route w u v)) l ≡ (f (near_stop w l k u t) && (is_in (route w u v) l && is_free w l k f u t))
+  dropped_is =
+      elim (cases_Bool (is_in (route w u v) l)) [
+        | inl i ↦ (let r = reached w l k o u v hu hv i in
+            let s = split_at w.links u t r.before r.after l in
+            let n = stops_in w.links u t r.before l ∙ r.fresh in
+            let m = s.in_after l ∙ r.fresh_after in
+            ap (λ ls. dropped_on f (stops w.links u t ls) l) r.is ∙ ap (λ ss. dropped_on f ss l) s.is
+            ∙ dropped_parts f (stops w.links u t r.before) (stop l (t + delay_along w.links u r.before)) s.after n m
+            ∙ ap (λ ls. f (stop l (t + delay_along w.links u ls)) && not (list_any f (stops w.links u t ls))) r.before_is
+            ∙ ap (λ b. f (near_stop w l k u t) && (b && is_free w l k f u t)) (sym i))
+        | inr n ↦ dropped_absent f (stops w.links u t (route w u v)) l (absent n)
+            ∙ rw n (elim (f (near_stop w l k u t)) as (λ b. false ≡ (b && false)) [ true ↦ refl | false ↦ refl ])
+      ]
 
 -- ---- some member
 
@@ -356,38 +407,50 @@ some_and a b f (suc n) = ap (λ t. (a && (f n && b)) || t) (some_and a b f n) �
     spread true b true false = elim b as (λ t. (t || false) ≡ t) [ true ↦ refl | false ↦ refl ]
     spread true b false d = refl
 
-pub crosses_is : (w : Network) → IsNetwork w → (l : ℕ) (k : LinkSpec) → slice_get w.links l ≡ Some k → (drops : List DropSpec) (p : PacketId) → p.sender < length w.hosts
-    → crosses w drops p l ≡ (not (is_listed drops p l) && (some_beyond w l k (host w p.sender) && is_free w l k (is_listed drops p) (host w p.sender)))
-unfolding crosses
-crosses_is w n l k g drops p h =
-    let o : LinkOf w l k = record { tree = n.tree; link = g } in
-    let f : ℕ → Bool = is_listed drops p in
-    let u = host w p.sender in
-    let hu : host w p.sender < w.nodes = host_below w n p.sender h in
-    some_same (λ m. crossed_on f (member_route w p.sender m) l)
-    (λ m. not (f l) && (cond (is_beyond w l k u) (not (is_beyond w l k (host w m))) (is_beyond w l k (host w m)) && is_free w l k f u)) (length w.hosts)
-    (λ m lt. let hv = host_below w n m lt in crossed_is w l k o f u (host w m) hu hv ∙ ap (λ b. not (f l) && (b && is_free w l k f u)) (on_route w l k o u (host w m) hu hv))
-    ∙ some_and (not (f l)) (is_free w l k f u) (λ m. cond (is_beyond w l k u) (not (is_beyond w l k (host w m))) (is_beyond w l k (host w m))) (length w.hosts)
+module _ (w : Network) (n : IsNetwork w) (l : ℕ) (k : LinkSpec) (g : slice_get w.links l ≡ Some k) (rules : DropRules) (p : PacketId) (sent : ℕ) (h : p.sender < length w.hosts) where
+  link_of : LinkOf w l k
+  link_of = record { tree = n.tree; link = g }
 
-pub drops_is : (w : Network) → IsNetwork w → (l : ℕ) (k : LinkSpec) → slice_get w.links l ≡ Some k → (drops : List DropSpec) (p : PacketId) → p.sender < length w.hosts
-    → drops_at w drops p l ≡ (is_listed drops p l && (some_beyond w l k (host w p.sender) && is_free w l k (is_listed drops p) (host w p.sender)))
-unfolding drops_at
-drops_is w n l k g drops p h =
-    let o : LinkOf w l k = record { tree = n.tree; link = g } in
-    let f : ℕ → Bool = is_listed drops p in
-    let u = host w p.sender in
-    let hu : host w p.sender < w.nodes = host_below w n p.sender h in
-    some_same (λ m. dropped_on f (member_route w p.sender m) l)
-    (λ m. f l && (cond (is_beyond w l k u) (not (is_beyond w l k (host w m))) (is_beyond w l k (host w m)) && is_free w l k f u)) (length w.hosts)
-    (λ m lt. let hv = host_below w n m lt in dropped_is w l k o f u (host w m) hu hv ∙ ap (λ b. f l && (b && is_free w l k f u)) (on_route w l k o u (host w m) hu hv))
-    ∙ some_and (f l) (is_free w l k f u) (λ m. cond (is_beyond w l k u) (not (is_beyond w l k (host w m))) (is_beyond w l k (host w m))) (length w.hosts)
+  abbrev pub out : Stop → Bool
+  out = takes_out rules p
 
--- a link that is not listed drops nothing
+  abbrev pub u : ℕ
+  u = host w p.sender
 
-none_below : (f : ℕ → Bool) (n : ℕ) → ((m : ℕ) → f m ≡ false) → some_below f n ≡ false
+  -- whether member m is on the other side of the link
+  abbrev is_over : ℕ → Bool
+  is_over m = cond (is_beyond w l k u) (not (is_beyond w l k (host w m))) (is_beyond w l k (host w m))
+
+  pub crosses_is : crosses w rules p sent l ≡ (not (out (near_stop w l k u sent)) && (some_beyond w l k u && is_free w l k out u sent))
+  unfolding crosses
+  crosses_is =
+      some_same (λ m. crossed_on out (member_stops w p.sender sent m) l)
+      (λ m. not (out (near_stop w l k u sent)) && (is_over m && is_free w l k out u sent)) (length w.hosts)
+      (λ m lt. let hv = host_below w n m lt in
+      crossed_is w l k link_of out u (host w m) sent (host_below w n p.sender h) hv
+      ∙ ap (λ b. not (out (near_stop w l k u sent)) && (b && is_free w l k out u sent)) (on_route w l k link_of u (host w m) (host_below w n p.sender h) hv))
+      ∙ some_and (not (out (near_stop w l k u sent))) (is_free w l k out u sent) is_over (length w.hosts)
+
+  pub drops_is : drops_at w rules p sent l ≡ (out (near_stop w l k u sent) && (some_beyond w l k u && is_free w l k out u sent))
+  unfolding drops_at
+  drops_is =
+      some_same (λ m. dropped_on out (member_stops w p.sender sent m) l)
+      (λ m. out (near_stop w l k u sent) && (is_over m && is_free w l k out u sent)) (length w.hosts)
+      (λ m lt. let hv = host_below w n m lt in
+      dropped_is w l k link_of out u (host w m) sent (host_below w n p.sender h) hv
+      ∙ ap (λ b. out (near_stop w l k u sent) && (b && is_free w l k out u sent)) (on_route w l k link_of u (host w m) (host_below w n p.sender h) hv))
+      ∙ some_and (out (near_stop w l k u sent)) (is_free w l k out u sent) is_over (length w.hosts)
+
+-- ---- what no stop takes out
+
+pub none_below : (f : ℕ → Bool) (n : ℕ) → ((m : ℕ) → f m ≡ false) → some_below f n ≡ false
 none_below f zero h = refl
 none_below f (suc n) h = rw (h n) (none_below f n h)
 
-pub drops_unlisted : (w : Network) (drops : List DropSpec) (p : PacketId) (l : ℕ) → is_listed drops p l ≡ false → drops_at w drops p l ≡ false
-unfolding drops_at
-drops_unlisted w drops p l n = none_below (λ m. dropped_on (is_listed drops p) (member_route w p.sender m) l) (length w.hosts) (λ m. dropped_unlisted (is_listed drops p) (member_route w p.sender m) l n)
+pub dropped_nowhere : (f : Stop → Bool) → ((s : Stop) → f s ≡ false) → (ss : List Stop) (l : ℕ) → dropped_on f ss l ≡ false
+dropped_nowhere f h [] l = refl
+dropped_nowhere f h (s ∷ ss) l = rw (h s) (dropped_nowhere f h ss l)
+
+pub crossed_where_stops : (f : Stop → Bool) → ((s : Stop) → f s ≡ false) → (ss : List Stop) (l : ℕ) → crossed_on f ss l ≡ stops_at ss l
+crossed_where_stops f h [] l = refl
+crossed_where_stops f h (s ∷ ss) l = rw (h s) (ap (λ b. (s.link == l) || b) (crossed_where_stops f h ss l))

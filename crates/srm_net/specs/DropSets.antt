@@ -1,13 +1,13 @@
--- The entries of a set of drops.
+-- What a set of drops says.
 use Rattle.std.specs.Prelude.{◌≡◌, Bool, ◌&&◌, ◌==◌, List, [], ◌∷◌}
 use Rattle.std.specs.List.{list_any}
 use Rattle.std.specs.declared.cmp.Ordering.{Ordering}
 use Rattle.std.specs.Ordering.{match_ordering}
-use Rattle.srm_net.specs.declared.link.DropSpec.{DropSpec}
 use Rattle.srm_net.specs.declared.packet.PacketId.{PacketId}
 use Rattle.srm_net.specs.declared.drops.Drops.TheInside.{Inside}
 use Rattle.srm_net.specs.Paths.{drop_cmp}
 use Rattle.srm_net.specs.Listed.{is_listed_somewhere}
+use Rattle.srm_net.specs.DropRules.{DropRules}
 
 -- the list with x at its place, unless it has x already
 abbrev pub with_once : {A : Type 0} → (A → A → Ordering) → A → List A → List A
@@ -19,9 +19,9 @@ abbrev pub ordered_once : {A : Type 0} → (A → A → Ordering) → List A →
 ordered_once cmp [] = []
 ordered_once cmp (x ∷ xs) = with_once cmp x (ordered_once cmp xs)
 
--- the entries of a set of drops, in order
-abbrev pub entries_of : Inside → List DropSpec
-entries_of s = ordered_once drop_cmp s.entries.keys
+-- the entries of a set of drops, in order, and the outages
+abbrev pub rules_of : Inside → DropRules
+rules_of s = record { listed = ordered_once drop_cmp s.entries.keys; outages = s.outages }
 
 -- whether the packet is in the list
 abbrev pub has_packet : List PacketId → PacketId → Bool

@@ -1,7 +1,9 @@
--- Three small networks.
+-- Small networks, packets and outages.
 use Rattle.std.specs.Prelude.{ℕ, [], ◌∷◌}
 use Rattle.srm_net.specs.Network.{Network}
+use Rattle.srm_net.specs.DropRules.{DropRules}
 use Rattle.srm_net.specs.declared.link.LinkSpec.{LinkSpec}
+use Rattle.srm_net.specs.declared.packet.PacketId.{PacketId}
 
 -- a link of delay 2 in both directions
 abbrev pub short_link : ℕ → ℕ → LinkSpec
@@ -28,3 +30,23 @@ uneven_chain = record { nodes = 3; links = uneven_link 0 1 ∷ uneven_link 2 1 �
 -- one node with one member
 abbrev pub lone_node : Network
 lone_node = record { nodes = 1; links = []; hosts = 0 ∷ [] }
+
+-- a link of delay 5 in both directions
+abbrev pub slow_link : ℕ → ℕ → LinkSpec
+slow_link a b = record { a = a; b = b; delay = 5; back = 5 }
+
+-- a chain of three nodes with a member on each
+abbrev pub slow_chain : Network
+slow_chain = record { nodes = 3; links = slow_link 0 1 ∷ slow_link 1 2 ∷ []; hosts = 0 ∷ 1 ∷ 2 ∷ [] }
+
+-- the same with links that take 1 tick from the node in the middle and 3 to it
+abbrev pub turned_chain : Network
+turned_chain = record { nodes = 3; links = uneven_link 1 0 ∷ uneven_link 1 2 ∷ []; hosts = 0 ∷ 1 ∷ 2 ∷ [] }
+
+-- no listed drop, and one outage of link 1
+abbrev pub outage_of_link_1 : ℕ → ℕ → DropRules
+outage_of_link_1 from to = record { listed = []; outages = record { link = 1; from = from; to = to } ∷ [] }
+
+-- member 0's packet of this count
+abbrev pub packet_of_member_0 : ℕ → PacketId
+packet_of_member_0 n = record { sender = 0; count = n }

@@ -1,15 +1,17 @@
 -- What holds of every network, and of the orders.
-use Rattle.std.specs.Prelude.{◌≡◌, ◌≢◌, ◌↔◌, ℕ, ◌/◌, ◌<◌, ◌≤◌, true, false, All, Contains, List, length, Some, None}
+use Rattle.std.specs.Prelude.{◌≡◌, ◌≢◌, ◌↔◌, ℕ, ◌/◌, ◌<◌, ◌≤◌, true, false, not, All, Contains, List, [], length, Some, None}
+use Rattle.std.specs.List.{list_any}
 use Rattle.std.specs.declared.cmp.Ordering.{Ordering}
 use Rattle.std.specs.declared.cmp.Ordering.TheVariants.{Equal}
 use Rattle.std.specs.Cmp.{IsTotalOrder}
 use Rattle.srm_net.specs.declared.link.DropSpec.{DropSpec}
+use Rattle.srm_net.specs.declared.link.OutageSpec.{OutageSpec}
 use Rattle.srm_net.specs.declared.packet.PacketId.{PacketId}
 use Rattle.srm_net.specs.Orders.{Ascends}
 use Rattle.srm_net.specs.declared.link.LinkSpec.{LinkSpec}
 use Rattle.srm_net.specs.Network.{Network, IsPath, IsTree, IsAlike, IsNetwork}
-use Rattle.srm_net.specs.Paths.{route, distance, round, drop_cmp, is_listed, reaches, crosses, drops_at}
-use Rattle.srm_net.specs.Listed.{is_listed_somewhere}
+use Rattle.srm_net.specs.Paths.{route, member_route, distance, round, drop_cmp, is_listed, reaches, crosses, drops_at}
+use Rattle.srm_net.specs.DropRules.{DropRules, is_out, may_drop}
 use Rattle.srm_net.specs.Fates.{is_on_way}
 use Rattle.srm_net.specs.Least.{least_delay, out}
 
@@ -79,31 +81,53 @@ OutOfTheOnlyOne = (w : Network) (m : ℕ) → out w m ≡ None → (b : ℕ) →
 
 -- a packet reaches its sender
 abbrev pub ReachesItsSender : Type 0
-ReachesItsSender = (w : Network) (drops : List DropSpec) (p : PacketId) → reaches w drops p p.sender ≡ true
+ReachesItsSender = (w : Network) (rules : DropRules) (p : PacketId) (sent : ℕ) → reaches w rules p sent p.sender ≡ true
 
--- a packet that no link is listed for reaches every member
+-- a packet that no link is listed for, where there are no outages, reaches every member
 abbrev pub UnlistedReachesAll : Type 0
 UnlistedReachesAll =
-    (w : Network) (drops : List DropSpec) (p : PacketId) → is_listed_somewhere drops p ≡ false
-    → (m : ℕ) → reaches w drops p m ≡ true
+    (w : Network) (rules : DropRules) (p : PacketId) → may_drop rules p ≡ false
+    → (sent m : ℕ) → reaches w rules p sent m ≡ true
 
 -- it crosses the links on the ways from its sender to members, and no other
 abbrev pub UnlistedCrossesItsWays : Type 0
 UnlistedCrossesItsWays =
-    (w : Network) (drops : List DropSpec) (p : PacketId) → is_listed_somewhere drops p ≡ false
-    → (l : ℕ) → crosses w drops p l ≡ is_on_way w p.sender l
+    (w : Network) (rules : DropRules) (p : PacketId) → may_drop rules p ≡ false
+    → (sent l : ℕ) → crosses w rules p sent l ≡ is_on_way w p.sender l
 
 -- and is dropped nowhere
 abbrev pub UnlistedIsNowhereDropped : Type 0
 UnlistedIsNowhereDropped =
-    (w : Network) (drops : List DropSpec) (p : PacketId) → is_listed_somewhere drops p ≡ false
-    → (l : ℕ) → drops_at w drops p l ≡ false
+    (w : Network) (rules : DropRules) (p : PacketId) → may_drop rules p ≡ false
+    → (sent l : ℕ) → drops_at w rules p sent l ≡ false
 
 -- lists with the same drops list the same
 abbrev pub SameDropsListed : Type 0
 SameDropsListed =
     (ds es : List DropSpec) → ((d : DropSpec) → Contains ds d ↔ Contains es d)
     → (p : PacketId) (l : ℕ) → is_listed ds p l ≡ is_listed es p l
+
+-- lists with the same outages have a link out at the same ticks
+abbrev pub SameOutagesOut : Type 0
+SameOutagesOut =
+    (os qs : List OutageSpec) → ((o : OutageSpec) → Contains os o ↔ Contains qs o)
+    → (l t : ℕ) → is_out os l t ≡ is_out qs l t
+
+-- without outages a packet reaches a member exactly where no link of the way is listed for it, whenever it is sent
+abbrev pub WithoutOutagesReaches : Type 0
+WithoutOutagesReaches =
+    (w : Network) (drops : List DropSpec) (p : PacketId) (sent m : ℕ)
+    → reaches w (record { listed = drops; outages = [] }) p sent m
+    ≡ not (list_any (is_listed drops p) (member_route w p.sender m))
+
+-- without outages, a packet crosses the same links and is dropped at the same, whenever it is sent
+abbrev pub WithoutOutagesAtAnyTime : Type 0
+WithoutOutagesAtAnyTime =
+    (w : Network) (drops : List DropSpec) (p : PacketId) (sent later l : ℕ)
+    → (crosses w (record { listed = drops; outages = [] }) p sent l
+    ≡ crosses w (record { listed = drops; outages = [] }) p later l)
+    × (drops_at w (record { listed = drops; outages = [] }) p sent l
+    ≡ drops_at w (record { listed = drops; outages = [] }) p later l)
 
 -- a set of drops is one list in rising order
 abbrev pub OneListOfDrops : Type 0

@@ -2,11 +2,13 @@ pub mod Orders
 pub mod Keys
 pub mod Names
 pub mod Network
+pub mod Listed
+pub mod DropRules
 pub mod Paths
 pub mod Fates
 pub mod Least
-pub mod Listed
-pub mod DropRules
+pub mod Outages
+pub mod OutageTables
 pub mod DropSets
 pub mod Grids
 pub mod Growth

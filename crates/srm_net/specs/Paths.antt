@@ -8,6 +8,7 @@ use Rattle.srm_net.specs.declared.link.LinkSpec.{LinkSpec}
 use Rattle.srm_net.specs.declared.link.DropSpec.{DropSpec}
 use Rattle.srm_net.specs.declared.packet.PacketId.{PacketId}
 use Rattle.srm_net.specs.Network.{Network}
+use Rattle.srm_net.specs.DropRules.{DropRules, is_out}
 
 -- ---- routes
 
@@ -97,29 +98,56 @@ drop_cmp d e = slice_cmp nat_cmp (d.link ∷ d.id.sender ∷ d.id.count ∷ []) 
 abbrev pub is_listed : List DropSpec → PacketId → ℕ → Bool
 is_listed drops p l = list_any (λ d. (d.link == l) && ((d.id.sender == p.sender) && (d.id.count == p.count))) drops
 
--- whether packet p reaches member m: no link of the way from its sender is listed for it
-unfoldable pub reaches : Network → List DropSpec → PacketId → ℕ → Bool
-reaches w drops p m = not (list_any (is_listed drops p) (member_route w p.sender m))
+-- ---- what becomes of a packet on its way
 
--- whether link l is on the way, and neither it nor an earlier link of the way is listed
-abbrev pub crossed_on : (ℕ → Bool) → List ℕ → ℕ → Bool
-crossed_on listed [] l = false
-crossed_on listed (k ∷ ks) l = not (listed k) && ((k == l) || crossed_on listed ks l)
+-- a link of a way, and the tick at which a packet comes to it
+pub record Stop : Type 0 where
+  pub link : ℕ
+  pub at : ℕ
 
--- whether link l is the first of the way that is listed
-abbrev pub dropped_on : (ℕ → Bool) → List ℕ → ℕ → Bool
-dropped_on listed [] l = false
-dropped_on listed (k ∷ ks) l = if listed k then (k == l) else dropped_on listed ks l
+-- link l, to which a packet comes at tick t
+abbrev pub stop : ℕ → ℕ → Stop
+stop l t = record { link = l; at = t }
+
+-- the stops of a packet that is at node u at tick t and takes these links one after the other
+abbrev pub stops : List LinkSpec → ℕ → ℕ → List ℕ → List Stop
+stops links u t [] = []
+stops links u t (l ∷ ls) =
+    stop l t ∷ stops links (end_of u (slice_get links l)) (t + delay_of u (slice_get links l)) ls
+
+-- the stops of a packet that member a sends at this tick, on its way to member b
+abbrev pub member_stops : Network → ℕ → ℕ → ℕ → List Stop
+member_stops w a sent b = stops w.links (host w a) sent (member_route w a b)
+
+-- whether the link of a stop takes packet p out there: it is listed for the packet, or out at that tick
+abbrev pub takes_out : DropRules → PacketId → Stop → Bool
+takes_out rules p s = is_listed rules.listed p s.link || is_out rules.outages s.link s.at
+
+-- whether packet p, sent at this tick, reaches member m: no link of the way from its sender takes it out
+unfoldable pub reaches : Network → DropRules → PacketId → ℕ → ℕ → Bool
+reaches w rules p sent m = not (list_any (takes_out rules p) (member_stops w p.sender sent m))
+
+-- whether link l is on the way, and neither it nor an earlier link of the way takes the packet out
+abbrev pub crossed_on : (Stop → Bool) → List Stop → ℕ → Bool
+crossed_on out [] l = false
+crossed_on out (s ∷ ss) l = not (out s) && ((s.link == l) || crossed_on out ss l)
+
+-- whether link l is the first of the way that takes the packet out
+abbrev pub dropped_on : (Stop → Bool) → List Stop → ℕ → Bool
+dropped_on out [] l = false
+dropped_on out (s ∷ ss) l = if out s then (s.link == l) else dropped_on out ss l
 
 -- whether a test holds of some number below n
 abbrev pub some_below : (ℕ → Bool) → ℕ → Bool
 some_below test zero = false
 some_below test (suc n) = test n || some_below test n
 
--- whether packet p crosses link l on its way to some member, whether or not that member is present
-unfoldable pub crosses : Network → List DropSpec → PacketId → ℕ → Bool
-crosses w drops p l = some_below (λ m. crossed_on (is_listed drops p) (member_route w p.sender m) l) (length w.hosts)
+-- whether packet p, sent at this tick, crosses link l on its way to some member, whether or not that member is present
+unfoldable pub crosses : Network → DropRules → PacketId → ℕ → ℕ → Bool
+crosses w rules p sent l =
+    some_below (λ m. crossed_on (takes_out rules p) (member_stops w p.sender sent m) l) (length w.hosts)
 
--- whether packet p is dropped at link l on its way to some member, whether or not that member is present
-unfoldable pub drops_at : Network → List DropSpec → PacketId → ℕ → Bool
-drops_at w drops p l = some_below (λ m. dropped_on (is_listed drops p) (member_route w p.sender m) l) (length w.hosts)
+-- whether packet p, sent at this tick, is dropped at link l on its way to some member, whether or not that member is present
+unfoldable pub drops_at : Network → DropRules → PacketId → ℕ → ℕ → Bool
+drops_at w rules p sent l =
+    some_below (λ m. dropped_on (takes_out rules p) (member_stops w p.sender sent m) l) (length w.hosts)

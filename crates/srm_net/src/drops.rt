@@ -1,46 +1,49 @@
-//! Which packets are to be dropped at which links.
+//! Which packets links drop: those listed, and all that come to a link in an outage.
 ghost use Rattle.std.specs.Prelude.{◌≡◌, ◌↔◌, Contains, IfOk, IfErr};
 ghost use Rattle.srm_net.specs.declared.link.DropSpec.{DropSpec};
 ghost use Rattle.srm_net.specs.Orders.{Ascends};
-ghost use Rattle.srm_net.specs.Listed.{is_listed_somewhere};
-ghost use Rattle.srm_net.specs.Paths.{drop_cmp, is_listed};
+ghost use Rattle.srm_net.specs.DropRules.{may_drop};
+ghost use Rattle.srm_net.specs.Paths.{drop_cmp, is_listed, stop, takes_out};
 
 use crate::fault::NetFault;
-use crate::link::DropSpec;
+use crate::link::{DropSpec, OutageSpec};
+use crate::outages::Outages;
 use crate::packet::PacketId;
 use std::alloc::Global;
 use std::collections::HashSet;
 use std::marker::Model;
 
-/// The packets that links drop. Contracts see it as its entries in the order of links, senders and counts, each once.
+/// The packets that links are listed as dropping, and the outages of links. Contracts see it as the rules of its entries in the order
+/// of links, senders and counts, each once, and of its outages as they were given.
 #[derive(Drop)]
 pub struct Drops {
     entries: HashSet<DropSpec>,
     packets: HashSet<PacketId>,
+    outages: Outages,
 }
 
 impl Model for Drops {
-    ghost use Rattle.std.specs.Prelude.{List};
-    ghost use Rattle.srm_net.specs.declared.link.DropSpec.{DropSpec};
+    ghost use Rattle.srm_net.specs.DropRules.{DropRules};
 
-    ghost Value = { List DropSpec };
+    ghost Value = { DropRules };
 
-    ghost use Rattle.srm_net.specs.DropSets.{entries_of, KnowsItsPackets};
+    ghost use Rattle.srm_net.specs.DropSets.{rules_of, KnowsItsPackets};
 
-    ghost view = { entries_of };
+    ghost view = { rules_of };
 
     ghost invariant = { KnowsItsPackets };
 }
 
 impl Drops {
-    /// The set of these entries. One that stands in the list more than once counts once.
+    /// The set of these entries, with these outages. An entry that stands in the list more than once counts once.
     ///
     /// # Errors
     ///
     /// [`NetFault::NoMemory`] alone.
-    pub fn of(alloc: Global, list: &[DropSpec]) -> Result<Drops, NetFault>
-        ensures entries { IfOk result (λ drops. (d : DropSpec) → Contains drops d ↔ Contains list.now d) }
-        ensures once_in_order { IfOk result (Ascends drop_cmp) }
+    pub fn of(alloc: Global, list: &[DropSpec], outages: &[OutageSpec]) -> Result<Drops, NetFault>
+        ensures entries { IfOk result (λ drops. (d : DropSpec) → Contains drops.listed d ↔ Contains list.now d) }
+        ensures once_in_order { IfOk result (λ drops. Ascends drop_cmp drops.listed) }
+        ensures outages { IfOk result (λ drops. drops.outages ≡ outages.now) }
         ensures only_memory { IfErr result (λ e. e ≡ NetFault.NoMemory) }
     {
         let mut entries = HashSet::new(alloc);
@@ -53,20 +56,34 @@ impl Drops {
                 return Err(NetFault::NoMemory);
             };
         }
-        Ok(Drops { entries, packets })
+        let outages = Outages::of(alloc, outages)?;
+        Ok(Drops {
+            entries,
+            packets,
+            outages,
+        })
     }
 
-    /// Whether a link is to drop a packet.
+    /// Whether a link is listed as dropping a packet.
     pub fn lists(&self, link: u16, id: PacketId) -> bool
-        ensures { result ≡ is_listed self.now id link }
+        ensures { result ≡ is_listed self.now.listed id link }
     {
         self.entries.contains(&DropSpec { link, id })
     }
 
-    /// Whether any link is to drop a packet.
-    pub fn lists_packet(&self, id: PacketId) -> bool
-        ensures { result ≡ is_listed_somewhere self.now id }
+    /// Whether a link takes out a packet that comes to it at the tick `at`: it is listed for the packet, or out at that tick.
+    pub fn takes_out(&self, id: PacketId, link: u16, at: u64) -> bool
+        ensures { result ≡ takes_out self.now id (stop link at) }
     {
-        self.packets.contains(&id)
+        self.lists(link, id) || self.outages.is_out(link, at)
+    }
+
+    /// Whether a packet may be dropped at all: some link is listed for it, or there are outages.
+    ///
+    /// Any other packet goes everywhere ([`unlisted_packets_go_everywhere`](crate::laws::unlisted_packets_go_everywhere)).
+    pub fn may_drop(&self, id: PacketId) -> bool
+        ensures { result ≡ may_drop self.now id }
+    {
+        self.packets.contains(&id) || !self.outages.is_empty()
     }
 }

@@ -1,5 +1,5 @@
 //! What holds of every network and of the orders, as laws over the definitions.
-ghost use Rattle.std.specs.Prelude.{◌≡◌, Some, None};
+ghost use Rattle.std.specs.Prelude.{◌≡◌, true, false, Some, None};
 ghost use Rattle.srm_net.specs.declared.key.Key.{Key};
 ghost use Rattle.srm_net.specs.declared.packet.Heard.{Heard};
 ghost use Rattle.srm_net.specs.declared.packet.Name.{Name};
@@ -7,12 +7,14 @@ ghost use Rattle.srm_net.specs.declared.packet.PacketId.{PacketId};
 ghost use Rattle.srm_net.specs.declared.packet.PageId.{PageId};
 ghost use Rattle.srm_net.specs.Keys.{key_cmp};
 ghost use Rattle.srm_net.specs.Names.{name_cmp, page_cmp, id_cmp, heard_cmp};
-ghost use Rattle.srm_net.specs.Paths.{distance, round};
+ghost use Rattle.srm_net.specs.Paths.{distance, round, reaches, crosses, drops_at};
 ghost use Rattle.srm_net.specs.Least.{least_delay, out};
 ghost use Rattle.srm_net.specs.Examples.{tree_of_eight, uneven_chain, lone_node};
+ghost use Rattle.srm_net.specs.Examples.{slow_chain, turned_chain, outage_of_link_1, packet_of_member_0};
 ghost use Rattle.srm_net.specs.Laws.{OnePath, TreesHaveOnePath, DistancesFit, AlikeBothWays, RoundsTurn, LeastDelayFits, NoLinkNoTwo, OutFits, OutOfTheOnlyOne};
 ghost use Rattle.srm_net.specs.Laws.{ReachesItsSender, UnlistedReachesAll, UnlistedCrossesItsWays, UnlistedIsNowhereDropped};
-ghost use Rattle.srm_net.specs.Laws.{SameDropsListed, OneListOfDrops, OrdersTotally};
+ghost use Rattle.srm_net.specs.Laws.{WithoutOutagesReaches, WithoutOutagesAtAnyTime};
+ghost use Rattle.srm_net.specs.Laws.{SameDropsListed, SameOutagesOut, OneListOfDrops, OrdersTotally};
 
 /// In a tree the route between two nodes is a path, and there is no other.
 pub fn one_path()
@@ -56,17 +58,25 @@ pub fn reaches_its_sender()
     ensures { ReachesItsSender }
 {}
 
-/// A packet that no link is to drop reaches every member, crosses exactly the links on the ways from its sender to members, and is
-/// dropped nowhere.
+/// A packet that no link is listed for, where there are no outages, reaches every member, crosses exactly the links on the ways from its
+/// sender to members, and is dropped nowhere.
 pub fn unlisted_packets_go_everywhere()
     ensures reaches { UnlistedReachesAll }
     ensures crosses { UnlistedCrossesItsWays }
     ensures dropped { UnlistedIsNowhereDropped }
 {}
 
-/// A set of drops is one list in rising order, and what it lists depends on its entries alone.
+/// Without outages it is the listed drops alone that keep a packet from a member, and when the packet is sent makes no difference.
+pub fn without_outages_lists_decide()
+    ensures reaches { WithoutOutagesReaches }
+    ensures at_any_time { WithoutOutagesAtAnyTime }
+{}
+
+/// A set of drops is one list in rising order, and what it lists depends on its entries alone, as the ticks at which links are out depend
+/// on the outages alone.
 pub fn drops_are_a_set()
     ensures listed { SameDropsListed }
+    ensures out { SameOutagesOut }
     ensures one_list { OneListOfDrops }
 {}
 
@@ -114,4 +124,21 @@ pub fn small_networks()
     ensures uneven_least { least_delay uneven_chain ≡ Some 1 }
     ensures no_out { out lone_node 0 ≡ None }
     ensures no_least { least_delay lone_node ≡ None }
+{}
+
+/// What the definitions say of outages in a chain of three nodes whose links take 5 ticks. Member 0 sends at ticks 0 and 10, and link 1 is
+/// out in one tick: in tick 5, when the first packet comes there, in tick 4 or in tick 6. In a chain whose first link takes 3 ticks in the
+/// direction in which the packet takes it, and 1 in the other, the packet comes to the next link at tick 3.
+pub fn small_outages()
+    ensures near { reaches slow_chain (outage_of_link_1 5 6) (packet_of_member_0 0) 0 1 ≡ true }
+    ensures far { reaches slow_chain (outage_of_link_1 5 6) (packet_of_member_0 0) 0 2 ≡ false }
+    ensures dropped { drops_at slow_chain (outage_of_link_1 5 6) (packet_of_member_0 0) 0 1 ≡ true }
+    ensures not_crossed { crosses slow_chain (outage_of_link_1 5 6) (packet_of_member_0 0) 0 1 ≡ false }
+    ensures crossed { crosses slow_chain (outage_of_link_1 5 6) (packet_of_member_0 0) 0 0 ≡ true }
+    ensures later { reaches slow_chain (outage_of_link_1 5 6) (packet_of_member_0 1) 10 2 ≡ true }
+    ensures later_crosses { crosses slow_chain (outage_of_link_1 5 6) (packet_of_member_0 1) 10 1 ≡ true }
+    ensures over { reaches slow_chain (outage_of_link_1 4 5) (packet_of_member_0 0) 0 2 ≡ true }
+    ensures not_yet { reaches slow_chain (outage_of_link_1 6 7) (packet_of_member_0 0) 0 2 ≡ true }
+    ensures turned { drops_at turned_chain (outage_of_link_1 3 4) (packet_of_member_0 0) 0 1 ≡ true }
+    ensures not_turned { drops_at turned_chain (outage_of_link_1 1 2) (packet_of_member_0 0) 0 1 ≡ false }
 {}

@@ -11,6 +11,7 @@ pub mod laws;
 pub mod link;
 pub mod net;
 mod order;
+mod outages;
 pub mod packet;
 pub mod role;
 pub mod sequence;

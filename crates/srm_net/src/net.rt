@@ -1,8 +1,7 @@
 //! A tree of nodes and links with members on some nodes, and what becomes of packets in it.
-ghost use Rattle.std.specs.Prelude.{◌≡◌, ◌≢◌, ℕ, ◌<◌, ◌≤◌, not, ◌&&◌, ◌∷◌, All, IfOk, IfErr, length, slice_get};
-ghost use Rattle.std.specs.List.{list_any};
+ghost use Rattle.std.specs.Prelude.{◌≡◌, ◌≢◌, ℕ, ◌<◌, ◌≤◌, ◌^◌, false, not, ◌∷◌, All, IfOk, IfErr, IfSome, IfNone, length, slice_get};
 ghost use Rattle.srm_net.specs.Network.{plain_network, IsTree, HasDelays, AreHosts, IsNetwork};
-ghost use Rattle.srm_net.specs.Paths.{is_listed, host, route, distance, round, reaches, crosses, drops_at};
+ghost use Rattle.srm_net.specs.Paths.{host, distance, round, stop, takes_out, reaches, crosses, drops_at};
 ghost use Rattle.srm_net.specs.Fates.{is_crossing, is_dropping, is_on_way};
 ghost use Rattle.srm_net.specs.declared.link.LinkSpec.{LinkSpec};
 ghost use Rattle.srm_net.specs.Tables.{near_end, some_beyond};
@@ -167,58 +166,61 @@ impl Net {
         self.outs[usize::from(m)]
     }
 
-    /// Whether a packet reaches member `m`: no link of the way from its sender is to drop it. It reaches its sender.
-    pub fn reaches(&self, drops: &Drops, id: PacketId, m: u16) -> bool
+    /// Whether a packet that is sent at the tick `sent` reaches member `m`: no link of the way from its sender is listed for it, or out
+    /// when it comes there. It reaches its sender.
+    pub fn reaches(&self, drops: &Drops, id: PacketId, sent: u64, m: u16) -> bool
+        requires sent { sent < 2 ^ 40 }
         requires sender { id.sender < length self.now.hosts }
         requires member { m < length self.now.hosts }
-        ensures { result ≡ reaches self.now drops.now id m }
+        ensures { result ≡ reaches self.now drops.now id sent m }
     {
-        self.tree
-            .is_clear(drops, id, self.tree.host(id.sender), self.tree.host(m))
+        let from = self.tree.host(id.sender);
+        self.tree.is_clear(drops, id, sent, from, self.tree.host(m))
     }
 
-    /// Whether a packet crosses a link: the link is on the way from its sender to some member, present or not, and
-    /// neither it nor an earlier link of that way is to drop the packet.
-    pub fn crosses(&self, drops: &Drops, id: PacketId, link: u16) -> bool
+    /// Whether a packet that is sent at the tick `sent` crosses a link: the link is on the way from its sender to some member, present
+    /// or not, and neither it nor an earlier link of that way is listed for the packet, or out when it comes there.
+    pub fn crosses(&self, drops: &Drops, id: PacketId, sent: u64, link: u16) -> bool
+        requires sent { sent < 2 ^ 40 }
         requires sender { id.sender < length self.now.hosts }
         requires link { link < length self.now.links }
-        ensures { result ≡ crosses self.now drops.now id link }
+        ensures { result ≡ crosses self.now drops.now id sent link }
     {
-        matches!(self.fate(drops, id, link), Fate::Crosses)
+        matches!(self.fate(drops, id, sent, link), Fate::Crosses)
     }
 
-    /// Whether a packet is dropped at a link: the link is to drop it and is on the way from its sender to some member,
-    /// present or not, and no earlier link of that way is to drop it.
-    pub fn drops_at(&self, drops: &Drops, id: PacketId, link: u16) -> bool
+    /// Whether a packet that is sent at the tick `sent` is dropped at a link: the link is on the way from its sender to some member,
+    /// present or not, it is listed for the packet, or out when it comes there, and no earlier link of that way is.
+    pub fn drops_at(&self, drops: &Drops, id: PacketId, sent: u64, link: u16) -> bool
+        requires sent { sent < 2 ^ 40 }
         requires sender { id.sender < length self.now.hosts }
         requires link { link < length self.now.links }
-        ensures { result ≡ drops_at self.now drops.now id link }
+        ensures { result ≡ drops_at self.now drops.now id sent link }
     {
-        matches!(self.fate(drops, id, link), Fate::Dropped)
+        matches!(self.fate(drops, id, sent, link), Fate::Dropped)
     }
 
-    /// What becomes of a packet at a link, by one walk: whether it crosses the link, or is dropped there, on its way to some
-    /// member, present or not.
+    /// What becomes of a packet that is sent at the tick `sent` at a link, by one walk: whether it crosses the link, or is dropped
+    /// there, on its way to some member, present or not.
     ///
-    /// Of a packet that no link is to drop, [`is_on_way`](Net::is_on_way) tells the same without a look at the drops.
-    pub fn fate(&self, drops: &Drops, id: PacketId, link: u16) -> Fate
+    /// Of a packet that may not be dropped at all, [`is_on_way`](Net::is_on_way) tells the same without a look at the drops.
+    pub fn fate(&self, drops: &Drops, id: PacketId, sent: u64, link: u16) -> Fate
+        requires sent { sent < 2 ^ 40 }
         requires sender { id.sender < length self.now.hosts }
         requires link { link < length self.now.links }
-        ensures crosses { is_crossing result ≡ crosses self.now drops.now id link }
-        ensures dropped { is_dropping result ≡ drops_at self.now drops.now id link }
+        ensures crosses { is_crossing result ≡ crosses self.now drops.now id sent link }
+        ensures dropped { is_dropping result ≡ drops_at self.now drops.now id sent link }
     {
-        if !self.comes_to(drops, id, link) {
-            Fate::Neither
-        } else if drops.lists(link, id) {
-            Fate::Dropped
-        } else {
-            Fate::Crosses
+        match self.comes_to(drops, id, sent, link) {
+            None => Fate::Neither,
+            Some(at) if drops.takes_out(id, link, at) => Fate::Dropped,
+            Some(_) => Fate::Crosses,
         }
     }
 
     /// Whether a link is on the way from member `m` to some member, present or not. It takes no walk.
     ///
-    /// A packet of `m` that no link is to drop crosses exactly these links
+    /// A packet of `m` that may not be dropped at all crosses exactly these links
     /// ([`unlisted_packets_go_everywhere`](crate::laws::unlisted_packets_go_everywhere)).
     pub fn is_on_way(&self, m: u16, link: u16) -> bool
         requires member { m < length self.now.hosts }
@@ -249,15 +251,25 @@ impl Net {
         }
     }
 
-    /// Whether a packet comes to a link on its way to some member, where the link may yet drop it.
-    fn comes_to(&self, drops: &Drops, id: PacketId, link: u16) -> bool
+    /// The tick at which a packet comes to a link on its way to some member, where the link may yet drop it, or none where it does not
+    /// come there.
+    fn comes_to(&self, drops: &Drops, id: PacketId, sent: u64, link: u16) -> Option<u64>
+        requires sent { sent < 2 ^ 40 }
         requires sender { id.sender < length self.now.hosts }
         requires link { link < length self.now.links }
-        ensures crossed { crosses self.now drops.now id link ≡ (not (is_listed drops.now id link) && result) }
-        ensures dropped { drops_at self.now drops.now id link ≡ (is_listed drops.now id link && result) }
+        ensures crossed { IfSome result (λ at. crosses self.now drops.now id sent link
+            ≡ not (takes_out drops.now id (stop link at))) }
+        ensures dropped { IfSome result (λ at. drops_at self.now drops.now id sent link
+            ≡ takes_out drops.now id (stop link at)) }
+        ensures not_crossed { IfNone result (crosses self.now drops.now id sent link ≡ false) }
+        ensures not_dropped { IfNone result (drops_at self.now drops.now id sent link ≡ false) }
     {
         let from = self.host(id.sender);
         let (near, is_any_beyond) = self.beyond(link, from);
-        is_any_beyond && self.tree.is_clear(drops, id, from, near)
+        if is_any_beyond && self.tree.is_clear(drops, id, sent, from, near) {
+            Some(sent + self.tree.delay(from, near))
+        } else {
+            None
+        }
     }
 }

@@ -1,9 +1,9 @@
 //! A tree of nodes and links with members on some nodes, and the ways in it.
-ghost use Rattle.std.specs.Prelude.{◌≡◌, ◌≢◌, ℕ, ◌<◌, ◌≤◌, not, ◌∷◌, Some, IfOk, length, slice_get};
+ghost use Rattle.std.specs.Prelude.{◌≡◌, ◌≢◌, ℕ, ◌<◌, ◌≤◌, ◌^◌, not, ◌∷◌, Some, IfOk, length, slice_get};
 ghost use Rattle.std.specs.List.{list_any};
 ghost use Rattle.srm_net.specs.declared.link.LinkSpec.{LinkSpec};
 ghost use Rattle.srm_net.specs.Network.{IsNetwork};
-ghost use Rattle.srm_net.specs.Paths.{is_listed, host, route, distance};
+ghost use Rattle.srm_net.specs.Paths.{host, route, end_of, delay_along, distance, stops, takes_out};
 ghost use Rattle.srm_net.specs.Least.{least_delay, out};
 ghost use Rattle.srm_net.specs.Tables.{is_beyond, TellsSides, TellsAllSides, TellsOuts};
 
@@ -82,12 +82,24 @@ impl Tree {
         self.ways.delay(self.host(a), self.host(b))
     }
 
+    /// How long a packet takes from one node to another, in ticks.
+    pub(crate) fn delay(&self, from: u16, to: u16) -> u64
+        requires from { from < self.now.nodes }
+        requires to { to < self.now.nodes }
+        ensures value { result ≡ delay_along self.now.links from (route self.now from to) }
+        ensures bounded { result ≤ 1023000000 }
+    {
+        self.ways.delay(from, to)
+    }
+
     /// The first link of the way between two nodes, and the node to which it leads.
     fn first_step(&self, from: u16, to: u16) -> (u16, u16)
         requires from { from < self.now.nodes }
         requires to { to < self.now.nodes }
         requires apart { from ≢ to }
         ensures route { route self.now from to ≡ result.0 ∷ route self.now result.1 to }
+        ensures link { result.0 < length self.now.links }
+        ensures end { end_of from (slice_get self.now.links result.0) ≡ result.1 }
         ensures node { result.1 < self.now.nodes }
     {
         let link = self.ways.first(from, to);
@@ -96,21 +108,34 @@ impl Tree {
         (link, next)
     }
 
-    /// Whether no link of the way between two nodes is to drop a packet. Where no link is to drop it this takes no walk.
-    pub(crate) fn is_clear(&self, drops: &Drops, id: PacketId, from: u16, to: u16) -> bool
+    /// Whether no link of the way between two nodes takes out a packet that is at the first of them at the tick `sent`. Where the packet
+    /// may not be dropped at all this takes no walk.
+    pub(crate) fn is_clear(
+        &self,
+        drops: &Drops,
+        id: PacketId,
+        sent: u64,
+        from: u16,
+        to: u16,
+    ) -> bool
+        requires sent { sent < 2 ^ 40 }
         requires from { from < self.now.nodes }
         requires to { to < self.now.nodes }
-        ensures { result ≡ not (list_any (is_listed drops.now id) (route self.now from to)) }
+        ensures { result ≡ not (list_any (takes_out drops.now id)
+            (stops self.now.links from sent (route self.now from to))) }
     {
-        if !drops.lists_packet(id) {
+        if !drops.may_drop(id) {
             return true;
         }
+        let _ = &self.nodes; // a tree: so no way takes longer than a distance may be
         let mut at = from;
+        let mut tick = sent;
         while at != to {
             let (link, next) = self.first_step(at, to);
-            if drops.lists(link, id) {
+            if drops.takes_out(id, link, tick) {
                 return false;
             }
+            tick += self.link(link).delay_from(at);
             at = next;
         }
         true

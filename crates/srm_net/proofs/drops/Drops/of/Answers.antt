@@ -1,4 +1,4 @@
-use Rattle.std.proofs.Common.{◌≡◌, ◌∙◌, sym, ap, take, get_or, ◌+◌, ◌++◌, ◌∷◌, [], ℕ}
+use Rattle.std.proofs.Common.{◌≡◌, ◌∙◌, sym, ap, take, get_or, ◌+◌, ◌++◌, ◌∷◌, [], ℕ, ◌≤◌, List, length}
 use Rattle.std.proofs.lemmas.List.{take_all, take_more}
 use Rattle.srm_net.specs.declared.link.DropSpec.{DropSpec}
 use Rattle.srm_net.specs.declared.packet.PacketId.{PacketId}
@@ -29,16 +29,16 @@ invariant_of-result c p =
     c.loop-entry.invariant.known p
     ∙ sym (same_somewhere c.loop-entry.entries.keys (take c.loop-entry.entry-index xs) p (λ l. c.loop-entry.invariant.same p l))
 
-same_all : (c : goal.After-loop-entry) (p : PacketId) (l : ℕ) → is_listed (ordered_once drop_cmp c.loop-entry.entries.keys) p l ≡ is_listed c.args.list.now p l
-same_all c p l =
-    listed_ordered c.loop-entry.entries.keys p l ∙ c.loop-entry.invariant.same p l
-    ∙ ap (λ ds. is_listed ds p l) (take_all c.loop-entry.entry-index c.args.list.now c.loop-entry-test.false)
+same_all : (keys list : List DropSpec) (i : ℕ) → ((p : PacketId) (l : ℕ) → is_listed keys p l ≡ is_listed (take i list) p l) → length list ≤ i
+    → (p : PacketId) (l : ℕ) → is_listed (ordered_once drop_cmp keys) p l ≡ is_listed list p l
+same_all keys list i same done p l = listed_ordered keys p l ∙ same p l ∙ ap (λ ds. is_listed ds p l) (take_all i list done)
 
 pub returns-clause-entries : goal.returns-clause-entries
 returns-clause-entries c d =
-    let e = same_all c d.id d.link in (
-      λ h. contains_listed c.args.list.now d (sym e ∙ listed_contains (ordered_once drop_cmp c.loop-entry.entries.keys) d h),
-      λ h. contains_listed (ordered_once drop_cmp c.loop-entry.entries.keys) d (e ∙ listed_contains c.args.list.now d h),
+    let keys = c.loop-entry.entries.keys in
+    let e = same_all keys c.args.list.now c.loop-entry.entry-index c.loop-entry.invariant.same c.loop-entry-test.false d.id d.link in (
+      λ h. contains_listed c.args.list.now d (sym e ∙ listed_contains (ordered_once drop_cmp keys) d h),
+      λ h. contains_listed (ordered_once drop_cmp keys) d (e ∙ listed_contains c.args.list.now d h),
     )
 
 pub returns-clause-once_in_order : goal.returns-clause-once_in_order

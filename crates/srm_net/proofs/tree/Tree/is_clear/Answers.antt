@@ -1,16 +1,25 @@
-use Rattle.std.proofs.Common.{◌∙◌, sym, ap, not}
+use Rattle.std.proofs.Common.{◌∙◌, ◌^◌, ◌<◌, ◌≤◌, refl, sym, ap, subst, arith, not}
 use Rattle.std.specs.List.{list_any}
-use Rattle.srm_net.specs.Paths.{is_listed, route}
-use Rattle.srm_net.proofs.DropLemmas.{nowhere_listed}
-use Rattle.srm_net.proofs.PathLaws.{any_none, route_nowhere}
+use Rattle.srm_net.specs.Network.{IsNetwork}
+use Rattle.srm_net.specs.Paths.{route, delay_along, stops, takes_out}
+use Rattle.srm_net.proofs.FateLemmas.{spared}
+use Rattle.srm_net.proofs.PathLaws.{any_none, route_nowhere, delay_bounded}
 use Rattle.srm_net.proofs.tree.Tree.is_clear.Goals as goal
 
-pub returns-then-not-lists_packet : goal.returns-then-not-lists_packet
-returns-then-not-lists_packet c =
-    sym (ap not (any_none (is_listed c.args.drops.now c.args.id) (route c.args.self.now c.args.from c.args.to) (λ l. nowhere_listed c.args.drops.now c.args.id l (sym c.lists_packet.ensures ∙ c.if-not-lists_packet.true))))
+pub returns-then-not-may_drop : goal.returns-then-not-may_drop
+returns-then-not-may_drop c =
+    sym (ap not (any_none (takes_out c.args.drops.now c.args.id) (stops c.args.self.now.links c.args.from c.args.sent (route c.args.self.now c.args.from c.args.to))
+    (spared c.args.drops.now c.args.id (sym c.may_drop.ensures ∙ c.if-not-may_drop.true))))
+
+pub loop-at-init : goal.loop-at-init
+loop-at-init c =
+    let few : delay_along c.args.self.now.links c.args.from (route c.args.self.now c.args.from c.args.to) ≤ 1023000000 =
+    delay_bounded c.args.self.now (subst IsNetwork c.self.view_is c.self.invariant.network) c.args.from c.args.to c.requires.from c.requires.to in
+    let soon : c.args.sent < 2 ^ 40 = c.requires.sent in
+    record { node = c.requires.from; rest = refl; in_time = omega arith }
 
 pub returns : goal.returns
 returns c =
-    let f = is_listed c.args.drops.now c.args.id in
+    let f = takes_out c.args.drops.now c.args.id in
     let e = ap (λ u. route c.args.self.now u c.args.to) c.loop-at-test.false ∙ route_nowhere c.args.self.now c.args.to in
-    sym (ap not (sym c.loop-at.invariant.rest ∙ ap (list_any f) e))
+    sym (ap not (sym c.loop-at.invariant.rest ∙ ap (λ ls. list_any f (stops c.args.self.now.links c.loop-at.at c.loop-at.tick ls)) e))
