@@ -4,12 +4,11 @@ ghost use Rattle.std.specs.Io.KnownBytes.{Consumes};
 ghost use Rattle.std.specs.List.{AllByRecursion};
 ghost use Rattle.toml.specs.View.{table_view};
 ghost use Rattle.srm_net.specs.Network.{plain_network, HasDelays};
-ghost use Rattle.srm_net.specs.DropSets.{ordered_once};
-ghost use Rattle.srm_net.specs.Paths.{drop_cmp};
 ghost use Rattle.srm_scenario.specs.Accepted.{IsAccepted};
 ghost use Rattle.srm_scenario.specs.Faults.{IsFault, is_star, scenario_of_table, scenario_of_text, failures_after, AnswersText, ReadsToEnd, RefusesText};
 ghost use Rattle.srm_scenario.specs.Keys.{HasDegree};
 ghost use Rattle.srm_scenario.specs.Listed.{links_listed, plain_of, faults_in};
+ghost use Rattle.srm_scenario.specs.Plain.{drop_rules_of};
 ghost use Rattle.srm_scenario.specs.Ranges.{InRange, HasItsPages};
 ghost use Rattle.srm_scenario.specs.Trees.{is_tree};
 
@@ -25,7 +24,7 @@ use crate::scenario::Scenario;
 use crate::topology::Topology;
 use srm_net::drops::Drops;
 use srm_net::fault::NetFault;
-use srm_net::link::{DropSpec, LinkSpec};
+use srm_net::link::{DropSpec, LinkSpec, OutageSpec};
 use srm_net::net::Net;
 use std::alloc::{AllocError, Global};
 use toml::Table;
@@ -60,12 +59,18 @@ fn members_of(alloc: Global, entries: Vec<MemberEntry>) -> Result<Vec<MemberSpec
         .collect(alloc)
 }
 
-/// The drops, each once.
-fn drops_of(alloc: Global, drops: &[DropSpec]) -> Result<Drops, ScenarioFault>
-    ensures { MatchResult result (λ set. set ≡ ordered_once drop_cmp drops.now) (λ e. e ≡ ScenarioFault.NoMemory) }
+/// The rules by which links drop packets: each drop once, and the outages.
+fn drops_of(
+    alloc: Global,
+    drops: &[DropSpec],
+    outages: &[OutageSpec],
+) -> Result<Drops, ScenarioFault>
+    ensures { MatchResult result
+        (λ rules. rules ≡ drop_rules_of drops.now outages.now)
+        (λ e. e ≡ ScenarioFault.NoMemory) }
 {
-    match Drops::of(alloc, drops) {
-        Ok(set) => return Ok(set),
+    match Drops::of(alloc, drops, outages) {
+        Ok(rules) => return Ok(rules),
         Err(_) => return Err(ScenarioFault::NoMemory),
     }
 }
@@ -126,7 +131,7 @@ fn scenario_from(alloc: Global, listed: Listed) -> Result<Scenario, ScenarioFaul
     check_sessions(until, &members, &sessions)?;
     check_drops(&links, &members, &drops)?;
     check_outages(&links, &outages)?;
-    let drops = drops_of(alloc, &drops)?;
+    let drops = drops_of(alloc, &drops, &outages)?;
     Ok(Scenario {
         until,
         constants,
@@ -136,7 +141,6 @@ fn scenario_from(alloc: Global, listed: Listed) -> Result<Scenario, ScenarioFaul
         draws,
         sessions,
         drops,
-        outages,
     })
 }
 

@@ -11,7 +11,7 @@ use crate::parts::{Constants, DrawSpec, MemberSpec, SessionSpec};
 use crate::script::script_of;
 use srm_net::drops::Drops;
 use srm_net::fault::NetFault;
-use srm_net::link::{LinkSpec, OutageSpec};
+use srm_net::link::LinkSpec;
 use srm_net::net::Net;
 use srm_net::role::Role;
 use std::alloc::{AllocError, Global};
@@ -29,7 +29,6 @@ pub struct Scenario {
     pub(crate) draws: Vec<DrawSpec>,
     pub(crate) sessions: Vec<SessionSpec>,
     pub(crate) drops: Drops,
-    pub(crate) outages: Vec<OutageSpec>,
 }
 
 impl Model for Scenario {
@@ -47,7 +46,7 @@ impl Model for Scenario {
       members = s.members.items;
       draws = s.draws.items;
       sessions = s.sessions.items;
-      drops = record { listed = s.drops; outages = s.outages.items };
+      drops = s.drops;
     } };
 
     ghost invariant = { λ s. IsAccepted (record {
@@ -58,7 +57,7 @@ impl Model for Scenario {
       members = s.members.items;
       draws = s.draws.items;
       sessions = s.sessions.items;
-      drops = record { listed = s.drops; outages = s.outages.items };
+      drops = s.drops;
     }) };
 }
 
@@ -149,9 +148,9 @@ impl Scenario {
         self.links.as_slice()
     }
 
-    /// The packets that links drop.
+    /// The rules by which links drop packets: the drops that are listed, and the outages.
     pub fn drops(&self) -> &Drops
-        ensures { result.now ≡ self.now.drops.listed }
+        ensures { result.now ≡ self.now.drops }
     {
         &self.drops
     }
