@@ -1,5 +1,5 @@
 -- A cell's next event after it hears a packet: the packet's arrival, or what was next.
-use Rattle.std.proofs.Common.{◌≡◌, ◌≢◌, ℕ, Bool, true, false, cond, List, [], ◌∷◌, Option, Some, None, option_map, refl, sym, ap, ◌∙◌, subst, Ordering, Less, Equal, Greater, is_lt}
+use Rattle.std.proofs.Common.{◌≡◌, ◌≢◌, ℕ, Bool, cond, List, [], ◌∷◌, Option, Some, None, option_map, refl, sym, ap, ◌∙◌, subst, Ordering, Less, Equal, Greater, is_lt}
 use Rattle.std.specs.Ordering.{is_gt, ordering_reverse}
 use Rattle.srm_net.specs.declared.key.Key.{Key}
 use Rattle.srm_net.specs.declared.packet.Packet.{Packet}
@@ -18,7 +18,7 @@ use Rattle.srm_cell.specs.Flights.{flight_cmp}
 use Rattle.srm_cell.specs.Cells.{PlainCell, Event, arrival_key, by_key, earlier, first_arrival, first_mark, next_timer, next_event, hear_at}
 use Rattle.srm_cell.specs.Pending.{Stands, arriving, first_of, sooner}
 use Rattle.srm_cell.proofs.CellLemmas.{earlier-map, event_map}
-use Rattle.srm_cell.proofs.Tidy.{NotBefore, Least, flight_keys, least_earlier}
+use Rattle.srm_cell.proofs.Tidy.{Least, flight_keys, least_earlier}
 
 -- ---- of three events the least is found in either order
 

@@ -9,7 +9,7 @@ use Rattle.srm_member.specs.Record.{timers}
 use Rattle.srm_member.proofs.AllIn.{AllIn}
 use Rattle.srm_member.proofs.OrderLemmas.{from_refl, key_total}
 use Rattle.srm_cell.specs.declared.flight.Flight.{Flight}
-use Rattle.srm_cell.specs.Cells.{PlainCell, Event, earlier, first_arrival, first_mark, next_event, arrival_key, mark_key, timer_key}
+use Rattle.srm_cell.specs.Cells.{PlainCell, Event, earlier, first_arrival, first_mark, arrival_key, mark_key, timer_key}
 use Rattle.srm_cell.specs.Laws.{NextEventsAreLeast}
 use Rattle.srm_cell.proofs.CellLemmas.{first_timer, next_event_is}
 use Rattle.srm_cell.proofs.Tidy.{NotBefore, Least, above_least}

@@ -20,7 +20,7 @@ use Rattle.srm_cell.proofs.Clear.{RestOf, next_rest}
 use Rattle.srm_cell.proofs.CellSteps.{SentBy, own_step_is}
 use Rattle.srm_cell.proofs.OwnRunLemmas.{rows_by, rows_first, rows_none}
 use Rattle.srm_cell.proofs.RowPackets.{packets_joined}
-use Rattle.srm_cell.proofs.Rising.{OnEvent, OnStep, before_on}
+use Rattle.srm_cell.proofs.Rising.{OnEvent, OnStep, before_on, SentAt, RowOf, row_step}
 
 -- ---- how many
 
@@ -58,6 +58,28 @@ one_packet : (b a : ℕ) (o : Option Packet) (ps : List Packet) → Counts b o a
 one_packet b a None ps h le = omega arith
 one_packet b a (Some p) ps h le = let lt = h.0 in let e = h.1 in omega arith
 
+-- ---- when
+
+abbrev SentBefore : ℕ → Option Packet → Type 0
+SentBefore end None = Unit {0}
+SentBefore end (Some p) = p.sent < end
+
+sent_before : (t end : ℕ) (o : Option Packet) → t < end → SentAt t o → SentBefore end o
+sent_before t end None lt h = tt
+sent_before t end (Some p) lt h = omega arith
+
+early_by : (end : ℕ) (b : Bool) (e : Event) → (b ≡ true → e.key.time < end) → (d : Stepped) → step_at (cond b (Some e) None) ≡ Done d → SentBefore end d.row.sent
+early_by end true e lt d h = let r = subst (OnStep (RowOf e.key)) h (row_step e) in sent_before e.key.time end d.row.sent (lt refl) r.1
+early_by end false e lt d h = cc
+
+early_at : (end : ℕ) (x : Option Event) (d : Stepped) → step_at (before end x) ≡ Done d → SentBefore end d.row.sent
+early_at end None d h = cc
+early_at end (Some e) d h = early_by end (nat_lt e.key.time end) e (λ t. ltb-true e.key.time end t) d h
+
+early : (end m : ℕ) (c : PlainCell) (d : Stepped) → own_step end m c ≡ Done d → SentBefore end d.row.sent
+unfolding own_step
+early end m c d h = early_at end (next_event m c) d h
+
 module _ (end m : ℕ) where
   few_by : (n before : ℕ) → ((d : PlainCell) → length (packets_of (own_rows end m n d)) ≤ 2 ^ 48 - d.sent) → (o : StepOutcome Stepped) → CountsFrom before o → length (packets_of (rows_by end m n o)) ≤ 2 ^ 48 - before
   few_by n before more Idle h = omega arith
@@ -71,19 +93,22 @@ module _ (end m : ℕ) where
 
   -- ---- whose
 
-  sent_below : (k : ℕ) (o : Option Packet) → m < k → SentBy m o → IsSentBelow k o
-  sent_below k None lt h = tt
-  sent_below k (Some p) lt h = omega arith
+  sent_below : (k : ℕ) (o : Option Packet) → m < k → end ≤ 2 ^ 40 → SentBy m o → SentBefore end o → IsSentBelow k o
+  sent_below k None lt le h g = tt
+  sent_below k (Some p) lt le h g = (omega arith, omega arith)
 
-  below_by : (k n : ℕ) → m < k → ((d : PlainCell) → All (λ r. IsSentBelow k r.sent) (own_rows end m n d)) → (o : StepOutcome Stepped) → ((d : Stepped) → o ≡ Done d → SentBy m d.row.sent) → All (λ r. IsSentBelow k r.sent) (rows_by end m n o)
-  below_by k n lt more Idle h = All-nil (λ (r : Row). IsSentBelow k r.sent)
-  below_by k n lt more Full h = All-nil (λ (r : Row). IsSentBelow k r.sent)
-  below_by k n lt more Spent h = All-nil (λ (r : Row). IsSentBelow k r.sent)
-  below_by k n lt more (Done d) h = All-cons (λ (r : Row). IsSentBelow k r.sent) d.row _ (sent_below k d.row.sent lt (h d refl)) (more d.cell)
+  below_by : (k n : ℕ) → m < k → end ≤ 2 ^ 40 → ((d : PlainCell) → All (λ r. IsSentBelow k r.sent) (own_rows end m n d)) → (o : StepOutcome Stepped)
+      → ((d : Stepped) → o ≡ Done d → SentBy m d.row.sent × SentBefore end d.row.sent) → All (λ r. IsSentBelow k r.sent) (rows_by end m n o)
+  below_by k n lt le more Idle h = All-nil (λ (r : Row). IsSentBelow k r.sent)
+  below_by k n lt le more Full h = All-nil (λ (r : Row). IsSentBelow k r.sent)
+  below_by k n lt le more Spent h = All-nil (λ (r : Row). IsSentBelow k r.sent)
+  below_by k n lt le more (Done d) h = let s = h d refl in All-cons (λ (r : Row). IsSentBelow k r.sent) d.row _ (sent_below k d.row.sent lt le s.0 s.1) (more d.cell)
 
-  own_below : (k n : ℕ) (c : PlainCell) → m < k → All (λ r. IsSentBelow k r.sent) (own_rows end m n c)
-  own_below k zero c lt = subst (All (λ r. IsSentBelow k r.sent)) (sym (rows_none end m c)) (All-nil (λ (r : Row). IsSentBelow k r.sent))
-  own_below k (suc n) c lt = subst (All (λ r. IsSentBelow k r.sent)) (sym (rows_first end m n c)) (below_by k n lt (λ d. own_below k n d lt) (own_step end m c) (λ d e. (own_step_is end m c d e).1))
+  own_below : (k n : ℕ) (c : PlainCell) → m < k → end ≤ 2 ^ 40 → All (λ r. IsSentBelow k r.sent) (own_rows end m n c)
+  own_below k zero c lt le = subst (All (λ r. IsSentBelow k r.sent)) (sym (rows_none end m c)) (All-nil (λ (r : Row). IsSentBelow k r.sent))
+  own_below k (suc n) c lt le =
+      subst (All (λ r. IsSentBelow k r.sent)) (sym (rows_first end m n c))
+      (below_by k n lt le (λ d. own_below k n d lt le) (own_step end m c) (λ d e. ((own_step_is end m c d e).1, early end m c d e)))
 
 -- ---- of several cells
 
@@ -101,17 +126,17 @@ module _ {X : Type 0} {H : X → Type 0} where
       let e = ap length (packets_joined r rs) ∙ length-append (packets_of r) (packets_of (joined rs)) in
       omega (arith, one, more, e)
 
-  pub rows_below : (f : DynBox X Global H → Record) (end k : ℕ) (qs : List OwnCell) (rows : List (List Row)) (cs : List (Cell X H)) → AreMembers k qs → RanEach f end qs rows cs → All (λ rs. All (λ r. IsSentBelow k r.sent) rs) rows
-  rows_below f end k [] [] [] a h = All-nil (λ (rs : List Row). All (λ r. IsSentBelow k r.sent) rs)
-  rows_below f end k [] [] (c ∷ cs) a h = absurd h
-  rows_below f end k [] (r ∷ rs) cs a h = absurd h
-  rows_below f end k (q ∷ qs) [] cs a h = absurd h
-  rows_below f end k (q ∷ qs) (r ∷ rs) [] a h = absurd h
-  rows_below f end k (q ∷ qs) (r ∷ rs) (c ∷ cs) a h =
+  pub rows_below : (f : DynBox X Global H → Record) (end k : ℕ) (qs : List OwnCell) (rows : List (List Row)) (cs : List (Cell X H)) → end ≤ 2 ^ 40 → AreMembers k qs → RanEach f end qs rows cs → All (λ rs. All (λ r. IsSentBelow k r.sent) rs) rows
+  rows_below f end k [] [] [] le a h = All-nil (λ (rs : List Row). All (λ r. IsSentBelow k r.sent) rs)
+  rows_below f end k [] [] (c ∷ cs) le a h = absurd h
+  rows_below f end k [] (r ∷ rs) cs le a h = absurd h
+  rows_below f end k (q ∷ qs) [] cs le a h = absurd h
+  rows_below f end k (q ∷ qs) (r ∷ rs) [] le a h = absurd h
+  rows_below f end k (q ∷ qs) (r ∷ rs) (c ∷ cs) le a h =
       let run = h.0.1 in
       All-cons (λ (rs : List Row). All (λ r. IsSentBelow k r.sent) rs) r rs
-      (subst (All (λ r. IsSentBelow k r.sent)) (sym run.rows_are) (own_below end q.member k run.steps q.cell a.0))
-      (rows_below f end k qs rs cs a.1 h.1)
+      (subst (All (λ r. IsSentBelow k r.sent)) (sym run.rows_are) (own_below end q.member k run.steps q.cell a.0 le))
+      (rows_below f end k qs rs cs le a.1 h.1)
 
   pub as_many : (f : DynBox X Global H → Record) (end : ℕ) (qs : List OwnCell) (rows : List (List Row)) (cs : List (Cell X H)) → RanEach f end qs rows cs → length cs ≡ length qs
   as_many f end [] [] [] h = refl

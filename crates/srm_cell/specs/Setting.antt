@@ -1,7 +1,6 @@
 -- What the model needs of a scenario, its network and a seed.
 use Rattle.std.specs.Prelude.{◌≡◌, ◌≢◌, ◌⊎◌, ℕ, ◌+◌, ◌/◌, ◌<◌, Bool, true, not, ◌&&◌, List, [], ◌∷◌, map, length, Option, Some, None, unwrap_or, slice_get, nat_lt, nat_le, ◌==◌, if◌then◌else◌}
 use Rattle.std.specs.List.{range_with_len}
-use Rattle.srm_net.specs.declared.packet.PacketId.{PacketId}
 use Rattle.srm_net.specs.declared.packet.Packet.{Packet}
 use Rattle.srm_net.specs.declared.role.Role.TheVariants.{Receiver}
 use Rattle.srm_net.specs.Orders.{Ascends}
@@ -70,10 +69,10 @@ traffic_of s net = record {
   join = λ m. (member_at s m).join;
   leave = λ m. (member_at s m).leave;
   distance = paths.distance net;
-  reaches = λ p. paths.reaches net s.drops p.id;
+  reaches = λ p. paths.reaches net s.drops p.id p.sent;
   links = length net.links;
-  crosses = λ p. paths.crosses net s.drops p.id;
-  drops_at = λ p. paths.drops_at net s.drops p.id;
+  crosses = λ p. paths.crosses net s.drops p.id p.sent;
+  drops_at = λ p. paths.drops_at net s.drops p.id p.sent;
 }
 
 -- the setting of a scenario, its network and a seed

@@ -43,7 +43,7 @@ bump b i ns = if b then slice_set ns i (slice_index ns i + 1) else ns
 abbrev pub with_fate : Bool → Bool → ℕ → Kind → List ℕ → List ℕ
 with_fate crosses drops l kind ns = bump drops (place_at l Dropped) (bump crosses (place_at l kind) ns)
 
--- the packet is one of these members', if there is one
+-- the packet is one of these members', sent before the latest time of a run, if there is one
 abbrev pub IsSentBelow : ℕ → Option Packet → Type 0
 IsSentBelow members None = Unit {0}
-IsSentBelow members (Some p) = p.id.sender < members
+IsSentBelow members (Some p) = (p.id.sender < members) × (p.sent < 2 ^ 40)

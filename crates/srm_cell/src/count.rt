@@ -2,7 +2,7 @@
 ghost use Rattle.std.specs.Prelude.{◌≡◌, ◌<◌, ◌+◌, ◌*◌, ◌^◌, ◌∷◌, [], length};
 ghost use Rattle.srm_net.specs.Paths.{crosses, drops_at};
 ghost use Rattle.srm_net.specs.Fates.{is_crossing, is_dropping};
-ghost use Rattle.srm_net.specs.Listed.{is_listed_somewhere};
+ghost use Rattle.srm_net.specs.DropRules.{may_drop};
 ghost use Rattle.srm_cell.specs.Setting.{traffic_of};
 ghost use Rattle.srm_cell.specs.Totalled.{MayCount, CountsBesides, crossing_kind, with_fate};
 ghost use Rattle.srm_ledger.specs.Counts.{number_at};
@@ -12,36 +12,38 @@ use srm_ledger::totals::Totals;
 use srm_net::drops::Drops;
 use srm_net::fate::Fate;
 use srm_net::net::Net;
-use srm_net::packet::{Body, Packet, PacketId};
+use srm_net::packet::{Body, Packet};
 use srm_scenario::scenario::Scenario;
 
 /// Counts a packet at each link that it crosses, and at each that drops it.
 pub fn count(totals: &mut Totals, scenario: &Scenario, net: &Net, packet: &Packet)
+    requires sent { packet.now.sent < 2 ^ 40 }
     requires sender { packet.now.id.sender < length net.now.hosts }
     requires room { MayCount (traffic_of scenario.now net.now) 1 totals.old }
     ensures { CountsBesides (traffic_of scenario.now net.now) (packet.now ∷ []) totals.old totals.new }
 {
     let drops = scenario.drops();
-    let is_listed = drops.lists_packet(packet.id);
+    let may_be_dropped = drops.may_drop(packet.id);
     let kind = kind_of(&packet.body);
     let links = net.links().len() as u16;
     for link in 0..links {
-        let fate = fate(net, drops, is_listed, packet.id, link);
+        let fate = fate(net, drops, may_be_dropped, packet, link);
         count_at(totals, link, kind, fate);
     }
 }
 
-// What becomes of a packet at a link, by one walk; of a packet that no link is to drop it takes none.
-fn fate(net: &Net, drops: &Drops, is_listed: bool, id: PacketId, link: u16) -> Fate
-    requires sender { id.sender < length net.now.hosts }
+// What becomes of a packet at a link, by one walk; for a packet that may not be dropped at all it takes none.
+fn fate(net: &Net, drops: &Drops, may_be_dropped: bool, packet: &Packet, link: u16) -> Fate
+    requires sent { packet.now.sent < 2 ^ 40 }
+    requires sender { packet.now.id.sender < length net.now.hosts }
     requires link { link < length net.now.links }
-    requires listed { is_listed ≡ is_listed_somewhere drops.now id }
-    ensures crosses { is_crossing result ≡ crosses net.now drops.now id link }
-    ensures dropped { is_dropping result ≡ drops_at net.now drops.now id link }
+    requires dropped { may_be_dropped ≡ may_drop drops.now packet.now.id }
+    ensures crosses { is_crossing result ≡ crosses net.now drops.now packet.now.id packet.now.sent link }
+    ensures dropped { is_dropping result ≡ drops_at net.now drops.now packet.now.id packet.now.sent link }
 {
-    if is_listed {
-        net.fate(drops, id, link)
-    } else if net.is_on_way(id.sender, link) {
+    if may_be_dropped {
+        net.fate(drops, packet.id, packet.sent, link)
+    } else if net.is_on_way(packet.id.sender, link) {
         Fate::Crosses
     } else {
         Fate::Neither

@@ -19,7 +19,7 @@ pub crossings_of-requires-clause-senders : goal.crossings_of-requires-clause-sen
 crossings_of-requires-clause-senders g c =
     let k = c.requires in
     let ran = c.in-Ok.ensures k.plain_job.cells k.is.cells in
-    let below = rows_below (λ b. (goal.Member-dyn g (b.vtable, b.value)).plain b.value) c.args.job.till (length c.args.net.now.hosts) k.plain_job.cells c.in-Ok.ran.1.items c.in-Ok.ran.0.items k.of_members ran in
+    let below = rows_below (λ b. (goal.Member-dyn g (b.vtable, b.value)).plain b.value) c.args.job.till (length c.args.net.now.hosts) k.plain_job.cells c.in-Ok.ran.1.items c.in-Ok.ran.0.items (let same = k.is.till in let le = k.till in omega arith) k.of_members ran in
     subst (λ (ls : List (List Row)). All (λ rs. All (λ r. IsSentBelow (length c.args.net.now.hosts) r.sent) rs) ls) (sym c.as_slice.ensures.value) below
 
 pub crossings_of-requires-clause-few : goal.crossings_of-requires-clause-few

@@ -1,4 +1,4 @@
-use Rattle.std.proofs.Common.{◌≡◌, ◌≤◌, ◌<◌, ◌+◌, ◌*◌, sym, ◌∙◌, ap, subst, length, arith, slice_index}
+use Rattle.std.proofs.Common.{◌≡◌, ◌≤◌, ◌+◌, ◌*◌, sym, ◌∙◌, ap, subst, length, arith, slice_index}
 use Rattle.srm_net.specs.Paths.{crosses, drops_at}
 use Rattle.srm_net.specs.Fates.{is_crossing, is_dropping}
 use Rattle.srm_ledger.specs.Counts.{place_at, place_of}
@@ -45,8 +45,8 @@ pub loop-link-preserved : goal.loop-link-preserved
 loop-link-preserved c = λ ps h.
     let s = traffic_of c.args.scenario.now c.args.net.now in
     let is = c.loop-link.invariant ps h in
-    let crossing : is_crossing c.fate-fate.result ≡ s.crosses c.args.packet.now c.loop-link.link = c.fate-fate.ensures.crosses ∙ ap (λ ds. crosses c.args.net.now ds c.args.packet.now.id c.loop-link.link) c.drops-drops.ensures in
-    let dropping : is_dropping c.fate-fate.result ≡ s.drops_at c.args.packet.now c.loop-link.link = c.fate-fate.ensures.dropped ∙ ap (λ ds. drops_at c.args.net.now ds c.args.packet.now.id c.loop-link.link) c.drops-drops.ensures in
+    let crossing : is_crossing c.fate-fate.result ≡ s.crosses c.args.packet.now c.loop-link.link = c.fate-fate.ensures.crosses ∙ ap (λ ds. crosses c.args.net.now ds c.args.packet.now.id c.args.packet.now.sent c.loop-link.link) c.drops-drops.ensures in
+    let dropping : is_dropping c.fate-fate.result ≡ s.drops_at c.args.packet.now c.loop-link.link = c.fate-fate.ensures.dropped ∙ ap (λ ds. drops_at c.args.net.now ds c.args.packet.now.id c.args.packet.now.sent c.loop-link.link) c.drops-drops.ensures in
     c.count_at.ensures
     ∙ (λ i. bump (dropping i) (5 * c.loop-link.link + 4) (bump (crossing i) (5 * c.loop-link.link + place_of (c.kind_of-kind.ensures i)) (is i)))
     ∙ counted_at s ps c.args.packet.now c.loop-link.link (let many : length c.links.result.now ≡ length c.args.net.now.links = ap length c.links.ensures.links in let lt = c.loop-link-test.true in omega arith)

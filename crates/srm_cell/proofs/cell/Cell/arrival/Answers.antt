@@ -1,4 +1,4 @@
-use Rattle.std.proofs.Common.{◌≡◌, Some, sym, subst}
+use Rattle.std.proofs.Common.{Some, sym, subst}
 use Rattle.srm_cell.specs.Cells.{first_arrival}
 use Rattle.srm_cell.specs.Pending.{Stands}
 use Rattle.srm_cell.proofs.Nexts.{arrival_known}
