@@ -46,7 +46,7 @@ MEMORY = 2**30
 MOST_FAILURES = 10
 REFUSAL = re.compile(
     rb"refused: (not-toml|too-long|not-tree|bad-key top 0"
-    rb"|bad-(key )?(member|draw|session|drop) (0|[1-9][0-9]*)|bad-key link (0|[1-9][0-9]*))\n"
+    rb"|bad-(key )?(member|draw|session|drop|outage) (0|[1-9][0-9]*)|bad-key link (0|[1-9][0-9]*))\n"
 )
 NO_MEMORY = (1, b"", b"refused: no-memory\n")
 

@@ -114,6 +114,7 @@ class Windows(unittest.TestCase):
 class Refusals(unittest.TestCase):
     def test_first_refusals_come_in_the_stated_order(self):
         member, draw, drop = CHAIN_OF_FIVE["member"], CHAIN_OF_FIVE["draw"], CHAIN_OF_FIVE["drop"]
+        outage = {"link": 1, "from": 5, "to": 6}
         links = [{"a": 0, "b": 1, "delay": 1}, {"a": 1, "b": 0, "delay": 1}]
         explicit = {"topology": None, "size": None, "delay": None, "nodes": 3}
         rows = [
@@ -143,6 +144,18 @@ class Refusals(unittest.TestCase):
             ("bad-draw 1", top(draw=[draw[0], {**draw[1], "at": 100}])),
             ("bad-session 0", top(member=[{**member[0], "role": "listener"}], draw=[], session=[{"member": 0, "at": 1}])),
             ("bad-drop 0", top(drop=[{**drop[0], "link": 4}])),
+            ("bad-key top 0", top(outage=[])),
+            ("bad-key top 0", top(size=257)),
+            ("bad-key member 0", top(member=[{**member[0], "node": 256}])),
+            (None, top(version=2, size=1024, outage=[])),
+            ("bad-key top 0", top(version=2, size=1025)),
+            (None, top(version=2, size=1024, member=[{**it, "node": 1023 - it["node"]} for it in member])),
+            ("bad-key member 0", top(version=2, size=1024, member=[{**member[0], "node": 1024}])),
+            (None, top(version=2, outage=[outage])),
+            ("bad-key outage 1", top(version=2, outage=[outage, {**outage, "to": 0}])),
+            ("bad-outage 0", top(version=2, outage=[{**outage, "to": 5}])),
+            ("bad-outage 1", top(version=2, outage=[outage, {**outage, "link": 4}])),
+            ("bad-drop 0", top(version=2, drop=[{**drop[0], "link": 4}], outage=[{**outage, "link": 4}])),
         ]
         for must, it in rows:
             self.assertEqual(fuzz_format.refusal_of(it), must, it)
@@ -153,6 +166,13 @@ class Model(unittest.TestCase):
         words = fuzz_replay.Words(42, 54)
         found = [f"{words.next():08x}" for _ in range(6)]
         self.assertEqual(found, ["a15c02b7", "7b47f409", "ba1d3330", "83d2f293", "bfa4784b", "cbed606e"])
+
+    def test_an_outage_takes_what_comes_to_its_link_while_it_is_on(self):
+        for (first, end), reached in (((5, 6), {1}), ((4, 5), {1, 2}), ((6, 7), {1, 2})):
+            outage = {"link": 1, "from": first, "to": end}
+            network = fuzz_format.Scenario({**CHAIN_OF_FIVE, "size": 3, "delay": 5, "member": CHAIN_OF_FIVE["member"][:3], "outage": [outage]})
+            self.assertEqual(network.fate(0, 9, 0).reached, reached)
+            self.assertEqual(network.fate(0, 9, 10).reached, {1, 2})
 
     def test_parents_in_a_tree_are_numbered_breadth_first(self):
         for size, degree, parents in ((8, 3, [0, 0, 0, 1, 1, 2, 2]), (5, 2, [0, 0, 1, 2])):

@@ -177,11 +177,24 @@ class Texts(unittest.TestCase):
     def test_257_members(self):
         self.assertEqual(ended(self.with_members(257)), refused("bad-key top 0"))
 
+    def test_1024_members_in_version_2(self):
+        joined = b"".join(b"0,%d,join,-,in,0,-\n" % member for member in range(1024))
+        trace = TRACE[:TRACE.index(b"\n") + 1] + joined
+        text = self.with_members(1024, version=2, nodes=1024)
+        for words in ([], [*WINDOW, "--cut", "1"]):
+            self.assertEqual(ended(text, words), (0, trace, b""))
+
+    def test_1025_members_in_version_2(self):
+        self.assertEqual(ended(self.with_members(1025, version=2, nodes=1024)), refused("bad-key top 0"))
+
+    def test_1024_nodes_in_version_1(self):
+        self.assertEqual(ended(self.with_members(5, version=1, nodes=1024)), refused("bad-key top 0"))
+
     @staticmethod
-    def with_members(many):
+    def with_members(many, version=1, nodes=256):
         one = b'  { node = %d, role = "listener", stream = 1 },\n'
         before, _ = without_members()
-        before = before.replace(b"size = 5", b"size = 256")
+        before = before.replace(b"size = 5", b"size = %d" % nodes).replace(b"version = 1", b"version = %d" % version)
         return before + b"member = [\n" + b"".join(one % node for node in range(many)) + b"]\n"
 
     def test_draw_is_refused_before_a_drop(self):

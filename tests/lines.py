@@ -14,8 +14,11 @@ TOP = pathlib.Path(__file__).resolve().parent.parent
 DEFINITION = TOP / "crates" / "srm_lab" / "specs" / "Lines.antt"
 PAGE = TOP / "docs" / "FORMATS.md"
 COMMAND_LINE = "command line refused"
-NUMBERED = {f"refused: {line}" for line in ("bad-key", "bad-member", "bad-draw", "bad-session", "bad-drop", "write-fault")}
-PARTS = ["top", "link", "member", "draw", "session", "drop"]
+NUMBERED = {
+    f"refused: {line}"
+    for line in ("bad-key", "bad-member", "bad-draw", "bad-session", "bad-drop", "bad-outage", "write-fault")
+}
+PARTS = ["top", "link", "member", "draw", "session", "drop", "outage"]
 
 
 def in_words(name):
@@ -28,8 +31,8 @@ def faults(definition, page):
     lines = re.findall(r"^(\w+)_line \(?\w+\.(\w+)[^=]*= codes \"([^\"]*)\"", definition, re.M)
     table = set(re.findall(r"`(refused: [^`]*|" + COMMAND_LINE + ")`", page))
     shown = {re.sub(r"(?<=bad-key )draw [0-9]+$|[0-9]+$", "", line) for line in table}
-    if len(lines) != 19:
-        yield f"the definition has {len(lines)} lines, and not 19"
+    if len(lines) != 20:
+        yield f"the definition has {len(lines)} lines, and not 20"
     for kind, name, line in lines:
         must = COMMAND_LINE if name in ("Line", "BadWord") else f"refused: {in_words(name)}"
         if line.rstrip(" ") != must or line != must and must not in NUMBERED:

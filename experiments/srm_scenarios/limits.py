@@ -1,15 +1,21 @@
-"""The ranges of the scenario format, version 1 (docs/FORMATS.md)."""
+"""The ranges of the scenario format (docs/FORMATS.md)."""
 from .errors import ScenarioError
 
-MOST_NODES = 256
-MOST_MEMBERS = 256
+MOST_NODES_OF_VERSION_1 = 256
+MOST_NODES = 1024
+MOST_MEMBERS = 1024
 MOST_ELEMENTS = 4096
 MOST_DELAY = 1_000_000
 MOST_CONSTANT = 64_000
 MOST_TIME = 2**40
 MOST_BYTES = 1_048_576
 MOST_SEED = 2**63 - 1
-DEGREES = range(2, 256)
+DEGREES = range(2, MOST_NODES)
+
+
+def version_for(nodes, degree=0):
+    """The first version of the format that has room for so many nodes, and for a tree of this degree."""
+    return 1 if nodes <= MOST_NODES_OF_VERSION_1 and degree < MOST_NODES_OF_VERSION_1 else 2
 
 
 def within(what, value, least, most):

@@ -143,6 +143,8 @@ class Picture:
         parents = self.given.tree.parents(node)
         dropping = {drop["link"] for drop in self.given.table["drop"]
                     if (drop["sender"], drop["count"]) == (packet.sender, packet.count)}
+        dropping |= {link for near, link in parents.values()
+                     if link is not None and self.given.is_out(link, packet.time + distances[near])}
         for member in self.order:
             target = self.given.members[member]["node"]
             near = next_member(target, parents, at_node)

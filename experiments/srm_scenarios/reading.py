@@ -26,6 +26,10 @@ class Given:
         """Whether operations from before this member came to the page concern it."""
         return self.members[member]["role"] != "late" or page in self.members[member].get("pages", [])
 
+    def is_out(self, link, at):
+        """Whether a link is out at a tick, and so drops each packet that comes to it."""
+        return any(it["link"] == link and it["from"] <= at < it["to"] for it in self.table["outage"])
+
     def distance(self, a, b):
         """The distance of two members in ticks."""
         return self.tree.distances(self.members[a]["node"])[self.members[b]["node"]]
@@ -35,7 +39,7 @@ def read_scenario(text):
     """The scenario in a text."""
     try:
         table = tomllib.loads(text)
-        table = {"member": [], "draw": [], "session": [], "drop": [], **table}
+        table = {"member": [], "draw": [], "session": [], "drop": [], "outage": [], **table}
         return Given(tree_of(table), table)
     except (tomllib.TOMLDecodeError, KeyError) as fault:
         raise ScenarioError(f"this is no scenario: {fault}") from None

@@ -4,7 +4,7 @@ from dataclasses import dataclass, field
 import tomli_w
 
 from .errors import ScenarioError
-from .limits import (MOST_BYTES, MOST_CONSTANT, MOST_ELEMENTS, MOST_MEMBERS, MOST_TIME, within)
+from .limits import (MOST_BYTES, MOST_CONSTANT, MOST_ELEMENTS, MOST_MEMBERS, MOST_TIME, version_for, within)
 from .tree import Tree
 
 
@@ -48,7 +48,8 @@ class Scenario:
     def table(self):
         """The keys and values of the scenario file."""
         self.check()
-        top = {"version": 1, "until": self.until}
+        version = version_for(self.tree.nodes, self.tree.shorthand.get("degree", 0))
+        top = {"version": version, "until": self.until}
         top.update({name: getattr(self, name) for name in ("c1", "c2", "d1", "d2")})
         top.update(self.tree.shorthand or {"nodes": self.tree.nodes})
         if not self.tree.shorthand:

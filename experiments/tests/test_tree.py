@@ -3,7 +3,7 @@ import random
 
 import pytest
 
-from srm_scenarios import ScenarioError, tree
+from srm_scenarios import Scenario, ScenarioError, tree
 
 GRAPHML = """<?xml version="1.0" encoding="UTF-8"?>
 <graphml xmlns="http://graphml.graphdrawing.org/xmlns">
@@ -105,7 +105,7 @@ def test_list_of_edges(tmp_path):
     ("a b 1000001\n", "delay of link 0 is 1000001"),
     ("a b 1 2\n", "line 1 has 4 words"),
     ("", "number of nodes is 0"),
-    ("".join(f"0 {node}\n" for node in range(1, 257)), "room for 256"),
+    ("".join(f"0 {node}\n" for node in range(1, 1025)), "room for 1024"),
 ])
 def test_lists_of_edges_that_are_refused(tmp_path, text, told):
     path = tmp_path / "graph.edges"
@@ -127,14 +127,23 @@ def test_files_that_are_refused(tmp_path, name, text, told):
         tree.from_file(tmp_path / name, 1)
 
 
+@pytest.mark.parametrize("made, version", [
+    (tree.chain(256, 1), 1), (tree.chain(257, 1), 2), (tree.chain(1024, 1), 2),
+    (tree.bounded_degree(9, 255, 1), 1), (tree.bounded_degree(9, 256, 1), 2),
+])
+def test_a_scenario_names_the_first_version_that_has_room(made, version):
+    made = Scenario(made, [(1, "sender")], until=9, c1=0, c2=0, d1=0, d2=0)
+    assert made.table()["version"] == version
+
+
 @pytest.mark.parametrize("make, told", [
     (lambda: tree.chain(0, 1), "size is 0"),
-    (lambda: tree.chain(257, 1), "size is 257"),
-    (lambda: tree.star(300, 1), "size is 300"),
+    (lambda: tree.chain(1025, 1), "size is 1025"),
+    (lambda: tree.star(1300, 1), "size is 1300"),
     (lambda: tree.chain(2, 0), "delay of link 0 is 0"),
     (lambda: tree.bounded_degree(9, 1, 1), "degree is 1"),
-    (lambda: tree.bounded_degree(9, 256, 1), "degree is 256"),
-    (lambda: tree.random_labelled(257, 1, random.Random(0)), "size is 257"),
+    (lambda: tree.bounded_degree(9, 1024, 1), "degree is 1024"),
+    (lambda: tree.random_labelled(1025, 1, random.Random(0)), "size is 1025"),
     (lambda: tree.Tree(3, ((0, 1, 1), (1, 0, 1))), "no tree"),
     (lambda: tree.Tree(2, ((0, 2, 1),)), "end of link 0 is 2"),
 ])

@@ -6,9 +6,7 @@ use Rattle.std.specs.List.{list_all, AllByRecursion}
 use Rattle.std.specs.Option.{option_and_then}
 use Rattle.toml.specs.Data.{Data, Members, string, integer, float, boolean, datetime, array, table, get_member}
 use Rattle.srm_net.specs.declared.link.LinkSpec.{LinkSpec}
-use Rattle.srm_net.specs.DropSets.{ordered_once}
 use Rattle.srm_net.specs.Network.{IsLinkDelay, HasDelays}
-use Rattle.srm_net.specs.Paths.{drop_cmp}
 use Rattle.srm_scenario.specs.declared.entry.MemberEntry.{MemberEntry}
 use Rattle.srm_scenario.specs.declared.fault.Part.{Part}
 use Rattle.srm_scenario.specs.declared.fault.ScenarioFault.TheVariants.{BadKey}
@@ -21,6 +19,7 @@ use Rattle.srm_scenario.specs.Rules.{Rule, rule, whole, required, optional, refu
 use Rattle.srm_scenario.specs.Described.{version_of, back_at, delays_of, number_of, number_at, number, array_of, array_at, table_of, link_of, member_of, elements_at, links_to_parents, nodes_in, links_in, described, topology_of}
 use Rattle.srm_scenario.specs.Faults.{element_faults, entry_of, key_faults, top_faults}
 use Rattle.srm_scenario.specs.Keys.{AreDelays}
+use Rattle.srm_scenario.specs.Plain.{drop_rules_of}
 use Rattle.srm_scenario.specs.Listed.{IsListed, links_listed, plain_of}
 use Rattle.srm_scenario.specs.Ranges.{MemberInRange, HasItsPages, InRange}
 use Rattle.srm_scenario.proofs.Acceptance.{empty_parts, none_by}
@@ -203,5 +202,5 @@ described_is ms l h =
       members = members i;
       draws = h.draws i;
       sessions = h.sessions i;
-      drops = record { listed = ordered_once drop_cmp (h.drops i); outages = h.outages i };
+      drops = drop_rules_of (h.drops i) (h.outages i);
     }

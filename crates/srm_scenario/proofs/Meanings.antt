@@ -12,7 +12,7 @@ use Rattle.srm_scenario.specs.declared.parts.MemberSpec.{MemberSpec}
 use Rattle.srm_scenario.specs.Accepted.{IsAccepted}
 use Rattle.srm_scenario.specs.Faults.{first, IsFault, fault_unless, faults_by, is_star, member_faults, fits_draw, fits_session, fits_drop, fits_outage, meaning_faults}
 use Rattle.srm_scenario.specs.Listed.{links_listed, plain_of, faults_in}
-use Rattle.srm_scenario.specs.Plain.{PlainScenario, network_of}
+use Rattle.srm_scenario.specs.Plain.{PlainScenario, drop_rules_of, network_of}
 use Rattle.srm_scenario.specs.Ranges.{InRange, HasItsPages}
 use Rattle.srm_scenario.specs.Trees.{is_tree}
 use Rattle.std.specs.List.{AllByRecursion}
@@ -113,7 +113,7 @@ no_fault l links members m tree placed drawn told dropped out =
     ∙ no_faults (Tree l) _ (no_tree_fault l links m.links_are tree) (no_faults (Placed l) _ placed (no_faults (Drawn l members) _ drawn (no_faults (Told l members) _ told (no_faults (Dropped l links members) _ dropped (no_faults (Out l links) _ out refl)))))
 
 -- the scenario that is made is the plain one
-pub plain_made : (l : Listed) (links : List LinkSpec) (members : List MemberSpec) (drops : DropRules) → Made l links members → drops ≡ record { listed = ordered_once drop_cmp l.drops.items; outages = l.outages.items }
+pub plain_made : (l : Listed) (links : List LinkSpec) (members : List MemberSpec) (drops : DropRules) → Made l links members → drops ≡ drop_rules_of l.drops.items l.outages.items
     → ◌≡◌ {A = PlainScenario} (record { until = l.until; constants = l.constants; nodes = l.nodes; links = links; members = members; draws = l.draws.items; sessions = l.sessions.items; drops = drops }) (plain_of l)
 unfolding plain_of
 plain_made l links members drops m same = λ i. record {

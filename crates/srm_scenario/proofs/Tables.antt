@@ -1,11 +1,11 @@
 -- Tables beside the members that they stand for, and what their look-ups give.
-use Rattle.std.proofs.Common.{◌≡◌, ℕ, Bool, false, List, [], ◌∷◌, Option, Some, None, map, ap, refl, sym, ◌∙◌, unwrap_or}
+use Rattle.std.proofs.Common.{◌≡◌, ℕ, Bool, true, false, List, [], ◌∷◌, Option, Some, None, map, ap, refl, sym, ◌∙◌, unwrap_or}
 use Rattle.std.specs.List.{list_any}
 use Rattle.std.specs.Option.{option_and_then, MatchOption}
 use Rattle.std.specs.Prelude.{◌||◌, ◌&&◌}
 use Rattle.std.specs.Str.{bytes_eq}
 use Rattle.toml.specs.Data.{Data, Members, member, get_member}
-use Rattle.srm_scenario.specs.Rules.{has_only, is_met, is_whole, rule, meets, whole, required, optional}
+use Rattle.srm_scenario.specs.Rules.{Kind, has_only, is_met, is_whole, rule, meets, whole, required, optional}
 use Rattle.srm_scenario.specs.Described.{number_of}
 use Rattle.srm_scenario.specs.Keys.{IsNumber, HasNumber, MayHaveNumber}
 

@@ -7,8 +7,6 @@ use Rattle.srm_net.specs.declared.role.Role.TheVariants.{Sender, Receiver, Late,
 use Rattle.srm_net.specs.declared.link.LinkSpec.{LinkSpec}
 use Rattle.srm_net.specs.declared.link.DropSpec.{DropSpec}
 use Rattle.srm_net.specs.declared.link.OutageSpec.{OutageSpec}
-use Rattle.srm_net.specs.DropSets.{ordered_once}
-use Rattle.srm_net.specs.Paths.{drop_cmp}
 use Rattle.srm_scenario.specs.declared.parts.Constants.{Constants}
 use Rattle.srm_scenario.specs.declared.parts.MemberSpec.{MemberSpec}
 use Rattle.srm_scenario.specs.declared.parts.DrawSpec.{DrawSpec}
@@ -18,7 +16,7 @@ use Rattle.srm_scenario.specs.declared.version.Version.{Version}
 use Rattle.srm_scenario.specs.declared.version.Version.TheVariants.{One, Two}
 use Rattle.srm_scenario.specs.declared.topology.Topology.{Topology}
 use Rattle.srm_scenario.specs.declared.topology.Topology.TheVariants.{Chain, Star, Tree}
-use Rattle.srm_scenario.specs.Plain.{PlainScenario}
+use Rattle.srm_scenario.specs.Plain.{PlainScenario, drop_rules_of}
 use Rattle.srm_scenario.specs.Rules.{is_text}
 
 -- ---- values
@@ -186,5 +184,5 @@ described ms = record {
   members = elements_at (codes "member") member_of ms;
   draws = elements_at (codes "draw") draw_of ms;
   sessions = elements_at (codes "session") session_of ms;
-  drops = record { listed = ordered_once drop_cmp (listed_drops ms); outages = outages_in ms };
+  drops = drop_rules_of (listed_drops ms) (outages_in ms);
 }

@@ -2,14 +2,12 @@
 use Rattle.std.specs.Prelude.{◌≡◌, ℕ, ◌-◌, ◌≤◌, ◌^◌, List, [], Option, Some, None, codes, map, length}
 use Rattle.toml.specs.Data.{Members}
 use Rattle.srm_net.specs.declared.link.LinkSpec.{LinkSpec}
-use Rattle.srm_net.specs.DropSets.{ordered_once}
-use Rattle.srm_net.specs.Paths.{drop_cmp}
 use Rattle.srm_scenario.specs.declared.fault.ScenarioFault.{ScenarioFault}
 use Rattle.srm_scenario.specs.declared.listed.Listed.{Listed}
 use Rattle.srm_scenario.specs.declared.delays.Delays.{Delays}
 use Rattle.srm_scenario.specs.declared.topology.Topology.{Topology}
 use Rattle.srm_scenario.specs.Accepted.{AreConstants}
-use Rattle.srm_scenario.specs.Plain.{PlainScenario}
+use Rattle.srm_scenario.specs.Plain.{PlainScenario, drop_rules_of}
 use Rattle.srm_scenario.specs.Described.{number, constants_of, topology_of, delays_of, nodes_in, elements_at, link_of, draw_of, session_of, listed_drops, outages_in, links_to_parents}
 use Rattle.srm_scenario.specs.Faults.{key_faults, meaning_faults, is_star, entry_of}
 use Rattle.srm_scenario.specs.Keys.{HasDegree, AreDelays}
@@ -54,7 +52,7 @@ plain_of l = record {
   members = map (λ e. e.spec) l.members.items;
   draws = l.draws.items;
   sessions = l.sessions.items;
-  drops = record { listed = ordered_once drop_cmp l.drops.items; outages = l.outages.items };
+  drops = drop_rules_of l.drops.items l.outages.items;
 }
 
 -- the faults of what is listed

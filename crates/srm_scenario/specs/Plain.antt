@@ -4,9 +4,13 @@ use Rattle.std.specs.declared.cmp.Ordering.{Ordering}
 use Rattle.std.specs.Ordering.{nat_cmp}
 use Rattle.std.specs.Cmp.Lexicographic.{slice_cmp}
 use Rattle.srm_net.specs.declared.link.LinkSpec.{LinkSpec}
+use Rattle.srm_net.specs.declared.link.DropSpec.{DropSpec}
+use Rattle.srm_net.specs.declared.link.OutageSpec.{OutageSpec}
+use Rattle.srm_net.specs.DropSets.{ordered_once}
 use Rattle.srm_net.specs.Orders.{ordered}
 use Rattle.srm_net.specs.Network.{Network}
 use Rattle.srm_net.specs.DropRules.{DropRules}
+use Rattle.srm_net.specs.Paths.{drop_cmp}
 use Rattle.srm_scenario.specs.declared.mark.Mark.{Mark}
 use Rattle.srm_scenario.specs.declared.parts.Constants.{Constants}
 use Rattle.srm_scenario.specs.declared.parts.MemberSpec.{MemberSpec}
@@ -24,6 +28,10 @@ pub record PlainScenario : Type 0 where
   pub draws : List DrawSpec
   pub sessions : List SessionSpec
   pub drops : DropRules
+
+-- the rules by which links drop packets, of drops and outages as they are listed: a drop that is listed twice counts once
+abbrev pub drop_rules_of : List DropSpec → List OutageSpec → DropRules
+drop_rules_of drops outages = record { listed = ordered_once drop_cmp drops; outages = outages }
 
 -- the network of a scenario
 abbrev pub network_of : PlainScenario → Network

@@ -4,12 +4,11 @@ ghost use Rattle.std.specs.Io.KnownBytes.{Consumes};
 ghost use Rattle.std.specs.List.{AllByRecursion};
 ghost use Rattle.toml.specs.View.{table_view};
 ghost use Rattle.srm_net.specs.Network.{plain_network, HasDelays};
-ghost use Rattle.srm_net.specs.DropSets.{ordered_once};
-ghost use Rattle.srm_net.specs.Paths.{drop_cmp};
 ghost use Rattle.srm_scenario.specs.Accepted.{IsAccepted};
 ghost use Rattle.srm_scenario.specs.Faults.{IsFault, is_star, scenario_of_table, scenario_of_text, failures_after, AnswersText, ReadsToEnd, RefusesText};
 ghost use Rattle.srm_scenario.specs.Keys.{HasDegree};
 ghost use Rattle.srm_scenario.specs.Listed.{links_listed, plain_of, faults_in};
+ghost use Rattle.srm_scenario.specs.Plain.{drop_rules_of};
 ghost use Rattle.srm_scenario.specs.Ranges.{InRange, HasItsPages};
 ghost use Rattle.srm_scenario.specs.Trees.{is_tree};
 
@@ -60,18 +59,18 @@ fn members_of(alloc: Global, entries: Vec<MemberEntry>) -> Result<Vec<MemberSpec
         .collect(alloc)
 }
 
-/// The drops, each once, and the outages.
+/// The rules by which links drop packets: each drop once, and the outages.
 fn drops_of(
     alloc: Global,
     drops: &[DropSpec],
     outages: &[OutageSpec],
 ) -> Result<Drops, ScenarioFault>
     ensures { MatchResult result
-        (λ set. set ≡ record { listed = ordered_once drop_cmp drops.now; outages = outages.now })
+        (λ rules. rules ≡ drop_rules_of drops.now outages.now)
         (λ e. e ≡ ScenarioFault.NoMemory) }
 {
     match Drops::of(alloc, drops, outages) {
-        Ok(set) => return Ok(set),
+        Ok(rules) => return Ok(rules),
         Err(_) => return Err(ScenarioFault::NoMemory),
     }
 }

@@ -148,7 +148,7 @@ impl Scenario {
         self.links.as_slice()
     }
 
-    /// The packets that links drop, and the outages of links.
+    /// The rules by which links drop packets: the drops that are listed, and the outages.
     pub fn drops(&self) -> &Drops
         ensures { result.now ≡ self.now.drops }
     {

@@ -1,17 +1,9 @@
-use Rattle.std.proofs.Common.{◌≡◌, List, sym, subst, ◌∙◌}
+use Rattle.std.proofs.Common.{List, ap, sym, subst, ◌∙◌}
 use Rattle.std.proofs.lemmas.Result.{err_from_is_err_and}
-use Rattle.srm_net.specs.declared.link.DropSpec.{DropSpec}
-use Rattle.srm_net.specs.declared.link.OutageSpec.{OutageSpec}
-use Rattle.srm_net.specs.DropRules.{DropRules}
-use Rattle.srm_net.specs.DropSets.{ordered_once}
-use Rattle.srm_net.specs.Paths.{drop_cmp}
 use Rattle.srm_scenario.specs.Accepted.{IsAccepted}
-use Rattle.srm_scenario.specs.Plain.{PlainScenario}
+use Rattle.srm_scenario.specs.Plain.{PlainScenario, drop_rules_of}
 use Rattle.srm_scenario.proofs.Meanings.{Made, tree_fault, place_fault, draw_fault, session_fault, drop_fault, outage_fault, no_fault, plain_made, accepted_made, delays_made}
 use Rattle.srm_scenario.proofs.reading.scenario_from.Goals as goal
-
-rules_same : {ds es : List DropSpec} {os qs : List OutageSpec} → ds ≡ es → os ≡ qs → ◌≡◌ {A = DropRules} (record { listed = ordered_once drop_cmp ds; outages = os }) (record { listed = ordered_once drop_cmp es; outages = qs })
-rules_same e f = λ i. record { listed = ordered_once drop_cmp (e i); outages = f i }
 
 pub check_tree-requires : goal.check_tree-requires
 check_tree-requires c =
@@ -94,7 +86,7 @@ returns-clause-no_fault c =
 pub returns-clause-plain : goal.returns-clause-plain
 returns-clause-plain c =
     let made : Made c.args.listed c.in_ok-links.links.items c.in_ok-members.members.items = record { links_are = c.in_ok-links.ensures; members_are = c.in_ok-members.ensures } in
-    plain_made c.args.listed c.in_ok-links.links.items c.in_ok-members.members.items c.in_ok-drops.drops made (c.in_ok-drops.ensures ∙ rules_same c.deref-12.ensures.value c.deref-13.ensures.value)
+    plain_made c.args.listed c.in_ok-links.links.items c.in_ok-members.members.items c.in_ok-drops.drops made (c.in_ok-drops.ensures ∙ (λ i. drop_rules_of (c.deref-12.ensures.value i) (c.deref-13.ensures.value i)))
 
 pub invariant_of-result : goal.invariant_of-result
 invariant_of-result c =
@@ -106,5 +98,5 @@ invariant_of-result c =
     let dropped = rw (c.deref-7.ensures.value, c.deref-8.ensures.value, c.deref-9.ensures.value) at c.in_ok-check_drops.ensures in
     let out = rw (c.deref-10.ensures.value, c.deref-11.ensures.value) at c.in_ok-check_outages.ensures in
     let none = no_fault c.args.listed c.in_ok-links.links.items c.in_ok-members.members.items made tree placed drawn told dropped out in
-    let plain = plain_made c.args.listed c.in_ok-links.links.items c.in_ok-members.members.items c.in_ok-drops.drops made (c.in_ok-drops.ensures ∙ rules_same c.deref-12.ensures.value c.deref-13.ensures.value) in
+    let plain = plain_made c.args.listed c.in_ok-links.links.items c.in_ok-members.members.items c.in_ok-drops.drops made (c.in_ok-drops.ensures ∙ (λ i. drop_rules_of (c.deref-12.ensures.value i) (c.deref-13.ensures.value i))) in
     subst (λ (s : PlainScenario). IsAccepted s) (sym plain) (accepted_made c.args.listed c.requires.range c.requires.pages none)

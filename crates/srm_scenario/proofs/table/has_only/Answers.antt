@@ -1,4 +1,4 @@
-use Rattle.std.proofs.Common.{◌≡◌, ◌∷◌, false, true, arith, map, sym, ◌∙◌, ap, string_bytes}
+use Rattle.std.proofs.Common.{◌≡◌, ◌∷◌, false, true, arith, map, sym, ◌∙◌, refl, ap, string_bytes, rules}
 use Rattle.std.proofs.lemmas.Grind.{common_steps}
 use Rattle.std.specs.Str.{bytes_eq}
 use Rattle.std.specs.List.{list_any}
