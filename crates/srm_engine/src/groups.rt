@@ -37,7 +37,7 @@ pub(crate) fn group(
 pub(crate) fn jobs(alloc: Global, groups: Vec<Vec<Cell>>, till: u64) -> Result<Vec<Job>, AllocError>
     ensures { IfOk result (λ jobs. jobs.items ≡ jobs_with till 0 groups.items) }
 {
-    let mut jobs = Vec::new(alloc);
+    let mut jobs = Vec::with_capacity(alloc, groups.len())?;
     for cells in groups {
         let place = jobs.len();
         jobs.push(Job { place, till, cells })?;
@@ -53,7 +53,7 @@ pub(crate) fn apart(
     ensures groups { IfOk result (λ r. r.0.items ≡ groups_of all.items) }
     ensures lists { IfOk result (λ r. map (λ v. v.items) r.1.items ≡ some_of (lists_of all.items)) }
 {
-    let mut groups = Vec::new(alloc);
+    let mut groups = Vec::with_capacity(alloc, all.len())?;
     let mut lists = Vec::new(alloc);
     for done in all {
         let Done { cells, rows, .. } = done;
