@@ -53,7 +53,7 @@ pub(crate) fn apart(
     ensures groups { IfOk result (λ r. r.0.items ≡ groups_of all.items) }
     ensures lists { IfOk result (λ r. map (λ v. v.items) r.1.items ≡ some_of (lists_of all.items)) }
 {
-    let mut groups = Vec::with_capacity(alloc, all.len())?;
+    let mut groups = Vec::new(alloc);
     let mut lists = Vec::new(alloc);
     for done in all {
         let Done { cells, rows, .. } = done;
