@@ -2,9 +2,10 @@ RT ?= rt
 PROGRAM := crates/srm_lab/out/srm_lab
 SOURCES := crates.txt $(shell find crates -path '*/out' -prune -o \( -name '*.rt' -o -name '*.antt' \) -print)
 CRATES := $(notdir $(patsubst %/src,%,$(wildcard crates/*/src)))
-TEST_PROGRAMS := crates/srm_examples/out/srm_examples_tests crates/srm_calls/out/srm_calls_tests
+TEST_PROGRAMS := $(foreach crate,srm_examples srm_calls srm_crew_calls,crates/$(crate)/out/$(crate)_tests)
 # those that pass whichever allocation is refused
-TESTS_OF_MEMORY := $(TEST_PROGRAMS:%/srm_calls_tests=%/srm_calls_tests:ledger_tests) crates/srm_calls/out/srm_calls_tests:crew_tests
+TESTS_OF_MEMORY := $(TEST_PROGRAMS:%/srm_calls_tests=%/srm_calls_tests:ledger_tests)
+TESTS_OF_MEMORY := $(TESTS_OF_MEMORY:%/srm_crew_calls_tests=%/srm_crew_calls_tests:crew_tests)
 PREFIX ?= /usr/local
 SCENARIO ?= examples/two-nodes.toml
 ARGUMENTS ?=
@@ -17,7 +18,7 @@ export RT
 
 .PHONY: build run try check test test-program test-memory fuzz bench install fmt clean help
 
-build: $(PROGRAM) ## proves and builds the program, if a source is newer than it (the first time some fifteen minutes)
+build: $(PROGRAM) ## proves and builds the program, if a source is newer than it (the first time some twelve minutes)
 
 $(PROGRAM): $(SOURCES)
 	@tools/prove.py --program crates/srm_lab

@@ -1,2 +1,0 @@
-mod HandedLemmas
-mod Openings

@@ -6,7 +6,6 @@ ghost use Rattle.srm_cell.specs.Probes.{probe_record, reporter_record};
 
 use srm_cell::cell::Cell;
 use srm_cell::fault::CellFault;
-use srm_engine::fault::{RunFault, run_fault};
 use srm_member::cause::Cause;
 use srm_member::due::Due;
 use srm_member::exit::Exit;
@@ -246,10 +245,4 @@ fn a_cell_sends_its_last_packet_and_then_answers_count_full(rt: HostRuntime) -> 
     assert_eq!(rt; row.sent.as_ref().expect(&rt, "a packet").id, last);
     assert!(rt; matches!(&cell.step(alloc, 20), Err(CellFault::CountFull)));
     Ok(())
-}
-
-#[test]
-fn a_used_up_packet_count_ends_a_run(rt: HostRuntime) {
-    assert_eq!(rt; run_fault(CellFault::CountFull), RunFault::CountFull);
-    assert_eq!(rt; run_fault(CellFault::NoMemory), RunFault::NoMemory);
 }

@@ -1,4 +1,5 @@
-//! Tests that cross crates: whole scenarios, each with every byte that it must give, and what members answer, call by call.
+//! What tests of several crates take: whole scenarios, each with every byte that it must give, and members whose end is watched; and
+//! what members answer, call by call.
 #![tactic(auto)]
 
 #[cfg(test)]
@@ -10,3 +11,4 @@ mod role_tests;
 pub mod scenarios;
 #[cfg(test)]
 mod stories;
+pub mod watched;

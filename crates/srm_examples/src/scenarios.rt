@@ -6,4 +6,4 @@ mod members;
 
 pub use crate::scenarios::example::Example;
 pub use crate::scenarios::losses::{CHAIN_OF_FIVE_ONE_LOSS, DRAWN_TIMERS, STAR_LOSS_AT_THE_SOURCE};
-pub use crate::scenarios::members::TWO_NODES;
+pub use crate::scenarios::members::{A_SENDER_AND_TWO_LISTENERS, TWO_NODES};

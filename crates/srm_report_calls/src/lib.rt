@@ -1,0 +1,15 @@
+//! Tests of the calls of engines and reports: what no clause says of them, and that each answers where memory suffices.
+#![tactic(auto)]
+
+#[cfg(test)]
+mod fault_tests;
+#[cfg(test)]
+mod outlet_tests;
+#[cfg(test)]
+mod table_tests;
+#[cfg(test)]
+mod trace_sink_tests;
+#[cfg(test)]
+mod trace_tests;
+#[cfg(test)]
+mod window_tests;
