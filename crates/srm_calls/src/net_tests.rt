@@ -2,7 +2,7 @@
 use srm_net::drops::Drops;
 use srm_net::fate::Fate;
 use srm_net::fault::NetFault;
-use srm_net::link::{DropSpec, LinkSpec};
+use srm_net::link::{DropSpec, LinkSpec, OutageSpec};
 use srm_net::net::Net;
 use srm_net::packet::PacketId;
 use srm_net::sequence::Sequence;
@@ -155,23 +155,159 @@ fn one_drop(rt: HostRuntime) -> Result<(), Fail> {
         count: 1,
     };
     let entry = DropSpec { link: 1, id: first };
-    let drops = Drops::of(rt.alloc(), &[entry, entry])?;
+    let drops = Drops::of(rt.alloc(), &[entry, entry], &[])?;
     assert!(rt; drops.lists(1, first) && !drops.lists(0, first) && !drops.lists(1, second));
-    assert!(rt; drops.lists_packet(first));
-    assert!(rt; net.reaches(&drops, first, 0) && net.reaches(&drops, first, 1));
-    assert!(rt; !net.reaches(&drops, first, 2) && net.reaches(&drops, second, 2));
-    assert!(rt; net.crosses(&drops, first, 0) && net.crosses(&drops, second, 2));
-    assert!(rt; !net.crosses(&drops, first, 1) && !net.crosses(&drops, first, 2));
-    assert!(rt; net.drops_at(&drops, first, 1));
+    assert!(rt; drops.may_drop(first) && !drops.may_drop(second));
+    assert!(rt; drops.takes_out(first, 1, 0) && !drops.takes_out(second, 1, 0));
+    assert!(rt; net.reaches(&drops, first, 0, 0) && net.reaches(&drops, first, 0, 1));
+    assert!(rt; !net.reaches(&drops, first, 0, 2) && net.reaches(&drops, second, 0, 2));
+    assert!(rt; net.crosses(&drops, first, 0, 0) && net.crosses(&drops, second, 0, 2));
+    assert!(rt; !net.crosses(&drops, first, 0, 1) && !net.crosses(&drops, first, 0, 2));
+    assert!(rt; net.drops_at(&drops, first, 0, 1));
     assert!(rt;
-        !net.drops_at(&drops, first, 0)
-            && !net.drops_at(&drops, first, 2)
-            && !net.drops_at(&drops, second, 1)
+        !net.drops_at(&drops, first, 0, 0)
+            && !net.drops_at(&drops, first, 0, 2)
+            && !net.drops_at(&drops, second, 0, 1)
     );
-    assert_eq!(rt; net.fate(&drops, first, 0), Fate::Crosses);
-    assert_eq!(rt; net.fate(&drops, first, 1), Fate::Dropped);
-    assert_eq!(rt; net.fate(&drops, first, 2), Fate::Neither);
-    assert_eq!(rt; net.fate(&drops, second, 2), Fate::Crosses);
+    assert_eq!(rt; net.fate(&drops, first, 0, 0), Fate::Crosses);
+    assert_eq!(rt; net.fate(&drops, first, 0, 1), Fate::Dropped);
+    assert_eq!(rt; net.fate(&drops, first, 0, 2), Fate::Neither);
+    assert_eq!(rt; net.fate(&drops, second, 0, 2), Fate::Crosses);
+    Ok(())
+}
+
+const fn slow_link(a: u16, b: u16) -> LinkSpec {
+    LinkSpec {
+        a,
+        b,
+        delay: 5,
+        back: 5,
+    }
+}
+
+const fn outage(link: u16, from: u64, to: u64) -> OutageSpec {
+    OutageSpec { link, from, to }
+}
+
+// A chain of nodes 0 to 2 with a member on each; each link takes 5 ticks. Member 0 sends at ticks 0 and 10.
+#[test]
+fn outages_of_one_tick(rt: HostRuntime) -> Result<(), Fail> {
+    let net = Net::build(rt.alloc(), 3, &[slow_link(0, 1), slow_link(1, 2)], &[0, 1, 2])?;
+    let first = PacketId {
+        sender: 0,
+        count: 0,
+    };
+    let second = PacketId {
+        sender: 0,
+        count: 1,
+    };
+
+    // the first packet comes to link 1 at tick 5, the second at tick 15
+    let drops = Drops::of(rt.alloc(), &[], &[outage(1, 5, 6)])?;
+    assert!(rt; drops.may_drop(first) && drops.may_drop(second));
+    assert!(rt; net.reaches(&drops, first, 0, 1) && !net.reaches(&drops, first, 0, 2));
+    assert!(rt; net.reaches(&drops, second, 10, 1) && net.reaches(&drops, second, 10, 2));
+    assert!(rt; net.crosses(&drops, first, 0, 0) && !net.crosses(&drops, first, 0, 1));
+    assert!(rt; net.crosses(&drops, second, 10, 0) && net.crosses(&drops, second, 10, 1));
+    assert!(rt; net.drops_at(&drops, first, 0, 1) && !net.drops_at(&drops, first, 0, 0));
+    assert!(rt; !net.drops_at(&drops, second, 10, 1));
+    assert_eq!(rt; net.fate(&drops, first, 0, 1), Fate::Dropped);
+
+    // one tick earlier and one tick later it drops neither
+    for (from, to) in [(4, 5), (6, 7)] {
+        let drops = Drops::of(rt.alloc(), &[], &[outage(1, from, to)])?;
+        assert!(rt; net.reaches(&drops, first, 0, 2) && net.reaches(&drops, second, 10, 2));
+        assert!(rt; net.crosses(&drops, first, 0, 1) && !net.drops_at(&drops, first, 0, 1));
+    }
+
+    // nor where it has no tick
+    let drops = Drops::of(rt.alloc(), &[], &[outage(1, 5, 5)])?;
+    assert!(rt; net.reaches(&drops, first, 0, 2));
+    Ok(())
+}
+
+// A chain of nodes 0 to 2 with a member on each, whose links take 1 tick from the node in the middle and 3 to it.
+#[test]
+fn outages_in_either_direction(rt: HostRuntime) -> Result<(), Fail> {
+    let links = [uneven_link(1, 0), uneven_link(1, 2)];
+    let net = Net::build(rt.alloc(), 3, &links, &[0, 1, 2])?;
+    let there = PacketId {
+        sender: 0,
+        count: 0,
+    };
+    let back = PacketId {
+        sender: 2,
+        count: 0,
+    };
+    let drops = Drops::of(rt.alloc(), &[], &[outage(1, 3, 4)])?;
+    assert!(rt; net.drops_at(&drops, there, 0, 1) && !net.reaches(&drops, there, 0, 2));
+    assert!(rt; net.crosses(&drops, back, 2, 1) && net.drops_at(&drops, back, 3, 1));
+    let drops = Drops::of(rt.alloc(), &[], &[outage(1, 1, 2)])?;
+    assert!(rt; net.crosses(&drops, there, 0, 1) && net.reaches(&drops, there, 0, 2));
+    let drops = Drops::of(rt.alloc(), &[], &[outage(0, 3, 4)])?;
+    assert!(rt; net.drops_at(&drops, back, 0, 0) && net.crosses(&drops, back, 0, 1));
+    Ok(())
+}
+
+// Of several outages of a link, of which the first to begin lasts longest, with others of links beside it; and a listed drop.
+#[test]
+fn many_outages(rt: HostRuntime) -> Result<(), Fail> {
+    let outages = [
+        outage(2, 0, 90),
+        outage(1, 30, 40),
+        outage(1, 10, 60),
+        outage(0, 55, 99),
+        outage(1, 20, 25),
+        outage(1, 70, 71),
+    ];
+    let id = PacketId {
+        sender: 0,
+        count: 0,
+    };
+    let drops = Drops::of(rt.alloc(), &[DropSpec { link: 0, id }], &outages)?;
+    for (tick, is_out) in [
+        (0, false),
+        (9, false),
+        (10, true),
+        (29, true),
+        (50, true),
+        (59, true),
+        (60, false),
+        (69, false),
+        (70, true),
+        (71, false),
+        (1 << 40, false),
+    ] {
+        assert_eq!(rt; drops.takes_out(id, 1, tick), is_out);
+    }
+    assert!(rt; drops.takes_out(id, 0, 0) && drops.takes_out(id, 2, 0));
+    assert!(rt; !drops.takes_out(id, 2, 90) && !drops.takes_out(id, 3, 50));
+    Ok(())
+}
+
+// A path of 1,024 nodes is a network, and one node more is not.
+#[test]
+fn most_nodes(rt: HostRuntime) -> Result<(), Fail> {
+    let mut links = Vec::new(rt.alloc());
+    for node in 0..1023 {
+        links.push(LinkSpec {
+            a: node,
+            b: node + 1,
+            delay: 1_000_000,
+            back: 1,
+        })?;
+    }
+    let net = Net::build(rt.alloc(), 1024, &links, &[0, 1023])?;
+    assert_eq!(rt; net.distance(0, 1), 1_023_000_000);
+    assert_eq!(rt; net.distance(1, 0), 1023);
+    let drops = Drops::of(rt.alloc(), &[], &[outage(1022, 1_022_000_000, 1_022_000_001)])?;
+    let id = PacketId {
+        sender: 0,
+        count: 0,
+    };
+    assert!(rt; !net.reaches(&drops, id, 0, 1) && net.reaches(&drops, id, 1, 1));
+    links.push(short_link(1023, 1024))?;
+    assert!(rt; matches!(Net::build(rt.alloc(), 1025, &links, &[0]), Err(NetFault::NotTree)));
     Ok(())
 }
 
@@ -180,15 +316,15 @@ fn one_drop(rt: HostRuntime) -> Result<(), Fail> {
 fn link_to_nobody(rt: HostRuntime) -> Result<(), Fail> {
     let links = [short_link(0, 1), short_link(1, 2)];
     let net = Net::build(rt.alloc(), 3, &links, &[0, 1])?;
-    let drops = Drops::of(rt.alloc(), &[])?;
+    let drops = Drops::of(rt.alloc(), &[], &[])?;
     let id = PacketId {
         sender: 1,
         count: 0,
     };
     assert!(rt; net.is_on_way(0, 0) && net.is_on_way(1, 0));
     assert!(rt; !net.is_on_way(0, 1) && !net.is_on_way(1, 1));
-    assert_eq!(rt; net.fate(&drops, id, 0), Fate::Crosses);
-    assert_eq!(rt; net.fate(&drops, id, 1), Fate::Neither);
+    assert_eq!(rt; net.fate(&drops, id, 0, 0), Fate::Crosses);
+    assert_eq!(rt; net.fate(&drops, id, 0, 1), Fate::Neither);
     Ok(())
 }
 
@@ -212,7 +348,7 @@ fn is_shared<T: Sync + Send>(_value: &T) -> bool {
 #[test]
 fn shared_between_threads(rt: HostRuntime) -> Result<(), Fail> {
     let net = Net::build(rt.alloc(), 1, &[], &[0])?;
-    let drops = Drops::of(rt.alloc(), &[])?;
+    let drops = Drops::of(rt.alloc(), &[], &[])?;
     assert!(rt; is_shared(&net) && is_shared(&drops));
     Ok(())
 }
