@@ -2,9 +2,15 @@
 #![tactic(auto)]
 
 #[cfg(test)]
+mod counted;
+#[cfg(test)]
 mod fault_tests;
 #[cfg(test)]
 mod outlet_tests;
+#[cfg(test)]
+mod stream_tests;
+#[cfg(test)]
+mod streaming;
 #[cfg(test)]
 mod table_tests;
 #[cfg(test)]
