@@ -4,6 +4,8 @@
 #[cfg(test)]
 mod counted;
 #[cfg(test)]
+mod drops_tests;
+#[cfg(test)]
 mod fault_tests;
 #[cfg(test)]
 mod outlet_tests;
