@@ -2,10 +2,11 @@ RT ?= rt
 PROGRAM := crates/srm_lab/out/srm_lab
 SOURCES := crates.txt $(shell find crates -path '*/out' -prune -o \( -name '*.rt' -o -name '*.antt' \) -print)
 CRATES := $(notdir $(patsubst %/src,%,$(wildcard crates/*/src)))
-TEST_PROGRAMS := $(foreach crate,srm_examples srm_calls srm_crew_calls,crates/$(crate)/out/$(crate)_tests)
+TEST_PROGRAMS := $(foreach crate,srm_examples srm_calls srm_crew_calls srm_report_calls,crates/$(crate)/out/$(crate)_tests)
 # those that pass whichever allocation is refused
 TESTS_OF_MEMORY := $(TEST_PROGRAMS:%/srm_calls_tests=%/srm_calls_tests:ledger_tests)
 TESTS_OF_MEMORY := $(TESTS_OF_MEMORY:%/srm_crew_calls_tests=%/srm_crew_calls_tests:crew_tests)
+TESTS_OF_MEMORY := $(TESTS_OF_MEMORY:%/srm_report_calls_tests=%/srm_report_calls_tests:drops_tests)
 PREFIX ?= /usr/local
 SCENARIO ?= examples/two-nodes.toml
 ARGUMENTS ?=
@@ -56,7 +57,7 @@ test-program: $(PROGRAM) ## compares what the program prints with each file of e
 	@tests/same_bytes.py --runs $(FEW_CASES) $(PROGRAM)
 	@tests/fuzz.py --from 1 --cases $(FEW_CASES) $(PROGRAM)
 
-test-memory: $(PROGRAM) $(TEST_PROGRAMS) ## refuses each allocation in turn, of the program on each example with each engine, on three with each table and each crew that takes threads, and of each test of members, roles, the ledger and crews
+test-memory: $(PROGRAM) $(TEST_PROGRAMS) ## refuses each allocation in turn, of the program on each example with each engine, on three with each table and each crew that takes threads, and of each test of members, roles, the ledger, crews and the drops of whole runs' boxes
 	@tests/refuse_allocations.py --program $(PROGRAM) examples/*.toml --tests $(TESTS_OF_MEMORY)
 	@tests/refuse_allocations.py --more $(PROGRAM) $(FEW_SCENARIOS:%=examples/%.toml)
 

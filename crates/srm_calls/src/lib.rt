@@ -1,5 +1,5 @@
-//! Tests of the calls of networks, scenarios, ledgers and cells: what no clause says of them, and that each answers where memory
-//! suffices.
+//! Tests of the calls of networks, scenarios, ledgers and cells: what no clause says of them, and that each answers
+//! where memory suffices.
 #![tactic(auto)]
 
 #[cfg(test)]

@@ -1,5 +1,5 @@
-//! What tests of several crates take: whole scenarios, each with every byte that it must give, and members whose end is watched; and
-//! what members answer, call by call.
+//! What tests of several crates take: whole scenarios, each with every byte that it must give, and members whose end is
+//! watched; and what members answer, call by call.
 #![tactic(auto)]
 
 #[cfg(test)]

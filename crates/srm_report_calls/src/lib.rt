@@ -2,9 +2,17 @@
 #![tactic(auto)]
 
 #[cfg(test)]
+mod counted;
+#[cfg(test)]
+mod drops_tests;
+#[cfg(test)]
 mod fault_tests;
 #[cfg(test)]
 mod outlet_tests;
+#[cfg(test)]
+mod stream_tests;
+#[cfg(test)]
+mod streaming;
 #[cfg(test)]
 mod table_tests;
 #[cfg(test)]

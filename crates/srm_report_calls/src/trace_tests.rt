@@ -37,8 +37,8 @@ const GREATEST: Name = Name {
     number: 4095,
 };
 
-// An event, how many names were lost, the packet that was sent, and the line; the last has the greatest numbers. Every word stands
-// in a trace of examples/ or tests/scenarios/, with which the built program's is compared.
+// An event, how many names were lost, the packet that was sent, and the line; the last has the greatest numbers. Every
+// word stands in a trace of examples/ or tests/scenarios/, with which the built program's is compared.
 const LINES: [(Event, usize, Option<PacketId>, &str); 3] = [
     (
         (0, 0, Word::Join, Of::Nothing, Told::Entered),

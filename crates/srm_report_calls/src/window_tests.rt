@@ -1,57 +1,31 @@
 //! The windows of whole runs, as a crew that notes its calls is handed them.
-ghost use Rattle.std.specs.Prelude.{◌≡◌};
-ghost use Rattle.srm_scenario.specs.Plain.{network_of};
-
+use crate::streaming::stream_in_windows;
 use srm_crew::recording::{Note, Recording};
+use srm_engine::kept_rows::KeptRows;
 use srm_engine::width::{Width, Windows};
-use srm_engine::window_run::window_run;
 use srm_examples::scenarios::{A_SENDER_AND_TWO_LISTENERS, STAR_LOSS_AT_THE_SOURCE};
-use srm_member::member::Member;
-use srm_net::net::Net;
-use srm_net::role::Role;
-use srm_roles::late::Late;
-use srm_roles::listener::Listener;
-use srm_roles::receiver::Receiver;
-use srm_roles::sender::Sender;
 use srm_scenario::feed::ReadFeed;
 use srm_scenario::reading::read_scenario;
-use srm_scenario::scenario::Scenario;
 use std::alloc::Global;
 use std::process::Abort;
+use std::sync::Arc;
+use std::sync::atomic::AtomicU64;
 use std::test::Fail;
-
-// Runs the members of a scenario in windows, made by their roles with random words of seed 0.
-fn run_in_windows(
-    alloc: Global,
-    scenario: &Scenario,
-    net: &Net,
-    crew: &mut Recording,
-    windows: Windows,
-) -> Result<(), Fail>
-    requires { net.now ≡ network_of scenario.now }
-{
-    let mut members: Vec<Box<dyn Member>> = Vec::new(alloc);
-    for m in 0..scenario.members() {
-        let member: Box<dyn Member> = match scenario.role(m) {
-            Role::Sender => Box::new(alloc, Sender::new(alloc, scenario, net, 0, m)?)?,
-            Role::Receiver => Box::new(alloc, Receiver::new(alloc, scenario, net, 0, m)?)?,
-            Role::Late => Box::new(alloc, Late::new(alloc, scenario, net, 0, m)?)?,
-            Role::Listener => Box::new(alloc, Listener::new(alloc, scenario, net, 0, m)?)?,
-        };
-        members.push(member)?;
-    }
-    window_run(alloc, scenario, net, members, crew, windows)?;
-    Ok(())
-}
 
 // The crew to which the windows of a scenario's run were handed.
 fn recorded(alloc: Global, text: &str, windows: Windows) -> Result<Recording, Fail> {
     let mut feed = ReadFeed::new(text.as_bytes());
     let scenario = read_scenario(alloc, &mut feed)?;
     let net = scenario.net(alloc)?;
+    let reacts = Arc::new(alloc, AtomicU64::new(0))?;
     let mut crew = Recording::new(alloc);
-    run_in_windows(alloc, &scenario, &net, &mut crew, windows)?;
-    Ok(crew)
+    let mut kept = KeptRows::new(alloc);
+    match stream_in_windows(
+        alloc, &scenario, &net, &reacts, &mut crew, windows, &mut kept,
+    )? {
+        None => Ok(crew),
+        Some(_) => Err(Fail::from("no memory")),
+    }
 }
 
 // Asserts that these were the first jobs that the crew was handed: those of the first window.
@@ -106,8 +80,9 @@ fn a_window_by_promises_ends_after_the_way_to_the_nearest_member(
     expect_first_round_a_node(&rt, rt.alloc(), Width::Promise, 10)
 }
 
-// Of the three members only the first promises: at tick 0 to send nothing that arrives before tick 1, at tick 1, with its next
-// draw at tick 10, nothing that arrives before tick 11, and then, with nothing pending, nothing to the end of the run.
+// Of the three members only the first promises: at tick 0 to send nothing that arrives before tick 1, at tick 1, with
+// its next draw at tick 10, nothing that arrives before tick 11, and then, with nothing pending, nothing to the end of
+// the run.
 #[test]
 fn listeners_make_no_window_shorter(rt: HostRuntime) -> Result<(), Fail> {
     let windows = Windows {

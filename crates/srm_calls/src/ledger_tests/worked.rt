@@ -46,7 +46,8 @@ fn halves_add_and_read(rt: HostRuntime) -> Result<(), AllocError> {
     attempt_twice(&rt, || add_by_halves(&rt, rt.alloc()))
 }
 
-// Splits the first half of the one before, so often, until it can't be split any more; adds by it, and joins all seats again.
+// Splits the first half of the one before, so often, until it can't be split any more; adds by it, and joins all seats
+// again.
 fn split_and_join(
     rt: &impl Abort,
     alloc: Global,

@@ -33,7 +33,8 @@ draw = [
 "#,
 };
 
-/// A chain of three nodes, a tick between neighbours: a sender and two listeners; the second link drops the first packet.
+/// A chain of three nodes, a tick between neighbours: a sender and two listeners; the second link drops the first
+/// packet.
 pub const A_SENDER_AND_TWO_LISTENERS: Example = Example {
     name: "a_sender_and_two_listeners",
     scenario: r#"version = 1
