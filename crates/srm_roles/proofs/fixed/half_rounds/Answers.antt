@@ -6,7 +6,7 @@ use Rattle.srm_roles.proofs.fixed.half_rounds.Goals as goal
 
 pub loop-b-preserved : goal.loop-b-preserved
 loop-b-preserved c =
-    let most : c.round.result ≤ 510000000 = c.round.ensures.bounded in
+    let most : c.round.result ≤ 2046000000 = c.round.ensures.bounded in
     let half : c.round.result / 2 ≤ 1023000000 = omega arith in
     record {
       value = c.in_ok-push.ensures.ok
