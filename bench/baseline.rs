@@ -438,10 +438,28 @@ impl Member {
 
 // The network.
 
+/// A link takes `delay` ticks from `a` to `b`, and `back` ticks from `b` to `a`. In an outage it drops what comes to it.
 struct Link {
     a: usize,
     b: usize,
     delay: Time,
+    back: Time,
+    outages: Vec<Outage>,
+}
+
+struct Outage {
+    from: Time,
+    to: Time,
+}
+
+impl Link {
+    fn delay_from(&self, node: usize) -> Time {
+        if node == self.a { self.delay } else { self.back }
+    }
+
+    fn is_out(&self, at: Time) -> bool {
+        self.outages.iter().any(|it| it.from <= at && at < it.to)
+    }
 }
 
 /// One end of a link, as seen from the other.
@@ -498,24 +516,25 @@ impl Net {
                 distances[member] = distance;
             }
             for side in self.sides[node].iter().filter(|side| side.node != before) {
-                left.push((node, side.node, distance + links[side.link].delay));
+                left.push((node, side.node, distance + links[side.link].delay_from(node)));
             }
         }
         distances
     }
 
-    /// Where a packet from a node goes that these links drop.
-    fn route(&self, from: usize, dropping: &[usize]) -> Route {
+    /// Where a packet goes that is sent from a node at this time, and that these links are listed as dropping.
+    fn route(&self, links: &[Link], from: usize, at: Time, dropping: &[usize]) -> Route {
         let mut route = Route { hearers: Vec::new(), crossed: Vec::new(), dropped: Vec::new() };
-        let mut left = vec![(from, from)];
-        while let Some((before, node)) = left.pop() {
+        let mut left = vec![(from, from, at)];
+        while let Some((before, node, at)) = left.pop() {
             route.hearers.extend(self.hosts[node].filter(|_| node != from));
             for side in self.sides[node].iter().filter(|side| side.node != before && side.hosts) {
-                if dropping.contains(&side.link) {
+                let link = &links[side.link];
+                if dropping.contains(&side.link) || link.is_out(at) {
                     route.dropped.push(side.link);
                 } else {
                     route.crossed.push(side.link);
-                    left.push((node, side.node));
+                    left.push((node, side.node, at + link.delay_from(node)));
                 }
             }
         }
@@ -549,8 +568,13 @@ struct Row {
 
 struct Simulation {
     net: Net,
+    links: Vec<Link>,
     nodes: Vec<usize>,
+    /// How long packets take from each member to each.
+    ways: Vec<Vec<Time>>,
+    /// Where packets of each member go that no link drops.
     routes: Vec<Route>,
+    has_outages: bool,
     drops: HashMap<PacketId, Vec<usize>>,
     draws: Vec<Draw>,
     members: Vec<Member>,
@@ -564,6 +588,8 @@ impl Simulation {
     fn new(scenario: Scenario, seed: u64) -> Simulation {
         let nodes: Vec<usize> = scenario.members.iter().map(|it| it.node).collect();
         let net = Net::new(scenario.nodes, &scenario.links, &nodes);
+        let ways: Vec<Vec<Time>> =
+            nodes.iter().map(|&node| net.distances(&scenario.links, node, nodes.len())).collect();
         let mut events = Events { heap: BinaryHeap::new(), until: scenario.until };
         let mut members = Vec::new();
         for (number, it) in scenario.members.into_iter().enumerate() {
@@ -581,7 +607,7 @@ impl Simulation {
                 timers: Timers {
                     words: Words::new(seed, it.stream),
                     constants: scenario.constants,
-                    distances: net.distances(&scenario.links, it.node, nodes.len()),
+                    distances: (0..nodes.len()).map(|other| (ways[number][other] + ways[other][number]) / 2).collect(),
                 },
                 pages: BTreeMap::new(),
                 held: BTreeMap::new(),
@@ -600,17 +626,22 @@ impl Simulation {
         for (link, id) in scenario.drops {
             drops.entry(id).or_default().push(link);
         }
+        let links = scenario.links;
+        let sound: Vec<Link> = links.iter().map(|link| Link { outages: Vec::new(), ..*link }).collect();
         Simulation {
-            routes: nodes.iter().map(|&node| net.route(node, &[])).collect(),
+            routes: nodes.iter().map(|&node| net.route(&sound, node, 0, &[])).collect(),
+            has_outages: links.iter().any(|link| !link.outages.is_empty()),
             net,
             nodes,
+            ways,
             drops,
             draws: scenario.draws,
             members,
             events,
             packets: Vec::new(),
             rows: Vec::new(),
-            totals: vec![[0; 5]; scenario.links.len()],
+            totals: vec![[0; 5]; links.len()],
+            links,
         }
     }
 
@@ -665,8 +696,10 @@ impl Simulation {
         let id = PacketId { sender, count: from.sent };
         from.sent += 1;
         self.packets.push(Packet { id, body });
-        let listed = self.drops.get(&id).map(|links| self.net.route(self.nodes[sender as usize], links));
-        let route = listed.as_ref().unwrap_or(&self.routes[sender as usize]);
+        let listed = self.drops.get(&id).map(Vec::as_slice);
+        let own = (self.has_outages || listed.is_some())
+            .then(|| self.net.route(&self.links, self.nodes[sender as usize], at, listed.unwrap_or(&[])));
+        let route = own.as_ref().unwrap_or(&self.routes[sender as usize]);
         for &link in &route.crossed {
             self.totals[link][kind] += 1;
         }
@@ -675,7 +708,7 @@ impl Simulation {
         }
         for &hearer in &route.hearers {
             let member = &self.members[hearer];
-            let time = at + member.timers.distances[sender as usize];
+            let time = at + self.ways[sender as usize][hearer];
             if member.join <= time && time <= member.leave {
                 let key = Key { time, member: hearer as u16, rank: ARRIVAL, a: sender, b: 0, c: id.count };
                 self.events.push(key, place);
@@ -780,7 +813,11 @@ struct Scenario {
 
 impl Scenario {
     fn of(top: &Table) -> Scenario {
-        let (nodes, links) = topology(top);
+        let (nodes, mut links) = topology(top);
+        for it in top.tables("outage") {
+            let outage = Outage { from: it.number("from"), to: it.number("to") };
+            links[it.number("link") as usize].outages.push(outage);
+        }
         let constants =
             Constants { c1: top.number("c1"), c2: top.number("c2"), d1: top.number("d1"), d2: top.number("d2") };
         let member = |it: &Table| Placed {
@@ -824,10 +861,15 @@ impl Scenario {
 fn topology(top: &Table) -> (usize, Vec<Link>) {
     let Some(Value::Text(shape)) = top.find("topology") else {
         let end = |it: &Table, key: &str| it.number(key) as usize;
-        let link = |it: &Table| Link { a: end(it, "a"), b: end(it, "b"), delay: it.number("delay") };
+        let link = |it: &Table| {
+            let delay = it.number("delay");
+            let back = it.number_or("back", delay);
+            Link { a: end(it, "a"), b: end(it, "b"), delay, back, outages: Vec::new() }
+        };
         return (top.number("nodes") as usize, top.tables("link").map(link).collect());
     };
     let (nodes, delay) = (top.number("size") as usize, top.number("delay"));
+    let back = top.number_or("back", delay);
     let degree = top.number_or("degree", 2) as usize;
     let parent = |node: usize| match shape.as_str() {
         "chain" => node - 1,
@@ -835,7 +877,8 @@ fn topology(top: &Table) -> (usize, Vec<Link>) {
         _ if node <= degree => 0,
         _ => 1 + (node - degree - 1) / (degree - 1),
     };
-    (nodes, (1..nodes).map(|node| Link { a: node, b: parent(node), delay }).collect())
+    let link = |node| Link { a: parent(node), b: node, delay, back, outages: Vec::new() };
+    (nodes, (1..nodes).map(link).collect())
 }
 
 // The part of TOML that is read.

@@ -28,7 +28,9 @@ import tempfile
 TOP = pathlib.Path(__file__).resolve().parent.parent
 SOURCE = TOP / "bench" / "baseline.rs"
 BASELINE = TOP / "out" / "baseline"
-SIZES = [16, 64, 256]
+SIZES = [16, 64, 256, 1024]
+# Sizes of which the times for a row are compared.
+GROWTH = [(16, 256), (256, 1024)]
 
 # A generated scenario; `drops` and `sessions` are lists of the lines of these elements.
 Scenario = collections.namedtuple("Scenario", ["name", "shape", "nodes", "draws", "until", "drops", "sessions"])
@@ -48,7 +50,7 @@ def ordinary(shape, nodes, draws):
 
 
 def at_the_limits():
-    """256 nodes and members, and 4,096 draws, session messages and drops each: as many as the format allows."""
+    """256 nodes and members, and 4,096 draws, session messages and drops each: as many as version 1 of the format allows."""
     drops = [drop(count % 255, count) for count in range(4096)]
     sessions = [f"[[session]]\nmember = {k % 256}\nat = {k * 1000 + 500}" for k in range(4096)]
     return Scenario("at the limits", "chain", 256, 4096, 2**40, drops, sessions)
@@ -69,7 +71,8 @@ def scenarios_of_instructions():
 def text_of(scenario):
     """The scenario as a file's text. Each node but a star's hub has a member, and the first of them is the sender."""
     shape, first = scenario.shape, 1 if scenario.shape == "star" else 0
-    lines = ["version = 1", f"until = {scenario.until}", "c1 = 2000", "c2 = 2000", "d1 = 1000", "d2 = 1000"]
+    version = 1 if scenario.nodes <= 256 else 2
+    lines = [f"version = {version}", f"until = {scenario.until}", "c1 = 2000", "c2 = 2000", "d1 = 1000", "d2 = 1000"]
     lines += [f'topology = "{shape}"', f"size = {scenario.nodes}", "delay = 5"]
     lines += ["degree = 4"] if shape == "tree" else []
     for node in range(first, scenario.nodes):
@@ -187,12 +190,13 @@ def measure(programs, chosen, figures, show, repeat):
 
 
 def print_growth(programs, by_row):
-    """How the time for a row grows from the least network to the greatest of a shape."""
+    """How the time for a row grows from smaller networks to larger ones of a shape."""
     for shape, nodes, draws in by_row:
-        if nodes == SIZES[0] and (shape, SIZES[-1], draws) in by_row:
-            growth = zip(programs, by_row[shape, SIZES[-1], draws], by_row[shape, nodes, draws])
-            told = ", ".join(f"{program.name} {large / small:.2f}" for program, large, small in growth)
-            print(f"time for a row, {shape} of {SIZES[-1]} over {shape} of {SIZES[0]}: {told}")
+        for small, large in GROWTH:
+            if nodes == small and (shape, large, draws) in by_row:
+                growth = zip(programs, by_row[shape, large, draws], by_row[shape, small, draws])
+                told = ", ".join(f"{program.name} {more / less:.2f}" for program, more, less in growth)
+                print(f"time for a row, {shape} of {large} over {shape} of {small}: {told}")
 
 
 def main():

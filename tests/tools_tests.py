@@ -75,16 +75,24 @@ class Proving(unittest.TestCase):
 
     def test_errors_are_those_of_the_crate_that_failed_and_no_hints(self):
         report, _ = report_on(ONE_FAILS)
+        errors = report.errors(report.named("failed"))
         wrong = ("note: src/lib.rt", "fn middle::third", "./proofs/Lib.antt")
-        self.assertEqual(report.errors(), [line for line in ONE_FAILS.splitlines() if line.startswith(wrong)])
+        self.assertEqual(errors, [line for line in ONE_FAILS.splitlines() if line.startswith(wrong)])
 
     def test_errors_before_the_first_crate_are_told(self):
         report, said = report_on("src/main.rt:1:1: error[name]: no such item\nrt: mend these first: no library was built\n")
-        self.assertEqual((len(report.errors()), said), (2, []))
+        self.assertEqual((len(report.errors([])), said), (2, []))
 
     def test_a_crate_of_which_nothing_is_printed_was_proved_before(self):
         _, said = report_on("== low\n== middle\nlogic=proved functions=2\n== summary\nlow: ok\nmiddle: ok\n2 of 2 crates ok\n")
         self.assertEqual(said, ["low            as it was proved before", "middle         proved in 0:00"])
+
+    def test_a_program_is_proved_crate_by_crate(self):
+        low = "rt: chose --jobs 4 for low\nfn low::half: proved\ncrate low: modules loaded=3 checked=4\nlogic=proved functions=1\n"
+        top = "rt: chose --jobs 2 for top\nsrc/main.rt:1:1: error[name]: no such item\n"
+        report, said = report_on(low + top, [(("low", "proof", "/low"), 75)])
+        self.assertEqual((said, report.crate), (["low            proved in 1:15"], "top"))
+        self.assertEqual(report.errors(["top"]), ["src/main.rt:1:1: error[name]: no such item"])
 
     def test_a_crate_that_breaks_off_is_not_proved(self):
         _, said = report_on("== low\nrattle: killed\n== summary\nlow: failed (-9)\n0 of 1 crates ok\n")

@@ -1,14 +1,16 @@
 #!/usr/bin/env python3
 """Proves crates side by side, and tells of each crate in one line how long its proof took.
 
-usage: tools/prove.py [--program] [--jobs N] FOLDER
+usage: tools/prove.py [--program | --jobs N] FOLDER
 
 Proves each crate in FOLDER and below it, and each crate that these stand on, over what earlier runs proved. With
---program FOLDER is the crate of a program, which is then built. Everything that the prover says goes to a log in out/;
-the lines for people go to standard error. Ends with status 1 where a crate is not proved, and then shows its errors.
+--program FOLDER is the crate of a program: what it stands on is proved crate by crate, and it is built. Everything that
+the prover says goes to a log in out/; the lines for people go to standard error. Ends with status 1 where a crate is not
+proved, and then shows its errors.
 
-N crates are proved at a time; without --jobs as many as there are processors, with 4 GB of free memory for each.
-The environment's RT is the command to call in place of `rt`.
+N crates are proved at a time; without --jobs as many as there are processors, with 4 GB of free memory for each. With
+--program one crate is proved at a time, by as many provers as the machine has room for: the crates of the program are one
+long chain, so this is the faster. The environment's RT is the command to call in place of `rt`.
 """
 import argparse
 import os
@@ -26,7 +28,7 @@ MEMORY_OF_A_CRATE = 4_000_000_000
 ERRORS_SHOWN = 20
 
 FIRST_BUILD = """\
-Nothing is proved yet. The first build proves the program: some fifteen minutes on 4 processors.
+Nothing is proved yet. The first build proves the program: some twelve minutes on 4 processors.
 `make try SCENARIO=..` runs the same program unproved, in under a minute."""
 
 # Lines that say what is wrong: an error, a note on a place or a goal, a function without its proof, a complaint of rt itself.
@@ -57,8 +59,12 @@ def jobs():
     return max(1, min(len(os.sched_getaffinity(0)), free // MEMORY_OF_A_CRATE))
 
 
+# Lines that begin what rt says of a crate: in `rt all check`, which says it once the crate has ended, and in `rt run`.
+SECTION = re.compile(r"(?:== |rt: chose --jobs \d+ for |crate (?=\w+: ))(\w+)(?:: modules .*)?\n")
+
+
 class Report:
-    """Reads what `rt all check` prints, a section for each crate once it ended, and says a line for each."""
+    """Reads what `rt all check` or `rt run` prints, a section for each crate, and says a line for each."""
 
     def __init__(self, running):
         self.running = running
@@ -67,8 +73,8 @@ class Report:
         self.told = set()
 
     def read(self, line):
-        found = re.fullmatch(r"== (\w+)\n", line)
-        if found:
+        found = SECTION.fullmatch(line)
+        if found and found[1] != self.crate:
             # a section with no verdict is of a crate that broke off, and one with no line of a crate that rt left as it was
             self.tell("NOT PROVED" if self.lines[self.crate] else "as it was proved before")
             self.crate = found[1]
@@ -90,9 +96,9 @@ class Report:
         summary = self.lines.get("summary", [])
         return [line.partition(":")[0] for line in summary if re.match(rf"\w+: {word}\b", line)]
 
-    def errors(self):
-        """What is wrong, in the sections of the crates that failed, or before the first section."""
-        sections = [name for name in self.named("failed") if name in self.lines] or [None]
+    def errors(self, crates):
+        """What is wrong, in the sections of these crates, or before the first section."""
+        sections = [name for name in crates if name in self.lines] or [None]
         return [line for name in sections for line in self.lines[name] if ERROR.search(line)]
 
 
@@ -103,42 +109,43 @@ def show_errors(log, lines):
     say(f"The log {os.path.relpath(log)} has {f'{more} lines of errors more, and ' if more > 0 else ''}all that the prover said.")
 
 
-def prove(folder, at_once, log):
-    """Proves the crates of a folder and those that they stand on, and tells whether all are proved."""
-    command = [*RT, "all", "check", "--jobs", str(at_once)]
-    running = watch.Watch(command, folder, show, stdin=subprocess.DEVNULL, stdout=subprocess.PIPE, stderr=subprocess.STDOUT)
+def follow(command, folder, log, given=subprocess.DEVNULL):
+    """Runs a command of rt's over crates, says the line of each, and gives the command's status and the report."""
+    streams = {"stdin": given, "stdout": subprocess.PIPE, "stderr": subprocess.STDOUT}
+    running = watch.Watch(command, folder, show, **streams)
     report = Report(running)
     with open(log, "w", encoding="utf-8") as kept:
         for line in running.process.stdout:
             kept.write(line)
             kept.flush()
             report.read(line)
-    status = running.wait()
+    return running.wait(), report
+
+
+def prove(folder, at_once, log):
+    """Proves the crates of a folder and those that they stand on, and tells whether all are proved."""
+    status, report = follow([*RT, "all", "check", "--jobs", str(at_once)], folder, log)
     if status == 0:
         return True
     failed, left = report.named("failed"), report.named("not run")
     say(f"NOT PROVED: {', '.join(failed) if failed else f'rt ended with status {status}'}")
     if left:
         say(f"Not begun, since they stand on these: {', '.join(left)}")
-    show_errors(log, report.errors())
+    show_errors(log, report.errors(failed))
     return False
 
 
 def build(folder, log):
-    """Builds the proved program of a folder, which is run once on the folder's own file of standard input."""
+    """Proves and builds the program of a folder, which is run once on the folder's own file of standard input."""
     began = time.monotonic()
     given = folder / "stdin"
     with open(given if given.exists() else os.devnull, "rb") as text:
-        done = subprocess.run([*RT, "run"], cwd=folder, stdin=text, stdout=subprocess.DEVNULL, stderr=subprocess.PIPE)
-    said = done.stderr.decode(errors="replace")
-    with open(log, "a", encoding="utf-8") as kept:
-        kept.write(said)
-    if done.returncode == 0:
+        status, report = follow([*RT, "run"], folder, log, given=text)
+    if status == 0:
         say(f"{folder.name:14} built in {watch.clock(time.monotonic() - began)}: {os.path.relpath(folder)}/out/{folder.name}")
         return True
-    say(f"NOT BUILT: {folder.name}: `rt run` ended with status {done.returncode}")
-    lines = said.splitlines()
-    show_errors(log, [line for line in lines if ERROR.search(line)] or lines[-ERRORS_SHOWN:])
+    say(f"NOT BUILT: {folder.name}: `rt run` ended with status {status}, at {report.crate or 'its beginning'}")
+    show_errors(log, report.errors([report.crate]))
     return False
 
 
@@ -153,8 +160,9 @@ def main():
     log.parent.mkdir(exist_ok=True)
     if options.program and not any(TOP.glob("crates/*/out/rlib/stamp")):
         say(FIRST_BUILD)
-    say(f"Proving, {options.jobs} crates at a time; what the prover says goes to {os.path.relpath(log)}.")
-    done = prove(folder, options.jobs, log) and (not options.program or build(folder, log))
+    at_once = "one crate" if options.program else f"{options.jobs} crates"
+    say(f"Proving, {at_once} at a time; what the prover says goes to {os.path.relpath(log)}.")
+    done = build(folder, log) if options.program else prove(folder, options.jobs, log)
     sys.exit(0 if done else 1)
 
 

@@ -45,9 +45,6 @@ timer_known m n p o d number holds h =
     let due : due_of p.holds ≡ Some d = held_due o p.holds holds ∙ sym h in
     (timer_event m p d, ap (next_timer m p) due, (λ i. record { time = d.time; member = number i; rank = d.rank; a = d.name.source; b = d.name.page; c = d.name.number }), refl)
 
-pub no_timer : (m : ℕ) (p : PlainCell) (o : Option Record) → HoldsRecord o p.holds → None ≡ due_in o → next_timer m p (due_of p.holds) ≡ None
-no_timer m p o holds h = ap (next_timer m p) (held_due o p.holds holds ∙ sym h)
-
 -- ---- the sooner of two
 
 sooner_by : (m : ℕ) (c : PlainCell) (p q : Pending) (x y : Option Event) (r : Ordering) → key_cmp p.key q.key ≡ r → Stands m c (Some p) x → Stands m c (Some q) y

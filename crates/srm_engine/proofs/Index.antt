@@ -108,16 +108,6 @@ relisted ts m old new ks0 ks1 ks2 lt at ne lists enters leaves t n =
           rw (own_there old m t n e, own_there new m t n e) (ap (is_time t) (sym (get_set_other ts m n new (eqb-false m n e))))
     ] refl
 
--- one more member, without a next time
-pub listed_push : (ts : List (Option ℕ)) (ks : List (ℕ × ℕ)) → Lists ks ts → Lists ks (ts ++ None ∷ [])
-listed_push ts ks h t m = h t m ∙ more ts m
-  where
-    more : (ts : List (Option ℕ)) (m : ℕ) → is_time t (slice_get ts m) ≡ is_time t (slice_get (ts ++ None ∷ []) m)
-    more [] zero = refl
-    more [] (suc m) = refl
-    more (x ∷ ts) zero = refl
-    more (x ∷ ts) (suc m) = more ts m
-
 -- ---- the least
 
 abbrev Found : ℕ × ℕ → List (Option ℕ) → Type 0

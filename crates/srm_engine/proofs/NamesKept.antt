@@ -65,9 +65,6 @@ CellKnows rows j (Gone f) (Some x) = (m : Memory) × (x ≡ exit_of m) × (m.fix
 same_ops : (n k : Name) (a b : ℕ) → ◌≡◌ {A = Body} (Drawop n a) (Drawop k b) → (n ≡ k) × (a ≡ b)
 same_ops n k a b e = (cc, cc)
 
-same_repairs : (n k : Name) (a b : ℕ) → ◌≡◌ {A = Body} (Repair n a) (Repair k b) → (n ≡ k) × (a ≡ b)
-same_repairs n k a b e = (cc, cc)
-
 -- a body carries the name that it brings
 carries_it : (b : Body) (n : Name) (ink : ℕ) → Brings b n ink → Carries n b
 carries_it b n ink (inl e) = subst (Carries n) (sym e) refl

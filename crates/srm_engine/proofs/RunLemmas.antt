@@ -100,9 +100,6 @@ module _ (s : Setting) (end : ℕ) where
   Ends i (c ∷ cs) (n ∷ ns) (b ∷ bs) = (own_end end i n c ≡ ending b) × Ends (suc i) cs ns bs
   Ends i _ _ _ = ⊥
 
-  IsLateRow : Option Packet → Type 0
-  IsLateRow x = (p : Packet) → x ≡ Some p → (m at : ℕ) → arrival_of s.traffic p m ≡ Some at → end ≤ at
-
   off : (i a : ℕ) → i ≢ a → (i == a) ≡ false
   off i a ne = elim (i == a) as (λ x. (i == a) ≡ x → (i == a) ≡ false) [ true ↦ λ e. absurd (ne (eqb-true _ _ e)) | false ↦ λ e. e ] refl
 

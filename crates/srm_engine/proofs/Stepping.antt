@@ -154,10 +154,6 @@ module _ (s : Setting) (w : World) (ts : List (Option ℕ)) (times : AreTimes ts
       unfolding event
       member_is = (from_pair (Some (t, m)) (least_event 0 w.cells) (h ∙ least_is_event ts w.cells times)).3
 
-      pub time_is : event.key.time ≡ t
-      unfolding event
-      time_is = (from_pair (Some (t, m)) (least_event 0 w.cells) (h ∙ least_is_event ts w.cells times)).2
-
       pub is_least : before s.traffic.until (least_event 0 w.cells) ≡ Some event
       unfolding event
       is_least =

@@ -37,7 +37,7 @@ pub(crate) fn group(
 pub(crate) fn jobs(alloc: Global, groups: Vec<Vec<Cell>>, till: u64) -> Result<Vec<Job>, AllocError>
     ensures { IfOk result (λ jobs. jobs.items ≡ jobs_with till 0 groups.items) }
 {
-    let mut jobs = Vec::new(alloc);
+    let mut jobs = Vec::with_capacity(alloc, groups.len())?;
     for cells in groups {
         let place = jobs.len();
         jobs.push(Job { place, till, cells })?;

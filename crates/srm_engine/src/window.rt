@@ -1,5 +1,5 @@
 //! One window.
-ghost use Rattle.std.specs.Prelude.{◌≡◌, ◌<◌, ◌≤◌, ◌^◌, ℕ, List, map, length, All, IfOk, IsSorted, IsPermutation};
+ghost use Rattle.std.specs.Prelude.{◌≡◌, ◌<◌, ◌≤◌, ◌-◌, ◌^◌, ℕ, List, map, min, length, All, IfOk, IsSorted, IsPermutation};
 ghost use Rattle.std.specs.Ordering.{is_lt};
 ghost use Rattle.srm_scenario.specs.Plain.{network_of};
 ghost use Rattle.srm_scenario.specs.Accepted.{IsAccepted};
@@ -39,14 +39,30 @@ fn merge(alloc: Global, rows: Vec<Vec<Row>>) -> Result<Vec<Row>, AllocError>
     ensures { IfOk result (λ v. IsPermutation (joined (map (λ v. v.items) rows.items)) v.items
         × IsSorted row_cmp v.items) }
 {
-    rows.into_iter()
-        .kmerge_by(
-            alloc,
-            |a: &Row, b: &Row| -> bool
-                ensures { result ≡ is_lt (row_cmp a.now b.now) }
-            { a.key < b.key },
-        )?
-        .collect(alloc)
+    if rows.len() < 2 {
+        let mut rows = rows;
+        return Ok(rows.pop().unwrap_or(Vec::new(alloc)));
+    }
+    let mut merged = Vec::with_capacity(alloc, count_rows(rows.as_slice()))?;
+    let in_order = rows.into_iter().kmerge_by(
+        alloc,
+        |a: &Row, b: &Row| -> bool
+            ensures { result ≡ is_lt (row_cmp a.now b.now) }
+        { a.key < b.key },
+    )?;
+    merged.extend(in_order)?;
+    Ok(merged)
+}
+
+// How many rows there are in all lists, or the greatest number where there are more.
+fn count_rows(lists: &[Vec<Row>]) -> usize
+    ensures { result ≡ min (2 ^ 64 - 1) (length (joined (map (λ v. v.items) lists.now))) }
+{
+    let mut count: usize = 0;
+    for rows in lists {
+        count = count.saturating_add(rows.len());
+    }
+    count
 }
 
 // The own runs of all cells to an end, by a crew; and the lists of rows that are not empty.

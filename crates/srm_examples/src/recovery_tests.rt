@@ -30,7 +30,7 @@ fn lead(
     requires active { role ≢ Listener }
     requires least { c1 ≤ 64000 }
     requires more { c2 ≤ 64000 }
-    requires distances { All (λ d. d ≤ 255000000) dist.now }
+    requires distances { All (λ d. d ≤ 1023000000) dist.now }
 {
     let fixed = Fixed {
         member: story.member,

@@ -102,7 +102,7 @@ const WIDTH: OptionLine = OptionLine {
     name: "width",
     takes: "least|promise|N",
     default: "least",
-    about: "How wide windows are: the least delay of a link, as members promise, or so many ticks, from 1 to that delay",
+    about: "How wide windows are: the least delay of a link, as members promise, or ticks, from 1 to that delay",
     reader: Reader::Text,
 };
 

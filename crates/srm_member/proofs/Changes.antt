@@ -352,9 +352,6 @@ if_either Q false x y h g = g refl
 abbrev Got : Memory → Body → Reaction → Type 0
 Got m b r = Quiet m r ⊎ Brought m b r
 
-lt_of : (a b : ℕ) → nat_lt a b ≡ true → a < b
-lt_of a b h = ltb-true a b h
-
 le_of : (a b : ℕ) → nat_le a b ≡ true → a ≤ b
 le_of a b h = Rattle.std.proofs.Common.leb-true a b h
 

@@ -29,9 +29,6 @@ lose_from-end at p k to m h = ap (λ c. lose_from at p c k m) (none_left k to h)
 pub names_from-next : (p : PageId) (k to : ℕ) → k < to → names_from p (to - k) k ≡ name_in p k ∷ names_from p (to - (k + 1)) (k + 1)
 names_from-next p k to h = ap (λ c. names_from p c k) (one_more k to h) ∙ ap (λ j. name_in p k ∷ names_from p (to - (k + 1)) j) (next_one k)
 
-pub names_from-end : (p : PageId) (k to : ℕ) → to ≤ k → names_from p (to - k) k ≡ []
-names_from-end p k to h = ap (λ c. names_from p c k) (none_left k to h)
-
 pub informed-turn : (at : ℕ) (hs : List Heard) (i : ℕ) (d : Heard) (m m2 : Memory) (lost lost2 : List Name) → i < length hs → m2 ≡ after_entry at (get_or hs i d) m → lost2 ≡ lost ++ lost_by_entry (get_or hs i d) m
     → informed at (drop (i + 1) hs) m2 lost2 ≡ informed at (drop i hs) m lost
 unfolding informed

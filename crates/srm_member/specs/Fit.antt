@@ -7,13 +7,13 @@ use Rattle.srm_net.specs.declared.packet.Heard.{Heard}
 use Rattle.srm_member.specs.Record.{Memory, Record, Active, Gone, Stream}
 use Rattle.srm_member.specs.React.{Reaction}
 
--- constants are at most 64,000 thousandths, and distances at most 255,000,000 ticks
+-- constants are at most 64,000 thousandths, and distances at most 1,023,000,000 ticks
 pub record IsFit (f : Fixed) : Type 0 where
   pub c1 : f.c1 ≤ 64000
   pub c2 : f.c2 ≤ 64000
   pub d1 : f.d1 ≤ 64000
   pub d2 : f.d2 ≤ 64000
-  pub dist : All (λ d. d ≤ 255000000) f.dist
+  pub dist : All (λ d. d ≤ 1023000000) f.dist
 
 -- the answer and what the member then knows are those of the table
 abbrev pub Gives : React → Memory → Reaction → Type 0

@@ -17,7 +17,7 @@ pub struct Fixed {
     pub d1: u32,
     /// By how much a repair timer may be longer, in thousandths (D2).
     pub d2: u32,
-    /// The distance to each member that its timers and rests go by, in ticks: at most 255,000,000. Of a member of a scenario it is half
+    /// The distance to each member that its timers and rests go by, in ticks: at most 1,023,000,000. Of a member of a scenario it is half
     /// the round trip, rounded down.
     pub dist: Sequence<u64>,
     /// Of a late member, the pages whose earlier operations it asks for.

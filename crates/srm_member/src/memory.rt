@@ -83,7 +83,7 @@ impl Memory {
     // The distance to a member that timers and rests go by, in ticks.
     fn distance_to(&self, who: u16) -> u64
         ensures value { result ≡ distance_to self.now who }
-        ensures bound { result ≤ 255000000 }
+        ensures bound { result ≤ 1023000000 }
     {
         self.fixed
             .dist
@@ -97,10 +97,10 @@ impl Memory {
     fn length(&mut self, i: u32, x: u32, y: u32, d: u64) -> u64
         requires least { x ≤ 64000 }
         requires more { y ≤ 64000 }
-        requires distance { d ≤ 255000000 }
+        requires distance { d ≤ 1023000000 }
         ensures length { result ≡ length_in self.old (Timers.span i x y d) }
         ensures word { self.new ≡ with_next_word self.old }
-        ensures bound { result < 2 ^ 45 }
+        ensures bound { result < 2 ^ 47 }
     {
         let (lo, hi) = span(i, x, y, d);
         draw(self.words.next_word(), lo, hi)
@@ -110,7 +110,7 @@ impl Memory {
     fn request_length(&mut self, i: u32, name: Name) -> u64
         ensures length { result ≡ request_length self.old i name }
         ensures word { self.new ≡ with_next_word self.old }
-        ensures bound { result < 2 ^ 45 }
+        ensures bound { result < 2 ^ 47 }
     {
         let distance = self.distance_to(name.source);
         self.length(i, self.fixed.c1, self.fixed.c2, distance)
@@ -120,7 +120,7 @@ impl Memory {
     fn repair_length(&mut self, who: u16) -> u64
         ensures length { result ≡ repair_length self.old who }
         ensures word { self.new ≡ with_next_word self.old }
-        ensures bound { result < 2 ^ 45 }
+        ensures bound { result < 2 ^ 47 }
     {
         let distance = self.distance_to(who);
         self.length(0, self.fixed.d1, self.fixed.d2, distance)
@@ -277,7 +277,7 @@ impl Memory {
     // pending repair timer, or without one to the member that sent the repair.
     fn base(&self, name: Name, who: u16) -> u64
         ensures value { result ≡ base self.now name who }
-        ensures bound { result ≤ 255000000 }
+        ensures bound { result ≤ 1023000000 }
     {
         if name.source != self.fixed.member {
             return self.distance_to(name.source);

@@ -9,10 +9,10 @@ ghost use Rattle.srm_member.specs.Timers;
 pub fn span(i: u32, x: u32, y: u32, d: u64) -> (u64, u64)
     requires least { x ≤ 64000 }
     requires more { y ≤ 64000 }
-    requires distance { d ≤ 255000000 }
+    requires distance { d ≤ 1023000000 }
     ensures value { result ≡ Timers.span i x y d }
     ensures order { result.0 ≤ result.1 }
-    ensures bound { result.1 < 2 ^ 45 }
+    ensures bound { result.1 < 2 ^ 47 }
 {
     let doubled = 2u64.pow(i.min(10));
     let least = u64::from(x);
@@ -27,9 +27,9 @@ pub fn span(i: u32, x: u32, y: u32, d: u64) -> (u64, u64)
 fn thousandths(n: u64, x: u64, d: u64) -> u64
     requires times { n ≤ 1024 }
     requires part { x ≤ 128000 }
-    requires whole { d ≤ 255000000 }
+    requires whole { d ≤ 1023000000 }
     ensures value { result ≡ n * x * d / 1000 }
-    ensures bound { result < 2 ^ 45 }
+    ensures bound { result < 2 ^ 47 }
 {
     n * x * d / 1000
 }

@@ -23,7 +23,9 @@ more_lines xs ys = flat_map-append trace_line xs ys
 
 -- the text of more rows is longer
 pub next_more : (at : Standing) (xs ys : List Row) → text_next at (xs ++ ys) ≡ text_next at xs ++ trace_lines ys
-next_more at xs ys = ap (λ (l : List ℕ). lead at ++ l) (more_lines xs ys) ∙ sym (append_assoc (lead at) (trace_lines xs) (trace_lines ys))
+next_more at xs ys =
+    ap (λ (l : List ℕ). lead at ++ l) (more_lines xs ys)
+    ∙ sym (append_assoc (lead at) (trace_lines xs) (trace_lines ys))
 
 none_text : (at : Standing) → IsText at at [] []
 none_text Fresh = (refl, refl, refl)
@@ -32,7 +34,9 @@ none_text NoMemory = sym no_lines
 none_text Stopped = sym no_lines
 
 -- after these rows, those that come next have no header, or these were none
-text_after : (at mid : Standing) (xs ys : List Row) (t : List ℕ) → IsText at mid xs t → text_next at (xs ++ ys) ≡ t ++ text_next mid ys
+text_after :
+    (at mid : Standing) (xs ys : List Row) (t : List ℕ) → IsText at mid xs t
+    → text_next at (xs ++ ys) ≡ t ++ text_next mid ys
 text_after at Fresh xs ys t h =
     ap (λ (s : Standing). text_next s (xs ++ ys)) h.0 ∙ ap (λ (l : List Row). text_next Fresh (l ++ ys)) h.1
     ∙ ap (λ (l : List ℕ). l ++ text_next Fresh ys) (sym h.2)
@@ -84,9 +88,11 @@ module _ {O : Type 0} (taken : O → Option (List ℕ)) where
   pub wrote_none : (a : TraceSink O) → Wrote taken a [] a
   wrote_none a = record { bytes = Appends-nil (taken (outlet_under a)); counted = count_none (written_by a) }
 
-  pub wrote_more : (a b c : TraceSink O) (t u : List ℕ) → Wrote taken a t b → Wrote taken b u c → Wrote taken a (t ++ u) c
+  pub wrote_more :
+      (a b c : TraceSink O) (t u : List ℕ) → Wrote taken a t b → Wrote taken b u c → Wrote taken a (t ++ u) c
   wrote_more a b c t u h k = record {
-    bytes = Appends-trans (taken (outlet_under a)) (taken (outlet_under b)) (taken (outlet_under c)) t u h.bytes k.bytes;
+    bytes =
+        Appends-trans (taken (outlet_under a)) (taken (outlet_under b)) (taken (outlet_under c)) t u h.bytes k.bytes;
     counted = subst (λ n. GrewBy (written_by a) n (written_by c)) (sym (length-append t u))
         (count_more (written_by a) (length t) (written_by b) (length u) (written_by c) h.counted k.counted);
   }
@@ -94,7 +100,8 @@ module _ {O : Type 0} (taken : O → Option (List ℕ)) where
   pub all_none : (a : TraceSink O) → PutsAll taken a [] a
   all_none a = ([], append-nil (gathered_by a), wrote_none a)
 
-  pub all_more : (a b c : TraceSink O) (t u : List ℕ) → PutsAll taken a t b → PutsAll taken b u c → PutsAll taken a (t ++ u) c
+  pub all_more :
+      (a b c : TraceSink O) (t u : List ℕ) → PutsAll taken a t b → PutsAll taken b u c → PutsAll taken a (t ++ u) c
   all_more a b c t u h k = (
     h.0 ++ k.0,
     joins (gathered_by a) t h.0 (gathered_by b) u k.0 (gathered_by c) h.1 k.1,
@@ -104,7 +111,9 @@ module _ {O : Type 0} (taken : O → Option (List ℕ)) where
   pub front_none : (a : TraceSink O) (t : List ℕ) → PutsFront taken a t a
   front_none a t = ([], gathered_by a ++ t, refl, wrote_none a)
 
-  pub front_more : (a b c : TraceSink O) (t u : List ℕ) → PutsAll taken a t b → PutsFront taken b u c → PutsFront taken a (t ++ u) c
+  pub front_more :
+      (a b c : TraceSink O) (t u : List ℕ) → PutsAll taken a t b → PutsFront taken b u c
+      → PutsFront taken a (t ++ u) c
   front_more a b c t u h k = (
     h.0 ++ k.0,
     k.1,
@@ -123,14 +132,18 @@ module _ {O : Type 0} (taken : O → Option (List ℕ)) where
   pub rows_none : (a : TraceSink O) → PutsRows taken a [] a
   rows_none a = ([], none_text a.standing, all_none a)
 
-  pub rows_more : (a b c : TraceSink O) (xs ys : List Row) → PutsRows taken a xs b → PutsRows taken b ys c → PutsRows taken a (xs ++ ys) c
+  pub rows_more :
+      (a b c : TraceSink O) (xs ys : List Row) → PutsRows taken a xs b → PutsRows taken b ys c
+      → PutsRows taken a (xs ++ ys) c
   rows_more a b c xs ys h k =
       (h.0 ++ k.0, text_more a.standing b.standing c.standing xs ys h.0 k.0 h.1 k.1, all_more a b c h.0 k.0 h.2 k.2)
 
   pub part_none : (a : TraceSink O) → PutsPart taken a [] a
   part_none a = front_none a (text_next a.standing [])
 
-  pub part_more : (a b c : TraceSink O) (xs ys : List Row) → PutsRows taken a xs b → PutsPart taken b ys c → PutsPart taken a (xs ++ ys) c
+  pub part_more :
+      (a b c : TraceSink O) (xs ys : List Row) → PutsRows taken a xs b → PutsPart taken b ys c
+      → PutsPart taken a (xs ++ ys) c
   part_more a b c xs ys h k =
       subst (λ (l : List ℕ). PutsFront taken a l c) (sym (text_after a.standing b.standing xs ys h.0 h.1))
       (front_more a b c h.0 (text_next b.standing ys) h.2 k)

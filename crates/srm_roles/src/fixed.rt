@@ -49,7 +49,7 @@ pub fn fixed_of(
 fn half_rounds(alloc: Global, net: &Net, m: u16) -> Result<Sequence<u64>, AllocError>
     requires { m < length net.now.hosts }
     ensures value { IfOk result (λ ds. ds ≡ half_rounds_from net.now m) }
-    ensures bounded { IfOk result (All (λ d. d ≤ 255000000)) }
+    ensures bounded { IfOk result (All (λ d. d ≤ 1023000000)) }
 {
     let mut dist = Sequence::new(alloc);
     for b in 0..net.members() {

@@ -211,7 +211,8 @@ receiver_that_leaves_totals = 2 ∷ 0 ∷ 0 ∷ 0 ∷ 0 ∷ []
 
 -- and what its members end with
 abbrev pub receiver_that_leaves_exits : List Exit
-receiver_that_leaves_exits = an_exit 0 ((name 0 0 0, 7) ∷ (name 0 0 1, 8) ∷ []) [] ∷ an_exit 1 ((name 0 0 0, 7) ∷ []) [] ∷ []
+receiver_that_leaves_exits =
+    an_exit 0 ((name 0 0 0, 7) ∷ (name 0 0 1, 8) ∷ []) [] ∷ an_exit 1 ((name 0 0 0, 7) ∷ []) [] ∷ []
 
 -- a late joiner asks for the page that it wants, and not for the other: its trace
 abbrev pub late_joiner_trace : List Brief

@@ -6,5 +6,5 @@ use Rattle.srm_roles.proofs.fixed.half_rounds.Given as goal
 abbrev pub invariant-loop-b : goal.invariant-loop-b
 invariant-loop-b l = record {
   value : l.dist ≡ map (λ b. round l.net l.m b / 2) (range_with_len 0 l.b);
-  bounded : All (λ d. d ≤ 255000000) l.dist;
+  bounded : All (λ d. d ≤ 1023000000) l.dist;
 }
