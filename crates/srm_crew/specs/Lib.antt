@@ -3,3 +3,4 @@ pub mod Notes
 pub mod Places
 pub mod Passes
 pub mod Shared
+pub mod Recorded

@@ -19,7 +19,9 @@ pub struct PlainCrew {}
 
 impl PlainCrew {
     /// It takes no memory.
-    pub fn new() -> PlainCrew {
+    pub fn new() -> PlainCrew
+        ensures { ⟦<PlainCrew as Crew>⟧.ready result }
+    {
         PlainCrew {}
     }
 }

@@ -35,8 +35,12 @@ pub struct Recording {
 }
 
 impl Recording {
+    ghost use Rattle.srm_crew.specs.Recorded.{calls_of};
+
     /// It has noted nothing yet.
-    pub fn new(alloc: Global) -> Recording {
+    pub fn new(alloc: Global) -> Recording
+        ensures { calls_of result ≡ [] }
+    {
         Recording {
             inner: PlainCrew::new(),
             calls: Vec::new(alloc),
@@ -44,7 +48,9 @@ impl Recording {
     }
 
     /// The calls so far.
-    pub fn calls(&self) -> &[Sequence<Note>] {
+    pub fn calls(&self) -> &[Sequence<Note>]
+        ensures { result.now ≡ calls_of self.now }
+    {
         self.calls.as_slice()
     }
 }

@@ -81,35 +81,28 @@ module _ {X : Type 0} {H : X → Type 0} (f : DynBox X Global H → Record) (n :
   Fit [] = Unit {0}
   Fit (p ∷ ps) = ((length p.cells ≤ 1024) × AreMembers n p.cells) × Fit ps
 
-  fit_jobs : (js : List (Job X H)) → All (λ j. MayAdvance f n j) js → (ps : List PlainJob) × AreJobs f js ps × Fit ps × (length ps ≡ length js)
-  fit_jobs [] h = ([], tt, tt, refl)
+  fit_jobs : (js : List (Job X H)) → All (λ j. MayAdvance f n j) js → (ps : List PlainJob) × AreJobs f js ps × Fit ps
+  fit_jobs [] h = ([], tt, tt)
   fit_jobs (j ∷ js) h =
       let one = All-head (λ j. MayAdvance f n j) j js h in
       let more = fit_jobs js (All-tail (λ j. MayAdvance f n j) j js h) in
-      (one.plain_job ∷ more.0, (one.is, more.1), ((one.few, one.of_members), more.2), ap suc more.3)
+      (one.plain_job ∷ more.0, (one.is, more.1), ((one.few, one.of_members), more.2))
 
   known_cells : (t : Traffic) (ps : List PlainJob) (ds : List (job.Done X H)) → AllZip (λ p d. IsDone f t p d) ps ds → Fit ps
-      → All (λ (d : job.Done X H). AreKnown f n d.cells.items) ds × (length ds ≡ length ps)
-  known_cells t [] [] z fit = (All-nil (λ (d : job.Done X H). AreKnown f n d.cells.items), refl)
+      → All (λ (d : job.Done X H). AreKnown f n d.cells.items) ds
+  known_cells t [] [] z fit = All-nil (λ (d : job.Done X H). AreKnown f n d.cells.items)
   known_cells t [] (d ∷ ds) z fit = absurd z
   known_cells t (p ∷ ps) [] z fit = absurd z
   known_cells t (p ∷ ps) (d ∷ ds) z fit =
       let one = ran_cells p.till p.cells d.rows.items d.cells.items z.0.runs fit.0.1 in
       let more = known_cells t ps ds z.1 fit.1 in
       let few : length one.0 ≤ 1024 = (let e = one.3 in let le = fit.0.0 in omega arith) in
-      (All-cons (λ (d : job.Done X H). AreKnown f n d.cells.items) d ds (record { seen = one.0; are = one.1; of_members = one.2; few = few }) more.0, ap suc more.1)
+      All-cons (λ (d : job.Done X H). AreKnown f n d.cells.items) d ds (record { seen = one.0; are = one.1; of_members = one.2; few = few }) more
 
   -- the cells of what a crew has done of such jobs are cells of members
   pub known_done : (k : PlainScenario) (net : Network) (seat : SeatView) (js : List (Job X H)) (r : Vec (job.Done X H) × SeatView) → MayMap f n js → Maps f k net seat js (Ok r)
       → All (λ (d : job.Done X H). AreKnown f n d.cells.items) r.0.items
-  known_done k net seat js r h m = let fit = fit_jobs js h.jobs in (known_cells (traffic_of k net) fit.0 r.0.items (m.tells fit.0 fit.1).0 fit.2).0
-
-  -- as many jobs are done as it was handed
-  pub few_done : (k : PlainScenario) (net : Network) (seat : SeatView) (js : List (Job X H)) (r : Vec (job.Done X H) × SeatView) → MayMap f n js → Maps f k net seat js (Ok r) → length r.0.items ≤ 1024
-  few_done k net seat js r h m =
-      let fit = fit_jobs js h.jobs in
-      let a = (known_cells (traffic_of k net) fit.0 r.0.items (m.tells fit.0 fit.1).0 fit.2).1 in
-      let b = fit.3 in let c = h.few in omega arith
+  known_done k net seat js r h m = let fit = fit_jobs js h.jobs in known_cells (traffic_of k net) fit.0 r.0.items (m.tells fit.0 fit.1).0 fit.2
 
   -- the seat is still one of its ledger
   pub same_ledger : (k : PlainScenario) (net : Network) (seat : SeatView) (js : List (Job X H)) (r : Vec (job.Done X H) × SeatView) → MayMap f n js → Maps f k net seat js (Ok r) → r.1.ledger ≡ seat.ledger

@@ -1,7 +1,7 @@
 //! Runs in windows whose rows are taken as they come: how far such a run is when they are.
 ghost use Rattle.srm_engine.specs.declared.sink.Stage.{Stage as AStage};
 
-use crate::streaming::stream_in_windows;
+use crate::streaming::stream_text;
 use srm_crew::recording::{Note, Recording};
 use srm_engine::sink::{RowSink, SinkFault, Stage};
 use srm_engine::stream_fault::StreamFault;
@@ -12,8 +12,6 @@ use srm_report::fault::ReportFault;
 use srm_report::outlet::WriteOutlet;
 use srm_report::trace::trace_text;
 use srm_report::trace_sink::TraceSink;
-use srm_scenario::feed::ReadFeed;
-use srm_scenario::reading::read_scenario;
 use std::alloc::Global;
 use std::io;
 use std::io::Write;
@@ -100,9 +98,7 @@ const fn all_five(till: u64) -> Note {
 #[test]
 fn a_run_ends_with_the_window_after_which_its_sink_fails(rt: HostRuntime) -> Result<(), Fail> {
     let alloc = rt.alloc();
-    let mut feed = ReadFeed::new(CHAIN_OF_FIVE_ONE_LOSS.scenario.as_bytes());
-    let scenario = read_scenario(alloc, &mut feed)?;
-    let net = scenario.net(alloc)?;
+    let text = CHAIN_OF_FIVE_ONE_LOSS.scenario;
     let reacts = Arc::new(alloc, AtomicU64::new(0))?;
     let mut crew = Recording::new(alloc);
     let mut sink = Failing {
@@ -111,7 +107,7 @@ fn a_run_ends_with_the_window_after_which_its_sink_fails(rt: HostRuntime) -> Res
         calls_left: 2,
         failures: 0,
     };
-    let fault = stream_in_windows(alloc, &scenario, &net, &reacts, &mut crew, TICKS, &mut sink)?;
+    let fault = stream_text(alloc, text, &reacts, &mut crew, TICKS, &mut sink)?;
     assert_eq!(rt; fault, Some(StreamFault::Stopped { written: 6 }));
     expect_two_windows(&rt, &crew);
     expect_front(&rt, alloc, &sink)
@@ -167,9 +163,7 @@ const HEADER: &str = "time,member,cause,ref,result,lost,sent\n";
 #[test]
 fn rows_are_written_before_later_windows_are_run(rt: HostRuntime) -> Result<(), Fail> {
     let alloc = rt.alloc();
-    let mut feed = ReadFeed::new(CHAIN_OF_FIVE_ONE_LOSS.scenario.as_bytes());
-    let scenario = read_scenario(alloc, &mut feed)?;
-    let net = scenario.net(alloc)?;
+    let text = CHAIN_OF_FIVE_ONE_LOSS.scenario;
     let reacts = Arc::new(alloc, AtomicU64::new(0))?;
     let mut outlet = WriteOutlet::new(Noting {
         number: Arc::try_clone(&reacts)?,
@@ -178,7 +172,7 @@ fn rows_are_written_before_later_windows_are_run(rt: HostRuntime) -> Result<(), 
     });
     let mut crew = Recording::new(alloc);
     let mut sink = TraceSink::over(alloc, &mut outlet);
-    let fault = stream_in_windows(alloc, &scenario, &net, &reacts, &mut crew, TICKS, &mut sink)?;
+    let fault = stream_text(alloc, text, &reacts, &mut crew, TICKS, &mut sink)?;
     assert_eq!(rt; fault, None);
     drop(sink);
     assert_eq!(rt; outlet.into_inner().noted, Some(2));

@@ -16,15 +16,17 @@ use srm_roles::late::Late;
 use srm_roles::listener::Listener;
 use srm_roles::receiver::Receiver;
 use srm_roles::sender::Sender;
+use srm_scenario::feed::ReadFeed;
+use srm_scenario::reading::read_scenario;
 use srm_scenario::scenario::Scenario;
 use std::alloc::Global;
 use std::sync::Arc;
 use std::sync::atomic::AtomicU64;
 use std::test::Fail;
 
-/// Runs the members of a scenario in windows, made by their roles with random words of seed 0; the senders count how
-/// often they react. Why the run was refused, if it was.
-pub(crate) fn stream_in_windows<S: RowSink>(
+// Runs the members of a scenario in windows, made by their roles with random words of seed 0; the senders count how
+// often they react. Why the run was refused, if it was.
+fn stream_in_windows<S: RowSink>(
     alloc: Global,
     scenario: &Scenario,
     net: &Net,
@@ -52,4 +54,23 @@ pub(crate) fn stream_in_windows<S: RowSink>(
         members.push(member)?;
     }
     Ok(window_stream(alloc, scenario, net, members, crew, windows, sink).err())
+}
+
+/// Runs the members of a scenario's text in windows, made by their roles with random words of seed 0; the senders count
+/// how often they react. Why the run was refused, if it was.
+pub(crate) fn stream_text<S: RowSink>(
+    alloc: Global,
+    text: &str,
+    reacts: &Arc<AtomicU64>,
+    crew: &mut Recording,
+    windows: Windows,
+    sink: &mut S,
+) -> Result<Option<StreamFault>, Fail>
+    requires open { IsOpen (S.stage sink.old) }
+    requires failures { S.failures sink.old < 2 ^ 64 - 1 }
+{
+    let mut feed = ReadFeed::new(text.as_bytes());
+    let scenario = read_scenario(alloc, &mut feed)?;
+    let net = scenario.net(alloc)?;
+    stream_in_windows(alloc, &scenario, &net, reacts, crew, windows, sink)
 }

@@ -1,11 +1,9 @@
 //! The windows of whole runs, as a crew that notes its calls is handed them.
-use crate::streaming::stream_in_windows;
+use crate::streaming::stream_text;
 use srm_crew::recording::{Note, Recording};
 use srm_engine::kept_rows::KeptRows;
 use srm_engine::width::{Width, Windows};
 use srm_examples::scenarios::{A_SENDER_AND_TWO_LISTENERS, STAR_LOSS_AT_THE_SOURCE};
-use srm_scenario::feed::ReadFeed;
-use srm_scenario::reading::read_scenario;
 use std::alloc::Global;
 use std::process::Abort;
 use std::sync::Arc;
@@ -14,15 +12,10 @@ use std::test::Fail;
 
 // The crew to which the windows of a scenario's run were handed.
 fn recorded(alloc: Global, text: &str, windows: Windows) -> Result<Recording, Fail> {
-    let mut feed = ReadFeed::new(text.as_bytes());
-    let scenario = read_scenario(alloc, &mut feed)?;
-    let net = scenario.net(alloc)?;
     let reacts = Arc::new(alloc, AtomicU64::new(0))?;
     let mut crew = Recording::new(alloc);
     let mut kept = KeptRows::new(alloc);
-    match stream_in_windows(
-        alloc, &scenario, &net, &reacts, &mut crew, windows, &mut kept,
-    )? {
+    match stream_text(alloc, text, &reacts, &mut crew, windows, &mut kept)? {
         None => Ok(crew),
         Some(_) => Err(Fail::from("no memory")),
     }

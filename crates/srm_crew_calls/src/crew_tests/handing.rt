@@ -122,6 +122,7 @@ pub(crate) fn idle_jobs(
 
 // The jobs of the same cells up to another end, and what was done.
 fn next_jobs(
+    rt: &impl Abort,
     alloc: Global,
     net: &Net,
     all: Vec<Done>,
@@ -129,7 +130,6 @@ fn next_jobs(
 ) -> Result<(Vec<Job>, Window), AllocError>
     requires known { All (λ d. AreKnown (λ b. (⟦<dyn Member as Member>⟧ b.vtable).plain b.value)
         (length net.now.hosts) d.cells.items) all.items }
-    requires few { length all.items ≤ 1024 }
     requires till { till ≤ 2 ^ 40 }
     ensures { IfOk result (λ r. MayMap (λ b. (⟦<dyn Member as Member>⟧ b.vtable).plain b.value)
         (length net.now.hosts) r.0.items) }
@@ -138,15 +138,15 @@ fn next_jobs(
     let mut jobs = Vec::new(alloc);
     for done in all {
         window.add(&done)?;
-        let place = jobs.len();
         let Done { cells, .. } = done;
-        jobs.push(Job { place, till, cells })?;
+        add_job(rt, net, &mut jobs, till, cells)?;
     }
     Ok((jobs, window))
 }
 
 /// Hands a window's jobs to a crew. Gives the same cells' jobs up to another end, the seat, and what was done.
 pub(crate) fn map_window<C: Crew>(
+    rt: &impl Abort,
     alloc: Global,
     crew: &mut C,
     scenario: &Scenario,
@@ -170,7 +170,7 @@ pub(crate) fn map_window<C: Crew>(
         Ok(mapped) => mapped,
         Err(fault) => return Err(fault),
     };
-    let Ok((next, window)) = next_jobs(alloc, net, all, till) else {
+    let Ok((next, window)) = next_jobs(rt, alloc, net, all, till) else {
         return Err(CrewFault::NoMemory);
     };
     Ok((next, seat, window))

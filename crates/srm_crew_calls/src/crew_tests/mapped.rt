@@ -60,7 +60,7 @@ fn map_both<C: Crew>(
 {
     let [_, end] = case.ends;
     assert!(rt; end <= LAST_END);
-    let (jobs, seat) = match map_window(alloc, crew, scenario, net, ledger, seat, jobs, end) {
+    let (jobs, seat) = match map_window(rt, alloc, crew, scenario, net, ledger, seat, jobs, end) {
         Ok((jobs, seat, window)) => {
             case.expect(rt, 0, &window);
             (jobs, seat)
@@ -70,7 +70,7 @@ fn map_both<C: Crew>(
             return Ok(None);
         }
     };
-    match map_window(alloc, crew, scenario, net, ledger, seat, jobs, end) {
+    match map_window(rt, alloc, crew, scenario, net, ledger, seat, jobs, end) {
         Ok((_jobs, seat, window)) => {
             case.expect(rt, 1, &window);
             Ok(Some(seat))

@@ -43,7 +43,9 @@ fn map_with_least_seat<R: Abort + Threads + Wait + Sync>(
     let seat = least_seat(alloc, &ledger, seat)?;
     let jobs = idle_jobs(rt, alloc, &net, 4)?;
     let mut crew = BagCrew::new(rt, OpenGate, 4);
-    let seat = match map_window(alloc, &mut crew, &scenario, &net, &ledger, seat, jobs, 0) {
+    let seat = match map_window(
+        rt, alloc, &mut crew, &scenario, &net, &ledger, seat, jobs, 0,
+    ) {
         Ok((_jobs, seat, _window)) => seat,
         Err(fault) => {
             assert_eq!(rt; fault, CrewFault::NoMemory);

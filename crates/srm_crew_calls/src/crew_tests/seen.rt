@@ -7,8 +7,8 @@ use srm_member::told::Told;
 use srm_net::sequence::Sequence;
 use std::alloc::{AllocError, Global};
 
-/// A row: when its event was, in ticks; whose it was, of which kind, and what came of it; and the count of the packet that was
-/// sent.
+/// A row: when its event was, in ticks; whose it was, of which kind, and what came of it; and the count of the packet
+/// that was sent.
 pub(crate) type Seen = (u64, u16, Word, Told, Option<u64>);
 
 fn row_seen(row: &Row) -> Seen {

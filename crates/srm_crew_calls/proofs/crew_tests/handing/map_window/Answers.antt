@@ -1,5 +1,5 @@
 use Rattle.std.proofs.Common.{◌∙◌, length}
-use Rattle.srm_crew_calls.proofs.HandedLemmas.{known_done, few_done, same_ledger}
+use Rattle.srm_crew_calls.proofs.HandedLemmas.{known_done, same_ledger}
 use Rattle.srm_crew_calls.proofs.crew_tests.handing.map_window.Goals as goal
 
 pub map-requires-clause-jobs : goal.map-requires-clause-jobs
@@ -14,10 +14,6 @@ map-requires-clause-places g c = c.requires.jobs.places
 pub next_jobs-requires-clause-known : goal.next_jobs-requires-clause-known
 next_jobs-requires-clause-known g c =
     known_done (λ b. (goal.Member-dyn g (b.vtable, b.value)).plain b.value) (length c.args.net.now.hosts) c.args.scenario.now c.args.net.now c.args.seat c.args.jobs.items c.in-Ok.mapped c.requires.jobs c.in-Ok.ensures.done
-
-pub next_jobs-requires-clause-few : goal.next_jobs-requires-clause-few
-next_jobs-requires-clause-few g c =
-    few_done (λ b. (goal.Member-dyn g (b.vtable, b.value)).plain b.value) (length c.args.net.now.hosts) c.args.scenario.now c.args.net.now c.args.seat c.args.jobs.items c.in-Ok.mapped c.requires.jobs c.in-Ok.ensures.done
 
 pub returns-clause-seat : goal.returns-clause-seat
 returns-clause-seat g c =
