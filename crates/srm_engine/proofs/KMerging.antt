@@ -8,7 +8,7 @@ use Rattle.std.proofs.lemmas.List.Elements.{recursion_from_All}
 use Rattle.std.specs.Global.{Global, Vec}
 use Rattle.std.specs.List.Sorted.{IsSortedBy}
 use Rattle.std.specs.Iterator.{AlwaysYields, Drains, DrainsIf}
-use Rattle.std.specs.Iterator.Runs.{Run, YieldsRun, EveryRun, ItemsAre}
+use Rattle.std.specs.Iterator.Runs.{EveryRun, ItemsAre}
 use Rattle.std.specs.Vec.Iter.{into_iter_items, into_iter_len, into_iter_steps}
 use Rattle.std.specs.declared.vec.IntoIter.{IntoIter}
 use Rattle.std.proofs.iter.Yields.{listed}

@@ -100,6 +100,13 @@ module _ {X : Type 0} {H : X → Type 0} (f : DynBox X Global H → Record) (cut
       at_offset : (m : ℕ) → k * cut ≤ m → (j : ℕ) × (m ≡ k * cut + j)
       at_offset m le = (m - k * cut, omega arith)
 
+  -- what a look at the cells of group k tells is how soon something is due in the group
+  pub looked_at : (s : Setting) (k : ℕ) (g : Vec (Cell X H)) (own : List (Cell X H)) (x : Soonest) → k < length gs → g ≡ get_or gs k g → own ≡ g.items
+      → (AreThose f (k * cut) own ps → IsSoonest s (IsAmong (k * cut) (length own)) ps x) → IsSoonest s (λ m. m / cut ≡ k) ps x
+  looked_at s k g own x lt is same told =
+      let those = subst (λ l. AreThose f (k * cut) l ps) (sym same) (those_of_group k g lt is) in
+      soonest_of_group s k g x lt is (subst (λ l. IsSoonest s (IsAmong (k * cut) (length l)) ps x) same (told those))
+
   pub group_below : (m : ℕ) → m < length ps → m / cut < length gs
   group_below m lt = let all = h.cells.as_many in (at_place cut gs m m pos h.cuts refl (omega arith)).group
 

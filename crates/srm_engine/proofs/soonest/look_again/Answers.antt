@@ -1,12 +1,12 @@
-use Rattle.std.proofs.Common.{◌≡◌, ◌∙◌, ◌<◌, ◌≤◌, ◌*◌, ◌/◌, Some, sym, ap, subst, arith, length, get_or, slice_get}
+use Rattle.std.proofs.Common.{◌≡◌, ◌∙◌, ◌<◌, ◌≤◌, ◌/◌, Some, sym, ap, subst, arith, length, get_or, slice_get}
 use Rattle.std.proofs.lemmas.Option.{slice_get-get_or}
 use Rattle.srm_scenario.proofs.Members.{few_members}
 use Rattle.srm_cell.specs.Setting.{setting_of}
 use Rattle.srm_engine.specs.declared.soonest.Soonest.{Soonest}
 use Rattle.srm_engine.specs.WindowRuns.{cells_in}
-use Rattle.srm_engine.specs.Soonest.{AreThose, IsAmong, IsSoonest}
+use Rattle.srm_engine.specs.Soonest.{IsSoonest}
 use Rattle.srm_engine.proofs.SeenLemmas.{same_some}
-use Rattle.srm_engine.proofs.SoonGroups.{soonest_of_group, those_of_group, group_within, soonest_idle, one_set, one_kept, all_looked}
+use Rattle.srm_engine.proofs.SoonGroups.{looked_at, group_within, soonest_idle, one_set, one_kept, all_looked}
 use Rattle.srm_engine.proofs.soonest.look_again.Goals.{then-soon-place, else-soon-place}
 use Rattle.srm_engine.proofs.soonest.look_again.Goals as goal
 
@@ -47,10 +47,8 @@ loop-place-preserved g c =
           let s = setting_of c.args.scenario.now c.args.net.now seed in
           let qs = cells_in results in
           let y = w.soonest_in.result in
-          let own = subst (λ l. AreThose (λ b. (goal.Member-dyn g (b.vtable, b.value)).plain b.value) (k * c.args.cut) l qs) (sym w.as_slice.ensures.value)
-          (those_of_group (λ b. (goal.Member-dyn g (b.vtable, b.value)).plain b.value) c.args.cut gs qs c.requires.cut h k group c.loop-place-test.true c.index-groups-place.is) in
-          let told = subst (λ l. IsSoonest s (IsAmong (k * c.args.cut) (length l)) qs y) w.as_slice.ensures.value (w.soonest_in.ensures seed qs own) in
-          let new = soonest_of_group (λ b. (goal.Member-dyn g (b.vtable, b.value)).plain b.value) c.args.cut gs qs c.requires.cut h s k group y c.loop-place-test.true c.index-groups-place.is told in
+          let new = looked_at (λ b. (goal.Member-dyn g (b.vtable, b.value)).plain b.value) c.args.cut gs qs c.requires.cut h s k group w.as_slice.result.now y c.loop-place-test.true c.index-groups-place.is w.as_slice.ensures.value
+          (w.soonest_in.ensures seed qs) in
           one_set (λ n (z : Soonest). IsSoonest s (λ m. m / c.args.cut ≡ n) qs z) (λ n (z : Soonest). IsSoonest s (λ m. m / c.args.cut ≡ n) ps z) old k
           (c.loop-place.invariant seed ps results alone h soon) y within new
           )

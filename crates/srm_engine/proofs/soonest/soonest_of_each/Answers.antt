@@ -1,9 +1,9 @@
-use Rattle.std.proofs.Common.{◌≡◌, ◌∙◌, ◌+◌, ◌*◌, ◌/◌, ◌∷◌, [], sym, ap, subst, arith, length, length-append, get_or}
+use Rattle.std.proofs.Common.{◌≡◌, ◌∙◌, ◌+◌, ◌/◌, ◌∷◌, [], sym, ap, subst, arith, length, length-append, get_or}
 use Rattle.srm_scenario.proofs.Members.{few_members}
 use Rattle.srm_cell.specs.Setting.{setting_of}
 use Rattle.srm_engine.specs.declared.soonest.Soonest.{Soonest}
-use Rattle.srm_engine.specs.Soonest.{AreThose, IsAmong, IsSoonest}
-use Rattle.srm_engine.proofs.SoonGroups.{soonest_of_group, those_of_group, group_within, group_below, pushed_each}
+use Rattle.srm_engine.specs.Soonest.{IsSoonest}
+use Rattle.srm_engine.proofs.SoonGroups.{looked_at, group_within, group_below, pushed_each}
 use Rattle.srm_engine.proofs.soonest.soonest_of_each.Goals as goal
 
 pub overflow_mul-place : goal.overflow_mul-place
@@ -39,10 +39,8 @@ loop-place-preserved g c =
       ap length pushed ∙ length-append old (y ∷ []) ∙ ap (λ n. n + 1) i.0,
       λ seed ps h j x get.
           let s = setting_of c.args.scenario.now c.args.net.now seed in
-          let own = subst (λ l. AreThose (λ b. (goal.Member-dyn g (b.vtable, b.value)).plain b.value) (k * c.args.cut) l ps) (sym c.as_slice.ensures.value)
-          (those_of_group (λ b. (goal.Member-dyn g (b.vtable, b.value)).plain b.value) c.args.cut gs ps c.requires.cut h k group c.loop-place-test.true c.index-groups-place.is) in
-          let told = subst (λ l. IsSoonest s (IsAmong (k * c.args.cut) (length l)) ps y) c.as_slice.ensures.value (c.soonest_in.ensures seed ps own) in
-          let new = soonest_of_group (λ b. (goal.Member-dyn g (b.vtable, b.value)).plain b.value) c.args.cut gs ps c.requires.cut h s k group y c.loop-place-test.true c.index-groups-place.is told in
+          let new = looked_at (λ b. (goal.Member-dyn g (b.vtable, b.value)).plain b.value) c.args.cut gs ps c.requires.cut h s k group c.as_slice.result.now y c.loop-place-test.true c.index-groups-place.is c.as_slice.ensures.value
+          (c.soonest_in.ensures seed ps) in
           pushed_each (λ n (z : Soonest). IsSoonest s (λ m. m / c.args.cut ≡ n) ps z) old y (i.1 seed ps h) (subst (λ n. IsSoonest s (λ m. m / c.args.cut ≡ n) ps y) (sym i.0) new) j x
           (rw pushed at get),
     )

@@ -1,5 +1,5 @@
-use Rattle.std.proofs.Common.{◌≡◌, ◌+◌, ◌-◌, ◌^◌, min, refl, arith}
-use Rattle.srm_engine.proofs.KMerging.{rows_from, rows_after, rows_end}
+use Rattle.std.proofs.Common.{arith}
+use Rattle.srm_engine.proofs.KMerging.{rows_after, rows_end}
 use Rattle.srm_engine.proofs.window.count_rows.Goals as goal
 
 pub loop-rows-init : goal.loop-rows-init

@@ -1,4 +1,4 @@
-use Rattle.std.proofs.Common.{◌≡◌, ◌<◌, ◌+◌, ◌-◌, ◌^◌, drop, min}
+use Rattle.std.proofs.Common.{◌≡◌, ◌<◌, ◌+◌, ◌-◌, ◌^◌, min}
 use Rattle.srm_engine.proofs.KMerging.{rows_from}
 use Rattle.srm_engine.proofs.window.count_rows.Given as goal
 
