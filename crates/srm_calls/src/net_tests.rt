@@ -192,7 +192,12 @@ const fn outage(link: u16, from: u64, to: u64) -> OutageSpec {
 // A chain of nodes 0 to 2 with a member on each; each link takes 5 ticks. Member 0 sends at ticks 0 and 10.
 #[test]
 fn outages_of_one_tick(rt: HostRuntime) -> Result<(), Fail> {
-    let net = Net::build(rt.alloc(), 3, &[slow_link(0, 1), slow_link(1, 2)], &[0, 1, 2])?;
+    let net = Net::build(
+        rt.alloc(),
+        3,
+        &[slow_link(0, 1), slow_link(1, 2)],
+        &[0, 1, 2],
+    )?;
     let first = PacketId {
         sender: 0,
         count: 0,
@@ -300,14 +305,23 @@ fn most_nodes(rt: HostRuntime) -> Result<(), Fail> {
     let net = Net::build(rt.alloc(), 1024, &links, &[0, 1023])?;
     assert_eq!(rt; net.distance(0, 1), 1_023_000_000);
     assert_eq!(rt; net.distance(1, 0), 1023);
-    let drops = Drops::of(rt.alloc(), &[], &[outage(1022, 1_022_000_000, 1_022_000_001)])?;
+    let drops = Drops::of(
+        rt.alloc(),
+        &[],
+        &[outage(1022, 1_022_000_000, 1_022_000_001)],
+    )?;
     let id = PacketId {
         sender: 0,
         count: 0,
     };
     assert!(rt; !net.reaches(&drops, id, 0, 1) && net.reaches(&drops, id, 1, 1));
     links.push(short_link(1023, 1024))?;
-    assert!(rt; matches!(Net::build(rt.alloc(), 1025, &links, &[0]), Err(NetFault::NotTree)));
+    assert!(rt;
+        matches!(
+            Net::build(rt.alloc(), 1025, &links, &[0]),
+            Err(NetFault::NotTree)
+        )
+    );
     Ok(())
 }
 
