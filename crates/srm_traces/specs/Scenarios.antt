@@ -204,3 +204,16 @@ loss_learnt_from_a_request = record {
   sessions = [];
   drops = lists_alone (drop 0 0 0 ∷ drop 1 0 1 ∷ []);
 }
+
+-- an outage of one tick, in which the first of two packets comes to the second link
+abbrev pub outage_of_one_tick : PlainScenario
+outage_of_one_tick = record {
+  until = 100;
+  constants = record { c1 = 1000; c2 = 0; d1 = 1000; d2 = 0 };
+  nodes = 3;
+  links = chain_links 5 0 2;
+  members = member 0 Sender 1 ∷ member 1 Listener 2 ∷ member 2 Listener 3 ∷ [];
+  draws = draw 0 0 7 0 ∷ draw 0 0 8 10 ∷ [];
+  sessions = [];
+  drops = record { listed = []; outages = record { link = 1; from = 5; to = 6 } ∷ [] };
+}

@@ -320,3 +320,20 @@ loss_learnt_from_a_request_trace =
 -- and its crossings
 abbrev pub loss_learnt_from_a_request_totals : List ℕ
 loss_learnt_from_a_request_totals = 1 ∷ 2 ∷ 1 ∷ 0 ∷ 1 ∷ 0 ∷ 2 ∷ 1 ∷ 0 ∷ 1 ∷ []
+
+-- an outage of one tick, in which the first of two packets comes to the second link: its trace
+abbrev pub outage_of_one_tick_trace : List Brief
+outage_of_one_tick_trace =
+    handled 0 0 word.Join Nothing told.Entered 0 None
+    ∷ handled 0 0 word.Draw (Named (name 0 0 0)) told.Sent 0 (Some (packet 0 0))
+    ∷ handled 0 1 word.Join Nothing told.Entered 0 None
+    ∷ handled 0 2 word.Join Nothing told.Entered 0 None
+    ∷ handled 5 1 word.Data (Of (packet 0 0)) told.Fresh 0 None
+    ∷ handled 10 0 word.Draw (Named (name 0 0 1)) told.Sent 0 (Some (packet 0 1))
+    ∷ handled 15 1 word.Data (Of (packet 0 1)) told.Fresh 0 None
+    ∷ handled 20 2 word.Data (Of (packet 0 1)) told.Fresh 0 None
+    ∷ []
+
+-- and its crossings
+abbrev pub outage_of_one_tick_totals : List ℕ
+outage_of_one_tick_totals = 2 ∷ 0 ∷ 0 ∷ 0 ∷ 0 ∷ 1 ∷ 0 ∷ 0 ∷ 0 ∷ 1 ∷ []

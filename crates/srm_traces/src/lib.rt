@@ -5,6 +5,7 @@ ghost use Rattle.std.specs.Prelude.{◌≡◌};
 ghost use Rattle.srm_traces.specs.Runs.{whole_trace, whole_totals, whole_exits, IsWhole};
 ghost use Rattle.srm_traces.specs.Scenarios;
 ghost use Rattle.srm_traces.specs.Traces.{chain_of_five_one_loss_trace, chain_of_five_one_loss_totals, loss_on_the_source_link_trace, loss_on_the_source_link_totals, repair_before_the_timer_of_its_tick_trace, repair_before_the_timer_of_its_tick_totals, stopped_before_the_repair_trace, stopped_before_the_repair_totals, stopped_before_the_repair_exits, drawn_timers_trace, drawn_timers_totals, star_loss_at_the_source_trace, star_loss_at_the_source_totals, star_loss_at_one_member_trace, star_loss_at_one_member_totals, receiver_that_leaves_trace, receiver_that_leaves_totals, receiver_that_leaves_exits, late_joiner_trace, late_joiner_totals, late_joiner_exits, session_reveals_a_loss_trace, session_reveals_a_loss_totals, two_nodes_trace, two_nodes_totals, mended_by_the_data_itself_trace, mended_by_the_data_itself_totals, loss_learnt_from_a_request_trace, loss_learnt_from_a_request_totals};
+ghost use Rattle.srm_traces.specs.Traces.{outage_of_one_tick_trace, outage_of_one_tick_totals};
 
 /// One loss on a chain of five: its request, and the repair by the nearest that holds it.
 pub fn chain_of_five_one_loss()
@@ -100,4 +101,11 @@ pub fn loss_learnt_from_a_request()
     ensures trace { whole_trace Scenarios.loss_learnt_from_a_request 0 ≡ loss_learnt_from_a_request_trace }
     ensures totals { whole_totals Scenarios.loss_learnt_from_a_request 0 ≡ loss_learnt_from_a_request_totals }
     ensures whole { IsWhole Scenarios.loss_learnt_from_a_request 0 }
+{}
+
+/// An outage of one tick, in which the first of two packets comes to the second link: only the second packet reaches the last member.
+pub fn outage_of_one_tick()
+    ensures trace { whole_trace Scenarios.outage_of_one_tick 0 ≡ outage_of_one_tick_trace }
+    ensures totals { whole_totals Scenarios.outage_of_one_tick 0 ≡ outage_of_one_tick_totals }
+    ensures whole { IsWhole Scenarios.outage_of_one_tick 0 }
 {}
