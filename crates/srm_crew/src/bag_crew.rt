@@ -73,7 +73,10 @@ impl<R: Threads + Wait + Sync, G: Gate + Sync> BagCrew<R, G> {
         BagCrew { rt, gate, workers }
     }
 
-    /// As `Crew::map`, whatever the gate is: a crew with a gate of its own calls it.
+    /// As [`Crew::map`], whatever the gate is: a crew with a gate of its own calls it.
+    ///
+    /// # Errors
+    /// As those of [`Crew::map`].
     pub fn map_with_gate(
         &self,
         alloc: Global,

@@ -20,8 +20,13 @@ pub trait Crew {
     // Between these two values it was handed exactly these calls, each the list of its jobs.
     ghost handed: { Self → List (List PlainJob) → Self → Type 0 };
 
-    /// For each job, in order of places, what `advance` gives. The seat's shares grow by the crossings of all their rows. After an
-    /// error the jobs and the seat are gone.
+    /// For each job, in order of places, what `advance` gives. The seat's shares grow by the crossings of all their rows.
+    ///
+    /// # Errors
+    /// [`CrewFault::Spent`] only where a job meets an event of a member that is gone; [`CrewFault::CountFull`] only where one meets
+    /// a packet count that is used up; [`CrewFault::ShareFull`] only where the seat's share of a word, with the crossings of some of
+    /// the rows, is above 2^47; and [`CrewFault::NoMemory`]. Which of several comes is open. After each the jobs and the seat are
+    /// gone.
     fn map(
         &mut self,
         alloc: Global,

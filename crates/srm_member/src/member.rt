@@ -27,11 +27,17 @@ pub trait Member: Send + Drop {
         ensures { result ≡ due_of (plain self.now) };
 
     /// Handles a cause at a time, in ticks, below 2^40.
+    ///
+    /// # Errors
+    /// [`MemberFault::Spent`] exactly where the member is gone, and else [`MemberFault::NoMemory`] alone.
     fn react(&mut self, alloc: Global, at: u64, cause: &Cause) -> Result<React, MemberFault>
         requires { at < 2 ^ 40 }
         ensures { Reacts (plain self.old) at cause.now result (plain self.new) };
 
-    /// Ends the member, and gives what it holds and lacks.
+    /// Ends the member, and gives what it holds and lacks. It is gone then, whatever is answered.
+    ///
+    /// # Errors
+    /// [`MemberFault::Spent`] exactly where the member was gone, and else [`MemberFault::NoMemory`] alone.
     fn finish(&mut self, alloc: Global) -> Result<Exit, MemberFault>
         ensures { Finishes (plain self.old) result (plain self.new) };
 }

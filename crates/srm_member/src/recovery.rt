@@ -1,6 +1,7 @@
 //! Loss recovery.
-ghost use Rattle.std.specs.Prelude.{◌≡◌, ◌≢◌, ℕ, ◌<◌, ◌^◌};
+ghost use Rattle.std.specs.Prelude.{◌≡◌, ◌≢◌, ℕ, ◌<◌, ◌^◌, IfErr};
 ghost use Rattle.srm_net.specs.declared.role.Role.TheVariants.{Listener};
+ghost use Rattle.srm_member.specs.declared.fault.MemberFault.{MemberFault};
 ghost use Rattle.srm_member.specs.declared.cause.Cause.TheVariants.{Join, Arrival, Ask, Answer, Draw, Report};
 ghost use Rattle.srm_member.specs.Record.{fixed_part, due_of, opening_record};
 ghost use Rattle.srm_member.specs.Reacts.{Reacts, Finishes};
@@ -73,12 +74,13 @@ impl Recovery {
         self.memory.due()
     }
 
-    /// The member joins.
+    /// The member joins. It takes no memory.
     ///
     /// # Errors
-    /// `Spent` where the member is gone already.
+    /// [`MemberFault::Spent`] exactly where the member is gone.
     pub fn join(&mut self, alloc: Global) -> Result<React, MemberFault>
-        ensures { (at : ℕ) → Reacts self.old at Join result self.new }
+        ensures reacts { (at : ℕ) → Reacts self.old at Join result self.new }
+        ensures spent_alone { IfErr result (λ e. e ≡ MemberFault.Spent) }
     {
         if self.gone {
             return Err(MemberFault::Spent);
