@@ -6,7 +6,7 @@ usage: tests/calls.py
 A public call is a `pub fn` of a public module, a method of a public trait, or a copy (`clone`) of a type whose copy takes memory;
 of a program, whose modules are all its own, each `pub fn`. It can refuse where it answers a Result, and may wait where it is given
 a runtime that may wait or start threads, or a crew. Each row's refusals have to be among those that the call's type has, and each
-that such a type has, has to stand in a row. What the page lists as taking no memory is given no allocator. Ends with status 1 where
+that such a type has, has to stand in a row. What the page lists as not allocating is given no allocator. Ends with status 1 where
 one of these is not so.
 """
 import dataclasses
@@ -18,7 +18,7 @@ TOP = pathlib.Path(__file__).resolve().parent.parent
 PAGE = TOP / "docs" / "CALLS.md"
 PREFIX = "srm_"
 WAITING = "Calls that may wait"
-WITHOUT_MEMORY = "Calls that take no memory"
+WITHOUT_MEMORY = "Calls that do not allocate"
 RUNTIMES = re.compile(r"\b(Wait|Threads)\b")
 OPENING, CLOSING = "<([{", ">)]}"
 
@@ -227,7 +227,7 @@ def faults(text, calls, waiting, known):
     for name in sorted(listed(page, WAITING) - waits):
         yield f"{name} is named among the calls that may wait, and is none"
     for name in sorted(listed(page, WITHOUT_MEMORY) - {call.name for call in calls if not re.search(r"\balloc:", call.bounds)}):
-        yield f"{name} is named among the calls that take no memory, and is none"
+        yield f"{name} is named among the calls that do not allocate, and is none"
 
 
 def main():

@@ -208,7 +208,7 @@ SHELF_PAGE = """\
 
 - `Reader::read`: for a book.
 
-## Calls that take no memory
+## Calls that do not allocate
 
 - `Shelf::len`: always.
 """
@@ -248,7 +248,7 @@ class Calls(unittest.TestCase):
     def test_waiting_and_memory_are_told(self):
         page = SHELF_PAGE.replace("- `Reader::read`", "- `Shelf::len`").replace("- `Shelf::len`: always", "- `Shelf::put`: always")
         told = ["Reader::read may wait, and is not named there", "Shelf::len is named among the calls that may wait, and is none"]
-        self.assertEqual(self.faults(page), [*told, "Shelf::put is named among the calls that take no memory, and is none"])
+        self.assertEqual(self.faults(page), [*told, "Shelf::put is named among the calls that do not allocate, and is none"])
 
 
 if __name__ == "__main__":

@@ -68,7 +68,7 @@ fn run_each(
     Ok((cells, rows))
 }
 
-// The crossings of all these rows. Where nothing was sent they take no memory.
+// The crossings of all these rows. Where nothing was sent they do not allocate.
 fn crossings_of(
     alloc: Global,
     scenario: &Scenario,

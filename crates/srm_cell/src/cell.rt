@@ -46,7 +46,7 @@ pub struct Cell {
 }
 
 impl Cell {
-    /// A member's cell with this script. The member's next packet has count `sent`. It takes no memory.
+    /// A member's cell with this script. The member's next packet has count `sent`. It does not allocate.
     pub fn new(alloc: Global, member: Box<dyn Member>, script: Vec<Mark>, sent: u64) -> Cell
         requires sent { sent ≤ 2 ^ 48 }
         requires script { Rises mark_cmp script.items }
@@ -67,7 +67,7 @@ impl Cell {
     }
 
     /// The least time of the cell's pending events, in ticks: of packets on their way, of the script and of timers, whenever the
-    /// run ends. It takes no memory.
+    /// run ends. It does not allocate.
     pub fn next_time(&self) -> Option<u64>
         ensures { IsNextTime (λ b. plain b) self.now result }
     {
@@ -119,7 +119,7 @@ impl Cell {
         }
     }
 
-    /// The cell's own events before tick `end`, one after the other, and a row for each. Where there is none it takes no memory.
+    /// The cell's own events before tick `end`, one after the other, and a row for each. Where there is none it does not allocate.
     ///
     /// # Errors
     /// That of the first [`Cell::step`] that is refused. The cell is then of no more use.

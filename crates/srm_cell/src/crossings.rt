@@ -32,7 +32,7 @@ impl Model for Crossings {
 }
 
 impl Crossings {
-    /// Nothing counted yet at any of `links` links. It takes no memory.
+    /// Nothing counted yet at any of `links` links. It does not allocate.
     pub fn none(links: u16) -> Self
         ensures { result ≡ nothing_at links }
     {
@@ -71,7 +71,7 @@ impl Crossings {
         Ok(())
     }
 
-    /// Counts the packets that the rows' members sent. Where none was sent it takes no memory.
+    /// Counts the packets that the rows' members sent. Where none was sent it does not allocate.
     ///
     /// # Errors
     /// Memory was refused; nothing is known of the numbers then.

@@ -28,7 +28,7 @@ impl Model for Inbox {
 }
 
 impl Inbox {
-    /// The empty inbox. It takes no memory.
+    /// The empty inbox. It does not allocate.
     pub fn new(alloc: Global) -> Self
         ensures { result ≡ [] }
     {

@@ -23,7 +23,7 @@ impl Model for Script {
 }
 
 impl Script {
-    /// These marks, all of them to come. It takes no memory.
+    /// These marks, all of them to come. It does not allocate.
     pub fn new(marks: Vec<Mark>) -> Self
         ensures { result ≡ marks.items }
     {

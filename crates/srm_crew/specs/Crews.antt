@@ -22,7 +22,7 @@ use Rattle.srm_crew.specs.declared.fault.CrewFault.TheVariants as fault
 
 -- ---- results
 
--- one result of work on each job: what they gave, in order, or, besides want of memory, the fault of one of them
+-- one result of work on each job: what they gave, in order, or, besides that memory ran out, the fault of one of them
 abbrev pub GathersEach : {J D : Type 0} → (J → Result D CellFault → Type 0) → List J → Result (Vec D) CellFault → Type 0
 GathersEach R js (Ok v) = AllZip (λ j d. R j (Ok d)) js v.items
 GathersEach R js (Err cell.NoMemory) = Unit {0}

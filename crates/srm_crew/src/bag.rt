@@ -57,7 +57,7 @@ impl<T> Bag<T> {
         Ok((Bag { queue, room }, pass))
     }
 
-    /// Puts an item at the next place. Only the whole pass puts, and no more than the room in all. It takes no memory.
+    /// Puts an item at the next place. Only the whole pass puts, and no more than the room in all. It does not allocate.
     ///
     /// # Errors
     /// `NotWhole`, and then `Full`; the item is given back, and the pass is as it was.
@@ -85,7 +85,7 @@ impl<T> Bag<T> {
     }
 
     /// The oldest item left, whose place goes to the end of the pass's list. At `None` the queue was empty at one moment of the
-    /// call: a whole pass has then taken every place. It takes no memory.
+    /// call: a whole pass has then taken every place. It does not allocate.
     pub fn take<R: Wait>(&self, rt: &R, pass: &mut Pass<T>) -> Option<T>
         requires { pass.old.bag ≡ self.now.name }
         ensures bag { pass.new.bag ≡ pass.old.bag }
@@ -141,7 +141,7 @@ impl<T> Bag<T> {
         Ok((first, second))
     }
 
-    /// The weights are added, and the second list goes to the end of the first. It takes no memory.
+    /// The weights are added, and the second list goes to the end of the first. It does not allocate.
     pub fn join(&self, first: Pass<T>, second: Pass<T>) -> Pass<T>
         requires first { first.bag ≡ self.now.name }
         requires second { second.bag ≡ self.now.name }
@@ -175,7 +175,7 @@ impl<T> Bag<T> {
         }
     }
 
-    /// The list of the whole pass, where as many items were taken as put. It takes no memory.
+    /// The list of the whole pass, where as many items were taken as put. It does not allocate.
     ///
     /// # Errors
     /// `NotWhole`, and then `NotEmpty`; bag and pass are given back as they were.

@@ -65,7 +65,7 @@ fn advance_in_bag<R: Threads + Wait + Sync, G: Gate + Sync>(
 }
 
 impl<R: Threads + Wait + Sync, G: Gate + Sync> BagCrew<R, G> {
-    /// A crew of 1 to 64 workers. It takes no memory.
+    /// A crew of 1 to 64 workers. It does not allocate.
     pub fn new(rt: R, gate: G, workers: u8) -> BagCrew<R, G>
         requires { (1 ≤ workers) × (workers ≤ 64) }
         ensures { IsSync R.row }

@@ -18,7 +18,7 @@ use std::alloc::Global;
 pub struct PlainCrew {}
 
 impl PlainCrew {
-    /// It takes no memory.
+    /// It does not allocate.
     pub fn new() -> PlainCrew
         ensures { ⟦<PlainCrew as Crew>⟧.ready result }
     {

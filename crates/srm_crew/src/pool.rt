@@ -71,7 +71,7 @@ pub struct PoolCrew<R> {
 }
 
 impl<R: Threads + Sync> PoolCrew<R> {
-    /// It takes no memory.
+    /// It does not allocate.
     pub fn new(rt: R) -> PoolCrew<R>
         ensures { ⟦<PoolCrew<R> as Crew>⟧.ready result }
     {

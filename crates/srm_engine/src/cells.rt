@@ -104,7 +104,7 @@ impl Cells {
         Ok(())
     }
 
-    /// What each member ends with, as it left or as it is. Only memory can be wanting.
+    /// What each member ends with, as it left or as it is. It fails only where memory runs out.
     pub(crate) fn finish(self, alloc: Global) -> Result<Vec<Exit>, RunFault>
         requires ends { AllEnd (λ b. plain (b.vtable, b.value)) self.cells.items }
         ensures exits { IfOk result (λ exits. EndAs (λ b. plain (b.vtable, b.value)) self.cells.items exits.items) }

@@ -16,7 +16,7 @@ pub struct KeptRows {
 impl KeptRows {
     ghost use Rattle.srm_engine.specs.Kept.{rows_kept, stage_of_kept};
 
-    /// It has no row yet. It takes no memory.
+    /// It has no row yet. It does not allocate.
     pub fn new(alloc: Global) -> Self
         ensures rows { rows_kept result ≡ [] }
         ensures stage { stage_of_kept result ≡ Stage.Fresh }

@@ -25,7 +25,7 @@ impl Model for NextTimes {
 }
 
 impl NextTimes {
-    /// The next times of no member. It takes no memory.
+    /// The next times of no member. It does not allocate.
     pub fn new(alloc: Global) -> Self
         ensures { result ≡ [] }
     {

@@ -121,7 +121,7 @@ fn carry_out<R: Threads + Wait + Sync, F: Feed, O: Outlet>(
     }
 }
 
-// Tells the line of a refusal, which takes no memory where the command line is refused.
+// Tells the line of a refusal, which does not allocate where the command line is refused.
 fn tell<E: Outlet>(alloc: Global, fault: &Fault, errors: &mut E)
     requires { E.failures errors.old < 2 ^ 64 - 1 }
     ensures { TakesFaultLine

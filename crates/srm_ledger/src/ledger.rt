@@ -81,7 +81,7 @@ impl Ledger {
         self.links
     }
 
-    /// Adds `n` to the word of a link and a kind, and to the seat's share of it. It takes no memory.
+    /// Adds `n` to the word of a link and a kind, and to the seat's share of it. It does not allocate.
     ///
     /// # Errors
     /// The seat's share would pass 2^47. Nothing changes.
@@ -102,7 +102,7 @@ impl Ledger {
         Ok(())
     }
 
-    /// What the word of a link and a kind is at one moment of the call. It takes no memory.
+    /// What the word of a link and a kind is at one moment of the call. It does not allocate.
     pub fn read(&self, seat: &mut Seat, link: usize, kind: Kind) -> u64
         requires seat { seat.old.ledger ≡ self.now.name }
         requires link { link < self.now.links }
@@ -161,7 +161,7 @@ impl Ledger {
         Ok((first, second))
     }
 
-    /// Shares and weights are added, and of each two numbers that were read the larger is kept. It takes no memory.
+    /// Shares and weights are added, and of each two numbers that were read the larger is kept. It does not allocate.
     ///
     /// # Errors
     /// Both seats come back as they were, where two shares of some word would add up to more than 2^47.
@@ -201,7 +201,7 @@ impl Ledger {
         })
     }
 
-    /// The words, which are the whole seat's shares; nothing that was read is above them. It takes no memory.
+    /// The words, which are the whole seat's shares; nothing that was read is above them. It does not allocate.
     ///
     /// # Errors
     /// Ledger and seat come back as they were, where the seat's weight is below the whole.

@@ -41,7 +41,7 @@ impl Totals {
         Ok(Totals { words })
     }
 
-    /// The numbers of a list of words, the first of which is spare. It takes no memory.
+    /// The numbers of a list of words, the first of which is spare. It does not allocate.
     pub(crate) fn of_words(words: Vec<u64>) -> Self
         requires { (links : ℕ) × (length words.items ≡ words_of links) }
         ensures { result ≡ drop 1 words.items }
@@ -49,7 +49,7 @@ impl Totals {
         Totals { words }
     }
 
-    /// Counts one more packet of a kind at a link. It takes no memory.
+    /// Counts one more packet of a kind at a link. It does not allocate.
     pub fn count(&mut self, link: u16, kind: Kind)
         requires within { 5 * link + 4 < length self.old }
         requires room { number_at self.old link kind + 1 < 2 ^ 64 }
@@ -59,7 +59,7 @@ impl Totals {
         self.words[word] += 1;
     }
 
-    /// How many packets of a kind were counted at a link. It takes no memory.
+    /// How many packets of a kind were counted at a link. It does not allocate.
     pub fn number(&self, link: u16, kind: Kind) -> u64
         requires { 5 * link + 4 < length self.now }
         ensures { result ≡ number_at self.now link kind }
@@ -67,7 +67,7 @@ impl Totals {
         self.words[word_of(usize::from(link), kind)]
     }
 
-    /// The five numbers of each link, in the order of [`Kind`]'s variants. It takes no memory.
+    /// The five numbers of each link, in the order of [`Kind`]'s variants. It does not allocate.
     pub fn links(&self) -> &[[u64; 5]]
         ensures numbers { concat result.now ≡ self.now }
         ensures five { All (λ ns. length ns ≡ 5) result.now }

@@ -26,7 +26,7 @@ impl Model for Index {
 }
 
 impl Index {
-    /// No timer. It takes no memory.
+    /// No timer. It does not allocate.
     pub fn new(alloc: Global) -> Self
         ensures { result ≡ [] }
     {

@@ -18,11 +18,11 @@ pub trait Member: Send + Drop {
     // The member's record.
     ghost plain: { Self → Record };
 
-    /// The member's number. It takes no memory.
+    /// The member's number. It does not allocate.
     fn number(&self) -> u16
         ensures { result ≡ (fixed_part (plain self.now)).member };
 
-    /// The member's least timer by time, rank and name. It takes no memory.
+    /// The member's least timer by time, rank and name. It does not allocate.
     fn due(&self) -> Option<Due>
         ensures { result ≡ due_of (plain self.now) };
 

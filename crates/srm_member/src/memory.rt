@@ -57,7 +57,7 @@ impl Model for Memory {
 }
 
 impl Memory {
-    /// What a member knows at first. It takes no memory.
+    /// What a member knows at first. It does not allocate.
     pub fn new(alloc: Global, fixed: Fixed) -> Self
         requires { IsFit fixed }
         ensures { result ≡ opening_memory fixed }

@@ -26,7 +26,7 @@ impl<V> Model for Named<V> {
 }
 
 impl<V: Copy> Named<V> {
-    /// The map with no entry. It takes no memory.
+    /// The map with no entry. It does not allocate.
     pub fn new(alloc: Global) -> Self
         ensures { result ≡ [] }
     {

@@ -28,7 +28,7 @@ impl Model for Pages {
 }
 
 impl Pages {
-    /// No page. It takes no memory.
+    /// No page. It does not allocate.
     pub fn new(alloc: Global) -> Self
         ensures { result ≡ [] }
     {

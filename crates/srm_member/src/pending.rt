@@ -43,7 +43,7 @@ impl Model for Pending {
 }
 
 impl Pending {
-    /// No timer. It takes no memory.
+    /// No timer. It does not allocate.
     pub fn new(alloc: Global) -> Self
         ensures { result ≡ ([], []) }
     {

@@ -45,7 +45,7 @@ impl Model for Recovery {
 }
 
 impl Recovery {
-    /// The record with which a member begins. It takes no memory.
+    /// The record with which a member begins. It does not allocate.
     pub fn new(alloc: Global, fixed: Fixed) -> Self
         requires active { fixed.role ≢ Listener }
         requires fit { IsFit fixed }
@@ -57,14 +57,14 @@ impl Recovery {
         }
     }
 
-    /// The member's number. It takes no memory.
+    /// The member's number. It does not allocate.
     pub fn number(&self) -> u16
         ensures { result ≡ (fixed_part self.now).member }
     {
         self.memory.number()
     }
 
-    /// The least timer by time, rank and name. It takes no memory.
+    /// The least timer by time, rank and name. It does not allocate.
     pub fn due(&self) -> Option<Due>
         ensures { result ≡ due_of self.now }
     {
@@ -74,7 +74,7 @@ impl Recovery {
         self.memory.due()
     }
 
-    /// The member joins. It takes no memory.
+    /// The member joins. It does not allocate.
     ///
     /// # Errors
     /// [`MemberFault::Spent`] exactly where the member is gone.

@@ -5,7 +5,7 @@ ghost use Rattle.srm_member.specs.Timers;
 /// The least and the greatest length of a timer, in ticks, after `i` backoffs: `x` and `x + y` thousandths of the distance `d`,
 /// doubled at each backoff (Floyd et al. 1997) up to the tenth, and rounded down to whole ticks (this project's own).
 ///
-/// `x` and `y` are thousandths, and `d` is in ticks. It takes no memory.
+/// `x` and `y` are thousandths, and `d` is in ticks. It does not allocate.
 pub fn span(i: u32, x: u32, y: u32, d: u64) -> (u64, u64)
     requires least { x ≤ 64000 }
     requires more { y ≤ 64000 }
@@ -36,7 +36,7 @@ fn thousandths(n: u64, x: u64, d: u64) -> u64
 
 /// The length of a timer, in ticks, that a random word picks of `lo` to `hi`, and at least one tick.
 ///
-/// Floyd et al. (1997) draw evenly; the arithmetic in whole ticks is this project's own. It takes no memory.
+/// Floyd et al. (1997) draw evenly; the arithmetic in whole ticks is this project's own. It does not allocate.
 pub fn draw(word: u32, lo: u64, hi: u64) -> u64
     requires order { lo ≤ hi }
     requires bound { hi < 2 ^ 48 }

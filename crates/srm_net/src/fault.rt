@@ -4,7 +4,7 @@ use std::alloc::AllocError;
 
 /// Why [`Net::build`](crate::net::Net::build) or [`Drops::of`](crate::drops::Drops::of) gave nothing.
 ///
-/// `build` looks for them in this order, except that memory may be wanting at any place.
+/// `build` looks for them in this order, except that memory may run out at any step.
 #[derive(Clone, Copy, Debug, PartialEq, Eq)]
 pub enum NetFault {
     /// The number of nodes is not 1 to 1,024, an end of a link is no node, the links are not one fewer than
@@ -14,7 +14,7 @@ pub enum NetFault {
     BadDelay,
     /// A member is on no node, or two share one.
     BadHost,
-    /// Memory was wanting.
+    /// Memory ran out.
     NoMemory,
 }
 

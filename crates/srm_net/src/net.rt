@@ -48,7 +48,7 @@ impl Net {
     ///
     /// # Errors
     ///
-    /// The first of these that applies, though memory may be wanting at any place:
+    /// The first of these that applies, though memory may run out at any step:
     ///
     /// 1. [`NetFault::NotTree`]: `nodes` is not 1 to 1,024, an end of a link is no node, there are not `nodes - 1`
     ///    links, or they do not connect the nodes.
@@ -71,7 +71,7 @@ impl Net {
         ensures bad_host { result ≡ Err NetFault.BadHost
             → IsTree (plain_network nodes links.now hosts.now) × All HasDelays links.now × (¬ AreHosts nodes hosts.now) }
 
-        // and none but want of memory where the network is as it should be
+        // and none but that memory ran out where the network is as it should be
         ensures accepted { IsNetwork (plain_network nodes links.now hosts.now)
             → IfErr result (λ e. e ≡ NetFault.NoMemory) }
     {

@@ -17,7 +17,7 @@ impl<T> Model for Sequence<T> {
 }
 
 impl<T> Sequence<T> {
-    /// The empty list. It takes no memory.
+    /// The empty list. It does not allocate.
     pub fn new(alloc: Global) -> Self
         ensures { result ≡ [] }
     {
@@ -26,14 +26,14 @@ impl<T> Sequence<T> {
         }
     }
 
-    /// The list of the vector's elements. It takes no memory.
+    /// The list of the vector's elements. It does not allocate.
     pub fn from_vec(items: Vec<T>) -> Self
         ensures { result ≡ items.items }
     {
         Sequence { items }
     }
 
-    /// The vector of the list's elements. It takes no memory.
+    /// The vector of the list's elements. It does not allocate.
     pub fn into_vec(self) -> Vec<T>
         ensures { result.items ≡ self }
     {

@@ -24,7 +24,7 @@ impl<V> Model for ByLoss<V> {
 }
 
 impl<V: Copy> ByLoss<V> {
-    /// The map with no entry. It takes no memory.
+    /// The map with no entry. It does not allocate.
     pub(crate) fn new(alloc: Global) -> Self
         ensures { result ≡ [] }
     {

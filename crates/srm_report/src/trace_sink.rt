@@ -72,7 +72,7 @@ impl<'a, O: Outlet> TraceSink<'a, O> {
     ghost use Rattle.srm_engine.specs.Sinks.{IsOpen, stops_in};
     ghost use Rattle.srm_report.specs.TraceSinks.{stage_of, standing_of, outlet_under, gathered_by, written_by, AreOverOne, PutsText, LeavesOutlet, WritesGathered, WritesThrough, Flushes};
 
-    /// A sink over this outlet, which took no rows yet. It writes each piece of the trace as it comes. It takes no memory.
+    /// A sink over this outlet, which took no rows yet. It writes each piece of the trace as it comes. It does not allocate.
     pub fn over(alloc: Global, outlet: &'a mut O) -> Self
         ensures outlet { result.outlet.ghost_name ≡ outlet.entry.ghost_name }
         ensures same { outlet_under result ≡ outlet.old }

@@ -11,7 +11,7 @@ pub struct WriteFault {
     pub written: u64,
 }
 
-/// Writes the text to the outlet. It takes no memory.
+/// Writes the text to the outlet. It does not allocate.
 ///
 /// # Errors
 /// The outlet failed. It has then taken as many bytes of the text, from its front, as the fault says.

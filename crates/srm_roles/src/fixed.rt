@@ -14,7 +14,7 @@ use std::alloc::{AllocError, Global};
 ///
 /// # Errors
 ///
-/// Only want of memory.
+/// Only that memory ran out.
 pub fn fixed_of(
     alloc: Global,
     scenario: &Scenario,
