@@ -7,6 +7,7 @@ ghost use Rattle.srm_crew.specs.Crews.{AdvanceEach, GathersEach};
 use crate::add::settle;
 use crate::crew::Crew;
 use crate::fault::CrewFault;
+use rayon::current_num_threads;
 use rayon::prelude::*;
 use srm_cell::advance::advance;
 use srm_cell::fault::CellFault;
@@ -29,9 +30,11 @@ fn in_pool<J: Send + Drop, D: Send + Drop, F: Fn(J) -> Result<D, CellFault> + Co
     requires { All (λ j. F.pre work j) jobs.items }
     ensures { GathersEach (λ j r. F.post work j r) jobs.items result }
 {
+    // As many pieces as there are processors: each costs a thread of its own, since none are kept.
+    let piece = jobs.len() / current_num_threads(rt);
     let all: Result<Result<Vec<D>, CellFault>, AllocError> = jobs
         .into_par_iter()
-        .with_min_len(1)
+        .with_min_len(piece.max(1))
         .map(work)
         .collect(rt, alloc);
     match all {
