@@ -1,6 +1,6 @@
 -- Sinks that keep rows until their device fails.
 use Rattle.srm_engine.specs.declared.kept_rows.KeptRows.{KeptRows}
-use Rattle.srm_report_calls.specs.declared.stream_tests.Failing.{Failing}
+use Rattle.srm_report_calls.specs.declared.failing.Failing.{Failing}
 
 -- what it keeps, as a sink in memory
 abbrev pub kept_by : Failing → KeptRows

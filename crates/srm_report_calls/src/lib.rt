@@ -5,6 +5,7 @@
 mod counted;
 #[cfg(test)]
 mod drops_tests;
+pub mod failing;
 #[cfg(test)]
 mod fault_tests;
 #[cfg(test)]

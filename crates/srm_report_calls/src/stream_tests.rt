@@ -1,13 +1,12 @@
 //! Runs in windows whose rows are taken as they come: how far such a run is when they are.
-ghost use Rattle.srm_engine.specs.declared.sink.Stage.{Stage as AStage};
 
+use crate::failing::Failing;
 use crate::streaming::stream_text;
 use srm_crew::recording::{Note, Recording};
-use srm_engine::sink::{RowSink, SinkFault, Stage};
+use srm_engine::sink::Stage;
 use srm_engine::stream_fault::StreamFault;
 use srm_engine::width::{Width, Windows};
 use srm_examples::scenarios::CHAIN_OF_FIVE_ONE_LOSS;
-use srm_member::row::Row;
 use srm_report::fault::ReportFault;
 use srm_report::outlet::WriteOutlet;
 use srm_report::trace::trace_text;
@@ -25,64 +24,6 @@ const TICKS: Windows = Windows {
     cut: 64,
     width: Width::Ticks(1),
 };
-
-/// Keeps the rows of so many calls; then its device fails.
-#[derive(Drop)]
-struct Failing {
-    rows: Vec<Row>,
-    stage: Stage,
-    calls_left: u64,
-    failures: u64,
-}
-
-impl RowSink for Failing {
-    ghost use Rattle.srm_engine.specs.Kept.{Keeps, KeepsFront};
-    ghost use Rattle.srm_engine.specs.KeptLaws.{keeps_none, keeps_more, front_none, front_more, front_longer};
-    ghost use Rattle.srm_report_calls.specs.Failing.{kept_by};
-
-    ghost stage = { λ s. s.stage };
-
-    ghost failures = { λ s. s.failures };
-
-    ghost same = { λ _ _. Unit {0} };
-
-    ghost took = { λ a xs b. Keeps (kept_by a) xs (kept_by b) };
-
-    ghost part = { λ a xs b. KeepsFront (kept_by a) xs (kept_by b) };
-
-    ghost same_self = { λ a. tt };
-
-    ghost same_more = { λ a b c p q. tt };
-
-    ghost took_none = { λ a. keeps_none (kept_by a) };
-
-    ghost took_more = { λ a b c. keeps_more (kept_by a) (kept_by b) (kept_by c) };
-
-    ghost part_none = { λ a. front_none (kept_by a) };
-
-    ghost part_more = { λ a b c. front_more (kept_by a) (kept_by b) (kept_by c) };
-
-    ghost part_longer = { λ a b. front_longer (kept_by a) (kept_by b) };
-
-    fn rows(&mut self, _alloc: Global, rows: Vec<Row>) -> Result<(), SinkFault> {
-        if self.calls_left == 0 {
-            let written = self.rows.len() as u64;
-            let fault = SinkFault::Stopped { written };
-            self.failures += 1;
-            self.stage = Stage::Refused { fault };
-            return Err(fault);
-        }
-        self.calls_left -= 1;
-        let mut rows = rows;
-        if self.rows.append(&mut rows).is_err() {
-            let fault = SinkFault::NoMemory;
-            self.stage = Stage::Refused { fault };
-            return Err(fault);
-        }
-        self.stage = Stage::Live;
-        Ok(())
-    }
-}
 
 // The job of all five members, up to the end of a window.
 const fn all_five(till: u64) -> Note {
