@@ -222,9 +222,10 @@ class Crews(unittest.TestCase):
 
     def test_a_bag_is_asked_for_by_its_name_alone(self):
         text = chain(20, 1)
-        plain, pool, bag = (allocations([*WINDOW, "--crew", crew], text) for crew in ("plain", "pool", "bag"))
+        plain, bag = (allocations([*WINDOW, "--crew", crew], text) for crew in ("plain", "bag"))
         self.assertEqual(allocations(WINDOW, text), plain)
-        self.assertNotIn(bag, (plain, pool))
+        self.assertNotEqual(bag, plain)
+        self.assertNotEqual(*(threads([*WINDOW, "--crew", crew], text) for crew in ("bag", "pool")))
         for crew in ("plain", "pool", "bag"):
             self.assertEqual(allocations(["--engine", "step", "--crew", crew], text), allocations([], text))
 
