@@ -50,8 +50,8 @@ fn tree_of_eight(rt: HostRuntime) -> Result<(), Fail> {
     Ok(())
 }
 
-// A chain of nodes 0 to 2 with a member on each. Its links take a tick one way, from node 0 to node 1 and from node 2 to node 1, and
-// three ticks the other.
+// A chain of nodes 0 to 2 with a member on each. Its links take a tick one way, from node 0 to node 1 and from node 2 to
+// node 1, and three ticks the other.
 #[test]
 fn uneven_chain(rt: HostRuntime) -> Result<(), Fail> {
     let links = [uneven_link(0, 1), uneven_link(2, 1)];

@@ -30,7 +30,7 @@ fn in_pool<J: Send + Drop, D: Send + Drop, F: Fn(J) -> Result<D, CellFault> + Co
     requires { All (λ j. F.pre work j) jobs.items }
     ensures { GathersEach (λ j r. F.post work j r) jobs.items result }
 {
-    // As many pieces as there are processors: each costs a thread of its own, since none are kept.
+    // A piece has at least a processor's share of the jobs: each costs a thread of its own, since none are kept.
     let piece = jobs.len() / current_num_threads(rt);
     let all: Result<Result<Vec<D>, CellFault>, AllocError> = jobs
         .into_par_iter()

@@ -14,7 +14,7 @@ use std::alloc::{AllocError, Global};
 ///
 /// # Errors
 ///
-/// Only that memory ran out.
+/// [`AllocError`] alone.
 pub fn fixed_of(
     alloc: Global,
     scenario: &Scenario,
