@@ -7,6 +7,7 @@ pub mod entries;
 pub mod exit;
 pub mod fault;
 pub mod fixed;
+pub mod gone;
 mod index;
 pub mod laws;
 pub mod member;

@@ -12,6 +12,7 @@ use crate::due::Due;
 use crate::exit::Exit;
 use crate::fault::MemberFault;
 use crate::fixed::Fixed;
+use crate::gone::begin;
 use crate::memory::Memory;
 use crate::react::React;
 use crate::told::Told;
@@ -100,10 +101,7 @@ impl Recovery {
         requires { at < 2 ^ 40 }
         ensures { Reacts self.old at (Arrival packet.now) result self.new }
     {
-        if self.gone {
-            return Err(MemberFault::Spent);
-        }
-        self.gone = true;
+        begin(&mut self.gone)?;
         let react = self.memory.hear(alloc, at, packet)?;
         self.gone = false;
         Ok(react)
@@ -117,10 +115,7 @@ impl Recovery {
         requires { at < 2 ^ 40 }
         ensures { Reacts self.old at (Ask name) result self.new }
     {
-        if self.gone {
-            return Err(MemberFault::Spent);
-        }
-        self.gone = true;
+        begin(&mut self.gone)?;
         let react = self.memory.ask(alloc, at, name)?;
         self.gone = false;
         Ok(react)
@@ -134,10 +129,7 @@ impl Recovery {
         requires { at < 2 ^ 40 }
         ensures { Reacts self.old at (Answer name) result self.new }
     {
-        if self.gone {
-            return Err(MemberFault::Spent);
-        }
-        self.gone = true;
+        begin(&mut self.gone)?;
         let react = self.memory.answer(alloc, at, name)?;
         self.gone = false;
         Ok(react)
@@ -156,10 +148,7 @@ impl Recovery {
     ) -> Result<React, MemberFault>
         ensures { Reacts self.old at (Draw page ink) result self.new }
     {
-        if self.gone {
-            return Err(MemberFault::Spent);
-        }
-        self.gone = true;
+        begin(&mut self.gone)?;
         let react = self.memory.draw_op(alloc, page, ink)?;
         self.gone = false;
         Ok(react)
@@ -172,10 +161,7 @@ impl Recovery {
     pub fn report(&mut self, alloc: Global) -> Result<React, MemberFault>
         ensures { (at : ℕ) → Reacts self.old at Report result self.new }
     {
-        if self.gone {
-            return Err(MemberFault::Spent);
-        }
-        self.gone = true;
+        begin(&mut self.gone)?;
         let react = self.memory.report(alloc)?;
         self.gone = false;
         Ok(react)
@@ -206,10 +192,7 @@ impl Recovery {
     pub fn finish(&mut self, alloc: Global) -> Result<Exit, MemberFault>
         ensures { Finishes self.old result self.new }
     {
-        if self.gone {
-            return Err(MemberFault::Spent);
-        }
-        self.gone = true;
+        begin(&mut self.gone)?;
         let exit = self.memory.exit(alloc)?;
         Ok(exit)
     }

@@ -12,6 +12,7 @@ use srm_member::due::Due;
 use srm_member::exit::Exit;
 use srm_member::fault::MemberFault;
 use srm_member::fixed::Fixed;
+use srm_member::gone::begin;
 use srm_member::member::Member;
 use srm_member::named::Named;
 use srm_member::react::React;
@@ -84,10 +85,7 @@ impl Member for Listener {
     }
 
     fn react(&mut self, alloc: Global, _at: u64, cause: &Cause) -> Result<React, MemberFault> {
-        if self.gone {
-            return Err(MemberFault::Spent);
-        }
-        self.gone = true;
+        begin(&mut self.gone)?;
         let told = listen(&mut self.held, cause)?;
         self.gone = false;
         Ok(React {
@@ -98,10 +96,7 @@ impl Member for Listener {
     }
 
     fn finish(&mut self, alloc: Global) -> Result<Exit, MemberFault> {
-        if self.gone {
-            return Err(MemberFault::Spent);
-        }
-        self.gone = true;
+        begin(&mut self.gone)?;
         let held = self.held.entries(alloc)?;
         Ok(Exit {
             member: self.fixed.member,
