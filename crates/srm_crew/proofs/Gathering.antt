@@ -22,14 +22,16 @@ module _ {J D : Type 0} (R : J → Result D CellFault → Type 0) where
   all_gave (j ∷ js) [] z = absurd z
   all_gave (j ∷ js) (d ∷ ds) z = (z.0, all_gave js ds z.1)
 
-  pub gathered : (js : List J) (rs : List (Result D CellFault)) (r : Result (Vec D) CellFault) → AllZip R js rs → MatchResult r (λ v. (ys : List D) × (rs ≡ map Ok ys) × (v.items ≡ ys)) (λ e. Contains rs (Err e)) → GathersEach R js r
+  pub gathered : (js : List J) (rs : List (Result D CellFault)) (r : Result (Vec D) CellFault) → AllZip R js rs
+      → MatchResult r (λ v. (ys : List D) × (rs ≡ map Ok ys) × (v.items ≡ ys)) (λ e. Contains rs (Err e)) → GathersEach R js r
   gathered js rs (Ok v) z m = subst (AllZip (λ j d. R j (Ok d)) js) (sym m.2) (all_gave js m.0 (subst (AllZip R js) m.1 z))
   gathered js rs (Err cell.NoMemory) z m = tt
   gathered js rs (Err cell.Spent) z m = (rs, z, m)
   gathered js rs (Err cell.CountFull) z m = (rs, z, m)
 
 module _ {X : Type 0} {H : X → Type 0} where
-  pub all_done : (f : DynBox X Global H → Record) (k : PlainScenario) (net : Network) (js : List (Job X H)) (ps : List PlainJob) (ds : List (job.Done X H))
+  pub all_done : (f : DynBox X Global H → Record) (k : PlainScenario) (net : Network) (js : List (Job X H)) (ps : List PlainJob)
+      (ds : List (job.Done X H))
       → AllZip (λ j d. Advances f k net j (Ok d)) js ds → AreJobs f js ps → AllZip (λ p d. IsDone f (traffic_of k net) p d) ps ds
   all_done f k net [] [] [] z h = tt
   all_done f k net [] (p ∷ ps) ds z h = absurd h
@@ -38,18 +40,26 @@ module _ {X : Type 0} {H : X → Type 0} where
   all_done f k net (j ∷ js) (p ∷ ps) [] z h = absurd z
   all_done f k net (j ∷ js) (p ∷ ps) (d ∷ ds) z h = (z.0.tells p h.0, all_done f k net js ps ds z.1 h.1)
 
-  any_told : (f : DynBox X Global H → Record) (k : PlainScenario) (net : Network) (js : List (Job X H)) (ps : List PlainJob) (rs : List (Result (job.Done X H) CellFault)) (e : CellFault) (Any : List PlainJob → Type 0)
-      → ((p : PlainJob) (qs : List PlainJob) → TellsFault p.till p.cells e → Any (p ∷ qs)) → ((p : PlainJob) (qs : List PlainJob) → Any qs → Any (p ∷ qs))
+  any_told : (f : DynBox X Global H → Record) (k : PlainScenario) (net : Network) (js : List (Job X H)) (ps : List PlainJob)
+      (rs : List (Result (job.Done X H) CellFault)) (e : CellFault) (Any : List PlainJob → Type 0)
+      → ((p : PlainJob) (qs : List PlainJob) → TellsFault p.till p.cells e → Any (p ∷ qs))
+          → ((p : PlainJob) (qs : List PlainJob) → Any qs → Any (p ∷ qs))
       → AllZip (λ j r. Advances f k net j r) js rs → AreJobs f js ps → (i : ℕ) → i < length rs → get_or rs i (Err e) ≡ Err e → Any ps
   any_told f k net [] ps [] e Any here there z h i lt g = absurd (omega arith)
   any_told f k net [] ps (r ∷ rs) e Any here there z h i lt g = absurd z
   any_told f k net (j ∷ js) [] rs e Any here there z h i lt g = absurd h
   any_told f k net (j ∷ js) (p ∷ ps) [] e Any here there z h i lt g = absurd z
-  any_told f k net (j ∷ js) (p ∷ ps) (r ∷ rs) e Any here there z h zero lt g = here p ps (subst (TellsDone f (traffic_of k net) p) g (z.0.tells p h.0))
-  any_told f k net (j ∷ js) (p ∷ ps) (r ∷ rs) e Any here there z h (suc i) lt g = there p ps (any_told f k net js ps rs e Any here there z.1 h.1 i (omega arith) g)
+  any_told f k net (j ∷ js) (p ∷ ps) (r ∷ rs) e Any here there z h zero lt g =
+      here p ps (subst (TellsDone f (traffic_of k net) p) g (z.0.tells p h.0))
+  any_told f k net (j ∷ js) (p ∷ ps) (r ∷ rs) e Any here there z h (suc i) lt g =
+      there p ps (any_told f k net js ps rs e Any here there z.1 h.1 i (omega arith) g)
 
-  pub each_advanced : (f : DynBox X Global H → Record) (k : PlainScenario) (net : Network) (js : List (Job X H)) (r : Result (Vec (job.Done X H)) CellFault) → GathersEach (λ j r. Advances f k net j r) js r → AdvanceEach f k net js r
+  pub each_advanced : (f : DynBox X Global H → Record) (k : PlainScenario)
+      (net : Network) (js : List (Job X H)) (r : Result (Vec (job.Done X H)) CellFault) → GathersEach (λ j r. Advances f k net j r) js r
+      → AdvanceEach f k net js r
   each_advanced f k net js (Ok v) g = record { tells = λ ps h. all_done f k net js ps v.items g h }
   each_advanced f k net js (Err cell.NoMemory) g = record { tells = λ ps h. tt }
-  each_advanced f k net js (Err cell.Spent) g = record { tells = λ ps h. any_told f k net js ps g.0 cell.Spent (AnyEnds _) (λ p qs t. inl t) (λ p qs a. inr a) g.1 h g.2.0 g.2.1 g.2.2 }
-  each_advanced f k net js (Err cell.CountFull) g = record { tells = λ ps h. any_told f k net js ps g.0 cell.CountFull (AnyEnds _) (λ p qs t. inl t) (λ p qs a. inr a) g.1 h g.2.0 g.2.1 g.2.2 }
+  each_advanced f k net js (Err cell.Spent) g = record { tells = λ ps h. any_told f k net js ps g.0 cell.Spent (AnyEnds _) (λ p qs t. inl t)
+      (λ p qs a. inr a) g.1 h g.2.0 g.2.1 g.2.2 }
+  each_advanced f k net js (Err cell.CountFull) g = record
+      { tells = λ ps h. any_told f k net js ps g.0 cell.CountFull (AnyEnds _) (λ p qs t. inl t) (λ p qs a. inr a) g.1 h g.2.0 g.2.1 g.2.2 }

@@ -1,5 +1,6 @@
 -- What workers tell of jobs, as a crew tells it.
-use Rattle.std.proofs.Common.{◌≡◌, ◌<◌, ◌≤◌, ◌^◌, ℕ, zero, suc, ◌+◌, ◌*◌, List, [], ◌∷◌, ◌++◌, length, slice_get, slice_index, Some, Result, Ok, Err, refl, sym, ap, ◌∙◌, subst, inl, inr, ⊎_elim, arith}
+use Rattle.std.proofs.Common.{◌≡◌, ◌<◌, ◌≤◌, ◌^◌, ℕ, zero, suc, ◌+◌, ◌*◌, List, [], ◌∷◌, ◌++◌, length, slice_get, slice_index, Some, Result,
+    Ok, Err, refl, sym, ap, ◌∙◌, subst, inl, inr, ⊎_elim, arith}
 use Rattle.std.specs.declared.dyn_box.DynBox.{DynBox}
 use Rattle.std.specs.Global.{Global, Vec}
 use Rattle.srm_net.specs.Network.{Network}
@@ -33,7 +34,8 @@ module _ {X : Type 0} {H : X → Type 0} where
   sum_of_is k (d ∷ ds) = ap (λ n. word_of d.crossings k + n) (sum_of_is k ds)
 
   -- rows of jobs that are done, each once at most, and their crossings
-  some_rows : (f : DynBox X Global H → Record) (k : PlainScenario) (net : Network) (js : List (Job X H)) (ps : List PlainJob) (places : List ℕ) (ds : List (job.Done X H)) → AreJobs f js ps
+  some_rows : (f : DynBox X Global H → Record) (k : PlainScenario) (net : Network) (js : List (Job X H)) (ps : List PlainJob)
+      (places : List ℕ) (ds : List (job.Done X H)) → AreJobs f js ps
       → ((p : ℕ) → times p places ≤ 1) → ComeOf (λ j r. Advances f k net j r) js places ds
       → (rows : List Row) × AreRowsOfSome ps rows × ((w : ℕ) → sum_of numbers w ds ≡ word_of (crossings (traffic_of k net) rows) w)
   some_rows f k net [] [] [] [] h once z = ([], refl, λ w. sym (none_crossed (traffic_of k net) w))
@@ -48,24 +50,29 @@ module _ {X : Type 0} {H : X → Type 0} where
   some_rows f k net (j ∷ js) (p ∷ ps) places ds h once z =
       let t = traffic_of k net in
       let r = peel (λ x d. Advances f k net x (Ok d)) numbers j js places ds once z in
-      let more = some_rows f k net js ps (lower places) r.results h.1 (λ q. let e = lower_times q places in let o = once (suc q) in omega (arith, e, o)) r.rest in
+      let more = some_rows f k net js ps (lower places) r.results h.1
+          (λ q. let e = lower_times q places in let o = once (suc q) in omega (arith, e, o)) r.rest in
       ⊎_elim
       (λ (n : (times 0 places ≡ 0) × ((w : ℕ) → sum_of numbers w ds ≡ sum_of numbers w r.results)).
       (more.0, inl more.1, λ w. n.1 w ∙ more.2 w))
-      (λ (n : (times 0 places ≡ 1) × (d : job.Done X H) × Advances f k net j (Ok d) × ((w : ℕ) → sum_of numbers w ds ≡ word_of (numbers d) w + sum_of numbers w r.results)).
+      (λ (n : (times 0 places ≡ 1) × (d : job.Done X H) × Advances f k net j (Ok d)
+          × ((w : ℕ) → sum_of numbers w ds ≡ word_of (numbers d) w + sum_of numbers w r.results)).
       let done = n.2.tells p h.0 in
       let own = joined n.1.rows.items in (
         own ++ more.0,
         inr (own, more.0, rows_are f p.till p.cells n.1.rows.items n.1.cells.items done.runs, refl, more.1),
         λ w.
             let one : word_of n.1.crossings w ≡ word_of (crossings t own) w = ap (λ ns. word_of ns w) done.crossings_are in
-            let both = ap (λ ns. word_of ns w) (crossings_add t own more.0) ∙ word_of_added (crossings t own) (crossings t more.0) (crossings_long t own ∙ sym (crossings_long t more.0)) w in
+            let both = ap (λ ns. word_of ns w) (crossings_add t own more.0)
+                ∙ word_of_added (crossings t own) (crossings t more.0) (crossings_long t own ∙ sym (crossings_long t more.0)) w in
             let a = n.3 w in let b = more.2 w in omega (arith, one, both, a, b),
       ))
       r.first
 
-  one_told : (f : DynBox X Global H → Record) (k : PlainScenario) (net : Network) (js : List (Job X H)) (ps : List PlainJob) (e : CellFault) (Any : List PlainJob → Type 0)
-      → ((p : PlainJob) (qs : List PlainJob) → TellsFault p.till p.cells e → Any (p ∷ qs)) → ((p : PlainJob) (qs : List PlainJob) → Any qs → Any (p ∷ qs))
+  one_told : (f : DynBox X Global H → Record) (k : PlainScenario) (net : Network) (js : List (Job X H)) (ps : List PlainJob) (e : CellFault)
+      (Any : List PlainJob → Type 0)
+      → ((p : PlainJob) (qs : List PlainJob) → TellsFault p.till p.cells e → Any (p ∷ qs))
+          → ((p : PlainJob) (qs : List PlainJob) → Any qs → Any (p ∷ qs))
       → AreJobs f js ps → (place : ℕ) → HoldsAt (λ j. Advances f k net j (Err e)) js place → Any ps
   one_told f k net [] ps e Any here there h place z = absurd (nothing_there place z.0 z.1)
     where
@@ -77,16 +84,20 @@ module _ {X : Type 0} {H : X → Type 0} where
       here p ps ((subst (λ x. Advances f k net x (Err e)) same z.2).tells p h.0)
   one_told f k net (j ∷ js) (p ∷ ps) e Any here there h (suc place) z = there p ps (one_told f k net js ps e Any here there h.1 place z)
 
-  stops_told : (f : DynBox X Global H → Record) (k : PlainScenario) (net : Network) (seat : SeatView) (js : List (Job X H)) (ps : List PlainJob) (e : CrewFault) → AreJobs f js ps
+  stops_told : (f : DynBox X Global H → Record) (k : PlainScenario) (net : Network) (seat : SeatView) (js : List (Job X H))
+      (ps : List PlainJob) (e : CrewFault) → AreJobs f js ps
       → Stops (λ j r. Advances f k net j r) numbers js [] seat e → TellsMap f (traffic_of k net) seat ps (Err e)
   stops_told f k net seat js ps fault.NoMemory h s = tt
-  stops_told f k net seat js ps fault.Spent h s = one_told f k net js ps cell.Spent (AnyEnds _) (λ p qs t. inl t) (λ p qs a. inr a) h s.0 s.1
-  stops_told f k net seat js ps fault.CountFull h s = one_told f k net js ps cell.CountFull (AnyEnds _) (λ p qs t. inl t) (λ p qs a. inr a) h s.0 s.1
+  stops_told f k net seat js ps fault.Spent h s = one_told f k net js ps cell.Spent (AnyEnds _) (λ p qs t. inl t)
+      (λ p qs a. inr a) h s.0 s.1
+  stops_told f k net seat js ps fault.CountFull h s = one_told f k net js ps cell.CountFull (AnyEnds _) (λ p qs t. inl t)
+      (λ p qs a. inr a) h s.0 s.1
   stops_told f k net seat js ps fault.ShareFull h s =
       let rows = some_rows f k net js ps s.0 s.1 h s.2.0 s.3 in
       (rows.0, rows.1, (s.4.0, subst (λ n. 2 ^ 47 < slice_index seat.shares s.4.0 + n) (rows.2 s.4.0) s.4.1))
 
-  pub shared_maps : (f : DynBox X Global H → Record) (k : PlainScenario) (net : Network) (seat : SeatView) (js : List (Job X H)) (r : Result (Vec (job.Done X H) × SeatView) CrewFault)
+  pub shared_maps : (f : DynBox X Global H → Record) (k : PlainScenario) (net : Network) (seat : SeatView) (js : List (Job X H))
+      (r : Result (Vec (job.Done X H) × SeatView) CrewFault)
       → TellsAll (λ j x. Advances f k net j x) numbers js seat r → Maps f k net seat js r
   shared_maps f k net seat js (Ok v) t = record {
     tells = λ ps h.
@@ -95,13 +106,16 @@ module _ {X : Type 0} {H : X → Type 0} where
           record {
             ledger = t.1.ledger;
             weight = t.1.weight;
-            shares = λ w. t.1.shares w ∙ ap (λ n. slice_index seat.shares w + n) (sum_of_is w v.0.items ∙ sum_is f (traffic_of k net) ps v.0.items done w);
+            shares = λ w. t.1.shares w ∙ ap (λ n. slice_index seat.shares w + n)
+                (sum_of_is w v.0.items ∙ sum_is f (traffic_of k net) ps v.0.items done w);
           },
         );
   }
   shared_maps f k net seat js (Err e) t = record { tells = λ ps h. stops_told f k net seat js ps e h t }
 
   -- a job that is done has five numbers for each link
-  pub done_long : (f : DynBox X Global H → Record) (k : PlainScenario) (net : Network) (n links : ℕ) (j : Job X H) (d : job.Done X H) → (traffic_of k net).links ≡ links → MayAdvance f n j → Advances f k net j (Ok d)
+  pub done_long : (f : DynBox X Global H → Record) (k : PlainScenario) (net : Network) (n links : ℕ) (j : Job X H) (d : job.Done X H)
+      → (traffic_of k net).links ≡ links → MayAdvance f n j → Advances f k net j (Ok d)
       → length d.crossings ≡ 5 * links
-  done_long f k net n links j d e may a = let done = a.tells may.plain_job may.is in ap length done.crossings_are ∙ crossings_long (traffic_of k net) (joined d.rows.items) ∙ ap (λ l. 5 * l) e
+  done_long f k net n links j d e may a = let done = a.tells may.plain_job may.is in ap length done.crossings_are
+      ∙ crossings_long (traffic_of k net) (joined d.rows.items) ∙ ap (λ l. 5 * l) e

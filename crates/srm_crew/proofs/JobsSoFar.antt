@@ -15,13 +15,15 @@ use Rattle.srm_crew.specs.Crews.{AreJobs, AnyEnds, TellsEach}
 
 module _ {X : Type 0} {H : X → Type 0} where
   -- where the jobs that are left are seen as these, what is done of all is what is done so far and then of them
-  pub record SoFar (f : DynBox X Global H → Record) (s : Traffic) (ps : List PlainJob) (all : List (job.Done X H)) (left : List (Job X H)) : Type 0 where
+  pub record SoFar (f : DynBox X Global H → Record) (s : Traffic) (ps : List PlainJob) (all : List (job.Done X H))
+      (left : List (Job X H)) : Type 0 where
     pub rest : List PlainJob
     pub seen : AreJobs f left rest
     pub done : (ds : List (job.Done X H)) → AllZip (λ p d. IsDone f s p d) rest ds → AllZip (λ p d. IsDone f s p d) ps (all ++ ds)
     pub ends : (o : StepOutcome Stepped) → AnyEnds o rest → AnyEnds o ps
 
-  pub so_far_none : (f : DynBox X Global H → Record) (s : Traffic) (ps : List PlainJob) (left : List (Job X H)) → AreJobs f left ps → SoFar f s ps [] left
+  pub so_far_none : (f : DynBox X Global H → Record) (s : Traffic) (ps : List PlainJob) (left : List (Job X H)) → AreJobs f left ps
+      → SoFar f s ps [] left
   so_far_none f s ps left h = record { rest = ps; seen = h; done = λ ds z. z; ends = λ o e. e }
 
   -- the first of the jobs that are left
@@ -32,30 +34,36 @@ module _ {X : Type 0} {H : X → Type 0} where
     pub job : IsJob f j own
     pub jobs : AreJobs f js others
 
-  pub first_of : (f : DynBox X Global H → Record) (j : Job X H) (js : List (Job X H)) (rest : List PlainJob) → AreJobs f (j ∷ js) rest → First f j js rest
+  pub first_of : (f : DynBox X Global H → Record) (j : Job X H) (js : List (Job X H)) (rest : List PlainJob) → AreJobs f (j ∷ js) rest
+      → First f j js rest
   first_of f j js [] h = absurd h
   first_of f j js (p ∷ ps) h = record { own = p; others = ps; is = refl; job = h.0; jobs = h.1 }
 
-  pub so_far_more : (f : DynBox X Global H → Record) (s : Traffic) (ps : List PlainJob) (all : List (job.Done X H)) (left js : List (Job X H)) (j : Job X H) (d : job.Done X H)
+  pub so_far_more : (f : DynBox X Global H → Record) (s : Traffic) (ps : List PlainJob) (all : List (job.Done X H))
+      (left js : List (Job X H)) (j : Job X H) (d : job.Done X H)
       → (h : SoFar f s ps all left) → (r : First f j js h.rest) → IsDone f s r.own d → SoFar f s ps (all ++ d ∷ []) js
   so_far_more f s ps all left js j d h r done = record {
     rest = r.others;
     seen = r.jobs;
-    done = λ ds z. subst (AllZip (λ p d. IsDone f s p d) ps) (sym (append_assoc all (d ∷ []) ds)) (h.done (d ∷ ds) (subst (λ xs. AllZip (λ p d. IsDone f s p d) xs (d ∷ ds)) (sym r.is) (done, z)));
+    done = λ ds z. subst (AllZip (λ p d. IsDone f s p d) ps) (sym (append_assoc all (d ∷ []) ds))
+        (h.done (d ∷ ds) (subst (λ xs. AllZip (λ p d. IsDone f s p d) xs (d ∷ ds)) (sym r.is) (done, z)));
     ends = λ o e. h.ends o (subst (AnyEnds o) (sym r.is) (inr e));
   }
 
-  pub so_far_all : (f : DynBox X Global H → Record) (s : Traffic) (ps : List PlainJob) (all : List (job.Done X H)) (left : List (Job X H)) → SoFar f s ps all left → left ≡ [] → AllZip (λ p d. IsDone f s p d) ps all
+  pub so_far_all : (f : DynBox X Global H → Record) (s : Traffic) (ps : List PlainJob) (all : List (job.Done X H)) (left : List (Job X H))
+      → SoFar f s ps all left → left ≡ [] → AllZip (λ p d. IsDone f s p d) ps all
   so_far_all f s ps all left h e =
       let none = no_more h.rest (subst (λ js. AreJobs f js h.rest) e h.seen) in
-      let every : AllZip (λ p d. IsDone f s p d) ps (all ++ []) = h.done [] (subst (λ xs. AllZip (λ p d. IsDone f s p d) xs []) (sym none) tt) in
+      let every : AllZip (λ p d. IsDone f s p d) ps (all ++ []) = h.done
+          [] (subst (λ xs. AllZip (λ p d. IsDone f s p d) xs []) (sym none) tt) in
       subst (AllZip (λ p d. IsDone f s p d) ps) (append-nil all) every
     where
       no_more : (rest : List PlainJob) → AreJobs f [] rest → rest ≡ []
       no_more [] h = refl
       no_more (p ∷ ps) h = absurd h
 
-  pub so_far_fault : (f : DynBox X Global H → Record) (s : Traffic) (ps : List PlainJob) (all : List (job.Done X H)) (left js : List (Job X H)) (j : Job X H) (e : CellFault)
+  pub so_far_fault : (f : DynBox X Global H → Record) (s : Traffic) (ps : List PlainJob) (all : List (job.Done X H))
+      (left js : List (Job X H)) (j : Job X H) (e : CellFault)
       → (h : SoFar f s ps all left) → (r : First f j js h.rest) → TellsDone f s r.own (Err e) → TellsEach f s ps (Err e)
   so_far_fault f s ps all left js j cell.NoMemory h r t = tt
   so_far_fault f s ps all left js j cell.Spent h r t = h.ends _ (subst (AnyEnds _) (sym r.is) (inl t))

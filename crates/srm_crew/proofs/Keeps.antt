@@ -1,5 +1,6 @@
 -- Each step of a pass keeps the rule of the bag.
-use Rattle.std.proofs.Common.{◌≡◌, ◌≢◌, ℕ, zero, suc, ◌+◌, ◌*◌, ◌/◌, ◌<◌, ◌≤◌, ◌⊎◌, List, [], ◌∷◌, ◌++◌, length, slice_get, Some, set, sym, refl, ap, ◌∙◌, subst, ⊎_elim, inl, inr, arith, eq-eqb, ne_eqb, lt_of_not-le}
+use Rattle.std.proofs.Common.{◌≡◌, ◌≢◌, ℕ, zero, suc, ◌+◌, ◌*◌, ◌/◌, ◌<◌, ◌≤◌, ◌⊎◌, List, [], ◌∷◌, ◌++◌, length, slice_get, Some, set, sym,
+    refl, ap, ◌∙◌, subst, ⊎_elim, inl, inr, arith, eq-eqb, ne_eqb, lt_of_not-le}
 use Rattle.std.proofs.lemmas.List.{length-append}
 use mathlib.Core.Logic.{dite}
 use mathlib.Core.Option.{some, some-injective, some-ne-none}
@@ -9,7 +10,8 @@ use Rattle.atomic_table.proofs.Lists.{at_set, at_snoc, set_else}
 use Rattle.crossbeam_queue.specs.Fifo.{Pushes, Pops, Forks, Merges, Learns}
 use Rattle.srm_crew.specs.declared.rule.Hold.{Hold}
 use Rattle.srm_crew.specs.declared.rule.Spot.{Spot}
-use Rattle.srm_crew.specs.Places.{hold_of, spent, total, times, AllBelow, weight_of, count_of, times_of, PassOk, Kept, puts, takes, short, rests, fits, first_half, second_half, both_holds}
+use Rattle.srm_crew.specs.Places.{hold_of, spent, total, times, AllBelow, weight_of, count_of, times_of, PassOk, Kept, puts, takes, short,
+    rests, fits, first_half, second_half, both_holds}
 
 module _ {V : Type 0} (f : V → ℕ) where
   pub total_set : (l : List V) (i : ℕ) (v w : V) → get_elem? l i ≡ some v → total f (set l i w) + f v ≡ total f l + f w
@@ -62,11 +64,13 @@ module _ {A : Type 0} where
   get_last [] a = refl
   get_last (x ∷ xs) a = get_last xs a
 
-  last_or_before : (l : List A) (a : A) (j : ℕ) (b : A) → get_elem? (l ++ a ∷ []) j ≡ some b → (get_elem? l j ≡ some b) ⊎ ((j ≡ length l) × (a ≡ b))
+  last_or_before : (l : List A) (a : A) (j : ℕ) (b : A) → get_elem? (l ++ a ∷ []) j ≡ some b → (get_elem? l j ≡ some b)
+      ⊎ ((j ≡ length l) × (a ≡ b))
   last_or_before [] a zero b e = inr (refl, some-injective a b e)
   last_or_before [] a (suc j) b e = absurd (some-ne-none b (sym e))
   last_or_before (x ∷ xs) a zero b e = inl e
-  last_or_before (x ∷ xs) a (suc j) b e = ⊎_elim (λ o. inl o) (λ (t : (j ≡ length xs) × (a ≡ b)). inr (ap suc t.0, t.1)) (last_or_before xs a j b e)
+  last_or_before (x ∷ xs) a (suc j) b e = ⊎_elim (λ o. inl o) (λ (t : (j ≡ length xs) × (a ≡ b)). inr (ap suc t.0, t.1))
+      (last_or_before xs a j b e)
 
 module _ {T : Type 0} where
   pub takes_keep : (id : ℕ) (v : Hold T) → 1 ≤ v.weight → Pops (Kept {T = T}) id v (takes v)
@@ -86,42 +90,54 @@ module _ {T : Type 0} where
           put = h.put;
           popped = h.popped + 1;
           behind = omega arith;
-          queued = λ j y e. let g = h.queued (suc j) y e in (omega arith, let same : h.popped + suc j ≡ h.popped + 1 + j = omega arith in ap (slice_get h.put) (sym same) ∙ g.1);
+          queued = λ j y e. let g = h.queued (suc j) y e in
+              (omega arith, let same : h.popped + suc j ≡ h.popped + 1 + j = omega arith in ap (slice_get h.put) (sym same) ∙ g.1);
           whole = (let t = total_set weight_of views id v w at in let e = h.whole in omega arith);
           counted = (let t = total_set count_of views id v w at in omega arith);
           once = λ p lt. let t = total_set (times_of p) views id v w at in let a = times_append p v.taken (x.place ∷ []) in
               dite (ℕ_discrete p h.popped)
-              (λ e. let o = times_same x.place in let P : ℕ → Type 0 = λ r. times r (x.place ∷ []) ≡ 1 in let o' : times p (x.place ∷ []) ≡ 1 = subst P (q ∙ sym e) o in let z = h.never p (omega arith) in omega arith)
+              (λ e. let o = times_same x.place in let P : ℕ → Type 0 = λ r. times r (x.place ∷ []) ≡ 1 in let o' : times p (x.place ∷ [])
+                  ≡ 1 = subst P (q ∙ sym e) o in let z = h.never p (omega arith) in omega arith)
               (λ no. let o = times_other p x.place (λ r. no (r ∙ q)) in let z = h.once p (omega arith) in omega arith);
-          never = λ p le. let t = total_set (times_of p) views id v w at in let a = times_append p v.taken (x.place ∷ []) in let o = times_other p x.place (λ r. absurd (omega arith)) in let z = h.never p (omega arith) in omega arith;
+          never = λ p le. let t = total_set (times_of p) views id v w at in let a = times_append p v.taken (x.place ∷ []) in let o =
+              times_other p x.place (λ r. absurd (omega arith)) in let z = h.never p (omega arith) in omega arith;
           passes = λ j u e. ⊎_elim
               (λ (t : (j ≡ id) × (w ≡ u)). subst (PassOk h.put (h.popped + 1)) t.1 record {
                 spent_is = λ z. absurd (omega arith);
                 knows = λ _. k;
-                below = all_below_append v.taken (x.place ∷ []) (h.popped + 1) (all_below_more v.taken h.popped (h.popped + 1) ok.below (omega arith)) (one_below x.place (h.popped + 1) (omega arith));
+                below = all_below_append v.taken (x.place ∷ []) (h.popped + 1)
+                    (all_below_more v.taken h.popped (h.popped + 1) ok.below (omega arith))
+                    (one_below x.place (h.popped + 1) (omega arith));
               })
-              (λ (t : (j ≢ id) × (get_elem? views j ≡ some u)). let o = h.passes j u t.1 in record { spent_is = o.spent_is; knows = o.knows; below = all_below_more u.taken h.popped (h.popped + 1) o.below (omega arith) })
+              (λ (t : (j ≢ id) × (get_elem? views j ≡ some u)). let o = h.passes j u t.1 in
+                  record { spent_is = o.spent_is; knows = o.knows; below =
+                  all_below_more u.taken h.popped (h.popped + 1) o.below (omega arith) })
               (at_set views id j w u e);
         },
         (
           refl,
-          (let same : h.popped + 0 ≡ x.place = omega arith in ap (λ (l : List T). slice_get l x.place) k ∙ ap (slice_get h.put) (sym same) ∙ here.1),
+          (let same : h.popped + 0 ≡ x.place = omega arith in ap (λ (l : List T). slice_get l x.place) k ∙ ap (slice_get h.put) (sym same)
+              ∙ here.1),
           all_below_more v.taken h.popped x.place ok.below (omega arith),
           (let l : length v.put ≡ length h.put = ap length k in omega arith),
           (
             (λ p. let a = times_append p v.taken (x.place ∷ []) in let own = total_part (times_of p) views id v at in
                 dite (ℕ_discrete p x.place)
-                (λ e. let z = h.never p (omega arith) in let P : ℕ → Type 0 = λ r. times r (x.place ∷ []) ≡ 1 in let o : times p (x.place ∷ []) ≡ 1 = subst P (sym e) (times_same x.place) in omega arith)
+                (λ e. let z = h.never p (omega arith) in let P : ℕ → Type 0 = λ r. times r (x.place ∷ [])
+                    ≡ 1 in let o : times p (x.place ∷ []) ≡ 1 = subst P (sym e) (times_same x.place) in omega arith)
                 (λ no. let o = times_other p x.place no in
-                dite (dec_le h.popped p) (λ far. let z = h.never p far in omega arith) (λ near. let z = h.once p (lt_of_not-le near) in omega arith))),
-            (λ p far. let l : length v.put ≡ length h.put = ap length k in let a = times_append p v.taken (x.place ∷ []) in let own = total_part (times_of p) views id v at in
+                dite (dec_le h.popped p) (λ far. let z = h.never p far in omega arith)
+                    (λ near. let z = h.once p (lt_of_not-le near) in omega arith))),
+            (λ p far. let l : length v.put ≡ length h.put = ap length k in let a = times_append p v.taken (x.place ∷ []) in let own =
+                total_part (times_of p) views id v at in
                 let o = times_other p x.place (λ r. absurd (omega arith)) in let z = h.never p (omega arith) in omega arith),
           ),
         ),
       )
 
   -- beside the whole pass all others are spent
-  pub others_spent : (items : List (Spot T)) (views : List (Hold T)) (id : ℕ) (v : Hold T) (h : Kept items views) → get_elem? views id ≡ some v → v.weight ≡ 65536
+  pub others_spent : (items : List (Spot T)) (views : List (Hold T)) (id : ℕ) (v : Hold T) (h : Kept items views) → get_elem? views id
+      ≡ some v → v.weight ≡ 65536
       → (j : ℕ) (u : Hold T) → j ≢ id → get_elem? views j ≡ some u → u ≡ spent
   others_spent items views id v h at heavy j u apart e =
       let s : Hold T = spent in
@@ -131,7 +147,8 @@ module _ {T : Type 0} where
       let w = h.whole in
       (h.passes j u e).spent_is (omega arith)
 
-  pub puts_keep : (n id : ℕ) (v : Hold T) (x : Spot T) → v.weight ≡ 65536 → x.place ≡ length v.put → Pushes (Kept {T = T}) n id v x (puts v x)
+  pub puts_keep : (n id : ℕ) (v : Hold T) (x : Spot T) → v.weight ≡ 65536
+      → x.place ≡ length v.put → Pushes (Kept {T = T}) n id v x (puts v x)
   puts_keep n id v x heavy q items views _ h at =
       let ok = h.passes id v at in
       let k : v.put ≡ h.put = ok.knows (omega arith) in
@@ -149,15 +166,18 @@ module _ {T : Type 0} where
           queued = λ j y e. ⊎_elim
               (λ old. let g = h.queued j y old in (g.0, get_longer h.put (x.item ∷ []) (h.popped + j) y.item g.1))
               (λ (new : (j ≡ length items) × (x ≡ y)). let same : h.popped + j ≡ length h.put = (let e' = new.0 in omega arith) in
-              (sym (ap (λ (s : Spot T). s.place) new.1) ∙ q ∙ long ∙ sym same, ap (slice_get put) same ∙ get_last h.put x.item ∙ ap (λ (s : Spot T). Some s.item) new.1))
+              (sym (ap (λ (s : Spot T). s.place) new.1) ∙ q ∙ long ∙ sym same, ap (slice_get put) same ∙ get_last h.put x.item
+                  ∙ ap (λ (s : Spot T). Some s.item) new.1))
               (last_or_before items x j y e);
           whole = (let t = total_set weight_of views id v w at in let e = h.whole in omega arith);
           counted = (let t = total_set count_of views id v w at in let e = h.counted in omega arith);
           once = λ p lt. let t = total_set (times_of p) views id v w at in let e = h.once p lt in omega arith;
           never = λ p le. let t = total_set (times_of p) views id v w at in let e = h.never p le in omega arith;
           passes = λ j u e. ⊎_elim
-              (λ (t : (j ≡ id) × (w ≡ u)). subst (PassOk put h.popped) t.1 record { spent_is = λ z. absurd (omega arith); knows = λ _. ap (λ (l : List T). l ++ x.item ∷ []) k; below = ok.below })
-              (λ (t : (j ≢ id) × (get_elem? views j ≡ some u)). subst (PassOk put h.popped) (sym (others_spent items views id v h at heavy j u t.0 t.1))
+              (λ (t : (j ≡ id) × (w ≡ u)). subst (PassOk put h.popped) t.1
+                  record { spent_is = λ z. absurd (omega arith); knows = λ _. ap (λ (l : List T). l ++ x.item ∷ []) k; below = ok.below })
+              (λ (t : (j ≢ id) × (get_elem? views j ≡ some u)). subst (PassOk put h.popped)
+                  (sym (others_spent items views id v h at heavy j u t.0 t.1))
               record { spent_is = λ _. refl; knows = λ z. absurd (omega arith); below = λ i z. absurd (omega arith) })
               (at_set views id j w u e);
         },
@@ -165,7 +185,8 @@ module _ {T : Type 0} where
       )
 
   pub short_learned : (id : ℕ) (v : Hold T) → 1 ≤ v.weight → Learns (Kept {T = T}) id v (short v)
-  short_learned id v alive items views h at = let k = (h.passes id v at).knows alive in let l : length v.put ≡ length h.put = ap length k in let b = h.behind in omega arith
+  short_learned id v alive items views h at = let k = (h.passes id v at).knows alive in let l : length v.put ≡ length h.put = ap length k in
+      let b = h.behind in omega arith
 
   pub fits_learned : (id : ℕ) (v : Hold T) → 1 ≤ v.weight → Learns (Kept {T = T}) id v (fits v)
   fits_learned id v alive items views h at =
@@ -180,7 +201,8 @@ module _ {T : Type 0} where
         omega arith,
         (
           (λ p. let own = total_part (times_of p) views id v at in
-              dite (dec_le h.popped p) (λ far. let z = h.never p far in omega arith) (λ near. let o = h.once p (lt_of_not-le near) in omega arith)),
+              dite (dec_le h.popped p) (λ far. let z = h.never p far in omega arith)
+                  (λ near. let o = h.once p (lt_of_not-le near) in omega arith)),
           (λ p far. let own = total_part (times_of p) views id v at in let z = h.never p (omega arith) in omega arith),
         ),
       )
@@ -201,8 +223,10 @@ module _ {T : Type 0} where
       let e = h.counted in (
         omega arith,
         λ none. let all : h.popped ≡ length v.put = omega arith in (
-          (λ p lt. let t = total_set (times_of p) views id v s at in let t' = total_none (times_of p) vs (λ j u e. ap (times_of p) (gone j u e)) in let o = h.once p (omega arith) in omega arith),
-          (λ p le. let t = total_set (times_of p) views id v s at in let t' = total_none (times_of p) vs (λ j u e. ap (times_of p) (gone j u e)) in let o = h.never p (omega arith) in omega arith),
+          (λ p lt. let t = total_set (times_of p) views id v s at in let t' =
+              total_none (times_of p) vs (λ j u e. ap (times_of p) (gone j u e)) in let o = h.once p (omega arith) in omega arith),
+          (λ p le. let t = total_set (times_of p) views id v s at in let t' =
+              total_none (times_of p) vs (λ j u e. ap (times_of p) (gone j u e)) in let o = h.never p (omega arith) in omega arith),
         ),
       )
 
@@ -218,16 +242,22 @@ module _ {T : Type 0} where
         popped = h.popped;
         behind = h.behind;
         queued = h.queued;
-        whole = (let a = total_set weight_of views id v l at in let b = total_snoc weight_of (set views id l) r in let e = h.whole in omega arith);
-        counted = (let a = total_set count_of views id v l at in let b = total_snoc count_of (set views id l) r in let e = h.counted in omega arith);
-        once = λ p lt. let a = total_set (times_of p) views id v l at in let b = total_snoc (times_of p) (set views id l) r in let e = h.once p lt in omega arith;
-        never = λ p le. let a = total_set (times_of p) views id v l at in let b = total_snoc (times_of p) (set views id l) r in let e = h.never p le in omega arith;
+        whole = (let a = total_set weight_of views id v l at in let b = total_snoc weight_of (set views id l) r in let e = h.whole in
+            omega arith);
+        counted = (let a = total_set count_of views id v l at in let b = total_snoc count_of (set views id l) r in let e = h.counted in
+            omega arith);
+        once = λ p lt. let a = total_set (times_of p) views id v l at in let b = total_snoc (times_of p) (set views id l) r in let e =
+            h.once p lt in omega arith;
+        never = λ p le. let a = total_set (times_of p) views id v l at in let b = total_snoc (times_of p) (set views id l) r in let e =
+            h.never p le in omega arith;
         passes = λ j u e. ⊎_elim
             (λ x. ⊎_elim
-            (λ (t : (j ≡ id) × (l ≡ u)). subst (PassOk h.put h.popped) t.1 record { spent_is = λ z. absurd (omega arith); knows = λ _. ok.knows (omega arith); below = ok.below })
+            (λ (t : (j ≡ id) × (l ≡ u)). subst (PassOk h.put h.popped) t.1
+                record { spent_is = λ z. absurd (omega arith); knows = λ _. ok.knows (omega arith); below = ok.below })
             (λ (t : (j ≢ id) × (get_elem? views j ≡ some u)). h.passes j u t.1)
             (at_set views id j l u x))
-            (λ (is : r ≡ u). subst (PassOk h.put h.popped) is record { spent_is = λ z. absurd (omega arith); knows = λ _. ok.knows (omega arith); below = λ i z. absurd (omega arith) })
+            (λ (is : r ≡ u). subst (PassOk h.put h.popped) is record
+                { spent_is = λ z. absurd (omega arith); knows = λ _. ok.knows (omega arith); below = λ i z. absurd (omega arith) })
             (at_snoc (set views id l) r u j e);
       }
 
@@ -236,7 +266,8 @@ module _ {T : Type 0} where
       let b : Hold T = both_holds v w in
       let s : Hold T = spent in
       let vs = set views id b in
-      let was : get_elem? views other ≡ some w = ⊎_elim (λ (t : (other ≡ id) × (b ≡ w)). absurd (two t.0)) (λ (t : (other ≢ id) × (get_elem? views other ≡ some w)). t.1) (at_set views id other b w at') in
+      let was : get_elem? views other ≡ some w = ⊎_elim (λ (t : (other ≡ id) × (b ≡ w)). absurd (two t.0))
+          (λ (t : (other ≢ id) × (get_elem? views other ≡ some w)). t.1) (at_set views id other b w at') in
       let ok = h.passes id v at in
       let ok' = h.passes other w was in
       let longer = length-append v.taken w.taken in
@@ -245,14 +276,21 @@ module _ {T : Type 0} where
         popped = h.popped;
         behind = h.behind;
         queued = h.queued;
-        whole = (let x = total_set weight_of views id v b at in let y = total_set weight_of vs other w s at' in let e = h.whole in omega arith);
-        counted = (let x = total_set count_of views id v b at in let y = total_set count_of vs other w s at' in let e = h.counted in omega arith);
-        once = λ p lt. let x = total_set (times_of p) views id v b at in let y = total_set (times_of p) vs other w s at' in let a = times_append p v.taken w.taken in let e = h.once p lt in omega arith;
-        never = λ p le. let x = total_set (times_of p) views id v b at in let y = total_set (times_of p) vs other w s at' in let a = times_append p v.taken w.taken in let e = h.never p le in omega arith;
+        whole = (let x = total_set weight_of views id v b at in let y = total_set weight_of vs other w s at' in let e = h.whole in
+            omega arith);
+        counted = (let x = total_set count_of views id v b at in let y = total_set count_of vs other w s at' in let e = h.counted in
+            omega arith);
+        once = λ p lt. let x = total_set (times_of p) views id v b at in let y = total_set (times_of p) vs other w s at' in let a =
+            times_append p v.taken w.taken in let e = h.once p lt in omega arith;
+        never = λ p le. let x = total_set (times_of p) views id v b at in let y = total_set (times_of p) vs other w s at' in let a =
+            times_append p v.taken w.taken in let e = h.never p le in omega arith;
         passes = λ j u e. ⊎_elim
-            (λ (t : (j ≡ other) × (s ≡ u)). subst (PassOk h.put h.popped) t.1 record { spent_is = λ _. refl; knows = λ z. absurd (omega arith); below = λ i z. absurd (omega arith) })
+            (λ (t : (j ≡ other) × (s ≡ u)). subst (PassOk h.put h.popped)
+                t.1 record { spent_is = λ _. refl; knows = λ z. absurd (omega arith); below = λ i z. absurd (omega arith) })
             (λ (t : (j ≢ other) × (get_elem? vs j ≡ some u)). ⊎_elim
-            (λ (q : (j ≡ id) × (b ≡ u)). subst (PassOk h.put h.popped) q.1 record { spent_is = λ z. absurd (omega arith); knows = λ _. ok.knows alive; below = all_below_append v.taken w.taken h.popped ok.below ok'.below })
+            (λ (q : (j ≡ id) × (b ≡ u)). subst (PassOk h.put h.popped) q.1
+                record { spent_is = λ z. absurd (omega arith); knows = λ _. ok.knows alive; below =
+                all_below_append v.taken w.taken h.popped ok.below ok'.below })
             (λ (q : (j ≢ id) × (get_elem? views j ≡ some u)). h.passes j u q.1)
             (at_set views id j b u t.1))
             (at_set vs other j s u e);

@@ -17,10 +17,13 @@ module _ {X : Type 0} {H : X → Type 0} where
   abbrev pub own_note : Job X H → Note
   own_note j = record { place = j.place; till = j.till; cells = length j.cells.items }
 
-  pub notes_more : (js : List (Job X H)) (i : ℕ) (j : Job X H) → i < length js → j ≡ get_or js i j → map own_note (take i js) ++ own_note j ∷ [] ≡ map own_note (take (i + 1) js)
-  notes_more js i j lt e = sym (ap (map own_note) (take_more js i j lt) ∙ map-append own_note (take i js) (get_or js i j ∷ []) ∙ ap (λ (k : Job X H). map own_note (take i js) ++ own_note k ∷ []) (sym e))
+  pub notes_more : (js : List (Job X H)) (i : ℕ) (j : Job X H) → i < length js → j ≡ get_or js i j → map own_note (take i js)
+      ++ own_note j ∷ [] ≡ map own_note (take (i + 1) js)
+  notes_more js i j lt e = sym (ap (map own_note) (take_more js i j lt) ∙ map-append own_note (take i js) (get_or js i j ∷ [])
+      ∙ ap (λ (k : Job X H). map own_note (take i js) ++ own_note k ∷ []) (sym e))
 
-  pub notes_seen : (f : DynBox X Global H → Record) (js : List (Job X H)) (ps : List PlainJob) → AreJobs f js ps → map own_note js ≡ notes_of ps
+  pub notes_seen : (f : DynBox X Global H → Record) (js : List (Job X H)) (ps : List PlainJob) → AreJobs f js ps → map own_note js
+      ≡ notes_of ps
   notes_seen f [] [] h = refl
   notes_seen f [] (p ∷ ps) h = absurd h
   notes_seen f (j ∷ js) [] h = absurd h

@@ -1,5 +1,6 @@
 -- Results, each in the slot of its place.
-use Rattle.std.proofs.Common.{◌≡◌, ◌≢◌, ◌<◌, ◌≤◌, ℕ, zero, suc, ◌+◌, cond, ◌==◌, List, [], ◌∷◌, ◌++◌, length, map, slice_get, slice_index, Option, Some, Ok, Result, set, length-set, length-append, refl, sym, ap, ◌∙◌, subst, arith, append_assoc, eq-eqb, ne_eqb, lt_of_not-le}
+use Rattle.std.proofs.Common.{◌≡◌, ◌≢◌, ◌<◌, ◌≤◌, ℕ, zero, suc, ◌+◌, cond, ◌==◌, List, [], ◌∷◌, ◌++◌, length, map, slice_get, slice_index,
+    Option, Some, Ok, Result, set, length-set, length-append, refl, sym, ap, ◌∙◌, subst, arith, append_assoc, eq-eqb, ne_eqb, lt_of_not-le}
 use Rattle.std.specs.List.{AllZip}
 use mathlib.Core.Logic.{dite}
 use native.Mathlib.Decide.{ℕ_discrete, dec_le}
@@ -25,11 +26,13 @@ found_twice [] i j near lt e = absurd (omega arith)
 found_twice (p ∷ ps) i zero near lt e = absurd (omega arith)
 found_twice (p ∷ ps) zero (suc j) near lt e =
     let r = found_once ps j (omega arith) in
-    let o : cond {A = ℕ} (slice_index ps j == p) 1 0 ≡ 1 = ap (λ b. cond {A = ℕ} b 1 0) (eq-eqb (slice_index ps j) p (sym e)) in omega (arith, r, o)
+    let o : cond {A = ℕ} (slice_index ps j == p) 1 0 ≡ 1 = ap (λ b. cond {A = ℕ} b 1 0) (eq-eqb (slice_index ps j) p (sym e)) in
+        omega (arith, r, o)
 found_twice (p ∷ ps) (suc i) (suc j) near lt e = let r = found_twice ps i j (omega arith) (omega arith) e in omega (arith, r)
 
 once_below : (ps : List ℕ) (n : ℕ) → EachOnce ps n → (k : ℕ) → k < length ps → slice_index ps k < n
-once_below ps n h k lt = dite (dec_le n (slice_index ps k)) (λ far. absurd (let a = found_once ps k lt in let b = h.1 (slice_index ps k) far in omega (arith, a, b))) (λ near. lt_of_not-le near)
+once_below ps n h k lt = dite (dec_le n (slice_index ps k))
+    (λ far. absurd (let a = found_once ps k lt in let b = h.1 (slice_index ps k) far in omega (arith, a, b))) (λ near. lt_of_not-le near)
 
 once_apart : (ps : List ℕ) (n i j : ℕ) → EachOnce ps n → i < j → j < length ps → slice_index ps i ≢ slice_index ps j
 once_apart ps n i j h near lt e =
@@ -40,7 +43,8 @@ place_of : (ps : List ℕ) (p : ℕ) → 1 ≤ times p ps → (k : ℕ) × (k < 
 place_of [] p h = absurd (omega arith)
 place_of (q ∷ qs) p h = dite (ℕ_discrete p q)
     (λ e. (0, omega arith, sym e))
-    (λ apart. let z : cond {A = ℕ} (p == q) 1 0 ≡ 0 = ap (λ b. cond {A = ℕ} b 1 0) (ne_eqb p q apart) in let r = place_of qs p (omega (arith, h, z)) in (suc r.0, (let lt = r.1 in omega (arith, lt)), r.2))
+    (λ apart. let z : cond {A = ℕ} (p == q) 1 0 ≡ 0 = ap (λ b. cond {A = ℕ} b 1 0) (ne_eqb p q apart) in let r =
+        place_of qs p (omega (arith, h, z)) in (suc r.0, (let lt = r.1 in omega (arith, lt)), r.2))
 
 -- ---- lists
 
@@ -100,19 +104,22 @@ module _ {A B : Type 0} where
 
 module _ {B : Type 0} where
   -- one result of a place
-  zip_found : (R S : ℕ → B → Type 0) (ps : List ℕ) (ys : List B) → AllZip R ps ys → AllZip S ps ys → (k : ℕ) → k < length ps → (y : B) × R (slice_index ps k) y × S (slice_index ps k) y
+  zip_found : (R S : ℕ → B → Type 0) (ps : List ℕ) (ys : List B) → AllZip R ps ys → AllZip S ps ys → (k : ℕ) → k < length ps → (y : B)
+      × R (slice_index ps k) y × S (slice_index ps k) y
   zip_found R S [] ys z w k lt = absurd (omega arith)
   zip_found R S (p ∷ ps) [] z w k lt = absurd z
   zip_found R S (p ∷ ps) (y ∷ ys) z w zero lt = (y, z.0, w.0)
   zip_found R S (p ∷ ps) (y ∷ ys) z w (suc k) lt = zip_found R S ps ys z.1 w.1 k (omega arith)
 
-zip_held : {D : Type 0} (all : List D) (ps : List ℕ) (ds : List D) → AllZip (λ p d. slice_get all p ≡ Some d) ps ds → AllZip (λ p d. HoldsAt (λ x. x ≡ d) all p) ps ds
+zip_held : {D : Type 0} (all : List D) (ps : List ℕ) (ds : List D) → AllZip (λ p d. slice_get all p ≡ Some d) ps ds
+    → AllZip (λ p d. HoldsAt (λ x. x ≡ d) all p) ps ds
 zip_held all [] [] z = tt
 zip_held all [] (d ∷ ds) z = absurd z
 zip_held all (p ∷ ps) [] z = absurd z
 zip_held all (p ∷ ps) (d ∷ ds) z = ((d, z.0, refl), zip_held all ps ds z.1)
 
-zip_places : {D : Type 0} (P : ℕ → D → Type 0) (ps : List ℕ) (ds : List D) → length ps ≡ length ds → ((k : ℕ) (d : D) → slice_get ds k ≡ Some d → k < length ps → P (slice_index ps k) d) → AllZip P ps ds
+zip_places : {D : Type 0} (P : ℕ → D → Type 0) (ps : List ℕ) (ds : List D)
+    → length ps ≡ length ds → ((k : ℕ) (d : D) → slice_get ds k ≡ Some d → k < length ps → P (slice_index ps k) d) → AllZip P ps ds
 zip_places P [] [] e h = tt
 zip_places P [] (d ∷ ds) e h = absurd (omega arith)
 zip_places P (p ∷ ps) [] e h = absurd (omega arith)
@@ -132,13 +139,15 @@ module _ {D : Type 0} where
     pub long : length (set slots (slice_index places (length new)) (Some x)) ≡ length all
     pub filled : FilledFrom places all (length new) (set slots (slice_index places (length new)) (Some x))
 
-  pub one_step : (places : List ℕ) (all old new tail : List D) (x : D) (slots : List (Option D)) → EachOnce places (length all) → length places ≡ length all → length slots ≡ length all
+  pub one_step : (places : List ℕ) (all old new tail : List D) (x : D) (slots : List (Option D)) → EachOnce places (length all)
+      → length places ≡ length all → length slots ≡ length all
       → all ≡ old ++ tail → old ≡ new ++ x ∷ [] → FilledFrom places all (length old) slots → Stepped places all new x slots
   one_step places all old new tail x slots once many long split last filled =
       let parts : all ≡ (new ++ x ∷ []) ++ tail = split ∙ ap (λ l. l ++ tail) last in
       let m : ℕ = length new in
       let one_less : length old ≡ m + 1 = ap length last ∙ length-append new (x ∷ []) in
-      let len : length all ≡ (m + 1) + length tail = ap length parts ∙ length-append (new ++ x ∷ []) tail ∙ ap (λ n. n + length tail) (length-append new (x ∷ [])) in
+      let len : length all ≡ (m + 1) + length tail = ap length parts ∙ length-append (new ++ x ∷ []) tail
+          ∙ ap (λ n. n + length tail) (length-append new (x ∷ [])) in
       let lt : m < length places = omega (arith, many, len) in
       let place : ℕ = slice_index places m in
       let under = once_below places (length all) once m lt in
@@ -152,43 +161,52 @@ module _ {D : Type 0} where
             (λ e. subst (λ (i : ℕ). slice_get (set slots place (Some x)) (slice_index places i) ≡ Some (slice_get all i)) (sym e)
             (get_set_same slots place (Some x) (omega (arith, under, long)) ∙ ap (λ o. Some o) (sym here)))
             (λ apart. let after : m < k = omega (arith, from, apart) in
-            get_set_other slots place (slice_index places k) (Some x) (λ e. once_apart places (length all) m k once after (omega (arith, far, many)) (sym e))
+            get_set_other slots place (slice_index places k) (Some x)
+                (λ e. once_apart places (length all) m k once after (omega (arith, far, many)) (sym e))
             ∙ filled k (omega (arith, after, one_less)) far);
       }
 
   -- what a slot of full ones holds
-  pub full_there : (vs : List D) (slots : List (Option D)) (slot : Option D) (rest more : List (Option D)) → map (λ (x : D). Some x) vs ++ rest ≡ slots → rest ≡ slot ∷ more
+  pub full_there : (vs : List D) (slots : List (Option D)) (slot : Option D) (rest more : List (Option D)) → map (λ (x : D). Some x) vs
+      ++ rest ≡ slots → rest ≡ slot ∷ more
       → ((p : ℕ) → p < length slots → (d : D) × (slice_get slots p ≡ Some (Some d))) → (d : D) × (slot ≡ Some d)
   full_there vs slots slot rest more split is full =
-      let parts : slots ≡ (map (λ (x : D). Some x) vs ++ slot ∷ []) ++ more = sym split ∙ ap (λ l. map (λ (x : D). Some x) vs ++ l) is ∙ sym (append_assoc (map (λ (x : D). Some x) vs) (slot ∷ []) more) in
+      let parts : slots ≡ (map (λ (x : D). Some x) vs ++ slot ∷ []) ++ more = sym split ∙ ap (λ l. map (λ (x : D). Some x) vs ++ l) is
+          ∙ sym (append_assoc (map (λ (x : D). Some x) vs) (slot ∷ []) more) in
       let m : ℕ = length (map (λ (x : D). Some x) vs) in
       let long : length slots ≡ (m + 1) + length more =
-      ap length parts ∙ length-append (map (λ (x : D). Some x) vs ++ slot ∷ []) more ∙ ap (λ n. n + length more) (length-append (map (λ (x : D). Some x) vs) (slot ∷ [])) in
+      ap length parts ∙ length-append (map (λ (x : D). Some x) vs ++ slot ∷ []) more
+          ∙ ap (λ n. n + length more) (length-append (map (λ (x : D). Some x) vs) (slot ∷ [])) in
       let f = full m (omega (arith, long)) in
       let here : slice_get slots m ≡ Some slot = ap (λ l. slice_get l m) parts ∙ get_middle (map (λ (x : D). Some x) vs) more slot in
       (f.0, same_some slot (Some f.0) (sym here ∙ f.1))
 
-  pub all_full : (places : List ℕ) (all : List D) (slots : List (Option D)) → EachOnce places (length all) → length places ≡ length all → FilledFrom places all 0 slots
+  pub all_full : (places : List ℕ) (all : List D) (slots : List (Option D)) → EachOnce places (length all) → length places ≡ length all
+      → FilledFrom places all 0 slots
       → (p : ℕ) → p < length all → (d : D) × (slice_get slots p ≡ Some (Some d))
   all_full places all slots once many filled p lt =
       let o = once.0 p lt in
       let k = place_of places p (omega (arith, o)) in
       let near = k.1 in
       let d = get_there all k.0 (omega (arith, near, many)) in
-      (d.0, subst (λ (q : ℕ). slice_get slots q ≡ Some (Some d.0)) k.2 (filled k.0 (omega arith) (omega (arith, near, many)) ∙ ap (λ o. Some o) d.1))
+      (d.0, subst (λ (q : ℕ). slice_get slots q ≡ Some (Some d.0)) k.2
+          (filled k.0 (omega arith) (omega (arith, near, many)) ∙ ap (λ o. Some o) d.1))
 
-  pub ordered : (places : List ℕ) (all v : List D) (slots : List (Option D)) → length places ≡ length all → length slots ≡ length all → FilledFrom places all 0 slots → map (λ (x : D). Some x) v ≡ slots → InOrder places all v
+  pub ordered : (places : List ℕ) (all v : List D) (slots : List (Option D)) → length places ≡ length all → length slots ≡ length all
+      → FilledFrom places all 0 slots → map (λ (x : D). Some x) v ≡ slots → InOrder places all v
   ordered places all v slots many long filled same = (
     sym (map_long v) ∙ ap length same ∙ long,
     zip_places (λ p d. slice_get v p ≡ Some d) places all many (λ k d g lt.
-        get_some v (slice_index places k) d (ap (λ l. slice_get l (slice_index places k)) same ∙ filled k (omega arith) (omega (arith, lt, many)) ∙ ap (λ o. Some o) g)),
+        get_some v (slice_index places k) d (ap (λ l. slice_get l (slice_index places k)) same
+            ∙ filled k (omega arith) (omega (arith, lt, many)) ∙ ap (λ o. Some o) g)),
   )
 
 -- ---- all items
 
 module _ {T D : Type 0} (R : T → Result D CellFault → Type 0) (numbers : D → List ℕ) where
   -- what workers did, where every place was taken once and the results are in order
-  pub all_told : (items : List T) (P p : PassView T) (S s : SeatView) (r v : List D) (places : List ℕ) → P.put ≡ items → P.taken ≡ [] → Worked R numbers P S [] p s r → places ≡ p.taken → EachOnce places (length items) → InOrder places r v
+  pub all_told : (items : List T) (P p : PassView T) (S s : SeatView) (r v : List D) (places : List ℕ) → P.put ≡ items → P.taken ≡ []
+      → Worked R numbers P S [] p s r → places ≡ p.taken → EachOnce places (length items) → InOrder places r v
       → AllZip (λ x d. R x (Ok d)) items v × HasGrown (λ k. sum_of numbers k v) S s
   all_told items P p S s r v places put none w is once order =
       let same : places ≡ w.places = is ∙ ap (λ q. q.taken) w.taken ∙ ap (λ l. l ++ w.places) none in
@@ -203,7 +221,8 @@ module _ {T D : Type 0} (R : T → Result D CellFault → Type 0) (numbers : D �
             let o = once.0 k lt in
             let i = place_of places k (omega (arith, o)) in
             let f = zip_found (λ p d. HoldsAt (λ x. R x (Ok d)) items p) (λ p d. slice_get v p ≡ Some d) places r come3 order.1 i.0 i.1 in
-            (f.1.0, f.0, subst (λ (q : ℕ). slice_get items q ≡ Some f.1.0) i.2 f.1.1, subst (λ (q : ℕ). slice_get v q ≡ Some f.0) i.2 f.2, f.1.2)),
+            (f.1.0, f.0, subst (λ (q : ℕ). slice_get items q ≡ Some f.1.0) i.2 f.1.1, subst (λ (q : ℕ). slice_get v q ≡ Some f.0) i.2 f.2,
+                f.1.2)),
         record {
           ledger = w.grown.ledger;
           weight = w.grown.weight;
@@ -220,15 +239,21 @@ module _ {T D : Type 0} (R : T → Result D CellFault → Type 0) (numbers : D �
     pub many : length places ≡ length r
     pub whole : EachOnce places (length items)
 
-  pub all_placed : (items : List T) (P p : PassView T) (S s : SeatView) (r : List D) (places : List ℕ) → P.put ≡ items → P.taken ≡ [] → Worked R numbers P S [] p s r → places ≡ p.taken → EachOnce p.taken (length p.put) → Placed items r places
+  pub all_placed : (items : List T) (P p : PassView T) (S s : SeatView) (r : List D) (places : List ℕ) → P.put ≡ items → P.taken ≡ []
+      → Worked R numbers P S [] p s r → places ≡ p.taken → EachOnce p.taken (length p.put) → Placed items r places
   all_placed items P p S s r places put none w is once =
       let put2 : p.put ≡ items = ap (λ q. q.put) w.taken ∙ put in
       let same : places ≡ w.places = is ∙ ap (λ q. q.taken) w.taken ∙ ap (λ l. l ++ w.places) none in
-      let whole : EachOnce places (length items) = subst (λ l. EachOnce places (length l)) put2 (subst (λ l. EachOnce l (length p.put)) (sym is) once) in
-      let many : length places ≡ length r = ap length same ∙ zip_long (λ p d. HoldsAt (λ x. R x (Ok d)) P.put p) w.places w.more w.come ∙ sym (ap length w.gave) in
+      let whole : EachOnce places (length items) = subst (λ l. EachOnce places (length l)) put2
+          (subst (λ l. EachOnce l (length p.put)) (sym is) once) in
+      let many : length places ≡ length r = ap length same ∙ zip_long (λ p d. HoldsAt (λ x. R x (Ok d)) P.put p) w.places w.more w.come
+          ∙ sym (ap length w.gave) in
       record { once = subst (EachOnce places) (sym (once_length (length items) places whole) ∙ many) whole; many = many; whole = whole }
 
   -- the bag is emptied
-  pub not_refused : (P p : PassView T) (S s : SeatView) (r : List D) (e : EmptyFault) → P.weight ≡ 65536 → Worked R numbers P S [] p s r → (p.weight ≡ 65536 → EachOnce p.taken (length p.put)) → RefusesEmpty p e → ⊥
-  not_refused P p S s r empty.NotWhole is w whole h = let weight : p.weight ≡ 65536 = ap (λ q. q.weight) w.taken ∙ is in omega (arith, weight, h)
-  not_refused P p S s r empty.NotEmpty is w whole h = let long = once_length (length p.put) p.taken (whole h.0) in let short = h.1 in omega (arith, long, short)
+  pub not_refused : (P p : PassView T) (S s : SeatView) (r : List D) (e : EmptyFault) → P.weight ≡ 65536 → Worked R numbers P S [] p s r
+      → (p.weight ≡ 65536 → EachOnce p.taken (length p.put)) → RefusesEmpty p e → ⊥
+  not_refused P p S s r empty.NotWhole is w whole h = let weight : p.weight ≡ 65536 = ap (λ q. q.weight) w.taken
+      ∙ is in omega (arith, weight, h)
+  not_refused P p S s r empty.NotEmpty is w whole h = let long = once_length (length p.put) p.taken (whole h.0) in let short = h.1 in
+      omega (arith, long, short)

@@ -1,5 +1,6 @@
 -- What comes of items at places, each taken once at most, seen item by item.
-use Rattle.std.proofs.Common.{◌≡◌, ◌≢◌, ◌≤◌, ◌⊎◌, ℕ, zero, suc, ◌+◌, cond, ◌==◌, List, [], ◌∷◌, length, Some, refl, sym, ap, ◌∙◌, subst, inl, inr, ⊎_elim, arith, eq-eqb, ne_eqb, lt_of_not-le}
+use Rattle.std.proofs.Common.{◌≡◌, ◌≢◌, ◌≤◌, ◌⊎◌, ℕ, zero, suc, ◌+◌, cond, ◌==◌, List, [], ◌∷◌, length, Some, refl, sym, ap, ◌∙◌, subst,
+    inl, inr, ⊎_elim, arith, eq-eqb, ne_eqb, lt_of_not-le}
 use Rattle.std.specs.List.{AllZip}
 use mathlib.Core.Logic.{dite}
 use native.Mathlib.Decide.{ℕ_discrete, dec_le}
@@ -36,7 +37,8 @@ lower_length : (ps : List ℕ) → length ps ≡ times 0 ps + length (lower ps)
 unfolding lower
 lower_length [] = refl
 lower_length (zero ∷ ps) = let more = lower_length ps in let one = times_more zero ps in omega (arith, more, one)
-lower_length (suc q ∷ ps) = let more = lower_length ps in let same = times_same zero (suc q) ps (λ e. absurd (omega arith)) in omega (arith, more, same)
+lower_length (suc q ∷ ps) = let more = lower_length ps in let same = times_same zero (suc q) ps (λ e. absurd (omega arith)) in
+    omega (arith, more, same)
 
 lower_once : (n : ℕ) (ps : List ℕ) → EachOnce ps (suc n) → EachOnce (lower ps) n
 lower_once n ps once = (λ p lt. lower_times p ps ∙ once.0 (suc p) (omega arith), λ p le. lower_times p ps ∙ once.1 (suc p) (omega arith))
@@ -65,7 +67,8 @@ module _ {T D : Type 0} (Q : T → D → Type 0) (numbers : D → List ℕ) wher
     pub first : ((times 0 ps ≡ 0) × ((k : ℕ) → sum_of numbers k ds ≡ sum_of numbers k results))
         ⊎ ((times 0 ps ≡ 1) × (d : D) × Q x d × ((k : ℕ) → sum_of numbers k ds ≡ word_of (numbers d) k + sum_of numbers k results))
 
-  pub peel : (x : T) (xs : List T) (ps : List ℕ) (ds : List D) → ((p : ℕ) → times p ps ≤ 1) → AllZip (λ p d. HoldsAt (λ y. Q y d) (x ∷ xs) p) ps ds → Peeled x xs ps ds
+  pub peel : (x : T) (xs : List T) (ps : List ℕ) (ds : List D) → ((p : ℕ) → times p ps ≤ 1)
+      → AllZip (λ p d. HoldsAt (λ y. Q y d) (x ∷ xs) p) ps ds → Peeled x xs ps ds
   unfolding lower
   peel x xs [] [] once z = record { results = []; rest = tt; first = inl (refl, λ k. refl) }
   peel x xs [] (d ∷ ds) once z = absurd z
@@ -76,11 +79,13 @@ module _ {T D : Type 0} (Q : T → D → Type 0) (numbers : D → List ℕ) wher
       let none : times 0 ps ≡ 0 = omega (arith, one, most) in
       let r = peel x xs ps ds (λ q. let o = once q in omega (arith, o)) z.1 in
       let same : (k : ℕ) → sum_of numbers k ds ≡ sum_of numbers k r.results =
-      ⊎_elim (λ (h : (times 0 ps ≡ 0) × ((k : ℕ) → sum_of numbers k ds ≡ sum_of numbers k r.results)). h.1) (λ h. absurd (let e = h.0 in omega (arith, e, none))) r.first in
+      ⊎_elim (λ (h : (times 0 ps ≡ 0) × ((k : ℕ) → sum_of numbers k ds ≡ sum_of numbers k r.results)). h.1)
+          (λ h. absurd (let e = h.0 in omega (arith, e, none))) r.first in
       record {
         results = r.results;
         rest = r.rest;
-        first = inr (omega (arith, one, none), d, subst (λ y. Q y d) (sym (some_is x z.0.0 z.0.1)) z.0.2, λ k. let e = same k in omega (arith, e));
+        first = inr (omega (arith, one, none), d, subst (λ y. Q y d) (sym (some_is x z.0.0 z.0.1)) z.0.2, λ k. let e = same k in
+            omega (arith, e));
       }
   peel x xs (suc q ∷ ps) (d ∷ ds) once z =
       let other = times_same zero (suc q) ps (λ e. absurd (omega arith)) in
@@ -89,15 +94,18 @@ module _ {T D : Type 0} (Q : T → D → Type 0) (numbers : D → List ℕ) wher
         results = d ∷ r.results;
         rest = (z.0, r.rest);
         first = ⊎_elim
-            (λ (h : (times 0 ps ≡ 0) × ((k : ℕ) → sum_of numbers k ds ≡ sum_of numbers k r.results)). inl (other ∙ h.0, λ k. let e = h.1 k in omega (arith, e)))
-            (λ (h : (times 0 ps ≡ 1) × (e : D) × Q x e × ((k : ℕ) → sum_of numbers k ds ≡ word_of (numbers e) k + sum_of numbers k r.results)).
+            (λ (h : (times 0 ps ≡ 0) × ((k : ℕ) → sum_of numbers k ds ≡ sum_of numbers k r.results)). inl
+                (other ∙ h.0, λ k. let e = h.1 k in omega (arith, e)))
+            (λ (h : (times 0 ps ≡ 1) × (e : D) × Q x e
+                × ((k : ℕ) → sum_of numbers k ds ≡ word_of (numbers e) k + sum_of numbers k r.results)).
             inr (other ∙ h.0, h.1, h.2, λ k. let e = h.3 k in omega (arith, e)))
             r.first;
       }
 
 module _ {D : Type 0} (numbers : D → List ℕ) where
   -- where each of these stands at its place of a list, and there is no more in it, the sums are the same
-  pub sum_same : (all : List D) (ps : List ℕ) (ds : List D) → EachOnce ps (length all) → AllZip (λ p d. HoldsAt (λ x. x ≡ d) all p) ps ds → (k : ℕ) → sum_of numbers k ds ≡ sum_of numbers k all
+  pub sum_same : (all : List D) (ps : List ℕ) (ds : List D) → EachOnce ps (length all) → AllZip (λ p d. HoldsAt (λ x. x ≡ d) all p) ps ds
+      → (k : ℕ) → sum_of numbers k ds ≡ sum_of numbers k all
   sum_same [] [] [] once z k = refl
   sum_same [] [] (d ∷ ds) once z k = absurd z
   sum_same [] (p ∷ ps) ds once z k = absurd (let e = once.1 p (omega arith) in let one = times_more p ps in omega (arith, e, one))
@@ -108,8 +116,10 @@ module _ {D : Type 0} (numbers : D → List ℕ) where
       ⊎_elim
       (λ h. absurd (let e = h.0 in omega (arith, e, here)))
       (λ (h : (times 0 ps ≡ 1) × (d : D) × (x ≡ d) × ((k : ℕ) → sum_of numbers k ds ≡ word_of (numbers d) k + sum_of numbers k r.results)).
-      let e = h.3 k in let same : word_of (numbers x) k ≡ word_of (numbers h.1) k = ap (λ y. word_of (numbers y) k) h.2 in omega (arith, e, same, more))
+      let e = h.3 k in let same : word_of (numbers x) k ≡ word_of (numbers h.1) k = ap (λ y. word_of (numbers y) k) h.2 in
+          omega (arith, e, same, more))
       r.first
     where
       at_most : (n : ℕ) (ps : List ℕ) → EachOnce ps (suc n) → (p : ℕ) → times p ps ≤ 1
-      at_most n ps once p = dite (dec_le (suc n) p) (λ far. let e = once.1 p far in omega (arith, e)) (λ near. let e = once.0 p (lt_of_not-le near) in omega (arith, e))
+      at_most n ps once p = dite (dec_le (suc n) p) (λ far. let e = once.1 p far in omega (arith, e))
+          (λ near. let e = once.0 p (lt_of_not-le near) in omega (arith, e))

@@ -1,5 +1,6 @@
 -- Crossings of all that is done.
-use Rattle.std.proofs.Common.{◌≡◌, ◌<◌, ◌≤◌, ℕ, zero, suc, ◌+◌, ◌*◌, List, [], ◌∷◌, ◌++◌, length, take, get_or, slice_index, replicate, All, refl, sym, ap, ◌∙◌, arith, inr}
+use Rattle.std.proofs.Common.{◌≡◌, ◌<◌, ◌≤◌, ℕ, zero, suc, ◌+◌, ◌*◌, List, [], ◌∷◌, ◌++◌, length, take, get_or, slice_index, replicate, All,
+    refl, sym, ap, ◌∙◌, arith, inr}
 use Rattle.std.specs.List.{AllZip, flat_map, range_with_len}
 use Rattle.std.proofs.lemmas.List.Elements.{All-nil, All-cons}
 use Rattle.std.proofs.lemmas.List.{take_more}
@@ -54,22 +55,29 @@ module _ {X : Type 0} {H : X → Type 0} where
   sum_append k [] ys = omega arith
   sum_append k (x ∷ xs) ys = let e = sum_append k xs ys in omega (arith, e)
 
-  pub sum_more : (k : ℕ) (ds : List (job.Done X H)) (i : ℕ) (d : job.Done X H) → i < length ds → d ≡ get_or ds i d → sum_at k (take (i + 1) ds) ≡ sum_at k (take i ds) + word_of d.crossings k
+  pub sum_more : (k : ℕ) (ds : List (job.Done X H)) (i : ℕ) (d : job.Done X H) → i < length ds → d ≡ get_or ds i d
+      → sum_at k (take (i + 1) ds) ≡ sum_at k (take i ds) + word_of d.crossings k
   sum_more k ds i d lt e =
-      ap (sum_at k) (take_more ds i d lt) ∙ sum_append k (take i ds) (get_or ds i d ∷ []) ∙ ap (λ (x : job.Done X H). sum_at k (take i ds) + (word_of x.crossings k + 0)) (sym e) ∙ (omega arith)
+      ap (sum_at k) (take_more ds i d lt) ∙ sum_append k (take i ds) (get_or ds i d ∷ [])
+          ∙ ap (λ (x : job.Done X H). sum_at k (take i ds) + (word_of x.crossings k + 0)) (sym e) ∙ (omega arith)
 
-  pub sum_some : (k : ℕ) (ds : List (job.Done X H)) (i : ℕ) (d : job.Done X H) → i < length ds → d ≡ get_or ds i d → sum_at k (take i ds) + word_of d.crossings k ≤ sum_at k ds
+  pub sum_some : (k : ℕ) (ds : List (job.Done X H)) (i : ℕ) (d : job.Done X H) → i < length ds → d ≡ get_or ds i d
+      → sum_at k (take i ds) + word_of d.crossings k ≤ sum_at k ds
   sum_some k [] i d lt e = absurd (omega arith)
-  sum_some k (x ∷ ds) zero d lt e = let same : word_of d.crossings k ≡ word_of x.crossings k = ap (λ (y : job.Done X H). word_of y.crossings k) e in omega (arith, same)
+  sum_some k (x ∷ ds) zero d lt e = let same : word_of d.crossings k ≡ word_of x.crossings k =
+      ap (λ (y : job.Done X H). word_of y.crossings k) e in omega (arith, same)
   sum_some k (x ∷ ds) (suc i) d lt e = let more = sum_some k ds i d (omega arith) e in omega (arith, more)
 
-  pub all_long : (f : DynBox X Global H → Record) (s : Traffic) (n : ℕ) (ps : List PlainJob) (ds : List (job.Done X H)) → s.links ≡ n → AllZip (λ p d. IsDone f s p d) ps ds → All (λ (d : job.Done X H). length d.crossings ≡ 5 * n) ds
+  pub all_long : (f : DynBox X Global H → Record) (s : Traffic) (n : ℕ) (ps : List PlainJob) (ds : List (job.Done X H)) → s.links ≡ n
+      → AllZip (λ p d. IsDone f s p d) ps ds → All (λ (d : job.Done X H). length d.crossings ≡ 5 * n) ds
   all_long f s n [] [] e z = All-nil (λ (d : job.Done X H). length d.crossings ≡ 5 * n)
   all_long f s n [] (d ∷ ds) e z = absurd z
   all_long f s n (p ∷ ps) [] e z = absurd z
-  all_long f s n (p ∷ ps) (d ∷ ds) e z = All-cons (λ (d : job.Done X H). length d.crossings ≡ 5 * n) d ds (ap length z.0.crossings_are ∙ crossings_long s (joined d.rows.items) ∙ ap (λ k. 5 * k) e) (all_long f s n ps ds e z.1)
+  all_long f s n (p ∷ ps) (d ∷ ds) e z = All-cons (λ (d : job.Done X H). length d.crossings ≡ 5 * n) d ds
+      (ap length z.0.crossings_are ∙ crossings_long s (joined d.rows.items) ∙ ap (λ k. 5 * k) e) (all_long f s n ps ds e z.1)
 
-  pub sum_is : (f : DynBox X Global H → Record) (s : Traffic) (ps : List PlainJob) (ds : List (job.Done X H)) → AllZip (λ p d. IsDone f s p d) ps ds → (k : ℕ) → sum_at k ds ≡ word_of (crossings s (rows_of ds)) k
+  pub sum_is : (f : DynBox X Global H → Record) (s : Traffic) (ps : List PlainJob) (ds : List (job.Done X H))
+      → AllZip (λ p d. IsDone f s p d) ps ds → (k : ℕ) → sum_at k ds ≡ word_of (crossings s (rows_of ds)) k
   sum_is f s [] [] z k = sym (none_crossed s k)
   sum_is f s [] (d ∷ ds) z k = absurd z
   sum_is f s (p ∷ ps) [] z k = absurd z
@@ -77,10 +85,12 @@ module _ {X : Type 0} {H : X → Type 0} where
       let own = joined d.rows.items in
       let one : word_of d.crossings k ≡ word_of (crossings s own) k = ap (λ ns. word_of ns k) z.0.crossings_are in
       let more = sum_is f s ps ds z.1 k in
-      let both = ap (λ ns. word_of ns k) (crossings_add s own (rows_of ds)) ∙ word_of_added (crossings s own) (crossings s (rows_of ds)) (crossings_long s own ∙ sym (crossings_long s (rows_of ds))) k in
+      let both = ap (λ ns. word_of ns k) (crossings_add s own (rows_of ds))
+          ∙ word_of_added (crossings s own) (crossings s (rows_of ds)) (crossings_long s own ∙ sym (crossings_long s (rows_of ds))) k in
       omega (arith, one, more, both)
 
-  pub rows_are : (f : DynBox X Global H → Record) (end : ℕ) (qs : List OwnCell) (rows : List (List Row)) (cs : List (Cell X H)) → RanEach f end qs rows cs → AreRowsOf end qs (joined rows)
+  pub rows_are : (f : DynBox X Global H → Record) (end : ℕ) (qs : List OwnCell) (rows : List (List Row)) (cs : List (Cell X H))
+      → RanEach f end qs rows cs → AreRowsOf end qs (joined rows)
   rows_are f end [] [] [] h = refl
   rows_are f end [] [] (c ∷ cs) h = absurd h
   rows_are f end [] (r ∷ rs) cs h = absurd h
@@ -88,8 +98,10 @@ module _ {X : Type 0} {H : X → Type 0} where
   rows_are f end (q ∷ qs) (r ∷ rs) [] h = absurd h
   rows_are f end (q ∷ qs) (r ∷ rs) (c ∷ cs) h = (r, joined rs, h.0.0, h.0.1, refl, rows_are f end qs rs cs h.1)
 
-  pub rows_of_all : (f : DynBox X Global H → Record) (s : Traffic) (ps : List PlainJob) (ds : List (job.Done X H)) → AllZip (λ p d. IsDone f s p d) ps ds → AreRowsOfSome ps (rows_of ds)
+  pub rows_of_all : (f : DynBox X Global H → Record) (s : Traffic) (ps : List PlainJob) (ds : List (job.Done X H))
+      → AllZip (λ p d. IsDone f s p d) ps ds → AreRowsOfSome ps (rows_of ds)
   rows_of_all f s [] [] z = refl
   rows_of_all f s [] (d ∷ ds) z = absurd z
   rows_of_all f s (p ∷ ps) [] z = absurd z
-  rows_of_all f s (p ∷ ps) (d ∷ ds) z = inr (joined d.rows.items, rows_of ds, rows_are f p.till p.cells d.rows.items d.cells.items z.0.runs, refl, rows_of_all f s ps ds z.1)
+  rows_of_all f s (p ∷ ps) (d ∷ ds) z = inr (joined d.rows.items, rows_of ds, rows_are f p.till p.cells d.rows.items d.cells.items z.0.runs,
+      refl, rows_of_all f s ps ds z.1)

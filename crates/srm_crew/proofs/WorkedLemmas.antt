@@ -1,5 +1,6 @@
 -- What workers did, put together: one item more, more work with the same pass, and the work of two.
-use Rattle.std.proofs.Common.{◌≡◌, ◌≤◌, ℕ, ◌+◌, ◌-◌, ◌*◌, ◌/◌, List, [], ◌∷◌, ◌++◌, length, slice_get, slice_index, Some, All, Result, Ok, Err, refl, sym, ap, ◌∙◌, subst, arith, append_assoc, append-nil}
+use Rattle.std.proofs.Common.{◌≡◌, ◌≤◌, ℕ, ◌+◌, ◌-◌, ◌*◌, ◌/◌, List, [], ◌∷◌, ◌++◌, length, slice_get, slice_index, Some, All, Result, Ok,
+    Err, refl, sym, ap, ◌∙◌, subst, arith, append_assoc, append-nil}
 use Rattle.std.specs.List.{AllZip}
 use Rattle.std.proofs.lemmas.Option.{get_or_from_slice_get, slice_get_within}
 use Rattle.std.proofs.lemmas.List.Elements.{All-get_or}
@@ -17,13 +18,15 @@ use Rattle.srm_crew.specs.Places.{EachAtMostOnce}
 use Rattle.srm_crew.specs.Passes.{PassView, half_with_list, half_without, both_passes, TellsTake}
 use Rattle.srm_crew.specs.Shared.{HoldsAt, sum_of, with_list, ComeOf, Stops, Worked, TellsWork, TellsItem, TellsBoth}
 
-pub zip_append : {A B : Type 0} (R : A → B → Type 0) (xs us : List A) (ys vs : List B) → AllZip R xs ys → AllZip R us vs → AllZip R (xs ++ us) (ys ++ vs)
+pub zip_append : {A B : Type 0} (R : A → B → Type 0) (xs us : List A) (ys vs : List B) → AllZip R xs ys → AllZip R us vs
+    → AllZip R (xs ++ us) (ys ++ vs)
 zip_append R [] us [] vs z w = w
 zip_append R [] us (y ∷ ys) vs z w = absurd z
 zip_append R (x ∷ xs) us [] vs z w = absurd z
 zip_append R (x ∷ xs) us (y ∷ ys) vs z w = (z.0, zip_append R xs us ys vs z.1 w)
 
-pub sum_of-append : {D : Type 0} (numbers : D → List ℕ) (k : ℕ) (xs ys : List D) → sum_of numbers k (xs ++ ys) ≡ sum_of numbers k xs + sum_of numbers k ys
+pub sum_of-append : {D : Type 0} (numbers : D → List ℕ) (k : ℕ) (xs ys : List D) → sum_of numbers k (xs ++ ys)
+    ≡ sum_of numbers k xs + sum_of numbers k ys
 sum_of-append numbers k [] ys = omega arith
 sum_of-append numbers k (x ∷ xs) ys = let e = sum_of-append numbers k xs ys in omega (arith, e)
 
@@ -31,7 +34,8 @@ halves_of : (w : ℕ) → w - w / 2 + w / 2 ≡ w
 halves_of w = let h : w / 2 * 2 ≤ w = omega arith in omega arith
 
 -- what holds of each item that was put holds of one that is taken
-pub ready_at : {T : Type 0} (P : T → Type 0) (put : List T) (p q : PassView T) (x : T) → p.put ≡ put → All P put → TellsTake p (Some x) q → P x
+pub ready_at : {T : Type 0} (P : T → Type 0) (put : List T) (p q : PassView T) (x : T) → p.put ≡ put → All P put → TellsTake p (Some x) q
+    → P x
 ready_at P put p q x same all take =
     let e : slice_get put take.0 ≡ Some x = subst (λ l. slice_get l take.0 ≡ Some x) same take.2 in
     subst P (get_or_from_slice_get put take.0 x x e) (All-get_or P put take.0 x (slice_get_within put take.0 x e) all)
@@ -48,26 +52,32 @@ module _ {T D : Type 0} (R : T → Result D CellFault → Type 0) (numbers : D �
   }
 
   -- work after work
-  pub worked_more : (P p q : PassView T) (S s t : SeatView) (U u v : List D) → Worked R numbers P S U p s u → Worked R numbers p s u q t v → Worked R numbers P S U q t v
+  pub worked_more : (P p q : PassView T) (S s t : SeatView) (U u v : List D) → Worked R numbers P S U p s u → Worked R numbers p s u q t v
+      → Worked R numbers P S U q t v
   worked_more P p q S s t U u v a b =
       let put : p.put ≡ P.put = ap (λ x. x.put) a.taken in record {
         places = a.places ++ b.places;
         more = a.more ++ b.more;
-        taken = b.taken ∙ (λ i. with_list (a.taken i) ((a.taken i).taken ++ b.places)) ∙ ap (with_list P) (append_assoc P.taken a.places b.places);
+        taken = b.taken ∙ (λ i. with_list (a.taken i) ((a.taken i).taken ++ b.places))
+            ∙ ap (with_list P) (append_assoc P.taken a.places b.places);
         gave = b.gave ∙ ap (λ l. l ++ b.more) a.gave ∙ append_assoc U a.more b.more;
-        come = zip_append (λ p d. HoldsAt (λ x. R x (Ok d)) P.put p) a.places b.places a.more b.more a.come (subst (λ l. ComeOf R l b.places b.more) put b.come);
+        come = zip_append (λ p d. HoldsAt (λ x. R x (Ok d)) P.put p) a.places b.places a.more b.more a.come
+            (subst (λ l. ComeOf R l b.places b.more) put b.come);
         grown = record {
           ledger = b.grown.ledger ∙ a.grown.ledger;
           weight = b.grown.weight ∙ a.grown.weight;
-          shares = λ k. let x = a.grown.shares k in let y = b.grown.shares k in let e = sum_of-append numbers k a.more b.more in omega (arith, x, y, e);
+          shares = λ k. let x = a.grown.shares k in let y = b.grown.shares k in let e = sum_of-append numbers k a.more b.more in
+              omega (arith, x, y, e);
         };
       }
 
   -- a fault after work
-  pub stops_after : (P p : PassView T) (S s : SeatView) (U u : List D) (e : CrewFault) → Worked R numbers P S U p s u → Stops R numbers p.put p.taken s e → Stops R numbers P.put P.taken S e
+  pub stops_after : (P p : PassView T) (S s : SeatView) (U u : List D) (e : CrewFault) → Worked R numbers P S U p s u
+      → Stops R numbers p.put p.taken s e → Stops R numbers P.put P.taken S e
   stops_after P p S s U u fault.NoMemory a h = tt
   stops_after P p S s U u fault.Spent a h = (h.0, subst (λ l. HoldsAt (λ x. R x (Err cell.Spent)) l h.0) (ap (λ x. x.put) a.taken) h.1)
-  stops_after P p S s U u fault.CountFull a h = (h.0, subst (λ l. HoldsAt (λ x. R x (Err cell.CountFull)) l h.0) (ap (λ x. x.put) a.taken) h.1)
+  stops_after P p S s U u fault.CountFull a h = (h.0, subst (λ l. HoldsAt (λ x. R x (Err cell.CountFull)) l h.0)
+      (ap (λ x. x.put) a.taken) h.1)
   stops_after P p S s U u fault.ShareFull a h =
       let put : p.put ≡ P.put = ap (λ x. x.put) a.taken in
       let all : p.taken ++ h.0 ≡ P.taken ++ (a.places ++ h.0) = ap (λ x. x.taken ++ h.0) a.taken ∙ append_assoc P.taken a.places h.0 in (
@@ -75,16 +85,19 @@ module _ {T D : Type 0} (R : T → Result D CellFault → Type 0) (numbers : D �
         a.more ++ h.1,
         subst (λ l. EachAtMostOnce l (length P.put)) all (subst (λ l. EachAtMostOnce (p.taken ++ h.0) (length l)) put h.2),
         zip_append (λ p d. HoldsAt (λ x. R x (Ok d)) P.put p) a.places h.0 a.more h.1 a.come (subst (λ l. ComeOf R l h.0 h.1) put h.3),
-        (h.4.0, (let x = a.grown.shares h.4.0 in let y = h.4.1 in let e = sum_of-append numbers h.4.0 a.more h.1 in omega (arith, x, y, e))),
+        (h.4.0, (let x = a.grown.shares h.4.0 in let y = h.4.1 in let e = sum_of-append numbers h.4.0 a.more h.1 in
+            omega (arith, x, y, e))),
       )
 
   -- more work, or a fault, after work
-  pub tells_after : (P p : PassView T) (S s : SeatView) (u : List D) (x : Result (PassView T × SeatView × Vec D) CrewFault) → Worked R numbers P S [] p s u → TellsWork R numbers p s u x → TellsWork R numbers P S [] x
+  pub tells_after : (P p : PassView T) (S s : SeatView) (u : List D) (x : Result (PassView T × SeatView × Vec D) CrewFault)
+      → Worked R numbers P S [] p s u → TellsWork R numbers p s u x → TellsWork R numbers P S [] x
   tells_after P p S s u (Ok v) a b = worked_more P p v.0 S s v.1 [] u v.2.items a b
   tells_after P p S s u (Err e) a b = stops_after P p S s [] u e a b
 
   -- one item
-  pub item_worked : (p q : PassView T) (s t : SeatView) (u v : List D) (x : T) → TellsTake p (Some x) q → TellsItem (λ r. R x r) numbers s u (Ok tt) t v → Worked R numbers p s u q t v
+  pub item_worked : (p q : PassView T) (s t : SeatView) (u v : List D) (x : T) → TellsTake p (Some x) q
+      → TellsItem (λ r. R x r) numbers s u (Ok tt) t v → Worked R numbers p s u q t v
   item_worked p q s t u v x take item = record {
     places = take.0 ∷ [];
     more = item.0 ∷ [];
@@ -94,7 +107,8 @@ module _ {T D : Type 0} (R : T → Result D CellFault → Type 0) (numbers : D �
     grown = record { ledger = item.3.ledger; weight = item.3.weight; shares = λ k. let e = item.3.shares k in omega (arith, e) };
   }
 
-  pub item_stops : (p q : PassView T) (s t : SeatView) (u v : List D) (x : T) (e : CrewFault) → TellsTake p (Some x) q → TellsItem (λ r. R x r) numbers s u (Err e) t v → Stops R numbers p.put p.taken s e
+  pub item_stops : (p q : PassView T) (s t : SeatView) (u v : List D) (x : T) (e : CrewFault) → TellsTake p (Some x) q
+      → TellsItem (λ r. R x r) numbers s u (Err e) t v → Stops R numbers p.put p.taken s e
   item_stops p q s t u v x fault.NoMemory take item = tt
   item_stops p q s t u v x fault.Spent take item = (take.0, (x, take.2, item))
   item_stops p q s t u v x fault.CountFull take item = (take.0, (x, take.2, item))
@@ -108,13 +122,15 @@ module _ {T D : Type 0} (R : T → Result D CellFault → Type 0) (numbers : D �
 
   -- ---- the work of two, with the halves of one pass and of one seat
 
-  first_stops : (P : PassView T) (S : SeatView) (e : CrewFault) → Stops R numbers P.put P.taken (half_with_shares S) e → Stops R numbers P.put P.taken S e
+  first_stops : (P : PassView T) (S : SeatView) (e : CrewFault) → Stops R numbers P.put P.taken (half_with_shares S) e
+      → Stops R numbers P.put P.taken S e
   first_stops P S fault.NoMemory h = tt
   first_stops P S fault.Spent h = h
   first_stops P S fault.CountFull h = h
   first_stops P S fault.ShareFull h = h
 
-  second_stops : (P : PassView T) (S : SeatView) (e : CrewFault) → P.taken ≡ [] → Stops R numbers P.put [] (seats.half_without S) e → Stops R numbers P.put P.taken S e
+  second_stops : (P : PassView T) (S : SeatView) (e : CrewFault) → P.taken ≡ [] → Stops R numbers P.put [] (seats.half_without S) e
+      → Stops R numbers P.put P.taken S e
   second_stops P S fault.NoMemory none h = tt
   second_stops P S fault.Spent none h = h
   second_stops P S fault.CountFull none h = h
@@ -126,12 +142,15 @@ module _ {T D : Type 0} (R : T → Result D CellFault → Type 0) (numbers : D �
     (h.4.0, (let e = h.4.1 in let z = replicate_zero (length S.shares) h.4.0 in omega (arith, e, z))),
   )
 
-  both_worked : (P p q m : PassView T) (S s t n : SeatView) (u v w : List D) → Worked R numbers (half_with_list P) (half_with_shares S) [] p s u → Worked R numbers (half_without P) (seats.half_without S) [] q t v
+  both_worked : (P p q m : PassView T) (S s t n : SeatView) (u v w : List D)
+      → Worked R numbers (half_with_list P) (half_with_shares S) [] p s u
+      → Worked R numbers (half_without P) (seats.half_without S) [] q t v
       → m ≡ both_passes p q → n ≡ both_seats s t → w ≡ u ++ v → Worked R numbers P S [] m n w
   both_worked P p q m S s t n u v w a b passes seats' results = record {
     places = a.places ++ b.places;
     more = a.more ++ b.more;
-    taken = passes ∙ (λ i. both_passes (a.taken i) (b.taken i)) ∙ (λ i. record { bag = P.bag; weight = halves_of P.weight i; put = P.put; taken = append_assoc P.taken a.places b.places i });
+    taken = passes ∙ (λ i. both_passes (a.taken i) (b.taken i)) ∙
+        (λ i. record { bag = P.bag; weight = halves_of P.weight i; put = P.put; taken = append_assoc P.taken a.places b.places i });
     gave = results ∙ (λ i. a.gave i ++ b.gave i);
     come = zip_append (λ p d. HoldsAt (λ x. R x (Ok d)) P.put p) a.places b.places a.more b.more a.come b.come;
     grown = record {
@@ -147,7 +166,8 @@ module _ {T D : Type 0} (R : T → Result D CellFault → Type 0) (numbers : D �
   }
 
   pub halves_tell : (P : PassView T) (S : SeatView) (a b r : Result (PassView T × SeatView × Vec D) CrewFault) → P.taken ≡ []
-      → TellsWork R numbers (half_with_list P) (half_with_shares S) [] a → TellsWork R numbers (half_without P) (seats.half_without S) [] b → TellsBoth a b r → TellsWork R numbers P S [] r
+      → TellsWork R numbers (half_with_list P) (half_with_shares S) [] a → TellsWork R numbers (half_without P) (seats.half_without S) [] b
+          → TellsBoth a b r → TellsWork R numbers P S [] r
   halves_tell P S (Err e) b r none x y h = subst (TellsWork R numbers P S []) (sym h) (first_stops P S e x)
   halves_tell P S (Ok a) (Err e) r none x y h = subst (TellsWork R numbers P S []) (sym h) (second_stops P S e none y)
   halves_tell P S (Ok a) (Ok b) (Ok v) none x y h = both_worked P a.0 b.0 v.0 S a.1 b.1 v.1 a.2.items b.2.items v.2.items x y h.0 h.1 h.2
@@ -155,10 +175,12 @@ module _ {T D : Type 0} (R : T → Result D CellFault → Type 0) (numbers : D �
   halves_tell P S (Ok a) (Ok b) (Err fault.Spent) none x y h = absurd h
   halves_tell P S (Ok a) (Ok b) (Err fault.CountFull) none x y h = absurd h
   halves_tell P S (Ok a) (Ok b) (Err fault.ShareFull) none x y h =
-      let all : a.0.taken ++ b.0.taken ≡ P.taken ++ (x.places ++ y.places) = (λ i. (x.taken i).taken ++ (y.taken i).taken) ∙ append_assoc P.taken x.places y.places in (
+      let all : a.0.taken ++ b.0.taken ≡ P.taken ++ (x.places ++ y.places) = (λ i. (x.taken i).taken ++ (y.taken i).taken)
+          ∙ append_assoc P.taken x.places y.places in (
         x.places ++ y.places,
         x.more ++ y.more,
-        subst (λ l. EachAtMostOnce l (length P.put)) all (subst (λ (l : List T). EachAtMostOnce (a.0.taken ++ b.0.taken) (length l)) (ap (λ p. p.put) x.taken) h.0),
+        subst (λ l. EachAtMostOnce l (length P.put)) all
+            (subst (λ (l : List T). EachAtMostOnce (a.0.taken ++ b.0.taken) (length l)) (ap (λ p. p.put) x.taken) h.0),
         zip_append (λ p d. HoldsAt (λ x. R x (Ok d)) P.put p) x.places y.places x.more y.more x.come y.come,
         (
           h.1.0,
@@ -170,7 +192,8 @@ module _ {T D : Type 0} (R : T → Result D CellFault → Type 0) (numbers : D �
       )
 
   -- the same work, of a pass and a seat that are these
-  pub tells_same : (P p : PassView T) (S s : SeatView) (u : List D) (x : Result (PassView T × SeatView × Vec D) CrewFault) → p ≡ P → s ≡ S → u ≡ [] → TellsWork R numbers p s u x → TellsWork R numbers P S [] x
+  pub tells_same : (P p : PassView T) (S s : SeatView) (u : List D) (x : Result (PassView T × SeatView × Vec D) CrewFault) → p ≡ P → s ≡ S
+      → u ≡ [] → TellsWork R numbers p s u x → TellsWork R numbers P S [] x
   tells_same P p S s u x a b z h =
       subst (λ l. TellsWork R numbers P S l x) z (subst (λ q. TellsWork R numbers P q u x) b (subst (λ q. TellsWork R numbers q s u x) a h))
 
@@ -178,8 +201,10 @@ module _ {T D : Type 0} (R : T → Result D CellFault → Type 0) (numbers : D �
       → p ≡ half_with_list P → s ≡ half_with_shares S → q ≡ half_without P → t ≡ seats.half_without S
       → TellsWork R numbers p s [] a → TellsWork R numbers q t [] b → TellsBoth a b r → TellsWork R numbers P S [] r
   halves_told P p q S s t a b r none ps ss qs ts x y h =
-      halves_tell P S a b r none (tells_same (half_with_list P) p (half_with_shares S) s [] a ps ss refl x) (tells_same (half_without P) q (seats.half_without S) t [] b qs ts refl y) h
+      halves_tell P S a b r none (tells_same (half_with_list P) p (half_with_shares S) s [] a ps ss refl x)
+          (tells_same (half_without P) q (seats.half_without S) t [] b qs ts refl y) h
 
   -- why workers stop, of these items
-  pub stops_of : (items : List T) (p : PassView T) (S : SeatView) (e : CrewFault) → p.put ≡ items → p.taken ≡ [] → Stops R numbers p.put p.taken S e → Stops R numbers items [] S e
+  pub stops_of : (items : List T) (p : PassView T) (S : SeatView) (e : CrewFault) → p.put ≡ items → p.taken ≡ []
+      → Stops R numbers p.put p.taken S e → Stops R numbers items [] S e
   stops_of items p S e put none h = subst (λ l. Stops R numbers items l S e) none (subst (λ l. Stops R numbers l p.taken S e) put h)

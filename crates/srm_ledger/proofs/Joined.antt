@@ -12,7 +12,8 @@ chunks_joined (suc k) ns e =
     ap (λ rest. take 5 ns ++ rest) (chunks_joined k (drop 5 ns) behind) ∙ take-append-drop 5 ns
 
 -- each of the chunks has five numbers
-pub chunks_are_fives : (k : ℕ) (ns : List ℕ) → length ns ≡ 5 * k → (i : ℕ) (d : List ℕ) → i < length (first_chunks 5 k ns) → length (slice_index_or (first_chunks 5 k ns) i d) ≡ 5
+pub chunks_are_fives : (k : ℕ) (ns : List ℕ) → length ns ≡ 5 * k → (i : ℕ) (d : List ℕ) → i < length (first_chunks 5 k ns)
+    → length (slice_index_or (first_chunks 5 k ns) i d) ≡ 5
 chunks_are_fives zero ns e i d lt = absurd (omega arith)
 chunks_are_fives (suc k) ns e zero d lt = length-take-le 5 ns (omega arith)
 chunks_are_fives (suc k) ns e (suc i) d lt =

@@ -1,5 +1,6 @@
 -- Each step of a seat keeps the rule of the ledger.
-use Rattle.std.proofs.Common.{◌≡◌, ◌≢◌, ℕ, zero, suc, ◌+◌, ◌*◌, ◌/◌, ◌%◌, ◌^◌, ◌<◌, ◌≤◌, List, [], ◌∷◌, ◌++◌, length, replicate, slice_index, set, sym, refl, ap, ◌∙◌, subst, ⊎_elim, arith, length-set}
+use Rattle.std.proofs.Common.{◌≡◌, ◌≢◌, ℕ, zero, suc, ◌+◌, ◌*◌, ◌/◌, ◌%◌, ◌^◌, ◌<◌, ◌≤◌, List, [], ◌∷◌, ◌++◌, length, replicate,
+    slice_index, set, sym, refl, ap, ◌∙◌, subst, ⊎_elim, arith, length-set}
 use Rattle.std.proofs.Math.Nat.{mod-eq_of_lt}
 use Rattle.std.proofs.lemmas.List.{get_or-set_same, get_or-set_other, get_or-replicate, get_or_past, length-replicate, set-get_or}
 use Rattle.std.proofs.lemmas.Grind.{get_or_default_zero}
@@ -11,9 +12,11 @@ use Rattle.atomic_table.specs.Table.{State, keeps, step, Allows, Splits, Joins, 
 use Rattle.atomic_table.proofs.Lists.{at_set, at_snoc, at_index}
 use Rattle.srm_ledger.proofs.Zips.{added_at, larger_at}
 use Rattle.srm_ledger.specs.declared.rule.Holding.{Holding}
-use Rattle.srm_ledger.specs.Tally.{spent, total, weight_of, share_at, seen_at, SeatOk, Tallied, Finds, grew, saw, adds, reads, first_half, second_half, joined, AllFit, AreWords}
+use Rattle.srm_ledger.specs.Tally.{spent, total, weight_of, share_at, seen_at, SeatOk, Tallied, Finds, grew, saw, adds, reads, first_half,
+    second_half, joined, AllFit, AreWords}
 
-pub total_set : (f : Holding → ℕ) (l : List Holding) (i : ℕ) (v w : Holding) → get_elem? l i ≡ some v → total f (set l i w) + f v ≡ total f l + f w
+pub total_set : (f : Holding → ℕ) (l : List Holding) (i : ℕ) (v w : Holding) → get_elem? l i ≡ some v → total f (set l i w) + f v
+    ≡ total f l + f w
 total_set f [] i v w e = absurd (some-ne-none v (sym e))
 total_set f (x ∷ xs) zero v w e = let is : f x ≡ f v = ap f (some-injective x v e) in omega arith
 total_set f (x ∷ xs) (suc i) v w e = let r = total_set f xs i v w e in omega arith
@@ -28,7 +31,8 @@ total_part f (x ∷ xs) zero v e = let is : f x ≡ f v = ap f (some-injective x
 total_part f (x ∷ xs) (suc j) v e = let r = total_part f xs j v e in omega arith
 
 -- where each is at most c times its weight, the sum is
-pub total_most : (f g : Holding → ℕ) (l : List Holding) (c : ℕ) → ((j : ℕ) (v : Holding) → get_elem? l j ≡ some v → f v ≤ g v * c) → total f l ≤ total g l * c
+pub total_most : (f g : Holding → ℕ) (l : List Holding) (c : ℕ) → ((j : ℕ) (v : Holding) → get_elem? l j ≡ some v → f v ≤ g v * c)
+    → total f l ≤ total g l * c
 total_most f g [] c h = omega arith
 total_most f g (x ∷ xs) c h = let a = h 0 x refl in let r = total_most f g xs c (λ j v e. h (suc j) v e) in
     let d : (g x + total g xs) * c ≡ g x * c + total g xs * c = omega arith in omega arith
@@ -44,14 +48,16 @@ word_most n s k h = let m = total_most (share_at k) weight_of s.views (2 ^ 47) (
     let w = h.whole in let is = h.summed k in
     let t : total weight_of s.views * (2 ^ 47) ≡ 65536 * (2 ^ 47) = ap (λ (x : ℕ). x * (2 ^ 47)) w in omega arith
 
-grows : (words : List ℕ) (i x : ℕ) → slice_index words i ≤ x → i < length words → (k : ℕ) → slice_index words k ≤ slice_index (set words i x) k
+grows : (words : List ℕ) (i x : ℕ) → slice_index words i ≤ x → i < length words → (k : ℕ)
+    → slice_index words k ≤ slice_index (set words i x) k
 grows words i x le lt k = dite (ℕ_discrete k i)
     (λ e. let P : ℕ → Type 0 = λ j. slice_index words j ≤ slice_index (set words i x) j in
     subst P (sym e) (let is = get_or-set_same words i x 0 lt in omega arith))
     (λ n. let is = get_or-set_other words i k x 0 n in omega arith)
 
 -- a step that adds d to the word i and to the seat's share of it
-pub step_keeps : {S : Type 0} (n id i x d : ℕ) (v w : Holding) (s : State S Holding) (hs : List (mathlib.Core.Option.Option S)) → Tallied n s → get_elem? s.views id ≡ some v
+pub step_keeps : {S : Type 0} (n id i x d : ℕ) (v w : Holding) (s : State S Holding) (hs : List (mathlib.Core.Option.Option S))
+    → Tallied n s → get_elem? s.views id ≡ some v
     → i < n → x ≡ slice_index s.words i + d → (i ≡ 0 → d ≡ 0) → w.weight ≡ v.weight → 1 ≤ v.weight
     → share_at i w ≡ share_at i v + d → ((k : ℕ) → k ≢ i → share_at k w ≡ share_at k v) → ((k : ℕ) → share_at k w ≤ 2 ^ 47)
     → ((k : ℕ) → slice_index w.seen k ≤ slice_index (set s.words i x) k)
@@ -65,7 +71,8 @@ step_keeps n id i x d v w s hs h at below is spare weigh alive here else most kn
       summed = λ k. let t = total_set (share_at k) s.views id v w at in let e = h.summed k in
           dite (ℕ_discrete k i)
           (λ same. let P : ℕ → Type 0 = λ j. slice_index (set s.words i x) j ≡ total (share_at j) (set s.views id w) in
-          subst P (sym same) (let t' = total_set (share_at i) s.views id v w at in let e' = h.summed i in let r = get_or-set_same s.words i x 0 lt in omega arith))
+          subst P (sym same) (let t' = total_set (share_at i) s.views id v w at in let e' = h.summed i in let r =
+              get_or-set_same s.words i x 0 lt in omega arith))
           (λ not. let r = get_or-set_other s.words i k x 0 not in let q = else k not in omega arith);
       spare = dite (ℕ_discrete 0 i)
           (λ same. let P : ℕ → Type 0 = λ j. slice_index (set s.words i x) j ≡ 0 in
@@ -73,13 +80,15 @@ step_keeps n id i x d v w s hs h at below is spare weigh alive here else most kn
           let o : slice_index s.words i ≡ 0 = ap (slice_index s.words) (sym same) ∙ h.spare in omega arith))
           (λ not. get_or-set_other s.words i 0 x 0 not ∙ h.spare);
       seats = λ j u e. ⊎_elim
-          (λ (t : (j ≡ id) × (w ≡ u)). subst (SeatOk (set s.words i x)) t.1 record { spent_is = λ z. absurd (omega arith); capped = most; known = known })
+          (λ (t : (j ≡ id) × (w ≡ u)). subst (SeatOk (set s.words i x)) t.1 record
+              { spent_is = λ z. absurd (omega arith); capped = most; known = known })
           (λ (t : (j ≢ id) × (get_elem? s.views j ≡ some u)). let ok = h.seats j u t.1 in
           record { spent_is = ok.spent_is; capped = ok.capped; known = λ k. let a = ok.known k in let b = more k in omega arith })
           (at_set s.views id j w u e);
     }
 
-pub add_allowed : {S : Type 0} (n slots id i d : ℕ) (v : Holding) (c : List (ℕ × S)) → 0 < i → i < n → i < length v.shares → share_at i v + d ≤ 2 ^ 47 → 1 ≤ v.weight
+pub add_allowed : {S : Type 0} (n slots id i d : ℕ) (v : Holding) (c : List (ℕ × S)) → 0 < i → i < n → i < length v.shares
+    → share_at i v + d ≤ 2 ^ 47 → 1 ≤ v.weight
     → ((k : ℕ) → share_at k v ≤ 2 ^ 47)
     → Allows (Tallied n) slots id (v, c) i (λ x. (x + d) % 2 ^ 64) (adds (step slots i d 0 none) (v, c))
 add_allowed n slots id i d v c pos below long room alive most s h _ at _ =
@@ -101,7 +110,8 @@ add_allowed n slots id i d v c pos below long room alive most s h _ at _ =
     )
 
 -- the whole seat's shares are the words
-pub whole_words : {S : Type 0} (n : ℕ) (s : State S Holding) (id : ℕ) (v : Holding) → Tallied n s → get_elem? s.views id ≡ some v → v.weight ≡ 65536 → (k : ℕ) → slice_index s.words k ≡ share_at k v
+pub whole_words : {S : Type 0} (n : ℕ) (s : State S Holding) (id : ℕ) (v : Holding) → Tallied n s → get_elem? s.views id ≡ some v → v.weight
+    ≡ 65536 → (k : ℕ) → slice_index s.words k ≡ share_at k v
 whole_words n s id v h at whole k =
     let z = total_set weight_of s.views id v spent at in
     let none_left : total weight_of (set s.views id spent) ≡ 0 = (let e = h.whole in omega arith) in
@@ -127,7 +137,8 @@ read_allowed n slots id i v c below long alive s h _ at _ =
           (λ k. dite (ℕ_discrete k i)
           (λ e. let P : ℕ → Type 0 = λ j. slice_index (set v.seen i x) j ≤ slice_index (set s.words i x) j in
           subst P (sym e) (let a = get_or-set_same v.seen i x 0 long in let b = get_or-set_same s.words i x 0 lt in omega arith))
-          (λ no. let a = get_or-set_other v.seen i k x 0 no in let b = get_or-set_other s.words i k x 0 no in let o = ok.known k in omega arith)),
+          (λ no. let a = get_or-set_other v.seen i k x 0 no in let b = get_or-set_other s.words i k x 0 no in let o = ok.known k in
+              omega arith)),
       (
         refl,
         record {
@@ -147,7 +158,8 @@ spare_saw v x f =
     λ i. record { weight = v.weight; shares = v.shares; seen = (ap (set v.seen 0) is ∙ set-get_or v.seen 0 0) i }
 
 pub replicate_zero : (n k : ℕ) → slice_index (replicate n 0) k ≡ 0
-replicate_zero n k = dite (dec_lt k n) (λ lt. get_or-replicate n k 0 0 lt) (λ no. let l = length-replicate n (let z : ℕ = 0 in z) in get_or_past (replicate n 0) k 0 (omega arith))
+replicate_zero n k = dite (dec_lt k n) (λ lt. get_or-replicate n k 0 0 lt)
+    (λ no. let l = length-replicate n (let z : ℕ = 0 in z) in get_or_past (replicate n 0) k 0 (omega arith))
 
 pub split_allowed : {S : Type 0} (n id : ℕ) (v : Holding) → 2 ≤ v.weight → Splits (Tallied {S = S} n) id v (first_half v) (second_half v)
 split_allowed n id v two s h at =
@@ -159,32 +171,41 @@ split_allowed n id v two s h at =
     let ok = h.seats id v at in
     record {
       wide = h.wide;
-      whole = (let a = total_set weight_of s.views id v l at in let b = total_snoc weight_of (set s.views id l) r in let e = h.whole in omega arith);
-      summed = λ k. (let a = total_set (share_at k) s.views id v l at in let b = total_snoc (share_at k) (set s.views id l) r in let z = zero_at k in let e = h.summed k in omega arith);
+      whole = (let a = total_set weight_of s.views id v l at in let b = total_snoc weight_of (set s.views id l) r in let e = h.whole in
+          omega arith);
+      summed = λ k. (let a = total_set (share_at k) s.views id v l at in let b = total_snoc (share_at k) (set s.views id l) r in let z =
+          zero_at k in let e = h.summed k in omega arith);
       spare = h.spare;
       seats = λ j u e. ⊎_elim
           (λ x. ⊎_elim
-          (λ (t : (j ≡ id) × (l ≡ u)). subst (SeatOk s.words) t.1 record { spent_is = λ z. absurd (omega arith); capped = ok.capped; known = ok.known })
+          (λ (t : (j ≡ id) × (l ≡ u)). subst (SeatOk s.words) t.1 record
+              { spent_is = λ z. absurd (omega arith); capped = ok.capped; known = ok.known })
           (λ (t : (j ≢ id) × (get_elem? s.views j ≡ some u)). h.seats j u t.1)
           (at_set s.views id j l u x))
-          (λ (is : r ≡ u). subst (SeatOk s.words) is record { spent_is = λ z. absurd (omega arith); capped = λ k. let z = zero_at k in omega arith; known = ok.known })
+          (λ (is : r ≡ u). subst (SeatOk s.words) is record { spent_is = λ z. absurd (omega arith); capped = λ k. let z = zero_at k in
+              omega arith; known = ok.known })
           (at_snoc (set s.views id l) r u j e);
     }
 
-pub join_allowed : {S : Type 0} (n id : ℕ) (v : Holding) (other : ℕ) (w : Holding) → 1 ≤ v.weight → AllFit v.shares w.shares → Joins (Tallied {S = S} n) id v other w (joined v w) spent
+pub join_allowed : {S : Type 0} (n id : ℕ) (v : Holding) (other : ℕ) (w : Holding) → 1 ≤ v.weight → AllFit v.shares w.shares
+    → Joins (Tallied {S = S} n) id v other w (joined v w) spent
 join_allowed n id v other w alive fit s h at two at' =
     let b = joined v w in
     let vs = set s.views id b in
-    let was : get_elem? s.views other ≡ some w = ⊎_elim (λ (t : (other ≡ id) × (b ≡ w)). absurd (two t.0)) (λ (t : (other ≢ id) × (get_elem? s.views other ≡ some w)). t.1) (at_set s.views id other b w at') in
+    let was : get_elem? s.views other ≡ some w = ⊎_elim (λ (t : (other ≡ id) × (b ≡ w)). absurd (two t.0))
+        (λ (t : (other ≢ id) × (get_elem? s.views other ≡ some w)). t.1) (at_set s.views id other b w at') in
     let ok = h.seats id v at in
     let ok' = h.seats other w was in
     record {
       wide = h.wide;
-      whole = (let x = total_set weight_of s.views id v b at in let y = total_set weight_of vs other w spent at' in let e = h.whole in omega arith);
-      summed = λ k. (let x = total_set (share_at k) s.views id v b at in let y = total_set (share_at k) vs other w spent at' in let e = h.summed k in let m = added_at v.shares w.shares k in omega arith);
+      whole = (let x = total_set weight_of s.views id v b at in let y = total_set weight_of vs other w spent at' in let e = h.whole in
+          omega arith);
+      summed = λ k. (let x = total_set (share_at k) s.views id v b at in let y = total_set (share_at k) vs other w spent at' in let e =
+          h.summed k in let m = added_at v.shares w.shares k in omega arith);
       spare = h.spare;
       seats = λ j u e. ⊎_elim
-          (λ (t : (j ≡ other) × (spent ≡ u)). subst (SeatOk s.words) t.1 record { spent_is = λ z. refl; capped = λ k. omega arith; known = λ k. omega arith })
+          (λ (t : (j ≡ other) × (spent ≡ u)). subst (SeatOk s.words) t.1
+              record { spent_is = λ z. refl; capped = λ k. omega arith; known = λ k. omega arith })
           (λ (t : (j ≢ other) × (get_elem? vs j ≡ some u)). ⊎_elim
           (λ (q : (j ≡ id) × (b ≡ u)). subst (SeatOk s.words) q.1 record {
             spent_is = λ z. absurd (omega arith);
@@ -196,16 +217,20 @@ join_allowed n id v other w alive fit s h at two at' =
           (at_set vs other j spent u e);
     }
 
-pub closed_words : {S : Type 0} (n id : ℕ) (v : Holding) (ws : List ℕ) (xs : List S) → length v.shares ≡ n → v.weight ≡ 65536 → Final (Seen (Tallied n) id v) ws xs
+pub closed_words : {S : Type 0} (n id : ℕ) (v : Holding) (ws : List ℕ) (xs : List S) → length v.shares ≡ n → v.weight ≡ 65536
+    → Final (Seen (Tallied n) id v) ws xs
     → AreWords ws v.shares
 closed_words n id v ws xs long whole f k lt =
     let s = f.0 in
     let h = f.1.0 in
     let is = whole_words n s id v h f.1.1 whole k in
-    subst (λ (l : List ℕ). get_elem? l k ≡ some (slice_index v.shares k)) f.2 ((let far : k < length s.words = (let e = h.wide in omega arith) in at_index s.words k (slice_index v.shares k) far (sym (get_or_default_zero s.words k (slice_index v.shares k) far ∙ is))))
+    subst (λ (l : List ℕ). get_elem? l k ≡ some (slice_index v.shares k))
+        f.2 ((let far : k < length s.words = (let e = h.wide in omega arith) in
+        at_index s.words k (slice_index v.shares k) far (sym (get_or_default_zero s.words k (slice_index v.shares k) far ∙ is))))
 
 -- what the whole seat read is not above its shares
-pub closed_reads : {S : Type 0} (n id : ℕ) (v : Holding) (ws : List ℕ) (xs : List S) → v.weight ≡ 65536 → Final (Seen (Tallied n) id v) ws xs
+pub closed_reads : {S : Type 0} (n id : ℕ) (v : Holding) (ws : List ℕ) (xs : List S) → v.weight ≡ 65536
+    → Final (Seen (Tallied n) id v) ws xs
     → (k : ℕ) → seen_at k v ≤ share_at k v
 closed_reads n id v ws xs whole f k =
     let s = f.0 in

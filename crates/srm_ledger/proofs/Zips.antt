@@ -25,11 +25,15 @@ larger_length [] ys e = sym e
 larger_length (x ∷ xs) [] e = refl
 larger_length (x ∷ xs) (y ∷ ys) e = ap suc (larger_length xs ys (omega arith))
 
-pub is_added : (zs xs ys : List ℕ) → length xs ≡ length ys → length zs ≡ length xs → ((k : ℕ) → k < length xs → slice_index zs k ≡ slice_index xs k + slice_index ys k) → zs ≡ added xs ys
-is_added zs xs ys same long h = let l = added_length xs ys same in same_number_lists zs (added xs ys) (long ∙ sym l) (λ k lt. h k (omega arith) ∙ sym (added_at xs ys k))
+pub is_added : (zs xs ys : List ℕ) → length xs ≡ length ys → length zs ≡ length xs
+    → ((k : ℕ) → k < length xs → slice_index zs k ≡ slice_index xs k + slice_index ys k) → zs ≡ added xs ys
+is_added zs xs ys same long h = let l = added_length xs ys same in same_number_lists zs (added xs ys) (long ∙ sym l)
+    (λ k lt. h k (omega arith) ∙ sym (added_at xs ys k))
 
-pub is_larger : (zs xs ys : List ℕ) → length xs ≡ length ys → length zs ≡ length xs → ((k : ℕ) → k < length xs → slice_index zs k ≡ max (slice_index xs k) (slice_index ys k)) → zs ≡ larger xs ys
-is_larger zs xs ys same long h = let l = larger_length xs ys same in same_number_lists zs (larger xs ys) (long ∙ sym l) (λ k lt. h k (omega arith) ∙ sym (larger_at xs ys k))
+pub is_larger : (zs xs ys : List ℕ) → length xs ≡ length ys → length zs ≡ length xs
+    → ((k : ℕ) → k < length xs → slice_index zs k ≡ max (slice_index xs k) (slice_index ys k)) → zs ≡ larger xs ys
+is_larger zs xs ys same long h = let l = larger_length xs ys same in same_number_lists zs (larger xs ys) (long ∙ sym l)
+    (λ k lt. h k (omega arith) ∙ sym (larger_at xs ys k))
 
 -- a number behind the first
 pub behind_at : (xs : List ℕ) (k : ℕ) → slice_index (drop 1 xs) k ≡ slice_index xs (k + 1)

@@ -1,5 +1,6 @@
 -- What has no fault is as every accepted scenario is.
-use Rattle.std.proofs.Common.{◌≡◌, ◌≢◌, ℕ, ◌+◌, ◌<◌, ◌≤◌, ◌^◌, Bool, true, false, not, cond, List, [], ◌∷◌, ◌++◌, length, map, Option, Some, None, nat_le, nat_lt, nat_eq, slice_get, Ordering, Less, Equal, Greater, refl, sym, ap, ◌∙◌, subst, arith, inl, inr}
+use Rattle.std.proofs.Common.{◌≡◌, ◌≢◌, ℕ, ◌+◌, ◌<◌, ◌≤◌, ◌^◌, Bool, true, false, not, cond, List, [], ◌∷◌, ◌++◌, length, map, Option, Some,
+    None, nat_le, nat_lt, nat_eq, slice_get, Ordering, Less, Equal, Greater, refl, sym, ap, ◌∙◌, subst, arith, inl, inr}
 use Rattle.std.proofs.lemmas.Bool.{and_parts, cases_Bool, false≢true, not-true}
 use Rattle.std.proofs.lemmas.Bool.Decides.{nat_tests}
 use Rattle.std.proofs.lemmas.List.Elements.{All-from_recursion}
@@ -21,7 +22,8 @@ use Rattle.srm_scenario.specs.declared.parts.DrawSpec.{DrawSpec}
 use Rattle.srm_scenario.specs.declared.parts.MemberSpec.{MemberSpec}
 use Rattle.srm_scenario.specs.declared.parts.SessionSpec.{SessionSpec}
 use Rattle.srm_scenario.specs.Accepted.{IsMember, IsThere, IsDraw, IsSession, IsDrop, IsOutage, IsAccepted}
-use Rattle.srm_scenario.specs.Faults.{faults_by, fault_unless, stays_to, is_there, is_sender, is_late, is_listener, leaves_after, is_taken, fits_member, member_faults, if_member, fits_draw, fits_session, fits_drop, fits_outage, meaning_faults}
+use Rattle.srm_scenario.specs.Faults.{faults_by, fault_unless, stays_to, is_there, is_sender, is_late, is_listener, leaves_after, is_taken,
+    fits_member, member_faults, if_member, fits_draw, fits_session, fits_drop, fits_outage, meaning_faults}
 use Rattle.srm_scenario.specs.Plain.{PlainScenario, network_of}
 use Rattle.srm_scenario.specs.Ranges.{MemberInRange, HasItsPages, InRange}
 use Rattle.srm_scenario.specs.Trees.{is_tree}
@@ -37,12 +39,14 @@ pub unless_true : (b : Bool) (f : ScenarioFault) → fault_unless b f ≡ [] →
 unless_true true f h = refl
 unless_true false f h = cc
 
-pub none_by : {A : Type 0} (fault : ℕ → ScenarioFault) (test : A → Bool) (i : ℕ) (xs : List A) → faults_by fault test i xs ≡ [] → AllByRecursion (λ x. test x ≡ true) xs
+pub none_by : {A : Type 0} (fault : ℕ → ScenarioFault) (test : A → Bool) (i : ℕ) (xs : List A) → faults_by fault test i xs ≡ []
+    → AllByRecursion (λ x. test x ≡ true) xs
 none_by fault test i [] h = tt
 none_by fault test i (x ∷ xs) h = by (test x) refl (none_by fault test (i + 1) xs) h
   where
     by : (b : Bool) → test x ≡ b → (faults_by fault test (i + 1) xs ≡ [] → AllByRecursion (λ y. test y ≡ true) xs)
-        → cond b (faults_by fault test (i + 1) xs) (fault i ∷ faults_by fault test (i + 1) xs) ≡ [] → (test x ≡ true) × AllByRecursion (λ y. test y ≡ true) xs
+        → cond b (faults_by fault test (i + 1) xs) (fault i ∷ faults_by fault test (i + 1) xs) ≡ [] → (test x ≡ true)
+            × AllByRecursion (λ y. test y ≡ true) xs
     by true e rest h = (e, rest h)
     by false e rest h = cc
 
@@ -87,16 +91,20 @@ late Listener h = absurd (false≢true h)
 draw_fits : (s : PlainScenario) (d : DrawSpec) → fits_draw s.until s.members d ≡ true → IsDraw s d
 draw_fits s d h = by (slice_get s.members d.member) refl h
   where
-    by : (o : Option MemberSpec) → slice_get s.members d.member ≡ o → if_member o (λ k. is_sender k.role && is_there s.until d.at k) ≡ true → IsDraw s d
+    by : (o : Option MemberSpec) → slice_get s.members d.member ≡ o → if_member o (λ k. is_sender k.role && is_there s.until d.at k) ≡ true
+        → IsDraw s d
     by None e h = absurd (false≢true h)
-    by (Some k) e h = let (p, q) = and_parts (is_sender k.role) (is_there s.until d.at k) h in (k, e, sends k.role p, there s.until d.at k q)
+    by (Some k) e h = let (p, q) = and_parts (is_sender k.role) (is_there s.until d.at k) h in
+        (k, e, sends k.role p, there s.until d.at k q)
 
 session_fits : (s : PlainScenario) (r : SessionSpec) → fits_session s.until s.members r ≡ true → IsSession s r
 session_fits s r h = by (slice_get s.members r.member) refl h
   where
-    by : (o : Option MemberSpec) → slice_get s.members r.member ≡ o → if_member o (λ k. not (is_listener k.role) && is_there s.until r.at k) ≡ true → IsSession s r
+    by : (o : Option MemberSpec) → slice_get s.members r.member ≡ o → if_member o (λ k. not (is_listener k.role) && is_there s.until r.at k)
+        ≡ true → IsSession s r
     by None e h = absurd (false≢true h)
-    by (Some k) e h = let (p, q) = and_parts (not (is_listener k.role)) (is_there s.until r.at k) h in (k, e, speaks k.role p, there s.until r.at k q)
+    by (Some k) e h = let (p, q) = and_parts (not (is_listener k.role)) (is_there s.until r.at k) h in
+        (k, e, speaks k.role p, there s.until r.at k q)
 
 drop_fits : (s : PlainScenario) (d : DropSpec) → fits_drop (length s.links) (length s.members) d ≡ true → IsDrop s d
 drop_fits s d h =
@@ -108,29 +116,35 @@ outage_fits s o h =
     let (p, q) = and_parts (nat_lt o.link (length s.links)) (nat_lt o.from o.to) h in
     (grind (arith, nat_tests), grind (arith, nat_tests))
 
-all_matched : {A : Type 0} (P : A → Type 0) (o : Ordering) (xs ys zs : List A) → AllByRecursion P xs → AllByRecursion P ys → AllByRecursion P zs → AllByRecursion P (match_ordering o xs ys zs)
+all_matched : {A : Type 0} (P : A → Type 0) (o : Ordering) (xs ys zs : List A) → AllByRecursion P xs → AllByRecursion P ys
+    → AllByRecursion P zs → AllByRecursion P (match_ordering o xs ys zs)
 all_matched P Less xs ys zs p q r = p
 all_matched P Equal xs ys zs p q r = q
 all_matched P Greater xs ys zs p q r = r
 
-all_with : {A : Type 0} (cmp : A → A → Ordering) (P : A → Type 0) (x : A) (ys : List A) → P x → AllByRecursion P ys → AllByRecursion P (with_once cmp x ys)
+all_with : {A : Type 0} (cmp : A → A → Ordering) (P : A → Type 0) (x : A) (ys : List A) → P x → AllByRecursion P ys
+    → AllByRecursion P (with_once cmp x ys)
 all_with cmp P x [] h g = (h, tt)
-all_with cmp P x (y ∷ ys) h g = all_matched P (cmp x y) (x ∷ y ∷ ys) (y ∷ ys) (y ∷ with_once cmp x ys) (h, g) g (g.0, all_with cmp P x ys h g.1)
+all_with cmp P x (y ∷ ys) h g = all_matched P (cmp x y) (x ∷ y ∷ ys) (y ∷ ys) (y ∷ with_once cmp x ys) (h, g) g
+    (g.0, all_with cmp P x ys h g.1)
 
-all_once : {A : Type 0} (cmp : A → A → Ordering) (P : A → Type 0) (xs : List A) → AllByRecursion P xs → AllByRecursion P (ordered_once cmp xs)
+all_once : {A : Type 0} (cmp : A → A → Ordering) (P : A → Type 0) (xs : List A) → AllByRecursion P xs
+    → AllByRecursion P (ordered_once cmp xs)
 all_once cmp P [] h = tt
 all_once cmp P (x ∷ xs) h = all_with cmp P x (ordered_once cmp xs) h.0 (all_once cmp P xs h.1)
 
 -- ---- members
 
-leaves : (join : ℕ) (o : Option ℕ) → leaves_after join o ≡ true → ((at : ℕ) → o ≡ Some at → at ≤ 2 ^ 40) → (at : ℕ) → o ≡ Some at → (join < at) × (at ≤ 2 ^ 40)
+leaves : (join : ℕ) (o : Option ℕ) → leaves_after join o ≡ true → ((at : ℕ) → o ≡ Some at → at ≤ 2 ^ 40) → (at : ℕ) → o ≡ Some at
+    → (join < at) × (at ≤ 2 ^ 40)
 leaves join None h few at e = cc
 leaves join (Some end) h few at e = let same : end ≡ at = cc in (grind (arith, nat_tests), few at e)
 
 no_pages : (e : MemberEntry) → (not e.has_pages || is_late e.spec.role) ≡ true → HasItsPages e → e.spec.role ≢ Late → e.spec.pages ≡ []
 no_pages e h its other =
     elim (cases_Bool e.has_pages) [
-      | inl given ↦ (let l : is_late e.spec.role ≡ true = ap (λ b. not b || is_late e.spec.role) (sym given) ∙ h in absurd (other (late e.spec.role l)))
+      | inl given ↦ (let l : is_late e.spec.role ≡ true = ap (λ b. not b || is_late e.spec.role) (sym given)
+          ∙ h in absurd (other (late e.spec.role l)))
       | inr none ↦ its none
     ]
 
@@ -141,7 +155,8 @@ pub record Fits (until nodes : ℕ) (star : Bool) (earlier : List MemberEntry) (
   pub leaves_later : leaves_after e.spec.join e.spec.leave ≡ true
   pub paged : (not e.has_pages || is_late e.spec.role) ≡ true
 
-fit_parts : (until nodes : ℕ) (star : Bool) (earlier : List MemberEntry) (e : MemberEntry) → fits_member until nodes star earlier e ≡ true → Fits until nodes star earlier e
+fit_parts : (until nodes : ℕ) (star : Bool) (earlier : List MemberEntry) (e : MemberEntry) → fits_member until nodes star earlier e ≡ true
+    → Fits until nodes star earlier e
 fit_parts until nodes star earlier e h =
     let k = e.spec in
     let a = nat_lt k.node nodes in
@@ -163,7 +178,8 @@ fit_parts until nodes star earlier e h =
       paged = paged;
     }
 
-one_member : (until nodes : ℕ) (star : Bool) (earlier : List MemberEntry) (e : MemberEntry) → Fits until nodes star earlier e → MemberInRange e.spec → HasItsPages e → IsMember until e.spec
+one_member : (until nodes : ℕ) (star : Bool) (earlier : List MemberEntry) (e : MemberEntry) → Fits until nodes star earlier e
+    → MemberInRange e.spec → HasItsPages e → IsMember until e.spec
 one_member until nodes star earlier e f range its = record {
   join = f.early;
   leave = leaves e.spec.join e.spec.leave f.leaves_later range.leave;
@@ -171,26 +187,32 @@ one_member until nodes star earlier e f range its = record {
   stream = range.stream;
 }
 
-head_faults : (until nodes : ℕ) (star : Bool) (earlier : List MemberEntry) (i : ℕ) (e : MemberEntry) (es : List MemberEntry) → member_faults until nodes star earlier i (e ∷ es) ≡ []
+head_faults : (until nodes : ℕ) (star : Bool) (earlier : List MemberEntry) (i : ℕ) (e : MemberEntry) (es : List MemberEntry)
+    → member_faults until nodes star earlier i (e ∷ es) ≡ []
     → Fits until nodes star earlier e × (member_faults until nodes star (earlier ++ e ∷ []) (i + 1) es ≡ [])
 head_faults until nodes star earlier i e es h =
-    let p = empty_parts (fault_unless (fits_member until nodes star earlier e) (BadMember i)) (member_faults until nodes star (earlier ++ e ∷ []) (i + 1) es) h in
+    let p = empty_parts (fault_unless (fits_member until nodes star earlier e) (BadMember i))
+        (member_faults until nodes star (earlier ++ e ∷ []) (i + 1) es) h in
     (fit_parts until nodes star earlier e (unless_true _ (BadMember i) p.0), p.1)
 
-members_fit : (until nodes : ℕ) (star : Bool) (earlier : List MemberEntry) (i : ℕ) (es : List MemberEntry) → member_faults until nodes star earlier i es ≡ []
-    → AllByRecursion MemberInRange (map (λ e. e.spec) es) → AllByRecursion HasItsPages es → AllByRecursion (IsMember until) (map (λ e. e.spec) es)
+members_fit : (until nodes : ℕ) (star : Bool) (earlier : List MemberEntry) (i : ℕ) (es : List MemberEntry)
+    → member_faults until nodes star earlier i es ≡ []
+    → AllByRecursion MemberInRange (map (λ e. e.spec) es) → AllByRecursion HasItsPages es
+        → AllByRecursion (IsMember until) (map (λ e. e.spec) es)
 members_fit until nodes star earlier i [] h range its = tt
 members_fit until nodes star earlier i (e ∷ es) h range its =
     let p = head_faults until nodes star earlier i e es h in
     (one_member until nodes star earlier e p.0 range.0 its.0, members_fit until nodes star (earlier ++ e ∷ []) (i + 1) es p.1 range.1 its.1)
 
-nodes_within : (until nodes : ℕ) (star : Bool) (earlier : List MemberEntry) (i : ℕ) (es : List MemberEntry) → member_faults until nodes star earlier i es ≡ []
+nodes_within : (until nodes : ℕ) (star : Bool) (earlier : List MemberEntry) (i : ℕ) (es : List MemberEntry)
+    → member_faults until nodes star earlier i es ≡ []
     → AllByRecursion (λ n. n < nodes) (map (λ k. k.node) (map (λ e. e.spec) es))
 nodes_within until nodes star earlier i [] h = tt
 nodes_within until nodes star earlier i (e ∷ es) h =
     let p = head_faults until nodes star earlier i e es h in (p.0.within, nodes_within until nodes star (earlier ++ e ∷ []) (i + 1) es p.1)
 
-taken_more : (earlier : List MemberEntry) (e : MemberEntry) (n : ℕ) → is_taken (earlier ++ e ∷ []) n ≡ (is_taken earlier n || (e.spec.node == n))
+taken_more : (earlier : List MemberEntry) (e : MemberEntry) (n : ℕ) → is_taken (earlier ++ e ∷ []) n
+    ≡ (is_taken earlier n || (e.spec.node == n))
 taken_more [] e n = by (e.spec.node == n)
   where
     by : (b : Bool) → (b || false) ≡ (false || b)
@@ -203,35 +225,43 @@ taken_more (x ∷ xs) e n = ap (λ b. (x.spec.node == n) || b) (taken_more xs e 
     by false = refl
 
 -- no later member is on a node that is taken
-none_on : (until nodes : ℕ) (star : Bool) (earlier : List MemberEntry) (i : ℕ) (es : List MemberEntry) (n : ℕ) → is_taken earlier n ≡ true → member_faults until nodes star earlier i es ≡ []
+none_on : (until nodes : ℕ) (star : Bool) (earlier : List MemberEntry) (i : ℕ) (es : List MemberEntry) (n : ℕ) → is_taken earlier n ≡ true
+    → member_faults until nodes star earlier i es ≡ []
     → AllByRecursion (λ m. nat_eq n m ≡ false) (map (λ k. k.node) (map (λ e. e.spec) es))
 none_on until nodes star earlier i [] n taken h = tt
 none_on until nodes star earlier i (e ∷ es) n taken h =
     let p = head_faults until nodes star earlier i e es h in
     let other : nat_eq n e.spec.node ≡ false = elim (cases_Bool (nat_eq n e.spec.node)) [
-      | inl same ↦ (let is : n ≡ e.spec.node = grind (arith, nat_tests) in absurd (false≢true (sym p.0.free ∙ ap (is_taken earlier) (sym is) ∙ taken)))
+      | inl same ↦ (let is : n ≡ e.spec.node = grind (arith, nat_tests) in
+          absurd (false≢true (sym p.0.free ∙ ap (is_taken earlier) (sym is) ∙ taken)))
       | inr other ↦ other
     ] in
-    (other, none_on until nodes star (earlier ++ e ∷ []) (i + 1) es n (taken_more earlier e n ∙ ap (λ b. b || (e.spec.node == n)) taken) p.1)
+    (other, none_on until nodes star (earlier ++ e ∷ []) (i + 1) es n (taken_more earlier e n ∙ ap (λ b. b || (e.spec.node == n)) taken)
+        p.1)
 
 or_true : (b : Bool) → (b || true) ≡ true
 or_true true = refl
 or_true false = refl
 
-nodes_apart : (until nodes : ℕ) (star : Bool) (earlier : List MemberEntry) (i : ℕ) (es : List MemberEntry) → member_faults until nodes star earlier i es ≡ []
+nodes_apart : (until nodes : ℕ) (star : Bool) (earlier : List MemberEntry) (i : ℕ) (es : List MemberEntry)
+    → member_faults until nodes star earlier i es ≡ []
     → IsDistinct nat_eq (map (λ k. k.node) (map (λ e. e.spec) es))
 unfolding IsDistinct
 nodes_apart until nodes star earlier i [] h = tt
 nodes_apart until nodes star earlier i (e ∷ es) h =
     let p = head_faults until nodes star earlier i e es h in
     let self : (e.spec.node == e.spec.node) ≡ true = grind (arith, nat_tests) in
-    let here : is_taken (earlier ++ e ∷ []) e.spec.node ≡ true = taken_more earlier e e.spec.node ∙ ap (λ b. is_taken earlier e.spec.node || b) self ∙ or_true (is_taken earlier e.spec.node) in
-    (none_on until nodes star (earlier ++ e ∷ []) (i + 1) es e.spec.node here p.1, nodes_apart until nodes star (earlier ++ e ∷ []) (i + 1) es p.1)
+    let here : is_taken (earlier ++ e ∷ []) e.spec.node ≡ true = taken_more earlier e e.spec.node
+        ∙ ap (λ b. is_taken earlier e.spec.node || b) self ∙ or_true (is_taken earlier e.spec.node) in
+    (none_on until nodes star (earlier ++ e ∷ []) (i + 1) es e.spec.node here p.1,
+        nodes_apart until nodes star (earlier ++ e ∷ []) (i + 1) es p.1)
 
 -- ---- all together
 
-pub accepted_from : (s : PlainScenario) (star : Bool) (entries : List MemberEntry) (listed : List DropSpec) → InRange s → AllByRecursion HasItsPages entries
-    → s.members ≡ map (λ e. e.spec) entries → s.drops.listed ≡ ordered_once drop_cmp listed → meaning_faults s star entries listed ≡ [] → IsAccepted s
+pub accepted_from : (s : PlainScenario) (star : Bool) (entries : List MemberEntry) (listed : List DropSpec) → InRange s
+    → AllByRecursion HasItsPages entries
+    → s.members ≡ map (λ e. e.spec) entries → s.drops.listed ≡ ordered_once drop_cmp listed → meaning_faults s star entries listed ≡ []
+        → IsAccepted s
 unfolding meaning_faults
 accepted_from s star entries listed range its members drops h =
     let (tree, h1) = empty_parts (fault_unless (is_tree (network_of s)) NotTree) _ h in
@@ -240,11 +270,17 @@ accepted_from s star entries listed range its members drops h =
     let (told, h4) = empty_parts (faults_by BadSession (fits_session s.until s.members) 0 s.sessions) _ h3 in
     let (dropped, h5) = empty_parts (faults_by BadDrop (fits_drop (length s.links) (length s.members)) 0 listed) _ h4 in
     let (out, h6) = empty_parts (faults_by BadOutage (fits_outage (length s.links)) 0 s.drops.outages) _ h5 in
-    let ranges : AllByRecursion MemberInRange (map (λ e. e.spec) entries) = subst (λ (l : List MemberSpec). AllByRecursion MemberInRange l) members range.members in
-    let fit : AllByRecursion (IsMember s.until) s.members = subst (λ (l : List MemberSpec). AllByRecursion (IsMember s.until) l) (sym members) (members_fit s.until s.nodes star [] 0 entries placed ranges its) in
-    let hosts : AllByRecursion (λ n. n < s.nodes) (map (λ k. k.node) s.members) = subst (λ (l : List MemberSpec). AllByRecursion (λ n. n < s.nodes) (map (λ k. k.node) l)) (sym members) (nodes_within s.until s.nodes star [] 0 entries placed) in
-    let apart : IsDistinct nat_eq (map (λ k. k.node) s.members) = subst (λ (l : List MemberSpec). IsDistinct nat_eq (map (λ k. k.node) l)) (sym members) (nodes_apart s.until s.nodes star [] 0 entries placed) in
-    let listed_fit = all_once drop_cmp (IsDrop s) listed (all_map _ (IsDrop s) (drop_fits s) listed (none_by BadDrop (fits_drop (length s.links) (length s.members)) 0 listed dropped)) in
+    let ranges : AllByRecursion MemberInRange (map (λ e. e.spec) entries) =
+        subst (λ (l : List MemberSpec). AllByRecursion MemberInRange l) members range.members in
+    let fit : AllByRecursion (IsMember s.until) s.members = subst (λ (l : List MemberSpec). AllByRecursion (IsMember s.until) l)
+        (sym members) (members_fit s.until s.nodes star [] 0 entries placed ranges its) in
+    let hosts : AllByRecursion (λ n. n < s.nodes) (map (λ k. k.node) s.members) =
+        subst (λ (l : List MemberSpec). AllByRecursion (λ n. n < s.nodes) (map (λ k. k.node) l)) (sym members)
+        (nodes_within s.until s.nodes star [] 0 entries placed) in
+    let apart : IsDistinct nat_eq (map (λ k. k.node) s.members) = subst (λ (l : List MemberSpec). IsDistinct nat_eq (map (λ k. k.node) l))
+        (sym members) (nodes_apart s.until s.nodes star [] 0 entries placed) in
+    let listed_fit = all_once drop_cmp (IsDrop s) listed
+        (all_map _ (IsDrop s) (drop_fits s) listed (none_by BadDrop (fits_drop (length s.links) (length s.members)) 0 listed dropped)) in
     record {
       some_ticks = range.some_ticks;
       few_ticks = range.few_ticks;
@@ -255,11 +291,15 @@ accepted_from s star entries listed range its members drops h =
         hosts = (All-from_recursion (λ n. n < s.nodes) _ hosts, apart);
       };
       members = All-from_recursion (IsMember s.until) s.members fit;
-      draws = All-from_recursion (IsDraw s) s.draws (all_map _ (IsDraw s) (draw_fits s) s.draws (none_by BadDraw (fits_draw s.until s.members) 0 s.draws drawn));
+      draws = All-from_recursion (IsDraw s) s.draws (all_map _ (IsDraw s)
+          (draw_fits s) s.draws (none_by BadDraw (fits_draw s.until s.members) 0 s.draws drawn));
       few_draws = range.few_draws;
-      sessions = All-from_recursion (IsSession s) s.sessions (all_map _ (IsSession s) (session_fits s) s.sessions (none_by BadSession (fits_session s.until s.members) 0 s.sessions told));
+      sessions = All-from_recursion (IsSession s) s.sessions
+          (all_map _ (IsSession s) (session_fits s) s.sessions (none_by BadSession (fits_session s.until s.members) 0 s.sessions told));
       few_sessions = range.few_sessions;
-      drops = All-from_recursion (IsDrop s) s.drops.listed (subst (λ (l : List DropSpec). AllByRecursion (IsDrop s) l) (sym drops) listed_fit);
+      drops = All-from_recursion (IsDrop s) s.drops.listed
+          (subst (λ (l : List DropSpec). AllByRecursion (IsDrop s) l) (sym drops) listed_fit);
       drops_ascend = subst (λ (l : List DropSpec). Rattle.srm_net.specs.Orders.Ascends drop_cmp l) (sym drops) (drops_ascend listed);
-      outages = All-from_recursion (IsOutage s) s.drops.outages (all_map _ (IsOutage s) (outage_fits s) s.drops.outages (none_by BadOutage (fits_outage (length s.links)) 0 s.drops.outages out));
+      outages = All-from_recursion (IsOutage s) s.drops.outages
+          (all_map _ (IsOutage s) (outage_fits s) s.drops.outages (none_by BadOutage (fits_outage (length s.links)) 0 s.drops.outages out));
     }

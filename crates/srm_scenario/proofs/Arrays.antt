@@ -1,10 +1,12 @@
 -- Arrays at the keys of a table.
-use Rattle.std.proofs.Common.{◌≡◌, ℕ, zero, suc, ◌+◌, ◌<◌, ◌≤◌, Bool, true, false, cond, List, [], ◌∷◌, Option, Some, None, map, length, nat_le, unwrap_or, Result, Ok, Err, refl, sym, ap, subst, ◌∙◌, arith}
+use Rattle.std.proofs.Common.{◌≡◌, ℕ, zero, suc, ◌+◌, ◌<◌, ◌≤◌, Bool, true, false, cond, List, [], ◌∷◌, Option, Some, None, map, length,
+    nat_le, unwrap_or, Result, Ok, Err, refl, sym, ap, subst, ◌∙◌, arith}
 use Rattle.std.specs.Prelude.{◌&&◌, IfOk, MatchOption}
 use Rattle.std.proofs.lemmas.Bool.{false≢true}
 use Rattle.std.proofs.lemmas.Bool.Decides.{nat_tests}
 use Rattle.std.proofs.lemmas.List.{length-map}
-use Rattle.toml.specs.Data.{Data, Items, Members, no_items, item, string, integer, float, boolean, datetime, array, table, get_member, as_array}
+use Rattle.toml.specs.Data.{Data, Items, Members, no_items, item, string, integer, float, boolean, datetime, array, table, get_member,
+    as_array}
 use Rattle.toml.specs.View.{view, items_of, items_view}
 use Rattle.toml.specs.declared.value.Value.{Value}
 use Rattle.srm_scenario.specs.Rules.{is_met, is_kind, rule, meets, elements, numbers, optional, count_items, all_whole}
@@ -26,7 +28,8 @@ count-items (d ∷ ds) = ap suc (count-items ds)
 pub count-view : (vs : List Value) → count_items (items_view vs) ≡ length vs
 count-view vs = count-items (map view vs) ∙ length-map vs view
 
-pub array-there : (key : List ℕ) (most : ℕ) (ms : Members) (d : Data) (vs : List Value) → Some d ≡ get_member key ms → Some (items_view vs) ≡ as_array d → length vs ≤ most
+pub array-there : (key : List ℕ) (most : ℕ) (ms : Members) (d : Data) (vs : List Value) → Some d ≡ get_member key ms → Some (items_view vs)
+    ≡ as_array d → length vs ≤ most
     → IsArray key most ms (map view vs)
 array-there key most ms (array ds) vs got is few =
     let same : items_view vs ≡ ds = cc in
@@ -44,7 +47,8 @@ array-there key most ms (boolean b) vs got is few = cc
 array-there key most ms (datetime t) vs got is few = cc
 array-there key most ms (table t) vs got is few = cc
 
-pub array-long : (key : List ℕ) (most : ℕ) (ms : Members) (d : Data) (vs : List Value) → Some d ≡ get_member key ms → Some (items_view vs) ≡ as_array d → most < length vs
+pub array-long : (key : List ℕ) (most : ℕ) (ms : Members) (d : Data) (vs : List Value) → Some d ≡ get_member key ms → Some (items_view vs)
+    ≡ as_array d → most < length vs
     → is_met ms (rule key (elements most) optional) ≡ false
 array-long key most ms (array ds) vs got is long =
     let same : items_view vs ≡ ds = cc in
@@ -76,7 +80,8 @@ array-absent key most ms got = record {
 }
 
 -- whether each value is a page, where the values are those of an array
-pub numbers-met : (key : List ℕ) (most high : ℕ) (ms : Members) (vs : List Value) (b : Bool) → IsArray key most ms (map view vs) → all_whole high (items_view vs) ≡ b
+pub numbers-met : (key : List ℕ) (most high : ℕ) (ms : Members) (vs : List Value) (b : Bool) → IsArray key most ms (map view vs)
+    → all_whole high (items_view vs) ≡ b
     → is_met ms (rule key (numbers most high) optional) ≡ b
 numbers-met key most high ms vs b h whole =
     by (get_member key ms) h.met (h.is)
@@ -94,7 +99,8 @@ numbers-met key most high ms vs b h whole =
     by (Some (table t)) met same = absurd (false≢true met)
 
 -- an array that is wrong as one of elements is wrong as one of numbers
-pub numbers-wrong : (key : List ℕ) (most high : ℕ) (ms : Members) → is_met ms (rule key (elements most) optional) ≡ false → is_met ms (rule key (numbers most high) optional) ≡ false
+pub numbers-wrong : (key : List ℕ) (most high : ℕ) (ms : Members) → is_met ms (rule key (elements most) optional) ≡ false
+    → is_met ms (rule key (numbers most high) optional) ≡ false
 numbers-wrong key most high ms h =
     by (get_member key ms) h
   where
@@ -113,13 +119,15 @@ map-view f [] = refl
 map-view f (v ∷ vs) = ap (λ (l : List _). f (view v) ∷ l) (map-view f vs)
 
 -- what values are read as is what the elements at their key are read as
-pub elements-read : {A : Type 0} (reading : Members → A) (vs : List Value) (ds : List Data) (xs : List A) → map view vs ≡ ds → xs ≡ map (λ v. reading (table_of (view v))) vs
+pub elements-read : {A : Type 0} (reading : Members → A) (vs : List Value) (ds : List Data) (xs : List A) → map view vs ≡ ds → xs
+    ≡ map (λ v. reading (table_of (view v))) vs
     → map (λ d. reading (table_of d)) ds ≡ xs
 elements-read reading vs ds xs same read =
     ap (map (λ d. reading (table_of d))) (sym same) ∙ map-view (λ d. reading (table_of d)) vs ∙ sym read
 
 one-read : (key : List ℕ) (most high : ℕ) (ms : Members) (vs : List Value) (o : Option (List ℕ)) → IsArray key most ms (map view vs)
-    → MatchOption o (all_whole high (items_view vs) ≡ false) (λ pages. (all_whole high (items_view vs) ≡ true) × (pages ≡ map (λ v. unwrap_or (number_of (view v)) 0) vs))
+    → MatchOption o (all_whole high (items_view vs) ≡ false)
+        (λ pages. (all_whole high (items_view vs) ≡ true) × (pages ≡ map (λ v. unwrap_or (number_of (view v)) 0) vs))
     → MatchOption o (is_met ms (rule key (numbers most high) optional) ≡ false)
     (λ pages. (is_met ms (rule key (numbers most high) optional) ≡ true) × (pages ≡ map (λ d. unwrap_or (number_of d) 0) (array_at key ms)))
 one-read key most high ms vs None h read = numbers-met key most high ms vs false h read
@@ -129,14 +137,18 @@ one-read key most high ms vs (Some pages) h read = (
 )
 
 -- the numbers of an array's values are those of the array at its key
-pub numbers-read : {E : Type 0} (key : List ℕ) (most high : ℕ) (ms : Members) (vs : List Value) (r : Result (Option (List ℕ)) E) → IsArray key most ms (map view vs)
-    → IfOk r (λ o. MatchOption o (all_whole high (items_view vs) ≡ false) (λ pages. (all_whole high (items_view vs) ≡ true) × (pages ≡ map (λ v. unwrap_or (number_of (view v)) 0) vs)))
+pub numbers-read : {E : Type 0} (key : List ℕ) (most high : ℕ) (ms : Members) (vs : List Value) (r : Result (Option (List ℕ)) E)
+    → IsArray key most ms (map view vs)
+    → IfOk r (λ o. MatchOption o (all_whole high (items_view vs) ≡ false)
+        (λ pages. (all_whole high (items_view vs) ≡ true) × (pages ≡ map (λ v. unwrap_or (number_of (view v)) 0) vs)))
     → IfOk r (λ o. MatchOption o (is_met ms (rule key (numbers most high) optional) ≡ false)
-    (λ pages. (is_met ms (rule key (numbers most high) optional) ≡ true) × (pages ≡ map (λ d. unwrap_or (number_of d) 0) (array_at key ms))))
+    (λ pages. (is_met ms (rule key (numbers most high) optional) ≡ true)
+        × (pages ≡ map (λ d. unwrap_or (number_of d) 0) (array_at key ms))))
 numbers-read key most high ms vs (Ok o) h read = one-read key most high ms vs o h read
 numbers-read key most high ms vs (Err e) h read = tt
 
-pub few_read : {A : Type 0} (vs : List Value) (reading : Value → A) (xs : List A) → xs ≡ map reading vs → length (map view vs) ≤ 4096 → length xs ≤ 4096
+pub few_read : {A : Type 0} (vs : List Value) (reading : Value → A) (xs : List A) → xs ≡ map reading vs → length (map view vs) ≤ 4096
+    → length xs ≤ 4096
 few_read vs reading xs read few =
     let a : length xs ≡ length vs = ap length read ∙ length-map vs reading in
     let b : length (map view vs) ≡ length vs = length-map vs view in

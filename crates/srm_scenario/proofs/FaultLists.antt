@@ -28,14 +28,17 @@ pub no_faults : (fs rest : List ScenarioFault) → fs ≡ [] → rest ≡ [] →
 no_faults fs rest p q = (λ i. p i ++ q i)
 
 -- the faults of an array's elements, by the version and the values that were read
-pub faults_read : (p : Part) (rules : Version → List Rule) (key : List ℕ) (ms : Members) (version : Version) (ds : List Data) → version_of ms ≡ version → ds ≡ array_at key ms
+pub faults_read : (p : Part) (rules : Version → List Rule) (key : List ℕ) (ms : Members) (version : Version) (ds : List Data)
+    → version_of ms ≡ version → ds ≡ array_at key ms
     → element_faults p (rules (version_of ms)) (array_at key ms) ≡ element_faults p (rules version) ds
 faults_read p rules key ms version ds same is = λ i. element_faults p (rules (same i)) (sym is i)
 
 -- so the first of them
-pub fault_read : (p : Part) (rules : Version → List Rule) (key : List ℕ) (ms : Members) (version : Version) (ds : List Data) (e : ScenarioFault) → version_of ms ≡ version → ds ≡ array_at key ms
+pub fault_read : (p : Part) (rules : Version → List Rule) (key : List ℕ) (ms : Members) (version : Version) (ds : List Data)
+    (e : ScenarioFault) → version_of ms ≡ version → ds ≡ array_at key ms
     → IsFault e (element_faults p (rules version) ds) → IsFault e (element_faults p (rules (version_of ms)) (array_at key ms))
-fault_read p rules key ms version ds e same is = subst (λ (fs : List ScenarioFault). IsFault e fs) (sym (faults_read p rules key ms version ds same is))
+fault_read p rules key ms version ds e same is = subst (λ (fs : List ScenarioFault). IsFault e fs)
+    (sym (faults_read p rules key ms version ds same is))
 
 module _ (ms : Members) where
   abbrev links : List ScenarioFault
@@ -71,28 +74,35 @@ module _ (ms : Members) where
   unfolding key_faults
   member_fault e top l h = later (top_faults ms) _ e (no_top_fault top) (later links _ e l (here members _ e h))
 
-  pub draw_fault : (e : ScenarioFault) → fits (rules_of_top ms) ms ≡ true → links ≡ [] → members ≡ [] → IsFault e draws → IsFault e (key_faults ms)
+  pub draw_fault : (e : ScenarioFault) → fits (rules_of_top ms) ms ≡ true → links ≡ [] → members ≡ [] → IsFault e draws
+      → IsFault e (key_faults ms)
   unfolding key_faults
   draw_fault e top l m h = later (top_faults ms) _ e (no_top_fault top) (later links _ e l (later members _ e m (here draws _ e h)))
 
-  pub session_fault : (e : ScenarioFault) → fits (rules_of_top ms) ms ≡ true → links ≡ [] → members ≡ [] → draws ≡ [] → IsFault e sessions → IsFault e (key_faults ms)
+  pub session_fault : (e : ScenarioFault) → fits (rules_of_top ms) ms ≡ true → links ≡ [] → members ≡ [] → draws ≡ [] → IsFault e sessions
+      → IsFault e (key_faults ms)
   unfolding key_faults
   session_fault e top l m d h =
       later (top_faults ms) _ e (no_top_fault top) (later links _ e l (later members _ e m (later draws _ e d (here sessions _ e h))))
 
-  pub drop_fault : (e : ScenarioFault) → fits (rules_of_top ms) ms ≡ true → links ≡ [] → members ≡ [] → draws ≡ [] → sessions ≡ [] → IsFault e drops → IsFault e (key_faults ms)
+  pub drop_fault : (e : ScenarioFault) → fits (rules_of_top ms) ms ≡ true → links ≡ [] → members ≡ [] → draws ≡ [] → sessions ≡ []
+      → IsFault e drops → IsFault e (key_faults ms)
   unfolding key_faults
   drop_fault e top l m d s h =
-      later (top_faults ms) _ e (no_top_fault top) (later links _ e l (later members _ e m (later draws _ e d (later sessions _ e s (here drops _ e h)))))
+      later (top_faults ms) _ e (no_top_fault top)
+          (later links _ e l (later members _ e m (later draws _ e d (later sessions _ e s (here drops _ e h)))))
 
-  pub outage_fault : (e : ScenarioFault) → fits (rules_of_top ms) ms ≡ true → links ≡ [] → members ≡ [] → draws ≡ [] → sessions ≡ [] → drops ≡ [] → IsFault e outages → IsFault e (key_faults ms)
+  pub outage_fault : (e : ScenarioFault) → fits (rules_of_top ms) ms ≡ true → links ≡ [] → members ≡ [] → draws ≡ [] → sessions ≡ [] → drops
+      ≡ [] → IsFault e outages → IsFault e (key_faults ms)
   unfolding key_faults
   outage_fault e top l m d s p h =
       later (top_faults ms) _ e (no_top_fault top)
       (later links _ e l (later members _ e m (later draws _ e d (later sessions _ e s (later drops _ e p (here outages _ e h))))))
 
-  pub no_key_fault : fits (rules_of_top ms) ms ≡ true → links ≡ [] → members ≡ [] → draws ≡ [] → sessions ≡ [] → drops ≡ [] → outages ≡ [] → key_faults ms ≡ []
+  pub no_key_fault : fits (rules_of_top ms) ms ≡ true → links ≡ [] → members ≡ [] → draws ≡ [] → sessions ≡ [] → drops ≡ [] → outages ≡ []
+      → key_faults ms ≡ []
   unfolding key_faults
   no_key_fault top l m d s p o =
       no_faults (top_faults ms) _ (no_top_fault top)
-      (no_faults links _ l (no_faults members _ m (no_faults draws _ d (no_faults sessions _ s (no_faults drops _ p (no_faults outages _ o refl))))))
+      (no_faults links _ l (no_faults members _ m (no_faults draws _ d
+          (no_faults sessions _ s (no_faults drops _ p (no_faults outages _ o refl))))))

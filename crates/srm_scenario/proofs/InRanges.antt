@@ -1,5 +1,6 @@
 -- The ranges of a file's keys are those of the scenario.
-use Rattle.std.proofs.Common.{◌≡◌, ℕ, zero, suc, ◌+◌, ◌-◌, ◌≤◌, ◌^◌, Bool, true, false, cond, pos, negsuc, List, [], ◌∷◌, map, Option, Some, None, is_some, unwrap_or, nat_le, codes, refl, sym, ap, ◌∙◌, subst, arith}
+use Rattle.std.proofs.Common.{◌≡◌, ℕ, zero, suc, ◌+◌, ◌-◌, ◌≤◌, ◌^◌, Bool, true, false, cond, pos, negsuc, List, [], ◌∷◌, map, Option, Some,
+    None, is_some, unwrap_or, nat_le, codes, refl, sym, ap, ◌∙◌, subst, arith}
 use Rattle.std.proofs.lemmas.Bool.{and_parts, false≢true}
 use Rattle.std.proofs.lemmas.Bool.Decides.{nat_tests}
 use Rattle.std.specs.List.{list_all, AllByRecursion}
@@ -15,8 +16,10 @@ use Rattle.srm_scenario.specs.declared.parts.MemberSpec.{MemberSpec}
 use Rattle.srm_scenario.specs.declared.delays.Delays.{Delays}
 use Rattle.srm_scenario.specs.declared.topology.Topology.{Topology}
 use Rattle.srm_scenario.specs.declared.version.Version.{Version}
-use Rattle.srm_scenario.specs.Rules.{Rule, rule, whole, required, optional, refused, meets, allows_back, index_rule, back_rule, is_met, is_whole, has_only, fits, fits_element, link_rules, member_rules, role_rule}
-use Rattle.srm_scenario.specs.Described.{version_of, back_at, delays_of, number_of, number_at, number, array_of, array_at, table_of, link_of, member_of, elements_at, links_to_parents, nodes_in, links_in, described, topology_of}
+use Rattle.srm_scenario.specs.Rules.{Rule, rule, whole, required, optional, refused, meets, allows_back, index_rule, back_rule, is_met,
+    is_whole, has_only, fits, fits_element, link_rules, member_rules, role_rule}
+use Rattle.srm_scenario.specs.Described.{version_of, back_at, delays_of, number_of, number_at, number, array_of, array_at, table_of,
+    link_of, member_of, elements_at, links_to_parents, nodes_in, links_in, described, topology_of}
 use Rattle.srm_scenario.specs.Faults.{element_faults, entry_of, key_faults, top_faults}
 use Rattle.srm_scenario.specs.Keys.{AreDelays}
 use Rattle.srm_scenario.specs.Plain.{drop_rules_of}
@@ -39,7 +42,8 @@ whole_range low high (datetime t) h n e = absurd (false≢true h)
 whole_range low high (array t) h n e = absurd (false≢true h)
 whole_range low high (table t) h n e = absurd (false≢true h)
 
-whole_number : (low high other : ℕ) (d : Data) → is_whole low high d ≡ true → (low ≤ unwrap_or (number_of d) other) × (unwrap_or (number_of d) other ≤ high)
+whole_number : (low high other : ℕ) (d : Data) → is_whole low high d ≡ true → (low ≤ unwrap_or (number_of d) other)
+    × (unwrap_or (number_of d) other ≤ high)
 whole_number low high other (integer (pos m)) h =
     let (p, q) = and_parts (nat_le low m) (nat_le m high) h in
     (grind (arith, nat_tests), grind (arith, nat_tests))
@@ -51,14 +55,17 @@ whole_number low high other (datetime t) h = absurd (false≢true h)
 whole_number low high other (array t) h = absurd (false≢true h)
 whole_number low high other (table t) h = absurd (false≢true h)
 
-required_number : (key : List ℕ) (low high : ℕ) (ms : Members) → is_met ms (rule key (whole low high) required) ≡ true → (low ≤ number key ms) × (number key ms ≤ high)
+required_number : (key : List ℕ) (low high : ℕ) (ms : Members) → is_met ms (rule key (whole low high) required) ≡ true
+    → (low ≤ number key ms) × (number key ms ≤ high)
 required_number key low high ms h = by (get_member key ms) h
   where
-    by : (o : Option Data) → meets required (whole low high) o ≡ true → (low ≤ unwrap_or (option_and_then number_of o) 0) × (unwrap_or (option_and_then number_of o) 0 ≤ high)
+    by : (o : Option Data) → meets required (whole low high) o ≡ true → (low ≤ unwrap_or (option_and_then number_of o) 0)
+        × (unwrap_or (option_and_then number_of o) 0 ≤ high)
     by None e = absurd (false≢true e)
     by (Some d) e = whole_number low high 0 d e
 
-optional_number : (key : List ℕ) (low high : ℕ) (ms : Members) → is_met ms (rule key (whole low high) optional) ≡ true → (n : ℕ) → number_at key ms ≡ Some n → n ≤ high
+optional_number : (key : List ℕ) (low high : ℕ) (ms : Members) → is_met ms (rule key (whole low high) optional) ≡ true → (n : ℕ)
+    → number_at key ms ≡ Some n → n ≤ high
 optional_number key low high ms h = by (get_member key ms) h
   where
     by : (o : Option Data) → meets optional (whole low high) o ≡ true → (n : ℕ) → option_and_then number_of o ≡ Some n → n ≤ high
@@ -67,7 +74,8 @@ optional_number key low high ms h = by (get_member key ms) h
 
 -- ---- elements
 
-one_read : {A : Type 0} (P : A → Type 0) (reading : Members → A) (rules : List Rule) → ((m : Members) → fits rules m ≡ true → P (reading m)) → (d : Data) → fits_element rules d ≡ true → P (reading (table_of d))
+one_read : {A : Type 0} (P : A → Type 0) (reading : Members → A) (rules : List Rule) → ((m : Members) → fits rules m ≡ true → P (reading m))
+    → (d : Data) → fits_element rules d ≡ true → P (reading (table_of d))
 one_read P reading rules f (table m) h = f m h
 one_read P reading rules f (integer t) h = absurd (false≢true h)
 one_read P reading rules f (string t) h = absurd (false≢true h)
@@ -76,21 +84,25 @@ one_read P reading rules f (boolean t) h = absurd (false≢true h)
 one_read P reading rules f (datetime t) h = absurd (false≢true h)
 one_read P reading rules f (array t) h = absurd (false≢true h)
 
-all_read : {A : Type 0} (P : A → Type 0) (reading : Members → A) (rules : List Rule) → ((m : Members) → fits rules m ≡ true → P (reading m)) → (ds : List Data)
+all_read : {A : Type 0} (P : A → Type 0) (reading : Members → A) (rules : List Rule) → ((m : Members) → fits rules m ≡ true → P (reading m))
+    → (ds : List Data)
     → AllByRecursion (λ d. fits_element rules d ≡ true) ds → AllByRecursion P (map (λ d. reading (table_of d)) ds)
 all_read P reading rules f [] h = tt
 all_read P reading rules f (d ∷ ds) h = (one_read P reading rules f d h.0, all_read P reading rules f ds h.1)
 
 -- what holds of each table that fits the rules holds of what elements without a fault are read as
-read_elements : {A : Type 0} (P : A → Type 0) (p : Part) (reading : Members → A) (rules : List Rule) → ((m : Members) → fits rules m ≡ true → P (reading m)) → (ds : List Data)
+read_elements : {A : Type 0} (P : A → Type 0) (p : Part) (reading : Members → A) (rules : List Rule)
+    → ((m : Members) → fits rules m ≡ true → P (reading m)) → (ds : List Data)
     → element_faults p rules ds ≡ [] → AllByRecursion P (map (λ d. reading (table_of d)) ds)
 read_elements P p reading rules f ds h = all_read P reading rules f ds (none_by (BadKey p) (fits_element rules) 0 ds h)
 
 -- the second delay of a link is in range, where it is given or the first is in range
-back_fits : (m : Members) (allowed : Bool) → is_met m (back_rule allowed) ≡ true → IsLinkDelay (number (codes "delay") m) → IsLinkDelay (back_at m)
+back_fits : (m : Members) (allowed : Bool) → is_met m (back_rule allowed) ≡ true → IsLinkDelay (number (codes "delay") m)
+    → IsLinkDelay (back_at m)
 back_fits m allowed h delay = by (get_member (codes "back") m) allowed h
   where
-    by : (o : Option Data) (b : Bool) → meets (cond b optional refused) (whole 1 1000000) o ≡ true → IsLinkDelay (unwrap_or (option_and_then number_of o) (number (codes "delay") m))
+    by : (o : Option Data) (b : Bool) → meets (cond b optional refused) (whole 1 1000000) o ≡ true
+        → IsLinkDelay (unwrap_or (option_and_then number_of o) (number (codes "delay") m))
     by None b e = delay
     by (Some d) true e = whole_number 1 1000000 (number (codes "delay") m) d e
     by (Some d) false e = absurd (false≢true e)
@@ -132,37 +144,47 @@ all_spec (e ∷ es) h = (h.0, all_spec es h.1)
 
 -- ---- links of a topology
 
-parents_delay : (t : Topology) (delays : Delays) (v n : ℕ) → IsLinkDelay delays.delay × IsLinkDelay delays.back → AllByRecursion HasDelays (links_to_parents t delays v n)
+parents_delay : (t : Topology) (delays : Delays) (v n : ℕ) → IsLinkDelay delays.delay × IsLinkDelay delays.back
+    → AllByRecursion HasDelays (links_to_parents t delays v n)
 parents_delay t delays v zero h = tt
 parents_delay t delays v (suc n) h = (h, parents_delay t delays (v + 1) n h)
 
-listed_delay : (o : Option Topology) (nodes : ℕ) (delays : Delays) (links : List LinkSpec) → AreDelays o delays → AllByRecursion HasDelays links → AllByRecursion HasDelays (links_listed o nodes delays links)
+listed_delay : (o : Option Topology) (nodes : ℕ) (delays : Delays) (links : List LinkSpec) → AreDelays o delays
+    → AllByRecursion HasDelays links → AllByRecursion HasDelays (links_listed o nodes delays links)
 listed_delay None nodes delays links h all = all
 listed_delay (Some t) nodes delays links h all = parents_delay t delays 1 (nodes - 1) h
 
 -- ---- all together
 
-link_part : (ms : Members) → key_faults ms ≡ [] → element_faults Rattle.srm_scenario.specs.declared.fault.Part.TheVariants.Link (link_rules (version_of ms)) (array_at (codes "link") ms) ≡ []
+link_part : (ms : Members) → key_faults ms ≡ [] → element_faults Rattle.srm_scenario.specs.declared.fault.Part.TheVariants.Link
+    (link_rules (version_of ms)) (array_at (codes "link") ms) ≡ []
 unfolding key_faults
 link_part ms h =
     let p = empty_parts (top_faults ms) _ h in
-    let q = empty_parts (element_faults Rattle.srm_scenario.specs.declared.fault.Part.TheVariants.Link (link_rules (version_of ms)) (array_at (codes "link") ms)) _ p.1 in
+    let q = empty_parts (element_faults Rattle.srm_scenario.specs.declared.fault.Part.TheVariants.Link (link_rules (version_of ms))
+        (array_at (codes "link") ms)) _ p.1 in
     q.0
 
-member_part : (ms : Members) → key_faults ms ≡ [] → element_faults Rattle.srm_scenario.specs.declared.fault.Part.TheVariants.Member (member_rules (version_of ms)) (array_at (codes "member") ms) ≡ []
+member_part : (ms : Members) → key_faults ms ≡ [] → element_faults Rattle.srm_scenario.specs.declared.fault.Part.TheVariants.Member
+    (member_rules (version_of ms)) (array_at (codes "member") ms) ≡ []
 unfolding key_faults
 member_part ms h =
     let p = empty_parts (top_faults ms) _ h in
-    let q = empty_parts (element_faults Rattle.srm_scenario.specs.declared.fault.Part.TheVariants.Link (link_rules (version_of ms)) (array_at (codes "link") ms)) _ p.1 in
-    let r = empty_parts (element_faults Rattle.srm_scenario.specs.declared.fault.Part.TheVariants.Member (member_rules (version_of ms)) (array_at (codes "member") ms)) _ q.1 in
+    let q = empty_parts (element_faults Rattle.srm_scenario.specs.declared.fault.Part.TheVariants.Link (link_rules (version_of ms))
+        (array_at (codes "link") ms)) _ p.1 in
+    let r = empty_parts (element_faults Rattle.srm_scenario.specs.declared.fault.Part.TheVariants.Member (member_rules (version_of ms))
+        (array_at (codes "member") ms)) _ q.1 in
     r.0
 
 pub listed_range : (ms : Members) (l : Listed) → IsListed ms l → InRange (plain_of l)
 unfolding plain_of
 listed_range ms l h =
-    let links : AllByRecursion HasDelays l.links.items = subst (λ (ks : List LinkSpec). AllByRecursion HasDelays ks) h.links (read_elements HasDelays _ link_of (link_rules (version_of ms)) (link_delay (version_of ms)) _ (link_part ms h.no_fault)) in
+    let links : AllByRecursion HasDelays l.links.items = subst (λ (ks : List LinkSpec). AllByRecursion HasDelays ks) h.links
+        (read_elements HasDelays _ link_of (link_rules (version_of ms)) (link_delay (version_of ms)) _ (link_part ms h.no_fault)) in
     let members : AllByRecursion (λ e. MemberInRange e.spec) l.members.items =
-    subst (λ (es : List MemberEntry). AllByRecursion (λ e. MemberInRange e.spec) es) h.members (read_elements (λ e. MemberInRange e.spec) _ entry_of (member_rules (version_of ms)) (member_range (version_of ms)) _ (member_part ms h.no_fault)) in
+    subst (λ (es : List MemberEntry). AllByRecursion (λ e. MemberInRange e.spec) es) h.members
+        (read_elements (λ e. MemberInRange e.spec) _ entry_of (member_rules (version_of ms)) (member_range (version_of ms)) _
+        (member_part ms h.no_fault)) in
     record {
       some_ticks = h.some_ticks;
       few_ticks = h.few_ticks;
@@ -175,9 +197,11 @@ listed_range ms l h =
 
 pub listed_pages : (ms : Members) (l : Listed) → IsListed ms l → AllByRecursion HasItsPages l.members.items
 listed_pages ms l h =
-    subst (λ (es : List MemberEntry). AllByRecursion HasItsPages es) h.members (read_elements HasItsPages _ entry_of (member_rules (version_of ms)) (pages_own (version_of ms)) _ (member_part ms h.no_fault))
+    subst (λ (es : List MemberEntry). AllByRecursion HasItsPages es) h.members
+        (read_elements HasItsPages _ entry_of (member_rules (version_of ms)) (pages_own (version_of ms)) _ (member_part ms h.no_fault))
 
-links_same : (ms : Members) (o : Option Topology) (nodes : ℕ) (delays : Delays) (links : List LinkSpec) → nodes_in o ms ≡ nodes → delays_of ms ≡ delays → elements_at (codes "link") link_of ms ≡ links
+links_same : (ms : Members) (o : Option Topology) (nodes : ℕ) (delays : Delays) (links : List LinkSpec) → nodes_in o ms ≡ nodes
+    → delays_of ms ≡ delays → elements_at (codes "link") link_of ms ≡ links
     → links_in o ms ≡ links_listed o nodes delays links
 links_same ms None nodes delays links n d k = k
 links_same ms (Some t) nodes delays links n d k = (λ i. links_to_parents t (d i) 1 (n i - 1))
@@ -193,7 +217,8 @@ described_is ms l h =
     let nodes : nodes_in l.topology ms ≡ l.nodes = subst (λ o. nodes_in o ms ≡ l.nodes) h.topology h.nodes in
     let links : links_in (topology_of ms) ms ≡ links_listed l.topology l.nodes l.delays l.links.items =
     ap (λ o. links_in o ms) h.topology ∙ links_same ms l.topology l.nodes l.delays l.links.items nodes h.delays h.links in
-    let members : elements_at (codes "member") member_of ms ≡ map (λ e. e.spec) l.members.items = sym (map_spec (array_at (codes "member") ms)) ∙ ap (map (λ e. e.spec)) h.members in
+    let members : elements_at (codes "member") member_of ms ≡ map (λ e. e.spec) l.members.items =
+        sym (map_spec (array_at (codes "member") ms)) ∙ ap (map (λ e. e.spec)) h.members in
     λ i. record {
       until = h.until i;
       constants = h.constants i;

@@ -1,5 +1,6 @@
 -- The order of marks.
-use Rattle.std.proofs.Common.{◌≡◌, ℕ, Bool, List, [], ◌∷◌, ◌++◌, Option, Some, Ordering, Less, Equal, Greater, nat_cmp, is_lt, refl, sym, ap, ◌∙◌, subst}
+use Rattle.std.proofs.Common.{◌≡◌, ℕ, Bool, List, [], ◌∷◌, ◌++◌, Option, Some, Ordering, Less, Equal, Greater, nat_cmp, is_lt, refl, sym,
+    ap, ◌∙◌, subst}
 use Rattle.std.proofs.lemmas.Cmp.{nat_list_cmp_total}
 use Rattle.std.proofs.lemmas.List.Sorted.{ranks_by}
 use Rattle.std.specs.Cmp.{IsStrictWeakOrder}
@@ -38,9 +39,11 @@ pub mark_cmp-order : IsStrictWeakOrder (λ x y. is_lt (mark_cmp x y))
 mark_cmp-order = ranks_by nat_list_cmp_total (λ (m : Mark). m.at ∷ m.rank ∷ m.place ∷ [])
 
 -- a stable sort by those tuples gives the marks in the order of their keys
-pub marks-from_sort : (xs ys : List Mark) → IsSortedBy (λ x y. is_lt (keyed x y)) ys → IsStableBy (λ x y. is_lt (keyed x y)) xs ys → ys ≡ ordered mark_cmp xs
+pub marks-from_sort : (xs ys : List Mark) → IsSortedBy (λ x y. is_lt (keyed x y)) ys → IsStableBy (λ x y. is_lt (keyed x y)) xs ys → ys
+    ≡ ordered mark_cmp xs
 marks-from_sort xs ys sorted stable =
-    ordered-from_sort mark_cmp mark_cmp-order xs ys (subst (λ (lt : Mark → Mark → Bool). IsSortedBy lt ys) same_test sorted) (subst (λ (lt : Mark → Mark → Bool). IsStableBy lt xs ys) same_test stable)
+    ordered-from_sort mark_cmp mark_cmp-order xs ys (subst (λ (lt : Mark → Mark → Bool). IsSortedBy lt ys) same_test sorted)
+        (subst (λ (lt : Mark → Mark → Bool). IsStableBy lt xs ys) same_test stable)
 
 -- the marks of a script rise
 pub scripts_rise : (s : PlainScenario) (m : ℕ) → Rises mark_cmp (script_of s m)

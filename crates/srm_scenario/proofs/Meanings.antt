@@ -10,7 +10,8 @@ use Rattle.srm_scenario.specs.declared.fault.ScenarioFault.TheVariants.{NoMemory
 use Rattle.srm_scenario.specs.declared.listed.Listed.{Listed}
 use Rattle.srm_scenario.specs.declared.parts.MemberSpec.{MemberSpec}
 use Rattle.srm_scenario.specs.Accepted.{IsAccepted}
-use Rattle.srm_scenario.specs.Faults.{first, IsFault, fault_unless, faults_by, is_star, member_faults, fits_draw, fits_session, fits_drop, fits_outage, meaning_faults}
+use Rattle.srm_scenario.specs.Faults.{first, IsFault, fault_unless, faults_by, is_star, member_faults, fits_draw, fits_session, fits_drop,
+    fits_outage, meaning_faults}
 use Rattle.srm_scenario.specs.Listed.{links_listed, plain_of, faults_in}
 use Rattle.srm_scenario.specs.Plain.{PlainScenario, drop_rules_of, network_of}
 use Rattle.srm_scenario.specs.Ranges.{InRange, HasItsPages}
@@ -44,21 +45,28 @@ abbrev Out : Listed → List LinkSpec → List ScenarioFault
 Out l links = faults_by BadOutage (fits_outage (length links)) 0 l.outages.items
 
 all_faults : Listed → List LinkSpec → List MemberSpec → List ScenarioFault
-all_faults l links members = Tree l ++ (Placed l ++ (Drawn l members ++ (Told l members ++ (Dropped l links members ++ (Out l links ++ [])))))
+all_faults l links members = Tree l
+    ++ (Placed l ++ (Drawn l members ++ (Told l members ++ (Dropped l links members ++ (Out l links ++ [])))))
 
 -- the faults, by the links and members that were made
 are_all : (l : Listed) (links : List LinkSpec) (members : List MemberSpec) → Made l links members → all_faults l links members ≡ faults_in l
 unfolding all_faults plain_of meaning_faults
 are_all l links members m =
-    ap (λ (ks : List LinkSpec). Tree l ++ (Placed l ++ (Drawn l members ++ (Told l members ++ (Dropped l ks members ++ (Out l ks ++ [])))))) m.links_are
-    ∙ ap (λ (ms : List MemberSpec). Tree l ++ (Placed l ++ (Drawn l ms ++ (Told l ms ++ (Dropped l (links_listed l.topology l.nodes l.delays l.links.items) ms ++ (Out l (links_listed l.topology l.nodes l.delays l.links.items) ++ [])))))) m.members_are
+    ap (λ (ks : List LinkSpec). Tree l ++ (Placed l ++ (Drawn l members ++ (Told l members ++ (Dropped l ks members ++ (Out l ks ++ []))))))
+        m.links_are
+    ∙ ap (λ (ms : List MemberSpec). Tree l
+        ++ (Placed l ++ (Drawn l ms ++ (Told l ms ++ (Dropped l (links_listed l.topology l.nodes l.delays l.links.items) ms
+        ++ (Out l (links_listed l.topology l.nodes l.delays l.links.items) ++ [])))))) m.members_are
 
-tree_test : (l : Listed) (links : List LinkSpec) (b : Bool) → links ≡ links_listed l.topology l.nodes l.delays l.links.items → is_tree (plain_network l.nodes links []) ≡ b → is_tree (network_of (plain_of l)) ≡ b
+tree_test : (l : Listed) (links : List LinkSpec) (b : Bool) → links ≡ links_listed l.topology l.nodes l.delays l.links.items
+    → is_tree (plain_network l.nodes links []) ≡ b → is_tree (network_of (plain_of l)) ≡ b
 unfolding plain_of
 tree_test l links b same h =
-    without_hosts l.nodes (links_listed l.topology l.nodes l.delays l.links.items) (network_of (plain_of l)).hosts [] ∙ ap (λ (ks : List LinkSpec). is_tree (plain_network l.nodes ks [])) (sym same) ∙ h
+    without_hosts l.nodes (links_listed l.topology l.nodes l.delays l.links.items) (network_of (plain_of l)).hosts []
+        ∙ ap (λ (ks : List LinkSpec). is_tree (plain_network l.nodes ks [])) (sym same) ∙ h
 
-no_tree_fault : (l : Listed) (links : List LinkSpec) → links ≡ links_listed l.topology l.nodes l.delays l.links.items → is_tree (plain_network l.nodes links []) ≡ true → Tree l ≡ []
+no_tree_fault : (l : Listed) (links : List LinkSpec) → links ≡ links_listed l.topology l.nodes l.delays l.links.items
+    → is_tree (plain_network l.nodes links []) ≡ true → Tree l ≡ []
 no_tree_fault l links same h = ap (λ b. fault_unless b NotTree) (tree_test l links true same h)
 
 pub tree_fault : (l : Listed) (links : List LinkSpec) (e : ScenarioFault) → links ≡ links_listed l.topology l.nodes l.delays l.links.items
@@ -68,7 +76,8 @@ tree_fault l links e same (inl memory) = inl memory
 tree_fault l links e same (inr (is, wrong)) =
     here (Tree l) _ e (inr (ap (λ b. first (fault_unless b NotTree)) (tree_test l links false same wrong) ∙ ap Some (sym is)))
 
-module _ (l : Listed) (links : List LinkSpec) (e : ScenarioFault) (same : links ≡ links_listed l.topology l.nodes l.delays l.links.items) (tree : is_tree (plain_network l.nodes links []) ≡ true) where
+module _ (l : Listed) (links : List LinkSpec) (e : ScenarioFault) (same : links ≡ links_listed l.topology l.nodes l.delays l.links.items)
+    (tree : is_tree (plain_network l.nodes links []) ≡ true) where
   pub place_fault : first (Placed l) ≡ Some e → IsFault e (faults_in l)
   unfolding meaning_faults plain_of
   place_fault h = later (Tree l) _ e (no_tree_fault l links same tree) (here (Placed l) _ e (inr h))
@@ -80,41 +89,52 @@ module _ (l : Listed) (links : List LinkSpec) (e : ScenarioFault) (same : links 
     pub draw_fault : first (Drawn l members) ≡ Some e → IsFault e (faults_in l)
     unfolding all_faults made
     draw_fault h =
-        let f : IsFault e (all_faults l links members) = later (Tree l) _ e (no_tree_fault l links same tree) (later (Placed l) _ e placed (here (Drawn l members) _ e (inr h))) in
+        let f : IsFault e (all_faults l links members) = later (Tree l) _ e (no_tree_fault l links same tree)
+            (later (Placed l) _ e placed (here (Drawn l members) _ e (inr h))) in
         subst (λ (fs : List ScenarioFault). IsFault e fs) (are_all l links members made) f
 
     pub session_fault : Drawn l members ≡ [] → first (Told l members) ≡ Some e → IsFault e (faults_in l)
     unfolding all_faults made
     session_fault drawn h =
         let f : IsFault e (all_faults l links members) =
-        later (Tree l) _ e (no_tree_fault l links same tree) (later (Placed l) _ e placed (later (Drawn l members) _ e drawn (here (Told l members) _ e (inr h)))) in
+        later (Tree l) _ e (no_tree_fault l links same tree)
+            (later (Placed l) _ e placed (later (Drawn l members) _ e drawn (here (Told l members) _ e (inr h)))) in
         subst (λ (fs : List ScenarioFault). IsFault e fs) (are_all l links members made) f
 
     pub drop_fault : Drawn l members ≡ [] → Told l members ≡ [] → first (Dropped l links members) ≡ Some e → IsFault e (faults_in l)
     unfolding all_faults made
     drop_fault drawn told h =
         let f : IsFault e (all_faults l links members) =
-        later (Tree l) _ e (no_tree_fault l links same tree) (later (Placed l) _ e placed (later (Drawn l members) _ e drawn (later (Told l members) _ e told (here (Dropped l links members) _ e (inr h))))) in
+        later (Tree l) _ e (no_tree_fault l links same tree)
+            (later (Placed l) _ e placed (later (Drawn l members) _ e drawn
+            (later (Told l members) _ e told (here (Dropped l links members) _ e (inr h))))) in
         subst (λ (fs : List ScenarioFault). IsFault e fs) (are_all l links members made) f
 
-    pub outage_fault : Drawn l members ≡ [] → Told l members ≡ [] → Dropped l links members ≡ [] → first (Out l links) ≡ Some e → IsFault e (faults_in l)
+    pub outage_fault : Drawn l members ≡ [] → Told l members ≡ [] → Dropped l links members ≡ [] → first (Out l links) ≡ Some e
+        → IsFault e (faults_in l)
     unfolding all_faults made
     outage_fault drawn told dropped h =
         let f : IsFault e (all_faults l links members) =
         later (Tree l) _ e (no_tree_fault l links same tree)
-        (later (Placed l) _ e placed (later (Drawn l members) _ e drawn (later (Told l members) _ e told (later (Dropped l links members) _ e dropped (here (Out l links) _ e (inr h)))))) in
+        (later (Placed l) _ e placed (later (Drawn l members) _ e drawn
+            (later (Told l members) _ e told (later (Dropped l links members) _ e dropped (here (Out l links) _ e (inr h)))))) in
         subst (λ (fs : List ScenarioFault). IsFault e fs) (are_all l links members made) f
 
-pub no_fault : (l : Listed) (links : List LinkSpec) (members : List MemberSpec) → Made l links members → is_tree (plain_network l.nodes links []) ≡ true
+pub no_fault : (l : Listed) (links : List LinkSpec) (members : List MemberSpec) → Made l links members
+    → is_tree (plain_network l.nodes links []) ≡ true
     → Placed l ≡ [] → Drawn l members ≡ [] → Told l members ≡ [] → Dropped l links members ≡ [] → Out l links ≡ [] → faults_in l ≡ []
 unfolding all_faults
 no_fault l links members m tree placed drawn told dropped out =
     sym (are_all l links members m)
-    ∙ no_faults (Tree l) _ (no_tree_fault l links m.links_are tree) (no_faults (Placed l) _ placed (no_faults (Drawn l members) _ drawn (no_faults (Told l members) _ told (no_faults (Dropped l links members) _ dropped (no_faults (Out l links) _ out refl)))))
+    ∙ no_faults (Tree l) _ (no_tree_fault l links m.links_are tree)
+        (no_faults (Placed l) _ placed (no_faults (Drawn l members) _ drawn
+        (no_faults (Told l members) _ told (no_faults (Dropped l links members) _ dropped (no_faults (Out l links) _ out refl)))))
 
 -- the scenario that is made is the plain one
-pub plain_made : (l : Listed) (links : List LinkSpec) (members : List MemberSpec) (drops : DropRules) → Made l links members → drops ≡ drop_rules_of l.drops.items l.outages.items
-    → ◌≡◌ {A = PlainScenario} (record { until = l.until; constants = l.constants; nodes = l.nodes; links = links; members = members; draws = l.draws.items; sessions = l.sessions.items; drops = drops }) (plain_of l)
+pub plain_made : (l : Listed) (links : List LinkSpec) (members : List MemberSpec) (drops : DropRules) → Made l links members → drops
+    ≡ drop_rules_of l.drops.items l.outages.items
+    → ◌≡◌ {A = PlainScenario} (record { until = l.until; constants = l.constants; nodes = l.nodes; links = links; members = members; draws =
+        l.draws.items; sessions = l.sessions.items; drops = drops }) (plain_of l)
 unfolding plain_of
 plain_made l links members drops m same = λ i. record {
   until = l.until;
@@ -128,11 +148,13 @@ plain_made l links members drops m same = λ i. record {
 }
 
 -- and is accepted
-pub accepted_made : (l : Listed) → InRange (plain_of l) → AllByRecursion HasItsPages l.members.items → faults_in l ≡ [] → IsAccepted (plain_of l)
+pub accepted_made : (l : Listed) → InRange (plain_of l) → AllByRecursion HasItsPages l.members.items → faults_in l ≡ []
+    → IsAccepted (plain_of l)
 unfolding plain_of
 accepted_made l range pages none = accepted_from (plain_of l) (is_star l.topology) l.members.items l.drops.items range pages refl refl none
 
 -- the delays of the links that are made
-pub delays_made : (l : Listed) (links : List LinkSpec) → links ≡ links_listed l.topology l.nodes l.delays l.links.items → InRange (plain_of l) → AllByRecursion HasDelays links
+pub delays_made : (l : Listed) (links : List LinkSpec) → links ≡ links_listed l.topology l.nodes l.delays l.links.items
+    → InRange (plain_of l) → AllByRecursion HasDelays links
 unfolding plain_of
 delays_made l links same range = subst (λ (ks : List LinkSpec). AllByRecursion HasDelays ks) (sym same) range.delays

@@ -1,5 +1,6 @@
 -- Lists that ascend and have the same elements are one.
-use Rattle.std.proofs.Common.{◌≡◌, ◌⊎◌, ◌↔◌, ℕ, zero, suc, ◌+◌, ◌<◌, List, [], ◌∷◌, length, Contains, Ordering, Less, Equal, Greater, refl, sym, ap, ◌∙◌, subst, inl, inr, arith}
+use Rattle.std.proofs.Common.{◌≡◌, ◌⊎◌, ◌↔◌, ℕ, zero, suc, ◌+◌, ◌<◌, List, [], ◌∷◌, length, Contains, Ordering, Less, Equal, Greater, refl,
+    sym, ap, ◌∙◌, subst, inl, inr, arith}
 use Rattle.std.proofs.lemmas.Cmp.{nat_list_cmp_total, on_total}
 use Rattle.std.specs.Cmp.{IsTotalOrder}
 use Rattle.std.specs.Ordering.{ordering_reverse}
@@ -37,15 +38,18 @@ module _ {A : Type 0} (cmp : A → A → Ordering) (o : IsTotalOrder cmp) where
   not_both x y p q =
       let e : Less ≡ Greater = sym p ∙ o.antisymm x y ∙ ap ordering_reverse q in cc
 
-  tail_among : (x : A) (xs ys : List A) → AllAfter cmp x xs → ((d : A) → Among d (x ∷ xs) → Among d (x ∷ ys)) → (d : A) → Among d xs → Among d ys
+  tail_among : (x : A) (xs ys : List A) → AllAfter cmp x xs → ((d : A) → Among d (x ∷ xs) → Among d (x ∷ ys)) → (d : A) → Among d xs
+      → Among d ys
   unfolding Among
   tail_among x xs ys after all d a =
       elim (all d (inr a)) [
-        | inl e ↦ (let l : cmp x d ≡ Less = after_among x d xs after a in let m : cmp x x ≡ Less = subst (λ t. cmp x t ≡ Less) e l in absurd (not_both x x m m))
+        | inl e ↦ (let l : cmp x d ≡ Less = after_among x d xs after a in let m : cmp x x ≡ Less = subst (λ t. cmp x t ≡ Less) e l in
+            absurd (not_both x x m m))
         | inr h ↦ h
       ]
 
-  one_list : (xs ys : List A) → Ascends cmp xs → Ascends cmp ys → ((d : A) → Among d xs → Among d ys) → ((d : A) → Among d ys → Among d xs) → xs ≡ ys
+  one_list : (xs ys : List A) → Ascends cmp xs → Ascends cmp ys → ((d : A) → Among d xs → Among d ys) → ((d : A) → Among d ys → Among d xs)
+      → xs ≡ ys
   unfolding Among
   one_list [] [] up vp f g = refl
   one_list [] (y ∷ ys) up vp f g = absurd (g y (inl refl))
@@ -60,17 +64,22 @@ module _ {A : Type 0} (cmp : A → A → Ordering) (o : IsTotalOrder cmp) where
       ] in
       let P : A → Type 0 = λ t. AllAfter cmp t ys in
       let vp0 : AllAfter cmp x ys = subst P (sym heads) vp.0 in
-      let there : (d : A) → Among d (x ∷ xs) → Among d (x ∷ ys) = subst (λ t. (d : A) → Among d (x ∷ xs) → Among d (t ∷ ys)) (sym heads) f in
+      let there : (d : A) → Among d (x ∷ xs) → Among d (x ∷ ys) = subst (λ t. (d : A) → Among d (x ∷ xs) → Among d (t ∷ ys))
+          (sym heads) f in
       let back : (d : A) → Among d (x ∷ ys) → Among d (x ∷ xs) = subst (λ t. (d : A) → Among d (t ∷ ys) → Among d (x ∷ xs)) (sym heads) g in
-      ap (λ (t : A). t ∷ xs) heads ∙ ap (λ (l : List A). y ∷ l) (one_list xs ys up.1 vp.1 (tail_among x xs ys up.0 there) (tail_among x ys xs vp0 back))
+      ap (λ (t : A). t ∷ xs) heads ∙ ap (λ (l : List A). y ∷ l)
+          (one_list xs ys up.1 vp.1 (tail_among x xs ys up.0 there) (tail_among x ys xs vp0 back))
 
 drop_total : IsTotalOrder drop_cmp
 drop_total = on_total (λ (d : DropSpec). d.link ∷ d.id.sender ∷ d.id.count ∷ []) nat_list_cmp_total
 
 -- drops that ascend, and are those listed, are the listed ones in order, each once
-pub drops_once : (xs listed : List DropSpec) → Ascends drop_cmp xs → ((d : DropSpec) → Contains xs d ↔ Contains listed d) → xs ≡ ordered_once drop_cmp listed
+pub drops_once : (xs listed : List DropSpec) → Ascends drop_cmp xs → ((d : DropSpec) → Contains xs d ↔ Contains listed d) → xs
+    ≡ ordered_once drop_cmp listed
 unfolding Among
 drops_once xs listed up same =
     one_list drop_cmp drop_total xs (ordered_once drop_cmp listed) up (drops_ascend listed)
-    (λ d a. contains_among _ d (contains_listed (ordered_once drop_cmp listed) d (listed_ordered listed d.id d.link ∙ listed_contains listed d ((same d).0 (among_contains xs d a)))))
-    (λ d a. contains_among xs d ((same d).1 (contains_listed listed d (sym (listed_ordered listed d.id d.link) ∙ listed_contains (ordered_once drop_cmp listed) d (among_contains _ d a)))))
+    (λ d a. contains_among _ d (contains_listed (ordered_once drop_cmp listed) d
+        (listed_ordered listed d.id d.link ∙ listed_contains listed d ((same d).0 (among_contains xs d a)))))
+    (λ d a. contains_among xs d ((same d).1 (contains_listed listed d
+        (sym (listed_ordered listed d.id d.link) ∙ listed_contains (ordered_once drop_cmp listed) d (among_contains _ d a)))))

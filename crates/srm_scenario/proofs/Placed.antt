@@ -1,5 +1,6 @@
 -- Lists that are put in order, where no two elements are equal to the order.
-use Rattle.std.proofs.Common.{◌≡◌, ℕ, ◌<◌, ◌≤◌, ◌≢◌, Bool, true, false, cond, List, [], ◌∷◌, ◌++◌, refl, sym, ap, ◌∙◌, Ordering, Less, Equal, Greater, is_lt, true≢false}
+use Rattle.std.proofs.Common.{◌≡◌, ℕ, ◌<◌, ◌≤◌, ◌≢◌, Bool, true, false, cond, List, [], ◌∷◌, ◌++◌, refl, sym, ap, ◌∙◌, Ordering, Less,
+    Equal, Greater, is_lt, true≢false}
 use Rattle.std.specs.Ordering.{ordering_reverse}
 use Rattle.std.specs.Cmp.{IsTotalOrder}
 use Rattle.std.specs.List.{AllByRecursion}
@@ -11,16 +12,19 @@ Apart cmp [] = Unit {0}
 Apart cmp (x ∷ xs) = AllByRecursion (λ y. cmp x y ≢ Equal) xs × Apart cmp xs
 
 -- what holds of all the elements holds of them with one more among them
-all_cond : {A : Type 0} (P : A → Type 0) (b : Bool) (xs ys : List A) → AllByRecursion P xs → AllByRecursion P ys → AllByRecursion P (cond b xs ys)
+all_cond : {A : Type 0} (P : A → Type 0) (b : Bool) (xs ys : List A) → AllByRecursion P xs → AllByRecursion P ys
+    → AllByRecursion P (cond b xs ys)
 all_cond P true xs ys h g = h
 all_cond P false xs ys h g = g
 
-pub all_place : {A : Type 0} (cmp : A → A → Ordering) (P : A → Type 0) (x : A) (ys : List A) → P x → AllByRecursion P ys → AllByRecursion P (place cmp x ys)
+pub all_place : {A : Type 0} (cmp : A → A → Ordering) (P : A → Type 0) (x : A) (ys : List A) → P x → AllByRecursion P ys
+    → AllByRecursion P (place cmp x ys)
 all_place cmp P x [] h g = (h, tt)
 all_place cmp P x (y ∷ ys) h g =
     all_cond P (is_lt (cmp y x)) (y ∷ place cmp x ys) (x ∷ y ∷ ys) (g.0, all_place cmp P x ys h g.1) (h, g)
 
-pub all_ordered : {A : Type 0} (cmp : A → A → Ordering) (P : A → Type 0) (xs : List A) → AllByRecursion P xs → AllByRecursion P (ordered cmp xs)
+pub all_ordered : {A : Type 0} (cmp : A → A → Ordering) (P : A → Type 0) (xs : List A) → AllByRecursion P xs
+    → AllByRecursion P (ordered cmp xs)
 all_ordered cmp P [] h = tt
 all_ordered cmp P (x ∷ xs) h = all_place cmp P x (ordered cmp xs) h.0 (all_ordered cmp P xs h.1)
 
@@ -32,7 +36,8 @@ pub all_weaker : {A : Type 0} (P Q : A → Type 0) → ((x : A) → P x → Q x)
 all_weaker P Q f [] h = tt
 all_weaker P Q f (x ∷ xs) h = (f x h.0, all_weaker P Q f xs h.1)
 
-pub apart_append : {A : Type 0} (cmp : A → A → Ordering) (xs ys : List A) → Apart cmp xs → Apart cmp ys → AllByRecursion (λ x. AllByRecursion (λ y. cmp x y ≢ Equal) ys) xs → Apart cmp (xs ++ ys)
+pub apart_append : {A : Type 0} (cmp : A → A → Ordering) (xs ys : List A)
+    → Apart cmp xs → Apart cmp ys → AllByRecursion (λ x. AllByRecursion (λ y. cmp x y ≢ Equal) ys) xs → Apart cmp (xs ++ ys)
 apart_append cmp [] ys h g f = g
 apart_append cmp (x ∷ xs) ys h g f = (all_append _ xs ys h.0 f.0, apart_append cmp xs ys h.1 g f.1)
 

@@ -1,5 +1,6 @@
 -- The scripts of an accepted scenario's members.
-use Rattle.std.proofs.Common.{zero, suc, ◌≡◌, ◌⊎◌, ℕ, ◌+◌, ◌<◌, ◌≤◌, ◌≢◌, Bool, true, false, List, [], ◌∷◌, ◌++◌, Option, Some, None, refl, sym, ap, ◌∙◌, inl, inr, arith, Ordering, Equal, slice_get, ◌==◌, eqb-true, nat_cmp, subst, cond, All, length}
+use Rattle.std.proofs.Common.{zero, suc, ◌≡◌, ◌⊎◌, ℕ, ◌+◌, ◌<◌, ◌≤◌, ◌≢◌, Bool, true, false, List, [], ◌∷◌, ◌++◌, Option, Some, None, refl,
+    sym, ap, ◌∙◌, inl, inr, arith, Ordering, Equal, slice_get, ◌==◌, eqb-true, nat_cmp, subst, cond, All, length}
 use Rattle.std.proofs.lemmas.List.Elements.{All-from_recursion, recursion_from_All}
 use Rattle.std.specs.List.{AllByRecursion}
 use Rattle.std.specs.Cmp.{IsTotalOrder, on_total}
@@ -27,7 +28,8 @@ mark_total = on_total numbers_of_mark nat_list_cmp_total
 -- equal marks have one rank and one place
 same_mark : (x y : Mark) → mark_cmp x y ≡ Equal → (x.rank ≡ y.rank) × (x.place ≡ y.place)
 same_mark x y e =
-    let q : numbers_of_mark x ≡ numbers_of_mark y = slice_cmp-IsAntisymmetric nat_cmp-IsAntisymmetric (numbers_of_mark x) (numbers_of_mark y) e in
+    let q : numbers_of_mark x ≡ numbers_of_mark y = slice_cmp-IsAntisymmetric nat_cmp-IsAntisymmetric (numbers_of_mark x)
+        (numbers_of_mark y) e in
     (cc, cc)
 
 other_rank : (x y : Mark) → x.rank < y.rank → mark_cmp x y ≢ Equal
@@ -45,7 +47,8 @@ Later r i x = (x.rank ≡ r) × (i ≤ x.place)
 later_on : (r i : ℕ) (xs : List Mark) → AllByRecursion (Later r (i + 1)) xs → AllByRecursion (Later r i) xs
 later_on r i xs h = all_weaker (Later r (i + 1)) (Later r i) (λ x w. (w.0, let f = w.1 in omega arith)) xs h
 
-all_if : (P : Mark → Type 0) (b : Bool) (xs ys : List Mark) → (b ≡ true → AllByRecursion P xs) → AllByRecursion P ys → AllByRecursion P (cond b xs ys)
+all_if : (P : Mark → Type 0) (b : Bool) (xs ys : List Mark) → (b ≡ true → AllByRecursion P xs) → AllByRecursion P ys
+    → AllByRecursion P (cond b xs ys)
 all_if P true xs ys h g = h refl
 all_if P false xs ys h g = g
 
@@ -60,13 +63,15 @@ draws_later : (m i : ℕ) (ds : List DrawSpec) → AllByRecursion (Later 4 i) (d
 draws_later m i [] = tt
 draws_later m i (d ∷ ds) =
     let rest : AllByRecursion (Later 4 i) (draw_marks m (i + 1) ds) = later_on 4 i (draw_marks m (i + 1) ds) (draws_later m (i + 1) ds) in
-    all_if (Later 4 i) (d.member == m) (draw_mark i d ∷ draw_marks m (i + 1) ds) (draw_marks m (i + 1) ds) (λ _. ((refl, omega arith), rest)) rest
+    all_if (Later 4 i) (d.member == m) (draw_mark i d ∷ draw_marks m (i + 1) ds) (draw_marks m (i + 1) ds)
+        (λ _. ((refl, omega arith), rest)) rest
 
 draws_apart : (m i : ℕ) (ds : List DrawSpec) → Apart mark_cmp (draw_marks m i ds)
 draws_apart m i [] = tt
 draws_apart m i (d ∷ ds) =
     apart_if (d.member == m) (draw_mark i d ∷ draw_marks m (i + 1) ds) (draw_marks m (i + 1) ds)
-    (all_weaker (Later 4 (i + 1)) _ (λ x w. let f : i < x.place = (let g = w.1 in omega arith) in other_place (draw_mark i d) x f) (draw_marks m (i + 1) ds) (draws_later m (i + 1) ds), draws_apart m (i + 1) ds)
+    (all_weaker (Later 4 (i + 1)) _ (λ x w. let f : i < x.place = (let g = w.1 in omega arith) in other_place (draw_mark i d) x f)
+        (draw_marks m (i + 1) ds) (draws_later m (i + 1) ds), draws_apart m (i + 1) ds)
     (draws_apart m (i + 1) ds)
 
 -- ---- the marks of session messages
@@ -74,14 +79,17 @@ draws_apart m i (d ∷ ds) =
 reports_later : (m i : ℕ) (rs : List SessionSpec) → AllByRecursion (Later 5 i) (report_marks m i rs)
 reports_later m i [] = tt
 reports_later m i (r ∷ rs) =
-    let rest : AllByRecursion (Later 5 i) (report_marks m (i + 1) rs) = later_on 5 i (report_marks m (i + 1) rs) (reports_later m (i + 1) rs) in
-    all_if (Later 5 i) (r.member == m) (plain_mark r.at 5 i ∷ report_marks m (i + 1) rs) (report_marks m (i + 1) rs) (λ _. ((refl, omega arith), rest)) rest
+    let rest : AllByRecursion (Later 5 i) (report_marks m (i + 1) rs) =
+        later_on 5 i (report_marks m (i + 1) rs) (reports_later m (i + 1) rs) in
+    all_if (Later 5 i) (r.member == m) (plain_mark r.at 5 i ∷ report_marks m (i + 1) rs) (report_marks m (i + 1) rs)
+        (λ _. ((refl, omega arith), rest)) rest
 
 reports_apart : (m i : ℕ) (rs : List SessionSpec) → Apart mark_cmp (report_marks m i rs)
 reports_apart m i [] = tt
 reports_apart m i (r ∷ rs) =
     apart_if (r.member == m) (plain_mark r.at 5 i ∷ report_marks m (i + 1) rs) (report_marks m (i + 1) rs)
-    (all_weaker (Later 5 (i + 1)) _ (λ x w. let f : i < x.place = (let g = w.1 in omega arith) in other_place (plain_mark r.at 5 i) x f) (report_marks m (i + 1) rs) (reports_later m (i + 1) rs), reports_apart m (i + 1) rs)
+    (all_weaker (Later 5 (i + 1)) _ (λ x w. let f : i < x.place = (let g = w.1 in omega arith) in other_place (plain_mark r.at 5 i) x f)
+        (report_marks m (i + 1) rs) (reports_later m (i + 1) rs), reports_apart m (i + 1) rs)
     (reports_apart m (i + 1) rs)
 
 leave_later : (leave : Option ℕ) → AllByRecursion (Later 6 0) (leave_marks leave)
@@ -100,7 +108,8 @@ ranks_apart : (r q : ℕ) (i j : ℕ) (xs ys : List Mark) → r < q → AllByRec
 ranks_apart r q i j xs ys lt h g =
     all_weaker (Later r i) _ (λ x w. all_weaker (Later q j) _ (λ y v. other_rank x y (let a = w.0 in let b = v.0 in omega arith)) ys g) xs h
 
-both_ranks : (r : ℕ) (xs ys zs : List Mark) → AllByRecursion (λ x. AllByRecursion (λ y. mark_cmp x y ≢ Equal) ys) xs → AllByRecursion (λ x. AllByRecursion (λ y. mark_cmp x y ≢ Equal) zs) xs
+both_ranks : (r : ℕ) (xs ys zs : List Mark) → AllByRecursion (λ x. AllByRecursion (λ y. mark_cmp x y ≢ Equal) ys) xs
+    → AllByRecursion (λ x. AllByRecursion (λ y. mark_cmp x y ≢ Equal) zs) xs
     → AllByRecursion (λ x. AllByRecursion (λ y. mark_cmp x y ≢ Equal) (ys ++ zs)) xs
 both_ranks r [] ys zs h g = tt
 both_ranks r (x ∷ xs) ys zs h g = (all_append _ ys zs h.0 g.0, both_ranks r xs ys zs h.1 g.1)
@@ -109,7 +118,8 @@ abbrev pub marks_by : PlainScenario → ℕ → MemberSpec → List Mark
 marks_by s m k = plain_mark k.join 0 0 ∷ draw_marks m 0 s.draws ++ report_marks m 0 s.sessions ++ leave_marks k.leave
 
 -- a mark of a greater rank is apart from the join
-after_join : (at r i : ℕ) (xs : List Mark) → 0 < r → AllByRecursion (Later r i) xs → AllByRecursion (λ y. mark_cmp (plain_mark at 0 0) y ≢ Equal) xs
+after_join : (at r i : ℕ) (xs : List Mark) → 0 < r → AllByRecursion (Later r i) xs
+    → AllByRecursion (λ y. mark_cmp (plain_mark at 0 0) y ≢ Equal) xs
 after_join at r i xs lt h = all_weaker (Later r i) _ (λ x w. other_rank (plain_mark at 0 0) x (let a = w.0 in omega arith)) xs h
 
 marks_apart : (s : PlainScenario) (m : ℕ) (k : MemberSpec) → Apart mark_cmp (marks_by s m k)
@@ -120,16 +130,19 @@ marks_apart s m k =
     let dl : AllByRecursion (Later 4 0) ds = draws_later m 0 s.draws in
     let rl : AllByRecursion (Later 5 0) rs = reports_later m 0 s.sessions in
     let ll : AllByRecursion (Later 6 0) ls = leave_later k.leave in
-    let dr : Apart mark_cmp (ds ++ rs) = apart_append mark_cmp ds rs (draws_apart m 0 s.draws) (reports_apart m 0 s.sessions) (ranks_apart 4 5 0 0 ds rs (omega arith) dl rl) in
+    let dr : Apart mark_cmp (ds ++ rs) = apart_append mark_cmp ds rs (draws_apart m 0 s.draws) (reports_apart m 0 s.sessions)
+        (ranks_apart 4 5 0 0 ds rs (omega arith) dl rl) in
     let far : AllByRecursion (λ x. AllByRecursion (λ y. mark_cmp x y ≢ Equal) ls) (ds ++ rs) =
     all_append _ ds rs (ranks_apart 4 6 0 0 ds ls (omega arith) dl ll) (ranks_apart 5 6 0 0 rs ls (omega arith) rl ll) in (
-      all_append _ (ds ++ rs) ls (all_append _ ds rs (after_join k.join 4 0 ds (omega arith) dl) (after_join k.join 5 0 rs (omega arith) rl)) (after_join k.join 6 0 ls (omega arith) ll),
+      all_append _ (ds ++ rs) ls (all_append _ ds rs (after_join k.join 4 0 ds (omega arith) dl)
+          (after_join k.join 5 0 rs (omega arith) rl)) (after_join k.join 6 0 ls (omega arith) ll),
       apart_append mark_cmp (ds ++ rs) ls dr (leave_apart k.leave) far,
     )
 
 -- ---- each mark is the member's
 
-same_spec : (s : PlainScenario) (m n : ℕ) (j k : MemberSpec) → slice_get s.members m ≡ Some k → slice_get s.members n ≡ Some j → n ≡ m → j ≡ k
+same_spec : (s : PlainScenario) (m n : ℕ) (j k : MemberSpec) → slice_get s.members m ≡ Some k → slice_get s.members n ≡ Some j → n ≡ m → j
+    ≡ k
 same_spec s m n j k h g e = let q : slice_get s.members n ≡ slice_get s.members m = ap (λ i. slice_get s.members i) e in cc
 
 there : (until at rank place page ink : ℕ) (j k : MemberSpec) → j ≡ k → IsThere until at j → 3 < rank → rank < 6
@@ -147,7 +160,8 @@ there until at rank place page ink j k e t low high d r = record {
   leave = λ z. absurd (omega arith);
 }
 
-draws_are : (s : PlainScenario) (m : ℕ) (k : MemberSpec) → slice_get s.members m ≡ Some k → (i : ℕ) (ds : List DrawSpec) → AllByRecursion (IsDraw s) ds
+draws_are : (s : PlainScenario) (m : ℕ) (k : MemberSpec) → slice_get s.members m ≡ Some k → (i : ℕ) (ds : List DrawSpec)
+    → AllByRecursion (IsDraw s) ds
     → AllByRecursion (IsMark s.until k) (draw_marks m i ds)
 draws_are s m k h i [] a = tt
 draws_are s m k h i (d ∷ ds) a =
@@ -155,12 +169,14 @@ draws_are s m k h i (d ∷ ds) a =
     all_if (IsMark s.until k) (d.member == m) (draw_mark i d ∷ draw_marks m (i + 1) ds) (draw_marks m (i + 1) ds)
     (λ e. (
       let q : a.0.0 ≡ k = same_spec s m d.member a.0.0 k h a.0.1 (eqb-true _ _ e) in
-          there s.until d.at 4 i d.page d.ink a.0.0 k q a.0.3 (omega arith) (omega arith) (λ _. sym (ap (λ z. z.role) q) ∙ a.0.2) (λ z. absurd (omega arith)),
+          there s.until d.at 4 i d.page d.ink a.0.0 k q a.0.3 (omega arith) (omega arith) (λ _. sym (ap (λ z. z.role) q) ∙ a.0.2)
+              (λ z. absurd (omega arith)),
       rest,
     ))
     rest
 
-reports_are : (s : PlainScenario) (m : ℕ) (k : MemberSpec) → slice_get s.members m ≡ Some k → (i : ℕ) (rs : List SessionSpec) → AllByRecursion (IsSession s) rs
+reports_are : (s : PlainScenario) (m : ℕ) (k : MemberSpec) → slice_get s.members m ≡ Some k → (i : ℕ) (rs : List SessionSpec)
+    → AllByRecursion (IsSession s) rs
     → AllByRecursion (IsMark s.until k) (report_marks m i rs)
 reports_are s m k h i [] a = tt
 reports_are s m k h i (r ∷ rs) a =
@@ -168,7 +184,8 @@ reports_are s m k h i (r ∷ rs) a =
     all_if (IsMark s.until k) (r.member == m) (plain_mark r.at 5 i ∷ report_marks m (i + 1) rs) (report_marks m (i + 1) rs)
     (λ e. (
       let q : a.0.0 ≡ k = same_spec s m r.member a.0.0 k h a.0.1 (eqb-true _ _ e) in
-          there s.until r.at 5 i 0 0 a.0.0 k q a.0.3 (omega arith) (omega arith) (λ z. absurd (omega arith)) (λ _ f. a.0.2 (ap (λ z. z.role) q ∙ f)),
+          there s.until r.at 5 i 0 0 a.0.0 k q a.0.3 (omega arith) (omega arith) (λ z. absurd (omega arith))
+              (λ _ f. a.0.2 (ap (λ z. z.role) q ∙ f)),
       rest,
     ))
     rest
@@ -202,11 +219,13 @@ leave_is until k h at e = record {
   leave = λ _. (e, refl);
 }
 
-leaves_are : (until : ℕ) (k : MemberSpec) → IsMember until k → (leave : Option ℕ) → k.leave ≡ leave → AllByRecursion (IsMark until k) (leave_marks leave)
+leaves_are : (until : ℕ) (k : MemberSpec) → IsMember until k → (leave : Option ℕ) → k.leave ≡ leave
+    → AllByRecursion (IsMark until k) (leave_marks leave)
 leaves_are until k h None e = tt
 leaves_are until k h (Some at) e = (leave_is until k h at e, tt)
 
-marks_are : (s : PlainScenario) → IsAccepted s → (m : ℕ) (k : MemberSpec) → slice_get s.members m ≡ Some k → IsMember s.until k → AllByRecursion (IsMark s.until k) (marks_by s m k)
+marks_are : (s : PlainScenario) → IsAccepted s → (m : ℕ) (k : MemberSpec) → slice_get s.members m ≡ Some k → IsMember s.until k
+    → AllByRecursion (IsMark s.until k) (marks_by s m k)
 marks_are s a m k h i = (
   join_is s.until k i,
   all_append _ (draw_marks m 0 s.draws ++ report_marks m 0 s.sessions) (leave_marks k.leave)
@@ -227,9 +246,12 @@ unfolding script_of
 scripts_fit s a m k h =
     let i : IsMember s.until k = all_get (IsMember s.until) s.members m k (recursion_from_All (IsMember s.until) s.members a.members) h in
     let e : marks_of s m (slice_get s.members m) ≡ marks_by s m k = ap (λ o. marks_of s m o) h in
-    let ascends : Ascends mark_cmp (ordered mark_cmp (marks_by s m k)) = ascends_ordered mark_cmp mark_total (marks_by s m k) (marks_apart s m k) in
-    let are : AllByRecursion (IsMark s.until k) (ordered mark_cmp (marks_by s m k)) = all_ordered mark_cmp (IsMark s.until k) (marks_by s m k) (marks_are s a m k h i) in
+    let ascends : Ascends mark_cmp (ordered mark_cmp (marks_by s m k)) =
+        ascends_ordered mark_cmp mark_total (marks_by s m k) (marks_apart s m k) in
+    let are : AllByRecursion (IsMark s.until k) (ordered mark_cmp (marks_by s m k)) =
+        all_ordered mark_cmp (IsMark s.until k) (marks_by s m k) (marks_are s a m k h i) in
     record {
       ascends = subst (λ xs. Ascends mark_cmp (ordered mark_cmp xs)) (sym e) ascends;
-      marks = subst (λ xs. All (IsMark s.until k) (ordered mark_cmp xs)) (sym e) (All-from_recursion (IsMark s.until k) (ordered mark_cmp (marks_by s m k)) are);
+      marks = subst (λ xs. All (IsMark s.until k) (ordered mark_cmp xs))
+          (sym e) (All-from_recursion (IsMark s.until k) (ordered mark_cmp (marks_by s m k)) are);
     }

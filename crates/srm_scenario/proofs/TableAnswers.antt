@@ -31,7 +31,8 @@ accepted : (ms : Members) (l : Listed) → IsListed ms l → faults_in l ≡ [] 
 unfolding scenario_of_table
 accepted ms l h none = (λ i. answer (all_faults ms l h i) (described_is ms l h i)) ∙ ap (λ fs. answer fs (plain_of l)) none
 
-pub answer_ok : (ms : Members) (l : Listed) (r : Result PlainScenario ScenarioFault) → IsListed ms l → IfOk r (λ _. faults_in l ≡ []) → IfOk r (λ s. s ≡ plain_of l)
+pub answer_ok : (ms : Members) (l : Listed) (r : Result PlainScenario ScenarioFault) → IsListed ms l → IfOk r (λ _. faults_in l ≡ [])
+    → IfOk r (λ s. s ≡ plain_of l)
     → IfOk r (λ s. scenario_of_table ms ≡ Ok s)
 answer_ok ms l (Ok s) h none plain = accepted ms l h none ∙ ap Ok (sym plain)
 answer_ok ms l (Err e) h none plain = tt
@@ -41,7 +42,8 @@ unfolding scenario_of_table faults_of
 key_answer ms e (inl memory) = inl memory
 key_answer ms e (inr h) = inr (answer-first (faults_of ms) (described ms) e (first-left (key_faults ms) _ e h))
 
-pub answer_err : (ms : Members) (l : Listed) (r : Result PlainScenario ScenarioFault) → IsListed ms l → IfErr r (λ e. IsFault e (faults_in l))
+pub answer_err : (ms : Members) (l : Listed) (r : Result PlainScenario ScenarioFault) → IsListed ms l
+    → IfErr r (λ e. IsFault e (faults_in l))
     → IfErr r (λ e. (e ≡ NoMemory) ⊎ (scenario_of_table ms ≡ Err e))
 unfolding scenario_of_table
 answer_err ms l (Ok s) h f = tt

@@ -13,7 +13,8 @@ pub list_any-map : {A B : Type 0} (p : B → Bool) (f : A → B) (xs : List A) �
 list_any-map p f [] = refl
 list_any-map p f (x ∷ xs) = ap (λ b. p (f x) || b) (list_any-map p f xs)
 
-pub has_only-step : (keys : List (List ℕ)) (k : List ℕ) (d : Data) (ms : Members) (b : Bool) → list_any (λ key. bytes_eq key k) keys ≡ b → has_only keys (member k d ms) ≡ (b && has_only keys ms)
+pub has_only-step : (keys : List (List ℕ)) (k : List ℕ) (d : Data) (ms : Members) (b : Bool) → list_any (λ key. bytes_eq key k) keys ≡ b
+    → has_only keys (member k d ms) ≡ (b && has_only keys ms)
 has_only-step keys k d ms b h = ap (λ c. c && has_only keys ms) h
 
 -- ---- numbers
@@ -29,7 +30,8 @@ number-there key low high ms d (Some n) got h = record {
   most = h.most;
 }
 
-pub number-absent : (key : List ℕ) (low high : ℕ) (ms : Members) → None ≡ get_member key ms → is_met ms (rule key (whole low high) required) ≡ false
+pub number-absent : (key : List ℕ) (low high : ℕ) (ms : Members) → None ≡ get_member key ms → is_met ms (rule key (whole low high) required)
+    ≡ false
 number-absent key low high ms got = ap (meets required (whole low high)) (sym got)
 
 pub optional-there : (key : List ℕ) (low high : ℕ) (ms : Members) (d : Data) (n : ℕ) → Some d ≡ get_member key ms

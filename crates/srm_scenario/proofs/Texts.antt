@@ -1,5 +1,6 @@
 -- The answer for a text, from that for its table.
-use Rattle.std.proofs.Common.{◌≡◌, ◌⊎◌, ℕ, ◌+◌, ◌<◌, ◌≤◌, Bool, true, false, cond, List, [], ◌∷◌, ◌++◌, length, Option, Some, None, Result, Ok, Err, nat_lt, codes, refl, sym, ap, ◌∙◌, subst, arith, inl, inr}
+use Rattle.std.proofs.Common.{◌≡◌, ◌⊎◌, ℕ, ◌+◌, ◌<◌, ◌≤◌, Bool, true, false, cond, List, [], ◌∷◌, ◌++◌, length, Option, Some, None, Result,
+    Ok, Err, nat_lt, codes, refl, sym, ap, ◌∙◌, subst, arith, inl, inr}
 use Rattle.std.proofs.lemmas.Bool.{cases_Bool}
 use Rattle.std.proofs.lemmas.Bool.Decides.{nat_tests}
 use Rattle.std.proofs.lemmas.Str.{is_utf8-from_IsUtf8, IsUtf8-from_is_utf8}
@@ -10,33 +11,41 @@ use Rattle.toml.specs.Data.{Members}
 use Rattle.toml.specs.Parse.{parse_document}
 use Rattle.srm_scenario.specs.declared.entry.MemberEntry.{MemberEntry}
 use Rattle.srm_scenario.specs.declared.fault.ScenarioFault.{ScenarioFault}
-use Rattle.srm_scenario.specs.declared.fault.ScenarioFault.TheVariants.{NoMemory, ReadFault, TooLong, NotToml, BadKey, NotTree, BadMember, BadDraw, BadSession, BadDrop, BadOutage}
+use Rattle.srm_scenario.specs.declared.fault.ScenarioFault.TheVariants.{NoMemory, ReadFault, TooLong, NotToml, BadKey, NotTree, BadMember,
+    BadDraw, BadSession, BadDrop, BadOutage}
 use Rattle.srm_net.specs.declared.link.DropSpec.{DropSpec}
 use Rattle.srm_scenario.specs.declared.fault.Part.{Part}
 use Rattle.srm_scenario.specs.declared.fault.Part.TheVariants as part
 use Rattle.srm_scenario.specs.declared.version.Version.{Version}
 use Rattle.srm_scenario.specs.Described.{array_at, version_of, described}
-use Rattle.srm_scenario.specs.Rules.{Rule, fits, fits_element, link_rules, member_rules, draw_rules, session_rules, drop_rules, outage_rules}
+use Rattle.srm_scenario.specs.Rules.{Rule, fits, fits_element, link_rules, member_rules, draw_rules, session_rules, drop_rules,
+    outage_rules}
 use Rattle.srm_scenario.specs.Trees.{is_tree}
-use Rattle.srm_scenario.specs.Faults.{fault_unless, faults_by, rules_of_top, top_faults, member_faults, fits_member, fits_draw, fits_session, fits_drop, fits_outage, element_faults, key_faults, meaning_faults, faults_of, answer, scenario_of_table, scenario_of_document, scenario_of_text, failures_after, AnswersText}
+use Rattle.srm_scenario.specs.Faults.{fault_unless, faults_by, rules_of_top, top_faults, member_faults, fits_member, fits_draw,
+    fits_session, fits_drop, fits_outage, element_faults, key_faults, meaning_faults, faults_of, answer, scenario_of_table,
+    scenario_of_document, scenario_of_text, failures_after, AnswersText}
 use Rattle.srm_scenario.specs.Plain.{PlainScenario, network_of}
 
-short_text : (text : List ℕ) → length text ≤ 1048576 → scenario_of_text text ≡ cond (is_utf8 text) (scenario_of_document (parse_document text)) (Err NotToml)
+short_text : (text : List ℕ) → length text ≤ 1048576 → scenario_of_text text
+    ≡ cond (is_utf8 text) (scenario_of_document (parse_document text)) (Err NotToml)
 unfolding scenario_of_text
 short_text text h =
     let few : nat_lt 1048576 (length text) ≡ false = grind (arith, nat_tests) in
     ap (λ b. cond b (Err TooLong) (cond (is_utf8 text) (scenario_of_document (parse_document text)) (Err NotToml))) few
 
-read_text : (text : List ℕ) (o : Option Members) → length text ≤ 1048576 → is_utf8 text ≡ true → parse_document text ≡ o → scenario_of_text text ≡ scenario_of_document o
+read_text : (text : List ℕ) (o : Option Members) → length text ≤ 1048576 → is_utf8 text ≡ true → parse_document text ≡ o
+    → scenario_of_text text ≡ scenario_of_document o
 read_text text o h u p =
     short_text text h ∙ ap (λ b. cond b (scenario_of_document (parse_document text)) (Err NotToml)) u ∙ ap scenario_of_document p
 
-pub text_ok : (text : List ℕ) (ms : Members) (r : Result PlainScenario ScenarioFault) → length text ≤ 1048576 → IsUtf8 text → parse_document text ≡ Some ms
+pub text_ok : (text : List ℕ) (ms : Members) (r : Result PlainScenario ScenarioFault) → length text ≤ 1048576 → IsUtf8 text
+    → parse_document text ≡ Some ms
     → IfOk r (λ s. scenario_of_table ms ≡ Ok s) → IfOk r (λ s. scenario_of_text text ≡ Ok s)
 text_ok text ms (Ok s) h u p e = read_text text (Some ms) h (is_utf8-from_IsUtf8 text u) p ∙ e
 text_ok text ms (Err f) h u p e = tt
 
-pub text_err : (text : List ℕ) (ms : Members) (r : Result PlainScenario ScenarioFault) → length text ≤ 1048576 → IsUtf8 text → parse_document text ≡ Some ms
+pub text_err : (text : List ℕ) (ms : Members) (r : Result PlainScenario ScenarioFault) → length text ≤ 1048576 → IsUtf8 text
+    → parse_document text ≡ Some ms
     → IfErr r (λ e. (e ≡ NoMemory) ⊎ (scenario_of_table ms ≡ Err e)) → IfErr r (λ e. (e ≡ NoMemory) ⊎ (scenario_of_text text ≡ Err e))
 text_err text ms (Ok s) h u p e = tt
 text_err text ms (Err f) h u p (inl memory) = inl memory
@@ -78,19 +87,24 @@ of_unless : (b : Bool) (f : ScenarioFault) → IsOfText f → AllByRecursion IsO
 of_unless true f h = tt
 of_unless false f h = (h, tt)
 
-of_cond : (b : Bool) (f : ScenarioFault) (fs : List ScenarioFault) → IsOfText f → AllByRecursion IsOfText fs → AllByRecursion IsOfText (cond b fs (f ∷ fs))
+of_cond : (b : Bool) (f : ScenarioFault) (fs : List ScenarioFault) → IsOfText f → AllByRecursion IsOfText fs
+    → AllByRecursion IsOfText (cond b fs (f ∷ fs))
 of_cond true f fs h g = g
 of_cond false f fs h g = (h, g)
 
-of_faults_by : {A : Type 0} (fault : ℕ → ScenarioFault) (test : A → Bool) (i : ℕ) (xs : List A) → ((k : ℕ) → IsOfText (fault k)) → AllByRecursion IsOfText (faults_by fault test i xs)
+of_faults_by : {A : Type 0} (fault : ℕ → ScenarioFault) (test : A → Bool) (i : ℕ) (xs : List A) → ((k : ℕ) → IsOfText (fault k))
+    → AllByRecursion IsOfText (faults_by fault test i xs)
 of_faults_by fault test i [] h = tt
-of_faults_by fault test i (x ∷ xs) h = of_cond (test x) (fault i) (faults_by fault test (i + 1) xs) (h i) (of_faults_by fault test (i + 1) xs h)
+of_faults_by fault test i (x ∷ xs) h = of_cond (test x) (fault i) (faults_by fault test (i + 1) xs) (h i)
+    (of_faults_by fault test (i + 1) xs h)
 
-of_members : (until nodes : ℕ) (star : Bool) (earlier : List MemberEntry) (i : ℕ) (es : List MemberEntry) → AllByRecursion IsOfText (member_faults until nodes star earlier i es)
+of_members : (until nodes : ℕ) (star : Bool) (earlier : List MemberEntry) (i : ℕ) (es : List MemberEntry)
+    → AllByRecursion IsOfText (member_faults until nodes star earlier i es)
 unfolding IsOfText
 of_members until nodes star earlier i [] = tt
 of_members until nodes star earlier i (e ∷ es) =
-    all_append (fault_unless (fits_member until nodes star earlier e) (BadMember i)) _ (of_unless (fits_member until nodes star earlier e) (BadMember i) tt)
+    all_append (fault_unless (fits_member until nodes star earlier e) (BadMember i)) _
+        (of_unless (fits_member until nodes star earlier e) (BadMember i) tt)
     (of_members until nodes star (earlier ++ e ∷ []) (i + 1) es)
 
 key_all : (ms : Members) → AllByRecursion IsOfText (key_faults ms)
@@ -104,26 +118,34 @@ key_all ms =
     of_array : (p : Part) (rules : Version → List Rule) (key : List ℕ) (rest : List ScenarioFault) → AllByRecursion IsOfText rest
         → AllByRecursion IsOfText (element_faults p (rules (version_of ms)) (array_at key ms) ++ rest)
     of_array p rules key rest h =
-        all_append (faults_by (BadKey p) (fits_element (rules (version_of ms))) 0 (array_at key ms)) rest (of_faults_by (BadKey p) (fits_element (rules (version_of ms))) 0 (array_at key ms) (λ i. tt)) h
+        all_append (faults_by (BadKey p) (fits_element (rules (version_of ms))) 0 (array_at key ms)) rest
+            (of_faults_by (BadKey p) (fits_element (rules (version_of ms))) 0 (array_at key ms) (λ i. tt)) h
 
-meaning_all : (s : PlainScenario) (star : Bool) (entries : List MemberEntry) (listed : List DropSpec) → AllByRecursion IsOfText (meaning_faults s star entries listed)
+meaning_all : (s : PlainScenario) (star : Bool) (entries : List MemberEntry) (listed : List DropSpec)
+    → AllByRecursion IsOfText (meaning_faults s star entries listed)
 unfolding IsOfText meaning_faults
 meaning_all s star entries listed =
     all_append (fault_unless (is_tree (network_of s)) NotTree) _ (of_unless (is_tree (network_of s)) NotTree tt)
     (all_append (member_faults s.until s.nodes star [] 0 entries) _ (of_members s.until s.nodes star [] 0 entries)
-    (all_append (faults_by BadDraw (fits_draw s.until s.members) 0 s.draws) _ (of_faults_by BadDraw (fits_draw s.until s.members) 0 s.draws (λ i. tt))
-    (all_append (faults_by BadSession (fits_session s.until s.members) 0 s.sessions) _ (of_faults_by BadSession (fits_session s.until s.members) 0 s.sessions (λ i. tt))
-    (all_append (faults_by BadDrop (fits_drop (length s.links) (length s.members)) 0 listed) _ (of_faults_by BadDrop (fits_drop (length s.links) (length s.members)) 0 listed (λ i. tt))
-    (all_append (faults_by BadOutage (fits_outage (length s.links)) 0 s.drops.outages) _ (of_faults_by BadOutage (fits_outage (length s.links)) 0 s.drops.outages (λ i. tt))
+    (all_append (faults_by BadDraw (fits_draw s.until s.members) 0 s.draws) _
+        (of_faults_by BadDraw (fits_draw s.until s.members) 0 s.draws (λ i. tt))
+    (all_append (faults_by BadSession (fits_session s.until s.members) 0 s.sessions) _
+        (of_faults_by BadSession (fits_session s.until s.members) 0 s.sessions (λ i. tt))
+    (all_append (faults_by BadDrop (fits_drop (length s.links) (length s.members)) 0 listed) _
+        (of_faults_by BadDrop (fits_drop (length s.links) (length s.members)) 0 listed (λ i. tt))
+    (all_append (faults_by BadOutage (fits_outage (length s.links)) 0 s.drops.outages) _
+        (of_faults_by BadOutage (fits_outage (length s.links)) 0 s.drops.outages (λ i. tt))
     tt)))))
 
-of_answer : (fs : List ScenarioFault) (s : PlainScenario) (e : ScenarioFault) → AllByRecursion IsOfText fs → answer fs s ≡ Err e → IsOfText e
+of_answer : (fs : List ScenarioFault) (s : PlainScenario) (e : ScenarioFault) → AllByRecursion IsOfText fs → answer fs s ≡ Err e
+    → IsOfText e
 of_answer [] s e h is = cc
 of_answer (f ∷ fs) s e h is = let same : f ≡ e = cc in subst (λ t. IsOfText t) same h.0
 
 of_table : (ms : Members) (e : ScenarioFault) → scenario_of_table ms ≡ Err e → IsOfText e
 unfolding faults_of scenario_of_table
-of_table ms e is = of_answer (faults_of ms) (described ms) e (all_append (key_faults ms) _ (key_all ms) (meaning_all (described ms) _ _ _)) is
+of_table ms e is = of_answer (faults_of ms) (described ms) e (all_append (key_faults ms) _ (key_all ms) (meaning_all (described ms) _ _ _))
+    is
 
 of_document : (o : Option Members) (e : ScenarioFault) → scenario_of_document o ≡ Err e → IsOfText e
 unfolding IsOfText
@@ -153,7 +175,8 @@ same_count (Err (BadDrop i)) n h = refl
 same_count (Err (BadOutage i)) n h = refl
 same_count (Err NoMemory) n h = refl
 
-not_feed_fault : (text : List ℕ) (r : Result PlainScenario ScenarioFault) → length text ≤ 1048576 → IfErr r (λ e. (e ≡ NoMemory) ⊎ (scenario_of_text text ≡ Err e)) → r ≡ Err ReadFault → ⊥
+not_feed_fault : (text : List ℕ) (r : Result PlainScenario ScenarioFault)
+    → length text ≤ 1048576 → IfErr r (λ e. (e ≡ NoMemory) ⊎ (scenario_of_text text ≡ Err e)) → r ≡ Err ReadFault → ⊥
 not_feed_fault text (Ok s) h f is = cc
 not_feed_fault text (Err e) h (inl memory) is = cc
 not_feed_fault text (Err e) h (inr told) is =
@@ -161,7 +184,8 @@ not_feed_fault text (Err e) h (inr told) is =
     not_of_feed e (of_choice (is_utf8 text) (parse_document text) e (sym (short_text text h) ∙ told)) same
 
 -- a text that was read answers no fault of the feed
-pub count_stays : (text : List ℕ) (r : Result PlainScenario ScenarioFault) (n : ℕ) → length text ≤ 1048576 → IfErr r (λ e. (e ≡ NoMemory) ⊎ (scenario_of_text text ≡ Err e)) → n ≡ failures_after r n
+pub count_stays : (text : List ℕ) (r : Result PlainScenario ScenarioFault) (n : ℕ) → length text ≤ 1048576
+    → IfErr r (λ e. (e ≡ NoMemory) ⊎ (scenario_of_text text ≡ Err e)) → n ≡ failures_after r n
 count_stays text r n h f = sym (same_count r n (not_feed_fault text r h f))
 
 pub long_known : (known : Option (List ℕ)) → IfSome known (λ bytes. 1048576 < length bytes) → IfSome known (AnswersText (Err TooLong))

@@ -1,5 +1,6 @@
 -- The topologies grow from node 0, one node after the other.
-use Rattle.std.proofs.Common.{◌≡◌, ℕ, zero, suc, ◌+◌, ◌-◌, ◌/◌, ◌<◌, ◌≤◌, cond, length, Some, slice_get, nat_le, refl, ap, ◌∙◌, arith, inl, inr}
+use Rattle.std.proofs.Common.{◌≡◌, ℕ, zero, suc, ◌+◌, ◌-◌, ◌/◌, ◌<◌, ◌≤◌, cond, length, Some, slice_get, nat_le, refl, ap, ◌∙◌, arith, inl,
+    inr}
 use Rattle.std.proofs.lemmas.Bool.{cases_Bool}
 use Rattle.std.proofs.lemmas.Bool.Decides.{nat_tests}
 use Rattle.std.proofs.lemmas.List.Elements.{All-from_recursion}
@@ -23,7 +24,8 @@ parent_below (Tree degree) v h some =
     elim (cases_Bool (nat_le v degree)) [
       | inl near ↦ (let e : parent_in (Tree degree) v ≡ 0 = ap (λ b. cond b 0 (1 + (v - degree - 1) / (degree - 1))) near in omega arith)
       | inr far ↦
-          (let e : parent_in (Tree degree) v ≡ 1 + (v - degree - 1) / (degree - 1) = ap (λ b. cond b 0 (1 + (v - degree - 1) / (degree - 1))) far in
+          (let e : parent_in (Tree degree) v ≡ 1 + (v - degree - 1) / (degree - 1) =
+              ap (λ b. cond b 0 (1 + (v - degree - 1) / (degree - 1))) far in
           let past : degree < v = grind (arith, nat_tests) in
           let least = h.0 in
           omega (arith, div-le_self (v - degree - 1) (degree - 1)))
@@ -37,13 +39,15 @@ links_length t delays v zero = refl
 links_length t delays v (suc n) = ap suc (links_length t delays (v + 1) n)
 
 -- a link by its number
-nth_link : (t : Topology) (delays : Delays) (v n i : ℕ) → i < n → slice_get (links_to_parents t delays v n) i ≡ Some (link_at t delays (v + i))
+nth_link : (t : Topology) (delays : Delays) (v n i : ℕ) → i < n → slice_get (links_to_parents t delays v n) i
+    ≡ Some (link_at t delays (v + i))
 unfolding link_at
 nth_link t delays v zero i lt = absurd (omega arith)
 nth_link t delays v (suc n) zero lt = ap (λ k. Some (link_at t delays k)) (omega arith)
 nth_link t delays v (suc n) (suc i) lt = nth_link t delays (v + 1) n i (omega arith) ∙ ap (λ k. Some (link_at t delays k)) (omega arith)
 
-ends_within : (t : Topology) (delays : Delays) (nodes v n : ℕ) → HasDegree (Some t) → 1 ≤ v → v + n ≤ nodes → AllByRecursion (IsWithin nodes) (links_to_parents t delays v n)
+ends_within : (t : Topology) (delays : Delays) (nodes v n : ℕ) → HasDegree (Some t) → 1 ≤ v → v + n ≤ nodes
+    → AllByRecursion (IsWithin nodes) (links_to_parents t delays v n)
 ends_within t delays nodes v zero h some le = tt
 ends_within t delays nodes v (suc n) h some le =
     let below = parent_below t v h some in
@@ -54,10 +58,12 @@ unfolding link_at
 topologies t h delays nodes some few =
     let ks = links_to_parents t delays 1 (nodes - 1) in
     let many : length ks + 1 ≡ nodes = omega (arith, links_length t delays 1 (nodes - 1)) in
-    parents_tree (parent_in t) nodes ks some few (All-from_recursion (IsWithin nodes) ks (ends_within t delays nodes 1 (nodes - 1) h (omega arith) (omega arith))) many
+    parents_tree (parent_in t) nodes ks some few (All-from_recursion (IsWithin nodes) ks
+        (ends_within t delays nodes 1 (nodes - 1) h (omega arith) (omega arith))) many
     (record {
       below = λ v one. parent_below t v h one;
       delay = λ i. delays.delay;
       back = λ i. delays.back;
-      link = λ i lt. nth_link t delays 1 (nodes - 1) i (omega (arith, links_length t delays 1 (nodes - 1))) ∙ ap (λ k. Some (link_at t delays k)) (omega arith);
+      link = λ i lt. nth_link t delays 1 (nodes - 1) i (omega (arith, links_length t delays 1 (nodes - 1)))
+          ∙ ap (λ k. Some (link_at t delays k)) (omega arith);
     })

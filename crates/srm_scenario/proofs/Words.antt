@@ -27,13 +27,15 @@ is_some-map f (Some x) p e = ap is_some e
 
 -- how a role's word compares with the four words says whether the rule is met, and which role it is
 pub role_by_word : (ms : Members) (s : List ℕ) (a b c d : Bool) → get_member (codes "role") ms ≡ Some (string s)
-    → bytes_eq s (codes "sender") ≡ a → bytes_eq s (codes "receiver") ≡ b → bytes_eq s (codes "late") ≡ c → bytes_eq s (codes "listener") ≡ d
+    → bytes_eq s (codes "sender") ≡ a → bytes_eq s (codes "receiver") ≡ b → bytes_eq s (codes "late") ≡ c → bytes_eq s (codes "listener")
+        ≡ d
     → (is_met ms role_rule ≡ (a || (b || (c || (d || false)))))
     × (role_of ms ≡ (if a then Sender else if b then Receiver else if c then Late else Listener))
 role_by_word ms s a b c d got p q r t = (
   ap (meets role_rule.need role_rule.kind) got
       ∙ (λ i. p i || (q i || (r i || (t i || false)))),
-  ap (λ (o : Option Data). if is_text_or (codes "sender") o then Sender else if is_text_or (codes "receiver") o then Receiver else if is_text_or (codes "late") o then Late else Listener) got
+  ap (λ (o : Option Data). if is_text_or (codes "sender") o then Sender else if is_text_or (codes "receiver") o then Receiver else if
+      is_text_or (codes "late") o then Late else Listener) got
       ∙ (λ i. if p i then Sender else if q i then Receiver else if r i then Late else Listener),
 )
 
@@ -41,7 +43,8 @@ role_by_word ms s a b c d got p q r t = (
 pub record ByWord (ms : Members) (tree chain star : Bool) : Type 0 where
   pub met : is_met ms topology_rule ≡ (chain || (star || (tree || false)))
   pub tree_said : says (codes "topology") (codes "tree") ms ≡ tree
-  pub is : topology_of ms ≡ (if tree then Some (Tree (number (codes "degree") ms)) else if chain then Some Chain else if star then Some Star else None)
+  pub is : topology_of ms ≡ (if tree then Some (Tree (number (codes "degree") ms)) else if chain then Some Chain else if star then Some Star
+      else None)
   pub there : is_some (get_member (codes "topology") ms) ≡ true
 
 pub topology_by_word : (ms : Members) (s : List ℕ) (tree chain star : Bool) → get_member (codes "topology") ms ≡ Some (string s)
@@ -50,7 +53,8 @@ topology_by_word ms s a b c got p q r = record {
   met = ap (meets topology_rule.need topology_rule.kind) got ∙ (λ i. q i || (r i || (p i || false)));
   tree_said = ap (is_text_or (codes "tree")) got ∙ p;
   is =
-      ap (λ (o : Option Data). if is_text_or (codes "tree") o then Some (Tree (number (codes "degree") ms)) else if is_text_or (codes "chain") o then Some Chain else if is_text_or (codes "star") o then Some Star else None) got
+      ap (λ (o : Option Data). if is_text_or (codes "tree") o then Some (Tree (number (codes "degree") ms)) else if is_text_or
+          (codes "chain") o then Some Chain else if is_text_or (codes "star") o then Some Star else None) got
       ∙ (λ i. if p i then Some (Tree (number (codes "degree") ms)) else if q i then Some Chain else if r i then Some Star else None);
   there = ap is_some got;
 }
@@ -61,11 +65,13 @@ last_true false true = refl
 last_true false false = refl
 
 -- whether the rule of the degree is met, by whether a tree is named
-pub degree_by : (version : Version) (ms : Members) (tree b : Bool) → says (codes "topology") (codes "tree") ms ≡ tree → is_met ms (degree_rule version tree) ≡ b
+pub degree_by : (version : Version) (ms : Members) (tree b : Bool) → says (codes "topology") (codes "tree") ms ≡ tree
+    → is_met ms (degree_rule version tree) ≡ b
     → is_met ms (degree_rule version (says (codes "topology") (codes "tree") ms)) ≡ b
 degree_by version ms tree b said met = ap (λ t. is_met ms (degree_rule version t)) said ∙ met
 
-pub refused-met : (key : List ℕ) (k : Kind) (ms : Members) (b : Bool) → b ≡ is_some (get_member key ms) → is_met ms (rule key k refused) ≡ not b
+pub refused-met : (key : List ℕ) (k : Kind) (ms : Members) (b : Bool) → b ≡ is_some (get_member key ms) → is_met ms (rule key k refused)
+    ≡ not b
 refused-met key k ms b h = by (get_member key ms) ∙ ap not (sym h)
   where
     by : (o : Option Data) → meets refused k o ≡ not (is_some o)

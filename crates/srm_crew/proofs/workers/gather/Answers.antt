@@ -3,4 +3,5 @@ use Rattle.srm_crew.specs.Passes.{IsFit}
 use Rattle.srm_crew.proofs.workers.gather.Goals as goal
 
 pub returns-in-Err-join : goal.returns-in-Err-join
-returns-in-Err-join g c = rw (c.in-Ok.is, c.in-Ok-second.is) (subst (λ p. IsFit p) c.join-pass.ensures.both c.join-pass.ensures.fit, c.in-Err-join.ensures.past)
+returns-in-Err-join g c = rw (c.in-Ok.is, c.in-Ok-second.is)
+    (subst (λ p. IsFit p) c.join-pass.ensures.both c.join-pass.ensures.fit, c.in-Err-join.ensures.past)

@@ -10,6 +10,8 @@ abbrev pub invariant-loop-place : goal.invariant-loop-place
 invariant-loop-place g l =
     let rules = g.E.Element.rules l.version in
     record {
-      faults : faults_by (BadKey l.part) (fits_element rules) l.place (map view (drop l.place l.values)) ≡ faults_by (BadKey l.part) (fits_element rules) 0 (map view l.values);
-      elements : l.elements.items ++ map (λ d. g.E.Element.reading (table_of (view d))) (drop l.place l.values) ≡ map (λ d. g.E.Element.reading (table_of (view d))) l.values;
+      faults : faults_by (BadKey l.part) (fits_element rules) l.place (map view (drop l.place l.values))
+          ≡ faults_by (BadKey l.part) (fits_element rules) 0 (map view l.values);
+      elements : l.elements.items ++ map (λ d. g.E.Element.reading (table_of (view d))) (drop l.place l.values)
+          ≡ map (λ d. g.E.Element.reading (table_of (view d))) l.values;
     }

@@ -7,5 +7,6 @@ use Rattle.srm_scenario.proofs.entry.pages_of.Given as goal
 abbrev pub invariant-loop-value : goal.invariant-loop-value
 invariant-loop-value l = record {
   whole : all_whole 65535 (items_view (drop l.value-index l.values)) ≡ all_whole 65535 (items_view l.values);
-  pages : l.pages ++ map (λ v. unwrap_or (number_of (view v)) 0) (drop l.value-index l.values) ≡ map (λ v. unwrap_or (number_of (view v)) 0) l.values;
+  pages : l.pages ++ map (λ v. unwrap_or (number_of (view v)) 0) (drop l.value-index l.values)
+      ≡ map (λ v. unwrap_or (number_of (view v)) 0) l.values;
 }

@@ -27,15 +27,18 @@ pub returns-then-has_key-2 : goal.returns-then-has_key-2
 returns-then-has_key-2 c =
     let ms = table_view c.args.table.now in
     let h = topology_by_word ms c.in_ok-word.word.now _ _ _ (string-there _ _ c.in_ok-word.ensures) (sym c.if-eq.ensures) refl refl in
-    second_wrong _ _ (degree_by c.args.version ms _ _ h.tree_said (refused-met (codes "degree") (whole 2 (last_number c.args.version)) ms _ c.if-has_key-2.ensures))
+    second_wrong _ _ (degree_by c.args.version ms _ _ h.tree_said
+        (refused-met (codes "degree") (whole 2 (last_number c.args.version)) ms _ c.if-has_key-2.ensures))
 
 pub returns-then-eq-2 : goal.returns-then-eq-2
 returns-then-eq-2 c =
     let ms = table_view c.args.table.now in
-    let h = topology_by_word ms c.in_ok-word.word.now _ _ _ (string-there _ _ c.in_ok-word.ensures) (sym c.if-eq.ensures) (sym c.if-eq-2.ensures) refl in
+    let h = topology_by_word ms c.in_ok-word.word.now _ _ _ (string-there _ _ c.in_ok-word.ensures) (sym c.if-eq.ensures)
+        (sym c.if-eq-2.ensures) refl in
     record {
       topology = h.met;
-      degree = degree_by c.args.version ms _ _ h.tree_said (refused-met (codes "degree") (whole 2 (last_number c.args.version)) ms _ c.if-has_key-2.ensures);
+      degree = degree_by c.args.version ms _ _ h.tree_said
+          (refused-met (codes "degree") (whole 2 (last_number c.args.version)) ms _ c.if-has_key-2.ensures);
       is = h.is;
       there = h.there;
       fits = tt;
@@ -44,10 +47,12 @@ returns-then-eq-2 c =
 pub returns-then-eq-3 : goal.returns-then-eq-3
 returns-then-eq-3 c =
     let ms = table_view c.args.table.now in
-    let h = topology_by_word ms c.in_ok-word.word.now _ _ _ (string-there _ _ c.in_ok-word.ensures) (sym c.if-eq.ensures) (sym c.if-eq-2.ensures) (sym c.if-eq-3.ensures) in
+    let h = topology_by_word ms c.in_ok-word.word.now _ _ _ (string-there _ _ c.in_ok-word.ensures) (sym c.if-eq.ensures)
+        (sym c.if-eq-2.ensures) (sym c.if-eq-3.ensures) in
     record {
       topology = h.met;
-      degree = degree_by c.args.version ms _ _ h.tree_said (refused-met (codes "degree") (whole 2 (last_number c.args.version)) ms _ c.if-has_key-2.ensures);
+      degree = degree_by c.args.version ms _ _ h.tree_said
+          (refused-met (codes "degree") (whole 2 (last_number c.args.version)) ms _ c.if-has_key-2.ensures);
       is = h.is;
       there = h.there;
       fits = tt;
@@ -56,5 +61,6 @@ returns-then-eq-3 c =
 pub returns-else-eq-3 : goal.returns-else-eq-3
 returns-else-eq-3 c =
     let ms = table_view c.args.table.now in
-    let h = topology_by_word ms c.in_ok-word.word.now _ _ _ (string-there _ _ c.in_ok-word.ensures) (sym c.if-eq.ensures) (sym c.if-eq-2.ensures) (sym c.if-eq-3.ensures) in
+    let h = topology_by_word ms c.in_ok-word.word.now _ _ _ (string-there _ _ c.in_ok-word.ensures) (sym c.if-eq.ensures)
+        (sym c.if-eq-2.ensures) (sym c.if-eq-3.ensures) in
     rw h.met refl

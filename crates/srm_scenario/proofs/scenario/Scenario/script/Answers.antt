@@ -13,4 +13,5 @@ returns-clause-script c =
     (c.deref-2.ensures.value ∙ ap (λ (s : PlainScenario). s.sessions) c.self.view_is)
 
 pub returns-clause-rises : goal.returns-clause-rises
-returns-clause-rises c = subst (λ (ms : List Mark). Rises mark_cmp ms) (sym (returns-clause-script c)) (scripts_rise c.args.self.now c.args.m)
+returns-clause-rises c = subst (λ (ms : List Mark). Rises mark_cmp ms) (sym (returns-clause-script c))
+    (scripts_rise c.args.self.now c.args.m)
