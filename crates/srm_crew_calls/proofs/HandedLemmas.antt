@@ -1,5 +1,6 @@
 -- Jobs as crews may be handed them.
-use Rattle.std.proofs.Common.{◌≡◌, ℕ, zero, suc, ◌+◌, ◌<◌, ◌≤◌, ◌^◌, List, [], ◌∷◌, ◌++◌, length, Ok, refl, sym, ap, ◌∙◌, subst, arith, add-zero, zero-add, add-one, All, length-append}
+use Rattle.std.proofs.Common.{◌≡◌, ℕ, zero, suc, ◌+◌, ◌<◌, ◌≤◌, ◌^◌, List, [], ◌∷◌, ◌++◌, length, Ok, refl, sym, ap, ◌∙◌, subst, arith,
+    add-zero, zero-add, add-one, All, length-append}
 use Rattle.std.specs.List.{AllZip, range_with_len}
 use Rattle.std.proofs.lemmas.List.{map-append}
 use Rattle.std.proofs.lemmas.List.Elements.{All-nil, All-cons, All-head, All-tail, All-push}
@@ -33,11 +34,13 @@ module _ {X : Type 0} {H : X → Type 0} (f : DynBox X Global H → Record) (n :
   pub none_handed : MayMap {X = X} {H = H} f n []
   none_handed = record { jobs = All-nil (λ (j : Job X H). MayAdvance f n j); places = refl; few = omega arith }
 
-  pub one_more : (js : List (Job X H)) (j : Job X H) → MayMap f n js → j.place ≡ length js → length js < 1024 → MayAdvance f n j → MayMap f n (js ++ j ∷ [])
+  pub one_more : (js : List (Job X H)) (j : Job X H) → MayMap f n js → j.place ≡ length js → length js < 1024 → MayAdvance f n j
+      → MayMap f n (js ++ j ∷ [])
   one_more js j h at few may = record {
     jobs = All-push (λ (j : Job X H). MayAdvance f n j) js j h.jobs may;
     places =
-        map-append (λ (j : Job X H). j.place) js (j ∷ []) ∙ ap (λ l. l ++ j.place ∷ []) h.places ∙ ap (λ k. range_with_len 0 (length js) ++ k ∷ []) (at ∙ sym (zero-add (length js)))
+        map-append (λ (j : Job X H). j.place) js (j ∷ []) ∙ ap (λ l. l ++ j.place ∷ []) h.places
+            ∙ ap (λ k. range_with_len 0 (length js) ++ k ∷ []) (at ∙ sym (zero-add (length js)))
         ∙ sym (ap (λ k. range_with_len 0 k) (length-append js (j ∷ []) ∙ add-one (length js)) ∙ range_more 0 (length js));
     few = (let long = length-append js (j ∷ []) in omega arith);
   }
@@ -57,7 +60,8 @@ module _ {X : Type 0} {H : X → Type 0} (f : DynBox X Global H → Record) (n :
   none_known = record { seen = []; are = tt; of_members = tt; few = omega arith }
 
   -- a new cell of a member, alone
-  pub new_known : (r : Record) (script : List Mark) (sent : ℕ) (c : Cell X H) (cs : List (Cell X H)) → cs ≡ c ∷ [] → IsNew f r script sent c → (fixed_part r).member < n → AreKnown f n cs
+  pub new_known : (r : Record) (script : List Mark) (sent : ℕ) (c : Cell X H) (cs : List (Cell X H)) → cs ≡ c ∷ [] → IsNew f r script sent c
+      → (fixed_part r).member < n → AreKnown f n cs
   new_known r script sent c cs e new lt = record {
     seen = record { member = (fixed_part r).member; cell = new_cell r script sent } ∷ [];
     are = subst (λ l. AreCells f l (record { member = (fixed_part r).member; cell = new_cell r script sent } ∷ [])) (sym e) (new, tt);
@@ -97,13 +101,17 @@ module _ {X : Type 0} {H : X → Type 0} (f : DynBox X Global H → Record) (n :
       let one = ran_cells p.till p.cells d.rows.items d.cells.items z.0.runs fit.0.1 in
       let more = known_cells t ps ds z.1 fit.1 in
       let few : length one.0 ≤ 1024 = (let e = one.3 in let le = fit.0.0 in omega arith) in
-      All-cons (λ (d : job.Done X H). AreKnown f n d.cells.items) d ds (record { seen = one.0; are = one.1; of_members = one.2; few = few }) more
+      All-cons (λ (d : job.Done X H). AreKnown f n d.cells.items) d ds (record { seen = one.0; are = one.1; of_members = one.2; few = few })
+          more
 
   -- the cells of what a crew has done of such jobs are cells of members
-  pub known_done : (k : PlainScenario) (net : Network) (seat : SeatView) (js : List (Job X H)) (r : Vec (job.Done X H) × SeatView) → MayMap f n js → Maps f k net seat js (Ok r)
+  pub known_done : (k : PlainScenario) (net : Network) (seat : SeatView) (js : List (Job X H)) (r : Vec (job.Done X H) × SeatView)
+      → MayMap f n js → Maps f k net seat js (Ok r)
       → All (λ (d : job.Done X H). AreKnown f n d.cells.items) r.0.items
-  known_done k net seat js r h m = let fit = fit_jobs js h.jobs in known_cells (traffic_of k net) fit.0 r.0.items (m.tells fit.0 fit.1).0 fit.2
+  known_done k net seat js r h m = let fit = fit_jobs js h.jobs in known_cells (traffic_of k net) fit.0 r.0.items
+      (m.tells fit.0 fit.1).0 fit.2
 
   -- the seat is still one of its ledger
-  pub same_ledger : (k : PlainScenario) (net : Network) (seat : SeatView) (js : List (Job X H)) (r : Vec (job.Done X H) × SeatView) → MayMap f n js → Maps f k net seat js (Ok r) → r.1.ledger ≡ seat.ledger
+  pub same_ledger : (k : PlainScenario) (net : Network) (seat : SeatView) (js : List (Job X H)) (r : Vec (job.Done X H) × SeatView)
+      → MayMap f n js → Maps f k net seat js (Ok r) → r.1.ledger ≡ seat.ledger
   same_ledger k net seat js r h m = let fit = fit_jobs js h.jobs in (m.tells fit.0 fit.1).1.ledger

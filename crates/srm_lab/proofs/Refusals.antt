@@ -11,7 +11,8 @@ use Rattle.srm_lab.specs.Sessions.{TellsSession}
 use Rattle.srm_lab.proofs.Texts.{keeps-itself}
 
 -- where memory ran out before the run, the outlet took nothing
-pub tells-nothing : {T : Type 0} (p : PlainScenario) (net : Network) (seed : ℕ) (o : Options) (taken : Option (List ℕ)) (r : Result T Fault) → IsErrAnd r (λ e. e ≡ NoMemory) → TellsSession p net seed o taken taken r
+pub tells-nothing : {T : Type 0} (p : PlainScenario) (net : Network) (seed : ℕ) (o : Options) (taken : Option (List ℕ)) (r : Result T Fault)
+    → IsErrAnd r (λ e. e ≡ NoMemory) → TellsSession p net seed o taken taken r
 tells-nothing {T} p net seed o taken r told =
     let (fault, refused, why) = err_from_is_err_and r told in
     subst (λ (q : Result T Fault). TellsSession p net seed o taken taken q) (sym (refused ∙ ap Err why)) (keeps-itself taken)

@@ -14,7 +14,8 @@ use Rattle.srm_lab.specs.declared.options.Options.{Options}
 use Rattle.srm_lab.specs.Sessions.{TellsSession, TellsText, TellsFeed, reading_failures}
 
 -- the session of a text is that of the scenario that it describes
-pub session_of_text : {T : Type 0} (p : PlainScenario) (net : Network) (text : List ℕ) (seed : ℕ) (o : Options) (old new : Option (List ℕ)) (r : Result T Fault)
+pub session_of_text : {T : Type 0} (p : PlainScenario) (net : Network) (text : List ℕ) (seed : ℕ) (o : Options) (old new : Option (List ℕ))
+    (r : Result T Fault)
     → scenario_of_text text ≡ Ok p → net ≡ network_of p → TellsSession p net seed o old new r → TellsText seed o text old new r
 session_of_text {T} p net text seed o old new r is made told =
     describes r (subst (λ (w : Network). TellsSession p w seed o old new r) made told)
@@ -40,6 +41,7 @@ keeps-itself None = tt
 keeps-itself (Some xs) = refl
 
 -- a text that is too long is told as such
-pub long_known : (known : Option (List ℕ)) (P : Type 0) → P → IfSome known (AnswersText (Err TooLong)) → IfSome known (λ text. RefusesText TooLong text × P)
+pub long_known : (known : Option (List ℕ)) (P : Type 0) → P → IfSome known (AnswersText (Err TooLong))
+    → IfSome known (λ text. RefusesText TooLong text × P)
 long_known None P p h = tt
 long_known (Some text) P p h = (inr h, p)

@@ -1,5 +1,6 @@
 -- What an outlet took of a trace that was written through a sink.
-use Rattle.std.proofs.Common.{◌≡◌, ◌∙◌, ℕ, List, [], ◌++◌, ◌+◌, ◌-◌, ◌^◌, min, length, Option, Result, Ok, Err, refl, sym, ap, subst, append-nil}
+use Rattle.std.proofs.Common.{◌≡◌, ◌∙◌, ℕ, List, [], ◌++◌, ◌+◌, ◌-◌, ◌^◌, min, length, Option, Result, Ok, Err, refl, sym, ap, subst,
+    append-nil}
 use Rattle.std.specs.Io.KnownBytes.{Appends, Keeps}
 use Rattle.srm_net.specs.Network.{Network}
 use Rattle.srm_scenario.specs.Plain.{PlainScenario}
@@ -13,7 +14,8 @@ use Rattle.srm_report.specs.declared.standing.Standing.{Standing}
 use Rattle.srm_report.specs.declared.standing.Standing.TheVariants as standing
 use Rattle.srm_report.specs.declared.trace_sink.TraceSink.{TraceSink}
 use Rattle.srm_report.specs.Trace.{trace_of_rows}
-use Rattle.srm_report.specs.TraceSinks.{stage_at, text_next, IsText, stage_of, outlet_under, gathered_by, written_by, GrewBy, Wrote, PutsAll, PutsFront, PutsRows, PutsPart}
+use Rattle.srm_report.specs.TraceSinks.{stage_at, text_next, IsText, stage_of, outlet_under, gathered_by, written_by, GrewBy, Wrote,
+    PutsAll, PutsFront, PutsRows, PutsPart}
 use Rattle.srm_report.specs.SinkLaws.{all_more, front_more}
 use Rattle.srm_lab.specs.declared.fault.LabFault.{LabFault}
 use Rattle.srm_lab.specs.declared.fault.LabFault.TheVariants.{BadCut, BadWidth, ShareFull, NoMemory, CountFull, WriteFault}
@@ -101,10 +103,13 @@ module _ {O : Type 0} (taken : O → Option (List ℕ)) (a : TraceSink O) (new :
         → TellsTrace {T = U} p net seed (taken old) (taken end) (Err f)
     refused_trace T U c end f same h at = seen {T = U} c end (Err f) same (by f h at)
       where
-        by : (f : LabFault) → HandsRows (PutsRows taken) (PutsPart taken) (setting_of p net seed) a (Err f) c → StandsAfter {T = T} (Err f) (stage_of c)
+        by : (f : LabFault) → HandsRows (PutsRows taken) (PutsPart taken) (setting_of p net seed) a (Err f) c
+            → StandsAfter {T = T} (Err f) (stage_of c)
             → TellsTrace {T = U} p net seed (taken (outlet_under a)) (taken (outlet_under c)) (Err f)
-        by BadCut h at = subst (λ (s : TraceSink O). Keeps (taken (outlet_under a)) (taken (outlet_under s))) (sym h) (keeps-itself (taken (outlet_under a)))
-        by BadWidth h at = subst (λ (s : TraceSink O). Keeps (taken (outlet_under a)) (taken (outlet_under s))) (sym h) (keeps-itself (taken (outlet_under a)))
+        by BadCut h at = subst (λ (s : TraceSink O). Keeps (taken (outlet_under a)) (taken (outlet_under s))) (sym h)
+            (keeps-itself (taken (outlet_under a)))
+        by BadWidth h at = subst (λ (s : TraceSink O). Keeps (taken (outlet_under a)) (taken (outlet_under s))) (sym h)
+            (keeps-itself (taken (outlet_under a)))
         by ShareFull h at = let f = fronted c h in (f.0, f.1)
         by NoMemory h at = let f = fronted c h in (f.0, f.1)
         by CountFull h at = let f = fronted c h.1 in (h.0, (f.0, f.1))

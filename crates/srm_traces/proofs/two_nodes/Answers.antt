@@ -9,13 +9,19 @@ use Rattle.srm_traces.specs.Runs.{ended, last_world, whole_trace, whole_totals}
 use Rattle.srm_traces.proofs.two_nodes.Goals as goal
 
 pub returns-clause-trace : goal.returns-clause-trace
-unfolding run opening opening_cells step_to step_of least_event after_step settled own_step handle next_event hear react drawing answering asking informed after_entry requested got lose_below lose_from script_of route_within route distance reaches crosses drops_at crossings ended last_world whole_trace whole_totals
+unfolding run opening opening_cells step_to step_of least_event after_step settled own_step handle next_event hear react drawing answering
+    asking informed after_entry requested got lose_below lose_from script_of route_within route distance reaches crosses drops_at crossings
+    ended last_world whole_trace whole_totals
 returns-clause-trace c = refl
 
 pub returns-clause-totals : goal.returns-clause-totals
-unfolding run opening opening_cells step_to step_of least_event after_step settled own_step handle next_event hear react drawing answering asking informed after_entry requested got lose_below lose_from script_of route_within route distance reaches crosses drops_at crossings ended last_world whole_trace whole_totals
+unfolding run opening opening_cells step_to step_of least_event after_step settled own_step handle next_event hear react drawing answering
+    asking informed after_entry requested got lose_below lose_from script_of route_within route distance reaches crosses drops_at crossings
+    ended last_world whole_trace whole_totals
 returns-clause-totals c = refl
 
 pub returns-clause-whole : goal.returns-clause-whole
-unfolding run opening opening_cells step_to step_of least_event after_step settled own_step handle next_event hear react drawing answering asking informed after_entry requested got lose_below lose_from script_of route_within route distance reaches crosses drops_at crossings ended last_world whole_trace whole_totals
+unfolding run opening opening_cells step_to step_of least_event after_step settled own_step handle next_event hear react drawing answering
+    asking informed after_entry requested got lose_below lose_from script_of route_within route distance reaches crosses drops_at crossings
+    ended last_world whole_trace whole_totals
 returns-clause-whole c = refl

@@ -10,7 +10,8 @@ use Rattle.srm_report_calls.proofs.streaming.stream_in_windows.Goals.{in-Sender+
 pub loop-m-preserved : goal.loop-m-preserved
 loop-m-preserved g c =
     ap (map (λ b. (own-1.entry b.vtable).1.plain b.value)) c.in_ok-push.ensures.items
-    ∙ opening-push (λ b. (own-1.entry b.vtable).1.plain b.value) c.args.scenario.now c.args.net.now 0 c.loop-m.m c.loop-m.members.items c.match-role.member c.loop-m.invariant
+    ∙ opening-push (λ b. (own-1.entry b.vtable).1.plain b.value) c.args.scenario.now c.args.net.now 0 c.loop-m.m c.loop-m.members.items
+        c.match-role.member c.loop-m.invariant
     (elim c.match-role.branch [
       | in-Sender+in_ok-inner-in-Sender+in_ok-reacts-in-Sender+in_ok-new-in-Sender w ↦
           ap (λ b. (own-1.entry b.vtable).1.plain b.value) w.member-is

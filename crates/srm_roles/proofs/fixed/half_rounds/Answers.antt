@@ -12,5 +12,6 @@ loop-b-preserved c =
       value = c.in_ok-push.ensures.ok
           ∙ (λ i. c.loop-b.invariant.value i ++ c.round.ensures.value i / 2 ∷ [])
           ∙ sym (map-range_with_len_more (λ b. round c.args.net.now c.args.m b / 2) 0 c.loop-b.b c.loop-b.b (zero-add c.loop-b.b));
-      bounded = rw c.in_ok-push.ensures.ok (All-push (λ d. d ≤ 1023000000) c.loop-b.dist (c.round.result / 2) c.loop-b.invariant.bounded half);
+      bounded = rw c.in_ok-push.ensures.ok (All-push (λ d. d ≤ 1023000000) c.loop-b.dist (c.round.result / 2) c.loop-b.invariant.bounded
+          half);
     }

@@ -10,5 +10,7 @@ returns g c =
     let few = c.if-place-ge-MOST_JOBS.false in
     let lt : length c.args.jobs.now.items < 1024 = omega arith in
     rw c.in_ok-push.ensures.items
-    (one_more (λ b. (goal.Member-dyn g (b.vtable, b.value)).plain b.value) (length c.args.net.now.hosts) c.args.jobs.now.items _ c.requires.jobs
-    at lt (may_go_on (λ b. (goal.Member-dyn g (b.vtable, b.value)).plain b.value) (length c.args.net.now.hosts) _ c.requires.known c.requires.till))
+    (one_more (λ b. (goal.Member-dyn g (b.vtable, b.value)).plain b.value)
+        (length c.args.net.now.hosts) c.args.jobs.now.items _ c.requires.jobs
+    at lt (may_go_on (λ b. (goal.Member-dyn g (b.vtable, b.value)).plain b.value) (length c.args.net.now.hosts) _ c.requires.known
+        c.requires.till))
