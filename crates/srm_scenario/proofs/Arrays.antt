@@ -11,7 +11,7 @@ use Rattle.toml.specs.View.{view, items_of, items_view}
 use Rattle.toml.specs.declared.value.Value.{Value}
 use Rattle.srm_scenario.specs.Rules.{is_met, is_kind, rule, meets, elements, numbers, optional, count_items, all_whole}
 use Rattle.srm_scenario.specs.Described.{items_list, array_of, array_at, number_of, table_of}
-use Rattle.srm_scenario.specs.Keys.{IsArray}
+use Rattle.srm_scenario.specs.LookUps.{IsArray}
 
 pub items_list-of : (ds : List Data) → items_list (items_of ds) ≡ ds
 items_list-of [] = refl

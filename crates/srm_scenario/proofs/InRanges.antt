@@ -11,19 +11,19 @@ use Rattle.srm_net.specs.Network.{IsLinkDelay, HasDelays}
 use Rattle.srm_scenario.specs.declared.entry.MemberEntry.{MemberEntry}
 use Rattle.srm_scenario.specs.declared.fault.Part.{Part}
 use Rattle.srm_scenario.specs.declared.fault.ScenarioFault.TheVariants.{BadKey}
-use Rattle.srm_scenario.specs.declared.listed.Listed.{Listed}
+use Rattle.srm_scenario.specs.declared.draft.Draft.{Draft}
 use Rattle.srm_scenario.specs.declared.parts.MemberSpec.{MemberSpec}
 use Rattle.srm_scenario.specs.declared.delays.Delays.{Delays}
 use Rattle.srm_scenario.specs.declared.topology.Topology.{Topology}
 use Rattle.srm_scenario.specs.declared.version.Version.{Version}
 use Rattle.srm_scenario.specs.Rules.{Rule, rule, whole, required, optional, refused, meets, allows_back, index_rule, back_rule, is_met,
     is_whole, has_only, fits, fits_element, link_rules, member_rules, role_rule}
-use Rattle.srm_scenario.specs.Described.{version_of, back_at, delays_of, number_of, number_at, number, array_of, array_at, table_of,
-    link_of, member_of, elements_at, links_to_parents, nodes_in, links_in, described, topology_of}
+use Rattle.srm_scenario.specs.Described.{version_of, back_at, delays_of, number_of, optional_number, number, array_of, array_at, table_of,
+    link_of, member_of, elements_at, links_to_parents, nodes_in, links_in, described_scenario, topology_of}
 use Rattle.srm_scenario.specs.Faults.{element_faults, entry_of, key_faults, top_faults}
-use Rattle.srm_scenario.specs.Keys.{AreDelays}
+use Rattle.srm_scenario.specs.LookUps.{AreDelays}
 use Rattle.srm_scenario.specs.Plain.{drop_rules_of}
-use Rattle.srm_scenario.specs.Listed.{IsListed, links_listed, plain_of}
+use Rattle.srm_scenario.specs.Drafts.{IsDraft, links_listed, plain_of}
 use Rattle.srm_scenario.specs.Ranges.{MemberInRange, HasItsPages, InRange}
 use Rattle.srm_scenario.proofs.Acceptance.{empty_parts, none_by}
 
@@ -64,9 +64,9 @@ required_number key low high ms h = by (get_member key ms) h
     by None e = absurd (false≢true e)
     by (Some d) e = whole_number low high 0 d e
 
-optional_number : (key : List ℕ) (low high : ℕ) (ms : Members) → is_met ms (rule key (whole low high) optional) ≡ true → (n : ℕ)
-    → number_at key ms ≡ Some n → n ≤ high
-optional_number key low high ms h = by (get_member key ms) h
+optional_bound : (key : List ℕ) (low high : ℕ) (ms : Members) → is_met ms (rule key (whole low high) optional) ≡ true → (n : ℕ)
+    → optional_number key ms ≡ Some n → n ≤ high
+optional_bound key low high ms h = by (get_member key ms) h
   where
     by : (o : Option Data) → meets optional (whole low high) o ≡ true → (n : ℕ) → option_and_then number_of o ≡ Some n → n ≤ high
     by None e n f = cc
@@ -128,7 +128,7 @@ member_range v m h =
     let few = required_number (codes "stream") 0 9223372036854775807 m stream in
     record {
       stream = omega (arith, few.1);
-      leave = optional_number (codes "leave") 1 (2 ^ 40) m leave;
+      leave = optional_bound (codes "leave") 1 (2 ^ 40) m leave;
     }
 
 pages_own : (v : Version) (m : Members) → fits (member_rules v) m ≡ true → HasItsPages (entry_of m)
@@ -176,7 +176,7 @@ member_part ms h =
         (array_at (codes "member") ms)) _ q.1 in
     r.0
 
-pub listed_range : (ms : Members) (l : Listed) → IsListed ms l → InRange (plain_of l)
+pub listed_range : (ms : Members) (l : Draft) → IsDraft ms l → InRange (plain_of l)
 unfolding plain_of
 listed_range ms l h =
     let links : AllByRecursion HasDelays l.links.items = subst (λ (ks : List LinkSpec). AllByRecursion HasDelays ks) h.links
@@ -195,7 +195,7 @@ listed_range ms l h =
       few_sessions = h.few_sessions;
     }
 
-pub listed_pages : (ms : Members) (l : Listed) → IsListed ms l → AllByRecursion HasItsPages l.members.items
+pub listed_pages : (ms : Members) (l : Draft) → IsDraft ms l → AllByRecursion HasItsPages l.members.items
 listed_pages ms l h =
     subst (λ (es : List MemberEntry). AllByRecursion HasItsPages es) h.members
         (read_elements HasItsPages _ entry_of (member_rules (version_of ms)) (pages_own (version_of ms)) _ (member_part ms h.no_fault))
@@ -211,8 +211,8 @@ map_spec [] = refl
 map_spec (d ∷ ds) = ap (λ (l : List MemberSpec). member_of (table_of d) ∷ l) (map_spec ds)
 
 -- what the table describes is the scenario of what it lists
-pub described_is : (ms : Members) (l : Listed) → IsListed ms l → described ms ≡ plain_of l
-unfolding described plain_of
+pub described_is : (ms : Members) (l : Draft) → IsDraft ms l → described_scenario ms ≡ plain_of l
+unfolding described_scenario plain_of
 described_is ms l h =
     let nodes : nodes_in l.topology ms ≡ l.nodes = subst (λ o. nodes_in o ms ≡ l.nodes) h.topology h.nodes in
     let links : links_in (topology_of ms) ms ≡ links_listed l.topology l.nodes l.delays l.links.items =

@@ -7,12 +7,12 @@ use Rattle.srm_net.specs.Paths.{drop_cmp}
 use Rattle.srm_net.specs.DropRules.{DropRules}
 use Rattle.srm_scenario.specs.declared.fault.ScenarioFault.{ScenarioFault}
 use Rattle.srm_scenario.specs.declared.fault.ScenarioFault.TheVariants.{NoMemory, NotTree, BadDraw, BadSession, BadDrop, BadOutage}
-use Rattle.srm_scenario.specs.declared.listed.Listed.{Listed}
+use Rattle.srm_scenario.specs.declared.draft.Draft.{Draft}
 use Rattle.srm_scenario.specs.declared.parts.MemberSpec.{MemberSpec}
 use Rattle.srm_scenario.specs.Accepted.{IsAccepted}
 use Rattle.srm_scenario.specs.Faults.{first, IsFault, fault_unless, faults_by, is_star, member_faults, fits_draw, fits_session, fits_drop,
     fits_outage, meaning_faults}
-use Rattle.srm_scenario.specs.Listed.{links_listed, plain_of, faults_in}
+use Rattle.srm_scenario.specs.Drafts.{links_listed, plain_of, faults_in}
 use Rattle.srm_scenario.specs.Plain.{PlainScenario, drop_rules_of, network_of}
 use Rattle.srm_scenario.specs.Ranges.{InRange, HasItsPages}
 use Rattle.srm_scenario.specs.Trees.{is_tree}
@@ -22,34 +22,34 @@ use Rattle.srm_scenario.proofs.FaultLists.{here, later, no_faults}
 use Rattle.srm_scenario.proofs.TreeLemmas.{without_hosts}
 
 -- the links and members of what is listed, as the code has made them
-pub record Made (l : Listed) (links : List LinkSpec) (members : List MemberSpec) : Type 0 where
+pub record Made (l : Draft) (links : List LinkSpec) (members : List MemberSpec) : Type 0 where
   pub links_are : links ≡ links_listed l.topology l.nodes l.delays l.links.items
   pub members_are : members ≡ map (λ e. e.spec) l.members.items
 
-abbrev Tree : Listed → List ScenarioFault
+abbrev Tree : Draft → List ScenarioFault
 Tree l = fault_unless (is_tree (network_of (plain_of l))) NotTree
 
-abbrev Placed : Listed → List ScenarioFault
+abbrev Placed : Draft → List ScenarioFault
 Placed l = member_faults l.until l.nodes (is_star l.topology) [] 0 l.members.items
 
-abbrev Drawn : Listed → List MemberSpec → List ScenarioFault
+abbrev Drawn : Draft → List MemberSpec → List ScenarioFault
 Drawn l members = faults_by BadDraw (fits_draw l.until members) 0 l.draws.items
 
-abbrev Told : Listed → List MemberSpec → List ScenarioFault
+abbrev Told : Draft → List MemberSpec → List ScenarioFault
 Told l members = faults_by BadSession (fits_session l.until members) 0 l.sessions.items
 
-abbrev Dropped : Listed → List LinkSpec → List MemberSpec → List ScenarioFault
+abbrev Dropped : Draft → List LinkSpec → List MemberSpec → List ScenarioFault
 Dropped l links members = faults_by BadDrop (fits_drop (length links) (length members)) 0 l.drops.items
 
-abbrev Out : Listed → List LinkSpec → List ScenarioFault
+abbrev Out : Draft → List LinkSpec → List ScenarioFault
 Out l links = faults_by BadOutage (fits_outage (length links)) 0 l.outages.items
 
-all_faults : Listed → List LinkSpec → List MemberSpec → List ScenarioFault
+all_faults : Draft → List LinkSpec → List MemberSpec → List ScenarioFault
 all_faults l links members = Tree l
     ++ (Placed l ++ (Drawn l members ++ (Told l members ++ (Dropped l links members ++ (Out l links ++ [])))))
 
 -- the faults, by the links and members that were made
-are_all : (l : Listed) (links : List LinkSpec) (members : List MemberSpec) → Made l links members → all_faults l links members ≡ faults_in l
+are_all : (l : Draft) (links : List LinkSpec) (members : List MemberSpec) → Made l links members → all_faults l links members ≡ faults_in l
 unfolding all_faults plain_of meaning_faults
 are_all l links members m =
     ap (λ (ks : List LinkSpec). Tree l ++ (Placed l ++ (Drawn l members ++ (Told l members ++ (Dropped l ks members ++ (Out l ks ++ []))))))
@@ -58,25 +58,25 @@ are_all l links members m =
         ++ (Placed l ++ (Drawn l ms ++ (Told l ms ++ (Dropped l (links_listed l.topology l.nodes l.delays l.links.items) ms
         ++ (Out l (links_listed l.topology l.nodes l.delays l.links.items) ++ [])))))) m.members_are
 
-tree_test : (l : Listed) (links : List LinkSpec) (b : Bool) → links ≡ links_listed l.topology l.nodes l.delays l.links.items
+tree_test : (l : Draft) (links : List LinkSpec) (b : Bool) → links ≡ links_listed l.topology l.nodes l.delays l.links.items
     → is_tree (plain_network l.nodes links []) ≡ b → is_tree (network_of (plain_of l)) ≡ b
 unfolding plain_of
 tree_test l links b same h =
     without_hosts l.nodes (links_listed l.topology l.nodes l.delays l.links.items) (network_of (plain_of l)).hosts []
         ∙ ap (λ (ks : List LinkSpec). is_tree (plain_network l.nodes ks [])) (sym same) ∙ h
 
-no_tree_fault : (l : Listed) (links : List LinkSpec) → links ≡ links_listed l.topology l.nodes l.delays l.links.items
+no_tree_fault : (l : Draft) (links : List LinkSpec) → links ≡ links_listed l.topology l.nodes l.delays l.links.items
     → is_tree (plain_network l.nodes links []) ≡ true → Tree l ≡ []
 no_tree_fault l links same h = ap (λ b. fault_unless b NotTree) (tree_test l links true same h)
 
-pub tree_fault : (l : Listed) (links : List LinkSpec) (e : ScenarioFault) → links ≡ links_listed l.topology l.nodes l.delays l.links.items
+pub tree_fault : (l : Draft) (links : List LinkSpec) (e : ScenarioFault) → links ≡ links_listed l.topology l.nodes l.delays l.links.items
     → (e ≡ NoMemory) ⊎ ((e ≡ NotTree) × (is_tree (plain_network l.nodes links []) ≡ false)) → IsFault e (faults_in l)
 unfolding meaning_faults
 tree_fault l links e same (inl memory) = inl memory
 tree_fault l links e same (inr (is, wrong)) =
     here (Tree l) _ e (inr (ap (λ b. first (fault_unless b NotTree)) (tree_test l links false same wrong) ∙ ap Some (sym is)))
 
-module _ (l : Listed) (links : List LinkSpec) (e : ScenarioFault) (same : links ≡ links_listed l.topology l.nodes l.delays l.links.items)
+module _ (l : Draft) (links : List LinkSpec) (e : ScenarioFault) (same : links ≡ links_listed l.topology l.nodes l.delays l.links.items)
     (tree : is_tree (plain_network l.nodes links []) ≡ true) where
   pub place_fault : first (Placed l) ≡ Some e → IsFault e (faults_in l)
   unfolding meaning_faults plain_of
@@ -120,7 +120,7 @@ module _ (l : Listed) (links : List LinkSpec) (e : ScenarioFault) (same : links 
             (later (Told l members) _ e told (later (Dropped l links members) _ e dropped (here (Out l links) _ e (inr h)))))) in
         subst (λ (fs : List ScenarioFault). IsFault e fs) (are_all l links members made) f
 
-pub no_fault : (l : Listed) (links : List LinkSpec) (members : List MemberSpec) → Made l links members
+pub no_fault : (l : Draft) (links : List LinkSpec) (members : List MemberSpec) → Made l links members
     → is_tree (plain_network l.nodes links []) ≡ true
     → Placed l ≡ [] → Drawn l members ≡ [] → Told l members ≡ [] → Dropped l links members ≡ [] → Out l links ≡ [] → faults_in l ≡ []
 unfolding all_faults
@@ -131,7 +131,7 @@ no_fault l links members m tree placed drawn told dropped out =
         (no_faults (Told l members) _ told (no_faults (Dropped l links members) _ dropped (no_faults (Out l links) _ out refl)))))
 
 -- the scenario that is made is the plain one
-pub plain_made : (l : Listed) (links : List LinkSpec) (members : List MemberSpec) (drops : DropRules) → Made l links members → drops
+pub plain_made : (l : Draft) (links : List LinkSpec) (members : List MemberSpec) (drops : DropRules) → Made l links members → drops
     ≡ drop_rules_of l.drops.items l.outages.items
     → ◌≡◌ {A = PlainScenario} (record { until = l.until; constants = l.constants; nodes = l.nodes; links = links; members = members; draws =
         l.draws.items; sessions = l.sessions.items; drops = drops }) (plain_of l)
@@ -148,13 +148,13 @@ plain_made l links members drops m same = λ i. record {
 }
 
 -- and is accepted
-pub accepted_made : (l : Listed) → InRange (plain_of l) → AllByRecursion HasItsPages l.members.items → faults_in l ≡ []
+pub accepted_made : (l : Draft) → InRange (plain_of l) → AllByRecursion HasItsPages l.members.items → faults_in l ≡ []
     → IsAccepted (plain_of l)
 unfolding plain_of
 accepted_made l range pages none = accepted_from (plain_of l) (is_star l.topology) l.members.items l.drops.items range pages refl refl none
 
 -- the delays of the links that are made
-pub delays_made : (l : Listed) (links : List LinkSpec) → links ≡ links_listed l.topology l.nodes l.delays l.links.items
+pub delays_made : (l : Draft) (links : List LinkSpec) → links ≡ links_listed l.topology l.nodes l.delays l.links.items
     → InRange (plain_of l) → AllByRecursion HasDelays links
 unfolding plain_of
 delays_made l links same range = subst (λ (ks : List LinkSpec). AllByRecursion HasDelays ks) (sym same) range.delays

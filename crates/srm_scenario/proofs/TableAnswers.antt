@@ -6,10 +6,10 @@ use Rattle.srm_net.specs.declared.link.DropSpec.{DropSpec}
 use Rattle.srm_scenario.specs.declared.entry.MemberEntry.{MemberEntry}
 use Rattle.srm_scenario.specs.declared.fault.ScenarioFault.{ScenarioFault}
 use Rattle.srm_scenario.specs.declared.fault.ScenarioFault.TheVariants.{NoMemory}
-use Rattle.srm_scenario.specs.declared.listed.Listed.{Listed}
-use Rattle.srm_scenario.specs.Described.{elements_at, listed_drops, described, topology_of}
+use Rattle.srm_scenario.specs.declared.draft.Draft.{Draft}
+use Rattle.srm_scenario.specs.Described.{elements_at, listed_drops, described_scenario, topology_of}
 use Rattle.srm_scenario.specs.Faults.{first, IsFault, is_star, entry_of, key_faults, meaning_faults, faults_of, answer, scenario_of_table}
-use Rattle.srm_scenario.specs.Listed.{IsListed, plain_of, faults_in}
+use Rattle.srm_scenario.specs.Drafts.{IsDraft, plain_of, faults_in}
 use Rattle.srm_scenario.specs.Plain.{PlainScenario}
 use Rattle.srm_scenario.proofs.FaultLists.{first-left}
 use Rattle.srm_scenario.proofs.InRanges.{described_is}
@@ -19,19 +19,19 @@ answer-first [] s e h = cc
 answer-first (f ∷ fs) s e h = let same : f ≡ e = cc in ap Err same
 
 -- the faults of meaning are those of what is listed
-faults_same : (ms : Members) (l : Listed) → IsListed ms l
-    → meaning_faults (described ms) (is_star (topology_of ms)) (elements_at (codes "member") entry_of ms) (listed_drops ms) ≡ faults_in l
+faults_same : (ms : Members) (l : Draft) → IsDraft ms l
+    → meaning_faults (described_scenario ms) (is_star (topology_of ms)) (elements_at (codes "member") entry_of ms) (listed_drops ms) ≡ faults_in l
 faults_same ms l h = λ i. meaning_faults (described_is ms l h i) (is_star (h.topology i)) (h.members i) (h.drops i)
 
-all_faults : (ms : Members) (l : Listed) → IsListed ms l → faults_of ms ≡ faults_in l
+all_faults : (ms : Members) (l : Draft) → IsDraft ms l → faults_of ms ≡ faults_in l
 unfolding faults_of
 all_faults ms l h = (λ i. h.no_fault i ++ faults_same ms l h i)
 
-accepted : (ms : Members) (l : Listed) → IsListed ms l → faults_in l ≡ [] → scenario_of_table ms ≡ Ok (plain_of l)
+accepted : (ms : Members) (l : Draft) → IsDraft ms l → faults_in l ≡ [] → scenario_of_table ms ≡ Ok (plain_of l)
 unfolding scenario_of_table
 accepted ms l h none = (λ i. answer (all_faults ms l h i) (described_is ms l h i)) ∙ ap (λ fs. answer fs (plain_of l)) none
 
-pub answer_ok : (ms : Members) (l : Listed) (r : Result PlainScenario ScenarioFault) → IsListed ms l → IfOk r (λ _. faults_in l ≡ [])
+pub answer_ok : (ms : Members) (l : Draft) (r : Result PlainScenario ScenarioFault) → IsDraft ms l → IfOk r (λ _. faults_in l ≡ [])
     → IfOk r (λ s. s ≡ plain_of l)
     → IfOk r (λ s. scenario_of_table ms ≡ Ok s)
 answer_ok ms l (Ok s) h none plain = accepted ms l h none ∙ ap Ok (sym plain)
@@ -40,12 +40,12 @@ answer_ok ms l (Err e) h none plain = tt
 pub key_answer : (ms : Members) (e : ScenarioFault) → IsFault e (key_faults ms) → (e ≡ NoMemory) ⊎ (scenario_of_table ms ≡ Err e)
 unfolding scenario_of_table faults_of
 key_answer ms e (inl memory) = inl memory
-key_answer ms e (inr h) = inr (answer-first (faults_of ms) (described ms) e (first-left (key_faults ms) _ e h))
+key_answer ms e (inr h) = inr (answer-first (faults_of ms) (described_scenario ms) e (first-left (key_faults ms) _ e h))
 
-pub answer_err : (ms : Members) (l : Listed) (r : Result PlainScenario ScenarioFault) → IsListed ms l
+pub answer_err : (ms : Members) (l : Draft) (r : Result PlainScenario ScenarioFault) → IsDraft ms l
     → IfErr r (λ e. IsFault e (faults_in l))
     → IfErr r (λ e. (e ≡ NoMemory) ⊎ (scenario_of_table ms ≡ Err e))
 unfolding scenario_of_table
 answer_err ms l (Ok s) h f = tt
 answer_err ms l (Err e) h (inl memory) = inl memory
-answer_err ms l (Err e) h (inr f) = inr (answer-first (faults_of ms) (described ms) e (ap first (all_faults ms l h) ∙ f))
+answer_err ms l (Err e) h (inr f) = inr (answer-first (faults_of ms) (described_scenario ms) e (ap first (all_faults ms l h) ∙ f))

@@ -7,7 +7,7 @@ use Rattle.std.specs.Str.{bytes_eq}
 use Rattle.toml.specs.Data.{Data, Members, member, get_member}
 use Rattle.srm_scenario.specs.Rules.{Kind, has_only, is_met, is_whole, rule, meets, whole, required, optional}
 use Rattle.srm_scenario.specs.Described.{number_of}
-use Rattle.srm_scenario.specs.Keys.{IsNumber, HasNumber, MayHaveNumber}
+use Rattle.srm_scenario.specs.LookUps.{IsNumber, HasNumber, MayHaveNumber}
 
 pub list_any-map : {A B : Type 0} (p : B → Bool) (f : A → B) (xs : List A) → list_any p (map f xs) ≡ list_any (λ x. p (f x)) xs
 list_any-map p f [] = refl

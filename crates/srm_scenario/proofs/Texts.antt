@@ -17,7 +17,7 @@ use Rattle.srm_net.specs.declared.link.DropSpec.{DropSpec}
 use Rattle.srm_scenario.specs.declared.fault.Part.{Part}
 use Rattle.srm_scenario.specs.declared.fault.Part.TheVariants as part
 use Rattle.srm_scenario.specs.declared.version.Version.{Version}
-use Rattle.srm_scenario.specs.Described.{array_at, version_of, described}
+use Rattle.srm_scenario.specs.Described.{array_at, version_of, described_scenario}
 use Rattle.srm_scenario.specs.Rules.{Rule, fits, fits_element, link_rules, member_rules, draw_rules, session_rules, drop_rules,
     outage_rules}
 use Rattle.srm_scenario.specs.Trees.{is_tree}
@@ -144,7 +144,7 @@ of_answer (f ∷ fs) s e h is = let same : f ≡ e = cc in subst (λ t. IsOfText
 
 of_table : (ms : Members) (e : ScenarioFault) → scenario_of_table ms ≡ Err e → IsOfText e
 unfolding faults_of scenario_of_table
-of_table ms e is = of_answer (faults_of ms) (described ms) e (all_append (key_faults ms) _ (key_all ms) (meaning_all (described ms) _ _ _))
+of_table ms e is = of_answer (faults_of ms) (described_scenario ms) e (all_append (key_faults ms) _ (key_all ms) (meaning_all (described_scenario ms) _ _ _))
     is
 
 of_document : (o : Option Members) (e : ScenarioFault) → scenario_of_document o ≡ Err e → IsOfText e

@@ -7,7 +7,7 @@ use Rattle.srm_scenario.specs.Rules.{is_met, fits, has_only, number_rules, array
 use Rattle.srm_scenario.specs.declared.version.Version.{Version}
 use Rattle.srm_scenario.specs.Described.{version_of}
 use Rattle.srm_scenario.specs.Faults.{rules_of_top}
-use Rattle.srm_scenario.specs.Keys.{shape_of}
+use Rattle.srm_scenario.specs.LookUps.{shape_of}
 
 and_assoc : (a b c : Bool) → ((a && b) && c) ≡ (a && (b && c))
 and_assoc true b c = refl

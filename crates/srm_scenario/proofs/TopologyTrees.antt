@@ -13,7 +13,7 @@ use Rattle.srm_scenario.specs.declared.delays.Delays.{Delays}
 use Rattle.srm_scenario.specs.declared.topology.Topology.{Topology}
 use Rattle.srm_scenario.specs.declared.topology.Topology.TheVariants.{Chain, Star, Tree}
 use Rattle.srm_scenario.specs.Described.{parent_in, links_to_parents}
-use Rattle.srm_scenario.specs.Keys.{HasDegree}
+use Rattle.srm_scenario.specs.LookUps.{HasDegree}
 use Rattle.srm_scenario.specs.Topologies.{TopologiesAreTrees}
 
 -- a node's parent comes before it

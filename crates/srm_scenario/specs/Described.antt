@@ -27,12 +27,12 @@ number_of (integer (pos n)) = Some n
 number_of d = None
 
 -- the whole number at a key, if there is one
-abbrev pub number_at : List ℕ → Members → Option ℕ
-number_at key ms = option_and_then number_of (get_member key ms)
+abbrev pub optional_number : List ℕ → Members → Option ℕ
+optional_number key ms = option_and_then number_of (get_member key ms)
 
 -- the whole number at a key, or 0
 abbrev pub number : List ℕ → Members → ℕ
-number key ms = unwrap_or (number_at key ms) 0
+number key ms = unwrap_or (optional_number key ms) 0
 
 abbrev pub is_text_or : List ℕ → Option Data → Bool
 is_text_or w None = false
@@ -67,7 +67,7 @@ version_of ms = if number (codes "version") ms == 2 then Two else One
 
 -- the delay in the other direction, which is the same where none is given for it
 abbrev pub back_at : Members → ℕ
-back_at ms = unwrap_or (number_at (codes "back") ms) (number (codes "delay") ms)
+back_at ms = unwrap_or (optional_number (codes "back") ms) (number (codes "delay") ms)
 
 abbrev pub link_of : Members → LinkSpec
 link_of ms = record {
@@ -90,7 +90,7 @@ member_of ms = record {
   role = role_of ms;
   stream = number (codes "stream") ms;
   join = number (codes "join") ms;
-  leave = number_at (codes "leave") ms;
+  leave = optional_number (codes "leave") ms;
   pages = map (λ d. unwrap_or (number_of d) 0) (array_at (codes "pages") ms);
 }
 
@@ -175,8 +175,8 @@ constants_of ms = record {
   d2 = number (codes "d2") ms;
 }
 
-unfoldable pub described : Members → PlainScenario
-described ms = record {
+unfoldable pub described_scenario : Members → PlainScenario
+described_scenario ms = record {
   until = number (codes "until") ms;
   constants = constants_of ms;
   nodes = nodes_in (topology_of ms) ms;

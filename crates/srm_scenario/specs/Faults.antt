@@ -22,7 +22,7 @@ use Rattle.srm_scenario.specs.declared.topology.Topology.TheVariants.{Star}
 use Rattle.srm_scenario.specs.Plain.{PlainScenario, network_of}
 use Rattle.srm_scenario.specs.Trees.{is_tree}
 use Rattle.srm_scenario.specs.Rules.{Rule, top_rules, link_rules, member_rules, draw_rules, session_rules, drop_rules, outage_rules, fits, fits_element}
-use Rattle.srm_scenario.specs.Described.{version_of, member_of, says, array_at, table_of, elements_at, topology_of, listed_drops, described}
+use Rattle.srm_scenario.specs.Described.{version_of, member_of, says, array_at, table_of, elements_at, topology_of, listed_drops, described_scenario}
 
 -- one fault for each element that fails a test, at its place, the first element being at place i
 abbrev pub faults_by : {A : Type 0} → (ℕ → ScenarioFault) → (A → Bool) → ℕ → List A → List ScenarioFault
@@ -177,7 +177,7 @@ meaning_faults s star entries listed =
 -- all faults of a table, in the order in which they are told
 unfoldable pub faults_of : Members → List ScenarioFault
 faults_of ms =
-    key_faults ms ++ meaning_faults (described ms) (is_star (topology_of ms))
+    key_faults ms ++ meaning_faults (described_scenario ms) (is_star (topology_of ms))
     (elements_at (codes "member") entry_of ms) (listed_drops ms)
 
 -- the scenario, or the first of the faults
@@ -187,7 +187,7 @@ answer (fault ∷ faults) s = Err fault
 
 -- the scenario of a table, or the first of its faults
 unfoldable pub scenario_of_table : Members → Result PlainScenario ScenarioFault
-scenario_of_table ms = answer (faults_of ms) (described ms)
+scenario_of_table ms = answer (faults_of ms) (described_scenario ms)
 
 abbrev pub scenario_of_document : Option Members → Result PlainScenario ScenarioFault
 scenario_of_document None = Err NotToml

@@ -5,9 +5,9 @@ pub mod Rules
 pub mod Described
 pub mod Trees
 pub mod Faults
-pub mod Keys
+pub mod LookUps
 pub mod Feed
 pub mod Scripts
-pub mod Listed
+pub mod Drafts
 pub mod Ranges
 pub mod Topologies

@@ -4,7 +4,7 @@ use Rattle.srm_net.specs.Network.{IsTree, plain_network}
 use Rattle.srm_scenario.specs.declared.delays.Delays.{Delays}
 use Rattle.srm_scenario.specs.declared.topology.Topology.{Topology}
 use Rattle.srm_scenario.specs.Described.{links_to_parents}
-use Rattle.srm_scenario.specs.Keys.{HasDegree}
+use Rattle.srm_scenario.specs.LookUps.{HasDegree}
 
 -- each topology with 1 to 1,024 nodes is a tree, so that none of them is refused as no tree
 abbrev pub TopologiesAreTrees : Type 0

@@ -4,13 +4,13 @@
 pub mod bytes;
 mod checks;
 mod delays;
+mod draft;
 mod element;
 mod elements;
 mod entry;
 pub mod fault;
 pub mod feed;
 pub mod laws;
-mod listed;
 pub mod mark;
 pub mod parts;
 pub mod reading;

@@ -6,8 +6,8 @@ ghost use Rattle.toml.specs.View.{table_view};
 ghost use Rattle.srm_net.specs.Network.{plain_network, HasDelays};
 ghost use Rattle.srm_scenario.specs.Accepted.{IsAccepted};
 ghost use Rattle.srm_scenario.specs.Faults.{IsFault, is_star, scenario_of_table, scenario_of_text, failures_after, AnswersText, ReadsToEnd, RefusesText};
-ghost use Rattle.srm_scenario.specs.Keys.{HasDegree};
-ghost use Rattle.srm_scenario.specs.Listed.{links_listed, plain_of, faults_in};
+ghost use Rattle.srm_scenario.specs.LookUps.{HasDegree};
+ghost use Rattle.srm_scenario.specs.Drafts.{links_listed, plain_of, faults_in};
 ghost use Rattle.srm_scenario.specs.Plain.{drop_rules_of};
 ghost use Rattle.srm_scenario.specs.Ranges.{InRange, HasItsPages};
 ghost use Rattle.srm_scenario.specs.Trees.{is_tree};
@@ -18,7 +18,7 @@ use crate::delays::Delays;
 use crate::entry::MemberEntry;
 use crate::fault::ScenarioFault;
 use crate::feed::Feed;
-use crate::listed::Listed;
+use crate::draft::Draft;
 use crate::parts::MemberSpec;
 use crate::scenario::Scenario;
 use crate::topology::Topology;
@@ -100,17 +100,17 @@ fn links_of(
     }
 }
 
-/// The scenario of what is listed, whose numbers are in range. What does not fit the rest is refused, the first of it.
-fn scenario_from(alloc: Global, listed: Listed) -> Result<Scenario, ScenarioFault>
-    requires nodes { 1 ≤ listed.nodes }
-    requires degree { HasDegree listed.topology }
-    requires range { InRange (plain_of listed) }
-    requires pages { AllByRecursion HasItsPages listed.members.items }
-    ensures no_fault { IfOk result (λ _. faults_in listed ≡ []) }
-    ensures plain { IfOk result (λ s. s ≡ plain_of listed) }
-    ensures fault { IfErr result (λ e. IsFault e (faults_in listed)) }
+/// The scenario of a draft whose numbers are in range. What does not fit the rest is refused, the first of it.
+fn scenario_from(alloc: Global, draft: Draft) -> Result<Scenario, ScenarioFault>
+    requires nodes { 1 ≤ draft.nodes }
+    requires degree { HasDegree draft.topology }
+    requires range { InRange (plain_of draft) }
+    requires pages { AllByRecursion HasItsPages draft.members.items }
+    ensures no_fault { IfOk result (λ _. faults_in draft ≡ []) }
+    ensures plain { IfOk result (λ s. s ≡ plain_of draft) }
+    ensures fault { IfErr result (λ e. IsFault e (faults_in draft)) }
 {
-    let Listed {
+    let Draft {
         until,
         constants,
         topology,
@@ -122,7 +122,7 @@ fn scenario_from(alloc: Global, listed: Listed) -> Result<Scenario, ScenarioFaul
         sessions,
         drops,
         outages,
-    } = listed;
+    } = draft;
     let links = links_of(alloc, topology, nodes, delays, links)?;
     check_tree(alloc, nodes, &links)?;
     check_members(until, nodes, is_star(topology), &entries)?;
@@ -156,8 +156,8 @@ pub fn scenario_of(alloc: Global, table: &Table) -> Result<Scenario, ScenarioFau
     ensures fault { IfErr result (λ e. (e ≡ ScenarioFault.NoMemory)
         ⊎ (scenario_of_table (table_view table.now) ≡ Err e)) }
 {
-    let listed = Listed::read(alloc, table)?;
-    scenario_from(alloc, listed)
+    let draft = Draft::read(alloc, table)?;
+    scenario_from(alloc, draft)
 }
 
 /// The scenario of a text.

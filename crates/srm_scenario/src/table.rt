@@ -6,7 +6,7 @@ ghost use Rattle.std.specs.List.{list_any};
 ghost use Rattle.std.specs.Str.{bytes_eq};
 ghost use Rattle.toml.specs.View.{view, table_view, items_view};
 ghost use Rattle.srm_scenario.specs.Rules.{rule, whole, elements, required, optional, most_nodes, index_rule, back_rule, outage_rule, degree_rule, is_met, is_whole, has_only};
-ghost use Rattle.srm_scenario.specs.Keys.{IsNumber, HasNumber, MayHaveNumber, HasIndex, HasNodes, HasTreeDegree, HasBack, HasOutages, IsArray};
+ghost use Rattle.srm_scenario.specs.LookUps.{IsNumber, HasNumber, MayHaveNumber, HasIndex, HasNodes, HasTreeDegree, HasBack, HasOutages, IsArray};
 
 use crate::version::Version;
 use toml::{Table, Value};

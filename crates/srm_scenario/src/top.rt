@@ -5,7 +5,7 @@ ghost use Rattle.std.specs.List.{list_all};
 ghost use Rattle.srm_scenario.specs.Rules.{fits, is_met, topology_rule, degree_rule, number_rules, array_rules};
 ghost use Rattle.srm_scenario.specs.Described.{says};
 ghost use Rattle.srm_scenario.specs.Faults.{rules_of_top};
-ghost use Rattle.srm_scenario.specs.Keys.{HasTopology, HasNumbers, HasShape, HasArrays, shape_of};
+ghost use Rattle.srm_scenario.specs.LookUps.{HasTopology, HasNumbers, HasShape, HasArrays, shape_of};
 
 use crate::delays::Delays;
 use crate::elements::LAST_TICK;

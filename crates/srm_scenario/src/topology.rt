@@ -1,7 +1,7 @@
 //! Topologies that a scenario may name.
 ghost use Rattle.std.specs.Prelude.{◌≡◌, ◌≤◌, ◌<◌, ◌-◌, IfOk, Some};
 ghost use Rattle.srm_scenario.specs.Described.{parent_in, links_to_parents};
-ghost use Rattle.srm_scenario.specs.Keys.{HasDegree};
+ghost use Rattle.srm_scenario.specs.LookUps.{HasDegree};
 
 use crate::delays::Delays;
 use srm_net::link::LinkSpec;

@@ -3,17 +3,17 @@ use Rattle.std.specs.Prelude.{◌≡◌, ℕ, ◌-◌, ◌≤◌, ◌^◌, List,
 use Rattle.toml.specs.Data.{Members}
 use Rattle.srm_net.specs.declared.link.LinkSpec.{LinkSpec}
 use Rattle.srm_scenario.specs.declared.fault.ScenarioFault.{ScenarioFault}
-use Rattle.srm_scenario.specs.declared.listed.Listed.{Listed}
+use Rattle.srm_scenario.specs.declared.draft.Draft.{Draft}
 use Rattle.srm_scenario.specs.declared.delays.Delays.{Delays}
 use Rattle.srm_scenario.specs.declared.topology.Topology.{Topology}
 use Rattle.srm_scenario.specs.Accepted.{AreConstants}
 use Rattle.srm_scenario.specs.Plain.{PlainScenario, drop_rules_of}
 use Rattle.srm_scenario.specs.Described.{number, constants_of, topology_of, delays_of, nodes_in, elements_at, link_of, draw_of, session_of, listed_drops, outages_in, links_to_parents}
 use Rattle.srm_scenario.specs.Faults.{key_faults, meaning_faults, is_star, entry_of}
-use Rattle.srm_scenario.specs.Keys.{HasDegree, AreDelays}
+use Rattle.srm_scenario.specs.LookUps.{HasDegree, AreDelays}
 
 -- this is what the table lists, no key of which is a fault
-pub record IsListed (ms : Members) (l : Listed) : Type 0 where
+pub record IsDraft (ms : Members) (l : Draft) : Type 0 where
   pub no_fault : key_faults ms ≡ []
   pub until : number (codes "until") ms ≡ l.until
   pub some_ticks : 1 ≤ l.until
@@ -43,7 +43,7 @@ links_listed None nodes delays links = links
 links_listed (Some t) nodes delays links = links_to_parents t delays 1 (nodes - 1)
 
 -- the scenario of what is listed
-unfoldable pub plain_of : Listed → PlainScenario
+unfoldable pub plain_of : Draft → PlainScenario
 plain_of l = record {
   until = l.until;
   constants = l.constants;
@@ -56,5 +56,5 @@ plain_of l = record {
 }
 
 -- the faults of what is listed
-abbrev pub faults_in : Listed → List ScenarioFault
+abbrev pub faults_in : Draft → List ScenarioFault
 faults_in l = meaning_faults (plain_of l) (is_star l.topology) l.members.items l.drops.items

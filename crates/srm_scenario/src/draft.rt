@@ -1,8 +1,8 @@
-//! What is read from a table before its parts are held against one another.
+//! A scenario as its table gives it, before its parts are held against one another.
 ghost use Rattle.std.specs.Prelude.{IfOk, IfErr};
 ghost use Rattle.toml.specs.View.{table_view};
 ghost use Rattle.srm_scenario.specs.Faults.{IsFault, key_faults};
-ghost use Rattle.srm_scenario.specs.Listed.{IsListed};
+ghost use Rattle.srm_scenario.specs.Drafts.{IsDraft};
 
 use crate::delays::Delays;
 use crate::element::read_elements;
@@ -15,9 +15,9 @@ use srm_net::link::{DropSpec, LinkSpec, OutageSpec};
 use std::alloc::Global;
 use toml::Table;
 
-/// What a table lists.
+/// A scenario as its table gives it, before its parts are held against one another.
 #[derive(Debug, Drop)]
-pub(crate) struct Listed {
+pub(crate) struct Draft {
     /// When the run ends, in ticks.
     pub(crate) until: u64,
     /// The constants of the timers.
@@ -42,10 +42,10 @@ pub(crate) struct Listed {
     pub(crate) outages: Vec<OutageSpec>,
 }
 
-impl Listed {
-    /// What a table lists. A fault of its keys is refused, the first one.
-    pub(crate) fn read(alloc: Global, table: &Table) -> Result<Listed, ScenarioFault>
-        ensures listed { IfOk result (IsListed (table_view table.now)) }
+impl Draft {
+    /// The draft that a table gives. A fault of its keys is refused, the first one.
+    pub(crate) fn read(alloc: Global, table: &Table) -> Result<Draft, ScenarioFault>
+        ensures draft { IfOk result (IsDraft (table_view table.now)) }
         ensures fault { IfErr result (λ e. IsFault e (key_faults (table_view table.now))) }
     {
         let Some(top) = top_of(table) else {
@@ -61,7 +61,7 @@ impl Listed {
         let sessions = read_elements(alloc, Part::Session, version, top.arrays.sessions)?;
         let drops = read_elements(alloc, Part::Drop, version, top.arrays.drops)?;
         let outages = read_elements(alloc, Part::Outage, version, top.arrays.outages)?;
-        Ok(Listed {
+        Ok(Draft {
             until: top.numbers.until,
             constants: top.numbers.constants,
             topology: top.shape.topology,

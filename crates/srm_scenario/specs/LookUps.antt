@@ -10,7 +10,7 @@ use Rattle.srm_scenario.specs.declared.topology.Topology.TheVariants.{Tree}
 use Rattle.srm_scenario.specs.declared.parts.Constants.{Constants}
 use Rattle.srm_scenario.specs.Accepted.{AreConstants}
 use Rattle.srm_scenario.specs.Rules.{Rule, rule, whole, elements, required, optional, is_met, is_whole, most_nodes, index_rule, topology_rule, back_rule, outage_rule, degree_rule, number_rules, shape_rules, array_rules}
-use Rattle.srm_scenario.specs.Described.{number, number_at, number_of, array_at, says, version_of, topology_of, delays_of, constants_of, nodes_in}
+use Rattle.srm_scenario.specs.Described.{number, optional_number, number_of, array_at, says, version_of, topology_of, delays_of, constants_of, nodes_in}
 
 -- the value is this whole number, from low to high
 pub record IsNumber (low high : ℕ) (d : Data) (n : ℕ) : Type 0 where
@@ -27,21 +27,21 @@ pub record HasNumber (key : List ℕ) (low high : ℕ) (ms : Members) (n : ℕ) 
   pub most : n ≤ high
 
 -- a number that is there is from low to high
-abbrev pub IsWithin : ℕ → ℕ → Option ℕ → Type 0
-IsWithin low high None = Unit {0}
-IsWithin low high (Some n) = (low ≤ n) × (n ≤ high)
+abbrev pub IsInRange : ℕ → ℕ → Option ℕ → Type 0
+IsInRange low high None = Unit {0}
+IsInRange low high (Some n) = (low ≤ n) × (n ≤ high)
 
 -- this number, or none, stands at a key that need not be there
 pub record MayHaveNumber (key : List ℕ) (low high : ℕ) (ms : Members) (n : Option ℕ) : Type 0 where
   pub met : is_met ms (rule key (whole low high) optional) ≡ true
-  pub is : number_at key ms ≡ n
-  pub within : IsWithin low high n
+  pub is : optional_number key ms ≡ n
+  pub within : IsInRange low high n
 
 -- this delay, or none, stands at the key `back`, where a table may have one
 pub record HasBack (allowed : Bool) (ms : Members) (n : Option ℕ) : Type 0 where
   pub met : is_met ms (back_rule allowed) ≡ true
-  pub is : number_at (codes "back") ms ≡ n
-  pub within : IsWithin 1 1000000 n
+  pub is : optional_number (codes "back") ms ≡ n
+  pub within : IsInRange 1 1000000 n
 
 -- these values are those of the array at a key that need not be there
 pub record IsArray (key : List ℕ) (most : ℕ) (ms : Members) (values : List Data) : Type 0 where

@@ -8,7 +8,7 @@ use Rattle.srm_scenario.specs.Faults.{entry_of}
 use Rattle.srm_scenario.proofs.Arrays.{elements-read, few_read}
 use Rattle.srm_scenario.proofs.FaultLists.{faults_read, fault_read, top_fault, link_fault, member_fault, draw_fault, session_fault,
     drop_fault, outage_fault, no_key_fault}
-use Rattle.srm_scenario.proofs.listed.Listed.read.Goals as goal
+use Rattle.srm_scenario.proofs.draft.Draft.read.Goals as goal
 
 pub returns-in_default-clause-fault : goal.returns-in_default-clause-fault
 returns-in_default-clause-fault c = inr (top_fault (table_view c.args.table.now) c.in_default.ensures)
@@ -97,8 +97,8 @@ returns-in_err-outages-clause-fault c =
     (fault_read part.Outage outage_rules (codes "outage") (table_view c.args.table.now) _ _ e t.1.version_is t.3.outages_are
         c.in_err-outages.ensures.fault))
 
-pub returns-clause-listed : goal.returns-clause-listed
-returns-clause-listed c =
+pub returns-clause-draft : goal.returns-clause-draft
+returns-clause-draft c =
     let t = c.in-Some.ensures in
     let links = faults_read part.Link link_rules (codes "link") (table_view c.args.table.now) _ _ t.1.version_is t.2.links_are
         ∙ c.in_ok-links.ensures.no_fault in
