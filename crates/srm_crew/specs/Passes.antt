@@ -45,8 +45,8 @@ module _ {T : Type 0} where
   IsLast place p = (before : List ℕ) × (p.taken ≡ before ++ place ∷ [])
 
   -- the pass took no place twice, and none at which nothing was put
-  abbrev pub IsFit : PassView T → Type 0
-  IsFit p = EachAtMostOnce p.taken (length p.put)
+  abbrev pub TookEachAtMostOnce : PassView T → Type 0
+  TookEachAtMostOnce p = EachAtMostOnce p.taken (length p.put)
 
   -- why nothing more is put
   abbrev pub RefusesPut : ℕ → PassView T → PutFault → Type 0
@@ -62,7 +62,7 @@ module _ {T : Type 0} where
   abbrev pub TellsTake : PassView T → Option T → PassView T → Type 0
   TellsTake old None new = (new ≡ old) × (old.weight ≡ 65536 → EachOnce old.taken (length old.put))
   TellsTake old (Some x) new = (place : ℕ) × (new ≡ with_taken old place) × (slice_get old.put place ≡ Some x)
-      × AllBelow old.taken place × IsFit new
+      × AllBelow old.taken place × TookEachAtMostOnce new
 
   -- why a bag is not emptied
   abbrev pub RefusesEmpty : PassView T → EmptyFault → Type 0

@@ -9,7 +9,7 @@ use Rattle.srm_cell.specs.declared.fault.CellFault.TheVariants as cell
 use Rattle.srm_crew.specs.declared.fault.CrewFault.{CrewFault}
 use Rattle.srm_crew.specs.declared.fault.CrewFault.TheVariants as fault
 use Rattle.srm_crew.specs.Places.{EachAtMostOnce}
-use Rattle.srm_crew.specs.Passes.{PassView, both_passes, IsFit}
+use Rattle.srm_crew.specs.Passes.{PassView, both_passes, TookEachAtMostOnce}
 use Rattle.srm_crew.specs.Crews.{HasGrown, IsPast, word_of}
 
 -- P holds of the item at a place of the list
@@ -86,5 +86,5 @@ module _ {T D : Type 0} where
   TellsBoth (Ok a) (Ok b) (Ok r) = (r.0 ≡ both_passes a.0 b.0) × (r.1 ≡ both_seats a.1 b.1)
       × (r.2.items ≡ a.2.items ++ b.2.items)
   TellsBoth (Ok a) (Ok b) (Err fault.NoMemory) = Unit {0}
-  TellsBoth (Ok a) (Ok b) (Err fault.ShareFull) = IsFit (both_passes a.0 b.0) × SomePast a.1.shares b.1.shares
+  TellsBoth (Ok a) (Ok b) (Err fault.ShareFull) = TookEachAtMostOnce (both_passes a.0 b.0) × SomePast a.1.shares b.1.shares
   TellsBoth (Ok a) (Ok b) (Err e) = ⊥

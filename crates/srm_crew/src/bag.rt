@@ -1,7 +1,7 @@
 //! A bag of items, each with a place of its own, from which threads take the oldest.
 ghost use Rattle.std.specs.Prelude.{◌≡◌, ◌<◌, ◌≤◌, ◌+◌, ◌++◌, ◌⊎◌, ◌↔◌, ℕ, Some, length, slice_get, vec_capacity, IfOk, MatchOption, MatchResult};
 ghost use Rattle.srm_crew.specs.Places.{EachOnce, AllBelow};
-ghost use Rattle.srm_crew.specs.Passes.{PassView, fresh_pass, with_put, with_taken, half_with_list, half_without, both_passes, TellsPut, TellsTake, TellsEmpty, IsFit};
+ghost use Rattle.srm_crew.specs.Passes.{PassView, fresh_pass, with_put, with_taken, half_with_list, half_without, both_passes, TellsPut, TellsTake, TellsEmpty, TookEachAtMostOnce};
 
 use crate::bag_fault::{BagFault, EmptyFault, PutFault, SplitFault};
 use crate::pass::{Pass, WHOLE};
@@ -146,7 +146,7 @@ impl<T> Bag<T> {
         requires first { first.bag ≡ self.now.name }
         requires second { second.bag ≡ self.now.name }
         ensures both { result ≡ both_passes first second }
-        ensures fit { IsFit result }
+        ensures fit { TookEachAtMostOnce result }
     {
         let Pass {
             hold: mut mine,

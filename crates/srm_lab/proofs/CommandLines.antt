@@ -3,7 +3,7 @@ use Rattle.std.proofs.Common.{◌≡◌, ℕ, refl, codes, arith}
 use Rattle.srm_lab.specs.declared.fault.LineFault.TheVariants as line
 use Rattle.srm_lab.specs.declared.fault.Fault.{Fault}
 use Rattle.srm_lab.specs.declared.fault.Fault.TheVariants as fault
-use Rattle.srm_lab.specs.Lines.{line_of_fault}
+use Rattle.srm_lab.specs.RefusalLines.{line_of_fault}
 use Rattle.srm_lab.specs.Program.{status_of_fault}
 
 -- where the exit status is 2, the line is that the command line is refused

@@ -8,7 +8,7 @@ use Rattle.srm_lab.specs.declared.fault.LineFault.TheVariants as line
 use Rattle.srm_lab.specs.declared.fault.Fault.{Fault}
 use Rattle.srm_lab.specs.declared.fault.Fault.TheVariants as fault
 use Rattle.srm_lab.specs.declared.options.Options.{Options}
-use Rattle.srm_lab.specs.Lines.{line_of_fault}
+use Rattle.srm_lab.specs.RefusalLines.{line_of_fault}
 use Rattle.srm_lab.specs.Runs.{MayShareBag}
 use Rattle.srm_lab.specs.Sessions.{TellsFeed, ReadsToEnd, reading_failures, session_failures}
 

@@ -1,6 +1,6 @@
 //! The line of a refusal.
 ghost use Rattle.std.specs.Prelude.{◌≡◌, IfOk, string_bytes};
-ghost use Rattle.srm_lab.specs.Lines.{command_line, lab_line, line_of_fault, part_word, scenario_line};
+ghost use Rattle.srm_lab.specs.RefusalLines.{command_line, lab_line, line_of_fault, part_word, scenario_line};
 
 use crate::fault::{Fault, LabFault, LineFault};
 use srm_scenario::fault::{Part, ScenarioFault};

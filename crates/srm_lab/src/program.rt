@@ -4,7 +4,7 @@ ghost use Rattle.std.specs.Io.KnownBytes.{Consumes};
 ghost use Rattle.srm_scenario.specs.declared.bytes.TheConstants.{LONGEST_TEXT};
 ghost use Rattle.srm_lab.specs.declared.fault.LineFault.{LineFault};
 ghost use Rattle.srm_lab.specs.declared.options.Options.{Options};
-ghost use Rattle.srm_lab.specs.Lines.{line_of_fault};
+ghost use Rattle.srm_lab.specs.RefusalLines.{line_of_fault};
 ghost use Rattle.srm_lab.specs.Program.{device, full_line, status_of_fault, Answers, CarriesOut, MayBeAsked, TakesFaultLine, TakesLine};
 ghost use Rattle.srm_lab.specs.Sessions.{reading_failures, session_failures};
 

@@ -1,5 +1,5 @@
 use Rattle.std.proofs.Common.{◌≡◌, ◌∙◌, sym, inl, inr, codes}
-use Rattle.srm_lab.specs.Lines.{line_of_fault}
+use Rattle.srm_lab.specs.RefusalLines.{line_of_fault}
 use Rattle.srm_lab.proofs.CommandLines.{line_of_refused_words}
 use Rattle.srm_lab.proofs.program.tell.Goals as goal
 
