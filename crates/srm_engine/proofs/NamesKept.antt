@@ -27,7 +27,7 @@ use Rattle.srm_cell.specs.Cells.{PlainCell, opening_cell, hear_at, hear, Event, 
 use Rattle.srm_cell.specs.OwnRuns.{told_to}
 use Rattle.srm_engine.specs.World.{World, settled, opening, opening_cells, IsReached, exit_at}
 use Rattle.srm_engine.specs.Handed.{SentIn}
-use Rattle.srm_engine.specs.Names.{Draws, Drew, Carries, TellsOf, ToldOf, Got, Lost, Lacks, EndsWith, ExitsAreWhatRowsSay, RequestsAreForLosses, RepairsAreOfHeld}
+use Rattle.srm_engine.specs.HeldNames.{Draws, Drew, Carries, TellsOf, ToldOf, Got, Lost, Lacks, EndsWith, ExitsAreWhatRowsSay, RequestsAreForLosses, RepairsAreOfHeld}
 use Rattle.srm_engine.proofs.OneStep.{Takes, Sends, Answers, Leaves, Steps, StepFacts, same_some, each_after, run_keeps}
 use Rattle.srm_engine.proofs.TraceRows.{contains_none, contains_last, contains_cases, sent_more, sent_cases, IsSplit, split_cases}
 use Rattle.srm_engine.proofs.HandedOnce as handing

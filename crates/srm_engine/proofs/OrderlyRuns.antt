@@ -33,7 +33,7 @@ use Rattle.srm_cell.proofs.FitSettings.{settings_are_fit}
 use Rattle.srm_cell.proofs.Rising.{OnEvent, before_on}
 use Rattle.srm_engine.specs.World.{World, settled, opening, opening_cells, run, row_cmp, IsReached, IsOutcome}
 use Rattle.srm_engine.specs.Handed.{SentIn}
-use Rattle.srm_engine.specs.Names.{Drew, Carries, ToldOf, Lost, Lacks}
+use Rattle.srm_engine.specs.HeldNames.{Drew, Carries, ToldOf, Lost, Lacks}
 use Rattle.srm_engine.specs.Tables.{TracesAreOrderly}
 use Rattle.srm_engine.proofs.HandedOnce as handing
 use Rattle.srm_engine.proofs.HandedOnce.{EachCell, all_contained}

@@ -6,7 +6,7 @@ pub mod WindowChains
 pub mod WindowLaws
 pub mod Laws
 pub mod Handed
-pub mod Names
+pub mod HeldNames
 pub mod NextTimes
 pub mod OneLoss
 pub mod Seen

@@ -1,6 +1,6 @@
 //! The laws of names: members end with what their rows say, and ask and answer for names that they lack or have.
 ghost use Rattle.std.specs.Prelude.{◌≡◌, [], ◌∷◌};
-ghost use Rattle.srm_engine.specs.Names.{ExitsAreWhatRowsSay, RequestsAreForLosses, RepairsAreOfHeld};
+ghost use Rattle.srm_engine.specs.HeldNames.{ExitsAreWhatRowsSay, RequestsAreForLosses, RepairsAreOfHeld};
 ghost use Rattle.srm_engine.specs.OneLoss.{one_loss, handings, ends, first, second, an_exit};
 
 /// A member holds exactly the names that it drew or took in, each with the ink with which its source drew it, and lacks exactly
