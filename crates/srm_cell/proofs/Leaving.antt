@@ -13,7 +13,8 @@ use Rattle.srm_member.proofs.AllIn.{AllIn, AllIn-place}
 use Rattle.srm_member.proofs.OrderLemmas.{key_total, from_refl, nat_cmp_self}
 use Rattle.srm_cell.specs.declared.flight.Flight.{Flight}
 use Rattle.srm_cell.specs.Flights.{flight_cmp}
-use Rattle.srm_cell.specs.Setting.{is_up_to, HasOwnRanks, EndsAtLeave, cause_of_mark}
+use Rattle.srm_scenario.specs.Presence.{is_up_to}
+use Rattle.srm_cell.specs.Setting.{HasOwnRanks, EndsAtLeave, cause_of_mark}
 use Rattle.srm_cell.specs.Cells.{PlainCell, hear_at, Event, earlier, first_arrival, first_mark, next_event, before, Idle, Full, Spent, Done, Stepped, sending_step, handle, step_at, own_step, arrival_key, mark_key}
 use Rattle.srm_cell.specs.OwnRuns.{own_end}
 use Rattle.srm_cell.proofs.CellLemmas.{first_timer, next_event_is}

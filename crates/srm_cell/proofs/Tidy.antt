@@ -7,7 +7,8 @@ use Rattle.srm_cell.proofs.Rising.{Above, OnEvent, OnStep, earlier_on}
 use Rattle.srm_cell.specs.Cells.{arrival_key, mark_key, timer_key, Done, Event, Full, PlainCell, Stepped, by_key, earlier, first_arrival, first_mark, handle, hear, hear_at, next_event, sending_step, step_at}
 use Rattle.srm_cell.specs.Flights.{flight_cmp}
 use Rattle.srm_cell.specs.OwnRuns.{told_to}
-use Rattle.srm_cell.specs.Setting.{Traffic, arrival_of, is_up_to}
+use Rattle.srm_scenario.specs.Presence.{is_up_to}
+use Rattle.srm_cell.specs.Setting.{Traffic, arrival_of}
 use Rattle.srm_cell.specs.declared.flight.Flight.{Flight}
 use Rattle.srm_member.proofs.AllIn.{AllIn}
 use Rattle.srm_member.proofs.OrderLemmas.{From, from_greater, from_not_greater, from_trans, key_total, nat_cmp_self, not_greater, rises_place}

@@ -9,12 +9,14 @@ use Rattle.srm_net.specs.Paths as paths
 use Rattle.srm_scenario.specs.declared.mark.Mark.{Mark}
 use Rattle.srm_scenario.specs.declared.parts.MemberSpec.{MemberSpec}
 use Rattle.srm_scenario.specs.Plain.{PlainScenario, mark_cmp, script_of}
+use Rattle.srm_scenario.specs.Presence.{is_present}
 use Rattle.srm_member.specs.declared.cause.Cause.{Cause}
 use Rattle.srm_member.specs.declared.cause.Cause.TheVariants.{Join, Draw, Report}
 use Rattle.srm_member.specs.declared.fixed.Fixed.{Fixed}
 
 -- what becomes of packets. Events before `until` are handled. Of each member: when it joins and when it leaves. Of each two
--- members: how long a packet is on its way from the one to the other. Of each packet: whom it reaches, which links it crosses, and at which it is dropped
+-- members: how long a packet is on its way from the one to the other. Of each packet: whom it reaches, which links it
+-- crosses, and at which it is dropped
 pub record Traffic : Type 0 where
   pub until : ℕ
   pub members : ℕ
@@ -81,20 +83,12 @@ setting_of s net seed = record { traffic = traffic_of s net; fixed = fixed_of s 
 
 -- ---- flights
 
--- a member that leaves hears nothing after that
-abbrev pub is_up_to : ℕ → Option ℕ → Bool
-is_up_to at None = true
-is_up_to at (Some end) = nat_le at end
-
--- whether member m is present at this time, before the end of the run
-abbrev pub is_present : Traffic → ℕ → ℕ → Bool
-is_present t m at = nat_le (t.join m) at && (is_up_to at (t.leave m) && nat_lt at t.until)
-
 -- when member m is handed packet p, if it is: another member than the sender, that the packet reaches, and that is present
 abbrev pub arrival_of : Traffic → Packet → ℕ → Option ℕ
 arrival_of t p m =
     let at = p.sent + t.distance p.id.sender m in
-    if nat_lt m t.members && (not (m == p.id.sender) && (t.reaches p m && is_present t m at)) then Some at else None
+    if nat_lt m t.members && (not (m == p.id.sender)
+        && (t.reaches p m && is_present (t.join m) (t.leave m) t.until at)) then Some at else None
 
 -- ---- marks
 

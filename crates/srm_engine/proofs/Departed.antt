@@ -3,7 +3,8 @@ use Rattle.std.proofs.Common.{◌≡◌, ◌≢◌, ℕ, zero, suc, ◌<◌, ◌
 use Rattle.srm_net.specs.declared.packet.Packet.{Packet}
 use Rattle.srm_member.specs.declared.row.Row.{Row}
 use Rattle.srm_member.specs.Record.{Record, Active, Gone}
-use Rattle.srm_cell.specs.Setting.{Setting, IsFit, arrival_of, is_up_to}
+use Rattle.srm_scenario.specs.Presence.{is_up_to}
+use Rattle.srm_cell.specs.Setting.{Setting, IsFit, arrival_of}
 use Rattle.srm_cell.specs.Cells.{PlainCell, hear_at, hear, Event, next_event, before, Spent, Done, Stepped, step_at}
 use Rattle.srm_cell.specs.OwnRuns.{told_to}
 use Rattle.srm_cell.proofs.CellSteps.{SentBy, before_some}

@@ -11,7 +11,8 @@ use Rattle.srm_member.specs.declared.due.Due.{Due}
 use Rattle.srm_member.specs.Record.{Memory, Record, Active, Gone, due_of, exit_of}
 use Rattle.srm_member.specs.React.{Reaction, react}
 use Rattle.srm_cell.specs.declared.flight.Flight.{Flight}
-use Rattle.srm_cell.specs.Setting.{Setting, arrival_of, is_up_to, cause_of_mark}
+use Rattle.srm_scenario.specs.Presence.{is_up_to}
+use Rattle.srm_cell.specs.Setting.{Setting, arrival_of, cause_of_mark}
 use Rattle.srm_cell.specs.Cells.{PlainCell, Event, first_arrival, first_mark, next_timer, next_event, before, StepOutcome, Idle, Full, Spent, Done, Stepped, word_of, about_of, row_of, packet_of, sending_step, parting, handle, step_at}
 use Rattle.srm_cell.specs.OwnRuns.{told_to}
 use Rattle.srm_cell.proofs.Rising.{OnEvent, earlier_on, before_on, OnStep}

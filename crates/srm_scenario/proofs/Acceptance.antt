@@ -22,7 +22,8 @@ use Rattle.srm_scenario.specs.declared.parts.DrawSpec.{DrawSpec}
 use Rattle.srm_scenario.specs.declared.parts.MemberSpec.{MemberSpec}
 use Rattle.srm_scenario.specs.declared.parts.SessionSpec.{SessionSpec}
 use Rattle.srm_scenario.specs.Accepted.{IsMember, IsThere, IsDraw, IsSession, IsDrop, IsOutage, IsAccepted}
-use Rattle.srm_scenario.specs.Faults.{faults_by, fault_unless, stays_to, is_there, is_sender, is_late, is_listener, leaves_after, is_taken,
+use Rattle.srm_scenario.specs.Presence.{is_up_to}
+use Rattle.srm_scenario.specs.Faults.{faults_by, fault_unless, is_there, is_sender, is_late, is_listener, leaves_after, is_taken,
     fits_member, member_faults, if_member, fits_draw, fits_session, fits_drop, fits_outage, meaning_faults}
 use Rattle.srm_scenario.specs.Plain.{PlainScenario, network_of}
 use Rattle.srm_scenario.specs.Ranges.{MemberInRange, HasItsPages, InRange}
@@ -56,14 +57,14 @@ all_map P Q f (x ∷ xs) h = (f x h.0, all_map P Q f xs h.1)
 
 -- ---- draws, session messages, drops and outages
 
-stays : (at : ℕ) (o : Option ℕ) → stays_to at o ≡ true → (end : ℕ) → o ≡ Some end → at ≤ end
+stays : (at : ℕ) (o : Option ℕ) → is_up_to at o ≡ true → (end : ℕ) → o ≡ Some end → at ≤ end
 stays at None h end e = cc
 stays at (Some last) h end e = let same : last ≡ end = cc in grind (arith, nat_tests)
 
 there : (until at : ℕ) (k : MemberSpec) → is_there until at k ≡ true → IsThere until at k
 there until at k h =
-    let (joined, rest) = and_parts (nat_le k.join at) (stays_to at k.leave && nat_lt at until) h in
-    let (stay, early) = and_parts (stays_to at k.leave) (nat_lt at until) rest in
+    let (joined, rest) = and_parts (nat_le k.join at) (is_up_to at k.leave && nat_lt at until) h in
+    let (stay, early) = and_parts (is_up_to at k.leave) (nat_lt at until) rest in
     record {
       joined = grind (arith, nat_tests);
       stays = stays at k.leave stay;

@@ -22,6 +22,7 @@ use Rattle.srm_scenario.specs.declared.topology.Topology.TheVariants.{Star}
 use Rattle.srm_scenario.specs.Plain.{PlainScenario, network_of}
 use Rattle.srm_scenario.specs.Trees.{is_tree}
 use Rattle.srm_scenario.specs.Rules.{Rule, top_rules, link_rules, member_rules, draw_rules, session_rules, drop_rules, outage_rules, fits, fits_element}
+use Rattle.srm_scenario.specs.Presence.{is_present}
 use Rattle.srm_scenario.specs.Described.{version_of, member_of, says, array_at, table_of, elements_at, topology_of, listed_drops, described_scenario}
 
 -- one fault for each element that fails a test, at its place, the first element being at place i
@@ -66,12 +67,8 @@ element_faults p rules ds = faults_by (BadKey p) (fits_element rules) 0 ds
 -- ---- faults of meaning
 
 -- the member is there at this time, before the end of the run
-abbrev pub stays_to : ℕ → Option ℕ → Bool
-stays_to at None = true
-stays_to at (Some end) = nat_le at end
-
 abbrev pub is_there : ℕ → ℕ → MemberSpec → Bool
-is_there until at k = nat_le k.join at && (stays_to at k.leave && nat_lt at until)
+is_there until at k = is_present k.join k.leave until at
 
 abbrev pub is_sender : Role → Bool
 is_sender Sender = true

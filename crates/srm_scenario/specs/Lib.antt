@@ -4,6 +4,7 @@ pub mod Pages
 pub mod Rules
 pub mod Described
 pub mod Trees
+pub mod Presence
 pub mod Faults
 pub mod LookUps
 pub mod Feed
