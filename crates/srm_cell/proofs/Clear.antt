@@ -15,7 +15,8 @@ use Rattle.srm_member.proofs.Bounds.{draw_pos}
 use Rattle.srm_member.proofs.FewerTimers.{In, IsSound, SoundRecord, T_first, T_less, T_second, found, in_append, in_map, name_self, name_total, no_table}
 use Rattle.srm_member.proofs.LawProofs.{as_active}
 use Rattle.srm_member.proofs.OrderLemmas.{key_total, same_numbers}
-use Rattle.srm_member.specs.React.{Reaction, answering, answering_at, asking, asking_at, back_off, distance_to, is_listener, react, request_length, resting, without}
+use Rattle.srm_net.specs.Roles.{is_listener}
+use Rattle.srm_member.specs.React.{Reaction, answering, answering_at, asking, asking_at, back_off, distance_to, react, request_length, resting, without}
 use Rattle.srm_member.specs.declared.entries.Missing.{Missing}
 use Rattle.srm_member.specs.declared.entries.Repairing.{Repairing}
 use Rattle.srm_member.specs.Record.{Active, Gone, Memory, Record, timers, timers_of}

@@ -13,7 +13,8 @@ use Rattle.srm_cell.specs.OwnRuns.{own_end}
 use Rattle.srm_member.proofs.FewerTimers.{SoundRecord}
 use Rattle.srm_member.proofs.LawProofs.{as_listener, no_body, same_fixed}
 use Rattle.srm_member.proofs.OrderLemmas.{from_refl, key_total}
-use Rattle.srm_member.specs.React.{Reaction, is_listener, react}
+use Rattle.srm_net.specs.Roles.{is_listener}
+use Rattle.srm_member.specs.React.{Reaction, react}
 use Rattle.srm_member.specs.Record.{Active, Gone, Record}
 use Rattle.srm_member.specs.declared.cause.Cause.{Cause}
 use Rattle.srm_member.specs.declared.fixed.Fixed.{Fixed}

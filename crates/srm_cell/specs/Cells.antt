@@ -22,7 +22,8 @@ use Rattle.srm_member.specs.declared.due.Due.{Due}
 use Rattle.srm_member.specs.declared.exit.Exit.{Exit}
 use Rattle.srm_member.specs.declared.react.React.{React}
 use Rattle.srm_member.specs.Record.{Record, Active, Gone, opening_record, timers, due_of, exit_of, count_if, timers_at}
-use Rattle.srm_member.specs.React.{Reaction, is_listener, react}
+use Rattle.srm_net.specs.Roles.{is_listener}
+use Rattle.srm_member.specs.React.{Reaction, react}
 use Rattle.srm_cell.specs.declared.flight.Flight.{Flight}
 use Rattle.srm_cell.specs.Setting.{Traffic, Setting, arrival_of, cause_of_mark}
 use Rattle.srm_cell.specs.Flights.{flight_cmp}

@@ -14,7 +14,7 @@ use Rattle.srm_net.proofs.PathLaws.{host_below, hosts_apart, along_first}
 use Rattle.srm_scenario.specs.declared.parts.MemberSpec.{MemberSpec}
 use Rattle.srm_scenario.specs.Plain.{network_of}
 use Rattle.srm_member.specs.Record.{Record, Active, Gone, fixed_part}
-use Rattle.srm_member.specs.React.{is_listener}
+use Rattle.srm_net.specs.Roles.{is_listener}
 use Rattle.srm_member.proofs.AllIn.{AllIn}
 use Rattle.srm_member.proofs.FewerTimers.{In}
 use Rattle.srm_member.proofs.OrderLemmas.{key_total, from_refl}

@@ -19,7 +19,8 @@ use Rattle.srm_member.specs.declared.entries.Missing.{Missing}
 use Rattle.srm_member.specs.declared.entries.Repairing.{Repairing}
 use Rattle.srm_member.specs.Fit.{heard_of}
 use Rattle.srm_member.specs.Record.{Memory, Stream}
-use Rattle.srm_member.specs.React.{Reaction, quietly, has_entry, with_stream, meet, lose_one, lose_from, names_from, lose_below, lost_below, holding, mending, got, resting, got_repair, planning, asked_missing_at, asked_held, requested, page_heard, after_entry, lost_by_entry, informed, hear_body, asking_at, asking, answering_at, answering, own_page, own_stream, drawing, is_skip, is_sender, is_listener, react_active, listened, listen, react_listener, react}
+use Rattle.srm_net.specs.Roles.{is_sender, is_listener}
+use Rattle.srm_member.specs.React.{Reaction, quietly, has_entry, with_stream, meet, lose_one, lose_from, names_from, lose_below, lost_below, holding, mending, got, resting, got_repair, planning, asked_missing_at, asked_held, requested, page_heard, after_entry, lost_by_entry, informed, hear_body, asking_at, asking, answering_at, answering, own_page, own_stream, drawing, is_skip, react_active, listened, listen, react_listener, react}
 use Rattle.srm_member.proofs.AllIn.{AllIn, AllIn-append, AllIn-map}
 use Rattle.srm_member.proofs.Changes.{Below, Grows, Brings, from_page, effect}
 use Rattle.srm_engine.proofs.TraceRows.{contains_none}

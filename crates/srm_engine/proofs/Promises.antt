@@ -10,7 +10,7 @@ use Rattle.srm_net.specs.Least.{least, out as net_out}
 use Rattle.srm_scenario.specs.declared.parts.MemberSpec.{MemberSpec}
 use Rattle.srm_scenario.specs.Plain.{PlainScenario, network_of}
 use Rattle.srm_member.specs.Record.{fixed_part}
-use Rattle.srm_member.specs.React.{is_listener}
+use Rattle.srm_net.specs.Roles.{is_listener}
 use Rattle.srm_member.specs.declared.fixed.Fixed.{Fixed as FixedPart}
 use Rattle.srm_cell.specs.Setting.{Setting, setting_of, member_at, no_member}
 use Rattle.srm_cell.specs.Cells.{PlainCell, time_of, next_event}

@@ -5,8 +5,7 @@ use Rattle.srm_net.specs.declared.role.Role.TheVariants.{Sender, Receiver}
 use Rattle.srm_scenario.specs.declared.mark.Mark.{Mark}
 use Rattle.srm_member.specs.declared.exit.Exit.{Exit}
 use Rattle.srm_cell.specs.Setting.{Setting}
-use Rattle.srm_cell.specs.Cells.{Idle, Full, Spent, Done}
-use Rattle.srm_engine.specs.World.{World, step, opening, exits_of}
+use Rattle.srm_engine.specs.World.{World, last_world, opening, exits_of}
 use Rattle.srm_engine.specs.Handed.{handing_count}
 
 -- a mark of a script
@@ -42,11 +41,6 @@ one_loss until = record {
   };
   script = λ m. if m == 0 then mark 0 0 0 0 ∷ mark 0 4 0 7 ∷ mark 10 4 1 8 ∷ [] else mark 0 0 0 0 ∷ [];
 }
-
--- the last world of a run that ends within so many steps
-unfoldable pub last_world : Setting → ℕ → World → World
-last_world s zero w = w
-last_world s (suc n) w = elim (step s w) [ Idle ↦ w | Full ↦ w | Spent ↦ w | Done v ↦ last_world s n v ]
 
 -- how often the whole run hands each of these packets, of a sender and a count, to a member
 unfoldable pub handings : Setting → List (ℕ × ℕ × ℕ) → List ℕ

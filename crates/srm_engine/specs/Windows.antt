@@ -4,7 +4,7 @@ use Rattle.std.specs.List.{range_with_len}
 use Rattle.srm_net.specs.Network.{Network}
 use Rattle.srm_net.specs.Least.{least, least_delay}
 use Rattle.srm_member.specs.Record.{fixed_part}
-use Rattle.srm_member.specs.React.{is_listener}
+use Rattle.srm_net.specs.Roles.{is_listener}
 use Rattle.srm_cell.specs.Setting.{Setting}
 use Rattle.srm_cell.specs.Cells.{PlainCell, time_of, next_event, Done}
 use Rattle.srm_engine.specs.World.{World, least_event, run}

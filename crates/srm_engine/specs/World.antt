@@ -58,6 +58,11 @@ unfoldable pub run : Setting → ℕ → World → StepOutcome World
 run s zero w = Done w
 run s (suc n) w = elim (step s w) [ Idle ↦ Idle | Full ↦ Full | Spent ↦ Spent | Done v ↦ run s n v ]
 
+-- the last world of a run that ends within so many steps
+unfoldable pub last_world : Setting → ℕ → World → World
+last_world s zero w = w
+last_world s (suc n) w = elim (step s w) [ Idle ↦ w | Full ↦ w | Spent ↦ w | Done v ↦ last_world s n v ]
+
 -- the cells of n members from i on at the beginning
 unfoldable pub opening_cells : Setting → ℕ → ℕ → List PlainCell
 opening_cells s zero i = []

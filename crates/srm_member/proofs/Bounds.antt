@@ -14,7 +14,8 @@ use Rattle.srm_member.specs.declared.fixed.Fixed.{Fixed}
 use Rattle.srm_member.specs.declared.due.Due.{Due}
 use Rattle.srm_member.specs.Timers.{draw}
 use Rattle.srm_member.specs.Record.{Memory, timers_of, Missing, Repairing, Stream}
-use Rattle.srm_member.specs.React.{Reaction, quietly, sending, without, has_entry, request_length, repair_length, back_off, with_stream, meet, lose_one, lose_from, lose_below, holding, mending, got, resting, got_repair, planning, asked_missing_at, asked_held, requested, page_heard, after_entry, informed, hear_body, asking_at, asking, answering_at, answering, own_page, own_stream, drawn_on, drawing, is_skip, is_sender, is_listener, react_active, listened, listen, react_listener, react}
+use Rattle.srm_net.specs.Roles.{is_sender, is_listener}
+use Rattle.srm_member.specs.React.{Reaction, quietly, sending, without, has_entry, request_length, repair_length, back_off, with_stream, meet, lose_one, lose_from, lose_below, holding, mending, got, resting, got_repair, planning, asked_missing_at, asked_held, requested, page_heard, after_entry, informed, hear_body, asking_at, asking, answering_at, answering, own_page, own_stream, drawn_on, drawing, is_skip, react_active, listened, listen, react_listener, react}
 use Rattle.srm_member.proofs.AllIn.{AllIn, AllIn-append, AllIn-first, AllIn-second, AllIn-filter, AllIn-map, AllIn-unmap, AllIn-put}
 
 at_least_one : (x : ℕ) → 1 ≤ max 1 x

@@ -5,7 +5,8 @@ use Rattle.srm_member.specs.declared.told.Told.TheVariants.{Entered}
 use Rattle.srm_member.specs.declared.cause.Cause.{Cause}
 use Rattle.srm_member.specs.declared.react.React.{React}
 use Rattle.srm_member.specs.Record.{Memory, Record, Active}
-use Rattle.srm_member.specs.React.{react, react_active, react_listener, is_listener}
+use Rattle.srm_net.specs.Roles.{is_listener}
+use Rattle.srm_member.specs.React.{react, react_active, react_listener}
 use Rattle.srm_member.specs.Reacts.{Reacts}
 use Rattle.srm_member.specs.Fit.{Gives, record_of}
 

@@ -15,7 +15,8 @@ use Rattle.srm_member.specs.declared.cause.Cause.TheVariants.{Join, Arrival, Ask
 use Rattle.srm_member.specs.declared.told.Told.{Told}
 use Rattle.srm_member.specs.declared.told.Told.TheVariants.{Entered, Fresh, Fixed, Again, Skip, Rest, Busy, Plan, Hold, Back, Sent, Heard as Informed}
 use Rattle.srm_member.specs.Record.{Memory, Missing, Repairing, Stream}
-use Rattle.srm_member.specs.React.{Reaction, quietly, sending, without, has_entry, request_length, repair_length, back_off, is_late, wants, begins_at, with_stream, meet, lose_one, lose_from, names_from, lose_below, lost_below, holding, mending, got, resting, got_repair, planning, asked_missing_at, asked_missing, asked_held, requested, page_heard, after_entry, lost_by_entry, informed, hear_body, asking_at, asking, answering_at, answering, own_page, own_stream, drawn_on, drawing, session_of, is_skip, is_sender, is_listener, react_active, listened, listen, react_listener, react}
+use Rattle.srm_net.specs.Roles.{is_late, is_sender, is_listener}
+use Rattle.srm_member.specs.React.{Reaction, quietly, sending, without, has_entry, request_length, repair_length, back_off, wants, begins_at, with_stream, meet, lose_one, lose_from, names_from, lose_below, lost_below, holding, mending, got, resting, got_repair, planning, asked_missing_at, asked_missing, asked_held, requested, page_heard, after_entry, lost_by_entry, informed, hear_body, asking_at, asking, answering_at, answering, own_page, own_stream, drawn_on, drawing, session_of, is_skip, react_active, listened, listen, react_listener, react}
 use Rattle.srm_member.proofs.AllIn.{AllIn, AllIn-append}
 use Rattle.srm_member.proofs.TableChanges.{Has, names_apart, put_here, put_there, has_put, has_more, has_cases, without_less, without_there, sorted_put, sorted_without, has_some, page_here, page_cases}
 

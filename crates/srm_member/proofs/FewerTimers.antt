@@ -8,7 +8,8 @@ use Rattle.rand_pcg.specs.Pcg.{pcg32}
 use Rattle.srm_member.proofs.Bounds.{draw_pos, kept_memory}
 use Rattle.srm_member.proofs.LawProofs.{as_active, as_listener}
 use Rattle.srm_member.proofs.OrderLemmas.{nat_cmp_self}
-use Rattle.srm_member.specs.React.{Reaction, answering, answering_at, asking, asking_at, back_off, distance_to, is_listener, listen, listened, react, react_listener, request_length, resting, without}
+use Rattle.srm_net.specs.Roles.{is_listener}
+use Rattle.srm_member.specs.React.{Reaction, answering, answering_at, asking, asking_at, back_off, distance_to, listen, listened, react, react_listener, request_length, resting, without}
 use Rattle.srm_member.specs.Record.{Active, Gone, Memory, Missing, Record, Repairing, count_if, timers_at}
 use Rattle.srm_member.specs.Timers.{span}
 use Rattle.srm_member.specs.declared.cause.Cause.{Cause}

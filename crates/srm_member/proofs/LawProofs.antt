@@ -7,7 +7,8 @@ use Rattle.srm_member.specs.declared.cause.Cause.{Cause}
 use Rattle.srm_member.specs.declared.cause.Cause.TheVariants.{Join, Arrival, Ask, Answer, Draw, Report}
 use Rattle.srm_member.specs.declared.due.Due.{Due}
 use Rattle.srm_member.specs.Record.{Active, Gone, Memory, timers_of}
-use Rattle.srm_member.specs.React.{Reaction, is_listener, react_active, react_listener, listen, react}
+use Rattle.srm_net.specs.Roles.{is_listener}
+use Rattle.srm_member.specs.React.{Reaction, react_active, react_listener, listen, react}
 use Rattle.srm_member.specs.Laws.{FixedPartStays, TimersAreLater, ListenersSendNothing, AnswersAreOne}
 use Rattle.srm_member.proofs.AllIn.{AllIn, AllIn-places, AllIn-at_places}
 use Rattle.srm_member.proofs.Bounds.{kept_memory, kept_react}

@@ -9,8 +9,7 @@ use Rattle.srm_net.specs.declared.packet.PageId.{PageId}
 use Rattle.srm_net.specs.declared.packet.Heard.{Heard}
 use Rattle.srm_net.specs.declared.packet.Body.{Body}
 use Rattle.srm_net.specs.declared.packet.Body.TheVariants.{Drawop, Request, Repair, Session}
-use Rattle.srm_net.specs.declared.role.Role.{Role}
-use Rattle.srm_net.specs.declared.role.Role.TheVariants.{Sender, Late, Listener}
+use Rattle.srm_net.specs.Roles.{is_sender, is_late, is_listener}
 use Rattle.srm_net.specs.Names.{page_of, name_in, name_cmp, page_cmp}
 use Rattle.srm_member.specs.declared.cause.Cause.{Cause}
 use Rattle.srm_member.specs.declared.cause.Cause.TheVariants.{Join, Arrival, Ask, Answer, Draw, Report}
@@ -78,11 +77,6 @@ back_off at n e m =
 -- whether a page is one of those that a late member wants whole
 abbrev pub wants : Memory → ℕ → Bool
 wants m page = list_any (λ p. p == page) m.fixed.pages
-
--- a late joiner
-abbrev pub is_late : Role → Bool
-is_late Late = true
-is_late _ = false
 
 -- where a stream begins for this member. A late member does not ask for what came before on pages that it does not want
 abbrev pub begins_at : Memory → PageId → ℕ → ℕ
@@ -252,11 +246,6 @@ answering_at at n m (Some e) = sending (resting at n m.fixed.member m) (Repair n
 unfoldable pub answering : ℕ → Name → Memory → Reaction
 answering at n m = answering_at at n m (find name_cmp n m.repairs)
 
--- a sender
-abbrev pub is_sender : Role → Bool
-is_sender Sender = true
-is_sender _ = false
-
 -- a page of the member's own
 abbrev pub own_page : Memory → ℕ → PageId
 own_page m page = record { source = m.fixed.member; page = page }
@@ -311,11 +300,6 @@ react_listener m (Arrival k) = listen k.body m
 react_listener m _ = quietly m Skip []
 
 -- ---- both
-
--- a listener
-abbrev pub is_listener : Role → Bool
-is_listener Listener = true
-is_listener _ = false
 
 -- what a member answers to a cause at a time, and what it knows then
 unfoldable pub react : Memory → ℕ → Cause → Reaction

@@ -4,7 +4,8 @@ ghost use Rattle.srm_net.specs.Names;
 ghost use Rattle.srm_member.specs.Timers;
 ghost use Rattle.srm_member.specs.declared.told.Told.TheVariants.{Sent};
 ghost use Rattle.srm_member.specs.Record.{opening_memory, exit_of, earliest, timers_of};
-ghost use Rattle.srm_member.specs.React.{distance_to, length_in, with_next_word, request_length, repair_length, back_off, wants, is_late, begins_at, meet, lose_one, lose_from, lose_below, names_from, lost_below, got, base, resting, got_repair, planning, asked_missing, asked_held, requested, after_entry, lost_by_entry, informed, hear_body, asking, answering, own_stream, drawing, session_of, sending};
+ghost use Rattle.srm_net.specs.Roles.{is_late};
+ghost use Rattle.srm_member.specs.React.{distance_to, length_in, with_next_word, request_length, repair_length, back_off, wants, begins_at, meet, lose_one, lose_from, lose_below, names_from, lost_below, got, base, resting, got_repair, planning, asked_missing, asked_held, requested, after_entry, lost_by_entry, informed, hear_body, asking, answering, own_stream, drawing, session_of, sending};
 ghost use Rattle.srm_member.specs.Fit.{IsFit, Gives};
 
 use crate::due::Due;

@@ -34,7 +34,7 @@ pub struct Recovery {
 
 impl Model for Recovery {
     ghost use Rattle.std.specs.Prelude.{◌≡◌, false};
-    ghost use Rattle.srm_member.specs.React.{is_listener};
+    ghost use Rattle.srm_net.specs.Roles.{is_listener};
     ghost use Rattle.srm_member.specs.Record.{Record};
     ghost use Rattle.srm_member.specs.Fit.{record_of};
 

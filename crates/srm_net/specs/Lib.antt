@@ -1,6 +1,7 @@
 pub mod Orders
 pub mod Keys
 pub mod Names
+pub mod Roles
 pub mod Network
 pub mod Listed
 pub mod DropRules

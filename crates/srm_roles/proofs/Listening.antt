@@ -6,7 +6,8 @@ use Rattle.srm_member.specs.declared.told.Told.{Told}
 use Rattle.srm_member.specs.declared.fixed.Fixed.{Fixed}
 use Rattle.srm_member.specs.declared.react.React.{React}
 use Rattle.srm_member.specs.Record.{Memory, Record, Active}
-use Rattle.srm_member.specs.React.{quietly, react, react_active, react_listener, is_listener}
+use Rattle.srm_net.specs.Roles.{is_listener}
+use Rattle.srm_member.specs.React.{quietly, react, react_active, react_listener}
 use Rattle.srm_member.specs.Reacts.{Reacts}
 use Rattle.srm_member.specs.Fit.{record_of}
 use Rattle.srm_roles.specs.Opening.{listening}

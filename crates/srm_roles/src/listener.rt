@@ -34,7 +34,7 @@ pub struct Listener {
 
 impl Model for Listener {
     ghost use Rattle.std.specs.Prelude.{◌≡◌, true};
-    ghost use Rattle.srm_member.specs.React.{is_listener};
+    ghost use Rattle.srm_net.specs.Roles.{is_listener};
     ghost use Rattle.srm_member.specs.Record.{Record};
     ghost use Rattle.srm_member.specs.Fit.{record_of};
     ghost use Rattle.srm_roles.specs.Opening.{listening};

@@ -5,8 +5,7 @@ use Rattle.std.specs.Io.KnownBytes.{IsAtEnd}
 use Rattle.std.specs.Str.{is_utf8}
 use Rattle.toml.specs.Data.{Data, Members, get_member}
 use Rattle.toml.specs.Parse.{parse_document}
-use Rattle.srm_net.specs.declared.role.Role.{Role}
-use Rattle.srm_net.specs.declared.role.Role.TheVariants.{Sender, Late, Listener}
+use Rattle.srm_net.specs.Roles.{is_sender, is_late, is_listener}
 use Rattle.srm_net.specs.declared.link.DropSpec.{DropSpec}
 use Rattle.srm_net.specs.declared.link.OutageSpec.{OutageSpec}
 use Rattle.srm_scenario.specs.declared.fault.Part.{Part}
@@ -69,18 +68,6 @@ element_faults p rules ds = faults_by (BadKey p) (fits_element rules) 0 ds
 -- the member is there at this time, before the end of the run
 abbrev pub is_there : ℕ → ℕ → MemberSpec → Bool
 is_there until at k = is_present k.join k.leave until at
-
-abbrev pub is_sender : Role → Bool
-is_sender Sender = true
-is_sender r = false
-
-abbrev pub is_late : Role → Bool
-is_late Late = true
-is_late r = false
-
-abbrev pub is_listener : Role → Bool
-is_listener Listener = true
-is_listener r = false
 
 abbrev pub is_star : Option Topology → Bool
 is_star (Some Star) = true

@@ -13,7 +13,7 @@ use Rattle.srm_member.specs.declared.exit.Exit.{Exit}
 use Rattle.srm_cell.specs.Setting.{Setting, traffic_of, setting_of}
 use Rattle.srm_cell.specs.Cells.{Idle, Full, Spent, Done}
 use Rattle.srm_cell.specs.Crossings.{crossings}
-use Rattle.srm_engine.specs.World.{World, step, opening, exits_of}
+use Rattle.srm_engine.specs.World.{World, step, last_world, opening, exits_of}
 
 -- what an event is about, in short: nothing, a packet by its identity, or a name
 pub data Subject : Type 0 where
@@ -58,27 +58,22 @@ id_of (Some p) = Some p.id
 abbrev pub brief : Row → Brief
 brief r = handled r.key.time r.key.member r.cause (subject_of r.about) r.told (length r.lost) (id_of r.sent)
 
--- the world in which the sequential run ends, if it does within so many steps
-unfoldable pub ended : Setting → ℕ → World → World
-ended s zero w = w
-ended s (suc n) w = elim (step s w) [ Idle ↦ w | Full ↦ w | Spent ↦ w | Done v ↦ ended s n v ]
-
--- the last world of a scenario and a seed
-unfoldable pub last_world : PlainScenario → ℕ → World
-last_world p seed = let s = setting_of p (network_of p) seed in ended s 100 (opening s)
+-- the world in which the sequential run of a scenario and a seed ends, if it does within a hundred steps
+unfoldable pub world_at_end : PlainScenario → ℕ → World
+world_at_end p seed = let s = setting_of p (network_of p) seed in last_world s 100 (opening s)
 
 -- nothing is pending in it: the run is whole
 abbrev pub IsWhole : PlainScenario → ℕ → Type 0
-IsWhole p seed = step (setting_of p (network_of p) seed) (last_world p seed) ≡ Idle
+IsWhole p seed = step (setting_of p (network_of p) seed) (world_at_end p seed) ≡ Idle
 
 -- its trace, in short
 unfoldable pub whole_trace : PlainScenario → ℕ → List Brief
-whole_trace p seed = map brief (last_world p seed).trace
+whole_trace p seed = map brief (world_at_end p seed).trace
 
 -- the crossings of its trace
 unfoldable pub whole_totals : PlainScenario → ℕ → List ℕ
-whole_totals p seed = crossings (traffic_of p (network_of p)) (last_world p seed).trace
+whole_totals p seed = crossings (traffic_of p (network_of p)) (world_at_end p seed).trace
 
 -- what its members end with
 unfoldable pub whole_exits : PlainScenario → ℕ → List Exit
-whole_exits p seed = exits_of (last_world p seed)
+whole_exits p seed = exits_of (world_at_end p seed)

@@ -1,8 +1,8 @@
 use Rattle.std.proofs.Common.{refl}
 use Rattle.srm_member.specs.React.{react, drawing, answering, asking, informed, after_entry, requested, got, lose_below, lose_from}
 use Rattle.srm_cell.specs.Cells.{own_step, handle, next_event, hear}
-use Rattle.srm_engine.specs.World.{run, opening, opening_cells, step_to, step_of, least_event, after_step, settled}
-use Rattle.srm_engine.specs.OneLoss.{last_world, handings, ends}
+use Rattle.srm_engine.specs.World.{last_world, run, opening, opening_cells, step_to, step_of, least_event, after_step, settled}
+use Rattle.srm_engine.specs.OneLoss.{handings, ends}
 use Rattle.srm_engine.proofs.laws_of_names.a_loss_is_repaired.Goals as goal
 
 pub returns-clause-handed : goal.returns-clause-handed
