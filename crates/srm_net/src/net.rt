@@ -239,6 +239,7 @@ impl Net {
         requires sent { sent < 2 ^ 40 }
         requires sender { id.sender < length self.now.hosts }
         ensures spread { IfOk result (IsSpread self.now drops.now id sent) }
+        ensures fits { IfOk result (FitsIn self.now) }
         ensures asked { IfErr result (λ _. may_drop drops.now id sent ≡ true) }
     {
         let nodes = self.tree.nodes();
