@@ -1,52 +1,32 @@
 //! Counting a packet's crossings.
 ghost use Rattle.std.specs.Prelude.{◌≡◌, ◌<◌, ◌+◌, ◌*◌, ◌^◌, ◌∷◌, [], length};
-ghost use Rattle.srm_net.specs.Paths.{crosses, drops_at};
 ghost use Rattle.srm_net.specs.Fates.{is_crossing, is_dropping};
-ghost use Rattle.srm_net.specs.DropRules.{may_drop};
+ghost use Rattle.srm_net.specs.Spreads.{IsSpread};
+ghost use Rattle.srm_scenario.specs.Plain.{PlainScenario};
 ghost use Rattle.srm_cell.specs.Setting.{traffic_of};
 ghost use Rattle.srm_cell.specs.Totalled.{MayCount, CountsBesides, crossing_kind, with_fate};
 ghost use Rattle.srm_ledger.specs.Counts.{number_at};
 
 use srm_ledger::kind::Kind;
 use srm_ledger::totals::Totals;
-use srm_net::drops::Drops;
 use srm_net::fate::Fate;
 use srm_net::net::Net;
 use srm_net::packet::{Body, Packet};
-use srm_scenario::scenario::Scenario;
+use srm_net::spread::Spread;
 
-/// Counts a packet at each link that it crosses, and at each that drops it.
-pub fn count(totals: &mut Totals, scenario: &Scenario, net: &Net, packet: &Packet)
-    requires sent { packet.now.sent < 2 ^ 40 }
+/// Counts a packet, of which this is the spread, at each link that it crosses, and at each that drops it.
+pub fn count(totals: &mut Totals, net: &Net, spread: &Spread, packet: &Packet)
     requires sender { packet.now.id.sender < length net.now.hosts }
-    requires room { MayCount (traffic_of scenario.now net.now) 1 totals.old }
-    ensures { CountsBesides (traffic_of scenario.now net.now) (packet.now ∷ []) totals.old totals.new }
+    requires room { (s : PlainScenario) × IsSpread net.now s.drops packet.now.id packet.now.sent spread.now
+        × MayCount (traffic_of s net.now) 1 totals.old }
+    ensures { (s : PlainScenario) → IsSpread net.now s.drops packet.now.id packet.now.sent spread.now
+        → CountsBesides (traffic_of s net.now) (packet.now ∷ []) totals.old totals.new }
 {
-    let drops = scenario.drops();
-    let may_be_dropped = drops.may_drop(packet.id);
     let kind = kind_of(&packet.body);
     let links = net.links().len() as u16;
     for link in 0..links {
-        let fate = fate(net, drops, may_be_dropped, packet, link);
+        let fate = net.fate_in(spread, link);
         count_at(totals, link, kind, fate);
-    }
-}
-
-// What becomes of a packet at a link, by one walk; for a packet that may not be dropped at all it takes none.
-fn fate(net: &Net, drops: &Drops, may_be_dropped: bool, packet: &Packet, link: u16) -> Fate
-    requires sent { packet.now.sent < 2 ^ 40 }
-    requires sender { packet.now.id.sender < length net.now.hosts }
-    requires link { link < length net.now.links }
-    requires dropped { may_be_dropped ≡ may_drop drops.now packet.now.id }
-    ensures crosses { is_crossing result ≡ crosses net.now drops.now packet.now.id packet.now.sent link }
-    ensures dropped { is_dropping result ≡ drops_at net.now drops.now packet.now.id packet.now.sent link }
-{
-    if may_be_dropped {
-        net.fate(drops, packet.id, packet.sent, link)
-    } else if net.is_on_way(packet.id.sender, link) {
-        Fate::Crosses
-    } else {
-        Fate::Neither
     }
 }
 

@@ -62,11 +62,12 @@ impl Crossings {
         requires room { MayCount (traffic_of scenario.now net.now) 1 self.old }
         ensures { IfOk result (λ _. Counts scenario.now net.now (packet.now ∷ []) self.old self.new) }
     {
+        let spread = net.spread(alloc, scenario.drops(), packet.id, packet.sent)?;
         let mut totals = match self.counted.take() {
             Some(totals) => totals,
             None => Totals::new(alloc, self.links)?,
         };
-        count(&mut totals, scenario, net, packet);
+        count(&mut totals, net, &spread, packet);
         self.counted = Some(totals);
         Ok(())
     }

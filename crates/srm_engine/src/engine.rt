@@ -1,5 +1,6 @@
 //! The sequential engine.
 ghost use Rattle.std.specs.Prelude.{◌≡◌, ◌<◌, ◌+◌, ◌-◌, ◌^◌, ℕ, IfOk, map};
+ghost use Rattle.srm_net.specs.Spreads.{IsSpread};
 ghost use Rattle.srm_scenario.specs.Plain.{network_of};
 ghost use Rattle.srm_engine.specs.Openings.{HoldOpeningRecords};
 ghost use Rattle.srm_engine.specs.Outcomes.{Runs};
@@ -18,6 +19,7 @@ use srm_member::member::Member;
 use srm_member::row::Row;
 use srm_net::net::Net;
 use srm_net::packet::Packet;
+use srm_net::spread::Spread;
 use srm_scenario::scenario::Scenario;
 use std::alloc::{AllocError, Global};
 
@@ -151,14 +153,14 @@ impl<'a> Engine<'a> {
             Ok(None) => return Ok(None),
             Err(fault) => return Err(run_fault(fault)),
         };
-        match self.send(&row) {
+        match self.send(alloc, &row) {
             Ok(()) => Ok(Some(row)),
             Err(AllocError) => Err(RunFault::NoMemory),
         }
     }
 
     // Counts and hands out the packet that a row sent, if any.
-    fn send(&mut self, row: &Row) -> Result<(), AllocError>
+    fn send(&mut self, alloc: Global, row: &Row) -> Result<(), AllocError>
         requires network { IsSetUp self.old }
         requires may { MaySendNow (λ b. plain (b.vtable, b.value)) self.old row.now.sent }
         ensures same { IsStillOf self.old self.new }
@@ -167,22 +169,25 @@ impl<'a> Engine<'a> {
         let Some(packet) = &row.sent else {
             return Ok(());
         };
-        count(&mut self.totals, self.scenario, self.net, packet);
-        self.deliver(packet)?;
+        let spread = self
+            .net
+            .spread(alloc, self.scenario.drops(), packet.id, packet.sent)?;
+        count(&mut self.totals, self.net, &spread, packet);
+        self.deliver(packet, &spread)?;
         Ok(())
     }
 
-    // Every member to which a packet has a flight is handed it.
-    fn deliver(&mut self, packet: &Packet) -> Result<(), AllocError>
+    // Every member to which a packet, of which this is the spread, has a flight is handed it.
+    fn deliver(&mut self, packet: &Packet, spread: &Spread) -> Result<(), AllocError>
         requires network { IsSetUp self.old }
+        requires spread { IsSpread self.old.net.now self.old.scenario.now.drops packet.now.id packet.now.sent spread.now }
         requires may { MayDeliver (λ b. plain (b.vtable, b.value)) packet.now self.old }
         ensures same { IsStillOf self.old self.new }
         ensures totals { self.new.totals ≡ self.old.totals }
         ensures heard { IfOk result (λ _. Delivers (λ b. plain (b.vtable, b.value)) packet.now self.old self.new) }
     {
-        let may_be_dropped = self.scenario.drops().may_drop(packet.id);
         for member in 0..self.scenario.members() {
-            if let Some(at) = arrival(self.scenario, self.net, packet, may_be_dropped, member) {
+            if let Some(at) = arrival(self.scenario, self.net, packet, spread, member) {
                 self.cells.hand(member, packet, at)?;
             }
         }

@@ -13,7 +13,7 @@ use srm_member::row::Row;
 use srm_net::net::Net;
 use srm_net::packet::Packet;
 use srm_scenario::scenario::Scenario;
-use std::alloc::AllocError;
+use std::alloc::{AllocError, Global};
 
 // A member, whose own packets have this way before them, is handed a packet, which arrives at tick `at`.
 fn hand(
@@ -48,6 +48,7 @@ fn hand(
 
 // Every member to which a packet has a flight is handed it.
 fn deliver(
+    alloc: Global,
     scenario: &Scenario,
     net: &Net,
     cells: &mut Grouped,
@@ -62,9 +63,9 @@ fn deliver(
     ensures heard { IfOk result (λ _. (seed : ℕ) → DeliversIn (λ b. (⟦<dyn Member as Member>⟧ b.vtable).plain b.value)
         (setting_of scenario.now net.now seed) cut packet.now cells.old cells.new) }
 {
-    let may_be_dropped = scenario.drops().may_drop(packet.id);
+    let spread = net.spread(alloc, scenario.drops(), packet.id, packet.sent)?;
     for member in 0..scenario.members() {
-        if let Some(at) = arrival(scenario, net, packet, may_be_dropped, member) {
+        if let Some(at) = arrival(scenario, net, packet, &spread, member) {
             let way = way(scenario, net, member);
             hand(cells, cut, member, way, packet, at)?;
         }
@@ -74,6 +75,7 @@ fn deliver(
 
 /// Every member hears the packets of the rows, one after the other.
 pub(crate) fn hear(
+    alloc: Global,
     scenario: &Scenario,
     net: &Net,
     cells: &mut Grouped,
@@ -91,7 +93,7 @@ pub(crate) fn hear(
 {
     for row in rows {
         if let Some(packet) = &row.sent {
-            deliver(scenario, net, cells, cut, packet)?;
+            deliver(alloc, scenario, net, cells, cut, packet)?;
         }
     }
     Ok(())

@@ -155,7 +155,7 @@ pub(crate) fn window<C: Crew>(
         return Err(RunFault::NoMemory);
     };
     let mut cells = cells;
-    let Ok(()) = hear(scenario, net, &mut cells, cut, rows.as_slice()) else {
+    let Ok(()) = hear(alloc, scenario, net, &mut cells, cut, rows.as_slice()) else {
         return Err(RunFault::NoMemory);
     };
     Ok((cells, rows))

@@ -126,7 +126,7 @@ listed_contains (e ∷ ds) d (suc k, lt, q) = or_right _ _ (listed_contains ds d
 
 -- ---- one more entry
 
-any_push : {A : Type 0} (f : A → Bool) (xs : List A) (x : A) → list_any f (xs ++ x ∷ []) ≡ cond (f x) true (list_any f xs)
+pub any_push : {A : Type 0} (f : A → Bool) (xs : List A) (x : A) → list_any f (xs ++ x ∷ []) ≡ cond (f x) true (list_any f xs)
 any_push f [] x = elim (f x) as (λ b. (b || false) ≡ cond b true false) [ true ↦ refl | false ↦ refl ]
 any_push f (y ∷ ys) x = ap (λ t. f y || t) (any_push f ys x) ∙ turn (f y) (f x) (list_any f ys)
   where

@@ -1,49 +1,79 @@
 -- What becomes of packets that are not dropped, and which links are on members' ways.
-use Rattle.std.proofs.Common.{◌≡◌, ℕ, ◌+◌, ◌==◌, ◌<◌, ◌≤◌, Bool, true, false, cond, not, ◌&&◌, ◌||◌, List, [], ◌∷◌, length, Some, refl, sym, ap, ◌∙◌, arith, slice_get, nat_lt}
+use Rattle.std.proofs.Common.{◌≡◌, ℕ, ◌+◌, ◌==◌, ◌<◌, ◌≤◌, Bool, true, false, cond, not, ◌&&◌, ◌||◌, List, [], ◌∷◌, length, Some, refl, sym, ap, ◌∙◌, arith, slice_get, nat_lt, nat_le}
 use Rattle.std.specs.List.{list_any}
-use Rattle.std.proofs.lemmas.Bool.{ltb-false, or_parts, or_from}
+use Rattle.std.proofs.lemmas.Bool.{false_from_ne_true, ltb-true, ltb-false, and_parts, or_parts, or_from}
 use Rattle.srm_net.specs.declared.link.LinkSpec.{LinkSpec}
 use Rattle.srm_net.specs.declared.link.DropSpec.{DropSpec}
 use Rattle.srm_net.specs.declared.link.OutageSpec.{OutageSpec}
 use Rattle.srm_net.specs.declared.packet.PacketId.{PacketId}
 use Rattle.srm_net.specs.Network.{Network, IsNetwork}
-use Rattle.srm_net.specs.Paths.{is_in, host, delay_of, end_of, member_route, is_listed, Stop, stops, takes_out, member_stops, crossed_on, dropped_on, reaches, crosses, drops_at}
-use Rattle.srm_net.specs.DropRules.{DropRules, is_out, may_drop}
+use Rattle.srm_net.specs.Paths.{is_in, host, delay_of, end_of, member_route, is_listed, Stop, stop, stops, takes_out, member_stops, crossed_on, dropped_on, reaches, crosses, drops_at}
+use Rattle.srm_net.specs.DropRules.{DropRules, is_out, some_ends_after, may_drop}
 use Rattle.srm_net.specs.Listed.{is_listed_somewhere}
 use Rattle.srm_net.specs.Tables.{some_beyond}
 use Rattle.srm_net.specs.Fates.{is_on_way}
 use Rattle.srm_net.specs.Laws.{UnlistedReachesAll, UnlistedCrossesItsWays, UnlistedIsNowhereDropped, WithoutOutagesReaches, WithoutOutagesAtAnyTime}
 use Rattle.srm_net.proofs.Lists.{below_get}
 use Rattle.srm_net.proofs.DropLemmas.{nowhere_listed}
-use Rattle.srm_net.proofs.PathLaws.{LinkOf, host_below, any_none, on_route, some_same, none_below, stops_in, dropped_nowhere, crossed_where_stops}
+use Rattle.srm_net.proofs.PathLaws.{LinkOf, host_below, on_route, some_same, none_below}
 
 -- ---- a packet that is not dropped
 
-none_out : (os : List OutageSpec) (l t : ℕ) → nat_lt 0 (length os) ≡ false → is_out os l t ≡ false
-none_out [] l t h = refl
-none_out (o ∷ os) l t h = absurd (let k : length (o ∷ os) ≤ 0 = ltb-false 0 (length (o ∷ os)) h in omega arith)
+-- an outage that ends at a tick or before is not on at it or later
+off_later : (o : OutageSpec) (sent l t : ℕ) → nat_lt sent o.to ≡ false → sent ≤ t → ((o.link == l) && (nat_le o.from t && nat_lt t o.to)) ≡ false
+off_later o sent l t h k =
+    false_from_ne_true ((o.link == l) && (nat_le o.from t && nat_lt t o.to)) (λ e.
+    let p = and_parts (o.link == l) (nat_le o.from t && nat_lt t o.to) e in
+    let q = and_parts (nat_le o.from t) (nat_lt t o.to) p.1 in
+    let on : t < o.to = ltb-true t o.to q.1 in
+    let over : o.to ≤ sent = ltb-false sent o.to h in
+    omega arith)
 
--- nothing takes it out
-pub spared : (rules : DropRules) (p : PacketId) → may_drop rules p ≡ false → (s : Stop) → takes_out rules p s ≡ false
-spared rules p h s =
-    let n = or_parts (is_listed_somewhere rules.listed p) (nat_lt 0 (length rules.outages)) h in
-    or_from (is_listed rules.listed p s.link) (is_out rules.outages s.link s.at) (nowhere_listed rules.listed p s.link n.0) (none_out rules.outages s.link s.at n.1)
+none_out : (os : List OutageSpec) (sent l t : ℕ) → some_ends_after os sent ≡ false → sent ≤ t → is_out os l t ≡ false
+none_out [] sent l t h k = refl
+none_out (o ∷ os) sent l t h k =
+    let p = or_parts (nat_lt sent o.to) (some_ends_after os sent) h in
+    or_from ((o.link == l) && (nat_le o.from t && nat_lt t o.to)) (is_out os l t) (off_later o sent l t p.0 k) (none_out os sent l t p.1 k)
+
+-- nothing takes it out at its sending or later
+pub spared : (rules : DropRules) (p : PacketId) (sent : ℕ) → may_drop rules p sent ≡ false → (s : Stop) → sent ≤ s.at → takes_out rules p s ≡ false
+spared rules p sent h s k =
+    let n = or_parts (is_listed_somewhere rules.listed p) (some_ends_after rules.outages sent) h in
+    or_from (is_listed rules.listed p s.link) (is_out rules.outages s.link s.at) (nowhere_listed rules.listed p s.link n.0) (none_out rules.outages sent s.link s.at n.1 k)
+
+module _ (f : Stop → Bool) (sent : ℕ) (h : (s : Stop) → sent ≤ s.at → f s ≡ false) (links : List LinkSpec) where
+  pub none_stops : (u t : ℕ) (ls : List ℕ) → sent ≤ t → list_any f (stops links u t ls) ≡ false
+  none_stops u t [] k = refl
+  none_stops u t (l ∷ ls) k =
+      or_from (f (stop l t)) (list_any f (stops links (end_of u (slice_get links l)) (t + delay_of u (slice_get links l)) ls)) (h (stop l t) k)
+      (none_stops (end_of u (slice_get links l)) (t + delay_of u (slice_get links l)) ls (omega arith))
+
+  crossed_all : (u t : ℕ) (ls : List ℕ) (l : ℕ) → sent ≤ t → crossed_on f (stops links u t ls) l ≡ is_in ls l
+  crossed_all u t [] l k = refl
+  crossed_all u t (m ∷ ls) l k =
+      rw (h (stop m t) k) (ap (λ b. (m == l) || b) (crossed_all (end_of u (slice_get links m)) (t + delay_of u (slice_get links m)) ls l (omega arith)))
+
+  dropped_never : (u t : ℕ) (ls : List ℕ) (l : ℕ) → sent ≤ t → dropped_on f (stops links u t ls) l ≡ false
+  dropped_never u t [] l k = refl
+  dropped_never u t (m ∷ ls) l k =
+      rw (h (stop m t) k) (dropped_never (end_of u (slice_get links m)) (t + delay_of u (slice_get links m)) ls l (omega arith))
 
 pub unlisted_reaches_all : UnlistedReachesAll
 unfolding reaches
-unlisted_reaches_all w rules p h sent m = ap not (any_none (takes_out rules p) (member_stops w p.sender sent m) (spared rules p h))
+unlisted_reaches_all w rules p sent h m =
+    ap not (none_stops (takes_out rules p) sent (spared rules p sent h) w.links (host w p.sender) sent (member_route w p.sender m) (omega arith))
 
 pub unlisted_crosses_its_ways : UnlistedCrossesItsWays
 unfolding crosses is_on_way
-unlisted_crosses_its_ways w rules p h sent l =
+unlisted_crosses_its_ways w rules p sent h l =
     some_same (λ m. crossed_on (takes_out rules p) (member_stops w p.sender sent m) l) (λ m. is_in (member_route w p.sender m) l) (length w.hosts)
-    (λ m _. crossed_where_stops (takes_out rules p) (spared rules p h) (member_stops w p.sender sent m) l ∙ stops_in w.links (host w p.sender) sent (member_route w p.sender m) l)
+    (λ m _. crossed_all (takes_out rules p) sent (spared rules p sent h) w.links (host w p.sender) sent (member_route w p.sender m) l (omega arith))
 
 pub unlisted_is_nowhere_dropped : UnlistedIsNowhereDropped
 unfolding drops_at
-unlisted_is_nowhere_dropped w rules p h sent l =
+unlisted_is_nowhere_dropped w rules p sent h l =
     none_below (λ m. dropped_on (takes_out rules p) (member_stops w p.sender sent m) l) (length w.hosts)
-    (λ m. dropped_nowhere (takes_out rules p) (spared rules p h) (member_stops w p.sender sent m) l)
+    (λ m. dropped_never (takes_out rules p) sent (spared rules p sent h) w.links (host w p.sender) sent (member_route w p.sender m) l (omega arith))
 
 -- ---- without outages
 

@@ -16,3 +16,4 @@ pub mod Parents
 pub mod FateLemmas
 pub mod OutageLemmas
 pub mod OnePaths
+pub mod SpreadLemmas

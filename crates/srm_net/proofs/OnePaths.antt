@@ -16,7 +16,7 @@ use Rattle.srm_net.proofs.Walks.{walk_first, flips}
 
 -- ---- in a tree
 
-joins_others : (w : Network) → IsTree w → (l : ℕ) (k : LinkSpec) → slice_get w.links l ≡ Some k → k.a ≢ k.b
+pub joins_others : (w : Network) → IsTree w → (l : ℕ) (k : LinkSpec) → slice_get w.links l ≡ Some k → k.a ≢ k.b
 joins_others w t l k g e =
     let cut = tree_cuts w t l in
     let over : cut.0 k.b ≡ not (cut.0 k.a) = cut.1 l k k.a k.b g (inl (refl, refl)) ∙ ap (λ b. cond b (not (cut.0 k.a)) (cut.0 k.a)) (eq-eqb l l refl) in
@@ -74,7 +74,7 @@ walk_unlooped links l k h u (m ∷ ls) v ns w a =
     ((w.0, w.1, w.2, sym (get_set_other links l m (loop_of k) (λ e. other (sym e))) ∙ w.3, w.4, w.5, rest.0), not_in_cons m l ls other rest.1)
 
 -- the path over one link
-link_path : (links : List LinkSpec) (l : ℕ) (k : LinkSpec) → slice_get links l ≡ Some k → k.a ≢ k.b → IsPath links k.a (l ∷ []) k.b
+pub link_path : (links : List LinkSpec) (l : ℕ) (k : LinkSpec) → slice_get links l ≡ Some k → k.a ≢ k.b → IsPath links k.a (l ∷ []) k.b
 link_path links l k g d = (
   k.a ∷ k.b ∷ [],
   (k, k.b, k.b ∷ [], g, inl (refl, refl), refl, (refl, refl)),

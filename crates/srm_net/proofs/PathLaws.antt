@@ -1,7 +1,7 @@
 -- Members' ways: their delays, and what crosses and is dropped on them.
 use Rattle.std.proofs.Common.{◌≡◌, ◌≢◌, ℕ, zero, suc, ◌+◌, ◌*◌, ◌<◌, ◌≤◌, Bool, true, false, not, cond, ◌&&◌, ◌||◌, List, [], ◌∷◌, ◌++◌, length, Some, refl, sym, ap, ◌∙◌, subst, inl, inr, arith, eqb, ◌==◌, eq-eqb, eqb-true, slice_get, slice_index, All, unwrap_or}
 use Rattle.std.specs.List.{list_any}
-use Rattle.std.proofs.lemmas.Bool.{eqb-false, cases_Bool, both_ways, false≢true, or_from, or_parts}
+use Rattle.std.proofs.lemmas.Bool.{eqb-false, cases_Bool, both_ways, false≢true, or_parts}
 use Rattle.srm_net.specs.declared.link.LinkSpec.{LinkSpec}
 use Rattle.srm_net.specs.declared.packet.PacketId.{PacketId}
 use Rattle.srm_net.specs.Network.{Network, Joins, IsWalk, IsWithin, IsTree, IsLinkDelay, HasDelays, IsNetwork}
@@ -119,10 +119,6 @@ nowhere_within (suc n) links u = rw (eq-eqb u u refl) refl
 pub route_nowhere : (w : Network) (u : ℕ) → route w u u ≡ []
 unfolding route
 route_nowhere w u = nowhere_within (length w.links) w.links u
-
-pub any_none : {A : Type 0} (f : A → Bool) (ls : List A) → ((l : A) → f l ≡ false) → list_any f ls ≡ false
-any_none f [] h = refl
-any_none f (l ∷ ls) h = or_from _ _ (h l) (any_none f ls h)
 
 -- a route from an end of a link takes that link first or not at all
 pub first_or_never : (w : Network) → IsTree w → (u v : ℕ) → u < w.nodes → v < w.nodes → (l f y : ℕ) (k : LinkSpec) (rest : List ℕ) → slice_get w.links l ≡ Some k → Joins k u y → route w u v ≡ f ∷ rest → is_in (route w u v) l ≡ (eqb f l)
@@ -446,11 +442,3 @@ module _ (w : Network) (n : IsNetwork w) (l : ℕ) (k : LinkSpec) (g : slice_get
 pub none_below : (f : ℕ → Bool) (n : ℕ) → ((m : ℕ) → f m ≡ false) → some_below f n ≡ false
 none_below f zero h = refl
 none_below f (suc n) h = rw (h n) (none_below f n h)
-
-pub dropped_nowhere : (f : Stop → Bool) → ((s : Stop) → f s ≡ false) → (ss : List Stop) (l : ℕ) → dropped_on f ss l ≡ false
-dropped_nowhere f h [] l = refl
-dropped_nowhere f h (s ∷ ss) l = rw (h s) (dropped_nowhere f h ss l)
-
-pub crossed_where_stops : (f : Stop → Bool) → ((s : Stop) → f s ≡ false) → (ss : List Stop) (l : ℕ) → crossed_on f ss l ≡ stops_at ss l
-crossed_where_stops f h [] l = refl
-crossed_where_stops f h (s ∷ ss) l = rw (h s) (ap (λ b. (s.link == l) || b) (crossed_where_stops f h ss l))

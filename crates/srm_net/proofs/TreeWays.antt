@@ -29,7 +29,7 @@ pub record IsWay (links : List LinkSpec) (inside : List ℕ) (u x delay first : 
 
 -- ---- a walk and one link more
 
-walk_push : (links : List LinkSpec) (u : ℕ) (ls : List ℕ) (p : ℕ) (ns : List ℕ) (l : ℕ) (k : LinkSpec) (v : ℕ) → IsWalk links u ls p ns → slice_get links l ≡ Some k → Joins k p v → IsWalk links u (ls ++ l ∷ []) v (ns ++ v ∷ [])
+pub walk_push : (links : List LinkSpec) (u : ℕ) (ls : List ℕ) (p : ℕ) (ns : List ℕ) (l : ℕ) (k : LinkSpec) (v : ℕ) → IsWalk links u ls p ns → slice_get links l ≡ Some k → Joins k p v → IsWalk links u (ls ++ l ∷ []) v (ns ++ v ∷ [])
 walk_push links u [] p ns l k v w g j =
     (k, v, v ∷ [], g, subst (λ t. Joins k t v) (sym w.0) j, ap (λ t. t ++ v ∷ []) w.1, (refl, refl))
 walk_push links u (m ∷ ls) p ns l k v w g j =

@@ -83,23 +83,23 @@ OutOfTheOnlyOne = (w : Network) (m : ℕ) → out w m ≡ None → (b : ℕ) →
 abbrev pub ReachesItsSender : Type 0
 ReachesItsSender = (w : Network) (rules : DropRules) (p : PacketId) (sent : ℕ) → reaches w rules p sent p.sender ≡ true
 
--- a packet that no link is listed for, where there are no outages, reaches every member
+-- a packet that no link is listed for, and that is sent when no outage is yet to end, reaches every member
 abbrev pub UnlistedReachesAll : Type 0
 UnlistedReachesAll =
-    (w : Network) (rules : DropRules) (p : PacketId) → may_drop rules p ≡ false
-    → (sent m : ℕ) → reaches w rules p sent m ≡ true
+    (w : Network) (rules : DropRules) (p : PacketId) (sent : ℕ) → may_drop rules p sent ≡ false
+    → (m : ℕ) → reaches w rules p sent m ≡ true
 
 -- it crosses the links on the ways from its sender to members, and no other
 abbrev pub UnlistedCrossesItsWays : Type 0
 UnlistedCrossesItsWays =
-    (w : Network) (rules : DropRules) (p : PacketId) → may_drop rules p ≡ false
-    → (sent l : ℕ) → crosses w rules p sent l ≡ is_on_way w p.sender l
+    (w : Network) (rules : DropRules) (p : PacketId) (sent : ℕ) → may_drop rules p sent ≡ false
+    → (l : ℕ) → crosses w rules p sent l ≡ is_on_way w p.sender l
 
 -- and is dropped nowhere
 abbrev pub UnlistedIsNowhereDropped : Type 0
 UnlistedIsNowhereDropped =
-    (w : Network) (rules : DropRules) (p : PacketId) → may_drop rules p ≡ false
-    → (sent l : ℕ) → drops_at w rules p sent l ≡ false
+    (w : Network) (rules : DropRules) (p : PacketId) (sent : ℕ) → may_drop rules p sent ≡ false
+    → (l : ℕ) → drops_at w rules p sent l ≡ false
 
 -- lists with the same drops list the same
 abbrev pub SameDropsListed : Type 0

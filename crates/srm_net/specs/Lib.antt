@@ -14,6 +14,7 @@ pub mod DropSets
 pub mod Grids
 pub mod Growth
 pub mod Ways
+pub mod Spreads
 pub mod Tables
 pub mod Built
 pub mod Told

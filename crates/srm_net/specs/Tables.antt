@@ -1,5 +1,5 @@
 -- What the tables of a network tell.
-use Rattle.std.specs.Prelude.{◌≡◌, ℕ, ◌<◌, Bool, not, List, Option, Some, length, slice_get, if◌then◌else◌}
+use Rattle.std.specs.Prelude.{◌≡◌, ℕ, ◌<◌, Bool, not, List, Option, Some, length, slice_get, ◌==◌, if◌then◌else◌}
 use Rattle.srm_net.specs.declared.link.LinkSpec.{LinkSpec}
 use Rattle.srm_net.specs.declared.sides.Sides.{Sides}
 use Rattle.srm_net.specs.Network.{Network}
@@ -13,6 +13,10 @@ is_beyond w l k x = is_in (route w k.a x) l
 -- the end of a link that is nearer to node u
 abbrev pub near_end : Network → ℕ → LinkSpec → ℕ → ℕ
 near_end w l k u = if is_beyond w l k u then k.b else k.a
+
+-- the end of a link other than this one
+abbrev pub far_from : LinkSpec → ℕ → ℕ
+far_from k near = if k.a == near then k.b else k.a
 
 -- whether some member is on the other side of a link than node u
 abbrev pub some_beyond : Network → ℕ → LinkSpec → ℕ → Bool

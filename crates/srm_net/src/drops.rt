@@ -3,6 +3,7 @@ ghost use Rattle.std.specs.Prelude.{◌≡◌, ◌↔◌, Contains, IfOk, IfErr}
 ghost use Rattle.srm_net.specs.declared.link.DropSpec.{DropSpec};
 ghost use Rattle.srm_net.specs.Orders.{Ascends};
 ghost use Rattle.srm_net.specs.DropRules.{may_drop};
+ghost use Rattle.srm_net.specs.Listed.{is_listed_somewhere};
 ghost use Rattle.srm_net.specs.Paths.{drop_cmp, is_listed, stop, takes_out};
 
 use crate::fault::NetFault;
@@ -78,12 +79,29 @@ impl Drops {
         self.lists(link, id) || self.outages.is_out(link, at)
     }
 
-    /// Whether a packet may be dropped at all: some link is listed for it, or there are outages.
+    /// The same as [`takes_out`](Drops::takes_out), where it is known already whether any link is listed for the packet: if none is,
+    /// this one is not looked up.
+    pub(crate) fn takes_out_of(&self, is_listed: bool, id: PacketId, link: u16, at: u64) -> bool
+        requires { is_listed ≡ is_listed_somewhere self.now.listed id }
+        ensures { result ≡ takes_out self.now id (stop link at) }
+    {
+        (is_listed && self.lists(link, id)) || self.outages.is_out(link, at)
+    }
+
+    /// Whether any link is listed as dropping a packet.
+    pub(crate) fn lists_somewhere(&self, id: PacketId) -> bool
+        ensures { result ≡ is_listed_somewhere self.now.listed id }
+    {
+        self.packets.contains(&id)
+    }
+
+    /// Whether a packet that is sent at the tick `sent` may be dropped at all: some link is listed for it, or an outage ends later than
+    /// that.
     ///
     /// Any other packet goes everywhere ([`unlisted_packets_go_everywhere`](crate::laws::unlisted_packets_go_everywhere)).
-    pub fn may_drop(&self, id: PacketId) -> bool
-        ensures { result ≡ may_drop self.now id }
+    pub fn may_drop(&self, id: PacketId, sent: u64) -> bool
+        ensures { result ≡ may_drop self.now id sent }
     {
-        self.packets.contains(&id) || !self.outages.is_empty()
+        self.lists_somewhere(id) || self.outages.end_after(sent)
     }
 }

@@ -58,8 +58,8 @@ pub fn reaches_its_sender()
     ensures { ReachesItsSender }
 {}
 
-/// A packet that no link is listed for, where there are no outages, reaches every member, crosses exactly the links on the ways from its
-/// sender to members, and is dropped nowhere.
+/// A packet that no link is listed for, and that is sent when no outage is yet to end, reaches every member, crosses exactly the links on
+/// the ways from its sender to members, and is dropped nowhere.
 pub fn unlisted_packets_go_everywhere()
     ensures reaches { UnlistedReachesAll }
     ensures crosses { UnlistedCrossesItsWays }

@@ -19,6 +19,7 @@ pub struct LinkSpec {
 impl LinkSpec {
     ghost use Rattle.srm_net.specs.Paths.{delay_from};
     ghost use Rattle.srm_net.specs.Least.{lesser_delay};
+    ghost use Rattle.srm_net.specs.Tables.{far_from};
 
     /// How long a packet takes over the link from one of its ends, in ticks.
     pub(crate) fn delay_from(self, node: u16) -> u64
@@ -29,6 +30,13 @@ impl LinkSpec {
         } else {
             self.back
         }
+    }
+
+    /// The end other than this one.
+    pub(crate) fn far_from(self, near: u16) -> u16
+        ensures { result ≡ far_from self near }
+    {
+        if self.a == near { self.b } else { self.a }
     }
 
     /// The delay in the direction in which it is less, in ticks.

@@ -1,9 +1,12 @@
 //! A tree of nodes and links with members on some nodes, and what becomes of packets in it.
-ghost use Rattle.std.specs.Prelude.{◌≡◌, ◌≢◌, ℕ, ◌<◌, ◌≤◌, ◌^◌, false, not, ◌∷◌, All, IfOk, IfErr, IfSome, IfNone, length, slice_get};
+ghost use Rattle.std.specs.Prelude.{◌≡◌, ◌≢◌, ℕ, ◌<◌, ◌≤◌, ◌^◌, true, false, not, ◌∷◌, All, IfOk, IfErr, IfSome, IfNone, length, slice_get};
 ghost use Rattle.srm_net.specs.Network.{plain_network, IsTree, HasDelays, AreHosts, IsNetwork};
 ghost use Rattle.srm_net.specs.Paths.{host, distance, round, stop, takes_out, reaches, crosses, drops_at};
 ghost use Rattle.srm_net.specs.Fates.{is_crossing, is_dropping, is_on_way};
 ghost use Rattle.srm_net.specs.declared.link.LinkSpec.{LinkSpec};
+ghost use Rattle.srm_net.specs.declared.packet.PacketId.{PacketId};
+ghost use Rattle.srm_net.specs.DropRules.{DropRules, may_drop};
+ghost use Rattle.srm_net.specs.Spreads.{IsSpread, FitsIn};
 ghost use Rattle.srm_net.specs.Tables.{near_end, some_beyond};
 ghost use Rattle.srm_net.specs.Least.{least_delay, out};
 
@@ -14,10 +17,12 @@ use crate::fault::NetFault;
 use crate::link::LinkSpec;
 use crate::order::attaching_order;
 use crate::packet::PacketId;
+use crate::sending::Sending;
 use crate::sides::Sides;
+use crate::spread::Spread;
 use crate::tree::Tree;
 use crate::ways::Ways;
-use std::alloc::Global;
+use std::alloc::{AllocError, Global};
 use std::marker::Model;
 
 /// A tree of nodes and links, with members on some nodes. Contracts see it as its plain network.
@@ -215,6 +220,69 @@ impl Net {
             None => Fate::Neither,
             Some(at) if drops.takes_out(id, link, at) => Fate::Dropped,
             Some(_) => Fate::Crosses,
+        }
+    }
+
+    /// What becomes of a packet that is sent at the tick `sent`, at every node and link. Each link is looked at once; where the packet
+    /// may not be dropped at all, none is, and no memory is asked for.
+    ///
+    /// # Errors
+    ///
+    /// Memory was refused.
+    pub fn spread(
+        &self,
+        alloc: Global,
+        drops: &Drops,
+        id: PacketId,
+        sent: u64,
+    ) -> Result<Spread, AllocError>
+        requires sent { sent < 2 ^ 40 }
+        requires sender { id.sender < length self.now.hosts }
+        ensures spread { IfOk result (IsSpread self.now drops.now id sent) }
+        ensures fits { IfOk result (FitsIn self.now) }
+        ensures asked { IfErr result (λ _. may_drop drops.now id sent ≡ true) }
+    {
+        let nodes = self.tree.nodes();
+        if !drops.may_drop(id, sent) {
+            return Ok(Spread::everywhere(id.sender, nodes));
+        }
+        let packet = Sending {
+            id,
+            sent,
+            from: self.host(id.sender),
+            is_listed: drops.lists_somewhere(id),
+        };
+        let comes = self.tree.comes_to_each(alloc, drops, packet)?;
+        Ok(Spread::told(id.sender, nodes, comes))
+    }
+
+    /// Whether the packet of a spread reaches member `m`, as [`reaches`](Net::reaches) tells it. It takes no walk.
+    pub fn is_reached(&self, spread: &Spread, m: u16) -> bool
+        requires spread { FitsIn self.now spread.now }
+        requires member { m < length self.now.hosts }
+        ensures { (rules : DropRules) (p : PacketId) (sent : ℕ) → IsSpread self.now rules p sent spread.now
+            → result ≡ reaches self.now rules p sent m }
+    {
+        spread.comes_to(self.host(m))
+    }
+
+    /// What becomes of the packet of a spread at a link, as [`fate`](Net::fate) tells it. It takes no walk, and no look at the drops.
+    pub fn fate_in(&self, spread: &Spread, link: u16) -> Fate
+        requires spread { FitsIn self.now spread.now }
+        requires link { link < length self.now.links }
+        ensures crosses { (rules : DropRules) (p : PacketId) (sent : ℕ) → IsSpread self.now rules p sent spread.now
+            → is_crossing result ≡ crosses self.now rules p sent link }
+        ensures dropped { (rules : DropRules) (p : PacketId) (sent : ℕ) → IsSpread self.now rules p sent spread.now
+            → is_dropping result ≡ drops_at self.now rules p sent link }
+    {
+        let (near, is_any_beyond) = self.beyond(link, self.host(spread.sender()));
+        let far = self.tree.link(link).far_from(near);
+        if !is_any_beyond || !spread.comes_to(near) {
+            Fate::Neither
+        } else if spread.comes_to(far) {
+            Fate::Crosses
+        } else {
+            Fate::Dropped
         }
     }
 

@@ -1,7 +1,7 @@
 //! The outages of links, in an order in which each is soon found.
-ghost use Rattle.std.specs.Prelude.{◌≡◌, ◌↔◌, ℕ, ◌≤◌, ◌<◌, true, false, IsTrue, IfOk, length};
+ghost use Rattle.std.specs.Prelude.{◌≡◌, ℕ, ◌≤◌, ◌<◌, true, false, IfOk, length, nat_lt};
 ghost use Rattle.std.specs.List.Sorted.{IsPartitionedBy, IsPartitionPoint};
-ghost use Rattle.srm_net.specs.DropRules.{is_out};
+ghost use Rattle.srm_net.specs.DropRules.{is_out, some_ends_after};
 ghost use Rattle.srm_net.specs.Outages.{begins_by, outage_at, LastsLongest};
 
 use crate::link::OutageSpec;
@@ -14,6 +14,8 @@ pub(crate) struct Outages {
     list: Vec<OutageSpec>,
     /// In the order of links and first ticks, each prolonged to the latest end that an outage of its link has up to there.
     spans: Vec<OutageSpec>,
+    /// The tick after the last of all, or 0 where there is no outage.
+    end: u64,
 }
 
 impl Model for Outages {
@@ -40,14 +42,15 @@ impl Outages {
         Ok(Outages {
             list: list.to_vec(alloc)?,
             spans,
+            end: latest_end(list),
         })
     }
 
-    /// Whether there is no outage.
-    pub(crate) fn is_empty(&self) -> bool
-        ensures { IsTrue result ↔ (length self.now ≡ 0) }
+    /// Whether some outage, of whichever link, ends after a tick.
+    pub(crate) fn end_after(&self, tick: u64) -> bool
+        ensures { result ≡ some_ends_after self.now tick }
     {
-        self.list.is_empty()
+        tick < self.end
     }
 
     /// Whether a link is out at a tick. It takes a number of steps that grows as the logarithm of the number of outages.
@@ -61,6 +64,17 @@ impl Outages {
         let last = self.spans[begun - 1];
         last.link == link && tick < last.to
     }
+}
+
+/// The latest end of outages, in ticks, or 0 where there is none.
+fn latest_end(outages: &[OutageSpec]) -> u64
+    ensures { (t : ℕ) → nat_lt t result ≡ some_ends_after outages.now t }
+{
+    let mut latest = 0;
+    for outage in outages {
+        latest = outage.to.max(latest);
+    }
+    latest
 }
 
 /// How many outages are of earlier links, or of this link and begin at the tick or before, where those stand first.

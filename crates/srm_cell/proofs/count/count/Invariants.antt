@@ -1,5 +1,7 @@
 use Rattle.std.proofs.Common.{◌≡◌, List}
 use Rattle.srm_net.specs.declared.packet.Packet.{Packet}
+use Rattle.srm_net.specs.Spreads.{IsSpread}
+use Rattle.srm_scenario.specs.Plain.{PlainScenario}
 use Rattle.srm_cell.specs.Setting.{traffic_of}
 use Rattle.srm_cell.specs.Totalled.{numbers_of}
 use Rattle.srm_cell.proofs.Counting.{mixed}
@@ -7,5 +9,6 @@ use Rattle.srm_cell.proofs.count.count.Given as goal
 
 abbrev pub invariant-loop-link : goal.invariant-loop-link
 invariant-loop-link l =
-    (ps : List Packet) → l.fn.totals ≡ numbers_of (traffic_of l.scenario l.net) ps
-    → l.totals ≡ mixed (traffic_of l.scenario l.net) ps l.packet l.link 0 (traffic_of l.scenario l.net).links
+    (k : PlainScenario) → IsSpread l.net k.drops l.packet.id l.packet.sent l.spread
+    → (ps : List Packet) → l.fn.totals ≡ numbers_of (traffic_of k l.net) ps
+    → l.totals ≡ mixed (traffic_of k l.net) ps l.packet l.link 0 (traffic_of k l.net).links

@@ -1,7 +1,8 @@
-use Rattle.std.proofs.Common.{rules, ◌≡◌, ◌∙◌, ℕ, sym, subst}
+use Rattle.std.proofs.Common.{rules, ◌≡◌, ◌∙◌, ℕ, List, sym, ap, subst}
 use Rattle.std.proofs.lemmas.List.Sorted.{answers_always}
 use Rattle.std.specs.List.Sorted.{IsPermutation}
 use Rattle.srm_net.specs.declared.link.OutageSpec.{OutageSpec}
+use Rattle.srm_net.specs.DropRules.{some_ends_after}
 use Rattle.srm_net.proofs.OutageLemmas.{LinksRise, InOrder, in_order, Prolongs, begun_first, last_tells}
 use Rattle.srm_net.proofs.outages.Outages.of.Goals as goal
 
@@ -26,5 +27,6 @@ invariant_of-result c =
     let there = subst (IsPermutation c.in_ok-to_vec.field-0.items) (sym c.as_slice.ensures.value) moved in
     record {
       begun_first = begun_first c.as_slice.result.now c.in_ok-spans.spans.items prolongs;
+      end_tells = λ t. c.latest_end.ensures t ∙ ap (λ (os : List OutageSpec). some_ends_after os t) (sym list);
       last_tells = last_tells c.in_ok-to_vec.field-0.items c.as_slice.result.now c.in_ok-spans.spans.items there prolongs;
     }

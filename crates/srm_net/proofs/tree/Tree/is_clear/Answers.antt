@@ -2,14 +2,14 @@ use Rattle.std.proofs.Common.{◌∙◌, ◌^◌, ◌<◌, ◌≤◌, refl, sym,
 use Rattle.std.specs.List.{list_any}
 use Rattle.srm_net.specs.Network.{IsNetwork}
 use Rattle.srm_net.specs.Paths.{route, delay_along, stops, takes_out}
-use Rattle.srm_net.proofs.FateLemmas.{spared}
-use Rattle.srm_net.proofs.PathLaws.{any_none, route_nowhere, delay_bounded}
+use Rattle.srm_net.proofs.FateLemmas.{spared, none_stops}
+use Rattle.srm_net.proofs.PathLaws.{route_nowhere, delay_bounded}
 use Rattle.srm_net.proofs.tree.Tree.is_clear.Goals as goal
 
 pub returns-then-not-may_drop : goal.returns-then-not-may_drop
 returns-then-not-may_drop c =
-    sym (ap not (any_none (takes_out c.args.drops.now c.args.id) (stops c.args.self.now.links c.args.from c.args.sent (route c.args.self.now c.args.from c.args.to))
-    (spared c.args.drops.now c.args.id (sym c.may_drop.ensures ∙ c.if-not-may_drop.true))))
+    sym (ap not (none_stops (takes_out c.args.drops.now c.args.id) c.args.sent (spared c.args.drops.now c.args.id c.args.sent (sym c.may_drop.ensures ∙ c.if-not-may_drop.true))
+    c.args.self.now.links c.args.from c.args.sent (route c.args.self.now c.args.from c.args.to) (omega arith)))
 
 pub loop-at-init : goal.loop-at-init
 loop-at-init c =
