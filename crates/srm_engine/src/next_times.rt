@@ -6,7 +6,7 @@ use std::alloc::{AllocError, Global};
 use std::marker::Model;
 
 // Members' numbers are below it, and the places of entries without a time are not.
-const NO_TIME: u32 = 65_536;
+const NO_TIME: u64 = 65_536;
 
 /// The next times of all members, in ticks, by member. Contracts see them as a list; a member may have none.
 ///
@@ -33,7 +33,7 @@ impl Model for NextTimes {
 #[derive(Clone, Copy)]
 struct Entry {
     time: u64,
-    place: u32,
+    place: u64,
 }
 
 impl NextTimes {
@@ -92,7 +92,7 @@ impl NextTimes {
 fn standing(time: Option<u64>, member: u16) -> Entry
     ensures { IsEntryOf time member result }
 {
-    let place = u32::from(member);
+    let place = u64::from(member);
     match time {
         Some(time) => Entry { time, place },
         None => Entry {
@@ -109,10 +109,14 @@ fn sooner(first: Entry, second: Entry) -> Entry
     if first.time < second.time {
         return first;
     }
-    if second.time < first.time || second.place < first.place {
+    if second.time < first.time {
         return second;
     }
-    first
+    if second.place < first.place {
+        second
+    } else {
+        first
+    }
 }
 
 // Sets a leaf, and then the entries above it, as far up as they change.
