@@ -1,59 +1,15 @@
--- The index of next times: pairs in order, and the list of times that they stand for.
-use Rattle.std.proofs.Common.{◌≡◌, ◌≢◌, ℕ, zero, suc, ◌+◌, ◌<◌, ◌≤◌, ◌⊎◌, inl, inr, Bool, true, false, cond, not, ◌&&◌, ◌||◌, List, [], ◌∷◌, ◌++◌, length, Result, Ok, Err, refl, sym, ap, ◌∙◌, subst, true≢false, arith, Ordering, Less, Equal, Greater, Option, Some, None, ◌==◌, nat_le, slice_get, slice_set, eqb-true, eq-eqb}
+-- The index of next times: a tournament whose first entry is the least, and the list of times that it stands for.
+use Rattle.std.proofs.Common.{◌≡◌, ◌≢◌, ℕ, zero, suc, ◌+◌, ◌-◌, ◌*◌, ◌/◌, ◌%◌, ◌^◌, ◌<◌, ◌≤◌, ◌⊎◌, inl, inr, Bool, true, false, cond, ◌||◌, ◌==◌, List, [], ◌∷◌, length, map, drop, Option, Some, None, refl, sym, ap, ◌∙◌, subst, arith, true≢false, eqb-true, eq-eqb, lt-ltb, zero-add, nat_lt, nat_le, slice_get, slice_set, slice_index_or, get_or-drop, get_or-set_same, get_or-set_other, length-drop}
+use Rattle.std.proofs.Math.ListN.{length-set}
 use Rattle.std.proofs.lemmas.Bool.{eqb-false}
 use Rattle.std.proofs.lemmas.Bool.Decides.{nat_tests}
-use Rattle.std.proofs.lemmas.Cmp.{ranked, by_ranked}
-use Rattle.std.specs.Ordering.{nat_cmp, ordering_then, is_eq, is_gt}
-use Rattle.std.specs.List.{list_any}
-use Rattle.std.specs.Result.{OnOk, is_err}
-use Rattle.srm_engine.specs.NextTimes.{sooner, least_time, is_listed, is_time, Lists, is_own, Enters, Leaves}
+use Rattle.std.proofs.lemmas.Nat.{and_mask}
+use Rattle.std.proofs.lemmas.Option.{slice_get-get_or}
+use Rattle.std.specs.Int.Bits.{bit_and, bit_xor, xor_add_and}
+use Rattle.srm_engine.specs.declared.next_times.Entry.{Entry}
+use Rattle.srm_engine.specs.NextTimes.{sooner, least_time, is_time, entry_of, time_in, entry_at, sooner_entry, winner_below, IsTree, SetsLeaf, IsEntryOf, Holds, times_in, IsTournament}
 
--- how the set compares its pairs
-abbrev pub pair_cmp : (ℕ × ℕ) → (ℕ × ℕ) → Ordering
-pair_cmp k l = ordering_then (nat_cmp k.0 l.0) (nat_cmp k.1 l.1)
-
-same_number : (x y : ℕ) → is_eq (nat_cmp x y) ≡ (x == y)
-same_number x y = by_ranked (x < y) (x ≡ y) (y < x) (nat_cmp x y) (ranked x y (nat_cmp x y) refl)
-    (λ e h. let f : (x == y) ≡ false = grind (arith, nat_tests) in ap is_eq e ∙ sym f)
-    (λ e h. let f : (x == y) ≡ true = eq-eqb x y h in ap is_eq e ∙ sym f)
-    (λ e h. let f : (x == y) ≡ false = grind (arith, nat_tests) in ap is_eq e ∙ sym f)
-
-both_equal : (a b : Ordering) → is_eq (ordering_then a b) ≡ (is_eq a && is_eq b)
-both_equal Less b = refl
-both_equal Equal b = refl
-both_equal Greater b = refl
-
-same_pair : (k l : ℕ × ℕ) → is_eq (pair_cmp k l) ≡ ((k.0 == l.0) && (k.1 == l.1))
-same_pair k l = both_equal (nat_cmp k.0 l.0) (nat_cmp k.1 l.1) ∙ rw (same_number k.0 l.0, same_number k.1 l.1) refl
-
-pub listed_is : (t n : ℕ) (ks : List (ℕ × ℕ)) → list_any (λ k. is_eq (pair_cmp (t, n) k)) ks ≡ is_listed t n ks
-listed_is t n [] = refl
-listed_is t n (k ∷ ks) = ap (λ b. b || list_any (λ k. is_eq (pair_cmp (t, n) k)) ks) (same_pair (t, n) k) ∙ ap (λ b. ((t == k.0) && (n == k.1)) || b) (listed_is t n ks)
-
--- ---- a pair comes and goes
-
-or_cond : (a b : Bool) → cond a true b ≡ (a || b)
-or_cond true b = refl
-or_cond false b = refl
-
-and_cond : (a b : Bool) → cond a false b ≡ (not a && b)
-and_cond true b = refl
-and_cond false b = refl
-
-abbrev pub has : List (ℕ × ℕ) → (ℕ × ℕ) → Bool
-has ks q = list_any (λ k. is_eq (pair_cmp q k)) ks
-
-pub entered : (u m : ℕ) (old new : List (ℕ × ℕ)) → ((q : ℕ × ℕ) → has new q ≡ cond (is_eq (pair_cmp (u, m) q)) true (has old q)) → Enters (Some u) m old new
-entered u m old new h t n =
-    sym (listed_is t n new) ∙ h (t, n) ∙ or_cond (is_eq (pair_cmp (u, m) (t, n))) (has old (t, n))
-    ∙ ap (λ b. b || has old (t, n)) (same_pair (u, m) (t, n)) ∙ ap (λ b. ((u == t) && (m == n)) || b) (listed_is t n old)
-
-pub left : (u m : ℕ) (old new : List (ℕ × ℕ)) → ((q : ℕ × ℕ) → has new q ≡ cond (is_eq (pair_cmp (u, m) q)) false (has old q)) → Leaves (Some u) m old new
-left u m old new h t n =
-    sym (listed_is t n new) ∙ h (t, n) ∙ and_cond (is_eq (pair_cmp (u, m) (t, n))) (has old (t, n))
-    ∙ ap (λ b. not b && has old (t, n)) (same_pair (u, m) (t, n)) ∙ ap (λ b. not ((u == t) && (m == n)) && b) (listed_is t n old)
-
--- ---- a time is set
+-- ---- a list with one place written
 
 pub get_set_same : {A : Type 0} (xs : List A) (i : ℕ) (x : A) → i < length xs → slice_get (slice_set xs i x) i ≡ Some x
 get_set_same [] i x h = absurd (omega arith)
@@ -67,47 +23,6 @@ get_set_other (y ∷ ys) zero (suc j) x h = refl
 get_set_other (y ∷ ys) (suc i) zero x h = refl
 get_set_other (y ∷ ys) (suc i) (suc j) x h = get_set_other ys i j x (λ e. h (ap suc e))
 
-own_here : (o : Option ℕ) (m t n : ℕ) → (m == n) ≡ true → is_own o m t n ≡ is_time t (Some o)
-own_here None m t n e = refl
-own_here (Some u) m t n e = ap (λ b. (u == t) && b) e ∙ and_true (u == t)
-  where
-    and_true : (b : Bool) → (b && true) ≡ b
-    and_true true = refl
-    and_true false = refl
-
-own_there : (o : Option ℕ) (m t n : ℕ) → (m == n) ≡ false → is_own o m t n ≡ false
-own_there None m t n e = refl
-own_there (Some u) m t n e = ap (λ b. (u == t) && b) e ∙ and_false (u == t)
-  where
-    and_false : (b : Bool) → (b && false) ≡ false
-    and_false true = refl
-    and_false false = refl
-
-swapped : (a b : Bool) → (a ≡ true → b ≡ true → ⊥) → (not a && (b || a)) ≡ b
-swapped true true h = absurd (h refl refl)
-swapped true false h = refl
-swapped false true h = refl
-swapped false false h = refl
-
-apart : (t : ℕ) (old new : Option ℕ) → old ≢ new → is_time t (Some old) ≡ true → is_time t (Some new) ≡ true → ⊥
-apart t None new h a b = true≢false (sym a)
-apart t (Some u) None h a b = true≢false (sym b)
-apart t (Some u) (Some v) h a b = h (ap Some (eqb-true u t a ∙ sym (eqb-true v t b)))
-
-pub relisted : (ts : List (Option ℕ)) (m : ℕ) (old new : Option ℕ) (ks0 ks1 ks2 : List (ℕ × ℕ)) → m < length ts → slice_get ts m ≡ Some old → old ≢ new
-    → Lists ks0 ts → Enters new m ks0 ks1 → Leaves old m ks1 ks2 → Lists ks2 (slice_set ts m new)
-relisted ts m old new ks0 ks1 ks2 lt at ne lists enters leaves t n =
-    leaves t n ∙ ap (λ b. not (is_own old m t n) && b) (enters t n ∙ ap (λ b. is_own new m t n || b) (lists t n))
-    ∙ elim (m == n) as (λ b. (m == n) ≡ b → (not (is_own old m t n) && (is_own new m t n || is_time t (slice_get ts n))) ≡ is_time t (slice_get (slice_set ts m new) n)) [
-      | true ↦ λ e.
-          let here : m ≡ n = eqb-true m n e in
-          let was : is_time t (slice_get ts n) ≡ is_time t (Some old) = ap (λ k. is_time t (slice_get ts k)) (sym here) ∙ ap (is_time t) at in
-          let now : is_time t (slice_get (slice_set ts m new) n) ≡ is_time t (Some new) = ap (λ k. is_time t (slice_get (slice_set ts m new) k)) (sym here) ∙ ap (is_time t) (get_set_same ts m new lt) in
-          rw (own_here old m t n e, own_here new m t n e, was, now) (swapped (is_time t (Some old)) (is_time t (Some new)) (apart t old new ne))
-      | false ↦ λ e.
-          rw (own_there old m t n e, own_there new m t n e) (ap (is_time t) (sym (get_set_other ts m n new (eqb-false m n e))))
-    ] refl
-
 -- ---- the least
 
 abbrev Found : ℕ × ℕ → List (Option ℕ) → Type 0
@@ -116,11 +31,15 @@ Found q ts = (n : ℕ) × (is_time q.0 (slice_get ts n) ≡ true)
 found_first : (i v : ℕ) (ts : List (Option ℕ)) (q : ℕ × ℕ) → (v, i) ≡ q → Found q (Some v ∷ ts)
 found_first i v ts q e = (0, eq-eqb v q.0 (ap (λ (p : ℕ × ℕ). p.0) e))
 
-found_one : (i v : ℕ) (ts : List (Option ℕ)) (q : ℕ × ℕ) (o : Option (ℕ × ℕ)) → ((p : ℕ × ℕ) → o ≡ Some p → Found p ts) → Some (sooner (v, i) o) ≡ Some q → Found q (Some v ∷ ts)
+found_one : (i v : ℕ) (ts : List (Option ℕ)) (q : ℕ × ℕ) (o : Option (ℕ × ℕ))
+    → ((p : ℕ × ℕ) → o ≡ Some p → Found p ts) → Some (sooner (v, i) o) ≡ Some q → Found q (Some v ∷ ts)
 found_one i v ts q None more g = let same : (v, i) ≡ q = cc in found_first i v ts q same
 found_one i v ts q (Some p) more g = elim (nat_le v p.0) as (λ b. Some (cond b (v, i) p) ≡ Some q → Found q (Some v ∷ ts)) [
   | true ↦ λ k. let same : (v, i) ≡ q = cc in found_first i v ts q same
-  | false ↦ λ k. let same : p ≡ q = cc in let r = more p refl in (suc r.0, subst (λ (x : ℕ × ℕ). is_time x.0 (slice_get ts r.0) ≡ true) same r.1)
+  | false ↦ λ k.
+      let same : p ≡ q = cc in
+      let r = more p refl in
+      (suc r.0, subst (λ (x : ℕ × ℕ). is_time x.0 (slice_get ts r.0) ≡ true) same r.1)
 ] g
 
 found_is : (i : ℕ) (ts : List (Option ℕ)) (q : ℕ × ℕ) → least_time i ts ≡ Some q → Found q ts
@@ -136,15 +55,16 @@ time_le : (t m u n : ℕ) → (t < u) ⊎ ((t ≡ u) × (m ≤ n)) → t ≤ u
 time_le t m u n (inl h) = omega arith
 time_le t m u n (inr h) = omega (arith, h.0)
 
-pub least_is : (ts : List (Option ℕ)) (t m : ℕ) → is_time t (slice_get ts m) ≡ true → IsLeast t m ts → (i : ℕ) → least_time i ts ≡ Some (t, i + m)
+shifted : (ts : List (Option ℕ)) (t m : ℕ) (x : Option ℕ) → IsLeast t (suc m) (x ∷ ts) → IsLeast t m ts
+shifted ts t m x l u n g = elim (l u (suc n) g) [ inl a ↦ inl a | inr a ↦ inr (a.0, (let b = a.1 in omega arith)) ]
+
+pub least_is : (ts : List (Option ℕ)) (t m : ℕ) → is_time t (slice_get ts m) ≡ true → IsLeast t m ts → (i : ℕ)
+    → least_time i ts ≡ Some (t, i + m)
 least_is [] t m h l i = absurd (true≢false (sym h))
 least_is (None ∷ ts) t zero h l i = absurd (true≢false (sym h))
 least_is (None ∷ ts) t (suc m) h l i =
     let e : suc i + m ≡ i + suc m = omega arith in
     least_is ts t m h (shifted ts t m None l) (suc i) ∙ ap (λ k. Some (t, k)) e
-  where
-    shifted : (ts : List (Option ℕ)) (t m : ℕ) (x : Option ℕ) → IsLeast t (suc m) (x ∷ ts) → IsLeast t m ts
-    shifted ts t m x l u n g = elim (l u (suc n) g) [ inl a ↦ inl a | inr a ↦ inr (a.0, (let b = a.1 in omega arith)) ]
 least_is (Some v ∷ ts) t zero h l i =
     let same : v ≡ t = eqb-true v t h in
     let e : i ≡ i + 0 = omega arith in
@@ -160,7 +80,7 @@ least_is (Some v ∷ ts) t zero h l i =
         ap (λ b. cond b (v, i) q) yes
 least_is (Some v ∷ ts) t (suc m) h l i =
     let e : suc i + m ≡ i + suc m = omega arith in
-    let more = least_is ts t m h (λ u n g. elim (l u (suc n) g) [ inl a ↦ inl a | inr a ↦ inr (a.0, (let b = a.1 in omega arith)) ]) (suc i) in
+    let more = least_is ts t m h (shifted ts t m (Some v) l) (suc i) in
     let lt : t < v = elim (l v 0 (eq-eqb v v refl)) [ inl a ↦ a | inr a ↦ (let b = a.1 in absurd (omega arith)) ] in
     let no : nat_le v t ≡ false = grind (arith, nat_tests) in
     ap (λ o. Some (sooner (v, i) o)) more ∙ ap (λ b. Some (cond b (v, i) (t, suc i + m))) no ∙ ap (λ k. Some (t, k)) e
@@ -170,21 +90,305 @@ no_least [] h i = refl
 no_least (None ∷ ts) h i = no_least ts (λ t m. h t (suc m)) (suc i)
 no_least (Some v ∷ ts) h i = absurd (true≢false (sym (eq-eqb v v refl) ∙ h v 0))
 
-pub not_above : (t m u n : ℕ) → is_gt (pair_cmp (t, m) (u, n)) ≡ false → (t < u) ⊎ ((t ≡ u) × (m ≤ n))
-not_above t m u n h = by_ranked (t < u) (t ≡ u) (u < t) (nat_cmp t u) (ranked t u (nat_cmp t u) refl)
-    (λ e lt. inl lt)
-    (λ e same. inr (
-      same,
-      by_ranked (m < n) (m ≡ n) (n < m) (nat_cmp m n) (ranked m n (nat_cmp m n) refl)
-          (λ f lt. omega arith) (λ f lt. omega arith)
-          (λ f lt. absurd (true≢false (sym (ap is_gt (ap (λ o. ordering_then o (nat_cmp m n)) e ∙ f)) ∙ h))),
-    ))
-    (λ e lt. absurd (true≢false (sym (ap is_gt (ap (λ o. ordering_then o (nat_cmp m n)) e)) ∙ h)))
+-- ---- the order of entries
 
-pub if_ok : {A E : Type 0} (r : Result A E) (P : Type 0) → is_err r ≡ false → OnOk r P → P
-if_ok (Ok x) P e h = h
-if_ok (Err x) P e h = absurd (true≢false e)
+-- the first entry does not come after the second
+abbrev pub NotAfter : Entry → Entry → Type 0
+NotAfter p q = (p.time < q.time) ⊎ ((p.time ≡ q.time) × (p.place ≤ q.place))
 
-pub none_listed : (t n : ℕ) (ks : List (ℕ × ℕ)) → (0 < length ks → ⊥) → is_listed t n ks ≡ false
-none_listed t n [] h = refl
-none_listed t n (k ∷ ks) h = absurd (h (omega arith))
+itself : (p : Entry) → NotAfter p p
+itself p = inr (refl, omega arith)
+
+through : (p q r : Entry) → NotAfter p q → NotAfter q r → NotAfter p r
+through p q r (inl a) (inl b) = inl (omega arith)
+through p q r (inl a) (inr b) = let e = b.0 in inl (omega arith)
+through p q r (inr a) (inl b) = let e = a.0 in inl (omega arith)
+through p q r (inr a) (inr b) = let e = a.1 in let f = b.1 in inr (a.0 ∙ b.0, omega arith)
+
+both_ways : (p q : Entry) → NotAfter p q → NotAfter q p → p ≡ q
+both_ways p q (inl a) (inl b) = absurd (omega arith)
+both_ways p q (inl a) (inr b) = let e = b.0 in absurd (omega arith)
+both_ways p q (inr a) (inl b) = let e = a.0 in absurd (omega arith)
+both_ways p q (inr a) (inr b) =
+    let e = a.0 in
+    let le = a.1 in
+    let ge = b.1 in
+    let f : p.place ≡ q.place = omega arith in
+    λ i. record { time = e i; place = f i }
+
+-- the third is the one of the first two that does not come after the other
+abbrev Chosen : Entry → Entry → Entry → Type 0
+Chosen p q s = ((s ≡ p) × NotAfter p q) ⊎ ((s ≡ q) × NotAfter q p)
+
+chosen : (p q : Entry) → Chosen p q (sooner_entry p q)
+chosen p q = by (nat_lt p.time q.time) (nat_lt q.time p.time) (nat_lt q.place p.place) refl refl refl
+  where
+    by : (a b c : Bool) → nat_lt p.time q.time ≡ a → nat_lt q.time p.time ≡ b → nat_lt q.place p.place ≡ c
+        → Chosen p q (cond a p (cond (b || c) q p))
+    by true b c e f g = inl (refl, inl (grind (arith, nat_tests)))
+    by false true c e f g = inr (refl, inl (grind (arith, nat_tests)))
+    by false false true e f g =
+        let same : q.time ≡ p.time = grind (arith, nat_tests) in
+        let le : q.place ≤ p.place = grind (arith, nat_tests) in
+        inr (refl, inr (same, le))
+    by false false false e f g =
+        let same : p.time ≡ q.time = grind (arith, nat_tests) in
+        let le : p.place ≤ q.place = grind (arith, nat_tests) in
+        inl (refl, inr (same, le))
+
+not_after_first : (p q s : Entry) → Chosen p q s → NotAfter s p
+not_after_first p q s (inl h) = subst (λ (x : Entry). NotAfter x p) (sym h.0) (itself p)
+not_after_first p q s (inr h) = subst (λ (x : Entry). NotAfter x p) (sym h.0) h.1
+
+not_after_second : (p q s : Entry) → Chosen p q s → NotAfter s q
+not_after_second p q s (inl h) = subst (λ (x : Entry). NotAfter x q) (sym h.0) h.1
+not_after_second p q s (inr h) = subst (λ (x : Entry). NotAfter x q) (sym h.0) (itself q)
+
+one_of_both : (p q s : Entry) → Chosen p q s → (s ≡ p) ⊎ (s ≡ q)
+one_of_both p q s (inl h) = inl h.0
+one_of_both p q s (inr h) = inr h.0
+
+-- which of the two is named first does not matter
+either_way : (p q : Entry) → sooner_entry p q ≡ sooner_entry q p
+either_way p q = by (chosen p q) (chosen q p)
+  where
+    by : Chosen p q (sooner_entry p q) → Chosen q p (sooner_entry q p) → sooner_entry p q ≡ sooner_entry q p
+    by (inl a) (inr b) = a.0 ∙ sym b.0
+    by (inr a) (inl b) = a.0 ∙ sym b.0
+    by (inl a) (inl b) = a.0 ∙ both_ways p q a.1 b.1 ∙ sym b.0
+    by (inr a) (inr b) = a.0 ∙ both_ways q p a.1 b.1 ∙ sym b.0
+
+-- ---- the first entry
+
+halves : (x : ℕ) → (x ≡ 2 * (x / 2)) ⊎ (x ≡ 2 * (x / 2) + 1)
+halves x = grind arith
+
+module _ (es : List Entry) (n : ℕ) (size : length es ≡ 2 * n) (tree : IsTree es) where
+  above : (i j : ℕ) → entry_at es i ≡ winner_below es i → (j ≡ 2 * i) ⊎ (j ≡ 2 * i + 1) → NotAfter (entry_at es i) (entry_at es j)
+  above i j at side =
+      let c = chosen (entry_at es (2 * i)) (entry_at es (2 * i + 1)) in
+      subst (λ (x : Entry). NotAfter x (entry_at es j)) (sym at) (elim side [
+        | inl e ↦ subst (λ k. NotAfter (winner_below es i) (entry_at es k)) (sym e) (not_after_first _ _ _ c)
+        | inr e ↦ subst (λ k. NotAfter (winner_below es i) (entry_at es k)) (sym e) (not_after_second _ _ _ c)
+      ])
+
+  first_of_all : (k j : ℕ) → j ≤ k → 0 < j → j < length es → NotAfter (entry_at es 1) (entry_at es j)
+  first_of_all zero j le pos lt = absurd (omega arith)
+  first_of_all (suc k) zero le pos lt = absurd (omega arith)
+  first_of_all (suc k) (suc zero) le pos lt = itself (entry_at es 1)
+  first_of_all (suc k) (suc (suc i)) le pos lt =
+      let j : ℕ = suc (suc i) in
+      through (entry_at es 1) (entry_at es (j / 2)) (entry_at es j)
+      (first_of_all k (j / 2) (omega arith) (omega arith) (omega arith))
+      (above (j / 2) j (tree (j / 2) (omega arith) (omega arith)) (halves j))
+
+  -- each entry is that of some member
+  of_a_leaf : (k i : ℕ) → 2 * n ≤ i + k → 0 < i → i < 2 * n → (m : ℕ) × (m < n) × (entry_at es i ≡ entry_at es (n + m))
+  of_a_leaf zero i le pos lt = absurd (omega arith)
+  of_a_leaf (suc k) i le pos lt =
+      elim (nat_lt i n) as (λ b. nat_lt i n ≡ b → (m : ℕ) × (m < n) × (entry_at es i ≡ entry_at es (n + m))) [
+        | true ↦ λ e.
+            let inner : i < n = grind (arith, nat_tests) in
+            let at : entry_at es i ≡ winner_below es i = tree i pos (omega arith) in
+            elim (one_of_both _ _ _ (chosen (entry_at es (2 * i)) (entry_at es (2 * i + 1)))) [
+              | inl f ↦ let r = of_a_leaf k (2 * i) (omega arith) (omega arith) (omega arith) in (r.0, r.1, at ∙ f ∙ r.2)
+              | inr f ↦ let r = of_a_leaf k (2 * i + 1) (omega arith) (omega arith) (omega arith) in (r.0, r.1, at ∙ f ∙ r.2)
+            ]
+        | false ↦ λ e.
+            let leaf : n ≤ i = grind (arith, nat_tests) in
+            let m : ℕ = i - n in
+            let is : i ≡ n + m = omega arith in
+            (m, omega arith, ap (entry_at es) is)
+      ] refl
+
+-- ---- the least next time
+
+-- what an entry tells: a time and a member, if any
+abbrev pub told : Entry → Option (ℕ × ℕ)
+told e = cond (nat_lt e.place 65536) (Some (e.time, e.place)) None
+
+timed : (ts : List (Option ℕ)) (u j : ℕ) → is_time u (slice_get ts j) ≡ true → (j < length ts) × (slice_index_or ts j None ≡ Some u)
+timed [] u j h = absurd (true≢false (sym h))
+timed (None ∷ ts) u zero h = absurd (true≢false (sym h))
+timed (Some v ∷ ts) u zero h = (omega arith, ap Some (eqb-true v u h))
+timed (t ∷ ts) u (suc j) h = let r = timed ts u j h in let lt = r.0 in (omega arith, r.1)
+
+untimed : (o : Option (Option ℕ)) (t : ℕ) → (is_time t o ≡ true → ⊥) → is_time t o ≡ false
+untimed o t h = by (is_time t o) refl
+  where
+    by : (b : Bool) → is_time t o ≡ b → is_time t o ≡ false
+    by true e = absurd (h e)
+    by false e = e
+
+-- the entry comes after none of those of the members with these times
+abbrev IsFirst : List (Option ℕ) → Entry → Type 0
+IsFirst ts e = (u j : ℕ) → is_time u (slice_get ts j) ≡ true → (j < length ts) × (u < 2 ^ 64) × NotAfter e (entry_of (Some u) j)
+
+first_is_told : (ts : List (Option ℕ)) (m : ℕ) (o : Option ℕ) → slice_index_or ts m None ≡ o → m < length ts → length ts ≤ 65536
+    → IsFirst ts (entry_of o m) → told (entry_of o m) ≡ least_time 0 ts
+first_is_told ts m (Some t) e lt few none =
+    let yes : nat_lt m 65536 ≡ true = lt-ltb m 65536 (omega arith) in
+    let here : is_time t (slice_get ts m) ≡ true = ap (is_time t) (slice_get-get_or ts m None lt ∙ ap Some e) ∙ eq-eqb t t refl in
+    ap (λ b. cond b (Some (t, m)) None) yes
+    ∙ sym (least_is ts t m here (λ u j g. (none u j g).2) 0 ∙ ap (λ k. Some (t, k)) (zero-add m))
+first_is_told ts m None e lt few none =
+    let no : nat_lt (65536 + m) 65536 ≡ false = grind (arith, nat_tests) in
+    ap (λ b. cond b (Some (18446744073709551615, 65536 + m)) None) no
+    ∙ sym (no_least ts (λ t j. untimed (slice_get ts j) t (λ g. late t j (none t j g))) 0)
+  where
+    late : (t j : ℕ) → (j < length ts) × (t < 2 ^ 64) × NotAfter (entry_of None m) (entry_of (Some t) j) → ⊥
+    late t j (short, fits, inl a) = omega arith
+    late t j (short, fits, inr a) = let le = a.1 in omega arith
+
+pub first_told : (ts : List (Option ℕ)) (es : List Entry) → Holds ts es → 0 < length ts → told (entry_at es 1) ≡ least_time 0 ts
+first_told ts es h some =
+    let n : ℕ = length ts in
+    let size : length es ≡ 2 * n = h.size in
+    let leaf = of_a_leaf es n size h.tree (2 * n) 1 (omega arith) (omega arith) (omega arith) in
+    let m : ℕ = leaf.0 in
+    let lt : m < n = leaf.1 in
+    let is : entry_at es 1 ≡ entry_of (slice_index_or ts m None) m = leaf.2 ∙ (h.leaves m lt).0 in
+    let first : IsFirst ts (entry_at es 1) = λ u j g.
+    let r = timed ts u j g in
+    let within : j < n = r.0 in
+    let l = h.leaves j within in
+    let at : entry_at es (n + j) ≡ entry_of (Some u) j = l.0 ∙ ap (λ o. entry_of o j) r.1 in
+    let far : NotAfter (entry_at es 1) (entry_at es (n + j)) =
+    first_of_all es n size h.tree (2 * n) (n + j) (omega arith) (omega arith) (omega arith) in
+    (within, subst (λ (e : Entry). e.time < 2 ^ 64) at l.1, subst (NotAfter (entry_at es 1)) at far) in
+    ap told is ∙ first_is_told ts m (slice_index_or ts m None) refl lt h.few (subst (IsFirst ts) is first)
+
+-- ---- the times that entries stand for
+
+time_of_entry : (o : Option ℕ) (m : ℕ) → m < 65536 → time_in (entry_of o m) ≡ o
+time_of_entry None m lt =
+    let no : nat_lt (65536 + m) 65536 ≡ false = grind (arith, nat_tests) in
+    ap (λ b. cond b (Some 18446744073709551615) None) no
+time_of_entry (Some t) m lt = let yes : nat_lt m 65536 ≡ true = lt-ltb m 65536 lt in ap (λ b. cond b (Some t) None) yes
+
+leaves_tell : (ts : List (Option ℕ)) (es : List Entry) (i : ℕ) → length es ≡ length ts → i + length ts ≤ 65536
+    → ((m : ℕ) → m < length ts → entry_at es m ≡ entry_of (slice_index_or ts m None) (i + m)) → map time_in es ≡ ts
+leaves_tell [] [] i len few h = refl
+leaves_tell [] (e ∷ es) i len few h = absurd (omega arith)
+leaves_tell (t ∷ ts) [] i len few h = absurd (omega arith)
+leaves_tell (t ∷ ts) (e ∷ es) i len few h =
+    let here : time_in e ≡ t = ap time_in (h 0 (omega arith)) ∙ time_of_entry t (i + 0) (omega arith) in
+    let rest : map time_in es ≡ ts = leaves_tell ts es (suc i) (omega arith) (omega arith) (λ m lt.
+    let next : i + suc m ≡ suc i + m = omega arith in
+    h (suc m) (omega arith) ∙ ap (entry_of (slice_index_or ts m None)) next) in
+    λ k. here k ∷ rest k
+
+pub times_are : (ts : List (Option ℕ)) (es : List Entry) → Holds ts es → times_in es ≡ ts
+times_are ts es h =
+    let n : ℕ = length ts in
+    let size = h.size in
+    let few = h.few in
+    let half : length es / 2 ≡ n = omega arith in
+    let len : length (drop n es) ≡ n = length-drop n es ∙ omega arith in
+    ap (λ k. map time_in (drop k es)) half ∙ leaves_tell ts (drop n es) 0 len (omega arith) (λ m lt.
+    get_or-drop n es m (record { time = 0; place = 0 }) ∙ (h.leaves m lt).0
+    ∙ ap (entry_of (slice_index_or ts m None)) (sym (zero-add m)))
+
+-- entries that hold these times are a tournament
+pub tournament : (ts : List (Option ℕ)) (es : List Entry) → Holds ts es → IsTournament es
+tournament ts es h = subst (λ us. Holds us es) (sym (times_are ts es h)) h
+
+-- so it is where the number of members is named otherwise
+pub held : (ts : List (Option ℕ)) (es : List Entry) (n : ℕ) → n ≡ length ts → length ts ≤ 65536 → length es ≡ 2 * n
+    → ((m : ℕ) → m < n → IsEntryOf (slice_index_or ts m None) m (entry_at es (n + m))) → IsTree es → Holds ts es
+held ts es n e few size leaves tree = record {
+  size = size ∙ ap (λ k. 2 * k) e;
+  few = few;
+  leaves = subst (λ k. (m : ℕ) → m < k → IsEntryOf (slice_index_or ts m None) m (entry_at es (k + m))) e leaves;
+  tree = tree;
+}
+
+-- ---- a time is set
+
+pub holds_set : (ts : List (Option ℕ)) (es fs : List Entry) (m : ℕ) (t : Option ℕ) (e : Entry) → Holds ts es → m < length ts
+    → length fs ≡ length es → IsTree fs → IsEntryOf t m e → SetsLeaf (length ts + m) e es fs → Holds (slice_set ts m t) fs
+holds_set ts es fs m t e h lt same tree is set =
+    let n : ℕ = length ts in
+    let size : length es ≡ 2 * n = h.size in
+    let few = h.few in
+    let len : length (slice_set ts m t) ≡ n = length-set ts m t in
+    held (slice_set ts m t) fs n (sym len) (omega arith) (same ∙ size) (λ j below. by size j below (j == m) refl) tree
+  where
+    by : length es ≡ 2 * length ts → (j : ℕ) → j < length ts → (b : Bool) → (j == m) ≡ b
+        → IsEntryOf (slice_index_or (slice_set ts m t) j None) j (entry_at fs (length ts + j))
+    by size j below true f =
+        let here : j ≡ m = eqb-true j m f in
+        let within : length ts + m < length es = omega arith in
+        let at : entry_at fs (length ts + m) ≡ e =
+        set (length ts + m) (omega arith) ∙ get_or-set_same es (length ts + m) e (record { time = 0; place = 0 }) within in
+        let now : slice_index_or (slice_set ts m t) m None ≡ t = get_or-set_same ts m t None lt in
+        subst (λ k. IsEntryOf (slice_index_or (slice_set ts m t) k None) k (entry_at fs (length ts + k))) (sym here)
+        (subst (λ (x : Entry). IsEntryOf (slice_index_or (slice_set ts m t) m None) m x) (sym at)
+        (subst (λ o. IsEntryOf o m e) (sym now) is))
+    by size j below false f =
+        let there : j ≢ m = eqb-false j m f in
+        let apart : length ts + j ≢ length ts + m = λ g. there (omega arith) in
+        let at : entry_at fs (length ts + j) ≡ entry_at es (length ts + j) =
+        set (length ts + j) (omega arith)
+        ∙ get_or-set_other es (length ts + m) (length ts + j) e (record { time = 0; place = 0 }) apart in
+        let now : slice_index_or (slice_set ts m t) j None ≡ slice_index_or ts j None = get_or-set_other ts m j t None there in
+        subst (λ (x : Entry). IsEntryOf (slice_index_or (slice_set ts m t) j None) j x) (sym at)
+        (subst (λ o. IsEntryOf o j (entry_at es (length ts + j))) (sym now) (h.leaves j below))
+
+-- ---- the climb
+
+-- the second is the other of the two entries below one
+abbrev IsSibling : ℕ → ℕ → Type 0
+IsSibling x y = ((x ≡ 2 * (x / 2)) × (y ≡ 2 * (x / 2) + 1)) ⊎ ((x ≡ 2 * (x / 2) + 1) × (y ≡ 2 * (x / 2)))
+
+sibling : (x : ℕ) → IsSibling x (bit_xor x 1)
+sibling x = by (halves x) (xor_add_and x 1) (and_mask x 1)
+  where
+    by : (x ≡ 2 * (x / 2)) ⊎ (x ≡ 2 * (x / 2) + 1) → bit_xor x 1 + bit_and x 1 * 2 ≡ x + 1 → bit_and x 1 ≡ x % 2
+        → IsSibling x (bit_xor x 1)
+    by (inl e) sum low = inl (e, omega arith)
+    by (inr e) sum low = inr (e, omega arith)
+
+pub sibling_within : (es : List Entry) (n x : ℕ) → length es ≡ 2 * n → x < length es → bit_xor x 1 < length es
+sibling_within es n x size within = by (bit_xor x 1) (sibling x)
+  where
+    by : (y : ℕ) → IsSibling x y → y < length es
+    by y (inl h) = let e = h.0 in let f = h.1 in omega arith
+    by y (inr h) = let e = h.0 in let f = h.1 in omega arith
+
+-- where an entry stands at x, the sooner of it and its sibling is that of the two below the entry above
+pub winner_above : (es : List Entry) (x : ℕ) (w : Entry) → entry_at es x ≡ w
+    → sooner_entry w (entry_at es (bit_xor x 1)) ≡ winner_below es (x / 2)
+winner_above es x w at = elim (sibling x) [
+  | inl h ↦
+      let left : w ≡ entry_at es (2 * (x / 2)) = sym at ∙ ap (entry_at es) h.0 in
+      ap (λ k. sooner_entry w (entry_at es k)) h.1 ∙ ap (λ (e : Entry). sooner_entry e (entry_at es (2 * (x / 2) + 1))) left
+  | inr h ↦
+      let right : w ≡ entry_at es (2 * (x / 2) + 1) = sym at ∙ ap (entry_at es) h.0 in
+      ap (λ k. sooner_entry w (entry_at es k)) h.1 ∙ either_way w (entry_at es (2 * (x / 2)))
+      ∙ ap (sooner_entry (entry_at es (2 * (x / 2)))) right
+]
+
+-- after an entry was set, those that were the sooner of the two below them are so still, but for the one above it
+pub node_set : (es : List Entry) (x i : ℕ) (w : Entry) → x < length es → 0 < i → i ≢ x / 2
+    → (i ≢ x → entry_at es i ≡ winner_below es i) → (i ≡ x → w ≡ winner_below es x)
+    → entry_at (slice_set es x w) i ≡ winner_below (slice_set es x w) i
+node_set es x i w within pos apart others here = by (i == x) refl
+  where
+    below : winner_below es i ≡ winner_below (slice_set es x w) i
+    below =
+        let left_ne : 2 * i ≢ x = λ e. apart (omega arith) in
+        let right_ne : 2 * i + 1 ≢ x = λ e. apart (omega arith) in
+        let left = get_or-set_other es x (2 * i) w (record { time = 0; place = 0 }) left_ne in
+        let right = get_or-set_other es x (2 * i + 1) w (record { time = 0; place = 0 }) right_ne in
+        ap (λ (e : Entry). sooner_entry e (entry_at es (2 * i + 1))) (sym left)
+        ∙ ap (sooner_entry (entry_at (slice_set es x w) (2 * i))) (sym right)
+
+    by : (b : Bool) → (i == x) ≡ b → entry_at (slice_set es x w) i ≡ winner_below (slice_set es x w) i
+    by true e =
+        let at : i ≡ x = eqb-true i x e in
+        ap (entry_at (slice_set es x w)) at ∙ get_or-set_same es x w (record { time = 0; place = 0 }) within
+        ∙ here at ∙ ap (winner_below es) (sym at) ∙ below
+    by false e =
+        let ne : i ≢ x = eqb-false i x e in
+        get_or-set_other es x i w (record { time = 0; place = 0 }) ne ∙ others ne ∙ below

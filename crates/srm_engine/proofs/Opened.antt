@@ -14,7 +14,7 @@ use Rattle.srm_cell.specs.Crossings.{packets_of, crossings_at, crossings}
 use Rattle.srm_cell.specs.Cells.{PlainCell, new_cell, opening_cell, next_event, time_of}
 use Rattle.srm_cell.specs.Views.{IsCell}
 use Rattle.srm_engine.specs.World.{World, opening, opening_cells}
-use Rattle.srm_engine.specs.Seen.{AreTimes, AreCells, AreSeen}
+use Rattle.srm_engine.specs.Seen.{AreTimes, AreCells}
 use Rattle.srm_cell.specs.Totalled.{numbers_of}
 use Rattle.srm_engine.specs.Openings.{records_from}
 use Rattle.srm_engine.proofs.SeenLemmas.{same_some}
@@ -39,7 +39,7 @@ get_short [] y j h = cc
 get_short (x ∷ xs) y zero h = omega arith
 get_short (x ∷ xs) y (suc j) h = let g = get_short xs y j h in omega arith
 
-more_times : (ts : List (Option ℕ)) (ps : List PlainCell) (t : Option ℕ) (q : PlainCell) → AreTimes ts ps → t ≡ time_of (next_event (length ps) q) → AreTimes (ts ++ t ∷ []) (ps ++ q ∷ [])
+pub more_times : (ts : List (Option ℕ)) (ps : List PlainCell) (t : Option ℕ) (q : PlainCell) → AreTimes ts ps → t ≡ time_of (next_event (length ps) q) → AreTimes (ts ++ t ∷ []) (ps ++ q ∷ [])
 more_times ts ps t q h e = record {
   as_many = length-append ts (t ∷ []) ∙ ap (λ n. n + 1) h.as_many ∙ sym (length-append ps (q ∷ []));
   each = λ j p g. elim (get_last ps q p j g) [
@@ -49,7 +49,7 @@ more_times ts ps t q h e = record {
 }
 
 module _ {X : Type 0} {H : X → Type 0} where
-  more_cells : (f : DynBox X Global H → Record) (cs : List (Cell X H)) (ps : List PlainCell) (c : Cell X H) (q : PlainCell) → AreCells f cs ps → IsCell f (length ps) c q → AreCells f (cs ++ c ∷ []) (ps ++ q ∷ [])
+  pub more_cells : (f : DynBox X Global H → Record) (cs : List (Cell X H)) (ps : List PlainCell) (c : Cell X H) (q : PlainCell) → AreCells f cs ps → IsCell f (length ps) c q → AreCells f (cs ++ c ∷ []) (ps ++ q ∷ [])
   more_cells f cs ps c q h is = record {
     as_many = length-append cs (c ∷ []) ∙ ap (λ n. n + 1) h.as_many ∙ sym (length-append ps (q ∷ []));
     each = λ j x p a g. elim (get_last ps q p j g) [
@@ -64,13 +64,9 @@ module _ {X : Type 0} {H : X → Type 0} where
     ];
   }
 
-  pub more_seen : (f : DynBox X Global H → Record) (cs : List (Cell X H)) (ts : List (Option ℕ)) (ps : List PlainCell) (c : Cell X H) (t : Option ℕ) (q : PlainCell)
-      → AreSeen f cs ts ps → IsCell f (length ps) c q → t ≡ time_of (next_event (length ps) q) → AreSeen f (cs ++ c ∷ []) (ts ++ t ∷ []) (ps ++ q ∷ [])
-  more_seen f cs ts ps c t q h is e = record { cells = more_cells f cs ps c q h.cells is; times = more_times ts ps t q h.times e }
-
-  pub none_seen : (f : DynBox X Global H → Record) (s : Setting) → AreSeen f [] [] (opening_cells s 0 0)
+  pub none_seen : (f : DynBox X Global H → Record) (s : Setting) → AreCells f [] (opening_cells s 0 0)
   unfolding opening_cells
-  none_seen f s = record { cells = record { as_many = refl; each = λ j c p a g. cc }; times = record { as_many = refl; each = λ j p g. cc } }
+  none_seen f s = record { as_many = refl; each = λ j c p a g. cc }
 
   pub opened_cell : (f : DynBox X Global H → Record) (p : PlainScenario) (net : Network) (seed k : ℕ) (c : Cell X H) (r : Record) (marks : List Mark)
       → r ≡ opening_record (fixed_of p net seed k) → marks ≡ script_of p k → IsCell f (fixed_part r).member c (new_cell r marks 0) → IsCell f k c (opening_cell (setting_of p net seed) k)

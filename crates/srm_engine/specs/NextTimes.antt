@@ -1,5 +1,6 @@
 -- The least of the next times of all members.
-use Rattle.std.specs.Prelude.{◌≡◌, ℕ, suc, Bool, not, ◌&&◌, ◌||◌, false, List, [], ◌∷◌, Option, Some, None, ◌==◌, nat_le, if◌then◌else◌, slice_get}
+use Rattle.std.specs.Prelude.{◌≡◌, ℕ, suc, ◌+◌, ◌*◌, ◌/◌, ◌^◌, ◌<◌, ◌≤◌, Bool, false, List, [], ◌∷◌, Option, Some, None, nat_le, nat_lt, ◌==◌, ◌||◌, if◌then◌else◌, length, map, drop, slice_index_or, slice_set}
+use Rattle.srm_engine.specs.declared.next_times.Entry.{Entry}
 
 -- a time and a member, and another pair of these: the one with the lesser time, or the first where the times are the same
 abbrev pub sooner : (ℕ × ℕ) → Option (ℕ × ℕ) → ℕ × ℕ
@@ -12,32 +13,59 @@ least_time i [] = None
 least_time i (None ∷ ts) = least_time (suc i) ts
 least_time i (Some t ∷ ts) = Some (sooner (t, i) (least_time (suc i) ts))
 
--- ---- the index
-
--- whether the pair is in the list
-abbrev pub is_listed : ℕ → ℕ → List (ℕ × ℕ) → Bool
-is_listed t m [] = false
-is_listed t m (k ∷ ks) = ((t == k.0) && (m == k.1)) || is_listed t m ks
-
 -- whether this is the next time of a member
 abbrev pub is_time : ℕ → Option (Option ℕ) → Bool
 is_time t None = false
 is_time t (Some None) = false
 is_time t (Some (Some u)) = u == t
 
--- the pairs are the next times, each with its member
-abbrev pub Lists : List (ℕ × ℕ) → List (Option ℕ) → Type 0
-Lists ks ts = (t m : ℕ) → is_listed t m ks ≡ is_time t (slice_get ts m)
+-- ---- the tournament
 
--- whether the pair of t and n is this time with this member
-abbrev pub is_own : Option ℕ → ℕ → ℕ → ℕ → Bool
-is_own None m t n = false
-is_own (Some u) m t n = (u == t) && (m == n)
+-- the entry of member m: its time and its number; without a time it comes after all members that have one
+abbrev pub entry_of : Option ℕ → ℕ → Entry
+entry_of None m = record { time = 18446744073709551615; place = 65536 + m }
+entry_of (Some t) m = record { time = t; place = m }
 
--- a time enters the pairs, with its member
-abbrev pub Enters : Option ℕ → ℕ → List (ℕ × ℕ) → List (ℕ × ℕ) → Type 0
-Enters time m old new = (t n : ℕ) → is_listed t n new ≡ (is_own time m t n || is_listed t n old)
+-- the time that an entry stands for
+abbrev pub time_in : Entry → Option ℕ
+time_in e = if nat_lt e.place 65536 then Some e.time else None
 
--- it leaves them
-abbrev pub Leaves : Option ℕ → ℕ → List (ℕ × ℕ) → List (ℕ × ℕ) → Type 0
-Leaves time m old new = (t n : ℕ) → is_listed t n new ≡ (not (is_own time m t n) && is_listed t n old)
+-- entry i
+abbrev pub entry_at : List Entry → ℕ → Entry
+entry_at es i = slice_index_or es i (record { time = 0; place = 0 })
+
+-- the one of two entries that comes first: by time, and then by place
+abbrev pub sooner_entry : Entry → Entry → Entry
+sooner_entry p q =
+    if nat_lt p.time q.time then p else (if nat_lt q.time p.time || nat_lt q.place p.place then q else p)
+
+-- the sooner of the two entries below entry i
+abbrev pub winner_below : List Entry → ℕ → Entry
+winner_below es i = sooner_entry (entry_at es (2 * i)) (entry_at es (2 * i + 1))
+
+-- each entry that has two below it is the sooner of them
+abbrev pub IsTree : List Entry → Type 0
+IsTree es = (i : ℕ) → 0 < i → 2 * i + 1 < length es → entry_at es i ≡ winner_below es i
+
+-- in the second list the leaf is this entry, and each other leaf is as in the first
+abbrev pub SetsLeaf : ℕ → Entry → List Entry → List Entry → Type 0
+SetsLeaf leaf e old new = (i : ℕ) → length old ≤ 2 * i → entry_at new i ≡ entry_at (slice_set old leaf e) i
+
+-- this is the entry of member m with a time of 64 bits, or with none
+abbrev pub IsEntryOf : Option ℕ → ℕ → Entry → Type 0
+IsEntryOf time m e = (e ≡ entry_of time m) × (e.time < 2 ^ 64)
+
+-- the entries are a tree over those of the members with these times
+pub record Holds (ts : List (Option ℕ)) (es : List Entry) : Type 0 where
+  pub size : length es ≡ 2 * length ts
+  pub few : length ts ≤ 65536
+  pub leaves : (m : ℕ) → m < length ts → IsEntryOf (slice_index_or ts m None) m (entry_at es (length ts + m))
+  pub tree : IsTree es
+
+-- the times of the members, whose entries are the latter half
+abbrev pub times_in : List Entry → List (Option ℕ)
+times_in es = map time_in (drop (length es / 2) es)
+
+-- the entries are a tournament of these times
+abbrev pub IsTournament : List Entry → Type 0
+IsTournament es = Holds (times_in es) es

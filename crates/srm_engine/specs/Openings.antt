@@ -5,10 +5,11 @@ use Rattle.std.specs.Global.{Global}
 use Rattle.srm_net.specs.Network.{Network}
 use Rattle.srm_scenario.specs.Plain.{PlainScenario}
 use Rattle.srm_member.specs.Record.{Record, opening_record}
+use Rattle.srm_cell.specs.declared.cell.Cell.{Cell}
 use Rattle.srm_cell.specs.Setting.{setting_of, fixed_of}
 use Rattle.srm_engine.specs.declared.cells.Cells.{Cells}
 use Rattle.srm_engine.specs.World.{opening_cells}
-use Rattle.srm_engine.specs.Seen.{ShowCells}
+use Rattle.srm_engine.specs.Seen.{AreCells, ShowCells}
 
 -- the opening records of n members from i on, for a scenario, its network and a seed
 abbrev pub records_from : PlainScenario → Network → ℕ → ℕ → ℕ → List Record
@@ -31,8 +32,9 @@ module _ {X : Type 0} {H : X → Type 0} where
       → ShowCells f cells (opening_cells (setting_of p net seed) (length p.members) 0)
 
   -- after the next member's cell was added to those of the members before it
-  abbrev pub AddsMember : (DynBox X Global H → Record) → PlainScenario → Record → Cells X H → Cells X H → Type 0
+  abbrev pub AddsMember : (DynBox X Global H → Record) → PlainScenario → Record → List (Cell X H) → List (Cell X H)
+      → Type 0
   AddsMember f p r old new =
-      (net : Network) (seed : ℕ) → let n = length old.cells.items in
-      r ≡ opening_record (fixed_of p net seed n) → ShowCells f old (opening_cells (setting_of p net seed) n 0)
-      → ShowCells f new (opening_cells (setting_of p net seed) (n + 1) 0)
+      (net : Network) (seed : ℕ) → let n = length old in
+      r ≡ opening_record (fixed_of p net seed n) → AreCells f old (opening_cells (setting_of p net seed) n 0)
+      → AreCells f new (opening_cells (setting_of p net seed) (n + 1) 0)

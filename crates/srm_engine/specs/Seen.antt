@@ -51,6 +51,11 @@ module _ {X : Type 0} {H : X → Type 0} where
   abbrev pub ShowCells : (DynBox X Global H → Record) → Cells X H → List PlainCell → Type 0
   ShowCells f cs ps = AreSeen f cs.cells.items cs.times ps
 
+  -- the times are the next times of the cells, in order, of whatever the cells are seen as
+  abbrev pub AreNextTimes : (DynBox X Global H → Record) → List (Cell X H) → List (Option ℕ) → Type 0
+  AreNextTimes f cs ts =
+      (length ts ≡ length cs) × ((ps : List PlainCell) → AreCells f cs ps → AreTimes ts ps)
+
   -- what a member's own step tells, where its cell was p among ps, and what it leaves
   abbrev pub TellsTake : (DynBox X Global H → Record) → ℕ → List PlainCell → StepOutcome Stepped
       → Result (Option Row) CellFault → List (Cell X H) → List (Option ℕ) → Type 0

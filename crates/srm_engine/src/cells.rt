@@ -1,6 +1,6 @@
 //! The cells of all members.
 ghost use Rattle.std.specs.Prelude.{◌≡◌, ◌<◌, ◌≤◌, ◌^◌, IfOk, IfErr, length, map};
-ghost use Rattle.srm_engine.specs.Seen.{HandsTo, TakesStep, IsNewAt};
+ghost use Rattle.srm_engine.specs.Seen.{AreNextTimes, HandsTo, TakesStep, IsNewAt};
 ghost use Rattle.srm_engine.specs.Openings.{MayOpen, Opens, AddsMember};
 ghost use Rattle.srm_engine.specs.Outcomes.{AllEnd, EndAs};
 
@@ -32,36 +32,12 @@ impl Cells {
         requires boxes { MayOpen scenario.now (map (λ b. plain b) members.items) }
         ensures { IfOk result (λ cells. Opens (λ b. plain b) scenario.now (map (λ b. plain b) members.items) cells) }
     {
-        let mut cells = Cells {
-            cells: Vec::with_capacity(alloc, usize::from(scenario.members()))?,
-            times: NextTimes::new(alloc),
-        };
+        let mut cells = Vec::with_capacity(alloc, usize::from(scenario.members()))?;
         for member in members {
-            cells.add(alloc, scenario, member)?;
+            add(alloc, scenario, member, &mut cells)?;
         }
-        Ok(cells)
-    }
-
-    // Adds the cell of the next member, with its script, and its next time.
-    fn add(
-        &mut self,
-        alloc: Global,
-        scenario: &Scenario,
-        member: Box<dyn Member>,
-    ) -> Result<(), AllocError>
-        requires few { length scenario.now.members < 65536 }
-        requires number { length self.old.cells.items < length scenario.now.members }
-        requires times { length self.old.times ≡ length self.old.cells.items }
-        ensures { IfOk result (λ _. AddsMember (λ b. plain b) scenario.now (plain member) self.old self.new) }
-    {
-        let number = self.cells.len() as u16;
-        let Ok(script) = scenario.script(alloc, number) else {
-            return Err(AllocError);
-        };
-        let cell = Cell::new(alloc, member, script, 0);
-        self.times.push(cell.next_time())?;
-        self.cells.push(cell)?;
-        Ok(())
+        let times = NextTimes::of(alloc, next_times(alloc, cells.as_slice())?)?;
+        Ok(Cells { cells, times })
     }
 
     /// A member's own step to tick `until`.
@@ -82,9 +58,7 @@ impl Cells {
             Err(fault) => return Err(fault),
         };
         let next = cell.next_time();
-        if self.times.set(member, next).is_err() {
-            return Err(CellFault::NoMemory);
-        }
+        self.times.set(member, next);
         Ok(row)
     }
 
@@ -100,7 +74,7 @@ impl Cells {
             return Err(AllocError);
         };
         let next = cell.next_time();
-        self.times.set(member, next)?;
+        self.times.set(member, next);
         Ok(())
     }
 
@@ -125,4 +99,34 @@ impl Cells {
         }
         Ok(exits)
     }
+}
+
+// Adds the cell of the next member, with its script.
+fn add(
+    alloc: Global,
+    scenario: &Scenario,
+    member: Box<dyn Member>,
+    cells: &mut Vec<Cell>,
+) -> Result<(), AllocError>
+    requires few { length scenario.now.members < 65536 }
+    requires number { length cells.old.items < length scenario.now.members }
+    ensures { IfOk result (λ _. AddsMember (λ b. plain b) scenario.now (plain member) cells.old.items cells.new.items) }
+{
+    let number = cells.len() as u16;
+    let Ok(script) = scenario.script(alloc, number) else {
+        return Err(AllocError);
+    };
+    cells.push(Cell::new(alloc, member, script, 0))?;
+    Ok(())
+}
+
+// The next time of each cell, in order.
+fn next_times(alloc: Global, cells: &[Cell]) -> Result<Vec<Option<u64>>, AllocError>
+    ensures { IfOk result (λ times. AreNextTimes (λ b. plain (b.vtable, b.value)) cells.now times.items) }
+{
+    let mut times = Vec::with_capacity(alloc, cells.len())?;
+    for cell in cells {
+        times.push(cell.next_time())?;
+    }
+    Ok(times)
 }

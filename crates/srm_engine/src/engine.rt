@@ -23,7 +23,7 @@ use srm_net::spread::Spread;
 use srm_scenario::scenario::Scenario;
 use std::alloc::{AllocError, Global};
 
-// How many rows are handed on at a time.
+// How many rows are handed on at a time, and for how many there is room from the start.
 const PIECE: usize = 256;
 
 // No run has so many pieces: 2^62 rows.
@@ -119,7 +119,9 @@ impl<'a> Engine<'a> {
         ensures same { IsStillOf self.old self.new }
         ensures steps { TakesSteps (λ b. plain (b.vtable, b.value)) most self.old result self.new }
     {
-        let mut rows = Vec::new(alloc);
+        let Ok(mut rows) = Vec::with_capacity(alloc, most.min(PIECE)) else {
+            return Err(RunFault::NoMemory);
+        };
         while rows.len() < most {
             match self.step(alloc) {
                 Ok(None) => return Ok(rows),

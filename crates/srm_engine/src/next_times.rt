@@ -1,27 +1,39 @@
 //! The next times of all members, the least of them at hand.
-ghost use Rattle.std.specs.Prelude.{◌≡◌, ◌<◌, List, [], ◌∷◌, ◌++◌, OnOk, OnErr, Option, ℕ, length, slice_set};
-ghost use Rattle.srm_engine.specs.NextTimes.{least_time, Enters, Leaves};
+ghost use Rattle.std.specs.Prelude.{◌≡◌, ◌<◌, ◌≤◌, ◌*◌, ◌%◌, [], IfOk, length, slice_set};
+ghost use Rattle.srm_engine.specs.NextTimes.{least_time, sooner_entry, IsEntryOf, IsTree, SetsLeaf};
 
 use std::alloc::{AllocError, Global};
-use std::collections::BTreeSet;
 use std::marker::Model;
 
+// Members' numbers are below it, and the places of entries without a time are not.
+const NO_TIME: u64 = 65_536;
+
 /// The next times of all members, in ticks, by member. Contracts see them as a list; a member may have none.
+///
+/// They are a tournament: for n members there are 2n entries. Entry n + m is member m's; entry i, from 1 to n - 1, is the sooner of
+/// entries 2i and 2i + 1, so that entry 1 is the least of all. Entry 0 means nothing.
 #[derive(Drop)]
 pub struct NextTimes {
-    times: Vec<Option<u64>>,
-    order: BTreeSet<(u64, u16)>,
+    entries: Vec<Entry>,
 }
 
 impl Model for NextTimes {
-    ghost use Rattle.std.specs.Prelude.{List, Option, ℕ, ◌≤◌, length, ◌^◌};
-    ghost use Rattle.srm_engine.specs.NextTimes.{Lists};
+    ghost use Rattle.std.specs.Prelude.{List, Option, ℕ};
+    ghost use Rattle.srm_engine.specs.NextTimes.{times_in, IsTournament};
 
     ghost Value = { List (Option ℕ) };
 
-    ghost view = { λ n. n.times.items };
+    ghost view = { λ n. times_in n.entries.items };
 
-    ghost invariant = { λ n. Lists n.order.keys n.times.items × (length n.times.items ≤ 65536) };
+    ghost invariant = { λ n. IsTournament n.entries.items };
+}
+
+// A member's next time, and its place among those of the same time: its number. A member without a next time comes after all that
+// have one: at the greatest tick, in a place past all numbers.
+#[derive(Clone, Copy)]
+struct Entry {
+    time: u64,
+    place: u64,
 }
 
 impl NextTimes {
@@ -30,81 +42,100 @@ impl NextTimes {
         ensures { result ≡ [] }
     {
         NextTimes {
-            times: Vec::new(alloc),
-            order: BTreeSet::new(alloc),
+            entries: Vec::new(alloc),
         }
     }
 
-    /// Adds the next time of one more member, in ticks.
+    /// The next times of members 0, 1 and on, in ticks.
     ///
     /// # Errors
-    /// Memory was refused; the times are then as they were.
-    pub fn push(&mut self, time: Option<u64>) -> Result<(), AllocError>
-        requires { length self.old < 65536 }
-        ensures ok { OnOk result (self.new ≡ self.old ++ time ∷ []) }
-        ensures err { OnErr result (self.new ≡ self.old) }
+    /// Memory was refused.
+    pub fn of(alloc: Global, times: Vec<Option<u64>>) -> Result<Self, AllocError>
+        requires { length times.items ≤ 65536 }
+        ensures { IfOk result (λ n. n ≡ times.items) }
     {
-        let member = self.times.len() as u16;
-        self.times.push(None)?;
-        let added = self.set(member, time);
-        if added.is_err() {
-            self.times.pop();
-            return Err(AllocError);
+        let count = times.len();
+        let none = Entry { time: 0, place: 0 };
+        let mut entries = vec![in alloc; none; 2 * count]?;
+        for (member, time) in times.iter().enumerate() {
+            entries[count + member] = standing(*time, member as u16);
         }
-        Ok(())
+        for node in (1..count).rev() {
+            entries[node] = sooner(entries[2 * node], entries[2 * node + 1]);
+        }
+        Ok(NextTimes { entries })
     }
 
-    /// Sets the next time of a member, in ticks.
-    ///
-    /// # Errors
-    /// Memory was refused; the times are then as they were.
-    pub fn set(&mut self, member: u16, time: Option<u64>) -> Result<(), AllocError>
+    /// Sets the next time of a member, in ticks. It does not allocate.
+    pub fn set(&mut self, member: u16, time: Option<u64>)
         requires { member < length self.old }
-        ensures ok { OnOk result (self.new ≡ slice_set self.old member time) }
-        ensures err { OnErr result (self.new ≡ self.old) }
+        ensures { self.new ≡ slice_set self.old member time }
     {
-        let place = member as usize;
-        let old = self.times[place];
-        if old == time {
-            return Ok(());
-        }
-        enter(&mut self.order, time, member)?;
-        leave(&mut self.order, old, member);
-        self.times[place] = time;
-        Ok(())
+        let leaf = self.entries.len() / 2 + usize::from(member);
+        climb(&mut self.entries, leaf, standing(time, member));
     }
 
     /// The least next time of all, with the first member that has it.
     pub fn least(&self) -> Option<(u64, u16)>
         ensures { result ≡ least_time 0 self.now }
     {
-        let Some(first) = self.order.first() else {
-            return None;
-        };
-        Some(*first)
+        let least = self.entries.get(1)?;
+        if least.place < NO_TIME {
+            Some((least.time, least.place as u16))
+        } else {
+            None
+        }
     }
 }
 
-// Puts a member's next time into the order. After an error the order is as it was.
-fn enter(order: &mut BTreeSet<(u64, u16)>, time: Option<u64>, member: u16) -> Result<(), AllocError>
-    ensures ok { OnOk result (Enters time member order.old.keys order.new.keys) }
-    ensures err { OnErr result (order.new.keys ≡ order.old.keys) }
+// A member's entry.
+fn standing(time: Option<u64>, member: u16) -> Entry
+    ensures { IsEntryOf time member result }
 {
-    let Some(time) = time else {
-        return Ok(());
-    };
-    if order.insert((time, member)).is_err() {
-        return Err(AllocError);
+    let place = u64::from(member);
+    match time {
+        Some(time) => Entry { time, place },
+        None => Entry {
+            time: u64::MAX,
+            place: NO_TIME + place,
+        },
     }
-    Ok(())
 }
 
-// Takes a member's next time out of the order.
-fn leave(order: &mut BTreeSet<(u64, u16)>, time: Option<u64>, member: u16)
-    ensures { Leaves time member order.old.keys order.new.keys }
+// The one of two entries that comes first: by time, and then by place.
+fn sooner(first: Entry, second: Entry) -> Entry
+    ensures { result ≡ sooner_entry first second }
 {
-    let Some(time) = time else {
-        return;
-    };
-    order.remove(&(time, member));
+    if first.time < second.time {
+        return first;
+    }
+    if second.time < first.time {
+        return second;
+    }
+    if second.place < first.place {
+        second
+    } else {
+        first
+    }
+}
+
+// Sets a leaf, and then the entries above it, as far up as they change.
+fn climb(entries: &mut [Entry], leaf: usize, entry: Entry)
+    requires pairs { length entries.old % 2 ≡ 0 }
+    requires leaf { length entries.old ≤ 2 * leaf }
+    requires within { leaf < length entries.old }
+    requires tree { IsTree entries.old }
+    ensures tree { IsTree entries.new }
+    ensures leaves { SetsLeaf leaf entry entries.old entries.new }
+{
+    let mut node = leaf;
+    let mut winner = entry;
+    while entries[node].time != winner.time || entries[node].place != winner.place {
+        entries[node] = winner;
+        if node == 1 {
+            return;
+        }
+        winner = sooner(winner, entries[node ^ 1]);
+        node /= 2;
+    }
 }

@@ -1,6 +1,5 @@
 use Rattle.std.proofs.Common.{◌≡◌, sym, ◌∙◌, ap, Some, slice_get}
 use Rattle.std.proofs.lemmas.Option.{slice_get-get_or}
-use Rattle.srm_engine.proofs.Index.{if_ok}
 use Rattle.srm_engine.proofs.SeenLemmas.{taken, not_taken}
 use Rattle.srm_engine.proofs.cells.Cells.step.Goals as goal
 
@@ -10,9 +9,8 @@ returns g c = λ ps p h k.
     let at : slice_get c.args.self.now.cells.items c.args.member ≡ Some c.index_mut-cell.result.now =
     slice_get-get_or c.args.self.now.cells.items c.args.member c.index_mut-cell.result.now place ∙ ap Some (sym (rw c.from.ensures at c.index_mut-cell.ensures.value)) in
     let is = h.cells.each c.args.member c.index_mut-cell.result.now p at k in
-    let times = if_ok c.set.result _ (sym c.is_err.ensures.value ∙ c.if-is_err.false) c.set.ensures.ok in
     rw c.from.ensures (taken (λ b. (goal.Member-dyn g (b.vtable, b.value)).plain b.value) c.args.self.now.cells.items c.args.self.now.times c.set.new.self ps c.args.member p _ c.in-Ok.row c.step.new.self c.next_time-next.result
-    h k place c.requires.time (c.in-Ok.ensures c.args.member p is) (λ q i. c.next_time-next.ensures c.args.member q i) times)
+    h k place c.requires.time (c.in-Ok.ensures c.args.member p is) (λ q i. c.next_time-next.ensures c.args.member q i) c.set.ensures)
 
 pub returns-in-Err : goal.returns-in-Err
 returns-in-Err g c = λ ps p h k.

@@ -11,8 +11,8 @@ use Rattle.srm_engine.proofs.engine.Engine.steps.Goals as goal
 pub loop-alloc-init : goal.loop-alloc-init
 loop-alloc-init g c = (
   (refl, refl),
-  λ seed w r h. (w, r, sym (append-nil w.trace) ∙ ap (λ (l : List Row). w.trace ++ l) (sym c.new-rows.ensures.items), h),
-  (let none = ap length c.new-rows.ensures.items in omega arith),
+  λ seed w r h. (w, r, sym (append-nil w.trace) ∙ ap (λ (l : List Row). w.trace ++ l) (sym c.in-Ok.ensures.items), h),
+  (let none = ap length c.in-Ok.ensures.items in omega arith),
 )
 
 pub step-requires-clause-known : goal.step-requires-clause-known

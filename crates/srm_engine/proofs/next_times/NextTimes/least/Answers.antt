@@ -1,15 +1,36 @@
-use Rattle.std.proofs.Common.{sym, ◌∙◌, ap, Some, subst, true≢false, zero-add}
-use Rattle.std.specs.Option.{IsSome}
-use Rattle.srm_engine.specs.NextTimes.{least_time}
-use Rattle.srm_engine.proofs.Index.{least_is, no_least, listed_is, not_above, none_listed}
+use Rattle.std.proofs.Common.{◌≡◌, ◌<◌, ◌≤◌, ℕ, List, true, false, Option, Some, None, length, sym, ap, ◌∙◌, subst, cond, nat_lt, lt-ltb, arith}
+use Rattle.std.proofs.lemmas.Bool.Decides.{nat_tests}
+use Rattle.srm_engine.specs.declared.next_times.Entry.{Entry}
+use Rattle.srm_engine.specs.NextTimes.{entry_at, least_time, times_in, IsTournament}
+use Rattle.srm_engine.proofs.Index.{first_told, told}
 use Rattle.srm_engine.proofs.next_times.NextTimes.least.Goals as goal
 
-pub returns-in_default : goal.returns-in_default
-returns-in_default c = sym (ap (least_time 0) (sym c.self.view_is) ∙ no_least c.self.inside.times.items (λ t m. sym (c.self.invariant.0 t m) ∙ none_listed t m c.self.inside.order.keys (λ lt. true≢false (sym (subst IsSome c.in_default.is (c.first.ensures.variant.1 lt))))) 0)
+-- what the first entry tells is the least next time
+first : (es fs : List Entry) (e : Entry) (ts : List (Option ℕ)) → IsTournament es → fs ≡ es → times_in es ≡ ts
+    → 1 < length fs → e ≡ entry_at fs 1 → told e ≡ least_time 0 ts
+first es fs e ts h same view more is =
+    let size = h.size in
+    let some : 0 < length (times_in es) = (let long = subst (λ (xs : List Entry). 1 < length xs) same more in omega arith) in
+    ap told (is ∙ ap (λ (xs : List Entry). entry_at xs 1) same) ∙ first_told (times_in es) es h some ∙ ap (least_time 0) view
 
-pub returns : goal.returns
-returns c =
-    let k = c.in-Some.first.now in
-    sym (ap (least_time 0) (sym c.self.view_is)
-    ∙ least_is c.self.inside.times.items k.0 k.1 (sym (c.self.invariant.0 k.0 k.1) ∙ sym (listed_is k.0 k.1 c.self.inside.order.keys) ∙ c.in-Some.ensures.member) (λ u n g. not_above k.0 k.1 u n (c.in-Some.ensures.least (u, n) (listed_is u n c.self.inside.order.keys ∙ c.self.invariant.0 u n ∙ g))) 0
-    ∙ ap (λ m. Some (k.0, m)) (zero-add k.1))
+timely : (e : Entry) → e.place < 65536 → Some (e.time, e.place) ≡ told e
+timely e h = let yes : nat_lt e.place 65536 ≡ true = lt-ltb e.place 65536 h in ap (λ b. cond b (Some (e.time, e.place)) None) (sym yes)
+
+timeless : (e : Entry) → 65536 ≤ e.place → None ≡ told e
+timeless e h = let no : nat_lt e.place 65536 ≡ false = grind (arith, nat_tests) in ap (λ b. cond b (Some (e.time, e.place)) None) (sym no)
+
+pub returns-then-least-lt-NO_TIME : goal.returns-then-least-lt-NO_TIME
+returns-then-least-lt-NO_TIME c =
+    let e = c.in_ok-least.least.now in
+    let at = c.in_ok-least.ensures.lookup.3 in
+    timely e c.if-least-lt-NO_TIME.true
+    ∙ first c.self.inside.entries.items c.deref.result.now e c.args.self.now c.self.invariant c.deref.ensures.value c.self.view_is
+    at.0 (at.1 (record { time = 0; place = 0 }))
+
+pub returns-else-least-lt-NO_TIME : goal.returns-else-least-lt-NO_TIME
+returns-else-least-lt-NO_TIME c =
+    let e = c.in_ok-least.least.now in
+    let at = c.in_ok-least.ensures.lookup.3 in
+    timeless e c.if-least-lt-NO_TIME.false
+    ∙ first c.self.inside.entries.items c.deref.result.now e c.args.self.now c.self.invariant c.deref.ensures.value c.self.view_is
+    at.0 (at.1 (record { time = 0; place = 0 }))

@@ -1,25 +1,44 @@
-use Rattle.std.proofs.Common.{◌≡◌, ◌<◌, length, ◌≢◌, ap, sym, ◌∙◌, subst, refl, Option, Some, None, ℕ, slice_get, slice_set, true≢false, eq-eqb, arith, true}
-use Rattle.std.specs.Option.{option_eq}
-use Rattle.std.proofs.lemmas.Option.{slice_get-get_or}
-use Rattle.std.proofs.Math.ListN.{length-set}
-use Rattle.std.specs.Prelude.{nat_eq}
-use Rattle.srm_engine.proofs.Index.{relisted}
+use Rattle.std.proofs.Common.{◌≡◌, ◌<◌, ◌+◌, ◌/◌, ◌++◌, ℕ, List, Option, length, take, drop, sym, ◌∙◌, ap, subst, slice_set, arith}
+use Rattle.std.proofs.Math.Seq.{take-append_seam}
+use Rattle.srm_engine.specs.declared.next_times.Entry.{Entry}
+use Rattle.srm_engine.specs.NextTimes.{Holds, IsTournament, times_in, IsTree, SetsLeaf, IsEntryOf}
+use Rattle.srm_engine.proofs.Index.{holds_set, times_are, tournament}
 use Rattle.srm_engine.proofs.next_times.NextTimes.set.Goals as goal
 
-same_time : (o p : Option ℕ) → o ≡ p → option_eq nat_eq o p ≡ true
-same_time o p e = subst (λ q. option_eq nat_eq o q ≡ true) e (itself o)
-  where
-    itself : (o : Option ℕ) → option_eq nat_eq o o ≡ true
-    itself None = refl
-    itself (Some u) = eq-eqb u u refl
+-- what a vector has when a slice of all its items is written back to it
+abbrev written : ℕ → List Entry → List Entry → List Entry
+written len old new = take len (new ++ drop (length new) old)
 
-pub invariant_of-self-2 : goal.invariant_of-self-2
-invariant_of-self-2 c =
-    let within : c.args.member < length c.self.inside.times.items = subst (λ xs. c.args.member < length xs) (sym c.self.view_is) c.requires in
-    let at : slice_get c.self.inside.times.items c.args.member ≡ Some c.index.result.now = slice_get-get_or c.self.inside.times.items c.args.member c.index.result.now within ∙ ap Some (sym c.index.ensures) in
-    let ne : c.index.result.now ≢ c.args.time = λ e. true≢false (sym (same_time _ _ e) ∙ sym c.if-eq.ensures) in
-    let len : length (slice_set c.self.inside.times.items c.args.member c.args.time) ≡ length c.self.inside.times.items = length-set _ _ _ in
-    let short = c.self.invariant.1 in (
-      relisted c.self.inside.times.items c.args.member c.index.result.now c.args.time c.self.inside.order.keys c.enter.new.order.keys c.leave.new.order.keys within at ne c.self.invariant.0 c.in_ok-enter.ensures.ok c.leave.ensures,
-      omega arith,
-    )
+-- a tournament that climbed, put back in its vector, is one of the times with the one that was set
+put_back : (len : ℕ) (es was new : List Entry) (leaf m : ℕ) (t : Option ℕ) (e : Entry) (ts : List (Option ℕ))
+    → IsTournament es → times_in es ≡ ts → m < length ts → len ≡ length es → was ≡ es → length new ≡ length was
+    → leaf ≡ length es / 2 + m → IsEntryOf t m e → IsTree new → SetsLeaf leaf e was new
+    → IsTournament (written len es new) × (times_in (written len es new) ≡ slice_set ts m t)
+put_back len es was new leaf m t e ts h view lt all same as_long at is tree set =
+    let held : Holds ts es = subst (λ us. Holds us es) view h in
+    let size = held.size in
+    let place : leaf ≡ length ts + m = omega arith in
+    let long : length new ≡ length es = as_long ∙ ap length same in
+    let leaves : SetsLeaf (length ts + m) e es new =
+    subst (λ k. SetsLeaf k e es new) place (subst (λ xs. SetsLeaf leaf e xs new) same set) in
+    let back : new ≡ written len es new =
+    sym (ap (λ k. written k es new) (all ∙ sym long) ∙ take-append_seam new (drop (length new) es)) in
+    let now : Holds (slice_set ts m t) (written len es new) =
+    subst (Holds (slice_set ts m t)) back (holds_set ts es new m t e held lt long tree is leaves) in
+    (tournament _ _ now, times_are _ _ now)
+
+both : (c : goal.After-self-1) → IsTournament (written c.self.inside.entries.len c.self.inside.entries.items c.climb.new.entries)
+    × (times_in (written c.self.inside.entries.len c.self.inside.entries.items c.climb.new.entries)
+    ≡ slice_set c.args.self.now c.args.member c.args.time)
+both c =
+    let es = c.self.inside.entries in
+    let leaf = ap (λ n. n / 2 + c.from.result) (c.len.ensures ∙ es.ok.0) ∙ ap (λ m. length es.items / 2 + m) c.from.ensures in
+    put_back es.len es.items c.deref_mut.result.now c.climb.new.entries _ c.args.member c.args.time c.standing.result c.args.self.now
+    c.self.invariant c.self.view_is c.requires es.ok.0 c.deref_mut.ensures.value c.climb.auto.entries leaf
+    c.standing.ensures c.climb.ensures.tree c.climb.ensures.leaves
+
+pub invariant_of-self : goal.invariant_of-self
+invariant_of-self c = (both c).0
+
+pub returns : goal.returns
+returns c = (both c).1
