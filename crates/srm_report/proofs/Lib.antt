@@ -5,6 +5,7 @@ pub mod CourseLemmas
 pub mod LinkLemmas
 pub mod LossLemmas
 pub mod MemberLemmas
+pub mod PlainLemmas
 pub mod SinkLemmas
 pub mod TableLemmas
 pub mod TraceLemmas
