@@ -2,10 +2,10 @@ mod Fives
 pub mod Compare
 pub mod CountLemmas
 pub mod CourseLemmas
+pub mod LineLemmas
 pub mod LinkLemmas
 pub mod LossLemmas
 pub mod MemberLemmas
-pub mod PlainLemmas
 pub mod SinkLemmas
 pub mod TableLemmas
 pub mod TraceLemmas

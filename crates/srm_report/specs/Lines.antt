@@ -1,16 +1,11 @@
--- Lines of a CSV text in memory, as the crate `csv` writes them by its defaults.
-use Rattle.std.specs.Prelude.{ℕ, ◌+◌, List, drop}
+-- Lines of a CSV text in memory.
+use Rattle.std.specs.Prelude.{ℕ, ◌+◌, ◌-◌, List, drop}
 use Rattle.srm_report.specs.declared.line.Line.{Line}
+use Rattle.srm_report.specs.declared.line.TheConstants.{SIZE}
 
-abbrev pub comma : ℕ
-comma = 44
-
-abbrev pub line_feed : ℕ
-line_feed = 10
-
--- how many bytes fit into a line before its line feed
-abbrev pub longest : ℕ
-longest = 319
+-- how many bytes fit before a line's line feed
+abbrev pub full_room : ℕ
+full_room = SIZE - 1
 
 -- how many bytes fit before that which is written of a line
 abbrev pub line_room : Line → ℕ

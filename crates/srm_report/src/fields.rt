@@ -1,6 +1,7 @@
-//! Fields of a line. Each is put before the fields that are already there, and has a comma before it.
+//! Fields of a line. Each is put before the fields that are there, with a comma before it. None calls for quotes.
 ghost use Rattle.std.specs.Prelude.{◌≡◌, ◌+◌, ◌<◌, ◌≤◌, ◌∷◌, ◌++◌, codes, length, decimal};
-ghost use Rattle.srm_report.specs.Lines.{comma, line_room, line_written};
+ghost use Rattle.csv.specs.Writing.{comma};
+ghost use Rattle.srm_report.specs.Lines.{line_room, line_written};
 ghost use Rattle.srm_report.specs.Losses.{ratio};
 ghost use Rattle.srm_report.specs.Rows.{time_text};
 ghost use Rattle.srm_report.specs.Trace.{name_text, packet_text};
@@ -43,11 +44,11 @@ pub(crate) fn put_number(line: &mut Line, number: u64)
 
 // Puts a sum of numbers in digits.
 pub(crate) fn put_sum(line: &mut Line, sum: u128)
-    requires { 41 ≤ line_room line.old }
-    ensures room { line_room line.old ≤ line_room line.new + 41 }
+    requires { 40 ≤ line_room line.old }
+    ensures room { line_room line.old ≤ line_room line.new + 40 }
     ensures written { line_written line.new ≡ comma ∷ (decimal sum ++ line_written line.old) }
 {
-    line.put_sum(sum);
+    line.put_wide_digits(sum);
     line.put_byte(b',');
 }
 

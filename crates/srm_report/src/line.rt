@@ -1,45 +1,48 @@
 //! A line of a CSV text.
 ghost use Rattle.std.specs.Prelude.{◌<◌};
+ghost use Rattle.srm_report.specs.declared.line.TheConstants.{SIZE};
 
 use itoa::{Buffer, write_digits};
 
-// How long a line can be.
-const LONGEST: usize = 320;
+// How many bytes there is room for. The longest line, that of a member, has at most 300: ten numbers of up to 20 digits and two of
+// up to 39, a role of up to 8 letters, 13 commas with the one before the first field, and a line feed.
+const SIZE: usize = 320;
 
-// A line that is written from its end to its front, as the digits of a number are: so each byte goes to its place at once. Each
-// field has a comma before it, and the line feed stands at the end from the start on.
+// A line that is written from its end to its front, as the digits of a number are: so each byte goes to its place at once. It
+// ends in a line feed from the start on, and each field has a comma before it, also the first.
 #[derive(Drop)]
 pub(crate) struct Line {
-    bytes: [u8; LONGEST],
+    bytes: [u8; SIZE],
     // Where that which is written starts.
     start: usize,
-    ghost within: { start < 320 },
+    ghost within: { start < SIZE },
 }
 
 impl Line {
     ghost use Rattle.std.specs.Prelude.{◌≡◌, ◌+◌, ◌≤◌, [], ◌∷◌, ◌++◌, length, decimal};
-    ghost use Rattle.srm_report.specs.Lines.{line_room, line_text, line_written, longest, line_feed};
+    ghost use Rattle.csv.specs.Machine.{line_feed};
+    ghost use Rattle.srm_report.specs.Lines.{full_room, line_room, line_text, line_written};
 
     // A line of no field.
     pub(crate) fn new() -> Line
-        ensures room { line_room result ≡ longest }
+        ensures room { line_room result ≡ full_room }
         ensures written { line_written result ≡ line_feed ∷ [] }
     {
-        let mut bytes = [0; LONGEST];
-        bytes[LONGEST - 1] = b'\n';
+        let mut bytes = [0; SIZE];
+        bytes[SIZE - 1] = b'\n';
         Line {
             bytes,
-            start: LONGEST - 1,
+            start: SIZE - 1,
         }
     }
 
-    // Leaves no field.
+    // Takes all fields out.
     pub(crate) fn clear(&mut self)
-        ensures room { line_room self.new ≡ longest }
+        ensures room { line_room self.new ≡ full_room }
         ensures written { line_written self.new ≡ line_feed ∷ [] }
     {
-        self.bytes[LONGEST - 1] = b'\n';
-        self.start = LONGEST - 1;
+        self.bytes[SIZE - 1] = b'\n';
+        self.start = SIZE - 1;
     }
 
     // The line, without the comma before its first field.
@@ -83,13 +86,13 @@ impl Line {
         self.start = write_digits(number, &mut self.bytes, self.start);
     }
 
-    // Writes a sum of numbers in digits before the others.
-    pub(crate) fn put_sum(&mut self, sum: u128)
-        requires { 40 ≤ line_room self.old }
-        ensures room { line_room self.old ≤ line_room self.new + 40 }
-        ensures written { line_written self.new ≡ decimal sum ++ line_written self.old }
+    // Writes a number of up to 128 bits in digits before the others.
+    pub(crate) fn put_wide_digits(&mut self, number: u128)
+        requires { 39 ≤ line_room self.old }
+        ensures room { line_room self.old ≤ line_room self.new + 39 }
+        ensures written { line_written self.new ≡ decimal number ++ line_written self.old }
     {
         let mut digits = Buffer::new();
-        self.put_bytes(digits.format(sum).as_bytes());
+        self.put_bytes(digits.format(number).as_bytes());
     }
 }

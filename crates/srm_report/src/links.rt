@@ -1,8 +1,9 @@
 //! The table of links as CSV.
 ghost use Rattle.std.specs.Prelude.{◌≡◌, [], ◌∷◌, IfOk, slice_index};
+ghost use Rattle.csv.specs.Machine.{line_feed};
 ghost use Rattle.csv.specs.Writing.{default_writer, row_text};
 ghost use Rattle.srm_ledger.specs.Counts.{place_of};
-ghost use Rattle.srm_report.specs.Lines.{line_feed, line_room, line_text, line_written, longest};
+ghost use Rattle.srm_report.specs.Lines.{full_room, line_room, line_text, line_written};
 ghost use Rattle.srm_report.specs.Links.{link_fields, links_table};
 
 use crate::fault::ReportFault;
@@ -43,7 +44,7 @@ pub fn links_text(alloc: Global, totals: &Totals) -> Result<Vec<u8>, ReportFault
 
 // Puts the fields of a link with these five numbers, from the last to the first, before the line feed of an empty line.
 fn put_link(line: &mut Line, link: usize, numbers: &[u64; 5])
-    requires room { line_room line.old ≡ longest }
+    requires room { line_room line.old ≡ full_room }
     requires empty { line_written line.old ≡ line_feed ∷ [] }
     ensures { line_text line.new ≡ row_text default_writer (link_fields link (λ k. slice_index numbers.now (place_of k))) }
 {

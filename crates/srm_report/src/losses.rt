@@ -1,9 +1,10 @@
 //! The table of losses as CSV.
 ghost use Rattle.std.specs.Prelude.{◌≡◌, ◌<◌, [], ◌∷◌, ℕ, Some, IfOk, length};
+ghost use Rattle.csv.specs.Machine.{line_feed};
 ghost use Rattle.csv.specs.Writing.{default_writer, row_text};
 ghost use Rattle.srm_member.specs.Orderly.{IsOrderly};
 ghost use Rattle.srm_report.specs.Courses.{TellLosses};
-ghost use Rattle.srm_report.specs.Lines.{line_feed, line_room, line_text, line_written, longest};
+ghost use Rattle.srm_report.specs.Lines.{full_room, line_room, line_text, line_written};
 ghost use Rattle.srm_report.specs.Losses.{loss_fields, losses_table};
 
 use crate::by_loss::ByLoss;
@@ -67,7 +68,7 @@ fn all_losses(alloc: Global, rows: &[Row]) -> Result<ByLoss<Course>, AllocError>
 
 // Puts the fields of a loss, with what became of it, from the last to the first, before the line feed of an empty line.
 fn put_loss(line: &mut Line, net: &Net, entry: &(Loss, Course))
-    requires room { line_room line.old ≡ longest }
+    requires room { line_room line.old ≡ full_room }
     requires empty { line_written line.old ≡ line_feed ∷ [] }
     requires member { entry.now.0.member < length net.now.hosts }
     requires source { entry.now.0.name.source < length net.now.hosts }

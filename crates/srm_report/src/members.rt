@@ -1,8 +1,9 @@
 //! The table of members as CSV.
 ghost use Rattle.std.specs.Prelude.{◌≡◌, ◌≤◌, [], ◌∷◌, length, IfOk};
+ghost use Rattle.csv.specs.Machine.{line_feed};
 ghost use Rattle.csv.specs.Writing.{default_writer, row_text};
 ghost use Rattle.srm_report.specs.Counted.{AreCounts};
-ghost use Rattle.srm_report.specs.Lines.{line_feed, line_room, line_text, line_written, longest};
+ghost use Rattle.srm_report.specs.Lines.{full_room, line_room, line_text, line_written};
 ghost use Rattle.srm_report.specs.Members.{member_fields, members_table, role_word};
 
 use crate::counts::Counts;
@@ -16,7 +17,8 @@ use srm_scenario::scenario::Scenario;
 use std::alloc::{AllocError, Global};
 
 // The line of the columns.
-const HEADER: &[u8] = b"member,role,node,joined,left,drawn,heard,lost,fixed,open,requests,repairs,sessions\n";
+const HEADER: &[u8] =
+    b"member,role,node,joined,left,drawn,heard,lost,fixed,open,requests,repairs,sessions\n";
 
 /// The table of members, as CSV with line feeds: a header, and a line for each member of the scenario, in the order of their
 /// numbers.
@@ -78,7 +80,7 @@ fn all_counts(alloc: Global, members: u16, rows: &[Row]) -> Result<Vec<Counts>, 
 
 // Puts the fields of a member, from the last to the first, before the line feed of an empty line.
 fn put_member(line: &mut Line, number: u16, member: &MemberSpec, counts: &Counts)
-    requires room { line_room line.old ≡ longest }
+    requires room { line_room line.old ≡ full_room }
     requires empty { line_written line.old ≡ line_feed ∷ [] }
     ensures { line_text line.new ≡ row_text default_writer (member_fields number member.now counts.now) }
 {

@@ -1,7 +1,8 @@
 //! The trace of a run as CSV.
 ghost use Rattle.std.specs.Prelude.{◌≡◌, ◌+◌, ◌≤◌, [], ◌∷◌, ◌++◌, length, IfOk, OnOk};
-ghost use Rattle.csv.specs.Writing.{default_writer, row_text};
-ghost use Rattle.srm_report.specs.Lines.{comma, line_feed, line_room, line_text, line_written, longest};
+ghost use Rattle.csv.specs.Machine.{line_feed};
+ghost use Rattle.csv.specs.Writing.{comma, default_writer, row_text};
+ghost use Rattle.srm_report.specs.Lines.{full_room, line_room, line_text, line_written};
 ghost use Rattle.srm_report.specs.Trace.{cause_word, told_word, ref_text, sent_text, trace_fields, trace_lines, trace_of_rows};
 
 use crate::fault::ReportFault;
@@ -14,6 +15,9 @@ use std::alloc::{AllocError, Global};
 
 // The line of the columns.
 const HEADER: &[u8] = b"time,member,cause,ref,result,lost,sent\n";
+
+// How many bytes most lines of a run have at most, to make room for them at once.
+const USUAL_LINE: usize = 40;
 
 /// The text of a trace, as CSV with line feeds: a header, and a line for each row.
 ///
@@ -53,6 +57,7 @@ pub fn lines_text(alloc: Global, rows: &[Row]) -> Result<Vec<u8>, ReportFault>
 fn put_rows(text: &mut Vec<u8>, rows: &[Row]) -> Result<(), AllocError>
     ensures { OnOk result (text.new.items ≡ text.old.items ++ trace_lines rows.now) }
 {
+    text.reserve(rows.len().saturating_mul(USUAL_LINE))?;
     let mut line = Line::new();
     for row in rows {
         line.clear();
@@ -64,7 +69,7 @@ fn put_rows(text: &mut Vec<u8>, rows: &[Row]) -> Result<(), AllocError>
 
 // Puts the fields of a row, from the last to the first, before the line feed of an empty line.
 fn put_row(line: &mut Line, row: &Row)
-    requires room { line_room line.old ≡ longest }
+    requires room { line_room line.old ≡ full_room }
     requires empty { line_written line.old ≡ line_feed ∷ [] }
     ensures { line_text line.new ≡ row_text default_writer (trace_fields row.now) }
 {

@@ -1,4 +1,4 @@
-use Rattle.std.proofs.Common.{◌≡◌, ◌∙◌, [], length, refl, arith}
+use Rattle.std.proofs.Common.{◌≡◌, ◌∙◌, [], length, arith}
 use Rattle.csv.specs.Writing.{fields_text, is_blank}
 use Rattle.srm_report.proofs.LinkLemmas.{text_first, text_more, text_all}
 use Rattle.srm_report.proofs.links.links_text.Goals as goal

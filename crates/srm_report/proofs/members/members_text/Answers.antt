@@ -1,4 +1,4 @@
-use Rattle.std.proofs.Common.{◌≡◌, ◌∙◌, length, refl, arith}
+use Rattle.std.proofs.Common.{◌≡◌, ◌∙◌, length, arith}
 use Rattle.csv.specs.Writing.{fields_text, is_blank}
 use Rattle.srm_report.specs.Members.{member_columns}
 use Rattle.srm_report.proofs.TableLemmas.{table_first}

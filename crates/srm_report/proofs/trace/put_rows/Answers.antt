@@ -5,7 +5,7 @@ use Rattle.srm_report.proofs.trace.put_rows.Goals as goal
 
 pub loop-row-init : goal.loop-row-init
 unfolding trace_lines
-loop-row-init c = sym (append-nil c.args.text.now.items)
+loop-row-init c = c.in_ok-reserve.ensures.items ∙ sym (append-nil c.args.text.now.items)
 
 pub loop-row-preserved : goal.loop-row-preserved
 loop-row-preserved c =

@@ -4,4 +4,4 @@ use Rattle.srm_report.proofs.trace.put_rows.Given as goal
 
 -- the lines of the rows so far were written
 abbrev pub invariant-loop-row : goal.invariant-loop-row
-invariant-loop-row l = l.text.items ≡ l.initial.text.items ++ trace_lines (take l.row-index l.rows)
+invariant-loop-row l = l.text.items ≡ l.fn.text.items ++ trace_lines (take l.row-index l.rows)
