@@ -2,6 +2,7 @@ mod Fives
 pub mod Compare
 pub mod CountLemmas
 pub mod CourseLemmas
+pub mod LineLemmas
 pub mod LinkLemmas
 pub mod LossLemmas
 pub mod MemberLemmas

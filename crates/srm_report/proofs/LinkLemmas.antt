@@ -32,12 +32,13 @@ module _ (ls : List (List ℕ)) (five : FiveEach ls) (totals : List ℕ) (joined
   pub links_are : links_in totals ≡ length ls
   links_are = let long = length_joined ls five in let same : length (concat ls) ≡ length totals = ap length joined in omega arith
 
-  pub text_more : (i : ℕ) (d : List ℕ) (fields : List (List ℕ)) (old new : List ℕ) → i < length ls
-      → old ≡ table_of link_columns (first_rows totals i) → fields ≡ link_fields i (λ k. slice_index (slice_index_or ls i d) (place_of k))
-      → new ≡ old ++ row_text default_writer fields → new ≡ table_of link_columns (first_rows totals (i + 1))
-  text_more i d fields old new lt before is grown =
-      let same : fields ≡ link_fields i (number_at totals i) = is ∙ (λ t. link_fields i (λ k. numbers_are i d lt k t)) in
-      table_more link_columns (first_rows totals i) (link_fields i (number_at totals i)) fields old new before same grown
+  pub text_more : (i : ℕ) (d : List ℕ) (old new line : List ℕ) → i < length ls
+      → old ≡ table_of link_columns (first_rows totals i) → line ≡ row_text default_writer (link_fields i (λ k. slice_index (slice_index_or ls i d) (place_of k)))
+      → new ≡ old ++ line → new ≡ table_of link_columns (first_rows totals (i + 1))
+  text_more i d old new line lt before is grown =
+      let same : line ≡ row_text default_writer (link_fields i (number_at totals i)) =
+      is ∙ (λ t. row_text default_writer (link_fields i (λ k. numbers_are i d lt k t))) in
+      table_more link_columns (first_rows totals i) (link_fields i (number_at totals i)) old new line before same grown
       ∙ ap (table_of link_columns) (sym (map-range_with_len_more (λ l. link_fields l (number_at totals l)) 0 i i (omega arith)))
 
   pub text_all : (i : ℕ) (text : List ℕ) → i ≡ length ls → text ≡ table_of link_columns (first_rows totals i) → text ≡ links_table totals

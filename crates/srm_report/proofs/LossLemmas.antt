@@ -121,14 +121,14 @@ module _ (rows : List Row) (members : ℕ) (orderly : IsOrderly members rows) (e
         let member : f.0.key.member ≡ k.member = eqb-true _ _ (first_true (f.0.key.member == k.member) _ f.2) in
         (subst (λ m. m < members) member a.member, a.sources k.name (named_in k.name f.0.lost (second_true (f.0.key.member == k.member) _ f.2)))
 
-  text_more : (net : Network) (i : ℕ) (k : Loss) (c : Course) (fields : List (List ℕ)) (old new : List ℕ) → i < length es → (k, c) ≡ get_or es i (k, c)
-      → old ≡ table_of loss_columns (map (loss_row net rows) (take i (map (λ e. e.0) es))) → fields ≡ loss_fields net k (Some c.detected) c.recovered
-      → new ≡ old ++ row_text default_writer fields → new ≡ table_of loss_columns (map (loss_row net rows) (take (i + 1) (map (λ e. e.0) es)))
-  text_more net i k c fields old new lt here before is grown =
+  text_more : (net : Network) (i : ℕ) (k : Loss) (c : Course) (old new line : List ℕ) → i < length es → (k, c) ≡ get_or es i (k, c)
+      → old ≡ table_of loss_columns (map (loss_row net rows) (take i (map (λ e. e.0) es))) → line ≡ row_text default_writer (loss_fields net k (Some c.detected) c.recovered)
+      → new ≡ old ++ line → new ≡ table_of loss_columns (map (loss_row net rows) (take (i + 1) (map (λ e. e.0) es)))
+  text_more net i k c old new line lt here before is grown =
       let ks = map (λ (e : Loss × Course). e.0) es in
       let long : length ks ≡ length es = length-keys es in
       let one : take (i + 1) ks ≡ take i ks ++ k ∷ [] = take_more ks i k (omega arith) ∙ ap (λ x. take i ks ++ x ∷ []) (get-map es i k c lt here) in
-      table_more loss_columns (map (loss_row net rows) (take i ks)) (loss_row net rows k) fields old new before (is ∙ is_row i k c lt here net) grown
+      table_more loss_columns (map (loss_row net rows) (take i ks)) (loss_row net rows k) old new line before (is ∙ ap (row_text default_writer) (is_row i k c lt here net)) grown
       ∙ ap (table_of loss_columns) (sym (ap (map (loss_row net rows)) one ∙ map-push (loss_row net rows) (take i ks) k))
     where
       get-map : (es : List (Loss × Course)) (i : ℕ) (k : Loss) (c : Course) → i < length es → (k, c) ≡ get_or es i (k, c) → get_or (map (λ e. e.0) es) i k ≡ k
@@ -152,11 +152,11 @@ module _ (rows : List Row) (members : ℕ) (orderly : IsOrderly members rows) (e
   pub next_among : (i : ℕ) (d : Loss × Course) → i < length es → ((get_or es i d).0.member < members) × ((get_or es i d).0.name.source < members)
   next_among i d lt = among i (get_or es i d).0 (get_or es i d).1 lt (read i d lt)
 
-  pub text_next : (net : Network) (i : ℕ) (d : Loss × Course) (fields : List (List ℕ)) (old new : List ℕ) → i < length es
+  pub text_next : (net : Network) (i : ℕ) (d : Loss × Course) (old new line : List ℕ) → i < length es
       → old ≡ table_of loss_columns (map (loss_row net rows) (take i (map (λ e. e.0) es)))
-      → fields ≡ loss_fields net (get_or es i d).0 (Some (get_or es i d).1.detected) (get_or es i d).1.recovered
-      → new ≡ old ++ row_text default_writer fields → new ≡ table_of loss_columns (map (loss_row net rows) (take (i + 1) (map (λ e. e.0) es)))
-  text_next net i d fields old new lt before is grown = text_more net i (get_or es i d).0 (get_or es i d).1 fields old new lt (read i d lt) before is grown
+      → line ≡ row_text default_writer (loss_fields net (get_or es i d).0 (Some (get_or es i d).1.detected) (get_or es i d).1.recovered)
+      → new ≡ old ++ line → new ≡ table_of loss_columns (map (loss_row net rows) (take (i + 1) (map (λ e. e.0) es)))
+  text_next net i d old new line lt before is grown = text_more net i (get_or es i d).0 (get_or es i d).1 old new line lt (read i d lt) before is grown
 
   pub text_all : (net : Network) (i : ℕ) (text : List ℕ) → i ≡ length es → text ≡ table_of loss_columns (map (loss_row net rows) (take i (map (λ e. e.0) es))) → text ≡ losses_table net rows
   unfolding losses_table

@@ -16,10 +16,10 @@ lines_more rows r =
     ∙ ap (λ l. lines_of rows ++ l) (append-nil (row_text default_writer r))
 
 -- a text that grows by the line of one row more
-pub table_more : (columns : List (List ℕ)) (rows : List (List (List ℕ))) (r fields : List (List ℕ)) (old new : List ℕ)
-    → old ≡ table_of columns rows → fields ≡ r → new ≡ old ++ row_text default_writer fields → new ≡ table_of columns (rows ++ r ∷ [])
+pub table_more : (columns : List (List ℕ)) (rows : List (List (List ℕ))) (r : List (List ℕ)) (old new line : List ℕ)
+    → old ≡ table_of columns rows → line ≡ row_text default_writer r → new ≡ old ++ line → new ≡ table_of columns (rows ++ r ∷ [])
 unfolding table_of
-table_more columns rows r fields old new before is grown =
-    grown ∙ ap (λ f. old ++ row_text default_writer f) is ∙ ap (λ l. l ++ row_text default_writer r) before
+table_more columns rows r old new line before is grown =
+    grown ∙ ap (λ l. old ++ l) is ∙ ap (λ l. l ++ row_text default_writer r) before
     ∙ append_assoc (row_text default_writer columns) (lines_of rows) (row_text default_writer r)
     ∙ ap (λ l. row_text default_writer columns ++ l) (sym (lines_more rows r))

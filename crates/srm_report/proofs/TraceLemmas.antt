@@ -18,12 +18,12 @@ trace_lines-more rows i r h e =
     ∙ ap (λ q. trace_lines (take i rows) ++ trace_line q) (sym e)
 
 -- a text that grows by the line of the next row
-pub text-more : (front : List ℕ) (rows : List Row) (i : ℕ) (r : Row) (old new : List ℕ) (fields : List (List ℕ)) → i < length rows → r ≡ get_or rows i r
-    → old ≡ front ++ trace_lines (take i rows) → fields ≡ trace_fields r → new ≡ old ++ row_text default_writer fields
+pub text-more : (front : List ℕ) (rows : List Row) (i : ℕ) (r : Row) (old new line : List ℕ) → i < length rows → r ≡ get_or rows i r
+    → old ≡ front ++ trace_lines (take i rows) → line ≡ row_text default_writer (trace_fields r) → new ≡ old ++ line
     → new ≡ front ++ trace_lines (take (i + 1) rows)
 unfolding trace_line
-text-more front rows i r old new fields h e before is grown =
-    grown ∙ ap (λ f. old ++ row_text default_writer f) is ∙ ap (λ l. l ++ trace_line r) before
+text-more front rows i r old new line h e before is grown =
+    grown ∙ ap (λ l. old ++ l) is ∙ ap (λ l. l ++ trace_line r) before
     ∙ append_assoc front (trace_lines (take i rows)) (trace_line r)
     ∙ ap (λ l. front ++ l) (sym (trace_lines-more rows i r h e))
 

@@ -1,15 +1,20 @@
--- Lines of a CSV text in memory, by the crate `csv` as it is set up by default.
-use Rattle.std.specs.Prelude.{◌≡◌, ℕ, List, ◌++◌, false, Vec}
-use Rattle.std.specs.declared.alloc.Global.{Global}
-use Rattle.csv.specs.declared.writer.Writer.{Writer}
-use Rattle.csv.specs.Writing.{default_writer, fields_written, has_written, writer_pending, writer_setup, writer_under}
+-- Lines of a CSV text in memory.
+use Rattle.std.specs.Prelude.{ℕ, ◌+◌, ◌-◌, List, drop}
+use Rattle.srm_report.specs.declared.line.Line.{Line}
+use Rattle.srm_report.specs.declared.line.TheConstants.{SIZE}
 
--- all that was written
-abbrev pub lines_written : Writer (Vec ℕ Global) → List ℕ
-lines_written w = (writer_under w).items ++ writer_pending w
+-- how many bytes fit before a line's line feed
+abbrev pub full_room : ℕ
+full_room = SIZE - 1
 
--- the writer writes by the defaults, and has begun no line that it has not ended
-pub record IsBetweenLines (w : Writer (Vec ℕ Global)) : Type 0 where
-  pub setup : writer_setup w ≡ default_writer
-  pub fields : fields_written w ≡ 0
-  pub clean : has_written w ≡ false
+-- how many bytes fit before that which is written of a line
+abbrev pub line_room : Line → ℕ
+line_room l = l.start
+
+-- what is written of a line: its last fields, each after a comma, and the line feed
+abbrev pub line_written : Line → List ℕ
+line_written l = drop l.start l.bytes
+
+-- the line, without the comma before its first field
+abbrev pub line_text : Line → List ℕ
+line_text l = drop (l.start + 1) l.bytes

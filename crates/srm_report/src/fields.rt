@@ -1,108 +1,102 @@
-//! Fields of a line that are printed. Each is printed into a text that is used again.
-ghost use Rattle.std.specs.Prelude.{◌≡◌, [], ◌∷◌, ◌++◌, decimal, OnOk};
-ghost use Rattle.csv.specs.Records.{fields_of, partial_of};
+//! Fields of a line. Each is put before the fields that are there, with a comma before it. None calls for quotes.
+ghost use Rattle.std.specs.Prelude.{◌≡◌, ◌+◌, ◌<◌, ◌≤◌, ◌∷◌, ◌++◌, codes, length, decimal};
+ghost use Rattle.csv.specs.Writing.{comma};
+ghost use Rattle.srm_report.specs.Lines.{line_room, line_written};
 ghost use Rattle.srm_report.specs.Losses.{ratio};
 ghost use Rattle.srm_report.specs.Rows.{time_text};
 ghost use Rattle.srm_report.specs.Trace.{name_text, packet_text};
 
-use csv::ByteRecord;
+use crate::line::Line;
 use srm_net::packet::{Name, PacketId};
-use std::alloc::AllocError;
 
-// Appends a number in digits.
-pub(crate) fn put_number(
-    record: &mut ByteRecord,
-    text: &mut String,
-    number: u64,
-) -> Result<(), AllocError>
-    requires { partial_of record.old ≡ [] }
-    ensures fields { OnOk result (fields_of record.new ≡ fields_of record.old ++ decimal number ∷ []) }
-    ensures whole { OnOk result (partial_of record.new ≡ []) }
+// Puts a word.
+#[inline]
+pub(crate) fn put_word(line: &mut Line, word: &str)
+    requires { length word.now < line_room line.old }
+    ensures room { line_room line.old ≡ line_room line.new + length word.now + 1 }
+    ensures written { line_written line.new ≡ comma ∷ (word.now ++ line_written line.old) }
 {
-    text.clear();
-    write!(text, "{number}")?;
-    record.push_field(text.as_bytes())
+    line.put_bytes(word.as_bytes());
+    line.put_byte(b',');
 }
 
-// Appends a sum of numbers in digits.
-pub(crate) fn put_sum(
-    record: &mut ByteRecord,
-    text: &mut String,
-    sum: u128,
-) -> Result<(), AllocError>
-    requires { partial_of record.old ≡ [] }
-    ensures fields { OnOk result (fields_of record.new ≡ fields_of record.old ++ decimal sum ∷ []) }
-    ensures whole { OnOk result (partial_of record.new ≡ []) }
+// Puts a dash, where there is nothing to be told.
+#[inline]
+pub(crate) fn put_dash(line: &mut Line)
+    requires { 2 ≤ line_room line.old }
+    ensures room { line_room line.old ≡ line_room line.new + 2 }
+    ensures written { line_written line.new ≡ comma ∷ (codes "-" ++ line_written line.old) }
 {
-    text.clear();
-    write!(text, "{sum}")?;
-    record.push_field(text.as_bytes())
+    line.put_byte(b'-');
+    line.put_byte(b',');
 }
 
-// Appends a time in digits, or `-` where there is none.
-pub(crate) fn put_time(
-    record: &mut ByteRecord,
-    text: &mut String,
-    time: Option<u64>,
-) -> Result<(), AllocError>
-    requires { partial_of record.old ≡ [] }
-    ensures fields { OnOk result (fields_of record.new ≡ fields_of record.old ++ time_text time ∷ []) }
-    ensures whole { OnOk result (partial_of record.new ≡ []) }
+// Puts a number in digits.
+#[inline]
+pub(crate) fn put_number(line: &mut Line, number: u64)
+    requires { 21 ≤ line_room line.old }
+    ensures room { line_room line.old ≤ line_room line.new + 21 }
+    ensures written { line_written line.new ≡ comma ∷ (decimal number ++ line_written line.old) }
+{
+    line.put_digits(number);
+    line.put_byte(b',');
+}
+
+// Puts a sum of numbers in digits.
+pub(crate) fn put_sum(line: &mut Line, sum: u128)
+    requires { 40 ≤ line_room line.old }
+    ensures room { line_room line.old ≤ line_room line.new + 40 }
+    ensures written { line_written line.new ≡ comma ∷ (decimal sum ++ line_written line.old) }
+{
+    line.put_wide_digits(sum);
+    line.put_byte(b',');
+}
+
+// Puts a time in digits, or `-` where there is none.
+pub(crate) fn put_time(line: &mut Line, time: Option<u64>)
+    requires { 21 ≤ line_room line.old }
+    ensures room { line_room line.old ≤ line_room line.new + 21 }
+    ensures written { line_written line.new ≡ comma ∷ (time_text time ++ line_written line.old) }
 {
     match time {
-        None => record.push_field(b"-"),
-        Some(time) => put_number(record, text, time),
+        None => put_dash(line),
+        Some(time) => put_number(line, time),
     }
 }
 
-// Appends a delay over another, as two numbers with a slash.
-pub(crate) fn put_delay(
-    record: &mut ByteRecord,
-    text: &mut String,
-    took: u64,
-    way: u64,
-) -> Result<(), AllocError>
-    requires { partial_of record.old ≡ [] }
-    ensures fields { OnOk result (fields_of record.new ≡ fields_of record.old ++ ratio took way ∷ []) }
-    ensures whole { OnOk result (partial_of record.new ≡ []) }
+// Puts a delay over another, as two numbers with a slash.
+pub(crate) fn put_delay(line: &mut Line, took: u64, way: u64)
+    requires { 42 ≤ line_room line.old }
+    ensures room { line_room line.old ≤ line_room line.new + 42 }
+    ensures written { line_written line.new ≡ comma ∷ (ratio took way ++ line_written line.old) }
 {
-    text.clear();
-    write!(text, "{took}/{way}")?;
-    record.push_field(text.as_bytes())
+    line.put_digits(way);
+    line.put_byte(b'/');
+    put_number(line, took);
 }
 
-// Appends a packet as `sender:count`.
-pub(crate) fn put_packet(
-    record: &mut ByteRecord,
-    text: &mut String,
-    packet: PacketId,
-) -> Result<(), AllocError>
-    requires { partial_of record.old ≡ [] }
-    ensures fields { OnOk result (fields_of record.new ≡ fields_of record.old ++ packet_text packet ∷ []) }
-    ensures whole { OnOk result (partial_of record.new ≡ []) }
+// Puts a packet as `sender:count`.
+#[inline]
+pub(crate) fn put_packet(line: &mut Line, packet: PacketId)
+    requires { 42 ≤ line_room line.old }
+    ensures room { line_room line.old ≤ line_room line.new + 42 }
+    ensures written { line_written line.new ≡ comma ∷ (packet_text packet ++ line_written line.old) }
 {
-    let PacketId { sender, count } = packet;
-    text.clear();
-    write!(text, "{sender}:{count}")?;
-    record.push_field(text.as_bytes())
+    line.put_digits(packet.count);
+    line.put_byte(b':');
+    put_number(line, u64::from(packet.sender));
 }
 
-// Appends a name as `source/page/number`.
-pub(crate) fn put_name(
-    record: &mut ByteRecord,
-    text: &mut String,
-    name: Name,
-) -> Result<(), AllocError>
-    requires { partial_of record.old ≡ [] }
-    ensures fields { OnOk result (fields_of record.new ≡ fields_of record.old ++ name_text name ∷ []) }
-    ensures whole { OnOk result (partial_of record.new ≡ []) }
+// Puts a name as `source/page/number`.
+#[inline]
+pub(crate) fn put_name(line: &mut Line, name: Name)
+    requires { 63 ≤ line_room line.old }
+    ensures room { line_room line.old ≤ line_room line.new + 63 }
+    ensures written { line_written line.new ≡ comma ∷ (name_text name ++ line_written line.old) }
 {
-    let Name {
-        source,
-        page,
-        number,
-    } = name;
-    text.clear();
-    write!(text, "{source}/{page}/{number}")?;
-    record.push_field(text.as_bytes())
+    line.put_digits(u64::from(name.number));
+    line.put_byte(b'/');
+    line.put_digits(u64::from(name.page));
+    line.put_byte(b'/');
+    put_number(line, u64::from(name.source));
 }

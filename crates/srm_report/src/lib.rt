@@ -7,7 +7,7 @@ mod course;
 mod courses;
 pub mod fault;
 mod fields;
-mod lines;
+mod line;
 pub mod links;
 mod loss;
 pub mod losses;

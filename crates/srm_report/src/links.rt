@@ -1,16 +1,20 @@
 //! The table of links as CSV.
-ghost use Rattle.std.specs.Prelude.{◌≡◌, [], IfOk, OnOk, slice_index};
-ghost use Rattle.csv.specs.Records.{fields_of, partial_of};
+ghost use Rattle.std.specs.Prelude.{◌≡◌, [], ◌∷◌, IfOk, slice_index};
+ghost use Rattle.csv.specs.Machine.{line_feed};
+ghost use Rattle.csv.specs.Writing.{default_writer, row_text};
 ghost use Rattle.srm_ledger.specs.Counts.{place_of};
+ghost use Rattle.srm_report.specs.Lines.{full_room, line_room, line_text, line_written};
 ghost use Rattle.srm_report.specs.Links.{link_fields, links_table};
 
 use crate::fault::ReportFault;
 use crate::fields::put_number;
-use crate::lines::{start_lines, text_of, write_line};
-use csv::ByteRecord;
+use crate::line::Line;
 use srm_ledger::kind::Kind;
 use srm_ledger::totals::Totals;
-use std::alloc::{AllocError, Global};
+use std::alloc::Global;
+
+// The line of the columns.
+const HEADER: &[u8] = b"link,data,requests,repairs,sessions,dropped\n";
 
 /// The table of links, as CSV with line feeds: a header, and a line for each link, in the order of their numbers.
 ///
@@ -28,43 +32,26 @@ use std::alloc::{AllocError, Global};
 pub fn links_text(alloc: Global, totals: &Totals) -> Result<Vec<u8>, ReportFault>
     ensures { IfOk result (λ text. text.items ≡ links_table totals.now) }
 {
-    let mut writer = start_lines(
-        alloc,
-        &[
-            b"link",
-            b"data",
-            b"requests",
-            b"repairs",
-            b"sessions",
-            b"dropped",
-        ],
-    )?;
-    let mut record = ByteRecord::new(alloc);
-    let mut digits = String::new(alloc);
+    let mut text = Vec::from_slice(alloc, HEADER)?;
+    let mut line = Line::new();
     for (link, numbers) in totals.links().iter().enumerate() {
-        record.clear();
-        put_link(&mut record, &mut digits, link, numbers)?;
-        write_line(&mut writer, &record)?;
+        line.clear();
+        put_link(&mut line, link, numbers);
+        text.extend_from_slice(line.text())?;
     }
-    text_of(writer)
+    Ok(text)
 }
 
-// Appends the fields of a link with these five numbers to an empty record.
-fn put_link(
-    record: &mut ByteRecord,
-    digits: &mut String,
-    link: usize,
-    numbers: &[u64; 5],
-) -> Result<(), AllocError>
-    requires empty { fields_of record.old ≡ [] }
-    requires whole { partial_of record.old ≡ [] }
-    ensures fields { OnOk result (fields_of record.new ≡ link_fields link (λ k. slice_index numbers.now (place_of k))) }
-    ensures whole { OnOk result (partial_of record.new ≡ []) }
+// Puts the fields of a link with these five numbers, from the last to the first, before the line feed of an empty line.
+fn put_link(line: &mut Line, link: usize, numbers: &[u64; 5])
+    requires room { line_room line.old ≡ full_room }
+    requires empty { line_written line.old ≡ line_feed ∷ [] }
+    ensures { line_text line.new ≡ row_text default_writer (link_fields link (λ k. slice_index numbers.now (place_of k))) }
 {
-    put_number(record, digits, link as u64)?;
-    put_number(record, digits, numbers[Kind::Drawop.place()])?;
-    put_number(record, digits, numbers[Kind::Request.place()])?;
-    put_number(record, digits, numbers[Kind::Repair.place()])?;
-    put_number(record, digits, numbers[Kind::Session.place()])?;
-    put_number(record, digits, numbers[Kind::Dropped.place()])
+    put_number(line, numbers[Kind::Dropped.place()]);
+    put_number(line, numbers[Kind::Session.place()]);
+    put_number(line, numbers[Kind::Repair.place()]);
+    put_number(line, numbers[Kind::Request.place()]);
+    put_number(line, numbers[Kind::Drawop.place()]);
+    put_number(line, link as u64);
 }

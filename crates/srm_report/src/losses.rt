@@ -1,21 +1,25 @@
 //! The table of losses as CSV.
-ghost use Rattle.std.specs.Prelude.{◌≡◌, ◌<◌, [], ℕ, Some, IfOk, OnOk, length};
-ghost use Rattle.csv.specs.Records.{fields_of, partial_of};
+ghost use Rattle.std.specs.Prelude.{◌≡◌, ◌<◌, [], ◌∷◌, ℕ, Some, IfOk, length};
+ghost use Rattle.csv.specs.Machine.{line_feed};
+ghost use Rattle.csv.specs.Writing.{default_writer, row_text};
 ghost use Rattle.srm_member.specs.Orderly.{IsOrderly};
 ghost use Rattle.srm_report.specs.Courses.{TellLosses};
+ghost use Rattle.srm_report.specs.Lines.{full_room, line_room, line_text, line_written};
 ghost use Rattle.srm_report.specs.Losses.{loss_fields, losses_table};
 
 use crate::by_loss::ByLoss;
 use crate::course::Course;
 use crate::courses::note;
 use crate::fault::ReportFault;
-use crate::fields::{put_delay, put_number, put_time};
-use crate::lines::{start_lines, text_of, write_line};
+use crate::fields::{put_dash, put_delay, put_number, put_time};
+use crate::line::Line;
 use crate::loss::Loss;
-use csv::ByteRecord;
 use srm_member::row::Row;
 use srm_net::net::Net;
 use std::alloc::{AllocError, Global};
+
+// The line of the columns.
+const HEADER: &[u8] = b"member,source,page,number,detected,recovered,delay\n";
 
 /// The table of losses, as CSV with line feeds: a header, and a line for each name that a member lost, rising by member, source,
 /// page and number.
@@ -40,26 +44,14 @@ pub fn losses_text(alloc: Global, net: &Net, rows: &[Row]) -> Result<Vec<u8>, Re
 {
     let losses = all_losses(alloc, rows)?;
     let entries = losses.entries(alloc)?;
-    let mut writer = start_lines(
-        alloc,
-        &[
-            b"member",
-            b"source",
-            b"page",
-            b"number",
-            b"detected",
-            b"recovered",
-            b"delay",
-        ],
-    )?;
-    let mut record = ByteRecord::new(alloc);
-    let mut digits = String::new(alloc);
+    let mut text = Vec::from_slice(alloc, HEADER)?;
+    let mut line = Line::new();
     for entry in &entries {
-        record.clear();
-        put_loss(&mut record, &mut digits, net, entry)?;
-        write_line(&mut writer, &record)?;
+        line.clear();
+        put_loss(&mut line, net, entry);
+        text.extend_from_slice(line.text())?;
     }
-    text_of(writer)
+    Ok(text)
 }
 
 // The losses of these rows in rising order, and what became of each.
@@ -74,34 +66,28 @@ fn all_losses(alloc: Global, rows: &[Row]) -> Result<ByLoss<Course>, AllocError>
     Ok(losses)
 }
 
-// Appends the fields of a loss, with what became of it, to an empty record. The digits are written in the text given for them.
-pub(crate) fn put_loss(
-    record: &mut ByteRecord,
-    digits: &mut String,
-    net: &Net,
-    entry: &(Loss, Course),
-) -> Result<(), AllocError>
-    requires empty { fields_of record.old ≡ [] }
-    requires whole { partial_of record.old ≡ [] }
+// Puts the fields of a loss, with what became of it, from the last to the first, before the line feed of an empty line.
+fn put_loss(line: &mut Line, net: &Net, entry: &(Loss, Course))
+    requires room { line_room line.old ≡ full_room }
+    requires empty { line_written line.old ≡ line_feed ∷ [] }
     requires member { entry.now.0.member < length net.now.hosts }
     requires source { entry.now.0.name.source < length net.now.hosts }
-    ensures fields { OnOk result (fields_of record.new
-        ≡ loss_fields net.now entry.now.0 (Some entry.now.1.detected) entry.now.1.recovered) }
-    ensures whole { OnOk result (partial_of record.new ≡ []) }
+    ensures { line_text line.new ≡ row_text default_writer
+        (loss_fields net.now entry.now.0 (Some entry.now.1.detected) entry.now.1.recovered) }
 {
     let (Loss { member, name }, course) = *entry;
-    put_number(record, digits, u64::from(member))?;
-    put_number(record, digits, u64::from(name.source))?;
-    put_number(record, digits, u64::from(name.page))?;
-    put_number(record, digits, u64::from(name.number))?;
-    put_number(record, digits, course.detected)?;
-    put_time(record, digits, course.recovered)?;
     match course.recovered {
-        None => record.push_field(b"-"),
+        None => put_dash(line),
         Some(recovered) => {
             let took = recovered.saturating_sub(course.detected);
             let round = net.round(member, name.source);
-            put_delay(record, digits, took, round)
+            put_delay(line, took, round);
         }
     }
+    put_time(line, course.recovered);
+    put_number(line, course.detected);
+    put_number(line, u64::from(name.number));
+    put_number(line, u64::from(name.page));
+    put_number(line, u64::from(name.source));
+    put_number(line, u64::from(member));
 }

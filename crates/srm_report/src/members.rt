@@ -1,19 +1,24 @@
 //! The table of members as CSV.
-ghost use Rattle.std.specs.Prelude.{◌≡◌, [], ◌++◌, ◌∷◌, IfOk, OnOk};
-ghost use Rattle.csv.specs.Records.{fields_of, partial_of};
+ghost use Rattle.std.specs.Prelude.{◌≡◌, ◌≤◌, [], ◌∷◌, length, IfOk};
+ghost use Rattle.csv.specs.Machine.{line_feed};
+ghost use Rattle.csv.specs.Writing.{default_writer, row_text};
 ghost use Rattle.srm_report.specs.Counted.{AreCounts};
+ghost use Rattle.srm_report.specs.Lines.{full_room, line_room, line_text, line_written};
 ghost use Rattle.srm_report.specs.Members.{member_fields, members_table, role_word};
 
 use crate::counts::Counts;
 use crate::fault::ReportFault;
-use crate::fields::{put_number, put_sum, put_time};
-use crate::lines::{start_lines, text_of, write_line};
-use csv::ByteRecord;
+use crate::fields::{put_number, put_sum, put_time, put_word};
+use crate::line::Line;
 use srm_member::row::Row;
 use srm_net::role::Role;
 use srm_scenario::parts::MemberSpec;
 use srm_scenario::scenario::Scenario;
 use std::alloc::{AllocError, Global};
+
+// The line of the columns.
+const HEADER: &[u8] =
+    b"member,role,node,joined,left,drawn,heard,lost,fixed,open,requests,repairs,sessions\n";
 
 /// The table of members, as CSV with line feeds: a header, and a line for each member of the scenario, in the order of their
 /// numbers.
@@ -44,38 +49,19 @@ pub fn members_text(
     ensures { IfOk result (λ text. text.items ≡ members_table scenario.now rows.now) }
 {
     let counts = all_counts(alloc, scenario.members(), rows)?;
-    let mut writer = start_lines(
-        alloc,
-        &[
-            b"member",
-            b"role",
-            b"node",
-            b"joined",
-            b"left",
-            b"drawn",
-            b"heard",
-            b"lost",
-            b"fixed",
-            b"open",
-            b"requests",
-            b"repairs",
-            b"sessions",
-        ],
-    )?;
-    let mut record = ByteRecord::new(alloc);
-    let mut digits = String::new(alloc);
+    let mut text = Vec::from_slice(alloc, HEADER)?;
+    let mut line = Line::new();
     for member in 0..scenario.members() {
-        record.clear();
+        line.clear();
         put_member(
-            &mut record,
-            &mut digits,
+            &mut line,
             member,
             scenario.member(member),
             &counts[usize::from(member)],
-        )?;
-        write_line(&mut writer, &record)?;
+        );
+        text.extend_from_slice(line.text())?;
     }
-    text_of(writer)
+    Ok(text)
 }
 
 // What the rows of each of so many members say, in the order of their numbers.
@@ -92,41 +78,32 @@ fn all_counts(alloc: Global, members: u16, rows: &[Row]) -> Result<Vec<Counts>, 
     Ok(counts)
 }
 
-// Appends the fields of a member to an empty record. The digits are written in the text given for them.
-fn put_member(
-    record: &mut ByteRecord,
-    digits: &mut String,
-    number: u16,
-    member: &MemberSpec,
-    counts: &Counts,
-) -> Result<(), AllocError>
-    requires empty { fields_of record.old ≡ [] }
-    requires whole { partial_of record.old ≡ [] }
-    ensures fields { OnOk result (fields_of record.new ≡ member_fields number member.now counts.now) }
-    ensures whole { OnOk result (partial_of record.new ≡ []) }
+// Puts the fields of a member, from the last to the first, before the line feed of an empty line.
+fn put_member(line: &mut Line, number: u16, member: &MemberSpec, counts: &Counts)
+    requires room { line_room line.old ≡ full_room }
+    requires empty { line_written line.old ≡ line_feed ∷ [] }
+    ensures { line_text line.new ≡ row_text default_writer (member_fields number member.now counts.now) }
 {
-    put_number(record, digits, u64::from(number))?;
-    record.push_field(word_of_role(member.role).as_bytes())?;
-    put_number(record, digits, u64::from(member.node))?;
-    put_time(record, digits, counts.joined)?;
-    put_time(record, digits, counts.left)?;
-    put_number(record, digits, counts.drawn)?;
-    put_number(record, digits, counts.heard)?;
-    put_sum(record, digits, counts.lost)?;
-    put_number(record, digits, counts.fixed)?;
-    put_sum(
-        record,
-        digits,
-        counts.lost.saturating_sub(u128::from(counts.fixed)),
-    )?;
-    put_number(record, digits, counts.requests)?;
-    put_number(record, digits, counts.repairs)?;
-    put_number(record, digits, counts.sessions)
+    let open = counts.lost.saturating_sub(u128::from(counts.fixed));
+    put_number(line, counts.sessions);
+    put_number(line, counts.repairs);
+    put_number(line, counts.requests);
+    put_sum(line, open);
+    put_number(line, counts.fixed);
+    put_sum(line, counts.lost);
+    put_number(line, counts.heard);
+    put_number(line, counts.drawn);
+    put_time(line, counts.left);
+    put_time(line, counts.joined);
+    put_number(line, u64::from(member.node));
+    put_word(line, word_of_role(member.role));
+    put_number(line, u64::from(number));
 }
 
 // The word of a role.
 fn word_of_role(role: Role) -> &'static str
-    ensures { result.now ≡ role_word role }
+    ensures word { result.now ≡ role_word role }
+    ensures short { length result.now ≤ 8 }
 {
     match role {
         Role::Sender => "sender",

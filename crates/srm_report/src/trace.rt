@@ -1,17 +1,23 @@
 //! The trace of a run as CSV.
-ghost use Rattle.std.specs.Prelude.{◌≡◌, [], ◌∷◌, ◌++◌, IfOk, OnOk};
-ghost use Rattle.csv.specs.Records.{fields_of, partial_of};
-ghost use Rattle.srm_report.specs.Lines.{IsBetweenLines, lines_written};
+ghost use Rattle.std.specs.Prelude.{◌≡◌, ◌+◌, ◌≤◌, [], ◌∷◌, ◌++◌, length, IfOk, OnOk};
+ghost use Rattle.csv.specs.Machine.{line_feed};
+ghost use Rattle.csv.specs.Writing.{comma, default_writer, row_text};
+ghost use Rattle.srm_report.specs.Lines.{full_room, line_room, line_text, line_written};
 ghost use Rattle.srm_report.specs.Trace.{cause_word, told_word, ref_text, sent_text, trace_fields, trace_lines, trace_of_rows};
 
 use crate::fault::ReportFault;
-use crate::fields::{put_name, put_number, put_packet};
-use crate::lines::{start_lines, text_of, write_line};
-use csv::{ByteRecord, Writer};
+use crate::fields::{put_dash, put_name, put_number, put_packet, put_word};
+use crate::line::Line;
 use srm_member::row::{About, Row, Word};
 use srm_member::told::Told;
 use srm_net::packet::Packet;
 use std::alloc::{AllocError, Global};
+
+// The line of the columns.
+const HEADER: &[u8] = b"time,member,cause,ref,result,lost,sent\n";
+
+// How many bytes most lines of a run have at most, to make room for them at once.
+const USUAL_LINE: usize = 40;
 
 /// The text of a trace, as CSV with line feeds: a header, and a line for each row.
 ///
@@ -30,14 +36,9 @@ use std::alloc::{AllocError, Global};
 pub fn trace_text(alloc: Global, rows: &[Row]) -> Result<Vec<u8>, ReportFault>
     ensures { IfOk result (λ text. text.items ≡ trace_of_rows rows.now) }
 {
-    let mut writer = start_lines(
-        alloc,
-        &[
-            b"time", b"member", b"cause", b"ref", b"result", b"lost", b"sent",
-        ],
-    )?;
-    put_rows(alloc, &mut writer, rows)?;
-    text_of(writer)
+    let mut text = Vec::from_slice(alloc, HEADER)?;
+    put_rows(&mut text, rows)?;
+    Ok(text)
 }
 
 /// The lines of these rows, as they stand in the text of a trace: without a header.
@@ -47,75 +48,69 @@ pub fn trace_text(alloc: Global, rows: &[Row]) -> Result<Vec<u8>, ReportFault>
 pub fn lines_text(alloc: Global, rows: &[Row]) -> Result<Vec<u8>, ReportFault>
     ensures { IfOk result (λ text. text.items ≡ trace_lines rows.now) }
 {
-    let mut writer = Writer::from_writer(Vec::new(alloc));
-    put_rows(alloc, &mut writer, rows)?;
-    text_of(writer)
+    let mut text = Vec::new(alloc);
+    put_rows(&mut text, rows)?;
+    Ok(text)
 }
 
 // Appends the lines of these rows.
-fn put_rows(alloc: Global, writer: &mut Writer<Vec<u8>>, rows: &[Row]) -> Result<(), ReportFault>
-    requires { IsBetweenLines writer.old }
-    ensures between { OnOk result (IsBetweenLines writer.new) }
-    ensures text { OnOk result (lines_written writer.new ≡ lines_written writer.old ++ trace_lines rows.now) }
+fn put_rows(text: &mut Vec<u8>, rows: &[Row]) -> Result<(), AllocError>
+    ensures { OnOk result (text.new.items ≡ text.old.items ++ trace_lines rows.now) }
 {
-    let mut record = ByteRecord::new(alloc);
-    let mut digits = String::new(alloc);
+    text.reserve(rows.len().saturating_mul(USUAL_LINE))?;
+    let mut line = Line::new();
     for row in rows {
-        record.clear();
-        put_row(&mut record, &mut digits, row)?;
-        write_line(writer, &record)?;
+        line.clear();
+        put_row(&mut line, row);
+        text.extend_from_slice(line.text())?;
     }
     Ok(())
 }
 
-// Appends the fields of a row to an empty record. The digits are written in the text given for them.
-fn put_row(record: &mut ByteRecord, digits: &mut String, row: &Row) -> Result<(), AllocError>
-    requires empty { fields_of record.old ≡ [] }
-    requires whole { partial_of record.old ≡ [] }
-    ensures fields { OnOk result (fields_of record.new ≡ trace_fields row.now) }
-    ensures whole { OnOk result (partial_of record.new ≡ []) }
+// Puts the fields of a row, from the last to the first, before the line feed of an empty line.
+fn put_row(line: &mut Line, row: &Row)
+    requires room { line_room line.old ≡ full_room }
+    requires empty { line_written line.old ≡ line_feed ∷ [] }
+    ensures { line_text line.new ≡ row_text default_writer (trace_fields row.now) }
 {
-    put_number(record, digits, row.key.time)?;
-    put_number(record, digits, u64::from(row.key.member))?;
-    record.push_field(word_of_cause(row.cause).as_bytes())?;
-    put_ref(record, digits, &row.about)?;
-    record.push_field(word_of_told(row.told).as_bytes())?;
-    put_number(record, digits, row.lost.len() as u64)?;
-    put_sent(record, digits, &row.sent)
+    put_sent(line, &row.sent);
+    put_number(line, row.lost.len() as u64);
+    put_word(line, word_of_told(row.told));
+    put_ref(line, &row.about);
+    put_word(line, word_of_cause(row.cause));
+    put_number(line, u64::from(row.key.member));
+    put_number(line, row.key.time);
 }
 
-// Appends what an event is about.
-fn put_ref(record: &mut ByteRecord, digits: &mut String, about: &About) -> Result<(), AllocError>
-    requires { partial_of record.old ≡ [] }
-    ensures fields { OnOk result (fields_of record.new ≡ fields_of record.old ++ ref_text about.now ∷ []) }
-    ensures whole { OnOk result (partial_of record.new ≡ []) }
+// Puts what an event is about.
+fn put_ref(line: &mut Line, about: &About)
+    requires { 63 ≤ line_room line.old }
+    ensures room { line_room line.old ≤ line_room line.new + 63 }
+    ensures written { line_written line.new ≡ comma ∷ (ref_text about.now ++ line_written line.old) }
 {
     match about {
-        About::Nothing => record.push_field(b"-"),
-        About::Of { packet } => put_packet(record, digits, packet.id),
-        About::Named { name } => put_name(record, digits, *name),
+        About::Nothing => put_dash(line),
+        About::Of { packet } => put_packet(line, packet.id),
+        About::Named { name } => put_name(line, *name),
     }
 }
 
-// Appends the packet that an event sent.
-fn put_sent(
-    record: &mut ByteRecord,
-    digits: &mut String,
-    sent: &Option<Packet>,
-) -> Result<(), AllocError>
-    requires { partial_of record.old ≡ [] }
-    ensures fields { OnOk result (fields_of record.new ≡ fields_of record.old ++ sent_text sent.now ∷ []) }
-    ensures whole { OnOk result (partial_of record.new ≡ []) }
+// Puts the packet that an event sent.
+fn put_sent(line: &mut Line, sent: &Option<Packet>)
+    requires { 42 ≤ line_room line.old }
+    ensures room { line_room line.old ≤ line_room line.new + 42 }
+    ensures written { line_written line.new ≡ comma ∷ (sent_text sent.now ++ line_written line.old) }
 {
     match sent {
-        None => record.push_field(b"-"),
-        Some(packet) => put_packet(record, digits, packet.id),
+        None => put_dash(line),
+        Some(packet) => put_packet(line, packet.id),
     }
 }
 
 // The word of an event's kind.
 fn word_of_cause(cause: Word) -> &'static str
-    ensures { result.now ≡ cause_word cause }
+    ensures word { result.now ≡ cause_word cause }
+    ensures short { length result.now ≤ 7 }
 {
     match cause {
         Word::Join => "join",
@@ -133,7 +128,8 @@ fn word_of_cause(cause: Word) -> &'static str
 
 // The word of what came of an event.
 fn word_of_told(told: Told) -> &'static str
-    ensures { result.now ≡ told_word told }
+    ensures word { result.now ≡ told_word told }
+    ensures short { length result.now ≤ 5 }
 {
     match told {
         Told::Entered => "in",

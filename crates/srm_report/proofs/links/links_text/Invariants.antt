@@ -1,5 +1,4 @@
 use Rattle.std.proofs.Common.{◌≡◌}
-use Rattle.srm_report.specs.Lines.{IsBetweenLines, lines_written}
 use Rattle.srm_report.specs.Links.{link_columns}
 use Rattle.srm_report.specs.Tables.{table_of}
 use Rattle.srm_report.proofs.LinkLemmas.{first_rows}
@@ -7,7 +6,4 @@ use Rattle.srm_report.proofs.links.links_text.Given as goal
 
 -- the header and the rows of the links so far were written
 abbrev pub invariant-loop-link : goal.invariant-loop-link
-invariant-loop-link l = record {
-  between : IsBetweenLines l.writer;
-  text : lines_written l.writer ≡ table_of link_columns (first_rows l.totals l.link);
-}
+invariant-loop-link l = l.text.items ≡ table_of link_columns (first_rows l.totals l.link)

@@ -1,4 +1,5 @@
-use Rattle.std.proofs.Common.{◌≡◌, ◌∙◌, ℕ, ◌<◌, List, None, length, sym, subst, IfOk, arith}
+use Rattle.std.proofs.Common.{◌≡◌, ◌∙◌, ◌<◌, None, length, sym, subst, arith}
+use Rattle.csv.specs.Writing.{fields_text, is_blank}
 use Rattle.srm_report.specs.declared.course.Course.{Course}
 use Rattle.srm_report.specs.declared.loss.Loss.{Loss}
 use Rattle.srm_report.specs.Courses.{TellLosses}
@@ -12,10 +13,8 @@ abbrev none : Loss × Course
 none = (record { member = 0; name = record { source = 0; page = 0; number = 0 } }, record { detected = 0; recovered = None })
 
 pub loop-entry-init : goal.loop-entry-init
-loop-entry-init c = record {
-  between = c.in_ok-writer.ensures.between;
-  text = table_first loss_columns _ c.in_ok-writer.ensures.text;
-}
+unfolding fields_text is_blank
+loop-entry-init c = table_first loss_columns _ c.in_ok-text.ensures.items
 
 pub put_loss-requires-clause-member : goal.put_loss-requires-clause-member
 put_loss-requires-clause-member c =
@@ -36,16 +35,12 @@ loop-entry-preserved c =
     let es = c.deref-entry-items.result.now in
     let tell = subst (TellLosses c.args.rows.now) (sym (c.deref-entry-items.ensures.value ∙ c.in_ok-entries.ensures)) c.in_ok-losses.ensures in
     let lt : c.loop-entry.entry-index < length es = c.loop-entry-test.true in
-    record {
-      between = c.in_ok-write_line.ensures.between;
-      text = text_next c.args.rows.now (length c.args.net.now.hosts) c.requires es tell c.args.net.now c.loop-entry.entry-index none _ _ _ lt
-          c.loop-entry.invariant.text c.in_ok-put_loss.ensures.fields c.in_ok-write_line.ensures.text;
-    }
+    text_next c.args.rows.now (length c.args.net.now.hosts) c.requires es tell c.args.net.now c.loop-entry.entry-index none _ _ _ lt
+    c.loop-entry.invariant (c.text.ensures ∙ c.put_loss.ensures) c.in_ok-extend_from_slice.ensures.items
 
 pub returns : goal.returns
 returns c =
     let es = c.deref-entry-items.result.now in
     let tell = subst (TellLosses c.args.rows.now) (sym (c.deref-entry-items.ensures.value ∙ c.in_ok-entries.ensures)) c.in_ok-losses.ensures in
     let whole : c.loop-entry.entry-index ≡ length es = omega arith in
-    let P : List ℕ → Type 0 = λ l. IfOk c.text_of.result (λ text. text.items ≡ l) in
-    subst P (text_all c.args.rows.now (length c.args.net.now.hosts) c.requires es tell c.args.net.now c.loop-entry.entry-index _ whole c.loop-entry.invariant.text) c.text_of.ensures
+    text_all c.args.rows.now (length c.args.net.now.hosts) c.requires es tell c.args.net.now c.loop-entry.entry-index _ whole c.loop-entry.invariant

@@ -1,0 +1,158 @@
+-- The law of a line none of whose fields calls for quotes: it is the fields with commas between, and a line feed.
+use Rattle.std.proofs.Common.{◌≡◌, ◌∙◌, ℕ, zero, suc, ◌-◌, ◌/◌, ◌%◌, ◌<◌, ◌==◌, true, false, ◌||◌, List, [], ◌∷◌, ◌++◌, Option, Some, None, refl, ap, sym, append_assoc, codes, decimal, drop, arith}
+use Rattle.std.specs.Prelude.{if◌then◌else◌}
+use Rattle.std.specs.Fmt.{digits, digits_onto, digit_glyph}
+use Rattle.std.proofs.lemmas.List.{drop-drop}
+use Rattle.std.proofs.lemmas.List.Folds.{list_any-append}
+use Rattle.csv.specs.Machine.{line_feed}
+use Rattle.csv.specs.Writing.{comma, default_writer, fields_text, is_blank, needs_byte, needs_quotes, quoted, row_text}
+use Rattle.srm_net.specs.declared.packet.Name.{Name}
+use Rattle.srm_net.specs.declared.packet.Packet.{Packet}
+use Rattle.srm_net.specs.declared.packet.PacketId.{PacketId}
+use Rattle.srm_net.specs.declared.role.Role.{Role}
+use Rattle.srm_net.specs.declared.role.Role.TheVariants as role
+use Rattle.srm_member.specs.declared.told.Told.{Told}
+use Rattle.srm_member.specs.declared.told.Told.TheVariants as told
+use Rattle.srm_member.specs.declared.row.Word.{Word}
+use Rattle.srm_member.specs.declared.row.Word.TheVariants as word
+use Rattle.srm_member.specs.declared.row.About.{About}
+use Rattle.srm_member.specs.declared.row.About.TheVariants.{Nothing, Of, Named}
+use Rattle.srm_report.specs.declared.line.Line.{Line}
+use Rattle.srm_report.specs.Lines.{line_text, line_written}
+use Rattle.srm_report.specs.Losses.{delay_text, ratio}
+use Rattle.srm_report.specs.Members.{role_word}
+use Rattle.srm_report.specs.Rows.{time_text}
+use Rattle.srm_report.specs.Trace.{cause_word, name_text, packet_text, ref_text, sent_text, told_word}
+
+-- ---- lines
+
+-- no byte of the field calls for quotes
+abbrev pub IsPlain : List ℕ → Type 0
+IsPlain field = needs_quotes default_writer field ≡ false
+
+abbrev pub ArePlain : List (List ℕ) → Type 0
+ArePlain [] = Unit {0}
+ArePlain (f ∷ fs) = IsPlain f × ArePlain fs
+
+-- each field after a comma, and a line feed
+abbrev pub after_commas : List (List ℕ) → List ℕ
+after_commas [] = line_feed ∷ []
+after_commas (f ∷ fs) = comma ∷ (f ++ after_commas fs)
+
+-- the fields after the first, and the end of the record
+fields_joined : (fs : List (List ℕ)) → ArePlain fs → fields_text default_writer fs ++ line_feed ∷ [] ≡ after_commas fs
+unfolding fields_text
+fields_joined [] h = refl
+fields_joined (f ∷ fs) h =
+    ap (λ b. comma ∷ ((if b then quoted default_writer f else f) ++ fields_text default_writer fs ++ line_feed ∷ [])) h.0
+    ∙ ap (λ l. comma ∷ l) (append_assoc f (fields_text default_writer fs) (line_feed ∷ []) ∙ ap (λ l. f ++ l) (fields_joined fs h.1))
+
+row_joined : (f g : List ℕ) (fs : List (List ℕ)) → ArePlain (f ∷ g ∷ fs) → row_text default_writer (f ∷ g ∷ fs) ≡ f ++ after_commas (g ∷ fs)
+unfolding is_blank
+row_joined f g fs h =
+    ap (λ b. (if b then quoted default_writer f else f) ++ fields_text default_writer (g ∷ fs) ++ line_feed ∷ []) h.0
+    ∙ append_assoc f (fields_text default_writer (g ∷ fs)) (line_feed ∷ []) ∙ ap (λ l. f ++ l) (fields_joined (g ∷ fs) h.1)
+
+-- these fields are written, none of which calls for quotes
+pub record HasFields (written : List ℕ) (fields : List (List ℕ)) : Type 0 where
+  pub text : written ≡ after_commas fields
+  pub plain : ArePlain fields
+
+-- the line feed alone
+pub no_field : {written : List ℕ} → written ≡ line_feed ∷ [] → HasFields written []
+no_field e = record { text = e; plain = tt }
+
+-- one field more is written after a comma, before the others
+pub field : {fs : List (List ℕ)} (f : List ℕ) → IsPlain f → {g old new : List ℕ} → new ≡ comma ∷ (g ++ old) → g ≡ f → HasFields old fs → HasFields new (f ∷ fs)
+field f h written is old = record { text = written ∙ (λ i. comma ∷ (is i ++ old.text i)); plain = (h, old.plain) }
+
+-- a line of two fields at least
+pub line_is_row : {f g : List ℕ} {fs : List (List ℕ)} (l : Line) → HasFields (line_written l) (f ∷ g ∷ fs) → line_text l ≡ row_text default_writer (f ∷ g ∷ fs)
+line_is_row {f} {g} {fs} l h = sym (drop-drop 1 l.start l.bytes) ∙ ap (λ w. drop 1 w) h.text ∙ sym (row_joined f g fs h.plain)
+
+-- ---- fields
+
+digit_is_plain : (n : ℕ) → needs_byte default_writer (digit_glyph false (n % 10)) ≡ false
+digit_is_plain n = let lt : n % 10 < 10 = omega arith in grind (arith)
+
+onto_is_plain : (k n : ℕ) (acc : List ℕ) → IsPlain acc → IsPlain (digits_onto k 10 false n acc)
+onto_is_plain zero n acc h = h
+onto_is_plain (suc k) n acc h =
+    let one : IsPlain (digit_glyph false (n % 10) ∷ acc) = ap (λ b. b || needs_quotes default_writer acc) (digit_is_plain n) ∙ h in
+    elim (n / 10 == 0) as (λ b. IsPlain (if b then digit_glyph false (n % 10) ∷ acc else digits_onto k 10 false (n / 10) (digit_glyph false (n % 10) ∷ acc))) [
+      | true ↦ one
+      | false ↦ onto_is_plain k (n / 10) (digit_glyph false (n % 10) ∷ acc) one
+    ]
+
+pub decimal_is_plain : (n : ℕ) → IsPlain (decimal n)
+unfolding digits
+decimal_is_plain n = onto_is_plain 64 n [] refl
+
+joined_is_plain : (xs ys : List ℕ) → IsPlain xs → IsPlain ys → IsPlain (xs ++ ys)
+joined_is_plain xs ys h k = list_any-append (needs_byte default_writer) xs ys ∙ ap (λ b. b || needs_quotes default_writer ys) h ∙ k
+
+-- two numbers with a mark between
+pair_is_plain : (m n : ℕ) (mark : List ℕ) → IsPlain mark → IsPlain (decimal m ++ mark ++ decimal n)
+pair_is_plain m n mark h = joined_is_plain (decimal m ++ mark) (decimal n) (joined_is_plain (decimal m) mark (decimal_is_plain m) h) (decimal_is_plain n)
+
+pub ratio_is_plain : (took way : ℕ) → IsPlain (ratio took way)
+ratio_is_plain took way = pair_is_plain took way (codes "/") refl
+
+pub packet_is_plain : (p : PacketId) → IsPlain (packet_text p)
+packet_is_plain p = pair_is_plain p.sender p.count (codes ":") refl
+
+pub name_is_plain : (n : Name) → IsPlain (name_text n)
+name_is_plain n =
+    joined_is_plain (decimal n.source ++ codes "/" ++ decimal n.page ++ codes "/") (decimal n.number)
+    (joined_is_plain (decimal n.source ++ codes "/" ++ decimal n.page) (codes "/") (pair_is_plain n.source n.page (codes "/") refl) refl) (decimal_is_plain n.number)
+
+pub ref_is_plain : (a : About) → IsPlain (ref_text a)
+ref_is_plain Nothing = refl
+ref_is_plain (Of packet) = packet_is_plain packet.id
+ref_is_plain (Named name) = name_is_plain name
+
+pub sent_is_plain : (o : Option Packet) → IsPlain (sent_text o)
+sent_is_plain None = refl
+sent_is_plain (Some packet) = packet_is_plain packet.id
+
+pub time_is_plain : (o : Option ℕ) → IsPlain (time_text o)
+time_is_plain None = refl
+time_is_plain (Some at) = decimal_is_plain at
+
+pub delay_is_plain : (trip : ℕ) (detected recovered : Option ℕ) → IsPlain (delay_text trip detected recovered)
+delay_is_plain trip (Some detected) (Some recovered) = ratio_is_plain (recovered - detected) trip
+delay_is_plain trip (Some detected) None = refl
+delay_is_plain trip None _ = refl
+
+pub role_is_plain : (r : Role) → IsPlain (role_word r)
+role_is_plain role.Sender = refl
+role_is_plain role.Receiver = refl
+role_is_plain role.Late = refl
+role_is_plain role.Listener = refl
+
+pub cause_is_plain : (w : Word) → IsPlain (cause_word w)
+cause_is_plain word.Join = refl
+cause_is_plain word.Data = refl
+cause_is_plain word.Request = refl
+cause_is_plain word.Repair = refl
+cause_is_plain word.Session = refl
+cause_is_plain word.Ask = refl
+cause_is_plain word.Answer = refl
+cause_is_plain word.Draw = refl
+cause_is_plain word.Report = refl
+cause_is_plain word.Leave = refl
+
+pub told_is_plain : (t : Told) → IsPlain (told_word t)
+told_is_plain told.Entered = refl
+told_is_plain told.Parted = refl
+told_is_plain told.Fresh = refl
+told_is_plain told.Fixed = refl
+told_is_plain told.Again = refl
+told_is_plain told.Skip = refl
+told_is_plain told.Rest = refl
+told_is_plain told.Busy = refl
+told_is_plain told.Plan = refl
+told_is_plain told.Hold = refl
+told_is_plain told.Back = refl
+told_is_plain told.Heard = refl
+told_is_plain told.Sent = refl

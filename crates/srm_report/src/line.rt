@@ -1,0 +1,98 @@
+//! A line of a CSV text.
+ghost use Rattle.std.specs.Prelude.{◌<◌};
+ghost use Rattle.srm_report.specs.declared.line.TheConstants.{SIZE};
+
+use itoa::{Buffer, write_digits};
+
+// How many bytes there is room for. The longest line, that of a member, has at most 300: ten numbers of up to 20 digits and two of
+// up to 39, a role of up to 8 letters, 13 commas with the one before the first field, and a line feed.
+const SIZE: usize = 320;
+
+// A line that is written from its end to its front, as the digits of a number are: so each byte goes to its place at once. It
+// ends in a line feed from the start on, and each field has a comma before it, also the first.
+#[derive(Drop)]
+pub(crate) struct Line {
+    bytes: [u8; SIZE],
+    // Where that which is written starts.
+    start: usize,
+    ghost within: { start < SIZE },
+}
+
+impl Line {
+    ghost use Rattle.std.specs.Prelude.{◌≡◌, ◌+◌, ◌≤◌, [], ◌∷◌, ◌++◌, length, decimal};
+    ghost use Rattle.csv.specs.Machine.{line_feed};
+    ghost use Rattle.srm_report.specs.Lines.{full_room, line_room, line_text, line_written};
+
+    // A line of no field.
+    pub(crate) fn new() -> Line
+        ensures room { line_room result ≡ full_room }
+        ensures written { line_written result ≡ line_feed ∷ [] }
+    {
+        let mut bytes = [0; SIZE];
+        bytes[SIZE - 1] = b'\n';
+        Line {
+            bytes,
+            start: SIZE - 1,
+        }
+    }
+
+    // Takes all fields out.
+    pub(crate) fn clear(&mut self)
+        ensures room { line_room self.new ≡ full_room }
+        ensures written { line_written self.new ≡ line_feed ∷ [] }
+    {
+        self.bytes[SIZE - 1] = b'\n';
+        self.start = SIZE - 1;
+    }
+
+    // The line, without the comma before its first field.
+    #[inline]
+    pub(crate) fn text(&self) -> &[u8]
+        ensures { result.now ≡ line_text self.now }
+    {
+        &self.bytes[self.start + 1..]
+    }
+
+    // Writes a byte before the others.
+    #[inline]
+    pub(crate) fn put_byte(&mut self, byte: u8)
+        requires { 0 < line_room self.old }
+        ensures room { line_room self.old ≡ line_room self.new + 1 }
+        ensures written { line_written self.new ≡ byte ∷ line_written self.old }
+    {
+        self.start -= 1;
+        self.bytes[self.start] = byte;
+    }
+
+    // Writes bytes before the others.
+    #[inline]
+    pub(crate) fn put_bytes(&mut self, bytes: &[u8])
+        requires { length bytes.now ≤ line_room self.old }
+        ensures room { line_room self.old ≡ line_room self.new + length bytes.now }
+        ensures written { line_written self.new ≡ bytes.now ++ line_written self.old }
+    {
+        let start = self.start - bytes.len();
+        self.bytes[start..self.start].copy_from_slice(bytes);
+        self.start = start;
+    }
+
+    // Writes a number in digits before the others.
+    #[inline]
+    pub(crate) fn put_digits(&mut self, number: u64)
+        requires { 20 ≤ line_room self.old }
+        ensures room { line_room self.old ≤ line_room self.new + 20 }
+        ensures written { line_written self.new ≡ decimal number ++ line_written self.old }
+    {
+        self.start = write_digits(number, &mut self.bytes, self.start);
+    }
+
+    // Writes a number of up to 128 bits in digits before the others.
+    pub(crate) fn put_wide_digits(&mut self, number: u128)
+        requires { 39 ≤ line_room self.old }
+        ensures room { line_room self.old ≤ line_room self.new + 39 }
+        ensures written { line_written self.new ≡ decimal number ++ line_written self.old }
+    {
+        let mut digits = Buffer::new();
+        self.put_bytes(digits.format(number).as_bytes());
+    }
+}
