@@ -8,6 +8,7 @@ use Rattle.std.specs.FinMap.{slice_cmp-IsAntisymmetric, nat_cmp-IsAntisymmetric}
 use Rattle.std.specs.Result.{OnOk, is_err}
 use Rattle.srm_net.specs.declared.packet.Packet.{Packet}
 use Rattle.srm_net.specs.Orders.{place}
+use Rattle.srm_cell.specs.declared.flight.Flight.{Flight}
 use Rattle.srm_cell.specs.Flights.{numbers_of_flight, flight_cmp, BringsNone}
 use Rattle.srm_cell.specs.Entries.{flight_of, flights_of, HasKey, HaveKeys}
 
@@ -20,12 +21,12 @@ nth_number n [] = 0
 nth_number zero (x ∷ xs) = x
 nth_number (suc n) (x ∷ xs) = nth_number n xs
 
-tie : (d e : (ℕ × ℕ × ℕ) × Packet) → flight_cmp (flight_of d) (flight_of e) ≡ Equal → d.1.id ≡ e.1.id
+pub tie : (f g : Flight) → flight_cmp f g ≡ Equal → f.packet.id ≡ g.packet.id
 unfolding nth_number
-tie d e q =
-    let same = slice_cmp-IsAntisymmetric nat_cmp-IsAntisymmetric (numbers_of_flight (flight_of d)) (numbers_of_flight (flight_of e)) q in
-    let sender : d.1.id.sender ≡ e.1.id.sender = ap (nth_number 1) same in
-    let count : d.1.id.count ≡ e.1.id.count = ap (nth_number 2) same in
+tie f g q =
+    let same = slice_cmp-IsAntisymmetric nat_cmp-IsAntisymmetric (numbers_of_flight f) (numbers_of_flight g) q in
+    let sender : f.packet.id.sender ≡ g.packet.id.sender = ap (nth_number 1) same in
+    let count : f.packet.id.count ≡ g.packet.id.count = ap (nth_number 2) same in
     λ i. record { sender = sender i; count = count i }
 
 -- three comparisons, grouped to the left
@@ -69,7 +70,7 @@ placed d [] h g none = refl
 placed d (e ∷ es) h g none =
     let c = keys_compare d e h g.0 in
     ap (λ o. flights_of (match_ordering o (d ∷ e ∷ es) ((e.0, d.1) ∷ es) (e ∷ insert_entry slot_cmp es d.0 d.1))) c
-    ∙ by_place d e es (flight_cmp (flight_of d) (flight_of e)) refl (λ q. none.0 (sym (tie d e q))) (placed d es h g.1 none.1)
+    ∙ by_place d e es (flight_cmp (flight_of d) (flight_of e)) refl (λ q. none.0 (sym (tie (flight_of d) (flight_of e) q))) (placed d es h g.1 none.1)
 
 with_keys : (d e : Entry) (es : List Entry) (o : Ordering) → (o ≡ Equal → ⊥) → HasKey d → HasKey e → HaveKeys es → HaveKeys (insert_entry slot_cmp es d.0 d.1)
     → HaveKeys (match_ordering o (d ∷ e ∷ es) ((e.0, d.1) ∷ es) (e ∷ insert_entry slot_cmp es d.0 d.1))
@@ -81,7 +82,7 @@ pub keys_stay : (d : Entry) (es : List Entry) → HasKey d → HaveKeys es → B
 keys_stay d [] h g none = (h, tt)
 keys_stay d (e ∷ es) h g none =
     let c = keys_compare d e h g.0 in
-    with_keys d e es (slot_cmp d.0 e.0) (λ q. none.0 (sym (tie d e (sym c ∙ q)))) h g.0 g.1 (keys_stay d es h g.1 none.1)
+    with_keys d e es (slot_cmp d.0 e.0) (λ q. none.0 (sym (tie (flight_of d) (flight_of e) (sym c ∙ q)))) h g.0 g.1 (keys_stay d es h g.1 none.1)
 
 pub if_ok : {A E : Type 0} (r : Result A E) (P : Type 0) → is_err r ≡ false → OnOk r P → P
 if_ok (Ok x) P e h = h

@@ -1,4 +1,5 @@
 pub mod Entries
+pub mod Lines
 pub mod Nexts
 pub mod Telling
 pub mod Saying

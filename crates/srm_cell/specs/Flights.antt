@@ -16,6 +16,14 @@ numbers_of_flight f = f.arrival ∷ f.packet.id.sender ∷ f.packet.id.count ∷
 abbrev pub flight_cmp : Flight → Flight → Ordering
 flight_cmp f g = slice_cmp nat_cmp (numbers_of_flight f) (numbers_of_flight g)
 
+-- what the order of flights goes by: when one arrives, and which packet it brings
+abbrev pub place_of : Flight → ℕ × PacketId
+place_of f = (f.arrival, f.packet.id)
+
+-- the same order, of these
+abbrev pub place_cmp : (ℕ × PacketId) → (ℕ × PacketId) → Ordering
+place_cmp k l = slice_cmp nat_cmp (k.0 ∷ k.1.sender ∷ k.1.count ∷ []) (l.0 ∷ l.1.sender ∷ l.1.count ∷ [])
+
 -- the flights with that of a packet that arrives at this time, in its place among them
 abbrev pub with_flight : Packet → ℕ → List Flight → List Flight
 with_flight p at fs = place flight_cmp (record { arrival = at; packet = p }) fs

@@ -1,30 +1,37 @@
 //! The packets on their way to one member.
-ghost use Rattle.std.specs.Prelude.{◌≡◌, List, [], ◌∷◌, MatchOption, OnOk, OnErr, slice_get, Option, map};
+ghost use Rattle.std.specs.Prelude.{◌≡◌, List, [], ◌∷◌, MatchOption, OnOk, OnErr, slice_get, map};
+ghost use Rattle.std.specs.Ordering.{is_lt};
 ghost use Rattle.std.specs.Option.{option_map};
-ghost use Rattle.srm_cell.specs.Flights.{with_flight, BringsNone};
+ghost use Rattle.srm_cell.specs.Flights.{with_flight, BringsNone, place_cmp};
+ghost use Rattle.srm_cell.specs.Lines.{leads, follows};
 
 use crate::flight::Flight;
+use crate::strays::Strays;
 use srm_net::packet::{Packet, PacketId};
 use std::alloc::{AllocError, Global};
-use std::collections::BTreeMap;
+use std::collections::VecDeque;
 use std::marker::Model;
 
 /// The packets on their way to one member, by arrival, sender and count. Contracts see them as a list of flights.
+///
+/// Packets are mostly accepted in this order, and then stand in a line. The others are kept in an ordered map.
 #[derive(Drop)]
 pub struct Inbox {
-    waiting: BTreeMap<(u64, u16, u64), Packet>,
+    line: VecDeque<Flight>,
+    strays: Strays,
 }
 
 impl Model for Inbox {
-    ghost use Rattle.std.specs.Prelude.{List};
+    ghost use Rattle.std.specs.Prelude.{List, ◌++◌};
+    ghost use Rattle.srm_net.specs.Orders.{ordered, Rises};
     ghost use Rattle.srm_cell.specs.declared.flight.Flight.{Flight};
-    ghost use Rattle.srm_cell.specs.Entries.{flights_of, HaveKeys};
+    ghost use Rattle.srm_cell.specs.Flights.{flight_cmp};
 
     ghost Value = { List Flight };
 
-    ghost view = { λ i. flights_of i.waiting.entries };
+    ghost view = { λ i. ordered flight_cmp (i.strays ++ i.line.items) };
 
-    ghost invariant = { λ i. HaveKeys i.waiting.entries };
+    ghost invariant = { λ i. Rises flight_cmp i.strays × Rises flight_cmp i.line.items };
 }
 
 impl Inbox {
@@ -33,7 +40,8 @@ impl Inbox {
         ensures { result ≡ [] }
     {
         Inbox {
-            waiting: BTreeMap::new(alloc),
+            line: VecDeque::new(alloc),
+            strays: Strays::new(alloc),
         }
     }
 
@@ -46,10 +54,12 @@ impl Inbox {
         ensures ok { OnOk result (self.new ≡ with_flight packet.now arrival self.old) }
         ensures err { OnErr result (self.new ≡ self.old) }
     {
+        if !is_in_turn(&self.line, arrival, packet.id) {
+            return self.strays.accept(packet, arrival);
+        }
         let packet = packet.clone()?;
-        let PacketId { sender, count } = packet.id;
-        let key = (arrival, sender, count);
-        if self.waiting.insert(key, packet).is_err() {
+        let flight = Flight { arrival, packet };
+        if self.line.push_back(flight).is_err() {
             return Err(AllocError);
         }
         Ok(())
@@ -59,22 +69,54 @@ impl Inbox {
     pub fn first(&self) -> Option<(u64, PacketId)>
         ensures { result ≡ option_map (λ f. (f.arrival, f.packet.id)) (slice_get self.now 0) }
     {
-        match self.waiting.first_key_value() {
-            None => None,
-            Some((key, packet)) => Some((key.0, packet.id)),
+        if !is_line_next(&self.line, &self.strays) {
+            return self.strays.first();
         }
+        let flight = self.line.front()?;
+        Some((flight.arrival, flight.packet.id))
     }
 
     /// Takes the first packet out.
     pub fn pop_first(&mut self) -> Option<Flight>
         ensures { MatchOption result ((self.old ≡ []) × (self.new ≡ [])) (λ f. self.old ≡ f ∷ self.new) }
     {
-        let Some((key, packet)) = self.waiting.pop_first() else {
-            return None;
-        };
-        Some(Flight {
-            arrival: key.0,
-            packet,
-        })
+        if is_line_next(&self.line, &self.strays) {
+            self.line.pop_front()
+        } else {
+            self.strays.pop_first()
+        }
     }
+}
+
+// Whether the flight of a packet goes behind a whole line.
+fn is_in_turn(line: &VecDeque<Flight>, arrival: u64, id: PacketId) -> bool
+    ensures { result ≡ follows (arrival, id) line.now.items }
+{
+    match line.back() {
+        None => true,
+        Some(last) => is_before((last.arrival, last.packet.id), (arrival, id)),
+    }
+}
+
+// Whether the first of a line goes before all others.
+fn is_line_next(line: &VecDeque<Flight>, strays: &Strays) -> bool
+    ensures { result ≡ leads line.now.items strays.now }
+{
+    let Some(flight) = line.front() else {
+        return false;
+    };
+    let Some(stray) = strays.first() else {
+        return true;
+    };
+    is_before((flight.arrival, flight.packet.id), stray)
+}
+
+// Whether a flight goes before another, by arrival, sender and count.
+fn is_before(flight: (u64, PacketId), other: (u64, PacketId)) -> bool
+    ensures { result ≡ is_lt (place_cmp flight other) }
+{
+    if flight.0 != other.0 {
+        return flight.0 < other.0;
+    }
+    flight.1 < other.1
 }

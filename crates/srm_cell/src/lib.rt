@@ -14,3 +14,4 @@ pub mod laws;
 mod pending;
 mod rows;
 pub mod script;
+mod strays;

@@ -1,0 +1,199 @@
+-- A line of flights, and others apart from it: what a flight more or less in either changes of them all in order.
+use Rattle.std.proofs.Common.{◌≡◌, ◌≢◌, ℕ, ◌<◌, ◌-◌, arith, length, slice_index_or, Result, Ok, Err, OnOk, OnErr, IsSome, MatchOption, Bool, true, false, cond, List, [], ◌∷◌, ◌++◌, Option, Some, None, slice_get, refl, sym, ap, ◌∙◌, subst, append_assoc, Ordering, Equal, is_lt, true≢false}
+use Rattle.std.specs.Ordering.{ordering_reverse}
+use Rattle.std.specs.Option.{option_to_list}
+use Rattle.std.specs.Cmp.{IsTotalOrder}
+use Rattle.srm_net.specs.declared.packet.PacketId.{PacketId}
+use Rattle.srm_net.specs.Orders.{place, ordered, NoneBelow, Rises}
+use Rattle.srm_member.proofs.AllIn.{AllIn}
+use Rattle.srm_member.proofs.OrderLemmas.{From, from_trans, lt-asym, none_below_from, place-comm, place_first, rises_place}
+use Rattle.srm_cell.specs.declared.flight.Flight.{Flight}
+use Rattle.srm_cell.specs.Flights.{flight_cmp, BringsNone, place_of, place_cmp}
+use Rattle.srm_cell.specs.Lines.{follows, leads}
+use Rattle.srm_cell.proofs.Entries.{flight_total, tie}
+
+-- ---- lists in an order
+
+module _ {A : Type 0} (cmp : A → A → Ordering) (o : IsTotalOrder cmp) where
+  abbrev pub Apart : A → List A → Type 0
+  Apart x ys = AllIn (λ y. cmp x y ≢ Equal) ys
+
+  -- a list that rises is in order
+  pub ordered_same : (xs : List A) → Rises cmp xs → ordered cmp xs ≡ xs
+  ordered_same [] h = refl
+  ordered_same (x ∷ xs) h = ap (place cmp x) (ordered_same xs h.1) ∙ place_first cmp o x xs h.0
+
+  apart_back : (x y : A) → cmp x y ≢ Equal → cmp y x ≢ Equal
+  apart_back x y h g = h (o.antisymm x y ∙ ap ordering_reverse g)
+
+  pub ordered_last : (x : A) (ys : List A) → Apart x ys → ordered cmp (ys ++ x ∷ []) ≡ place cmp x (ordered cmp ys)
+  ordered_last x [] h = refl
+  ordered_last x (y ∷ ys) h = ap (place cmp y) (ordered_last x ys h.1) ∙ place-comm cmp o y x (apart_back x y h.0) (ordered cmp ys)
+
+  pub ordered_placed : (x : A) (ys zs : List A) → Apart x ys → ordered cmp (place cmp x ys ++ zs) ≡ place cmp x (ordered cmp (ys ++ zs))
+  ordered_placed x [] zs h = refl
+  ordered_placed x (y ∷ ys) zs h = elim (is_lt (cmp y x)) as (λ b. ordered cmp (cond b (y ∷ place cmp x ys) (x ∷ y ∷ ys) ++ zs) ≡ place cmp x (ordered cmp (y ∷ ys ++ zs))) [
+    | true ↦ ap (place cmp y) (ordered_placed x ys zs h.1) ∙ place-comm cmp o y x (apart_back x y h.0) (ordered cmp (ys ++ zs))
+    | false ↦ refl
+  ]
+
+  none_below_cond : (k : A) (b : Bool) (xs ys : List A) → NoneBelow cmp k xs → NoneBelow cmp k ys → NoneBelow cmp k (cond b xs ys)
+  none_below_cond k true xs ys h g = h
+  none_below_cond k false xs ys h g = g
+
+  none_below_place : (k x : A) (ys : List A) → From cmp o k x → NoneBelow cmp k ys → NoneBelow cmp k (place cmp x ys)
+  none_below_place k x [] h g = (h, tt)
+  none_below_place k x (y ∷ ys) h g = none_below_cond k (is_lt (cmp y x)) (y ∷ place cmp x ys) (x ∷ y ∷ ys) (g.0, none_below_place k x ys h g.1) (h, g)
+
+  none_below_ordered : (k : A) (xs : List A) → NoneBelow cmp k xs → NoneBelow cmp k (ordered cmp xs)
+  none_below_ordered k [] h = tt
+  none_below_ordered k (x ∷ xs) h = none_below_place k x (ordered cmp xs) h.0 (none_below_ordered k xs h.1)
+
+  none_below_both : (k : A) (xs ys : List A) → NoneBelow cmp k xs → NoneBelow cmp k ys → NoneBelow cmp k (xs ++ ys)
+  none_below_both k [] ys h g = g
+  none_below_both k (x ∷ xs) ys h g = (h.0, none_below_both k xs ys h.1 g)
+
+  -- the first of the others goes first, where the first of the line does not go before it
+  pub ordered_other : (y : A) (ys zs : List A) → NoneBelow cmp y ys → NoneBelow cmp y zs → ordered cmp (y ∷ ys ++ zs) ≡ y ∷ ordered cmp (ys ++ zs)
+  ordered_other y ys zs h g = place_first cmp o y (ordered cmp (ys ++ zs)) (none_below_ordered y (ys ++ zs) (none_below_both y ys zs h g))
+
+  -- the first of the line goes first, where it goes before each of the others
+  pub ordered_first : (x : A) (ys zs : List A) → AllIn (λ y. is_lt (cmp x y) ≡ true) ys → NoneBelow cmp x zs
+      → ordered cmp (ys ++ x ∷ zs) ≡ x ∷ ordered cmp (ys ++ zs)
+  ordered_first x [] zs h g = place_first cmp o x (ordered cmp zs) (none_below_ordered x zs g)
+  ordered_first x (y ∷ ys) zs h g =
+      ap (place cmp y) (ordered_first x ys zs h.1 g) ∙ ap (λ b. cond b (x ∷ place cmp y (ordered cmp (ys ++ zs))) (y ∷ x ∷ ordered cmp (ys ++ zs))) h.0
+
+  -- what is before y is before all that is not before y
+  before_from : (x y z : A) → is_lt (cmp x y) ≡ true → From cmp o y z → is_lt (cmp x z) ≡ true
+  before_from x y z h g = elim (is_lt (cmp x z)) as (λ b. is_lt (cmp x z) ≡ b → is_lt (cmp x z) ≡ true) [
+    | true ↦ λ e. e
+    | false ↦ λ e. absurd (true≢false (sym h ∙ from_trans cmp o y z x g e))
+  ] refl
+
+  pub before_all : (x y : A) (ys : List A) → is_lt (cmp x y) ≡ true → NoneBelow cmp y ys → AllIn (λ z. is_lt (cmp x z) ≡ true) ys
+  before_all x y [] h g = tt
+  before_all x y (z ∷ zs) h g = (before_from x y z h g.0, before_all x y zs h g.1)
+
+  none_below_last : (k x : A) (ys : List A) → NoneBelow cmp k ys → From cmp o k x → NoneBelow cmp k (ys ++ x ∷ [])
+  none_below_last k x [] h g = (g, tt)
+  none_below_last k x (y ∷ ys) h g = (h.0, none_below_last k x ys h.1 g)
+
+-- ---- flights
+
+abbrev pub Climbs : List Flight → Type 0
+Climbs fs = Rises flight_cmp fs
+
+last_from : (f x : Flight) (xs : List Flight) → Climbs (x ∷ xs) → follows (place_of f) (x ∷ xs) ≡ true → From flight_cmp flight_total x f
+last_from f x [] h q = lt-asym flight_cmp flight_total x f q
+last_from f x (y ∷ ys) h q = from_trans flight_cmp flight_total x y f h.0.0 (last_from f y ys h.1 q)
+
+-- a line rises with a flight that follows it
+pub rises_last : (f : Flight) (xs : List Flight) → Climbs xs → follows (place_of f) xs ≡ true → Climbs (xs ++ f ∷ [])
+rises_last f [] h q = (tt, tt)
+rises_last f (x ∷ []) h q = ((last_from f x [] h q, tt), (tt, tt))
+rises_last f (x ∷ y ∷ ys) h q =
+    (none_below_last flight_cmp flight_total x f (y ∷ ys) h.0 (last_from f x (y ∷ ys) h q), rises_last f (y ∷ ys) h.1 q)
+
+brings_placed : (id : PacketId) (g : Flight) (fs : List Flight) → BringsNone id (place flight_cmp g fs) → (g.packet.id ≢ id) × BringsNone id fs
+brings_placed id g [] h = h
+brings_placed id g (f ∷ fs) h =
+    elim (is_lt (flight_cmp f g)) as (λ b. BringsNone id (cond b (f ∷ place flight_cmp g fs) (g ∷ f ∷ fs)) → (g.packet.id ≢ id) × BringsNone id (f ∷ fs)) [
+      | true ↦ λ n. let more = brings_placed id g fs n.1 in (more.0, (n.0, more.1))
+      | false ↦ λ n. n
+    ] h
+
+pub brings_others : (id : PacketId) (xs ys : List Flight) → BringsNone id (ordered flight_cmp (xs ++ ys)) → BringsNone id xs
+brings_others id [] ys h = tt
+brings_others id (x ∷ xs) ys h = let p = brings_placed id x (ordered flight_cmp (xs ++ ys)) h in (p.0, brings_others id xs ys p.1)
+
+apart : (f : Flight) (xs : List Flight) → BringsNone f.packet.id (ordered flight_cmp xs) → Apart flight_cmp flight_total f xs
+apart f [] h = tt
+apart f (x ∷ xs) h = let p = brings_placed f.packet.id x (ordered flight_cmp xs) h in (λ q. p.0 (sym (tie f x q)), apart f xs p.1)
+
+apart_others : (f : Flight) (xs ys : List Flight) → Apart flight_cmp flight_total f (xs ++ ys) → Apart flight_cmp flight_total f xs
+apart_others f [] ys h = tt
+apart_others f (x ∷ xs) ys h = (h.0, apart_others f xs ys h.1)
+
+-- a flight put behind the line
+pub lined_up : (f : Flight) (xs ys : List Flight) → BringsNone f.packet.id (ordered flight_cmp (xs ++ ys))
+    → ordered flight_cmp (xs ++ (ys ++ f ∷ [])) ≡ place flight_cmp f (ordered flight_cmp (xs ++ ys))
+lined_up f xs ys h = ap (ordered flight_cmp) (sym (append_assoc xs ys (f ∷ []))) ∙ ordered_last flight_cmp flight_total f (xs ++ ys) (apart f (xs ++ ys) h)
+
+-- a flight put among the others
+pub strayed : (f : Flight) (xs ys : List Flight) → BringsNone f.packet.id (ordered flight_cmp (xs ++ ys))
+    → ordered flight_cmp (place flight_cmp f xs ++ ys) ≡ place flight_cmp f (ordered flight_cmp (xs ++ ys))
+strayed f xs ys h = ordered_placed flight_cmp flight_total f xs ys (apart_others f xs ys (apart f (xs ++ ys) h))
+
+ahead : (f : Flight) (fs xs : List Flight) → leads (f ∷ fs) xs ≡ true → Climbs xs → AllIn (λ x. is_lt (flight_cmp f x) ≡ true) xs
+ahead f fs [] q h = tt
+ahead f fs (x ∷ xs) q h = (q, before_all flight_cmp flight_total f x xs q h.0)
+
+-- the first of the line is the first of all
+pub line_first : (f : Flight) (fs xs : List Flight) → leads (f ∷ fs) xs ≡ true → Climbs xs → Climbs (f ∷ fs)
+    → ordered flight_cmp (xs ++ f ∷ fs) ≡ f ∷ ordered flight_cmp (xs ++ fs)
+line_first f fs xs q h g = ordered_first flight_cmp flight_total f xs fs (ahead f fs xs q h) g.0
+
+behind : (x : Flight) (xs fs : List Flight) → leads fs (x ∷ xs) ≡ false → Climbs fs → NoneBelow flight_cmp x fs
+behind x xs [] q h = tt
+behind x xs (f ∷ fs) q h = (q, none_below_from flight_cmp flight_total x f fs q h.0)
+
+-- the first of the others is the first of all
+pub other_first : (x : Flight) (xs fs : List Flight) → leads fs (x ∷ xs) ≡ false → Climbs (x ∷ xs) → Climbs fs
+    → ordered flight_cmp (x ∷ xs ++ fs) ≡ x ∷ ordered flight_cmp (xs ++ fs)
+other_first x xs fs q h g = ordered_other flight_cmp flight_total x xs fs h.0 (behind x xs fs q g)
+
+-- there is none at all
+pub none_first : (fs : List Flight) → leads fs [] ≡ false → ordered flight_cmp fs ≡ []
+none_first [] q = refl
+none_first (f ∷ fs) q = absurd (true≢false q)
+
+-- ---- what the calls tell
+
+last_is : (k : ℕ × PacketId) (f : Flight) (fs : List Flight) (x : Flight) → x ≡ slice_index_or (f ∷ fs) (length fs) x
+    → is_lt (place_cmp (place_of x) k) ≡ follows k (f ∷ fs)
+last_is k f [] x h = ap (λ y. is_lt (place_cmp (place_of y) k)) h
+last_is k f (g ∷ fs) x h = last_is k g fs x h
+
+pub last_follows : (k : ℕ × PacketId) (fs : List Flight) (n : ℕ) (x : Flight) → n ≡ length fs → 0 < n → x ≡ slice_index_or fs (n - 1) x
+    → is_lt (place_cmp (place_of x) k) ≡ follows k fs
+last_follows k [] n x e lt h = absurd (omega arith)
+last_follows k (f ∷ fs) n x e lt h =
+    let before : n - 1 ≡ length fs = omega arith in
+    last_is k f fs x (subst (λ i. x ≡ slice_index_or (f ∷ fs) i x) before h)
+
+pub others_rise : {E : Type 0} (r : Result Unit E) (f : Flight) (old new : List Flight) → OnOk r (new ≡ place flight_cmp f old) → OnErr r (new ≡ old) → Climbs old → Climbs new
+others_rise (Ok x) f old new ok err h = subst Climbs (sym ok) (rises_place flight_cmp flight_total f old h)
+others_rise (Err x) f old new ok err h = subst Climbs (sym err) h
+
+pub other_added : {E : Type 0} (r : Result Unit E) (f : Flight) (old new fs v : List Flight) → OnOk r (new ≡ place flight_cmp f old)
+    → ordered flight_cmp (old ++ fs) ≡ v → BringsNone f.packet.id v → OnOk r (ordered flight_cmp (new ++ fs) ≡ place flight_cmp f v)
+other_added (Ok x) f old new fs v ok view h =
+    ap (λ l. ordered flight_cmp (l ++ fs)) ok ∙ strayed f old fs (subst (BringsNone f.packet.id) (sym view) h) ∙ ap (place flight_cmp f) view
+other_added (Err x) f old new fs v ok view h = tt
+
+pub first_other : (fs xs : List Flight) → leads fs xs ≡ false → Climbs xs → Climbs fs → slice_get xs 0 ≡ slice_get (ordered flight_cmp (xs ++ fs)) 0
+first_other fs [] q h g = sym (ap (λ (l : List Flight). slice_get l 0) (none_first fs q))
+first_other fs (x ∷ xs) q h g = sym (ap (λ (l : List Flight). slice_get l 0) (other_first x xs fs q h g))
+
+pub first_line : (fs xs : List Flight) (x : Flight) → leads fs xs ≡ true → Climbs xs → Climbs fs → x ≡ slice_index_or fs 0 x
+    → Some x ≡ slice_get (ordered flight_cmp (xs ++ fs)) 0
+first_line [] xs x q h g is = absurd (true≢false (sym q))
+first_line (f ∷ fs) xs x q h g is = ap Some is ∙ sym (ap (λ (l : List Flight). slice_get l 0) (line_first f fs xs q h g))
+
+pub line_popped : (r : Option Flight) (fs rest xs v : List Flight) (n : ℕ) → n ≡ length fs → (0 < n → IsSome r) → fs ≡ option_to_list r ++ rest
+    → leads fs xs ≡ true → Climbs xs → Climbs fs → ordered flight_cmp (xs ++ fs) ≡ v
+    → MatchOption r ((v ≡ []) × (ordered flight_cmp (xs ++ rest) ≡ [])) (λ f. v ≡ f ∷ ordered flight_cmp (xs ++ rest))
+line_popped None [] rest xs v n e some is q h g view = absurd (true≢false (sym q))
+line_popped None (f ∷ fs) rest xs v n e some is q h g view = absurd (true≢false (sym (some (omega arith))))
+line_popped (Some f) fs rest xs v n e some is q h g view =
+    sym view ∙ ap (λ l. ordered flight_cmp (xs ++ l)) is ∙ line_first f rest xs (subst (λ l. leads l xs ≡ true) is q) h (subst Climbs is g)
+
+pub other_popped : (r : Option Flight) (xs rest fs v : List Flight) → MatchOption r ((xs ≡ []) × (rest ≡ [])) (λ f. xs ≡ f ∷ rest)
+    → leads fs xs ≡ false → Climbs xs → Climbs fs → ordered flight_cmp (xs ++ fs) ≡ v
+    → MatchOption r ((v ≡ []) × (ordered flight_cmp (rest ++ fs) ≡ [])) (λ f. v ≡ f ∷ ordered flight_cmp (rest ++ fs))
+other_popped None xs rest fs v is q h g view =
+    let none = none_first fs (subst (λ l. leads fs l ≡ false) is.0 q) in
+    (sym view ∙ ap (λ l. ordered flight_cmp (l ++ fs)) is.0 ∙ none, ap (λ l. ordered flight_cmp (l ++ fs)) is.1 ∙ none)
+other_popped (Some f) xs rest fs v is q h g view =
+    sym view ∙ ap (λ l. ordered flight_cmp (l ++ fs)) is ∙ other_first f rest fs (subst (λ l. leads fs l ≡ false) is q) (subst Climbs is h) g

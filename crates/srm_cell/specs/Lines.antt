@@ -1,0 +1,18 @@
+-- A line of flights, each before the next, and others that are kept apart from it.
+use Rattle.std.specs.Prelude.{ℕ, Bool, true, false, List, [], ◌∷◌}
+use Rattle.std.specs.Ordering.{is_lt}
+use Rattle.srm_net.specs.declared.packet.PacketId.{PacketId}
+use Rattle.srm_cell.specs.declared.flight.Flight.{Flight}
+use Rattle.srm_cell.specs.Flights.{place_of, place_cmp}
+
+-- whether a flight with this arrival and packet goes behind the last of a line
+abbrev pub follows : (ℕ × PacketId) → List Flight → Bool
+follows k [] = true
+follows k (f ∷ []) = is_lt (place_cmp (place_of f) k)
+follows k (f ∷ g ∷ fs) = follows k (g ∷ fs)
+
+-- whether the first of a line goes before the first of the others
+abbrev pub leads : List Flight → List Flight → Bool
+leads [] gs = false
+leads (f ∷ fs) [] = true
+leads (f ∷ fs) (g ∷ gs) = is_lt (place_cmp (place_of f) (place_of g))
