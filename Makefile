@@ -38,6 +38,7 @@ check: ## what an edit needs: proves each crate that changed, or CRATE=srm_net w
 	@tests/promises.py
 	@tests/calls.py
 	@tests/lines.py
+	@tests/widths.py
 	@tools/prove.py $(if $(CRATE),crates/$(CRATE),crates)
 
 test: ## the merge gate: proves everything from nothing, with tests and must-fail edits, and checks the program that this made; tells the times
@@ -47,6 +48,7 @@ test: ## the merge gate: proves everything from nothing, with tests and must-fai
 	@tests/promises.py
 	@tests/calls.py
 	@tests/lines.py
+	@tests/widths.py
 	@tools/gate.py -- make --no-print-directory test-program test-memory
 
 test-program: $(PROGRAM) ## compares what the program prints with each file of examples/, and its refusals, and tries it on some random scenarios
