@@ -1,5 +1,6 @@
 -- The laws of distances, of the least of them, and of drops.
-use Rattle.std.proofs.Common.{◌≡◌, ◌≢◌, ◌⊎◌, ◌↔◌, ℕ, zero, suc, ◌+◌, ◌/◌, ◌<◌, ◌≤◌, min, Bool, true, false, not, cond, ◌==◌, List, [], ◌∷◌, length, map, filter, fold, Some, None, refl, sym, ap, ◌∙◌, subst, inl, inr, arith, eqb, slice_get, All, Contains, Less, Equal, Greater}
+use Rattle.std.proofs.Common.{◌≡◌, ◌≢◌, ◌⊎◌, ◌↔◌, ℕ, zero, suc, ◌+◌, ◌/◌, ◌<◌, ◌≤◌, min, Bool, true, false, not, cond, ◌==◌, List, [], ◌∷◌,
+    length, map, filter, fold, Some, None, refl, sym, ap, ◌∙◌, subst, inl, inr, arith, eqb, slice_get, All, Contains, Less, Equal, Greater}
 use Rattle.std.specs.List.{range_with_len, list_any}
 use Rattle.std.specs.Ordering.{ordering_reverse}
 use Rattle.std.specs.Cmp.{IsTotalOrder, on_total}
@@ -17,10 +18,12 @@ use Rattle.srm_net.specs.Orders.{AllAfter}
 use Rattle.srm_net.specs.Keys.{key_cmp, numbers_of_key}
 use Rattle.srm_net.specs.Names.{name_cmp, page_cmp, id_cmp, heard_cmp}
 use Rattle.srm_net.specs.Network.{Network, IsTree, IsWalk, IsAlike, HasDelays, IsNetwork}
-use Rattle.srm_net.specs.Paths.{is_in, route, host, member_route, delay_from, delay_along, distance, drop_cmp, is_listed, stops, takes_out, reaches}
+use Rattle.srm_net.specs.Paths.{is_in, route, host, member_route, delay_from, delay_along, distance, drop_cmp, is_listed, stops, takes_out,
+    reaches}
 use Rattle.srm_net.specs.Least.{least, lesser_delay, least_delay, others, out}
 use Rattle.srm_net.specs.Growth.{attached}
-use Rattle.srm_net.specs.Laws.{DistancesFit, AlikeBothWays, RoundsTurn, LeastDelayFits, NoLinkNoTwo, OutFits, OutOfTheOnlyOne, ReachesItsSender, SameDropsListed, OneListOfDrops, OrdersTotally}
+use Rattle.srm_net.specs.Laws.{DistancesFit, AlikeBothWays, RoundsTurn, LeastDelayFits, NoLinkNoTwo, OutFits, OutOfTheOnlyOne,
+    ReachesItsSender, SameDropsListed, OneListOfDrops, OrdersTotally}
 use Rattle.srm_net.proofs.Lists.{all_get}
 use Rattle.srm_net.proofs.Numbers.{in_head, in_tail, in_cases, few_apart, apart_from_distinct}
 use Rattle.srm_net.proofs.Growing.{grows_to, all_attached}
@@ -31,13 +34,16 @@ use Rattle.srm_net.proofs.DropLemmas.{contains_listed, listed_contains, drop_tot
 
 -- ---- distances
 
-turned_by : (w : Network) → IsTree w → All IsAlike w.links → (inside : List ℕ) (u v : ℕ) → u < w.nodes → v < w.nodes → BothWays w.links inside u v → delay_along w.links u (route w u v) ≡ delay_along w.links v (route w v u)
+turned_by : (w : Network) → IsTree w → All IsAlike w.links → (inside : List ℕ) (u v : ℕ) → u < w.nodes → v < w.nodes
+    → BothWays w.links inside u v → delay_along w.links u (route w u v) ≡ delay_along w.links v (route w v u)
 turned_by w t alike inside u v hu hv both =
     let there = route_only w t u v hu hv both.there.path both.there.nodes both.there.walk both.there.apart in
     let back = route_only w t v u hv hu both.back.path both.back.nodes both.back.walk both.back.apart in
-    sym (ap (delay_along w.links u) there) ∙ both.there.delay_is ∙ both.same alike ∙ sym both.back.delay_is ∙ ap (delay_along w.links v) back
+    sym (ap (delay_along w.links u) there) ∙ both.there.delay_is ∙ both.same alike ∙ sym both.back.delay_is
+        ∙ ap (delay_along w.links v) back
 
-pub distance_turns : (w : Network) → IsNetwork w → All IsAlike w.links → (a b : ℕ) → a < length w.hosts → b < length w.hosts → distance w a b ≡ distance w b a
+pub distance_turns : (w : Network) → IsNetwork w → All IsAlike w.links → (a b : ℕ) → a < length w.hosts → b < length w.hosts
+    → distance w a b ≡ distance w b a
 unfolding distance
 distance_turns w n alike a b ha hb =
     let t = n.tree in
@@ -49,7 +55,8 @@ distance_turns w n alike a b ha hb =
     let hv = host_below w n b hb in
     turned_by w t alike (attached grown.0) (host w a) (host w b) hu hv
     (both_ways_grown w.links grown.0 grown.1 (host w a) (host w b)
-    (all_attached w.nodes w.links grown.0 t.some_nodes t.ends grown.1 all (host w a) hu) (all_attached w.nodes w.links grown.0 t.some_nodes t.ends grown.1 all (host w b) hv))
+    (all_attached w.nodes w.links grown.0 t.some_nodes t.ends grown.1 all (host w a) hu)
+        (all_attached w.nodes w.links grown.0 t.some_nodes t.ends grown.1 all (host w b) hv))
 
 pub distances_fit : DistancesFit
 distances_fit w n a b ha hb = (λ d. distance_apart w n a b ha hb d, distance_bounded w n a b ha hb)
@@ -115,7 +122,8 @@ in_map f [] i x e = cc
 in_map f (y ∷ ys) zero x e = let q : y ≡ x = cc in subst (λ t. is_in (f y ∷ map f ys) (f t) ≡ true) q (in_head (f y) (map f ys))
 in_map f (y ∷ ys) (suc i) x e = in_tail (f y) (f x) (map f ys) (in_map f ys i x e)
 
-from_map : {A : Type 0} (f : A → ℕ) (xs : List A) (n : ℕ) → is_in (map f xs) n ≡ true → (i : ℕ) × (x : A) × (slice_get xs i ≡ Some x) × (f x ≡ n)
+from_map : {A : Type 0} (f : A → ℕ) (xs : List A) (n : ℕ) → is_in (map f xs) n ≡ true → (i : ℕ) × (x : A) × (slice_get xs i ≡ Some x)
+    × (f x ≡ n)
 from_map f [] n h = absurd (false≢true h)
 from_map f (y ∷ ys) n h =
     elim (in_cases (f y) n (map f ys) h) [
@@ -127,7 +135,8 @@ from_map f (y ∷ ys) n h =
 pub lesser_each : (u : ℕ) (k : LinkSpec) → lesser_delay k ≤ delay_from u k
 lesser_each u k = elim (eqb k.a u) as (λ b. min k.delay k.back ≤ cond b k.delay k.back) [ true ↦ omega arith | false ↦ omega arith ]
 
-least_along : (w : Network) (d : ℕ) → least_delay w ≡ Some d → (u : ℕ) (ls : List ℕ) (v : ℕ) (ns : List ℕ) → IsWalk w.links u ls v ns → u ≢ v → d ≤ delay_along w.links u ls
+least_along : (w : Network) (d : ℕ) → least_delay w ≡ Some d → (u : ℕ) (ls : List ℕ) (v : ℕ) (ns : List ℕ) → IsWalk w.links u ls v ns
+    → u ≢ v → d ≤ delay_along w.links u ls
 unfolding least_delay
 least_along w d e u [] v ns k n = absurd (n k.0)
 least_along w d e u (l ∷ ls) v ns k n =
@@ -144,7 +153,8 @@ least_positive w n d e =
     let back : 1 ≤ r.1.back = h.1.0 in
     subst (λ t. 1 ≤ t) r.3 (omega arith)
 
-least_below_distance : (w : Network) → IsNetwork w → (d : ℕ) → least_delay w ≡ Some d → (a b : ℕ) → a < length w.hosts → b < length w.hosts → a ≢ b → d ≤ distance w a b
+least_below_distance : (w : Network) → IsNetwork w → (d : ℕ) → least_delay w ≡ Some d → (a b : ℕ) → a < length w.hosts → b < length w.hosts
+    → a ≢ b → d ≤ distance w a b
 unfolding distance
 least_below_distance w n d e a b ha hb apart =
     let r = route_path w n.tree (host w a) (host w b) (host_below w n a ha) (host_below w n b hb) in
@@ -173,17 +183,20 @@ no_link_no_two w n e a b ha hb =
 in_range : (n a b : ℕ) → a ≤ b → b < a + n → is_in (range_with_len a n) b ≡ true
 in_range zero a b h g = absurd (omega arith)
 in_range (suc n) a b h g =
-    elim (cases_eq a b) [ inl e ↦ subst (λ t. is_in (a ∷ range_with_len (a + 1) n) t ≡ true) e (in_head a (range_with_len (a + 1) n)) | inr e ↦ in_tail a b (range_with_len (a + 1) n) (in_range n (a + 1) b (omega arith) (omega arith)) ]
+    elim (cases_eq a b) [ inl e ↦ subst (λ t. is_in (a ∷ range_with_len (a + 1) n) t ≡ true) e (in_head a (range_with_len (a + 1) n)) | inr
+        e ↦ in_tail a b (range_with_len (a + 1) n) (in_range n (a + 1) b (omega arith) (omega arith)) ]
 
 from_range : (n a b : ℕ) → is_in (range_with_len a n) b ≡ true → b < a + n
 from_range zero a b h = absurd (false≢true h)
-from_range (suc n) a b h = elim (in_cases a b (range_with_len (a + 1) n) h) [ inl e ↦ omega arith | inr e ↦ (let k = from_range n (a + 1) b e in omega arith) ]
+from_range (suc n) a b h = elim (in_cases a b (range_with_len (a + 1) n) h)
+    [ inl e ↦ omega arith | inr e ↦ (let k = from_range n (a + 1) b e in omega arith) ]
 
 in_others : (m : ℕ) (xs : List ℕ) (b : ℕ) → is_in xs b ≡ true → b ≢ m → is_in (filter (λ c. not (c == m)) xs) b ≡ true
 in_others m [] b i n = absurd (false≢true i)
 in_others m (x ∷ xs) b i n =
     elim (in_cases x b xs i) [
-      | inl e ↦ rw (ne_eqb x m (λ q. n (sym e ∙ q))) (subst (λ t. is_in (x ∷ filter (λ c. not (c == m)) xs) t ≡ true) e (in_head x (filter (λ c. not (c == m)) xs)))
+      | inl e ↦ rw (ne_eqb x m (λ q. n (sym e ∙ q))) (subst (λ t. is_in (x ∷ filter (λ c. not (c == m)) xs) t ≡ true) e
+          (in_head x (filter (λ c. not (c == m)) xs)))
       | inr e ↦ elim (cases_Bool (eqb x m)) [
         | inl q ↦ rw q (in_others m xs b e n)
         | inr q ↦ rw q (in_tail x b (filter (λ c. not (c == m)) xs) (in_others m xs b e n))
@@ -194,7 +207,8 @@ from_others : (m : ℕ) (xs : List ℕ) (b : ℕ) → is_in (filter (λ c. not (
 from_others m [] b i = absurd (false≢true i)
 from_others m (x ∷ xs) b i =
     elim (cases_Bool (eqb x m)) [
-      | inl q ↦ (let j : is_in (filter (λ c. not (c == m)) xs) b ≡ true = rw q at i in let r = from_others m xs b j in (in_tail x b xs r.0, r.1))
+      | inl q ↦ (let j : is_in (filter (λ c. not (c == m)) xs) b ≡ true = rw q at i in let r = from_others m xs b j in
+          (in_tail x b xs r.0, r.1))
       | inr q ↦ (let j : is_in (x ∷ filter (λ c. not (c == m)) xs) b ≡ true = rw q at i in
           elim (in_cases x b (filter (λ c. not (c == m)) xs) j) [
             | inl e ↦ (subst (λ t. is_in (x ∷ xs) t ≡ true) e (in_head x xs), λ s. eqb-false x m q (e ∙ s))
@@ -205,12 +219,14 @@ from_others m (x ∷ xs) b i =
 in_mapped : (f : ℕ → ℕ) (xs : List ℕ) (b : ℕ) → is_in xs b ≡ true → is_in (map f xs) (f b) ≡ true
 in_mapped f [] b i = absurd (false≢true i)
 in_mapped f (x ∷ xs) b i =
-    elim (in_cases x b xs i) [ inl e ↦ subst (λ t. is_in (f x ∷ map f xs) (f t) ≡ true) e (in_head (f x) (map f xs)) | inr e ↦ in_tail (f x) (f b) (map f xs) (in_mapped f xs b e) ]
+    elim (in_cases x b xs i) [ inl e ↦ subst (λ t. is_in (f x ∷ map f xs) (f t) ≡ true) e (in_head (f x) (map f xs)) | inr e ↦
+        in_tail (f x) (f b) (map f xs) (in_mapped f xs b e) ]
 
 from_mapped : (f : ℕ → ℕ) (xs : List ℕ) (n : ℕ) → is_in (map f xs) n ≡ true → (b : ℕ) × (is_in xs b ≡ true) × (f b ≡ n)
 from_mapped f [] n i = absurd (false≢true i)
 from_mapped f (x ∷ xs) n i =
-    elim (in_cases (f x) n (map f xs) i) [ inl e ↦ (x, in_head x xs, e) | inr e ↦ (let r = from_mapped f xs n e in (r.0, in_tail x r.0 xs r.1, r.2)) ]
+    elim (in_cases (f x) n (map f xs) i) [ inl e ↦ (x, in_head x xs, e) | inr e ↦
+        (let r = from_mapped f xs n e in (r.0, in_tail x r.0 xs r.1, r.2)) ]
 
 pub out_fits : OutFits
 unfolding out
@@ -219,7 +235,9 @@ out_fits w m d e =
     let other = from_others m (range_with_len 0 (length w.hosts)) found.0 found.1 in
     let below = from_range (length w.hosts) 0 found.0 other.0 in (
       (found.0, (omega arith), other.1, found.2),
-      λ b h n. least_each (map (distance w m) (others w m)) d (distance w m b) e (in_mapped (distance w m) (others w m) b (in_others m (range_with_len 0 (length w.hosts)) b (in_range (length w.hosts) 0 b (omega arith) (omega arith)) n)),
+      λ b h n. least_each (map (distance w m) (others w m)) d (distance w m b) e
+          (in_mapped (distance w m) (others w m) b (in_others m (range_with_len 0 (length w.hosts)) b
+          (in_range (length w.hosts) 0 b (omega arith) (omega arith)) n)),
     )
 
 pub out_of_the_only_one : OutOfTheOnlyOne
@@ -228,7 +246,8 @@ out_of_the_only_one w m e b h =
     elim (cases_eq b m) [
       | inl q ↦ q
       | inr q ↦
-          (let i = in_mapped (distance w m) (others w m) b (in_others m (range_with_len 0 (length w.hosts)) b (in_range (length w.hosts) 0 b (omega arith) (omega arith)) q) in
+          (let i = in_mapped (distance w m) (others w m) b
+              (in_others m (range_with_len 0 (length w.hosts)) b (in_range (length w.hosts) 0 b (omega arith) (omega arith)) q) in
           let none = least_none (map (distance w m) (others w m)) e in
           absurd (false≢true (sym (ap (λ xs. is_in xs (distance w m b)) none) ∙ i)))
     ]
@@ -237,7 +256,8 @@ out_of_the_only_one w m e b h =
 
 pub reaches_its_sender : ReachesItsSender
 unfolding reaches
-reaches_its_sender w rules p sent = ap (λ ls. not (list_any (takes_out rules p) (stops w.links (host w p.sender) sent ls))) (route_nowhere w (host w p.sender))
+reaches_its_sender w rules p sent = ap (λ ls. not (list_any (takes_out rules p) (stops w.links (host w p.sender) sent ls)))
+    (route_nowhere w (host w p.sender))
 
 -- ---- sets of drops
 
@@ -249,7 +269,8 @@ same_tests false false f g = refl
 pub same_drops_listed : SameDropsListed
 same_drops_listed ds es h p l =
     let d : DropSpec = record { link = l; id = p } in
-    same_tests (is_listed ds p l) (is_listed es p l) (λ t. listed_contains es d ((h d).0 (contains_listed ds d t))) (λ t. listed_contains ds d ((h d).1 (contains_listed es d t)))
+    same_tests (is_listed ds p l) (is_listed es p l) (λ t. listed_contains es d ((h d).0 (contains_listed ds d t)))
+        (λ t. listed_contains ds d ((h d).1 (contains_listed es d t)))
 
 not_before_itself : (d : DropSpec) → drop_cmp d d ≡ Less → ⊥
 not_before_itself d e = let s = drop_total.antisymm d d in let r : Less ≡ Greater = sym e ∙ s ∙ ap ordering_reverse e in cc
@@ -272,7 +293,8 @@ here x xs = (0, omega arith, refl)
 later : (x e : DropSpec) (xs : List DropSpec) → Contains xs e → Contains (x ∷ xs) e
 later x e xs (k, h, q) = (suc k, (let g : k < length xs = h in omega arith), q)
 
-same_heads : (x y : DropSpec) (xs ys : List DropSpec) → AllAfter drop_cmp x xs → AllAfter drop_cmp y ys → ((d : DropSpec) → Contains (x ∷ xs) d ↔ Contains (y ∷ ys) d) → x ≡ y
+same_heads : (x y : DropSpec) (xs ys : List DropSpec) → AllAfter drop_cmp x xs → AllAfter drop_cmp y ys
+    → ((d : DropSpec) → Contains (x ∷ xs) d ↔ Contains (y ∷ ys) d) → x ≡ y
 same_heads x y xs ys a b h =
     elim (head_or_later x y xs ((h y).1 (here y ys))) [
       | inl e ↦ e
@@ -282,7 +304,8 @@ same_heads x y xs ys a b h =
       ]
     ]
 
-same_tails : (x y : DropSpec) (xs ys : List DropSpec) → x ≡ y → AllAfter drop_cmp x xs → ((d : DropSpec) → Contains (x ∷ xs) d → Contains (y ∷ ys) d) → (d : DropSpec) → Contains xs d → Contains ys d
+same_tails : (x y : DropSpec) (xs ys : List DropSpec) → x ≡ y → AllAfter drop_cmp x xs
+    → ((d : DropSpec) → Contains (x ∷ xs) d → Contains (y ∷ ys) d) → (d : DropSpec) → Contains xs d → Contains ys d
 same_tails x y xs ys e a h d i =
     elim (head_or_later y d ys (h d (later x d xs i))) [
       | inl q ↦ absurd (not_before_itself x (subst (λ t. drop_cmp x t ≡ Less) (sym (e ∙ q)) (after_contained x xs a d i)))
@@ -295,7 +318,8 @@ one_list_of_drops [] (y ∷ ys) a b h = let c = (h y).1 (here y ys) in absurd (l
 one_list_of_drops (x ∷ xs) [] a b h = let c = (h x).0 (here x xs) in absurd (let k : c.0 < 0 = c.1 in omega arith)
 one_list_of_drops (x ∷ xs) (y ∷ ys) a b h =
     let e = same_heads x y xs ys a.0 b.0 h in
-    let rest = one_list_of_drops xs ys a.1 b.1 (λ d. (same_tails x y xs ys e a.0 (λ d. (h d).0) d, same_tails y x ys xs (sym e) b.0 (λ d. (h d).1) d)) in
+    let rest = one_list_of_drops xs ys a.1 b.1
+        (λ d. (same_tails x y xs ys e a.0 (λ d. (h d).0) d, same_tails y x ys xs (sym e) b.0 (λ d. (h d).1) d)) in
     ap (λ t. t ∷ xs) e ∙ ap (λ t. y ∷ t) rest
 
 -- ---- keys
@@ -321,7 +345,8 @@ keys_ordered = (key_total, same_key)
 
 same_name : (n o : Name) → name_cmp n o ≡ Equal → n ≡ o
 same_name n o e =
-    let q : n.source ∷ n.page ∷ n.number ∷ [] ≡ o.source ∷ o.page ∷ o.number ∷ [] = slice_cmp-IsAntisymmetric nat_cmp-IsAntisymmetric _ _ e in
+    let q : n.source ∷ n.page ∷ n.number ∷ [] ≡ o.source ∷ o.page ∷ o.number ∷ [] =
+        slice_cmp-IsAntisymmetric nat_cmp-IsAntisymmetric _ _ e in
     let a : n.source ≡ o.source = cc in
     let b : n.page ≡ o.page = cc in
     let c : n.number ≡ o.number = cc in
@@ -352,7 +377,8 @@ identities_ordered = (on_total (λ (p : PacketId). p.sender ∷ p.count ∷ []) 
 
 same_entry : (h j : Heard) → heard_cmp h j ≡ Equal → h ≡ j
 same_entry h j e =
-    let q : h.source ∷ h.page ∷ h.highest ∷ [] ≡ j.source ∷ j.page ∷ j.highest ∷ [] = slice_cmp-IsAntisymmetric nat_cmp-IsAntisymmetric _ _ e in
+    let q : h.source ∷ h.page ∷ h.highest ∷ [] ≡ j.source ∷ j.page ∷ j.highest ∷ [] =
+        slice_cmp-IsAntisymmetric nat_cmp-IsAntisymmetric _ _ e in
     let a : h.source ≡ j.source = cc in
     let b : h.page ≡ j.page = cc in
     let c : h.highest ≡ j.highest = cc in

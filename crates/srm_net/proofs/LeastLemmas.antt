@@ -1,5 +1,6 @@
 -- Least numbers of lists, and least distances.
-use Rattle.std.proofs.Common.{◌≡◌, ◌≢◌, ℕ, zero, suc, ◌+◌, ◌≤◌, min, not, cond, ◌==◌, List, [], ◌∷◌, ◌++◌, length, take, map, filter, fold, Option, Some, None, refl, sym, ap, ◌∙◌, arith, eq-eqb}
+use Rattle.std.proofs.Common.{◌≡◌, ◌≢◌, ℕ, zero, suc, ◌+◌, ◌≤◌, min, not, cond, ◌==◌, List, [], ◌∷◌, ◌++◌, length, take, map, filter, fold,
+    Option, Some, None, refl, sym, ap, ◌∙◌, arith, eq-eqb}
 use Rattle.std.specs.List.{range_with_len}
 use Rattle.std.proofs.lemmas.Bool.{ne_eqb}
 use Rattle.std.proofs.lemmas.List.{map-append, append-nil, take_all}
@@ -34,9 +35,11 @@ range_push n a = let e : n + 1 ≡ suc n = omega arith in ap (range_with_len a) 
 abbrev pub least_below : Network → ℕ → ℕ → Option ℕ
 least_below w m b = least (map (distance w m) (filter (λ b. not (b == m)) (range_with_len 0 b)))
 
-below_push : (w : Network) (m b : ℕ) → least_below w m (b + 1) ≡ least (map (distance w m) (filter (λ c. not (c == m)) (range_with_len 0 b)) ++ map (distance w m) (filter (λ c. not (c == m)) (b ∷ [])))
+below_push : (w : Network) (m b : ℕ) → least_below w m (b + 1) ≡ least
+    (map (distance w m) (filter (λ c. not (c == m)) (range_with_len 0 b)) ++ map (distance w m) (filter (λ c. not (c == m)) (b ∷ [])))
 below_push w m b =
-    ap (λ t. least (map (distance w m) (filter (λ c. not (c == m)) t))) (range_push b 0 ∙ ap (λ t. range_with_len 0 b ++ t ∷ []) (omega arith))
+    ap (λ t. least (map (distance w m) (filter (λ c. not (c == m)) t)))
+        (range_push b 0 ∙ ap (λ t. range_with_len 0 b ++ t ∷ []) (omega arith))
     ∙ ap (λ t. least (map (distance w m) t)) (filter-append (λ c. not (c == m)) (range_with_len 0 b) (b ∷ []))
     ∙ ap least (map-append (distance w m) (filter (λ c. not (c == m)) (range_with_len 0 b)) (filter (λ c. not (c == m)) (b ∷ [])))
 

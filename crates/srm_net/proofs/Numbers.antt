@@ -1,7 +1,9 @@
 -- Lists of numbers in which none stands twice.
-use Rattle.std.proofs.Common.{◌≡◌, ◌≢◌, ◌⊎◌, ℕ, zero, suc, ◌+◌, ◌<◌, ◌≤◌, true, false, cond, List, [], ◌∷◌, ◌++◌, length, refl, sym, ap, ◌∙◌, subst, inl, inr, arith, eqb, nat_eq, eq-eqb, eqb-true}
+use Rattle.std.proofs.Common.{◌≡◌, ◌≢◌, ◌⊎◌, ℕ, zero, suc, ◌+◌, ◌<◌, ◌≤◌, true, false, cond, List, [], ◌∷◌, ◌++◌, length, refl, sym, ap,
+    ◌∙◌, subst, inl, inr, arith, eqb, nat_eq, eq-eqb, eqb-true}
 use Rattle.std.specs.List.{IsDistinct, AllByRecursion}
-use Rattle.std.proofs.lemmas.Bool.{or_cases, or_parts, or_left, or_right, or_from, ne_eqb, eqb-false, cases_Bool, cases_eq, both_ways, false≢true, false_from_ne_true}
+use Rattle.std.proofs.lemmas.Bool.{or_cases, or_parts, or_left, or_right, or_from, ne_eqb, eqb-false, cases_Bool, cases_eq, both_ways,
+    false≢true, false_from_ne_true}
 use Rattle.srm_net.specs.Paths.{is_in}
 
 -- no number stands twice
@@ -53,7 +55,8 @@ distinct_from_apart (x ∷ xs) h = (other_all x xs h.0, distinct_from_apart xs h
 pub in_append_left : (xs ys : List ℕ) (x : ℕ) → is_in xs x ≡ true → is_in (xs ++ ys) x ≡ true
 in_append_left [] ys x h = absurd (false≢true h)
 in_append_left (y ∷ xs) ys x h =
-    elim (in_cases y x xs h) [ inl e ↦ subst (λ t. is_in (y ∷ (xs ++ ys)) t ≡ true) e (in_head y (xs ++ ys)) | inr e ↦ in_tail y x (xs ++ ys) (in_append_left xs ys x e) ]
+    elim (in_cases y x xs h) [ inl e ↦ subst (λ t. is_in (y ∷ (xs ++ ys)) t ≡ true) e (in_head y (xs ++ ys)) | inr e ↦
+        in_tail y x (xs ++ ys) (in_append_left xs ys x e) ]
 
 pub in_append_right : (xs ys : List ℕ) (x : ℕ) → is_in ys x ≡ true → is_in (xs ++ ys) x ≡ true
 in_append_right [] ys x h = h
@@ -70,7 +73,8 @@ in_append_cases (y ∷ xs) ys x h =
 pub apart_push : (xs : List ℕ) (x : ℕ) → Apart xs → is_in xs x ≡ false → Apart (xs ++ x ∷ [])
 apart_push [] x h n = (refl, tt)
 apart_push (y ∷ ys) x h n = (
-  not_in _ y (λ e. elim (in_append_cases ys (x ∷ []) y e) [ inl f ↦ both_ways _ h.0 f | inr f ↦ elim (in_cases x y [] f) [ inl g ↦ not_head y x ys n (sym g) | inr g ↦ false≢true g ] ]),
+  not_in _ y (λ e. elim (in_append_cases ys (x ∷ []) y e)
+      [ inl f ↦ both_ways _ h.0 f | inr f ↦ elim (in_cases x y [] f) [ inl g ↦ not_head y x ys n (sym g) | inr g ↦ false≢true g ] ]),
   apart_push ys x h.1 (not_tail y x ys n),
 )
 
@@ -104,7 +108,8 @@ fewer_apart [] ys a h = omega arith
 fewer_apart (x ∷ xs) ys a h =
     let here : is_in ys x ≡ true = h x (in_head x xs) in
     let n = without_length x ys here in
-    let k = fewer_apart xs (without x ys) a.1 (λ z i. without_other x z ys (λ e. both_ways _ a.0 (subst (λ v. is_in xs v ≡ true) (sym e) i)) (h z (in_tail x z xs i))) in
+    let k = fewer_apart xs (without x ys) a.1 (λ z i. without_other x z ys (λ e. both_ways _ a.0 (subst (λ v. is_in xs v ≡ true) (sym e) i))
+        (h z (in_tail x z xs i))) in
     omega arith
 
 -- the numbers below n
@@ -118,7 +123,8 @@ upto_length (suc n) = ap suc (upto_length n)
 
 in_upto : (n x : ℕ) → x < n → is_in (upto n) x ≡ true
 in_upto zero x h = absurd (omega arith)
-in_upto (suc n) x h = elim (cases_eq n x) [ inl e ↦ subst (λ t. is_in (n ∷ upto n) t ≡ true) e (in_head n (upto n)) | inr e ↦ in_tail n x (upto n) (in_upto n x (omega arith)) ]
+in_upto (suc n) x h = elim (cases_eq n x) [ inl e ↦ subst (λ t. is_in (n ∷ upto n) t ≡ true) e (in_head n (upto n)) | inr e ↦
+    in_tail n x (upto n) (in_upto n x (omega arith)) ]
 
 from_upto : (n x : ℕ) → is_in (upto n) x ≡ true → x < n
 from_upto zero x h = absurd (false≢true h)
@@ -141,7 +147,8 @@ pub all_below : (n : ℕ) (xs : List ℕ) → Apart xs → Below n xs → n ≤ 
 all_below n xs a b f x h =
     elim (cases_Bool (is_in xs x)) [
       | inl e ↦ e
-      | inr e ↦ (let k = few_apart n (x ∷ xs) (e, a) (λ y i. elim (in_cases x y xs i) [ inl p ↦ subst (λ t. t < n) p h | inr p ↦ b y p ]) in absurd (omega arith))
+      | inr e ↦ (let k = few_apart n (x ∷ xs) (e, a) (λ y i. elim (in_cases x y xs i) [ inl p ↦ subst (λ t. t < n) p h | inr p ↦ b y p ]) in
+          absurd (omega arith))
     ]
 
 search_below : (xs : List ℕ) (n : ℕ) → ((x : ℕ) → x < n → is_in xs x ≡ true) ⊎ ((x : ℕ) × (x < n) × (is_in xs x ≡ false))
@@ -160,5 +167,6 @@ pub one_missing : (n : ℕ) (xs : List ℕ) → length xs < n → (x : ℕ) × (
 one_missing n xs h =
     elim (search_below xs n) [
       | inr p ↦ p
-      | inl p ↦ (let k = fewer_apart (upto n) xs (upto_apart n) (λ x i. p x (from_upto n x i)) in let e = upto_length n in absurd (omega arith))
+      | inl p ↦ (let k = fewer_apart (upto n) xs (upto_apart n) (λ x i. p x (from_upto n x i)) in let e = upto_length n in
+          absurd (omega arith))
     ]

@@ -1,5 +1,6 @@
 -- Links that join each node to an earlier one make a tree.
-use Rattle.std.proofs.Common.{◌≡◌, ℕ, zero, suc, ◌+◌, ◌<◌, ◌≤◌, true, false, List, [], ◌∷◌, length, Some, All, slice_get, refl, ap, ◌∙◌, arith, inl, inr}
+use Rattle.std.proofs.Common.{◌≡◌, ℕ, zero, suc, ◌+◌, ◌<◌, ◌≤◌, true, false, List, [], ◌∷◌, length, Some, All, slice_get, refl, ap, ◌∙◌,
+    arith, inl, inr}
 use Rattle.std.proofs.lemmas.Bool.{cases_Bool}
 use Rattle.std.proofs.lemmas.Bool.Decides.{nat_tests}
 use Rattle.std.specs.Prelude.{◌||◌, ◌==◌}
@@ -15,7 +16,8 @@ pub record JoinsParents (parent : ℕ → ℕ) (links : List LinkSpec) : Type 0 
   pub below : (v : ℕ) → 1 ≤ v → parent v < v
   pub delay : ℕ → ℕ
   pub back : ℕ → ℕ
-  pub link : (i : ℕ) → i < length links → slice_get links i ≡ Some (record { a = parent (i + 1); b = i + 1; delay = delay i; back = back i })
+  pub link : (i : ℕ) → i < length links → slice_get links i ≡ Some
+      (record { a = parent (i + 1); b = i + 1; delay = delay i; back = back i })
 
 module _ (parent : ℕ → ℕ) where
   -- the steps that attach nodes 1 to n, the newest first
@@ -59,7 +61,8 @@ module _ (parent : ℕ → ℕ) where
         grows links n h (omega arith),
       )
 
-  pub parents_tree : (nodes : ℕ) (links : List LinkSpec) → 1 ≤ nodes → nodes ≤ 1024 → All (IsWithin nodes) links → length links + 1 ≡ nodes → JoinsParents parent links → IsTree (plain_network nodes links [])
+  pub parents_tree : (nodes : ℕ) (links : List LinkSpec) → 1 ≤ nodes → nodes ≤ 1024 → All (IsWithin nodes) links → length links + 1 ≡ nodes
+      → JoinsParents parent links → IsTree (plain_network nodes links [])
   parents_tree nodes links some few ends many h =
       let taken : length (steps (length links)) + 1 ≡ nodes = omega (arith, steps_length (length links)) in
       whole_tree nodes links (steps (length links)) some few ends many (grows links (length links) h (omega arith)) taken

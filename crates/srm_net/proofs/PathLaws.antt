@@ -1,11 +1,13 @@
 -- Members' ways: their delays, and what crosses and is dropped on them.
-use Rattle.std.proofs.Common.{◌≡◌, ◌≢◌, ℕ, zero, suc, ◌+◌, ◌*◌, ◌<◌, ◌≤◌, Bool, true, false, not, cond, ◌&&◌, ◌||◌, List, [], ◌∷◌, ◌++◌, length, Some, refl, sym, ap, ◌∙◌, subst, inl, inr, arith, eqb, ◌==◌, eq-eqb, eqb-true, slice_get, slice_index, All, unwrap_or}
+use Rattle.std.proofs.Common.{◌≡◌, ◌≢◌, ℕ, zero, suc, ◌+◌, ◌*◌, ◌<◌, ◌≤◌, Bool, true, false, not, cond, ◌&&◌, ◌||◌, List, [], ◌∷◌, ◌++◌,
+    length, Some, refl, sym, ap, ◌∙◌, subst, inl, inr, arith, eqb, ◌==◌, eq-eqb, eqb-true, slice_get, slice_index, All, unwrap_or}
 use Rattle.std.specs.List.{list_any}
 use Rattle.std.proofs.lemmas.Bool.{eqb-false, cases_Bool, both_ways, false≢true, or_parts}
 use Rattle.srm_net.specs.declared.link.LinkSpec.{LinkSpec}
 use Rattle.srm_net.specs.declared.packet.PacketId.{PacketId}
 use Rattle.srm_net.specs.Network.{Network, Joins, IsWalk, IsWithin, IsTree, IsLinkDelay, HasDelays, IsNetwork}
-use Rattle.srm_net.specs.Paths.{is_in, route_within, route, host, member_route, delay_from, delay_of, end_of, delay_along, distance, Stop, stop, stops, takes_out, member_stops, crossed_on, dropped_on, some_below, crosses, drops_at}
+use Rattle.srm_net.specs.Paths.{is_in, route_within, route, host, member_route, delay_from, delay_of, end_of, delay_along, distance, Stop,
+    stop, stops, takes_out, member_stops, crossed_on, dropped_on, some_below, crosses, drops_at}
 use Rattle.srm_net.specs.DropRules.{DropRules}
 use Rattle.srm_net.specs.Tables.{is_beyond, near_end, some_beyond}
 use Rattle.srm_net.proofs.Lists.{all_get}
@@ -37,7 +39,8 @@ hosts_apart w n a b ha hb d e = d (apart_index w.hosts (apart_from_distinct w.ho
 pub hosts_in : (nodes : ℕ) (xs : List ℕ) → All (λ n. n < nodes) xs → Below nodes xs
 hosts_in nodes [] a x i = absurd (false≢true i)
 hosts_in nodes (y ∷ ys) a x i =
-    elim (in_cases y x ys i) [ inl e ↦ subst (λ t. t < nodes) e (a 0 0 (omega arith)) | inr e ↦ hosts_in nodes ys (λ k d h. a (suc k) d (omega arith)) x e ]
+    elim (in_cases y x ys i) [ inl e ↦ subst (λ t. t < nodes) e (a 0 0 (omega arith)) | inr e ↦
+        hosts_in nodes ys (λ k d h. a (suc k) d (omega arith)) x e ]
 
 pub few_members : (w : Network) → IsNetwork w → length w.hosts ≤ 1024
 few_members w n =
@@ -48,7 +51,8 @@ few_members w n =
 -- ---- delays
 
 -- links that begin with this one take its delay from there, and then theirs from its other end
-pub along_first : (links : List LinkSpec) (u l x : ℕ) (ls : List ℕ) (k : LinkSpec) → slice_get links l ≡ Some k → Joins k u x → delay_along links u (l ∷ ls) ≡ delay_from u k + delay_along links x ls
+pub along_first : (links : List LinkSpec) (u l x : ℕ) (ls : List ℕ) (k : LinkSpec) → slice_get links l ≡ Some k → Joins k u x
+    → delay_along links u (l ∷ ls) ≡ delay_from u k + delay_along links x ls
 along_first links u l x ls k g j =
     let here : delay_of u (slice_get links l) ≡ delay_from u k = ap (delay_of u) g in
     let next : end_of u (slice_get links l) ≡ x = ap (end_of u) g ∙ ap (λ o. unwrap_or o u) (joins_far k u x j) in
@@ -57,14 +61,16 @@ along_first links u l x ls k g j =
 pub from_fits : (u : ℕ) (k : LinkSpec) → HasDelays k → IsLinkDelay (delay_from u k)
 from_fits u k h = elim (eqb k.a u) as (λ b. IsLinkDelay (cond b k.delay k.back)) [ true ↦ h.0 | false ↦ h.1 ]
 
-pub delay_at_most : (links : List LinkSpec) → All HasDelays links → (u : ℕ) (ls : List ℕ) (v : ℕ) (ns : List ℕ) → IsWalk links u ls v ns → delay_along links u ls ≤ 1000000 * length ls
+pub delay_at_most : (links : List LinkSpec) → All HasDelays links → (u : ℕ) (ls : List ℕ) (v : ℕ) (ns : List ℕ) → IsWalk links u ls v ns
+    → delay_along links u ls ≤ 1000000 * length ls
 delay_at_most links d u [] v ns w = omega arith
 delay_at_most links d u (l ∷ ls) v ns w =
     let k = delay_at_most links d w.1 ls v w.2 w.6 in
     let h : delay_from u w.0 ≤ 1000000 = (from_fits u w.0 (all_get HasDelays links l w.0 d w.3)).1 in
     subst (λ n. n ≤ 1000000 * suc (length ls)) (sym (along_first links u l w.1 ls w.0 w.3 w.4)) (omega arith)
 
-pub delay_at_least : (links : List LinkSpec) → All HasDelays links → (u : ℕ) (ls : List ℕ) (v : ℕ) (ns : List ℕ) → IsWalk links u ls v ns → u ≢ v → 1 ≤ delay_along links u ls
+pub delay_at_least : (links : List LinkSpec) → All HasDelays links → (u : ℕ) (ls : List ℕ) (v : ℕ) (ns : List ℕ) → IsWalk links u ls v ns
+    → u ≢ v → 1 ≤ delay_along links u ls
 delay_at_least links d u [] v ns w n = absurd (n w.0)
 delay_at_least links d u (l ∷ ls) v ns w n =
     let h : 1 ≤ delay_from u w.0 = (from_fits u w.0 (all_get HasDelays links l w.0 d w.3)).0 in
@@ -99,7 +105,8 @@ pub record Begins (w : Network) (u v l : ℕ) (rest : List ℕ) : Type 0 where
   pub below : next < w.nodes
   pub rest_is : rest ≡ route w next v
 
-pub route_begins : (w : Network) → IsTree w → (u v : ℕ) → u < w.nodes → v < w.nodes → (l : ℕ) (rest : List ℕ) → route w u v ≡ l ∷ rest → Begins w u v l rest
+pub route_begins : (w : Network) → IsTree w → (u v : ℕ) → u < w.nodes → v < w.nodes → (l : ℕ) (rest : List ℕ) → route w u v ≡ l ∷ rest
+    → Begins w u v l rest
 route_begins w t u v hu hv l rest e =
     let r = route_path w t u v hu hv in
     let k : IsWalk w.links u (l ∷ rest) v r.0 = subst (λ ls. IsWalk w.links u ls v r.0) e r.1.0 in
@@ -121,7 +128,8 @@ unfolding route
 route_nowhere w u = nowhere_within (length w.links) w.links u
 
 -- a route from an end of a link takes that link first or not at all
-pub first_or_never : (w : Network) → IsTree w → (u v : ℕ) → u < w.nodes → v < w.nodes → (l f y : ℕ) (k : LinkSpec) (rest : List ℕ) → slice_get w.links l ≡ Some k → Joins k u y → route w u v ≡ f ∷ rest → is_in (route w u v) l ≡ (eqb f l)
+pub first_or_never : (w : Network) → IsTree w → (u v : ℕ) → u < w.nodes → v < w.nodes → (l f y : ℕ) (k : LinkSpec) (rest : List ℕ)
+    → slice_get w.links l ≡ Some k → Joins k u y → route w u v ≡ f ∷ rest → is_in (route w u v) l ≡ (eqb f l)
 first_or_never w t u v hu hv l f y k rest g j e =
     let r = route_path w t u v hu hv in
     let q : IsWalk w.links u (f ∷ rest) v r.0 = subst (λ ls. IsWalk w.links u ls v r.0) e r.1.0 in
@@ -147,7 +155,8 @@ pub record Parts (links : List LinkSpec) (u : ℕ) (ls : List ℕ) (ns : List �
   pub link : slice_get links l ≡ Some spec
   pub joins : Joins spec near far
 
-pub parted : (links : List LinkSpec) (l : ℕ) (u : ℕ) (ls : List ℕ) (v : ℕ) (ns : List ℕ) → IsWalk links u ls v ns → Apart ns → is_in ls l ≡ true → Parts links u ls ns l
+pub parted : (links : List LinkSpec) (l : ℕ) (u : ℕ) (ls : List ℕ) (v : ℕ) (ns : List ℕ) → IsWalk links u ls v ns → Apart ns → is_in ls l
+    ≡ true → Parts links u ls ns l
 parted links l u [] v ns w a i = absurd (false≢true i)
 parted links l u (m ∷ ls) v ns w a i =
     let b : Apart (u ∷ w.2) = subst Apart w.5 a in
@@ -162,10 +171,12 @@ parted links l u (m ∷ ls) v ns w a i =
             nodes = u ∷ [];
             is = ap (λ t. t ∷ ls) (eqb-true m l e);
             fresh = refl;
-            fresh_after = subst (λ t. is_in ls t ≡ false) (eqb-true m l e) (not_in ls m (λ j. both_ways _ b.0 (walk_ends links w.1 ls v w.2 m w.0 u w.1 w.6 j w.3 w.4)));
+            fresh_after = subst (λ t. is_in ls t ≡ false) (eqb-true m l e)
+                (not_in ls m (λ j. both_ways _ b.0 (walk_ends links w.1 ls v w.2 m w.0 u w.1 w.6 j w.3 w.4)));
             walk = (refl, refl);
             apart = (refl, tt);
-            within = λ n j. elim (in_cases u n [] j) [ inl q ↦ subst (λ t. is_in t n ≡ true) (sym w.5) (subst (λ t. is_in (u ∷ w.2) t ≡ true) q (in_head u w.2)) | inr q ↦ absurd (false≢true q) ];
+            within = λ n j. elim (in_cases u n [] j) [ inl q ↦ subst (λ t. is_in t n ≡ true) (sym w.5)
+                (subst (λ t. is_in (u ∷ w.2) t ≡ true) q (in_head u w.2)) | inr q ↦ absurd (false≢true q) ];
             link = subst (λ t. slice_get links t ≡ Some w.0) (eqb-true m l e) w.3;
             joins = w.4;
           }
@@ -184,7 +195,9 @@ parted links l u (m ∷ ls) v ns w a i =
             fresh_after = r.fresh_after;
             walk = (w.0, w.1, r.nodes, w.3, w.4, refl, r.walk);
             apart = (not_in r.nodes u (λ q. both_ways _ b.0 (r.within u q)), r.apart);
-            within = λ n q. subst (λ t. is_in t n ≡ true) (sym w.5) (elim (in_cases u n r.nodes q) [ inl p ↦ subst (λ t. is_in (u ∷ w.2) t ≡ true) p (in_head u w.2) | inr p ↦ in_tail u n w.2 (r.within n p) ]);
+            within = λ n q. subst (λ t. is_in t n ≡ true) (sym w.5)
+                (elim (in_cases u n r.nodes q) [ inl p ↦ subst (λ t. is_in (u ∷ w.2) t ≡ true) p (in_head u w.2) | inr p ↦
+                in_tail u n w.2 (r.within n p) ]);
             link = r.link;
             joins = r.joins;
           })
@@ -218,27 +231,33 @@ pub record LinkOf (w : Network) (l : ℕ) (k : LinkSpec) : Type 0 where
 pub ends_below : (w : Network) (l : ℕ) (k : LinkSpec) → LinkOf w l k → (k.a < w.nodes) × (k.b < w.nodes)
 ends_below w l k o = all_get (IsWithin w.nodes) w.links l k o.tree.ends o.link
 
-beyond_cut : (w : Network) (l : ℕ) (k : LinkSpec) (o : LinkOf w l k) (side : ℕ → Bool) → IsCut w.links l side → (x : ℕ) → x < w.nodes → side x ≡ cond (is_beyond w l k x) (not (side k.a)) (side k.a)
+beyond_cut : (w : Network) (l : ℕ) (k : LinkSpec) (o : LinkOf w l k) (side : ℕ → Bool) → IsCut w.links l side → (x : ℕ) → x < w.nodes
+    → side x ≡ cond (is_beyond w l k x) (not (side k.a)) (side k.a)
 beyond_cut w l k o side cut x h =
     let a = (ends_below w l k o).0 in
     let r = route_path w o.tree k.a x a h in
     way_crosses w.links l side cut k.a (route w k.a x) x r.0 r.1.0 r.1.1
 
 -- a link is on the route between two nodes where they are on two sides of it
-pub on_route : (w : Network) (l : ℕ) (k : LinkSpec) → LinkOf w l k → (u v : ℕ) → u < w.nodes → v < w.nodes → is_in (route w u v) l ≡ cond (is_beyond w l k u) (not (is_beyond w l k v)) (is_beyond w l k v)
+pub on_route : (w : Network) (l : ℕ) (k : LinkSpec) → LinkOf w l k → (u v : ℕ) → u < w.nodes → v < w.nodes → is_in (route w u v) l
+    ≡ cond (is_beyond w l k u) (not (is_beyond w l k v)) (is_beyond w l k v)
 on_route w l k o u v hu hv =
     let cut = tree_cuts w o.tree l in
     let r = route_path w o.tree u v hu hv in
     xor_is (is_in (route w u v) l) (is_beyond w l k u) (is_beyond w l k v) (cut.0 k.a) (cut.0 u) (cut.0 v)
-    (beyond_cut w l k o cut.0 cut.1 u hu) (beyond_cut w l k o cut.0 cut.1 v hv) (way_crosses w.links l cut.0 cut.1 u (route w u v) v r.0 r.1.0 r.1.1)
+    (beyond_cut w l k o cut.0 cut.1 u hu) (beyond_cut w l k o cut.0 cut.1 v hv)
+        (way_crosses w.links l cut.0 cut.1 u (route w u v) v r.0 r.1.0 r.1.1)
 
-near_is : (w : Network) (l : ℕ) (k : LinkSpec) → LinkOf w l k → (u : ℕ) → u < w.nodes → (ls ns : List ℕ) (p : Parts w.links u ls ns l) → p.near ≡ near_end w l k u
+near_is : (w : Network) (l : ℕ) (k : LinkSpec) → LinkOf w l k → (u : ℕ) → u < w.nodes → (ls ns : List ℕ) (p : Parts w.links u ls ns l)
+    → p.near ≡ near_end w l k u
 near_is w l k o u hu ls ns p =
     let cut = tree_cuts w o.tree l in
     let same : p.spec ≡ k = same_link w.links l l p.spec k refl p.link o.link in
     let joins : Joins k p.near p.far = subst (λ t. Joins t p.near p.far) same p.joins in
-    let here : cut.0 p.near ≡ cut.0 u = way_crosses w.links l cut.0 cut.1 u p.before p.near p.nodes p.walk p.apart ∙ ap (λ b. cond b (not (cut.0 u)) (cut.0 u)) p.fresh in
-    let over : cut.0 k.b ≡ not (cut.0 k.a) = cut.1 l k k.a k.b o.link (inl (refl, refl)) ∙ ap (λ b. cond b (not (cut.0 k.a)) (cut.0 k.a)) (eq-eqb l l refl) in
+    let here : cut.0 p.near ≡ cut.0 u = way_crosses w.links l cut.0 cut.1 u p.before p.near p.nodes p.walk p.apart
+        ∙ ap (λ b. cond b (not (cut.0 u)) (cut.0 u)) p.fresh in
+    let over : cut.0 k.b ≡ not (cut.0 k.a) = cut.1 l k k.a k.b o.link (inl (refl, refl))
+        ∙ ap (λ b. cond b (not (cut.0 k.a)) (cut.0 k.a)) (eq-eqb l l refl) in
     let side : cut.0 u ≡ cond (is_beyond w l k u) (not (cut.0 k.a)) (cut.0 k.a) = beyond_cut w l k o cut.0 cut.1 u hu in
     elim (cases_Bool (is_beyond w l k u)) [
       | inl e ↦ (let s : cut.0 u ≡ not (cut.0 k.a) = rw e at side in
@@ -261,7 +280,8 @@ stops_at ss l = list_any (λ s. s.link == l) ss
 
 pub stops_in : (links : List LinkSpec) (u t : ℕ) (ls : List ℕ) (l : ℕ) → stops_at (stops links u t ls) l ≡ is_in ls l
 stops_in links u t [] l = refl
-stops_in links u t (k ∷ ks) l = ap (λ b. (k == l) || b) (stops_in links (end_of u (slice_get links k)) (t + delay_of u (slice_get links k)) ks l)
+stops_in links u t (k ∷ ks) l = ap (λ b. (k == l) || b)
+    (stops_in links (end_of u (slice_get links k)) (t + delay_of u (slice_get links k)) ks l)
 
 -- a packet comes to a link of its way after the delays of the earlier ones
 record SplitsAt (links : List LinkSpec) (u t : ℕ) (xs ys : List ℕ) (l : ℕ) : Type 0 where
@@ -280,7 +300,8 @@ split_at links u t (x ∷ xs) ys l =
     let d = delay_of u (slice_get links x) in
     let r = split_at links v (t + d) xs ys l in
     let e : (t + d) + delay_along links v xs ≡ t + (d + delay_along links v xs) = omega arith in
-    record { after = r.after; in_after = r.in_after; is = ap (λ ss. stop x t ∷ ss) (r.is ∙ ap (λ n. stops links v (t + d) xs ++ stop l n ∷ r.after) e) }
+    record { after = r.after; in_after = r.in_after; is = ap (λ ss. stop x t ∷ ss)
+        (r.is ∙ ap (λ n. stops links v (t + d) xs ++ stop l n ∷ r.after) e) }
 
 -- ---- crossed and dropped on a way
 
@@ -296,7 +317,8 @@ dropped_absent f (s ∷ ss) l n =
     let p = or_parts (s.link == l) (stops_at ss l) n in
     rw (p.0, dropped_absent f ss l p.1) (elim (f s) as (λ b. cond b false false ≡ false) [ true ↦ refl | false ↦ refl ])
 
-crossed_parts : (f : Stop → Bool) (xs : List Stop) (s : Stop) (ys : List Stop) → stops_at xs s.link ≡ false → crossed_on f (xs ++ s ∷ ys) s.link ≡ (not (f s) && not (list_any f xs))
+crossed_parts : (f : Stop → Bool) (xs : List Stop) (s : Stop) (ys : List Stop) → stops_at xs s.link ≡ false
+    → crossed_on f (xs ++ s ∷ ys) s.link ≡ (not (f s) && not (list_any f xs))
 crossed_parts f [] s ys n = rw (eq-eqb s.link s.link refl) refl
 crossed_parts f (x ∷ xs) s ys n =
     let p = or_parts (x.link == s.link) (stops_at xs s.link) n in
@@ -307,7 +329,8 @@ crossed_parts f (x ∷ xs) s ys n =
     turn true false c = refl
     turn false b c = refl
 
-dropped_parts : (f : Stop → Bool) (xs : List Stop) (s : Stop) (ys : List Stop) → stops_at xs s.link ≡ false → stops_at ys s.link ≡ false → dropped_on f (xs ++ s ∷ ys) s.link ≡ (f s && not (list_any f xs))
+dropped_parts : (f : Stop → Bool) (xs : List Stop) (s : Stop) (ys : List Stop) → stops_at xs s.link ≡ false → stops_at ys s.link ≡ false
+    → dropped_on f (xs ++ s ∷ ys) s.link ≡ (f s && not (list_any f xs))
 dropped_parts f [] s ys n m =
     elim (cases_Bool (f s)) [ inl e ↦ rw (e, eq-eqb s.link s.link refl) refl | inr e ↦ rw e (dropped_absent f ys s.link m) ]
 dropped_parts f (x ∷ xs) s ys n m =
@@ -329,9 +352,11 @@ pub record Reached (w : Network) (l : ℕ) (k : LinkSpec) (u v : ℕ) : Type 0 w
   pub before_is : before ≡ route w u (near_end w l k u)
 
 near_below : (w : Network) (l : ℕ) (k : LinkSpec) → LinkOf w l k → (u : ℕ) → near_end w l k u < w.nodes
-near_below w l k o u = let e = ends_below w l k o in elim (is_beyond w l k u) as (λ b. cond b k.b k.a < w.nodes) [ true ↦ e.1 | false ↦ e.0 ]
+near_below w l k o u = let e = ends_below w l k o in elim (is_beyond w l k u) as (λ b. cond b k.b k.a < w.nodes)
+    [ true ↦ e.1 | false ↦ e.0 ]
 
-pub reached : (w : Network) (l : ℕ) (k : LinkSpec) → LinkOf w l k → (u v : ℕ) → u < w.nodes → v < w.nodes → is_in (route w u v) l ≡ true → Reached w l k u v
+pub reached : (w : Network) (l : ℕ) (k : LinkSpec) → LinkOf w l k → (u v : ℕ) → u < w.nodes → v < w.nodes → is_in (route w u v) l ≡ true
+    → Reached w l k u v
 reached w l k o u v hu hv i =
     let r = route_path w o.tree u v hu hv in
     let p = parted w.links l u (route w u v) v r.0 r.1.0 r.1.1 i in
@@ -358,7 +383,8 @@ module _ (w : Network) (l : ℕ) (k : LinkSpec) (o : LinkOf w l k) (f : Stop →
   absent : is_in (route w u v) l ≡ false → stops_at (stops w.links u t (route w u v)) l ≡ false
   absent n = stops_in w.links u t (route w u v) l ∙ n
 
-  pub crossed_is : crossed_on f (stops w.links u t (route w u v)) l ≡ (not (f (near_stop w l k u t)) && (is_in (route w u v) l && is_free w l k f u t))
+  pub crossed_is : crossed_on f (stops w.links u t (route w u v)) l
+      ≡ (not (f (near_stop w l k u t)) && (is_in (route w u v) l && is_free w l k f u t))
   crossed_is =
       elim (cases_Bool (is_in (route w u v) l)) [
         | inl i ↦ (let r = reached w l k o u v hu hv i in
@@ -372,7 +398,8 @@ module _ (w : Network) (l : ℕ) (k : LinkSpec) (o : LinkOf w l k) (f : Stop →
             ∙ rw n (elim (f (near_stop w l k u t)) as (λ b. false ≡ (not b && false)) [ true ↦ refl | false ↦ refl ])
       ]
 
-  pub dropped_is : dropped_on f (stops w.links u t (route w u v)) l ≡ (f (near_stop w l k u t) && (is_in (route w u v) l && is_free w l k f u t))
+  pub dropped_is : dropped_on f (stops w.links u t (route w u v)) l
+      ≡ (f (near_stop w l k u t) && (is_in (route w u v) l && is_free w l k f u t))
   dropped_is =
       elim (cases_Bool (is_in (route w u v) l)) [
         | inl i ↦ (let r = reached w l k o u v hu hv i in
@@ -391,7 +418,8 @@ module _ (w : Network) (l : ℕ) (k : LinkSpec) (o : LinkOf w l k) (f : Stop →
 
 pub some_same : (f g : ℕ → Bool) (n : ℕ) → ((m : ℕ) → m < n → f m ≡ g m) → some_below f n ≡ some_below g n
 some_same f g zero h = refl
-some_same f g (suc n) h = let a : f n ≡ g n = h n (omega arith) in let b : some_below f n ≡ some_below g n = some_same f g n (λ m l. h m (omega arith)) in rw (a, b) refl
+some_same f g (suc n) h = let a : f n ≡ g n = h n (omega arith) in let b : some_below f n
+    ≡ some_below g n = some_same f g n (λ m l. h m (omega arith)) in rw (a, b) refl
 
 some_and : (a b : Bool) (f : ℕ → Bool) (n : ℕ) → some_below (λ m. a && (f m && b)) n ≡ (a && (some_below f n && b))
 some_and a b f zero = elim a as (λ t. false ≡ (t && false)) [ true ↦ refl | false ↦ refl ]
@@ -403,7 +431,8 @@ some_and a b f (suc n) = ap (λ t. (a && (f n && b)) || t) (some_and a b f n) �
     spread true b true false = elim b as (λ t. (t || false) ≡ t) [ true ↦ refl | false ↦ refl ]
     spread true b false d = refl
 
-module _ (w : Network) (n : IsNetwork w) (l : ℕ) (k : LinkSpec) (g : slice_get w.links l ≡ Some k) (rules : DropRules) (p : PacketId) (sent : ℕ) (h : p.sender < length w.hosts) where
+module _ (w : Network) (n : IsNetwork w) (l : ℕ) (k : LinkSpec) (g : slice_get w.links l ≡ Some k) (rules : DropRules) (p : PacketId)
+    (sent : ℕ) (h : p.sender < length w.hosts) where
   link_of : LinkOf w l k
   link_of = record { tree = n.tree; link = g }
 
@@ -424,7 +453,8 @@ module _ (w : Network) (n : IsNetwork w) (l : ℕ) (k : LinkSpec) (g : slice_get
       (λ m. not (out (near_stop w l k u sent)) && (is_over m && is_free w l k out u sent)) (length w.hosts)
       (λ m lt. let hv = host_below w n m lt in
       crossed_is w l k link_of out u (host w m) sent (host_below w n p.sender h) hv
-      ∙ ap (λ b. not (out (near_stop w l k u sent)) && (b && is_free w l k out u sent)) (on_route w l k link_of u (host w m) (host_below w n p.sender h) hv))
+      ∙ ap (λ b. not (out (near_stop w l k u sent)) && (b && is_free w l k out u sent))
+          (on_route w l k link_of u (host w m) (host_below w n p.sender h) hv))
       ∙ some_and (not (out (near_stop w l k u sent))) (is_free w l k out u sent) is_over (length w.hosts)
 
   pub drops_is : drops_at w rules p sent l ≡ (out (near_stop w l k u sent) && (some_beyond w l k u && is_free w l k out u sent))
@@ -434,7 +464,8 @@ module _ (w : Network) (n : IsNetwork w) (l : ℕ) (k : LinkSpec) (g : slice_get
       (λ m. out (near_stop w l k u sent) && (is_over m && is_free w l k out u sent)) (length w.hosts)
       (λ m lt. let hv = host_below w n m lt in
       dropped_is w l k link_of out u (host w m) sent (host_below w n p.sender h) hv
-      ∙ ap (λ b. out (near_stop w l k u sent) && (b && is_free w l k out u sent)) (on_route w l k link_of u (host w m) (host_below w n p.sender h) hv))
+      ∙ ap (λ b. out (near_stop w l k u sent) && (b && is_free w l k out u sent))
+          (on_route w l k link_of u (host w m) (host_below w n p.sender h) hv))
       ∙ some_and (out (near_stop w l k u sent)) (is_free w l k out u sent) is_over (length w.hosts)
 
 -- ---- what no stop takes out

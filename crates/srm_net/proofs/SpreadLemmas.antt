@@ -1,5 +1,6 @@
 -- To which nodes a packet comes, found from node to node.
-use Rattle.std.proofs.Common.{◌≡◌, ◌≢◌, ℕ, zero, suc, ◌+◌, ◌<◌, Bool, true, false, not, cond, ◌&&◌, List, [], ◌∷◌, ◌++◌, length, Option, Some, None, refl, sym, ap, ◌∙◌, subst, inl, inr, arith, eq-eqb, eqb-true, slice_get, slice_set, replicate, unwrap_or}
+use Rattle.std.proofs.Common.{◌≡◌, ◌≢◌, ℕ, zero, suc, ◌+◌, ◌<◌, Bool, true, false, not, cond, ◌&&◌, List, [], ◌∷◌, ◌++◌, length, Option,
+    Some, None, refl, sym, ap, ◌∙◌, subst, inl, inr, arith, eq-eqb, eqb-true, slice_get, slice_set, replicate, unwrap_or}
 use Rattle.std.specs.List.{list_any}
 use Rattle.std.proofs.lemmas.Bool.{cases_Bool, cases_eq, both_ways, ne_eqb, false≢true}
 use Rattle.std.proofs.lemmas.List.{length-replicate}
@@ -37,7 +38,8 @@ walk_back links u [] v ns w a = record {
   nodes = v ∷ [];
   walk = (sym w.0, refl);
   apart = (refl, tt);
-  within = λ n i. elim (in_cases v n [] i) [ inl e ↦ subst (λ t. is_in ns t ≡ true) e (walk_last links u [] v ns w) | inr e ↦ absurd (false≢true e) ];
+  within = λ n i. elim (in_cases v n [] i) [ inl e ↦ subst (λ t. is_in ns t ≡ true) e (walk_last links u [] v ns w) | inr e ↦
+      absurd (false≢true e) ];
 }
 walk_back links u (l ∷ ls) v ns w a =
     let b : Apart (u ∷ w.2) = subst Apart w.5 a in
@@ -50,15 +52,18 @@ walk_back links u (l ∷ ls) v ns w a =
       apart = apart_push r.nodes u r.apart new;
       within = λ n i. subst (λ t. is_in t n ≡ true) (sym w.5) (elim (in_append_cases r.nodes (u ∷ []) n i) [
         | inl j ↦ in_tail u n w.2 (r.within n j)
-        | inr j ↦ elim (in_cases u n [] j) [ inl e ↦ subst (λ t. is_in (u ∷ w.2) t ≡ true) e (in_head u w.2) | inr e ↦ absurd (false≢true e) ]
+        | inr j ↦ elim (in_cases u n [] j) [ inl e ↦ subst (λ t. is_in (u ∷ w.2) t ≡ true) e (in_head u w.2) | inr e ↦
+            absurd (false≢true e) ]
       ]);
     }
 
-end_joined : (links : List LinkSpec) (l : ℕ) (k : LinkSpec) (x y : ℕ) → slice_get links l ≡ Some k → Joins k x y → end_of x (slice_get links l) ≡ y
+end_joined : (links : List LinkSpec) (l : ℕ) (k : LinkSpec) (x y : ℕ) → slice_get links l ≡ Some k → Joins k x y
+    → end_of x (slice_get links l) ≡ y
 end_joined links l k x y g j = ap (end_of x) g ∙ ap (λ o. unwrap_or o x) (joins_far k x y j)
 
 -- where the way back begins with a link, the way there ends with it
-pub route_there : (w : Network) → IsTree w → (u x y l : ℕ) → u < w.nodes → x < w.nodes → y < w.nodes → route w x u ≡ l ∷ route w y u → end_of x (slice_get w.links l) ≡ y
+pub route_there : (w : Network) → IsTree w → (u x y l : ℕ) → u < w.nodes → x < w.nodes → y < w.nodes → route w x u ≡ l ∷ route w y u
+    → end_of x (slice_get w.links l) ≡ y
     → route w u x ≡ route w u y ++ l ∷ []
 route_there w t u x y l hu hx hy e f =
     let r = route_path w t x u hx hu in
@@ -67,13 +72,16 @@ route_there w t u x y l hu hx hy e f =
     let next : k.1 ≡ y = sym (end_joined w.links l k.0 x k.1 k.3 k.4) ∙ f in
     let b = walk_back w.links k.1 (route w y u) u k.2 k.6 a.1 in
     let new : is_in b.nodes x ≡ false = not_in b.nodes x (λ i. both_ways _ a.0 (b.within x i)) in
-    let near : b.path ≡ route w u y = route_only w t u y hu hy b.path b.nodes (subst (λ z. IsWalk w.links u b.path z b.nodes) next b.walk) b.apart in
+    let near : b.path ≡ route w u y = route_only w t u y hu hy b.path b.nodes (subst (λ z. IsWalk w.links u b.path z b.nodes) next b.walk)
+        b.apart in
     let far : b.path ++ l ∷ [] ≡ route w u x =
-    route_only w t u x hu hx (b.path ++ l ∷ []) (b.nodes ++ x ∷ []) (walk_push w.links u b.path k.1 b.nodes l k.0 x b.walk k.3 (turned k.0 x k.1 k.4)) (apart_push b.nodes x b.apart new) in
+    route_only w t u x hu hx (b.path ++ l ∷ []) (b.nodes ++ x ∷ [])
+        (walk_push w.links u b.path k.1 b.nodes l k.0 x b.walk k.3 (turned k.0 x k.1 k.4)) (apart_push b.nodes x b.apart new) in
     sym far ∙ ap (λ ls. ls ++ l ∷ []) near
 
 -- the last stop of a way is at its last link
-stops_push : (links : List LinkSpec) (u t : ℕ) (ls : List ℕ) (l : ℕ) → stops links u t (ls ++ l ∷ []) ≡ stops links u t ls ++ stop l (t + delay_along links u ls) ∷ []
+stops_push : (links : List LinkSpec) (u t : ℕ) (ls : List ℕ) (l : ℕ) → stops links u t (ls ++ l ∷ []) ≡ stops links u t ls
+    ++ stop l (t + delay_along links u ls) ∷ []
 stops_push links u t [] l = let e : t ≡ t + 0 = omega arith in ap (λ n. stop l n ∷ []) e
 stops_push links u t (x ∷ xs) l =
     let v = end_of u (slice_get links x) in
@@ -88,7 +96,8 @@ not_pushed false true = refl
 not_pushed false false = refl
 
 -- a packet comes to a node where it comes to the one before and the link between them does not take it out
-pub comes_next : (w : Network) → IsTree w → (out : Stop → Bool) (u t x y l : ℕ) → u < w.nodes → x < w.nodes → y < w.nodes → route w x u ≡ l ∷ route w y u → end_of x (slice_get w.links l) ≡ y
+pub comes_next : (w : Network) → IsTree w → (out : Stop → Bool) (u t x y l : ℕ) → u < w.nodes → x < w.nodes → y < w.nodes → route w x u
+    ≡ l ∷ route w y u → end_of x (slice_get w.links l) ≡ y
     → comes_to w out u t x ≡ (comes_to w out u t y && not (out (stop l (t + delay_along w.links u (route w u y)))))
 unfolding comes_to
 comes_next w n out u t x y l hu hx hy e f =
@@ -100,18 +109,21 @@ comes_next w n out u t x y l hu hx hy e f =
 
 -- ---- nodes of which it is known whether the packet comes there
 
-pub known_more : (w : Network) (out : Stop → Bool) (u t : ℕ) (known : List (Option Bool)) → AreKnown w out u t known → (n : ℕ) → n < length known → (v : Bool) → v ≡ comes_to w out u t n
+pub known_more : (w : Network) (out : Stop → Bool) (u t : ℕ) (known : List (Option Bool)) → AreKnown w out u t known → (n : ℕ)
+    → n < length known → (v : Bool) → v ≡ comes_to w out u t n
     → AreKnown w out u t (slice_set known n (Some v))
 known_more w out u t known h n lt v e x b g =
     elim (cases_eq n x) [
       | inl q ↦
-          (let r : Some (Some v) ≡ Some (Some b) = sym (get_set_same known n (Some v) lt) ∙ subst (λ y. slice_get (slice_set known n (Some v)) y ≡ Some (Some b)) (sym q) g in
+          (let r : Some (Some v) ≡ Some (Some b) = sym (get_set_same known n (Some v) lt)
+              ∙ subst (λ y. slice_get (slice_set known n (Some v)) y ≡ Some (Some b)) (sym q) g in
           let same : v ≡ b = cc in
           sym same ∙ e ∙ ap (comes_to w out u t) q)
       | inr q ↦ h x b (sym (get_set_other known n x (Some v) q) ∙ g)
     ]
 
-pub none_known : (w : Network) (out : Stop → Bool) (u t n : ℕ) (known : List (Option Bool)) → known ≡ replicate n None → AreKnown w out u t known
+pub none_known : (w : Network) (out : Stop → Bool) (u t n : ℕ) (known : List (Option Bool)) → known ≡ replicate n None
+    → AreKnown w out u t known
 none_known w out u t n known e x b g = absurd (never n x b (ap (λ ks. slice_get ks x) (sym e) ∙ g))
   where
     never : (n x : ℕ) (b : Bool) → slice_get (replicate n None) x ≡ Some (Some b) → ⊥
@@ -121,7 +133,8 @@ none_known w out u t n known e x b g = absurd (never n x b (ap (λ ks. slice_get
 
 -- ---- the two ends of a link
 
-first_of : (w : Network) (l : ℕ) (k : LinkSpec) → LinkOf w l k → (u x y : ℕ) → u < w.nodes → x < w.nodes → Joins k x y → (ls : List ℕ) → route w x u ≡ ls → is_in ls l ≡ true → route w x u ≡ l ∷ route w y u
+first_of : (w : Network) (l : ℕ) (k : LinkSpec) → LinkOf w l k → (u x y : ℕ) → u < w.nodes → x < w.nodes → Joins k x y → (ls : List ℕ)
+    → route w x u ≡ ls → is_in ls l ≡ true → route w x u ≡ l ∷ route w y u
 first_of w l k o u x y hu hx j [] e i = absurd (false≢true i)
 first_of w l k o u x y hu hx j (f ∷ rest) e i =
     let same : f ≡ l = eqb-true f l (sym (first_or_never w o.tree x u hx hu l f y k rest o.link j e) ∙ ap (λ ls. is_in ls l) e ∙ i) in
@@ -137,7 +150,8 @@ pub record EndsOf (w : Network) (l u near far : ℕ) : Type 0 where
   pub back : route w far u ≡ l ∷ route w near u
   pub leads : end_of far (slice_get w.links l) ≡ near
 
-ends_by : (w : Network) (l : ℕ) (k : LinkSpec) → LinkOf w l k → (u x y : ℕ) → u < w.nodes → x < w.nodes → y < w.nodes → Joins k x y → is_in (route w x u) l ≡ true → EndsOf w l u y x
+ends_by : (w : Network) (l : ℕ) (k : LinkSpec) → LinkOf w l k → (u x y : ℕ) → u < w.nodes → x < w.nodes → y < w.nodes → Joins k x y
+    → is_in (route w x u) l ≡ true → EndsOf w l u y x
 ends_by w l k o u x y hu hx hy j i = record {
   near_in = hy;
   far_in = hx;
@@ -152,14 +166,16 @@ beyond_itself w l k o =
     let e : l ∷ [] ≡ route w k.a k.b = route_only w o.tree k.a k.b ends.0 ends.1 (l ∷ []) p.0 p.1 (apart_from_distinct p.0 p.2) in
     subst (λ ls. is_in ls l ≡ true) e (in_head l [])
 
-pub ends_told : (w : Network) (l : ℕ) (k : LinkSpec) → LinkOf w l k → (u : ℕ) → u < w.nodes → EndsOf w l u (near_end w l k u) (far_from k (near_end w l k u))
+pub ends_told : (w : Network) (l : ℕ) (k : LinkSpec) → LinkOf w l k → (u : ℕ) → u < w.nodes
+    → EndsOf w l u (near_end w l k u) (far_from k (near_end w l k u))
 ends_told w l k o u hu =
     let ends = ends_below w l k o in
     let apart : k.a ≢ k.b = joins_others w o.tree l k o.link in
     elim (cases_Bool (is_beyond w l k u)) [
       | inl e ↦ rw e (rw (ne_eqb k.a k.b apart) (ends_by w l k o u k.a k.b hu ends.0 ends.1 (inl (refl, refl)) e))
       | inr e ↦ rw e (rw (eq-eqb k.a k.a refl) (ends_by w l k o u k.b k.a hu ends.1 ends.0 (inr (refl, refl))
-          (on_route w l k o k.b u ends.1 hu ∙ ap (λ b. cond b (not (is_beyond w l k u)) (is_beyond w l k u)) (beyond_itself w l k o) ∙ ap not e)))
+          (on_route w l k o k.b u ends.1 hu ∙ ap (λ b. cond b (not (is_beyond w l k u)) (is_beyond w l k u)) (beyond_itself w l k o)
+              ∙ ap not e)))
     ]
 
 -- ---- what becomes of the packet at a link
@@ -187,38 +203,48 @@ pub record SeenFrom (w : Network) (l u near far : ℕ) (any : Bool) : Type 0 whe
   pub fars : (k : LinkSpec) → slice_get w.links l ≡ Some k → far ≡ far_from k near
   pub anys : (k : LinkSpec) → slice_get w.links l ≡ Some k → any ≡ some_beyond w l k u
 
-pub seen_ends : (w : Network) → IsNetwork w → (l u near far : ℕ) (any : Bool) → u < w.nodes → SeenFrom w l u near far any → EndsOf w l u near far
+pub seen_ends : (w : Network) → IsNetwork w → (l u near far : ℕ) (any : Bool) → u < w.nodes → SeenFrom w l u near far any
+    → EndsOf w l u near far
 seen_ends w n l u near far any hu s =
     let k = below_get w.links l s.link in
     let e : near ≡ near_end w l k.0 u = s.nears k.0 k.1 in
     let f : far ≡ far_from k.0 (near_end w l k.0 u) = s.fars k.0 k.1 ∙ ap (far_from k.0) e in
-    subst (λ z. EndsOf w l u z far) (sym e) (subst (λ z. EndsOf w l u (near_end w l k.0 u) z) (sym f) (ends_told w l k.0 (record { tree = n.tree; link = k.1 }) u hu))
+    subst (λ z. EndsOf w l u z far) (sym e) (subst (λ z. EndsOf w l u (near_end w l k.0 u) z) (sym f)
+        (ends_told w l k.0 (record { tree = n.tree; link = k.1 }) u hu))
 
-module _ (w : Network) (n : IsNetwork w) (l u near far : ℕ) (any : Bool) (seen : SeenFrom w l u near far any) (rules : DropRules) (p : PacketId) (sent : ℕ) (hs : p.sender < length w.hosts) (e : u ≡ host w p.sender) where
+module _ (w : Network) (n : IsNetwork w) (l u near far : ℕ) (any : Bool) (seen : SeenFrom w l u near far any) (rules : DropRules)
+    (p : PacketId) (sent : ℕ) (hs : p.sender < length w.hosts) (e : u ≡ host w p.sender) where
   hu : u < w.nodes
   hu = subst (λ z. z < w.nodes) (sym e) (host_below w n p.sender hs)
 
-  over : comes_to w (takes_out rules p) u sent far ≡ (comes_to w (takes_out rules p) u sent near && not (takes_out rules p (stop l (sent + delay_along w.links u (route w u near)))))
+  over : comes_to w (takes_out rules p) u sent far
+      ≡ (comes_to w (takes_out rules p) u sent near && not (takes_out rules p (stop l (sent + delay_along w.links u (route w u near)))))
   over =
       let ends = seen_ends w n l u near far any hu seen in
       comes_next w n.tree (takes_out rules p) u sent far near l hu ends.far_in ends.near_in ends.back ends.leads
 
-  crossed_plain : crosses w rules p sent l ≡ (not (takes_out rules p (stop l (sent + delay_along w.links u (route w u near)))) && (any && comes_to w (takes_out rules p) u sent near))
+  crossed_plain : crosses w rules p sent l ≡ (not (takes_out rules p (stop l (sent + delay_along w.links u (route w u near)))) &&
+      (any && comes_to w (takes_out rules p) u sent near))
   unfolding comes_to
   crossed_plain = told_crossed w n l u near sent any rules p seen.link hs e seen.nears seen.anys
 
-  dropped_plain : drops_at w rules p sent l ≡ (takes_out rules p (stop l (sent + delay_along w.links u (route w u near))) && (any && comes_to w (takes_out rules p) u sent near))
+  dropped_plain : drops_at w rules p sent l ≡ (takes_out rules p (stop l (sent + delay_along w.links u (route w u near))) &&
+      (any && comes_to w (takes_out rules p) u sent near))
   unfolding comes_to
   dropped_plain = told_dropped w n l u near sent any rules p seen.link hs e seen.nears seen.anys
 
-  pub crossed_in : crosses w rules p sent l ≡ (any && (comes_to w (takes_out rules p) u sent near && comes_to w (takes_out rules p) u sent far))
+  pub crossed_in : crosses w rules p sent l
+      ≡ (any && (comes_to w (takes_out rules p) u sent near && comes_to w (takes_out rules p) u sent far))
   crossed_in =
-      crossed_plain ∙ crossed_by_ends (takes_out rules p (stop l (sent + delay_along w.links u (route w u near)))) any (comes_to w (takes_out rules p) u sent near)
+      crossed_plain ∙ crossed_by_ends (takes_out rules p (stop l (sent + delay_along w.links u (route w u near)))) any
+          (comes_to w (takes_out rules p) u sent near)
       ∙ ap (λ b. any && (comes_to w (takes_out rules p) u sent near && b)) (sym over)
 
-  pub dropped_in : drops_at w rules p sent l ≡ (any && (comes_to w (takes_out rules p) u sent near && not (comes_to w (takes_out rules p) u sent far)))
+  pub dropped_in : drops_at w rules p sent l
+      ≡ (any && (comes_to w (takes_out rules p) u sent near && not (comes_to w (takes_out rules p) u sent far)))
   dropped_in =
-      dropped_plain ∙ dropped_by_ends (takes_out rules p (stop l (sent + delay_along w.links u (route w u near)))) any (comes_to w (takes_out rules p) u sent near)
+      dropped_plain ∙ dropped_by_ends (takes_out rules p (stop l (sent + delay_along w.links u (route w u near)))) any
+          (comes_to w (takes_out rules p) u sent near)
       ∙ ap (λ b. any && (comes_to w (takes_out rules p) u sent near && not b)) (sym over)
 
 and_never : (b : Bool) → (b && false) ≡ false
@@ -226,7 +252,8 @@ and_never true = refl
 and_never false = refl
 
 -- what a spread tells of a link
-module _ (w : Network) (n : IsNetwork w) (l u near far : ℕ) (any : Bool) (seen : SeenFrom w l u near far any) (s : PlainSpread) (fits : FitsIn w s) (e : u ≡ host w s.sender)
+module _ (w : Network) (n : IsNetwork w) (l u near far : ℕ) (any : Bool) (seen : SeenFrom w l u near far any) (s : PlainSpread)
+    (fits : FitsIn w s) (e : u ≡ host w s.sender)
     (rules : DropRules) (p : PacketId) (sent : ℕ) (is : IsSpread w rules p sent s) where
   below : p.sender < length w.hosts
   below = subst (λ m. m < length w.hosts) is.sender fits.sender
@@ -260,7 +287,8 @@ module _ (w : Network) (n : IsNetwork w) (l u near far : ℕ) (any : Bool) (seen
         d ∙ ap (λ b. any && (b && not (comes_to w (takes_out rules p) u sent far))) r ∙ and_never any,
       )
 
-  pub come_over : (b : Bool) → any ≡ true → slice_get s.comes near ≡ Some true → slice_get s.comes far ≡ Some b → (crosses w rules p sent l ≡ b) × (drops_at w rules p sent l ≡ not b)
+  pub come_over : (b : Bool) → any ≡ true → slice_get s.comes near ≡ Some true → slice_get s.comes far ≡ Some b
+      → (crosses w rules p sent l ≡ b) × (drops_at w rules p sent l ≡ not b)
   come_over b h g f =
       let q = read near true ends.near_in g in
       let r = read far b ends.far_in f in
@@ -273,7 +301,8 @@ module _ (w : Network) (n : IsNetwork w) (l u near far : ℕ) (any : Bool) (seen
       )
 
 -- what it tells of a member
-pub reached_there : (w : Network) (s : PlainSpread) (rules : DropRules) (p : PacketId) (sent : ℕ) → IsSpread w rules p sent s → (m x : ℕ) (b : Bool) → x ≡ host w m → x < w.nodes → slice_get s.comes x ≡ Some b
+pub reached_there : (w : Network) (s : PlainSpread) (rules : DropRules) (p : PacketId) (sent : ℕ) → IsSpread w rules p sent s
+    → (m x : ℕ) (b : Bool) → x ≡ host w m → x < w.nodes → slice_get s.comes x ≡ Some b
     → b ≡ reaches w rules p sent m
 unfolding comes_to reaches
 reached_there w s rules p sent is m x b e lt g =
@@ -283,9 +312,11 @@ reached_there w s rules p sent is m x b e lt g =
 
 -- ---- a packet that may not be dropped
 
-pub comes_everywhere : (w : Network) (rules : DropRules) (p : PacketId) (sent u x : ℕ) → may_drop rules p sent ≡ false → comes_to w (takes_out rules p) u sent x ≡ true
+pub comes_everywhere : (w : Network) (rules : DropRules) (p : PacketId) (sent u x : ℕ) → may_drop rules p sent ≡ false
+    → comes_to w (takes_out rules p) u sent x ≡ true
 unfolding comes_to
-comes_everywhere w rules p sent u x h = ap not (none_stops (takes_out rules p) sent (spared rules p sent h) w.links u sent (route w u x) (omega arith))
+comes_everywhere w rules p sent u x h = ap not (none_stops (takes_out rules p) sent (spared rules p sent h) w.links u sent (route w u x)
+    (omega arith))
 
 -- a packet comes to the node at which it is
 pub comes_home : (w : Network) (out : Stop → Bool) (u t : ℕ) → comes_to w out u t u ≡ true
@@ -297,14 +328,17 @@ get_all zero b x h = absurd (omega arith)
 get_all (suc n) b zero h = refl
 get_all (suc n) b (suc x) h = get_all n b x (omega arith)
 
-pub spread_everywhere : (w : Network) (rules : DropRules) (p : PacketId) (sent n : ℕ) (s : PlainSpread) → may_drop rules p sent ≡ false → n ≡ w.nodes → s.sender ≡ p.sender → s.comes ≡ replicate n true → IsSpread w rules p sent s
+pub spread_everywhere : (w : Network) (rules : DropRules) (p : PacketId) (sent n : ℕ) (s : PlainSpread) → may_drop rules p sent ≡ false → n
+    ≡ w.nodes → s.sender ≡ p.sender → s.comes ≡ replicate n true → IsSpread w rules p sent s
 spread_everywhere w rules p sent n s h e f g = record {
   sender = f;
   nodes = ap length g ∙ length-replicate n true ∙ e;
-  each = λ x lt. ap (λ bs. slice_get bs x) g ∙ get_all n true x (subst (λ m. x < m) (sym e) lt) ∙ ap Some (sym (comes_everywhere w rules p sent (host w p.sender) x h));
+  each = λ x lt. ap (λ bs. slice_get bs x) g ∙ get_all n true x (subst (λ m. x < m) (sym e) lt)
+      ∙ ap Some (sym (comes_everywhere w rules p sent (host w p.sender) x h));
 }
 
-pub spread_told : (w : Network) (rules : DropRules) (p : PacketId) (sent u : ℕ) (s : PlainSpread) (bs : List Bool) → u ≡ host w p.sender → TellsComing w (takes_out rules p) u sent bs → s.sender ≡ p.sender → s.comes ≡ bs → IsSpread w rules p sent s
+pub spread_told : (w : Network) (rules : DropRules) (p : PacketId) (sent u : ℕ) (s : PlainSpread) (bs : List Bool) → u ≡ host w p.sender
+    → TellsComing w (takes_out rules p) u sent bs → s.sender ≡ p.sender → s.comes ≡ bs → IsSpread w rules p sent s
 spread_told w rules p sent u s bs e t f g = record {
   sender = f;
   nodes = ap length g ∙ t.nodes;

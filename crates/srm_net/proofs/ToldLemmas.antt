@@ -1,5 +1,6 @@
 -- What a network's tables of sides and of least distances give.
-use Rattle.std.proofs.Common.{◌≡◌, ℕ, suc, ◌+◌, ◌<◌, Bool, true, false, not, cond, ◌||◌, List, [], ◌∷◌, ◌++◌, length, Option, Some, sym, ap, ◌∙◌, subst, inl, inr, arith, slice_get, slice_index_or}
+use Rattle.std.proofs.Common.{◌≡◌, ℕ, suc, ◌+◌, ◌<◌, Bool, true, false, not, cond, ◌||◌, List, [], ◌∷◌, ◌++◌, length, Option, Some, sym, ap,
+    ◌∙◌, subst, inl, inr, arith, slice_get, slice_index_or}
 use Rattle.std.proofs.lemmas.Bool.{cases_eq}
 use Rattle.srm_net.specs.declared.link.LinkSpec.{LinkSpec}
 use Rattle.srm_net.specs.declared.sides.Sides.{Sides}
@@ -27,24 +28,29 @@ pub record TellsFirst (w : Network) (l n : ℕ) (s : Sides) (k : LinkSpec) : Typ
 some_next : (f : ℕ → Bool) (n : ℕ) → some_below f (n + 1) ≡ (f n || some_below f n)
 some_next f n = let e : n + 1 ≡ suc n = omega arith in ap (some_below f) e
 
-pub first_beyond : (w : Network) (l n u : ℕ) (s t : Sides) (k : LinkSpec) → u ≡ host w n → is_beyond w l k u ≡ true → t ≡ record s { b = true } → TellsFirst w l n s k → TellsFirst w l (n + 1) t k
+pub first_beyond : (w : Network) (l n u : ℕ) (s t : Sides) (k : LinkSpec) → u ≡ host w n → is_beyond w l k u ≡ true → t
+    ≡ record s { b = true } → TellsFirst w l n s k → TellsFirst w l (n + 1) t k
 first_beyond w l n u s t k e y r f =
     let here : is_beyond w l k (host w n) ≡ true = subst (λ v. is_beyond w l k v ≡ true) e y in
     record {
-      a = ap (λ (x : Sides). x.a) r ∙ f.a ∙ sym (some_next (λ m. not (is_beyond w l k (host w m))) n ∙ ap (λ b. not b || some_near_a w l k n) here);
+      a = ap (λ (x : Sides). x.a) r ∙ f.a ∙ sym (some_next (λ m. not (is_beyond w l k (host w m))) n
+          ∙ ap (λ b. not b || some_near_a w l k n) here);
       b = ap (λ (x : Sides). x.b) r ∙ sym (some_next (λ m. is_beyond w l k (host w m)) n ∙ ap (λ b. b || some_near_b w l k n) here);
     }
 
-pub first_near : (w : Network) (l n u : ℕ) (s t : Sides) (k : LinkSpec) → u ≡ host w n → is_beyond w l k u ≡ false → t ≡ record s { a = true } → TellsFirst w l n s k → TellsFirst w l (n + 1) t k
+pub first_near : (w : Network) (l n u : ℕ) (s t : Sides) (k : LinkSpec) → u ≡ host w n → is_beyond w l k u ≡ false → t
+    ≡ record s { a = true } → TellsFirst w l n s k → TellsFirst w l (n + 1) t k
 first_near w l n u s t k e y r f =
     let here : is_beyond w l k (host w n) ≡ false = subst (λ v. is_beyond w l k v ≡ false) e y in
     record {
-      a = ap (λ (x : Sides). x.a) r ∙ sym (some_next (λ m. not (is_beyond w l k (host w m))) n ∙ ap (λ b. not b || some_near_a w l k n) here);
+      a = ap (λ (x : Sides). x.a) r ∙ sym (some_next (λ m. not (is_beyond w l k (host w m))) n
+          ∙ ap (λ b. not b || some_near_a w l k n) here);
       b = ap (λ (x : Sides). x.b) r ∙ f.b ∙ sym (some_next (λ m. is_beyond w l k (host w m)) n ∙ ap (λ b. b || some_near_b w l k n) here);
     }
 
 -- what the sides of a link tell
-pub sides_told : (n : Inside) → IsTold n → (l : ℕ) (k : LinkSpec) → slice_get n.tree.links l ≡ Some k → (s : Sides) → s ≡ slice_index_or n.sides.items l s → (u : ℕ) → (b : Bool) → is_beyond n.tree l k u ≡ b
+pub sides_told : (n : Inside) → IsTold n → (l : ℕ) (k : LinkSpec) → slice_get n.tree.links l ≡ Some k → (s : Sides) → s
+    ≡ slice_index_or n.sides.items l s → (u : ℕ) → (b : Bool) → is_beyond n.tree l k u ≡ b
     → cond b s.a s.b ≡ some_beyond n.tree l k u
 sides_told n i l k g s r u b q =
     let told = i.sides l k g in
@@ -59,31 +65,39 @@ side_below n i l h = let k = below_get n.tree.links l h in let told = i.sides l 
 
 -- ---- at the network that callers see
 
-module _ (w n : Network) (e : w ≡ n) (l u : ℕ) (spec : LinkSpec) (g : slice_get w.links l ≡ Some spec) (k : LinkSpec) (h : slice_get n.links l ≡ Some k) where
+module _ (w n : Network) (e : w ≡ n) (l u : ℕ) (spec : LinkSpec) (g : slice_get w.links l ≡ Some spec) (k : LinkSpec)
+    (h : slice_get n.links l ≡ Some k) where
   spec_same : spec ≡ k
   spec_same = let r : Some spec ≡ Some k = sym g ∙ ap (λ (v : Network). slice_get v.links l) e ∙ h in cc
 
-  pub near_seen : (b : Bool) → ((j : LinkSpec) → slice_get w.links l ≡ Some j → b ≡ is_beyond w l j u) → cond b spec.b spec.a ≡ near_end n l k u
+  pub near_seen : (b : Bool) → ((j : LinkSpec) → slice_get w.links l ≡ Some j → b ≡ is_beyond w l j u) → cond b spec.b spec.a
+      ≡ near_end n l k u
   near_seen b t =
-      let q : b ≡ is_beyond n l k u = t spec g ∙ ap (λ (j : LinkSpec). is_beyond w l j u) spec_same ∙ ap (λ (v : Network). is_beyond v l k u) e in
+      let q : b ≡ is_beyond n l k u = t spec g ∙ ap (λ (j : LinkSpec). is_beyond w l j u) spec_same
+          ∙ ap (λ (v : Network). is_beyond v l k u) e in
       ap (λ (j : LinkSpec). cond b j.b j.a) spec_same ∙ ap (λ c. cond c k.b k.a) q
 
-pub any_seen : (i : Inside) → IsTold i → (n : Network) → i.tree ≡ n → (l u f : ℕ) (s : Sides) → f ≡ l → s ≡ slice_index_or i.sides.items f s → (k : LinkSpec) → slice_get n.links l ≡ Some k
+pub any_seen : (i : Inside) → IsTold i → (n : Network) → i.tree ≡ n → (l u f : ℕ) (s : Sides) → f ≡ l → s ≡ slice_index_or i.sides.items f s
+    → (k : LinkSpec) → slice_get n.links l ≡ Some k
     → (b : Bool) → ((j : LinkSpec) → slice_get i.tree.links l ≡ Some j → b ≡ is_beyond i.tree l j u) → cond b s.a s.b ≡ some_beyond n l k u
 any_seen i t n e l u f s q r k h b y =
     let g : slice_get i.tree.links l ≡ Some k = ap (λ (v : Network). slice_get v.links l) e ∙ h in
-    sides_told i t l k g s (r ∙ ap (λ z. slice_index_or i.sides.items z s) q) u b (sym (y k g)) ∙ ap (λ (v : Network). some_beyond v l k u) e
+    sides_told i t l k g s (r ∙ ap (λ z. slice_index_or i.sides.items z s) q) u b (sym (y k g))
+        ∙ ap (λ (v : Network). some_beyond v l k u) e
 
 -- ---- making the tables
 
 -- the sides of the links below a number are told
 abbrev pub SidesBelow : Network → ℕ → List Sides → Type 0
-SidesBelow w n all = (l : ℕ) (k : LinkSpec) → l < n → slice_get w.links l ≡ Some k → (s : Sides) × (slice_get all l ≡ Some s) × TellsSides w l k s
+SidesBelow w n all = (l : ℕ) (k : LinkSpec) → l < n → slice_get w.links l ≡ Some k → (s : Sides) × (slice_get all l ≡ Some s)
+    × TellsSides w l k s
 
-pub sides_more : (w : Network) (n : ℕ) (all : List Sides) (s : Sides) → length all ≡ n → SidesBelow w n all → ((k : LinkSpec) → slice_get w.links n ≡ Some k → TellsSides w n k s) → SidesBelow w (n + 1) (all ++ s ∷ [])
+pub sides_more : (w : Network) (n : ℕ) (all : List Sides) (s : Sides) → length all ≡ n → SidesBelow w n all
+    → ((k : LinkSpec) → slice_get w.links n ≡ Some k → TellsSides w n k s) → SidesBelow w (n + 1) (all ++ s ∷ [])
 sides_more w n all s e below new l k h g =
     elim (cases_eq l n) [
-      | inl q ↦ subst (λ m. (t : Sides) × (slice_get (all ++ s ∷ []) m ≡ Some t) × TellsSides w m k t) (sym q) (s, get_push_new all s n e, new k (subst (λ m. slice_get w.links m ≡ Some k) q g))
+      | inl q ↦ subst (λ m. (t : Sides) × (slice_get (all ++ s ∷ []) m ≡ Some t) × TellsSides w m k t) (sym q)
+          (s, get_push_new all s n e, new k (subst (λ m. slice_get w.links m ≡ Some k) q g))
       | inr q ↦ (let b = below l k (omega arith) g in (b.0, get_push_old all s l (omega arith) ∙ b.1, b.2))
     ]
 

@@ -1,5 +1,6 @@
 -- The ways between the nodes of a growing tree.
-use Rattle.std.proofs.Common.{◌≡◌, ◌≢◌, ℕ, zero, suc, ◌+◌, ◌*◌, ◌<◌, ◌≤◌, Bool, true, false, cond, List, [], ◌∷◌, ◌++◌, length, take, drop, reverse, replicate, Some, refl, sym, ap, ◌∙◌, subst, inl, inr, arith, eqb, eq-eqb, slice_get, slice_set, unwrap_or, All, get_or, ◌||◌}
+use Rattle.std.proofs.Common.{◌≡◌, ◌≢◌, ℕ, zero, suc, ◌+◌, ◌*◌, ◌<◌, ◌≤◌, Bool, true, false, cond, List, [], ◌∷◌, ◌++◌, length, take, drop,
+    reverse, replicate, Some, refl, sym, ap, ◌∙◌, subst, inl, inr, arith, eqb, eq-eqb, slice_get, slice_set, unwrap_or, All, get_or, ◌||◌}
 use Rattle.std.proofs.lemmas.Bool.{ne_eqb, cases_eq, both_ways, false≢true}
 use Rattle.std.proofs.lemmas.List.{take-append-drop, reverse-append, take_more, length-replicate, get_or-set_same, get_or-set_other}
 use Rattle.srm_net.specs.declared.link.LinkSpec.{LinkSpec}
@@ -11,7 +12,8 @@ use Rattle.srm_net.specs.Growth.{Attaches, attached, Grows}
 use Rattle.srm_net.specs.Grids.{number_at}
 use Rattle.srm_net.specs.Ways.{is_known, Extends, Leads, TellsWays}
 use Rattle.srm_net.proofs.Lists.{get_below, all_get}
-use Rattle.srm_net.proofs.Numbers.{Apart, Below, in_head, in_tail, in_cases, not_in, in_append_cases, apart_push, few_apart, distinct_from_apart}
+use Rattle.srm_net.proofs.Numbers.{Apart, Below, in_head, in_tail, in_cases, not_in, in_append_cases, apart_push, few_apart,
+    distinct_from_apart}
 use Rattle.srm_net.proofs.Walks.{walk_last, turned}
 use Rattle.srm_net.proofs.Growing.{attached_below, all_attached}
 use Rattle.srm_net.proofs.RouteLemmas.{walk_length}
@@ -29,14 +31,17 @@ pub record IsWay (links : List LinkSpec) (inside : List ℕ) (u x delay first : 
 
 -- ---- a walk and one link more
 
-pub walk_push : (links : List LinkSpec) (u : ℕ) (ls : List ℕ) (p : ℕ) (ns : List ℕ) (l : ℕ) (k : LinkSpec) (v : ℕ) → IsWalk links u ls p ns → slice_get links l ≡ Some k → Joins k p v → IsWalk links u (ls ++ l ∷ []) v (ns ++ v ∷ [])
+pub walk_push : (links : List LinkSpec) (u : ℕ) (ls : List ℕ) (p : ℕ) (ns : List ℕ) (l : ℕ) (k : LinkSpec) (v : ℕ) → IsWalk links u ls p ns
+    → slice_get links l ≡ Some k → Joins k p v → IsWalk links u (ls ++ l ∷ []) v (ns ++ v ∷ [])
 walk_push links u [] p ns l k v w g j =
     (k, v, v ∷ [], g, subst (λ t. Joins k t v) (sym w.0) j, ap (λ t. t ++ v ∷ []) w.1, (refl, refl))
 walk_push links u (m ∷ ls) p ns l k v w g j =
     (w.0, w.1, w.2 ++ v ∷ [], w.3, w.4, ap (λ t. t ++ v ∷ []) w.5, walk_push links w.1 ls p w.2 l k v w.6 g j)
 
-delay_push : (links : List LinkSpec) (u : ℕ) (ls : List ℕ) (p : ℕ) (ns : List ℕ) (l : ℕ) → IsWalk links u ls p ns → delay_along links u (ls ++ l ∷ []) ≡ delay_along links u ls + delay_of p (slice_get links l)
-delay_push links u [] p ns l w = let e : delay_of u (slice_get links l) ≡ delay_of p (slice_get links l) = ap (λ y. delay_of y (slice_get links l)) w.0 in omega arith
+delay_push : (links : List LinkSpec) (u : ℕ) (ls : List ℕ) (p : ℕ) (ns : List ℕ) (l : ℕ) → IsWalk links u ls p ns
+    → delay_along links u (ls ++ l ∷ []) ≡ delay_along links u ls + delay_of p (slice_get links l)
+delay_push links u [] p ns l w = let e : delay_of u (slice_get links l)
+    ≡ delay_of p (slice_get links l) = ap (λ y. delay_of y (slice_get links l)) w.0 in omega arith
 delay_push links u (m ∷ ls) p ns l w =
     let k = delay_push links w.1 ls p w.2 l w.6 in
     along_first links u m w.1 (ls ++ l ∷ []) w.0 w.3 w.4 ∙ ap (λ n. delay_from u w.0 + n) k
@@ -61,7 +66,8 @@ way_stay links inside u first i = record {
   first_is = λ d. absurd (d refl);
 }
 
-pub way_kept : (links : List LinkSpec) (inside : List ℕ) (n u x delay first : ℕ) → IsWay links inside u x delay first → IsWay links (n ∷ inside) u x delay first
+pub way_kept : (links : List LinkSpec) (inside : List ℕ) (n u x delay first : ℕ) → IsWay links inside u x delay first
+    → IsWay links (n ∷ inside) u x delay first
 way_kept links inside n u x delay first w = record {
   path = w.path;
   nodes = w.nodes;
@@ -72,7 +78,8 @@ way_kept links inside n u x delay first w = record {
   first_is = w.first_is;
 }
 
-pub way_there : (links : List LinkSpec) (inside : List ℕ) (s : Step) (a : Attaches links inside s) (u delay first : ℕ) → IsWay links inside u s.parent delay first
+pub way_there : (links : List LinkSpec) (inside : List ℕ) (s : Step) (a : Attaches links inside s) (u delay first : ℕ)
+    → IsWay links inside u s.parent delay first
     → IsWay links (s.node ∷ inside) u s.node (delay + delay_from s.parent a.spec) (cond (eqb u s.parent) s.link first)
 way_there links inside s a u delay first w =
     let new : is_in w.nodes s.node ≡ false = not_in w.nodes s.node (λ i. both_ways _ a.node (w.within s.node i)) in
@@ -84,16 +91,21 @@ way_there links inside s a u delay first w =
       apart = apart_push w.nodes s.node w.apart new;
       within = λ n h. elim (in_append_cases w.nodes (s.node ∷ []) n h) [
         | inl i ↦ in_tail s.node n inside (w.within n i)
-        | inr i ↦ elim (in_cases s.node n [] i) [ inl f ↦ subst (λ t. is_in (s.node ∷ inside) t ≡ true) f (in_head s.node inside) | inr f ↦ absurd (false≢true f) ]
+        | inr i ↦ elim (in_cases s.node n [] i) [ inl f ↦ subst (λ t. is_in (s.node ∷ inside) t ≡ true) f (in_head s.node inside) | inr f ↦
+            absurd (false≢true f) ]
       ];
-      delay_is = d ∙ ap (λ n. n + delay_of s.parent (slice_get links s.link)) w.delay_is ∙ ap (λ n. delay + n) (ap (delay_of s.parent) a.link);
+      delay_is = d ∙ ap (λ n. n + delay_of s.parent (slice_get links s.link)) w.delay_is
+          ∙ ap (λ n. delay + n) (ap (delay_of s.parent) a.link);
       first_is = λ _. elim (cases_eq u s.parent) [
-        | inl f ↦ ([], ap (λ t. t ++ s.link ∷ []) (closed_empty links u w.path s.parent w.nodes w.walk w.apart f) ∙ sym (ap (λ b. cond b s.link first ∷ []) (eq-eqb u s.parent f)))
-        | inr f ↦ ((w.first_is f).0 ++ s.link ∷ [], ap (λ t. t ++ s.link ∷ []) ((w.first_is f).1) ∙ sym (ap (λ b. cond b s.link first ∷ ((w.first_is f).0 ++ s.link ∷ [])) (ne_eqb u s.parent f)))
+        | inl f ↦ ([], ap (λ t. t ++ s.link ∷ []) (closed_empty links u w.path s.parent w.nodes w.walk w.apart f)
+            ∙ sym (ap (λ b. cond b s.link first ∷ []) (eq-eqb u s.parent f)))
+        | inr f ↦ ((w.first_is f).0 ++ s.link ∷ [], ap (λ t. t ++ s.link ∷ []) ((w.first_is f).1)
+            ∙ sym (ap (λ b. cond b s.link first ∷ ((w.first_is f).0 ++ s.link ∷ [])) (ne_eqb u s.parent f)))
       ];
     }
 
-pub way_back : (links : List LinkSpec) (inside : List ℕ) (s : Step) (a : Attaches links inside s) (x delay first : ℕ) → IsWay links inside s.parent x delay first
+pub way_back : (links : List LinkSpec) (inside : List ℕ) (s : Step) (a : Attaches links inside s) (x delay first : ℕ)
+    → IsWay links inside s.parent x delay first
     → IsWay links (s.node ∷ inside) s.node x (delay + delay_from s.node a.spec) s.link
 way_back links inside s a x delay first w =
     let new : is_in w.nodes s.node ≡ false = not_in w.nodes s.node (λ i. both_ways _ a.node (w.within s.node i)) in
@@ -107,7 +119,8 @@ way_back links inside s a x delay first w =
         | inl f ↦ subst (λ t. is_in (s.node ∷ inside) t ≡ true) f (in_head s.node inside)
         | inr i ↦ in_tail s.node n inside (w.within n i)
       ];
-      delay_is = along_first links s.node s.link s.parent w.path a.spec a.link joins ∙ ap (λ n. delay_from s.node a.spec + n) w.delay_is ∙ omega arith;
+      delay_is = along_first links s.node s.link s.parent w.path a.spec a.link joins ∙ ap (λ n. delay_from s.node a.spec + n) w.delay_is
+          ∙ omega arith;
       first_is = λ _. (w.path, refl);
     }
 
@@ -126,23 +139,31 @@ pub record BothWays (links : List LinkSpec) (inside : List ℕ) (u x : ℕ) : Ty
   pub there : IsWay links inside u x delay one
   pub back : IsWay links inside x u home two
 
-pub both_ways_grown : (links : List LinkSpec) (ss : List Step) → Grows links ss → (u x : ℕ) → is_in (attached ss) u ≡ true → is_in (attached ss) x ≡ true → BothWays links (attached ss) u x
+pub both_ways_grown : (links : List LinkSpec) (ss : List Step) → Grows links ss → (u x : ℕ) → is_in (attached ss) u ≡ true
+    → is_in (attached ss) x ≡ true → BothWays links (attached ss) u x
 both_ways_grown links [] g u x i j =
-    let zero_in : (y : ℕ) → is_in (0 ∷ []) y ≡ true → 0 ≡ y = λ y h. elim (in_cases 0 y [] h) [ inl e ↦ e | inr e ↦ absurd (false≢true e) ] in
+    let zero_in : (y : ℕ) → is_in (0 ∷ []) y ≡ true → 0 ≡ y = λ y h. elim
+        (in_cases 0 y [] h) [ inl e ↦ e | inr e ↦ absurd (false≢true e) ] in
     let same : u ≡ x = sym (zero_in u i) ∙ zero_in x j in
-    subst (λ t. BothWays links (0 ∷ []) u t) same (record { delay = 0; home = 0; same = λ _. refl; one = 0; two = 0; there = way_stay links (0 ∷ []) u 0 i; back = way_stay links (0 ∷ []) u 0 i })
+    subst (λ t. BothWays links (0 ∷ []) u t) same
+        (record { delay = 0; home = 0; same = λ _. refl; one = 0; two = 0; there = way_stay links (0 ∷ []) u 0 i; back =
+        way_stay links (0 ∷ []) u 0 i })
 both_ways_grown links (s ∷ ss) g u x i j =
-    let from : All IsAlike links → (u : ℕ) → delay_from u g.0.spec ≡ g.0.spec.delay = λ alike. from_either g.0.spec (all_get IsAlike links s.link g.0.spec alike g.0.link) in
+    let from : All IsAlike links → (u : ℕ) → delay_from u g.0.spec ≡ g.0.spec.delay =
+        λ alike. from_either g.0.spec (all_get IsAlike links s.link g.0.spec alike g.0.link) in
     elim (in_cases s.node u (attached ss) i) [
       | inl e ↦ elim (in_cases s.node x (attached ss) j) [
-        | inl f ↦ subst (λ t. BothWays links (s.node ∷ attached ss) u t) (sym e ∙ f) (record { delay = 0; home = 0; same = λ _. refl; one = 0; two = 0; there = way_stay links (s.node ∷ attached ss) u 0 i; back = way_stay links (s.node ∷ attached ss) u 0 i })
+        | inl f ↦ subst (λ t. BothWays links (s.node ∷ attached ss) u t)
+            (sym e ∙ f) (record { delay = 0; home = 0; same = λ _. refl; one = 0; two = 0; there =
+            way_stay links (s.node ∷ attached ss) u 0 i; back = way_stay links (s.node ∷ attached ss) u 0 i })
         | inr f ↦
             (let b = both_ways_grown links ss g.1 s.parent x g.0.parent f in
             subst (λ t. BothWays links (s.node ∷ attached ss) t x) e
             (record {
               delay = b.delay + delay_from s.node g.0.spec;
               home = b.home + delay_from s.parent g.0.spec;
-              same = λ alike. ap (λ n. n + delay_from s.node g.0.spec) (b.same alike) ∙ ap (λ n. b.home + n) (from alike s.node ∙ sym (from alike s.parent));
+              same = λ alike. ap (λ n. n + delay_from s.node g.0.spec) (b.same alike)
+                  ∙ ap (λ n. b.home + n) (from alike s.node ∙ sym (from alike s.parent));
               one = s.link;
               two = cond (eqb x s.parent) s.link b.two;
               there = way_back links (attached ss) s g.0 x b.delay b.one b.there;
@@ -156,7 +177,8 @@ both_ways_grown links (s ∷ ss) g u x i j =
             (record {
               delay = b.delay + delay_from s.parent g.0.spec;
               home = b.home + delay_from s.node g.0.spec;
-              same = λ alike. ap (λ n. n + delay_from s.parent g.0.spec) (b.same alike) ∙ ap (λ n. b.home + n) (from alike s.parent ∙ sym (from alike s.node));
+              same = λ alike. ap (λ n. n + delay_from s.parent g.0.spec) (b.same alike)
+                  ∙ ap (λ n. b.home + n) (from alike s.parent ∙ sym (from alike s.node));
               one = cond (eqb u s.parent) s.link b.one;
               two = s.link;
               there = way_there links (attached ss) s g.0 u b.delay b.one b.there;
@@ -164,7 +186,9 @@ both_ways_grown links (s ∷ ss) g u x i j =
             }))
         | inr f ↦
             (let b = both_ways_grown links ss g.1 u x e f in
-            record { delay = b.delay; home = b.home; same = b.same; one = b.one; two = b.two; there = way_kept links (attached ss) s.node u x b.delay b.one b.there; back = way_kept links (attached ss) s.node x u b.home b.two b.back })
+            record { delay = b.delay; home = b.home; same = b.same; one =
+                b.one; two = b.two; there = way_kept links (attached ss) s.node u x b.delay b.one b.there; back =
+                way_kept links (attached ss) s.node x u b.home b.two b.back })
       ]
     ]
 
@@ -176,17 +200,22 @@ KnownAre nodes ss known = (x : ℕ) → x < nodes → is_known known x ≡ is_in
 
 -- the tables tell the ways between the attached nodes
 pub record TellsSoFar (nodes : ℕ) (links : List LinkSpec) (ss : List Step) (delays firsts : List ℕ) : Type 0 where
-  pub ways : (u x : ℕ) → is_in (attached ss) u ≡ true → is_in (attached ss) x ≡ true → IsWay links (attached ss) u x (number_at nodes delays u x) (number_at nodes firsts u x)
+  pub ways : (u x : ℕ) → is_in (attached ss) u ≡ true → is_in (attached ss) x ≡ true
+      → IsWay links (attached ss) u x (number_at nodes delays u x) (number_at nodes firsts u x)
   pub still : (u : ℕ) → u < nodes → number_at nodes delays u u ≡ 0
 
-way_as : (links : List LinkSpec) (inside : List ℕ) (u x a b c d : ℕ) → a ≡ b → c ≡ d → IsWay links inside u x a c → IsWay links inside u x b d
+way_as : (links : List LinkSpec) (inside : List ℕ) (u x a b c d : ℕ) → a ≡ b → c ≡ d → IsWay links inside u x a c
+    → IsWay links inside u x b d
 way_as links inside u x a b c d e f w = subst (λ t. IsWay links inside u x b t) f (subst (λ t. IsWay links inside u x t c) e w)
 
 pub tells_more : (nodes : ℕ) (links : List LinkSpec) (ss : List Step) (s : Step) (known : List Bool) (down up : ℕ) (d0 f0 d1 f1 : List ℕ)
-    → length known ≡ nodes → Below nodes (attached ss) → s.node < nodes → KnownAre nodes ss known → (a : Attaches links (attached ss) s) → down ≡ delay_from s.parent a.spec → up ≡ delay_from s.node a.spec
-    → TellsSoFar nodes links ss d0 f0 → Extends known s down up nodes d0 d1 → Leads known s nodes f0 f1 → TellsSoFar nodes links (s ∷ ss) d1 f1
+    → length known ≡ nodes → Below nodes (attached ss) → s.node < nodes → KnownAre nodes ss known → (a : Attaches links (attached ss) s)
+        → down ≡ delay_from s.parent a.spec → up ≡ delay_from s.node a.spec
+    → TellsSoFar nodes links ss d0 f0 → Extends known s down up nodes d0 d1 → Leads known s nodes f0 f1
+        → TellsSoFar nodes links (s ∷ ss) d1 f1
 tells_more nodes links ss s known down up d0 f0 d1 f1 size below new agree a same_down same_up t e l =
-    let old : (y : ℕ) → is_in (attached ss) y ≡ true → y ≢ s.node = λ y i q. both_ways _ a.node (subst (λ z. is_in (attached ss) z ≡ true) q i) in
+    let old : (y : ℕ) → is_in (attached ss) y ≡ true → y ≢ s.node = λ y i q. both_ways _ a.node
+        (subst (λ z. is_in (attached ss) z ≡ true) q i) in
     let fits : (y : ℕ) → is_in (attached ss) y ≡ true → y < length known = λ y i. (let k = below y i in omega arith) in
     let marked : (y : ℕ) → is_in (attached ss) y ≡ true → is_known known y ≡ true = λ y i. agree y (below y i) ∙ i in
     let here : s.node < length known = omega arith in
@@ -195,20 +224,28 @@ tells_more nodes links ss s known down up d0 f0 d1 f1 size below new agree a sam
         | inl p ↦ elim (in_cases s.node x (attached ss) j) [
           | inl q ↦ subst (λ z. IsWay links (s.node ∷ attached ss) z x (number_at nodes d1 z x) (number_at nodes f1 z x)) p
               (subst (λ z. IsWay links (s.node ∷ attached ss) s.node z (number_at nodes d1 s.node z) (number_at nodes f1 s.node z)) q
-              (way_as links (s.node ∷ attached ss) s.node s.node 0 (number_at nodes d1 s.node s.node) (number_at nodes f1 s.node s.node) (number_at nodes f1 s.node s.node)
+              (way_as links (s.node ∷ attached ss) s.node s.node 0 (number_at nodes d1 s.node s.node) (number_at nodes f1 s.node s.node)
+                  (number_at nodes f1 s.node s.node)
               (sym (e.kept s.node s.node here (inr refl) ∙ t.still s.node new)) refl
               (way_stay links (s.node ∷ attached ss) s.node (number_at nodes f1 s.node s.node) (in_head s.node (attached ss)))))
           | inr q ↦ subst (λ z. IsWay links (s.node ∷ attached ss) z x (number_at nodes d1 z x) (number_at nodes f1 z x)) p
-              (way_as links (s.node ∷ attached ss) s.node x (number_at nodes d0 s.parent x + delay_from s.node a.spec) (number_at nodes d1 s.node x) s.link (number_at nodes f1 s.node x)
-              (sym (e.back x (fits x q) (marked x q) ∙ ap (λ z. number_at nodes d0 s.parent x + z) same_up)) (sym (l.back x (fits x q) (marked x q)))
-              (way_back links (attached ss) s a x (number_at nodes d0 s.parent x) (number_at nodes f0 s.parent x) (t.ways s.parent x a.parent q)))
+              (way_as links (s.node ∷ attached ss) s.node x (number_at nodes d0 s.parent x + delay_from s.node a.spec)
+                  (number_at nodes d1 s.node x) s.link (number_at nodes f1 s.node x)
+              (sym (e.back x (fits x q) (marked x q) ∙ ap (λ z. number_at nodes d0 s.parent x + z) same_up))
+                  (sym (l.back x (fits x q) (marked x q)))
+              (way_back links (attached ss) s a x (number_at nodes d0 s.parent x) (number_at nodes f0 s.parent x)
+                  (t.ways s.parent x a.parent q)))
         ]
         | inr p ↦ elim (in_cases s.node x (attached ss) j) [
           | inl q ↦ subst (λ z. IsWay links (s.node ∷ attached ss) u z (number_at nodes d1 u z) (number_at nodes f1 u z)) q
-              (way_as links (s.node ∷ attached ss) u s.node (number_at nodes d0 u s.parent + delay_from s.parent a.spec) (number_at nodes d1 u s.node) (cond (eqb u s.parent) s.link (number_at nodes f0 u s.parent)) (number_at nodes f1 u s.node)
-              (sym (e.there u (fits u p) (marked u p) ∙ ap (λ z. number_at nodes d0 u s.parent + z) same_down)) (sym (l.there u (fits u p) (marked u p)))
-              (way_there links (attached ss) s a u (number_at nodes d0 u s.parent) (number_at nodes f0 u s.parent) (t.ways u s.parent p a.parent)))
-          | inr q ↦ way_as links (s.node ∷ attached ss) u x (number_at nodes d0 u x) (number_at nodes d1 u x) (number_at nodes f0 u x) (number_at nodes f1 u x)
+              (way_as links (s.node ∷ attached ss) u s.node (number_at nodes d0 u s.parent + delay_from s.parent a.spec)
+                  (number_at nodes d1 u s.node) (cond (eqb u s.parent) s.link (number_at nodes f0 u s.parent)) (number_at nodes f1 u s.node)
+              (sym (e.there u (fits u p) (marked u p) ∙ ap (λ z. number_at nodes d0 u s.parent + z) same_down))
+                  (sym (l.there u (fits u p) (marked u p)))
+              (way_there links (attached ss) s a u (number_at nodes d0 u s.parent) (number_at nodes f0 u s.parent)
+                  (t.ways u s.parent p a.parent)))
+          | inr q ↦ way_as links (s.node ∷ attached ss) u x (number_at nodes d0 u x) (number_at nodes d1 u x) (number_at nodes f0 u x)
+              (number_at nodes f1 u x)
               (sym (e.kept u x (fits x q) (inl (old u p, old x q)))) (sym (l.kept u x (fits x q) (inl (old u p, old x q))))
               (way_kept links (attached ss) s.node u x (number_at nodes d0 u x) (number_at nodes f0 u x) (t.ways u x p q))
         ]
@@ -217,7 +254,8 @@ tells_more nodes links ss s known down up d0 f0 d1 f1 size below new agree a sam
     }
 
 -- no delay between attached nodes is above 1,023,000,000
-pub told_bounded : (nodes : ℕ) (links : List LinkSpec) (ss : List Step) (delays firsts : List ℕ) → nodes ≤ 1024 → All HasDelays links → Below nodes (attached ss) → TellsSoFar nodes links ss delays firsts
+pub told_bounded : (nodes : ℕ) (links : List LinkSpec) (ss : List Step) (delays firsts : List ℕ) → nodes ≤ 1024 → All HasDelays links
+    → Below nodes (attached ss) → TellsSoFar nodes links ss delays firsts
     → (u x : ℕ) → is_in (attached ss) u ≡ true → is_in (attached ss) x ≡ true → number_at nodes delays u x ≤ 1023000000
 told_bounded nodes links ss delays firsts few d below t u x i j =
     let w = t.ways u x i j in
@@ -234,13 +272,17 @@ get_replicate zero x i = refl
 get_replicate (suc n) x zero = refl
 get_replicate (suc n) x (suc i) = get_replicate n x i
 
-pub tells_root : (nodes size : ℕ) (links : List LinkSpec) (delays firsts : List ℕ) → delays ≡ replicate size 0 → TellsSoFar nodes links [] delays firsts
+pub tells_root : (nodes size : ℕ) (links : List LinkSpec) (delays firsts : List ℕ) → delays ≡ replicate size 0
+    → TellsSoFar nodes links [] delays firsts
 tells_root nodes size links delays firsts e =
-    let zero_at : (u x : ℕ) → number_at nodes delays u x ≡ 0 = λ u x. ap (λ xs. number_at nodes xs u x) e ∙ get_replicate size 0 (u * nodes + x) in
+    let zero_at : (u x : ℕ) → number_at nodes delays u x ≡ 0 = λ u x. ap (λ xs. number_at nodes xs u x) e
+        ∙ get_replicate size 0 (u * nodes + x) in
     let only : (y : ℕ) → is_in (0 ∷ []) y ≡ true → 0 ≡ y = λ y h. elim (in_cases 0 y [] h) [ inl q ↦ q | inr q ↦ absurd (false≢true q) ] in
     record {
-      ways = λ u x i j. subst (λ z. IsWay links (0 ∷ []) u z (number_at nodes delays u z) (number_at nodes firsts u z)) (sym (only u i) ∙ only x j)
-          (way_as links (0 ∷ []) u u 0 (number_at nodes delays u u) (number_at nodes firsts u u) (number_at nodes firsts u u) (sym (zero_at u u)) refl (way_stay links (0 ∷ []) u (number_at nodes firsts u u) i));
+      ways = λ u x i j. subst (λ z. IsWay links (0 ∷ []) u z (number_at nodes delays u z) (number_at nodes firsts u z))
+          (sym (only u i) ∙ only x j)
+          (way_as links (0 ∷ []) u u 0 (number_at nodes delays u u) (number_at nodes firsts u u) (number_at nodes firsts u u)
+              (sym (zero_at u u)) refl (way_stay links (0 ∷ []) u (number_at nodes firsts u u) i));
       still = λ u h. zero_at u u;
     }
 
@@ -252,15 +294,18 @@ grows_tail links (x ∷ xs) ys g = grows_tail links xs ys g.1
 
 pub grows_front : (links : List LinkSpec) (steps : List Step) (i : ℕ) → Grows links (reverse steps) → Grows links (reverse (take i steps))
 grows_front links steps i g =
-    let e : reverse steps ≡ reverse (drop i steps) ++ reverse (take i steps) = ap reverse (sym (take-append-drop i steps)) ∙ reverse-append (take i steps) (drop i steps) in
+    let e : reverse steps ≡ reverse (drop i steps) ++ reverse (take i steps) = ap reverse (sym (take-append-drop i steps))
+        ∙ reverse-append (take i steps) (drop i steps) in
     grows_tail links (reverse (drop i steps)) (reverse (take i steps)) (subst (Grows links) e g)
 
-pub reverse_more : (steps : List Step) (i : ℕ) (d : Step) → i < length steps → reverse (take (i + 1) steps) ≡ get_or steps i d ∷ reverse (take i steps)
+pub reverse_more : (steps : List Step) (i : ℕ) (d : Step) → i < length steps → reverse (take (i + 1) steps)
+    ≡ get_or steps i d ∷ reverse (take i steps)
 reverse_more steps i d h = ap reverse (take_more steps i d h) ∙ reverse-append (take i steps) (get_or steps i d ∷ [])
 
 -- ---- the end
 
-pub tells_all : (nodes : ℕ) (links : List LinkSpec) (ss : List Step) (ways : Ways) → 1 ≤ nodes → All (IsWithin nodes) links → Grows links ss → length ss + 1 ≡ nodes → ways.delays.width ≡ nodes → ways.firsts.width ≡ nodes
+pub tells_all : (nodes : ℕ) (links : List LinkSpec) (ss : List Step) (ways : Ways) → 1 ≤ nodes → All (IsWithin nodes) links → Grows links ss
+    → length ss + 1 ≡ nodes → ways.delays.width ≡ nodes → ways.firsts.width ≡ nodes
     → TellsSoFar nodes links ss ways.delays.cells.items ways.firsts.cells.items → TellsWays nodes links ways
 tells_all nodes links ss ways some ends g size dw fw t = record {
   delays_width = dw;
@@ -282,29 +327,35 @@ pub record Turn (nodes : ℕ) (links : List LinkSpec) (steps : List Step) (i : �
   pub node : (get_or steps i no_step).node < nodes
   pub link : (get_or steps i no_step).link < length links
 
-pub turn_at : (nodes : ℕ) (links : List LinkSpec) (steps : List Step) (i : ℕ) → 1 ≤ nodes → All (IsWithin nodes) links → Grows links (reverse steps) → i < length steps → Turn nodes links steps i
+pub turn_at : (nodes : ℕ) (links : List LinkSpec) (steps : List Step) (i : ℕ) → 1 ≤ nodes → All (IsWithin nodes) links
+    → Grows links (reverse steps) → i < length steps → Turn nodes links steps i
 turn_at nodes links steps i some ends g h =
-    let next : Grows links (get_or steps i no_step ∷ reverse (take i steps)) = subst (Grows links) (reverse_more steps i no_step h) (grows_front links steps (i + 1) g) in
+    let next : Grows links (get_or steps i no_step ∷ reverse (take i steps)) =
+        subst (Grows links) (reverse_more steps i no_step h) (grows_front links steps (i + 1) g) in
     let a = next.0 in
     record {
       grown = next.1;
       attaches = a;
       below = attached_below nodes links (reverse (take i steps)) some ends next.1;
-      node = attached_below nodes links (get_or steps i no_step ∷ reverse (take i steps)) some ends next (get_or steps i no_step).node (in_head (get_or steps i no_step).node (attached (reverse (take i steps))));
+      node = attached_below nodes links (get_or steps i no_step ∷ reverse (take i steps)) some ends next (get_or steps i no_step).node
+          (in_head (get_or steps i no_step).node (attached (reverse (take i steps))));
       link = get_below links (get_or steps i no_step).link a.spec a.link;
     }
 
-known_set : (known : List Bool) (n : ℕ) → n < length known → (x : ℕ) → is_known (slice_set known n true) x ≡ cond (eqb n x) true (is_known known x)
+known_set : (known : List Bool) (n : ℕ) → n < length known → (x : ℕ) → is_known (slice_set known n true) x
+    ≡ cond (eqb n x) true (is_known known x)
 known_set known n h x =
     elim (cases_eq n x) [
-      | inl e ↦ subst (λ t. is_known (slice_set known n true) t ≡ cond (eqb n t) true (is_known known t)) e (get_or-set_same known n true false h ∙ sym (ap (λ b. cond b true (is_known known n)) (eq-eqb n n refl)))
+      | inl e ↦ subst (λ t. is_known (slice_set known n true) t ≡ cond (eqb n t) true (is_known known t)) e
+          (get_or-set_same known n true false h ∙ sym (ap (λ b. cond b true (is_known known n)) (eq-eqb n n refl)))
       | inr d ↦ get_or-set_other known n x true false (λ e. d (sym e)) ∙ sym (ap (λ b. cond b true (is_known known x)) (ne_eqb n x d))
     ]
 
 in_cons : (n : ℕ) (xs : List ℕ) (x : ℕ) → is_in (n ∷ xs) x ≡ cond (eqb n x) true (is_in xs x)
 in_cons n xs x = elim (eqb n x) as (λ b. (b || is_in xs x) ≡ cond b true (is_in xs x)) [ true ↦ refl | false ↦ refl ]
 
-pub known_more : (nodes : ℕ) (ss : List Step) (s : Step) (known : List Bool) → length known ≡ nodes → s.node < nodes → KnownAre nodes ss known → KnownAre nodes (s ∷ ss) (slice_set known s.node true)
+pub known_more : (nodes : ℕ) (ss : List Step) (s : Step) (known : List Bool) → length known ≡ nodes → s.node < nodes
+    → KnownAre nodes ss known → KnownAre nodes (s ∷ ss) (slice_set known s.node true)
 known_more nodes ss s known e h k x lt =
     known_set known s.node (omega arith) x ∙ ap (λ b. cond (eqb s.node x) true b) (k x lt) ∙ sym (in_cons s.node (attached ss) x)
 
@@ -316,4 +367,5 @@ none_known (suc n) (suc x) = none_known n x
 pub known_root : (nodes : ℕ) (known : List Bool) → 1 ≤ nodes → known ≡ replicate nodes false → KnownAre nodes [] (slice_set known 0 true)
 known_root nodes known some e x lt =
     let size : length known ≡ nodes = ap length e ∙ length-replicate nodes false in
-    known_set known 0 (omega arith) x ∙ ap (λ b. cond (eqb 0 x) true b) (ap (λ k. is_known k x) e ∙ none_known nodes x) ∙ sym (in_cons 0 [] x)
+    known_set known 0 (omega arith) x ∙ ap (λ b. cond (eqb 0 x) true b) (ap (λ k. is_known k x) e ∙ none_known nodes x)
+        ∙ sym (in_cons 0 [] x)

@@ -17,7 +17,8 @@ plain_network nodes links hosts = record { nodes = nodes; links = links; hosts =
 abbrev pub Joins : LinkSpec → ℕ → ℕ → Type 0
 Joins k u v = ((k.a ≡ u) × (k.b ≡ v)) ⊎ ((k.b ≡ u) × (k.a ≡ v))
 
--- links, by their numbers, that lead from node u to node v, each meeting the next, and the nodes on that way, u the first
+-- links, by their numbers, that lead from node u to node v, each meeting the next, and the nodes on that way, u the
+-- first
 abbrev pub IsWalk : List LinkSpec → ℕ → List ℕ → ℕ → List ℕ → Type 0
 IsWalk links u [] v ns = (u ≡ v) × (ns ≡ u ∷ [])
 IsWalk links u (l ∷ ls) v ns =

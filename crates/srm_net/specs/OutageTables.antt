@@ -10,8 +10,8 @@ use Rattle.srm_net.specs.Outages.{begins_by, last_lasts}
 abbrev pub listed_in : Inside → List OutageSpec
 listed_in o = o.list.items
 
--- for each link and tick, the spans that have begun stand first, and the last of them tells whether the link is out; and the end is that
--- of the last outage of all
+-- for each link and tick, the spans that have begun stand first, and the last of them tells whether the link is out;
+-- and the end is that of the last outage of all
 pub record FindsOutages (o : Inside) : Type 0 where
   pub begun_first : (l t : ℕ) → IsPartitionedBy (begins_by l t) o.spans.items
   pub last_tells : (l t n : ℕ) → n ≤ length o.spans.items

@@ -1,5 +1,6 @@
 -- Outages in the order of links and first ticks.
-use Rattle.std.specs.Prelude.{◌≡◌, ℕ, zero, suc, ◌≤◌, Bool, false, ◌&&◌, ◌||◌, ◌==◌, List, nat_le, nat_lt, slice_index_or}
+use Rattle.std.specs.Prelude.{◌≡◌, ℕ, zero, suc, ◌≤◌, Bool, false, ◌&&◌, ◌||◌, ◌==◌, List, nat_le, nat_lt,
+    slice_index_or}
 use Rattle.srm_net.specs.declared.link.OutageSpec.{OutageSpec}
 
 -- in place of an outage that is not there
@@ -19,8 +20,8 @@ abbrev pub last_lasts : List OutageSpec → ℕ → ℕ → ℕ → Bool
 last_lasts outages zero l t = false
 last_lasts outages (suc n) l t = ((outage_at outages n).link == l) && nat_lt t (outage_at outages n).to
 
--- the span at place i is of the link of the outage there, begins as it does, and has the latest end of the outages of that link that
--- stand there or earlier
+-- the span at place i is of the link of the outage there, begins as it does, and has the latest end of the outages of
+-- that link that stand there or earlier
 pub record LastsLongest (outages spans : List OutageSpec) (i : ℕ) : Type 0 where
   pub link : (outage_at spans i).link ≡ (outage_at outages i).link
   pub from : (outage_at spans i).from ≡ (outage_at outages i).from

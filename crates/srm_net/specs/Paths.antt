@@ -1,5 +1,6 @@
 -- Routes between nodes and between members, and what becomes of a packet on them.
-use Rattle.std.specs.Prelude.{ℕ, zero, suc, ◌+◌, Bool, true, false, not, ◌&&◌, ◌||◌, List, [], ◌∷◌, Option, Some, None, unwrap_or, length, slice_get, slice_index, ◌==◌, if◌then◌else◌}
+use Rattle.std.specs.Prelude.{ℕ, zero, suc, ◌+◌, Bool, true, false, not, ◌&&◌, ◌||◌, List, [], ◌∷◌, Option, Some, None,
+    unwrap_or, length, slice_get, slice_index, ◌==◌, if◌then◌else◌}
 use Rattle.std.specs.List.{list_any}
 use Rattle.std.specs.declared.cmp.Ordering.{Ordering}
 use Rattle.std.specs.Ordering.{nat_cmp}
@@ -75,7 +76,8 @@ abbrev pub end_of : ℕ → Option LinkSpec → ℕ
 end_of u None = u
 end_of u (Some k) = unwrap_or (far_end k u) u
 
--- the sum of the delays of these links, taken one after the other from node u on, each in the direction in which it is taken
+-- the sum of the delays of these links, taken one after the other from node u on, each in the direction in which it is
+-- taken
 abbrev pub delay_along : List LinkSpec → ℕ → List ℕ → ℕ
 delay_along links u [] = 0
 delay_along links u (l ∷ ls) = delay_of u (slice_get links l) + delay_along links (end_of u (slice_get links l)) ls
@@ -147,7 +149,8 @@ unfoldable pub crosses : Network → DropRules → PacketId → ℕ → ℕ → 
 crosses w rules p sent l =
     some_below (λ m. crossed_on (takes_out rules p) (member_stops w p.sender sent m) l) (length w.hosts)
 
--- whether packet p, sent at this tick, is dropped at link l on its way to some member, whether or not that member is present
+-- whether packet p, sent at this tick, is dropped at link l on its way to some member, whether or not that member is
+-- present
 unfoldable pub drops_at : Network → DropRules → PacketId → ℕ → ℕ → Bool
 drops_at w rules p sent l =
     some_below (λ m. dropped_on (takes_out rules p) (member_stops w p.sender sent m) l) (length w.hosts)

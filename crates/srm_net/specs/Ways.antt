@@ -1,5 +1,6 @@
 -- Tables of the ways between the nodes of a tree.
-use Rattle.std.specs.Prelude.{◌≡◌, ◌≢◌, ◌⊎◌, ℕ, ◌+◌, ◌<◌, ◌==◌, Bool, true, false, List, ◌∷◌, length, slice_index_or, if◌then◌else◌}
+use Rattle.std.specs.Prelude.{◌≡◌, ◌≢◌, ◌⊎◌, ℕ, ◌+◌, ◌<◌, ◌==◌, Bool, true, false, List, ◌∷◌, length, slice_index_or,
+    if◌then◌else◌}
 use Rattle.srm_net.specs.declared.link.LinkSpec.{LinkSpec}
 use Rattle.srm_net.specs.declared.step.Step.{Step}
 use Rattle.srm_net.specs.declared.ways.Ways.{Ways}
@@ -28,8 +29,8 @@ is_known known u = slice_index_or known u false
 abbrev pub IsApartFrom : ℕ → ℕ → ℕ → Type 0
 IsApartFrom node u x = ((u ≢ node) × (x ≢ node)) ⊎ (u ≡ x)
 
--- the new table has the delays between the step's node and the known ones, by way of its parent, from which the link takes
--- `down`, and to which it takes `up`
+-- the new table has the delays between the step's node and the known ones, by way of its parent, from which the link
+-- takes `down`, and to which it takes `up`
 pub record Extends (known : List Bool) (s : Step) (down up width : ℕ) (old new : List ℕ) : Type 0 where
   pub there : (u : ℕ) → u < length known → is_known known u ≡ true
       → number_at width new u s.node ≡ number_at width old u s.parent + down

@@ -5,7 +5,8 @@ use Rattle.srm_net.specs.declared.packet.PacketId.{PacketId}
 use Rattle.srm_net.specs.Paths.{is_listed, drop_cmp}
 use Rattle.srm_net.specs.Listed.{is_listed_somewhere}
 use Rattle.srm_net.specs.DropSets.{ordered_once}
-use Rattle.srm_net.proofs.DropLemmas.{drops_ascend, listed_ordered, contains_listed, listed_contains, listed_more, known_more, same_somewhere}
+use Rattle.srm_net.proofs.DropLemmas.{drops_ascend, listed_ordered, contains_listed, listed_contains, listed_more, known_more,
+    same_somewhere}
 use Rattle.srm_net.proofs.drops.Drops.of.Goals as goal
 
 -- an entry of no use but as a default
@@ -19,8 +20,11 @@ loop-entry-preserved c =
     let d = get_or xs i nothing in
     let more : take (i + 1) xs ≡ take i xs ++ d ∷ [] = take_more xs i nothing c.loop-entry-test.true in
     record {
-      same = λ p link. listed_more c.loop-entry.entries.keys c.insert.new.self.keys d (take i xs) p link (c.in-Ok.ensures.updates.0 (record { link = link; id = p })) (c.loop-entry.invariant.same p link) ∙ ap (λ ds. is_listed ds p link) (sym more);
-      known = λ p. known_more c.loop-entry.packets.keys c.insert-in-loop-entry.new.self.keys d (take i xs) p (c.in-Ok-insert.ensures.updates.0 p) (c.loop-entry.invariant.known p) ∙ ap (λ ds. is_listed_somewhere ds p) (sym more);
+      same = λ p link. listed_more c.loop-entry.entries.keys c.insert.new.self.keys d (take i xs) p link
+          (c.in-Ok.ensures.updates.0 (record { link = link; id = p })) (c.loop-entry.invariant.same p link)
+          ∙ ap (λ ds. is_listed ds p link) (sym more);
+      known = λ p. known_more c.loop-entry.packets.keys c.insert-in-loop-entry.new.self.keys d (take i xs) p
+          (c.in-Ok-insert.ensures.updates.0 p) (c.loop-entry.invariant.known p) ∙ ap (λ ds. is_listed_somewhere ds p) (sym more);
     }
 
 pub invariant_of-result : goal.invariant_of-result
@@ -29,7 +33,8 @@ invariant_of-result c p =
     c.loop-entry.invariant.known p
     ∙ sym (same_somewhere c.loop-entry.entries.keys (take c.loop-entry.entry-index xs) p (λ l. c.loop-entry.invariant.same p l))
 
-same_all : (keys list : List DropSpec) (i : ℕ) → ((p : PacketId) (l : ℕ) → is_listed keys p l ≡ is_listed (take i list) p l) → length list ≤ i
+same_all : (keys list : List DropSpec) (i : ℕ) → ((p : PacketId) (l : ℕ) → is_listed keys p l ≡ is_listed (take i list) p l)
+    → length list ≤ i
     → (p : PacketId) (l : ℕ) → is_listed (ordered_once drop_cmp keys) p l ≡ is_listed list p l
 same_all keys list i same done p l = listed_ordered keys p l ∙ same p l ∙ ap (λ ds. is_listed ds p l) (take_all i list done)
 

@@ -12,7 +12,8 @@ loop-link-preserved c =
     record {
       end = inv.end;
       long = ap length pushed ∙ length_push c.loop-link.all.items c.sides_of.result ∙ ap (λ n. n + 1) inv.long;
-      told = subst (SidesBelow w (c.loop-link.link + 1)) (sym pushed) (sides_more w c.loop-link.link c.loop-link.all.items c.sides_of.result inv.long inv.told c.sides_of.ensures);
+      told = subst (SidesBelow w (c.loop-link.link + 1)) (sym pushed)
+          (sides_more w c.loop-link.link c.loop-link.all.items c.sides_of.result inv.long inv.told c.sides_of.ensures);
     }
 
 pub returns : goal.returns

@@ -9,5 +9,6 @@ invariant-loop-node l = record {
   size : length l.known.items ≡ l.self.nodes;
   known : AreKnown l.self (takes_out l.drops l.packet.id) l.packet.from l.packet.sent l.known.items;
   long : length l.comes.items ≡ l.node;
-  told : (x : ℕ) → x < l.node → slice_get l.comes.items x ≡ Some (comes_to l.self (takes_out l.drops l.packet.id) l.packet.from l.packet.sent x);
+  told : (x : ℕ) → x < l.node → slice_get l.comes.items x ≡ Some
+      (comes_to l.self (takes_out l.drops l.packet.id) l.packet.from l.packet.sent x);
 }

@@ -6,7 +6,8 @@ use Rattle.srm_net.proofs.tree.Tree.is_clear.Given as goal
 abbrev pub invariant-loop-at : goal.invariant-loop-at
 invariant-loop-at l = record {
   node : l.at < l.self.nodes;
-  rest : list_any (takes_out l.drops l.id) (stops l.self.links l.at l.tick (route l.self l.at l.to)) ≡ list_any (takes_out l.drops l.id) (stops l.self.links l.from l.sent (route l.self l.from l.to));
+  rest : list_any (takes_out l.drops l.id) (stops l.self.links l.at l.tick (route l.self l.at l.to))
+      ≡ list_any (takes_out l.drops l.id) (stops l.self.links l.from l.sent (route l.self l.from l.to));
   in_time : l.tick + delay_along l.self.links l.at (route l.self l.at l.to) ≤ 2 ^ 40 + 1023000000;
 }
 

@@ -7,8 +7,10 @@ pub loop-m-preserved : goal.loop-m-preserved
 loop-m-preserved c = record {
   within = c.loop-m.invariant.within;
   told = λ k g. elim c.if-is_beyond.branch [
-    | then-is_beyond w ↦ first_beyond c.args.self.now c.args.link c.loop-m.m c.host.result c.loop-m.sides c.if-is_beyond.sides k c.host.ensures.value (sym (c.is_beyond.ensures k g) ∙ w.if-is_beyond.true) w.sides-is (c.loop-m.invariant.told k g)
-    | else-is_beyond w ↦ first_near c.args.self.now c.args.link c.loop-m.m c.host.result c.loop-m.sides c.if-is_beyond.sides k c.host.ensures.value (sym (c.is_beyond.ensures k g) ∙ w.if-is_beyond.false) w.sides-is (c.loop-m.invariant.told k g)
+    | then-is_beyond w ↦ first_beyond c.args.self.now c.args.link c.loop-m.m c.host.result c.loop-m.sides c.if-is_beyond.sides k
+        c.host.ensures.value (sym (c.is_beyond.ensures k g) ∙ w.if-is_beyond.true) w.sides-is (c.loop-m.invariant.told k g)
+    | else-is_beyond w ↦ first_near c.args.self.now c.args.link c.loop-m.m c.host.result c.loop-m.sides c.if-is_beyond.sides k
+        c.host.ensures.value (sym (c.is_beyond.ensures k g) ∙ w.if-is_beyond.false) w.sides-is (c.loop-m.invariant.told k g)
   ];
 }
 
