@@ -10,8 +10,8 @@ const NO_TIME: u64 = 65_536;
 
 /// The next times of all members, in ticks, by member. Contracts see them as a list; a member may have none.
 ///
-/// They are a tournament: for n members there are 2n entries. Entry n + m is member m's; entry i, from 1 to n - 1, is the sooner of
-/// entries 2i and 2i + 1, so that entry 1 is the least of all. Entry 0 means nothing.
+/// They are a tournament: for n members there are 2n entries. Entry n + m is member m's; entry i, from 1 to n - 1, is
+/// the sooner of entries 2i and 2i + 1, so that entry 1 is the least of all. Entry 0 means nothing.
 #[derive(Drop)]
 pub struct NextTimes {
     entries: Vec<Entry>,
@@ -28,8 +28,8 @@ impl Model for NextTimes {
     ghost invariant = { λ n. IsTournament n.entries.items };
 }
 
-// A member's next time, and its place among those of the same time: its number. A member without a next time comes after all that
-// have one: at the greatest tick, in a place past all numbers.
+// A member's next time, and its place among those of the same time: its number. A member without a next time comes
+// after all that have one: at the greatest tick, in a place past all numbers.
 #[derive(Clone, Copy)]
 struct Entry {
     time: u64,
