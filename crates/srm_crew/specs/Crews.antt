@@ -94,8 +94,8 @@ module _ {X : Type 0} {H : X → Type 0} where
       (r : Result (Vec (job.Done X H)) CellFault) : Type 0 where
     pub tells : (ps : List PlainJob) → AreJobs f js ps → TellsEach f (traffic_of k net) ps r
 
-  -- what a crew's call tells: what is done of each job, and a seat grown by the crossings of all rows; or why not. A share is full
-  -- where the crossings of some of the jobs' rows are too many for it
+  -- what a crew's call tells: what is done of each job, and a seat grown by the crossings of all rows; or why not. A
+  -- share is full where the crossings of some of the jobs' rows are too many for it
   abbrev pub TellsMap : (DynBox X Global H → Record) → Traffic → SeatView → List PlainJob
       → Result (Vec (job.Done X H) × SeatView) CrewFault → Type 0
   TellsMap f t seat ps (Ok v) =

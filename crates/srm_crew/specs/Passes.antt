@@ -1,5 +1,6 @@
 -- What a contract sees of a bag and of a pass, and what the bag's calls tell.
-use Rattle.std.specs.Prelude.{◌≡◌, ◌<◌, ℕ, ◌+◌, ◌-◌, ◌/◌, List, [], ◌∷◌, ◌++◌, length, slice_get, Option, Some, None, Result, Ok, Err}
+use Rattle.std.specs.Prelude.{◌≡◌, ◌<◌, ℕ, ◌+◌, ◌-◌, ◌/◌, List, [], ◌∷◌, ◌++◌, length, slice_get, Option, Some, None,
+    Result, Ok, Err}
 use Rattle.atomic_table.specs.Seated.{TableId}
 use Rattle.srm_crew.specs.declared.bag_fault.PutFault.{PutFault}
 use Rattle.srm_crew.specs.declared.bag_fault.PutFault.TheVariants as put
@@ -58,7 +59,8 @@ module _ {T : Type 0} where
   TellsPut room old x (Ok u) new = (old.weight ≡ 65536) × (length old.put < room) × (new ≡ with_put old x)
   TellsPut room old x (Err e) new = (e.0 ≡ x) × (new ≡ old) × RefusesPut room old e.1
 
-  -- what a take tells: the item put at a place, greater than all in the list, to which it goes; at nothing, a whole pass took all
+  -- what a take tells: the item put at a place, greater than all in the list, to which it goes; at nothing, a whole
+  -- pass took all
   abbrev pub TellsTake : PassView T → Option T → PassView T → Type 0
   TellsTake old None new = (new ≡ old) × (old.weight ≡ 65536 → EachOnce old.taken (length old.put))
   TellsTake old (Some x) new = (place : ℕ) × (new ≡ with_taken old place) × (slice_get old.put place ≡ Some x)

@@ -1,5 +1,6 @@
 -- The rule of the bag: each place put stands exactly once, in the queue or in one pass's list, with the item put there.
-use Rattle.std.specs.Prelude.{◌≡◌, ℕ, ◌+◌, ◌-◌, ◌/◌, ◌<◌, ◌≤◌, List, [], ◌∷◌, ◌++◌, length, cond, ◌==◌, slice_index, slice_get, Some}
+use Rattle.std.specs.Prelude.{◌≡◌, ℕ, ◌+◌, ◌-◌, ◌/◌, ◌<◌, ◌≤◌, List, [], ◌∷◌, ◌++◌, length, cond, ◌==◌, slice_index,
+    slice_get, Some}
 use mathlib.Core.Option.{some}
 use lib.ListN.{get_elem?}
 use Rattle.srm_crew.specs.declared.rule.Hold.{Hold}
@@ -47,13 +48,15 @@ module _ {T : Type 0} where
   abbrev pub times_of : ℕ → Hold T → ℕ
   times_of p v = times p v.taken
 
--- what is so of a pass: joined away it has nothing; else it knows what was put. Its places are below the oldest in the queue
+-- what is so of a pass: joined away it has nothing; else it knows what was put. Its places are below the oldest in the
+-- queue
 pub record PassOk {T : Type 0} (put : List T) (popped : ℕ) (v : Hold T) : Type 0 where
   pub spent_is : v.weight ≡ 0 → v ≡ spent
   pub knows : 1 ≤ v.weight → v.put ≡ put
   pub below : AllBelow v.taken popped
 
--- the places below popped stand in the lists, each once; the queue has the others, in rising order; the weights are 65536 in all
+-- the places below popped stand in the lists, each once; the queue has the others, in rising order; the weights are
+-- 65536 in all
 pub record Kept {T : Type 0} (items : List (Spot T)) (views : List (Hold T)) : Type 0 where
   pub put : List T
   pub popped : ℕ

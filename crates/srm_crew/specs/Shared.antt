@@ -55,7 +55,8 @@ module _ {T D : Type 0} where
       (places : List ℕ) × (results : List D) × EachAtMostOnce (taken ++ places) (length items)
       × ComeOf R items places results × IsPast (λ k. sum_of numbers k results) seat
 
-  -- items at more places were taken, what came of them stands behind the other results, and the seat has grown by their numbers
+  -- items at more places were taken, what came of them stands behind the other results, and the seat has grown by their
+  -- numbers
   pub record Worked (R : T → Result D CellFault → Type 0) (numbers : D → List ℕ) (pass : PassView T) (seat : SeatView)
       (results : List D) (new_pass : PassView T) (new_seat : SeatView) (new_results : List D) : Type 0 where
     pub places : List ℕ
@@ -86,5 +87,6 @@ module _ {T D : Type 0} where
   TellsBoth (Ok a) (Ok b) (Ok r) = (r.0 ≡ both_passes a.0 b.0) × (r.1 ≡ both_seats a.1 b.1)
       × (r.2.items ≡ a.2.items ++ b.2.items)
   TellsBoth (Ok a) (Ok b) (Err fault.NoMemory) = Unit {0}
-  TellsBoth (Ok a) (Ok b) (Err fault.ShareFull) = TookEachAtMostOnce (both_passes a.0 b.0) × SomePast a.1.shares b.1.shares
+  TellsBoth (Ok a) (Ok b) (Err fault.ShareFull) = TookEachAtMostOnce (both_passes a.0 b.0)
+      × SomePast a.1.shares b.1.shares
   TellsBoth (Ok a) (Ok b) (Err e) = ⊥

@@ -1,5 +1,6 @@
 -- When a window begins: at the least next time of all cells.
-use Rattle.std.proofs.Common.{◌≡◌, ◌⊎◌, inl, inr, ℕ, zero, suc, ◌<◌, ◌≤◌, ◌+◌, min, true, false, List, [], ◌∷◌, Option, Some, None, option_map, unwrap_or, refl, sym, ap, ◌∙◌, arith, zero-add, add-zero, length, nat_le, cond, slice_get}
+use Rattle.std.proofs.Common.{◌≡◌, ◌⊎◌, inl, inr, ℕ, zero, suc, ◌<◌, ◌≤◌, ◌+◌, min, true, false, List, [], ◌∷◌, Option, Some, None,
+    option_map, unwrap_or, refl, sym, ap, ◌∙◌, arith, zero-add, add-zero, length, nat_le, cond, slice_get}
 use Rattle.std.proofs.lemmas.Bool.Decides.{nat_tests}
 use Rattle.srm_cell.specs.Setting.{Setting}
 use Rattle.srm_cell.specs.Cells.{PlainCell, Event, next_event, time_of}
@@ -27,13 +28,17 @@ length_times i (c ∷ cs) = ap suc (length_times (suc i) cs)
 same_some : {A : Type 0} (x y : A) → Some x ≡ Some y → x ≡ y
 same_some x y h = cc
 
-get_time : (i : ℕ) (cs : List PlainCell) (j : ℕ) (c : PlainCell) → slice_get cs j ≡ Some c → slice_get (times_from i cs) j ≡ Some (time_of (next_event (i + j) c))
+get_time : (i : ℕ) (cs : List PlainCell) (j : ℕ) (c : PlainCell) → slice_get cs j ≡ Some c → slice_get (times_from i cs) j
+    ≡ Some (time_of (next_event (i + j) c))
 get_time i [] j c h = cc
-get_time i (x ∷ cs) zero c h = ap (λ k. Some (time_of (next_event k x))) (sym (add-zero i)) ∙ ap (λ y. Some (time_of (next_event (i + 0) y))) (same_some x c h)
-get_time i (x ∷ cs) (suc j) c h = let e : suc i + j ≡ i + suc j = omega arith in get_time (suc i) cs j c h ∙ ap (λ k. Some (time_of (next_event k c))) e
+get_time i (x ∷ cs) zero c h = ap (λ k. Some (time_of (next_event k x))) (sym (add-zero i))
+    ∙ ap (λ y. Some (time_of (next_event (i + 0) y))) (same_some x c h)
+get_time i (x ∷ cs) (suc j) c h = let e : suc i + j ≡ i + suc j = omega arith in get_time (suc i) cs j c h
+    ∙ ap (λ k. Some (time_of (next_event k c))) e
 
 are_times : (cs : List PlainCell) → AreTimes (times_from 0 cs) cs
-are_times cs = record { as_many = length_times 0 cs; each = λ j c h. get_time 0 cs j c h ∙ ap (λ k. Some (time_of (next_event k c))) (zero-add j) }
+are_times cs = record { as_many = length_times 0 cs; each = λ j c h. get_time 0 cs j c h
+    ∙ ap (λ k. Some (time_of (next_event k c))) (zero-add j) }
 
 abbrev first_min : ℕ → Option (ℕ × ℕ) → ℕ
 first_min n None = n
@@ -46,7 +51,8 @@ lesser n u i (Some q) = elim (nat_le u q.0) as (λ b. nat_le u q.0 ≡ b → min
   | false ↦ λ e. let gt : q.0 < u = grind (arith, nat_tests) in omega arith
 ] refl
 
-least_step : (n i : ℕ) (o : Option ℕ) (cs : List PlainCell) → ((m : ℕ) → least_among m (suc i) cs ≡ first_min m (least_time (suc i) (times_from (suc i) cs)))
+least_step : (n i : ℕ) (o : Option ℕ) (cs : List PlainCell) →
+    ((m : ℕ) → least_among m (suc i) cs ≡ first_min m (least_time (suc i) (times_from (suc i) cs)))
     → least_among (least_with n o) (suc i) cs ≡ first_min n (least_time i (o ∷ times_from (suc i) cs))
 least_step n i None cs more = more n
 least_step n i (Some u) cs more = more (min n u) ∙ lesser n u i (least_time (suc i) (times_from (suc i) cs))
@@ -63,7 +69,8 @@ among_most : (n i : ℕ) (cs : List PlainCell) → least_among n i cs ≤ n
 among_most n i [] = omega arith
 among_most n i (c ∷ cs) = let more = among_most (least_with n (due i c)) (suc i) cs in let le = with_le n (due i c) in omega arith
 
-among_none_less : (n i : ℕ) (cs : List PlainCell) (j : ℕ) (c : PlainCell) (u : ℕ) → slice_get cs j ≡ Some c → due (i + j) c ≡ Some u → least_among n i cs ≤ u
+among_none_less : (n i : ℕ) (cs : List PlainCell) (j : ℕ) (c : PlainCell) (u : ℕ) → slice_get cs j ≡ Some c → due (i + j) c ≡ Some u
+    → least_among n i cs ≤ u
 among_none_less n i [] j c u h e = cc
 among_none_less n i (x ∷ cs) zero c u h e =
     let here : i + 0 ≡ i = omega arith in
@@ -80,7 +87,8 @@ among_one : (n i : ℕ) (cs : List PlainCell) → Some_time n i cs (least_among 
 among_one n i [] = inl refl
 among_one n i (x ∷ cs) = by (with_one n (due i x)) (among_one (least_with n (due i x)) (suc i) cs)
   where
-    by : (least_with n (due i x) ≡ n) ⊎ (due i x ≡ Some (least_with n (due i x))) → Some_time (least_with n (due i x)) (suc i) cs (least_among n i (x ∷ cs))
+    by : (least_with n (due i x) ≡ n) ⊎ (due i x ≡ Some (least_with n (due i x)))
+        → Some_time (least_with n (due i x)) (suc i) cs (least_among n i (x ∷ cs))
         → Some_time n i (x ∷ cs) (least_among n i (x ∷ cs))
     by first (inr a) = let at : i + suc a.0 ≡ suc i + a.0 = omega arith in inr (suc a.0, a.1, a.2, ap (λ m. due m a.1) at ∙ a.3)
     by (inl e) (inl was) = inl (was ∙ e)
@@ -93,12 +101,15 @@ among_is_least n cs = record {
   one = by (among_one n 0 cs);
 }
   where
-    by : Some_time n 0 cs (least_among n 0 cs) → (least_among n 0 cs ≡ n) ⊎ ((m : ℕ) × (c : PlainCell) × Any m × (slice_get cs m ≡ Some c) × (due m c ≡ Some (least_among n 0 cs)))
+    by : Some_time n 0 cs (least_among n 0 cs) → (least_among n 0 cs ≡ n)
+        ⊎ ((m : ℕ) × (c : PlainCell) × Any m × (slice_get cs m ≡ Some c) × (due m c ≡ Some (least_among n 0 cs)))
     by (inl e) = inl e
     by (inr a) = inr (a.0, a.1, tt, a.2, ap (λ k. due k a.1) (sym (zero-add a.0)) ∙ a.3)
 
 -- the least next time, or the end of the run where that is earlier, is when the next window begins
-pub begins_at : (s : Setting) (w : World) (begin until : ℕ) → IsLeast due Any until w.cells begin → until ≡ s.traffic.until → begin ≡ min until (start_of s w)
+pub begins_at : (s : Setting) (w : World) (begin until : ℕ) → IsLeast due Any until w.cells begin → until ≡ s.traffic.until → begin
+    ≡ min until (start_of s w)
 begins_at s w begin until least is =
-    least_is_one due until Any w.cells begin (least_among until 0 w.cells) least (among_is_least until w.cells) ∙ least_is until 0 w.cells ∙ ap (first_min until) (least_is_event (times_from 0 w.cells) w.cells (are_times w.cells))
+    least_is_one due until Any w.cells begin (least_among until 0 w.cells) least (among_is_least until w.cells) ∙ least_is until 0 w.cells
+        ∙ ap (first_min until) (least_is_event (times_from 0 w.cells) w.cells (are_times w.cells))
     ∙ of_event until (least_event 0 w.cells) ∙ ap (λ u. min until (unwrap_or (time_of (least_event 0 w.cells)) u)) is

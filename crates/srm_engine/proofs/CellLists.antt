@@ -1,5 +1,6 @@
 -- Cells in groups: each seen as the cell of its member.
-use Rattle.std.proofs.Common.{◌≡◌, ℕ, zero, suc, ◌+◌, ◌*◌, ◌/◌, ◌%◌, ◌<◌, ◌≤◌, ◌⊎◌, inl, inr, List, [], ◌∷◌, ◌++◌, length, take, drop, Some, refl, sym, ap, ◌∙◌, subst, arith, slice_get, slice_set, get_or, add-zero, zero-add, length-append, append-nil, append_assoc}
+use Rattle.std.proofs.Common.{◌≡◌, ℕ, zero, suc, ◌+◌, ◌*◌, ◌/◌, ◌%◌, ◌<◌, ◌≤◌, ◌⊎◌, inl, inr, List, [], ◌∷◌, ◌++◌, length, take, drop, Some,
+    refl, sym, ap, ◌∙◌, subst, arith, slice_get, slice_set, get_or, add-zero, zero-add, length-append, append-nil, append_assoc}
 use Rattle.std.proofs.Math.Nat.{suc-mul}
 use Rattle.std.proofs.Math.Seq.{split_at, take-suc}
 use Rattle.std.proofs.lemmas.List.{map-append}
@@ -25,7 +26,8 @@ module _ {X : Type 0} {H : X → Type 0} (f : DynBox X Global H → Record) wher
   AreFrom i cs ps = cell.AreCells f cs (numbered i ps)
 
   from_each : (i : ℕ) (cs : List (Cell X H)) (ps : List PlainCell) → length cs ≡ length ps
-      → ((j : ℕ) (c : Cell X H) (p : PlainCell) → slice_get cs j ≡ Some c → slice_get ps j ≡ Some p → IsCell f (i + j) c p) → AreFrom i cs ps
+      → ((j : ℕ) (c : Cell X H) (p : PlainCell) → slice_get cs j ≡ Some c → slice_get ps j ≡ Some p → IsCell f (i + j) c p)
+          → AreFrom i cs ps
   from_each i [] [] len each = tt
   from_each i [] (p ∷ ps) len each = absurd (omega arith)
   from_each i (c ∷ cs) [] len each = absurd (omega arith)
@@ -39,7 +41,8 @@ module _ {X : Type 0} {H : X → Type 0} (f : DynBox X Global H → Record) wher
   as_many_from i (c ∷ cs) [] h = absurd h
   as_many_from i (c ∷ cs) (p ∷ ps) h = ap suc (as_many_from (suc i) cs ps h.1)
 
-  pub each_from : (i : ℕ) (cs : List (Cell X H)) (ps : List PlainCell) → AreFrom i cs ps → (j : ℕ) (c : Cell X H) (p : PlainCell) → slice_get cs j ≡ Some c → slice_get ps j ≡ Some p → IsCell f (i + j) c p
+  pub each_from : (i : ℕ) (cs : List (Cell X H)) (ps : List PlainCell) → AreFrom i cs ps → (j : ℕ) (c : Cell X H) (p : PlainCell)
+      → slice_get cs j ≡ Some c → slice_get ps j ≡ Some p → IsCell f (i + j) c p
   each_from i [] [] h j c p a b = cc
   each_from i [] (q ∷ ps) h j c p a b = absurd h
   each_from i (x ∷ cs) [] h j c p a b = absurd h
@@ -52,7 +55,8 @@ module _ {X : Type 0} {H : X → Type 0} (f : DynBox X Global H → Record) wher
   from_seen cs ps h = from_each 0 cs ps h.as_many (λ j c p a b. subst (λ k. IsCell f k c p) (sym (zero-add j)) (h.each j c p a b))
 
   pub seen_from : (cs : List (Cell X H)) (ps : List PlainCell) → AreFrom 0 cs ps → AreCells f cs ps
-  seen_from cs ps h = record { as_many = as_many_from 0 cs ps h; each = λ j c p a b. subst (λ k. IsCell f k c p) (zero-add j) (each_from 0 cs ps h j c p a b) }
+  seen_from cs ps h = record { as_many = as_many_from 0 cs ps h; each =
+      λ j c p a b. subst (λ k. IsCell f k c p) (zero-add j) (each_from 0 cs ps h j c p a b) }
 
   there : (ps : List PlainCell) (j : ℕ) → j < length ps → (p : PlainCell) × (slice_get ps j ≡ Some p)
   there [] j lt = absurd (omega arith)
@@ -60,7 +64,8 @@ module _ {X : Type 0} {H : X → Type 0} (f : DynBox X Global H → Record) wher
   there (p ∷ ps) (suc j) lt = there ps j (omega arith)
 
   -- cell k, and what it is seen as
-  pub cell_at : (i : ℕ) (cs : List (Cell X H)) (ps : List PlainCell) → AreFrom i cs ps → (k : ℕ) (c : Cell X H) → k < length cs → c ≡ get_or cs k c → (p : PlainCell) × (slice_get ps k ≡ Some p) × IsCell f (i + k) c p
+  pub cell_at : (i : ℕ) (cs : List (Cell X H)) (ps : List PlainCell) → AreFrom i cs ps → (k : ℕ) (c : Cell X H) → k < length cs → c
+      ≡ get_or cs k c → (p : PlainCell) × (slice_get ps k ≡ Some p) × IsCell f (i + k) c p
   cell_at i cs ps h k c lt e =
       let many = as_many_from i cs ps h in
       let p = there ps k (omega arith) in
@@ -68,18 +73,21 @@ module _ {X : Type 0} {H : X → Type 0} (f : DynBox X Global H → Record) wher
 
   -- ---- some cells and others after them
 
-  pub split_from : (i : ℕ) (cs ds : List (Cell X H)) (ps : List PlainCell) → AreFrom i (cs ++ ds) ps → AreFrom i cs (take (length cs) ps) × AreFrom (i + length cs) ds (drop (length cs) ps)
+  pub split_from : (i : ℕ) (cs ds : List (Cell X H)) (ps : List PlainCell) → AreFrom i (cs ++ ds) ps → AreFrom i cs (take (length cs) ps)
+      × AreFrom (i + length cs) ds (drop (length cs) ps)
   split_from i [] ds ps h = (tt, rw add-zero h)
   split_from i (c ∷ cs) ds [] h = absurd h
   split_from i (c ∷ cs) ds (p ∷ ps) h =
       let r = split_from (suc i) cs ds ps h.1 in
       ((h.0, r.0), subst (λ k. AreFrom k ds (drop (length cs) ps)) (sym (shifted i (length cs))) r.1)
 
-  pub join_from : (i : ℕ) (cs ds : List (Cell X H)) (ps qs : List PlainCell) → AreFrom i cs ps → AreFrom (i + length ps) ds qs → AreFrom i (cs ++ ds) (ps ++ qs)
+  pub join_from : (i : ℕ) (cs ds : List (Cell X H)) (ps qs : List PlainCell) → AreFrom i cs ps → AreFrom (i + length ps) ds qs
+      → AreFrom i (cs ++ ds) (ps ++ qs)
   join_from i [] ds [] qs h g = rw add-zero at g
   join_from i [] ds (p ∷ ps) qs h g = absurd h
   join_from i (c ∷ cs) ds [] qs h g = absurd h
-  join_from i (c ∷ cs) ds (p ∷ ps) qs h g = (h.0, join_from (suc i) cs ds ps qs h.1 (subst (λ k. AreFrom k ds qs) (shifted i (length ps)) g))
+  join_from i (c ∷ cs) ds (p ∷ ps) qs h g = (h.0, join_from (suc i) cs ds ps qs h.1
+      (subst (λ k. AreFrom k ds qs) (shifted i (length ps)) g))
 
 -- ---- sizes
 
@@ -136,7 +144,8 @@ module _ {A : Type 0} where
   get_late : (xs ys : List A) (n j : ℕ) → n ≡ length xs → slice_get (xs ++ ys) (n + j) ≡ slice_get ys j
   get_late [] ys n j e = let z : n + j ≡ j = omega (arith, e) in ap (slice_get ys) z
   get_late (x ∷ xs) ys zero j e = absurd (omega arith)
-  get_late (x ∷ xs) ys (suc n) j e = let z : suc n + j ≡ suc (n + j) = omega arith in ap (slice_get (x ∷ xs ++ ys)) z ∙ get_late xs ys n j (omega arith)
+  get_late (x ∷ xs) ys (suc n) j e = let z : suc n + j ≡ suc (n + j) = omega arith in ap (slice_get (x ∷ xs ++ ys)) z
+      ∙ get_late xs ys n j (omega arith)
 
   set_early : (xs ys : List A) (i : ℕ) (x : A) → i < length xs → slice_set (xs ++ ys) i x ≡ slice_set xs i x ++ ys
   set_early [] ys i x lt = absurd (omega arith)
@@ -146,7 +155,8 @@ module _ {A : Type 0} where
   set_late : (xs ys : List A) (n j : ℕ) (x : A) → n ≡ length xs → slice_set (xs ++ ys) (n + j) x ≡ xs ++ slice_set ys j x
   set_late [] ys n j x e = let z : n + j ≡ j = omega (arith, e) in ap (λ k. slice_set ys k x) z
   set_late (y ∷ xs) ys zero j x e = absurd (omega arith)
-  set_late (y ∷ xs) ys (suc n) j x e = let z : suc n + j ≡ suc (n + j) = omega arith in ap (λ k. slice_set (y ∷ xs ++ ys) k x) z ∙ ap (λ l. y ∷ l) (set_late xs ys n j x (omega arith))
+  set_late (y ∷ xs) ys (suc n) j x e = let z : suc n + j ≡ suc (n + j) = omega arith in ap (λ k. slice_set (y ∷ xs ++ ys) k x) z
+      ∙ ap (λ l. y ∷ l) (set_late xs ys n j x (omega arith))
 
   -- cell i of group k is that of member k * cut + i
   pub record InGroup (gs : List (Vec A)) (m k i : ℕ) : Type 0 where
@@ -156,7 +166,8 @@ module _ {A : Type 0} where
     pub set : (d g : Vec A) (x : A) → g.items ≡ slice_set (get_or gs k d).items i x → all_in (slice_set gs k g) ≡ slice_set (all_in gs) m x
     pub size : (d g : Vec A) → length g.items ≡ length (get_or gs k d).items → sizes (slice_set gs k g) ≡ sizes gs
 
-  pub in_group : (cut : ℕ) (gs : List (Vec A)) (m k i : ℕ) → 0 < cut → AreCuts cut (sizes gs) → m ≡ k * cut + i → i < cut → m < length (all_in gs) → InGroup gs m k i
+  pub in_group : (cut : ℕ) (gs : List (Vec A)) (m k i : ℕ) → 0 < cut → AreCuts cut (sizes gs) → m ≡ k * cut + i → i < cut
+      → m < length (all_in gs) → InGroup gs m k i
   in_group cut [] m k i pos cuts e small lt = absurd (omega arith)
   in_group cut (g ∷ gs) m zero i pos cuts e small lt =
       let a = first_cut cut (length g.items) (sizes gs) pos cuts in
@@ -166,7 +177,8 @@ module _ {A : Type 0} where
         group = omega arith;
         place = λ d. within;
         get = λ d. ap (slice_get (g.items ++ all_in gs)) here ∙ get_early g.items (all_in gs) i within;
-        set = λ d h x is. ap (λ l. l ++ all_in gs) is ∙ sym (set_early g.items (all_in gs) i x within) ∙ ap (λ j. slice_set (g.items ++ all_in gs) j x) (sym here);
+        set = λ d h x is. ap (λ l. l ++ all_in gs) is ∙ sym (set_early g.items (all_in gs) i x within)
+            ∙ ap (λ j. slice_set (g.items ++ all_in gs) j x) (sym here);
         size = λ d h same. ap (λ n. n ∷ sizes gs) same;
       }
     where
@@ -189,7 +201,8 @@ module _ {A : Type 0} where
         group = omega arith;
         place = more.place;
         get = λ d. ap (slice_get (g.items ++ all_in gs)) at ∙ get_late g.items (all_in gs) (length g.items) (k * cut + i) refl ∙ more.get d;
-        set = λ d h x is. ap (λ l. g.items ++ l) (more.set d h x is) ∙ sym (set_late g.items (all_in gs) (length g.items) (k * cut + i) x refl) ∙ ap (λ j. slice_set (g.items ++ all_in gs) j x) (sym at);
+        set = λ d h x is. ap (λ l. g.items ++ l) (more.set d h x is) ∙ sym
+            (set_late g.items (all_in gs) (length g.items) (k * cut + i) x refl) ∙ ap (λ j. slice_set (g.items ++ all_in gs) j x) (sym at);
         size = λ d h same. ap (λ l. length g.items ∷ l) (more.size d h same);
       }
     where
@@ -203,24 +216,32 @@ module _ {A : Type 0} where
           absurd (omega (arith, e, suc-mul k cut))
 
   -- by quotient and remainder
-  pub at_place : (cut : ℕ) (gs : List (Vec A)) (m n : ℕ) → 0 < cut → AreCuts cut (sizes gs) → n ≡ m → m < length (all_in gs) → InGroup gs m (n / cut) (n % cut)
+  pub at_place : (cut : ℕ) (gs : List (Vec A)) (m n : ℕ) → 0 < cut → AreCuts cut (sizes gs) → n ≡ m → m < length (all_in gs)
+      → InGroup gs m (n / cut) (n % cut)
   at_place cut gs m n pos cuts e lt = in_group cut gs m (n / cut) (n % cut) pos cuts (sym e ∙ sym (div-add-mod' n cut)) (mod-lt n pos) lt
 
   -- ---- one group after the other
 
   pub closed : (gs hs : List (Vec A)) (g h : Vec A) → hs ≡ gs ++ g ∷ [] → h.items ≡ [] → all_in hs ++ h.items ≡ all_in gs ++ g.items
-  closed gs hs g h e n = (λ k. all_in (e k) ++ n k) ∙ append-nil (all_in (gs ++ g ∷ [])) ∙ all_in_append gs (g ∷ []) ∙ ap (λ l. all_in gs ++ l) (append-nil g.items)
+  closed gs hs g h e n = (λ k. all_in (e k) ++ n k) ∙ append-nil (all_in (gs ++ g ∷ [])) ∙ all_in_append gs (g ∷ [])
+      ∙ ap (λ l. all_in gs ++ l) (append-nil g.items)
 
-  pub sizes_more : (cut : ℕ) (gs hs : List (Vec A)) (g : Vec A) → hs ≡ gs ++ g ∷ [] → length g.items ≡ cut → AreFull cut (sizes gs) → AreFull cut (sizes hs)
-  sizes_more cut gs hs g e n h = subst (AreFull cut) (sym (ap sizes e ∙ map-append (λ (v : Vec A). length v.items) gs (g ∷ []))) (full_more cut (sizes gs) (length g.items) h n)
+  pub sizes_more : (cut : ℕ) (gs hs : List (Vec A)) (g : Vec A) → hs ≡ gs ++ g ∷ [] → length g.items ≡ cut → AreFull cut (sizes gs)
+      → AreFull cut (sizes hs)
+  sizes_more cut gs hs g e n h = subst (AreFull cut) (sym (ap sizes e ∙ map-append (λ (v : Vec A). length v.items) gs (g ∷ [])))
+      (full_more cut (sizes gs) (length g.items) h n)
 
-  pub sizes_last : (cut : ℕ) (gs hs : List (Vec A)) (g : Vec A) → hs ≡ gs ++ g ∷ [] → 0 < length g.items → length g.items ≤ cut → AreFull cut (sizes gs) → AreCuts cut (sizes hs)
-  sizes_last cut gs hs g e some most h = subst (AreCuts cut) (sym (ap sizes e ∙ map-append (λ (v : Vec A). length v.items) gs (g ∷ []))) (last_cuts cut (sizes gs) (length g.items) some most h)
+  pub sizes_last : (cut : ℕ) (gs hs : List (Vec A)) (g : Vec A) → hs ≡ gs ++ g ∷ [] → 0 < length g.items → length g.items ≤ cut
+      → AreFull cut (sizes gs) → AreCuts cut (sizes hs)
+  sizes_last cut gs hs g e some most h = subst (AreCuts cut) (sym (ap sizes e ∙ map-append (λ (v : Vec A). length v.items) gs (g ∷ [])))
+      (last_cuts cut (sizes gs) (length g.items) some most h)
 
-  pub next_in : (gs hs : List (Vec A)) (g h k : Vec A) (c : A) (rest more all : List A) → (all_in gs ++ g.items) ++ rest ≡ all → rest ≡ c ∷ more → all_in hs ++ h.items ≡ all_in gs ++ g.items → k.items ≡ h.items ++ c ∷ []
+  pub next_in : (gs hs : List (Vec A)) (g h k : Vec A) (c : A) (rest more all : List A) → (all_in gs ++ g.items) ++ rest ≡ all → rest
+      ≡ c ∷ more → all_in hs ++ h.items ≡ all_in gs ++ g.items → k.items ≡ h.items ++ c ∷ []
       → (all_in hs ++ k.items) ++ more ≡ all
   next_in gs hs g h k c rest more all e r same pushed =
-      ap (λ l. (all_in hs ++ l) ++ more) pushed ∙ ap (λ l. l ++ more) (sym (append_assoc (all_in hs) h.items (c ∷ []))) ∙ append_assoc (all_in hs ++ h.items) (c ∷ []) more
+      ap (λ l. (all_in hs ++ l) ++ more) pushed ∙ ap (λ l. l ++ more) (sym (append_assoc (all_in hs) h.items (c ∷ [])))
+          ∙ append_assoc (all_in hs ++ h.items) (c ∷ []) more
       ∙ ap (λ l. l ++ c ∷ more) same ∙ ap (λ l. (all_in gs ++ g.items) ++ l) (sym r) ∙ e
 
   pub nothing_in : (xs : List A) → length xs ≡ 0 → xs ≡ []
@@ -234,7 +255,8 @@ module _ {A : Type 0} where
       none : (k : ℕ) → take {A = A} k [] ≡ []
       none zero = refl
       none (suc k) = refl
-  take_sum (suc i) n (x ∷ xs) = let e : suc i + n ≡ suc (i + n) = omega arith in ap (λ k. take k (x ∷ xs)) e ∙ ap (λ l. x ∷ l) (take_sum i n xs)
+  take_sum (suc i) n (x ∷ xs) = let e : suc i + n ≡ suc (i + n) = omega arith in ap (λ k. take k (x ∷ xs)) e
+      ∙ ap (λ l. x ∷ l) (take_sum i n xs)
 
   take_short : (i : ℕ) (xs : List A) → i ≤ length xs → length (take i xs) ≡ i
   take_short zero xs le = refl
@@ -243,13 +265,16 @@ module _ {A : Type 0} where
 
 -- the cells of group k
 module _ {X : Type 0} {H : X → Type 0} (f : DynBox X Global H → Record) where
-  pub group_at : (gs : List (Vec (Cell X H))) (ps : List PlainCell) → AreFrom f 0 (all_in gs) ps → (k : ℕ) (g : Vec (Cell X H)) → k < length gs → g ≡ get_or gs k g
-      → (qs : List PlainCell) × AreFrom f (length (all_in (take k gs))) g.items qs × (take (length (all_in (take (suc k) gs))) ps ≡ take (length (all_in (take k gs))) ps ++ qs)
+  pub group_at : (gs : List (Vec (Cell X H))) (ps : List PlainCell) → AreFrom f 0 (all_in gs) ps → (k : ℕ) (g : Vec (Cell X H))
+      → k < length gs → g ≡ get_or gs k g
+      → (qs : List PlainCell) × AreFrom f (length (all_in (take k gs))) g.items qs
+          × (take (length (all_in (take (suc k) gs))) ps ≡ take (length (all_in (take k gs))) ps ++ qs)
       × (length (take (length (all_in (take k gs))) ps) ≡ length (all_in (take k gs)))
   group_at gs ps h k g lt is =
       let before = all_in (take k gs) in
       let rest = all_in (drop (suc k) gs) in
-      let split : gs ≡ take k gs ++ g ∷ drop (suc k) gs = split_at gs k g lt ∙ ap (λ (v : Vec (Cell X H)). take k gs ++ v ∷ drop (suc k) gs) (sym is) in
+      let split : gs ≡ take k gs ++ g ∷ drop (suc k) gs = split_at gs k g lt
+          ∙ ap (λ (v : Vec (Cell X H)). take k gs ++ v ∷ drop (suc k) gs) (sym is) in
       let all : all_in gs ≡ before ++ (g.items ++ rest) = ap all_in split ∙ all_in_append (take k gs) (g ∷ drop (suc k) gs) in
       let here = subst (λ l. AreFrom f 0 l ps) all h in
       let parts = split_from f 0 before (g.items ++ rest) ps here in
@@ -257,7 +282,8 @@ module _ {X : Type 0} {H : X → Type 0} (f : DynBox X Global H → Record) wher
       let qs = take (length g.items) (drop (length before) ps) in
       let more : take (suc k) gs ≡ take k gs ++ g ∷ [] = take-suc gs k g lt ∙ ap (λ (v : Vec (Cell X H)). take k gs ++ v ∷ []) (sym is) in
       let size : length (all_in (take (suc k) gs)) ≡ length before + length g.items =
-      ap (λ l. length (all_in l)) more ∙ ap length (all_in_append (take k gs) (g ∷ []) ∙ ap (λ l. before ++ l) (append-nil g.items)) ∙ length-append before g.items in
+      ap (λ l. length (all_in l)) more ∙ ap length (all_in_append (take k gs) (g ∷ []) ∙ ap (λ l. before ++ l) (append-nil g.items))
+          ∙ length-append before g.items in
       let many = as_many_from f 0 (before ++ (g.items ++ rest)) ps here in
       let long = length-append before (g.items ++ rest) in (
         qs,

@@ -1,5 +1,6 @@
 -- Members that left, in the worlds of the sequential run: nothing is pending at a record that is gone.
-use Rattle.std.proofs.Common.{◌≡◌, ◌≢◌, ℕ, zero, suc, ◌<◌, ◌≤◌, ◌+◌, true, List, refl, sym, subst, inl, inr, arith, Option, Some, None, slice_get, zero-add, add-zero, ◌⊎◌, leb-true}
+use Rattle.std.proofs.Common.{◌≡◌, ◌≢◌, ℕ, zero, suc, ◌<◌, ◌≤◌, ◌+◌, true, List, refl, sym, subst, inl, inr, arith, Option, Some, None,
+    slice_get, zero-add, add-zero, ◌⊎◌, leb-true}
 use Rattle.srm_net.specs.declared.packet.Packet.{Packet}
 use Rattle.srm_member.specs.declared.row.Row.{Row}
 use Rattle.srm_member.specs.Record.{Record, Active, Gone}
@@ -15,7 +16,8 @@ use Rattle.srm_cell.proofs.Leaving.{IsActive, Stays, stays_step, stays_hear_at, 
 use Rattle.srm_engine.specs.World.{World, settled, least_event, opening, opening_cells, run}
 use Rattle.srm_engine.proofs.ScheduleLemmas.{same_Some}
 use Rattle.srm_engine.proofs.RunLemmas.{Seq, rest, next, shifted, least_from}
-use Rattle.srm_engine.proofs.Sequential.{EachCell, each_after, Good, StepFacts, step_facts, good_step, above_after, above_time, member_below, good_opening, run_seq}
+use Rattle.srm_engine.proofs.Sequential.{EachCell, each_after, Good, StepFacts, step_facts, good_step, above_after, above_time,
+    member_below, good_opening, run_seq}
 
 module _ (s : Setting) (fit : IsFit s) where
   -- a member that is gone left at a time before which nothing is pending
@@ -32,7 +34,8 @@ module _ (s : Setting) (fit : IsFit s) where
   past_active cs j (Active m) h = tt
   past_active cs j (Gone f) h = absurd h
 
-  past_gone : (cs : List PlainCell) (j : ℕ) (r : Record) → (t : ℕ) × (s.traffic.leave j ≡ Some t) × EachCell s fit (Above (λ k. t ≤ k.time)) cs → Past cs j r
+  past_gone : (cs : List PlainCell) (j : ℕ) (r : Record) → (t : ℕ) × (s.traffic.leave j ≡ Some t)
+      × EachCell s fit (Above (λ k. t ≤ k.time)) cs → Past cs j r
   past_gone cs j (Active m) h = tt
   past_gone cs j (Gone f) h = h
 
@@ -50,7 +53,8 @@ module _ (s : Setting) (fit : IsFit s) where
       let up : is_up_to at (Some t) ≡ true = subst (λ x. is_up_to at x ≡ true) e h in
       let le = leb-true _ _ up in omega arith
 
-  module _ (end : ℕ) (cs : List PlainCell) (e : Event) (d : Stepped) (stable : Stable cs) (h : before end (least_event 0 cs) ≡ Some e) (x : step_at (Some e) ≡ Done d) where
+  module _ (end : ℕ) (cs : List PlainCell) (e : Event) (d : Stepped) (stable : Stable cs) (h : before end (least_event 0 cs) ≡ Some e)
+      (x : step_at (Some e) ≡ Done d) where
     abbrev m : ℕ
     m = e.key.member
 
@@ -71,7 +75,8 @@ module _ (s : Setting) (fit : IsFit s) where
 
     -- the event is pending, and so not before a leave
     event_after : (t : ℕ) → EachCell s fit (Above (λ k. t ≤ k.time)) cs → t ≤ e.key.time
-    event_after t all = (subst (OnEvent (IsAbove (λ k. t ≤ k.time) m)) next_is (next_above (λ k. t ≤ k.time) m facts.cell (all m facts.cell facts.here))).0
+    event_after t all = (subst (OnEvent (IsAbove (λ k. t ≤ k.time) m)) next_is
+        (next_above (λ k. t ≤ k.time) m facts.cell (all m facts.cell facts.here))).0
 
     still_after : (t : ℕ) → EachCell s fit (Above (λ k. t ≤ k.time)) cs → EachCell s fit (Above (λ k. t ≤ k.time)) after
     still_after t all j c g =
@@ -87,16 +92,19 @@ module _ (s : Setting) (fit : IsFit s) where
     kept_past j (Gone f) p = (p.0, p.1, still_after p.0 p.2)
 
     -- a member that is gone is handed nothing more
-    handed_active : (j : ℕ) (r : Record) → Past cs j r → (p : Packet) → p.id.sender ≡ m → p.sent ≡ e.key.time → (at : ℕ) → arrival_of s.traffic p j ≡ Some at → IsActive r
+    handed_active : (j : ℕ) (r : Record) → Past cs j r → (p : Packet) → p.id.sender ≡ m → p.sent ≡ e.key.time → (at : ℕ)
+        → arrival_of s.traffic p j ≡ Some at → IsActive r
     handed_active j (Active k) past p by sent at a = tt
     handed_active j (Gone f) past p by sent at a =
         let g = arrival_is s.traffic p j at a in
-        let away : 0 < s.traffic.distance p.id.sender j = fit.apart p.id.sender j (subst (λ n. n < s.traffic.members) (sym by) below) g.0 (λ q. g.1 (sym q)) in
+        let away : 0 < s.traffic.distance p.id.sender j = fit.apart p.id.sender j (subst (λ n. n < s.traffic.members) (sym by) below) g.0
+            (λ q. g.1 (sym q)) in
         let arrives = g.2 in
         let from = event_after past.0 past.2 in
         not_after past.0 at (s.traffic.leave j) past.1 (omega arith) (arrival_up_to s.traffic p j at a)
 
-    told_stays : (y : Option Packet) → SentBy m y → SentAt e.key.time y → (j : ℕ) (c : PlainCell) → Stays (s.traffic.leave j) c → Past cs j c.holds → Stays (s.traffic.leave j) (told_to s.traffic y j c)
+    told_stays : (y : Option Packet) → SentBy m y → SentAt e.key.time y → (j : ℕ) (c : PlainCell) → Stays (s.traffic.leave j) c
+        → Past cs j c.holds → Stays (s.traffic.leave j) (told_to s.traffic y j c)
     unfolding hear
     told_stays None by at j c stays past = stays
     told_stays (Some p) by at j c stays past = stays_hear_at (s.traffic.leave j) p (arrival_of s.traffic p j) c
@@ -120,7 +128,8 @@ module _ (s : Setting) (fit : IsFit s) where
   stable_seq rest stable = stable
   stable_seq {end} (next {cs = cs} {e = e} {d = d} h x more) stable = stable_seq more (stable_step end cs e d stable h x)
 
-  opening_stays : (n i : ℕ) → i + n ≡ s.traffic.members → (j : ℕ) (c : PlainCell) → slice_get (opening_cells s n i) j ≡ Some c → Stays (s.traffic.leave (i + j)) c
+  opening_stays : (n i : ℕ) → i + n ≡ s.traffic.members → (j : ℕ) (c : PlainCell) → slice_get (opening_cells s n i) j ≡ Some c
+      → Stays (s.traffic.leave (i + j)) c
   unfolding opening_cells
   opening_stays zero i e j c h = cc
   opening_stays (suc n) i e zero c h = subst (Stays (s.traffic.leave (i + 0))) (same_Some _ _ h) (record {
@@ -149,7 +158,8 @@ module _ (s : Setting) (fit : IsFit s) where
   stable_reached n w h = stable_seq (run_seq s fit n (opening s) w h).1 stable_opening
 
   -- the least event of such a world is one of an active record
-  pub least_not_spent : (end : ℕ) (cs : List PlainCell) (e : Event) → Stable cs → before end (least_event 0 cs) ≡ Some e → step_at (Some e) ≢ Spent
+  pub least_not_spent : (end : ℕ) (cs : List PlainCell) (e : Event) → Stable cs → before end (least_event 0 cs) ≡ Some e
+      → step_at (Some e) ≢ Spent
   least_not_spent end cs e stable h x =
       let r = least_from end 0 cs e h in
       let q = (before_some end (next_event (0 + r.0) r.1) e r.3).0 in

@@ -1,5 +1,6 @@
 -- A member that is gone has left its exit.
-use Rattle.std.proofs.Common.{◌≡◌, ℕ, zero, suc, ◌+◌, ◌^◌, Bool, true, false, cond, List, [], ◌∷◌, ◌++◌, ◌==◌, length, Option, Some, None, Err, refl, sym, ap, ◌∙◌, subst, slice_get, nat_lt, le_refl, arith, zero-add}
+use Rattle.std.proofs.Common.{◌≡◌, ℕ, zero, suc, ◌+◌, ◌^◌, Bool, true, false, cond, List, [], ◌∷◌, ◌++◌, ◌==◌, length, Option, Some, None,
+    Err, refl, sym, ap, ◌∙◌, subst, slice_get, nat_lt, le_refl, arith, zero-add}
 use Rattle.std.specs.declared.dyn_box.DynBox.{DynBox}
 use Rattle.std.specs.Global.{Global}
 use Rattle.srm_net.specs.declared.packet.Body.{Body}
@@ -11,7 +12,8 @@ use Rattle.srm_member.specs.React.{Reaction, react}
 use Rattle.srm_member.proofs.AllIn.{AllIn}
 use Rattle.srm_cell.specs.declared.cell.Cell.{Cell}
 use Rattle.srm_cell.specs.Setting.{Setting, arrival_of}
-use Rattle.srm_cell.specs.Cells.{PlainCell, Event, StepOutcome, Idle, Full, Spent, Done, Stepped, handle, sending_step, step_at, before, hear, hear_at}
+use Rattle.srm_cell.specs.Cells.{PlainCell, Event, StepOutcome, Idle, Full, Spent, Done, Stepped, handle, sending_step, step_at, before,
+    hear, hear_at}
 use Rattle.srm_cell.specs.OwnRuns.{told_to}
 use Rattle.srm_cell.specs.declared.fault.CellFault.TheVariants as fault
 use Rattle.srm_cell.specs.Views.{IsCell, IsGone, TellsExit}
@@ -50,7 +52,8 @@ module _ (s : Setting) where
   kept_told None m c h = h
   kept_told (Some p) m c h = kept_hear_at p (arrival_of s.traffic p m) c h
 
-  kept_if : (b : Bool) (d : Stepped) (i : ℕ) (c : PlainCell) → Kept d.cell → Kept c → Kept (cond b d.cell (told_to s.traffic d.row.sent i c))
+  kept_if : (b : Bool) (d : Stepped) (i : ℕ) (c : PlainCell) → Kept d.cell
+      → Kept c → Kept (cond b d.cell (told_to s.traffic d.row.sent i c))
   kept_if true d i c h g = h
   kept_if false d i c h g = kept_told d.row.sent i c g
 
@@ -61,7 +64,8 @@ module _ (s : Setting) where
 
   -- ---- the sequential run
 
-  kept_after : (w v : World) (m : ℕ) (o : StepOutcome Stepped) → OnStep (λ d. Kept d.cell) o → after_step s w m o ≡ Done v → AllIn Kept w.cells → AllIn Kept v.cells
+  kept_after : (w v : World) (m : ℕ) (o : StepOutcome Stepped) → OnStep (λ d. Kept d.cell) o → after_step s w m o ≡ Done v
+      → AllIn Kept w.cells → AllIn Kept v.cells
   unfolding after_step
   kept_after w v m Idle k h g = let q : Idle ≡ Done v = h in cc
   kept_after w v m Full k h g = let q : Full ≡ Done v = h in cc
@@ -104,7 +108,9 @@ module _ (s : Setting) where
 -- ---- the cells of the engine
 
 module _ {X : Type 0} {H : X → Type 0} (f : DynBox X Global H → Record) where
-  all_end_from : (i : ℕ) (cs : List (Cell X H)) (ps : List PlainCell) → length cs ≡ length ps → ((j : ℕ) (c : Cell X H) (p : PlainCell) → slice_get cs j ≡ Some c → slice_get ps j ≡ Some p → IsCell f (i + j) c p) → AllIn Kept ps → AllEnd f cs
+  all_end_from : (i : ℕ) (cs : List (Cell X H)) (ps : List PlainCell) → length cs ≡ length ps
+      → ((j : ℕ) (c : Cell X H) (p : PlainCell) → slice_get cs j ≡ Some c → slice_get ps j ≡ Some p → IsCell f (i + j) c p) → AllIn Kept ps
+      → AllEnd f cs
   all_end_from i [] ps len each kept = tt
   all_end_from i (c ∷ cs) [] len each kept = absurd (omega arith)
   all_end_from i (c ∷ cs) (p ∷ ps) len each kept = (
@@ -117,7 +123,8 @@ module _ {X : Type 0} {H : X → Type 0} (f : DynBox X Global H → Record) wher
 
   -- each cell of an engine in a reached world has a member, or the exit of one that left
   pub all_end : (s : Setting) (cs : List (Cell X H)) (w : World) → IsReached s w → AreCells f cs w.cells → AllEnd f cs
-  all_end s cs w r h = all_end_from 0 cs w.cells h.as_many (λ j c p a b. subst (λ k. IsCell f k c p) (sym (zero-add j)) (h.each j c p a b)) (kept_reached s w r)
+  all_end s cs w r h = all_end_from 0 cs w.cells h.as_many (λ j c p a b. subst (λ k. IsCell f k c p) (sym (zero-add j)) (h.each j c p a b))
+      (kept_reached s w r)
 
 gone_without : (r : Record) (x : Option Exit) → HasEnd r x → IsGone r → x ≡ None → ⊥
 gone_without (Active m) x h g e = g

@@ -1,5 +1,7 @@
 -- In the sequential run each flight of a packet that was sent is on the way or was handed, and nothing else is.
-use Rattle.std.proofs.Common.{◌≡◌, ℕ, zero, suc, ◌<◌, ◌≤◌, ◌+◌, Bool, true, false, cond, ◌&&◌, List, [], ◌∷◌, ◌++◌, length, refl, sym, ap, ◌∙◌, subst, ◌≢◌, ◌⊎◌, inl, inr, arith, Ordering, Less, Equal, Greater, Option, Some, None, is_some, option_map, nat_lt, lt-ltb, slice_get, eqb-true, ◌==◌, le_refl}
+use Rattle.std.proofs.Common.{◌≡◌, ℕ, zero, suc, ◌<◌, ◌≤◌, ◌+◌, Bool, true, false, cond, ◌&&◌, List, [], ◌∷◌, ◌++◌, length, refl, sym, ap,
+    ◌∙◌, subst, ◌≢◌, ◌⊎◌, inl, inr, arith, Ordering, Less, Equal, Greater, Option, Some, None, is_some, option_map, nat_lt, lt-ltb,
+    slice_get, eqb-true, ◌==◌, le_refl}
 use Rattle.std.proofs.lemmas.Bool.{eqb-false}
 use Rattle.std.specs.List.{Contains, count_by}
 use Rattle.srm_net.specs.declared.key.Key.{Key}
@@ -18,13 +20,17 @@ use Rattle.srm_member.proofs.AllIn.{AllIn, AllIn-place}
 use Rattle.srm_cell.specs.declared.flight.Flight.{Flight}
 use Rattle.srm_cell.specs.Flights.{flight_cmp}
 use Rattle.srm_cell.specs.Setting.{Setting, arrival_of}
-use Rattle.srm_cell.specs.Cells.{PlainCell, hear_at, hear, Event, by_key, earlier, first_arrival, first_mark, next_timer, next_event, before, Idle, Stepped, word_of_body, word_of, drawn, about_of, packet_of}
+use Rattle.srm_cell.specs.Cells.{PlainCell, hear_at, hear, Event, by_key, earlier, first_arrival, first_mark, next_timer, next_event,
+    before, Idle, Stepped, word_of_body, word_of, drawn, about_of, packet_of}
 use Rattle.srm_cell.specs.OwnRuns.{told_to}
 use Rattle.srm_cell.proofs.CellLemmas.{first_le, second_le}
 use Rattle.srm_engine.specs.World.{World, settled, least_event, step, opening, opening_cells, IsReached, IsLast}
-use Rattle.srm_engine.specs.Handed.{SentIn, same_packet, is_arrival, handing_count, is_sending, sending_count, PacketsAreNumbered, PacketsAreHandedOnce, HandedPacketsWereSent, PacketsAreTheirIdentities}
-use Rattle.srm_engine.proofs.OneStep.{TakesFlight, NoArrival, Takes, Sends, Steps, StepFacts, step_facts, same_some, here_after, there_after, each_after, length_after, length_opening, nothing_left, run_keeps, arrival_is}
-use Rattle.srm_engine.proofs.TraceRows.{contains_none, contains_cases, sent_more, sent_cases, sent_now, one_if, count_last, count_first, count_none, count_place, not_same, same_self, elsewhere, not_arrival, here, IsSplit, split_cases}
+use Rattle.srm_engine.specs.Handed.{SentIn, same_packet, is_arrival, handing_count, is_sending, sending_count, PacketsAreNumbered,
+    PacketsAreHandedOnce, HandedPacketsWereSent, PacketsAreTheirIdentities}
+use Rattle.srm_engine.proofs.OneStep.{TakesFlight, NoArrival, Takes, Sends, Steps, StepFacts, step_facts, same_some, here_after,
+    there_after, each_after, length_after, length_opening, nothing_left, run_keeps, arrival_is}
+use Rattle.srm_engine.proofs.TraceRows.{contains_none, contains_cases, sent_more, sent_cases, sent_now, one_if, count_last, count_first,
+    count_none, count_place, not_same, same_self, elsewhere, not_arrival, here, IsSplit, split_cases}
 
 drawn_not_of : (body : Option Body) (k : Packet) → drawn body ≢ Of k
 drawn_not_of None k h = cc
@@ -93,14 +99,16 @@ module _ (s : Setting) where
     pub handed : (r : Row) → Contains trace r → (p : Packet) → r.about ≡ Of p → p.id.count < sent_of cs p.id.sender
     pub one : (p q : Packet) → SentIn p trace → SentIn q trace → p.id ≡ q.id → p ≡ q
     pub flights : EachCell (λ j c. AllIn (IsFlight trace j) c.inbox) cs
-    pub once : (p : Packet) → SentIn p trace → (j : ℕ) → count_by (is_flight p.id) (inbox_of (slice_get cs j)) + handing_count p.id j trace ≡ one_if (is_some (arrival_of s.traffic p j))
+    pub once : (p : Packet) → SentIn p trace → (j : ℕ) → count_by (is_flight p.id) (inbox_of (slice_get cs j)) + handing_count p.id j trace
+        ≡ one_if (is_some (arrival_of s.traffic p j))
     pub sendings : (j : ℕ) → sent_of cs j ≡ sending_count j trace
     pub numbers : (rows after : List Row) (r : Row) (p : Packet) → IsSplit trace rows r after → r.sent ≡ Some p → IsNumbered rows r p
     pub before : (rows after : List Row) (r : Row) (p : Packet) → IsSplit trace rows r after → r.about ≡ Of p → WasSent rows r p
 
   -- ---- after a step
 
-  module _ (cs : List PlainCell) (trace : List Row) (e : Event) (d : Stepped) (was : Handed cs trace) (steps : Steps s.traffic.until cs e d) where
+  module _ (cs : List PlainCell) (trace : List Row) (e : Event) (d : Stepped) (was : Handed cs trace) (steps : Steps s.traffic.until cs e d)
+      where
     abbrev m : ℕ
     m = e.key.member
 
@@ -191,7 +199,8 @@ module _ (s : Setting) where
 
     -- the counts of the cells are those of the rows
     sends_here : is_sending m d.row ≡ is_some d.row.sent
-    sends_here = let yes : (d.row.key.member == m) ≡ true = Rattle.std.proofs.Common.eq-eqb _ _ member in ap (λ b. b && is_some d.row.sent) yes
+    sends_here = let yes : (d.row.key.member == m) ≡ true = Rattle.std.proofs.Common.eq-eqb _ _ member in
+        ap (λ b. b && is_some d.row.sent) yes
 
     sends_there : (j : ℕ) → j ≢ m → is_sending j d.row ≡ false
     sends_there j ne = elim (d.row.key.member == j) as (λ b. (d.row.key.member == j) ≡ b → is_sending j d.row ≡ false) [
@@ -209,7 +218,8 @@ module _ (s : Setting) where
               let a = ap (sent_of cs) same ∙ sent_was in
               let b = ap (sent_of after) same ∙ sent_is in
               let n = sent_then in
-              let one : one_if (is_sending j d.row) ≡ one_if (is_some d.row.sent) = ap (λ i. one_if (is_sending i d.row)) same ∙ ap one_if sends_here in
+              let one : one_if (is_sending j d.row) ≡ one_if (is_some d.row.sent) = ap (λ i. one_if (is_sending i d.row)) same
+                  ∙ ap one_if sends_here in
               omega arith
           | false ↦ λ q.
               let ne = eqb-false _ _ q in
@@ -226,7 +236,8 @@ module _ (s : Setting) where
 
     numbers_after : (first last : List Row) (r : Row) (p : Packet) → IsSplit rows first r last → r.sent ≡ Some p → IsNumbered first r p
     numbers_after first last r p split q = elim (split_cases trace d.row first r last split) [
-      | inl g ↦ subst (λ l. IsNumbered l r p) (sym g.1) (subst (λ y. IsNumbered trace y p) g.0 (numbered_now p (ap (λ (y : Row). y.sent) g.0 ∙ q)))
+      | inl g ↦ subst (λ l. IsNumbered l r p) (sym g.1)
+          (subst (λ y. IsNumbered trace y p) g.0 (numbered_now p (ap (λ (y : Row). y.sent) g.0 ∙ q)))
       | inr g ↦ was.numbers first g.0 r p g.1 q
     ]
 
@@ -305,29 +316,36 @@ module _ (s : Setting) where
     flights_more : (j : ℕ) (fs : List Flight) → AllIn (IsFlight trace j) fs → AllIn (IsFlight rows j) fs
     flights_more j fs a = all_weaker (IsFlight trace j) (IsFlight rows j) (λ f g. (sent_more f.packet trace (d.row ∷ []) g.0, g.1)) fs a
 
-    flights_hear : (p : Packet) → d.row.sent ≡ Some p → (j : ℕ) (o : Option ℕ) (c : PlainCell) → arrival_of s.traffic p j ≡ o → AllIn (IsFlight trace j) c.inbox → AllIn (IsFlight rows j) (hear_at p o c).inbox
+    flights_hear : (p : Packet) → d.row.sent ≡ Some p → (j : ℕ) (o : Option ℕ) (c : PlainCell) → arrival_of s.traffic p j ≡ o
+        → AllIn (IsFlight trace j) c.inbox → AllIn (IsFlight rows j) (hear_at p o c).inbox
     flights_hear p y j None c q a = flights_more j c.inbox a
-    flights_hear p y j (Some at) c q a = AllIn-place (IsFlight rows j) flight_cmp _ c.inbox (sent_now p trace d.row y, q) (flights_more j c.inbox a)
+    flights_hear p y j (Some at) c q a = AllIn-place (IsFlight rows j) flight_cmp _ c.inbox (sent_now p trace d.row y, q)
+        (flights_more j c.inbox a)
 
-    flights_told : (y : Option Packet) → d.row.sent ≡ y → (j : ℕ) (c : PlainCell) → AllIn (IsFlight trace j) c.inbox → AllIn (IsFlight rows j) (told_to s.traffic y j c).inbox
+    flights_told : (y : Option Packet) → d.row.sent ≡ y → (j : ℕ) (c : PlainCell) → AllIn (IsFlight trace j) c.inbox
+        → AllIn (IsFlight rows j) (told_to s.traffic y j c).inbox
     unfolding hear
     flights_told None y j c a = flights_more j c.inbox a
     flights_told (Some p) y j c a = flights_hear p y j (arrival_of s.traffic p j) c refl a
 
     flights_after : EachCell (λ j c. AllIn (IsFlight rows j) c.inbox) after
-    flights_after = each_after s (λ j c. AllIn (IsFlight rows j) c.inbox) cs m d facts.cell facts.here (flights_more m d.cell.inbox left) (λ j c g ne. flights_told d.row.sent refl j c (was.flights j c g))
+    flights_after = each_after s (λ j c. AllIn (IsFlight rows j) c.inbox) cs m d facts.cell facts.here (flights_more m d.cell.inbox left)
+        (λ j c g ne. flights_told d.row.sent refl j c (was.flights j c g))
 
     -- ---- how often
 
     -- nothing of a packet that was not sent is on the way, nor was handed
-    none_flying : (k : PacketId) → ((q : PacketId) → q.count < sent_of cs q.sender → k ≢ q) → (j : ℕ) (fs : List Flight) → AllIn (IsFlight trace j) fs → count_by (is_flight k) fs ≡ 0
-    none_flying k new j fs a = count_none (is_flight k) fs (λ f g. not_same k f.packet.id (new f.packet.id (was.counted f.packet (all_contained (IsFlight trace j) fs a f g).0)))
+    none_flying : (k : PacketId) → ((q : PacketId) → q.count < sent_of cs q.sender → k ≢ q) → (j : ℕ) (fs : List Flight)
+        → AllIn (IsFlight trace j) fs → count_by (is_flight k) fs ≡ 0
+    none_flying k new j fs a = count_none (is_flight k) fs
+        (λ f g. not_same k f.packet.id (new f.packet.id (was.counted f.packet (all_contained (IsFlight trace j) fs a f g).0)))
 
     none_handed : (k : PacketId) → ((q : PacketId) → q.count < sent_of cs q.sender → k ≢ q) → (j : ℕ) → handing_count k j rows ≡ 0
     none_handed k new j = count_none (is_arrival k j) rows (λ r g. not_arrival k j r (λ q y. new q.id (handed_was r g q y)))
 
     -- the stepping member's inbox and its new row
-    once_here_by : Takes facts.cell e → (k : PacketId) → count_by (is_flight k) facts.cell.inbox ≡ one_if (is_arrival k m d.row) + count_by (is_flight k) e.rest.inbox
+    once_here_by : Takes facts.cell e → (k : PacketId) → count_by (is_flight k) facts.cell.inbox
+        ≡ one_if (is_arrival k m d.row) + count_by (is_flight k) e.rest.inbox
     once_here_by (inl t) k =
         ap (count_by (is_flight k)) t.inbox ∙ count_first (is_flight k) t.flight e.rest.inbox
         ∙ ap (λ b. one_if b + count_by (is_flight k) e.rest.inbox) (sym (here k t.flight.packet m d.row member (about_arrival t)))
@@ -336,11 +354,14 @@ module _ (s : Setting) where
         let same : count_by (is_flight k) e.rest.inbox ≡ count_by (is_flight k) facts.cell.inbox = ap (count_by (is_flight k)) t.0 in
         omega arith
 
-    once_here : (k : PacketId) → count_by (is_flight k) (inbox_of (slice_get after m)) + handing_count k m rows ≡ count_by (is_flight k) (inbox_of (slice_get cs m)) + handing_count k m trace
+    once_here : (k : PacketId) → count_by (is_flight k) (inbox_of (slice_get after m)) + handing_count k m rows
+        ≡ count_by (is_flight k) (inbox_of (slice_get cs m)) + handing_count k m trace
     once_here k =
         let a : count_by (is_flight k) (inbox_of (slice_get after m)) ≡ count_by (is_flight k) e.rest.inbox =
-        ap (λ o. count_by (is_flight k) (inbox_of o)) (here_after s m d cs facts.cell facts.here) ∙ ap (count_by (is_flight k)) facts.does.inbox in
-        let b : count_by (is_flight k) (inbox_of (slice_get cs m)) ≡ count_by (is_flight k) facts.cell.inbox = ap (λ o. count_by (is_flight k) (inbox_of o)) facts.here in
+        ap (λ o. count_by (is_flight k) (inbox_of o)) (here_after s m d cs facts.cell facts.here)
+            ∙ ap (count_by (is_flight k)) facts.does.inbox in
+        let b : count_by (is_flight k) (inbox_of (slice_get cs m)) ≡ count_by (is_flight k) facts.cell.inbox =
+            ap (λ o. count_by (is_flight k) (inbox_of o)) facts.here in
         let c = once_here_by facts.pending.takes k in
         let g = count_last (is_arrival k m) trace d.row in
         omega arith
@@ -351,11 +372,13 @@ module _ (s : Setting) where
     put_in k j (Some p) None = 0
     put_in k j (Some p) (Some c) = one_if (is_some (arrival_of s.traffic p j) && same_packet k p.id)
 
-    hear_count : (k : PacketId) (p : Packet) (o : Option ℕ) (c : PlainCell) → count_by (is_flight k) (hear_at p o c).inbox ≡ one_if (is_some o && same_packet k p.id) + count_by (is_flight k) c.inbox
+    hear_count : (k : PacketId) (p : Packet) (o : Option ℕ) (c : PlainCell) → count_by (is_flight k) (hear_at p o c).inbox
+        ≡ one_if (is_some o && same_packet k p.id) + count_by (is_flight k) c.inbox
     hear_count k p None c = omega arith
     hear_count k p (Some at) c = count_place (is_flight k) flight_cmp _ c.inbox
 
-    told_count : (k : PacketId) (j : ℕ) (y : Option Packet) (o : Option PlainCell) → count_by (is_flight k) (inbox_of (option_map (told_to s.traffic y j) o)) ≡ put_in k j y o + count_by (is_flight k) (inbox_of o)
+    told_count : (k : PacketId) (j : ℕ) (y : Option Packet) (o : Option PlainCell)
+        → count_by (is_flight k) (inbox_of (option_map (told_to s.traffic y j) o)) ≡ put_in k j y o + count_by (is_flight k) (inbox_of o)
     unfolding hear put_in
     told_count k j None None = omega arith
     told_count k j None (Some c) = omega arith
@@ -371,7 +394,8 @@ module _ (s : Setting) where
         omega arith
 
     -- nothing is put in of a packet that was sent before
-    put_no : (k : PacketId) → k.count < sent_of cs k.sender → (j : ℕ) (y : Option Packet) → d.row.sent ≡ y → (o : Option PlainCell) → put_in k j y o ≡ 0
+    put_no : (k : PacketId) → k.count < sent_of cs k.sender → (j : ℕ) (y : Option Packet) → d.row.sent ≡ y → (o : Option PlainCell)
+        → put_in k j y o ≡ 0
     unfolding put_in
     put_no k lt j None y o = refl
     put_no k lt j (Some p) y None = refl
@@ -383,13 +407,16 @@ module _ (s : Setting) where
         and_no true = refl
         and_no false = refl
 
-    once_old : (p : Packet) → SentIn p trace → (j : ℕ) → count_by (is_flight p.id) (inbox_of (slice_get after j)) + handing_count p.id j rows ≡ one_if (is_some (arrival_of s.traffic p j))
+    once_old : (p : Packet) → SentIn p trace → (j : ℕ) → count_by (is_flight p.id) (inbox_of (slice_get after j)) + handing_count p.id j
+        rows ≡ one_if (is_some (arrival_of s.traffic p j))
     once_old p t j =
         let o = was.once p t j in
-        elim (j == m) as (λ b. (j == m) ≡ b → count_by (is_flight p.id) (inbox_of (slice_get after j)) + handing_count p.id j rows ≡ one_if (is_some (arrival_of s.traffic p j))) [
+        elim (j == m) as (λ b. (j == m) ≡ b → count_by (is_flight p.id) (inbox_of (slice_get after j)) + handing_count p.id j rows
+            ≡ one_if (is_some (arrival_of s.traffic p j))) [
           | true ↦ λ q.
               let same : j ≡ m = eqb-true _ _ q in
-              subst (λ i. count_by (is_flight p.id) (inbox_of (slice_get after i)) + handing_count p.id i rows ≡ count_by (is_flight p.id) (inbox_of (slice_get cs i)) + handing_count p.id i trace) (sym same) (once_here p.id) ∙ o
+              subst (λ i. count_by (is_flight p.id) (inbox_of (slice_get after i)) + handing_count p.id i rows
+                  ≡ count_by (is_flight p.id) (inbox_of (slice_get cs i)) + handing_count p.id i trace) (sym same) (once_here p.id) ∙ o
           | false ↦ λ q.
               let a = once_there p.id j (eqb-false _ _ q) in
               let b = put_no p.id (was.counted p t) j d.row.sent refl (slice_get cs j) in
@@ -398,7 +425,8 @@ module _ (s : Setting) where
 
     -- a packet has no flight to its sender, nor to one that is no member
     no_flight : (p : Packet) (j : ℕ) → ((at : ℕ) → arrival_of s.traffic p j ≢ Some at) → one_if (is_some (arrival_of s.traffic p j)) ≡ 0
-    no_flight p j none = elim (arrival_of s.traffic p j) as (λ o. arrival_of s.traffic p j ≡ o → one_if (is_some (arrival_of s.traffic p j)) ≡ 0) [
+    no_flight p j none = elim (arrival_of s.traffic p j) as (λ o. arrival_of s.traffic p j ≡ o → one_if (is_some (arrival_of s.traffic p j))
+        ≡ 0) [
       | None ↦ λ q. ap (λ o. one_if (is_some o)) q
       | Some at ↦ λ q. absurd (none at q)
     ] refl
@@ -408,12 +436,14 @@ module _ (s : Setting) where
     get_some (c ∷ cells) zero lt q = cc
     get_some (c ∷ cells) (suc j) lt q = get_some cells j (omega arith) q
 
-    put_new : (p : Packet) → d.row.sent ≡ Some p → (j : ℕ) (o : Option PlainCell) → slice_get cs j ≡ o → put_in p.id j (Some p) o ≡ one_if (is_some (arrival_of s.traffic p j))
+    put_new : (p : Packet) → d.row.sent ≡ Some p → (j : ℕ) (o : Option PlainCell) → slice_get cs j ≡ o → put_in p.id j (Some p) o
+        ≡ one_if (is_some (arrival_of s.traffic p j))
     unfolding put_in
     put_new p y j None q = sym (no_flight p j (λ at g.
         let lt : j < s.traffic.members = (arrival_is s p j at g).0 in
         get_some cs j (subst (λ n. j < n) (sym was.members) lt) q))
-    put_new p y j (Some c) q = ap (λ b. one_if (is_some (arrival_of s.traffic p j) && b)) (same_self p.id) ∙ and_yes (is_some (arrival_of s.traffic p j))
+    put_new p y j (Some c) q = ap (λ b. one_if (is_some (arrival_of s.traffic p j) && b)) (same_self p.id)
+        ∙ and_yes (is_some (arrival_of s.traffic p j))
       where
         and_yes : (b : Bool) → one_if (b && true) ≡ one_if b
         and_yes true = refl
@@ -423,26 +453,32 @@ module _ (s : Setting) where
     all_of_inbox j None q = tt
     all_of_inbox j (Some c) q = was.flights j c q
 
-    once_new : (p : Packet) → d.row.sent ≡ Some p → (j : ℕ) → count_by (is_flight p.id) (inbox_of (slice_get after j)) + handing_count p.id j rows ≡ one_if (is_some (arrival_of s.traffic p j))
+    once_new : (p : Packet) → d.row.sent ≡ Some p → (j : ℕ) → count_by (is_flight p.id) (inbox_of (slice_get after j)) + handing_count p.id
+        j rows ≡ one_if (is_some (arrival_of s.traffic p j))
     once_new p y j =
         let new = new_id p (is_new p y) in
         let handed_none = none_handed p.id new j in
         let flying_none = none_flying p.id new j (inbox_of (slice_get cs j)) (all_of_inbox j (slice_get cs j) refl) in
-        elim (j == m) as (λ b. (j == m) ≡ b → count_by (is_flight p.id) (inbox_of (slice_get after j)) + handing_count p.id j rows ≡ one_if (is_some (arrival_of s.traffic p j))) [
+        elim (j == m) as (λ b. (j == m) ≡ b → count_by (is_flight p.id) (inbox_of (slice_get after j)) + handing_count p.id j rows
+            ≡ one_if (is_some (arrival_of s.traffic p j))) [
           | true ↦ λ q.
               let same : j ≡ m = eqb-true _ _ q in
               let here_none : count_by (is_flight p.id) (inbox_of (slice_get after j)) ≡ 0 =
-              ap (λ i. count_by (is_flight p.id) (inbox_of (slice_get after i))) same ∙ ap (λ o. count_by (is_flight p.id) (inbox_of o)) (here_after s m d cs facts.cell facts.here) ∙ none_flying p.id new m d.cell.inbox left in
+              ap (λ i. count_by (is_flight p.id) (inbox_of (slice_get after i))) same
+                  ∙ ap (λ o. count_by (is_flight p.id) (inbox_of o)) (here_after s m d cs facts.cell facts.here)
+                  ∙ none_flying p.id new m d.cell.inbox left in
               let none = no_flight p j (λ at g. (arrival_is s p j at g).1 (same ∙ sym (is_new p y).sender)) in
               omega arith
           | false ↦ λ q.
               let a = once_there p.id j (eqb-false _ _ q) in
-              let b : put_in p.id j d.row.sent (slice_get cs j) ≡ one_if (is_some (arrival_of s.traffic p j)) = ap (λ z. put_in p.id j z (slice_get cs j)) y ∙ put_new p y j (slice_get cs j) refl in
+              let b : put_in p.id j d.row.sent (slice_get cs j) ≡ one_if (is_some (arrival_of s.traffic p j)) =
+                  ap (λ z. put_in p.id j z (slice_get cs j)) y ∙ put_new p y j (slice_get cs j) refl in
               let l = count_last (is_arrival p.id j) trace d.row in
               omega arith
         ] refl
 
-    once_after : (p : Packet) → SentIn p rows → (j : ℕ) → count_by (is_flight p.id) (inbox_of (slice_get after j)) + handing_count p.id j rows ≡ one_if (is_some (arrival_of s.traffic p j))
+    once_after : (p : Packet) → SentIn p rows → (j : ℕ) → count_by (is_flight p.id) (inbox_of (slice_get after j)) + handing_count p.id j
+        rows ≡ one_if (is_some (arrival_of s.traffic p j))
     once_after p t j = elim (sent_cases p trace d.row t) [ inl g ↦ once_old p g j | inr g ↦ once_new p g j ]
 
     -- ---- earlier rows
@@ -459,7 +495,8 @@ module _ (s : Setting) where
 
     before_after : (first last : List Row) (r : Row) (k : Packet) → IsSplit rows first r last → r.about ≡ Of k → WasSent first r k
     before_after first last r k split q = elim (split_cases trace d.row first r last split) [
-      | inl g ↦ subst (λ l. WasSent l r k) (sym g.1) (subst (λ y. WasSent trace y k) g.0 (last_row_by facts.pending.takes k (ap (λ (y : Row). y.about) g.0 ∙ q)))
+      | inl g ↦ subst (λ l. WasSent l r k) (sym g.1)
+          (subst (λ y. WasSent trace y k) g.0 (last_row_by facts.pending.takes k (ap (λ (y : Row). y.about) g.0 ∙ q)))
       | inr g ↦ was.before first g.0 r k g.1 q
     ]
 
@@ -509,7 +546,8 @@ module _ (s : Setting) where
   }
 
   pub handed_reached : (w : World) → IsReached s w → Handed w.cells w.trace
-  handed_reached w r = run_keeps s (λ v. Handed v.cells v.trace) (λ v e d h g. handed_step v.cells v.trace e d g h) r.0 (opening s) w handed_opening r.1
+  handed_reached w r = run_keeps s (λ v. Handed v.cells v.trace) (λ v e d h g. handed_step v.cells v.trace e d g h) r.0
+      (opening s) w handed_opening r.1
 
   -- ---- the end
 
@@ -526,9 +564,12 @@ module _ (s : Setting) where
   late_none None h = tt
   late_none (Some e) h = Rattle.std.proofs.Common.ltb-false _ _ (none_kept (nat_lt e.key.time s.traffic.until) e h)
 
-  late_by : (r : Ordering) (d e : Event) → key_cmp d.key e.key ≡ r → s.traffic.until ≤ (by_key r d e).key.time → (s.traffic.until ≤ d.key.time) × (s.traffic.until ≤ e.key.time)
-  late_by Less d e q h = (h, (let le : d.key.time ≤ e.key.time = first_le d.key e.key (λ g. let x : Less ≡ Greater = sym q ∙ g in cc) in omega arith))
-  late_by Equal d e q h = (h, (let le : d.key.time ≤ e.key.time = first_le d.key e.key (λ g. let x : Equal ≡ Greater = sym q ∙ g in cc) in omega arith))
+  late_by : (r : Ordering) (d e : Event) → key_cmp d.key e.key ≡ r → s.traffic.until ≤ (by_key r d e).key.time
+      → (s.traffic.until ≤ d.key.time) × (s.traffic.until ≤ e.key.time)
+  late_by Less d e q h = (h, (let le : d.key.time ≤ e.key.time = first_le d.key e.key (λ g. let x : Less ≡ Greater = sym q ∙ g in cc) in
+      omega arith))
+  late_by Equal d e q h = (h, (let le : d.key.time ≤ e.key.time = first_le d.key e.key (λ g. let x : Equal ≡ Greater = sym q ∙ g in cc) in
+      omega arith))
   late_by Greater d e q h = ((let le = second_le d.key e.key q in omega arith), h)
 
   late_earlier : (x y : Option Event) → Late (earlier x y) → Late x × Late y
@@ -536,31 +577,37 @@ module _ (s : Setting) where
   late_earlier (Some d) None h = (h, tt)
   late_earlier (Some d) (Some e) h = late_by (key_cmp d.key e.key) d e refl h
 
-  late_all : (i : ℕ) (cs : List PlainCell) → Late (least_event i cs) → (j : ℕ) (c : PlainCell) → slice_get cs j ≡ Some c → (k : ℕ) × Late (next_event k c)
+  late_all : (i : ℕ) (cs : List PlainCell) → Late (least_event i cs) → (j : ℕ) (c : PlainCell) → slice_get cs j ≡ Some c → (k : ℕ)
+      × Late (next_event k c)
   unfolding least_event
   late_all i [] h j c g = cc
-  late_all i (x ∷ cs) h zero c g = (i, subst (λ y. Late (next_event i y)) (same_some _ _ g) (late_earlier (next_event i x) (least_event (suc i) cs) h).0)
+  late_all i (x ∷ cs) h zero c g = (i, subst (λ y. Late (next_event i y))
+      (same_some _ _ g) (late_earlier (next_event i x) (least_event (suc i) cs) h).0)
   late_all i (x ∷ cs) h (suc j) c g = late_all (suc i) cs (late_earlier (next_event i x) (least_event (suc i) cs) h).1 j c g
 
   first_late : (k : ℕ) (c : PlainCell) → Late (next_event k c) → Late (first_arrival k c c.inbox)
   unfolding next_event
   first_late k c h = (late_earlier (first_arrival k c c.inbox) (earlier (first_mark k c c.script) (next_timer k c (due_of c.holds))) h).0
 
-  empty_inbox : (k j : ℕ) (trace : List Row) (c : PlainCell) (fs : List Flight) → Late (first_arrival k c fs) → AllIn (IsFlight trace j) fs → fs ≡ []
+  empty_inbox : (k j : ℕ) (trace : List Row) (c : PlainCell) (fs : List Flight) → Late (first_arrival k c fs) → AllIn (IsFlight trace j) fs
+      → fs ≡ []
   empty_inbox k j trace c [] h a = refl
   empty_inbox k j trace c (f ∷ fs) h a = absurd (let lt = (arrival_is s f.packet j f.arrival a.0.1).2 in omega arith)
 
-  inbox_none : (w : World) → Handed w.cells w.trace → step s w ≡ Idle → (j : ℕ) (o : Option PlainCell) → slice_get w.cells j ≡ o → inbox_of o ≡ []
+  inbox_none : (w : World) → Handed w.cells w.trace → step s w ≡ Idle → (j : ℕ) (o : Option PlainCell) → slice_get w.cells j ≡ o
+      → inbox_of o ≡ []
   inbox_none w g over j None q = refl
   inbox_none w g over j (Some c) q =
       let n = late_all 0 w.cells (late_none (least_event 0 w.cells) (nothing_left s w over)) j c q in
       empty_inbox n.0 j w.trace c c.inbox (first_late n.0 c n.1) (g.flights j c q)
 
-  handed_in_the_end : (w : World) → IsLast s w → (p : Packet) → SentIn p w.trace → (m : ℕ) → handing_count p.id m w.trace ≡ one_if (is_some (arrival_of s.traffic p m))
+  handed_in_the_end : (w : World) → IsLast s w → (p : Packet) → SentIn p w.trace → (m : ℕ) → handing_count p.id m w.trace
+      ≡ one_if (is_some (arrival_of s.traffic p m))
   handed_in_the_end w last p t m =
       let g = handed_reached w last.reached in
       let o = g.once p t m in
-      let none : count_by (is_flight p.id) (inbox_of (slice_get w.cells m)) ≡ 0 = ap (count_by (is_flight p.id)) (inbox_none w g last.idle m (slice_get w.cells m) refl) in
+      let none : count_by (is_flight p.id) (inbox_of (slice_get w.cells m))
+          ≡ 0 = ap (count_by (is_flight p.id)) (inbox_none w g last.idle m (slice_get w.cells m) refl) in
       omega arith
 
 pub packets_are_handed_once : PacketsAreHandedOnce

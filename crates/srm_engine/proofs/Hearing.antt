@@ -1,5 +1,6 @@
 -- Members that hear a packet one after the other.
-use Rattle.std.proofs.Common.{◌≡◌, ℕ, zero, suc, ◌+◌, ◌≤◌, true, cond, List, [], ◌∷◌, length, Option, Some, None, option_map, refl, sym, ap, ◌∙◌, slice_get, slice_set, nat_lt, lt-ltb, le-ltb, arith, zero-add}
+use Rattle.std.proofs.Common.{◌≡◌, ℕ, zero, suc, ◌+◌, ◌≤◌, true, cond, List, [], ◌∷◌, length, Option, Some, None, option_map, refl, sym, ap,
+    ◌∙◌, slice_get, slice_set, nat_lt, lt-ltb, le-ltb, arith, zero-add}
 use Rattle.srm_net.specs.declared.packet.Packet.{Packet}
 use Rattle.srm_cell.specs.Setting.{Traffic, arrival_of}
 use Rattle.srm_cell.specs.Cells.{PlainCell, hear, hear_at}
@@ -17,7 +18,8 @@ module _ (s : Traffic) (p : Packet) where
 
   pub none_heard : (k i : ℕ) (cs : List PlainCell) → k ≤ i → heard_below s p k i cs ≡ cs
   none_heard k i [] le = refl
-  none_heard k i (c ∷ cs) le = ap (λ b. cond b (hear s p i c) c ∷ heard_below s p k (suc i) cs) (le-ltb i k le) ∙ ap (λ l. c ∷ l) (none_heard k (suc i) cs (omega arith))
+  none_heard k i (c ∷ cs) le = ap (λ b. cond b (hear s p i c) c ∷ heard_below s p k (suc i) cs) (le-ltb i k le)
+      ∙ ap (λ l. c ∷ l) (none_heard k (suc i) cs (omega arith))
 
   pub length_heard : (k i : ℕ) (cs : List PlainCell) → length (heard_below s p k i cs) ≡ length cs
   length_heard k i [] = refl
@@ -26,10 +28,12 @@ module _ (s : Traffic) (p : Packet) where
   abbrev pub if_below : ℕ → ℕ → PlainCell → PlainCell
   if_below k m c = cond (nat_lt m k) (hear s p m c) c
 
-  pub get_heard : (k i j : ℕ) (cs : List PlainCell) → slice_get (heard_below s p k i cs) j ≡ option_map (if_below k (i + j)) (slice_get cs j)
+  pub get_heard : (k i j : ℕ) (cs : List PlainCell) → slice_get (heard_below s p k i cs) j
+      ≡ option_map (if_below k (i + j)) (slice_get cs j)
   get_heard k i j [] = refl
   get_heard k i zero (c ∷ cs) = let e : i ≡ i + 0 = omega arith in ap (λ m. Some (if_below k m c)) e
-  get_heard k i (suc j) (c ∷ cs) = let e : suc i + j ≡ i + suc j = omega arith in get_heard k (suc i) j cs ∙ ap (λ m. option_map (if_below k m) (slice_get cs j)) e
+  get_heard k i (suc j) (c ∷ cs) = let e : suc i + j ≡ i + suc j = omega arith in get_heard k (suc i) j cs
+      ∙ ap (λ m. option_map (if_below k m) (slice_get cs j)) e
 
   -- member k has not heard it yet
   pub get_next : (k : ℕ) (cs : List PlainCell) → slice_get (heard_below s p k 0 cs) k ≡ slice_get cs k
@@ -40,14 +44,17 @@ module _ (s : Traffic) (p : Packet) where
       by (Some c) = ap (λ m. Some (if_below k m c)) (zero-add k) ∙ ap (λ b. Some (cond b (hear s p k c) c)) (le-ltb k k (omega arith))
 
   -- and then it hears
-  heard_more : (i j : ℕ) (cs : List PlainCell) (c : PlainCell) → slice_get cs j ≡ Some c → slice_set (heard_below s p (i + j) i cs) j (hear s p (i + j) c) ≡ heard_below s p (i + j + 1) i cs
+  heard_more : (i j : ℕ) (cs : List PlainCell) (c : PlainCell) → slice_get cs j ≡ Some c
+      → slice_set (heard_below s p (i + j) i cs) j (hear s p (i + j) c) ≡ heard_below s p (i + j + 1) i cs
   heard_more i j [] c h = cc
   heard_more i zero (x ∷ xs) c h =
       let e : i + 0 ≡ i = omega arith in
       let same = same_some x c h in
       let now : nat_lt i (i + 0 + 1) ≡ true = lt-ltb i (i + 0 + 1) (omega arith) in
-      ap (λ l. hear s p (i + 0) c ∷ l) (none_heard (i + 0) (suc i) xs (omega arith)) ∙ ap (λ m. hear s p m c ∷ xs) e ∙ ap (λ y. hear s p i y ∷ xs) (sym same)
-      ∙ sym (ap (λ b. cond b (hear s p i x) x ∷ heard_below s p (i + 0 + 1) (suc i) xs) now ∙ ap (λ l. hear s p i x ∷ l) (none_heard (i + 0 + 1) (suc i) xs (omega arith)))
+      ap (λ l. hear s p (i + 0) c ∷ l) (none_heard (i + 0) (suc i) xs (omega arith)) ∙ ap (λ m. hear s p m c ∷ xs) e
+          ∙ ap (λ y. hear s p i y ∷ xs) (sym same)
+      ∙ sym (ap (λ b. cond b (hear s p i x) x ∷ heard_below s p (i + 0 + 1) (suc i) xs) now
+          ∙ ap (λ l. hear s p i x ∷ l) (none_heard (i + 0 + 1) (suc i) xs (omega arith)))
   heard_more i (suc j) (x ∷ xs) c h =
       let e : i + suc j ≡ suc i + j = omega arith in
       let was : nat_lt i (i + suc j) ≡ true = lt-ltb i (i + suc j) (omega arith) in
@@ -58,6 +65,8 @@ module _ (s : Traffic) (p : Packet) where
       ∙ ap (λ k. hear s p i x ∷ heard_below s p (k + 1) (suc i) xs) (sym e)
       ∙ ap (λ b. cond b (hear s p i x) x ∷ heard_below s p (i + suc j + 1) (suc i) xs) (sym now)
 
-  pub heard_next : (k : ℕ) (cs : List PlainCell) (c : PlainCell) → slice_get cs k ≡ Some c → slice_set (heard_below s p k 0 cs) k (hear s p k c) ≡ heard_below s p (k + 1) 0 cs
+  pub heard_next : (k : ℕ) (cs : List PlainCell) (c : PlainCell) → slice_get cs k ≡ Some c
+      → slice_set (heard_below s p k 0 cs) k (hear s p k c) ≡ heard_below s p (k + 1) 0 cs
   heard_next k cs c h =
-      ap (λ m. slice_set (heard_below s p m 0 cs) k (hear s p m c)) (sym (zero-add k)) ∙ heard_more 0 k cs c h ∙ ap (λ m. heard_below s p (m + 1) 0 cs) (zero-add k)
+      ap (λ m. slice_set (heard_below s p m 0 cs) k (hear s p m c)) (sym (zero-add k)) ∙ heard_more 0 k cs c h
+          ∙ ap (λ m. heard_below s p (m + 1) 0 cs) (zero-add k)

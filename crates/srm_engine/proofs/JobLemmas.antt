@@ -1,5 +1,6 @@
 -- Jobs as crews are handed them, and what is done of them.
-use Rattle.std.proofs.Common.{◌≡◌, ℕ, zero, suc, ◌+◌, ◌<◌, ◌≤◌, ◌^◌, ◌⊎◌, inl, inr, List, [], ◌∷◌, ◌++◌, length, take, drop, map, Some, refl, sym, ap, ◌∙◌, subst, arith, slice_get, slice_index, add-zero, zero-add, add-one, All, length-append, IsPermutation}
+use Rattle.std.proofs.Common.{◌≡◌, ℕ, zero, suc, ◌+◌, ◌<◌, ◌≤◌, ◌^◌, ◌⊎◌, inl, inr, List, [], ◌∷◌, ◌++◌, length, take, drop, map, Some,
+    refl, sym, ap, ◌∙◌, subst, arith, slice_get, slice_index, add-zero, zero-add, add-one, All, length-append, IsPermutation}
 use Rattle.std.specs.List.{AllZip, range_with_len}
 use Rattle.std.proofs.lemmas.List.{map-append, take-append-drop}
 use Rattle.std.proofs.lemmas.List.Elements.{All-nil, All-cons, All-head, All-tail}
@@ -55,7 +56,8 @@ take_few zero (x ∷ xs) le = absurd (omega arith)
 take_few (suc n) (x ∷ xs) le = let r = take_few n xs (omega arith) in (ap (λ l. x ∷ l) r.0, r.1)
 
 -- where there are no more cells than those of the first group, or that is full, taking `cut` cells takes that group
-same_cut : {A : Type 0} (cut n : ℕ) (xs : List A) → (n ≡ cut) ⊎ ((n ≤ cut) × (length xs ≡ n)) → (take cut xs ≡ take n xs) × (drop cut xs ≡ drop n xs)
+same_cut : {A : Type 0} (cut n : ℕ) (xs : List A) → (n ≡ cut) ⊎ ((n ≤ cut) × (length xs ≡ n)) → (take cut xs ≡ take n xs)
+    × (drop cut xs ≡ drop n xs)
 same_cut cut n xs (inl e) = (ap (λ k. take k xs) (sym e), ap (λ k. drop k xs) (sym e))
 same_cut cut n xs (inr h) =
     let a = take_few cut xs (let le = h.0 in let e = h.1 in omega arith) in
@@ -67,7 +69,8 @@ abbrev Fits : ℕ → List cell.PlainJob → Type 0
 Fits n [] = Unit {0}
 Fits n (p ∷ ps) = ((p.till ≤ 2 ^ 40) × (length p.cells ≤ 1024) × cell.AreMembers n p.cells) × Fits n ps
 
-fits : (k cut till place i n : ℕ) (cs : List PlainCell) → till ≤ 2 ^ 40 → cut ≤ 1024 → i + length cs ≤ n → Fits n (handed_jobs i (jobs_within k cut till place cs))
+fits : (k cut till place i n : ℕ) (cs : List PlainCell) → till ≤ 2 ^ 40 → cut ≤ 1024 → i + length cs ≤ n
+    → Fits n (handed_jobs i (jobs_within k cut till place cs))
 fits k cut till place i n [] small few le = tt
 fits zero cut till place i n (c ∷ cs) small few le = tt
 fits (suc k) cut till place i n (c ∷ cs) small few le =
@@ -75,34 +78,41 @@ fits (suc k) cut till place i n (c ∷ cs) small few le =
     let part = take_part cut all in
     let most = take_most cut all in
     let long = length_numbered i (take cut all) in
-    ((small, omega arith, of_members n i (take cut all) (omega arith)), fits k cut till (suc place) (i + length (take cut all)) n (drop cut all) small few (omega arith))
+    ((small, omega arith, of_members n i (take cut all) (omega arith)),
+        fits k cut till (suc place) (i + length (take cut all)) n (drop cut all) small few (omega arith))
 
 -- of the own runs of jobs' cells one ends with this
-some_cell : (o : StepOutcome Stepped) (end i : ℕ) (cs : List PlainCell) → cell.FirstEnds o end (numbered i cs) → (j : ℕ) × (c : PlainCell) × (slice_get cs j ≡ Some c) × ((n : ℕ) × (own_end end (i + j) n c ≡ o))
+some_cell : (o : StepOutcome Stepped) (end i : ℕ) (cs : List PlainCell) → cell.FirstEnds o end (numbered i cs) → (j : ℕ) × (c : PlainCell)
+    × (slice_get cs j ≡ Some c) × ((n : ℕ) × (own_end end (i + j) n c ≡ o))
 some_cell o end i [] h = absurd h
 some_cell o end i (c ∷ cs) (inl h) = (0, c, refl, (h.0, ap (λ m. own_end end m h.0 c) (add-zero i) ∙ h.1))
 some_cell o end i (c ∷ cs) (inr h) =
     let r = some_cell o end (suc i) cs h.1 in
     (suc r.0, r.1, r.2, (r.3.0, ap (λ m. own_end end m r.3.0 r.1) (shifted i r.0) ∙ r.3.1))
 
-some_job : (o : StepOutcome Stepped) (k cut end place i : ℕ) (cs : List PlainCell) → AnyEnds o (handed_jobs i (jobs_within k cut end place cs)) → (j : ℕ) × (c : PlainCell) × (slice_get cs j ≡ Some c) × ((n : ℕ) × (own_end end (i + j) n c ≡ o))
+some_job : (o : StepOutcome Stepped) (k cut end place i : ℕ) (cs : List PlainCell)
+    → AnyEnds o (handed_jobs i (jobs_within k cut end place cs)) → (j : ℕ)
+    × (c : PlainCell) × (slice_get cs j ≡ Some c) × ((n : ℕ) × (own_end end (i + j) n c ≡ o))
 some_job o k cut end place i [] h = absurd h
 some_job o zero cut end place i (c ∷ cs) h = absurd h
 some_job o (suc k) cut end place i (c ∷ cs) (inl h) =
     let all = c ∷ cs in
     let r = some_cell o end i (take cut all) h in
-    (r.0, r.1, subst (λ l. slice_get l r.0 ≡ Some r.1) (take-append-drop cut all) (get_first (take cut all) (drop cut all) r.0 r.1 r.2), r.3)
+    (r.0, r.1, subst (λ l. slice_get l r.0 ≡ Some r.1) (take-append-drop cut all) (get_first (take cut all) (drop cut all) r.0 r.1 r.2),
+        r.3)
 some_job o (suc k) cut end place i (c ∷ cs) (inr h) =
     let all = c ∷ cs in
     let r = some_job o k cut end (suc place) (i + length (take cut all)) (drop cut all) h in
     let at : i + length (take cut all) + r.0 ≡ i + (length (take cut all) + r.0) = omega arith in (
       length (take cut all) + r.0,
       r.1,
-      subst (λ l. slice_get l (length (take cut all) + r.0) ≡ Some r.1) (take-append-drop cut all) (get_second (take cut all) (drop cut all) r.0 ∙ r.2),
+      subst (λ l. slice_get l (length (take cut all) + r.0) ≡ Some r.1) (take-append-drop cut all)
+          (get_second (take cut all) (drop cut all) r.0 ∙ r.2),
       (r.3.0, ap (λ m. own_end end m r.3.0 r.1) (sym at) ∙ r.3.1),
     )
 
-pub any_cell : (o : StepOutcome Stepped) (cut end : ℕ) (cs : List PlainCell) → AnyEnds o (handed_jobs 0 (jobs_from cut end 0 cs)) → (m : ℕ) × (c : PlainCell) × (slice_get cs m ≡ Some c) × ((n : ℕ) × (own_end end m n c ≡ o))
+pub any_cell : (o : StepOutcome Stepped) (cut end : ℕ) (cs : List PlainCell) → AnyEnds o (handed_jobs 0 (jobs_from cut end 0 cs)) → (m : ℕ)
+    × (c : PlainCell) × (slice_get cs m ≡ Some c) × ((n : ℕ) × (own_end end m n c ≡ o))
 any_cell o cut end cs h =
     let r = some_job o (length cs) cut end 0 0 cs h in
     (r.0, r.1, r.2, (r.3.0, ap (λ m. own_end end m r.3.0 r.1) (sym (zero-add r.0)) ∙ r.3.1))
@@ -110,7 +120,8 @@ any_cell o cut end cs h =
 module _ {X : Type 0} {H : X → Type 0} (f : DynBox X Global H → Record) where
   -- ---- jobs of groups
 
-  pub are_jobs : (cut till place i : ℕ) (gs : List (Vec (Cell X H))) (ps : List PlainCell) → 0 < cut → AreCuts cut (sizes gs) → AreFrom f i (all_in gs) ps
+  pub are_jobs : (cut till place i : ℕ) (gs : List (Vec (Cell X H))) (ps : List PlainCell) → 0 < cut → AreCuts cut (sizes gs)
+      → AreFrom f i (all_in gs) ps
       → AreJobs f (jobs_with till place gs) (handed_jobs i (jobs_from cut till place ps))
   are_jobs cut till place i [] [] pos cuts h = tt
   are_jobs cut till place i [] (p ∷ ps) pos cuts h = absurd h
@@ -128,11 +139,14 @@ module _ {X : Type 0} {H : X → Type 0} (f : DynBox X Global H → Record) wher
       let parts = split_from f i g.items (all_in gs) all h in
       let own : AreFrom f i g.items (take cut all) = subst (λ l. AreFrom f i g.items l) (sym at.0) parts.0 in
       let next : AreFrom f (i + length (take cut all)) (all_in gs) (drop cut all) =
-      subst (λ k. AreFrom f (i + k) (all_in gs) (drop cut all)) (as_many_from f i g.items (take cut all) own) (subst (λ l. AreFrom f (i + n) (all_in gs) l) (sym at.1) parts.1) in
+      subst (λ k. AreFrom f (i + k) (all_in gs) (drop cut all)) (as_many_from f i g.items (take cut all) own)
+          (subst (λ l. AreFrom f (i + n) (all_in gs) l) (sym at.1) parts.1) in
       subst (λ js. AreJobs f (jobs_with till place (g ∷ gs)) (handed_jobs i js)) (sym ((jobs_are_runs cut till place pos).1 p ps))
-      (record { place = refl; till = refl; cells = own }, are_jobs cut till (suc place) (i + length (take cut all)) gs (drop cut all) pos a.others next)
+      (record { place = refl; till = refl; cells = own }, are_jobs cut till (suc place) (i + length (take cut all)) gs
+          (drop cut all) pos a.others next)
     where
-      whole : (length g.items ≡ cut) ⊎ (sizes gs ≡ []) → (length g.items ≡ cut) ⊎ ((length g.items ≤ cut) × (length (p ∷ ps) ≡ length g.items))
+      whole : (length g.items ≡ cut) ⊎ (sizes gs ≡ []) → (length g.items ≡ cut)
+          ⊎ ((length g.items ≤ cut) × (length (p ∷ ps) ≡ length g.items))
       whole (inl e) = inl e
       whole (inr e) =
           let a = first_cut cut (length g.items) (sizes gs) pos cuts in
@@ -141,29 +155,36 @@ module _ {X : Type 0} {H : X → Type 0} (f : DynBox X Global H → Record) wher
           let none : length (all_in gs) ≡ 0 = ap (λ l. length (all_in l)) (no_more_groups gs e) in
           inr (a.most, omega arith)
 
-  may_all : (n : ℕ) (js : List (Job X H)) (ps : List cell.PlainJob) → AreJobs f js ps → Fits n ps → All (λ (j : Job X H). cell.MayAdvance f n j) js
+  may_all : (n : ℕ) (js : List (Job X H)) (ps : List cell.PlainJob) → AreJobs f js ps → Fits n ps
+      → All (λ (j : Job X H). cell.MayAdvance f n j) js
   may_all n [] [] h k = All-nil (λ (j : Job X H). cell.MayAdvance f n j)
   may_all n [] (p ∷ ps) h k = absurd h
   may_all n (j ∷ js) [] h k = absurd h
   may_all n (j ∷ js) (p ∷ ps) h k =
-      All-cons (λ (j : Job X H). cell.MayAdvance f n j) j js (record { plain_job = p; is = h.0; till = k.0.0; few = k.0.1; of_members = k.0.2 }) (may_all n js ps h.1 k.1)
+      All-cons (λ (j : Job X H). cell.MayAdvance f n j) j js
+          (record { plain_job = p; is = h.0; till = k.0.0; few = k.0.1; of_members = k.0.2 }) (may_all n js ps h.1 k.1)
 
-  pub may_advance : (cut till n : ℕ) (gs : List (Vec (Cell X H))) (ps : List PlainCell) → 0 < cut → cut ≤ 1024 → till ≤ 2 ^ 40 → length ps ≤ n → AreCuts cut (sizes gs) → AreFrom f 0 (all_in gs) ps
+  pub may_advance : (cut till n : ℕ) (gs : List (Vec (Cell X H))) (ps : List PlainCell) → 0 < cut → cut ≤ 1024 → till ≤ 2 ^ 40
+      → length ps ≤ n → AreCuts cut (sizes gs) → AreFrom f 0 (all_in gs) ps
       → All (λ (j : Job X H). cell.MayAdvance f n j) (jobs_with till 0 gs)
   may_advance cut till n gs ps pos few small le cuts h =
-      may_all n (jobs_with till 0 gs) _ (are_jobs cut till 0 0 gs ps pos cuts h) (fits (length ps) cut till 0 0 n ps small few (omega arith))
+      may_all n (jobs_with till 0 gs) _ (are_jobs cut till 0 0 gs ps pos cuts h)
+          (fits (length ps) cut till 0 0 n ps small few (omega arith))
 
   pub as_many_jobs : (till place : ℕ) (gs : List (Vec (Cell X H))) → length (jobs_with till place gs) ≡ length gs
   as_many_jobs till place [] = refl
   as_many_jobs till place (g ∷ gs) = ap suc (as_many_jobs till (suc place) gs)
 
-  pub places_with : (till place : ℕ) (gs : List (Vec (Cell X H))) → map (λ (j : Job X H). j.place) (jobs_with till place gs) ≡ range_with_len place (length gs)
+  pub places_with : (till place : ℕ) (gs : List (Vec (Cell X H))) → map (λ (j : Job X H). j.place) (jobs_with till place gs)
+      ≡ range_with_len place (length gs)
   places_with till place [] = refl
-  places_with till place (g ∷ gs) = ap (λ l. place ∷ l) (places_with till (suc place) gs ∙ ap (λ m. range_with_len m (length gs)) (sym (add-one place)))
+  places_with till place (g ∷ gs) = ap (λ l. place ∷ l) (places_with till (suc place) gs
+      ∙ ap (λ m. range_with_len m (length gs)) (sym (add-one place)))
 
   -- ---- what is done
 
-  own_results : (end i : ℕ) (cs : List PlainCell) (lists : List (List Row)) (after : List (Cell X H)) → cell.RanEach f end (numbered i cs) lists after
+  own_results : (end i : ℕ) (cs : List PlainCell) (lists : List (List Row)) (after : List (Cell X H))
+      → cell.RanEach f end (numbered i cs) lists after
       → (rs : List OwnResult) × AreOwnRuns end i cs rs × AreFrom f i after (cells_in rs) × (lists ≡ rows_in rs)
   own_results end i [] [] [] h = ([], tt, tt, refl)
   own_results end i [] [] (a ∷ after) h = absurd h
@@ -174,8 +195,10 @@ module _ {X : Type 0} {H : X → Type 0} (f : DynBox X Global H → Record) wher
       let more = own_results end (suc i) cs lists after h.1 in
       (record { rows = r; cell = h.0.0 } ∷ more.0, (h.0.1, more.1), (h.0.2, more.2), ap (λ l. r ∷ l) more.3)
 
-  pub job_results : (t : Traffic) (i : ℕ) (js : List PlainJob) (ds : List (job.Done X H)) → AllZip (λ p d. cell.IsDone f t p d) (handed_jobs i js) ds
-      → (rss : List (List OwnResult)) × AreJobRuns i js rss × AreFrom f i (all_in (groups_of ds)) (cells_in (joined rss)) × (lists_of ds ≡ rows_in (joined rss))
+  pub job_results : (t : Traffic) (i : ℕ) (js : List PlainJob) (ds : List (job.Done X H))
+      → AllZip (λ p d. cell.IsDone f t p d) (handed_jobs i js) ds
+      → (rss : List (List OwnResult)) × AreJobRuns i js rss × AreFrom f i (all_in (groups_of ds)) (cells_in (joined rss))
+          × (lists_of ds ≡ rows_in (joined rss))
       × (sizes (groups_of ds) ≡ map (λ (j : PlainJob). length j.cells) js)
   job_results t i [] [] h = ([], tt, tt, refl, refl)
   job_results t i [] (d ∷ ds) h = absurd h
@@ -189,20 +212,25 @@ module _ {X : Type 0} {H : X → Type 0} (f : DynBox X Global H → Record) wher
       let both = join_from f i d.cells.items (all_in (groups_of ds)) (cells_in one.0) (cells_in (joined more.0)) one.2 next in (
         one.0 ∷ more.0,
         (one.1, more.1),
-        subst (λ ps. AreFrom f i (d.cells.items ++ all_in (groups_of ds)) ps) (sym (map-append (λ (r : OwnResult). r.cell) one.0 (joined more.0))) both,
-        ap (λ l. l ++ lists_of ds) one.3 ∙ ap (λ l. rows_in one.0 ++ l) more.3 ∙ sym (map-append (λ (r : OwnResult). r.rows) one.0 (joined more.0)),
+        subst (λ ps. AreFrom f i (d.cells.items ++ all_in (groups_of ds)) ps)
+            (sym (map-append (λ (r : OwnResult). r.cell) one.0 (joined more.0))) both,
+        ap (λ l. l ++ lists_of ds) one.3 ∙ ap (λ l. rows_in one.0 ++ l) more.3
+            ∙ sym (map-append (λ (r : OwnResult). r.rows) one.0 (joined more.0)),
         ap (λ n. n ∷ sizes (groups_of ds)) size ∙ ap (λ l. length j.cells ∷ l) more.4,
       )
 
-  sizes_are : (till place i : ℕ) (gs : List (Vec (Cell X H))) (js : List PlainJob) → AreJobs f (jobs_with till place gs) (handed_jobs i js) → sizes gs ≡ map (λ (j : PlainJob). length j.cells) js
+  sizes_are : (till place i : ℕ) (gs : List (Vec (Cell X H))) (js : List PlainJob) → AreJobs f (jobs_with till place gs) (handed_jobs i js)
+      → sizes gs ≡ map (λ (j : PlainJob). length j.cells) js
   sizes_are till place i [] [] h = refl
   sizes_are till place i [] (j ∷ js) h = absurd h
   sizes_are till place i (g ∷ gs) [] h = absurd h
   sizes_are till place i (g ∷ gs) (j ∷ js) h =
-      ap (λ n. n ∷ sizes gs) (as_many_from f i g.items j.cells h.0.cells) ∙ ap (λ l. length j.cells ∷ l) (sizes_are till (suc place) (i + length j.cells) gs js h.1)
+      ap (λ n. n ∷ sizes gs) (as_many_from f i g.items j.cells h.0.cells)
+          ∙ ap (λ l. length j.cells ∷ l) (sizes_are till (suc place) (i + length j.cells) gs js h.1)
 
   -- the groups keep their sizes
-  pub cuts_kept : (cut till : ℕ) (gs : List (Vec (Cell X H))) (js : List PlainJob) (ds : List (job.Done X H)) → AreCuts cut (sizes gs) → AreJobs f (jobs_with till 0 gs) (handed_jobs 0 js)
+  pub cuts_kept : (cut till : ℕ) (gs : List (Vec (Cell X H))) (js : List PlainJob) (ds : List (job.Done X H)) → AreCuts cut (sizes gs)
+      → AreJobs f (jobs_with till 0 gs) (handed_jobs 0 js)
       → sizes (groups_of ds) ≡ map (λ (j : PlainJob). length j.cells) js → AreCuts cut (sizes (groups_of ds))
   cuts_kept cut till gs js ds cuts h e = subst (AreCuts cut) (sizes_are till 0 0 gs js h ∙ sym e) cuts
 
@@ -240,22 +268,28 @@ word_of_added : (xs ys : List ℕ) → length xs ≡ length ys → (k : ℕ) →
 word_of_added xs ys e zero = omega arith
 word_of_added xs ys e (suc k) = word_added xs ys e k
 
-word_joined : (t : Traffic) (qs rs : List Row) (k : ℕ) → word_of (crossings t (qs ++ rs)) k ≡ word_of (crossings t qs) k + word_of (crossings t rs) k
-word_joined t qs rs k = ap (λ ns. word_of ns k) (crossings_add t qs rs) ∙ word_of_added (crossings t qs) (crossings t rs) (crossings_long t qs ∙ sym (crossings_long t rs)) k
+word_joined : (t : Traffic) (qs rs : List Row) (k : ℕ) → word_of (crossings t (qs ++ rs)) k
+    ≡ word_of (crossings t qs) k + word_of (crossings t rs) k
+word_joined t qs rs k = ap (λ ns. word_of ns k) (crossings_add t qs rs) ∙
+    word_of_added (crossings t qs) (crossings t rs) (crossings_long t qs ∙ sym (crossings_long t rs)) k
 
-pub counted_more : (t : Traffic) (l : LedgerView) (trace rows more : List Row) (old new : SeatView) → IsCounted t l trace old → HasGrown (word_of (crossings t rows)) old new → rows ≡ more → IsCounted t l (trace ++ more) new
+pub counted_more : (t : Traffic) (l : LedgerView) (trace rows more : List Row) (old new : SeatView) → IsCounted t l trace old
+    → HasGrown (word_of (crossings t rows)) old new → rows ≡ more → IsCounted t l (trace ++ more) new
 counted_more t l trace rows more old new c g e = record {
   ledger = g.ledger ∙ c.ledger;
   weight = g.weight ∙ c.weight;
   shares = λ k.
-      g.shares k ∙ ap (λ n. n + word_of (crossings t rows) k) (c.shares k) ∙ sym (word_joined t trace rows k) ∙ ap (λ rs. word_of (crossings t (trace ++ rs)) k) e;
+      g.shares k ∙ ap (λ n. n + word_of (crossings t rows) k) (c.shares k)
+          ∙ sym (word_joined t trace rows k) ∙ ap (λ rs. word_of (crossings t (trace ++ rs)) k) e;
 }
 
 -- crossings do not depend on the order of new rows
-pub counted_merged : (s : Setting) (l : LedgerView) (trace rows merged : List Row) (seat : SeatView) → IsPermutation rows merged → IsCounted s.traffic l (trace ++ rows) seat → IsCounted s.traffic l (trace ++ merged) seat
+pub counted_merged : (s : Setting) (l : LedgerView) (trace rows merged : List Row) (seat : SeatView) → IsPermutation rows merged
+    → IsCounted s.traffic l (trace ++ rows) seat → IsCounted s.traffic l (trace ++ merged) seat
 counted_merged s l trace rows merged seat h c = record {
   ledger = c.ledger;
   weight = c.weight;
   shares = λ k.
-      c.shares k ∙ word_joined s.traffic trace rows k ∙ ap (λ ns. word_of (crossings s.traffic trace) k + word_of ns k) (crossings_keep s rows merged h) ∙ sym (word_joined s.traffic trace merged k);
+      c.shares k ∙ word_joined s.traffic trace rows k ∙ ap (λ ns. word_of (crossings s.traffic trace) k + word_of ns k)
+          (crossings_keep s rows merged h) ∙ sym (word_joined s.traffic trace merged k);
 }

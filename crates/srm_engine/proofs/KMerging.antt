@@ -1,5 +1,6 @@
 -- From what `kmerge` promises to lists.
-use Rattle.std.proofs.Common.{◌≡◌, ◌∙◌, ◌<◌, ◌≤◌, ◌+◌, ◌^◌, ◌++◌, Bool, true, ℕ, List, [], ◌∷◌, Option, Some, None, Ordering, All, IsSorted, IsPermutation, length, drop, get_or, slice_index_or, append-nil, subst, sym, ap, vec_len, map, refl, arith}
+use Rattle.std.proofs.Common.{◌≡◌, ◌∙◌, ◌<◌, ◌≤◌, ◌+◌, ◌^◌, ◌++◌, Bool, true, ℕ, List, [], ◌∷◌, Option, Some, None, Ordering, All, IsSorted,
+    IsPermutation, length, drop, get_or, slice_index_or, append-nil, subst, sym, ap, vec_len, map, refl, arith}
 use Rattle.std.specs.Option.{unwrap_or, option_to_list}
 use Rattle.std.proofs.lemmas.List.Sorted.{IsPermutation-refl}
 use Rattle.std.proofs.lemmas.List.{drop_more, length-append}
@@ -18,27 +19,34 @@ use Rattle.itertools.specs.declared.kmerge_impl.KMergeBy.{KMergeBy}
 
 abbrev pub VecGives : {A : Type 0} → Vec A → IntoIter A Global → Type 0
 VecGives {A} v r =
-    (into_iter_items r ≡ v.items) × (into_iter_len r ≡ vec_len v) × (into_iter_len r < 2 ^ 64) × EveryRun (into_iter_steps {X = A} {Z = Global}) (λ p. ItemsAre p (into_iter_items p.from))
+    (into_iter_items r ≡ v.items) × (into_iter_len r ≡ vec_len v) × (into_iter_len r < 2 ^ 64)
+        × EveryRun (into_iter_steps {X = A} {Z = Global}) (λ p. ItemsAre p (into_iter_items p.from))
 
 taken : {A : Type 0} (s : IntoIter A Global) → AlwaysYields (into_iter_steps {X = A} {Z = Global}) (λ x. x) s s.rest.items
 taken {A} = listed {B = A} into_iter_steps (λ x. x) (λ s. s.rest.items) (λ s t p. sym s.rest.ok.0 ∙ p.0) (λ s x t p. p.0)
 
-pub vecs_give : {A : Type 0} (vs : List (Vec A)) → SourcesGive VecGives (into_iter_steps {X = A} {Z = Global}) vs (map (λ (v : Vec A). v.items) vs)
+pub vecs_give : {A : Type 0} (vs : List (Vec A)) → SourcesGive VecGives (into_iter_steps {X = A} {Z = Global}) vs
+    (map (λ (v : Vec A). v.items) vs)
 vecs_give [] = tt
 vecs_give (v ∷ vs) = ((λ j g. subst (λ l. AlwaysYields into_iter_steps (λ x. x) j l) g.0 (taken j)), vecs_give vs)
 
-pub sources_give : {A : Type 0} (us vs : List (Vec A)) → us ≡ vs → SourcesGive VecGives (into_iter_steps {X = A} {Z = Global}) us (map (λ (v : Vec A). v.items) vs)
+pub sources_give : {A : Type 0} (us vs : List (Vec A)) → us ≡ vs → SourcesGive VecGives (into_iter_steps {X = A} {Z = Global}) us
+    (map (λ (v : Vec A). v.items) vs)
 sources_give us vs e = rw e (vecs_give vs)
 
-drains_whole : {S A : Type 0} (steps : S → Option A → S → Type 0) {W : Type 0} (s : S) (xs : List A) → Drains steps s xs → DrainsIf steps W s xs
+drains_whole : {S A : Type 0} (steps : S → Option A → S → Type 0) {W : Type 0} (s : S) (xs : List A) → Drains steps s xs
+    → DrainsIf steps W s xs
 drains_whole steps s xs d = (d.1.0, d.1.1, λ w. (d.0, d.1.2))
 
-module _ {F Z A : Type 0} (computes : F → (A → A → Bool) → Type 0) (m s : KMergeBy (IntoIter A Global) F Z A) (xs : List A) (same : s ≡ m) (d : Drains (kmerge_steps (into_iter_steps {X = A} {Z = Global}) computes) s xs) where
+module _ {F Z A : Type 0} (computes : F → (A → A → Bool) → Type 0) (m s : KMergeBy (IntoIter A Global) F Z A) (xs : List A) (same : s ≡ m)
+    (d : Drains (kmerge_steps (into_iter_steps {X = A} {Z = Global}) computes) s xs) where
   drained : DrainsIf (kmerge_steps (into_iter_steps {X = A} {Z = Global}) computes) (true ≡ true) m xs
-  drained = drains_whole (kmerge_steps (into_iter_steps {X = A} {Z = Global}) computes) m xs (subst (λ t. Drains (kmerge_steps (into_iter_steps {X = A} {Z = Global}) computes) t xs) same d)
+  drained = drains_whole (kmerge_steps (into_iter_steps {X = A} {Z = Global}) computes) m xs
+      (subst (λ t. Drains (kmerge_steps (into_iter_steps {X = A} {Z = Global}) computes) t xs) same d)
 
   -- all items of the lists: the merge gave these and ended
-  pub all_merged : (ls : List (List A)) → MergeGivesAll (into_iter_steps {X = A} {Z = Global}) computes m ls → IsPermutation (joined_lists ls) xs
+  pub all_merged : (ls : List (List A)) → MergeGivesAll (into_iter_steps {X = A} {Z = Global}) computes m ls
+      → IsPermutation (joined_lists ls) xs
   all_merged ls gives =
       let r = gives xs true drained in
       subst (λ ys. IsPermutation (joined_lists ls) ys) (ap (λ ys. xs ++ ys) (r.2 refl) ∙ append-nil xs) r.1
@@ -47,7 +55,8 @@ module _ {F Z A : Type 0} (computes : F → (A → A → Bool) → Type 0) (m s 
   merged_in_order lt ordered = ordered xs true drained
 
 -- of one list, or of none, nothing has to be merged
-pub last_alone : {A : Type 0} (cmp : A → A → Ordering) (vs us : List (Vec A)) (o : Option (Vec A)) (none : Vec A) → vs ≡ us ++ option_to_list o → us ≡ [] → none.items ≡ []
+pub last_alone : {A : Type 0} (cmp : A → A → Ordering) (vs us : List (Vec A)) (o : Option (Vec A)) (none : Vec A) → vs ≡ us
+    ++ option_to_list o → us ≡ [] → none.items ≡ []
     → All (IsSorted cmp) (map (λ (v : Vec A). v.items) vs)
     → IsPermutation (joined (map (λ (v : Vec A). v.items) vs)) (unwrap_or o none).items × IsSorted cmp (unwrap_or o none).items
 last_alone cmp vs us None none e nil empty all = (
@@ -68,7 +77,8 @@ joined_is (l ∷ ls) = ap (λ k. l ++ k) (joined_is ls)
 abbrev pub rows_from : {A : Type 0} → ℕ → List (Vec A) → ℕ
 rows_from k vs = length (joined (map (λ (v : Vec _). v.items) (drop k vs)))
 
-pub rows_after : {A : Type 0} (k : ℕ) (vs : List (Vec A)) (v : Vec A) → k < length vs → v ≡ slice_index_or vs k v → rows_from k vs ≡ length v.items + rows_from (k + 1) vs
+pub rows_after : {A : Type 0} (k : ℕ) (vs : List (Vec A)) (v : Vec A) → k < length vs → v ≡ slice_index_or vs k v → rows_from k vs
+    ≡ length v.items + rows_from (k + 1) vs
 rows_after k vs v lt is =
     ap (λ l. length (joined (map (λ (v : Vec _). v.items) l))) (drop_more vs k v lt)
     ∙ length-append (get_or vs k v).items (joined (map (λ (v : Vec _). v.items) (drop (k + 1) vs)))

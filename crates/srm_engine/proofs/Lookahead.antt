@@ -1,5 +1,6 @@
 -- Windows no wider than the least link delay, and promise windows.
-use Rattle.std.proofs.Common.{◌≡◌, ◌≢◌, ℕ, zero, suc, ◌<◌, ◌≤◌, ◌+◌, min, Bool, true, false, cond, not, List, [], ◌∷◌, refl, sym, ap, ◌∙◌, subst, ◌⊎◌, inl, inr, arith, Option, Some, None, length, map, filter, fold, slice_get, ◌==◌, eqb-true, add-zero, zero-add}
+use Rattle.std.proofs.Common.{◌≡◌, ◌≢◌, ℕ, zero, suc, ◌<◌, ◌≤◌, ◌+◌, min, Bool, true, false, cond, not, List, [], ◌∷◌, refl, sym, ap, ◌∙◌,
+    subst, ◌⊎◌, inl, inr, arith, Option, Some, None, length, map, filter, fold, slice_get, ◌==◌, eqb-true, add-zero, zero-add}
 use Rattle.std.proofs.lemmas.Bool.{eqb-false}
 use Rattle.std.proofs.lemmas.List.{length-map}
 use Rattle.std.proofs.Math.Nat.{min-le_left, min-le_right}
@@ -84,7 +85,8 @@ in_range (suc n) a b le lt = elim (a == b) as (λ q. (a == b) ≡ q → In b (ra
 ] refl
 
 is_other : (b m : ℕ) → b ≢ m → not (b == m) ≡ true
-is_other b m ne = elim (b == m) as (λ q. (b == m) ≡ q → not (b == m) ≡ true) [ true ↦ λ e. absurd (ne (eqb-true _ _ e)) | false ↦ λ e. ap not e ] refl
+is_other b m ne = elim (b == m) as (λ q. (b == m) ≡ q → not (b == m) ≡ true)
+    [ true ↦ λ e. absurd (ne (eqb-true _ _ e)) | false ↦ λ e. ap not e ] refl
 
 -- ---- windows and link delays
 
@@ -94,7 +96,8 @@ some_link (x ∷ xs) zero k h = let e : x ≡ k = cc in inl (ap lesser_delay e)
 some_link (x ∷ xs) (suc l) k h = inr (some_link xs l k h)
 
 -- a way between two nodes that differ takes as long as its first link
-walk_wide : (net : Network) (width : ℕ) → IsWidth net width → (u : ℕ) (ls : List ℕ) (v : ℕ) (ns : List ℕ) → IsWalk net.links u ls v ns → u ≢ v → width ≤ delay_along net.links u ls
+walk_wide : (net : Network) (width : ℕ) → IsWidth net width → (u : ℕ) (ls : List ℕ) (v : ℕ) (ns : List ℕ) → IsWalk net.links u ls v ns
+    → u ≢ v → width ≤ delay_along net.links u ls
 unfolding least_delay
 walk_wide net width wide u [] v ns w ne = absurd (ne w.0)
 walk_wide net width wide u (l ∷ ls) v ns w ne =
@@ -104,7 +107,8 @@ walk_wide net width wide u (l ∷ ls) v ns w ne =
     let each = lesser_each u w.0 in
     subst (λ n. width ≤ n) (sym (along_first net.links u l w.1 ls w.0 w.3 w.4)) (omega arith)
 
-distance_wide : (net : Network) → IsNetwork net → (width : ℕ) → IsWidth net width → (a b : ℕ) → a < length net.hosts → b < length net.hosts → a ≢ b → width ≤ distance net a b
+distance_wide : (net : Network) → IsNetwork net → (width : ℕ) → IsWidth net width → (a b : ℕ) → a < length net.hosts → b < length net.hosts
+    → a ≢ b → width ≤ distance net a b
 unfolding distance
 distance_wide net n width wide a b ha hb ne =
     let r = route_path net n.tree (host net a) (host net b) (host_below net n a ha) (host_below net n b hb) in
@@ -114,7 +118,8 @@ pub link_delays_are_safe : LinkDelaysAreSafe
 link_delays_are_safe p seed accepted w e width end reached least wide within =
     let hosts : length (network_of p).hosts ≡ length p.members = length-map p.members (λ (k : MemberSpec). k.node) in
     windows_are_safe (setting_of p (network_of p) seed) w e width end (settings_are_fit p seed accepted) reached least
-    (λ a b ha hb ne. distance_wide (network_of p) accepted.network width wide a b (subst (λ n. a < n) (sym hosts) ha) (subst (λ n. b < n) (sym hosts) hb) ne)
+    (λ a b ha hb ne. distance_wide (network_of p) accepted.network width wide a b (subst (λ n. a < n) (sym hosts) ha)
+        (subst (λ n. b < n) (sym hosts) hb) ne)
     within
 
 -- ---- promises
@@ -122,7 +127,9 @@ link_delays_are_safe p seed accepted w e width end reached least wide within =
 module _ (s : Setting) where
   out_near : (m b : ℕ) → b < s.traffic.members → b ≢ m → (k : ℕ) × (out s m ≡ Some k) × (k ≤ s.traffic.distance m b)
   unfolding out
-  out_near m b lt ne = least_in (s.traffic.distance m b) _ (in_mapped (s.traffic.distance m) b _ (in_filtered (λ x. not (x == m)) b (is_other b m ne) _ (in_range s.traffic.members 0 b (omega arith) (omega arith))))
+  out_near m b lt ne = least_in (s.traffic.distance m b) _
+      (in_mapped (s.traffic.distance m) b _ (in_filtered (λ x. not (x == m)) b (is_other b m ne) _
+      (in_range s.traffic.members 0 b (omega arith) (omega arith))))
 
   least_with_le : (n : ℕ) (o : Option ℕ) → least_with n o ≤ n
   least_with_le n None = omega arith
@@ -132,13 +139,15 @@ module _ (s : Setting) where
   least_with_in n k None h = let y : ⊥ = cc in absurd y
   least_with_in n k (Some x) h = let e = same_number _ _ h in let g = min-le_right n x in omega arith
 
-  promise_le : (i : ℕ) (cs : List PlainCell) (j : ℕ) (c : PlainCell) (t : ℕ) → slice_get cs j ≡ Some c → promise_of s (i + j) c ≡ Some t → least_promise s i cs ≤ t
+  promise_le : (i : ℕ) (cs : List PlainCell) (j : ℕ) (c : PlainCell) (t : ℕ) → slice_get cs j ≡ Some c → promise_of s (i + j) c ≡ Some t
+      → least_promise s i cs ≤ t
   promise_le i [] j c t g h = let y : ⊥ = cc in absurd y
   promise_le i (x ∷ cs) zero c t g h =
       let same : x ≡ c = cc in
       least_with_in (least_promise s (i + 1) cs) t (promise_of s i x) (ap (promise_of s i) same ∙ rw add-zero at h)
   promise_le i (x ∷ cs) (suc j) c t g h =
-      let there : promise_of s ((i + 1) + j) c ≡ Some t = (let k : i + suc j ≡ (i + 1) + j = omega arith in subst (λ n. promise_of s n c ≡ Some t) k h) in
+      let there : promise_of s ((i + 1) + j) c ≡ Some t =
+          (let k : i + suc j ≡ (i + 1) + j = omega arith in subst (λ n. promise_of s n c ≡ Some t) k h) in
       let le = promise_le (i + 1) cs j c t g there in
       let first = least_with_le (least_promise s (i + 1) cs) (promise_of s i x) in
       omega arith
@@ -147,12 +156,16 @@ module _ (s : Setting) where
   silent_listener (Active m) h = h
   silent_listener (Gone f) h = tt
 
-  promise_is : (m : ℕ) (c : PlainCell) (e : Event) (k : ℕ) → is_listener (fixed_part c.holds).role ≡ false → next_event m c ≡ Some e → out s m ≡ Some k → promise_of s m c ≡ Some (e.key.time + k)
+  promise_is : (m : ℕ) (c : PlainCell) (e : Event) (k : ℕ) → is_listener (fixed_part c.holds).role ≡ false → next_event m c ≡ Some e
+      → out s m ≡ Some k → promise_of s m c ≡ Some (e.key.time + k)
   promise_is m c e k role next way =
       ap (λ b. cond b None (promise_by (time_of (next_event m c)) (out s m))) role ∙ (λ i. promise_by (time_of (next i)) (way i))
 
-  promised : (w : World) (m : ℕ) (c : PlainCell) (e : Event) → slice_get w.cells m ≡ Some c → next_event m c ≡ Some e → Silent c.holds ⊎ ((b : ℕ) → b < s.traffic.members → b ≢ m → promise_end s w ≤ e.key.time + s.traffic.distance m b)
-  promised w m c e g next = elim (is_listener (fixed_part c.holds).role) as (λ q. is_listener (fixed_part c.holds).role ≡ q → Silent c.holds ⊎ ((b : ℕ) → b < s.traffic.members → b ≢ m → promise_end s w ≤ e.key.time + s.traffic.distance m b)) [
+  promised : (w : World) (m : ℕ) (c : PlainCell) (e : Event) → slice_get w.cells m ≡ Some c → next_event m c ≡ Some e → Silent c.holds
+      ⊎ ((b : ℕ) → b < s.traffic.members → b ≢ m → promise_end s w ≤ e.key.time + s.traffic.distance m b)
+  promised w m c e g next = elim (is_listener (fixed_part c.holds).role) as
+      (λ q. is_listener (fixed_part c.holds).role ≡ q → Silent c.holds
+      ⊎ ((b : ℕ) → b < s.traffic.members → b ≢ m → promise_end s w ≤ e.key.time + s.traffic.distance m b)) [
     | true ↦ λ q. inl (silent_listener c.holds q)
     | false ↦ λ q. inr (λ b lt ne.
         let way = out_near m b lt ne in
@@ -164,9 +177,12 @@ module _ (s : Setting) where
 
   -- ---- the end is later than the least pending time
 
-  all_away : (m : ℕ) → ((b : ℕ) → b < s.traffic.members → b ≢ m → 0 < s.traffic.distance m b) → (n a : ℕ) → a + n ≤ s.traffic.members → AllIn (λ x. 0 < x) (map (s.traffic.distance m) (filter (λ x. not (x == m)) (range_with_len a n)))
+  all_away : (m : ℕ) → ((b : ℕ) → b < s.traffic.members → b ≢ m → 0 < s.traffic.distance m b) → (n a : ℕ) → a + n ≤ s.traffic.members
+      → AllIn (λ x. 0 < x) (map (s.traffic.distance m) (filter (λ x. not (x == m)) (range_with_len a n)))
   all_away m away zero a le = tt
-  all_away m away (suc n) a le = elim (a == m) as (λ q. (a == m) ≡ q → AllIn (λ x. 0 < x) (map (s.traffic.distance m) (cond (not (a == m)) (a ∷ filter (λ x. not (x == m)) (range_with_len (a + 1) n)) (filter (λ x. not (x == m)) (range_with_len (a + 1) n))))) [
+  all_away m away (suc n) a le = elim (a == m) as (λ q. (a == m) ≡ q →
+      AllIn (λ x. 0 < x) (map (s.traffic.distance m) (cond (not (a == m)) (a ∷ filter (λ x. not (x == m)) (range_with_len (a + 1) n))
+      (filter (λ x. not (x == m)) (range_with_len (a + 1) n))))) [
     | true ↦ λ e. rw e (all_away m away n (a + 1) (omega arith))
     | false ↦ λ e. rw e (away a (omega arith) (eqb-false _ _ e), all_away m away n (a + 1) (omega arith))
   ] refl
@@ -179,7 +195,8 @@ module _ (s : Setting) where
   with_later t n None h g = h
   with_later t n (Some k) h g = let l = g k refl in omega arith
 
-  later_by : (t : ℕ) (x y : Option ℕ) (k : ℕ) → promise_by x y ≡ Some k → ((a : ℕ) → x ≡ Some a → t ≤ a) → ((b : ℕ) → y ≡ Some b → 0 < b) → t < k
+  later_by : (t : ℕ) (x y : Option ℕ) (k : ℕ) → promise_by x y ≡ Some k → ((a : ℕ) → x ≡ Some a → t ≤ a) → ((b : ℕ) → y ≡ Some b → 0 < b)
+      → t < k
   later_by t None y k h f g = let z : ⊥ = cc in absurd z
   later_by t (Some a) None k h f g = let z : ⊥ = cc in absurd z
   later_by t (Some a) (Some b) k h f g = let e = same_number _ _ h in let p = f a refl in let q = g b refl in omega arith
@@ -188,15 +205,19 @@ module _ (s : Setting) where
   from_cond true o k h = let z : ⊥ = cc in absurd z
   from_cond false o k h = h
 
-  time_from : (t m : ℕ) (c : PlainCell) (o : Option Event) → ((e : Event) → o ≡ Some e → t ≤ e.key.time) → (a : ℕ) → time_of o ≡ Some a → t ≤ a
+  time_from : (t m : ℕ) (c : PlainCell) (o : Option Event) → ((e : Event) → o ≡ Some e → t ≤ e.key.time) → (a : ℕ) → time_of o ≡ Some a
+      → t ≤ a
   time_from t m c None f a h = let z : ⊥ = cc in absurd z
   time_from t m c (Some e) f a h = let q = same_number _ _ h in let p = f e refl in omega arith
 
-  all_later : (t : ℕ) → t < s.traffic.until → (i : ℕ) (cs : List PlainCell) → ((j : ℕ) (c : PlainCell) (e : Event) → slice_get cs j ≡ Some c → next_event (i + j) c ≡ Some e → t ≤ e.key.time)
+  all_later : (t : ℕ) → t < s.traffic.until → (i : ℕ) (cs : List PlainCell)
+      → ((j : ℕ) (c : PlainCell) (e : Event) → slice_get cs j ≡ Some c → next_event (i + j) c ≡ Some e → t ≤ e.key.time)
       → ((m : ℕ) → i ≤ m → m < i + length cs → (k : ℕ) → out s m ≡ Some k → 0 < k) → t < least_promise s i cs
   all_later t lt i [] from away = lt
   all_later t lt i (c ∷ cs) from away =
-      let rest = all_later t lt (i + 1) cs (λ j b e g h. from (suc j) b e g (let k : (i + 1) + j ≡ i + suc j = omega arith in subst (λ n. next_event n b ≡ Some e) k h)) (λ m le l k h. away m (omega arith) (omega arith) k h) in
+      let rest = all_later t lt (i + 1) cs (λ j b e g h. from (suc j) b e
+          g (let k : (i + 1) + j ≡ i + suc j = omega arith in subst (λ n. next_event n b ≡ Some e) k h))
+          (λ m le l k h. away m (omega arith) (omega arith) k h) in
       with_later t (least_promise s (i + 1) cs) (promise_of s i c) rest
       (λ k h. later_by t (time_of (next_event i c)) (out s i) k (from_cond (is_listener (fixed_part c.holds).role) _ k h)
       (time_from t i c (next_event i c) (λ e q. from 0 c e refl (rw add-zero q)))

@@ -1,5 +1,6 @@
 -- A merge of lists of rows is determined by its elements and its order.
-use Rattle.std.proofs.Common.{zero, suc, ◌&&◌, ◌||◌, ◌++◌, filter, ◌==◌, eqb-true, ◌≡◌, ℕ, ◌<◌, ◌≤◌, ◌+◌, Bool, true, false, cond, List, [], ◌∷◌, refl, sym, ap, ◌∙◌, subst, ◌⊎◌, inl, inr, arith, Ordering, Less, Equal, Greater, is_lt, true≢false}
+use Rattle.std.proofs.Common.{zero, suc, ◌&&◌, ◌||◌, ◌++◌, filter, ◌==◌, eqb-true, ◌≡◌, ℕ, ◌<◌, ◌≤◌, ◌+◌, Bool, true, false, cond, List, [],
+    ◌∷◌, refl, sym, ap, ◌∙◌, subst, ◌⊎◌, inl, inr, arith, Ordering, Less, Equal, Greater, is_lt, true≢false}
 use Rattle.std.specs.Ordering.{is_eq, ordering_reverse}
 use Rattle.std.specs.Cmp.{IsTotalOrder}
 use Rattle.std.specs.List.{sum_by, AllByRecursion}
@@ -52,7 +53,8 @@ module _ {A : Type 0} (cmp : A → A → Ordering) (o : IsTotalOrder cmp) where
 
   some_same : (x z : A) (ys : List A) → In z ys → cmp x z ≡ Equal → 1 ≤ same x ys
   some_same x z [] h e = absurd h
-  some_same x z (y ∷ ys) (inl q) e = let a : one_if (is_eq (cmp x y)) ≡ 1 = ap (λ w. one_if (is_eq (cmp x w))) q ∙ ap (λ r. one_if (is_eq r)) e in omega arith
+  some_same x z (y ∷ ys) (inl q) e = let a : one_if (is_eq (cmp x y)) ≡ 1 = ap (λ w. one_if (is_eq (cmp x w))) q
+      ∙ ap (λ r. one_if (is_eq r)) e in omega arith
   some_same x z (y ∷ ys) (inr q) e = let a = some_same x z ys q e in omega arith
 
   -- what is not below y comes after x, where y does
@@ -73,7 +75,8 @@ module _ {A : Type 0} (cmp : A → A → Ordering) (o : IsTotalOrder cmp) where
   in_after x z (y ∷ ys) h (inr q) = in_after x z ys h.1 q
 
   -- two lists in order, the first strictly, with the same elements as often, are equal
-  pub same_merge : (xs ys : List A) → Ascends cmp xs → Rises cmp ys → ((k : A) → same k ys ≡ same k xs) → ((z : A) → In z ys → In z xs) → xs ≡ ys
+  pub same_merge : (xs ys : List A) → Ascends cmp xs → Rises cmp ys → ((k : A) → same k ys ≡ same k xs) → ((z : A) → In z ys → In z xs) → xs
+      ≡ ys
   same_merge [] [] h g c m = refl
   same_merge [] (y ∷ ys) h g c m = absurd (m y (inl refl))
   same_merge (x ∷ xs) [] h g c m = let a = one_self x in let b = c x in absurd (omega arith)
@@ -140,19 +143,22 @@ one_or true b c h = let e = h refl in rw e (omega arith)
 one_or false b c h = omega arith
 
 module _ (p : Row → Bool) where
-  both_ranges : (i n : ℕ) (rows : List Row) → count_if (λ r. (r.key.member == i) && p r) rows + count_if (λ r. in_range (suc i) n r.key.member && p r) rows ≡ count_if (λ r. in_range i (suc n) r.key.member && p r) rows
+  both_ranges : (i n : ℕ) (rows : List Row) → count_if (λ r. (r.key.member == i) && p r) rows + count_if
+      (λ r. in_range (suc i) n r.key.member && p r) rows ≡ count_if (λ r. in_range i (suc n) r.key.member && p r) rows
   unfolding in_range
   both_ranges i n [] = refl
   both_ranges i n (r ∷ rows) =
       let a = both_ranges i n rows in
-      let b = one_or (r.key.member == i) (in_range (suc i) n r.key.member) (p r) (λ e. too_low (suc i) n r.key.member (let q = eqb-true _ _ e in omega arith)) in
+      let b = one_or (r.key.member == i) (in_range (suc i) n r.key.member)
+          (p r) (λ e. too_low (suc i) n r.key.member (let q = eqb-true _ _ e in omega arith)) in
       omega arith
 
   none_counted : (rows : List Row) → 0 ≡ count_if (λ r. false && p r) rows
   none_counted [] = refl
   none_counted (r ∷ rows) = none_counted rows ∙ omega arith
 
-  count-by_member : (n i : ℕ) (rows : List Row) → count_if p (joined (by_member i n rows)) ≡ count_if (λ r. in_range i n r.key.member && p r) rows
+  count-by_member : (n i : ℕ) (rows : List Row) → count_if p (joined (by_member i n rows))
+      ≡ count_if (λ r. in_range i n r.key.member && p r) rows
   unfolding in_range
   count-by_member zero i rows = none_counted rows
   count-by_member (suc n) i rows =
@@ -162,7 +168,8 @@ module _ (p : Row → Bool) where
       let d = both_ranges i n rows in
       omega arith
 
-  all_counted : (n : ℕ) (rows : List Row) → AllIn (λ r. r.key.member < n) rows → count_if (λ r. in_range 0 n r.key.member && p r) rows ≡ count_if p rows
+  all_counted : (n : ℕ) (rows : List Row) → AllIn (λ r. r.key.member < n) rows → count_if (λ r. in_range 0 n r.key.member && p r) rows
+      ≡ count_if p rows
   all_counted n [] h = refl
   all_counted n (r ∷ rows) h =
       let yes = all_low n 0 r.key.member (omega arith) (let l = h.0 in omega arith) in
@@ -206,11 +213,13 @@ ascends_second [] ys h = h
 ascends_second (x ∷ xs) ys h = ascends_second xs ys h.1
 
 module _ (s : Setting) (fit : IsFit s) where
-  seq_members : {end : ℕ} {cs ds : List PlainCell} {rows : List Row} → Seq s end cs rows ds → Good s fit cs → AllIn (λ r. r.key.member < s.traffic.members) rows
+  seq_members : {end : ℕ} {cs ds : List PlainCell} {rows : List Row} → Seq s end cs rows ds → Good s fit cs
+      → AllIn (λ r. r.key.member < s.traffic.members) rows
   seq_members rest good = tt
   seq_members {end} (next {cs = cs} {e = e} {d = d} h x more) good =
       let f = step_facts s fit end cs e d h x in
-      (subst (λ (k : Key). k.member < s.traffic.members) (sym f.key) (member_below s fit end cs e d good h x), seq_members more (good_step s fit end cs e d good h x))
+      (subst (λ (k : Key). k.member < s.traffic.members) (sym f.key) (member_below s fit end cs e d good h x),
+          seq_members more (good_step s fit end cs e d good h x))
 
 pub merges_agree : MergesAgree
 merges_agree s w v fit reached n h rows rises perm =
@@ -223,8 +232,10 @@ merges_agree s w v fit reached n h rows rises perm =
     let trace : w.trace ++ r.0 ≡ v.trace = ap (λ (u : World). u.trace) worlds in
     let new : new_rows w v ≡ r.0 = ap (λ t. drop (length w.trace) t) (sym trace) ∙ drop-append_seam w.trace r.0 in
     let all_rise = keys_rise s v fit (reached.0 + n, run_on s reached.0 n (opening s) w reached.1 ∙ h) in
-    let rise : Ascends row_cmp (new_rows w v) = subst (Ascends row_cmp) (sym new) (ascends_second w.trace r.0 (subst (Ascends row_cmp) (sym trace) all_rise)) in
-    let members : AllIn (λ r. r.key.member < s.traffic.members) (new_rows w v) = subst (AllIn (λ r. r.key.member < s.traffic.members)) (sym new) (seq_members s fit r.1 good) in
+    let rise : Ascends row_cmp (new_rows w v) = subst (Ascends row_cmp) (sym new)
+        (ascends_second w.trace r.0 (subst (Ascends row_cmp) (sym trace) all_rise)) in
+    let members : AllIn (λ r. r.key.member < s.traffic.members) (new_rows w v) =
+        subst (AllIn (λ r. r.key.member < s.traffic.members)) (sym new) (seq_members s fit r.1 good) in
     let parts = joined (by_member 0 s.traffic.members (new_rows w v)) in
     same_merge row_cmp (row_total s 0) (new_rows w v) rows rise rises
     (λ k.
@@ -233,4 +244,5 @@ merges_agree s w v fit reached n h rows rises perm =
     ∙ count-by_member p s.traffic.members 0 (new_rows w v) ∙ all_counted p s.traffic.members (new_rows w v) members)
     (λ z g.
     let Q = λ (x : Row). In x (new_rows w v) in
-    each_in Q z rows (recursion_from_All Q rows (All-permutation Q parts rows perm (All-from_recursion Q parts (in_each Q parts (λ x i. in_joined x s.traffic.members 0 (new_rows w v) i))))) g)
+    each_in Q z rows (recursion_from_All Q rows (All-permutation Q parts rows perm
+        (All-from_recursion Q parts (in_each Q parts (λ x i. in_joined x s.traffic.members 0 (new_rows w v) i))))) g)

@@ -1,5 +1,6 @@
 -- In the sequential run each member holds and lacks what its rows say, and packets carry the inks that were drawn.
-use Rattle.std.proofs.Common.{◌≡◌, ℕ, zero, suc, ◌<◌, ◌+◌, T, List, [], ◌∷◌, ◌++◌, map, length, refl, sym, ap, ◌∙◌, subst, ◌≢◌, ◌⊎◌, inl, inr, arith, Option, Some, None, is_some, unwrap_or, slice_get}
+use Rattle.std.proofs.Common.{◌≡◌, ℕ, zero, suc, ◌<◌, ◌+◌, T, List, [], ◌∷◌, ◌++◌, map, length, refl, sym, ap, ◌∙◌, subst, ◌≢◌, ◌⊎◌, inl,
+    inr, arith, Option, Some, None, is_some, unwrap_or, slice_get}
 use Rattle.std.specs.List.{Contains}
 use Rattle.std.specs.FinMap.Entries.{put, find, is_sorted}
 use Rattle.std.proofs.lemmas.List.Elements.{Contains-append_left}
@@ -20,14 +21,16 @@ use Rattle.srm_member.specs.declared.row.Row.{Row}
 use Rattle.srm_member.specs.declared.entries.Missing.{Missing}
 use Rattle.srm_member.specs.Record.{Memory, Record, Active, Gone, exit_of}
 use Rattle.srm_member.specs.React.{Reaction, react}
-use Rattle.srm_member.proofs.TableChanges.{Has, names_apart, put_here, put_there, has_put, has_more, without_less, without_there, sorted_put, sorted_without, has_some, ascend, contained_found, found_contained, named, has_name}
+use Rattle.srm_member.proofs.TableChanges.{Has, names_apart, put_here, put_there, has_put, has_more, without_less, without_there,
+    sorted_put, sorted_without, has_some, ascend, contained_found, found_contained, named, has_name}
 use Rattle.srm_member.proofs.Changes.{Below, Grows, Allowed, Quiet, Brings, Mends, Brought, Drawn, effect}
 use Rattle.srm_cell.specs.Setting.{Setting, IsFit, arrival_of}
 use Rattle.srm_cell.specs.Cells.{PlainCell, opening_cell, hear_at, hear, Event, Stepped, word_of, about_of, packet_of}
 use Rattle.srm_cell.specs.OwnRuns.{told_to}
 use Rattle.srm_engine.specs.World.{World, settled, opening, opening_cells, IsReached, exit_at}
 use Rattle.srm_engine.specs.Handed.{SentIn}
-use Rattle.srm_engine.specs.HeldNames.{Draws, Drew, Carries, TellsOf, ToldOf, Got, Lost, Lacks, EndsWith, ExitsAreWhatRowsSay, RequestsAreForLosses, RepairsAreOfHeld}
+use Rattle.srm_engine.specs.HeldNames.{Draws, Drew, Carries, TellsOf, ToldOf, Got, Lost, Lacks, EndsWith, ExitsAreWhatRowsSay,
+    RequestsAreForLosses, RepairsAreOfHeld}
 use Rattle.srm_engine.proofs.OneStep.{Takes, Sends, Answers, Leaves, Steps, StepFacts, same_some, each_after, run_keeps}
 use Rattle.srm_engine.proofs.TraceRows.{contains_none, contains_last, contains_cases, sent_more, sent_cases, IsSplit, split_cases}
 use Rattle.srm_engine.proofs.HandedOnce as handing
@@ -75,7 +78,8 @@ carries_one : (b : Body) (k n : Name) (ink : ℕ) → Brings b k ink → Carries
 carries_one b k n ink (inl e) c = subst (Carries n) e c
 carries_one b k n ink (inr e) c = subst (Carries n) e c
 
-sent_body : (e : Event) (body : Option Body) (d : Stepped) (p : Packet) → Sends e body d → d.row.sent ≡ Some p → (body ≡ Some p.body) × (p.id.sender ≡ e.key.member)
+sent_body : (e : Event) (body : Option Body) (d : Stepped) (p : Packet) → Sends e body d → d.row.sent ≡ Some p → (body ≡ Some p.body)
+    × (p.id.sender ≡ e.key.member)
 sent_body e None d p h q = let x : None ≡ Some p = sym h.0 ∙ q in cc
 sent_body e (Some b) d p h q =
     let same : packet_of e b ≡ p = same_some _ _ (sym h.0 ∙ q) in
@@ -91,12 +95,15 @@ module _ (s : Setting) (fit : IsFit s) where
     pub source : (j : ℕ) (n : Name) (ink : ℕ) → Drew j n ink trace → n.source ≡ j
     pub one : (n : Name) (a b : ℕ) → Drew n.source n a trace → Drew n.source n b trace → a ≡ b
     pub inks : (p : Packet) (n : Name) (ink : ℕ) → SentIn p trace → Brings p.body n ink → Drew n.source n ink trace
-    pub asks : (before after : List Row) (r : Row) (p : Packet) (n : Name) → IsSplit trace before r after → r.sent ≡ Some p → p.body ≡ Request n → Lacks p.id.sender n before
-    pub answers : (before after : List Row) (r : Row) (p : Packet) (n : Name) (ink : ℕ) → IsSplit trace before r after → r.sent ≡ Some p → p.body ≡ Repair n ink → Got p.id.sender n before × Drew n.source n ink before
+    pub asks : (before after : List Row) (r : Row) (p : Packet) (n : Name) → IsSplit trace before r after → r.sent ≡ Some p → p.body
+        ≡ Request n → Lacks p.id.sender n before
+    pub answers : (before after : List Row) (r : Row) (p : Packet) (n : Name) (ink : ℕ) → IsSplit trace before r after → r.sent ≡ Some p
+        → p.body ≡ Repair n ink → Got p.id.sender n before × Drew n.source n ink before
 
   -- ---- after a step
 
-  module _ (cs : List PlainCell) (trace : List Row) (e : Event) (d : Stepped) (was : Names cs trace) (steps : Steps s.traffic.until cs e d) where
+  module _ (cs : List PlainCell) (trace : List Row) (e : Event) (d : Stepped) (was : Names cs trace) (steps : Steps s.traffic.until cs e d)
+      where
     abbrev m : ℕ
     m = e.key.member
 
@@ -121,14 +128,16 @@ module _ (s : Setting) (fit : IsFit s) where
     drew_now j n ink h = (d.row, contains_last trace d.row, h)
 
     drew_cases : (j : ℕ) (n : Name) (ink : ℕ) → Drew j n ink rows → Drew j n ink trace ⊎ Draws j n ink d.row
-    drew_cases j n ink h = elim (contains_cases trace d.row h.0 h.1) [ inl g ↦ inl (h.0, g, h.2) | inr g ↦ inr (subst (Draws j n ink) (sym g) h.2) ]
+    drew_cases j n ink h = elim (contains_cases trace d.row h.0 h.1)
+        [ inl g ↦ inl (h.0, g, h.2) | inr g ↦ inr (subst (Draws j n ink) (sym g) h.2) ]
 
     -- the row tells this of n, from a packet that was sent before
     abbrev Now : Told → ℕ → Name → Type 0
     Now t j n = TellsOf t j n trace d.row
 
     tells_more : (t : Told) (j : ℕ) (n : Name) (r : Row) → TellsOf t j n trace r → TellsOf t j n rows r
-    tells_more t j n r h = record { member = h.member; told_so = h.told_so; packet = h.packet; about = h.about; sent = sent_more h.packet trace (d.row ∷ []) h.sent; carries = h.carries }
+    tells_more t j n r h = record { member = h.member; told_so = h.told_so; packet = h.packet; about = h.about; sent =
+        sent_more h.packet trace (d.row ∷ []) h.sent; carries = h.carries }
 
     told_more : (t : Told) (j : ℕ) (n : Name) → ToldOf t j n trace → ToldOf t j n rows
     told_more t j n h = (h.0, Contains-append_left trace (d.row ∷ []) h.0 h.1, tells_more t j n h.0 h.2)
@@ -140,14 +149,16 @@ module _ (s : Setting) (fit : IsFit s) where
     sent_before : (r : Row) → Contains rows r → (p : Packet) → r.about ≡ Of p → SentIn p rows → SentIn p trace
     sent_before r c p a h = elim (sent_cases p trace d.row h) [
       | inl g ↦ g
-      | inr g ↦ absurd (handing.new_id s cs trace e d was.handed steps p (handing.is_new s cs trace e d was.handed steps p g) p.id (handing.handed_was s cs trace e d was.handed steps r c p a) refl)
+      | inr g ↦ absurd (handing.new_id s cs trace e d was.handed steps p (handing.is_new s cs trace e d was.handed steps p g) p.id
+          (handing.handed_was s cs trace e d was.handed steps r c p a) refl)
     ]
 
     told_cases : (t : Told) (j : ℕ) (n : Name) → ToldOf t j n rows → ToldOf t j n trace ⊎ Now t j n
     told_cases t j n h =
         let g = h.2 in
         let sent = sent_before h.0 h.1 g.packet g.about g.sent in
-        let tells : TellsOf t j n trace h.0 = record { member = g.member; told_so = g.told_so; packet = g.packet; about = g.about; sent = sent; carries = g.carries } in
+        let tells : TellsOf t j n trace h.0 = record { member = g.member; told_so = g.told_so; packet = g.packet; about = g.about; sent =
+            sent; carries = g.carries } in
         elim (contains_cases trace d.row h.0 h.1) [ inl c ↦ inl (h.0, c, tells) | inr c ↦ inr (subst (TellsOf t j n trace) (sym c) tells) ]
 
     lost_more : (j : ℕ) (n : Name) → Lost j n trace → Lost j n rows
@@ -180,7 +191,8 @@ module _ (s : Setting) (fit : IsFit s) where
 
     -- ---- members of which the row says nothing
 
-    keeps_on : (j : ℕ) (held : List (Name × ℕ)) (missing : List (Name × Missing)) → ((n : Name) → ¬ GotNow j n) → ((n : Name) → ¬ LosesNow j n) → Keeps trace j held missing → Keeps rows j held missing
+    keeps_on : (j : ℕ) (held : List (Name × ℕ)) (missing : List (Name × Missing)) → ((n : Name) → ¬ GotNow j n)
+        → ((n : Name) → ¬ LosesNow j n) → Keeps trace j held missing → Keeps rows j held missing
     keeps_on j held missing none loses k = record {
       held_is = λ n ink f. (let h = k.held_is n ink f in (got_more j n h.0, drew_more n.source n ink h.1));
       got = λ n h. elim (got_cases j n h) [ inl g ↦ k.got n g | inr g ↦ absurd (none n g) ];
@@ -219,15 +231,18 @@ module _ (s : Setting) (fit : IsFit s) where
     hear_at_holds p None c = (refl, refl)
     hear_at_holds p (Some at) c = (refl, refl)
 
-    told_holds : (y : Option Packet) (j : ℕ) (c : PlainCell) → ((told_to s.traffic y j c).holds ≡ c.holds) × ((told_to s.traffic y j c).exit ≡ c.exit)
+    told_holds : (y : Option Packet) (j : ℕ) (c : PlainCell) → ((told_to s.traffic y j c).holds ≡ c.holds)
+        × ((told_to s.traffic y j c).exit ≡ c.exit)
     unfolding hear
     told_holds None j c = (refl, refl)
     told_holds (Some p) j c = hear_at_holds p (arrival_of s.traffic p j) c
 
-    knows_told : (j : ℕ) (c : PlainCell) → slice_get cs j ≡ Some c → j ≢ m → CellKnows rows j (told_to s.traffic d.row.sent j c).holds (told_to s.traffic d.row.sent j c).exit
+    knows_told : (j : ℕ) (c : PlainCell) → slice_get cs j ≡ Some c → j ≢ m
+        → CellKnows rows j (told_to s.traffic d.row.sent j c).holds (told_to s.traffic d.row.sent j c).exit
     knows_told j c g ne =
         let same = told_holds d.row.sent j c in
-        subst (λ r. CellKnows rows j r (told_to s.traffic d.row.sent j c).exit) (sym same.0) (subst (CellKnows rows j c.holds) (sym same.1) (knows_on j ne c.holds c.exit (was.knows j c g)))
+        subst (λ r. CellKnows rows j r (told_to s.traffic d.row.sent j c).exit) (sym same.0)
+            (subst (CellKnows rows j c.holds) (sym same.1) (knows_on j ne c.holds c.exit (was.knows j c g)))
 
     -- ---- the stepping member
 
@@ -238,7 +253,8 @@ module _ (s : Setting) (fit : IsFit s) where
       one : (n : Name) (a b : ℕ) → Drew n.source n a rows → Drew n.source n b rows → a ≡ b
       inks : (p : Packet) (n : Name) (ink : ℕ) → d.row.sent ≡ Some p → Brings p.body n ink → Drew n.source n ink rows
       asks : (p : Packet) (n : Name) → d.row.sent ≡ Some p → p.body ≡ Request n → Lacks p.id.sender n trace
-      answers : (p : Packet) (n : Name) (ink : ℕ) → d.row.sent ≡ Some p → p.body ≡ Repair n ink → Got p.id.sender n trace × Drew n.source n ink trace
+      answers : (p : Packet) (n : Name) (ink : ℕ) → d.row.sent ≡ Some p → p.body ≡ Repair n ink → Got p.id.sender n trace
+          × Drew n.source n ink trace
 
     cell_knew : CellKnows trace m facts.cell.holds facts.cell.exit
     cell_knew = was.knows m facts.cell facts.here
@@ -253,7 +269,8 @@ module _ (s : Setting) (fit : IsFit s) where
         (facts.pending.exit ∙ r.0, r.1)
 
     -- where the row draws nothing, draws are as they were
-    one_still : ((j : ℕ) (n : Name) (ink : ℕ) → ¬ Draws j n ink d.row) → (n : Name) (a b : ℕ) → Drew n.source n a rows → Drew n.source n b rows → a ≡ b
+    one_still : ((j : ℕ) (n : Name) (ink : ℕ) → ¬ Draws j n ink d.row) → (n : Name) (a b : ℕ) → Drew n.source n a rows
+        → Drew n.source n b rows → a ≡ b
     one_still none n a b h g = elim (drew_cases n.source n a h) [
       | inl x ↦ elim (drew_cases n.source n b g) [ inl y ↦ was.one n a b x y | inr y ↦ absurd (none n.source n b y) ]
       | inr x ↦ absurd (none n.source n a x)
@@ -275,7 +292,8 @@ module _ (s : Setting) (fit : IsFit s) where
         ]) in
         let loses : (n : Name) → ¬ LosesNow m n = λ n h. contains_none n (subst (λ ns. Contains ns n) l.lost h.1) in
         record {
-          knows = subst (λ r. CellKnows rows m r d.cell.exit) (sym l.holds_then) (subst (CellKnows rows m (Gone l.memory.fixed)) (sym l.exit)
+          knows = subst (λ r. CellKnows rows m r d.cell.exit) (sym l.holds_then)
+              (subst (CellKnows rows m (Gone l.memory.fixed)) (sym l.exit)
               (l.memory, refl, k.member, keeps_on m l.memory.held l.memory.missing none loses k.keeps));
           source = λ j n ink h. absurd (no_draw j n ink h);
           one = one_still no_draw;
@@ -335,15 +353,18 @@ module _ (s : Setting) (fit : IsFit s) where
       quiet_next q =
           let g = q.grows in
           let no_draw : (j : ℕ) (n : Name) (ink : ℕ) → ¬ Draws j n ink d.row = λ j n ink h.
-          (let b : r.answer.body ≡ Some (Drawop n ink) = (sent_is h.packet h.sends).0 ∙ ap Some h.carries in subst (Allowed mem) b q.body) in
+          (let b : r.answer.body ≡ Some (Drawop n ink) = (sent_is h.packet h.sends).0 ∙ ap Some h.carries in subst (Allowed mem) b q.body)
+              in
           let no_fresh : (n : Name) → ¬ Now Fresh m n = λ n h. q.not_fresh (sym a.told ∙ h.told_so) in
           let no_fixed : (n : Name) → ¬ Now Fixed m n = λ n h. q.not_fixed (sym a.told ∙ h.told_so) in
-          let not_told : (n : Name) → ¬ ToldOf Fixed m n trace → ¬ ToldOf Fixed m n rows = λ n none f. (elim (told_cases Fixed m n f) [ inl x ↦ none x | inr x ↦ no_fixed n x ]) in
+          let not_told : (n : Name) → ¬ ToldOf Fixed m n trace → ¬ ToldOf Fixed m n rows =
+              λ n none f. (elim (told_cases Fixed m n f) [ inl x ↦ none x | inr x ↦ no_fixed n x ]) in
           record {
             knows = known (record {
               member = ap (λ (f : FixedPart). f.member) g.fixed ∙ k.member;
               keeps = record {
-                held_is = λ n ink f. (let h = k.keeps.held_is n ink (ap (find name_cmp n) (sym g.held) ∙ f) in (got_more m n h.0, drew_more n.source n ink h.1));
+                held_is = λ n ink f. (let h = k.keeps.held_is n ink (ap (find name_cmp n) (sym g.held) ∙ f) in
+                    (got_more m n h.0, drew_more n.source n ink h.1));
                 got = λ n h. subst (Has n) (sym g.held) (elim (got_cases m n h) [
                   | inl x ↦ k.keeps.got n x
                   | inr x ↦ absurd (elim x [ inl y ↦ no_draw m n y.0 y.1 | inr y ↦ elim y [ inl z ↦ no_fresh n z | inr z ↦ no_fixed n z ] ])
@@ -370,9 +391,11 @@ module _ (s : Setting) (fit : IsFit s) where
             answers = λ p n ink h b. (let l = repaired p n ink h b in (subst (λ j. Got j n trace) (sym (sent_is p h).1) l.0, l.1));
           }
         where
-          repaired : (p : Packet) (n : Name) (ink : ℕ) → d.row.sent ≡ Some p → p.body ≡ Repair n ink → Got m n trace × Drew n.source n ink trace
+          repaired : (p : Packet) (n : Name) (ink : ℕ) → d.row.sent ≡ Some p → p.body ≡ Repair n ink → Got m n trace
+              × Drew n.source n ink trace
           repaired p n ink h b =
-              let allowed : Has n mem.repairs × (ink ≡ unwrap_or (find name_cmp n mem.held) 0) = subst (Allowed mem) ((sent_is p h).0 ∙ ap Some b) q.body in
+              let allowed : Has n mem.repairs × (ink ≡ unwrap_or (find name_cmp n mem.held) 0) =
+                  subst (Allowed mem) ((sent_is p h).0 ∙ ap Some b) q.body in
               let has = has_some n mem.held (k.plans n allowed.0) in
               let same : ink ≡ has.0 = allowed.1 ∙ ap (λ o. unwrap_or o 0) has.1 in
               k.keeps.held_is n ink (has.1 ∙ ap Some (sym same))
@@ -387,20 +410,27 @@ module _ (s : Setting) (fit : IsFit s) where
           let silent : (x : Packet) → d.row.sent ≡ Some x → ⊥ = sends_none e d r.answer.body b.body a.sends in
           let no_draw : (j : ℕ) (n : Name) (ink : ℕ) → ¬ Draws j n ink d.row = λ j n ink h. silent h.packet h.sends in
           let held : r.memory.held ≡ put name_cmp n0 b.ink mem.held = b.held ∙ ap (put name_cmp n0 b.ink) g.held in
-          let here : (t : Told) → d.row.told ≡ t → Now t m n0 = λ t h. record { member = row_member; told_so = h; packet = p; about = about; sent = sent; carries = carries_it p.body n0 b.ink b.brings } in
+          let here : (t : Told) → d.row.told ≡ t → Now t m n0 = λ t h. record
+              { member = row_member; told_so = h; packet = p; about = about; sent = sent; carries = carries_it p.body n0 b.ink b.brings } in
           let drawn : Drew n0.source n0 b.ink trace = was.inks p n0 b.ink sent b.brings in
-          let only : (t : Told) (n : Name) → Now t m n → n0 ≡ n = λ t n h. (let same : h.packet ≡ p = same_of h.packet p (sym h.about ∙ about) in
+          let only : (t : Told) (n : Name) → Now t m n → n0 ≡ n = λ t n h.
+              (let same : h.packet ≡ p = same_of h.packet p (sym h.about ∙ about) in
           carries_one p.body n0 n b.ink b.brings (subst (λ (x : Packet). Carries n x.body) same h.carries)) in
           let got_it : Got m n0 rows = (elim b.mends [
             | inl h ↦ inr (inl (told_now Fresh m n0 (here Fresh (a.told ∙ h.0))))
             | inr h ↦ inr (inr (told_now Fixed m n0 (here Fixed (a.told ∙ h.0))))
           ]) in
-          let has_it : (n : Name) → n0 ≡ n → Has n r.memory.held = λ n q. subst (Has n) (sym held) (subst (λ x. Has x (put name_cmp n0 b.ink mem.held)) q (has_put n0 b.ink mem.held)) in
-          let still : (n : Name) → Has n mem.held → Has n r.memory.held = λ n h. subst (Has n) (sym held) (has_more n n0 b.ink mem.held h) in
-          let held_is : (n : Name) (ink : ℕ) → find name_cmp n r.memory.held ≡ Some ink → Got m n rows × Drew n.source n ink rows = λ n ink f. (elim (names_apart n n0) [
+          let has_it : (n : Name) → n0 ≡ n → Has n r.memory.held = λ n q. subst (Has n) (sym held)
+              (subst (λ x. Has x (put name_cmp n0 b.ink mem.held)) q (has_put n0 b.ink mem.held)) in
+          let still : (n : Name) → Has n mem.held → Has n r.memory.held =
+              λ n h. subst (Has n) (sym held) (has_more n n0 b.ink mem.held h) in
+          let held_is : (n : Name) (ink : ℕ) → find name_cmp n r.memory.held ≡ Some ink → Got m n rows
+              × Drew n.source n ink rows = λ n ink f. (elim (names_apart n n0) [
             | inl q ↦
-                let ink_is : b.ink ≡ ink = same_some _ _ (sym (put_here n0 b.ink mem.held) ∙ ap (λ x. find name_cmp x (put name_cmp n0 b.ink mem.held)) (sym q) ∙ ap (find name_cmp n) (sym held) ∙ f) in
-                subst (λ x. Got m x rows × Drew x.source x ink rows) (sym q) (got_it, subst (λ i. Drew n0.source n0 i rows) ink_is (drew_more n0.source n0 b.ink drawn))
+                let ink_is : b.ink ≡ ink = same_some _ _ (sym (put_here n0 b.ink mem.held)
+                    ∙ ap (λ x. find name_cmp x (put name_cmp n0 b.ink mem.held)) (sym q) ∙ ap (find name_cmp n) (sym held) ∙ f) in
+                subst (λ x. Got m x rows × Drew x.source x ink rows) (sym q)
+                    (got_it, subst (λ i. Drew n0.source n0 i rows) ink_is (drew_more n0.source n0 b.ink drawn))
             | inr ne ↦
                 let h = k.keeps.held_is n ink (sym (put_there n n0 b.ink mem.held ne) ∙ ap (find name_cmp n) (sym held) ∙ f) in
                 (got_more m n h.0, drew_more n.source n ink h.1)
@@ -419,7 +449,8 @@ module _ (s : Setting) (fit : IsFit s) where
                 held_is = held_is;
                 got = got;
                 lacks = λ n h. elim b.mends [
-                  | inl x ↦ (let l = lost_by b.mid g n (subst (Has n) x.1 h) in (l.0, (λ f. elim (told_cases Fixed m n f) [ inl y ↦ l.1 y | inr y ↦ absurd (not_both (a.told ∙ x.0) y.told_so) ])))
+                  | inl x ↦ (let l = lost_by b.mid g n (subst (Has n) x.1 h) in
+                      (l.0, (λ f. elim (told_cases Fixed m n f) [ inl y ↦ l.1 y | inr y ↦ absurd (not_both (a.told ∙ x.0) y.told_so) ])))
                   | inr x ↦ (let w = without_less n n0 b.mid.missing (subst (Has n) x.2 h) in
                       let l = lost_by b.mid g n w.1 in
                       (l.0, (λ f. elim (told_cases Fixed m n f) [ inl y ↦ l.1 y | inr y ↦ w.0 (sym (only Fixed n y)) ])))
@@ -427,16 +458,19 @@ module _ (s : Setting) (fit : IsFit s) where
                 lost = λ n h. (let l = missing_by b.mid g n h.0 (λ f. h.1 (told_more Fixed m n f)) in elim b.mends [
                   | inl x ↦ subst (Has n) (sym x.1) l
                   | inr x ↦
-                      let ne : n ≢ n0 = λ q. h.1 (subst (λ y. ToldOf Fixed m y rows) (sym q) (told_now Fixed m n0 (here Fixed (a.told ∙ x.0)))) in
+                      let ne : n ≢ n0 = λ q. h.1 (subst (λ y. ToldOf Fixed m y rows) (sym q)
+                          (told_now Fixed m n0 (here Fixed (a.told ∙ x.0)))) in
                       subst (Has n) (sym x.2) (ap is_some (without_there n n0 b.mid.missing ne) ∙ l)
                 ]);
                 held_sorted = subst (λ es. T (is_sorted name_cmp es)) (sym held) (sorted_put n0 b.ink mem.held k.keeps.held_sorted);
                 missing_sorted = elim b.mends [
                   | inl x ↦ subst (λ es. T (is_sorted name_cmp es)) (sym x.1) (g.sorted k.keeps.missing_sorted)
-                  | inr x ↦ subst (λ es. T (is_sorted name_cmp es)) (sym x.2) (sorted_without n0 b.mid.missing (g.sorted k.keeps.missing_sorted))
+                  | inr x ↦ subst (λ es. T (is_sorted name_cmp es)) (sym x.2)
+                      (sorted_without n0 b.mid.missing (g.sorted k.keeps.missing_sorted))
                 ];
               };
-              drew = λ n ink h. elim (drew_cases m n ink h) [ inl x ↦ b.below n (g.below n (k.drew n ink x)) | inr x ↦ absurd (no_draw m n ink x) ];
+              drew = λ n ink h. elim (drew_cases m n ink h)
+                  [ inl x ↦ b.below n (g.below n (k.drew n ink x)) | inr x ↦ absurd (no_draw m n ink x) ];
               lost = λ n h. b.below n (heard_by b.mid g n h);
               fixed = λ n h. b.below n (elim (told_cases Fixed m n h) [
                 | inl x ↦ g.below n (k.fixed n x)
@@ -502,20 +536,25 @@ module _ (s : Setting) (fit : IsFit s) where
           let no_fresh : (n : Name) → ¬ Now Fresh m n = no_told Fresh (λ q. cc) in
           let no_fixed : (n : Name) → ¬ Now Fixed m n = no_told Fixed (λ q. cc) in
           let no_loss : (n : Name) → ¬ LosesNow m n = λ n h. contains_none n (subst (λ ns. Contains ns n) b.lost (loses n h)) in
-          let still : (n : Name) → Has n mem.held → Has n r.memory.held = λ n h. subst (Has n) (sym b.held) (has_more n n0 b.ink mem.held h) in
+          let still : (n : Name) → Has n mem.held → Has n r.memory.held =
+              λ n h. subst (Has n) (sym b.held) (has_more n n0 b.ink mem.held h) in
           -- it was not drawn before
           let never : (n : Name) (i : ℕ) → n ≡ n0 → ¬ Drew n.source n i trace = λ n i q h.
           (let x : Drew n0.source n0 i trace = subst (λ y. Drew y.source y i trace) q h in
           b.new (k.drew n0 i (subst (λ j. Drew j n0 i trace) own x))) in
-          let held_is : (n : Name) (i : ℕ) → find name_cmp n r.memory.held ≡ Some i → Got m n rows × Drew n.source n i rows = λ n i f. (elim (names_apart n n0) [
+          let held_is : (n : Name) (i : ℕ) → find name_cmp n r.memory.held
+              ≡ Some i → Got m n rows × Drew n.source n i rows = λ n i f. (elim (names_apart n n0) [
             | inl q ↦
-                let ink_is : b.ink ≡ i = same_some _ _ (sym (put_here n0 b.ink mem.held) ∙ ap (λ x. find name_cmp x (put name_cmp n0 b.ink mem.held)) (sym q) ∙ ap (find name_cmp n) (sym b.held) ∙ f) in
-                subst (λ x. Got m x rows × Drew x.source x i rows) (sym q) (inl (b.ink, drew_now m n0 b.ink here), subst (λ y. Drew n0.source n0 y rows) ink_is drawn)
+                let ink_is : b.ink ≡ i = same_some _ _ (sym (put_here n0 b.ink mem.held)
+                    ∙ ap (λ x. find name_cmp x (put name_cmp n0 b.ink mem.held)) (sym q) ∙ ap (find name_cmp n) (sym b.held) ∙ f) in
+                subst (λ x. Got m x rows × Drew x.source x i rows) (sym q)
+                    (inl (b.ink, drew_now m n0 b.ink here), subst (λ y. Drew n0.source n0 y rows) ink_is drawn)
             | inr ne ↦
                 let h = k.keeps.held_is n i (sym (put_there n n0 b.ink mem.held ne) ∙ ap (find name_cmp n) (sym b.held) ∙ f) in
                 (got_more m n h.0, drew_more n.source n i h.1)
           ]) in
-          let has_it : (n : Name) → n ≡ n0 → Has n r.memory.held = λ n q. subst (Has n) (sym b.held) (subst (λ x. Has x (put name_cmp n0 b.ink mem.held)) (sym q) (has_put n0 b.ink mem.held)) in
+          let has_it : (n : Name) → n ≡ n0 → Has n r.memory.held = λ n q. subst (Has n) (sym b.held)
+              (subst (λ x. Has x (put name_cmp n0 b.ink mem.held)) (sym q) (has_put n0 b.ink mem.held)) in
           record {
             knows = known (record {
               member = ap (λ (f : FixedPart). f.member) b.fixed ∙ k.member;
@@ -523,21 +562,27 @@ module _ (s : Setting) (fit : IsFit s) where
                 held_is = held_is;
                 got = λ n h. elim (got_cases m n h) [
                   | inl x ↦ still n (k.keeps.got n x)
-                  | inr x ↦ elim x [ inl y ↦ has_it n (only m n y.0 y.1).0 | inr y ↦ absurd (elim y [ inl z ↦ no_fresh n z | inr z ↦ no_fixed n z ]) ]
+                  | inr x ↦ elim x [ inl y ↦ has_it n (only m n y.0 y.1).0 | inr y ↦
+                      absurd (elim y [ inl z ↦ no_fresh n z | inr z ↦ no_fixed n z ]) ]
                 ];
-                lacks = λ n h. (let l = k.keeps.lacks n (subst (Has n) b.missing h) in (lost_more m n l.0, (λ f. elim (told_cases Fixed m n f) [ inl y ↦ l.1 y | inr y ↦ no_fixed n y ])));
-                lost = λ n h. subst (Has n) (sym b.missing) (k.keeps.lost n (elim (lost_cases m n h.0) [ inl x ↦ x | inr x ↦ absurd (no_loss n x) ], (λ f. h.1 (told_more Fixed m n f))));
+                lacks = λ n h. (let l = k.keeps.lacks n (subst (Has n) b.missing h) in
+                    (lost_more m n l.0, (λ f. elim (told_cases Fixed m n f) [ inl y ↦ l.1 y | inr y ↦ no_fixed n y ])));
+                lost = λ n h. subst (Has n) (sym b.missing)
+                    (k.keeps.lost n (elim (lost_cases m n h.0) [ inl x ↦ x | inr x ↦ absurd (no_loss n x) ],
+                    (λ f. h.1 (told_more Fixed m n f))));
                 held_sorted = subst (λ es. T (is_sorted name_cmp es)) (sym b.held) (sorted_put n0 b.ink mem.held k.keeps.held_sorted);
                 missing_sorted = subst (λ es. T (is_sorted name_cmp es)) (sym b.missing) k.keeps.missing_sorted;
               };
-              drew = λ n i h. elim (drew_cases m n i h) [ inl x ↦ b.below n (k.drew n i x) | inr x ↦ subst (λ y. Below y r.memory) (sym (only m n i x).0) b.heard ];
+              drew = λ n i h. elim (drew_cases m n i h) [ inl x ↦ b.below n (k.drew n i x) | inr x ↦
+                  subst (λ y. Below y r.memory) (sym (only m n i x).0) b.heard ];
               lost = λ n h. elim (lost_cases m n h) [ inl x ↦ b.below n (k.lost n x) | inr x ↦ absurd (no_loss n x) ];
               fixed = λ n h. elim (told_cases Fixed m n h) [ inl x ↦ b.below n (k.fixed n x) | inr x ↦ absurd (no_fixed n x) ];
               plans = λ n h. still n (k.plans n (subst (Has n) b.repairs h));
             });
             source = λ j n i h. ap (λ (x : Name). x.source) (only j n i h).0 ∙ own ∙ sym row_member ∙ h.member;
             one = λ n x y h q. elim (drew_cases n.source n x h) [
-              | inl old ↦ elim (drew_cases n.source n y q) [ inl old2 ↦ was.one n x y old old2 | inr new ↦ absurd (never n x (only n.source n y new).0 old) ]
+              | inl old ↦ elim (drew_cases n.source n y q)
+                  [ inl old2 ↦ was.one n x y old old2 | inr new ↦ absurd (never n x (only n.source n y new).0 old) ]
               | inr new ↦ elim (drew_cases n.source n y q) [
                 | inl old ↦ absurd (never n y (only n.source n x new).0 old)
                 | inr new2 ↦ (only n.source n x new).1 ∙ sym (only n.source n y new2).1
@@ -578,13 +623,15 @@ module _ (s : Setting) (fit : IsFit s) where
       knows = each_after s (λ j c. CellKnows rows j c.holds c.exit) cs m d facts.cell facts.here next.knows knows_told;
       source = λ j n ink h. elim (drew_cases j n ink h) [ inl x ↦ was.source j n ink x | inr x ↦ next.source j n ink x ];
       one = next.one;
-      inks = λ p n ink h b. elim (sent_cases p trace d.row h) [ inl x ↦ drew_more n.source n ink (was.inks p n ink x b) | inr x ↦ next.inks p n ink x b ];
+      inks = λ p n ink h b. elim (sent_cases p trace d.row h)
+          [ inl x ↦ drew_more n.source n ink (was.inks p n ink x b) | inr x ↦ next.inks p n ink x b ];
       asks = λ first last r p n split q h. elim (split_cases trace d.row first r last split) [
         | inl x ↦ subst (λ l. Lacks p.id.sender n l) (sym x.1) (next.asks p n (ap (λ (y : Row). y.sent) x.0 ∙ q) h)
         | inr x ↦ was.asks first x.0 r p n x.1 q h
       ];
       answers = λ first last r p n ink split q h. elim (split_cases trace d.row first r last split) [
-        | inl x ↦ subst (λ l. Got p.id.sender n l × Drew n.source n ink l) (sym x.1) (next.answers p n ink (ap (λ (y : Row). y.sent) x.0 ∙ q) h)
+        | inl x ↦ subst (λ l. Got p.id.sender n l × Drew n.source n ink l)
+            (sym x.1) (next.answers p n ink (ap (λ (y : Row). y.sent) x.0 ∙ q) h)
         | inr x ↦ was.answers first x.0 r p n ink x.1 q h
       ];
     }
@@ -605,7 +652,8 @@ module _ (s : Setting) (fit : IsFit s) where
     member = fit.numbers j lt;
     keeps = record {
       held_is = λ n ink h. cc;
-      got = λ n h. absurd (elim h [ inl x ↦ none_drew j n x.0 x.1 | inr x ↦ elim x [ inl y ↦ none_told Fresh j n y | inr y ↦ none_told Fixed j n y ] ]);
+      got = λ n h. absurd (elim h [ inl x ↦ none_drew j n x.0 x.1 | inr x ↦
+          elim x [ inl y ↦ none_told Fresh j n y | inr y ↦ none_told Fixed j n y ] ]);
       lacks = λ n h. cc;
       lost = λ n h. absurd (none_lost_yet j n h.0);
       held_sorted = tt;
@@ -617,12 +665,14 @@ module _ (s : Setting) (fit : IsFit s) where
     plans = λ n h. cc;
   }
 
-  opening_knows : (n i : ℕ) → i + n ≡ s.traffic.members → (j : ℕ) (c : PlainCell) → slice_get (opening_cells s n i) j ≡ Some c → CellKnows [] (i + j) c.holds c.exit
+  opening_knows : (n i : ℕ) → i + n ≡ s.traffic.members → (j : ℕ) (c : PlainCell) → slice_get (opening_cells s n i) j ≡ Some c
+      → CellKnows [] (i + j) c.holds c.exit
   unfolding opening_cells
   opening_knows zero i e j c h = cc
   opening_knows (suc n) i e zero c h =
       let here : i + 0 ≡ i = omega arith in
-      subst (λ (x : PlainCell). CellKnows [] (i + 0) x.holds x.exit) (same_some _ _ h) (subst (λ x. CellKnows [] x (opening_cell s i).holds (opening_cell s i).exit) (sym here) (knows_nothing i (omega arith)))
+      subst (λ (x : PlainCell). CellKnows [] (i + 0) x.holds x.exit) (same_some _ _ h)
+          (subst (λ x. CellKnows [] x (opening_cell s i).holds (opening_cell s i).exit) (sym here) (knows_nothing i (omega arith)))
   opening_knows (suc n) i e (suc j) c h =
       let there : suc i + j ≡ i + suc j = omega arith in
       subst (λ x. CellKnows [] x c.holds c.exit) there (opening_knows n (suc i) (omega arith) j c h)
@@ -631,7 +681,8 @@ module _ (s : Setting) (fit : IsFit s) where
   unfolding opening
   names_opening = record {
     handed = handed_opening s;
-    knows = λ j c h. (let same : 0 + j ≡ j = omega arith in subst (λ x. CellKnows [] x c.holds c.exit) same (opening_knows s.traffic.members 0 (omega arith) j c h));
+    knows = λ j c h. (let same : 0 + j ≡ j = omega arith in subst (λ x. CellKnows [] x c.holds c.exit) same
+        (opening_knows s.traffic.members 0 (omega arith) j c h));
     source = λ j n ink h. absurd (none_drew j n ink h);
     one = λ n a b h g. absurd (none_drew n.source n a h);
     inks = λ p n ink h b. absurd (contains_none h.0 h.1);
@@ -640,11 +691,13 @@ module _ (s : Setting) (fit : IsFit s) where
   }
 
   pub names_reached : (w : World) → IsReached s w → Names w.cells w.trace
-  names_reached w h = run_keeps s (λ v. Names v.cells v.trace) (λ v e d steps g. names_step v.cells v.trace e d g steps) h.0 (opening s) w names_opening h.1
+  names_reached w h = run_keeps s (λ v. Names v.cells v.trace) (λ v e d steps g. names_step v.cells v.trace e d g steps) h.0
+      (opening s) w names_opening h.1
 
   -- ---- exits
 
-  ends_by : (w : World) → Names w.cells w.trace → (j : ℕ) (m : Memory) → m.fixed.member ≡ j → Keeps w.trace j m.held m.missing → EndsWith w.trace j (exit_of m)
+  ends_by : (w : World) → Names w.cells w.trace → (j : ℕ) (m : Memory) → m.fixed.member ≡ j → Keeps w.trace j m.held m.missing
+      → EndsWith w.trace j (exit_of m)
   ends_by w names j m member k = record {
     member = member;
     held = λ n ink. (
@@ -660,13 +713,15 @@ module _ (s : Setting) (fit : IsFit s) where
     missing_rise = ascend m.missing k.missing_sorted;
   }
 
-  ends : (w : World) → Names w.cells w.trace → (j : ℕ) (holds : Record) (exit : Option Exit) → CellKnows w.trace j holds exit → EndsWith w.trace j (exit_at holds exit)
+  ends : (w : World) → Names w.cells w.trace → (j : ℕ) (holds : Record) (exit : Option Exit) → CellKnows w.trace j holds exit
+      → EndsWith w.trace j (exit_at holds exit)
   ends w names j (Active m) None h = ends_by w names j m h.member h.keeps
   ends w names j (Active m) (Some x) h = absurd h
   ends w names j (Gone f) None h = absurd h
   ends w names j (Gone f) (Some x) h = subst (EndsWith w.trace j) (sym h.1) (ends_by w names j h.0 h.2 h.3)
 
-get_map : {A B : Type 0} (f : A → B) (xs : List A) (j : ℕ) (y : B) → slice_get (map f xs) j ≡ Some y → (x : A) × (slice_get xs j ≡ Some x) × (f x ≡ y)
+get_map : {A B : Type 0} (f : A → B) (xs : List A) (j : ℕ) (y : B) → slice_get (map f xs) j ≡ Some y → (x : A) × (slice_get xs j ≡ Some x)
+    × (f x ≡ y)
 get_map f [] j y h = cc
 get_map f (x ∷ xs) zero y h = (x, refl, same_some _ _ h)
 get_map f (x ∷ xs) (suc j) y h = get_map f xs j y h
@@ -688,4 +743,5 @@ pub requests_are_for_losses : RequestsAreForLosses
 requests_are_for_losses s w fit reached before after r p n split q h = (names_reached s fit w reached).asks before after r p n split q h
 
 pub repairs_are_of_held : RepairsAreOfHeld
-repairs_are_of_held s w fit reached before after r p n ink split q h = (names_reached s fit w reached).answers before after r p n ink split q h
+repairs_are_of_held s w fit reached before after r p n ink split q h =
+    (names_reached s fit w reached).answers before after r p n ink split q h

@@ -1,5 +1,6 @@
 -- A packet that a step sends is new to every cell.
-use Rattle.std.proofs.Common.{◌≡◌, ◌≢◌, ℕ, ◌<◌, true, false, List, [], ◌∷◌, Option, Some, refl, sym, ap, ◌∙◌, subst, slice_get, slice_set, ◌==◌, eqb-true, arith}
+use Rattle.std.proofs.Common.{◌≡◌, ◌≢◌, ℕ, ◌<◌, true, false, List, [], ◌∷◌, Option, Some, refl, sym, ap, ◌∙◌, subst, slice_get, slice_set,
+    ◌==◌, eqb-true, arith}
 use Rattle.std.proofs.lemmas.Bool.{eqb-false}
 use Rattle.srm_net.specs.declared.packet.Packet.{Packet}
 use Rattle.srm_net.specs.declared.packet.PacketId.{PacketId}
@@ -38,12 +39,14 @@ count_of b a o p e h = (subst (λ x. CountAfter b x a) e h).0
 module _ (s : Setting) (fit : IsFit s) where
   strict_seq : (end : ℕ) {cs ds : List PlainCell} {rows : List _} → Seq s end cs rows ds → Good s fit cs → Strict s fit cs → Strict s fit ds
   strict_seq end rest good strict = strict
-  strict_seq end (next {cs = cs} {e = e} {d = d} h x more) good strict = strict_seq end more (good_step s fit end cs e d good h x) (strict_step s fit end cs e d good strict h x)
+  strict_seq end (next {cs = cs} {e = e} {d = d} h x more) good strict =
+      strict_seq end more (good_step s fit end cs e d good h x) (strict_step s fit end cs e d good strict h x)
 
   pub strict_reached : (n : ℕ) (w : World) → run s n (opening s) ≡ Done w → Strict s fit w.cells
   strict_reached n w h = strict_seq s.traffic.until (run_seq s fit n (opening s) w h).1 (good_opening s fit) (strict_opening s fit)
 
-  module _ (end : ℕ) (cs : List PlainCell) (e : Event) (d : Stepped) (good : Good s fit cs) (strict : Strict s fit cs) (h : before end (least_event 0 cs) ≡ Some e) (x : step_at (Some e) ≡ Done d) where
+  module _ (end : ℕ) (cs : List PlainCell) (e : Event) (d : Stepped) (good : Good s fit cs) (strict : Strict s fit cs)
+      (h : before end (least_event 0 cs) ≡ Some e) (x : step_at (Some e) ≡ Done d) where
     pub is_new : (p : Packet) → d.row.sent ≡ Some p → IsNew p.id (slice_set cs e.key.member d.cell)
     is_new p sent j q g =
         let m = e.key.member in
@@ -51,11 +54,13 @@ module _ (s : Setting) (fit : IsFit s) where
         let did = subst (OnStep (StepOf e)) x (step_is_of e) in
         let of = subst (OnEvent (RestOf f.cell)) f.event (before_on (RestOf f.cell) end (next_event m f.cell) (next_rest m f.cell)) in
         let sender = sender_of m d.row.sent p sent f.sender in
-        let now : p.id.count ≡ sent_of cs p.id.sender = count_of e.rest.sent d.cell.sent d.row.sent p sent did.count ∙ sym (sent_here s fit end cs e d good strict h x) ∙ ap (sent_of cs) (sym sender) in
+        let now : p.id.count ≡ sent_of cs p.id.sender = count_of e.rest.sent d.cell.sent d.row.sent p sent did.count
+            ∙ sym (sent_here s fit end cs e d good strict h x) ∙ ap (sent_of cs) (sym sender) in
         elim (m == j) as (λ b. (m == j) ≡ b → BringsNone p.id q.inbox) [
           | true ↦ λ r.
               let here : m ≡ j = eqb-true m j r in
-              let is : d.cell ≡ q = same_some d.cell q (sym (get_set_same cs m d.cell (get_below cs m f.cell f.here)) ∙ ap (slice_get (slice_set cs m d.cell)) here ∙ g) in
+              let is : d.cell ≡ q = same_some d.cell q (sym (get_set_same cs m d.cell (get_below cs m f.cell f.here))
+                  ∙ ap (slice_get (slice_set cs m d.cell)) here ∙ g) in
               subst (λ (c : PlainCell). BringsNone p.id c.inbox) is (apart cs p.id d.cell.inbox now
               (subst (WereSent cs) (sym did.inbox) (all_tail _ _ _ of.inbox (strict.fresh m f.cell f.here))))
           | false ↦ λ r.

@@ -1,5 +1,7 @@
 -- One step of the sequential run: the event that it takes, the cell from which, the row, and the cells after it.
-use Rattle.std.proofs.Common.{◌≡◌, ℕ, zero, suc, ◌<◌, ◌≤◌, ◌+◌, ◌^◌, Bool, true, false, cond, not, ◌&&◌, List, [], ◌∷◌, ◌++◌, length, refl, sym, ap, ◌∙◌, subst, ◌≢◌, ◌⊎◌, inl, inr, arith, Option, Some, None, option_map, nat_lt, nat_le, slice_get, ltb-true, eqb-true, eq-eqb, ◌==◌, zero-add, le_refl}
+use Rattle.std.proofs.Common.{◌≡◌, ℕ, zero, suc, ◌<◌, ◌≤◌, ◌+◌, ◌^◌, Bool, true, false, cond, not, ◌&&◌, List, [], ◌∷◌, ◌++◌, length, refl,
+    sym, ap, ◌∙◌, subst, ◌≢◌, ◌⊎◌, inl, inr, arith, Option, Some, None, option_map, nat_lt, nat_le, slice_get, ltb-true, eqb-true, eq-eqb,
+    ◌==◌, zero-add, le_refl}
 use Rattle.std.proofs.lemmas.Bool.{eqb-false}
 use Rattle.srm_net.specs.declared.packet.Name.{Name}
 use Rattle.srm_net.specs.declared.packet.Body.{Body}
@@ -13,7 +15,8 @@ use Rattle.srm_member.specs.React.{Reaction, react}
 use Rattle.srm_cell.specs.declared.flight.Flight.{Flight}
 use Rattle.srm_scenario.specs.Presence.{is_up_to}
 use Rattle.srm_cell.specs.Setting.{Setting, arrival_of, cause_of_mark}
-use Rattle.srm_cell.specs.Cells.{PlainCell, Event, first_arrival, first_mark, next_timer, next_event, before, StepOutcome, Idle, Full, Spent, Done, Stepped, word_of, about_of, row_of, packet_of, sending_step, parting, handle, step_at}
+use Rattle.srm_cell.specs.Cells.{PlainCell, Event, first_arrival, first_mark, next_timer, next_event, before, StepOutcome, Idle, Full,
+    Spent, Done, Stepped, word_of, about_of, row_of, packet_of, sending_step, parting, handle, step_at}
 use Rattle.srm_cell.specs.OwnRuns.{told_to}
 use Rattle.srm_cell.proofs.Rising.{OnEvent, earlier_on, before_on, OnStep}
 use Rattle.srm_cell.proofs.CellSteps.{some_not_idle}
@@ -46,7 +49,8 @@ pub record IsPending (m : ℕ) (c : PlainCell) (e : Event) : Type 0 where
 
 arrival_pends : (m : ℕ) (c : PlainCell) (fs : List Flight) → c.inbox ≡ fs → OnEvent (IsPending m c) (first_arrival m c fs)
 arrival_pends m c [] h = tt
-arrival_pends m c (f ∷ fs) h = record { member = refl; holds = refl; sent = refl; exit = refl; takes = inl (record { flight = f; inbox = h; cause = refl; time = refl }) }
+arrival_pends m c (f ∷ fs) h = record { member = refl; holds = refl; sent = refl; exit = refl; takes =
+    inl (record { flight = f; inbox = h; cause = refl; time = refl }) }
 
 none_none : (x : Option Cause) → NoArrival x → (b : Bool) (y : Option Cause) → NoArrival y → NoArrival (cond b x y)
 none_none x h true y g = h
@@ -67,12 +71,14 @@ timer_no_arrival false n p h = cc
 
 timer_pends : (m : ℕ) (c : PlainCell) (d : Option Due) → OnEvent (IsPending m c) (next_timer m c d)
 timer_pends m c None = tt
-timer_pends m c (Some d) = record { member = refl; holds = refl; sent = refl; exit = refl; takes = inr (refl, timer_no_arrival (d.rank == 2) d.name) }
+timer_pends m c (Some d) = record { member = refl; holds = refl; sent = refl; exit = refl; takes =
+    inr (refl, timer_no_arrival (d.rank == 2) d.name) }
 
 next_pends : (m : ℕ) (c : PlainCell) → OnEvent (IsPending m c) (next_event m c)
 unfolding next_event
 next_pends m c = earlier_on (IsPending m c) (first_arrival m c c.inbox) _ (arrival_pends m c c.inbox refl)
-    (earlier_on (IsPending m c) (first_mark m c c.script) (next_timer m c (due_of c.holds)) (mark_pends m c c.script) (timer_pends m c (due_of c.holds)))
+    (earlier_on (IsPending m c) (first_mark m c c.script) (next_timer m c (due_of c.holds)) (mark_pends m c c.script)
+        (timer_pends m c (due_of c.holds)))
 
 -- ---- what a step does
 
@@ -116,7 +122,8 @@ on_full : (Q : Stepped → Type 0) (b : Bool) (x : Stepped) → Q x → OnStep Q
 on_full Q true x h = h
 on_full Q false x h = tt
 
-does_sending : (e : Event) (memory : Memory) (cause : Cause) (r : Reaction) (body : Option Body) → r ≡ react memory e.key.time cause → r.answer.body ≡ body → e.rest.holds ≡ Active memory → e.cause ≡ Some cause → OnStep (Does e) (sending_step e r body)
+does_sending : (e : Event) (memory : Memory) (cause : Cause) (r : Reaction) (body : Option Body) → r ≡ react memory e.key.time cause
+    → r.answer.body ≡ body → e.rest.holds ≡ Active memory → e.cause ≡ Some cause → OnStep (Does e) (sending_step e r body)
 does_sending e memory cause r None same none h c = record {
   key = refl;
   cause = refl;
@@ -131,7 +138,8 @@ does_sending e memory cause r None same none h c = record {
     told = ap (λ (x : Reaction). x.answer.told) same;
     lost = ap (λ (x : Reaction). x.answer.lost) same;
     about = ap (λ k. about_of k r.answer.body) c ∙ ap (λ (x : Reaction). about_of (Some cause) x.answer.body) same;
-    sends = subst (λ b. Sends e b (record { cell = record e.rest { holds = Active r.memory }; row = row_of e r.answer None })) (sym none ∙ ap (λ (x : Reaction). x.answer.body) same) (refl, refl);
+    sends = subst (λ b. Sends e b (record { cell = record e.rest { holds = Active r.memory }; row = row_of e r.answer None }))
+        (sym none ∙ ap (λ (x : Reaction). x.answer.body) same) (refl, refl);
   });
 }
 does_sending e memory cause r (Some body) same some h c = on_full (Does e) (nat_lt e.rest.sent (2 ^ 48)) _ (record {
@@ -148,12 +156,14 @@ does_sending e memory cause r (Some body) same some h c = on_full (Does e) (nat_
     told = ap (λ (x : Reaction). x.answer.told) same;
     lost = ap (λ (x : Reaction). x.answer.lost) same;
     about = ap (λ k. about_of k r.answer.body) c ∙ ap (λ (x : Reaction). about_of (Some cause) x.answer.body) same;
-    sends = subst (λ b. Sends e b (record { cell = record e.rest { holds = Active r.memory; sent = e.rest.sent + 1 }; row = row_of e r.answer (Some (packet_of e body)) }))
+    sends = subst (λ b. Sends e b (record { cell = record e.rest { holds = Active r.memory; sent = e.rest.sent + 1 }; row =
+        row_of e r.answer (Some (packet_of e body)) }))
         (sym some ∙ ap (λ (x : Reaction). x.answer.body) same) (refl, omega arith);
   });
 })
 
-does_handle : (e : Event) (holds : Record) (cause : Option Cause) → e.rest.holds ≡ holds → e.cause ≡ cause → OnStep (Does e) (handle e holds cause)
+does_handle : (e : Event) (holds : Record) (cause : Option Cause) → e.rest.holds ≡ holds → e.cause ≡ cause
+    → OnStep (Does e) (handle e holds cause)
 unfolding handle
 does_handle e (Active m) (Some cause) h c = let r = react m e.key.time cause in does_sending e m cause r r.answer.body refl refl h c
 does_handle e (Active m) None h c = record {
@@ -194,7 +204,8 @@ pub step_facts : (until : ℕ) (cs : List PlainCell) (e : Event) (d : Stepped) �
 step_facts until cs e d h =
     let r = least_from until 0 cs e h.least in
     let at_j : before until (next_event r.0 r.1) ≡ Some e = rw zero-add at r.3 in
-    let pends : IsPending r.0 r.1 e = subst (OnEvent (IsPending r.0 r.1)) at_j (before_on (IsPending r.0 r.1) until (next_event r.0 r.1) (next_pends r.0 r.1)) in
+    let pends : IsPending r.0 r.1 e = subst (OnEvent (IsPending r.0 r.1))
+        at_j (before_on (IsPending r.0 r.1) until (next_event r.0 r.1) (next_pends r.0 r.1)) in
     record {
       cell = r.1;
       here = ap (slice_get cs) pends.member ∙ r.2;
@@ -209,19 +220,23 @@ same_some x y e = cc
 
 module _ (s : Setting) where
   -- the stepping member's cell is the step's
-  pub here_after : (m : ℕ) (d : Stepped) (cs : List PlainCell) (c : PlainCell) → slice_get cs m ≡ Some c → slice_get (settled s m d 0 cs) m ≡ Some d.cell
+  pub here_after : (m : ℕ) (d : Stepped) (cs : List PlainCell) (c : PlainCell) → slice_get cs m ≡ Some c → slice_get (settled s m d 0 cs) m
+      ≡ Some d.cell
   here_after m d cs c h =
       let yes : (m == m) ≡ true = eq-eqb _ _ refl in
       get_after s m d m cs ∙ ap (option_map (at_member s m d m)) h ∙ ap (λ b. Some (cond b d.cell (told_to s.traffic d.row.sent m c))) yes
 
   -- every other hears what was sent
-  pub there_after : (m : ℕ) (d : Stepped) (cs : List PlainCell) (j : ℕ) → j ≢ m → slice_get (settled s m d 0 cs) j ≡ option_map (told_to s.traffic d.row.sent j) (slice_get cs j)
+  pub there_after : (m : ℕ) (d : Stepped) (cs : List PlainCell) (j : ℕ) → j ≢ m → slice_get (settled s m d 0 cs) j
+      ≡ option_map (told_to s.traffic d.row.sent j) (slice_get cs j)
   there_after m d cs j ne =
-      let no : (j == m) ≡ false = (elim (j == m) as (λ b. (j == m) ≡ b → (j == m) ≡ false) [ true ↦ λ q. absurd (ne (eqb-true _ _ q)) | false ↦ λ q. q ] refl) in
+      let no : (j == m) ≡ false = (elim (j == m) as (λ b. (j == m) ≡ b → (j == m) ≡ false)
+          [ true ↦ λ q. absurd (ne (eqb-true _ _ q)) | false ↦ λ q. q ] refl) in
       get_after s m d j cs ∙ ap (λ b. option_map (λ c. cond b d.cell (told_to s.traffic d.row.sent j c)) (slice_get cs j)) no
 
   -- what holds of the step's cell, and of every other after it heard what was sent, holds of each cell
-  pub each_after : (Q : ℕ → PlainCell → Type 0) (cs : List PlainCell) (m : ℕ) (d : Stepped) (b : PlainCell) → slice_get cs m ≡ Some b → Q m d.cell
+  pub each_after : (Q : ℕ → PlainCell → Type 0) (cs : List PlainCell) (m : ℕ) (d : Stepped) (b : PlainCell) → slice_get cs m ≡ Some b
+      → Q m d.cell
       → ((j : ℕ) (c : PlainCell) → slice_get cs j ≡ Some c → j ≢ m → Q j (told_to s.traffic d.row.sent j c))
       → (j : ℕ) (c : PlainCell) → slice_get (settled s m d 0 cs) j ≡ Some c → Q j c
   each_after Q cs m d b here h g j c e = elim (j == m) as (λ x. (j == m) ≡ x → Q j c) [
@@ -233,9 +248,11 @@ module _ (s : Setting) where
   ] refl
     where
       by_cell : (o : Option PlainCell) → slice_get cs j ≡ o → j ≢ m → Q j c
-      by_cell None f ne = let x : None ≡ Some c = sym (there_after m d cs j ne ∙ ap (option_map (told_to s.traffic d.row.sent j)) f) ∙ e in cc
+      by_cell None f ne = let x : None ≡ Some c = sym (there_after m d cs j ne ∙ ap (option_map (told_to s.traffic d.row.sent j)) f)
+          ∙ e in cc
       by_cell (Some a) f ne =
-          let cell : told_to s.traffic d.row.sent j a ≡ c = same_some _ _ (sym (there_after m d cs j ne ∙ ap (option_map (told_to s.traffic d.row.sent j)) f) ∙ e) in
+          let cell : told_to s.traffic d.row.sent j a ≡ c = same_some _ _
+              (sym (there_after m d cs j ne ∙ ap (option_map (told_to s.traffic d.row.sent j)) f) ∙ e) in
           subst (Q j) cell (g j a f ne)
 
   pub length_after : (m : ℕ) (d : Stepped) (i : ℕ) (cs : List PlainCell) → length (settled s m d i cs) ≡ length cs
@@ -263,14 +280,16 @@ module _ (s : Setting) where
 
   -- where the run is over, nothing is pending before `until`
   pub nothing_left : (w : World) → step s w ≡ Idle → before s.traffic.until (least_event 0 w.cells) ≡ None
-  nothing_left w h = elim (before s.traffic.until (least_event 0 w.cells)) as (λ o. before s.traffic.until (least_event 0 w.cells) ≡ o → before s.traffic.until (least_event 0 w.cells) ≡ None) [
+  nothing_left w h = elim (before s.traffic.until (least_event 0 w.cells))
+      as (λ o. before s.traffic.until (least_event 0 w.cells) ≡ o → before s.traffic.until (least_event 0 w.cells) ≡ None) [
     | None ↦ λ q. q
     | Some e ↦ λ q. absurd (after_moves w e (step_at (Some e)) refl (sym (step_is s s.traffic.until within w e q) ∙ h))
   ] refl
 
   -- what holds of a world, and is kept by each step, holds of all worlds to which the run comes from there
   pub run_keeps : (P : World → Type 0)
-      → ((w : World) (e : Event) (d : Stepped) → Steps s.traffic.until w.cells e d → P w → P (record { cells = settled s e.key.member d 0 w.cells; trace = w.trace ++ d.row ∷ [] }))
+      → ((w : World) (e : Event) (d : Stepped) → Steps s.traffic.until w.cells e d → P w
+          → P (record { cells = settled s e.key.member d 0 w.cells; trace = w.trace ++ d.row ∷ [] }))
       → (n : ℕ) (w v : World) → P w → run s n w ≡ Done v → P v
   unfolding run after_step
   run_keeps P kept zero w v p h = let e : w ≡ v = same_done w v h in subst P e p
@@ -280,9 +299,12 @@ module _ (s : Setting) where
   run_keeps P kept (suc n) w v p h =
       let by = sym (run_first s s.traffic.until within n w) ∙ h in
       elim (before s.traffic.until (least_event 0 w.cells)) as (λ o. before s.traffic.until (least_event 0 w.cells) ≡ o → P v) [
-        | None ↦ λ e. let x : Idle ≡ Done v = sym (ap (run_by s s.traffic.until within n) (step_none s s.traffic.until within w e)) ∙ by in cc
+        | None ↦ λ e. let x : Idle ≡ Done v = sym (ap (run_by s s.traffic.until within n) (step_none s s.traffic.until within w e))
+            ∙ by in cc
         | Some e ↦ λ b.
-            let stepped = λ (o : StepOutcome Stepped) (x : step_at (Some e) ≡ o). sym (ap (run_by s s.traffic.until within n) (step_is s s.traffic.until within w e b ∙ ap (after_step s w e.key.member) x)) ∙ by in
+            let stepped = λ (o : StepOutcome Stepped) (x : step_at (Some e) ≡ o). sym
+                (ap (run_by s s.traffic.until within n) (step_is s s.traffic.until within w e b ∙ ap (after_step s w e.key.member) x))
+                ∙ by in
             elim (step_at (Some e)) as (λ o. step_at (Some e) ≡ o → P v) [
               | Idle ↦ λ x. absurd (some_not_idle e x)
               | Full ↦ λ x. let y : Full ≡ Done v = stepped Full x in cc
@@ -308,7 +330,8 @@ module _ (s : Setting) where
   not_true false h = refl
 
   -- a flight is to another member, and arrives before the end of the run
-  pub arrival_is : (p : Packet) (m at : ℕ) → arrival_of s.traffic p m ≡ Some at → (m < s.traffic.members) × (m ≢ p.id.sender) × (at < s.traffic.until)
+  pub arrival_is : (p : Packet) (m at : ℕ) → arrival_of s.traffic p m ≡ Some at → (m < s.traffic.members) × (m ≢ p.id.sender)
+      × (at < s.traffic.until)
   arrival_is p m at h =
       let time = p.sent + s.traffic.distance p.id.sender m in
       let h0 = if_some _ _ at h in

@@ -1,9 +1,11 @@
 -- A window is a part of the sequential run.
-use Rattle.std.proofs.Common.{◌≡◌, ℕ, zero, suc, ◌≤◌, ◌+◌, true, false, List, [], ◌∷◌, ◌++◌, length, drop, refl, sym, ap, ◌∙◌, subst, arith, Some, slice_get, add-zero, zero-add, le_refl, Bool, cond, Ordering, is_lt}
+use Rattle.std.proofs.Common.{◌≡◌, ℕ, zero, suc, ◌≤◌, ◌+◌, true, false, List, [], ◌∷◌, ◌++◌, length, drop, refl, sym, ap, ◌∙◌, subst, arith,
+    Some, slice_get, add-zero, zero-add, le_refl, Bool, cond, Ordering, is_lt}
 use Rattle.std.proofs.Math.Seq.{drop-append_seam}
 use Rattle.std.specs.Cmp.{IsTotalOrder}
 use Rattle.std.specs.List.Sorted.{IsPermutation}
-use Rattle.std.proofs.lemmas.List.Sorted.{IsPermutation-refl, IsPermutation-sym, IsPermutation-trans, IsPermutation-cons, IsPermutation-middle}
+use Rattle.std.proofs.lemmas.List.Sorted.{IsPermutation-refl, IsPermutation-sym, IsPermutation-trans, IsPermutation-cons,
+    IsPermutation-middle}
 use Rattle.srm_net.specs.Orders.{place, ordered, Rises}
 use Rattle.srm_member.specs.declared.row.Row.{Row}
 use Rattle.srm_cell.specs.Cells.{PlainCell, StepOutcome, Idle, Done}
@@ -28,9 +30,11 @@ use Rattle.srm_engine.proofs.Sequential.{good_reached, run_seq}
 -- ---- results
 
 -- what the own run of a cell gives
-pub result_at : (end i : ℕ) (cs : List PlainCell) (rs : List OwnResult) → AreOwnRuns end i cs rs → (j : ℕ) (c : PlainCell) → slice_get cs j ≡ Some c → (r : OwnResult) × IsOwnRun end (i + j) c r.rows r.cell
+pub result_at : (end i : ℕ) (cs : List PlainCell) (rs : List OwnResult) → AreOwnRuns end i cs rs → (j : ℕ) (c : PlainCell) → slice_get cs j
+    ≡ Some c → (r : OwnResult) × IsOwnRun end (i + j) c r.rows r.cell
 result_at end i [] [] h j c g = cc
-result_at end i (x ∷ cs) (r ∷ rs) h zero c g = let same : x ≡ c = cc in (r, rw add-zero (subst (λ y. IsOwnRun end i y r.rows r.cell) same h.0))
+result_at end i (x ∷ cs) (r ∷ rs) h zero c g = let same : x ≡ c = cc in
+    (r, rw add-zero (subst (λ y. IsOwnRun end i y r.rows r.cell) same h.0))
 result_at end i (x ∷ cs) (r ∷ rs) h (suc j) c g = rw (shifted i j) (result_at end (suc i) cs rs h.1 j c g)
 result_at end i [] (r ∷ rs) h j c g = absurd h
 result_at end i (x ∷ cs) [] h j c g = absurd h
@@ -49,7 +53,8 @@ same_some : {A : Type 0} (x y : A) → Some x ≡ Some y → x ≡ y
 same_some x y h = cc
 
 module _ (s : Setting) (end : ℕ) (rows : List Row) where
-  -- where each cell ran alone and heard the rows, in which its own are those of its run, the results are those of the members
+  -- where each cell ran alone and heard the rows, in which its own are those of its run, the results are those of the
+  -- members
   run_alone : (i : ℕ) (cs : List PlainCell) (rs : List OwnResult) (ds : List PlainCell) → AreOwnRuns end i cs rs → length ds ≡ length cs
       → ((j : ℕ) (c : PlainCell) → slice_get cs j ≡ Some c → Alone s end (i + j) rows c (slice_get ds j))
       → (rows_in rs ≡ by_member i (length cs) rows) × (ds ≡ each_hears s.traffic i rows (cells_in rs))
@@ -58,7 +63,8 @@ module _ (s : Setting) (end : ℕ) (rows : List Row) where
   run_alone i (c ∷ cs) (r ∷ rs) [] h many alone = absurd (omega arith)
   run_alone i (c ∷ cs) (r ∷ rs) (d ∷ ds) h many alone =
       let a : Alone s end i rows c (Some d) = rw add-zero at (alone 0 c refl) in
-      let same = own_runs_are_one end i c r.rows (own_rows end i a.0 c) r.cell (own_after end i a.0 c) h.0 (record { steps = a.0; ends = a.1; rows_are = refl; leaves = refl }) in
+      let same = own_runs_are_one end i c r.rows (own_rows end i a.0 c) r.cell (own_after end i a.0 c) h.0
+          (record { steps = a.0; ends = a.1; rows_are = refl; leaves = refl }) in
       let first = same.0 ∙ sym a.2 in
       let heard : d ≡ hear_rows s.traffic i rows r.cell = same_some _ _ a.3 ∙ ap (hear_rows s.traffic i rows) (sym same.1) in
       let more = run_alone (suc i) cs rs ds h.1 (omega arith) (λ j b g. rw (← shifted i j) (alone (suc j) b g)) in
@@ -68,7 +74,8 @@ module _ (s : Setting) (end : ℕ) (rows : List Row) where
 
 -- ---- the rows of a part of the run stand after those before
 
-pub part_rows : (s : Setting) → IsFit s → (n : ℕ) (w v : World) → run s n w ≡ Done v → (rows : List Row) × Seq s s.traffic.until w.cells rows v.cells × (v.trace ≡ w.trace ++ rows)
+pub part_rows : (s : Setting) → IsFit s → (n : ℕ) (w v : World) → run s n w ≡ Done v → (rows : List Row)
+    × Seq s s.traffic.until w.cells rows v.cells × (v.trace ≡ w.trace ++ rows)
 part_rows s fit n w v h =
     let r = run_seq s fit n w v h in
     let again : run s n w ≡ Done (record { cells = v.cells; trace = w.trace ++ r.0 }) =
@@ -94,7 +101,8 @@ pub record IsPart (s : Setting) (end : ℕ) (w : World) (results : List OwnResul
   pub rows : rows_in results ≡ by_member 0 s.traffic.members (new_rows w u)
   pub cells : u.cells ≡ each_hears s.traffic 0 (new_rows w u) (cells_in results)
 
-pub part_of : (s : Setting) (w : World) (end : ℕ) → IsFit s → IsReached s w → end ≤ s.traffic.until → IsSafe s end w → (results : List OwnResult) → AreOwnRuns end 0 w.cells results → (u : World) × IsPart s end w results u
+pub part_of : (s : Setting) (w : World) (end : ℕ) → IsFit s → IsReached s w → end ≤ s.traffic.until → IsSafe s end w
+    → (results : List OwnResult) → AreOwnRuns end 0 w.cells results → (u : World) × IsPart s end w results u
 part_of s w end fit reached within safe results h =
     let r = schedules_agree s w end fit reached within safe (have_results end w results h) in
     let u = r.0 in
@@ -111,8 +119,10 @@ windows_agree s w v end fit reached within safe window =
     let part = part_of s w end fit reached within safe window.results window.alone in
     let u = part.0 in
     let p = part.1 in
-    let rows : new_rows w u ≡ window.rows = merges_agree s w u fit reached p.first.steps p.first.comes window.rows (rows_rise window.rows window.merged.in_order) (subst (λ l. IsPermutation (joined l) window.rows) p.rows window.merged.all) in
-    let cells : u.cells ≡ each_hears s.traffic 0 window.rows (cells_in window.results) = p.cells ∙ ap (λ l. each_hears s.traffic 0 l (cells_in window.results)) rows in
+    let rows : new_rows w u ≡ window.rows = merges_agree s w u fit reached p.first.steps p.first.comes window.rows
+        (rows_rise window.rows window.merged.in_order) (subst (λ l. IsPermutation (joined l) window.rows) p.rows window.merged.all) in
+    let cells : u.cells ≡ each_hears s.traffic 0 window.rows (cells_in window.results) = p.cells
+        ∙ ap (λ l. each_hears s.traffic 0 l (cells_in window.results)) rows in
     let trace : u.trace ≡ w.trace ++ window.rows = trace_grows s fit p.first.steps w u p.first.comes ∙ ap (λ l. w.trace ++ l) rows in
     let is : u ≡ after_window s w window.results window.rows = λ i. record { cells = cells i; trace = trace i } in
     let same : u ≡ v = is ∙ sym window.is in
@@ -120,16 +130,20 @@ windows_agree s w v end fit reached within safe window =
 
 -- ---- where every own run has a result there is a window
 
-collected : (end i : ℕ) (cs : List PlainCell) → ((j : ℕ) (c : PlainCell) → slice_get cs j ≡ Some c → (n : ℕ) × (own_end end (i + j) n c ≡ Idle)) → (rs : List OwnResult) × AreOwnRuns end i cs rs
+collected : (end i : ℕ) (cs : List PlainCell) → ((j : ℕ) (c : PlainCell) → slice_get cs j ≡ Some c → (n : ℕ)
+    × (own_end end (i + j) n c ≡ Idle)) → (rs : List OwnResult) × AreOwnRuns end i cs rs
 collected end i [] f = ([], tt)
 collected end i (c ∷ cs) f =
     let now : (n : ℕ) × (own_end end i n c ≡ Idle) = rw add-zero at (f 0 c refl) in
     let more = collected end (suc i) cs (λ j b g. rw (← shifted i j) (f (suc j) b g)) in
-    (record { rows = own_rows end i now.0 c; cell = own_after end i now.0 c } ∷ more.0, (record { steps = now.0; ends = now.1; rows_are = refl; leaves = refl }, more.1))
+    (record { rows = own_rows end i now.0 c; cell = own_after end i now.0 c } ∷ more.0,
+        (record { steps = now.0; ends = now.1; rows_are = refl; leaves = refl }, more.1))
 
 module _ {A : Type 0} (cmp : A → A → Ordering) where
-  either : (x y : A) (ys : List A) → IsPermutation (x ∷ ys) (place cmp x ys) → (b : Bool) → IsPermutation (x ∷ y ∷ ys) (cond b (y ∷ place cmp x ys) (x ∷ y ∷ ys))
-  either x y ys more true = IsPermutation-trans _ _ _ (IsPermutation-sym _ _ (IsPermutation-middle (y ∷ []) x ys)) (IsPermutation-cons y _ _ more)
+  either : (x y : A) (ys : List A) → IsPermutation (x ∷ ys) (place cmp x ys) → (b : Bool)
+      → IsPermutation (x ∷ y ∷ ys) (cond b (y ∷ place cmp x ys) (x ∷ y ∷ ys))
+  either x y ys more true = IsPermutation-trans _ _ _ (IsPermutation-sym _ _ (IsPermutation-middle (y ∷ []) x ys))
+      (IsPermutation-cons y _ _ more)
   either x y ys more false = IsPermutation-refl (x ∷ y ∷ ys)
 
   place_moves : (x : A) (ys : List A) → IsPermutation (x ∷ ys) (place cmp x ys)
@@ -150,5 +164,6 @@ windows_are_there s w end results =
     let all = joined (rows_in rs.0) in
     let rows = ordered row_cmp all in (
       after_window s w rs.0 rows,
-      record { results = rs.0; rows = rows; alone = rs.1; merged = record { all = ordered_moves row_cmp all; in_order = rows_are_sorted rows (ordered_rises row_cmp (row_total s 0) all) }; is = refl },
+      record { results = rs.0; rows = rows; alone = rs.1; merged = record
+          { all = ordered_moves row_cmp all; in_order = rows_are_sorted rows (ordered_rises row_cmp (row_total s 0) all) }; is = refl },
     )

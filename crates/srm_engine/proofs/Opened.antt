@@ -1,5 +1,6 @@
 -- The cells at the beginning of a run.
-use Rattle.std.proofs.Common.{◌≡◌, ◌⊎◌, ℕ, zero, suc, ◌+◌, ◌*◌, ◌<◌, List, [], ◌∷◌, ◌++◌, length, replicate, Option, Some, inl, inr, refl, sym, ap, ◌∙◌, subst, slice_get, arith, length-append, add-one}
+use Rattle.std.proofs.Common.{◌≡◌, ◌⊎◌, ℕ, zero, suc, ◌+◌, ◌*◌, ◌<◌, List, [], ◌∷◌, ◌++◌, length, replicate, Option, Some, inl, inr, refl,
+    sym, ap, ◌∙◌, subst, slice_get, arith, length-append, add-one}
 use Rattle.std.specs.List.{flat_map, range_with_len}
 use Rattle.std.specs.declared.dyn_box.DynBox.{DynBox}
 use Rattle.std.specs.Global.{Global}
@@ -19,7 +20,8 @@ use Rattle.srm_cell.specs.Totalled.{numbers_of}
 use Rattle.srm_engine.specs.Openings.{records_from}
 use Rattle.srm_engine.proofs.SeenLemmas.{same_some}
 
-get_last : {A : Type 0} (xs : List A) (x y : A) (j : ℕ) → slice_get (xs ++ x ∷ []) j ≡ Some y → (slice_get xs j ≡ Some y) ⊎ ((j ≡ length xs) × (x ≡ y))
+get_last : {A : Type 0} (xs : List A) (x y : A) (j : ℕ) → slice_get (xs ++ x ∷ []) j ≡ Some y → (slice_get xs j ≡ Some y)
+    ⊎ ((j ≡ length xs) × (x ≡ y))
 get_last [] x y zero h = inr (refl, same_some x y h)
 get_last [] x y (suc j) h = cc
 get_last (z ∷ zs) x y zero h = inl h
@@ -39,17 +41,20 @@ get_short [] y j h = cc
 get_short (x ∷ xs) y zero h = omega arith
 get_short (x ∷ xs) y (suc j) h = let g = get_short xs y j h in omega arith
 
-pub more_times : (ts : List (Option ℕ)) (ps : List PlainCell) (t : Option ℕ) (q : PlainCell) → AreTimes ts ps → t ≡ time_of (next_event (length ps) q) → AreTimes (ts ++ t ∷ []) (ps ++ q ∷ [])
+pub more_times : (ts : List (Option ℕ)) (ps : List PlainCell) (t : Option ℕ) (q : PlainCell) → AreTimes ts ps → t
+    ≡ time_of (next_event (length ps) q) → AreTimes (ts ++ t ∷ []) (ps ++ q ∷ [])
 more_times ts ps t q h e = record {
   as_many = length-append ts (t ∷ []) ∙ ap (λ n. n + 1) h.as_many ∙ sym (length-append ps (q ∷ []));
   each = λ j p g. elim (get_last ps q p j g) [
     | inl a ↦ get_before ts t (time_of (next_event j p)) j (h.each j p a)
-    | inr a ↦ ap (slice_get (ts ++ t ∷ [])) (a.0 ∙ sym h.as_many) ∙ get_end ts t ∙ ap Some (e ∙ ap (λ k. time_of (next_event k q)) (sym a.0) ∙ ap (λ x. time_of (next_event j x)) a.1)
+    | inr a ↦ ap (slice_get (ts ++ t ∷ [])) (a.0 ∙ sym h.as_many) ∙ get_end ts t
+        ∙ ap Some (e ∙ ap (λ k. time_of (next_event k q)) (sym a.0) ∙ ap (λ x. time_of (next_event j x)) a.1)
   ];
 }
 
 module _ {X : Type 0} {H : X → Type 0} where
-  pub more_cells : (f : DynBox X Global H → Record) (cs : List (Cell X H)) (ps : List PlainCell) (c : Cell X H) (q : PlainCell) → AreCells f cs ps → IsCell f (length ps) c q → AreCells f (cs ++ c ∷ []) (ps ++ q ∷ [])
+  pub more_cells : (f : DynBox X Global H → Record) (cs : List (Cell X H)) (ps : List PlainCell) (c : Cell X H) (q : PlainCell)
+      → AreCells f cs ps → IsCell f (length ps) c q → AreCells f (cs ++ c ∷ []) (ps ++ q ∷ [])
   more_cells f cs ps c q h is = record {
     as_many = length-append cs (c ∷ []) ∙ ap (λ n. n + 1) h.as_many ∙ sym (length-append ps (q ∷ []));
     each = λ j x p a g. elim (get_last ps q p j g) [
@@ -59,7 +64,8 @@ module _ {X : Type 0} {H : X → Type 0} where
       ]
       | inr b ↦ elim (get_last cs c x j a) [
         | inl d ↦ let lt = get_short cs x j d in let at = b.0 in let many = h.as_many in absurd (omega arith)
-        | inr d ↦ subst (λ k. IsCell f k x p) (sym b.0) (subst (λ y. IsCell f (length ps) y p) d.1 (subst (λ y. IsCell f (length ps) c y) b.1 is))
+        | inr d ↦ subst (λ k. IsCell f k x p) (sym b.0)
+            (subst (λ y. IsCell f (length ps) y p) d.1 (subst (λ y. IsCell f (length ps) c y) b.1 is))
       ]
     ];
   }
@@ -68,10 +74,13 @@ module _ {X : Type 0} {H : X → Type 0} where
   unfolding opening_cells
   none_seen f s = record { as_many = refl; each = λ j c p a g. cc }
 
-  pub opened_cell : (f : DynBox X Global H → Record) (p : PlainScenario) (net : Network) (seed k : ℕ) (c : Cell X H) (r : Record) (marks : List Mark)
-      → r ≡ opening_record (fixed_of p net seed k) → marks ≡ script_of p k → IsCell f (fixed_part r).member c (new_cell r marks 0) → IsCell f k c (opening_cell (setting_of p net seed) k)
+  pub opened_cell : (f : DynBox X Global H → Record) (p : PlainScenario) (net : Network) (seed k : ℕ) (c : Cell X H) (r : Record)
+      (marks : List Mark)
+      → r ≡ opening_record (fixed_of p net seed k) → marks ≡ script_of p k → IsCell f (fixed_part r).member c (new_cell r marks 0)
+          → IsCell f k c (opening_cell (setting_of p net seed) k)
   opened_cell f p net seed k c r marks e h is =
-      subst (λ ms. IsCell f k c (new_cell (opening_record (fixed_of p net seed k)) ms 0)) h (subst (λ x. IsCell f (fixed_part x).member c (new_cell x marks 0)) e is)
+      subst (λ ms. IsCell f k c (new_cell (opening_record (fixed_of p net seed k)) ms 0)) h
+          (subst (λ x. IsCell f (fixed_part x).member c (new_cell x marks 0)) e is)
 
 pub length_opening : (s : Setting) (n i : ℕ) → length (opening_cells s n i) ≡ n
 unfolding opening_cells
@@ -81,10 +90,12 @@ length_opening s (suc n) i = ap suc (length_opening s n (suc i))
 one_more_cell : (s : Setting) (n i : ℕ) → opening_cells s (suc n) i ≡ opening_cells s n i ++ opening_cell s (i + n) ∷ []
 unfolding opening_cells
 one_more_cell s zero i = let e : i ≡ i + 0 = omega arith in ap (λ k. opening_cell s k ∷ []) e
-one_more_cell s (suc n) i = let e : suc i + n ≡ i + suc n = omega arith in ap (λ l. opening_cell s i ∷ l) (one_more_cell s n (suc i)) ∙ ap (λ k. opening_cell s i ∷ (opening_cells s n (suc i) ++ opening_cell s k ∷ [])) e
+one_more_cell s (suc n) i = let e : suc i + n ≡ i + suc n = omega arith in ap (λ l. opening_cell s i ∷ l) (one_more_cell s n (suc i))
+    ∙ ap (λ k. opening_cell s i ∷ (opening_cells s n (suc i) ++ opening_cell s k ∷ [])) e
 
 pub next_opening : (s : Setting) (n : ℕ) → opening_cells s (n + 1) 0 ≡ opening_cells s n 0 ++ opening_cell s n ∷ []
-next_opening s n = let e : 0 + n ≡ n = omega arith in ap (λ k. opening_cells s k 0) (add-one n) ∙ one_more_cell s n 0 ∙ ap (λ k. opening_cells s n 0 ++ opening_cell s k ∷ []) e
+next_opening s n = let e : 0 + n ≡ n = omega arith in ap (λ k. opening_cells s k 0) (add-one n) ∙ one_more_cell s n 0
+    ∙ ap (λ k. opening_cells s n 0 ++ opening_cell s k ∷ []) e
 
 pub opening_is : (s : Setting) → opening_cells s s.traffic.members 0 ≡ (opening s).cells
 unfolding opening

@@ -1,5 +1,6 @@
 -- The least promise of all cells, one cell after the other.
-use Rattle.std.proofs.Common.{◌≡◌, ◌≢◌, ◌⊎◌, inl, inr, ℕ, zero, suc, ◌≤◌, ◌+◌, ◌==◌, Bool, true, false, not, cond, List, [], ◌∷◌, refl, sym, ap, ◌∙◌, arith, Option, Some, None, option_map, unwrap_or, length, map, filter, slice_get, zero-add}
+use Rattle.std.proofs.Common.{◌≡◌, ◌≢◌, ◌⊎◌, inl, inr, ℕ, zero, suc, ◌≤◌, ◌+◌, ◌==◌, Bool, true, false, not, cond, List, [], ◌∷◌, refl, sym,
+    ap, ◌∙◌, arith, Option, Some, None, option_map, unwrap_or, length, map, filter, slice_get, zero-add}
 use Rattle.std.proofs.lemmas.List.{length-map}
 use Rattle.std.specs.List.{range_with_len}
 use Rattle.srm_net.specs.declared.role.Role.{Role}
@@ -43,9 +44,11 @@ module _ (s : Setting) where
 
   promise_most : (i : ℕ) (cs : List PlainCell) → least_promise s i cs ≤ s.traffic.until
   promise_most i [] = omega arith
-  promise_most i (c ∷ cs) = let more = promise_most (i + 1) cs in let le = with_le (least_promise s (i + 1) cs) (promise_of s i c) in omega arith
+  promise_most i (c ∷ cs) = let more = promise_most (i + 1) cs in let le = with_le (least_promise s (i + 1) cs) (promise_of s i c) in
+      omega arith
 
-  promise_none_less : (i : ℕ) (cs : List PlainCell) (j : ℕ) (c : PlainCell) (u : ℕ) → slice_get cs j ≡ Some c → promise_of s (i + j) c ≡ Some u
+  promise_none_less : (i : ℕ) (cs : List PlainCell) (j : ℕ) (c : PlainCell) (u : ℕ) → slice_get cs j ≡ Some c → promise_of s (i + j) c
+      ≡ Some u
       → least_promise s i cs ≤ u
   promise_none_less i [] j c u h e = cc
   promise_none_less i (x ∷ cs) zero c u h e =
@@ -81,9 +84,11 @@ module _ (s : Setting) where
   }
     where
       by : Some_promise 0 cs (least_promise s 0 cs)
-          → (least_promise s 0 cs ≡ s.traffic.until) ⊎ ((m : ℕ) × (c : PlainCell) × Any m × (slice_get cs m ≡ Some c) × (promised s m c ≡ Some (least_promise s 0 cs)))
+          → (least_promise s 0 cs ≡ s.traffic.until) ⊎ ((m : ℕ) × (c : PlainCell) × Any m × (slice_get cs m ≡ Some c)
+              × (promised s m c ≡ Some (least_promise s 0 cs)))
       by (inl e) = inl e
-      by (inr a) = inr (a.0, a.1, tt, a.2, sym (promise_is a.0 a.1 (kept a.0 a.1 a.2)) ∙ ap (λ k. promise_of s k a.1) (sym (zero-add a.0)) ∙ a.3)
+      by (inr a) = inr (a.0, a.1, tt, a.2, sym (promise_is a.0 a.1 (kept a.0 a.1 a.2)) ∙ ap (λ k. promise_of s k a.1) (sym (zero-add a.0))
+          ∙ a.3)
 
 -- ---- ways
 

@@ -1,9 +1,12 @@
 -- The sequential run to an end is a complete schedule, if own runs end.
-use Rattle.std.proofs.Common.{◌≡◌, ℕ, zero, suc, ◌<◌, ◌≤◌, ◌+◌, Bool, true, false, List, [], ◌∷◌, ◌++◌, length, refl, sym, ap, ◌∙◌, subst, subst₂, ◌≢◌, ◌⊎◌, inl, inr, arith, Ordering, Less, Equal, Greater, eqb-true, eq-eqb, ◌==◌, Option, Some, None, slice_get, add-zero, zero-add, append_assoc, append-nil}
+use Rattle.std.proofs.Common.{◌≡◌, ℕ, zero, suc, ◌<◌, ◌≤◌, ◌+◌, Bool, true, false, List, [], ◌∷◌, ◌++◌, length, refl, sym, ap, ◌∙◌, subst,
+    subst₂, ◌≢◌, ◌⊎◌, inl, inr, arith, Ordering, Less, Equal, Greater, eqb-true, eq-eqb, ◌==◌, Option, Some, None, slice_get, add-zero,
+    zero-add, append_assoc, append-nil}
 use Rattle.srm_cell.proofs.CellLemmas.{before-earlier, outcome_map, stepped_map}
 use Rattle.srm_cell.proofs.CellSteps.{IsOf, before_more, before_of, next_event_of, some_not_idle, told_late}
 use Rattle.srm_cell.proofs.OwnRunLemmas.{end_by, end_first, end_now}
-use Rattle.srm_cell.specs.Cells.{Done, Event, Full, Idle, PlainCell, Spent, StepOutcome, Stepped, before, by_key, earlier, next_event, own_step, step_at}
+use Rattle.srm_cell.specs.Cells.{Done, Event, Full, Idle, PlainCell, Spent, StepOutcome, Stepped, before, by_key, earlier, next_event,
+    own_step, step_at}
 use Rattle.srm_cell.specs.OwnRuns.{own_end, told_to}
 use Rattle.srm_cell.specs.Setting.{Setting, arrival_of}
 use Rattle.srm_engine.proofs.ScheduleLemmas.{Quiet, Safe, Sched, go, present, safe_after, step_late, stop}
@@ -24,7 +27,8 @@ from_by_key Greater d e = inr refl
 from_earlier : (x y : Option Event) (e : Event) → earlier x y ≡ Some e → (x ≡ Some e) ⊎ (y ≡ Some e)
 from_earlier None y e h = inr h
 from_earlier (Some d) None e h = inl h
-from_earlier (Some d) (Some f) e h = elim (from_by_key (key_cmp d.key f.key) d f) [ inl g ↦ inl (ap Some (sym g) ∙ h) | inr g ↦ inr (ap Some (sym g) ∙ h) ]
+from_earlier (Some d) (Some f) e h = elim (from_by_key (key_cmp d.key f.key) d f)
+    [ inl g ↦ inl (ap Some (sym g) ∙ h) | inr g ↦ inr (ap Some (sym g) ∙ h) ]
 
 none_earlier : (x y : Option Event) → earlier x y ≡ None → (x ≡ None) × (y ≡ None)
 none_earlier None y h = (refl, h)
@@ -35,7 +39,8 @@ pub shifted : (i j : ℕ) → i + suc j ≡ suc i + j
 shifted i j = omega arith
 
 -- where the least event before the end comes from
-pub least_from : (end i : ℕ) (cs : List PlainCell) (e : Event) → before end (least_event i cs) ≡ Some e → (j : ℕ) × (c : PlainCell) × (slice_get cs j ≡ Some c) × (before end (next_event (i + j) c) ≡ Some e)
+pub least_from : (end i : ℕ) (cs : List PlainCell) (e : Event) → before end (least_event i cs) ≡ Some e → (j : ℕ) × (c : PlainCell)
+    × (slice_get cs j ≡ Some c) × (before end (next_event (i + j) c) ≡ Some e)
 unfolding least_event
 least_from end i [] e h = cc
 least_from end i (c ∷ cs) e h = elim (from_earlier _ _ e (sym (before-earlier end (next_event i c) (least_event (suc i) cs)) ∙ h)) [
@@ -45,15 +50,18 @@ least_from end i (c ∷ cs) e h = elim (from_earlier _ _ e (sym (before-earlier 
       (suc r.0, r.1, r.2, rw same r.3)
 ]
 
-pub none_least : (end i : ℕ) (cs : List PlainCell) → before end (least_event i cs) ≡ None → (j : ℕ) → own_of end (i + j) (slice_get cs j) ≡ Idle
+pub none_least : (end i : ℕ) (cs : List PlainCell) → before end (least_event i cs) ≡ None → (j : ℕ) → own_of end (i + j) (slice_get cs j)
+    ≡ Idle
 unfolding least_event own_step
 none_least end i [] h j = refl
-none_least end i (c ∷ cs) h zero = let n = none_earlier _ _ (sym (before-earlier end (next_event i c) (least_event (suc i) cs)) ∙ h) in rw add-zero (ap step_at n.0)
+none_least end i (c ∷ cs) h zero = let n = none_earlier _ _ (sym (before-earlier end (next_event i c) (least_event (suc i) cs)) ∙ h) in
+    rw add-zero (ap step_at n.0)
 none_least end i (c ∷ cs) h (suc j) = let n = none_earlier _ _ (sym (before-earlier end (next_event i c) (least_event (suc i) cs)) ∙ h) in
     rw (shifted i j) (none_least end (suc i) cs n.1 j)
 
 -- the least event of all, before the end, is its member's least own one
-pub least_own : (end : ℕ) (cs : List PlainCell) (e : Event) → before end (least_event 0 cs) ≡ Some e → own_of end e.key.member (slice_get cs e.key.member) ≡ step_at (Some e)
+pub least_own : (end : ℕ) (cs : List PlainCell) (e : Event) → before end (least_event 0 cs) ≡ Some e
+    → own_of end e.key.member (slice_get cs e.key.member) ≡ step_at (Some e)
 unfolding own_step
 least_own end cs e h =
     let r = least_from end 0 cs e h in
@@ -82,10 +90,13 @@ total (n ∷ ns) = n + total ns
 
 module _ (s : Setting) (end : ℕ) where
   -- an own run ends as it would have without a late packet
-  pub end_late : (x : Option Packet) → ((p : Packet) → x ≡ Some p → (m at : ℕ) → arrival_of s.traffic p m ≡ Some at → end ≤ at) → (m n : ℕ) (c : PlainCell) (b : Bool) → own_end end m n c ≡ ending b → own_end end m n (told_to s.traffic x m c) ≡ ending b
-  end_late x late m zero c b h = end_now end m (told_to s.traffic x m c) ∙ told_late s.traffic end m x late c ∙ ap (outcome_map (stepped_map (told_to s.traffic x m))) (sym (end_now end m c) ∙ h) ∙ map_ending _ b
+  pub end_late : (x : Option Packet) → ((p : Packet) → x ≡ Some p → (m at : ℕ) → arrival_of s.traffic p m ≡ Some at → end ≤ at)
+      → (m n : ℕ) (c : PlainCell) (b : Bool) → own_end end m n c ≡ ending b → own_end end m n (told_to s.traffic x m c) ≡ ending b
+  end_late x late m zero c b h = end_now end m (told_to s.traffic x m c) ∙ told_late s.traffic end m x late c
+      ∙ ap (outcome_map (stepped_map (told_to s.traffic x m))) (sym (end_now end m c) ∙ h) ∙ map_ending _ b
   end_late x late m (suc n) c b h =
-      let step = λ (o : StepOutcome Stepped) (e : own_step end m c ≡ o). end_first end m n (told_to s.traffic x m c) ∙ ap (end_by end m n) (told_late s.traffic end m x late c ∙ ap (outcome_map (stepped_map (told_to s.traffic x m))) e) in
+      let step = λ (o : StepOutcome Stepped) (e : own_step end m c ≡ o). end_first end m n (told_to s.traffic x m c)
+          ∙ ap (end_by end m n) (told_late s.traffic end m x late c ∙ ap (outcome_map (stepped_map (told_to s.traffic x m))) e) in
       let was = λ (o : StepOutcome Stepped) (e : own_step end m c ≡ o). sym (ap (end_by end m n) e) ∙ sym (end_first end m n c) ∙ h in
       elim (own_step end m c) as (λ o. own_step end m c ≡ o → own_end end m (suc n) (told_to s.traffic x m c) ≡ ending b) [
         | Idle ↦ λ e. step Idle e ∙ was Idle e
@@ -103,24 +114,29 @@ module _ (s : Setting) (end : ℕ) where
   off : (i a : ℕ) → i ≢ a → (i == a) ≡ false
   off i a ne = elim (i == a) as (λ x. (i == a) ≡ x → (i == a) ≡ false) [ true ↦ λ e. absurd (ne (eqb-true _ _ e)) | false ↦ λ e. e ] refl
 
-  head_off : (a : ℕ) (d : Stepped) → SendsLate s end d.row → (i n : ℕ) (c : PlainCell) (b : Bool) → i ≢ a → own_end end i n c ≡ ending b → own_end end i n (at_member s a d i c) ≡ ending b
+  head_off : (a : ℕ) (d : Stepped) → SendsLate s end d.row → (i n : ℕ) (c : PlainCell) (b : Bool) → i ≢ a → own_end end i n c ≡ ending b
+      → own_end end i n (at_member s a d i c) ≡ ending b
   head_off a d late i n c b ne h = let no : (i == a) ≡ false = off i a ne in rw no (end_late d.row.sent late i n c b h)
 
-  ends_other : (a : ℕ) (d : Stepped) → SendsLate s end d.row → (i : ℕ) (cs : List PlainCell) (ns : List ℕ) (bs : List Bool) → a < i → Ends i cs ns bs → Ends i (settled s a d i cs) ns bs
+  ends_other : (a : ℕ) (d : Stepped) → SendsLate s end d.row → (i : ℕ) (cs : List PlainCell) (ns : List ℕ) (bs : List Bool) → a < i
+      → Ends i cs ns bs → Ends i (settled s a d i cs) ns bs
   unfolding settled
   ends_other a d late i [] [] [] lt h = tt
-  ends_other a d late i (c ∷ cs) (n ∷ ns) (b ∷ bs) lt h = (head_off a d late i n c b (λ e. omega arith) h.0, ends_other a d late (suc i) cs ns bs (omega arith) h.1)
+  ends_other a d late i (c ∷ cs) (n ∷ ns) (b ∷ bs) lt h =
+      (head_off a d late i n c b (λ e. omega arith) h.0, ends_other a d late (suc i) cs ns bs (omega arith) h.1)
   ends_other a d late i (c ∷ cs) (n ∷ ns) [] lt h = absurd h
   ends_other a d late i (c ∷ cs) [] bs lt h = absurd h
   ends_other a d late i [] (n ∷ ns) bs lt h = absurd h
   ends_other a d late i [] [] (b ∷ bs) lt h = absurd h
 
-  pub fewer : (a : ℕ) (d : Stepped) (n : ℕ) (c : PlainCell) (b : Bool) → own_step end a c ≡ Done d → own_end end a n c ≡ ending b → (k : ℕ) × (n ≡ suc k) × (own_end end a k d.cell ≡ ending b)
+  pub fewer : (a : ℕ) (d : Stepped) (n : ℕ) (c : PlainCell) (b : Bool) → own_step end a c ≡ Done d → own_end end a n c ≡ ending b → (k : ℕ)
+      × (n ≡ suc k) × (own_end end a k d.cell ≡ ending b)
   fewer a d zero c b e h = absurd (not_done b d (sym e ∙ sym (end_now end a c) ∙ h))
   fewer a d (suc n) c b e h = (n, refl, sym (ap (end_by end a n) e) ∙ sym (end_first end a n c) ∙ h)
 
   -- after a member's step its own run is one step shorter
-  ends_step : (a : ℕ) (d : Stepped) → SendsLate s end d.row → (j i : ℕ) (cs : List PlainCell) (ns : List ℕ) (bs : List Bool) → a ≡ i + j → (c : PlainCell) → slice_get cs j ≡ Some c → own_step end a c ≡ Done d → Ends i cs ns bs →
+  ends_step : (a : ℕ) (d : Stepped) → SendsLate s end d.row → (j i : ℕ) (cs : List PlainCell) (ns : List ℕ) (bs : List Bool) → a ≡ i + j
+      → (c : PlainCell) → slice_get cs j ≡ Some c → own_step end a c ≡ Done d → Ends i cs ns bs →
       (ns' : List ℕ) × Ends i (settled s a d i cs) ns' bs × (total ns ≡ suc (total ns'))
   unfolding settled
   ends_step a d late zero i (x ∷ cs) (n ∷ ns) (b ∷ bs) ia c g e h =
@@ -129,7 +145,8 @@ module _ (s : Setting) (end : ℕ) where
       let xc : x ≡ c = cc in
       let here : own_end end a n c ≡ ending b = subst₂ (λ k y. own_end end k n y ≡ ending b) same xc h.0 in
       let f = fewer a d n c b e here in
-      (f.0 ∷ ns, ((let there : own_end end i f.0 d.cell ≡ ending b = subst (λ k. own_end end k f.0 d.cell ≡ ending b) (sym same) f.2 in rw yes there), ends_other a d late (suc i) cs ns bs (omega arith) h.1), (let m = f.1 in omega arith))
+      (f.0 ∷ ns, ((let there : own_end end i f.0 d.cell ≡ ending b = subst (λ k. own_end end k f.0 d.cell ≡ ending b) (sym same) f.2 in
+          rw yes there), ends_other a d late (suc i) cs ns bs (omega arith) h.1), (let m = f.1 in omega arith))
   ends_step a d late (suc j) i (x ∷ cs) (n ∷ ns) (b ∷ bs) ia c g e h =
       let r = ends_step a d late j (suc i) cs ns bs (omega arith) c g e h.1 in
       (n ∷ r.0, (head_off a d late i n x b (λ q. omega arith) h.0, r.1), (let m = r.2 in omega arith))
@@ -144,7 +161,8 @@ module _ (s : Setting) (end : ℕ) where
 
   pub data Seq : List PlainCell → List Row → List PlainCell → Type 0 where
     rest : {cs : List PlainCell} → Seq cs [] cs
-    next : {cs : List PlainCell} {e : Event} {d : Stepped} {rows : List Row} {ds : List PlainCell} → before end (least_event 0 cs) ≡ Some e → step_at (Some e) ≡ Done d → Seq (settled s e.key.member d 0 cs) rows ds → Seq cs (d.row ∷ rows) ds
+    next : {cs : List PlainCell} {e : Event} {d : Stepped} {rows : List Row} {ds : List PlainCell} → before end (least_event 0 cs) ≡ Some e
+        → step_at (Some e) ≡ Done d → Seq (settled s e.key.member d 0 cs) rows ds → Seq cs (d.row ∷ rows) ds
 
   -- where the run cannot go on
   abbrev pub Refused : List PlainCell → Type 0
@@ -161,7 +179,8 @@ module _ (s : Setting) (end : ℕ) where
   quiet_ends m (suc n) c true e h = let x : Idle ≡ Full = sym (ap (end_by end m n) e) ∙ sym (end_first end m n c) ∙ h in cc
   quiet_ends m n c false e h = refl
 
-  quiet_all : (i : ℕ) (cs : List PlainCell) (ns : List ℕ) (bs : List Bool) → ((j : ℕ) → own_of end (i + j) (slice_get cs j) ≡ Idle) → Ends i cs ns bs → (j : ℕ) → slice_get bs j ≢ Some true
+  quiet_all : (i : ℕ) (cs : List PlainCell) (ns : List ℕ) (bs : List Bool) → ((j : ℕ) → own_of end (i + j) (slice_get cs j) ≡ Idle)
+      → Ends i cs ns bs → (j : ℕ) → slice_get bs j ≢ Some true
   quiet_all i [] [] [] q h j g = cc
   quiet_all i (c ∷ cs) (n ∷ ns) (b ∷ bs) q h zero g =
       let e : own_step end i c ≡ Idle = rw add-zero at (q 0) in
@@ -177,7 +196,8 @@ module _ (s : Setting) (end : ℕ) where
   full_flag m (suc n) c false e h = let x : Full ≡ Idle = sym (ap (end_by end m n) e) ∙ sym (end_first end m n c) ∙ h in cc
   full_flag m n c true e h = refl
 
-  full_some : (i : ℕ) (cs : List PlainCell) (ns : List ℕ) (bs : List Bool) (j : ℕ) (c : PlainCell) → slice_get cs j ≡ Some c → own_step end (i + j) c ≡ Full → Ends i cs ns bs → slice_get bs j ≡ Some true
+  full_some : (i : ℕ) (cs : List PlainCell) (ns : List ℕ) (bs : List Bool) (j : ℕ) (c : PlainCell) → slice_get cs j ≡ Some c
+      → own_step end (i + j) c ≡ Full → Ends i cs ns bs → slice_get bs j ≡ Some true
   full_some i [] ns bs j c g e h = cc
   full_some i (x ∷ cs) (n ∷ ns) (b ∷ bs) zero c g e h =
       let xc : x ≡ c = cc in
@@ -196,7 +216,8 @@ module _ (s : Setting) (end : ℕ) where
   spent_flag m zero c b e h = not_ending b (sym e ∙ sym (end_now end m c) ∙ h)
   spent_flag m (suc n) c b e h = not_ending b (sym (ap (end_by end m n) e) ∙ sym (end_first end m n c) ∙ h)
 
-  spent_none : (i : ℕ) (cs : List PlainCell) (ns : List ℕ) (bs : List Bool) (j : ℕ) (c : PlainCell) → slice_get cs j ≡ Some c → own_step end (i + j) c ≡ Spent → Ends i cs ns bs → ⊥
+  spent_none : (i : ℕ) (cs : List PlainCell) (ns : List ℕ) (bs : List Bool) (j : ℕ) (c : PlainCell) → slice_get cs j ≡ Some c
+      → own_step end (i + j) c ≡ Spent → Ends i cs ns bs → ⊥
   spent_none i [] ns bs j c g e h = let y : ⊥ = cc in y
   spent_none i (x ∷ cs) (n ∷ ns) (b ∷ bs) zero c g e h =
       let xc : x ≡ c = cc in
@@ -210,7 +231,8 @@ module _ (s : Setting) (end : ℕ) where
   Finish cs bs = (rows : List Row) × (ds : List PlainCell) × Seq cs rows ds × ((Quiet end ds × AllEnd bs) ⊎ (Refused ds × SomeFull bs))
 
   one_step : (cs : List PlainCell) (ns : List ℕ) (bs : List Bool) → Safe s end cs → Ends 0 cs ns bs →
-      ((cs' : List PlainCell) (ns' : List ℕ) → total ns ≡ suc (total ns') → Safe s end cs' → Ends 0 cs' ns' bs → Finish cs' bs) → Finish cs bs
+      ((cs' : List PlainCell) (ns' : List ℕ) → total ns ≡ suc (total ns') → Safe s end cs' → Ends 0 cs' ns' bs → Finish cs' bs)
+          → Finish cs bs
   unfolding own_step
   one_step cs ns bs safe ends again = elim (before end (least_event 0 cs)) as (λ o. before end (least_event 0 cs) ≡ o → Finish cs bs) [
     | None ↦ λ n. let q : Quiet end cs = λ j. rw zero-add at (none_least end 0 cs n j) in
@@ -233,15 +255,18 @@ module _ (s : Setting) (end : ℕ) where
   ] refl
 
   -- the sequential run to the end comes to a quiet world, or to a step without a result, as the own runs do
-  pub to_the_end : (fuel : ℕ) (cs : List PlainCell) (ns : List ℕ) (bs : List Bool) → total ns ≤ fuel → Safe s end cs → Ends 0 cs ns bs → Finish cs bs
+  pub to_the_end : (fuel : ℕ) (cs : List PlainCell) (ns : List ℕ) (bs : List Bool) → total ns ≤ fuel → Safe s end cs → Ends 0 cs ns bs
+      → Finish cs bs
   to_the_end zero cs ns bs le safe ends = one_step cs ns bs safe ends (λ cs' ns' e safe' ends'. absurd (omega arith))
-  to_the_end (suc fuel) cs ns bs le safe ends = one_step cs ns bs safe ends (λ cs' ns' e safe' ends'. to_the_end fuel cs' ns' bs (omega arith) safe' ends')
+  to_the_end (suc fuel) cs ns bs le safe ends = one_step cs ns bs safe ends
+      (λ cs' ns' e safe' ends'. to_the_end fuel cs' ns' bs (omega arith) safe' ends')
 
   -- ---- what these steps are
 
   pub seq_schedule : {cs ds : List PlainCell} {rows : List Row} → Seq cs rows ds → (ms : List ℕ) × Sched s end cs ms rows ds
   seq_schedule rest = ([], stop)
-  seq_schedule (next {cs = cs} {e = e} {d = d} h x more) = let g = seq_schedule more in (e.key.member ∷ g.0, go (least_own end cs e h ∙ x) g.1)
+  seq_schedule (next {cs = cs} {e = e} {d = d} h x more) = let g = seq_schedule more in
+      (e.key.member ∷ g.0, go (least_own end cs e h ∙ x) g.1)
 
   module _ (within : end ≤ s.traffic.until) where
     abbrev pub run_by : ℕ → StepOutcome World → StepOutcome World
@@ -255,11 +280,13 @@ module _ (s : Setting) (end : ℕ) where
     unfolding step_to step_of
     step_none w h = ap (step_of s w) h
 
-    pub step_is : (w : World) (e : Event) → before end (least_event 0 w.cells) ≡ Some e → step_to s s.traffic.until w ≡ after_step s w e.key.member (step_at (Some e))
+    pub step_is : (w : World) (e : Event) → before end (least_event 0 w.cells) ≡ Some e → step_to s s.traffic.until w
+        ≡ after_step s w e.key.member (step_at (Some e))
     unfolding step_to step_of
     step_is w e h = ap (step_of s w) (before_more end s.traffic.until within (least_event 0 w.cells) e h)
 
-    pub after_stepped : (w : World) (m : ℕ) (d : Stepped) → after_step s w m (Done d) ≡ Done (record { cells = settled s m d 0 w.cells; trace = w.trace ++ d.row ∷ [] })
+    pub after_stepped : (w : World) (m : ℕ) (d : Stepped) → after_step s w m (Done d)
+        ≡ Done (record { cells = settled s m d 0 w.cells; trace = w.trace ++ d.row ∷ [] })
     unfolding after_step
     after_stepped w m d = refl
 
@@ -271,7 +298,8 @@ module _ (s : Setting) (end : ℕ) where
     unfolding after_step
     after_spent w m = refl
 
-    pub seq_run : {cs ds : List PlainCell} {rows : List Row} → Seq cs rows ds → (t : List Row) → run s (length rows) (record { cells = cs; trace = t }) ≡ Done (record { cells = ds; trace = t ++ rows })
+    pub seq_run : {cs ds : List PlainCell} {rows : List Row} → Seq cs rows ds → (t : List Row)
+        → run s (length rows) (record { cells = cs; trace = t }) ≡ Done (record { cells = ds; trace = t ++ rows })
     unfolding run
     seq_run (rest {cs = cs}) t = ap (λ (r : List Row). Done (record { cells = cs; trace = r })) (sym (append-nil t))
     seq_run (next {cs = cs} {e = e} {d = d} {rows = rows} {ds = ds} h x more) t =
@@ -281,7 +309,8 @@ module _ (s : Setting) (end : ℕ) where
         ∙ seq_run more (t ++ d.row ∷ [])
         ∙ ap (λ (r : List Row). Done (record { cells = ds; trace = r })) (append_assoc t (d.row ∷ []) rows)
 
-    pub seq_refused : {cs ds : List PlainCell} {rows : List Row} → Seq cs rows ds → Refused ds → (t : List Row) → run s (suc (length rows)) (record { cells = cs; trace = t }) ≡ Full
+    pub seq_refused : {cs ds : List PlainCell} {rows : List Row} → Seq cs rows ds → Refused ds → (t : List Row)
+        → run s (suc (length rows)) (record { cells = cs; trace = t }) ≡ Full
     seq_refused (rest {cs = cs}) r t =
         let w : World = record { cells = cs; trace = t } in
         run_first 0 w ∙ ap (run_by 0) (step_is w r.0 r.1 ∙ ap (after_step s w r.0.key.member) r.2 ∙ after_full w r.0.key.member)
@@ -292,7 +321,8 @@ module _ (s : Setting) (end : ℕ) where
         ∙ seq_refused more r (t ++ d.row ∷ [])
 
     -- none of the worlds before the last is quiet
-    pub seq_first : {cs ds : List PlainCell} {rows : List Row} → Seq cs rows ds → (t : List Row) (k : ℕ) → k < length rows → (u : World) → run s k (record { cells = cs; trace = t }) ≡ Done u → ¬ Quiet end u.cells
+    pub seq_first : {cs ds : List PlainCell} {rows : List Row} → Seq cs rows ds → (t : List Row) (k : ℕ) → k < length rows → (u : World)
+        → run s k (record { cells = cs; trace = t }) ≡ Done u → ¬ Quiet end u.cells
     unfolding run
     seq_first rest t k lt u g q = omega arith
     seq_first (next {cs = cs} {e = e} {d = d} h x more) t zero lt u g q =
@@ -302,4 +332,5 @@ module _ (s : Setting) (end : ℕ) where
     seq_first (next {cs = cs} {e = e} {d = d} h x more) t (suc k) lt u g q =
         let w : World = record { cells = cs; trace = t } in
         seq_first more (t ++ d.row ∷ []) k (omega arith) u
-        (sym (ap (run_by k) (step_is w e h ∙ ap (after_step s w e.key.member) x ∙ after_stepped w e.key.member d)) ∙ sym (run_first k w) ∙ g) q
+        (sym (ap (run_by k) (step_is w e h ∙ ap (after_step s w e.key.member) x ∙ after_stepped w e.key.member d)) ∙ sym (run_first k w)
+            ∙ g) q

@@ -1,16 +1,21 @@
 -- The worlds of the sequential run, the order of its rows, and safe ends.
-use Rattle.std.proofs.Common.{◌≡◌, ℕ, zero, suc, ◌<◌, ◌≤◌, ◌+◌, true, false, List, [], ◌∷◌, ◌++◌, length, refl, sym, ap, ◌∙◌, subst, ◌≢◌, ◌⊎◌, inl, inr, arith, Option, Some, None, slice_get, zero-add, eqb-true, ◌==◌, le_refl, add-zero}
+use Rattle.std.proofs.Common.{◌≡◌, ℕ, zero, suc, ◌<◌, ◌≤◌, ◌+◌, true, false, List, [], ◌∷◌, ◌++◌, length, refl, sym, ap, ◌∙◌, subst, ◌≢◌,
+    ◌⊎◌, inl, inr, arith, Option, Some, None, slice_get, zero-add, eqb-true, ◌==◌, le_refl, add-zero}
 use Rattle.std.proofs.lemmas.Bool.{eqb-false}
 use Rattle.srm_cell.proofs.CellSteps.{IsOf, IsStepOf, SentBy, before_of, before_some, next_event_of, some_not_idle, step_at_of}
 use Rattle.srm_cell.proofs.Counts.{Taken, above_weaker, next_taken, rest_sound, sound_step}
 use Rattle.srm_cell.proofs.OwnRunLemmas.{rows_by, rows_first}
 use Rattle.srm_cell.proofs.OwnRunsEnd.{SentNothing, rest_silent, silent_step}
-use Rattle.srm_cell.proofs.Rising.{Above, IsAbove, OnEvent, OnStep, RowOf, SentAt, before_on, hear_at_above, next_above, row_step, step_above}
-use Rattle.srm_cell.proofs.Tidy.{IsTidy, Least, NotBefore, RestTidy, above_least, arrival_is, later_not_before, least_earlier, next_tidy, not_before_time, tidy_step, tidy_told}
-use Rattle.srm_cell.specs.Cells.{Done, Event, Full, Idle, PlainCell, Silent, Spent, Stepped, before, hear, hear_at, next_event, own_step, step_at}
+use Rattle.srm_cell.proofs.Rising.{Above, IsAbove, OnEvent, OnStep, RowOf, SentAt, before_on, hear_at_above, next_above, row_step,
+    step_above}
+use Rattle.srm_cell.proofs.Tidy.{IsTidy, Least, NotBefore, RestTidy, above_least, arrival_is, later_not_before, least_earlier, next_tidy,
+    not_before_time, tidy_step, tidy_told}
+use Rattle.srm_cell.specs.Cells.{Done, Event, Full, Idle, PlainCell, Silent, Spent, Stepped, before, hear, hear_at, next_event, own_step,
+    step_at}
 use Rattle.srm_cell.specs.OwnRuns.{own_rows, told_to}
 use Rattle.srm_cell.specs.Setting.{IsFit, Setting, arrival_of}
-use Rattle.srm_engine.proofs.RunLemmas.{Seq, after_full, after_spent, after_stepped, least_from, next, rest, run_by, run_first, step_is, step_none}
+use Rattle.srm_engine.proofs.RunLemmas.{Seq, after_full, after_spent, after_stepped, least_from, next, rest, run_by, run_first, step_is,
+    step_none}
 use Rattle.srm_engine.proofs.ScheduleLemmas.{Safe, same_Some, was_some}
 use Rattle.srm_engine.proofs.Settled.{at_member, get_after}
 use Rattle.srm_engine.specs.Schedules.{AllSendLate, SendsLate}
@@ -30,7 +35,8 @@ get_below [] j c h = cc
 get_below (x ∷ cs) zero c h = omega arith
 get_below (x ∷ cs) (suc j) c h = let l = get_below cs j c h in omega arith
 
-pub least_of_all : (k : Key) (i : ℕ) (cs : List PlainCell) → Least k (least_event i cs) → (j : ℕ) (c : PlainCell) → slice_get cs j ≡ Some c → Least k (next_event (i + j) c)
+pub least_of_all : (k : Key) (i : ℕ) (cs : List PlainCell) → Least k (least_event i cs) → (j : ℕ) (c : PlainCell) → slice_get cs j ≡ Some c
+    → Least k (next_event (i + j) c)
 unfolding least_event
 least_of_all k i [] h j c g = cc
 least_of_all k i (x ∷ cs) h zero c g =
@@ -50,13 +56,16 @@ module _ (s : Setting) (fit : IsFit s) where
   abbrev pub EachCell : (ℕ → PlainCell → Type 0) → List PlainCell → Type 0
   EachCell Q cs = (j : ℕ) (c : PlainCell) → slice_get cs j ≡ Some c → Q j c
 
-  each_at : (Q : ℕ → PlainCell → Type 0) (m : ℕ) (d : Stepped) (j : ℕ) (b : PlainCell) → Q m d.cell → (j ≢ m → Q j (told_to s.traffic d.row.sent j b)) → Q j (at_member s m d j b)
+  each_at : (Q : ℕ → PlainCell → Type 0) (m : ℕ) (d : Stepped) (j : ℕ) (b : PlainCell) → Q m d.cell
+      → (j ≢ m → Q j (told_to s.traffic d.row.sent j b)) → Q j (at_member s m d j b)
   each_at Q m d j b h g = elim (j == m) as (λ x. (j == m) ≡ x → Q j (at_member s m d j b)) [
     | true ↦ λ e. rw e (subst (λ k. Q k d.cell) (sym (eqb-true _ _ e)) h)
     | false ↦ λ e. rw e (g (eqb-false _ _ e))
   ] refl
 
-  pub each_after : (Q : ℕ → PlainCell → Type 0) (cs : List PlainCell) (m : ℕ) (d : Stepped) → Q m d.cell → ((j : ℕ) (c : PlainCell) → slice_get cs j ≡ Some c → j ≢ m → Q j (told_to s.traffic d.row.sent j c)) → EachCell Q (settled s m d 0 cs)
+  pub each_after : (Q : ℕ → PlainCell → Type 0) (cs : List PlainCell) (m : ℕ) (d : Stepped) → Q m d.cell
+      → ((j : ℕ) (c : PlainCell) → slice_get cs j ≡ Some c → j ≢ m → Q j (told_to s.traffic d.row.sent j c))
+      → EachCell Q (settled s m d 0 cs)
   each_after Q cs m d h g j c e =
       let w = was_some s 0 (at_member s m d j) (slice_get cs j) c (sym (get_after s m d j cs) ∙ e) in
       subst (Q j) w.2 (each_at Q m d j w.0 h (g j w.0 w.1))
@@ -85,7 +94,8 @@ module _ (s : Setting) (fit : IsFit s) where
       pub sender : SentBy e.key.member d.row.sent
       pub sent_at : SentAt e.key.time d.row.sent
 
-    pub step_facts : (cs : List PlainCell) (e : Event) (d : Stepped) → before end (least_event 0 cs) ≡ Some e → step_at (Some e) ≡ Done d → StepFacts cs e d
+    pub step_facts : (cs : List PlainCell) (e : Event) (d : Stepped) → before end (least_event 0 cs) ≡ Some e → step_at (Some e) ≡ Done d
+        → StepFacts cs e d
     step_facts cs e d h x =
         let r = least_from end 0 cs e h in
         let at_j : before end (next_event r.0 r.1) ≡ Some e = rw zero-add at r.3 in
@@ -100,15 +110,22 @@ module _ (s : Setting) (fit : IsFit s) where
           sent_at = row.1;
         }
 
-    pub good_step : (cs : List PlainCell) (e : Event) (d : Stepped) → Good cs → before end (least_event 0 cs) ≡ Some e → step_at (Some e) ≡ Done d → Good (settled s e.key.member d 0 cs)
+    pub good_step : (cs : List PlainCell) (e : Event) (d : Stepped) → Good cs → before end (least_event 0 cs) ≡ Some e → step_at (Some e)
+        ≡ Done d → Good (settled s e.key.member d 0 cs)
     good_step cs e d good h x =
         let f = step_facts cs e d h x in
-        let t = subst (OnEvent RestTidy) f.event (before_on RestTidy end (next_event e.key.member f.cell) (next_tidy e.key.member f.cell (good.tidy e.key.member f.cell f.here))) in
-        let taken = subst (OnEvent (Taken f.cell)) f.event (before_on (Taken f.cell) end (next_event e.key.member f.cell) (next_taken e.key.member f.cell)) in
+        let t = subst (OnEvent RestTidy) f.event (before_on RestTidy end (next_event e.key.member f.cell)
+            (next_tidy e.key.member f.cell (good.tidy e.key.member f.cell f.here))) in
+        let taken = subst (OnEvent (Taken f.cell)) f.event
+            (before_on (Taken f.cell) end (next_event e.key.member f.cell) (next_taken e.key.member f.cell)) in
         record {
           members = length-settled e.key.member d 0 cs ∙ good.members;
-          tidy = each_after (λ j c. IsTidy c) cs e.key.member d (subst (OnStep (λ d. IsTidy d.cell)) x (tidy_step e t)) (λ j c g ne. tidy_told s.traffic d.row.sent j c (good.tidy j c g));
-          sound = each_after (λ j c. SoundRecord c.holds) cs e.key.member d (subst (OnStep (λ d. SoundRecord d.cell.holds)) x (sound_step e (rest_sound f.cell e taken (good.sound e.key.member f.cell f.here)))) (λ j c g ne. told_sound d.row.sent j c (good.sound j c g));
+          tidy = each_after (λ j c. IsTidy c) cs e.key.member d (subst (OnStep (λ d. IsTidy d.cell)) x (tidy_step e t))
+              (λ j c g ne. tidy_told s.traffic d.row.sent j c (good.tidy j c g));
+          sound = each_after (λ j c. SoundRecord c.holds) cs e.key.member
+              d (subst (OnStep (λ d. SoundRecord d.cell.holds)) x
+              (sound_step e (rest_sound f.cell e taken (good.sound e.key.member f.cell f.here))))
+              (λ j c g ne. told_sound d.row.sent j c (good.sound j c g));
         }
 
     pub good_seq : {cs ds : List PlainCell} {rows : List Row} → Seq s end cs rows ds → Good cs → Good ds
@@ -116,50 +133,65 @@ module _ (s : Setting) (fit : IsFit s) where
     good_seq (next {cs = cs} {e = e} {d = d} h x more) good = good_seq more (good_step cs e d good h x)
 
     -- all that is pending is from the least event's key on
-    pub above_all : (cs : List PlainCell) (e : Event) → Good cs → before end (least_event 0 cs) ≡ Some e → EachCell (Above (NotBefore e.key)) cs
+    pub above_all : (cs : List PlainCell) (e : Event) → Good cs → before end (least_event 0 cs) ≡ Some e
+        → EachCell (Above (NotBefore e.key)) cs
     above_all cs e good h j c g =
         let b = before_some end (least_event 0 cs) e h in
         let least : Least e.key (least_event 0 cs) = subst (Least e.key) (sym b.0) (from_refl key_cmp key_total e.key) in
         above_least e.key j c (good.tidy j c g) (rw zero-add at (least_of_all e.key 0 cs least j c g))
 
     -- a packet's arrivals come later than the step that sent it
-    told_above : (k : Key) (m : ℕ) (x : Option Packet) → m < s.traffic.members → SentBy m x → SentAt k.time x → (j : ℕ) (c : PlainCell) → Above (NotBefore k) j c → Above (NotBefore k) j (told_to s.traffic x j c)
+    told_above : (k : Key) (m : ℕ) (x : Option Packet) → m < s.traffic.members → SentBy m x → SentAt k.time x → (j : ℕ) (c : PlainCell)
+        → Above (NotBefore k) j c → Above (NotBefore k) j (told_to s.traffic x j c)
     unfolding hear
     told_above k m None lt by at j c a = a
     told_above k m (Some p) lt by at j c a = hear_at_above (NotBefore k) j p (arrival_of s.traffic p j) c
         (λ t g. let f = arrival_is s.traffic p j t g in
-        let away : 0 < s.traffic.distance p.id.sender j = fit.apart p.id.sender j (subst (λ n. n < s.traffic.members) (sym by) lt) f.0 (λ e. f.1 (sym e)) in
+        let away : 0 < s.traffic.distance p.id.sender j = fit.apart p.id.sender j (subst (λ n. n < s.traffic.members) (sym by) lt) f.0
+            (λ e. f.1 (sym e)) in
         let later = f.2 in
         later_not_before k _ (omega arith)) a
 
-    -- a predicate on keys that holds of all that is pending, and of all keys of later times, holds of what is pending after the step
-    told_above_by : (P : Key → Type 0) (t m : ℕ) (x : Option Packet) → ((k : Key) → t < k.time → P k) → m < s.traffic.members → SentBy m x → SentAt t x → (j : ℕ) (c : PlainCell) → Above P j c → Above P j (told_to s.traffic x j c)
+    -- a predicate on keys that holds of all that is pending, and of all keys of later times, holds of what is pending
+    -- after the step
+    told_above_by : (P : Key → Type 0) (t m : ℕ) (x : Option Packet) → ((k : Key) → t < k.time → P k) → m < s.traffic.members → SentBy m x
+        → SentAt t x → (j : ℕ) (c : PlainCell) → Above P j c → Above P j (told_to s.traffic x j c)
     unfolding hear
     told_above_by P t m None later lt by at j c a = a
     told_above_by P t m (Some p) later lt by at j c a = hear_at_above P j p (arrival_of s.traffic p j) c
         (λ u g. let f = arrival_is s.traffic p j u g in
-        let away : 0 < s.traffic.distance p.id.sender j = fit.apart p.id.sender j (subst (λ n. n < s.traffic.members) (sym by) lt) f.0 (λ e. f.1 (sym e)) in
+        let away : 0 < s.traffic.distance p.id.sender j = fit.apart p.id.sender j (subst (λ n. n < s.traffic.members) (sym by) lt) f.0
+            (λ e. f.1 (sym e)) in
         let arrives = f.2 in
         later _ (omega arith)) a
 
-    pub member_below : (cs : List PlainCell) (e : Event) (d : Stepped) → Good cs → before end (least_event 0 cs) ≡ Some e → step_at (Some e) ≡ Done d → e.key.member < s.traffic.members
-    member_below cs e d good h x = let f = step_facts cs e d h x in subst (λ n. e.key.member < n) good.members (get_below cs e.key.member f.cell f.here)
+    pub member_below : (cs : List PlainCell) (e : Event) (d : Stepped) → Good cs → before end (least_event 0 cs) ≡ Some e → step_at (Some e)
+        ≡ Done d → e.key.member < s.traffic.members
+    member_below cs e d good h x = let f = step_facts cs e d h x in subst (λ n. e.key.member < n) good.members
+        (get_below cs e.key.member f.cell f.here)
 
-    pub above_step : (P : Key → Type 0) (cs : List PlainCell) (e : Event) (d : Stepped) → Good cs → before end (least_event 0 cs) ≡ Some e → step_at (Some e) ≡ Done d → ((k : Key) → e.key.time < k.time → P k)
-        → Above P e.key.member d.cell → ((j : ℕ) (c : PlainCell) → slice_get cs j ≡ Some c → j ≢ e.key.member → Above P j c) → EachCell (Above P) (settled s e.key.member d 0 cs)
+    pub above_step : (P : Key → Type 0) (cs : List PlainCell) (e : Event) (d : Stepped) → Good cs → before end (least_event 0 cs) ≡ Some e
+        → step_at (Some e) ≡ Done d → ((k : Key) → e.key.time < k.time → P k)
+        → Above P e.key.member d.cell → ((j : ℕ) (c : PlainCell) → slice_get cs j ≡ Some c → j ≢ e.key.member → Above P j c)
+            → EachCell (Above P) (settled s e.key.member d 0 cs)
     above_step P cs e d good h x later mine all =
         let f = step_facts cs e d h x in
-        each_after (Above P) cs e.key.member d mine (λ j c g ne. told_above_by P e.key.time e.key.member d.row.sent later (member_below cs e d good h x) f.sender f.sent_at j c (all j c g ne))
+        each_after (Above P) cs e.key.member d mine (λ j c g ne. told_above_by P e.key.time e.key.member d.row.sent later
+            (member_below cs e d good h x) f.sender f.sent_at j c (all j c g ne))
 
-    pub above_after : (cs : List PlainCell) (e : Event) (d : Stepped) → Good cs → before end (least_event 0 cs) ≡ Some e → step_at (Some e) ≡ Done d → EachCell (Above (NotBefore e.key)) (settled s e.key.member d 0 cs)
+    pub above_after : (cs : List PlainCell) (e : Event) (d : Stepped) → Good cs → before end (least_event 0 cs) ≡ Some e → step_at (Some e)
+        ≡ Done d → EachCell (Above (NotBefore e.key)) (settled s e.key.member d 0 cs)
     above_after cs e d good h x =
         let f = step_facts cs e d h x in
         let all = above_all cs e good h in
         let m = e.key.member in
         let lt : m < s.traffic.members = subst (λ n. m < n) good.members (get_below cs m f.cell f.here) in
-        let a = subst (OnEvent (IsAbove (NotBefore e.key) m)) f.event (before_on (IsAbove (NotBefore e.key) m) end (next_event m f.cell) (next_above (NotBefore e.key) m f.cell (all m f.cell f.here))) in
+        let a = subst (OnEvent (IsAbove (NotBefore e.key) m)) f.event
+            (before_on (IsAbove (NotBefore e.key) m) end (next_event m f.cell)
+            (next_above (NotBefore e.key) m f.cell (all m f.cell f.here))) in
         each_after (Above (NotBefore e.key)) cs m d
-        (subst (OnStep (λ d. Above (NotBefore e.key) m d.cell)) x (step_above (NotBefore e.key) m e.key.time (later_not_before e.key) e refl a.1))
+        (subst (OnStep (λ d. Above (NotBefore e.key) m d.cell)) x
+            (step_above (NotBefore e.key) m e.key.time (later_not_before e.key) e refl a.1))
         (λ j c g ne. told_above e.key m d.row.sent lt f.sender f.sent_at j c (all j c g))
 
     -- the first row, if any, is not before k
@@ -167,13 +199,15 @@ module _ (s : Setting) (fit : IsFit s) where
     FirstFrom k [] = Unit {0}
     FirstFrom k (r ∷ rs) = NotBefore k r.key
 
-    seq_from : {cs ds : List PlainCell} {rows : List Row} (k : Key) → Seq s end cs rows ds → EachCell (Above (NotBefore k)) cs → FirstFrom k rows
+    seq_from : {cs ds : List PlainCell} {rows : List Row} (k : Key) → Seq s end cs rows ds → EachCell (Above (NotBefore k)) cs
+        → FirstFrom k rows
     unfolding FirstFrom
     seq_from k rest a = tt
     seq_from k (next {cs = cs} {e = e} {d = d} h x more) a =
         let f = step_facts cs e d h x in
         let m = e.key.member in
-        let b = subst (OnEvent (IsAbove (NotBefore k) m)) f.event (before_on (IsAbove (NotBefore k) m) end (next_event m f.cell) (next_above (NotBefore k) m f.cell (a m f.cell f.here))) in
+        let b = subst (OnEvent (IsAbove (NotBefore k) m)) f.event
+            (before_on (IsAbove (NotBefore k) m) end (next_event m f.cell) (next_above (NotBefore k) m f.cell (a m f.cell f.here))) in
         subst (NotBefore k) (sym f.key) b.0
 
     first_place : (r : Row) (rows : List Row) → FirstFrom r.key rows → place row_cmp r rows ≡ r ∷ rows
@@ -191,21 +225,31 @@ module _ (s : Setting) (fit : IsFit s) where
 
   -- ---- worlds of the sequential run
 
-  pub run_seq : (n : ℕ) (w v : World) → run s n w ≡ Done v → (rows : List Row) × Seq s s.traffic.until w.cells rows v.cells × (length rows ≡ n)
+  pub run_seq : (n : ℕ) (w v : World) → run s n w ≡ Done v → (rows : List Row) × Seq s s.traffic.until w.cells rows v.cells
+      × (length rows ≡ n)
   unfolding run
   run_seq zero w v h = let e : w ≡ v = cc in ([], subst (λ (u : World). Seq s s.traffic.until w.cells [] u.cells) e rest, refl)
   run_seq (suc n) w v h =
       let within = le_refl s.traffic.until in
       let by = sym (run_first s s.traffic.until within n w) ∙ h in
-      elim (before s.traffic.until (least_event 0 w.cells)) as (λ o. before s.traffic.until (least_event 0 w.cells) ≡ o → (rows : List Row) × Seq s s.traffic.until w.cells rows v.cells × (length rows ≡ suc n)) [
-        | None ↦ λ e. let x : Idle ≡ Done v = sym (ap (run_by s s.traffic.until within n) (step_none s s.traffic.until within w e)) ∙ by in cc
-        | Some e ↦ λ b. elim (step_at (Some e)) as (λ o. step_at (Some e) ≡ o → (rows : List Row) × Seq s s.traffic.until w.cells rows v.cells × (length rows ≡ suc n)) [
+      elim (before s.traffic.until (least_event 0 w.cells)) as
+          (λ o. before s.traffic.until (least_event 0 w.cells) ≡ o → (rows : List Row) × Seq s s.traffic.until w.cells rows v.cells
+          × (length rows ≡ suc n)) [
+        | None ↦ λ e. let x : Idle ≡ Done v = sym (ap (run_by s s.traffic.until within n) (step_none s s.traffic.until within w e))
+            ∙ by in cc
+        | Some e ↦ λ b. elim (step_at (Some e)) as (λ o. step_at (Some e)
+            ≡ o → (rows : List Row) × Seq s s.traffic.until w.cells rows v.cells × (length rows ≡ suc n)) [
           | Idle ↦ λ x. absurd (some_not_idle e x)
-          | Full ↦ λ x. let y : Full ≡ Done v = sym (ap (run_by s s.traffic.until within n) (step_is s s.traffic.until within w e b ∙ ap (after_step s w e.key.member) x ∙ after_full s s.traffic.until within w e.key.member)) ∙ by in cc
-          | Spent ↦ λ x. let y : Spent ≡ Done v = sym (ap (run_by s s.traffic.until within n) (step_is s s.traffic.until within w e b ∙ ap (after_step s w e.key.member) x ∙ after_spent s s.traffic.until within w e.key.member)) ∙ by in cc
+          | Full ↦ λ x. let y : Full ≡ Done v = sym (ap (run_by s s.traffic.until within n)
+              (step_is s s.traffic.until within w e b ∙ ap (after_step s w e.key.member) x
+              ∙ after_full s s.traffic.until within w e.key.member)) ∙ by in cc
+          | Spent ↦ λ x. let y : Spent ≡ Done v = sym
+              (ap (run_by s s.traffic.until within n) (step_is s s.traffic.until within w e b ∙ ap (after_step s w e.key.member) x
+              ∙ after_spent s s.traffic.until within w e.key.member)) ∙ by in cc
           | Done d ↦ λ x.
               let g = run_seq n (record { cells = settled s e.key.member d 0 w.cells; trace = w.trace ++ d.row ∷ [] }) v
-              (sym (ap (run_by s s.traffic.until within n) (step_is s s.traffic.until within w e b ∙ ap (after_step s w e.key.member) x ∙ after_stepped s s.traffic.until within w e.key.member d)) ∙ by) in
+              (sym (ap (run_by s s.traffic.until within n) (step_is s s.traffic.until within w e b ∙ ap (after_step s w e.key.member) x
+                  ∙ after_stepped s s.traffic.until within w e.key.member d)) ∙ by) in
               (d.row ∷ g.0, next b x g.1, ap suc g.2)
         ] refl
       ] refl
@@ -213,13 +257,15 @@ module _ (s : Setting) (fit : IsFit s) where
   opening_tidy : (n i : ℕ) → i + n ≡ s.traffic.members → (j : ℕ) (c : PlainCell) → slice_get (opening_cells s n i) j ≡ Some c → IsTidy c
   unfolding opening_cells
   opening_tidy zero i e j c h = cc
-  opening_tidy (suc n) i e zero c h = subst IsTidy (same_Some _ _ h) (record { flights = tt; marks = rises mark_cmp mark_total (s.script i) (fit.scripts i (omega arith)) })
+  opening_tidy (suc n) i e zero c h = subst IsTidy (same_Some _ _ h)
+      (record { flights = tt; marks = rises mark_cmp mark_total (s.script i) (fit.scripts i (omega arith)) })
   opening_tidy (suc n) i e (suc j) c h = opening_tidy n (suc i) (omega arith) j c h
 
   opening_sound : (n i j : ℕ) (c : PlainCell) → slice_get (opening_cells s n i) j ≡ Some c → SoundRecord c.holds
   unfolding opening_cells
   opening_sound zero i j c h = cc
-  opening_sound (suc n) i zero c h = subst (λ (b : PlainCell). SoundRecord b.holds) (same_Some _ _ h) (record { asks = tt; answers = tt; listener = λ l. (refl, refl) })
+  opening_sound (suc n) i zero c h = subst (λ (b : PlainCell). SoundRecord b.holds) (same_Some _ _ h)
+      (record { asks = tt; answers = tt; listener = λ l. (refl, refl) })
   opening_sound (suc n) i (suc j) c h = opening_sound n (suc i) j c h
 
   pub length-opening : (n i : ℕ) → length (opening_cells s n i) ≡ n
@@ -229,7 +275,8 @@ module _ (s : Setting) (fit : IsFit s) where
 
   pub good_opening : Good (opening s).cells
   unfolding opening
-  good_opening = record { members = length-opening s.traffic.members 0; tidy = opening_tidy s.traffic.members 0 (zero-add s.traffic.members); sound = opening_sound s.traffic.members 0 }
+  good_opening = record { members = length-opening s.traffic.members 0; tidy =
+      opening_tidy s.traffic.members 0 (zero-add s.traffic.members); sound = opening_sound s.traffic.members 0 }
 
   pub good_reached : (n : ℕ) (w : World) → run s n (opening s) ≡ Done w → Good w.cells
   good_reached n w h = good_seq s.traffic.until (run_seq n (opening s) w h).1 good_opening
@@ -240,7 +287,8 @@ module _ (s : Setting) (fit : IsFit s) where
     abbrev FromTime : Key → Type 0
     FromTime k = start ≤ k.time
 
-    module _ (m : ℕ) (lt : m < s.traffic.members) (far : (b : ℕ) → b < s.traffic.members → b ≢ m → end ≤ start + s.traffic.distance m b) where
+    module _ (m : ℕ) (lt : m < s.traffic.members) (far : (b : ℕ) → b < s.traffic.members → b ≢ m → end ≤ start + s.traffic.distance m b)
+        where
       sends_late : (t : ℕ) (r : Row) → start ≤ t → SentBy m r.sent → SentAt t r.sent → SendsLate s end r
       sends_late t r from by at p e j a g =
           let f = arrival_is s.traffic p j a g in
@@ -253,12 +301,15 @@ module _ (s : Setting) (fit : IsFit s) where
       pub own_late : (n : ℕ) (c : PlainCell) → Above FromTime m c → AllSendLate s end (own_rows end m n c)
       unfolding own_rows own_step
       own_late zero c a = tt
-      own_late (suc n) c a = subst (AllSendLate s end) (sym (rows_first end m n c)) (by_event (λ b h. own_late n b h) (before end (next_event m c)) refl)
+      own_late (suc n) c a = subst (AllSendLate s end) (sym (rows_first end m n c))
+          (by_event (λ b h. own_late n b h) (before end (next_event m c)) refl)
         where
-          by_event : ((b : PlainCell) → Above FromTime m b → AllSendLate s end (own_rows end m n b)) → (o : Option Event) → before end (next_event m c) ≡ o → AllSendLate s end (rows_by end m n (own_step end m c))
+          by_event : ((b : PlainCell) → Above FromTime m b → AllSendLate s end (own_rows end m n b)) → (o : Option Event)
+              → before end (next_event m c) ≡ o → AllSendLate s end (rows_by end m n (own_step end m c))
           by_event again None h = subst (λ o. AllSendLate s end (rows_by end m n (step_at o))) (sym h) tt
           by_event again (Some e) h =
-              let b = subst (OnEvent (IsAbove FromTime m)) h (before_on (IsAbove FromTime m) end (next_event m c) (next_above FromTime m c a)) in
+              let b = subst (OnEvent (IsAbove FromTime m)) h
+                  (before_on (IsAbove FromTime m) end (next_event m c) (next_above FromTime m c a)) in
               let from : start ≤ e.key.time = b.0 in
               let of_m : e.key.member ≡ m = subst (IsOf m) h (before_of m end (next_event m c) (next_event_of m c)) in
               subst (λ o. AllSendLate s end (rows_by end m n (step_at o))) (sym h)
@@ -267,8 +318,10 @@ module _ (s : Setting) (fit : IsFit s) where
                 | Full ↦ λ x. subst (λ o. AllSendLate s end (rows_by end m n o)) (sym x) tt
                 | Spent ↦ λ x. subst (λ o. AllSendLate s end (rows_by end m n o)) (sym x) tt
                 | Done d ↦ λ x. subst (λ o. AllSendLate s end (rows_by end m n o)) (sym x) (
-                  sends_late e.key.time d.row from (subst (IsStepOf m) x (step_at_of m (Some e) of_m)).1 (subst (OnStep (RowOf e.key)) x (row_step e)).1,
-                  again d.cell (subst (OnStep (λ d. Above FromTime m d.cell)) x (step_above FromTime m e.key.time (λ k l. omega arith) e refl b.1)),
+                  sends_late e.key.time d.row from (subst (IsStepOf m) x (step_at_of m (Some e) of_m)).1
+                      (subst (OnStep (RowOf e.key)) x (row_step e)).1,
+                  again d.cell (subst (OnStep (λ d. Above FromTime m d.cell)) x
+                      (step_above FromTime m e.key.time (λ k l. omega arith) e refl b.1)),
                 )
               ] refl)
 
@@ -276,7 +329,8 @@ module _ (s : Setting) (fit : IsFit s) where
   above_time k m c a = above_weaker (NotBefore k) (λ l. k.time ≤ l.time) (λ l h. not_before_time k l h) m c a
 
   -- a window from the least pending time is safe, where it is no wider than any distance
-  pub window_safe : (cs : List PlainCell) → Good cs → (until : ℕ) (e : Event) → before until (least_event 0 cs) ≡ Some e → (width end : ℕ) → end ≤ e.key.time + width →
+  pub window_safe : (cs : List PlainCell) → Good cs → (until : ℕ) (e : Event) → before until (least_event 0 cs) ≡ Some e → (width end : ℕ)
+      → end ≤ e.key.time + width →
       ((a b : ℕ) → a < s.traffic.members → b < s.traffic.members → a ≢ b → width ≤ s.traffic.distance a b) → Safe s end cs
   window_safe cs good until e h width end within wide m c g n =
       let lt = subst (λ k. m < k) good.members (get_below cs m c g) in
@@ -288,9 +342,11 @@ module _ (s : Setting) (fit : IsFit s) where
   silent_late : (end m n : ℕ) (c : PlainCell) → Silent c.holds → AllSendLate s end (own_rows end m n c)
   unfolding own_rows own_step
   silent_late end m zero c h = tt
-  silent_late end m (suc n) c h = subst (AllSendLate s end) (sym (rows_first end m n c)) (by_event (λ b g. silent_late end m n b g) (before end (next_event m c)) refl)
+  silent_late end m (suc n) c h = subst (AllSendLate s end) (sym (rows_first end m n c))
+      (by_event (λ b g. silent_late end m n b g) (before end (next_event m c)) refl)
     where
-      by_event : ((b : PlainCell) → Silent b.holds → AllSendLate s end (own_rows end m n b)) → (o : Option Event) → before end (next_event m c) ≡ o → AllSendLate s end (rows_by end m n (own_step end m c))
+      by_event : ((b : PlainCell) → Silent b.holds → AllSendLate s end (own_rows end m n b)) → (o : Option Event)
+          → before end (next_event m c) ≡ o → AllSendLate s end (rows_by end m n (own_step end m c))
       by_event again None q = subst (λ o. AllSendLate s end (rows_by end m n (step_at o))) (sym q) tt
       by_event again (Some e) q =
           let taken = subst (OnEvent (Taken c)) q (before_on (Taken c) end (next_event m c) (next_taken m c)) in
@@ -308,11 +364,13 @@ module _ (s : Setting) (fit : IsFit s) where
   idle_late : (end m n : ℕ) (c : PlainCell) → next_event m c ≡ None → AllSendLate s end (own_rows end m n c)
   unfolding own_rows own_step
   idle_late end m zero c h = tt
-  idle_late end m (suc n) c h = subst (AllSendLate s end) (sym (rows_first end m n c)) (subst (λ o. AllSendLate s end (rows_by end m n (step_at (before end o)))) (sym h) tt)
+  idle_late end m (suc n) c h = subst (AllSendLate s end) (sym (rows_first end m n c))
+      (subst (λ o. AllSendLate s end (rows_by end m n (step_at (before end o)))) (sym h) tt)
 
   -- an end that no member's next event, with the way from it to any other, falls short of is safe
   pub promise_safe : (cs : List PlainCell) → Good cs → (end : ℕ)
-      → ((m : ℕ) (c : PlainCell) (e : Event) → slice_get cs m ≡ Some c → next_event m c ≡ Some e → Silent c.holds ⊎ ((b : ℕ) → b < s.traffic.members → b ≢ m → end ≤ e.key.time + s.traffic.distance m b))
+      → ((m : ℕ) (c : PlainCell) (e : Event) → slice_get cs m ≡ Some c → next_event m c ≡ Some e → Silent c.holds
+          ⊎ ((b : ℕ) → b < s.traffic.members → b ≢ m → end ≤ e.key.time + s.traffic.distance m b))
       → Safe s end cs
   promise_safe cs good end promise m c g n = elim (next_event m c) as (λ o. next_event m c ≡ o → AllSendLate s end (own_rows end m n c)) [
     | None ↦ λ h. idle_late end m n c h

@@ -1,5 +1,7 @@
 -- How soon something is due in each group, after own runs and after packets were heard.
-use Rattle.std.proofs.Common.{◌≡◌, ◌⊎◌, inl, inr, ℕ, zero, suc, ◌+◌, ◌-◌, ◌*◌, ◌/◌, ◌%◌, ◌<◌, ◌≤◌, ◌==◌, true, false, cond, List, [], ◌∷◌, ◌++◌, Option, Some, None, Ordering, Less, Equal, Greater, refl, sym, ap, ◌∙◌, subst, arith, slice_get, slice_set, get_or, length, length-append, append-nil, take, drop, nat_lt, le-ltb, eqb-true, zero-add}
+use Rattle.std.proofs.Common.{◌≡◌, ◌⊎◌, inl, inr, ℕ, zero, suc, ◌+◌, ◌-◌, ◌*◌, ◌/◌, ◌%◌, ◌<◌, ◌≤◌, ◌==◌, true, false, cond, List, [], ◌∷◌,
+    ◌++◌, Option, Some, None, Ordering, Less, Equal, Greater, refl, sym, ap, ◌∙◌, subst, arith, slice_get, slice_set, get_or, length,
+    length-append, append-nil, take, drop, nat_lt, le-ltb, eqb-true, zero-add}
 use Rattle.std.proofs.Math.Nat.{suc-mul}
 use Rattle.std.proofs.lemmas.Bool.{eqb-false}
 use Rattle.std.proofs.lemmas.Bool.Decides.{nat_tests}
@@ -64,7 +66,8 @@ group_within cut (g ∷ gs) (suc k) d pos cuts lt =
     is_full (inl e) = e
     is_full (inr none) = let no : length gs ≡ 0 = ap length (no_more_groups gs none) in absurd (omega arith)
 
-module _ {X : Type 0} {H : X → Type 0} (f : DynBox X Global H → Record) (cut : ℕ) (gs : List (Vec (Cell X H))) (ps : List PlainCell) (pos : 0 < cut) (h : AreGrouped f cut gs ps) where
+module _ {X : Type 0} {H : X → Type 0} (f : DynBox X Global H → Record) (cut : ℕ) (gs : List (Vec (Cell X H))) (ps : List PlainCell)
+    (pos : 0 < cut) (h : AreGrouped f cut gs ps) where
   -- the cells of group k are those of its members
   pub those_of_group : (k : ℕ) (g : Vec (Cell X H)) → k < length gs → g ≡ get_or gs k g → AreThose f (k * cut) g.items ps
   those_of_group k g lt is j c get =
@@ -81,7 +84,8 @@ module _ {X : Type 0} {H : X → Type 0} (f : DynBox X Global H → Record) (cut
       (p.0, p.1, h.cells.each (k * cut + j) c p.0 (here.get g ∙ ap (λ l. slice_get l j) (sym own) ∙ get) p.1)
 
   -- the members of group k are those with that quotient
-  pub soonest_of_group : (s : Setting) (k : ℕ) (g : Vec (Cell X H)) (x : Soonest) → k < length gs → g ≡ get_or gs k g → IsSoonest s (IsAmong (k * cut) (length g.items)) ps x
+  pub soonest_of_group : (s : Setting) (k : ℕ) (g : Vec (Cell X H)) (x : Soonest) → k < length gs → g ≡ get_or gs k g
+      → IsSoonest s (IsAmong (k * cut) (length g.items)) ps x
       → IsSoonest s (λ m. m / cut ≡ k) ps x
   soonest_of_group s k g x lt is soon =
       let at = group_within cut gs k g pos h.cuts lt in
@@ -101,7 +105,8 @@ module _ {X : Type 0} {H : X → Type 0} (f : DynBox X Global H → Record) (cut
       at_offset m le = (m - k * cut, omega arith)
 
   -- what a look at the cells of group k tells is how soon something is due in the group
-  pub looked_at : (s : Setting) (k : ℕ) (g : Vec (Cell X H)) (own : List (Cell X H)) (x : Soonest) → k < length gs → g ≡ get_or gs k g → own ≡ g.items
+  pub looked_at : (s : Setting) (k : ℕ) (g : Vec (Cell X H)) (own : List (Cell X H)) (x : Soonest) → k < length gs → g ≡ get_or gs k g → own
+      ≡ g.items
       → (AreThose f (k * cut) own ps → IsSoonest s (IsAmong (k * cut) (length own)) ps x) → IsSoonest s (λ m. m / cut ≡ k) ps x
   looked_at s k g own x lt is same told =
       let those = subst (λ l. AreThose f (k * cut) l ps) (sym same) (those_of_group k g lt is) in
@@ -111,9 +116,11 @@ module _ {X : Type 0} {H : X → Type 0} (f : DynBox X Global H → Record) (cut
   group_below m lt = let all = h.cells.as_many in (at_place cut gs m m pos h.cuts refl (omega arith)).group
 
 -- for each group it is kept how soon something is due in it
-pub as_many_kept : {A : Type 0} (s : Setting) (cut : ℕ) (gs : List (Vec A)) (xs : List Soonest) (ps : List PlainCell) → 0 < cut → AreCuts cut (sizes gs)
+pub as_many_kept : {A : Type 0} (s : Setting) (cut : ℕ) (gs : List (Vec A)) (xs : List Soonest) (ps : List PlainCell) → 0 < cut
+    → AreCuts cut (sizes gs)
     → length (all_in gs) ≡ length ps → AreSoonest s cut xs ps → length gs ≤ length xs
-as_many_kept s cut gs xs ps pos cuts all soon = elim (nat_lt (length xs) (length gs)) as (λ b. nat_lt (length xs) (length gs) ≡ b → length gs ≤ length xs) [
+as_many_kept s cut gs xs ps pos cuts all soon = elim (nat_lt (length xs) (length gs)) as
+    (λ b. nat_lt (length xs) (length gs) ≡ b → length gs ≤ length xs) [
   | true ↦ λ e.
       let k = length xs in
       let lt : k < length gs = grind (arith, nat_tests) in
@@ -138,7 +145,8 @@ unfolding own_step
 idle_step end m c h = ap step_at (not_before end (next_event m c) h)
 
 -- a cell in which nothing is due before the end is as it was
-idle_from : (end i : ℕ) (cs : List PlainCell) (rs : List OwnResult) → AreOwnRuns end i cs rs → (j : ℕ) (c : PlainCell) → slice_get cs j ≡ Some c
+idle_from : (end i : ℕ) (cs : List PlainCell) (rs : List OwnResult) → AreOwnRuns end i cs rs → (j : ℕ) (c : PlainCell) → slice_get cs j
+    ≡ Some c
     → ((u : ℕ) → due (i + j) c ≡ Some u → end ≤ u) → slice_get (cells_in rs) j ≡ Some c
 idle_from end i [] rs h j c get late = cc
 idle_from end i (x ∷ cs) [] h j c get late = absurd h
@@ -151,12 +159,14 @@ idle_from end i (x ∷ cs) (r ∷ rs) h zero c get late =
 idle_from end i (x ∷ cs) (r ∷ rs) h (suc j) c get late =
     idle_from end (suc i) cs rs h.1 j c get (λ u e. late u (ap (λ m. due m c) (shifted i j) ∙ e))
 
-pub idle_stays : (end : ℕ) (cs : List PlainCell) (rs : List OwnResult) → AreOwnRuns end 0 cs rs → (m : ℕ) (c : PlainCell) → slice_get cs m ≡ Some c
+pub idle_stays : (end : ℕ) (cs : List PlainCell) (rs : List OwnResult) → AreOwnRuns end 0 cs rs → (m : ℕ) (c : PlainCell) → slice_get cs m
+    ≡ Some c
     → ((u : ℕ) → due m c ≡ Some u → end ≤ u) → slice_get (cells_in rs) m ≡ Some c
 idle_stays end cs rs h m c get late = idle_from end 0 cs rs h m c get (λ u e. late u (ap (λ k. due k c) (sym (zero-add m)) ∙ e))
 
 -- where nothing is due in a group before the end, it is as it was
-pub soonest_idle : (s : Setting) (cut k end : ℕ) (ps : List PlainCell) (rs : List OwnResult) (x : Soonest) → AreOwnRuns end 0 ps rs → end ≤ x.time
+pub soonest_idle : (s : Setting) (cut k end : ℕ) (ps : List PlainCell) (rs : List OwnResult) (x : Soonest) → AreOwnRuns end 0 ps rs
+    → end ≤ x.time
     → IsSoonest s (λ m. m / cut ≡ k) ps x → IsSoonest s (λ m. m / cut ≡ k) (cells_in rs) x
 soonest_idle s cut k end ps rs x alone late h =
     soon_same_cells s (λ m. m / cut ≡ k) ps (cells_in rs) x stays
@@ -173,7 +183,8 @@ soonest_idle s cut k end ps rs x alone late h =
 -- ---- after a packet was heard
 
 -- a cell that hears a packet has its next event no later
-pub heard_no_later : (m : ℕ) (p : Packet) (at : ℕ) (c : PlainCell) (o : Option Pending) → Stands m c o (next_event m c) → NoLater (due m c) (due m (hear_at p (Some at) c))
+pub heard_no_later : (m : ℕ) (p : Packet) (at : ℕ) (c : PlainCell) (o : Option Pending) → Stands m c o (next_event m c)
+    → NoLater (due m c) (due m (hear_at p (Some at) c))
 heard_no_later m p at c None h u e = let no : due m c ≡ None = ap time_of h in let x : None ≡ Some u = sym no ∙ e in cc
 heard_no_later m p at c (Some q) h u e = by _ refl (stands_heard m p at c (Some q) h)
   where
@@ -185,10 +196,13 @@ heard_no_later m p at c (Some q) h u e = by _ refl (stands_heard m p at c (Some 
     of r le t = (r.key.time, ap time_of t.1 ∙ ap (λ k. Some k.time) (sym t.2), (let i = is in omega arith))
 
     by : (r : Ordering) → key_cmp (arriving m at p.id).key q.key ≡ r
-        → Stands m (hear_at p (Some at) c) (cond (is_gt (key_cmp (arriving m at p.id).key q.key)) (Some q) (Some (arriving m at p.id))) (next_event m (hear_at p (Some at) c))
+        → Stands m (hear_at p (Some at) c) (cond (is_gt (key_cmp (arriving m at p.id).key q.key)) (Some q) (Some (arriving m at p.id)))
+            (next_event m (hear_at p (Some at) c))
         → (v : ℕ) × (due m (hear_at p (Some at) c) ≡ Some v) × (v ≤ u)
-    by Less k t = of (arriving m at p.id) (first_le (arriving m at p.id).key q.key (λ g. let x : Less ≡ Greater = sym k ∙ g in cc)) (rw k at t)
-    by Equal k t = of (arriving m at p.id) (first_le (arriving m at p.id).key q.key (λ g. let x : Equal ≡ Greater = sym k ∙ g in cc)) (rw k at t)
+    by Less k t = of (arriving m at p.id) (first_le (arriving m at p.id).key q.key (λ g. let x : Less ≡ Greater = sym k ∙ g in cc))
+        (rw k at t)
+    by Equal k t = of (arriving m at p.id) (first_le (arriving m at p.id).key q.key (λ g. let x : Equal ≡ Greater = sym k ∙ g in cc))
+        (rw k at t)
     by Greater k t = of q (omega arith) (rw k at t)
 
 -- ---- one group after the other
@@ -203,15 +217,18 @@ written n xs new long same =
     none [] = refl
     none (y ∷ ys) = none ys
 
-pub pushed_each : {A : Type 0} (P : ℕ → A → Type 0) (xs : List A) (y : A) → ((j : ℕ) (x : A) → slice_get xs j ≡ Some x → P j x) → P (length xs) y
+pub pushed_each : {A : Type 0} (P : ℕ → A → Type 0) (xs : List A) (y : A) → ((j : ℕ) (x : A) → slice_get xs j ≡ Some x → P j x)
+    → P (length xs) y
     → (j : ℕ) (x : A) → slice_get (xs ++ y ∷ []) j ≡ Some x → P j x
 pushed_each P [] y each last zero x g = subst (P 0) (same_some y x g) last
 pushed_each P [] y each last (suc j) x g = cc
 pushed_each P (z ∷ xs) y each last zero x g = each 0 x g
 pushed_each P (z ∷ xs) y each last (suc j) x g = pushed_each (λ i. P (suc i)) xs y (λ i. each (suc i)) last j x g
 
-module _ {A : Type 0} (N O : ℕ → A → Type 0) (xs : List A) (k : ℕ) (each : (j : ℕ) (x : A) → slice_get xs j ≡ Some x → (j < k → N j x) × (k ≤ j → O j x)) where
-  pub one_set : (y : A) → k < length xs → N k y → (j : ℕ) (x : A) → slice_get (slice_set xs k y) j ≡ Some x → (j < k + 1 → N j x) × (k + 1 ≤ j → O j x)
+module _ {A : Type 0} (N O : ℕ → A → Type 0) (xs : List A) (k : ℕ)
+    (each : (j : ℕ) (x : A) → slice_get xs j ≡ Some x → (j < k → N j x) × (k ≤ j → O j x)) where
+  pub one_set : (y : A) → k < length xs → N k y → (j : ℕ) (x : A) → slice_get (slice_set xs k y) j ≡ Some x → (j < k + 1 → N j x)
+      × (k + 1 ≤ j → O j x)
   one_set y lt new j x g = elim (k == j) as (λ b. (k == j) ≡ b → (j < k + 1 → N j x) × (k + 1 ≤ j → O j x)) [
     | true ↦ λ e.
         let here : k ≡ j = eqb-true k j e in
@@ -223,21 +240,26 @@ module _ {A : Type 0} (N O : ℕ → A → Type 0) (xs : List A) (k : ℕ) (each
         ((λ lt. old.0 (omega arith)), (λ le. old.1 (omega arith)))
   ] refl
 
-  pub one_kept : ((x : A) → slice_get xs k ≡ Some x → O k x → N k x) → (j : ℕ) (x : A) → slice_get xs j ≡ Some x → (j < k + 1 → N j x) × (k + 1 ≤ j → O j x)
+  pub one_kept : ((x : A) → slice_get xs k ≡ Some x → O k x → N k x) → (j : ℕ) (x : A) → slice_get xs j ≡ Some x → (j < k + 1 → N j x)
+      × (k + 1 ≤ j → O j x)
   one_kept kept j x g = elim (k == j) as (λ b. (k == j) ≡ b → (j < k + 1 → N j x) × (k + 1 ≤ j → O j x)) [
     | true ↦ λ e.
         let here : k ≡ j = eqb-true k j e in
         let old = (each j x g).1 (omega arith) in
-        ((λ le. subst (λ i. N i x) here (kept x (ap (slice_get xs) here ∙ g) (subst (λ i. O i x) (sym here) old))), (λ le. absurd (omega arith)))
+        ((λ le. subst (λ i. N i x) here (kept x (ap (slice_get xs) here ∙ g) (subst (λ i. O i x) (sym here) old))),
+            (λ le. absurd (omega arith)))
     | false ↦ λ e.
         let ne = eqb-false k j e in
         let old = each j x g in
         ((λ lt. old.0 (omega arith)), (λ le. old.1 (omega arith)))
   ] refl
 
-module _ {X : Type 0} {H : X → Type 0} (f : DynBox X Global H → Record) (cut : ℕ) (gs : List (Vec (Cell X H))) (ps : List PlainCell) (results : List OwnResult) (pos : 0 < cut) (end : ℕ) (alone : AreOwnRuns end 0 ps results) (h : AreGrouped f cut gs (cells_in results)) where
+module _ {X : Type 0} {H : X → Type 0} (f : DynBox X Global H → Record) (cut : ℕ) (gs : List (Vec (Cell X H))) (ps : List PlainCell)
+    (results : List OwnResult) (pos : 0 < cut) (end : ℕ) (alone : AreOwnRuns end 0 ps results) (h : AreGrouped f cut gs (cells_in results))
+    where
   -- each group was looked through again, or has no cells
-  pub all_looked : (s : Setting) (xs ys : List Soonest) (place : ℕ) → length gs ≤ place → length ys ≡ length xs → length gs ≤ length xs → AreSoonest s cut xs ps
+  pub all_looked : (s : Setting) (xs ys : List Soonest) (place : ℕ) → length gs ≤ place → length ys ≡ length xs → length gs ≤ length xs
+      → AreSoonest s cut xs ps
       → ((j : ℕ) (x : Soonest) → slice_get ys j ≡ Some x
       → (j < place → IsSoonest s (λ m. m / cut ≡ j) (cells_in results) x) × (place ≤ j → IsSoonest s (λ m. m / cut ≡ j) ps x))
       → AreSoonest s cut ys (cells_in results)
@@ -252,7 +274,8 @@ module _ {X : Type 0} {H : X → Type 0} (f : DynBox X Global H → Record) (cut
           let long = as_many_results end 0 ps results alone in
           let below = group_below f cut gs (cells_in results) pos h m (let lt = get_below ps m c get in omega arith) in
           absurd (omega (arith, p)))
-          (λ m c p get. let below = group_below f cut gs (cells_in results) pos h m (get_below (cells_in results) m c get) in absurd (omega (arith, p)))
+          (λ m c p get. let below = group_below f cut gs (cells_in results) pos h m (get_below (cells_in results) m c get) in
+              absurd (omega (arith, p)))
           ((each k x g).1 le)
     ] refl;
   }

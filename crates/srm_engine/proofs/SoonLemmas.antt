@@ -1,5 +1,6 @@
 -- How soon something is due in the cells of some members.
-use Rattle.std.proofs.Common.{◌≡◌, ◌⊎◌, inl, inr, ℕ, zero, suc, ◌+◌, ◌/◌, ◌<◌, ◌≤◌, ◌==◌, min, true, false, List, [], ◌∷◌, Option, Some, None, refl, sym, ap, ◌∙◌, subst, arith, slice_get, slice_set, length, nat_le, eqb-true}
+use Rattle.std.proofs.Common.{◌≡◌, ◌⊎◌, inl, inr, ℕ, zero, suc, ◌+◌, ◌/◌, ◌<◌, ◌≤◌, ◌==◌, min, true, false, List, [], ◌∷◌, Option, Some,
+    None, refl, sym, ap, ◌∙◌, subst, arith, slice_get, slice_set, length, nat_le, eqb-true}
 use Rattle.std.proofs.lemmas.Bool.{eqb-false}
 use Rattle.std.proofs.lemmas.Bool.Decides.{nat_tests}
 use Rattle.std.proofs.lemmas.Option.{slice_get_within}
@@ -78,21 +79,24 @@ module _ (g : ℕ → PlainCell → Option ℕ) (n : ℕ) where
     where
       by : (least_with t (g (i + k) p) ≡ t) ⊎ (g (i + k) p ≡ Some (least_with t (g (i + k) p)))
           → (t ≡ n) ⊎ ((m : ℕ) × (c : PlainCell) × IsAmong i k m × (slice_get ps m ≡ Some c) × (g m c ≡ Some t))
-          → (least_with t (g (i + k) p) ≡ n) ⊎ ((m : ℕ) × (c : PlainCell) × IsAmong i (k + 1) m × (slice_get ps m ≡ Some c) × (g m c ≡ Some (least_with t (g (i + k) p))))
+          → (least_with t (g (i + k) p) ≡ n) ⊎ ((m : ℕ) × (c : PlainCell) × IsAmong i (k + 1) m × (slice_get ps m ≡ Some c)
+              × (g m c ≡ Some (least_with t (g (i + k) p))))
       by (inr e) old = inr (i + k, p, (omega arith, omega arith), at, e)
       by (inl e) (inl was) = inl (e ∙ was)
       by (inl e) (inr a) = let x = a.2.0 in let y = a.2.1 in inr (a.0, a.1, (x, omega arith), a.3, a.4 ∙ ap Some (sym e))
 
   module _ (P : ℕ → Type 0) where
     -- member m's cell becomes one whose time is no later
-    pub sooner_at : (ps : List PlainCell) (t m : ℕ) (q r : PlainCell) → P m → slice_get ps m ≡ Some q → NoLater (g m q) (g m r) → IsLeast g P n ps t
+    pub sooner_at : (ps : List PlainCell) (t m : ℕ) (q r : PlainCell) → P m → slice_get ps m ≡ Some q → NoLater (g m q) (g m r)
+        → IsLeast g P n ps t
         → IsLeast g P n (slice_set ps m r) (least_with t (g m r))
     sooner_at ps t m q r p at early h = record {
       most = let a = with_le t (g m r) in let b = h.most in omega arith;
       none_less = λ j c u pj get e. elim (m == j) as (λ b. (m == j) ≡ b → least_with t (g m r) ≤ u) [
         | true ↦ λ x.
             let here : m ≡ j = eqb-true m j x in
-            let same : c ≡ r = same_some c r (sym get ∙ ap (slice_get (slice_set ps m r)) (sym here) ∙ get_set_same ps m r (get_below ps m q at)) in
+            let same : c ≡ r = same_some c r (sym get ∙ ap (slice_get (slice_set ps m r)) (sym here)
+                ∙ get_set_same ps m r (get_below ps m q at)) in
             with_in t u (g m r) (subst (λ d. g m d ≡ Some u) same (subst (λ k. g k c ≡ Some u) (sym here) e))
         | false ↦ λ x.
             let ne = eqb-false m j x in
@@ -105,10 +109,12 @@ module _ (g : ℕ → PlainCell → Option ℕ) (n : ℕ) where
       where
         by : (least_with t (g m r) ≡ t) ⊎ (g m r ≡ Some (least_with t (g m r)))
             → (t ≡ n) ⊎ ((j : ℕ) × (c : PlainCell) × P j × (slice_get ps j ≡ Some c) × (g j c ≡ Some t))
-            → (least_with t (g m r) ≡ n) ⊎ ((j : ℕ) × (c : PlainCell) × P j × (slice_get (slice_set ps m r) j ≡ Some c) × (g j c ≡ Some (least_with t (g m r))))
+            → (least_with t (g m r) ≡ n) ⊎ ((j : ℕ) × (c : PlainCell) × P j × (slice_get (slice_set ps m r) j ≡ Some c)
+                × (g j c ≡ Some (least_with t (g m r))))
         by (inr e) old = inr (m, r, p, get_set_same ps m r (get_below ps m q at), e)
         by (inl e) (inl was) = inl (e ∙ was)
-        by (inl e) (inr a) = elim (m == a.0) as (λ b. (m == a.0) ≡ b → (least_with t (g m r) ≡ n) ⊎ ((j : ℕ) × (c : PlainCell) × P j × (slice_get (slice_set ps m r) j ≡ Some c) × (g j c ≡ Some (least_with t (g m r))))) [
+        by (inl e) (inr a) = elim (m == a.0) as (λ b. (m == a.0) ≡ b → (least_with t (g m r) ≡ n)
+            ⊎ ((j : ℕ) × (c : PlainCell) × P j × (slice_get (slice_set ps m r) j ≡ Some c) × (g j c ≡ Some (least_with t (g m r))))) [
           | true ↦ λ x.
               let here : m ≡ a.0 = eqb-true m a.0 x in
               let same : a.1 ≡ q = same_some a.1 q (sym a.3 ∙ ap (slice_get ps) (sym here) ∙ at) in
@@ -136,7 +142,8 @@ module _ (g : ℕ → PlainCell → Option ℕ) (n : ℕ) where
         by (inr a) = inr (a.0, a.1, a.2, to a.0 a.1 a.2 a.3, a.4)
 
   -- the same members
-  pub same_members : (P Q : ℕ → Type 0) (ps : List PlainCell) (t : ℕ) → ((m : ℕ) → m < length ps → P m → Q m) → ((m : ℕ) → m < length ps → Q m → P m)
+  pub same_members : (P Q : ℕ → Type 0) (ps : List PlainCell) (t : ℕ) → ((m : ℕ) → m < length ps → P m → Q m)
+      → ((m : ℕ) → m < length ps → Q m → P m)
       → IsLeast g P n ps t → IsLeast g Q n ps t
   same_members P Q ps t to back h = record {
     most = h.most;
@@ -176,7 +183,8 @@ module _ (n : ℕ) where
     one = by (with_one best (Some (h x))) b.one;
   }
     where
-      by : (min best (h x) ≡ best) ⊎ (Some (h x) ≡ Some (min best (h x))) → (best ≡ n) ⊎ ((j : ℕ) × (y : Soonest) × (slice_get xs j ≡ Some y) × (best ≡ h y))
+      by : (min best (h x) ≡ best) ⊎ (Some (h x) ≡ Some (min best (h x)))
+          → (best ≡ n) ⊎ ((j : ℕ) × (y : Soonest) × (slice_get xs j ≡ Some y) × (best ≡ h y))
           → (min best (h x) ≡ n) ⊎ ((j : ℕ) × (y : Soonest) × (slice_get xs j ≡ Some y) × (min best (h x) ≡ h y))
       by (inr e) old = inr (k, x, at, sym (same_number (h x) (min best (h x)) e))
       by (inl e) (inl was) = inl (e ∙ was)
@@ -194,7 +202,8 @@ there (x ∷ xs) (suc k) lt = there xs k (omega arith)
 module _ (g : ℕ → PlainCell → Option ℕ) (n : ℕ) where
   -- the least of the groups' leasts is that of all
   pub best_is_least : (h : Soonest → ℕ) (cut : ℕ) (xs : List Soonest) (ps : List PlainCell) (k best : ℕ) → length xs ≤ k
-      → ((m : ℕ) → m < length ps → m / cut < length xs) → ((j : ℕ) (x : Soonest) → slice_get xs j ≡ Some x → IsLeast g (λ m. m / cut ≡ j) n ps (h x))
+      → ((m : ℕ) → m < length ps → m / cut < length xs) →
+          ((j : ℕ) (x : Soonest) → slice_get xs j ≡ Some x → IsLeast g (λ m. m / cut ≡ j) n ps (h x))
       → BestOf n h xs k best → IsLeast g Any n ps best
   best_is_least h cut xs ps k best all many each b = record {
     most = b.most;
@@ -207,12 +216,14 @@ module _ (g : ℕ → PlainCell → Option ℕ) (n : ℕ) where
     one = by b.one;
   }
     where
-      of : (x : Soonest) → best ≡ h x → (h x ≡ n) ⊎ ((m : ℕ) × (c : PlainCell) × Unit {0} × (slice_get ps m ≡ Some c) × (g m c ≡ Some (h x)))
+      of : (x : Soonest) → best ≡ h x → (h x ≡ n) ⊎ ((m : ℕ) × (c : PlainCell) × Unit {0} × (slice_get ps m ≡ Some c)
+          × (g m c ≡ Some (h x)))
           → (best ≡ n) ⊎ ((m : ℕ) × (c : PlainCell) × Any m × (slice_get ps m ≡ Some c) × (g m c ≡ Some best))
       of x e (inl was) = inl (e ∙ was)
       of x e (inr a) = inr (a.0, a.1, tt, a.3, a.4 ∙ ap Some (sym e))
 
-      any : (j : ℕ) (x : Soonest) → (h x ≡ n) ⊎ ((m : ℕ) × (c : PlainCell) × (m / cut ≡ j) × (slice_get ps m ≡ Some c) × (g m c ≡ Some (h x)))
+      any : (j : ℕ) (x : Soonest) → (h x ≡ n) ⊎ ((m : ℕ) × (c : PlainCell)
+          × (m / cut ≡ j) × (slice_get ps m ≡ Some c) × (g m c ≡ Some (h x)))
           → (h x ≡ n) ⊎ ((m : ℕ) × (c : PlainCell) × Unit {0} × (slice_get ps m ≡ Some c) × (g m c ≡ Some (h x)))
       any j x (inl e) = inl e
       any j x (inr a) = inr (a.0, a.1, tt, a.3, a.4)
@@ -240,34 +251,41 @@ no_later_promise (Some t) y (Some k) h u e =
 module _ (s : Setting) where
   -- one cell more
   pub soon_more : (i k : ℕ) (ps : List PlainCell) (x y : Soonest) (p : PlainCell) (next way : Option ℕ) → slice_get ps (i + k) ≡ Some p
-      → next ≡ due (i + k) p → way ≡ way_of s (i + k) → y.time ≡ least_with x.time next → y.promise ≡ least_with x.promise (promise_by next way)
+      → next ≡ due (i + k) p → way ≡ way_of s (i + k) → y.time ≡ least_with x.time next → y.promise
+          ≡ least_with x.promise (promise_by next way)
       → IsSoonest s (IsAmong i k) ps x → IsSoonest s (IsAmong i (k + 1)) ps y
   soon_more i k ps x y p next way at n w t r h = record {
     time = subst (λ u. IsLeast due (IsAmong i (k + 1)) s.traffic.until ps u) (sym (t ∙ ap (least_with x.time) n))
         (one_more due s.traffic.until i k ps x.time p at h.time);
-    promise = subst (λ u. IsLeast (promised s) (IsAmong i (k + 1)) s.traffic.until ps u) (sym (r ∙ (λ j. least_with x.promise (promise_by (n j) (w j)))))
+    promise = subst (λ u. IsLeast (promised s) (IsAmong i (k + 1)) s.traffic.until ps u)
+        (sym (r ∙ (λ j. least_with x.promise (promise_by (n j) (w j)))))
         (one_more (promised s) s.traffic.until i k ps x.promise p at h.promise);
   }
 
   -- member m's cell becomes one that has its next event no later
-  pub soon_heard : (P : ℕ → Type 0) (ps : List PlainCell) (x y : Soonest) (m : ℕ) (q r : PlainCell) (next way : Option ℕ) → P m → slice_get ps m ≡ Some q
+  pub soon_heard : (P : ℕ → Type 0) (ps : List PlainCell) (x y : Soonest) (m : ℕ) (q r : PlainCell) (next way : Option ℕ) → P m
+      → slice_get ps m ≡ Some q
       → NoLater (due m q) (due m r) → next ≡ due m r → way ≡ way_of s m → y.time ≡ least_with x.time next
       → y.promise ≡ least_with x.promise (promise_by next way) → IsSoonest s P ps x → IsSoonest s P (slice_set ps m r) y
   soon_heard P ps x y m q r next way p at early n w t v h = record {
     time = subst (λ u. IsLeast due P s.traffic.until (slice_set ps m r) u) (sym (t ∙ ap (least_with x.time) n))
         (sooner_at due s.traffic.until P ps x.time m q r p at early h.time);
-    promise = subst (λ u. IsLeast (promised s) P s.traffic.until (slice_set ps m r) u) (sym (v ∙ (λ j. least_with x.promise (promise_by (n j) (w j)))))
-        (sooner_at (promised s) s.traffic.until P ps x.promise m q r p at (no_later_promise (due m q) (due m r) (way_of s m) early) h.promise);
+    promise = subst (λ u. IsLeast (promised s) P s.traffic.until (slice_set ps m r) u)
+        (sym (v ∙ (λ j. least_with x.promise (promise_by (n j) (w j)))))
+        (sooner_at (promised s) s.traffic.until P ps x.promise m q r p at
+            (no_later_promise (due m q) (due m r) (way_of s m) early) h.promise);
   }
 
-  pub soon_same_cells : (P : ℕ → Type 0) (ps qs : List PlainCell) (x : Soonest) → ((m : ℕ) (c : PlainCell) → P m → slice_get ps m ≡ Some c → slice_get qs m ≡ Some c)
+  pub soon_same_cells : (P : ℕ → Type 0) (ps qs : List PlainCell) (x : Soonest)
+      → ((m : ℕ) (c : PlainCell) → P m → slice_get ps m ≡ Some c → slice_get qs m ≡ Some c)
       → ((m : ℕ) (c : PlainCell) → P m → slice_get qs m ≡ Some c → slice_get ps m ≡ Some c) → IsSoonest s P ps x → IsSoonest s P qs x
   soon_same_cells P ps qs x to back h = record {
     time = same_cells due s.traffic.until P ps qs x.time to back h.time;
     promise = same_cells (promised s) s.traffic.until P ps qs x.promise to back h.promise;
   }
 
-  pub soon_same_members : (P Q : ℕ → Type 0) (ps : List PlainCell) (x : Soonest) → ((m : ℕ) → m < length ps → P m → Q m) → ((m : ℕ) → m < length ps → Q m → P m)
+  pub soon_same_members : (P Q : ℕ → Type 0) (ps : List PlainCell) (x : Soonest) → ((m : ℕ) → m < length ps → P m → Q m)
+      → ((m : ℕ) → m < length ps → Q m → P m)
       → IsSoonest s P ps x → IsSoonest s Q ps x
   soon_same_members P Q ps x to back h = record {
     time = same_members due s.traffic.until P Q ps x.time to back h.time;
@@ -275,7 +293,8 @@ module _ (s : Setting) where
   }
 
   -- where member m's cell becomes such a one, and what is kept of its group is how soon something is due then
-  pub soonest_heard : (cut k : ℕ) (xs : List Soonest) (ps : List PlainCell) (x y : Soonest) (m : ℕ) (q r : PlainCell) (next way : Option ℕ) → m / cut ≡ k
+  pub soonest_heard : (cut k : ℕ) (xs : List Soonest) (ps : List PlainCell) (x y : Soonest) (m : ℕ) (q r : PlainCell) (next way : Option ℕ)
+      → m / cut ≡ k
       → slice_get xs k ≡ Some x → slice_get ps m ≡ Some q → NoLater (due m q) (due m r) → next ≡ due m r → way ≡ way_of s m
       → y.time ≡ least_with x.time next → y.promise ≡ least_with x.promise (promise_by next way) → AreSoonest s cut xs ps
       → AreSoonest s cut (slice_set xs k y) (slice_set ps m r)
@@ -288,9 +307,11 @@ module _ (s : Setting) where
     each = λ j z g. elim (k == j) as (λ b. (k == j) ≡ b → IsSoonest s (λ i. i / cut ≡ j) (slice_set ps m r) z) [
       | true ↦ λ e.
           let same : k ≡ j = eqb-true k j e in
-          let is : y ≡ z = same_some y z (sym (get_set_same xs k y (slice_get_within xs k x here)) ∙ ap (slice_get (slice_set xs k y)) same ∙ g) in
+          let is : y ≡ z = same_some y z (sym (get_set_same xs k y (slice_get_within xs k x here)) ∙ ap (slice_get (slice_set xs k y)) same
+              ∙ g) in
           subst (λ (a : Soonest). IsSoonest s (λ i. i / cut ≡ j) (slice_set ps m r) a) is
-          (soon_heard (λ i. i / cut ≡ j) ps x y m q r next way (at ∙ same) get early n w t v (h.each j x (ap (slice_get xs) (sym same) ∙ here)))
+          (soon_heard (λ i. i / cut ≡ j) ps x y m q r next way (at ∙ same)
+              get early n w t v (h.each j x (ap (slice_get xs) (sym same) ∙ here)))
       | false ↦ λ e.
           let ne = eqb-false k j e in
           soon_same_cells (λ i. i / cut ≡ j) ps (slice_set ps m r) z

@@ -20,7 +20,8 @@ module _ {A : Type 0} (cmp : A → A → Ordering) (o : IsTotalOrder cmp) where
   sorted_rises : (xs : List A) → IsSorted cmp xs → Rises cmp xs
   sorted_rises [] h = tt
   sorted_rises (x ∷ xs) h = (
-    none_below x xs (λ j lt. sorted_far (λ a b. is_lt (cmp a b)) (ranks_by o (λ (a : A). a)) (x ∷ xs) h 0 (suc j) x (omega arith) (omega arith)),
+    none_below x xs (λ j lt. sorted_far (λ a b. is_lt (cmp a b)) (ranks_by o (λ (a : A). a)) (x ∷ xs) h 0 (suc j) x (omega arith)
+        (omega arith)),
     sorted_rises xs (sorted_tail x xs h),
   )
 

@@ -1,5 +1,7 @@
 -- The step of the engine is the step of the model.
-use Rattle.std.proofs.Common.{◌≡◌, ◌≢◌, ℕ, suc, ◌+◌, ◌<◌, ◌≤◌, ◌^◌, Bool, true, false, cond, List, [], ◌∷◌, ◌++◌, length, Option, Some, None, option_map, refl, sym, ap, ◌∙◌, subst, slice_get, slice_set, nat_le, nat_lt, ◌==◌, eqb-true, eq-eqb, lt-ltb, le-ltb, le_refl, arith, zero-add, Ordering, Less, Equal, Greater}
+use Rattle.std.proofs.Common.{◌≡◌, ◌≢◌, ℕ, suc, ◌+◌, ◌<◌, ◌≤◌, ◌^◌, Bool, true, false, cond, List, [], ◌∷◌, ◌++◌, length, Option, Some,
+    None, option_map, refl, sym, ap, ◌∙◌, subst, slice_get, slice_set, nat_le, nat_lt, ◌==◌, eqb-true, eq-eqb, lt-ltb, le-ltb, le_refl,
+    arith, zero-add, Ordering, Less, Equal, Greater}
 use Rattle.std.proofs.lemmas.Bool.{eqb-false}
 use Rattle.std.proofs.lemmas.Bool.Decides.{nat_tests}
 use Rattle.std.proofs.lemmas.Cmp.{ranked, by_ranked}
@@ -14,7 +16,8 @@ use Rattle.srm_member.specs.declared.row.Row.{Row}
 use Rattle.srm_cell.specs.Setting.{Setting, IsFit, arrival_of}
 use Rattle.srm_cell.specs.Flights.{BringsNone}
 use Rattle.srm_cell.specs.Crossings.{packets_of}
-use Rattle.srm_cell.specs.Cells.{PlainCell, Event, by_key, earlier, next_event, time_of, before, Idle, Full, Spent, Done, Stepped, step_at, own_step, hear}
+use Rattle.srm_cell.specs.Cells.{PlainCell, Event, by_key, earlier, next_event, time_of, before, Idle, Full, Spent, Done, Stepped, step_at,
+    own_step, hear}
 use Rattle.srm_cell.specs.OwnRuns.{told_to}
 use Rattle.srm_cell.proofs.CellSteps.{IsOf, IsStepOf, next_event_of, step_at_of, SentBy, before_some, some_not_idle}
 use Rattle.srm_cell.proofs.Rising.{SentAt}
@@ -60,7 +63,8 @@ from_less i (Some e) h = omega (arith, h)
 least_event_from : (i : ℕ) (cs : List PlainCell) → FromOn i (least_event i cs)
 unfolding least_event
 least_event_from i [] = tt
-least_event_from i (c ∷ cs) = earlier_from i (next_event i c) (least_event (suc i) cs) (from_of i (next_event i c) (next_event_of i c)) (from_less i (least_event (suc i) cs) (least_event_from (suc i) cs))
+least_event_from i (c ∷ cs) = earlier_from i (next_event i c) (least_event (suc i) cs) (from_of i (next_event i c) (next_event_of i c))
+    (from_less i (least_event (suc i) cs) (least_event_from (suc i) cs))
 
 abbrev pub time_and_member : Event → ℕ × ℕ
 time_and_member e = (e.key.time, e.key.member)
@@ -68,27 +72,36 @@ time_and_member e = (e.key.time, e.key.member)
 key_first : (k l : Key) (b : Bool) → nat_le k.time l.time ≡ b → k.member < l.member → key_cmp k l ≡ cond b Less Greater
 key_first k l true h lt =
     let le : k.time ≤ l.time = grind (arith, nat_tests) in
-    by_ranked (k.time < l.time) (k.time ≡ l.time) (l.time < k.time) (nat_cmp k.time l.time) (ranked k.time l.time (nat_cmp k.time l.time) refl)
-    (λ e g. ap (λ o. ordering_then o (slice_cmp nat_cmp (k.member ∷ k.rank ∷ k.a ∷ k.b ∷ k.c ∷ []) (l.member ∷ l.rank ∷ l.a ∷ l.b ∷ l.c ∷ []))) e)
-    (λ e g. ap (λ o. ordering_then o (slice_cmp nat_cmp (k.member ∷ k.rank ∷ k.a ∷ k.b ∷ k.c ∷ []) (l.member ∷ l.rank ∷ l.a ∷ l.b ∷ l.c ∷ []))) e
-    ∙ by_ranked (k.member < l.member) (k.member ≡ l.member) (l.member < k.member) (nat_cmp k.member l.member) (ranked k.member l.member (nat_cmp k.member l.member) refl)
+    by_ranked (k.time < l.time) (k.time ≡ l.time) (l.time < k.time) (nat_cmp k.time l.time)
+        (ranked k.time l.time (nat_cmp k.time l.time) refl)
+    (λ e g. ap (λ o. ordering_then o (slice_cmp nat_cmp (k.member ∷ k.rank ∷ k.a ∷ k.b ∷ k.c ∷ [])
+        (l.member ∷ l.rank ∷ l.a ∷ l.b ∷ l.c ∷ []))) e)
+    (λ e g. ap (λ o. ordering_then o (slice_cmp nat_cmp (k.member ∷ k.rank ∷ k.a ∷ k.b ∷ k.c ∷ [])
+        (l.member ∷ l.rank ∷ l.a ∷ l.b ∷ l.c ∷ []))) e
+    ∙ by_ranked (k.member < l.member) (k.member ≡ l.member) (l.member < k.member) (nat_cmp k.member l.member)
+        (ranked k.member l.member (nat_cmp k.member l.member) refl)
     (λ f u. ap (λ o. ordering_then o (slice_cmp nat_cmp (k.rank ∷ k.a ∷ k.b ∷ k.c ∷ []) (l.rank ∷ l.a ∷ l.b ∷ l.c ∷ []))) f)
     (λ f u. absurd (omega arith)) (λ f u. absurd (omega arith)))
     (λ e g. absurd (omega arith))
 key_first k l false h lt =
     let gt : l.time < k.time = grind (arith, nat_tests) in
-    by_ranked (k.time < l.time) (k.time ≡ l.time) (l.time < k.time) (nat_cmp k.time l.time) (ranked k.time l.time (nat_cmp k.time l.time) refl)
+    by_ranked (k.time < l.time) (k.time ≡ l.time) (l.time < k.time) (nat_cmp k.time l.time)
+        (ranked k.time l.time (nat_cmp k.time l.time) refl)
     (λ e g. absurd (omega arith)) (λ e g. absurd (omega arith))
-    (λ e g. ap (λ o. ordering_then o (slice_cmp nat_cmp (k.member ∷ k.rank ∷ k.a ∷ k.b ∷ k.c ∷ []) (l.member ∷ l.rank ∷ l.a ∷ l.b ∷ l.c ∷ []))) e)
+    (λ e g. ap (λ o. ordering_then o (slice_cmp nat_cmp (k.member ∷ k.rank ∷ k.a ∷ k.b ∷ k.c ∷ [])
+        (l.member ∷ l.rank ∷ l.a ∷ l.b ∷ l.c ∷ []))) e)
 
 -- the next time of one member, and the least of those after it
-one_more : (i : ℕ) (ts : List (Option ℕ)) (x y : Option Event) → IsOf i x → FromOn (suc i) y → least_time (suc i) ts ≡ option_map time_and_member y → least_time i (time_of x ∷ ts) ≡ option_map time_and_member (earlier x y)
+one_more : (i : ℕ) (ts : List (Option ℕ)) (x y : Option Event) → IsOf i x → FromOn (suc i) y → least_time (suc i) ts
+    ≡ option_map time_and_member y → least_time i (time_of x ∷ ts) ≡ option_map time_and_member (earlier x y)
 one_more i ts None y h g e = e
 one_more i ts (Some d) None h g e = ap (λ o. Some (sooner (d.key.time, i) o)) e ∙ ap (λ m. Some (d.key.time, m)) (sym h)
 one_more i ts (Some d) (Some x) h g e =
     ap (λ o. Some (sooner (d.key.time, i) o)) e ∙ by (nat_le d.key.time x.key.time) refl
   where
-    by : (b : Bool) → nat_le d.key.time x.key.time ≡ b → Some (cond (nat_le d.key.time x.key.time) (d.key.time, i) (x.key.time, x.key.member)) ≡ Some (time_and_member (by_key (key_cmp d.key x.key) d x))
+    by : (b : Bool) → nat_le d.key.time x.key.time ≡ b → Some
+        (cond (nat_le d.key.time x.key.time) (d.key.time, i) (x.key.time, x.key.member))
+        ≡ Some (time_and_member (by_key (key_cmp d.key x.key) d x))
     by true q =
         let lt : d.key.member < x.key.member = omega (arith, h, g) in
         ap (λ b. Some (cond b (d.key.time, i) (x.key.time, x.key.member))) q ∙ ap (λ m. Some (d.key.time, m)) (sym h)
@@ -98,7 +111,9 @@ one_more i ts (Some d) (Some x) h g e =
         ap (λ b. Some (cond b (d.key.time, i) (x.key.time, x.key.member))) q
         ∙ sym (ap (λ r. Some (time_and_member (by_key r d x))) (key_first d.key x.key false q lt))
 
-least_from_on : (i : ℕ) (ts : List (Option ℕ)) (ps : List PlainCell) → length ts ≡ length ps → ((j : ℕ) (p : PlainCell) → slice_get ps j ≡ Some p → slice_get ts j ≡ Some (time_of (next_event (i + j) p))) → least_time i ts ≡ option_map time_and_member (least_event i ps)
+least_from_on : (i : ℕ) (ts : List (Option ℕ)) (ps : List PlainCell) → length ts ≡ length ps
+    → ((j : ℕ) (p : PlainCell) → slice_get ps j ≡ Some p → slice_get ts j ≡ Some (time_of (next_event (i + j) p))) → least_time i ts
+    ≡ option_map time_and_member (least_event i ps)
 unfolding least_event
 least_from_on i [] [] len each = refl
 least_from_on i [] (p ∷ ps) len each = absurd (omega arith)
@@ -113,8 +128,10 @@ least_from_on i (t ∷ ts) (p ∷ ps) len each =
     shift : (i j : ℕ) → i + suc j ≡ suc i + j
     shift i j = omega arith
 
-pub least_is_event : (ts : List (Option ℕ)) (ps : List PlainCell) → AreTimes ts ps → least_time 0 ts ≡ option_map time_and_member (least_event 0 ps)
-least_is_event ts ps h = least_from_on 0 ts ps h.as_many (λ j p g. h.each j p g ∙ ap (λ k. Some (time_of (next_event k p))) (sym (zero-add j)))
+pub least_is_event : (ts : List (Option ℕ)) (ps : List PlainCell) → AreTimes ts ps → least_time 0 ts
+    ≡ option_map time_and_member (least_event 0 ps)
+least_is_event ts ps h = least_from_on 0 ts ps h.as_many (λ j p g. h.each j p g
+    ∙ ap (λ k. Some (time_of (next_event k p))) (sym (zero-add j)))
 
 -- ---- the step
 
@@ -126,14 +143,16 @@ from_pair : (q : Option (ℕ × ℕ)) (o : Option Event) → q ≡ option_map ti
 from_pair None None h = refl
 from_pair None (Some e) h = cc
 from_pair (Some q) None h = cc
-from_pair (Some q) (Some e) h = let same : q ≡ time_and_member e = same_some _ _ h in (e, refl, sym (ap (λ (x : ℕ × ℕ). x.0) same), sym (ap (λ (x : ℕ × ℕ). x.1) same))
+from_pair (Some q) (Some e) h = let same : q ≡ time_and_member e = same_some _ _ h in
+    (e, refl, sym (ap (λ (x : ℕ × ℕ). x.0) same), sym (ap (λ (x : ℕ × ℕ). x.1) same))
 
 module _ (s : Setting) (w : World) (ts : List (Option ℕ)) (times : AreTimes ts w.cells) where
   within : s.traffic.until ≤ s.traffic.until
   within = le_refl s.traffic.until
 
   pub is_over : None ≡ least_time 0 ts → step s w ≡ Idle
-  is_over h = let none : least_event 0 w.cells ≡ None = from_pair None (least_event 0 w.cells) (h ∙ least_is_event ts w.cells times) in step_none s s.traffic.until within w (ap (before s.traffic.until) none)
+  is_over h = let none : least_event 0 w.cells ≡ None = from_pair None (least_event 0 w.cells) (h ∙ least_is_event ts w.cells times) in
+      step_none s s.traffic.until within w (ap (before s.traffic.until) none)
 
   module _ (t m : ℕ) (h : Some (t, m) ≡ least_time 0 ts) where
     found : FromPair (Some (t, m)) (least_event 0 w.cells)
@@ -143,7 +162,8 @@ module _ (s : Setting) (w : World) (ts : List (Option ℕ)) (times : AreTimes ts
     is_late le =
         let time = found.2 in
         let late : s.traffic.until ≤ found.0.key.time = omega arith in
-        step_none s s.traffic.until within w (ap (before s.traffic.until) found.1 ∙ ap (λ b. cond b (Some found.0) None) (le-ltb found.0.key.time s.traffic.until late))
+        step_none s s.traffic.until within w (ap (before s.traffic.until) found.1
+            ∙ ap (λ b. cond b (Some found.0) None) (le-ltb found.0.key.time s.traffic.until late))
 
     module _ (early : t < s.traffic.until) where
       pub event : Event
@@ -173,16 +193,19 @@ module _ (s : Setting) (w : World) (ts : List (Option ℕ)) (times : AreTimes ts
           by : (o : Option PlainCell) → slice_get w.cells m ≡ o → (p : PlainCell) × (slice_get w.cells m ≡ Some p)
           by (Some p) g = (p, g)
           by None g = absurd (some_not_idle event (sym (ap (own_of s.traffic.until m) (sym g)
-              ∙ ap (λ k. own_of s.traffic.until k (slice_get w.cells k)) (sym member_is) ∙ least_own s.traffic.until w.cells event is_least)))
+              ∙ ap (λ k. own_of s.traffic.until k (slice_get w.cells k)) (sym member_is)
+                  ∙ least_own s.traffic.until w.cells event is_least)))
 
       pub step_by : (p : PlainCell) → slice_get w.cells m ≡ Some p → step s w ≡ after_step s w m (own_step s.traffic.until m p)
-      step_by p g = step_is s s.traffic.until within w event is_least ∙ ap (λ k. after_step s w k (step_at (Some event))) member_is ∙ ap (after_step s w m) (sym (own_is p g))
+      step_by p g = step_is s s.traffic.until within w event is_least ∙ ap (λ k. after_step s w k (step_at (Some event))) member_is
+          ∙ ap (after_step s w m) (sym (own_is p g))
 
 pub after_idle : (s : Setting) (w : World) (m : ℕ) → after_step s w m Idle ≡ Idle
 unfolding after_step
 after_idle s w m = refl
 
-pub after_done : (s : Setting) (w : World) (m : ℕ) (d : Stepped) → after_step s w m (Done d) ≡ Done (record { cells = settled s m d 0 w.cells; trace = w.trace ++ d.row ∷ [] })
+pub after_done : (s : Setting) (w : World) (m : ℕ) (d : Stepped) → after_step s w m (Done d)
+    ≡ Done (record { cells = settled s m d 0 w.cells; trace = w.trace ++ d.row ∷ [] })
 after_done s w m d = after_stepped s s.traffic.until (le_refl s.traffic.until) w m d
 
 -- ---- the cells after a step
@@ -204,9 +227,11 @@ module _ (s : Setting) (m : ℕ) (d : Stepped) (cs : List PlainCell) (lt : m < l
   here j f e same =
       let c = there cs m lt in
       let at : slice_get cs j ≡ Some c.0 = ap (slice_get cs) (sym e) ∙ c.1 in
-      let now : slice_get (slice_set cs m d.cell) j ≡ Some d.cell = ap (slice_get (slice_set cs m d.cell)) (sym e) ∙ get_set_same cs m d.cell lt in
+      let now : slice_get (slice_set cs m d.cell) j ≡ Some d.cell = ap (slice_get (slice_set cs m d.cell)) (sym e)
+          ∙ get_set_same cs m d.cell lt in
       let yes : (j == m) ≡ true = eq-eqb j m (sym e) in
-      ap (option_map (at_member s m d j)) at ∙ ap (λ b. Some (cond b d.cell (told_to s.traffic d.row.sent j c.0))) yes ∙ ap Some (sym same) ∙ sym (ap (option_map f) now)
+      ap (option_map (at_member s m d j)) at ∙ ap (λ b. Some (cond b d.cell (told_to s.traffic d.row.sent j c.0))) yes ∙ ap Some (sym same)
+          ∙ sym (ap (option_map f) now)
 
   elsewhere : (j : ℕ) (f : PlainCell → PlainCell) → m ≢ j → ((c : PlainCell) → told_to s.traffic d.row.sent j c ≡ f c) → Placed j f
   elsewhere j f ne same =
@@ -214,7 +239,8 @@ module _ (s : Setting) (m : ℕ) (d : Stepped) (cs : List PlainCell) (lt : m < l
     where
       by : (o : Option PlainCell) → option_map f o ≡ option_map (at_member s m d j) o
       by None = refl
-      by (Some c) = let no : (j == m) ≡ false = not_equal (j == m) refl in ap Some (sym (same c)) ∙ sym (ap (λ b. Some (cond b d.cell (told_to s.traffic d.row.sent j c))) no)
+      by (Some c) = let no : (j == m) ≡ false = not_equal (j == m) refl in ap Some (sym (same c))
+          ∙ sym (ap (λ b. Some (cond b d.cell (told_to s.traffic d.row.sent j c))) no)
         where
           not_equal : (b : Bool) → (j == m) ≡ b → (j == m) ≡ false
           not_equal true e = absurd (ne (sym (eqb-true j m e)))
@@ -235,7 +261,8 @@ module _ (s : Setting) (m : ℕ) (d : Stepped) (cs : List PlainCell) (lt : m < l
           no (Some at) h = absurd ((arrival_is s p m at h).1 (sym e))
 
       by_sent : (o : Option Packet) → d.row.sent ≡ o → SentBy m o → settled s m d 0 cs ≡ all_hear s.traffic o (slice_set cs m d.cell)
-      by_sent None e b = same_list _ _ (λ j. nobody j ∙ elim (m == j) as (λ t. (m == j) ≡ t → option_map (at_member s m d j) (slice_get cs j) ≡ slice_get (slice_set cs m d.cell) j) [
+      by_sent None e b = same_list _ _ (λ j. nobody j ∙ elim (m == j) as
+          (λ t. (m == j) ≡ t → option_map (at_member s m d j) (slice_get cs j) ≡ slice_get (slice_set cs m d.cell) j) [
         | true ↦ λ q. here j (λ c. c) (eqb-true m j q) refl ∙ plain (slice_get (slice_set cs m d.cell) j)
         | false ↦ λ q. elsewhere j (λ c. c) (eqb-false m j q) (λ c. told None e j c) ∙ plain (slice_get (slice_set cs m d.cell) j)
       ] refl)
@@ -243,20 +270,27 @@ module _ (s : Setting) (m : ℕ) (d : Stepped) (cs : List PlainCell) (lt : m < l
           plain : (o : Option PlainCell) → option_map (λ c. c) o ≡ o
           plain None = refl
           plain (Some c) = refl
-      by_sent (Some p) e b = same_list _ _ (λ j. nobody j ∙ elim (m == j) as (λ t. (m == j) ≡ t → option_map (at_member s m d j) (slice_get cs j) ≡ slice_get (heard_below s.traffic p (length (slice_set cs m d.cell)) 0 (slice_set cs m d.cell)) j) [
-        | true ↦ λ q. here j (hear s.traffic p j) (eqb-true m j q) (ap (λ k. hear s.traffic p k d.cell) (sym (eqb-true m j q)) ∙ silent p b) ∙ heard j
+      by_sent (Some p) e b = same_list _ _ (λ j. nobody j ∙ elim (m == j)
+          as (λ t. (m == j) ≡ t → option_map (at_member s m d j) (slice_get cs j)
+          ≡ slice_get (heard_below s.traffic p (length (slice_set cs m d.cell)) 0 (slice_set cs m d.cell)) j) [
+        | true ↦ λ q. here j (hear s.traffic p j) (eqb-true m j q) (ap (λ k. hear s.traffic p k d.cell) (sym (eqb-true m j q)) ∙ silent p b)
+            ∙ heard j
         | false ↦ λ q. elsewhere j (hear s.traffic p j) (eqb-false m j q) (λ c. told (Some p) e j c) ∙ heard j
       ] refl)
         where
-          heard : (j : ℕ) → option_map (hear s.traffic p j) (slice_get (slice_set cs m d.cell) j) ≡ slice_get (heard_below s.traffic p (length (slice_set cs m d.cell)) 0 (slice_set cs m d.cell)) j
-          heard j = within_all (slice_get (slice_set cs m d.cell) j) refl ∙ sym (get_heard s.traffic p (length (slice_set cs m d.cell)) 0 j (slice_set cs m d.cell))
+          heard : (j : ℕ) → option_map (hear s.traffic p j) (slice_get (slice_set cs m d.cell) j)
+              ≡ slice_get (heard_below s.traffic p (length (slice_set cs m d.cell)) 0 (slice_set cs m d.cell)) j
+          heard j = within_all (slice_get (slice_set cs m d.cell) j) refl
+              ∙ sym (get_heard s.traffic p (length (slice_set cs m d.cell)) 0 j (slice_set cs m d.cell))
             where
-              within_all : (o : Option PlainCell) → slice_get (slice_set cs m d.cell) j ≡ o → option_map (hear s.traffic p j) o ≡ option_map (if_below s.traffic p (length (slice_set cs m d.cell)) (0 + j)) o
+              within_all : (o : Option PlainCell) → slice_get (slice_set cs m d.cell) j ≡ o → option_map (hear s.traffic p j) o
+                  ≡ option_map (if_below s.traffic p (length (slice_set cs m d.cell)) (0 + j)) o
               within_all None g = refl
               within_all (Some c) g =
                   let lt : j < length (slice_set cs m d.cell) = get_below (slice_set cs m d.cell) j c g in
                   let yes : nat_lt j (length (slice_set cs m d.cell)) ≡ true = lt-ltb j (length (slice_set cs m d.cell)) lt in
-                  sym (ap (λ k. Some (if_below s.traffic p (length (slice_set cs m d.cell)) k c)) (zero-add j) ∙ ap (λ t. Some (cond t (hear s.traffic p j c) c)) yes)
+                  sym (ap (λ k. Some (if_below s.traffic p (length (slice_set cs m d.cell)) k c)) (zero-add j)
+                      ∙ ap (λ t. Some (cond t (hear s.traffic p j c) c)) yes)
 
 -- ---- what a step may send
 
@@ -268,7 +302,9 @@ few_packets (r ∷ rows) = let h = few_packets rows in by r.sent (packets_of row
     by None ps h = omega arith
     by (Some p) ps h = omega arith
 
-module _ (s : Setting) (fit : IsFit s) (w : World) (reached : IsReached s w) (e : Event) (d : Stepped) (least : before s.traffic.until (least_event 0 w.cells) ≡ Some e) (done : step_at (Some e) ≡ Done d) (early : s.traffic.until ≤ 2 ^ 40) (short : length w.trace + 3 < 2 ^ 64) where
+module _ (s : Setting) (fit : IsFit s) (w : World) (reached : IsReached s w) (e : Event) (d : Stepped)
+    (least : before s.traffic.until (least_event 0 w.cells) ≡ Some e) (done : step_at (Some e) ≡ Done d) (early : s.traffic.until ≤ 2 ^ 40)
+    (short : length w.trace + 3 < 2 ^ 64) where
   pub may_send : MaySend s.traffic.members (slice_set w.cells e.key.member d.cell) (packets_of w.trace) d.row.sent
   may_send =
       let good = good_reached s fit reached.0 w reached.1 in
@@ -276,8 +312,10 @@ module _ (s : Setting) (fit : IsFit s) (w : World) (reached : IsReached s w) (e 
       let new = is_new s fit s.traffic.until w.cells e d good (strict_reached s fit reached.0 w reached.1) least done in
       by d.row.sent refl f.sender f.sent_at (get_below w.cells e.key.member f.cell f.here) good.members new
     where
-      by : (o : Option Packet) → d.row.sent ≡ o → SentBy e.key.member o → SentAt e.key.time o → e.key.member < length w.cells → length w.cells ≡ s.traffic.members
-          → ((p : Packet) → d.row.sent ≡ Some p → (j : ℕ) (q : PlainCell) → slice_get (slice_set w.cells e.key.member d.cell) j ≡ Some q → BringsNone p.id q.inbox)
+      by : (o : Option Packet) → d.row.sent ≡ o → SentBy e.key.member o → SentAt e.key.time o → e.key.member < length w.cells
+          → length w.cells ≡ s.traffic.members
+          → ((p : Packet) → d.row.sent ≡ Some p → (j : ℕ) (q : PlainCell) → slice_get (slice_set w.cells e.key.member d.cell) j ≡ Some q
+              → BringsNone p.id q.inbox)
           → MaySend s.traffic.members (slice_set w.cells e.key.member d.cell) (packets_of w.trace) o
       by None q sb sa lt len new = tt
       by (Some p) q sb sa lt len new =
@@ -293,7 +331,8 @@ module _ (s : Setting) (fit : IsFit s) (w : World) (reached : IsReached s w) (e 
   place_of = let f = step_facts s fit s.traffic.until w.cells e d least done in get_below w.cells e.key.member f.cell f.here
 
 pub not_spent : (s : Setting) (fit : IsFit s) (w : World) → IsReached s w → step s w ≢ Spent
-not_spent s fit w reached h = (never_spent s w fit reached).0 1 (run_first s s.traffic.until (le_refl s.traffic.until) 0 w ∙ ap (run_by s s.traffic.until (le_refl s.traffic.until) 0) h)
+not_spent s fit w reached h = (never_spent s w fit reached).0 1
+    (run_first s s.traffic.until (le_refl s.traffic.until) 0 w ∙ ap (run_by s s.traffic.until (le_refl s.traffic.until) 0) h)
 
 pub sent_by_member : (e : Event) (d : Stepped) → step_at (Some e) ≡ Done d → SentBy e.key.member d.row.sent
 sent_by_member e d x = (subst (IsStepOf e.key.member) x (step_at_of e.key.member (Some e) refl)).1
@@ -316,10 +355,12 @@ packets_more (q ∷ rows) r = ap (cons_option q.sent) (packets_more rows r) ∙ 
 
 pub reached_more : (s : Setting) (w v : World) → IsReached s w → step s w ≡ Done v → IsReached s v
 unfolding run
-reached_more s w v r h = (r.0 + 1, run_on s r.0 1 (opening s) w r.1 ∙ run_first s s.traffic.until (le_refl s.traffic.until) 0 w ∙ ap (run_by s s.traffic.until (le_refl s.traffic.until) 0) h)
+reached_more s w v r h = (r.0 + 1, run_on s r.0 1 (opening s) w r.1 ∙ run_first s s.traffic.until (le_refl s.traffic.until) 0 w
+    ∙ ap (run_by s s.traffic.until (le_refl s.traffic.until) 0) h)
 
 pub meets_full : (s : Setting) (w : World) → IsReached s w → step s w ≡ Full → RunMeetsFull s
-meets_full s w r h = (r.0 + 1, run_on s r.0 1 (opening s) w r.1 ∙ run_first s s.traffic.until (le_refl s.traffic.until) 0 w ∙ ap (run_by s s.traffic.until (le_refl s.traffic.until) 0) h)
+meets_full s w r h = (r.0 + 1, run_on s r.0 1 (opening s) w r.1 ∙ run_first s s.traffic.until (le_refl s.traffic.until) 0 w
+    ∙ ap (run_by s s.traffic.until (le_refl s.traffic.until) 0) h)
 
 pub opening_reached : (s : Setting) → IsReached s (opening s)
 unfolding run

@@ -1,5 +1,6 @@
 -- Rows, packets and counts of a trace that grows by a row.
-use Rattle.std.proofs.Common.{◌≡◌, ℕ, zero, suc, ◌<◌, ◌≤◌, ◌+◌, Bool, true, false, cond, ◌&&◌, List, [], ◌∷◌, ◌++◌, refl, sym, ap, ◌∙◌, subst, ◌≢◌, ◌⊎◌, inl, inr, arith, Ordering, Option, Some, None, is_lt, length, slice_index_or, true≢false, ◌==◌, eqb-true}
+use Rattle.std.proofs.Common.{◌≡◌, ℕ, zero, suc, ◌<◌, ◌≤◌, ◌+◌, Bool, true, false, cond, ◌&&◌, List, [], ◌∷◌, ◌++◌, refl, sym, ap, ◌∙◌,
+    subst, ◌≢◌, ◌⊎◌, inl, inr, arith, Ordering, Option, Some, None, is_lt, length, slice_index_or, true≢false, ◌==◌, eqb-true}
 use Rattle.std.specs.List.{Contains, count_by}
 use Rattle.std.proofs.lemmas.List.Sums.{sum_by-append, sum_by-cons}
 use Rattle.std.proofs.lemmas.List.Elements.{Contains-append_left, Contains-append_right, Contains-append_cases}
@@ -55,11 +56,13 @@ count_none q (x ∷ xs) h =
     let g = count_none q xs (λ y c. h y (Contains-append_right (x ∷ []) xs y c)) in
     count_first q x xs ∙ Rattle.std.proofs.Common.ap₂ (λ a b. a + b) e g
 
-count_cond : {A : Type 0} (q : A → Bool) (b : Bool) (xs ys : List A) (n : ℕ) → count_by q xs ≡ n → count_by q ys ≡ n → count_by q (cond b xs ys) ≡ n
+count_cond : {A : Type 0} (q : A → Bool) (b : Bool) (xs ys : List A) (n : ℕ) → count_by q xs ≡ n → count_by q ys ≡ n
+    → count_by q (cond b xs ys) ≡ n
 count_cond q true xs ys n h g = h
 count_cond q false xs ys n h g = g
 
-pub count_place : {A : Type 0} (q : A → Bool) (cmp : A → A → Ordering) (x : A) (xs : List A) → count_by q (place cmp x xs) ≡ one_if (q x) + count_by q xs
+pub count_place : {A : Type 0} (q : A → Bool) (cmp : A → A → Ordering) (x : A) (xs : List A) → count_by q (place cmp x xs)
+    ≡ one_if (q x) + count_by q xs
 count_place q cmp x [] = count_first q x []
 count_place q cmp x (y ∷ ys) =
     let g = count_place q cmp x ys in
@@ -86,9 +89,11 @@ not_same p q ne = elim (same_packet p q) as (λ b. same_packet p q ≡ b → sam
 ] refl
 
 pub same_self : (p : PacketId) → same_packet p p ≡ true
-same_self p = let a : (p.sender == p.sender) ≡ true = Rattle.std.proofs.Common.eq-eqb _ _ refl in let b : (p.count == p.count) ≡ true = Rattle.std.proofs.Common.eq-eqb _ _ refl in simp (a, b)
+same_self p = let a : (p.sender == p.sender) ≡ true = Rattle.std.proofs.Common.eq-eqb _ _ refl in let b : (p.count == p.count)
+    ≡ true = Rattle.std.proofs.Common.eq-eqb _ _ refl in simp (a, b)
 
--- a row at another member, or of which the packet is another, or which is no arrival, is not an arrival of this packet here
+-- a row at another member, or of which the packet is another, or which is no arrival, is not an arrival of this packet
+-- here
 pub elsewhere : (k : PacketId) (m : ℕ) (r : Row) → r.key.member ≢ m → is_arrival k m r ≡ false
 elsewhere k m r ne = elim (r.key.member == m) as (λ b. (r.key.member == m) ≡ b → is_arrival k m r ≡ false) [
   | true ↦ λ e. absurd (ne (eqb-true _ _ e))
@@ -108,7 +113,8 @@ pub not_arrival : (k : PacketId) (m : ℕ) (r : Row) → ((q : Packet) → r.abo
 not_arrival k m r h = ap (λ b. (r.key.member == m) && b) (not_of k r.about h) ∙ and_false (r.key.member == m)
 
 pub here : (k : PacketId) (q : Packet) (m : ℕ) (r : Row) → r.key.member ≡ m → r.about ≡ Of q → is_arrival k m r ≡ same_packet k q.id
-here k q m r e a = let b : (r.key.member == m) ≡ true = Rattle.std.proofs.Common.eq-eqb _ _ e in ap (λ b. b && is_of k r.about) b ∙ ap (is_of k) a
+here k q m r e a = let b : (r.key.member == m) ≡ true = Rattle.std.proofs.Common.eq-eqb _ _ e in ap (λ b. b && is_of k r.about) b
+    ∙ ap (is_of k) a
 
 -- ---- a row of a list, and the rows before it
 

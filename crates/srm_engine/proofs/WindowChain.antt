@@ -1,5 +1,6 @@
 -- Windows one after the other are the sequential run.
-use Rattle.std.proofs.Common.{◌≡◌, ℕ, zero, suc, ◌<◌, ◌≤◌, ◌+◌, ◌-◌, true, false, List, [], ◌∷◌, ◌++◌, length, refl, sym, ap, ◌∙◌, subst, arith, Some, None, nat_lt, ltb-true, ltb-false, slice_get, le_refl, length-append, ◌⊎◌, inl, inr, zero-add}
+use Rattle.std.proofs.Common.{◌≡◌, ℕ, zero, suc, ◌<◌, ◌≤◌, ◌+◌, ◌-◌, true, false, List, [], ◌∷◌, ◌++◌, length, refl, sym, ap, ◌∙◌, subst,
+    arith, Some, None, nat_lt, ltb-true, ltb-false, slice_get, le_refl, length-append, ◌⊎◌, inl, inr, zero-add}
 use Rattle.std.proofs.lemmas.List.{map-append}
 use Rattle.srm_cell.specs.Setting.{Setting, IsFit}
 use Rattle.srm_cell.specs.Cells.{PlainCell, Event, Idle, Full, Done, before}
@@ -8,7 +9,8 @@ use Rattle.srm_engine.specs.World.{World, least_event, step, run, opening, IsRea
 use Rattle.srm_engine.specs.Windows.{IsFirstQuiet}
 use Rattle.srm_engine.specs.WindowChains.{IsNext, IsOver, start_of, IsEndRule, AreWindows, no_window, next_window}
 use Rattle.srm_engine.specs.WindowRuns.{jobs_of}
-use Rattle.srm_engine.specs.WindowLaws.{WindowsAreReached, WindowsFollow, CallsFollow, RefusedWindowsMeetFull, WindowTracesArePrefixes, WindowsAreOne, WindowsEnd}
+use Rattle.srm_engine.specs.WindowLaws.{WindowsAreReached, WindowsFollow, CallsFollow, RefusedWindowsMeetFull, WindowTracesArePrefixes,
+    WindowsAreOne, WindowsEnd}
 use Rattle.srm_engine.proofs.LawProofs.{own_runs_end, refusals_are_met, run_on, schedules_agree}
 use Rattle.srm_engine.proofs.OneWindow.{part_rows, reached_on, windows_agree}
 use Rattle.srm_engine.proofs.RunLemmas.{run_by, run_first, shifted, step_none}
@@ -41,7 +43,8 @@ module _ (s : Setting) (rule : World → ℕ) where
   longer : (begins : List World) (w : World) → length (begins ++ w ∷ []) ≡ suc (length begins)
   longer begins w = omega (arith, length-append begins (w ∷ []))
 
-  as_many : {begins starts : List World} {w v : World} → AreWindows s rule begins w → AreWindows s rule starts v → length begins ≡ length starts → (begins ≡ starts) × (w ≡ v)
+  as_many : {begins starts : List World} {w v : World} → AreWindows s rule begins w → AreWindows s rule starts v → length begins
+      ≡ length starts → (begins ≡ starts) × (w ≡ v)
   as_many no_window no_window many = (refl, refl)
   as_many no_window (next_window {begins = starts} {w = u} chain h first) many = absurd (omega (arith, longer starts u))
   as_many (next_window {begins = begins} {w = w} chain h first) no_window many = absurd (omega (arith, longer begins w))
@@ -50,23 +53,30 @@ module _ (s : Setting) (rule : World → ℕ) where
       (λ i. r.0 i ++ r.1 i ∷ [], first_is_one (rule v) v w' v' (subst (λ u. IsFirstQuiet s (rule u) u w') r.1 first) second)
 
   -- after fewer windows something was still pending
-  earlier : {begins : List World} {w : World} → AreWindows s rule begins w → (n : ℕ) → n < length begins → (starts : List World) × (u : World) × (e : Event) × AreWindows s rule starts u × (length starts ≡ n) × IsNext s u e
+  earlier : {begins : List World} {w : World} → AreWindows s rule begins w → (n : ℕ) → n < length begins → (starts : List World)
+      × (u : World) × (e : Event) × AreWindows s rule starts u × (length starts ≡ n) × IsNext s u e
   earlier no_window n lt = absurd (omega arith)
-  earlier (next_window {begins = begins} {w = w} {e = e} chain h first) n lt = elim (nat_lt n (length begins)) as (λ b. nat_lt n (length begins) ≡ b → (starts : List World) × (u : World) × (e : Event) × AreWindows s rule starts u × (length starts ≡ n) × IsNext s u e) [
+  earlier (next_window {begins = begins} {w = w} {e = e} chain h first) n lt =
+      elim (nat_lt n (length begins)) as (λ b. nat_lt n (length begins) ≡ b → (starts : List World) × (u : World) × (e : Event)
+      × AreWindows s rule starts u × (length starts ≡ n) × IsNext s u e) [
     | true ↦ λ q. earlier chain n (ltb-true _ _ q)
     | false ↦ λ q. let le : length begins ≤ n = ltb-false _ _ q in (begins, w, e, chain, omega (arith, longer begins w), h)
   ] refl
 
-  not_fewer : {begins starts : List World} {w v : World} → AreWindows s rule begins w → IsOver s w → AreWindows s rule starts v → length begins < length starts → ⊥
+  not_fewer : {begins starts : List World} {w v : World} → AreWindows s rule begins w → IsOver s w → AreWindows s rule starts v
+      → length begins < length starts → ⊥
   not_fewer a over b lt =
       let r = earlier b _ lt in
       let same = as_many a r.3 (sym r.4) in
       let x : None ≡ Some r.2 = sym over ∙ ap (λ (u : World). before s.traffic.until (least_event 0 u.cells)) same.1 ∙ r.5 in cc
 
-  one_list : {begins starts : List World} {w v : World} → AreWindows s rule begins w → IsOver s w → AreWindows s rule starts v → IsOver s v → (begins ≡ starts) × (w ≡ v)
-  one_list {begins} {starts} {w} {v} a over b done = elim (nat_lt (length begins) (length starts)) as (λ t. nat_lt (length begins) (length starts) ≡ t → (begins ≡ starts) × (w ≡ v)) [
+  one_list : {begins starts : List World} {w v : World} → AreWindows s rule begins w → IsOver s w → AreWindows s rule starts v → IsOver s v
+      → (begins ≡ starts) × (w ≡ v)
+  one_list {begins} {starts} {w} {v} a over b done = elim (nat_lt (length begins) (length starts)) as
+      (λ t. nat_lt (length begins) (length starts) ≡ t → (begins ≡ starts) × (w ≡ v)) [
     | true ↦ λ q. absurd (not_fewer a over b (ltb-true _ _ q))
-    | false ↦ λ q. (elim (nat_lt (length starts) (length begins)) as (λ t. nat_lt (length starts) (length begins) ≡ t → (begins ≡ starts) × (w ≡ v)) [
+    | false ↦ λ q. (elim (nat_lt (length starts) (length begins)) as
+        (λ t. nat_lt (length starts) (length begins) ≡ t → (begins ≡ starts) × (w ≡ v)) [
       | true ↦ λ r. absurd (not_fewer b done a (ltb-true _ _ r))
       | false ↦ λ r.
           let le : length starts ≤ length begins = ltb-false _ _ q in
@@ -94,7 +104,8 @@ module _ (s : Setting) (rule : World → ℕ) where
     Come : Type 0
     Come = ((begins : List World) × (w : World) × AreWindows s rule begins w × IsLast s w) ⊎ RunMeetsFull s
 
-    all_or_full : (end i : ℕ) (cs : List PlainCell) → ((j : ℕ) (c : PlainCell) → slice_get cs j ≡ Some c → (n : ℕ) × ((own_end end (i + j) n c ≡ Idle) ⊎ (own_end end (i + j) n c ≡ Full))) → AllResults end i cs ⊎ SomeFull end i cs
+    all_or_full : (end i : ℕ) (cs : List PlainCell) → ((j : ℕ) (c : PlainCell) → slice_get cs j ≡ Some c → (n : ℕ)
+        × ((own_end end (i + j) n c ≡ Idle) ⊎ (own_end end (i + j) n c ≡ Full))) → AllResults end i cs ⊎ SomeFull end i cs
     unfolding AllResults SomeFull
     all_or_full end i [] f = inl (λ j c g. cc)
     all_or_full end i (c ∷ cs) f = elim (all_or_full end (suc i) cs (λ j b g. rw (← shifted i j) (f (suc j) b g))) [
@@ -107,7 +118,9 @@ module _ (s : Setting) (rule : World → ℕ) where
           ]
     ]
       where
-        each : (n : ℕ) → own_end end (i + 0) n c ≡ Idle → ((j : ℕ) (b : PlainCell) → slice_get cs j ≡ Some b → (k : ℕ) × (own_end end (suc i + j) k b ≡ Idle)) → (j : ℕ) (b : PlainCell) → slice_get (c ∷ cs) j ≡ Some b → (k : ℕ) × (own_end end (i + j) k b ≡ Idle)
+        each : (n : ℕ) → own_end end (i + 0) n c ≡ Idle →
+            ((j : ℕ) (b : PlainCell) → slice_get cs j ≡ Some b → (k : ℕ) × (own_end end (suc i + j) k b ≡ Idle)) → (j : ℕ) (b : PlainCell)
+            → slice_get (c ∷ cs) j ≡ Some b → (k : ℕ) × (own_end end (i + j) k b ≡ Idle)
         each n idle r zero b g = let same : c ≡ b = cc in (n, subst (λ x. own_end end (i + 0) n x ≡ Idle) same idle)
         each n idle r (suc j) b g = rw (shifted i j) (r j b g)
 
@@ -123,16 +136,19 @@ module _ (s : Setting) (rule : World → ℕ) where
               let r = schedules_agree s w (rule w) fit reached within safe (λ m c g. rw (zero-add m) at (all m c g)) in
               again r.0 (next_window chain h r.1) (moves_on w r.0 e reached h r.1)
           | inr full ↦
-              inr (refusals_are_met s w (rule w) fit reached within safe full.0 (full.1, full.2, (full.3, rw (zero-add full.0) at full.4))).1
+              inr (refusals_are_met s w (rule w) fit reached within safe full.0
+                  (full.1, full.2, (full.3, rw (zero-add full.0) at full.4))).1
         ]
 
     come_from : (k : ℕ) (begins : List World) (w : World) → AreWindows s rule begins w → s.traffic.until ≤ start_of s w + k → Come
     unfolding Come
-    come_from zero begins w chain room = elim (before s.traffic.until (least_event 0 w.cells)) as (λ o. before s.traffic.until (least_event 0 w.cells) ≡ o → Come) [
+    come_from zero begins w chain room = elim (before s.traffic.until (least_event 0 w.cells)) as
+        (λ o. before s.traffic.until (least_event 0 w.cells) ≡ o → Come) [
       | None ↦ λ over. inl (begins, w, chain, over_is_last w (chain_reached chain) over)
       | Some e ↦ λ h. let a = start_is s w e h in absurd (omega (arith, a.0, a.1))
     ] refl
-    come_from (suc k) begins w chain room = elim (before s.traffic.until (least_event 0 w.cells)) as (λ o. before s.traffic.until (least_event 0 w.cells) ≡ o → Come) [
+    come_from (suc k) begins w chain room = elim (before s.traffic.until (least_event 0 w.cells)) as
+        (λ o. before s.traffic.until (least_event 0 w.cells) ≡ o → Come) [
       | None ↦ λ over. inl (begins, w, chain, over_is_last w (chain_reached chain) over)
       | Some e ↦ λ h. one_window begins w e chain h (λ v more lt. come_from k (begins ++ w ∷ []) v more (omega arith))
     ] refl
@@ -159,13 +175,15 @@ refused_windows_meet_full s rule begins w e fit ends chain h m none =
 idle_stays : (s : Setting) (k : ℕ) (v : World) → step s v ≡ Idle → run s (suc k) v ≡ Idle
 idle_stays s k v e = run_first s s.traffic.until (le_refl s.traffic.until) k v ∙ ap (run_by s s.traffic.until (le_refl s.traffic.until) k) e
 
-rest_of_run : (s : Setting) (n m : ℕ) (w v : World) → run s n (opening s) ≡ Done w → run s m (opening s) ≡ Done v → step s v ≡ Idle → (k : ℕ) × (run s k w ≡ Done v)
+rest_of_run : (s : Setting) (n m : ℕ) (w v : World) → run s n (opening s) ≡ Done w → run s m (opening s) ≡ Done v → step s v ≡ Idle
+    → (k : ℕ) × (run s k w ≡ Done v)
 rest_of_run s n m w v h g idle = elim (nat_lt m n) as (λ b. nat_lt m n ≡ b → (k : ℕ) × (run s k w ≡ Done v)) [
   | true ↦ λ q.
       let lt : m < n = ltb-true _ _ q in
       let k = n - suc m in
       let e : m + suc k ≡ n = omega arith in
-      let x : Done w ≡ Idle = sym h ∙ ap (λ i. run s i (opening s)) (sym e) ∙ run_on s m (suc k) (opening s) v g ∙ idle_stays s k v idle in cc
+      let x : Done w ≡ Idle = sym h ∙ ap (λ i. run s i (opening s)) (sym e) ∙ run_on s m (suc k) (opening s) v g
+          ∙ idle_stays s k v idle in cc
   | false ↦ λ q.
       let le : n ≤ m = ltb-false _ _ q in
       let e : n + (m - n) ≡ m = omega arith in

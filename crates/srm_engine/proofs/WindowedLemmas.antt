@@ -1,5 +1,6 @@
 -- Windows of the engine, one after the other.
-use Rattle.std.proofs.Common.{◌≡◌, ℕ, zero, suc, ◌<◌, ◌≤◌, min, List, [], ◌∷◌, ◌++◌, Some, Err, refl, sym, ap, ◌∙◌, subst, arith, All, IsSorted, IsPermutation, length, map, drop, slice_index, replicate, ◌*◌}
+use Rattle.std.proofs.Common.{◌≡◌, ℕ, zero, suc, ◌<◌, ◌≤◌, min, List, [], ◌∷◌, ◌++◌, Some, Err, refl, sym, ap, ◌∙◌, subst, arith, All,
+    IsSorted, IsPermutation, length, map, drop, slice_index, replicate, ◌*◌}
 use Rattle.std.proofs.lemmas.List.{map-append, length-map}
 use Rattle.std.specs.List.{AllZip, range_with_len}
 use Rattle.std.specs.declared.dyn_box.DynBox.{DynBox}
@@ -41,7 +42,8 @@ use Rattle.srm_engine.specs.Windowed.{IsCut, Holds, PassesShare, calls_of, Tells
 use Rattle.srm_engine.specs.declared.stream_fault.StreamFault.TheVariants.{Run}
 use Rattle.srm_engine.specs.WindowStreams.{MeetsWindowRefusal}
 use Rattle.srm_engine.proofs.CellLists.{from_seen, seen_from, few_groups}
-use Rattle.srm_engine.proofs.JobLemmas.{any_cell, are_jobs, may_advance, as_many_jobs, places_with, job_results, cuts_kept, joined_some, all_some}
+use Rattle.srm_engine.proofs.JobLemmas.{any_cell, are_jobs, may_advance, as_many_jobs, places_with, job_results, cuts_kept, joined_some,
+    all_some}
 use Rattle.srm_engine.proofs.LawProofs.{never_spent}
 use Rattle.srm_engine.proofs.OneWindow.{as_many_results}
 use Rattle.srm_engine.proofs.Sequential.{good_reached}
@@ -55,7 +57,9 @@ use Rattle.srm_engine.proofs.WindowChain.{windows_are_reached, windows_follow, r
 
 -- ---- the jobs of a window
 
-module _ {X : Type 0} {H : X → Type 0} (f : DynBox X Global H → Record) (p : PlainScenario) (net : Network) (is : net ≡ network_of p) (accepted : IsAccepted p) (seed end cut : ℕ) (cuts : IsCut cut) (within : end ≤ p.until) (w : World) (reached : IsReached (setting_of p net seed) w) (gs : List (Vec (Cell X H))) (grouped : AreGrouped f cut gs w.cells) where
+module _ {X : Type 0} {H : X → Type 0} (f : DynBox X Global H → Record) (p : PlainScenario) (net : Network) (is : net ≡ network_of p)
+    (accepted : IsAccepted p) (seed end cut : ℕ) (cuts : IsCut cut) (within : end ≤ p.until) (w : World)
+    (reached : IsReached (setting_of p net seed) w) (gs : List (Vec (Cell X H))) (grouped : AreGrouped f cut gs w.cells) where
   abbrev in_jobs : Setting
   in_jobs = setting_of p net seed
 
@@ -74,7 +78,8 @@ module _ {X : Type 0} {H : X → Type 0} (f : DynBox X Global H → Record) (p :
       let many = members_are in
       let hosts = hosts_are in
       subst (All (λ (j : Job X H). cell.MayAdvance f (length net.hosts) j)) (sym e)
-      (may_advance f cut end (length net.hosts) gs w.cells cuts.0 cuts.1 (omega arith) (omega arith) grouped.cuts (from_seen f (all_in gs) w.cells grouped.cells))
+      (may_advance f cut end (length net.hosts) gs w.cells cuts.0 cuts.1 (omega arith) (omega arith) grouped.cuts
+          (from_seen f (all_in gs) w.cells grouped.cells))
 
   pub jobs_few : (js : List (Job X H)) → js ≡ jobs_with end 0 gs → length js ≤ 1024
   jobs_few js e =
@@ -86,7 +91,8 @@ module _ {X : Type 0} {H : X → Type 0} (f : DynBox X Global H → Record) (p :
       omega (arith, a)
 
   pub jobs_placed : (js : List (Job X H)) → js ≡ jobs_with end 0 gs → map (λ (j : Job X H). j.place) js ≡ range_with_len 0 (length js)
-  jobs_placed js e = ap (map (λ (j : Job X H). j.place)) e ∙ places_with f end 0 gs ∙ ap (range_with_len 0) (sym (ap length e ∙ as_many_jobs f end 0 gs))
+  jobs_placed js e = ap (map (λ (j : Job X H). j.place)) e ∙ places_with f end 0 gs
+      ∙ ap (range_with_len 0) (sym (ap length e ∙ as_many_jobs f end 0 gs))
 
   own_jobs : AreJobs f (jobs_with end 0 gs) (handed_jobs 0 (jobs_of cut end w))
   own_jobs = are_jobs f cut end 0 0 gs w.cells cuts.0 grouped.cuts (from_seen f (all_in gs) w.cells grouped.cells)
@@ -103,18 +109,22 @@ module _ {X : Type 0} {H : X → Type 0} (f : DynBox X Global H → Record) (p :
   jobs_full h = let r = any_cell Full cut end w.cells h in (r.0, (r.1, r.2, r.3))
 
   pub jobs_done : (t : Traffic) (ds : List (job.Done X H)) → AllZip (λ p d. cell.IsDone f t p d) (handed_jobs 0 (jobs_of cut end w)) ds
-      → (results : List OwnResult) × AreOwnRuns end 0 w.cells results × AreGrouped f cut (groups_of ds) (cells_in results) × (lists_of ds ≡ rows_in results)
+      → (results : List OwnResult) × AreOwnRuns end 0 w.cells results × AreGrouped f cut (groups_of ds) (cells_in results)
+          × (lists_of ds ≡ rows_in results)
   jobs_done t ds h =
       let r = job_results f t 0 (jobs_of cut end w) ds h in (
         joined r.0,
         jobs_run_all w cut end r.0 cuts.0 r.1,
-        record { cells = seen_from f (all_in (groups_of ds)) (cells_in (joined r.0)) r.2; cuts = cuts_kept f cut end gs (jobs_of cut end w) ds grouped.cuts own_jobs r.4 },
+        record { cells = seen_from f (all_in (groups_of ds)) (cells_in (joined r.0)) r.2; cuts =
+            cuts_kept f cut end gs (jobs_of cut end w) ds grouped.cuts own_jobs r.4 },
         r.3,
       )
 
 -- ---- one window
 
-module _ (p : PlainScenario) (net : Network) (is : net ≡ network_of p) (accepted : IsAccepted p) (seed end : ℕ) (within : end ≤ p.until) (w : World) (run : IsReached (setting_of p net seed) w) (late : IsSafe (setting_of p net seed) end w) (results : List OwnResult) (alone : AreOwnRuns end 0 w.cells results) where
+module _ (p : PlainScenario) (net : Network) (is : net ≡ network_of p) (accepted : IsAccepted p) (seed end : ℕ) (within : end ≤ p.until)
+    (w : World) (run : IsReached (setting_of p net seed) w) (late : IsSafe (setting_of p net seed) end w) (results : List OwnResult)
+    (alone : AreOwnRuns end 0 w.cells results) where
   abbrev at : Setting
   at = setting_of p net seed
 
@@ -122,10 +132,13 @@ module _ (p : PlainScenario) (net : Network) (is : net ≡ network_of p) (accept
   is_fit = subst (λ (n : Network). IsFit (setting_of p n seed)) (sym is) (settings_are_fit p seed accepted)
 
   pub lists_sorted : (lists : List (List Row)) → lists ≡ some_of (rows_in results) → All (IsSorted row_cmp) lists
-  lists_sorted lists e = subst (All (IsSorted row_cmp)) (sym e) (all_some (IsSorted row_cmp) (rows_in results) (own_rows_are_sorted at w end is_fit run within late results alone))
+  lists_sorted lists e = subst (All (IsSorted row_cmp)) (sym e)
+      (all_some (IsSorted row_cmp) (rows_in results) (own_rows_are_sorted at w end is_fit run within late results alone))
 
-  pub merge_of : (lists : List (List Row)) (rows : List Row) → lists ≡ some_of (rows_in results) → IsPermutation (joined lists) rows → IsSorted row_cmp rows → IsMerge (rows_in results) rows
-  merge_of lists rows e all sorted = record { all = subst (λ l. IsPermutation l rows) (ap joined e ∙ joined_some (rows_in results)) all; in_order = sorted }
+  pub merge_of : (lists : List (List Row)) (rows : List Row) → lists ≡ some_of (rows_in results) → IsPermutation (joined lists) rows
+      → IsSorted row_cmp rows → IsMerge (rows_in results) rows
+  merge_of lists rows e all sorted = record { all = subst (λ l. IsPermutation l rows) (ap joined e ∙ joined_some (rows_in results)) all;
+      in_order = sorted }
 
   pub new_in_turn : (rows : List Row) → IsMerge (rows_in results) rows → AreNewInTurn at.traffic rows (cells_in results)
   new_in_turn rows merge = window_packets_are_new at w end is_fit run within late results rows alone merge
@@ -134,7 +147,8 @@ module _ (p : PlainScenario) (net : Network) (is : net ≡ network_of p) (accept
   all_members = as_many_results end 0 w.cells results alone ∙ (good_reached at is_fit run.0 w run.1).members
 
 module _ {C X : Type 0} {H : X → Type 0} (handed : C → List (List cell.PlainJob) → C → Type 0) (f : DynBox X Global H → Record) where
-  pub refused : (s : Setting) (l : LedgerView) (cut end : ℕ) (w : World) (old : C) (x : RunFault) (new : C) → TellsJobs handed f s l cut end w old (Err x) new → TellsWindow handed f s l cut end w old (Err x) new
+  pub refused : (s : Setting) (l : LedgerView) (cut end : ℕ) (w : World) (old : C) (x : RunFault) (new : C)
+      → TellsJobs handed f s l cut end w old (Err x) new → TellsWindow handed f s l cut end w old (Err x) new
   refused s l cut end w old fault.NoMemory new h = tt
   refused s l cut end w old fault.CountFull new h = h
   refused s l cut end w old fault.ShareFull new h = h
@@ -144,13 +158,17 @@ module _ {C X : Type 0} {H : X → Type 0} (handed : C → List (List cell.Plain
 -- ---- windows
 
 -- windows that end so follow a rule
-pub ends_are_rules : (p : PlainScenario) (net : Network) → net ≡ network_of p → IsAccepted p → (seed : ℕ) (ends : Ends) → MayEnd net ends → IsEndRule (setting_of p net seed) (ends_rule (setting_of p net seed) ends)
+pub ends_are_rules : (p : PlainScenario) (net : Network) → net ≡ network_of p → IsAccepted p → (seed : ℕ) (ends : Ends) → MayEnd net ends
+    → IsEndRule (setting_of p net seed) (ends_rule (setting_of p net seed) ends)
 ends_are_rules p net is accepted seed (After n) may =
-    subst (λ (k : Network). IsEndRule (setting_of p k seed) (width_rule (setting_of p k seed) n)) (sym is) (widths_are_rules p seed n accepted may.0 (subst (λ (k : Network). IsWidth k n) is may.1))
+    subst (λ (k : Network). IsEndRule (setting_of p k seed) (width_rule (setting_of p k seed) n)) (sym is)
+        (widths_are_rules p seed n accepted may.0 (subst (λ (k : Network). IsWidth k n) is may.1))
 ends_are_rules p net is accepted seed Promised may =
-    promises_are_a_rule (setting_of p net seed) (subst (λ (k : Network). IsFit (setting_of p k seed)) (sym is) (settings_are_fit p seed accepted))
+    promises_are_a_rule (setting_of p net seed) (subst (λ (k : Network). IsFit (setting_of p k seed)) (sym is)
+        (settings_are_fit p seed accepted))
 
-module _ (p : PlainScenario) (net : Network) (is : net ≡ network_of p) (accepted : IsAccepted p) (seed : ℕ) (ends : Ends) (may : MayEnd net ends) where
+module _ (p : PlainScenario) (net : Network) (is : net ≡ network_of p) (accepted : IsAccepted p) (seed : ℕ) (ends : Ends)
+    (may : MayEnd net ends) where
   abbrev pub s : Setting
   s = setting_of p net seed
 
@@ -163,7 +181,9 @@ module _ (p : PlainScenario) (net : Network) (is : net ≡ network_of p) (accept
   rule_is : IsEndRule s rule
   rule_is = ends_are_rules p net is accepted seed ends may
 
-  module _ (begins : List World) (w : World) (chain : AreWindows s rule begins w) (begin until : ℕ) (at_min : begin ≡ min until (start_of s w)) (whole : until ≡ p.until) (early : begin < until) (cut : ℕ) (xs : List Soonest) (soon : AreSoonest s cut xs w.cells) where
+  module _ (begins : List World) (w : World) (chain : AreWindows s rule begins w) (begin until : ℕ)
+      (at_min : begin ≡ min until (start_of s w)) (whole : until ≡ p.until) (early : begin < until) (cut : ℕ) (xs : List Soonest)
+      (soon : AreSoonest s cut xs w.cells) where
     pub reached : IsReached s w
     reached = (windows_are_reached s rule begins w chain).0
 
@@ -197,14 +217,17 @@ module _ (p : PlainScenario) (net : Network) (is : net ≡ network_of p) (accept
 
       pub call_more : calls_of rule cut (begins ++ w ∷ []) ≡ calls_of rule cut begins ++ handed_jobs 0 (jobs_of cut end w) ∷ []
       call_more =
-          ap (map (handed_jobs 0)) ((calls_follow rule cut).1 begins w) ∙ map-append (handed_jobs 0) (window_jobs rule cut begins) (jobs_of cut (rule w) w ∷ [])
+          ap (map (handed_jobs 0)) ((calls_follow rule cut).1 begins w) ∙
+              map-append (handed_jobs 0) (window_jobs rule cut begins) (jobs_of cut (rule w) w ∷ [])
           ∙ ap (λ n. calls_of rule cut begins ++ handed_jobs 0 (jobs_of cut n w) ∷ []) (sym end_is)
 
       meets : (m : ℕ) → HasNoResult end w m → RunMeetsFull s
-      meets m none = refused_windows_meet_full s rule begins w event.0 fit rule_is chain event.1 m (subst (λ n. HasNoResult n w m) end_is none)
+      meets m none = refused_windows_meet_full s rule begins w event.0 fit rule_is chain event.1 m
+          (subst (λ n. HasNoResult n w m) end_is none)
 
       module _ {C X : Type 0} {H : X → Type 0} (handed : C → List (List cell.PlainJob) → C → Type 0) (f : DynBox X Global H → Record) where
-        pub not_windowed : (l : LedgerView) (first old : C) (x : RunFault) (new : C) → TellsWindow handed f s l cut end w old (Err x) new → MeetsWindowRefusal s rule cut first (Run x) new
+        pub not_windowed : (l : LedgerView) (first old : C) (x : RunFault) (new : C) → TellsWindow handed f s l cut end w old (Err x) new
+            → MeetsWindowRefusal s rule cut first (Run x) new
         not_windowed l first old fault.NoMemory new h = tt
         not_windowed l first old fault.CountFull new h = meets h.0 h.1
         not_windowed l first old fault.ShareFull new h =
@@ -224,7 +247,8 @@ none_crossed t zero = refl
 none_crossed t (suc k) = ap (λ ns. slice_index ns k) (sym (nothing_counted t ∙ numbers_are t [])) ∙ zeros (5 * t.links) k
 
 module _ {X : Type 0} {H : X → Type 0} (f : DynBox X Global H → Record) where
-  pub opened : (s : Setting) (l : LedgerView) (cut links : ℕ) (e : Grouped X H) (cs : List (Cell X H)) → AreCells f cs (opening_cells s s.traffic.members 0) → all_in e.groups.items ≡ cs → AreCuts cut (sizes e.groups.items)
+  pub opened : (s : Setting) (l : LedgerView) (cut links : ℕ) (e : Grouped X H) (cs : List (Cell X H))
+      → AreCells f cs (opening_cells s s.traffic.members 0) → all_in e.groups.items ≡ cs → AreCuts cut (sizes e.groups.items)
       → ((ps : List PlainCell) → AreGrouped f cut e.groups.items ps → AreSoonest s cut e.soon.items ps)
       → e.seat ≡ whole_seat l.name links → Holds f s l cut e (opening s)
   opened s l cut links e cs seen same cuts soon seat = record {
@@ -232,12 +256,14 @@ module _ {X : Type 0} {H : X → Type 0} (f : DynBox X Global H → Record) wher
     counted = record {
       ledger = ap (λ (v : SeatView). v.ledger) seat;
       weight = ap (λ (v : SeatView). v.weight) seat;
-      shares = λ k. ap (λ (v : SeatView). slice_index v.shares k) seat ∙ zeros (words_of links) k ∙ sym (none_crossed s.traffic k) ∙ ap (λ rows. word_of (crossings s.traffic rows) k) (sym (opening_trace s));
+      shares = λ k. ap (λ (v : SeatView). slice_index v.shares k) seat ∙ zeros (words_of links) k ∙ sym (none_crossed s.traffic k)
+          ∙ ap (λ rows. word_of (crossings s.traffic rows) k) (sym (opening_trace s));
     };
   }
     where
       grouped : AreGrouped f cut e.groups.items (opening s).cells
-      grouped = record { cells = subst (λ ps. AreCells f (all_in e.groups.items) ps) (opening_is s) (subst (λ l. AreCells f l (opening_cells s s.traffic.members 0)) (sym same) seen); cuts = cuts }
+      grouped = record { cells = subst (λ ps. AreCells f (all_in e.groups.items) ps) (opening_is s)
+          (subst (λ l. AreCells f l (opening_cells s s.traffic.members 0)) (sym same) seen); cuts = cuts }
 
 -- ---- its end
 
@@ -247,7 +273,8 @@ same_list [] (y ∷ ys) e each = absurd (omega arith)
 same_list (x ∷ xs) [] e each = absurd (omega arith)
 same_list (x ∷ xs) (y ∷ ys) e each = (λ i. each 0 i ∷ xs) ∙ ap (λ l. y ∷ l) (same_list xs ys (omega arith) (λ k. each (suc k)))
 
-pub total_words : (totals shares numbers : List ℕ) → totals ≡ drop 1 shares → length totals ≡ length numbers → ((k : ℕ) → slice_index shares k ≡ word_of numbers k) → totals ≡ numbers
+pub total_words : (totals shares numbers : List ℕ) → totals ≡ drop 1 shares → length totals ≡ length numbers
+    → ((k : ℕ) → slice_index shares k ≡ word_of numbers k) → totals ≡ numbers
 total_words totals [] numbers e long each = e ∙ nothing numbers (sym long ∙ ap length e)
   where
     nothing : (ns : List ℕ) → length ns ≡ 0 → [] ≡ ns

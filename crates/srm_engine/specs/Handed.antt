@@ -42,8 +42,8 @@ sending_count m rows = count_by (is_sending m) rows
 
 -- ---- laws
 
--- a packet's identity is its sender, which is the row's member, and how many packets that member sent in earlier rows; and it is
--- sent at the row's time
+-- a packet's identity is its sender, which is the row's member, and how many packets that member sent in earlier rows;
+-- and it is sent at the row's time
 abbrev pub PacketsAreNumbered : Type 0
 PacketsAreNumbered =
     (s : Setting) (w : World) → IsReached s w → (before after : List Row) (r : Row) (p : Packet)

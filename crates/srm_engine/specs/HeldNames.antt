@@ -1,4 +1,5 @@
--- What members hold and lack is what their rows say, and requests and repairs are for names that their senders lack or have.
+-- What members hold and lack is what their rows say, and requests and repairs are for names that their senders lack or
+-- have.
 use Rattle.std.specs.Prelude.{◌≡◌, ◌⊎◌, ℕ, List, ◌∷◌, ◌++◌, map, length, Some, slice_get, Contains}
 use Rattle.srm_net.specs.declared.packet.Name.{Name}
 use Rattle.srm_net.specs.declared.packet.Body.{Body}
@@ -65,8 +66,8 @@ Lacks m n rows = Lost m n rows × ¬ ToldOf Fixed m n rows
 abbrev pub Exactly : Type 0 → Type 0 → Type 0
 Exactly A B = (A → B) × (B → A)
 
--- after these rows this is what member m ends with: the names that it got, rising, each with the ink with which its source drew
--- it; and the names that it lacks, rising
+-- after these rows this is what member m ends with: the names that it got, rising, each with the ink with which its
+-- source drew it; and the names that it lacks, rising
 pub record EndsWith (rows : List Row) (m : ℕ) (x : Exit) : Type 0 where
   pub member : x.member ≡ m
   pub held : (n : Name) (ink : ℕ) → Exactly (Contains x.held (n, ink)) (Got m n rows × Drew n.source n ink rows)

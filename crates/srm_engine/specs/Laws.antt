@@ -1,5 +1,6 @@
 -- The laws on which windows rest.
-use Rattle.std.specs.Prelude.{◌≡◌, ◌≢◌, ◌⊎◌, ℕ, ◌+◌, ◌<◌, ◌≤◌, zero, suc, List, [], ◌∷◌, ◌++◌, Option, Some, None, slice_get, length, drop, IsPermutation, Contains}
+use Rattle.std.specs.Prelude.{◌≡◌, ◌≢◌, ◌⊎◌, ℕ, ◌+◌, ◌<◌, ◌≤◌, zero, suc, List, [], ◌∷◌, ◌++◌, Option, Some, None,
+    slice_get, length, drop, IsPermutation, Contains}
 use Rattle.srm_net.specs.Keys.{key_cmp}
 use Rattle.srm_net.specs.Orders.{ordered, Ascends, Rises, NoneBelow}
 use Rattle.srm_net.specs.declared.key.Key.{Key}
@@ -7,7 +8,8 @@ use Rattle.srm_scenario.specs.Plain.{PlainScenario, network_of}
 use Rattle.srm_scenario.specs.Accepted.{IsAccepted}
 use Rattle.srm_member.specs.declared.row.Row.{Row}
 use Rattle.srm_cell.specs.Setting.{Setting, IsFit, setting_of}
-use Rattle.srm_cell.specs.Cells.{PlainCell, Event, Silent, pending_keys, AllDiffer, next_event, before, StepOutcome, Idle, Full, Spent, Done}
+use Rattle.srm_cell.specs.Cells.{PlainCell, Event, Silent, pending_keys, AllDiffer, next_event, before, StepOutcome,
+    Idle, Full, Spent, Done}
 use Rattle.srm_cell.specs.Crossings.{joined}
 use Rattle.srm_cell.specs.OwnRuns.{own_end, own_rows, own_after, hear_rows}
 use Rattle.srm_engine.specs.World.{World, row_cmp, least_event, step, run, opening, IsReached, IsLast, RunMeetsFull}
@@ -45,8 +47,8 @@ keys_from i (c ∷ cs) = pending_keys i c ++ keys_from (suc i) cs
 abbrev pub PendingKeysDiffer : Type 0
 PendingKeysDiffer = (s : Setting) (w : World) → IsFit s → IsReached s w → AllDiffer (keys_from 0 w.cells)
 
--- what a step of the sequential run takes is pending, and nothing that is pending comes before it; where it takes nothing, nothing
--- is pending
+-- what a step of the sequential run takes is pending, and nothing that is pending comes before it; where it takes
+-- nothing, nothing is pending
 abbrev pub StepsTakeTheLeast : Type 0
 StepsTakeTheLeast =
     (s : Setting) (w : World) → IsFit s → IsReached s w
@@ -105,14 +107,15 @@ SchedulesAreAnswered =
     (s : Setting) (w : World) (end : ℕ) → IsSafe s end w → ((m : ℕ) → HasResult end w m)
     → (ms : List ℕ) → ¬ IsRefusal (scheduled s end ms w)
 
--- where an own run to a safe end has no result, the sequential run meets a step that has none, from this world and from the beginning
+-- where an own run to a safe end has no result, the sequential run meets a step that has none, from this world and from
+-- the beginning
 abbrev pub RefusalsAreMet : Type 0
 RefusalsAreMet =
     (s : Setting) (w : World) (end : ℕ) → IsFit s → IsReached s w → end ≤ s.traffic.until → IsSafe s end w
     → (m : ℕ) → HasNoResult end w m → ((n : ℕ) × (run s n w ≡ Full)) × RunMeetsFull s
 
--- after a complete schedule to a safe end each cell is what its own run alone leaves, and then has heard the packets of all rows;
--- and its member's rows are those of its own run
+-- after a complete schedule to a safe end each cell is what its own run alone leaves, and then has heard the packets of
+-- all rows; and its member's rows are those of its own run
 abbrev pub CellsRunAlone : Type 0
 CellsRunAlone =
     (s : Setting) (w : World) (end : ℕ) → IsSafe s end w
@@ -132,7 +135,8 @@ WindowsAreSafe =
     → ((a b : ℕ) → a < s.traffic.members → b < s.traffic.members → a ≢ b → width ≤ s.traffic.distance a b)
     → end ≤ e.key.time + width → IsSafe s end w
 
--- an end that the next event of no member that may send, with the way from it to any other member, falls short of is safe
+-- an end that the next event of no member that may send, with the way from it to any other member, falls short of is
+-- safe
 abbrev pub PromisesAreSafe : Type 0
 PromisesAreSafe =
     (s : Setting) (w : World) (end : ℕ) → IsFit s → IsReached s w
@@ -140,7 +144,8 @@ PromisesAreSafe =
     → Silent c.holds ⊎ ((b : ℕ) → b < s.traffic.members → b ≢ m → end ≤ e.key.time + s.traffic.distance m b))
     → IsSafe s end w
 
--- so is one that is no further from the least pending time than the least link delay, and every end where there is no link
+-- so is one that is no further from the least pending time than the least link delay, and every end where there is no
+-- link
 abbrev pub LinkDelaysAreSafe : Type 0
 LinkDelaysAreSafe =
     (p : PlainScenario) (seed : ℕ) → IsAccepted p

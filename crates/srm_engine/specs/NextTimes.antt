@@ -1,13 +1,16 @@
 -- The least of the next times of all members.
-use Rattle.std.specs.Prelude.{◌≡◌, ℕ, suc, ◌+◌, ◌*◌, ◌/◌, ◌^◌, ◌<◌, ◌≤◌, Bool, false, List, [], ◌∷◌, Option, Some, None, nat_le, nat_lt, ◌==◌, ◌||◌, if◌then◌else◌, length, map, drop, slice_index_or, slice_set}
+use Rattle.std.specs.Prelude.{◌≡◌, ℕ, suc, ◌+◌, ◌*◌, ◌/◌, ◌^◌, ◌<◌, ◌≤◌, Bool, false, List, [], ◌∷◌, Option, Some, None,
+    nat_le, nat_lt, ◌==◌, ◌||◌, if◌then◌else◌, length, map, drop, slice_index_or, slice_set}
 use Rattle.srm_engine.specs.declared.next_times.Entry.{Entry}
 
--- a time and a member, and another pair of these: the one with the lesser time, or the first where the times are the same
+-- a time and a member, and another pair of these: the one with the lesser time, or the first where the times are the
+-- same
 abbrev pub sooner : (ℕ × ℕ) → Option (ℕ × ℕ) → ℕ × ℕ
 sooner p None = p
 sooner p (Some q) = if nat_le p.0 q.0 then p else q
 
--- the least of the next times of member i and of those after it, with the first member that has it. A member may have none
+-- the least of the next times of member i and of those after it, with the first member that has it. A member may have
+-- none
 abbrev pub least_time : ℕ → List (Option ℕ) → Option (ℕ × ℕ)
 least_time i [] = None
 least_time i (None ∷ ts) = least_time (suc i) ts

@@ -12,8 +12,8 @@ use Rattle.srm_engine.specs.Handed.{handing_count}
 abbrev pub mark : ℕ → ℕ → ℕ → ℕ → Mark
 mark at rank place ink = record { at = at; rank = rank; place = place; page = 0; ink = ink }
 
--- two members, one tick apart. Member 0 draws with ink 7 at 0 and with ink 8 at 10, and its first packet is dropped. Request
--- and repair timers take one and a half, and one, times the distance
+-- two members, one tick apart. Member 0 draws with ink 7 at 0 and with ink 8 at 10, and its first packet is dropped.
+-- Request and repair timers take one and a half, and one, times the distance
 abbrev pub one_loss : ℕ → Setting
 one_loss until = record {
   traffic = record {

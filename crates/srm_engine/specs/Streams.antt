@@ -49,8 +49,8 @@ module _ {S : Type 0} (took part : S → List Row → S → Type 0) where
   abbrev pub TakesFront : Setting → S → S → Type 0
   TakesFront s old new = (w : World) × IsReached s w × part old w.trace new
 
-  -- what a run that hands its rows to a sink tells: the exits and crossings of the sequential run, of which the sink took exactly the
-  -- trace; or the sink took no more than a front of it
+  -- what a run that hands its rows to a sink tells: the exits and crossings of the sequential run, of which the sink
+  -- took exactly the trace; or the sink took no more than a front of it
   abbrev pub TellsStream : Setting → S → Result (Vec Exit × List ℕ) StreamFault → S → Type 0
   TellsStream s old (Ok v) new = (rows : List Row) × IsOutcome s rows v.0.items v.1 × took old rows new
   TellsStream s old (Err e) new = TakesFront s old new
@@ -78,7 +78,8 @@ module _ {X : Type 0} {H : X → Type 0} where
   abbrev pub MayTake : (DynBox X Global H → Record) → Engine X H → Type 0
   MayTake f e = (seed : ℕ) × (w : World) × IsReached (setting_in e seed) w × Shows f e w × (length w.trace ≤ 2 ^ 62)
 
-  -- what steps from a world on tell, up to so many: the rows up to a later world, the last of the run where there are fewer
+  -- what steps from a world on tell, up to so many: the rows up to a later world, the last of the run where there are
+  -- fewer
   abbrev pub TellsSteps : (DynBox X Global H → Record) → Setting → ℕ → World → Result (Vec Row) RunFault
       → Engine X H → Type 0
   TellsSteps f s most w (Ok rows) after =
@@ -98,8 +99,8 @@ module _ {X : Type 0} {H : X → Type 0} where
       → TellsSteps f (setting_in old seed) most w r new
 
   module _ {S : Type 0} (took part : S → List Row → S → Type 0) where
-    -- what the steps of a run tell, the rows of which are handed to a sink: the last world of the sequential run, of which the sink
-    -- took the trace
+    -- what the steps of a run tell, the rows of which are handed to a sink: the last world of the sequential run, of
+    -- which the sink took the trace
     abbrev pub TellsRows : {A : Type 0} → (DynBox X Global H → Record) → Setting → S → Result A StreamFault → S
         → Engine X H → Type 0
     TellsRows f s old (Ok v) new after = (w : World) × IsLast s w × took old w.trace new × Shows f after w

@@ -9,8 +9,8 @@ abbrev pub and_sent : Option Packet → List Packet → List Packet
 and_sent None ps = ps
 and_sent (Some p) ps = ps ++ p ∷ []
 
--- the packet that is to be sent, if any is: its sender is one of the members, its time is in range, no cell hears it yet, and the
--- packets so far are few enough to be counted
+-- the packet that is to be sent, if any is: its sender is one of the members, its time is in range, no cell hears it
+-- yet, and the packets so far are few enough to be counted
 abbrev pub MaySend : ℕ → List PlainCell → List Packet → Option Packet → Type 0
 MaySend members cs ps None = Unit {0}
 MaySend members cs ps (Some p) =

@@ -33,14 +33,15 @@ pub record IsEndRule (s : Setting) (rule : World → ℕ) : Type 0 where
 abbrev pub width_rule : Setting → ℕ → World → ℕ
 width_rule s width w = width_end s width (start_of s w)
 
--- the widest width: the least link delay, or, where there is no link, one that no window comes to the end of before `until`
+-- the widest width: the least link delay, or, where there is no link, one that no window comes to the end of before
+-- `until`
 abbrev pub least_width : Setting → Network → ℕ
 least_width s net = unwrap_or (least_delay net) s.traffic.until
 
 -- ---- the chain of windows
 
--- the windows of a run up to a world, by the worlds in which they begin: the first in the opening world, and each next one, while
--- something is pending, in the first world with no event before the last one's end pending
+-- the windows of a run up to a world, by the worlds in which they begin: the first in the opening world, and each next
+-- one, while something is pending, in the first world with no event before the last one's end pending
 pub data AreWindows (s : Setting) (rule : World → ℕ) : List World → World → Type 0 where
   no_window : AreWindows s rule [] (opening s)
   next_window : {begins : List World} {w v : World} {e : Event} → AreWindows s rule begins w → IsNext s w e

@@ -1,5 +1,6 @@
 -- The laws of windows.
-use Rattle.std.specs.Prelude.{◌≡◌, ◌⊎◌, ℕ, suc, ◌*◌, ◌<◌, ◌≤◌, List, [], ◌∷◌, ◌++◌, Some, All, length, map, take, drop, slice_get, IsPermutation, IsSorted}
+use Rattle.std.specs.Prelude.{◌≡◌, ◌⊎◌, ℕ, suc, ◌*◌, ◌<◌, ◌≤◌, List, [], ◌∷◌, ◌++◌, Some, All, length, map, take, drop,
+    slice_get, IsPermutation, IsSorted}
 use Rattle.srm_scenario.specs.Plain.{PlainScenario, network_of}
 use Rattle.srm_scenario.specs.Accepted.{IsAccepted}
 use Rattle.srm_member.specs.declared.row.Row.{Row}
@@ -11,8 +12,10 @@ use Rattle.srm_engine.specs.Schedules.{IsSafe, HasResult, HasNoResult}
 use Rattle.srm_engine.specs.Windows.{IsWidth, promise_end, IsFirstQuiet}
 use Rattle.srm_cell.specs.Crossings.{joined}
 use Rattle.srm_engine.specs.Seen.{all_hear}
-use Rattle.srm_engine.specs.WindowRuns.{OwnResult, AreOwnRuns, rows_in, cells_in, IsMerge, each_hears, AreNewInTurn, IsWindow, crossings_of_all, PlainJob, jobs_from, jobs_of, AreJobRuns, job_rows, SomeJobMeetsFull}
-use Rattle.srm_engine.specs.WindowChains.{IsNext, IsOver, start_of, IsEndRule, width_rule, least_width, AreWindows, window_jobs}
+use Rattle.srm_engine.specs.WindowRuns.{OwnResult, AreOwnRuns, rows_in, cells_in, IsMerge, each_hears, AreNewInTurn,
+    IsWindow, crossings_of_all, PlainJob, jobs_from, jobs_of, AreJobRuns, job_rows, SomeJobMeetsFull}
+use Rattle.srm_engine.specs.WindowChains.{IsNext, IsOver, start_of, IsEndRule, width_rule, least_width, AreWindows,
+    window_jobs}
 
 -- ---- one window
 
@@ -58,8 +61,8 @@ JobsAreRuns =
     ≡ record { place = place; till = till; cells = take cut (c ∷ cs) }
     ∷ jobs_from cut till (suc place) (drop cut (c ∷ cs)))
 
--- the jobs of a window are no more than its cells; job k has place k, this end, and the cells from k times `cut` on, at most `cut` of
--- them; and all jobs together have each cell once, in order
+-- the jobs of a window are no more than its cells; job k has place k, this end, and the cells from k times `cut` on, at
+-- most `cut` of them; and all jobs together have each cell once, in order
 abbrev pub JobsAreInPlace : Type 0
 JobsAreInPlace =
     (cut till : ℕ) (w : World) → 0 < cut
@@ -124,7 +127,8 @@ WindowsAreReached =
     (s : Setting) (rule : World → ℕ) (begins : List World) (w : World) → AreWindows s rule begins w
     → IsReached s w × (IsOver s w → IsLast s w)
 
--- where something is pending, a window to the rule's end is the next, and leaves a world with a later least pending time
+-- where something is pending, a window to the rule's end is the next, and leaves a world with a later least pending
+-- time
 abbrev pub WindowsFollow : Type 0
 WindowsFollow =
     (s : Setting) (rule : World → ℕ) (begins : List World) (w v : World) (e : Event) → IsFit s → IsEndRule s rule
@@ -139,7 +143,8 @@ CallsFollow =
     × ((begins : List World) (w : World) → window_jobs rule cut (begins ++ w ∷ [])
     ≡ window_jobs rule cut begins ++ jobs_of cut (rule w) w ∷ [])
 
--- where an own run to the rule's end has no result, the sequential run meets a step for which the packet count is used up
+-- where an own run to the rule's end has no result, the sequential run meets a step for which the packet count is used
+-- up
 abbrev pub RefusedWindowsMeetFull : Type 0
 RefusedWindowsMeetFull =
     (s : Setting) (rule : World → ℕ) (begins : List World) (w : World) (e : Event) → IsFit s → IsEndRule s rule

@@ -1,5 +1,6 @@
 -- One window: every cell runs alone to an end, the rows are merged, and every cell hears their packets.
-use Rattle.std.specs.Prelude.{◌≡◌, ◌⊎◌, ℕ, ◌+◌, ◌<◌, zero, suc, List, [], ◌∷◌, ◌++◌, map, length, take, drop, Some, slice_get, IsPermutation, IsSorted}
+use Rattle.std.specs.Prelude.{◌≡◌, ◌⊎◌, ℕ, ◌+◌, ◌<◌, zero, suc, List, [], ◌∷◌, ◌++◌, map, length, take, drop, Some,
+    slice_get, IsPermutation, IsSorted}
 use Rattle.srm_net.specs.declared.packet.Packet.{Packet}
 use Rattle.srm_member.specs.declared.row.Row.{Row}
 use Rattle.srm_cell.specs.Setting.{Traffic, Setting}
@@ -34,13 +35,14 @@ pub record IsMerge (lists : List (List Row)) (rows : List Row) : Type 0 where
   pub all : IsPermutation (joined lists) rows
   pub in_order : IsSorted row_cmp rows
 
--- the cells of member i and on, each after it heard the packets of the rows in their order. A member does not hear its own
+-- the cells of member i and on, each after it heard the packets of the rows in their order. A member does not hear its
+-- own
 abbrev pub each_hears : Traffic → ℕ → List Row → List PlainCell → List PlainCell
 each_hears t i rows [] = []
 each_hears t i rows (c ∷ cs) = hear_rows t i rows c ∷ each_hears t (suc i) rows cs
 
--- the packets of the rows are new to the cells of all members where these hear one after the other, and members sent them before
--- `until`
+-- the packets of the rows are new to the cells of all members where these hear one after the other, and members sent
+-- them before `until`
 abbrev pub AreNewInTurn : Traffic → List Row → List PlainCell → Type 0
 AreNewInTurn t rows cs =
     (before after : List Row) (r : Row) (p : Packet) → rows ≡ before ++ r ∷ after → r.sent ≡ Some p
@@ -51,7 +53,8 @@ abbrev pub after_window : Setting → World → List OwnResult → List Row → 
 after_window s w results rows =
     record { cells = each_hears s.traffic 0 rows (cells_in results); trace = w.trace ++ rows }
 
--- v is w after a window to this end: the own runs of all cells, each alone; their rows merged; and every packet in them heard
+-- v is w after a window to this end: the own runs of all cells, each alone; their rows merged; and every packet in them
+-- heard
 pub record IsWindow (s : Setting) (end : ℕ) (w v : World) : Type 0 where
   pub results : List OwnResult
   pub rows : List Row

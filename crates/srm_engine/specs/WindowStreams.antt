@@ -46,8 +46,9 @@ IsUnderWay e = (e ≢ Run fault.BadCut) × (e ≢ Run fault.BadWidth)
 
 -- ---- calls of a crew
 
--- when a run in windows is refused: where it meets a step for which the packet count is used up; where the crossings up to a window,
--- with those of some of its jobs, are too many for a share; and before any call of the crew, where the cut or the width is
+-- when a run in windows is refused: where it meets a step for which the packet count is used up; where the crossings up
+-- to a window, with those of some of its jobs, are too many for a share; and before any call of the crew, where the cut
+-- or the width is
 abbrev pub MeetsWindowRefusal : {C : Type 0} → Setting → (World → ℕ) → ℕ → C → StreamFault → C → Type 0
 MeetsWindowRefusal s rule cut old (Run fault.NoMemory) new = Unit {0}
 MeetsWindowRefusal s rule cut old (Run fault.CountFull) new = RunMeetsFull s
@@ -75,8 +76,8 @@ module _ {C : Type 0} (handed : C → List (List cell.PlainJob) → C → Type 0
 
   module _ {X S : Type 0} {H : X → Type 0} (took part : S → List Row → S → Type 0)
       (f : DynBox X Global H → Record) where
-    -- what the windows of a run tell, the rows of which are handed to a sink: the last world of the sequential run, of which the
-    -- sink took the trace; or the sink took no more than a front of it
+    -- what the windows of a run tell, the rows of which are handed to a sink: the last world of the sequential run, of
+    -- which the sink took the trace; or the sink took no more than a front of it
     abbrev pub TellsWindows : Setting → LedgerView → ℕ → (World → ℕ) → C → S → Result (Grouped X H) StreamFault
         → S → C → Type 0
     TellsWindows s l cut rule old from (Ok v) to new =

@@ -1,5 +1,6 @@
 -- Windows of time, and where they end.
-use Rattle.std.specs.Prelude.{◌≡◌, ℕ, ◌+◌, ◌<◌, ◌≤◌, not, min, List, [], ◌∷◌, map, filter, Option, Some, None, ◌==◌, if◌then◌else◌}
+use Rattle.std.specs.Prelude.{◌≡◌, ℕ, ◌+◌, ◌<◌, ◌≤◌, not, min, List, [], ◌∷◌, map, filter, Option, Some, None, ◌==◌,
+    if◌then◌else◌}
 use Rattle.std.specs.List.{range_with_len}
 use Rattle.srm_net.specs.Network.{Network}
 use Rattle.srm_net.specs.Least.{least, least_delay}
@@ -38,12 +39,14 @@ abbrev pub promise_by : Option ℕ → Option ℕ → Option ℕ
 promise_by (Some time) (Some way) = Some (time + way)
 promise_by _ _ = None
 
--- before which time no packet of member m's arrives anywhere, if it is no listener, has an event pending and there is another member
+-- before which time no packet of member m's arrives anywhere, if it is no listener, has an event pending and there is
+-- another member
 abbrev pub promise_of : Setting → ℕ → PlainCell → Option ℕ
 promise_of s m c =
     if is_listener (fixed_part c.holds).role then None else promise_by (time_of (next_event m c)) (out s m)
 
--- the least way that member m's packets have before them: that to the nearest other member, if m may send any and there is one
+-- the least way that member m's packets have before them: that to the nearest other member, if m may send any and there
+-- is one
 abbrev pub way_of : Setting → ℕ → Option ℕ
 way_of s m = if is_listener (s.fixed m).role then None else out s m
 

@@ -19,7 +19,8 @@ GivesHelp NoMemory = Unit {0}
 GivesHelp Line = ⊥
 GivesHelp BadWord = ⊥
 
--- what is told where `clap` answers an error of this kind: help and the version are its text, and each mistake in the words is one fault
+-- what is told where `clap` answers an error of this kind: help and the version are its text, and each mistake in the
+-- words is one fault
 abbrev pub TellsKind : ErrorKind → LineFault → Type 0
 TellsKind OutOfMemory f = f ≡ NoMemory
 TellsKind DisplayHelp f = GivesHelp f

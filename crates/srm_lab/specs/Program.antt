@@ -1,5 +1,6 @@
 -- What the program does, as its devices see it: what it reads, what it writes, and its exit status.
-use Rattle.std.specs.Prelude.{⊤, ◌≡◌, ◌≢◌, ◌⊎◌, ℕ, ◌+◌, ◌^◌, ◌<◌, ◌≤◌, List, [], ◌∷◌, ◌++◌, length, take, codes, Option, Result, Ok, Err, string_bytes}
+use Rattle.std.specs.Prelude.{⊤, ◌≡◌, ◌≢◌, ◌⊎◌, ℕ, ◌+◌, ◌^◌, ◌<◌, ◌≤◌, List, [], ◌∷◌, ◌++◌, length, take, codes, Option,
+    Result, Ok, Err, string_bytes}
 use Rattle.std.specs.Io.KnownBytes.{Appends, Consumes, Keeps}
 use Rattle.srm_scenario.specs.declared.bytes.TheConstants.{LONGEST_TEXT}
 use Rattle.srm_lab.specs.declared.fault.LabFault.TheVariants.{WriteFault}
@@ -16,8 +17,8 @@ use Rattle.srm_lab.specs.Sessions.{TellsFeed, ReadsToEnd, reading_failures, sess
 abbrev pub MayBeAsked : ℕ × Options → Type 0
 MayBeAsked asked = (asked.0 < 2 ^ 63) × MayShareBag asked.1.workers
 
--- a device before and after: its bytes, where they are known, and how often it failed. The bytes of a feed are those still to come,
--- those of an outlet what it has taken
+-- a device before and after: its bytes, where they are known, and how often it failed. The bytes of a feed are those
+-- still to come, those of an outlet what it has taken
 pub record Device : Type 0 where
   pub old : Option (List ℕ)
   pub new : Option (List ℕ)
@@ -46,8 +47,8 @@ WritesHelp help old new (Err (fault.Lab (WriteFault written))) =
     Appends old new (take written help) × (written < length help)
 WritesHelp help old new (Err f) = ⊥
 
--- what comes of what the command line asks for, of a feed that gave this text and has this left: a session, or help; and nothing is
--- written where the command line is refused
+-- what comes of what the command line asks for, of a feed that gave this text and has this left: a session, or help;
+-- and nothing is written where the command line is refused
 abbrev pub CarriesOut : {T : Type 0} → Result (ℕ × Options) LineFault → List ℕ
     → Option (List ℕ) → Option (List ℕ) → Option (List ℕ) → Result T Fault → Type 0
 CarriesOut (Ok asked) text old new left r = TellsFeed asked.0 asked.1 text old new r × ReadsToEnd r left
@@ -60,7 +61,8 @@ TakesLine d l =
     ((d.fails ≡ d.failed) × Appends d.old d.new l)
     ⊎ ((d.fails ≡ d.failed + 1) × (n : ℕ) × (n < length l) × Appends d.old d.new (take n l))
 
--- what an outlet for errors took of a refusal: its line; or, where the command line was not refused, the line that memory ran out
+-- what an outlet for errors took of a refusal: its line; or, where the command line was not refused, the line that
+-- memory ran out
 abbrev pub TakesFaultLine : Device → Fault → Type 0
 TakesFaultLine d f =
     TakesLine d (full_line (line_of_fault f))
@@ -76,8 +78,8 @@ abbrev pub exit_status : {T : Type 0} → Result T Fault → ℕ
 exit_status (Ok v) = 0
 exit_status (Err f) = status_of_fault f
 
--- what the program does for what the command line asks for, over the devices that it reads from, writes to and tells refusals on:
--- something comes of it, as the exit status and the outlet for errors tell
+-- what the program does for what the command line asks for, over the devices that it reads from, writes to and tells
+-- refusals on: something comes of it, as the exit status and the outlet for errors tell
 abbrev pub Answers : Result (ℕ × Options) LineFault → Device → Device → Device → ℕ → Type 0
 Answers asked feed outlet errors status =
     (done : Result (Unit {0}) Fault) × (given : List ℕ)

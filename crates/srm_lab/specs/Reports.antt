@@ -13,7 +13,8 @@ use Rattle.srm_report.specs.Members.{members_table}
 use Rattle.srm_report.specs.Trace.{trace_of_rows}
 use Rattle.srm_report.specs.TraceSinks.{GrewBy}
 use Rattle.srm_lab.specs.declared.fault.LabFault.{LabFault}
-use Rattle.srm_lab.specs.declared.fault.LabFault.TheVariants.{BadCut, BadWidth, ShareFull, NoMemory, CountFull, WriteFault}
+use Rattle.srm_lab.specs.declared.fault.LabFault.TheVariants.{BadCut, BadWidth, ShareFull, NoMemory, CountFull,
+    WriteFault}
 use Rattle.srm_lab.specs.declared.options.Show.{Show}
 use Rattle.srm_lab.specs.declared.options.Show.TheVariants.{Trace, Members, Losses, Links}
 
@@ -24,11 +25,13 @@ shown Members p net rows totals = members_table p rows
 shown Losses p net rows totals = losses_table net rows
 shown Links p net rows totals = links_table totals
 
--- the report of a run of a scenario on its network that ended in this world: its totals are the crossings of its packets
+-- the report of a run of a scenario on its network that ended in this world: its totals are the crossings of its
+-- packets
 abbrev pub report_of : Show → PlainScenario → Network → World → List ℕ
 report_of show p net w = shown show p net w.trace (crossings (traffic_of p net) w.trace)
 
--- the count of an outlet's failures after a report was written to it: one more exactly where the answer is that it failed
+-- the count of an outlet's failures after a report was written to it: one more exactly where the answer is that it
+-- failed
 abbrev pub failures_after : {T : Type 0} → Result T LabFault → ℕ → ℕ
 failures_after (Err (WriteFault written)) n = n + 1
 failures_after r n = n
@@ -44,8 +47,9 @@ Writes old new report (Err f) = ⊥
 abbrev pub EndsIn : PlainScenario → Network → ℕ → World → Type 0
 EndsIn p net seed w = IsLast (setting_of p net seed) w
 
--- what an outlet took of a table of a scenario's sequential run: all of it, or as many bytes as the fault tells; and nothing after
--- another refusal, of which CountFull says that the run meets a step for which the packet count is used up
+-- what an outlet took of a table of a scenario's sequential run: all of it, or as many bytes as the fault tells; and
+-- nothing after another refusal, of which CountFull says that the run meets a step for which the packet count is used
+-- up
 abbrev pub TellsTable : {T : Type 0} → PlainScenario → Network → ℕ → Show
     → Option (List ℕ) → Option (List ℕ) → Result T LabFault → Type 0
 TellsTable p net seed show old new (Ok v) =
@@ -62,9 +66,9 @@ TakesFront p net seed old new out =
     (w : World) × IsReached (setting_of p net seed) w
     × ((rest : List ℕ) × (report_of Trace p net w ≡ out ++ rest)) × Appends old new out
 
--- what an outlet took of the trace of a scenario's sequential run, which is written as the run goes: all of it, or a front of it, of as
--- many bytes as a fault of the outlet tells, up to 2^64 - 1; and nothing where the run was refused before any work. CountFull says that
--- the run meets a step for which the packet count is used up
+-- what an outlet took of the trace of a scenario's sequential run, which is written as the run goes: all of it, or a
+-- front of it, of as many bytes as a fault of the outlet tells, up to 2^64 - 1; and nothing where the run was refused
+-- before any work. CountFull says that the run meets a step for which the packet count is used up
 abbrev pub TellsTrace : {T : Type 0} → PlainScenario → Network → ℕ
     → Option (List ℕ) → Option (List ℕ) → Result T LabFault → Type 0
 TellsTrace p net seed old new (Ok v) =
@@ -78,8 +82,8 @@ TellsTrace p net seed old new (Err NoMemory) = (out : List ℕ) × TakesFront p 
 TellsTrace p net seed old new (Err BadCut) = Keeps old new
 TellsTrace p net seed old new (Err BadWidth) = Keeps old new
 
--- what an outlet took of the report of a scenario's sequential run: of the trace after a refusal a front, and of another table nothing
--- but where the outlet failed
+-- what an outlet took of the report of a scenario's sequential run: of the trace after a refusal a front, and of
+-- another table nothing but where the outlet failed
 abbrev pub TellsReport : {T : Type 0} → PlainScenario → Network → ℕ → Show
     → Option (List ℕ) → Option (List ℕ) → Result T LabFault → Type 0
 TellsReport p net seed Trace old new r = TellsTrace p net seed old new r

@@ -18,7 +18,8 @@ use Rattle.srm_engine.specs.WindowRuns.{jobs_of}
 use Rattle.srm_engine.specs.Groups.{handed_jobs}
 use Rattle.srm_engine.specs.Windowed.{IsCut, MayBeWide, PassesShare, rule_of}
 use Rattle.srm_lab.specs.declared.fault.LabFault.{LabFault}
-use Rattle.srm_lab.specs.declared.fault.LabFault.TheVariants.{BadCut, BadWidth, ShareFull, NoMemory, CountFull, WriteFault}
+use Rattle.srm_lab.specs.declared.fault.LabFault.TheVariants.{BadCut, BadWidth, ShareFull, NoMemory, CountFull,
+    WriteFault}
 use Rattle.srm_lab.specs.declared.options.Engine.TheVariants.{Window}
 use Rattle.srm_lab.specs.declared.options.Options.{Options}
 use Rattle.srm_lab.specs.Reports.{TellsReport}
@@ -31,15 +32,16 @@ MayShareBag n = (1 ≤ n) × (n ≤ 64)
 abbrev pub MayBeCut : Network → Options → Type 0
 MayBeCut net o = IsCut o.cut × MayBeWide net o.width
 
--- at one of the windows that are asked for, the crossings up to it, with those of some of its jobs, are more than 2^47 of a kind
+-- at one of the windows that are asked for, the crossings up to it, with those of some of its jobs, are more than 2^47
+-- of a kind
 abbrev pub PassesShareAtWindow : Setting → Network → Options → Type 0
 PassesShareAtWindow s net o =
     let rule = rule_of s net o.width in
     (begins : List World) × (w : World) × AreWindows s rule begins w
     × PassesShare s.traffic w.trace (handed_jobs 0 (jobs_of o.cut (rule w) w))
 
--- the refusals that the engine brings: a cut and a width that may not be are refused by a run in windows, the cut first, and by no other
--- run; and only a run in windows is refused for a share
+-- the refusals that the engine brings: a cut and a width that may not be are refused by a run in windows, the cut
+-- first, and by no other run; and only a run in windows is refused for a share
 abbrev pub TellsAsked : {T : Type 0} → PlainScenario → Network → ℕ → Options → Result T LabFault → Type 0
 TellsAsked p net seed o (Err BadCut) = (o.engine ≡ Window) × ¬ IsCut o.cut
 TellsAsked p net seed o (Err BadWidth) = (o.engine ≡ Window) × IsCut o.cut × ¬ MayBeWide net o.width
@@ -47,8 +49,8 @@ TellsAsked p net seed o (Err ShareFull) =
     (o.engine ≡ Window) × MayBeCut net o × PassesShareAtWindow (setting_of p net seed) net o
 TellsAsked p net seed o r = o.engine ≡ Window → MayBeCut net o
 
--- what comes of a run: the report of the sequential run, for the seed and the table alone, whichever engine, crew, number of workers,
--- cut and width are asked for; or a refusal, which the engine may bring
+-- what comes of a run: the report of the sequential run, for the seed and the table alone, whichever engine, crew,
+-- number of workers, cut and width are asked for; or a refusal, which the engine may bring
 abbrev pub TellsRun : {T : Type 0} → PlainScenario → Network → ℕ → Options
     → Option (List ℕ) → Option (List ℕ) → Result T LabFault → Type 0
 TellsRun p net seed o old new r = TellsReport p net seed o.show old new r × TellsAsked p net seed o r
@@ -71,8 +73,8 @@ StandsAfter (Err (WriteFault written)) at = at ≡ Refused (Stopped written)
 StandsAfter (Err f) at = Unit {0}
 
 module _ {S : Type 0} (took part : S → List Row → S → Type 0) where
-  -- what an engine tells that hands its rows to a sink: the sink took the trace of the sequential run, and these are its totals; or it
-  -- took no more than a front of the trace, and nothing where the run was refused before any work
+  -- what an engine tells that hands its rows to a sink: the sink took the trace of the sequential run, and these are
+  -- its totals; or it took no more than a front of the trace, and nothing where the run was refused before any work
   abbrev pub HandsRows : Setting → S → Result (List ℕ) LabFault → S → Type 0
   HandsRows s old (Ok totals) new =
       (rows : List Row) × (exits : List Exit) × IsOutcome s rows exits totals × took old rows new

@@ -21,7 +21,8 @@ session_failures (Err (fault.Line f)) n = n
 session_failures (Err (fault.Scenario f)) n = n
 session_failures (Err fault.NoMemory) n = n
 
--- what an outlet took of the session of an accepted scenario: what its run tells, and nothing where memory ran out before
+-- what an outlet took of the session of an accepted scenario: what its run tells, and nothing where memory ran out
+-- before
 abbrev pub TellsSession : {T : Type 0} → PlainScenario → Network → ℕ → Options
     → Option (List ℕ) → Option (List ℕ) → Result T Fault → Type 0
 TellsSession p net seed o old new (Ok v) = TellsRun p net seed o old new (let r : Result _ LabFault = Ok v in r)
@@ -40,8 +41,8 @@ reading_failures (Err (fault.Line f)) n = n
 reading_failures (Err (fault.Lab f)) n = n
 reading_failures (Err fault.NoMemory) n = n
 
--- what an outlet took of the session of a text, with random words of this seed: what the run of its scenario tells; nothing where the
--- text is refused, by its first fault, and nothing where memory ran out before the run
+-- what an outlet took of the session of a text, with random words of this seed: what the run of its scenario tells;
+-- nothing where the text is refused, by its first fault, and nothing where memory ran out before the run
 abbrev pub TellsText : {T : Type 0} → ℕ → Options → List ℕ
     → Option (List ℕ) → Option (List ℕ) → Result T Fault → Type 0
 TellsText seed o text old new (Ok v) =
@@ -54,13 +55,15 @@ TellsText seed o text old new (Err (fault.Line f)) = ⊥
 TellsText seed o text old new (Err (fault.Scenario f)) = faults.RefusesText f text × Keeps old new
 TellsText seed o text old new (Err fault.NoMemory) = Keeps old new
 
--- what an outlet took of the session of a feed that gave this text: nothing where the feed failed, and else what its text tells
+-- what an outlet took of the session of a feed that gave this text: nothing where the feed failed, and else what its
+-- text tells
 abbrev pub TellsFeed : {T : Type 0} → ℕ → Options → List ℕ
     → Option (List ℕ) → Option (List ℕ) → Result T Fault → Type 0
 TellsFeed seed o text old new (Err (fault.Scenario ReadFault)) = Keeps old new
 TellsFeed seed o text old new r = TellsText seed o text old new r
 
--- where a text was read whole, no byte is left to come: so it is after each run, and for each fault that is one of the text
+-- where a text was read whole, no byte is left to come: so it is after each run, and for each fault that is one of the
+-- text
 abbrev pub ReadsToEnd : {T : Type 0} → Result T Fault → Option (List ℕ) → Type 0
 ReadsToEnd (Err (fault.Scenario f)) left = faults.ReadsToEnd (Err f) left
 ReadsToEnd (Err fault.NoMemory) left = ⊤

@@ -1,5 +1,7 @@
 -- What became of losses, row by row.
-use Rattle.std.proofs.Common.{◌≡◌, ◌∙◌, ℕ, zero, suc, ◌<◌, ◌≢◌, ◌⊎◌, inl, inr, Bool, true, false, cond, T, ◌&&◌, ◌||◌, List, [], ◌∷◌, ◌++◌, length, map, Option, Some, None, is_some, refl, ap, sym, subst, append-nil, append_assoc, ◌==◌, eqb-true, eq-eqb, true≢false, arith, Ordering, Less, Equal, Greater, is_lt, get_or}
+use Rattle.std.proofs.Common.{◌≡◌, ◌∙◌, ℕ, zero, suc, ◌<◌, ◌≢◌, ◌⊎◌, inl, inr, Bool, true, false, cond, T, ◌&&◌, ◌||◌, List, [], ◌∷◌, ◌++◌,
+    length, map, Option, Some, None, is_some, refl, ap, sym, subst, append-nil, append_assoc, ◌==◌, eqb-true, eq-eqb, true≢false, arith,
+    Ordering, Less, Equal, Greater, is_lt, get_or}
 use Rattle.std.specs.List.{Contains, list_any}
 use Rattle.std.specs.List as lists
 use Rattle.std.specs.Option.{option_map, option_map_or, option_or}
@@ -164,41 +166,51 @@ abbrev keys : List (Loss × Course) → List Loss
 keys es = map (λ e. e.0) es
 
 -- a new entry takes its place among the losses
-keys_put : (k : Loss) (c : Course) (es : List (Loss × Course)) → find loss_cmp k es ≡ None → keys (put loss_cmp k c es) ≡ place loss_cmp k (keys es)
+keys_put : (k : Loss) (c : Course) (es : List (Loss × Course)) → find loss_cmp k es ≡ None → keys (put loss_cmp k c es)
+    ≡ place loss_cmp k (keys es)
 keys_put k c [] none = refl
 keys_put k c (e ∷ es) none =
-    elim (loss_cmp k e.0) as (λ o. loss_cmp k e.0 ≡ o → keys (by_order o ((k, c) ∷ e ∷ es) ((e.0, c) ∷ es) (e ∷ put loss_cmp k c es)) ≡ place loss_cmp k (e.0 ∷ keys es)) [
-      | Less ↦ λ q. ap (λ b. cond b (e.0 ∷ place loss_cmp k (keys es)) (k ∷ e.0 ∷ keys es)) (sym (ap is_lt (loss_total.antisymm e.0 k ∙ ap ordering_reverse q)))
+    elim (loss_cmp k e.0) as (λ o. loss_cmp k e.0 ≡ o → keys (by_order o ((k, c) ∷ e ∷ es) ((e.0, c) ∷ es) (e ∷ put loss_cmp k c es))
+        ≡ place loss_cmp k (e.0 ∷ keys es)) [
+      | Less ↦ λ q. ap (λ b. cond b (e.0 ∷ place loss_cmp k (keys es)) (k ∷ e.0 ∷ keys es))
+          (sym (ap is_lt (loss_total.antisymm e.0 k ∙ ap ordering_reverse q)))
       | Equal ↦ λ q. let n : Some e.1 ≡ None = sym (ap (λ o. cond (is_eq o) (Some e.1) (find loss_cmp k es)) q) ∙ none in cc
       | Greater ↦ λ q.
           ap (λ ks. e.0 ∷ ks) (keys_put k c es (sym (ap (λ o. cond (is_eq o) (Some e.1) (find loss_cmp k es)) q) ∙ none))
-          ∙ ap (λ b. cond b (e.0 ∷ place loss_cmp k (keys es)) (k ∷ e.0 ∷ keys es)) (sym (ap is_lt (loss_total.antisymm e.0 k ∙ ap ordering_reverse q)))
+          ∙ ap (λ b. cond b (e.0 ∷ place loss_cmp k (keys es)) (k ∷ e.0 ∷ keys es))
+              (sym (ap is_lt (loss_total.antisymm e.0 k ∙ ap ordering_reverse q)))
     ] refl
 
 below_less : (k x : Loss) (es : List (Loss × Course)) → loss_cmp k x ≡ Less → T (below_all loss_cmp x es) → T (below_all loss_cmp k es)
 below_less k x [] q h = tt
 below_less k x (e ∷ es) q h =
-    T_both _ _ (subst (λ o. T (is_lt o)) (sym (loss_total.trans k x e.0 q (is_less _ (T_first _ _ h)))) tt) (below_less k x es q (T_second _ _ h))
+    T_both _ _ (subst (λ o. T (is_lt o)) (sym (loss_total.trans k x e.0 q (is_less _ (T_first _ _ h)))) tt)
+        (below_less k x es q (T_second _ _ h))
 
 below_none : (k : Loss) (es : List (Loss × Course)) → T (below_all loss_cmp k es) → find loss_cmp k es ≡ None
 below_none k [] h = refl
-below_none k (e ∷ es) h = ap (λ o. cond (is_eq o) (Some e.1) (find loss_cmp k es)) (is_less _ (T_first _ _ h)) ∙ below_none k es (T_second _ _ h)
+below_none k (e ∷ es) h = ap (λ o. cond (is_eq o) (Some e.1) (find loss_cmp k es)) (is_less _ (T_first _ _ h))
+    ∙ below_none k es (T_second _ _ h)
 
 -- an entry put in anew leaves the losses as they are
-keys_same : (k : Loss) (c : Course) (es : List (Loss × Course)) → T (is_sorted loss_cmp es) → (old : Course) → find loss_cmp k es ≡ Some old → keys (put loss_cmp k c es) ≡ keys es
+keys_same : (k : Loss) (c : Course) (es : List (Loss × Course)) → T (is_sorted loss_cmp es) → (old : Course) → find loss_cmp k es ≡ Some old
+    → keys (put loss_cmp k c es) ≡ keys es
 keys_same k c [] s old h = cc
 keys_same k c (e ∷ es) s old h =
-    elim (loss_cmp k e.0) as (λ o. loss_cmp k e.0 ≡ o → keys (by_order o ((k, c) ∷ e ∷ es) ((e.0, c) ∷ es) (e ∷ put loss_cmp k c es)) ≡ e.0 ∷ keys es) [
+    elim (loss_cmp k e.0) as (λ o. loss_cmp k e.0 ≡ o → keys (by_order o ((k, c) ∷ e ∷ es) ((e.0, c) ∷ es) (e ∷ put loss_cmp k c es))
+        ≡ e.0 ∷ keys es) [
       | Less ↦ λ q.
           let none = below_none k es (below_less k e.0 es q (T_first _ _ s)) in
           let n : None ≡ Some old = sym none ∙ sym (ap (λ o. cond (is_eq o) (Some e.1) (find loss_cmp k es)) q) ∙ h in
           cc
       | Equal ↦ λ q. refl
-      | Greater ↦ λ q. ap (λ ks. e.0 ∷ ks) (keys_same k c es (T_second _ _ s) old (sym (ap (λ o. cond (is_eq o) (Some e.1) (find loss_cmp k es)) q) ∙ h))
+      | Greater ↦ λ q. ap (λ ks. e.0 ∷ ks) (keys_same k c es (T_second _ _ s) old
+          (sym (ap (λ o. cond (is_eq o) (Some e.1) (find loss_cmp k es)) q) ∙ h))
     ] refl
 
 -- each entry is found
-pub found : (es : List (Loss × Course)) → T (is_sorted loss_cmp es) → (i : ℕ) (d : Loss × Course) → i < length es → find loss_cmp (get_or es i d).0 es ≡ Some (get_or es i d).1
+pub found : (es : List (Loss × Course)) → T (is_sorted loss_cmp es) → (i : ℕ) (d : Loss × Course) → i < length es
+    → find loss_cmp (get_or es i d).0 es ≡ Some (get_or es i d).1
 found [] s i d l = absurd (omega arith)
 found (e ∷ es) s zero d l = ap (λ b. cond b (Some e.1) (find loss_cmp e.0 es)) (loss_is e.0)
 found (e ∷ es) s (suc i) d l = elim (losses_apart (get_or es i d).0 e.0) [
@@ -212,13 +224,16 @@ found (e ∷ es) s (suc i) d l = elim (losses_apart (get_or es i d).0 e.0) [
 
 -- ---- order
 
-ordered_push : (xs : List Loss) (x : Loss) → list_any (eq_by_cmp loss_cmp x) xs ≡ false → ordered loss_cmp (xs ++ x ∷ []) ≡ place loss_cmp x (ordered loss_cmp xs)
+ordered_push : (xs : List Loss) (x : Loss) → list_any (eq_by_cmp loss_cmp x) xs ≡ false → ordered loss_cmp (xs ++ x ∷ [])
+    ≡ place loss_cmp x (ordered loss_cmp xs)
 ordered_push [] x h = refl
 ordered_push (y ∷ ys) x h =
     ap (place loss_cmp y) (ordered_push ys x (second_false (eq_by_cmp loss_cmp x y) _ h))
-    ∙ place-comm loss_cmp loss_total y x (λ e. true≢false (sym (ap is_eq (loss_total.antisymm x y ∙ ap ordering_reverse e)) ∙ first_false _ _ h)) (ordered loss_cmp ys)
+    ∙ place-comm loss_cmp loss_total y x
+        (λ e. true≢false (sym (ap is_eq (loss_total.antisymm x y ∙ ap ordering_reverse e)) ∙ first_false _ _ h)) (ordered loss_cmp ys)
 
-any_cond : (p : Loss → Bool) (b : Bool) (x y : Loss) (xs ys : List Loss) → list_any p xs ≡ (p x || list_any p ys) → list_any p (cond b (y ∷ xs) (x ∷ y ∷ ys)) ≡ (p x || (p y || list_any p ys))
+any_cond : (p : Loss → Bool) (b : Bool) (x y : Loss) (xs ys : List Loss) → list_any p xs ≡ (p x || list_any p ys)
+    → list_any p (cond b (y ∷ xs) (x ∷ y ∷ ys)) ≡ (p x || (p y || list_any p ys))
 any_cond p true x y xs ys h = ap (λ b. p y || b) h ∙ or_swap (p y) (p x) (list_any p ys)
 any_cond p false x y xs ys h = refl
 
@@ -242,7 +257,8 @@ if_so b q = cond b (Some q) None
 at_push : (t : Row → Bool) (rows : List Row) (q : Row) → at t (rows ++ q ∷ []) ≡ time_of (option_or (lists.find t rows) (if_so (t q) q))
 at_push t rows q = ap time_of (find-append t rows (q ∷ []))
 
-alike : (o : Option Row) (b : Bool) (p q : Row) → p.key.time ≡ q.key.time → time_of (option_or o (if_so b p)) ≡ time_of (option_or o (if_so b q))
+alike : (o : Option Row) (b : Bool) (p q : Row) → p.key.time ≡ q.key.time
+    → time_of (option_or o (if_so b p)) ≡ time_of (option_or o (if_so b q))
 alike (Some r) b p q e = refl
 alike None true p q e = ap (λ n. Some n) e
 alike None false p q e = refl
@@ -251,9 +267,11 @@ none_more : (o : Option Row) → time_of (option_or o None) ≡ time_of o
 none_more (Some r) = refl
 none_more None = refl
 
-at_same : (t : Row → Bool) (rows : List Row) (p q : Row) → p.key.time ≡ q.key.time → t p ≡ t q → at t (rows ++ p ∷ []) ≡ at t (rows ++ q ∷ [])
+at_same : (t : Row → Bool) (rows : List Row) (p q : Row) → p.key.time ≡ q.key.time → t p ≡ t q → at t (rows ++ p ∷ [])
+    ≡ at t (rows ++ q ∷ [])
 at_same t rows p q e h =
-    at_push t rows p ∙ ap (λ b. time_of (option_or (lists.find t rows) (if_so b p))) h ∙ alike (lists.find t rows) (t q) p q e ∙ sym (at_push t rows q)
+    at_push t rows p ∙ ap (λ b. time_of (option_or (lists.find t rows) (if_so b p))) h ∙ alike (lists.find t rows) (t q) p q e
+        ∙ sym (at_push t rows q)
 
 at_none : (t : Row → Bool) (rows : List Row) (q : Row) → t q ≡ false → at t (rows ++ q ∷ []) ≡ at t rows
 at_none t rows q h = at_push t rows q ∙ ap (λ b. time_of (option_or (lists.find t rows) (if_so b q))) h ∙ none_more (lists.find t rows)
@@ -275,13 +293,16 @@ find_some t (r ∷ rows) q (suc i, l, e) h =
     let rest = find_some t rows q (i, omega arith, e) h in
     elim (t r) as (λ b. (n : ℕ) × (time_of (cond b (Some r) (lists.find t rows)) ≡ Some n)) [ true ↦ (r.key.time, refl) | false ↦ rest ]
 
-course_same : (rows more : List Row) (k : Loss) → detected_at rows k ≡ detected_at more k → recovered_at rows k ≡ recovered_at more k → course_of rows k ≡ course_of more k
+course_same : (rows more : List Row) (k : Loss) → detected_at rows k ≡ detected_at more k → recovered_at rows k ≡ recovered_at more k
+    → course_of rows k ≡ course_of more k
 course_same rows more k d r = λ i. option_map (λ at. record { detected = at; recovered = r i }) (d i)
 
-course_is : (rows : List Row) (k : Loss) (n : ℕ) (o : Option ℕ) → detected_at rows k ≡ Some n → recovered_at rows k ≡ o → course_of rows k ≡ Some (record { detected = n; recovered = o })
+course_is : (rows : List Row) (k : Loss) (n : ℕ) (o : Option ℕ) → detected_at rows k ≡ Some n → recovered_at rows k ≡ o → course_of rows k
+    ≡ Some (record { detected = n; recovered = o })
 course_is rows k n o d r = λ i. option_map (λ at. record { detected = at; recovered = r i }) (d i)
 
-losses_push : (rows : List Row) (q : Row) → losses_in (rows ++ q ∷ []) ≡ losses_in rows ++ map (λ n. record { member = q.key.member; name = n }) q.lost
+losses_push : (rows : List Row) (q : Row) → losses_in (rows ++ q ∷ []) ≡ losses_in rows
+    ++ map (λ n. record { member = q.key.member; name = n }) q.lost
 losses_push rows q =
     flat_map-append (λ (r : Row). map (λ n. let k : Loss = record { member = r.key.member; name = n } in k) r.lost) rows (q ∷ [])
     ∙ ap (λ l. losses_in rows ++ l) (append-nil (map (λ n. record { member = q.key.member; name = n }) q.lost))
@@ -299,7 +320,8 @@ nothing rows r es was = record {
 
 -- ---- one loss more
 
-module _ (rows : List Row) (r : Row) (front : List Name) (n : Name) (es : List (Loss × Course)) (was : TellLosses (rows ++ losing r front ∷ []) es)
+module _ (rows : List Row) (r : Row) (front : List Name) (n : Name) (es : List (Loss × Course))
+    (was : TellLosses (rows ++ losing r front ∷ []) es)
     (new : ¬ LostIn r.key.member n rows) (new_here : ¬ Contains front n) (unfixed : ¬ FixedIn r.key.member n rows) where
   abbrev m : ℕ
   m = r.key.member
@@ -320,7 +342,8 @@ module _ (rows : List Row) (r : Row) (front : List Name) (n : Name) (es : List (
   not_fixed : lists.find (fixes k) rows ≡ None
   not_fixed = find_none (fixes k) rows (λ q c h.
       (let g = second_true (q.key.member == m) _ h in
-      unfixed (q, c, eqb-true _ _ (first_true (q.key.member == m) _ h), told_is q.told (first_true (is_fixed q.told) _ g), brought_is n (brought q.about) (second_true (is_fixed q.told) _ g))))
+      unfixed (q, c, eqb-true _ _ (first_true (q.key.member == m) _ h), told_is q.told (first_true (is_fixed q.told) _ g),
+          brought_is n (brought q.about) (second_true (is_fixed q.told) _ g))))
 
   detects_not : detects k q0 ≡ false
   detects_not = and_false (m == m) _ (not_true _ (λ h. new_here (named_in n front h)))
@@ -348,16 +371,19 @@ module _ (rows : List Row) (r : Row) (front : List Name) (n : Name) (es : List (
 
   lost_now : course_of (rows ++ q1 ∷ []) k ≡ Some (record { detected = r.key.time; recovered = None })
   lost_now = course_is (rows ++ q1 ∷ []) k r.key.time None
-      (at_first (detects k) rows q1 not_before (both_true (m == m) _ (eq-eqb m m refl) (in_named n (front ++ n ∷ []) (Contains-append_right front (n ∷ []) n (0, omega arith, refl)))))
+      (at_first (detects k) rows q1 not_before (both_true (m == m) _ (eq-eqb m m refl)
+          (in_named n (front ++ n ∷ []) (Contains-append_right front (n ∷ []) n (0, omega arith, refl)))))
       (at_none (fixes k) rows q1 (and_false (m == m) false refl) ∙ ap time_of not_fixed)
 
   -- another loss, in the row with one loss more
   other : (j : Loss) → eq_by_cmp loss_cmp j k ≡ false → detects j q1 ≡ detects j q0
-  other j ne = elim (m == j.member) as (λ b. (m == j.member) ≡ b → (b && list_any (is_name j.name) (front ++ n ∷ [])) ≡ (b && list_any (is_name j.name) front)) [
+  other j ne = elim (m == j.member) as (λ b. (m == j.member) ≡ b → (b && list_any (is_name j.name) (front ++ n ∷ []))
+      ≡ (b && list_any (is_name j.name) front)) [
     | true ↦ λ e.
         let name : is_name j.name n ≡ false = not_true (is_name j.name n) (λ h.
         (let s = same_names j.name n h in let g = eqb-true m j.member e in differ j k ne (λ i. record { member = sym g i; name = s i }))) in
-        any_append (is_name j.name) front (n ∷ []) ∙ ap (λ b. list_any (is_name j.name) front || (b || false)) name ∙ or_false (list_any (is_name j.name) front)
+        any_append (is_name j.name) front (n ∷ []) ∙ ap (λ b. list_any (is_name j.name) front || (b || false)) name
+            ∙ or_false (list_any (is_name j.name) front)
     | false ↦ λ e. refl
   ] refl
     where
@@ -365,7 +391,8 @@ module _ (rows : List Row) (r : Row) (front : List Name) (n : Name) (es : List (
       or_false true = refl
       or_false false = refl
 
-  pub one_more : TellLosses (rows ++ losing r (front ++ n ∷ []) ∷ []) (put loss_cmp (record { member = r.key.member; name = n }) (record { detected = r.key.time; recovered = None }) es)
+  pub one_more : TellLosses (rows ++ losing r (front ++ n ∷ []) ∷ [])
+      (put loss_cmp (record { member = r.key.member; name = n }) (record { detected = r.key.time; recovered = None }) es)
   one_more = record {
     sorted = is_sorted-put loss_cmp loss_total k (record { detected = r.key.time; recovered = None }) es was.sorted;
     losses =
@@ -374,7 +401,8 @@ module _ (rows : List Row) (r : Row) (front : List Name) (n : Name) (es : List (
         ∙ sym (ordered_push (losses_in (rows ++ q0 ∷ [])) k not_among)
         ∙ ap (ordered loss_cmp) (sym grown);
     courses = λ j. find-put loss_cmp loss_total j k (record { detected = r.key.time; recovered = None }) es ∙ elim (losses_apart j k) [
-      | inl e ↦ subst (λ x. cond (eq_by_cmp loss_cmp x k) (Some (record { detected = r.key.time; recovered = None })) (find loss_cmp x es) ≡ course_of (rows ++ q1 ∷ []) x) (sym e)
+      | inl e ↦ subst (λ x. cond (eq_by_cmp loss_cmp x k) (Some (record { detected = r.key.time; recovered = None })) (find loss_cmp x es)
+          ≡ course_of (rows ++ q1 ∷ []) x) (sym e)
           (ap (λ b. cond b (Some (record { detected = r.key.time; recovered = None })) (find loss_cmp k es)) (loss_is k) ∙ sym lost_now)
       | inr ne ↦ ap (λ b. cond b (Some (record { detected = r.key.time; recovered = None })) (find loss_cmp j es)) ne
           ∙ was.courses j
@@ -402,7 +430,8 @@ module _ (rows : List Row) (r : Row) (es : List (Loss × Course)) (was : TellLos
   -- a loss that the row does not fix
   course_stays : (j : Loss) → fixes j r ≡ false → course_of (rows ++ r ∷ []) j ≡ course_of (rows ++ q ∷ []) j
   course_stays j h =
-      course_same (rows ++ r ∷ []) (rows ++ q ∷ []) j (at_same (detects j) rows r q refl refl) (at_same (fixes j) rows r q refl (h ∙ sym (unfixed_now j)))
+      course_same (rows ++ r ∷ []) (rows ++ q ∷ []) j (at_same (detects j) rows r q refl refl)
+          (at_same (fixes j) rows r q refl (h ∙ sym (unfixed_now j)))
 
   losses_stay : losses_in (rows ++ q ∷ []) ≡ losses_in (rows ++ r ∷ [])
   losses_stay = losses_push rows q ∙ sym (losses_push rows r)
@@ -411,7 +440,8 @@ module _ (rows : List Row) (r : Row) (es : List (Loss × Course)) (was : TellLos
   fixed_none h = record {
     sorted = was.sorted;
     losses = was.losses ∙ ap (ordered loss_cmp) losses_stay;
-    courses = λ j. was.courses j ∙ sym (course_stays j (fixes_is j ∙ and_false (r.key.member == j.member) _ (ap (λ o. option_map_or (is_name j.name) o false) h)));
+    courses = λ j. was.courses j ∙ sym
+        (course_stays j (fixes_is j ∙ and_false (r.key.member == j.member) _ (ap (λ o. option_map_or (is_name j.name) o false) h)));
   }
 
   module _ (n : Name) (fix : name_fixed r ≡ Some n) (lost : LostIn r.key.member n rows) (unfixed : ¬ FixedIn r.key.member n rows) where
@@ -421,13 +451,16 @@ module _ (rows : List Row) (r : Row) (es : List (Loss × Course)) (was : TellLos
     not_fixed_yet : lists.find (fixes k2) rows ≡ None
     not_fixed_yet = find_none (fixes k2) rows (λ p c h.
         (let g = second_true (p.key.member == r.key.member) _ h in
-        unfixed (p, c, eqb-true _ _ (first_true (p.key.member == r.key.member) _ h), told_is p.told (first_true (is_fixed p.told) _ g), brought_is n (brought p.about) (second_true (is_fixed p.told) _ g))))
+        unfixed (p, c, eqb-true _ _ (first_true (p.key.member == r.key.member) _ h), told_is p.told (first_true (is_fixed p.told) _ g),
+            brought_is n (brought p.about) (second_true (is_fixed p.told) _ g))))
 
     detected : (d : ℕ) × (detected_at (rows ++ q ∷ []) k2 ≡ Some d)
-    detected = find_some (detects k2) (rows ++ q ∷ []) lost.0 (Contains-append_left rows (q ∷ []) lost.0 lost.1) (both_true (lost.0.key.member == r.key.member) _ (eq-eqb _ _ lost.2) (in_named n lost.0.lost lost.3))
+    detected = find_some (detects k2) (rows ++ q ∷ []) lost.0 (Contains-append_left rows (q ∷ []) lost.0 lost.1)
+        (both_true (lost.0.key.member == r.key.member) _ (eq-eqb _ _ lost.2) (in_named n lost.0.lost lost.3))
 
     before_fix : course_of (rows ++ q ∷ []) k2 ≡ Some (record { detected = detected.0; recovered = None })
-    before_fix = course_is (rows ++ q ∷ []) k2 detected.0 None detected.1 (at_none (fixes k2) rows q (unfixed_now k2) ∙ ap time_of not_fixed_yet)
+    before_fix = course_is (rows ++ q ∷ []) k2 detected.0 None detected.1
+        (at_none (fixes k2) rows q (unfixed_now k2) ∙ ap time_of not_fixed_yet)
 
     abbrev mended : Course
     mended = record { detected = detected.0; recovered = Some r.key.time }
@@ -435,7 +468,8 @@ module _ (rows : List Row) (r : Row) (es : List (Loss × Course)) (was : TellLos
     after : course_of (rows ++ r ∷ []) k2 ≡ Some mended
     after = course_is (rows ++ r ∷ []) k2 detected.0 (Some r.key.time) (at_same (detects k2) rows r q refl refl ∙ detected.1)
         (at_first (fixes k2) rows r not_fixed_yet
-        (fixes_is k2 ∙ both_true (r.key.member == r.key.member) _ (eq-eqb _ _ refl) (ap (λ o. option_map_or (is_name n) o false) fix ∙ name_is n)))
+        (fixes_is k2 ∙ both_true (r.key.member == r.key.member) _ (eq-eqb _ _ refl)
+            (ap (λ o. option_map_or (is_name n) o false) fix ∙ name_is n)))
 
     apart : (j : Loss) → eq_by_cmp loss_cmp j k2 ≡ false → fixes j r ≡ false
     apart j ne = fixes_is j ∙ ap (λ o. (r.key.member == j.member) && option_map_or (is_name j.name) o false) fix ∙ not_true _ (λ h.

@@ -1,5 +1,6 @@
 -- The law of a line none of whose fields calls for quotes: it is the fields with commas between, and a line feed.
-use Rattle.std.proofs.Common.{◌≡◌, ◌∙◌, ℕ, zero, suc, ◌-◌, ◌/◌, ◌%◌, ◌<◌, ◌==◌, true, false, ◌||◌, List, [], ◌∷◌, ◌++◌, Option, Some, None, refl, ap, sym, append_assoc, codes, decimal, drop, arith}
+use Rattle.std.proofs.Common.{◌≡◌, ◌∙◌, ℕ, zero, suc, ◌-◌, ◌/◌, ◌%◌, ◌<◌, ◌==◌, true, false, ◌||◌, List, [], ◌∷◌, ◌++◌, Option, Some, None,
+    refl, ap, sym, append_assoc, codes, decimal, drop, arith}
 use Rattle.std.specs.Prelude.{if◌then◌else◌}
 use Rattle.std.specs.Fmt.{digits, digits_onto, digit_glyph}
 use Rattle.std.proofs.lemmas.List.{drop-drop}
@@ -63,11 +64,13 @@ pub no_field : {written : List ℕ} → written ≡ line_feed ∷ [] → HasFiel
 no_field e = record { text = e; plain = tt }
 
 -- one field more is written after a comma, before the others
-pub field : {fs : List (List ℕ)} (f : List ℕ) → IsPlain f → {g old new : List ℕ} → new ≡ comma ∷ (g ++ old) → g ≡ f → HasFields old fs → HasFields new (f ∷ fs)
+pub field : {fs : List (List ℕ)} (f : List ℕ) → IsPlain f → {g old new : List ℕ} → new ≡ comma ∷ (g ++ old) → g ≡ f → HasFields old fs
+    → HasFields new (f ∷ fs)
 field f h written is old = record { text = written ∙ (λ i. comma ∷ (is i ++ old.text i)); plain = (h, old.plain) }
 
 -- a line of two fields at least
-pub line_is_row : {f g : List ℕ} {fs : List (List ℕ)} (l : Line) → HasFields (line_written l) (f ∷ g ∷ fs) → line_text l ≡ row_text default_writer (f ∷ g ∷ fs)
+pub line_is_row : {f g : List ℕ} {fs : List (List ℕ)} (l : Line) → HasFields (line_written l) (f ∷ g ∷ fs) → line_text l
+    ≡ row_text default_writer (f ∷ g ∷ fs)
 line_is_row {f} {g} {fs} l h = sym (drop-drop 1 l.start l.bytes) ∙ ap (λ w. drop 1 w) h.text ∙ sym (row_joined f g fs h.plain)
 
 -- ---- fields
@@ -79,7 +82,8 @@ onto_is_plain : (k n : ℕ) (acc : List ℕ) → IsPlain acc → IsPlain (digits
 onto_is_plain zero n acc h = h
 onto_is_plain (suc k) n acc h =
     let one : IsPlain (digit_glyph false (n % 10) ∷ acc) = ap (λ b. b || needs_quotes default_writer acc) (digit_is_plain n) ∙ h in
-    elim (n / 10 == 0) as (λ b. IsPlain (if b then digit_glyph false (n % 10) ∷ acc else digits_onto k 10 false (n / 10) (digit_glyph false (n % 10) ∷ acc))) [
+    elim (n / 10 == 0) as (λ b. IsPlain (if b then digit_glyph false (n % 10) ∷ acc else digits_onto k 10 false (n / 10)
+        (digit_glyph false (n % 10) ∷ acc))) [
       | true ↦ one
       | false ↦ onto_is_plain k (n / 10) (digit_glyph false (n % 10) ∷ acc) one
     ]
@@ -93,7 +97,8 @@ joined_is_plain xs ys h k = list_any-append (needs_byte default_writer) xs ys �
 
 -- two numbers with a mark between
 pair_is_plain : (m n : ℕ) (mark : List ℕ) → IsPlain mark → IsPlain (decimal m ++ mark ++ decimal n)
-pair_is_plain m n mark h = joined_is_plain (decimal m ++ mark) (decimal n) (joined_is_plain (decimal m) mark (decimal_is_plain m) h) (decimal_is_plain n)
+pair_is_plain m n mark h = joined_is_plain (decimal m ++ mark) (decimal n) (joined_is_plain (decimal m) mark (decimal_is_plain m) h)
+    (decimal_is_plain n)
 
 pub ratio_is_plain : (took way : ℕ) → IsPlain (ratio took way)
 ratio_is_plain took way = pair_is_plain took way (codes "/") refl
@@ -104,7 +109,8 @@ packet_is_plain p = pair_is_plain p.sender p.count (codes ":") refl
 pub name_is_plain : (n : Name) → IsPlain (name_text n)
 name_is_plain n =
     joined_is_plain (decimal n.source ++ codes "/" ++ decimal n.page ++ codes "/") (decimal n.number)
-    (joined_is_plain (decimal n.source ++ codes "/" ++ decimal n.page) (codes "/") (pair_is_plain n.source n.page (codes "/") refl) refl) (decimal_is_plain n.number)
+    (joined_is_plain (decimal n.source ++ codes "/" ++ decimal n.page) (codes "/") (pair_is_plain n.source n.page (codes "/") refl) refl)
+        (decimal_is_plain n.number)
 
 pub ref_is_plain : (a : About) → IsPlain (ref_text a)
 ref_is_plain Nothing = refl

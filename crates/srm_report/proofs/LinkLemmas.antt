@@ -33,7 +33,8 @@ module _ (ls : List (List ℕ)) (five : FiveEach ls) (totals : List ℕ) (joined
   links_are = let long = length_joined ls five in let same : length (concat ls) ≡ length totals = ap length joined in omega arith
 
   pub text_more : (i : ℕ) (d : List ℕ) (old new line : List ℕ) → i < length ls
-      → old ≡ table_of link_columns (first_rows totals i) → line ≡ row_text default_writer (link_fields i (λ k. slice_index (slice_index_or ls i d) (place_of k)))
+      → old ≡ table_of link_columns (first_rows totals i) → line ≡ row_text default_writer
+          (link_fields i (λ k. slice_index (slice_index_or ls i d) (place_of k)))
       → new ≡ old ++ line → new ≡ table_of link_columns (first_rows totals (i + 1))
   text_more i d old new line lt before is grown =
       let same : line ≡ row_text default_writer (link_fields i (number_at totals i)) =
@@ -46,5 +47,6 @@ module _ (ls : List (List ℕ)) (five : FiveEach ls) (totals : List ℕ) (joined
   text_all i text whole is = is ∙ ap (λ n. table_of link_columns (first_rows totals n)) (whole ∙ sym links_are)
 
 -- the table before its first link
-pub text_first : (totals : List ℕ) (text : List ℕ) → text ≡ row_text default_writer link_columns → text ≡ table_of link_columns (first_rows totals 0)
+pub text_first : (totals : List ℕ) (text : List ℕ) → text ≡ row_text default_writer link_columns → text
+    ≡ table_of link_columns (first_rows totals 0)
 text_first totals text e = table_first link_columns text e

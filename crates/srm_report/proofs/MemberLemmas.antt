@@ -15,7 +15,8 @@ use Rattle.srm_report.specs.Tables.{table_of}
 use Rattle.srm_report.proofs.TableLemmas.{table_more}
 use Rattle.srm_report.proofs.CountLemmas.{member_rows-more}
 
-module _ (rows : List Row) (ks : List MemberSpec) (members : ℕ) (all : members ≡ length ks) (cs : List Counts) (counts : AreCounts members rows cs) where
+module _ (rows : List Row) (ks : List MemberSpec) (members : ℕ) (all : members ≡ length ks) (cs : List Counts)
+    (counts : AreCounts members rows cs) where
   pub text_more : (m j : ℕ) (k : MemberSpec) (n : Counts) (old new line : List ℕ) → slice_get ks m ≡ Some k → j ≡ m → n ≡ get_or cs j n
       → old ≡ table_of member_columns (member_rows rows 0 (take m ks)) → line ≡ row_text default_writer (member_fields m k n)
       → new ≡ old ++ line → new ≡ table_of member_columns (member_rows rows 0 (take (m + 1) ks))
@@ -23,11 +24,14 @@ module _ (rows : List Row) (ks : List MemberSpec) (members : ℕ) (all : members
       let lt = slice_get_within ks m k here in
       let own : n ≡ counts_of (rows_of m rows) = is ∙ ap (λ i. get_or cs i n) same ∙ counts.each m n (omega arith) in
       let long = length-take-le m ks (omega arith) in
-      let one : take (m + 1) ks ≡ take m ks ++ k ∷ [] = take_more ks m k lt ∙ ap (λ q. take m ks ++ q ∷ []) (get_or_from_slice_get ks m k k here) in
+      let one : take (m + 1) ks ≡ take m ks ++ k ∷ [] = take_more ks m k lt
+          ∙ ap (λ q. take m ks ++ q ∷ []) (get_or_from_slice_get ks m k k here) in
       table_more member_columns (member_rows rows 0 (take m ks)) (member_fields m k (counts_of (rows_of m rows))) old new line before
       (f ∙ ap (λ q. row_text default_writer (member_fields m k q)) own) grown
       ∙ ap (table_of member_columns) (sym (member_rows-more rows 0 (take m ks) k m (omega arith)) ∙ ap (member_rows rows 0) (sym one))
 
-pub text_all : (rows : List Row) (s : PlainScenario) (m : ℕ) (text : List ℕ) → m ≡ length s.members → text ≡ table_of member_columns (member_rows rows 0 (take m s.members)) → text ≡ members_table s rows
+pub text_all : (rows : List Row) (s : PlainScenario) (m : ℕ) (text : List ℕ) → m ≡ length s.members → text
+    ≡ table_of member_columns (member_rows rows 0 (take m s.members)) → text ≡ members_table s rows
 unfolding members_table
-text_all rows s m text whole is = is ∙ ap (λ n. table_of member_columns (member_rows rows 0 (take n s.members))) whole ∙ ap (λ ks. table_of member_columns (member_rows rows 0 ks)) (take-length s.members)
+text_all rows s m text whole is = is ∙ ap (λ n. table_of member_columns (member_rows rows 0 (take n s.members))) whole
+    ∙ ap (λ ks. table_of member_columns (member_rows rows 0 ks)) (take-length s.members)

@@ -28,5 +28,7 @@ text-more front rows i r old new line h e before is grown =
     ∙ ap (λ l. front ++ l) (sym (trace_lines-more rows i r h e))
 
 -- a text of all rows has their lines
-pub text-all : (front : List ℕ) (rows : List Row) (i : ℕ) (text : List ℕ) → i ≡ length rows → text ≡ front ++ trace_lines (take i rows) → text ≡ front ++ trace_lines rows
-text-all front rows i text whole is = is ∙ ap (λ n. front ++ trace_lines (take n rows)) whole ∙ ap (λ l. front ++ trace_lines l) (take-length rows)
+pub text-all : (front : List ℕ) (rows : List Row) (i : ℕ) (text : List ℕ) → i ≡ length rows → text ≡ front ++ trace_lines (take i rows)
+    → text ≡ front ++ trace_lines rows
+text-all front rows i text whole is = is ∙ ap (λ n. front ++ trace_lines (take n rows)) whole
+    ∙ ap (λ l. front ++ trace_lines l) (take-length rows)

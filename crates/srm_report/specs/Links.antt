@@ -11,8 +11,8 @@ abbrev pub link_columns : List (List ℕ)
 link_columns =
     codes "link" ∷ codes "data" ∷ codes "requests" ∷ codes "repairs" ∷ codes "sessions" ∷ codes "dropped" ∷ []
 
--- the row of a link of which this is the number of each kind: its own number; the data, requests, repairs and session messages
--- that crossed it; and the packets dropped at it
+-- the row of a link of which this is the number of each kind: its own number; the data, requests, repairs and session
+-- messages that crossed it; and the packets dropped at it
 abbrev pub link_fields : ℕ → (Kind → ℕ) → List (List ℕ)
 link_fields l number =
     decimal l

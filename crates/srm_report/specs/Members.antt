@@ -7,7 +7,8 @@ use Rattle.srm_scenario.specs.declared.parts.MemberSpec.{MemberSpec}
 use Rattle.srm_scenario.specs.Plain.{PlainScenario}
 use Rattle.srm_member.specs.declared.row.Row.{Row}
 use Rattle.srm_report.specs.declared.counts.Counts.{Counts}
-use Rattle.srm_report.specs.Rows.{is_join, is_leave, is_draw, is_ask, is_answer, is_report, is_arrival, is_fixed, rows_of, sent_rows, time_of_kind, time_text}
+use Rattle.srm_report.specs.Rows.{is_join, is_leave, is_draw, is_ask, is_answer, is_report, is_arrival, is_fixed,
+    rows_of, sent_rows, time_of_kind, time_text}
 use Rattle.srm_report.specs.Tables.{table_of}
 
 -- the word of a role
@@ -17,8 +18,8 @@ role_word Receiver = codes "receiver"
 role_word Late = codes "late"
 role_word Listener = codes "listener"
 
--- what the rows of one member say of it: when it joined and left; how often it drew; how many packets it heard; how many names it
--- lost, and how many of these it fixed; and how many requests, repairs and session messages it sent
+-- what the rows of one member say of it: when it joined and left; how often it drew; how many packets it heard; how
+-- many names it lost, and how many of these it fixed; and how many requests, repairs and session messages it sent
 unfoldable pub counts_of : List Row → Counts
 counts_of rows = record {
   joined = time_of_kind is_join rows;

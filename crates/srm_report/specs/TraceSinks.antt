@@ -88,7 +88,8 @@ module _ {O : Type 0} where
       pub bytes : Appends (taken (outlet_under a)) (taken (outlet_under b)) out
       pub counted : GrewBy (written_by a) (length out) (written_by b)
 
-    -- this text was put between these two values: the outlet took what was gathered and the text, but for what is gathered now
+    -- this text was put between these two values: the outlet took what was gathered and the text, but for what is
+    -- gathered now
     abbrev pub PutsAll : TraceSink O → List ℕ → TraceSink O → Type 0
     PutsAll a text b = (out : List ℕ) × (gathered_by a ++ text ≡ out ++ gathered_by b) × Wrote a out b
 

@@ -24,7 +24,8 @@ use Rattle.srm_scenario.specs.declared.parts.SessionSpec.{SessionSpec}
 use Rattle.srm_scenario.specs.Accepted.{IsMember, IsThere, IsDraw, IsSession, IsDrop, IsOutage, IsAccepted}
 use Rattle.srm_scenario.specs.Presence.{is_up_to}
 use Rattle.srm_net.specs.Roles.{is_sender, is_late, is_listener}
-use Rattle.srm_scenario.specs.Faults.{faults_by, fault_unless, is_there, leaves_after, is_taken, fits_member, member_faults, if_member, fits_draw, fits_session, fits_drop, fits_outage, meaning_faults}
+use Rattle.srm_scenario.specs.Faults.{faults_by, fault_unless, is_there, leaves_after, is_taken, fits_member, member_faults, if_member,
+    fits_draw, fits_session, fits_drop, fits_outage, meaning_faults}
 use Rattle.srm_scenario.specs.Plain.{PlainScenario, network_of}
 use Rattle.srm_scenario.specs.Ranges.{MemberInRange, HasItsPages, InRange}
 use Rattle.srm_scenario.specs.Trees.{is_tree}

@@ -144,7 +144,8 @@ of_answer (f ∷ fs) s e h is = let same : f ≡ e = cc in subst (λ t. IsOfText
 
 of_table : (ms : Members) (e : ScenarioFault) → scenario_of_table ms ≡ Err e → IsOfText e
 unfolding faults_of scenario_of_table
-of_table ms e is = of_answer (faults_of ms) (described_scenario ms) e (all_append (key_faults ms) _ (key_all ms) (meaning_all (described_scenario ms) _ _ _))
+of_table ms e is = of_answer (faults_of ms) (described_scenario ms) e
+    (all_append (key_faults ms) _ (key_all ms) (meaning_all (described_scenario ms) _ _ _))
     is
 
 of_document : (o : Option Members) (e : ScenarioFault) → scenario_of_document o ≡ Err e → IsOfText e

@@ -1,5 +1,6 @@
 -- The scenario that a table describes, wherever its keys are as the format asks.
-use Rattle.std.specs.Prelude.{ℕ, zero, suc, ◌+◌, ◌-◌, ◌/◌, pos, Bool, false, List, [], ◌∷◌, Option, Some, None, unwrap_or, codes, map, nat_le, ◌==◌, if◌then◌else◌}
+use Rattle.std.specs.Prelude.{ℕ, zero, suc, ◌+◌, ◌-◌, ◌/◌, pos, Bool, false, List, [], ◌∷◌, Option, Some, None,
+    unwrap_or, codes, map, nat_le, ◌==◌, if◌then◌else◌}
 use Rattle.std.specs.Option.{option_and_then}
 use Rattle.toml.specs.Data.{Data, Items, Members, integer, array, table, no_items, item, no_members, get_member}
 use Rattle.srm_net.specs.declared.role.Role.{Role}
@@ -132,8 +133,8 @@ topology_of ms =
     else if says (codes "topology") (codes "chain") ms then Some Chain
     else if says (codes "topology") (codes "star") ms then Some Star else None
 
--- the node to which node v, not 0, is joined. Nodes of a chain are numbered along it, the hub of a star is node 0, and a tree
--- is numbered breadth first: the root has `degree` children, and every other inner node one fewer
+-- the node to which node v, not 0, is joined. Nodes of a chain are numbered along it, the hub of a star is node 0, and
+-- a tree is numbered breadth first: the root has `degree` children, and every other inner node one fewer
 abbrev pub parent_in : Topology → ℕ → ℕ
 parent_in Chain v = v - 1
 parent_in Star v = 0

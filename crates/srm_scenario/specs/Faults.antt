@@ -1,5 +1,6 @@
 -- What is wrong with a table or a text that is to be a scenario, and the scenario where nothing is.
-use Rattle.std.specs.Prelude.{⊤, ◌≡◌, ◌⊎◌, ℕ, ◌+◌, Bool, true, false, not, ◌&&◌, ◌||◌, List, [], ◌∷◌, ◌++◌, Option, Some, None, Result, Ok, Err, is_some, codes, length, slice_get, nat_le, nat_lt, ◌==◌, if◌then◌else◌}
+use Rattle.std.specs.Prelude.{⊤, ◌≡◌, ◌⊎◌, ℕ, ◌+◌, Bool, true, false, not, ◌&&◌, ◌||◌, List, [], ◌∷◌, ◌++◌, Option,
+    Some, None, Result, Ok, Err, is_some, codes, length, slice_get, nat_le, nat_lt, ◌==◌, if◌then◌else◌}
 use Rattle.std.specs.List.{list_any}
 use Rattle.std.specs.Io.KnownBytes.{IsAtEnd}
 use Rattle.std.specs.Str.{is_utf8}
@@ -11,7 +12,8 @@ use Rattle.srm_net.specs.declared.link.OutageSpec.{OutageSpec}
 use Rattle.srm_scenario.specs.declared.fault.Part.{Part}
 use Rattle.srm_scenario.specs.declared.fault.Part.TheVariants as part
 use Rattle.srm_scenario.specs.declared.fault.ScenarioFault.{ScenarioFault}
-use Rattle.srm_scenario.specs.declared.fault.ScenarioFault.TheVariants.{NoMemory, ReadFault, TooLong, NotToml, BadKey, NotTree, BadMember, BadDraw, BadSession, BadDrop, BadOutage}
+use Rattle.srm_scenario.specs.declared.fault.ScenarioFault.TheVariants.{NoMemory, ReadFault, TooLong, NotToml, BadKey,
+    NotTree, BadMember, BadDraw, BadSession, BadDrop, BadOutage}
 use Rattle.srm_scenario.specs.declared.entry.MemberEntry.{MemberEntry}
 use Rattle.srm_scenario.specs.declared.parts.MemberSpec.{MemberSpec}
 use Rattle.srm_scenario.specs.declared.parts.DrawSpec.{DrawSpec}
@@ -20,9 +22,11 @@ use Rattle.srm_scenario.specs.declared.topology.Topology.{Topology}
 use Rattle.srm_scenario.specs.declared.topology.Topology.TheVariants.{Star}
 use Rattle.srm_scenario.specs.Plain.{PlainScenario, network_of}
 use Rattle.srm_scenario.specs.Trees.{is_tree}
-use Rattle.srm_scenario.specs.Rules.{Rule, top_rules, link_rules, member_rules, draw_rules, session_rules, drop_rules, outage_rules, fits, fits_element}
+use Rattle.srm_scenario.specs.Rules.{Rule, top_rules, link_rules, member_rules, draw_rules, session_rules, drop_rules,
+    outage_rules, fits, fits_element}
 use Rattle.srm_scenario.specs.Presence.{is_present}
-use Rattle.srm_scenario.specs.Described.{version_of, member_of, says, array_at, table_of, elements_at, topology_of, listed_drops, described_scenario}
+use Rattle.srm_scenario.specs.Described.{version_of, member_of, says, array_at, table_of, elements_at, topology_of,
+    listed_drops, described_scenario}
 
 -- one fault for each element that fails a test, at its place, the first element being at place i
 abbrev pub faults_by : {A : Type 0} → (ℕ → ScenarioFault) → (A → Bool) → ℕ → List A → List ScenarioFault
@@ -55,7 +59,8 @@ accepted_element rules reading d = if fits_element rules d then Some (reading (t
 
 -- the top table's rules, by its version and the topology that it names
 abbrev pub rules_of_top : Members → List Rule
-rules_of_top ms = top_rules (version_of ms) (is_some (get_member (codes "topology") ms)) (says (codes "topology") (codes "tree") ms)
+rules_of_top ms = top_rules (version_of ms) (is_some (get_member (codes "topology") ms))
+    (says (codes "topology") (codes "tree") ms)
 
 abbrev pub top_faults : Members → List ScenarioFault
 top_faults ms = fault_unless (fits (rules_of_top ms) ms) (BadKey part.Top 0)
@@ -85,8 +90,8 @@ entry_of ms = record { spec = member_of ms; has_pages = is_some (get_member (cod
 abbrev pub is_taken : List MemberEntry → ℕ → Bool
 is_taken es node = list_any (λ e. e.spec.node == node) es
 
--- its node is a node of the network, not the hub of a star, and not that of an earlier member; it joins before the end of the
--- run, and before it leaves; and pages are given for a late member alone
+-- its node is a node of the network, not the hub of a star, and not that of an earlier member; it joins before the end
+-- of the run, and before it leaves; and pages are given for a late member alone
 abbrev pub fits_member : ℕ → ℕ → Bool → List MemberEntry → MemberEntry → Bool
 fits_member until nodes star earlier e =
     let k = e.spec in
@@ -145,8 +150,8 @@ key_faults ms =
     ∷ element_faults part.Outage (outage_rules (version_of ms)) (array_at (codes "outage") ms)
     ∷ [])
 
--- the faults of what a table describes: a scenario, whether its topology is a star, its members with whether pages are given for
--- them, and its drops as they are listed
+-- the faults of what a table describes: a scenario, whether its topology is a star, its members with whether pages are
+-- given for them, and its drops as they are listed
 unfoldable pub meaning_faults : PlainScenario → Bool → List MemberEntry → List DropSpec → List ScenarioFault
 meaning_faults s star entries listed =
     all_of (
@@ -202,7 +207,8 @@ AnswersText (Err e) text = scenario_of_text text ≡ Err e
 abbrev pub RefusesText : ScenarioFault → List ℕ → Type 0
 RefusesText e text = (e ≡ NoMemory) ⊎ (scenario_of_text text ≡ Err e)
 
--- where a text was read whole, no byte is left to come: so it is for a scenario, and for each fault that is one of its text
+-- where a text was read whole, no byte is left to come: so it is for a scenario, and for each fault that is one of its
+-- text
 abbrev pub ReadsToEnd : Result PlainScenario ScenarioFault → Option (List ℕ) → Type 0
 ReadsToEnd (Err ReadFault) left = ⊤
 ReadsToEnd (Err TooLong) left = ⊤

@@ -9,8 +9,10 @@ use Rattle.srm_scenario.specs.declared.topology.Topology.{Topology}
 use Rattle.srm_scenario.specs.declared.topology.Topology.TheVariants.{Tree}
 use Rattle.srm_scenario.specs.declared.parts.Constants.{Constants}
 use Rattle.srm_scenario.specs.Accepted.{AreConstants}
-use Rattle.srm_scenario.specs.Rules.{Rule, rule, whole, elements, required, optional, is_met, is_whole, most_nodes, index_rule, topology_rule, back_rule, outage_rule, degree_rule, number_rules, shape_rules, array_rules}
-use Rattle.srm_scenario.specs.Described.{number, optional_number, number_of, array_at, says, version_of, topology_of, delays_of, constants_of, nodes_in}
+use Rattle.srm_scenario.specs.Rules.{Rule, rule, whole, elements, required, optional, is_met, is_whole, most_nodes,
+    index_rule, topology_rule, back_rule, outage_rule, degree_rule, number_rules, shape_rules, array_rules}
+use Rattle.srm_scenario.specs.Described.{number, optional_number, number_of, array_at, says, version_of, topology_of,
+    delays_of, constants_of, nodes_in}
 
 -- the value is this whole number, from low to high
 pub record IsNumber (low high : ℕ) (d : Data) (n : ℕ) : Type 0 where
@@ -100,7 +102,8 @@ pub record HasNumbers (ms : Members) (version : Version) (until : ℕ) (constant
 
 -- the rules of the table's nodes and links, in a version
 abbrev pub shape_of : Version → Members → List Rule
-shape_of version ms = shape_rules version (is_some (get_member (codes "topology") ms)) (says (codes "topology") (codes "tree") ms)
+shape_of version ms = shape_rules version (is_some (get_member (codes "topology") ms))
+    (says (codes "topology") (codes "tree") ms)
 
 -- the delays of a topology's links are 1 to 1,000,000
 abbrev pub AreDelays : Option Topology → Delays → Type 0
@@ -121,7 +124,8 @@ pub record HasShape (version : Version) (ms : Members) (t : Option Topology) (no
   pub links_are : links ≡ array_at (codes "link") ms
 
 -- the table's other arrays, as they must be in a version
-pub record HasArrays (version : Version) (ms : Members) (members draws sessions drops outages : List Data) : Type 0 where
+pub record HasArrays (version : Version) (ms : Members) (members draws sessions drops outages : List Data) : Type 0
+    where
   pub met : list_all (is_met ms) (array_rules version) ≡ true
   pub members_are : members ≡ array_at (codes "member") ms
   pub draws_are : draws ≡ array_at (codes "draw") ms

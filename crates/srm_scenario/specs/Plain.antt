@@ -17,8 +17,8 @@ use Rattle.srm_scenario.specs.declared.parts.MemberSpec.{MemberSpec}
 use Rattle.srm_scenario.specs.declared.parts.DrawSpec.{DrawSpec}
 use Rattle.srm_scenario.specs.declared.parts.SessionSpec.{SessionSpec}
 
--- what a run is given: events before `until` are handled. Members, links, draws and sessions are numbered in their lists'
--- order, listed drops stand in rising order, each once, and outages in the order of their list
+-- what a run is given: events before `until` are handled. Members, links, draws and sessions are numbered in their
+-- lists' order, listed drops stand in rising order, each once, and outages in the order of their list
 pub record PlainScenario : Type 0 where
   pub until : ℕ
   pub constants : Constants
@@ -29,7 +29,8 @@ pub record PlainScenario : Type 0 where
   pub sessions : List SessionSpec
   pub drops : DropRules
 
--- the rules by which links drop packets, of drops and outages as they are listed: a drop that is listed twice counts once
+-- the rules by which links drop packets, of drops and outages as they are listed: a drop that is listed twice counts
+-- once
 abbrev pub drop_rules_of : List DropSpec → List OutageSpec → DropRules
 drop_rules_of drops outages = record { listed = ordered_once drop_cmp drops; outages = outages }
 

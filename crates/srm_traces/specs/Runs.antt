@@ -26,7 +26,8 @@ subject_of about.Nothing = Nothing
 subject_of (about.Of packet) = Of packet.id
 subject_of (about.Named name) = Named name
 
--- a row in short: its time, its member, its kind, what it is about, what was told, how many names were lost, and the packet sent
+-- a row in short: its time, its member, its kind, what it is about, what was told, how many names were lost, and the
+-- packet sent
 pub record Brief : Type 0 where
   pub time : ℕ
   pub member : ℕ
@@ -36,7 +37,8 @@ pub record Brief : Type 0 where
   pub lost : ℕ
   pub sent : Option PacketId
 
--- an event that was handled: when, by whom, its kind, what it is about, what was told, how many names were lost, and the packet sent
+-- an event that was handled: when, by whom, its kind, what it is about, what was told, how many names were lost, and
+-- the packet sent
 abbrev pub handled : ℕ → ℕ → Word → Subject → Told → ℕ → Option PacketId → Brief
 handled time member cause about told lost sent =
     record { time = time; member = member; cause = cause; about = about; told = told; lost = lost; sent = sent }

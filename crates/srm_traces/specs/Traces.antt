@@ -1,5 +1,5 @@
--- The traces of the worked scenarios, and their crossings: for each link data, requests, repairs, session messages and drops. Of
--- some, what their members end with.
+-- The traces of the worked scenarios, and their crossings: for each link data, requests, repairs, session messages and
+-- drops. Of some, what their members end with.
 use Rattle.std.specs.Prelude.{ℕ, List, [], ◌∷◌, Some, None}
 use Rattle.srm_member.specs.declared.row.Word.TheVariants as word
 use Rattle.srm_member.specs.declared.exit.Exit.{Exit}

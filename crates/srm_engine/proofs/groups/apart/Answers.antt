@@ -15,9 +15,12 @@ loop-done-preserved-in_ok-add_lists g c =
     let steps = c.in-Some.ensures.steps.0 in (
       tt,
       tt,
-      ap (λ l. l ++ groups_of more) c.in_ok-push.ensures.items ∙ append_assoc gs (c.in-Some.done.cells ∷ []) (groups_of more) ∙ ap (λ ds. gs ++ groups_of ds) (sym steps) ∙ i.2,
-      ap (λ l. l ++ some_of (lists_of more)) c.in_ok-add_lists.ensures ∙ append_assoc ls (some_of c.in-Some.done.rows.items) (some_of (lists_of more))
-          ∙ ap (λ l. ls ++ l) (sym (some_of_append c.in-Some.done.rows.items (lists_of more))) ∙ ap (λ ds. ls ++ some_of (lists_of ds)) (sym steps) ∙ i.3,
+      ap (λ l. l ++ groups_of more) c.in_ok-push.ensures.items ∙ append_assoc gs (c.in-Some.done.cells ∷ []) (groups_of more)
+          ∙ ap (λ ds. gs ++ groups_of ds) (sym steps) ∙ i.2,
+      ap (λ l. l ++ some_of (lists_of more)) c.in_ok-add_lists.ensures ∙
+          append_assoc ls (some_of c.in-Some.done.rows.items) (some_of (lists_of more))
+          ∙ ap (λ l. ls ++ l) (sym (some_of_append c.in-Some.done.rows.items (lists_of more)))
+              ∙ ap (λ ds. ls ++ some_of (lists_of ds)) (sym steps) ∙ i.3,
     )
 
 pub loop-done-preserved : goal.loop-done-preserved
@@ -29,7 +32,10 @@ loop-done-preserved g c =
     let steps = c.in-Some.ensures.steps.0 in (
       tt,
       tt,
-      ap (λ l. l ++ groups_of more) c.in_ok-push.ensures.items ∙ append_assoc gs (c.in-Some.done.cells ∷ []) (groups_of more) ∙ ap (λ ds. gs ++ groups_of ds) (sym steps) ∙ i.2,
-      ap (λ l. l ++ some_of (lists_of more)) c.in_ok-add_lists.ensures ∙ append_assoc ls (some_of c.in-Some.done.rows.items) (some_of (lists_of more))
-          ∙ ap (λ l. ls ++ l) (sym (some_of_append c.in-Some.done.rows.items (lists_of more))) ∙ ap (λ ds. ls ++ some_of (lists_of ds)) (sym steps) ∙ i.3,
+      ap (λ l. l ++ groups_of more) c.in_ok-push.ensures.items ∙ append_assoc gs (c.in-Some.done.cells ∷ []) (groups_of more)
+          ∙ ap (λ ds. gs ++ groups_of ds) (sym steps) ∙ i.2,
+      ap (λ l. l ++ some_of (lists_of more)) c.in_ok-add_lists.ensures ∙
+          append_assoc ls (some_of c.in-Some.done.rows.items) (some_of (lists_of more))
+          ∙ ap (λ l. ls ++ l) (sym (some_of_append c.in-Some.done.rows.items (lists_of more)))
+              ∙ ap (λ ds. ls ++ some_of (lists_of ds)) (sym steps) ∙ i.3,
     )

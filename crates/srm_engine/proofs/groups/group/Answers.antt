@@ -22,18 +22,25 @@ loop-cell-preserved g c =
           let zero = ap length none in (
             tt,
             tt,
-            next_in gs c.if-len-cut.groups.items c.loop-cell.group c.if-len-cut.group c.push-in-loop-cell.new.self c.in-Some.cell (into_iter_items c.loop-cell.cell-iterator) (into_iter_items c.next.new.self) c.args.cells.items i.2 c.in-Some.ensures.steps.0
+            next_in gs c.if-len-cut.groups.items c.loop-cell.group c.if-len-cut.group c.push-in-loop-cell.new.self c.in-Some.cell
+                (into_iter_items c.loop-cell.cell-iterator) (into_iter_items c.next.new.self) c.args.cells.items i.2
+                c.in-Some.ensures.steps.0
                 (rw (w.groups-is, w.group-is) same) pushed,
-            rw w.groups-is (sizes_more c.args.cut gs w.push.new.self.items c.loop-cell.group groups (let a = w.if-len-cut.true in let b = c.len.ensures in omega arith) i.3),
-            (let is : c.if-len-cut.group ≡ w.new-group-then-len-cut.result = w.group-is in let first = ap (λ v. length v.items) is in let le : length c.push-in-loop-cell.new.self.items ≤ c.args.cut = omega arith in le),
+            rw w.groups-is (sizes_more c.args.cut gs w.push.new.self.items c.loop-cell.group groups
+                (let a = w.if-len-cut.true in let b = c.len.ensures in omega arith) i.3),
+            (let is : c.if-len-cut.group ≡ w.new-group-then-len-cut.result = w.group-is in let first = ap (λ v. length v.items) is in
+                let le : length c.push-in-loop-cell.new.self.items ≤ c.args.cut = omega arith in le),
           )
       | else-len-cut w ↦ (
         tt,
         tt,
-        next_in gs c.if-len-cut.groups.items c.loop-cell.group c.if-len-cut.group c.push-in-loop-cell.new.self c.in-Some.cell (into_iter_items c.loop-cell.cell-iterator) (into_iter_items c.next.new.self) c.args.cells.items i.2 c.in-Some.ensures.steps.0
+        next_in gs c.if-len-cut.groups.items c.loop-cell.group c.if-len-cut.group c.push-in-loop-cell.new.self c.in-Some.cell
+            (into_iter_items c.loop-cell.cell-iterator) (into_iter_items c.next.new.self) c.args.cells.items i.2 c.in-Some.ensures.steps.0
             (rw (w.groups-is, w.group-is) refl) pushed,
         rw w.groups-is i.3,
-        (let is : c.if-len-cut.group ≡ c.loop-cell.group = w.group-is in let first = ap (λ v. length v.items) is in let ne = w.if-len-cut.false in let b = c.len.ensures in let most = i.4 in let le : length c.push-in-loop-cell.new.self.items ≤ c.args.cut = omega arith in le),
+        (let is : c.if-len-cut.group ≡ c.loop-cell.group = w.group-is in let first = ap (λ v. length v.items) is in let ne =
+            w.if-len-cut.false in let b = c.len.ensures in let most = i.4 in
+            let le : length c.push-in-loop-cell.new.self.items ≤ c.args.cut = omega arith in le),
       )
     ]
 
@@ -44,9 +51,11 @@ returns-clause-same g c =
     let own = c.loop-cell.group.items in
     let ok = c.loop-cell.cell-iterator.rest.ok in
     let none : into_iter_items c.loop-cell.cell-iterator ≡ [] = grind (arith, common_steps) in
-    let whole : all_in gs ++ own ≡ c.args.cells.items = sym (append-nil (all_in gs ++ own)) ∙ ap (λ l. (all_in gs ++ own) ++ l) (sym none) ∙ i.2 in
+    let whole : all_in gs ++ own ≡ c.args.cells.items = sym (append-nil (all_in gs ++ own)) ∙ ap (λ l. (all_in gs ++ own) ++ l) (sym none)
+        ∙ i.2 in
     elim c.if-not-is_empty.branch [
-      | then-not-is_empty+in_ok-push-3 w ↦ rw w.groups-is (ap all_in w.in_ok-push-3.ensures.items ∙ all_in_append gs (c.loop-cell.group ∷ []) ∙ ap (λ l. all_in gs ++ l) (append-nil own) ∙ whole)
+      | then-not-is_empty+in_ok-push-3 w ↦ rw w.groups-is (ap all_in w.in_ok-push-3.ensures.items
+          ∙ all_in_append gs (c.loop-cell.group ∷ []) ∙ ap (λ l. all_in gs ++ l) (append-nil own) ∙ whole)
       | else-not-is_empty w ↦
           let size = c.loop-cell.group.ok.0 in
           let empty = c.is_empty.ensures in
@@ -65,6 +74,7 @@ returns-clause-cuts g c =
           let empty = c.is_empty.ensures in
           let was = w.if-not-is_empty.true in
           let some : 0 < length c.loop-cell.group.items = grind (arith, nat_tests) in
-          rw w.groups-is (sizes_last c.args.cut gs w.push-then-not-is_empty.new.self.items c.loop-cell.group w.in_ok-push-3.ensures.items some i.4 i.3)
+          rw w.groups-is (sizes_last c.args.cut gs w.push-then-not-is_empty.new.self.items c.loop-cell.group w.in_ok-push-3.ensures.items
+              some i.4 i.3)
       | else-not-is_empty w ↦ rw w.groups-is (full_cuts c.args.cut (sizes gs) c.requires i.3)
     ]

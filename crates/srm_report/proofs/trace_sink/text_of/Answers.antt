@@ -7,4 +7,5 @@ use Rattle.srm_report.proofs.trace_sink.text_of.Goals as goal
 pub returns-in-Fresh : goal.returns-in-Fresh
 unfolding trace_of_rows
 returns-in-Fresh c =
-    subst (λ (at : Standing). IfOk c.trace_text.result (λ text. text.items ≡ text_next at c.args.rows.now)) (sym c.in-Fresh.is) c.trace_text.ensures
+    subst (λ (at : Standing). IfOk c.trace_text.result (λ text. text.items ≡ text_next at c.args.rows.now))
+        (sym c.in-Fresh.is) c.trace_text.ensures

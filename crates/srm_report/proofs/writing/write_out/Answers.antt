@@ -19,5 +19,6 @@ loop-written-preserved g c =
       within = omega (arith, bound, length-drop at text);
       unfailed = c.in-Ok.ensures.failures ∙ c.loop-written.invariant.unfailed;
       below = c.loop-written.invariant.below;
-      taken = rw (take-add at count text) (Appends-trans _ _ _ (take at text) (take count (drop at text)) c.loop-written.invariant.taken next);
+      taken = rw (take-add at count text) (Appends-trans _ _ _ (take at text) (take count (drop at text)) c.loop-written.invariant.taken
+          next);
     }

@@ -10,6 +10,7 @@ pub returns-clause-opened : goal.returns-clause-opened
 returns-clause-opened g c = λ seed h.
     let s = setting_of c.args.scenario.now c.args.net.now seed in
     record {
-      seen = subst (λ (qs : List PlainCell). ShowCells (λ b. (goal.Member-dyn g (b.vtable, b.value)).plain b.value) c.in_ok-cells.cells qs) (opening_is s) (c.in_ok-cells.ensures c.args.net.now seed h);
+      seen = subst (λ (qs : List PlainCell). ShowCells (λ b. (goal.Member-dyn g (b.vtable, b.value)).plain b.value) c.in_ok-cells.cells qs)
+          (opening_is s) (c.in_ok-cells.ensures c.args.net.now seed h);
       totals = c.in_ok-totals.ensures ∙ ap (λ l. nothing_at (length l)) c.links.ensures.links ∙ nothing_counted s;
     }

@@ -31,7 +31,8 @@ loop-left-init g c = record {
       let none = ap length (opening_trace s) in (
         opening s,
         opening_reached s,
-        subst (λ (l : List Row). g.S.RowSink.took c.args.sink.now l c.hand.new.sink) (c.new.ensures.items ∙ sym (opening_trace s)) c.in_default.ensures.rows,
+        subst (λ (l : List Row). g.S.RowSink.took c.args.sink.now l c.hand.new.sink) (c.new.ensures.items ∙ sym (opening_trace s))
+            c.in_default.ensures.rows,
         h,
         omega arith,
       );
@@ -57,10 +58,12 @@ returns-in-Err-steps-clause-rows g c = λ seed h.
         i.0,
         i.1,
         subst (λ (l : List Row). g.S.RowSink.part c.args.sink.now l c.loop-left.sink) (append-nil i.0.trace)
-            (g.met.S.RowSink.part_more c.args.sink.now c.loop-left.sink c.loop-left.sink i.0.trace [] i.2 (g.met.S.RowSink.part_none c.loop-left.sink)),
+            (g.met.S.RowSink.part_more c.args.sink.now c.loop-left.sink c.loop-left.sink i.0.trace [] i.2
+                (g.met.S.RowSink.part_none c.loop-left.sink)),
       ),
       not_taken (λ b. (goal.Member-dyn g (b.vtable, b.value)).plain b.value) s 256 i.0 c.in-Err-steps.fault c.steps.new.self
-          (subst (λ (x : Setting). TellsSteps (λ b. (goal.Member-dyn g (b.vtable, b.value)).plain b.value) x 256 i.0 (Err c.in-Err-steps.fault) c.steps.new.self) back t),
+          (subst (λ (x : Setting). TellsSteps (λ b. (goal.Member-dyn g (b.vtable, b.value)).plain b.value) x 256 i.0
+              (Err c.in-Err-steps.fault) c.steps.new.self) back t),
     )
 
 pub returns-in-Err-hand-clause-rows : goal.returns-in-Err-hand-clause-rows
@@ -75,7 +78,8 @@ returns-in-Err-hand-clause-rows g c = λ seed h.
         t.0,
         subst (λ (x : Setting). IsReached x t.0) back t.1,
         subst (λ (l : List Row). g.S.RowSink.part c.args.sink.now l c.hand-in-loop-left.new.sink) (sym t.2)
-            (g.met.S.RowSink.part_more c.args.sink.now c.loop-left.sink c.hand-in-loop-left.new.sink i.0.trace c.in-Ok.rows.items i.2 took.0),
+            (g.met.S.RowSink.part_more c.args.sink.now c.loop-left.sink c.hand-in-loop-left.new.sink i.0.trace c.in-Ok.rows.items i.2
+                took.0),
       ),
       sink_refuses (Unit {0}) s c.in-Err-hand.fault took.1,
     )
@@ -86,14 +90,16 @@ returns-then-is_last-clause-rows g c = λ seed h.
     let is = c.loop-left.invariant.same in
     let i = c.loop-left.invariant.rows seed h in
     let back : setting_in c.loop-left.self seed ≡ s = λ t. setting_of (is.0 t).now (is.1 t).now seed in
-    let t = subst (λ (x : Setting). TellsSteps (λ b. (goal.Member-dyn g (b.vtable, b.value)).plain b.value) x 256 i.0 (Ok c.in-Ok.rows) c.steps.new.self) back
+    let t = subst (λ (x : Setting). TellsSteps (λ b. (goal.Member-dyn g (b.vtable, b.value)).plain b.value) x 256 i.0
+        (Ok c.in-Ok.rows) c.steps.new.self) back
     (c.in-Ok.ensures.steps seed i.0 (subst (λ (x : Setting). IsReached x i.0) (sym back) i.1) i.3) in
     let short : length c.in-Ok.rows.items < 256 = omega arith in (
       (
         t.0,
         record { reached = t.1; idle = t.5 short },
         subst (λ (l : List Row). g.S.RowSink.took c.args.sink.now l c.hand-in-loop-left.new.sink) (sym t.2)
-            (g.met.S.RowSink.took_more c.args.sink.now c.loop-left.sink c.hand-in-loop-left.new.sink i.0.trace c.in-Ok.rows.items i.2 c.in_default-hand.ensures.rows),
+            (g.met.S.RowSink.took_more c.args.sink.now c.loop-left.sink c.hand-in-loop-left.new.sink i.0.trace c.in-Ok.rows.items i.2
+                c.in_default-hand.ensures.rows),
         t.3,
       ),
       tt,
@@ -104,14 +110,16 @@ loop-left-preserved g c =
     let is = c.loop-left.invariant.same in
     let same = c.steps.ensures.same in record {
       same = (same.0 ∙ is.0, same.1 ∙ is.1);
-      device = g.met.S.RowSink.same_more c.args.sink.now c.loop-left.sink c.hand-in-loop-left.new.sink c.loop-left.invariant.device c.in_default-hand.ensures.device;
+      device = g.met.S.RowSink.same_more c.args.sink.now c.loop-left.sink c.hand-in-loop-left.new.sink c.loop-left.invariant.device
+          c.in_default-hand.ensures.device;
       live = c.in_default-hand.ensures.stands;
       unfailed = c.in_default-hand.ensures.failures ∙ add-zero _ ∙ c.loop-left.invariant.unfailed;
       rows = λ seed h.
           let s = setting_in c.args.self.now seed in
           let i = c.loop-left.invariant.rows seed h in
           let back : setting_in c.loop-left.self seed ≡ s = λ t. setting_of (is.0 t).now (is.1 t).now seed in
-          let t = subst (λ (x : Setting). TellsSteps (λ b. (goal.Member-dyn g (b.vtable, b.value)).plain b.value) x 256 i.0 (Ok c.in-Ok.rows) c.steps.new.self) back
+          let t = subst (λ (x : Setting). TellsSteps (λ b. (goal.Member-dyn g (b.vtable, b.value)).plain b.value) x 256 i.0
+              (Ok c.in-Ok.rows) c.steps.new.self) back
           (c.in-Ok.ensures.steps seed i.0 (subst (λ (x : Setting). IsReached x i.0) (sym back) i.1) i.3) in
           let room = i.4 in
           let few = t.4 in
@@ -119,7 +127,8 @@ loop-left-preserved g c =
             t.0,
             t.1,
             subst (λ (l : List Row). g.S.RowSink.took c.args.sink.now l c.hand-in-loop-left.new.sink) (sym t.2)
-                (g.met.S.RowSink.took_more c.args.sink.now c.loop-left.sink c.hand-in-loop-left.new.sink i.0.trace c.in-Ok.rows.items i.2 c.in_default-hand.ensures.rows),
+                (g.met.S.RowSink.took_more c.args.sink.now c.loop-left.sink c.hand-in-loop-left.new.sink i.0.trace c.in-Ok.rows.items i.2
+                    c.in_default-hand.ensures.rows),
             t.3,
             omega arith,
           );
@@ -132,7 +141,8 @@ returns-clause-rows g c = λ seed h.
         i.0,
         i.1,
         subst (λ (l : List Row). g.S.RowSink.part c.args.sink.now l c.loop-left.sink) (append-nil i.0.trace)
-            (g.met.S.RowSink.part_more c.args.sink.now c.loop-left.sink c.loop-left.sink i.0.trace [] i.2 (g.met.S.RowSink.part_none c.loop-left.sink)),
+            (g.met.S.RowSink.part_more c.args.sink.now c.loop-left.sink c.loop-left.sink i.0.trace [] i.2
+                (g.met.S.RowSink.part_none c.loop-left.sink)),
       ),
       tt,
     )
