@@ -5,7 +5,11 @@ use Rattle.srm_engine.specs.Outcomes.{records_from}
 use Rattle.srm_report_calls.proofs.Openings.{opening-push}
 use Rattle.srm_report_calls.proofs.streaming.stream_in_windows.OwnLists.{own-1, at-1-1, at-1-2, at-1-3, at-1-4}
 use Rattle.srm_report_calls.proofs.streaming.stream_in_windows.Goals as goal
-use Rattle.srm_report_calls.proofs.streaming.stream_in_windows.Goals.{in-Sender+in_ok-inner-in-Sender+in_ok-reacts-in-Sender+in_ok-new-in-Sender, in-Receiver+in_ok-new-in-Receiver+in_ok-new-in-Receiver-2, in-Late+in_ok-new-in-Late+in_ok-new-in-Late-2, in-Listener+in_ok-new-in-Listener+in_ok-new-in-Listener-2}
+use Rattle.srm_report_calls.proofs.streaming.stream_in_windows.Goals.{
+    in-Sender+in_ok-inner-in-Sender+in_ok-reacts-in-Sender+in_ok-new-in-Sender,
+    in-Receiver+in_ok-new-in-Receiver+in_ok-new-in-Receiver-2,
+    in-Late+in_ok-new-in-Late+in_ok-new-in-Late-2,
+    in-Listener+in_ok-new-in-Listener+in_ok-new-in-Listener-2}
 
 pub loop-m-preserved : goal.loop-m-preserved
 loop-m-preserved g c =
