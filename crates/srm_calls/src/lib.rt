@@ -13,4 +13,6 @@ mod net_tests;
 #[cfg(test)]
 mod scenario_tests;
 #[cfg(test)]
+mod spread_tests;
+#[cfg(test)]
 mod text_tests;

@@ -157,7 +157,7 @@ fn one_drop(rt: HostRuntime) -> Result<(), Fail> {
     let entry = DropSpec { link: 1, id: first };
     let drops = Drops::of(rt.alloc(), &[entry, entry], &[])?;
     assert!(rt; drops.lists(1, first) && !drops.lists(0, first) && !drops.lists(1, second));
-    assert!(rt; drops.may_drop(first) && !drops.may_drop(second));
+    assert!(rt; drops.may_drop(first, 0) && !drops.may_drop(second, 0));
     assert!(rt; drops.takes_out(first, 1, 0) && !drops.takes_out(second, 1, 0));
     assert!(rt; net.reaches(&drops, first, 0, 0) && net.reaches(&drops, first, 0, 1));
     assert!(rt; !net.reaches(&drops, first, 0, 2) && net.reaches(&drops, second, 0, 2));
@@ -209,7 +209,8 @@ fn outages_of_one_tick(rt: HostRuntime) -> Result<(), Fail> {
 
     // the first packet comes to link 1 at tick 5, the second at tick 15
     let drops = Drops::of(rt.alloc(), &[], &[outage(1, 5, 6)])?;
-    assert!(rt; drops.may_drop(first) && drops.may_drop(second));
+    assert!(rt; drops.may_drop(first, 0) && drops.may_drop(first, 5));
+    assert!(rt; !drops.may_drop(first, 6) && !drops.may_drop(second, 10));
     assert!(rt; net.reaches(&drops, first, 0, 1) && !net.reaches(&drops, first, 0, 2));
     assert!(rt; net.reaches(&drops, second, 10, 1) && net.reaches(&drops, second, 10, 2));
     assert!(rt; net.crosses(&drops, first, 0, 0) && !net.crosses(&drops, first, 0, 1));
