@@ -3,20 +3,22 @@
 
 usage: tests/widths.py
 
-`rt fmt` lays out src/. Ends with status 1 where a line is too long.
+`rt fmt` lays out src/. A line that brings one name alone may be longer. Ends with status 1 where a line is too long.
 """
 import pathlib
+import re
 import sys
 
 TOP = pathlib.Path(__file__).resolve().parent.parent
 MOST = {"specs": 120, "proofs": 140}
+ONE_NAME = re.compile(r"use [^ ]+\.\{[^ ]+\}")
 
 
 def too_long(folder, most):
     """The lines of a crate's folder, and of the folders below it, that have more characters."""
     for path in sorted(folder.rglob("*.antt")):
         for number, line in enumerate(path.read_text(encoding="utf-8").splitlines(), 1):
-            if len(line) > most:
+            if len(line) > most and not ONE_NAME.fullmatch(line):
                 yield f"{path.relative_to(TOP)}:{number}: {len(line)} characters, and not up to {most}"
 
 

@@ -20,7 +20,8 @@ use Rattle.srm_cell.specs.declared.flight.Flight.{Flight}
 use Rattle.srm_cell.specs.Flights.{flight_cmp}
 use Rattle.srm_cell.specs.Setting.{HasOwnRanks}
 use Rattle.srm_cell.specs.Cells.{PlainCell, arrival_key, mark_key, timer_key, pending_keys, DiffersFrom, AllDiffer}
-use Rattle.srm_cell.proofs.Clear.{Differs, differ_rank, timer_differs, IsDistinct, flights_differ, marks_differ, marks_apart, due_ranks, dues_apart}
+use Rattle.srm_cell.proofs.Clear.{Differs, differ_rank, timer_differs, IsDistinct, flights_differ, marks_differ, marks_apart, due_ranks}
+use Rattle.srm_cell.proofs.Clear.{dues_apart}
 
 key_self : (k : Key) → key_cmp k k ≡ Equal
 key_self k = elim (key_cmp k k) as (λ r. key_cmp k k ≡ r → key_cmp k k ≡ Equal) [
@@ -58,7 +59,8 @@ module _ {V : Type 0} (expiry : V → ℕ) (m rank : ℕ) where
   abbrev due : (Name × V) → Due
   due e = record { time = expiry e.1; rank = rank; name = e.0 }
 
-  later_names : (e : Name × V) (es : List (Name × V)) → T (below_all name_cmp e.0 es) → AllIn (λ x. Differs (timer_key m (due e)) (timer_key m (due x))) es
+  later_names : (e : Name × V) (es : List (Name × V)) → T (below_all name_cmp e.0 es)
+      → AllIn (λ x. Differs (timer_key m (due e)) (timer_key m (due x))) es
   later_names e [] h = tt
   later_names e (x ∷ es) h = (
     timer_differs m rank (expiry e.1) e.0 x.0 (expiry x.1) (λ q. let y : Less ≡ Equal = sym (T_less _ (T_first _ _ h)) ∙ q in cc),
@@ -72,24 +74,30 @@ module _ {V : Type 0} (expiry : V → ℕ) (m rank : ℕ) where
     dues_differ es (T_second _ _ h),
   )
 
-map_both : {A B C D : Type 0} (t : C → D) (f : A → C) (g : B → C) (xs : List A) (ys : List B) → map t (map f xs ++ map g ys) ≡ map (λ x. t (f x)) xs ++ map (λ y. t (g y)) ys
+map_both : {A B C D : Type 0} (t : C → D) (f : A → C) (g : B → C) (xs : List A) (ys : List B) → map t (map f xs ++ map g ys)
+    ≡ map (λ x. t (f x)) xs ++ map (λ y. t (g y)) ys
 map_both t f g [] [] = refl
 map_both t f g [] (y ∷ ys) = ap (λ l. t (g y) ∷ l) (map_both t f g [] ys)
 map_both t f g (x ∷ xs) ys = ap (λ l. t (f x) ∷ l) (map_both t f g xs ys)
 
-memory_differs : (m : ℕ) (mem : Memory) → T (is_sorted name_cmp mem.missing) → T (is_sorted name_cmp mem.repairs) → AllDiffer (map (timer_key m) (timers (Active mem)))
+memory_differs : (m : ℕ) (mem : Memory) → T (is_sorted name_cmp mem.missing) → T (is_sorted name_cmp mem.repairs)
+    → AllDiffer (map (timer_key m) (timers (Active mem)))
 memory_differs m mem h g =
     rw (map_both (timer_key m) (due (λ (v : Missing). v.expiry) m 2) (due (λ (v : Repairing). v.expiry) m 3) mem.missing mem.repairs)
-    (all_differ_append _ _ (dues_differ (λ (v : Missing). v.expiry) m 2 mem.missing h) (dues_differ (λ (v : Repairing). v.expiry) m 3 mem.repairs g)
+    (all_differ_append _ _ (dues_differ (λ (v : Missing). v.expiry) m 2 mem.missing h)
+    (dues_differ (λ (v : Repairing). v.expiry) m 3 mem.repairs g)
     (AllIn-map (λ x. DiffersFrom x (map (λ e. timer_key m (due (λ (v : Repairing). v.expiry) m 3 e)) mem.repairs)) _ mem.missing
     (AllIn-each _ (λ e. from_all (timer_key m (due (λ (v : Missing). v.expiry) m 2 e)) _ mem.repairs
-    (AllIn-each _ (λ x. differ_rank (timer_key m (due (λ (v : Missing). v.expiry) m 2 e)) (timer_key m (due (λ (v : Repairing). v.expiry) m 3 x)) (λ q. let r : ◌≡◌ {A = ℕ} 2 3 = q in omega arith)) mem.repairs)) mem.missing)))
+    (AllIn-each _ (λ x. differ_rank (timer_key m (due (λ (v : Missing). v.expiry) m 2 e))
+    (timer_key m (due (λ (v : Repairing). v.expiry) m 3 x)) (λ q. let r : ◌≡◌ {A = ℕ} 2 3 = q in omega arith)) mem.repairs))
+    mem.missing)))
 
 timers_differ : (m : ℕ) (r : Record) → SoundRecord r → AllDiffer (map (timer_key m) (timers r))
 timers_differ m (Active mem) s = memory_differs m mem s.asks s.answers
 timers_differ m (Gone f) s = tt
 
-marks_and_timers : (m : ℕ) (r : Record) (ks : List Mark) → HasOwnRanks ks → AllIn (λ k. DiffersFrom (mark_key m k) (map (timer_key m) (timers r))) ks
+marks_and_timers : (m : ℕ) (r : Record) (ks : List Mark) → HasOwnRanks ks
+    → AllIn (λ k. DiffersFrom (mark_key m k) (map (timer_key m) (timers r))) ks
 marks_and_timers m r [] h = tt
 marks_and_timers m r (k ∷ ks) h =
     let own = h.0 in (
@@ -105,8 +113,11 @@ cell_keys_differ m c d s =
     let dues = map (timer_key m) (timers c.holds) in
     all_differ_append (map (arrival_key m) c.inbox) (marks ++ dues) (arrivals_differ m c.inbox d.flights)
     (all_differ_append marks dues (all_marks_differ m c.script d.marks) (timers_differ m c.holds s)
-    (AllIn-map (λ x. DiffersFrom x (map (timer_key m) (timers c.holds))) (mark_key m) c.script (marks_and_timers m c.holds c.script d.ranks)))
+    (AllIn-map (λ x. DiffersFrom x (map (timer_key m) (timers c.holds)))
+    (mark_key m) c.script (marks_and_timers m c.holds c.script d.ranks)))
     (AllIn-map (λ x. DiffersFrom x (map (mark_key m) c.script ++ map (timer_key m) (timers c.holds))) (arrival_key m) c.inbox
     (AllIn-each _ (λ f. differs_append (arrival_key m f) (map (mark_key m) c.script) (map (timer_key m) (timers c.holds))
     (from_all (arrival_key m f) (mark_key m) c.script (marks_apart m (arrival_key m f) c.script d.ranks (omega arith) (omega arith)))
-    (from_all (arrival_key m f) (timer_key m) (timers c.holds) (dues_apart m (arrival_key m f) (timers c.holds) (λ e. let q : ◌≡◌ {A = ℕ} 1 2 = e in omega arith) (λ e. let q : ◌≡◌ {A = ℕ} 1 3 = e in omega arith) (due_ranks c.holds)))) c.inbox))
+    (from_all (arrival_key m f) (timer_key m) (timers c.holds)
+    (dues_apart m (arrival_key m f) (timers c.holds) (λ e. let q : ◌≡◌ {A = ℕ} 1 2 = e in omega arith)
+    (λ e. let q : ◌≡◌ {A = ℕ} 1 3 = e in omega arith) (due_ranks c.holds)))) c.inbox))

@@ -1,7 +1,9 @@
 -- A cell's own step, and what a late arrival leaves of it.
-use Rattle.std.proofs.Common.{◌≡◌, ℕ, ◌≤◌, ◌^◌, Bool, true, false, cond, List, [], ◌∷◌, refl, sym, ap, ◌∙◌, ◌≢◌, arith, Ordering, Less, Equal, Greater, nat_cmp, is_lt, ltb-true, lt-ltb, le-ltb, nat_lt, Option, Some, None, option_map}
+use Rattle.std.proofs.Common.{◌≡◌, ℕ, ◌≤◌, ◌^◌, Bool, true, false, cond, List, [], ◌∷◌, refl, sym, ap, ◌∙◌, ◌≢◌, arith, Ordering, Less}
+use Rattle.std.proofs.Common.{Equal, Greater, nat_cmp, is_lt, ltb-true, lt-ltb, le-ltb, nat_lt, Option, Some, None, option_map}
 use Rattle.std.specs.Ordering.{ordering_then, ordering_reverse}
-use Rattle.srm_cell.specs.Cells.{Done, Event, Full, Idle, PlainCell, Spent, StepOutcome, Stepped, before, by_key, earlier, first_arrival, first_mark, handle, hear_at, next_event, next_timer, own_step, sending_step, step_at, timer_event}
+use Rattle.srm_cell.specs.Cells.{Done, Event, Full, Idle, PlainCell, Spent, StepOutcome, Stepped, before, by_key, earlier, first_arrival}
+use Rattle.srm_cell.specs.Cells.{first_mark, handle, hear_at, next_event, next_timer, own_step, sending_step, step_at, timer_event}
 use Rattle.srm_cell.specs.Flights.{flight_cmp}
 use Rattle.srm_cell.specs.declared.flight.Flight.{Flight}
 use Rattle.srm_member.proofs.OrderLemmas.{head_le, key_total, nat_cmp_self}
@@ -22,7 +24,8 @@ abbrev pub keep : Bool → Event → Option Event
 keep b e = cond b (Some e) None
 
 picked : (r : Ordering) (bd be : Bool) (d e : Event) → (r ≢ Greater → be ≡ true → bd ≡ true) → (r ≡ Greater → bd ≡ true → be ≡ true) →
-    cond (elim r [ Less ↦ bd | Equal ↦ bd | Greater ↦ be ]) (Some (by_key r d e)) None ≡ cond bd (cond be (Some (by_key r d e)) (Some d)) (keep be e)
+    cond (elim r [ Less ↦ bd | Equal ↦ bd | Greater ↦ be ]) (Some (by_key r d e)) None
+    ≡ cond bd (cond be (Some (by_key r d e)) (Some d)) (keep be e)
 picked Less true true d e f g = refl
 picked Less true false d e f g = refl
 picked Less false true d e f g = cc (f (λ e. cc) refl)
@@ -43,12 +46,15 @@ first_le k l h = head_le k.time l.time _ h
 pub second_le : (k l : Key) → key_cmp k l ≡ Greater → l.time ≤ k.time
 second_le k l h = first_le l k (λ g. let e : Greater ≡ Less = sym g ∙ key_total.antisymm l k ∙ ap ordering_reverse h in cc)
 
-pub before-by_key : (end : ℕ) (r : Ordering) (d e : Event) → before end (Some (by_key r d e)) ≡ cond (elim r [ Less ↦ nat_lt d.key.time end | Equal ↦ nat_lt d.key.time end | Greater ↦ nat_lt e.key.time end ]) (Some (by_key r d e)) None
+pub before-by_key : (end : ℕ) (r : Ordering) (d e : Event) → before end (Some (by_key r d e))
+    ≡ cond (elim r [ Less ↦ nat_lt d.key.time end | Equal ↦ nat_lt d.key.time end | Greater ↦ nat_lt e.key.time end ])
+    (Some (by_key r d e)) None
 before-by_key end Less d e = refl
 before-by_key end Equal d e = refl
 before-by_key end Greater d e = refl
 
-both_kept : (bd be : Bool) (r : Ordering) (d e : Event) → key_cmp d.key e.key ≡ r → earlier (keep bd d) (keep be e) ≡ cond bd (cond be (Some (by_key r d e)) (Some d)) (keep be e)
+both_kept : (bd be : Bool) (r : Ordering) (d e : Event) → key_cmp d.key e.key ≡ r → earlier (keep bd d) (keep be e)
+    ≡ cond bd (cond be (Some (by_key r d e)) (Some d)) (keep be e)
 both_kept true true r d e h = rw h
 both_kept true false r d e h = refl
 both_kept false be r d e h = refl
@@ -77,23 +83,28 @@ first_timer m c (d ∷ ds) = earlier (Some (timer_event m c d)) (first_timer m c
 timer_keys : (m : ℕ) (c : PlainCell) (d e : Due) → key_cmp (timer_event m c d).key (timer_event m c e).key ≡ due_cmp d e
 timer_keys m c d e = let q = nat_cmp_self m in simp q
 
-by_key-timers : (m : ℕ) (c : PlainCell) (r : Ordering) (d e : Due) → by_key r (timer_event m c d) (timer_event m c e) ≡ timer_event m c (by_order r d e)
+by_key-timers : (m : ℕ) (c : PlainCell) (r : Ordering) (d e : Due) → by_key r (timer_event m c d) (timer_event m c e)
+    ≡ timer_event m c (by_order r d e)
 by_key-timers m c Less d e = refl
 by_key-timers m c Equal d e = refl
 by_key-timers m c Greater d e = refl
 
-sooner_timer : (m : ℕ) (c : PlainCell) (d : Due) (o : Option Due) → next_timer m c (Some (sooner d o)) ≡ earlier (Some (timer_event m c d)) (next_timer m c o)
+sooner_timer : (m : ℕ) (c : PlainCell) (d : Due) (o : Option Due) → next_timer m c (Some (sooner d o))
+    ≡ earlier (Some (timer_event m c d)) (next_timer m c o)
 sooner_timer m c d None = refl
-sooner_timer m c d (Some e) = ap Some (sym (by_key-timers m c (due_cmp d e) d e) ∙ ap (λ r. by_key r (timer_event m c d) (timer_event m c e)) (sym (timer_keys m c d e)))
+sooner_timer m c d (Some e) = ap Some (sym (by_key-timers m c (due_cmp d e) d e)
+    ∙ ap (λ r. by_key r (timer_event m c d) (timer_event m c e)) (sym (timer_keys m c d e)))
 
 first_timer_is : (m : ℕ) (c : PlainCell) (ds : List Due) → next_timer m c (earliest ds) ≡ first_timer m c ds
 first_timer_is m c [] = refl
 first_timer_is m c (d ∷ ds) = sooner_timer m c d (earliest ds) ∙ ap (earlier (Some (timer_event m c d))) (first_timer_is m c ds)
 
 -- the next event is the first of the first arrival, the first mark and all timers
-pub next_event_is : (m : ℕ) (c : PlainCell) → next_event m c ≡ earlier (first_arrival m c c.inbox) (earlier (first_mark m c c.script) (first_timer m c (timers c.holds)))
+pub next_event_is : (m : ℕ) (c : PlainCell) → next_event m c ≡ earlier (first_arrival m c c.inbox)
+    (earlier (first_mark m c c.script) (first_timer m c (timers c.holds)))
 unfolding next_event
-next_event_is m c = ap (λ o. earlier (first_arrival m c c.inbox) (earlier (first_mark m c c.script) o)) (first_timer_is m c (timers c.holds))
+next_event_is m c = ap (λ o. earlier (first_arrival m c c.inbox) (earlier (first_mark m c c.script) o))
+    (first_timer_is m c (timers c.holds))
 
 -- ---- a change of the rest of the cell that no event before the end sees
 
@@ -109,12 +120,14 @@ outcome_map f Full = Full
 outcome_map f Spent = Spent
 outcome_map f (Done x) = Done (f x)
 
-by_key-map : (h : PlainCell → PlainCell) (r : Ordering) (d e : Event) → by_key r (event_map h d) (event_map h e) ≡ event_map h (by_key r d e)
+by_key-map : (h : PlainCell → PlainCell) (r : Ordering) (d e : Event) → by_key r (event_map h d) (event_map h e)
+    ≡ event_map h (by_key r d e)
 by_key-map h Less d e = refl
 by_key-map h Equal d e = refl
 by_key-map h Greater d e = refl
 
-pub earlier-map : (h : PlainCell → PlainCell) (x y : Option Event) → earlier (option_map (event_map h) x) (option_map (event_map h) y) ≡ option_map (event_map h) (earlier x y)
+pub earlier-map : (h : PlainCell → PlainCell) (x y : Option Event) → earlier (option_map (event_map h) x) (option_map (event_map h) y)
+    ≡ option_map (event_map h) (earlier x y)
 earlier-map h None y = refl
 earlier-map h (Some d) None = refl
 earlier-map h (Some d) (Some e) = ap Some (by_key-map h (key_cmp d.key e.key) d e)
@@ -123,7 +136,8 @@ keep-map : (h : PlainCell → PlainCell) (b : Bool) (e : Event) → keep b (even
 keep-map h true e = refl
 keep-map h false e = refl
 
-before-map : (h : PlainCell → PlainCell) (end : ℕ) (x : Option Event) → before end (option_map (event_map h) x) ≡ option_map (event_map h) (before end x)
+before-map : (h : PlainCell → PlainCell) (end : ℕ) (x : Option Event) → before end (option_map (event_map h) x)
+    ≡ option_map (event_map h) (before end x)
 before-map h end None = refl
 before-map h end (Some e) = keep-map h (nat_lt e.key.time end) e
 
@@ -134,51 +148,72 @@ module _ (end : ℕ) (p : Packet) (at : ℕ) (late : end ≤ at) where
   abbrev flight : Flight
   flight = record { arrival = at; packet = p }
 
-  marks_alike : (m : ℕ) (c : PlainCell) (ks : List Mark) → first_mark m (late_hear c) ks ≡ option_map (event_map late_hear) (first_mark m c ks)
+  marks_alike : (m : ℕ) (c : PlainCell) (ks : List Mark) → first_mark m (late_hear c) ks
+      ≡ option_map (event_map late_hear) (first_mark m c ks)
   marks_alike m c [] = refl
   marks_alike m c (k ∷ ks) = refl
 
-  timers_alike : (m : ℕ) (c : PlainCell) (ds : List Due) → first_timer m (late_hear c) ds ≡ option_map (event_map late_hear) (first_timer m c ds)
+  timers_alike : (m : ℕ) (c : PlainCell) (ds : List Due) → first_timer m (late_hear c) ds
+      ≡ option_map (event_map late_hear) (first_timer m c ds)
   timers_alike m c [] = refl
   timers_alike m c (d ∷ ds) = rw (timers_alike m c ds) (earlier-map late_hear (Some _) (first_timer m c ds))
 
   too_late : (b : ℕ) (o : Ordering) → nat_lt b end ≡ true → is_lt (ordering_then (nat_cmp b at) o) ≡ true
   too_late b o h = let f = ltb-true _ _ h in let g : nat_lt b at ≡ true = lt-ltb _ _ (omega arith) in simp g
 
-  arrivals_alike : (m : ℕ) (c : PlainCell) (fs : List Flight) → before end (first_arrival m (late_hear c) (place flight_cmp flight fs)) ≡ option_map (event_map late_hear) (before end (first_arrival m c fs))
+  arrivals_alike : (m : ℕ) (c : PlainCell) (fs : List Flight) → before end (first_arrival m (late_hear c) (place flight_cmp flight fs))
+      ≡ option_map (event_map late_hear) (before end (first_arrival m c fs))
   arrivals_alike m c [] = let n : nat_lt at end ≡ false = le-ltb _ _ late in simp n
   arrivals_alike m c (f ∷ fs) = let n : nat_lt at end ≡ false = le-ltb _ _ late in
-      elim (nat_lt f.arrival end) as (λ b. nat_lt f.arrival end ≡ b → before end (first_arrival m (late_hear c) (place flight_cmp flight (f ∷ fs))) ≡ option_map (event_map late_hear) (before end (first_arrival m c (f ∷ fs)))) [
-        | true ↦ λ e. let l = too_late f.arrival (ordering_then (nat_cmp f.packet.id.sender p.id.sender) (ordering_then (nat_cmp f.packet.id.count p.id.count) Equal)) e in simp (l, e)
-        | false ↦ λ e. elim (is_lt (flight_cmp f flight)) as (λ b. is_lt (flight_cmp f flight) ≡ b → before end (first_arrival m (late_hear c) (place flight_cmp flight (f ∷ fs))) ≡ option_map (event_map late_hear) (before end (first_arrival m c (f ∷ fs)))) [
-          | true ↦ λ l. simp (l, e)
-          | false ↦ λ l. simp (l, e, n)
-        ] refl
+      elim (nat_lt f.arrival end) as (λ b. nat_lt f.arrival end ≡ b →
+      before end (first_arrival m (late_hear c) (place flight_cmp flight (f ∷ fs)))
+      ≡ option_map (event_map late_hear) (before end (first_arrival m c (f ∷ fs)))) [
+        | true ↦ λ e. let l = too_late f.arrival (ordering_then (nat_cmp f.packet.id.sender p.id.sender)
+            (ordering_then (nat_cmp f.packet.id.count p.id.count) Equal)) e in simp (l, e)
+        | false ↦ λ e. elim (is_lt (flight_cmp f flight)) as
+            (λ b. is_lt (flight_cmp f flight) ≡ b → before end (first_arrival m (late_hear c) (place flight_cmp flight (f ∷ fs)))
+            ≡ option_map (event_map late_hear) (before end (first_arrival m c (f ∷ fs)))) [
+              | true ↦ λ l. simp (l, e)
+              | false ↦ λ l. simp (l, e, n)
+            ] refl
       ] refl
 
   -- the least own event before the end is the same, and what is left of the cell hears the packet
-  all_alike : (m : ℕ) (c : PlainCell) → before end (earlier (first_arrival m (late_hear c) (place flight_cmp flight c.inbox)) (earlier (first_mark m (late_hear c) c.script) (first_timer m (late_hear c) (timers c.holds))))
-      ≡ option_map (event_map late_hear) (before end (earlier (first_arrival m c c.inbox) (earlier (first_mark m c c.script) (first_timer m c (timers c.holds)))))
+  all_alike : (m : ℕ) (c : PlainCell) → before end (earlier (first_arrival m (late_hear c) (place flight_cmp flight c.inbox))
+      (earlier (first_mark m (late_hear c) c.script) (first_timer m (late_hear c) (timers c.holds))))
+      ≡ option_map (event_map late_hear)
+      (before end (earlier (first_arrival m c c.inbox) (earlier (first_mark m c c.script) (first_timer m c (timers c.holds)))))
   all_alike m c =
       before-earlier end _ _
-      ∙ ap (earlier (before end (first_arrival m (late_hear c) (place flight_cmp flight c.inbox)))) (ap (before end) (rw (marks_alike m c c.script, timers_alike m c (timers c.holds)) (earlier-map late_hear (first_mark m c c.script) (first_timer m c (timers c.holds)))) ∙ before-map late_hear end (earlier (first_mark m c c.script) (first_timer m c (timers c.holds))))
-      ∙ ap (λ o. earlier o (option_map (event_map late_hear) (before end (earlier (first_mark m c c.script) (first_timer m c (timers c.holds)))))) (arrivals_alike m c c.inbox)
-      ∙ earlier-map late_hear (before end (first_arrival m c c.inbox)) (before end (earlier (first_mark m c c.script) (first_timer m c (timers c.holds))))
-      ∙ ap (option_map (event_map late_hear)) (sym (before-earlier end (first_arrival m c c.inbox) (earlier (first_mark m c c.script) (first_timer m c (timers c.holds)))))
+      ∙ ap (earlier (before end (first_arrival m (late_hear c) (place flight_cmp flight c.inbox))))
+      (ap (before end) (rw (marks_alike m c c.script, timers_alike m c (timers c.holds))
+      (earlier-map late_hear (first_mark m c c.script) (first_timer m c (timers c.holds))))
+      ∙ before-map late_hear end (earlier (first_mark m c c.script) (first_timer m c (timers c.holds))))
+      ∙ ap (λ o. earlier o (option_map (event_map late_hear)
+      (before end (earlier (first_mark m c c.script) (first_timer m c (timers c.holds)))))) (arrivals_alike m c c.inbox)
+      ∙ earlier-map late_hear (before end (first_arrival m c c.inbox))
+      (before end (earlier (first_mark m c c.script) (first_timer m c (timers c.holds))))
+      ∙ ap (option_map (event_map late_hear))
+      (sym (before-earlier end (first_arrival m c c.inbox) (earlier (first_mark m c c.script) (first_timer m c (timers c.holds)))))
 
-  next_event_alike : (m : ℕ) (c : PlainCell) → before end (next_event m (late_hear c)) ≡ option_map (event_map late_hear) (before end (next_event m c))
+  next_event_alike : (m : ℕ) (c : PlainCell) → before end (next_event m (late_hear c))
+      ≡ option_map (event_map late_hear) (before end (next_event m c))
   next_event_alike m c =
-      ap (before end) (next_event_is m (late_hear c)) ∙ all_alike m c ∙ ap (λ o. option_map (event_map late_hear) (before end o)) (sym (next_event_is m c))
+      ap (before end) (next_event_is m (late_hear c)) ∙ all_alike m c ∙
+      ap (λ o. option_map (event_map late_hear) (before end o)) (sym (next_event_is m c))
 
-  sending_alike_by : (b : Bool) (e : Event) (r : Reaction) (body : Body) (x : Stepped) → cond b (Done (stepped_map late_hear x)) Full ≡ outcome_map (stepped_map late_hear) (cond b (Done x) Full)
+  sending_alike_by : (b : Bool) (e : Event) (r : Reaction) (body : Body) (x : Stepped) → cond b (Done (stepped_map late_hear x)) Full
+      ≡ outcome_map (stepped_map late_hear) (cond b (Done x) Full)
   sending_alike_by true e r body x = refl
   sending_alike_by false e r body x = refl
 
-  sending_alike : (e : Event) (r : Reaction) (body : Option Body) → sending_step (event_map late_hear e) r body ≡ outcome_map (stepped_map late_hear) (sending_step e r body)
+  sending_alike : (e : Event) (r : Reaction) (body : Option Body) → sending_step (event_map late_hear e) r body
+      ≡ outcome_map (stepped_map late_hear) (sending_step e r body)
   sending_alike e r None = refl
   sending_alike e r (Some body) = sending_alike_by (nat_lt e.rest.sent (2 ^ 48)) e r body _
 
-  handle_alike : (e : Event) (holds : Record) (cause : Option Cause) → handle (event_map late_hear e) holds cause ≡ outcome_map (stepped_map late_hear) (handle e holds cause)
+  handle_alike : (e : Event) (holds : Record) (cause : Option Cause) → handle (event_map late_hear e) holds cause
+      ≡ outcome_map (stepped_map late_hear) (handle e holds cause)
   unfolding handle
   handle_alike e (Active m) (Some cause) = let r = react m e.key.time cause in sending_alike e r r.answer.body
   handle_alike e (Active m) None = refl

@@ -1,10 +1,12 @@
 -- Whose events a cell's are, what a cell hears, and events before an end.
-use Rattle.std.proofs.Common.{◌≡◌, ℕ, ◌≤◌, ◌^◌, Bool, true, false, cond, List, [], ◌∷◌, refl, sym, ap, ◌∙◌, subst, ◌≢◌, arith, Ordering, Less, Equal, Greater, nat_lt, Option, Some, None}
+use Rattle.std.proofs.Common.{◌≡◌, ℕ, ◌≤◌, ◌^◌, Bool, true, false, cond, List, [], ◌∷◌, refl, sym, ap, ◌∙◌, subst, ◌≢◌, arith, Ordering}
+use Rattle.std.proofs.Common.{Less, Equal, Greater, nat_lt, Option, Some, None}
 use Rattle.std.proofs.Common.{ltb-true, lt-ltb, ◌<◌}
 use Rattle.std.specs.Cmp.{IsTotalOrder, on_total}
 use Rattle.std.specs.Cmp.Lexicographic.{nat_list_cmp_total}
 use Rattle.srm_cell.proofs.CellLemmas.{first_timer, keep, next_event_is, outcome_map, own_step_late, stepped_map}
-use Rattle.srm_cell.specs.Cells.{Done, Event, Full, Idle, PlainCell, Spent, StepOutcome, Stepped, before, by_key, earlier, first_arrival, first_mark, handle, hear, hear_at, next_event, own_step, sending_step, step_at}
+use Rattle.srm_cell.specs.Cells.{Done, Event, Full, Idle, PlainCell, Spent, StepOutcome, Stepped, before, by_key, earlier, first_arrival}
+use Rattle.srm_cell.specs.Cells.{first_mark, handle, hear, hear_at, next_event, own_step, sending_step, step_at}
 use Rattle.srm_cell.specs.Flights.{flight_cmp, numbers_of_flight}
 use Rattle.srm_cell.specs.OwnRuns.{told_to}
 use Rattle.srm_cell.specs.Setting.{Traffic, arrival_of}
@@ -56,7 +58,8 @@ timer_is_of m c [] = tt
 timer_is_of m c (d ∷ ds) = earlier_of m (Some _) (first_timer m c ds) refl (timer_is_of m c ds)
 
 pub next_event_of : (m : ℕ) (c : PlainCell) → IsOf m (next_event m c)
-next_event_of m c = subst (IsOf m) (sym (next_event_is m c)) (earlier_of m _ _ (arrival_is_of m c c.inbox) (earlier_of m _ _ (mark_is_of m c c.script) (timer_is_of m c (timers c.holds))))
+next_event_of m c = subst (IsOf m) (sym (next_event_is m c))
+    (earlier_of m _ _ (arrival_is_of m c c.inbox) (earlier_of m _ _ (mark_is_of m c c.script) (timer_is_of m c (timers c.holds))))
 
 -- a packet of this sender, if any
 abbrev pub SentBy : ℕ → Option Packet → Type 0
@@ -107,7 +110,8 @@ apart_flights : (f g : Flight) → f.packet.id.sender ≢ g.packet.id.sender →
 unfolding second_number
 apart_flights f g ne e = ne (ap second_number (same_numbers (numbers_of_flight f) (numbers_of_flight g) e))
 
-hear_at_comm : (p q : Packet) (a b : Option ℕ) (c : PlainCell) → p.id.sender ≢ q.id.sender → hear_at p a (hear_at q b c) ≡ hear_at q b (hear_at p a c)
+hear_at_comm : (p q : Packet) (a b : Option ℕ) (c : PlainCell) → p.id.sender ≢ q.id.sender → hear_at p a (hear_at q b c)
+    ≡ hear_at q b (hear_at p a c)
 hear_at_comm p q None b c ne = refl
 hear_at_comm p q (Some a) None c ne = refl
 hear_at_comm p q (Some a) (Some b) c ne =
@@ -122,7 +126,8 @@ unmapped Spent = refl
 unmapped (Done d) = refl
 
 module _ (s : Traffic) where
-  pub told_comm : (a b : ℕ) → a ≢ b → (x y : Option Packet) → SentBy a x → SentBy b y → (m : ℕ) (c : PlainCell) → told_to s x m (told_to s y m c) ≡ told_to s y m (told_to s x m c)
+  pub told_comm : (a b : ℕ) → a ≢ b → (x y : Option Packet) → SentBy a x → SentBy b y → (m : ℕ) (c : PlainCell)
+      → told_to s x m (told_to s y m c) ≡ told_to s y m (told_to s x m c)
   unfolding hear
   told_comm a b ne None y h g m c = refl
   told_comm a b ne (Some p) None h g m c = refl
@@ -133,11 +138,13 @@ module _ (s : Traffic) where
   abbrev IsLateFor : ℕ → Option Packet → Type 0
   IsLateFor end x = (p : Packet) → x ≡ Some p → (m at : ℕ) → arrival_of s p m ≡ Some at → end ≤ at
 
-  hear_at_late : (end m : ℕ) (p : Packet) (a : Option ℕ) → ((at : ℕ) → a ≡ Some at → end ≤ at) → (c : PlainCell) → own_step end m (hear_at p a c) ≡ outcome_map (stepped_map (hear_at p a)) (own_step end m c)
+  hear_at_late : (end m : ℕ) (p : Packet) (a : Option ℕ) → ((at : ℕ) → a ≡ Some at → end ≤ at) → (c : PlainCell)
+      → own_step end m (hear_at p a c) ≡ outcome_map (stepped_map (hear_at p a)) (own_step end m c)
   hear_at_late end m p None h c = unmapped (own_step end m c)
   hear_at_late end m p (Some at) h c = own_step_late end p at (h at refl) m c
 
-  pub told_late : (end m : ℕ) (x : Option Packet) → IsLateFor end x → (c : PlainCell) → own_step end m (told_to s x m c) ≡ outcome_map (stepped_map (told_to s x m)) (own_step end m c)
+  pub told_late : (end m : ℕ) (x : Option Packet) → IsLateFor end x → (c : PlainCell) → own_step end m (told_to s x m c)
+      ≡ outcome_map (stepped_map (told_to s x m)) (own_step end m c)
   unfolding hear
   told_late end m None h c = unmapped (own_step end m c)
   told_late end m (Some p) h c = hear_at_late end m p (arrival_of s p m) (h p refl m) c
@@ -150,7 +157,8 @@ keep_some false d e h = cc
 
 pub before_some : (end : ℕ) (x : Option Event) (e : Event) → before end x ≡ Some e → (x ≡ Some e) × (e.key.time < end)
 before_some end None e h = cc
-before_some end (Some d) e h = let k = keep_some (nat_lt d.key.time end) d e h in (ap Some k.1, subst (λ (f : Event). f.key.time < end) k.1 (ltb-true _ _ k.0))
+before_some end (Some d) e h = let k = keep_some (nat_lt d.key.time end) d e h in
+    (ap Some k.1, subst (λ (f : Event). f.key.time < end) k.1 (ltb-true _ _ k.0))
 
 pub before_more : (end until : ℕ) → end ≤ until → (x : Option Event) (e : Event) → before end x ≡ Some e → before until x ≡ Some e
 before_more end until le x e h = let b = before_some end x e h in

@@ -1,22 +1,27 @@
 -- After a step no event that is pending has its key; and what a step does to inbox, script and packet count.
-use Rattle.std.proofs.Common.{◌≡◌, ℕ, zero, suc, ◌<◌, ◌≤◌, ◌+◌, ◌/◌, ◌^◌, min, Bool, true, false, cond, not, T, List, [], ◌∷◌, map, refl, sym, ap, ◌∙◌, subst, ◌≢◌, ◌⊎◌, inl, inr, arith, Less, Equal, Greater, Option, Some, None, nat_lt, is_lt, true≢false}
+use Rattle.std.proofs.Common.{◌≡◌, ℕ, zero, suc, ◌<◌, ◌≤◌, ◌+◌, ◌/◌, ◌^◌, min, Bool, true, false, cond, not, T, List, [], ◌∷◌, map, refl}
+use Rattle.std.proofs.Common.{sym, ap, ◌∙◌, subst, ◌≢◌, ◌⊎◌, inl, inr, arith, Less, Equal, Greater, Option, Some, None, nat_lt, is_lt}
+use Rattle.std.proofs.Common.{true≢false}
 use Rattle.std.specs.Ordering.{eq_by_cmp, is_eq, ordering_reverse}
 use Rattle.std.specs.FinMap.Entries.{put, find, by_order, is_sorted, below_all}
 use Rattle.rand_pcg.specs.Pcg.{pcg32}
 use Rattle.srm_cell.proofs.CellLemmas.{first_timer, next_event_is}
 use Rattle.srm_cell.proofs.Rising.{Above, OnEvent, OnStep, earlier_on, step_above}
-use Rattle.srm_cell.specs.Cells.{arrival_key, mark_key, timer_key, Done, Event, Full, PlainCell, Stepped, before, cause_of_timer, first_arrival, first_mark, handle, next_event, sending_step, step_at}
+use Rattle.srm_cell.specs.Cells.{arrival_key, mark_key, timer_key, Done, Event, Full, PlainCell, Stepped, before, cause_of_timer}
+use Rattle.srm_cell.specs.Cells.{first_arrival, first_mark, handle, next_event, sending_step, step_at}
 use Rattle.srm_cell.proofs.Tidy.{NotBefore, flight_keys, mark_keys}
 use Rattle.srm_cell.specs.Flights.{flight_cmp}
 use Rattle.srm_cell.specs.Setting.{HasOwnRanks}
 use Rattle.srm_cell.specs.declared.flight.Flight.{Flight}
 use Rattle.srm_member.proofs.AllIn.{AllIn, AllIn-append, AllIn-each, AllIn-map, AllIn-weaker}
 use Rattle.srm_member.proofs.Bounds.{draw_pos}
-use Rattle.srm_member.proofs.FewerTimers.{In, IsSound, SoundRecord, T_first, T_less, T_second, found, in_append, in_map, name_self, name_total, no_table}
+use Rattle.srm_member.proofs.FewerTimers.{In, IsSound, SoundRecord, T_first, T_less, T_second, found, in_append, in_map, name_self}
+use Rattle.srm_member.proofs.FewerTimers.{name_total, no_table}
 use Rattle.srm_member.proofs.LawProofs.{as_active}
 use Rattle.srm_member.proofs.OrderLemmas.{key_total, same_numbers}
 use Rattle.srm_net.specs.Roles.{is_listener}
-use Rattle.srm_member.specs.React.{Reaction, answering, answering_at, asking, asking_at, back_off, distance_to, react, request_length, resting, without}
+use Rattle.srm_member.specs.React.{Reaction, answering, answering_at, asking, asking_at, back_off, distance_to, react, request_length}
+use Rattle.srm_member.specs.React.{resting, without}
 use Rattle.srm_member.specs.declared.entries.Missing.{Missing}
 use Rattle.srm_member.specs.declared.entries.Repairing.{Repairing}
 use Rattle.srm_member.specs.Record.{Active, Gone, Memory, Record, timers, timers_of}
@@ -71,10 +76,12 @@ then_after k l h ne = elim (key_cmp k l) as (λ r. key_cmp k l ≡ r → key_cmp
 ] refl
 
 -- timers of two names at one tick and of one rank have different keys
-pub timer_differs : (m rank t : ℕ) (n k : Name) (u : ℕ) → (name_cmp n k ≡ Equal → u ≢ t) → Differs (timer_key m (record { time = t; rank = rank; name = n })) (timer_key m (record { time = u; rank = rank; name = k }))
+pub timer_differs : (m rank t : ℕ) (n k : Name) (u : ℕ) → (name_cmp n k ≡ Equal → u ≢ t)
+    → Differs (timer_key m (record { time = t; rank = rank; name = n })) (timer_key m (record { time = u; rank = rank; name = k }))
 unfolding nth_number
 timer_differs m rank t n k u apart e =
-    let same = same_keys (timer_key m (record { time = t; rank = rank; name = n })) (timer_key m (record { time = u; rank = rank; name = k })) e in
+    let same = same_keys (timer_key m (record { time = t; rank = rank; name = n }))
+    (timer_key m (record { time = u; rank = rank; name = k })) e in
     let source : n.source ≡ k.source = ap (nth_number 3) same in
     let page : n.page ≡ k.page = ap (nth_number 4) same in
     let number : n.number ≡ k.number = ap (nth_number 5) same in
@@ -87,7 +94,8 @@ module _ {V : Type 0} (p : V → Type 0) where
   abbrev Clear : Name → (Name × V) → Type 0
   Clear n e = name_cmp n e.0 ≡ Equal → p e.1
 
-  below_clear : (n k : Name) (es : List (Name × V)) → (name_cmp n k ≡ Less) ⊎ (name_cmp n k ≡ Equal) → T (below_all name_cmp k es) → AllIn (Clear n) es
+  below_clear : (n k : Name) (es : List (Name × V)) → (name_cmp n k ≡ Less) ⊎ (name_cmp n k ≡ Equal) → T (below_all name_cmp k es)
+      → AllIn (Clear n) es
   below_clear n k [] h s = tt
   below_clear n k (e ∷ es) h s =
       let ke = T_less _ (T_first _ _ s) in
@@ -96,18 +104,20 @@ module _ {V : Type 0} (p : V → Type 0) where
 
   put_clear : (n : Name) (v : V) (es : List (Name × V)) → T (is_sorted name_cmp es) → p v → AllIn (Clear n) (put name_cmp n v es)
   put_clear n v [] s h = ((λ q. h), tt)
-  put_clear n v (e ∷ es) s h = elim (name_cmp n e.0) as (λ r. name_cmp n e.0 ≡ r → AllIn (Clear n) (by_order r ((n, v) ∷ e ∷ es) ((e.0, v) ∷ es) (e ∷ put name_cmp n v es))) [
-    | Less ↦ λ q. ((λ x. h), ((λ x. let y : Less ≡ Equal = sym q ∙ x in cc), below_clear n e.0 es (inl q) (T_first _ _ s)))
-    | Equal ↦ λ q. ((λ x. h), below_clear n e.0 es (inr q) (T_first _ _ s))
-    | Greater ↦ λ q. ((λ x. let y : Greater ≡ Equal = sym q ∙ x in cc), put_clear n v es (T_second _ _ s) h)
-  ] refl
+  put_clear n v (e ∷ es) s h = elim (name_cmp n e.0) as (λ r. name_cmp n e.0 ≡ r
+      → AllIn (Clear n) (by_order r ((n, v) ∷ e ∷ es) ((e.0, v) ∷ es) (e ∷ put name_cmp n v es))) [
+        | Less ↦ λ q. ((λ x. h), ((λ x. let y : Less ≡ Equal = sym q ∙ x in cc), below_clear n e.0 es (inl q) (T_first _ _ s)))
+        | Equal ↦ λ q. ((λ x. h), below_clear n e.0 es (inr q) (T_first _ _ s))
+        | Greater ↦ λ q. ((λ x. let y : Greater ≡ Equal = sym q ∙ x in cc), put_clear n v es (T_second _ _ s) h)
+      ] refl
 
   without_clear : (n : Name) (es : List (Name × V)) → AllIn (Clear n) (without n es)
   without_clear n [] = tt
-  without_clear n (e ∷ es) = elim (eq_by_cmp name_cmp n e.0) as (λ b. eq_by_cmp name_cmp n e.0 ≡ b → AllIn (Clear n) (cond (not b) (e ∷ without n es) (without n es))) [
-    | true ↦ λ q. without_clear n es
-    | false ↦ λ q. ((λ x. absurd (true≢false (sym (ap is_eq x) ∙ q))), without_clear n es)
-  ] refl
+  without_clear n (e ∷ es) = elim (eq_by_cmp name_cmp n e.0) as
+      (λ b. eq_by_cmp name_cmp n e.0 ≡ b → AllIn (Clear n) (cond (not b) (e ∷ without n es) (without n es))) [
+        | true ↦ λ q. without_clear n es
+        | false ↦ λ q. ((λ x. absurd (true≢false (sym (ap is_eq x) ∙ q))), without_clear n es)
+      ] refl
 
 -- ---- after a timer is handled, no timer has its key
 
@@ -121,41 +131,58 @@ module _ (m t : ℕ) (mem : Memory) (sound : IsSound mem) (n : Name) where
   abbrev ClearOf : Key → Memory → Type 0
   ClearOf k r = AllIn (λ d. Differs k (timer_key m d)) (timers_of r)
 
-  clear_of : (k : Key) (r : Memory) → AllIn (λ e. Differs k (timer_key m (record { time = e.1.expiry; rank = 2; name = e.0 }))) r.missing → AllIn (λ e. Differs k (timer_key m (record { time = e.1.expiry; rank = 3; name = e.0 }))) r.repairs → ClearOf k r
-  clear_of k r h g = AllIn-append (λ d. Differs k (timer_key m d)) _ _ (AllIn-map (λ d. Differs k (timer_key m d)) _ r.missing h) (AllIn-map (λ d. Differs k (timer_key m d)) _ r.repairs g)
+  clear_of : (k : Key) (r : Memory) → AllIn (λ e. Differs k (timer_key m (record { time = e.1.expiry; rank = 2; name = e.0 }))) r.missing
+      → AllIn (λ e. Differs k (timer_key m (record { time = e.1.expiry; rank = 3; name = e.0 }))) r.repairs → ClearOf k r
+  clear_of k r h g = AllIn-append (λ d. Differs k (timer_key m d)) _ _ (AllIn-map (λ d. Differs k (timer_key m d)) _ r.missing h)
+      (AllIn-map (λ d. Differs k (timer_key m d)) _ r.repairs g)
 
-  asked_clear : (w : Missing) → In (n, w) mem.missing → (o : Option Missing) → find name_cmp n mem.missing ≡ o → ClearOf AskKey (asking_at t n mem o).memory
+  asked_clear : (w : Missing) → In (n, w) mem.missing → (o : Option Missing) → find name_cmp n mem.missing ≡ o
+      → ClearOf AskKey (asking_at t n mem o).memory
   asked_clear w h None e = absurd (found (λ (x : Missing). true) n w mem.missing h e)
   asked_clear w h (Some x) e =
       let len = request_length mem (min (x.backoffs + 1) 10) n in
-      let lt : t < t + len = (let one = draw_pos (pcg32 mem.words).0 (span (min (x.backoffs + 1) 10) mem.fixed.c1 mem.fixed.c2 (distance_to mem n.source)) in omega arith) in
+      let lt : t < t + len = (let one = draw_pos (pcg32 mem.words).0
+      (span (min (x.backoffs + 1) 10) mem.fixed.c1 mem.fixed.c2 (distance_to mem n.source)) in omega arith) in
       let v : Missing = record { detected = x.detected; expiry = t + len; backoffs = min (x.backoffs + 1) 10; ignore = t + len / 2 } in
       clear_of AskKey (back_off t n x mem)
-      (AllIn-weaker (Clear (λ (y : Missing). y.expiry ≢ t) n) (λ e. Differs AskKey (timer_key m (record { time = e.1.expiry; rank = 2; name = e.0 }))) (λ e c. timer_differs m 2 t n e.0 e.1.expiry c) (put name_cmp n v mem.missing)
+      (AllIn-weaker (Clear (λ (y : Missing). y.expiry ≢ t) n)
+      (λ e. Differs AskKey (timer_key m (record { time = e.1.expiry; rank = 2; name = e.0 })))
+      (λ e c. timer_differs m 2 t n e.0 e.1.expiry c) (put name_cmp n v mem.missing)
       (put_clear (λ (y : Missing). y.expiry ≢ t) n v mem.missing sound.asks (λ q. omega arith)))
-      (AllIn-each (λ e. Differs AskKey (timer_key m (record { time = e.1.expiry; rank = 3; name = e.0 }))) (λ e. differ_rank AskKey (timer_key m (record { time = e.1.expiry; rank = 3; name = e.0 })) (λ q. let r : ◌≡◌ {A = ℕ} 2 3 = q in omega arith)) mem.repairs)
+      (AllIn-each (λ e. Differs AskKey (timer_key m (record { time = e.1.expiry; rank = 3; name = e.0 })))
+      (λ e. differ_rank AskKey (timer_key m (record { time = e.1.expiry; rank = 3; name = e.0 }))
+      (λ q. let r : ◌≡◌ {A = ℕ} 2 3 = q in omega arith)) mem.repairs)
 
-  answered_clear : (w : Repairing) → In (n, w) mem.repairs → (o : Option Repairing) → find name_cmp n mem.repairs ≡ o → ClearOf AnswerKey (answering_at t n mem o).memory
+  answered_clear : (w : Repairing) → In (n, w) mem.repairs → (o : Option Repairing) → find name_cmp n mem.repairs ≡ o
+      → ClearOf AnswerKey (answering_at t n mem o).memory
   answered_clear w h None e = absurd (found (λ (x : Repairing). true) n w mem.repairs h e)
   answered_clear w h (Some x) e =
       clear_of AnswerKey (resting t n mem.fixed.member mem)
-      (AllIn-each (λ e. Differs AnswerKey (timer_key m (record { time = e.1.expiry; rank = 2; name = e.0 }))) (λ e. differ_rank AnswerKey (timer_key m (record { time = e.1.expiry; rank = 2; name = e.0 })) (λ q. let r : ◌≡◌ {A = ℕ} 3 2 = q in omega arith)) mem.missing)
-      (AllIn-weaker (Clear (λ (y : Repairing). y.expiry ≢ t) n) (λ e. Differs AnswerKey (timer_key m (record { time = e.1.expiry; rank = 3; name = e.0 }))) (λ e c. timer_differs m 3 t n e.0 e.1.expiry c) (without n mem.repairs)
+      (AllIn-each (λ e. Differs AnswerKey (timer_key m (record { time = e.1.expiry; rank = 2; name = e.0 })))
+      (λ e. differ_rank AnswerKey (timer_key m (record { time = e.1.expiry; rank = 2; name = e.0 }))
+      (λ q. let r : ◌≡◌ {A = ℕ} 3 2 = q in omega arith)) mem.missing)
+      (AllIn-weaker (Clear (λ (y : Repairing). y.expiry ≢ t) n)
+      (λ e. Differs AnswerKey (timer_key m (record { time = e.1.expiry; rank = 3; name = e.0 })))
+      (λ e c. timer_differs m 3 t n e.0 e.1.expiry c) (without n mem.repairs)
       (without_clear (λ (y : Repairing). y.expiry ≢ t) n mem.repairs))
 
   pub asks_clear : (w : Missing) → In (n, w) mem.missing → ClearOf AskKey (react mem t (Ask n)).memory
   unfolding asking
-  asks_clear w h = elim (is_listener mem.fixed.role) as (λ b. is_listener mem.fixed.role ≡ b → ClearOf AskKey (react mem t (Ask n)).memory) [
-    | true ↦ λ l. absurd (no_table (n, w) mem.missing (sound.listener l).0 h)
-    | false ↦ λ l. subst (λ (r : Reaction). ClearOf AskKey r.memory) (sym (as_active mem t (Ask n) l)) (asked_clear w h (find name_cmp n mem.missing) refl)
-  ] refl
+  asks_clear w h = let role = mem.fixed.role in
+      elim (is_listener role) as (λ b. is_listener role ≡ b → ClearOf AskKey (react mem t (Ask n)).memory) [
+        | true ↦ λ l. absurd (no_table (n, w) mem.missing (sound.listener l).0 h)
+        | false ↦ λ l. subst (λ (r : Reaction). ClearOf AskKey r.memory) (sym (as_active mem t (Ask n) l))
+            (asked_clear w h (find name_cmp n mem.missing) refl)
+      ] refl
 
   pub answers_clear : (w : Repairing) → In (n, w) mem.repairs → ClearOf AnswerKey (react mem t (Answer n)).memory
   unfolding answering
-  answers_clear w h = elim (is_listener mem.fixed.role) as (λ b. is_listener mem.fixed.role ≡ b → ClearOf AnswerKey (react mem t (Answer n)).memory) [
-    | true ↦ λ l. absurd (no_table (n, w) mem.repairs (sound.listener l).1 h)
-    | false ↦ λ l. subst (λ (r : Reaction). ClearOf AnswerKey r.memory) (sym (as_active mem t (Answer n) l)) (answered_clear w h (find name_cmp n mem.repairs) refl)
-  ] refl
+  answers_clear w h = elim (is_listener mem.fixed.role) as (λ b. is_listener mem.fixed.role ≡ b
+      → ClearOf AnswerKey (react mem t (Answer n)).memory) [
+        | true ↦ λ l. absurd (no_table (n, w) mem.repairs (sound.listener l).1 h)
+        | false ↦ λ l. subst (λ (r : Reaction). ClearOf AnswerKey r.memory) (sym (as_active mem t (Answer n) l))
+            (answered_clear w h (find name_cmp n mem.repairs) refl)
+      ] refl
 
 -- ---- cells in which no two pending events have one key
 
@@ -171,7 +198,8 @@ Besides m c e =
     ⊎ ((e.rest ≡ c) × (AllIn (λ f. Differs e.key (arrival_key m f)) c.inbox) × (AllIn (λ k. Differs e.key (mark_key m k)) c.script)
     × ((d : Due) × In d (timers c.holds) × (e.key ≡ timer_key m d) × (e.cause ≡ Some (cause_of_timer d.rank d.name))))
 
-pub flights_differ : (m : ℕ) (f : Flight) (fs : List Flight) → AllAfter flight_cmp f fs → AllIn (λ g. Differs (arrival_key m f) (arrival_key m g)) fs
+pub flights_differ : (m : ℕ) (f : Flight) (fs : List Flight) → AllAfter flight_cmp f fs
+    → AllIn (λ g. Differs (arrival_key m f) (arrival_key m g)) fs
 flights_differ m f [] h = tt
 flights_differ m f (g ∷ gs) h = ((λ e. let x : Less ≡ Equal = sym h.0 ∙ sym (flight_keys m f g) ∙ e in cc), flights_differ m f gs h.1)
 
@@ -182,7 +210,11 @@ marks_differ m k (l ∷ ls) h = ((λ e. let x : Less ≡ Equal = sym h.0 ∙ sym
 -- marks have other ranks than arrivals and timers
 pub marks_apart : (m : ℕ) (k : Key) (ks : List Mark) → HasOwnRanks ks → 0 < k.rank → k.rank ≤ 3 → AllIn (λ l. Differs k (mark_key m l)) ks
 marks_apart m k [] h low high = tt
-marks_apart m k (l ∷ ls) h low high = (differ_rank k (mark_key m l) (λ e. elim h.0 [ inl z ↦ (let q : k.rank ≡ l.rank = e in omega arith) | inr z ↦ (let q : k.rank ≡ l.rank = e in omega arith) ]), marks_apart m k ls h.1 low high)
+marks_apart m k (l ∷ ls) h low high = (
+  differ_rank k (mark_key m l)
+      (λ e. elim h.0 [ inl z ↦ (let q : k.rank ≡ l.rank = e in omega arith) | inr z ↦ (let q : k.rank ≡ l.rank = e in omega arith) ]),
+  marks_apart m k ls h.1 low high,
+)
 
 -- a cell's timers have ranks 2 and 3
 pub due_ranks : (holds : Record) → AllIn (λ (d : Due). (d.rank ≡ 2) ⊎ (d.rank ≡ 3)) (timers holds)
@@ -191,48 +223,63 @@ due_ranks (Active m) = AllIn-append (λ (d : Due). (d.rank ≡ 2) ⊎ (d.rank �
     (AllIn-map (λ (d : Due). (d.rank ≡ 2) ⊎ (d.rank ≡ 3)) _ m.repairs (AllIn-each _ (λ e. inr refl) m.repairs))
 due_ranks (Gone f) = tt
 
-pub dues_apart : (m : ℕ) (k : Key) (ds : List Due) → k.rank ≢ 2 → k.rank ≢ 3 → AllIn (λ (d : Due). (d.rank ≡ 2) ⊎ (d.rank ≡ 3)) ds → AllIn (λ d. Differs k (timer_key m d)) ds
-dues_apart m k ds two three h = AllIn-weaker (λ (d : Due). (d.rank ≡ 2) ⊎ (d.rank ≡ 3)) (λ d. Differs k (timer_key m d)) (λ d r. differ_rank k (timer_key m d) (λ e. elim r [ inl q ↦ two (e ∙ q) | inr q ↦ three (e ∙ q) ])) ds h
+pub dues_apart : (m : ℕ) (k : Key) (ds : List Due) → k.rank ≢ 2 → k.rank ≢ 3 → AllIn (λ (d : Due). (d.rank ≡ 2) ⊎ (d.rank ≡ 3)) ds
+    → AllIn (λ d. Differs k (timer_key m d)) ds
+dues_apart m k ds two three h = AllIn-weaker (λ (d : Due). (d.rank ≡ 2) ⊎ (d.rank ≡ 3)) (λ d. Differs k (timer_key m d))
+    (λ d r. differ_rank k (timer_key m d) (λ e. elim r [ inl q ↦ two (e ∙ q) | inr q ↦ three (e ∙ q) ])) ds h
 
 rank_in : (d : Due) (ds : List Due) → AllIn (λ (d : Due). (d.rank ≡ 2) ⊎ (d.rank ≡ 3)) ds → In d ds → (d.rank ≡ 2) ⊎ (d.rank ≡ 3)
 rank_in d [] h g = absurd g
 rank_in d (x ∷ ds) h (inl e) = subst (λ (d : Due). (d.rank ≡ 2) ⊎ (d.rank ≡ 3)) e h.0
 rank_in d (x ∷ ds) h (inr g) = rank_in d ds h.1 g
 
-arrival_besides : (m : ℕ) (c : PlainCell) (fs : List Flight) → IsDistinct c → Ascends flight_cmp fs → OnEvent (Besides m c) (first_arrival m c fs)
+arrival_besides : (m : ℕ) (c : PlainCell) (fs : List Flight) → IsDistinct c → Ascends flight_cmp fs
+    → OnEvent (Besides m c) (first_arrival m c fs)
 arrival_besides m c [] t a = tt
 arrival_besides m c (f ∷ fs) t a = inl (record {
   flights = flights_differ m f fs a.0;
   marks = marks_apart m (arrival_key m f) c.script t.ranks (omega arith) (omega arith);
-  dues = dues_apart m (arrival_key m f) (timers c.holds) (λ e. let q : 1 ≡ 2 = e in omega arith) (λ e. let q : 1 ≡ 3 = e in omega arith) (due_ranks c.holds);
+  dues = dues_apart m (arrival_key m f) (timers c.holds) (λ e. let q : 1 ≡ 2 = e in omega arith) (λ e. let q : 1 ≡ 3 = e in omega arith)
+      (due_ranks c.holds);
 })
 
-mark_besides : (m : ℕ) (c : PlainCell) (ks : List Mark) → IsDistinct c → Ascends mark_cmp ks → HasOwnRanks ks → OnEvent (Besides m c) (first_mark m c ks)
+mark_besides : (m : ℕ) (c : PlainCell) (ks : List Mark) → IsDistinct c → Ascends mark_cmp ks → HasOwnRanks ks
+    → OnEvent (Besides m c) (first_mark m c ks)
 mark_besides m c [] t a r = tt
 mark_besides m c (k ∷ ks) t a r =
     let own = r.0 in
     inl (record {
-      flights = AllIn-each (λ f. Differs (mark_key m k) (arrival_key m f)) (λ f. differ_rank (mark_key m k) (arrival_key m f) (λ e. let q : k.rank ≡ 1 = e in elim own [ inl z ↦ omega arith | inr z ↦ omega arith ])) c.inbox;
+      flights = AllIn-each (λ f. Differs (mark_key m k) (arrival_key m f))
+          (λ f. differ_rank (mark_key m k) (arrival_key m f)
+          (λ e. let q : k.rank ≡ 1 = e in elim own [ inl z ↦ omega arith | inr z ↦ omega arith ])) c.inbox;
       marks = marks_differ m k ks a.0;
-      dues = dues_apart m (mark_key m k) (timers c.holds) (λ e. let q : k.rank ≡ 2 = e in elim own [ inl z ↦ omega arith | inr z ↦ omega arith ]) (λ e. let q : k.rank ≡ 3 = e in elim own [ inl z ↦ omega arith | inr z ↦ omega arith ]) (due_ranks c.holds);
+      dues = dues_apart m (mark_key m k) (timers c.holds)
+          (λ e. let q : k.rank ≡ 2 = e in elim own [ inl z ↦ omega arith | inr z ↦ omega arith ])
+          (λ e. let q : k.rank ≡ 3 = e in elim own [ inl z ↦ omega arith | inr z ↦ omega arith ]) (due_ranks c.holds);
     })
 
-timer_besides : (m : ℕ) (c : PlainCell) (ds : List Due) → IsDistinct c → ((d : Due) → In d ds → In d (timers c.holds)) → OnEvent (Besides m c) (first_timer m c ds)
+timer_besides : (m : ℕ) (c : PlainCell) (ds : List Due) → IsDistinct c → ((d : Due) → In d ds → In d (timers c.holds))
+    → OnEvent (Besides m c) (first_timer m c ds)
 timer_besides m c [] t h = tt
 timer_besides m c (d ∷ ds) t h =
     let rank = rank_in d (timers c.holds) (due_ranks c.holds) (h d (inl refl)) in
     earlier_on (Besides m c) (Some _) (first_timer m c ds)
     (inr (
       refl,
-      AllIn-each (λ f. Differs (timer_key m d) (arrival_key m f)) (λ f. differ_rank (timer_key m d) (arrival_key m f) (λ e. let q : d.rank ≡ 1 = e in elim rank [ inl z ↦ omega arith | inr z ↦ omega arith ])) c.inbox,
-      marks_apart m (timer_key m d) c.script t.ranks (elim rank [ inl z ↦ omega arith | inr z ↦ omega arith ]) (elim rank [ inl z ↦ omega arith | inr z ↦ omega arith ]),
+      AllIn-each (λ f. Differs (timer_key m d) (arrival_key m f))
+          (λ f. differ_rank (timer_key m d) (arrival_key m f)
+          (λ e. let q : d.rank ≡ 1 = e in elim rank [ inl z ↦ omega arith | inr z ↦ omega arith ])) c.inbox,
+      marks_apart m (timer_key m d) c.script t.ranks (elim rank [ inl z ↦ omega arith | inr z ↦ omega arith ])
+          (elim rank [ inl z ↦ omega arith | inr z ↦ omega arith ]),
       (d, h d (inl refl), refl, refl),
     ))
     (timer_besides m c ds t (λ x g. h x (inr g)))
 
 pub next_besides : (m : ℕ) (c : PlainCell) → IsDistinct c → OnEvent (Besides m c) (next_event m c)
-next_besides m c t = subst (OnEvent (Besides m c)) (sym (next_event_is m c)) (earlier_on (Besides m c) (first_arrival m c c.inbox) _ (arrival_besides m c c.inbox t t.flights)
-    (earlier_on (Besides m c) (first_mark m c c.script) (first_timer m c (timers c.holds)) (mark_besides m c c.script t t.marks t.ranks) (timer_besides m c (timers c.holds) t (λ d h. h))))
+next_besides m c t = subst (OnEvent (Besides m c)) (sym (next_event_is m c))
+    (earlier_on (Besides m c) (first_arrival m c c.inbox) _ (arrival_besides m c c.inbox t t.flights)
+    (earlier_on (Besides m c) (first_mark m c c.script) (first_timer m c (timers c.holds)) (mark_besides m c c.script t t.marks t.ranks)
+    (timer_besides m c (timers c.holds) t (λ d h. h))))
 
 -- ---- after a step its key is pending no more
 
@@ -243,7 +290,8 @@ clear_by : (m : ℕ) (k : Key) (b : Bool) (x : Stepped) → ClearIn m k x → On
 clear_by m k true x h = h
 clear_by m k false x h = tt
 
-clear_sending : (m : ℕ) (k : Key) (e : Event) (r : Reaction) (body : Option Body) → AllIn (λ f. Differs k (arrival_key m f)) e.rest.inbox → AllIn (λ l. Differs k (mark_key m l)) e.rest.script
+clear_sending : (m : ℕ) (k : Key) (e : Event) (r : Reaction) (body : Option Body) → AllIn (λ f. Differs k (arrival_key m f)) e.rest.inbox
+    → AllIn (λ l. Differs k (mark_key m l)) e.rest.script
     → AllIn (λ d. Differs k (timer_key m d)) (timers_of r.memory) → OnStep (ClearIn m k) (sending_step e r body)
 clear_sending m k e r None f l d = record { flights = f; marks = l; dues = d }
 clear_sending m k e r (Some body) f l d = clear_by m k (nat_lt e.rest.sent (2 ^ 48)) _ (record { flights = f; marks = l; dues = d })
@@ -254,26 +302,36 @@ clear_cause m e mem sound d h q = elim (in_append d (map (λ e. record { time = 
   | inl g ↦
       let r = in_map (λ (e : Name × Missing). record { time = e.1.expiry; rank = 2; name = e.0 }) d mem.missing g in
       let is : e.key ≡ timer_key m (record { time = r.0.1.expiry; rank = 2; name = r.0.0 }) = q ∙ ap (timer_key m) (sym r.2) in
-      let now : e.key ≡ timer_key m (record { time = e.key.time; rank = 2; name = r.0.0 }) = is ∙ ap (λ t. timer_key m (record { time = t; rank = 2; name = r.0.0 })) (sym (ap (λ (k : Key). k.time) is)) in
-      subst (λ (d : Due). AllIn (λ x. Differs e.key (timer_key m x)) (timers_of (react mem e.key.time (cause_of_timer d.rank d.name)).memory)) r.2
-      (subst (λ k. AllIn (λ x. Differs k (timer_key m x)) (timers_of (react mem e.key.time (Ask r.0.0)).memory)) (sym now) (asks_clear m e.key.time mem sound r.0.0 r.0.1 r.1))
+      let now : e.key ≡ timer_key m (record { time = e.key.time; rank = 2; name = r.0.0 }) = is
+      ∙ ap (λ t. timer_key m (record { time = t; rank = 2; name = r.0.0 })) (sym (ap (λ (k : Key). k.time) is)) in
+      subst (λ (d : Due). AllIn (λ x. Differs e.key (timer_key m x))
+      (timers_of (react mem e.key.time (cause_of_timer d.rank d.name)).memory)) r.2
+      (subst (λ k. AllIn (λ x. Differs k (timer_key m x)) (timers_of (react mem e.key.time (Ask r.0.0)).memory)) (sym now)
+      (asks_clear m e.key.time mem sound r.0.0 r.0.1 r.1))
   | inr g ↦
       let r = in_map (λ (e : Name × Repairing). record { time = e.1.expiry; rank = 3; name = e.0 }) d mem.repairs g in
       let is : e.key ≡ timer_key m (record { time = r.0.1.expiry; rank = 3; name = r.0.0 }) = q ∙ ap (timer_key m) (sym r.2) in
-      let now : e.key ≡ timer_key m (record { time = e.key.time; rank = 3; name = r.0.0 }) = is ∙ ap (λ t. timer_key m (record { time = t; rank = 3; name = r.0.0 })) (sym (ap (λ (k : Key). k.time) is)) in
-      subst (λ (d : Due). AllIn (λ x. Differs e.key (timer_key m x)) (timers_of (react mem e.key.time (cause_of_timer d.rank d.name)).memory)) r.2
-      (subst (λ k. AllIn (λ x. Differs k (timer_key m x)) (timers_of (react mem e.key.time (Answer r.0.0)).memory)) (sym now) (answers_clear m e.key.time mem sound r.0.0 r.0.1 r.1))
+      let now : e.key ≡ timer_key m (record { time = e.key.time; rank = 3; name = r.0.0 }) = is
+      ∙ ap (λ t. timer_key m (record { time = t; rank = 3; name = r.0.0 })) (sym (ap (λ (k : Key). k.time) is)) in
+      subst (λ (d : Due). AllIn (λ x. Differs e.key (timer_key m x))
+      (timers_of (react mem e.key.time (cause_of_timer d.rank d.name)).memory)) r.2
+      (subst (λ k. AllIn (λ x. Differs k (timer_key m x)) (timers_of (react mem e.key.time (Answer r.0.0)).memory)) (sym now)
+      (answers_clear m e.key.time mem sound r.0.0 r.0.1 r.1))
 ]
 
-clear_handle : (m : ℕ) (e : Event) (holds : Record) (cause : Option Cause) → AllIn (λ f. Differs e.key (arrival_key m f)) e.rest.inbox → AllIn (λ l. Differs e.key (mark_key m l)) e.rest.script
-    → SoundRecord holds → (d : Due) → In d (timers holds) → e.key ≡ timer_key m d → cause ≡ Some (cause_of_timer d.rank d.name) → OnStep (ClearIn m e.key) (handle e holds cause)
+clear_handle : (m : ℕ) (e : Event) (holds : Record) (cause : Option Cause) → AllIn (λ f. Differs e.key (arrival_key m f)) e.rest.inbox
+    → AllIn (λ l. Differs e.key (mark_key m l)) e.rest.script
+    → SoundRecord holds → (d : Due) → In d (timers holds) → e.key ≡ timer_key m d → cause ≡ Some (cause_of_timer d.rank d.name)
+    → OnStep (ClearIn m e.key) (handle e holds cause)
 unfolding handle
 clear_handle m e (Gone f) cause fs ks s d h q c = absurd h
 clear_handle m e (Active mem) None fs ks s d h q c = cc
 clear_handle m e (Active mem) (Some cause) fs ks s d h q c =
     let same : cause ≡ cause_of_timer d.rank d.name = cc in
     let r = react mem e.key.time cause in
-    clear_sending m e.key e r r.answer.body fs ks (subst (λ k. AllIn (λ x. Differs e.key (timer_key m x)) (timers_of (react mem e.key.time k).memory)) (sym same) (clear_cause m e mem s d h q))
+    clear_sending m e.key e r r.answer.body fs ks
+    (subst (λ k. AllIn (λ x. Differs e.key (timer_key m x)) (timers_of (react mem e.key.time k).memory)) (sym same)
+    (clear_cause m e mem s d h q))
 
 pub clear_step : (m : ℕ) (c : PlainCell) (e : Event) → SoundRecord c.holds → Besides m c e → OnStep (ClearIn m e.key) (step_at (Some e))
 clear_step m c e sound (inl a) = step_above (Differs e.key) m e.key.time (later_differs e.key) e refl a
@@ -305,11 +363,14 @@ mark_rest m c (k ∷ ks) h = record { sent = refl; inbox = inl refl; script = in
 
 timer_rest : (m : ℕ) (c : PlainCell) (ds : List Due) → OnEvent (RestOf c) (first_timer m c ds)
 timer_rest m c [] = tt
-timer_rest m c (d ∷ ds) = earlier_on (RestOf c) (Some _) (first_timer m c ds) (record { sent = refl; inbox = inl refl; script = inl refl }) (timer_rest m c ds)
+timer_rest m c (d ∷ ds) = earlier_on (RestOf c) (Some _) (first_timer m c ds) (record { sent = refl; inbox = inl refl; script = inl refl })
+    (timer_rest m c ds)
 
 pub next_rest : (m : ℕ) (c : PlainCell) → OnEvent (RestOf c) (next_event m c)
-next_rest m c = subst (OnEvent (RestOf c)) (sym (next_event_is m c)) (earlier_on (RestOf c) (first_arrival m c c.inbox) _ (arrival_rest m c c.inbox refl)
-    (earlier_on (RestOf c) (first_mark m c c.script) (first_timer m c (timers c.holds)) (mark_rest m c c.script refl) (timer_rest m c (timers c.holds))))
+next_rest m c = subst (OnEvent (RestOf c)) (sym (next_event_is m c))
+    (earlier_on (RestOf c) (first_arrival m c c.inbox) _ (arrival_rest m c c.inbox refl)
+    (earlier_on (RestOf c) (first_mark m c c.script) (first_timer m c (timers c.holds)) (mark_rest m c c.script refl)
+    (timer_rest m c (timers c.holds))))
 
 -- the count after a step, by what it sent
 abbrev pub CountAfter : ℕ → Option Packet → ℕ → Type 0
@@ -327,7 +388,8 @@ step_of_by e false x h = tt
 
 step_of_sending : (e : Event) (r : Reaction) (body : Option Body) → OnStep (StepOf e) (sending_step e r body)
 step_of_sending e r None = record { inbox = refl; script = refl; count = refl }
-step_of_sending e r (Some body) = step_of_by e (nat_lt e.rest.sent (2 ^ 48)) _ (record { inbox = refl; script = refl; count = (refl, omega arith) })
+step_of_sending e r (Some body) = step_of_by e (nat_lt e.rest.sent (2 ^ 48)) _
+    (record { inbox = refl; script = refl; count = (refl, omega arith) })
 
 step_of_handle : (e : Event) (holds : Record) (cause : Option Cause) → OnStep (StepOf e) (handle e holds cause)
 unfolding handle

@@ -1,5 +1,6 @@
 -- Counting a packet link by link.
-use Rattle.std.proofs.Common.{◌≡◌, ℕ, zero, suc, ◌+◌, ◌*◌, ◌<◌, ◌≤◌, Bool, true, false, cond, ◌&&◌, ◌==◌, List, [], ◌∷◌, ◌++◌, length, refl, sym, ap, ◌∙◌, slice_index, nat_lt, lt-ltb, le-ltb, arith, add-zero, zero-add, le_refl, length-append}
+use Rattle.std.proofs.Common.{◌≡◌, ℕ, zero, suc, ◌+◌, ◌*◌, ◌<◌, ◌≤◌, Bool, true, false, cond, ◌&&◌, ◌==◌, List, [], ◌∷◌, ◌++◌, length, refl}
+use Rattle.std.proofs.Common.{sym, ap, ◌∙◌, slice_index, nat_lt, lt-ltb, le-ltb, arith, add-zero, zero-add, le_refl, length-append}
 use Rattle.std.specs.List.{flat_map, range_with_len, count_by}
 use Rattle.std.proofs.lemmas.List.Sums.{sum_by-append, count_by-le-length}
 use Rattle.srm_net.specs.declared.packet.Body.{Body}
@@ -20,7 +21,8 @@ count_more q xs x = sum_by-append (λ y. cond (q y) 1 0) xs (x ∷ []) ∙ ap (�
 
 head : (b : Body) (c d : Bool) (a0 a1 a2 a3 a4 : ℕ) (t : List ℕ)
     → bump d 4 (bump c (place_of (crossing_kind b)) (a0 ∷ a1 ∷ a2 ∷ a3 ∷ a4 ∷ t))
-    ≡ (a0 + one_if ((kind_of b == 0) && c)) ∷ (a1 + one_if ((kind_of b == 1) && c)) ∷ (a2 + one_if ((kind_of b == 2) && c)) ∷ (a3 + one_if ((kind_of b == 3) && c)) ∷ (a4 + one_if d) ∷ t
+    ≡ (a0 + one_if ((kind_of b == 0) && c)) ∷ (a1 + one_if ((kind_of b == 1) && c)) ∷ (a2 + one_if ((kind_of b == 2) && c)) ∷
+    (a3 + one_if ((kind_of b == 3) && c)) ∷ (a4 + one_if d) ∷ t
 head (Drawop n ink) true true a0 a1 a2 a3 a4 t = simp add-zero
 head (Drawop n ink) true false a0 a1 a2 a3 a4 t = simp add-zero
 head (Drawop n ink) false true a0 a1 a2 a3 a4 t = simp add-zero
@@ -39,12 +41,14 @@ head (Session hs) false true a0 a1 a2 a3 a4 t = simp add-zero
 head (Session hs) false false a0 a1 a2 a3 a4 t = simp add-zero
 
 -- the five numbers of a link are left as they are by a count at a later one
-skip : (b : Bool) (j i : ℕ) (a0 a1 a2 a3 a4 : ℕ) (t : List ℕ) → bump b (5 * suc j + i) (a0 ∷ a1 ∷ a2 ∷ a3 ∷ a4 ∷ t) ≡ a0 ∷ a1 ∷ a2 ∷ a3 ∷ a4 ∷ bump b (5 * j + i) t
+skip : (b : Bool) (j i : ℕ) (a0 a1 a2 a3 a4 : ℕ) (t : List ℕ) → bump b (5 * suc j + i) (a0 ∷ a1 ∷ a2 ∷ a3 ∷ a4 ∷ t)
+    ≡ a0 ∷ a1 ∷ a2 ∷ a3 ∷ a4 ∷ bump b (5 * j + i) t
 skip b j i a0 a1 a2 a3 a4 t =
     let e : 5 * suc j + i ≡ suc (suc (suc (suc (suc (5 * j + i))))) = omega arith in
     ap (λ n. bump b n (a0 ∷ a1 ∷ a2 ∷ a3 ∷ a4 ∷ t)) e ∙ by b
   where
-    by : (b : Bool) → bump b (suc (suc (suc (suc (suc (5 * j + i)))))) (a0 ∷ a1 ∷ a2 ∷ a3 ∷ a4 ∷ t) ≡ a0 ∷ a1 ∷ a2 ∷ a3 ∷ a4 ∷ bump b (5 * j + i) t
+    by : (b : Bool) → bump b (suc (suc (suc (suc (suc (5 * j + i)))))) (a0 ∷ a1 ∷ a2 ∷ a3 ∷ a4 ∷ t)
+        ≡ a0 ∷ a1 ∷ a2 ∷ a3 ∷ a4 ∷ bump b (5 * j + i) t
     by true = refl
     by false = refl
 
@@ -68,11 +72,13 @@ module _ (s : Traffic) (ps : List Packet) (p : Packet) where
 
   all_old : (k l n : ℕ) → k ≤ l → mixed k l n ≡ flat ps l n
   all_old k l zero le = refl
-  all_old k l (suc n) le = ap (λ b. crossings_at s (cond b all ps) l ++ mixed k (l + 1) n) (le-ltb l k le) ∙ ap (λ t. crossings_at s ps l ++ t) (all_old k (l + 1) n (omega arith))
+  all_old k l (suc n) le = ap (λ b. crossings_at s (cond b all ps) l ++ mixed k (l + 1) n) (le-ltb l k le)
+      ∙ ap (λ t. crossings_at s ps l ++ t) (all_old k (l + 1) n (omega arith))
 
   all_new : (k l n : ℕ) → l + n ≤ k → mixed k l n ≡ flat all l n
   all_new k l zero le = refl
-  all_new k l (suc n) le = ap (λ b. crossings_at s (cond b all ps) l ++ mixed k (l + 1) n) (lt-ltb l k (omega arith)) ∙ ap (λ t. crossings_at s all l ++ t) (all_new k (l + 1) n (omega arith))
+  all_new k l (suc n) le = ap (λ b. crossings_at s (cond b all ps) l ++ mixed k (l + 1) n) (lt-ltb l k (omega arith))
+      ∙ ap (λ t. crossings_at s all l ++ t) (all_new k (l + 1) n (omega arith))
 
   pub none_counted : mixed 0 0 s.links ≡ numbers_of s ps
   unfolding numbers_of
@@ -86,11 +92,15 @@ module _ (s : Traffic) (ps : List Packet) (p : Packet) where
   length_mixed k l zero = refl
   length_mixed k l (suc n) = let e = length_mixed k (l + 1) n in omega (arith, e)
 
-  here : (l : ℕ) (t : List ℕ) → bump (s.drops_at p l) 4 (bump (s.crosses p l) (place_of (crossing_kind p.body)) (crossings_at s ps l ++ t)) ≡ crossings_at s all l ++ t
-  here l t = head p.body (s.crosses p l) (s.drops_at p l) (crossed s 0 l ps) (crossed s 1 l ps) (crossed s 2 l ps) (crossed s 3 l ps) (dropped s l ps) t
-      ∙ (λ i. sym (crossed_more 0 l) i ∷ sym (crossed_more 1 l) i ∷ sym (crossed_more 2 l) i ∷ sym (crossed_more 3 l) i ∷ sym (dropped_more l) i ∷ t)
+  here : (l : ℕ) (t : List ℕ) → bump (s.drops_at p l) 4 (bump (s.crosses p l) (place_of (crossing_kind p.body)) (crossings_at s ps l ++ t))
+      ≡ crossings_at s all l ++ t
+  here l t = head p.body (s.crosses p l) (s.drops_at p l) (crossed s 0 l ps) (crossed s 1 l ps) (crossed s 2 l ps) (crossed s 3 l ps)
+      (dropped s l ps) t
+      ∙ (λ i. sym (crossed_more 0 l) i ∷ sym (crossed_more 1 l) i ∷ sym (crossed_more 2 l) i ∷ sym (crossed_more 3 l) i ∷ sym
+      (dropped_more l) i ∷ t)
 
-  more : (l j n : ℕ) → j < n → bump (s.drops_at p (l + j)) (5 * j + 4) (bump (s.crosses p (l + j)) (5 * j + place_of (crossing_kind p.body)) (mixed (l + j) l n)) ≡ mixed (l + j + 1) l n
+  more : (l j n : ℕ) → j < n → bump (s.drops_at p (l + j)) (5 * j + 4)
+      (bump (s.crosses p (l + j)) (5 * j + place_of (crossing_kind p.body)) (mixed (l + j) l n)) ≡ mixed (l + j + 1) l n
   more l j zero lt = absurd (omega arith)
   more l zero (suc n) lt =
       let e : l + 0 ≡ l = omega arith in
@@ -98,24 +108,34 @@ module _ (s : Traffic) (ps : List Packet) (p : Packet) where
       ap (λ m. bump (s.drops_at p m) 4 (bump (s.crosses p m) (5 * 0 + place_of (crossing_kind p.body)) (mixed m l (suc n)))) e
       ∙ ap (λ m. bump (s.drops_at p l) 4 (bump (s.crosses p l) m (mixed l l (suc n)))) z
       ∙ ap (λ x. bump (s.drops_at p l) 4 (bump (s.crosses p l) (place_of (crossing_kind p.body)) x))
-      (ap (λ b. crossings_at s (cond b all ps) l ++ mixed l (l + 1) n) (le-ltb l l (le_refl l)) ∙ ap (λ t. crossings_at s ps l ++ t) (all_old l (l + 1) n (omega arith)))
+      (ap (λ b. crossings_at s (cond b all ps) l ++ mixed l (l + 1) n) (le-ltb l l (le_refl l))
+      ∙ ap (λ t. crossings_at s ps l ++ t) (all_old l (l + 1) n (omega arith)))
       ∙ here l (flat ps (l + 1) n)
-      ∙ sym (ap (λ b. crossings_at s (cond b all ps) l ++ mixed (l + 0 + 1) (l + 1) n) (lt-ltb l (l + 0 + 1) (omega arith)) ∙ ap (λ t. crossings_at s all l ++ t) (all_old (l + 0 + 1) (l + 1) n (omega arith)))
+      ∙ sym (ap (λ b. crossings_at s (cond b all ps) l ++ mixed (l + 0 + 1) (l + 1) n) (lt-ltb l (l + 0 + 1) (omega arith))
+      ∙ ap (λ t. crossings_at s all l ++ t) (all_old (l + 0 + 1) (l + 1) n (omega arith)))
   more l (suc j) (suc n) lt =
       let e : l + suc j ≡ l + 1 + j = omega arith in
       let was : nat_lt l (l + suc j) ≡ true = lt-ltb l (l + suc j) (omega arith) in
       let now : nat_lt l (l + suc j + 1) ≡ true = lt-ltb l (l + suc j + 1) (omega arith) in
-      ap (λ b. bump (s.drops_at p (l + suc j)) (5 * suc j + 4) (bump (s.crosses p (l + suc j)) (5 * suc j + place_of (crossing_kind p.body)) (crossings_at s (cond b all ps) l ++ mixed (l + suc j) (l + 1) n))) was
-      ∙ ap (bump (s.drops_at p (l + suc j)) (5 * suc j + 4)) (skip (s.crosses p (l + suc j)) j (place_of (crossing_kind p.body)) (crossed s 0 l all) (crossed s 1 l all) (crossed s 2 l all) (crossed s 3 l all) (dropped s l all) (mixed (l + suc j) (l + 1) n))
-      ∙ skip (s.drops_at p (l + suc j)) j 4 (crossed s 0 l all) (crossed s 1 l all) (crossed s 2 l all) (crossed s 3 l all) (dropped s l all) (bump (s.crosses p (l + suc j)) (5 * j + place_of (crossing_kind p.body)) (mixed (l + suc j) (l + 1) n))
+      ap (λ b. bump (s.drops_at p (l + suc j)) (5 * suc j + 4)
+      (bump (s.crosses p (l + suc j)) (5 * suc j + place_of (crossing_kind p.body))
+      (crossings_at s (cond b all ps) l ++ mixed (l + suc j) (l + 1) n))) was
+      ∙ ap (bump (s.drops_at p (l + suc j)) (5 * suc j + 4))
+      (skip (s.crosses p (l + suc j)) j (place_of (crossing_kind p.body)) (crossed s 0 l all) (crossed s 1 l all) (crossed s 2 l all)
+      (crossed s 3 l all) (dropped s l all) (mixed (l + suc j) (l + 1) n))
+      ∙ skip (s.drops_at p (l + suc j)) j 4 (crossed s 0 l all) (crossed s 1 l all) (crossed s 2 l all) (crossed s 3 l all)
+      (dropped s l all) (bump (s.crosses p (l + suc j)) (5 * j + place_of (crossing_kind p.body)) (mixed (l + suc j) (l + 1) n))
       ∙ ap (λ t. crossings_at s all l ++ t)
-      (ap (λ m. bump (s.drops_at p m) (5 * j + 4) (bump (s.crosses p m) (5 * j + place_of (crossing_kind p.body)) (mixed m (l + 1) n))) e ∙ more (l + 1) j n (omega arith) ∙ ap (λ m. mixed (m + 1) (l + 1) n) (sym e))
+      (ap (λ m. bump (s.drops_at p m) (5 * j + 4) (bump (s.crosses p m) (5 * j + place_of (crossing_kind p.body)) (mixed m (l + 1) n))) e
+      ∙ more (l + 1) j n (omega arith) ∙ ap (λ m. mixed (m + 1) (l + 1) n) (sym e))
       ∙ ap (λ b. crossings_at s (cond b all ps) l ++ mixed (l + suc j + 1) (l + 1) n) (sym now)
 
-  pub counted_at : (k : ℕ) → k < s.links → bump (s.drops_at p k) (5 * k + 4) (bump (s.crosses p k) (5 * k + place_of (crossing_kind p.body)) (mixed k 0 s.links)) ≡ mixed (k + 1) 0 s.links
+  pub counted_at : (k : ℕ) → k < s.links → bump (s.drops_at p k) (5 * k + 4)
+      (bump (s.crosses p k) (5 * k + place_of (crossing_kind p.body)) (mixed k 0 s.links)) ≡ mixed (k + 1) 0 s.links
   counted_at k lt =
       let e : 0 + k ≡ k = zero-add k in
-      ap (λ m. bump (s.drops_at p m) (5 * k + 4) (bump (s.crosses p m) (5 * k + place_of (crossing_kind p.body)) (mixed m 0 s.links))) (sym e) ∙ more 0 k s.links lt ∙ ap (λ m. mixed (m + 1) 0 s.links) e
+      ap (λ m. bump (s.drops_at p m) (5 * k + 4) (bump (s.crosses p m) (5 * k + place_of (crossing_kind p.body)) (mixed m 0 s.links)))
+      (sym e) ∙ more 0 k s.links lt ∙ ap (λ m. mixed (m + 1) 0 s.links) e
 
   -- no number is above that of the packets
   few : (q : Packet → Bool) (b : Bool) → count_by q (cond b all ps) ≤ length ps + 1

@@ -1,11 +1,14 @@
 -- A step at a tick leaves fewer events pending at that tick.
-use Rattle.std.proofs.Common.{◌≡◌, ℕ, suc, ◌<◌, ◌≤◌, ◌+◌, ◌^◌, Bool, true, false, cond, List, [], ◌∷◌, map, refl, sym, ap, ◌∙◌, subst, ◌⊎◌, inl, inr, arith, Option, Some, None, nat_lt, eq-eqb, ◌==◌, le_refl}
+use Rattle.std.proofs.Common.{◌≡◌, ℕ, suc, ◌<◌, ◌≤◌, ◌+◌, ◌^◌, Bool, true, false, cond, List, [], ◌∷◌, map, refl, sym, ap, ◌∙◌, subst, ◌⊎◌}
+use Rattle.std.proofs.Common.{inl, inr, arith, Option, Some, None, nat_lt, eq-eqb, ◌==◌, le_refl}
 use Rattle.srm_cell.proofs.CellLemmas.{first_timer, next_event_is}
 use Rattle.srm_cell.proofs.Rising.{Above, OnEvent, OnStep, earlier_on}
-use Rattle.srm_cell.specs.Cells.{arrival_key, mark_key, timer_key, Done, Event, Full, PlainCell, Stepped, cause_of_timer, first_arrival, first_mark, handle, next_event, pending_at, sending_step, step_at, untimed_at}
+use Rattle.srm_cell.specs.Cells.{arrival_key, mark_key, timer_key, Done, Event, Full, PlainCell, Stepped, cause_of_timer, first_arrival}
+use Rattle.srm_cell.specs.Cells.{first_mark, handle, next_event, pending_at, sending_step, step_at, untimed_at}
 use Rattle.srm_cell.specs.declared.flight.Flight.{Flight}
 use Rattle.srm_member.proofs.AllIn.{AllIn-each, AllIn-weaker}
-use Rattle.srm_member.proofs.FewerTimers.{In, IsSound, SoundRecord, fewer_answers, fewer_asks, in_append, in_map, no_more, one_if, sound_react}
+use Rattle.srm_member.proofs.FewerTimers.{In, IsSound, SoundRecord, fewer_answers, fewer_asks, in_append, in_map, no_more, one_if}
+use Rattle.srm_member.proofs.FewerTimers.{sound_react}
 use Rattle.srm_member.specs.React.{Reaction, react}
 use Rattle.srm_member.specs.declared.entries.Missing.{Missing}
 use Rattle.srm_member.specs.declared.entries.Repairing.{Repairing}
@@ -31,23 +34,29 @@ arrival_taken : (m : ℕ) (c : PlainCell) (fs : List Flight) → c.inbox ≡ fs 
 arrival_taken m c [] h = tt
 arrival_taken m c (f ∷ fs) h =
     let one = one_here f.arrival in
-    let same : count_if (λ (g : Flight). g.arrival == f.arrival) c.inbox ≡ count_if (λ (g : Flight). g.arrival == f.arrival) (f ∷ fs) = ap (count_if (λ (g : Flight). g.arrival == f.arrival)) h in
+    let same : count_if (λ (g : Flight). g.arrival == f.arrival) c.inbox ≡ count_if (λ (g : Flight). g.arrival == f.arrival) (f ∷ fs) =
+    ap (count_if (λ (g : Flight). g.arrival == f.arrival)) h in
     inl (refl, omega arith)
 
 mark_taken : (m : ℕ) (c : PlainCell) (ks : List Mark) → c.script ≡ ks → OnEvent (Taken c) (first_mark m c ks)
 mark_taken m c [] h = tt
 mark_taken m c (k ∷ ks) h =
     let one = one_here k.at in
-    let same : count_if (λ (g : Mark). g.at == k.at) c.script ≡ count_if (λ (g : Mark). g.at == k.at) (k ∷ ks) = ap (count_if (λ (g : Mark). g.at == k.at)) h in
+    let same : count_if (λ (g : Mark). g.at == k.at) c.script ≡ count_if (λ (g : Mark). g.at == k.at) (k ∷ ks) =
+    ap (count_if (λ (g : Mark). g.at == k.at)) h in
     inl (refl, omega arith)
 
-timer_taken : (m : ℕ) (c : PlainCell) (ds : List Due) → ((d : Due) → In d ds → In d (timers c.holds)) → OnEvent (Taken c) (first_timer m c ds)
+timer_taken : (m : ℕ) (c : PlainCell) (ds : List Due) → ((d : Due) → In d ds → In d (timers c.holds))
+    → OnEvent (Taken c) (first_timer m c ds)
 timer_taken m c [] h = tt
-timer_taken m c (d ∷ ds) h = earlier_on (Taken c) (Some _) (first_timer m c ds) (inr (refl, (d, h d (inl refl), refl, refl))) (timer_taken m c ds (λ x g. h x (inr g)))
+timer_taken m c (d ∷ ds) h = earlier_on (Taken c) (Some _) (first_timer m c ds) (inr (refl, (d, h d (inl refl), refl, refl)))
+    (timer_taken m c ds (λ x g. h x (inr g)))
 
 pub next_taken : (m : ℕ) (c : PlainCell) → OnEvent (Taken c) (next_event m c)
-next_taken m c = subst (OnEvent (Taken c)) (sym (next_event_is m c)) (earlier_on (Taken c) (first_arrival m c c.inbox) _ (arrival_taken m c c.inbox refl)
-    (earlier_on (Taken c) (first_mark m c c.script) (first_timer m c (timers c.holds)) (mark_taken m c c.script refl) (timer_taken m c (timers c.holds) (λ d h. h))))
+next_taken m c = subst (OnEvent (Taken c)) (sym (next_event_is m c))
+    (earlier_on (Taken c) (first_arrival m c c.inbox) _ (arrival_taken m c c.inbox refl)
+    (earlier_on (Taken c) (first_mark m c c.script) (first_timer m c (timers c.holds)) (mark_taken m c c.script refl)
+    (timer_taken m c (timers c.holds) (λ d h. h))))
 
 -- ---- the count after a step
 
@@ -64,11 +73,13 @@ counted_by : (e : Event) (n : ℕ) (b : Bool) (x : Stepped) → Counted e n x �
 counted_by e n true x h = h
 counted_by e n false x h = tt
 
-counted_sending : (e : Event) (r : Reaction) (body : Option Body) → OnStep (Counted e (timers_at e.key.time (Active r.memory))) (sending_step e r body)
+counted_sending : (e : Event) (r : Reaction) (body : Option Body) → OnStep (Counted e (timers_at e.key.time (Active r.memory)))
+    (sending_step e r body)
 counted_sending e r None = le_refl _
 counted_sending e r (Some body) = counted_by e _ (nat_lt e.rest.sent (2 ^ 48)) _ (le_refl _)
 
-counted_handle : (e : Event) (holds : Record) (cause : Option Cause) → e.rest.holds ≡ holds → OnStep (Counted e (after_react e.key.time holds cause)) (handle e holds cause)
+counted_handle : (e : Event) (holds : Record) (cause : Option Cause) → e.rest.holds ≡ holds
+    → OnStep (Counted e (after_react e.key.time holds cause)) (handle e holds cause)
 unfolding handle
 counted_handle e (Active m) (Some cause) h = let r = react m e.key.time cause in counted_sending e r r.answer.body
 counted_handle e (Active m) None h = le_refl _
@@ -78,13 +89,16 @@ sound_by : (b : Bool) (x : Stepped) → SoundRecord x.cell.holds → OnStep (λ 
 sound_by true x h = h
 sound_by false x h = tt
 
-sound_sending : (e : Event) (r : Reaction) (body : Option Body) → IsSound r.memory → OnStep (λ d. SoundRecord d.cell.holds) (sending_step e r body)
+sound_sending : (e : Event) (r : Reaction) (body : Option Body) → IsSound r.memory
+    → OnStep (λ d. SoundRecord d.cell.holds) (sending_step e r body)
 sound_sending e r None h = h
 sound_sending e r (Some body) h = sound_by (nat_lt e.rest.sent (2 ^ 48)) _ h
 
-sound_handle : (e : Event) (holds : Record) (cause : Option Cause) → e.rest.holds ≡ holds → SoundRecord holds → OnStep (λ d. SoundRecord d.cell.holds) (handle e holds cause)
+sound_handle : (e : Event) (holds : Record) (cause : Option Cause) → e.rest.holds ≡ holds → SoundRecord holds
+    → OnStep (λ d. SoundRecord d.cell.holds) (handle e holds cause)
 unfolding handle
-sound_handle e (Active m) (Some cause) q h = let r = react m e.key.time cause in sound_sending e r r.answer.body (sound_react m e.key.time cause h)
+sound_handle e (Active m) (Some cause) q h = let r = react m e.key.time cause in
+    sound_sending e r r.answer.body (sound_react m e.key.time cause h)
 sound_handle e (Active m) None q h = tt
 sound_handle e (Gone f) cause q h = tt
 
@@ -97,10 +111,12 @@ no_more_after t (Active m) (Some cause) = no_more t m cause
 no_more_after t (Active m) None = omega arith
 no_more_after t (Gone f) cause = le_refl 0
 
-fewer_after : (t : ℕ) (holds : Record) (cause : Option Cause) → SoundRecord holds → (d : Due) → In d (timers holds) → d.time ≡ t → cause ≡ Some (cause_of_timer d.rank d.name) → after_react t holds cause < timers_at t holds
+fewer_after : (t : ℕ) (holds : Record) (cause : Option Cause) → SoundRecord holds → (d : Due) → In d (timers holds) → d.time ≡ t → cause
+    ≡ Some (cause_of_timer d.rank d.name) → after_react t holds cause < timers_at t holds
 fewer_after t (Gone f) cause s d h e q = absurd h
 fewer_after t (Active m) cause s d h e q = subst (λ k. after_react t (Active m) k < timers_at t (Active m)) (sym q)
-    (elim (in_append d (map (λ e. record { time = e.1.expiry; rank = 2; name = e.0 }) m.missing) _ h) as (λ x. timers_at t (Active (react m t (cause_of_timer d.rank d.name)).memory) < timers_at t (Active m)) [
+    (elim (in_append d (map (λ e. record { time = e.1.expiry; rank = 2; name = e.0 }) m.missing) _ h) as
+    (λ x. timers_at t (Active (react m t (cause_of_timer d.rank d.name)).memory) < timers_at t (Active m)) [
       | inl g ↦ let r = in_map (λ (e : Name × Missing). record { time = e.1.expiry; rank = 2; name = e.0 }) d m.missing g in
           subst (λ (d : Due). timers_at t (Active (react m t (cause_of_timer d.rank d.name)).memory) < timers_at t (Active m)) r.2
           (fewer_asks t m s r.0.0 r.0.1 r.1 (eq-eqb _ _ (ap (λ (d : Due). d.time) r.2 ∙ e)))
@@ -110,7 +126,8 @@ fewer_after t (Active m) cause s d h e q = subst (λ k. after_react t (Active m)
     ])
 
 -- a step leaves fewer events at its tick
-pub fewer_pending : (c : PlainCell) (e : Event) (d : Stepped) → SoundRecord c.holds → Taken c e → step_at (Some e) ≡ Done d → pending_at e.key.time d.cell < pending_at e.key.time c
+pub fewer_pending : (c : PlainCell) (e : Event) (d : Stepped) → SoundRecord c.holds → Taken c e → step_at (Some e) ≡ Done d
+    → pending_at e.key.time d.cell < pending_at e.key.time c
 fewer_pending c e d s taken x =
     let t = e.key.time in
     let after = subst (OnStep (Counted e (after_react t e.rest.holds e.cause))) x (counted_handle e e.rest.holds e.cause refl) in
@@ -123,7 +140,8 @@ fewer_pending c e d s taken x =
       | inr h ↦
           let same : untimed_at t e.rest ≡ untimed_at t c = ap (untimed_at t) h.0 in
           let less : after_react t c.holds e.cause < timers_at t c.holds = fewer_after t c.holds e.cause s h.1.0 h.1.1 h.1.2 h.1.3 in
-          let holds : after_react t e.rest.holds e.cause ≡ after_react t c.holds e.cause = ap (λ (b : PlainCell). after_react t b.holds e.cause) h.0 in
+          let holds : after_react t e.rest.holds e.cause ≡ after_react t c.holds e.cause =
+          ap (λ (b : PlainCell). after_react t b.holds e.cause) h.0 in
           omega arith
     ]
 

@@ -13,17 +13,21 @@ count_add : (p : Packet → Bool) (ps qs : List Packet) → count_by p (ps ++ qs
 count_add p ps qs = sum_by-append (λ x. cond (p x) 1 0) ps qs
 
 module _ (s : Traffic) (ps qs : List Packet) where
-  link_add : (l : ℕ) (ms ns : List ℕ) → crossings_at s (ps ++ qs) l ++ added ms ns ≡ added (crossings_at s ps l ++ ms) (crossings_at s qs l ++ ns)
+  link_add : (l : ℕ) (ms ns : List ℕ) → crossings_at s (ps ++ qs) l ++ added ms ns
+      ≡ added (crossings_at s ps l ++ ms) (crossings_at s qs l ++ ns)
   link_add l ms ns =
       let c = λ (kind : ℕ). count_add (λ p. (kind_of p.body == kind) && s.crosses p l) ps qs in
       let d = count_add (λ p. s.drops_at p l) ps qs in
       λ i. c 0 i ∷ c 1 i ∷ c 2 i ∷ c 3 i ∷ d i ∷ added ms ns
 
-  pub links_add : (ls : List ℕ) → flat_map (crossings_at s (ps ++ qs)) ls ≡ added (flat_map (crossings_at s ps) ls) (flat_map (crossings_at s qs) ls)
+  pub links_add : (ls : List ℕ) → flat_map (crossings_at s (ps ++ qs)) ls
+      ≡ added (flat_map (crossings_at s ps) ls) (flat_map (crossings_at s qs) ls)
   links_add [] = refl
-  links_add (l ∷ ls) = ap (λ ns. crossings_at s (ps ++ qs) l ++ ns) (links_add ls) ∙ link_add l (flat_map (crossings_at s ps) ls) (flat_map (crossings_at s qs) ls)
+  links_add (l ∷ ls) = ap (λ ns. crossings_at s (ps ++ qs) l ++ ns) (links_add ls)
+      ∙ link_add l (flat_map (crossings_at s ps) ls) (flat_map (crossings_at s qs) ls)
 
 pub crossings_add : CrossingsAdd
 unfolding crossings
 crossings_add s qs rs =
-    ap (λ ps. flat_map (crossings_at s ps) (range_with_len 0 s.links)) (filter_map-append (λ (r : Row). r.sent) qs rs) ∙ links_add s (packets_of qs) (packets_of rs) (range_with_len 0 s.links)
+    ap (λ ps. flat_map (crossings_at s ps) (range_with_len 0 s.links)) (filter_map-append (λ (r : Row). r.sent) qs rs)
+    ∙ links_add s (packets_of qs) (packets_of rs) (range_with_len 0 s.links)

@@ -1,5 +1,6 @@
 -- What putting an entry into an inbox's map does to the flights.
-use Rattle.std.proofs.Common.{◌≡◌, ℕ, zero, suc, true, false, cond, List, [], ◌∷◌, refl, sym, ap, ◌∙◌, true≢false, Ordering, Less, Equal, Greater, is_lt, Result, Ok, Err}
+use Rattle.std.proofs.Common.{◌≡◌, ℕ, zero, suc, true, false, cond, List, [], ◌∷◌, refl, sym, ap, ◌∙◌, true≢false, Ordering, Less, Equal}
+use Rattle.std.proofs.Common.{Greater, is_lt, Result, Ok, Err}
 use Rattle.std.specs.Ordering.{nat_cmp, ordering_reverse, ordering_then, match_ordering}
 use Rattle.std.specs.Cmp.{IsTotalOrder, on_total}
 use Rattle.std.specs.Cmp.Lexicographic.{slice_cmp, nat_list_cmp_total}
@@ -55,14 +56,18 @@ Entry = (ℕ × ℕ × ℕ) × Packet
 -- what an entry of a new packet compares to
 by_place : (d e : Entry) (es : List Entry) (o : Ordering) → flight_cmp (flight_of d) (flight_of e) ≡ o → (o ≡ Equal → ⊥)
     → flights_of (insert_entry slot_cmp es d.0 d.1) ≡ place flight_cmp (flight_of d) (flights_of es)
-    → flights_of (match_ordering o (d ∷ e ∷ es) ((e.0, d.1) ∷ es) (e ∷ insert_entry slot_cmp es d.0 d.1)) ≡ place flight_cmp (flight_of d) (flight_of e ∷ flights_of es)
+    → flights_of (match_ordering o (d ∷ e ∷ es) ((e.0, d.1) ∷ es) (e ∷ insert_entry slot_cmp es d.0 d.1))
+    ≡ place flight_cmp (flight_of d) (flight_of e ∷ flights_of es)
 by_place d e es Less h apart more =
-    let back : is_lt (flight_cmp (flight_of e) (flight_of d)) ≡ false = ap is_lt (flight_total.antisymm (flight_of e) (flight_of d) ∙ ap ordering_reverse h) in
+    let back : is_lt (flight_cmp (flight_of e) (flight_of d)) ≡ false =
+    ap is_lt (flight_total.antisymm (flight_of e) (flight_of d) ∙ ap ordering_reverse h) in
     ap (λ b. cond b (flight_of e ∷ place flight_cmp (flight_of d) (flights_of es)) (flight_of d ∷ flight_of e ∷ flights_of es)) (sym back)
 by_place d e es Equal h apart more = absurd (apart refl)
 by_place d e es Greater h apart more =
-    let back : is_lt (flight_cmp (flight_of e) (flight_of d)) ≡ true = ap is_lt (flight_total.antisymm (flight_of e) (flight_of d) ∙ ap ordering_reverse h) in
-    ap (λ l. flight_of e ∷ l) more ∙ ap (λ b. cond b (flight_of e ∷ place flight_cmp (flight_of d) (flights_of es)) (flight_of d ∷ flight_of e ∷ flights_of es)) (sym back)
+    let back : is_lt (flight_cmp (flight_of e) (flight_of d)) ≡ true =
+    ap is_lt (flight_total.antisymm (flight_of e) (flight_of d) ∙ ap ordering_reverse h) in
+    ap (λ l. flight_of e ∷ l) more ∙ ap (λ b. cond b (flight_of e ∷ place flight_cmp (flight_of d) (flights_of es))
+    (flight_of d ∷ flight_of e ∷ flights_of es)) (sym back)
 
 pub placed : (d : Entry) (es : List Entry) → HasKey d → HaveKeys es → BringsNone d.1.id (flights_of es)
     → flights_of (insert_entry slot_cmp es d.0 d.1) ≡ place flight_cmp (flight_of d) (flights_of es)
@@ -70,19 +75,23 @@ placed d [] h g none = refl
 placed d (e ∷ es) h g none =
     let c = keys_compare d e h g.0 in
     ap (λ o. flights_of (match_ordering o (d ∷ e ∷ es) ((e.0, d.1) ∷ es) (e ∷ insert_entry slot_cmp es d.0 d.1))) c
-    ∙ by_place d e es (flight_cmp (flight_of d) (flight_of e)) refl (λ q. none.0 (sym (tie (flight_of d) (flight_of e) q))) (placed d es h g.1 none.1)
+    ∙ by_place d e es (flight_cmp (flight_of d) (flight_of e)) refl (λ q. none.0 (sym (tie (flight_of d) (flight_of e) q)))
+    (placed d es h g.1 none.1)
 
-with_keys : (d e : Entry) (es : List Entry) (o : Ordering) → (o ≡ Equal → ⊥) → HasKey d → HasKey e → HaveKeys es → HaveKeys (insert_entry slot_cmp es d.0 d.1)
+with_keys : (d e : Entry) (es : List Entry) (o : Ordering) → (o ≡ Equal → ⊥) → HasKey d → HasKey e → HaveKeys es
+    → HaveKeys (insert_entry slot_cmp es d.0 d.1)
     → HaveKeys (match_ordering o (d ∷ e ∷ es) ((e.0, d.1) ∷ es) (e ∷ insert_entry slot_cmp es d.0 d.1))
 with_keys d e es Less apart h g gs more = (h, (g, gs))
 with_keys d e es Equal apart h g gs more = absurd (apart refl)
 with_keys d e es Greater apart h g gs more = (g, more)
 
-pub keys_stay : (d : Entry) (es : List Entry) → HasKey d → HaveKeys es → BringsNone d.1.id (flights_of es) → HaveKeys (insert_entry slot_cmp es d.0 d.1)
+pub keys_stay : (d : Entry) (es : List Entry) → HasKey d → HaveKeys es → BringsNone d.1.id (flights_of es)
+    → HaveKeys (insert_entry slot_cmp es d.0 d.1)
 keys_stay d [] h g none = (h, tt)
 keys_stay d (e ∷ es) h g none =
     let c = keys_compare d e h g.0 in
-    with_keys d e es (slot_cmp d.0 e.0) (λ q. none.0 (sym (tie (flight_of d) (flight_of e) (sym c ∙ q)))) h g.0 g.1 (keys_stay d es h g.1 none.1)
+    with_keys d e es (slot_cmp d.0 e.0) (λ q. none.0 (sym (tie (flight_of d) (flight_of e) (sym c ∙ q)))) h g.0 g.1
+    (keys_stay d es h g.1 none.1)
 
 pub if_ok : {A E : Type 0} (r : Result A E) (P : Type 0) → is_err r ≡ false → OnOk r P → P
 if_ok (Ok x) P e h = h

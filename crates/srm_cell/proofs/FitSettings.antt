@@ -1,5 +1,6 @@
 -- The setting of an accepted scenario is fit.
-use Rattle.std.proofs.Common.{◌≡◌, ◌≢◌, ℕ, ◌<◌, true, false, List, [], ◌∷◌, refl, sym, ap, ◌∙◌, subst, inl, inr, arith, Option, Some, None, unwrap_or, length, slice_get, ◌==◌, Ordering, Less, Equal, Greater, nat_cmp}
+use Rattle.std.proofs.Common.{◌≡◌, ◌≢◌, ℕ, ◌<◌, true, false, List, [], ◌∷◌, refl, sym, ap, ◌∙◌, subst, inl, inr, arith, Option, Some, None}
+use Rattle.std.proofs.Common.{unwrap_or, length, slice_get, ◌==◌, Ordering, Less, Equal, Greater, nat_cmp}
 use Rattle.std.proofs.lemmas.Bool.{eqb-false}
 use Rattle.std.proofs.lemmas.List.{length-map}
 use Rattle.std.proofs.lemmas.Option.{slice_get-get_or}
@@ -59,13 +60,15 @@ module _ (until : ℕ) (k : MemberSpec) where
       let same : y.at ≡ x.at = omega arith in
       let at_self = nat_cmp_self x.at in
       let ranks : ordering_then (nat_cmp x.rank y.rank) (ordering_then (nat_cmp x.place y.place) Equal) ≡ Less =
-      sym (ap (λ r. ordering_then r (ordering_then (nat_cmp x.rank y.rank) (ordering_then (nat_cmp x.place y.place) Equal))) (ap (nat_cmp x.at) same ∙ at_self)) ∙ less in
+      sym (ap (λ r. ordering_then r (ordering_then (nat_cmp x.rank y.rank) (ordering_then (nat_cmp x.place y.place) Equal)))
+      (ap (nat_cmp x.at) same ∙ at_self)) ∙ less in
       let rank_up = head_le x.rank y.rank _ (not_greater _ ranks) in
       let last = g.last_rank in
       let six_too : y.rank ≡ 6 = omega arith in
       let rank_self = nat_cmp_self x.rank in
       let places : ordering_then (nat_cmp x.place y.place) Equal ≡ Less =
-      sym (ap (λ r. ordering_then r (ordering_then (nat_cmp x.place y.place) Equal)) (ap (nat_cmp x.rank) (six_too ∙ sym six) ∙ rank_self)) ∙ ranks in
+      sym (ap (λ r. ordering_then r (ordering_then (nat_cmp x.place y.place) Equal)) (ap (nat_cmp x.rank) (six_too ∙ sym six) ∙ rank_self))
+      ∙ ranks in
       let place_self = nat_cmp_self x.place in
       let no_place : y.place ≡ x.place = (g.leave six_too).1 ∙ sym left.1 in
       let equal : Equal ≡ Less = sym (ap (λ r. ordering_then r Equal) (ap (nat_cmp x.place) no_place ∙ place_self)) ∙ places in

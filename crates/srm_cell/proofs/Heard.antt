@@ -1,5 +1,6 @@
 -- A cell's next event after it hears a packet: the packet's arrival, or what was next.
-use Rattle.std.proofs.Common.{◌≡◌, ◌≢◌, ℕ, Bool, cond, List, [], ◌∷◌, Option, Some, None, option_map, refl, sym, ap, ◌∙◌, subst, Ordering, Less, Equal, Greater, is_lt}
+use Rattle.std.proofs.Common.{◌≡◌, ◌≢◌, ℕ, Bool, cond, List, [], ◌∷◌, Option, Some, None, option_map, refl, sym, ap, ◌∙◌, subst, Ordering}
+use Rattle.std.proofs.Common.{Less, Equal, Greater, is_lt}
 use Rattle.std.specs.Ordering.{is_gt, ordering_reverse}
 use Rattle.srm_net.specs.declared.key.Key.{Key}
 use Rattle.srm_net.specs.declared.packet.Packet.{Packet}
@@ -103,7 +104,8 @@ module _ (m : ℕ) (p : Packet) (at : ℕ) where
   first_heard c [] = refl
   first_heard c (f ∷ fs) =
       let same = flight_keys m flight f in
-      let back : is_lt (flight_cmp f flight) ≡ is_lt (ordering_reverse (key_cmp (arrival_key m flight) (arrival_key m f))) = ap is_lt (sym (flight_keys m f flight) ∙ key_total.antisymm (arrival_key m f) (arrival_key m flight)) in
+      let back : is_lt (flight_cmp f flight) ≡ is_lt (ordering_reverse (key_cmp (arrival_key m flight) (arrival_key m f))) =
+      ap is_lt (sym (flight_keys m f flight) ∙ key_total.antisymm (arrival_key m f) (arrival_key m flight)) in
       place_by c f fs (key_cmp (arrival_key m flight) (arrival_key m f)) (is_lt (flight_cmp f flight)) back
 
   marks_alike : (c : PlainCell) (ks : List Mark) → first_mark m (heard c) ks ≡ option_map (event_map heard) (first_mark m c ks)
@@ -122,13 +124,16 @@ module _ (m : ℕ) (p : Packet) (at : ℕ) where
       let k = first_mark m c c.script in
       let t = next_timer m c (due_of c.holds) in
       ap (λ o. earlier o (earlier (first_mark m (heard c) c.script) (next_timer m (heard c) (due_of c.holds)))) (first_heard c c.inbox)
-      ∙ ap (λ o. earlier (earlier (Some (coming flight c)) (option_map (event_map heard) a)) (earlier o (next_timer m (heard c) (due_of c.holds)))) (marks_alike c c.script)
-      ∙ ap (λ o. earlier (earlier (Some (coming flight c)) (option_map (event_map heard) a)) (earlier (option_map (event_map heard) k) o)) (timers_alike c (due_of c.holds))
+      ∙ ap (λ o. earlier (earlier (Some (coming flight c)) (option_map (event_map heard) a))
+      (earlier o (next_timer m (heard c) (due_of c.holds)))) (marks_alike c c.script)
+      ∙ ap (λ o. earlier (earlier (Some (coming flight c)) (option_map (event_map heard) a)) (earlier (option_map (event_map heard) k) o))
+      (timers_alike c (due_of c.holds))
       ∙ ap (earlier (earlier (Some (coming flight c)) (option_map (event_map heard) a))) (earlier-map heard k t)
       ∙ earlier_of_three (Some (coming flight c)) (option_map (event_map heard) a) (option_map (event_map heard) (earlier k t))
       ∙ ap (earlier (Some (coming flight c))) (earlier-map heard a (earlier k t))
 
-  first_of_two : (d : Event) (x : Option Event) → ((a : Event) → x ≡ Some a → key_cmp d.key a.key ≢ Greater) → earlier (Some d) (option_map (event_map heard) x) ≡ Some d
+  first_of_two : (d : Event) (x : Option Event) → ((a : Event) → x ≡ Some a → key_cmp d.key a.key ≢ Greater)
+      → earlier (Some d) (option_map (event_map heard) x) ≡ Some d
   first_of_two d None b = refl
   first_of_two d (Some a) b = ap Some (first_kept _ d (event_map heard a) (b a refl))
 
@@ -144,7 +149,8 @@ module _ (m : ℕ) (p : Packet) (at : ℕ) where
 
   arrivals_from : (c : PlainCell) (e : Event) → next_event m c ≡ Some e → Least e.key (first_arrival m c c.inbox)
   unfolding next_event
-  arrivals_from c e h = (least_earlier e.key (first_arrival m c c.inbox) _ (subst (Least e.key) (sym h) (from_refl key_cmp key_total e.key))).0
+  arrivals_from c e h = (least_earlier e.key (first_arrival m c c.inbox) _
+      (subst (Least e.key) (sym h) (from_refl key_cmp key_total e.key))).0
 
   none_before : (c : PlainCell) (e a : Event) → next_event m c ≡ Some e → first_arrival m c c.inbox ≡ Some a → key_cmp e.key a.key ≢ Greater
   none_before c e a h g = not_greater key_cmp key_total e.key a.key (subst (Least e.key) g (arrivals_from c e h))
@@ -157,7 +163,8 @@ module _ (m : ℕ) (p : Packet) (at : ℕ) where
   source_alike c Script e h after = marks_alike c c.script ∙ ap (option_map (event_map heard)) h
   source_alike c (Timer d) e h after = ap (option_map (event_map heard)) h
 
-  next_with : (c : PlainCell) (o : Option Event) → next_event m c ≡ o → next_event m (heard c) ≡ earlier (Some (coming flight c)) (option_map (event_map heard) o)
+  next_with : (c : PlainCell) (o : Option Event) → next_event m c ≡ o → next_event m (heard c)
+      ≡ earlier (Some (coming flight c)) (option_map (event_map heard) o)
   next_with c o h = next_heard c ∙ ap (λ o. earlier (Some (coming flight c)) (option_map (event_map heard) o)) h
 
   stands_none : (c : PlainCell) → next_event m c ≡ None → Stands m (heard c) (Some (arriving m at p.id)) (next_event m (heard c))
@@ -177,7 +184,8 @@ module _ (m : ℕ) (p : Packet) (at : ℕ) where
     is_first c (λ a q. lesser_once (arrival_key m flight) e.key a.key b (none_before c e a h q)),
   )
 
-  stands_some : (c : PlainCell) (q : Pending) (r : Ordering) → key_cmp (arrival_key m flight) q.key ≡ r → Stands m c (Some q) (next_event m c)
+  stands_some : (c : PlainCell) (q : Pending) (r : Ordering) → key_cmp (arrival_key m flight) q.key ≡ r
+      → Stands m c (Some q) (next_event m c)
       → Stands m (heard c) (cond (is_gt r) (Some q) (Some (arriving m at p.id))) (next_event m (heard c))
   stands_some c q Less k h = stands_first c h.0 h.1 (less_not _ (ap (key_cmp (arrival_key m flight)) (sym h.2) ∙ k))
   stands_some c q Equal k h = stands_first c h.0 h.1 (equal_not _ (ap (key_cmp (arrival_key m flight)) (sym h.2) ∙ k))

@@ -29,11 +29,13 @@ module _ (end m : ℕ) where
     leaves = λ k. let e : 0 + k ≡ k = omega arith in ap (λ n. own_after end m n p) e;
   }
 
-  pub leads_more : (p q : PlainCell) (rows : List Row) (d : Stepped) → Leads end m p rows q → own_step end m q ≡ Done d → Leads end m p (rows ++ d.row ∷ []) d.cell
+  pub leads_more : (p q : PlainCell) (rows : List Row) (d : Stepped) → Leads end m p rows q → own_step end m q ≡ Done d
+      → Leads end m p (rows ++ d.row ∷ []) d.cell
   leads_more p q rows d l e = record {
     steps = suc l.steps;
     ends = λ k. ap (λ n. own_end end m n p) (shift l.steps k) ∙ l.ends (suc k) ∙ end_done end m k q d e;
-    rows_are = λ k. ap (λ n. own_rows end m n p) (shift l.steps k) ∙ l.rows_are (suc k) ∙ ap (λ rs. rows ++ rs) (rows_done end m k q d e) ∙ sym (append_assoc rows (d.row ∷ []) (own_rows end m k d.cell));
+    rows_are = λ k. ap (λ n. own_rows end m n p) (shift l.steps k) ∙ l.rows_are (suc k) ∙ ap (λ rs. rows ++ rs) (rows_done end m k q d e)
+        ∙ sym (append_assoc rows (d.row ∷ []) (own_rows end m k d.cell));
     leaves = λ k. ap (λ n. own_after end m n p) (shift l.steps k) ∙ l.leaves (suc k) ∙ after_done end m k q d e;
   }
     where
@@ -41,7 +43,8 @@ module _ (end m : ℕ) where
       shift n k = omega arith
 
   -- what the last step of the own run gives
-  pub leads_to : (p q : PlainCell) (rows : List Row) (o : StepOutcome Stepped) → (l : Leads end m p rows q) → own_step end m q ≡ o → own_end end m (l.steps + 0) p ≡ o
+  pub leads_to : (p q : PlainCell) (rows : List Row) (o : StepOutcome Stepped) → (l : Leads end m p rows q) → own_step end m q ≡ o
+      → own_end end m (l.steps + 0) p ≡ o
   leads_to p q rows o l e = l.ends 0 ∙ end_now end m q ∙ e
 
   pub leads_all : (p q : PlainCell) (rows : List Row) → Leads end m p rows q → own_step end m q ≡ Idle → IsOwnRun end m p rows q
@@ -63,7 +66,8 @@ module _ (end m : ℕ) where
       by (Done d) e = tt
 
   module _ {X : Type 0} {H : X → Type 0} where
-    pub leads_fault : (f : DynBox X Global H → Record) (p q : PlainCell) (rows : List Row) (x : CellFault) (after : Cell X H) → Leads end m p rows q → TellsStep f m q (own_step end m q) (Err x) after → TellsRun f end m p (Err x) after
+    pub leads_fault : (f : DynBox X Global H → Record) (p q : PlainCell) (rows : List Row) (x : CellFault) (after : Cell X H)
+        → Leads end m p rows q → TellsStep f m q (own_step end m q) (Err x) after → TellsRun f end m p (Err x) after
     leads_fault f p q rows fault.NoMemory after l h = leads_work p q rows l h
     leads_fault f p q rows fault.Spent after l h = (l.steps + 0, leads_to p q rows Spent l h)
     leads_fault f p q rows fault.CountFull after l h = (l.steps + 0, leads_to p q rows Full l h)

@@ -26,7 +26,8 @@ some_first : (d : Event) (o : Option Event) → earlier (Some d) o ≢ None
 some_first d None h = cc
 some_first d (Some e) h = cc
 
-nothing : (m : ℕ) (c : PlainCell) (fs : List Flight) (ks : List Mark) (ds : List Due) → earlier (first_arrival m c fs) (earlier (first_mark m c ks) (first_timer m c ds)) ≡ None
+nothing : (m : ℕ) (c : PlainCell) (fs : List Flight) (ks : List Mark) (ds : List Due)
+    → earlier (first_arrival m c fs) (earlier (first_mark m c ks) (first_timer m c ds)) ≡ None
     → map (arrival_key m) fs ++ (map (mark_key m) ks ++ map (timer_key m) ds) ≡ []
 nothing m c [] [] [] h = refl
 nothing m c (f ∷ fs) ks ds h = absurd (some_first _ _ h)
@@ -36,8 +37,10 @@ nothing m c [] [] (d ∷ ds) h = absurd (some_first _ _ h)
 pub next_events_are_least : NextEventsAreLeast
 next_events_are_least m c flights marks = (
   λ e h.
-      let a = above_least e.key m c (record { flights = flights; marks = marks }) (subst (Least e.key) (sym h) (from_refl key_cmp key_total e.key)) in
+      let a = above_least e.key m c (record { flights = flights; marks = marks })
+      (subst (Least e.key) (sym h) (from_refl key_cmp key_total e.key)) in
       none_in_both e.key (map (arrival_key m) c.inbox) _ (none_of e.key (arrival_key m) c.inbox a.flights)
-      (none_in_both e.key (map (mark_key m) c.script) _ (none_of e.key (mark_key m) c.script a.marks) (none_of e.key (timer_key m) (timers c.holds) a.dues)),
+      (none_in_both e.key (map (mark_key m) c.script) _ (none_of e.key (mark_key m) c.script a.marks)
+      (none_of e.key (timer_key m) (timers c.holds) a.dues)),
   λ h. nothing m c c.inbox c.script (timers c.holds) (sym (next_event_is m c) ∙ h),
 )

@@ -1,5 +1,7 @@
 -- Members that left: nothing is pending at a record that is gone.
-use Rattle.std.proofs.Common.{◌≡◌, ◌≢◌, ℕ, zero, suc, ◌<◌, ◌≤◌, ◌^◌, Bool, true, false, cond, List, [], ◌∷◌, refl, sym, ap, ◌∙◌, subst, ◌⊎◌, inl, inr, arith, Option, Some, None, nat_lt, nat_le, is_lt, true≢false, ltb-true, lt-ltb, leb-true, eqb-true, eq-eqb, ◌==◌, Less, nat_cmp}
+use Rattle.std.proofs.Common.{◌≡◌, ◌≢◌, ℕ, zero, suc, ◌<◌, ◌≤◌, ◌^◌, Bool, true, false, cond, List, [], ◌∷◌, refl, sym, ap, ◌∙◌, subst, ◌⊎◌}
+use Rattle.std.proofs.Common.{inl, inr, arith, Option, Some, None, nat_lt, nat_le, is_lt, true≢false, ltb-true, lt-ltb, leb-true, eqb-true}
+use Rattle.std.proofs.Common.{eq-eqb, ◌==◌, Less, nat_cmp}
 use Rattle.srm_net.specs.declared.key.Key.{Key}
 use Rattle.srm_net.specs.declared.packet.Packet.{Packet}
 use Rattle.srm_net.specs.declared.packet.Body.{Body}
@@ -15,7 +17,8 @@ use Rattle.srm_cell.specs.declared.flight.Flight.{Flight}
 use Rattle.srm_cell.specs.Flights.{flight_cmp}
 use Rattle.srm_scenario.specs.Presence.{is_up_to}
 use Rattle.srm_cell.specs.Setting.{HasOwnRanks, EndsAtLeave, cause_of_mark}
-use Rattle.srm_cell.specs.Cells.{PlainCell, hear_at, Event, earlier, first_arrival, first_mark, next_event, before, Idle, Full, Spent, Done, Stepped, sending_step, handle, step_at, own_step, arrival_key, mark_key}
+use Rattle.srm_cell.specs.Cells.{PlainCell, hear_at, Event, earlier, first_arrival, first_mark, next_event, before, Idle, Full, Spent, Done}
+use Rattle.srm_cell.specs.Cells.{Stepped, sending_step, handle, step_at, own_step, arrival_key, mark_key}
 use Rattle.srm_cell.specs.OwnRuns.{own_end}
 use Rattle.srm_cell.proofs.CellLemmas.{first_timer, next_event_is}
 use Rattle.srm_cell.proofs.CellSteps.{before_some}
@@ -83,7 +86,8 @@ not_spent e a h = handle_not_spent e e.rest.holds e.cause a h
 
 -- a leave is the first mark of the script
 abbrev LeaveOf : ℕ → PlainCell → Event → Type 0
-LeaveOf m c e = e.cause ≡ None → (k : Mark) × (ks : List Mark) × (c.script ≡ k ∷ ks) × (cause_of_mark k ≡ None) × (e.rest.inbox ≡ c.inbox) × (e.rest.script ≡ ks) × (e.key ≡ mark_key m k)
+LeaveOf m c e = e.cause ≡ None → (k : Mark) × (ks : List Mark) × (c.script ≡ k ∷ ks) × (cause_of_mark k ≡ None) × (e.rest.inbox ≡ c.inbox)
+    × (e.rest.script ≡ ks) × (e.key ≡ mark_key m k)
 
 arrival_leaves : (m : ℕ) (c : PlainCell) (fs : List Flight) → OnEvent (LeaveOf m c) (first_arrival m c fs)
 arrival_leaves m c [] = tt
@@ -98,8 +102,10 @@ timer_leaves m c [] = tt
 timer_leaves m c (d ∷ ds) = earlier_on (LeaveOf m c) (Some _) (first_timer m c ds) (λ h. cc) (timer_leaves m c ds)
 
 next_leaves : (m : ℕ) (c : PlainCell) → OnEvent (LeaveOf m c) (next_event m c)
-next_leaves m c = subst (OnEvent (LeaveOf m c)) (sym (next_event_is m c)) (earlier_on (LeaveOf m c) (first_arrival m c c.inbox) _ (arrival_leaves m c c.inbox)
-    (earlier_on (LeaveOf m c) (first_mark m c c.script) (first_timer m c (timers c.holds)) (mark_leaves m c c.script refl) (timer_leaves m c (timers c.holds))))
+next_leaves m c = subst (OnEvent (LeaveOf m c)) (sym (next_event_is m c))
+    (earlier_on (LeaveOf m c) (first_arrival m c c.inbox) _ (arrival_leaves m c c.inbox)
+    (earlier_on (LeaveOf m c) (first_mark m c c.script) (first_timer m c (timers c.holds)) (mark_leaves m c c.script refl)
+    (timer_leaves m c (timers c.holds))))
 
 -- a leave's rank is above that of an arrival
 leave_rank : (k : Mark) → (k.rank ≡ 0) ⊎ (3 < k.rank) → cause_of_mark k ≡ None → 3 < k.rank
@@ -121,7 +127,8 @@ arrival_first m k f high le h =
           true≢false (sym (simp (q, t, same, r)) ∙ h)
     ] refl
 
-no_flight : (leave m : ℕ) (k : Mark) (fs : List Flight) → 3 < k.rank → leave ≡ k.at → AllIn (λ f. is_up_to f.arrival (Some leave) ≡ true) fs → AllIn (λ f. NotBefore (mark_key m k) (arrival_key m f)) fs → fs ≡ []
+no_flight : (leave m : ℕ) (k : Mark) (fs : List Flight) → 3 < k.rank → leave ≡ k.at → AllIn (λ f. is_up_to f.arrival (Some leave) ≡ true) fs
+    → AllIn (λ f. NotBefore (mark_key m k) (arrival_key m f)) fs → fs ≡ []
 no_flight leave m k [] high e up from = refl
 no_flight leave m k (f ∷ fs) high e up from = absurd (arrival_first m k f high (let le = leb-true _ _ up.0 in omega arith) from.0)
 
@@ -166,7 +173,8 @@ ranks_tail ys xs (inl e) h = subst HasOwnRanks (sym e) h
 ranks_tail ys xs (inr e) h = (subst HasOwnRanks e.1 h).1
 
 -- after a leave nothing is pending
-left_over : (leave : Option ℕ) (m : ℕ) (c : PlainCell) (e : Event) (d : Stepped) → IsTidy c → Stays leave c → next_event m c ≡ Some e → StepOf e d → e.cause ≡ None → (d.cell.inbox ≡ []) × (d.cell.script ≡ [])
+left_over : (leave : Option ℕ) (m : ℕ) (c : PlainCell) (e : Event) (d : Stepped) → IsTidy c → Stays leave c → next_event m c ≡ Some e
+    → StepOf e d → e.cause ≡ None → (d.cell.inbox ≡ []) × (d.cell.script ≡ [])
 left_over leave m c e d tidy s q did none =
     let l = subst (OnEvent (LeaveOf m c)) q (next_leaves m c) none in
     let k = l.0 in
@@ -174,18 +182,22 @@ left_over leave m c e d tidy s q did none =
     let rank = (subst HasOwnRanks l.2 s.ranks).0 in
     let least : Least e.key (next_event m c) = subst (Least e.key) (sym q) (from_refl key_cmp key_total e.key) in
     let from = (above_least e.key m c tidy least).flights in
-    let from_k : AllIn (λ f. NotBefore (mark_key m k) (arrival_key m f)) c.inbox = subst (λ x. AllIn (λ f. NotBefore x (arrival_key m f)) c.inbox) l.6 from in
-    let up : AllIn (λ f. is_up_to f.arrival (Some k.at) ≡ true) c.inbox = subst (λ o. AllIn (λ f. is_up_to f.arrival o ≡ true) c.inbox) marks.0 s.flights in
+    let from_k : AllIn (λ f. NotBefore (mark_key m k) (arrival_key m f)) c.inbox =
+    subst (λ x. AllIn (λ f. NotBefore x (arrival_key m f)) c.inbox) l.6 from in
+    let up : AllIn (λ f. is_up_to f.arrival (Some k.at) ≡ true) c.inbox =
+    subst (λ o. AllIn (λ f. is_up_to f.arrival o ≡ true) c.inbox) marks.0 s.flights in
     let empty = no_flight k.at m k c.inbox (leave_rank k rank l.3) refl up from_k in
     (did.inbox ∙ l.4 ∙ empty, did.script ∙ l.5 ∙ marks.1)
 
-pub stays_step : (leave : Option ℕ) (m : ℕ) (c : PlainCell) (e : Event) (d : Stepped) → IsTidy c → Stays leave c → next_event m c ≡ Some e → step_at (Some e) ≡ Done d → Stays leave d.cell
+pub stays_step : (leave : Option ℕ) (m : ℕ) (c : PlainCell) (e : Event) (d : Stepped) → IsTidy c → Stays leave c → next_event m c ≡ Some e
+    → step_at (Some e) ≡ Done d → Stays leave d.cell
 stays_step leave m c e d tidy s q x =
     let rest_of : RestOf c e = subst (OnEvent (RestOf c)) q (next_rest m c) in
     let did : StepOf e d = subst (OnStep (StepOf e)) x (step_is_of e) in
     let active : ActiveOrLeft e d = subst (OnStep (ActiveOrLeft e)) x (active_handle e e.rest.holds e.cause refl) in
     record {
-      flights = subst (AllIn (λ f. is_up_to f.arrival leave ≡ true)) (sym did.inbox) (up_to_tail (λ f. is_up_to f.arrival leave ≡ true) _ _ rest_of.inbox s.flights);
+      flights = subst (AllIn (λ f. is_up_to f.arrival leave ≡ true)) (sym did.inbox)
+          (up_to_tail (λ f. is_up_to f.arrival leave ≡ true) _ _ rest_of.inbox s.flights);
       marks = subst (EndsAtLeave leave) (sym did.script) (marks_tail leave _ _ rest_of.script s.marks);
       ranks = subst HasOwnRanks (sym did.script) (ranks_tail _ _ rest_of.script s.ranks);
       over = elim active [
@@ -194,10 +206,12 @@ stays_step leave m c e d tidy s q x =
       ];
     }
 
-pub stays_hear_at : (leave : Option ℕ) (p : Packet) (o : Option ℕ) (c : PlainCell) → ((at : ℕ) → o ≡ Some at → (is_up_to at leave ≡ true) × IsActive c.holds) → Stays leave c → Stays leave (hear_at p o c)
+pub stays_hear_at : (leave : Option ℕ) (p : Packet) (o : Option ℕ) (c : PlainCell)
+    → ((at : ℕ) → o ≡ Some at → (is_up_to at leave ≡ true) × IsActive c.holds) → Stays leave c → Stays leave (hear_at p o c)
 stays_hear_at leave p None c h s = s
 stays_hear_at leave p (Some at) c h s = record {
-  flights = AllIn-place (λ f. is_up_to f.arrival leave ≡ true) flight_cmp (record { arrival = at; packet = p }) c.inbox (h at refl).0 s.flights;
+  flights = AllIn-place (λ f. is_up_to f.arrival leave ≡ true) flight_cmp (record { arrival = at; packet = p }) c.inbox
+      (h at refl).0 s.flights;
   marks = s.marks;
   ranks = s.ranks;
   over = active_over c.holds (hear_at p (Some at) c) (h at refl).1;
@@ -212,15 +226,20 @@ own_step_not_spent leave end m c s h = elim (before end (next_event m c)) as (λ
   | Some e ↦ λ q. not_spent e (rest_active leave m c s e (before_some end (next_event m c) e q).0) (sym (ap step_at q) ∙ h)
 ] refl
 
-stays_own : (leave : Option ℕ) (end m : ℕ) (c : PlainCell) (d : Stepped) → IsTidy c → Stays leave c → own_step end m c ≡ Done d → Stays leave d.cell × IsTidy d.cell
+stays_own : (leave : Option ℕ) (end m : ℕ) (c : PlainCell) (d : Stepped) → IsTidy c → Stays leave c → own_step end m c ≡ Done d
+    → Stays leave d.cell × IsTidy d.cell
 unfolding own_step
-stays_own leave end m c d tidy s h = elim (before end (next_event m c)) as (λ o. before end (next_event m c) ≡ o → Stays leave d.cell × IsTidy d.cell) [
-  | None ↦ λ q. let x : Idle ≡ Done d = sym (ap step_at q) ∙ h in cc
-  | Some e ↦ λ q.
-      let next = (before_some end (next_event m c) e q).0 in
-      let x = sym (ap step_at q) ∙ h in
-      (stays_step leave m c e d tidy s next x, subst (OnStep (λ d. IsTidy d.cell)) x (tidy_step e (subst (OnEvent RestTidy) next (next_tidy m c tidy))))
-] refl
+stays_own leave end m c d tidy s h = elim (before end (next_event m c)) as
+    (λ o. before end (next_event m c) ≡ o → Stays leave d.cell × IsTidy d.cell) [
+      | None ↦ λ q. let x : Idle ≡ Done d = sym (ap step_at q) ∙ h in cc
+      | Some e ↦ λ q.
+          let next = (before_some end (next_event m c) e q).0 in
+          let x = sym (ap step_at q) ∙ h in (
+            stays_step leave m c e d tidy s next x,
+            subst (OnStep (λ d. IsTidy d.cell)) x
+                (tidy_step e (subst (OnEvent RestTidy) next (next_tidy m c tidy))),
+          )
+    ] refl
 
 -- an own run meets no record that is gone
 pub own_never_spent : (leave : Option ℕ) (end m n : ℕ) (c : PlainCell) → IsTidy c → Stays leave c → own_end end m n c ≢ Spent
@@ -234,7 +253,8 @@ own_never_spent leave end m (suc n) c tidy s h = elim (own_step end m c) as (λ 
 ] refl
 
 -- a member that is gone after a step left at the time of the step
-pub left_at : (leave : Option ℕ) (m : ℕ) (c : PlainCell) (e : Event) (d : Stepped) → Stays leave c → next_event m c ≡ Some e → step_at (Some e) ≡ Done d → IsActive d.cell.holds ⊎ (leave ≡ Some e.key.time)
+pub left_at : (leave : Option ℕ) (m : ℕ) (c : PlainCell) (e : Event) (d : Stepped) → Stays leave c → next_event m c ≡ Some e
+    → step_at (Some e) ≡ Done d → IsActive d.cell.holds ⊎ (leave ≡ Some e.key.time)
 left_at leave m c e d s q x =
     let active : ActiveOrLeft e d = subst (OnStep (ActiveOrLeft e)) x (active_handle e e.rest.holds e.cause refl) in
     elim active [

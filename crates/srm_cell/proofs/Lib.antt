@@ -1,5 +1,5 @@
 pub mod Entries
-pub mod Lines
+pub mod InboxLines
 pub mod Nexts
 pub mod Telling
 pub mod Saying

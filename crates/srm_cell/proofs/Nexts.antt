@@ -1,5 +1,6 @@
 -- Where a cell has its next event.
-use Rattle.std.proofs.Common.{◌≡◌, ◌<◌, ◌≤◌, true, false, cond, nat_lt, lt-ltb, le-ltb, ℕ, List, [], ◌∷◌, Option, Some, None, option_map, slice_get, refl, sym, ap, ◌∙◌, subst, Ordering, Less, Equal, Greater}
+use Rattle.std.proofs.Common.{◌≡◌, ◌<◌, ◌≤◌, true, false, cond, nat_lt, lt-ltb, le-ltb, ℕ, List, [], ◌∷◌, Option, Some, None, option_map}
+use Rattle.std.proofs.Common.{slice_get, refl, sym, ap, ◌∙◌, subst, Ordering, Less, Equal, Greater}
 use Rattle.std.specs.Ordering.{is_gt}
 use Rattle.srm_net.specs.Keys.{key_cmp}
 use Rattle.srm_net.specs.declared.key.Key.{Key}
@@ -8,7 +9,8 @@ use Rattle.srm_scenario.specs.declared.mark.Mark.{Mark}
 use Rattle.srm_member.specs.declared.due.Due.{Due}
 use Rattle.srm_member.specs.Record.{Record, Active, Gone, due_of}
 use Rattle.srm_cell.specs.declared.flight.Flight.{Flight}
-use Rattle.srm_cell.specs.Cells.{PlainCell, Event, first_arrival, first_mark, next_timer, timer_event, next_event, earlier, by_key, before, step_at, own_step, handle, Idle}
+use Rattle.srm_cell.specs.Cells.{PlainCell, Event, first_arrival, first_mark, next_timer, timer_event, next_event, earlier, by_key, before}
+use Rattle.srm_cell.specs.Cells.{step_at, own_step, handle, Idle}
 use Rattle.srm_cell.specs.declared.pending.Pending.{Pending}
 use Rattle.srm_cell.specs.Pending.{Stands, sooner}
 use Rattle.srm_cell.specs.Views.{HoldsRecord, due_in}
@@ -17,11 +19,18 @@ use Rattle.srm_cell.specs.Views.{HoldsRecord, due_in}
 abbrev pub Known : Key → Option Event → Option Event → Type 0
 Known k o q = (e : Event) × (o ≡ Some e) × (k ≡ e.key) × (q ≡ Some e)
 
-pub arrival_known : (m n : ℕ) (p : PlainCell) (fs : List Flight) (t : ℕ) (id : PacketId) → n ≡ m → p.inbox ≡ fs → ◌≡◌ {A = Option (ℕ × PacketId)} (Some (t, id)) (option_map (λ (f : Flight). (f.arrival, f.packet.id)) (slice_get fs 0))
-    → Known (record { time = t; member = n; rank = 1; a = id.sender; b = 0; c = id.count }) (first_arrival m p p.inbox) (first_arrival m p p.inbox)
-arrival_known m n p fs t id number inbox h = subst (λ xs. Known (record { time = t; member = n; rank = 1; a = id.sender; b = 0; c = id.count }) (first_arrival m p xs) (first_arrival m p xs)) (sym inbox) (by fs h)
+pub arrival_known : (m n : ℕ) (p : PlainCell) (fs : List Flight) (t : ℕ) (id : PacketId) → n ≡ m → p.inbox ≡ fs
+    → ◌≡◌ {A = Option (ℕ × PacketId)} (Some (t, id)) (option_map (λ (f : Flight). (f.arrival, f.packet.id)) (slice_get fs 0))
+    → Known (record { time = t; member = n; rank = 1; a = id.sender; b = 0; c = id.count }) (first_arrival m p p.inbox)
+    (first_arrival m p p.inbox)
+arrival_known m n p fs t id number inbox h = subst
+    (λ xs. Known (record { time = t; member = n; rank = 1; a = id.sender; b = 0; c = id.count }) (first_arrival m p xs)
+    (first_arrival m p xs)) (sym inbox) (by fs h)
   where
-    by : (fs : List Flight) → ◌≡◌ {A = Option (ℕ × PacketId)} (Some (t, id)) (option_map (λ (f : Flight). (f.arrival, f.packet.id)) (slice_get fs 0)) → Known (record { time = t; member = n; rank = 1; a = id.sender; b = 0; c = id.count }) (first_arrival m p fs) (first_arrival m p fs)
+    by : (fs : List Flight) → ◌≡◌ {A = Option (ℕ × PacketId)} (Some (t, id))
+        (option_map (λ (f : Flight). (f.arrival, f.packet.id)) (slice_get fs 0))
+        → Known (record { time = t; member = n; rank = 1; a = id.sender; b = 0; c = id.count }) (first_arrival m p fs)
+        (first_arrival m p fs)
     by [] h = cc
     by (f ∷ fs) h =
         let pair : ◌≡◌ {A = ℕ × PacketId} (t, id) (f.arrival, f.packet.id) = cc in
@@ -30,8 +39,11 @@ arrival_known m n p fs t id number inbox h = subst (λ xs. Known (record { time 
         (_, refl, (λ i. record { time = time i; member = number i; rank = 1; a = (same i).sender; b = 0; c = (same i).count }), refl)
 
 pub mark_known : (m n : ℕ) (p : PlainCell) (ks rest : List Mark) (k : Mark) → n ≡ m → p.script ≡ ks → ks ≡ k ∷ rest
-    → Known (record { time = k.at; member = n; rank = k.rank; a = 0; b = 0; c = k.place }) (first_mark m p p.script) (first_mark m p p.script)
-mark_known m n p ks rest k number script h = subst (λ xs. Known (record { time = k.at; member = n; rank = k.rank; a = 0; b = 0; c = k.place }) (first_mark m p xs) (first_mark m p xs)) (sym (script ∙ h))
+    → Known (record { time = k.at; member = n; rank = k.rank; a = 0; b = 0; c = k.place }) (first_mark m p p.script)
+    (first_mark m p p.script)
+mark_known m n p ks rest k number script h = subst
+    (λ xs. Known (record { time = k.at; member = n; rank = k.rank; a = 0; b = 0; c = k.place }) (first_mark m p xs) (first_mark m p xs))
+    (sym (script ∙ h))
     (_, refl, (λ i. record { time = k.at; member = number i; rank = k.rank; a = 0; b = 0; c = k.place }), refl)
 
 pub held_due : (o : Option Record) (h : Record) → HoldsRecord o h → due_of h ≡ due_in o
@@ -40,20 +52,45 @@ held_due None (Gone f) g = refl
 held_due (Some r) h g = ap due_of g
 
 pub timer_known : (m n : ℕ) (p : PlainCell) (o : Option Record) (d : Due) → n ≡ m → HoldsRecord o p.holds → Some d ≡ due_in o
-    → Known (record { time = d.time; member = n; rank = d.rank; a = d.name.source; b = d.name.page; c = d.name.number }) (next_timer m p (due_of p.holds)) (Some (timer_event m p d))
+    → Known (record { time = d.time; member = n; rank = d.rank; a = d.name.source; b = d.name.page; c = d.name.number })
+    (next_timer m p (due_of p.holds)) (Some (timer_event m p d))
 timer_known m n p o d number holds h =
-    let due : due_of p.holds ≡ Some d = held_due o p.holds holds ∙ sym h in
-    (timer_event m p d, ap (next_timer m p) due, (λ i. record { time = d.time; member = number i; rank = d.rank; a = d.name.source; b = d.name.page; c = d.name.number }), refl)
+    let due : due_of p.holds ≡ Some d = held_due o p.holds holds ∙ sym h in (
+      timer_event m p d,
+      ap (next_timer m p) due,
+      (λ i. record { time = d.time; member = number i; rank = d.rank; a = d.name.source; b = d.name.page; c = d.name.number }),
+      refl,
+    )
 
 -- ---- the sooner of two
 
-sooner_by : (m : ℕ) (c : PlainCell) (p q : Pending) (x y : Option Event) (r : Ordering) → key_cmp p.key q.key ≡ r → Stands m c (Some p) x → Stands m c (Some q) y
+sooner_by : (m : ℕ) (c : PlainCell) (p q : Pending) (x y : Option Event) (r : Ordering) → key_cmp p.key q.key ≡ r → Stands m c (Some p) x
+    → Stands m c (Some q) y
     → Stands m c (cond (is_gt r) (Some q) (Some p)) (earlier x y)
-sooner_by m c p q x y Less r h g = (h.0, (λ i. earlier (h.1 i) (g.1 i)) ∙ ap (λ o. Some (by_key o h.0 g.0)) ((λ i. key_cmp (sym h.2 i) (sym g.2 i)) ∙ r), h.2, h.3)
-sooner_by m c p q x y Equal r h g = (h.0, (λ i. earlier (h.1 i) (g.1 i)) ∙ ap (λ o. Some (by_key o h.0 g.0)) ((λ i. key_cmp (sym h.2 i) (sym g.2 i)) ∙ r), h.2, h.3)
-sooner_by m c p q x y Greater r h g = (g.0, (λ i. earlier (h.1 i) (g.1 i)) ∙ ap (λ o. Some (by_key o h.0 g.0)) ((λ i. key_cmp (sym h.2 i) (sym g.2 i)) ∙ r), g.2, g.3)
+sooner_by m c p q x y Less r h g = (
+  h.0,
+  (λ i. earlier (h.1 i) (g.1 i)) ∙
+      ap (λ o. Some (by_key o h.0 g.0)) ((λ i. key_cmp (sym h.2 i) (sym g.2 i)) ∙ r),
+  h.2,
+  h.3,
+)
+sooner_by m c p q x y Equal r h g = (
+  h.0,
+  (λ i. earlier (h.1 i) (g.1 i)) ∙
+      ap (λ o. Some (by_key o h.0 g.0)) ((λ i. key_cmp (sym h.2 i) (sym g.2 i)) ∙ r),
+  h.2,
+  h.3,
+)
+sooner_by m c p q x y Greater r h g = (
+  g.0,
+  (λ i. earlier (h.1 i) (g.1 i))
+      ∙ ap (λ o. Some (by_key o h.0 g.0)) ((λ i. key_cmp (sym h.2 i) (sym g.2 i)) ∙ r),
+  g.2,
+  g.3,
+)
 
-pub sooner_stands : (m : ℕ) (c : PlainCell) (d e : Option Pending) (x y : Option Event) → Stands m c d x → Stands m c e y → Stands m c (sooner d e) (earlier x y)
+pub sooner_stands : (m : ℕ) (c : PlainCell) (d e : Option Pending) (x y : Option Event) → Stands m c d x → Stands m c e y
+    → Stands m c (sooner d e) (earlier x y)
 sooner_stands m c None e x y h g = subst (λ o. Stands m c e (earlier o y)) (sym h) g
 sooner_stands m c (Some p) None x y h g = (h.0, (λ i. earlier (h.1 i) (g i)), h.2, h.3)
 sooner_stands m c (Some p) (Some q) x y h g = sooner_by m c p q x y (key_cmp p.key q.key) refl h g
@@ -72,7 +109,8 @@ module _ (end m : ℕ) (p : PlainCell) where
       let no : nat_lt h.0.key.time end ≡ false = le-ltb _ _ late in
       ap (λ o. step_at (before end o)) h.1 ∙ ap (λ b. step_at (cond b (Some h.0) None)) no
 
-  pub takes : (q : Pending) → (h : Stands m p (Some q) (next_event m p)) → q.key.time < end → own_step end m p ≡ handle h.0 h.0.rest.holds h.0.cause
+  pub takes : (q : Pending) → (h : Stands m p (Some q) (next_event m p)) → q.key.time < end → own_step end m p
+      ≡ handle h.0 h.0.rest.holds h.0.cause
   unfolding own_step
   takes q h lt =
       let early : h.0.key.time < end = subst (λ (k : Key). k.time < end) h.2 lt in

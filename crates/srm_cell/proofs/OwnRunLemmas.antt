@@ -46,7 +46,8 @@ module _ (end m : ℕ) where
   pub end_done : (n : ℕ) (c : PlainCell) (d : Stepped) → own_step end m c ≡ Done d → own_end end m (suc n) c ≡ own_end end m n d.cell
   end_done n c d e = end_first n c ∙ ap (end_by n) e
 
-  pub rows_done : (n : ℕ) (c : PlainCell) (d : Stepped) → own_step end m c ≡ Done d → own_rows end m (suc n) c ≡ d.row ∷ own_rows end m n d.cell
+  pub rows_done : (n : ℕ) (c : PlainCell) (d : Stepped) → own_step end m c
+      ≡ Done d → own_rows end m (suc n) c ≡ d.row ∷ own_rows end m n d.cell
   rows_done n c d e = rows_first n c ∙ ap (rows_by n) e
 
   pub after_done : (n : ℕ) (c : PlainCell) (d : Stepped) → own_step end m c ≡ Done d → own_after end m (suc n) c ≡ own_after end m n d.cell
@@ -75,14 +76,16 @@ module _ (end m : ℕ) where
   -- ---- an own run has one result
 
   -- the step of an own run that ends is made, or nothing is pending
-  pub first_of_run : (n : ℕ) (c : PlainCell) (o : StepOutcome Stepped) → own_step end m c ≡ o → own_end end m n c ≡ Idle → (o ≡ Idle) ⊎ ((d : Stepped) × (k : ℕ) × (o ≡ Done d) × (n ≡ suc k) × (own_end end m k d.cell ≡ Idle))
+  pub first_of_run : (n : ℕ) (c : PlainCell) (o : StepOutcome Stepped) → own_step end m c ≡ o → own_end end m n c ≡ Idle → (o ≡ Idle)
+      ⊎ ((d : Stepped) × (k : ℕ) × (o ≡ Done d) × (n ≡ suc k) × (own_end end m k d.cell ≡ Idle))
   first_of_run zero c o e h = inl (sym e ∙ sym (end_now c) ∙ h)
   first_of_run (suc n) c Idle e h = inl refl
   first_of_run (suc n) c Full e h = let x : Full ≡ Idle = sym (ap (end_by n) e) ∙ sym (end_first n c) ∙ h in cc
   first_of_run (suc n) c Spent e h = let x : Spent ≡ Idle = sym (ap (end_by n) e) ∙ sym (end_first n c) ∙ h in cc
   first_of_run (suc n) c (Done d) e h = inr (d, n, refl, refl, sym (end_done n c d e) ∙ h)
 
-  pub same_run : (n k : ℕ) (c : PlainCell) → own_end end m n c ≡ Idle → own_end end m k c ≡ Idle → (own_rows end m n c ≡ own_rows end m k c) × (own_after end m n c ≡ own_after end m k c)
+  pub same_run : (n k : ℕ) (c : PlainCell) → own_end end m n c ≡ Idle → own_end end m k c ≡ Idle → (own_rows end m n c ≡ own_rows end m k c)
+      × (own_after end m n c ≡ own_after end m k c)
   same_run zero k c h g =
       let e : own_step end m c ≡ Idle = sym (end_now c) ∙ h in
       (rows_idle 0 c e ∙ sym (rows_idle k c e), after_idle 0 c e ∙ sym (after_idle k c e))

@@ -1,5 +1,6 @@
 -- Own runs are finite: a step at a tick leaves fewer events at that tick, and nothing before it.
-use Rattle.std.proofs.Common.{◌≡◌, ℕ, zero, suc, ◌<◌, ◌≤◌, ◌+◌, true, false, refl, sym, ap, ◌∙◌, subst, ◌≢◌, ◌⊎◌, inl, inr, arith, Option, Some, None, nat_lt, lt-ltb, le-ltb, eqb-true, ◌==◌, le_refl}
+use Rattle.std.proofs.Common.{◌≡◌, ℕ, zero, suc, ◌<◌, ◌≤◌, ◌+◌, true, false, refl, sym, ap, ◌∙◌, subst, ◌≢◌, ◌⊎◌, inl, inr, arith, Option}
+use Rattle.std.proofs.Common.{Some, None, nat_lt, lt-ltb, le-ltb, eqb-true, ◌==◌, le_refl}
 use Rattle.std.proofs.lemmas.Bool.{eqb-false}
 use Rattle.srm_cell.proofs.CellLemmas.{keep}
 use Rattle.srm_cell.proofs.CellSteps.{some_not_idle}
@@ -8,7 +9,8 @@ use Rattle.srm_cell.proofs.Leaving.{Stays, not_spent, rest_active, stays_step}
 use Rattle.srm_cell.proofs.OwnRunLemmas.{end_done}
 use Rattle.srm_cell.proofs.Rising.{Above, IsAbove, OnEvent, OnStep, next_above, step_above}
 use Rattle.srm_cell.proofs.Tidy.{IsTidy, Least, NotBefore, RestTidy, above_least, next_tidy, not_before_time, tidy_step}
-use Rattle.srm_cell.specs.Cells.{Done, Event, Full, Idle, PlainCell, Silent, Spent, Stepped, before, handle, next_event, own_step, pending_at, sending_step, step_at}
+use Rattle.srm_cell.specs.Cells.{Done, Event, Full, Idle, PlainCell, Silent, Spent, Stepped, before, handle, next_event, own_step}
+use Rattle.srm_cell.specs.Cells.{pending_at, sending_step, step_at}
 use Rattle.srm_cell.specs.OwnRuns.{own_end}
 use Rattle.srm_member.proofs.FewerTimers.{SoundRecord}
 use Rattle.srm_member.proofs.LawProofs.{as_listener, no_body, same_fixed}
@@ -51,7 +53,8 @@ module _ (leave : Option ℕ) (end m : ℕ) where
 
   one_tick : (t : ℕ) → t < end → (c : PlainCell) → IsTidy c → SoundRecord c.holds → Stays leave c → Above (FromTick t) m c
       → ((b : PlainCell) → IsTidy b → SoundRecord b.holds → Stays leave b → Above (FromTick (suc t)) m b → Ended b)
-      → ((b : PlainCell) → pending_at t b < pending_at t c → IsTidy b → SoundRecord b.holds → Stays leave b → Above (FromTick t) m b → Ended b)
+      → ((b : PlainCell) → pending_at t b < pending_at t c → IsTidy b → SoundRecord b.holds → Stays leave b → Above (FromTick t) m b
+      → Ended b)
       → (o : Option Event) → next_event m c ≡ o → Ended c
   unfolding own_step
   one_tick t lt c tidy sound stays above later again None h = ended_now c (inl (ap (λ o. step_at (before end o)) h))
@@ -73,23 +76,29 @@ module _ (leave : Option ℕ) (end m : ℕ) where
                   (subst (OnStep (λ d. IsTidy d.cell)) x (tidy_step e rest_tidy))
                   (subst (OnStep (λ d. SoundRecord d.cell.holds)) x (sound_step e (rest_sound c e taken sound)))
                   (stays_step leave m c e d tidy stays h x)
-                  (subst (OnStep (λ d. Above (FromTick t) m d.cell)) x (step_above (FromTick t) m e.key.time (λ k l. omega arith) e refl facts.1)))
+                  (subst (OnStep (λ d. Above (FromTick t) m d.cell)) x
+                  (step_above (FromTick t) m e.key.time (λ k l. omega arith) e refl facts.1)))
             ] refl
         | false ↦ λ q.
             let ne : e.key.time ≢ t = eqb-false _ _ q in
             let from : t ≤ e.key.time = facts.0 in
             let least : Least e.key (next_event m c) = subst (Least e.key) (sym h) (from_refl key_cmp key_total e.key) in
-            later c tidy sound stays (above_weaker (NotBefore e.key) (FromTick (suc t)) (λ k n. let le = not_before_time e.key k n in omega arith) m c (above_least e.key m c tidy least))
+            later c tidy sound stays (above_weaker (NotBefore e.key) (FromTick (suc t))
+            (λ k n. let le = not_before_time e.key k n in omega arith) m c (above_least e.key m c tidy least))
       ] refl
 
   at_tick : (t : ℕ) → t < end → ((b : PlainCell) → IsTidy b → SoundRecord b.holds → Stays leave b → Above (FromTick (suc t)) m b → Ended b)
       → (j : ℕ) (c : PlainCell) → pending_at t c ≤ j → IsTidy c → SoundRecord c.holds → Stays leave c → Above (FromTick t) m c → Ended c
-  at_tick t lt later zero c le tidy sound stays above = one_tick t lt c tidy sound stays above later (λ b less bt bs bl ba. absurd (omega arith)) (next_event m c) refl
-  at_tick t lt later (suc j) c le tidy sound stays above = one_tick t lt c tidy sound stays above later (λ b less bt bs bl ba. at_tick t lt later j b (omega arith) bt bs bl ba) (next_event m c) refl
+  at_tick t lt later zero c le tidy sound stays above = one_tick t lt c tidy sound stays above later
+      (λ b less bt bs bl ba. absurd (omega arith)) (next_event m c) refl
+  at_tick t lt later (suc j) c le tidy sound stays above = one_tick t lt c tidy sound stays above later
+      (λ b less bt bs bl ba. at_tick t lt later j b (omega arith) bt bs bl ba) (next_event m c) refl
 
   ended_from : (k t : ℕ) → t + k ≡ end → (c : PlainCell) → IsTidy c → SoundRecord c.holds → Stays leave c → Above (FromTick t) m c → Ended c
-  ended_from zero t e c tidy sound stays above = ended_now c (inl (past_end c (above_weaker (FromTick t) (FromTick end) (λ k h. omega arith) m c above)))
-  ended_from (suc k) t e c tidy sound stays above = at_tick t (omega arith) (λ b bt bs bl ba. ended_from k (suc t) (omega arith) b bt bs bl ba) (pending_at t c) c (le_refl _) tidy sound stays above
+  ended_from zero t e c tidy sound stays above = ended_now c
+      (inl (past_end c (above_weaker (FromTick t) (FromTick end) (λ k h. omega arith) m c above)))
+  ended_from (suc k) t e c tidy sound stays above = at_tick t (omega arith)
+      (λ b bt bs bl ba. ended_from k (suc t) (omega arith) b bt bs bl ba) (pending_at t c) c (le_refl _) tidy sound stays above
 
   pub own_run_ends : (c : PlainCell) → IsTidy c → SoundRecord c.holds → Stays leave c → Ended c
   own_run_ends c tidy sound stays = ended_from end 0 (omega arith) c tidy sound stays (from_zero m c)
@@ -99,12 +108,14 @@ module _ (leave : Option ℕ) (end m : ℕ) where
 abbrev pub SentNothing : Stepped → Type 0
 SentNothing d = (d.row.sent ≡ None) × Silent d.cell.holds
 
-silent_handle : (e : Event) (holds : Record) (cause : Option Cause) → e.rest.holds ≡ holds → Silent holds → OnStep SentNothing (handle e holds cause)
+silent_handle : (e : Event) (holds : Record) (cause : Option Cause) → e.rest.holds ≡ holds → Silent holds
+    → OnStep SentNothing (handle e holds cause)
 unfolding handle
 silent_handle e (Active m) (Some cause) q h =
     let r = react m e.key.time cause in
     let none : r.answer.body ≡ None = ap (λ (r : Reaction). r.answer.body) (as_listener m e.key.time cause h) ∙ no_body m cause in
-    subst (λ b. OnStep SentNothing (sending_step e r b)) (sym none) (refl, ap (λ (f : Fixed). is_listener f.role) (same_fixed m e.key.time cause) ∙ h)
+    subst (λ b. OnStep SentNothing (sending_step e r b)) (sym none)
+    (refl, ap (λ (f : Fixed). is_listener f.role) (same_fixed m e.key.time cause) ∙ h)
 silent_handle e (Active m) None q h = (refl, tt)
 silent_handle e (Gone f) cause q h = tt
 

@@ -9,5 +9,15 @@ use Rattle.srm_cell.specs.Cells.{PlainCell}
 use Rattle.srm_cell.specs.Views.{HasParts}
 
 module _ {X : Type 0} {H : X → Type 0} where
-  pub same_parts : (f : DynBox X Global H → Record) (m : ℕ) (c : Cell X H) (p : PlainCell) (o : Option Pending) → HasParts f m c p → HasParts f m (record c { next = o }) p
-  same_parts f m c p o h = record { number = h.number; holds = h.holds; sent = h.sent; inbox = h.inbox; script = h.script; exit = h.exit; none_once_left = h.none_once_left }
+  pub same_parts : (f : DynBox X Global H → Record) (m : ℕ) (c : Cell X H) (p : PlainCell) (o : Option Pending) → HasParts f m c p
+      → HasParts f m (record c { next = o }) p
+  same_parts f m c p o h = record {
+    number = h.number;
+    holds = h.holds;
+    sent = h.sent;
+    inbox = h.inbox;
+    script = h.script;
+    exit =
+        h.exit;
+    none_once_left = h.none_once_left;
+  }

@@ -1,7 +1,9 @@
 -- Bounds on all that a cell has pending, and the row of a step.
-use Rattle.std.proofs.Common.{◌≡◌, ℕ, ◌<◌, ◌^◌, Bool, true, false, cond, List, [], ◌∷◌, refl, sym, subst, Ordering, Less, Equal, Greater, Option, Some, None, nat_lt}
+use Rattle.std.proofs.Common.{◌≡◌, ℕ, ◌<◌, ◌^◌, Bool, true, false, cond, List, [], ◌∷◌, refl, sym, subst, Ordering, Less, Equal, Greater}
+use Rattle.std.proofs.Common.{Option, Some, None, nat_lt}
 use Rattle.srm_cell.proofs.CellLemmas.{first_timer, keep, next_event_is}
-use Rattle.srm_cell.specs.Cells.{arrival_key, mark_key, timer_key, Done, Event, Full, Idle, PlainCell, Spent, StepOutcome, Stepped, before, by_key, earlier, first_arrival, first_mark, handle, hear_at, next_event, sending_step, step_at}
+use Rattle.srm_cell.specs.Cells.{arrival_key, mark_key, timer_key, Done, Event, Full, Idle, PlainCell, Spent, StepOutcome, Stepped, before}
+use Rattle.srm_cell.specs.Cells.{by_key, earlier, first_arrival, first_mark, handle, hear_at, next_event, sending_step, step_at}
 use Rattle.srm_cell.specs.Flights.{flight_cmp}
 use Rattle.srm_cell.specs.declared.flight.Flight.{Flight}
 use Rattle.srm_member.proofs.AllIn.{AllIn, AllIn-place}
@@ -56,7 +58,8 @@ module _ (P : Key → Type 0) (m : ℕ) where
   abbrev pub IsAbove : Event → Type 0
   IsAbove e = P e.key × Above e.rest
 
-  arrivals_above : (c : PlainCell) (fs : List Flight) → AllIn (λ f. P (arrival_key m f)) fs → Above c → OnEvent IsAbove (first_arrival m c fs)
+  arrivals_above : (c : PlainCell) (fs : List Flight) → AllIn (λ f. P (arrival_key m f)) fs → Above c
+      → OnEvent IsAbove (first_arrival m c fs)
   arrivals_above c [] h a = tt
   arrivals_above c (f ∷ fs) h a = (h.0, record { flights = h.1; marks = a.marks; dues = a.dues })
 
@@ -69,12 +72,20 @@ module _ (P : Key → Type 0) (m : ℕ) where
   timers_above c (d ∷ ds) h a = earlier_on IsAbove (Some _) (first_timer m c ds) (h.0, a) (timers_above c ds h.1 a)
 
   pub next_above : (c : PlainCell) → Above c → OnEvent IsAbove (next_event m c)
-  next_above c a = subst (OnEvent IsAbove) (sym (next_event_is m c)) (earlier_on IsAbove (first_arrival m c c.inbox) _ (arrivals_above c c.inbox a.flights a)
-      (earlier_on IsAbove (first_mark m c c.script) (first_timer m c (timers c.holds)) (marks_above c c.script a.marks a) (timers_above c (timers c.holds) a.dues a)))
+  next_above c a = subst (OnEvent IsAbove) (sym (next_event_is m c))
+      (earlier_on IsAbove (first_arrival m c c.inbox) _ (arrivals_above c c.inbox a.flights a)
+      (earlier_on IsAbove (first_mark m c c.script) (first_timer m c (timers c.holds)) (marks_above c c.script a.marks a)
+      (timers_above c (timers c.holds) a.dues a)))
 
-  pub hear_at_above : (p : Packet) (o : Option ℕ) (c : PlainCell) → ((at : ℕ) → o ≡ Some at → P (arrival_key m (record { arrival = at; packet = p }))) → Above c → Above (hear_at p o c)
+  pub hear_at_above : (p : Packet) (o : Option ℕ) (c : PlainCell) →
+      ((at : ℕ) → o ≡ Some at → P (arrival_key m (record { arrival = at; packet = p }))) → Above c → Above (hear_at p o c)
   hear_at_above p None c h a = a
-  hear_at_above p (Some at) c h a = record { flights = AllIn-place _ flight_cmp _ c.inbox (h at refl) a.flights; marks = a.marks; dues = a.dues }
+  hear_at_above p (Some at) c h a = record {
+    flights = AllIn-place _ flight_cmp _ c.inbox (h at refl) a.flights;
+    marks = a.marks;
+    dues =
+        a.dues;
+  }
 
   -- what a step leaves, where P holds of every later key
   module _ (t : ℕ) (later : (k : Key) → t < k.time → P k) where
@@ -82,15 +93,19 @@ module _ (P : Key → Type 0) (m : ℕ) where
     sending_by_above true x h = h
     sending_by_above false x h = tt
 
-    sending_above : (e : Event) (r : Reaction) (body : Option Body) → Above e.rest → AllIn (λ d. P (timer_key m d)) (timers_of r.memory) → OnStep (λ d. Above d.cell) (sending_step e r body)
+    sending_above : (e : Event) (r : Reaction) (body : Option Body) → Above e.rest → AllIn (λ d. P (timer_key m d)) (timers_of r.memory)
+        → OnStep (λ d. Above d.cell) (sending_step e r body)
     sending_above e r None a h = record { flights = a.flights; marks = a.marks; dues = h }
-    sending_above e r (Some body) a h = sending_by_above (nat_lt e.rest.sent (2 ^ 48)) _ (record { flights = a.flights; marks = a.marks; dues = h })
+    sending_above e r (Some body) a h = sending_by_above (nat_lt e.rest.sent (2 ^ 48)) _
+        (record { flights = a.flights; marks = a.marks; dues = h })
 
-    handle_above : (e : Event) (holds : Record) (cause : Option Cause) → e.key.time ≡ t → Above e.rest → AllIn (λ d. P (timer_key m d)) (timers holds) → OnStep (λ d. Above d.cell) (handle e holds cause)
+    handle_above : (e : Event) (holds : Record) (cause : Option Cause) → e.key.time ≡ t → Above e.rest
+        → AllIn (λ d. P (timer_key m d)) (timers holds) → OnStep (λ d. Above d.cell) (handle e holds cause)
     unfolding handle
     handle_above e (Active k) (Some cause) et a h =
         let r = react k e.key.time cause in
-        sending_above e r r.answer.body a (kept_react (λ d. P (timer_key m d)) e.key.time (λ d lt. later (timer_key m d) (subst (λ x. x < d.time) et lt)) k cause h)
+        sending_above e r r.answer.body a (kept_react (λ d. P (timer_key m d)) e.key.time
+        (λ d lt. later (timer_key m d) (subst (λ x. x < d.time) et lt)) k cause h)
     handle_above e (Active k) None et a h = record { flights = a.flights; marks = a.marks; dues = tt }
     handle_above e (Gone f) cause et a h = tt
 

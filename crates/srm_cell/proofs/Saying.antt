@@ -1,5 +1,6 @@
 -- What a member's answer makes of an event.
-use Rattle.std.proofs.Common.{◌≡◌, ℕ, ◌+◌, ◌<◌, ◌≤◌, ◌^◌, true, false, Bool, cond, Option, Some, None, Ok, Err, refl, sym, ap, ◌∙◌, subst, nat_lt, lt-ltb, le-ltb}
+use Rattle.std.proofs.Common.{◌≡◌, ℕ, ◌+◌, ◌<◌, ◌≤◌, ◌^◌, true, false, Bool, cond, Option, Some, None, Ok, Err, refl, sym, ap, ◌∙◌, subst}
+use Rattle.std.proofs.Common.{nat_lt, lt-ltb, le-ltb}
 use Rattle.srm_net.specs.declared.key.Key.{Key}
 use Rattle.srm_net.specs.declared.packet.Body.{Body}
 use Rattle.srm_member.specs.declared.cause.Cause.{Cause}
@@ -31,7 +32,8 @@ module _ (e : Event) (key : Key) (cause : Cause) (same : key ≡ e.key) (caused 
   abbrev Handled : Record → StepOutcome Stepped → Type 0
   Handled h o = handle e h e.cause ≡ o
 
-  answered : (r s : Record) (a : React) → Reacts r key.time cause (Ok a) s → (o : Option Body) → a.body ≡ o → (x : Reaction) × (x.answer ≡ a) × (s ≡ Active x.memory) × (handle e r e.cause ≡ sending_step e x o)
+  answered : (r s : Record) (a : React) → Reacts r key.time cause (Ok a) s
+      → (o : Option Body) → a.body ≡ o → (x : Reaction) × (x.answer ≡ a) × (s ≡ Active x.memory) × (handle e r e.cause ≡ sending_step e x o)
   unfolding handle
   answered (Gone f) s a h o b = absurd h
   answered (Active m) s a h o b =
@@ -49,26 +51,42 @@ module _ (e : Event) (key : Key) (cause : Cause) (same : key ≡ e.key) (caused 
       → handle e e.rest.holds e.cause ≡ Done (record { cell = record e.rest { holds = s }; row = row_of e a None })
   said_nothing r s a holds h b =
       let k = answered r s a h None b in
-      ap (λ q. handle e q e.cause) holds ∙ k.3 ∙ (λ i. Done (record { cell = record e.rest { holds = sym k.2 i }; row = row_of e (k.1 i) None }))
+      ap (λ q. handle e q e.cause) holds ∙ k.3 ∙
+      (λ i. Done (record { cell = record e.rest { holds = sym k.2 i }; row = row_of e (k.1 i) None }))
 
   -- and sends a packet
-  pub said : (r s : Record) (a : React) (body : Body) → e.rest.holds ≡ r → Reacts r key.time cause (Ok a) s → a.body ≡ Some body → e.rest.sent < 2 ^ 48
-      → handle e e.rest.holds e.cause ≡ Done (record { cell = record e.rest { holds = s; sent = e.rest.sent + 1 }; row = row_of e a (Some (packet_of e body)) })
+  pub said : (r s : Record) (a : React) (body : Body) → e.rest.holds ≡ r → Reacts r key.time cause (Ok a) s → a.body ≡ Some body
+      → e.rest.sent < 2 ^ 48
+      → handle e e.rest.holds e.cause ≡ Done
+      (record { cell = record e.rest { holds = s; sent = e.rest.sent + 1 }; row = row_of e a (Some (packet_of e body)) })
   said r s a body holds h b lt =
       let k = answered r s a h (Some body) b in
       let yes : nat_lt e.rest.sent (2 ^ 48) ≡ true = lt-ltb _ _ lt in
       ap (λ q. handle e q e.cause) holds ∙ k.3
-      ∙ ap (λ t. cond t (Done (record { cell = record e.rest { holds = Active k.0.memory; sent = e.rest.sent + 1 }; row = row_of e k.0.answer (Some (packet_of e body)) })) Full) yes
-      ∙ (λ i. Done (record { cell = record e.rest { holds = sym k.2 i; sent = e.rest.sent + 1 }; row = row_of e (k.1 i) (Some (packet_of e body)) }))
+      ∙ ap (λ t. cond t (Done (record {
+        cell = record e.rest { holds = Active k.0.memory; sent = e.rest.sent + 1 };
+        row =
+            row_of e k.0.answer (Some (packet_of e body));
+      })) Full) yes
+      ∙ (λ i. Done (record {
+        cell = record e.rest { holds = sym k.2 i; sent = e.rest.sent + 1 };
+        row =
+            row_of e (k.1 i) (Some (packet_of e body));
+      }))
 
   -- where the count is used up there is no packet
-  pub not_said : (r s : Record) (a : React) (body : Body) → e.rest.holds ≡ r → Reacts r key.time cause (Ok a) s → a.body ≡ Some body → 2 ^ 48 ≤ e.rest.sent
+  pub not_said : (r s : Record) (a : React) (body : Body) → e.rest.holds ≡ r → Reacts r key.time cause (Ok a) s → a.body ≡ Some body
+      → 2 ^ 48 ≤ e.rest.sent
       → handle e e.rest.holds e.cause ≡ Full
   not_said r s a body holds h b le =
       let k = answered r s a h (Some body) b in
       let no : nat_lt e.rest.sent (2 ^ 48) ≡ false = le-ltb _ _ le in
       ap (λ q. handle e q e.cause) holds ∙ k.3
-      ∙ ap (λ t. cond t (Done (record { cell = record e.rest { holds = Active k.0.memory; sent = e.rest.sent + 1 }; row = row_of e k.0.answer (Some (packet_of e body)) })) Full) no
+      ∙ ap (λ t. cond t (Done (record {
+        cell = record e.rest { holds = Active k.0.memory; sent = e.rest.sent + 1 };
+        row =
+            row_of e k.0.answer (Some (packet_of e body));
+      })) Full) no
 
 -- ---- where memory was refused there was something to do
 work_by : (b : Bool) (x : Stepped) → HasWork (cond b (Done x) Full)
@@ -79,13 +97,16 @@ sending_work : (e : Event) (r : Reaction) (body : Option Body) → HasWork (send
 sending_work e r None = tt
 sending_work e r (Some body) = work_by (nat_lt e.rest.sent (2 ^ 48)) _
 
-pub wanting : (e : Event) (cause : Cause) (at : ℕ) (r s : Record) → e.rest.holds ≡ r → e.cause ≡ Some cause → Reacts r at cause (Err member.NoMemory) s → HasWork (handle e e.rest.holds e.cause)
+pub wanting : (e : Event) (cause : Cause) (at : ℕ) (r s : Record) → e.rest.holds ≡ r → e.cause ≡ Some cause
+    → Reacts r at cause (Err member.NoMemory) s → HasWork (handle e e.rest.holds e.cause)
 unfolding handle
 wanting e cause at (Gone f) s holds caused h = absurd h
 wanting e cause at (Active m) s holds caused h =
-    subst HasWork (sym (ap (λ q. handle e q e.cause) holds ∙ ap (handle e (Active m)) caused)) (sending_work e (react m e.key.time cause) (react m e.key.time cause).answer.body)
+    subst HasWork (sym (ap (λ q. handle e q e.cause) holds ∙ ap (handle e (Active m)) caused))
+    (sending_work e (react m e.key.time cause) (react m e.key.time cause).answer.body)
 
-pub wanting_end : (e : Event) (r s : Record) → e.rest.holds ≡ r → e.cause ≡ None → Finishes r (Err member.NoMemory) s → HasWork (handle e e.rest.holds e.cause)
+pub wanting_end : (e : Event) (r s : Record) → e.rest.holds ≡ r → e.cause ≡ None → Finishes r (Err member.NoMemory) s
+    → HasWork (handle e e.rest.holds e.cause)
 unfolding handle
 wanting_end e (Gone f) s holds caused h = absurd h
 wanting_end e (Active m) s holds caused h = subst HasWork (sym (ap (λ q. handle e q e.cause) holds ∙ ap (handle e (Active m)) caused)) tt
@@ -96,12 +117,14 @@ ending_is_here (Gone f) s h = h
 
 -- at a leave
 pub left : (e : Event) (r s : Record) (x : Exit) → e.rest.holds ≡ r → e.cause ≡ None → Finishes r (Ok x) s
-    → IsGone s × (handle e e.rest.holds e.cause ≡ Done (record { cell = record e.rest { holds = s; exit = Some x }; row = row_of e parting None }))
+    → IsGone s × (handle e e.rest.holds e.cause ≡ Done
+    (record { cell = record e.rest { holds = s; exit = Some x }; row = row_of e parting None }))
 unfolding handle
 left e (Gone f) s x holds caused h = absurd h
 left e (Active m) s x holds caused h = (
   subst IsGone (sym h.1) tt,
-  ap (λ q. handle e q e.cause) holds ∙ ap (handle e (Active m)) caused ∙ (λ i. Done (record { cell = record e.rest { holds = sym h.1 i; exit = Some (sym h.0 i) }; row = row_of e parting None })),
+  ap (λ q. handle e q e.cause) holds ∙ ap (handle e (Active m)) caused ∙
+      (λ i. Done (record { cell = record e.rest { holds = sym h.1 i; exit = Some (sym h.0 i) }; row = row_of e parting None })),
 )
 
 -- ---- the box

@@ -1,5 +1,6 @@
 -- The packets of an own run: whose they are, and how many.
-use Rattle.std.proofs.Common.{◌≡◌, ◌<◌, ◌≤◌, ℕ, zero, suc, ◌-◌, ◌*◌, ◌^◌, Bool, true, false, cond, List, [], ◌∷◌, length, Option, Some, None, refl, sym, ap, ◌∙◌, subst, arith, nat_lt, ltb-true, length-append, All}
+use Rattle.std.proofs.Common.{◌≡◌, ◌<◌, ◌≤◌, ℕ, zero, suc, ◌-◌, ◌*◌, ◌^◌, Bool, true, false, cond, List, [], ◌∷◌, length, Option, Some}
+use Rattle.std.proofs.Common.{None, refl, sym, ap, ◌∙◌, subst, arith, nat_lt, ltb-true, length-append, All}
 use Rattle.std.specs.List.{cons_option}
 use Rattle.std.proofs.lemmas.List.Elements.{All-nil, All-cons}
 use Rattle.std.specs.declared.dyn_box.DynBox.{DynBox}
@@ -11,7 +12,8 @@ use Rattle.srm_member.specs.declared.row.Row.{Row}
 use Rattle.srm_member.specs.React.{Reaction, react}
 use Rattle.srm_member.specs.Record.{Active, Gone, Record}
 use Rattle.srm_cell.specs.declared.cell.Cell.{Cell}
-use Rattle.srm_cell.specs.Cells.{PlainCell, Event, StepOutcome, Idle, Full, Spent, Done, Stepped, before, handle, next_event, own_step, sending_step, step_at}
+use Rattle.srm_cell.specs.Cells.{PlainCell, Event, StepOutcome, Idle, Full, Spent, Done, Stepped, before, handle, next_event, own_step}
+use Rattle.srm_cell.specs.Cells.{sending_step, step_at}
 use Rattle.srm_cell.specs.OwnRuns.{own_rows}
 use Rattle.srm_cell.specs.Crossings.{packets_of, joined}
 use Rattle.srm_cell.specs.Totalled.{IsSentBelow}
@@ -54,7 +56,8 @@ counts_own : (end m : ℕ) (c : PlainCell) → CountsFrom c.sent (own_step end m
 unfolding own_step
 counts_own end m c = counts_at c (before end (next_event m c)) (before_on (RestOf c) end (next_event m c) (next_rest m c))
 
-one_packet : (b a : ℕ) (o : Option Packet) (ps : List Packet) → Counts b o a → length ps ≤ 2 ^ 48 - a → length (cons_option o ps) ≤ 2 ^ 48 - b
+one_packet : (b a : ℕ) (o : Option Packet) (ps : List Packet) → Counts b o a → length ps ≤ 2 ^ 48 - a
+    → length (cons_option o ps) ≤ 2 ^ 48 - b
 one_packet b a None ps h le = omega arith
 one_packet b a (Some p) ps h le = let lt = h.0 in let e = h.1 in omega arith
 
@@ -68,7 +71,8 @@ sent_before : (t end : ℕ) (o : Option Packet) → t < end → SentAt t o → S
 sent_before t end None lt h = tt
 sent_before t end (Some p) lt h = omega arith
 
-early_by : (end : ℕ) (b : Bool) (e : Event) → (b ≡ true → e.key.time < end) → (d : Stepped) → step_at (cond b (Some e) None) ≡ Done d → SentBefore end d.row.sent
+early_by : (end : ℕ) (b : Bool) (e : Event) → (b ≡ true → e.key.time < end) → (d : Stepped) → step_at (cond b (Some e) None) ≡ Done d
+    → SentBefore end d.row.sent
 early_by end true e lt d h = let r = subst (OnStep (RowOf e.key)) h (row_step e) in sent_before e.key.time end d.row.sent (lt refl) r.1
 early_by end false e lt d h = cc
 
@@ -81,7 +85,8 @@ unfolding own_step
 early end m c d h = early_at end (next_event m c) d h
 
 module _ (end m : ℕ) where
-  few_by : (n before : ℕ) → ((d : PlainCell) → length (packets_of (own_rows end m n d)) ≤ 2 ^ 48 - d.sent) → (o : StepOutcome Stepped) → CountsFrom before o → length (packets_of (rows_by end m n o)) ≤ 2 ^ 48 - before
+  few_by : (n before : ℕ) → ((d : PlainCell) → length (packets_of (own_rows end m n d)) ≤ 2 ^ 48 - d.sent) → (o : StepOutcome Stepped)
+      → CountsFrom before o → length (packets_of (rows_by end m n o)) ≤ 2 ^ 48 - before
   few_by n before more Idle h = omega arith
   few_by n before more Full h = omega arith
   few_by n before more Spent h = omega arith
@@ -89,7 +94,8 @@ module _ (end m : ℕ) where
 
   few_left : (n : ℕ) (c : PlainCell) → length (packets_of (own_rows end m n c)) ≤ 2 ^ 48 - c.sent
   few_left zero c = let e = ap (λ rs. length (packets_of rs)) (rows_none end m c) in omega (arith, e)
-  few_left (suc n) c = subst (λ rs. length (packets_of rs) ≤ 2 ^ 48 - c.sent) (sym (rows_first end m n c)) (few_by n c.sent (λ d. few_left n d) (own_step end m c) (counts_own end m c))
+  few_left (suc n) c = subst (λ rs. length (packets_of rs) ≤ 2 ^ 48 - c.sent) (sym (rows_first end m n c))
+      (few_by n c.sent (λ d. few_left n d) (own_step end m c) (counts_own end m c))
 
   -- ---- whose
 
@@ -97,12 +103,14 @@ module _ (end m : ℕ) where
   sent_below k None lt le h g = tt
   sent_below k (Some p) lt le h g = (omega arith, omega arith)
 
-  below_by : (k n : ℕ) → m < k → end ≤ 2 ^ 40 → ((d : PlainCell) → All (λ r. IsSentBelow k r.sent) (own_rows end m n d)) → (o : StepOutcome Stepped)
+  below_by : (k n : ℕ) → m < k → end ≤ 2 ^ 40 → ((d : PlainCell) → All (λ r. IsSentBelow k r.sent) (own_rows end m n d))
+      → (o : StepOutcome Stepped)
       → ((d : Stepped) → o ≡ Done d → SentBy m d.row.sent × SentBefore end d.row.sent) → All (λ r. IsSentBelow k r.sent) (rows_by end m n o)
   below_by k n lt le more Idle h = All-nil (λ (r : Row). IsSentBelow k r.sent)
   below_by k n lt le more Full h = All-nil (λ (r : Row). IsSentBelow k r.sent)
   below_by k n lt le more Spent h = All-nil (λ (r : Row). IsSentBelow k r.sent)
-  below_by k n lt le more (Done d) h = let s = h d refl in All-cons (λ (r : Row). IsSentBelow k r.sent) d.row _ (sent_below k d.row.sent lt le s.0 s.1) (more d.cell)
+  below_by k n lt le more (Done d) h = let s = h d refl in All-cons (λ (r : Row). IsSentBelow k r.sent) d.row _
+      (sent_below k d.row.sent lt le s.0 s.1) (more d.cell)
 
   own_below : (k n : ℕ) (c : PlainCell) → m < k → end ≤ 2 ^ 40 → All (λ r. IsSentBelow k r.sent) (own_rows end m n c)
   own_below k zero c lt le = subst (All (λ r. IsSentBelow k r.sent)) (sym (rows_none end m c)) (All-nil (λ (r : Row). IsSentBelow k r.sent))
@@ -113,7 +121,8 @@ module _ (end m : ℕ) where
 -- ---- of several cells
 
 module _ {X : Type 0} {H : X → Type 0} where
-  pub rows_few : (f : DynBox X Global H → Record) (end : ℕ) (qs : List OwnCell) (rows : List (List Row)) (cs : List (Cell X H)) → RanEach f end qs rows cs → length (packets_of (joined rows)) ≤ length cs * 2 ^ 48
+  pub rows_few : (f : DynBox X Global H → Record) (end : ℕ) (qs : List OwnCell) (rows : List (List Row)) (cs : List (Cell X H))
+      → RanEach f end qs rows cs → length (packets_of (joined rows)) ≤ length cs * 2 ^ 48
   rows_few f end [] [] [] h = omega arith
   rows_few f end [] [] (c ∷ cs) h = absurd h
   rows_few f end [] (r ∷ rs) cs h = absurd h
@@ -121,12 +130,14 @@ module _ {X : Type 0} {H : X → Type 0} where
   rows_few f end (q ∷ qs) (r ∷ rs) [] h = absurd h
   rows_few f end (q ∷ qs) (r ∷ rs) (c ∷ cs) h =
       let run = h.0.1 in
-      let one : length (packets_of r) ≤ 2 ^ 48 - q.cell.sent = subst (λ xs. length (packets_of xs) ≤ 2 ^ 48 - q.cell.sent) (sym run.rows_are) (few_left end q.member run.steps q.cell) in
+      let one : length (packets_of r) ≤ 2 ^ 48 - q.cell.sent = subst (λ xs. length (packets_of xs) ≤ 2 ^ 48 - q.cell.sent)
+      (sym run.rows_are) (few_left end q.member run.steps q.cell) in
       let more = rows_few f end qs rs cs h.1 in
       let e = ap length (packets_joined r rs) ∙ length-append (packets_of r) (packets_of (joined rs)) in
       omega (arith, one, more, e)
 
-  pub rows_below : (f : DynBox X Global H → Record) (end k : ℕ) (qs : List OwnCell) (rows : List (List Row)) (cs : List (Cell X H)) → end ≤ 2 ^ 40 → AreMembers k qs → RanEach f end qs rows cs → All (λ rs. All (λ r. IsSentBelow k r.sent) rs) rows
+  pub rows_below : (f : DynBox X Global H → Record) (end k : ℕ) (qs : List OwnCell) (rows : List (List Row)) (cs : List (Cell X H))
+      → end ≤ 2 ^ 40 → AreMembers k qs → RanEach f end qs rows cs → All (λ rs. All (λ r. IsSentBelow k r.sent) rs) rows
   rows_below f end k [] [] [] le a h = All-nil (λ (rs : List Row). All (λ r. IsSentBelow k r.sent) rs)
   rows_below f end k [] [] (c ∷ cs) le a h = absurd h
   rows_below f end k [] (r ∷ rs) cs le a h = absurd h
@@ -138,7 +149,8 @@ module _ {X : Type 0} {H : X → Type 0} where
       (subst (All (λ r. IsSentBelow k r.sent)) (sym run.rows_are) (own_below end q.member k run.steps q.cell a.0 le))
       (rows_below f end k qs rs cs le a.1 h.1)
 
-  pub as_many : (f : DynBox X Global H → Record) (end : ℕ) (qs : List OwnCell) (rows : List (List Row)) (cs : List (Cell X H)) → RanEach f end qs rows cs → length cs ≡ length qs
+  pub as_many : (f : DynBox X Global H → Record) (end : ℕ) (qs : List OwnCell) (rows : List (List Row)) (cs : List (Cell X H))
+      → RanEach f end qs rows cs → length cs ≡ length qs
   as_many f end [] [] [] h = refl
   as_many f end [] [] (c ∷ cs) h = absurd h
   as_many f end [] (r ∷ rs) cs h = absurd h

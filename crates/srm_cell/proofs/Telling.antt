@@ -11,7 +11,8 @@ use Rattle.srm_cell.specs.Views.{TellsOf, HasParts, TellsStep}
 
 module _ {X : Type 0} {H : X → Type 0} where
   -- a refusal tells the same, whatever is so of the cell
-  pub tells_fault : (f : DynBox X Global H → Record) (m : ℕ) (p : PlainCell) (o q : StepOutcome Stepped) (x : CellFault) (c after : Cell X H)
+  pub tells_fault : (f : DynBox X Global H → Record) (m : ℕ) (p : PlainCell) (o q : StepOutcome Stepped) (x : CellFault)
+      (c after : Cell X H)
       → o ≡ q → TellsOf (λ d. HasParts f m c d) q (Err x) → TellsStep f m p o (Err x) after
   tells_fault f m p o q fault.NoMemory c after e t = subst (λ z. TellsStep f m p z (Err fault.NoMemory) after) (sym e) t
   tells_fault f m p o q fault.Spent c after e t = e ∙ t

@@ -1,17 +1,21 @@
 -- Cells whose inboxes and scripts are in order, and what the least event says of them.
-use Rattle.std.proofs.Common.{◌≡◌, ℕ, ◌<◌, ◌≤◌, ◌+◌, ◌^◌, Bool, true, false, cond, not, ◌&&◌, List, [], ◌∷◌, refl, sym, ap, ◌∙◌, subst, ◌≢◌, arith, Ordering, Less, Equal, Greater, Option, Some, None, nat_lt, nat_le, is_lt, ltb-true, eqb-true, ◌==◌, le-ltb}
+use Rattle.std.proofs.Common.{◌≡◌, ℕ, ◌<◌, ◌≤◌, ◌+◌, ◌^◌, Bool, true, false, cond, not, ◌&&◌, List, [], ◌∷◌, refl, sym, ap, ◌∙◌, subst, ◌≢◌}
+use Rattle.std.proofs.Common.{arith, Ordering, Less, Equal, Greater, Option, Some, None, nat_lt, nat_le, is_lt, ltb-true, eqb-true, ◌==◌}
+use Rattle.std.proofs.Common.{le-ltb}
 use Rattle.std.proofs.lemmas.Bool.{eqb-false}
 use Rattle.srm_cell.proofs.CellLemmas.{first_le, first_timer, next_event_is}
 use Rattle.srm_cell.proofs.CellSteps.{flight_total}
 use Rattle.srm_cell.proofs.Rising.{Above, OnEvent, OnStep, earlier_on}
-use Rattle.srm_cell.specs.Cells.{arrival_key, mark_key, timer_key, Done, Event, Full, PlainCell, Stepped, by_key, earlier, first_arrival, first_mark, handle, hear, hear_at, next_event, sending_step, step_at}
+use Rattle.srm_cell.specs.Cells.{arrival_key, mark_key, timer_key, Done, Event, Full, PlainCell, Stepped, by_key, earlier, first_arrival}
+use Rattle.srm_cell.specs.Cells.{first_mark, handle, hear, hear_at, next_event, sending_step, step_at}
 use Rattle.srm_cell.specs.Flights.{flight_cmp}
 use Rattle.srm_cell.specs.OwnRuns.{told_to}
 use Rattle.srm_scenario.specs.Presence.{is_up_to}
 use Rattle.srm_cell.specs.Setting.{Traffic, arrival_of}
 use Rattle.srm_cell.specs.declared.flight.Flight.{Flight}
 use Rattle.srm_member.proofs.AllIn.{AllIn}
-use Rattle.srm_member.proofs.OrderLemmas.{From, from_greater, from_not_greater, from_trans, key_total, nat_cmp_self, not_greater, rises_place}
+use Rattle.srm_member.proofs.OrderLemmas.{From, from_greater, from_not_greater, from_trans, key_total, nat_cmp_self, not_greater}
+use Rattle.srm_member.proofs.OrderLemmas.{rises_place}
 use Rattle.srm_member.specs.React.{Reaction, react}
 use Rattle.srm_member.specs.Record.{Active, Gone, Record, timers}
 use Rattle.srm_member.specs.declared.cause.Cause.{Cause}
@@ -37,7 +41,8 @@ NotBefore k l = From key_cmp key_total k l
 
 pub later_not_before : (k l : Key) → k.time < l.time → NotBefore k l
 later_not_before k l h = let n : nat_lt l.time k.time ≡ false = le-ltb _ _ (omega arith) in
-    let e : (l.time == k.time) ≡ false = (elim (l.time == k.time) as (λ b. (l.time == k.time) ≡ b → (l.time == k.time) ≡ false) [ true ↦ λ e. absurd (let f = eqb-true _ _ e in omega arith) | false ↦ λ e. e ] refl) in
+    let e : (l.time == k.time) ≡ false = (elim (l.time == k.time) as (λ b. (l.time == k.time) ≡ b → (l.time == k.time) ≡ false)
+    [ true ↦ λ e. absurd (let f = eqb-true _ _ e in omega arith) | false ↦ λ e. e ] refl) in
     simp (n, e)
 
 pub not_before_time : (k l : Key) → NotBefore k l → k.time ≤ l.time
@@ -50,9 +55,18 @@ abbrev pub Least : Key → Option Event → Type 0
 Least k None = Unit {0}
 Least k (Some e) = NotBefore k e.key
 
-least_parts : (k : Key) (r : Ordering) (d e : Event) → key_cmp d.key e.key ≡ r → NotBefore k (by_key r d e).key → NotBefore k d.key × NotBefore k e.key
-least_parts k Less d e q h = (h, from_trans key_cmp key_total k d.key e.key h (from_not_greater key_cmp key_total d.key e.key (λ g. let x : Less ≡ Greater = sym q ∙ g in cc)))
-least_parts k Equal d e q h = (h, from_trans key_cmp key_total k d.key e.key h (from_not_greater key_cmp key_total d.key e.key (λ g. let x : Equal ≡ Greater = sym q ∙ g in cc)))
+least_parts : (k : Key) (r : Ordering) (d e : Event) → key_cmp d.key e.key ≡ r → NotBefore k (by_key r d e).key → NotBefore k d.key
+    × NotBefore k e.key
+least_parts k Less d e q h = (
+  h,
+  from_trans key_cmp key_total k d.key e.key h
+      (from_not_greater key_cmp key_total d.key e.key (λ g. let x : Less ≡ Greater = sym q ∙ g in cc)),
+)
+least_parts k Equal d e q h = (
+  h,
+  from_trans key_cmp key_total k d.key e.key h
+      (from_not_greater key_cmp key_total d.key e.key (λ g. let x : Equal ≡ Greater = sym q ∙ g in cc)),
+)
 least_parts k Greater d e q h = (from_trans key_cmp key_total k e.key d.key h (from_greater key_cmp key_total e.key d.key q), h)
 
 pub least_earlier : (k : Key) (x y : Option Event) → Least k (earlier x y) → Least k x × Least k y
@@ -64,21 +78,25 @@ pub record IsTidy (c : PlainCell) : Type 0 where
   pub flights : Rises flight_cmp c.inbox
   pub marks : Rises mark_cmp c.script
 
-flights_from : (k : Key) (m : ℕ) (f : Flight) (fs : List Flight) → NotBefore k (arrival_key m f) → NoneBelow flight_cmp f fs → AllIn (λ g. NotBefore k (arrival_key m g)) fs
+flights_from : (k : Key) (m : ℕ) (f : Flight) (fs : List Flight) → NotBefore k (arrival_key m f) → NoneBelow flight_cmp f fs
+    → AllIn (λ g. NotBefore k (arrival_key m g)) fs
 flights_from k m f [] h n = tt
 flights_from k m f (g ∷ gs) h n =
     (from_trans key_cmp key_total k (arrival_key m f) (arrival_key m g) h (ap is_lt (flight_keys m g f) ∙ n.0), flights_from k m f gs h n.1)
 
-all_flights : (k : Key) (m : ℕ) (c : PlainCell) (fs : List Flight) → Least k (first_arrival m c fs) → Rises flight_cmp fs → AllIn (λ g. NotBefore k (arrival_key m g)) fs
+all_flights : (k : Key) (m : ℕ) (c : PlainCell) (fs : List Flight) → Least k (first_arrival m c fs) → Rises flight_cmp fs
+    → AllIn (λ g. NotBefore k (arrival_key m g)) fs
 all_flights k m c [] h r = tt
 all_flights k m c (f ∷ fs) h r = (h, flights_from k m f fs h r.0)
 
-marks_from : (k : Key) (m : ℕ) (f : Mark) (fs : List Mark) → NotBefore k (mark_key m f) → NoneBelow mark_cmp f fs → AllIn (λ g. NotBefore k (mark_key m g)) fs
+marks_from : (k : Key) (m : ℕ) (f : Mark) (fs : List Mark) → NotBefore k (mark_key m f) → NoneBelow mark_cmp f fs
+    → AllIn (λ g. NotBefore k (mark_key m g)) fs
 marks_from k m f [] h n = tt
 marks_from k m f (g ∷ gs) h n =
     (from_trans key_cmp key_total k (mark_key m f) (mark_key m g) h (ap is_lt (mark_keys m g f) ∙ n.0), marks_from k m f gs h n.1)
 
-all_marks : (k : Key) (m : ℕ) (c : PlainCell) (fs : List Mark) → Least k (first_mark m c fs) → Rises mark_cmp fs → AllIn (λ g. NotBefore k (mark_key m g)) fs
+all_marks : (k : Key) (m : ℕ) (c : PlainCell) (fs : List Mark) → Least k (first_mark m c fs) → Rises mark_cmp fs
+    → AllIn (λ g. NotBefore k (mark_key m g)) fs
 all_marks k m c [] h r = tt
 all_marks k m c (f ∷ fs) h r = (h, marks_from k m f fs h r.0)
 
@@ -89,10 +107,16 @@ all_timers k m c (d ∷ ds) h = let p = least_earlier k (Some _) (first_timer m 
 -- where a cell's least event is not before k, nothing that it has pending is
 pub above_least : (k : Key) (m : ℕ) (c : PlainCell) → IsTidy c → Least k (next_event m c) → Above (NotBefore k) m c
 above_least k m c t least =
-    let h : Least k (earlier (first_arrival m c c.inbox) (earlier (first_mark m c c.script) (first_timer m c (timers c.holds)))) = subst (Least k) (next_event_is m c) least in
+    let h : Least k (earlier (first_arrival m c c.inbox) (earlier (first_mark m c c.script) (first_timer m c (timers c.holds)))) =
+    subst (Least k) (next_event_is m c) least in
     let p = least_earlier k (first_arrival m c c.inbox) _ h in
     let q = least_earlier k (first_mark m c c.script) (first_timer m c (timers c.holds)) p.1 in
-    record { flights = all_flights k m c c.inbox p.0 t.flights; marks = all_marks k m c c.script q.0 t.marks; dues = all_timers k m c (timers c.holds) q.1 }
+    record {
+      flights = all_flights k m c c.inbox p.0 t.flights;
+      marks = all_marks k m c c.script q.0 t.marks;
+      dues =
+          all_timers k m c (timers c.holds) q.1;
+    }
 
 -- ---- cells stay tidy
 
@@ -112,8 +136,10 @@ timer_tidy m c [] t = tt
 timer_tidy m c (d ∷ ds) t = earlier_on RestTidy (Some _) (first_timer m c ds) t (timer_tidy m c ds t)
 
 pub next_tidy : (m : ℕ) (c : PlainCell) → IsTidy c → OnEvent RestTidy (next_event m c)
-next_tidy m c t = subst (OnEvent RestTidy) (sym (next_event_is m c)) (earlier_on RestTidy (first_arrival m c c.inbox) _ (arrival_tidy m c c.inbox t t.flights)
-    (earlier_on RestTidy (first_mark m c c.script) (first_timer m c (timers c.holds)) (mark_tidy m c c.script t t.marks) (timer_tidy m c (timers c.holds) t)))
+next_tidy m c t = subst (OnEvent RestTidy) (sym (next_event_is m c))
+    (earlier_on RestTidy (first_arrival m c c.inbox) _ (arrival_tidy m c c.inbox t t.flights)
+    (earlier_on RestTidy (first_mark m c c.script) (first_timer m c (timers c.holds)) (mark_tidy m c c.script t t.marks)
+    (timer_tidy m c (timers c.holds) t)))
 
 tidy_by : (b : Bool) (x : Stepped) → IsTidy x.cell → OnStep (λ d. IsTidy d.cell) (cond b (Done x) Full)
 tidy_by true x h = h
@@ -156,7 +182,8 @@ not_true true h = cc
 not_true false h = refl
 
 -- a packet reaches another member after the distance to it
-pub arrival_is : (s : Traffic) (p : Packet) (m at : ℕ) → arrival_of s p m ≡ Some at → (m < s.members) × (m ≢ p.id.sender) × (p.sent + s.distance p.id.sender m ≡ at)
+pub arrival_is : (s : Traffic) (p : Packet) (m at : ℕ) → arrival_of s p m ≡ Some at → (m < s.members) × (m ≢ p.id.sender)
+    × (p.sent + s.distance p.id.sender m ≡ at)
 arrival_is s p m at h =
     let h0 = if_some _ _ at h in
     let h1 = and_parts (nat_lt m s.members) _ h0.0 in

@@ -1,5 +1,6 @@
 -- One member's cell: its record, what is on the way to it, and the rest of its script. A cell's own step.
-use Rattle.std.specs.Prelude.{◌≡◌, ◌≢◌, ℕ, ◌+◌, ◌^◌, true, List, [], ◌∷◌, ◌++◌, map, Option, Some, None, nat_lt, ◌==◌, if◌then◌else◌}
+use Rattle.std.specs.Prelude.{◌≡◌, ◌≢◌, ℕ, ◌+◌, ◌^◌, true, List, [], ◌∷◌, ◌++◌, map, Option, Some, None, nat_lt, ◌==◌}
+use Rattle.std.specs.Prelude.{if◌then◌else◌}
 use Rattle.std.specs.declared.cmp.Ordering.{Ordering}
 use Rattle.std.specs.declared.cmp.Ordering.TheVariants.{Less, Equal, Greater}
 use Rattle.srm_net.specs.declared.key.Key.{Key}
@@ -30,7 +31,8 @@ use Rattle.srm_cell.specs.Flights.{flight_cmp}
 
 -- ---- cells
 
--- a member's record, how many packets it sent, the flights to it in order, the rest of its script, and its exit once it left
+-- a member's record, how many packets it sent, the flights to it in order, the rest of its script, and its exit once it
+-- left
 pub record PlainCell : Type 0 where
   pub holds : Record
   pub sent : ℕ
@@ -159,8 +161,8 @@ before end (Some e) = if nat_lt e.key.time end then Some e else None
 
 -- ---- steps
 
--- what a step gives: nothing is pending before the end; the packet count is used up; the record is gone, and has no answer; or
--- this
+-- what a step gives: nothing is pending before the end; the packet count is used up; the record is gone, and has no
+-- answer; or this
 pub data StepOutcome (A : Type 0) : Type 0 where
   Idle : StepOutcome A
   Full : StepOutcome A

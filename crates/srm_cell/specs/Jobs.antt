@@ -41,8 +41,9 @@ FirstEnds o end (q ∷ qs) =
     ((n : ℕ) × (own_end end q.member n q.cell ≡ o))
     ⊎ (((n : ℕ) × (own_end end q.member n q.cell ≡ Idle)) × FirstEnds o end qs)
 
--- own runs, taken one after the other, ask for memory: for the first cell's first own step, or to keep the first cell and its
--- rows. They ask for none where there is no cell, or where the first has an event at once and no member to answer it
+-- own runs, taken one after the other, ask for memory: for the first cell's first own step, or to keep the first cell
+-- and its rows. They ask for none where there is no cell, or where the first has an event at once and no member to
+-- answer it
 abbrev pub AskMemory : ℕ → List OwnCell → Type 0
 AskMemory end [] = ⊥
 AskMemory end (q ∷ qs) = own_step end q.member q.cell ≢ Spent
@@ -82,7 +83,8 @@ module _ {X : Type 0} {H : X → Type 0} where
   RanEach f end (q ∷ qs) (rows ∷ more) (c ∷ cs) = RanAlone f end q.member q.cell rows c × RanEach f end qs more cs
   RanEach f end qs more cs = ⊥
 
-  -- what an own run tells. Memory is asked for only where its first step has work. After a refusal nothing is known of the cell
+  -- what an own run tells. Memory is asked for only where its first step has work. After a refusal nothing is known of
+  -- the cell
   abbrev pub TellsRun : (DynBox X Global H → Record) → ℕ → ℕ → PlainCell
       → Result (List Row) CellFault → Cell X H → Type 0
   TellsRun f end m p (Ok rows) after = RanAlone f end m p rows after

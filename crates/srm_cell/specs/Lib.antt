@@ -1,7 +1,7 @@
 pub mod Setting
 pub mod Flights
 pub mod Entries
-pub mod Lines
+pub mod InboxLines
 pub mod Cells
 pub mod Pending
 pub mod Probes

@@ -1,5 +1,6 @@
 -- What the model needs of a scenario, its network and a seed.
-use Rattle.std.specs.Prelude.{◌≡◌, ◌≢◌, ◌⊎◌, ℕ, ◌+◌, ◌/◌, ◌<◌, Bool, true, not, ◌&&◌, List, [], ◌∷◌, map, length, Option, Some, None, unwrap_or, slice_get, nat_lt, nat_le, ◌==◌, if◌then◌else◌}
+use Rattle.std.specs.Prelude.{◌≡◌, ◌≢◌, ◌⊎◌, ℕ, ◌+◌, ◌/◌, ◌<◌, Bool, true, not, ◌&&◌, List, [], ◌∷◌, map, length}
+use Rattle.std.specs.Prelude.{Option, Some, None, unwrap_or, slice_get, nat_lt, nat_le, ◌==◌, if◌then◌else◌}
 use Rattle.std.specs.List.{range_with_len}
 use Rattle.srm_net.specs.declared.packet.Packet.{Packet}
 use Rattle.srm_net.specs.declared.role.Role.TheVariants.{Receiver}
@@ -14,9 +15,9 @@ use Rattle.srm_member.specs.declared.cause.Cause.{Cause}
 use Rattle.srm_member.specs.declared.cause.Cause.TheVariants.{Join, Draw, Report}
 use Rattle.srm_member.specs.declared.fixed.Fixed.{Fixed}
 
--- what becomes of packets. Events before `until` are handled. Of each member: when it joins and when it leaves. Of each two
--- members: how long a packet is on its way from the one to the other. Of each packet: whom it reaches, which links it
--- crosses, and at which it is dropped
+-- what becomes of packets. Events before `until` are handled. Of each member: when it joins and when it leaves. Of each
+-- two members: how long a packet is on its way from the one to the other. Of each packet: whom it reaches, which links
+-- it crosses, and at which it is dropped
 pub record Traffic : Type 0 where
   pub until : ℕ
   pub members : ℕ
@@ -83,12 +84,13 @@ setting_of s net seed = record { traffic = traffic_of s net; fixed = fixed_of s 
 
 -- ---- flights
 
--- when member m is handed packet p, if it is: another member than the sender, that the packet reaches, and that is present
+-- when member m is handed packet p, if it is: another member than the sender, that the packet reaches, and that is
+-- present
 abbrev pub arrival_of : Traffic → Packet → ℕ → Option ℕ
 arrival_of t p m =
     let at = p.sent + t.distance p.id.sender m in
     if nat_lt m t.members && (not (m == p.id.sender)
-        && (t.reaches p m && is_present (t.join m) (t.leave m) t.until at)) then Some at else None
+    && (t.reaches p m && is_present (t.join m) (t.leave m) t.until at)) then Some at else None
 
 -- ---- marks
 
@@ -112,8 +114,8 @@ abbrev pub EndsAtLeave : Option ℕ → List Mark → Type 0
 EndsAtLeave leave [] = Unit {0}
 EndsAtLeave leave (k ∷ ks) = (cause_of_mark k ≡ None → (leave ≡ Some k.at) × (ks ≡ [])) × EndsAtLeave leave ks
 
--- what the setting of a scenario has: members' numbers in their fixed parts, scripts in order, that end at the leave, and no two
--- members at one place
+-- what the setting of a scenario has: members' numbers in their fixed parts, scripts in order, that end at the leave,
+-- and no two members at one place
 pub record IsFit (s : Setting) : Type 0 where
   pub numbers : (m : ℕ) → m < s.traffic.members → (s.fixed m).member ≡ m
   pub scripts : (m : ℕ) → m < s.traffic.members → Ascends mark_cmp (s.script m)

@@ -1,5 +1,6 @@
 -- The totals of a list of packets.
-use Rattle.std.specs.Prelude.{◌≡◌, Bool, slice_set, slice_index, if◌then◌else◌, ℕ, ◌+◌, ◌<◌, ◌^◌, List, ◌++◌, length, Option, Some, None}
+use Rattle.std.specs.Prelude.{◌≡◌, Bool, slice_set, slice_index, if◌then◌else◌, ℕ, ◌+◌, ◌<◌, ◌^◌, List, ◌++◌, length}
+use Rattle.std.specs.Prelude.{Option, Some, None}
 use Rattle.std.specs.List.{flat_map, range_with_len}
 use Rattle.srm_net.specs.declared.packet.Packet.{Packet}
 use Rattle.srm_net.specs.Network.{Network}

@@ -10,7 +10,8 @@ use Rattle.srm_member.specs.Record.{Record, Active, Gone, fixed_part, due_of, ex
 use Rattle.srm_cell.specs.declared.cell.Cell.{Cell}
 use Rattle.srm_cell.specs.declared.fault.CellFault.{CellFault}
 use Rattle.srm_cell.specs.declared.fault.CellFault.TheVariants as fault
-use Rattle.srm_cell.specs.Cells.{PlainCell, StepOutcome, Idle, Full, Spent, Done, Stepped, new_cell, next_event, own_step, time_of}
+use Rattle.srm_cell.specs.Cells.{PlainCell, StepOutcome, Idle, Full, Spent, Done, Stepped, new_cell, next_event}
+use Rattle.srm_cell.specs.Cells.{own_step, time_of}
 use Rattle.srm_cell.specs.Pending.{Stands}
 
 -- a record that is gone
@@ -56,7 +57,8 @@ TellsExit p (Err fault.NoMemory) = (p.exit ≡ None) × IsHere p.holds
 TellsExit p (Err fault.Spent) = (p.exit ≡ None) × IsGone p.holds
 TellsExit p (Err fault.CountFull) = ⊥
 
--- a step with this outcome tells this, where `P` is what is so of the cell that it leaves. After a refusal nothing is known of it
+-- a step with this outcome tells this, where `P` is what is so of the cell that it leaves. After a refusal nothing is
+-- known of it
 abbrev pub TellsOf : (PlainCell → Type 0) → StepOutcome Stepped → Result Row CellFault → Type 0
 TellsOf P o (Ok row) = (d : Stepped) × (o ≡ Done d) × (d.row ≡ row) × P d.cell
 TellsOf P o (Err fault.NoMemory) = HasWork o
@@ -75,11 +77,10 @@ module _ {X : Type 0} {H : X → Type 0} where
     -- once the member has left there is no box
     pub none_once_left : (x : Exit) → c.exit ≡ Some x → record_in f c.member ≡ None
 
-  -- the cell of member m is seen as this plain cell, where f is what is seen of its box.
-  --
-  -- A cell whose member is gone may be seen as several plain cells: its box was dropped, and with it the member's part that never
-  -- changes, so its record may be gone with any such part. Nothing depends on which: a record that is gone has no timer and no
-  -- answer, what the member ended with stands in the exit, and no definition looks at the part that a gone record keeps
+  -- the cell of member m is seen as this plain cell, where f is what is seen of its box. A cell whose member is gone
+  -- may be seen as several plain cells: its box was dropped, and with it the member's part that never changes, so its
+  -- record may be gone with any such part. Nothing depends on which: a record that is gone has no timer and no answer,
+  -- what the member ended with stands in the exit, and no definition looks at the part that a gone record keeps
   pub record IsCell (f : DynBox X Global H → Record) (m : ℕ) (c : Cell X H) (p : PlainCell) : Type 0 where
     pub parts : HasParts f m c p
     -- what the cell keeps as its next event is that

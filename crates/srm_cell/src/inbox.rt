@@ -3,7 +3,7 @@ ghost use Rattle.std.specs.Prelude.{◌≡◌, List, [], ◌∷◌, MatchOption,
 ghost use Rattle.std.specs.Ordering.{is_lt};
 ghost use Rattle.std.specs.Option.{option_map};
 ghost use Rattle.srm_cell.specs.Flights.{with_flight, BringsNone, place_cmp};
-ghost use Rattle.srm_cell.specs.Lines.{leads, follows};
+ghost use Rattle.srm_cell.specs.InboxLines.{leads, follows};
 
 use crate::flight::Flight;
 use crate::strays::Strays;

@@ -43,7 +43,7 @@ module _ {X : Type 0} {H : X → Type 0} where
   any_told : (f : DynBox X Global H → Record) (k : PlainScenario) (net : Network) (js : List (Job X H)) (ps : List PlainJob)
       (rs : List (Result (job.Done X H) CellFault)) (e : CellFault) (Any : List PlainJob → Type 0)
       → ((p : PlainJob) (qs : List PlainJob) → TellsFault p.till p.cells e → Any (p ∷ qs))
-          → ((p : PlainJob) (qs : List PlainJob) → Any qs → Any (p ∷ qs))
+      → ((p : PlainJob) (qs : List PlainJob) → Any qs → Any (p ∷ qs))
       → AllZip (λ j r. Advances f k net j r) js rs → AreJobs f js ps → (i : ℕ) → i < length rs → get_or rs i (Err e) ≡ Err e → Any ps
   any_told f k net [] ps [] e Any here there z h i lt g = absurd (omega arith)
   any_told f k net [] ps (r ∷ rs) e Any here there z h i lt g = absurd z
@@ -59,7 +59,9 @@ module _ {X : Type 0} {H : X → Type 0} where
       → AdvanceEach f k net js r
   each_advanced f k net js (Ok v) g = record { tells = λ ps h. all_done f k net js ps v.items g h }
   each_advanced f k net js (Err cell.NoMemory) g = record { tells = λ ps h. tt }
-  each_advanced f k net js (Err cell.Spent) g = record { tells = λ ps h. any_told f k net js ps g.0 cell.Spent (AnyEnds _) (λ p qs t. inl t)
-      (λ p qs a. inr a) g.1 h g.2.0 g.2.1 g.2.2 }
+  each_advanced f k net js (Err cell.Spent) g = record {
+    tells = λ ps h. any_told f k net js ps g.0 cell.Spent (AnyEnds _) (λ p qs t. inl t)
+        (λ p qs a. inr a) g.1 h g.2.0 g.2.1 g.2.2;
+  }
   each_advanced f k net js (Err cell.CountFull) g = record
       { tells = λ ps h. any_told f k net js ps g.0 cell.CountFull (AnyEnds _) (λ p qs t. inl t) (λ p qs a. inr a) g.1 h g.2.0 g.2.1 g.2.2 }

@@ -26,5 +26,5 @@ module _ {X : Type 0} {H : X → Type 0} where
   pub some_told : (f : DynBox X Global H → Record) (k : PlainScenario) (net : Network) (n links : ℕ) (js : List (Job X H))
       (r : Result (Vec (job.Done X H)) CellFault)
       → All (λ j. MayAdvance f n j) js → AdvanceEach f k net js r → (traffic_of k net).links ≡ links → (s : Traffic) × (ps : List PlainJob)
-          × (s.links ≡ links) × TellsEach f s ps r
+      × (s.links ≡ links) × TellsEach f s ps r
   some_told f k net n links js r h a e = let seen = seen_jobs f n js h in (traffic_of k net, seen.0, e, a.tells seen.0 seen.1)

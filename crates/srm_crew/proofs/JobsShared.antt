@@ -1,6 +1,6 @@
 -- What workers tell of jobs, as a crew tells it.
-use Rattle.std.proofs.Common.{◌≡◌, ◌<◌, ◌≤◌, ◌^◌, ℕ, zero, suc, ◌+◌, ◌*◌, List, [], ◌∷◌, ◌++◌, length, slice_get, slice_index, Some, Result,
-    Ok, Err, refl, sym, ap, ◌∙◌, subst, inl, inr, ⊎_elim, arith}
+use Rattle.std.proofs.Common.{◌≡◌, ◌<◌, ◌≤◌, ◌^◌, ℕ, zero, suc, ◌+◌, ◌*◌, List, [], ◌∷◌, ◌++◌, length, slice_get, slice_index, Some, Result}
+use Rattle.std.proofs.Common.{Ok, Err, refl, sym, ap, ◌∙◌, subst, inl, inr, ⊎_elim, arith}
 use Rattle.std.specs.declared.dyn_box.DynBox.{DynBox}
 use Rattle.std.specs.Global.{Global, Vec}
 use Rattle.srm_net.specs.Network.{Network}
@@ -51,12 +51,12 @@ module _ {X : Type 0} {H : X → Type 0} where
       let t = traffic_of k net in
       let r = peel (λ x d. Advances f k net x (Ok d)) numbers j js places ds once z in
       let more = some_rows f k net js ps (lower places) r.results h.1
-          (λ q. let e = lower_times q places in let o = once (suc q) in omega (arith, e, o)) r.rest in
+      (λ q. let e = lower_times q places in let o = once (suc q) in omega (arith, e, o)) r.rest in
       ⊎_elim
       (λ (n : (times 0 places ≡ 0) × ((w : ℕ) → sum_of numbers w ds ≡ sum_of numbers w r.results)).
       (more.0, inl more.1, λ w. n.1 w ∙ more.2 w))
       (λ (n : (times 0 places ≡ 1) × (d : job.Done X H) × Advances f k net j (Ok d)
-          × ((w : ℕ) → sum_of numbers w ds ≡ word_of (numbers d) w + sum_of numbers w r.results)).
+      × ((w : ℕ) → sum_of numbers w ds ≡ word_of (numbers d) w + sum_of numbers w r.results)).
       let done = n.2.tells p h.0 in
       let own = joined n.1.rows.items in (
         own ++ more.0,
@@ -64,7 +64,7 @@ module _ {X : Type 0} {H : X → Type 0} where
         λ w.
             let one : word_of n.1.crossings w ≡ word_of (crossings t own) w = ap (λ ns. word_of ns w) done.crossings_are in
             let both = ap (λ ns. word_of ns w) (crossings_add t own more.0)
-                ∙ word_of_added (crossings t own) (crossings t more.0) (crossings_long t own ∙ sym (crossings_long t more.0)) w in
+            ∙ word_of_added (crossings t own) (crossings t more.0) (crossings_long t own ∙ sym (crossings_long t more.0)) w in
             let a = n.3 w in let b = more.2 w in omega (arith, one, both, a, b),
       ))
       r.first
@@ -72,7 +72,7 @@ module _ {X : Type 0} {H : X → Type 0} where
   one_told : (f : DynBox X Global H → Record) (k : PlainScenario) (net : Network) (js : List (Job X H)) (ps : List PlainJob) (e : CellFault)
       (Any : List PlainJob → Type 0)
       → ((p : PlainJob) (qs : List PlainJob) → TellsFault p.till p.cells e → Any (p ∷ qs))
-          → ((p : PlainJob) (qs : List PlainJob) → Any qs → Any (p ∷ qs))
+      → ((p : PlainJob) (qs : List PlainJob) → Any qs → Any (p ∷ qs))
       → AreJobs f js ps → (place : ℕ) → HoldsAt (λ j. Advances f k net j (Err e)) js place → Any ps
   one_told f k net [] ps e Any here there h place z = absurd (nothing_there place z.0 z.1)
     where

@@ -55,7 +55,7 @@ module _ {X : Type 0} {H : X → Type 0} where
   so_far_all f s ps all left h e =
       let none = no_more h.rest (subst (λ js. AreJobs f js h.rest) e h.seen) in
       let every : AllZip (λ p d. IsDone f s p d) ps (all ++ []) = h.done
-          [] (subst (λ xs. AllZip (λ p d. IsDone f s p d) xs []) (sym none) tt) in
+      [] (subst (λ xs. AllZip (λ p d. IsDone f s p d) xs []) (sym none) tt) in
       subst (AllZip (λ p d. IsDone f s p d) ps) (append-nil all) every
     where
       no_more : (rest : List PlainJob) → AreJobs f [] rest → rest ≡ []

@@ -1,6 +1,6 @@
 -- Each step of a pass keeps the rule of the bag.
-use Rattle.std.proofs.Common.{◌≡◌, ◌≢◌, ℕ, zero, suc, ◌+◌, ◌*◌, ◌/◌, ◌<◌, ◌≤◌, ◌⊎◌, List, [], ◌∷◌, ◌++◌, length, slice_get, Some, set, sym,
-    refl, ap, ◌∙◌, subst, ⊎_elim, inl, inr, arith, eq-eqb, ne_eqb, lt_of_not-le}
+use Rattle.std.proofs.Common.{◌≡◌, ◌≢◌, ℕ, zero, suc, ◌+◌, ◌*◌, ◌/◌, ◌<◌, ◌≤◌, ◌⊎◌, List, [], ◌∷◌, ◌++◌, length, slice_get, Some, set, sym}
+use Rattle.std.proofs.Common.{refl, ap, ◌∙◌, subst, ⊎_elim, inl, inr, arith, eq-eqb, ne_eqb, lt_of_not-le}
 use Rattle.std.proofs.lemmas.List.{length-append}
 use mathlib.Core.Logic.{dite}
 use mathlib.Core.Option.{some, some-injective, some-ne-none}
@@ -10,8 +10,8 @@ use Rattle.atomic_table.proofs.Lists.{at_set, at_snoc, set_else}
 use Rattle.crossbeam_queue.specs.Fifo.{Pushes, Pops, Forks, Merges, Learns}
 use Rattle.srm_crew.specs.declared.rule.Hold.{Hold}
 use Rattle.srm_crew.specs.declared.rule.Spot.{Spot}
-use Rattle.srm_crew.specs.Places.{hold_of, spent, total, times, AllBelow, weight_of, count_of, times_of, PassOk, Kept, puts, takes, short,
-    rests, fits, first_half, second_half, both_holds}
+use Rattle.srm_crew.specs.Places.{hold_of, spent, total, times, AllBelow, weight_of, count_of, times_of, PassOk, Kept, puts, takes, short}
+use Rattle.srm_crew.specs.Places.{rests, fits, first_half, second_half, both_holds}
 
 module _ {V : Type 0} (f : V → ℕ) where
   pub total_set : (l : List V) (i : ℕ) (v w : V) → get_elem? l i ≡ some v → total f (set l i w) + f v ≡ total f l + f w
@@ -97,7 +97,7 @@ module _ {T : Type 0} where
           once = λ p lt. let t = total_set (times_of p) views id v w at in let a = times_append p v.taken (x.place ∷ []) in
               dite (ℕ_discrete p h.popped)
               (λ e. let o = times_same x.place in let P : ℕ → Type 0 = λ r. times r (x.place ∷ []) ≡ 1 in let o' : times p (x.place ∷ [])
-                  ≡ 1 = subst P (q ∙ sym e) o in let z = h.never p (omega arith) in omega arith)
+              ≡ 1 = subst P (q ∙ sym e) o in let z = h.never p (omega arith) in omega arith)
               (λ no. let o = times_other p x.place (λ r. no (r ∙ q)) in let z = h.once p (omega arith) in omega arith);
           never = λ p le. let t = total_set (times_of p) views id v w at in let a = times_append p v.taken (x.place ∷ []) in let o =
               times_other p x.place (λ r. absurd (omega arith)) in let z = h.never p (omega arith) in omega arith;
@@ -110,8 +110,12 @@ module _ {T : Type 0} where
                     (one_below x.place (h.popped + 1) (omega arith));
               })
               (λ (t : (j ≢ id) × (get_elem? views j ≡ some u)). let o = h.passes j u t.1 in
-                  record { spent_is = o.spent_is; knows = o.knows; below =
-                  all_below_more u.taken h.popped (h.popped + 1) o.below (omega arith) })
+              record {
+                spent_is = o.spent_is;
+                knows = o.knows;
+                below =
+                    all_below_more u.taken h.popped (h.popped + 1) o.below (omega arith);
+              })
               (at_set views id j w u e);
         },
         (
@@ -124,10 +128,10 @@ module _ {T : Type 0} where
             (λ p. let a = times_append p v.taken (x.place ∷ []) in let own = total_part (times_of p) views id v at in
                 dite (ℕ_discrete p x.place)
                 (λ e. let z = h.never p (omega arith) in let P : ℕ → Type 0 = λ r. times r (x.place ∷ [])
-                    ≡ 1 in let o : times p (x.place ∷ []) ≡ 1 = subst P (sym e) (times_same x.place) in omega arith)
+                ≡ 1 in let o : times p (x.place ∷ []) ≡ 1 = subst P (sym e) (times_same x.place) in omega arith)
                 (λ no. let o = times_other p x.place no in
                 dite (dec_le h.popped p) (λ far. let z = h.never p far in omega arith)
-                    (λ near. let z = h.once p (lt_of_not-le near) in omega arith))),
+                (λ near. let z = h.once p (lt_of_not-le near) in omega arith))),
             (λ p far. let l : length v.put ≡ length h.put = ap length k in let a = times_append p v.taken (x.place ∷ []) in let own =
                 total_part (times_of p) views id v at in
                 let o = times_other p x.place (λ r. absurd (omega arith)) in let z = h.never p (omega arith) in omega arith),
@@ -165,9 +169,11 @@ module _ {T : Type 0} where
           behind = omega arith;
           queued = λ j y e. ⊎_elim
               (λ old. let g = h.queued j y old in (g.0, get_longer h.put (x.item ∷ []) (h.popped + j) y.item g.1))
-              (λ (new : (j ≡ length items) × (x ≡ y)). let same : h.popped + j ≡ length h.put = (let e' = new.0 in omega arith) in
-              (sym (ap (λ (s : Spot T). s.place) new.1) ∙ q ∙ long ∙ sym same, ap (slice_get put) same ∙ get_last h.put x.item
-                  ∙ ap (λ (s : Spot T). Some s.item) new.1))
+              (λ (new : (j ≡ length items) × (x ≡ y)). let same : h.popped + j ≡ length h.put = (let e' = new.0 in omega arith) in (
+                sym (ap (λ (s : Spot T). s.place) new.1) ∙ q ∙ long ∙ sym same,
+                ap (slice_get put) same ∙ get_last h.put x.item
+                    ∙ ap (λ (s : Spot T). Some s.item) new.1,
+              ))
               (last_or_before items x j y e);
           whole = (let t = total_set weight_of views id v w at in let e = h.whole in omega arith);
           counted = (let t = total_set count_of views id v w at in let e = h.counted in omega arith);
@@ -175,9 +181,9 @@ module _ {T : Type 0} where
           never = λ p le. let t = total_set (times_of p) views id v w at in let e = h.never p le in omega arith;
           passes = λ j u e. ⊎_elim
               (λ (t : (j ≡ id) × (w ≡ u)). subst (PassOk put h.popped) t.1
-                  record { spent_is = λ z. absurd (omega arith); knows = λ _. ap (λ (l : List T). l ++ x.item ∷ []) k; below = ok.below })
+              record { spent_is = λ z. absurd (omega arith); knows = λ _. ap (λ (l : List T). l ++ x.item ∷ []) k; below = ok.below })
               (λ (t : (j ≢ id) × (get_elem? views j ≡ some u)). subst (PassOk put h.popped)
-                  (sym (others_spent items views id v h at heavy j u t.0 t.1))
+              (sym (others_spent items views id v h at heavy j u t.0 t.1))
               record { spent_is = λ _. refl; knows = λ z. absurd (omega arith); below = λ i z. absurd (omega arith) })
               (at_set views id j w u e);
         },
@@ -202,7 +208,7 @@ module _ {T : Type 0} where
         (
           (λ p. let own = total_part (times_of p) views id v at in
               dite (dec_le h.popped p) (λ far. let z = h.never p far in omega arith)
-                  (λ near. let o = h.once p (lt_of_not-le near) in omega arith)),
+              (λ near. let o = h.once p (lt_of_not-le near) in omega arith)),
           (λ p far. let own = total_part (times_of p) views id v at in let z = h.never p (omega arith) in omega arith),
         ),
       )
@@ -253,11 +259,11 @@ module _ {T : Type 0} where
         passes = λ j u e. ⊎_elim
             (λ x. ⊎_elim
             (λ (t : (j ≡ id) × (l ≡ u)). subst (PassOk h.put h.popped) t.1
-                record { spent_is = λ z. absurd (omega arith); knows = λ _. ok.knows (omega arith); below = ok.below })
+            record { spent_is = λ z. absurd (omega arith); knows = λ _. ok.knows (omega arith); below = ok.below })
             (λ (t : (j ≢ id) × (get_elem? views j ≡ some u)). h.passes j u t.1)
             (at_set views id j l u x))
             (λ (is : r ≡ u). subst (PassOk h.put h.popped) is record
-                { spent_is = λ z. absurd (omega arith); knows = λ _. ok.knows (omega arith); below = λ i z. absurd (omega arith) })
+            { spent_is = λ z. absurd (omega arith); knows = λ _. ok.knows (omega arith); below = λ i z. absurd (omega arith) })
             (at_snoc (set views id l) r u j e);
       }
 
@@ -267,7 +273,7 @@ module _ {T : Type 0} where
       let s : Hold T = spent in
       let vs = set views id b in
       let was : get_elem? views other ≡ some w = ⊎_elim (λ (t : (other ≡ id) × (b ≡ w)). absurd (two t.0))
-          (λ (t : (other ≢ id) × (get_elem? views other ≡ some w)). t.1) (at_set views id other b w at') in
+      (λ (t : (other ≢ id) × (get_elem? views other ≡ some w)). t.1) (at_set views id other b w at') in
       let ok = h.passes id v at in
       let ok' = h.passes other w was in
       let longer = length-append v.taken w.taken in
@@ -286,11 +292,15 @@ module _ {T : Type 0} where
             times_append p v.taken w.taken in let e = h.never p le in omega arith;
         passes = λ j u e. ⊎_elim
             (λ (t : (j ≡ other) × (s ≡ u)). subst (PassOk h.put h.popped)
-                t.1 record { spent_is = λ _. refl; knows = λ z. absurd (omega arith); below = λ i z. absurd (omega arith) })
+            t.1 record { spent_is = λ _. refl; knows = λ z. absurd (omega arith); below = λ i z. absurd (omega arith) })
             (λ (t : (j ≢ other) × (get_elem? vs j ≡ some u)). ⊎_elim
             (λ (q : (j ≡ id) × (b ≡ u)). subst (PassOk h.put h.popped) q.1
-                record { spent_is = λ z. absurd (omega arith); knows = λ _. ok.knows alive; below =
-                all_below_append v.taken w.taken h.popped ok.below ok'.below })
+            record {
+              spent_is = λ z. absurd (omega arith);
+              knows = λ _. ok.knows alive;
+              below =
+                  all_below_append v.taken w.taken h.popped ok.below ok'.below;
+            })
             (λ (q : (j ≢ id) × (get_elem? views j ≡ some u)). h.passes j u q.1)
             (at_set views id j b u t.1))
             (at_set vs other j s u e);

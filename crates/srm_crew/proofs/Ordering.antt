@@ -1,6 +1,7 @@
 -- Results, each in the slot of its place.
-use Rattle.std.proofs.Common.{◌≡◌, ◌≢◌, ◌<◌, ◌≤◌, ℕ, zero, suc, ◌+◌, cond, ◌==◌, List, [], ◌∷◌, ◌++◌, length, map, slice_get, slice_index,
-    Option, Some, Ok, Result, set, length-set, length-append, refl, sym, ap, ◌∙◌, subst, arith, append_assoc, eq-eqb, ne_eqb, lt_of_not-le}
+use Rattle.std.proofs.Common.{◌≡◌, ◌≢◌, ◌<◌, ◌≤◌, ℕ, zero, suc, ◌+◌, cond, ◌==◌, List, [], ◌∷◌, ◌++◌, length, map, slice_get, slice_index}
+use Rattle.std.proofs.Common.{Option, Some, Ok, Result, set, length-set, length-append, refl, sym, ap, ◌∙◌, subst, arith, append_assoc}
+use Rattle.std.proofs.Common.{eq-eqb, ne_eqb, lt_of_not-le}
 use Rattle.std.specs.List.{AllZip}
 use mathlib.Core.Logic.{dite}
 use native.Mathlib.Decide.{ℕ_discrete, dec_le}
@@ -27,7 +28,7 @@ found_twice (p ∷ ps) i zero near lt e = absurd (omega arith)
 found_twice (p ∷ ps) zero (suc j) near lt e =
     let r = found_once ps j (omega arith) in
     let o : cond {A = ℕ} (slice_index ps j == p) 1 0 ≡ 1 = ap (λ b. cond {A = ℕ} b 1 0) (eq-eqb (slice_index ps j) p (sym e)) in
-        omega (arith, r, o)
+    omega (arith, r, o)
 found_twice (p ∷ ps) (suc i) (suc j) near lt e = let r = found_twice ps i j (omega arith) (omega arith) e in omega (arith, r)
 
 once_below : (ps : List ℕ) (n : ℕ) → EachOnce ps n → (k : ℕ) → k < length ps → slice_index ps k < n
@@ -44,7 +45,7 @@ place_of [] p h = absurd (omega arith)
 place_of (q ∷ qs) p h = dite (ℕ_discrete p q)
     (λ e. (0, omega arith, sym e))
     (λ apart. let z : cond {A = ℕ} (p == q) 1 0 ≡ 0 = ap (λ b. cond {A = ℕ} b 1 0) (ne_eqb p q apart) in let r =
-        place_of qs p (omega (arith, h, z)) in (suc r.0, (let lt = r.1 in omega (arith, lt)), r.2))
+    place_of qs p (omega (arith, h, z)) in (suc r.0, (let lt = r.1 in omega (arith, lt)), r.2))
 
 -- ---- lists
 
@@ -147,7 +148,7 @@ module _ {D : Type 0} where
       let m : ℕ = length new in
       let one_less : length old ≡ m + 1 = ap length last ∙ length-append new (x ∷ []) in
       let len : length all ≡ (m + 1) + length tail = ap length parts ∙ length-append (new ++ x ∷ []) tail
-          ∙ ap (λ n. n + length tail) (length-append new (x ∷ [])) in
+      ∙ ap (λ n. n + length tail) (length-append new (x ∷ [])) in
       let lt : m < length places = omega (arith, many, len) in
       let place : ℕ = slice_index places m in
       let under = once_below places (length all) once m lt in
@@ -162,7 +163,7 @@ module _ {D : Type 0} where
             (get_set_same slots place (Some x) (omega (arith, under, long)) ∙ ap (λ o. Some o) (sym here)))
             (λ apart. let after : m < k = omega (arith, from, apart) in
             get_set_other slots place (slice_index places k) (Some x)
-                (λ e. once_apart places (length all) m k once after (omega (arith, far, many)) (sym e))
+            (λ e. once_apart places (length all) m k once after (omega (arith, far, many)) (sym e))
             ∙ filled k (omega (arith, after, one_less)) far);
       }
 
@@ -172,11 +173,11 @@ module _ {D : Type 0} where
       → ((p : ℕ) → p < length slots → (d : D) × (slice_get slots p ≡ Some (Some d))) → (d : D) × (slot ≡ Some d)
   full_there vs slots slot rest more split is full =
       let parts : slots ≡ (map (λ (x : D). Some x) vs ++ slot ∷ []) ++ more = sym split ∙ ap (λ l. map (λ (x : D). Some x) vs ++ l) is
-          ∙ sym (append_assoc (map (λ (x : D). Some x) vs) (slot ∷ []) more) in
+      ∙ sym (append_assoc (map (λ (x : D). Some x) vs) (slot ∷ []) more) in
       let m : ℕ = length (map (λ (x : D). Some x) vs) in
       let long : length slots ≡ (m + 1) + length more =
       ap length parts ∙ length-append (map (λ (x : D). Some x) vs ++ slot ∷ []) more
-          ∙ ap (λ n. n + length more) (length-append (map (λ (x : D). Some x) vs) (slot ∷ [])) in
+      ∙ ap (λ n. n + length more) (length-append (map (λ (x : D). Some x) vs) (slot ∷ [])) in
       let f = full m (omega (arith, long)) in
       let here : slice_get slots m ≡ Some slot = ap (λ l. slice_get l m) parts ∙ get_middle (map (λ (x : D). Some x) vs) more slot in
       (f.0, same_some slot (Some f.0) (sym here ∙ f.1))
@@ -188,9 +189,11 @@ module _ {D : Type 0} where
       let o = once.0 p lt in
       let k = place_of places p (omega (arith, o)) in
       let near = k.1 in
-      let d = get_there all k.0 (omega (arith, near, many)) in
-      (d.0, subst (λ (q : ℕ). slice_get slots q ≡ Some (Some d.0)) k.2
-          (filled k.0 (omega arith) (omega (arith, near, many)) ∙ ap (λ o. Some o) d.1))
+      let d = get_there all k.0 (omega (arith, near, many)) in (
+        d.0,
+        subst (λ (q : ℕ). slice_get slots q ≡ Some (Some d.0)) k.2
+            (filled k.0 (omega arith) (omega (arith, near, many)) ∙ ap (λ o. Some o) d.1),
+      )
 
   pub ordered : (places : List ℕ) (all v : List D) (slots : List (Option D)) → length places ≡ length all → length slots ≡ length all
       → FilledFrom places all 0 slots → map (λ (x : D). Some x) v ≡ slots → InOrder places all v
@@ -198,7 +201,7 @@ module _ {D : Type 0} where
     sym (map_long v) ∙ ap length same ∙ long,
     zip_places (λ p d. slice_get v p ≡ Some d) places all many (λ k d g lt.
         get_some v (slice_index places k) d (ap (λ l. slice_get l (slice_index places k)) same
-            ∙ filled k (omega arith) (omega (arith, lt, many)) ∙ ap (λ o. Some o) g)),
+        ∙ filled k (omega arith) (omega (arith, lt, many)) ∙ ap (λ o. Some o) g)),
   )
 
 -- ---- all items
@@ -220,9 +223,13 @@ module _ {T D : Type 0} (R : T → Result D CellFault → Type 0) (numbers : D �
         zip_points (λ x d. R x (Ok d)) items v (sym long) (λ k lt.
             let o = once.0 k lt in
             let i = place_of places k (omega (arith, o)) in
-            let f = zip_found (λ p d. HoldsAt (λ x. R x (Ok d)) items p) (λ p d. slice_get v p ≡ Some d) places r come3 order.1 i.0 i.1 in
-            (f.1.0, f.0, subst (λ (q : ℕ). slice_get items q ≡ Some f.1.0) i.2 f.1.1, subst (λ (q : ℕ). slice_get v q ≡ Some f.0) i.2 f.2,
-                f.1.2)),
+            let f = zip_found (λ p d. HoldsAt (λ x. R x (Ok d)) items p) (λ p d. slice_get v p ≡ Some d) places r come3 order.1 i.0 i.1 in (
+              f.1.0,
+              f.0,
+              subst (λ (q : ℕ). slice_get items q ≡ Some f.1.0) i.2 f.1.1,
+              subst (λ (q : ℕ). slice_get v q ≡ Some f.0) i.2 f.2,
+              f.1.2,
+            )),
         record {
           ledger = w.grown.ledger;
           weight = w.grown.weight;
@@ -245,9 +252,9 @@ module _ {T D : Type 0} (R : T → Result D CellFault → Type 0) (numbers : D �
       let put2 : p.put ≡ items = ap (λ q. q.put) w.taken ∙ put in
       let same : places ≡ w.places = is ∙ ap (λ q. q.taken) w.taken ∙ ap (λ l. l ++ w.places) none in
       let whole : EachOnce places (length items) = subst (λ l. EachOnce places (length l)) put2
-          (subst (λ l. EachOnce l (length p.put)) (sym is) once) in
+      (subst (λ l. EachOnce l (length p.put)) (sym is) once) in
       let many : length places ≡ length r = ap length same ∙ zip_long (λ p d. HoldsAt (λ x. R x (Ok d)) P.put p) w.places w.more w.come
-          ∙ sym (ap length w.gave) in
+      ∙ sym (ap length w.gave) in
       record { once = subst (EachOnce places) (sym (once_length (length items) places whole) ∙ many) whole; many = many; whole = whole }
 
   -- the bag is emptied

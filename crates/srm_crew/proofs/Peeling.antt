@@ -1,6 +1,6 @@
 -- What comes of items at places, each taken once at most, seen item by item.
-use Rattle.std.proofs.Common.{◌≡◌, ◌≢◌, ◌≤◌, ◌⊎◌, ℕ, zero, suc, ◌+◌, cond, ◌==◌, List, [], ◌∷◌, length, Some, refl, sym, ap, ◌∙◌, subst,
-    inl, inr, ⊎_elim, arith, eq-eqb, ne_eqb, lt_of_not-le}
+use Rattle.std.proofs.Common.{◌≡◌, ◌≢◌, ◌≤◌, ◌⊎◌, ℕ, zero, suc, ◌+◌, cond, ◌==◌, List, [], ◌∷◌, length, Some, refl, sym, ap, ◌∙◌, subst}
+use Rattle.std.proofs.Common.{inl, inr, ⊎_elim, arith, eq-eqb, ne_eqb, lt_of_not-le}
 use Rattle.std.specs.List.{AllZip}
 use mathlib.Core.Logic.{dite}
 use native.Mathlib.Decide.{ℕ_discrete, dec_le}
@@ -80,12 +80,17 @@ module _ {T D : Type 0} (Q : T → D → Type 0) (numbers : D → List ℕ) wher
       let r = peel x xs ps ds (λ q. let o = once q in omega (arith, o)) z.1 in
       let same : (k : ℕ) → sum_of numbers k ds ≡ sum_of numbers k r.results =
       ⊎_elim (λ (h : (times 0 ps ≡ 0) × ((k : ℕ) → sum_of numbers k ds ≡ sum_of numbers k r.results)). h.1)
-          (λ h. absurd (let e = h.0 in omega (arith, e, none))) r.first in
+      (λ h. absurd (let e = h.0 in omega (arith, e, none))) r.first in
       record {
         results = r.results;
         rest = r.rest;
-        first = inr (omega (arith, one, none), d, subst (λ y. Q y d) (sym (some_is x z.0.0 z.0.1)) z.0.2, λ k. let e = same k in
-            omega (arith, e));
+        first = inr (
+          omega (arith, one, none),
+          d,
+          subst (λ y. Q y d) (sym (some_is x z.0.0 z.0.1)) z.0.2,
+          λ k. let e = same k in
+              omega (arith, e),
+        );
       }
   peel x xs (suc q ∷ ps) (d ∷ ds) once z =
       let other = times_same zero (suc q) ps (λ e. absurd (omega arith)) in
@@ -95,9 +100,9 @@ module _ {T D : Type 0} (Q : T → D → Type 0) (numbers : D → List ℕ) wher
         rest = (z.0, r.rest);
         first = ⊎_elim
             (λ (h : (times 0 ps ≡ 0) × ((k : ℕ) → sum_of numbers k ds ≡ sum_of numbers k r.results)). inl
-                (other ∙ h.0, λ k. let e = h.1 k in omega (arith, e)))
+            (other ∙ h.0, λ k. let e = h.1 k in omega (arith, e)))
             (λ (h : (times 0 ps ≡ 1) × (e : D) × Q x e
-                × ((k : ℕ) → sum_of numbers k ds ≡ word_of (numbers e) k + sum_of numbers k r.results)).
+            × ((k : ℕ) → sum_of numbers k ds ≡ word_of (numbers e) k + sum_of numbers k r.results)).
             inr (other ∙ h.0, h.1, h.2, λ k. let e = h.3 k in omega (arith, e)))
             r.first;
       }
@@ -117,7 +122,7 @@ module _ {D : Type 0} (numbers : D → List ℕ) where
       (λ h. absurd (let e = h.0 in omega (arith, e, here)))
       (λ (h : (times 0 ps ≡ 1) × (d : D) × (x ≡ d) × ((k : ℕ) → sum_of numbers k ds ≡ word_of (numbers d) k + sum_of numbers k r.results)).
       let e = h.3 k in let same : word_of (numbers x) k ≡ word_of (numbers h.1) k = ap (λ y. word_of (numbers y) k) h.2 in
-          omega (arith, e, same, more))
+      omega (arith, e, same, more))
       r.first
     where
       at_most : (n : ℕ) (ps : List ℕ) → EachOnce ps (suc n) → (p : ℕ) → times p ps ≤ 1

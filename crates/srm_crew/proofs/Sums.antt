@@ -1,6 +1,6 @@
 -- Crossings of all that is done.
-use Rattle.std.proofs.Common.{◌≡◌, ◌<◌, ◌≤◌, ℕ, zero, suc, ◌+◌, ◌*◌, List, [], ◌∷◌, ◌++◌, length, take, get_or, slice_index, replicate, All,
-    refl, sym, ap, ◌∙◌, arith, inr}
+use Rattle.std.proofs.Common.{◌≡◌, ◌<◌, ◌≤◌, ℕ, zero, suc, ◌+◌, ◌*◌, List, [], ◌∷◌, ◌++◌, length, take, get_or, slice_index, replicate, All}
+use Rattle.std.proofs.Common.{refl, sym, ap, ◌∙◌, arith, inr}
 use Rattle.std.specs.List.{AllZip, flat_map, range_with_len}
 use Rattle.std.proofs.lemmas.List.Elements.{All-nil, All-cons}
 use Rattle.std.proofs.lemmas.List.{take_more}
@@ -59,7 +59,7 @@ module _ {X : Type 0} {H : X → Type 0} where
       → sum_at k (take (i + 1) ds) ≡ sum_at k (take i ds) + word_of d.crossings k
   sum_more k ds i d lt e =
       ap (sum_at k) (take_more ds i d lt) ∙ sum_append k (take i ds) (get_or ds i d ∷ [])
-          ∙ ap (λ (x : job.Done X H). sum_at k (take i ds) + (word_of x.crossings k + 0)) (sym e) ∙ (omega arith)
+      ∙ ap (λ (x : job.Done X H). sum_at k (take i ds) + (word_of x.crossings k + 0)) (sym e) ∙ (omega arith)
 
   pub sum_some : (k : ℕ) (ds : List (job.Done X H)) (i : ℕ) (d : job.Done X H) → i < length ds → d ≡ get_or ds i d
       → sum_at k (take i ds) + word_of d.crossings k ≤ sum_at k ds
@@ -86,7 +86,7 @@ module _ {X : Type 0} {H : X → Type 0} where
       let one : word_of d.crossings k ≡ word_of (crossings s own) k = ap (λ ns. word_of ns k) z.0.crossings_are in
       let more = sum_is f s ps ds z.1 k in
       let both = ap (λ ns. word_of ns k) (crossings_add s own (rows_of ds))
-          ∙ word_of_added (crossings s own) (crossings s (rows_of ds)) (crossings_long s own ∙ sym (crossings_long s (rows_of ds))) k in
+      ∙ word_of_added (crossings s own) (crossings s (rows_of ds)) (crossings_long s own ∙ sym (crossings_long s (rows_of ds))) k in
       omega (arith, one, more, both)
 
   pub rows_are : (f : DynBox X Global H → Record) (end : ℕ) (qs : List OwnCell) (rows : List (List Row)) (cs : List (Cell X H))
@@ -103,5 +103,10 @@ module _ {X : Type 0} {H : X → Type 0} where
   rows_of_all f s [] [] z = refl
   rows_of_all f s [] (d ∷ ds) z = absurd z
   rows_of_all f s (p ∷ ps) [] z = absurd z
-  rows_of_all f s (p ∷ ps) (d ∷ ds) z = inr (joined d.rows.items, rows_of ds, rows_are f p.till p.cells d.rows.items d.cells.items z.0.runs,
-      refl, rows_of_all f s ps ds z.1)
+  rows_of_all f s (p ∷ ps) (d ∷ ds) z = inr (
+    joined d.rows.items,
+    rows_of ds,
+    rows_are f p.till p.cells d.rows.items d.cells.items z.0.runs,
+    refl,
+    rows_of_all f s ps ds z.1,
+  )

@@ -1,6 +1,6 @@
 -- What workers did, put together: one item more, more work with the same pass, and the work of two.
-use Rattle.std.proofs.Common.{◌≡◌, ◌≤◌, ℕ, ◌+◌, ◌-◌, ◌*◌, ◌/◌, List, [], ◌∷◌, ◌++◌, length, slice_get, slice_index, Some, All, Result, Ok,
-    Err, refl, sym, ap, ◌∙◌, subst, arith, append_assoc, append-nil}
+use Rattle.std.proofs.Common.{◌≡◌, ◌≤◌, ℕ, ◌+◌, ◌-◌, ◌*◌, ◌/◌, List, [], ◌∷◌, ◌++◌, length, slice_get, slice_index, Some, All, Result, Ok}
+use Rattle.std.proofs.Common.{Err, refl, sym, ap, ◌∙◌, subst, arith, append_assoc, append-nil}
 use Rattle.std.specs.List.{AllZip}
 use Rattle.std.proofs.lemmas.Option.{get_or_from_slice_get, slice_get_within}
 use Rattle.std.proofs.lemmas.List.Elements.{All-get_or}
@@ -76,8 +76,11 @@ module _ {T D : Type 0} (R : T → Result D CellFault → Type 0) (numbers : D �
       → Stops R numbers p.put p.taken s e → Stops R numbers P.put P.taken S e
   stops_after P p S s U u fault.NoMemory a h = tt
   stops_after P p S s U u fault.Spent a h = (h.0, subst (λ l. HoldsAt (λ x. R x (Err cell.Spent)) l h.0) (ap (λ x. x.put) a.taken) h.1)
-  stops_after P p S s U u fault.CountFull a h = (h.0, subst (λ l. HoldsAt (λ x. R x (Err cell.CountFull)) l h.0)
-      (ap (λ x. x.put) a.taken) h.1)
+  stops_after P p S s U u fault.CountFull a h = (
+    h.0,
+    subst (λ l. HoldsAt (λ x. R x (Err cell.CountFull)) l h.0)
+        (ap (λ x. x.put) a.taken) h.1,
+  )
   stops_after P p S s U u fault.ShareFull a h =
       let put : p.put ≡ P.put = ap (λ x. x.put) a.taken in
       let all : p.taken ++ h.0 ≡ P.taken ++ (a.places ++ h.0) = ap (λ x. x.taken ++ h.0) a.taken ∙ append_assoc P.taken a.places h.0 in (
@@ -85,8 +88,11 @@ module _ {T D : Type 0} (R : T → Result D CellFault → Type 0) (numbers : D �
         a.more ++ h.1,
         subst (λ l. EachAtMostOnce l (length P.put)) all (subst (λ l. EachAtMostOnce (p.taken ++ h.0) (length l)) put h.2),
         zip_append (λ p d. HoldsAt (λ x. R x (Ok d)) P.put p) a.places h.0 a.more h.1 a.come (subst (λ l. ComeOf R l h.0 h.1) put h.3),
-        (h.4.0, (let x = a.grown.shares h.4.0 in let y = h.4.1 in let e = sum_of-append numbers h.4.0 a.more h.1 in
-            omega (arith, x, y, e))),
+        (
+          h.4.0,
+          (let x = a.grown.shares h.4.0 in let y = h.4.1 in let e = sum_of-append numbers h.4.0 a.more h.1 in
+              omega (arith, x, y, e)),
+        ),
       )
 
   -- more work, or a fault, after work
@@ -167,7 +173,7 @@ module _ {T D : Type 0} (R : T → Result D CellFault → Type 0) (numbers : D �
 
   pub halves_tell : (P : PassView T) (S : SeatView) (a b r : Result (PassView T × SeatView × Vec D) CrewFault) → P.taken ≡ []
       → TellsWork R numbers (half_with_list P) (half_with_shares S) [] a → TellsWork R numbers (half_without P) (seats.half_without S) [] b
-          → TellsBoth a b r → TellsWork R numbers P S [] r
+      → TellsBoth a b r → TellsWork R numbers P S [] r
   halves_tell P S (Err e) b r none x y h = subst (TellsWork R numbers P S []) (sym h) (first_stops P S e x)
   halves_tell P S (Ok a) (Err e) r none x y h = subst (TellsWork R numbers P S []) (sym h) (second_stops P S e none y)
   halves_tell P S (Ok a) (Ok b) (Ok v) none x y h = both_worked P a.0 b.0 v.0 S a.1 b.1 v.1 a.2.items b.2.items v.2.items x y h.0 h.1 h.2
@@ -176,7 +182,7 @@ module _ {T D : Type 0} (R : T → Result D CellFault → Type 0) (numbers : D �
   halves_tell P S (Ok a) (Ok b) (Err fault.CountFull) none x y h = absurd h
   halves_tell P S (Ok a) (Ok b) (Err fault.ShareFull) none x y h =
       let all : a.0.taken ++ b.0.taken ≡ P.taken ++ (x.places ++ y.places) = (λ i. (x.taken i).taken ++ (y.taken i).taken)
-          ∙ append_assoc P.taken x.places y.places in (
+      ∙ append_assoc P.taken x.places y.places in (
         x.places ++ y.places,
         x.more ++ y.more,
         subst (λ l. EachAtMostOnce l (length P.put)) all
@@ -202,7 +208,7 @@ module _ {T D : Type 0} (R : T → Result D CellFault → Type 0) (numbers : D �
       → TellsWork R numbers p s [] a → TellsWork R numbers q t [] b → TellsBoth a b r → TellsWork R numbers P S [] r
   halves_told P p q S s t a b r none ps ss qs ts x y h =
       halves_tell P S a b r none (tells_same (half_with_list P) p (half_with_shares S) s [] a ps ss refl x)
-          (tells_same (half_without P) q (seats.half_without S) t [] b qs ts refl y) h
+      (tells_same (half_without P) q (seats.half_without S) t [] b qs ts refl y) h
 
   -- why workers stop, of these items
   pub stops_of : (items : List T) (p : PassView T) (S : SeatView) (e : CrewFault) → p.put ≡ items → p.taken ≡ []

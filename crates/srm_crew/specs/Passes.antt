@@ -1,6 +1,6 @@
 -- What a contract sees of a bag and of a pass, and what the bag's calls tell.
-use Rattle.std.specs.Prelude.{◌≡◌, ◌<◌, ℕ, ◌+◌, ◌-◌, ◌/◌, List, [], ◌∷◌, ◌++◌, length, slice_get, Option, Some, None,
-    Result, Ok, Err}
+use Rattle.std.specs.Prelude.{◌≡◌, ◌<◌, ℕ, ◌+◌, ◌-◌, ◌/◌, List, [], ◌∷◌, ◌++◌, length, slice_get, Option, Some, None}
+use Rattle.std.specs.Prelude.{Result, Ok, Err}
 use Rattle.atomic_table.specs.Seated.{TableId}
 use Rattle.srm_crew.specs.declared.bag_fault.PutFault.{PutFault}
 use Rattle.srm_crew.specs.declared.bag_fault.PutFault.TheVariants as put

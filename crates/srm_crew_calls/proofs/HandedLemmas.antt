@@ -1,6 +1,6 @@
 -- Jobs as crews may be handed them.
-use Rattle.std.proofs.Common.{◌≡◌, ℕ, zero, suc, ◌+◌, ◌<◌, ◌≤◌, ◌^◌, List, [], ◌∷◌, ◌++◌, length, Ok, refl, sym, ap, ◌∙◌, subst, arith,
-    add-zero, zero-add, add-one, All, length-append}
+use Rattle.std.proofs.Common.{◌≡◌, ℕ, zero, suc, ◌+◌, ◌<◌, ◌≤◌, ◌^◌, List, [], ◌∷◌, ◌++◌, length, Ok, refl, sym, ap, ◌∙◌, subst, arith}
+use Rattle.std.proofs.Common.{add-zero, zero-add, add-one, All, length-append}
 use Rattle.std.specs.List.{AllZip, range_with_len}
 use Rattle.std.proofs.lemmas.List.{map-append}
 use Rattle.std.proofs.lemmas.List.Elements.{All-nil, All-cons, All-head, All-tail, All-push}
@@ -40,7 +40,7 @@ module _ {X : Type 0} {H : X → Type 0} (f : DynBox X Global H → Record) (n :
     jobs = All-push (λ (j : Job X H). MayAdvance f n j) js j h.jobs may;
     places =
         map-append (λ (j : Job X H). j.place) js (j ∷ []) ∙ ap (λ l. l ++ j.place ∷ []) h.places
-            ∙ ap (λ k. range_with_len 0 (length js) ++ k ∷ []) (at ∙ sym (zero-add (length js)))
+        ∙ ap (λ k. range_with_len 0 (length js) ++ k ∷ []) (at ∙ sym (zero-add (length js)))
         ∙ sym (ap (λ k. range_with_len 0 k) (length-append js (j ∷ []) ∙ add-one (length js)) ∙ range_more 0 (length js));
     few = (let long = length-append js (j ∷ []) in omega arith);
   }
@@ -102,7 +102,7 @@ module _ {X : Type 0} {H : X → Type 0} (f : DynBox X Global H → Record) (n :
       let more = known_cells t ps ds z.1 fit.1 in
       let few : length one.0 ≤ 1024 = (let e = one.3 in let le = fit.0.0 in omega arith) in
       All-cons (λ (d : job.Done X H). AreKnown f n d.cells.items) d ds (record { seen = one.0; are = one.1; of_members = one.2; few = few })
-          more
+      more
 
   -- the cells of what a crew has done of such jobs are cells of members
   pub known_done : (k : PlainScenario) (net : Network) (seat : SeatView) (js : List (Job X H)) (r : Vec (job.Done X H) × SeatView)

@@ -1,6 +1,6 @@
 -- No schedule to a safe end is refused where every own run has a result.
-use Rattle.std.proofs.Common.{◌≡◌, ℕ, zero, suc, true, false, List, [], ◌∷◌, ◌++◌, Option, Some, None, option_map, refl, sym, ap, ◌∙◌,
-    subst, slice_get, eqb-true, ◌==◌, cond, true≢false}
+use Rattle.std.proofs.Common.{◌≡◌, ℕ, zero, suc, true, false, List, [], ◌∷◌, ◌++◌, Option, Some, None, option_map, refl, sym, ap, ◌∙◌}
+use Rattle.std.proofs.Common.{subst, slice_get, eqb-true, ◌==◌, cond, true≢false}
 use Rattle.srm_cell.specs.Setting.{Setting}
 use Rattle.srm_cell.specs.Cells.{PlainCell, StepOutcome, Idle, Full, Spent, Done, Stepped, own_step}
 use Rattle.srm_cell.specs.OwnRuns.{own_end, told_to}
@@ -34,7 +34,7 @@ module _ (s : Setting) (end : ℕ) where
       elim (m == b) as (λ t. (m == b) ≡ t → (n : ℕ) × (own_end end m n x ≡ Idle)) [
         | true ↦ λ mb.
             let own : own_step end m c ≡ Done d = sym (ap (own_of end m) h.1) ∙ ap (λ k. own_of end k (slice_get cs k)) (eqb-true _ _ mb)
-                ∙ e in
+            ∙ e in
             let is : d.cell ≡ x = sym (ap (λ t. cond t d.cell (told_to s.traffic d.row.sent m c)) mb) ∙ h.2 in
             let f = fewer s end m d r.0 c false own r.1 in
             (f.0, subst (λ y. own_end end m f.0 y ≡ Idle) is f.2)
@@ -51,19 +51,19 @@ module _ (s : Setting) (end : ℕ) where
   answered [] w safe has h = h
   answered (m ∷ ms) w safe has h = elim (own_of end m (slice_get w.cells m)) as
       (λ o. own_of end m (slice_get w.cells m) ≡ o → IsRefusal (then_schedule ms (after_step s w m o)) → ⊥) [
-    | Idle ↦ λ e r. r
-    | Full ↦ λ e r.
-        let p = present end m (slice_get w.cells m) Full tt e in
-        let n = has m p.0 p.1 in
-        true≢false (sym (full_flag s end m n.0 p.0 false p.2 n.1))
-    | Spent ↦ λ e r.
-        let p = present end m (slice_get w.cells m) Spent tt e in
-        let n = has m p.0 p.1 in
-        spent_flag s end m n.0 p.0 false p.2 n.1
-    | Done d ↦ λ e r.
-        answered ms (record { cells = settled s m d 0 w.cells; trace = w.trace ++ d.row ∷ [] }) (safe_after s end w.cells safe m d e)
+        | Idle ↦ λ e r. r
+        | Full ↦ λ e r.
+            let p = present end m (slice_get w.cells m) Full tt e in
+            let n = has m p.0 p.1 in
+            true≢false (sym (full_flag s end m n.0 p.0 false p.2 n.1))
+        | Spent ↦ λ e r.
+            let p = present end m (slice_get w.cells m) Spent tt e in
+            let n = has m p.0 p.1 in
+            spent_flag s end m n.0 p.0 false p.2 n.1
+        | Done d ↦ λ e r.
+            answered ms (record { cells = settled s m d 0 w.cells; trace = w.trace ++ d.row ∷ [] }) (safe_after s end w.cells safe m d e)
             (results_after w.cells safe has m d e) r
-  ] refl h
+      ] refl h
 
 pub schedules_are_answered : SchedulesAreAnswered
 schedules_are_answered s w end safe has ms = answered s end ms w safe (λ m c g. has m c g)

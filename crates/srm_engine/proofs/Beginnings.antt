@@ -1,6 +1,6 @@
 -- When a window begins: at the least next time of all cells.
-use Rattle.std.proofs.Common.{◌≡◌, ◌⊎◌, inl, inr, ℕ, zero, suc, ◌<◌, ◌≤◌, ◌+◌, min, true, false, List, [], ◌∷◌, Option, Some, None,
-    option_map, unwrap_or, refl, sym, ap, ◌∙◌, arith, zero-add, add-zero, length, nat_le, cond, slice_get}
+use Rattle.std.proofs.Common.{◌≡◌, ◌⊎◌, inl, inr, ℕ, zero, suc, ◌<◌, ◌≤◌, ◌+◌, min, true, false, List, [], ◌∷◌, Option, Some, None}
+use Rattle.std.proofs.Common.{option_map, unwrap_or, refl, sym, ap, ◌∙◌, arith, zero-add, add-zero, length, nat_le, cond, slice_get}
 use Rattle.std.proofs.lemmas.Bool.Decides.{nat_tests}
 use Rattle.srm_cell.specs.Setting.{Setting}
 use Rattle.srm_cell.specs.Cells.{PlainCell, Event, next_event, time_of}
@@ -37,8 +37,11 @@ get_time i (x ∷ cs) (suc j) c h = let e : suc i + j ≡ i + suc j = omega arit
     ∙ ap (λ k. Some (time_of (next_event k c))) e
 
 are_times : (cs : List PlainCell) → AreTimes (times_from 0 cs) cs
-are_times cs = record { as_many = length_times 0 cs; each = λ j c h. get_time 0 cs j c h
-    ∙ ap (λ k. Some (time_of (next_event k c))) (zero-add j) }
+are_times cs = record {
+  as_many = length_times 0 cs;
+  each = λ j c h. get_time 0 cs j c h
+      ∙ ap (λ k. Some (time_of (next_event k c))) (zero-add j);
+}
 
 abbrev first_min : ℕ → Option (ℕ × ℕ) → ℕ
 first_min n None = n
@@ -111,5 +114,5 @@ pub begins_at : (s : Setting) (w : World) (begin until : ℕ) → IsLeast due An
     ≡ min until (start_of s w)
 begins_at s w begin until least is =
     least_is_one due until Any w.cells begin (least_among until 0 w.cells) least (among_is_least until w.cells) ∙ least_is until 0 w.cells
-        ∙ ap (first_min until) (least_is_event (times_from 0 w.cells) w.cells (are_times w.cells))
+    ∙ ap (first_min until) (least_is_event (times_from 0 w.cells) w.cells (are_times w.cells))
     ∙ of_event until (least_event 0 w.cells) ∙ ap (λ u. min until (unwrap_or (time_of (least_event 0 w.cells)) u)) is

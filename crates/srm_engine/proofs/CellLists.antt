@@ -1,6 +1,7 @@
 -- Cells in groups: each seen as the cell of its member.
-use Rattle.std.proofs.Common.{◌≡◌, ℕ, zero, suc, ◌+◌, ◌*◌, ◌/◌, ◌%◌, ◌<◌, ◌≤◌, ◌⊎◌, inl, inr, List, [], ◌∷◌, ◌++◌, length, take, drop, Some,
-    refl, sym, ap, ◌∙◌, subst, arith, slice_get, slice_set, get_or, add-zero, zero-add, length-append, append-nil, append_assoc}
+use Rattle.std.proofs.Common.{◌≡◌, ℕ, zero, suc, ◌+◌, ◌*◌, ◌/◌, ◌%◌, ◌<◌, ◌≤◌, ◌⊎◌, inl, inr, List, [], ◌∷◌, ◌++◌, length, take, drop, Some}
+use Rattle.std.proofs.Common.{refl, sym, ap, ◌∙◌, subst, arith, slice_get, slice_set, get_or, add-zero, zero-add, length-append, append-nil}
+use Rattle.std.proofs.Common.{append_assoc}
 use Rattle.std.proofs.Math.Nat.{suc-mul}
 use Rattle.std.proofs.Math.Seq.{split_at, take-suc}
 use Rattle.std.proofs.lemmas.List.{map-append}
@@ -27,7 +28,7 @@ module _ {X : Type 0} {H : X → Type 0} (f : DynBox X Global H → Record) wher
 
   from_each : (i : ℕ) (cs : List (Cell X H)) (ps : List PlainCell) → length cs ≡ length ps
       → ((j : ℕ) (c : Cell X H) (p : PlainCell) → slice_get cs j ≡ Some c → slice_get ps j ≡ Some p → IsCell f (i + j) c p)
-          → AreFrom i cs ps
+      → AreFrom i cs ps
   from_each i [] [] len each = tt
   from_each i [] (p ∷ ps) len each = absurd (omega arith)
   from_each i (c ∷ cs) [] len each = absurd (omega arith)
@@ -55,8 +56,11 @@ module _ {X : Type 0} {H : X → Type 0} (f : DynBox X Global H → Record) wher
   from_seen cs ps h = from_each 0 cs ps h.as_many (λ j c p a b. subst (λ k. IsCell f k c p) (sym (zero-add j)) (h.each j c p a b))
 
   pub seen_from : (cs : List (Cell X H)) (ps : List PlainCell) → AreFrom 0 cs ps → AreCells f cs ps
-  seen_from cs ps h = record { as_many = as_many_from 0 cs ps h; each =
-      λ j c p a b. subst (λ k. IsCell f k c p) (zero-add j) (each_from 0 cs ps h j c p a b) }
+  seen_from cs ps h = record {
+    as_many = as_many_from 0 cs ps h;
+    each =
+        λ j c p a b. subst (λ k. IsCell f k c p) (zero-add j) (each_from 0 cs ps h j c p a b);
+  }
 
   there : (ps : List PlainCell) (j : ℕ) → j < length ps → (p : PlainCell) × (slice_get ps j ≡ Some p)
   there [] j lt = absurd (omega arith)
@@ -86,8 +90,11 @@ module _ {X : Type 0} {H : X → Type 0} (f : DynBox X Global H → Record) wher
   join_from i [] ds [] qs h g = rw add-zero at g
   join_from i [] ds (p ∷ ps) qs h g = absurd h
   join_from i (c ∷ cs) ds [] qs h g = absurd h
-  join_from i (c ∷ cs) ds (p ∷ ps) qs h g = (h.0, join_from (suc i) cs ds ps qs h.1
-      (subst (λ k. AreFrom k ds qs) (shifted i (length ps)) g))
+  join_from i (c ∷ cs) ds (p ∷ ps) qs h g = (
+    h.0,
+    join_from (suc i) cs ds ps qs h.1
+        (subst (λ k. AreFrom k ds qs) (shifted i (length ps)) g),
+  )
 
 -- ---- sizes
 
@@ -241,7 +248,7 @@ module _ {A : Type 0} where
       → (all_in hs ++ k.items) ++ more ≡ all
   next_in gs hs g h k c rest more all e r same pushed =
       ap (λ l. (all_in hs ++ l) ++ more) pushed ∙ ap (λ l. l ++ more) (sym (append_assoc (all_in hs) h.items (c ∷ [])))
-          ∙ append_assoc (all_in hs ++ h.items) (c ∷ []) more
+      ∙ append_assoc (all_in hs ++ h.items) (c ∷ []) more
       ∙ ap (λ l. l ++ c ∷ more) same ∙ ap (λ l. (all_in gs ++ g.items) ++ l) (sym r) ∙ e
 
   pub nothing_in : (xs : List A) → length xs ≡ 0 → xs ≡ []
@@ -268,13 +275,13 @@ module _ {X : Type 0} {H : X → Type 0} (f : DynBox X Global H → Record) wher
   pub group_at : (gs : List (Vec (Cell X H))) (ps : List PlainCell) → AreFrom f 0 (all_in gs) ps → (k : ℕ) (g : Vec (Cell X H))
       → k < length gs → g ≡ get_or gs k g
       → (qs : List PlainCell) × AreFrom f (length (all_in (take k gs))) g.items qs
-          × (take (length (all_in (take (suc k) gs))) ps ≡ take (length (all_in (take k gs))) ps ++ qs)
+      × (take (length (all_in (take (suc k) gs))) ps ≡ take (length (all_in (take k gs))) ps ++ qs)
       × (length (take (length (all_in (take k gs))) ps) ≡ length (all_in (take k gs)))
   group_at gs ps h k g lt is =
       let before = all_in (take k gs) in
       let rest = all_in (drop (suc k) gs) in
       let split : gs ≡ take k gs ++ g ∷ drop (suc k) gs = split_at gs k g lt
-          ∙ ap (λ (v : Vec (Cell X H)). take k gs ++ v ∷ drop (suc k) gs) (sym is) in
+      ∙ ap (λ (v : Vec (Cell X H)). take k gs ++ v ∷ drop (suc k) gs) (sym is) in
       let all : all_in gs ≡ before ++ (g.items ++ rest) = ap all_in split ∙ all_in_append (take k gs) (g ∷ drop (suc k) gs) in
       let here = subst (λ l. AreFrom f 0 l ps) all h in
       let parts = split_from f 0 before (g.items ++ rest) ps here in
@@ -283,7 +290,7 @@ module _ {X : Type 0} {H : X → Type 0} (f : DynBox X Global H → Record) wher
       let more : take (suc k) gs ≡ take k gs ++ g ∷ [] = take-suc gs k g lt ∙ ap (λ (v : Vec (Cell X H)). take k gs ++ v ∷ []) (sym is) in
       let size : length (all_in (take (suc k) gs)) ≡ length before + length g.items =
       ap (λ l. length (all_in l)) more ∙ ap length (all_in_append (take k gs) (g ∷ []) ∙ ap (λ l. before ++ l) (append-nil g.items))
-          ∙ length-append before g.items in
+      ∙ length-append before g.items in
       let many = as_many_from f 0 (before ++ (g.items ++ rest)) ps here in
       let long = length-append before (g.items ++ rest) in (
         qs,

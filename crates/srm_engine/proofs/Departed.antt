@@ -1,6 +1,6 @@
 -- Members that left, in the worlds of the sequential run: nothing is pending at a record that is gone.
-use Rattle.std.proofs.Common.{◌≡◌, ◌≢◌, ℕ, zero, suc, ◌<◌, ◌≤◌, ◌+◌, true, List, refl, sym, subst, inl, inr, arith, Option, Some, None,
-    slice_get, zero-add, add-zero, ◌⊎◌, leb-true}
+use Rattle.std.proofs.Common.{◌≡◌, ◌≢◌, ℕ, zero, suc, ◌<◌, ◌≤◌, ◌+◌, true, List, refl, sym, subst, inl, inr, arith, Option, Some, None}
+use Rattle.std.proofs.Common.{slice_get, zero-add, add-zero, ◌⊎◌, leb-true}
 use Rattle.srm_net.specs.declared.packet.Packet.{Packet}
 use Rattle.srm_member.specs.declared.row.Row.{Row}
 use Rattle.srm_member.specs.Record.{Record, Active, Gone}
@@ -16,8 +16,8 @@ use Rattle.srm_cell.proofs.Leaving.{IsActive, Stays, stays_step, stays_hear_at, 
 use Rattle.srm_engine.specs.World.{World, settled, least_event, opening, opening_cells, run}
 use Rattle.srm_engine.proofs.ScheduleLemmas.{same_Some}
 use Rattle.srm_engine.proofs.RunLemmas.{Seq, rest, next, shifted, least_from}
-use Rattle.srm_engine.proofs.Sequential.{EachCell, each_after, Good, StepFacts, step_facts, good_step, above_after, above_time,
-    member_below, good_opening, run_seq}
+use Rattle.srm_engine.proofs.Sequential.{EachCell, each_after, Good, StepFacts, step_facts, good_step, above_after, above_time}
+use Rattle.srm_engine.proofs.Sequential.{member_below, good_opening, run_seq}
 
 module _ (s : Setting) (fit : IsFit s) where
   -- a member that is gone left at a time before which nothing is pending
@@ -98,7 +98,7 @@ module _ (s : Setting) (fit : IsFit s) where
     handed_active j (Gone f) past p by sent at a =
         let g = arrival_is s.traffic p j at a in
         let away : 0 < s.traffic.distance p.id.sender j = fit.apart p.id.sender j (subst (λ n. n < s.traffic.members) (sym by) below) g.0
-            (λ q. g.1 (sym q)) in
+        (λ q. g.1 (sym q)) in
         let arrives = g.2 in
         let from = event_after past.0 past.2 in
         not_after past.0 at (s.traffic.leave j) past.1 (omega arith) (arrival_up_to s.traffic p j at a)

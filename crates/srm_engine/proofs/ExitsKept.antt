@@ -1,6 +1,6 @@
 -- A member that is gone has left its exit.
-use Rattle.std.proofs.Common.{◌≡◌, ℕ, zero, suc, ◌+◌, ◌^◌, Bool, true, false, cond, List, [], ◌∷◌, ◌++◌, ◌==◌, length, Option, Some, None,
-    Err, refl, sym, ap, ◌∙◌, subst, slice_get, nat_lt, le_refl, arith, zero-add}
+use Rattle.std.proofs.Common.{◌≡◌, ℕ, zero, suc, ◌+◌, ◌^◌, Bool, true, false, cond, List, [], ◌∷◌, ◌++◌, ◌==◌, length, Option, Some, None}
+use Rattle.std.proofs.Common.{Err, refl, sym, ap, ◌∙◌, subst, slice_get, nat_lt, le_refl, arith, zero-add}
 use Rattle.std.specs.declared.dyn_box.DynBox.{DynBox}
 use Rattle.std.specs.Global.{Global}
 use Rattle.srm_net.specs.declared.packet.Body.{Body}
@@ -12,8 +12,8 @@ use Rattle.srm_member.specs.React.{Reaction, react}
 use Rattle.srm_member.proofs.AllIn.{AllIn}
 use Rattle.srm_cell.specs.declared.cell.Cell.{Cell}
 use Rattle.srm_cell.specs.Setting.{Setting, arrival_of}
-use Rattle.srm_cell.specs.Cells.{PlainCell, Event, StepOutcome, Idle, Full, Spent, Done, Stepped, handle, sending_step, step_at, before,
-    hear, hear_at}
+use Rattle.srm_cell.specs.Cells.{PlainCell, Event, StepOutcome, Idle, Full, Spent, Done, Stepped, handle, sending_step, step_at, before}
+use Rattle.srm_cell.specs.Cells.{hear, hear_at}
 use Rattle.srm_cell.specs.OwnRuns.{told_to}
 use Rattle.srm_cell.specs.declared.fault.CellFault.TheVariants as fault
 use Rattle.srm_cell.specs.Views.{IsCell, IsGone, TellsExit}

@@ -1,6 +1,6 @@
 -- A member's fixed part stays the same in a run.
-use Rattle.std.proofs.Common.{◌≡◌, ℕ, zero, suc, ◌+◌, ◌^◌, Bool, true, false, cond, List, sym, ap, ◌∙◌, subst, inl, inr, Option, Some, None,
-    slice_get, nat_lt, add-zero, zero-add}
+use Rattle.std.proofs.Common.{◌≡◌, ℕ, zero, suc, ◌+◌, ◌^◌, Bool, true, false, cond, List, sym, ap, ◌∙◌, subst, inl, inr, Option, Some, None}
+use Rattle.std.proofs.Common.{slice_get, nat_lt, add-zero, zero-add}
 use Rattle.srm_net.specs.declared.packet.Packet.{Packet}
 use Rattle.srm_net.specs.declared.packet.Body.{Body}
 use Rattle.srm_member.specs.declared.cause.Cause.{Cause}
@@ -10,8 +10,8 @@ use Rattle.srm_member.specs.Record.{Record, Active, Gone, fixed_part}
 use Rattle.srm_member.specs.React.{Reaction, react}
 use Rattle.srm_member.proofs.LawProofs.{same_fixed}
 use Rattle.srm_cell.specs.Setting.{Setting, IsFit, arrival_of}
-use Rattle.srm_cell.specs.Cells.{PlainCell, Event, Stepped, Full, Done, before, handle, hear, hear_at, next_event, opening_cell,
-    sending_step, step_at}
+use Rattle.srm_cell.specs.Cells.{PlainCell, Event, Stepped, Full, Done, before, handle, hear, hear_at, next_event, opening_cell}
+use Rattle.srm_cell.specs.Cells.{sending_step, step_at}
 use Rattle.srm_cell.specs.OwnRuns.{told_to}
 use Rattle.srm_cell.proofs.Counts.{Taken, next_taken}
 use Rattle.srm_cell.proofs.Rising.{OnEvent, OnStep, before_on}

@@ -1,6 +1,6 @@
 -- Members that hear a packet one after the other.
-use Rattle.std.proofs.Common.{◌≡◌, ℕ, zero, suc, ◌+◌, ◌≤◌, true, cond, List, [], ◌∷◌, length, Option, Some, None, option_map, refl, sym, ap,
-    ◌∙◌, slice_get, slice_set, nat_lt, lt-ltb, le-ltb, arith, zero-add}
+use Rattle.std.proofs.Common.{◌≡◌, ℕ, zero, suc, ◌+◌, ◌≤◌, true, cond, List, [], ◌∷◌, length, Option, Some, None, option_map, refl, sym, ap}
+use Rattle.std.proofs.Common.{◌∙◌, slice_get, slice_set, nat_lt, lt-ltb, le-ltb, arith, zero-add}
 use Rattle.srm_net.specs.declared.packet.Packet.{Packet}
 use Rattle.srm_cell.specs.Setting.{Traffic, arrival_of}
 use Rattle.srm_cell.specs.Cells.{PlainCell, hear, hear_at}
@@ -52,9 +52,9 @@ module _ (s : Traffic) (p : Packet) where
       let same = same_some x c h in
       let now : nat_lt i (i + 0 + 1) ≡ true = lt-ltb i (i + 0 + 1) (omega arith) in
       ap (λ l. hear s p (i + 0) c ∷ l) (none_heard (i + 0) (suc i) xs (omega arith)) ∙ ap (λ m. hear s p m c ∷ xs) e
-          ∙ ap (λ y. hear s p i y ∷ xs) (sym same)
+      ∙ ap (λ y. hear s p i y ∷ xs) (sym same)
       ∙ sym (ap (λ b. cond b (hear s p i x) x ∷ heard_below s p (i + 0 + 1) (suc i) xs) now
-          ∙ ap (λ l. hear s p i x ∷ l) (none_heard (i + 0 + 1) (suc i) xs (omega arith)))
+      ∙ ap (λ l. hear s p i x ∷ l) (none_heard (i + 0 + 1) (suc i) xs (omega arith)))
   heard_more i (suc j) (x ∷ xs) c h =
       let e : i + suc j ≡ suc i + j = omega arith in
       let was : nat_lt i (i + suc j) ≡ true = lt-ltb i (i + suc j) (omega arith) in
@@ -69,4 +69,4 @@ module _ (s : Traffic) (p : Packet) where
       → slice_set (heard_below s p k 0 cs) k (hear s p k c) ≡ heard_below s p (k + 1) 0 cs
   heard_next k cs c h =
       ap (λ m. slice_set (heard_below s p m 0 cs) k (hear s p m c)) (sym (zero-add k)) ∙ heard_more 0 k cs c h
-          ∙ ap (λ m. heard_below s p (m + 1) 0 cs) (zero-add k)
+      ∙ ap (λ m. heard_below s p (m + 1) 0 cs) (zero-add k)

@@ -1,7 +1,8 @@
 -- The index of next times: a tournament whose first entry is the least, and the list of times that it stands for.
-use Rattle.std.proofs.Common.{◌≡◌, ◌≢◌, ℕ, zero, suc, ◌+◌, ◌-◌, ◌*◌, ◌/◌, ◌%◌, ◌^◌, ◌<◌, ◌≤◌, ◌⊎◌, inl, inr, Bool, true, false, cond, ◌||◌,
-    ◌==◌, List, [], ◌∷◌, length, map, drop, Option, Some, None, refl, sym, ap, ◌∙◌, subst, arith, true≢false, eqb-true, eq-eqb, lt-ltb,
-    zero-add, nat_lt, nat_le, slice_get, slice_set, slice_index_or, get_or-drop, get_or-set_same, get_or-set_other, length-drop}
+use Rattle.std.proofs.Common.{◌≡◌, ◌≢◌, ℕ, zero, suc, ◌+◌, ◌-◌, ◌*◌, ◌/◌, ◌%◌, ◌^◌, ◌<◌, ◌≤◌, ◌⊎◌, inl, inr, Bool, true, false, cond, ◌||◌}
+use Rattle.std.proofs.Common.{◌==◌, List, [], ◌∷◌, length, map, drop, Option, Some, None, refl, sym, ap, ◌∙◌, subst, arith, true≢false}
+use Rattle.std.proofs.Common.{eqb-true, eq-eqb, lt-ltb, zero-add, nat_lt, nat_le, slice_get, slice_set, slice_index_or, get_or-drop}
+use Rattle.std.proofs.Common.{get_or-set_same, get_or-set_other, length-drop}
 use Rattle.std.proofs.Math.ListN.{length-set}
 use Rattle.std.proofs.lemmas.Bool.{eqb-false}
 use Rattle.std.proofs.lemmas.Bool.Decides.{nat_tests}
@@ -9,8 +10,8 @@ use Rattle.std.proofs.lemmas.Nat.{and_mask}
 use Rattle.std.proofs.lemmas.Option.{slice_get-get_or}
 use Rattle.std.specs.Int.Bits.{bit_and, bit_xor, xor_add_and}
 use Rattle.srm_engine.specs.declared.next_times.Entry.{Entry}
-use Rattle.srm_engine.specs.NextTimes.{sooner, least_time, is_time, entry_of, time_in, entry_at, sooner_entry, winner_below, IsTree,
-    SetsLeaf, IsEntryOf, Holds, times_in, IsTournament}
+use Rattle.srm_engine.specs.NextTimes.{sooner, least_time, is_time, entry_of, time_in, entry_at, sooner_entry, winner_below, IsTree}
+use Rattle.srm_engine.specs.NextTimes.{SetsLeaf, IsEntryOf, Holds, times_in, IsTournament}
 
 -- ---- a list with one place written
 

@@ -1,6 +1,7 @@
 -- Jobs as crews are handed them, and what is done of them.
-use Rattle.std.proofs.Common.{◌≡◌, ℕ, zero, suc, ◌+◌, ◌<◌, ◌≤◌, ◌^◌, ◌⊎◌, inl, inr, List, [], ◌∷◌, ◌++◌, length, take, drop, map, Some,
-    refl, sym, ap, ◌∙◌, subst, arith, slice_get, slice_index, add-zero, zero-add, add-one, All, length-append, IsPermutation}
+use Rattle.std.proofs.Common.{◌≡◌, ℕ, zero, suc, ◌+◌, ◌<◌, ◌≤◌, ◌^◌, ◌⊎◌, inl, inr, List, [], ◌∷◌, ◌++◌, length, take, drop, map, Some}
+use Rattle.std.proofs.Common.{refl, sym, ap, ◌∙◌, subst, arith, slice_get, slice_index, add-zero, zero-add, add-one, All, length-append}
+use Rattle.std.proofs.Common.{IsPermutation}
 use Rattle.std.specs.List.{AllZip, range_with_len}
 use Rattle.std.proofs.lemmas.List.{map-append, take-append-drop}
 use Rattle.std.proofs.lemmas.List.Elements.{All-nil, All-cons, All-head, All-tail}
@@ -77,9 +78,10 @@ fits (suc k) cut till place i n (c ∷ cs) small few le =
     let all = c ∷ cs in
     let part = take_part cut all in
     let most = take_most cut all in
-    let long = length_numbered i (take cut all) in
-    ((small, omega arith, of_members n i (take cut all) (omega arith)),
-        fits k cut till (suc place) (i + length (take cut all)) n (drop cut all) small few (omega arith))
+    let long = length_numbered i (take cut all) in (
+      (small, omega arith, of_members n i (take cut all) (omega arith)),
+      fits k cut till (suc place) (i + length (take cut all)) n (drop cut all) small few (omega arith),
+    )
 
 -- of the own runs of jobs' cells one ends with this
 some_cell : (o : StepOutcome Stepped) (end i : ℕ) (cs : List PlainCell) → cell.FirstEnds o end (numbered i cs) → (j : ℕ) × (c : PlainCell)
@@ -97,9 +99,12 @@ some_job o k cut end place i [] h = absurd h
 some_job o zero cut end place i (c ∷ cs) h = absurd h
 some_job o (suc k) cut end place i (c ∷ cs) (inl h) =
     let all = c ∷ cs in
-    let r = some_cell o end i (take cut all) h in
-    (r.0, r.1, subst (λ l. slice_get l r.0 ≡ Some r.1) (take-append-drop cut all) (get_first (take cut all) (drop cut all) r.0 r.1 r.2),
-        r.3)
+    let r = some_cell o end i (take cut all) h in (
+      r.0,
+      r.1,
+      subst (λ l. slice_get l r.0 ≡ Some r.1) (take-append-drop cut all) (get_first (take cut all) (drop cut all) r.0 r.1 r.2),
+      r.3,
+    )
 some_job o (suc k) cut end place i (c ∷ cs) (inr h) =
     let all = c ∷ cs in
     let r = some_job o k cut end (suc place) (i + length (take cut all)) (drop cut all) h in
@@ -140,10 +145,12 @@ module _ {X : Type 0} {H : X → Type 0} (f : DynBox X Global H → Record) wher
       let own : AreFrom f i g.items (take cut all) = subst (λ l. AreFrom f i g.items l) (sym at.0) parts.0 in
       let next : AreFrom f (i + length (take cut all)) (all_in gs) (drop cut all) =
       subst (λ k. AreFrom f (i + k) (all_in gs) (drop cut all)) (as_many_from f i g.items (take cut all) own)
-          (subst (λ l. AreFrom f (i + n) (all_in gs) l) (sym at.1) parts.1) in
-      subst (λ js. AreJobs f (jobs_with till place (g ∷ gs)) (handed_jobs i js)) (sym ((jobs_are_runs cut till place pos).1 p ps))
-      (record { place = refl; till = refl; cells = own }, are_jobs cut till (suc place) (i + length (take cut all)) gs
-          (drop cut all) pos a.others next)
+      (subst (λ l. AreFrom f (i + n) (all_in gs) l) (sym at.1) parts.1) in
+      subst (λ js. AreJobs f (jobs_with till place (g ∷ gs)) (handed_jobs i js)) (sym ((jobs_are_runs cut till place pos).1 p ps)) (
+        record { place = refl; till = refl; cells = own },
+        are_jobs cut till (suc place) (i + length (take cut all)) gs
+            (drop cut all) pos a.others next,
+      )
     where
       whole : (length g.items ≡ cut) ⊎ (sizes gs ≡ []) → (length g.items ≡ cut)
           ⊎ ((length g.items ≤ cut) × (length (p ∷ ps) ≡ length g.items))
@@ -162,14 +169,14 @@ module _ {X : Type 0} {H : X → Type 0} (f : DynBox X Global H → Record) wher
   may_all n (j ∷ js) [] h k = absurd h
   may_all n (j ∷ js) (p ∷ ps) h k =
       All-cons (λ (j : Job X H). cell.MayAdvance f n j) j js
-          (record { plain_job = p; is = h.0; till = k.0.0; few = k.0.1; of_members = k.0.2 }) (may_all n js ps h.1 k.1)
+      (record { plain_job = p; is = h.0; till = k.0.0; few = k.0.1; of_members = k.0.2 }) (may_all n js ps h.1 k.1)
 
   pub may_advance : (cut till n : ℕ) (gs : List (Vec (Cell X H))) (ps : List PlainCell) → 0 < cut → cut ≤ 1024 → till ≤ 2 ^ 40
       → length ps ≤ n → AreCuts cut (sizes gs) → AreFrom f 0 (all_in gs) ps
       → All (λ (j : Job X H). cell.MayAdvance f n j) (jobs_with till 0 gs)
   may_advance cut till n gs ps pos few small le cuts h =
       may_all n (jobs_with till 0 gs) _ (are_jobs cut till 0 0 gs ps pos cuts h)
-          (fits (length ps) cut till 0 0 n ps small few (omega arith))
+      (fits (length ps) cut till 0 0 n ps small few (omega arith))
 
   pub as_many_jobs : (till place : ℕ) (gs : List (Vec (Cell X H))) → length (jobs_with till place gs) ≡ length gs
   as_many_jobs till place [] = refl
@@ -198,7 +205,7 @@ module _ {X : Type 0} {H : X → Type 0} (f : DynBox X Global H → Record) wher
   pub job_results : (t : Traffic) (i : ℕ) (js : List PlainJob) (ds : List (job.Done X H))
       → AllZip (λ p d. cell.IsDone f t p d) (handed_jobs i js) ds
       → (rss : List (List OwnResult)) × AreJobRuns i js rss × AreFrom f i (all_in (groups_of ds)) (cells_in (joined rss))
-          × (lists_of ds ≡ rows_in (joined rss))
+      × (lists_of ds ≡ rows_in (joined rss))
       × (sizes (groups_of ds) ≡ map (λ (j : PlainJob). length j.cells) js)
   job_results t i [] [] h = ([], tt, tt, refl, refl)
   job_results t i [] (d ∷ ds) h = absurd h
@@ -226,7 +233,7 @@ module _ {X : Type 0} {H : X → Type 0} (f : DynBox X Global H → Record) wher
   sizes_are till place i (g ∷ gs) [] h = absurd h
   sizes_are till place i (g ∷ gs) (j ∷ js) h =
       ap (λ n. n ∷ sizes gs) (as_many_from f i g.items j.cells h.0.cells)
-          ∙ ap (λ l. length j.cells ∷ l) (sizes_are till (suc place) (i + length j.cells) gs js h.1)
+      ∙ ap (λ l. length j.cells ∷ l) (sizes_are till (suc place) (i + length j.cells) gs js h.1)
 
   -- the groups keep their sizes
   pub cuts_kept : (cut till : ℕ) (gs : List (Vec (Cell X H))) (js : List PlainJob) (ds : List (job.Done X H)) → AreCuts cut (sizes gs)
@@ -280,7 +287,7 @@ counted_more t l trace rows more old new c g e = record {
   weight = g.weight ∙ c.weight;
   shares = λ k.
       g.shares k ∙ ap (λ n. n + word_of (crossings t rows) k) (c.shares k)
-          ∙ sym (word_joined t trace rows k) ∙ ap (λ rs. word_of (crossings t (trace ++ rs)) k) e;
+      ∙ sym (word_joined t trace rows k) ∙ ap (λ rs. word_of (crossings t (trace ++ rs)) k) e;
 }
 
 -- crossings do not depend on the order of new rows
@@ -291,5 +298,5 @@ counted_merged s l trace rows merged seat h c = record {
   weight = c.weight;
   shares = λ k.
       c.shares k ∙ word_joined s.traffic trace rows k ∙ ap (λ ns. word_of (crossings s.traffic trace) k + word_of ns k)
-          (crossings_keep s rows merged h) ∙ sym (word_joined s.traffic trace merged k);
+      (crossings_keep s rows merged h) ∙ sym (word_joined s.traffic trace merged k);
 }

@@ -1,6 +1,6 @@
 -- From what `kmerge` promises to lists.
-use Rattle.std.proofs.Common.{◌≡◌, ◌∙◌, ◌<◌, ◌≤◌, ◌+◌, ◌^◌, ◌++◌, Bool, true, ℕ, List, [], ◌∷◌, Option, Some, None, Ordering, All, IsSorted,
-    IsPermutation, length, drop, get_or, slice_index_or, append-nil, subst, sym, ap, vec_len, map, refl, arith}
+use Rattle.std.proofs.Common.{◌≡◌, ◌∙◌, ◌<◌, ◌≤◌, ◌+◌, ◌^◌, ◌++◌, Bool, true, ℕ, List, [], ◌∷◌, Option, Some, None, Ordering, All, IsSorted}
+use Rattle.std.proofs.Common.{IsPermutation, length, drop, get_or, slice_index_or, append-nil, subst, sym, ap, vec_len, map, refl, arith}
 use Rattle.std.specs.Option.{unwrap_or, option_to_list}
 use Rattle.std.proofs.lemmas.List.Sorted.{IsPermutation-refl}
 use Rattle.std.proofs.lemmas.List.{drop_more, length-append}
@@ -20,7 +20,7 @@ use Rattle.itertools.specs.declared.kmerge_impl.KMergeBy.{KMergeBy}
 abbrev pub VecGives : {A : Type 0} → Vec A → IntoIter A Global → Type 0
 VecGives {A} v r =
     (into_iter_items r ≡ v.items) × (into_iter_len r ≡ vec_len v) × (into_iter_len r < 2 ^ 64)
-        × EveryRun (into_iter_steps {X = A} {Z = Global}) (λ p. ItemsAre p (into_iter_items p.from))
+    × EveryRun (into_iter_steps {X = A} {Z = Global}) (λ p. ItemsAre p (into_iter_items p.from))
 
 taken : {A : Type 0} (s : IntoIter A Global) → AlwaysYields (into_iter_steps {X = A} {Z = Global}) (λ x. x) s s.rest.items
 taken {A} = listed {B = A} into_iter_steps (λ x. x) (λ s. s.rest.items) (λ s t p. sym s.rest.ok.0 ∙ p.0) (λ s x t p. p.0)

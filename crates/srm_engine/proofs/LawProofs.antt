@@ -1,7 +1,7 @@
 -- The laws.
-use Rattle.std.proofs.Common.{ltb-false, suc-add, ◌≡◌, ℕ, zero, suc, ◌≤◌, ◌+◌, Bool, true, false, List, [], ◌∷◌, ◌++◌, length, drop, refl,
-    sym, ap, ◌∙◌, subst, ◌⊎◌, inl, inr, arith, Option, Some, None, slice_get, ◌==◌, eqb-true, eq-eqb, cond, ◌&&◌, option_map, nat_lt,
-    add-zero, zero-add, append_assoc, append-nil, le_refl, ◌≢◌}
+use Rattle.std.proofs.Common.{ltb-false, suc-add, ◌≡◌, ℕ, zero, suc, ◌≤◌, ◌+◌, Bool, true, false, List, [], ◌∷◌, ◌++◌, length, drop, refl}
+use Rattle.std.proofs.Common.{sym, ap, ◌∙◌, subst, ◌⊎◌, inl, inr, arith, Option, Some, None, slice_get, ◌==◌, eqb-true, eq-eqb, cond, ◌&&◌}
+use Rattle.std.proofs.Common.{option_map, nat_lt, add-zero, zero-add, append_assoc, append-nil, le_refl, ◌≢◌}
 use Rattle.std.proofs.lemmas.Bool.{eqb-false}
 use Rattle.std.proofs.Math.Seq.{drop-append_seam}
 use Rattle.srm_cell.proofs.CellLemmas.{keep, outcome_map, stepped_map}
@@ -13,14 +13,15 @@ use Rattle.srm_cell.specs.Cells.{Done, Event, Full, Idle, PlainCell, Spent, Step
 use Rattle.srm_cell.specs.OwnRuns.{hear_rows, own_after, own_end, own_rows, told_to}
 use Rattle.srm_cell.specs.Setting.{IsFit, Setting, arrival_of}
 use Rattle.srm_engine.proofs.Departed.{Stable, least_not_spent, stable_opening, stable_reached, stable_seq}
-use Rattle.srm_engine.proofs.RunLemmas.{Ends, after_full, after_stepped, ending, fewer, full_flag, least_own, not_done, quiet_ends, run_by,
-    run_first, seq_first, seq_refused, seq_run, seq_schedule, shifted, spent_flag, step_none, to_the_end, total}
-use Rattle.srm_engine.proofs.ScheduleLemmas.{Quiet, Safe, Sched, go, not_me, own_of_is, own_rows_late, safe_after, same_end, step_late,
-    stop}
+use Rattle.srm_engine.proofs.RunLemmas.{Ends, after_full, after_stepped, ending, fewer, full_flag, least_own, not_done, quiet_ends, run_by}
+use Rattle.srm_engine.proofs.RunLemmas.{run_first, seq_first, seq_refused, seq_run, seq_schedule, shifted, spent_flag, step_none}
+use Rattle.srm_engine.proofs.RunLemmas.{to_the_end, total}
+use Rattle.srm_engine.proofs.ScheduleLemmas.{Quiet, Safe, Sched, go, not_me, own_of_is, own_rows_late, safe_after, same_end, step_late}
+use Rattle.srm_engine.proofs.ScheduleLemmas.{stop}
 use Rattle.srm_engine.proofs.Sequential.{good_reached, promise_safe, seq_ordered, window_safe}
 use Rattle.srm_engine.proofs.Settled.{at_member, get_after}
-use Rattle.srm_engine.specs.Laws.{CellsRunAlone, NeverSpent, OwnRunsEnd, PromisesAreSafe, RefusalsAreMet, RunEnds, SchedulesAgree,
-    WindowsAreSafe, new_rows}
+use Rattle.srm_engine.specs.Laws.{CellsRunAlone, NeverSpent, OwnRunsEnd, PromisesAreSafe, RefusalsAreMet, RunEnds, SchedulesAgree}
+use Rattle.srm_engine.specs.Laws.{WindowsAreSafe, new_rows}
 use Rattle.srm_engine.specs.Schedules.{own_of, rows_of, scheduled}
 use Rattle.srm_engine.specs.World.{World, after_step, least_event, opening, row_cmp, run, settled, step_of, step_to}
 use Rattle.srm_member.specs.declared.row.Row.{Row}
@@ -40,19 +41,22 @@ module _ (s : Setting) (end : ℕ) where
   scheduled_is : (ms : List ℕ) (w u : World) → scheduled s end ms w ≡ Done u → (rows : List Row) × Sched s end w.cells ms rows u.cells
       × (u.trace ≡ w.trace ++ rows)
   unfolding scheduled after_step then_schedule
-  scheduled_is [] w u h = let e : w ≡ u = cc in ([], subst (λ (v : World). Sched s end w.cells [] [] v.cells) e stop,
-      ap (λ (v : World). v.trace) (sym e) ∙ sym (append-nil w.trace))
+  scheduled_is [] w u h = let e : w ≡ u = cc in (
+    [],
+    subst (λ (v : World). Sched s end w.cells [] [] v.cells) e stop,
+    ap (λ (v : World). v.trace) (sym e) ∙ sym (append-nil w.trace),
+  )
   scheduled_is (m ∷ ms) w u h = elim (own_of end m (slice_get w.cells m))
       as (λ o. own_of end m (slice_get w.cells m) ≡ o → (rows : List Row) × Sched s end w.cells (m ∷ ms) rows u.cells
       × (u.trace ≡ w.trace ++ rows)) [
-    | Idle ↦ λ e. let x : Idle ≡ Done u = sym (ap (λ o. then_schedule ms (after_step s w m o)) e) ∙ h in cc
-    | Full ↦ λ e. let x : Full ≡ Done u = sym (ap (λ o. then_schedule ms (after_step s w m o)) e) ∙ h in cc
-    | Spent ↦ λ e. let x : Spent ≡ Done u = sym (ap (λ o. then_schedule ms (after_step s w m o)) e) ∙ h in cc
-    | Done d ↦ λ e.
-        let v : World = record { cells = settled s m d 0 w.cells; trace = w.trace ++ d.row ∷ [] } in
-        let g = scheduled_is ms v u (sym (ap (λ o. then_schedule ms (after_step s w m o)) e) ∙ h) in
-        (d.row ∷ g.0, go e g.1, g.2 ∙ append_assoc w.trace (d.row ∷ []) g.0)
-  ] refl
+        | Idle ↦ λ e. let x : Idle ≡ Done u = sym (ap (λ o. then_schedule ms (after_step s w m o)) e) ∙ h in cc
+        | Full ↦ λ e. let x : Full ≡ Done u = sym (ap (λ o. then_schedule ms (after_step s w m o)) e) ∙ h in cc
+        | Spent ↦ λ e. let x : Spent ≡ Done u = sym (ap (λ o. then_schedule ms (after_step s w m o)) e) ∙ h in cc
+        | Done d ↦ λ e.
+            let v : World = record { cells = settled s m d 0 w.cells; trace = w.trace ++ d.row ∷ [] } in
+            let g = scheduled_is ms v u (sym (ap (λ o. then_schedule ms (after_step s w m o)) e) ∙ h) in
+            (d.row ∷ g.0, go e g.1, g.2 ∙ append_assoc w.trace (d.row ∷ []) g.0)
+      ] refl
 
   schedule_of : {cs ds : List PlainCell} {ms : List ℕ} {rows : List Row} → Sched s end cs ms rows ds → (t : List Row)
       → scheduled s end ms (record { cells = cs; trace = t }) ≡ Done (record { cells = ds; trace = t ++ rows })
@@ -61,7 +65,7 @@ module _ (s : Setting) (end : ℕ) where
   schedule_of (go {cs = cs} {m = m} {ms = ms} {d = d} {rows = rows} {ds = ds} e more) t =
       let w : World = record { cells = cs; trace = t } in
       ap (λ o. then_schedule ms (after_step s w m o)) e ∙ schedule_of more (t ++ d.row ∷ [])
-          ∙ ap (λ (r : List Row). Done (record { cells = ds; trace = r })) (append_assoc t (d.row ∷ []) rows)
+      ∙ ap (λ (r : List Row). Done (record { cells = ds; trace = r })) (append_assoc t (d.row ∷ []) rows)
 
   -- ---- each cell's own run alone
 
@@ -71,12 +75,12 @@ module _ (s : Setting) (end : ℕ) where
   after_late x late m zero c = refl
   after_late x late m (suc n) c =
       let step = λ (o : StepOutcome Stepped) (e : own_step end m c ≡ o). after_first end m n (told_to s.traffic x m c)
-          ∙ ap (after_by end m n (told_to s.traffic x m c))
-          (told_late s.traffic end m x late c ∙ ap (outcome_map (stepped_map (told_to s.traffic x m))) e) in
+      ∙ ap (after_by end m n (told_to s.traffic x m c))
+      (told_late s.traffic end m x late c ∙ ap (outcome_map (stepped_map (told_to s.traffic x m))) e) in
       let was = λ (o : StepOutcome Stepped) (e : own_step end m c ≡ o). ap
-          (told_to s.traffic x m) (sym (after_first end m n c ∙ ap (after_by end m n c) e)) in
+      (told_to s.traffic x m) (sym (after_first end m n c ∙ ap (after_by end m n c) e)) in
       elim (own_step end m c) as (λ o. own_step end m c ≡ o → own_after end m (suc n) (told_to s.traffic x m c)
-          ≡ told_to s.traffic x m (own_after end m (suc n) c)) [
+      ≡ told_to s.traffic x m (own_after end m (suc n) c)) [
         | Idle ↦ λ e. step Idle e ∙ was Idle e
         | Full ↦ λ e. step Full e ∙ was Full e
         | Spent ↦ λ e. step Spent e ∙ was Spent e
@@ -99,11 +103,11 @@ module _ (s : Setting) (end : ℕ) where
       ∙ ap (outcome_map (stepped_map (told_to s.traffic x m))) (sym (end_now end m c))
   end_map x late m (suc n) c =
       let step = λ (o : StepOutcome Stepped) (e : own_step end m c ≡ o). end_first end m n (told_to s.traffic x m c)
-          ∙ ap (end_by end m n) (told_late s.traffic end m x late c ∙ ap (outcome_map (stepped_map (told_to s.traffic x m))) e) in
+      ∙ ap (end_by end m n) (told_late s.traffic end m x late c ∙ ap (outcome_map (stepped_map (told_to s.traffic x m))) e) in
       let was = λ (o : StepOutcome Stepped) (e : own_step end m c ≡ o). ap (outcome_map (stepped_map (told_to s.traffic x m)))
-          (sym (end_first end m n c ∙ ap (end_by end m n) e)) in
+      (sym (end_first end m n c ∙ ap (end_by end m n) e)) in
       elim (own_step end m c) as (λ o. own_step end m c ≡ o → own_end end m (suc n) (told_to s.traffic x m c)
-          ≡ outcome_map (stepped_map (told_to s.traffic x m)) (own_end end m (suc n) c)) [
+      ≡ outcome_map (stepped_map (told_to s.traffic x m)) (own_end end m (suc n) c)) [
         | Idle ↦ λ e. step Idle e ∙ was Idle e
         | Full ↦ λ e. step Full e ∙ was Full e
         | Spent ↦ λ e. step Spent e ∙ was Spent e
@@ -128,10 +132,10 @@ module _ (s : Setting) (end : ℕ) where
       elim (m == b) as (λ x. (m == b) ≡ x → Alone m (d.row ∷ rows) c (slice_get ds m)) [
         | true ↦ λ mb.
             let own : own_step end m c ≡ Done d = sym (ap (own_of end m) g) ∙ ap (λ k. own_of end k (slice_get cs k)) (eqb-true _ _ mb)
-                ∙ e in
+            ∙ e in
             let is = own_of_is end b (slice_get cs b) d e in
             let here : slice_get (settled s b d 0 cs) m ≡ Some d.cell = get_after s b d m cs ∙ ap (option_map (at_member s b d m)) g
-                ∙ ap (λ x. Some (cond x d.cell (told_to s.traffic d.row.sent m c))) mb in
+            ∙ ap (λ x. Some (cond x d.cell (told_to s.traffic d.row.sent m c))) mb in
             let mine : (d.row.key.member == m) ≡ true = eq-eqb _ _ (is.0 ∙ sym (eqb-true _ _ mb)) in
             let r = alone more quiet (safe_after s end cs safe b d e) m d.cell here in (
               suc r.0,
@@ -145,7 +149,7 @@ module _ (s : Setting) (end : ℕ) where
             let is = own_of_is end b (slice_get cs b) d e in
             let late = step_late s end cs safe b d e in
             let here : slice_get (settled s b d 0 cs) m ≡ Some (told_to s.traffic d.row.sent m c) = get_after s b d m cs
-                ∙ ap (option_map (at_member s b d m)) g ∙ ap (λ x. Some (cond x d.cell (told_to s.traffic d.row.sent m c))) mb in
+            ∙ ap (option_map (at_member s b d m)) g ∙ ap (λ x. Some (cond x d.cell (told_to s.traffic d.row.sent m c))) mb in
             let other : (d.row.key.member == m) ≡ false = not_me s end d.row.key.member m (λ q. eqb-false _ _ mb (sym q ∙ is.0)) in
             let r = alone more quiet (safe_after s end cs safe b d e) m (told_to s.traffic d.row.sent m c) here in (
               r.0,
@@ -166,7 +170,7 @@ module _ (s : Setting) (end : ℕ) where
   collected i (c ∷ cs) f =
       let h = f 0 c refl in
       let g = collected (suc i) cs (λ j b e. let x = f (suc j) b e in
-          (x.0, x.1, subst (λ k. own_end end k x.0 b ≡ ending x.1) (shifted i j) x.2)) in
+      (x.0, x.1, subst (λ k. own_end end k x.0 b ≡ ending x.1) (shifted i j) x.2)) in
       (h.0 ∷ g.0, h.1 ∷ g.1, (rw add-zero at h.2, g.2))
 
   ending_of : (n k : ℕ) (c : PlainCell) → (own_end end k n c ≡ Idle) ⊎ (own_end end k n c ≡ Full) → (n : ℕ) × (b : Bool)
@@ -219,7 +223,7 @@ module _ (s : Setting) (end : ℕ) where
 pub schedules_agree : SchedulesAgree
 schedules_agree s w end fit reached within safe results =
     let all = collected s end 0 w.cells (λ j c e. let r = results j c e in
-        (r.0, false, subst (λ k. own_end end k r.0 c ≡ Idle) (sym (zero-add j)) r.1)) in
+    (r.0, false, subst (λ k. own_end end k r.0 c ≡ Idle) (sym (zero-add j)) r.1)) in
     let done = to_the_end s end (total all.0) w.cells all.0 all.1 (le_refl (total all.0)) safe all.2 in
     let good = good_reached s fit reached.0 w reached.1 in
     elim done.3 [
@@ -228,15 +232,20 @@ schedules_agree s w end fit reached within safe results =
           let order = seq_ordered s fit end done.2 good in
           let schedule = seq_schedule s end done.2 in (
             v,
-            record { steps = length done.0; comes = seq_run s end within done.2 w.trace; quiet = q.0; first =
-                λ k u lt h. seq_first s end within done.2 w.trace k lt u h },
+            record {
+              steps = length done.0;
+              comes = seq_run s end within done.2 w.trace;
+              quiet = q.0;
+              first =
+                  λ k u lt h. seq_first s end within done.2 w.trace k lt u h;
+            },
             (schedule.0, schedule_of s end schedule.1 w.trace),
             λ ms u h quiet.
                 let g = scheduled_is s end ms w u h in
                 let same = same_end s end schedule.1 q.0 safe ms g.0 u.cells g.1 quiet in
                 let rows : ordered row_cmp (drop (length w.trace) u.trace)
-                    ≡ done.0 = ap (λ t. ordered row_cmp (drop (length w.trace) t)) g.2 ∙ ap (ordered row_cmp) (drop-append_seam w.trace g.0)
-                    ∙ sym same.1 ∙ order in
+                ≡ done.0 = ap (λ t. ordered row_cmp (drop (length w.trace) t)) g.2 ∙ ap (ordered row_cmp) (drop-append_seam w.trace g.0)
+                ∙ sym same.1 ∙ order in
                 λ i. record { cells = sym same.0 i; trace = w.trace ++ rows i },
           )
       | inr r ↦
@@ -244,7 +253,7 @@ schedules_agree s w end fit reached within safe results =
           let f = flag_of s end 0 w.cells all.0 all.1 all.2 r.1.0 at.0 at.1 in
           let idle = results r.1.0 at.0 at.1 in
           let b : f.1 ≡ false = one_ending s end (0 + r.1.0) f.0 idle.0 at.0 f.1 false f.2
-              (subst (λ k. own_end end k idle.0 at.0 ≡ Idle) (sym (zero-add r.1.0)) idle.1) in
+          (subst (λ k. own_end end k idle.0 at.0 ≡ Idle) (sym (zero-add r.1.0)) idle.1) in
           let x : Some true ≡ Some f.1 = sym r.1.1 ∙ f.3 in
           absurd (let y : true ≡ false = cc in cc)
     ]
@@ -260,9 +269,9 @@ run_on s zero b w v h = let e : w ≡ v = cc in rw zero-add (ap (run s b) e)
 run_on s (suc a) b w v h =
     let within = le_refl s.traffic.until in
     let first = λ (n : ℕ) (o : StepOutcome World) (e : step_to s s.traffic.until w ≡ o). run_first s s.traffic.until within n w
-        ∙ ap (run_by s s.traffic.until within n) e in
+    ∙ ap (run_by s s.traffic.until within n) e in
     ap (λ n. run s n w) (suc-add a b) ∙ (elim (step_to s s.traffic.until w) as
-        (λ o. step_to s s.traffic.until w ≡ o → run s (suc (a + b)) w ≡ run s b v) [
+    (λ o. step_to s s.traffic.until w ≡ o → run s (suc (a + b)) w ≡ run s b v) [
       | Idle ↦ λ e. let x : Idle ≡ Done v = sym (first a Idle e) ∙ h in cc
       | Full ↦ λ e. let x : Full ≡ Done v = sym (first a Full e) ∙ h in cc
       | Spent ↦ λ e. let x : Spent ≡ Done v = sym (first a Spent e) ∙ h in cc
@@ -278,11 +287,15 @@ refusals_are_met s w end fit reached within safe m none =
       | inl q ↦
           let f = flag_of s end 0 w.cells all.0 all.1 all.2 m none.0 none.1 in
           let b : f.1 ≡ true = one_ending s end (0 + m) f.0 none.2.0 none.0 f.1 true f.2
-              (subst (λ k. own_end end k none.2.0 none.0 ≡ Full) (sym (zero-add m)) none.2.1) in
+          (subst (λ k. own_end end k none.2.0 none.0 ≡ Full) (sym (zero-add m)) none.2.1) in
           absurd (q.1 m (f.3 ∙ ap Some b))
-      | inr r ↦ (let refused = seq_refused s end within done.2 r.0 w.trace in
-          ((suc (length done.0), refused), (reached.0 + suc (length done.0),
-          run_on s reached.0 (suc (length done.0)) (opening s) w reached.1 ∙ refused)))
+      | inr r ↦ (let refused = seq_refused s end within done.2 r.0 w.trace in (
+        (suc (length done.0), refused),
+        (
+          reached.0 + suc (length done.0),
+          run_on s reached.0 (suc (length done.0)) (opening s) w reached.1 ∙ refused,
+        ),
+      ))
     ]
 
 pub windows_are_safe : WindowsAreSafe
@@ -316,19 +329,22 @@ module _ (s : Setting) (fit : IsFit s) where
   ] refl
 
   no_more : (w : World) → before s.traffic.until (least_event 0 w.cells) ≡ None → RunsOut w
-  no_more w h = (1, inl (run_first s s.traffic.until (le_refl s.traffic.until) 0 w
-      ∙ ap (run_by s s.traffic.until (le_refl s.traffic.until) 0) (step_none s s.traffic.until (le_refl s.traffic.until) w h)))
+  no_more w h = (
+    1,
+    inl (run_first s s.traffic.until (le_refl s.traffic.until) 0 w
+        ∙ ap (run_by s s.traffic.until (le_refl s.traffic.until) 0) (step_none s s.traffic.until (le_refl s.traffic.until) w h)),
+  )
 
   -- one window of a tick
   one_window : (w : World) → Stable s fit w.cells → (e : Event) → before s.traffic.until (least_event 0 w.cells) ≡ Some e
       → ((v : World) → Stable s fit v.cells → ((d : Event) → before s.traffic.until (least_event 0 v.cells) ≡ Some d
-          → suc e.key.time ≤ d.key.time) → RunsOut v) → RunsOut w
+      → suc e.key.time ≤ d.key.time) → RunsOut v) → RunsOut w
   one_window w stable e h again =
       let end = suc e.key.time in
       let within : end ≤ s.traffic.until = (before_some s.traffic.until (least_event 0 w.cells) e h).1 in
       let safe = window_safe s fit w.cells stable.good s.traffic.until e h 1 end (omega arith) (λ a b al bl ne. fit.apart a b al bl ne) in
       let all = collected_all s end w.cells (λ j c g. own_run_ends (s.traffic.leave j) end j c (stable.good.tidy j c g)
-          (stable.good.sound j c g) (stable.stays j c g)) in
+      (stable.good.sound j c g) (stable.stays j c g)) in
       let done = to_the_end s end (total all.0) w.cells all.0 all.1 (le_refl (total all.0)) safe all.2 in
       elim done.3 [
         | inl q ↦
@@ -343,14 +359,16 @@ module _ (s : Setting) (fit : IsFit s) where
       ((e : Event) → before s.traffic.until (least_event 0 w.cells) ≡ Some e → s.traffic.until ≤ e.key.time + k) → RunsOut w
   ends_from zero w stable room = elim (before s.traffic.until (least_event 0 w.cells)) as
       (λ o. before s.traffic.until (least_event 0 w.cells) ≡ o → RunsOut w) [
-    | None ↦ λ h. no_more w h
-    | Some e ↦ λ h. let early = (before_some s.traffic.until (least_event 0 w.cells) e h).1 in let late = room e h in absurd (omega arith)
-  ] refl
+        | None ↦ λ h. no_more w h
+        | Some e ↦ λ h. let early = (before_some s.traffic.until (least_event 0 w.cells) e h).1 in let late = room e h in
+            absurd (omega arith)
+      ] refl
   ends_from (suc k) w stable room = elim (before s.traffic.until (least_event 0 w.cells)) as
       (λ o. before s.traffic.until (least_event 0 w.cells) ≡ o → RunsOut w) [
-    | None ↦ λ h. no_more w h
-    | Some e ↦ λ h. one_window w stable e h (λ v g next. ends_from k v g (λ d x. let late = room e h in let from = next d x in omega arith))
-  ] refl
+        | None ↦ λ h. no_more w h
+        | Some e ↦ λ h. one_window w stable e h (λ v g next. ends_from k v
+            g (λ d x. let late = room e h in let from = next d x in omega arith))
+      ] refl
 
 pub run_ends : RunEnds
 run_ends s fit = ends_from s fit s.traffic.until (opening s) (stable_opening s fit) (λ e h. omega arith)
@@ -377,7 +395,7 @@ no_spent_run s fit zero k w reached h = cc
 no_spent_run s fit (suc n) k w reached h =
     let within = le_refl s.traffic.until in
     let by = λ (o : StepOutcome World) (e : step_to s s.traffic.until w ≡ o). sym (ap (run_by s s.traffic.until within n) e)
-        ∙ sym (run_first s s.traffic.until within n w) ∙ h in
+    ∙ sym (run_first s s.traffic.until within n w) ∙ h in
     elim (step_to s s.traffic.until w) as (λ o. step_to s s.traffic.until w ≡ o → ⊥) [
       | Idle ↦ λ e. let x : Idle ≡ Spent = by Idle e in cc
       | Full ↦ λ e. let x : Full ≡ Spent = by Full e in cc

@@ -1,6 +1,6 @@
 -- The event that the sequential run takes next is the least of all that is pending.
-use Rattle.std.proofs.Common.{◌≡◌, ℕ, zero, suc, ◌+◌, ◌<◌, true, List, [], ◌∷◌, ◌++◌, map, length, Option, Some, None, refl, sym, ap, ◌∙◌,
-    subst, slice_get, nat_lt, lt-ltb, cond, arith, zero-add, add-zero}
+use Rattle.std.proofs.Common.{◌≡◌, ℕ, zero, suc, ◌+◌, ◌<◌, true, List, [], ◌∷◌, ◌++◌, map, length, Option, Some, None, refl, sym, ap, ◌∙◌}
+use Rattle.std.proofs.Common.{subst, slice_get, nat_lt, lt-ltb, cond, arith, zero-add, add-zero}
 use Rattle.std.specs.List.{Contains}
 use Rattle.srm_net.specs.declared.key.Key.{Key}
 use Rattle.srm_net.specs.Keys.{key_cmp}
@@ -54,7 +54,7 @@ no_keys i (c ∷ cs) none h =
     let parts = both_none (next_event i c) (least_event (suc i) cs) h in
     let first : pending_keys i c ≡ [] = rw add-zero at (none 0 c refl (rw (add-zero i) parts.0)) in
     let rest : keys_from (suc i) cs ≡ [] = no_keys (suc i) cs (λ j d g n. rw (shifted i j) at (none (suc j) d g (rw (shifted i j) n)))
-        parts.1 in
+    parts.1 in
     ap (λ ks. ks ++ keys_from (suc i) cs) first ∙ rest
 
 module _ (cs : List PlainCell) where
@@ -65,7 +65,7 @@ module _ (cs : List PlainCell) where
       let above = each_above (Contains (keys_from 0 cs)) 0 cs (contains_each (keys_from 0 cs)) from.0 from.1 from.2 in
       let next = before_some (e.key.time + 1) (next_event (0 + from.0) from.1) e from.3 in
       (on_some (IsAbove (Contains (keys_from 0 cs)) (0 + from.0)) _ e (next_above (Contains (keys_from 0 cs)) (0 + from.0) from.1 above)
-          next.0).0
+      next.0).0
 
 pub steps_take_the_least : StepsTakeTheLeast
 steps_take_the_least s w fit reached =
@@ -74,7 +74,7 @@ steps_take_the_least s w fit reached =
         is_pending w.cells e h,
         none_below e.key (keys_from 0 w.cells) (all_above_keys (NotBefore e.key) 0 w.cells (λ j c g.
             above_least e.key (0 + j) c (good.tidy j c g)
-                (least_of_all e.key 0 w.cells (subst (Least e.key) (sym h) (from_refl key_cmp key_total e.key)) j c g))),
+            (least_of_all e.key 0 w.cells (subst (Least e.key) (sym h) (from_refl key_cmp key_total e.key)) j c g))),
       ),
       λ h. no_keys 0 w.cells (λ j c g. (let t = good.tidy j c g in (next_events_are_least (0 + j) c t.flights t.marks).1)) h,
     )

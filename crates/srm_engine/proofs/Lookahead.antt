@@ -1,6 +1,7 @@
 -- Windows no wider than the least link delay, and promise windows.
-use Rattle.std.proofs.Common.{◌≡◌, ◌≢◌, ℕ, zero, suc, ◌<◌, ◌≤◌, ◌+◌, min, Bool, true, false, cond, not, List, [], ◌∷◌, refl, sym, ap, ◌∙◌,
-    subst, ◌⊎◌, inl, inr, arith, Option, Some, None, length, map, filter, fold, slice_get, ◌==◌, eqb-true, add-zero, zero-add}
+use Rattle.std.proofs.Common.{◌≡◌, ◌≢◌, ℕ, zero, suc, ◌<◌, ◌≤◌, ◌+◌, min, Bool, true, false, cond, not, List, [], ◌∷◌, refl, sym, ap, ◌∙◌}
+use Rattle.std.proofs.Common.{subst, ◌⊎◌, inl, inr, arith, Option, Some, None, length, map, filter, fold, slice_get, ◌==◌, eqb-true}
+use Rattle.std.proofs.Common.{add-zero, zero-add}
 use Rattle.std.proofs.lemmas.Bool.{eqb-false}
 use Rattle.std.proofs.lemmas.List.{length-map}
 use Rattle.std.proofs.Math.Nat.{min-le_left, min-le_right}
@@ -119,7 +120,7 @@ link_delays_are_safe p seed accepted w e width end reached least wide within =
     let hosts : length (network_of p).hosts ≡ length p.members = length-map p.members (λ (k : MemberSpec). k.node) in
     windows_are_safe (setting_of p (network_of p) seed) w e width end (settings_are_fit p seed accepted) reached least
     (λ a b ha hb ne. distance_wide (network_of p) accepted.network width wide a b (subst (λ n. a < n) (sym hosts) ha)
-        (subst (λ n. b < n) (sym hosts) hb) ne)
+    (subst (λ n. b < n) (sym hosts) hb) ne)
     within
 
 -- ---- promises
@@ -147,7 +148,7 @@ module _ (s : Setting) where
       least_with_in (least_promise s (i + 1) cs) t (promise_of s i x) (ap (promise_of s i) same ∙ rw add-zero at h)
   promise_le i (x ∷ cs) (suc j) c t g h =
       let there : promise_of s ((i + 1) + j) c ≡ Some t =
-          (let k : i + suc j ≡ (i + 1) + j = omega arith in subst (λ n. promise_of s n c ≡ Some t) k h) in
+      (let k : i + suc j ≡ (i + 1) + j = omega arith in subst (λ n. promise_of s n c ≡ Some t) k h) in
       let le = promise_le (i + 1) cs j c t g there in
       let first = least_with_le (least_promise s (i + 1) cs) (promise_of s i x) in
       omega arith
@@ -166,14 +167,14 @@ module _ (s : Setting) where
   promised w m c e g next = elim (is_listener (fixed_part c.holds).role) as
       (λ q. is_listener (fixed_part c.holds).role ≡ q → Silent c.holds
       ⊎ ((b : ℕ) → b < s.traffic.members → b ≢ m → promise_end s w ≤ e.key.time + s.traffic.distance m b)) [
-    | true ↦ λ q. inl (silent_listener c.holds q)
-    | false ↦ λ q. inr (λ b lt ne.
-        let way = out_near m b lt ne in
-        let at : promise_of s (0 + m) c ≡ Some (e.key.time + way.0) = rw zero-add (promise_is m c e way.0 q next way.1) in
-        let le = promise_le 0 w.cells m c (e.key.time + way.0) g at in
-        let near = way.2 in
-        omega arith)
-  ] refl
+        | true ↦ λ q. inl (silent_listener c.holds q)
+        | false ↦ λ q. inr (λ b lt ne.
+            let way = out_near m b lt ne in
+            let at : promise_of s (0 + m) c ≡ Some (e.key.time + way.0) = rw zero-add (promise_is m c e way.0 q next way.1) in
+            let le = promise_le 0 w.cells m c (e.key.time + way.0) g at in
+            let near = way.2 in
+            omega arith)
+      ] refl
 
   -- ---- the end is later than the least pending time
 
@@ -183,9 +184,9 @@ module _ (s : Setting) where
   all_away m away (suc n) a le = elim (a == m) as (λ q. (a == m) ≡ q →
       AllIn (λ x. 0 < x) (map (s.traffic.distance m) (cond (not (a == m)) (a ∷ filter (λ x. not (x == m)) (range_with_len (a + 1) n))
       (filter (λ x. not (x == m)) (range_with_len (a + 1) n))))) [
-    | true ↦ λ e. rw e (all_away m away n (a + 1) (omega arith))
-    | false ↦ λ e. rw e (away a (omega arith) (eqb-false _ _ e), all_away m away n (a + 1) (omega arith))
-  ] refl
+        | true ↦ λ e. rw e (all_away m away n (a + 1) (omega arith))
+        | false ↦ λ e. rw e (away a (omega arith) (eqb-false _ _ e), all_away m away n (a + 1) (omega arith))
+      ] refl
 
   out_pos : (m k : ℕ) → ((b : ℕ) → b < s.traffic.members → b ≢ m → 0 < s.traffic.distance m b) → out s m ≡ Some k → 0 < k
   unfolding out
@@ -216,8 +217,8 @@ module _ (s : Setting) where
   all_later t lt i [] from away = lt
   all_later t lt i (c ∷ cs) from away =
       let rest = all_later t lt (i + 1) cs (λ j b e g h. from (suc j) b e
-          g (let k : (i + 1) + j ≡ i + suc j = omega arith in subst (λ n. next_event n b ≡ Some e) k h))
-          (λ m le l k h. away m (omega arith) (omega arith) k h) in
+      g (let k : (i + 1) + j ≡ i + suc j = omega arith in subst (λ n. next_event n b ≡ Some e) k h))
+      (λ m le l k h. away m (omega arith) (omega arith) k h) in
       with_later t (least_promise s (i + 1) cs) (promise_of s i c) rest
       (λ k h. later_by t (time_of (next_event i c)) (out s i) k (from_cond (is_listener (fixed_part c.holds).role) _ k h)
       (time_from t i c (next_event i c) (λ e q. from 0 c e refl (rw add-zero q)))

@@ -1,6 +1,6 @@
 -- What a member loses in one answer, and the pages of which it tells: they are of members, and no name is lost twice.
-use Rattle.std.proofs.Common.{◌≡◌, ℕ, zero, suc, ◌+◌, ◌-◌, ◌<◌, ◌≤◌, Bool, true, false, cond, ◌&&◌, List, [], ◌∷◌, ◌++◌, refl, sym, ap, ◌∙◌,
-    subst, inl, inr, arith, Ordering, Less, Equal, Greater, Option, Some, None, unwrap_or, nat_lt, nat_le}
+use Rattle.std.proofs.Common.{◌≡◌, ℕ, zero, suc, ◌+◌, ◌-◌, ◌<◌, ◌≤◌, Bool, true, false, cond, ◌&&◌, List, [], ◌∷◌, ◌++◌, refl, sym, ap, ◌∙◌}
+use Rattle.std.proofs.Common.{subst, inl, inr, arith, Ordering, Less, Equal, Greater, Option, Some, None, unwrap_or, nat_lt, nat_le}
 use Rattle.std.specs.List.{Contains}
 use Rattle.std.specs.FinMap.Entries.{put, find, by_order}
 use Rattle.std.proofs.lemmas.List.Elements.{Contains-append_right, Contains-append_cases}
@@ -21,10 +21,10 @@ use Rattle.srm_member.specs.declared.entries.Repairing.{Repairing}
 use Rattle.srm_member.specs.Fit.{heard_of}
 use Rattle.srm_member.specs.Record.{Memory, Stream}
 use Rattle.srm_net.specs.Roles.{is_sender, is_listener}
-use Rattle.srm_member.specs.React.{Reaction, quietly, has_entry, with_stream, meet, lose_one, lose_from, names_from, lose_below, lost_below,
-    holding, mending, got, resting, got_repair, planning, asked_missing_at, asked_held, requested, page_heard, after_entry, lost_by_entry,
-    informed, hear_body, asking_at, asking, answering_at, answering, own_page, own_stream, drawing, is_skip, react_active, listened, listen,
-    react_listener, react}
+use Rattle.srm_member.specs.React.{Reaction, quietly, has_entry, with_stream, meet, lose_one, lose_from, names_from, lose_below, lost_below}
+use Rattle.srm_member.specs.React.{holding, mending, got, resting, got_repair, planning, asked_missing_at, asked_held, requested}
+use Rattle.srm_member.specs.React.{page_heard, after_entry, lost_by_entry, informed, hear_body, asking_at, asking, answering_at, answering}
+use Rattle.srm_member.specs.React.{own_page, own_stream, drawing, is_skip, react_active, listened, listen, react_listener, react}
 use Rattle.srm_member.proofs.AllIn.{AllIn, AllIn-append, AllIn-map}
 use Rattle.srm_member.proofs.Changes.{Below, Grows, Brings, from_page, effect}
 use Rattle.srm_engine.proofs.TraceRows.{contains_none}

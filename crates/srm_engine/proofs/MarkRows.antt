@@ -1,6 +1,6 @@
 -- Each member's join and leave have one key, whatever the run.
-use Rattle.std.proofs.Common.{◌≡◌, ℕ, zero, suc, ◌^◌, Bool, true, false, cond, List, [], ◌∷◌, ◌++◌, refl, sym, ap, ◌∙◌, subst, ◌≢◌, ◌⊎◌,
-    inl, inr, arith, Less, Greater, Option, Some, None, nat_lt, ◌==◌, eqb-true}
+use Rattle.std.proofs.Common.{◌≡◌, ℕ, zero, suc, ◌^◌, Bool, true, false, cond, List, [], ◌∷◌, ◌++◌, refl, sym, ap, ◌∙◌, subst, ◌≢◌, ◌⊎◌}
+use Rattle.std.proofs.Common.{inl, inr, arith, Less, Greater, Option, Some, None, nat_lt, ◌==◌, eqb-true}
 use Rattle.std.proofs.lemmas.Bool.{eqb-false}
 use Rattle.std.specs.List.{Contains}
 use Rattle.std.specs.Ordering.{ordering_reverse}
@@ -23,8 +23,8 @@ use Rattle.srm_member.specs.React.{Reaction, react}
 use Rattle.srm_member.proofs.AllIn.{AllIn}
 use Rattle.srm_cell.specs.declared.flight.Flight.{Flight}
 use Rattle.srm_cell.specs.Setting.{Traffic, cause_of_mark}
-use Rattle.srm_cell.specs.Cells.{PlainCell, Event, mark_key, first_arrival, first_mark, next_timer, next_event, Full, Done, Stepped,
-    word_of_body, word_of, cause_of_timer, sending_step, handle, step_at}
+use Rattle.srm_cell.specs.Cells.{PlainCell, Event, mark_key, first_arrival, first_mark, next_timer, next_event, Full, Done, Stepped}
+use Rattle.srm_cell.specs.Cells.{word_of_body, word_of, cause_of_timer, sending_step, handle, step_at}
 use Rattle.srm_cell.proofs.Rising.{OnEvent, earlier_on, OnStep}
 use Rattle.srm_engine.specs.World.{row_cmp}
 use Rattle.srm_engine.proofs.OneStep.{Does}

@@ -1,6 +1,6 @@
 -- A merge of lists of rows is determined by its elements and its order.
-use Rattle.std.proofs.Common.{zero, suc, ◌&&◌, ◌||◌, ◌++◌, filter, ◌==◌, eqb-true, ◌≡◌, ℕ, ◌<◌, ◌≤◌, ◌+◌, Bool, true, false, cond, List, [],
-    ◌∷◌, refl, sym, ap, ◌∙◌, subst, ◌⊎◌, inl, inr, arith, Ordering, Less, Equal, Greater, is_lt, true≢false}
+use Rattle.std.proofs.Common.{zero, suc, ◌&&◌, ◌||◌, ◌++◌, filter, ◌==◌, eqb-true, ◌≡◌, ℕ, ◌<◌, ◌≤◌, ◌+◌, Bool, true, false, cond, List, []}
+use Rattle.std.proofs.Common.{◌∷◌, refl, sym, ap, ◌∙◌, subst, ◌⊎◌, inl, inr, arith, Ordering, Less, Equal, Greater, is_lt, true≢false}
 use Rattle.std.specs.Ordering.{is_eq, ordering_reverse}
 use Rattle.std.specs.Cmp.{IsTotalOrder}
 use Rattle.std.specs.List.{sum_by, AllByRecursion}
@@ -150,7 +150,7 @@ module _ (p : Row → Bool) where
   both_ranges i n (r ∷ rows) =
       let a = both_ranges i n rows in
       let b = one_or (r.key.member == i) (in_range (suc i) n r.key.member)
-          (p r) (λ e. too_low (suc i) n r.key.member (let q = eqb-true _ _ e in omega arith)) in
+      (p r) (λ e. too_low (suc i) n r.key.member (let q = eqb-true _ _ e in omega arith)) in
       omega arith
 
   none_counted : (rows : List Row) → 0 ≡ count_if (λ r. false && p r) rows
@@ -217,9 +217,10 @@ module _ (s : Setting) (fit : IsFit s) where
       → AllIn (λ r. r.key.member < s.traffic.members) rows
   seq_members rest good = tt
   seq_members {end} (next {cs = cs} {e = e} {d = d} h x more) good =
-      let f = step_facts s fit end cs e d h x in
-      (subst (λ (k : Key). k.member < s.traffic.members) (sym f.key) (member_below s fit end cs e d good h x),
-          seq_members more (good_step s fit end cs e d good h x))
+      let f = step_facts s fit end cs e d h x in (
+        subst (λ (k : Key). k.member < s.traffic.members) (sym f.key) (member_below s fit end cs e d good h x),
+        seq_members more (good_step s fit end cs e d good h x),
+      )
 
 pub merges_agree : MergesAgree
 merges_agree s w v fit reached n h rows rises perm =
@@ -233,9 +234,9 @@ merges_agree s w v fit reached n h rows rises perm =
     let new : new_rows w v ≡ r.0 = ap (λ t. drop (length w.trace) t) (sym trace) ∙ drop-append_seam w.trace r.0 in
     let all_rise = keys_rise s v fit (reached.0 + n, run_on s reached.0 n (opening s) w reached.1 ∙ h) in
     let rise : Ascends row_cmp (new_rows w v) = subst (Ascends row_cmp) (sym new)
-        (ascends_second w.trace r.0 (subst (Ascends row_cmp) (sym trace) all_rise)) in
+    (ascends_second w.trace r.0 (subst (Ascends row_cmp) (sym trace) all_rise)) in
     let members : AllIn (λ r. r.key.member < s.traffic.members) (new_rows w v) =
-        subst (AllIn (λ r. r.key.member < s.traffic.members)) (sym new) (seq_members s fit r.1 good) in
+    subst (AllIn (λ r. r.key.member < s.traffic.members)) (sym new) (seq_members s fit r.1 good) in
     let parts = joined (by_member 0 s.traffic.members (new_rows w v)) in
     same_merge row_cmp (row_total s 0) (new_rows w v) rows rise rises
     (λ k.
@@ -245,4 +246,4 @@ merges_agree s w v fit reached n h rows rises perm =
     (λ z g.
     let Q = λ (x : Row). In x (new_rows w v) in
     each_in Q z rows (recursion_from_All Q rows (All-permutation Q parts rows perm
-        (All-from_recursion Q parts (in_each Q parts (λ x i. in_joined x s.traffic.members 0 (new_rows w v) i))))) g)
+    (All-from_recursion Q parts (in_each Q parts (λ x i. in_joined x s.traffic.members 0 (new_rows w v) i))))) g)

@@ -1,6 +1,6 @@
 -- A packet that a step sends is new to every cell.
-use Rattle.std.proofs.Common.{◌≡◌, ◌≢◌, ℕ, ◌<◌, true, false, List, [], ◌∷◌, Option, Some, refl, sym, ap, ◌∙◌, subst, slice_get, slice_set,
-    ◌==◌, eqb-true, arith}
+use Rattle.std.proofs.Common.{◌≡◌, ◌≢◌, ℕ, ◌<◌, true, false, List, [], ◌∷◌, Option, Some, refl, sym, ap, ◌∙◌, subst, slice_get, slice_set}
+use Rattle.std.proofs.Common.{◌==◌, eqb-true, arith}
 use Rattle.std.proofs.lemmas.Bool.{eqb-false}
 use Rattle.srm_net.specs.declared.packet.Packet.{Packet}
 use Rattle.srm_net.specs.declared.packet.PacketId.{PacketId}
@@ -55,12 +55,12 @@ module _ (s : Setting) (fit : IsFit s) where
         let of = subst (OnEvent (RestOf f.cell)) f.event (before_on (RestOf f.cell) end (next_event m f.cell) (next_rest m f.cell)) in
         let sender = sender_of m d.row.sent p sent f.sender in
         let now : p.id.count ≡ sent_of cs p.id.sender = count_of e.rest.sent d.cell.sent d.row.sent p sent did.count
-            ∙ sym (sent_here s fit end cs e d good strict h x) ∙ ap (sent_of cs) (sym sender) in
+        ∙ sym (sent_here s fit end cs e d good strict h x) ∙ ap (sent_of cs) (sym sender) in
         elim (m == j) as (λ b. (m == j) ≡ b → BringsNone p.id q.inbox) [
           | true ↦ λ r.
               let here : m ≡ j = eqb-true m j r in
               let is : d.cell ≡ q = same_some d.cell q (sym (get_set_same cs m d.cell (get_below cs m f.cell f.here))
-                  ∙ ap (slice_get (slice_set cs m d.cell)) here ∙ g) in
+              ∙ ap (slice_get (slice_set cs m d.cell)) here ∙ g) in
               subst (λ (c : PlainCell). BringsNone p.id c.inbox) is (apart cs p.id d.cell.inbox now
               (subst (WereSent cs) (sym did.inbox) (all_tail _ _ _ of.inbox (strict.fresh m f.cell f.here))))
           | false ↦ λ r.

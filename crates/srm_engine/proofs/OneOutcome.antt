@@ -1,6 +1,6 @@
 -- A complete run has one last world.
-use Rattle.std.proofs.Common.{ltb-true, ltb-false, suc-add, ◌≡◌, ℕ, zero, suc, ◌≤◌, ◌<◌, ◌+◌, ◌-◌, true, false, refl, sym, ap, ◌∙◌, nat_lt,
-    arith, le_refl}
+use Rattle.std.proofs.Common.{ltb-true, ltb-false, suc-add, ◌≡◌, ℕ, zero, suc, ◌≤◌, ◌<◌, ◌+◌, ◌-◌, true, false, refl, sym, ap, ◌∙◌, nat_lt}
+use Rattle.std.proofs.Common.{arith, le_refl}
 use Rattle.srm_cell.specs.Cells.{Done, Full, Idle, Spent, StepOutcome}
 use Rattle.srm_cell.specs.Setting.{Setting}
 use Rattle.srm_engine.proofs.LawProofs.{run_on}
@@ -17,9 +17,9 @@ full_stays s zero k w h = cc
 full_stays s (suc b) k w h =
     let within = le_refl s.traffic.until in
     let first = λ (n : ℕ) (o : StepOutcome World) (e : step_to s s.traffic.until w ≡ o). run_first s s.traffic.until within n w
-        ∙ ap (run_by s s.traffic.until within n) e in
+    ∙ ap (run_by s s.traffic.until within n) e in
     ap (λ n. run s n w) (suc-add b k) ∙ (elim (step_to s s.traffic.until w) as
-        (λ o. step_to s s.traffic.until w ≡ o → run s (suc (b + k)) w ≡ Full) [
+    (λ o. step_to s s.traffic.until w ≡ o → run s (suc (b + k)) w ≡ Full) [
       | Idle ↦ λ e. let x : Idle ≡ Full = sym (first b Idle e) ∙ h in cc
       | Full ↦ λ e. first (b + k) Full e
       | Spent ↦ λ e. let x : Spent ≡ Full = sym (first b Spent e) ∙ h in cc
@@ -58,5 +58,7 @@ module _ (s : Setting) where
   ] refl
 
 pub outcomes_are_one : OutcomesAreOne
-outcomes_are_one s w last = (λ v other. one_last s last.reached.0 other.reached.0 w v last.reached.1 last.idle other.reached.1 other.idle,
-    λ f. no_full s last.reached.0 f.0 w last.reached.1 last.idle f.1)
+outcomes_are_one s w last = (
+  λ v other. one_last s last.reached.0 other.reached.0 w v last.reached.1 last.idle other.reached.1 other.idle,
+  λ f. no_full s last.reached.0 f.0 w last.reached.1 last.idle f.1,
+)

@@ -1,7 +1,7 @@
 -- One step of the sequential run: the event that it takes, the cell from which, the row, and the cells after it.
-use Rattle.std.proofs.Common.{◌≡◌, ℕ, zero, suc, ◌<◌, ◌≤◌, ◌+◌, ◌^◌, Bool, true, false, cond, not, ◌&&◌, List, [], ◌∷◌, ◌++◌, length, refl,
-    sym, ap, ◌∙◌, subst, ◌≢◌, ◌⊎◌, inl, inr, arith, Option, Some, None, option_map, nat_lt, nat_le, slice_get, ltb-true, eqb-true, eq-eqb,
-    ◌==◌, zero-add, le_refl}
+use Rattle.std.proofs.Common.{◌≡◌, ℕ, zero, suc, ◌<◌, ◌≤◌, ◌+◌, ◌^◌, Bool, true, false, cond, not, ◌&&◌, List, [], ◌∷◌, ◌++◌, length, refl}
+use Rattle.std.proofs.Common.{sym, ap, ◌∙◌, subst, ◌≢◌, ◌⊎◌, inl, inr, arith, Option, Some, None, option_map, nat_lt, nat_le, slice_get}
+use Rattle.std.proofs.Common.{ltb-true, eqb-true, eq-eqb, ◌==◌, zero-add, le_refl}
 use Rattle.std.proofs.lemmas.Bool.{eqb-false}
 use Rattle.srm_net.specs.declared.packet.Name.{Name}
 use Rattle.srm_net.specs.declared.packet.Body.{Body}
@@ -15,8 +15,8 @@ use Rattle.srm_member.specs.React.{Reaction, react}
 use Rattle.srm_cell.specs.declared.flight.Flight.{Flight}
 use Rattle.srm_scenario.specs.Presence.{is_up_to}
 use Rattle.srm_cell.specs.Setting.{Setting, arrival_of, cause_of_mark}
-use Rattle.srm_cell.specs.Cells.{PlainCell, Event, first_arrival, first_mark, next_timer, next_event, before, StepOutcome, Idle, Full,
-    Spent, Done, Stepped, word_of, about_of, row_of, packet_of, sending_step, parting, handle, step_at}
+use Rattle.srm_cell.specs.Cells.{PlainCell, Event, first_arrival, first_mark, next_timer, next_event, before, StepOutcome, Idle, Full}
+use Rattle.srm_cell.specs.Cells.{Spent, Done, Stepped, word_of, about_of, row_of, packet_of, sending_step, parting, handle, step_at}
 use Rattle.srm_cell.specs.OwnRuns.{told_to}
 use Rattle.srm_cell.proofs.Rising.{OnEvent, earlier_on, before_on, OnStep}
 use Rattle.srm_cell.proofs.CellSteps.{some_not_idle}
@@ -49,8 +49,14 @@ pub record IsPending (m : ℕ) (c : PlainCell) (e : Event) : Type 0 where
 
 arrival_pends : (m : ℕ) (c : PlainCell) (fs : List Flight) → c.inbox ≡ fs → OnEvent (IsPending m c) (first_arrival m c fs)
 arrival_pends m c [] h = tt
-arrival_pends m c (f ∷ fs) h = record { member = refl; holds = refl; sent = refl; exit = refl; takes =
-    inl (record { flight = f; inbox = h; cause = refl; time = refl }) }
+arrival_pends m c (f ∷ fs) h = record {
+  member = refl;
+  holds = refl;
+  sent = refl;
+  exit = refl;
+  takes =
+      inl (record { flight = f; inbox = h; cause = refl; time = refl });
+}
 
 none_none : (x : Option Cause) → NoArrival x → (b : Bool) (y : Option Cause) → NoArrival y → NoArrival (cond b x y)
 none_none x h true y g = h
@@ -71,14 +77,20 @@ timer_no_arrival false n p h = cc
 
 timer_pends : (m : ℕ) (c : PlainCell) (d : Option Due) → OnEvent (IsPending m c) (next_timer m c d)
 timer_pends m c None = tt
-timer_pends m c (Some d) = record { member = refl; holds = refl; sent = refl; exit = refl; takes =
-    inr (refl, timer_no_arrival (d.rank == 2) d.name) }
+timer_pends m c (Some d) = record {
+  member = refl;
+  holds = refl;
+  sent = refl;
+  exit = refl;
+  takes =
+      inr (refl, timer_no_arrival (d.rank == 2) d.name);
+}
 
 next_pends : (m : ℕ) (c : PlainCell) → OnEvent (IsPending m c) (next_event m c)
 unfolding next_event
 next_pends m c = earlier_on (IsPending m c) (first_arrival m c c.inbox) _ (arrival_pends m c c.inbox refl)
     (earlier_on (IsPending m c) (first_mark m c c.script) (next_timer m c (due_of c.holds)) (mark_pends m c c.script)
-        (timer_pends m c (due_of c.holds)))
+    (timer_pends m c (due_of c.holds)))
 
 -- ---- what a step does
 
@@ -156,8 +168,11 @@ does_sending e memory cause r (Some body) same some h c = on_full (Does e) (nat_
     told = ap (λ (x : Reaction). x.answer.told) same;
     lost = ap (λ (x : Reaction). x.answer.lost) same;
     about = ap (λ k. about_of k r.answer.body) c ∙ ap (λ (x : Reaction). about_of (Some cause) x.answer.body) same;
-    sends = subst (λ b. Sends e b (record { cell = record e.rest { holds = Active r.memory; sent = e.rest.sent + 1 }; row =
-        row_of e r.answer (Some (packet_of e body)) }))
+    sends = subst (λ b. Sends e b (record {
+      cell = record e.rest { holds = Active r.memory; sent = e.rest.sent + 1 };
+      row =
+          row_of e r.answer (Some (packet_of e body));
+    }))
         (sym some ∙ ap (λ (x : Reaction). x.answer.body) same) (refl, omega arith);
   });
 })
@@ -205,7 +220,7 @@ step_facts until cs e d h =
     let r = least_from until 0 cs e h.least in
     let at_j : before until (next_event r.0 r.1) ≡ Some e = rw zero-add at r.3 in
     let pends : IsPending r.0 r.1 e = subst (OnEvent (IsPending r.0 r.1))
-        at_j (before_on (IsPending r.0 r.1) until (next_event r.0 r.1) (next_pends r.0 r.1)) in
+    at_j (before_on (IsPending r.0 r.1) until (next_event r.0 r.1) (next_pends r.0 r.1)) in
     record {
       cell = r.1;
       here = ap (slice_get cs) pends.member ∙ r.2;
@@ -231,7 +246,7 @@ module _ (s : Setting) where
       ≡ option_map (told_to s.traffic d.row.sent j) (slice_get cs j)
   there_after m d cs j ne =
       let no : (j == m) ≡ false = (elim (j == m) as (λ b. (j == m) ≡ b → (j == m) ≡ false)
-          [ true ↦ λ q. absurd (ne (eqb-true _ _ q)) | false ↦ λ q. q ] refl) in
+      [ true ↦ λ q. absurd (ne (eqb-true _ _ q)) | false ↦ λ q. q ] refl) in
       get_after s m d j cs ∙ ap (λ b. option_map (λ c. cond b d.cell (told_to s.traffic d.row.sent j c)) (slice_get cs j)) no
 
   -- what holds of the step's cell, and of every other after it heard what was sent, holds of each cell
@@ -252,7 +267,7 @@ module _ (s : Setting) where
           ∙ e in cc
       by_cell (Some a) f ne =
           let cell : told_to s.traffic d.row.sent j a ≡ c = same_some _ _
-              (sym (there_after m d cs j ne ∙ ap (option_map (told_to s.traffic d.row.sent j)) f) ∙ e) in
+          (sym (there_after m d cs j ne ∙ ap (option_map (told_to s.traffic d.row.sent j)) f) ∙ e) in
           subst (Q j) cell (g j a f ne)
 
   pub length_after : (m : ℕ) (d : Stepped) (i : ℕ) (cs : List PlainCell) → length (settled s m d i cs) ≡ length cs
@@ -282,14 +297,14 @@ module _ (s : Setting) where
   pub nothing_left : (w : World) → step s w ≡ Idle → before s.traffic.until (least_event 0 w.cells) ≡ None
   nothing_left w h = elim (before s.traffic.until (least_event 0 w.cells))
       as (λ o. before s.traffic.until (least_event 0 w.cells) ≡ o → before s.traffic.until (least_event 0 w.cells) ≡ None) [
-    | None ↦ λ q. q
-    | Some e ↦ λ q. absurd (after_moves w e (step_at (Some e)) refl (sym (step_is s s.traffic.until within w e q) ∙ h))
-  ] refl
+        | None ↦ λ q. q
+        | Some e ↦ λ q. absurd (after_moves w e (step_at (Some e)) refl (sym (step_is s s.traffic.until within w e q) ∙ h))
+      ] refl
 
   -- what holds of a world, and is kept by each step, holds of all worlds to which the run comes from there
   pub run_keeps : (P : World → Type 0)
       → ((w : World) (e : Event) (d : Stepped) → Steps s.traffic.until w.cells e d → P w
-          → P (record { cells = settled s e.key.member d 0 w.cells; trace = w.trace ++ d.row ∷ [] }))
+      → P (record { cells = settled s e.key.member d 0 w.cells; trace = w.trace ++ d.row ∷ [] }))
       → (n : ℕ) (w v : World) → P w → run s n w ≡ Done v → P v
   unfolding run after_step
   run_keeps P kept zero w v p h = let e : w ≡ v = same_done w v h in subst P e p
@@ -303,8 +318,8 @@ module _ (s : Setting) where
             ∙ by in cc
         | Some e ↦ λ b.
             let stepped = λ (o : StepOutcome Stepped) (x : step_at (Some e) ≡ o). sym
-                (ap (run_by s s.traffic.until within n) (step_is s s.traffic.until within w e b ∙ ap (after_step s w e.key.member) x))
-                ∙ by in
+            (ap (run_by s s.traffic.until within n) (step_is s s.traffic.until within w e b ∙ ap (after_step s w e.key.member) x))
+            ∙ by in
             elim (step_at (Some e)) as (λ o. step_at (Some e) ≡ o → P v) [
               | Idle ↦ λ x. absurd (some_not_idle e x)
               | Full ↦ λ x. let y : Full ≡ Done v = stepped Full x in cc

@@ -1,11 +1,11 @@
 -- A window is a part of the sequential run.
-use Rattle.std.proofs.Common.{◌≡◌, ℕ, zero, suc, ◌≤◌, ◌+◌, true, false, List, [], ◌∷◌, ◌++◌, length, drop, refl, sym, ap, ◌∙◌, subst, arith,
-    Some, slice_get, add-zero, zero-add, le_refl, Bool, cond, Ordering, is_lt}
+use Rattle.std.proofs.Common.{◌≡◌, ℕ, zero, suc, ◌≤◌, ◌+◌, true, false, List, [], ◌∷◌, ◌++◌, length, drop, refl, sym, ap, ◌∙◌, subst, arith}
+use Rattle.std.proofs.Common.{Some, slice_get, add-zero, zero-add, le_refl, Bool, cond, Ordering, is_lt}
 use Rattle.std.proofs.Math.Seq.{drop-append_seam}
 use Rattle.std.specs.Cmp.{IsTotalOrder}
 use Rattle.std.specs.List.Sorted.{IsPermutation}
-use Rattle.std.proofs.lemmas.List.Sorted.{IsPermutation-refl, IsPermutation-sym, IsPermutation-trans, IsPermutation-cons,
-    IsPermutation-middle}
+use Rattle.std.proofs.lemmas.List.Sorted.{IsPermutation-refl, IsPermutation-sym, IsPermutation-trans, IsPermutation-cons}
+use Rattle.std.proofs.lemmas.List.Sorted.{IsPermutation-middle}
 use Rattle.srm_net.specs.Orders.{place, ordered, Rises}
 use Rattle.srm_member.specs.declared.row.Row.{Row}
 use Rattle.srm_cell.specs.Cells.{PlainCell, StepOutcome, Idle, Done}
@@ -64,7 +64,7 @@ module _ (s : Setting) (end : ℕ) (rows : List Row) where
   run_alone i (c ∷ cs) (r ∷ rs) (d ∷ ds) h many alone =
       let a : Alone s end i rows c (Some d) = rw add-zero at (alone 0 c refl) in
       let same = own_runs_are_one end i c r.rows (own_rows end i a.0 c) r.cell (own_after end i a.0 c) h.0
-          (record { steps = a.0; ends = a.1; rows_are = refl; leaves = refl }) in
+      (record { steps = a.0; ends = a.1; rows_are = refl; leaves = refl }) in
       let first = same.0 ∙ sym a.2 in
       let heard : d ≡ hear_rows s.traffic i rows r.cell = same_some _ _ a.3 ∙ ap (hear_rows s.traffic i rows) (sym same.1) in
       let more = run_alone (suc i) cs rs ds h.1 (omega arith) (λ j b g. rw (← shifted i j) (alone (suc j) b g)) in
@@ -120,9 +120,9 @@ windows_agree s w v end fit reached within safe window =
     let u = part.0 in
     let p = part.1 in
     let rows : new_rows w u ≡ window.rows = merges_agree s w u fit reached p.first.steps p.first.comes window.rows
-        (rows_rise window.rows window.merged.in_order) (subst (λ l. IsPermutation (joined l) window.rows) p.rows window.merged.all) in
+    (rows_rise window.rows window.merged.in_order) (subst (λ l. IsPermutation (joined l) window.rows) p.rows window.merged.all) in
     let cells : u.cells ≡ each_hears s.traffic 0 window.rows (cells_in window.results) = p.cells
-        ∙ ap (λ l. each_hears s.traffic 0 l (cells_in window.results)) rows in
+    ∙ ap (λ l. each_hears s.traffic 0 l (cells_in window.results)) rows in
     let trace : u.trace ≡ w.trace ++ window.rows = trace_grows s fit p.first.steps w u p.first.comes ∙ ap (λ l. w.trace ++ l) rows in
     let is : u ≡ after_window s w window.results window.rows = λ i. record { cells = cells i; trace = trace i } in
     let same : u ≡ v = is ∙ sym window.is in
@@ -135,9 +135,10 @@ collected : (end i : ℕ) (cs : List PlainCell) → ((j : ℕ) (c : PlainCell) �
 collected end i [] f = ([], tt)
 collected end i (c ∷ cs) f =
     let now : (n : ℕ) × (own_end end i n c ≡ Idle) = rw add-zero at (f 0 c refl) in
-    let more = collected end (suc i) cs (λ j b g. rw (← shifted i j) (f (suc j) b g)) in
-    (record { rows = own_rows end i now.0 c; cell = own_after end i now.0 c } ∷ more.0,
-        (record { steps = now.0; ends = now.1; rows_are = refl; leaves = refl }, more.1))
+    let more = collected end (suc i) cs (λ j b g. rw (← shifted i j) (f (suc j) b g)) in (
+      record { rows = own_rows end i now.0 c; cell = own_after end i now.0 c } ∷ more.0,
+      (record { steps = now.0; ends = now.1; rows_are = refl; leaves = refl }, more.1),
+    )
 
 module _ {A : Type 0} (cmp : A → A → Ordering) where
   either : (x y : A) (ys : List A) → IsPermutation (x ∷ ys) (place cmp x ys) → (b : Bool)
@@ -164,6 +165,12 @@ windows_are_there s w end results =
     let all = joined (rows_in rs.0) in
     let rows = ordered row_cmp all in (
       after_window s w rs.0 rows,
-      record { results = rs.0; rows = rows; alone = rs.1; merged = record
-          { all = ordered_moves row_cmp all; in_order = rows_are_sorted rows (ordered_rises row_cmp (row_total s 0) all) }; is = refl },
+      record {
+        results = rs.0;
+        rows = rows;
+        alone = rs.1;
+        merged = record
+            { all = ordered_moves row_cmp all; in_order = rows_are_sorted rows (ordered_rises row_cmp (row_total s 0) all) };
+        is = refl;
+      },
     )

@@ -1,6 +1,6 @@
 -- The cells at the beginning of a run.
-use Rattle.std.proofs.Common.{◌≡◌, ◌⊎◌, ℕ, zero, suc, ◌+◌, ◌*◌, ◌<◌, List, [], ◌∷◌, ◌++◌, length, replicate, Option, Some, inl, inr, refl,
-    sym, ap, ◌∙◌, subst, slice_get, arith, length-append, add-one}
+use Rattle.std.proofs.Common.{◌≡◌, ◌⊎◌, ℕ, zero, suc, ◌+◌, ◌*◌, ◌<◌, List, [], ◌∷◌, ◌++◌, length, replicate, Option, Some, inl, inr, refl}
+use Rattle.std.proofs.Common.{sym, ap, ◌∙◌, subst, slice_get, arith, length-append, add-one}
 use Rattle.std.specs.List.{flat_map, range_with_len}
 use Rattle.std.specs.declared.dyn_box.DynBox.{DynBox}
 use Rattle.std.specs.Global.{Global}
@@ -77,10 +77,10 @@ module _ {X : Type 0} {H : X → Type 0} where
   pub opened_cell : (f : DynBox X Global H → Record) (p : PlainScenario) (net : Network) (seed k : ℕ) (c : Cell X H) (r : Record)
       (marks : List Mark)
       → r ≡ opening_record (fixed_of p net seed k) → marks ≡ script_of p k → IsCell f (fixed_part r).member c (new_cell r marks 0)
-          → IsCell f k c (opening_cell (setting_of p net seed) k)
+      → IsCell f k c (opening_cell (setting_of p net seed) k)
   opened_cell f p net seed k c r marks e h is =
       subst (λ ms. IsCell f k c (new_cell (opening_record (fixed_of p net seed k)) ms 0)) h
-          (subst (λ x. IsCell f (fixed_part x).member c (new_cell x marks 0)) e is)
+      (subst (λ x. IsCell f (fixed_part x).member c (new_cell x marks 0)) e is)
 
 pub length_opening : (s : Setting) (n i : ℕ) → length (opening_cells s n i) ≡ n
 unfolding opening_cells

@@ -1,6 +1,6 @@
 -- The rows of a run of an accepted scenario are orderly.
-use Rattle.std.proofs.Common.{◌≡◌, ℕ, zero, suc, ◌<◌, ◌+◌, List, [], ◌∷◌, ◌++◌, length, refl, sym, ap, ◌∙◌, subst, inl, inr, arith, Option,
-    Some, None, unwrap_or, slice_get, append_assoc, append-nil, zero-add}
+use Rattle.std.proofs.Common.{◌≡◌, ℕ, zero, suc, ◌<◌, ◌+◌, List, [], ◌∷◌, ◌++◌, length, refl, sym, ap, ◌∙◌, subst, inl, inr, arith, Option}
+use Rattle.std.proofs.Common.{Some, None, unwrap_or, slice_get, append_assoc, append-nil, zero-add}
 use Rattle.std.specs.List.{Contains}
 use Rattle.std.proofs.lemmas.List.Elements.{Contains-append_left, Contains-append_right}
 use Rattle.std.proofs.lemmas.Option.{slice_get-get_or}
@@ -39,8 +39,8 @@ use Rattle.srm_engine.specs.Tables.{TracesAreOrderly}
 use Rattle.srm_engine.proofs.HandedOnce as handing
 use Rattle.srm_engine.proofs.HandedOnce.{EachCell, all_contained}
 use Rattle.srm_engine.proofs.LostNames.{Apart, none_before, OfMembers, PagesOf, BodyOf, CauseOf, SessionOf, Known, known}
-use Rattle.srm_engine.proofs.MarkRows.{ascends_first, IsOwnMark, MarksOf, next_marks, script_after, RowMarks, row_marks, joins_once,
-    leaves_once}
+use Rattle.srm_engine.proofs.MarkRows.{ascends_first, IsOwnMark, MarksOf, next_marks, script_after, RowMarks, row_marks, joins_once}
+use Rattle.srm_engine.proofs.MarkRows.{leaves_once}
 use Rattle.srm_engine.proofs.NamesKept.{CellKnows, Knows, Names, names_step, names_reached}
 use Rattle.srm_engine.proofs.OneStep.{Takes, Sends, Answers, Leaves, Steps, StepFacts, same_some, each_after, run_keeps}
 use Rattle.srm_engine.proofs.RunLemmas.{least_from}

@@ -1,15 +1,15 @@
 -- No two pending events of a world of the sequential run have one key, and what an event creates is later.
-use Rattle.std.proofs.Common.{◌≡◌, ℕ, zero, suc, ◌<◌, ◌≤◌, ◌+◌, List, [], ◌∷◌, ◌++◌, map, refl, sym, ap, ◌∙◌, subst, ◌⊎◌, inl, inr, arith,
-    Some, slice_get, add-zero, zero-add, le_refl, Contains}
+use Rattle.std.proofs.Common.{◌≡◌, ℕ, zero, suc, ◌<◌, ◌≤◌, ◌+◌, List, [], ◌∷◌, ◌++◌, map, refl, sym, ap, ◌∙◌, subst, ◌⊎◌, inl, inr, arith}
+use Rattle.std.proofs.Common.{Some, slice_get, add-zero, zero-add, le_refl, Contains}
 use Rattle.std.proofs.lemmas.List.Elements.{All-contains, All-contains_itself}
 use Rattle.srm_net.specs.declared.key.Key.{Key}
 use Rattle.srm_member.specs.declared.row.Row.{Row}
 use Rattle.srm_member.specs.Record.{timers}
-use Rattle.srm_member.proofs.AllIn.{AllIn, AllIn-append, AllIn-at_places, AllIn-each, AllIn-first, AllIn-map, AllIn-places, AllIn-second,
-    AllIn-unmap, AllIn-weaker}
+use Rattle.srm_member.proofs.AllIn.{AllIn, AllIn-append, AllIn-at_places, AllIn-each, AllIn-first, AllIn-map, AllIn-places, AllIn-second}
+use Rattle.srm_member.proofs.AllIn.{AllIn-unmap, AllIn-weaker}
 use Rattle.srm_cell.specs.Setting.{Setting, IsFit}
-use Rattle.srm_cell.specs.Cells.{PlainCell, Event, arrival_key, mark_key, timer_key, pending_keys, DiffersFrom, AllDiffer, next_event,
-    before, StepOutcome, Idle, Full, Spent, Done, Stepped, step_at}
+use Rattle.srm_cell.specs.Cells.{PlainCell, Event, arrival_key, mark_key, timer_key, pending_keys, DiffersFrom, AllDiffer, next_event}
+use Rattle.srm_cell.specs.Cells.{before, StepOutcome, Idle, Full, Spent, Done, Stepped, step_at}
 use Rattle.srm_cell.proofs.CellSteps.{some_not_idle}
 use Rattle.srm_cell.proofs.Rising.{OnEvent, before_on, OnStep, Above, IsAbove, next_above, step_above}
 use Rattle.srm_cell.proofs.Clear.{differ_member}
@@ -35,7 +35,7 @@ members_from i [] = tt
 members_from i (c ∷ cs) = AllIn-append (λ (k : Key). i ≤ k.member) (pending_keys i c) (keys_from (suc i) cs)
     (AllIn-weaker (λ (k : Key). k.member ≡ i) (λ (k : Key). i ≤ k.member) (λ k h. omega arith) (pending_keys i c) (member_keys i c))
     (AllIn-weaker (λ (k : Key). suc i ≤ k.member) (λ (k : Key). i ≤ k.member) (λ k h. omega arith) (keys_from (suc i) cs)
-        (members_from (suc i) cs))
+    (members_from (suc i) cs))
 
 above_differs : (i : ℕ) (k : Key) → k.member ≡ i → (ks : List Key) → AllIn (λ l. suc i ≤ l.member) ks → DiffersFrom k ks
 above_differs i k h [] a = tt
@@ -48,7 +48,7 @@ all_keys_differ i (c ∷ cs) h = all_differ_append (pending_keys i c) (keys_from
     (rw add-zero at (h 0 c refl))
     (all_keys_differ (suc i) cs (λ j b g. rw (shifted i j) at (h (suc j) b g)))
     (AllIn-weaker (λ (k : Key). k.member ≡ i) (λ k. DiffersFrom k (keys_from (suc i) cs))
-        (λ k e. above_differs i k e (keys_from (suc i) cs) (members_from (suc i) cs)) (pending_keys i c) (member_keys i c))
+    (λ k e. above_differs i k e (keys_from (suc i) cs) (members_from (suc i) cs)) (pending_keys i c) (member_keys i c))
 
 module _ (s : Setting) (fit : IsFit s) where
   strict_seq : {end : ℕ} {cs ds : List PlainCell} {rows : List Row} → Seq s end cs rows ds → Good s fit cs → Strict s fit cs
@@ -84,7 +84,7 @@ module _ (P : Key → Type 0) where
   above_keys m c a = AllIn-append P (map (arrival_key m) c.inbox) (map (mark_key m) c.script ++ map (timer_key m) (timers c.holds))
       (AllIn-map P (arrival_key m) c.inbox a.flights)
       (AllIn-append P (map (mark_key m) c.script) (map (timer_key m) (timers c.holds)) (AllIn-map P (mark_key m) c.script a.marks)
-          (AllIn-map P (timer_key m) (timers c.holds) a.dues))
+      (AllIn-map P (timer_key m) (timers c.holds) a.dues))
 
   pub each_above : (i : ℕ) (cs : List PlainCell) → AllIn P (keys_from i cs) → (j : ℕ) (c : PlainCell) → slice_get cs j ≡ Some c
       → Above P (i + j) c
@@ -109,9 +109,9 @@ module _ (P : Key → Type 0) where
       let f = step_facts s fit s.traffic.until cs e d h x in
       let m = e.key.member in
       let a = subst (OnEvent (IsAbove P m)) f.event (before_on (IsAbove P m) s.traffic.until (next_event m f.cell)
-          (next_above P m f.cell (all m f.cell f.here))) in
+      (next_above P m f.cell (all m f.cell f.here))) in
       above_step s fit s.traffic.until P cs e d good h x later
-          (subst (OnStep (λ d. Above P m d.cell)) x (step_above P m e.key.time later e refl a.1)) (λ j c g ne. all j c g)
+      (subst (OnStep (λ d. Above P m d.cell)) x (step_above P m e.key.time later e refl a.1)) (λ j c g ne. all j c g)
 
 -- the cells after a step that is made
 step_cells : (s : Setting) (w v : World) (e : Event) → before s.traffic.until (least_event 0 w.cells) ≡ Some e → step s w ≡ Done v
@@ -119,9 +119,9 @@ step_cells : (s : Setting) (w v : World) (e : Event) → before s.traffic.until 
 step_cells s w v e h done =
     let within = le_refl s.traffic.until in
     let is = λ (o : StepOutcome Stepped) (x : step_at (Some e) ≡ o). sym
-        (step_is s s.traffic.until within w e h ∙ ap (after_step s w e.key.member) x) ∙ done in
+    (step_is s s.traffic.until within w e h ∙ ap (after_step s w e.key.member) x) ∙ done in
     elim (step_at (Some e)) as (λ o. step_at (Some e) ≡ o → (d : Stepped)
-        × (step_at (Some e) ≡ Done d) × (v.cells ≡ settled s e.key.member d 0 w.cells)) [
+    × (step_at (Some e) ≡ Done d) × (v.cells ≡ settled s e.key.member d 0 w.cells)) [
       | Idle ↦ λ x. absurd (some_not_idle e x)
       | Full ↦ λ x. let y : Full ≡ Done v = sym (after_full s s.traffic.until within w e.key.member) ∙ is Full x in let z : ⊥ = cc in
           absurd z
@@ -130,7 +130,7 @@ step_cells s w v e h done =
       | Done d ↦ λ x.
           let u : World = record { cells = settled s e.key.member d 0 w.cells; trace = w.trace ++ d.row ∷ [] } in
           let y : ◌≡◌ {A = StepOutcome World} (Done u) (Done v) = sym (after_stepped s s.traffic.until within w e.key.member d)
-              ∙ is (Done d) x in
+          ∙ is (Done d) x in
           let same : u ≡ v = cc in
           (d, x, ap (λ (b : World). b.cells) (sym same))
     ] refl
@@ -141,9 +141,9 @@ created_events_are_later s w v e fit reached h done k has =
     let P : Key → Type 0 = λ l. (e.key.time < l.time) ⊎ Contains (keys_from 0 w.cells) l in
     let st = step_cells s w v e h done in
     let were : AllIn P (keys_from 0 w.cells) = AllIn-at_places P (keys_from 0 w.cells)
-        (λ n l lt. inr (All-contains_itself (keys_from 0 w.cells) n l lt)) in
+    (λ n l lt. inr (All-contains_itself (keys_from 0 w.cells) n l lt)) in
     let before_it : EachCell s fit (Above P) w.cells = λ j c g. rw zero-add at (each_above P 0 w.cells were j c g) in
     let after_it = kept_above P s fit w.cells e st.0 good h st.1 (λ l lt. inl lt) before_it in
     let all : AllIn P (keys_from 0 v.cells) = all_above_keys P 0 v.cells
-        (λ j c g. rw zero-add (after_it j c (ap (λ cs. slice_get cs j) (sym st.2) ∙ g))) in
+    (λ j c g. rw zero-add (after_it j c (ap (λ cs. slice_get cs j) (sym st.2) ∙ g))) in
     All-contains P (keys_from 0 v.cells) k (AllIn-places P (keys_from 0 v.cells) all) has

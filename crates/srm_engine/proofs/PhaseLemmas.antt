@@ -1,6 +1,6 @@
 -- What the phases of a run tell.
-use Rattle.std.proofs.Common.{◌≡◌, ◌≢◌, ℕ, Option, le_refl, false, cond, List, [], ◌∷◌, Some, None, Result, Ok, Err, inl, inr, refl, sym,
-    ap, ◌∙◌, true≢false, suc, ◌+◌, length, map, slice_get, subst, arith, zero-add}
+use Rattle.std.proofs.Common.{◌≡◌, ◌≢◌, ℕ, Option, le_refl, false, cond, List, [], ◌∷◌, Some, None, Result, Ok, Err, inl, inr, refl, sym}
+use Rattle.std.proofs.Common.{ap, ◌∙◌, true≢false, suc, ◌+◌, length, map, slice_get, subst, arith, zero-add}
 use Rattle.std.specs.Result.{is_ok, is_err}
 use Rattle.std.specs.declared.dyn_box.DynBox.{DynBox}
 use Rattle.std.specs.Global.{Global}
@@ -40,7 +40,7 @@ module _ {X : Type 0} {H : X → Type 0} where
   pub refused : (f : DynBox X Global H → Record) (s : Setting) (w : World) (m : ℕ) (ps : List PlainCell) (o : StepOutcome Stepped)
       (x : CellFault) (cs : List (Cell X H)) (ts : List (Option ℕ)) (after : Engine X H)
       → x ≢ cell.Spent → TellsTake f m ps o (Err x) cs ts → step s w ≡ after_step s w m o
-          → TellsWorld f w (step s w) (Err (fault_of x)) after
+      → TellsWorld f w (step s w) (Err (fault_of x)) after
   refused f s w m ps o cell.NoMemory cs ts after ne h e = tt
   refused f s w m ps o cell.CountFull cs ts after ne h e = e ∙ ap (after_step s w m) h
       ∙ after_full s s.traffic.until (le_refl s.traffic.until) w m
@@ -57,7 +57,7 @@ module _ {X : Type 0} {H : X → Type 0} where
   ended_from : (f : DynBox X Global H → Record) (i : ℕ) (cs : List (Cell X H)) (ps : List PlainCell) (xs : List Exit) → length cs
       ≡ length ps
       → ((j : ℕ) (c : Cell X H) (p : PlainCell) → slice_get cs j ≡ Some c → slice_get ps j ≡ Some p → IsCell f (i + j) c p) → EndAs f cs xs
-          → xs ≡ map (λ (c : PlainCell). exit_at c.holds c.exit) ps
+      → xs ≡ map (λ (c : PlainCell). exit_at c.holds c.exit) ps
   ended_from f i [] [] [] len each h = refl
   ended_from f i [] [] (x ∷ xs) len each h = absurd h
   ended_from f i [] (p ∷ ps) xs len each h = absurd (omega arith)
@@ -66,7 +66,7 @@ module _ {X : Type 0} {H : X → Type 0} where
   ended_from f i (c ∷ cs) (p ∷ ps) (x ∷ xs) len each h =
       let first = h.0 (i + 0) p (each 0 c p refl refl) in
       let rest = ended_from f (suc i) cs ps xs (omega arith) (λ j d q a b. subst (λ k. IsCell f k d q) (shift i j) (each (suc j) d q a b))
-          h.1 in
+      h.1 in
       λ t. first t ∷ rest t
     where
       shift : (i j : ℕ) → i + suc j ≡ suc i + j

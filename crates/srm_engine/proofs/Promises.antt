@@ -1,6 +1,6 @@
 -- The least promise of all cells, one cell after the other.
-use Rattle.std.proofs.Common.{◌≡◌, ◌≢◌, ◌⊎◌, inl, inr, ℕ, zero, suc, ◌≤◌, ◌+◌, ◌==◌, Bool, true, false, not, cond, List, [], ◌∷◌, refl, sym,
-    ap, ◌∙◌, arith, Option, Some, None, option_map, unwrap_or, length, map, filter, slice_get, zero-add}
+use Rattle.std.proofs.Common.{◌≡◌, ◌≢◌, ◌⊎◌, inl, inr, ℕ, zero, suc, ◌≤◌, ◌+◌, ◌==◌, Bool, true, false, not, cond, List, [], ◌∷◌, refl, sym}
+use Rattle.std.proofs.Common.{ap, ◌∙◌, arith, Option, Some, None, option_map, unwrap_or, length, map, filter, slice_get, zero-add}
 use Rattle.std.proofs.lemmas.List.{length-map}
 use Rattle.std.specs.List.{range_with_len}
 use Rattle.srm_net.specs.declared.role.Role.{Role}
@@ -85,10 +85,16 @@ module _ (s : Setting) where
     where
       by : Some_promise 0 cs (least_promise s 0 cs)
           → (least_promise s 0 cs ≡ s.traffic.until) ⊎ ((m : ℕ) × (c : PlainCell) × Any m × (slice_get cs m ≡ Some c)
-              × (promised s m c ≡ Some (least_promise s 0 cs)))
+          × (promised s m c ≡ Some (least_promise s 0 cs)))
       by (inl e) = inl e
-      by (inr a) = inr (a.0, a.1, tt, a.2, sym (promise_is a.0 a.1 (kept a.0 a.1 a.2)) ∙ ap (λ k. promise_of s k a.1) (sym (zero-add a.0))
-          ∙ a.3)
+      by (inr a) = inr (
+        a.0,
+        a.1,
+        tt,
+        a.2,
+        sym (promise_is a.0 a.1 (kept a.0 a.1 a.2)) ∙ ap (λ k. promise_of s k a.1) (sym (zero-add a.0))
+            ∙ a.3,
+      )
 
 -- ---- ways
 

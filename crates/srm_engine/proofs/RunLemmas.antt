@@ -1,12 +1,12 @@
 -- The sequential run to an end is a complete schedule, if own runs end.
-use Rattle.std.proofs.Common.{◌≡◌, ℕ, zero, suc, ◌<◌, ◌≤◌, ◌+◌, Bool, true, false, List, [], ◌∷◌, ◌++◌, length, refl, sym, ap, ◌∙◌, subst,
-    subst₂, ◌≢◌, ◌⊎◌, inl, inr, arith, Ordering, Less, Equal, Greater, eqb-true, eq-eqb, ◌==◌, Option, Some, None, slice_get, add-zero,
-    zero-add, append_assoc, append-nil}
+use Rattle.std.proofs.Common.{◌≡◌, ℕ, zero, suc, ◌<◌, ◌≤◌, ◌+◌, Bool, true, false, List, [], ◌∷◌, ◌++◌, length, refl, sym, ap, ◌∙◌, subst}
+use Rattle.std.proofs.Common.{subst₂, ◌≢◌, ◌⊎◌, inl, inr, arith, Ordering, Less, Equal, Greater, eqb-true, eq-eqb, ◌==◌, Option, Some, None}
+use Rattle.std.proofs.Common.{slice_get, add-zero, zero-add, append_assoc, append-nil}
 use Rattle.srm_cell.proofs.CellLemmas.{before-earlier, outcome_map, stepped_map}
 use Rattle.srm_cell.proofs.CellSteps.{IsOf, before_more, before_of, next_event_of, some_not_idle, told_late}
 use Rattle.srm_cell.proofs.OwnRunLemmas.{end_by, end_first, end_now}
-use Rattle.srm_cell.specs.Cells.{Done, Event, Full, Idle, PlainCell, Spent, StepOutcome, Stepped, before, by_key, earlier, next_event,
-    own_step, step_at}
+use Rattle.srm_cell.specs.Cells.{Done, Event, Full, Idle, PlainCell, Spent, StepOutcome, Stepped, before, by_key, earlier, next_event}
+use Rattle.srm_cell.specs.Cells.{own_step, step_at}
 use Rattle.srm_cell.specs.OwnRuns.{own_end, told_to}
 use Rattle.srm_cell.specs.Setting.{Setting, arrival_of}
 use Rattle.srm_engine.proofs.ScheduleLemmas.{Quiet, Safe, Sched, go, present, safe_after, step_late, stop}
@@ -96,7 +96,7 @@ module _ (s : Setting) (end : ℕ) where
       ∙ ap (outcome_map (stepped_map (told_to s.traffic x m))) (sym (end_now end m c) ∙ h) ∙ map_ending _ b
   end_late x late m (suc n) c b h =
       let step = λ (o : StepOutcome Stepped) (e : own_step end m c ≡ o). end_first end m n (told_to s.traffic x m c)
-          ∙ ap (end_by end m n) (told_late s.traffic end m x late c ∙ ap (outcome_map (stepped_map (told_to s.traffic x m))) e) in
+      ∙ ap (end_by end m n) (told_late s.traffic end m x late c ∙ ap (outcome_map (stepped_map (told_to s.traffic x m))) e) in
       let was = λ (o : StepOutcome Stepped) (e : own_step end m c ≡ o). sym (ap (end_by end m n) e) ∙ sym (end_first end m n c) ∙ h in
       elim (own_step end m c) as (λ o. own_step end m c ≡ o → own_end end m (suc n) (told_to s.traffic x m c) ≡ ending b) [
         | Idle ↦ λ e. step Idle e ∙ was Idle e
@@ -144,9 +144,15 @@ module _ (s : Setting) (end : ℕ) where
       let yes : (i == a) ≡ true = eq-eqb _ _ same in
       let xc : x ≡ c = cc in
       let here : own_end end a n c ≡ ending b = subst₂ (λ k y. own_end end k n y ≡ ending b) same xc h.0 in
-      let f = fewer a d n c b e here in
-      (f.0 ∷ ns, ((let there : own_end end i f.0 d.cell ≡ ending b = subst (λ k. own_end end k f.0 d.cell ≡ ending b) (sym same) f.2 in
-          rw yes there), ends_other a d late (suc i) cs ns bs (omega arith) h.1), (let m = f.1 in omega arith))
+      let f = fewer a d n c b e here in (
+        f.0 ∷ ns,
+        (
+          (let there : own_end end i f.0 d.cell ≡ ending b = subst (λ k. own_end end k f.0 d.cell ≡ ending b) (sym same) f.2 in
+              rw yes there),
+          ends_other a d late (suc i) cs ns bs (omega arith) h.1,
+        ),
+        (let m = f.1 in omega arith),
+      )
   ends_step a d late (suc j) i (x ∷ cs) (n ∷ ns) (b ∷ bs) ia c g e h =
       let r = ends_step a d late j (suc i) cs ns bs (omega arith) c g e h.1 in
       (n ∷ r.0, (head_off a d late i n x b (λ q. omega arith) h.0, r.1), (let m = r.2 in omega arith))
@@ -232,7 +238,7 @@ module _ (s : Setting) (end : ℕ) where
 
   one_step : (cs : List PlainCell) (ns : List ℕ) (bs : List Bool) → Safe s end cs → Ends 0 cs ns bs →
       ((cs' : List PlainCell) (ns' : List ℕ) → total ns ≡ suc (total ns') → Safe s end cs' → Ends 0 cs' ns' bs → Finish cs' bs)
-          → Finish cs bs
+      → Finish cs bs
   unfolding own_step
   one_step cs ns bs safe ends again = elim (before end (least_event 0 cs)) as (λ o. before end (least_event 0 cs) ≡ o → Finish cs bs) [
     | None ↦ λ n. let q : Quiet end cs = λ j. rw zero-add at (none_least end 0 cs n j) in
@@ -333,4 +339,4 @@ module _ (s : Setting) (end : ℕ) where
         let w : World = record { cells = cs; trace = t } in
         seq_first more (t ++ d.row ∷ []) k (omega arith) u
         (sym (ap (run_by k) (step_is w e h ∙ ap (after_step s w e.key.member) x ∙ after_stepped w e.key.member d)) ∙ sym (run_first k w)
-            ∙ g) q
+        ∙ g) q

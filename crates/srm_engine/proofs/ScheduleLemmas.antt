@@ -1,6 +1,6 @@
 -- All complete schedules to a safe end leave the same cells, and the same rows in order.
-use Rattle.std.proofs.Common.{◌≡◌, ℕ, zero, suc, ◌≤◌, true, false, List, [], ◌∷◌, refl, sym, ap, ◌∙◌, subst, subst₂, ◌≢◌, Equal, eqb-true,
-    ◌==◌, Option, Some, None, option_map, slice_get}
+use Rattle.std.proofs.Common.{◌≡◌, ℕ, zero, suc, ◌≤◌, true, false, List, [], ◌∷◌, refl, sym, ap, ◌∙◌, subst, subst₂, ◌≢◌, Equal, eqb-true}
+use Rattle.std.proofs.Common.{◌==◌, Option, Some, None, option_map, slice_get}
 use Rattle.std.proofs.lemmas.Bool.{eqb-false}
 use Rattle.srm_cell.proofs.CellLemmas.{outcome_map, stepped_map}
 use Rattle.srm_cell.proofs.CellSteps.{SentBy, own_step_is, told_late}
@@ -62,7 +62,7 @@ module _ (s : Setting) (end : ℕ) where
   own_rows_late x late m zero c = refl
   own_rows_late x late m (suc n) c =
       let step = λ (o : StepOutcome Stepped) (e : own_step end m c ≡ o). rows_first end m n (told_to s.traffic x m c)
-          ∙ ap (rows_by end m n) (told_late s.traffic end m x late c ∙ ap (outcome_map (stepped_map (told_to s.traffic x m))) e) in
+      ∙ ap (rows_by end m n) (told_late s.traffic end m x late c ∙ ap (outcome_map (stepped_map (told_to s.traffic x m))) e) in
       let was = λ (o : StepOutcome Stepped) (e : own_step end m c ≡ o). rows_first end m n c ∙ ap (rows_by end m n) e in
       elim (own_step end m c) as (λ o. own_step end m c ≡ o → own_rows end m (suc n) (told_to s.traffic x m c) ≡ own_rows end m (suc n) c) [
         | Idle ↦ λ e. step Idle e ∙ sym (was Idle e)
@@ -88,7 +88,7 @@ module _ (s : Setting) (end : ℕ) where
   safe_after cs safe m d e k c g n =
       let h = was_some (at_member s m d k) (slice_get cs k) c (sym (get_after s m d k cs) ∙ g) in
       let own : (k ≡ m) → own_step end k h.0 ≡ Done d =
-          λ km. (subst (λ o. own_of end k o ≡ Done d) h.1 (subst (λ j. own_of end j (slice_get cs j) ≡ Done d) (sym km) e)) in
+      λ km. (subst (λ o. own_of end k o ≡ Done d) h.1 (subst (λ j. own_of end j (slice_get cs j) ≡ Done d) (sym km) e)) in
       subst (λ x. AllSendLate s end (own_rows end k n x)) h.2 (safe_rows m d k n h.0 (step_late cs safe m d e) (safe k h.0 h.1) own)
 
   -- ---- an own step after another member's
@@ -119,15 +119,18 @@ module _ (s : Setting) (end : ℕ) where
   bring : {cs ds : List PlainCell} {ms : List ℕ} {rows : List Row} (a : ℕ) (da : Stepped) → Sched s end cs ms rows ds → Safe s end cs
       → own_of end a (slice_get cs a) ≡ Done da → Quiet end ds →
       (ms' : List ℕ) × (rows' : List Row) × Sched s end (settled s a da 0 cs) ms' rows' ds
-          × (ordered row_cmp (da.row ∷ rows') ≡ ordered row_cmp rows)
+      × (ordered row_cmp (da.row ∷ rows') ≡ ordered row_cmp rows)
   bring a da (stop {cs = cs}) safe ea quiet = let e : Idle ≡ Done da = sym (quiet a) ∙ ea in cc
   bring a da (go {cs = cs} {m = b} {ms = ms} {d = db} {rows = rows} {ds = ds} eb rest) safe ea quiet =
       elim (b == a) as (λ x. (b == a) ≡ x → (ms' : List ℕ) × (rows' : List Row) × Sched s end (settled s a da 0 cs) ms' rows' ds
-          × (ordered row_cmp (da.row ∷ rows') ≡ ordered row_cmp (db.row ∷ rows))) [
+      × (ordered row_cmp (da.row ∷ rows') ≡ ordered row_cmp (db.row ∷ rows))) [
         | true ↦ λ ba. let same : da ≡ db = (let e : Done da ≡ Done db = sym ea
-            ∙ ap (λ k. own_of end k (slice_get cs k)) (sym (eqb-true _ _ ba)) ∙ eb in cc) in
-            (ms, rows, subst₂ (λ k d. Sched s end (settled s k d 0 cs) ms rows ds) (eqb-true _ _ ba) (sym same) rest,
-                ap (λ (d : Stepped). ordered row_cmp (d.row ∷ rows)) same)
+            ∙ ap (λ k. own_of end k (slice_get cs k)) (sym (eqb-true _ _ ba)) ∙ eb in cc) in (
+              ms,
+              rows,
+              subst₂ (λ k d. Sched s end (settled s k d 0 cs) ms rows ds) (eqb-true _ _ ba) (sym same) rest,
+              ap (λ (d : Stepped). ordered row_cmp (d.row ∷ rows)) same,
+            )
         | false ↦ λ ba. let ne : a ≢ b = (λ e. eqb-false _ _ ba (sym e)) in
             let ia = own_of_is end a (slice_get cs a) da ea in
             let ib = own_of_is end b (slice_get cs b) db eb in
@@ -146,7 +149,7 @@ module _ (s : Setting) (end : ℕ) where
   -- two complete schedules end alike
   pub same_end : {cs ds : List PlainCell} {ms : List ℕ} {rows : List Row} → Sched s end cs ms rows ds → Quiet end ds → Safe s end cs →
       (ms' : List ℕ) (rows' : List Row) (ds' : List PlainCell) → Sched s end cs ms' rows' ds' → Quiet end ds' → (ds ≡ ds')
-          × (ordered row_cmp rows ≡ ordered row_cmp rows')
+      × (ordered row_cmp rows ≡ ordered row_cmp rows')
   same_end (stop {cs = cs}) quiet safe ms' rows' ds' other quiet' = nothing_more other quiet
     where
       nothing_more : {cs' es : List PlainCell} {ks : List ℕ} {rs : List Row} → Sched s end cs' ks rs es → Quiet end cs' → (cs' ≡ es)

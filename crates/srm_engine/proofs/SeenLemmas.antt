@@ -1,6 +1,6 @@
 -- What is seen of the cells and next times of all members, where one of them changes.
-use Rattle.std.proofs.Common.{◌≡◌, ◌≢◌, ℕ, zero, suc, ◌<◌, true, false, List, [], ◌∷◌, length, Option, Some, None, Ok, Err, refl, sym, ap,
-    ◌∙◌, subst, slice_get, slice_set, ◌==◌, eqb-true, arith}
+use Rattle.std.proofs.Common.{◌≡◌, ◌≢◌, ℕ, zero, suc, ◌<◌, true, false, List, [], ◌∷◌, length, Option, Some, None, Ok, Err, refl, sym, ap}
+use Rattle.std.proofs.Common.{◌∙◌, subst, slice_get, slice_set, ◌==◌, eqb-true, arith}
 use Rattle.std.proofs.lemmas.Bool.{eqb-false}
 use Rattle.std.proofs.Math.ListN.{length-set}
 use Rattle.std.specs.declared.dyn_box.DynBox.{DynBox}
@@ -35,7 +35,7 @@ set_times ts ps m t q h lt e = record {
         let within : m < length ps = omega arith in
         let is : q ≡ p = same_some q p (sym (get_set_same ps m q within) ∙ ap (slice_get (slice_set ps m q)) here ∙ g) in
         ap (slice_get (slice_set ts m t)) (sym here) ∙ get_set_same ts m t lt
-            ∙ ap Some (e ∙ ap (λ k. time_of (next_event k q)) here ∙ ap (λ x. time_of (next_event j x)) is)
+        ∙ ap Some (e ∙ ap (λ k. time_of (next_event k q)) here ∙ ap (λ x. time_of (next_event j x)) is)
     | false ↦ λ r.
         let ne : m ≢ j = eqb-false m j r in
         get_set_other ts m j t ne ∙ h.each j p (sym (get_set_other ps m j q ne) ∙ g)
@@ -64,7 +64,7 @@ module _ {X : Type 0} {H : X → Type 0} where
   pub set_seen : (f : DynBox X Global H → Record) (cs : List (Cell X H)) (ts ts1 : List (Option ℕ)) (ps : List PlainCell) (m : ℕ)
       (c : Cell X H) (t : Option ℕ) (q : PlainCell)
       → AreSeen f cs ts ps → m < length cs → m < length ts → IsCell f m c q → t ≡ time_of (next_event m q) → ts1 ≡ slice_set ts m t
-          → AreSeen f (slice_set cs m c) ts1 (slice_set ps m q)
+      → AreSeen f (slice_set cs m c) ts1 (slice_set ps m q)
   set_seen f cs ts ts1 ps m c t q h lc lt is e u = record {
     cells = set_cells f cs ps m c q h.cells lc is;
     times = subst (λ us. AreTimes us (slice_set ps m q)) (sym u) (set_times ts ps m t q h.times lt e);
@@ -73,11 +73,13 @@ module _ {X : Type 0} {H : X → Type 0} where
   pub taken : (f : DynBox X Global H → Record) (cs : List (Cell X H)) (ts ts1 : List (Option ℕ)) (ps : List PlainCell) (m : ℕ)
       (p : PlainCell) (o : StepOutcome Stepped) (row : Option Row) (c : Cell X H) (t : Option ℕ)
       → AreSeen f cs ts ps → slice_get ps m ≡ Some p → m < length cs → m < length ts → TellsStep f m p o (Ok row) c
-          → ((q : PlainCell) → IsCell f m c q → t ≡ time_of (next_event m q)) → ts1 ≡ slice_set ts m t
+      → ((q : PlainCell) → IsCell f m c q → t ≡ time_of (next_event m q)) → ts1 ≡ slice_set ts m t
       → TellsTake f m ps o (Ok row) (slice_set cs m c) ts1
-  taken f cs ts ts1 ps m p o None c t h g lc lt tells e u =
-      (tells.0, subst (λ qs. AreSeen f (slice_set cs m c) ts1 qs) (set_same ps m p g)
-          (set_seen f cs ts ts1 ps m c t p h lc lt tells.1 (e p tells.1) u))
+  taken f cs ts ts1 ps m p o None c t h g lc lt tells e u = (
+    tells.0,
+    subst (λ qs. AreSeen f (slice_set cs m c) ts1 qs) (set_same ps m p g)
+        (set_seen f cs ts ts1 ps m c t p h lc lt tells.1 (e p tells.1) u),
+  )
   taken f cs ts ts1 ps m p o (Some row) c t h g lc lt tells e u =
       (tells.0, tells.1, tells.2, set_seen f cs ts ts1 ps m c t tells.0.cell h lc lt tells.3 (e tells.0.cell tells.3) u)
 

@@ -1,21 +1,21 @@
 -- The worlds of the sequential run, the order of its rows, and safe ends.
-use Rattle.std.proofs.Common.{◌≡◌, ℕ, zero, suc, ◌<◌, ◌≤◌, ◌+◌, true, false, List, [], ◌∷◌, ◌++◌, length, refl, sym, ap, ◌∙◌, subst, ◌≢◌,
-    ◌⊎◌, inl, inr, arith, Option, Some, None, slice_get, zero-add, eqb-true, ◌==◌, le_refl, add-zero}
+use Rattle.std.proofs.Common.{◌≡◌, ℕ, zero, suc, ◌<◌, ◌≤◌, ◌+◌, true, false, List, [], ◌∷◌, ◌++◌, length, refl, sym, ap, ◌∙◌, subst, ◌≢◌}
+use Rattle.std.proofs.Common.{◌⊎◌, inl, inr, arith, Option, Some, None, slice_get, zero-add, eqb-true, ◌==◌, le_refl, add-zero}
 use Rattle.std.proofs.lemmas.Bool.{eqb-false}
 use Rattle.srm_cell.proofs.CellSteps.{IsOf, IsStepOf, SentBy, before_of, before_some, next_event_of, some_not_idle, step_at_of}
 use Rattle.srm_cell.proofs.Counts.{Taken, above_weaker, next_taken, rest_sound, sound_step}
 use Rattle.srm_cell.proofs.OwnRunLemmas.{rows_by, rows_first}
 use Rattle.srm_cell.proofs.OwnRunsEnd.{SentNothing, rest_silent, silent_step}
-use Rattle.srm_cell.proofs.Rising.{Above, IsAbove, OnEvent, OnStep, RowOf, SentAt, before_on, hear_at_above, next_above, row_step,
-    step_above}
-use Rattle.srm_cell.proofs.Tidy.{IsTidy, Least, NotBefore, RestTidy, above_least, arrival_is, later_not_before, least_earlier, next_tidy,
-    not_before_time, tidy_step, tidy_told}
-use Rattle.srm_cell.specs.Cells.{Done, Event, Full, Idle, PlainCell, Silent, Spent, Stepped, before, hear, hear_at, next_event, own_step,
-    step_at}
+use Rattle.srm_cell.proofs.Rising.{Above, IsAbove, OnEvent, OnStep, RowOf, SentAt, before_on, hear_at_above, next_above, row_step}
+use Rattle.srm_cell.proofs.Rising.{step_above}
+use Rattle.srm_cell.proofs.Tidy.{IsTidy, Least, NotBefore, RestTidy, above_least, arrival_is, later_not_before, least_earlier, next_tidy}
+use Rattle.srm_cell.proofs.Tidy.{not_before_time, tidy_step, tidy_told}
+use Rattle.srm_cell.specs.Cells.{Done, Event, Full, Idle, PlainCell, Silent, Spent, Stepped, before, hear, hear_at, next_event, own_step}
+use Rattle.srm_cell.specs.Cells.{step_at}
 use Rattle.srm_cell.specs.OwnRuns.{own_rows, told_to}
 use Rattle.srm_cell.specs.Setting.{IsFit, Setting, arrival_of}
-use Rattle.srm_engine.proofs.RunLemmas.{Seq, after_full, after_spent, after_stepped, least_from, next, rest, run_by, run_first, step_is,
-    step_none}
+use Rattle.srm_engine.proofs.RunLemmas.{Seq, after_full, after_spent, after_stepped, least_from, next, rest, run_by, run_first, step_is}
+use Rattle.srm_engine.proofs.RunLemmas.{step_none}
 use Rattle.srm_engine.proofs.ScheduleLemmas.{Safe, same_Some, was_some}
 use Rattle.srm_engine.proofs.Settled.{at_member, get_after}
 use Rattle.srm_engine.specs.Schedules.{AllSendLate, SendsLate}
@@ -115,9 +115,9 @@ module _ (s : Setting) (fit : IsFit s) where
     good_step cs e d good h x =
         let f = step_facts cs e d h x in
         let t = subst (OnEvent RestTidy) f.event (before_on RestTidy end (next_event e.key.member f.cell)
-            (next_tidy e.key.member f.cell (good.tidy e.key.member f.cell f.here))) in
+        (next_tidy e.key.member f.cell (good.tidy e.key.member f.cell f.here))) in
         let taken = subst (OnEvent (Taken f.cell)) f.event
-            (before_on (Taken f.cell) end (next_event e.key.member f.cell) (next_taken e.key.member f.cell)) in
+        (before_on (Taken f.cell) end (next_event e.key.member f.cell) (next_taken e.key.member f.cell)) in
         record {
           members = length-settled e.key.member d 0 cs ∙ good.members;
           tidy = each_after (λ j c. IsTidy c) cs e.key.member d (subst (OnStep (λ d. IsTidy d.cell)) x (tidy_step e t))
@@ -148,7 +148,7 @@ module _ (s : Setting) (fit : IsFit s) where
     told_above k m (Some p) lt by at j c a = hear_at_above (NotBefore k) j p (arrival_of s.traffic p j) c
         (λ t g. let f = arrival_is s.traffic p j t g in
         let away : 0 < s.traffic.distance p.id.sender j = fit.apart p.id.sender j (subst (λ n. n < s.traffic.members) (sym by) lt) f.0
-            (λ e. f.1 (sym e)) in
+        (λ e. f.1 (sym e)) in
         let later = f.2 in
         later_not_before k _ (omega arith)) a
 
@@ -161,7 +161,7 @@ module _ (s : Setting) (fit : IsFit s) where
     told_above_by P t m (Some p) later lt by at j c a = hear_at_above P j p (arrival_of s.traffic p j) c
         (λ u g. let f = arrival_is s.traffic p j u g in
         let away : 0 < s.traffic.distance p.id.sender j = fit.apart p.id.sender j (subst (λ n. n < s.traffic.members) (sym by) lt) f.0
-            (λ e. f.1 (sym e)) in
+        (λ e. f.1 (sym e)) in
         let arrives = f.2 in
         later _ (omega arith)) a
 
@@ -173,11 +173,11 @@ module _ (s : Setting) (fit : IsFit s) where
     pub above_step : (P : Key → Type 0) (cs : List PlainCell) (e : Event) (d : Stepped) → Good cs → before end (least_event 0 cs) ≡ Some e
         → step_at (Some e) ≡ Done d → ((k : Key) → e.key.time < k.time → P k)
         → Above P e.key.member d.cell → ((j : ℕ) (c : PlainCell) → slice_get cs j ≡ Some c → j ≢ e.key.member → Above P j c)
-            → EachCell (Above P) (settled s e.key.member d 0 cs)
+        → EachCell (Above P) (settled s e.key.member d 0 cs)
     above_step P cs e d good h x later mine all =
         let f = step_facts cs e d h x in
         each_after (Above P) cs e.key.member d mine (λ j c g ne. told_above_by P e.key.time e.key.member d.row.sent later
-            (member_below cs e d good h x) f.sender f.sent_at j c (all j c g ne))
+        (member_below cs e d good h x) f.sender f.sent_at j c (all j c g ne))
 
     pub above_after : (cs : List PlainCell) (e : Event) (d : Stepped) → Good cs → before end (least_event 0 cs) ≡ Some e → step_at (Some e)
         ≡ Done d → EachCell (Above (NotBefore e.key)) (settled s e.key.member d 0 cs)
@@ -187,11 +187,11 @@ module _ (s : Setting) (fit : IsFit s) where
         let m = e.key.member in
         let lt : m < s.traffic.members = subst (λ n. m < n) good.members (get_below cs m f.cell f.here) in
         let a = subst (OnEvent (IsAbove (NotBefore e.key) m)) f.event
-            (before_on (IsAbove (NotBefore e.key) m) end (next_event m f.cell)
-            (next_above (NotBefore e.key) m f.cell (all m f.cell f.here))) in
+        (before_on (IsAbove (NotBefore e.key) m) end (next_event m f.cell)
+        (next_above (NotBefore e.key) m f.cell (all m f.cell f.here))) in
         each_after (Above (NotBefore e.key)) cs m d
         (subst (OnStep (λ d. Above (NotBefore e.key) m d.cell)) x
-            (step_above (NotBefore e.key) m e.key.time (later_not_before e.key) e refl a.1))
+        (step_above (NotBefore e.key) m e.key.time (later_not_before e.key) e refl a.1))
         (λ j c g ne. told_above e.key m d.row.sent lt f.sender f.sent_at j c (all j c g))
 
     -- the first row, if any, is not before k
@@ -207,7 +207,7 @@ module _ (s : Setting) (fit : IsFit s) where
         let f = step_facts cs e d h x in
         let m = e.key.member in
         let b = subst (OnEvent (IsAbove (NotBefore k) m)) f.event
-            (before_on (IsAbove (NotBefore k) m) end (next_event m f.cell) (next_above (NotBefore k) m f.cell (a m f.cell f.here))) in
+        (before_on (IsAbove (NotBefore k) m) end (next_event m f.cell) (next_above (NotBefore k) m f.cell (a m f.cell f.here))) in
         subst (NotBefore k) (sym f.key) b.0
 
     first_place : (r : Row) (rows : List Row) → FirstFrom r.key rows → place row_cmp r rows ≡ r ∷ rows
@@ -233,25 +233,25 @@ module _ (s : Setting) (fit : IsFit s) where
       let within = le_refl s.traffic.until in
       let by = sym (run_first s s.traffic.until within n w) ∙ h in
       elim (before s.traffic.until (least_event 0 w.cells)) as
-          (λ o. before s.traffic.until (least_event 0 w.cells) ≡ o → (rows : List Row) × Seq s s.traffic.until w.cells rows v.cells
-          × (length rows ≡ suc n)) [
+      (λ o. before s.traffic.until (least_event 0 w.cells) ≡ o → (rows : List Row) × Seq s s.traffic.until w.cells rows v.cells
+      × (length rows ≡ suc n)) [
         | None ↦ λ e. let x : Idle ≡ Done v = sym (ap (run_by s s.traffic.until within n) (step_none s s.traffic.until within w e))
             ∙ by in cc
         | Some e ↦ λ b. elim (step_at (Some e)) as (λ o. step_at (Some e)
             ≡ o → (rows : List Row) × Seq s s.traffic.until w.cells rows v.cells × (length rows ≡ suc n)) [
-          | Idle ↦ λ x. absurd (some_not_idle e x)
-          | Full ↦ λ x. let y : Full ≡ Done v = sym (ap (run_by s s.traffic.until within n)
-              (step_is s s.traffic.until within w e b ∙ ap (after_step s w e.key.member) x
-              ∙ after_full s s.traffic.until within w e.key.member)) ∙ by in cc
-          | Spent ↦ λ x. let y : Spent ≡ Done v = sym
-              (ap (run_by s s.traffic.until within n) (step_is s s.traffic.until within w e b ∙ ap (after_step s w e.key.member) x
-              ∙ after_spent s s.traffic.until within w e.key.member)) ∙ by in cc
-          | Done d ↦ λ x.
-              let g = run_seq n (record { cells = settled s e.key.member d 0 w.cells; trace = w.trace ++ d.row ∷ [] }) v
-              (sym (ap (run_by s s.traffic.until within n) (step_is s s.traffic.until within w e b ∙ ap (after_step s w e.key.member) x
+              | Idle ↦ λ x. absurd (some_not_idle e x)
+              | Full ↦ λ x. let y : Full ≡ Done v = sym (ap (run_by s s.traffic.until within n)
+                  (step_is s s.traffic.until within w e b ∙ ap (after_step s w e.key.member) x
+                  ∙ after_full s s.traffic.until within w e.key.member)) ∙ by in cc
+              | Spent ↦ λ x. let y : Spent ≡ Done v = sym
+                  (ap (run_by s s.traffic.until within n) (step_is s s.traffic.until within w e b ∙ ap (after_step s w e.key.member) x
+                  ∙ after_spent s s.traffic.until within w e.key.member)) ∙ by in cc
+              | Done d ↦ λ x.
+                  let g = run_seq n (record { cells = settled s e.key.member d 0 w.cells; trace = w.trace ++ d.row ∷ [] }) v
+                  (sym (ap (run_by s s.traffic.until within n) (step_is s s.traffic.until within w e b ∙ ap (after_step s w e.key.member) x
                   ∙ after_stepped s s.traffic.until within w e.key.member d)) ∙ by) in
-              (d.row ∷ g.0, next b x g.1, ap suc g.2)
-        ] refl
+                  (d.row ∷ g.0, next b x g.1, ap suc g.2)
+            ] refl
       ] refl
 
   opening_tidy : (n i : ℕ) → i + n ≡ s.traffic.members → (j : ℕ) (c : PlainCell) → slice_get (opening_cells s n i) j ≡ Some c → IsTidy c
@@ -275,8 +275,12 @@ module _ (s : Setting) (fit : IsFit s) where
 
   pub good_opening : Good (opening s).cells
   unfolding opening
-  good_opening = record { members = length-opening s.traffic.members 0; tidy =
-      opening_tidy s.traffic.members 0 (zero-add s.traffic.members); sound = opening_sound s.traffic.members 0 }
+  good_opening = record {
+    members = length-opening s.traffic.members 0;
+    tidy =
+        opening_tidy s.traffic.members 0 (zero-add s.traffic.members);
+    sound = opening_sound s.traffic.members 0;
+  }
 
   pub good_reached : (n : ℕ) (w : World) → run s n (opening s) ≡ Done w → Good w.cells
   good_reached n w h = good_seq s.traffic.until (run_seq n (opening s) w h).1 good_opening
@@ -288,42 +292,42 @@ module _ (s : Setting) (fit : IsFit s) where
     FromTime k = start ≤ k.time
 
     module _ (m : ℕ) (lt : m < s.traffic.members) (far : (b : ℕ) → b < s.traffic.members → b ≢ m → end ≤ start + s.traffic.distance m b)
-        where
-      sends_late : (t : ℕ) (r : Row) → start ≤ t → SentBy m r.sent → SentAt t r.sent → SendsLate s end r
-      sends_late t r from by at p e j a g =
-          let f = arrival_is s.traffic p j a g in
-          let sender : p.id.sender ≡ m = subst (SentBy m) e by in
-          let time : p.sent ≡ t = subst (SentAt t) e at in
-          let off : end ≤ start + s.traffic.distance m j = far j f.0 (λ q. f.1 (q ∙ sym sender)) in
-          let arrives : p.sent + s.traffic.distance m j ≡ a = subst (λ k. p.sent + s.traffic.distance k j ≡ a) sender f.2 in
-          omega arith
+      where
+        sends_late : (t : ℕ) (r : Row) → start ≤ t → SentBy m r.sent → SentAt t r.sent → SendsLate s end r
+        sends_late t r from by at p e j a g =
+            let f = arrival_is s.traffic p j a g in
+            let sender : p.id.sender ≡ m = subst (SentBy m) e by in
+            let time : p.sent ≡ t = subst (SentAt t) e at in
+            let off : end ≤ start + s.traffic.distance m j = far j f.0 (λ q. f.1 (q ∙ sym sender)) in
+            let arrives : p.sent + s.traffic.distance m j ≡ a = subst (λ k. p.sent + s.traffic.distance k j ≡ a) sender f.2 in
+            omega arith
 
-      pub own_late : (n : ℕ) (c : PlainCell) → Above FromTime m c → AllSendLate s end (own_rows end m n c)
-      unfolding own_rows own_step
-      own_late zero c a = tt
-      own_late (suc n) c a = subst (AllSendLate s end) (sym (rows_first end m n c))
-          (by_event (λ b h. own_late n b h) (before end (next_event m c)) refl)
-        where
-          by_event : ((b : PlainCell) → Above FromTime m b → AllSendLate s end (own_rows end m n b)) → (o : Option Event)
-              → before end (next_event m c) ≡ o → AllSendLate s end (rows_by end m n (own_step end m c))
-          by_event again None h = subst (λ o. AllSendLate s end (rows_by end m n (step_at o))) (sym h) tt
-          by_event again (Some e) h =
-              let b = subst (OnEvent (IsAbove FromTime m)) h
-                  (before_on (IsAbove FromTime m) end (next_event m c) (next_above FromTime m c a)) in
-              let from : start ≤ e.key.time = b.0 in
-              let of_m : e.key.member ≡ m = subst (IsOf m) h (before_of m end (next_event m c) (next_event_of m c)) in
-              subst (λ o. AllSendLate s end (rows_by end m n (step_at o))) (sym h)
-              (elim (step_at (Some e)) as (λ o. step_at (Some e) ≡ o → AllSendLate s end (rows_by end m n (step_at (Some e)))) [
-                | Idle ↦ λ x. subst (λ o. AllSendLate s end (rows_by end m n o)) (sym x) tt
-                | Full ↦ λ x. subst (λ o. AllSendLate s end (rows_by end m n o)) (sym x) tt
-                | Spent ↦ λ x. subst (λ o. AllSendLate s end (rows_by end m n o)) (sym x) tt
-                | Done d ↦ λ x. subst (λ o. AllSendLate s end (rows_by end m n o)) (sym x) (
-                  sends_late e.key.time d.row from (subst (IsStepOf m) x (step_at_of m (Some e) of_m)).1
-                      (subst (OnStep (RowOf e.key)) x (row_step e)).1,
-                  again d.cell (subst (OnStep (λ d. Above FromTime m d.cell)) x
-                      (step_above FromTime m e.key.time (λ k l. omega arith) e refl b.1)),
-                )
-              ] refl)
+        pub own_late : (n : ℕ) (c : PlainCell) → Above FromTime m c → AllSendLate s end (own_rows end m n c)
+        unfolding own_rows own_step
+        own_late zero c a = tt
+        own_late (suc n) c a = subst (AllSendLate s end) (sym (rows_first end m n c))
+            (by_event (λ b h. own_late n b h) (before end (next_event m c)) refl)
+          where
+            by_event : ((b : PlainCell) → Above FromTime m b → AllSendLate s end (own_rows end m n b)) → (o : Option Event)
+                → before end (next_event m c) ≡ o → AllSendLate s end (rows_by end m n (own_step end m c))
+            by_event again None h = subst (λ o. AllSendLate s end (rows_by end m n (step_at o))) (sym h) tt
+            by_event again (Some e) h =
+                let b = subst (OnEvent (IsAbove FromTime m)) h
+                (before_on (IsAbove FromTime m) end (next_event m c) (next_above FromTime m c a)) in
+                let from : start ≤ e.key.time = b.0 in
+                let of_m : e.key.member ≡ m = subst (IsOf m) h (before_of m end (next_event m c) (next_event_of m c)) in
+                subst (λ o. AllSendLate s end (rows_by end m n (step_at o))) (sym h)
+                (elim (step_at (Some e)) as (λ o. step_at (Some e) ≡ o → AllSendLate s end (rows_by end m n (step_at (Some e)))) [
+                  | Idle ↦ λ x. subst (λ o. AllSendLate s end (rows_by end m n o)) (sym x) tt
+                  | Full ↦ λ x. subst (λ o. AllSendLate s end (rows_by end m n o)) (sym x) tt
+                  | Spent ↦ λ x. subst (λ o. AllSendLate s end (rows_by end m n o)) (sym x) tt
+                  | Done d ↦ λ x. subst (λ o. AllSendLate s end (rows_by end m n o)) (sym x) (
+                    sends_late e.key.time d.row from (subst (IsStepOf m) x (step_at_of m (Some e) of_m)).1
+                        (subst (OnStep (RowOf e.key)) x (row_step e)).1,
+                    again d.cell (subst (OnStep (λ d. Above FromTime m d.cell)) x
+                        (step_above FromTime m e.key.time (λ k l. omega arith) e refl b.1)),
+                  )
+                ] refl)
 
   pub above_time : (k : Key) (m : ℕ) (c : PlainCell) → Above (NotBefore k) m c → Above (λ l. k.time ≤ l.time) m c
   above_time k m c a = above_weaker (NotBefore k) (λ l. k.time ≤ l.time) (λ l h. not_before_time k l h) m c a
@@ -370,7 +374,7 @@ module _ (s : Setting) (fit : IsFit s) where
   -- an end that no member's next event, with the way from it to any other, falls short of is safe
   pub promise_safe : (cs : List PlainCell) → Good cs → (end : ℕ)
       → ((m : ℕ) (c : PlainCell) (e : Event) → slice_get cs m ≡ Some c → next_event m c ≡ Some e → Silent c.holds
-          ⊎ ((b : ℕ) → b < s.traffic.members → b ≢ m → end ≤ e.key.time + s.traffic.distance m b))
+      ⊎ ((b : ℕ) → b < s.traffic.members → b ≢ m → end ≤ e.key.time + s.traffic.distance m b))
       → Safe s end cs
   promise_safe cs good end promise m c g n = elim (next_event m c) as (λ o. next_event m c ≡ o → AllSendLate s end (own_rows end m n c)) [
     | None ↦ λ h. idle_late end m n c h

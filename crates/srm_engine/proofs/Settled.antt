@@ -1,6 +1,6 @@
 -- The cells after a step, one by one, and after the steps of two members.
-use Rattle.std.proofs.Common.{◌≡◌, ℕ, zero, suc, ◌+◌, true, false, cond, List, [], ◌∷◌, refl, sym, ap, ◌∙◌, ◌≢◌, arith, eqb-true, ◌==◌,
-    option_map, slice_get, add-zero}
+use Rattle.std.proofs.Common.{◌≡◌, ℕ, zero, suc, ◌+◌, true, false, cond, List, [], ◌∷◌, refl, sym, ap, ◌∙◌, ◌≢◌, arith, eqb-true, ◌==◌}
+use Rattle.std.proofs.Common.{option_map, slice_get, add-zero}
 use Rattle.std.proofs.Common.{zero-add}
 use Rattle.srm_cell.proofs.CellLemmas.{stepped_map}
 use Rattle.srm_cell.proofs.CellSteps.{SentBy, told_comm}
@@ -38,14 +38,14 @@ module _ (s : Setting) where
         elim (i == a) as (λ x. (i == a) ≡ x → at_member b b_later i (at_member a da i c) ≡ at_member a a_later i (at_member b db i c)) [
           | true ↦ λ ia. elim (i == b) as (λ y. (i == b) ≡ y → at_member b b_later i (at_member a da i c)
               ≡ at_member a a_later i (at_member b db i c)) [
-            | true ↦ λ ib. absurd (ne (sym (eqb-true _ _ ia) ∙ eqb-true _ _ ib))
-            | false ↦ λ ib. simp (ia, ib) (ap (λ k. told_to s.traffic db.row.sent k da.cell) (eqb-true _ _ ia))
-          ] refl
+                | true ↦ λ ib. absurd (ne (sym (eqb-true _ _ ia) ∙ eqb-true _ _ ib))
+                | false ↦ λ ib. simp (ia, ib) (ap (λ k. told_to s.traffic db.row.sent k da.cell) (eqb-true _ _ ia))
+              ] refl
           | false ↦ λ ia. elim (i == b) as (λ y. (i == b) ≡ y → at_member b b_later i (at_member a da i c)
               ≡ at_member a a_later i (at_member b db i c)) [
-            | true ↦ λ ib. simp (ia, ib) (ap (λ k. told_to s.traffic da.row.sent k db.cell) (sym (eqb-true _ _ ib)))
-            | false ↦ λ ib. simp (ia, ib) (told_comm s.traffic b a (λ e. ne (sym e)) db.row.sent da.row.sent hb ha i c)
-          ] refl
+                | true ↦ λ ib. simp (ia, ib) (ap (λ k. told_to s.traffic da.row.sent k db.cell) (sym (eqb-true _ _ ib)))
+                | false ↦ λ ib. simp (ia, ib) (told_comm s.traffic b a (λ e. ne (sym e)) db.row.sent da.row.sent hb ha i c)
+              ] refl
         ] refl
 
     pub swap_cells : (i : ℕ) (cs : List PlainCell) → settled s b b_later i (settled s a da i cs)

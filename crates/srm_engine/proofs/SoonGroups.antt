@@ -1,7 +1,7 @@
 -- How soon something is due in each group, after own runs and after packets were heard.
-use Rattle.std.proofs.Common.{◌≡◌, ◌⊎◌, inl, inr, ℕ, zero, suc, ◌+◌, ◌-◌, ◌*◌, ◌/◌, ◌%◌, ◌<◌, ◌≤◌, ◌==◌, true, false, cond, List, [], ◌∷◌,
-    ◌++◌, Option, Some, None, Ordering, Less, Equal, Greater, refl, sym, ap, ◌∙◌, subst, arith, slice_get, slice_set, get_or, length,
-    length-append, append-nil, take, drop, nat_lt, le-ltb, eqb-true, zero-add}
+use Rattle.std.proofs.Common.{◌≡◌, ◌⊎◌, inl, inr, ℕ, zero, suc, ◌+◌, ◌-◌, ◌*◌, ◌/◌, ◌%◌, ◌<◌, ◌≤◌, ◌==◌, true, false, cond, List, [], ◌∷◌}
+use Rattle.std.proofs.Common.{◌++◌, Option, Some, None, Ordering, Less, Equal, Greater, refl, sym, ap, ◌∙◌, subst, arith, slice_get}
+use Rattle.std.proofs.Common.{slice_set, get_or, length, length-append, append-nil, take, drop, nat_lt, le-ltb, eqb-true, zero-add}
 use Rattle.std.proofs.Math.Nat.{suc-mul}
 use Rattle.std.proofs.lemmas.Bool.{eqb-false}
 use Rattle.std.proofs.lemmas.Bool.Decides.{nat_tests}
@@ -121,18 +121,18 @@ pub as_many_kept : {A : Type 0} (s : Setting) (cut : ℕ) (gs : List (Vec A)) (x
     → length (all_in gs) ≡ length ps → AreSoonest s cut xs ps → length gs ≤ length xs
 as_many_kept s cut gs xs ps pos cuts all soon = elim (nat_lt (length xs) (length gs)) as
     (λ b. nat_lt (length xs) (length gs) ≡ b → length gs ≤ length xs) [
-  | true ↦ λ e.
-      let k = length xs in
-      let lt : k < length gs = grind (arith, nat_tests) in
-      let d = there gs k lt in
-      let at = group_within cut gs k d.0 pos cuts lt in
-      let some = at.some in
-      let within = at.within in
-      let below = soon.many (k * cut + 0) (omega arith) in
-      let is = div-mul-add k cut 0 pos in
-      absurd (omega (arith, is))
-  | false ↦ λ e. grind (arith, nat_tests)
-] refl
+      | true ↦ λ e.
+          let k = length xs in
+          let lt : k < length gs = grind (arith, nat_tests) in
+          let d = there gs k lt in
+          let at = group_within cut gs k d.0 pos cuts lt in
+          let some = at.some in
+          let within = at.within in
+          let below = soon.many (k * cut + 0) (omega arith) in
+          let is = div-mul-add k cut 0 pos in
+          absurd (omega (arith, is))
+      | false ↦ λ e. grind (arith, nat_tests)
+    ] refl
 
 -- ---- after own runs
 
@@ -197,7 +197,7 @@ heard_no_later m p at c (Some q) h u e = by _ refl (stands_heard m p at c (Some 
 
     by : (r : Ordering) → key_cmp (arriving m at p.id).key q.key ≡ r
         → Stands m (hear_at p (Some at) c) (cond (is_gt (key_cmp (arriving m at p.id).key q.key)) (Some q) (Some (arriving m at p.id)))
-            (next_event m (hear_at p (Some at) c))
+        (next_event m (hear_at p (Some at) c))
         → (v : ℕ) × (due m (hear_at p (Some at) c) ≡ Some v) × (v ≤ u)
     by Less k t = of (arriving m at p.id) (first_le (arriving m at p.id).key q.key (λ g. let x : Less ≡ Greater = sym k ∙ g in cc))
         (rw k at t)
@@ -245,9 +245,10 @@ module _ {A : Type 0} (N O : ℕ → A → Type 0) (xs : List A) (k : ℕ)
   one_kept kept j x g = elim (k == j) as (λ b. (k == j) ≡ b → (j < k + 1 → N j x) × (k + 1 ≤ j → O j x)) [
     | true ↦ λ e.
         let here : k ≡ j = eqb-true k j e in
-        let old = (each j x g).1 (omega arith) in
-        ((λ le. subst (λ i. N i x) here (kept x (ap (slice_get xs) here ∙ g) (subst (λ i. O i x) (sym here) old))),
-            (λ le. absurd (omega arith)))
+        let old = (each j x g).1 (omega arith) in (
+          (λ le. subst (λ i. N i x) here (kept x (ap (slice_get xs) here ∙ g) (subst (λ i. O i x) (sym here) old))),
+          (λ le. absurd (omega arith)),
+        )
     | false ↦ λ e.
         let ne = eqb-false k j e in
         let old = each j x g in
@@ -256,26 +257,26 @@ module _ {A : Type 0} (N O : ℕ → A → Type 0) (xs : List A) (k : ℕ)
 
 module _ {X : Type 0} {H : X → Type 0} (f : DynBox X Global H → Record) (cut : ℕ) (gs : List (Vec (Cell X H))) (ps : List PlainCell)
     (results : List OwnResult) (pos : 0 < cut) (end : ℕ) (alone : AreOwnRuns end 0 ps results) (h : AreGrouped f cut gs (cells_in results))
-    where
-  -- each group was looked through again, or has no cells
-  pub all_looked : (s : Setting) (xs ys : List Soonest) (place : ℕ) → length gs ≤ place → length ys ≡ length xs → length gs ≤ length xs
-      → AreSoonest s cut xs ps
-      → ((j : ℕ) (x : Soonest) → slice_get ys j ≡ Some x
-      → (j < place → IsSoonest s (λ m. m / cut ≡ j) (cells_in results) x) × (place ≤ j → IsSoonest s (λ m. m / cut ≡ j) ps x))
-      → AreSoonest s cut ys (cells_in results)
-  all_looked s xs ys place past same many soon each = record {
-    many = λ m lt. let below = group_below f cut gs (cells_in results) pos h m lt in omega arith;
-    each = λ k x g. elim (nat_lt k place) as (λ b. nat_lt k place ≡ b → IsSoonest s (λ m. m / cut ≡ k) (cells_in results) x) [
-      | true ↦ λ e. (each k x g).0 (grind (arith, nat_tests))
-      | false ↦ λ e.
-          let le : place ≤ k = grind (arith, nat_tests) in
-          soon_same_cells s (λ m. m / cut ≡ k) ps (cells_in results) x
-          (λ m c p get.
-          let long = as_many_results end 0 ps results alone in
-          let below = group_below f cut gs (cells_in results) pos h m (let lt = get_below ps m c get in omega arith) in
-          absurd (omega (arith, p)))
-          (λ m c p get. let below = group_below f cut gs (cells_in results) pos h m (get_below (cells_in results) m c get) in
-              absurd (omega (arith, p)))
-          ((each k x g).1 le)
-    ] refl;
-  }
+  where
+    -- each group was looked through again, or has no cells
+    pub all_looked : (s : Setting) (xs ys : List Soonest) (place : ℕ) → length gs ≤ place → length ys ≡ length xs → length gs ≤ length xs
+        → AreSoonest s cut xs ps
+        → ((j : ℕ) (x : Soonest) → slice_get ys j ≡ Some x
+        → (j < place → IsSoonest s (λ m. m / cut ≡ j) (cells_in results) x) × (place ≤ j → IsSoonest s (λ m. m / cut ≡ j) ps x))
+        → AreSoonest s cut ys (cells_in results)
+    all_looked s xs ys place past same many soon each = record {
+      many = λ m lt. let below = group_below f cut gs (cells_in results) pos h m lt in omega arith;
+      each = λ k x g. elim (nat_lt k place) as (λ b. nat_lt k place ≡ b → IsSoonest s (λ m. m / cut ≡ k) (cells_in results) x) [
+        | true ↦ λ e. (each k x g).0 (grind (arith, nat_tests))
+        | false ↦ λ e.
+            let le : place ≤ k = grind (arith, nat_tests) in
+            soon_same_cells s (λ m. m / cut ≡ k) ps (cells_in results) x
+            (λ m c p get.
+            let long = as_many_results end 0 ps results alone in
+            let below = group_below f cut gs (cells_in results) pos h m (let lt = get_below ps m c get in omega arith) in
+            absurd (omega (arith, p)))
+            (λ m c p get. let below = group_below f cut gs (cells_in results) pos h m (get_below (cells_in results) m c get) in
+            absurd (omega (arith, p)))
+            ((each k x g).1 le)
+      ] refl;
+    }

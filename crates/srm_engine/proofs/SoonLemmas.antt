@@ -1,6 +1,6 @@
 -- How soon something is due in the cells of some members.
-use Rattle.std.proofs.Common.{◌≡◌, ◌⊎◌, inl, inr, ℕ, zero, suc, ◌+◌, ◌/◌, ◌<◌, ◌≤◌, ◌==◌, min, true, false, List, [], ◌∷◌, Option, Some,
-    None, refl, sym, ap, ◌∙◌, subst, arith, slice_get, slice_set, length, nat_le, eqb-true}
+use Rattle.std.proofs.Common.{◌≡◌, ◌⊎◌, inl, inr, ℕ, zero, suc, ◌+◌, ◌/◌, ◌<◌, ◌≤◌, ◌==◌, min, true, false, List, [], ◌∷◌, Option, Some}
+use Rattle.std.proofs.Common.{None, refl, sym, ap, ◌∙◌, subst, arith, slice_get, slice_set, length, nat_le, eqb-true}
 use Rattle.std.proofs.lemmas.Bool.{eqb-false}
 use Rattle.std.proofs.lemmas.Bool.Decides.{nat_tests}
 use Rattle.std.proofs.lemmas.Option.{slice_get_within}
@@ -80,7 +80,7 @@ module _ (g : ℕ → PlainCell → Option ℕ) (n : ℕ) where
       by : (least_with t (g (i + k) p) ≡ t) ⊎ (g (i + k) p ≡ Some (least_with t (g (i + k) p)))
           → (t ≡ n) ⊎ ((m : ℕ) × (c : PlainCell) × IsAmong i k m × (slice_get ps m ≡ Some c) × (g m c ≡ Some t))
           → (least_with t (g (i + k) p) ≡ n) ⊎ ((m : ℕ) × (c : PlainCell) × IsAmong i (k + 1) m × (slice_get ps m ≡ Some c)
-              × (g m c ≡ Some (least_with t (g (i + k) p))))
+          × (g m c ≡ Some (least_with t (g (i + k) p))))
       by (inr e) old = inr (i + k, p, (omega arith, omega arith), at, e)
       by (inl e) (inl was) = inl (e ∙ was)
       by (inl e) (inr a) = let x = a.2.0 in let y = a.2.1 in inr (a.0, a.1, (x, omega arith), a.3, a.4 ∙ ap Some (sym e))
@@ -96,7 +96,7 @@ module _ (g : ℕ → PlainCell → Option ℕ) (n : ℕ) where
         | true ↦ λ x.
             let here : m ≡ j = eqb-true m j x in
             let same : c ≡ r = same_some c r (sym get ∙ ap (slice_get (slice_set ps m r)) (sym here)
-                ∙ get_set_same ps m r (get_below ps m q at)) in
+            ∙ get_set_same ps m r (get_below ps m q at)) in
             with_in t u (g m r) (subst (λ d. g m d ≡ Some u) same (subst (λ k. g k c ≡ Some u) (sym here) e))
         | false ↦ λ x.
             let ne = eqb-false m j x in
@@ -110,22 +110,22 @@ module _ (g : ℕ → PlainCell → Option ℕ) (n : ℕ) where
         by : (least_with t (g m r) ≡ t) ⊎ (g m r ≡ Some (least_with t (g m r)))
             → (t ≡ n) ⊎ ((j : ℕ) × (c : PlainCell) × P j × (slice_get ps j ≡ Some c) × (g j c ≡ Some t))
             → (least_with t (g m r) ≡ n) ⊎ ((j : ℕ) × (c : PlainCell) × P j × (slice_get (slice_set ps m r) j ≡ Some c)
-                × (g j c ≡ Some (least_with t (g m r))))
+            × (g j c ≡ Some (least_with t (g m r))))
         by (inr e) old = inr (m, r, p, get_set_same ps m r (get_below ps m q at), e)
         by (inl e) (inl was) = inl (e ∙ was)
         by (inl e) (inr a) = elim (m == a.0) as (λ b. (m == a.0) ≡ b → (least_with t (g m r) ≡ n)
             ⊎ ((j : ℕ) × (c : PlainCell) × P j × (slice_get (slice_set ps m r) j ≡ Some c) × (g j c ≡ Some (least_with t (g m r))))) [
-          | true ↦ λ x.
-              let here : m ≡ a.0 = eqb-true m a.0 x in
-              let same : a.1 ≡ q = same_some a.1 q (sym a.3 ∙ ap (slice_get ps) (sym here) ∙ at) in
-              let was : g m q ≡ Some t = subst (λ d. g m d ≡ Some t) same (subst (λ k. g k a.1 ≡ Some t) (sym here) a.4) in
-              let now = early t was in
-              let le = now.2 in
-              let low = with_in t now.0 (g m r) now.1 in
-              let is : now.0 ≡ least_with t (g m r) = omega (arith, e) in
-              inr (m, r, p, get_set_same ps m r (get_below ps m q at), now.1 ∙ ap Some is)
-          | false ↦ λ x. inr (a.0, a.1, a.2, get_set_other ps m a.0 r (eqb-false m a.0 x) ∙ a.3, a.4 ∙ ap Some (sym e))
-        ] refl
+              | true ↦ λ x.
+                  let here : m ≡ a.0 = eqb-true m a.0 x in
+                  let same : a.1 ≡ q = same_some a.1 q (sym a.3 ∙ ap (slice_get ps) (sym here) ∙ at) in
+                  let was : g m q ≡ Some t = subst (λ d. g m d ≡ Some t) same (subst (λ k. g k a.1 ≡ Some t) (sym here) a.4) in
+                  let now = early t was in
+                  let le = now.2 in
+                  let low = with_in t now.0 (g m r) now.1 in
+                  let is : now.0 ≡ least_with t (g m r) = omega (arith, e) in
+                  inr (m, r, p, get_set_same ps m r (get_below ps m q at), now.1 ∙ ap Some is)
+              | false ↦ λ x. inr (a.0, a.1, a.2, get_set_other ps m a.0 r (eqb-false m a.0 x) ∙ a.3, a.4 ∙ ap Some (sym e))
+            ] refl
 
     -- the cells of these members are the same
     pub same_cells : (ps qs : List PlainCell) (t : ℕ) → ((m : ℕ) (c : PlainCell) → P m → slice_get ps m ≡ Some c → slice_get qs m ≡ Some c)
@@ -203,7 +203,7 @@ module _ (g : ℕ → PlainCell → Option ℕ) (n : ℕ) where
   -- the least of the groups' leasts is that of all
   pub best_is_least : (h : Soonest → ℕ) (cut : ℕ) (xs : List Soonest) (ps : List PlainCell) (k best : ℕ) → length xs ≤ k
       → ((m : ℕ) → m < length ps → m / cut < length xs) →
-          ((j : ℕ) (x : Soonest) → slice_get xs j ≡ Some x → IsLeast g (λ m. m / cut ≡ j) n ps (h x))
+      ((j : ℕ) (x : Soonest) → slice_get xs j ≡ Some x → IsLeast g (λ m. m / cut ≡ j) n ps (h x))
       → BestOf n h xs k best → IsLeast g Any n ps best
   best_is_least h cut xs ps k best all many each b = record {
     most = b.most;
@@ -252,7 +252,7 @@ module _ (s : Setting) where
   -- one cell more
   pub soon_more : (i k : ℕ) (ps : List PlainCell) (x y : Soonest) (p : PlainCell) (next way : Option ℕ) → slice_get ps (i + k) ≡ Some p
       → next ≡ due (i + k) p → way ≡ way_of s (i + k) → y.time ≡ least_with x.time next → y.promise
-          ≡ least_with x.promise (promise_by next way)
+      ≡ least_with x.promise (promise_by next way)
       → IsSoonest s (IsAmong i k) ps x → IsSoonest s (IsAmong i (k + 1)) ps y
   soon_more i k ps x y p next way at n w t r h = record {
     time = subst (λ u. IsLeast due (IsAmong i (k + 1)) s.traffic.until ps u) (sym (t ∙ ap (least_with x.time) n))
@@ -273,7 +273,7 @@ module _ (s : Setting) where
     promise = subst (λ u. IsLeast (promised s) P s.traffic.until (slice_set ps m r) u)
         (sym (v ∙ (λ j. least_with x.promise (promise_by (n j) (w j)))))
         (sooner_at (promised s) s.traffic.until P ps x.promise m q r p at
-            (no_later_promise (due m q) (due m r) (way_of s m) early) h.promise);
+        (no_later_promise (due m q) (due m r) (way_of s m) early) h.promise);
   }
 
   pub soon_same_cells : (P : ℕ → Type 0) (ps qs : List PlainCell) (x : Soonest)
@@ -308,10 +308,10 @@ module _ (s : Setting) where
       | true ↦ λ e.
           let same : k ≡ j = eqb-true k j e in
           let is : y ≡ z = same_some y z (sym (get_set_same xs k y (slice_get_within xs k x here)) ∙ ap (slice_get (slice_set xs k y)) same
-              ∙ g) in
+          ∙ g) in
           subst (λ (a : Soonest). IsSoonest s (λ i. i / cut ≡ j) (slice_set ps m r) a) is
           (soon_heard (λ i. i / cut ≡ j) ps x y m q r next way (at ∙ same)
-              get early n w t v (h.each j x (ap (slice_get xs) (sym same) ∙ here)))
+          get early n w t v (h.each j x (ap (slice_get xs) (sym same) ∙ here)))
       | false ↦ λ e.
           let ne = eqb-false k j e in
           soon_same_cells (λ i. i / cut ≡ j) ps (slice_set ps m r) z

@@ -1,7 +1,7 @@
 -- The step of the engine is the step of the model.
-use Rattle.std.proofs.Common.{◌≡◌, ◌≢◌, ℕ, suc, ◌+◌, ◌<◌, ◌≤◌, ◌^◌, Bool, true, false, cond, List, [], ◌∷◌, ◌++◌, length, Option, Some,
-    None, option_map, refl, sym, ap, ◌∙◌, subst, slice_get, slice_set, nat_le, nat_lt, ◌==◌, eqb-true, eq-eqb, lt-ltb, le-ltb, le_refl,
-    arith, zero-add, Ordering, Less, Equal, Greater}
+use Rattle.std.proofs.Common.{◌≡◌, ◌≢◌, ℕ, suc, ◌+◌, ◌<◌, ◌≤◌, ◌^◌, Bool, true, false, cond, List, [], ◌∷◌, ◌++◌, length, Option, Some}
+use Rattle.std.proofs.Common.{None, option_map, refl, sym, ap, ◌∙◌, subst, slice_get, slice_set, nat_le, nat_lt, ◌==◌, eqb-true, eq-eqb}
+use Rattle.std.proofs.Common.{lt-ltb, le-ltb, le_refl, arith, zero-add, Ordering, Less, Equal, Greater}
 use Rattle.std.proofs.lemmas.Bool.{eqb-false}
 use Rattle.std.proofs.lemmas.Bool.Decides.{nat_tests}
 use Rattle.std.proofs.lemmas.Cmp.{ranked, by_ranked}
@@ -16,8 +16,8 @@ use Rattle.srm_member.specs.declared.row.Row.{Row}
 use Rattle.srm_cell.specs.Setting.{Setting, IsFit, arrival_of}
 use Rattle.srm_cell.specs.Flights.{BringsNone}
 use Rattle.srm_cell.specs.Crossings.{packets_of}
-use Rattle.srm_cell.specs.Cells.{PlainCell, Event, by_key, earlier, next_event, time_of, before, Idle, Full, Spent, Done, Stepped, step_at,
-    own_step, hear}
+use Rattle.srm_cell.specs.Cells.{PlainCell, Event, by_key, earlier, next_event, time_of, before, Idle, Full, Spent, Done, Stepped, step_at}
+use Rattle.srm_cell.specs.Cells.{own_step, hear}
 use Rattle.srm_cell.specs.OwnRuns.{told_to}
 use Rattle.srm_cell.proofs.CellSteps.{IsOf, IsStepOf, next_event_of, step_at_of, SentBy, before_some, some_not_idle}
 use Rattle.srm_cell.proofs.Rising.{SentAt}
@@ -73,23 +73,23 @@ key_first : (k l : Key) (b : Bool) → nat_le k.time l.time ≡ b → k.member <
 key_first k l true h lt =
     let le : k.time ≤ l.time = grind (arith, nat_tests) in
     by_ranked (k.time < l.time) (k.time ≡ l.time) (l.time < k.time) (nat_cmp k.time l.time)
-        (ranked k.time l.time (nat_cmp k.time l.time) refl)
+    (ranked k.time l.time (nat_cmp k.time l.time) refl)
     (λ e g. ap (λ o. ordering_then o (slice_cmp nat_cmp (k.member ∷ k.rank ∷ k.a ∷ k.b ∷ k.c ∷ [])
-        (l.member ∷ l.rank ∷ l.a ∷ l.b ∷ l.c ∷ []))) e)
+    (l.member ∷ l.rank ∷ l.a ∷ l.b ∷ l.c ∷ []))) e)
     (λ e g. ap (λ o. ordering_then o (slice_cmp nat_cmp (k.member ∷ k.rank ∷ k.a ∷ k.b ∷ k.c ∷ [])
-        (l.member ∷ l.rank ∷ l.a ∷ l.b ∷ l.c ∷ []))) e
+    (l.member ∷ l.rank ∷ l.a ∷ l.b ∷ l.c ∷ []))) e
     ∙ by_ranked (k.member < l.member) (k.member ≡ l.member) (l.member < k.member) (nat_cmp k.member l.member)
-        (ranked k.member l.member (nat_cmp k.member l.member) refl)
+    (ranked k.member l.member (nat_cmp k.member l.member) refl)
     (λ f u. ap (λ o. ordering_then o (slice_cmp nat_cmp (k.rank ∷ k.a ∷ k.b ∷ k.c ∷ []) (l.rank ∷ l.a ∷ l.b ∷ l.c ∷ []))) f)
     (λ f u. absurd (omega arith)) (λ f u. absurd (omega arith)))
     (λ e g. absurd (omega arith))
 key_first k l false h lt =
     let gt : l.time < k.time = grind (arith, nat_tests) in
     by_ranked (k.time < l.time) (k.time ≡ l.time) (l.time < k.time) (nat_cmp k.time l.time)
-        (ranked k.time l.time (nat_cmp k.time l.time) refl)
+    (ranked k.time l.time (nat_cmp k.time l.time) refl)
     (λ e g. absurd (omega arith)) (λ e g. absurd (omega arith))
     (λ e g. ap (λ o. ordering_then o (slice_cmp nat_cmp (k.member ∷ k.rank ∷ k.a ∷ k.b ∷ k.c ∷ [])
-        (l.member ∷ l.rank ∷ l.a ∷ l.b ∷ l.c ∷ []))) e)
+    (l.member ∷ l.rank ∷ l.a ∷ l.b ∷ l.c ∷ []))) e)
 
 -- the next time of one member, and the least of those after it
 one_more : (i : ℕ) (ts : List (Option ℕ)) (x y : Option Event) → IsOf i x → FromOn (suc i) y → least_time (suc i) ts
@@ -163,7 +163,7 @@ module _ (s : Setting) (w : World) (ts : List (Option ℕ)) (times : AreTimes ts
         let time = found.2 in
         let late : s.traffic.until ≤ found.0.key.time = omega arith in
         step_none s s.traffic.until within w (ap (before s.traffic.until) found.1
-            ∙ ap (λ b. cond b (Some found.0) None) (le-ltb found.0.key.time s.traffic.until late))
+        ∙ ap (λ b. cond b (Some found.0) None) (le-ltb found.0.key.time s.traffic.until late))
 
     module _ (early : t < s.traffic.until) where
       pub event : Event
@@ -194,7 +194,7 @@ module _ (s : Setting) (w : World) (ts : List (Option ℕ)) (times : AreTimes ts
           by (Some p) g = (p, g)
           by None g = absurd (some_not_idle event (sym (ap (own_of s.traffic.until m) (sym g)
               ∙ ap (λ k. own_of s.traffic.until k (slice_get w.cells k)) (sym member_is)
-                  ∙ least_own s.traffic.until w.cells event is_least)))
+              ∙ least_own s.traffic.until w.cells event is_least)))
 
       pub step_by : (p : PlainCell) → slice_get w.cells m ≡ Some p → step s w ≡ after_step s w m (own_step s.traffic.until m p)
       step_by p g = step_is s s.traffic.until within w event is_least ∙ ap (λ k. after_step s w k (step_at (Some event))) member_is
@@ -228,10 +228,10 @@ module _ (s : Setting) (m : ℕ) (d : Stepped) (cs : List PlainCell) (lt : m < l
       let c = there cs m lt in
       let at : slice_get cs j ≡ Some c.0 = ap (slice_get cs) (sym e) ∙ c.1 in
       let now : slice_get (slice_set cs m d.cell) j ≡ Some d.cell = ap (slice_get (slice_set cs m d.cell)) (sym e)
-          ∙ get_set_same cs m d.cell lt in
+      ∙ get_set_same cs m d.cell lt in
       let yes : (j == m) ≡ true = eq-eqb j m (sym e) in
       ap (option_map (at_member s m d j)) at ∙ ap (λ b. Some (cond b d.cell (told_to s.traffic d.row.sent j c.0))) yes ∙ ap Some (sym same)
-          ∙ sym (ap (option_map f) now)
+      ∙ sym (ap (option_map f) now)
 
   elsewhere : (j : ℕ) (f : PlainCell → PlainCell) → m ≢ j → ((c : PlainCell) → told_to s.traffic d.row.sent j c ≡ f c) → Placed j f
   elsewhere j f ne same =
@@ -263,9 +263,9 @@ module _ (s : Setting) (m : ℕ) (d : Stepped) (cs : List PlainCell) (lt : m < l
       by_sent : (o : Option Packet) → d.row.sent ≡ o → SentBy m o → settled s m d 0 cs ≡ all_hear s.traffic o (slice_set cs m d.cell)
       by_sent None e b = same_list _ _ (λ j. nobody j ∙ elim (m == j) as
           (λ t. (m == j) ≡ t → option_map (at_member s m d j) (slice_get cs j) ≡ slice_get (slice_set cs m d.cell) j) [
-        | true ↦ λ q. here j (λ c. c) (eqb-true m j q) refl ∙ plain (slice_get (slice_set cs m d.cell) j)
-        | false ↦ λ q. elsewhere j (λ c. c) (eqb-false m j q) (λ c. told None e j c) ∙ plain (slice_get (slice_set cs m d.cell) j)
-      ] refl)
+            | true ↦ λ q. here j (λ c. c) (eqb-true m j q) refl ∙ plain (slice_get (slice_set cs m d.cell) j)
+            | false ↦ λ q. elsewhere j (λ c. c) (eqb-false m j q) (λ c. told None e j c) ∙ plain (slice_get (slice_set cs m d.cell) j)
+          ] refl)
         where
           plain : (o : Option PlainCell) → option_map (λ c. c) o ≡ o
           plain None = refl
@@ -273,10 +273,11 @@ module _ (s : Setting) (m : ℕ) (d : Stepped) (cs : List PlainCell) (lt : m < l
       by_sent (Some p) e b = same_list _ _ (λ j. nobody j ∙ elim (m == j)
           as (λ t. (m == j) ≡ t → option_map (at_member s m d j) (slice_get cs j)
           ≡ slice_get (heard_below s.traffic p (length (slice_set cs m d.cell)) 0 (slice_set cs m d.cell)) j) [
-        | true ↦ λ q. here j (hear s.traffic p j) (eqb-true m j q) (ap (λ k. hear s.traffic p k d.cell) (sym (eqb-true m j q)) ∙ silent p b)
-            ∙ heard j
-        | false ↦ λ q. elsewhere j (hear s.traffic p j) (eqb-false m j q) (λ c. told (Some p) e j c) ∙ heard j
-      ] refl)
+            | true ↦ λ q. here j (hear s.traffic p j) (eqb-true m j q)
+                (ap (λ k. hear s.traffic p k d.cell) (sym (eqb-true m j q)) ∙ silent p b)
+                ∙ heard j
+            | false ↦ λ q. elsewhere j (hear s.traffic p j) (eqb-false m j q) (λ c. told (Some p) e j c) ∙ heard j
+          ] refl)
         where
           heard : (j : ℕ) → option_map (hear s.traffic p j) (slice_get (slice_set cs m d.cell) j)
               ≡ slice_get (heard_below s.traffic p (length (slice_set cs m d.cell)) 0 (slice_set cs m d.cell)) j
@@ -290,7 +291,7 @@ module _ (s : Setting) (m : ℕ) (d : Stepped) (cs : List PlainCell) (lt : m < l
                   let lt : j < length (slice_set cs m d.cell) = get_below (slice_set cs m d.cell) j c g in
                   let yes : nat_lt j (length (slice_set cs m d.cell)) ≡ true = lt-ltb j (length (slice_set cs m d.cell)) lt in
                   sym (ap (λ k. Some (if_below s.traffic p (length (slice_set cs m d.cell)) k c)) (zero-add j)
-                      ∙ ap (λ t. Some (cond t (hear s.traffic p j c) c)) yes)
+                  ∙ ap (λ t. Some (cond t (hear s.traffic p j c) c)) yes)
 
 -- ---- what a step may send
 
@@ -315,7 +316,7 @@ module _ (s : Setting) (fit : IsFit s) (w : World) (reached : IsReached s w) (e 
       by : (o : Option Packet) → d.row.sent ≡ o → SentBy e.key.member o → SentAt e.key.time o → e.key.member < length w.cells
           → length w.cells ≡ s.traffic.members
           → ((p : Packet) → d.row.sent ≡ Some p → (j : ℕ) (q : PlainCell) → slice_get (slice_set w.cells e.key.member d.cell) j ≡ Some q
-              → BringsNone p.id q.inbox)
+          → BringsNone p.id q.inbox)
           → MaySend s.traffic.members (slice_set w.cells e.key.member d.cell) (packets_of w.trace) o
       by None q sb sa lt len new = tt
       by (Some p) q sb sa lt len new =
@@ -355,12 +356,18 @@ packets_more (q ∷ rows) r = ap (cons_option q.sent) (packets_more rows r) ∙ 
 
 pub reached_more : (s : Setting) (w v : World) → IsReached s w → step s w ≡ Done v → IsReached s v
 unfolding run
-reached_more s w v r h = (r.0 + 1, run_on s r.0 1 (opening s) w r.1 ∙ run_first s s.traffic.until (le_refl s.traffic.until) 0 w
-    ∙ ap (run_by s s.traffic.until (le_refl s.traffic.until) 0) h)
+reached_more s w v r h = (
+  r.0 + 1,
+  run_on s r.0 1 (opening s) w r.1 ∙ run_first s s.traffic.until (le_refl s.traffic.until) 0 w
+      ∙ ap (run_by s s.traffic.until (le_refl s.traffic.until) 0) h,
+)
 
 pub meets_full : (s : Setting) (w : World) → IsReached s w → step s w ≡ Full → RunMeetsFull s
-meets_full s w r h = (r.0 + 1, run_on s r.0 1 (opening s) w r.1 ∙ run_first s s.traffic.until (le_refl s.traffic.until) 0 w
-    ∙ ap (run_by s s.traffic.until (le_refl s.traffic.until) 0) h)
+meets_full s w r h = (
+  r.0 + 1,
+  run_on s r.0 1 (opening s) w r.1 ∙ run_first s s.traffic.until (le_refl s.traffic.until) 0 w
+      ∙ ap (run_by s s.traffic.until (le_refl s.traffic.until) 0) h,
+)
 
 pub opening_reached : (s : Setting) → IsReached s (opening s)
 unfolding run

@@ -1,15 +1,15 @@
 -- The keys of the sequential run rise strictly.
-use Rattle.std.proofs.Common.{◌≡◌, ℕ, zero, suc, ◌<◌, ◌≤◌, ◌+◌, Bool, true, false, cond, List, [], ◌∷◌, length, refl, sym, ap, ◌∙◌, subst,
-    ◌≢◌, inl, inr, arith, Ordering, Less, Equal, Greater, Option, Some, None, option_map, is_lt, slice_get, true≢false, eqb-true, ◌==◌,
-    le_refl, eq-eqb, zero-add}
+use Rattle.std.proofs.Common.{◌≡◌, ℕ, zero, suc, ◌<◌, ◌≤◌, ◌+◌, Bool, true, false, cond, List, [], ◌∷◌, length, refl, sym, ap, ◌∙◌, subst}
+use Rattle.std.proofs.Common.{◌≢◌, inl, inr, arith, Ordering, Less, Equal, Greater, Option, Some, None, option_map, is_lt, slice_get}
+use Rattle.std.proofs.Common.{true≢false, eqb-true, ◌==◌, le_refl, eq-eqb, zero-add}
 use Rattle.std.specs.Ordering.{ordering_reverse}
 use Rattle.std.specs.Cmp.{IsTotalOrder}
 use Rattle.srm_cell.proofs.CellSteps.{SentBy, flight_total}
-use Rattle.srm_cell.proofs.Clear.{Besides, CountAfter, Differs, IsDistinct, IsTail, RestOf, StepOf, clear_step, differ_member,
-    later_differs, next_besides, next_rest, step_is_of, then_after}
+use Rattle.srm_cell.proofs.Clear.{Besides, CountAfter, Differs, IsDistinct, IsTail, RestOf, StepOf, clear_step, differ_member}
+use Rattle.srm_cell.proofs.Clear.{later_differs, next_besides, next_rest, step_is_of, then_after}
 use Rattle.srm_cell.proofs.Rising.{Above, IsAbove, OnEvent, OnStep, before_on, next_above, step_above}
-use Rattle.srm_cell.specs.Cells.{arrival_key, mark_key, timer_key, Done, Event, PlainCell, StepOutcome, Stepped, before, hear, hear_at,
-    next_event, step_at}
+use Rattle.srm_cell.specs.Cells.{arrival_key, mark_key, timer_key, Done, Event, PlainCell, StepOutcome, Stepped, before, hear, hear_at}
+use Rattle.srm_cell.specs.Cells.{next_event, step_at}
 use Rattle.srm_cell.proofs.Tidy.{NotBefore, later_not_before}
 use Rattle.srm_cell.specs.Flights.{flight_cmp, numbers_of_flight}
 use Rattle.srm_cell.specs.OwnRuns.{told_to}
@@ -17,8 +17,8 @@ use Rattle.srm_cell.specs.Setting.{HasOwnRanks, IsFit, Setting, arrival_of}
 use Rattle.srm_cell.specs.declared.flight.Flight.{Flight}
 use Rattle.srm_engine.proofs.RunLemmas.{Seq, next, rest, seq_run}
 use Rattle.srm_engine.proofs.ScheduleLemmas.{same_Some}
-use Rattle.srm_engine.proofs.Sequential.{EachCell, Good, StepFacts, above_after, above_all, above_step, each_after, good_opening, good_step,
-    run_seq, step_facts}
+use Rattle.srm_engine.proofs.Sequential.{EachCell, Good, StepFacts, above_after, above_all, above_step, each_after, good_opening, good_step}
+use Rattle.srm_engine.proofs.Sequential.{run_seq, step_facts}
 use Rattle.srm_engine.proofs.Settled.{at_member, get_after}
 use Rattle.srm_engine.specs.Laws.{KeysRise}
 use Rattle.srm_engine.specs.World.{World, least_event, opening, opening_cells, row_cmp, run, settled}
@@ -52,15 +52,15 @@ module _ {A : Type 0} (cmp : A → A → Ordering) (o : IsTotalOrder cmp) where
   ascends_place x [] h g = (tt, tt)
   ascends_place x (y ∷ ys) h g = elim (is_lt (cmp y x)) as
       (λ b. is_lt (cmp y x) ≡ b → Ascends cmp (cond b (y ∷ place cmp x ys) (x ∷ y ∷ ys))) [
-    | true ↦ λ q. (after_place y x ys (is_Less _ q) g.0, ascends_place x ys h.1 g.1)
-    | false ↦ λ q.
-        let less : cmp x y ≡ Less = elim (cmp x y) as (λ r. cmp x y ≡ r → cmp x y ≡ Less) [
-          | Less ↦ λ e. e
-          | Equal ↦ λ e. absurd (h.0 e)
-          | Greater ↦ λ e. absurd (true≢false (sym (ap is_lt (o.antisymm y x ∙ ap ordering_reverse e)) ∙ q))
-        ] refl in
-        ((less, after_less x y ys less g.0), g)
-  ] refl
+        | true ↦ λ q. (after_place y x ys (is_Less _ q) g.0, ascends_place x ys h.1 g.1)
+        | false ↦ λ q.
+            let less : cmp x y ≡ Less = elim (cmp x y) as (λ r. cmp x y ≡ r → cmp x y ≡ Less) [
+              | Less ↦ λ e. e
+              | Equal ↦ λ e. absurd (h.0 e)
+              | Greater ↦ λ e. absurd (true≢false (sym (ap is_lt (o.antisymm y x ∙ ap ordering_reverse e)) ∙ q))
+            ] refl in
+            ((less, after_less x y ys less g.0), g)
+      ] refl
 
 ascends_tail : {A : Type 0} (cmp : A → A → Ordering) (ys xs : List A) → IsTail ys xs → Ascends cmp xs → Ascends cmp ys
 ascends_tail cmp ys xs (inl e) h = subst (Ascends cmp) (sym e) h
@@ -147,7 +147,7 @@ module _ (s : Setting) (fit : IsFit s) where
     here_after =
         let yes : (m == m) ≡ true = eq-eqb _ _ refl in
         get_after s m d m cs ∙ ap (option_map (at_member s m d m)) facts.here
-            ∙ ap (λ b. Some (cond b d.cell (told_to s.traffic d.row.sent m facts.cell))) yes
+        ∙ ap (λ b. Some (cond b d.cell (told_to s.traffic d.row.sent m facts.cell))) yes
 
     pub sent_here : sent_of cs m ≡ e.rest.sent
     unfolding sent_by
@@ -190,8 +190,12 @@ module _ (s : Setting) (fit : IsFit s) where
         let new : sent_of after p.id.sender ≡ d.cell.sent = ap (sent_of after) by ∙ sent_after in
         let up = count.1 in
         let was = count.0 in (
-          record { flights = ascends_place flight_cmp flight_total flight c.inbox (fresh_apart cs flight c.inbox now f) t.flights; marks =
-              t.marks; ranks = t.ranks },
+          record {
+            flights = ascends_place flight_cmp flight_total flight c.inbox (fresh_apart cs flight c.inbox now f) t.flights;
+            marks =
+                t.marks;
+            ranks = t.ranks;
+          },
           AllIn-place (λ (g : Flight). g.packet.id.count < sent_of after g.packet.id.sender) flight_cmp flight c.inbox (omega arith)
               (fresh_after c f),
         )
@@ -214,8 +218,8 @@ module _ (s : Setting) (fit : IsFit s) where
           ranks = subst HasOwnRanks (sym did.script) (ranks_tail _ _ rest_of.script was.ranks);
         } in
         let mine_fresh : IsFresh after d.cell = fresh_after d.cell
-            (subst (AllIn (λ (f : Flight). f.packet.id.count < sent_of cs f.packet.id.sender)) (sym did.inbox)
-            (all_tail _ _ _ rest_of.inbox fresh)) in
+        (subst (AllIn (λ (f : Flight). f.packet.id.count < sent_of cs f.packet.id.sender)) (sym did.inbox)
+        (all_tail _ _ _ rest_of.inbox fresh)) in
         record {
           distinct = each_after s fit (λ j c. IsDistinct c) cs m d mine
               (λ j c g ne. (told_strict d.row.sent refl facts.sender did.count j c (strict.distinct j c g) (strict.fresh j c g)).0);
@@ -247,24 +251,27 @@ module _ (s : Setting) (fit : IsFit s) where
     strictly_after : EachCell s fit (Above (After e.key)) after
     strictly_after =
         let besides = subst (OnEvent (Besides m facts.cell)) facts.event
-            (before_on (Besides m facts.cell) end (next_event m facts.cell)
-            (next_besides m facts.cell (strict.distinct m facts.cell facts.here))) in
+        (before_on (Besides m facts.cell) end (next_event m facts.cell)
+        (next_besides m facts.cell (strict.distinct m facts.cell facts.here))) in
         let clear = subst (OnStep (λ d. Above (Differs e.key) m d.cell)) x
-            (clear_step m facts.cell e (good.sound m facts.cell facts.here) besides) in
+        (clear_step m facts.cell e (good.sound m facts.cell facts.here) besides) in
         let from = above_after s fit end cs e d good h x m d.cell here_after in
         above_step s fit end (After e.key) cs e d good h x
-            (λ k lt. then_after e.key k (later_not_before e.key k lt) (later_differs e.key k lt)) (both e.key m d.cell from clear)
+        (λ k lt. then_after e.key k (later_not_before e.key k lt) (later_differs e.key k lt)) (both e.key m d.cell from clear)
         (λ j c g ne. both e.key j c (above_all s fit end cs e good h j c g) (other_member e.key j c (λ q. ne (sym q))))
 
     still_after : (k : Key) → EachCell s fit (Above (After k)) cs → (After k e.key) × EachCell s fit (Above (After k)) after
     still_after k all =
         let a = subst (OnEvent (IsAbove (After k) m)) facts.event
-            (before_on (IsAbove (After k) m) end (next_event m facts.cell)
-            (next_above (After k) m facts.cell (all m facts.cell facts.here))) in
+        (before_on (IsAbove (After k) m) end (next_event m facts.cell)
+        (next_above (After k) m facts.cell (all m facts.cell facts.here))) in
         let later : (l : Key) → e.key.time < l.time → After k l = λ l lt. key_total.trans k e.key l a.0
-            (then_after e.key l (later_not_before e.key l lt) (later_differs e.key l lt)) in
-        (a.0, above_step s fit end (After k) cs e d good h x later
-            (subst (OnStep (λ d. Above (After k) m d.cell)) x (step_above (After k) m e.key.time later e refl a.1)) (λ j c g ne. all j c g))
+        (then_after e.key l (later_not_before e.key l lt) (later_differs e.key l lt)) in (
+          a.0,
+          above_step s fit end (After k) cs e d good h x later
+              (subst (OnStep (λ d. Above (After k) m d.cell)) x (step_above (After k) m e.key.time later e refl a.1))
+              (λ j c g ne. all j c g),
+        )
 
   seq_after : {end : ℕ} {cs ds : List PlainCell} {rows : List Row} (r : Row) → Seq s end cs rows ds → Good s fit cs → Strict cs
       → EachCell s fit (Above (λ l. key_cmp r.key l ≡ Less)) cs → AllAfter row_cmp r rows
@@ -281,9 +288,11 @@ module _ (s : Setting) (fit : IsFit s) where
       let f = step_facts s fit end cs e d h x in
       let good' = good_step s fit end cs e d good h x in
       let strict' = strict_step end cs e d good strict h x in
-      let all = strictly_after end cs e d good strict h x in
-      (seq_after d.row more good' strict' (subst (λ k. EachCell s fit (Above (λ l. key_cmp k l ≡ Less)) (settled s e.key.member d 0 cs))
-          (sym f.key) all), seq_ascends more good' strict')
+      let all = strictly_after end cs e d good strict h x in (
+        seq_after d.row more good' strict' (subst (λ k. EachCell s fit (Above (λ l. key_cmp k l ≡ Less)) (settled s e.key.member d 0 cs))
+            (sym f.key) all),
+        seq_ascends more good' strict',
+      )
 
   opening_distinct : (n i : ℕ) → i + n ≡ s.traffic.members → (j : ℕ) (c : PlainCell) → slice_get (opening_cells s n i) j ≡ Some c
       → IsDistinct c
@@ -301,8 +310,11 @@ module _ (s : Setting) (fit : IsFit s) where
 
   pub strict_opening : Strict (opening s).cells
   unfolding opening
-  strict_opening = record { distinct = opening_distinct s.traffic.members 0 (zero-add s.traffic.members); fresh =
-      opening_empty (opening_cells s s.traffic.members 0) s.traffic.members 0 }
+  strict_opening = record {
+    distinct = opening_distinct s.traffic.members 0 (zero-add s.traffic.members);
+    fresh =
+        opening_empty (opening_cells s s.traffic.members 0) s.traffic.members 0;
+  }
 
   opening_trace : opening s ≡ record { cells = (opening s).cells; trace = [] }
   unfolding opening
@@ -313,7 +325,7 @@ keys_rise s w fit reached =
     let r = run_seq s fit reached.0 (opening s) w reached.1 in
     let again : run s reached.0 (opening s) ≡ Done (record { cells = w.cells; trace = r.0 }) =
     ap (λ n. run s n (opening s)) (sym r.2) ∙ ap (run s (length r.0)) (opening_trace s fit)
-        ∙ seq_run s s.traffic.until (le_refl s.traffic.until) r.1 [] in
+    ∙ seq_run s s.traffic.until (le_refl s.traffic.until) r.1 [] in
     let same : ◌≡◌ {A = StepOutcome World} (Done (record { cells = w.cells; trace = r.0 })) (Done w) = sym again ∙ reached.1 in
     let worlds : ◌≡◌ {A = World} (record { cells = w.cells; trace = r.0 }) w = cc in
     subst (Ascends row_cmp) (ap (λ (v : World). v.trace) worlds) (seq_ascends s fit r.1 (good_opening s fit) (strict_opening s fit))

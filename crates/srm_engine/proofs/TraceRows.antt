@@ -1,6 +1,7 @@
 -- Rows, packets and counts of a trace that grows by a row.
-use Rattle.std.proofs.Common.{◌≡◌, ℕ, zero, suc, ◌<◌, ◌≤◌, ◌+◌, Bool, true, false, cond, ◌&&◌, List, [], ◌∷◌, ◌++◌, refl, sym, ap, ◌∙◌,
-    subst, ◌≢◌, ◌⊎◌, inl, inr, arith, Ordering, Option, Some, None, is_lt, length, slice_index_or, true≢false, ◌==◌, eqb-true}
+use Rattle.std.proofs.Common.{◌≡◌, ℕ, zero, suc, ◌<◌, ◌≤◌, ◌+◌, Bool, true, false, cond, ◌&&◌, List, [], ◌∷◌, ◌++◌, refl, sym, ap, ◌∙◌}
+use Rattle.std.proofs.Common.{subst, ◌≢◌, ◌⊎◌, inl, inr, arith, Ordering, Option, Some, None, is_lt, length, slice_index_or, true≢false}
+use Rattle.std.proofs.Common.{◌==◌, eqb-true}
 use Rattle.std.specs.List.{Contains, count_by}
 use Rattle.std.proofs.lemmas.List.Sums.{sum_by-append, sum_by-cons}
 use Rattle.std.proofs.lemmas.List.Elements.{Contains-append_left, Contains-append_right, Contains-append_cases}

@@ -1,6 +1,6 @@
 -- Windows one after the other are the sequential run.
-use Rattle.std.proofs.Common.{◌≡◌, ℕ, zero, suc, ◌<◌, ◌≤◌, ◌+◌, ◌-◌, true, false, List, [], ◌∷◌, ◌++◌, length, refl, sym, ap, ◌∙◌, subst,
-    arith, Some, None, nat_lt, ltb-true, ltb-false, slice_get, le_refl, length-append, ◌⊎◌, inl, inr, zero-add}
+use Rattle.std.proofs.Common.{◌≡◌, ℕ, zero, suc, ◌<◌, ◌≤◌, ◌+◌, ◌-◌, true, false, List, [], ◌∷◌, ◌++◌, length, refl, sym, ap, ◌∙◌, subst}
+use Rattle.std.proofs.Common.{arith, Some, None, nat_lt, ltb-true, ltb-false, slice_get, le_refl, length-append, ◌⊎◌, inl, inr, zero-add}
 use Rattle.std.proofs.lemmas.List.{map-append}
 use Rattle.srm_cell.specs.Setting.{Setting, IsFit}
 use Rattle.srm_cell.specs.Cells.{PlainCell, Event, Idle, Full, Done, before}
@@ -9,8 +9,8 @@ use Rattle.srm_engine.specs.World.{World, least_event, step, run, opening, IsRea
 use Rattle.srm_engine.specs.Windows.{IsFirstQuiet}
 use Rattle.srm_engine.specs.WindowChains.{IsNext, IsOver, start_of, IsEndRule, AreWindows, no_window, next_window}
 use Rattle.srm_engine.specs.WindowRuns.{jobs_of}
-use Rattle.srm_engine.specs.WindowLaws.{WindowsAreReached, WindowsFollow, CallsFollow, RefusedWindowsMeetFull, WindowTracesArePrefixes,
-    WindowsAreOne, WindowsEnd}
+use Rattle.srm_engine.specs.WindowLaws.{WindowsAreReached, WindowsFollow, CallsFollow, RefusedWindowsMeetFull, WindowTracesArePrefixes}
+use Rattle.srm_engine.specs.WindowLaws.{WindowsAreOne, WindowsEnd}
 use Rattle.srm_engine.proofs.LawProofs.{own_runs_end, refusals_are_met, run_on, schedules_agree}
 use Rattle.srm_engine.proofs.OneWindow.{part_rows, reached_on, windows_agree}
 use Rattle.srm_engine.proofs.RunLemmas.{run_by, run_first, shifted, step_none}
@@ -59,9 +59,9 @@ module _ (s : Setting) (rule : World → ℕ) where
   earlier (next_window {begins = begins} {w = w} {e = e} chain h first) n lt =
       elim (nat_lt n (length begins)) as (λ b. nat_lt n (length begins) ≡ b → (starts : List World) × (u : World) × (e : Event)
       × AreWindows s rule starts u × (length starts ≡ n) × IsNext s u e) [
-    | true ↦ λ q. earlier chain n (ltb-true _ _ q)
-    | false ↦ λ q. let le : length begins ≤ n = ltb-false _ _ q in (begins, w, e, chain, omega (arith, longer begins w), h)
-  ] refl
+        | true ↦ λ q. earlier chain n (ltb-true _ _ q)
+        | false ↦ λ q. let le : length begins ≤ n = ltb-false _ _ q in (begins, w, e, chain, omega (arith, longer begins w), h)
+      ] refl
 
   not_fewer : {begins starts : List World} {w v : World} → AreWindows s rule begins w → IsOver s w → AreWindows s rule starts v
       → length begins < length starts → ⊥
@@ -74,16 +74,16 @@ module _ (s : Setting) (rule : World → ℕ) where
       → (begins ≡ starts) × (w ≡ v)
   one_list {begins} {starts} {w} {v} a over b done = elim (nat_lt (length begins) (length starts)) as
       (λ t. nat_lt (length begins) (length starts) ≡ t → (begins ≡ starts) × (w ≡ v)) [
-    | true ↦ λ q. absurd (not_fewer a over b (ltb-true _ _ q))
-    | false ↦ λ q. (elim (nat_lt (length starts) (length begins)) as
-        (λ t. nat_lt (length starts) (length begins) ≡ t → (begins ≡ starts) × (w ≡ v)) [
-      | true ↦ λ r. absurd (not_fewer b done a (ltb-true _ _ r))
-      | false ↦ λ r.
-          let le : length starts ≤ length begins = ltb-false _ _ q in
-          let ge : length begins ≤ length starts = ltb-false _ _ r in
-          as_many a b (omega arith)
-    ] refl)
-  ] refl
+        | true ↦ λ q. absurd (not_fewer a over b (ltb-true _ _ q))
+        | false ↦ λ q. (elim (nat_lt (length starts) (length begins)) as
+            (λ t. nat_lt (length starts) (length begins) ≡ t → (begins ≡ starts) × (w ≡ v)) [
+              | true ↦ λ r. absurd (not_fewer b done a (ltb-true _ _ r))
+              | false ↦ λ r.
+                  let le : length starts ≤ length begins = ltb-false _ _ q in
+                  let ge : length begins ≤ length starts = ltb-false _ _ r in
+                  as_many a b (omega arith)
+            ] refl)
+      ] refl
 
   module _ (fit : IsFit s) (ends : IsEndRule s rule) where
     moves_on : (w v : World) (e : Event) → IsReached s w → IsNext s w e → IsFirstQuiet s (rule w) w v → start_of s w < start_of s v
@@ -137,21 +137,21 @@ module _ (s : Setting) (rule : World → ℕ) where
               again r.0 (next_window chain h r.1) (moves_on w r.0 e reached h r.1)
           | inr full ↦
               inr (refusals_are_met s w (rule w) fit reached within safe full.0
-                  (full.1, full.2, (full.3, rw (zero-add full.0) at full.4))).1
+              (full.1, full.2, (full.3, rw (zero-add full.0) at full.4))).1
         ]
 
     come_from : (k : ℕ) (begins : List World) (w : World) → AreWindows s rule begins w → s.traffic.until ≤ start_of s w + k → Come
     unfolding Come
     come_from zero begins w chain room = elim (before s.traffic.until (least_event 0 w.cells)) as
         (λ o. before s.traffic.until (least_event 0 w.cells) ≡ o → Come) [
-      | None ↦ λ over. inl (begins, w, chain, over_is_last w (chain_reached chain) over)
-      | Some e ↦ λ h. let a = start_is s w e h in absurd (omega (arith, a.0, a.1))
-    ] refl
+          | None ↦ λ over. inl (begins, w, chain, over_is_last w (chain_reached chain) over)
+          | Some e ↦ λ h. let a = start_is s w e h in absurd (omega (arith, a.0, a.1))
+        ] refl
     come_from (suc k) begins w chain room = elim (before s.traffic.until (least_event 0 w.cells)) as
         (λ o. before s.traffic.until (least_event 0 w.cells) ≡ o → Come) [
-      | None ↦ λ over. inl (begins, w, chain, over_is_last w (chain_reached chain) over)
-      | Some e ↦ λ h. one_window begins w e chain h (λ v more lt. come_from k (begins ++ w ∷ []) v more (omega arith))
-    ] refl
+          | None ↦ λ over. inl (begins, w, chain, over_is_last w (chain_reached chain) over)
+          | Some e ↦ λ h. one_window begins w e chain h (λ v more lt. come_from k (begins ++ w ∷ []) v more (omega arith))
+        ] refl
 
 pub windows_are_reached : WindowsAreReached
 windows_are_reached s rule begins w chain = let reached = chain_reached s rule chain in (reached, over_is_last s rule w reached)
@@ -183,7 +183,7 @@ rest_of_run s n m w v h g idle = elim (nat_lt m n) as (λ b. nat_lt m n ≡ b �
       let k = n - suc m in
       let e : m + suc k ≡ n = omega arith in
       let x : Done w ≡ Idle = sym h ∙ ap (λ i. run s i (opening s)) (sym e) ∙ run_on s m (suc k) (opening s) v g
-          ∙ idle_stays s k v idle in cc
+      ∙ idle_stays s k v idle in cc
   | false ↦ λ q.
       let le : n ≤ m = ltb-false _ _ q in
       let e : n + (m - n) ≡ m = omega arith in

@@ -1,6 +1,6 @@
 -- Where windows begin and end.
-use Rattle.std.proofs.Common.{◌≡◌, ℕ, ◌<◌, ◌≤◌, ◌+◌, true, false, List, [], ◌∷◌, refl, sym, ap, ◌∙◌, arith, Option, Some, None, unwrap_or,
-    nat_lt, lt-ltb, le-ltb, ltb-false}
+use Rattle.std.proofs.Common.{◌≡◌, ℕ, ◌<◌, ◌≤◌, ◌+◌, true, false, List, [], ◌∷◌, refl, sym, ap, ◌∙◌, arith, Option, Some, None, unwrap_or}
+use Rattle.std.proofs.Common.{nat_lt, lt-ltb, le-ltb, ltb-false}
 use Rattle.srm_net.specs.Least.{least_delay}
 use Rattle.srm_net.proofs.LawProofs.{least_delay_fits}
 use Rattle.srm_scenario.specs.Plain.{PlainScenario, network_of}
@@ -22,8 +22,10 @@ use Rattle.srm_engine.proofs.RunLemmas.{least_own}
 starts_by : (until : ℕ) (x : Option Event) → (unwrap_or (time_of x) until < until → (e : Event) × (before until x ≡ Some e)
     × (e.key.time ≡ unwrap_or (time_of x) until)) × (until ≤ unwrap_or (time_of x) until → before until x ≡ None)
 starts_by until None = (λ lt. absurd (omega arith), λ le. refl)
-starts_by until (Some e) = (λ lt. (e, ap (λ b. keep b e) (lt-ltb e.key.time until lt), refl),
-    λ le. ap (λ b. keep b e) (le-ltb e.key.time until le))
+starts_by until (Some e) = (
+  λ lt. (e, ap (λ b. keep b e) (lt-ltb e.key.time until lt), refl),
+  λ le. ap (λ b. keep b e) (le-ltb e.key.time until le),
+)
 
 pub starts_tell : StartsTell
 starts_tell s w = starts_by s.traffic.until (least_event 0 w.cells)
@@ -69,10 +71,10 @@ pub least_is_a_rule : LeastIsARule
 least_is_a_rule p seed accepted = elim (least_delay (network_of p)) as
     (λ o. least_delay (network_of p) ≡ o → IsEndRule (setting_of p (network_of p) seed)
     (width_rule (setting_of p (network_of p) seed) (unwrap_or o p.until))) [
-  | None ↦ λ e. width_is_rule p seed p.until accepted accepted.some_ticks (λ d h. let x : None ≡ Some d = sym e ∙ h in cc)
-  | Some d ↦ λ e. width_is_rule p seed d accepted (least_delay_fits (network_of p) accepted.network d e).0
-      (λ k h. let x = same_number d k (sym e ∙ h) in omega arith)
-] refl
+      | None ↦ λ e. width_is_rule p seed p.until accepted accepted.some_ticks (λ d h. let x : None ≡ Some d = sym e ∙ h in cc)
+      | Some d ↦ λ e. width_is_rule p seed d accepted (least_delay_fits (network_of p) accepted.network d e).0
+          (λ k h. let x = same_number d k (sym e ∙ h) in omega arith)
+    ] refl
 
 with_no_more : (n : ℕ) (o : Option ℕ) → least_with n o ≤ n
 with_no_more n None = omega arith

@@ -1,6 +1,7 @@
 -- The jobs of a window, and the crossings of their rows.
-use Rattle.std.proofs.Common.{◌≡◌, ℕ, zero, suc, ◌<◌, ◌≤◌, ◌+◌, ◌*◌, Bool, cond, inl, inr, slice_get, zero-add, le_refl, ◌&&◌, ◌==◌, List,
-    [], ◌∷◌, ◌++◌, length, take, drop, map, refl, sym, ap, ◌∙◌, subst, arith, Option, Some, None, append_assoc, length-drop, add-zero}
+use Rattle.std.proofs.Common.{◌≡◌, ℕ, zero, suc, ◌<◌, ◌≤◌, ◌+◌, ◌*◌, Bool, cond, inl, inr, slice_get, zero-add, le_refl, ◌&&◌, ◌==◌, List}
+use Rattle.std.proofs.Common.{[], ◌∷◌, ◌++◌, length, take, drop, map, refl, sym, ap, ◌∙◌, subst, arith, Option, Some, None, append_assoc}
+use Rattle.std.proofs.Common.{length-drop, add-zero}
 use Rattle.std.proofs.Math.Nat.{suc-mul}
 use Rattle.std.specs.List.{count_by, sum_by, flat_map, range_with_len, cons_option}
 use Rattle.std.specs.List.Sorted.{IsPermutation}
@@ -15,8 +16,8 @@ use Rattle.srm_cell.specs.OwnRuns.{MeetsFull}
 use Rattle.srm_cell.specs.Crossings.{packets_of, kind_of, crossings_at, crossings, added}
 use Rattle.srm_cell.proofs.CrossingLemmas.{crossings_add}
 use Rattle.srm_cell.specs.Crossings.{joined}
-use Rattle.srm_engine.specs.WindowRuns.{OwnResult, AreOwnRuns, rows_in, crossings_of_all, PlainJob, jobs_within, AreJobRuns, job_rows,
-    SomeMeetsFull, SomeJobMeetsFull}
+use Rattle.srm_engine.specs.WindowRuns.{OwnResult, AreOwnRuns, rows_in, crossings_of_all, PlainJob, jobs_within, AreJobRuns, job_rows}
+use Rattle.srm_engine.specs.WindowRuns.{SomeMeetsFull, SomeJobMeetsFull}
 use Rattle.srm_engine.specs.WindowLaws.{JobsAreRuns, JobsAreInPlace, JobsRunAll, JobsRefuse, CrossingsKeep, CrossingsAreTotals}
 
 -- ---- jobs
@@ -32,7 +33,7 @@ enough zero k cut till place (c ∷ cs) pos le ge = absurd (omega arith)
 enough (suc n) zero cut till place (c ∷ cs) pos le ge = absurd (omega arith)
 enough (suc n) (suc k) cut till place (c ∷ cs) pos le ge =
     ap (λ js. record { place = place; till = till; cells = take cut (c ∷ cs) } ∷ js)
-        (enough n k cut till (suc place) (drop cut (c ∷ cs)) pos (shorter cut n c cs pos le) (shorter cut k c cs pos ge))
+    (enough n k cut till (suc place) (drop cut (c ∷ cs)) pos (shorter cut n c cs pos le) (shorter cut k c cs pos ge))
 
 pub jobs_are_runs : JobsAreRuns
 jobs_are_runs cut till place pos = (
@@ -40,8 +41,8 @@ jobs_are_runs cut till place pos = (
   λ c cs.
       let short = shorter cut (length cs) c cs pos (le_refl (length (c ∷ cs))) in
       ap (λ js. record { place = place; till = till; cells = take cut (c ∷ cs) } ∷ js)
-          (enough (length cs) (length (drop cut (c ∷ cs))) cut till (suc place) (drop cut (c ∷ cs)) pos short
-          (le_refl (length (drop cut (c ∷ cs))))),
+      (enough (length cs) (length (drop cut (c ∷ cs))) cut till (suc place) (drop cut (c ∷ cs)) pos short
+      (le_refl (length (drop cut (c ∷ cs))))),
 )
 
 few_jobs : (n cut till place : ℕ) (cs : List PlainCell) → 0 < cut → length (jobs_within n cut till place cs) ≤ length cs
@@ -67,7 +68,7 @@ nth_job (suc n) cut till place (c ∷ cs) (suc k) j h =
     let now : suc place + k ≡ place + suc k = omega arith in
     let at : cut + k * cut ≡ suc k * cut = omega (arith, suc-mul k cut) in
     nth_job n cut till (suc place) (drop cut (c ∷ cs)) k j h ∙
-        (λ i. record { place = now i; till = till; cells = take cut ((drop-drop (k * cut) cut (c ∷ cs) ∙ ap (λ m. drop m (c ∷ cs)) at) i) })
+    (λ i. record { place = now i; till = till; cells = take cut ((drop-drop (k * cut) cut (c ∷ cs) ∙ ap (λ m. drop m (c ∷ cs)) at) i) })
 
 all_cells : (n cut till place : ℕ) (cs : List PlainCell) → 0 < cut → length cs ≤ n
     → joined (map (λ (j : PlainJob). j.cells) (jobs_within n cut till place cs)) ≡ cs
@@ -89,8 +90,11 @@ jobs_are_in_place cut till w pos = (
 runs_append : (end i : ℕ) (cs : List PlainCell) (qs : List OwnResult) (ds : List PlainCell) (rs : List OwnResult) → AreOwnRuns end i cs qs
     → AreOwnRuns end (i + length cs) ds rs → AreOwnRuns end i (cs ++ ds) (qs ++ rs)
 runs_append end i [] [] ds rs h g = rw add-zero at g
-runs_append end i (c ∷ cs) (q ∷ qs) ds rs h g = (h.0, runs_append end (suc i) cs qs ds rs h.1
-    (let e : i + suc (length cs) ≡ suc i + length cs = omega arith in subst (λ k. AreOwnRuns end k ds rs) e g))
+runs_append end i (c ∷ cs) (q ∷ qs) ds rs h g = (
+  h.0,
+  runs_append end (suc i) cs qs ds rs h.1
+      (let e : i + suc (length cs) ≡ suc i + length cs = omega arith in subst (λ k. AreOwnRuns end k ds rs) e g),
+)
 runs_append end i [] (q ∷ qs) ds rs h g = absurd h
 runs_append end i (c ∷ cs) [] ds rs h g = absurd h
 
@@ -104,7 +108,7 @@ jobs_run (suc n) cut end place i (c ∷ cs) (rs ∷ rss) pos le h =
     let all = c ∷ cs in
     let more = jobs_run n cut end (suc place) (i + length (take cut all)) (drop cut all) rss pos (shorter cut n c cs pos le) h.1 in
     subst (λ l. AreOwnRuns end i l (rs ++ joined rss)) (take-append-drop cut all)
-        (runs_append end i (take cut all) rs (drop cut all) (joined rss) h.0 more)
+    (runs_append end i (take cut all) rs (drop cut all) (joined rss) h.0 more)
 
 pub jobs_run_all : JobsRunAll
 jobs_run_all w cut end rss pos h = jobs_run (length w.cells) cut end 0 0 w.cells rss pos (le_refl (length w.cells)) h
@@ -124,15 +128,23 @@ jobs_full : (n cut end place i : ℕ) (cs : List PlainCell) → 0 < cut → leng
     → SomeMeetsFull end i cs
 jobs_full n cut end place i [] pos le h = absurd h
 jobs_full zero cut end place i (c ∷ cs) pos le h = absurd (omega arith)
-jobs_full (suc n) cut end place i (c ∷ cs) pos le (inl h) =
-    (h.0, h.1, subst (λ l. slice_get l h.0 ≡ Some h.1) (take-append-drop cut (c ∷ cs))
-    (get_first (take cut (c ∷ cs)) (drop cut (c ∷ cs)) h.0 h.1 h.2), h.3)
+jobs_full (suc n) cut end place i (c ∷ cs) pos le (inl h) = (
+  h.0,
+  h.1,
+  subst (λ l. slice_get l h.0 ≡ Some h.1) (take-append-drop cut (c ∷ cs))
+      (get_first (take cut (c ∷ cs)) (drop cut (c ∷ cs)) h.0 h.1 h.2),
+  h.3,
+)
 jobs_full (suc n) cut end place i (c ∷ cs) pos le (inr h) =
     let all = c ∷ cs in
     let r = jobs_full n cut end (suc place) (i + length (take cut all)) (drop cut all) pos (shorter cut n c cs pos le) h in
-    let at : i + length (take cut all) + r.0 ≡ i + (length (take cut all) + r.0) = omega arith in
-    (length (take cut all) + r.0, r.1, subst (λ l. slice_get l (length (take cut all) + r.0) ≡ Some r.1) (take-append-drop cut all)
-        (get_second (take cut all) (drop cut all) r.0 ∙ r.2), subst (λ m. MeetsFull end m r.1) at r.3)
+    let at : i + length (take cut all) + r.0 ≡ i + (length (take cut all) + r.0) = omega arith in (
+      length (take cut all) + r.0,
+      r.1,
+      subst (λ l. slice_get l (length (take cut all) + r.0) ≡ Some r.1) (take-append-drop cut all)
+          (get_second (take cut all) (drop cut all) r.0 ∙ r.2),
+      subst (λ m. MeetsFull end m r.1) at r.3,
+    )
 
 pub jobs_refuse : JobsRefuse
 jobs_refuse w cut end pos h =
@@ -192,5 +204,5 @@ pub crossings_are_totals : CrossingsAreTotals
 crossings_are_totals s trace rows rss merge =
     let all : crossings_of_all s.traffic (job_rows rss) ≡ crossings s.traffic rows =
     crossings-joined s (job_rows rss) ∙ ap (crossings s.traffic) (joined-jobs rss)
-        ∙ crossings_keep s (joined (rows_in (joined rss))) rows merge.all in
+    ∙ crossings_keep s (joined (rows_in (joined rss))) rows merge.all in
     ap (added (crossings s.traffic trace)) all ∙ sym (crossings_add s.traffic trace rows)

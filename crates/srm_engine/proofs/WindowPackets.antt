@@ -1,6 +1,6 @@
 -- The packets of a window's rows are new to every cell that hears them one after the other.
-use Rattle.std.proofs.Common.{◌≡◌, ◌≢◌, ℕ, zero, suc, ◌<◌, ◌+◌, true, List, [], ◌∷◌, ◌++◌, refl, sym, ap, ◌∙◌, subst, arith, Option, Some,
-    None, option_map, slice_get, add-zero, append_assoc, ◌==◌, eq-eqb}
+use Rattle.std.proofs.Common.{◌≡◌, ◌≢◌, ℕ, zero, suc, ◌<◌, ◌+◌, true, List, [], ◌∷◌, ◌++◌, refl, sym, ap, ◌∙◌, subst, arith, Option, Some}
+use Rattle.std.proofs.Common.{None, option_map, slice_get, add-zero, append_assoc, ◌==◌, eq-eqb}
 use Rattle.std.specs.List.{Contains}
 use Rattle.std.proofs.lemmas.List.Sums.{sum_by-append}
 use Rattle.std.proofs.lemmas.List.Elements.{Contains-append_left, Contains-append_right}
@@ -12,8 +12,8 @@ use Rattle.srm_member.proofs.AllIn.{AllIn, AllIn-second, AllIn-place, AllIn-weak
 use Rattle.srm_cell.specs.declared.flight.Flight.{Flight}
 use Rattle.srm_cell.specs.Flights.{BringsNone, flight_cmp}
 use Rattle.srm_cell.specs.Setting.{Setting, IsFit, arrival_of}
-use Rattle.srm_cell.specs.Cells.{PlainCell, StepOutcome, Idle, Full, Spent, Done, Stepped, before, next_event, own_step, step_at, hear,
-    hear_at}
+use Rattle.srm_cell.specs.Cells.{PlainCell, StepOutcome, Idle, Full, Spent, Done, Stepped, before, next_event, own_step, step_at, hear}
+use Rattle.srm_cell.specs.Cells.{hear_at}
 use Rattle.srm_cell.specs.OwnRuns.{hear_rows, own_after, told_to}
 use Rattle.srm_cell.proofs.CellSteps.{before_some}
 use Rattle.srm_cell.proofs.Clear.{RestOf, StepOf, next_rest, step_is_of}
@@ -45,7 +45,7 @@ module _ (s : Setting) (fit : IsFit s) where
   rows_within (next {cs = cs} {e = e} {d = d} h x more) good =
       let f = step_facts s fit s.traffic.until cs e d h x in
       let is : (e.key.member < s.traffic.members) × (e.key.time < s.traffic.until) =
-          (member_below s fit s.traffic.until cs e d good h x, (before_some s.traffic.until (least_event 0 cs) e h).1) in
+      (member_below s fit s.traffic.until cs e d good h x, (before_some s.traffic.until (least_event 0 cs) e h).1) in
       let here : IsWithin d.row = subst (λ (k : Key). (k.member < s.traffic.members) × (k.time < s.traffic.until)) (sym f.key) is in
       (here, rows_within more (good_step s fit s.traffic.until cs e d good h x))
 
@@ -63,7 +63,7 @@ counted_more : (m : ℕ) (before : List Row) (r : Row) (after : List Row) (p : P
     → sending_count m before < sending_count m (before ++ r ∷ after)
 counted_more m before r after p member sent =
     let all : sending_count m (before ++ r ∷ after) ≡ sending_count m before + sending_count m (r ∷ after) =
-        sum_by-append _ before (r ∷ after) in
+    sum_by-append _ before (r ∷ after) in
     let first : sending_count m (r ∷ after) ≡ one_if (is_sending m r) + sending_count m after = count_first (is_sending m) r after in
     let mine : (r.key.member == m) ≡ true = eq-eqb _ _ member in
     let one : one_if (is_sending m r) ≡ 1 = simp (mine, sent) in
@@ -75,15 +75,15 @@ module _ (s : Setting) (v : World) (reached : IsReached s v) (earlier after : Li
   later_is_new q (r', at, q_sent) same =
       let cut = split_at earlier r' at in
       let whole : v.trace ≡ cut.0 ++ r' ∷ (cut.1 ++ r ∷ after) = split ∙ ap (λ l. l ++ r ∷ after) cut.2
-          ∙ append_assoc cut.0 (r' ∷ cut.1) (r ∷ after) in
+      ∙ append_assoc cut.0 (r' ∷ cut.1) (r ∷ after) in
       let a = packets_are_numbered s v reached earlier after r p split sent in
       let b = packets_are_numbered s v reached cut.0 (cut.1 ++ r ∷ after) r' q whole q_sent in
       let member : r'.key.member ≡ r.key.member = sym b.0 ∙ ap (λ (k : PacketId). k.sender) same ∙ a.0 in
       let more : sending_count r.key.member cut.0 < sending_count r.key.member (cut.0 ++ r' ∷ cut.1) =
-          counted_more r.key.member cut.0 r' cut.1 q member q_sent in
+      counted_more r.key.member cut.0 r' cut.1 q member q_sent in
       let count : sending_count r.key.member cut.0 ≡ sending_count r.key.member (cut.0 ++ r' ∷ cut.1) =
       ap (λ m. sending_count m cut.0) (sym member) ∙ sym b.1 ∙ ap (λ (k : PacketId). k.count) same ∙ a.1
-          ∙ ap (sending_count r.key.member) cut.2 in
+      ∙ ap (sending_count r.key.member) cut.2 in
       absurd (omega arith)
 
 -- ---- what inboxes keep
@@ -144,8 +144,13 @@ get_cell : (end i : ℕ) (cs : List PlainCell) (rs : List OwnResult) → AreOwnR
     → slice_get (cells_in rs) j ≡ Some d
     → (c : PlainCell) × (n : ℕ) × (slice_get cs j ≡ Some c) × (d ≡ own_after end (i + j) n c)
 get_cell end i [] [] h j d g = cc
-get_cell end i (c ∷ cs) (r ∷ rs) h zero d g = (c, h.0.steps, refl, same_some _ _ (sym g) ∙ h.0.leaves
-    ∙ ap (λ k. own_after end k h.0.steps c) (sym (add-zero i)))
+get_cell end i (c ∷ cs) (r ∷ rs) h zero d g = (
+  c,
+  h.0.steps,
+  refl,
+  same_some _ _ (sym g) ∙ h.0.leaves
+      ∙ ap (λ k. own_after end k h.0.steps c) (sym (add-zero i)),
+)
 get_cell end i (c ∷ cs) (r ∷ rs) h (suc j) d g = rw (shifted i j) (get_cell end (suc i) cs rs h.1 j d g)
 get_cell end i [] (r ∷ rs) h j d g = absurd h
 get_cell end i (c ∷ cs) [] h j d g = absurd h
@@ -161,24 +166,24 @@ window_packets_are_new s w end fit reached within safe results all alone merge r
     let agree = windows_agree s w v end fit reached within safe window in
     let trace : v.trace ≡ w.trace ++ all = refl in
     let whole : v.trace ≡ (w.trace ++ rows) ++ r ∷ after = trace ∙ ap (λ l. w.trace ++ l) split
-        ∙ sym (append_assoc w.trace rows (r ∷ after)) in
+    ∙ sym (append_assoc w.trace rows (r ∷ after)) in
     let part = part_rows s fit agree.0.steps w v agree.0.comes in
     let new : part.0 ≡ rows ++ r ∷ after = sym (new_rows_are w v part.0 part.2) ∙ new_rows_are w v all trace ∙ split in
     let here : IsWithin s fit r = all_at (IsWithin s fit) rows r after
-        (subst (AllIn (IsWithin s fit)) new (rows_within s fit part.1 (good_reached s fit reached.0 w reached.1))) in
+    (subst (AllIn (IsWithin s fit)) new (rows_within s fit part.1 (good_reached s fit reached.0 w reached.1))) in
     let number = packets_are_numbered s v agree.1 (w.trace ++ rows) after r p whole sent in
     let other = later_is_new s v agree.1 (w.trace ++ rows) after r p whole sent in
     let Q = λ (f : Flight). f.packet.id ≢ p.id in (
       λ j q g.
           let d = mapped (hear_rows s.traffic (0 + j) rows) (slice_get (cells_in results) j) q
-              (sym (get_heard s 0 j rows (cells_in results)) ∙ g) in
+          (sym (get_heard s 0 j rows (cells_in results)) ∙ g) in
           let c = get_cell end 0 w.cells results alone j d.0 d.1 in
           let flights = (handed_reached s w reached).flights j c.0 c.2 in
           let was : AllIn Q c.0.inbox = AllIn-weaker (IsFlight s w.trace j) Q (λ f h. other f.packet (sent_more f.packet w.trace rows h.0))
-              c.0.inbox flights in
+          c.0.inbox flights in
           let ran : AllIn Q d.0.inbox = subst (λ (b : PlainCell). AllIn Q b.inbox) (sym c.3) (run_keeps Q end (0 + j) c.1 c.0 was) in
           let heard : AllIn Q (hear_rows s.traffic (0 + j) rows d.0).inbox =
-              hear_keeps Q s (0 + j) rows d.0 (λ x t at. other x (t.0, Contains-append_right w.trace rows t.0 t.1, t.2)) ran in
+          hear_keeps Q s (0 + j) rows d.0 (λ x t at. other x (t.0, Contains-append_right w.trace rows t.0 t.1, t.2)) ran in
           brings_none p.id q.inbox (subst (λ (b : PlainCell). AllIn Q b.inbox) d.2 heard),
       subst (λ n. n < s.traffic.members) (sym number.0) here.0,
       subst (λ n. n < s.traffic.until) (sym number.2) here.1,

@@ -1,6 +1,6 @@
 -- The rows of a window, and how their packets are heard.
-use Rattle.std.proofs.Common.{◌≡◌, ℕ, zero, suc, ◌≤◌, ◌+◌, Bool, true, false, cond, List, [], ◌∷◌, ◌++◌, length, filter, refl, sym, ap, ◌∙◌,
-    subst, arith, Option, Some, None, option_map, slice_get, add-zero, nat_lt, lt-ltb, ◌==◌, Ordering, Less}
+use Rattle.std.proofs.Common.{◌≡◌, ℕ, zero, suc, ◌≤◌, ◌+◌, Bool, true, false, cond, List, [], ◌∷◌, ◌++◌, length, filter, refl, sym, ap, ◌∙◌}
+use Rattle.std.proofs.Common.{subst, arith, Option, Some, None, option_map, slice_get, add-zero, nat_lt, lt-ltb, ◌==◌, Ordering, Less}
 use Rattle.std.specs.List.{AllByRecursion}
 use Rattle.std.specs.List.Sorted.{IsSorted}
 use Rattle.std.proofs.lemmas.List.Elements.{All-from_recursion}
@@ -63,11 +63,11 @@ own_rows_are_sorted s w end fit reached within safe results runs =
     let p = part.1 in
     let new = new_rows w part.0 in
     let all : Ascends row_cmp (w.trace ++ new) = subst (Ascends row_cmp) (trace_grows s fit p.first.steps w part.0 p.first.comes)
-        (keys_rise s part.0 fit p.reached) in
+    (keys_rise s part.0 fit p.reached) in
     let each : (m : ℕ) (l : List Row) → slice_get (rows_in results) m ≡ Some l → IsSorted row_cmp l = λ m l g.
     let is = member_rows s.traffic.members 0 new m l (ap (λ x. slice_get x m) (sym p.rows) ∙ g) in
     subst (IsSorted row_cmp) (sym is) (ascends_sorted (rows_of (0 + m) new)
-        (ascends_filter row_cmp (λ q. q.key.member == 0 + m) new (ascends_second row_cmp w.trace new all))) in
+    (ascends_filter row_cmp (λ q. q.key.member == 0 + m) new (ascends_second row_cmp w.trace new all))) in
     All-from_recursion (IsSorted row_cmp) (rows_in results) (each_listed (IsSorted row_cmp) (rows_in results) each)
 
 -- ---- one packet after the other
@@ -91,7 +91,7 @@ module _ (s : Setting) where
   nothing_sent i rows r [] h = refl
   nothing_sent i rows r (c ∷ cs) h =
       let first : hear_rows s.traffic i (rows ++ r ∷ []) c ≡ hear_rows s.traffic i rows c = hears_last i rows r c
-          ∙ ap (λ o. told_to s.traffic o i (hear_rows s.traffic i rows c)) h in
+      ∙ ap (λ o. told_to s.traffic o i (hear_rows s.traffic i rows c)) h in
       let more = nothing_sent (suc i) rows r cs h in
       λ k. first k ∷ more k
 
@@ -102,7 +102,7 @@ module _ (s : Setting) where
       let below : nat_lt i k ≡ true = lt-ltb i k (omega arith) in
       let d = hear_rows s.traffic i rows c in
       let first : hear_rows s.traffic i (rows ++ r ∷ []) c ≡ cond (nat_lt i k) (hear s.traffic p i d) d = hears_last i rows r c
-          ∙ ap (λ o. told_to s.traffic o i d) h ∙ sym (ap (λ b. cond b (hear s.traffic p i d) d) below) in
+      ∙ ap (λ o. told_to s.traffic o i d) h ∙ sym (ap (λ b. cond b (hear s.traffic p i d) d) below) in
       let more = sent_last p k (suc i) rows r cs (omega arith) h in
       λ j. first j ∷ more j
 

@@ -1,6 +1,6 @@
 -- Windows of the engine, one after the other.
-use Rattle.std.proofs.Common.{◌≡◌, ℕ, zero, suc, ◌<◌, ◌≤◌, min, List, [], ◌∷◌, ◌++◌, Some, Err, refl, sym, ap, ◌∙◌, subst, arith, All,
-    IsSorted, IsPermutation, length, map, drop, slice_index, replicate, ◌*◌}
+use Rattle.std.proofs.Common.{◌≡◌, ℕ, zero, suc, ◌<◌, ◌≤◌, min, List, [], ◌∷◌, ◌++◌, Some, Err, refl, sym, ap, ◌∙◌, subst, arith, All}
+use Rattle.std.proofs.Common.{IsSorted, IsPermutation, length, map, drop, slice_index, replicate, ◌*◌}
 use Rattle.std.proofs.lemmas.List.{map-append, length-map}
 use Rattle.std.specs.List.{AllZip, range_with_len}
 use Rattle.std.specs.declared.dyn_box.DynBox.{DynBox}
@@ -42,8 +42,8 @@ use Rattle.srm_engine.specs.Windowed.{IsCut, Holds, PassesShare, calls_of, Tells
 use Rattle.srm_engine.specs.declared.stream_fault.StreamFault.TheVariants.{Run}
 use Rattle.srm_engine.specs.WindowStreams.{MeetsWindowRefusal}
 use Rattle.srm_engine.proofs.CellLists.{from_seen, seen_from, few_groups}
-use Rattle.srm_engine.proofs.JobLemmas.{any_cell, are_jobs, may_advance, as_many_jobs, places_with, job_results, cuts_kept, joined_some,
-    all_some}
+use Rattle.srm_engine.proofs.JobLemmas.{any_cell, are_jobs, may_advance, as_many_jobs, places_with, job_results, cuts_kept, joined_some}
+use Rattle.srm_engine.proofs.JobLemmas.{all_some}
 use Rattle.srm_engine.proofs.LawProofs.{never_spent}
 use Rattle.srm_engine.proofs.OneWindow.{as_many_results}
 use Rattle.srm_engine.proofs.Sequential.{good_reached}
@@ -79,7 +79,7 @@ module _ {X : Type 0} {H : X → Type 0} (f : DynBox X Global H → Record) (p :
       let hosts = hosts_are in
       subst (All (λ (j : Job X H). cell.MayAdvance f (length net.hosts) j)) (sym e)
       (may_advance f cut end (length net.hosts) gs w.cells cuts.0 cuts.1 (omega arith) (omega arith) grouped.cuts
-          (from_seen f (all_in gs) w.cells grouped.cells))
+      (from_seen f (all_in gs) w.cells grouped.cells))
 
   pub jobs_few : (js : List (Job X H)) → js ≡ jobs_with end 0 gs → length js ≤ 1024
   jobs_few js e =
@@ -110,13 +110,16 @@ module _ {X : Type 0} {H : X → Type 0} (f : DynBox X Global H → Record) (p :
 
   pub jobs_done : (t : Traffic) (ds : List (job.Done X H)) → AllZip (λ p d. cell.IsDone f t p d) (handed_jobs 0 (jobs_of cut end w)) ds
       → (results : List OwnResult) × AreOwnRuns end 0 w.cells results × AreGrouped f cut (groups_of ds) (cells_in results)
-          × (lists_of ds ≡ rows_in results)
+      × (lists_of ds ≡ rows_in results)
   jobs_done t ds h =
       let r = job_results f t 0 (jobs_of cut end w) ds h in (
         joined r.0,
         jobs_run_all w cut end r.0 cuts.0 r.1,
-        record { cells = seen_from f (all_in (groups_of ds)) (cells_in (joined r.0)) r.2; cuts =
-            cuts_kept f cut end gs (jobs_of cut end w) ds grouped.cuts own_jobs r.4 },
+        record {
+          cells = seen_from f (all_in (groups_of ds)) (cells_in (joined r.0)) r.2;
+          cuts =
+              cuts_kept f cut end gs (jobs_of cut end w) ds grouped.cuts own_jobs r.4;
+        },
         r.3,
       )
 
@@ -137,8 +140,10 @@ module _ (p : PlainScenario) (net : Network) (is : net ≡ network_of p) (accept
 
   pub merge_of : (lists : List (List Row)) (rows : List Row) → lists ≡ some_of (rows_in results) → IsPermutation (joined lists) rows
       → IsSorted row_cmp rows → IsMerge (rows_in results) rows
-  merge_of lists rows e all sorted = record { all = subst (λ l. IsPermutation l rows) (ap joined e ∙ joined_some (rows_in results)) all;
-      in_order = sorted }
+  merge_of lists rows e all sorted = record {
+    all = subst (λ l. IsPermutation l rows) (ap joined e ∙ joined_some (rows_in results)) all;
+    in_order = sorted;
+  }
 
   pub new_in_turn : (rows : List Row) → IsMerge (rows_in results) rows → AreNewInTurn at.traffic rows (cells_in results)
   new_in_turn rows merge = window_packets_are_new at w end is_fit run within late results rows alone merge
@@ -162,10 +167,10 @@ pub ends_are_rules : (p : PlainScenario) (net : Network) → net ≡ network_of 
     → IsEndRule (setting_of p net seed) (ends_rule (setting_of p net seed) ends)
 ends_are_rules p net is accepted seed (After n) may =
     subst (λ (k : Network). IsEndRule (setting_of p k seed) (width_rule (setting_of p k seed) n)) (sym is)
-        (widths_are_rules p seed n accepted may.0 (subst (λ (k : Network). IsWidth k n) is may.1))
+    (widths_are_rules p seed n accepted may.0 (subst (λ (k : Network). IsWidth k n) is may.1))
 ends_are_rules p net is accepted seed Promised may =
     promises_are_a_rule (setting_of p net seed) (subst (λ (k : Network). IsFit (setting_of p k seed)) (sym is)
-        (settings_are_fit p seed accepted))
+    (settings_are_fit p seed accepted))
 
 module _ (p : PlainScenario) (net : Network) (is : net ≡ network_of p) (accepted : IsAccepted p) (seed : ℕ) (ends : Ends)
     (may : MayEnd net ends) where
@@ -218,7 +223,7 @@ module _ (p : PlainScenario) (net : Network) (is : net ≡ network_of p) (accept
       pub call_more : calls_of rule cut (begins ++ w ∷ []) ≡ calls_of rule cut begins ++ handed_jobs 0 (jobs_of cut end w) ∷ []
       call_more =
           ap (map (handed_jobs 0)) ((calls_follow rule cut).1 begins w) ∙
-              map-append (handed_jobs 0) (window_jobs rule cut begins) (jobs_of cut (rule w) w ∷ [])
+          map-append (handed_jobs 0) (window_jobs rule cut begins) (jobs_of cut (rule w) w ∷ [])
           ∙ ap (λ n. calls_of rule cut begins ++ handed_jobs 0 (jobs_of cut n w) ∷ []) (sym end_is)
 
       meets : (m : ℕ) → HasNoResult end w m → RunMeetsFull s
@@ -262,8 +267,11 @@ module _ {X : Type 0} {H : X → Type 0} (f : DynBox X Global H → Record) wher
   }
     where
       grouped : AreGrouped f cut e.groups.items (opening s).cells
-      grouped = record { cells = subst (λ ps. AreCells f (all_in e.groups.items) ps) (opening_is s)
-          (subst (λ l. AreCells f l (opening_cells s s.traffic.members 0)) (sym same) seen); cuts = cuts }
+      grouped = record {
+        cells = subst (λ ps. AreCells f (all_in e.groups.items) ps) (opening_is s)
+            (subst (λ l. AreCells f l (opening_cells s s.traffic.members 0)) (sym same) seen);
+        cuts = cuts;
+      }
 
 -- ---- its end
 

@@ -1,6 +1,6 @@
 -- The laws on which windows rest.
-use Rattle.std.specs.Prelude.{◌≡◌, ◌≢◌, ◌⊎◌, ℕ, ◌+◌, ◌<◌, ◌≤◌, zero, suc, List, [], ◌∷◌, ◌++◌, Option, Some, None,
-    slice_get, length, drop, IsPermutation, Contains}
+use Rattle.std.specs.Prelude.{◌≡◌, ◌≢◌, ◌⊎◌, ℕ, ◌+◌, ◌<◌, ◌≤◌, zero, suc, List, [], ◌∷◌, ◌++◌, Option, Some, None}
+use Rattle.std.specs.Prelude.{slice_get, length, drop, IsPermutation, Contains}
 use Rattle.srm_net.specs.Keys.{key_cmp}
 use Rattle.srm_net.specs.Orders.{ordered, Ascends, Rises, NoneBelow}
 use Rattle.srm_net.specs.declared.key.Key.{Key}
@@ -8,8 +8,8 @@ use Rattle.srm_scenario.specs.Plain.{PlainScenario, network_of}
 use Rattle.srm_scenario.specs.Accepted.{IsAccepted}
 use Rattle.srm_member.specs.declared.row.Row.{Row}
 use Rattle.srm_cell.specs.Setting.{Setting, IsFit, setting_of}
-use Rattle.srm_cell.specs.Cells.{PlainCell, Event, Silent, pending_keys, AllDiffer, next_event, before, StepOutcome,
-    Idle, Full, Spent, Done}
+use Rattle.srm_cell.specs.Cells.{PlainCell, Event, Silent, pending_keys, AllDiffer, next_event, before, StepOutcome}
+use Rattle.srm_cell.specs.Cells.{Idle, Full, Spent, Done}
 use Rattle.srm_cell.specs.Crossings.{joined}
 use Rattle.srm_cell.specs.OwnRuns.{own_end, own_rows, own_after, hear_rows}
 use Rattle.srm_engine.specs.World.{World, row_cmp, least_event, step, run, opening, IsReached, IsLast, RunMeetsFull}

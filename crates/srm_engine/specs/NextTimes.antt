@@ -1,6 +1,6 @@
 -- The least of the next times of all members.
-use Rattle.std.specs.Prelude.{◌≡◌, ℕ, suc, ◌+◌, ◌*◌, ◌/◌, ◌^◌, ◌<◌, ◌≤◌, Bool, false, List, [], ◌∷◌, Option, Some, None,
-    nat_le, nat_lt, ◌==◌, ◌||◌, if◌then◌else◌, length, map, drop, slice_index_or, slice_set}
+use Rattle.std.specs.Prelude.{◌≡◌, ℕ, suc, ◌+◌, ◌*◌, ◌/◌, ◌^◌, ◌<◌, ◌≤◌, Bool, false, List, [], ◌∷◌, Option, Some, None}
+use Rattle.std.specs.Prelude.{nat_le, nat_lt, ◌==◌, ◌||◌, if◌then◌else◌, length, map, drop, slice_index_or, slice_set}
 use Rattle.srm_engine.specs.declared.next_times.Entry.{Entry}
 
 -- a time and a member, and another pair of these: the one with the lesser time, or the first where the times are the

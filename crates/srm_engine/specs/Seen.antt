@@ -1,6 +1,6 @@
 -- What is seen of the cells and next times of all members.
-use Rattle.std.specs.Prelude.{◌≡◌, ℕ, suc, List, [], ◌∷◌, Option, Some, None, Result, Ok, Err, length, slice_get,
-    slice_set, nat_lt, if◌then◌else◌}
+use Rattle.std.specs.Prelude.{◌≡◌, ℕ, suc, List, [], ◌∷◌, Option, Some, None, Result, Ok, Err, length, slice_get}
+use Rattle.std.specs.Prelude.{slice_set, nat_lt, if◌then◌else◌}
 use Rattle.std.specs.declared.dyn_box.DynBox.{DynBox}
 use Rattle.std.specs.Global.{Global}
 use Rattle.srm_net.specs.declared.packet.Packet.{Packet}
@@ -12,8 +12,8 @@ use Rattle.srm_cell.specs.declared.fault.CellFault.{CellFault}
 use Rattle.srm_cell.specs.declared.fault.CellFault.TheVariants as fault
 use Rattle.srm_cell.specs.Setting.{Traffic}
 use Rattle.srm_cell.specs.Flights.{BringsNone}
-use Rattle.srm_cell.specs.Cells.{PlainCell, hear, hear_at, own_step, next_event, time_of, StepOutcome, Idle, Full,
-    Spent, Done, Stepped}
+use Rattle.srm_cell.specs.Cells.{PlainCell, hear, hear_at, own_step, next_event, time_of, StepOutcome, Idle, Full}
+use Rattle.srm_cell.specs.Cells.{Spent, Done, Stepped}
 use Rattle.srm_cell.specs.Views.{IsCell}
 use Rattle.srm_engine.specs.declared.cells.Cells.{Cells}
 

@@ -1,6 +1,6 @@
 -- The laws of windows.
-use Rattle.std.specs.Prelude.{◌≡◌, ◌⊎◌, ℕ, suc, ◌*◌, ◌<◌, ◌≤◌, List, [], ◌∷◌, ◌++◌, Some, All, length, map, take, drop,
-    slice_get, IsPermutation, IsSorted}
+use Rattle.std.specs.Prelude.{◌≡◌, ◌⊎◌, ℕ, suc, ◌*◌, ◌<◌, ◌≤◌, List, [], ◌∷◌, ◌++◌, Some, All, length, map, take, drop}
+use Rattle.std.specs.Prelude.{slice_get, IsPermutation, IsSorted}
 use Rattle.srm_scenario.specs.Plain.{PlainScenario, network_of}
 use Rattle.srm_scenario.specs.Accepted.{IsAccepted}
 use Rattle.srm_member.specs.declared.row.Row.{Row}
@@ -12,10 +12,11 @@ use Rattle.srm_engine.specs.Schedules.{IsSafe, HasResult, HasNoResult}
 use Rattle.srm_engine.specs.Windows.{IsWidth, promise_end, IsFirstQuiet}
 use Rattle.srm_cell.specs.Crossings.{joined}
 use Rattle.srm_engine.specs.Seen.{all_hear}
-use Rattle.srm_engine.specs.WindowRuns.{OwnResult, AreOwnRuns, rows_in, cells_in, IsMerge, each_hears, AreNewInTurn,
-    IsWindow, crossings_of_all, PlainJob, jobs_from, jobs_of, AreJobRuns, job_rows, SomeJobMeetsFull}
-use Rattle.srm_engine.specs.WindowChains.{IsNext, IsOver, start_of, IsEndRule, width_rule, least_width, AreWindows,
-    window_jobs}
+use Rattle.srm_engine.specs.WindowRuns.{OwnResult, AreOwnRuns, rows_in, cells_in, IsMerge, each_hears, AreNewInTurn}
+use Rattle.srm_engine.specs.WindowRuns.{IsWindow, crossings_of_all, PlainJob, jobs_from, jobs_of, AreJobRuns, job_rows}
+use Rattle.srm_engine.specs.WindowRuns.{SomeJobMeetsFull}
+use Rattle.srm_engine.specs.WindowChains.{IsNext, IsOver, start_of, IsEndRule, width_rule, least_width, AreWindows}
+use Rattle.srm_engine.specs.WindowChains.{window_jobs}
 
 -- ---- one window
 

@@ -1,6 +1,6 @@
 -- One window: every cell runs alone to an end, the rows are merged, and every cell hears their packets.
-use Rattle.std.specs.Prelude.{◌≡◌, ◌⊎◌, ℕ, ◌+◌, ◌<◌, zero, suc, List, [], ◌∷◌, ◌++◌, map, length, take, drop, Some,
-    slice_get, IsPermutation, IsSorted}
+use Rattle.std.specs.Prelude.{◌≡◌, ◌⊎◌, ℕ, ◌+◌, ◌<◌, zero, suc, List, [], ◌∷◌, ◌++◌, map, length, take, drop, Some}
+use Rattle.std.specs.Prelude.{slice_get, IsPermutation, IsSorted}
 use Rattle.srm_net.specs.declared.packet.Packet.{Packet}
 use Rattle.srm_member.specs.declared.row.Row.{Row}
 use Rattle.srm_cell.specs.Setting.{Traffic, Setting}

@@ -1,6 +1,6 @@
 -- Windows of time, and where they end.
-use Rattle.std.specs.Prelude.{◌≡◌, ℕ, ◌+◌, ◌<◌, ◌≤◌, not, min, List, [], ◌∷◌, map, filter, Option, Some, None, ◌==◌,
-    if◌then◌else◌}
+use Rattle.std.specs.Prelude.{◌≡◌, ℕ, ◌+◌, ◌<◌, ◌≤◌, not, min, List, [], ◌∷◌, map, filter, Option, Some, None, ◌==◌}
+use Rattle.std.specs.Prelude.{if◌then◌else◌}
 use Rattle.std.specs.List.{range_with_len}
 use Rattle.srm_net.specs.Network.{Network}
 use Rattle.srm_net.specs.Least.{least, least_delay}

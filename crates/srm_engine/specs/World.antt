@@ -6,8 +6,8 @@ use Rattle.srm_member.specs.declared.row.Row.{Row}
 use Rattle.srm_member.specs.declared.exit.Exit.{Exit}
 use Rattle.srm_member.specs.Record.{Record, Active, Gone, exit_of}
 use Rattle.srm_cell.specs.Setting.{Setting}
-use Rattle.srm_cell.specs.Cells.{PlainCell, opening_cell, Event, earlier, next_event, before, StepOutcome, Idle, Full,
-    Spent, Done, Stepped, step_at}
+use Rattle.srm_cell.specs.Cells.{PlainCell, opening_cell, Event, earlier, next_event, before, StepOutcome, Idle, Full}
+use Rattle.srm_cell.specs.Cells.{Spent, Done, Stepped, step_at}
 use Rattle.srm_cell.specs.OwnRuns.{told_to}
 use Rattle.srm_cell.specs.Crossings.{crossings}
 

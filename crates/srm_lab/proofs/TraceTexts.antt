@@ -1,6 +1,6 @@
 -- What an outlet took of a trace that was written through a sink.
-use Rattle.std.proofs.Common.{◌≡◌, ◌∙◌, ℕ, List, [], ◌++◌, ◌+◌, ◌-◌, ◌^◌, min, length, Option, Result, Ok, Err, refl, sym, ap, subst,
-    append-nil}
+use Rattle.std.proofs.Common.{◌≡◌, ◌∙◌, ℕ, List, [], ◌++◌, ◌+◌, ◌-◌, ◌^◌, min, length, Option, Result, Ok, Err, refl, sym, ap, subst}
+use Rattle.std.proofs.Common.{append-nil}
 use Rattle.std.specs.Io.KnownBytes.{Appends, Keeps}
 use Rattle.srm_net.specs.Network.{Network}
 use Rattle.srm_scenario.specs.Plain.{PlainScenario}
@@ -14,8 +14,8 @@ use Rattle.srm_report.specs.declared.standing.Standing.{Standing}
 use Rattle.srm_report.specs.declared.standing.Standing.TheVariants as standing
 use Rattle.srm_report.specs.declared.trace_sink.TraceSink.{TraceSink}
 use Rattle.srm_report.specs.Trace.{trace_of_rows}
-use Rattle.srm_report.specs.TraceSinks.{stage_at, text_next, IsText, stage_of, outlet_under, gathered_by, written_by, GrewBy, Wrote,
-    PutsAll, PutsFront, PutsRows, PutsPart}
+use Rattle.srm_report.specs.TraceSinks.{stage_at, text_next, IsText, stage_of, outlet_under, gathered_by, written_by, GrewBy, Wrote}
+use Rattle.srm_report.specs.TraceSinks.{PutsAll, PutsFront, PutsRows, PutsPart}
 use Rattle.srm_report.specs.SinkLaws.{all_more, front_more}
 use Rattle.srm_lab.specs.declared.fault.LabFault.{LabFault}
 use Rattle.srm_lab.specs.declared.fault.LabFault.TheVariants.{BadCut, BadWidth, ShareFull, NoMemory, CountFull, WriteFault}

@@ -13,8 +13,8 @@ use Rattle.srm_report.specs.Members.{members_table}
 use Rattle.srm_report.specs.Trace.{trace_of_rows}
 use Rattle.srm_report.specs.TraceSinks.{GrewBy}
 use Rattle.srm_lab.specs.declared.fault.LabFault.{LabFault}
-use Rattle.srm_lab.specs.declared.fault.LabFault.TheVariants.{BadCut, BadWidth, ShareFull, NoMemory, CountFull,
-    WriteFault}
+use Rattle.srm_lab.specs.declared.fault.LabFault.TheVariants.{BadCut, BadWidth, ShareFull, NoMemory, CountFull}
+use Rattle.srm_lab.specs.declared.fault.LabFault.TheVariants.{WriteFault}
 use Rattle.srm_lab.specs.declared.options.Show.{Show}
 use Rattle.srm_lab.specs.declared.options.Show.TheVariants.{Trace, Members, Losses, Links}
 

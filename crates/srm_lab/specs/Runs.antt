@@ -18,8 +18,8 @@ use Rattle.srm_engine.specs.WindowRuns.{jobs_of}
 use Rattle.srm_engine.specs.Groups.{handed_jobs}
 use Rattle.srm_engine.specs.Windowed.{IsCut, MayBeWide, PassesShare, rule_of}
 use Rattle.srm_lab.specs.declared.fault.LabFault.{LabFault}
-use Rattle.srm_lab.specs.declared.fault.LabFault.TheVariants.{BadCut, BadWidth, ShareFull, NoMemory, CountFull,
-    WriteFault}
+use Rattle.srm_lab.specs.declared.fault.LabFault.TheVariants.{BadCut, BadWidth, ShareFull, NoMemory, CountFull}
+use Rattle.srm_lab.specs.declared.fault.LabFault.TheVariants.{WriteFault}
 use Rattle.srm_lab.specs.declared.options.Engine.TheVariants.{Window}
 use Rattle.srm_lab.specs.declared.options.Options.{Options}
 use Rattle.srm_lab.specs.Reports.{TellsReport}

@@ -1,6 +1,6 @@
 -- Each step of a seat keeps the rule of the ledger.
-use Rattle.std.proofs.Common.{◌≡◌, ◌≢◌, ℕ, zero, suc, ◌+◌, ◌*◌, ◌/◌, ◌%◌, ◌^◌, ◌<◌, ◌≤◌, List, [], ◌∷◌, ◌++◌, length, replicate,
-    slice_index, set, sym, refl, ap, ◌∙◌, subst, ⊎_elim, arith, length-set}
+use Rattle.std.proofs.Common.{◌≡◌, ◌≢◌, ℕ, zero, suc, ◌+◌, ◌*◌, ◌/◌, ◌%◌, ◌^◌, ◌<◌, ◌≤◌, List, [], ◌∷◌, ◌++◌, length, replicate}
+use Rattle.std.proofs.Common.{slice_index, set, sym, refl, ap, ◌∙◌, subst, ⊎_elim, arith, length-set}
 use Rattle.std.proofs.Math.Nat.{mod-eq_of_lt}
 use Rattle.std.proofs.lemmas.List.{get_or-set_same, get_or-set_other, get_or-replicate, get_or_past, length-replicate, set-get_or}
 use Rattle.std.proofs.lemmas.Grind.{get_or_default_zero}
@@ -12,8 +12,8 @@ use Rattle.atomic_table.specs.Table.{State, keeps, step, Allows, Splits, Joins, 
 use Rattle.atomic_table.proofs.Lists.{at_set, at_snoc, at_index}
 use Rattle.srm_ledger.proofs.Zips.{added_at, larger_at}
 use Rattle.srm_ledger.specs.declared.rule.Holding.{Holding}
-use Rattle.srm_ledger.specs.Tally.{spent, total, weight_of, share_at, seen_at, SeatOk, Tallied, Finds, grew, saw, adds, reads, first_half,
-    second_half, joined, AllFit, AreWords}
+use Rattle.srm_ledger.specs.Tally.{spent, total, weight_of, share_at, seen_at, SeatOk, Tallied, Finds, grew, saw, adds, reads, first_half}
+use Rattle.srm_ledger.specs.Tally.{second_half, joined, AllFit, AreWords}
 
 pub total_set : (f : Holding → ℕ) (l : List Holding) (i : ℕ) (v w : Holding) → get_elem? l i ≡ some v → total f (set l i w) + f v
     ≡ total f l + f w
@@ -72,7 +72,7 @@ step_keeps n id i x d v w s hs h at below is spare weigh alive here else most kn
           dite (ℕ_discrete k i)
           (λ same. let P : ℕ → Type 0 = λ j. slice_index (set s.words i x) j ≡ total (share_at j) (set s.views id w) in
           subst P (sym same) (let t' = total_set (share_at i) s.views id v w at in let e' = h.summed i in let r =
-              get_or-set_same s.words i x 0 lt in omega arith))
+          get_or-set_same s.words i x 0 lt in omega arith))
           (λ not. let r = get_or-set_other s.words i k x 0 not in let q = else k not in omega arith);
       spare = dite (ℕ_discrete 0 i)
           (λ same. let P : ℕ → Type 0 = λ j. slice_index (set s.words i x) j ≡ 0 in
@@ -81,7 +81,7 @@ step_keeps n id i x d v w s hs h at below is spare weigh alive here else most kn
           (λ not. get_or-set_other s.words i 0 x 0 not ∙ h.spare);
       seats = λ j u e. ⊎_elim
           (λ (t : (j ≡ id) × (w ≡ u)). subst (SeatOk (set s.words i x)) t.1 record
-              { spent_is = λ z. absurd (omega arith); capped = most; known = known })
+          { spent_is = λ z. absurd (omega arith); capped = most; known = known })
           (λ (t : (j ≢ id) × (get_elem? s.views j ≡ some u)). let ok = h.seats j u t.1 in
           record { spent_is = ok.spent_is; capped = ok.capped; known = λ k. let a = ok.known k in let b = more k in omega arith })
           (at_set s.views id j w u e);
@@ -138,7 +138,7 @@ read_allowed n slots id i v c below long alive s h _ at _ =
           (λ e. let P : ℕ → Type 0 = λ j. slice_index (set v.seen i x) j ≤ slice_index (set s.words i x) j in
           subst P (sym e) (let a = get_or-set_same v.seen i x 0 long in let b = get_or-set_same s.words i x 0 lt in omega arith))
           (λ no. let a = get_or-set_other v.seen i k x 0 no in let b = get_or-set_other s.words i k x 0 no in let o = ok.known k in
-              omega arith)),
+          omega arith)),
       (
         refl,
         record {
@@ -179,11 +179,15 @@ split_allowed n id v two s h at =
       seats = λ j u e. ⊎_elim
           (λ x. ⊎_elim
           (λ (t : (j ≡ id) × (l ≡ u)). subst (SeatOk s.words) t.1 record
-              { spent_is = λ z. absurd (omega arith); capped = ok.capped; known = ok.known })
+          { spent_is = λ z. absurd (omega arith); capped = ok.capped; known = ok.known })
           (λ (t : (j ≢ id) × (get_elem? s.views j ≡ some u)). h.seats j u t.1)
           (at_set s.views id j l u x))
-          (λ (is : r ≡ u). subst (SeatOk s.words) is record { spent_is = λ z. absurd (omega arith); capped = λ k. let z = zero_at k in
-              omega arith; known = ok.known })
+          (λ (is : r ≡ u). subst (SeatOk s.words) is record {
+            spent_is = λ z. absurd (omega arith);
+            capped = λ k. let z = zero_at k in
+                omega arith;
+            known = ok.known;
+          })
           (at_snoc (set s.views id l) r u j e);
     }
 
@@ -193,7 +197,7 @@ join_allowed n id v other w alive fit s h at two at' =
     let b = joined v w in
     let vs = set s.views id b in
     let was : get_elem? s.views other ≡ some w = ⊎_elim (λ (t : (other ≡ id) × (b ≡ w)). absurd (two t.0))
-        (λ (t : (other ≢ id) × (get_elem? s.views other ≡ some w)). t.1) (at_set s.views id other b w at') in
+    (λ (t : (other ≢ id) × (get_elem? s.views other ≡ some w)). t.1) (at_set s.views id other b w at') in
     let ok = h.seats id v at in
     let ok' = h.seats other w was in
     record {
@@ -205,7 +209,7 @@ join_allowed n id v other w alive fit s h at two at' =
       spare = h.spare;
       seats = λ j u e. ⊎_elim
           (λ (t : (j ≡ other) × (spent ≡ u)). subst (SeatOk s.words) t.1
-              record { spent_is = λ z. refl; capped = λ k. omega arith; known = λ k. omega arith })
+          record { spent_is = λ z. refl; capped = λ k. omega arith; known = λ k. omega arith })
           (λ (t : (j ≢ other) × (get_elem? vs j ≡ some u)). ⊎_elim
           (λ (q : (j ≡ id) × (b ≡ u)). subst (SeatOk s.words) q.1 record {
             spent_is = λ z. absurd (omega arith);
@@ -225,8 +229,8 @@ closed_words n id v ws xs long whole f k lt =
     let h = f.1.0 in
     let is = whole_words n s id v h f.1.1 whole k in
     subst (λ (l : List ℕ). get_elem? l k ≡ some (slice_index v.shares k))
-        f.2 ((let far : k < length s.words = (let e = h.wide in omega arith) in
-        at_index s.words k (slice_index v.shares k) far (sym (get_or_default_zero s.words k (slice_index v.shares k) far ∙ is))))
+    f.2 ((let far : k < length s.words = (let e = h.wide in omega arith) in
+    at_index s.words k (slice_index v.shares k) far (sym (get_or_default_zero s.words k (slice_index v.shares k) far ∙ is))))
 
 -- what the whole seat read is not above its shares
 pub closed_reads : {S : Type 0} (n id : ℕ) (v : Holding) (ws : List ℕ) (xs : List S) → v.weight ≡ 65536

@@ -1,5 +1,6 @@
 -- Facts about each element of a list.
-use Rattle.std.proofs.Common.{zero, suc, All, arith, Bool, true, false, cond, List, [], ◌∷◌, ◌++◌, map, filter, Ordering, Less, Equal, Greater, is_lt}
+use Rattle.std.proofs.Common.{zero, suc, All, arith, Bool, true, false, cond, List, [], ◌∷◌, ◌++◌, map, filter, Ordering, Less, Equal}
+use Rattle.std.proofs.Common.{Greater, is_lt}
 use Rattle.std.specs.FinMap.Entries.{put, by_order}
 use Rattle.srm_net.specs.Orders.{place}
 

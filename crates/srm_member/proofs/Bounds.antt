@@ -1,5 +1,6 @@
 -- What a reaction does to the timers and to the fixed part.
-use Rattle.std.proofs.Common.{◌≡◌, ℕ, zero, suc, ◌<◌, ◌≤◌, ◌+◌, ◌-◌, max, min, Bool, true, false, cond, ◌&&◌, List, [], ◌∷◌, map, refl, arith, Option, Some, None, unwrap_or, nat_lt, nat_le}
+use Rattle.std.proofs.Common.{◌≡◌, ℕ, zero, suc, ◌<◌, ◌≤◌, ◌+◌, ◌-◌, max, min, Bool, true, false, cond, ◌&&◌, List, [], ◌∷◌, map, refl}
+use Rattle.std.proofs.Common.{arith, Option, Some, None, unwrap_or, nat_lt, nat_le}
 use Rattle.std.specs.FinMap.Entries.{put, find}
 use Rattle.srm_net.specs.declared.packet.Name.{Name}
 use Rattle.srm_net.specs.declared.packet.PageId.{PageId}
@@ -15,7 +16,11 @@ use Rattle.srm_member.specs.declared.due.Due.{Due}
 use Rattle.srm_member.specs.Timers.{draw}
 use Rattle.srm_member.specs.Record.{Memory, timers_of, Missing, Repairing, Stream}
 use Rattle.srm_net.specs.Roles.{is_sender, is_listener}
-use Rattle.srm_member.specs.React.{Reaction, quietly, sending, without, has_entry, request_length, repair_length, back_off, with_stream, meet, lose_one, lose_from, lose_below, holding, mending, got, resting, got_repair, planning, asked_missing_at, asked_held, requested, page_heard, after_entry, informed, hear_body, asking_at, asking, answering_at, answering, own_page, own_stream, drawn_on, drawing, is_skip, react_active, listened, listen, react_listener, react}
+use Rattle.srm_member.specs.React.{Reaction, quietly, sending, without, has_entry, request_length, repair_length, back_off, with_stream}
+use Rattle.srm_member.specs.React.{meet, lose_one, lose_from, lose_below, holding, mending, got, resting, got_repair, planning}
+use Rattle.srm_member.specs.React.{asked_missing_at, asked_held, requested, page_heard, after_entry, informed, hear_body, asking_at, asking}
+use Rattle.srm_member.specs.React.{answering_at, answering, own_page, own_stream, drawn_on, drawing, is_skip, react_active, listened}
+use Rattle.srm_member.specs.React.{listen, react_listener, react}
 use Rattle.srm_member.proofs.AllIn.{AllIn, AllIn-append, AllIn-first, AllIn-second, AllIn-filter, AllIn-map, AllIn-unmap, AllIn-put}
 
 at_least_one : (x : ℕ) → 1 ≤ max 1 x
@@ -64,7 +69,8 @@ module _ (f : Fixed) (A : List (Name × Missing) → Type 0) (B : List (Name × 
   kept_lose_from : (p : PageId) (count first : ℕ) (m : Memory) → Kept m → Kept (lose_from at p count first m)
   unfolding lose_from
   kept_lose_from p zero first m k = k
-  kept_lose_from p (suc count) first m k = kept_lose_from p count (suc first) (lose_one at (name_in p first) m) (kept_lose_one (name_in p first) m k)
+  kept_lose_from p (suc count) first m k = kept_lose_from p count (suc first) (lose_one at (name_in p first) m)
+      (kept_lose_one (name_in p first) m k)
 
   kept_stream : (p : PageId) (s : Stream) (m : Memory) → Kept m → Kept (with_stream p s m)
   kept_stream p s m k = record { same = k.same; asks = k.asks; answers = k.answers }
@@ -127,7 +133,8 @@ module _ (f : Fixed) (A : List (Name × Missing) → Type 0) (B : List (Name × 
   unfolding after_entry
   kept_entry h m k =
       let s = meet m (page_heard h) (h.highest + 1) in
-      kept_cond (nat_le s.next h.highest) _ _ (kept_lose (page_heard h) (h.highest + 1) (h.highest + 1) s m k) (kept_stream (page_heard h) s m k)
+      kept_cond (nat_le s.next h.highest) _ _ (kept_lose (page_heard h) (h.highest + 1) (h.highest + 1) s m k)
+      (kept_stream (page_heard h) s m k)
 
   kept_told : (hs : List Heard) (m : Memory) (lost : List Name) → Kept m → Kept (informed at hs m lost).memory
   unfolding informed
@@ -199,12 +206,14 @@ module _ (Q : Due → Type 0) (at : ℕ) (later : (d : Due) → at < d.time → 
   put_ask_in : (n : Name) (v : Missing) (es : List (Name × Missing)) → at < v.expiry → AllIn IsAsk es → AllIn IsAsk (put name_cmp n v es)
   put_ask_in n v es lt h = AllIn-put IsAsk name_cmp n v es (λ x. later _ lt) h
 
-  put_answer_in : (n : Name) (v : Repairing) (es : List (Name × Repairing)) → at < v.expiry → AllIn IsAnswer es → AllIn IsAnswer (put name_cmp n v es)
+  put_answer_in : (n : Name) (v : Repairing) (es : List (Name × Repairing)) → at < v.expiry → AllIn IsAnswer es
+      → AllIn IsAnswer (put name_cmp n v es)
   put_answer_in n v es lt h = AllIn-put IsAnswer name_cmp n v es (λ x. later _ lt) h
 
   pub kept_react : (m : Memory) (cause : Cause) → AllIn Q (timers_of m) → AllIn Q (timers_of (react m at cause).memory)
   kept_react m cause h =
-      let k = kept_memory m.fixed (AllIn IsAsk) (AllIn IsAnswer) at put_ask_in (λ n es g. AllIn-filter IsAsk _ es g) put_answer_in (λ n es g. AllIn-filter IsAnswer _ es g) m cause (record {
+      let k = kept_memory m.fixed (AllIn IsAsk) (AllIn IsAnswer) at put_ask_in (λ n es g. AllIn-filter IsAsk _ es g) put_answer_in
+      (λ n es g. AllIn-filter IsAnswer _ es g) m cause (record {
         same = refl;
         asks = AllIn-unmap Q _ m.missing (AllIn-first Q _ _ h);
         answers = AllIn-unmap Q _ m.repairs (AllIn-second Q (map (λ e. record { time = e.1.expiry; rank = 2; name = e.0 }) m.missing) _ h);

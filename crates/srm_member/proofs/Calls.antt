@@ -15,7 +15,8 @@ unfolding react
 react-active m at cause e = ap (λ b. cond b (react_listener m cause) (react_active m at cause)) e
 
 -- the answer and what the member knows then are the table's
-pub call_gives : (r : Record) (gone : Bool) (m m2 : Memory) (at : ℕ) (cause : Cause) (a : React) → record_of gone m ≡ r → gone ≡ false → is_listener m.fixed.role ≡ false
+pub call_gives : (r : Record) (gone : Bool) (m m2 : Memory) (at : ℕ) (cause : Cause) (a : React) → record_of gone m ≡ r → gone ≡ false
+    → is_listener m.fixed.role ≡ false
     → Gives a m2 (react_active m at cause) → Reacts r at cause (Ok a) (Active m2)
 call_gives r gone m m2 at cause a view on role g =
     let e = sym (react-active m at cause role) in

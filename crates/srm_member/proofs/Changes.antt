@@ -1,5 +1,7 @@
 -- What an event changes of the names that a member holds and lacks.
-use Rattle.std.proofs.Common.{◌≡◌, ℕ, zero, suc, ◌<◌, ◌≤◌, ◌+◌, ◌-◌, min, Bool, true, false, cond, not, ◌&&◌, T, List, [], ◌∷◌, ◌++◌, refl, sym, ap, ◌∙◌, subst, ◌≢◌, ◌⊎◌, inl, inr, arith, Option, Some, None, is_some, unwrap_or, nat_lt, nat_le, ltb-true, true≢false, append-nil}
+use Rattle.std.proofs.Common.{◌≡◌, ℕ, zero, suc, ◌<◌, ◌≤◌, ◌+◌, ◌-◌, min, Bool, true, false, cond, not, ◌&&◌, T, List, [], ◌∷◌, ◌++◌, refl}
+use Rattle.std.proofs.Common.{sym, ap, ◌∙◌, subst, ◌≢◌, ◌⊎◌, inl, inr, arith, Option, Some, None, is_some, unwrap_or, nat_lt, nat_le}
+use Rattle.std.proofs.Common.{ltb-true, true≢false, append-nil}
 use Rattle.std.specs.List.{Contains}
 use Rattle.std.proofs.lemmas.List.Elements.{Contains-append_left, Contains-append_right, Contains-append_cases}
 use Rattle.std.specs.FinMap.Entries.{put, find, is_sorted}
@@ -13,12 +15,19 @@ use Rattle.srm_net.specs.Names.{page_of, name_in, name_cmp, page_cmp}
 use Rattle.srm_member.specs.declared.cause.Cause.{Cause}
 use Rattle.srm_member.specs.declared.cause.Cause.TheVariants.{Join, Arrival, Ask, Answer, Draw, Report}
 use Rattle.srm_member.specs.declared.told.Told.{Told}
-use Rattle.srm_member.specs.declared.told.Told.TheVariants.{Entered, Fresh, Fixed, Again, Skip, Rest, Busy, Plan, Hold, Back, Sent, Heard as Informed}
+use Rattle.srm_member.specs.declared.told.Told.TheVariants.{Entered, Fresh, Fixed, Again, Skip, Rest, Busy, Plan, Hold, Back, Sent}
+use Rattle.srm_member.specs.declared.told.Told.TheVariants.{Heard as Informed}
 use Rattle.srm_member.specs.Record.{Memory, Missing, Repairing, Stream}
 use Rattle.srm_net.specs.Roles.{is_late, is_sender, is_listener}
-use Rattle.srm_member.specs.React.{Reaction, quietly, sending, without, has_entry, request_length, repair_length, back_off, wants, begins_at, with_stream, meet, lose_one, lose_from, names_from, lose_below, lost_below, holding, mending, got, resting, got_repair, planning, asked_missing_at, asked_missing, asked_held, requested, page_heard, after_entry, lost_by_entry, informed, hear_body, asking_at, asking, answering_at, answering, own_page, own_stream, drawn_on, drawing, session_of, is_skip, react_active, listened, listen, react_listener, react}
+use Rattle.srm_member.specs.React.{Reaction, quietly, sending, without, has_entry, request_length, repair_length, back_off, wants}
+use Rattle.srm_member.specs.React.{begins_at, with_stream, meet, lose_one, lose_from, names_from, lose_below, lost_below, holding, mending}
+use Rattle.srm_member.specs.React.{got, resting, got_repair, planning, asked_missing_at, asked_missing, asked_held, requested, page_heard}
+use Rattle.srm_member.specs.React.{after_entry, lost_by_entry, informed, hear_body, asking_at, asking, answering_at, answering, own_page}
+use Rattle.srm_member.specs.React.{own_stream, drawn_on, drawing, session_of, is_skip, react_active, listened, listen, react_listener}
+use Rattle.srm_member.specs.React.{react}
 use Rattle.srm_member.proofs.AllIn.{AllIn, AllIn-append}
-use Rattle.srm_member.proofs.TableChanges.{Has, names_apart, put_here, put_there, has_put, has_more, has_cases, without_less, without_there, sorted_put, sorted_without, has_some, page_here, page_cases}
+use Rattle.srm_member.proofs.TableChanges.{Has, names_apart, put_here, put_there, has_put, has_more, has_cases, without_less, without_there}
+use Rattle.srm_member.proofs.TableChanges.{sorted_put, sorted_without, has_some, page_here, page_cases}
 
 -- ---- changes that hold nothing new
 
@@ -26,8 +35,8 @@ use Rattle.srm_member.proofs.TableChanges.{Has, names_apart, put_here, put_there
 abbrev pub Below : Name → Memory → Type 0
 Below n m = (s : Stream) × (find page_cmp (page_of n) m.streams ≡ Some s) × (n.number < s.next)
 
--- from one memory to another these names are lost, which it had not heard of; other names that it lacks, and those that it holds,
--- are the same, and repair timers are set for names that it holds
+-- from one memory to another these names are lost, which it had not heard of; other names that it lacks, and those that
+-- it holds, are the same, and repair timers are set for names that it holds
 pub record Grows (lost : List Name) (m k : Memory) : Type 0 where
   pub fixed : k.fixed ≡ m.fixed
   pub held : k.held ≡ m.held
@@ -43,7 +52,8 @@ pub record Grows (lost : List Name) (m k : Memory) : Type 0 where
 no_name : {A : Type 0} (n : Name) → Contains [] n → A
 no_name n h = absurd (let l = h.1 in omega arith)
 
-pub grows_same : (m k : Memory) → k.fixed ≡ m.fixed → k.held ≡ m.held → k.streams ≡ m.streams → k.missing ≡ m.missing → k.repairs ≡ m.repairs → Grows [] m k
+pub grows_same : (m k : Memory) → k.fixed ≡ m.fixed → k.held ≡ m.held → k.streams ≡ m.streams → k.missing ≡ m.missing → k.repairs
+    ≡ m.repairs → Grows [] m k
 grows_same m k f h s l r = record {
   fixed = f;
   held = h;
@@ -88,17 +98,20 @@ begins_low : (m : Memory) (p : PageId) (x : ℕ) → begins_at m p x ≤ x
 begins_low m p x = begins_by (is_late m.fixed.role && not (wants m p.page)) x
 
 -- the entry met is that of the page, or begins no later than here
-met : (m : Memory) (p : PageId) (x : ℕ) → (find page_cmp p m.streams ≡ Some (meet m p x)) ⊎ ((find page_cmp p m.streams ≡ None) × ((meet m p x).next ≤ x))
-met m p x = elim (find page_cmp p m.streams) as (λ o. find page_cmp p m.streams ≡ o → (find page_cmp p m.streams ≡ Some (meet m p x)) ⊎ ((find page_cmp p m.streams ≡ None) × ((meet m p x).next ≤ x))) [
-  | None ↦ λ e.
-      let new : meet m p x ≡ record { floor = begins_at m p x; next = begins_at m p x } = ap (λ o. unwrap_or o (record { floor = begins_at m p x; next = begins_at m p x })) e in
-      let next : (meet m p x).next ≡ begins_at m p x = ap (λ (s : Stream). s.next) new in
-      let low = begins_low m p x in
-      inr (e, omega arith)
-  | Some s ↦ λ e.
-      let same : meet m p x ≡ s = ap (λ o. unwrap_or o (record { floor = begins_at m p x; next = begins_at m p x })) e in
-      inl (e ∙ ap Some (sym same))
-] refl
+met : (m : Memory) (p : PageId) (x : ℕ) → (find page_cmp p m.streams ≡ Some (meet m p x))
+    ⊎ ((find page_cmp p m.streams ≡ None) × ((meet m p x).next ≤ x))
+met m p x = elim (find page_cmp p m.streams) as (λ o. find page_cmp p m.streams ≡ o → (find page_cmp p m.streams ≡ Some (meet m p x))
+    ⊎ ((find page_cmp p m.streams ≡ None) × ((meet m p x).next ≤ x))) [
+      | None ↦ λ e.
+          let new : meet m p x ≡ record { floor = begins_at m p x; next = begins_at m p x } =
+          ap (λ o. unwrap_or o (record { floor = begins_at m p x; next = begins_at m p x })) e in
+          let next : (meet m p x).next ≡ begins_at m p x = ap (λ (s : Stream). s.next) new in
+          let low = begins_low m p x in
+          inr (e, omega arith)
+      | Some s ↦ λ e.
+          let same : meet m p x ≡ s = ap (λ o. unwrap_or o (record { floor = begins_at m p x; next = begins_at m p x })) e in
+          inl (e ∙ ap Some (sym same))
+    ] refl
 
 none_some : {A : Type 0} (o : Option A) (a : A) → o ≡ None → o ≡ Some a → ⊥
 none_some o a e f = let x : None ≡ Some a = sym e ∙ f in cc
@@ -107,7 +120,8 @@ same_some : {A : Type 0} (a b : A) → Some a ≡ Some b → a ≡ b
 same_some a b e = cc
 
 -- a stream whose next number is no lower than that of the one met
-below_put : (m : Memory) (p : PageId) (x : ℕ) (s : Stream) → (meet m p x).next ≤ s.next → (n : Name) → Below n m → Below n (with_stream p s m)
+below_put : (m : Memory) (p : PageId) (x : ℕ) (s : Stream) → (meet m p x).next ≤ s.next → (n : Name) → Below n m
+    → Below n (with_stream p s m)
 below_put m p x s le n b = elim (page_cases (page_of n) p s m.streams) [
   | inl same ↦
       let old : (meet m p x).next ≡ b.0.next = (elim (met m p x) [
@@ -171,11 +185,13 @@ same_but at p (suc count) first m =
       sorted = λ h. r.sorted (sorted_put (name_in p first) _ m.missing h);
     }
 
-lost_missing : (at : ℕ) (p : PageId) (count first : ℕ) (m : Memory) (n : Name) → Contains (names_from p count first) n → Has n (lose_from at p count first m).missing
+lost_missing : (at : ℕ) (p : PageId) (count first : ℕ) (m : Memory) (n : Name) → Contains (names_from p count first) n
+    → Has n (lose_from at p count first m).missing
 unfolding lose_from
 lost_missing at p zero first m n c = no_name n c
 lost_missing at p (suc count) first m n c = elim (Contains-append_cases (name_in p first ∷ []) (names_from p count (suc first)) n c) [
-  | inl h ↦ (same_but at p count (suc first) (lose_one at (name_in p first) m)).still n (subst (λ x. Has x (lose_one at (name_in p first) m).missing) (one h) (has_put (name_in p first) _ m.missing))
+  | inl h ↦ (same_but at p count (suc first) (lose_one at (name_in p first) m)).still n
+      (subst (λ x. Has x (lose_one at (name_in p first) m).missing) (one h) (has_put (name_in p first) _ m.missing))
   | inr h ↦ lost_missing at p count (suc first) (lose_one at (name_in p first) m) n h
 ]
   where
@@ -183,7 +199,8 @@ lost_missing at p (suc count) first m n c = elim (Contains-append_cases (name_in
     one (zero, l, e) = e
     one (suc k, l, e) = absurd (let g : suc k < 1 = l in omega arith)
 
-missing_lost : (at : ℕ) (p : PageId) (count first : ℕ) (m : Memory) (n : Name) → Has n (lose_from at p count first m).missing → Has n m.missing ⊎ Contains (names_from p count first) n
+missing_lost : (at : ℕ) (p : PageId) (count first : ℕ) (m : Memory) (n : Name) → Has n (lose_from at p count first m).missing
+    → Has n m.missing ⊎ Contains (names_from p count first) n
 unfolding lose_from
 missing_lost at p zero first m n h = inl h
 missing_lost at p (suc count) first m n h = elim (missing_lost at p count (suc first) (lose_one at (name_in p first) m) n h) [
@@ -192,7 +209,8 @@ missing_lost at p (suc count) first m n h = elim (missing_lost at p count (suc f
 ]
 
 -- the names lost are of this page, with numbers from the first on
-pub from_page : (p : PageId) (count first : ℕ) (n : Name) → Contains (names_from p count first) n → (page_of n ≡ p) × (first ≤ n.number) × (n.number < first + count)
+pub from_page : (p : PageId) (count first : ℕ) (n : Name) → Contains (names_from p count first) n → (page_of n ≡ p) × (first ≤ n.number)
+    × (n.number < first + count)
 from_page p zero first n c = no_name n c
 from_page p (suc count) first n (zero, l, e) =
     let number : first ≡ n.number = ap (λ (x : Name). x.number) e in
@@ -203,7 +221,8 @@ from_page p (suc count) first n (suc k, l, e) =
     let b = r.2 in
     (r.0, omega arith, omega arith)
 
-grows_lose : (at : ℕ) (p : PageId) (x end next : ℕ) (m : Memory) → end ≤ next → (meet m p x).next ≤ next → Grows (lost_below p end (meet m p x)) m (lose_below at p end next (meet m p x) m)
+grows_lose : (at : ℕ) (p : PageId) (x end next : ℕ) (m : Memory) → end ≤ next → (meet m p x).next ≤ next
+    → Grows (lost_below p end (meet m p x)) m (lose_below at p end next (meet m p x) m)
 unfolding lose_below
 grows_lose at p x end next m low high =
     let s = meet m p x in
@@ -214,7 +233,8 @@ grows_lose at p x end next m low high =
     record {
       fixed = same.fixed;
       held = same.held;
-      below = λ n b. (let r = below_put m p x t high n b in (r.0, ap (λ es. find page_cmp (page_of n) (put page_cmp p t es)) same.streams ∙ r.1, r.2));
+      below = λ n b. (let r = below_put m p x t high n b in
+          (r.0, ap (λ es. find page_cmp (page_of n) (put page_cmp p t es)) same.streams ∙ r.1, r.2));
       new = λ n c. (let f = from_page p count s.next n c in
           let le : (meet m (page_of n) x).next ≤ n.number = subst (λ q. (meet m q x).next ≤ n.number) (sym f.0) f.1 in
           not_heard m n x le);
@@ -275,7 +295,8 @@ grows_resting at n who m = record {
 
 -- ---- what an event does
 
--- the body, if any, is a session, a request for a name that was missing, or a repair of one with a repair timer, with its ink
+-- the body, if any, is a session, a request for a name that was missing, or a repair of one with a repair timer, with
+-- its ink
 abbrev pub Allowed : Memory → Option Body → Type 0
 Allowed m None = Unit {0}
 Allowed m (Some (Drawop n ink)) = ⊥
@@ -368,7 +389,8 @@ got_effect b at n ink m brings =
       ink = ink;
       brings = brings;
       mid = lose_below at (page_of n) n.number (n.number + 1) s m;
-      grows = grows_lose at (page_of n) n.number n.number (n.number + 1) m (omega arith) (let le = le_of s.next n.number new in omega arith);
+      grows = grows_lose at (page_of n) n.number n.number (n.number + 1) m
+          (omega arith) (let le = le_of s.next n.number new in omega arith);
       fixed = refl;
       held = refl;
       mends = inl (refl, refl);
@@ -392,7 +414,8 @@ got_effect b at n ink m brings =
     }))
     (λ has. inl (record { grows = grows_meet m (page_of n) n.number; not_fresh = λ e. cc; not_fixed = λ e. cc; body = tt }))))
 
-rested : (m : Memory) (b : Body) (at : ℕ) (n : Name) (who : ℕ) (r : Reaction) → Got m b r → Got m b (record r { memory = resting at n who r.memory })
+rested : (m : Memory) (b : Body) (at : ℕ) (n : Name) (who : ℕ) (r : Reaction) → Got m b r
+    → Got m b (record r { memory = resting at n who r.memory })
 rested m b at n who r (inl q) = inl (record {
   grows = grows_then r.answer.lost m r.memory (resting at n who r.memory) q.grows (grows_resting at n who r.memory);
   not_fresh = q.not_fresh;
@@ -416,15 +439,23 @@ rested m b at n who r (inr q) = inr (record {
 repair_effect : (b : Body) (at : ℕ) (n : Name) (ink who : ℕ) (m : Memory) → Brings b n ink → Got m b (got_repair at n ink who m)
 repair_effect b at n ink who m brings =
     let r = got at n ink m in
-    if_either (Got m b) (is_skip r.answer.told) r (record r { memory = resting at n who r.memory }) (λ skip. got_effect b at n ink m brings) (λ goes. rested m b at n who r (got_effect b at n ink m brings))
+    if_either (Got m b) (is_skip r.answer.told) r (record r { memory = resting at n who r.memory }) (λ skip. got_effect b at n ink m brings)
+    (λ goes. rested m b at n who r (got_effect b at n ink m brings))
 
 -- ---- requests
 
-asked_effect : (at : ℕ) (n : Name) (lost : List Name) (m k : Memory) (o : Option Missing) → find name_cmp n k.missing ≡ o → Grows lost m k → Quiet m (asked_missing_at at n lost k o)
+asked_effect : (at : ℕ) (n : Name) (lost : List Name) (m k : Memory) (o : Option Missing) → find name_cmp n k.missing ≡ o → Grows lost m k
+    → Quiet m (asked_missing_at at n lost k o)
 asked_effect at n lost m k None e g = record { grows = g; not_fresh = λ e. cc; not_fixed = λ e. cc; body = tt }
 asked_effect at n lost m k (Some x) e g = if_either (Quiet m) (nat_lt at x.ignore) _ _
     (λ early. record { grows = g; not_fresh = λ e. cc; not_fixed = λ e. cc; body = tt })
-    (λ late. record { grows = grows_then lost m k (back_off at n x k) g (grows_back_off at n x k (ap is_some e)); not_fresh = λ e. cc; not_fixed = λ e. cc; body = tt })
+    (λ late. record {
+      grows = grows_then lost m k (back_off at n x k) g (grows_back_off at n x k (ap is_some e));
+      not_fresh =
+          λ e. cc;
+      not_fixed = λ e. cc;
+      body = tt;
+    })
 
 held_effect : (at : ℕ) (n : Name) (who : ℕ) (m k : Memory) → Has n k.held → Grows [] m k → Quiet m (asked_held at n who k)
 held_effect at n who m k h g =
@@ -432,7 +463,13 @@ held_effect at n who m k h g =
     (λ rests. record { grows = g; not_fresh = λ e. cc; not_fixed = λ e. cc; body = tt })
     (λ goes. if_either (Quiet m) (has_entry n k.repairs) _ _
     (λ busy. record { grows = g; not_fresh = λ e. cc; not_fixed = λ e. cc; body = tt })
-    (λ plans. record { grows = grows_then [] m k (planning at n who k) g (grows_planning at n who k h); not_fresh = λ e. cc; not_fixed = λ e. cc; body = tt }))
+    (λ plans. record {
+      grows = grows_then [] m k (planning at n who k) g (grows_planning at n who k h);
+      not_fresh = λ e. cc;
+      not_fixed =
+          λ e. cc;
+      body = tt;
+    }))
 
 -- the entry of a page that was met is met again
 met_again : (m : Memory) (p : PageId) (x : ℕ) → meet (with_stream p (meet m p x) m) p x ≡ meet m p x
@@ -454,10 +491,13 @@ request_effect at n who m =
     (λ new.
     let le = le_of s.next n.number new in
     let again = met_again m p (n.number + 1) in
-    let low : (meet k p (n.number + 1)).next ≤ n.number + 1 = (let e : (meet k p (n.number + 1)).next ≡ s.next = ap (λ (t : Stream). t.next) again in omega arith) in
+    let low : (meet k p (n.number + 1)).next ≤ n.number + 1 =
+    (let e : (meet k p (n.number + 1)).next ≡ s.next = ap (λ (t : Stream). t.next) again in omega arith) in
     let l : Grows (lost_below p (n.number + 1) s) k lose =
-    subst (λ t. Grows (lost_below p (n.number + 1) t) k (lose_below at p (n.number + 1) (n.number + 1) t k)) again (grows_lose at p (n.number + 1) (n.number + 1) (n.number + 1) k (omega arith) low) in
-    asked_effect at n (lost_below p (n.number + 1) s) m lose (find name_cmp n lose.missing) refl (grows_on [] (lost_below p (n.number + 1) s) m k lose g l))
+    subst (λ t. Grows (lost_below p (n.number + 1) t) k (lose_below at p (n.number + 1) (n.number + 1) t k)) again
+    (grows_lose at p (n.number + 1) (n.number + 1) (n.number + 1) k (omega arith) low) in
+    asked_effect at n (lost_below p (n.number + 1) s) m lose (find name_cmp n lose.missing) refl
+    (grows_on [] (lost_below p (n.number + 1) s) m k lose g l))
     (λ old. asked_effect at n [] m k (find name_cmp n k.missing) refl g)))
 
 -- ---- sessions
@@ -471,7 +511,8 @@ entry_effect at h m =
     let p = page_heard h in
     let s = meet m p (h.highest + 1) in
     if_either (Grows (lost_by_entry h m) m) (nat_le s.next h.highest) _ _
-    (λ new. let le = le_of s.next h.highest new in grows_lose at p (h.highest + 1) (h.highest + 1) (h.highest + 1) m (omega arith) (omega arith))
+    (λ new. let le = le_of s.next h.highest new in grows_lose at p (h.highest + 1) (h.highest + 1) (h.highest + 1) m (omega arith)
+    (omega arith))
     (λ old.
     let none : lost_below p (h.highest + 1) s ≡ [] = none_below p (h.highest + 1) s (high_of s.next h.highest old) in
     subst (λ l. Grows l m (with_stream p s m)) (sym none) (grows_meet m p (h.highest + 1)))
@@ -482,7 +523,8 @@ entry_effect at h m =
 informed_effect : (at : ℕ) (hs : List Heard) (m k : Memory) (lost : List Name) → Grows lost m k → Quiet m (informed at hs k lost)
 unfolding informed
 informed_effect at [] m k lost g = record { grows = g; not_fresh = λ e. cc; not_fixed = λ e. cc; body = tt }
-informed_effect at (h ∷ hs) m k lost g = informed_effect at hs m (after_entry at h k) _ (grows_on lost (lost_by_entry h k) m k (after_entry at h k) g (entry_effect at h k))
+informed_effect at (h ∷ hs) m k lost g = informed_effect at hs m (after_entry at h k) _
+    (grows_on lost (lost_by_entry h k) m k (after_entry at h k) g (entry_effect at h k))
 
 nothing : (m : Memory) → Grows [] m m
 nothing m = grows_same m m refl refl refl refl refl
@@ -500,18 +542,31 @@ skips m told a b = record { grows = nothing m; not_fresh = a; not_fixed = b; bod
 
 asking_effect : (at : ℕ) (n : Name) (m : Memory) (o : Option Missing) → find name_cmp n m.missing ≡ o → Quiet m (asking_at at n m o)
 asking_effect at n m None e = skips m Skip (λ e. cc) (λ e. cc)
-asking_effect at n m (Some x) e = record { grows = grows_back_off at n x m (ap is_some e); not_fresh = λ e. cc; not_fixed = λ e. cc; body = ap is_some e }
+asking_effect at n m (Some x) e = record {
+  grows = grows_back_off at n x m (ap is_some e);
+  not_fresh = λ e. cc;
+  not_fixed = λ e. cc;
+  body =
+      ap is_some e;
+}
 
 answering_effect : (at : ℕ) (n : Name) (m : Memory) (o : Option Repairing) → find name_cmp n m.repairs ≡ o → Quiet m (answering_at at n m o)
 answering_effect at n m None e = skips m Skip (λ e. cc) (λ e. cc)
-answering_effect at n m (Some x) e = record { grows = grows_resting at n m.fixed.member m; not_fresh = λ e. cc; not_fixed = λ e. cc; body = (ap is_some e, refl) }
+answering_effect at n m (Some x) e = record {
+  grows = grows_resting at n m.fixed.member m;
+  not_fresh = λ e. cc;
+  not_fixed = λ e. cc;
+  body =
+      (ap is_some e, refl);
+}
 
 -- the entry of an own page, which begins at 0
 own_met : (m : Memory) (p : PageId) → (find page_cmp p m.streams ≡ Some (own_stream m p)) ⊎ (find page_cmp p m.streams ≡ None)
-own_met m p = elim (find page_cmp p m.streams) as (λ o. find page_cmp p m.streams ≡ o → (find page_cmp p m.streams ≡ Some (own_stream m p)) ⊎ (find page_cmp p m.streams ≡ None)) [
-  | None ↦ λ e. inr e
-  | Some s ↦ λ e. inl (e ∙ ap Some (sym (ap (λ o. unwrap_or o (record { floor = 0; next = 0 })) e)))
-] refl
+own_met m p = elim (find page_cmp p m.streams) as (λ o. find page_cmp p m.streams ≡ o → (find page_cmp p m.streams ≡ Some (own_stream m p))
+    ⊎ (find page_cmp p m.streams ≡ None)) [
+      | None ↦ λ e. inr e
+      | Some s ↦ λ e. inl (e ∙ ap Some (sym (ap (λ o. unwrap_or o (record { floor = 0; next = 0 })) e)))
+    ] refl
 
 drawing_effect : (at page ink : ℕ) (m : Memory) → Quiet m (drawing page ink m) ⊎ Drawn m (drawing page ink m)
 unfolding drawing
@@ -520,7 +575,8 @@ drawing_effect at page ink m =
     let s = own_stream m p in
     let t : Stream = record { floor = s.floor; next = s.next + 1 } in
     let n = name_in p s.next in
-    if_either (λ r. Quiet m r ⊎ Drawn m r) (is_sender m.fixed.role && nat_lt s.next 4096) (sending (drawn_on p ink s m) (Drawop n ink)) (quietly m Skip [])
+    if_either (λ r. Quiet m r ⊎ Drawn m r) (is_sender m.fixed.role && nat_lt s.next 4096) (sending (drawn_on p ink s m) (Drawop n ink))
+    (quietly m Skip [])
     (λ goes. inr (record {
       name = n;
       ink = ink;
@@ -569,7 +625,8 @@ active_effect m at Report = inl (record { grows = nothing m; not_fresh = λ e. c
 -- ---- listeners
 
 listened_effect : (b : Body) (n : Name) (ink : ℕ) (m : Memory) → Brings b n ink → Got m b (listened n ink m)
-listened_effect b n ink m brings = if_either (λ r. Quiet m r ⊎ Brought m b r) (has_entry n m.held) (quietly m Again []) (quietly (holding n ink m) Fresh [])
+listened_effect b n ink m brings = if_either (λ r. Quiet m r ⊎ Brought m b r) (has_entry n m.held) (quietly m Again [])
+    (quietly (holding n ink m) Fresh [])
     (λ has. inl (skips m Again (λ e. cc) (λ e. cc)))
     (λ lacks. inr (record {
       name = n;
@@ -606,4 +663,5 @@ listener_effect m Report = inl (skips m Skip (λ e. cc) (λ e. cc))
 -- what an event changes of the names that a member holds and lacks
 pub effect : (m : Memory) (at : ℕ) (cause : Cause) → Effect m cause (react m at cause)
 unfolding react
-effect m at cause = if_either (Effect m cause) (is_listener m.fixed.role) (react_listener m cause) (react_active m at cause) (λ l. listener_effect m cause) (λ l. active_effect m at cause)
+effect m at cause = if_either (Effect m cause) (is_listener m.fixed.role) (react_listener m cause) (react_active m at cause)
+    (λ l. listener_effect m cause) (λ l. active_effect m at cause)

@@ -1,5 +1,6 @@
 -- Names, pages and timers are compared by their numbers.
-use Rattle.std.proofs.Common.{arith, length, ◌<◌, ◌↔◌, IsSome, IfSome, IsTrue, Bor, Some, [], ◌∷◌, ◌≡◌, Bool, false, cond, List, Option, None, refl, sym, ap, subst, ◌∙◌}
+use Rattle.std.proofs.Common.{arith, length, ◌<◌, ◌↔◌, IsSome, IfSome, IsTrue, Bor, Some, [], ◌∷◌, ◌≡◌, Bool, false, cond, List, Option}
+use Rattle.std.proofs.Common.{None, refl, sym, ap, subst, ◌∙◌}
 use Rattle.std.specs.Ordering.{nat_cmp, ordering_then, eq_by_cmp, is_gt}
 use Rattle.std.specs.List.{list_any}
 use Rattle.std.specs.FinMap.Entries.{put, find}
@@ -26,7 +27,8 @@ then_equal Equal = refl
 then_equal Greater = refl
 
 pub names_compared : name_order.cmp-value.it ≡ name_cmp
-names_compared i a b = ap (λ o. ordering_then (nat_cmp a.source b.source) (ordering_then (nat_cmp a.page b.page) o)) (sym (then_equal (nat_cmp a.number b.number))) i
+names_compared i a b = ap (λ o. ordering_then (nat_cmp a.source b.source) (ordering_then (nat_cmp a.page b.page) o))
+    (sym (then_equal (nat_cmp a.number b.number))) i
 
 pub pages_compared : page_order.cmp-value.it ≡ page_cmp
 pages_compared i a b = ap (λ o. ordering_then (nat_cmp a.source b.source) o) (sym (then_equal (nat_cmp a.page b.page))) i
@@ -40,21 +42,25 @@ name_find n es = ap (λ R. find R n es) (sym names_compared) ∙ maps.find-looku
 pub name_put : {V : Type 0} (n : Name) (v : V) (es : List (Name × V)) → put name_cmp n v es ≡ insert_entry name_order.cmp-value.it es n v
 name_put n v es = ap (λ R. put R n v es) (sym names_compared) ∙ maps.put-insert_entry name_order.cmp-value.it n v es
 
-pub name_without : {V : Type 0} (n : Name) (es : List (Name × V)) → lookup (is_at (name_order.cmp-value.it n)) (remove_entry (is_at (name_order.cmp-value.it n)) es) ≡ None
+pub name_without : {V : Type 0} (n : Name) (es : List (Name × V)) → lookup
+    (is_at (name_order.cmp-value.it n)) (remove_entry (is_at (name_order.cmp-value.it n)) es) ≡ None
     → remove_entry (is_at (name_order.cmp-value.it n)) es ≡ without n es
 name_without n es h = maps.without-remove_entry name_order.cmp-value.it n es h ∙ ap (λ R. maps.without R n es) names_compared
 
 pub page_find : {V : Type 0} (p : PageId) (es : List (PageId × V)) → find page_cmp p es ≡ lookup (is_at (page_order.cmp-value.it p)) es
 page_find p es = ap (λ R. find R p es) (sym pages_compared) ∙ maps.find-lookup page_order.cmp-value.it p es
 
-pub page_put : {V : Type 0} (p : PageId) (v : V) (es : List (PageId × V)) → put page_cmp p v es ≡ insert_entry page_order.cmp-value.it es p v
+pub page_put : {V : Type 0} (p : PageId) (v : V) (es : List (PageId × V))
+    → put page_cmp p v es ≡ insert_entry page_order.cmp-value.it es p v
 page_put p v es = ap (λ R. put R p v es) (sym pages_compared) ∙ maps.put-insert_entry page_order.cmp-value.it p v es
 
 -- an update of a set of timers, in the words of specs/
 pub due_update : (e : Due) (b : Bool) (index index2 : List Due)
-    → ((d : Due) → list_any (is_at (due_order.cmp-value.it d)) index2 ≡ cond (is_at (due_order.cmp-value.it e) d) b (list_any (is_at (due_order.cmp-value.it d)) index))
+    → ((d : Due) → list_any (is_at (due_order.cmp-value.it d)) index2
+    ≡ cond (is_at (due_order.cmp-value.it e) d) b (list_any (is_at (due_order.cmp-value.it d)) index))
     → (d : Due) → has index2 d ≡ cond (eq_by_cmp due_cmp e d) b (has index d)
-due_update e b index index2 h = subst (λ R. (d : Due) → list_any (is_at (R d)) index2 ≡ cond (is_at (R e) d) b (list_any (is_at (R d)) index)) dues_compared h
+due_update e b index index2 h = subst (λ R. (d : Due) → list_any (is_at (R d)) index2
+    ≡ cond (is_at (R e) d) b (list_any (is_at (R d)) index)) dues_compared h
 
 empty_of : (index : List Due) → (0 < length index → ⊥) → index ≡ []
 empty_of [] h = refl
@@ -63,8 +69,10 @@ empty_of (d ∷ ds) h = absurd (h (omega arith))
 -- the first of a set of timers, in the words of specs/
 pub first_due : (index : List Due) (r : Option (Bor Due)) → (IsSome r ↔ (0 < length index))
     → IfSome r (λ k. IsTrue (list_any (is_at (due_order.cmp-value.it k.now)) index))
-    → IfSome r (λ k. (q : Due) → IsTrue (list_any (is_at (due_order.cmp-value.it q)) index) → is_gt (due_order.cmp-value.it k.now q) ≡ false)
+    → IfSome r (λ k. (q : Due) → IsTrue (list_any (is_at (due_order.cmp-value.it q)) index) → is_gt (due_order.cmp-value.it k.now q)
+    ≡ false)
     → IsFirst index (option_copied r)
 first_due index None some member least = empty_of index (λ h. let no = some.1 h in cc)
 first_due index (Some k) some member least =
-    subst (λ R. IsTrue (list_any (is_at (R k.now)) index) × ((q : Due) → IsTrue (list_any (is_at (R q)) index) → is_gt (R k.now q) ≡ false)) dues_compared (member, least)
+    subst (λ R. IsTrue (list_any (is_at (R k.now)) index) × ((q : Due) → IsTrue (list_any (is_at (R q)) index) → is_gt (R k.now q) ≡ false))
+    dues_compared (member, least)

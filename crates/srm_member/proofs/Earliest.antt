@@ -1,5 +1,6 @@
 -- The first timer of an index is the earliest of the tables.
-use Rattle.std.proofs.Common.{◌≡◌, ℕ, eqb, Bool, true, false, cond, ◌&&◌, ◌||◌, T, List, [], ◌∷◌, ◌++◌, map, Option, Some, None, refl, sym, ap, ◌∙◌, subst, arith, ◌==◌}
+use Rattle.std.proofs.Common.{◌≡◌, ℕ, eqb, Bool, true, false, cond, ◌&&◌, ◌||◌, T, List, [], ◌∷◌, ◌++◌, map, Option, Some, None, refl, sym}
+use Rattle.std.proofs.Common.{ap, ◌∙◌, subst, arith, ◌==◌}
 use Rattle.std.specs.Option.{option_map}
 use Rattle.std.specs.declared.cmp.Ordering.{Ordering}
 use Rattle.std.specs.declared.cmp.Ordering.TheVariants.{Less, Equal, Greater}
@@ -70,7 +71,8 @@ step_some d m ds h Equal e = (
 step_some d m ds h Greater e = (
   or-right (eq_by_cmp due_cmp m d) (has ds m) h.0,
   λ x k. either (eq_by_cmp due_cmp x d) (has ds x) k (is_gt (due_cmp m x) ≡ false)
-      (λ t. subst (λ y. is_gt (due_cmp m y) ≡ false) (sym (due_same x d (is_eq-Equal _ t))) (ap is_gt (due_total.antisymm m d ∙ ap ordering_reverse e)))
+      (λ t. subst (λ y. is_gt (due_cmp m y) ≡ false) (sym (due_same x d (is_eq-Equal _ t)))
+      (ap is_gt (due_total.antisymm m d ∙ ap ordering_reverse e)))
       (λ t. h.1 x t),
 )
 
@@ -101,7 +103,8 @@ same_first xs ys h (Some d) (Some e) f g =
 
 has-append : (xs ys : List Due) (d : Due) → has (xs ++ ys) d ≡ (has xs d || has ys d)
 has-append [] ys d = refl
-has-append (x ∷ xs) ys d = elim (eq_by_cmp due_cmp d x) as (λ b. (b || has (xs ++ ys) d) ≡ ((b || has xs d) || has ys d)) [ true ↦ refl | false ↦ has-append xs ys d ]
+has-append (x ∷ xs) ys d = elim (eq_by_cmp due_cmp d x) as (λ b. (b || has (xs ++ ys) d) ≡ ((b || has xs d) || has ys d))
+    [ true ↦ refl | false ↦ has-append xs ys d ]
 
 eqb-swap : (a b : ℕ) → (a == b) ≡ (b == a)
 eqb-swap a b = grind (arith, nat_tests)
@@ -124,42 +127,54 @@ T-right true b h = h
 T-right false b h = absurd h
 
 not_found : {V : Type 0} (q : Name) (e : Name × V) (es : List (Name × V)) → Rises (e ∷ es) → same q e.0 ≡ true → find name_cmp q es ≡ None
-not_found q e es h t = subst (λ n. find name_cmp n es ≡ None) (sym (name_same q e.0 (is_eq-Equal _ t))) (below-none e.0 es (T-left _ (is_sorted name_cmp es) h))
+not_found q e es h t = subst (λ n. find name_cmp n es ≡ None) (sym (name_same q e.0 (is_eq-Equal _ t)))
+    (below-none e.0 es (T-left _ (is_sorted name_cmp es) h))
 
 at_entry : (x y b c r t : Bool) → (c ≡ true → t ≡ false) → x ≡ y → (((x && (b && c)) || (b && t)) ≡ (b && cond c y t))
-at_entry x y true true r t h e = ap (λ z. (x && true) || z) (h refl) ∙ elim x as (λ x. ((x && true) || false) ≡ x) [ true ↦ refl | false ↦ refl ] ∙ e
+at_entry x y true true r t h e = ap (λ z. (x && true) || z) (h refl) ∙
+    elim x as (λ x. ((x && true) || false) ≡ x) [ true ↦ refl | false ↦ refl ] ∙ e
 at_entry x y true false r t h e = elim x as (λ x. ((x && false) || t) ≡ t) [ true ↦ refl | false ↦ refl ]
 at_entry x y false c r t h e = elim x as (λ x. ((x && false) || false) ≡ false) [ true ↦ refl | false ↦ refl ]
 
-at_time-cond : {V : Type 0} (f : V → ℕ) (t : ℕ) (c : Bool) (v : V) (o : Option V) → is_at_time t (option_map f (cond c (Some v) o)) ≡ cond c (f v == t) (is_at_time t (option_map f o))
+at_time-cond : {V : Type 0} (f : V → ℕ) (t : ℕ) (c : Bool) (v : V) (o : Option V) → is_at_time t (option_map f (cond c (Some v) o))
+    ≡ cond c (f v == t) (is_at_time t (option_map f o))
 at_time-cond f t true v o = refl
 at_time-cond f t false v o = refl
 
 has-map : {V : Type 0} (f : V → ℕ) (r : ℕ) (d : Due) (es : List (Name × V)) → Rises es
-    → has (map (λ e. record { time = f e.1; rank = r; name = e.0 }) es) d ≡ ((r == d.rank) && is_at_time d.time (option_map f (find name_cmp d.name es)))
+    → has (map (λ e. record { time = f e.1; rank = r; name = e.0 }) es) d
+    ≡ ((r == d.rank) && is_at_time d.time (option_map f (find name_cmp d.name es)))
 has-map f r d [] h = elim (r == d.rank) as (λ b. false ≡ (b && false)) [ true ↦ refl | false ↦ refl ]
 has-map {V = V} f r d (e ∷ es) h =
     let rest : Bool = is_at_time d.time (option_map f (find name_cmp d.name es)) in
     let c : Bool = same d.name e.0 in
-    ap (λ b. b || has (map (λ (e : Name × V). record { time = f e.1; rank = r; name = e.0 }) es) d) (due_eq d (record { time = f e.1; rank = r; name = e.0 }))
+    ap (λ b. b || has (map (λ (e : Name × V). record { time = f e.1; rank = r; name = e.0 }) es) d)
+    (due_eq d (record { time = f e.1; rank = r; name = e.0 }))
     ∙ ap (λ b. ((d.time == f e.1) && ((d.rank == r) && c)) || b) (has-map f r d es (T-right (below_all name_cmp e.0 es) _ h))
     ∙ ap (λ b. ((d.time == f e.1) && (b && c)) || ((r == d.rank) && rest)) (eqb-swap d.rank r)
-    ∙ at_entry (d.time == f e.1) (f e.1 == d.time) (r == d.rank) c true rest (λ t. ap (λ o. is_at_time d.time (option_map f o)) (not_found d.name e es h t)) (eqb-swap d.time (f e.1))
+    ∙ at_entry (d.time == f e.1) (f e.1 == d.time) (r == d.rank) c true rest
+    (λ t. ap (λ o. is_at_time d.time (option_map f o)) (not_found d.name e es h t)) (eqb-swap d.time (f e.1))
     ∙ ap (λ b. (r == d.rank) && b) (sym (at_time-cond f d.time c e.1 (find name_cmp d.name es)))
 
-by_rank : (k t : ℕ) (x y : Option ℕ) → (((2 == k) && is_at_time t x) || ((3 == k) && is_at_time t y)) ≡ is_at_time t (cond (eqb 2 k) x (cond (eqb 3 k) y None))
+by_rank : (k t : ℕ) (x y : Option ℕ) → (((2 == k) && is_at_time t x) || ((3 == k) && is_at_time t y))
+    ≡ is_at_time t (cond (eqb 2 k) x (cond (eqb 3 k) y None))
 by_rank k t x y =
-    elim (2 == k) as (λ a. eqb 2 k ≡ a → ((a && is_at_time t x) || ((3 == k) && is_at_time t y)) ≡ is_at_time t (cond a x (cond (eqb 3 k) y None))) [
-      | true ↦ λ e. let three : eqb 3 k ≡ false = grind (arith, nat_tests) in ap (λ b. is_at_time t x || (b && is_at_time t y)) three ∙ elim (is_at_time t x) as (λ b. (b || false) ≡ b) [ true ↦ refl | false ↦ refl ]
+    elim (2 == k) as (λ a. eqb 2 k ≡ a → ((a && is_at_time t x) || ((3 == k) && is_at_time t y))
+    ≡ is_at_time t (cond a x (cond (eqb 3 k) y None))) [
+      | true ↦ λ e. let three : eqb 3 k ≡ false = grind (arith, nat_tests) in ap (λ b. is_at_time t x || (b && is_at_time t y)) three
+          ∙ elim (is_at_time t x) as (λ b. (b || false) ≡ b) [ true ↦ refl | false ↦ refl ]
       | false ↦ λ e. elim (3 == k) as (λ b. (b && is_at_time t y) ≡ is_at_time t (cond b y None)) [ true ↦ refl | false ↦ refl ]
     ] refl
 
-has-timers : (ms : List (Name × Missing)) (rs : List (Name × Repairing)) → Rises ms → Rises rs → (d : Due) → has (pending_timers ms rs) d ≡ is_at_time d.time (expiry_of ms rs d.rank d.name)
+has-timers : (ms : List (Name × Missing)) (rs : List (Name × Repairing)) → Rises ms → Rises rs → (d : Due) → has (pending_timers ms rs) d
+    ≡ is_at_time d.time (expiry_of ms rs d.rank d.name)
 has-timers ms rs g h d =
     has-append (map (λ (e : Name × Missing). request_timer e.0 e.1) ms) (map (λ (e : Name × Repairing). repair_timer e.0 e.1) rs) d
     ∙ (λ i. has-map (λ (e : Missing). e.expiry) 2 d ms g i || has-map (λ (e : Repairing). e.expiry) 3 d rs h i)
     ∙ by_rank d.rank d.time _ _
 
-pub index_first : (index : List Due) (ms : List (Name × Missing)) (rs : List (Name × Repairing)) (r : Option Due) → IsIndexed index ms rs → IsFirst index r → r ≡ earliest (pending_timers ms rs)
+pub index_first : (index : List Due) (ms : List (Name × Missing)) (rs : List (Name × Repairing)) (r : Option Due) → IsIndexed index ms rs
+    → IsFirst index r → r ≡ earliest (pending_timers ms rs)
 index_first index ms rs r h first =
-    same_first index (pending_timers ms rs) (λ d. h.timers d ∙ sym (has-timers ms rs h.missing_rise h.repairs_rise d)) r (earliest (pending_timers ms rs)) first (first-earliest (pending_timers ms rs))
+    same_first index (pending_timers ms rs) (λ d. h.timers d ∙ sym (has-timers ms rs h.missing_rise h.repairs_rise d)) r
+    (earliest (pending_timers ms rs)) first (first-earliest (pending_timers ms rs))

@@ -1,5 +1,7 @@
 -- A reaction at a tick leaves no more timers at that tick, and fewer where it handles one of them.
-use Rattle.std.proofs.Common.{◌≡◌, ℕ, ◌<◌, ◌≤◌, ◌+◌, ◌/◌, min, Bool, true, false, cond, not, ◌&&◌, T, List, [], ◌∷◌, ◌++◌, map, filter, refl, sym, ap, ◌∙◌, subst, ◌≢◌, ◌⊎◌, inl, inr, arith, Ordering, Less, Equal, Greater, Option, Some, None, is_lt, eqb-true, ◌==◌, le_refl}
+use Rattle.std.proofs.Common.{◌≡◌, ℕ, ◌<◌, ◌≤◌, ◌+◌, ◌/◌, min, Bool, true, false, cond, not, ◌&&◌, T, List, [], ◌∷◌, ◌++◌, map, filter}
+use Rattle.std.proofs.Common.{refl, sym, ap, ◌∙◌, subst, ◌≢◌, ◌⊎◌, inl, inr, arith, Ordering, Less, Equal, Greater, Option, Some, None}
+use Rattle.std.proofs.Common.{is_lt, eqb-true, ◌==◌, le_refl}
 use Rattle.std.specs.Ordering.{eq_by_cmp, is_eq, ordering_reverse}
 use Rattle.std.specs.Cmp.{IsTotalOrder, on_total}
 use Rattle.std.specs.Cmp.Lexicographic.{nat_list_cmp_total}
@@ -9,7 +11,8 @@ use Rattle.srm_member.proofs.Bounds.{draw_pos, kept_memory}
 use Rattle.srm_member.proofs.LawProofs.{as_active, as_listener}
 use Rattle.srm_member.proofs.OrderLemmas.{nat_cmp_self}
 use Rattle.srm_net.specs.Roles.{is_listener}
-use Rattle.srm_member.specs.React.{Reaction, answering, answering_at, asking, asking_at, back_off, distance_to, listen, listened, react, react_listener, request_length, resting, without}
+use Rattle.srm_member.specs.React.{Reaction, answering, answering_at, asking, asking_at, back_off, distance_to, listen, listened, react}
+use Rattle.srm_member.specs.React.{react_listener, request_length, resting, without}
 use Rattle.srm_member.specs.Record.{Active, Gone, Memory, Missing, Record, Repairing, count_if, timers_at}
 use Rattle.srm_member.specs.Timers.{span}
 use Rattle.srm_member.specs.declared.cause.Cause.{Cause}
@@ -37,7 +40,8 @@ module _ {A : Type 0} (p : A → Bool) where
 
   count-filter : (q : A → Bool) (xs : List A) → count_if p (filter q xs) ≤ count_if p xs
   count-filter q [] = le_refl 0
-  count-filter q (x ∷ xs) = let h = count-filter q xs in count-cond (q x) (x ∷ filter q xs) (filter q xs) (count_if p (x ∷ xs)) (omega arith) (omega arith)
+  count-filter q (x ∷ xs) = let h = count-filter q xs in count-cond (q x) (x ∷ filter q xs) (filter q xs) (count_if p (x ∷ xs))
+      (omega arith) (omega arith)
 
 count-map : {A B : Type 0} (p : B → Bool) (f : A → B) (xs : List A) → count_if p (map f xs) ≡ count_if (λ x. p (f x)) xs
 count-map p f [] = refl
@@ -83,7 +87,8 @@ module _ {V : Type 0} (p : V → Bool) where
   abbrev at_value : (Name × V) → Bool
   at_value e = p e.1
 
-  by_order_le : (r : Ordering) (a b c : List (Name × V)) (n : ℕ) → count_if at_value a ≤ n → count_if at_value b ≤ n → count_if at_value c ≤ n → count_if at_value (by_order r a b c) ≤ n
+  by_order_le : (r : Ordering) (a b c : List (Name × V)) (n : ℕ) → count_if at_value a ≤ n → count_if at_value b ≤ n
+      → count_if at_value c ≤ n → count_if at_value (by_order r a b c) ≤ n
   by_order_le Less a b c n h g f = h
   by_order_le Equal a b c n h g f = g
   by_order_le Greater a b c n h g f = f
@@ -101,21 +106,25 @@ module _ {V : Type 0} (p : V → Bool) where
   below n w k (e ∷ es) s (inr h) = below n w k es (T_second _ _ s) h
 
   -- to write over an entry that counts leaves fewer
-  pub put_less : (n : Name) (v w : V) (es : List (Name × V)) → T (is_sorted name_cmp es) → In (n, w) es → p v ≡ false → p w ≡ true → count_if at_value (put name_cmp n v es) < count_if at_value es
+  pub put_less : (n : Name) (v w : V) (es : List (Name × V)) → T (is_sorted name_cmp es) → In (n, w) es → p v ≡ false → p w ≡ true
+      → count_if at_value (put name_cmp n v es) < count_if at_value es
   put_less n v w [] s h none some = absurd h
   put_less n v w (e ∷ es) s (inl g) none some =
       let tie : name_cmp n e.0 ≡ Equal = ap (λ (x : Name × V). name_cmp n x.0) g ∙ name_self n in
       let a : one_if (p v) ≡ 0 = ap one_if none in
       let b : one_if (p e.1) ≡ 1 = ap (λ (x : Name × V). one_if (p x.1)) g ∙ ap one_if some in
-      subst (λ r. count_if at_value (by_order r ((n, v) ∷ e ∷ es) ((e.0, v) ∷ es) (e ∷ put name_cmp n v es)) < count_if at_value (e ∷ es)) (sym tie) (omega arith)
+      subst (λ r. count_if at_value (by_order r ((n, v) ∷ e ∷ es) ((e.0, v) ∷ es) (e ∷ put name_cmp n v es)) < count_if at_value (e ∷ es))
+      (sym tie) (omega arith)
   put_less n v w (e ∷ es) s (inr h) none some =
       let less = below n w e.0 es (T_first _ _ s) h in
       let more : name_cmp n e.0 ≡ Greater = name_total.antisymm n e.0 ∙ ap ordering_reverse less in
       let g = put_less n v w es (T_second _ _ s) h none some in
-      subst (λ r. count_if at_value (by_order r ((n, v) ∷ e ∷ es) ((e.0, v) ∷ es) (e ∷ put name_cmp n v es)) < count_if at_value (e ∷ es)) (sym more) (omega arith)
+      subst (λ r. count_if at_value (by_order r ((n, v) ∷ e ∷ es) ((e.0, v) ∷ es) (e ∷ put name_cmp n v es)) < count_if at_value (e ∷ es))
+      (sym more) (omega arith)
 
   -- and so does to take it out
-  pub without_less : (n : Name) (w : V) (es : List (Name × V)) → In (n, w) es → p w ≡ true → count_if at_value (without n es) < count_if at_value es
+  pub without_less : (n : Name) (w : V) (es : List (Name × V)) → In (n, w) es → p w ≡ true
+      → count_if at_value (without n es) < count_if at_value es
   without_less n w [] h some = absurd h
   without_less n w (e ∷ es) (inl g) some =
       let tie : eq_by_cmp name_cmp n e.0 ≡ true = ap is_eq (ap (λ (x : Name × V). name_cmp n x.0) g ∙ name_self n) in
@@ -124,7 +133,8 @@ module _ {V : Type 0} (p : V → Bool) where
       subst (λ b. count_if at_value (cond (not b) (e ∷ without n es) (without n es)) < count_if at_value (e ∷ es)) (sym tie) (omega arith)
   without_less n w (e ∷ es) (inr h) some =
       let g = without_less n w es h some in
-      let c = count-cond at_value (not (eq_by_cmp name_cmp n e.0)) (e ∷ without n es) (without n es) (one_if (p e.1) + count_if at_value (without n es)) (le_refl _) (omega arith) in omega arith
+      let c = count-cond at_value (not (eq_by_cmp name_cmp n e.0)) (e ∷ without n es) (without n es)
+      (one_if (p e.1) + count_if at_value (without n es)) (le_refl _) (omega arith) in omega arith
 
   pub found : (n : Name) (w : V) (es : List (Name × V)) → In (n, w) es → find name_cmp n es ≢ None
   found n w [] h e = absurd h
@@ -177,8 +187,10 @@ Tables m at cause A B = (A (react m at cause).memory.missing) × (B (react m at 
 pub sound_react : (m : Memory) (at : ℕ) (cause : Cause) → IsSound m → IsSound (react m at cause).memory
 sound_react m at cause s =
     let k = kept_memory m.fixed (λ es. T (is_sorted name_cmp es)) (λ es. T (is_sorted name_cmp es)) at
-    (λ n v es lt h. is_sorted-put name_cmp name_total n v es h) (λ n es h. is_sorted-where_key name_cmp (λ x. not (eq_by_cmp name_cmp n x)) es h)
-    (λ n v es lt h. is_sorted-put name_cmp name_total n v es h) (λ n es h. is_sorted-where_key name_cmp (λ x. not (eq_by_cmp name_cmp n x)) es h)
+    (λ n v es lt h. is_sorted-put name_cmp name_total n v es h)
+    (λ n es h. is_sorted-where_key name_cmp (λ x. not (eq_by_cmp name_cmp n x)) es h)
+    (λ n v es lt h. is_sorted-put name_cmp name_total n v es h)
+    (λ n es h. is_sorted-where_key name_cmp (λ x. not (eq_by_cmp name_cmp n x)) es h)
     m cause (record { same = refl; asks = s.asks; answers = s.answers }) in
     record {
       asks = k.asks;
@@ -186,8 +198,11 @@ sound_react m at cause s =
       listener = λ h.
           let role : is_listener m.fixed.role ≡ true = ap (λ (f : Fixed). is_listener f.role) (sym k.same) ∙ h in
           let was = s.listener role in
-          let same = same_listener m cause in
-          (ap (λ (r : Reaction). r.memory.missing) (as_listener m at cause role) ∙ same.0 ∙ was.0, ap (λ (r : Reaction). r.memory.repairs) (as_listener m at cause role) ∙ same.1 ∙ was.1);
+          let same = same_listener m cause in (
+            ap (λ (r : Reaction). r.memory.missing) (as_listener m at cause role) ∙ same.0
+                ∙ was.0,
+            ap (λ (r : Reaction). r.memory.repairs) (as_listener m at cause role) ∙ same.1 ∙ was.1,
+          );
     }
 
 -- ---- a reaction at a tick leaves no more timers at that tick, and fewer where it handles one of them
@@ -200,12 +215,16 @@ answers_at t es = count_if (λ e. e.1.expiry == t) es
 
 timers_count : (t : ℕ) (m : Memory) → timers_at t (Active m) ≡ asks_at t m.missing + answers_at t m.repairs
 unfolding asks_at answers_at
-timers_count t m = count-append _ (map (λ e. record { time = e.1.expiry; rank = 2; name = e.0 }) m.missing) (map (λ e. record { time = e.1.expiry; rank = 3; name = e.0 }) m.repairs)
-    ∙ ap (λ n. n + count_if (λ (d : Due). d.time == t) (map (λ e. record { time = e.1.expiry; rank = 3; name = e.0 }) m.repairs)) (count-map (λ (d : Due). d.time == t) (λ e. record { time = e.1.expiry; rank = 2; name = e.0 }) m.missing)
-    ∙ ap (λ n. count_if (λ (e : Name × Missing). e.1.expiry == t) m.missing + n) (count-map (λ (d : Due). d.time == t) (λ e. record { time = e.1.expiry; rank = 3; name = e.0 }) m.repairs)
+timers_count t m = count-append _ (map (λ e. record { time = e.1.expiry; rank = 2; name = e.0 }) m.missing)
+    (map (λ e. record { time = e.1.expiry; rank = 3; name = e.0 }) m.repairs)
+    ∙ ap (λ n. n + count_if (λ (d : Due). d.time == t) (map (λ e. record { time = e.1.expiry; rank = 3; name = e.0 }) m.repairs))
+    (count-map (λ (d : Due). d.time == t) (λ e. record { time = e.1.expiry; rank = 2; name = e.0 }) m.missing)
+    ∙ ap (λ n. count_if (λ (e : Name × Missing). e.1.expiry == t) m.missing + n)
+    (count-map (λ (d : Due). d.time == t) (λ e. record { time = e.1.expiry; rank = 3; name = e.0 }) m.repairs)
 
 not_now : (t x : ℕ) → t < x → (x == t) ≡ false
-not_now t x lt = elim (x == t) as (λ b. (x == t) ≡ b → (x == t) ≡ false) [ true ↦ λ e. absurd (let f = eqb-true _ _ e in omega arith) | false ↦ λ e. e ] refl
+not_now t x lt = elim (x == t) as (λ b. (x == t) ≡ b → (x == t) ≡ false)
+    [ true ↦ λ e. absurd (let f = eqb-true _ _ e in omega arith) | false ↦ λ e. e ] refl
 
 pub no_more : (t : ℕ) (m : Memory) (cause : Cause) → timers_at t (Active (react m t cause).memory) ≤ timers_at t (Active m)
 unfolding asks_at answers_at
@@ -226,19 +245,22 @@ pub no_table : {A : Type 0} (x : A) (xs : List A) → xs ≡ [] → In x xs → 
 no_table x xs e h = subst (In x) e h
 
 module _ (t : ℕ) (m : Memory) (sound : IsSound m) (n : Name) where
-  fewer_asking : (w : Missing) → In (n, w) m.missing → (w.expiry == t) ≡ true → (o : Option Missing) → find name_cmp n m.missing ≡ o → timers_at t (Active (asking_at t n m o).memory) < timers_at t (Active m)
+  fewer_asking : (w : Missing) → In (n, w) m.missing → (w.expiry == t) ≡ true → (o : Option Missing) → find name_cmp n m.missing ≡ o
+      → timers_at t (Active (asking_at t n m o).memory) < timers_at t (Active m)
   unfolding asks_at answers_at
   fewer_asking w h some None e = absurd (found (λ (x : Missing). x.expiry == t) n w m.missing h e)
   fewer_asking w h some (Some x) e =
       let len = request_length m (min (x.backoffs + 1) 10) n in
-      let lt : t < t + len = (let one = draw_pos (pcg32 m.words).0 (span (min (x.backoffs + 1) 10) m.fixed.c1 m.fixed.c2 (distance_to m n.source)) in omega arith) in
+      let lt : t < t + len = (let one = draw_pos (pcg32 m.words).0
+      (span (min (x.backoffs + 1) 10) m.fixed.c1 m.fixed.c2 (distance_to m n.source)) in omega arith) in
       let v : Missing = record { detected = x.detected; expiry = t + len; backoffs = min (x.backoffs + 1) 10; ignore = t + len / 2 } in
       let less = put_less (λ (y : Missing). y.expiry == t) n v w m.missing sound.asks h (not_now t v.expiry lt) some in
       let before = timers_count t m in
       let after = timers_count t (back_off t n x m) in
       omega arith
 
-  fewer_answering : (w : Repairing) → In (n, w) m.repairs → (w.expiry == t) ≡ true → (o : Option Repairing) → find name_cmp n m.repairs ≡ o → timers_at t (Active (answering_at t n m o).memory) < timers_at t (Active m)
+  fewer_answering : (w : Repairing) → In (n, w) m.repairs → (w.expiry == t) ≡ true → (o : Option Repairing) → find name_cmp n m.repairs ≡ o
+      → timers_at t (Active (answering_at t n m o).memory) < timers_at t (Active m)
   unfolding asks_at answers_at
   fewer_answering w h some None e = absurd (found (λ (x : Repairing). x.expiry == t) n w m.repairs h e)
   fewer_answering w h some (Some x) e =
@@ -247,16 +269,22 @@ module _ (t : ℕ) (m : Memory) (sound : IsSound m) (n : Name) where
       let after = timers_count t (resting t n m.fixed.member m) in
       omega arith
 
-  pub fewer_asks : (w : Missing) → In (n, w) m.missing → (w.expiry == t) ≡ true → timers_at t (Active (react m t (Ask n)).memory) < timers_at t (Active m)
+  pub fewer_asks : (w : Missing) → In (n, w) m.missing → (w.expiry == t)
+      ≡ true → timers_at t (Active (react m t (Ask n)).memory) < timers_at t (Active m)
   unfolding asking
-  fewer_asks w h some = elim (is_listener m.fixed.role) as (λ b. is_listener m.fixed.role ≡ b → timers_at t (Active (react m t (Ask n)).memory) < timers_at t (Active m)) [
-    | true ↦ λ l. absurd (no_table (n, w) m.missing (sound.listener l).0 h)
-    | false ↦ λ l. subst (λ (r : Reaction). timers_at t (Active r.memory) < timers_at t (Active m)) (sym (as_active m t (Ask n) l)) (fewer_asking w h some (find name_cmp n m.missing) refl)
-  ] refl
+  fewer_asks w h some = elim (is_listener m.fixed.role) as
+      (λ b. is_listener m.fixed.role ≡ b → timers_at t (Active (react m t (Ask n)).memory) < timers_at t (Active m)) [
+        | true ↦ λ l. absurd (no_table (n, w) m.missing (sound.listener l).0 h)
+        | false ↦ λ l. subst (λ (r : Reaction). timers_at t (Active r.memory) < timers_at t (Active m)) (sym (as_active m t (Ask n) l))
+            (fewer_asking w h some (find name_cmp n m.missing) refl)
+      ] refl
 
-  pub fewer_answers : (w : Repairing) → In (n, w) m.repairs → (w.expiry == t) ≡ true → timers_at t (Active (react m t (Answer n)).memory) < timers_at t (Active m)
+  pub fewer_answers : (w : Repairing) → In (n, w) m.repairs → (w.expiry == t) ≡ true
+      → timers_at t (Active (react m t (Answer n)).memory) < timers_at t (Active m)
   unfolding answering
-  fewer_answers w h some = elim (is_listener m.fixed.role) as (λ b. is_listener m.fixed.role ≡ b → timers_at t (Active (react m t (Answer n)).memory) < timers_at t (Active m)) [
-    | true ↦ λ l. absurd (no_table (n, w) m.repairs (sound.listener l).1 h)
-    | false ↦ λ l. subst (λ (r : Reaction). timers_at t (Active r.memory) < timers_at t (Active m)) (sym (as_active m t (Answer n) l)) (fewer_answering w h some (find name_cmp n m.repairs) refl)
-  ] refl
+  fewer_answers w h some = elim (is_listener m.fixed.role) as
+      (λ b. is_listener m.fixed.role ≡ b → timers_at t (Active (react m t (Answer n)).memory) < timers_at t (Active m)) [
+        | true ↦ λ l. absurd (no_table (n, w) m.repairs (sound.listener l).1 h)
+        | false ↦ λ l. subst (λ (r : Reaction). timers_at t (Active r.memory) < timers_at t (Active m)) (sym (as_active m t (Answer n) l))
+            (fewer_answering w h some (find name_cmp n m.repairs) refl)
+      ] refl

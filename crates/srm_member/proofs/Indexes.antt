@@ -1,5 +1,6 @@
 -- An index of timers against the tables of timers.
-use Rattle.std.proofs.Common.{◌≡◌, ℕ, eqb, Bool, true, false, cond, not, ◌&&◌, List, [], ◌∷◌, Option, Some, None, refl, sym, ap, ◌∙◌, subst, arith, ◌==◌}
+use Rattle.std.proofs.Common.{◌≡◌, ℕ, eqb, Bool, true, false, cond, not, ◌&&◌, List, [], ◌∷◌, Option, Some, None, refl, sym, ap, ◌∙◌, subst}
+use Rattle.std.proofs.Common.{arith, ◌==◌}
 use Rattle.std.specs.Option.{option_map}
 use Rattle.std.specs.declared.cmp.Ordering.{Ordering}
 use Rattle.std.specs.declared.cmp.Ordering.TheVariants.{Equal}
@@ -67,7 +68,8 @@ due_same d e h =
     λ i. record { time = t i; rank = r i; name = record { source = a i; page = b i; number = c i } }
 
 same-swap : (m n : Name) → same m n ≡ same n m
-same-swap m n = both_ways (same m n) (same n m) (λ e. let s = same-from m n e in subst (λ k. same k m ≡ true) s (same-itself m)) (λ e. let s = same-from n m e in subst (λ k. same k n ≡ true) s (same-itself n))
+same-swap m n = both_ways (same m n) (same n m) (λ e. let s = same-from m n e in subst (λ k. same k m ≡ true) s (same-itself m))
+    (λ e. let s = same-from n m e in subst (λ k. same k n ≡ true) s (same-itself n))
 
 -- ---- an index by the test of its elements, against when each timer expires
 
@@ -93,9 +95,12 @@ ties_less : (c c2 : Due → Bool) (f : ℕ → Name → Option ℕ) (t r : ℕ) 
 ties_less c c2 f t r n tie was less d =
     let p = picked f r d.rank n d.name in
     less d ∙ ap (λ b. cond b false (c d)) (due_eq (timer t r n) d)
-    ∙ elim ((r == d.rank) && same n d.name) as (λ b. (b ≡ true → f d.rank d.name ≡ f r n) → cond ((t == d.time) && b) false (c d) ≡ is_at_time d.time (cond b None (f d.rank d.name))) [
-      | true ↦ λ q. ap (cond ((t == d.time) && true) false) (tie d ∙ ap (is_at_time d.time) (q refl ∙ was)) ∙ elim (t == d.time) as (λ a. cond (a && true) false a ≡ false) [ true ↦ refl | false ↦ refl ]
-      | false ↦ λ q. elim (t == d.time) as (λ a. cond (a && false) false (c d) ≡ is_at_time d.time (f d.rank d.name)) [ true ↦ tie d | false ↦ tie d ]
+    ∙ elim ((r == d.rank) && same n d.name) as (λ b. (b ≡ true → f d.rank d.name ≡ f r n) → cond ((t == d.time) && b) false (c d)
+    ≡ is_at_time d.time (cond b None (f d.rank d.name))) [
+      | true ↦ λ q. ap (cond ((t == d.time) && true) false) (tie d ∙ ap (is_at_time d.time) (q refl ∙ was))
+          ∙ elim (t == d.time) as (λ a. cond (a && true) false a ≡ false) [ true ↦ refl | false ↦ refl ]
+      | false ↦ λ q. elim (t == d.time) as (λ a. cond (a && false) false (c d) ≡ is_at_time d.time (f d.rank d.name))
+          [ true ↦ tie d | false ↦ tie d ]
     ] p
 
 -- a timer put in, where none was
@@ -104,9 +109,12 @@ ties_more : (c c2 : Due → Bool) (f : ℕ → Name → Option ℕ) (t r : ℕ) 
 ties_more c c2 f t r n tie was more d =
     let p = picked f r d.rank n d.name in
     more d ∙ ap (λ b. cond b true (c d)) (due_eq (timer t r n) d)
-    ∙ elim ((r == d.rank) && same n d.name) as (λ b. (b ≡ true → f d.rank d.name ≡ f r n) → cond ((t == d.time) && b) true (c d) ≡ is_at_time d.time (cond b (Some t) (f d.rank d.name))) [
-      | true ↦ λ q. ap (cond ((t == d.time) && true) true) (tie d ∙ ap (is_at_time d.time) (q refl ∙ was)) ∙ elim (t == d.time) as (λ a. cond (a && true) true false ≡ a) [ true ↦ refl | false ↦ refl ]
-      | false ↦ λ q. elim (t == d.time) as (λ a. cond (a && false) true (c d) ≡ is_at_time d.time (f d.rank d.name)) [ true ↦ tie d | false ↦ tie d ]
+    ∙ elim ((r == d.rank) && same n d.name) as (λ b. (b ≡ true → f d.rank d.name ≡ f r n) → cond ((t == d.time) && b) true (c d)
+    ≡ is_at_time d.time (cond b (Some t) (f d.rank d.name))) [
+      | true ↦ λ q. ap (cond ((t == d.time) && true) true) (tie d ∙ ap (is_at_time d.time) (q refl ∙ was))
+          ∙ elim (t == d.time) as (λ a. cond (a && true) true false ≡ a) [ true ↦ refl | false ↦ refl ]
+      | false ↦ λ q. elim (t == d.time) as (λ a. cond (a && false) true (c d) ≡ is_at_time d.time (f d.rank d.name))
+          [ true ↦ tie d | false ↦ tie d ]
     ] p
 
 -- ---- the tables
@@ -117,7 +125,8 @@ rises-put n v es h = is_sorted-put name_cmp name_total n v es h
 pub rises-without : {V : Type 0} (n : Name) (es : List (Name × V)) → Rises es → Rises (without n es)
 rises-without n es h = is_sorted-where_key name_cmp (λ x. not (same n x)) es h
 
-find_put : {V : Type 0} (q n : Name) (v : V) (es : List (Name × V)) → find name_cmp q (put name_cmp n v es) ≡ cond (same n q) (Some v) (find name_cmp q es)
+find_put : {V : Type 0} (q n : Name) (v : V) (es : List (Name × V)) → find name_cmp q (put name_cmp n v es)
+    ≡ cond (same n q) (Some v) (find name_cmp q es)
 find_put q n v es = find-put name_cmp name_total q n v es ∙ ap (λ b. cond b (Some v) (find name_cmp q es)) (same-swap q n)
 
 cond_not : {A : Type 0} (b : Bool) (x y : A) → cond (not b) x y ≡ cond b y x
@@ -126,7 +135,8 @@ cond_not false x y = refl
 
 find_without : {V : Type 0} (q n : Name) (es : List (Name × V)) → find name_cmp q (without n es) ≡ cond (same n q) None (find name_cmp q es)
 find_without q n es =
-    find-where_key name_cmp (λ x. not (same n x)) q (λ x e. ap (λ k. not (same n k)) (sym (name_same q x e))) es ∙ cond_not (same n q) (find name_cmp q es) None
+    find-where_key name_cmp (λ x. not (same n x)) q (λ x e. ap (λ k. not (same n k)) (sym (name_same q x e))) es
+    ∙ cond_not (same n q) (find name_cmp q es) None
 
 cond_twice : {A : Type 0} (b : Bool) (x y z : A) → cond b x (cond b y z) ≡ cond b x z
 cond_twice true x y z = refl
@@ -135,17 +145,20 @@ cond_twice false x y z = refl
 pub put-without : {V : Type 0} (n : Name) (v : V) (es : List (Name × V)) → Rises es → put name_cmp n v (without n es) ≡ put name_cmp n v es
 put-without n v es h =
     same_entries name_cmp name_total name_same _ _ (rises-put n v _ (rises-without n es h)) (rises-put n v es h)
-    (λ q. find_put q n v (without n es) ∙ ap (cond (same n q) (Some v)) (find_without q n es) ∙ cond_twice (same n q) (Some v) None (find name_cmp q es) ∙ sym (find_put q n v es))
+    (λ q. find_put q n v (without n es) ∙ ap (cond (same n q) (Some v)) (find_without q n es)
+    ∙ cond_twice (same n q) (Some v) None (find name_cmp q es) ∙ sym (find_put q n v es))
 
 -- ---- an index and the tables
 
 two_at : (v : Option ℕ) (k : ℕ) (b : Bool) (x y : Option ℕ) → cond (eqb 2 k) (cond b v x) y ≡ cond ((2 == k) && b) v (cond (eqb 2 k) x y)
 two_at v k b x y = elim (2 == k) as (λ t. cond t (cond b v x) y ≡ cond (t && b) v (cond t x y)) [ true ↦ refl | false ↦ refl ]
 
-three_at : (v : Option ℕ) (k : ℕ) (b : Bool) (x y z : Option ℕ) → cond (eqb 2 k) x (cond (eqb 3 k) (cond b v y) z) ≡ cond ((3 == k) && b) v (cond (eqb 2 k) x (cond (eqb 3 k) y z))
+three_at : (v : Option ℕ) (k : ℕ) (b : Bool) (x y z : Option ℕ) → cond (eqb 2 k) x (cond (eqb 3 k) (cond b v y) z)
+    ≡ cond ((3 == k) && b) v (cond (eqb 2 k) x (cond (eqb 3 k) y z))
 three_at v k b x y z =
     elim (3 == k) as (λ t. eqb 3 k ≡ t → cond (eqb 2 k) x (cond t (cond b v y) z) ≡ cond (t && b) v (cond (eqb 2 k) x (cond t y z))) [
-      | true ↦ λ e. let two : eqb 2 k ≡ false = grind (arith, nat_tests) in ap (λ t. cond t x (cond b v y)) two ∙ sym (ap (λ t. cond b v (cond t x y)) two)
+      | true ↦ λ e. let two : eqb 2 k ≡ false = grind (arith, nat_tests) in ap (λ t. cond t x (cond b v y)) two
+          ∙ sym (ap (λ t. cond b v (cond t x y)) two)
       | false ↦ λ e. refl
     ] refl
 
@@ -159,7 +172,8 @@ request_expiry o = option_map (λ (e : Missing). e.expiry) o
 abbrev repair_expiry : Option Repairing → Option ℕ
 repair_expiry o = option_map (λ (e : Repairing). e.expiry) o
 
-expiry-missing : (n : Name) (v : Option Missing) (ms ms2 : List (Name × Missing)) (rs : List (Name × Repairing)) → ((q : Name) → find name_cmp q ms2 ≡ cond (same n q) v (find name_cmp q ms))
+expiry-missing : (n : Name) (v : Option Missing) (ms ms2 : List (Name × Missing)) (rs : List (Name × Repairing))
+    → ((q : Name) → find name_cmp q ms2 ≡ cond (same n q) v (find name_cmp q ms))
     → (k : ℕ) (m : Name) → expiry_of ms2 rs k m ≡ changed (request_expiry v) 2 n (expiry_of ms rs) k m
 expiry-missing n v ms ms2 rs h k m =
     let rest = cond (3 == k) (repair_expiry (find name_cmp m rs)) None in
@@ -167,7 +181,8 @@ expiry-missing n v ms ms2 rs h k m =
     ∙ ap (λ o. cond (2 == k) o rest) (map_cond (λ (e : Missing). e.expiry) (same n m) v (find name_cmp m ms))
     ∙ two_at (request_expiry v) k (same n m) (request_expiry (find name_cmp m ms)) rest
 
-expiry-repairs : (n : Name) (v : Option Repairing) (ms : List (Name × Missing)) (rs rs2 : List (Name × Repairing)) → ((q : Name) → find name_cmp q rs2 ≡ cond (same n q) v (find name_cmp q rs))
+expiry-repairs : (n : Name) (v : Option Repairing) (ms : List (Name × Missing)) (rs rs2 : List (Name × Repairing))
+    → ((q : Name) → find name_cmp q rs2 ≡ cond (same n q) v (find name_cmp q rs))
     → (k : ℕ) (m : Name) → expiry_of ms rs2 k m ≡ changed (repair_expiry v) 3 n (expiry_of ms rs) k m
 expiry-repairs n v ms rs rs2 h k m =
     let first = request_expiry (find name_cmp m ms) in
@@ -179,7 +194,8 @@ ties_by : (c : Due → Bool) (f g : ℕ → Name → Option ℕ) → Ties c f �
 ties_by c f g tie e d = tie d ∙ ap (is_at_time d.time) (sym (e d.rank d.name))
 
 -- put in and taken out again
-changed_back : (f : ℕ → Name → Option ℕ) (v : Option ℕ) (r : ℕ) (n : Name) → f r n ≡ None → (k : ℕ) (m : Name) → f k m ≡ changed None r n (changed v r n f) k m
+changed_back : (f : ℕ → Name → Option ℕ) (v : Option ℕ) (r : ℕ) (n : Name)
+    → f r n ≡ None → (k : ℕ) (m : Name) → f k m ≡ changed None r n (changed v r n f) k m
 changed_back f v r n none k m =
     elim ((r == k) && same n m) as (λ b. ((r == k) && same n m) ≡ b → f k m ≡ cond b None (cond b v (f k m))) [
       | true ↦ λ e. picked f r k n m e ∙ none
@@ -187,13 +203,15 @@ changed_back f v r n none k m =
     ] refl
 
 ties_same : (c c2 c3 : Due → Bool) (f : ℕ → Name → Option ℕ) (t r : ℕ) (n : Name) → Ties c f → f r n ≡ None
-    → ((d : Due) → c2 d ≡ cond (eq_by_cmp due_cmp (timer t r n) d) true (c d)) → ((d : Due) → c3 d ≡ cond (eq_by_cmp due_cmp (timer t r n) d) false (c2 d)) → Ties c3 f
+    → ((d : Due) → c2 d ≡ cond (eq_by_cmp due_cmp (timer t r n) d) true (c d))
+    → ((d : Due) → c3 d ≡ cond (eq_by_cmp due_cmp (timer t r n) d) false (c2 d)) → Ties c3 f
 ties_same c c2 c3 f t r n tie none more less =
     let g = changed (Some t) r n f in
     let one : same n n ≡ true = same-itself n in
     let both : ((r == r) && same n n) ≡ true = grind (arith, nat_tests) in
     let now : g r n ≡ Some t = ap (λ b. cond b (Some t) (f r n)) both in
-    ties_by c3 (changed None r n g) f (ties_less c2 c3 g t r n (ties_more c c2 f t r n tie none more) now less) (changed_back f (Some t) r n none)
+    ties_by c3 (changed None r n g) f (ties_less c2 c3 g t r n (ties_more c c2 f t r n tie none more) now less)
+    (changed_back f (Some t) r n none)
 
 pub find-none : {V : Type 0} (n : Name) (es : List (Name × V)) → find name_cmp n (without n es) ≡ None
 find-none n es = find_without n n es ∙ ap (λ b. cond b None (find name_cmp n es)) (same-itself n)
@@ -203,7 +221,8 @@ without-none n es h = kept (λ k. same n k) es (sym (find-lookup name_cmp n es) 
 
 -- ---- the steps of the tables
 
-pub found-step : (n : Name) (e : Missing) (index index2 : List Due) (ms : List (Name × Missing)) (rs : List (Name × Repairing)) → IsIndexed index ms rs → find name_cmp n ms ≡ Some e
+pub found-step : (n : Name) (e : Missing) (index index2 : List Due) (ms : List (Name × Missing)) (rs : List (Name × Repairing))
+    → IsIndexed index ms rs → find name_cmp n ms ≡ Some e
     → ((d : Due) → has index2 d ≡ cond (eq_by_cmp due_cmp (request_timer n e) d) false (has index d)) → IsIndexed index2 (without n ms) rs
 found-step n e index index2 ms rs h was less = record {
   missing_rise = rises-without n ms h.missing_rise;
@@ -213,8 +232,10 @@ found-step n e index index2 ms rs h was less = record {
       (expiry-missing n None ms (without n ms) rs (λ q. find_without q n ms));
 }
 
-pub missed-step : (n : Name) (e : Missing) (index index2 : List Due) (ms : List (Name × Missing)) (rs : List (Name × Repairing)) → IsIndexed index ms rs → find name_cmp n ms ≡ None
-    → ((d : Due) → has index2 d ≡ cond (eq_by_cmp due_cmp (request_timer n e) d) true (has index d)) → IsIndexed index2 (put name_cmp n e ms) rs
+pub missed-step : (n : Name) (e : Missing) (index index2 : List Due) (ms : List (Name × Missing)) (rs : List (Name × Repairing))
+    → IsIndexed index ms rs → find name_cmp n ms ≡ None
+    → ((d : Due) → has index2 d ≡ cond (eq_by_cmp due_cmp (request_timer n e) d) true (has index d))
+    → IsIndexed index2 (put name_cmp n e ms) rs
 missed-step n e index index2 ms rs h was more = record {
   missing_rise = rises-put n e ms h.missing_rise;
   repairs_rise = h.repairs_rise;
@@ -223,7 +244,8 @@ missed-step n e index index2 ms rs h was more = record {
       (expiry-missing n (Some e) ms (put name_cmp n e ms) rs (λ q. find_put q n e ms));
 }
 
-pub missed-back : (n : Name) (e : Missing) (index index2 index3 : List Due) (ms : List (Name × Missing)) (rs : List (Name × Repairing)) → IsIndexed index ms rs → find name_cmp n ms ≡ None
+pub missed-back : (n : Name) (e : Missing) (index index2 index3 : List Due) (ms : List (Name × Missing)) (rs : List (Name × Repairing))
+    → IsIndexed index ms rs → find name_cmp n ms ≡ None
     → ((d : Due) → has index2 d ≡ cond (eq_by_cmp due_cmp (request_timer n e) d) true (has index d))
     → ((d : Due) → has index3 d ≡ cond (eq_by_cmp due_cmp (request_timer n e) d) false (has index2 d)) → IsIndexed index3 ms rs
 missed-back n e index index2 index3 ms rs h was more less = record {
@@ -232,7 +254,8 @@ missed-back n e index index2 index3 ms rs h was more less = record {
   timers = ties_same (has index) (has index2) (has index3) (expiry_of ms rs) e.expiry 2 n h.timers (ap request_expiry was) more less;
 }
 
-pub answered-step : (n : Name) (e : Repairing) (index index2 : List Due) (ms : List (Name × Missing)) (rs : List (Name × Repairing)) → IsIndexed index ms rs → find name_cmp n rs ≡ Some e
+pub answered-step : (n : Name) (e : Repairing) (index index2 : List Due) (ms : List (Name × Missing)) (rs : List (Name × Repairing))
+    → IsIndexed index ms rs → find name_cmp n rs ≡ Some e
     → ((d : Due) → has index2 d ≡ cond (eq_by_cmp due_cmp (repair_timer n e) d) false (has index d)) → IsIndexed index2 ms (without n rs)
 answered-step n e index index2 ms rs h was less = record {
   missing_rise = h.missing_rise;
@@ -242,8 +265,10 @@ answered-step n e index index2 ms rs h was less = record {
       (expiry-repairs n None ms rs (without n rs) (λ q. find_without q n rs));
 }
 
-pub planned-step : (n : Name) (e : Repairing) (index index2 : List Due) (ms : List (Name × Missing)) (rs : List (Name × Repairing)) → IsIndexed index ms rs → find name_cmp n rs ≡ None
-    → ((d : Due) → has index2 d ≡ cond (eq_by_cmp due_cmp (repair_timer n e) d) true (has index d)) → IsIndexed index2 ms (put name_cmp n e rs)
+pub planned-step : (n : Name) (e : Repairing) (index index2 : List Due) (ms : List (Name × Missing)) (rs : List (Name × Repairing))
+    → IsIndexed index ms rs → find name_cmp n rs ≡ None
+    → ((d : Due) → has index2 d ≡ cond (eq_by_cmp due_cmp (repair_timer n e) d) true (has index d))
+    → IsIndexed index2 ms (put name_cmp n e rs)
 planned-step n e index index2 ms rs h was more = record {
   missing_rise = h.missing_rise;
   repairs_rise = rises-put n e rs h.repairs_rise;
@@ -252,7 +277,8 @@ planned-step n e index index2 ms rs h was more = record {
       (expiry-repairs n (Some e) ms rs (put name_cmp n e rs) (λ q. find_put q n e rs));
 }
 
-pub planned-back : (n : Name) (e : Repairing) (index index2 index3 : List Due) (ms : List (Name × Missing)) (rs : List (Name × Repairing)) → IsIndexed index ms rs → find name_cmp n rs ≡ None
+pub planned-back : (n : Name) (e : Repairing) (index index2 index3 : List Due) (ms : List (Name × Missing)) (rs : List (Name × Repairing))
+    → IsIndexed index ms rs → find name_cmp n rs ≡ None
     → ((d : Due) → has index2 d ≡ cond (eq_by_cmp due_cmp (repair_timer n e) d) true (has index d))
     → ((d : Due) → has index3 d ≡ cond (eq_by_cmp due_cmp (repair_timer n e) d) false (has index2 d)) → IsIndexed index3 ms rs
 planned-back n e index index2 index3 ms rs h was more less = record {

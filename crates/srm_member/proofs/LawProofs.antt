@@ -16,7 +16,8 @@ use Rattle.srm_member.proofs.Bounds.{kept_memory, kept_react}
 -- ---- the fixed part
 
 pub same_fixed : FixedPartStays
-same_fixed m at cause = (kept_memory m.fixed (λ es. Unit {0}) (λ es. Unit {0}) at (λ n v es lt h. tt) (λ n es h. tt) (λ n v es lt h. tt) (λ n es h. tt) m cause (record { same = refl; asks = tt; answers = tt })).same
+same_fixed m at cause = (kept_memory m.fixed (λ es. Unit {0}) (λ es. Unit {0}) at (λ n v es lt h. tt) (λ n es h. tt) (λ n v es lt h. tt)
+    (λ n es h. tt) m cause (record { same = refl; asks = tt; answers = tt })).same
 
 -- ---- timers
 
@@ -55,7 +56,8 @@ no_body m (Draw page ink) = refl
 no_body m Report = refl
 
 pub listeners_send_nothing : ListenersSendNothing
-listeners_send_nothing m at cause role = ap (λ (r : Reaction). r.answer.body) (as_listener m at cause (ap is_listener role)) ∙ no_body m cause
+listeners_send_nothing m at cause role = ap (λ (r : Reaction). r.answer.body) (as_listener m at cause (ap is_listener role))
+    ∙ no_body m cause
 
 -- ---- answers
 

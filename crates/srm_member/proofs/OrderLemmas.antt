@@ -1,5 +1,6 @@
 -- Lists kept in an order, and the orders of numbers and keys.
-use Rattle.std.proofs.Common.{◌≡◌, ℕ, ◌<◌, ◌≤◌, true, false, List, [], ◌∷◌, refl, sym, ap, ◌∙◌, ◌≢◌, arith, Ordering, Less, Equal, Greater, nat_cmp, is_lt, ltb-true, eqb-true, true≢false, ◌==◌, nat_lt, cond, Bool, le-ltb, eq-eqb}
+use Rattle.std.proofs.Common.{◌≡◌, ℕ, ◌<◌, ◌≤◌, true, false, List, [], ◌∷◌, refl, sym, ap, ◌∙◌, ◌≢◌, arith, Ordering, Less, Equal, Greater}
+use Rattle.std.proofs.Common.{nat_cmp, is_lt, ltb-true, eqb-true, true≢false, ◌==◌, nat_lt, cond, Bool, le-ltb, eq-eqb}
 use Rattle.std.specs.Ordering.{ordering_then, ordering_reverse}
 use Rattle.std.specs.Cmp.{IsTotalOrder}
 use Rattle.std.specs.Cmp.Lexicographic.{slice_cmp, nat_list_cmp_total}
@@ -28,14 +29,16 @@ module _ {A : Type 0} (cmp : A → A → Ordering) (o : IsTotalOrder cmp) where
   place-swap x y h (z ∷ zs) = let g : is_lt (cmp y x) ≡ false = lt-asym x y h in
       elim (is_lt (cmp z x)) as (λ b. is_lt (cmp z x) ≡ b → place cmp x (place cmp y (z ∷ zs)) ≡ place cmp y (place cmp x (z ∷ zs))) [
         | true ↦ λ zx. let zy : is_lt (cmp z y) ≡ true = lt-trans z x y zx h in simp (zx, zy) (ap (λ l. z ∷ l) (place-swap x y h zs))
-        | false ↦ λ zx. elim (is_lt (cmp z y)) as (λ b. is_lt (cmp z y) ≡ b → place cmp x (place cmp y (z ∷ zs)) ≡ place cmp y (place cmp x (z ∷ zs))) [
-          | true ↦ λ zy. simp (zx, zy, h)
-          | false ↦ λ zy. simp (zx, zy, h, g)
-        ] refl
+        | false ↦ λ zx. elim (is_lt (cmp z y)) as (λ b. is_lt (cmp z y) ≡ b → place cmp x (place cmp y (z ∷ zs))
+            ≡ place cmp y (place cmp x (z ∷ zs))) [
+              | true ↦ λ zy. simp (zx, zy, h)
+              | false ↦ λ zy. simp (zx, zy, h, g)
+            ] refl
       ] refl
 
 -- the same, whichever of the two is less
-pub place-comm : {A : Type 0} (cmp : A → A → Ordering) (o : IsTotalOrder cmp) (x y : A) → cmp x y ≢ Equal → (zs : List A) → place cmp x (place cmp y zs) ≡ place cmp y (place cmp x zs)
+pub place-comm : {A : Type 0} (cmp : A → A → Ordering) (o : IsTotalOrder cmp) (x y : A) → cmp x y ≢ Equal → (zs : List A)
+    → place cmp x (place cmp y zs) ≡ place cmp y (place cmp x zs)
 place-comm cmp o x y apart zs = elim (cmp x y) as (λ r. cmp x y ≡ r → place cmp x (place cmp y zs) ≡ place cmp y (place cmp x zs)) [
   | Less ↦ λ e. place-swap cmp o x y (ap is_lt e) zs
   | Equal ↦ λ e. absurd (apart e)
@@ -108,7 +111,8 @@ module _ {A : Type 0} (cmp : A → A → Ordering) (o : IsTotalOrder cmp) where
 
   none_below_place : (k x : A) (ys : List A) → From k x → NoneBelow cmp k ys → NoneBelow cmp k (place cmp x ys)
   none_below_place k x [] h g = (h, tt)
-  none_below_place k x (y ∷ ys) h g = none_below_cond k (is_lt (cmp y x)) (y ∷ place cmp x ys) (x ∷ y ∷ ys) (g.0, none_below_place k x ys h g.1) (h, g)
+  none_below_place k x (y ∷ ys) h g = none_below_cond k (is_lt (cmp y x))
+      (y ∷ place cmp x ys) (x ∷ y ∷ ys) (g.0, none_below_place k x ys h g.1) (h, g)
 
   pub none_below_from : (k x : A) (ys : List A) → From k x → NoneBelow cmp x ys → NoneBelow cmp k ys
   none_below_from k x [] h g = tt

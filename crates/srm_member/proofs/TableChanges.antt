@@ -1,5 +1,7 @@
 -- Tables of names and of pages: what an entry put in, or taken out, changes.
-use Rattle.std.proofs.Common.{◌≡◌, ℕ, zero, suc, ◌<◌, ◌≤◌, Bool, true, false, cond, not, T, List, [], ◌∷◌, map, refl, sym, ap, ◌∙◌, subst, ◌≢◌, ◌⊎◌, inl, inr, arith, Ordering, Less, Equal, Greater, Option, Some, None, is_some, is_lt, ◌&&◌, true≢false, nat_cmp, length, slice_index_or, nat_lt, le-ltb, eq-eqb, ◌==◌}
+use Rattle.std.proofs.Common.{◌≡◌, ℕ, zero, suc, ◌<◌, ◌≤◌, Bool, true, false, cond, not, T, List, [], ◌∷◌, map, refl, sym, ap, ◌∙◌, subst}
+use Rattle.std.proofs.Common.{◌≢◌, ◌⊎◌, inl, inr, arith, Ordering, Less, Equal, Greater, Option, Some, None, is_some, is_lt, ◌&&◌}
+use Rattle.std.proofs.Common.{true≢false, nat_cmp, length, slice_index_or, nat_lt, le-ltb, eq-eqb, ◌==◌}
 use Rattle.std.specs.List.{Contains}
 use Rattle.std.specs.Ordering.{eq_by_cmp, is_eq}
 use Rattle.std.specs.Cmp.{IsTotalOrder, on_total}
@@ -132,12 +134,15 @@ module _ {V : Type 0} where
     | inr ne ↦ inr (sym (ap is_some (put_there k n v es ne)) ∙ h)
   ]
 
-  without_find : (k n : Name) (es : List (Name × V)) → find name_cmp k (without n es) ≡ cond (not (eq_by_cmp name_cmp n k)) (find name_cmp k es) None
-  without_find k n es = find-where_key name_cmp (λ x. not (eq_by_cmp name_cmp n x)) k (λ x tie. ap (λ y. not (eq_by_cmp name_cmp n y)) (sym (tied_names k x tie))) es
+  without_find : (k n : Name) (es : List (Name × V)) → find name_cmp k (without n es)
+      ≡ cond (not (eq_by_cmp name_cmp n k)) (find name_cmp k es) None
+  without_find k n es = find-where_key name_cmp (λ x. not (eq_by_cmp name_cmp n x)) k
+      (λ x tie. ap (λ y. not (eq_by_cmp name_cmp n y)) (sym (tied_names k x tie))) es
 
   pub without_here : (n : Name) (es : List (Name × V)) → Has n (without n es) → ⊥
   without_here n es h =
-      let none : find name_cmp n (without n es) ≡ None = without_find n n es ∙ ap (λ b. cond (not b) (find name_cmp n es) None) (name_is n) in
+      let none : find name_cmp n (without n es) ≡ None = without_find n n es
+      ∙ ap (λ b. cond (not b) (find name_cmp n es) None) (name_is n) in
       true≢false (sym h ∙ ap is_some none)
 
   pub without_there : (k n : Name) (es : List (Name × V)) → k ≢ n → find name_cmp k (without n es) ≡ find name_cmp k es
@@ -184,7 +189,8 @@ module _ {V : Type 0} where
       cc
   not_in k (e ∷ es) h v (suc i, l, q) = not_in k es (second_true _ _ h) v (i, omega arith, q)
 
-  pub contained_found : (es : List (Name × V)) → T (is_sorted name_cmp es) → (k : Name) (v : V) → Contains es (k, v) → find name_cmp k es ≡ Some v
+  pub contained_found : (es : List (Name × V)) → T (is_sorted name_cmp es) → (k : Name) (v : V) → Contains es (k, v) → find name_cmp k es
+      ≡ Some v
   contained_found [] s k v c = absurd (let l = c.1 in omega arith)
   contained_found (e ∷ es) s k v (zero, l, q) =
       let same : e ≡ (k, v) = q in
@@ -192,7 +198,8 @@ module _ {V : Type 0} where
       ap (λ b. cond b (Some e.1) (find name_cmp k es)) tie ∙ ap (λ (x : Name × V). Some x.1) same
   contained_found (e ∷ es) s k v (suc i, l, q) = elim (names_apart k e.0) [
     | inl same ↦ absurd (not_in e.0 es (first_true _ _ s) v (subst (λ x. Contains es (x, v)) same (i, omega arith, q)))
-    | inr ne ↦ ap (λ b. cond b (Some e.1) (find name_cmp k es)) (other_names k e.0 ne) ∙ contained_found es (second_true _ _ s) k v (i, omega arith, q)
+    | inr ne ↦ ap (λ b. cond b (Some e.1) (find name_cmp k es)) (other_names k e.0 ne)
+        ∙ contained_found es (second_true _ _ s) k v (i, omega arith, q)
   ]
 
   pub found_contained : (es : List (Name × V)) (k : Name) (v : V) → find name_cmp k es ≡ Some v → Contains es (k, v)
@@ -203,7 +210,8 @@ module _ {V : Type 0} where
         let name : e.0 ≡ k = sym (same_names k e.0 q) in
         let same : e.1 ≡ v = cc in
         (0, omega arith, (λ i. (name i, same i)))
-    | false ↦ λ q. Contains-append_right (e ∷ []) es (k, v) (found_contained es k v (sym (ap (λ b. cond b (Some e.1) (find name_cmp k es)) q) ∙ h))
+    | false ↦ λ q. Contains-append_right (e ∷ []) es (k, v)
+        (found_contained es k v (sym (ap (λ b. cond b (Some e.1) (find name_cmp k es)) q) ∙ h))
   ] refl
 
   -- the names of a table are those of its entries
@@ -222,7 +230,8 @@ module _ {V : Type 0} where
   has_name [] k h = cc
   has_name (e ∷ es) k h = elim (eq_by_cmp name_cmp k e.0) as (λ b. eq_by_cmp name_cmp k e.0 ≡ b → Contains (names_of (e ∷ es)) k) [
     | true ↦ λ q. (0, omega arith, sym (same_names k e.0 q))
-    | false ↦ λ q. Contains-append_right (e.0 ∷ []) (names_of es) k (has_name es k (sym (ap (λ b. is_some (cond b (Some e.1) (find name_cmp k es))) q) ∙ h))
+    | false ↦ λ q. Contains-append_right (e.0 ∷ []) (names_of es) k
+        (has_name es k (sym (ap (λ b. is_some (cond b (Some e.1) (find name_cmp k es))) q) ∙ h))
   ] refl
 
 -- ---- a page's entry
@@ -233,7 +242,8 @@ module _ {V : Type 0} where
 
   -- another page, whose entry stays, or this one
   pub page_cases : (q p : PageId) (v : V) (es : List (PageId × V)) → (q ≡ p) ⊎ (find page_cmp q (put page_cmp p v es) ≡ find page_cmp q es)
-  page_cases q p v es = elim (eq_by_cmp page_cmp q p) as (λ b. eq_by_cmp page_cmp q p ≡ b → (q ≡ p) ⊎ (find page_cmp q (put page_cmp p v es) ≡ find page_cmp q es)) [
-    | true ↦ λ e. inl (same_pages q p e)
-    | false ↦ λ e. inr (find-put page_cmp page_total q p v es ∙ ap (λ b. cond b (Some v) (find page_cmp q es)) e)
-  ] refl
+  page_cases q p v es = elim (eq_by_cmp page_cmp q p) as (λ b. eq_by_cmp page_cmp q p ≡ b → (q ≡ p)
+      ⊎ (find page_cmp q (put page_cmp p v es) ≡ find page_cmp q es)) [
+        | true ↦ λ e. inl (same_pages q p e)
+        | false ↦ λ e. inr (find-put page_cmp page_total q p v es ∙ ap (λ b. cond b (Some v) (find page_cmp q es)) e)
+      ] refl

@@ -61,8 +61,8 @@ AreFixedAfterLoss rows =
     (before after : List Row) (r : Row) → rows ≡ before ++ r ∷ after → r.told ≡ Fixed
     → (n : Name) × (brought r.about ≡ Some n) × LostIn r.key.member n before × ¬ FixedIn r.key.member n before
 
--- rows in the order of strictly rising keys, of so many members, each of which joins at most once, leaves at most once and loses
--- no name twice, and fixes only what it lost
+-- rows in the order of strictly rising keys, of so many members, each of which joins at most once, leaves at most once
+-- and loses no name twice, and fixes only what it lost
 pub record IsOrderly (members : ℕ) (rows : List Row) : Type 0 where
   pub rise : Ascends (λ q r. key_cmp q.key r.key) rows
   pub among : All (IsAmong members) rows

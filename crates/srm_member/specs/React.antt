@@ -1,5 +1,7 @@
 -- How a member answers a cause: the table for senders, receivers and late joiners, and the table for listeners.
-use Rattle.std.specs.Prelude.{ℕ, zero, suc, ◌+◌, ◌-◌, ◌*◌, ◌/◌, min, Bool, true, false, not, ◌&&◌, List, [], ◌∷◌, ◌++◌, map, filter, Option, Some, None, is_some, unwrap_or, nat_lt, nat_le, ◌==◌, slice_index, if◌then◌else◌}
+use Rattle.std.specs.Prelude.{ℕ, zero, suc, ◌+◌, ◌-◌, ◌*◌, ◌/◌, min, Bool, true, false, not, ◌&&◌, List, [], ◌∷◌, ◌++◌}
+use Rattle.std.specs.Prelude.{map, filter, Option, Some, None, is_some, unwrap_or, nat_lt, nat_le, ◌==◌, slice_index}
+use Rattle.std.specs.Prelude.{if◌then◌else◌}
 use Rattle.std.specs.List.{list_any}
 use Rattle.std.specs.Ordering.{eq_by_cmp}
 use Rattle.std.specs.FinMap.Entries.{put, find}
@@ -14,7 +16,8 @@ use Rattle.srm_net.specs.Names.{page_of, name_in, name_cmp, page_cmp}
 use Rattle.srm_member.specs.declared.cause.Cause.{Cause}
 use Rattle.srm_member.specs.declared.cause.Cause.TheVariants.{Join, Arrival, Ask, Answer, Draw, Report}
 use Rattle.srm_member.specs.declared.told.Told.{Told}
-use Rattle.srm_member.specs.declared.told.Told.TheVariants.{Entered, Fresh, Fixed, Again, Skip, Rest, Busy, Plan, Hold, Back, Sent, Heard as Informed}
+use Rattle.srm_member.specs.declared.told.Told.TheVariants.{Entered, Fresh, Fixed, Again, Skip, Rest, Busy, Plan, Hold}
+use Rattle.srm_member.specs.declared.told.Told.TheVariants.{Back, Sent, Heard as Informed}
 use Rattle.srm_member.specs.declared.react.React.{React}
 use Rattle.srm_member.specs.Timers.{span, draw}
 use Rattle.srm_member.specs.Record.{Stream, Missing, Repairing, Memory}
@@ -62,7 +65,8 @@ request_length m i n = length_in m (span i m.fixed.c1 m.fixed.c2 (distance_to m 
 abbrev pub repair_length : Memory → ℕ → ℕ
 repair_length m who = length_in m (span 0 m.fixed.d1 m.fixed.d2 (distance_to m who))
 
--- back off: the count rises, up to 10, and the timer is set anew; in the first half of it the member backs off no further
+-- back off: the count rises, up to 10, and the timer is set anew; in the first half of it the member backs off no
+-- further
 abbrev pub back_off : ℕ → Name → Missing → Memory → Memory
 back_off at n e m =
     let i = min (e.backoffs + 1) 10 in
@@ -144,8 +148,8 @@ abbrev pub requester_or : ℕ → Option Repairing → ℕ
 requester_or who None = who
 requester_or who (Some r) = r.requester
 
--- the base of a name's rest: the distance to its source; at the source itself the distance to the requester of the pending
--- repair timer, or without one to the member that sent the repair
+-- the base of a name's rest: the distance to its source; at the source itself the distance to the requester of the
+-- pending repair timer, or without one to the member that sent the repair
 abbrev pub base : Memory → Name → ℕ → ℕ
 base m n who = distance_to m
     (if n.source == m.fixed.member then requester_or who (find name_cmp n m.repairs) else n.source)

@@ -19,9 +19,9 @@ pub record Stream : Type 0 where
   pub floor : ℕ
   pub next : ℕ
 
--- what an active member knows: its fixed part; its generator; the streams of pages; the inks of the names that it holds; the
--- names that it lacks; its repair timers; and, of names that it answered or heard repaired, the time before which it does not
--- answer again. Finite maps are lists of entries whose keys rise
+-- what an active member knows: its fixed part; its generator; the streams of pages; the inks of the names that it
+-- holds; the names that it lacks; its repair timers; and, of names that it answered or heard repaired, the time before
+-- which it does not answer again. Finite maps are lists of entries whose keys rise
 pub record Memory : Type 0 where
   pub fixed : Fixed
   pub words : Lcg

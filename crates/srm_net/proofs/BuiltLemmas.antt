@@ -1,6 +1,6 @@
 -- What the ways of a built tree give.
-use Rattle.std.proofs.Common.{◌≡◌, ◌≢◌, ℕ, ◌+◌, ◌<◌, Bool, true, false, not, cond, ◌&&◌, List, ◌∷◌, length, Some, refl, sym, ap, ◌∙◌, subst,
-    inl, inr, eqb, eq-eqb, eqb-true, slice_get, slice_index_or, unwrap_or}
+use Rattle.std.proofs.Common.{◌≡◌, ◌≢◌, ℕ, ◌+◌, ◌<◌, Bool, true, false, not, cond, ◌&&◌, List, ◌∷◌, length, Some, refl, sym, ap, ◌∙◌, subst}
+use Rattle.std.proofs.Common.{inl, inr, eqb, eq-eqb, eqb-true, slice_get, slice_index_or, unwrap_or}
 use Rattle.std.specs.List.{list_any}
 use Rattle.std.proofs.lemmas.Bool.{cases_Bool}
 use Rattle.srm_net.specs.declared.link.LinkSpec.{LinkSpec}
@@ -35,13 +35,13 @@ pub told_distance : (n : Inside) → IsBuilt n → (a b : ℕ) → a < length n.
 unfolding distance
 told_distance n i a b ha hb =
     (told_route (plain_of n) i.network.tree n.ways i.ways (host (plain_of n) a) (host (plain_of n) b)
-        (host_below (plain_of n) i.network a ha) (host_below (plain_of n) i.network b hb)).0
+    (host_below (plain_of n) i.network a ha) (host_below (plain_of n) i.network b hb)).0
 
 -- ---- the first step of a route
 
 pub told_step : (w : Network) → IsTree w → (ways : Ways) → TellsWays w.nodes w.links ways → (u v : ℕ) → u < w.nodes → v < w.nodes → u ≢ v
     → (rest : List ℕ) × (route w u v ≡ number_at ways.firsts.width ways.firsts.cells.items u v ∷ rest)
-        × Begins w u v (number_at ways.firsts.width ways.firsts.cells.items u v) rest
+    × Begins w u v (number_at ways.firsts.width ways.firsts.cells.items u v) rest
 told_step w t ways told u v hu hv d =
     let r = (told_route w t ways told u v hu hv).1 d in
     (r.0, r.1, route_begins w t u v hu hv (number_at ways.firsts.width ways.firsts.cells.items u v) r.0 r.1)
@@ -67,12 +67,12 @@ pub first_below : (n : Inside) → IsBuilt n → (u v f : ℕ) → u < n.nodes �
 first_below n i u v f hu hv d e =
     let r = told_step (plain_of n) i.network.tree n.ways i.ways u v hu hv d in
     subst (λ t. t < length n.links.items) (sym e) (get_below n.links.items
-        (number_at n.ways.firsts.width n.ways.firsts.cells.items u v) r.2.spec r.2.link)
+    (number_at n.ways.firsts.width n.ways.firsts.cells.items u v) r.2.spec r.2.link)
 
 pub first_route : (n : Inside) → IsBuilt n → (u v f : ℕ) (k : LinkSpec) → u < n.nodes → v < n.nodes → u ≢ v → f
     ≡ number_at n.ways.firsts.width n.ways.firsts.cells.items u v → k ≡ slice_index_or n.links.items f k
     → (route (plain_of n) u v ≡ f ∷ route (plain_of n) (cond (eqb k.a u) k.b k.a) v) × (cond (eqb k.a u) k.b k.a < n.nodes)
-        × (far_end k u ≡ Some (cond (eqb k.a u) k.b k.a))
+    × (far_end k u ≡ Some (cond (eqb k.a u) k.b k.a))
 first_route n i u v f k hu hv d e q =
     let r = told_step (plain_of n) i.network.tree n.ways i.ways u v hu hv d in
     let g : slice_get n.links.items f ≡ Some k = read_get n.links.items f k (first_below n i u v f hu hv d e) q in
@@ -118,11 +118,11 @@ first_end n w e u f g k lt p r x far =
 pub first_seen : (n : Inside) → IsBuilt n → (w : Network) → plain_of n ≡ w → (u v f g : ℕ) (k : LinkSpec) → u < w.nodes → v < w.nodes
     → u ≢ v
     → f ≡ number_at n.ways.firsts.width n.ways.firsts.cells.items u v → g ≡ f → k ≡ slice_index_or n.links.items g k → (x : ℕ) → x
-        ≡ cond (eqb k.a u) k.b k.a
+    ≡ cond (eqb k.a u) k.b k.a
     → (route w u v ≡ f ∷ route w x v) × (x < w.nodes) × (f < length w.links) × (end_of u (slice_get w.links f) ≡ x)
 first_seen n i w e u v f g k hu hv d q p r x y =
     let t = first_route n i u v f k (seen_below (plain_of n) w u e hu) (seen_below (plain_of n) w v e hv) d q
-        (subst (λ z. k ≡ slice_index_or n.links.items z k) p r) in
+    (subst (λ z. k ≡ slice_index_or n.links.items z k) p r) in
     let lt = first_below n i u v f (seen_below (plain_of n) w u e hu) (seen_below (plain_of n) w v e hv) d q in
     let far : far_end k u ≡ Some x = subst (λ z. far_end k u ≡ Some z) (sym y) t.2 in
     let ends = first_end n w e u f g k lt p r x far in (
@@ -152,7 +152,7 @@ and_false false = refl
 module _ (w : Network) (n : IsNetwork w) (l u near sent : ℕ) (any : Bool) (rules : DropRules) (p : PacketId) (ht : l < length w.links)
     (hs : p.sender < length w.hosts) (e : u ≡ host w p.sender)
     (nears : (k : LinkSpec) → slice_get w.links l ≡ Some k → near ≡ near_end w l k u)
-        (anys : (k : LinkSpec) → slice_get w.links l ≡ Some k → any ≡ some_beyond w l k u) where
+    (anys : (k : LinkSpec) → slice_get w.links l ≡ Some k → any ≡ some_beyond w l k u) where
   -- the stop at the link
   abbrev pub stop_there : Stop
   stop_there = stop l (sent + delay_along w.links u (route w u near))
@@ -169,7 +169,7 @@ module _ (w : Network) (n : IsNetwork w) (l u near sent : ℕ) (any : Bool) (rul
       ∙ ap (λ v. not (f (near_stop w l k.0 v sent)) && (some_beyond w l k.0 v && is_free w l k.0 f v sent)) (sym e)
       ∙ ap (λ t. not (f (near_stop w l k.0 u sent)) && (t && is_free w l k.0 f u sent)) (sym (anys k.0 k.1))
       ∙ ap (λ t. not (f (stop l (sent + delay_along w.links u (route w u t)))) &&
-          (any && not (list_any f (stops w.links u sent (route w u t))))) (sym (nears k.0 k.1))
+      (any && not (list_any f (stops w.links u sent (route w u t))))) (sym (nears k.0 k.1))
 
   pub told_dropped : drops_at w rules p sent l ≡ (takes_out rules p stop_there && comes)
   told_dropped =
@@ -179,15 +179,19 @@ module _ (w : Network) (n : IsNetwork w) (l u near sent : ℕ) (any : Bool) (rul
       ∙ ap (λ v. f (near_stop w l k.0 v sent) && (some_beyond w l k.0 v && is_free w l k.0 f v sent)) (sym e)
       ∙ ap (λ t. f (near_stop w l k.0 u sent) && (t && is_free w l k.0 f u sent)) (sym (anys k.0 k.1))
       ∙ ap (λ t. f (stop l (sent + delay_along w.links u (route w u t))) && (any && not (list_any f (stops w.links u sent (route w u t)))))
-          (sym (nears k.0 k.1))
+      (sym (nears k.0 k.1))
 
   -- at a link to which it comes
   pub comes_there : comes ≡ true → (crosses w rules p sent l ≡ not (takes_out rules p stop_there))
       × (drops_at w rules p sent l ≡ takes_out rules p stop_there)
-  comes_there h = (told_crossed ∙ ap (λ b. not (takes_out rules p stop_there) && b) h ∙ and_true (not (takes_out rules p stop_there)),
-      told_dropped ∙ ap (λ b. takes_out rules p stop_there && b) h ∙ and_true (takes_out rules p stop_there))
+  comes_there h = (
+    told_crossed ∙ ap (λ b. not (takes_out rules p stop_there) && b) h ∙ and_true (not (takes_out rules p stop_there)),
+    told_dropped ∙ ap (λ b. takes_out rules p stop_there && b) h ∙ and_true (takes_out rules p stop_there),
+  )
 
   -- and at one to which it does not
   pub comes_not : comes ≡ false → (crosses w rules p sent l ≡ false) × (drops_at w rules p sent l ≡ false)
-  comes_not h = (told_crossed ∙ ap (λ b. not (takes_out rules p stop_there) && b) h ∙ and_false (not (takes_out rules p stop_there)),
-      told_dropped ∙ ap (λ b. takes_out rules p stop_there && b) h ∙ and_false (takes_out rules p stop_there))
+  comes_not h = (
+    told_crossed ∙ ap (λ b. not (takes_out rules p stop_there) && b) h ∙ and_false (not (takes_out rules p stop_there)),
+    told_dropped ∙ ap (λ b. takes_out rules p stop_there && b) h ∙ and_false (takes_out rules p stop_there),
+  )

@@ -1,13 +1,13 @@
 -- Sets of drops, and what their lists have.
-use Rattle.std.proofs.Common.{◌≡◌, ℕ, zero, suc, ◌<◌, Bool, true, false, cond, ◌&&◌, ◌||◌, ◌==◌, List, [], ◌∷◌, ◌++◌, length, refl, sym, ap,
-    ◌∙◌, inl, inr, arith, eqb, eq-eqb, eqb-true, Contains, Ordering, Less, Equal, Greater}
+use Rattle.std.proofs.Common.{◌≡◌, ℕ, zero, suc, ◌<◌, Bool, true, false, cond, ◌&&◌, ◌||◌, ◌==◌, List, [], ◌∷◌, ◌++◌, length, refl, sym, ap}
+use Rattle.std.proofs.Common.{◌∙◌, inl, inr, arith, eqb, eq-eqb, eqb-true, Contains, Ordering, Less, Equal, Greater}
 use Rattle.std.specs.List.{list_any}
 use Rattle.std.specs.Ordering.{match_ordering, ordering_reverse}
 use Rattle.std.specs.Cmp.{IsTotalOrder, on_total}
 use Rattle.std.specs.Cmp.Lexicographic.{nat_list_cmp_total}
 use Rattle.std.specs.FinMap.{slice_cmp-IsAntisymmetric, nat_cmp-IsAntisymmetric}
-use Rattle.std.proofs.lemmas.Bool.{both_ways, false_from_ne_true, ne_eqb, cases_Bool, cases_eq, and_parts, and_from, or_cases, or_left,
-    or_right, false≢true}
+use Rattle.std.proofs.lemmas.Bool.{both_ways, false_from_ne_true, ne_eqb, cases_Bool, cases_eq, and_parts, and_from, or_cases, or_left}
+use Rattle.std.proofs.lemmas.Bool.{or_right, false≢true}
 use Rattle.srm_net.specs.declared.link.DropSpec.{DropSpec}
 use Rattle.srm_net.specs.declared.packet.PacketId.{PacketId}
 use Rattle.srm_net.specs.Orders.{AllAfter, Ascends}
@@ -59,7 +59,7 @@ module _ {A : Type 0} (cmp : A → A → Ordering) (f : A → Bool) (same : (x y
   any_once x [] = refl
   any_once x (z ∷ zs) =
       elim (cmp x z) as (λ r. cmp x z ≡ r → list_any f (match_ordering r (x ∷ z ∷ zs) (z ∷ zs) (z ∷ with_once cmp x zs))
-          ≡ (f x || (f z || list_any f zs))) [
+      ≡ (f x || (f z || list_any f zs))) [
         | Less ↦ λ e. refl
         | Equal ↦ λ e. rw (same x z e) (or_same (f z) (list_any f zs))
         | Greater ↦ λ e. ap (λ t. f z || t) (any_once x zs) ∙ or_turn (f z) (f x) (list_any f zs)
@@ -80,7 +80,7 @@ drops_ascend ds = ordered_ascends drop_cmp drop_total ds
 same_drop : (d e : DropSpec) → drop_cmp d e ≡ Equal → d ≡ e
 same_drop d e h =
     let q : d.link ∷ d.id.sender ∷ d.id.count ∷ [] ≡ e.link ∷ e.id.sender ∷ e.id.count ∷ [] =
-        slice_cmp-IsAntisymmetric nat_cmp-IsAntisymmetric _ _ h in
+    slice_cmp-IsAntisymmetric nat_cmp-IsAntisymmetric _ _ h in
     let a : d.link ≡ e.link = cc in
     let b : d.id.sender ≡ e.id.sender = cc in
     let c : d.id.count ≡ e.id.count = cc in
@@ -91,8 +91,11 @@ listed_ordered ds p l = any_ordered drop_cmp (λ d. (d.link == l) && ((d.id.send
     (λ x y h. ap (λ d. (d.link == l) && ((d.id.sender == p.sender) && (d.id.count == p.count))) (same_drop x y h)) ds
 
 eqb_turn : (a b : ℕ) → eqb a b ≡ eqb b a
-eqb_turn a b = elim (cases_eq a b) [ inl e ↦ eq-eqb a b e ∙ sym (eq-eqb b a (sym e)) | inr n ↦ ne_eqb a b n
-    ∙ sym (ne_eqb b a (λ e. n (sym e))) ]
+eqb_turn a b = elim (cases_eq a b) [
+  | inl e ↦ eq-eqb a b e ∙ sym (eq-eqb b a (sym e))
+  | inr n ↦ ne_eqb a b n
+      ∙ sym (ne_eqb b a (λ e. n (sym e)))
+]
 
 -- the test by which a set of drops looks for an entry
 abbrev pub sought : PacketId → ℕ → DropSpec → Bool
@@ -158,7 +161,7 @@ pub known_more : (ps qs : List PacketId) (d : DropSpec) (xs : List DropSpec) (p 
     → has_packet ps p ≡ is_listed_somewhere xs p → has_packet qs p ≡ is_listed_somewhere (xs ++ d ∷ []) p
 known_more ps qs d xs p g e =
     g ∙ ap (λ t. cond ((d.id.sender == p.sender) && (d.id.count == p.count)) true t) e
-        ∙ sym (any_push (λ d. (d.id.sender == p.sender) && (d.id.count == p.count)) xs d)
+    ∙ sym (any_push (λ d. (d.id.sender == p.sender) && (d.id.count == p.count)) xs d)
 
 -- ---- listed at some link
 
@@ -179,10 +182,16 @@ somewhere_to : (ds : List DropSpec) (p : PacketId) → is_listed_somewhere ds p 
 somewhere_to [] p h = absurd (false≢true h)
 somewhere_to (d ∷ ds) p h =
     elim (or_cases ((d.id.sender == p.sender) && (d.id.count == p.count)) (is_listed_somewhere ds p) h) [
-      | inl t ↦ (d.link, or_left ((d.link == d.link) && ((d.id.sender == p.sender) && (d.id.count == p.count))) (is_listed ds p d.link)
-          (and_from (d.link == d.link) ((d.id.sender == p.sender) && (d.id.count == p.count)) (eq-eqb d.link d.link refl) t))
-      | inr t ↦ (let r = somewhere_to ds p t in (r.0, or_right ((d.link == r.0) && ((d.id.sender == p.sender) && (d.id.count == p.count)))
-          (is_listed ds p r.0) r.1))
+      | inl t ↦ (
+        d.link,
+        or_left ((d.link == d.link) && ((d.id.sender == p.sender) && (d.id.count == p.count))) (is_listed ds p d.link)
+            (and_from (d.link == d.link) ((d.id.sender == p.sender) && (d.id.count == p.count)) (eq-eqb d.link d.link refl) t),
+      )
+      | inr t ↦ (let r = somewhere_to ds p t in (
+        r.0,
+        or_right ((d.link == r.0) && ((d.id.sender == p.sender) && (d.id.count == p.count)))
+            (is_listed ds p r.0) r.1,
+      ))
     ]
 
 pub nowhere_listed : (ds : List DropSpec) (p : PacketId) (l : ℕ) → is_listed_somewhere ds p ≡ false → is_listed ds p l ≡ false

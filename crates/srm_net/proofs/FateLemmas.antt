@@ -1,6 +1,6 @@
 -- What becomes of packets that are not dropped, and which links are on members' ways.
-use Rattle.std.proofs.Common.{◌≡◌, ℕ, ◌+◌, ◌==◌, ◌<◌, ◌≤◌, Bool, true, false, cond, not, ◌&&◌, ◌||◌, List, [], ◌∷◌, length, Some, refl, sym,
-    ap, ◌∙◌, arith, slice_get, nat_lt, nat_le}
+use Rattle.std.proofs.Common.{◌≡◌, ℕ, ◌+◌, ◌==◌, ◌<◌, ◌≤◌, Bool, true, false, cond, not, ◌&&◌, ◌||◌, List, [], ◌∷◌, length, Some, refl, sym}
+use Rattle.std.proofs.Common.{ap, ◌∙◌, arith, slice_get, nat_lt, nat_le}
 use Rattle.std.specs.List.{list_any}
 use Rattle.std.proofs.lemmas.Bool.{false_from_ne_true, ltb-true, ltb-false, and_parts, or_parts, or_from}
 use Rattle.srm_net.specs.declared.link.LinkSpec.{LinkSpec}
@@ -8,14 +8,14 @@ use Rattle.srm_net.specs.declared.link.DropSpec.{DropSpec}
 use Rattle.srm_net.specs.declared.link.OutageSpec.{OutageSpec}
 use Rattle.srm_net.specs.declared.packet.PacketId.{PacketId}
 use Rattle.srm_net.specs.Network.{Network, IsNetwork}
-use Rattle.srm_net.specs.Paths.{is_in, host, delay_of, end_of, member_route, is_listed, Stop, stop, stops, takes_out, member_stops,
-    crossed_on, dropped_on, reaches, crosses, drops_at}
+use Rattle.srm_net.specs.Paths.{is_in, host, delay_of, end_of, member_route, is_listed, Stop, stop, stops, takes_out, member_stops}
+use Rattle.srm_net.specs.Paths.{crossed_on, dropped_on, reaches, crosses, drops_at}
 use Rattle.srm_net.specs.DropRules.{DropRules, is_out, some_ends_after, may_drop}
 use Rattle.srm_net.specs.Listed.{is_listed_somewhere}
 use Rattle.srm_net.specs.Tables.{some_beyond}
 use Rattle.srm_net.specs.Fates.{is_on_way}
-use Rattle.srm_net.specs.Laws.{UnlistedReachesAll, UnlistedCrossesItsWays,
-    UnlistedIsNowhereDropped, WithoutOutagesReaches, WithoutOutagesAtAnyTime}
+use Rattle.srm_net.specs.Laws.{UnlistedReachesAll, UnlistedCrossesItsWays, UnlistedIsNowhereDropped, WithoutOutagesReaches}
+use Rattle.srm_net.specs.Laws.{WithoutOutagesAtAnyTime}
 use Rattle.srm_net.proofs.Lists.{below_get}
 use Rattle.srm_net.proofs.DropLemmas.{nowhere_listed}
 use Rattle.srm_net.proofs.PathLaws.{LinkOf, host_below, on_route, some_same, none_below}
@@ -45,21 +45,21 @@ pub spared : (rules : DropRules) (p : PacketId) (sent : ℕ) → may_drop rules 
 spared rules p sent h s k =
     let n = or_parts (is_listed_somewhere rules.listed p) (some_ends_after rules.outages sent) h in
     or_from (is_listed rules.listed p s.link) (is_out rules.outages s.link s.at) (nowhere_listed rules.listed p s.link n.0)
-        (none_out rules.outages sent s.link s.at n.1 k)
+    (none_out rules.outages sent s.link s.at n.1 k)
 
 module _ (f : Stop → Bool) (sent : ℕ) (h : (s : Stop) → sent ≤ s.at → f s ≡ false) (links : List LinkSpec) where
   pub none_stops : (u t : ℕ) (ls : List ℕ) → sent ≤ t → list_any f (stops links u t ls) ≡ false
   none_stops u t [] k = refl
   none_stops u t (l ∷ ls) k =
       or_from (f (stop l t)) (list_any f (stops links (end_of u (slice_get links l)) (t + delay_of u (slice_get links l)) ls))
-          (h (stop l t) k)
+      (h (stop l t) k)
       (none_stops (end_of u (slice_get links l)) (t + delay_of u (slice_get links l)) ls (omega arith))
 
   crossed_all : (u t : ℕ) (ls : List ℕ) (l : ℕ) → sent ≤ t → crossed_on f (stops links u t ls) l ≡ is_in ls l
   crossed_all u t [] l k = refl
   crossed_all u t (m ∷ ls) l k =
       rw (h (stop m t) k) (ap (λ b. (m == l) || b) (crossed_all (end_of u (slice_get links m)) (t + delay_of u (slice_get links m)) ls l
-          (omega arith)))
+      (omega arith)))
 
   dropped_never : (u t : ℕ) (ls : List ℕ) (l : ℕ) → sent ≤ t → dropped_on f (stops links u t ls) l ≡ false
   dropped_never u t [] l k = refl
@@ -70,22 +70,22 @@ pub unlisted_reaches_all : UnlistedReachesAll
 unfolding reaches
 unlisted_reaches_all w rules p sent h m =
     ap not (none_stops (takes_out rules p) sent (spared rules p sent h) w.links (host w p.sender) sent (member_route w p.sender m)
-        (omega arith))
+    (omega arith))
 
 pub unlisted_crosses_its_ways : UnlistedCrossesItsWays
 unfolding crosses is_on_way
 unlisted_crosses_its_ways w rules p sent h l =
     some_same (λ m. crossed_on (takes_out rules p) (member_stops w p.sender sent m) l) (λ m. is_in (member_route w p.sender m) l)
-        (length w.hosts)
+    (length w.hosts)
     (λ m _. crossed_all (takes_out rules p) sent (spared rules p sent h) w.links (host w p.sender) sent (member_route w p.sender m) l
-        (omega arith))
+    (omega arith))
 
 pub unlisted_is_nowhere_dropped : UnlistedIsNowhereDropped
 unfolding drops_at
 unlisted_is_nowhere_dropped w rules p sent h l =
     none_below (λ m. dropped_on (takes_out rules p) (member_stops w p.sender sent m) l) (length w.hosts)
     (λ m. dropped_never (takes_out rules p) sent (spared rules p sent h) w.links (host w p.sender) sent (member_route w p.sender m) l
-        (omega arith))
+    (omega arith))
 
 -- ---- without outages
 
@@ -140,7 +140,7 @@ unfolding is_on_way
 on_way_is w n l k g a h =
     let o : LinkOf w l k = record { tree = n.tree; link = g } in
     some_same (λ m. is_in (member_route w a m) l) _ (length w.hosts)
-        (λ m lt. on_route w l k o (host w a) (host w m) (host_below w n a h) (host_below w n m lt))
+    (λ m lt. on_route w l k o (host w a) (host w m) (host_below w n a h) (host_below w n m lt))
 
 -- what the tables of sides tell of a member's ways
 pub told_on_way : (w : Network) → IsNetwork w → (l a u : ℕ) (any : Bool) → l < length w.links → a < length w.hosts → u ≡ host w a

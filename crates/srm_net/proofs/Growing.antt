@@ -1,6 +1,6 @@
 -- What a grown tree has: all nodes and links once it is large enough, and a cut at each link.
-use Rattle.std.proofs.Common.{◌≡◌, ℕ, zero, suc, ◌+◌, ◌<◌, ◌≤◌, Bool, true, false, not, cond, List, [], ◌∷◌, length, Some, refl, sym, ap,
-    ◌∙◌, subst, inl, inr, arith, eqb, eq-eqb, eqb-true, slice_get, All}
+use Rattle.std.proofs.Common.{◌≡◌, ℕ, zero, suc, ◌+◌, ◌<◌, ◌≤◌, Bool, true, false, not, cond, List, [], ◌∷◌, length, Some, refl, sym, ap}
+use Rattle.std.proofs.Common.{◌∙◌, subst, inl, inr, arith, eqb, eq-eqb, eqb-true, slice_get, All}
 use Rattle.std.proofs.lemmas.Bool.{ne_eqb, cases_Bool, both_ways, false≢true}
 use Rattle.srm_net.specs.declared.link.LinkSpec.{LinkSpec}
 use Rattle.srm_net.specs.declared.step.Step.{Step}
@@ -40,7 +40,7 @@ used_ends links (s ∷ ss) g l k z y i e j =
 pub used_fresh : (links : List LinkSpec) (s : Step) (ss : List Step) → Grows links (s ∷ ss) → is_in (used ss) s.link ≡ false
 used_fresh links s ss g =
     not_in (used ss) s.link (λ i. both_ways _ g.0.node
-        (used_ends links ss g.1 s.link g.0.spec s.node s.parent i g.0.link (turned g.0.spec s.parent s.node g.0.joins)))
+    (used_ends links ss g.1 s.link g.0.spec s.node s.parent i g.0.link (turned g.0.spec s.parent s.node g.0.joins)))
 
 pub used_apart : (links : List LinkSpec) (ss : List Step) → Grows links ss → Apart (used ss)
 used_apart links [] g = tt
@@ -49,8 +49,11 @@ used_apart links (s ∷ ss) g = (used_fresh links s ss g, used_apart links ss g.
 pub used_below : (links : List LinkSpec) (ss : List Step) → Grows links ss → Below (length links) (used ss)
 used_below links [] g x i = absurd (false≢true i)
 used_below links (s ∷ ss) g x i =
-    elim (in_cases s.link x (used ss) i) [ inl e ↦ subst (λ t. t < length links) e (get_below links s.link g.0.spec g.0.link) | inr e ↦
-        used_below links ss g.1 x e ]
+    elim (in_cases s.link x (used ss) i) [
+      | inl e ↦ subst (λ t. t < length links) e (get_below links s.link g.0.spec g.0.link)
+      | inr e ↦
+          used_below links ss g.1 x e
+    ]
 
 pub joins_below : (nodes : ℕ) (k : LinkSpec) (u x : ℕ) → IsWithin nodes k → Joins k u x → (u < nodes) × (x < nodes)
 joins_below nodes k u x w (inl p) = (subst (λ t. t < nodes) p.0 w.0, subst (λ t. t < nodes) p.1 w.1)
@@ -111,15 +114,18 @@ beyond_over links (s ∷ ss) g l m k u x i e j =
           let a : beyond (s ∷ ss) l s.parent ≡ beyond ss l s.parent = beyond_old s ss l s.parent g.0.node g.0.parent in
           let b : beyond (s ∷ ss) l s.node ≡ cond (eqb s.link l) true (beyond ss l s.parent) = beyond_new s ss l in
           let c : cond (eqb s.link l) true (beyond ss l s.parent) ≡ cond (eqb s.link l) (not (beyond ss l s.parent))
-              (beyond ss l s.parent) =
+          (beyond ss l s.parent) =
           elim (cases_Bool (eqb s.link l)) [
-            | inl p ↦ rw (p, beyond_unused ss l s.parent
-                (subst (λ t. is_in (used ss) t ≡ false) (eqb-true s.link l p) (used_fresh links s ss g))) refl
+            | inl p ↦ rw (
+              p,
+              beyond_unused ss l s.parent
+                  (subst (λ t. is_in (used ss) t ≡ false) (eqb-true s.link l p) (used_fresh links s ss g)),
+            ) refl
             | inr p ↦ rw p refl
           ] in
           let d : beyond (s ∷ ss) l s.node ≡ cond (eqb m l) (not (beyond (s ∷ ss) l s.parent)) (beyond (s ∷ ss) l s.parent) =
           b ∙ c ∙ ap (λ t. cond (eqb t l) (not (beyond ss l s.parent)) (beyond ss l s.parent)) h
-              ∙ ap (λ t. cond (eqb m l) (not t) t) (sym a) in
+          ∙ ap (λ t. cond (eqb m l) (not t) t) (sym a) in
           elim (same_ends k s.parent s.node u x (subst (λ t. Joins t s.parent s.node) same g.0.joins) j) [
             | inl p ↦ ap (beyond (s ∷ ss) l) p.1 ∙ d ∙ ap (λ t. cond (eqb m l) (not (beyond (s ∷ ss) l t)) (beyond (s ∷ ss) l t)) (sym p.0)
             | inr p ↦ ap (beyond (s ∷ ss) l) p.1 ∙ flip_back (eqb m l) (beyond (s ∷ ss) l s.node) (beyond (s ∷ ss) l s.parent) d
@@ -140,7 +146,7 @@ pub all_attached : (nodes : ℕ) (links : List LinkSpec) (ss : List Step) → 1 
     → length ss + 1 ≡ nodes → (x : ℕ) → x < nodes → is_in (attached ss) x ≡ true
 all_attached nodes links ss n a g e x h =
     all_below nodes (attached ss) (attached_apart links ss g) (attached_below nodes links ss n a g)
-        (let k = attached_length ss in omega arith) x h
+    (let k = attached_length ss in omega arith) x h
 
 pub grown_cuts : (links : List LinkSpec) (ss : List Step) → Grows links ss → length ss ≡ length links → HasCuts links
 grown_cuts links ss g e l =

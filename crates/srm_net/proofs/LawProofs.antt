@@ -1,6 +1,7 @@
 -- The laws of distances, of the least of them, and of drops.
-use Rattle.std.proofs.Common.{◌≡◌, ◌≢◌, ◌⊎◌, ◌↔◌, ℕ, zero, suc, ◌+◌, ◌/◌, ◌<◌, ◌≤◌, min, Bool, true, false, not, cond, ◌==◌, List, [], ◌∷◌,
-    length, map, filter, fold, Some, None, refl, sym, ap, ◌∙◌, subst, inl, inr, arith, eqb, slice_get, All, Contains, Less, Equal, Greater}
+use Rattle.std.proofs.Common.{◌≡◌, ◌≢◌, ◌⊎◌, ◌↔◌, ℕ, zero, suc, ◌+◌, ◌/◌, ◌<◌, ◌≤◌, min, Bool, true, false, not, cond, ◌==◌, List, [], ◌∷◌}
+use Rattle.std.proofs.Common.{length, map, filter, fold, Some, None, refl, sym, ap, ◌∙◌, subst, inl, inr, arith, eqb, slice_get, All}
+use Rattle.std.proofs.Common.{Contains, Less, Equal, Greater}
 use Rattle.std.specs.List.{range_with_len, list_any}
 use Rattle.std.specs.Ordering.{ordering_reverse}
 use Rattle.std.specs.Cmp.{IsTotalOrder, on_total}
@@ -18,12 +19,12 @@ use Rattle.srm_net.specs.Orders.{AllAfter}
 use Rattle.srm_net.specs.Keys.{key_cmp, numbers_of_key}
 use Rattle.srm_net.specs.Names.{name_cmp, page_cmp, id_cmp, heard_cmp}
 use Rattle.srm_net.specs.Network.{Network, IsTree, IsWalk, IsAlike, HasDelays, IsNetwork}
-use Rattle.srm_net.specs.Paths.{is_in, route, host, member_route, delay_from, delay_along, distance, drop_cmp, is_listed, stops, takes_out,
-    reaches}
+use Rattle.srm_net.specs.Paths.{is_in, route, host, member_route, delay_from, delay_along, distance, drop_cmp, is_listed, stops, takes_out}
+use Rattle.srm_net.specs.Paths.{reaches}
 use Rattle.srm_net.specs.Least.{least, lesser_delay, least_delay, others, out}
 use Rattle.srm_net.specs.Growth.{attached}
-use Rattle.srm_net.specs.Laws.{DistancesFit, AlikeBothWays, RoundsTurn, LeastDelayFits, NoLinkNoTwo, OutFits, OutOfTheOnlyOne,
-    ReachesItsSender, SameDropsListed, OneListOfDrops, OrdersTotally}
+use Rattle.srm_net.specs.Laws.{DistancesFit, AlikeBothWays, RoundsTurn, LeastDelayFits, NoLinkNoTwo, OutFits, OutOfTheOnlyOne}
+use Rattle.srm_net.specs.Laws.{ReachesItsSender, SameDropsListed, OneListOfDrops, OrdersTotally}
 use Rattle.srm_net.proofs.Lists.{all_get}
 use Rattle.srm_net.proofs.Numbers.{in_head, in_tail, in_cases, few_apart, apart_from_distinct}
 use Rattle.srm_net.proofs.Growing.{grows_to, all_attached}
@@ -40,7 +41,7 @@ turned_by w t alike inside u v hu hv both =
     let there = route_only w t u v hu hv both.there.path both.there.nodes both.there.walk both.there.apart in
     let back = route_only w t v u hv hu both.back.path both.back.nodes both.back.walk both.back.apart in
     sym (ap (delay_along w.links u) there) ∙ both.there.delay_is ∙ both.same alike ∙ sym both.back.delay_is
-        ∙ ap (delay_along w.links v) back
+    ∙ ap (delay_along w.links v) back
 
 pub distance_turns : (w : Network) → IsNetwork w → All IsAlike w.links → (a b : ℕ) → a < length w.hosts → b < length w.hosts
     → distance w a b ≡ distance w b a
@@ -56,7 +57,7 @@ distance_turns w n alike a b ha hb =
     turned_by w t alike (attached grown.0) (host w a) (host w b) hu hv
     (both_ways_grown w.links grown.0 grown.1 (host w a) (host w b)
     (all_attached w.nodes w.links grown.0 t.some_nodes t.ends grown.1 all (host w a) hu)
-        (all_attached w.nodes w.links grown.0 t.some_nodes t.ends grown.1 all (host w b) hv))
+    (all_attached w.nodes w.links grown.0 t.some_nodes t.ends grown.1 all (host w b) hv))
 
 pub distances_fit : DistancesFit
 distances_fit w n a b ha hb = (λ d. distance_apart w n a b ha hb d, distance_bounded w n a b ha hb)
@@ -183,8 +184,11 @@ no_link_no_two w n e a b ha hb =
 in_range : (n a b : ℕ) → a ≤ b → b < a + n → is_in (range_with_len a n) b ≡ true
 in_range zero a b h g = absurd (omega arith)
 in_range (suc n) a b h g =
-    elim (cases_eq a b) [ inl e ↦ subst (λ t. is_in (a ∷ range_with_len (a + 1) n) t ≡ true) e (in_head a (range_with_len (a + 1) n)) | inr
-        e ↦ in_tail a b (range_with_len (a + 1) n) (in_range n (a + 1) b (omega arith) (omega arith)) ]
+    elim (cases_eq a b) [
+      | inl e ↦ subst (λ t. is_in (a ∷ range_with_len (a + 1) n) t ≡ true) e (in_head a (range_with_len (a + 1) n))
+      | inr
+          e ↦ in_tail a b (range_with_len (a + 1) n) (in_range n (a + 1) b (omega arith) (omega arith))
+    ]
 
 from_range : (n a b : ℕ) → is_in (range_with_len a n) b ≡ true → b < a + n
 from_range zero a b h = absurd (false≢true h)
@@ -219,14 +223,20 @@ from_others m (x ∷ xs) b i =
 in_mapped : (f : ℕ → ℕ) (xs : List ℕ) (b : ℕ) → is_in xs b ≡ true → is_in (map f xs) (f b) ≡ true
 in_mapped f [] b i = absurd (false≢true i)
 in_mapped f (x ∷ xs) b i =
-    elim (in_cases x b xs i) [ inl e ↦ subst (λ t. is_in (f x ∷ map f xs) (f t) ≡ true) e (in_head (f x) (map f xs)) | inr e ↦
-        in_tail (f x) (f b) (map f xs) (in_mapped f xs b e) ]
+    elim (in_cases x b xs i) [
+      | inl e ↦ subst (λ t. is_in (f x ∷ map f xs) (f t) ≡ true) e (in_head (f x) (map f xs))
+      | inr e ↦
+          in_tail (f x) (f b) (map f xs) (in_mapped f xs b e)
+    ]
 
 from_mapped : (f : ℕ → ℕ) (xs : List ℕ) (n : ℕ) → is_in (map f xs) n ≡ true → (b : ℕ) × (is_in xs b ≡ true) × (f b ≡ n)
 from_mapped f [] n i = absurd (false≢true i)
 from_mapped f (x ∷ xs) n i =
-    elim (in_cases (f x) n (map f xs) i) [ inl e ↦ (x, in_head x xs, e) | inr e ↦
-        (let r = from_mapped f xs n e in (r.0, in_tail x r.0 xs r.1, r.2)) ]
+    elim (in_cases (f x) n (map f xs) i) [
+      | inl e ↦ (x, in_head x xs, e)
+      | inr e ↦
+          (let r = from_mapped f xs n e in (r.0, in_tail x r.0 xs r.1, r.2))
+    ]
 
 pub out_fits : OutFits
 unfolding out
@@ -247,7 +257,7 @@ out_of_the_only_one w m e b h =
       | inl q ↦ q
       | inr q ↦
           (let i = in_mapped (distance w m) (others w m) b
-              (in_others m (range_with_len 0 (length w.hosts)) b (in_range (length w.hosts) 0 b (omega arith) (omega arith)) q) in
+          (in_others m (range_with_len 0 (length w.hosts)) b (in_range (length w.hosts) 0 b (omega arith) (omega arith)) q) in
           let none = least_none (map (distance w m) (others w m)) e in
           absurd (false≢true (sym (ap (λ xs. is_in xs (distance w m b)) none) ∙ i)))
     ]
@@ -270,7 +280,7 @@ pub same_drops_listed : SameDropsListed
 same_drops_listed ds es h p l =
     let d : DropSpec = record { link = l; id = p } in
     same_tests (is_listed ds p l) (is_listed es p l) (λ t. listed_contains es d ((h d).0 (contains_listed ds d t)))
-        (λ t. listed_contains ds d ((h d).1 (contains_listed es d t)))
+    (λ t. listed_contains ds d ((h d).1 (contains_listed es d t)))
 
 not_before_itself : (d : DropSpec) → drop_cmp d d ≡ Less → ⊥
 not_before_itself d e = let s = drop_total.antisymm d d in let r : Less ≡ Greater = sym e ∙ s ∙ ap ordering_reverse e in cc
@@ -319,7 +329,7 @@ one_list_of_drops (x ∷ xs) [] a b h = let c = (h x).0 (here x xs) in absurd (l
 one_list_of_drops (x ∷ xs) (y ∷ ys) a b h =
     let e = same_heads x y xs ys a.0 b.0 h in
     let rest = one_list_of_drops xs ys a.1 b.1
-        (λ d. (same_tails x y xs ys e a.0 (λ d. (h d).0) d, same_tails y x ys xs (sym e) b.0 (λ d. (h d).1) d)) in
+    (λ d. (same_tails x y xs ys e a.0 (λ d. (h d).0) d, same_tails y x ys xs (sym e) b.0 (λ d. (h d).1) d)) in
     ap (λ t. t ∷ xs) e ∙ ap (λ t. y ∷ t) rest
 
 -- ---- keys
@@ -346,7 +356,7 @@ keys_ordered = (key_total, same_key)
 same_name : (n o : Name) → name_cmp n o ≡ Equal → n ≡ o
 same_name n o e =
     let q : n.source ∷ n.page ∷ n.number ∷ [] ≡ o.source ∷ o.page ∷ o.number ∷ [] =
-        slice_cmp-IsAntisymmetric nat_cmp-IsAntisymmetric _ _ e in
+    slice_cmp-IsAntisymmetric nat_cmp-IsAntisymmetric _ _ e in
     let a : n.source ≡ o.source = cc in
     let b : n.page ≡ o.page = cc in
     let c : n.number ≡ o.number = cc in
@@ -378,7 +388,7 @@ identities_ordered = (on_total (λ (p : PacketId). p.sender ∷ p.count ∷ []) 
 same_entry : (h j : Heard) → heard_cmp h j ≡ Equal → h ≡ j
 same_entry h j e =
     let q : h.source ∷ h.page ∷ h.highest ∷ [] ≡ j.source ∷ j.page ∷ j.highest ∷ [] =
-        slice_cmp-IsAntisymmetric nat_cmp-IsAntisymmetric _ _ e in
+    slice_cmp-IsAntisymmetric nat_cmp-IsAntisymmetric _ _ e in
     let a : h.source ≡ j.source = cc in
     let b : h.page ≡ j.page = cc in
     let c : h.highest ≡ j.highest = cc in

@@ -1,6 +1,6 @@
 -- Least numbers of lists, and least distances.
-use Rattle.std.proofs.Common.{◌≡◌, ◌≢◌, ℕ, zero, suc, ◌+◌, ◌≤◌, min, not, cond, ◌==◌, List, [], ◌∷◌, ◌++◌, length, take, map, filter, fold,
-    Option, Some, None, refl, sym, ap, ◌∙◌, arith, eq-eqb}
+use Rattle.std.proofs.Common.{◌≡◌, ◌≢◌, ℕ, zero, suc, ◌+◌, ◌≤◌, min, not, cond, ◌==◌, List, [], ◌∷◌, ◌++◌, length, take, map, filter, fold}
+use Rattle.std.proofs.Common.{Option, Some, None, refl, sym, ap, ◌∙◌, arith, eq-eqb}
 use Rattle.std.specs.List.{range_with_len}
 use Rattle.std.proofs.lemmas.Bool.{ne_eqb}
 use Rattle.std.proofs.lemmas.List.{map-append, append-nil, take_all}
@@ -39,7 +39,7 @@ below_push : (w : Network) (m b : ℕ) → least_below w m (b + 1) ≡ least
     (map (distance w m) (filter (λ c. not (c == m)) (range_with_len 0 b)) ++ map (distance w m) (filter (λ c. not (c == m)) (b ∷ [])))
 below_push w m b =
     ap (λ t. least (map (distance w m) (filter (λ c. not (c == m)) t)))
-        (range_push b 0 ∙ ap (λ t. range_with_len 0 b ++ t ∷ []) (omega arith))
+    (range_push b 0 ∙ ap (λ t. range_with_len 0 b ++ t ∷ []) (omega arith))
     ∙ ap (λ t. least (map (distance w m) t)) (filter-append (λ c. not (c == m)) (range_with_len 0 b) (b ∷ []))
     ∙ ap least (map-append (distance w m) (filter (λ c. not (c == m)) (range_with_len 0 b)) (filter (λ c. not (c == m)) (b ∷ [])))
 

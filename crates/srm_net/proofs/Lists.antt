@@ -1,6 +1,6 @@
 -- Elements of lists by their numbers.
-use Rattle.std.proofs.Common.{◌≡◌, ◌≢◌, ℕ, zero, suc, ◌+◌, ◌*◌, ◌<◌, ◌==◌, ◌&&◌, cond, inl, inr, eq-eqb, slice_set, List, [], ◌∷◌, ◌++◌,
-    length, Some, refl, ap, ◌∙◌, sym, arith, slice_get, slice_index_or, All}
+use Rattle.std.proofs.Common.{◌≡◌, ◌≢◌, ℕ, zero, suc, ◌+◌, ◌*◌, ◌<◌, ◌==◌, ◌&&◌, cond, inl, inr, eq-eqb, slice_set, List, [], ◌∷◌, ◌++◌}
+use Rattle.std.proofs.Common.{length, Some, refl, ap, ◌∙◌, sym, arith, slice_get, slice_index_or, All}
 use Rattle.std.proofs.lemmas.Bool.{ne_eqb, cases_eq}
 use Rattle.std.proofs.lemmas.Nat.{mul-add-lt, same_from_place}
 use Rattle.srm_net.specs.Grids.{cell}
@@ -62,11 +62,11 @@ cell_put width xs row column x e hr hc r c h =
             ∙ sym (rw (eq-eqb r row p, eq-eqb c column q) refl))
         | inr n ↦
             get_set_other xs (row * width + column) (r * width + c) x (λ s. n ((same_from_place r c row column width h hc (sym s)).1))
-                ∙ sym (rw (eq-eqb r row p, ne_eqb c column n) refl)
+            ∙ sym (rw (eq-eqb r row p, ne_eqb c column n) refl)
       ]
       | inr n ↦
           get_set_other xs (row * width + column) (r * width + c) x (λ s. n ((same_from_place r c row column width h hc (sym s)).0))
-              ∙ sym (rw (ne_eqb r row n) refl)
+          ∙ sym (rw (ne_eqb r row n) refl)
     ]
 
 -- ---- one element more

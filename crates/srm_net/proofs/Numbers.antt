@@ -1,9 +1,9 @@
 -- Lists of numbers in which none stands twice.
-use Rattle.std.proofs.Common.{◌≡◌, ◌≢◌, ◌⊎◌, ℕ, zero, suc, ◌+◌, ◌<◌, ◌≤◌, true, false, cond, List, [], ◌∷◌, ◌++◌, length, refl, sym, ap,
-    ◌∙◌, subst, inl, inr, arith, eqb, nat_eq, eq-eqb, eqb-true}
+use Rattle.std.proofs.Common.{◌≡◌, ◌≢◌, ◌⊎◌, ℕ, zero, suc, ◌+◌, ◌<◌, ◌≤◌, true, false, cond, List, [], ◌∷◌, ◌++◌, length, refl, sym, ap}
+use Rattle.std.proofs.Common.{◌∙◌, subst, inl, inr, arith, eqb, nat_eq, eq-eqb, eqb-true}
 use Rattle.std.specs.List.{IsDistinct, AllByRecursion}
-use Rattle.std.proofs.lemmas.Bool.{or_cases, or_parts, or_left, or_right, or_from, ne_eqb, eqb-false, cases_Bool, cases_eq, both_ways,
-    false≢true, false_from_ne_true}
+use Rattle.std.proofs.lemmas.Bool.{or_cases, or_parts, or_left, or_right, or_from, ne_eqb, eqb-false, cases_Bool, cases_eq, both_ways}
+use Rattle.std.proofs.lemmas.Bool.{false≢true, false_from_ne_true}
 use Rattle.srm_net.specs.Paths.{is_in}
 
 -- no number stands twice
@@ -55,8 +55,11 @@ distinct_from_apart (x ∷ xs) h = (other_all x xs h.0, distinct_from_apart xs h
 pub in_append_left : (xs ys : List ℕ) (x : ℕ) → is_in xs x ≡ true → is_in (xs ++ ys) x ≡ true
 in_append_left [] ys x h = absurd (false≢true h)
 in_append_left (y ∷ xs) ys x h =
-    elim (in_cases y x xs h) [ inl e ↦ subst (λ t. is_in (y ∷ (xs ++ ys)) t ≡ true) e (in_head y (xs ++ ys)) | inr e ↦
-        in_tail y x (xs ++ ys) (in_append_left xs ys x e) ]
+    elim (in_cases y x xs h) [
+      | inl e ↦ subst (λ t. is_in (y ∷ (xs ++ ys)) t ≡ true) e (in_head y (xs ++ ys))
+      | inr e ↦
+          in_tail y x (xs ++ ys) (in_append_left xs ys x e)
+    ]
 
 pub in_append_right : (xs ys : List ℕ) (x : ℕ) → is_in ys x ≡ true → is_in (xs ++ ys) x ≡ true
 in_append_right [] ys x h = h
@@ -109,7 +112,7 @@ fewer_apart (x ∷ xs) ys a h =
     let here : is_in ys x ≡ true = h x (in_head x xs) in
     let n = without_length x ys here in
     let k = fewer_apart xs (without x ys) a.1 (λ z i. without_other x z ys (λ e. both_ways _ a.0 (subst (λ v. is_in xs v ≡ true) (sym e) i))
-        (h z (in_tail x z xs i))) in
+    (h z (in_tail x z xs i))) in
     omega arith
 
 -- the numbers below n
@@ -123,8 +126,11 @@ upto_length (suc n) = ap suc (upto_length n)
 
 in_upto : (n x : ℕ) → x < n → is_in (upto n) x ≡ true
 in_upto zero x h = absurd (omega arith)
-in_upto (suc n) x h = elim (cases_eq n x) [ inl e ↦ subst (λ t. is_in (n ∷ upto n) t ≡ true) e (in_head n (upto n)) | inr e ↦
-    in_tail n x (upto n) (in_upto n x (omega arith)) ]
+in_upto (suc n) x h = elim (cases_eq n x) [
+  | inl e ↦ subst (λ t. is_in (n ∷ upto n) t ≡ true) e (in_head n (upto n))
+  | inr e ↦
+      in_tail n x (upto n) (in_upto n x (omega arith))
+]
 
 from_upto : (n x : ℕ) → is_in (upto n) x ≡ true → x < n
 from_upto zero x h = absurd (false≢true h)

@@ -1,6 +1,6 @@
 -- Trees are the networks that have exactly one path between any two nodes.
-use Rattle.std.proofs.Common.{◌≡◌, ◌≢◌, ℕ, ◌+◌, ◌-◌, ◌<◌, ◌≤◌, true, false, not, cond, List, [], ◌∷◌, length, Some, All, refl, sym, ap, ◌∙◌,
-    subst, inl, inr, arith, eq-eqb, slice_get, slice_set}
+use Rattle.std.proofs.Common.{◌≡◌, ◌≢◌, ℕ, ◌+◌, ◌-◌, ◌<◌, ◌≤◌, true, false, not, cond, List, [], ◌∷◌, length, Some, All, refl, sym, ap, ◌∙◌}
+use Rattle.std.proofs.Common.{subst, inl, inr, arith, eq-eqb, slice_get, slice_set}
 use Rattle.std.proofs.lemmas.Bool.{cases_Bool, both_ways}
 use Rattle.srm_net.specs.declared.link.LinkSpec.{LinkSpec}
 use Rattle.srm_net.specs.declared.step.Step.{Step}
@@ -10,8 +10,8 @@ use Rattle.srm_net.specs.Network.{Network, Joins, IsWalk, IsPath, IsWithin, IsCo
 use Rattle.srm_net.specs.Paths.{is_in, route}
 use Rattle.srm_net.proofs.Growing.{used_length, used_apart, used_below, all_attached, grows_in, tree_cuts}
 use Rattle.srm_net.proofs.Lists.{below_get, index_get, all_get, get_set_same, get_set_other}
-use Rattle.srm_net.proofs.Numbers.{Apart, in_head, not_head, not_tail, not_in_cons, few_apart, one_missing, apart_from_distinct,
-    distinct_from_apart}
+use Rattle.srm_net.proofs.Numbers.{Apart, in_head, not_head, not_tail, not_in_cons, few_apart, one_missing, apart_from_distinct}
+use Rattle.srm_net.proofs.Numbers.{distinct_from_apart}
 use Rattle.srm_net.proofs.RouteLemmas.{route_path, route_only}
 use Rattle.srm_net.proofs.TreeWays.{both_ways_grown}
 use Rattle.srm_net.proofs.Walks.{walk_first, flips}
@@ -22,7 +22,7 @@ pub joins_others : (w : Network) → IsTree w → (l : ℕ) (k : LinkSpec) → s
 joins_others w t l k g e =
     let cut = tree_cuts w t l in
     let over : cut.0 k.b ≡ not (cut.0 k.a) = cut.1 l k k.a k.b g (inl (refl, refl))
-        ∙ ap (λ b. cond b (not (cut.0 k.a)) (cut.0 k.a)) (eq-eqb l l refl) in
+    ∙ ap (λ b. cond b (not (cut.0 k.a)) (cut.0 k.a)) (eq-eqb l l refl) in
     flips (cut.0 k.a) (sym over ∙ ap cut.0 (sym e))
 
 one_path_from_tree : (w : Network) → IsTree w → HasOnePathEach w
@@ -75,9 +75,10 @@ walk_unlooped links l k h u (m ∷ ls) v ns w a =
     let there : Some w.0 ≡ Some (loop_of k) = sym at ∙ get_set_same links l (loop_of k) h in
     let same : w.0 ≡ loop_of k = cc in
     both_ways _ b.0 (subst (λ t. is_in w.2 t ≡ true) (sym (loop_stays k w.0 u w.1 same w.4))
-        (walk_first (looped links l k) w.1 ls v w.2 w.6)) in
-    ((w.0, w.1, w.2, sym (get_set_other links l m (loop_of k) (λ e. other (sym e))) ∙ w.3, w.4, w.5, rest.0),
-        not_in_cons m l ls other rest.1)
+    (walk_first (looped links l k) w.1 ls v w.2 w.6)) in (
+      (w.0, w.1, w.2, sym (get_set_other links l m (loop_of k) (λ e. other (sym e))) ∙ w.3, w.4, w.5, rest.0),
+      not_in_cons m l ls other rest.1,
+    )
 
 -- the path over one link
 pub link_path : (links : List LinkSpec) (l : ℕ) (k : LinkSpec) → slice_get links l ≡ Some k → k.a ≢ k.b → IsPath links k.a (l ∷ []) k.b
@@ -102,9 +103,9 @@ needed w h ss g all l lt =
           (let k = below_get w.links l lt in
           let ends = all_get (JoinsTwo w.nodes) w.links l k.0 h.ends k.1 in
           let in_all : (x : ℕ) → x < w.nodes → is_in (attached ss) x ≡ true =
-              λ x lx. all_attached w.nodes w.links ss h.some_nodes (ends_within w h) g all x lx in
+          λ x lx. all_attached w.nodes w.links ss h.some_nodes (ends_within w h) g all x lx in
           let way = both_ways_grown (looped w.links l k.0) ss (grows_looped w.links l k.0 ss n g) k.0.a k.0.b (in_all k.0.a ends.0)
-              (in_all k.0.b ends.1) in
+          (in_all k.0.b ends.1) in
           let there = way.there in
           let round = walk_unlooped w.links l k.0 lt k.0.a there.path k.0.b there.nodes there.walk there.apart in
           let one = h.one_path k.0.a k.0.b ends.0 ends.1 in
@@ -122,7 +123,7 @@ tree_from_one_path w h =
     let all : length grown.0 + 1 ≡ w.nodes = omega arith in
     let count : length (used grown.0) ≡ length grown.0 = used_length grown.0 in
     let at_most : length (used grown.0) ≤ length w.links = few_apart (length w.links) (used grown.0) (used_apart w.links grown.0 grown.1)
-        (used_below w.links grown.0 grown.1) in
+    (used_below w.links grown.0 grown.1) in
     let no_fewer : length (used grown.0) < length w.links → ⊥ = λ lt.
     (let m = one_missing (length w.links) (used grown.0) lt in both_ways _ m.2 (needed w h grown.0 grown.1 all m.0 m.1)) in
     record {

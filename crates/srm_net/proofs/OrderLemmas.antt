@@ -18,8 +18,14 @@ pub leads_attaches : (nodes : ℕ) (links : List LinkSpec) (ss : List Step) (kno
     → All (IsWithin nodes) links → LeadsOut links known s → Attaches links (attached ss) s
 leads_attaches nodes links ss known s agree ends o =
     let b = joins_below nodes o.spec s.parent s.node (all_get (IsWithin nodes) links s.link o.spec ends o.link) o.joins in
-    record { spec = o.spec; link = o.link; joins = o.joins; parent = sym (agree s.parent b.0) ∙ o.parent; node = sym (agree s.node b.1)
-        ∙ o.node }
+    record {
+      spec = o.spec;
+      link = o.link;
+      joins = o.joins;
+      parent = sym (agree s.parent b.0) ∙ o.parent;
+      node = sym (agree s.node b.1)
+          ∙ o.node;
+    }
 
 pub leads_below : (nodes : ℕ) (links : List LinkSpec) (known : List Bool) (s : Step) → All (IsWithin nodes) links → LeadsOut links known s
     → s.node < nodes
@@ -43,7 +49,7 @@ stuck_no_tree nodes links ss known agree few within t =
     let a = out.1 in
     let b = joins_below nodes a.spec s.parent s.node (all_get (IsWithin nodes) links s.link a.spec t.ends a.link) a.joins in
     never_leads known a.spec s.parent s.node (all_get (StaysWithin known) links s.link a.spec within a.link) a.joins
-        (agree s.parent b.0 ∙ a.parent) (agree s.node b.1 ∙ a.node)
+    (agree s.parent b.0 ∙ a.parent) (agree s.node b.1 ∙ a.node)
 
 -- what grew to all nodes is a tree
 pub whole_tree : (nodes : ℕ) (links : List LinkSpec) (ss : List Step) → 1 ≤ nodes → nodes ≤ 1024 → All (IsWithin nodes) links
@@ -55,23 +61,29 @@ whole_tree nodes links ss some few ends one g all = record {
   one_fewer = one;
   connected = λ u v hu hv.
       let b = both_ways_grown links ss g u v (all_attached nodes links ss some ends g all u hu)
-          (all_attached nodes links ss some ends g all v hv) in
+      (all_attached nodes links ss some ends g all v hv) in
       (b.there.path, (b.there.nodes, b.there.walk, distinct_from_apart b.there.nodes b.there.apart));
 }
 
 -- hosts do not matter
 pub tree_of_any : (nodes : ℕ) (links : List LinkSpec) (hs gs : List ℕ) → IsTree (plain_network nodes links hs)
     → IsTree (plain_network nodes links gs)
-tree_of_any nodes links hs gs t = record { some_nodes = t.some_nodes; few_nodes = t.few_nodes; ends = t.ends; one_fewer =
-    t.one_fewer; connected = t.connected }
+tree_of_any nodes links hs gs t = record {
+  some_nodes = t.some_nodes;
+  few_nodes = t.few_nodes;
+  ends = t.ends;
+  one_fewer =
+      t.one_fewer;
+  connected = t.connected;
+}
 
 -- a tree whose parts were checked is a network with its ways
 pub built_tree : (t : Inside) (links : List LinkSpec) (hosts : List ℕ) → t.links.items ≡ links → t.hosts.items ≡ hosts
     → IsTree (plain_network t.nodes links []) → All HasDelays links → AreHosts t.nodes hosts → TellsWays t.nodes links t.ways → IsBuilt t
 built_tree t links hosts e f tree delays are ways =
     let whole : IsNetwork (plain_network t.nodes links hosts) = record
-        { tree = tree_of_any t.nodes links [] hosts tree; delays = delays; hosts = are } in
+    { tree = tree_of_any t.nodes links [] hosts tree; delays = delays; hosts = are } in
     let here : IsNetwork (plain_network t.nodes t.links.items t.hosts.items) =
     subst (λ hs. IsNetwork (plain_network t.nodes t.links.items hs)) (sym f)
-        (subst (λ ls. IsNetwork (plain_network t.nodes ls hosts)) (sym e) whole) in
+    (subst (λ ls. IsNetwork (plain_network t.nodes ls hosts)) (sym e) whole) in
     record { network = here; ways = subst (λ ls. TellsWays t.nodes ls t.ways) (sym e) ways }

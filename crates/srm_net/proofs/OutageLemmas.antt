@@ -1,8 +1,9 @@
 -- Outages in the order of links and first ticks.
-use Rattle.std.proofs.Common.{◌≡◌, ◌⊎◌, ℕ, zero, suc, ◌+◌, ◌-◌, ◌<◌, ◌≤◌, Bool, true, false, ◌&&◌, ◌||◌, ◌==◌, List, [], ◌∷◌, ◌++◌, length,
-    Some, refl, sym, ap, ◌∙◌, subst, inl, inr, arith, slice_index_or, nat_lt, nat_le, Ordering, nat_cmp, is_lt, eqb-true, eq-eqb, Contains}
-use Rattle.std.proofs.lemmas.Bool.{cases_eq, cases_Bool, ltb-false, or_cases, or_left, or_right, and_parts, and_from, ltb-true, leb-true,
-    lt-ltb, le-leb, false≢true, both_ways}
+use Rattle.std.proofs.Common.{◌≡◌, ◌⊎◌, ℕ, zero, suc, ◌+◌, ◌-◌, ◌<◌, ◌≤◌, Bool, true, false, ◌&&◌, ◌||◌, ◌==◌, List, [], ◌∷◌, ◌++◌, length}
+use Rattle.std.proofs.Common.{Some, refl, sym, ap, ◌∙◌, subst, inl, inr, arith, slice_index_or, nat_lt, nat_le, Ordering, nat_cmp, is_lt}
+use Rattle.std.proofs.Common.{eqb-true, eq-eqb, Contains}
+use Rattle.std.proofs.lemmas.Bool.{cases_eq, cases_Bool, ltb-false, or_cases, or_left, or_right, and_parts, and_from, ltb-true, leb-true}
+use Rattle.std.proofs.lemmas.Bool.{lt-ltb, le-leb, false≢true, both_ways}
 use Rattle.std.proofs.lemmas.Bool.Decides.{nat_tests}
 use Rattle.std.proofs.lemmas.Cmp.{nat_cmp_total, on_total, then_total}
 use Rattle.std.proofs.lemmas.List.Sorted.{ranks_by, sorted_far, list_any-IsPermutation}
@@ -184,12 +185,12 @@ begun_first xs ss p l t i j d le h begun =
     let then : begins_by l t (outage_at ss j) ≡ true = ap (begins_by l t) (any_default ss j no_outage d h) ∙ begun in
     let was = begins_in l t (outage_at ss j).link (outage_at ss j).from then in
     let links : (outage_at ss i).link ≤ (outage_at ss j).link =
-        (let k = p.order.links i j le hj in let e = a.link in let f = b.link in omega arith) in
+    (let k = p.order.links i j le hj in let e = a.link in let f = b.link in omega arith) in
     let begins : (outage_at ss i).link ≡ (outage_at ss j).link → (outage_at ss i).from ≤ (outage_at ss j).from =
     λ e. (let k = p.order.begins i j le hj (sym a.link ∙ e ∙ b.link) in let f = a.from in let g = b.from in omega arith) in
     ap (begins_by l t) (any_default ss i d no_outage (omega arith))
     ∙ begins_from l t (outage_at ss i).link (outage_at ss i).from
-        (begun_before l t (outage_at ss i).link (outage_at ss i).from (outage_at ss j).link (outage_at ss j).from links begins was)
+    (begun_before l t (outage_at ss i).link (outage_at ss i).from (outage_at ss j).link (outage_at ss j).from links begins was)
 
 -- ---- whether a link is out
 
@@ -217,7 +218,7 @@ out_from : (xs : List OutageSpec) (l t j : ℕ) → j < length xs → (outage_at
 out_from [] l t j h e f g = absurd (omega arith)
 out_from (x ∷ xs) l t zero h e f g =
     or_left (is_on l t x) (is_out xs l t) (and_from (x.link == l) (nat_le x.from t && nat_lt t x.to) (eq-eqb x.link l e)
-        (and_from (nat_le x.from t) (nat_lt t x.to) (le-leb x.from t f) (lt-ltb t x.to g)))
+    (and_from (nat_le x.from t) (nat_lt t x.to) (le-leb x.from t f) (lt-ltb t x.to g)))
 out_from (x ∷ xs) l t (suc j) h e f g = or_right (is_on l t x) (is_out xs l t) (out_from xs l t j (omega arith) e f g)
 
 same_answers : (a b : Bool) → (a ≡ true → b ≡ true) → (b ≡ true → a ≡ true) → a ≡ b
@@ -249,7 +250,7 @@ module _ (xs ss : List OutageSpec) (p : Prolongs xs ss) (l t n : ℕ)
       let size : length ss ≡ length xs = p.size in
       let here = p.each j h in
       let began : begins_by l t (outage_at ss j) ≡ true = begins_from l t (outage_at ss j).link (outage_at ss j).from
-          (inr (here.link ∙ e, (let k = here.from in omega arith))) in
+      (inr (here.link ∙ e, (let k = here.from in omega arith))) in
       let before : j < n = elim (cases_Bool (nat_lt j n)) [
         | inl k ↦ ltb-true j n k
         | inr k ↦ absurd (both_ways (begins_by l t (outage_at ss j)) (point.1 j no_outage (ltb-false j n k) (omega arith)) began)
@@ -265,10 +266,10 @@ module _ (xs ss : List OutageSpec) (p : Prolongs xs ss) (l t n : ℕ)
           let up : (outage_at xs j).link ≤ (outage_at xs m).link = p.order.links j m (omega arith) hm in
           let same : (outage_at ss m).link ≡ (outage_at xs m).link = o.link in
           let link : (outage_at ss m).link ≡ l = elim (begins_in l t (outage_at ss m).link (outage_at ss m).from
-              (point.0 m no_outage (omega arith) (omega arith))) [ inl k ↦ absurd (omega arith) | inr k ↦ k.0 ] in
+          (point.0 m no_outage (omega arith) (omega arith))) [ inl k ↦ absurd (omega arith) | inr k ↦ k.0 ] in
           let to : (outage_at xs j).to ≤ (outage_at ss m).to = o.latest j (omega arith) (e ∙ sym link ∙ same) in
           and_from ((outage_at ss m).link == l) (nat_lt t (outage_at ss m).to) (eq-eqb (outage_at ss m).link l link)
-              (lt-ltb t (outage_at ss m).to (omega arith))
+          (lt-ltb t (outage_at ss m).to (omega arith))
 
   lasting_all : (k : ℕ) → n ≡ k → k ≤ length ss → last_lasts ss k l t ≡ true → is_out xs l t ≡ true
   lasting_all zero q few it = absurd (false≢true it)

@@ -1,13 +1,14 @@
 -- Members' ways: their delays, and what crosses and is dropped on them.
-use Rattle.std.proofs.Common.{◌≡◌, ◌≢◌, ℕ, zero, suc, ◌+◌, ◌*◌, ◌<◌, ◌≤◌, Bool, true, false, not, cond, ◌&&◌, ◌||◌, List, [], ◌∷◌, ◌++◌,
-    length, Some, refl, sym, ap, ◌∙◌, subst, inl, inr, arith, eqb, ◌==◌, eq-eqb, eqb-true, slice_get, slice_index, All, unwrap_or}
+use Rattle.std.proofs.Common.{◌≡◌, ◌≢◌, ℕ, zero, suc, ◌+◌, ◌*◌, ◌<◌, ◌≤◌, Bool, true, false, not, cond, ◌&&◌, ◌||◌, List, [], ◌∷◌, ◌++◌}
+use Rattle.std.proofs.Common.{length, Some, refl, sym, ap, ◌∙◌, subst, inl, inr, arith, eqb, ◌==◌, eq-eqb, eqb-true, slice_get, slice_index}
+use Rattle.std.proofs.Common.{All, unwrap_or}
 use Rattle.std.specs.List.{list_any}
 use Rattle.std.proofs.lemmas.Bool.{eqb-false, cases_Bool, both_ways, false≢true, or_parts}
 use Rattle.srm_net.specs.declared.link.LinkSpec.{LinkSpec}
 use Rattle.srm_net.specs.declared.packet.PacketId.{PacketId}
 use Rattle.srm_net.specs.Network.{Network, Joins, IsWalk, IsWithin, IsTree, IsLinkDelay, HasDelays, IsNetwork}
-use Rattle.srm_net.specs.Paths.{is_in, route_within, route, host, member_route, delay_from, delay_of, end_of, delay_along, distance, Stop,
-    stop, stops, takes_out, member_stops, crossed_on, dropped_on, some_below, crosses, drops_at}
+use Rattle.srm_net.specs.Paths.{is_in, route_within, route, host, member_route, delay_from, delay_of, end_of, delay_along, distance, Stop}
+use Rattle.srm_net.specs.Paths.{stop, stops, takes_out, member_stops, crossed_on, dropped_on, some_below, crosses, drops_at}
 use Rattle.srm_net.specs.DropRules.{DropRules}
 use Rattle.srm_net.specs.Tables.{is_beyond, near_end, some_beyond}
 use Rattle.srm_net.proofs.Lists.{all_get}
@@ -39,8 +40,11 @@ hosts_apart w n a b ha hb d e = d (apart_index w.hosts (apart_from_distinct w.ho
 pub hosts_in : (nodes : ℕ) (xs : List ℕ) → All (λ n. n < nodes) xs → Below nodes xs
 hosts_in nodes [] a x i = absurd (false≢true i)
 hosts_in nodes (y ∷ ys) a x i =
-    elim (in_cases y x ys i) [ inl e ↦ subst (λ t. t < nodes) e (a 0 0 (omega arith)) | inr e ↦
-        hosts_in nodes ys (λ k d h. a (suc k) d (omega arith)) x e ]
+    elim (in_cases y x ys i) [
+      | inl e ↦ subst (λ t. t < nodes) e (a 0 0 (omega arith))
+      | inr e ↦
+          hosts_in nodes ys (λ k d h. a (suc k) d (omega arith)) x e
+    ]
 
 pub few_members : (w : Network) → IsNetwork w → length w.hosts ≤ 1024
 few_members w n =
@@ -175,8 +179,11 @@ parted links l u (m ∷ ls) v ns w a i =
                 (not_in ls m (λ j. both_ways _ b.0 (walk_ends links w.1 ls v w.2 m w.0 u w.1 w.6 j w.3 w.4)));
             walk = (refl, refl);
             apart = (refl, tt);
-            within = λ n j. elim (in_cases u n [] j) [ inl q ↦ subst (λ t. is_in t n ≡ true) (sym w.5)
-                (subst (λ t. is_in (u ∷ w.2) t ≡ true) q (in_head u w.2)) | inr q ↦ absurd (false≢true q) ];
+            within = λ n j. elim (in_cases u n [] j) [
+              | inl q ↦ subst (λ t. is_in t n ≡ true) (sym w.5)
+                  (subst (λ t. is_in (u ∷ w.2) t ≡ true) q (in_head u w.2))
+              | inr q ↦ absurd (false≢true q)
+            ];
             link = subst (λ t. slice_get links t ≡ Some w.0) (eqb-true m l e) w.3;
             joins = w.4;
           }
@@ -196,8 +203,11 @@ parted links l u (m ∷ ls) v ns w a i =
             walk = (w.0, w.1, r.nodes, w.3, w.4, refl, r.walk);
             apart = (not_in r.nodes u (λ q. both_ways _ b.0 (r.within u q)), r.apart);
             within = λ n q. subst (λ t. is_in t n ≡ true) (sym w.5)
-                (elim (in_cases u n r.nodes q) [ inl p ↦ subst (λ t. is_in (u ∷ w.2) t ≡ true) p (in_head u w.2) | inr p ↦
-                in_tail u n w.2 (r.within n p) ]);
+                (elim (in_cases u n r.nodes q) [
+                  | inl p ↦ subst (λ t. is_in (u ∷ w.2) t ≡ true) p (in_head u w.2)
+                  | inr p ↦
+                      in_tail u n w.2 (r.within n p)
+                ]);
             link = r.link;
             joins = r.joins;
           })
@@ -246,7 +256,7 @@ on_route w l k o u v hu hv =
     let r = route_path w o.tree u v hu hv in
     xor_is (is_in (route w u v) l) (is_beyond w l k u) (is_beyond w l k v) (cut.0 k.a) (cut.0 u) (cut.0 v)
     (beyond_cut w l k o cut.0 cut.1 u hu) (beyond_cut w l k o cut.0 cut.1 v hv)
-        (way_crosses w.links l cut.0 cut.1 u (route w u v) v r.0 r.1.0 r.1.1)
+    (way_crosses w.links l cut.0 cut.1 u (route w u v) v r.0 r.1.0 r.1.1)
 
 near_is : (w : Network) (l : ℕ) (k : LinkSpec) → LinkOf w l k → (u : ℕ) → u < w.nodes → (ls ns : List ℕ) (p : Parts w.links u ls ns l)
     → p.near ≡ near_end w l k u
@@ -255,9 +265,9 @@ near_is w l k o u hu ls ns p =
     let same : p.spec ≡ k = same_link w.links l l p.spec k refl p.link o.link in
     let joins : Joins k p.near p.far = subst (λ t. Joins t p.near p.far) same p.joins in
     let here : cut.0 p.near ≡ cut.0 u = way_crosses w.links l cut.0 cut.1 u p.before p.near p.nodes p.walk p.apart
-        ∙ ap (λ b. cond b (not (cut.0 u)) (cut.0 u)) p.fresh in
+    ∙ ap (λ b. cond b (not (cut.0 u)) (cut.0 u)) p.fresh in
     let over : cut.0 k.b ≡ not (cut.0 k.a) = cut.1 l k k.a k.b o.link (inl (refl, refl))
-        ∙ ap (λ b. cond b (not (cut.0 k.a)) (cut.0 k.a)) (eq-eqb l l refl) in
+    ∙ ap (λ b. cond b (not (cut.0 k.a)) (cut.0 k.a)) (eq-eqb l l refl) in
     let side : cut.0 u ≡ cond (is_beyond w l k u) (not (cut.0 k.a)) (cut.0 k.a) = beyond_cut w l k o cut.0 cut.1 u hu in
     elim (cases_Bool (is_beyond w l k u)) [
       | inl e ↦ (let s : cut.0 u ≡ not (cut.0 k.a) = rw e at side in
@@ -300,8 +310,12 @@ split_at links u t (x ∷ xs) ys l =
     let d = delay_of u (slice_get links x) in
     let r = split_at links v (t + d) xs ys l in
     let e : (t + d) + delay_along links v xs ≡ t + (d + delay_along links v xs) = omega arith in
-    record { after = r.after; in_after = r.in_after; is = ap (λ ss. stop x t ∷ ss)
-        (r.is ∙ ap (λ n. stops links v (t + d) xs ++ stop l n ∷ r.after) e) }
+    record {
+      after = r.after;
+      in_after = r.in_after;
+      is = ap (λ ss. stop x t ∷ ss)
+          (r.is ∙ ap (λ n. stops links v (t + d) xs ++ stop l n ∷ r.after) e);
+    }
 
 -- ---- crossed and dropped on a way
 
@@ -454,7 +468,7 @@ module _ (w : Network) (n : IsNetwork w) (l : ℕ) (k : LinkSpec) (g : slice_get
       (λ m lt. let hv = host_below w n m lt in
       crossed_is w l k link_of out u (host w m) sent (host_below w n p.sender h) hv
       ∙ ap (λ b. not (out (near_stop w l k u sent)) && (b && is_free w l k out u sent))
-          (on_route w l k link_of u (host w m) (host_below w n p.sender h) hv))
+      (on_route w l k link_of u (host w m) (host_below w n p.sender h) hv))
       ∙ some_and (not (out (near_stop w l k u sent))) (is_free w l k out u sent) is_over (length w.hosts)
 
   pub drops_is : drops_at w rules p sent l ≡ (out (near_stop w l k u sent) && (some_beyond w l k u && is_free w l k out u sent))
@@ -465,7 +479,7 @@ module _ (w : Network) (n : IsNetwork w) (l : ℕ) (k : LinkSpec) (g : slice_get
       (λ m lt. let hv = host_below w n m lt in
       dropped_is w l k link_of out u (host w m) sent (host_below w n p.sender h) hv
       ∙ ap (λ b. out (near_stop w l k u sent) && (b && is_free w l k out u sent))
-          (on_route w l k link_of u (host w m) (host_below w n p.sender h) hv))
+      (on_route w l k link_of u (host w m) (host_below w n p.sender h) hv))
       ∙ some_and (out (near_stop w l k u sent)) (is_free w l k out u sent) is_over (length w.hosts)
 
 -- ---- what no stop takes out

@@ -1,6 +1,6 @@
 -- The route between two nodes is a path, and is found where there is one.
-use Rattle.std.proofs.Common.{◌≡◌, ◌⊎◌, ℕ, zero, suc, ◌+◌, ◌<◌, ◌≤◌, Bool, true, false, List, [], ◌∷◌, length, Option, Some, None, refl,
-    sym, ap, ◌∙◌, subst, inl, inr, arith, eqb, eq-eqb, eqb-true, slice_get, All, unwrap_or}
+use Rattle.std.proofs.Common.{◌≡◌, ◌⊎◌, ℕ, zero, suc, ◌+◌, ◌<◌, ◌≤◌, Bool, true, false, List, [], ◌∷◌, length, Option, Some, None, refl}
+use Rattle.std.proofs.Common.{sym, ap, ◌∙◌, subst, inl, inr, arith, eqb, eq-eqb, eqb-true, slice_get, All, unwrap_or}
 use Rattle.std.proofs.lemmas.Bool.{cases_Bool, both_ways, false≢true}
 use Rattle.srm_net.specs.declared.link.LinkSpec.{LinkSpec}
 use Rattle.srm_net.specs.Network.{Network, Joins, IsWalk, IsWithin, IsTree}
@@ -53,7 +53,7 @@ way_on_found further passed (Some x) ls h = let r = unless_found further passed 
 abbrev FirstStep : (ℕ → Option (List ℕ)) → List ℕ → ℕ → ℕ → List LinkSpec → List ℕ → Type 0
 FirstStep further passed u l ks ls =
     (i : ℕ) × (k : LinkSpec) × (x : ℕ) × (ms : List ℕ) × (slice_get ks i ≡ Some k) × Joins k u x × (is_in passed x ≡ false)
-        × (further x ≡ Some ms) × (ls ≡ (l + i) ∷ ms)
+    × (further x ≡ Some ms) × (ls ≡ (l + i) ∷ ms)
 
 next_step : (further : ℕ → Option (List ℕ)) (passed : List ℕ) (u l : ℕ) (k : LinkSpec) (ks : List LinkSpec) (ls : List ℕ)
     → FirstStep further passed u (l + 1) ks ls → FirstStep further passed u l (k ∷ ks) ls
@@ -62,7 +62,7 @@ next_step further passed u l k ks ls f = (suc f.0, f.1, f.2, f.3, f.4, f.5, f.6,
 way_by_found : (further : ℕ → Option (List ℕ)) (passed : List ℕ) (u l : ℕ) (k : LinkSpec) (ks : List LinkSpec) (o p : Option (List ℕ))
     (ls : List ℕ)
     → o ≡ way_on further passed (far_end k u) → way_by l o p ≡ Some ls →
-        ((ms : List ℕ) → p ≡ Some ms → FirstStep further passed u (l + 1) ks ms) → FirstStep further passed u l (k ∷ ks) ls
+    ((ms : List ℕ) → p ≡ Some ms → FirstStep further passed u (l + 1) ks ms) → FirstStep further passed u l (k ∷ ks) ls
 way_by_found further passed u l k ks None p ls e h more = next_step further passed u l k ks ls (more ls h)
 way_by_found further passed u l k ks (Some ms) p ls e h more =
     let r = way_on_found further passed (far_end k u) ms (sym e) in
@@ -74,12 +74,16 @@ first_way_found : (further : ℕ → Option (List ℕ)) (passed : List ℕ) (u l
 first_way_found further passed u l [] ls h = cc
 first_way_found further passed u l (k ∷ ks) ls h =
     way_by_found further passed u l k ks (way_on further passed (far_end k u)) (first_way further passed u (l + 1) ks) ls refl h
-        (λ ms e. first_way_found further passed u (l + 1) ks ms e)
+    (λ ms e. first_way_found further passed u (l + 1) ks ms e)
 
 stay : (links : List LinkSpec) (passed : List ℕ) (u v : ℕ) → u ≡ v → is_in passed u ≡ false → FreePath links passed u [] v
-stay links passed u v e n =
-    (u ∷ [], (e, refl), (refl, tt), λ m i. elim (in_cases u m [] i)
-        [ inl q ↦ subst (λ t. is_in passed t ≡ false) q n | inr q ↦ absurd (false≢true q) ])
+stay links passed u v e n = (
+  u ∷ [],
+  (e, refl),
+  (refl, tt),
+  λ m i. elim (in_cases u m [] i)
+      [ inl q ↦ subst (λ t. is_in passed t ≡ false) q n | inr q ↦ absurd (false≢true q) ],
+)
 
 go : (links : List LinkSpec) (passed : List ℕ) (u l : ℕ) (k : LinkSpec) (x : ℕ) (ms : List ℕ) (v : ℕ) → is_in passed u ≡ false
     → slice_get links l ≡ Some k → Joins k u x → FreePath links (u ∷ passed) x ms v → FreePath links passed u (l ∷ ms) v
@@ -108,7 +112,7 @@ found_path (suc m) links passed u v ls n h =
           let f = first_way_found (λ x. route_within m links (u ∷ passed) x v) (u ∷ passed) u 0 links ls q in
           let rest : FreePath links (u ∷ passed) f.2 f.3 v = found_path m links (u ∷ passed) f.2 v f.3 f.6 f.7 in
           subst (λ t. FreePath links passed u t v) (sym f.8)
-              (go links passed u (0 + f.0) f.1 f.2 f.3 v n (subst (λ t. slice_get links t ≡ Some f.1) (omega arith) f.4) f.5 rest))
+          (go links passed u (0 + f.0) f.1 f.2 f.3 v n (subst (λ t. slice_get links t ≡ Some f.1) (omega arith) f.4) f.5 rest))
     ]
 
 -- ---- a path that there is is found
@@ -132,10 +136,10 @@ first_way_there further passed u l (h ∷ ks) zero k x g j n f =
     let same : h ≡ k = cc in
     way_by_there l (way_on further passed (far_end h u)) (first_way further passed u (l + 1) ks)
     (inl (subst (λ t. Found (way_on further passed (far_end t u))) (sym same)
-        (subst (λ t. Found (way_on further passed t)) (sym (joins_far k u x j)) (way_on_there further passed x n f))))
+    (subst (λ t. Found (way_on further passed t)) (sym (joins_far k u x j)) (way_on_there further passed x n f))))
 first_way_there further passed u l (h ∷ ks) (suc i) k x g j n f =
     way_by_there l (way_on further passed (far_end h u)) (first_way further passed u (l + 1) ks)
-        (inr (first_way_there further passed u (l + 1) ks i k x g j n f))
+    (inr (first_way_there further passed u (l + 1) ks i k x g j n f))
 
 pub path_found : (n : ℕ) (links : List LinkSpec) (passed : List ℕ) (u : ℕ) (ls : List ℕ) (v : ℕ) (ns : List ℕ) → IsWalk links u ls v ns
     → Apart ns → Avoids passed ns → length ls ≤ n → Found (route_within n links passed u v)
@@ -147,12 +151,12 @@ path_found (suc n) links passed u (l ∷ ls) v ns w a o h =
     let b : Apart (u ∷ w.2) = subst Apart w.5 a in
     let p : Avoids passed (u ∷ w.2) = subst (Avoids passed) w.5 o in
     let q : Avoids (u ∷ passed) w.2 = λ m i. not_in_cons u m passed (λ e. both_ways _ b.0 (subst (λ t. is_in w.2 t ≡ true) (sym e) i))
-        (p m (in_tail u m w.2 i)) in
+    (p m (in_tail u m w.2 i)) in
     let k : length ls ≤ n = omega arith in
     let rest : Found (route_within n links (u ∷ passed) w.1 v) = path_found n links (u ∷ passed) w.1 ls v w.2 w.6 b.1 q k in
     let there : Found (first_way (λ x. route_within n links (u ∷ passed) x v) (u ∷ passed) u 0 links) =
     first_way_there (λ x. route_within n links (u ∷ passed) x v) (u ∷ passed) u 0 links l w.0 w.1 w.3 w.4
-        (q w.1 (walk_first links w.1 ls v w.2 w.6)) rest in
+    (q w.1 (walk_first links w.1 ls v w.2 w.6)) rest in
     elim (cases_Bool (eqb u v)) [ inl e ↦ rw e ([], refl) | inr e ↦ rw e there ]
 
 -- ---- in a tree
@@ -192,7 +196,7 @@ route_path w t u v hu hv =
     let path = t.connected u v hu hv in
     let apart = apart_from_distinct path.1.0 path.1.2 in
     let there = path_found (length w.links) w.links [] u path.0 v path.1.0 path.1.1 apart (λ m i. refl)
-        (path_length w t u path.0 v path.1.0 path.1.1 apart hu) in
+    (path_length w t u path.0 v path.1.0 path.1.1 apart hu) in
     let free = found_path (length w.links) w.links [] u v there.0 refl there.1 in
     (free.0, (subst (λ t. IsWalk w.links u t v free.0) (sym (ap (λ t. unwrap_or t []) there.1)) free.1, free.2))
 

@@ -1,6 +1,7 @@
 -- To which nodes a packet comes, found from node to node.
-use Rattle.std.proofs.Common.{◌≡◌, ◌≢◌, ℕ, zero, suc, ◌+◌, ◌<◌, Bool, true, false, not, cond, ◌&&◌, List, [], ◌∷◌, ◌++◌, length, Option,
-    Some, None, refl, sym, ap, ◌∙◌, subst, inl, inr, arith, eq-eqb, eqb-true, slice_get, slice_set, replicate, unwrap_or}
+use Rattle.std.proofs.Common.{◌≡◌, ◌≢◌, ℕ, zero, suc, ◌+◌, ◌<◌, Bool, true, false, not, cond, ◌&&◌, List, [], ◌∷◌, ◌++◌, length, Option}
+use Rattle.std.proofs.Common.{Some, None, refl, sym, ap, ◌∙◌, subst, inl, inr, arith, eq-eqb, eqb-true, slice_get, slice_set, replicate}
+use Rattle.std.proofs.Common.{unwrap_or}
 use Rattle.std.specs.List.{list_any}
 use Rattle.std.proofs.lemmas.Bool.{cases_Bool, cases_eq, both_ways, ne_eqb, false≢true}
 use Rattle.std.proofs.lemmas.List.{length-replicate}
@@ -38,8 +39,11 @@ walk_back links u [] v ns w a = record {
   nodes = v ∷ [];
   walk = (sym w.0, refl);
   apart = (refl, tt);
-  within = λ n i. elim (in_cases v n [] i) [ inl e ↦ subst (λ t. is_in ns t ≡ true) e (walk_last links u [] v ns w) | inr e ↦
-      absurd (false≢true e) ];
+  within = λ n i. elim (in_cases v n [] i) [
+    | inl e ↦ subst (λ t. is_in ns t ≡ true) e (walk_last links u [] v ns w)
+    | inr e ↦
+        absurd (false≢true e)
+  ];
 }
 walk_back links u (l ∷ ls) v ns w a =
     let b : Apart (u ∷ w.2) = subst Apart w.5 a in
@@ -52,8 +56,11 @@ walk_back links u (l ∷ ls) v ns w a =
       apart = apart_push r.nodes u r.apart new;
       within = λ n i. subst (λ t. is_in t n ≡ true) (sym w.5) (elim (in_append_cases r.nodes (u ∷ []) n i) [
         | inl j ↦ in_tail u n w.2 (r.within n j)
-        | inr j ↦ elim (in_cases u n [] j) [ inl e ↦ subst (λ t. is_in (u ∷ w.2) t ≡ true) e (in_head u w.2) | inr e ↦
-            absurd (false≢true e) ]
+        | inr j ↦ elim (in_cases u n [] j) [
+          | inl e ↦ subst (λ t. is_in (u ∷ w.2) t ≡ true) e (in_head u w.2)
+          | inr e ↦
+              absurd (false≢true e)
+        ]
       ]);
     }
 
@@ -73,10 +80,10 @@ route_there w t u x y l hu hx hy e f =
     let b = walk_back w.links k.1 (route w y u) u k.2 k.6 a.1 in
     let new : is_in b.nodes x ≡ false = not_in b.nodes x (λ i. both_ways _ a.0 (b.within x i)) in
     let near : b.path ≡ route w u y = route_only w t u y hu hy b.path b.nodes (subst (λ z. IsWalk w.links u b.path z b.nodes) next b.walk)
-        b.apart in
+    b.apart in
     let far : b.path ++ l ∷ [] ≡ route w u x =
     route_only w t u x hu hx (b.path ++ l ∷ []) (b.nodes ++ x ∷ [])
-        (walk_push w.links u b.path k.1 b.nodes l k.0 x b.walk k.3 (turned k.0 x k.1 k.4)) (apart_push b.nodes x b.apart new) in
+    (walk_push w.links u b.path k.1 b.nodes l k.0 x b.walk k.3 (turned k.0 x k.1 k.4)) (apart_push b.nodes x b.apart new) in
     sym far ∙ ap (λ ls. ls ++ l ∷ []) near
 
 -- the last stop of a way is at its last link
@@ -116,7 +123,7 @@ known_more w out u t known h n lt v e x b g =
     elim (cases_eq n x) [
       | inl q ↦
           (let r : Some (Some v) ≡ Some (Some b) = sym (get_set_same known n (Some v) lt)
-              ∙ subst (λ y. slice_get (slice_set known n (Some v)) y ≡ Some (Some b)) (sym q) g in
+          ∙ subst (λ y. slice_get (slice_set known n (Some v)) y ≡ Some (Some b)) (sym q) g in
           let same : v ≡ b = cc in
           sym same ∙ e ∙ ap (comes_to w out u t) q)
       | inr q ↦ h x b (sym (get_set_other known n x (Some v) q) ∙ g)
@@ -175,7 +182,7 @@ ends_told w l k o u hu =
       | inl e ↦ rw e (rw (ne_eqb k.a k.b apart) (ends_by w l k o u k.a k.b hu ends.0 ends.1 (inl (refl, refl)) e))
       | inr e ↦ rw e (rw (eq-eqb k.a k.a refl) (ends_by w l k o u k.b k.a hu ends.1 ends.0 (inr (refl, refl))
           (on_route w l k o k.b u ends.1 hu ∙ ap (λ b. cond b (not (is_beyond w l k u)) (is_beyond w l k u)) (beyond_itself w l k o)
-              ∙ ap not e)))
+          ∙ ap not e)))
     ]
 
 -- ---- what becomes of the packet at a link
@@ -210,7 +217,7 @@ seen_ends w n l u near far any hu s =
     let e : near ≡ near_end w l k.0 u = s.nears k.0 k.1 in
     let f : far ≡ far_from k.0 (near_end w l k.0 u) = s.fars k.0 k.1 ∙ ap (far_from k.0) e in
     subst (λ z. EndsOf w l u z far) (sym e) (subst (λ z. EndsOf w l u (near_end w l k.0 u) z) (sym f)
-        (ends_told w l k.0 (record { tree = n.tree; link = k.1 }) u hu))
+    (ends_told w l k.0 (record { tree = n.tree; link = k.1 }) u hu))
 
 module _ (w : Network) (n : IsNetwork w) (l u near far : ℕ) (any : Bool) (seen : SeenFrom w l u near far any) (rules : DropRules)
     (p : PacketId) (sent : ℕ) (hs : p.sender < length w.hosts) (e : u ≡ host w p.sender) where
@@ -237,14 +244,14 @@ module _ (w : Network) (n : IsNetwork w) (l u near far : ℕ) (any : Bool) (seen
       ≡ (any && (comes_to w (takes_out rules p) u sent near && comes_to w (takes_out rules p) u sent far))
   crossed_in =
       crossed_plain ∙ crossed_by_ends (takes_out rules p (stop l (sent + delay_along w.links u (route w u near)))) any
-          (comes_to w (takes_out rules p) u sent near)
+      (comes_to w (takes_out rules p) u sent near)
       ∙ ap (λ b. any && (comes_to w (takes_out rules p) u sent near && b)) (sym over)
 
   pub dropped_in : drops_at w rules p sent l
       ≡ (any && (comes_to w (takes_out rules p) u sent near && not (comes_to w (takes_out rules p) u sent far)))
   dropped_in =
       dropped_plain ∙ dropped_by_ends (takes_out rules p (stop l (sent + delay_along w.links u (route w u near)))) any
-          (comes_to w (takes_out rules p) u sent near)
+      (comes_to w (takes_out rules p) u sent near)
       ∙ ap (λ b. any && (comes_to w (takes_out rules p) u sent near && not b)) (sym over)
 
 and_never : (b : Bool) → (b && false) ≡ false

@@ -1,6 +1,6 @@
 -- What a network's tables of sides and of least distances give.
-use Rattle.std.proofs.Common.{◌≡◌, ℕ, suc, ◌+◌, ◌<◌, Bool, true, false, not, cond, ◌||◌, List, [], ◌∷◌, ◌++◌, length, Option, Some, sym, ap,
-    ◌∙◌, subst, inl, inr, arith, slice_get, slice_index_or}
+use Rattle.std.proofs.Common.{◌≡◌, ℕ, suc, ◌+◌, ◌<◌, Bool, true, false, not, cond, ◌||◌, List, [], ◌∷◌, ◌++◌, length, Option, Some, sym, ap}
+use Rattle.std.proofs.Common.{◌∙◌, subst, inl, inr, arith, slice_get, slice_index_or}
 use Rattle.std.proofs.lemmas.Bool.{cases_eq}
 use Rattle.srm_net.specs.declared.link.LinkSpec.{LinkSpec}
 use Rattle.srm_net.specs.declared.sides.Sides.{Sides}
@@ -74,7 +74,7 @@ module _ (w n : Network) (e : w ≡ n) (l u : ℕ) (spec : LinkSpec) (g : slice_
       ≡ near_end n l k u
   near_seen b t =
       let q : b ≡ is_beyond n l k u = t spec g ∙ ap (λ (j : LinkSpec). is_beyond w l j u) spec_same
-          ∙ ap (λ (v : Network). is_beyond v l k u) e in
+      ∙ ap (λ (v : Network). is_beyond v l k u) e in
       ap (λ (j : LinkSpec). cond b j.b j.a) spec_same ∙ ap (λ c. cond c k.b k.a) q
 
 pub any_seen : (i : Inside) → IsTold i → (n : Network) → i.tree ≡ n → (l u f : ℕ) (s : Sides) → f ≡ l → s ≡ slice_index_or i.sides.items f s
@@ -83,7 +83,7 @@ pub any_seen : (i : Inside) → IsTold i → (n : Network) → i.tree ≡ n → 
 any_seen i t n e l u f s q r k h b y =
     let g : slice_get i.tree.links l ≡ Some k = ap (λ (v : Network). slice_get v.links l) e ∙ h in
     sides_told i t l k g s (r ∙ ap (λ z. slice_index_or i.sides.items z s) q) u b (sym (y k g))
-        ∙ ap (λ (v : Network). some_beyond v l k u) e
+    ∙ ap (λ (v : Network). some_beyond v l k u) e
 
 -- ---- making the tables
 

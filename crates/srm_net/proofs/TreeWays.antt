@@ -1,6 +1,7 @@
 -- The ways between the nodes of a growing tree.
-use Rattle.std.proofs.Common.{◌≡◌, ◌≢◌, ℕ, zero, suc, ◌+◌, ◌*◌, ◌<◌, ◌≤◌, Bool, true, false, cond, List, [], ◌∷◌, ◌++◌, length, take, drop,
-    reverse, replicate, Some, refl, sym, ap, ◌∙◌, subst, inl, inr, arith, eqb, eq-eqb, slice_get, slice_set, unwrap_or, All, get_or, ◌||◌}
+use Rattle.std.proofs.Common.{◌≡◌, ◌≢◌, ℕ, zero, suc, ◌+◌, ◌*◌, ◌<◌, ◌≤◌, Bool, true, false, cond, List, [], ◌∷◌, ◌++◌, length, take, drop}
+use Rattle.std.proofs.Common.{reverse, replicate, Some, refl, sym, ap, ◌∙◌, subst, inl, inr, arith, eqb, eq-eqb, slice_get, slice_set}
+use Rattle.std.proofs.Common.{unwrap_or, All, get_or, ◌||◌}
 use Rattle.std.proofs.lemmas.Bool.{ne_eqb, cases_eq, both_ways, false≢true}
 use Rattle.std.proofs.lemmas.List.{take-append-drop, reverse-append, take_more, length-replicate, get_or-set_same, get_or-set_other}
 use Rattle.srm_net.specs.declared.link.LinkSpec.{LinkSpec}
@@ -12,8 +13,8 @@ use Rattle.srm_net.specs.Growth.{Attaches, attached, Grows}
 use Rattle.srm_net.specs.Grids.{number_at}
 use Rattle.srm_net.specs.Ways.{is_known, Extends, Leads, TellsWays}
 use Rattle.srm_net.proofs.Lists.{get_below, all_get}
-use Rattle.srm_net.proofs.Numbers.{Apart, Below, in_head, in_tail, in_cases, not_in, in_append_cases, apart_push, few_apart,
-    distinct_from_apart}
+use Rattle.srm_net.proofs.Numbers.{Apart, Below, in_head, in_tail, in_cases, not_in, in_append_cases, apart_push, few_apart}
+use Rattle.srm_net.proofs.Numbers.{distinct_from_apart}
 use Rattle.srm_net.proofs.Walks.{walk_last, turned}
 use Rattle.srm_net.proofs.Growing.{attached_below, all_attached}
 use Rattle.srm_net.proofs.RouteLemmas.{walk_length}
@@ -91,16 +92,25 @@ way_there links inside s a u delay first w =
       apart = apart_push w.nodes s.node w.apart new;
       within = λ n h. elim (in_append_cases w.nodes (s.node ∷ []) n h) [
         | inl i ↦ in_tail s.node n inside (w.within n i)
-        | inr i ↦ elim (in_cases s.node n [] i) [ inl f ↦ subst (λ t. is_in (s.node ∷ inside) t ≡ true) f (in_head s.node inside) | inr f ↦
-            absurd (false≢true f) ]
+        | inr i ↦ elim (in_cases s.node n [] i) [
+          | inl f ↦ subst (λ t. is_in (s.node ∷ inside) t ≡ true) f (in_head s.node inside)
+          | inr f ↦
+              absurd (false≢true f)
+        ]
       ];
       delay_is = d ∙ ap (λ n. n + delay_of s.parent (slice_get links s.link)) w.delay_is
           ∙ ap (λ n. delay + n) (ap (delay_of s.parent) a.link);
       first_is = λ _. elim (cases_eq u s.parent) [
-        | inl f ↦ ([], ap (λ t. t ++ s.link ∷ []) (closed_empty links u w.path s.parent w.nodes w.walk w.apart f)
-            ∙ sym (ap (λ b. cond b s.link first ∷ []) (eq-eqb u s.parent f)))
-        | inr f ↦ ((w.first_is f).0 ++ s.link ∷ [], ap (λ t. t ++ s.link ∷ []) ((w.first_is f).1)
-            ∙ sym (ap (λ b. cond b s.link first ∷ ((w.first_is f).0 ++ s.link ∷ [])) (ne_eqb u s.parent f)))
+        | inl f ↦ (
+          [],
+          ap (λ t. t ++ s.link ∷ []) (closed_empty links u w.path s.parent w.nodes w.walk w.apart f)
+              ∙ sym (ap (λ b. cond b s.link first ∷ []) (eq-eqb u s.parent f)),
+        )
+        | inr f ↦ (
+          (w.first_is f).0 ++ s.link ∷ [],
+          ap (λ t. t ++ s.link ∷ []) ((w.first_is f).1)
+              ∙ sym (ap (λ b. cond b s.link first ∷ ((w.first_is f).0 ++ s.link ∷ [])) (ne_eqb u s.parent f)),
+        )
       ];
     }
 
@@ -143,19 +153,35 @@ pub both_ways_grown : (links : List LinkSpec) (ss : List Step) → Grows links s
     → is_in (attached ss) x ≡ true → BothWays links (attached ss) u x
 both_ways_grown links [] g u x i j =
     let zero_in : (y : ℕ) → is_in (0 ∷ []) y ≡ true → 0 ≡ y = λ y h. elim
-        (in_cases 0 y [] h) [ inl e ↦ e | inr e ↦ absurd (false≢true e) ] in
+    (in_cases 0 y [] h) [ inl e ↦ e | inr e ↦ absurd (false≢true e) ] in
     let same : u ≡ x = sym (zero_in u i) ∙ zero_in x j in
     subst (λ t. BothWays links (0 ∷ []) u t) same
-        (record { delay = 0; home = 0; same = λ _. refl; one = 0; two = 0; there = way_stay links (0 ∷ []) u 0 i; back =
-        way_stay links (0 ∷ []) u 0 i })
+    (record {
+      delay = 0;
+      home = 0;
+      same = λ _. refl;
+      one = 0;
+      two = 0;
+      there = way_stay links (0 ∷ []) u 0 i;
+      back =
+          way_stay links (0 ∷ []) u 0 i;
+    })
 both_ways_grown links (s ∷ ss) g u x i j =
     let from : All IsAlike links → (u : ℕ) → delay_from u g.0.spec ≡ g.0.spec.delay =
-        λ alike. from_either g.0.spec (all_get IsAlike links s.link g.0.spec alike g.0.link) in
+    λ alike. from_either g.0.spec (all_get IsAlike links s.link g.0.spec alike g.0.link) in
     elim (in_cases s.node u (attached ss) i) [
       | inl e ↦ elim (in_cases s.node x (attached ss) j) [
         | inl f ↦ subst (λ t. BothWays links (s.node ∷ attached ss) u t)
-            (sym e ∙ f) (record { delay = 0; home = 0; same = λ _. refl; one = 0; two = 0; there =
-            way_stay links (s.node ∷ attached ss) u 0 i; back = way_stay links (s.node ∷ attached ss) u 0 i })
+            (sym e ∙ f) (record {
+              delay = 0;
+              home = 0;
+              same = λ _. refl;
+              one = 0;
+              two = 0;
+              there =
+                  way_stay links (s.node ∷ attached ss) u 0 i;
+              back = way_stay links (s.node ∷ attached ss) u 0 i;
+            })
         | inr f ↦
             (let b = both_ways_grown links ss g.1 s.parent x g.0.parent f in
             subst (λ t. BothWays links (s.node ∷ attached ss) t x) e
@@ -186,9 +212,17 @@ both_ways_grown links (s ∷ ss) g u x i j =
             }))
         | inr f ↦
             (let b = both_ways_grown links ss g.1 u x e f in
-            record { delay = b.delay; home = b.home; same = b.same; one =
-                b.one; two = b.two; there = way_kept links (attached ss) s.node u x b.delay b.one b.there; back =
-                way_kept links (attached ss) s.node x u b.home b.two b.back })
+            record {
+              delay = b.delay;
+              home = b.home;
+              same = b.same;
+              one =
+                  b.one;
+              two = b.two;
+              there = way_kept links (attached ss) s.node u x b.delay b.one b.there;
+              back =
+                  way_kept links (attached ss) s.node x u b.home b.two b.back;
+            })
       ]
     ]
 
@@ -210,12 +244,12 @@ way_as links inside u x a b c d e f w = subst (λ t. IsWay links inside u x b t)
 
 pub tells_more : (nodes : ℕ) (links : List LinkSpec) (ss : List Step) (s : Step) (known : List Bool) (down up : ℕ) (d0 f0 d1 f1 : List ℕ)
     → length known ≡ nodes → Below nodes (attached ss) → s.node < nodes → KnownAre nodes ss known → (a : Attaches links (attached ss) s)
-        → down ≡ delay_from s.parent a.spec → up ≡ delay_from s.node a.spec
+    → down ≡ delay_from s.parent a.spec → up ≡ delay_from s.node a.spec
     → TellsSoFar nodes links ss d0 f0 → Extends known s down up nodes d0 d1 → Leads known s nodes f0 f1
-        → TellsSoFar nodes links (s ∷ ss) d1 f1
+    → TellsSoFar nodes links (s ∷ ss) d1 f1
 tells_more nodes links ss s known down up d0 f0 d1 f1 size below new agree a same_down same_up t e l =
     let old : (y : ℕ) → is_in (attached ss) y ≡ true → y ≢ s.node = λ y i q. both_ways _ a.node
-        (subst (λ z. is_in (attached ss) z ≡ true) q i) in
+    (subst (λ z. is_in (attached ss) z ≡ true) q i) in
     let fits : (y : ℕ) → is_in (attached ss) y ≡ true → y < length known = λ y i. (let k = below y i in omega arith) in
     let marked : (y : ℕ) → is_in (attached ss) y ≡ true → is_known known y ≡ true = λ y i. agree y (below y i) ∙ i in
     let here : s.node < length known = omega arith in
@@ -225,25 +259,25 @@ tells_more nodes links ss s known down up d0 f0 d1 f1 size below new agree a sam
           | inl q ↦ subst (λ z. IsWay links (s.node ∷ attached ss) z x (number_at nodes d1 z x) (number_at nodes f1 z x)) p
               (subst (λ z. IsWay links (s.node ∷ attached ss) s.node z (number_at nodes d1 s.node z) (number_at nodes f1 s.node z)) q
               (way_as links (s.node ∷ attached ss) s.node s.node 0 (number_at nodes d1 s.node s.node) (number_at nodes f1 s.node s.node)
-                  (number_at nodes f1 s.node s.node)
+              (number_at nodes f1 s.node s.node)
               (sym (e.kept s.node s.node here (inr refl) ∙ t.still s.node new)) refl
               (way_stay links (s.node ∷ attached ss) s.node (number_at nodes f1 s.node s.node) (in_head s.node (attached ss)))))
           | inr q ↦ subst (λ z. IsWay links (s.node ∷ attached ss) z x (number_at nodes d1 z x) (number_at nodes f1 z x)) p
               (way_as links (s.node ∷ attached ss) s.node x (number_at nodes d0 s.parent x + delay_from s.node a.spec)
-                  (number_at nodes d1 s.node x) s.link (number_at nodes f1 s.node x)
+              (number_at nodes d1 s.node x) s.link (number_at nodes f1 s.node x)
               (sym (e.back x (fits x q) (marked x q) ∙ ap (λ z. number_at nodes d0 s.parent x + z) same_up))
-                  (sym (l.back x (fits x q) (marked x q)))
+              (sym (l.back x (fits x q) (marked x q)))
               (way_back links (attached ss) s a x (number_at nodes d0 s.parent x) (number_at nodes f0 s.parent x)
-                  (t.ways s.parent x a.parent q)))
+              (t.ways s.parent x a.parent q)))
         ]
         | inr p ↦ elim (in_cases s.node x (attached ss) j) [
           | inl q ↦ subst (λ z. IsWay links (s.node ∷ attached ss) u z (number_at nodes d1 u z) (number_at nodes f1 u z)) q
               (way_as links (s.node ∷ attached ss) u s.node (number_at nodes d0 u s.parent + delay_from s.parent a.spec)
-                  (number_at nodes d1 u s.node) (cond (eqb u s.parent) s.link (number_at nodes f0 u s.parent)) (number_at nodes f1 u s.node)
+              (number_at nodes d1 u s.node) (cond (eqb u s.parent) s.link (number_at nodes f0 u s.parent)) (number_at nodes f1 u s.node)
               (sym (e.there u (fits u p) (marked u p) ∙ ap (λ z. number_at nodes d0 u s.parent + z) same_down))
-                  (sym (l.there u (fits u p) (marked u p)))
+              (sym (l.there u (fits u p) (marked u p)))
               (way_there links (attached ss) s a u (number_at nodes d0 u s.parent) (number_at nodes f0 u s.parent)
-                  (t.ways u s.parent p a.parent)))
+              (t.ways u s.parent p a.parent)))
           | inr q ↦ way_as links (s.node ∷ attached ss) u x (number_at nodes d0 u x) (number_at nodes d1 u x) (number_at nodes f0 u x)
               (number_at nodes f1 u x)
               (sym (e.kept u x (fits x q) (inl (old u p, old x q)))) (sym (l.kept u x (fits x q) (inl (old u p, old x q))))
@@ -276,13 +310,13 @@ pub tells_root : (nodes size : ℕ) (links : List LinkSpec) (delays firsts : Lis
     → TellsSoFar nodes links [] delays firsts
 tells_root nodes size links delays firsts e =
     let zero_at : (u x : ℕ) → number_at nodes delays u x ≡ 0 = λ u x. ap (λ xs. number_at nodes xs u x) e
-        ∙ get_replicate size 0 (u * nodes + x) in
+    ∙ get_replicate size 0 (u * nodes + x) in
     let only : (y : ℕ) → is_in (0 ∷ []) y ≡ true → 0 ≡ y = λ y h. elim (in_cases 0 y [] h) [ inl q ↦ q | inr q ↦ absurd (false≢true q) ] in
     record {
       ways = λ u x i j. subst (λ z. IsWay links (0 ∷ []) u z (number_at nodes delays u z) (number_at nodes firsts u z))
           (sym (only u i) ∙ only x j)
           (way_as links (0 ∷ []) u u 0 (number_at nodes delays u u) (number_at nodes firsts u u) (number_at nodes firsts u u)
-              (sym (zero_at u u)) refl (way_stay links (0 ∷ []) u (number_at nodes firsts u u) i));
+          (sym (zero_at u u)) refl (way_stay links (0 ∷ []) u (number_at nodes firsts u u) i));
       still = λ u h. zero_at u u;
     }
 
@@ -295,7 +329,7 @@ grows_tail links (x ∷ xs) ys g = grows_tail links xs ys g.1
 pub grows_front : (links : List LinkSpec) (steps : List Step) (i : ℕ) → Grows links (reverse steps) → Grows links (reverse (take i steps))
 grows_front links steps i g =
     let e : reverse steps ≡ reverse (drop i steps) ++ reverse (take i steps) = ap reverse (sym (take-append-drop i steps))
-        ∙ reverse-append (take i steps) (drop i steps) in
+    ∙ reverse-append (take i steps) (drop i steps) in
     grows_tail links (reverse (drop i steps)) (reverse (take i steps)) (subst (Grows links) e g)
 
 pub reverse_more : (steps : List Step) (i : ℕ) (d : Step) → i < length steps → reverse (take (i + 1) steps)
@@ -331,7 +365,7 @@ pub turn_at : (nodes : ℕ) (links : List LinkSpec) (steps : List Step) (i : ℕ
     → Grows links (reverse steps) → i < length steps → Turn nodes links steps i
 turn_at nodes links steps i some ends g h =
     let next : Grows links (get_or steps i no_step ∷ reverse (take i steps)) =
-        subst (Grows links) (reverse_more steps i no_step h) (grows_front links steps (i + 1) g) in
+    subst (Grows links) (reverse_more steps i no_step h) (grows_front links steps (i + 1) g) in
     let a = next.0 in
     record {
       grown = next.1;
@@ -368,4 +402,4 @@ pub known_root : (nodes : ℕ) (known : List Bool) → 1 ≤ nodes → known ≡
 known_root nodes known some e x lt =
     let size : length known ≡ nodes = ap length e ∙ length-replicate nodes false in
     known_set known 0 (omega arith) x ∙ ap (λ b. cond (eqb 0 x) true b) (ap (λ k. is_known k x) e ∙ none_known nodes x)
-        ∙ sym (in_cons 0 [] x)
+    ∙ sym (in_cons 0 [] x)

@@ -1,6 +1,6 @@
 -- Walks and paths in a list of links.
-use Rattle.std.proofs.Common.{◌≡◌, ◌⊎◌, ℕ, Bool, true, false, not, cond, List, [], ◌∷◌, Some, refl, sym, ap, ◌∙◌, subst, inl, inr, eqb,
-    eqb-true, slice_get}
+use Rattle.std.proofs.Common.{◌≡◌, ◌⊎◌, ℕ, Bool, true, false, not, cond, List, [], ◌∷◌, Some, refl, sym, ap, ◌∙◌, subst, inl, inr, eqb}
+use Rattle.std.proofs.Common.{eqb-true, slice_get}
 use Rattle.std.proofs.lemmas.Bool.{cases_Bool, both_ways, true≢false, false≢true}
 use Rattle.srm_net.specs.declared.link.LinkSpec.{LinkSpec}
 use Rattle.srm_net.specs.Network.{Joins, IsWalk}
@@ -67,7 +67,7 @@ way_crosses links l side cut u (m ∷ ls) v ns w a =
     elim (cases_Bool (eqb m l)) [
       | inl e ↦ (let once : is_in ls l ≡ false =
           not_in ls l (λ i. both_ways _ b.0 (walk_ends links w.1 ls v w.2 l w.0 u w.1 w.6 i
-              (subst (λ t. slice_get links t ≡ Some w.0) (eqb-true m l e) w.3) w.4)) in
+          (subst (λ t. slice_get links t ≡ Some w.0) (eqb-true m l e) w.3) w.4)) in
           let r : side v ≡ side w.1 = rw once at rest in
           let s : side w.1 ≡ not (side u) = rw e at step in
           rw e (r ∙ s))
@@ -97,11 +97,14 @@ only_path links cuts u v (l ∷ ls) (m ∷ ms) ns os w a x b =
     let d : Apart (u ∷ x.2) = subst Apart x.5 b in
     let cut = cuts l in
     let one : cut.0 v ≡ not (cut.0 u) = way_crosses links l cut.0 cut.1 u (l ∷ ls) v ns w a
-        ∙ ap (λ t. cond t (not (cut.0 u)) (cut.0 u)) (in_head l ls) in
+    ∙ ap (λ t. cond t (not (cut.0 u)) (cut.0 u)) (in_head l ls) in
     let two : cut.0 v ≡ cond (is_in (m ∷ ms) l) (not (cut.0 u)) (cut.0 u) = way_crosses links l cut.0 cut.1 u (m ∷ ms) v os x b in
     let used : is_in (m ∷ ms) l ≡ true =
-    elim (cases_Bool (is_in (m ∷ ms) l)) [ inl e ↦ e | inr e ↦ absurd
-        (flips (cut.0 u) (sym one ∙ two ∙ ap (λ t. cond t (not (cut.0 u)) (cut.0 u)) e)) ] in
+    elim (cases_Bool (is_in (m ∷ ms) l)) [
+      | inl e ↦ e
+      | inr e ↦ absurd
+          (flips (cut.0 u) (sym one ∙ two ∙ ap (λ t. cond t (not (cut.0 u)) (cut.0 u)) e))
+    ] in
     let same : m ≡ l =
     elim (in_cases m l ms used) [ inl e ↦ e | inr e ↦ absurd (both_ways _ d.0 (walk_ends links x.1 ms v x.2 l w.0 u w.1 x.6 e w.3 w.4)) ] in
     let link : x.0 ≡ w.0 = same_link links m l x.0 w.0 same x.3 w.3 in

@@ -1,6 +1,6 @@
 -- Tables of ways, and how they grow by a node.
-use Rattle.std.proofs.Common.{◌≡◌, ◌≢◌, ℕ, ◌+◌, ◌<◌, Bool, true, false, cond, ◌&&◌, ◌==◌, List, Some, refl, sym, ap, ◌∙◌, subst, inl, inr,
-    arith, eq-eqb, unwrap_or}
+use Rattle.std.proofs.Common.{◌≡◌, ◌≢◌, ℕ, ◌+◌, ◌<◌, Bool, true, false, cond, ◌&&◌, ◌==◌, List, Some, refl, sym, ap, ◌∙◌, subst, inl, inr}
+use Rattle.std.proofs.Common.{arith, eq-eqb, unwrap_or}
 use Rattle.std.proofs.lemmas.Bool.{ne_eqb, cases_eq, both_ways}
 use Rattle.srm_net.specs.Grids.{cell, number_at}
 use Rattle.srm_net.specs.Ways.{is_known, IsApartFrom}
@@ -26,7 +26,7 @@ put_other_column : (width : ℕ) (old new : List ℕ) (row column x r c : ℕ) �
     → number_at width new r c ≡ number_at width old r c
 put_other_column width old new row column x r c p h n =
     ap (λ o. unwrap_or o 0) (p r c h) ∙ elim (cases_eq r row)
-        [ inl e ↦ rw (eq-eqb r row e, ne_eqb c column n) refl | inr m ↦ rw (ne_eqb r row m) refl ]
+    [ inl e ↦ rw (eq-eqb r row e, ne_eqb c column n) refl | inr m ↦ rw (ne_eqb r row m) refl ]
 
 -- the row and the column of a node are filled for the known nodes below a number, and all else is as it was
 pub record Filled (upto : ℕ) (known : List Bool) (node : ℕ) (there back : ℕ → ℕ) (width : ℕ) (old new : List ℕ) : Type 0 where
@@ -36,7 +36,7 @@ pub record Filled (upto : ℕ) (known : List Bool) (node : ℕ) (there back : �
 
 pub filled_more : (i : ℕ) (known : List Bool) (node : ℕ) (there back : ℕ → ℕ) (width : ℕ) (old now mid new : List ℕ)
     → Filled i known node there back width old now → i < width → node < width → i ≢ node → Puts width now mid i node (there i)
-        → Puts width mid new node i (back i)
+    → Puts width mid new node i (back i)
     → Filled (i + 1) known node there back width old new
 filled_more i known node there back width old now mid new f hi hn d p q = record {
   there_is = λ u lt h k. elim (cases_eq u i) [
@@ -45,8 +45,8 @@ filled_more i known node there back width old now mid new f hi hn d p q = record
     | inr n ↦ elim (cases_eq u node) [
       | inl e ↦ subst (λ t. number_at width new t node ≡ there t) (sym e)
           (put_other_column width mid new node i (back i) node node q hn (λ s. d (sym s))
-              ∙ put_other_row width now mid i node (there i) node node p hn (λ s. d (sym s))
-              ∙ subst (λ t. number_at width now t node ≡ there t) e (f.there_is u (omega arith) h k))
+          ∙ put_other_row width now mid i node (there i) node node p hn (λ s. d (sym s))
+          ∙ subst (λ t. number_at width now t node ≡ there t) e (f.there_is u (omega arith) h k))
       | inr m ↦ put_other_row width mid new node i (back i) u node q hn m ∙ put_other_row width now mid i node (there i) u node p hn n
           ∙ f.there_is u (omega arith) h k
     ]
@@ -77,7 +77,7 @@ pub puts_as : (w v : ℕ) (old new : List ℕ) (row column r c x y : ℕ) → w 
     → Puts v old new r c y
 puts_as w v old new row column r c x y e f g h p =
     subst (λ t. Puts v old new r c t) h (subst (λ t. Puts v old new r t x)
-        g (subst (λ t. Puts v old new t column x) f (subst (λ t. Puts t old new row column x) e p)))
+    g (subst (λ t. Puts v old new t column x) f (subst (λ t. Puts t old new row column x) e p)))
 
 -- what was read from the table
 pub number_read : (w v : ℕ) (xs : List ℕ) (r c d x : ℕ) → w ≡ v → c ≡ d → cell w xs r c ≡ Some x → x ≡ number_at v xs r d

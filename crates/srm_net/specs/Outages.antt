@@ -1,6 +1,6 @@
 -- Outages in the order of links and first ticks.
-use Rattle.std.specs.Prelude.{◌≡◌, ℕ, zero, suc, ◌≤◌, Bool, false, ◌&&◌, ◌||◌, ◌==◌, List, nat_le, nat_lt,
-    slice_index_or}
+use Rattle.std.specs.Prelude.{◌≡◌, ℕ, zero, suc, ◌≤◌, Bool, false, ◌&&◌, ◌||◌, ◌==◌, List, nat_le, nat_lt}
+use Rattle.std.specs.Prelude.{slice_index_or}
 use Rattle.srm_net.specs.declared.link.OutageSpec.{OutageSpec}
 
 -- in place of an outage that is not there

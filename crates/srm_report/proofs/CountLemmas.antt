@@ -1,6 +1,6 @@
 -- Counts of rows, row by row.
-use Rattle.std.proofs.Common.{◌≡◌, ◌∙◌, ℕ, ◌+◌, ◌<◌, ◌≢◌, Bool, true, false, cond, ◌&&◌, List, [], ◌∷◌, ◌++◌, length, Option, Some, None,
-    refl, ap, sym, subst, take, get_or, slice_set, ◌==◌, eqb-true, eq-eqb, true≢false, arith}
+use Rattle.std.proofs.Common.{◌≡◌, ◌∙◌, ℕ, ◌+◌, ◌<◌, ◌≢◌, Bool, true, false, cond, ◌&&◌, List, [], ◌∷◌, ◌++◌, length, Option, Some, None}
+use Rattle.std.proofs.Common.{refl, ap, sym, subst, take, get_or, slice_set, ◌==◌, eqb-true, eq-eqb, true≢false, arith}
 use Rattle.std.specs.List.{find, count_by}
 use Rattle.std.specs.Option.{option_or}
 use Rattle.std.proofs.lemmas.List.Sums.{sum_by_push}
@@ -13,8 +13,8 @@ use Rattle.srm_scenario.specs.declared.parts.MemberSpec.{MemberSpec}
 use Rattle.srm_report.specs.declared.counts.Counts.{Counts}
 use Rattle.srm_report.specs.Counted.{earlier, IsAtMost, AreCounts}
 use Rattle.srm_report.specs.Members.{counts_of, member_fields, member_rows}
-use Rattle.srm_report.specs.Rows.{is_join, is_leave, is_draw, is_ask, is_answer, is_report, is_arrival, is_sent, is_fixed, rows_of, time_of,
-    time_of_kind}
+use Rattle.srm_report.specs.Rows.{is_join, is_leave, is_draw, is_ask, is_answer, is_report, is_arrival, is_sent, is_fixed, rows_of, time_of}
+use Rattle.srm_report.specs.Rows.{time_of_kind}
 
 -- ---- one row more
 
@@ -37,12 +37,22 @@ pub counts_more : (rows : List Row) (r : Row) (c : Counts) (joined left : Option
     → c ≡ counts_of rows
     → joined ≡ earlier c.joined r.key.time (is_join r.cause) → left ≡ earlier c.left r.key.time (is_leave r.cause)
     → drawn ≡ cond (is_draw r.cause && is_sent r.told) 1 0 → heard ≡ cond (is_arrival r.cause) 1 0 → lost ≡ length r.lost → fixed
-        ≡ cond (is_fixed r.told) 1 0
+    ≡ cond (is_fixed r.told) 1 0
     → requests ≡ cond (is_ask r.cause && is_sent r.told) 1 0 → repairs ≡ cond (is_answer r.cause && is_sent r.told) 1 0 → sessions
-        ≡ cond (is_report r.cause && is_sent r.told) 1 0
-    → ◌≡◌ {A = Counts} (record { joined = joined; left = left; drawn = c.drawn + drawn; heard = c.heard + heard; lost =
-        c.lost + lost; fixed = c.fixed + fixed; requests = c.requests + requests; repairs = c.repairs + repairs; sessions =
-        c.sessions + sessions }) (counts_of (rows ++ r ∷ []))
+    ≡ cond (is_report r.cause && is_sent r.told) 1 0
+    → ◌≡◌ {A = Counts} (record {
+      joined = joined;
+      left = left;
+      drawn = c.drawn + drawn;
+      heard = c.heard + heard;
+      lost =
+          c.lost + lost;
+      fixed = c.fixed + fixed;
+      requests = c.requests + requests;
+      repairs = c.repairs + repairs;
+      sessions =
+          c.sessions + sessions;
+    }) (counts_of (rows ++ r ∷ []))
 unfolding counts_of
 counts_more rows r c joined left drawn heard lost fixed requests repairs sessions e j l d h n f q a s =
     let J = j ∙ ap (λ (x : Counts). earlier x.joined r.key.time (is_join r.cause)) e ∙ time_more is_join rows r in
@@ -54,8 +64,18 @@ counts_more rows r c joined left drawn heard lost fixed requests repairs session
     let Q = (λ i. (e i).requests + q i) ∙ count_more (λ q. is_ask q.cause && is_sent q.told) rows r in
     let A = (λ i. (e i).repairs + a i) ∙ count_more (λ q. is_answer q.cause && is_sent q.told) rows r in
     let S = (λ i. (e i).sessions + s i) ∙ count_more (λ q. is_report q.cause && is_sent q.told) rows r in
-    λ i. record { joined = J i; left = L i; drawn = D i; heard = H i; lost = N i; fixed = F i; requests = Q i; repairs = A i; sessions =
-        S i }
+    λ i. record {
+      joined = J i;
+      left = L i;
+      drawn = D i;
+      heard = H i;
+      lost = N i;
+      fixed = F i;
+      requests = Q i;
+      repairs = A i;
+      sessions =
+          S i;
+    }
 
 -- ---- members
 
@@ -64,9 +84,9 @@ rows_push : (m : ℕ) (rows : List Row) (r : Row) → rows_of m (rows ++ r ∷ [
 rows_push m [] r = elim (r.key.member == m) as (λ b. cond b (r ∷ []) [] ≡ cond b (r ∷ []) []) [ true ↦ refl | false ↦ refl ]
 rows_push m (q ∷ rows) r = elim (q.key.member == m) as (λ b. cond b (q ∷ rows_of m (rows ++ r ∷ [])) (rows_of m (rows ++ r ∷ []))
     ≡ cond (r.key.member == m) (cond b (q ∷ rows_of m rows) (rows_of m rows) ++ r ∷ []) (cond b (q ∷ rows_of m rows) (rows_of m rows))) [
-  | true ↦ ap (λ l. q ∷ l) (rows_push m rows r) ∙ under (r.key.member == m) q (rows_of m rows ++ r ∷ []) (rows_of m rows)
-  | false ↦ rows_push m rows r
-]
+      | true ↦ ap (λ l. q ∷ l) (rows_push m rows r) ∙ under (r.key.member == m) q (rows_of m rows ++ r ∷ []) (rows_of m rows)
+      | false ↦ rows_push m rows r
+    ]
   where
     under : (b : Bool) (q : Row) (xs ys : List Row) → q ∷ cond b xs ys ≡ cond b (q ∷ xs) (q ∷ ys)
     under true q xs ys = refl
@@ -84,7 +104,7 @@ pub rows_elsewhere : (m : ℕ) (rows : List Row) (i : ℕ) (r : Row) → i < len
 rows_elsewhere m rows i r lt is ne =
     ap (rows_of m) (take_more rows i r lt) ∙ ap (λ q. rows_of m (take i rows ++ q ∷ [])) (sym is) ∙ rows_push m (take i rows) r
     ∙ elim (r.key.member == m) as (λ b. (r.key.member == m) ≡ b → cond b (rows_of m (take i rows) ++ r ∷ []) (rows_of m (take i rows))
-        ≡ rows_of m (take i rows)) [
+    ≡ rows_of m (take i rows)) [
       | true ↦ λ e. absurd (ne (eqb-true _ _ e))
       | false ↦ λ e. refl
     ] refl
@@ -101,8 +121,16 @@ member_rows-more rows m (q ∷ ks) k n e = ap (λ l. member_fields m q (counts_o
 more : (i : ℕ) (c : Counts) → IsAtMost i c → IsAtMost (i + 1) c
 more i c b = let a = b.drawn in let d = b.heard in let e = b.lost in let f = b.fixed in let g = b.requests in let h = b.repairs in let j =
     b.sessions in
-    record { drawn = omega arith; heard = omega arith; lost = omega arith; fixed = omega arith; requests = omega arith; repairs =
-        omega arith; sessions = omega arith }
+    record {
+      drawn = omega arith;
+      heard = omega arith;
+      lost = omega arith;
+      fixed = omega arith;
+      requests = omega arith;
+      repairs =
+          omega arith;
+      sessions = omega arith;
+    }
 
 module _ (members : ℕ) (rows : List Row) (i : ℕ) (r : Row) (lt : i < length rows) (is : r ≡ get_or rows i r) where
   abbrev pub Counted : ℕ → List Row → List Counts → Type 0
@@ -130,7 +158,7 @@ module _ (members : ℕ) (rows : List Row) (i : ℕ) (r : Row) (lt : i < length 
         each = λ m d l. elim (m == k) as (λ b. (m == k) ≡ b → get_or (slice_set cs k new) m d ≡ counts_of (rows_of m (take (i + 1) rows))) [
           | true ↦ λ q. let same : m ≡ k = eqb-true m k q in
               get_or-set_at cs k m new d same h ∙ adds (rows_of m (take i rows))
-                  (here ∙ ap (λ j. get_or cs j old) (sym same) ∙ was.each m old l)
+              (here ∙ ap (λ j. get_or cs j old) (sym same) ∙ was.each m old l)
               ∙ ap counts_of (sym (rows_here m rows i r lt is (sym e ∙ sym same)))
           | false ↦ λ q. let ne : m ≢ k = λ same. true≢false (sym (eq-eqb m k same) ∙ q) in
               get_or-set_other cs k m new d ne ∙ other m d l (λ same. ne (sym same ∙ sym e))
@@ -141,6 +169,6 @@ module _ (members : ℕ) (rows : List Row) (i : ℕ) (r : Row) (lt : i < length 
             subst (IsAtMost (i + 1)) (sym (get_or-set_at cs k m new d same h)) (bound i (subst (IsAtMost i) (sym here) (bounds k old h)))
         | false ↦ λ q. let ne : m ≢ k = λ same. true≢false (sym (eq-eqb m k same) ∙ q) in
             subst (IsAtMost (i + 1)) (sym (get_or-set_other cs k m new d ne))
-                (more i (get_or cs m d) (bounds m d (let e = length-set cs k new in omega arith)))
+            (more i (get_or cs m d) (bounds m d (let e = length-set cs k new in omega arith)))
       ] refl),
     )

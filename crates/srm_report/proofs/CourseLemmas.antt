@@ -1,7 +1,7 @@
 -- What became of losses, row by row.
-use Rattle.std.proofs.Common.{◌≡◌, ◌∙◌, ℕ, zero, suc, ◌<◌, ◌≢◌, ◌⊎◌, inl, inr, Bool, true, false, cond, T, ◌&&◌, ◌||◌, List, [], ◌∷◌, ◌++◌,
-    length, map, Option, Some, None, is_some, refl, ap, sym, subst, append-nil, append_assoc, ◌==◌, eqb-true, eq-eqb, true≢false, arith,
-    Ordering, Less, Equal, Greater, is_lt, get_or}
+use Rattle.std.proofs.Common.{◌≡◌, ◌∙◌, ℕ, zero, suc, ◌<◌, ◌≢◌, ◌⊎◌, inl, inr, Bool, true, false, cond, T, ◌&&◌, ◌||◌, List, [], ◌∷◌, ◌++◌}
+use Rattle.std.proofs.Common.{length, map, Option, Some, None, is_some, refl, ap, sym, subst, append-nil, append_assoc, ◌==◌, eqb-true}
+use Rattle.std.proofs.Common.{eq-eqb, true≢false, arith, Ordering, Less, Equal, Greater, is_lt, get_or}
 use Rattle.std.specs.List.{Contains, list_any}
 use Rattle.std.specs.List as lists
 use Rattle.std.specs.Option.{option_map, option_map_or, option_or}
@@ -171,21 +171,21 @@ keys_put : (k : Loss) (c : Course) (es : List (Loss × Course)) → find loss_cm
 keys_put k c [] none = refl
 keys_put k c (e ∷ es) none =
     elim (loss_cmp k e.0) as (λ o. loss_cmp k e.0 ≡ o → keys (by_order o ((k, c) ∷ e ∷ es) ((e.0, c) ∷ es) (e ∷ put loss_cmp k c es))
-        ≡ place loss_cmp k (e.0 ∷ keys es)) [
+    ≡ place loss_cmp k (e.0 ∷ keys es)) [
       | Less ↦ λ q. ap (λ b. cond b (e.0 ∷ place loss_cmp k (keys es)) (k ∷ e.0 ∷ keys es))
           (sym (ap is_lt (loss_total.antisymm e.0 k ∙ ap ordering_reverse q)))
       | Equal ↦ λ q. let n : Some e.1 ≡ None = sym (ap (λ o. cond (is_eq o) (Some e.1) (find loss_cmp k es)) q) ∙ none in cc
       | Greater ↦ λ q.
           ap (λ ks. e.0 ∷ ks) (keys_put k c es (sym (ap (λ o. cond (is_eq o) (Some e.1) (find loss_cmp k es)) q) ∙ none))
           ∙ ap (λ b. cond b (e.0 ∷ place loss_cmp k (keys es)) (k ∷ e.0 ∷ keys es))
-              (sym (ap is_lt (loss_total.antisymm e.0 k ∙ ap ordering_reverse q)))
+          (sym (ap is_lt (loss_total.antisymm e.0 k ∙ ap ordering_reverse q)))
     ] refl
 
 below_less : (k x : Loss) (es : List (Loss × Course)) → loss_cmp k x ≡ Less → T (below_all loss_cmp x es) → T (below_all loss_cmp k es)
 below_less k x [] q h = tt
 below_less k x (e ∷ es) q h =
     T_both _ _ (subst (λ o. T (is_lt o)) (sym (loss_total.trans k x e.0 q (is_less _ (T_first _ _ h)))) tt)
-        (below_less k x es q (T_second _ _ h))
+    (below_less k x es q (T_second _ _ h))
 
 below_none : (k : Loss) (es : List (Loss × Course)) → T (below_all loss_cmp k es) → find loss_cmp k es ≡ None
 below_none k [] h = refl
@@ -198,7 +198,7 @@ keys_same : (k : Loss) (c : Course) (es : List (Loss × Course)) → T (is_sorte
 keys_same k c [] s old h = cc
 keys_same k c (e ∷ es) s old h =
     elim (loss_cmp k e.0) as (λ o. loss_cmp k e.0 ≡ o → keys (by_order o ((k, c) ∷ e ∷ es) ((e.0, c) ∷ es) (e ∷ put loss_cmp k c es))
-        ≡ e.0 ∷ keys es) [
+    ≡ e.0 ∷ keys es) [
       | Less ↦ λ q.
           let none = below_none k es (below_less k e.0 es q (T_first _ _ s)) in
           let n : None ≡ Some old = sym none ∙ sym (ap (λ o. cond (is_eq o) (Some e.1) (find loss_cmp k es)) q) ∙ h in
@@ -230,7 +230,7 @@ ordered_push [] x h = refl
 ordered_push (y ∷ ys) x h =
     ap (place loss_cmp y) (ordered_push ys x (second_false (eq_by_cmp loss_cmp x y) _ h))
     ∙ place-comm loss_cmp loss_total y x
-        (λ e. true≢false (sym (ap is_eq (loss_total.antisymm x y ∙ ap ordering_reverse e)) ∙ first_false _ _ h)) (ordered loss_cmp ys)
+    (λ e. true≢false (sym (ap is_eq (loss_total.antisymm x y ∙ ap ordering_reverse e)) ∙ first_false _ _ h)) (ordered loss_cmp ys)
 
 any_cond : (p : Loss → Bool) (b : Bool) (x y : Loss) (xs ys : List Loss) → list_any p xs ≡ (p x || list_any p ys)
     → list_any p (cond b (y ∷ xs) (x ∷ y ∷ ys)) ≡ (p x || (p y || list_any p ys))
@@ -271,7 +271,7 @@ at_same : (t : Row → Bool) (rows : List Row) (p q : Row) → p.key.time ≡ q.
     ≡ at t (rows ++ q ∷ [])
 at_same t rows p q e h =
     at_push t rows p ∙ ap (λ b. time_of (option_or (lists.find t rows) (if_so b p))) h ∙ alike (lists.find t rows) (t q) p q e
-        ∙ sym (at_push t rows q)
+    ∙ sym (at_push t rows q)
 
 at_none : (t : Row → Bool) (rows : List Row) (q : Row) → t q ≡ false → at t (rows ++ q ∷ []) ≡ at t rows
 at_none t rows q h = at_push t rows q ∙ ap (λ b. time_of (option_or (lists.find t rows) (if_so b q))) h ∙ none_more (lists.find t rows)
@@ -342,8 +342,13 @@ module _ (rows : List Row) (r : Row) (front : List Name) (n : Name) (es : List (
   not_fixed : lists.find (fixes k) rows ≡ None
   not_fixed = find_none (fixes k) rows (λ q c h.
       (let g = second_true (q.key.member == m) _ h in
-      unfixed (q, c, eqb-true _ _ (first_true (q.key.member == m) _ h), told_is q.told (first_true (is_fixed q.told) _ g),
-          brought_is n (brought q.about) (second_true (is_fixed q.told) _ g))))
+      unfixed (
+        q,
+        c,
+        eqb-true _ _ (first_true (q.key.member == m) _ h),
+        told_is q.told (first_true (is_fixed q.told) _ g),
+        brought_is n (brought q.about) (second_true (is_fixed q.told) _ g),
+      )))
 
   detects_not : detects k q0 ≡ false
   detects_not = and_false (m == m) _ (not_true _ (λ h. new_here (named_in n front h)))
@@ -372,20 +377,21 @@ module _ (rows : List Row) (r : Row) (front : List Name) (n : Name) (es : List (
   lost_now : course_of (rows ++ q1 ∷ []) k ≡ Some (record { detected = r.key.time; recovered = None })
   lost_now = course_is (rows ++ q1 ∷ []) k r.key.time None
       (at_first (detects k) rows q1 not_before (both_true (m == m) _ (eq-eqb m m refl)
-          (in_named n (front ++ n ∷ []) (Contains-append_right front (n ∷ []) n (0, omega arith, refl)))))
+      (in_named n (front ++ n ∷ []) (Contains-append_right front (n ∷ []) n (0, omega arith, refl)))))
       (at_none (fixes k) rows q1 (and_false (m == m) false refl) ∙ ap time_of not_fixed)
 
   -- another loss, in the row with one loss more
   other : (j : Loss) → eq_by_cmp loss_cmp j k ≡ false → detects j q1 ≡ detects j q0
   other j ne = elim (m == j.member) as (λ b. (m == j.member) ≡ b → (b && list_any (is_name j.name) (front ++ n ∷ []))
       ≡ (b && list_any (is_name j.name) front)) [
-    | true ↦ λ e.
-        let name : is_name j.name n ≡ false = not_true (is_name j.name n) (λ h.
-        (let s = same_names j.name n h in let g = eqb-true m j.member e in differ j k ne (λ i. record { member = sym g i; name = s i }))) in
-        any_append (is_name j.name) front (n ∷ []) ∙ ap (λ b. list_any (is_name j.name) front || (b || false)) name
+        | true ↦ λ e.
+            let name : is_name j.name n ≡ false = not_true (is_name j.name n) (λ h.
+            (let s = same_names j.name n h in let g = eqb-true m j.member e in
+            differ j k ne (λ i. record { member = sym g i; name = s i }))) in
+            any_append (is_name j.name) front (n ∷ []) ∙ ap (λ b. list_any (is_name j.name) front || (b || false)) name
             ∙ or_false (list_any (is_name j.name) front)
-    | false ↦ λ e. refl
-  ] refl
+        | false ↦ λ e. refl
+      ] refl
     where
       or_false : (b : Bool) → (b || (false || false)) ≡ b
       or_false true = refl
@@ -431,7 +437,7 @@ module _ (rows : List Row) (r : Row) (es : List (Loss × Course)) (was : TellLos
   course_stays : (j : Loss) → fixes j r ≡ false → course_of (rows ++ r ∷ []) j ≡ course_of (rows ++ q ∷ []) j
   course_stays j h =
       course_same (rows ++ r ∷ []) (rows ++ q ∷ []) j (at_same (detects j) rows r q refl refl)
-          (at_same (fixes j) rows r q refl (h ∙ sym (unfixed_now j)))
+      (at_same (fixes j) rows r q refl (h ∙ sym (unfixed_now j)))
 
   losses_stay : losses_in (rows ++ q ∷ []) ≡ losses_in (rows ++ r ∷ [])
   losses_stay = losses_push rows q ∙ sym (losses_push rows r)
@@ -451,8 +457,13 @@ module _ (rows : List Row) (r : Row) (es : List (Loss × Course)) (was : TellLos
     not_fixed_yet : lists.find (fixes k2) rows ≡ None
     not_fixed_yet = find_none (fixes k2) rows (λ p c h.
         (let g = second_true (p.key.member == r.key.member) _ h in
-        unfixed (p, c, eqb-true _ _ (first_true (p.key.member == r.key.member) _ h), told_is p.told (first_true (is_fixed p.told) _ g),
-            brought_is n (brought p.about) (second_true (is_fixed p.told) _ g))))
+        unfixed (
+          p,
+          c,
+          eqb-true _ _ (first_true (p.key.member == r.key.member) _ h),
+          told_is p.told (first_true (is_fixed p.told) _ g),
+          brought_is n (brought p.about) (second_true (is_fixed p.told) _ g),
+        )))
 
     detected : (d : ℕ) × (detected_at (rows ++ q ∷ []) k2 ≡ Some d)
     detected = find_some (detects k2) (rows ++ q ∷ []) lost.0 (Contains-append_left rows (q ∷ []) lost.0 lost.1)
@@ -469,7 +480,7 @@ module _ (rows : List Row) (r : Row) (es : List (Loss × Course)) (was : TellLos
     after = course_is (rows ++ r ∷ []) k2 detected.0 (Some r.key.time) (at_same (detects k2) rows r q refl refl ∙ detected.1)
         (at_first (fixes k2) rows r not_fixed_yet
         (fixes_is k2 ∙ both_true (r.key.member == r.key.member) _ (eq-eqb _ _ refl)
-            (ap (λ o. option_map_or (is_name n) o false) fix ∙ name_is n)))
+        (ap (λ o. option_map_or (is_name n) o false) fix ∙ name_is n)))
 
     apart : (j : Loss) → eq_by_cmp loss_cmp j k2 ≡ false → fixes j r ≡ false
     apart j ne = fixes_is j ∙ ap (λ o. (r.key.member == j.member) && option_map_or (is_name j.name) o false) fix ∙ not_true _ (λ h.

@@ -1,6 +1,6 @@
 -- The law of a line none of whose fields calls for quotes: it is the fields with commas between, and a line feed.
-use Rattle.std.proofs.Common.{◌≡◌, ◌∙◌, ℕ, zero, suc, ◌-◌, ◌/◌, ◌%◌, ◌<◌, ◌==◌, true, false, ◌||◌, List, [], ◌∷◌, ◌++◌, Option, Some, None,
-    refl, ap, sym, append_assoc, codes, decimal, drop, arith}
+use Rattle.std.proofs.Common.{◌≡◌, ◌∙◌, ℕ, zero, suc, ◌-◌, ◌/◌, ◌%◌, ◌<◌, ◌==◌, true, false, ◌||◌, List, [], ◌∷◌, ◌++◌, Option, Some, None}
+use Rattle.std.proofs.Common.{refl, ap, sym, append_assoc, codes, decimal, drop, arith}
 use Rattle.std.specs.Prelude.{if◌then◌else◌}
 use Rattle.std.specs.Fmt.{digits, digits_onto, digit_glyph}
 use Rattle.std.proofs.lemmas.List.{drop-drop}
@@ -83,7 +83,7 @@ onto_is_plain zero n acc h = h
 onto_is_plain (suc k) n acc h =
     let one : IsPlain (digit_glyph false (n % 10) ∷ acc) = ap (λ b. b || needs_quotes default_writer acc) (digit_is_plain n) ∙ h in
     elim (n / 10 == 0) as (λ b. IsPlain (if b then digit_glyph false (n % 10) ∷ acc else digits_onto k 10 false (n / 10)
-        (digit_glyph false (n % 10) ∷ acc))) [
+    (digit_glyph false (n % 10) ∷ acc))) [
       | true ↦ one
       | false ↦ onto_is_plain k (n / 10) (digit_glyph false (n % 10) ∷ acc) one
     ]
@@ -110,7 +110,7 @@ pub name_is_plain : (n : Name) → IsPlain (name_text n)
 name_is_plain n =
     joined_is_plain (decimal n.source ++ codes "/" ++ decimal n.page ++ codes "/") (decimal n.number)
     (joined_is_plain (decimal n.source ++ codes "/" ++ decimal n.page) (codes "/") (pair_is_plain n.source n.page (codes "/") refl) refl)
-        (decimal_is_plain n.number)
+    (decimal_is_plain n.number)
 
 pub ref_is_plain : (a : About) → IsPlain (ref_text a)
 ref_is_plain Nothing = refl

@@ -34,7 +34,7 @@ module _ (ls : List (List ℕ)) (five : FiveEach ls) (totals : List ℕ) (joined
 
   pub text_more : (i : ℕ) (d : List ℕ) (old new line : List ℕ) → i < length ls
       → old ≡ table_of link_columns (first_rows totals i) → line ≡ row_text default_writer
-          (link_fields i (λ k. slice_index (slice_index_or ls i d) (place_of k)))
+      (link_fields i (λ k. slice_index (slice_index_or ls i d) (place_of k)))
       → new ≡ old ++ line → new ≡ table_of link_columns (first_rows totals (i + 1))
   text_more i d old new line lt before is grown =
       let same : line ≡ row_text default_writer (link_fields i (number_at totals i)) =

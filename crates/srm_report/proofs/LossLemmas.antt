@@ -1,6 +1,6 @@
 -- The table of losses, loss by loss, over orderly rows.
-use Rattle.std.proofs.Common.{◌≡◌, ◌∙◌, ℕ, zero, suc, ◌+◌, ◌<◌, Bool, true, false, cond, List, [], ◌∷◌, ◌++◌, length, map, Some, None, refl,
-    ap, sym, subst, take, drop, get_or, append_assoc, ◌==◌, eqb-true, arith}
+use Rattle.std.proofs.Common.{◌≡◌, ◌∙◌, ℕ, zero, suc, ◌+◌, ◌<◌, Bool, true, false, cond, List, [], ◌∷◌, ◌++◌, length, map, Some, None, refl}
+use Rattle.std.proofs.Common.{ap, sym, subst, take, drop, get_or, append_assoc, ◌==◌, eqb-true, arith}
 use Rattle.std.proofs.Math.Seq.{take-length}
 use Rattle.std.specs.List.{Contains, All}
 use Rattle.std.specs.List as lists
@@ -57,7 +57,7 @@ fixed_was_lost members rows after r o m n fixed =
     let q = fixed.0 in
     let parts = contained_split rows q fixed.1 in
     let whole : rows ++ r ∷ after ≡ parts.0 ++ q ∷ (parts.1 ++ r ∷ after) = ap (λ l. l ++ r ∷ after) parts.2
-        ∙ append_assoc parts.0 (q ∷ parts.1) (r ∷ after) in
+    ∙ append_assoc parts.0 (q ∷ parts.1) (r ∷ after) in
     let was = o.fixed_after parts.0 (parts.1 ++ r ∷ after) q whole fixed.3 in
     let name : was.0 ≡ n = same_some _ _ (sym was.1 ∙ fixed.4) in
     let lost : LostIn m n parts.0 = subst (λ k. LostIn m k parts.0) name (subst (λ j. LostIn j was.0 parts.0) fixed.2 was.2) in
@@ -68,12 +68,12 @@ pub fix_facts : (members : ℕ) (rows after : List Row) (r : Row) → IsOrderly 
     → LostIn r.key.member n rows × ¬ FixedIn r.key.member n rows
 fix_facts members rows after r o n h = elim (is_fixed r.told) as
     (λ b. is_fixed r.told ≡ b → cond b (brought r.about) None ≡ Some n → LostIn r.key.member n rows × ¬ FixedIn r.key.member n rows) [
-  | true ↦ λ e g.
-      let was = o.fixed_after rows after r refl (told_is r.told e) in
-      let name : was.0 ≡ n = same_some _ _ (sym was.1 ∙ g) in
-      subst (λ k. LostIn r.key.member k rows × ¬ FixedIn r.key.member k rows) name (was.2, was.3)
-  | false ↦ λ e g. cc
-] refl h
+      | true ↦ λ e g.
+          let was = o.fixed_after rows after r refl (told_is r.told e) in
+          let name : was.0 ≡ n = same_some _ _ (sym was.1 ∙ g) in
+          subst (λ k. LostIn r.key.member k rows × ¬ FixedIn r.key.member k rows) name (was.2, was.3)
+      | false ↦ λ e g. cc
+    ] refl h
 
 -- ---- a row, name by name
 
@@ -81,15 +81,15 @@ pub detect_more : (members : ℕ) (rows after : List Row) (r : Row) → IsOrderl
     → i < length r.lost → (es new : List (Loss × Course))
     → TellLosses (rows ++ losing r (take i r.lost) ∷ []) es
     → new ≡ put loss_cmp (record { member = r.key.member; name = get_or r.lost i d }) (record { detected = r.key.time; recovered = None })
-        es
+    es
     → TellLosses (rows ++ losing r (take (i + 1) r.lost) ∷ []) new
 detect_more members rows after r o i d lt es new was grown =
     let n = get_or r.lost i d in
     let facts = o.lost_once rows after r (take i r.lost) (drop (i + 1) r.lost) n refl (split_at r.lost i d lt) in
     let one = one_more rows r (take i r.lost) n es was facts.0 facts.1
-        (λ f. facts.0 (fixed_was_lost members rows after r o r.key.member n f)) in
+    (λ f. facts.0 (fixed_was_lost members rows after r o r.key.member n f)) in
     subst (λ l. TellLosses (rows ++ losing r l ∷ []) new) (sym (take_more r.lost i d lt))
-        (subst (TellLosses (rows ++ losing r (take i r.lost ++ n ∷ []) ∷ [])) (sym grown) one)
+    (subst (TellLosses (rows ++ losing r (take i r.lost ++ n ∷ []) ∷ [])) (sym grown) one)
 
 pub detect_all : (rows : List Row) (r : Row) (i : ℕ) (es : List (Loss × Course)) → length r.lost ≡ i
     → TellLosses (rows ++ losing r (take i r.lost) ∷ []) es → TellLosses (rows ++ losing r r.lost ∷ []) es
@@ -103,19 +103,19 @@ told : (rows : List Row) (k : Loss) (c : Course) → course_of rows k ≡ Some c
     × (recovered_at rows k ≡ c.recovered)
 told rows k c e = elim (detected_at rows k) as (λ o. option_map (λ at. record { detected = at; recovered = recovered_at rows k }) o ≡ Some c
     → (o ≡ Some c.detected) × (recovered_at rows k ≡ c.recovered)) [
-  | None ↦ λ h. cc
-  | Some at ↦ λ h.
-      let same : record { detected = at; recovered = recovered_at rows k } ≡ c = same_some _ _ h in
-      (ap (λ (x : Course). Some x.detected) same, ap (λ (x : Course). x.recovered) same)
-] e
+      | None ↦ λ h. cc
+      | Some at ↦ λ h.
+          let same : record { detected = at; recovered = recovered_at rows k } ≡ c = same_some _ _ h in
+          (ap (λ (x : Course). Some x.detected) same, ap (λ (x : Course). x.recovered) same)
+    ] e
 
 find_is : (t : Row → Bool) (rows : List Row) (n : ℕ) → time_of (lists.find t rows) ≡ Some n → (q : Row) × Contains rows q × (t q ≡ true)
 find_is t [] n h = cc
 find_is t (q ∷ rows) n h = elim (t q) as (λ b. t q ≡ b → time_of (cond b (Some q) (lists.find t rows)) ≡ Some n → (p : Row)
     × Contains (q ∷ rows) p × (t p ≡ true)) [
-  | true ↦ λ e g. (q, (0, omega arith, refl), e)
-  | false ↦ λ e g. (let f = find_is t rows n g in (f.0, Contains-append_right (q ∷ []) rows f.0 f.1, f.2))
-] refl h
+      | true ↦ λ e g. (q, (0, omega arith, refl), e)
+      | false ↦ λ e g. (let f = find_is t rows n g in (f.0, Contains-append_right (q ∷ []) rows f.0 f.1, f.2))
+    ] refl h
 
 all_in : {A : Type 0} (P : A → Type 0) (xs : List A) → All P xs → (x : A) → Contains xs x → P x
 all_in P xs h x (i, l, e) = subst P e (h i x l)
@@ -133,21 +133,23 @@ module _ (rows : List Row) (members : ℕ) (orderly : IsOrderly members rows) (e
     among =
         let f = find_is (detects k) rows c.detected (told rows k c entry).0 in
         let a = all_in (IsAmong members) rows orderly.among f.0 f.1 in
-        let member : f.0.key.member ≡ k.member = eqb-true _ _ (first_true (f.0.key.member == k.member) _ f.2) in
-        (subst (λ m. m < members) member a.member, a.sources k.name
-            (named_in k.name f.0.lost (second_true (f.0.key.member == k.member) _ f.2)))
+        let member : f.0.key.member ≡ k.member = eqb-true _ _ (first_true (f.0.key.member == k.member) _ f.2) in (
+          subst (λ m. m < members) member a.member,
+          a.sources k.name
+              (named_in k.name f.0.lost (second_true (f.0.key.member == k.member) _ f.2)),
+        )
 
   text_more : (net : Network) (i : ℕ) (k : Loss) (c : Course) (old new line : List ℕ) → i < length es → (k, c) ≡ get_or es i (k, c)
       → old ≡ table_of loss_columns (map (loss_row net rows) (take i (map (λ e. e.0) es))) → line
-          ≡ row_text default_writer (loss_fields net k (Some c.detected) c.recovered)
+      ≡ row_text default_writer (loss_fields net k (Some c.detected) c.recovered)
       → new ≡ old ++ line → new ≡ table_of loss_columns (map (loss_row net rows) (take (i + 1) (map (λ e. e.0) es)))
   text_more net i k c old new line lt here before is grown =
       let ks = map (λ (e : Loss × Course). e.0) es in
       let long : length ks ≡ length es = length-keys es in
       let one : take (i + 1) ks ≡ take i ks ++ k ∷ [] = take_more ks i k (omega arith)
-          ∙ ap (λ x. take i ks ++ x ∷ []) (get-map es i k c lt here) in
+      ∙ ap (λ x. take i ks ++ x ∷ []) (get-map es i k c lt here) in
       table_more loss_columns (map (loss_row net rows) (take i ks)) (loss_row net rows k) old new line before
-          (is ∙ ap (row_text default_writer) (is_row i k c lt here net)) grown
+      (is ∙ ap (row_text default_writer) (is_row i k c lt here net)) grown
       ∙ ap (table_of loss_columns) (sym (ap (map (loss_row net rows)) one ∙ map-push (loss_row net rows) (take i ks) k))
     where
       get-map : (es : List (Loss × Course)) (i : ℕ) (k : Loss) (c : Course) → i < length es → (k, c) ≡ get_or es i (k, c)

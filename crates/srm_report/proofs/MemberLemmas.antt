@@ -25,7 +25,7 @@ module _ (rows : List Row) (ks : List MemberSpec) (members : ℕ) (all : members
       let own : n ≡ counts_of (rows_of m rows) = is ∙ ap (λ i. get_or cs i n) same ∙ counts.each m n (omega arith) in
       let long = length-take-le m ks (omega arith) in
       let one : take (m + 1) ks ≡ take m ks ++ k ∷ [] = take_more ks m k lt
-          ∙ ap (λ q. take m ks ++ q ∷ []) (get_or_from_slice_get ks m k k here) in
+      ∙ ap (λ q. take m ks ++ q ∷ []) (get_or_from_slice_get ks m k k here) in
       table_more member_columns (member_rows rows 0 (take m ks)) (member_fields m k (counts_of (rows_of m rows))) old new line before
       (f ∙ ap (λ q. row_text default_writer (member_fields m k q)) own) grown
       ∙ ap (table_of member_columns) (sym (member_rows-more rows 0 (take m ks) k m (omega arith)) ∙ ap (member_rows rows 0) (sym one))

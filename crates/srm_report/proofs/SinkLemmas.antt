@@ -6,8 +6,8 @@ use Rattle.srm_engine.specs.declared.sink.SinkFault.{SinkFault}
 use Rattle.srm_engine.specs.declared.sink.SinkFault.TheVariants as fault
 use Rattle.srm_report.specs.declared.standing.Standing.{Standing}
 use Rattle.srm_report.specs.declared.trace_sink.TraceSink.{TraceSink}
-use Rattle.srm_report.specs.TraceSinks.{outlet_under, gathered_by, written_by, text_next, IsText, after_answer, TakesText, Wrote, PutsAll,
-    PutsText, PutsRows, PutsPart, WritesThrough}
+use Rattle.srm_report.specs.TraceSinks.{outlet_under, gathered_by, written_by, text_next, IsText, after_answer, TakesText, Wrote, PutsAll}
+use Rattle.srm_report.specs.TraceSinks.{PutsText, PutsRows, PutsPart, WritesThrough}
 use Rattle.srm_report.specs.SinkLaws.{all_more, front_more}
 
 -- after what was gathered is written, a text is

@@ -7,8 +7,8 @@ use Rattle.srm_scenario.specs.declared.parts.MemberSpec.{MemberSpec}
 use Rattle.srm_scenario.specs.Plain.{PlainScenario}
 use Rattle.srm_member.specs.declared.row.Row.{Row}
 use Rattle.srm_report.specs.declared.counts.Counts.{Counts}
-use Rattle.srm_report.specs.Rows.{is_join, is_leave, is_draw, is_ask, is_answer, is_report, is_arrival, is_fixed,
-    rows_of, sent_rows, time_of_kind, time_text}
+use Rattle.srm_report.specs.Rows.{is_join, is_leave, is_draw, is_ask, is_answer, is_report, is_arrival, is_fixed}
+use Rattle.srm_report.specs.Rows.{rows_of, sent_rows, time_of_kind, time_text}
 use Rattle.srm_report.specs.Tables.{table_of}
 
 -- the word of a role

@@ -9,8 +9,8 @@ use Rattle.srm_report.specs.declared.standing.Standing.{Standing}
 use Rattle.srm_report.specs.declared.standing.Standing.TheVariants.{Fresh, Live, NoMemory, Stopped}
 use Rattle.srm_report.specs.declared.trace_sink.TraceSink.{TraceSink}
 use Rattle.srm_report.specs.Trace.{trace_line, trace_lines}
-use Rattle.srm_report.specs.TraceSinks.{lead, text_next, IsText, GrewBy, outlet_under, gathered_by, written_by, Wrote,
-    PutsAll, PutsFront, PutsRows, PutsPart, AreOverOne}
+use Rattle.srm_report.specs.TraceSinks.{lead, text_next, IsText, GrewBy, outlet_under, gathered_by, written_by, Wrote}
+use Rattle.srm_report.specs.TraceSinks.{PutsAll, PutsFront, PutsRows, PutsPart, AreOverOne}
 
 -- ---- text
 

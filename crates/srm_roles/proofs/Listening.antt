@@ -25,6 +25,7 @@ listener_gives r gone f held held2 at cause told lost view on role gives none =
     let m = listening f held in
     let e = react-listener m at cause role ∙ gives m refl in
     subst (λ s. Reacts s at cause (Ok (record { told = told; lost = lost; body = None })) (Active (listening f held2)))
-        (sym (ap (λ b. record_of b m) on) ∙ view)
-    (ap (λ (l : List Name). let a : React = record { told = told; lost = l; body = None } in a) none ∙ sym (ap (λ x. x.answer) e),
-        sym (ap (λ x. Active x.memory) e))
+    (sym (ap (λ b. record_of b m) on) ∙ view) (
+      ap (λ (l : List Name). let a : React = record { told = told; lost = l; body = None } in a) none ∙ sym (ap (λ x. x.answer) e),
+      sym (ap (λ x. Active x.memory) e),
+    )

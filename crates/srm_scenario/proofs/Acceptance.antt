@@ -1,6 +1,7 @@
 -- What has no fault is as every accepted scenario is.
-use Rattle.std.proofs.Common.{◌≡◌, ◌≢◌, ℕ, ◌+◌, ◌<◌, ◌≤◌, ◌^◌, Bool, true, false, not, cond, List, [], ◌∷◌, ◌++◌, length, map, Option, Some,
-    None, nat_le, nat_lt, nat_eq, slice_get, Ordering, Less, Equal, Greater, refl, sym, ap, ◌∙◌, subst, arith, inl, inr}
+use Rattle.std.proofs.Common.{◌≡◌, ◌≢◌, ℕ, ◌+◌, ◌<◌, ◌≤◌, ◌^◌, Bool, true, false, not, cond, List, [], ◌∷◌, ◌++◌, length, map, Option, Some}
+use Rattle.std.proofs.Common.{None, nat_le, nat_lt, nat_eq, slice_get, Ordering, Less, Equal, Greater, refl, sym, ap, ◌∙◌, subst, arith}
+use Rattle.std.proofs.Common.{inl, inr}
 use Rattle.std.proofs.lemmas.Bool.{and_parts, cases_Bool, false≢true, not-true}
 use Rattle.std.proofs.lemmas.Bool.Decides.{nat_tests}
 use Rattle.std.proofs.lemmas.List.Elements.{All-from_recursion}
@@ -24,8 +25,8 @@ use Rattle.srm_scenario.specs.declared.parts.SessionSpec.{SessionSpec}
 use Rattle.srm_scenario.specs.Accepted.{IsMember, IsThere, IsDraw, IsSession, IsDrop, IsOutage, IsAccepted}
 use Rattle.srm_scenario.specs.Presence.{is_up_to}
 use Rattle.srm_net.specs.Roles.{is_sender, is_late, is_listener}
-use Rattle.srm_scenario.specs.Faults.{faults_by, fault_unless, is_there, leaves_after, is_taken, fits_member, member_faults, if_member,
-    fits_draw, fits_session, fits_drop, fits_outage, meaning_faults}
+use Rattle.srm_scenario.specs.Faults.{faults_by, fault_unless, is_there, leaves_after, is_taken, fits_member, member_faults, if_member}
+use Rattle.srm_scenario.specs.Faults.{fits_draw, fits_session, fits_drop, fits_outage, meaning_faults}
 use Rattle.srm_scenario.specs.Plain.{PlainScenario, network_of}
 use Rattle.srm_scenario.specs.Ranges.{MemberInRange, HasItsPages, InRange}
 use Rattle.srm_scenario.specs.Trees.{is_tree}
@@ -48,7 +49,7 @@ none_by fault test i (x ∷ xs) h = by (test x) refl (none_by fault test (i + 1)
   where
     by : (b : Bool) → test x ≡ b → (faults_by fault test (i + 1) xs ≡ [] → AllByRecursion (λ y. test y ≡ true) xs)
         → cond b (faults_by fault test (i + 1) xs) (fault i ∷ faults_by fault test (i + 1) xs) ≡ [] → (test x ≡ true)
-            × AllByRecursion (λ y. test y ≡ true) xs
+        × AllByRecursion (λ y. test y ≡ true) xs
     by true e rest h = (e, rest h)
     by false e rest h = cc
 
@@ -194,13 +195,13 @@ head_faults : (until nodes : ℕ) (star : Bool) (earlier : List MemberEntry) (i 
     → Fits until nodes star earlier e × (member_faults until nodes star (earlier ++ e ∷ []) (i + 1) es ≡ [])
 head_faults until nodes star earlier i e es h =
     let p = empty_parts (fault_unless (fits_member until nodes star earlier e) (BadMember i))
-        (member_faults until nodes star (earlier ++ e ∷ []) (i + 1) es) h in
+    (member_faults until nodes star (earlier ++ e ∷ []) (i + 1) es) h in
     (fit_parts until nodes star earlier e (unless_true _ (BadMember i) p.0), p.1)
 
 members_fit : (until nodes : ℕ) (star : Bool) (earlier : List MemberEntry) (i : ℕ) (es : List MemberEntry)
     → member_faults until nodes star earlier i es ≡ []
     → AllByRecursion MemberInRange (map (λ e. e.spec) es) → AllByRecursion HasItsPages es
-        → AllByRecursion (IsMember until) (map (λ e. e.spec) es)
+    → AllByRecursion (IsMember until) (map (λ e. e.spec) es)
 members_fit until nodes star earlier i [] h range its = tt
 members_fit until nodes star earlier i (e ∷ es) h range its =
     let p = head_faults until nodes star earlier i e es h in
@@ -237,9 +238,11 @@ none_on until nodes star earlier i (e ∷ es) n taken h =
       | inl same ↦ (let is : n ≡ e.spec.node = grind (arith, nat_tests) in
           absurd (false≢true (sym p.0.free ∙ ap (is_taken earlier) (sym is) ∙ taken)))
       | inr other ↦ other
-    ] in
-    (other, none_on until nodes star (earlier ++ e ∷ []) (i + 1) es n (taken_more earlier e n ∙ ap (λ b. b || (e.spec.node == n)) taken)
-        p.1)
+    ] in (
+      other,
+      none_on until nodes star (earlier ++ e ∷ []) (i + 1) es n (taken_more earlier e n ∙ ap (λ b. b || (e.spec.node == n)) taken)
+          p.1,
+    )
 
 or_true : (b : Bool) → (b || true) ≡ true
 or_true true = refl
@@ -254,16 +257,17 @@ nodes_apart until nodes star earlier i (e ∷ es) h =
     let p = head_faults until nodes star earlier i e es h in
     let self : (e.spec.node == e.spec.node) ≡ true = grind (arith, nat_tests) in
     let here : is_taken (earlier ++ e ∷ []) e.spec.node ≡ true = taken_more earlier e e.spec.node
-        ∙ ap (λ b. is_taken earlier e.spec.node || b) self ∙ or_true (is_taken earlier e.spec.node) in
-    (none_on until nodes star (earlier ++ e ∷ []) (i + 1) es e.spec.node here p.1,
-        nodes_apart until nodes star (earlier ++ e ∷ []) (i + 1) es p.1)
+    ∙ ap (λ b. is_taken earlier e.spec.node || b) self ∙ or_true (is_taken earlier e.spec.node) in (
+      none_on until nodes star (earlier ++ e ∷ []) (i + 1) es e.spec.node here p.1,
+      nodes_apart until nodes star (earlier ++ e ∷ []) (i + 1) es p.1,
+    )
 
 -- ---- all together
 
 pub accepted_from : (s : PlainScenario) (star : Bool) (entries : List MemberEntry) (listed : List DropSpec) → InRange s
     → AllByRecursion HasItsPages entries
     → s.members ≡ map (λ e. e.spec) entries → s.drops.listed ≡ ordered_once drop_cmp listed → meaning_faults s star entries listed ≡ []
-        → IsAccepted s
+    → IsAccepted s
 unfolding meaning_faults
 accepted_from s star entries listed range its members drops h =
     let (tree, h1) = empty_parts (fault_unless (is_tree (network_of s)) NotTree) _ h in
@@ -273,16 +277,16 @@ accepted_from s star entries listed range its members drops h =
     let (dropped, h5) = empty_parts (faults_by BadDrop (fits_drop (length s.links) (length s.members)) 0 listed) _ h4 in
     let (out, h6) = empty_parts (faults_by BadOutage (fits_outage (length s.links)) 0 s.drops.outages) _ h5 in
     let ranges : AllByRecursion MemberInRange (map (λ e. e.spec) entries) =
-        subst (λ (l : List MemberSpec). AllByRecursion MemberInRange l) members range.members in
+    subst (λ (l : List MemberSpec). AllByRecursion MemberInRange l) members range.members in
     let fit : AllByRecursion (IsMember s.until) s.members = subst (λ (l : List MemberSpec). AllByRecursion (IsMember s.until) l)
-        (sym members) (members_fit s.until s.nodes star [] 0 entries placed ranges its) in
+    (sym members) (members_fit s.until s.nodes star [] 0 entries placed ranges its) in
     let hosts : AllByRecursion (λ n. n < s.nodes) (map (λ k. k.node) s.members) =
-        subst (λ (l : List MemberSpec). AllByRecursion (λ n. n < s.nodes) (map (λ k. k.node) l)) (sym members)
-        (nodes_within s.until s.nodes star [] 0 entries placed) in
+    subst (λ (l : List MemberSpec). AllByRecursion (λ n. n < s.nodes) (map (λ k. k.node) l)) (sym members)
+    (nodes_within s.until s.nodes star [] 0 entries placed) in
     let apart : IsDistinct nat_eq (map (λ k. k.node) s.members) = subst (λ (l : List MemberSpec). IsDistinct nat_eq (map (λ k. k.node) l))
-        (sym members) (nodes_apart s.until s.nodes star [] 0 entries placed) in
+    (sym members) (nodes_apart s.until s.nodes star [] 0 entries placed) in
     let listed_fit = all_once drop_cmp (IsDrop s) listed
-        (all_map _ (IsDrop s) (drop_fits s) listed (none_by BadDrop (fits_drop (length s.links) (length s.members)) 0 listed dropped)) in
+    (all_map _ (IsDrop s) (drop_fits s) listed (none_by BadDrop (fits_drop (length s.links) (length s.members)) 0 listed dropped)) in
     record {
       some_ticks = range.some_ticks;
       few_ticks = range.few_ticks;

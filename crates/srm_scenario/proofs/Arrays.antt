@@ -1,12 +1,12 @@
 -- Arrays at the keys of a table.
-use Rattle.std.proofs.Common.{◌≡◌, ℕ, zero, suc, ◌+◌, ◌<◌, ◌≤◌, Bool, true, false, cond, List, [], ◌∷◌, Option, Some, None, map, length,
-    nat_le, unwrap_or, Result, Ok, Err, refl, sym, ap, subst, ◌∙◌, arith}
+use Rattle.std.proofs.Common.{◌≡◌, ℕ, zero, suc, ◌+◌, ◌<◌, ◌≤◌, Bool, true, false, cond, List, [], ◌∷◌, Option, Some, None, map, length}
+use Rattle.std.proofs.Common.{nat_le, unwrap_or, Result, Ok, Err, refl, sym, ap, subst, ◌∙◌, arith}
 use Rattle.std.specs.Prelude.{◌&&◌, IfOk, MatchOption}
 use Rattle.std.proofs.lemmas.Bool.{false≢true}
 use Rattle.std.proofs.lemmas.Bool.Decides.{nat_tests}
 use Rattle.std.proofs.lemmas.List.{length-map}
-use Rattle.toml.specs.Data.{Data, Items, Members, no_items, item, string, integer, float, boolean, datetime, array, table, get_member,
-    as_array}
+use Rattle.toml.specs.Data.{Data, Items, Members, no_items, item, string, integer, float, boolean, datetime, array, table, get_member}
+use Rattle.toml.specs.Data.{as_array}
 use Rattle.toml.specs.View.{view, items_of, items_view}
 use Rattle.toml.specs.declared.value.Value.{Value}
 use Rattle.srm_scenario.specs.Rules.{is_met, is_kind, rule, meets, elements, numbers, optional, count_items, all_whole}
@@ -127,7 +127,7 @@ elements-read reading vs ds xs same read =
 
 one-read : (key : List ℕ) (most high : ℕ) (ms : Members) (vs : List Value) (o : Option (List ℕ)) → IsArray key most ms (map view vs)
     → MatchOption o (all_whole high (items_view vs) ≡ false)
-        (λ pages. (all_whole high (items_view vs) ≡ true) × (pages ≡ map (λ v. unwrap_or (number_of (view v)) 0) vs))
+    (λ pages. (all_whole high (items_view vs) ≡ true) × (pages ≡ map (λ v. unwrap_or (number_of (view v)) 0) vs))
     → MatchOption o (is_met ms (rule key (numbers most high) optional) ≡ false)
     (λ pages. (is_met ms (rule key (numbers most high) optional) ≡ true) × (pages ≡ map (λ d. unwrap_or (number_of d) 0) (array_at key ms)))
 one-read key most high ms vs None h read = numbers-met key most high ms vs false h read
@@ -140,10 +140,10 @@ one-read key most high ms vs (Some pages) h read = (
 pub numbers-read : {E : Type 0} (key : List ℕ) (most high : ℕ) (ms : Members) (vs : List Value) (r : Result (Option (List ℕ)) E)
     → IsArray key most ms (map view vs)
     → IfOk r (λ o. MatchOption o (all_whole high (items_view vs) ≡ false)
-        (λ pages. (all_whole high (items_view vs) ≡ true) × (pages ≡ map (λ v. unwrap_or (number_of (view v)) 0) vs)))
+    (λ pages. (all_whole high (items_view vs) ≡ true) × (pages ≡ map (λ v. unwrap_or (number_of (view v)) 0) vs)))
     → IfOk r (λ o. MatchOption o (is_met ms (rule key (numbers most high) optional) ≡ false)
     (λ pages. (is_met ms (rule key (numbers most high) optional) ≡ true)
-        × (pages ≡ map (λ d. unwrap_or (number_of d) 0) (array_at key ms))))
+    × (pages ≡ map (λ d. unwrap_or (number_of d) 0) (array_at key ms))))
 numbers-read key most high ms vs (Ok o) h read = one-read key most high ms vs o h read
 numbers-read key most high ms vs (Err e) h read = tt
 

@@ -90,7 +90,7 @@ module _ (ms : Members) where
   unfolding key_faults
   drop_fault e top l m d s h =
       later (top_faults ms) _ e (no_top_fault top)
-          (later links _ e l (later members _ e m (later draws _ e d (later sessions _ e s (here drops _ e h)))))
+      (later links _ e l (later members _ e m (later draws _ e d (later sessions _ e s (here drops _ e h)))))
 
   pub outage_fault : (e : ScenarioFault) → fits (rules_of_top ms) ms ≡ true → links ≡ [] → members ≡ [] → draws ≡ [] → sessions ≡ [] → drops
       ≡ [] → IsFault e outages → IsFault e (key_faults ms)
@@ -105,4 +105,4 @@ module _ (ms : Members) where
   no_key_fault top l m d s p o =
       no_faults (top_faults ms) _ (no_top_fault top)
       (no_faults links _ l (no_faults members _ m (no_faults draws _ d
-          (no_faults sessions _ s (no_faults drops _ p (no_faults outages _ o refl))))))
+      (no_faults sessions _ s (no_faults drops _ p (no_faults outages _ o refl))))))

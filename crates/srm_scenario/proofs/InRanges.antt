@@ -1,6 +1,6 @@
 -- The ranges of a file's keys are those of the scenario.
-use Rattle.std.proofs.Common.{◌≡◌, ℕ, zero, suc, ◌+◌, ◌-◌, ◌≤◌, ◌^◌, Bool, true, false, cond, pos, negsuc, List, [], ◌∷◌, map, Option, Some,
-    None, is_some, unwrap_or, nat_le, codes, refl, sym, ap, ◌∙◌, subst, arith}
+use Rattle.std.proofs.Common.{◌≡◌, ℕ, zero, suc, ◌+◌, ◌-◌, ◌≤◌, ◌^◌, Bool, true, false, cond, pos, negsuc, List, [], ◌∷◌, map, Option, Some}
+use Rattle.std.proofs.Common.{None, is_some, unwrap_or, nat_le, codes, refl, sym, ap, ◌∙◌, subst, arith}
 use Rattle.std.proofs.lemmas.Bool.{and_parts, false≢true}
 use Rattle.std.proofs.lemmas.Bool.Decides.{nat_tests}
 use Rattle.std.specs.List.{list_all, AllByRecursion}
@@ -16,10 +16,11 @@ use Rattle.srm_scenario.specs.declared.parts.MemberSpec.{MemberSpec}
 use Rattle.srm_scenario.specs.declared.delays.Delays.{Delays}
 use Rattle.srm_scenario.specs.declared.topology.Topology.{Topology}
 use Rattle.srm_scenario.specs.declared.version.Version.{Version}
-use Rattle.srm_scenario.specs.Rules.{Rule, rule, whole, required, optional, refused, meets, allows_back, index_rule, back_rule, is_met,
-    is_whole, has_only, fits, fits_element, link_rules, member_rules, role_rule}
-use Rattle.srm_scenario.specs.Described.{version_of, back_at, delays_of, number_of, optional_number, number, array_of, array_at, table_of,
-    link_of, member_of, elements_at, links_to_parents, nodes_in, links_in, described_scenario, topology_of}
+use Rattle.srm_scenario.specs.Rules.{Rule, rule, whole, required, optional, refused, meets, allows_back, index_rule, back_rule, is_met}
+use Rattle.srm_scenario.specs.Rules.{is_whole, has_only, fits, fits_element, link_rules, member_rules, role_rule}
+use Rattle.srm_scenario.specs.Described.{version_of, back_at, delays_of, number_of, optional_number, number, array_of, array_at, table_of}
+use Rattle.srm_scenario.specs.Described.{link_of, member_of, elements_at, links_to_parents, nodes_in, links_in, described_scenario}
+use Rattle.srm_scenario.specs.Described.{topology_of}
 use Rattle.srm_scenario.specs.Faults.{element_faults, entry_of, key_faults, top_faults}
 use Rattle.srm_scenario.specs.LookUps.{AreDelays}
 use Rattle.srm_scenario.specs.Plain.{drop_rules_of}
@@ -162,7 +163,7 @@ unfolding key_faults
 link_part ms h =
     let p = empty_parts (top_faults ms) _ h in
     let q = empty_parts (element_faults Rattle.srm_scenario.specs.declared.fault.Part.TheVariants.Link (link_rules (version_of ms))
-        (array_at (codes "link") ms)) _ p.1 in
+    (array_at (codes "link") ms)) _ p.1 in
     q.0
 
 member_part : (ms : Members) → key_faults ms ≡ [] → element_faults Rattle.srm_scenario.specs.declared.fault.Part.TheVariants.Member
@@ -171,20 +172,20 @@ unfolding key_faults
 member_part ms h =
     let p = empty_parts (top_faults ms) _ h in
     let q = empty_parts (element_faults Rattle.srm_scenario.specs.declared.fault.Part.TheVariants.Link (link_rules (version_of ms))
-        (array_at (codes "link") ms)) _ p.1 in
+    (array_at (codes "link") ms)) _ p.1 in
     let r = empty_parts (element_faults Rattle.srm_scenario.specs.declared.fault.Part.TheVariants.Member (member_rules (version_of ms))
-        (array_at (codes "member") ms)) _ q.1 in
+    (array_at (codes "member") ms)) _ q.1 in
     r.0
 
 pub listed_range : (ms : Members) (l : Draft) → IsDraft ms l → InRange (plain_of l)
 unfolding plain_of
 listed_range ms l h =
     let links : AllByRecursion HasDelays l.links.items = subst (λ (ks : List LinkSpec). AllByRecursion HasDelays ks) h.links
-        (read_elements HasDelays _ link_of (link_rules (version_of ms)) (link_delay (version_of ms)) _ (link_part ms h.no_fault)) in
+    (read_elements HasDelays _ link_of (link_rules (version_of ms)) (link_delay (version_of ms)) _ (link_part ms h.no_fault)) in
     let members : AllByRecursion (λ e. MemberInRange e.spec) l.members.items =
     subst (λ (es : List MemberEntry). AllByRecursion (λ e. MemberInRange e.spec) es) h.members
-        (read_elements (λ e. MemberInRange e.spec) _ entry_of (member_rules (version_of ms)) (member_range (version_of ms)) _
-        (member_part ms h.no_fault)) in
+    (read_elements (λ e. MemberInRange e.spec) _ entry_of (member_rules (version_of ms)) (member_range (version_of ms)) _
+    (member_part ms h.no_fault)) in
     record {
       some_ticks = h.some_ticks;
       few_ticks = h.few_ticks;
@@ -198,7 +199,7 @@ listed_range ms l h =
 pub listed_pages : (ms : Members) (l : Draft) → IsDraft ms l → AllByRecursion HasItsPages l.members.items
 listed_pages ms l h =
     subst (λ (es : List MemberEntry). AllByRecursion HasItsPages es) h.members
-        (read_elements HasItsPages _ entry_of (member_rules (version_of ms)) (pages_own (version_of ms)) _ (member_part ms h.no_fault))
+    (read_elements HasItsPages _ entry_of (member_rules (version_of ms)) (pages_own (version_of ms)) _ (member_part ms h.no_fault))
 
 links_same : (ms : Members) (o : Option Topology) (nodes : ℕ) (delays : Delays) (links : List LinkSpec) → nodes_in o ms ≡ nodes
     → delays_of ms ≡ delays → elements_at (codes "link") link_of ms ≡ links
@@ -218,7 +219,7 @@ described_is ms l h =
     let links : links_in (topology_of ms) ms ≡ links_listed l.topology l.nodes l.delays l.links.items =
     ap (λ o. links_in o ms) h.topology ∙ links_same ms l.topology l.nodes l.delays l.links.items nodes h.delays h.links in
     let members : elements_at (codes "member") member_of ms ≡ map (λ e. e.spec) l.members.items =
-        sym (map_spec (array_at (codes "member") ms)) ∙ ap (map (λ e. e.spec)) h.members in
+    sym (map_spec (array_at (codes "member") ms)) ∙ ap (map (λ e. e.spec)) h.members in
     λ i. record {
       until = h.until i;
       constants = h.constants i;

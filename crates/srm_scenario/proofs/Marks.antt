@@ -1,6 +1,6 @@
 -- The order of marks.
-use Rattle.std.proofs.Common.{◌≡◌, ℕ, Bool, List, [], ◌∷◌, ◌++◌, Option, Some, Ordering, Less, Equal, Greater, nat_cmp, is_lt, refl, sym,
-    ap, ◌∙◌, subst}
+use Rattle.std.proofs.Common.{◌≡◌, ℕ, Bool, List, [], ◌∷◌, ◌++◌, Option, Some, Ordering, Less, Equal, Greater, nat_cmp, is_lt, refl, sym}
+use Rattle.std.proofs.Common.{ap, ◌∙◌, subst}
 use Rattle.std.proofs.lemmas.Cmp.{nat_list_cmp_total}
 use Rattle.std.proofs.lemmas.List.Sorted.{ranks_by}
 use Rattle.std.specs.Cmp.{IsStrictWeakOrder}
@@ -43,7 +43,7 @@ pub marks-from_sort : (xs ys : List Mark) → IsSortedBy (λ x y. is_lt (keyed x
     ≡ ordered mark_cmp xs
 marks-from_sort xs ys sorted stable =
     ordered-from_sort mark_cmp mark_cmp-order xs ys (subst (λ (lt : Mark → Mark → Bool). IsSortedBy lt ys) same_test sorted)
-        (subst (λ (lt : Mark → Mark → Bool). IsStableBy lt xs ys) same_test stable)
+    (subst (λ (lt : Mark → Mark → Bool). IsStableBy lt xs ys) same_test stable)
 
 -- the marks of a script rise
 pub scripts_rise : (s : PlainScenario) (m : ℕ) → Rises mark_cmp (script_of s m)

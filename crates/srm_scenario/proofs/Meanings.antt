@@ -10,8 +10,8 @@ use Rattle.srm_scenario.specs.declared.fault.ScenarioFault.TheVariants.{NoMemory
 use Rattle.srm_scenario.specs.declared.draft.Draft.{Draft}
 use Rattle.srm_scenario.specs.declared.parts.MemberSpec.{MemberSpec}
 use Rattle.srm_scenario.specs.Accepted.{IsAccepted}
-use Rattle.srm_scenario.specs.Faults.{first, IsFault, fault_unless, faults_by, is_star, member_faults, fits_draw, fits_session, fits_drop,
-    fits_outage, meaning_faults}
+use Rattle.srm_scenario.specs.Faults.{first, IsFault, fault_unless, faults_by, is_star, member_faults, fits_draw, fits_session, fits_drop}
+use Rattle.srm_scenario.specs.Faults.{fits_outage, meaning_faults}
 use Rattle.srm_scenario.specs.Drafts.{links_listed, plain_of, faults_in}
 use Rattle.srm_scenario.specs.Plain.{PlainScenario, drop_rules_of, network_of}
 use Rattle.srm_scenario.specs.Ranges.{InRange, HasItsPages}
@@ -53,17 +53,17 @@ are_all : (l : Draft) (links : List LinkSpec) (members : List MemberSpec) → Ma
 unfolding all_faults plain_of meaning_faults
 are_all l links members m =
     ap (λ (ks : List LinkSpec). Tree l ++ (Placed l ++ (Drawn l members ++ (Told l members ++ (Dropped l ks members ++ (Out l ks ++ []))))))
-        m.links_are
+    m.links_are
     ∙ ap (λ (ms : List MemberSpec). Tree l
-        ++ (Placed l ++ (Drawn l ms ++ (Told l ms ++ (Dropped l (links_listed l.topology l.nodes l.delays l.links.items) ms
-        ++ (Out l (links_listed l.topology l.nodes l.delays l.links.items) ++ [])))))) m.members_are
+    ++ (Placed l ++ (Drawn l ms ++ (Told l ms ++ (Dropped l (links_listed l.topology l.nodes l.delays l.links.items) ms
+    ++ (Out l (links_listed l.topology l.nodes l.delays l.links.items) ++ [])))))) m.members_are
 
 tree_test : (l : Draft) (links : List LinkSpec) (b : Bool) → links ≡ links_listed l.topology l.nodes l.delays l.links.items
     → is_tree (plain_network l.nodes links []) ≡ b → is_tree (network_of (plain_of l)) ≡ b
 unfolding plain_of
 tree_test l links b same h =
     without_hosts l.nodes (links_listed l.topology l.nodes l.delays l.links.items) (network_of (plain_of l)).hosts []
-        ∙ ap (λ (ks : List LinkSpec). is_tree (plain_network l.nodes ks [])) (sym same) ∙ h
+    ∙ ap (λ (ks : List LinkSpec). is_tree (plain_network l.nodes ks [])) (sym same) ∙ h
 
 no_tree_fault : (l : Draft) (links : List LinkSpec) → links ≡ links_listed l.topology l.nodes l.delays l.links.items
     → is_tree (plain_network l.nodes links []) ≡ true → Tree l ≡ []
@@ -90,7 +90,7 @@ module _ (l : Draft) (links : List LinkSpec) (e : ScenarioFault) (same : links �
     unfolding all_faults made
     draw_fault h =
         let f : IsFault e (all_faults l links members) = later (Tree l) _ e (no_tree_fault l links same tree)
-            (later (Placed l) _ e placed (here (Drawn l members) _ e (inr h))) in
+        (later (Placed l) _ e placed (here (Drawn l members) _ e (inr h))) in
         subst (λ (fs : List ScenarioFault). IsFault e fs) (are_all l links members made) f
 
     pub session_fault : Drawn l members ≡ [] → first (Told l members) ≡ Some e → IsFault e (faults_in l)
@@ -98,7 +98,7 @@ module _ (l : Draft) (links : List LinkSpec) (e : ScenarioFault) (same : links �
     session_fault drawn h =
         let f : IsFault e (all_faults l links members) =
         later (Tree l) _ e (no_tree_fault l links same tree)
-            (later (Placed l) _ e placed (later (Drawn l members) _ e drawn (here (Told l members) _ e (inr h)))) in
+        (later (Placed l) _ e placed (later (Drawn l members) _ e drawn (here (Told l members) _ e (inr h)))) in
         subst (λ (fs : List ScenarioFault). IsFault e fs) (are_all l links members made) f
 
     pub drop_fault : Drawn l members ≡ [] → Told l members ≡ [] → first (Dropped l links members) ≡ Some e → IsFault e (faults_in l)
@@ -106,8 +106,8 @@ module _ (l : Draft) (links : List LinkSpec) (e : ScenarioFault) (same : links �
     drop_fault drawn told h =
         let f : IsFault e (all_faults l links members) =
         later (Tree l) _ e (no_tree_fault l links same tree)
-            (later (Placed l) _ e placed (later (Drawn l members) _ e drawn
-            (later (Told l members) _ e told (here (Dropped l links members) _ e (inr h))))) in
+        (later (Placed l) _ e placed (later (Drawn l members) _ e drawn
+        (later (Told l members) _ e told (here (Dropped l links members) _ e (inr h))))) in
         subst (λ (fs : List ScenarioFault). IsFault e fs) (are_all l links members made) f
 
     pub outage_fault : Drawn l members ≡ [] → Told l members ≡ [] → Dropped l links members ≡ [] → first (Out l links) ≡ Some e
@@ -117,7 +117,7 @@ module _ (l : Draft) (links : List LinkSpec) (e : ScenarioFault) (same : links �
         let f : IsFault e (all_faults l links members) =
         later (Tree l) _ e (no_tree_fault l links same tree)
         (later (Placed l) _ e placed (later (Drawn l members) _ e drawn
-            (later (Told l members) _ e told (later (Dropped l links members) _ e dropped (here (Out l links) _ e (inr h)))))) in
+        (later (Told l members) _ e told (later (Dropped l links members) _ e dropped (here (Out l links) _ e (inr h)))))) in
         subst (λ (fs : List ScenarioFault). IsFault e fs) (are_all l links members made) f
 
 pub no_fault : (l : Draft) (links : List LinkSpec) (members : List MemberSpec) → Made l links members
@@ -127,14 +127,23 @@ unfolding all_faults
 no_fault l links members m tree placed drawn told dropped out =
     sym (are_all l links members m)
     ∙ no_faults (Tree l) _ (no_tree_fault l links m.links_are tree)
-        (no_faults (Placed l) _ placed (no_faults (Drawn l members) _ drawn
-        (no_faults (Told l members) _ told (no_faults (Dropped l links members) _ dropped (no_faults (Out l links) _ out refl)))))
+    (no_faults (Placed l) _ placed (no_faults (Drawn l members) _ drawn
+    (no_faults (Told l members) _ told (no_faults (Dropped l links members) _ dropped (no_faults (Out l links) _ out refl)))))
 
 -- the scenario that is made is the plain one
 pub plain_made : (l : Draft) (links : List LinkSpec) (members : List MemberSpec) (drops : DropRules) → Made l links members → drops
     ≡ drop_rules_of l.drops.items l.outages.items
-    → ◌≡◌ {A = PlainScenario} (record { until = l.until; constants = l.constants; nodes = l.nodes; links = links; members = members; draws =
-        l.draws.items; sessions = l.sessions.items; drops = drops }) (plain_of l)
+    → ◌≡◌ {A = PlainScenario} (record {
+      until = l.until;
+      constants = l.constants;
+      nodes = l.nodes;
+      links = links;
+      members = members;
+      draws =
+          l.draws.items;
+      sessions = l.sessions.items;
+      drops = drops;
+    }) (plain_of l)
 unfolding plain_of
 plain_made l links members drops m same = λ i. record {
   until = l.until;

@@ -24,6 +24,6 @@ few_members s h =
     let hosts = map (λ (k : MemberSpec). k.node) s.members in
     let below = recursion_from_All (λ n. n < s.nodes) hosts h.network.hosts.0 in
     let few : length hosts ≤ s.nodes = length-le_from_distinct_below hosts s.nodes h.network.hosts.1
-        (λ q e. below_from_any s.nodes q hosts below e) in
+    (λ q e. below_from_any s.nodes q hosts below e) in
     let same : length hosts ≡ length s.members = length-map s.members (λ (k : MemberSpec). k.node) in let most = h.network.tree.few_nodes in
-        omega arith
+    omega arith

@@ -1,6 +1,6 @@
 -- Lists that ascend and have the same elements are one.
-use Rattle.std.proofs.Common.{◌≡◌, ◌⊎◌, ◌↔◌, ℕ, zero, suc, ◌+◌, ◌<◌, List, [], ◌∷◌, length, Contains, Ordering, Less, Equal, Greater, refl,
-    sym, ap, ◌∙◌, subst, inl, inr, arith}
+use Rattle.std.proofs.Common.{◌≡◌, ◌⊎◌, ◌↔◌, ℕ, zero, suc, ◌+◌, ◌<◌, List, [], ◌∷◌, length, Contains, Ordering, Less, Equal, Greater, refl}
+use Rattle.std.proofs.Common.{sym, ap, ◌∙◌, subst, inl, inr, arith}
 use Rattle.std.proofs.lemmas.Cmp.{nat_list_cmp_total, on_total}
 use Rattle.std.specs.Cmp.{IsTotalOrder}
 use Rattle.std.specs.Ordering.{ordering_reverse}
@@ -65,10 +65,10 @@ module _ {A : Type 0} (cmp : A → A → Ordering) (o : IsTotalOrder cmp) where
       let P : A → Type 0 = λ t. AllAfter cmp t ys in
       let vp0 : AllAfter cmp x ys = subst P (sym heads) vp.0 in
       let there : (d : A) → Among d (x ∷ xs) → Among d (x ∷ ys) = subst (λ t. (d : A) → Among d (x ∷ xs) → Among d (t ∷ ys))
-          (sym heads) f in
+      (sym heads) f in
       let back : (d : A) → Among d (x ∷ ys) → Among d (x ∷ xs) = subst (λ t. (d : A) → Among d (t ∷ ys) → Among d (x ∷ xs)) (sym heads) g in
       ap (λ (t : A). t ∷ xs) heads ∙ ap (λ (l : List A). y ∷ l)
-          (one_list xs ys up.1 vp.1 (tail_among x xs ys up.0 there) (tail_among x ys xs vp0 back))
+      (one_list xs ys up.1 vp.1 (tail_among x xs ys up.0 there) (tail_among x ys xs vp0 back))
 
 drop_total : IsTotalOrder drop_cmp
 drop_total = on_total (λ (d : DropSpec). d.link ∷ d.id.sender ∷ d.id.count ∷ []) nat_list_cmp_total
@@ -80,6 +80,6 @@ unfolding Among
 drops_once xs listed up same =
     one_list drop_cmp drop_total xs (ordered_once drop_cmp listed) up (drops_ascend listed)
     (λ d a. contains_among _ d (contains_listed (ordered_once drop_cmp listed) d
-        (listed_ordered listed d.id d.link ∙ listed_contains listed d ((same d).0 (among_contains xs d a)))))
+    (listed_ordered listed d.id d.link ∙ listed_contains listed d ((same d).0 (among_contains xs d a)))))
     (λ d a. contains_among xs d ((same d).1 (contains_listed listed d
-        (sym (listed_ordered listed d.id d.link) ∙ listed_contains (ordered_once drop_cmp listed) d (among_contains _ d a)))))
+    (sym (listed_ordered listed d.id d.link) ∙ listed_contains (ordered_once drop_cmp listed) d (among_contains _ d a)))))

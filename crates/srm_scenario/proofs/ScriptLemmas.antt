@@ -1,6 +1,6 @@
 -- The scripts of an accepted scenario's members.
-use Rattle.std.proofs.Common.{zero, suc, ◌≡◌, ◌⊎◌, ℕ, ◌+◌, ◌<◌, ◌≤◌, ◌≢◌, Bool, true, false, List, [], ◌∷◌, ◌++◌, Option, Some, None, refl,
-    sym, ap, ◌∙◌, inl, inr, arith, Ordering, Equal, slice_get, ◌==◌, eqb-true, nat_cmp, subst, cond, All, length}
+use Rattle.std.proofs.Common.{zero, suc, ◌≡◌, ◌⊎◌, ℕ, ◌+◌, ◌<◌, ◌≤◌, ◌≢◌, Bool, true, false, List, [], ◌∷◌, ◌++◌, Option, Some, None, refl}
+use Rattle.std.proofs.Common.{sym, ap, ◌∙◌, inl, inr, arith, Ordering, Equal, slice_get, ◌==◌, eqb-true, nat_cmp, subst, cond, All, length}
 use Rattle.std.proofs.lemmas.List.Elements.{All-from_recursion, recursion_from_All}
 use Rattle.std.specs.List.{AllByRecursion}
 use Rattle.std.specs.Cmp.{IsTotalOrder, on_total}
@@ -29,7 +29,7 @@ mark_total = on_total numbers_of_mark nat_list_cmp_total
 same_mark : (x y : Mark) → mark_cmp x y ≡ Equal → (x.rank ≡ y.rank) × (x.place ≡ y.place)
 same_mark x y e =
     let q : numbers_of_mark x ≡ numbers_of_mark y = slice_cmp-IsAntisymmetric nat_cmp-IsAntisymmetric (numbers_of_mark x)
-        (numbers_of_mark y) e in
+    (numbers_of_mark y) e in
     (cc, cc)
 
 other_rank : (x y : Mark) → x.rank < y.rank → mark_cmp x y ≢ Equal
@@ -64,14 +64,16 @@ draws_later m i [] = tt
 draws_later m i (d ∷ ds) =
     let rest : AllByRecursion (Later 4 i) (draw_marks m (i + 1) ds) = later_on 4 i (draw_marks m (i + 1) ds) (draws_later m (i + 1) ds) in
     all_if (Later 4 i) (d.member == m) (draw_mark i d ∷ draw_marks m (i + 1) ds) (draw_marks m (i + 1) ds)
-        (λ _. ((refl, omega arith), rest)) rest
+    (λ _. ((refl, omega arith), rest)) rest
 
 draws_apart : (m i : ℕ) (ds : List DrawSpec) → Apart mark_cmp (draw_marks m i ds)
 draws_apart m i [] = tt
 draws_apart m i (d ∷ ds) =
-    apart_if (d.member == m) (draw_mark i d ∷ draw_marks m (i + 1) ds) (draw_marks m (i + 1) ds)
-    (all_weaker (Later 4 (i + 1)) _ (λ x w. let f : i < x.place = (let g = w.1 in omega arith) in other_place (draw_mark i d) x f)
-        (draw_marks m (i + 1) ds) (draws_later m (i + 1) ds), draws_apart m (i + 1) ds)
+    apart_if (d.member == m) (draw_mark i d ∷ draw_marks m (i + 1) ds) (draw_marks m (i + 1) ds) (
+      all_weaker (Later 4 (i + 1)) _ (λ x w. let f : i < x.place = (let g = w.1 in omega arith) in other_place (draw_mark i d) x f)
+          (draw_marks m (i + 1) ds) (draws_later m (i + 1) ds),
+      draws_apart m (i + 1) ds,
+    )
     (draws_apart m (i + 1) ds)
 
 -- ---- the marks of session messages
@@ -80,16 +82,18 @@ reports_later : (m i : ℕ) (rs : List SessionSpec) → AllByRecursion (Later 5 
 reports_later m i [] = tt
 reports_later m i (r ∷ rs) =
     let rest : AllByRecursion (Later 5 i) (report_marks m (i + 1) rs) =
-        later_on 5 i (report_marks m (i + 1) rs) (reports_later m (i + 1) rs) in
+    later_on 5 i (report_marks m (i + 1) rs) (reports_later m (i + 1) rs) in
     all_if (Later 5 i) (r.member == m) (plain_mark r.at 5 i ∷ report_marks m (i + 1) rs) (report_marks m (i + 1) rs)
-        (λ _. ((refl, omega arith), rest)) rest
+    (λ _. ((refl, omega arith), rest)) rest
 
 reports_apart : (m i : ℕ) (rs : List SessionSpec) → Apart mark_cmp (report_marks m i rs)
 reports_apart m i [] = tt
 reports_apart m i (r ∷ rs) =
-    apart_if (r.member == m) (plain_mark r.at 5 i ∷ report_marks m (i + 1) rs) (report_marks m (i + 1) rs)
-    (all_weaker (Later 5 (i + 1)) _ (λ x w. let f : i < x.place = (let g = w.1 in omega arith) in other_place (plain_mark r.at 5 i) x f)
-        (report_marks m (i + 1) rs) (reports_later m (i + 1) rs), reports_apart m (i + 1) rs)
+    apart_if (r.member == m) (plain_mark r.at 5 i ∷ report_marks m (i + 1) rs) (report_marks m (i + 1) rs) (
+      all_weaker (Later 5 (i + 1)) _ (λ x w. let f : i < x.place = (let g = w.1 in omega arith) in other_place (plain_mark r.at 5 i) x f)
+          (report_marks m (i + 1) rs) (reports_later m (i + 1) rs),
+      reports_apart m (i + 1) rs,
+    )
     (reports_apart m (i + 1) rs)
 
 leave_later : (leave : Option ℕ) → AllByRecursion (Later 6 0) (leave_marks leave)
@@ -131,7 +135,7 @@ marks_apart s m k =
     let rl : AllByRecursion (Later 5 0) rs = reports_later m 0 s.sessions in
     let ll : AllByRecursion (Later 6 0) ls = leave_later k.leave in
     let dr : Apart mark_cmp (ds ++ rs) = apart_append mark_cmp ds rs (draws_apart m 0 s.draws) (reports_apart m 0 s.sessions)
-        (ranks_apart 4 5 0 0 ds rs (omega arith) dl rl) in
+    (ranks_apart 4 5 0 0 ds rs (omega arith) dl rl) in
     let far : AllByRecursion (λ x. AllByRecursion (λ y. mark_cmp x y ≢ Equal) ls) (ds ++ rs) =
     all_append _ ds rs (ranks_apart 4 6 0 0 ds ls (omega arith) dl ll) (ranks_apart 5 6 0 0 rs ls (omega arith) rl ll) in (
       all_append _ (ds ++ rs) ls (all_append _ ds rs (after_join k.join 4 0 ds (omega arith) dl)
@@ -170,7 +174,7 @@ draws_are s m k h i (d ∷ ds) a =
     (λ e. (
       let q : a.0.0 ≡ k = same_spec s m d.member a.0.0 k h a.0.1 (eqb-true _ _ e) in
           there s.until d.at 4 i d.page d.ink a.0.0 k q a.0.3 (omega arith) (omega arith) (λ _. sym (ap (λ z. z.role) q) ∙ a.0.2)
-              (λ z. absurd (omega arith)),
+          (λ z. absurd (omega arith)),
       rest,
     ))
     rest
@@ -185,7 +189,7 @@ reports_are s m k h i (r ∷ rs) a =
     (λ e. (
       let q : a.0.0 ≡ k = same_spec s m r.member a.0.0 k h a.0.1 (eqb-true _ _ e) in
           there s.until r.at 5 i 0 0 a.0.0 k q a.0.3 (omega arith) (omega arith) (λ z. absurd (omega arith))
-              (λ _ f. a.0.2 (ap (λ z. z.role) q ∙ f)),
+          (λ _ f. a.0.2 (ap (λ z. z.role) q ∙ f)),
       rest,
     ))
     rest
@@ -247,9 +251,9 @@ scripts_fit s a m k h =
     let i : IsMember s.until k = all_get (IsMember s.until) s.members m k (recursion_from_All (IsMember s.until) s.members a.members) h in
     let e : marks_of s m (slice_get s.members m) ≡ marks_by s m k = ap (λ o. marks_of s m o) h in
     let ascends : Ascends mark_cmp (ordered mark_cmp (marks_by s m k)) =
-        ascends_ordered mark_cmp mark_total (marks_by s m k) (marks_apart s m k) in
+    ascends_ordered mark_cmp mark_total (marks_by s m k) (marks_apart s m k) in
     let are : AllByRecursion (IsMark s.until k) (ordered mark_cmp (marks_by s m k)) =
-        all_ordered mark_cmp (IsMark s.until k) (marks_by s m k) (marks_are s a m k h i) in
+    all_ordered mark_cmp (IsMark s.until k) (marks_by s m k) (marks_are s a m k h i) in
     record {
       ascends = subst (λ xs. Ascends mark_cmp (ordered mark_cmp xs)) (sym e) ascends;
       marks = subst (λ xs. All (IsMark s.until k) (ordered mark_cmp xs))

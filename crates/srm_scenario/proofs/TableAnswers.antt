@@ -21,7 +21,7 @@ answer-first (f ∷ fs) s e h = let same : f ≡ e = cc in ap Err same
 -- the faults of meaning are those of what is listed
 faults_same : (ms : Members) (l : Draft) → IsDraft ms l
     → meaning_faults (described_scenario ms) (is_star (topology_of ms)) (elements_at (codes "member") entry_of ms) (listed_drops ms)
-        ≡ faults_in l
+    ≡ faults_in l
 faults_same ms l h = λ i. meaning_faults (described_is ms l h i) (is_star (h.topology i)) (h.members i) (h.drops i)
 
 all_faults : (ms : Members) (l : Draft) → IsDraft ms l → faults_of ms ≡ faults_in l

@@ -1,6 +1,6 @@
 -- The answer for a text, from that for its table.
-use Rattle.std.proofs.Common.{◌≡◌, ◌⊎◌, ℕ, ◌+◌, ◌<◌, ◌≤◌, Bool, true, false, cond, List, [], ◌∷◌, ◌++◌, length, Option, Some, None, Result,
-    Ok, Err, nat_lt, codes, refl, sym, ap, ◌∙◌, subst, arith, inl, inr}
+use Rattle.std.proofs.Common.{◌≡◌, ◌⊎◌, ℕ, ◌+◌, ◌<◌, ◌≤◌, Bool, true, false, cond, List, [], ◌∷◌, ◌++◌, length, Option, Some, None, Result}
+use Rattle.std.proofs.Common.{Ok, Err, nat_lt, codes, refl, sym, ap, ◌∙◌, subst, arith, inl, inr}
 use Rattle.std.proofs.lemmas.Bool.{cases_Bool}
 use Rattle.std.proofs.lemmas.Bool.Decides.{nat_tests}
 use Rattle.std.proofs.lemmas.Str.{is_utf8-from_IsUtf8, IsUtf8-from_is_utf8}
@@ -11,19 +11,19 @@ use Rattle.toml.specs.Data.{Members}
 use Rattle.toml.specs.Parse.{parse_document}
 use Rattle.srm_scenario.specs.declared.entry.MemberEntry.{MemberEntry}
 use Rattle.srm_scenario.specs.declared.fault.ScenarioFault.{ScenarioFault}
-use Rattle.srm_scenario.specs.declared.fault.ScenarioFault.TheVariants.{NoMemory, ReadFault, TooLong, NotToml, BadKey, NotTree, BadMember,
-    BadDraw, BadSession, BadDrop, BadOutage}
+use Rattle.srm_scenario.specs.declared.fault.ScenarioFault.TheVariants.{NoMemory, ReadFault, TooLong, NotToml, BadKey, NotTree, BadMember}
+use Rattle.srm_scenario.specs.declared.fault.ScenarioFault.TheVariants.{BadDraw, BadSession, BadDrop, BadOutage}
 use Rattle.srm_net.specs.declared.link.DropSpec.{DropSpec}
 use Rattle.srm_scenario.specs.declared.fault.Part.{Part}
 use Rattle.srm_scenario.specs.declared.fault.Part.TheVariants as part
 use Rattle.srm_scenario.specs.declared.version.Version.{Version}
 use Rattle.srm_scenario.specs.Described.{array_at, version_of, described_scenario}
-use Rattle.srm_scenario.specs.Rules.{Rule, fits, fits_element, link_rules, member_rules, draw_rules, session_rules, drop_rules,
-    outage_rules}
+use Rattle.srm_scenario.specs.Rules.{Rule, fits, fits_element, link_rules, member_rules, draw_rules, session_rules, drop_rules}
+use Rattle.srm_scenario.specs.Rules.{outage_rules}
 use Rattle.srm_scenario.specs.Trees.{is_tree}
-use Rattle.srm_scenario.specs.Faults.{fault_unless, faults_by, rules_of_top, top_faults, member_faults, fits_member, fits_draw,
-    fits_session, fits_drop, fits_outage, element_faults, key_faults, meaning_faults, faults_of, answer, scenario_of_table,
-    scenario_of_document, scenario_of_text, failures_after, AnswersText}
+use Rattle.srm_scenario.specs.Faults.{fault_unless, faults_by, rules_of_top, top_faults, member_faults, fits_member, fits_draw}
+use Rattle.srm_scenario.specs.Faults.{fits_session, fits_drop, fits_outage, element_faults, key_faults, meaning_faults, faults_of, answer}
+use Rattle.srm_scenario.specs.Faults.{scenario_of_table, scenario_of_document, scenario_of_text, failures_after, AnswersText}
 use Rattle.srm_scenario.specs.Plain.{PlainScenario, network_of}
 
 short_text : (text : List ℕ) → length text ≤ 1048576 → scenario_of_text text
@@ -104,7 +104,7 @@ unfolding IsOfText
 of_members until nodes star earlier i [] = tt
 of_members until nodes star earlier i (e ∷ es) =
     all_append (fault_unless (fits_member until nodes star earlier e) (BadMember i)) _
-        (of_unless (fits_member until nodes star earlier e) (BadMember i) tt)
+    (of_unless (fits_member until nodes star earlier e) (BadMember i) tt)
     (of_members until nodes star (earlier ++ e ∷ []) (i + 1) es)
 
 key_all : (ms : Members) → AllByRecursion IsOfText (key_faults ms)
@@ -119,7 +119,7 @@ key_all ms =
         → AllByRecursion IsOfText (element_faults p (rules (version_of ms)) (array_at key ms) ++ rest)
     of_array p rules key rest h =
         all_append (faults_by (BadKey p) (fits_element (rules (version_of ms))) 0 (array_at key ms)) rest
-            (of_faults_by (BadKey p) (fits_element (rules (version_of ms))) 0 (array_at key ms) (λ i. tt)) h
+        (of_faults_by (BadKey p) (fits_element (rules (version_of ms))) 0 (array_at key ms) (λ i. tt)) h
 
 meaning_all : (s : PlainScenario) (star : Bool) (entries : List MemberEntry) (listed : List DropSpec)
     → AllByRecursion IsOfText (meaning_faults s star entries listed)
@@ -128,13 +128,13 @@ meaning_all s star entries listed =
     all_append (fault_unless (is_tree (network_of s)) NotTree) _ (of_unless (is_tree (network_of s)) NotTree tt)
     (all_append (member_faults s.until s.nodes star [] 0 entries) _ (of_members s.until s.nodes star [] 0 entries)
     (all_append (faults_by BadDraw (fits_draw s.until s.members) 0 s.draws) _
-        (of_faults_by BadDraw (fits_draw s.until s.members) 0 s.draws (λ i. tt))
+    (of_faults_by BadDraw (fits_draw s.until s.members) 0 s.draws (λ i. tt))
     (all_append (faults_by BadSession (fits_session s.until s.members) 0 s.sessions) _
-        (of_faults_by BadSession (fits_session s.until s.members) 0 s.sessions (λ i. tt))
+    (of_faults_by BadSession (fits_session s.until s.members) 0 s.sessions (λ i. tt))
     (all_append (faults_by BadDrop (fits_drop (length s.links) (length s.members)) 0 listed) _
-        (of_faults_by BadDrop (fits_drop (length s.links) (length s.members)) 0 listed (λ i. tt))
+    (of_faults_by BadDrop (fits_drop (length s.links) (length s.members)) 0 listed (λ i. tt))
     (all_append (faults_by BadOutage (fits_outage (length s.links)) 0 s.drops.outages) _
-        (of_faults_by BadOutage (fits_outage (length s.links)) 0 s.drops.outages (λ i. tt))
+    (of_faults_by BadOutage (fits_outage (length s.links)) 0 s.drops.outages (λ i. tt))
     tt)))))
 
 of_answer : (fs : List ScenarioFault) (s : PlainScenario) (e : ScenarioFault) → AllByRecursion IsOfText fs → answer fs s ≡ Err e

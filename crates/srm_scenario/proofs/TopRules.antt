@@ -21,12 +21,12 @@ list_all-append p (x ∷ xs) ys = ap (λ b. p x && b) (list_all-append p xs ys) 
 pub fits_by : (ms : Members) (version : Version) (a b c d : Bool) → version_of ms ≡ version
     → has_only (map (λ r. r.key) (rules_of_top ms)) ms ≡ a
     → list_all (is_met ms) number_rules ≡ b → list_all (is_met ms) (shape_of version ms) ≡ c → list_all (is_met ms) (array_rules version)
-        ≡ d
+    ≡ d
     → fits (rules_of_top ms) ms ≡ (a && (b && (c && d)))
 fits_by ms version a b c d v p q r s =
     ap (λ x. has_only (map (λ r. r.key) (rules_of_top ms)) ms && x)
     (list_all-append (is_met ms) number_rules (shape_of (version_of ms) ms ++ array_rules (version_of ms))
-        ∙ ap (λ x. list_all (is_met ms) number_rules && x)
-        (list_all-append (is_met ms) (shape_of (version_of ms) ms) (array_rules (version_of ms))
-        ∙ ap (λ w. list_all (is_met ms) (shape_of w ms) && list_all (is_met ms) (array_rules w)) v))
+    ∙ ap (λ x. list_all (is_met ms) number_rules && x)
+    (list_all-append (is_met ms) (shape_of (version_of ms) ms) (array_rules (version_of ms))
+    ∙ ap (λ w. list_all (is_met ms) (shape_of w ms) && list_all (is_met ms) (array_rules w)) v))
     ∙ (λ i. p i && (q i && (r i && s i)))

@@ -1,6 +1,6 @@
 -- The topologies grow from node 0, one node after the other.
-use Rattle.std.proofs.Common.{◌≡◌, ℕ, zero, suc, ◌+◌, ◌-◌, ◌/◌, ◌<◌, ◌≤◌, cond, length, Some, slice_get, nat_le, refl, ap, ◌∙◌, arith, inl,
-    inr}
+use Rattle.std.proofs.Common.{◌≡◌, ℕ, zero, suc, ◌+◌, ◌-◌, ◌/◌, ◌<◌, ◌≤◌, cond, length, Some, slice_get, nat_le, refl, ap, ◌∙◌, arith, inl}
+use Rattle.std.proofs.Common.{inr}
 use Rattle.std.proofs.lemmas.Bool.{cases_Bool}
 use Rattle.std.proofs.lemmas.Bool.Decides.{nat_tests}
 use Rattle.std.proofs.lemmas.List.Elements.{All-from_recursion}
@@ -25,7 +25,7 @@ parent_below (Tree degree) v h some =
       | inl near ↦ (let e : parent_in (Tree degree) v ≡ 0 = ap (λ b. cond b 0 (1 + (v - degree - 1) / (degree - 1))) near in omega arith)
       | inr far ↦
           (let e : parent_in (Tree degree) v ≡ 1 + (v - degree - 1) / (degree - 1) =
-              ap (λ b. cond b 0 (1 + (v - degree - 1) / (degree - 1))) far in
+          ap (λ b. cond b 0 (1 + (v - degree - 1) / (degree - 1))) far in
           let past : degree < v = grind (arith, nat_tests) in
           let least = h.0 in
           omega (arith, div-le_self (v - degree - 1) (degree - 1)))
@@ -59,7 +59,7 @@ topologies t h delays nodes some few =
     let ks = links_to_parents t delays 1 (nodes - 1) in
     let many : length ks + 1 ≡ nodes = omega (arith, links_length t delays 1 (nodes - 1)) in
     parents_tree (parent_in t) nodes ks some few (All-from_recursion (IsWithin nodes) ks
-        (ends_within t delays nodes 1 (nodes - 1) h (omega arith) (omega arith))) many
+    (ends_within t delays nodes 1 (nodes - 1) h (omega arith) (omega arith))) many
     (record {
       below = λ v one. parent_below t v h one;
       delay = λ i. delays.delay;

@@ -1,6 +1,6 @@
 -- The test of a tree, and what a tree is.
-use Rattle.std.proofs.Common.{◌≡◌, ℕ, zero, suc, ◌+◌, ◌<◌, Bool, true, false, List, [], ◌∷◌, length, Option, Some, None, is_some, nat_le,
-    nat_lt, refl, ap, arith, inl, inr, eqb}
+use Rattle.std.proofs.Common.{◌≡◌, ℕ, zero, suc, ◌+◌, ◌<◌, Bool, true, false, List, [], ◌∷◌, length, Option, Some, None, is_some, nat_le}
+use Rattle.std.proofs.Common.{nat_lt, refl, ap, arith, inl, inr, eqb}
 use Rattle.std.proofs.lemmas.Bool.{and_parts, cases_Bool, false≢true}
 use Rattle.std.proofs.lemmas.Bool.Decides.{nat_tests}
 use Rattle.std.proofs.lemmas.List.Elements.{recursion_from_All, All-from_recursion}
@@ -63,7 +63,7 @@ path_way w t u v hu hv =
     let p = t.connected u v hu hv in
     let apart = apart_from_distinct p.1.0 p.1.2 in
     found_some _ (path_found (length w.links) w.links [] u p.0 v p.1.0 p.1.1 apart (λ m i. refl)
-        (path_length w t u p.0 v p.1.0 p.1.1 apart hu))
+    (path_length w t u p.0 v p.1.0 p.1.1 apart hu))
 
 -- what passes the test is a tree
 pub tree_from_test : (w : Network) → is_tree w ≡ true → IsTree w
@@ -91,8 +91,8 @@ test_from_tree w t =
     let few = t.few_nodes in
     let fewer = t.one_fewer in
     both (nat_le 1 n) _ (grind (arith, nat_tests)) (both (nat_le n 1024) _
-        (grind (arith, nat_tests)) (both _ _ (all_ends n w.links (recursion_from_All (IsWithin n) w.links t.ends))
-        (both (length w.links + 1 == n) _ (grind (arith, nat_tests))
+    (grind (arith, nat_tests)) (both _ _ (all_ends n w.links (recursion_from_All (IsWithin n) w.links t.ends))
+    (both (length w.links + 1 == n) _ (grind (arith, nat_tests))
     (all_from_below _ n (λ u hu. all_from_below _ n (λ v hv. path_way w t u v hu hv))))))
 
 -- hosts play no part in it

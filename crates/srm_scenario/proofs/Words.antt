@@ -28,7 +28,7 @@ is_some-map f (Some x) p e = ap is_some e
 -- how a role's word compares with the four words says whether the rule is met, and which role it is
 pub role_by_word : (ms : Members) (s : List ℕ) (a b c d : Bool) → get_member (codes "role") ms ≡ Some (string s)
     → bytes_eq s (codes "sender") ≡ a → bytes_eq s (codes "receiver") ≡ b → bytes_eq s (codes "late") ≡ c → bytes_eq s (codes "listener")
-        ≡ d
+    ≡ d
     → (is_met ms role_rule ≡ (a || (b || (c || (d || false)))))
     × (role_of ms ≡ (if a then Sender else if b then Receiver else if c then Late else Listener))
 role_by_word ms s a b c d got p q r t = (
@@ -54,7 +54,7 @@ topology_by_word ms s a b c got p q r = record {
   tree_said = ap (is_text_or (codes "tree")) got ∙ p;
   is =
       ap (λ (o : Option Data). if is_text_or (codes "tree") o then Some (Tree (number (codes "degree") ms)) else if is_text_or
-          (codes "chain") o then Some Chain else if is_text_or (codes "star") o then Some Star else None) got
+      (codes "chain") o then Some Chain else if is_text_or (codes "star") o then Some Star else None) got
       ∙ (λ i. if p i then Some (Tree (number (codes "degree") ms)) else if q i then Some Chain else if r i then Some Star else None);
   there = ap is_some got;
 }

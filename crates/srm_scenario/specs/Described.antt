@@ -1,6 +1,6 @@
 -- The scenario that a table describes, wherever its keys are as the format asks.
-use Rattle.std.specs.Prelude.{ℕ, zero, suc, ◌+◌, ◌-◌, ◌/◌, pos, Bool, false, List, [], ◌∷◌, Option, Some, None,
-    unwrap_or, codes, map, nat_le, ◌==◌, if◌then◌else◌}
+use Rattle.std.specs.Prelude.{ℕ, zero, suc, ◌+◌, ◌-◌, ◌/◌, pos, Bool, false, List, [], ◌∷◌, Option, Some, None}
+use Rattle.std.specs.Prelude.{unwrap_or, codes, map, nat_le, ◌==◌, if◌then◌else◌}
 use Rattle.std.specs.Option.{option_and_then}
 use Rattle.toml.specs.Data.{Data, Items, Members, integer, array, table, no_items, item, no_members, get_member}
 use Rattle.srm_net.specs.declared.role.Role.{Role}

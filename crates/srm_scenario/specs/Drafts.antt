@@ -8,8 +8,8 @@ use Rattle.srm_scenario.specs.declared.delays.Delays.{Delays}
 use Rattle.srm_scenario.specs.declared.topology.Topology.{Topology}
 use Rattle.srm_scenario.specs.Accepted.{AreConstants}
 use Rattle.srm_scenario.specs.Plain.{PlainScenario, drop_rules_of}
-use Rattle.srm_scenario.specs.Described.{number, constants_of, topology_of, delays_of, nodes_in, elements_at, link_of,
-    draw_of, session_of, listed_drops, outages_in, links_to_parents}
+use Rattle.srm_scenario.specs.Described.{number, constants_of, topology_of, delays_of, nodes_in, elements_at, link_of}
+use Rattle.srm_scenario.specs.Described.{draw_of, session_of, listed_drops, outages_in, links_to_parents}
 use Rattle.srm_scenario.specs.Faults.{key_faults, meaning_faults, is_star, entry_of}
 use Rattle.srm_scenario.specs.LookUps.{HasDegree, AreDelays}
 

@@ -1,6 +1,7 @@
 -- What is wrong with a table or a text that is to be a scenario, and the scenario where nothing is.
-use Rattle.std.specs.Prelude.{⊤, ◌≡◌, ◌⊎◌, ℕ, ◌+◌, Bool, true, false, not, ◌&&◌, ◌||◌, List, [], ◌∷◌, ◌++◌, Option,
-    Some, None, Result, Ok, Err, is_some, codes, length, slice_get, nat_le, nat_lt, ◌==◌, if◌then◌else◌}
+use Rattle.std.specs.Prelude.{⊤, ◌≡◌, ◌⊎◌, ℕ, ◌+◌, Bool, true, false, not, ◌&&◌, ◌||◌, List, [], ◌∷◌, ◌++◌, Option}
+use Rattle.std.specs.Prelude.{Some, None, Result, Ok, Err, is_some, codes, length, slice_get, nat_le, nat_lt, ◌==◌}
+use Rattle.std.specs.Prelude.{if◌then◌else◌}
 use Rattle.std.specs.List.{list_any}
 use Rattle.std.specs.Io.KnownBytes.{IsAtEnd}
 use Rattle.std.specs.Str.{is_utf8}
@@ -12,8 +13,9 @@ use Rattle.srm_net.specs.declared.link.OutageSpec.{OutageSpec}
 use Rattle.srm_scenario.specs.declared.fault.Part.{Part}
 use Rattle.srm_scenario.specs.declared.fault.Part.TheVariants as part
 use Rattle.srm_scenario.specs.declared.fault.ScenarioFault.{ScenarioFault}
-use Rattle.srm_scenario.specs.declared.fault.ScenarioFault.TheVariants.{NoMemory, ReadFault, TooLong, NotToml, BadKey,
-    NotTree, BadMember, BadDraw, BadSession, BadDrop, BadOutage}
+use Rattle.srm_scenario.specs.declared.fault.ScenarioFault.TheVariants.{NoMemory, ReadFault, TooLong, NotToml, BadKey}
+use Rattle.srm_scenario.specs.declared.fault.ScenarioFault.TheVariants.{NotTree, BadMember, BadDraw, BadSession}
+use Rattle.srm_scenario.specs.declared.fault.ScenarioFault.TheVariants.{BadDrop, BadOutage}
 use Rattle.srm_scenario.specs.declared.entry.MemberEntry.{MemberEntry}
 use Rattle.srm_scenario.specs.declared.parts.MemberSpec.{MemberSpec}
 use Rattle.srm_scenario.specs.declared.parts.DrawSpec.{DrawSpec}
@@ -22,11 +24,11 @@ use Rattle.srm_scenario.specs.declared.topology.Topology.{Topology}
 use Rattle.srm_scenario.specs.declared.topology.Topology.TheVariants.{Star}
 use Rattle.srm_scenario.specs.Plain.{PlainScenario, network_of}
 use Rattle.srm_scenario.specs.Trees.{is_tree}
-use Rattle.srm_scenario.specs.Rules.{Rule, top_rules, link_rules, member_rules, draw_rules, session_rules, drop_rules,
-    outage_rules, fits, fits_element}
+use Rattle.srm_scenario.specs.Rules.{Rule, top_rules, link_rules, member_rules, draw_rules, session_rules, drop_rules}
+use Rattle.srm_scenario.specs.Rules.{outage_rules, fits, fits_element}
 use Rattle.srm_scenario.specs.Presence.{is_present}
-use Rattle.srm_scenario.specs.Described.{version_of, member_of, says, array_at, table_of, elements_at, topology_of,
-    listed_drops, described_scenario}
+use Rattle.srm_scenario.specs.Described.{version_of, member_of, says, array_at, table_of, elements_at, topology_of}
+use Rattle.srm_scenario.specs.Described.{listed_drops, described_scenario}
 
 -- one fault for each element that fails a test, at its place, the first element being at place i
 abbrev pub faults_by : {A : Type 0} → (ℕ → ScenarioFault) → (A → Bool) → ℕ → List A → List ScenarioFault

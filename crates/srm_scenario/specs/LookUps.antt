@@ -9,10 +9,11 @@ use Rattle.srm_scenario.specs.declared.topology.Topology.{Topology}
 use Rattle.srm_scenario.specs.declared.topology.Topology.TheVariants.{Tree}
 use Rattle.srm_scenario.specs.declared.parts.Constants.{Constants}
 use Rattle.srm_scenario.specs.Accepted.{AreConstants}
-use Rattle.srm_scenario.specs.Rules.{Rule, rule, whole, elements, required, optional, is_met, is_whole, most_nodes,
-    index_rule, topology_rule, back_rule, outage_rule, degree_rule, number_rules, shape_rules, array_rules}
-use Rattle.srm_scenario.specs.Described.{number, optional_number, number_of, array_at, says, version_of, topology_of,
-    delays_of, constants_of, nodes_in}
+use Rattle.srm_scenario.specs.Rules.{Rule, rule, whole, elements, required, optional, is_met, is_whole, most_nodes}
+use Rattle.srm_scenario.specs.Rules.{index_rule, topology_rule, back_rule, outage_rule, degree_rule, number_rules}
+use Rattle.srm_scenario.specs.Rules.{shape_rules, array_rules}
+use Rattle.srm_scenario.specs.Described.{number, optional_number, number_of, array_at, says, version_of, topology_of}
+use Rattle.srm_scenario.specs.Described.{delays_of, constants_of, nodes_in}
 
 -- the value is this whole number, from low to high
 pub record IsNumber (low high : ℕ) (d : Data) (n : ℕ) : Type 0 where
@@ -125,12 +126,12 @@ pub record HasShape (version : Version) (ms : Members) (t : Option Topology) (no
 
 -- the table's other arrays, as they must be in a version
 pub record HasArrays (version : Version) (ms : Members) (members draws sessions drops outages : List Data) : Type 0
-    where
-  pub met : list_all (is_met ms) (array_rules version) ≡ true
-  pub members_are : members ≡ array_at (codes "member") ms
-  pub draws_are : draws ≡ array_at (codes "draw") ms
-  pub sessions_are : sessions ≡ array_at (codes "session") ms
-  pub few_draws : length draws ≤ 4096
-  pub few_sessions : length sessions ≤ 4096
-  pub drops_are : drops ≡ array_at (codes "drop") ms
-  pub outages_are : outages ≡ array_at (codes "outage") ms
+  where
+    pub met : list_all (is_met ms) (array_rules version) ≡ true
+    pub members_are : members ≡ array_at (codes "member") ms
+    pub draws_are : draws ≡ array_at (codes "draw") ms
+    pub sessions_are : sessions ≡ array_at (codes "session") ms
+    pub few_draws : length draws ≤ 4096
+    pub few_sessions : length sessions ≤ 4096
+    pub drops_are : drops ≡ array_at (codes "drop") ms
+    pub outages_are : outages ≡ array_at (codes "outage") ms

@@ -1,12 +1,12 @@
 -- The keys of a scenario file: what each may hold, and whether it must be there, in each version of the format.
-use Rattle.std.specs.Prelude.{ℕ, suc, ◌-◌, ◌^◌, pos, Bool, true, false, ◌&&◌, List, [], ◌∷◌, ◌++◌, Option, Some, None,
-    codes, map, nat_le, if◌then◌else◌}
+use Rattle.std.specs.Prelude.{ℕ, suc, ◌-◌, ◌^◌, pos, Bool, true, false, ◌&&◌, List, [], ◌∷◌, ◌++◌, Option, Some, None}
+use Rattle.std.specs.Prelude.{codes, map, nat_le, if◌then◌else◌}
 use Rattle.std.specs.List.{list_any, list_all}
 use Rattle.std.specs.Str.{bytes_eq}
 use Rattle.srm_scenario.specs.declared.version.Version.{Version}
 use Rattle.srm_scenario.specs.declared.version.Version.TheVariants.{One, Two}
-use Rattle.toml.specs.Data.{Data, Items, Members, integer, string, array, table, no_items, item, no_members, member,
-    get_member}
+use Rattle.toml.specs.Data.{Data, Items, Members, integer, string, array, table, no_items, item, no_members, member}
+use Rattle.toml.specs.Data.{get_member}
 
 -- what a key may hold
 pub data Kind : Type 0 where

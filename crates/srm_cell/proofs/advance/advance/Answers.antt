@@ -19,17 +19,24 @@ pub crossings_of-requires-clause-senders : goal.crossings_of-requires-clause-sen
 crossings_of-requires-clause-senders g c =
     let k = c.requires in
     let ran = c.in-Ok.ensures k.plain_job.cells k.is.cells in
-    let below = rows_below (λ b. (goal.Member-dyn g (b.vtable, b.value)).plain b.value) c.args.job.till (length c.args.net.now.hosts) k.plain_job.cells c.in-Ok.ran.1.items c.in-Ok.ran.0.items (let same = k.is.till in let le = k.till in omega arith) k.of_members ran in
-    subst (λ (ls : List (List Row)). All (λ rs. All (λ r. IsSentBelow (length c.args.net.now.hosts) r.sent) rs) ls) (sym c.as_slice.ensures.value) below
+    let below = rows_below (λ b. (goal.Member-dyn g (b.vtable, b.value)).plain b.value) c.args.job.till (length c.args.net.now.hosts)
+    k.plain_job.cells c.in-Ok.ran.1.items c.in-Ok.ran.0.items (let same = k.is.till in let le = k.till in omega arith) k.of_members ran
+    in
+    subst (λ (ls : List (List Row)). All (λ rs. All (λ r. IsSentBelow (length c.args.net.now.hosts) r.sent) rs) ls)
+    (sym c.as_slice.ensures.value) below
 
 pub crossings_of-requires-clause-few : goal.crossings_of-requires-clause-few
 crossings_of-requires-clause-few g c =
     let k = c.requires in
     let ran = c.in-Ok.ensures k.plain_job.cells k.is.cells in
-    let few = rows_few (λ b. (goal.Member-dyn g (b.vtable, b.value)).plain b.value) c.args.job.till k.plain_job.cells c.in-Ok.ran.1.items c.in-Ok.ran.0.items ran in
-    let after = as_many (λ b. (goal.Member-dyn g (b.vtable, b.value)).plain b.value) c.args.job.till k.plain_job.cells c.in-Ok.ran.1.items c.in-Ok.ran.0.items ran in
-    let before = as_many_seen (λ b. (goal.Member-dyn g (b.vtable, b.value)).plain b.value) c.args.job.cells.items k.plain_job.cells k.is.cells in
-    let same : length (packets_of (joined c.as_slice.result.now)) ≡ length (packets_of (joined c.in-Ok.ran.1.items)) = ap (λ (ls : List (List Row)). length (packets_of (joined ls))) c.as_slice.ensures.value in
+    let few = rows_few (λ b. (goal.Member-dyn g (b.vtable, b.value)).plain b.value) c.args.job.till k.plain_job.cells c.in-Ok.ran.1.items
+    c.in-Ok.ran.0.items ran in
+    let after = as_many (λ b. (goal.Member-dyn g (b.vtable, b.value)).plain b.value) c.args.job.till k.plain_job.cells c.in-Ok.ran.1.items
+    c.in-Ok.ran.0.items ran in
+    let before = as_many_seen (λ b. (goal.Member-dyn g (b.vtable, b.value)).plain b.value) c.args.job.cells.items k.plain_job.cells
+    k.is.cells in
+    let same : length (packets_of (joined c.as_slice.result.now)) ≡ length (packets_of (joined c.in-Ok.ran.1.items)) =
+    ap (λ (ls : List (List Row)). length (packets_of (joined ls))) c.as_slice.ensures.value in
     let most = k.few in
     omega (arith, few, after, before, same, most)
 
@@ -37,15 +44,20 @@ pub returns : goal.returns
 returns g c = record {
   tells = λ p h. record {
     place = h.place;
-    runs = subst (λ t. RanEach (λ b. (goal.Member-dyn g (b.vtable, b.value)).plain b.value) t p.cells c.in-Ok.ran.1.items c.in-Ok.ran.0.items) h.till (c.in-Ok.ensures p.cells h.cells);
-    crossings_are = c.in-Ok-crossings_of.ensures.counted ∙ ap (λ (ls : List (List Row)). crossings (traffic_of c.args.scenario.now c.args.net.now) (joined ls)) c.as_slice.ensures.value;
+    runs = subst (λ t. RanEach (λ b. (goal.Member-dyn g (b.vtable, b.value)).plain b.value) t p.cells c.in-Ok.ran.1.items
+        c.in-Ok.ran.0.items) h.till (c.in-Ok.ensures p.cells h.cells);
+    crossings_are = c.in-Ok-crossings_of.ensures.counted ∙
+        ap (λ (ls : List (List Row)). crossings (traffic_of c.args.scenario.now c.args.net.now) (joined ls)) c.as_slice.ensures.value;
   };
 }
 
 pub returns-in_default : goal.returns-in_default
 returns-in_default g c = record {
   tells = λ p h.
-      let ran = subst (λ t. RanEach (λ b. (goal.Member-dyn g (b.vtable, b.value)).plain b.value) t p.cells c.in-Ok.ran.1.items c.in-Ok.ran.0.items) h.till (c.in-Ok.ensures p.cells h.cells) in
-      let some = subst (λ (ls : List (List Row)). 0 < length (packets_of (joined ls))) c.as_slice.ensures.value c.in_default.ensures.asked in
-      each_asks (λ b. (goal.Member-dyn g (b.vtable, b.value)).plain b.value) p.till p.cells c.in-Ok.ran.1.items c.in-Ok.ran.0.items ran (some_list c.in-Ok.ran.1.items some);
+      let ran = subst (λ t. RanEach (λ b. (goal.Member-dyn g (b.vtable, b.value)).plain b.value) t p.cells c.in-Ok.ran.1.items
+      c.in-Ok.ran.0.items) h.till (c.in-Ok.ensures p.cells h.cells) in
+      let some = subst (λ (ls : List (List Row)). 0 < length (packets_of (joined ls))) c.as_slice.ensures.value c.in_default.ensures.asked
+      in
+      each_asks (λ b. (goal.Member-dyn g (b.vtable, b.value)).plain b.value) p.till p.cells c.in-Ok.ran.1.items c.in-Ok.ran.0.items ran
+      (some_list c.in-Ok.ran.1.items some);
 }

@@ -9,4 +9,5 @@ invariant-loop-cell g l =
     (goal.iterator-loop-cell g).can_next l.cell-iterator
     × (goal.iterator-loop-cell g).is_finite l.cell-iterator
     × ((qs : List OwnCell) → AreCells (λ b. (goal.Member-dyn g (b.vtable, b.value)).plain b.value) l.fn.waiting.items qs
-    → SoFar (λ b. (goal.Member-dyn g (b.vtable, b.value)).plain b.value) l.till qs l.rows.items l.cells.items (into_iter_items l.cell-iterator))
+    → SoFar (λ b. (goal.Member-dyn g (b.vtable, b.value)).plain b.value) l.till qs l.rows.items l.cells.items
+    (into_iter_items l.cell-iterator))

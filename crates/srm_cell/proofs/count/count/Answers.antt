@@ -53,11 +53,15 @@ loop-link-preserved c = λ k spread ps h.
     let s = traffic_of k c.args.net.now in
     let is = c.loop-link.invariant k spread ps h in
     let p = c.args.packet.now in
-    let crossing : is_crossing c.fate_in-fate.result ≡ s.crosses p c.loop-link.link = c.fate_in-fate.ensures.crosses k.drops p.id p.sent spread in
-    let dropping : is_dropping c.fate_in-fate.result ≡ s.drops_at p c.loop-link.link = c.fate_in-fate.ensures.dropped k.drops p.id p.sent spread in
+    let crossing : is_crossing c.fate_in-fate.result ≡ s.crosses p c.loop-link.link =
+    c.fate_in-fate.ensures.crosses k.drops p.id p.sent spread in
+    let dropping : is_dropping c.fate_in-fate.result ≡ s.drops_at p c.loop-link.link =
+    c.fate_in-fate.ensures.dropped k.drops p.id p.sent spread in
     c.count_at.ensures
-    ∙ (λ i. bump (dropping i) (5 * c.loop-link.link + 4) (bump (crossing i) (5 * c.loop-link.link + place_of (c.kind_of-kind.ensures i)) (is i)))
-    ∙ counted_at s ps c.args.packet.now c.loop-link.link (let many : length c.links.result.now ≡ length c.args.net.now.links = ap length c.links.ensures.links in let lt = c.loop-link-test.true in omega arith)
+    ∙ (λ i. bump (dropping i) (5 * c.loop-link.link + 4)
+    (bump (crossing i) (5 * c.loop-link.link + place_of (c.kind_of-kind.ensures i)) (is i)))
+    ∙ counted_at s ps c.args.packet.now c.loop-link.link (let many : length c.links.result.now ≡ length c.args.net.now.links =
+    ap length c.links.ensures.links in let lt = c.loop-link-test.true in omega arith)
 
 pub returns : goal.returns
 returns c = λ k spread ps h.

@@ -7,7 +7,7 @@ pub add_each-requires-clause-long : goal.add_each-requires-clause-long
 add_each-requires-clause-long g c =
     let k = c.requires.known in
     rw c.as_slice.ensures.value (all_long (λ b. (goal.Member-dyn g (b.vtable, b.value)).plain b.value) k.0 c.args.ledger.now.links k.1
-        c.in-Ok.all.items k.2 (subst (TellsEach (λ b. (goal.Member-dyn g (b.vtable, b.value)).plain b.value) k.0 k.1) c.in-Ok.is k.3))
+    c.in-Ok.all.items k.2 (subst (TellsEach (λ b. (goal.Member-dyn g (b.vtable, b.value)).plain b.value) k.0 k.1) c.in-Ok.is k.3))
 
 pub returns-in-Ok-add_each : goal.returns-in-Ok-add_each
 returns-in-Ok-add_each g c = λ s ps links h.
@@ -28,6 +28,9 @@ returns-in-Err g c = λ s ps links h.
     let past = rw c.as_slice.ensures.value at c.in-Err.ensures in (
       rows_of c.in-Ok.all.items,
       rows_of_all (λ b. (goal.Member-dyn g (b.vtable, b.value)).plain b.value) s ps c.in-Ok.all.items all,
-      (past.0, subst (λ n. 2 ^ 47 < slice_index c.args.seat.shares past.0 + n)
-          (sum_is (λ b. (goal.Member-dyn g (b.vtable, b.value)).plain b.value) s ps c.in-Ok.all.items all past.0) past.1),
+      (
+        past.0,
+        subst (λ n. 2 ^ 47 < slice_index c.args.seat.shares past.0 + n)
+            (sum_is (λ b. (goal.Member-dyn g (b.vtable, b.value)).plain b.value) s ps c.in-Ok.all.items all past.0) past.1,
+      ),
     )

@@ -32,12 +32,12 @@ loop-job-preserved g c = (
       let s = traffic_of c.args.scenario.now c.args.net.now in
       let so = c.loop-job.invariant.3 ps h in
       let r = first_of (λ b. (goal.Member-dyn g (b.vtable, b.value)).plain b.value) c.in-Some.job (into_iter_items c.next.new.self) so.rest
-          (rw c.in-Some.ensures.steps.0 at so.seen) in
+      (rw c.in-Some.ensures.steps.0 at so.seen) in
       let all = pushed_if c.push.result (c.loop-job.all.items ++ c.in-Ok.done ∷ []) c.loop-job.all.items c.push.new.self.items
-          (sym c.is_err.ensures.value ∙ c.if-is_err.false) c.push.ensures.items in
+      (sym c.is_err.ensures.value ∙ c.if-is_err.false) c.push.ensures.items in
       rw all (so_far_more (λ b. (goal.Member-dyn g (b.vtable, b.value)).plain b.value) s ps c.loop-job.all.items
-          (into_iter_items c.loop-job.job-iterator) (into_iter_items c.next.new.self) c.in-Some.job c.in-Ok.done so r
-          (c.in-Ok.ensures.tells r.own r.job)),
+      (into_iter_items c.loop-job.job-iterator) (into_iter_items c.next.new.self) c.in-Some.job c.in-Ok.done so r
+      (c.in-Ok.ensures.tells r.own r.job)),
 )
 
 pub returns-in-Err : goal.returns-in-Err
@@ -46,10 +46,10 @@ returns-in-Err g c = record {
       let s = traffic_of c.args.scenario.now c.args.net.now in
       let so = c.loop-job.invariant.3 ps h in
       let r = first_of (λ b. (goal.Member-dyn g (b.vtable, b.value)).plain b.value) c.in-Some.job (into_iter_items c.next.new.self) so.rest
-          (rw c.in-Some.ensures.steps.0 at so.seen) in
+      (rw c.in-Some.ensures.steps.0 at so.seen) in
       so_far_fault (λ b. (goal.Member-dyn g (b.vtable, b.value)).plain b.value) s ps c.loop-job.all.items
-          (into_iter_items c.loop-job.job-iterator) (into_iter_items c.next.new.self) c.in-Some.job c.in-Err.fault so r
-          (c.in-Err.ensures.tells r.own r.job);
+      (into_iter_items c.loop-job.job-iterator) (into_iter_items c.next.new.self) c.in-Some.job c.in-Err.fault so r
+      (c.in-Err.ensures.tells r.own r.job);
 }
 
 pub returns-then-is_err : goal.returns-then-is_err
@@ -62,5 +62,5 @@ returns g c = record {
       let ok = c.loop-job.job-iterator.rest.ok in
       let none : into_iter_items c.loop-job.job-iterator ≡ [] = grind (arith, common_steps) in
       so_far_all (λ b. (goal.Member-dyn g (b.vtable, b.value)).plain b.value) s ps c.loop-job.all.items
-          (into_iter_items c.loop-job.job-iterator) (c.loop-job.invariant.3 ps h) none;
+      (into_iter_items c.loop-job.job-iterator) (c.loop-job.invariant.3 ps h) none;
 }

@@ -11,7 +11,7 @@ invariant-loop-job g l =
     (goal.iterator-loop-job g).can_next l.job-iterator
     × (goal.iterator-loop-job g).is_finite l.job-iterator
     × All (λ j. MayAdvance (λ b. (goal.Member-dyn g (b.vtable, b.value)).plain b.value) (length l.net.hosts) j)
-        (into_iter_items l.job-iterator)
+    (into_iter_items l.job-iterator)
     × ((ps : List PlainJob) → AreJobs (λ b. (goal.Member-dyn g (b.vtable, b.value)).plain b.value) l.fn.jobs.items ps
     → SoFar (λ b. (goal.Member-dyn g (b.vtable, b.value)).plain b.value) (traffic_of l.scenario l.net) ps l.all.items
-        (into_iter_items l.job-iterator))
+    (into_iter_items l.job-iterator))

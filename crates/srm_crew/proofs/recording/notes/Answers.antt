@@ -8,8 +8,8 @@ pub loop-job-preserved : goal.loop-job-preserved
 loop-job-preserved g c =
     let many : c.len.result ≡ length c.job-item.result.cells.items = search rules in
     c.in_ok-push.ensures.ok ∙ ap (λ n. c.loop-job.all ++ record
-        { place = c.job-item.result.place; till = c.job-item.result.till; cells = n } ∷ []) many
-        ∙ ap (λ (ns : List Note). ns ++ own_note c.job-item.result ∷ []) c.loop-job.invariant
+    { place = c.job-item.result.place; till = c.job-item.result.till; cells = n } ∷ []) many
+    ∙ ap (λ (ns : List Note). ns ++ own_note c.job-item.result ∷ []) c.loop-job.invariant
     ∙ notes_more c.args.jobs.now c.loop-job.job-index c.job-item.result c.loop-job-test.true c.job-item.is
 
 pub returns : goal.returns

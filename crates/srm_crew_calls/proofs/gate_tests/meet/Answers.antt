@@ -11,5 +11,5 @@ map_with_gate-requires-clause-many g c κs within = c.in_ok-jobs.ensures.few
 pub returns : goal.returns
 returns g c =
     same_ledger _ (length c.args.net.now.hosts) c.args.scenario.now c.args.net.now c.args.seat _ c.in-Ok.mapped c.in_ok-jobs.ensures
-        c.in-Ok.ensures
+    c.in-Ok.ensures
     ∙ c.requires.seat

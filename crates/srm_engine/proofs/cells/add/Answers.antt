@@ -17,10 +17,10 @@ returns g c = λ net seed e h.
     let num : c.len-number.result ≡ k = c.len-number.ensures ∙ c.args.cells.now.ok.0 in
     let marks = c.in-Ok.ensures.script ∙ ap (script_of c.args.scenario.now) num in
     let is = opened_cell (λ b. (goal.Member-dyn g (b.vtable, b.value)).plain b.value) c.args.scenario.now net seed k c.new.result _
-        c.in-Ok.script.items e marks c.new.ensures in
+    c.in-Ok.script.items e marks c.new.ensures in
     let here = subst (λ m. IsCell (λ b. (goal.Member-dyn g (b.vtable, b.value)).plain b.value) m c.new.result q)
-        (sym (length_opening s k 0)) is in
+    (sym (length_opening s k 0)) is in
     subst (λ (qs : List PlainCell). AreCells (λ b. (goal.Member-dyn g (b.vtable, b.value)).plain b.value) c.push.new.self.items qs)
-        (sym (next_opening s k))
+    (sym (next_opening s k))
     (subst (λ cs. AreCells (λ b. (goal.Member-dyn g (b.vtable, b.value)).plain b.value) cs (ps ++ q ∷ [])) (sym c.in_ok-push.ensures.items)
     (more_cells (λ b. (goal.Member-dyn g (b.vtable, b.value)).plain b.value) c.args.cells.now.items ps c.new.result q h here))

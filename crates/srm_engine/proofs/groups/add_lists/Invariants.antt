@@ -10,4 +10,4 @@ invariant-loop-own l =
     goal.iterator-loop-own.can_next l.own-iterator
     × goal.iterator-loop-own.is_finite l.own-iterator
     × (map (λ (v : Vec Row). v.items) l.lists.items ++ some_of (into_iter_items l.own-iterator)
-        ≡ map (λ (v : Vec Row). v.items) l.fn.lists.items ++ some_of l.fn.rows.items)
+    ≡ map (λ (v : Vec Row). v.items) l.fn.lists.items ++ some_of l.fn.rows.items)

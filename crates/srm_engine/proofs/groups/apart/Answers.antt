@@ -20,7 +20,7 @@ loop-done-preserved-in_ok-add_lists g c =
       ap (λ l. l ++ some_of (lists_of more)) c.in_ok-add_lists.ensures ∙
           append_assoc ls (some_of c.in-Some.done.rows.items) (some_of (lists_of more))
           ∙ ap (λ l. ls ++ l) (sym (some_of_append c.in-Some.done.rows.items (lists_of more)))
-              ∙ ap (λ ds. ls ++ some_of (lists_of ds)) (sym steps) ∙ i.3,
+          ∙ ap (λ ds. ls ++ some_of (lists_of ds)) (sym steps) ∙ i.3,
     )
 
 pub loop-done-preserved : goal.loop-done-preserved
@@ -37,5 +37,5 @@ loop-done-preserved g c =
       ap (λ l. l ++ some_of (lists_of more)) c.in_ok-add_lists.ensures ∙
           append_assoc ls (some_of c.in-Some.done.rows.items) (some_of (lists_of more))
           ∙ ap (λ l. ls ++ l) (sym (some_of_append c.in-Some.done.rows.items (lists_of more)))
-              ∙ ap (λ ds. ls ++ some_of (lists_of ds)) (sym steps) ∙ i.3,
+          ∙ ap (λ ds. ls ++ some_of (lists_of ds)) (sym steps) ∙ i.3,
     )

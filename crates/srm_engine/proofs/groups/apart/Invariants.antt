@@ -11,4 +11,4 @@ invariant-loop-done g l =
     × (goal.iterator-loop-done g).is_finite l.done-iterator
     × (l.groups.items ++ groups_of (into_iter_items l.done-iterator) ≡ groups_of l.fn.all.items)
     × (map (λ (v : Vec Row). v.items) l.lists.items ++ some_of (lists_of (into_iter_items l.done-iterator))
-        ≡ some_of (lists_of l.fn.all.items))
+    ≡ some_of (lists_of l.fn.all.items))

@@ -52,7 +52,7 @@ returns-clause-same g c =
     let ok = c.loop-cell.cell-iterator.rest.ok in
     let none : into_iter_items c.loop-cell.cell-iterator ≡ [] = grind (arith, common_steps) in
     let whole : all_in gs ++ own ≡ c.args.cells.items = sym (append-nil (all_in gs ++ own)) ∙ ap (λ l. (all_in gs ++ own) ++ l) (sym none)
-        ∙ i.2 in
+    ∙ i.2 in
     elim c.if-not-is_empty.branch [
       | then-not-is_empty+in_ok-push-3 w ↦ rw w.groups-is (ap all_in w.in_ok-push-3.ensures.items
           ∙ all_in_append gs (c.loop-cell.group ∷ []) ∙ ap (λ l. all_in gs ++ l) (append-nil own) ∙ whole)
@@ -75,6 +75,6 @@ returns-clause-cuts g c =
           let was = w.if-not-is_empty.true in
           let some : 0 < length c.loop-cell.group.items = grind (arith, nat_tests) in
           rw w.groups-is (sizes_last c.args.cut gs w.push-then-not-is_empty.new.self.items c.loop-cell.group w.in_ok-push-3.ensures.items
-              some i.4 i.3)
+          some i.4 i.3)
       | else-not-is_empty w ↦ rw w.groups-is (full_cuts c.args.cut (sizes gs) c.requires i.3)
     ]

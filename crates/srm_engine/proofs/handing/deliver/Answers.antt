@@ -14,7 +14,7 @@ loop-member-init g c = (
   refl,
   λ seed ps h.
       subst (λ (qs : List PlainCell). AreKept (λ b. (goal.Member-dyn g (b.vtable, b.value)).plain b.value)
-          (setting_of c.args.scenario.now c.args.net.now seed) c.args.cut c.args.cells.now qs)
+      (setting_of c.args.scenario.now c.args.net.now seed) c.args.cut c.args.cells.now qs)
       (sym (none_heard (traffic_of c.args.scenario.now c.args.net.now) c.args.packet.now 0 0 ps (le_refl 0))) h,
 )
 
@@ -58,10 +58,10 @@ loop-member-preserved g c =
             let q = there ps m within in
             let heard = heard_below t p m 0 ps in
             subst (λ (qs : List PlainCell). AreKept (λ b. (goal.Member-dyn g (b.vtable, b.value)).plain b.value)
-                (setting_of c.args.scenario.now c.args.net.now seed) c.args.cut w.hand.new.cells qs)
+            (setting_of c.args.scenario.now c.args.net.now seed) c.args.cut w.hand.new.cells qs)
             (ap (slice_set heard m) (sym (hears_at t p m w.in-Some.at q.0 (flight ∙ w.in-Some.is))) ∙ heard_next t p m ps q.0 q.1)
             (w.in_ok-hand.ensures.heard (setting_of c.args.scenario.now c.args.net.now seed) (w.way-way.ensures seed) heard q.0
-                (i seed ps h) (get_next t p m ps ∙ q.1)),
+            (i seed ps h) (get_next t p m ps ∙ q.1)),
       )
       | in_default w ↦ rw w.cells-is (
         c.loop-member.invariant.0,
@@ -72,9 +72,9 @@ loop-member-preserved g c =
             let q = there ps m within in
             let heard = heard_below t p m 0 ps in
             subst (λ (qs : List PlainCell). AreKept (λ b. (goal.Member-dyn g (b.vtable, b.value)).plain b.value)
-                (setting_of c.args.scenario.now c.args.net.now seed) c.args.cut c.loop-member.cells qs)
+            (setting_of c.args.scenario.now c.args.net.now seed) c.args.cut c.loop-member.cells qs)
             (sym (set_same heard m q.0 (get_next t p m ps ∙ q.1)) ∙ ap (slice_set heard m)
-                (sym (hears_not t p m q.0 (flight ∙ w.in_default.is))) ∙ heard_next t p m ps q.0 q.1)
+            (sym (hears_not t p m q.0 (flight ∙ w.in_default.is))) ∙ heard_next t p m ps q.0 q.1)
             (i seed ps h),
       )
     ]
@@ -86,8 +86,8 @@ returns-clause-heard g c = λ seed ps h.
     let members = c.requires.may.1.many in
     let all : c.loop-member.member ≡ length ps = omega arith in
     subst (λ n. AreKept (λ b. (goal.Member-dyn g (b.vtable, b.value)).plain b.value) (setting_of c.args.scenario.now c.args.net.now seed)
-        c.args.cut c.loop-member.cells (heard_below (traffic_of c.args.scenario.now c.args.net.now) c.args.packet.now n 0 ps)) all
-        (c.loop-member.invariant.1 seed ps h)
+    c.args.cut c.loop-member.cells (heard_below (traffic_of c.args.scenario.now c.args.net.now) c.args.packet.now n 0 ps)) all
+    (c.loop-member.invariant.1 seed ps h)
 
 pub hand-requires-clause-soon : goal.hand-requires-clause-soon
 hand-requires-clause-soon g c =

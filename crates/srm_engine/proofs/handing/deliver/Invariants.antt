@@ -9,6 +9,6 @@ abbrev pub invariant-loop-member : goal.invariant-loop-member
 invariant-loop-member g l =
     (l.cells.seat ≡ l.fn.cells.seat)
     × ((seed : ℕ) (ps : List PlainCell) → AreKept (λ b. (goal.Member-dyn g (b.vtable, b.value)).plain b.value)
-        (setting_of l.scenario l.net seed) l.cut l.fn.cells ps
+    (setting_of l.scenario l.net seed) l.cut l.fn.cells ps
     → AreKept (λ b. (goal.Member-dyn g (b.vtable, b.value)).plain b.value)
-        (setting_of l.scenario l.net seed) l.cut l.cells (heard_below (traffic_of l.scenario l.net) l.packet l.member 0 ps))
+    (setting_of l.scenario l.net seed) l.cut l.cells (heard_below (traffic_of l.scenario l.net) l.packet l.member 0 ps))

@@ -14,33 +14,33 @@ use Rattle.srm_engine.proofs.handing.hand.Goals as goal
 pub index_mut-group-requires : goal.index_mut-group-requires
 index_mut-group-requires g c =
     let lt = (at_place c.args.cut c.args.cells.now.groups.items c.args.member c.from-place.result c.requires.cut c.requires.cuts
-        c.from-place.ensures c.requires.place).group in
+    c.from-place.ensures c.requires.place).group in
     subst (λ n. c.from-place.result / c.args.cut < n) (sym c.args.cells.now.groups.ok.0) lt
 
 pub index_mut-cell-requires : goal.index_mut-cell-requires
 index_mut-cell-requires g c =
     let a = at_place c.args.cut c.args.cells.now.groups.items c.args.member c.from-place.result c.requires.cut c.requires.cuts
-        c.from-place.ensures c.requires.place in
+    c.from-place.ensures c.requires.place in
     let d = c.index_mut-group.result.now in
     let lt : c.from-place.result % c.args.cut < length d.items = subst (λ v. c.from-place.result % c.args.cut < length v.items)
-        (sym c.index_mut-group.ensures.value) (a.place d) in
+    (sym c.index_mut-group.ensures.value) (a.place d) in
     subst (λ n. c.from-place.result % c.args.cut < n) (sym d.ok.0) lt
 
 pub accept-requires : goal.accept-requires
 accept-requires g c =
     let a = at_place c.args.cut c.args.cells.now.groups.items c.args.member c.from-place.result c.requires.cut c.requires.cuts
-        c.from-place.ensures c.requires.place in
+    c.from-place.ensures c.requires.place in
     let d = c.index_mut-group.result.now in
     let i = c.from-place.result % c.args.cut in
     let within : i < length d.items = subst (λ v. i < length v.items) (sym c.index_mut-group.ensures.value) (a.place d) in
     c.requires.new c.index_mut-cell.result.now
     (a.get d ∙ ap (λ v. slice_get v.items i) (sym c.index_mut-group.ensures.value)
-        ∙ slice_get-get_or d.items i c.index_mut-cell.result.now within ∙ ap Some (sym c.index_mut-cell.ensures.value))
+    ∙ slice_get-get_or d.items i c.index_mut-cell.result.now within ∙ ap Some (sym c.index_mut-cell.ensures.value))
 
 pub returns-clause-heard : goal.returns-clause-heard
 returns-clause-heard g c = λ s way ps q h k.
     let a = at_place c.args.cut c.args.cells.now.groups.items c.args.member c.from-place.result c.requires.cut c.requires.cuts
-        c.from-place.ensures c.requires.place in
+    c.from-place.ensures c.requires.place in
     let gs = c.args.cells.now.groups.items in
     let d = c.index_mut-group.result.now in
     let x = c.accept.new.self in
@@ -48,26 +48,26 @@ returns-clause-heard g c = λ s way ps q h k.
     let within : i < length d.items = subst (λ v. i < length v.items) (sym c.index_mut-group.ensures.value) (a.place d) in
     let at : slice_get (all_in gs) c.args.member ≡ Some c.index_mut-cell.result.now =
     a.get d ∙ ap (λ v. slice_get v.items i) (sym c.index_mut-group.ensures.value)
-        ∙ slice_get-get_or d.items i c.index_mut-cell.result.now within ∙ ap Some (sym c.index_mut-cell.ensures.value) in
+    ∙ slice_get-get_or d.items i c.index_mut-cell.result.now within ∙ ap Some (sym c.index_mut-cell.ensures.value) in
     let is = h.grouped.cells.each c.args.member c.index_mut-cell.result.now q at k in
     let now = c.in-Ok.ensures.ok c.args.member q is in
     let new = with_item d i x in
     let same : new.items ≡ slice_set (get_or gs (c.from-place.result / c.args.cut) d).items i x =
-        ap (λ v. slice_set v.items i x) c.index_mut-group.ensures.value in
+    ap (λ v. slice_set v.items i x) c.index_mut-group.ensures.value in
     let long : length new.items ≡ length (get_or gs (c.from-place.result / c.args.cut) d).items = length-set d.items i x
-        ∙ ap (λ v. length v.items) c.index_mut-group.ensures.value in
+    ∙ ap (λ v. length v.items) c.index_mut-group.ensures.value in
     let l = c.args.cells.now.soon.items in
     let n = c.from-place.result / c.args.cut in
     let kept : slice_get l n ≡ Some c.index_mut-soonest.result.now =
     slice_get-get_or l n c.index_mut-soonest.result.now (subst (λ m. m / c.args.cut < length l) (sym c.from-place.ensures) c.requires.soon)
-        ∙ ap Some (sym c.index_mut-soonest.ensures.value) in
+    ∙ ap Some (sym c.index_mut-soonest.ensures.value) in
     let r = hear_at c.args.packet.now (Some c.args.at) q in
     record {
       grouped = record {
         cells = subst (λ l. AreCells (λ b. (goal.Member-dyn g (b.vtable, b.value)).plain b.value) l (slice_set ps c.args.member r))
             (sym (a.set d new x same))
             (set_cells (λ b. (goal.Member-dyn g (b.vtable, b.value)).plain b.value) (all_in gs) ps c.args.member x r h.grouped.cells
-                c.requires.place now);
+            c.requires.place now);
         cuts = subst (AreCuts c.args.cut) (sym (a.size d new long)) h.grouped.cuts;
       };
       soon = soonest_heard s c.args.cut n l ps c.index_mut-soonest.result.now c.with.result c.args.member q r c.next_time-next.result

@@ -15,7 +15,7 @@ loop-row-init g c = (
   refl,
   λ seed ps h.
       subst (λ (qs : List PlainCell). AreKept (λ b. (goal.Member-dyn g (b.vtable, b.value)).plain b.value)
-          (setting_of c.args.scenario.now c.args.net.now seed) c.args.cut c.args.cells.now qs)
+      (setting_of c.args.scenario.now c.args.net.now seed) c.args.cut c.args.cells.now qs)
       (sym (packets_are_heard_in_turn (setting_of c.args.scenario.now c.args.net.now 0) ps).0) h,
 )
 
@@ -27,7 +27,7 @@ deliver-requires-clause-may g c =
     let i = c.loop-row.row-index in
     let split : c.args.rows.now ≡ done ++ c.row-item.result ∷ drop (suc i) c.args.rows.now =
     split_at c.args.rows.now i c.row-item.result c.loop-row-test.true ∙
-        ap (λ r. done ++ r ∷ drop (suc i) c.args.rows.now) (sym c.row-item.is) in
+    ap (λ r. done ++ r ∷ drop (suc i) c.args.rows.now) (sym c.row-item.is) in
     let new = n.3 done (drop (suc i) c.args.rows.now) c.row-item.result c.in-Some.packet split c.in-Some.is in
     let small = c.requires.until in
     let early = new.2 in (
@@ -50,16 +50,16 @@ loop-row-preserved g c =
     let i = c.loop-row.row-index in
     let more : take (i + 1) c.args.rows.now ≡ done ++ c.row-item.result ∷ [] =
     ap (λ k. take k c.args.rows.now) (add-one i) ∙ take-suc c.args.rows.now i c.row-item.result c.loop-row-test.true
-        ∙ ap (λ r. done ++ r ∷ []) (sym c.row-item.is) in
+    ∙ ap (λ r. done ++ r ∷ []) (sym c.row-item.is) in
     elim c.match-row.branch [
       | in-Some+in_ok-deliver w ↦ rw w.cells-is (
         w.in_ok-deliver.ensures.seat ∙ c.loop-row.invariant.0,
         λ seed ps h.
             let cs = each_hears t 0 done ps in
             subst (λ (qs : List PlainCell). AreKept (λ b. (goal.Member-dyn g (b.vtable, b.value)).plain b.value)
-                (setting_of c.args.scenario.now c.args.net.now seed) c.args.cut w.deliver.new.cells qs)
+            (setting_of c.args.scenario.now c.args.net.now seed) c.args.cut w.deliver.new.cells qs)
             (ap (λ o. all_hear t o cs) (sym w.in-Some.is) ∙ sym ((packets_are_heard_in_turn s ps).1 done c.row-item.result)
-                ∙ ap (λ rs. each_hears t 0 rs ps) (sym more))
+            ∙ ap (λ rs. each_hears t 0 rs ps) (sym more))
             (w.in_ok-deliver.ensures.heard seed cs (c.loop-row.invariant.1 seed ps h)),
       )
       | in_default w ↦ rw w.cells-is (
@@ -67,9 +67,9 @@ loop-row-preserved g c =
         λ seed ps h.
             let cs = each_hears t 0 done ps in
             subst (λ (qs : List PlainCell). AreKept (λ b. (goal.Member-dyn g (b.vtable, b.value)).plain b.value)
-                (setting_of c.args.scenario.now c.args.net.now seed) c.args.cut c.loop-row.cells qs)
+            (setting_of c.args.scenario.now c.args.net.now seed) c.args.cut c.loop-row.cells qs)
             (ap (λ o. all_hear t o cs) (sym w.in_default.is) ∙ sym ((packets_are_heard_in_turn s ps).1 done c.row-item.result)
-                ∙ ap (λ rs. each_hears t 0 rs ps) (sym more))
+            ∙ ap (λ rs. each_hears t 0 rs ps) (sym more))
             (c.loop-row.invariant.1 seed ps h),
       )
     ]
@@ -77,5 +77,5 @@ loop-row-preserved g c =
 pub returns-clause-heard : goal.returns-clause-heard
 returns-clause-heard g c = λ seed ps h.
     subst (λ rs. AreKept (λ b. (goal.Member-dyn g (b.vtable, b.value)).plain b.value) (setting_of c.args.scenario.now c.args.net.now seed)
-        c.args.cut c.loop-row.cells (each_hears (traffic_of c.args.scenario.now c.args.net.now) 0 rs ps))
+    c.args.cut c.loop-row.cells (each_hears (traffic_of c.args.scenario.now c.args.net.now) 0 rs ps))
     (take_all c.loop-row.row-index c.args.rows.now c.loop-row-test.false) (c.loop-row.invariant.1 seed ps h)

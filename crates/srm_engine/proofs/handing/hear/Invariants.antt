@@ -9,6 +9,6 @@ abbrev pub invariant-loop-row : goal.invariant-loop-row
 invariant-loop-row g l =
     (l.cells.seat ≡ l.fn.cells.seat)
     × ((seed : ℕ) (ps : List PlainCell) → AreKept (λ b. (goal.Member-dyn g (b.vtable, b.value)).plain b.value)
-        (setting_of l.scenario l.net seed) l.cut l.fn.cells ps
+    (setting_of l.scenario l.net seed) l.cut l.fn.cells ps
     → AreKept (λ b. (goal.Member-dyn g (b.vtable, b.value)).plain b.value)
-        (setting_of l.scenario l.net seed) l.cut l.cells (each_hears (traffic_of l.scenario l.net) 0 (take l.row-index l.rows) ps))
+    (setting_of l.scenario l.net seed) l.cut l.cells (each_hears (traffic_of l.scenario l.net) 0 (take l.row-index l.rows) ps))

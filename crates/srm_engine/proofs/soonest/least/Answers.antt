@@ -22,5 +22,5 @@ returns c = λ s cut w h e.
     let past = c.loop-soonest-test.false in
     begins_at s w c.loop-soonest.best c.args.until
     (best_is_least due c.args.until (λ (x : Soonest). x.time) cut c.args.soon.now w.cells c.loop-soonest.soonest-index c.loop-soonest.best
-        (omega arith) h.many
+    (omega arith) h.many
     (λ j x g. subst (λ n. IsLeast due (λ m. m / cut ≡ j) n w.cells x.time) (sym e) (h.each j x g).time) c.loop-soonest.invariant) e

@@ -23,6 +23,6 @@ returns c = λ s cut ps h kept e.
     let past = c.loop-soonest-test.false in
     least_is_one (promised s) c.args.until Any ps c.loop-soonest.best (least_promise s 0 ps)
     (best_is_least (promised s) c.args.until (λ (x : Soonest). x.promise) cut c.args.soon.now ps c.loop-soonest.soonest-index
-        c.loop-soonest.best (omega arith) h.many
+    c.loop-soonest.best (omega arith) h.many
     (λ j x g. subst (λ n. IsLeast (promised s) (λ m. m / cut ≡ j) n ps x.promise) (sym e) (h.each j x g).promise) c.loop-soonest.invariant)
     (subst (λ n. IsLeast (promised s) Any n ps (least_promise s 0 ps)) (sym e) (promise_is_least s ps kept))

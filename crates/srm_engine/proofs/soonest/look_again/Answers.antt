@@ -13,7 +13,7 @@ use Rattle.srm_engine.proofs.soonest.look_again.Goals as goal
 pub overflow_mul-place : goal.overflow_mul-place
 overflow_mul-place g c =
     let at = group_within c.args.cut c.args.groups.now c.loop-place.place c.index-groups-place.result c.requires.cut c.requires.cuts
-        c.loop-place-test.true in
+    c.loop-place-test.true in
     let within = at.within in
     let few = few_members c.args.scenario.now c.until-until.ensures.accepted in
     let members = c.requires.members in
@@ -49,10 +49,10 @@ loop-place-preserved g c =
           let qs = cells_in results in
           let y = w.soonest_in.result in
           let new = looked_at (λ b. (goal.Member-dyn g (b.vtable, b.value)).plain b.value) c.args.cut gs qs c.requires.cut h s k group
-              w.as_slice.result.now y c.loop-place-test.true c.index-groups-place.is w.as_slice.ensures.value
+          w.as_slice.result.now y c.loop-place-test.true c.index-groups-place.is w.as_slice.ensures.value
           (w.soonest_in.ensures seed qs) in
           one_set (λ n (z : Soonest). IsSoonest s (λ m. m / c.args.cut ≡ n) qs z)
-              (λ n (z : Soonest). IsSoonest s (λ m. m / c.args.cut ≡ n) ps z) old k
+          (λ n (z : Soonest). IsSoonest s (λ m. m / c.args.cut ≡ n) ps z) old k
           (c.loop-place.invariant seed ps results alone h soon) y within new
           )
       | else-soon-place w ↦ rw w.soon-is (
@@ -63,7 +63,7 @@ loop-place-preserved g c =
           let at : slice_get old k ≡ Some (get_or old k none) = slice_get-get_or old k none within in
           let late : c.args.end ≤ (get_or old k none).time = w.if-soon-place.false in
           one_kept (λ n (z : Soonest). IsSoonest s (λ m. m / c.args.cut ≡ n) qs z)
-              (λ n (z : Soonest). IsSoonest s (λ m. m / c.args.cut ≡ n) ps z) old k
+          (λ n (z : Soonest). IsSoonest s (λ m. m / c.args.cut ≡ n) ps z) old k
           (c.loop-place.invariant seed ps results alone h soon)
           (λ x get was.
           let is : get_or old k none ≡ x = same_some (get_or old k none) x (sym at ∙ get) in
@@ -74,7 +74,7 @@ loop-place-preserved g c =
 pub returns : goal.returns
 returns g c = λ seed ps results alone h soon.
     all_looked (λ b. (goal.Member-dyn g (b.vtable, b.value)).plain b.value) c.args.cut c.args.groups.now ps results c.requires.cut
-        c.args.end alone h
+    c.args.end alone h
     (setting_of c.args.scenario.now c.args.net.now seed) c.args.soon.now c.loop-place.soon c.loop-place.place c.loop-place-test.false
-        c.loop-place.auto.soon c.requires.many soon
+    c.loop-place.auto.soon c.requires.many soon
     (c.loop-place.invariant seed ps results alone h soon)

@@ -10,11 +10,11 @@ loop-place-preserved g c = λ seed ps those.
     let s = setting_of c.args.scenario.now c.args.net.now seed in
     let k = c.loop-place.place in
     let at : slice_get c.args.cells.now k ≡ Some c.index-cells-place.result =
-        slice_get-get_or c.args.cells.now k c.index-cells-place.result c.loop-place-test.true ∙ ap Some (sym c.index-cells-place.is) in
+    slice_get-get_or c.args.cells.now k c.index-cells-place.result c.loop-place-test.true ∙ ap Some (sym c.index-cells-place.is) in
     let p = those k c.index-cells-place.result at in
     soon_more s c.args.first k ps c.loop-place.soonest c.with-soonest.result p.0 c.next_time.result c.way-way.result p.1
     (c.next_time.ensures (c.args.first + k) p.0 p.2) (c.way-way.ensures seed) c.with-soonest.ensures.time c.with-soonest.ensures.promise
-        (c.loop-place.invariant seed ps those)
+    (c.loop-place.invariant seed ps those)
 
 pub returns : goal.returns
 returns g c = λ seed ps those.
@@ -22,4 +22,4 @@ returns g c = λ seed ps those.
     let end = c.loop-place.auto.place-end in
     let all : c.loop-place.place ≡ length c.args.cells.now = omega arith in
     subst (λ n. IsSoonest (setting_of c.args.scenario.now c.args.net.now seed) (IsAmong c.args.first n) ps c.loop-place.soonest) all
-        (c.loop-place.invariant seed ps those)
+    (c.loop-place.invariant seed ps those)

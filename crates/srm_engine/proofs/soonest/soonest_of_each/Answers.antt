@@ -9,7 +9,7 @@ use Rattle.srm_engine.proofs.soonest.soonest_of_each.Goals as goal
 pub overflow_mul-place : goal.overflow_mul-place
 overflow_mul-place g c =
     let at = group_within c.args.cut c.args.groups.now c.loop-place.place c.index-groups-place.result c.requires.cut c.requires.cuts
-        c.loop-place-test.true in
+    c.loop-place-test.true in
     let within = at.within in
     let few = few_members c.args.scenario.now c.until-until.ensures.accepted in
     let members = c.requires.members in
@@ -41,10 +41,10 @@ loop-place-preserved g c =
       λ seed ps h j x get.
           let s = setting_of c.args.scenario.now c.args.net.now seed in
           let new = looked_at (λ b. (goal.Member-dyn g (b.vtable, b.value)).plain b.value) c.args.cut gs ps c.requires.cut h s k group
-              c.as_slice.result.now y c.loop-place-test.true c.index-groups-place.is c.as_slice.ensures.value
+          c.as_slice.result.now y c.loop-place-test.true c.index-groups-place.is c.as_slice.ensures.value
           (c.soonest_in.ensures seed ps) in
           pushed_each (λ n (z : Soonest). IsSoonest s (λ m. m / c.args.cut ≡ n) ps z) old y (i.1 seed ps h)
-              (subst (λ n. IsSoonest s (λ m. m / c.args.cut ≡ n) ps y) (sym i.0) new) j x
+          (subst (λ n. IsSoonest s (λ m. m / c.args.cut ≡ n) ps y) (sym i.0) new) j x
           (rw pushed at get),
     )
 

@@ -22,13 +22,13 @@ returns g c = λ seed h.
     let same = c.in-Ok-run.ensures.same in
     let here : setting_in c.in-Ok.engine seed ≡ s = λ k. setting_of (given.0 k) (given.1 k) seed in
     let t = subst (λ (x : Setting). TellsTrace (λ b. (goal.Member-dyn g (b.vtable, b.value)).plain b.value) x
-        (Ok c.in-Ok-run.trace) c.run.new.self) here
+    (Ok c.in-Ok-run.trace) c.run.new.self) here
     (c.in-Ok-run.ensures.trace seed (c.in-Ok.ensures.opened seed h)) in
     let packets = packets_of t.0.trace in
     let kept : numbers_of (traffic_in c.run.new.self) packets ≡ numbers_of (traffic_in c.in-Ok.engine) packets =
     λ k. numbers_of (traffic_of (same.0 k).now (same.1 k).now) packets in
     let its : numbers_of (traffic_in c.in-Ok.engine) packets ≡ numbers_of s.traffic packets =
-        λ k. numbers_of (traffic_of (given.0 k) (given.1 k)) packets in
+    λ k. numbers_of (traffic_of (given.0 k) (given.1 k)) packets in
     record {
       world = t.0;
       last = t.1;

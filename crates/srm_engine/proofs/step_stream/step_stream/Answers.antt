@@ -22,15 +22,18 @@ finish-requires g c =
 
 pub returns-in-Err-clause-stream : goal.returns-in-Err-clause-stream
 returns-in-Err-clause-stream g c = λ seed h.
-    let s = setting_of c.args.scenario.now c.args.net.now seed in
-    (opening s, opening_reached s, subst (λ (l : List Row). g.S.RowSink.part c.args.sink.now l c.args.sink.now) (sym (opening_trace s))
-        (g.met.S.RowSink.part_none c.args.sink.now))
+    let s = setting_of c.args.scenario.now c.args.net.now seed in (
+      opening s,
+      opening_reached s,
+      subst (λ (l : List Row). g.S.RowSink.part c.args.sink.now l c.args.sink.now) (sym (opening_trace s))
+          (g.met.S.RowSink.part_none c.args.sink.now),
+    )
 
 pub returns-in-Err-stream-clause-stream : goal.returns-in-Err-stream-clause-stream
 returns-in-Err-stream-clause-stream g c = λ seed h.
     let given = c.in-Ok.ensures.given in
     let here : setting_in c.in-Ok.engine seed ≡ setting_of c.args.scenario.now c.args.net.now seed =
-        λ k. setting_of (given.0 k) (given.1 k) seed in
+    λ k. setting_of (given.0 k) (given.1 k) seed in
     let t = (c.in-Err-stream.ensures.rows seed (c.in-Ok.ensures.opened seed h)).0 in
     (t.0, subst (λ (x : Setting). IsReached x t.0) here t.1, t.2)
 
@@ -38,21 +41,21 @@ pub returns-in-Err-stream-clause-refused : goal.returns-in-Err-stream-clause-ref
 returns-in-Err-stream-clause-refused g c = λ seed h.
     let given = c.in-Ok.ensures.given in
     let here : setting_in c.in-Ok.engine seed ≡ setting_of c.args.scenario.now c.args.net.now seed =
-        λ k. setting_of (given.0 k) (given.1 k) seed in
+    λ k. setting_of (given.0 k) (given.1 k) seed in
     subst (λ (x : Setting). MeetsRefusal {A = Unit {0}} x (Err c.in-Err-stream.fault)) here
-        (c.in-Err-stream.ensures.rows seed (c.in-Ok.ensures.opened seed h)).1
+    (c.in-Err-stream.ensures.rows seed (c.in-Ok.ensures.opened seed h)).1
 
 pub returns-in-Err-finish-clause-stream : goal.returns-in-Err-finish-clause-stream
 returns-in-Err-finish-clause-stream g c = λ seed h.
     let given = c.in-Ok.ensures.given in
     let here : setting_in c.in-Ok.engine seed ≡ setting_of c.args.scenario.now c.args.net.now seed =
-        λ k. setting_of (given.0 k) (given.1 k) seed in
+    λ k. setting_of (given.0 k) (given.1 k) seed in
     let t = (c.in_default.ensures.rows seed (c.in-Ok.ensures.opened seed h)).0 in (
       t.0,
       subst (λ (x : Setting). IsReached x t.0) here t.1.reached,
       subst (λ (l : List Row). g.S.RowSink.part c.args.sink.now l c.stream.new.sink) (append-nil t.0.trace)
           (g.met.S.RowSink.part_more c.args.sink.now c.stream.new.sink c.stream.new.sink t.0.trace [] t.2
-              (g.met.S.RowSink.part_none c.stream.new.sink)),
+          (g.met.S.RowSink.part_none c.stream.new.sink)),
     )
 
 pub returns-in-Err-finish-clause-refused : goal.returns-in-Err-finish-clause-refused
@@ -70,7 +73,7 @@ returns-in-Ok-finish-clause-stream g c = λ seed h.
     let kept : numbers_of (traffic_in c.stream.new.self) packets ≡ numbers_of (traffic_in c.in-Ok.engine) packets =
     λ k. numbers_of (traffic_of (same.0 k).now (same.1 k).now) packets in
     let its : numbers_of (traffic_in c.in-Ok.engine) packets ≡ numbers_of s.traffic packets =
-        λ k. numbers_of (traffic_of (given.0 k) (given.1 k)) packets in (
+    λ k. numbers_of (traffic_of (given.0 k) (given.1 k)) packets in (
       t.0.trace,
       record {
         world = t.0;

@@ -14,10 +14,10 @@ returns-then-len-lt2 c =
     let few = c.if-len-lt2.true in
     let len = c.len.ensures in
     subst (λ (r : Vec Row Global). IsPermutation (joined (map (λ (v : Vec Row Global). v.items) c.args.rows.items)) r.items
-        × IsSorted row_cmp r.items) (sym c.unwrap_or.ensures)
+    × IsSorted row_cmp r.items) (sym c.unwrap_or.ensures)
     (last_alone row_cmp c.args.rows.items c.pop.new.self.items c.pop.result c.new.result c.pop.ensures.items
     (subst (λ n. c.pop.new.self.items ≡ take n c.args.rows.items) {y = 0} (omega arith) c.pop.ensures.rest) c.new.ensures.items
-        c.requires.sorted)
+    c.requires.sorted)
 
 pub returns : goal.returns
 returns c =
@@ -30,7 +30,7 @@ returns c =
     let from_b = c.into_iter.ensures.runs b.0 b.0.seen in
     let source_b = from_b.4 b.2 ∙ ap into_iter_items b.1 ∙ c.into_iter.ensures.rest in
     let order = b.3 (λ (x y : Row). is_lt (row_cmp x y)) (search rules) (ranks_by rows_total (λ (x : Row). x)) ls
-        (sources_give b.0.items c.args.rows.items source_b) c.requires.sorted in
+    (sources_give b.0.items c.args.rows.items source_b) c.requires.sorted in
     let ran = c.in_ok-extend.ensures.ran in
     let is = ran.3.0 ∙ ap (λ l. l ++ ran.1) c.in_ok-merged.ensures.items in (
       subst (λ xs. IsPermutation (joined ls) xs) (sym is)

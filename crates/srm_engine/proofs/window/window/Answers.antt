@@ -10,7 +10,7 @@ use Rattle.srm_engine.proofs.window.window.Goals as goal
 pub returns-in-Err-clause-window : goal.returns-in-Err-clause-window
 returns-in-Err-clause-window g c = λ seed w reached safe h.
     refused g.C.Crew.handed (λ b. (goal.Member-dyn g (b.vtable, b.value)).plain b.value)
-        (setting_of c.args.scenario.now c.args.net.now seed) c.args.ledger.now c.args.cut c.args.end w c.args.crew.now c.in-Err.fault _
+    (setting_of c.args.scenario.now c.args.net.now seed) c.args.ledger.now c.args.cut c.args.end w c.args.crew.now c.in-Err.fault _
     (c.in-Err.ensures.runs seed w reached h)
 
 pub merge-requires : goal.merge-requires
@@ -29,7 +29,7 @@ hear-requires-clause-may g c =
     let told = c.in-Ok.ensures.runs k.0 k.1 k.2 k.4 in
     let merged = c.in-Ok-merge.ensures in
     let merge = merge_of p c.args.net.now c.requires.network c.requires.accepted k.0 c.args.end c.requires.end k.1 k.2 k.3 told.0 told.1 _
-        c.in-Ok-merge.rows.items told.3 merged.0 merged.1 in (
+    c.in-Ok-merge.rows.items told.3 merged.0 merged.1 in (
       k.0,
       (
         cells_in told.0,
@@ -37,7 +37,7 @@ hear-requires-clause-may g c =
         all_members p c.args.net.now c.requires.network c.requires.accepted k.0 c.args.end c.requires.end k.1 k.2 k.3 told.0 told.1,
         subst (λ rows. AreNewInTurn (traffic_of p c.args.net.now) rows (cells_in told.0)) (sym c.as_slice.ensures.value)
             (new_in_turn p c.args.net.now c.requires.network c.requires.accepted k.0 c.args.end c.requires.end k.1 k.2 k.3 told.0 told.1
-                c.in-Ok-merge.rows.items merge),
+            c.in-Ok-merge.rows.items merge),
       ),
     )
 
@@ -49,7 +49,7 @@ returns-clause-window g c = λ seed w reached safe h.
     let rows = c.in-Ok-merge.rows.items in
     let merged = c.in-Ok-merge.ensures in
     let merge = merge_of p c.args.net.now c.requires.network c.requires.accepted seed c.args.end c.requires.end w reached safe told.0 told.1
-        _ rows told.3 merged.0 merged.1 in
+    _ rows told.3 merged.0 merged.1 in
     let heard = c.in-Ok-hear.ensures.heard seed (cells_in told.0) told.2 in (
       after_window s w told.0 rows,
       record { results = told.0; rows = rows; alone = told.1; merged = merge; is = refl },

@@ -19,125 +19,149 @@ pub soonest_of_each-requires-clause-members : goal.soonest_of_each-requires-clau
 soonest_of_each-requires-clause-members g c =
     let b = c.requires.boxes in
     let all = ap (λ l. length (all_in l)) c.as_slice.ensures.value ∙ ap length c.in-Ok-group.ensures.same
-        ∙ (c.in-Ok-open.ensures c.args.net.now b.0 b.1).cells.as_many
+    ∙ (c.in-Ok-open.ensures c.args.net.now b.0 b.1).cells.as_many
     ∙ length_opening (setting_of c.args.scenario.now c.args.net.now b.0) (length c.args.scenario.now.members) 0 in
     omega (arith, all)
 
 pub windows-requires-clause-opened : goal.windows-requires-clause-opened
 windows-requires-clause-opened g c =
-    let b = c.requires.boxes in
-    (b.0, opened (λ b. (goal.Member-dyn g (b.vtable, b.value)).plain b.value) (setting_of c.args.scenario.now c.args.net.now b.0)
-        c.in-Ok.ledger c.args.cut (length c.args.net.now.links)
-        (record { groups = c.in-Ok-group.groups; soon = c.in-Ok-soonest_of_each.soon; seat = c.in-Ok.seat }) c.in-Ok-open.cells.cells.items
-        (c.in-Ok-open.ensures c.args.net.now b.0 b.1).cells c.in-Ok-group.ensures.same c.in-Ok-group.ensures.cuts
-        (λ ps h. c.in-Ok-soonest_of_each.ensures b.0 ps
-        (subst (λ l. AreGrouped (λ b. (goal.Member-dyn g (b.vtable, b.value)).plain b.value) c.args.cut l ps) (sym c.as_slice.ensures.value)
-        h)) (c.in-Ok.ensures.1 ∙ ap (λ n. whole_seat c.in-Ok.ledger.name n) (ap length c.links.ensures.links)))
+    let b = c.requires.boxes in (
+      b.0,
+      opened (λ b. (goal.Member-dyn g (b.vtable, b.value)).plain b.value) (setting_of c.args.scenario.now c.args.net.now b.0)
+          c.in-Ok.ledger c.args.cut (length c.args.net.now.links)
+          (record { groups = c.in-Ok-group.groups; soon = c.in-Ok-soonest_of_each.soon; seat = c.in-Ok.seat })
+          c.in-Ok-open.cells.cells.items
+          (c.in-Ok-open.ensures c.args.net.now b.0 b.1).cells c.in-Ok-group.ensures.same c.in-Ok-group.ensures.cuts
+          (λ ps h. c.in-Ok-soonest_of_each.ensures b.0 ps
+          (subst (λ l. AreGrouped (λ b. (goal.Member-dyn g (b.vtable, b.value)).plain b.value) c.args.cut l ps)
+          (sym c.as_slice.ensures.value)
+          h)) (c.in-Ok.ensures.1 ∙ ap (λ n. whole_seat c.in-Ok.ledger.name n) (ap length c.links.ensures.links)),
+    )
 
 pub returns-in_default-clause-stream : goal.returns-in_default-clause-stream
 returns-in_default-clause-stream g c = λ seed h.
-    let s = setting_of c.args.scenario.now c.args.net.now seed in
-    (opening s, opening_reached s, subst (λ (l : List Row). g.S.RowSink.part c.args.sink.now l c.args.sink.now) (sym (opening_trace s))
-        (g.met.S.RowSink.part_none c.args.sink.now))
+    let s = setting_of c.args.scenario.now c.args.net.now seed in (
+      opening s,
+      opening_reached s,
+      subst (λ (l : List Row). g.S.RowSink.part c.args.sink.now l c.args.sink.now) (sym (opening_trace s))
+          (g.met.S.RowSink.part_none c.args.sink.now),
+    )
 
 pub returns-in_default-open-clause-stream : goal.returns-in_default-open-clause-stream
 returns-in_default-open-clause-stream g c = λ seed h.
-    let s = setting_of c.args.scenario.now c.args.net.now seed in
-    (opening s, opening_reached s, subst (λ (l : List Row). g.S.RowSink.part c.args.sink.now l c.args.sink.now) (sym (opening_trace s))
-        (g.met.S.RowSink.part_none c.args.sink.now))
+    let s = setting_of c.args.scenario.now c.args.net.now seed in (
+      opening s,
+      opening_reached s,
+      subst (λ (l : List Row). g.S.RowSink.part c.args.sink.now l c.args.sink.now) (sym (opening_trace s))
+          (g.met.S.RowSink.part_none c.args.sink.now),
+    )
 
 pub returns-in_default-group-clause-stream : goal.returns-in_default-group-clause-stream
 returns-in_default-group-clause-stream g c = λ seed h.
-    let s = setting_of c.args.scenario.now c.args.net.now seed in
-    (opening s, opening_reached s, subst (λ (l : List Row). g.S.RowSink.part c.args.sink.now l c.args.sink.now) (sym (opening_trace s))
-        (g.met.S.RowSink.part_none c.args.sink.now))
+    let s = setting_of c.args.scenario.now c.args.net.now seed in (
+      opening s,
+      opening_reached s,
+      subst (λ (l : List Row). g.S.RowSink.part c.args.sink.now l c.args.sink.now) (sym (opening_trace s))
+          (g.met.S.RowSink.part_none c.args.sink.now),
+    )
 
 pub returns-in_default-soonest_of_each-clause-stream : goal.returns-in_default-soonest_of_each-clause-stream
 returns-in_default-soonest_of_each-clause-stream g c = λ seed h.
-    let s = setting_of c.args.scenario.now c.args.net.now seed in
-    (opening s, opening_reached s, subst (λ (l : List Row). g.S.RowSink.part c.args.sink.now l c.args.sink.now) (sym (opening_trace s))
-        (g.met.S.RowSink.part_none c.args.sink.now))
+    let s = setting_of c.args.scenario.now c.args.net.now seed in (
+      opening s,
+      opening_reached s,
+      subst (λ (l : List Row). g.S.RowSink.part c.args.sink.now l c.args.sink.now) (sym (opening_trace s))
+          (g.met.S.RowSink.part_none c.args.sink.now),
+    )
 
 pub returns-in-Err-clause-stream : goal.returns-in-Err-clause-stream
 returns-in-Err-clause-stream g c = λ seed h.
     (c.in-Err.ensures.windows seed (opened (λ b. (goal.Member-dyn g (b.vtable, b.value)).plain b.value)
-        (setting_of c.args.scenario.now c.args.net.now seed) c.in-Ok.ledger c.args.cut (length c.args.net.now.links)
-        (record { groups = c.in-Ok-group.groups; soon = c.in-Ok-soonest_of_each.soon; seat = c.in-Ok.seat }) c.in-Ok-open.cells.cells.items
-        (c.in-Ok-open.ensures c.args.net.now seed h).cells c.in-Ok-group.ensures.same c.in-Ok-group.ensures.cuts
-        (λ ps h. c.in-Ok-soonest_of_each.ensures seed ps
-        (subst (λ l. AreGrouped (λ b. (goal.Member-dyn g (b.vtable, b.value)).plain b.value) c.args.cut l ps) (sym c.as_slice.ensures.value)
-        h)) (c.in-Ok.ensures.1 ∙ ap (λ n. whole_seat c.in-Ok.ledger.name n) (ap length c.links.ensures.links)))).0
+    (setting_of c.args.scenario.now c.args.net.now seed) c.in-Ok.ledger c.args.cut (length c.args.net.now.links)
+    (record { groups = c.in-Ok-group.groups; soon = c.in-Ok-soonest_of_each.soon; seat = c.in-Ok.seat }) c.in-Ok-open.cells.cells.items
+    (c.in-Ok-open.ensures c.args.net.now seed h).cells c.in-Ok-group.ensures.same c.in-Ok-group.ensures.cuts
+    (λ ps h. c.in-Ok-soonest_of_each.ensures seed ps
+    (subst (λ l. AreGrouped (λ b. (goal.Member-dyn g (b.vtable, b.value)).plain b.value) c.args.cut l ps) (sym c.as_slice.ensures.value)
+    h)) (c.in-Ok.ensures.1 ∙ ap (λ n. whole_seat c.in-Ok.ledger.name n) (ap length c.links.ensures.links)))).0
 
 pub returns-in-Err-clause-windows : goal.returns-in-Err-clause-windows
 returns-in-Err-clause-windows g c = λ seed h.
     (c.in-Err.ensures.windows seed (opened (λ b. (goal.Member-dyn g (b.vtable, b.value)).plain b.value)
-        (setting_of c.args.scenario.now c.args.net.now seed) c.in-Ok.ledger c.args.cut (length c.args.net.now.links)
-        (record { groups = c.in-Ok-group.groups; soon = c.in-Ok-soonest_of_each.soon; seat = c.in-Ok.seat }) c.in-Ok-open.cells.cells.items
-        (c.in-Ok-open.ensures c.args.net.now seed h).cells c.in-Ok-group.ensures.same c.in-Ok-group.ensures.cuts
-        (λ ps h. c.in-Ok-soonest_of_each.ensures seed ps
-        (subst (λ l. AreGrouped (λ b. (goal.Member-dyn g (b.vtable, b.value)).plain b.value) c.args.cut l ps) (sym c.as_slice.ensures.value)
-        h)) (c.in-Ok.ensures.1 ∙ ap (λ n. whole_seat c.in-Ok.ledger.name n) (ap length c.links.ensures.links)))).1
+    (setting_of c.args.scenario.now c.args.net.now seed) c.in-Ok.ledger c.args.cut (length c.args.net.now.links)
+    (record { groups = c.in-Ok-group.groups; soon = c.in-Ok-soonest_of_each.soon; seat = c.in-Ok.seat }) c.in-Ok-open.cells.cells.items
+    (c.in-Ok-open.ensures c.args.net.now seed h).cells c.in-Ok-group.ensures.same c.in-Ok-group.ensures.cuts
+    (λ ps h. c.in-Ok-soonest_of_each.ensures seed ps
+    (subst (λ l. AreGrouped (λ b. (goal.Member-dyn g (b.vtable, b.value)).plain b.value) c.args.cut l ps) (sym c.as_slice.ensures.value)
+    h)) (c.in-Ok.ensures.1 ∙ ap (λ n. whole_seat c.in-Ok.ledger.name n) (ap length c.links.ensures.links)))).1
 
 pub returns-in_default-flatten-clause-stream : goal.returns-in_default-flatten-clause-stream
 returns-in_default-flatten-clause-stream g c = λ seed h.
     let t = c.in-Ok-windows.ensures.windows seed (opened (λ b. (goal.Member-dyn g (b.vtable, b.value)).plain b.value)
-        (setting_of c.args.scenario.now c.args.net.now seed) c.in-Ok.ledger c.args.cut (length c.args.net.now.links)
-        (record { groups = c.in-Ok-group.groups; soon = c.in-Ok-soonest_of_each.soon; seat = c.in-Ok.seat }) c.in-Ok-open.cells.cells.items
-        (c.in-Ok-open.ensures c.args.net.now seed h).cells c.in-Ok-group.ensures.same c.in-Ok-group.ensures.cuts
-        (λ ps h. c.in-Ok-soonest_of_each.ensures seed ps
-        (subst (λ l. AreGrouped (λ b. (goal.Member-dyn g (b.vtable, b.value)).plain b.value) c.args.cut l ps) (sym c.as_slice.ensures.value)
-        h)) (c.in-Ok.ensures.1 ∙ ap (λ n. whole_seat c.in-Ok.ledger.name n) (ap length c.links.ensures.links))) in
-    (t.1, t.3.reached, front_taken g.S.RowSink.took g.S.RowSink.part g.met.S.RowSink.part_none g.met.S.RowSink.part_more c.args.sink.now
-        c.windows.new.sink t.1.trace t.4)
+    (setting_of c.args.scenario.now c.args.net.now seed) c.in-Ok.ledger c.args.cut (length c.args.net.now.links)
+    (record { groups = c.in-Ok-group.groups; soon = c.in-Ok-soonest_of_each.soon; seat = c.in-Ok.seat }) c.in-Ok-open.cells.cells.items
+    (c.in-Ok-open.ensures c.args.net.now seed h).cells c.in-Ok-group.ensures.same c.in-Ok-group.ensures.cuts
+    (λ ps h. c.in-Ok-soonest_of_each.ensures seed ps
+    (subst (λ l. AreGrouped (λ b. (goal.Member-dyn g (b.vtable, b.value)).plain b.value) c.args.cut l ps) (sym c.as_slice.ensures.value)
+    h)) (c.in-Ok.ensures.1 ∙ ap (λ n. whole_seat c.in-Ok.ledger.name n) (ap length c.links.ensures.links))) in (
+      t.1,
+      t.3.reached,
+      front_taken g.S.RowSink.took g.S.RowSink.part g.met.S.RowSink.part_none g.met.S.RowSink.part_more c.args.sink.now
+          c.windows.new.sink t.1.trace t.4,
+    )
 
 pub returns-in-Err-finish-clause-stream : goal.returns-in-Err-finish-clause-stream
 returns-in-Err-finish-clause-stream g c = λ seed h.
     let t = c.in-Ok-windows.ensures.windows seed (opened (λ b. (goal.Member-dyn g (b.vtable, b.value)).plain b.value)
-        (setting_of c.args.scenario.now c.args.net.now seed) c.in-Ok.ledger c.args.cut (length c.args.net.now.links)
-        (record { groups = c.in-Ok-group.groups; soon = c.in-Ok-soonest_of_each.soon; seat = c.in-Ok.seat }) c.in-Ok-open.cells.cells.items
-        (c.in-Ok-open.ensures c.args.net.now seed h).cells c.in-Ok-group.ensures.same c.in-Ok-group.ensures.cuts
-        (λ ps h. c.in-Ok-soonest_of_each.ensures seed ps
-        (subst (λ l. AreGrouped (λ b. (goal.Member-dyn g (b.vtable, b.value)).plain b.value) c.args.cut l ps) (sym c.as_slice.ensures.value)
-        h)) (c.in-Ok.ensures.1 ∙ ap (λ n. whole_seat c.in-Ok.ledger.name n) (ap length c.links.ensures.links))) in
-    (t.1, t.3.reached, front_taken g.S.RowSink.took g.S.RowSink.part g.met.S.RowSink.part_none g.met.S.RowSink.part_more c.args.sink.now
-        c.windows.new.sink t.1.trace t.4)
+    (setting_of c.args.scenario.now c.args.net.now seed) c.in-Ok.ledger c.args.cut (length c.args.net.now.links)
+    (record { groups = c.in-Ok-group.groups; soon = c.in-Ok-soonest_of_each.soon; seat = c.in-Ok.seat }) c.in-Ok-open.cells.cells.items
+    (c.in-Ok-open.ensures c.args.net.now seed h).cells c.in-Ok-group.ensures.same c.in-Ok-group.ensures.cuts
+    (λ ps h. c.in-Ok-soonest_of_each.ensures seed ps
+    (subst (λ l. AreGrouped (λ b. (goal.Member-dyn g (b.vtable, b.value)).plain b.value) c.args.cut l ps) (sym c.as_slice.ensures.value)
+    h)) (c.in-Ok.ensures.1 ∙ ap (λ n. whole_seat c.in-Ok.ledger.name n) (ap length c.links.ensures.links))) in (
+      t.1,
+      t.3.reached,
+      front_taken g.S.RowSink.took g.S.RowSink.part g.met.S.RowSink.part_none g.met.S.RowSink.part_more c.args.sink.now
+          c.windows.new.sink t.1.trace t.4,
+    )
 
 pub finish-requires : goal.finish-requires
 finish-requires g c =
     let b = c.requires.boxes in
     let t = c.in-Ok-windows.ensures.windows b.0 (opened (λ b. (goal.Member-dyn g (b.vtable, b.value)).plain b.value)
-        (setting_of c.args.scenario.now c.args.net.now b.0) c.in-Ok.ledger c.args.cut (length c.args.net.now.links)
-        (record { groups = c.in-Ok-group.groups; soon = c.in-Ok-soonest_of_each.soon; seat = c.in-Ok.seat }) c.in-Ok-open.cells.cells.items
-        (c.in-Ok-open.ensures c.args.net.now b.0 b.1).cells c.in-Ok-group.ensures.same c.in-Ok-group.ensures.cuts
-        (λ ps h. c.in-Ok-soonest_of_each.ensures b.0 ps
-        (subst (λ l. AreGrouped (λ b. (goal.Member-dyn g (b.vtable, b.value)).plain b.value) c.args.cut l ps) (sym c.as_slice.ensures.value)
-        h)) (c.in-Ok.ensures.1 ∙ ap (λ n. whole_seat c.in-Ok.ledger.name n) (ap length c.links.ensures.links))) in
-    record { ends = all_end _ (setting_of c.args.scenario.now c.args.net.now b.0) c.in-Ok-flatten.cells.items t.1 t.3.reached
-        (subst (λ l. AreCells (λ b. (goal.Member-dyn g (b.vtable, b.value)).plain b.value) l t.1.cells) (sym c.in-Ok-flatten.ensures)
-        t.5.kept.grouped.cells) }
+    (setting_of c.args.scenario.now c.args.net.now b.0) c.in-Ok.ledger c.args.cut (length c.args.net.now.links)
+    (record { groups = c.in-Ok-group.groups; soon = c.in-Ok-soonest_of_each.soon; seat = c.in-Ok.seat }) c.in-Ok-open.cells.cells.items
+    (c.in-Ok-open.ensures c.args.net.now b.0 b.1).cells c.in-Ok-group.ensures.same c.in-Ok-group.ensures.cuts
+    (λ ps h. c.in-Ok-soonest_of_each.ensures b.0 ps
+    (subst (λ l. AreGrouped (λ b. (goal.Member-dyn g (b.vtable, b.value)).plain b.value) c.args.cut l ps) (sym c.as_slice.ensures.value)
+    h)) (c.in-Ok.ensures.1 ∙ ap (λ n. whole_seat c.in-Ok.ledger.name n) (ap length c.links.ensures.links))) in
+    record {
+      ends = all_end _ (setting_of c.args.scenario.now c.args.net.now b.0) c.in-Ok-flatten.cells.items t.1 t.3.reached
+          (subst (λ l. AreCells (λ b. (goal.Member-dyn g (b.vtable, b.value)).plain b.value) l t.1.cells) (sym c.in-Ok-flatten.ensures)
+          t.5.kept.grouped.cells);
+    }
 
 pub close-requires : goal.close-requires
 close-requires g c =
     let b = c.requires.boxes in
     let t = c.in-Ok-windows.ensures.windows b.0 (opened (λ b. (goal.Member-dyn g (b.vtable, b.value)).plain b.value)
-        (setting_of c.args.scenario.now c.args.net.now b.0) c.in-Ok.ledger c.args.cut (length c.args.net.now.links)
-        (record { groups = c.in-Ok-group.groups; soon = c.in-Ok-soonest_of_each.soon; seat = c.in-Ok.seat }) c.in-Ok-open.cells.cells.items
-        (c.in-Ok-open.ensures c.args.net.now b.0 b.1).cells c.in-Ok-group.ensures.same c.in-Ok-group.ensures.cuts
-        (λ ps h. c.in-Ok-soonest_of_each.ensures b.0 ps
-        (subst (λ l. AreGrouped (λ b. (goal.Member-dyn g (b.vtable, b.value)).plain b.value) c.args.cut l ps) (sym c.as_slice.ensures.value)
-        h)) (c.in-Ok.ensures.1 ∙ ap (λ n. whole_seat c.in-Ok.ledger.name n) (ap length c.links.ensures.links))) in
+    (setting_of c.args.scenario.now c.args.net.now b.0) c.in-Ok.ledger c.args.cut (length c.args.net.now.links)
+    (record { groups = c.in-Ok-group.groups; soon = c.in-Ok-soonest_of_each.soon; seat = c.in-Ok.seat }) c.in-Ok-open.cells.cells.items
+    (c.in-Ok-open.ensures c.args.net.now b.0 b.1).cells c.in-Ok-group.ensures.same c.in-Ok-group.ensures.cuts
+    (λ ps h. c.in-Ok-soonest_of_each.ensures b.0 ps
+    (subst (λ l. AreGrouped (λ b. (goal.Member-dyn g (b.vtable, b.value)).plain b.value) c.args.cut l ps) (sym c.as_slice.ensures.value)
+    h)) (c.in-Ok.ensures.1 ∙ ap (λ n. whole_seat c.in-Ok.ledger.name n) (ap length c.links.ensures.links))) in
     t.5.counted.ledger
 
 pub unreachable-requires : goal.unreachable-requires
 unreachable-requires g c =
     let b = c.requires.boxes in
     let t = c.in-Ok-windows.ensures.windows b.0 (opened (λ b. (goal.Member-dyn g (b.vtable, b.value)).plain b.value)
-        (setting_of c.args.scenario.now c.args.net.now b.0) c.in-Ok.ledger c.args.cut (length c.args.net.now.links)
-        (record { groups = c.in-Ok-group.groups; soon = c.in-Ok-soonest_of_each.soon; seat = c.in-Ok.seat }) c.in-Ok-open.cells.cells.items
-        (c.in-Ok-open.ensures c.args.net.now b.0 b.1).cells c.in-Ok-group.ensures.same c.in-Ok-group.ensures.cuts
-        (λ ps h. c.in-Ok-soonest_of_each.ensures b.0 ps
-        (subst (λ l. AreGrouped (λ b. (goal.Member-dyn g (b.vtable, b.value)).plain b.value) c.args.cut l ps) (sym c.as_slice.ensures.value)
-        h)) (c.in-Ok.ensures.1 ∙ ap (λ n. whole_seat c.in-Ok.ledger.name n) (ap length c.links.ensures.links))) in
+    (setting_of c.args.scenario.now c.args.net.now b.0) c.in-Ok.ledger c.args.cut (length c.args.net.now.links)
+    (record { groups = c.in-Ok-group.groups; soon = c.in-Ok-soonest_of_each.soon; seat = c.in-Ok.seat }) c.in-Ok-open.cells.cells.items
+    (c.in-Ok-open.ensures c.args.net.now b.0 b.1).cells c.in-Ok-group.ensures.same c.in-Ok-group.ensures.cuts
+    (λ ps h. c.in-Ok-soonest_of_each.ensures b.0 ps
+    (subst (λ l. AreGrouped (λ b. (goal.Member-dyn g (b.vtable, b.value)).plain b.value) c.args.cut l ps) (sym c.as_slice.ensures.value)
+    h)) (c.in-Ok.ensures.1 ∙ ap (λ n. whole_seat c.in-Ok.ledger.name n) (ap length c.links.ensures.links))) in
     let whole = t.5.counted.weight in
     let part = c.in-Err-close.ensures.part in
     omega arith
@@ -146,12 +170,12 @@ pub returns-clause-stream : goal.returns-clause-stream
 returns-clause-stream g c = λ seed h.
     let s = setting_of c.args.scenario.now c.args.net.now seed in
     let t = c.in-Ok-windows.ensures.windows seed (opened (λ b. (goal.Member-dyn g (b.vtable, b.value)).plain b.value)
-        (setting_of c.args.scenario.now c.args.net.now seed) c.in-Ok.ledger c.args.cut (length c.args.net.now.links)
-        (record { groups = c.in-Ok-group.groups; soon = c.in-Ok-soonest_of_each.soon; seat = c.in-Ok.seat }) c.in-Ok-open.cells.cells.items
-        (c.in-Ok-open.ensures c.args.net.now seed h).cells c.in-Ok-group.ensures.same c.in-Ok-group.ensures.cuts
-        (λ ps h. c.in-Ok-soonest_of_each.ensures seed ps
-        (subst (λ l. AreGrouped (λ b. (goal.Member-dyn g (b.vtable, b.value)).plain b.value) c.args.cut l ps) (sym c.as_slice.ensures.value)
-        h)) (c.in-Ok.ensures.1 ∙ ap (λ n. whole_seat c.in-Ok.ledger.name n) (ap length c.links.ensures.links))) in
+    (setting_of c.args.scenario.now c.args.net.now seed) c.in-Ok.ledger c.args.cut (length c.args.net.now.links)
+    (record { groups = c.in-Ok-group.groups; soon = c.in-Ok-soonest_of_each.soon; seat = c.in-Ok.seat }) c.in-Ok-open.cells.cells.items
+    (c.in-Ok-open.ensures c.args.net.now seed h).cells c.in-Ok-group.ensures.same c.in-Ok-group.ensures.cuts
+    (λ ps h. c.in-Ok-soonest_of_each.ensures seed ps
+    (subst (λ l. AreGrouped (λ b. (goal.Member-dyn g (b.vtable, b.value)).plain b.value) c.args.cut l ps) (sym c.as_slice.ensures.value)
+    h)) (c.in-Ok.ensures.1 ∙ ap (λ n. whole_seat c.in-Ok.ledger.name n) (ap length c.links.ensures.links))) in
     let links = c.in-Ok.ensures.0 in
     let long : length c.in-Ok-close.totals ≡ length (crossings s.traffic t.1.trace) =
     c.in-Ok-close.ensures.long ∙ ap (λ n. 5 * n) (links ∙ (ap length c.links.ensures.links)) ∙ sym (crossings_long s.traffic t.1.trace) in (
@@ -172,10 +196,10 @@ returns-clause-stream g c = λ seed h.
 pub returns-clause-windows : goal.returns-clause-windows
 returns-clause-windows g c = λ seed h.
     let t = c.in-Ok-windows.ensures.windows seed (opened (λ b. (goal.Member-dyn g (b.vtable, b.value)).plain b.value)
-        (setting_of c.args.scenario.now c.args.net.now seed) c.in-Ok.ledger c.args.cut (length c.args.net.now.links)
-        (record { groups = c.in-Ok-group.groups; soon = c.in-Ok-soonest_of_each.soon; seat = c.in-Ok.seat }) c.in-Ok-open.cells.cells.items
-        (c.in-Ok-open.ensures c.args.net.now seed h).cells c.in-Ok-group.ensures.same c.in-Ok-group.ensures.cuts
-        (λ ps h. c.in-Ok-soonest_of_each.ensures seed ps
-        (subst (λ l. AreGrouped (λ b. (goal.Member-dyn g (b.vtable, b.value)).plain b.value) c.args.cut l ps) (sym c.as_slice.ensures.value)
-        h)) (c.in-Ok.ensures.1 ∙ ap (λ n. whole_seat c.in-Ok.ledger.name n) (ap length c.links.ensures.links))) in
+    (setting_of c.args.scenario.now c.args.net.now seed) c.in-Ok.ledger c.args.cut (length c.args.net.now.links)
+    (record { groups = c.in-Ok-group.groups; soon = c.in-Ok-soonest_of_each.soon; seat = c.in-Ok.seat }) c.in-Ok-open.cells.cells.items
+    (c.in-Ok-open.ensures c.args.net.now seed h).cells c.in-Ok-group.ensures.same c.in-Ok-group.ensures.cuts
+    (λ ps h. c.in-Ok-soonest_of_each.ensures seed ps
+    (subst (λ l. AreGrouped (λ b. (goal.Member-dyn g (b.vtable, b.value)).plain b.value) c.args.cut l ps) (sym c.as_slice.ensures.value)
+    h)) (c.in-Ok.ensures.1 ∙ ap (λ n. whole_seat c.in-Ok.ledger.name n) (ap length c.links.ensures.links))) in
     (t.0, t.1, t.2, t.3, t.6)

@@ -53,10 +53,10 @@ window-requires-clause-end g c =
     let k = c.requires.opened in
     let i = c.loop-begin.invariant.windows k.0 k.1 in
     let soon_now = subst (λ l. AreSoonest (setting_of c.args.scenario.now c.args.net.now k.0) c.args.cut l i.1.cells)
-        (sym c.as_slice-in-loop-begin.ensures.value) i.5.kept.soon in
+    (sym c.as_slice-in-loop-begin.ensures.value) i.5.kept.soon in
     let le = within c.args.scenario.now c.args.net.now c.requires.network c.until-until.ensures.accepted k.0 c.args.ends.now c.requires.ends
-        i.0 i.1 i.2 c.loop-begin.begin c.until-until.result i.4 c.until-until.ensures.until c.loop-begin-test.true c.args.cut
-        c.as_slice-in-loop-begin.result.now soon_now c.end-end.result c.end-end.ensures in
+    i.0 i.1 i.2 c.loop-begin.begin c.until-until.result i.4 c.until-until.ensures.until c.loop-begin-test.true c.args.cut
+    c.as_slice-in-loop-begin.result.now soon_now c.end-end.result c.end-end.ensures in
     let until = c.until-until.ensures.until in
     omega arith
 
@@ -65,13 +65,18 @@ window-requires-clause-known g c =
     let k = c.requires.opened in
     let i = c.loop-begin.invariant.windows k.0 k.1 in
     let soon_now = subst (λ l. AreSoonest (setting_of c.args.scenario.now c.args.net.now k.0) c.args.cut l i.1.cells)
-        (sym c.as_slice-in-loop-begin.ensures.value) i.5.kept.soon in
-    (k.0, i.1, reached c.args.scenario.now c.args.net.now c.requires.network c.until-until.ensures.accepted k.0 c.args.ends.now
-        c.requires.ends i.0 i.1 i.2 c.loop-begin.begin c.until-until.result i.4 c.until-until.ensures.until c.loop-begin-test.true
-        c.args.cut c.as_slice-in-loop-begin.result.now soon_now, safe c.args.scenario.now c.args.net.now c.requires.network
-        c.until-until.ensures.accepted k.0 c.args.ends.now c.requires.ends i.0 i.1 i.2 c.loop-begin.begin c.until-until.result i.4
-        c.until-until.ensures.until c.loop-begin-test.true c.args.cut c.as_slice-in-loop-begin.result.now soon_now c.end-end.result
-        c.end-end.ensures, i.5)
+    (sym c.as_slice-in-loop-begin.ensures.value) i.5.kept.soon in (
+      k.0,
+      i.1,
+      reached c.args.scenario.now c.args.net.now c.requires.network c.until-until.ensures.accepted k.0 c.args.ends.now
+          c.requires.ends i.0 i.1 i.2 c.loop-begin.begin c.until-until.result i.4 c.until-until.ensures.until c.loop-begin-test.true
+          c.args.cut c.as_slice-in-loop-begin.result.now soon_now,
+      safe c.args.scenario.now c.args.net.now c.requires.network
+          c.until-until.ensures.accepted k.0 c.args.ends.now c.requires.ends i.0 i.1 i.2 c.loop-begin.begin c.until-until.result i.4
+          c.until-until.ensures.until c.loop-begin-test.true c.args.cut c.as_slice-in-loop-begin.result.now soon_now c.end-end.result
+          c.end-end.ensures,
+      i.5,
+    )
 
 pub returns-in-Err-window-clause-fault : goal.returns-in-Err-window-clause-fault
 returns-in-Err-window-clause-fault g c =
@@ -79,25 +84,25 @@ returns-in-Err-window-clause-fault g c =
     let seed = k.0 in
     let i = c.loop-begin.invariant.windows k.0 k.1 in
     let soon_now = subst (λ l. AreSoonest (setting_of c.args.scenario.now c.args.net.now k.0) c.args.cut l i.1.cells)
-        (sym c.as_slice-in-loop-begin.ensures.value) i.5.kept.soon in
+    (sym c.as_slice-in-loop-begin.ensures.value) i.5.kept.soon in
     window_under_way g.C.Crew.handed (λ b. (goal.Member-dyn g (b.vtable, b.value)).plain b.value)
-        (setting_of c.args.scenario.now c.args.net.now seed) c.args.ledger.now c.args.cut c.end-end.result i.1 c.loop-begin.crew
-        c.in-Err-window.fault c.window.new.crew
+    (setting_of c.args.scenario.now c.args.net.now seed) c.args.ledger.now c.args.cut c.end-end.result i.1 c.loop-begin.crew
+    c.in-Err-window.fault c.window.new.crew
     (c.in-Err-window.ensures.window seed i.1 (reached c.args.scenario.now c.args.net.now c.requires.network c.until-until.ensures.accepted
-        seed c.args.ends.now c.requires.ends i.0 i.1 i.2 c.loop-begin.begin c.until-until.result i.4 c.until-until.ensures.until
-        c.loop-begin-test.true c.args.cut c.as_slice-in-loop-begin.result.now soon_now)
-        (safe c.args.scenario.now c.args.net.now c.requires.network c.until-until.ensures.accepted seed c.args.ends.now c.requires.ends i.0
-        i.1 i.2 c.loop-begin.begin c.until-until.result i.4 c.until-until.ensures.until c.loop-begin-test.true c.args.cut
-        c.as_slice-in-loop-begin.result.now soon_now c.end-end.result c.end-end.ensures) i.5)
+    seed c.args.ends.now c.requires.ends i.0 i.1 i.2 c.loop-begin.begin c.until-until.result i.4 c.until-until.ensures.until
+    c.loop-begin-test.true c.args.cut c.as_slice-in-loop-begin.result.now soon_now)
+    (safe c.args.scenario.now c.args.net.now c.requires.network c.until-until.ensures.accepted seed c.args.ends.now c.requires.ends i.0
+    i.1 i.2 c.loop-begin.begin c.until-until.result i.4 c.until-until.ensures.until c.loop-begin-test.true c.args.cut
+    c.as_slice-in-loop-begin.result.now soon_now c.end-end.result c.end-end.ensures) i.5)
 
 pub returns-in-Err-window-clause-windows : goal.returns-in-Err-window-clause-windows
 returns-in-Err-window-clause-windows g c = λ seed h.
     let i = c.loop-begin.invariant.windows seed h in
     let soon_now = subst (λ l. AreSoonest (setting_of c.args.scenario.now c.args.net.now seed) c.args.cut l i.1.cells)
-        (sym c.as_slice-in-loop-begin.ensures.value) i.5.kept.soon in
+    (sym c.as_slice-in-loop-begin.ensures.value) i.5.kept.soon in
     let came = reached c.args.scenario.now c.args.net.now c.requires.network c.until-until.ensures.accepted seed c.args.ends.now
-        c.requires.ends i.0 i.1 i.2 c.loop-begin.begin c.until-until.result i.4 c.until-until.ensures.until c.loop-begin-test.true
-        c.args.cut c.as_slice-in-loop-begin.result.now soon_now in (
+    c.requires.ends i.0 i.1 i.2 c.loop-begin.begin c.until-until.result i.4 c.until-until.ensures.until c.loop-begin-test.true
+    c.args.cut c.as_slice-in-loop-begin.result.now soon_now in (
       (
         i.1,
         came,
@@ -108,11 +113,11 @@ returns-in-Err-window-clause-windows g c = λ seed h.
           i.0 i.1 i.2 c.loop-begin.begin c.until-until.result i.4 c.until-until.ensures.until c.loop-begin-test.true c.args.cut
           c.as_slice-in-loop-begin.result.now soon_now c.end-end.result c.end-end.ensures
           g.C.Crew.handed (λ b. (goal.Member-dyn g (b.vtable, b.value)).plain b.value) c.args.ledger.now c.args.crew.now c.loop-begin.crew
-              c.in-Err-window.fault c.window.new.crew
+          c.in-Err-window.fault c.window.new.crew
           (c.in-Err-window.ensures.window seed i.1 came
-              (safe c.args.scenario.now c.args.net.now c.requires.network c.until-until.ensures.accepted seed c.args.ends.now
-              c.requires.ends i.0 i.1 i.2 c.loop-begin.begin c.until-until.result i.4 c.until-until.ensures.until c.loop-begin-test.true
-              c.args.cut c.as_slice-in-loop-begin.result.now soon_now c.end-end.result c.end-end.ensures) i.5),
+          (safe c.args.scenario.now c.args.net.now c.requires.network c.until-until.ensures.accepted seed c.args.ends.now
+          c.requires.ends i.0 i.1 i.2 c.loop-begin.begin c.until-until.result i.4 c.until-until.ensures.until c.loop-begin-test.true
+          c.args.cut c.as_slice-in-loop-begin.result.now soon_now c.end-end.result c.end-end.ensures) i.5),
     )
 
 pub returns-in-Err-hand-clause-fault : goal.returns-in-Err-hand-clause-fault
@@ -122,25 +127,25 @@ pub returns-in-Err-hand-clause-windows : goal.returns-in-Err-hand-clause-windows
 returns-in-Err-hand-clause-windows g c = λ seed h.
     let i = c.loop-begin.invariant.windows seed h in
     let soon_now = subst (λ l. AreSoonest (setting_of c.args.scenario.now c.args.net.now seed) c.args.cut l i.1.cells)
-        (sym c.as_slice-in-loop-begin.ensures.value) i.5.kept.soon in
+    (sym c.as_slice-in-loop-begin.ensures.value) i.5.kept.soon in
     let s = setting_of c.args.scenario.now c.args.net.now seed in
     let rule = ends_rule s c.args.ends.now in
     let told = c.in-Ok.ensures.window seed i.1 (reached c.args.scenario.now c.args.net.now c.requires.network c.until-until.ensures.accepted
-        seed c.args.ends.now c.requires.ends i.0 i.1 i.2 c.loop-begin.begin c.until-until.result i.4 c.until-until.ensures.until
-        c.loop-begin-test.true c.args.cut c.as_slice-in-loop-begin.result.now soon_now)
-        (safe c.args.scenario.now c.args.net.now c.requires.network c.until-until.ensures.accepted seed c.args.ends.now c.requires.ends i.0
-        i.1 i.2 c.loop-begin.begin c.until-until.result i.4 c.until-until.ensures.until c.loop-begin-test.true c.args.cut
-        c.as_slice-in-loop-begin.result.now soon_now c.end-end.result c.end-end.ensures) i.5 in
+    seed c.args.ends.now c.requires.ends i.0 i.1 i.2 c.loop-begin.begin c.until-until.result i.4 c.until-until.ensures.until
+    c.loop-begin-test.true c.args.cut c.as_slice-in-loop-begin.result.now soon_now)
+    (safe c.args.scenario.now c.args.net.now c.requires.network c.until-until.ensures.accepted seed c.args.ends.now c.requires.ends i.0
+    i.1 i.2 c.loop-begin.begin c.until-until.result i.4 c.until-until.ensures.until c.loop-begin-test.true c.args.cut
+    c.as_slice-in-loop-begin.result.now soon_now c.end-end.result c.end-end.ensures) i.5 in
     let more = follows c.args.scenario.now c.args.net.now c.requires.network c.until-until.ensures.accepted seed c.args.ends.now
-        c.requires.ends i.0 i.1 i.2 c.loop-begin.begin c.until-until.result i.4 c.until-until.ensures.until c.loop-begin-test.true
-        c.args.cut c.as_slice-in-loop-begin.result.now soon_now c.end-end.result c.end-end.ensures told.0 told.1 in
+    c.requires.ends i.0 i.1 i.2 c.loop-begin.begin c.until-until.result i.4 c.until-until.ensures.until c.loop-begin-test.true
+    c.args.cut c.as_slice-in-loop-begin.result.now soon_now c.end-end.result c.end-end.ensures told.0 told.1 in
     let took = c.in-Err-hand.ensures.rows in (
       (
         told.0,
         (windows_are_reached s rule (i.0 ++ i.1 ∷ []) told.0 more.0).0,
         subst (λ (l : List Row). g.S.RowSink.part c.args.sink.now l c.hand-in-loop-begin.new.sink) (sym told.2)
             (g.met.S.RowSink.part_more c.args.sink.now c.loop-begin.sink c.hand-in-loop-begin.new.sink i.1.trace c.in-Ok.done.1.items i.3
-                took.0),
+            took.0),
       ),
       sink_meets s rule c.args.cut c.args.crew.now c.in-Err-hand.fault c.window.new.crew took.1,
     )
@@ -150,21 +155,21 @@ loop-begin-smaller g c =
     let k = c.requires.opened in
     let i = c.loop-begin.invariant.windows k.0 k.1 in
     let soon_now = subst (λ l. AreSoonest (setting_of c.args.scenario.now c.args.net.now k.0) c.args.cut l i.1.cells)
-        (sym c.as_slice-in-loop-begin.ensures.value) i.5.kept.soon in
+    (sym c.as_slice-in-loop-begin.ensures.value) i.5.kept.soon in
     let s = setting_of c.args.scenario.now c.args.net.now k.0 in
     let told = c.in-Ok.ensures.window k.0 i.1 (reached c.args.scenario.now c.args.net.now c.requires.network c.until-until.ensures.accepted
-        k.0 c.args.ends.now c.requires.ends i.0 i.1 i.2 c.loop-begin.begin c.until-until.result i.4 c.until-until.ensures.until
-        c.loop-begin-test.true c.args.cut c.as_slice-in-loop-begin.result.now soon_now)
-        (safe c.args.scenario.now c.args.net.now c.requires.network c.until-until.ensures.accepted k.0 c.args.ends.now c.requires.ends i.0
-        i.1 i.2 c.loop-begin.begin c.until-until.result i.4 c.until-until.ensures.until c.loop-begin-test.true c.args.cut
-        c.as_slice-in-loop-begin.result.now soon_now c.end-end.result c.end-end.ensures) i.5 in
+    k.0 c.args.ends.now c.requires.ends i.0 i.1 i.2 c.loop-begin.begin c.until-until.result i.4 c.until-until.ensures.until
+    c.loop-begin-test.true c.args.cut c.as_slice-in-loop-begin.result.now soon_now)
+    (safe c.args.scenario.now c.args.net.now c.requires.network c.until-until.ensures.accepted k.0 c.args.ends.now c.requires.ends i.0
+    i.1 i.2 c.loop-begin.begin c.until-until.result i.4 c.until-until.ensures.until c.loop-begin-test.true c.args.cut
+    c.as_slice-in-loop-begin.result.now soon_now c.end-end.result c.end-end.ensures) i.5 in
     let next = c.least-begin-in-loop-begin.ensures s c.args.cut told.0
-        (subst (λ l. AreSoonest s c.args.cut l told.0.cells) (sym c.as_slice-in-loop-begin-2.ensures.value) told.3.kept.soon)
-        c.until-until.ensures.until in
+    (subst (λ l. AreSoonest s c.args.cut l told.0.cells) (sym c.as_slice-in-loop-begin-2.ensures.value) told.3.kept.soon)
+    c.until-until.ensures.until in
     let more = later c.args.scenario.now c.args.net.now c.requires.network c.until-until.ensures.accepted k.0 c.args.ends.now
-        c.requires.ends i.0 i.1 i.2 c.loop-begin.begin c.until-until.result i.4 c.until-until.ensures.until c.loop-begin-test.true
-        c.args.cut c.as_slice-in-loop-begin.result.now soon_now c.end-end.result c.end-end.ensures told.0 c.least-begin-in-loop-begin.result
-        told.1 next in
+    c.requires.ends i.0 i.1 i.2 c.loop-begin.begin c.until-until.result i.4 c.until-until.ensures.until c.loop-begin-test.true
+    c.args.cut c.as_slice-in-loop-begin.result.now soon_now c.end-end.result c.end-end.ensures told.0 c.least-begin-in-loop-begin.result
+    told.1 next in
     let early : c.loop-begin.begin < c.until-until.result = c.loop-begin-test.true in
     omega arith
 
@@ -178,28 +183,28 @@ loop-begin-preserved g c = record {
   windows = λ seed h.
       let i = c.loop-begin.invariant.windows seed h in
       let soon_now = subst (λ l. AreSoonest (setting_of c.args.scenario.now c.args.net.now seed) c.args.cut l i.1.cells)
-          (sym c.as_slice-in-loop-begin.ensures.value) i.5.kept.soon in
+      (sym c.as_slice-in-loop-begin.ensures.value) i.5.kept.soon in
       let s = setting_of c.args.scenario.now c.args.net.now seed in
       let told = c.in-Ok.ensures.window seed i.1 (reached c.args.scenario.now c.args.net.now c.requires.network
-          c.until-until.ensures.accepted seed c.args.ends.now c.requires.ends i.0 i.1 i.2 c.loop-begin.begin c.until-until.result i.4
-          c.until-until.ensures.until c.loop-begin-test.true c.args.cut c.as_slice-in-loop-begin.result.now soon_now)
-          (safe c.args.scenario.now c.args.net.now c.requires.network c.until-until.ensures.accepted seed c.args.ends.now c.requires.ends
-          i.0 i.1 i.2 c.loop-begin.begin c.until-until.result i.4 c.until-until.ensures.until c.loop-begin-test.true c.args.cut
-          c.as_slice-in-loop-begin.result.now soon_now c.end-end.result c.end-end.ensures) i.5 in
+      c.until-until.ensures.accepted seed c.args.ends.now c.requires.ends i.0 i.1 i.2 c.loop-begin.begin c.until-until.result i.4
+      c.until-until.ensures.until c.loop-begin-test.true c.args.cut c.as_slice-in-loop-begin.result.now soon_now)
+      (safe c.args.scenario.now c.args.net.now c.requires.network c.until-until.ensures.accepted seed c.args.ends.now c.requires.ends
+      i.0 i.1 i.2 c.loop-begin.begin c.until-until.result i.4 c.until-until.ensures.until c.loop-begin-test.true c.args.cut
+      c.as_slice-in-loop-begin.result.now soon_now c.end-end.result c.end-end.ensures) i.5 in
       let more = follows c.args.scenario.now c.args.net.now c.requires.network c.until-until.ensures.accepted seed c.args.ends.now
-          c.requires.ends i.0 i.1 i.2 c.loop-begin.begin c.until-until.result i.4 c.until-until.ensures.until c.loop-begin-test.true
-          c.args.cut c.as_slice-in-loop-begin.result.now soon_now c.end-end.result c.end-end.ensures told.0 told.1 in
+      c.requires.ends i.0 i.1 i.2 c.loop-begin.begin c.until-until.result i.4 c.until-until.ensures.until c.loop-begin-test.true
+      c.args.cut c.as_slice-in-loop-begin.result.now soon_now c.end-end.result c.end-end.ensures told.0 told.1 in
       let took = subst (λ (l : List Row). g.S.RowSink.took c.args.sink.now l c.hand-in-loop-begin.new.sink) (sym told.2)
       (g.met.S.RowSink.took_more c.args.sink.now c.loop-begin.sink c.hand-in-loop-begin.new.sink i.1.trace c.in-Ok.done.1.items i.3
-          c.in_default-hand.ensures.rows) in
+      c.in_default-hand.ensures.rows) in
       let next = c.least-begin-in-loop-begin.ensures s c.args.cut told.0
-          (subst (λ l. AreSoonest s c.args.cut l told.0.cells) (sym c.as_slice-in-loop-begin-2.ensures.value) told.3.kept.soon)
-          c.until-until.ensures.until in
+      (subst (λ l. AreSoonest s c.args.cut l told.0.cells) (sym c.as_slice-in-loop-begin-2.ensures.value) told.3.kept.soon)
+      c.until-until.ensures.until in
       let calls = subst (λ l. g.C.Crew.handed c.args.crew.now l c.window.new.crew)
-          (sym (call_more c.args.scenario.now c.args.net.now c.requires.network c.until-until.ensures.accepted seed c.args.ends.now
-          c.requires.ends i.0 i.1 i.2 c.loop-begin.begin c.until-until.result i.4 c.until-until.ensures.until c.loop-begin-test.true
-          c.args.cut c.as_slice-in-loop-begin.result.now soon_now c.end-end.result c.end-end.ensures))
-          (g.met.C.Crew.handed_more _ _ _ _ _ i.6 told.4) in
+      (sym (call_more c.args.scenario.now c.args.net.now c.requires.network c.until-until.ensures.accepted seed c.args.ends.now
+      c.requires.ends i.0 i.1 i.2 c.loop-begin.begin c.until-until.result i.4 c.until-until.ensures.until c.loop-begin-test.true
+      c.args.cut c.as_slice-in-loop-begin.result.now soon_now c.end-end.result c.end-end.ensures))
+      (g.met.C.Crew.handed_more _ _ _ _ _ i.6 told.4) in
       (i.0 ++ i.1 ∷ [], told.0, more.0, took, next, told.3, calls);
 }
 
@@ -208,6 +213,6 @@ returns-clause-windows g c = λ seed h.
     let i = c.loop-begin.invariant.windows seed h in
     let s = setting_of c.args.scenario.now c.args.net.now seed in
     let late : s.traffic.until ≤ start_of s i.1 = (let b = i.4 in let u = c.until-until.ensures.until in let no = c.loop-begin-test.false in
-        omega arith) in
+    omega arith) in
     let last = (windows_are_reached s (ends_rule s c.args.ends.now) i.0 i.1 i.2).1 ((starts_tell s i.1).1 late) in
     (i.0, i.1, i.2, last, i.3, i.5, i.6)

@@ -17,7 +17,7 @@ invariant-loop-begin g l = record {
   windows : (seed : ℕ) → Holds (λ b. (goal.Member-dyn g (b.vtable, b.value)).plain b.value) (setting_of l.scenario l.net seed) l.ledger
       l.cut l.fn.cells (opening (setting_of l.scenario l.net seed))
       → (begins : List World) × (w : World) × AreWindows (setting_of l.scenario l.net seed)
-          (ends_rule (setting_of l.scenario l.net seed) l.ends) begins w
+      (ends_rule (setting_of l.scenario l.net seed) l.ends) begins w
       × g.S.RowSink.took l.fn.sink w.trace l.sink × (l.begin ≡ min l.until (start_of (setting_of l.scenario l.net seed) w))
       × Holds (λ b. (goal.Member-dyn g (b.vtable, b.value)).plain b.value) (setting_of l.scenario l.net seed) l.ledger l.cut l.cells w
       × g.C.Crew.handed l.fn.crew (calls_of (ends_rule (setting_of l.scenario l.net seed) l.ends) l.cut begins) l.crew;

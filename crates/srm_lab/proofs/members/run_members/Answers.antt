@@ -6,9 +6,10 @@ use Rattle.srm_lab.proofs.Openings.{opening-push}
 use Rattle.srm_lab.proofs.Refusals.{tells-nothing}
 use Rattle.srm_lab.proofs.members.run_members.OwnLists.{own-1, at-1-1, at-1-2, at-1-3, at-1-4}
 use Rattle.srm_lab.proofs.members.run_members.Goals as goal
-use Rattle.srm_lab.proofs.members.run_members.Goals.{in-Sender+in_ok-new-in-Sender+in_ok-new-in-Sender-2,
-    in-Receiver+in_ok-new-in-Receiver+in_ok-new-in-Receiver-2, in-Late+in_ok-new-in-Late+in_ok-new-in-Late-2,
-    in-Listener+in_ok-new-in-Listener+in_ok-new-in-Listener-2}
+use Rattle.srm_lab.proofs.members.run_members.Goals.{in-Sender+in_ok-new-in-Sender+in_ok-new-in-Sender-2}
+use Rattle.srm_lab.proofs.members.run_members.Goals.{in-Receiver+in_ok-new-in-Receiver+in_ok-new-in-Receiver-2}
+use Rattle.srm_lab.proofs.members.run_members.Goals.{in-Late+in_ok-new-in-Late+in_ok-new-in-Late-2}
+use Rattle.srm_lab.proofs.members.run_members.Goals.{in-Listener+in_ok-new-in-Listener+in_ok-new-in-Listener-2}
 
 pub returns-in_err-push-clause-report : goal.returns-in_err-push-clause-report
 returns-in_err-push-clause-report g c = tells-nothing c.args.scenario.now c.args.net.now c.args.seed c.args.options _ _
@@ -18,7 +19,7 @@ pub loop-m-preserved : goal.loop-m-preserved
 loop-m-preserved g c =
     ap (map (λ b. (own-1.entry b.vtable).1.plain b.value)) c.in_ok-push.ensures.items
     ∙ opening-push (λ b. (own-1.entry b.vtable).1.plain b.value) c.args.scenario.now c.args.net.now c.args.seed c.loop-m.m
-        c.loop-m.members.items c.match-role.member c.loop-m.invariant
+    c.loop-m.members.items c.match-role.member c.loop-m.invariant
     (elim c.match-role.branch [
       | in-Sender+in_ok-new-in-Sender+in_ok-new-in-Sender-2 w ↦
           ap (λ b. (own-1.entry b.vtable).1.plain b.value) w.member-is

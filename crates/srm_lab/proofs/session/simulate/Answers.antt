@@ -21,4 +21,4 @@ pub returns-clause-read : goal.returns-clause-read
 returns-clause-read g c =
     let few : length c.deref.result.now ≤ 1048576 = rw c.deref.ensures.value c.in-Ok.ensures.bound in
     c.in-Ok.ensures.failures ∙ text_read c.deref.result.now c.args.seed c.args.options _ _ c.simulate_text.result
-        (g.F.Feed.failures c.args.feed.now) few c.simulate_text.ensures.report
+    (g.F.Feed.failures c.args.feed.now) few c.simulate_text.ensures.report

@@ -11,7 +11,7 @@ returns-in_default-clause-fault c =
     let ss = reverse c.loop-size.steps.items in
     let known = c.as_slice.result.now in
     let agree : KnownAre c.args.nodes ss known = subst (KnownAre c.args.nodes ss) (sym c.as_slice.ensures.value) c.loop-size.invariant.known
-        in
+    in
     let long : length c.loop-size.steps.items + 1 ≡ c.loop-size._size = c.loop-size.invariant.long in
     let turn = length-reverse c.loop-size.steps.items in
     let few : length ss + 1 < c.args.nodes = omega arith in
@@ -44,7 +44,7 @@ loop-size-preserved c =
       marks = length-set c.loop-size.known.items c.from-in-loop-size.result true ∙ inv.marks;
       known = subst (λ ts. KnownAre c.args.nodes ts (slice_set c.loop-size.known.items c.from-in-loop-size.result true)) (sym more)
           (subst (λ n. KnownAre c.args.nodes (s ∷ ss) (slice_set c.loop-size.known.items n true)) (sym c.from-in-loop-size.ensures)
-              (known_more c.args.nodes ss s c.loop-size.known.items inv.marks below inv.known));
+          (known_more c.args.nodes ss s c.loop-size.known.items inv.marks below inv.known));
       grown = subst (Grows c.args.links.now) (sym more) (a, inv.grown);
     }
 
@@ -54,4 +54,4 @@ returns-clause-tree c =
     let turn = length-reverse c.loop-size.steps.items in
     let long = c.loop-size.invariant.long in
     whole_tree c.args.nodes c.args.links.now (reverse c.loop-size.steps.items) (omega arith) (omega arith) ends
-        (omega arith) c.loop-size.invariant.grown (omega arith)
+    (omega arith) c.loop-size.invariant.grown (omega arith)

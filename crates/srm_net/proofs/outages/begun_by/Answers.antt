@@ -6,4 +6,4 @@ use Rattle.srm_net.proofs.outages.begun_by.Goals as goal
 pub returns-clause-point : goal.returns-clause-point
 returns-clause-point c =
     IsPartitionPoint-from_clause (begins_by c.args.link c.args.tick) c.args.outages.now c.partition_point.result
-        c.partition_point.ensures.partitioned c.requires (λ a r f' k. search rules)
+    c.partition_point.ensures.partitioned c.requires (λ a r f' k. search rules)

@@ -2,8 +2,9 @@ use Rattle.std.proofs.Common.{rules, ◌≡◌, ◌∙◌, ◌+◌, ◌-◌, ◌
 use Rattle.srm_net.specs.declared.link.OutageSpec.{OutageSpec}
 use Rattle.srm_net.specs.Outages.{outage_at, no_outage, LastsLongest}
 use Rattle.srm_net.proofs.OutageLemmas.{IsNextSpan, any_default, longest_more, next_as_it_is}
-use Rattle.srm_net.proofs.outages.prolonged.Goals.{then-place-gt0+then-before-span+then-span-before, then-place-gt0+else-before-span,
-    else-before-span-via-then-before-span+else-span-before, else-before-span-via-else-before-span, else-place-gt0}
+use Rattle.srm_net.proofs.outages.prolonged.Goals.{then-place-gt0+then-before-span+then-span-before, then-place-gt0+else-before-span}
+use Rattle.srm_net.proofs.outages.prolonged.Goals.{else-before-span-via-then-before-span+else-span-before}
+use Rattle.srm_net.proofs.outages.prolonged.Goals.{else-before-span-via-else-before-span, else-place-gt0}
 use Rattle.srm_net.proofs.outages.prolonged.Goals as goal
 
 pub loop-place-preserved : goal.loop-place-preserved
@@ -17,7 +18,7 @@ loop-place-preserved c =
       | then-place-gt0+then-before-span+then-span-before w ↦
           (let some : 0 < n = w.if-place-gt0.true in
           let last : outage_at ss (n - 1) ≡ w.index-before.result.now =
-              any_default ss (n - 1) no_outage w.index-before.result.now (omega arith) ∙ sym w.index-before.ensures in
+          any_default ss (n - 1) no_outage w.index-before.result.now (omega arith) ∙ sym w.index-before.ensures in
           let later : (outage_at xs n).to < w.index-before.result.now.to = w.if-span-before.true in
           let to : c.if-place-gt0.span.to ≡ w.index-before.result.now.to = ap (λ (o : OutageSpec). o.to) w.span-is in
           record {
@@ -30,7 +31,7 @@ loop-place-preserved c =
       | then-place-gt0+else-before-span w ↦
           (let some : 0 < n = w.if-place-gt0.true in
           let last : outage_at ss (n - 1) ≡ w.index-before.result.now =
-              any_default ss (n - 1) no_outage w.index-before.result.now (omega arith) ∙ sym w.index-before.ensures in
+          any_default ss (n - 1) no_outage w.index-before.result.now (omega arith) ∙ sym w.index-before.ensures in
           next_as_it_is xs ss n c.if-place-gt0.span w.span-is (λ h e. elim w.else-before-span.branch [
             | else-before-span-via-then-before-span+else-span-before v ↦
                 subst (λ (o : OutageSpec). o.to ≤ (outage_at xs n).to) (sym last) v.if-span-before.false

@@ -19,7 +19,7 @@ loop-name-preserved c members rows after o was =
     detect_more members rows after r o i d lt c.loop-name.losses _ (c.loop-name.invariant members rows after o was)
     (c.in_ok-put.ensures
     ∙ ap (λ l. put loss_cmp (record { member = r.key.member; name = get_or l i d }) (record { detected = r.key.time; recovered = None })
-        c.loop-name.losses) c.as_slice-name-items.ensures)
+    c.loop-name.losses) c.as_slice-name-items.ensures)
 
 pub returns : goal.returns
 returns c members rows after o was =

@@ -9,10 +9,10 @@ use Rattle.srm_report.proofs.links.put_link.Goals as goal
 -- the number of one kind more
 number : {fs : List (List ℕ)} {old new : List ℕ} (numbers : List ℕ) (k : Kind) {place : ℕ} → place ≡ place_of k
     → new ≡ comma ∷ (decimal (slice_index numbers place) ++ old) → HasFields old fs
-        → HasFields new (decimal (slice_index numbers (place_of k)) ∷ fs)
+    → HasFields new (decimal (slice_index numbers (place_of k)) ∷ fs)
 number numbers k e written old =
     let n = slice_index numbers (place_of k) in field (decimal n) (decimal_is_plain n) written (ap (λ i. decimal (slice_index numbers i)) e)
-        old
+    old
 
 pub returns : goal.returns
 returns c =
@@ -23,4 +23,4 @@ returns c =
     let request = number ns Request c.place-4.ensures.place c.put_number-4.ensures.written repair in
     let drawop = number ns Drawop c.place-5.ensures.place c.put_number-5.ensures.written request in
     line_is_row c.put_number-6.new.line (field (decimal c.args.link) (decimal_is_plain c.args.link) c.put_number-6.ensures.written refl
-        drawop)
+    drawop)

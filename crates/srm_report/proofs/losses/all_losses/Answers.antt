@@ -18,7 +18,7 @@ loop-row-preserved c =
     let o = subst (IsOrderly c.requires.0) (split rows i r lt c.row-item.is) c.requires.1 in
     let one = take_more rows i r lt ∙ ap (λ q. take i rows ++ q ∷ []) (sym c.row-item.is) in
     subst (λ l. TellLosses l c.note.new.losses) (sym one)
-        (c.in_ok-note.ensures c.requires.0 (take i rows) (drop (i + 1) rows) o c.loop-row.invariant)
+    (c.in_ok-note.ensures c.requires.0 (take i rows) (drop (i + 1) rows) o c.loop-row.invariant)
 
 pub returns : goal.returns
 returns c =

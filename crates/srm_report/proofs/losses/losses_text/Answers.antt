@@ -20,7 +20,7 @@ pub put_loss-requires-clause-member : goal.put_loss-requires-clause-member
 put_loss-requires-clause-member c =
     let es = c.deref-entry-items.result.now in
     let tell = subst (TellLosses c.args.rows.now) (sym (c.deref-entry-items.ensures.value ∙ c.in_ok-entries.ensures)) c.in_ok-losses.ensures
-        in
+    in
     let lt : c.loop-entry.entry-index < length es = c.loop-entry-test.true in
     (next_among c.args.rows.now (length c.args.net.now.hosts) c.requires es tell c.loop-entry.entry-index none lt).0
 
@@ -28,7 +28,7 @@ pub put_loss-requires-clause-source : goal.put_loss-requires-clause-source
 put_loss-requires-clause-source c =
     let es = c.deref-entry-items.result.now in
     let tell = subst (TellLosses c.args.rows.now) (sym (c.deref-entry-items.ensures.value ∙ c.in_ok-entries.ensures)) c.in_ok-losses.ensures
-        in
+    in
     let lt : c.loop-entry.entry-index < length es = c.loop-entry-test.true in
     (next_among c.args.rows.now (length c.args.net.now.hosts) c.requires es tell c.loop-entry.entry-index none lt).1
 
@@ -36,7 +36,7 @@ pub loop-entry-preserved : goal.loop-entry-preserved
 loop-entry-preserved c =
     let es = c.deref-entry-items.result.now in
     let tell = subst (TellLosses c.args.rows.now) (sym (c.deref-entry-items.ensures.value ∙ c.in_ok-entries.ensures)) c.in_ok-losses.ensures
-        in
+    in
     let lt : c.loop-entry.entry-index < length es = c.loop-entry-test.true in
     text_next c.args.rows.now (length c.args.net.now.hosts) c.requires es tell c.args.net.now c.loop-entry.entry-index none _ _ _ lt
     c.loop-entry.invariant (c.text.ensures ∙ c.put_loss.ensures) c.in_ok-extend_from_slice.ensures.items
@@ -45,7 +45,7 @@ pub returns : goal.returns
 returns c =
     let es = c.deref-entry-items.result.now in
     let tell = subst (TellLosses c.args.rows.now) (sym (c.deref-entry-items.ensures.value ∙ c.in_ok-entries.ensures)) c.in_ok-losses.ensures
-        in
+    in
     let whole : c.loop-entry.entry-index ≡ length es = omega arith in
     text_all c.args.rows.now (length c.args.net.now.hosts) c.requires es tell c.args.net.now c.loop-entry.entry-index _ whole
-        c.loop-entry.invariant
+    c.loop-entry.invariant

@@ -24,14 +24,14 @@ returns c =
           ∙ (λ i. comma ∷ (delay_text trip (Some course.detected) (sym w.in-Some.is i) ++ line_feed ∷ []))
     ] in
     let delay : HasFields (line_written c.match-course.line) (text ∷ []) =
-        record { text = put; plain = (delay_is_plain trip (Some course.detected) course.recovered, tt) } in
+    record { text = put; plain = (delay_is_plain trip (Some course.detected) course.recovered, tt) } in
     let recovered = field (time_text course.recovered) (time_is_plain course.recovered) c.put_time.ensures.written refl delay in
     let detected = field (decimal course.detected) (decimal_is_plain course.detected) c.put_number.ensures.written refl recovered in
     let number = field (decimal k.name.number) (decimal_is_plain k.name.number) c.put_number-2.ensures.written
-        (ap decimal c.from.ensures) detected in
+    (ap decimal c.from.ensures) detected in
     let page = field (decimal k.name.page) (decimal_is_plain k.name.page) c.put_number-3.ensures.written
-        (ap decimal c.from-2.ensures) number in
+    (ap decimal c.from-2.ensures) number in
     let source = field (decimal k.name.source) (decimal_is_plain k.name.source) c.put_number-4.ensures.written (ap decimal c.from-3.ensures)
-        page in
+    page in
     let member = field (decimal k.member) (decimal_is_plain k.member) c.put_number-5.ensures.written (ap decimal c.from-4.ensures) source in
     line_is_row c.put_number-5.new.line member

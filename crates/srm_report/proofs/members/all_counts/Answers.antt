@@ -19,12 +19,12 @@ loop-row-preserved c =
           let e : c.if-member-len.counts.items ≡ slice_set cs c.from-member.result w.add.new.self = ap (λ v. v.items) w.counts-is in
           let h : c.from-member.result < length cs = omega arith in
           let n = counted c.args.members rows i c.row-item.result lt c.row-item.is cs inv.counts inv.bounds c.from-member.result
-              w.index_mut.result.now w.add.new.self
+          w.index_mut.result.now w.add.new.self
           c.from-member.ensures h w.index_mut.ensures.value w.add.ensures.counts w.add.ensures.bound in
           record { counts = subst P (sym e) n.0; bounds = subst Q (sym e) n.1 }
       | else-member-len w ↦
           let e : c.if-member-len.counts.items ≡ cs = ap (λ v. v.items) w.counts-is in
           let n = counted_none c.args.members rows i c.row-item.result lt c.row-item.is cs inv.counts inv.bounds c.from-member.result
-              c.from-member.ensures (λ h. omega arith) in
+          c.from-member.ensures (λ h. omega arith) in
           record { counts = subst P (sym e) n.0; bounds = subst Q (sym e) n.1 }
     ]

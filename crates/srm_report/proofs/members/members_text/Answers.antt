@@ -12,7 +12,7 @@ loop-member-init c = table_first member_columns _ c.in_ok-text.ensures.items
 pub loop-member-preserved : goal.loop-member-preserved
 loop-member-preserved c =
     text_more c.args.rows.now c.args.scenario.now.members c.members.result
-        c.members.ensures c.in_ok-counts.counts.items c.in_ok-counts.ensures
+    c.members.ensures c.in_ok-counts.counts.items c.in_ok-counts.ensures
     c.loop-member.member c.from.result c.member.result.now c.index.result.now _ _ _ c.member.ensures c.from.ensures c.index.ensures
     c.loop-member.invariant (c.text.ensures ∙ c.put_member.ensures) c.in_ok-extend_from_slice.ensures.items
 

@@ -14,7 +14,7 @@ returns c =
     let repairs = field (decimal n.repairs) (decimal_is_plain n.repairs) c.put_number-2.ensures.written refl sessions in
     let requests = field (decimal n.requests) (decimal_is_plain n.requests) c.put_number-3.ensures.written refl repairs in
     let still = field (decimal (n.lost - n.fixed)) (decimal_is_plain (n.lost - n.fixed)) c.put_sum.ensures.written
-        (ap decimal less) requests in
+    (ap decimal less) requests in
     let fixed = field (decimal n.fixed) (decimal_is_plain n.fixed) c.put_number-4.ensures.written refl still in
     let lost = field (decimal n.lost) (decimal_is_plain n.lost) c.put_sum-2.ensures.written refl fixed in
     let heard = field (decimal n.heard) (decimal_is_plain n.heard) c.put_number-5.ensures.written refl lost in

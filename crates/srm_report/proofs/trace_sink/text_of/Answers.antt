@@ -8,4 +8,4 @@ pub returns-in-Fresh : goal.returns-in-Fresh
 unfolding trace_of_rows
 returns-in-Fresh c =
     subst (λ (at : Standing). IfOk c.trace_text.result (λ text. text.items ≡ text_next at c.args.rows.now))
-        (sym c.in-Fresh.is) c.trace_text.ensures
+    (sym c.in-Fresh.is) c.trace_text.ensures

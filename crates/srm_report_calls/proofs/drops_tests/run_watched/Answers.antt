@@ -4,15 +4,16 @@ use Rattle.srm_member.specs.Record.{Record}
 use Rattle.srm_report_calls.proofs.Openings.{opening-push}
 use Rattle.srm_report_calls.proofs.drops_tests.run_watched.OwnLists.{own-1, at-1-1, at-1-2, at-1-3, at-1-4}
 use Rattle.srm_report_calls.proofs.drops_tests.run_watched.Goals as goal
-use Rattle.srm_report_calls.proofs.drops_tests.run_watched.Goals.{in-Sender+in-Ok+in_ok-over-in-Sender+in_ok-new-in-Sender,
-    in-Receiver+in-Ok-new+in_ok-over-in-Receiver+in_ok-new-in-Receiver, in-Late+in-Ok-new-2+in_ok-over-in-Late+in_ok-new-in-Late,
-    in-Listener+in-Ok-new-3+in_ok-over-in-Listener+in_ok-new-in-Listener}
+use Rattle.srm_report_calls.proofs.drops_tests.run_watched.Goals.{in-Sender+in-Ok+in_ok-over-in-Sender+in_ok-new-in-Sender}
+use Rattle.srm_report_calls.proofs.drops_tests.run_watched.Goals.{in-Receiver+in-Ok-new+in_ok-over-in-Receiver+in_ok-new-in-Receiver}
+use Rattle.srm_report_calls.proofs.drops_tests.run_watched.Goals.{in-Late+in-Ok-new-2+in_ok-over-in-Late+in_ok-new-in-Late}
+use Rattle.srm_report_calls.proofs.drops_tests.run_watched.Goals.{in-Listener+in-Ok-new-3+in_ok-over-in-Listener+in_ok-new-in-Listener}
 
 pub loop-m-preserved : goal.loop-m-preserved
 loop-m-preserved g c =
     ap (map (λ b. (own-1.entry b.vtable).1.plain b.value)) c.in_ok-push.ensures.items
     ∙ opening-push (λ b. (own-1.entry b.vtable).1.plain b.value) c.args.scenario.now c.args.net.now 0 c.loop-m.m c.loop-m.members.items
-        c.match-role.member c.loop-m.invariant
+    c.match-role.member c.loop-m.invariant
     (elim c.match-role.branch [
       | in-Sender+in-Ok+in_ok-over-in-Sender+in_ok-new-in-Sender w ↦
           ap (λ b. (own-1.entry b.vtable).1.plain b.value) w.member-is

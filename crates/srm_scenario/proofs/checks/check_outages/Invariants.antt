@@ -6,4 +6,4 @@ use Rattle.srm_scenario.proofs.checks.check_outages.Given as goal
 abbrev pub invariant-loop-place : goal.invariant-loop-place
 invariant-loop-place l =
     faults_by BadOutage (fits_outage (length l.links)) l.place (drop l.place l.outages)
-        ≡ faults_by BadOutage (fits_outage (length l.links)) 0 l.outages
+    ≡ faults_by BadOutage (fits_outage (length l.links)) 0 l.outages

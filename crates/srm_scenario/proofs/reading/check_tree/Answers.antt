@@ -9,8 +9,11 @@ returns-in-Ok c =
     test_from_tree (plain_network c.args.nodes c.args.links.now []) network.tree
 
 pub returns-in-Err-NotTree : goal.returns-in-Err-NotTree
-returns-in-Err-NotTree c = inr (refl, not_tree (plain_network c.args.nodes c.args.links.now [])
-    (c.in-Err-NotTree.ensures.not_tree (ap Err c.in-Err-NotTree.field-0-is)))
+returns-in-Err-NotTree c = inr (
+  refl,
+  not_tree (plain_network c.args.nodes c.args.links.now [])
+      (c.in-Err-NotTree.ensures.not_tree (ap Err c.in-Err-NotTree.field-0-is)),
+)
 
 pub unreachable-requires-in-Err-BadHost : goal.unreachable-requires-in-Err-BadHost
 unreachable-requires-in-Err-BadHost c = let h = c.in-Err-BadHost.ensures.bad_host (ap Err c.in-Err-BadHost.field-0-is) in

@@ -10,7 +10,7 @@ pub returns-clause-failures : goal.returns-clause-failures
 returns-clause-failures g c =
     let few : length c.deref.result.now ≤ 1048576 = rw c.deref.ensures.value c.in-Ok.ensures.bound in
     c.in-Ok.ensures.failures ∙ count_stays c.deref.result.now c.scenario_of_text.result (g.F.Feed.failures c.args.feed.now) few
-        c.scenario_of_text.ensures.fault
+    c.scenario_of_text.ensures.fault
 
 pub returns-in-Err-TooLong-clause-taken : goal.returns-in-Err-TooLong-clause-taken
 returns-in-Err-TooLong-clause-taken g c =

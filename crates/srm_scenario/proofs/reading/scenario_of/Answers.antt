@@ -18,9 +18,9 @@ scenario_from-requires-clause-pages c = listed_pages (table_view c.args.table.no
 pub returns-clause-scenario : goal.returns-clause-scenario
 returns-clause-scenario c =
     answer_ok (table_view c.args.table.now) c.in_ok-draft.draft c.scenario_from.result c.in_ok-draft.ensures.draft
-        c.scenario_from.ensures.no_fault c.scenario_from.ensures.plain
+    c.scenario_from.ensures.no_fault c.scenario_from.ensures.plain
 
 pub returns-clause-fault : goal.returns-clause-fault
 returns-clause-fault c =
     answer_err (table_view c.args.table.now) c.in_ok-draft.draft c.scenario_from.result c.in_ok-draft.ensures.draft
-        c.scenario_from.ensures.fault
+    c.scenario_from.ensures.fault

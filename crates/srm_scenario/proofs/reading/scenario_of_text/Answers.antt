@@ -7,12 +7,12 @@ use Rattle.srm_scenario.proofs.reading.scenario_of_text.Goals as goal
 pub returns-in-Ok-clause-scenario : goal.returns-in-Ok-clause-scenario
 returns-in-Ok-clause-scenario c =
     text_ok c.args.text.now (table_view c.in-Ok.table) c.scenario_of.result c.if-text-gt-LONGEST_TEXT.false c.in-Ok.ensures.ok.0
-        c.in-Ok.ensures.ok.1 c.scenario_of.ensures.scenario
+    c.in-Ok.ensures.ok.1 c.scenario_of.ensures.scenario
 
 pub returns-in-Ok-clause-fault : goal.returns-in-Ok-clause-fault
 returns-in-Ok-clause-fault c =
     text_err c.args.text.now (table_view c.in-Ok.table) c.scenario_of.result c.if-text-gt-LONGEST_TEXT.false c.in-Ok.ensures.ok.0
-        c.in-Ok.ensures.ok.1 c.scenario_of.ensures.fault
+    c.in-Ok.ensures.ok.1 c.scenario_of.ensures.fault
 
 pub returns-else-is_memory-clause-fault : goal.returns-else-is_memory-clause-fault
 returns-else-is_memory-clause-fault c =

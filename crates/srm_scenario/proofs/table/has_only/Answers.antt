@@ -15,9 +15,9 @@ loop-key-preserved c =
     let keys = map (λ k. k.now) c.args.keys.now in
     let iter : c.loop-key.key-iterator ≡ e ∷ c.next.new.self = grind (arith, common_steps) in
     let tested : c.is_one_of.result ≡ list_any (λ k. bytes_eq k.now (string_bytes e.0)) c.args.keys.now =
-        rw (← c.as_str.ensures.value) c.is_one_of.ensures in
+    rw (← c.as_str.ensures.value) c.is_one_of.ensures in
     let known : list_any (λ k. bytes_eq k (string_bytes e.0)) keys ≡ true = list_any-map _ (λ k. k.now) c.args.keys.now ∙ sym tested
-        ∙ c.if-not-is_one_of.false in
+    ∙ c.if-not-is_one_of.false in
     let step = has_only-step keys (string_bytes e.0) (view e.1) (members_view c.next.new.self) true known in
     (tt, tt, sym step ∙ ap (λ es. has_only keys (members_view es)) (sym iter) ∙ same)
 
@@ -28,8 +28,8 @@ returns-then-not-is_one_of c =
     let keys = map (λ k. k.now) c.args.keys.now in
     let iter : c.loop-key.key-iterator ≡ e ∷ c.next.new.self = grind (arith, common_steps) in
     let tested : c.is_one_of.result ≡ list_any (λ k. bytes_eq k.now (string_bytes e.0)) c.args.keys.now =
-        rw (← c.as_str.ensures.value) c.is_one_of.ensures in
+    rw (← c.as_str.ensures.value) c.is_one_of.ensures in
     let known : list_any (λ k. bytes_eq k (string_bytes e.0)) keys ≡ false = list_any-map _ (λ k. k.now) c.args.keys.now ∙ sym tested
-        ∙ c.if-not-is_one_of.true in
+    ∙ c.if-not-is_one_of.true in
     let step = has_only-step keys (string_bytes e.0) (view e.1) (members_view c.next.new.self) false known in
     sym step ∙ ap (λ es. has_only keys (members_view es)) (sym iter) ∙ same

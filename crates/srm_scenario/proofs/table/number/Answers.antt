@@ -7,7 +7,7 @@ pub returns-in-Some : goal.returns-in-Some
 returns-in-Some c =
     let found = table_get c.get.result c.args.key.now c.args.table.now.entries c.get.ensures.value in
     number-there c.args.key.now c.args.low c.args.high (table_view c.args.table.now) (view c.in-Some.value.now) c.whole.result
-        (rw c.in-Some.is at found) c.whole.ensures
+    (rw c.in-Some.is at found) c.whole.ensures
 
 pub returns-in-None : goal.returns-in-None
 returns-in-None c =

@@ -16,4 +16,4 @@ returns-in_err-arrays c =
     let known = c.if-not-has_only.ensures in
     rw c.from_residual-in_err-arrays.ensures
     (fits_by ms _ _ _ _ _ c.in_ok-numbers.ensures.version_is (sym known) c.in_ok-numbers.ensures.met c.in_ok-shape.ensures.met
-        c.in_err-arrays.ensures)
+    c.in_err-arrays.ensures)

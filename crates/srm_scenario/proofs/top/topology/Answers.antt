@@ -28,13 +28,13 @@ returns-then-has_key-2 c =
     let ms = table_view c.args.table.now in
     let h = topology_by_word ms c.in_ok-word.word.now _ _ _ (string-there _ _ c.in_ok-word.ensures) (sym c.if-eq.ensures) refl refl in
     second_wrong _ _ (degree_by c.args.version ms _ _ h.tree_said
-        (refused-met (codes "degree") (whole 2 (last_number c.args.version)) ms _ c.if-has_key-2.ensures))
+    (refused-met (codes "degree") (whole 2 (last_number c.args.version)) ms _ c.if-has_key-2.ensures))
 
 pub returns-then-eq-2 : goal.returns-then-eq-2
 returns-then-eq-2 c =
     let ms = table_view c.args.table.now in
     let h = topology_by_word ms c.in_ok-word.word.now _ _ _ (string-there _ _ c.in_ok-word.ensures) (sym c.if-eq.ensures)
-        (sym c.if-eq-2.ensures) refl in
+    (sym c.if-eq-2.ensures) refl in
     record {
       topology = h.met;
       degree = degree_by c.args.version ms _ _ h.tree_said
@@ -48,7 +48,7 @@ pub returns-then-eq-3 : goal.returns-then-eq-3
 returns-then-eq-3 c =
     let ms = table_view c.args.table.now in
     let h = topology_by_word ms c.in_ok-word.word.now _ _ _ (string-there _ _ c.in_ok-word.ensures) (sym c.if-eq.ensures)
-        (sym c.if-eq-2.ensures) (sym c.if-eq-3.ensures) in
+    (sym c.if-eq-2.ensures) (sym c.if-eq-3.ensures) in
     record {
       topology = h.met;
       degree = degree_by c.args.version ms _ _ h.tree_said
@@ -62,5 +62,5 @@ pub returns-else-eq-3 : goal.returns-else-eq-3
 returns-else-eq-3 c =
     let ms = table_view c.args.table.now in
     let h = topology_by_word ms c.in_ok-word.word.now _ _ _ (string-there _ _ c.in_ok-word.ensures) (sym c.if-eq.ensures)
-        (sym c.if-eq-2.ensures) (sym c.if-eq-3.ensures) in
+    (sym c.if-eq-2.ensures) (sym c.if-eq-3.ensures) in
     rw h.met refl

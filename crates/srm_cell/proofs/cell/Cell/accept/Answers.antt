@@ -13,7 +13,8 @@ returns-clause-ok g c = λ m p h.
     let packet = c.args.packet.now in
     let was = c.args.self.now.next in
     let is : c.sooner-self.result ≡ sooner (Some (arriving m c.args.arrival packet.id)) was =
-    c.sooner-self.ensures ∙ ap (λ q. sooner (Some q) was) (c.arriving-arriving.ensures ∙ ap (λ n. arriving n c.args.arrival packet.id) h.parts.number) in
+    c.sooner-self.ensures ∙ ap (λ q. sooner (Some q) was) (c.arriving-arriving.ensures
+    ∙ ap (λ n. arriving n c.args.arrival packet.id) h.parts.number) in
     record {
       parts = record {
         number = h.parts.number;
@@ -24,6 +25,7 @@ returns-clause-ok g c = λ m p h.
         exit = h.parts.exit;
         none_once_left = h.parts.none_once_left;
       };
-      next = subst (λ o. Stands m (hear_at packet (Some c.args.arrival) p) o (next_event m (hear_at packet (Some c.args.arrival) p))) (sym is)
+      next = subst (λ o. Stands m (hear_at packet (Some c.args.arrival) p) o (next_event m (hear_at packet (Some c.args.arrival) p)))
+          (sym is)
           (stands_heard m packet c.args.arrival p was h.next);
     }

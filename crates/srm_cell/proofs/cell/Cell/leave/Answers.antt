@@ -5,7 +5,8 @@ use Rattle.srm_cell.proofs.Saying.{wanting_end, gone_has_none, ended_is_gone, le
 use Rattle.srm_cell.proofs.cell.Cell.leave.Goals as goal
 
 pub returns-in_default : goal.returns-in_default
-returns-in_default g c = λ m e h k q. gone_has_none e e.rest.holds e.cause (empty _ c.args.self.now.member e.rest.holds h.holds c.in_default.ensures.value)
+returns-in_default g c = λ m e h k q. gone_has_none e e.rest.holds e.cause
+    (empty _ c.args.self.now.member e.rest.holds h.holds c.in_default.ensures.value)
 
 pub returns-in-Err-NoMemory : goal.returns-in-Err-NoMemory
 returns-in-Err-NoMemory g c = λ m e h k q.
@@ -15,7 +16,8 @@ returns-in-Err-NoMemory g c = λ m e h k q.
 pub returns-in-Err-Spent : goal.returns-in-Err-Spent
 returns-in-Err-Spent g c = λ m e h k q.
     let is = held _ c.args.self.now.member e.rest.holds h.holds c.in-Some.member c.in-Some.ensures.value in
-    ap (λ x. handle e x e.cause) is ∙ (gone_has_none e _ e.cause (ended_is_gone _ _ (rw c.in-Err-Spent.field-0-is at c.in-Err-Spent.ensures)))
+    ap (λ x. handle e x e.cause) is ∙ (gone_has_none e _ e.cause
+    (ended_is_gone _ _ (rw c.in-Err-Spent.field-0-is at c.in-Err-Spent.ensures)))
 
 pub returns : goal.returns
 returns g c = λ m e h k q.
@@ -23,6 +25,23 @@ returns g c = λ m e h k q.
     let done = left e _ _ c.in-Ok.exit is q c.in-Ok.ensures in (
       _,
       done.1,
-      (λ i. record { key = sym k i; cause = ap word_of q i; about = ap (λ x. about_of x None) q i; told = Parted; lost = sym c.new.ensures i; sent = None }),
-      record { number = h.number; holds = now_empty _ c.take.new.self _ c.take.ensures.after done.0; none_once_left = λ x left. no_record _ c.take.new.self c.take.ensures.after; sent = h.sent; inbox = h.inbox; script = h.script; exit = refl },
+      (λ i. record {
+        key = sym k i;
+        cause = ap word_of q i;
+        about = ap (λ x. about_of x None) q i;
+        told = Parted;
+        lost =
+            sym c.new.ensures i;
+        sent = None;
+      }),
+      record {
+        number = h.number;
+        holds = now_empty _ c.take.new.self _ c.take.ensures.after done.0;
+        none_once_left =
+            λ x left. no_record _ c.take.new.self c.take.ensures.after;
+        sent = h.sent;
+        inbox = h.inbox;
+        script = h.script;
+        exit = refl;
+      },
     )

@@ -4,7 +4,8 @@ use Rattle.srm_cell.proofs.Saying.{wanting, gone_has_none, spent_is_gone, said_n
 use Rattle.srm_cell.proofs.cell.Cell.say.Goals as goal
 
 pub returns-in_default : goal.returns-in_default
-returns-in_default g c = λ m e h k q. gone_has_none e e.rest.holds e.cause (empty _ c.args.self.now.member e.rest.holds h.holds c.in_default.ensures.value)
+returns-in_default g c = λ m e h k q. gone_has_none e e.rest.holds e.cause
+    (empty _ c.args.self.now.member e.rest.holds h.holds c.in_default.ensures.value)
 
 pub returns-in-Err-NoMemory : goal.returns-in-Err-NoMemory
 returns-in-Err-NoMemory g c = λ m e h k q.
@@ -14,17 +15,37 @@ returns-in-Err-NoMemory g c = λ m e h k q.
 pub returns-in-Err-Spent : goal.returns-in-Err-Spent
 returns-in-Err-Spent g c = λ m e h k q.
     let is = held _ c.args.self.now.member e.rest.holds h.holds c.in-Some.member c.in-Some.ensures.value in
-    ap (λ x. handle e x e.cause) is ∙ (gone_has_none e _ e.cause (spent_is_gone _ _ c.args.key.time c.args.cause (rw c.in-Err-Spent.field-0-is at c.in-Err-Spent.ensures)))
+    ap (λ x. handle e x e.cause) is ∙ (gone_has_none e _ e.cause
+    (spent_is_gone _ _ c.args.key.time c.args.cause (rw c.in-Err-Spent.field-0-is at c.in-Err-Spent.ensures)))
 
 pub returns-in_default-body : goal.returns-in_default-body
 returns-in_default-body g c = λ m e h k q.
     let is = held _ c.args.self.now.member e.rest.holds h.holds c.in-Some.member c.in-Some.ensures.value in
     let body = c.in_default-body.is in
-    let about : about_of e.cause c.in-Ok.reaction.body ≡ c.about-subject.result = ap (λ x. about_of x c.in-Ok.reaction.body) q ∙ sym c.about-subject.ensures in (
+    let about : about_of e.cause c.in-Ok.reaction.body ≡ c.about-subject.result = ap (λ x. about_of x c.in-Ok.reaction.body) q
+    ∙ sym c.about-subject.ensures in (
       _,
       said_nothing e c.args.key c.args.cause k q _ _ c.in-Ok.reaction is c.in-Ok.ensures body,
-      (λ i. record { key = sym k i; cause = (ap word_of q ∙ sym c.word-cause_word.ensures) i; about = about i; told = c.in-Ok.reaction.told; lost = c.in-Ok.reaction.lost; sent = None }),
-      record { number = h.number; holds = refl; none_once_left = λ x left. absurd (holds_one _ c.args.self.now.member c.in-Some.member c.in-Some.ensures.value (h.none_once_left x left)); sent = h.sent; inbox = h.inbox; script = h.script; exit = h.exit },
+      (λ i. record {
+        key = sym k i;
+        cause = (ap word_of q ∙ sym c.word-cause_word.ensures) i;
+        about = about i;
+        told =
+            c.in-Ok.reaction.told;
+        lost = c.in-Ok.reaction.lost;
+        sent = None;
+      }),
+      record {
+        number = h.number;
+        holds = refl;
+        none_once_left = λ x left. absurd
+            (holds_one _ c.args.self.now.member c.in-Some.member c.in-Some.ensures.value (h.none_once_left x left));
+        sent = h.sent;
+        inbox =
+            h.inbox;
+        script = h.script;
+        exit = h.exit;
+      },
     )
 
 pub returns-then-self-ge-COUNT_LIMIT : goal.returns-then-self-ge-COUNT_LIMIT
@@ -39,9 +60,29 @@ returns g c = λ m e h k q.
     let is = held _ c.args.self.now.member e.rest.holds h.holds c.in-Some.member c.in-Some.ensures.value in
     let same = h.sent in
     let lt : e.rest.sent < 2 ^ 48 = (let ge = c.if-self-ge-COUNT_LIMIT.false in omega arith) in
-    let about : about_of e.cause c.in-Ok.reaction.body ≡ c.about-subject.result = ap (λ x. about_of x c.in-Ok.reaction.body) q ∙ sym c.about-subject.ensures in (
+    let about : about_of e.cause c.in-Ok.reaction.body ≡ c.about-subject.result = ap (λ x. about_of x c.in-Ok.reaction.body) q
+    ∙ sym c.about-subject.ensures in (
       _,
       said e c.args.key c.args.cause k q _ _ c.in-Ok.reaction c.in-Some-body.body is c.in-Ok.ensures c.in-Some-body.is lt,
-      (λ i. record { key = sym k i; cause = (ap word_of q ∙ sym c.word-cause_word.ensures) i; about = about i; told = c.in-Ok.reaction.told; lost = c.in-Ok.reaction.lost; sent = Some (record { id = record { sender = (sym k i).member; count = same i }; sent = (sym k i).time; body = c.in-Some-body.body }) }),
-      record { number = h.number; holds = refl; none_once_left = λ x left. absurd (holds_one _ c.args.self.now.member c.in-Some.member c.in-Some.ensures.value (h.none_once_left x left)); sent = ap (λ n. n + 1) same; inbox = h.inbox; script = h.script; exit = h.exit },
+      (λ i. record {
+        key = sym k i;
+        cause = (ap word_of q ∙ sym c.word-cause_word.ensures) i;
+        about = about i;
+        told =
+            c.in-Ok.reaction.told;
+        lost = c.in-Ok.reaction.lost;
+        sent = Some
+            (record { id = record { sender = (sym k i).member; count = same i }; sent = (sym k i).time; body = c.in-Some-body.body });
+      }),
+      record {
+        number = h.number;
+        holds = refl;
+        none_once_left = λ x left. absurd
+            (holds_one _ c.args.self.now.member c.in-Some.member c.in-Some.ensures.value (h.none_once_left x left));
+        sent =
+            ap (λ n. n + 1) same;
+        inbox = h.inbox;
+        script = h.script;
+        exit = h.exit;
+      },
     )

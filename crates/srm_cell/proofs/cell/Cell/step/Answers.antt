@@ -17,12 +17,17 @@ pub returns-in-Ok : goal.returns-in-Ok
 returns-in-Ok g c = λ m p h.
     let s = subst (λ o. Stands m p o (next_event m p)) c.in-Some.is h.next in
     let t = c.take-cause.ensures m p s.0 h.parts s.3 in
-    let a = c.in-Ok.ensures m s.0 t.0 s.2 (sym t.1) in
-    (a.0, takes c.args.end m p c.in-Some.next s c.if-next-end.false ∙ a.1, a.2, record { parts = same_parts _ m _ a.0.cell c.least-self.result a.3; next = c.least-self.ensures m a.0.cell a.3 })
+    let a = c.in-Ok.ensures m s.0 t.0 s.2 (sym t.1) in (
+      a.0,
+      takes c.args.end m p c.in-Some.next s c.if-next-end.false ∙ a.1,
+      a.2,
+      record { parts = same_parts _ m _ a.0.cell c.least-self.result a.3; next = c.least-self.ensures m a.0.cell a.3 },
+    )
 
 pub returns-in-Err : goal.returns-in-Err
 returns-in-Err g c = λ m p h.
     let s = subst (λ o. Stands m p o (next_event m p)) c.in-Some.is h.next in
     let t = c.take-cause.ensures m p s.0 h.parts s.3 in
     let a = c.in-Err.ensures m s.0 t.0 s.2 (sym t.1) in
-    tells_fault (λ b. (goal.Member-dyn g (b.vtable, b.value)).plain b.value) m p _ _ c.in-Err.fault c.answer.new.self c.answer.new.self (takes c.args.end m p c.in-Some.next s c.if-next-end.false) a
+    tells_fault (λ b. (goal.Member-dyn g (b.vtable, b.value)).plain b.value) m p _ _ c.in-Err.fault c.answer.new.self c.answer.new.self
+    (takes c.args.end m p c.in-Some.next s c.if-next-end.false) a

@@ -18,7 +18,8 @@ count_packet-requires-clause-room c =
 
 pub returns-in_err-count_packet-clause-asked : goal.returns-in_err-count_packet-clause-asked
 returns-in_err-count_packet-clause-asked c =
-    if_err c.from_residual.result _ (some_packets c.args.rows.now c.loop-row.row-index c.row-item.result c.in-Some.packet c.loop-row-test.true c.row-item.is c.in-Some.is)
+    if_err c.from_residual.result _ (some_packets c.args.rows.now c.loop-row.row-index c.row-item.result c.in-Some.packet
+    c.loop-row-test.true c.row-item.is c.in-Some.is)
 
 pub loop-row-preserved : goal.loop-row-preserved
 loop-row-preserved c = λ ps h.
@@ -27,6 +28,8 @@ loop-row-preserved c = λ ps h.
     let is = c.loop-row.invariant ps h in
     elim c.match-row.branch [
       | in-Some+in_ok-count_packet w ↦ w.self-is ∙ w.in_ok-count_packet.ensures (ps ++ packets_of (take i c.args.rows.now)) is
-          ∙ ap (numbers_of s) (one_more ps c.args.rows.now i c.row-item.result w.in-Some.packet c.loop-row-test.true c.row-item.is w.in-Some.is)
-      | in_default w ↦ w.self-is ∙ is ∙ ap (numbers_of s) (none_more ps c.args.rows.now i c.row-item.result c.loop-row-test.true c.row-item.is w.in_default.is)
+          ∙ ap (numbers_of s) (one_more ps c.args.rows.now i c.row-item.result w.in-Some.packet c.loop-row-test.true c.row-item.is
+          w.in-Some.is)
+      | in_default w ↦ w.self-is ∙ is ∙ ap (numbers_of s)
+          (none_more ps c.args.rows.now i c.row-item.result c.loop-row-test.true c.row-item.is w.in_default.is)
     ]

@@ -10,4 +10,5 @@ drop_step (suc n) (x ∷ xs) k rest h = drop_step n xs k rest h
 pub returns : goal.returns
 returns c =
     let e = c.in_ok-mark.ensures in
-    e.1 ∙ ap (λ l. c.in_ok-mark.mark ∷ l) (sym (rw add-one (drop_step c.self.inside.next c.self.inside.marks.items c.in_ok-mark.mark e.0 (c.self.view_is ∙ e.1))))
+    e.1 ∙ ap (λ l. c.in_ok-mark.mark ∷ l)
+    (sym (rw add-one (drop_step c.self.inside.next c.self.inside.marks.items c.in_ok-mark.mark e.0 (c.self.view_is ∙ e.1))))

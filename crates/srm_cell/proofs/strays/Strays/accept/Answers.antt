@@ -13,10 +13,12 @@ is_new c = rw (c.self.view_is, is_copy c) c.requires
 pub invariant_of-self-2 : goal.invariant_of-self-2
 invariant_of-self-2 c =
     subst HaveKeys (sym (if_ok c.insert.result _ (sym c.is_err.ensures.value ∙ c.if-is_err.false) c.insert.ensures.entries))
-    (keys_stay ((c.args.arrival, c.in_ok-packet.packet.id.sender, c.in_ok-packet.packet.id.count), c.in_ok-packet.packet) c.self.inside.waiting.entries (refl, refl) c.self.invariant (is_new c))
+    (keys_stay ((c.args.arrival, c.in_ok-packet.packet.id.sender, c.in_ok-packet.packet.id.count), c.in_ok-packet.packet)
+    c.self.inside.waiting.entries (refl, refl) c.self.invariant (is_new c))
 
 pub returns-clause-ok : goal.returns-clause-ok
 returns-clause-ok c =
     ap flights_of (if_ok c.insert.result _ (sym c.is_err.ensures.value ∙ c.if-is_err.false) c.insert.ensures.entries)
-    ∙ placed ((c.args.arrival, c.in_ok-packet.packet.id.sender, c.in_ok-packet.packet.id.count), c.in_ok-packet.packet) c.self.inside.waiting.entries (refl, refl) c.self.invariant (is_new c)
+    ∙ placed ((c.args.arrival, c.in_ok-packet.packet.id.sender, c.in_ok-packet.packet.id.count), c.in_ok-packet.packet)
+    c.self.inside.waiting.entries (refl, refl) c.self.invariant (is_new c)
     ∙ rw (is_copy c, c.self.view_is) refl

@@ -9,5 +9,7 @@ settle-requires-clause-known g c = some_told (λ b. (goal.Member-dyn g (b.vtable
     c.advance_each-advanced.ensures (sym c.requires.links)
 
 pub returns-clause-done : goal.returns-clause-done
-returns-clause-done g c = record { tells = λ ps h. c.settle.ensures (traffic_of c.args.scenario.now c.args.net.now) ps
-    (sym c.requires.links) (c.advance_each-advanced.ensures.tells ps h) }
+returns-clause-done g c = record {
+  tells = λ ps h. c.settle.ensures (traffic_of c.args.scenario.now c.args.net.now) ps
+      (sym c.requires.links) (c.advance_each-advanced.ensures.tells ps h);
+}

@@ -11,6 +11,6 @@ returns g c =
     let lt : length c.args.jobs.now.items < 1024 = omega arith in
     rw c.in_ok-push.ensures.items
     (one_more (λ b. (goal.Member-dyn g (b.vtable, b.value)).plain b.value)
-        (length c.args.net.now.hosts) c.args.jobs.now.items _ c.requires.jobs
+    (length c.args.net.now.hosts) c.args.jobs.now.items _ c.requires.jobs
     at lt (may_go_on (λ b. (goal.Member-dyn g (b.vtable, b.value)).plain b.value) (length c.args.net.now.hosts) _ c.requires.known
-        c.requires.till))
+    c.requires.till))

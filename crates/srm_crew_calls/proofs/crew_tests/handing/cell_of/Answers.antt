@@ -11,5 +11,5 @@ returns g c =
     let below = c.if-number-members.false in
     let lt : (fixed_part own).member < length c.args.net.now.hosts = omega arith in
     new_known (λ b. (goal.Member-dyn g (b.vtable, b.value)).plain b.value)
-        (length c.args.net.now.hosts) own c.args.script.items c.args.sent c.new.result c.push.new.self.items
+    (length c.args.net.now.hosts) own c.args.script.items c.args.sent c.new.result c.push.new.self.items
     (c.in_ok-push.ensures.items ∙ ap (λ l. l ++ c.new.result ∷ []) c.new-cells.ensures.items) c.new.ensures lt

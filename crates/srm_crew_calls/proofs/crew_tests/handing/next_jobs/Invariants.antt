@@ -10,4 +10,4 @@ invariant-loop-done g l =
     × (goal.iterator-loop-done g).is_finite l.done-iterator
     × MayMap (λ b. (goal.Member-dyn g (b.vtable, b.value)).plain b.value) (length l.net.hosts) l.jobs.items
     × All (λ d. AreKnown (λ b. (goal.Member-dyn g (b.vtable, b.value)).plain b.value) (length l.net.hosts) d.cells.items)
-        (into_iter_items l.done-iterator)
+    (into_iter_items l.done-iterator)

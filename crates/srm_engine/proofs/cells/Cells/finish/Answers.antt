@@ -21,9 +21,9 @@ loop-cell-preserved g c = (
   tt,
   λ xs h.
       let pushed = pushed_if c.push.result (c.loop-cell.exits.items ++ c.in-Ok.exit ∷ []) c.loop-cell.exits.items c.push.new.self.items
-          (sym c.is_err.ensures.value ∙ c.if-is_err.false) c.push.ensures.items in
+      (sym c.is_err.ensures.value ∙ c.if-is_err.false) c.push.ensures.items in
       let same : c.push.new.self.items ++ xs ≡ c.loop-cell.exits.items ++ (c.in-Ok.exit ∷ xs) = ap (λ (es : List Exit). es ++ xs) pushed
-          ∙ append_assoc c.loop-cell.exits.items (c.in-Ok.exit ∷ []) xs in
+      ∙ append_assoc c.loop-cell.exits.items (c.in-Ok.exit ∷ []) xs in
       subst (λ (es : List Exit). EndAs (λ b. (goal.Member-dyn g (b.vtable, b.value)).plain b.value) c.args.self.cells.items es) (sym same)
       (c.loop-cell.invariant.2 (c.in-Ok.exit ∷ xs)
       (rw c.in-Some.ensures.steps.0 ((λ m p is. ended p c.in-Ok.exit (c.in-Ok.ensures m p is)), h))),
@@ -45,5 +45,5 @@ returns-clause-exits g c =
     let h = c.loop-cell.cell-iterator.rest.ok in
     let none : into_iter_items c.loop-cell.cell-iterator ≡ [] = grind (arith, common_steps) in
     subst (λ (es : List Exit). EndAs (λ b. (goal.Member-dyn g (b.vtable, b.value)).plain b.value) c.args.self.cells.items es)
-        (append-nil c.loop-cell.exits.items)
+    (append-nil c.loop-cell.exits.items)
     (c.loop-cell.invariant.2 [] (rw none tt))

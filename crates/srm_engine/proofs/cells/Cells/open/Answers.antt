@@ -13,8 +13,12 @@ loop-member-init g c = let i = c.into_iter-member-iterator.ensures.into_iter_giv
   tt,
   tt,
   λ net seed h.
-      rw (i, c.in_ok-cells.ensures.items) (length c.args.scenario.now.members, zero-add _, h,
-          none_seen _ (setting_of c.args.scenario.now net seed)),
+      rw (i, c.in_ok-cells.ensures.items) (
+        length c.args.scenario.now.members,
+        zero-add _,
+        h,
+        none_seen _ (setting_of c.args.scenario.now net seed),
+      ),
 )
 
 pub loop-member-preserved : goal.loop-member-preserved
@@ -26,7 +30,7 @@ loop-member-preserved g c = (
       let k = length c.loop-member.cells.items in
       let i = c.loop-member.invariant.2 net seed h in
       let f = record_first c.args.scenario.now net seed k i.0 _ _
-          (sym (ap (map (λ b. (goal.Member-dyn g (b.vtable, b.value)).plain b.value)) c.in-Some.ensures.steps.0) ∙ i.2) in
+      (sym (ap (map (λ b. (goal.Member-dyn g (b.vtable, b.value)).plain b.value)) c.in-Some.ensures.steps.0) ∙ i.2) in
       let added = c.in_ok-add.ensures net seed f.2 i.3 in
       let now : length c.add.new.cells.items ≡ k + 1 = added.as_many ∙ length_opening s (k + 1) 0 in
       let was = i.1 in
@@ -47,16 +51,16 @@ returns g c = λ net seed h.
     let ok = c.loop-member.member-iterator.rest.ok in
     let none : into_iter_items c.loop-member.member-iterator ≡ [] = grind (arith, common_steps) in
     let zero = none_left c.args.scenario.now net seed k i.0
-        (sym (ap (map (λ b. (goal.Member-dyn g (b.vtable, b.value)).plain b.value)) none) ∙ i.2) in
+    (sym (ap (map (λ b. (goal.Member-dyn g (b.vtable, b.value)).plain b.value)) none) ∙ i.2) in
     let was = i.1 in
     let all : k ≡ s.traffic.members = omega arith in
     let ps = opening_cells s s.traffic.members 0 in
     let cells : AreCells (λ b. (goal.Member-dyn g (b.vtable, b.value)).plain b.value) c.loop-member.cells.items ps =
     subst (λ j. AreCells (λ b. (goal.Member-dyn g (b.vtable, b.value)).plain b.value) c.loop-member.cells.items (opening_cells s j 0)) all
-        i.3 in
+    i.3 in
     record {
       cells = cells;
       times = subst (λ (ts : List (Option ℕ)). AreTimes ts ps) (sym c.in_ok-times.ensures)
           (c.in_ok-next_times.ensures.1 ps (subst (λ cs. AreCells (λ b. (goal.Member-dyn g (b.vtable, b.value)).plain b.value) cs ps)
-              (sym c.as_slice.ensures.value) cells));
+          (sym c.as_slice.ensures.value) cells));
     }

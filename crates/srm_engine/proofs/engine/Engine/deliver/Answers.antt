@@ -82,9 +82,9 @@ loop-member-preserved g c =
             let q = there ps m within in
             let heard = heard_below t p m 0 ps in
             subst (λ (qs : List PlainCell). ShowCells (λ b. (goal.Member-dyn g (b.vtable, b.value)).plain b.value) c.loop-member.self.cells
-                qs)
+            qs)
             (sym (set_same heard m q.0 (get_next t p m ps ∙ q.1)) ∙ ap (slice_set heard m)
-                (sym (hears_not t p m q.0 (flight ∙ w.in_default.is))) ∙ heard_next t p m ps q.0 q.1)
+            (sym (hears_not t p m q.0 (flight ∙ w.in_default.is))) ∙ heard_next t p m ps q.0 q.1)
             (i.2 ps h),
       )
     ]
@@ -95,4 +95,4 @@ returns-clause-heard g c = λ ps h.
     let members = c.requires.may.members in
     let all : c.loop-member.member ≡ length ps = omega arith in
     subst (λ n. ShowCells (λ b. (goal.Member-dyn g (b.vtable, b.value)).plain b.value) c.loop-member.self.cells
-        (heard_below (traffic_in c.args.self.now) c.args.packet.now n 0 ps)) all (c.loop-member.invariant.2 ps h)
+    (heard_below (traffic_in c.args.self.now) c.args.packet.now n 0 ps)) all (c.loop-member.invariant.2 ps h)

@@ -9,4 +9,4 @@ invariant-loop-member g l =
     IsStillOf l.fn.self l.self × (l.self.totals ≡ l.fn.self.totals)
     × ((ps : List PlainCell) → ShowCells (λ b. (goal.Member-dyn g (b.vtable, b.value)).plain b.value) l.fn.self.cells ps
     → ShowCells (λ b. (goal.Member-dyn g (b.vtable, b.value)).plain b.value) l.self.cells
-        (heard_below (traffic_in l.fn.self) l.packet l.member 0 ps))
+    (heard_below (traffic_in l.fn.self) l.packet l.member 0 ps))

@@ -14,28 +14,33 @@ use Rattle.srm_engine.specs.Totalled.{MaySend, and_sent}
 use Rattle.srm_engine.proofs.PhaseLemmas.{refused}
 use Rattle.srm_engine.proofs.RunLemmas.{after_spent}
 use Rattle.srm_engine.proofs.Sequential.{get_below}
-use Rattle.srm_engine.proofs.Stepping.{is_over, is_late, step_by, cell_there, event, member_is, is_least, own_is, after_idle, after_done,
-    settled_is, may_send, not_spent, sent_by_member, packets_more}
+use Rattle.srm_engine.proofs.Stepping.{is_over, is_late, step_by, cell_there, event, member_is, is_least, own_is, after_idle, after_done}
+use Rattle.srm_engine.proofs.Stepping.{settled_is, may_send, not_spent, sent_by_member, packets_more}
 use Rattle.srm_engine.proofs.engine.Engine.step.Goals as goal
 
 pub returns-in_default-clause-step : goal.returns-in_default-clause-step
-returns-in_default-clause-step g c = λ seed w h. (is_over (setting_in c.args.self.now seed) w c.args.self.now.cells.times h.seen.times
-    c.in_default.ensures, h)
+returns-in_default-clause-step g c = λ seed w h. (
+  is_over (setting_in c.args.self.now seed) w c.args.self.now.cells.times h.seen.times
+      c.in_default.ensures,
+  h,
+)
 
 pub returns-then-time-until-clause-step : goal.returns-then-time-until-clause-step
 returns-then-time-until-clause-step g c = λ seed w h.
     let late : c.args.self.now.scenario.now.until ≤ c.in-Some.time =
-        (let le = c.if-time-until.true in let u = c.until-until.ensures.until in omega arith) in
-    (is_late (setting_in c.args.self.now seed) w c.args.self.now.cells.times h.seen.times c.in-Some.time c.in-Some.member c.in-Some.ensures
-        late, h)
+    (let le = c.if-time-until.true in let u = c.until-until.ensures.until in omega arith) in (
+      is_late (setting_in c.args.self.now seed) w c.args.self.now.cells.times h.seen.times c.in-Some.time c.in-Some.member c.in-Some.ensures
+          late,
+      h,
+    )
 
 pub step-requires-clause-place : goal.step-requires-clause-place
 step-requires-clause-place g c =
     let k = c.requires.known in
     let early : c.in-Some.time < c.args.self.now.scenario.now.until =
-        (let lt = c.if-time-until.false in let u = c.until-until.ensures.until in omega arith) in
+    (let lt = c.if-time-until.false in let u = c.until-until.ensures.until in omega arith) in
     let p = cell_there (setting_in c.args.self.now k.0) k.1 c.args.self.now.cells.times k.3.seen.times c.in-Some.time c.in-Some.member
-        c.in-Some.ensures early in
+    c.in-Some.ensures early in
     let lt = get_below k.1.cells c.in-Some.member p.0 p.1 in
     let many = k.3.seen.cells.as_many in
     omega arith
@@ -44,9 +49,9 @@ pub step-requires-clause-time : goal.step-requires-clause-time
 step-requires-clause-time g c =
     let k = c.requires.known in
     let early : c.in-Some.time < c.args.self.now.scenario.now.until =
-        (let lt = c.if-time-until.false in let u = c.until-until.ensures.until in omega arith) in
+    (let lt = c.if-time-until.false in let u = c.until-until.ensures.until in omega arith) in
     let p = cell_there (setting_in c.args.self.now k.0) k.1 c.args.self.now.cells.times k.3.seen.times c.in-Some.time c.in-Some.member
-        c.in-Some.ensures early in
+    c.in-Some.ensures early in
     let lt = get_below k.1.cells c.in-Some.member p.0 p.1 in
     let many = k.3.seen.times.as_many in
     omega arith
@@ -55,7 +60,7 @@ pub returns-in-Ok-None-clause-step : goal.returns-in-Ok-None-clause-step
 returns-in-Ok-None-clause-step g c = λ seed w h.
     let s = setting_in c.args.self.now seed in
     let early : c.in-Some.time < c.args.self.now.scenario.now.until =
-        (let lt = c.if-time-until.false in let u = c.until-until.ensures.until in omega arith) in
+    (let lt = c.if-time-until.false in let u = c.until-until.ensures.until in omega arith) in
     let p = cell_there s w c.args.self.now.cells.times h.seen.times c.in-Some.time c.in-Some.member c.in-Some.ensures early in
     let told = rw c.in-Ok-None.field-0-is at c.in-Ok-None.ensures in
     let t = told w.cells p.0 h.seen p.1 in (
@@ -70,26 +75,26 @@ run_fault-requires g c = λ spent.
     let k = c.requires.known in
     let s = setting_in c.args.self.now k.0 in
     let fit : IsFit s = subst (λ (n : Network). IsFit (setting_of c.args.self.now.scenario.now n k.0)) (sym c.requires.network)
-        (settings_are_fit c.args.self.now.scenario.now k.0 c.until-until.ensures.accepted) in
+    (settings_are_fit c.args.self.now.scenario.now k.0 c.until-until.ensures.accepted) in
     let early : c.in-Some.time < c.args.self.now.scenario.now.until =
-        (let lt = c.if-time-until.false in let u = c.until-until.ensures.until in omega arith) in
+    (let lt = c.if-time-until.false in let u = c.until-until.ensures.until in omega arith) in
     let p = cell_there s k.1 c.args.self.now.cells.times k.3.seen.times c.in-Some.time c.in-Some.member c.in-Some.ensures early in
     let told = rw spent at c.in-Err.ensures in
     not_spent s fit k.1 k.2
     (step_by s k.1 c.args.self.now.cells.times k.3.seen.times c.in-Some.time c.in-Some.member c.in-Some.ensures early p.0 p.1
     ∙ ap (λ u. after_step s k.1 c.in-Some.member (own_step u c.in-Some.member p.0)) (sym c.until-until.ensures.until)
     ∙ ap (after_step s k.1 c.in-Some.member) (told k.1.cells p.0 k.3.seen p.1)
-        ∙ after_spent s s.traffic.until (le_refl s.traffic.until) k.1 c.in-Some.member)
+    ∙ after_spent s s.traffic.until (le_refl s.traffic.until) k.1 c.in-Some.member)
 
 pub returns-in-Err-clause-step : goal.returns-in-Err-clause-step
 returns-in-Err-clause-step g c = λ seed w h.
     let s = setting_in c.args.self.now seed in
     let early : c.in-Some.time < c.args.self.now.scenario.now.until =
-        (let lt = c.if-time-until.false in let u = c.until-until.ensures.until in omega arith) in
+    (let lt = c.if-time-until.false in let u = c.until-until.ensures.until in omega arith) in
     let p = cell_there s w c.args.self.now.cells.times h.seen.times c.in-Some.time c.in-Some.member c.in-Some.ensures early in
     rw c.run_fault.ensures (refused (λ b. (goal.Member-dyn g (b.vtable, b.value)).plain b.value) s w c.in-Some.member w.cells
-        (own_step c.until-until.result c.in-Some.member p.0) c.in-Err.fault c.step.new.self.cells.items c.step.new.self.times _
-        (run_fault-requires g c.before) (c.in-Err.ensures w.cells p.0 h.seen p.1)
+    (own_step c.until-until.result c.in-Some.member p.0) c.in-Err.fault c.step.new.self.cells.items c.step.new.self.times _
+    (run_fault-requires g c.before) (c.in-Err.ensures w.cells p.0 h.seen p.1)
     (step_by s w c.args.self.now.cells.times h.seen.times c.in-Some.time c.in-Some.member c.in-Some.ensures early p.0 p.1
     ∙ ap (λ u. after_step s w c.in-Some.member (own_step u c.in-Some.member p.0)) (sym c.until-until.ensures.until)))
 
@@ -98,9 +103,9 @@ send-requires-clause-may g c =
     let k = c.requires.known in
     let s = setting_in c.args.self.now k.0 in
     let fit : IsFit s = subst (λ (n : Network). IsFit (setting_of c.args.self.now.scenario.now n k.0)) (sym c.requires.network)
-        (settings_are_fit c.args.self.now.scenario.now k.0 c.until-until.ensures.accepted) in
+    (settings_are_fit c.args.self.now.scenario.now k.0 c.until-until.ensures.accepted) in
     let early : c.in-Some.time < c.args.self.now.scenario.now.until =
-        (let lt = c.if-time-until.false in let u = c.until-until.ensures.until in omega arith) in
+    (let lt = c.if-time-until.false in let u = c.until-until.ensures.until in omega arith) in
     let p = cell_there s k.1 c.args.self.now.cells.times k.3.seen.times c.in-Some.time c.in-Some.member c.in-Some.ensures early in
     let told = rw c.in-Ok-Some.field-0-is at c.in-Ok-Some.ensures in
     let t = told k.1.cells p.0 k.3.seen p.1 in
@@ -123,7 +128,7 @@ pub returns-in-Ok-clause-step : goal.returns-in-Ok-clause-step
 returns-in-Ok-clause-step g c = λ seed w h.
     let s = setting_in c.args.self.now seed in
     let early : c.in-Some.time < c.args.self.now.scenario.now.until =
-        (let lt = c.if-time-until.false in let u = c.until-until.ensures.until in omega arith) in
+    (let lt = c.if-time-until.false in let u = c.until-until.ensures.until in omega arith) in
     let p = cell_there s w c.args.self.now.cells.times h.seen.times c.in-Some.time c.in-Some.member c.in-Some.ensures early in
     let told = rw c.in-Ok-Some.field-0-is at c.in-Ok-Some.ensures in
     let t = told w.cells p.0 h.seen p.1 in

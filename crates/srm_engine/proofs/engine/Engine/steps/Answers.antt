@@ -1,5 +1,5 @@
-use Rattle.std.proofs.Common.{◌≡◌, ◌<◌, ◌^◌, List, [], ◌∷◌, ◌++◌, Err, refl, sym, ◌∙◌, ap, subst, append-nil, append_assoc, length,
-    length-append, arith}
+use Rattle.std.proofs.Common.{◌≡◌, ◌<◌, ◌^◌, List, [], ◌∷◌, ◌++◌, Err, refl, sym, ◌∙◌, ap, subst, append-nil, append_assoc, length}
+use Rattle.std.proofs.Common.{length-append, arith}
 use Rattle.srm_member.specs.declared.row.Row.{Row}
 use Rattle.srm_cell.specs.Setting.{Setting, setting_of}
 use Rattle.srm_engine.specs.World.{step, IsReached}
@@ -22,16 +22,20 @@ step-requires-clause-known g c =
     let is = c.loop-alloc.invariant.0 in
     let i = c.loop-alloc.invariant.1 k.0 k.1 k.2 k.3 in
     let back : setting_in c.loop-alloc.self k.0 ≡ setting_in c.args.self.now k.0 = λ t. setting_of (is.0 t).now (is.1 t).now k.0 in
-    let short : length c.loop-alloc.rows.items < 2 ^ 63 = omega arith in
-    (k.0, i.0, subst (λ (s : Setting). IsReached s i.0) (sym back) i.1,
-        i.3, countable k.1.trace c.loop-alloc.rows.items i.0.trace i.2 k.4 short)
+    let short : length c.loop-alloc.rows.items < 2 ^ 63 = omega arith in (
+      k.0,
+      i.0,
+      subst (λ (s : Setting). IsReached s i.0) (sym back) i.1,
+      i.3,
+      countable k.1.trace c.loop-alloc.rows.items i.0.trace i.2 k.4 short,
+    )
 
 pub loop-alloc-preserved : goal.loop-alloc-preserved
 loop-alloc-preserved g c =
     let is = c.loop-alloc.invariant.0 in
     let same = c.step.ensures.same in
     let pushed = pushed_if c.push.result (c.loop-alloc.rows.items ++ c.in-Ok-Some.row ∷ []) c.loop-alloc.rows.items c.push.new.self.items
-        (sym c.is_err.ensures.value ∙ c.if-is_err.false) c.push.ensures.items in (
+    (sym c.is_err.ensures.value ∙ c.if-is_err.false) c.push.ensures.items in (
       (same.0 ∙ is.0, same.1 ∙ is.1),
       λ seed w r h.
           let s = setting_in c.args.self.now seed in
@@ -39,7 +43,7 @@ loop-alloc-preserved g c =
           let told = rw c.in-Ok-Some.field-0-is at c.in-Ok-Some.ensures.step in
           let t = told seed i.0 i.3 in
           let here : step (setting_in c.loop-alloc.self seed) i.0 ≡ step s i.0 =
-              λ k. step (setting_of (is.0 k).now (is.1 k).now seed) i.0 in (
+          λ k. step (setting_of (is.0 k).now (is.1 k).now seed) i.0 in (
             t.0,
             reached_more s i.0 t.0 i.1 (sym here ∙ t.1),
             t.2 ∙ ap (λ (l : List Row). l ++ c.in-Ok-Some.row ∷ []) i.2 ∙
@@ -57,7 +61,7 @@ returns-in-Err-clause-steps g c = λ seed w r h.
     let here : step (setting_in c.loop-alloc.self seed) i.0 ≡ step s i.0 = λ k. step (setting_of (is.0 k).now (is.1 k).now seed) i.0 in
     not_stepped (λ b. (goal.Member-dyn g (b.vtable, b.value)).plain b.value) s c.args.most w i.0 c.in-Err.fault c.step.new.self i.1
     (subst (λ o. TellsWorld (λ b. (goal.Member-dyn g (b.vtable, b.value)).plain b.value) i.0 o (Err c.in-Err.fault) c.step.new.self) here
-        (c.in-Err.ensures.step seed i.0 i.3))
+    (c.in-Err.ensures.step seed i.0 i.3))
 
 pub returns-in-Ok-None-clause-steps : goal.returns-in-Ok-None-clause-steps
 returns-in-Ok-None-clause-steps g c = λ seed w r h.

@@ -8,9 +8,9 @@ abbrev pub invariant-loop-alloc : goal.invariant-loop-alloc
 invariant-loop-alloc g l =
     IsStillOf l.fn.self l.self
     × ((seed : ℕ) (w : World) → IsReached (setting_in l.fn.self seed) w →
-        Shows (λ b. (goal.Member-dyn g (b.vtable, b.value)).plain b.value) l.fn.self w
+    Shows (λ b. (goal.Member-dyn g (b.vtable, b.value)).plain b.value) l.fn.self w
     → (v : World) × IsReached (setting_in l.fn.self seed) v × (v.trace ≡ w.trace ++ l.rows.items)
-        × Shows (λ b. (goal.Member-dyn g (b.vtable, b.value)).plain b.value) l.self v)
+    × Shows (λ b. (goal.Member-dyn g (b.vtable, b.value)).plain b.value) l.self v)
     × (length l.rows.items ≤ l.most)
 
 abbrev pub decreases-loop-alloc : goal.decreases-loop-alloc

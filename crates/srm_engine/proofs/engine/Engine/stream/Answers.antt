@@ -59,11 +59,11 @@ returns-in-Err-steps-clause-rows g c = λ seed h.
         i.1,
         subst (λ (l : List Row). g.S.RowSink.part c.args.sink.now l c.loop-left.sink) (append-nil i.0.trace)
             (g.met.S.RowSink.part_more c.args.sink.now c.loop-left.sink c.loop-left.sink i.0.trace [] i.2
-                (g.met.S.RowSink.part_none c.loop-left.sink)),
+            (g.met.S.RowSink.part_none c.loop-left.sink)),
       ),
       not_taken (λ b. (goal.Member-dyn g (b.vtable, b.value)).plain b.value) s 256 i.0 c.in-Err-steps.fault c.steps.new.self
           (subst (λ (x : Setting). TellsSteps (λ b. (goal.Member-dyn g (b.vtable, b.value)).plain b.value) x 256 i.0
-              (Err c.in-Err-steps.fault) c.steps.new.self) back t),
+          (Err c.in-Err-steps.fault) c.steps.new.self) back t),
     )
 
 pub returns-in-Err-hand-clause-rows : goal.returns-in-Err-hand-clause-rows
@@ -79,7 +79,7 @@ returns-in-Err-hand-clause-rows g c = λ seed h.
         subst (λ (x : Setting). IsReached x t.0) back t.1,
         subst (λ (l : List Row). g.S.RowSink.part c.args.sink.now l c.hand-in-loop-left.new.sink) (sym t.2)
             (g.met.S.RowSink.part_more c.args.sink.now c.loop-left.sink c.hand-in-loop-left.new.sink i.0.trace c.in-Ok.rows.items i.2
-                took.0),
+            took.0),
       ),
       sink_refuses (Unit {0}) s c.in-Err-hand.fault took.1,
     )
@@ -91,7 +91,7 @@ returns-then-is_last-clause-rows g c = λ seed h.
     let i = c.loop-left.invariant.rows seed h in
     let back : setting_in c.loop-left.self seed ≡ s = λ t. setting_of (is.0 t).now (is.1 t).now seed in
     let t = subst (λ (x : Setting). TellsSteps (λ b. (goal.Member-dyn g (b.vtable, b.value)).plain b.value) x 256 i.0
-        (Ok c.in-Ok.rows) c.steps.new.self) back
+    (Ok c.in-Ok.rows) c.steps.new.self) back
     (c.in-Ok.ensures.steps seed i.0 (subst (λ (x : Setting). IsReached x i.0) (sym back) i.1) i.3) in
     let short : length c.in-Ok.rows.items < 256 = omega arith in (
       (
@@ -99,7 +99,7 @@ returns-then-is_last-clause-rows g c = λ seed h.
         record { reached = t.1; idle = t.5 short },
         subst (λ (l : List Row). g.S.RowSink.took c.args.sink.now l c.hand-in-loop-left.new.sink) (sym t.2)
             (g.met.S.RowSink.took_more c.args.sink.now c.loop-left.sink c.hand-in-loop-left.new.sink i.0.trace c.in-Ok.rows.items i.2
-                c.in_default-hand.ensures.rows),
+            c.in_default-hand.ensures.rows),
         t.3,
       ),
       tt,
@@ -119,7 +119,7 @@ loop-left-preserved g c =
           let i = c.loop-left.invariant.rows seed h in
           let back : setting_in c.loop-left.self seed ≡ s = λ t. setting_of (is.0 t).now (is.1 t).now seed in
           let t = subst (λ (x : Setting). TellsSteps (λ b. (goal.Member-dyn g (b.vtable, b.value)).plain b.value) x 256 i.0
-              (Ok c.in-Ok.rows) c.steps.new.self) back
+          (Ok c.in-Ok.rows) c.steps.new.self) back
           (c.in-Ok.ensures.steps seed i.0 (subst (λ (x : Setting). IsReached x i.0) (sym back) i.1) i.3) in
           let room = i.4 in
           let few = t.4 in
@@ -128,7 +128,7 @@ loop-left-preserved g c =
             t.1,
             subst (λ (l : List Row). g.S.RowSink.took c.args.sink.now l c.hand-in-loop-left.new.sink) (sym t.2)
                 (g.met.S.RowSink.took_more c.args.sink.now c.loop-left.sink c.hand-in-loop-left.new.sink i.0.trace c.in-Ok.rows.items i.2
-                    c.in_default-hand.ensures.rows),
+                c.in_default-hand.ensures.rows),
             t.3,
             omega arith,
           );
@@ -142,7 +142,7 @@ returns-clause-rows g c = λ seed h.
         i.1,
         subst (λ (l : List Row). g.S.RowSink.part c.args.sink.now l c.loop-left.sink) (append-nil i.0.trace)
             (g.met.S.RowSink.part_more c.args.sink.now c.loop-left.sink c.loop-left.sink i.0.trace [] i.2
-                (g.met.S.RowSink.part_none c.loop-left.sink)),
+            (g.met.S.RowSink.part_none c.loop-left.sink)),
       ),
       tt,
     )

@@ -1,5 +1,5 @@
-use Rattle.std.proofs.Common.{◌≡◌, ◌<◌, ◌≤◌, ℕ, List, true, false, Option, Some, None, length, sym, ap, ◌∙◌, subst, cond, nat_lt, lt-ltb,
-    arith}
+use Rattle.std.proofs.Common.{◌≡◌, ◌<◌, ◌≤◌, ℕ, List, true, false, Option, Some, None, length, sym, ap, ◌∙◌, subst, cond, nat_lt, lt-ltb}
+use Rattle.std.proofs.Common.{arith}
 use Rattle.std.proofs.lemmas.Bool.Decides.{nat_tests}
 use Rattle.srm_engine.specs.declared.next_times.Entry.{Entry}
 use Rattle.srm_engine.specs.NextTimes.{entry_at, least_time, times_in, IsTournament}

@@ -10,7 +10,8 @@ loop-number-preserved c =
     record {
       fixed = c.in_ok-lose_one.ensures.fixed ∙ c.loop-number.invariant.fixed;
       self = ap (lose_from c.args.at c.args.page (c.args.to - (k + 1)) (k + 1)) c.in_ok-lose_one.ensures.ok
-          ∙ sym (lose_from-next c.args.at c.args.page k c.args.to c.loop-number.self c.loop-number-test.true) ∙ c.loop-number.invariant.self;
+          ∙ sym (lose_from-next c.args.at c.args.page k c.args.to c.loop-number.self c.loop-number-test.true)
+          ∙ c.loop-number.invariant.self;
       lost = ap (λ l. l ++ names_from c.args.page (c.args.to - (k + 1)) (k + 1)) c.in_ok-push.ensures.ok
           ∙ append_assoc c.loop-number.lost (name_in c.args.page k ∷ []) (names_from c.args.page (c.args.to - (k + 1)) (k + 1))
           ∙ ap (λ l. c.loop-number.lost ++ l) (sym (names_from-next c.args.page k c.args.to c.loop-number-test.true))
@@ -18,4 +19,5 @@ loop-number-preserved c =
     }
 
 pub returns-clause-ok : goal.returns-clause-ok
-returns-clause-ok c = sym (lose_from-end c.args.at c.args.page c.loop-number.number c.args.to c.loop-number.self c.loop-number-test.false) ∙ c.loop-number.invariant.self
+returns-clause-ok c = sym (lose_from-end c.args.at c.args.page c.loop-number.number c.args.to c.loop-number.self c.loop-number-test.false)
+    ∙ c.loop-number.invariant.self

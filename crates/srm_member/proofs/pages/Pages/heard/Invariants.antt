@@ -6,4 +6,5 @@ use Rattle.srm_member.proofs.pages.Pages.heard.Given as goal
 
 -- the pages still to come
 abbrev pub invariant-loop-page : goal.invariant-loop-page
-invariant-loop-page l = l.heard ++ map (λ (e : PageId × Stream). heard_of e.0 e.1) l.page-iterator ≡ map (λ (e : PageId × Stream). heard_of e.0 e.1) l.self
+invariant-loop-page l = l.heard ++ map (λ (e : PageId × Stream). heard_of e.0 e.1) l.page-iterator
+    ≡ map (λ (e : PageId × Stream). heard_of e.0 e.1) l.self

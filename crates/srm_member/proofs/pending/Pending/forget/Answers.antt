@@ -4,7 +4,8 @@ use Rattle.srm_member.proofs.pending.Pending.forget.Goals as goal
 
 pub invariant_of-self : goal.invariant_of-self
 invariant_of-self c =
-    rw c.take.ensures.rest (answered-step c.args.name c.in-Some.before c.self.inside.index c.remove.new.self c.self.inside.missing c.self.inside.repairs c.self.invariant (sym c.take.ensures.value ∙ c.in-Some.is) (rw c.repair_due.ensures at c.remove.ensures))
+    rw c.take.ensures.rest (answered-step c.args.name c.in-Some.before c.self.inside.index c.remove.new.self c.self.inside.missing
+    c.self.inside.repairs c.self.invariant (sym c.take.ensures.value ∙ c.in-Some.is) (rw c.repair_due.ensures at c.remove.ensures))
 
 pub invariant_of-self-in_default : goal.invariant_of-self-in_default
 invariant_of-self-in_default c =

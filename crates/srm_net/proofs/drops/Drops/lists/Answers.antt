@@ -10,4 +10,4 @@ returns c =
     let keys = c.self.inside.entries.keys in
     let h : c.contains.result ≡ list_any (sought c.args.id c.args.link) keys = c.contains.ensures in
     h ∙ listed_sought keys c.args.id c.args.link ∙ sym (listed_ordered keys c.args.id c.args.link)
-        ∙ ap (λ (r : DropRules). is_listed r.listed c.args.id c.args.link) c.self.view_is
+    ∙ ap (λ (r : DropRules). is_listed r.listed c.args.id c.args.link) c.self.view_is

@@ -10,4 +10,4 @@ returns c =
     let p = c.args.id in
     let h : c.contains.result ≡ has_packet c.self.inside.packets.keys p = c.contains.ensures in
     h ∙ c.self.invariant p ∙ sym (somewhere_ordered c.self.inside.entries.keys p)
-        ∙ ap (λ (r : DropRules). is_listed_somewhere r.listed p) c.self.view_is
+    ∙ ap (λ (r : DropRules). is_listed_somewhere r.listed p) c.self.view_is

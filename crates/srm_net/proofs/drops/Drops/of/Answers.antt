@@ -5,8 +5,8 @@ use Rattle.srm_net.specs.declared.packet.PacketId.{PacketId}
 use Rattle.srm_net.specs.Paths.{is_listed, drop_cmp}
 use Rattle.srm_net.specs.Listed.{is_listed_somewhere}
 use Rattle.srm_net.specs.DropSets.{ordered_once}
-use Rattle.srm_net.proofs.DropLemmas.{drops_ascend, listed_ordered, contains_listed, listed_contains, listed_more, known_more,
-    same_somewhere}
+use Rattle.srm_net.proofs.DropLemmas.{drops_ascend, listed_ordered, contains_listed, listed_contains, listed_more, known_more}
+use Rattle.srm_net.proofs.DropLemmas.{same_somewhere}
 use Rattle.srm_net.proofs.drops.Drops.of.Goals as goal
 
 -- an entry of no use but as a default

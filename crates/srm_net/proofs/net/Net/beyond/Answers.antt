@@ -12,19 +12,19 @@ index-sides-requires c =
 pub returns-then-is_beyond-clause-near : goal.returns-then-is_beyond-clause-near
 returns-then-is_beyond-clause-near c k g =
     near_seen c.self.inside.tree c.args.self.now c.self.view_is c.args.link c.args.node c.link-spec.result c.link-spec.ensures k g true
-        (λ j h. sym c.if-is_beyond.true ∙ c.is_beyond.ensures j h)
+    (λ j h. sym c.if-is_beyond.true ∙ c.is_beyond.ensures j h)
 
 pub returns-then-is_beyond-clause-any : goal.returns-then-is_beyond-clause-any
 returns-then-is_beyond-clause-any c k g =
     any_seen c.self.inside c.self.invariant c.args.self.now c.self.view_is c.args.link c.args.node c.from.result c.index-sides.result.now
-        c.from.ensures c.index-sides.ensures k g true (λ j h. sym c.if-is_beyond.true ∙ c.is_beyond.ensures j h)
+    c.from.ensures c.index-sides.ensures k g true (λ j h. sym c.if-is_beyond.true ∙ c.is_beyond.ensures j h)
 
 pub returns-else-is_beyond-clause-near : goal.returns-else-is_beyond-clause-near
 returns-else-is_beyond-clause-near c k g =
     near_seen c.self.inside.tree c.args.self.now c.self.view_is c.args.link c.args.node c.link-spec.result c.link-spec.ensures k g false
-        (λ j h. sym c.if-is_beyond.false ∙ c.is_beyond.ensures j h)
+    (λ j h. sym c.if-is_beyond.false ∙ c.is_beyond.ensures j h)
 
 pub returns-else-is_beyond-clause-any : goal.returns-else-is_beyond-clause-any
 returns-else-is_beyond-clause-any c k g =
     any_seen c.self.inside c.self.invariant c.args.self.now c.self.view_is c.args.link c.args.node c.from.result c.index-sides.result.now
-        c.from.ensures c.index-sides.ensures k g false (λ j h. sym c.if-is_beyond.false ∙ c.is_beyond.ensures j h)
+    c.from.ensures c.index-sides.ensures k g false (λ j h. sym c.if-is_beyond.false ∙ c.is_beyond.ensures j h)

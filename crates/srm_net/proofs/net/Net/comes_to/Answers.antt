@@ -3,8 +3,8 @@ use Rattle.std.specs.List.{list_any}
 use Rattle.srm_net.specs.Network.{Network}
 use Rattle.srm_net.specs.Paths.{delay_along, route, stop, stops, takes_out}
 use Rattle.srm_net.proofs.BuiltLemmas.{comes_there, comes_not}
-use Rattle.srm_net.proofs.net.Net.comes_to.Goals.{else-is_any_beyond-via-then-is_any_beyond+else-is_clear,
-    else-is_any_beyond-via-else-is_any_beyond}
+use Rattle.srm_net.proofs.net.Net.comes_to.Goals.{else-is_any_beyond-via-then-is_any_beyond+else-is_clear}
+use Rattle.srm_net.proofs.net.Net.comes_to.Goals.{else-is_any_beyond-via-else-is_any_beyond}
 use Rattle.srm_net.proofs.net.Net.comes_to.Goals as goal
 
 pub returns-then-is_clear-clause-crossed : goal.returns-then-is_clear-clause-crossed
@@ -13,12 +13,12 @@ returns-then-is_clear-clause-crossed c =
     let u = c.host-from.result in
     let v = c.beyond-near.result.0 in
     let clear = sym (ap (λ (w : Network). not (list_any f (stops w.links u c.args.sent (route w u v)))) c.self.view_is)
-        ∙ sym c.is_clear.ensures ∙ c.if-is_clear.true in
+    ∙ sym c.is_clear.ensures ∙ c.if-is_clear.true in
     let there = comes_there c.args.self.now c.beyond-near.ensures.network c.args.link c.host-from.result c.beyond-near.result.0 c.args.sent
-        c.beyond-near.result.1 c.args.drops.now c.args.id c.requires.link c.requires.sender c.host-from.ensures.value
-        c.beyond-near.ensures.near c.beyond-near.ensures.any
-        (ap (λ b. b && not (list_any f (stops c.args.self.now.links u c.args.sent (route c.args.self.now u v)))) c.if-is_any_beyond.true
-        ∙ clear) in
+    c.beyond-near.result.1 c.args.drops.now c.args.id c.requires.link c.requires.sender c.host-from.ensures.value
+    c.beyond-near.ensures.near c.beyond-near.ensures.any
+    (ap (λ b. b && not (list_any f (stops c.args.self.now.links u c.args.sent (route c.args.self.now u v)))) c.if-is_any_beyond.true
+    ∙ clear) in
     let late = c.delay.ensures.value ∙ ap (λ (w : Network). delay_along w.links u (route w u v)) c.self.view_is in
     there.0 ∙ ap (λ d. not (f (stop c.args.link (c.args.sent + d)))) (sym late)
 
@@ -28,12 +28,12 @@ returns-then-is_clear-clause-dropped c =
     let u = c.host-from.result in
     let v = c.beyond-near.result.0 in
     let clear = sym (ap (λ (w : Network). not (list_any f (stops w.links u c.args.sent (route w u v)))) c.self.view_is)
-        ∙ sym c.is_clear.ensures ∙ c.if-is_clear.true in
+    ∙ sym c.is_clear.ensures ∙ c.if-is_clear.true in
     let there = comes_there c.args.self.now c.beyond-near.ensures.network c.args.link c.host-from.result c.beyond-near.result.0 c.args.sent
-        c.beyond-near.result.1 c.args.drops.now c.args.id c.requires.link c.requires.sender c.host-from.ensures.value
-        c.beyond-near.ensures.near c.beyond-near.ensures.any
-        (ap (λ b. b && not (list_any f (stops c.args.self.now.links u c.args.sent (route c.args.self.now u v)))) c.if-is_any_beyond.true
-        ∙ clear) in
+    c.beyond-near.result.1 c.args.drops.now c.args.id c.requires.link c.requires.sender c.host-from.ensures.value
+    c.beyond-near.ensures.near c.beyond-near.ensures.any
+    (ap (λ b. b && not (list_any f (stops c.args.self.now.links u c.args.sent (route c.args.self.now u v)))) c.if-is_any_beyond.true
+    ∙ clear) in
     let late = c.delay.ensures.value ∙ ap (λ (w : Network). delay_along w.links u (route w u v)) c.self.view_is in
     there.1 ∙ ap (λ d. f (stop c.args.link (c.args.sent + d))) (sym late)
 
@@ -47,12 +47,12 @@ returns-else-is_any_beyond-clause-not_crossed c =
       | else-is_any_beyond-via-then-is_any_beyond+else-is_clear w ↦
           ap (λ b. b && clear) w.if-is_any_beyond.true
           ∙ sym (ap (λ (w : Network). not (list_any f (stops w.links u c.args.sent (route w u v)))) c.self.view_is) ∙ sym w.is_clear.ensures
-              ∙ w.if-is_clear.false
+          ∙ w.if-is_clear.false
       | else-is_any_beyond-via-else-is_any_beyond w ↦ ap (λ b. b && clear) w.if-is_any_beyond.false
     ] in
     (comes_not c.args.self.now c.beyond-near.ensures.network c.args.link c.host-from.result c.beyond-near.result.0 c.args.sent
-        c.beyond-near.result.1 c.args.drops.now c.args.id c.requires.link c.requires.sender c.host-from.ensures.value
-        c.beyond-near.ensures.near c.beyond-near.ensures.any none).0
+    c.beyond-near.result.1 c.args.drops.now c.args.id c.requires.link c.requires.sender c.host-from.ensures.value
+    c.beyond-near.ensures.near c.beyond-near.ensures.any none).0
 
 pub returns-else-is_any_beyond-clause-not_dropped : goal.returns-else-is_any_beyond-clause-not_dropped
 returns-else-is_any_beyond-clause-not_dropped c =
@@ -64,9 +64,9 @@ returns-else-is_any_beyond-clause-not_dropped c =
       | else-is_any_beyond-via-then-is_any_beyond+else-is_clear w ↦
           ap (λ b. b && clear) w.if-is_any_beyond.true
           ∙ sym (ap (λ (w : Network). not (list_any f (stops w.links u c.args.sent (route w u v)))) c.self.view_is) ∙ sym w.is_clear.ensures
-              ∙ w.if-is_clear.false
+          ∙ w.if-is_clear.false
       | else-is_any_beyond-via-else-is_any_beyond w ↦ ap (λ b. b && clear) w.if-is_any_beyond.false
     ] in
     (comes_not c.args.self.now c.beyond-near.ensures.network c.args.link c.host-from.result c.beyond-near.result.0 c.args.sent
-        c.beyond-near.result.1 c.args.drops.now c.args.id c.requires.link c.requires.sender c.host-from.ensures.value
-        c.beyond-near.ensures.near c.beyond-near.ensures.any none).1
+    c.beyond-near.result.1 c.args.drops.now c.args.id c.requires.link c.requires.sender c.host-from.ensures.value
+    c.beyond-near.ensures.near c.beyond-near.ensures.any none).1

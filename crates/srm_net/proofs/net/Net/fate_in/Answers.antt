@@ -11,7 +11,7 @@ use Rattle.srm_net.proofs.net.Net.fate_in.Goals as goal
 seen_from : (t w : Network) → t ≡ w → (l u near far : ℕ) (any : Bool) (spec : LinkSpec) → l < length w.links → slice_get t.links l
     ≡ Some spec → far ≡ far_from spec near
     → ((k : LinkSpec) → slice_get w.links l ≡ Some k → near ≡ near_end w l k u)
-        → ((k : LinkSpec) → slice_get w.links l ≡ Some k → any ≡ some_beyond w l k u) → SeenFrom w l u near far any
+    → ((k : LinkSpec) → slice_get w.links l ≡ Some k → any ≡ some_beyond w l k u) → SeenFrom w l u near far any
 seen_from t w e l u near far any spec lt g f nears anys = record {
   link = lt;
   nears = nears;
@@ -33,7 +33,7 @@ returns-then-not-comes_to-clause-crosses c rules p sent is =
     let w = c.args.self.now in
     let b = c.beyond-near in
     let seen = seen_from c.self.inside.tree w c.self.view_is c.args.link c.host.result b.result.0 c.far_from-far.result b.result.1
-        c.link.result c.requires.link c.link.ensures c.far_from-far.ensures b.ensures.near b.ensures.any in
+    c.link.result c.requires.link c.link.ensures c.far_from-far.ensures b.ensures.near b.ensures.any in
     let from = c.host.ensures.value ∙ ap (host w) c.sender.ensures in
     let none : crosses w rules p sent c.args.link ≡ false = elim c.if-not-is_any_beyond.branch [
       | then-not-is_any_beyond v ↦ (not_beyond w b.ensures.network c.args.link c.host.result b.result.0 c.far_from-far.result b.result.1
@@ -49,7 +49,7 @@ returns-then-not-comes_to-clause-dropped c rules p sent is =
     let w = c.args.self.now in
     let b = c.beyond-near in
     let seen = seen_from c.self.inside.tree w c.self.view_is c.args.link c.host.result b.result.0 c.far_from-far.result b.result.1
-        c.link.result c.requires.link c.link.ensures c.far_from-far.ensures b.ensures.near b.ensures.any in
+    c.link.result c.requires.link c.link.ensures c.far_from-far.ensures b.ensures.near b.ensures.any in
     let from = c.host.ensures.value ∙ ap (host w) c.sender.ensures in
     let none : drops_at w rules p sent c.args.link ≡ false = elim c.if-not-is_any_beyond.branch [
       | then-not-is_any_beyond v ↦ (not_beyond w b.ensures.network c.args.link c.host.result b.result.0 c.far_from-far.result b.result.1
@@ -65,7 +65,7 @@ returns-then-comes_to-clause-crosses c rules p sent is =
     let w = c.args.self.now in
     let b = c.beyond-near in
     let seen = seen_from c.self.inside.tree w c.self.view_is c.args.link c.host.result b.result.0 c.far_from-far.result b.result.1
-        c.link.result c.requires.link c.link.ensures c.far_from-far.ensures b.ensures.near b.ensures.any in
+    c.link.result c.requires.link c.link.ensures c.far_from-far.ensures b.ensures.near b.ensures.any in
     let from = c.host.ensures.value ∙ ap (host w) c.sender.ensures in
     let over : crosses w rules p sent c.args.link ≡ true = elim c.if-not-is_any_beyond.branch [
       | then-not-is_any_beyond v ↦ absurd (let e : true ≡ false = ap not (sym v.if-not-is_any_beyond.true) ∙ sym v.value-is
@@ -82,7 +82,7 @@ returns-then-comes_to-clause-dropped c rules p sent is =
     let w = c.args.self.now in
     let b = c.beyond-near in
     let seen = seen_from c.self.inside.tree w c.self.view_is c.args.link c.host.result b.result.0 c.far_from-far.result b.result.1
-        c.link.result c.requires.link c.link.ensures c.far_from-far.ensures b.ensures.near b.ensures.any in
+    c.link.result c.requires.link c.link.ensures c.far_from-far.ensures b.ensures.near b.ensures.any in
     let from = c.host.ensures.value ∙ ap (host w) c.sender.ensures in
     let over : drops_at w rules p sent c.args.link ≡ not true = elim c.if-not-is_any_beyond.branch [
       | then-not-is_any_beyond v ↦ absurd (let e : true ≡ false = ap not (sym v.if-not-is_any_beyond.true) ∙ sym v.value-is
@@ -99,7 +99,7 @@ returns-else-comes_to-clause-crosses c rules p sent is =
     let w = c.args.self.now in
     let b = c.beyond-near in
     let seen = seen_from c.self.inside.tree w c.self.view_is c.args.link c.host.result b.result.0 c.far_from-far.result b.result.1
-        c.link.result c.requires.link c.link.ensures c.far_from-far.ensures b.ensures.near b.ensures.any in
+    c.link.result c.requires.link c.link.ensures c.far_from-far.ensures b.ensures.near b.ensures.any in
     let from = c.host.ensures.value ∙ ap (host w) c.sender.ensures in
     let over : crosses w rules p sent c.args.link ≡ false = elim c.if-not-is_any_beyond.branch [
       | then-not-is_any_beyond v ↦ absurd (let e : true ≡ false = ap not (sym v.if-not-is_any_beyond.true) ∙ sym v.value-is
@@ -116,7 +116,7 @@ returns-else-comes_to-clause-dropped c rules p sent is =
     let w = c.args.self.now in
     let b = c.beyond-near in
     let seen = seen_from c.self.inside.tree w c.self.view_is c.args.link c.host.result b.result.0 c.far_from-far.result b.result.1
-        c.link.result c.requires.link c.link.ensures c.far_from-far.ensures b.ensures.near b.ensures.any in
+    c.link.result c.requires.link c.link.ensures c.far_from-far.ensures b.ensures.near b.ensures.any in
     let from = c.host.ensures.value ∙ ap (host w) c.sender.ensures in
     let over : drops_at w rules p sent c.args.link ≡ not false = elim c.if-not-is_any_beyond.branch [
       | then-not-is_any_beyond v ↦ absurd (let e : true ≡ false = ap not (sym v.if-not-is_any_beyond.true) ∙ sym v.value-is

@@ -10,7 +10,7 @@ index-requires c =
     let w = c.self.inside.tree in
     let lt = seen_member w c.args.self.now c.args.m c.self.view_is c.requires in
     let k : c.args.m < length c.self.inside.outs.items = get_below c.self.inside.outs.items c.args.m (out w c.args.m)
-        (c.self.invariant.outs c.args.m lt) in
+    (c.self.invariant.outs c.args.m lt) in
     omega (arith, c.self.inside.outs.ok.0)
 
 pub returns-clause-value : goal.returns-clause-value

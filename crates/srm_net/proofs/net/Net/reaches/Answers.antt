@@ -12,6 +12,6 @@ returns c =
     c.is_clear.ensures
     ∙ ap (λ u. not (list_any f (stops w.links u c.args.sent (route w u c.host.result)))) c.host-from.ensures.value
     ∙ ap (λ u. not (list_any f (stops w.links (host w c.args.id.sender) c.args.sent (route w (host w c.args.id.sender) u))))
-        c.host.ensures.value
+    c.host.ensures.value
     ∙ ap (λ (v : Network). not (list_any f (stops v.links (host v c.args.id.sender) c.args.sent
-        (route v (host v c.args.id.sender) (host v c.args.m))))) c.self.view_is
+    (route v (host v c.args.id.sender) (host v c.args.m))))) c.self.view_is

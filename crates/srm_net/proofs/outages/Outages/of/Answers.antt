@@ -10,18 +10,18 @@ pub prolonged-requires : goal.prolonged-requires
 prolonged-requires c =
     let key : OutageSpec → ℕ × ℕ = λ o. (o.link, o.from) in
     let order = in_order c.sort_by_key.new.self.items
-        (c.in_ok-sort_by_key.ensures.sorted key (answers_always _ _ _ (λ f a r f' k. search rules))) in
+    (c.in_ok-sort_by_key.ensures.sorted key (answers_always _ _ _ (λ f a r f' k. search rules))) in
     subst LinksRise (sym c.as_slice.ensures.value) order.links
 
 pub invariant_of-result : goal.invariant_of-result
 invariant_of-result c =
     let key : OutageSpec → ℕ × ℕ = λ o. (o.link, o.from) in
     let order = in_order c.sort_by_key.new.self.items
-        (c.in_ok-sort_by_key.ensures.sorted key (answers_always _ _ _ (λ f a r f' k. search rules))) in
+    (c.in_ok-sort_by_key.ensures.sorted key (answers_always _ _ _ (λ f a r f' k. search rules))) in
     let list : c.in_ok-to_vec.field-0.items ≡ c.args.list.now = search rules in
     let same : c.in_ok-sorted.sorted.items ≡ c.args.list.now = search rules in
     let moved : IsPermutation c.in_ok-to_vec.field-0.items c.sort_by_key.new.self.items =
-        subst (λ xs. IsPermutation xs c.sort_by_key.new.self.items) (same ∙ sym list) c.sort_by_key.ensures.permutation in
+    subst (λ xs. IsPermutation xs c.sort_by_key.new.self.items) (same ∙ sym list) c.sort_by_key.ensures.permutation in
     let prolongs : Prolongs c.as_slice.result.now c.in_ok-spans.spans.items = record {
       order = subst InOrder (sym c.as_slice.ensures.value) order;
       size = c.in_ok-spans.ensures.size;

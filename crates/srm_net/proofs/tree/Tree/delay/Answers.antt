@@ -7,12 +7,12 @@ use Rattle.srm_net.proofs.tree.Tree.delay.Goals as goal
 pub returns-clause-value : goal.returns-clause-value
 returns-clause-value c =
     c.delay.ensures ∙ told_delay c.self.inside c.self.invariant c.args.self.now c.self.view_is c.args.from c.args.to c.requires.from
-        c.requires.to
+    c.requires.to
 
 pub returns-clause-bounded : goal.returns-clause-bounded
 returns-clause-bounded c =
     let w = c.args.self.now in
     let value = c.delay.ensures ∙ told_delay c.self.inside c.self.invariant w c.self.view_is c.args.from c.args.to c.requires.from
-        c.requires.to in
+    c.requires.to in
     subst (λ n. n ≤ 1023000000) (sym value) (delay_bounded w (subst IsNetwork c.self.view_is c.self.invariant.network) c.args.from c.args.to
-        c.requires.from c.requires.to)
+    c.requires.from c.requires.to)

@@ -19,9 +19,9 @@ value c =
     ∙ ap (λ u. number_at c.self.inside.ways.delays.width c.self.inside.ways.delays.cells.items u c.host-2.result) e
     ∙ ap (λ u. number_at c.self.inside.ways.delays.width c.self.inside.ways.delays.cells.items (host c.args.self.now c.args.a) u) f
     ∙ ap (λ (v : Network). number_at c.self.inside.ways.delays.width c.self.inside.ways.delays.cells.items (host v c.args.a)
-        (host v c.args.b)) (sym c.self.view_is)
+    (host v c.args.b)) (sym c.self.view_is)
     ∙ told_distance c.self.inside c.self.invariant c.args.a c.args.b (in_range w c.args.self.now c.args.a c.self.view_is c.requires.a)
-        (in_range w c.args.self.now c.args.b c.self.view_is c.requires.b)
+    (in_range w c.args.self.now c.args.b c.self.view_is c.requires.b)
 
 network : (c : goal.After-delay) → IsNetwork c.args.self.now
 network c = subst IsNetwork c.self.view_is c.self.invariant.network
@@ -39,4 +39,4 @@ returns-clause-apart c d =
 pub returns-clause-bounded : goal.returns-clause-bounded
 returns-clause-bounded c =
     subst (λ n. n ≤ 1023000000) (sym (value_here c)) (distance_bounded c.args.self.now (network c) c.args.a c.args.b c.requires.a
-        c.requires.b)
+    c.requires.b)

@@ -14,18 +14,18 @@ returns-then-node-end c k g =
     let w = plain_of c.self.inside in
     let j = c.link-end.result in
     let here : slice_get c.self.inside.links.items c.args.link ≡ Some j = ap (λ (v : Network). slice_get v.links c.args.link) e
-        ∙ c.link-end.ensures in
+    ∙ c.link-end.ensures in
     let same : j ≡ k = (let s : Some j ≡ Some k = sym c.link-end.ensures ∙ g in cc) in
     let a : eqb c.first.result c.args.link ≡ is_beyond w c.args.link j c.args.node =
     beyond_by_first c.self.inside c.self.invariant c.args.link j here c.args.node c.first.result
-        (seen_below w c.args.self.now c.args.node e c.requires.node) c.if-node-end.true c.first.ensures in
+    (seen_below w c.args.self.now c.args.node e c.requires.node) c.if-node-end.true c.first.ensures in
     a ∙ ap (λ (v : Network). is_beyond v c.args.link j c.args.node) e ∙
-        ap (λ (i : LinkSpec). is_beyond c.args.self.now c.args.link i c.args.node) same
+    ap (λ (i : LinkSpec). is_beyond c.args.self.now c.args.link i c.args.node) same
 
 pub returns-else-node-end : goal.returns-else-node-end
 returns-else-node-end c k g =
     let same : c.link-end.result ≡ k = (let s : Some c.link-end.result ≡ Some k = sym c.link-end.ensures ∙ g in cc) in
     ap not (eq-eqb c.args.node c.link-end.result.a c.if-node-end.false)
     ∙ sym (ap (λ ls. is_in ls c.args.link) (ap (route c.args.self.now c.link-end.result.a) c.if-node-end.false
-        ∙ route_nowhere c.args.self.now c.link-end.result.a))
+    ∙ route_nowhere c.args.self.now c.link-end.result.a))
     ∙ ap (λ (i : LinkSpec). is_beyond c.args.self.now c.args.link i c.args.node) same

@@ -9,14 +9,14 @@ use Rattle.srm_net.proofs.tree.Tree.is_clear.Goals as goal
 pub returns-then-not-may_drop : goal.returns-then-not-may_drop
 returns-then-not-may_drop c =
     sym (ap not (none_stops (takes_out c.args.drops.now c.args.id) c.args.sent
-        (spared c.args.drops.now c.args.id c.args.sent (sym c.may_drop.ensures ∙ c.if-not-may_drop.true))
+    (spared c.args.drops.now c.args.id c.args.sent (sym c.may_drop.ensures ∙ c.if-not-may_drop.true))
     c.args.self.now.links c.args.from c.args.sent (route c.args.self.now c.args.from c.args.to) (omega arith)))
 
 pub loop-at-init : goal.loop-at-init
 loop-at-init c =
     let few : delay_along c.args.self.now.links c.args.from (route c.args.self.now c.args.from c.args.to) ≤ 1023000000 =
     delay_bounded c.args.self.now (subst IsNetwork c.self.view_is c.self.invariant.network) c.args.from c.args.to c.requires.from
-        c.requires.to in
+    c.requires.to in
     let soon : c.args.sent < 2 ^ 40 = c.requires.sent in
     record { node = c.requires.from; rest = refl; in_time = omega arith }
 

@@ -10,4 +10,4 @@ returns c =
     let lt = seen_link (plain_of c.self.inside) c.args.self.now c.args.link c.self.view_is c.requires in
     let read = subst (λ i. c.index.result.now ≡ get_or c.self.inside.links.items i c.index.result.now) c.from.ensures c.index.ensures in
     ap (λ (w : Network). slice_get w.links c.args.link) (sym c.self.view_is)
-        ∙ read_get c.self.inside.links.items c.args.link c.index.result.now lt read
+    ∙ read_get c.self.inside.links.items c.args.link c.index.result.now lt read

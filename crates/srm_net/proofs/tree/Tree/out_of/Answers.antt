@@ -14,8 +14,11 @@ loop-b-preserved c =
     let w = c.args.self.now in
     let d = c.distance-distance.result in
     let step : c.match-least.least ≡ least_with c.loop-b.least d =
-    elim c.match-least.branch [ in-None w ↦ w.least-is ∙ ap (λ t. least_with t d) (sym w.in-None.is) | in-Some w ↦ w.least-is
-        ∙ ap Some w.min.ensures ∙ ap (λ t. least_with t d) (sym w.in-Some.is) ] in
+    elim c.match-least.branch [
+      | in-None w ↦ w.least-is ∙ ap (λ t. least_with t d) (sym w.in-None.is)
+      | in-Some w ↦ w.least-is
+          ∙ ap Some w.min.ensures ∙ ap (λ t. least_with t d) (sym w.in-Some.is)
+    ] in
     record {
       within = c.loop-b.invariant.within;
       found = step ∙ ap (λ t. least_with t d) c.loop-b.invariant.found ∙

@@ -7,7 +7,7 @@ use Rattle.srm_report.proofs.trace_sink.TraceSinkRowSink.rows.Goals as goal
 pub returns-clause-rows : goal.returns-clause-rows
 returns-clause-rows g c =
     rows_put g.O.Outlet.taken c.args.self.now c.put_rows-answer.new.self c.args.rows.items c.put_rows-answer.result c.if-self.self
-        c.standing_after-self.result
+    c.standing_after-self.result
     (subst (λ (rows : List Row). PutsText g.O.Outlet.taken c.args.self.now
-        (text_next c.args.self.now.standing rows) c.put_rows-answer.result c.put_rows-answer.new.self)
+    (text_next c.args.self.now.standing rows) c.put_rows-answer.result c.put_rows-answer.new.self)
     c.as_slice.ensures.value c.put_rows-answer.ensures.text) c.standing_after-self.ensures

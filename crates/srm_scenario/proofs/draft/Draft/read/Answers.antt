@@ -6,8 +6,8 @@ use Rattle.srm_scenario.specs.Rules.{link_rules, member_rules, draw_rules, sessi
 use Rattle.srm_scenario.specs.Described.{link_of, draw_of, session_of, drop_of, outage_of}
 use Rattle.srm_scenario.specs.Faults.{entry_of}
 use Rattle.srm_scenario.proofs.Arrays.{elements-read, few_read}
-use Rattle.srm_scenario.proofs.FaultLists.{faults_read, fault_read, top_fault, link_fault, member_fault, draw_fault, session_fault,
-    drop_fault, outage_fault, no_key_fault}
+use Rattle.srm_scenario.proofs.FaultLists.{faults_read, fault_read, top_fault, link_fault, member_fault, draw_fault, session_fault}
+use Rattle.srm_scenario.proofs.FaultLists.{drop_fault, outage_fault, no_key_fault}
 use Rattle.srm_scenario.proofs.draft.Draft.read.Goals as goal
 
 pub returns-in_default-clause-fault : goal.returns-in_default-clause-fault
@@ -20,7 +20,7 @@ returns-in_err-links-clause-fault c =
     let e = c.in_err-links.field-0.0 in
     rw (p.1, p.2) (link_fault (table_view c.args.table.now) e t.0
     (fault_read part.Link link_rules (codes "link") (table_view c.args.table.now) _ _ e t.1.version_is t.2.links_are
-        c.in_err-links.ensures.fault))
+    c.in_err-links.ensures.fault))
 
 pub returns-in_err-members-clause-fault : goal.returns-in_err-members-clause-fault
 returns-in_err-members-clause-fault c =
@@ -28,10 +28,10 @@ returns-in_err-members-clause-fault c =
     let t = c.in-Some.ensures in
     let e = c.in_err-members.field-0.0 in
     let links = faults_read part.Link link_rules (codes "link") (table_view c.args.table.now) _ _ t.1.version_is t.2.links_are
-        ∙ c.in_ok-links.ensures.no_fault in
+    ∙ c.in_ok-links.ensures.no_fault in
     rw (p.1, p.2) (member_fault (table_view c.args.table.now) e t.0 links
     (fault_read part.Member member_rules (codes "member") (table_view c.args.table.now) _ _ e t.1.version_is t.3.members_are
-        c.in_err-members.ensures.fault))
+    c.in_err-members.ensures.fault))
 
 pub returns-in_err-draws-clause-fault : goal.returns-in_err-draws-clause-fault
 returns-in_err-draws-clause-fault c =
@@ -39,12 +39,12 @@ returns-in_err-draws-clause-fault c =
     let t = c.in-Some.ensures in
     let e = c.in_err-draws.field-0.0 in
     let links = faults_read part.Link link_rules (codes "link") (table_view c.args.table.now) _ _ t.1.version_is t.2.links_are
-        ∙ c.in_ok-links.ensures.no_fault in
+    ∙ c.in_ok-links.ensures.no_fault in
     let members = faults_read part.Member member_rules (codes "member") (table_view c.args.table.now) _ _ t.1.version_is t.3.members_are
-        ∙ c.in_ok-members.ensures.no_fault in
+    ∙ c.in_ok-members.ensures.no_fault in
     rw (p.1, p.2) (draw_fault (table_view c.args.table.now) e t.0 links members
     (fault_read part.Draw draw_rules (codes "draw") (table_view c.args.table.now) _ _ e t.1.version_is t.3.draws_are
-        c.in_err-draws.ensures.fault))
+    c.in_err-draws.ensures.fault))
 
 pub returns-in_err-sessions-clause-fault : goal.returns-in_err-sessions-clause-fault
 returns-in_err-sessions-clause-fault c =
@@ -52,14 +52,14 @@ returns-in_err-sessions-clause-fault c =
     let t = c.in-Some.ensures in
     let e = c.in_err-sessions.field-0.0 in
     let links = faults_read part.Link link_rules (codes "link") (table_view c.args.table.now) _ _ t.1.version_is t.2.links_are
-        ∙ c.in_ok-links.ensures.no_fault in
+    ∙ c.in_ok-links.ensures.no_fault in
     let members = faults_read part.Member member_rules (codes "member") (table_view c.args.table.now) _ _ t.1.version_is t.3.members_are
-        ∙ c.in_ok-members.ensures.no_fault in
+    ∙ c.in_ok-members.ensures.no_fault in
     let draws = faults_read part.Draw draw_rules (codes "draw") (table_view c.args.table.now) _ _ t.1.version_is t.3.draws_are
-        ∙ c.in_ok-draws.ensures.no_fault in
+    ∙ c.in_ok-draws.ensures.no_fault in
     rw (p.1, p.2) (session_fault (table_view c.args.table.now) e t.0 links members draws
     (fault_read part.Session session_rules (codes "session") (table_view c.args.table.now) _ _ e t.1.version_is t.3.sessions_are
-        c.in_err-sessions.ensures.fault))
+    c.in_err-sessions.ensures.fault))
 
 pub returns-in_err-drops-clause-fault : goal.returns-in_err-drops-clause-fault
 returns-in_err-drops-clause-fault c =
@@ -67,16 +67,16 @@ returns-in_err-drops-clause-fault c =
     let t = c.in-Some.ensures in
     let e = c.in_err-drops.field-0.0 in
     let links = faults_read part.Link link_rules (codes "link") (table_view c.args.table.now) _ _ t.1.version_is t.2.links_are
-        ∙ c.in_ok-links.ensures.no_fault in
+    ∙ c.in_ok-links.ensures.no_fault in
     let members = faults_read part.Member member_rules (codes "member") (table_view c.args.table.now) _ _ t.1.version_is t.3.members_are
-        ∙ c.in_ok-members.ensures.no_fault in
+    ∙ c.in_ok-members.ensures.no_fault in
     let draws = faults_read part.Draw draw_rules (codes "draw") (table_view c.args.table.now) _ _ t.1.version_is t.3.draws_are
-        ∙ c.in_ok-draws.ensures.no_fault in
+    ∙ c.in_ok-draws.ensures.no_fault in
     let sessions = faults_read part.Session session_rules (codes "session") (table_view c.args.table.now) _ _ t.1.version_is
-        t.3.sessions_are ∙ c.in_ok-sessions.ensures.no_fault in
+    t.3.sessions_are ∙ c.in_ok-sessions.ensures.no_fault in
     rw (p.1, p.2) (drop_fault (table_view c.args.table.now) e t.0 links members draws sessions
     (fault_read part.Drop drop_rules (codes "drop") (table_view c.args.table.now) _ _ e t.1.version_is t.3.drops_are
-        c.in_err-drops.ensures.fault))
+    c.in_err-drops.ensures.fault))
 
 pub returns-in_err-outages-clause-fault : goal.returns-in_err-outages-clause-fault
 returns-in_err-outages-clause-fault c =
@@ -84,34 +84,34 @@ returns-in_err-outages-clause-fault c =
     let t = c.in-Some.ensures in
     let e = c.in_err-outages.field-0.0 in
     let links = faults_read part.Link link_rules (codes "link") (table_view c.args.table.now) _ _ t.1.version_is t.2.links_are
-        ∙ c.in_ok-links.ensures.no_fault in
+    ∙ c.in_ok-links.ensures.no_fault in
     let members = faults_read part.Member member_rules (codes "member") (table_view c.args.table.now) _ _ t.1.version_is t.3.members_are
-        ∙ c.in_ok-members.ensures.no_fault in
+    ∙ c.in_ok-members.ensures.no_fault in
     let draws = faults_read part.Draw draw_rules (codes "draw") (table_view c.args.table.now) _ _ t.1.version_is t.3.draws_are
-        ∙ c.in_ok-draws.ensures.no_fault in
+    ∙ c.in_ok-draws.ensures.no_fault in
     let sessions = faults_read part.Session session_rules (codes "session") (table_view c.args.table.now) _ _ t.1.version_is
-        t.3.sessions_are ∙ c.in_ok-sessions.ensures.no_fault in
+    t.3.sessions_are ∙ c.in_ok-sessions.ensures.no_fault in
     let drops = faults_read part.Drop drop_rules (codes "drop") (table_view c.args.table.now) _ _ t.1.version_is t.3.drops_are
-        ∙ c.in_ok-drops.ensures.no_fault in
+    ∙ c.in_ok-drops.ensures.no_fault in
     rw (p.1, p.2) (outage_fault (table_view c.args.table.now) e t.0 links members draws sessions drops
     (fault_read part.Outage outage_rules (codes "outage") (table_view c.args.table.now) _ _ e t.1.version_is t.3.outages_are
-        c.in_err-outages.ensures.fault))
+    c.in_err-outages.ensures.fault))
 
 pub returns-clause-draft : goal.returns-clause-draft
 returns-clause-draft c =
     let t = c.in-Some.ensures in
     let links = faults_read part.Link link_rules (codes "link") (table_view c.args.table.now) _ _ t.1.version_is t.2.links_are
-        ∙ c.in_ok-links.ensures.no_fault in
+    ∙ c.in_ok-links.ensures.no_fault in
     let members = faults_read part.Member member_rules (codes "member") (table_view c.args.table.now) _ _ t.1.version_is t.3.members_are
-        ∙ c.in_ok-members.ensures.no_fault in
+    ∙ c.in_ok-members.ensures.no_fault in
     let draws = faults_read part.Draw draw_rules (codes "draw") (table_view c.args.table.now) _ _ t.1.version_is t.3.draws_are
-        ∙ c.in_ok-draws.ensures.no_fault in
+    ∙ c.in_ok-draws.ensures.no_fault in
     let sessions = faults_read part.Session session_rules (codes "session") (table_view c.args.table.now) _ _ t.1.version_is
-        t.3.sessions_are ∙ c.in_ok-sessions.ensures.no_fault in
+    t.3.sessions_are ∙ c.in_ok-sessions.ensures.no_fault in
     let drops = faults_read part.Drop drop_rules (codes "drop") (table_view c.args.table.now) _ _ t.1.version_is t.3.drops_are
-        ∙ c.in_ok-drops.ensures.no_fault in
+    ∙ c.in_ok-drops.ensures.no_fault in
     let outages = faults_read part.Outage outage_rules (codes "outage") (table_view c.args.table.now) _ _ t.1.version_is t.3.outages_are
-        ∙ c.in_ok-outages.ensures.no_fault in
+    ∙ c.in_ok-outages.ensures.no_fault in
     record {
       no_fault = no_key_fault (table_view c.args.table.now) t.0 links members draws sessions drops outages;
       until = t.1.until_is;

@@ -10,5 +10,5 @@ loop-v-preserved c =
     let front : List LinkSpec = c.loop-v.links.items in
     ap (λ (links : List LinkSpec). links ++ rest)
     (c.in_ok-push.ensures.items ∙ ap (λ (a : ℕ). front ++ record
-        { a = a; b = c.loop-v.v; delay = c.args.delays.delay; back = c.args.delays.back } ∷ []) c.parent.ensures)
+    { a = a; b = c.loop-v.v; delay = c.args.delays.delay; back = c.args.delays.back } ∷ []) c.parent.ensures)
     ∙ links_step c.args.self c.args.delays c.loop-v.v c.args.size front c.loop-v-test.true ∙ c.loop-v.invariant

@@ -1,5 +1,7 @@
 -- A line of flights, and others apart from it: what a flight more or less in either changes of them all in order.
-use Rattle.std.proofs.Common.{◌≡◌, ◌≢◌, ℕ, ◌<◌, ◌-◌, arith, length, slice_index_or, Result, Ok, Err, OnOk, OnErr, IsSome, MatchOption, Bool, true, false, cond, List, [], ◌∷◌, ◌++◌, Option, Some, None, slice_get, refl, sym, ap, ◌∙◌, subst, append_assoc, Ordering, Equal, is_lt, true≢false}
+use Rattle.std.proofs.Common.{◌≡◌, ◌≢◌, ℕ, ◌<◌, ◌-◌, arith, length, slice_index_or, Result, Ok, Err, OnOk, OnErr, IsSome, MatchOption, Bool}
+use Rattle.std.proofs.Common.{true, false, cond, List, [], ◌∷◌, ◌++◌, Option, Some, None, slice_get, refl, sym, ap, ◌∙◌, subst}
+use Rattle.std.proofs.Common.{append_assoc, Ordering, Equal, is_lt, true≢false}
 use Rattle.std.specs.Ordering.{ordering_reverse}
 use Rattle.std.specs.Option.{option_to_list}
 use Rattle.std.specs.Cmp.{IsTotalOrder}
@@ -9,7 +11,7 @@ use Rattle.srm_member.proofs.AllIn.{AllIn}
 use Rattle.srm_member.proofs.OrderLemmas.{From, from_trans, lt-asym, none_below_from, place-comm, place_first, rises_place}
 use Rattle.srm_cell.specs.declared.flight.Flight.{Flight}
 use Rattle.srm_cell.specs.Flights.{flight_cmp, BringsNone, place_of, place_cmp}
-use Rattle.srm_cell.specs.Lines.{follows, leads}
+use Rattle.srm_cell.specs.InboxLines.{follows, leads}
 use Rattle.srm_cell.proofs.Entries.{flight_total, tie}
 
 -- ---- lists in an order
@@ -32,10 +34,11 @@ module _ {A : Type 0} (cmp : A → A → Ordering) (o : IsTotalOrder cmp) where
 
   pub ordered_placed : (x : A) (ys zs : List A) → Apart x ys → ordered cmp (place cmp x ys ++ zs) ≡ place cmp x (ordered cmp (ys ++ zs))
   ordered_placed x [] zs h = refl
-  ordered_placed x (y ∷ ys) zs h = elim (is_lt (cmp y x)) as (λ b. ordered cmp (cond b (y ∷ place cmp x ys) (x ∷ y ∷ ys) ++ zs) ≡ place cmp x (ordered cmp (y ∷ ys ++ zs))) [
-    | true ↦ ap (place cmp y) (ordered_placed x ys zs h.1) ∙ place-comm cmp o y x (apart_back x y h.0) (ordered cmp (ys ++ zs))
-    | false ↦ refl
-  ]
+  ordered_placed x (y ∷ ys) zs h = elim (is_lt (cmp y x)) as (λ b. ordered cmp (cond b (y ∷ place cmp x ys) (x ∷ y ∷ ys) ++ zs)
+      ≡ place cmp x (ordered cmp (y ∷ ys ++ zs))) [
+        | true ↦ ap (place cmp y) (ordered_placed x ys zs h.1) ∙ place-comm cmp o y x (apart_back x y h.0) (ordered cmp (ys ++ zs))
+        | false ↦ refl
+      ]
 
   none_below_cond : (k : A) (b : Bool) (xs ys : List A) → NoneBelow cmp k xs → NoneBelow cmp k ys → NoneBelow cmp k (cond b xs ys)
   none_below_cond k true xs ys h g = h
@@ -43,7 +46,8 @@ module _ {A : Type 0} (cmp : A → A → Ordering) (o : IsTotalOrder cmp) where
 
   none_below_place : (k x : A) (ys : List A) → From cmp o k x → NoneBelow cmp k ys → NoneBelow cmp k (place cmp x ys)
   none_below_place k x [] h g = (h, tt)
-  none_below_place k x (y ∷ ys) h g = none_below_cond k (is_lt (cmp y x)) (y ∷ place cmp x ys) (x ∷ y ∷ ys) (g.0, none_below_place k x ys h g.1) (h, g)
+  none_below_place k x (y ∷ ys) h g = none_below_cond k (is_lt (cmp y x))
+      (y ∷ place cmp x ys) (x ∷ y ∷ ys) (g.0, none_below_place k x ys h g.1) (h, g)
 
   none_below_ordered : (k : A) (xs : List A) → NoneBelow cmp k xs → NoneBelow cmp k (ordered cmp xs)
   none_below_ordered k [] h = tt
@@ -54,7 +58,8 @@ module _ {A : Type 0} (cmp : A → A → Ordering) (o : IsTotalOrder cmp) where
   none_below_both k (x ∷ xs) ys h g = (h.0, none_below_both k xs ys h.1 g)
 
   -- the first of the others goes first, where the first of the line does not go before it
-  pub ordered_other : (y : A) (ys zs : List A) → NoneBelow cmp y ys → NoneBelow cmp y zs → ordered cmp (y ∷ ys ++ zs) ≡ y ∷ ordered cmp (ys ++ zs)
+  pub ordered_other : (y : A) (ys zs : List A) → NoneBelow cmp y ys → NoneBelow cmp y zs → ordered cmp (y ∷ ys ++ zs)
+      ≡ y ∷ ordered cmp (ys ++ zs)
   ordered_other y ys zs h g = place_first cmp o y (ordered cmp (ys ++ zs)) (none_below_ordered y (ys ++ zs) (none_below_both y ys zs h g))
 
   -- the first of the line goes first, where it goes before each of the others
@@ -62,7 +67,8 @@ module _ {A : Type 0} (cmp : A → A → Ordering) (o : IsTotalOrder cmp) where
       → ordered cmp (ys ++ x ∷ zs) ≡ x ∷ ordered cmp (ys ++ zs)
   ordered_first x [] zs h g = place_first cmp o x (ordered cmp zs) (none_below_ordered x zs g)
   ordered_first x (y ∷ ys) zs h g =
-      ap (place cmp y) (ordered_first x ys zs h.1 g) ∙ ap (λ b. cond b (x ∷ place cmp y (ordered cmp (ys ++ zs))) (y ∷ x ∷ ordered cmp (ys ++ zs))) h.0
+      ap (place cmp y) (ordered_first x ys zs h.1 g) ∙
+      ap (λ b. cond b (x ∷ place cmp y (ordered cmp (ys ++ zs))) (y ∷ x ∷ ordered cmp (ys ++ zs))) h.0
 
   -- what is before y is before all that is not before y
   before_from : (x y z : A) → is_lt (cmp x y) ≡ true → From cmp o y z → is_lt (cmp x z) ≡ true
@@ -95,10 +101,12 @@ rises_last f (x ∷ []) h q = ((last_from f x [] h q, tt), (tt, tt))
 rises_last f (x ∷ y ∷ ys) h q =
     (none_below_last flight_cmp flight_total x f (y ∷ ys) h.0 (last_from f x (y ∷ ys) h q), rises_last f (y ∷ ys) h.1 q)
 
-brings_placed : (id : PacketId) (g : Flight) (fs : List Flight) → BringsNone id (place flight_cmp g fs) → (g.packet.id ≢ id) × BringsNone id fs
+brings_placed : (id : PacketId) (g : Flight) (fs : List Flight) → BringsNone id (place flight_cmp g fs) → (g.packet.id ≢ id)
+    × BringsNone id fs
 brings_placed id g [] h = h
 brings_placed id g (f ∷ fs) h =
-    elim (is_lt (flight_cmp f g)) as (λ b. BringsNone id (cond b (f ∷ place flight_cmp g fs) (g ∷ f ∷ fs)) → (g.packet.id ≢ id) × BringsNone id (f ∷ fs)) [
+    elim (is_lt (flight_cmp f g)) as (λ b. BringsNone id (cond b (f ∷ place flight_cmp g fs) (g ∷ f ∷ fs)) → (g.packet.id ≢ id)
+    × BringsNone id (f ∷ fs)) [
       | true ↦ λ n. let more = brings_placed id g fs n.1 in (more.0, (n.0, more.1))
       | false ↦ λ n. n
     ] h
@@ -118,7 +126,8 @@ apart_others f (x ∷ xs) ys h = (h.0, apart_others f xs ys h.1)
 -- a flight put behind the line
 pub lined_up : (f : Flight) (xs ys : List Flight) → BringsNone f.packet.id (ordered flight_cmp (xs ++ ys))
     → ordered flight_cmp (xs ++ (ys ++ f ∷ [])) ≡ place flight_cmp f (ordered flight_cmp (xs ++ ys))
-lined_up f xs ys h = ap (ordered flight_cmp) (sym (append_assoc xs ys (f ∷ []))) ∙ ordered_last flight_cmp flight_total f (xs ++ ys) (apart f (xs ++ ys) h)
+lined_up f xs ys h = ap (ordered flight_cmp) (sym (append_assoc xs ys (f ∷ [])))
+    ∙ ordered_last flight_cmp flight_total f (xs ++ ys) (apart f (xs ++ ys) h)
 
 -- a flight put among the others
 pub strayed : (f : Flight) (xs ys : List Flight) → BringsNone f.packet.id (ordered flight_cmp (xs ++ ys))
@@ -162,17 +171,20 @@ last_follows k (f ∷ fs) n x e lt h =
     let before : n - 1 ≡ length fs = omega arith in
     last_is k f fs x (subst (λ i. x ≡ slice_index_or (f ∷ fs) i x) before h)
 
-pub others_rise : {E : Type 0} (r : Result Unit E) (f : Flight) (old new : List Flight) → OnOk r (new ≡ place flight_cmp f old) → OnErr r (new ≡ old) → Climbs old → Climbs new
+pub others_rise : {E : Type 0} (r : Result Unit E) (f : Flight) (old new : List Flight) → OnOk r (new ≡ place flight_cmp f old)
+    → OnErr r (new ≡ old) → Climbs old → Climbs new
 others_rise (Ok x) f old new ok err h = subst Climbs (sym ok) (rises_place flight_cmp flight_total f old h)
 others_rise (Err x) f old new ok err h = subst Climbs (sym err) h
 
 pub other_added : {E : Type 0} (r : Result Unit E) (f : Flight) (old new fs v : List Flight) → OnOk r (new ≡ place flight_cmp f old)
     → ordered flight_cmp (old ++ fs) ≡ v → BringsNone f.packet.id v → OnOk r (ordered flight_cmp (new ++ fs) ≡ place flight_cmp f v)
 other_added (Ok x) f old new fs v ok view h =
-    ap (λ l. ordered flight_cmp (l ++ fs)) ok ∙ strayed f old fs (subst (BringsNone f.packet.id) (sym view) h) ∙ ap (place flight_cmp f) view
+    ap (λ l. ordered flight_cmp (l ++ fs)) ok ∙ strayed f old fs (subst (BringsNone f.packet.id) (sym view) h)
+    ∙ ap (place flight_cmp f) view
 other_added (Err x) f old new fs v ok view h = tt
 
-pub first_other : (fs xs : List Flight) → leads fs xs ≡ false → Climbs xs → Climbs fs → slice_get xs 0 ≡ slice_get (ordered flight_cmp (xs ++ fs)) 0
+pub first_other : (fs xs : List Flight) → leads fs xs ≡ false → Climbs xs
+    → Climbs fs → slice_get xs 0 ≡ slice_get (ordered flight_cmp (xs ++ fs)) 0
 first_other fs [] q h g = sym (ap (λ (l : List Flight). slice_get l 0) (none_first fs q))
 first_other fs (x ∷ xs) q h g = sym (ap (λ (l : List Flight). slice_get l 0) (other_first x xs fs q h g))
 
@@ -181,7 +193,8 @@ pub first_line : (fs xs : List Flight) (x : Flight) → leads fs xs ≡ true →
 first_line [] xs x q h g is = absurd (true≢false (sym q))
 first_line (f ∷ fs) xs x q h g is = ap Some is ∙ sym (ap (λ (l : List Flight). slice_get l 0) (line_first f fs xs q h g))
 
-pub line_popped : (r : Option Flight) (fs rest xs v : List Flight) (n : ℕ) → n ≡ length fs → (0 < n → IsSome r) → fs ≡ option_to_list r ++ rest
+pub line_popped : (r : Option Flight) (fs rest xs v : List Flight) (n : ℕ) → n ≡ length fs → (0 < n → IsSome r) → fs ≡ option_to_list r
+    ++ rest
     → leads fs xs ≡ true → Climbs xs → Climbs fs → ordered flight_cmp (xs ++ fs) ≡ v
     → MatchOption r ((v ≡ []) × (ordered flight_cmp (xs ++ rest) ≡ [])) (λ f. v ≡ f ∷ ordered flight_cmp (xs ++ rest))
 line_popped None [] rest xs v n e some is q h g view = absurd (true≢false (sym q))
@@ -196,4 +209,5 @@ other_popped None xs rest fs v is q h g view =
     let none = none_first fs (subst (λ l. leads fs l ≡ false) is.0 q) in
     (sym view ∙ ap (λ l. ordered flight_cmp (l ++ fs)) is.0 ∙ none, ap (λ l. ordered flight_cmp (l ++ fs)) is.1 ∙ none)
 other_popped (Some f) xs rest fs v is q h g view =
-    sym view ∙ ap (λ l. ordered flight_cmp (l ++ fs)) is ∙ other_first f rest fs (subst (λ l. leads fs l ≡ false) is q) (subst Climbs is h) g
+    sym view ∙ ap (λ l. ordered flight_cmp (l ++ fs)) is ∙ other_first f rest fs (subst (λ l. leads fs l ≡ false) is q)
+    (subst Climbs is h) g
