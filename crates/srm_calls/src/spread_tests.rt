@@ -25,43 +25,52 @@ const fn first_of(sender: u16) -> PacketId
     PacketId { sender, count: 0 }
 }
 
-// An outage of one tick.
-const fn outage_at(link: u16, tick: u64) -> OutageSpec {
-    OutageSpec {
-        link,
-        from: tick,
-        to: tick + 1,
-    }
+// Link 1 is out in tick 3.
+const OUTAGE: OutageSpec = OutageSpec {
+    link: 1,
+    from: 3,
+    to: 4,
+};
+
+// The two links of a chain of nodes 0 to 2, which take 1 tick from the node in the middle and 3 to it.
+fn uneven_chain() -> [LinkSpec; 2] {
+    [uneven_link(1, 0), uneven_link(1, 2)]
 }
 
-// A chain of nodes 0 to 2 with a member on each, whose links take 1 tick from the node in the middle and 3 to it. From node 0 a packet
-// comes to link 1 three ticks after it is sent, from node 2 in the tick in which it is sent.
+// From node 0 a packet comes to link 1 three ticks after it is sent.
 #[test]
-fn uneven_chain(rt: HostRuntime) -> Result<(), Fail> {
-    let links = [uneven_link(1, 0), uneven_link(1, 2)];
-    let net = Net::build(rt.alloc(), 3, &links, &[0, 1, 2])?;
-    let drops = Drops::of(rt.alloc(), &[], &[outage_at(1, 3)])?;
+fn outage_at_the_second_link(rt: HostRuntime) -> Result<(), Fail> {
+    let net = Net::build(rt.alloc(), 3, &uneven_chain(), &[0, 1, 2])?;
+    let drops = Drops::of(rt.alloc(), &[], &[OUTAGE])?;
+    let spread = net.spread(rt.alloc(), &drops, first_of(0), 0)?;
+    assert!(rt; net.is_reached(&spread, 1));
+    assert!(rt; !net.is_reached(&spread, 2));
+    assert_eq!(rt; net.fate_in(&spread, 0), Fate::Crosses);
+    assert_eq!(rt; net.fate_in(&spread, 1), Fate::Dropped);
+    Ok(())
+}
 
-    let there = net.spread(rt.alloc(), &drops, first_of(0), 0)?;
-    assert_eq!(rt; there.sender(), 0);
-    assert!(rt; there.comes_to(0) && there.comes_to(1) && !there.comes_to(2));
-    assert!(rt; net.is_reached(&there, 1) && !net.is_reached(&there, 2));
-    assert_eq!(rt; net.fate_in(&there, 0), Fate::Crosses);
-    assert_eq!(rt; net.fate_in(&there, 1), Fate::Dropped);
+// From node 2 a packet comes to link 1 in the tick in which it is sent.
+#[test]
+fn outage_at_the_first_link(rt: HostRuntime) -> Result<(), Fail> {
+    let net = Net::build(rt.alloc(), 3, &uneven_chain(), &[0, 1, 2])?;
+    let drops = Drops::of(rt.alloc(), &[], &[OUTAGE])?;
+    let spread = net.spread(rt.alloc(), &drops, first_of(2), 3)?;
+    assert!(rt; net.is_reached(&spread, 2));
+    assert!(rt; !net.is_reached(&spread, 0));
+    assert_eq!(rt; net.fate_in(&spread, 1), Fate::Dropped);
+    assert_eq!(rt; net.fate_in(&spread, 0), Fate::Neither);
+    Ok(())
+}
 
-    let early = net.spread(rt.alloc(), &drops, first_of(2), 2)?;
-    assert!(rt; net.is_reached(&early, 0) && net.is_reached(&early, 1));
-    assert_eq!(rt; net.fate_in(&early, 1), Fate::Crosses);
-
-    let back = net.spread(rt.alloc(), &drops, first_of(2), 3)?;
-    assert!(rt; net.is_reached(&back, 2) && !net.is_reached(&back, 1) && !net.is_reached(&back, 0));
-    assert_eq!(rt; net.fate_in(&back, 1), Fate::Dropped);
-    assert_eq!(rt; net.fate_in(&back, 0), Fate::Neither);
-
-    // the outage is over
-    let late = net.spread(rt.alloc(), &drops, first_of(2), 4)?;
-    assert!(rt; net.is_reached(&late, 0) && late.comes_to(1));
-    assert_eq!(rt; net.fate_in(&late, 0), Fate::Crosses);
+// A tick before the outage a packet of node 2 goes everywhere.
+#[test]
+fn tick_before_an_outage(rt: HostRuntime) -> Result<(), Fail> {
+    let net = Net::build(rt.alloc(), 3, &uneven_chain(), &[0, 1, 2])?;
+    let drops = Drops::of(rt.alloc(), &[], &[OUTAGE])?;
+    let spread = net.spread(rt.alloc(), &drops, first_of(2), 2)?;
+    assert!(rt; net.is_reached(&spread, 0));
+    assert_eq!(rt; net.fate_in(&spread, 1), Fate::Crosses);
     Ok(())
 }
 
@@ -101,7 +110,7 @@ fn star(rt: HostRuntime) -> Result<(), Fail> {
 
 // A path of 1,024 nodes with members on its ends and in the middle. The last link drops a packet of the first member.
 #[test]
-fn longest_chain(rt: HostRuntime) -> Result<(), Fail> {
+fn drop_at_the_end_of_the_longest_chain(rt: HostRuntime) -> Result<(), Fail> {
     let mut links = Vec::new(rt.alloc());
     for node in 0..1023 {
         links.push(uneven_link(node, node + 1))?;
@@ -113,16 +122,8 @@ fn longest_chain(rt: HostRuntime) -> Result<(), Fail> {
     };
     let drops = Drops::of(rt.alloc(), &[entry], &[])?;
     let spread = net.spread(rt.alloc(), &drops, first_of(0), 0)?;
-    assert!(rt; net.is_reached(&spread, 1) && !net.is_reached(&spread, 2));
-    assert!(rt; spread.comes_to(1022) && !spread.comes_to(1023));
-    assert_eq!(rt; net.fate_in(&spread, 1021), Fate::Crosses);
-    assert_eq!(rt; net.fate_in(&spread, 1022), Fate::Dropped);
-
-    // of an outage of that link what counts is when the packet comes there
-    for (sent, is_reached) in [(0, true), (1, false), (2, true)] {
-        let drops = Drops::of(rt.alloc(), &[], &[outage_at(1022, 1023)])?;
-        let spread = net.spread(rt.alloc(), &drops, first_of(0), sent)?;
-        assert_eq!(rt; net.is_reached(&spread, 2), is_reached);
-    }
+    assert!(rt; net.is_reached(&spread, 1));
+    assert!(rt; !net.is_reached(&spread, 2));
+    assert!(rt; spread.comes_to(1022));
     Ok(())
 }
