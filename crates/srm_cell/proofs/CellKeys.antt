@@ -12,7 +12,7 @@ use Rattle.srm_scenario.specs.Plain.{mark_cmp}
 use Rattle.srm_member.specs.declared.due.Due.{Due}
 use Rattle.srm_member.specs.declared.entries.Missing.{Missing}
 use Rattle.srm_member.specs.declared.entries.Repairing.{Repairing}
-use Rattle.srm_member.specs.Record.{Memory, Record, Active, Gone, timers}
+use Rattle.srm_member.specs.Record.{MemberState, Record, Active, Gone, timers}
 use Rattle.srm_member.proofs.AllIn.{AllIn, AllIn-each, AllIn-map}
 use Rattle.srm_member.proofs.OrderLemmas.{key_total}
 use Rattle.srm_member.proofs.FewerTimers.{T_first, T_second, T_less, SoundRecord}
@@ -80,7 +80,7 @@ map_both t f g [] [] = refl
 map_both t f g [] (y ∷ ys) = ap (λ l. t (g y) ∷ l) (map_both t f g [] ys)
 map_both t f g (x ∷ xs) ys = ap (λ l. t (f x) ∷ l) (map_both t f g xs ys)
 
-memory_differs : (m : ℕ) (mem : Memory) → T (is_sorted name_cmp mem.missing) → T (is_sorted name_cmp mem.repairs)
+memory_differs : (m : ℕ) (mem : MemberState) → T (is_sorted name_cmp mem.missing) → T (is_sorted name_cmp mem.repairs)
     → AllDiffer (map (timer_key m) (timers (Active mem)))
 memory_differs m mem h g =
     rw (map_both (timer_key m) (due (λ (v : Missing). v.expiry) m 2) (due (λ (v : Repairing). v.expiry) m 3) mem.missing mem.repairs)

@@ -1,5 +1,5 @@
 -- A cell's own step, and what a late arrival leaves of it.
-use Rattle.std.proofs.Common.{◌≡◌, ℕ, ◌≤◌, ◌^◌, Bool, true, false, cond, List, [], ◌∷◌, refl, sym, ap, ◌∙◌, ◌≢◌, arith, Ordering, Less}
+use Rattle.std.proofs.Common.{◌≡◌, ℕ, ◌≤◌, Bool, true, false, cond, List, [], ◌∷◌, refl, sym, ap, ◌∙◌, ◌≢◌, arith, Ordering, Less}
 use Rattle.std.proofs.Common.{Equal, Greater, nat_cmp, is_lt, ltb-true, lt-ltb, le-ltb, nat_lt, Option, Some, None, option_map}
 use Rattle.std.specs.Ordering.{ordering_then, ordering_reverse}
 use Rattle.srm_cell.specs.Cells.{Done, Event, Full, Idle, PlainCell, Spent, StepOutcome, Stepped, before, by_key, earlier, first_arrival}
@@ -8,7 +8,7 @@ use Rattle.srm_cell.specs.Flights.{flight_cmp}
 use Rattle.srm_cell.specs.declared.flight.Flight.{Flight}
 use Rattle.srm_member.proofs.OrderLemmas.{head_le, key_total, nat_cmp_self}
 use Rattle.srm_member.specs.React.{Reaction, react}
-use Rattle.srm_member.specs.Record.{Active, Gone, Record, due_cmp, earliest, sooner, by_order, timers}
+use Rattle.srm_member.specs.Record.{Active, Gone, Record, due_cmp, earliest, earlier_timer, by_order, timers}
 use Rattle.srm_member.specs.declared.cause.Cause.{Cause}
 use Rattle.srm_member.specs.declared.due.Due.{Due}
 use Rattle.srm_net.specs.Keys.{key_cmp}
@@ -17,6 +17,7 @@ use Rattle.srm_net.specs.declared.key.Key.{Key}
 use Rattle.srm_net.specs.declared.packet.Body.{Body}
 use Rattle.srm_net.specs.declared.packet.Packet.{Packet}
 use Rattle.srm_scenario.specs.declared.mark.Mark.{Mark}
+use Rattle.srm_net.specs.Limits.{most_sent}
 
 -- ---- the earliest event before an end
 
@@ -89,7 +90,7 @@ by_key-timers m c Less d e = refl
 by_key-timers m c Equal d e = refl
 by_key-timers m c Greater d e = refl
 
-sooner_timer : (m : ℕ) (c : PlainCell) (d : Due) (o : Option Due) → next_timer m c (Some (sooner d o))
+sooner_timer : (m : ℕ) (c : PlainCell) (d : Due) (o : Option Due) → next_timer m c (Some (earlier_timer d o))
     ≡ earlier (Some (timer_event m c d)) (next_timer m c o)
 sooner_timer m c d None = refl
 sooner_timer m c d (Some e) = ap Some (sym (by_key-timers m c (due_cmp d e) d e)
@@ -210,7 +211,7 @@ module _ (end : ℕ) (p : Packet) (at : ℕ) (late : end ≤ at) where
   sending_alike : (e : Event) (r : Reaction) (body : Option Body) → sending_step (event_map late_hear e) r body
       ≡ outcome_map (stepped_map late_hear) (sending_step e r body)
   sending_alike e r None = refl
-  sending_alike e r (Some body) = sending_alike_by (nat_lt e.rest.sent (2 ^ 48)) e r body _
+  sending_alike e r (Some body) = sending_alike_by (nat_lt e.rest.sent most_sent) e r body _
 
   handle_alike : (e : Event) (holds : Record) (cause : Option Cause) → handle (event_map late_hear e) holds cause
       ≡ outcome_map (stepped_map late_hear) (handle e holds cause)

@@ -1,5 +1,5 @@
 -- Whose events a cell's are, what a cell hears, and events before an end.
-use Rattle.std.proofs.Common.{◌≡◌, ℕ, ◌≤◌, ◌^◌, Bool, true, false, cond, List, [], ◌∷◌, refl, sym, ap, ◌∙◌, subst, ◌≢◌, arith, Ordering}
+use Rattle.std.proofs.Common.{◌≡◌, ℕ, ◌≤◌, Bool, true, false, cond, List, [], ◌∷◌, refl, sym, ap, ◌∙◌, subst, ◌≢◌, arith, Ordering}
 use Rattle.std.proofs.Common.{Less, Equal, Greater, nat_lt, Option, Some, None}
 use Rattle.std.proofs.Common.{ltb-true, lt-ltb, ◌<◌}
 use Rattle.std.specs.Cmp.{IsTotalOrder, on_total}
@@ -20,6 +20,7 @@ use Rattle.srm_net.specs.Keys.{key_cmp}
 use Rattle.srm_net.specs.declared.packet.Body.{Body}
 use Rattle.srm_net.specs.declared.packet.Packet.{Packet}
 use Rattle.srm_scenario.specs.declared.mark.Mark.{Mark}
+use Rattle.srm_net.specs.Limits.{most_sent}
 
 -- ---- whose events a cell's are
 
@@ -78,7 +79,7 @@ sending_by m false x h = tt
 
 sending_of : (m : ℕ) (e : Event) (r : Reaction) (body : Option Body) → e.key.member ≡ m → IsStepOf m (sending_step e r body)
 sending_of m e r None h = (h, tt)
-sending_of m e r (Some body) h = sending_by m (nat_lt e.rest.sent (2 ^ 48)) _ (h, h)
+sending_of m e r (Some body) h = sending_by m (nat_lt e.rest.sent most_sent) _ (h, h)
 
 pub handle_of : (m : ℕ) (e : Event) (holds : Record) (cause : Option Cause) → e.key.member ≡ m → IsStepOf m (handle e holds cause)
 unfolding handle

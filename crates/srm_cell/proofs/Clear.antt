@@ -1,5 +1,5 @@
 -- After a step no event that is pending has its key; and what a step does to inbox, script and packet count.
-use Rattle.std.proofs.Common.{◌≡◌, ℕ, zero, suc, ◌<◌, ◌≤◌, ◌+◌, ◌/◌, ◌^◌, min, Bool, true, false, cond, not, T, List, [], ◌∷◌, map, refl}
+use Rattle.std.proofs.Common.{◌≡◌, ℕ, zero, suc, ◌<◌, ◌≤◌, ◌+◌, ◌/◌, min, Bool, true, false, cond, not, T, List, [], ◌∷◌, map, refl}
 use Rattle.std.proofs.Common.{sym, ap, ◌∙◌, subst, ◌≢◌, ◌⊎◌, inl, inr, arith, Less, Equal, Greater, Option, Some, None, nat_lt, is_lt}
 use Rattle.std.proofs.Common.{true≢false}
 use Rattle.std.specs.Ordering.{eq_by_cmp, is_eq, ordering_reverse}
@@ -20,11 +20,12 @@ use Rattle.srm_member.proofs.FewerTimers.{name_total, no_table}
 use Rattle.srm_member.proofs.LawProofs.{as_active}
 use Rattle.srm_member.proofs.OrderLemmas.{key_total, same_numbers}
 use Rattle.srm_net.specs.Roles.{is_listener}
-use Rattle.srm_member.specs.React.{Reaction, answering, answering_at, asking, asking_at, back_off, distance_to, react, request_length}
-use Rattle.srm_member.specs.React.{resting, without}
+use Rattle.srm_member.specs.React.{Reaction, expire_repair, expire_repair_by_entry, expire_request, expire_request_by_entry, back_off}
+use Rattle.srm_member.specs.React.{distance_to, react, request_length}
+use Rattle.srm_member.specs.React.{with_rest, without}
 use Rattle.srm_member.specs.declared.entries.Missing.{Missing}
 use Rattle.srm_member.specs.declared.entries.Repairing.{Repairing}
-use Rattle.srm_member.specs.Record.{Active, Gone, Memory, Record, timers, timers_of}
+use Rattle.srm_member.specs.Record.{Active, Gone, MemberState, Record, timers, timers_of}
 use Rattle.srm_member.specs.Timers.{span}
 use Rattle.srm_member.specs.declared.cause.Cause.{Cause}
 use Rattle.srm_member.specs.declared.cause.Cause.TheVariants.{Answer, Ask}
@@ -38,6 +39,7 @@ use Rattle.srm_net.specs.declared.packet.Name.{Name}
 use Rattle.srm_net.specs.declared.packet.Packet.{Packet}
 use Rattle.srm_scenario.specs.Plain.{mark_cmp}
 use Rattle.srm_scenario.specs.declared.mark.Mark.{Mark}
+use Rattle.srm_net.specs.Limits.{most_sent}
 
 -- ---- keys that differ
 
@@ -121,23 +123,24 @@ module _ {V : Type 0} (p : V → Type 0) where
 
 -- ---- after a timer is handled, no timer has its key
 
-module _ (m t : ℕ) (mem : Memory) (sound : IsSound mem) (n : Name) where
+module _ (m t : ℕ) (mem : MemberState) (sound : IsSound mem) (n : Name) where
   abbrev AskKey : Key
   AskKey = timer_key m (record { time = t; rank = 2; name = n })
 
   abbrev AnswerKey : Key
   AnswerKey = timer_key m (record { time = t; rank = 3; name = n })
 
-  abbrev ClearOf : Key → Memory → Type 0
+  abbrev ClearOf : Key → MemberState → Type 0
   ClearOf k r = AllIn (λ d. Differs k (timer_key m d)) (timers_of r)
 
-  clear_of : (k : Key) (r : Memory) → AllIn (λ e. Differs k (timer_key m (record { time = e.1.expiry; rank = 2; name = e.0 }))) r.missing
+  clear_of : (k : Key) (r : MemberState) → AllIn (λ e. Differs k (timer_key m (record { time = e.1.expiry; rank = 2; name = e.0 })))
+      r.missing
       → AllIn (λ e. Differs k (timer_key m (record { time = e.1.expiry; rank = 3; name = e.0 }))) r.repairs → ClearOf k r
   clear_of k r h g = AllIn-append (λ d. Differs k (timer_key m d)) _ _ (AllIn-map (λ d. Differs k (timer_key m d)) _ r.missing h)
       (AllIn-map (λ d. Differs k (timer_key m d)) _ r.repairs g)
 
   asked_clear : (w : Missing) → In (n, w) mem.missing → (o : Option Missing) → find name_cmp n mem.missing ≡ o
-      → ClearOf AskKey (asking_at t n mem o).memory
+      → ClearOf AskKey (expire_request_by_entry t n mem o).state
   asked_clear w h None e = absurd (found (λ (x : Missing). true) n w mem.missing h e)
   asked_clear w h (Some x) e =
       let len = request_length mem (min (x.backoffs + 1) 10) n in
@@ -154,10 +157,10 @@ module _ (m t : ℕ) (mem : Memory) (sound : IsSound mem) (n : Name) where
       (λ q. let r : ◌≡◌ {A = ℕ} 2 3 = q in omega arith)) mem.repairs)
 
   answered_clear : (w : Repairing) → In (n, w) mem.repairs → (o : Option Repairing) → find name_cmp n mem.repairs ≡ o
-      → ClearOf AnswerKey (answering_at t n mem o).memory
+      → ClearOf AnswerKey (expire_repair_by_entry t n mem o).state
   answered_clear w h None e = absurd (found (λ (x : Repairing). true) n w mem.repairs h e)
   answered_clear w h (Some x) e =
-      clear_of AnswerKey (resting t n mem.fixed.member mem)
+      clear_of AnswerKey (with_rest t n mem.fixed.member mem)
       (AllIn-each (λ e. Differs AnswerKey (timer_key m (record { time = e.1.expiry; rank = 2; name = e.0 })))
       (λ e. differ_rank AnswerKey (timer_key m (record { time = e.1.expiry; rank = 2; name = e.0 }))
       (λ q. let r : ◌≡◌ {A = ℕ} 3 2 = q in omega arith)) mem.missing)
@@ -166,21 +169,21 @@ module _ (m t : ℕ) (mem : Memory) (sound : IsSound mem) (n : Name) where
       (λ e c. timer_differs m 3 t n e.0 e.1.expiry c) (without n mem.repairs)
       (without_clear (λ (y : Repairing). y.expiry ≢ t) n mem.repairs))
 
-  pub asks_clear : (w : Missing) → In (n, w) mem.missing → ClearOf AskKey (react mem t (Ask n)).memory
-  unfolding asking
+  pub asks_clear : (w : Missing) → In (n, w) mem.missing → ClearOf AskKey (react mem t (Ask n)).state
+  unfolding expire_request
   asks_clear w h = let role = mem.fixed.role in
-      elim (is_listener role) as (λ b. is_listener role ≡ b → ClearOf AskKey (react mem t (Ask n)).memory) [
+      elim (is_listener role) as (λ b. is_listener role ≡ b → ClearOf AskKey (react mem t (Ask n)).state) [
         | true ↦ λ l. absurd (no_table (n, w) mem.missing (sound.listener l).0 h)
-        | false ↦ λ l. subst (λ (r : Reaction). ClearOf AskKey r.memory) (sym (as_active mem t (Ask n) l))
+        | false ↦ λ l. subst (λ (r : Reaction). ClearOf AskKey r.state) (sym (as_active mem t (Ask n) l))
             (asked_clear w h (find name_cmp n mem.missing) refl)
       ] refl
 
-  pub answers_clear : (w : Repairing) → In (n, w) mem.repairs → ClearOf AnswerKey (react mem t (Answer n)).memory
-  unfolding answering
+  pub answers_clear : (w : Repairing) → In (n, w) mem.repairs → ClearOf AnswerKey (react mem t (Answer n)).state
+  unfolding expire_repair
   answers_clear w h = elim (is_listener mem.fixed.role) as (λ b. is_listener mem.fixed.role ≡ b
-      → ClearOf AnswerKey (react mem t (Answer n)).memory) [
+      → ClearOf AnswerKey (react mem t (Answer n)).state) [
         | true ↦ λ l. absurd (no_table (n, w) mem.repairs (sound.listener l).1 h)
-        | false ↦ λ l. subst (λ (r : Reaction). ClearOf AnswerKey r.memory) (sym (as_active mem t (Answer n) l))
+        | false ↦ λ l. subst (λ (r : Reaction). ClearOf AnswerKey r.state) (sym (as_active mem t (Answer n) l))
             (answered_clear w h (find name_cmp n mem.repairs) refl)
       ] refl
 
@@ -292,12 +295,12 @@ clear_by m k false x h = tt
 
 clear_sending : (m : ℕ) (k : Key) (e : Event) (r : Reaction) (body : Option Body) → AllIn (λ f. Differs k (arrival_key m f)) e.rest.inbox
     → AllIn (λ l. Differs k (mark_key m l)) e.rest.script
-    → AllIn (λ d. Differs k (timer_key m d)) (timers_of r.memory) → OnStep (ClearIn m k) (sending_step e r body)
+    → AllIn (λ d. Differs k (timer_key m d)) (timers_of r.state) → OnStep (ClearIn m k) (sending_step e r body)
 clear_sending m k e r None f l d = record { flights = f; marks = l; dues = d }
-clear_sending m k e r (Some body) f l d = clear_by m k (nat_lt e.rest.sent (2 ^ 48)) _ (record { flights = f; marks = l; dues = d })
+clear_sending m k e r (Some body) f l d = clear_by m k (nat_lt e.rest.sent most_sent) _ (record { flights = f; marks = l; dues = d })
 
-clear_cause : (m : ℕ) (e : Event) (mem : Memory) → IsSound mem → (d : Due) → In d (timers_of mem) → e.key ≡ timer_key m d
-    → AllIn (λ d. Differs e.key (timer_key m d)) (timers_of (react mem e.key.time (cause_of_timer d.rank d.name)).memory)
+clear_cause : (m : ℕ) (e : Event) (mem : MemberState) → IsSound mem → (d : Due) → In d (timers_of mem) → e.key ≡ timer_key m d
+    → AllIn (λ d. Differs e.key (timer_key m d)) (timers_of (react mem e.key.time (cause_of_timer d.rank d.name)).state)
 clear_cause m e mem sound d h q = elim (in_append d (map (λ e. record { time = e.1.expiry; rank = 2; name = e.0 }) mem.missing) _ h) [
   | inl g ↦
       let r = in_map (λ (e : Name × Missing). record { time = e.1.expiry; rank = 2; name = e.0 }) d mem.missing g in
@@ -305,8 +308,8 @@ clear_cause m e mem sound d h q = elim (in_append d (map (λ e. record { time = 
       let now : e.key ≡ timer_key m (record { time = e.key.time; rank = 2; name = r.0.0 }) = is
       ∙ ap (λ t. timer_key m (record { time = t; rank = 2; name = r.0.0 })) (sym (ap (λ (k : Key). k.time) is)) in
       subst (λ (d : Due). AllIn (λ x. Differs e.key (timer_key m x))
-      (timers_of (react mem e.key.time (cause_of_timer d.rank d.name)).memory)) r.2
-      (subst (λ k. AllIn (λ x. Differs k (timer_key m x)) (timers_of (react mem e.key.time (Ask r.0.0)).memory)) (sym now)
+      (timers_of (react mem e.key.time (cause_of_timer d.rank d.name)).state)) r.2
+      (subst (λ k. AllIn (λ x. Differs k (timer_key m x)) (timers_of (react mem e.key.time (Ask r.0.0)).state)) (sym now)
       (asks_clear m e.key.time mem sound r.0.0 r.0.1 r.1))
   | inr g ↦
       let r = in_map (λ (e : Name × Repairing). record { time = e.1.expiry; rank = 3; name = e.0 }) d mem.repairs g in
@@ -314,8 +317,8 @@ clear_cause m e mem sound d h q = elim (in_append d (map (λ e. record { time = 
       let now : e.key ≡ timer_key m (record { time = e.key.time; rank = 3; name = r.0.0 }) = is
       ∙ ap (λ t. timer_key m (record { time = t; rank = 3; name = r.0.0 })) (sym (ap (λ (k : Key). k.time) is)) in
       subst (λ (d : Due). AllIn (λ x. Differs e.key (timer_key m x))
-      (timers_of (react mem e.key.time (cause_of_timer d.rank d.name)).memory)) r.2
-      (subst (λ k. AllIn (λ x. Differs k (timer_key m x)) (timers_of (react mem e.key.time (Answer r.0.0)).memory)) (sym now)
+      (timers_of (react mem e.key.time (cause_of_timer d.rank d.name)).state)) r.2
+      (subst (λ k. AllIn (λ x. Differs k (timer_key m x)) (timers_of (react mem e.key.time (Answer r.0.0)).state)) (sym now)
       (answers_clear m e.key.time mem sound r.0.0 r.0.1 r.1))
 ]
 
@@ -330,7 +333,7 @@ clear_handle m e (Active mem) (Some cause) fs ks s d h q c =
     let same : cause ≡ cause_of_timer d.rank d.name = cc in
     let r = react mem e.key.time cause in
     clear_sending m e.key e r r.answer.body fs ks
-    (subst (λ k. AllIn (λ x. Differs e.key (timer_key m x)) (timers_of (react mem e.key.time k).memory)) (sym same)
+    (subst (λ k. AllIn (λ x. Differs e.key (timer_key m x)) (timers_of (react mem e.key.time k).state)) (sym same)
     (clear_cause m e mem s d h q))
 
 pub clear_step : (m : ℕ) (c : PlainCell) (e : Event) → SoundRecord c.holds → Besides m c e → OnStep (ClearIn m e.key) (step_at (Some e))
@@ -388,7 +391,7 @@ step_of_by e false x h = tt
 
 step_of_sending : (e : Event) (r : Reaction) (body : Option Body) → OnStep (StepOf e) (sending_step e r body)
 step_of_sending e r None = record { inbox = refl; script = refl; count = refl }
-step_of_sending e r (Some body) = step_of_by e (nat_lt e.rest.sent (2 ^ 48)) _
+step_of_sending e r (Some body) = step_of_by e (nat_lt e.rest.sent most_sent) _
     (record { inbox = refl; script = refl; count = (refl, omega arith) })
 
 step_of_handle : (e : Event) (holds : Record) (cause : Option Cause) → OnStep (StepOf e) (handle e holds cause)

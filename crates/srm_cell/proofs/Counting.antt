@@ -6,10 +6,12 @@ use Rattle.std.proofs.lemmas.List.Sums.{sum_by-append, count_by-le-length}
 use Rattle.srm_net.specs.declared.packet.Body.{Body}
 use Rattle.srm_net.specs.declared.packet.Body.TheVariants.{Drawop, Request, Repair, Session}
 use Rattle.srm_net.specs.declared.packet.Packet.{Packet}
+use Rattle.srm_ledger.specs.declared.kind.Kind.{Kind}
+use Rattle.srm_ledger.specs.declared.kind.Kind.TheVariants as kind
 use Rattle.srm_ledger.specs.Counts.{place_of}
 use Rattle.srm_cell.specs.Setting.{Traffic}
 use Rattle.srm_cell.specs.Crossings.{kind_of, crossed, dropped, crossings_at}
-use Rattle.srm_cell.specs.Totalled.{numbers_of, crossing_kind, bump}
+use Rattle.srm_cell.specs.Totalled.{numbers_of, bump}
 
 -- ---- one link
 
@@ -20,9 +22,10 @@ count_more : {A : Type 0} (q : A → Bool) (xs : List A) (x : A) → count_by q 
 count_more q xs x = sum_by-append (λ y. cond (q y) 1 0) xs (x ∷ []) ∙ ap (λ n. count_by q xs + n) (zero-add (one_if (q x)))
 
 head : (b : Body) (c d : Bool) (a0 a1 a2 a3 a4 : ℕ) (t : List ℕ)
-    → bump d 4 (bump c (place_of (crossing_kind b)) (a0 ∷ a1 ∷ a2 ∷ a3 ∷ a4 ∷ t))
-    ≡ (a0 + one_if ((kind_of b == 0) && c)) ∷ (a1 + one_if ((kind_of b == 1) && c)) ∷ (a2 + one_if ((kind_of b == 2) && c)) ∷
-    (a3 + one_if ((kind_of b == 3) && c)) ∷ (a4 + one_if d) ∷ t
+    → bump d 4 (bump c (place_of (kind_of b)) (a0 ∷ a1 ∷ a2 ∷ a3 ∷ a4 ∷ t))
+    ≡ (a0 + one_if ((place_of (kind_of b) == 0) && c)) ∷ (a1 + one_if ((place_of (kind_of b) == 1) && c))
+    ∷ (a2 + one_if ((place_of (kind_of b) == 2) && c)) ∷
+    (a3 + one_if ((place_of (kind_of b) == 3) && c)) ∷ (a4 + one_if d) ∷ t
 head (Drawop n ink) true true a0 a1 a2 a3 a4 t = simp add-zero
 head (Drawop n ink) true false a0 a1 a2 a3 a4 t = simp add-zero
 head (Drawop n ink) false true a0 a1 a2 a3 a4 t = simp add-zero
@@ -56,8 +59,9 @@ module _ (s : Traffic) (ps : List Packet) (p : Packet) where
   abbrev all : List Packet
   all = ps ++ p ∷ []
 
-  crossed_more : (k l : ℕ) → crossed s k l all ≡ crossed s k l ps + one_if ((kind_of p.body == k) && s.crosses p l)
-  crossed_more k l = count_more (λ q. (kind_of q.body == k) && s.crosses q l) ps p
+  crossed_more : (k : Kind) (l : ℕ) → crossed s k l all
+      ≡ crossed s k l ps + one_if ((place_of (kind_of p.body) == place_of k) && s.crosses p l)
+  crossed_more k l = count_more (λ q. (place_of (kind_of q.body) == place_of k) && s.crosses q l) ps p
 
   dropped_more : (l : ℕ) → dropped s l all ≡ dropped s l ps + one_if (s.drops_at p l)
   dropped_more l = count_more (λ q. s.drops_at q l) ps p
@@ -92,22 +96,24 @@ module _ (s : Traffic) (ps : List Packet) (p : Packet) where
   length_mixed k l zero = refl
   length_mixed k l (suc n) = let e = length_mixed k (l + 1) n in omega (arith, e)
 
-  here : (l : ℕ) (t : List ℕ) → bump (s.drops_at p l) 4 (bump (s.crosses p l) (place_of (crossing_kind p.body)) (crossings_at s ps l ++ t))
+  here : (l : ℕ) (t : List ℕ) → bump (s.drops_at p l) 4 (bump (s.crosses p l) (place_of (kind_of p.body)) (crossings_at s ps l ++ t))
       ≡ crossings_at s all l ++ t
-  here l t = head p.body (s.crosses p l) (s.drops_at p l) (crossed s 0 l ps) (crossed s 1 l ps) (crossed s 2 l ps) (crossed s 3 l ps)
+  here l t = head p.body (s.crosses p l) (s.drops_at p l) (crossed s kind.Drawop l ps) (crossed s kind.Request l ps)
+      (crossed s kind.Repair l ps) (crossed s kind.Session l ps)
       (dropped s l ps) t
-      ∙ (λ i. sym (crossed_more 0 l) i ∷ sym (crossed_more 1 l) i ∷ sym (crossed_more 2 l) i ∷ sym (crossed_more 3 l) i ∷ sym
+      ∙ (λ i. sym (crossed_more kind.Drawop l) i ∷ sym (crossed_more kind.Request l) i ∷ sym (crossed_more kind.Repair l) i
+      ∷ sym (crossed_more kind.Session l) i ∷ sym
       (dropped_more l) i ∷ t)
 
   more : (l j n : ℕ) → j < n → bump (s.drops_at p (l + j)) (5 * j + 4)
-      (bump (s.crosses p (l + j)) (5 * j + place_of (crossing_kind p.body)) (mixed (l + j) l n)) ≡ mixed (l + j + 1) l n
+      (bump (s.crosses p (l + j)) (5 * j + place_of (kind_of p.body)) (mixed (l + j) l n)) ≡ mixed (l + j + 1) l n
   more l j zero lt = absurd (omega arith)
   more l zero (suc n) lt =
       let e : l + 0 ≡ l = omega arith in
-      let z : 5 * 0 + place_of (crossing_kind p.body) ≡ place_of (crossing_kind p.body) = omega arith in
-      ap (λ m. bump (s.drops_at p m) 4 (bump (s.crosses p m) (5 * 0 + place_of (crossing_kind p.body)) (mixed m l (suc n)))) e
+      let z : 5 * 0 + place_of (kind_of p.body) ≡ place_of (kind_of p.body) = omega arith in
+      ap (λ m. bump (s.drops_at p m) 4 (bump (s.crosses p m) (5 * 0 + place_of (kind_of p.body)) (mixed m l (suc n)))) e
       ∙ ap (λ m. bump (s.drops_at p l) 4 (bump (s.crosses p l) m (mixed l l (suc n)))) z
-      ∙ ap (λ x. bump (s.drops_at p l) 4 (bump (s.crosses p l) (place_of (crossing_kind p.body)) x))
+      ∙ ap (λ x. bump (s.drops_at p l) 4 (bump (s.crosses p l) (place_of (kind_of p.body)) x))
       (ap (λ b. crossings_at s (cond b all ps) l ++ mixed l (l + 1) n) (le-ltb l l (le_refl l))
       ∙ ap (λ t. crossings_at s ps l ++ t) (all_old l (l + 1) n (omega arith)))
       ∙ here l (flat ps (l + 1) n)
@@ -118,23 +124,25 @@ module _ (s : Traffic) (ps : List Packet) (p : Packet) where
       let was : nat_lt l (l + suc j) ≡ true = lt-ltb l (l + suc j) (omega arith) in
       let now : nat_lt l (l + suc j + 1) ≡ true = lt-ltb l (l + suc j + 1) (omega arith) in
       ap (λ b. bump (s.drops_at p (l + suc j)) (5 * suc j + 4)
-      (bump (s.crosses p (l + suc j)) (5 * suc j + place_of (crossing_kind p.body))
+      (bump (s.crosses p (l + suc j)) (5 * suc j + place_of (kind_of p.body))
       (crossings_at s (cond b all ps) l ++ mixed (l + suc j) (l + 1) n))) was
       ∙ ap (bump (s.drops_at p (l + suc j)) (5 * suc j + 4))
-      (skip (s.crosses p (l + suc j)) j (place_of (crossing_kind p.body)) (crossed s 0 l all) (crossed s 1 l all) (crossed s 2 l all)
-      (crossed s 3 l all) (dropped s l all) (mixed (l + suc j) (l + 1) n))
-      ∙ skip (s.drops_at p (l + suc j)) j 4 (crossed s 0 l all) (crossed s 1 l all) (crossed s 2 l all) (crossed s 3 l all)
-      (dropped s l all) (bump (s.crosses p (l + suc j)) (5 * j + place_of (crossing_kind p.body)) (mixed (l + suc j) (l + 1) n))
+      (skip (s.crosses p (l + suc j)) j (place_of (kind_of p.body)) (crossed s kind.Drawop l all) (crossed s kind.Request l all)
+      (crossed s kind.Repair l all)
+      (crossed s kind.Session l all) (dropped s l all) (mixed (l + suc j) (l + 1) n))
+      ∙ skip (s.drops_at p (l + suc j)) j 4 (crossed s kind.Drawop l all) (crossed s kind.Request l all) (crossed s kind.Repair l all)
+      (crossed s kind.Session l all)
+      (dropped s l all) (bump (s.crosses p (l + suc j)) (5 * j + place_of (kind_of p.body)) (mixed (l + suc j) (l + 1) n))
       ∙ ap (λ t. crossings_at s all l ++ t)
-      (ap (λ m. bump (s.drops_at p m) (5 * j + 4) (bump (s.crosses p m) (5 * j + place_of (crossing_kind p.body)) (mixed m (l + 1) n))) e
+      (ap (λ m. bump (s.drops_at p m) (5 * j + 4) (bump (s.crosses p m) (5 * j + place_of (kind_of p.body)) (mixed m (l + 1) n))) e
       ∙ more (l + 1) j n (omega arith) ∙ ap (λ m. mixed (m + 1) (l + 1) n) (sym e))
       ∙ ap (λ b. crossings_at s (cond b all ps) l ++ mixed (l + suc j + 1) (l + 1) n) (sym now)
 
-  pub counted_at : (k : ℕ) → k < s.links → bump (s.drops_at p k) (5 * k + 4)
-      (bump (s.crosses p k) (5 * k + place_of (crossing_kind p.body)) (mixed k 0 s.links)) ≡ mixed (k + 1) 0 s.links
-  counted_at k lt =
+  pub counted_link : (k : ℕ) → k < s.links → bump (s.drops_at p k) (5 * k + 4)
+      (bump (s.crosses p k) (5 * k + place_of (kind_of p.body)) (mixed k 0 s.links)) ≡ mixed (k + 1) 0 s.links
+  counted_link k lt =
       let e : 0 + k ≡ k = zero-add k in
-      ap (λ m. bump (s.drops_at p m) (5 * k + 4) (bump (s.crosses p m) (5 * k + place_of (crossing_kind p.body)) (mixed m 0 s.links)))
+      ap (λ m. bump (s.drops_at p m) (5 * k + 4) (bump (s.crosses p m) (5 * k + place_of (kind_of p.body)) (mixed m 0 s.links)))
       (sym e) ∙ more 0 k s.links lt ∙ ap (λ m. mixed (m + 1) 0 s.links) e
 
   -- no number is above that of the packets
@@ -144,9 +152,9 @@ module _ (s : Traffic) (ps : List Packet) (p : Packet) where
 
   pub most : (l i n k : ℕ) → slice_index (mixed k l n) i ≤ length ps + 1
   most l i zero k = omega arith
-  most l zero (suc n) k = few (λ q. (kind_of q.body == 0) && s.crosses q l) (nat_lt l k)
-  most l (suc zero) (suc n) k = few (λ q. (kind_of q.body == 1) && s.crosses q l) (nat_lt l k)
-  most l (suc (suc zero)) (suc n) k = few (λ q. (kind_of q.body == 2) && s.crosses q l) (nat_lt l k)
-  most l (suc (suc (suc zero))) (suc n) k = few (λ q. (kind_of q.body == 3) && s.crosses q l) (nat_lt l k)
+  most l zero (suc n) k = few (λ q. (place_of (kind_of q.body) == 0) && s.crosses q l) (nat_lt l k)
+  most l (suc zero) (suc n) k = few (λ q. (place_of (kind_of q.body) == 1) && s.crosses q l) (nat_lt l k)
+  most l (suc (suc zero)) (suc n) k = few (λ q. (place_of (kind_of q.body) == 2) && s.crosses q l) (nat_lt l k)
+  most l (suc (suc (suc zero))) (suc n) k = few (λ q. (place_of (kind_of q.body) == 3) && s.crosses q l) (nat_lt l k)
   most l (suc (suc (suc (suc zero)))) (suc n) k = few (λ q. s.drops_at q l) (nat_lt l k)
   most l (suc (suc (suc (suc (suc i))))) (suc n) k = most (l + 1) i n k

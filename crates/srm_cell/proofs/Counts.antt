@@ -1,5 +1,5 @@
 -- A step at a tick leaves fewer events pending at that tick.
-use Rattle.std.proofs.Common.{◌≡◌, ℕ, suc, ◌<◌, ◌≤◌, ◌+◌, ◌^◌, Bool, true, false, cond, List, [], ◌∷◌, map, refl, sym, ap, ◌∙◌, subst, ◌⊎◌}
+use Rattle.std.proofs.Common.{◌≡◌, ℕ, suc, ◌<◌, ◌≤◌, ◌+◌, Bool, true, false, cond, List, [], ◌∷◌, map, refl, sym, ap, ◌∙◌, subst, ◌⊎◌}
 use Rattle.std.proofs.Common.{inl, inr, arith, Option, Some, None, nat_lt, eq-eqb, ◌==◌, le_refl}
 use Rattle.srm_cell.proofs.CellLemmas.{first_timer, next_event_is}
 use Rattle.srm_cell.proofs.Rising.{Above, OnEvent, OnStep, earlier_on}
@@ -19,6 +19,7 @@ use Rattle.srm_net.specs.declared.key.Key.{Key}
 use Rattle.srm_net.specs.declared.packet.Body.{Body}
 use Rattle.srm_net.specs.declared.packet.Name.{Name}
 use Rattle.srm_scenario.specs.declared.mark.Mark.{Mark}
+use Rattle.srm_net.specs.Limits.{most_sent}
 
 -- ---- what the next event takes from a cell
 
@@ -62,7 +63,7 @@ next_taken m c = subst (OnEvent (Taken c)) (sym (next_event_is m c))
 
 -- the timers at a tick after a reaction, where a record reacts
 abbrev after_react : ℕ → Record → Option Cause → ℕ
-after_react t (Active m) (Some cause) = timers_at t (Active (react m t cause).memory)
+after_react t (Active m) (Some cause) = timers_at t (Active (react m t cause).state)
 after_react t (Active m) None = 0
 after_react t (Gone f) cause = 0
 
@@ -73,10 +74,10 @@ counted_by : (e : Event) (n : ℕ) (b : Bool) (x : Stepped) → Counted e n x �
 counted_by e n true x h = h
 counted_by e n false x h = tt
 
-counted_sending : (e : Event) (r : Reaction) (body : Option Body) → OnStep (Counted e (timers_at e.key.time (Active r.memory)))
+counted_sending : (e : Event) (r : Reaction) (body : Option Body) → OnStep (Counted e (timers_at e.key.time (Active r.state)))
     (sending_step e r body)
 counted_sending e r None = le_refl _
-counted_sending e r (Some body) = counted_by e _ (nat_lt e.rest.sent (2 ^ 48)) _ (le_refl _)
+counted_sending e r (Some body) = counted_by e _ (nat_lt e.rest.sent most_sent) _ (le_refl _)
 
 counted_handle : (e : Event) (holds : Record) (cause : Option Cause) → e.rest.holds ≡ holds
     → OnStep (Counted e (after_react e.key.time holds cause)) (handle e holds cause)
@@ -89,10 +90,10 @@ sound_by : (b : Bool) (x : Stepped) → SoundRecord x.cell.holds → OnStep (λ 
 sound_by true x h = h
 sound_by false x h = tt
 
-sound_sending : (e : Event) (r : Reaction) (body : Option Body) → IsSound r.memory
+sound_sending : (e : Event) (r : Reaction) (body : Option Body) → IsSound r.state
     → OnStep (λ d. SoundRecord d.cell.holds) (sending_step e r body)
 sound_sending e r None h = h
-sound_sending e r (Some body) h = sound_by (nat_lt e.rest.sent (2 ^ 48)) _ h
+sound_sending e r (Some body) h = sound_by (nat_lt e.rest.sent most_sent) _ h
 
 sound_handle : (e : Event) (holds : Record) (cause : Option Cause) → e.rest.holds ≡ holds → SoundRecord holds
     → OnStep (λ d. SoundRecord d.cell.holds) (handle e holds cause)
@@ -116,12 +117,12 @@ fewer_after : (t : ℕ) (holds : Record) (cause : Option Cause) → SoundRecord 
 fewer_after t (Gone f) cause s d h e q = absurd h
 fewer_after t (Active m) cause s d h e q = subst (λ k. after_react t (Active m) k < timers_at t (Active m)) (sym q)
     (elim (in_append d (map (λ e. record { time = e.1.expiry; rank = 2; name = e.0 }) m.missing) _ h) as
-    (λ x. timers_at t (Active (react m t (cause_of_timer d.rank d.name)).memory) < timers_at t (Active m)) [
+    (λ x. timers_at t (Active (react m t (cause_of_timer d.rank d.name)).state) < timers_at t (Active m)) [
       | inl g ↦ let r = in_map (λ (e : Name × Missing). record { time = e.1.expiry; rank = 2; name = e.0 }) d m.missing g in
-          subst (λ (d : Due). timers_at t (Active (react m t (cause_of_timer d.rank d.name)).memory) < timers_at t (Active m)) r.2
+          subst (λ (d : Due). timers_at t (Active (react m t (cause_of_timer d.rank d.name)).state) < timers_at t (Active m)) r.2
           (fewer_asks t m s r.0.0 r.0.1 r.1 (eq-eqb _ _ (ap (λ (d : Due). d.time) r.2 ∙ e)))
       | inr g ↦ let r = in_map (λ (e : Name × Repairing). record { time = e.1.expiry; rank = 3; name = e.0 }) d m.repairs g in
-          subst (λ (d : Due). timers_at t (Active (react m t (cause_of_timer d.rank d.name)).memory) < timers_at t (Active m)) r.2
+          subst (λ (d : Due). timers_at t (Active (react m t (cause_of_timer d.rank d.name)).state) < timers_at t (Active m)) r.2
           (fewer_answers t m s r.0.0 r.0.1 r.1 (eq-eqb _ _ (ap (λ (d : Due). d.time) r.2 ∙ e)))
     ])
 

@@ -6,6 +6,9 @@ use Rattle.std.proofs.lemmas.List.Elements.{filter_map-append}
 use Rattle.srm_net.specs.declared.packet.Packet.{Packet}
 use Rattle.srm_member.specs.declared.row.Row.{Row}
 use Rattle.srm_cell.specs.Setting.{Traffic}
+use Rattle.srm_ledger.specs.declared.kind.Kind.{Kind}
+use Rattle.srm_ledger.specs.declared.kind.Kind.TheVariants.{Drawop, Request, Repair, Session}
+use Rattle.srm_ledger.specs.Counts.{place_of}
 use Rattle.srm_cell.specs.Crossings.{packets_of, kind_of, crossings_at, added, crossings}
 use Rattle.srm_cell.specs.Laws.{CrossingsAdd}
 
@@ -16,9 +19,9 @@ module _ (s : Traffic) (ps qs : List Packet) where
   link_add : (l : ℕ) (ms ns : List ℕ) → crossings_at s (ps ++ qs) l ++ added ms ns
       ≡ added (crossings_at s ps l ++ ms) (crossings_at s qs l ++ ns)
   link_add l ms ns =
-      let c = λ (kind : ℕ). count_add (λ p. (kind_of p.body == kind) && s.crosses p l) ps qs in
+      let c = λ (kind : Kind). count_add (λ p. (place_of (kind_of p.body) == place_of kind) && s.crosses p l) ps qs in
       let d = count_add (λ p. s.drops_at p l) ps qs in
-      λ i. c 0 i ∷ c 1 i ∷ c 2 i ∷ c 3 i ∷ d i ∷ added ms ns
+      λ i. c Drawop i ∷ c Request i ∷ c Repair i ∷ c Session i ∷ d i ∷ added ms ns
 
   pub links_add : (ls : List ℕ) → flat_map (crossings_at s (ps ++ qs)) ls
       ≡ added (flat_map (crossings_at s ps) ls) (flat_map (crossings_at s qs) ls)

@@ -17,7 +17,7 @@ use Rattle.srm_cell.specs.declared.pending.Source.TheVariants.{Inbox, Script, Ti
 use Rattle.srm_cell.specs.declared.pending.Pending.{Pending}
 use Rattle.srm_cell.specs.Flights.{flight_cmp}
 use Rattle.srm_cell.specs.Cells.{PlainCell, Event, arrival_key, by_key, earlier, first_arrival, first_mark, next_timer, next_event, hear_at}
-use Rattle.srm_cell.specs.Pending.{Stands, arriving, first_of, sooner}
+use Rattle.srm_cell.specs.Pending.{Stands, arriving, first_of, sooner_pending}
 use Rattle.srm_cell.proofs.CellLemmas.{earlier-map, event_map}
 use Rattle.srm_cell.proofs.Tidy.{Least, flight_keys, least_earlier}
 
@@ -199,6 +199,6 @@ module _ (m : ℕ) (p : Packet) (at : ℕ) where
 
   -- the sooner of the packet and what was next stands for what is next now
   pub stands_heard : (c : PlainCell) (o : Option Pending) → Stands m c o (next_event m c)
-      → Stands m (heard c) (sooner (Some (arriving m at p.id)) o) (next_event m (heard c))
+      → Stands m (heard c) (sooner_pending (Some (arriving m at p.id)) o) (next_event m (heard c))
   stands_heard c None h = stands_none c h
   stands_heard c (Some q) h = stands_some c q _ refl h

@@ -1,5 +1,5 @@
 -- Members that left: nothing is pending at a record that is gone.
-use Rattle.std.proofs.Common.{◌≡◌, ◌≢◌, ℕ, zero, suc, ◌<◌, ◌≤◌, ◌^◌, Bool, true, false, cond, List, [], ◌∷◌, refl, sym, ap, ◌∙◌, subst, ◌⊎◌}
+use Rattle.std.proofs.Common.{◌≡◌, ◌≢◌, ℕ, zero, suc, ◌<◌, ◌≤◌, Bool, true, false, cond, List, [], ◌∷◌, refl, sym, ap, ◌∙◌, subst, ◌⊎◌}
 use Rattle.std.proofs.Common.{inl, inr, arith, Option, Some, None, nat_lt, nat_le, is_lt, true≢false, ltb-true, lt-ltb, leb-true, eqb-true}
 use Rattle.std.proofs.Common.{eq-eqb, ◌==◌, Less, nat_cmp}
 use Rattle.srm_net.specs.declared.key.Key.{Key}
@@ -27,6 +27,7 @@ use Rattle.srm_cell.proofs.Tidy.{NotBefore, Least, IsTidy, RestTidy, above_least
 use Rattle.srm_cell.proofs.Counts.{Taken, next_taken}
 use Rattle.srm_cell.proofs.Clear.{IsTail, RestOf, next_rest, StepOf, step_is_of}
 use Rattle.srm_cell.proofs.OwnRunLemmas.{end_by, end_first, end_now}
+use Rattle.srm_net.specs.Limits.{most_sent}
 
 abbrev pub IsActive : Record → Type 0
 IsActive (Active m) = Unit {0}
@@ -144,7 +145,7 @@ active_by e false x h = tt
 
 active_sending : (e : Event) (r : Reaction) (body : Option Body) → OnStep (ActiveOrLeft e) (sending_step e r body)
 active_sending e r None = inl tt
-active_sending e r (Some body) = active_by e (nat_lt e.rest.sent (2 ^ 48)) _ (inl tt)
+active_sending e r (Some body) = active_by e (nat_lt e.rest.sent most_sent) _ (inl tt)
 
 active_handle : (e : Event) (holds : Record) (cause : Option Cause) → e.cause ≡ cause → OnStep (ActiveOrLeft e) (handle e holds cause)
 unfolding handle

@@ -12,7 +12,7 @@ use Rattle.srm_cell.specs.declared.flight.Flight.{Flight}
 use Rattle.srm_cell.specs.Cells.{PlainCell, Event, first_arrival, first_mark, next_timer, timer_event, next_event, earlier, by_key, before}
 use Rattle.srm_cell.specs.Cells.{step_at, own_step, handle, Idle}
 use Rattle.srm_cell.specs.declared.pending.Pending.{Pending}
-use Rattle.srm_cell.specs.Pending.{Stands, sooner}
+use Rattle.srm_cell.specs.Pending.{Stands, sooner_pending}
 use Rattle.srm_cell.specs.Views.{HoldsRecord, due_in}
 
 -- an event with this key, which is what is pending
@@ -90,7 +90,7 @@ sooner_by m c p q x y Greater r h g = (
 )
 
 pub sooner_stands : (m : ℕ) (c : PlainCell) (d e : Option Pending) (x y : Option Event) → Stands m c d x → Stands m c e y
-    → Stands m c (sooner d e) (earlier x y)
+    → Stands m c (sooner_pending d e) (earlier x y)
 sooner_stands m c None e x y h g = subst (λ o. Stands m c e (earlier o y)) (sym h) g
 sooner_stands m c (Some p) None x y h g = (h.0, (λ i. earlier (h.1 i) (g i)), h.2, h.3)
 sooner_stands m c (Some p) (Some q) x y h g = sooner_by m c p q x y (key_cmp p.key q.key) refl h g

@@ -1,5 +1,5 @@
 -- Bounds on all that a cell has pending, and the row of a step.
-use Rattle.std.proofs.Common.{◌≡◌, ℕ, ◌<◌, ◌^◌, Bool, true, false, cond, List, [], ◌∷◌, refl, sym, subst, Ordering, Less, Equal, Greater}
+use Rattle.std.proofs.Common.{◌≡◌, ℕ, ◌<◌, Bool, true, false, cond, List, [], ◌∷◌, refl, sym, subst, Ordering, Less, Equal, Greater}
 use Rattle.std.proofs.Common.{Option, Some, None, nat_lt}
 use Rattle.srm_cell.proofs.CellLemmas.{first_timer, keep, next_event_is}
 use Rattle.srm_cell.specs.Cells.{arrival_key, mark_key, timer_key, Done, Event, Full, Idle, PlainCell, Spent, StepOutcome, Stepped, before}
@@ -17,6 +17,7 @@ use Rattle.srm_net.specs.declared.key.Key.{Key}
 use Rattle.srm_net.specs.declared.packet.Body.{Body}
 use Rattle.srm_net.specs.declared.packet.Packet.{Packet}
 use Rattle.srm_scenario.specs.declared.mark.Mark.{Mark}
+use Rattle.srm_net.specs.Limits.{most_sent}
 
 abbrev pub OnEvent : (Event → Type 0) → Option Event → Type 0
 OnEvent Q None = Unit {0}
@@ -93,10 +94,10 @@ module _ (P : Key → Type 0) (m : ℕ) where
     sending_by_above true x h = h
     sending_by_above false x h = tt
 
-    sending_above : (e : Event) (r : Reaction) (body : Option Body) → Above e.rest → AllIn (λ d. P (timer_key m d)) (timers_of r.memory)
+    sending_above : (e : Event) (r : Reaction) (body : Option Body) → Above e.rest → AllIn (λ d. P (timer_key m d)) (timers_of r.state)
         → OnStep (λ d. Above d.cell) (sending_step e r body)
     sending_above e r None a h = record { flights = a.flights; marks = a.marks; dues = h }
-    sending_above e r (Some body) a h = sending_by_above (nat_lt e.rest.sent (2 ^ 48)) _
+    sending_above e r (Some body) a h = sending_by_above (nat_lt e.rest.sent most_sent) _
         (record { flights = a.flights; marks = a.marks; dues = h })
 
     handle_above : (e : Event) (holds : Record) (cause : Option Cause) → e.key.time ≡ t → Above e.rest
@@ -127,7 +128,7 @@ row_by k false x h = tt
 
 row_sending : (e : Event) (r : Reaction) (body : Option Body) → OnStep (RowOf e.key) (sending_step e r body)
 row_sending e r None = (refl, tt)
-row_sending e r (Some body) = row_by e.key (nat_lt e.rest.sent (2 ^ 48)) _ (refl, refl)
+row_sending e r (Some body) = row_by e.key (nat_lt e.rest.sent most_sent) _ (refl, refl)
 
 row_handle : (e : Event) (holds : Record) (cause : Option Cause) → OnStep (RowOf e.key) (handle e holds cause)
 unfolding handle

@@ -1,5 +1,5 @@
 -- What a member's answer makes of an event.
-use Rattle.std.proofs.Common.{◌≡◌, ℕ, ◌+◌, ◌<◌, ◌≤◌, ◌^◌, true, false, Bool, cond, Option, Some, None, Ok, Err, refl, sym, ap, ◌∙◌, subst}
+use Rattle.std.proofs.Common.{◌≡◌, ℕ, ◌+◌, ◌<◌, ◌≤◌, true, false, Bool, cond, Option, Some, None, Ok, Err, refl, sym, ap, ◌∙◌, subst}
 use Rattle.std.proofs.Common.{nat_lt, lt-ltb, le-ltb}
 use Rattle.srm_net.specs.declared.key.Key.{Key}
 use Rattle.srm_net.specs.declared.packet.Body.{Body}
@@ -12,6 +12,7 @@ use Rattle.srm_member.specs.React.{Reaction, react}
 use Rattle.srm_member.specs.Reacts.{Reacts, Finishes}
 use Rattle.srm_cell.specs.Cells.{Event, StepOutcome, Full, Spent, Done, Stepped, handle, sending_step, row_of, packet_of, parting}
 use Rattle.srm_cell.specs.Views.{IsGone, IsHere, HasWork, HoldsRecord, record_in}
+use Rattle.srm_net.specs.Limits.{most_sent}
 
 -- a member that is gone has no answer
 pub gone_has_none : (e : Event) (h : Record) (c : Option Cause) → IsGone h → handle e h c ≡ Spent
@@ -33,7 +34,7 @@ module _ (e : Event) (key : Key) (cause : Cause) (same : key ≡ e.key) (caused 
   Handled h o = handle e h e.cause ≡ o
 
   answered : (r s : Record) (a : React) → Reacts r key.time cause (Ok a) s
-      → (o : Option Body) → a.body ≡ o → (x : Reaction) × (x.answer ≡ a) × (s ≡ Active x.memory) × (handle e r e.cause ≡ sending_step e x o)
+      → (o : Option Body) → a.body ≡ o → (x : Reaction) × (x.answer ≡ a) × (s ≡ Active x.state) × (handle e r e.cause ≡ sending_step e x o)
   unfolding handle
   answered (Gone f) s a h o b = absurd h
   answered (Active m) s a h o b =
@@ -42,7 +43,7 @@ module _ (e : Event) (key : Key) (cause : Cause) (same : key ≡ e.key) (caused 
       let is : a ≡ x.answer = h.0 ∙ ap (λ t. (react m t cause).answer) time in (
         x,
         sym is,
-        h.1 ∙ ap (λ t. Active (react m t cause).memory) time,
+        h.1 ∙ ap (λ t. Active (react m t cause).state) time,
         ap (handle e (Active m)) caused ∙ ap (sending_step e x) (ap (λ (r : React). r.body) (sym is) ∙ b),
       )
 
@@ -56,15 +57,15 @@ module _ (e : Event) (key : Key) (cause : Cause) (same : key ≡ e.key) (caused 
 
   -- and sends a packet
   pub said : (r s : Record) (a : React) (body : Body) → e.rest.holds ≡ r → Reacts r key.time cause (Ok a) s → a.body ≡ Some body
-      → e.rest.sent < 2 ^ 48
+      → e.rest.sent < most_sent
       → handle e e.rest.holds e.cause ≡ Done
       (record { cell = record e.rest { holds = s; sent = e.rest.sent + 1 }; row = row_of e a (Some (packet_of e body)) })
   said r s a body holds h b lt =
       let k = answered r s a h (Some body) b in
-      let yes : nat_lt e.rest.sent (2 ^ 48) ≡ true = lt-ltb _ _ lt in
+      let yes : nat_lt e.rest.sent most_sent ≡ true = lt-ltb _ _ lt in
       ap (λ q. handle e q e.cause) holds ∙ k.3
       ∙ ap (λ t. cond t (Done (record {
-        cell = record e.rest { holds = Active k.0.memory; sent = e.rest.sent + 1 };
+        cell = record e.rest { holds = Active k.0.state; sent = e.rest.sent + 1 };
         row =
             row_of e k.0.answer (Some (packet_of e body));
       })) Full) yes
@@ -76,14 +77,14 @@ module _ (e : Event) (key : Key) (cause : Cause) (same : key ≡ e.key) (caused 
 
   -- where the count is used up there is no packet
   pub not_said : (r s : Record) (a : React) (body : Body) → e.rest.holds ≡ r → Reacts r key.time cause (Ok a) s → a.body ≡ Some body
-      → 2 ^ 48 ≤ e.rest.sent
+      → most_sent ≤ e.rest.sent
       → handle e e.rest.holds e.cause ≡ Full
   not_said r s a body holds h b le =
       let k = answered r s a h (Some body) b in
-      let no : nat_lt e.rest.sent (2 ^ 48) ≡ false = le-ltb _ _ le in
+      let no : nat_lt e.rest.sent most_sent ≡ false = le-ltb _ _ le in
       ap (λ q. handle e q e.cause) holds ∙ k.3
       ∙ ap (λ t. cond t (Done (record {
-        cell = record e.rest { holds = Active k.0.memory; sent = e.rest.sent + 1 };
+        cell = record e.rest { holds = Active k.0.state; sent = e.rest.sent + 1 };
         row =
             row_of e k.0.answer (Some (packet_of e body));
       })) Full) no
@@ -95,7 +96,7 @@ work_by false x = tt
 
 sending_work : (e : Event) (r : Reaction) (body : Option Body) → HasWork (sending_step e r body)
 sending_work e r None = tt
-sending_work e r (Some body) = work_by (nat_lt e.rest.sent (2 ^ 48)) _
+sending_work e r (Some body) = work_by (nat_lt e.rest.sent most_sent) _
 
 pub wanting : (e : Event) (cause : Cause) (at : ℕ) (r s : Record) → e.rest.holds ≡ r → e.cause ≡ Some cause
     → Reacts r at cause (Err member.NoMemory) s → HasWork (handle e e.rest.holds e.cause)

@@ -1,5 +1,5 @@
 -- The packets of an own run: whose they are, and how many.
-use Rattle.std.proofs.Common.{◌≡◌, ◌<◌, ◌≤◌, ℕ, zero, suc, ◌-◌, ◌*◌, ◌^◌, Bool, true, false, cond, List, [], ◌∷◌, length, Option, Some}
+use Rattle.std.proofs.Common.{◌≡◌, ◌<◌, ◌≤◌, ℕ, zero, suc, ◌-◌, ◌*◌, Bool, true, false, cond, List, [], ◌∷◌, length, Option, Some}
 use Rattle.std.proofs.Common.{None, refl, sym, ap, ◌∙◌, subst, arith, nat_lt, ltb-true, length-append, All}
 use Rattle.std.specs.List.{cons_option}
 use Rattle.std.proofs.lemmas.List.Elements.{All-nil, All-cons}
@@ -23,13 +23,14 @@ use Rattle.srm_cell.proofs.CellSteps.{SentBy, own_step_is}
 use Rattle.srm_cell.proofs.OwnRunLemmas.{rows_by, rows_first, rows_none}
 use Rattle.srm_cell.proofs.RowPackets.{packets_joined}
 use Rattle.srm_cell.proofs.Rising.{OnEvent, OnStep, before_on, SentAt, RowOf, row_step}
+use Rattle.srm_net.specs.Limits.{end_of_time, most_sent}
 
 -- ---- how many
 
 -- the count before and after what was sent, if anything was
 abbrev Counts : ℕ → Option Packet → ℕ → Type 0
 Counts before None after = after ≡ before
-Counts before (Some p) after = (before < 2 ^ 48) × (after ≡ suc before)
+Counts before (Some p) after = (before < most_sent) × (after ≡ suc before)
 
 abbrev CountsFrom : ℕ → StepOutcome Stepped → Type 0
 CountsFrom n = OnStep (λ d. Counts n d.row.sent d.cell.sent)
@@ -40,7 +41,7 @@ counts_by n false x h = tt
 
 counts_sending : (e : Event) (r : Reaction) (body : Option Body) → CountsFrom e.rest.sent (sending_step e r body)
 counts_sending e r None = refl
-counts_sending e r (Some body) = counts_by e.rest.sent (nat_lt e.rest.sent (2 ^ 48)) _ (λ t. (ltb-true _ _ t, omega arith))
+counts_sending e r (Some body) = counts_by e.rest.sent (nat_lt e.rest.sent most_sent) _ (λ t. (ltb-true _ _ t, omega arith))
 
 counts_handle : (e : Event) (holds : Record) (cause : Option Cause) → CountsFrom e.rest.sent (handle e holds cause)
 unfolding handle
@@ -56,8 +57,8 @@ counts_own : (end m : ℕ) (c : PlainCell) → CountsFrom c.sent (own_step end m
 unfolding own_step
 counts_own end m c = counts_at c (before end (next_event m c)) (before_on (RestOf c) end (next_event m c) (next_rest m c))
 
-one_packet : (b a : ℕ) (o : Option Packet) (ps : List Packet) → Counts b o a → length ps ≤ 2 ^ 48 - a
-    → length (cons_option o ps) ≤ 2 ^ 48 - b
+one_packet : (b a : ℕ) (o : Option Packet) (ps : List Packet) → Counts b o a → length ps ≤ most_sent - a
+    → length (cons_option o ps) ≤ most_sent - b
 one_packet b a None ps h le = omega arith
 one_packet b a (Some p) ps h le = let lt = h.0 in let e = h.1 in omega arith
 
@@ -85,25 +86,25 @@ unfolding own_step
 early end m c d h = early_at end (next_event m c) d h
 
 module _ (end m : ℕ) where
-  few_by : (n before : ℕ) → ((d : PlainCell) → length (packets_of (own_rows end m n d)) ≤ 2 ^ 48 - d.sent) → (o : StepOutcome Stepped)
-      → CountsFrom before o → length (packets_of (rows_by end m n o)) ≤ 2 ^ 48 - before
+  few_by : (n before : ℕ) → ((d : PlainCell) → length (packets_of (own_rows end m n d)) ≤ most_sent - d.sent) → (o : StepOutcome Stepped)
+      → CountsFrom before o → length (packets_of (rows_by end m n o)) ≤ most_sent - before
   few_by n before more Idle h = omega arith
   few_by n before more Full h = omega arith
   few_by n before more Spent h = omega arith
   few_by n before more (Done d) h = one_packet before d.cell.sent d.row.sent _ h (more d.cell)
 
-  few_left : (n : ℕ) (c : PlainCell) → length (packets_of (own_rows end m n c)) ≤ 2 ^ 48 - c.sent
+  few_left : (n : ℕ) (c : PlainCell) → length (packets_of (own_rows end m n c)) ≤ most_sent - c.sent
   few_left zero c = let e = ap (λ rs. length (packets_of rs)) (rows_none end m c) in omega (arith, e)
-  few_left (suc n) c = subst (λ rs. length (packets_of rs) ≤ 2 ^ 48 - c.sent) (sym (rows_first end m n c))
+  few_left (suc n) c = subst (λ rs. length (packets_of rs) ≤ most_sent - c.sent) (sym (rows_first end m n c))
       (few_by n c.sent (λ d. few_left n d) (own_step end m c) (counts_own end m c))
 
   -- ---- whose
 
-  sent_below : (k : ℕ) (o : Option Packet) → m < k → end ≤ 2 ^ 40 → SentBy m o → SentBefore end o → IsSentBelow k o
+  sent_below : (k : ℕ) (o : Option Packet) → m < k → end ≤ end_of_time → SentBy m o → SentBefore end o → IsSentBelow k o
   sent_below k None lt le h g = tt
   sent_below k (Some p) lt le h g = (omega arith, omega arith)
 
-  below_by : (k n : ℕ) → m < k → end ≤ 2 ^ 40 → ((d : PlainCell) → All (λ r. IsSentBelow k r.sent) (own_rows end m n d))
+  below_by : (k n : ℕ) → m < k → end ≤ end_of_time → ((d : PlainCell) → All (λ r. IsSentBelow k r.sent) (own_rows end m n d))
       → (o : StepOutcome Stepped)
       → ((d : Stepped) → o ≡ Done d → SentBy m d.row.sent × SentBefore end d.row.sent) → All (λ r. IsSentBelow k r.sent) (rows_by end m n o)
   below_by k n lt le more Idle h = All-nil (λ (r : Row). IsSentBelow k r.sent)
@@ -112,7 +113,7 @@ module _ (end m : ℕ) where
   below_by k n lt le more (Done d) h = let s = h d refl in All-cons (λ (r : Row). IsSentBelow k r.sent) d.row _
       (sent_below k d.row.sent lt le s.0 s.1) (more d.cell)
 
-  own_below : (k n : ℕ) (c : PlainCell) → m < k → end ≤ 2 ^ 40 → All (λ r. IsSentBelow k r.sent) (own_rows end m n c)
+  own_below : (k n : ℕ) (c : PlainCell) → m < k → end ≤ end_of_time → All (λ r. IsSentBelow k r.sent) (own_rows end m n c)
   own_below k zero c lt le = subst (All (λ r. IsSentBelow k r.sent)) (sym (rows_none end m c)) (All-nil (λ (r : Row). IsSentBelow k r.sent))
   own_below k (suc n) c lt le =
       subst (All (λ r. IsSentBelow k r.sent)) (sym (rows_first end m n c))
@@ -122,7 +123,7 @@ module _ (end m : ℕ) where
 
 module _ {X : Type 0} {H : X → Type 0} where
   pub rows_few : (f : DynBox X Global H → Record) (end : ℕ) (qs : List OwnCell) (rows : List (List Row)) (cs : List (Cell X H))
-      → RanEach f end qs rows cs → length (packets_of (joined rows)) ≤ length cs * 2 ^ 48
+      → RanEach f end qs rows cs → length (packets_of (joined rows)) ≤ length cs * most_sent
   rows_few f end [] [] [] h = omega arith
   rows_few f end [] [] (c ∷ cs) h = absurd h
   rows_few f end [] (r ∷ rs) cs h = absurd h
@@ -130,14 +131,14 @@ module _ {X : Type 0} {H : X → Type 0} where
   rows_few f end (q ∷ qs) (r ∷ rs) [] h = absurd h
   rows_few f end (q ∷ qs) (r ∷ rs) (c ∷ cs) h =
       let run = h.0.1 in
-      let one : length (packets_of r) ≤ 2 ^ 48 - q.cell.sent = subst (λ xs. length (packets_of xs) ≤ 2 ^ 48 - q.cell.sent)
+      let one : length (packets_of r) ≤ most_sent - q.cell.sent = subst (λ xs. length (packets_of xs) ≤ most_sent - q.cell.sent)
       (sym run.rows_are) (few_left end q.member run.steps q.cell) in
       let more = rows_few f end qs rs cs h.1 in
       let e = ap length (packets_joined r rs) ∙ length-append (packets_of r) (packets_of (joined rs)) in
       omega (arith, one, more, e)
 
   pub rows_below : (f : DynBox X Global H → Record) (end k : ℕ) (qs : List OwnCell) (rows : List (List Row)) (cs : List (Cell X H))
-      → end ≤ 2 ^ 40 → AreMembers k qs → RanEach f end qs rows cs → All (λ rs. All (λ r. IsSentBelow k r.sent) rs) rows
+      → end ≤ end_of_time → AreMembers k qs → RanEach f end qs rows cs → All (λ rs. All (λ r. IsSentBelow k r.sent) rs) rows
   rows_below f end k [] [] [] le a h = All-nil (λ (rs : List Row). All (λ r. IsSentBelow k r.sent) rs)
   rows_below f end k [] [] (c ∷ cs) le a h = absurd h
   rows_below f end k [] (r ∷ rs) cs le a h = absurd h

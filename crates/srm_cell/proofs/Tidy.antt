@@ -1,5 +1,5 @@
 -- Cells whose inboxes and scripts are in order, and what the least event says of them.
-use Rattle.std.proofs.Common.{◌≡◌, ℕ, ◌<◌, ◌≤◌, ◌+◌, ◌^◌, Bool, true, false, cond, not, ◌&&◌, List, [], ◌∷◌, refl, sym, ap, ◌∙◌, subst, ◌≢◌}
+use Rattle.std.proofs.Common.{◌≡◌, ℕ, ◌<◌, ◌≤◌, ◌+◌, Bool, true, false, cond, not, ◌&&◌, List, [], ◌∷◌, refl, sym, ap, ◌∙◌, subst, ◌≢◌}
 use Rattle.std.proofs.Common.{arith, Ordering, Less, Equal, Greater, Option, Some, None, nat_lt, nat_le, is_lt, ltb-true, eqb-true, ◌==◌}
 use Rattle.std.proofs.Common.{le-ltb}
 use Rattle.std.proofs.lemmas.Bool.{eqb-false}
@@ -27,6 +27,7 @@ use Rattle.srm_net.specs.declared.packet.Body.{Body}
 use Rattle.srm_net.specs.declared.packet.Packet.{Packet}
 use Rattle.srm_scenario.specs.Plain.{mark_cmp}
 use Rattle.srm_scenario.specs.declared.mark.Mark.{Mark}
+use Rattle.srm_net.specs.Limits.{most_sent}
 
 -- ---- keys of flights and marks of one member
 
@@ -147,7 +148,7 @@ tidy_by false x h = tt
 
 tidy_sending : (e : Event) (r : Reaction) (body : Option Body) → IsTidy e.rest → OnStep (λ d. IsTidy d.cell) (sending_step e r body)
 tidy_sending e r None t = record { flights = t.flights; marks = t.marks }
-tidy_sending e r (Some body) t = tidy_by (nat_lt e.rest.sent (2 ^ 48)) _ (record { flights = t.flights; marks = t.marks })
+tidy_sending e r (Some body) t = tidy_by (nat_lt e.rest.sent most_sent) _ (record { flights = t.flights; marks = t.marks })
 
 tidy_handle : (e : Event) (holds : Record) (cause : Option Cause) → IsTidy e.rest → OnStep (λ d. IsTidy d.cell) (handle e holds cause)
 unfolding handle

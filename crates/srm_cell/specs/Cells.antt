@@ -1,5 +1,5 @@
 -- One member's cell: its record, what is on the way to it, and the rest of its script. A cell's own step.
-use Rattle.std.specs.Prelude.{◌≡◌, ◌≢◌, ℕ, ◌+◌, ◌^◌, true, List, [], ◌∷◌, ◌++◌, map, Option, Some, None, nat_lt, ◌==◌}
+use Rattle.std.specs.Prelude.{◌≡◌, ◌≢◌, ℕ, ◌+◌, true, List, [], ◌∷◌, ◌++◌, map, Option, Some, None, nat_lt, ◌==◌}
 use Rattle.std.specs.Prelude.{if◌then◌else◌}
 use Rattle.std.specs.declared.cmp.Ordering.{Ordering}
 use Rattle.std.specs.declared.cmp.Ordering.TheVariants.{Less, Equal, Greater}
@@ -28,6 +28,7 @@ use Rattle.srm_member.specs.React.{Reaction, react}
 use Rattle.srm_cell.specs.declared.flight.Flight.{Flight}
 use Rattle.srm_cell.specs.Setting.{Traffic, Setting, arrival_of, cause_of_mark}
 use Rattle.srm_cell.specs.Flights.{flight_cmp}
+use Rattle.srm_net.specs.Limits.{most_sent}
 
 -- ---- cells
 
@@ -222,13 +223,13 @@ packet_of e body = record { id = record { sender = e.key.member; count = e.rest.
 -- an answer's body becomes a packet, for which the count must not be used up
 abbrev pub sending_step : Event → Reaction → Option Body → StepOutcome Stepped
 sending_step e r None = Done (record {
-  cell = record e.rest { holds = Active r.memory };
+  cell = record e.rest { holds = Active r.state };
   row = row_of e r.answer None;
 })
 sending_step e r (Some body) =
-    if nat_lt e.rest.sent (2 ^ 48)
+    if nat_lt e.rest.sent most_sent
     then Done (record {
-      cell = record e.rest { holds = Active r.memory; sent = e.rest.sent + 1 };
+      cell = record e.rest { holds = Active r.state; sent = e.rest.sent + 1 };
       row = row_of e r.answer (Some (packet_of e body));
     })
     else Full

@@ -2,25 +2,28 @@
 use Rattle.std.specs.Prelude.{ℕ, ◌+◌, ◌&&◌, List, [], ◌∷◌, ◌++◌, ◌==◌}
 use Rattle.std.specs.List.{filter_map, flat_map, count_by, range_with_len}
 use Rattle.srm_net.specs.declared.packet.Body.{Body}
-use Rattle.srm_net.specs.declared.packet.Body.TheVariants.{Drawop, Request, Repair, Session}
+use Rattle.srm_net.specs.declared.packet.Body.TheVariants as body
 use Rattle.srm_net.specs.declared.packet.Packet.{Packet}
 use Rattle.srm_member.specs.declared.row.Row.{Row}
+use Rattle.srm_ledger.specs.declared.kind.Kind.{Kind}
+use Rattle.srm_ledger.specs.declared.kind.Kind.TheVariants.{Drawop, Request, Repair, Session}
+use Rattle.srm_ledger.specs.Counts.{place_of}
 use Rattle.srm_cell.specs.Setting.{Traffic}
 
 -- the packets that the rows' members sent
 abbrev pub packets_of : List Row → List Packet
 packets_of rows = filter_map (λ r. r.sent) rows
 
--- the kinds of packets: 0 data, 1 requests, 2 repairs, 3 session messages
-abbrev pub kind_of : Body → ℕ
-kind_of (Drawop n ink) = 0
-kind_of (Request n) = 1
-kind_of (Repair n ink) = 2
-kind_of (Session hs) = 3
+-- as what a packet that crosses a link is counted
+abbrev pub kind_of : Body → Kind
+kind_of (body.Drawop n ink) = Drawop
+kind_of (body.Request n) = Request
+kind_of (body.Repair n ink) = Repair
+kind_of (body.Session hs) = Session
 
 -- how many packets of a kind cross link l
-abbrev pub crossed : Traffic → ℕ → ℕ → List Packet → ℕ
-crossed t kind l ps = count_by (λ p. (kind_of p.body == kind) && t.crosses p l) ps
+abbrev pub crossed : Traffic → Kind → ℕ → List Packet → ℕ
+crossed t kind l ps = count_by (λ p. (place_of (kind_of p.body) == place_of kind) && t.crosses p l) ps
 
 -- how many packets are dropped at link l
 abbrev pub dropped : Traffic → ℕ → List Packet → ℕ
@@ -28,7 +31,9 @@ dropped t l ps = count_by (λ p. t.drops_at p l) ps
 
 -- of link l: data, requests, repairs and session messages that cross it, and packets dropped at it
 abbrev pub crossings_at : Traffic → List Packet → ℕ → List ℕ
-crossings_at t ps l = crossed t 0 l ps ∷ crossed t 1 l ps ∷ crossed t 2 l ps ∷ crossed t 3 l ps ∷ dropped t l ps ∷ []
+crossings_at t ps l =
+    crossed t Drawop l ps ∷ crossed t Request l ps ∷ crossed t Repair l ps ∷ crossed t Session l ps
+    ∷ dropped t l ps ∷ []
 
 -- two lists of numbers, added number by number
 abbrev pub added : List ℕ → List ℕ → List ℕ

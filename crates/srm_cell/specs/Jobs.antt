@@ -1,5 +1,5 @@
 -- Jobs: own runs of some cells, and what they tell.
-use Rattle.std.specs.Prelude.{◌≡◌, ◌≢◌, ◌⊎◌, ◌<◌, ◌≤◌, ◌^◌, ℕ, length, List, [], ◌∷◌, Result, Ok, Err}
+use Rattle.std.specs.Prelude.{◌≡◌, ◌≢◌, ◌⊎◌, ◌<◌, ◌≤◌, ℕ, length, List, [], ◌∷◌, Result, Ok, Err}
 use Rattle.std.specs.List.{AllZip}
 use Rattle.std.specs.declared.dyn_box.DynBox.{DynBox}
 use Rattle.std.specs.Global.{Global, Vec}
@@ -17,6 +17,7 @@ use Rattle.srm_cell.specs.Cells.{PlainCell, StepOutcome, Idle, Full, Spent, Step
 use Rattle.srm_cell.specs.OwnRuns.{own_end, IsOwnRun, MeetsFull, MeetsSpent}
 use Rattle.srm_cell.specs.Crossings.{joined, crossings}
 use Rattle.srm_cell.specs.Views.{IsCell, HasWork}
+use Rattle.srm_net.specs.Limits.{end_of_time}
 
 -- a cell, and whose it is
 pub record OwnCell : Type 0 where
@@ -69,7 +70,7 @@ module _ {X : Type 0} {H : X → Type 0} where
   pub record MayAdvance (f : DynBox X Global H → Record) (members : ℕ) (j : Job X H) : Type 0 where
     pub plain_job : PlainJob
     pub is : IsJob f j plain_job
-    pub till : plain_job.till ≤ 2 ^ 40
+    pub till : plain_job.till ≤ end_of_time
     pub few : length plain_job.cells ≤ 1024
     pub of_members : AreMembers members plain_job.cells
 

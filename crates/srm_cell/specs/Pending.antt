@@ -27,7 +27,7 @@ arriving m time id = record {
 }
 
 -- of two that are pending the one with the lesser key; of two with one key the first
-abbrev pub sooner : Option Pending → Option Pending → Option Pending
-sooner None q = q
-sooner (Some p) None = Some p
-sooner (Some p) (Some q) = if is_gt (key_cmp p.key q.key) then Some q else Some p
+abbrev pub sooner_pending : Option Pending → Option Pending → Option Pending
+sooner_pending None q = q
+sooner_pending (Some p) None = Some p
+sooner_pending (Some p) (Some q) = if is_gt (key_cmp p.key q.key) then Some q else Some p

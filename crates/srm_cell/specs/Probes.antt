@@ -3,7 +3,7 @@ use Rattle.std.specs.Prelude.{ℕ, Bool, [], if◌then◌else◌}
 use Rattle.srm_net.specs.declared.role.Role.{Role}
 use Rattle.srm_net.specs.declared.role.Role.TheVariants.{Listener, Receiver}
 use Rattle.srm_member.specs.declared.fixed.Fixed.{Fixed}
-use Rattle.srm_member.specs.Record.{Record, Active, Gone, opening_memory}
+use Rattle.srm_member.specs.Record.{Record, Active, Gone, opening_state}
 
 -- the part that never changes of a member that knows no distance and wants no page
 abbrev pub plain_fixed : Role → ℕ → Fixed
@@ -12,9 +12,9 @@ plain_fixed role m =
 
 -- the record, by whether it is gone, of a member that joins no recovery and counts the drops of its box
 abbrev pub probe_record : ℕ → Bool → Record
-probe_record m gone = if gone then Gone (plain_fixed Listener m) else Active (opening_memory (plain_fixed Listener m))
+probe_record m gone = if gone then Gone (plain_fixed Listener m) else Active (opening_state (plain_fixed Listener m))
 
 -- the record, by whether it is gone, of a member that has heard of no page and sends its reports
 abbrev pub reporter_record : ℕ → Bool → Record
 reporter_record m gone =
-    if gone then Gone (plain_fixed Receiver m) else Active (opening_memory (plain_fixed Receiver m))
+    if gone then Gone (plain_fixed Receiver m) else Active (opening_state (plain_fixed Receiver m))

@@ -5,13 +5,12 @@ use Rattle.std.specs.List.{flat_map, range_with_len}
 use Rattle.srm_net.specs.declared.packet.Packet.{Packet}
 use Rattle.srm_net.specs.Network.{Network}
 use Rattle.srm_scenario.specs.Plain.{PlainScenario}
-use Rattle.srm_net.specs.declared.packet.Body.{Body}
-use Rattle.srm_net.specs.declared.packet.Body.TheVariants as body
 use Rattle.srm_ledger.specs.declared.kind.Kind.{Kind}
-use Rattle.srm_ledger.specs.declared.kind.Kind.TheVariants.{Drawop, Request, Repair, Session, Dropped}
+use Rattle.srm_ledger.specs.declared.kind.Kind.TheVariants.{Dropped}
 use Rattle.srm_ledger.specs.Counts.{place_at}
 use Rattle.srm_cell.specs.Setting.{Traffic, traffic_of}
 use Rattle.srm_cell.specs.Crossings.{crossings_at}
+use Rattle.srm_net.specs.Limits.{end_of_time}
 
 -- the five numbers of each link in turn
 unfoldable pub numbers_of : Traffic → List Packet → List ℕ
@@ -29,13 +28,6 @@ Counts k net more old new = CountsBesides (traffic_of k net) more old new
 abbrev pub MayCount : Traffic → ℕ → List ℕ → Type 0
 MayCount t more ns = (ps : List Packet) × (length ps + more + 2 < 2 ^ 64) × (ns ≡ numbers_of t ps)
 
--- as what a packet that crosses a link is counted
-abbrev pub crossing_kind : Body → Kind
-crossing_kind (body.Drawop n ink) = Drawop
-crossing_kind (body.Request n) = Request
-crossing_kind (body.Repair n ink) = Repair
-crossing_kind (body.Session hs) = Session
-
 -- one more at a place of a list, where it is so
 abbrev pub bump : Bool → ℕ → List ℕ → List ℕ
 bump b i ns = if b then slice_set ns i (slice_index ns i + 1) else ns
@@ -47,4 +39,4 @@ with_fate crosses drops l kind ns = bump drops (place_at l Dropped) (bump crosse
 -- the packet is one of these members', sent before the latest time of a run, if there is one
 abbrev pub IsSentBelow : ℕ → Option Packet → Type 0
 IsSentBelow members None = Unit {0}
-IsSentBelow members (Some p) = (p.id.sender < members) × (p.sent < 2 ^ 40)
+IsSentBelow members (Some p) = (p.id.sender < members) × (p.sent < end_of_time)

@@ -1,5 +1,6 @@
 //! Own runs of a job's cells.
 ghost use Rattle.std.specs.Prelude.{◌≡◌, ◌<◌, ◌≤◌, ◌+◌, ◌^◌, ℕ, List, length, All, IfOk, IfErr};
+ghost use Rattle.srm_net.specs.Limits.{end_of_time};
 ghost use Rattle.srm_cell.specs.Setting.{traffic_of};
 ghost use Rattle.srm_cell.specs.Crossings.{packets_of, joined, crossings};
 ghost use Rattle.srm_cell.specs.Totalled.{IsSentBelow};
@@ -47,7 +48,7 @@ fn run_each(
     till: u64,
     waiting: Vec<Cell>,
 ) -> Result<(Vec<Cell>, Vec<Sequence<Row>>), CellFault>
-    requires { till ≤ 2 ^ 40 }
+    requires { till ≤ end_of_time }
     ensures { (qs : List OwnCell) → AreCells (λ b. plain b) waiting.items qs → TellsRuns (λ b. plain b) till qs result }
 {
     let mut cells = Vec::new(alloc);

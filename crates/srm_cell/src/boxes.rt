@@ -1,5 +1,6 @@
 //! Calls of a member in its box.
-ghost use Rattle.std.specs.Prelude.{◌<◌, ◌^◌};
+ghost use Rattle.std.specs.Prelude.{◌<◌};
+ghost use Rattle.srm_net.specs.Limits.{end_of_time};
 ghost use Rattle.srm_member.specs.Reacts.{Reacts, Finishes};
 
 use srm_member::cause::Cause;
@@ -15,7 +16,7 @@ pub(crate) fn react(
     at: u64,
     cause: &Cause,
 ) -> Result<React, MemberFault>
-    requires { at < 2 ^ 40 }
+    requires { at < end_of_time }
     ensures { Reacts (plain member.old) at cause.now result (plain member.new) }
 {
     member.react(alloc, at, cause)

@@ -1,5 +1,6 @@
 //! A member's cell.
-ghost use Rattle.std.specs.Prelude.{◌≡◌, ◌≤◌, ◌<◌, ◌^◌, Some, None, OnOk, OnErr, IfErr};
+ghost use Rattle.std.specs.Prelude.{◌≡◌, ◌≤◌, ◌<◌, Some, None, OnOk, OnErr, IfErr};
+ghost use Rattle.srm_net.specs.Limits.{end_of_time, most_sent};
 ghost use Rattle.srm_net.specs.Orders.{Rises};
 ghost use Rattle.srm_scenario.specs.Plain.{mark_cmp};
 ghost use Rattle.srm_member.specs.Record.{due_of};
@@ -48,7 +49,7 @@ pub struct Cell {
 impl Cell {
     /// A member's cell with this script. The member's next packet has count `sent`. It does not allocate.
     pub fn new(alloc: Global, member: Box<dyn Member>, script: Vec<Mark>, sent: u64) -> Cell
-        requires sent { sent ≤ 2 ^ 48 }
+        requires sent { sent ≤ most_sent }
         requires script { Rises mark_cmp script.items }
         ensures { IsNew (λ b. plain b) (plain member) script.items sent result }
     {
@@ -100,7 +101,7 @@ impl Cell {
     /// `NoMemory` only where there is an event to handle; `Spent` where its member is gone; `CountFull` where the member is to send a
     /// packet with its packet count used up. The cell is then of no more use.
     pub fn step(&mut self, alloc: Global, end: u64) -> Result<Option<Row>, CellFault>
-        requires { end ≤ 2 ^ 40 }
+        requires { end ≤ end_of_time }
         ensures { Steps (λ b. plain b) end self.old result self.new }
     {
         let Some(next) = self.next else {
@@ -124,7 +125,7 @@ impl Cell {
     /// # Errors
     /// That of the first [`Cell::step`] that is refused. The cell is then of no more use.
     pub fn run(&mut self, alloc: Global, end: u64) -> Result<Sequence<Row>, CellFault>
-        requires { end ≤ 2 ^ 40 }
+        requires { end ≤ end_of_time }
         ensures { Runs (λ b. plain b) end self.old result self.new }
     {
         let mut rows = Vec::new(alloc);
@@ -183,7 +184,7 @@ impl Cell {
 
     // The member answers an event, or leaves where there is no cause.
     fn answer(&mut self, alloc: Global, key: Key, cause: Option<Cause>) -> Result<Row, CellFault>
-        requires { key.time < 2 ^ 40 }
+        requires { key.time < end_of_time }
         ensures { Answers (λ b. plain b) key cause self.old result self.new }
     {
         match cause {
@@ -194,7 +195,7 @@ impl Cell {
 
     // The member reacts to a cause. After an error the cell holds no box.
     fn say(&mut self, alloc: Global, key: Key, cause: Cause) -> Result<Row, CellFault>
-        requires { key.time < 2 ^ 40 }
+        requires { key.time < end_of_time }
         ensures { Answers (λ b. plain b) key (Some cause) self.old result self.new }
     {
         let Some(mut member) = self.member.take() else {

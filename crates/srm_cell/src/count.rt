@@ -4,8 +4,9 @@ ghost use Rattle.srm_net.specs.Fates.{is_crossing, is_dropping};
 ghost use Rattle.srm_net.specs.Spreads.{IsSpread};
 ghost use Rattle.srm_scenario.specs.Plain.{PlainScenario};
 ghost use Rattle.srm_cell.specs.Setting.{traffic_of};
-ghost use Rattle.srm_cell.specs.Totalled.{MayCount, CountsBesides, crossing_kind, with_fate};
-ghost use Rattle.srm_ledger.specs.Counts.{number_at};
+ghost use Rattle.srm_cell.specs.Crossings.{kind_of};
+ghost use Rattle.srm_cell.specs.Totalled.{MayCount, CountsBesides, with_fate};
+ghost use Rattle.srm_ledger.specs.Counts.{counted_at};
 
 use srm_ledger::kind::Kind;
 use srm_ledger::totals::Totals;
@@ -33,8 +34,8 @@ pub fn count(totals: &mut Totals, net: &Net, spread: &Spread, packet: &Packet)
 // Counts what becomes of a packet of this kind at a link.
 fn count_at(totals: &mut Totals, link: u16, kind: Kind, fate: Fate)
     requires within { 5 * link + 4 < length totals.old }
-    requires crossing { number_at totals.old link kind + 1 < 2 ^ 64 }
-    requires dropping { number_at totals.old link Kind.Dropped + 1 < 2 ^ 64 }
+    requires crossing { counted_at totals.old link kind + 1 < 2 ^ 64 }
+    requires dropping { counted_at totals.old link Kind.Dropped + 1 < 2 ^ 64 }
     ensures { totals.new ≡ with_fate (is_crossing fate) (is_dropping fate) link kind totals.old }
 {
     match fate {
@@ -46,7 +47,7 @@ fn count_at(totals: &mut Totals, link: u16, kind: Kind, fate: Fate)
 
 // The kind of a packet that crosses a link.
 fn kind_of(body: &Body) -> Kind
-    ensures { result ≡ crossing_kind body.now }
+    ensures { result ≡ kind_of body.now }
 {
     match body {
         Body::Drawop { .. } => Kind::Drawop,

@@ -1,5 +1,6 @@
 //! Crossings of rows.
-ghost use Rattle.std.specs.Prelude.{◌≡◌, ◌<◌, ◌^◌, ◌∷◌, [], ℕ, length, All, IfOk, IfErr, MatchOption};
+ghost use Rattle.std.specs.Prelude.{◌≡◌, ◌<◌, ◌∷◌, [], ℕ, length, All, IfOk, IfErr, MatchOption};
+ghost use Rattle.srm_net.specs.Limits.{end_of_time};
 ghost use Rattle.srm_ledger.specs.Counts.{nothing_at};
 ghost use Rattle.srm_cell.specs.Setting.{traffic_of};
 ghost use Rattle.srm_cell.specs.Crossings.{packets_of};
@@ -57,7 +58,7 @@ impl Crossings {
         net: &Net,
         packet: &Packet,
     ) -> Result<(), AllocError>
-        requires sent { packet.now.sent < 2 ^ 40 }
+        requires sent { packet.now.sent < end_of_time }
         requires sender { packet.now.id.sender < length net.now.hosts }
         requires room { MayCount (traffic_of scenario.now net.now) 1 self.old }
         ensures { IfOk result (λ _. Counts scenario.now net.now (packet.now ∷ []) self.old self.new) }

@@ -57,7 +57,7 @@ impl Pending {
 
 /// The one with the lesser key; of two with one key the first.
 pub(crate) fn sooner(first: Option<Pending>, second: Option<Pending>) -> Option<Pending>
-    ensures { result ≡ pending.sooner first second }
+    ensures { result ≡ pending.sooner_pending first second }
 {
     match (first, second) {
         (None, second) => second,

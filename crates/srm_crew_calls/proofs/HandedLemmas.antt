@@ -1,5 +1,5 @@
 -- Jobs as crews may be handed them.
-use Rattle.std.proofs.Common.{◌≡◌, ℕ, zero, suc, ◌+◌, ◌<◌, ◌≤◌, ◌^◌, List, [], ◌∷◌, ◌++◌, length, Ok, refl, sym, ap, ◌∙◌, subst, arith}
+use Rattle.std.proofs.Common.{◌≡◌, ℕ, zero, suc, ◌+◌, ◌<◌, ◌≤◌, List, [], ◌∷◌, ◌++◌, length, Ok, refl, sym, ap, ◌∙◌, subst, arith}
 use Rattle.std.proofs.Common.{add-zero, zero-add, add-one, All, length-append}
 use Rattle.std.specs.List.{AllZip, range_with_len}
 use Rattle.std.proofs.lemmas.List.{map-append}
@@ -21,6 +21,7 @@ use Rattle.srm_cell.specs.Views.{IsNew}
 use Rattle.srm_cell.specs.Jobs.{OwnCell, PlainJob, AreMembers, AreCells, MayAdvance, RanEach, IsDone}
 use Rattle.srm_crew.specs.Crews.{AreJobs, Maps}
 use Rattle.srm_crew_calls.specs.Handed.{MayMap, AreKnown}
+use Rattle.srm_net.specs.Limits.{end_of_time}
 
 range_more : (a n : ℕ) → range_with_len a (suc n) ≡ range_with_len a n ++ (a + n) ∷ []
 range_more a zero = ap (λ k. k ∷ []) (sym (add-zero a))
@@ -47,7 +48,7 @@ module _ {X : Type 0} {H : X → Type 0} (f : DynBox X Global H → Record) (n :
 
   -- ---- what is done
 
-  pub may_go_on : (j : Job X H) → AreKnown f n j.cells.items → j.till ≤ 2 ^ 40 → MayAdvance f n j
+  pub may_go_on : (j : Job X H) → AreKnown f n j.cells.items → j.till ≤ end_of_time → MayAdvance f n j
   may_go_on j known soon = record {
     plain_job = record { place = j.place; till = j.till; cells = known.seen };
     is = record { place = refl; till = refl; cells = known.are };

@@ -6,7 +6,7 @@ use Rattle.srm_cell.specs.Cells.{PlainCell, StepOutcome, Idle, Full, Spent, Done
 use Rattle.srm_cell.specs.OwnRuns.{own_end, told_to}
 use Rattle.srm_engine.specs.Laws.{IsRefusal, SchedulesAreAnswered}
 use Rattle.srm_engine.specs.Schedules.{own_of, scheduled}
-use Rattle.srm_engine.specs.World.{World, after_step, settled}
+use Rattle.srm_engine.specs.World.{World, after_step, cells_after}
 use Rattle.srm_engine.proofs.RunLemmas.{end_late, fewer, full_flag, spent_flag}
 use Rattle.srm_engine.proofs.ScheduleLemmas.{Safe, safe_after, step_late}
 use Rattle.srm_engine.proofs.Settled.{at_member, get_after}
@@ -26,7 +26,7 @@ module _ (s : Setting) (end : ℕ) where
   Results cs = (m : ℕ) (c : PlainCell) → slice_get cs m ≡ Some c → (n : ℕ) × (own_end end m n c ≡ Idle)
 
   results_after : (cs : List PlainCell) → Safe s end cs → Results cs → (b : ℕ) (d : Stepped) → own_of end b (slice_get cs b) ≡ Done d
-      → Results (settled s b d 0 cs)
+      → Results (cells_after s b d 0 cs)
   results_after cs safe has b d e m x g =
       let h = mapped (at_member s b d m) (slice_get cs m) x (sym (get_after s b d m cs) ∙ g) in
       let c = h.0 in
@@ -61,7 +61,8 @@ module _ (s : Setting) (end : ℕ) where
             let n = has m p.0 p.1 in
             spent_flag s end m n.0 p.0 false p.2 n.1
         | Done d ↦ λ e r.
-            answered ms (record { cells = settled s m d 0 w.cells; trace = w.trace ++ d.row ∷ [] }) (safe_after s end w.cells safe m d e)
+            answered ms (record { cells = cells_after s m d 0 w.cells; trace = w.trace ++ d.row ∷ [] })
+            (safe_after s end w.cells safe m d e)
             (results_after w.cells safe has m d e) r
       ] refl h
 

@@ -5,7 +5,7 @@ use Rattle.std.proofs.lemmas.Bool.Decides.{nat_tests}
 use Rattle.srm_cell.specs.Setting.{Setting}
 use Rattle.srm_cell.specs.Cells.{PlainCell, Event, next_event, time_of}
 use Rattle.srm_engine.specs.World.{World, least_event}
-use Rattle.srm_engine.specs.NextTimes.{least_time, sooner}
+use Rattle.srm_engine.specs.NextTimes.{least_of_times, sooner_time}
 use Rattle.srm_engine.specs.Seen.{AreTimes}
 use Rattle.srm_engine.specs.Windows.{least_with}
 use Rattle.srm_engine.specs.WindowChains.{start_of}
@@ -47,7 +47,7 @@ abbrev first_min : ℕ → Option (ℕ × ℕ) → ℕ
 first_min n None = n
 first_min n (Some q) = min n q.0
 
-lesser : (n u i : ℕ) (o : Option (ℕ × ℕ)) → first_min (min n u) o ≡ min n (sooner (u, i) o).0
+lesser : (n u i : ℕ) (o : Option (ℕ × ℕ)) → first_min (min n u) o ≡ min n (sooner_time (u, i) o).0
 lesser n u i None = refl
 lesser n u i (Some q) = elim (nat_le u q.0) as (λ b. nat_le u q.0 ≡ b → min (min n u) q.0 ≡ min n (cond b (u, i) q).0) [
   | true ↦ λ e. let le : u ≤ q.0 = grind (arith, nat_tests) in omega arith
@@ -55,12 +55,12 @@ lesser n u i (Some q) = elim (nat_le u q.0) as (λ b. nat_le u q.0 ≡ b → min
 ] refl
 
 least_step : (n i : ℕ) (o : Option ℕ) (cs : List PlainCell) →
-    ((m : ℕ) → least_among m (suc i) cs ≡ first_min m (least_time (suc i) (times_from (suc i) cs)))
-    → least_among (least_with n o) (suc i) cs ≡ first_min n (least_time i (o ∷ times_from (suc i) cs))
+    ((m : ℕ) → least_among m (suc i) cs ≡ first_min m (least_of_times (suc i) (times_from (suc i) cs)))
+    → least_among (least_with n o) (suc i) cs ≡ first_min n (least_of_times i (o ∷ times_from (suc i) cs))
 least_step n i None cs more = more n
-least_step n i (Some u) cs more = more (min n u) ∙ lesser n u i (least_time (suc i) (times_from (suc i) cs))
+least_step n i (Some u) cs more = more (min n u) ∙ lesser n u i (least_of_times (suc i) (times_from (suc i) cs))
 
-least_is : (n i : ℕ) (cs : List PlainCell) → least_among n i cs ≡ first_min n (least_time i (times_from i cs))
+least_is : (n i : ℕ) (cs : List PlainCell) → least_among n i cs ≡ first_min n (least_of_times i (times_from i cs))
 least_is n i [] = refl
 least_is n i (c ∷ cs) = least_step n i (time_of (next_event i c)) cs (λ m. least_is m (suc i) cs)
 

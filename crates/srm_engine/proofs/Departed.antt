@@ -13,10 +13,11 @@ use Rattle.srm_cell.proofs.Rising.{OnEvent, Above, IsAbove, next_above, SentAt}
 use Rattle.srm_cell.proofs.Tidy.{arrival_is, arrival_up_to}
 use Rattle.srm_cell.proofs.Counts.{above_weaker}
 use Rattle.srm_cell.proofs.Leaving.{IsActive, Stays, stays_step, stays_hear_at, left_at, not_spent, rest_active}
-use Rattle.srm_engine.specs.World.{World, settled, least_event, opening, opening_cells, run}
+use Rattle.srm_engine.specs.World.{World, cells_after, least_event, opening, opening_cells, run}
 use Rattle.srm_engine.proofs.ScheduleLemmas.{same_Some}
 use Rattle.srm_engine.proofs.RunLemmas.{Seq, rest, next, shifted, least_from}
-use Rattle.srm_engine.proofs.Sequential.{EachCell, each_after, Good, StepFacts, step_facts, good_step, above_after, above_time}
+use Rattle.srm_engine.proofs.Sequential.{EachCell, Good, StepFacts, step_facts, good_step, above_after, above_time}
+use Rattle.srm_engine.proofs.Settled.{each_after}
 use Rattle.srm_engine.proofs.Sequential.{member_below, good_opening, run_seq}
 
 module _ (s : Setting) (fit : IsFit s) where
@@ -59,7 +60,7 @@ module _ (s : Setting) (fit : IsFit s) where
     m = e.key.member
 
     abbrev after : List PlainCell
-    after = settled s m d 0 cs
+    after = cells_after s m d 0 cs
 
     facts : StepFacts s fit end cs e d
     facts = step_facts s fit end cs e d h x
@@ -116,10 +117,10 @@ module _ (s : Setting) (fit : IsFit s) where
         let stays = stable.stays m c facts.here in
         record {
           good = good_step s fit end cs e d stable.good h x;
-          stays = each_after s fit (λ j c. Stays (s.traffic.leave j) c) cs m d
+          stays = each_after s (λ j c. Stays (s.traffic.leave j) c) cs m d
               (stays_step (s.traffic.leave m) m c e d (stable.good.tidy m c facts.here) stays next_is x)
               (λ j b g ne. told_stays d.row.sent facts.sender facts.sent_at j b (stable.stays j b g) (stable.past j b g));
-          past = each_after s fit (λ j c. Past after j c.holds) cs m d
+          past = each_after s (λ j c. Past after j c.holds) cs m d
               (mine_past (left_at (s.traffic.leave m) m c e d stays next_is x))
               (λ j b g ne. subst (Past after j) (sym (told_holds d.row.sent j b)) (kept_past j b.holds (stable.past j b g)));
         }

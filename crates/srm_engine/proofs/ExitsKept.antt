@@ -1,5 +1,5 @@
 -- A member that is gone has left its exit.
-use Rattle.std.proofs.Common.{◌≡◌, ℕ, zero, suc, ◌+◌, ◌^◌, Bool, true, false, cond, List, [], ◌∷◌, ◌++◌, ◌==◌, length, Option, Some, None}
+use Rattle.std.proofs.Common.{◌≡◌, ℕ, zero, suc, ◌+◌, Bool, true, false, cond, List, [], ◌∷◌, ◌++◌, ◌==◌, length, Option, Some, None}
 use Rattle.std.proofs.Common.{Err, refl, sym, ap, ◌∙◌, subst, slice_get, nat_lt, le_refl, arith, zero-add}
 use Rattle.std.specs.declared.dyn_box.DynBox.{DynBox}
 use Rattle.std.specs.Global.{Global}
@@ -18,10 +18,12 @@ use Rattle.srm_cell.specs.OwnRuns.{told_to}
 use Rattle.srm_cell.specs.declared.fault.CellFault.TheVariants as fault
 use Rattle.srm_cell.specs.Views.{IsCell, IsGone, TellsExit}
 use Rattle.srm_cell.proofs.Rising.{OnStep}
-use Rattle.srm_engine.specs.World.{World, IsReached, after_step, least_event, opening, opening_cells, run, settled, step, step_of, step_to}
+use Rattle.srm_engine.specs.World.{World, IsReached, after_step, least_event, opening, opening_cells, run, cells_after, step, step_of}
+use Rattle.srm_engine.specs.World.{step_to}
 use Rattle.srm_engine.specs.Outcomes.{HasEnd, AllEnd}
 use Rattle.srm_engine.specs.Seen.{AreCells}
 use Rattle.srm_engine.proofs.RunLemmas.{run_by, run_first}
+use Rattle.srm_net.specs.Limits.{most_sent}
 
 abbrev Kept : PlainCell → Type 0
 Kept c = HasEnd c.holds c.exit
@@ -34,7 +36,7 @@ kept_by false x h = tt
 
 kept_sending : (e : Event) (r : Reaction) (body : Option Body) → OnStep (λ d. Kept d.cell) (sending_step e r body)
 kept_sending e r None = tt
-kept_sending e r (Some body) = kept_by (nat_lt e.rest.sent (2 ^ 48)) _ tt
+kept_sending e r (Some body) = kept_by (nat_lt e.rest.sent most_sent) _ tt
 
 kept_handle : (e : Event) (holds : Record) (cause : Option Cause) → OnStep (λ d. Kept d.cell) (handle e holds cause)
 unfolding handle
@@ -57,8 +59,8 @@ module _ (s : Setting) where
   kept_if true d i c h g = h
   kept_if false d i c h g = kept_told d.row.sent i c g
 
-  kept_settled : (m : ℕ) (d : Stepped) (i : ℕ) (cs : List PlainCell) → Kept d.cell → AllIn Kept cs → AllIn Kept (settled s m d i cs)
-  unfolding settled
+  kept_settled : (m : ℕ) (d : Stepped) (i : ℕ) (cs : List PlainCell) → Kept d.cell → AllIn Kept cs → AllIn Kept (cells_after s m d i cs)
+  unfolding cells_after
   kept_settled m d i [] h g = tt
   kept_settled m d i (c ∷ cs) h g = (kept_if (i == m) d i c h g.0, kept_settled m d (suc i) cs h g.1)
 
@@ -71,8 +73,8 @@ module _ (s : Setting) where
   kept_after w v m Full k h g = let q : Full ≡ Done v = h in cc
   kept_after w v m Spent k h g = let q : Spent ≡ Done v = h in cc
   kept_after w v m (Done d) k h g =
-      let q : Done (record { cells = settled s m d 0 w.cells; trace = w.trace ++ d.row ∷ [] }) ≡ Done v = h in
-      let same : record { cells = settled s m d 0 w.cells; trace = w.trace ++ d.row ∷ [] } ≡ v = cc in
+      let q : Done (record { cells = cells_after s m d 0 w.cells; trace = w.trace ++ d.row ∷ [] }) ≡ Done v = h in
+      let same : record { cells = cells_after s m d 0 w.cells; trace = w.trace ++ d.row ∷ [] } ≡ v = cc in
       subst (λ (u : World). AllIn Kept u.cells) same (kept_settled m d 0 w.cells k g)
 
   kept_step : (w v : World) (o : Option Event) → step_of s w o ≡ Done v → AllIn Kept w.cells → AllIn Kept v.cells

@@ -1,5 +1,5 @@
 -- A member's fixed part stays the same in a run.
-use Rattle.std.proofs.Common.{◌≡◌, ℕ, zero, suc, ◌+◌, ◌^◌, Bool, true, false, cond, List, sym, ap, ◌∙◌, subst, inl, inr, Option, Some, None}
+use Rattle.std.proofs.Common.{◌≡◌, ℕ, zero, suc, ◌+◌, Bool, true, false, cond, List, sym, ap, ◌∙◌, subst, inl, inr, Option, Some, None}
 use Rattle.std.proofs.Common.{slice_get, nat_lt, add-zero, zero-add}
 use Rattle.srm_net.specs.declared.packet.Packet.{Packet}
 use Rattle.srm_net.specs.declared.packet.Body.{Body}
@@ -15,10 +15,12 @@ use Rattle.srm_cell.specs.Cells.{sending_step, step_at}
 use Rattle.srm_cell.specs.OwnRuns.{told_to}
 use Rattle.srm_cell.proofs.Counts.{Taken, next_taken}
 use Rattle.srm_cell.proofs.Rising.{OnEvent, OnStep, before_on}
-use Rattle.srm_engine.specs.World.{World, least_event, opening, opening_cells, run, settled}
+use Rattle.srm_engine.specs.World.{World, least_event, opening, opening_cells, run, cells_after}
 use Rattle.srm_engine.specs.Ends.{KeepFixed}
 use Rattle.srm_engine.proofs.RunLemmas.{Seq, next, rest, shifted}
-use Rattle.srm_engine.proofs.Sequential.{each_after, run_seq, step_facts}
+use Rattle.srm_engine.proofs.Sequential.{run_seq, step_facts}
+use Rattle.srm_engine.proofs.Settled.{each_after}
+use Rattle.srm_net.specs.Limits.{most_sent}
 
 same_some : {A : Type 0} (x y : A) → Some x ≡ Some y → x ≡ y
 same_some x y h = cc
@@ -32,10 +34,10 @@ kept_by : (f : FixedPart) (b : Bool) (d : Stepped) → Keeps f d → OnStep (Kee
 kept_by f true d h = h
 kept_by f false d h = tt
 
-kept_sending : (f : FixedPart) (e : Event) (r : Reaction) (body : Option Body) → r.memory.fixed ≡ f
+kept_sending : (f : FixedPart) (e : Event) (r : Reaction) (body : Option Body) → r.state.fixed ≡ f
     → OnStep (Keeps f) (sending_step e r body)
 kept_sending f e r None h = h
-kept_sending f e r (Some body) h = kept_by f (nat_lt e.rest.sent (2 ^ 48)) _ h
+kept_sending f e r (Some body) h = kept_by f (nat_lt e.rest.sent most_sent) _ h
 
 kept_handle : (f : FixedPart) (e : Event) (holds : Record) (cause : Option Cause) → fixed_part holds ≡ f
     → OnStep (Keeps f) (handle e holds cause)
@@ -66,13 +68,13 @@ module _ (s : Setting) (fit : IsFit s) where
   told_keeps (Some p) m c f h = heard_keeps p (arrival_of s.traffic p m) c f h
 
   kept_after : (cs : List PlainCell) (e : Event) (d : Stepped) → KeepFixed s cs → before s.traffic.until (least_event 0 cs) ≡ Some e
-      → step_at (Some e) ≡ Done d → KeepFixed s (settled s e.key.member d 0 cs)
+      → step_at (Some e) ≡ Done d → KeepFixed s (cells_after s e.key.member d 0 cs)
   kept_after cs e d kept h x =
       let t = step_facts s fit s.traffic.until cs e d h x in
       let m = e.key.member in
       let taken = subst (OnEvent (Taken t.cell)) t.event (before_on (Taken t.cell) s.traffic.until (next_event m t.cell)
       (next_taken m t.cell)) in
-      each_after s fit (λ j c. fixed_part c.holds ≡ s.fixed j) cs m d
+      each_after s (λ j c. fixed_part c.holds ≡ s.fixed j) cs m d
       (subst (OnStep (Keeps (s.fixed m))) x (kept_step (s.fixed m) e (rest_keeps (s.fixed m) t.cell e taken (kept m t.cell t.here))))
       (λ j c g ne. told_keeps d.row.sent j c (s.fixed j) (kept j c g))
 

@@ -24,7 +24,7 @@ use Rattle.srm_cell.specs.Cells.{PlainCell, hear_at, hear, Event, by_key, earlie
 use Rattle.srm_cell.specs.Cells.{before, Idle, Stepped, word_of_body, word_of, drawn, about_of, packet_of}
 use Rattle.srm_cell.specs.OwnRuns.{told_to}
 use Rattle.srm_cell.proofs.CellLemmas.{first_le, second_le}
-use Rattle.srm_engine.specs.World.{World, settled, least_event, step, opening, opening_cells, IsReached, IsLast}
+use Rattle.srm_engine.specs.World.{World, cells_after, least_event, step, opening, opening_cells, IsReached, IsLast}
 use Rattle.srm_engine.specs.Handed.{SentIn, same_packet, is_arrival, handing_count, is_sending, sending_count, PacketsAreNumbered}
 use Rattle.srm_engine.specs.Handed.{PacketsAreHandedOnce, HandedPacketsWereSent, PacketsAreTheirIdentities}
 use Rattle.srm_engine.proofs.OneStep.{TakesFlight, NoArrival, Takes, Sends, Steps, StepFacts, step_facts, same_some, here_after}
@@ -113,7 +113,7 @@ module _ (s : Setting) where
       m = e.key.member
 
       abbrev after : List PlainCell
-      after = settled s m d 0 cs
+      after = cells_after s m d 0 cs
 
       abbrev rows : List Row
       rows = trace ++ d.row ∷ []
@@ -260,7 +260,7 @@ module _ (s : Setting) where
 
       pub about_is : (body : Option Body) × (d.row.about ≡ about_of e.cause body)
       about_is = elim facts.does.how [
-        | inl a ↦ (let body = (react a.memory e.key.time a.cause).answer.body in (body, a.about ∙ ap (λ c. about_of c body) (sym a.is)))
+        | inl a ↦ (let body = (react a.state e.key.time a.cause).answer.body in (body, a.about ∙ ap (λ c. about_of c body) (sym a.is)))
         | inr l ↦ (None, l.about ∙ ap (λ c. about_of c None) (sym l.is))
       ]
 
@@ -330,7 +330,7 @@ module _ (s : Setting) where
       flights_told (Some p) y j c a = flights_hear p y j (arrival_of s.traffic p j) c refl a
 
       flights_after : EachCell (λ j c. AllIn (IsFlight rows j) c.inbox) after
-      flights_after = each_after s (λ j c. AllIn (IsFlight rows j) c.inbox) cs m d facts.cell facts.here (flights_more m d.cell.inbox left)
+      flights_after = each_after s (λ j c. AllIn (IsFlight rows j) c.inbox) cs m d (flights_more m d.cell.inbox left)
           (λ j c g ne. flights_told d.row.sent refl j c (was.flights j c g))
 
       -- ---- how often

@@ -10,7 +10,8 @@ use Rattle.std.proofs.lemmas.Nat.{and_mask}
 use Rattle.std.proofs.lemmas.Option.{slice_get-get_or}
 use Rattle.std.specs.Int.Bits.{bit_and, bit_xor, xor_add_and}
 use Rattle.srm_engine.specs.declared.next_times.Entry.{Entry}
-use Rattle.srm_engine.specs.NextTimes.{sooner, least_time, is_time, entry_of, time_in, entry_at, sooner_entry, winner_below, IsTree}
+use Rattle.srm_engine.specs.NextTimes.{sooner_time, least_of_times, is_time, entry_of, time_in, entry_at, sooner_entry, winner_below}
+use Rattle.srm_engine.specs.NextTimes.{IsTree}
 use Rattle.srm_engine.specs.NextTimes.{SetsLeaf, IsEntryOf, Holds, times_in, IsTournament}
 
 -- ---- a list with one place written
@@ -36,7 +37,7 @@ found_first : (i v : ℕ) (ts : List (Option ℕ)) (q : ℕ × ℕ) → (v, i) �
 found_first i v ts q e = (0, eq-eqb v q.0 (ap (λ (p : ℕ × ℕ). p.0) e))
 
 found_one : (i v : ℕ) (ts : List (Option ℕ)) (q : ℕ × ℕ) (o : Option (ℕ × ℕ))
-    → ((p : ℕ × ℕ) → o ≡ Some p → Found p ts) → Some (sooner (v, i) o) ≡ Some q → Found q (Some v ∷ ts)
+    → ((p : ℕ × ℕ) → o ≡ Some p → Found p ts) → Some (sooner_time (v, i) o) ≡ Some q → Found q (Some v ∷ ts)
 found_one i v ts q None more g = let same : (v, i) ≡ q = cc in found_first i v ts q same
 found_one i v ts q (Some p) more g = elim (nat_le v p.0) as (λ b. Some (cond b (v, i) p) ≡ Some q → Found q (Some v ∷ ts)) [
   | true ↦ λ k. let same : (v, i) ≡ q = cc in found_first i v ts q same
@@ -46,10 +47,10 @@ found_one i v ts q (Some p) more g = elim (nat_le v p.0) as (λ b. Some (cond b 
       (suc r.0, subst (λ (x : ℕ × ℕ). is_time x.0 (slice_get ts r.0) ≡ true) same r.1)
 ] g
 
-found_is : (i : ℕ) (ts : List (Option ℕ)) (q : ℕ × ℕ) → least_time i ts ≡ Some q → Found q ts
+found_is : (i : ℕ) (ts : List (Option ℕ)) (q : ℕ × ℕ) → least_of_times i ts ≡ Some q → Found q ts
 found_is i [] q h = cc
 found_is i (None ∷ ts) q h = let r = found_is (suc i) ts q h in (suc r.0, r.1)
-found_is i (Some v ∷ ts) q h = found_one i v ts q (least_time (suc i) ts) (λ p e. found_is (suc i) ts p e) h
+found_is i (Some v ∷ ts) q h = found_one i v ts q (least_of_times (suc i) ts) (λ p e. found_is (suc i) ts p e) h
 
 -- none of these times comes before this one of this member
 abbrev pub IsLeast : ℕ → ℕ → List (Option ℕ) → Type 0
@@ -63,7 +64,7 @@ shifted : (ts : List (Option ℕ)) (t m : ℕ) (x : Option ℕ) → IsLeast t (s
 shifted ts t m x l u n g = elim (l u (suc n) g) [ inl a ↦ inl a | inr a ↦ inr (a.0, (let b = a.1 in omega arith)) ]
 
 pub least_is : (ts : List (Option ℕ)) (t m : ℕ) → is_time t (slice_get ts m) ≡ true → IsLeast t m ts → (i : ℕ)
-    → least_time i ts ≡ Some (t, i + m)
+    → least_of_times i ts ≡ Some (t, i + m)
 least_is [] t m h l i = absurd (true≢false (sym h))
 least_is (None ∷ ts) t zero h l i = absurd (true≢false (sym h))
 least_is (None ∷ ts) t (suc m) h l i =
@@ -72,9 +73,9 @@ least_is (None ∷ ts) t (suc m) h l i =
 least_is (Some v ∷ ts) t zero h l i =
     let same : v ≡ t = eqb-true v t h in
     let e : i ≡ i + 0 = omega arith in
-    ap Some (by (least_time (suc i) ts) refl ∙ ap (λ k. (k, i)) same ∙ ap (λ k. (t, k)) e)
+    ap Some (by (least_of_times (suc i) ts) refl ∙ ap (λ k. (k, i)) same ∙ ap (λ k. (t, k)) e)
   where
-    by : (o : Option (ℕ × ℕ)) → least_time (suc i) ts ≡ o → sooner (v, i) o ≡ (v, i)
+    by : (o : Option (ℕ × ℕ)) → least_of_times (suc i) ts ≡ o → sooner_time (v, i) o ≡ (v, i)
     by None e = refl
     by (Some q) e =
         let r = found_is (suc i) ts q e in
@@ -87,9 +88,9 @@ least_is (Some v ∷ ts) t (suc m) h l i =
     let more = least_is ts t m h (shifted ts t m (Some v) l) (suc i) in
     let lt : t < v = elim (l v 0 (eq-eqb v v refl)) [ inl a ↦ a | inr a ↦ (let b = a.1 in absurd (omega arith)) ] in
     let no : nat_le v t ≡ false = grind (arith, nat_tests) in
-    ap (λ o. Some (sooner (v, i) o)) more ∙ ap (λ b. Some (cond b (v, i) (t, suc i + m))) no ∙ ap (λ k. Some (t, k)) e
+    ap (λ o. Some (sooner_time (v, i) o)) more ∙ ap (λ b. Some (cond b (v, i) (t, suc i + m))) no ∙ ap (λ k. Some (t, k)) e
 
-pub no_least : (ts : List (Option ℕ)) → ((t m : ℕ) → is_time t (slice_get ts m) ≡ false) → (i : ℕ) → least_time i ts ≡ None
+pub no_least : (ts : List (Option ℕ)) → ((t m : ℕ) → is_time t (slice_get ts m) ≡ false) → (i : ℕ) → least_of_times i ts ≡ None
 no_least [] h i = refl
 no_least (None ∷ ts) h i = no_least ts (λ t m. h t (suc m)) (suc i)
 no_least (Some v ∷ ts) h i = absurd (true≢false (sym (eq-eqb v v refl) ∙ h v 0))
@@ -229,7 +230,7 @@ abbrev IsFirst : List (Option ℕ) → Entry → Type 0
 IsFirst ts e = (u j : ℕ) → is_time u (slice_get ts j) ≡ true → (j < length ts) × (u < 2 ^ 64) × NotAfter e (entry_of (Some u) j)
 
 first_is_told : (ts : List (Option ℕ)) (m : ℕ) (o : Option ℕ) → slice_index_or ts m None ≡ o → m < length ts → length ts ≤ 65536
-    → IsFirst ts (entry_of o m) → told (entry_of o m) ≡ least_time 0 ts
+    → IsFirst ts (entry_of o m) → told (entry_of o m) ≡ least_of_times 0 ts
 first_is_told ts m (Some t) e lt few none =
     let yes : nat_lt m 65536 ≡ true = lt-ltb m 65536 (omega arith) in
     let here : is_time t (slice_get ts m) ≡ true = ap (is_time t) (slice_get-get_or ts m None lt ∙ ap Some e) ∙ eq-eqb t t refl in
@@ -244,7 +245,7 @@ first_is_told ts m None e lt few none =
     late t j (short, fits, inl a) = omega arith
     late t j (short, fits, inr a) = let le = a.1 in omega arith
 
-pub first_told : (ts : List (Option ℕ)) (es : List Entry) → Holds ts es → 0 < length ts → told (entry_at es 1) ≡ least_time 0 ts
+pub first_told : (ts : List (Option ℕ)) (es : List Entry) → Holds ts es → 0 < length ts → told (entry_at es 1) ≡ least_of_times 0 ts
 first_told ts es h some =
     let n : ℕ = length ts in
     let size : length es ≡ 2 * n = h.size in

@@ -1,5 +1,5 @@
 -- Jobs as crews are handed them, and what is done of them.
-use Rattle.std.proofs.Common.{◌≡◌, ℕ, zero, suc, ◌+◌, ◌<◌, ◌≤◌, ◌^◌, ◌⊎◌, inl, inr, List, [], ◌∷◌, ◌++◌, length, take, drop, map, Some}
+use Rattle.std.proofs.Common.{◌≡◌, ℕ, zero, suc, ◌+◌, ◌<◌, ◌≤◌, ◌⊎◌, inl, inr, List, [], ◌∷◌, ◌++◌, length, take, drop, map, Some}
 use Rattle.std.proofs.Common.{refl, sym, ap, ◌∙◌, subst, arith, slice_get, slice_index, add-zero, zero-add, add-one, All, length-append}
 use Rattle.std.proofs.Common.{IsPermutation}
 use Rattle.std.specs.List.{AllZip, range_with_len}
@@ -28,6 +28,7 @@ use Rattle.srm_engine.proofs.RunLemmas.{shifted}
 use Rattle.srm_engine.proofs.OneWindow.{as_many_results}
 use Rattle.srm_engine.proofs.WindowJobs.{jobs_are_runs, crossings_keep, get_first, get_second, joined-append}
 use Rattle.srm_engine.proofs.CellLists.{AreFrom, as_many_from, split_from, join_from, first_cut, no_more_groups}
+use Rattle.srm_net.specs.Limits.{end_of_time}
 
 -- ---- cells with their members
 
@@ -68,9 +69,9 @@ same_cut cut n xs (inr h) =
 -- jobs that may be advanced, as they are seen
 abbrev Fits : ℕ → List cell.PlainJob → Type 0
 Fits n [] = Unit {0}
-Fits n (p ∷ ps) = ((p.till ≤ 2 ^ 40) × (length p.cells ≤ 1024) × cell.AreMembers n p.cells) × Fits n ps
+Fits n (p ∷ ps) = ((p.till ≤ end_of_time) × (length p.cells ≤ 1024) × cell.AreMembers n p.cells) × Fits n ps
 
-fits : (k cut till place i n : ℕ) (cs : List PlainCell) → till ≤ 2 ^ 40 → cut ≤ 1024 → i + length cs ≤ n
+fits : (k cut till place i n : ℕ) (cs : List PlainCell) → till ≤ end_of_time → cut ≤ 1024 → i + length cs ≤ n
     → Fits n (handed_jobs i (jobs_within k cut till place cs))
 fits k cut till place i n [] small few le = tt
 fits zero cut till place i n (c ∷ cs) small few le = tt
@@ -171,7 +172,7 @@ module _ {X : Type 0} {H : X → Type 0} (f : DynBox X Global H → Record) wher
       All-cons (λ (j : Job X H). cell.MayAdvance f n j) j js
       (record { plain_job = p; is = h.0; till = k.0.0; few = k.0.1; of_members = k.0.2 }) (may_all n js ps h.1 k.1)
 
-  pub may_advance : (cut till n : ℕ) (gs : List (Vec (Cell X H))) (ps : List PlainCell) → 0 < cut → cut ≤ 1024 → till ≤ 2 ^ 40
+  pub may_advance : (cut till n : ℕ) (gs : List (Vec (Cell X H))) (ps : List PlainCell) → 0 < cut → cut ≤ 1024 → till ≤ end_of_time
       → length ps ≤ n → AreCuts cut (sizes gs) → AreFrom f 0 (all_in gs) ps
       → All (λ (j : Job X H). cell.MayAdvance f n j) (jobs_with till 0 gs)
   may_advance cut till n gs ps pos few small le cuts h =

@@ -23,7 +23,7 @@ use Rattle.srm_engine.proofs.Settled.{at_member, get_after}
 use Rattle.srm_engine.specs.Laws.{CellsRunAlone, NeverSpent, OwnRunsEnd, PromisesAreSafe, RefusalsAreMet, RunEnds, SchedulesAgree}
 use Rattle.srm_engine.specs.Laws.{WindowsAreSafe, new_rows}
 use Rattle.srm_engine.specs.Schedules.{own_of, rows_of, scheduled}
-use Rattle.srm_engine.specs.World.{World, after_step, least_event, opening, row_cmp, run, settled, step_of, step_to}
+use Rattle.srm_engine.specs.World.{World, after_step, least_event, opening, row_cmp, run, cells_after, step_of, step_to}
 use Rattle.srm_member.specs.declared.row.Row.{Row}
 use Rattle.srm_net.specs.Orders.{ordered}
 use Rattle.srm_net.specs.declared.packet.Packet.{Packet}
@@ -53,7 +53,7 @@ module _ (s : Setting) (end : ℕ) where
         | Full ↦ λ e. let x : Full ≡ Done u = sym (ap (λ o. then_schedule ms (after_step s w m o)) e) ∙ h in cc
         | Spent ↦ λ e. let x : Spent ≡ Done u = sym (ap (λ o. then_schedule ms (after_step s w m o)) e) ∙ h in cc
         | Done d ↦ λ e.
-            let v : World = record { cells = settled s m d 0 w.cells; trace = w.trace ++ d.row ∷ [] } in
+            let v : World = record { cells = cells_after s m d 0 w.cells; trace = w.trace ++ d.row ∷ [] } in
             let g = scheduled_is ms v u (sym (ap (λ o. then_schedule ms (after_step s w m o)) e) ∙ h) in
             (d.row ∷ g.0, go e g.1, g.2 ∙ append_assoc w.trace (d.row ∷ []) g.0)
       ] refl
@@ -134,7 +134,7 @@ module _ (s : Setting) (end : ℕ) where
             let own : own_step end m c ≡ Done d = sym (ap (own_of end m) g) ∙ ap (λ k. own_of end k (slice_get cs k)) (eqb-true _ _ mb)
             ∙ e in
             let is = own_of_is end b (slice_get cs b) d e in
-            let here : slice_get (settled s b d 0 cs) m ≡ Some d.cell = get_after s b d m cs ∙ ap (option_map (at_member s b d m)) g
+            let here : slice_get (cells_after s b d 0 cs) m ≡ Some d.cell = get_after s b d m cs ∙ ap (option_map (at_member s b d m)) g
             ∙ ap (λ x. Some (cond x d.cell (told_to s.traffic d.row.sent m c))) mb in
             let mine : (d.row.key.member == m) ≡ true = eq-eqb _ _ (is.0 ∙ sym (eqb-true _ _ mb)) in
             let r = alone more quiet (safe_after s end cs safe b d e) m d.cell here in (
@@ -148,7 +148,7 @@ module _ (s : Setting) (end : ℕ) where
         | false ↦ λ mb.
             let is = own_of_is end b (slice_get cs b) d e in
             let late = step_late s end cs safe b d e in
-            let here : slice_get (settled s b d 0 cs) m ≡ Some (told_to s.traffic d.row.sent m c) = get_after s b d m cs
+            let here : slice_get (cells_after s b d 0 cs) m ≡ Some (told_to s.traffic d.row.sent m c) = get_after s b d m cs
             ∙ ap (option_map (at_member s b d m)) g ∙ ap (λ x. Some (cond x d.cell (told_to s.traffic d.row.sent m c))) mb in
             let other : (d.row.key.member == m) ≡ false = not_me s end d.row.key.member m (λ q. eqb-false _ _ mb (sym q ∙ is.0)) in
             let r = alone more quiet (safe_after s end cs safe b d e) m (told_to s.traffic d.row.sent m c) here in (
@@ -384,7 +384,7 @@ no_spent_step s fit w stable (Some e) h x = elim (step_at (Some e)) as (λ o. st
   | Full ↦ λ q. let y : Full ≡ Spent = sym (after_full s s.traffic.until (le_refl s.traffic.until) w e.key.member)
       ∙ sym (ap (after_step s w e.key.member) q) ∙ sym (ap (step_of s w) h) ∙ x in cc
   | Spent ↦ λ q. least_not_spent s fit s.traffic.until w.cells e stable h q
-  | Done d ↦ λ q. let v : World = record { cells = settled s e.key.member d 0 w.cells; trace = w.trace ++ d.row ∷ [] } in let y : Done v
+  | Done d ↦ λ q. let v : World = record { cells = cells_after s e.key.member d 0 w.cells; trace = w.trace ++ d.row ∷ [] } in let y : Done v
       ≡ Spent = sym (after_stepped s s.traffic.until (le_refl s.traffic.until) w e.key.member d) ∙ sym (ap (after_step s w e.key.member) q)
       ∙ sym (ap (step_of s w) h) ∙ x in cc
 ] refl

@@ -19,15 +19,20 @@ use Rattle.srm_member.specs.declared.told.Told.TheVariants.{Entered, Fresh, Fixe
 use Rattle.srm_member.specs.declared.entries.Missing.{Missing}
 use Rattle.srm_member.specs.declared.entries.Repairing.{Repairing}
 use Rattle.srm_member.specs.Fit.{heard_of}
-use Rattle.srm_member.specs.Record.{Memory, Stream}
+use Rattle.srm_member.specs.Record.{MemberState, Progress}
 use Rattle.srm_net.specs.Roles.{is_sender, is_listener}
-use Rattle.srm_member.specs.React.{Reaction, quietly, has_entry, with_stream, meet, lose_one, lose_from, names_from, lose_below, lost_below}
-use Rattle.srm_member.specs.React.{holding, mending, got, resting, got_repair, planning, asked_missing_at, asked_held, requested}
-use Rattle.srm_member.specs.React.{page_heard, after_entry, lost_by_entry, informed, hear_body, asking_at, asking, answering_at, answering}
-use Rattle.srm_member.specs.React.{own_page, own_stream, drawing, is_skip, react_active, listened, listen, react_listener, react}
+use Rattle.srm_member.specs.React.{Reaction, quietly, has_entry, with_progress, meet, lose_one, lose_from, names_from, lose_below}
+use Rattle.srm_member.specs.React.{lost_below}
+use Rattle.srm_member.specs.React.{with_held, with_mended, hear_data, with_rest, hear_repair, with_repair_timer, hear_request_by_entry}
+use Rattle.srm_member.specs.React.{hear_request_of_held, hear_request}
+use Rattle.srm_member.specs.React.{page_heard, after_entry, lost_by_entry, hear_session, hear_body, expire_request_by_entry, expire_request}
+use Rattle.srm_member.specs.React.{expire_repair_by_entry, expire_repair}
+use Rattle.srm_member.specs.React.{own_page, own_progress, draw_operation, is_skip, react_active, listen_data, listen, react_listener}
+use Rattle.srm_member.specs.React.{react}
 use Rattle.srm_member.proofs.AllIn.{AllIn, AllIn-append, AllIn-map}
 use Rattle.srm_member.proofs.Changes.{Below, Grows, Brings, from_page, effect}
 use Rattle.srm_engine.proofs.TraceRows.{contains_none}
+use Rattle.srm_net.specs.Limits.{most_drawn}
 
 -- ---- lists with no element twice
 
@@ -61,14 +66,14 @@ any_order Q Equal a b c h g f = g
 any_order Q Greater a b c h g f = f
 
 -- an entry of a session message, for a member that is no listener
-entry_grows : (at : ℕ) (h : Heard) (m : Memory) → is_listener m.fixed.role ≡ false → Grows (lost_by_entry h m) m (after_entry at h m)
-unfolding react informed
+entry_grows : (at : ℕ) (h : Heard) (m : MemberState) → is_listener m.fixed.role ≡ false → Grows (lost_by_entry h m) m (after_entry at h m)
+unfolding react hear_session
 entry_grows at h m no_listener =
     let p : Packet = record { id = record { sender = 0; count = 0 }; sent = 0; body = Session (h ∷ []) } in
     let same : react m at (Arrival p) ≡ quietly (after_entry at h m) Informed (lost_by_entry h m) =
     ap (λ b. cond b (react_listener m (Arrival p)) (react_active m at (Arrival p))) no_listener in
     elim (effect m at (Arrival p)) [
-      | inl q ↦ subst (λ (r : Reaction). Grows r.answer.lost m r.memory) same q.grows
+      | inl q ↦ subst (λ (r : Reaction). Grows r.answer.lost m r.state) same q.grows
       | inr b ↦ absurd (elim b [ inl x ↦ no_name x.name x.ink x.brings | inr x ↦ x ])
     ]
   where
@@ -80,8 +85,8 @@ module _ (members : ℕ) where
   abbrev pub OfMembers : List Name → Type 0
   OfMembers ns = AllIn (λ (n : Name). n.source < members) ns
 
-  abbrev pub PagesOf : List (PageId × Stream) → Type 0
-  PagesOf es = AllIn (λ (e : PageId × Stream). e.0.source < members) es
+  abbrev pub PagesOf : List (PageId × Progress) → Type 0
+  PagesOf es = AllIn (λ (e : PageId × Progress). e.0.source < members) es
 
   abbrev pub HeardOf : List Heard → Type 0
   HeardOf hs = AllIn (λ (h : Heard). h.source < members) hs
@@ -104,28 +109,28 @@ module _ (members : ℕ) where
 
   -- what an answer leaves, loses and sends
   pub record Known (r : Reaction) : Type 0 where
-    pub pages : PagesOf r.memory.streams
+    pub pages : PagesOf r.state.progress
     pub lost : OfMembers r.answer.lost
     pub apart : Apart r.answer.lost
     pub session : SessionOf r.answer.body
 
-  pages_put : (p : PageId) (v : Stream) (es : List (PageId × Stream)) → p.source < members → PagesOf es → PagesOf (put page_cmp p v es)
+  pages_put : (p : PageId) (v : Progress) (es : List (PageId × Progress)) → p.source < members → PagesOf es → PagesOf (put page_cmp p v es)
   pages_put p v [] h g = (h, tt)
   pages_put p v (e ∷ es) h g = any_order PagesOf (page_cmp p e.0) _ _ _ (h, g) (g.0, g.1) (g.0, pages_put p v es h g.1)
 
   -- ---- losses
 
-  lose_pages : (at : ℕ) (p : PageId) (count first : ℕ) (m : Memory) → (lose_from at p count first m).streams ≡ m.streams
+  lose_pages : (at : ℕ) (p : PageId) (count first : ℕ) (m : MemberState) → (lose_from at p count first m).progress ≡ m.progress
   unfolding lose_from
   lose_pages at p zero first m = refl
   lose_pages at p (suc count) first m = lose_pages at p count (suc first) (lose_one at (name_in p first) m)
 
-  pages_below : (at : ℕ) (p : PageId) (n next : ℕ) (s : Stream) (m : Memory) → p.source < members → PagesOf m.streams
-      → PagesOf (lose_below at p n next s m).streams
+  pages_below : (at : ℕ) (p : PageId) (n next : ℕ) (s : Progress) (m : MemberState) → p.source < members → PagesOf m.progress
+      → PagesOf (lose_below at p n next s m).progress
   unfolding lose_below
   pages_below at p n next s m h g =
       let k = lose_from at p (n - s.next) s.next m in
-      pages_put p (record { floor = s.floor; next = next }) k.streams h (subst PagesOf (sym (lose_pages at p (n - s.next) s.next m)) g)
+      pages_put p (record { floor = s.floor; next = next }) k.progress h (subst PagesOf (sym (lose_pages at p (n - s.next) s.next m)) g)
 
   names_of : (p : PageId) (count first : ℕ) → p.source < members → OfMembers (names_from p count first)
   names_of p zero first h = tt
@@ -138,10 +143,10 @@ module _ (members : ℕ) where
     names_apart p count (suc first),
   )
 
-  plain : (m : Memory) (answer : Told) → PagesOf m.streams → Known (quietly m answer [])
+  plain : (m : MemberState) (answer : Told) → PagesOf m.progress → Known (quietly m answer [])
   plain m answer g = record { pages = g; lost = tt; apart = tt; session = tt }
 
-  losing : (m : Memory) (answer : Told) (p : PageId) (n : ℕ) (s : Stream) → p.source < members → PagesOf m.streams
+  losing : (m : MemberState) (answer : Told) (p : PageId) (n : ℕ) (s : Progress) → p.source < members → PagesOf m.progress
       → Known (quietly m answer (lost_below p n s))
   losing m answer p n s h g =
       let count = n - s.next in
@@ -149,64 +154,66 @@ module _ (members : ℕ) where
 
   -- ---- packets
 
-  got_known : (at : ℕ) (n : Name) (ink : ℕ) (m : Memory) → n.source < members → PagesOf m.streams → Known (got at n ink m)
-  unfolding got
+  got_known : (at : ℕ) (n : Name) (ink : ℕ) (m : MemberState) → n.source < members → PagesOf m.progress → Known (hear_data at n ink m)
+  unfolding hear_data
   got_known at n ink m h g =
       let p = page_of n in
       let s = meet m p n.number in
-      let k = with_stream p s m in
-      let met : PagesOf k.streams = pages_put p s m.streams h g in
+      let k = with_progress p s m in
+      let met : PagesOf k.progress = pages_put p s m.progress h g in
       let lose = lose_below at p n.number (n.number + 1) s m in
-      let lost : PagesOf lose.streams = pages_below at p n.number (n.number + 1) s m h g in
+      let lost : PagesOf lose.progress = pages_below at p n.number (n.number + 1) s m h g in
       either_way Known (nat_lt n.number s.floor) _ _ (plain k Skip met)
-      (either_way Known (nat_le s.next n.number) _ _ (losing (holding n ink lose) Fresh p n.number s h lost)
-      (either_way Known (has_entry n m.missing) _ _ (plain (mending n ink k) Fixed met) (plain k Again met)))
+      (either_way Known (nat_le s.next n.number) _ _ (losing (with_held n ink lose) Fresh p n.number s h lost)
+      (either_way Known (has_entry n m.missing) _ _ (plain (with_mended n ink k) Fixed met) (plain k Again met)))
 
-  repair_known : (at : ℕ) (n : Name) (ink who : ℕ) (m : Memory) → n.source < members → PagesOf m.streams → Known (got_repair at n ink who m)
+  repair_known : (at : ℕ) (n : Name) (ink who : ℕ) (m : MemberState) → n.source < members → PagesOf m.progress
+      → Known (hear_repair at n ink who m)
   repair_known at n ink who m h g =
-      let r = got at n ink m in
+      let r = hear_data at n ink m in
       let k = got_known at n ink m h g in
-      either_way Known (is_skip r.answer.told) r (record r { memory = resting at n who r.memory }) k
+      either_way Known (is_skip r.answer.told) r (record r { state = with_rest at n who r.state }) k
       (record { pages = k.pages; lost = k.lost; apart = k.apart; session = k.session })
 
-  asked_known : (at : ℕ) (n : Name) (lost : List Name) (m : Memory) (o : Option Missing) → Known (quietly m Hold lost)
-      → Known (asked_missing_at at n lost m o)
+  asked_known : (at : ℕ) (n : Name) (lost : List Name) (m : MemberState) (o : Option Missing) → Known (quietly m Hold lost)
+      → Known (hear_request_by_entry at n lost m o)
   asked_known at n lost m None k = k
   asked_known at n lost m (Some e) k =
       either_way Known (nat_lt at e.ignore) _ _ k (record { pages = k.pages; lost = k.lost; apart = k.apart; session = tt })
 
-  held_known : (at : ℕ) (n : Name) (who : ℕ) (m : Memory) → PagesOf m.streams → Known (asked_held at n who m)
+  held_known : (at : ℕ) (n : Name) (who : ℕ) (m : MemberState) → PagesOf m.progress → Known (hear_request_of_held at n who m)
   held_known at n who m g =
       either_way Known (nat_lt at (unwrap_or (find name_cmp n m.rests) 0)) _ _ (plain m Rest g)
-      (either_way Known (has_entry n m.repairs) _ _ (plain m Busy g) (plain (planning at n who m) Plan g))
+      (either_way Known (has_entry n m.repairs) _ _ (plain m Busy g) (plain (with_repair_timer at n who m) Plan g))
 
-  request_known : (at : ℕ) (n : Name) (who : ℕ) (m : Memory) → n.source < members → PagesOf m.streams → Known (requested at n who m)
-  unfolding requested
+  request_known : (at : ℕ) (n : Name) (who : ℕ) (m : MemberState) → n.source < members → PagesOf m.progress
+      → Known (hear_request at n who m)
+  unfolding hear_request
   request_known at n who m h g =
       let p = page_of n in
       let s = meet m p (n.number + 1) in
-      let k = with_stream p s m in
-      let met : PagesOf k.streams = pages_put p s m.streams h g in
+      let k = with_progress p s m in
+      let met : PagesOf k.progress = pages_put p s m.progress h g in
       let lose = lose_below at p (n.number + 1) (n.number + 1) s k in
-      let lost : PagesOf lose.streams = pages_below at p (n.number + 1) (n.number + 1) s k h met in
+      let lost : PagesOf lose.progress = pages_below at p (n.number + 1) (n.number + 1) s k h met in
       either_way Known (nat_lt n.number s.floor) _ _ (plain k Skip met)
       (either_way Known (has_entry n k.held) _ _ (held_known at n who k met)
       (either_way Known (nat_le s.next n.number) _ _
       (asked_known at n (lost_below p (n.number + 1) s) lose (find name_cmp n lose.missing) (losing lose Hold p (n.number + 1) s h lost))
       (asked_known at n [] k (find name_cmp n k.missing) (plain k Hold met))))
 
-  entry_pages : (at : ℕ) (h : Heard) (m : Memory) → h.source < members → PagesOf m.streams → PagesOf (after_entry at h m).streams
+  entry_pages : (at : ℕ) (h : Heard) (m : MemberState) → h.source < members → PagesOf m.progress → PagesOf (after_entry at h m).progress
   unfolding after_entry
   entry_pages at h m lt g =
       let p = page_heard h in
       let s = meet m p (h.highest + 1) in
-      either_way (λ (k : Memory). PagesOf k.streams) (nat_le s.next h.highest) _ _
-      (pages_below at p (h.highest + 1) (h.highest + 1) s m lt g) (pages_put p s m.streams lt g)
+      either_way (λ (k : MemberState). PagesOf k.progress) (nat_le s.next h.highest) _ _
+      (pages_below at p (h.highest + 1) (h.highest + 1) s m lt g) (pages_put p s m.progress lt g)
 
   -- names of later entries are new, and so others than those lost by the entries before
-  informed_known : (at : ℕ) (hs : List Heard) (m : Memory) (lost : List Name) → is_listener m.fixed.role ≡ false → HeardOf hs
-      → ((n : Name) → Contains lost n → Below n m) → Known (quietly m Informed lost) → Known (informed at hs m lost)
-  unfolding informed
+  informed_known : (at : ℕ) (hs : List Heard) (m : MemberState) (lost : List Name) → is_listener m.fixed.role ≡ false → HeardOf hs
+      → ((n : Name) → Contains lost n → Below n m) → Known (quietly m Informed lost) → Known (hear_session at hs m lost)
+  unfolding hear_session
   informed_known at [] m lost no_listener of_hs below k = k
   informed_known at (h ∷ hs) m lost no_listener of_hs below k =
       let g = entry_grows at h m no_listener in
@@ -222,7 +229,7 @@ module _ (members : ℕ) where
         session = tt;
       })
 
-  hear_known : (at who : ℕ) (b : Body) (m : Memory) → is_listener m.fixed.role ≡ false → BodyOf b → PagesOf m.streams
+  hear_known : (at who : ℕ) (b : Body) (m : MemberState) → is_listener m.fixed.role ≡ false → BodyOf b → PagesOf m.progress
       → Known (hear_body at who b m)
   hear_known at who (Drawop n ink) m no_listener h g = got_known at n ink m h g
   hear_known at who (Repair n ink) m no_listener h g = repair_known at n ink who m h g
@@ -232,26 +239,27 @@ module _ (members : ℕ) where
 
   -- ---- timers, draws and reports
 
-  asking_known : (at : ℕ) (n : Name) (m : Memory) (o : Option Missing) → PagesOf m.streams → Known (asking_at at n m o)
+  asking_known : (at : ℕ) (n : Name) (m : MemberState) (o : Option Missing) → PagesOf m.progress → Known (expire_request_by_entry at n m o)
   asking_known at n m None g = plain m Skip g
   asking_known at n m (Some e) g = record { pages = g; lost = tt; apart = tt; session = tt }
 
-  answering_known : (at : ℕ) (n : Name) (m : Memory) (o : Option Repairing) → PagesOf m.streams → Known (answering_at at n m o)
+  answering_known : (at : ℕ) (n : Name) (m : MemberState) (o : Option Repairing) → PagesOf m.progress
+      → Known (expire_repair_by_entry at n m o)
   answering_known at n m None g = plain m Skip g
   answering_known at n m (Some e) g = record { pages = g; lost = tt; apart = tt; session = tt }
 
-  drawing_known : (page ink : ℕ) (m : Memory) → m.fixed.member < members → PagesOf m.streams → Known (drawing page ink m)
-  unfolding drawing
+  drawing_known : (page ink : ℕ) (m : MemberState) → m.fixed.member < members → PagesOf m.progress → Known (draw_operation page ink m)
+  unfolding draw_operation
   drawing_known page ink m h g =
       let p = own_page m page in
-      let s = own_stream m p in
-      either_way Known (is_sender m.fixed.role && nat_lt s.next 4096) _ _
-      (record { pages = pages_put p (record { floor = s.floor; next = s.next + 1 }) m.streams h g; lost = tt; apart = tt; session = tt })
+      let s = own_progress m p in
+      either_way Known (is_sender m.fixed.role && nat_lt s.next most_drawn) _ _
+      (record { pages = pages_put p (record { floor = s.floor; next = s.next + 1 }) m.progress h g; lost = tt; apart = tt; session = tt })
       (plain m Skip g)
 
-  active_known : (m : Memory) (at : ℕ) (cause : Cause) → is_listener m.fixed.role ≡ false → m.fixed.member < members
-      → CauseOf cause → PagesOf m.streams → Known (react_active m at cause)
-  unfolding asking answering
+  active_known : (m : MemberState) (at : ℕ) (cause : Cause) → is_listener m.fixed.role ≡ false → m.fixed.member < members
+      → CauseOf cause → PagesOf m.progress → Known (react_active m at cause)
+  unfolding expire_request expire_repair
   active_known m at Join no_listener h c g = plain m Entered g
   active_known m at (Arrival p) no_listener h c g = hear_known at p.id.sender p.body m no_listener c g
   active_known m at (Ask n) no_listener h c g = asking_known at n m (find name_cmp n m.missing) g
@@ -261,21 +269,21 @@ module _ (members : ℕ) where
     pages = g;
     lost = tt;
     apart = tt;
-    session = AllIn-map (λ (x : Heard). x.source < members) (λ e. heard_of e.0 e.1) m.streams g;
+    session = AllIn-map (λ (x : Heard). x.source < members) (λ e. heard_of e.0 e.1) m.progress g;
   }
 
   -- ---- listeners
 
-  listened_known : (n : Name) (ink : ℕ) (m : Memory) → PagesOf m.streams → Known (listened n ink m)
-  listened_known n ink m g = either_way Known (has_entry n m.held) _ _ (plain m Again g) (plain (holding n ink m) Fresh g)
+  listened_known : (n : Name) (ink : ℕ) (m : MemberState) → PagesOf m.progress → Known (listen_data n ink m)
+  listened_known n ink m g = either_way Known (has_entry n m.held) _ _ (plain m Again g) (plain (with_held n ink m) Fresh g)
 
-  listen_known : (b : Body) (m : Memory) → PagesOf m.streams → Known (listen b m)
+  listen_known : (b : Body) (m : MemberState) → PagesOf m.progress → Known (listen b m)
   listen_known (Drawop n ink) m g = listened_known n ink m g
   listen_known (Repair n ink) m g = listened_known n ink m g
   listen_known (Request n) m g = plain m Skip g
   listen_known (Session hs) m g = plain m Skip g
 
-  listener_known : (m : Memory) (cause : Cause) → PagesOf m.streams → Known (react_listener m cause)
+  listener_known : (m : MemberState) (cause : Cause) → PagesOf m.progress → Known (react_listener m cause)
   listener_known m Join g = plain m Entered g
   listener_known m (Arrival p) g = listen_known p.body m g
   listener_known m (Ask n) g = plain m Skip g
@@ -283,13 +291,13 @@ module _ (members : ℕ) where
   listener_known m (Draw page ink) g = plain m Skip g
   listener_known m Report g = plain m Skip g
 
-  by_role : (m : Memory) (at : ℕ) (cause : Cause) (b : Bool) → is_listener m.fixed.role ≡ b → m.fixed.member < members
-      → CauseOf cause → PagesOf m.streams → Known (cond b (react_listener m cause) (react_active m at cause))
+  by_role : (m : MemberState) (at : ℕ) (cause : Cause) (b : Bool) → is_listener m.fixed.role ≡ b → m.fixed.member < members
+      → CauseOf cause → PagesOf m.progress → Known (cond b (react_listener m cause) (react_active m at cause))
   by_role m at cause true q h c g = listener_known m cause g
   by_role m at cause false q h c g = active_known m at cause q h c g
 
   -- what a member answers, where it and all that it heard of are members
-  pub known : (m : Memory) (at : ℕ) (cause : Cause) → m.fixed.member < members → CauseOf cause → PagesOf m.streams
+  pub known : (m : MemberState) (at : ℕ) (cause : Cause) → m.fixed.member < members → CauseOf cause → PagesOf m.progress
       → Known (react m at cause)
   unfolding react
   known m at cause h c g = by_role m at cause (is_listener m.fixed.role) refl h c g

@@ -1,5 +1,5 @@
 -- Each member's join and leave have one key, whatever the run.
-use Rattle.std.proofs.Common.{◌≡◌, ℕ, zero, suc, ◌^◌, Bool, true, false, cond, List, [], ◌∷◌, ◌++◌, refl, sym, ap, ◌∙◌, subst, ◌≢◌, ◌⊎◌}
+use Rattle.std.proofs.Common.{◌≡◌, ℕ, zero, suc, Bool, true, false, cond, List, [], ◌∷◌, ◌++◌, refl, sym, ap, ◌∙◌, subst, ◌≢◌, ◌⊎◌}
 use Rattle.std.proofs.Common.{inl, inr, arith, Less, Greater, Option, Some, None, nat_lt, ◌==◌, eqb-true}
 use Rattle.std.proofs.lemmas.Bool.{eqb-false}
 use Rattle.std.specs.List.{Contains}
@@ -30,6 +30,7 @@ use Rattle.srm_engine.specs.World.{row_cmp}
 use Rattle.srm_engine.proofs.OneStep.{Does}
 use Rattle.srm_engine.proofs.SortedRows.{rows_total}
 use Rattle.srm_engine.proofs.TraceRows.{contains_none}
+use Rattle.srm_net.specs.Limits.{most_sent}
 
 -- ---- rows in order
 
@@ -147,7 +148,7 @@ on_full Q false x h = tt
 
 script_sending : (e : Event) (r : Reaction) (body : Option Body) → OnStep (SameScript e) (sending_step e r body)
 script_sending e r None = refl
-script_sending e r (Some body) = on_full (SameScript e) (nat_lt e.rest.sent (2 ^ 48)) _ refl
+script_sending e r (Some body) = on_full (SameScript e) (nat_lt e.rest.sent most_sent) _ refl
 
 script_handle : (e : Event) (holds : Record) (cause : Option Cause) → OnStep (SameScript e) (handle e holds cause)
 unfolding handle

@@ -19,7 +19,7 @@ use Rattle.srm_member.specs.declared.fixed.Fixed.{Fixed as FixedPart}
 use Rattle.srm_member.specs.declared.row.About.TheVariants.{Of}
 use Rattle.srm_member.specs.declared.row.Row.{Row}
 use Rattle.srm_member.specs.declared.entries.Missing.{Missing}
-use Rattle.srm_member.specs.Record.{Memory, Record, Active, Gone, exit_of}
+use Rattle.srm_member.specs.Record.{MemberState, Record, Active, Gone, exit_of}
 use Rattle.srm_member.specs.React.{Reaction, react}
 use Rattle.srm_member.proofs.TableChanges.{Has, names_apart, put_here, put_there, has_put, has_more, without_less, without_there}
 use Rattle.srm_member.proofs.TableChanges.{sorted_put, sorted_without, has_some, ascend, contained_found, found_contained, named, has_name}
@@ -27,7 +27,7 @@ use Rattle.srm_member.proofs.Changes.{Below, Grows, Allowed, Quiet, Brings, Mend
 use Rattle.srm_cell.specs.Setting.{Setting, IsFit, arrival_of}
 use Rattle.srm_cell.specs.Cells.{PlainCell, opening_cell, hear_at, hear, Event, Stepped, word_of, about_of, packet_of}
 use Rattle.srm_cell.specs.OwnRuns.{told_to}
-use Rattle.srm_engine.specs.World.{World, settled, opening, opening_cells, IsReached, exit_at}
+use Rattle.srm_engine.specs.World.{World, cells_after, opening, opening_cells, IsReached, exit_at}
 use Rattle.srm_engine.specs.Handed.{SentIn}
 use Rattle.srm_engine.specs.HeldNames.{Draws, Drew, Carries, TellsOf, ToldOf, Got, Lost, Lacks, EndsWith, ExitsAreWhatRowsSay}
 use Rattle.srm_engine.specs.HeldNames.{RequestsAreForLosses, RepairsAreOfHeld}
@@ -48,7 +48,7 @@ pub record Keeps (rows : List Row) (j : ℕ) (held : List (Name × ℕ)) (missin
   pub missing_sorted : T (is_sorted name_cmp missing)
 
 -- and it has heard of all names that it drew, lost or fixed, and plans repairs of names that it holds
-pub record Knows (rows : List Row) (j : ℕ) (m : Memory) : Type 0 where
+pub record Knows (rows : List Row) (j : ℕ) (m : MemberState) : Type 0 where
   pub member : m.fixed.member ≡ j
   pub keeps : Keeps rows j m.held m.missing
   pub drew : (n : Name) (ink : ℕ) → Drew j n ink rows → Below n m
@@ -61,7 +61,7 @@ abbrev pub CellKnows : List Row → ℕ → Record → Option Exit → Type 0
 CellKnows rows j (Active m) None = Knows rows j m
 CellKnows rows j (Active m) (Some x) = ⊥
 CellKnows rows j (Gone f) None = ⊥
-CellKnows rows j (Gone f) (Some x) = (m : Memory) × (x ≡ exit_of m) × (m.fixed.member ≡ j) × Keeps rows j m.held m.missing
+CellKnows rows j (Gone f) (Some x) = (m : MemberState) × (x ≡ exit_of m) × (m.fixed.member ≡ j) × Keeps rows j m.held m.missing
 
 -- ---- packets and names
 
@@ -108,7 +108,7 @@ module _ (s : Setting) (fit : IsFit s) where
       m = e.key.member
 
       abbrev after : List PlainCell
-      after = settled s m d 0 cs
+      after = cells_after s m d 0 cs
 
       abbrev rows : List Row
       rows = trace ++ d.row ∷ []
@@ -277,11 +277,11 @@ module _ (s : Setting) (fit : IsFit s) where
       cell_knew : CellKnows trace m facts.cell.holds facts.cell.exit
       cell_knew = was.knows m facts.cell facts.here
 
-      active_knew : (exit : Option Exit) (k : Memory) → CellKnows trace m (Active k) exit → (exit ≡ None) × Knows trace m k
+      active_knew : (exit : Option Exit) (k : MemberState) → CellKnows trace m (Active k) exit → (exit ≡ None) × Knows trace m k
       active_knew None k h = (refl, h)
       active_knew (Some x) k h = absurd h
 
-      knew : (k : Memory) → e.rest.holds ≡ Active k → (e.rest.exit ≡ None) × Knows trace m k
+      knew : (k : MemberState) → e.rest.holds ≡ Active k → (e.rest.exit ≡ None) × Knows trace m k
       knew k h =
           let r = active_knew facts.cell.exit k (subst (λ r. CellKnows trace m r facts.cell.exit) (sym facts.pending.holds ∙ h) cell_knew)
           in
@@ -299,7 +299,7 @@ module _ (s : Setting) (fit : IsFit s) where
 
       leave_next : Leaves e d → Next
       leave_next l =
-          let k = (knew l.memory l.holds).1 in
+          let k = (knew l.state l.holds).1 in
           let silent : (p : Packet) → d.row.sent ≡ Some p → ⊥ = sends_none e d None refl l.sends in
           let no_draw : (j : ℕ) (n : Name) (ink : ℕ) → ¬ Draws j n ink d.row = λ j n ink h. silent h.packet h.sends in
           let none : (n : Name) → ¬ GotNow m n = λ n h. (elim h [
@@ -312,8 +312,8 @@ module _ (s : Setting) (fit : IsFit s) where
           let loses : (n : Name) → ¬ LosesNow m n = λ n h. contains_none n (subst (λ ns. Contains ns n) l.lost h.1) in
           record {
             knows = subst (λ r. CellKnows rows m r d.cell.exit) (sym l.holds_then)
-                (subst (CellKnows rows m (Gone l.memory.fixed)) (sym l.exit)
-                (l.memory, refl, k.member, keeps_on m l.memory.held l.memory.missing none loses k.keeps));
+                (subst (CellKnows rows m (Gone l.state.fixed)) (sym l.exit)
+                (l.state, refl, k.member, keeps_on m l.state.held l.state.missing none loses k.keeps));
             source = λ j n ink h. absurd (no_draw j n ink h);
             one = one_still no_draw;
             inks = λ p n ink q b. absurd (silent p q);
@@ -324,11 +324,11 @@ module _ (s : Setting) (fit : IsFit s) where
       -- ---- its answer
 
       module _ (a : Answers e d) where
-        abbrev mem : Memory
-        mem = a.memory
+        abbrev mem : MemberState
+        mem = a.state
 
         abbrev r : Reaction
-        r = react a.memory e.key.time a.cause
+        r = react a.state e.key.time a.cause
 
         k : Knows trace m mem
         k = (knew mem a.holds).1
@@ -336,9 +336,9 @@ module _ (s : Setting) (fit : IsFit s) where
         no_exit : d.cell.exit ≡ None
         no_exit = a.exit ∙ (knew mem a.holds).0
 
-        known : Knows rows m r.memory → CellKnows rows m d.cell.holds d.cell.exit
+        known : Knows rows m r.state → CellKnows rows m d.cell.holds d.cell.exit
         known h = subst (λ x. CellKnows rows m x d.cell.exit) (sym a.holds_then)
-            (subst (CellKnows rows m (Active r.memory)) (sym no_exit) h)
+            (subst (CellKnows rows m (Active r.state)) (sym no_exit) h)
 
         sent_is : (p : Packet) → d.row.sent ≡ Some p → (r.answer.body ≡ Some p.body) × (p.id.sender ≡ m)
         sent_is p q = sent_body e r.answer.body d p a.sends q
@@ -350,8 +350,8 @@ module _ (s : Setting) (fit : IsFit s) where
         lost_here : (n : Name) → Contains r.answer.lost n → LosesNow m n
         lost_here n h = (row_member, subst (λ ns. Contains ns n) (sym a.lost) h)
 
-        -- what the growth from the memory before says of losses
-        module _ (mid : Memory) (grows : Grows r.answer.lost mem mid) where
+        -- what the growth from the state before says of losses
+        module _ (mid : MemberState) (grows : Grows r.answer.lost mem mid) where
           lost_by : (n : Name) → Has n mid.missing → Lost m n rows × ¬ ToldOf Fixed m n trace
           lost_by n h = elim (grows.lacks n h) [
             | inl g ↦ (let l = k.keeps.lacks n g in (lost_more m n l.0, l.1))
@@ -393,13 +393,13 @@ module _ (s : Setting) (fit : IsFit s) where
                           elim y [ inl z ↦ no_fresh n z | inr z ↦ no_fixed n z ]
                     ])
                   ]);
-                  lacks = λ n h. (let l = lost_by r.memory g n h in (l.0, not_told n l.1));
-                  lost = λ n h. missing_by r.memory g n h.0 (λ f. h.1 (told_more Fixed m n f));
+                  lacks = λ n h. (let l = lost_by r.state g n h in (l.0, not_told n l.1));
+                  lost = λ n h. missing_by r.state g n h.0 (λ f. h.1 (told_more Fixed m n f));
                   held_sorted = subst (λ es. T (is_sorted name_cmp es)) (sym g.held) k.keeps.held_sorted;
                   missing_sorted = g.sorted k.keeps.missing_sorted;
                 };
                 drew = λ n ink h. elim (drew_cases m n ink h) [ inl x ↦ g.below n (k.drew n ink x) | inr x ↦ absurd (no_draw m n ink x) ];
-                lost = λ n h. heard_by r.memory g n h;
+                lost = λ n h. heard_by r.state g n h;
                 fixed = λ n h. elim (told_cases Fixed m n h) [ inl x ↦ g.below n (k.fixed n x) | inr x ↦ absurd (no_fixed n x) ];
                 plans = λ n h. subst (Has n) (sym g.held) (elim (g.plans n h) [ inl x ↦ k.plans n x | inr x ↦ x ]);
               });
@@ -433,7 +433,7 @@ module _ (s : Setting) (fit : IsFit s) where
             let n0 = b.name in
             let silent : (x : Packet) → d.row.sent ≡ Some x → ⊥ = sends_none e d r.answer.body b.body a.sends in
             let no_draw : (j : ℕ) (n : Name) (ink : ℕ) → ¬ Draws j n ink d.row = λ j n ink h. silent h.packet h.sends in
-            let held : r.memory.held ≡ put name_cmp n0 b.ink mem.held = b.held ∙ ap (put name_cmp n0 b.ink) g.held in
+            let held : r.state.held ≡ put name_cmp n0 b.ink mem.held = b.held ∙ ap (put name_cmp n0 b.ink) g.held in
             let here : (t : Told) → d.row.told ≡ t → Now t m n0 = λ t h. record
             { member = row_member; told_so = h; packet = p; about = about; sent = sent; carries = carries_it p.body n0 b.ink b.brings } in
             let drawn : Drew n0.source n0 b.ink trace = was.inks p n0 b.ink sent b.brings in
@@ -444,11 +444,11 @@ module _ (s : Setting) (fit : IsFit s) where
               | inl h ↦ inr (inl (told_now Fresh m n0 (here Fresh (a.told ∙ h.0))))
               | inr h ↦ inr (inr (told_now Fixed m n0 (here Fixed (a.told ∙ h.0))))
             ]) in
-            let has_it : (n : Name) → n0 ≡ n → Has n r.memory.held = λ n q. subst (Has n) (sym held)
+            let has_it : (n : Name) → n0 ≡ n → Has n r.state.held = λ n q. subst (Has n) (sym held)
             (subst (λ x. Has x (put name_cmp n0 b.ink mem.held)) q (has_put n0 b.ink mem.held)) in
-            let still : (n : Name) → Has n mem.held → Has n r.memory.held =
+            let still : (n : Name) → Has n mem.held → Has n r.state.held =
             λ n h. subst (Has n) (sym held) (has_more n n0 b.ink mem.held h) in
-            let held_is : (n : Name) (ink : ℕ) → find name_cmp n r.memory.held ≡ Some ink → Got m n rows
+            let held_is : (n : Name) (ink : ℕ) → find name_cmp n r.state.held ≡ Some ink → Got m n rows
             × Drew n.source n ink rows = λ n ink f. (elim (names_apart n n0) [
               | inl q ↦
                   let ink_is : b.ink ≡ ink = same_some _ _ (sym (put_here n0 b.ink mem.held)
@@ -459,7 +459,7 @@ module _ (s : Setting) (fit : IsFit s) where
                   let h = k.keeps.held_is n ink (sym (put_there n n0 b.ink mem.held ne) ∙ ap (find name_cmp n) (sym held) ∙ f) in
                   (got_more m n h.0, drew_more n.source n ink h.1)
             ]) in
-            let got : (n : Name) → Got m n rows → Has n r.memory.held = λ n h. (elim (got_cases m n h) [
+            let got : (n : Name) → Got m n rows → Has n r.state.held = λ n h. (elim (got_cases m n h) [
               | inl x ↦ still n (k.keeps.got n x)
               | inr x ↦ elim x [
                 | inl y ↦ absurd (no_draw m n y.0 y.1)
@@ -560,13 +560,13 @@ module _ (s : Setting) (fit : IsFit s) where
             let no_fresh : (n : Name) → ¬ Now Fresh m n = no_told Fresh (λ q. cc) in
             let no_fixed : (n : Name) → ¬ Now Fixed m n = no_told Fixed (λ q. cc) in
             let no_loss : (n : Name) → ¬ LosesNow m n = λ n h. contains_none n (subst (λ ns. Contains ns n) b.lost (loses n h)) in
-            let still : (n : Name) → Has n mem.held → Has n r.memory.held =
+            let still : (n : Name) → Has n mem.held → Has n r.state.held =
             λ n h. subst (Has n) (sym b.held) (has_more n n0 b.ink mem.held h) in
             -- it was not drawn before
             let never : (n : Name) (i : ℕ) → n ≡ n0 → ¬ Drew n.source n i trace = λ n i q h.
             (let x : Drew n0.source n0 i trace = subst (λ y. Drew y.source y i trace) q h in
             b.new (k.drew n0 i (subst (λ j. Drew j n0 i trace) own x))) in
-            let held_is : (n : Name) (i : ℕ) → find name_cmp n r.memory.held
+            let held_is : (n : Name) (i : ℕ) → find name_cmp n r.state.held
             ≡ Some i → Got m n rows × Drew n.source n i rows = λ n i f. (elim (names_apart n n0) [
               | inl q ↦
                   let ink_is : b.ink ≡ i = same_some _ _ (sym (put_here n0 b.ink mem.held)
@@ -577,7 +577,7 @@ module _ (s : Setting) (fit : IsFit s) where
                   let h = k.keeps.held_is n i (sym (put_there n n0 b.ink mem.held ne) ∙ ap (find name_cmp n) (sym b.held) ∙ f) in
                   (got_more m n h.0, drew_more n.source n i h.1)
             ]) in
-            let has_it : (n : Name) → n ≡ n0 → Has n r.memory.held = λ n q. subst (Has n) (sym b.held)
+            let has_it : (n : Name) → n ≡ n0 → Has n r.state.held = λ n q. subst (Has n) (sym b.held)
             (subst (λ x. Has x (put name_cmp n0 b.ink mem.held)) (sym q) (has_put n0 b.ink mem.held)) in
             record {
               knows = known (record {
@@ -605,7 +605,7 @@ module _ (s : Setting) (fit : IsFit s) where
                 drew = λ n i h. elim (drew_cases m n i h) [
                   | inl x ↦ b.below n (k.drew n i x)
                   | inr x ↦
-                      subst (λ y. Below y r.memory) (sym (only m n i x).0) b.heard
+                      subst (λ y. Below y r.state) (sym (only m n i x).0) b.heard
                 ];
                 lost = λ n h. elim (lost_cases m n h) [ inl x ↦ b.below n (k.lost n x) | inr x ↦ absurd (no_loss n x) ];
                 fixed = λ n h. elim (told_cases Fixed m n h) [ inl x ↦ b.below n (k.fixed n x) | inr x ↦ absurd (no_fixed n x) ];
@@ -652,7 +652,7 @@ module _ (s : Setting) (fit : IsFit s) where
       pub names_step : Names after rows
       names_step = record {
         handed = handed_step s cs trace e d was.handed steps;
-        knows = each_after s (λ j c. CellKnows rows j c.holds c.exit) cs m d facts.cell facts.here next.knows knows_told;
+        knows = each_after s (λ j c. CellKnows rows j c.holds c.exit) cs m d next.knows knows_told;
         source = λ j n ink h. elim (drew_cases j n ink h) [ inl x ↦ was.source j n ink x | inr x ↦ next.source j n ink x ];
         one = next.one;
         inks = λ p n ink h b. elim (sent_cases p trace d.row h)
@@ -731,7 +731,7 @@ module _ (s : Setting) (fit : IsFit s) where
 
   -- ---- exits
 
-  ends_by : (w : World) → Names w.cells w.trace → (j : ℕ) (m : Memory) → m.fixed.member ≡ j → Keeps w.trace j m.held m.missing
+  ends_by : (w : World) → Names w.cells w.trace → (j : ℕ) (m : MemberState) → m.fixed.member ≡ j → Keeps w.trace j m.held m.missing
       → EndsWith w.trace j (exit_of m)
   ends_by w names j m member k = record {
     member = member;

@@ -1,5 +1,5 @@
 -- One step of the sequential run: the event that it takes, the cell from which, the row, and the cells after it.
-use Rattle.std.proofs.Common.{◌≡◌, ℕ, zero, suc, ◌<◌, ◌≤◌, ◌+◌, ◌^◌, Bool, true, false, cond, not, ◌&&◌, List, [], ◌∷◌, ◌++◌, length, refl}
+use Rattle.std.proofs.Common.{◌≡◌, ℕ, zero, suc, ◌<◌, ◌≤◌, ◌+◌, Bool, true, false, cond, not, ◌&&◌, List, [], ◌∷◌, ◌++◌, length, refl}
 use Rattle.std.proofs.Common.{sym, ap, ◌∙◌, subst, ◌≢◌, ◌⊎◌, inl, inr, arith, Option, Some, None, option_map, nat_lt, nat_le, slice_get}
 use Rattle.std.proofs.Common.{ltb-true, eqb-true, eq-eqb, ◌==◌, zero-add, le_refl}
 use Rattle.std.proofs.lemmas.Bool.{eqb-false}
@@ -10,7 +10,7 @@ use Rattle.srm_scenario.specs.declared.mark.Mark.{Mark}
 use Rattle.srm_member.specs.declared.cause.Cause.{Cause}
 use Rattle.srm_member.specs.declared.cause.Cause.TheVariants.{Join, Arrival, Ask, Answer, Draw, Report}
 use Rattle.srm_member.specs.declared.due.Due.{Due}
-use Rattle.srm_member.specs.Record.{Memory, Record, Active, Gone, due_of, exit_of}
+use Rattle.srm_member.specs.Record.{MemberState, Record, Active, Gone, due_of, exit_of}
 use Rattle.srm_member.specs.React.{Reaction, react}
 use Rattle.srm_cell.specs.declared.flight.Flight.{Flight}
 use Rattle.srm_scenario.specs.Presence.{is_up_to}
@@ -21,8 +21,10 @@ use Rattle.srm_cell.specs.OwnRuns.{told_to}
 use Rattle.srm_cell.proofs.Rising.{OnEvent, earlier_on, before_on, OnStep}
 use Rattle.srm_cell.proofs.CellSteps.{some_not_idle}
 use Rattle.srm_engine.proofs.Settled.{at_member, get_after}
+pub use Rattle.srm_engine.proofs.Settled.{same_some, each_after, length_after}
 use Rattle.srm_engine.proofs.RunLemmas.{least_from, run_by, run_first, step_none, step_is}
-use Rattle.srm_engine.specs.World.{World, settled, after_step, least_event, step, run, opening_cells}
+use Rattle.srm_engine.specs.World.{World, cells_after, after_step, least_event, step, run, opening_cells}
+use Rattle.srm_net.specs.Limits.{most_sent}
 
 -- ---- what a cell's least event is
 
@@ -101,24 +103,24 @@ Sends e (Some body) d = (d.row.sent ≡ Some (packet_of e body)) × (d.cell.sent
 
 -- the member answers the cause
 pub record Answers (e : Event) (d : Stepped) : Type 0 where
-  pub memory : Memory
+  pub state : MemberState
   pub cause : Cause
-  pub holds : e.rest.holds ≡ Active memory
+  pub holds : e.rest.holds ≡ Active state
   pub is : e.cause ≡ Some cause
-  pub holds_then : d.cell.holds ≡ Active (react memory e.key.time cause).memory
+  pub holds_then : d.cell.holds ≡ Active (react state e.key.time cause).state
   pub exit : d.cell.exit ≡ e.rest.exit
-  pub told : d.row.told ≡ (react memory e.key.time cause).answer.told
-  pub lost : d.row.lost ≡ (react memory e.key.time cause).answer.lost
-  pub about : d.row.about ≡ about_of (Some cause) (react memory e.key.time cause).answer.body
-  pub sends : Sends e (react memory e.key.time cause).answer.body d
+  pub told : d.row.told ≡ (react state e.key.time cause).answer.told
+  pub lost : d.row.lost ≡ (react state e.key.time cause).answer.lost
+  pub about : d.row.about ≡ about_of (Some cause) (react state e.key.time cause).answer.body
+  pub sends : Sends e (react state e.key.time cause).answer.body d
 
 -- the member leaves
 pub record Leaves (e : Event) (d : Stepped) : Type 0 where
-  pub memory : Memory
-  pub holds : e.rest.holds ≡ Active memory
+  pub state : MemberState
+  pub holds : e.rest.holds ≡ Active state
   pub is : e.cause ≡ None
-  pub holds_then : d.cell.holds ≡ Gone memory.fixed
-  pub exit : d.cell.exit ≡ Some (exit_of memory)
+  pub holds_then : d.cell.holds ≡ Gone state.fixed
+  pub exit : d.cell.exit ≡ Some (exit_of state)
   pub told : d.row.told ≡ parting.told
   pub lost : d.row.lost ≡ []
   pub about : d.row.about ≡ about_of None None
@@ -134,42 +136,42 @@ on_full : (Q : Stepped → Type 0) (b : Bool) (x : Stepped) → Q x → OnStep Q
 on_full Q true x h = h
 on_full Q false x h = tt
 
-does_sending : (e : Event) (memory : Memory) (cause : Cause) (r : Reaction) (body : Option Body) → r ≡ react memory e.key.time cause
-    → r.answer.body ≡ body → e.rest.holds ≡ Active memory → e.cause ≡ Some cause → OnStep (Does e) (sending_step e r body)
-does_sending e memory cause r None same none h c = record {
+does_sending : (e : Event) (state : MemberState) (cause : Cause) (r : Reaction) (body : Option Body) → r ≡ react state e.key.time cause
+    → r.answer.body ≡ body → e.rest.holds ≡ Active state → e.cause ≡ Some cause → OnStep (Does e) (sending_step e r body)
+does_sending e state cause r None same none h c = record {
   key = refl;
   cause = refl;
   inbox = refl;
   how = inl (record {
-    memory = memory;
+    state = state;
     cause = cause;
     holds = h;
     is = c;
-    holds_then = ap (λ (x : Reaction). Active x.memory) same;
+    holds_then = ap (λ (x : Reaction). Active x.state) same;
     exit = refl;
     told = ap (λ (x : Reaction). x.answer.told) same;
     lost = ap (λ (x : Reaction). x.answer.lost) same;
     about = ap (λ k. about_of k r.answer.body) c ∙ ap (λ (x : Reaction). about_of (Some cause) x.answer.body) same;
-    sends = subst (λ b. Sends e b (record { cell = record e.rest { holds = Active r.memory }; row = row_of e r.answer None }))
+    sends = subst (λ b. Sends e b (record { cell = record e.rest { holds = Active r.state }; row = row_of e r.answer None }))
         (sym none ∙ ap (λ (x : Reaction). x.answer.body) same) (refl, refl);
   });
 }
-does_sending e memory cause r (Some body) same some h c = on_full (Does e) (nat_lt e.rest.sent (2 ^ 48)) _ (record {
+does_sending e state cause r (Some body) same some h c = on_full (Does e) (nat_lt e.rest.sent most_sent) _ (record {
   key = refl;
   cause = refl;
   inbox = refl;
   how = inl (record {
-    memory = memory;
+    state = state;
     cause = cause;
     holds = h;
     is = c;
-    holds_then = ap (λ (x : Reaction). Active x.memory) same;
+    holds_then = ap (λ (x : Reaction). Active x.state) same;
     exit = refl;
     told = ap (λ (x : Reaction). x.answer.told) same;
     lost = ap (λ (x : Reaction). x.answer.lost) same;
     about = ap (λ k. about_of k r.answer.body) c ∙ ap (λ (x : Reaction). about_of (Some cause) x.answer.body) same;
     sends = subst (λ b. Sends e b (record {
-      cell = record e.rest { holds = Active r.memory; sent = e.rest.sent + 1 };
+      cell = record e.rest { holds = Active r.state; sent = e.rest.sent + 1 };
       row =
           row_of e r.answer (Some (packet_of e body));
     }))
@@ -186,7 +188,7 @@ does_handle e (Active m) None h c = record {
   cause = refl;
   inbox = refl;
   how = inr (record {
-    memory = m;
+    state = m;
     holds = h;
     is = c;
     holds_then = refl;
@@ -230,50 +232,22 @@ step_facts until cs e d h =
 
 -- ---- the cells after a step
 
-pub same_some : {A : Type 0} (x y : A) → Some x ≡ Some y → x ≡ y
-same_some x y e = cc
-
 module _ (s : Setting) where
   -- the stepping member's cell is the step's
-  pub here_after : (m : ℕ) (d : Stepped) (cs : List PlainCell) (c : PlainCell) → slice_get cs m ≡ Some c → slice_get (settled s m d 0 cs) m
+  pub here_after : (m : ℕ) (d : Stepped) (cs : List PlainCell) (c : PlainCell) → slice_get cs m ≡ Some c
+      → slice_get (cells_after s m d 0 cs) m
       ≡ Some d.cell
   here_after m d cs c h =
       let yes : (m == m) ≡ true = eq-eqb _ _ refl in
       get_after s m d m cs ∙ ap (option_map (at_member s m d m)) h ∙ ap (λ b. Some (cond b d.cell (told_to s.traffic d.row.sent m c))) yes
 
   -- every other hears what was sent
-  pub there_after : (m : ℕ) (d : Stepped) (cs : List PlainCell) (j : ℕ) → j ≢ m → slice_get (settled s m d 0 cs) j
+  pub there_after : (m : ℕ) (d : Stepped) (cs : List PlainCell) (j : ℕ) → j ≢ m → slice_get (cells_after s m d 0 cs) j
       ≡ option_map (told_to s.traffic d.row.sent j) (slice_get cs j)
   there_after m d cs j ne =
       let no : (j == m) ≡ false = (elim (j == m) as (λ b. (j == m) ≡ b → (j == m) ≡ false)
       [ true ↦ λ q. absurd (ne (eqb-true _ _ q)) | false ↦ λ q. q ] refl) in
       get_after s m d j cs ∙ ap (λ b. option_map (λ c. cond b d.cell (told_to s.traffic d.row.sent j c)) (slice_get cs j)) no
-
-  -- what holds of the step's cell, and of every other after it heard what was sent, holds of each cell
-  pub each_after : (Q : ℕ → PlainCell → Type 0) (cs : List PlainCell) (m : ℕ) (d : Stepped) (b : PlainCell) → slice_get cs m ≡ Some b
-      → Q m d.cell
-      → ((j : ℕ) (c : PlainCell) → slice_get cs j ≡ Some c → j ≢ m → Q j (told_to s.traffic d.row.sent j c))
-      → (j : ℕ) (c : PlainCell) → slice_get (settled s m d 0 cs) j ≡ Some c → Q j c
-  each_after Q cs m d b here h g j c e = elim (j == m) as (λ x. (j == m) ≡ x → Q j c) [
-    | true ↦ λ q.
-        let same : j ≡ m = eqb-true _ _ q in
-        let cell : d.cell ≡ c = same_some _ _ (sym (here_after m d cs b here) ∙ ap (slice_get (settled s m d 0 cs)) (sym same) ∙ e) in
-        subst (λ x. Q x c) (sym same) (subst (Q m) cell h)
-    | false ↦ λ q. by_cell (slice_get cs j) refl (eqb-false _ _ q)
-  ] refl
-    where
-      by_cell : (o : Option PlainCell) → slice_get cs j ≡ o → j ≢ m → Q j c
-      by_cell None f ne = let x : None ≡ Some c = sym (there_after m d cs j ne ∙ ap (option_map (told_to s.traffic d.row.sent j)) f)
-          ∙ e in cc
-      by_cell (Some a) f ne =
-          let cell : told_to s.traffic d.row.sent j a ≡ c = same_some _ _
-          (sym (there_after m d cs j ne ∙ ap (option_map (told_to s.traffic d.row.sent j)) f) ∙ e) in
-          subst (Q j) cell (g j a f ne)
-
-  pub length_after : (m : ℕ) (d : Stepped) (i : ℕ) (cs : List PlainCell) → length (settled s m d i cs) ≡ length cs
-  unfolding settled
-  length_after m d i [] = refl
-  length_after m d i (c ∷ cs) = ap suc (length_after m d (suc i) cs)
 
   pub length_opening : (n i : ℕ) → length (opening_cells s n i) ≡ n
   unfolding opening_cells
@@ -301,34 +275,41 @@ module _ (s : Setting) where
         | Some e ↦ λ q. absurd (after_moves w e (step_at (Some e)) refl (sym (step_is s s.traffic.until within w e q) ∙ h))
       ] refl
 
-  -- what holds of a world, and is kept by each step, holds of all worlds to which the run comes from there
-  pub run_keeps : (P : World → Type 0)
-      → ((w : World) (e : Event) (d : Stepped) → Steps s.traffic.until w.cells e d → P w
-      → P (record { cells = settled s e.key.member d 0 w.cells; trace = w.trace ++ d.row ∷ [] }))
-      → (n : ℕ) (w v : World) → P w → run s n w ≡ Done v → P v
-  unfolding run after_step
-  run_keeps P kept zero w v p h = let e : w ≡ v = same_done w v h in subst P e p
-    where
-      same_done : (a b : World) → Done a ≡ Done b → a ≡ b
-      same_done a b e = cc
-  run_keeps P kept (suc n) w v p h =
+  -- a step, and a run of n steps from what it leaves
+  abbrev pub BeginsRun : ℕ → World → World → Type 0
+  BeginsRun n w v = (e : Event) × (d : Stepped) × Steps s.traffic.until w.cells e d
+      × (run s n (record { cells = cells_after s e.key.member d 0 w.cells; trace = w.trace ++ d.row ∷ [] }) ≡ Done v)
+
+  pub run_begins : (n : ℕ) (w v : World) → run s (suc n) w ≡ Done v → BeginsRun n w v
+  unfolding after_step
+  run_begins n w v h =
       let by = sym (run_first s s.traffic.until within n w) ∙ h in
-      elim (before s.traffic.until (least_event 0 w.cells)) as (λ o. before s.traffic.until (least_event 0 w.cells) ≡ o → P v) [
+      elim (before s.traffic.until (least_event 0 w.cells)) as (λ o. before s.traffic.until (least_event 0 w.cells) ≡ o → BeginsRun n w v) [
         | None ↦ λ e. let x : Idle ≡ Done v = sym (ap (run_by s s.traffic.until within n) (step_none s s.traffic.until within w e))
             ∙ by in cc
         | Some e ↦ λ b.
             let stepped = λ (o : StepOutcome Stepped) (x : step_at (Some e) ≡ o). sym
             (ap (run_by s s.traffic.until within n) (step_is s s.traffic.until within w e b ∙ ap (after_step s w e.key.member) x))
             ∙ by in
-            elim (step_at (Some e)) as (λ o. step_at (Some e) ≡ o → P v) [
+            elim (step_at (Some e)) as (λ o. step_at (Some e) ≡ o → BeginsRun n w v) [
               | Idle ↦ λ x. absurd (some_not_idle e x)
               | Full ↦ λ x. let y : Full ≡ Done v = stepped Full x in cc
               | Spent ↦ λ x. let y : Spent ≡ Done v = stepped Spent x in cc
-              | Done d ↦ λ x.
-                  run_keeps P kept n (record { cells = settled s e.key.member d 0 w.cells; trace = w.trace ++ d.row ∷ [] }) v
-                  (kept w e d (record { least = b; stepped = x }) p) (stepped (Done d) x)
+              | Done d ↦ λ x. (e, d, record { least = b; stepped = x }, stepped (Done d) x)
             ] refl
       ] refl
+
+  -- what holds of a world, and is kept by each step, holds of all worlds to which the run comes from there
+  pub run_keeps : (P : World → Type 0)
+      → ((w : World) (e : Event) (d : Stepped) → Steps s.traffic.until w.cells e d → P w
+      → P (record { cells = cells_after s e.key.member d 0 w.cells; trace = w.trace ++ d.row ∷ [] }))
+      → (n : ℕ) (w v : World) → P w → run s n w ≡ Done v → P v
+  unfolding run
+  run_keeps P kept zero w v p h = let e : w ≡ v = same_done w v h in subst P e p
+    where
+      same_done : (a b : World) → Done a ≡ Done b → a ≡ b
+      same_done a b e = cc
+  run_keeps P kept (suc n) w v p h = let r = run_begins n w v h in run_keeps P kept n _ v (kept w r.0 r.1 r.2 p) r.3
 
   -- ---- flights
 

@@ -22,7 +22,7 @@ use Rattle.srm_member.specs.declared.exit.Exit.{Exit}
 use Rattle.srm_member.specs.declared.row.About.{About}
 use Rattle.srm_member.specs.declared.row.About.TheVariants.{Nothing, Of, Named}
 use Rattle.srm_member.specs.declared.row.Row.{Row}
-use Rattle.srm_member.specs.Record.{Memory, Record, Active, Gone}
+use Rattle.srm_member.specs.Record.{MemberState, Record, Active, Gone}
 use Rattle.srm_member.specs.React.{Reaction, react}
 use Rattle.srm_member.specs.Orderly.{carried, brought, LostIn, FixedIn, IsAmong, AreLostOnce, AreFixedAfterLoss, IsOrderly}
 use Rattle.srm_member.proofs.AllIn.{AllIn, AllIn-weaker, AllIn-places, AllIn-at_places}
@@ -32,7 +32,7 @@ use Rattle.srm_cell.specs.Cells.{PlainCell, opening_cell, hear_at, hear, Event, 
 use Rattle.srm_cell.specs.OwnRuns.{told_to}
 use Rattle.srm_cell.proofs.FitSettings.{settings_are_fit}
 use Rattle.srm_cell.proofs.Rising.{OnEvent, before_on}
-use Rattle.srm_engine.specs.World.{World, settled, opening, opening_cells, run, row_cmp, IsReached, IsOutcome}
+use Rattle.srm_engine.specs.World.{World, cells_after, opening, opening_cells, run, row_cmp, IsReached, IsOutcome}
 use Rattle.srm_engine.specs.Handed.{SentIn}
 use Rattle.srm_engine.specs.HeldNames.{Drew, Carries, ToldOf, Lost, Lacks}
 use Rattle.srm_engine.specs.Tables.{TracesAreOrderly}
@@ -74,7 +74,7 @@ module _ (s : Setting) (fit : IsFit s) (own : (j : ℕ) → j < s.traffic.member
   members = s.traffic.members
 
   abbrev RecordOf : Record → Type 0
-  RecordOf (Active m) = PagesOf members m.streams
+  RecordOf (Active m) = PagesOf members m.progress
   RecordOf (Gone f) = Unit {0}
 
   -- of a world: the marks that are left, the pages of which members heard, the rows and the packets sent
@@ -107,7 +107,7 @@ module _ (s : Setting) (fit : IsFit s) (own : (j : ℕ) → j < s.traffic.member
     below : m < members
     below = let lt = get_below cs m facts.cell facts.here in let as_many = was.names.handed.members in omega arith
 
-    now_names : Names s fit (settled s m d 0 cs) rows
+    now_names : Names s fit (cells_after s m d 0 cs) rows
     now_names = names_step s fit cs trace e d was.names steps
 
     -- ---- cells
@@ -138,8 +138,8 @@ module _ (s : Setting) (fit : IsFit s) (own : (j : ℕ) → j < s.traffic.member
     now_marks : AllIn (IsOwnMark s.traffic m) d.cell.script
     now_marks = subst (AllIn (IsOwnMark s.traffic m)) (sym (script_after e d steps.stepped)) event_marks.rest
 
-    marks_after : EachCell (λ j c. AllIn (IsOwnMark s.traffic j) c.script) (settled s m d 0 cs)
-    marks_after = each_after s (λ j c. AllIn (IsOwnMark s.traffic j) c.script) cs m d facts.cell facts.here now_marks
+    marks_after : EachCell (λ j c. AllIn (IsOwnMark s.traffic j) c.script) (cells_after s m d 0 cs)
+    marks_after = each_after s (λ j c. AllIn (IsOwnMark s.traffic j) c.script) cs m d now_marks
         (λ j c g ne. subst (AllIn (IsOwnMark s.traffic j)) (sym (told_same d.row.sent j c).1) (was.marks j c g))
 
     -- ---- the stepping member
@@ -164,11 +164,11 @@ module _ (s : Setting) (fit : IsFit s) (own : (j : ℕ) → j < s.traffic.member
     }
 
     module _ (a : Answers e d) where
-      abbrev mem : Memory
-      mem = a.memory
+      abbrev mem : MemberState
+      mem = a.state
 
       abbrev r : Reaction
-      r = react a.memory e.key.time a.cause
+      r = react a.state e.key.time a.cause
 
       holds : facts.cell.holds ≡ Active mem
       holds = sym facts.pending.holds ∙ a.holds
@@ -248,8 +248,8 @@ module _ (s : Setting) (fit : IsFit s) (own : (j : ℕ) → j < s.traffic.member
     now : Now
     now = elim facts.does.how [ inl a ↦ answer_now a | inr l ↦ leave_now l ]
 
-    pages_after : EachCell (λ j c. RecordOf c.holds) (settled s m d 0 cs)
-    pages_after = each_after s (λ j c. RecordOf c.holds) cs m d facts.cell facts.here now.pages
+    pages_after : EachCell (λ j c. RecordOf c.holds) (cells_after s m d 0 cs)
+    pages_after = each_after s (λ j c. RecordOf c.holds) cs m d now.pages
         (λ j c g ne. subst RecordOf (sym (told_same d.row.sent j c).0) (was.pages j c g))
 
     -- ---- rows
@@ -336,7 +336,7 @@ module _ (s : Setting) (fit : IsFit s) (own : (j : ℕ) → j < s.traffic.member
       | inr g ↦ was.fixed_after first g.0 x g.1
     ]
 
-    runs_step : Runs (settled s m d 0 cs) rows
+    runs_step : Runs (cells_after s m d 0 cs) rows
     runs_step = record {
       names = now_names;
       marks = marks_after;

@@ -14,7 +14,7 @@ use Rattle.srm_cell.proofs.CellSteps.{some_not_idle}
 use Rattle.srm_cell.proofs.Rising.{OnEvent, before_on, OnStep, Above, IsAbove, next_above, step_above}
 use Rattle.srm_cell.proofs.Clear.{differ_member}
 use Rattle.srm_cell.proofs.CellKeys.{not_same, all_differ_append, cell_keys_differ}
-use Rattle.srm_engine.specs.World.{World, settled, after_step, least_event, step, run, opening}
+use Rattle.srm_engine.specs.World.{World, cells_after, after_step, least_event, step, run, opening}
 use Rattle.srm_engine.specs.Laws.{keys_from, PendingKeysDiffer, CreatedEventsAreLater}
 use Rattle.srm_engine.proofs.RunLemmas.{Seq, rest, next, shifted, step_is, after_stepped, after_full, after_spent}
 use Rattle.srm_engine.proofs.Sequential.{EachCell, Good, step_facts, good_step, above_step, run_seq, good_opening, good_reached}
@@ -104,7 +104,7 @@ module _ (P : Key → Type 0) where
   -- where P holds of later keys, and of all that is pending before a step, it holds of all that is pending after it
   kept_above : (s : Setting) (fit : IsFit s) (cs : List PlainCell) (e : Event) (d : Stepped) → Good s fit cs
       → before s.traffic.until (least_event 0 cs) ≡ Some e → step_at (Some e) ≡ Done d
-      → ((k : Key) → e.key.time < k.time → P k) → EachCell s fit (Above P) cs → EachCell s fit (Above P) (settled s e.key.member d 0 cs)
+      → ((k : Key) → e.key.time < k.time → P k) → EachCell s fit (Above P) cs → EachCell s fit (Above P) (cells_after s e.key.member d 0 cs)
   kept_above s fit cs e d good h x later all =
       let f = step_facts s fit s.traffic.until cs e d h x in
       let m = e.key.member in
@@ -115,20 +115,20 @@ module _ (P : Key → Type 0) where
 
 -- the cells after a step that is made
 step_cells : (s : Setting) (w v : World) (e : Event) → before s.traffic.until (least_event 0 w.cells) ≡ Some e → step s w ≡ Done v
-    → (d : Stepped) × (step_at (Some e) ≡ Done d) × (v.cells ≡ settled s e.key.member d 0 w.cells)
+    → (d : Stepped) × (step_at (Some e) ≡ Done d) × (v.cells ≡ cells_after s e.key.member d 0 w.cells)
 step_cells s w v e h done =
     let within = le_refl s.traffic.until in
     let is = λ (o : StepOutcome Stepped) (x : step_at (Some e) ≡ o). sym
     (step_is s s.traffic.until within w e h ∙ ap (after_step s w e.key.member) x) ∙ done in
     elim (step_at (Some e)) as (λ o. step_at (Some e) ≡ o → (d : Stepped)
-    × (step_at (Some e) ≡ Done d) × (v.cells ≡ settled s e.key.member d 0 w.cells)) [
+    × (step_at (Some e) ≡ Done d) × (v.cells ≡ cells_after s e.key.member d 0 w.cells)) [
       | Idle ↦ λ x. absurd (some_not_idle e x)
       | Full ↦ λ x. let y : Full ≡ Done v = sym (after_full s s.traffic.until within w e.key.member) ∙ is Full x in let z : ⊥ = cc in
           absurd z
       | Spent ↦ λ x. let y : Spent ≡ Done v = sym (after_spent s s.traffic.until within w e.key.member) ∙ is Spent x in let z : ⊥ = cc in
           absurd z
       | Done d ↦ λ x.
-          let u : World = record { cells = settled s e.key.member d 0 w.cells; trace = w.trace ++ d.row ∷ [] } in
+          let u : World = record { cells = cells_after s e.key.member d 0 w.cells; trace = w.trace ++ d.row ∷ [] } in
           let y : ◌≡◌ {A = StepOutcome World} (Done u) (Done v) = sym (after_stepped s s.traffic.until within w e.key.member d)
           ∙ is (Done d) x in
           let same : u ≡ v = cc in

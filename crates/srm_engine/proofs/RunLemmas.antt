@@ -12,7 +12,7 @@ use Rattle.srm_cell.specs.Setting.{Setting, arrival_of}
 use Rattle.srm_engine.proofs.ScheduleLemmas.{Quiet, Safe, Sched, go, present, safe_after, step_late, stop}
 use Rattle.srm_engine.proofs.Settled.{at_member}
 use Rattle.srm_engine.specs.Schedules.{SendsLate, own_of}
-use Rattle.srm_engine.specs.World.{World, after_step, least_event, run, settled, step_of, step_to}
+use Rattle.srm_engine.specs.World.{World, after_step, least_event, run, cells_after, step_of, step_to}
 use Rattle.srm_member.specs.declared.row.Row.{Row}
 use Rattle.srm_net.specs.Keys.{key_cmp}
 use Rattle.srm_net.specs.declared.packet.Packet.{Packet}
@@ -119,8 +119,8 @@ module _ (s : Setting) (end : ℕ) where
   head_off a d late i n c b ne h = let no : (i == a) ≡ false = off i a ne in rw no (end_late d.row.sent late i n c b h)
 
   ends_other : (a : ℕ) (d : Stepped) → SendsLate s end d.row → (i : ℕ) (cs : List PlainCell) (ns : List ℕ) (bs : List Bool) → a < i
-      → Ends i cs ns bs → Ends i (settled s a d i cs) ns bs
-  unfolding settled
+      → Ends i cs ns bs → Ends i (cells_after s a d i cs) ns bs
+  unfolding cells_after
   ends_other a d late i [] [] [] lt h = tt
   ends_other a d late i (c ∷ cs) (n ∷ ns) (b ∷ bs) lt h =
       (head_off a d late i n c b (λ e. omega arith) h.0, ends_other a d late (suc i) cs ns bs (omega arith) h.1)
@@ -137,8 +137,8 @@ module _ (s : Setting) (end : ℕ) where
   -- after a member's step its own run is one step shorter
   ends_step : (a : ℕ) (d : Stepped) → SendsLate s end d.row → (j i : ℕ) (cs : List PlainCell) (ns : List ℕ) (bs : List Bool) → a ≡ i + j
       → (c : PlainCell) → slice_get cs j ≡ Some c → own_step end a c ≡ Done d → Ends i cs ns bs →
-      (ns' : List ℕ) × Ends i (settled s a d i cs) ns' bs × (total ns ≡ suc (total ns'))
-  unfolding settled
+      (ns' : List ℕ) × Ends i (cells_after s a d i cs) ns' bs × (total ns ≡ suc (total ns'))
+  unfolding cells_after
   ends_step a d late zero i (x ∷ cs) (n ∷ ns) (b ∷ bs) ia c g e h =
       let same : i ≡ a = omega arith in
       let yes : (i == a) ≡ true = eq-eqb _ _ same in
@@ -168,7 +168,7 @@ module _ (s : Setting) (end : ℕ) where
   pub data Seq : List PlainCell → List Row → List PlainCell → Type 0 where
     rest : {cs : List PlainCell} → Seq cs [] cs
     next : {cs : List PlainCell} {e : Event} {d : Stepped} {rows : List Row} {ds : List PlainCell} → before end (least_event 0 cs) ≡ Some e
-        → step_at (Some e) ≡ Done d → Seq (settled s e.key.member d 0 cs) rows ds → Seq cs (d.row ∷ rows) ds
+        → step_at (Some e) ≡ Done d → Seq (cells_after s e.key.member d 0 cs) rows ds → Seq cs (d.row ∷ rows) ds
 
   -- where the run cannot go on
   abbrev pub Refused : List PlainCell → Type 0
@@ -255,7 +255,7 @@ module _ (s : Setting) (end : ℕ) where
           let p = present end a (slice_get cs a) d own in
           let late = step_late s end cs safe a d own in
           let f = ends_step a d late a 0 cs ns bs (sym (zero-add a)) p.0 p.1 p.2 ends in
-          let g = again (settled s a d 0 cs) f.0 f.2 (safe_after s end cs safe a d own) f.1 in
+          let g = again (cells_after s a d 0 cs) f.0 f.2 (safe_after s end cs safe a d own) f.1 in
           (d.row ∷ g.0, g.1, next h x g.2, g.3)
     ] refl
   ] refl
@@ -292,7 +292,7 @@ module _ (s : Setting) (end : ℕ) where
     step_is w e h = ap (step_of s w) (before_more end s.traffic.until within (least_event 0 w.cells) e h)
 
     pub after_stepped : (w : World) (m : ℕ) (d : Stepped) → after_step s w m (Done d)
-        ≡ Done (record { cells = settled s m d 0 w.cells; trace = w.trace ++ d.row ∷ [] })
+        ≡ Done (record { cells = cells_after s m d 0 w.cells; trace = w.trace ++ d.row ∷ [] })
     unfolding after_step
     after_stepped w m d = refl
 

@@ -10,7 +10,7 @@ use Rattle.srm_cell.specs.OwnRuns.{own_rows, told_to}
 use Rattle.srm_cell.specs.Setting.{Setting, arrival_of}
 use Rattle.srm_engine.proofs.Settled.{at_member, get_after, swap_cells}
 use Rattle.srm_engine.specs.Schedules.{AllSendLate, SendsLate, own_of}
-use Rattle.srm_engine.specs.World.{row_cmp, settled}
+use Rattle.srm_engine.specs.World.{row_cmp, cells_after}
 use Rattle.srm_member.proofs.OrderLemmas.{key_total, place-comm, same_numbers}
 use Rattle.srm_member.specs.declared.row.Row.{Row}
 use Rattle.srm_net.specs.Keys.{numbers_of_key}
@@ -21,7 +21,7 @@ use Rattle.srm_net.specs.declared.packet.Packet.{Packet}
 pub data Sched (s : Setting) (end : ℕ) : List PlainCell → List ℕ → List Row → List PlainCell → Type 0 where
   stop : {cs : List PlainCell} → Sched s end cs [] [] cs
   go : {cs : List PlainCell} {m : ℕ} {ms : List ℕ} {d : Stepped} {rows : List Row} {ds : List PlainCell} → own_of end m (slice_get cs m)
-      ≡ Done d → Sched s end (settled s m d 0 cs) ms rows ds → Sched s end cs (m ∷ ms) (d.row ∷ rows) ds
+      ≡ Done d → Sched s end (cells_after s m d 0 cs) ms rows ds → Sched s end cs (m ∷ ms) (d.row ∷ rows) ds
 
 abbrev pub Quiet : ℕ → List PlainCell → Type 0
 Quiet end cs = (m : ℕ) → own_of end m (slice_get cs m) ≡ Idle
@@ -84,7 +84,7 @@ module _ (s : Setting) (end : ℕ) where
   ] refl
 
   pub safe_after : (cs : List PlainCell) → Safe s end cs → (m : ℕ) (d : Stepped) → own_of end m (slice_get cs m) ≡ Done d
-      → Safe s end (settled s m d 0 cs)
+      → Safe s end (cells_after s m d 0 cs)
   safe_after cs safe m d e k c g n =
       let h = was_some (at_member s m d k) (slice_get cs k) c (sym (get_after s m d k cs) ∙ g) in
       let own : (k ≡ m) → own_step end k h.0 ≡ Done d =
@@ -98,7 +98,7 @@ module _ (s : Setting) (end : ℕ) where
 
   own_later : (cs : List PlainCell) → Safe s end cs → (a b : ℕ) (da db : Stepped) → a ≢ b → own_of end a (slice_get cs a) ≡ Done da
       → own_of end b (slice_get cs b) ≡ Done db →
-      own_of end b (slice_get (settled s a da 0 cs) b) ≡ Done (stepped_map (told_to s.traffic da.row.sent b) db)
+      own_of end b (slice_get (cells_after s a da 0 cs) b) ≡ Done (stepped_map (told_to s.traffic da.row.sent b) db)
   own_later cs safe a b da db ne ea eb =
       let h = present end b (slice_get cs b) db eb in
       let off : (b == a) ≡ false = not_me b a (λ e. ne (sym e)) in
@@ -118,17 +118,17 @@ module _ (s : Setting) (end : ℕ) where
 
   bring : {cs ds : List PlainCell} {ms : List ℕ} {rows : List Row} (a : ℕ) (da : Stepped) → Sched s end cs ms rows ds → Safe s end cs
       → own_of end a (slice_get cs a) ≡ Done da → Quiet end ds →
-      (ms' : List ℕ) × (rows' : List Row) × Sched s end (settled s a da 0 cs) ms' rows' ds
+      (ms' : List ℕ) × (rows' : List Row) × Sched s end (cells_after s a da 0 cs) ms' rows' ds
       × (ordered row_cmp (da.row ∷ rows') ≡ ordered row_cmp rows)
   bring a da (stop {cs = cs}) safe ea quiet = let e : Idle ≡ Done da = sym (quiet a) ∙ ea in cc
   bring a da (go {cs = cs} {m = b} {ms = ms} {d = db} {rows = rows} {ds = ds} eb rest) safe ea quiet =
-      elim (b == a) as (λ x. (b == a) ≡ x → (ms' : List ℕ) × (rows' : List Row) × Sched s end (settled s a da 0 cs) ms' rows' ds
+      elim (b == a) as (λ x. (b == a) ≡ x → (ms' : List ℕ) × (rows' : List Row) × Sched s end (cells_after s a da 0 cs) ms' rows' ds
       × (ordered row_cmp (da.row ∷ rows') ≡ ordered row_cmp (db.row ∷ rows))) [
         | true ↦ λ ba. let same : da ≡ db = (let e : Done da ≡ Done db = sym ea
             ∙ ap (λ k. own_of end k (slice_get cs k)) (sym (eqb-true _ _ ba)) ∙ eb in cc) in (
               ms,
               rows,
-              subst₂ (λ k d. Sched s end (settled s k d 0 cs) ms rows ds) (eqb-true _ _ ba) (sym same) rest,
+              subst₂ (λ k d. Sched s end (cells_after s k d 0 cs) ms rows ds) (eqb-true _ _ ba) (sym same) rest,
               ap (λ (d : Stepped). ordered row_cmp (d.row ∷ rows)) same,
             )
         | false ↦ λ ba. let ne : a ≢ b = (λ e. eqb-false _ _ ba (sym e)) in

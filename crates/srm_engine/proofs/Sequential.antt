@@ -1,8 +1,7 @@
 -- The worlds of the sequential run, the order of its rows, and safe ends.
-use Rattle.std.proofs.Common.{◌≡◌, ℕ, zero, suc, ◌<◌, ◌≤◌, ◌+◌, true, false, List, [], ◌∷◌, ◌++◌, length, refl, sym, ap, ◌∙◌, subst, ◌≢◌}
-use Rattle.std.proofs.Common.{◌⊎◌, inl, inr, arith, Option, Some, None, slice_get, zero-add, eqb-true, ◌==◌, le_refl, add-zero}
-use Rattle.std.proofs.lemmas.Bool.{eqb-false}
-use Rattle.srm_cell.proofs.CellSteps.{IsOf, IsStepOf, SentBy, before_of, before_some, next_event_of, some_not_idle, step_at_of}
+use Rattle.std.proofs.Common.{◌≡◌, ℕ, zero, suc, ◌<◌, ◌≤◌, ◌+◌, List, [], ◌∷◌, ◌++◌, length, refl, sym, ap, ◌∙◌, subst, ◌≢◌}
+use Rattle.std.proofs.Common.{◌⊎◌, inl, inr, arith, Option, Some, None, slice_get, zero-add, add-zero}
+use Rattle.srm_cell.proofs.CellSteps.{IsOf, IsStepOf, SentBy, before_of, before_some, next_event_of, step_at_of}
 use Rattle.srm_cell.proofs.Counts.{Taken, above_weaker, next_taken, rest_sound, sound_step}
 use Rattle.srm_cell.proofs.OwnRunLemmas.{rows_by, rows_first}
 use Rattle.srm_cell.proofs.OwnRunsEnd.{SentNothing, rest_silent, silent_step}
@@ -14,12 +13,12 @@ use Rattle.srm_cell.specs.Cells.{Done, Event, Full, Idle, PlainCell, Silent, Spe
 use Rattle.srm_cell.specs.Cells.{step_at}
 use Rattle.srm_cell.specs.OwnRuns.{own_rows, told_to}
 use Rattle.srm_cell.specs.Setting.{IsFit, Setting, arrival_of}
-use Rattle.srm_engine.proofs.RunLemmas.{Seq, after_full, after_spent, after_stepped, least_from, next, rest, run_by, run_first, step_is}
-use Rattle.srm_engine.proofs.RunLemmas.{step_none}
-use Rattle.srm_engine.proofs.ScheduleLemmas.{Safe, same_Some, was_some}
-use Rattle.srm_engine.proofs.Settled.{at_member, get_after}
+use Rattle.srm_engine.proofs.RunLemmas.{Seq, least_from, next, rest}
+use Rattle.srm_engine.proofs.ScheduleLemmas.{Safe, same_Some}
+use Rattle.srm_engine.proofs.OneStep.{run_begins}
+use Rattle.srm_engine.proofs.Settled.{each_after, length_after}
 use Rattle.srm_engine.specs.Schedules.{AllSendLate, SendsLate}
-use Rattle.srm_engine.specs.World.{World, after_step, least_event, opening, opening_cells, row_cmp, run, settled}
+use Rattle.srm_engine.specs.World.{World, least_event, opening, opening_cells, row_cmp, run, cells_after}
 use Rattle.srm_member.proofs.FewerTimers.{SoundRecord}
 use Rattle.srm_member.proofs.OrderLemmas.{from_refl, key_total, rises}
 use Rattle.srm_member.specs.declared.row.Row.{Row}
@@ -47,28 +46,9 @@ least_of_all k i (x ∷ cs) h (suc j) c g =
     rw same (least_of_all k (suc i) cs (least_earlier k (next_event i x) (least_event (suc i) cs) h).1 j c g)
 
 module _ (s : Setting) (fit : IsFit s) where
-  length-settled : (m : ℕ) (d : Stepped) (i : ℕ) (cs : List PlainCell) → length (settled s m d i cs) ≡ length cs
-  unfolding settled
-  length-settled m d i [] = refl
-  length-settled m d i (c ∷ cs) = ap suc (length-settled m d (suc i) cs)
-
   -- every cell is so
   abbrev pub EachCell : (ℕ → PlainCell → Type 0) → List PlainCell → Type 0
   EachCell Q cs = (j : ℕ) (c : PlainCell) → slice_get cs j ≡ Some c → Q j c
-
-  each_at : (Q : ℕ → PlainCell → Type 0) (m : ℕ) (d : Stepped) (j : ℕ) (b : PlainCell) → Q m d.cell
-      → (j ≢ m → Q j (told_to s.traffic d.row.sent j b)) → Q j (at_member s m d j b)
-  each_at Q m d j b h g = elim (j == m) as (λ x. (j == m) ≡ x → Q j (at_member s m d j b)) [
-    | true ↦ λ e. rw e (subst (λ k. Q k d.cell) (sym (eqb-true _ _ e)) h)
-    | false ↦ λ e. rw e (g (eqb-false _ _ e))
-  ] refl
-
-  pub each_after : (Q : ℕ → PlainCell → Type 0) (cs : List PlainCell) (m : ℕ) (d : Stepped) → Q m d.cell
-      → ((j : ℕ) (c : PlainCell) → slice_get cs j ≡ Some c → j ≢ m → Q j (told_to s.traffic d.row.sent j c))
-      → EachCell Q (settled s m d 0 cs)
-  each_after Q cs m d h g j c e =
-      let w = was_some s 0 (at_member s m d j) (slice_get cs j) c (sym (get_after s m d j cs) ∙ e) in
-      subst (Q j) w.2 (each_at Q m d j w.0 h (g j w.0 w.1))
 
   hear_at_sound : (p : Packet) (o : Option ℕ) (c : PlainCell) → SoundRecord c.holds → SoundRecord (hear_at p o c).holds
   hear_at_sound p None c h = h
@@ -111,7 +91,7 @@ module _ (s : Setting) (fit : IsFit s) where
         }
 
     pub good_step : (cs : List PlainCell) (e : Event) (d : Stepped) → Good cs → before end (least_event 0 cs) ≡ Some e → step_at (Some e)
-        ≡ Done d → Good (settled s e.key.member d 0 cs)
+        ≡ Done d → Good (cells_after s e.key.member d 0 cs)
     good_step cs e d good h x =
         let f = step_facts cs e d h x in
         let t = subst (OnEvent RestTidy) f.event (before_on RestTidy end (next_event e.key.member f.cell)
@@ -119,10 +99,10 @@ module _ (s : Setting) (fit : IsFit s) where
         let taken = subst (OnEvent (Taken f.cell)) f.event
         (before_on (Taken f.cell) end (next_event e.key.member f.cell) (next_taken e.key.member f.cell)) in
         record {
-          members = length-settled e.key.member d 0 cs ∙ good.members;
-          tidy = each_after (λ j c. IsTidy c) cs e.key.member d (subst (OnStep (λ d. IsTidy d.cell)) x (tidy_step e t))
+          members = length_after s e.key.member d 0 cs ∙ good.members;
+          tidy = each_after s (λ j c. IsTidy c) cs e.key.member d (subst (OnStep (λ d. IsTidy d.cell)) x (tidy_step e t))
               (λ j c g ne. tidy_told s.traffic d.row.sent j c (good.tidy j c g));
-          sound = each_after (λ j c. SoundRecord c.holds) cs e.key.member
+          sound = each_after s (λ j c. SoundRecord c.holds) cs e.key.member
               d (subst (OnStep (λ d. SoundRecord d.cell.holds)) x
               (sound_step e (rest_sound f.cell e taken (good.sound e.key.member f.cell f.here))))
               (λ j c g ne. told_sound d.row.sent j c (good.sound j c g));
@@ -173,14 +153,14 @@ module _ (s : Setting) (fit : IsFit s) where
     pub above_step : (P : Key → Type 0) (cs : List PlainCell) (e : Event) (d : Stepped) → Good cs → before end (least_event 0 cs) ≡ Some e
         → step_at (Some e) ≡ Done d → ((k : Key) → e.key.time < k.time → P k)
         → Above P e.key.member d.cell → ((j : ℕ) (c : PlainCell) → slice_get cs j ≡ Some c → j ≢ e.key.member → Above P j c)
-        → EachCell (Above P) (settled s e.key.member d 0 cs)
+        → EachCell (Above P) (cells_after s e.key.member d 0 cs)
     above_step P cs e d good h x later mine all =
         let f = step_facts cs e d h x in
-        each_after (Above P) cs e.key.member d mine (λ j c g ne. told_above_by P e.key.time e.key.member d.row.sent later
+        each_after s (Above P) cs e.key.member d mine (λ j c g ne. told_above_by P e.key.time e.key.member d.row.sent later
         (member_below cs e d good h x) f.sender f.sent_at j c (all j c g ne))
 
     pub above_after : (cs : List PlainCell) (e : Event) (d : Stepped) → Good cs → before end (least_event 0 cs) ≡ Some e → step_at (Some e)
-        ≡ Done d → EachCell (Above (NotBefore e.key)) (settled s e.key.member d 0 cs)
+        ≡ Done d → EachCell (Above (NotBefore e.key)) (cells_after s e.key.member d 0 cs)
     above_after cs e d good h x =
         let f = step_facts cs e d h x in
         let all = above_all cs e good h in
@@ -189,7 +169,7 @@ module _ (s : Setting) (fit : IsFit s) where
         let a = subst (OnEvent (IsAbove (NotBefore e.key) m)) f.event
         (before_on (IsAbove (NotBefore e.key) m) end (next_event m f.cell)
         (next_above (NotBefore e.key) m f.cell (all m f.cell f.here))) in
-        each_after (Above (NotBefore e.key)) cs m d
+        each_after s (Above (NotBefore e.key)) cs m d
         (subst (OnStep (λ d. Above (NotBefore e.key) m d.cell)) x
         (step_above (NotBefore e.key) m e.key.time (later_not_before e.key) e refl a.1))
         (λ j c g ne. told_above e.key m d.row.sent lt f.sender f.sent_at j c (all j c g))
@@ -230,29 +210,9 @@ module _ (s : Setting) (fit : IsFit s) where
   unfolding run
   run_seq zero w v h = let e : w ≡ v = cc in ([], subst (λ (u : World). Seq s s.traffic.until w.cells [] u.cells) e rest, refl)
   run_seq (suc n) w v h =
-      let within = le_refl s.traffic.until in
-      let by = sym (run_first s s.traffic.until within n w) ∙ h in
-      elim (before s.traffic.until (least_event 0 w.cells)) as
-      (λ o. before s.traffic.until (least_event 0 w.cells) ≡ o → (rows : List Row) × Seq s s.traffic.until w.cells rows v.cells
-      × (length rows ≡ suc n)) [
-        | None ↦ λ e. let x : Idle ≡ Done v = sym (ap (run_by s s.traffic.until within n) (step_none s s.traffic.until within w e))
-            ∙ by in cc
-        | Some e ↦ λ b. elim (step_at (Some e)) as (λ o. step_at (Some e)
-            ≡ o → (rows : List Row) × Seq s s.traffic.until w.cells rows v.cells × (length rows ≡ suc n)) [
-              | Idle ↦ λ x. absurd (some_not_idle e x)
-              | Full ↦ λ x. let y : Full ≡ Done v = sym (ap (run_by s s.traffic.until within n)
-                  (step_is s s.traffic.until within w e b ∙ ap (after_step s w e.key.member) x
-                  ∙ after_full s s.traffic.until within w e.key.member)) ∙ by in cc
-              | Spent ↦ λ x. let y : Spent ≡ Done v = sym
-                  (ap (run_by s s.traffic.until within n) (step_is s s.traffic.until within w e b ∙ ap (after_step s w e.key.member) x
-                  ∙ after_spent s s.traffic.until within w e.key.member)) ∙ by in cc
-              | Done d ↦ λ x.
-                  let g = run_seq n (record { cells = settled s e.key.member d 0 w.cells; trace = w.trace ++ d.row ∷ [] }) v
-                  (sym (ap (run_by s s.traffic.until within n) (step_is s s.traffic.until within w e b ∙ ap (after_step s w e.key.member) x
-                  ∙ after_stepped s s.traffic.until within w e.key.member d)) ∙ by) in
-                  (d.row ∷ g.0, next b x g.1, ap suc g.2)
-            ] refl
-      ] refl
+      let r = run_begins s n w v h in
+      let g = run_seq n (record { cells = cells_after s r.0.key.member r.1 0 w.cells; trace = w.trace ++ r.1.row ∷ [] }) v r.3 in
+      (r.1.row ∷ g.0, next r.2.least r.2.stepped g.1, ap suc g.2)
 
   opening_tidy : (n i : ℕ) → i + n ≡ s.traffic.members → (j : ℕ) (c : PlainCell) → slice_get (opening_cells s n i) j ≡ Some c → IsTidy c
   unfolding opening_cells

@@ -21,9 +21,9 @@ use Rattle.srm_cell.specs.Cells.{own_step, hear}
 use Rattle.srm_cell.specs.OwnRuns.{told_to}
 use Rattle.srm_cell.proofs.CellSteps.{IsOf, IsStepOf, next_event_of, step_at_of, SentBy, before_some, some_not_idle}
 use Rattle.srm_cell.proofs.Rising.{SentAt}
-use Rattle.srm_engine.specs.World.{World, settled, after_step, least_event, step, run, opening, IsReached, RunMeetsFull}
+use Rattle.srm_engine.specs.World.{World, cells_after, after_step, least_event, step, run, opening, IsReached, RunMeetsFull}
 use Rattle.srm_engine.specs.Schedules.{own_of}
-use Rattle.srm_engine.specs.NextTimes.{sooner, least_time}
+use Rattle.srm_engine.specs.NextTimes.{sooner_time, least_of_times}
 use Rattle.srm_engine.specs.Seen.{AreTimes, heard_below, all_hear}
 use Rattle.srm_engine.specs.Totalled.{MaySend, and_sent}
 use Rattle.srm_engine.proofs.Index.{get_set_same, get_set_other}
@@ -35,6 +35,7 @@ use Rattle.srm_engine.proofs.OneStep.{arrival_is}
 use Rattle.srm_engine.proofs.Sequential.{good_reached, step_facts, get_below}
 use Rattle.srm_engine.proofs.NewPackets.{strict_reached, is_new}
 use Rattle.srm_engine.proofs.LawProofs.{never_spent, run_on}
+use Rattle.srm_net.specs.Limits.{end_of_time}
 
 -- ---- the least event of all has the least of the next times
 
@@ -92,12 +93,12 @@ key_first k l false h lt =
     (l.member ∷ l.rank ∷ l.a ∷ l.b ∷ l.c ∷ []))) e)
 
 -- the next time of one member, and the least of those after it
-one_more : (i : ℕ) (ts : List (Option ℕ)) (x y : Option Event) → IsOf i x → FromOn (suc i) y → least_time (suc i) ts
-    ≡ option_map time_and_member y → least_time i (time_of x ∷ ts) ≡ option_map time_and_member (earlier x y)
+one_more : (i : ℕ) (ts : List (Option ℕ)) (x y : Option Event) → IsOf i x → FromOn (suc i) y → least_of_times (suc i) ts
+    ≡ option_map time_and_member y → least_of_times i (time_of x ∷ ts) ≡ option_map time_and_member (earlier x y)
 one_more i ts None y h g e = e
-one_more i ts (Some d) None h g e = ap (λ o. Some (sooner (d.key.time, i) o)) e ∙ ap (λ m. Some (d.key.time, m)) (sym h)
+one_more i ts (Some d) None h g e = ap (λ o. Some (sooner_time (d.key.time, i) o)) e ∙ ap (λ m. Some (d.key.time, m)) (sym h)
 one_more i ts (Some d) (Some x) h g e =
-    ap (λ o. Some (sooner (d.key.time, i) o)) e ∙ by (nat_le d.key.time x.key.time) refl
+    ap (λ o. Some (sooner_time (d.key.time, i) o)) e ∙ by (nat_le d.key.time x.key.time) refl
   where
     by : (b : Bool) → nat_le d.key.time x.key.time ≡ b → Some
         (cond (nat_le d.key.time x.key.time) (d.key.time, i) (x.key.time, x.key.member))
@@ -112,7 +113,7 @@ one_more i ts (Some d) (Some x) h g e =
         ∙ sym (ap (λ r. Some (time_and_member (by_key r d x))) (key_first d.key x.key false q lt))
 
 least_from_on : (i : ℕ) (ts : List (Option ℕ)) (ps : List PlainCell) → length ts ≡ length ps
-    → ((j : ℕ) (p : PlainCell) → slice_get ps j ≡ Some p → slice_get ts j ≡ Some (time_of (next_event (i + j) p))) → least_time i ts
+    → ((j : ℕ) (p : PlainCell) → slice_get ps j ≡ Some p → slice_get ts j ≡ Some (time_of (next_event (i + j) p))) → least_of_times i ts
     ≡ option_map time_and_member (least_event i ps)
 unfolding least_event
 least_from_on i [] [] len each = refl
@@ -121,14 +122,14 @@ least_from_on i (t ∷ ts) [] len each = absurd (omega arith)
 least_from_on i (t ∷ ts) (p ∷ ps) len each =
     let z : i + 0 ≡ i = omega arith in
     let is : t ≡ time_of (next_event i p) = same_some _ _ (each 0 p refl) ∙ ap (λ k. time_of (next_event k p)) z in
-    ap (λ u. least_time i (u ∷ ts)) is
+    ap (λ u. least_of_times i (u ∷ ts)) is
     ∙ one_more i ts (next_event i p) (least_event (suc i) ps) (next_event_of i p) (least_event_from (suc i) ps)
     (least_from_on (suc i) ts ps (omega arith) (λ j q g. each (suc j) q g ∙ ap (λ k. Some (time_of (next_event k q))) (shift i j)))
   where
     shift : (i j : ℕ) → i + suc j ≡ suc i + j
     shift i j = omega arith
 
-pub least_is_event : (ts : List (Option ℕ)) (ps : List PlainCell) → AreTimes ts ps → least_time 0 ts
+pub least_is_event : (ts : List (Option ℕ)) (ps : List PlainCell) → AreTimes ts ps → least_of_times 0 ts
     ≡ option_map time_and_member (least_event 0 ps)
 least_is_event ts ps h = least_from_on 0 ts ps h.as_many (λ j p g. h.each j p g
     ∙ ap (λ k. Some (time_of (next_event k p))) (sym (zero-add j)))
@@ -150,11 +151,11 @@ module _ (s : Setting) (w : World) (ts : List (Option ℕ)) (times : AreTimes ts
   within : s.traffic.until ≤ s.traffic.until
   within = le_refl s.traffic.until
 
-  pub is_over : None ≡ least_time 0 ts → step s w ≡ Idle
+  pub is_over : None ≡ least_of_times 0 ts → step s w ≡ Idle
   is_over h = let none : least_event 0 w.cells ≡ None = from_pair None (least_event 0 w.cells) (h ∙ least_is_event ts w.cells times) in
       step_none s s.traffic.until within w (ap (before s.traffic.until) none)
 
-  module _ (t m : ℕ) (h : Some (t, m) ≡ least_time 0 ts) where
+  module _ (t m : ℕ) (h : Some (t, m) ≡ least_of_times 0 ts) where
     found : FromPair (Some (t, m)) (least_event 0 w.cells)
     found = from_pair (Some (t, m)) (least_event 0 w.cells) (h ∙ least_is_event ts w.cells times)
 
@@ -205,7 +206,7 @@ unfolding after_step
 after_idle s w m = refl
 
 pub after_done : (s : Setting) (w : World) (m : ℕ) (d : Stepped) → after_step s w m (Done d)
-    ≡ Done (record { cells = settled s m d 0 w.cells; trace = w.trace ++ d.row ∷ [] })
+    ≡ Done (record { cells = cells_after s m d 0 w.cells; trace = w.trace ++ d.row ∷ [] })
 after_done s w m d = after_stepped s s.traffic.until (le_refl s.traffic.until) w m d
 
 -- ---- the cells after a step
@@ -217,7 +218,7 @@ same_list (x ∷ xs) [] h = let e = h 0 in cc
 same_list (x ∷ xs) (y ∷ ys) h = let e : x ≡ y = same_some x y (h 0) in let t = same_list xs ys (λ j. h (suc j)) in λ i. e i ∷ t i
 
 module _ (s : Setting) (m : ℕ) (d : Stepped) (cs : List PlainCell) (lt : m < length cs) where
-  nobody : (j : ℕ) → slice_get (settled s m d 0 cs) j ≡ option_map (at_member s m d j) (slice_get cs j)
+  nobody : (j : ℕ) → slice_get (cells_after s m d 0 cs) j ≡ option_map (at_member s m d j) (slice_get cs j)
   nobody j = get_after s m d j cs
 
   abbrev Placed : ℕ → (PlainCell → PlainCell) → Type 0
@@ -247,7 +248,7 @@ module _ (s : Setting) (m : ℕ) (d : Stepped) (cs : List PlainCell) (lt : m < l
           not_equal false e = e
 
   -- where nothing was sent, one cell is new; where a packet was, every other has heard it
-  pub settled_is : SentBy m d.row.sent → settled s m d 0 cs ≡ all_hear s.traffic d.row.sent (slice_set cs m d.cell)
+  pub settled_is : SentBy m d.row.sent → cells_after s m d 0 cs ≡ all_hear s.traffic d.row.sent (slice_set cs m d.cell)
   settled_is by = by_sent d.row.sent refl by
     where
       told : (o : Option Packet) → d.row.sent ≡ o → (j : ℕ) (c : PlainCell) → told_to s.traffic d.row.sent j c ≡ told_to s.traffic o j c
@@ -260,7 +261,7 @@ module _ (s : Setting) (m : ℕ) (d : Stepped) (cs : List PlainCell) (lt : m < l
           no None h = hears_not s.traffic p m d.cell h
           no (Some at) h = absurd ((arrival_is s p m at h).1 (sym e))
 
-      by_sent : (o : Option Packet) → d.row.sent ≡ o → SentBy m o → settled s m d 0 cs ≡ all_hear s.traffic o (slice_set cs m d.cell)
+      by_sent : (o : Option Packet) → d.row.sent ≡ o → SentBy m o → cells_after s m d 0 cs ≡ all_hear s.traffic o (slice_set cs m d.cell)
       by_sent None e b = same_list _ _ (λ j. nobody j ∙ elim (m == j) as
           (λ t. (m == j) ≡ t → option_map (at_member s m d j) (slice_get cs j) ≡ slice_get (slice_set cs m d.cell) j) [
             | true ↦ λ q. here j (λ c. c) (eqb-true m j q) refl ∙ plain (slice_get (slice_set cs m d.cell) j)
@@ -304,7 +305,8 @@ few_packets (r ∷ rows) = let h = few_packets rows in by r.sent (packets_of row
     by (Some p) ps h = omega arith
 
 module _ (s : Setting) (fit : IsFit s) (w : World) (reached : IsReached s w) (e : Event) (d : Stepped)
-    (least : before s.traffic.until (least_event 0 w.cells) ≡ Some e) (done : step_at (Some e) ≡ Done d) (early : s.traffic.until ≤ 2 ^ 40)
+    (least : before s.traffic.until (least_event 0 w.cells) ≡ Some e) (done : step_at (Some e) ≡ Done d)
+    (early : s.traffic.until ≤ end_of_time)
     (short : length w.trace + 3 < 2 ^ 64) where
   pub may_send : MaySend s.traffic.members (slice_set w.cells e.key.member d.cell) (packets_of w.trace) d.row.sent
   may_send =

@@ -17,11 +17,12 @@ use Rattle.srm_cell.specs.Setting.{HasOwnRanks, IsFit, Setting, arrival_of}
 use Rattle.srm_cell.specs.declared.flight.Flight.{Flight}
 use Rattle.srm_engine.proofs.RunLemmas.{Seq, next, rest, seq_run}
 use Rattle.srm_engine.proofs.ScheduleLemmas.{same_Some}
-use Rattle.srm_engine.proofs.Sequential.{EachCell, Good, StepFacts, above_after, above_all, above_step, each_after, good_opening, good_step}
+use Rattle.srm_engine.proofs.Sequential.{EachCell, Good, StepFacts, above_after, above_all, above_step, good_opening, good_step}
+use Rattle.srm_engine.proofs.Settled.{each_after}
 use Rattle.srm_engine.proofs.Sequential.{run_seq, step_facts}
 use Rattle.srm_engine.proofs.Settled.{at_member, get_after}
 use Rattle.srm_engine.specs.Laws.{KeysRise}
-use Rattle.srm_engine.specs.World.{World, least_event, opening, opening_cells, row_cmp, run, settled}
+use Rattle.srm_engine.specs.World.{World, least_event, opening, opening_cells, row_cmp, run, cells_after}
 use Rattle.srm_member.proofs.AllIn.{AllIn, AllIn-both, AllIn-each, AllIn-place, AllIn-weaker}
 use Rattle.srm_member.proofs.OrderLemmas.{is_Less, key_total, same_numbers}
 use Rattle.srm_member.specs.Record.{timers}
@@ -137,7 +138,7 @@ module _ (s : Setting) (fit : IsFit s) where
     did = subst (OnStep (StepOf e)) x (step_is_of e)
 
     abbrev after : List PlainCell
-    after = settled s m d 0 cs
+    after = cells_after s m d 0 cs
 
     grows : (y : Option Packet) (b a : ℕ) → CountAfter b y a → b ≤ a
     grows None b a c = omega arith
@@ -221,9 +222,9 @@ module _ (s : Setting) (fit : IsFit s) where
         (subst (AllIn (λ (f : Flight). f.packet.id.count < sent_of cs f.packet.id.sender)) (sym did.inbox)
         (all_tail _ _ _ rest_of.inbox fresh)) in
         record {
-          distinct = each_after s fit (λ j c. IsDistinct c) cs m d mine
+          distinct = each_after s (λ j c. IsDistinct c) cs m d mine
               (λ j c g ne. (told_strict d.row.sent refl facts.sender did.count j c (strict.distinct j c g) (strict.fresh j c g)).0);
-          fresh = each_after s fit (λ j c. IsFresh after c) cs m d mine_fresh
+          fresh = each_after s (λ j c. IsFresh after c) cs m d mine_fresh
               (λ j c g ne. (told_strict d.row.sent refl facts.sender did.count j c (strict.distinct j c g) (strict.fresh j c g)).1);
         }
 
@@ -289,7 +290,8 @@ module _ (s : Setting) (fit : IsFit s) where
       let good' = good_step s fit end cs e d good h x in
       let strict' = strict_step end cs e d good strict h x in
       let all = strictly_after end cs e d good strict h x in (
-        seq_after d.row more good' strict' (subst (λ k. EachCell s fit (Above (λ l. key_cmp k l ≡ Less)) (settled s e.key.member d 0 cs))
+        seq_after d.row more good' strict' (subst (λ k. EachCell s fit (Above (λ l. key_cmp k l ≡ Less))
+            (cells_after s e.key.member d 0 cs))
             (sym f.key) all),
         seq_ascends more good' strict',
       )

@@ -13,6 +13,9 @@ use Rattle.srm_member.specs.declared.row.Row.{Row}
 use Rattle.srm_cell.specs.Setting.{Setting}
 use Rattle.srm_cell.specs.Cells.{PlainCell}
 use Rattle.srm_cell.specs.OwnRuns.{MeetsFull}
+use Rattle.srm_ledger.specs.declared.kind.Kind.{Kind}
+use Rattle.srm_ledger.specs.declared.kind.Kind.TheVariants.{Drawop, Request, Repair, Session}
+use Rattle.srm_ledger.specs.Counts.{place_of}
 use Rattle.srm_cell.specs.Crossings.{packets_of, kind_of, crossings_at, crossings, added}
 use Rattle.srm_cell.proofs.CrossingLemmas.{crossings_add}
 use Rattle.srm_cell.specs.Crossings.{joined}
@@ -174,10 +177,10 @@ links_keep : (s : Setting) (qs rs : List Row) → IsPermutation qs rs → (ls : 
     ≡ flat_map (crossings_at s.traffic (packets_of rs)) ls
 links_keep s qs rs h [] = refl
 links_keep s qs rs h (l ∷ ls) =
-    let c = λ (kind : ℕ). count_keeps (λ p. (kind_of p.body == kind) && s.traffic.crosses p l) qs rs h in
+    let c = λ (kind : Kind). count_keeps (λ p. (place_of (kind_of p.body) == place_of kind) && s.traffic.crosses p l) qs rs h in
     let d = count_keeps (λ p. s.traffic.drops_at p l) qs rs h in
     let more = links_keep s qs rs h ls in
-    λ i. c 0 i ∷ c 1 i ∷ c 2 i ∷ c 3 i ∷ d i ∷ more i
+    λ i. c Drawop i ∷ c Request i ∷ c Repair i ∷ c Session i ∷ d i ∷ more i
 
 pub crossings_keep : CrossingsKeep
 unfolding crossings

@@ -18,6 +18,7 @@ use Rattle.srm_engine.specs.World.{World, IsReached, step, opening}
 use Rattle.srm_engine.specs.Openings.{HoldOpeningRecords}
 use Rattle.srm_engine.specs.Seen.{ShowCells, IsNew, all_hear, heard_below}
 use Rattle.srm_engine.specs.Totalled.{and_sent, MaySend}
+use Rattle.srm_net.specs.Limits.{end_of_time}
 
 module _ {X : Type 0} {H : X → Type 0} where
   -- the traffic of an engine's scenario and network
@@ -76,7 +77,7 @@ module _ {X : Type 0} {H : X → Type 0} where
 
   -- a packet may be handed out: members sent it before the latest end of all, and it is new to the cells of all members
   pub record MayDeliver (f : DynBox X Global H → Record) (p : Packet) (e : Engine X H) : Type 0 where
-    pub sent : p.sent < 2 ^ 40
+    pub sent : p.sent < end_of_time
     pub sender : p.id.sender < length e.scenario.now.members
     pub members : length e.cells.cells.items ≡ length e.scenario.now.members
     pub cells : List PlainCell

@@ -1,5 +1,5 @@
 -- The cells of all members, those of each job together.
-use Rattle.std.specs.Prelude.{◌≡◌, ◌+◌, ◌<◌, ◌≤◌, ◌^◌, ℕ, suc, List, [], ◌∷◌, ◌++◌, length, map, slice_get, slice_set}
+use Rattle.std.specs.Prelude.{◌≡◌, ◌+◌, ◌<◌, ◌≤◌, ℕ, suc, List, [], ◌∷◌, ◌++◌, length, map, slice_get, slice_set}
 use Rattle.std.specs.Prelude.{Some}
 use Rattle.std.specs.declared.dyn_box.DynBox.{DynBox}
 use Rattle.std.specs.Global.{Global, Vec}
@@ -18,6 +18,7 @@ use Rattle.srm_engine.specs.Seen.{AreCells, IsNew, heard_below}
 use Rattle.srm_engine.specs.declared.window.Grouped.{Grouped}
 use Rattle.srm_engine.specs.Soonest.{AreSoonest}
 use Rattle.srm_engine.specs.WindowRuns.{PlainJob, AreNewInTurn, each_hears}
+use Rattle.srm_net.specs.Limits.{end_of_time}
 
 -- ---- jobs as crews see them
 
@@ -104,7 +105,7 @@ module _ {X : Type 0} {H : X → Type 0} where
   -- a packet may be handed out: a member sent it before the latest end of all, and it is new to the cells of all
   pub record MayDeliverIn (f : DynBox X Global H → Record) (s : Setting) (cut : ℕ) (p : Packet)
       (e : Grouped X H) : Type 0 where
-    pub sent : p.sent < 2 ^ 40
+    pub sent : p.sent < end_of_time
     pub sender : p.id.sender < s.traffic.members
     pub cells : List PlainCell
     pub many : length cells ≡ s.traffic.members

@@ -5,16 +5,16 @@ use Rattle.srm_engine.specs.declared.next_times.Entry.{Entry}
 
 -- a time and a member, and another pair of these: the one with the lesser time, or the first where the times are the
 -- same
-abbrev pub sooner : (ℕ × ℕ) → Option (ℕ × ℕ) → ℕ × ℕ
-sooner p None = p
-sooner p (Some q) = if nat_le p.0 q.0 then p else q
+abbrev pub sooner_time : (ℕ × ℕ) → Option (ℕ × ℕ) → ℕ × ℕ
+sooner_time p None = p
+sooner_time p (Some q) = if nat_le p.0 q.0 then p else q
 
 -- the least of the next times of member i and of those after it, with the first member that has it. A member may have
 -- none
-abbrev pub least_time : ℕ → List (Option ℕ) → Option (ℕ × ℕ)
-least_time i [] = None
-least_time i (None ∷ ts) = least_time (suc i) ts
-least_time i (Some t ∷ ts) = Some (sooner (t, i) (least_time (suc i) ts))
+abbrev pub least_of_times : ℕ → List (Option ℕ) → Option (ℕ × ℕ)
+least_of_times i [] = None
+least_of_times i (None ∷ ts) = least_of_times (suc i) ts
+least_of_times i (Some t ∷ ts) = Some (sooner_time (t, i) (least_of_times (suc i) ts))
 
 -- whether this is the next time of a member
 abbrev pub is_time : ℕ → Option (Option ℕ) → Bool

@@ -23,16 +23,17 @@ pub record World : Type 0 where
 -- ---- steps
 
 -- the cells of member i and on after member m's step: its own is the new one, and every other hears the packet
-unfoldable pub settled : Setting → ℕ → Stepped → ℕ → List PlainCell → List PlainCell
-settled s m d i [] = []
-settled s m d i (c ∷ cs) = (if i == m then d.cell else told_to s.traffic d.row.sent i c) ∷ settled s m d (suc i) cs
+unfoldable pub cells_after : Setting → ℕ → Stepped → ℕ → List PlainCell → List PlainCell
+cells_after s m d i [] = []
+cells_after s m d i (c ∷ cs) = (if i == m then d.cell else told_to s.traffic d.row.sent i c)
+    ∷ cells_after s m d (suc i) cs
 
 -- the world after member m's step
 unfoldable pub after_step : Setting → World → ℕ → StepOutcome Stepped → StepOutcome World
 after_step s w m Idle = Idle
 after_step s w m Full = Full
 after_step s w m Spent = Spent
-after_step s w m (Done d) = Done (record { cells = settled s m d 0 w.cells; trace = w.trace ++ d.row ∷ [] })
+after_step s w m (Done d) = Done (record { cells = cells_after s m d 0 w.cells; trace = w.trace ++ d.row ∷ [] })
 
 -- the least pending event of the members from i on
 unfoldable pub least_event : ℕ → List PlainCell → Option Event

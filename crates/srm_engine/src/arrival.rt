@@ -1,5 +1,6 @@
 //! When a packet arrives.
-ghost use Rattle.std.specs.Prelude.{◌≡◌, ◌<◌, ◌^◌, length};
+ghost use Rattle.std.specs.Prelude.{◌≡◌, ◌<◌, length};
+ghost use Rattle.srm_net.specs.Limits.{end_of_time};
 ghost use Rattle.srm_net.specs.Spreads.{IsSpread};
 ghost use Rattle.srm_scenario.specs.Plain.{network_of};
 ghost use Rattle.srm_cell.specs.Setting.{traffic_of, arrival_of};
@@ -20,7 +21,7 @@ pub fn arrival(
 ) -> Option<u64>
     requires network { net.now ≡ network_of scenario.now }
     requires spread { IsSpread net.now scenario.now.drops packet.now.id packet.now.sent spread.now }
-    requires sent { packet.now.sent < 2 ^ 40 }
+    requires sent { packet.now.sent < end_of_time }
     requires sender { packet.now.id.sender < length scenario.now.members }
     requires member { member < length scenario.now.members }
     ensures { result ≡ arrival_of (traffic_of scenario.now net.now) packet.now member }
@@ -29,11 +30,9 @@ pub fn arrival(
         return None;
     }
     let at = packet.sent + net.distance(packet.id.sender, member);
-    if at < scenario.join(member) || at >= scenario.until() {
-        return None;
-    }
-    match scenario.leave(member) {
-        Some(end) if at > end => None,
-        _ => Some(at),
+    if scenario.member(member).is_present(scenario.until(), at) {
+        Some(at)
+    } else {
+        None
     }
 }

@@ -1,5 +1,6 @@
 //! The cells of all members.
-ghost use Rattle.std.specs.Prelude.{◌≡◌, ◌<◌, ◌≤◌, ◌^◌, IfOk, IfErr, length, map};
+ghost use Rattle.std.specs.Prelude.{◌≡◌, ◌<◌, ◌≤◌, IfOk, IfErr, length, map};
+ghost use Rattle.srm_net.specs.Limits.{end_of_time};
 ghost use Rattle.srm_engine.specs.Seen.{AreNextTimes, HandsTo, TakesStep, IsNewAt};
 ghost use Rattle.srm_engine.specs.Openings.{MayOpen, Opens, AddsMember};
 ghost use Rattle.srm_engine.specs.Outcomes.{AllEnd, EndAs};
@@ -47,7 +48,7 @@ impl Cells {
         member: u16,
         until: u64,
     ) -> Result<Option<Row>, CellFault>
-        requires until { until ≤ 2 ^ 40 }
+        requires until { until ≤ end_of_time }
         requires place { member < length self.old.cells.items }
         requires time { member < length self.old.times }
         ensures { TakesStep (λ b. plain (b.vtable, b.value)) member until self.old result self.new }

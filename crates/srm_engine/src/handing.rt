@@ -1,5 +1,6 @@
 //! Handing out the packets of a window's rows.
-ghost use Rattle.std.specs.Prelude.{◌≡◌, ◌<◌, ◌≤◌, ◌/◌, ◌^◌, ℕ, Some, IfOk, length};
+ghost use Rattle.std.specs.Prelude.{◌≡◌, ◌<◌, ◌≤◌, ◌/◌, ℕ, Some, IfOk, length};
+ghost use Rattle.srm_net.specs.Limits.{end_of_time};
 ghost use Rattle.srm_scenario.specs.Plain.{network_of};
 ghost use Rattle.srm_cell.specs.Setting.{Setting, setting_of};
 ghost use Rattle.srm_engine.specs.Windows.{way_of};
@@ -83,7 +84,7 @@ pub(crate) fn hear(
     rows: &[Row],
 ) -> Result<(), AllocError>
     requires network { net.now ≡ network_of scenario.now }
-    requires until { scenario.now.until ≤ 2 ^ 40 }
+    requires until { scenario.now.until ≤ end_of_time }
     requires cut { 0 < cut }
     requires may { (seed : ℕ) × MayHear (λ b. (⟦<dyn Member as Member>⟧ b.vtable).plain b.value)
         (setting_of scenario.now net.now seed) cut rows.now cells.old }

@@ -1,6 +1,6 @@
 //! The next times of all members, the least of them at hand.
 ghost use Rattle.std.specs.Prelude.{◌≡◌, ◌<◌, ◌≤◌, ◌*◌, ◌%◌, [], IfOk, length, slice_set};
-ghost use Rattle.srm_engine.specs.NextTimes.{least_time, sooner_entry, IsEntryOf, IsTree, SetsLeaf};
+ghost use Rattle.srm_engine.specs.NextTimes.{least_of_times, sooner_entry, IsEntryOf, IsTree, SetsLeaf};
 
 use std::alloc::{AllocError, Global};
 use std::marker::Model;
@@ -77,7 +77,7 @@ impl NextTimes {
 
     /// The least next time of all, with the first member that has it.
     pub fn least(&self) -> Option<(u64, u16)>
-        ensures { result ≡ least_time 0 self.now }
+        ensures { result ≡ least_of_times 0 self.now }
     {
         let least = self.entries.get(1)?;
         if least.place < NO_TIME {

@@ -1,5 +1,6 @@
 //! Loss recovery, call by call.
 ghost use Rattle.std.specs.Prelude.{◌≢◌, ◌≤◌, All};
+ghost use Rattle.srm_net.specs.Limits.{greatest_distance, greatest_constant};
 ghost use Rattle.srm_net.specs.declared.role.Role.TheVariants.{Listener};
 
 use crate::stories::called::Called;
@@ -28,9 +29,9 @@ fn lead(
     story: &Story,
 ) -> Result<(), AllocError>
     requires active { role ≢ Listener }
-    requires least { c1 ≤ 64000 }
-    requires more { c2 ≤ 64000 }
-    requires distances { All (λ d. d ≤ 1023000000) dist.now }
+    requires least { c1 ≤ greatest_constant }
+    requires more { c2 ≤ greatest_constant }
+    requires distances { All (λ d. d ≤ greatest_distance) dist.now }
 {
     let fixed = Fixed {
         member: story.member,

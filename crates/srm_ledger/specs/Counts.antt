@@ -16,12 +16,12 @@ abbrev pub place_at : ℕ → Kind → ℕ
 place_at l k = 5 * l + place_of k
 
 -- the number of a kind at link l
-abbrev pub number_at : List ℕ → ℕ → Kind → ℕ
-number_at ns l k = slice_index ns (place_at l k)
+abbrev pub counted_at : List ℕ → ℕ → Kind → ℕ
+counted_at ns l k = slice_index ns (place_at l k)
 
 -- one more of a kind at link l
 abbrev pub one_more : List ℕ → ℕ → Kind → List ℕ
-one_more ns l k = slice_set ns (place_at l k) (number_at ns l k + 1)
+one_more ns l k = slice_set ns (place_at l k) (counted_at ns l k + 1)
 
 -- nothing counted at any of n links
 abbrev pub nothing_at : ℕ → List ℕ

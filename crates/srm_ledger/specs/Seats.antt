@@ -5,7 +5,7 @@ use Rattle.atomic_table.specs.Seated.{TableId}
 use Rattle.atomic_table.specs.Table.{Me}
 use Rattle.srm_ledger.specs.declared.kind.Kind.{Kind}
 use Rattle.srm_ledger.specs.declared.rule.Holding.{Holding}
-use Rattle.srm_ledger.specs.Counts.{place_of, number_at}
+use Rattle.srm_ledger.specs.Counts.{place_of, counted_at}
 use Rattle.srm_ledger.specs.Tally.{holding, added, larger, AllSmall}
 
 -- a ledger: its name, and how many links it has
@@ -108,7 +108,7 @@ totals_of s = drop 1 s.shares
 
 -- nothing that the seat read is above the totals
 abbrev pub ReadsAreIn : SeatView → List ℕ → Type 0
-ReadsAreIn s totals = (link : ℕ) (kind : Kind) → seen_there s link kind ≤ number_at totals link kind
+ReadsAreIn s totals = (link : ℕ) (kind : Kind) → seen_there s link kind ≤ counted_at totals link kind
 
 -- ---- what stands in memory
 

@@ -1,7 +1,7 @@
 //! Counts of packets, link by link.
 ghost use Rattle.std.specs.Prelude.{◌≡◌, ◌<◌, ◌+◌, ◌*◌, ◌^◌, List, ℕ, length, drop, IfOk, All};
 ghost use Rattle.std.specs.List.{concat};
-ghost use Rattle.srm_ledger.specs.Counts.{number_at, one_more, nothing_at};
+ghost use Rattle.srm_ledger.specs.Counts.{counted_at, one_more, nothing_at};
 ghost use Rattle.srm_ledger.specs.Seats.{words_of};
 
 use crate::kind::Kind;
@@ -52,7 +52,7 @@ impl Totals {
     /// Counts one more packet of a kind at a link. It does not allocate.
     pub fn count(&mut self, link: u16, kind: Kind)
         requires within { 5 * link + 4 < length self.old }
-        requires room { number_at self.old link kind + 1 < 2 ^ 64 }
+        requires room { counted_at self.old link kind + 1 < 2 ^ 64 }
         ensures { self.new ≡ one_more self.old link kind }
     {
         let word = word_of(usize::from(link), kind);
@@ -62,7 +62,7 @@ impl Totals {
     /// How many packets of a kind were counted at a link. It does not allocate.
     pub fn number(&self, link: u16, kind: Kind) -> u64
         requires { 5 * link + 4 < length self.now }
-        ensures { result ≡ number_at self.now link kind }
+        ensures { result ≡ counted_at self.now link kind }
     {
         self.words[word_of(usize::from(link), kind)]
     }

@@ -17,27 +17,32 @@ use Rattle.srm_member.specs.declared.cause.Cause.TheVariants.{Join, Arrival, Ask
 use Rattle.srm_member.specs.declared.told.Told.{Told}
 use Rattle.srm_member.specs.declared.told.Told.TheVariants.{Entered, Fresh, Fixed, Again, Skip, Rest, Busy, Plan, Hold, Back, Sent}
 use Rattle.srm_member.specs.declared.told.Told.TheVariants.{Heard as Informed}
-use Rattle.srm_member.specs.Record.{Memory, Missing, Repairing, Stream}
+use Rattle.srm_member.specs.Record.{MemberState, Missing, Repairing, Progress}
 use Rattle.srm_net.specs.Roles.{is_late, is_sender, is_listener}
-use Rattle.srm_member.specs.React.{Reaction, quietly, sending, without, has_entry, request_length, repair_length, back_off, wants}
-use Rattle.srm_member.specs.React.{begins_at, with_stream, meet, lose_one, lose_from, names_from, lose_below, lost_below, holding, mending}
-use Rattle.srm_member.specs.React.{got, resting, got_repair, planning, asked_missing_at, asked_missing, asked_held, requested, page_heard}
-use Rattle.srm_member.specs.React.{after_entry, lost_by_entry, informed, hear_body, asking_at, asking, answering_at, answering, own_page}
-use Rattle.srm_member.specs.React.{own_stream, drawn_on, drawing, session_of, is_skip, react_active, listened, listen, react_listener}
+use Rattle.srm_member.specs.React.{Reaction, quietly, send_body, without, has_entry, request_length, repair_length, back_off, wants}
+use Rattle.srm_member.specs.React.{begins_at, with_progress, meet, lose_one, lose_from, names_from, lose_below, lost_below, with_held}
+use Rattle.srm_member.specs.React.{with_mended}
+use Rattle.srm_member.specs.React.{hear_data, with_rest, hear_repair, with_repair_timer, hear_request_by_entry, hear_request_of_missing}
+use Rattle.srm_member.specs.React.{hear_request_of_held, hear_request, page_heard}
+use Rattle.srm_member.specs.React.{after_entry, lost_by_entry, hear_session, hear_body, expire_request_by_entry, expire_request}
+use Rattle.srm_member.specs.React.{expire_repair_by_entry, expire_repair, own_page}
+use Rattle.srm_member.specs.React.{own_progress, with_drawn, draw_operation, session_of, is_skip, react_active, listen_data, listen}
+use Rattle.srm_member.specs.React.{react_listener}
 use Rattle.srm_member.specs.React.{react}
 use Rattle.srm_member.proofs.AllIn.{AllIn, AllIn-append}
 use Rattle.srm_member.proofs.TableChanges.{Has, names_apart, put_here, put_there, has_put, has_more, has_cases, without_less, without_there}
 use Rattle.srm_member.proofs.TableChanges.{sorted_put, sorted_without, has_some, page_here, page_cases}
+use Rattle.srm_net.specs.Limits.{most_drawn}
 
 -- ---- changes that hold nothing new
 
 -- a member has heard of a name: its number is below the next one of its page
-abbrev pub Below : Name → Memory → Type 0
-Below n m = (s : Stream) × (find page_cmp (page_of n) m.streams ≡ Some s) × (n.number < s.next)
+abbrev pub Below : Name → MemberState → Type 0
+Below n m = (s : Progress) × (find page_cmp (page_of n) m.progress ≡ Some s) × (n.number < s.next)
 
--- from one memory to another these names are lost, which it had not heard of; other names that it lacks, and those that
+-- from one state to another these names are lost, which it had not heard of; other names that it lacks, and those that
 -- it holds, are the same, and repair timers are set for names that it holds
-pub record Grows (lost : List Name) (m k : Memory) : Type 0 where
+pub record Grows (lost : List Name) (m k : MemberState) : Type 0 where
   pub fixed : k.fixed ≡ m.fixed
   pub held : k.held ≡ m.held
   pub below : (n : Name) → Below n m → Below n k
@@ -52,7 +57,7 @@ pub record Grows (lost : List Name) (m k : Memory) : Type 0 where
 no_name : {A : Type 0} (n : Name) → Contains [] n → A
 no_name n h = absurd (let l = h.1 in omega arith)
 
-pub grows_same : (m k : Memory) → k.fixed ≡ m.fixed → k.held ≡ m.held → k.streams ≡ m.streams → k.missing ≡ m.missing → k.repairs
+pub grows_same : (m k : MemberState) → k.fixed ≡ m.fixed → k.held ≡ m.held → k.progress ≡ m.progress → k.missing ≡ m.missing → k.repairs
     ≡ m.repairs → Grows [] m k
 grows_same m k f h s l r = record {
   fixed = f;
@@ -67,7 +72,7 @@ grows_same m k f h s l r = record {
   sorted = λ c. subst (λ es. T (is_sorted name_cmp es)) (sym l) c;
 }
 
-pub grows_on : (a b : List Name) (m k l : Memory) → Grows a m k → Grows b k l → Grows (a ++ b) m l
+pub grows_on : (a b : List Name) (m k l : MemberState) → Grows a m k → Grows b k l → Grows (a ++ b) m l
 grows_on a b m k l g h = record {
   fixed = h.fixed ∙ g.fixed;
   held = h.held ∙ g.held;
@@ -85,27 +90,27 @@ grows_on a b m k l g h = record {
 }
 
 -- the same with the names of the first alone
-pub grows_then : (a : List Name) (m k l : Memory) → Grows a m k → Grows [] k l → Grows a m l
+pub grows_then : (a : List Name) (m k l : MemberState) → Grows a m k → Grows [] k l → Grows a m l
 grows_then a m k l g h = subst (λ x. Grows x m l) (append-nil a) (grows_on a [] m k l g h)
 
--- ---- streams
+-- ---- progress
 
 begins_by : (b : Bool) (x : ℕ) → cond b x 0 ≤ x
 begins_by true x = omega arith
 begins_by false x = omega arith
 
-begins_low : (m : Memory) (p : PageId) (x : ℕ) → begins_at m p x ≤ x
+begins_low : (m : MemberState) (p : PageId) (x : ℕ) → begins_at m p x ≤ x
 begins_low m p x = begins_by (is_late m.fixed.role && not (wants m p.page)) x
 
 -- the entry met is that of the page, or begins no later than here
-met : (m : Memory) (p : PageId) (x : ℕ) → (find page_cmp p m.streams ≡ Some (meet m p x))
-    ⊎ ((find page_cmp p m.streams ≡ None) × ((meet m p x).next ≤ x))
-met m p x = elim (find page_cmp p m.streams) as (λ o. find page_cmp p m.streams ≡ o → (find page_cmp p m.streams ≡ Some (meet m p x))
-    ⊎ ((find page_cmp p m.streams ≡ None) × ((meet m p x).next ≤ x))) [
+met : (m : MemberState) (p : PageId) (x : ℕ) → (find page_cmp p m.progress ≡ Some (meet m p x))
+    ⊎ ((find page_cmp p m.progress ≡ None) × ((meet m p x).next ≤ x))
+met m p x = elim (find page_cmp p m.progress) as (λ o. find page_cmp p m.progress ≡ o → (find page_cmp p m.progress ≡ Some (meet m p x))
+    ⊎ ((find page_cmp p m.progress ≡ None) × ((meet m p x).next ≤ x))) [
       | None ↦ λ e.
           let new : meet m p x ≡ record { floor = begins_at m p x; next = begins_at m p x } =
           ap (λ o. unwrap_or o (record { floor = begins_at m p x; next = begins_at m p x })) e in
-          let next : (meet m p x).next ≡ begins_at m p x = ap (λ (s : Stream). s.next) new in
+          let next : (meet m p x).next ≡ begins_at m p x = ap (λ (s : Progress). s.next) new in
           let low = begins_low m p x in
           inr (e, omega arith)
       | Some s ↦ λ e.
@@ -119,22 +124,22 @@ none_some o a e f = let x : None ≡ Some a = sym e ∙ f in cc
 same_some : {A : Type 0} (a b : A) → Some a ≡ Some b → a ≡ b
 same_some a b e = cc
 
--- a stream whose next number is no lower than that of the one met
-below_put : (m : Memory) (p : PageId) (x : ℕ) (s : Stream) → (meet m p x).next ≤ s.next → (n : Name) → Below n m
-    → Below n (with_stream p s m)
-below_put m p x s le n b = elim (page_cases (page_of n) p s m.streams) [
+-- progress whose next number is no lower than that of the page met
+below_put : (m : MemberState) (p : PageId) (x : ℕ) (s : Progress) → (meet m p x).next ≤ s.next → (n : Name) → Below n m
+    → Below n (with_progress p s m)
+below_put m p x s le n b = elim (page_cases (page_of n) p s m.progress) [
   | inl same ↦
       let old : (meet m p x).next ≡ b.0.next = (elim (met m p x) [
-        | inl e ↦ ap (λ (t : Stream). t.next) (same_some _ _ (sym e ∙ ap (λ q. find page_cmp q m.streams) (sym same) ∙ b.1))
-        | inr e ↦ absurd (none_some (find page_cmp p m.streams) b.0 e.0 (ap (λ q. find page_cmp q m.streams) (sym same) ∙ b.1))
+        | inl e ↦ ap (λ (t : Progress). t.next) (same_some _ _ (sym e ∙ ap (λ q. find page_cmp q m.progress) (sym same) ∙ b.1))
+        | inr e ↦ absurd (none_some (find page_cmp p m.progress) b.0 e.0 (ap (λ q. find page_cmp q m.progress) (sym same) ∙ b.1))
       ]) in
       let lt = b.2 in
-      (s, ap (λ q. find page_cmp q (put page_cmp p s m.streams)) same ∙ page_here p s m.streams, omega arith)
+      (s, ap (λ q. find page_cmp q (put page_cmp p s m.progress)) same ∙ page_here p s m.progress, omega arith)
   | inr other ↦ (b.0, other ∙ b.1, b.2)
 ]
 
-grows_stream : (m : Memory) (p : PageId) (x : ℕ) (s : Stream) → (meet m p x).next ≤ s.next → Grows [] m (with_stream p s m)
-grows_stream m p x s le = record {
+grows_progress : (m : MemberState) (p : PageId) (x : ℕ) (s : Progress) → (meet m p x).next ≤ s.next → Grows [] m (with_progress p s m)
+grows_progress m p x s le = record {
   fixed = refl;
   held = refl;
   below = below_put m p x s le;
@@ -147,45 +152,45 @@ grows_stream m p x s le = record {
   sorted = λ c. c;
 }
 
-pub grows_meet : (m : Memory) (p : PageId) (x : ℕ) → Grows [] m (with_stream p (meet m p x) m)
-grows_meet m p x = grows_stream m p x (meet m p x) (omega arith)
+pub grows_meet : (m : MemberState) (p : PageId) (x : ℕ) → Grows [] m (with_progress p (meet m p x) m)
+grows_meet m p x = grows_progress m p x (meet m p x) (omega arith)
 
 -- a number that is not below the next one of the entry met was not heard of
-not_heard : (m : Memory) (n : Name) (x : ℕ) → (meet m (page_of n) x).next ≤ n.number → ¬ Below n m
+not_heard : (m : MemberState) (n : Name) (x : ℕ) → (meet m (page_of n) x).next ≤ n.number → ¬ Below n m
 not_heard m n x le b = elim (met m (page_of n) x) [
   | inl e ↦
-      let same : (meet m (page_of n) x).next ≡ b.0.next = ap (λ (t : Stream). t.next) (same_some _ _ (sym e ∙ b.1)) in
+      let same : (meet m (page_of n) x).next ≡ b.0.next = ap (λ (t : Progress). t.next) (same_some _ _ (sym e ∙ b.1)) in
       let lt = b.2 in
       omega arith
-  | inr e ↦ none_some (find page_cmp (page_of n) m.streams) b.0 e.0 b.1
+  | inr e ↦ none_some (find page_cmp (page_of n) m.progress) b.0 e.0 b.1
 ]
 
 -- ---- losses
 
 -- what is the same after losses
-record SameBut (m k : Memory) : Type 0 where
+record SameBut (m k : MemberState) : Type 0 where
   fixed : k.fixed ≡ m.fixed
   held : k.held ≡ m.held
-  streams : k.streams ≡ m.streams
+  progress : k.progress ≡ m.progress
   repairs : k.repairs ≡ m.repairs
   still : (n : Name) → Has n m.missing → Has n k.missing
   sorted : T (is_sorted name_cmp m.missing) → T (is_sorted name_cmp k.missing)
 
-same_but : (at : ℕ) (p : PageId) (count first : ℕ) (m : Memory) → SameBut m (lose_from at p count first m)
+same_but : (at : ℕ) (p : PageId) (count first : ℕ) (m : MemberState) → SameBut m (lose_from at p count first m)
 unfolding lose_from
-same_but at p zero first m = record { fixed = refl; held = refl; streams = refl; repairs = refl; still = λ n h. h; sorted = λ h. h }
+same_but at p zero first m = record { fixed = refl; held = refl; progress = refl; repairs = refl; still = λ n h. h; sorted = λ h. h }
 same_but at p (suc count) first m =
     let r = same_but at p count (suc first) (lose_one at (name_in p first) m) in
     record {
       fixed = r.fixed;
       held = r.held;
-      streams = r.streams;
+      progress = r.progress;
       repairs = r.repairs;
       still = λ n h. r.still n (has_more n (name_in p first) _ m.missing h);
       sorted = λ h. r.sorted (sorted_put (name_in p first) _ m.missing h);
     }
 
-lost_missing : (at : ℕ) (p : PageId) (count first : ℕ) (m : Memory) (n : Name) → Contains (names_from p count first) n
+lost_missing : (at : ℕ) (p : PageId) (count first : ℕ) (m : MemberState) (n : Name) → Contains (names_from p count first) n
     → Has n (lose_from at p count first m).missing
 unfolding lose_from
 lost_missing at p zero first m n c = no_name n c
@@ -199,7 +204,7 @@ lost_missing at p (suc count) first m n c = elim (Contains-append_cases (name_in
     one (zero, l, e) = e
     one (suc k, l, e) = absurd (let g : suc k < 1 = l in omega arith)
 
-missing_lost : (at : ℕ) (p : PageId) (count first : ℕ) (m : Memory) (n : Name) → Has n (lose_from at p count first m).missing
+missing_lost : (at : ℕ) (p : PageId) (count first : ℕ) (m : MemberState) (n : Name) → Has n (lose_from at p count first m).missing
     → Has n m.missing ⊎ Contains (names_from p count first) n
 unfolding lose_from
 missing_lost at p zero first m n h = inl h
@@ -221,12 +226,12 @@ from_page p (suc count) first n (suc k, l, e) =
     let b = r.2 in
     (r.0, omega arith, omega arith)
 
-grows_lose : (at : ℕ) (p : PageId) (x end next : ℕ) (m : Memory) → end ≤ next → (meet m p x).next ≤ next
+grows_lose : (at : ℕ) (p : PageId) (x end next : ℕ) (m : MemberState) → end ≤ next → (meet m p x).next ≤ next
     → Grows (lost_below p end (meet m p x)) m (lose_below at p end next (meet m p x) m)
 unfolding lose_below
 grows_lose at p x end next m low high =
     let s = meet m p x in
-    let t : Stream = record { floor = s.floor; next = next } in
+    let t : Progress = record { floor = s.floor; next = next } in
     let count = end - s.next in
     let k = lose_from at p count s.next m in
     let same = same_but at p count s.next m in
@@ -234,14 +239,14 @@ grows_lose at p x end next m low high =
       fixed = same.fixed;
       held = same.held;
       below = λ n b. (let r = below_put m p x t high n b in
-          (r.0, ap (λ es. find page_cmp (page_of n) (put page_cmp p t es)) same.streams ∙ r.1, r.2));
+          (r.0, ap (λ es. find page_cmp (page_of n) (put page_cmp p t es)) same.progress ∙ r.1, r.2));
       new = λ n c. (let f = from_page p count s.next n c in
           let le : (meet m (page_of n) x).next ≤ n.number = subst (λ q. (meet m q x).next ≤ n.number) (sym f.0) f.1 in
           not_heard m n x le);
       heard = λ n c. (let f = from_page p count s.next n c in
           let a = f.1 in
           let b = f.2 in
-          (t, ap (λ q. find page_cmp q (put page_cmp p t k.streams)) f.0 ∙ page_here p t k.streams, omega arith));
+          (t, ap (λ q. find page_cmp q (put page_cmp p t k.progress)) f.0 ∙ page_here p t k.progress, omega arith));
       lacks = λ n h. missing_lost at p count s.next m n h;
       still = same.still;
       lacking = λ n c. lost_missing at p count s.next m n c;
@@ -251,7 +256,7 @@ grows_lose at p x end next m low high =
 
 -- ---- timers
 
-grows_back_off : (at : ℕ) (n : Name) (e : Missing) (m : Memory) → Has n m.missing → Grows [] m (back_off at n e m)
+grows_back_off : (at : ℕ) (n : Name) (e : Missing) (m : MemberState) → Has n m.missing → Grows [] m (back_off at n e m)
 grows_back_off at n e m h = record {
   fixed = refl;
   held = refl;
@@ -265,7 +270,7 @@ grows_back_off at n e m h = record {
   sorted = λ g. sorted_put n _ m.missing g;
 }
 
-grows_planning : (at : ℕ) (n : Name) (who : ℕ) (m : Memory) → Has n m.held → Grows [] m (planning at n who m)
+grows_planning : (at : ℕ) (n : Name) (who : ℕ) (m : MemberState) → Has n m.held → Grows [] m (with_repair_timer at n who m)
 grows_planning at n who m h = record {
   fixed = refl;
   held = refl;
@@ -279,7 +284,7 @@ grows_planning at n who m h = record {
   sorted = λ g. g;
 }
 
-grows_resting : (at : ℕ) (n : Name) (who : ℕ) (m : Memory) → Grows [] m (resting at n who m)
+grows_resting : (at : ℕ) (n : Name) (who : ℕ) (m : MemberState) → Grows [] m (with_rest at n who m)
 grows_resting at n who m = record {
   fixed = refl;
   held = refl;
@@ -297,7 +302,7 @@ grows_resting at n who m = record {
 
 -- the body, if any, is a session, a request for a name that was missing, or a repair of one with a repair timer, with
 -- its ink
-abbrev pub Allowed : Memory → Option Body → Type 0
+abbrev pub Allowed : MemberState → Option Body → Type 0
 Allowed m None = Unit {0}
 Allowed m (Some (Drawop n ink)) = ⊥
 Allowed m (Some (Request n)) = Has n m.missing
@@ -305,8 +310,8 @@ Allowed m (Some (Repair n ink)) = Has n m.repairs × (ink ≡ unwrap_or (find na
 Allowed m (Some (Session hs)) = Unit {0}
 
 -- nothing new is held
-pub record Quiet (m : Memory) (r : Reaction) : Type 0 where
-  pub grows : Grows r.answer.lost m r.memory
+pub record Quiet (m : MemberState) (r : Reaction) : Type 0 where
+  pub grows : Grows r.answer.lost m r.state
   pub not_fresh : r.answer.told ≢ Fresh
   pub not_fixed : r.answer.told ≢ Fixed
   pub body : Allowed m r.answer.body
@@ -316,51 +321,51 @@ abbrev pub Brings : Body → Name → ℕ → Type 0
 Brings b n ink = (b ≡ Drawop n ink) ⊎ (b ≡ Repair n ink)
 
 -- a name is new, or was missing and is so no more
-abbrev pub Mends : Memory → Reaction → Name → Memory → Type 0
+abbrev pub Mends : MemberState → Reaction → Name → MemberState → Type 0
 Mends m r n mid =
-    ((r.answer.told ≡ Fresh) × (r.memory.missing ≡ mid.missing))
-    ⊎ ((r.answer.told ≡ Fixed) × Has n m.missing × (r.memory.missing ≡ without n mid.missing))
+    ((r.answer.told ≡ Fresh) × (r.state.missing ≡ mid.missing))
+    ⊎ ((r.answer.told ≡ Fixed) × Has n m.missing × (r.state.missing ≡ without n mid.missing))
 
 -- a name that a packet brought is held
-pub record Brought (m : Memory) (b : Body) (r : Reaction) : Type 0 where
+pub record Brought (m : MemberState) (b : Body) (r : Reaction) : Type 0 where
   pub name : Name
   pub ink : ℕ
   pub brings : Brings b name ink
-  pub mid : Memory
+  pub mid : MemberState
   pub grows : Grows r.answer.lost m mid
-  pub fixed : r.memory.fixed ≡ mid.fixed
-  pub held : r.memory.held ≡ put name_cmp name ink mid.held
+  pub fixed : r.state.fixed ≡ mid.fixed
+  pub held : r.state.held ≡ put name_cmp name ink mid.held
   pub mends : Mends m r name mid
-  pub below : (k : Name) → Below k mid → Below k r.memory
-  pub plans : (k : Name) → Has k r.memory.repairs → Has k mid.repairs
+  pub below : (k : Name) → Below k mid → Below k r.state
+  pub plans : (k : Name) → Has k r.state.repairs → Has k mid.repairs
   pub body : r.answer.body ≡ None
 
 -- a name is drawn, and held
-pub record Drawn (m : Memory) (r : Reaction) : Type 0 where
+pub record Drawn (m : MemberState) (r : Reaction) : Type 0 where
   pub name : Name
   pub ink : ℕ
   pub source : name.source ≡ m.fixed.member
-  pub fixed : r.memory.fixed ≡ m.fixed
-  pub held : r.memory.held ≡ put name_cmp name ink m.held
-  pub missing : r.memory.missing ≡ m.missing
-  pub repairs : r.memory.repairs ≡ m.repairs
+  pub fixed : r.state.fixed ≡ m.fixed
+  pub held : r.state.held ≡ put name_cmp name ink m.held
+  pub missing : r.state.missing ≡ m.missing
+  pub repairs : r.state.repairs ≡ m.repairs
   pub new : ¬ Below name m
-  pub heard : Below name r.memory
-  pub below : (k : Name) → Below k m → Below k r.memory
+  pub heard : Below name r.state
+  pub below : (k : Name) → Below k m → Below k r.state
   pub told : r.answer.told ≡ Sent
   pub lost : r.answer.lost ≡ []
   pub body : r.answer.body ≡ Some (Drawop name ink)
 
-abbrev pub BroughtBy : Memory → Cause → Reaction → Type 0
+abbrev pub BroughtBy : MemberState → Cause → Reaction → Type 0
 BroughtBy m (Arrival p) r = Brought m p.body r
 BroughtBy m _ r = ⊥
 
-abbrev pub DrawnBy : Memory → Cause → Reaction → Type 0
+abbrev pub DrawnBy : MemberState → Cause → Reaction → Type 0
 DrawnBy m (Draw page ink) r = Drawn m r
 DrawnBy m _ r = ⊥
 
 -- what the answer to a cause changes
-abbrev pub Effect : Memory → Cause → Reaction → Type 0
+abbrev pub Effect : MemberState → Cause → Reaction → Type 0
 Effect m cause r = Quiet m r ⊎ (BroughtBy m cause r ⊎ DrawnBy m cause r)
 
 -- ---- tests
@@ -371,14 +376,14 @@ if_either Q false x y h g = g refl
 
 -- ---- packets with an operation
 
-abbrev Got : Memory → Body → Reaction → Type 0
+abbrev Got : MemberState → Body → Reaction → Type 0
 Got m b r = Quiet m r ⊎ Brought m b r
 
 le_of : (a b : ℕ) → nat_le a b ≡ true → a ≤ b
 le_of a b h = Rattle.std.proofs.Common.leb-true a b h
 
-got_effect : (b : Body) (at : ℕ) (n : Name) (ink : ℕ) (m : Memory) → Brings b n ink → Got m b (got at n ink m)
-unfolding got
+got_effect : (b : Body) (at : ℕ) (n : Name) (ink : ℕ) (m : MemberState) → Brings b n ink → Got m b (hear_data at n ink m)
+unfolding hear_data
 got_effect b at n ink m brings =
     let s = meet m (page_of n) n.number in
     if_either (Got m b) (nat_lt n.number s.floor) _ _
@@ -403,7 +408,7 @@ got_effect b at n ink m brings =
       name = n;
       ink = ink;
       brings = brings;
-      mid = with_stream (page_of n) s m;
+      mid = with_progress (page_of n) s m;
       grows = grows_meet m (page_of n) n.number;
       fixed = refl;
       held = refl;
@@ -414,10 +419,10 @@ got_effect b at n ink m brings =
     }))
     (λ has. inl (record { grows = grows_meet m (page_of n) n.number; not_fresh = λ e. cc; not_fixed = λ e. cc; body = tt }))))
 
-rested : (m : Memory) (b : Body) (at : ℕ) (n : Name) (who : ℕ) (r : Reaction) → Got m b r
-    → Got m b (record r { memory = resting at n who r.memory })
+rested : (m : MemberState) (b : Body) (at : ℕ) (n : Name) (who : ℕ) (r : Reaction) → Got m b r
+    → Got m b (record r { state = with_rest at n who r.state })
 rested m b at n who r (inl q) = inl (record {
-  grows = grows_then r.answer.lost m r.memory (resting at n who r.memory) q.grows (grows_resting at n who r.memory);
+  grows = grows_then r.answer.lost m r.state (with_rest at n who r.state) q.grows (grows_resting at n who r.state);
   not_fresh = q.not_fresh;
   not_fixed = q.not_fixed;
   body = q.body;
@@ -432,20 +437,21 @@ rested m b at n who r (inr q) = inr (record {
   held = q.held;
   mends = q.mends;
   below = q.below;
-  plans = λ k h. q.plans k (without_less k n r.memory.repairs h).1;
+  plans = λ k h. q.plans k (without_less k n r.state.repairs h).1;
   body = q.body;
 })
 
-repair_effect : (b : Body) (at : ℕ) (n : Name) (ink who : ℕ) (m : Memory) → Brings b n ink → Got m b (got_repair at n ink who m)
+repair_effect : (b : Body) (at : ℕ) (n : Name) (ink who : ℕ) (m : MemberState) → Brings b n ink → Got m b (hear_repair at n ink who m)
 repair_effect b at n ink who m brings =
-    let r = got at n ink m in
-    if_either (Got m b) (is_skip r.answer.told) r (record r { memory = resting at n who r.memory }) (λ skip. got_effect b at n ink m brings)
+    let r = hear_data at n ink m in
+    if_either (Got m b) (is_skip r.answer.told) r (record r { state = with_rest at n who r.state }) (λ skip. got_effect b at n ink m brings)
     (λ goes. rested m b at n who r (got_effect b at n ink m brings))
 
 -- ---- requests
 
-asked_effect : (at : ℕ) (n : Name) (lost : List Name) (m k : Memory) (o : Option Missing) → find name_cmp n k.missing ≡ o → Grows lost m k
-    → Quiet m (asked_missing_at at n lost k o)
+asked_effect : (at : ℕ) (n : Name) (lost : List Name) (m k : MemberState) (o : Option Missing) → find name_cmp n k.missing ≡ o
+    → Grows lost m k
+    → Quiet m (hear_request_by_entry at n lost k o)
 asked_effect at n lost m k None e g = record { grows = g; not_fresh = λ e. cc; not_fixed = λ e. cc; body = tt }
 asked_effect at n lost m k (Some x) e g = if_either (Quiet m) (nat_lt at x.ignore) _ _
     (λ early. record { grows = g; not_fresh = λ e. cc; not_fixed = λ e. cc; body = tt })
@@ -457,14 +463,14 @@ asked_effect at n lost m k (Some x) e g = if_either (Quiet m) (nat_lt at x.ignor
       body = tt;
     })
 
-held_effect : (at : ℕ) (n : Name) (who : ℕ) (m k : Memory) → Has n k.held → Grows [] m k → Quiet m (asked_held at n who k)
+held_effect : (at : ℕ) (n : Name) (who : ℕ) (m k : MemberState) → Has n k.held → Grows [] m k → Quiet m (hear_request_of_held at n who k)
 held_effect at n who m k h g =
     if_either (Quiet m) (nat_lt at (unwrap_or (find name_cmp n k.rests) 0)) _ _
     (λ rests. record { grows = g; not_fresh = λ e. cc; not_fixed = λ e. cc; body = tt })
     (λ goes. if_either (Quiet m) (has_entry n k.repairs) _ _
     (λ busy. record { grows = g; not_fresh = λ e. cc; not_fixed = λ e. cc; body = tt })
     (λ plans. record {
-      grows = grows_then [] m k (planning at n who k) g (grows_planning at n who k h);
+      grows = grows_then [] m k (with_repair_timer at n who k) g (grows_planning at n who k h);
       not_fresh = λ e. cc;
       not_fixed =
           λ e. cc;
@@ -472,15 +478,15 @@ held_effect at n who m k h g =
     }))
 
 -- the entry of a page that was met is met again
-met_again : (m : Memory) (p : PageId) (x : ℕ) → meet (with_stream p (meet m p x) m) p x ≡ meet m p x
-met_again m p x = ap (λ o. unwrap_or o (record { floor = begins_at m p x; next = begins_at m p x })) (page_here p (meet m p x) m.streams)
+met_again : (m : MemberState) (p : PageId) (x : ℕ) → meet (with_progress p (meet m p x) m) p x ≡ meet m p x
+met_again m p x = ap (λ o. unwrap_or o (record { floor = begins_at m p x; next = begins_at m p x })) (page_here p (meet m p x) m.progress)
 
-request_effect : (at : ℕ) (n : Name) (who : ℕ) (m : Memory) → Quiet m (requested at n who m)
-unfolding requested
+request_effect : (at : ℕ) (n : Name) (who : ℕ) (m : MemberState) → Quiet m (hear_request at n who m)
+unfolding hear_request
 request_effect at n who m =
     let p = page_of n in
     let s = meet m p (n.number + 1) in
-    let k = with_stream p s m in
+    let k = with_progress p s m in
     let g = grows_meet m p (n.number + 1) in
     let lose = lose_below at p (n.number + 1) (n.number + 1) s k in
     if_either (Quiet m) (nat_lt n.number s.floor) _ _
@@ -492,7 +498,7 @@ request_effect at n who m =
     let le = le_of s.next n.number new in
     let again = met_again m p (n.number + 1) in
     let low : (meet k p (n.number + 1)).next ≤ n.number + 1 =
-    (let e : (meet k p (n.number + 1)).next ≡ s.next = ap (λ (t : Stream). t.next) again in omega arith) in
+    (let e : (meet k p (n.number + 1)).next ≡ s.next = ap (λ (t : Progress). t.next) again in omega arith) in
     let l : Grows (lost_below p (n.number + 1) s) k lose =
     subst (λ t. Grows (lost_below p (n.number + 1) t) k (lose_below at p (n.number + 1) (n.number + 1) t k)) again
     (grows_lose at p (n.number + 1) (n.number + 1) (n.number + 1) k (omega arith) low) in
@@ -502,10 +508,10 @@ request_effect at n who m =
 
 -- ---- sessions
 
-none_below : (p : PageId) (end : ℕ) (s : Stream) → end ≤ s.next → lost_below p end s ≡ []
+none_below : (p : PageId) (end : ℕ) (s : Progress) → end ≤ s.next → lost_below p end s ≡ []
 none_below p end s le = let none : end - s.next ≡ 0 = omega arith in ap (λ c. names_from p c s.next) none
 
-entry_effect : (at : ℕ) (h : Heard) (m : Memory) → Grows (lost_by_entry h m) m (after_entry at h m)
+entry_effect : (at : ℕ) (h : Heard) (m : MemberState) → Grows (lost_by_entry h m) m (after_entry at h m)
 unfolding after_entry
 entry_effect at h m =
     let p = page_heard h in
@@ -515,21 +521,21 @@ entry_effect at h m =
     (omega arith))
     (λ old.
     let none : lost_below p (h.highest + 1) s ≡ [] = none_below p (h.highest + 1) s (high_of s.next h.highest old) in
-    subst (λ l. Grows l m (with_stream p s m)) (sym none) (grows_meet m p (h.highest + 1)))
+    subst (λ l. Grows l m (with_progress p s m)) (sym none) (grows_meet m p (h.highest + 1)))
   where
     high_of : (a b : ℕ) → nat_le a b ≡ false → b + 1 ≤ a
     high_of a b h = let g = Rattle.std.proofs.Common.leb-false a b h in omega arith
 
-informed_effect : (at : ℕ) (hs : List Heard) (m k : Memory) (lost : List Name) → Grows lost m k → Quiet m (informed at hs k lost)
-unfolding informed
+informed_effect : (at : ℕ) (hs : List Heard) (m k : MemberState) (lost : List Name) → Grows lost m k → Quiet m (hear_session at hs k lost)
+unfolding hear_session
 informed_effect at [] m k lost g = record { grows = g; not_fresh = λ e. cc; not_fixed = λ e. cc; body = tt }
 informed_effect at (h ∷ hs) m k lost g = informed_effect at hs m (after_entry at h k) _
     (grows_on lost (lost_by_entry h k) m k (after_entry at h k) g (entry_effect at h k))
 
-nothing : (m : Memory) → Grows [] m m
+nothing : (m : MemberState) → Grows [] m m
 nothing m = grows_same m m refl refl refl refl refl
 
-hear_effect : (at who : ℕ) (b : Body) (m : Memory) → Got m b (hear_body at who b m)
+hear_effect : (at who : ℕ) (b : Body) (m : MemberState) → Got m b (hear_body at who b m)
 hear_effect at who (Drawop n ink) m = got_effect (Drawop n ink) at n ink m (inl refl)
 hear_effect at who (Repair n ink) m = repair_effect (Repair n ink) at n ink who m (inr refl)
 hear_effect at who (Request n) m = inl (request_effect at n who m)
@@ -537,10 +543,11 @@ hear_effect at who (Session hs) m = inl (informed_effect at hs m m [] (nothing m
 
 -- ---- own timers and draws
 
-skips : (m : Memory) (told : Told) → told ≢ Fresh → told ≢ Fixed → Quiet m (quietly m told [])
+skips : (m : MemberState) (told : Told) → told ≢ Fresh → told ≢ Fixed → Quiet m (quietly m told [])
 skips m told a b = record { grows = nothing m; not_fresh = a; not_fixed = b; body = tt }
 
-asking_effect : (at : ℕ) (n : Name) (m : Memory) (o : Option Missing) → find name_cmp n m.missing ≡ o → Quiet m (asking_at at n m o)
+asking_effect : (at : ℕ) (n : Name) (m : MemberState) (o : Option Missing) → find name_cmp n m.missing ≡ o
+    → Quiet m (expire_request_by_entry at n m o)
 asking_effect at n m None e = skips m Skip (λ e. cc) (λ e. cc)
 asking_effect at n m (Some x) e = record {
   grows = grows_back_off at n x m (ap is_some e);
@@ -550,7 +557,8 @@ asking_effect at n m (Some x) e = record {
       ap is_some e;
 }
 
-answering_effect : (at : ℕ) (n : Name) (m : Memory) (o : Option Repairing) → find name_cmp n m.repairs ≡ o → Quiet m (answering_at at n m o)
+answering_effect : (at : ℕ) (n : Name) (m : MemberState) (o : Option Repairing) → find name_cmp n m.repairs ≡ o
+    → Quiet m (expire_repair_by_entry at n m o)
 answering_effect at n m None e = skips m Skip (λ e. cc) (λ e. cc)
 answering_effect at n m (Some x) e = record {
   grows = grows_resting at n m.fixed.member m;
@@ -561,21 +569,23 @@ answering_effect at n m (Some x) e = record {
 }
 
 -- the entry of an own page, which begins at 0
-own_met : (m : Memory) (p : PageId) → (find page_cmp p m.streams ≡ Some (own_stream m p)) ⊎ (find page_cmp p m.streams ≡ None)
-own_met m p = elim (find page_cmp p m.streams) as (λ o. find page_cmp p m.streams ≡ o → (find page_cmp p m.streams ≡ Some (own_stream m p))
-    ⊎ (find page_cmp p m.streams ≡ None)) [
+own_met : (m : MemberState) (p : PageId) → (find page_cmp p m.progress ≡ Some (own_progress m p)) ⊎ (find page_cmp p m.progress ≡ None)
+own_met m p = elim (find page_cmp p m.progress) as (λ o. find page_cmp p m.progress ≡ o
+    → (find page_cmp p m.progress ≡ Some (own_progress m p))
+    ⊎ (find page_cmp p m.progress ≡ None)) [
       | None ↦ λ e. inr e
       | Some s ↦ λ e. inl (e ∙ ap Some (sym (ap (λ o. unwrap_or o (record { floor = 0; next = 0 })) e)))
     ] refl
 
-drawing_effect : (at page ink : ℕ) (m : Memory) → Quiet m (drawing page ink m) ⊎ Drawn m (drawing page ink m)
-unfolding drawing
+drawing_effect : (at page ink : ℕ) (m : MemberState) → Quiet m (draw_operation page ink m) ⊎ Drawn m (draw_operation page ink m)
+unfolding draw_operation
 drawing_effect at page ink m =
     let p = own_page m page in
-    let s = own_stream m p in
-    let t : Stream = record { floor = s.floor; next = s.next + 1 } in
+    let s = own_progress m p in
+    let t : Progress = record { floor = s.floor; next = s.next + 1 } in
     let n = name_in p s.next in
-    if_either (λ r. Quiet m r ⊎ Drawn m r) (is_sender m.fixed.role && nat_lt s.next 4096) (sending (drawn_on p ink s m) (Drawop n ink))
+    if_either (λ r. Quiet m r ⊎ Drawn m r) (is_sender m.fixed.role && nat_lt s.next most_drawn)
+    (send_body (with_drawn p ink s m) (Drawop n ink))
     (quietly m Skip [])
     (λ goes. inr (record {
       name = n;
@@ -587,20 +597,20 @@ drawing_effect at page ink m =
       repairs = refl;
       new = λ b. elim (own_met m p) [
         | inl e ↦
-            let same : s.next ≡ b.0.next = ap (λ (u : Stream). u.next) (same_some _ _ (sym e ∙ b.1)) in
+            let same : s.next ≡ b.0.next = ap (λ (u : Progress). u.next) (same_some _ _ (sym e ∙ b.1)) in
             let lt : s.next < b.0.next = b.2 in
             omega arith
-        | inr e ↦ none_some (find page_cmp p m.streams) b.0 e b.1
+        | inr e ↦ none_some (find page_cmp p m.progress) b.0 e b.1
       ];
-      heard = (t, page_here p t m.streams, (let lt : s.next < s.next + 1 = omega arith in lt));
-      below = λ k b. elim (page_cases (page_of k) p t m.streams) [
+      heard = (t, page_here p t m.progress, (let lt : s.next < s.next + 1 = omega arith in lt));
+      below = λ k b. elim (page_cases (page_of k) p t m.progress) [
         | inl same ↦
             let old : s.next ≡ b.0.next = (elim (own_met m p) [
-              | inl e ↦ ap (λ (u : Stream). u.next) (same_some _ _ (sym e ∙ ap (λ q. find page_cmp q m.streams) (sym same) ∙ b.1))
-              | inr e ↦ absurd (none_some (find page_cmp p m.streams) b.0 e (ap (λ q. find page_cmp q m.streams) (sym same) ∙ b.1))
+              | inl e ↦ ap (λ (u : Progress). u.next) (same_some _ _ (sym e ∙ ap (λ q. find page_cmp q m.progress) (sym same) ∙ b.1))
+              | inr e ↦ absurd (none_some (find page_cmp p m.progress) b.0 e (ap (λ q. find page_cmp q m.progress) (sym same) ∙ b.1))
             ]) in
             let lt = b.2 in
-            (t, ap (λ q. find page_cmp q (put page_cmp p t m.streams)) same ∙ page_here p t m.streams, omega arith)
+            (t, ap (λ q. find page_cmp q (put page_cmp p t m.progress)) same ∙ page_here p t m.progress, omega arith)
         | inr other ↦ (b.0, other ∙ b.1, b.2)
       ];
       told = refl;
@@ -609,8 +619,8 @@ drawing_effect at page ink m =
     }))
     (λ stays. inl (skips m Skip (λ e. cc) (λ e. cc)))
 
-active_effect : (m : Memory) (at : ℕ) (cause : Cause) → Effect m cause (react_active m at cause)
-unfolding asking answering
+active_effect : (m : MemberState) (at : ℕ) (cause : Cause) → Effect m cause (react_active m at cause)
+unfolding expire_request expire_repair
 active_effect m at Join = inl (skips m Entered (λ e. cc) (λ e. cc))
 active_effect m at (Arrival p) = by_got (hear_effect at p.id.sender p.body m)
   where
@@ -624,9 +634,9 @@ active_effect m at Report = inl (record { grows = nothing m; not_fresh = λ e. c
 
 -- ---- listeners
 
-listened_effect : (b : Body) (n : Name) (ink : ℕ) (m : Memory) → Brings b n ink → Got m b (listened n ink m)
+listened_effect : (b : Body) (n : Name) (ink : ℕ) (m : MemberState) → Brings b n ink → Got m b (listen_data n ink m)
 listened_effect b n ink m brings = if_either (λ r. Quiet m r ⊎ Brought m b r) (has_entry n m.held) (quietly m Again [])
-    (quietly (holding n ink m) Fresh [])
+    (quietly (with_held n ink m) Fresh [])
     (λ has. inl (skips m Again (λ e. cc) (λ e. cc)))
     (λ lacks. inr (record {
       name = n;
@@ -642,13 +652,13 @@ listened_effect b n ink m brings = if_either (λ r. Quiet m r ⊎ Brought m b r)
       body = refl;
     }))
 
-listen_effect : (b : Body) (m : Memory) → Got m b (listen b m)
+listen_effect : (b : Body) (m : MemberState) → Got m b (listen b m)
 listen_effect (Drawop n ink) m = listened_effect (Drawop n ink) n ink m (inl refl)
 listen_effect (Repair n ink) m = listened_effect (Repair n ink) n ink m (inr refl)
 listen_effect (Request n) m = inl (skips m Skip (λ e. cc) (λ e. cc))
 listen_effect (Session hs) m = inl (skips m Skip (λ e. cc) (λ e. cc))
 
-listener_effect : (m : Memory) (cause : Cause) → Effect m cause (react_listener m cause)
+listener_effect : (m : MemberState) (cause : Cause) → Effect m cause (react_listener m cause)
 listener_effect m Join = inl (skips m Entered (λ e. cc) (λ e. cc))
 listener_effect m (Arrival p) = by_got (listen_effect p.body m)
   where
@@ -661,7 +671,7 @@ listener_effect m (Draw page ink) = inl (skips m Skip (λ e. cc) (λ e. cc))
 listener_effect m Report = inl (skips m Skip (λ e. cc) (λ e. cc))
 
 -- what an event changes of the names that a member holds and lacks
-pub effect : (m : Memory) (at : ℕ) (cause : Cause) → Effect m cause (react m at cause)
+pub effect : (m : MemberState) (at : ℕ) (cause : Cause) → Effect m cause (react m at cause)
 unfolding react
 effect m at cause = if_either (Effect m cause) (is_listener m.fixed.role) (react_listener m cause) (react_active m at cause)
     (λ l. listener_effect m cause) (λ l. active_effect m at cause)

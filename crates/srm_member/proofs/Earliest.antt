@@ -10,7 +10,7 @@ use Rattle.std.proofs.lemmas.Bool.Decides.{nat_tests}
 use Rattle.srm_net.specs.declared.packet.Name.{Name}
 use Rattle.srm_net.specs.Names.{name_cmp}
 use Rattle.srm_member.specs.declared.due.Due.{Due}
-use Rattle.srm_member.specs.Record.{Missing, Repairing, due_cmp, by_order, sooner, earliest}
+use Rattle.srm_member.specs.Record.{Missing, Repairing, due_cmp, by_order, earlier_timer, earliest}
 use Rattle.srm_member.specs.Pending.{has, Rises, IsFirst, IsIndexed, pending_timers, request_timer, repair_timer, expiry_of, is_at_time}
 use Rattle.srm_member.proofs.Indexes.{due_total, due_same, same, due_eq, due_itself, name_same}
 
@@ -45,7 +45,7 @@ at_head : (d : Due) (ds : List Due) → has (d ∷ ds) d ≡ true
 at_head d ds = ap (λ b. b || has ds d) (due_itself d)
 
 abbrev by_step : Due → List Due → Option Due → Type 0
-by_step d ds o = IsFirst ds o → IsFirst (d ∷ ds) (Some (sooner d o))
+by_step d ds o = IsFirst ds o → IsFirst (d ∷ ds) (Some (earlier_timer d o))
 
 step_none : (d : Due) (ds : List Due) → ds ≡ [] → IsFirst (d ∷ ds) (Some d)
 step_none d ds e = (
@@ -79,7 +79,7 @@ step_some d m ds h Greater e = (
 first-earliest : (ds : List Due) → IsFirst ds (earliest ds)
 first-earliest [] = refl
 first-earliest (d ∷ ds) =
-    elim (earliest ds) as (λ o. IsFirst ds o → IsFirst (d ∷ ds) (Some (sooner d o))) [
+    elim (earliest ds) as (λ o. IsFirst ds o → IsFirst (d ∷ ds) (Some (earlier_timer d o))) [
       | None ↦ λ h. step_none d ds h
       | Some m ↦ λ h. step_some d m ds h (due_cmp d m) refl
     ] (first-earliest ds)

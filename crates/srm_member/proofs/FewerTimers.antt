@@ -7,13 +7,14 @@ use Rattle.std.specs.Cmp.{IsTotalOrder, on_total}
 use Rattle.std.specs.Cmp.Lexicographic.{nat_list_cmp_total}
 use Rattle.std.specs.FinMap.Entries.{put, find, by_order, is_sorted, below_all, is_sorted-put, is_sorted-where_key}
 use Rattle.rand_pcg.specs.Pcg.{pcg32}
-use Rattle.srm_member.proofs.Bounds.{draw_pos, kept_memory}
+use Rattle.srm_member.proofs.Bounds.{draw_pos, kept_state}
 use Rattle.srm_member.proofs.LawProofs.{as_active, as_listener}
 use Rattle.srm_member.proofs.OrderLemmas.{nat_cmp_self}
 use Rattle.srm_net.specs.Roles.{is_listener}
-use Rattle.srm_member.specs.React.{Reaction, answering, answering_at, asking, asking_at, back_off, distance_to, listen, listened, react}
-use Rattle.srm_member.specs.React.{react_listener, request_length, resting, without}
-use Rattle.srm_member.specs.Record.{Active, Gone, Memory, Missing, Record, Repairing, count_if, timers_at}
+use Rattle.srm_member.specs.React.{Reaction, expire_repair, expire_repair_by_entry, expire_request, expire_request_by_entry, back_off}
+use Rattle.srm_member.specs.React.{distance_to, listen, listen_data, react}
+use Rattle.srm_member.specs.React.{react_listener, request_length, with_rest, without}
+use Rattle.srm_member.specs.Record.{Active, Gone, MemberState, Missing, Record, Repairing, count_if, timers_at}
 use Rattle.srm_member.specs.Timers.{span}
 use Rattle.srm_member.specs.declared.cause.Cause.{Cause}
 use Rattle.srm_member.specs.declared.cause.Cause.TheVariants.{Answer, Arrival, Ask, Draw, Join, Report}
@@ -148,7 +149,7 @@ module _ {V : Type 0} (p : V → Bool) where
 
 -- ---- sound memories: tables in order, and none for a listener
 
-pub record IsSound (m : Memory) : Type 0 where
+pub record IsSound (m : MemberState) : Type 0 where
   pub asks : T (is_sorted name_cmp m.missing)
   pub answers : T (is_sorted name_cmp m.repairs)
   pub listener : is_listener m.fixed.role ≡ true → (m.missing ≡ []) × (m.repairs ≡ [])
@@ -157,21 +158,21 @@ abbrev pub SoundRecord : Record → Type 0
 SoundRecord (Active m) = IsSound m
 SoundRecord (Gone f) = Unit {0}
 
-abbrev SameTables : Memory → Memory → Type 0
+abbrev SameTables : MemberState → MemberState → Type 0
 SameTables m n = (n.missing ≡ m.missing) × (n.repairs ≡ m.repairs)
 
-same_if : (m : Memory) (b : Bool) (x y : Reaction) → SameTables m x.memory → SameTables m y.memory → SameTables m (cond b x y).memory
+same_if : (m : MemberState) (b : Bool) (x y : Reaction) → SameTables m x.state → SameTables m y.state → SameTables m (cond b x y).state
 same_if m true x y h g = h
 same_if m false x y h g = g
 
-same_listened : (n : Name) (ink : ℕ) (m : Memory) → SameTables m (listened n ink m).memory
+same_listened : (n : Name) (ink : ℕ) (m : MemberState) → SameTables m (listen_data n ink m).state
 same_listened n ink m = same_if m _ _ _ (refl, refl) (refl, refl)
 
-same_listener : (m : Memory) (cause : Cause) → SameTables m (react_listener m cause).memory
+same_listener : (m : MemberState) (cause : Cause) → SameTables m (react_listener m cause).state
 same_listener m Join = (refl, refl)
 same_listener m (Arrival p) = by_body p.body
   where
-    by_body : (b : Body) → SameTables m (listen b m).memory
+    by_body : (b : Body) → SameTables m (listen b m).state
     by_body (Drawop n ink) = same_listened n ink m
     by_body (Repair n ink) = same_listened n ink m
     by_body (Request n) = (refl, refl)
@@ -181,12 +182,12 @@ same_listener m (Answer n) = (refl, refl)
 same_listener m (Draw page ink) = (refl, refl)
 same_listener m Report = (refl, refl)
 
-abbrev Tables : Memory → ℕ → Cause → (List (Name × Missing) → Type 0) → (List (Name × Repairing) → Type 0) → Type 0
-Tables m at cause A B = (A (react m at cause).memory.missing) × (B (react m at cause).memory.repairs)
+abbrev Tables : MemberState → ℕ → Cause → (List (Name × Missing) → Type 0) → (List (Name × Repairing) → Type 0) → Type 0
+Tables m at cause A B = (A (react m at cause).state.missing) × (B (react m at cause).state.repairs)
 
-pub sound_react : (m : Memory) (at : ℕ) (cause : Cause) → IsSound m → IsSound (react m at cause).memory
+pub sound_react : (m : MemberState) (at : ℕ) (cause : Cause) → IsSound m → IsSound (react m at cause).state
 sound_react m at cause s =
-    let k = kept_memory m.fixed (λ es. T (is_sorted name_cmp es)) (λ es. T (is_sorted name_cmp es)) at
+    let k = kept_state m.fixed (λ es. T (is_sorted name_cmp es)) (λ es. T (is_sorted name_cmp es)) at
     (λ n v es lt h. is_sorted-put name_cmp name_total n v es h)
     (λ n es h. is_sorted-where_key name_cmp (λ x. not (eq_by_cmp name_cmp n x)) es h)
     (λ n v es lt h. is_sorted-put name_cmp name_total n v es h)
@@ -199,9 +200,9 @@ sound_react m at cause s =
           let role : is_listener m.fixed.role ≡ true = ap (λ (f : Fixed). is_listener f.role) (sym k.same) ∙ h in
           let was = s.listener role in
           let same = same_listener m cause in (
-            ap (λ (r : Reaction). r.memory.missing) (as_listener m at cause role) ∙ same.0
+            ap (λ (r : Reaction). r.state.missing) (as_listener m at cause role) ∙ same.0
                 ∙ was.0,
-            ap (λ (r : Reaction). r.memory.repairs) (as_listener m at cause role) ∙ same.1 ∙ was.1,
+            ap (λ (r : Reaction). r.state.repairs) (as_listener m at cause role) ∙ same.1 ∙ was.1,
           );
     }
 
@@ -213,7 +214,7 @@ asks_at t es = count_if (λ e. e.1.expiry == t) es
 answers_at : ℕ → List (Name × Repairing) → ℕ
 answers_at t es = count_if (λ e. e.1.expiry == t) es
 
-timers_count : (t : ℕ) (m : Memory) → timers_at t (Active m) ≡ asks_at t m.missing + answers_at t m.repairs
+timers_count : (t : ℕ) (m : MemberState) → timers_at t (Active m) ≡ asks_at t m.missing + answers_at t m.repairs
 unfolding asks_at answers_at
 timers_count t m = count-append _ (map (λ e. record { time = e.1.expiry; rank = 2; name = e.0 }) m.missing)
     (map (λ e. record { time = e.1.expiry; rank = 3; name = e.0 }) m.repairs)
@@ -226,17 +227,17 @@ not_now : (t x : ℕ) → t < x → (x == t) ≡ false
 not_now t x lt = elim (x == t) as (λ b. (x == t) ≡ b → (x == t) ≡ false)
     [ true ↦ λ e. absurd (let f = eqb-true _ _ e in omega arith) | false ↦ λ e. e ] refl
 
-pub no_more : (t : ℕ) (m : Memory) (cause : Cause) → timers_at t (Active (react m t cause).memory) ≤ timers_at t (Active m)
+pub no_more : (t : ℕ) (m : MemberState) (cause : Cause) → timers_at t (Active (react m t cause).state) ≤ timers_at t (Active m)
 unfolding asks_at answers_at
 no_more t m cause =
-    let k = kept_memory m.fixed (λ es. asks_at t es ≤ asks_at t m.missing) (λ es. answers_at t es ≤ answers_at t m.repairs) t
+    let k = kept_state m.fixed (λ es. asks_at t es ≤ asks_at t m.missing) (λ es. answers_at t es ≤ answers_at t m.repairs) t
     (λ n v es lt h. let g = put_le (λ (w : Missing). w.expiry == t) n v es (not_now t v.expiry lt) in omega arith)
     (λ n es h. let g = count-filter (λ (e : Name × Missing). e.1.expiry == t) (λ e. not (eq_by_cmp name_cmp n e.0)) es in omega arith)
     (λ n v es lt h. let g = put_le (λ (w : Repairing). w.expiry == t) n v es (not_now t v.expiry lt) in omega arith)
     (λ n es h. let g = count-filter (λ (e : Name × Repairing). e.1.expiry == t) (λ e. not (eq_by_cmp name_cmp n e.0)) es in omega arith)
     m cause (record { same = refl; asks = le_refl _; answers = le_refl _ }) in
     let before = timers_count t m in
-    let after = timers_count t (react m t cause).memory in
+    let after = timers_count t (react m t cause).state in
     let a = k.asks in
     let b = k.answers in
     omega arith
@@ -244,9 +245,9 @@ no_more t m cause =
 pub no_table : {A : Type 0} (x : A) (xs : List A) → xs ≡ [] → In x xs → ⊥
 no_table x xs e h = subst (In x) e h
 
-module _ (t : ℕ) (m : Memory) (sound : IsSound m) (n : Name) where
+module _ (t : ℕ) (m : MemberState) (sound : IsSound m) (n : Name) where
   fewer_asking : (w : Missing) → In (n, w) m.missing → (w.expiry == t) ≡ true → (o : Option Missing) → find name_cmp n m.missing ≡ o
-      → timers_at t (Active (asking_at t n m o).memory) < timers_at t (Active m)
+      → timers_at t (Active (expire_request_by_entry t n m o).state) < timers_at t (Active m)
   unfolding asks_at answers_at
   fewer_asking w h some None e = absurd (found (λ (x : Missing). x.expiry == t) n w m.missing h e)
   fewer_asking w h some (Some x) e =
@@ -260,31 +261,31 @@ module _ (t : ℕ) (m : Memory) (sound : IsSound m) (n : Name) where
       omega arith
 
   fewer_answering : (w : Repairing) → In (n, w) m.repairs → (w.expiry == t) ≡ true → (o : Option Repairing) → find name_cmp n m.repairs ≡ o
-      → timers_at t (Active (answering_at t n m o).memory) < timers_at t (Active m)
+      → timers_at t (Active (expire_repair_by_entry t n m o).state) < timers_at t (Active m)
   unfolding asks_at answers_at
   fewer_answering w h some None e = absurd (found (λ (x : Repairing). x.expiry == t) n w m.repairs h e)
   fewer_answering w h some (Some x) e =
       let less = without_less (λ (y : Repairing). y.expiry == t) n w m.repairs h some in
       let before = timers_count t m in
-      let after = timers_count t (resting t n m.fixed.member m) in
+      let after = timers_count t (with_rest t n m.fixed.member m) in
       omega arith
 
   pub fewer_asks : (w : Missing) → In (n, w) m.missing → (w.expiry == t)
-      ≡ true → timers_at t (Active (react m t (Ask n)).memory) < timers_at t (Active m)
-  unfolding asking
+      ≡ true → timers_at t (Active (react m t (Ask n)).state) < timers_at t (Active m)
+  unfolding expire_request
   fewer_asks w h some = elim (is_listener m.fixed.role) as
-      (λ b. is_listener m.fixed.role ≡ b → timers_at t (Active (react m t (Ask n)).memory) < timers_at t (Active m)) [
+      (λ b. is_listener m.fixed.role ≡ b → timers_at t (Active (react m t (Ask n)).state) < timers_at t (Active m)) [
         | true ↦ λ l. absurd (no_table (n, w) m.missing (sound.listener l).0 h)
-        | false ↦ λ l. subst (λ (r : Reaction). timers_at t (Active r.memory) < timers_at t (Active m)) (sym (as_active m t (Ask n) l))
+        | false ↦ λ l. subst (λ (r : Reaction). timers_at t (Active r.state) < timers_at t (Active m)) (sym (as_active m t (Ask n) l))
             (fewer_asking w h some (find name_cmp n m.missing) refl)
       ] refl
 
   pub fewer_answers : (w : Repairing) → In (n, w) m.repairs → (w.expiry == t) ≡ true
-      → timers_at t (Active (react m t (Answer n)).memory) < timers_at t (Active m)
-  unfolding answering
+      → timers_at t (Active (react m t (Answer n)).state) < timers_at t (Active m)
+  unfolding expire_repair
   fewer_answers w h some = elim (is_listener m.fixed.role) as
-      (λ b. is_listener m.fixed.role ≡ b → timers_at t (Active (react m t (Answer n)).memory) < timers_at t (Active m)) [
+      (λ b. is_listener m.fixed.role ≡ b → timers_at t (Active (react m t (Answer n)).state) < timers_at t (Active m)) [
         | true ↦ λ l. absurd (no_table (n, w) m.repairs (sound.listener l).1 h)
-        | false ↦ λ l. subst (λ (r : Reaction). timers_at t (Active r.memory) < timers_at t (Active m)) (sym (as_active m t (Answer n) l))
+        | false ↦ λ l. subst (λ (r : Reaction). timers_at t (Active r.state) < timers_at t (Active m)) (sym (as_active m t (Answer n) l))
             (fewer_answering w h some (find name_cmp n m.repairs) refl)
       ] refl

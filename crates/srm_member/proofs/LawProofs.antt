@@ -6,17 +6,17 @@ use Rattle.srm_net.specs.declared.packet.Body.TheVariants.{Drawop, Request, Repa
 use Rattle.srm_member.specs.declared.cause.Cause.{Cause}
 use Rattle.srm_member.specs.declared.cause.Cause.TheVariants.{Join, Arrival, Ask, Answer, Draw, Report}
 use Rattle.srm_member.specs.declared.due.Due.{Due}
-use Rattle.srm_member.specs.Record.{Active, Gone, Memory, timers_of}
+use Rattle.srm_member.specs.Record.{Active, Gone, MemberState, timers_of}
 use Rattle.srm_net.specs.Roles.{is_listener}
 use Rattle.srm_member.specs.React.{Reaction, react_active, react_listener, listen, react}
 use Rattle.srm_member.specs.Laws.{FixedPartStays, TimersAreLater, ListenersSendNothing, AnswersAreOne}
 use Rattle.srm_member.proofs.AllIn.{AllIn, AllIn-places, AllIn-at_places}
-use Rattle.srm_member.proofs.Bounds.{kept_memory, kept_react}
+use Rattle.srm_member.proofs.Bounds.{kept_state, kept_react}
 
 -- ---- the fixed part
 
 pub same_fixed : FixedPartStays
-same_fixed m at cause = (kept_memory m.fixed (λ es. Unit {0}) (λ es. Unit {0}) at (λ n v es lt h. tt) (λ n es h. tt) (λ n v es lt h. tt)
+same_fixed m at cause = (kept_state m.fixed (λ es. Unit {0}) (λ es. Unit {0}) at (λ n v es lt h. tt) (λ n es h. tt) (λ n v es lt h. tt)
     (λ n es h. tt) m cause (record { same = refl; asks = tt; answers = tt })).same
 
 -- ---- timers
@@ -25,15 +25,15 @@ pub timers_are_later : TimersAreLater
 timers_are_later m at cause d h =
     let Q : Due → Type 0 = λ x. (at < x.time) ⊎ Contains (timers_of m) x in
     let were : AllIn Q (timers_of m) = AllIn-at_places Q (timers_of m) (λ k x lt. inr (All-contains_itself (timers_of m) k x lt)) in
-    All-contains Q (timers_of (react m at cause).memory) d (AllIn-places Q _ (kept_react Q at (λ x lt. inl lt) m cause were)) h
+    All-contains Q (timers_of (react m at cause).state) d (AllIn-places Q _ (kept_react Q at (λ x lt. inl lt) m cause were)) h
 
 -- ---- listeners
 
-pub as_listener : (m : Memory) (at : ℕ) (cause : Cause) → is_listener m.fixed.role ≡ true → react m at cause ≡ react_listener m cause
+pub as_listener : (m : MemberState) (at : ℕ) (cause : Cause) → is_listener m.fixed.role ≡ true → react m at cause ≡ react_listener m cause
 unfolding react
 as_listener m at cause h = ap (λ b. cond b (react_listener m cause) (react_active m at cause)) h
 
-pub as_active : (m : Memory) (at : ℕ) (cause : Cause) → is_listener m.fixed.role ≡ false → react m at cause ≡ react_active m at cause
+pub as_active : (m : MemberState) (at : ℕ) (cause : Cause) → is_listener m.fixed.role ≡ false → react m at cause ≡ react_active m at cause
 unfolding react
 as_active m at cause h = ap (λ b. cond b (react_listener m cause) (react_active m at cause)) h
 
@@ -41,7 +41,7 @@ no_body_if : (b : Bool) (x y : Reaction) → x.answer.body ≡ None → y.answer
 no_body_if true x y h g = h
 no_body_if false x y h g = g
 
-pub no_body : (m : Memory) (cause : Cause) → (react_listener m cause).answer.body ≡ None
+pub no_body : (m : MemberState) (cause : Cause) → (react_listener m cause).answer.body ≡ None
 no_body m Join = refl
 no_body m (Arrival p) = by_body p.body
   where

@@ -4,26 +4,27 @@ use Rattle.srm_member.specs.declared.fixed.Fixed.{Fixed}
 use Rattle.srm_member.specs.declared.react.React.{React}
 use Rattle.srm_net.specs.declared.packet.PageId.{PageId}
 use Rattle.srm_net.specs.declared.packet.Heard.{Heard}
-use Rattle.srm_member.specs.Record.{Memory, Record, Active, Gone, Stream}
+use Rattle.srm_member.specs.Record.{MemberState, Record, Active, Gone, Progress}
 use Rattle.srm_member.specs.React.{Reaction}
+use Rattle.srm_net.specs.Limits.{greatest_distance, greatest_constant}
 
 -- constants are at most 64,000 thousandths, and distances at most 1,023,000,000 ticks
-pub record IsFit (f : Fixed) : Type 0 where
-  pub c1 : f.c1 ≤ 64000
-  pub c2 : f.c2 ≤ 64000
-  pub d1 : f.d1 ≤ 64000
-  pub d2 : f.d2 ≤ 64000
-  pub dist : All (λ d. d ≤ 1023000000) f.dist
+pub record IsBounded (f : Fixed) : Type 0 where
+  pub c1 : f.c1 ≤ greatest_constant
+  pub c2 : f.c2 ≤ greatest_constant
+  pub d1 : f.d1 ≤ greatest_constant
+  pub d2 : f.d2 ≤ greatest_constant
+  pub dist : All (λ d. d ≤ greatest_distance) f.dist
 
 -- the answer and what the member then knows are those of the table
-abbrev pub Gives : React → Memory → Reaction → Type 0
-Gives a after r = (a ≡ r.answer) × (after ≡ r.memory)
+abbrev pub Gives : React → MemberState → Reaction → Type 0
+Gives a after r = (a ≡ r.answer) × (after ≡ r.state)
 
 -- the entry of a session message for a page
-abbrev pub heard_of : PageId → Stream → Heard
+abbrev pub heard_of : PageId → Progress → Heard
 heard_of p s = record { source = p.source; page = p.page; highest = s.next - 1 }
 
 -- the record of what a member knows or, where it is gone, knew
-abbrev pub record_of : Bool → Memory → Record
+abbrev pub record_of : Bool → MemberState → Record
 record_of true m = Gone m.fixed
 record_of false m = Active m

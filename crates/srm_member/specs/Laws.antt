@@ -4,24 +4,24 @@ use Rattle.srm_net.specs.declared.role.Role.TheVariants.{Listener}
 use Rattle.srm_member.specs.declared.cause.Cause.{Cause}
 use Rattle.srm_member.specs.declared.due.Due.{Due}
 use Rattle.srm_member.specs.declared.react.React.{React}
-use Rattle.srm_member.specs.Record.{Record, Memory, timers_of}
+use Rattle.srm_member.specs.Record.{Record, MemberState, timers_of}
 use Rattle.srm_member.specs.React.{react}
 use Rattle.srm_member.specs.Reacts.{Reacts}
 
 -- the fixed part stays
 abbrev pub FixedPartStays : Type 0
-FixedPartStays = (m : Memory) (at : ℕ) (cause : Cause) → (react m at cause).memory.fixed ≡ m.fixed
+FixedPartStays = (m : MemberState) (at : ℕ) (cause : Cause) → (react m at cause).state.fixed ≡ m.fixed
 
 -- each timer that is set expires later than now
 abbrev pub TimersAreLater : Type 0
 TimersAreLater =
-    (m : Memory) (at : ℕ) (cause : Cause) (d : Due) → Contains (timers_of (react m at cause).memory) d
+    (m : MemberState) (at : ℕ) (cause : Cause) (d : Due) → Contains (timers_of (react m at cause).state) d
     → (at < d.time) ⊎ Contains (timers_of m) d
 
 -- a listener sends nothing
 abbrev pub ListenersSendNothing : Type 0
 ListenersSendNothing =
-    (m : Memory) (at : ℕ) (cause : Cause) → m.fixed.role ≡ Listener → (react m at cause).answer.body ≡ None
+    (m : MemberState) (at : ℕ) (cause : Cause) → m.fixed.role ≡ Listener → (react m at cause).answer.body ≡ None
 
 -- a cause has one answer, and leaves one record
 abbrev pub AnswersAreOne : Type 0

@@ -19,21 +19,22 @@ use Rattle.srm_member.specs.declared.told.Told.{Told}
 use Rattle.srm_member.specs.declared.told.Told.TheVariants.{Entered, Fresh, Fixed, Again, Skip, Rest, Busy, Plan, Hold}
 use Rattle.srm_member.specs.declared.told.Told.TheVariants.{Back, Sent, Heard as Informed}
 use Rattle.srm_member.specs.declared.react.React.{React}
-use Rattle.srm_member.specs.Timers.{span, draw}
-use Rattle.srm_member.specs.Record.{Stream, Missing, Repairing, Memory}
+use Rattle.srm_member.specs.Timers.{span, timer_length}
+use Rattle.srm_member.specs.Record.{Progress, Missing, Repairing, MemberState}
+use Rattle.srm_net.specs.Limits.{most_drawn}
 
 -- what a member knows after an event, and what it answers
 pub record Reaction : Type 0 where
-  pub memory : Memory
+  pub state : MemberState
   pub answer : React
 
 -- an answer that sends nothing
-abbrev pub quietly : Memory → Told → List Name → Reaction
-quietly m told lost = record { memory = m; answer = record { told = told; lost = lost; body = None } }
+abbrev pub quietly : MemberState → Told → List Name → Reaction
+quietly m told lost = record { state = m; answer = record { told = told; lost = lost; body = None } }
 
 -- an answer that sends a packet
-abbrev pub sending : Memory → Body → Reaction
-sending m body = record { memory = m; answer = record { told = Sent; lost = []; body = Some body } }
+abbrev pub send_body : MemberState → Body → Reaction
+send_body m body = record { state = m; answer = record { told = Sent; lost = []; body = Some body } }
 
 -- the entries of all other names
 abbrev pub without : {V : Type 0} → Name → List (Name × V) → List (Name × V)
@@ -46,28 +47,28 @@ has_entry n es = is_some (find name_cmp n es)
 -- ---- timers: each takes one word
 
 -- the distance to this member that timers and rests go by
-abbrev pub distance_to : Memory → ℕ → ℕ
+abbrev pub distance_to : MemberState → ℕ → ℕ
 distance_to m who = slice_index m.fixed.dist who
 
 -- the generator has given one word more
-abbrev pub with_next_word : Memory → Memory
+abbrev pub with_next_word : MemberState → MemberState
 with_next_word m = record m { words = (pcg32 m.words).1 }
 
 -- the length that the next word picks of a span
-abbrev pub length_in : Memory → ℕ × ℕ → ℕ
-length_in m s = draw (pcg32 m.words).0 s
+abbrev pub length_in : MemberState → ℕ × ℕ → ℕ
+length_in m s = timer_length (pcg32 m.words).0 s
 
 -- the length of a request timer after i backoffs
-abbrev pub request_length : Memory → ℕ → Name → ℕ
+abbrev pub request_length : MemberState → ℕ → Name → ℕ
 request_length m i n = length_in m (span i m.fixed.c1 m.fixed.c2 (distance_to m n.source))
 
 -- the length of a repair timer for a request of this member
-abbrev pub repair_length : Memory → ℕ → ℕ
+abbrev pub repair_length : MemberState → ℕ → ℕ
 repair_length m who = length_in m (span 0 m.fixed.d1 m.fixed.d2 (distance_to m who))
 
 -- back off: the count rises, up to 10, and the timer is set anew; in the first half of it the member backs off no
 -- further
-abbrev pub back_off : ℕ → Name → Missing → Memory → Memory
+abbrev pub back_off : ℕ → Name → Missing → MemberState → MemberState
 back_off at n e m =
     let i = min (e.backoffs + 1) 10 in
     let len = request_length m i n in
@@ -76,27 +77,27 @@ back_off at n e m =
           (record { detected = e.detected; expiry = at + len; backoffs = i; ignore = at + len / 2 }) m.missing;
     }
 
--- ---- streams and losses
+-- ---- progress and losses
 
 -- whether a page is one of those that a late member wants whole
-abbrev pub wants : Memory → ℕ → Bool
+abbrev pub wants : MemberState → ℕ → Bool
 wants m page = list_any (λ p. p == page) m.fixed.pages
 
--- where a stream begins for this member. A late member does not ask for what came before on pages that it does not want
-abbrev pub begins_at : Memory → PageId → ℕ → ℕ
+-- where a page begins for this member. A late member does not ask for what came before on pages that it does not want
+abbrev pub begins_at : MemberState → PageId → ℕ → ℕ
 begins_at m p begin = if is_late m.fixed.role && not (wants m p.page) then begin else 0
 
 -- meet a page: its entry, which is made where there is none
-abbrev pub meet : Memory → PageId → ℕ → Stream
-meet m p begin = unwrap_or (find page_cmp p m.streams)
+abbrev pub meet : MemberState → PageId → ℕ → Progress
+meet m p begin = unwrap_or (find page_cmp p m.progress)
     (record { floor = begins_at m p begin; next = begins_at m p begin })
 
 -- after the page's entry is set
-abbrev pub with_stream : PageId → Stream → Memory → Memory
-with_stream p s m = record m { streams = put page_cmp p s m.streams }
+abbrev pub with_progress : PageId → Progress → MemberState → MemberState
+with_progress p s m = record m { progress = put page_cmp p s m.progress }
 
 -- a loss: the name is missing, with a new request timer. A request for it backs off at once
-abbrev pub lose_one : ℕ → Name → Memory → Memory
+abbrev pub lose_one : ℕ → Name → MemberState → MemberState
 lose_one at n m =
     record (with_next_word m) {
       missing = put name_cmp n
@@ -104,7 +105,7 @@ lose_one at n m =
     }
 
 -- after the loss of `count` names of a page from number k on
-unfoldable pub lose_from : ℕ → PageId → ℕ → ℕ → Memory → Memory
+unfoldable pub lose_from : ℕ → PageId → ℕ → ℕ → MemberState → MemberState
 lose_from at p zero k m = m
 lose_from at p (suc count) k m = lose_from at p count (suc k) (lose_one at (name_in p k) m)
 
@@ -114,34 +115,34 @@ names_from p zero k = []
 names_from p (suc count) k = name_in p k ∷ names_from p count (suc k)
 
 -- lose every number below n that was not heard of; from there on the next number is this
-unfoldable pub lose_below : ℕ → PageId → ℕ → ℕ → Stream → Memory → Memory
-lose_below at p n next s m = with_stream p (record { floor = s.floor; next = next })
+unfoldable pub lose_below : ℕ → PageId → ℕ → ℕ → Progress → MemberState → MemberState
+lose_below at p n next s m = with_progress p (record { floor = s.floor; next = next })
     (lose_from at p (n - s.next) s.next m)
 
 -- the names that are lost by that
-abbrev pub lost_below : PageId → ℕ → Stream → List Name
+abbrev pub lost_below : PageId → ℕ → Progress → List Name
 lost_below p n s = names_from p (n - s.next) s.next
 
 -- ---- the table for senders, receivers and late joiners
 
 -- hold a name
-abbrev pub holding : Name → ℕ → Memory → Memory
-holding n ink m = record m { held = put name_cmp n ink m.held }
+abbrev pub with_held : Name → ℕ → MemberState → MemberState
+with_held n ink m = record m { held = put name_cmp n ink m.held }
 
 -- hold a name that was missing
-abbrev pub mending : Name → ℕ → Memory → Memory
-mending n ink m = record m { held = put name_cmp n ink m.held; missing = without n m.missing }
+abbrev pub with_mended : Name → ℕ → MemberState → MemberState
+with_mended n ink m = record m { held = put name_cmp n ink m.held; missing = without n m.missing }
 
 -- data or a repair of this name
-unfoldable pub got : ℕ → Name → ℕ → Memory → Reaction
-got at n ink m =
+unfoldable pub hear_data : ℕ → Name → ℕ → MemberState → Reaction
+hear_data at n ink m =
     let s = meet m (page_of n) n.number in
-    if nat_lt n.number s.floor then quietly (with_stream (page_of n) s m) Skip []
+    if nat_lt n.number s.floor then quietly (with_progress (page_of n) s m) Skip []
     else if nat_le s.next n.number then
-    quietly (holding n ink (lose_below at (page_of n) n.number (n.number + 1) s m)) Fresh
+    quietly (with_held n ink (lose_below at (page_of n) n.number (n.number + 1) s m)) Fresh
     (lost_below (page_of n) n.number s)
-    else if has_entry n m.missing then quietly (mending n ink (with_stream (page_of n) s m)) Fixed []
-    else quietly (with_stream (page_of n) s m) Again []
+    else if has_entry n m.missing then quietly (with_mended n ink (with_progress (page_of n) s m)) Fixed []
+    else quietly (with_progress (page_of n) s m) Again []
 
 -- who set the repair timer, or, where there is none, who sent the repair
 abbrev pub requester_or : ℕ → Option Repairing → ℕ
@@ -150,13 +151,14 @@ requester_or who (Some r) = r.requester
 
 -- the base of a name's rest: the distance to its source; at the source itself the distance to the requester of the
 -- pending repair timer, or without one to the member that sent the repair
-abbrev pub base : Memory → Name → ℕ → ℕ
+abbrev pub base : MemberState → Name → ℕ → ℕ
 base m n who = distance_to m
     (if n.source == m.fixed.member then requester_or who (find name_cmp n m.repairs) else n.source)
 
 -- after a repair by this member, which ends a pending repair timer
-abbrev pub resting : ℕ → Name → ℕ → Memory → Memory
-resting at n who m = record m { rests = put name_cmp n (at + 3 * base m n who) m.rests; repairs = without n m.repairs }
+abbrev pub with_rest : ℕ → Name → ℕ → MemberState → MemberState
+with_rest at n who m =
+    record m { rests = put name_cmp n (at + 3 * base m n who) m.rests; repairs = without n m.repairs }
 
 -- the event did not concern the member
 abbrev pub is_skip : Told → Bool
@@ -164,141 +166,143 @@ is_skip Skip = true
 is_skip _ = false
 
 -- a repair of this name
-abbrev pub got_repair : ℕ → Name → ℕ → ℕ → Memory → Reaction
-got_repair at n ink who m =
-    let r = got at n ink m in
-    if is_skip r.answer.told then r else record r { memory = resting at n who r.memory }
+abbrev pub hear_repair : ℕ → Name → ℕ → ℕ → MemberState → Reaction
+hear_repair at n ink who m =
+    let r = hear_data at n ink m in
+    if is_skip r.answer.told then r else record r { state = with_rest at n who r.state }
 
 -- plan a repair, for a request of this member
-abbrev pub planning : ℕ → Name → ℕ → Memory → Memory
-planning at n who m =
+abbrev pub with_repair_timer : ℕ → Name → ℕ → MemberState → MemberState
+with_repair_timer at n who m =
     record (with_next_word m) {
       repairs = put name_cmp n
           (record { expiry = at + repair_length m who; requester = who }) m.repairs;
     }
 
 -- a request for a name that is missing
-abbrev pub asked_missing_at : ℕ → Name → List Name → Memory → Option Missing → Reaction
-asked_missing_at at n lost m None = quietly m Hold lost
-asked_missing_at at n lost m (Some e) = if nat_lt at e.ignore then quietly m Hold lost
+abbrev pub hear_request_by_entry : ℕ → Name → List Name → MemberState → Option Missing → Reaction
+hear_request_by_entry at n lost m None = quietly m Hold lost
+hear_request_by_entry at n lost m (Some e) = if nat_lt at e.ignore then quietly m Hold lost
     else quietly (back_off at n e m) Back lost
 
 -- a request for a name that is not held
-abbrev pub asked_missing : ℕ → Name → List Name → Memory → Reaction
-asked_missing at n lost m = asked_missing_at at n lost m (find name_cmp n m.missing)
+abbrev pub hear_request_of_missing : ℕ → Name → List Name → MemberState → Reaction
+hear_request_of_missing at n lost m = hear_request_by_entry at n lost m (find name_cmp n m.missing)
 
 -- a request for a name that is held
-abbrev pub asked_held : ℕ → Name → ℕ → Memory → Reaction
-asked_held at n who m =
+abbrev pub hear_request_of_held : ℕ → Name → ℕ → MemberState → Reaction
+hear_request_of_held at n who m =
     if nat_lt at (unwrap_or (find name_cmp n m.rests) 0) then quietly m Rest []
     else if has_entry n m.repairs then quietly m Busy []
-    else quietly (planning at n who m) Plan []
+    else quietly (with_repair_timer at n who m) Plan []
 
 -- a request for this name, by this member
-unfoldable pub requested : ℕ → Name → ℕ → Memory → Reaction
-requested at n who m0 =
+unfoldable pub hear_request : ℕ → Name → ℕ → MemberState → Reaction
+hear_request at n who m0 =
     let s = meet m0 (page_of n) (n.number + 1) in
-    let m = with_stream (page_of n) s m0 in
+    let m = with_progress (page_of n) s m0 in
     if nat_lt n.number s.floor then quietly m Skip []
-    else if has_entry n m.held then asked_held at n who m
-    else if nat_le s.next n.number then asked_missing at n (lost_below (page_of n) (n.number + 1) s)
+    else if has_entry n m.held then hear_request_of_held at n who m
+    else if nat_le s.next n.number then hear_request_of_missing at n (lost_below (page_of n) (n.number + 1) s)
     (lose_below at (page_of n) (n.number + 1) (n.number + 1) s m)
-    else asked_missing at n [] m
+    else hear_request_of_missing at n [] m
 
 -- the page of an entry of a session message
 abbrev pub page_heard : Heard → PageId
 page_heard h = record { source = h.source; page = h.page }
 
 -- after an entry of a session message: every number up to its highest was heard of
-unfoldable pub after_entry : ℕ → Heard → Memory → Memory
+unfoldable pub after_entry : ℕ → Heard → MemberState → MemberState
 after_entry at h m =
     let s = meet m (page_heard h) (h.highest + 1) in
     if nat_le s.next h.highest then lose_below at (page_heard h) (h.highest + 1) (h.highest + 1) s m
-    else with_stream (page_heard h) s m
+    else with_progress (page_heard h) s m
 
 -- the names that are lost by it: none where the next number is above the highest
-abbrev pub lost_by_entry : Heard → Memory → List Name
+abbrev pub lost_by_entry : Heard → MemberState → List Name
 lost_by_entry h m = lost_below (page_heard h) (h.highest + 1) (meet m (page_heard h) (h.highest + 1))
 
 -- a session message: each entry in turn
-unfoldable pub informed : ℕ → List Heard → Memory → List Name → Reaction
-informed at [] m lost = quietly m Informed lost
-informed at (h ∷ hs) m lost = informed at hs (after_entry at h m) (lost ++ lost_by_entry h m)
+unfoldable pub hear_session : ℕ → List Heard → MemberState → List Name → Reaction
+hear_session at [] m lost = quietly m Informed lost
+hear_session at (h ∷ hs) m lost = hear_session at hs (after_entry at h m) (lost ++ lost_by_entry h m)
 
 -- a packet from this member
-abbrev pub hear_body : ℕ → ℕ → Body → Memory → Reaction
-hear_body at who (Drawop n ink) m = got at n ink m
-hear_body at who (Repair n ink) m = got_repair at n ink who m
-hear_body at who (Request n) m = requested at n who m
-hear_body at who (Session hs) m = informed at hs m []
+abbrev pub hear_body : ℕ → ℕ → Body → MemberState → Reaction
+hear_body at who (Drawop n ink) m = hear_data at n ink m
+hear_body at who (Repair n ink) m = hear_repair at n ink who m
+hear_body at who (Request n) m = hear_request at n who m
+hear_body at who (Session hs) m = hear_session at hs m []
 
 -- the request timer of a name expires
-abbrev pub asking_at : ℕ → Name → Memory → Option Missing → Reaction
-asking_at at n m None = quietly m Skip []
-asking_at at n m (Some e) = sending (back_off at n e m) (Request n)
+abbrev pub expire_request_by_entry : ℕ → Name → MemberState → Option Missing → Reaction
+expire_request_by_entry at n m None = quietly m Skip []
+expire_request_by_entry at n m (Some e) = send_body (back_off at n e m) (Request n)
 
 -- what a member answers to it: it asks, and backs off
-unfoldable pub asking : ℕ → Name → Memory → Reaction
-asking at n m = asking_at at n m (find name_cmp n m.missing)
+unfoldable pub expire_request : ℕ → Name → MemberState → Reaction
+expire_request at n m = expire_request_by_entry at n m (find name_cmp n m.missing)
 
 -- the repair timer of a name expires
-abbrev pub answering_at : ℕ → Name → Memory → Option Repairing → Reaction
-answering_at at n m None = quietly m Skip []
-answering_at at n m (Some e) = sending (resting at n m.fixed.member m) (Repair n (unwrap_or (find name_cmp n m.held) 0))
+abbrev pub expire_repair_by_entry : ℕ → Name → MemberState → Option Repairing → Reaction
+expire_repair_by_entry at n m None = quietly m Skip []
+expire_repair_by_entry at n m (Some e) = send_body (with_rest at n m.fixed.member m)
+    (Repair n (unwrap_or (find name_cmp n m.held) 0))
 
 -- what a member answers to it: it sends a repair, and rests
-unfoldable pub answering : ℕ → Name → Memory → Reaction
-answering at n m = answering_at at n m (find name_cmp n m.repairs)
+unfoldable pub expire_repair : ℕ → Name → MemberState → Reaction
+expire_repair at n m = expire_repair_by_entry at n m (find name_cmp n m.repairs)
 
 -- a page of the member's own
-abbrev pub own_page : Memory → ℕ → PageId
+abbrev pub own_page : MemberState → ℕ → PageId
 own_page m page = record { source = m.fixed.member; page = page }
 
 -- the entry of a page on which the member draws
-abbrev pub own_stream : Memory → PageId → Stream
-own_stream m p = unwrap_or (find page_cmp p m.streams) (record { floor = 0; next = 0 })
+abbrev pub own_progress : MemberState → PageId → Progress
+own_progress m p = unwrap_or (find page_cmp p m.progress) (record { floor = 0; next = 0 })
 
 -- after a draw: the operation is held, and numbers go on
-abbrev pub drawn_on : PageId → ℕ → Stream → Memory → Memory
-drawn_on p ink s m = holding (name_in p s.next) ink (with_stream p (record { floor = s.floor; next = s.next + 1 }) m)
+abbrev pub with_drawn : PageId → ℕ → Progress → MemberState → MemberState
+with_drawn p ink s m = with_held (name_in p s.next) ink
+    (with_progress p (record { floor = s.floor; next = s.next + 1 }) m)
 
 -- a drawing operation of this member, up to 4,096 on a page
-unfoldable pub drawing : ℕ → ℕ → Memory → Reaction
-drawing page ink m =
+unfoldable pub draw_operation : ℕ → ℕ → MemberState → Reaction
+draw_operation page ink m =
     let p = own_page m page in
-    let s = own_stream m p in
-    if is_sender m.fixed.role && nat_lt s.next 4096
-    then sending (drawn_on p ink s m) (Drawop (name_in p s.next) ink)
+    let s = own_progress m p in
+    if is_sender m.fixed.role && nat_lt s.next most_drawn
+    then send_body (with_drawn p ink s m) (Drawop (name_in p s.next) ink)
     else quietly m Skip []
 
 -- a session message: of every page that has an entry, the highest number heard of
-abbrev pub session_of : Memory → Body
-session_of m = Session (map (λ e. record { source = e.0.source; page = e.0.page; highest = e.1.next - 1 }) m.streams)
+abbrev pub session_of : MemberState → Body
+session_of m = Session (map (λ e. record { source = e.0.source; page = e.0.page; highest = e.1.next - 1 }) m.progress)
 
 -- the table, by causes
-abbrev pub react_active : Memory → ℕ → Cause → Reaction
+abbrev pub react_active : MemberState → ℕ → Cause → Reaction
 react_active m at Join = quietly m Entered []
 react_active m at (Arrival k) = hear_body at k.id.sender k.body m
-react_active m at (Ask n) = asking at n m
-react_active m at (Answer n) = answering at n m
-react_active m at (Draw page ink) = drawing page ink m
-react_active m at Report = sending m (session_of m)
+react_active m at (Ask n) = expire_request at n m
+react_active m at (Answer n) = expire_repair at n m
+react_active m at (Draw page ink) = draw_operation page ink m
+react_active m at Report = send_body m (session_of m)
 
 -- ---- the table for listeners
 
 -- data or a repair of this name
-abbrev pub listened : Name → ℕ → Memory → Reaction
-listened n ink m = if has_entry n m.held then quietly m Again [] else quietly (holding n ink m) Fresh []
+abbrev pub listen_data : Name → ℕ → MemberState → Reaction
+listen_data n ink m = if has_entry n m.held then quietly m Again [] else quietly (with_held n ink m) Fresh []
 
 -- a packet
-abbrev pub listen : Body → Memory → Reaction
-listen (Drawop n ink) m = listened n ink m
-listen (Repair n ink) m = listened n ink m
+abbrev pub listen : Body → MemberState → Reaction
+listen (Drawop n ink) m = listen_data n ink m
+listen (Repair n ink) m = listen_data n ink m
 listen (Request n) m = quietly m Skip []
 listen (Session hs) m = quietly m Skip []
 
 -- the table, by causes
-abbrev pub react_listener : Memory → Cause → Reaction
+abbrev pub react_listener : MemberState → Cause → Reaction
 react_listener m Join = quietly m Entered []
 react_listener m (Arrival k) = listen k.body m
 react_listener m _ = quietly m Skip []
@@ -306,5 +310,5 @@ react_listener m _ = quietly m Skip []
 -- ---- both
 
 -- what a member answers to a cause at a time, and what it knows then
-unfoldable pub react : Memory → ℕ → Cause → Reaction
+unfoldable pub react : MemberState → ℕ → Cause → Reaction
 react m at cause = if is_listener m.fixed.role then react_listener m cause else react_active m at cause

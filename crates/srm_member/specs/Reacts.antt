@@ -11,7 +11,7 @@ use Rattle.srm_member.specs.React.{react}
 -- of a call with this cause at this time: the record before it, its result, and the record after it. An active member
 -- answers as the tables say, or is gone where memory is refused; a member that is gone has nothing to answer with
 abbrev pub Reacts : Record → ℕ → Cause → Result React MemberFault → Record → Type 0
-Reacts (Active m) at cause (Ok a) after = let r = react m at cause in (a ≡ r.answer) × (after ≡ Active r.memory)
+Reacts (Active m) at cause (Ok a) after = let r = react m at cause in (a ≡ r.answer) × (after ≡ Active r.state)
 Reacts (Active m) at cause (Err NoMemory) after = after ≡ Gone m.fixed
 Reacts (Gone f) at cause (Err Spent) after = after ≡ Gone f
 Reacts r at cause q after = ⊥

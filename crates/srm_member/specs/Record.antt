@@ -15,17 +15,17 @@ pub use Rattle.srm_member.specs.declared.entries.Missing.{Missing}
 pub use Rattle.srm_member.specs.declared.entries.Repairing.{Repairing}
 
 -- of one page: numbers below floor do not concern the member, and next is the first number not heard of
-pub record Stream : Type 0 where
+pub record Progress : Type 0 where
   pub floor : ℕ
   pub next : ℕ
 
--- what an active member knows: its fixed part; its generator; the streams of pages; the inks of the names that it
+-- what an active member knows: its fixed part; its generator; its progress on each page; the inks of the names that it
 -- holds; the names that it lacks; its repair timers; and, of names that it answered or heard repaired, the time before
 -- which it does not answer again. Finite maps are lists of entries whose keys rise
-pub record Memory : Type 0 where
+pub record MemberState : Type 0 where
   pub fixed : Fixed
   pub words : Lcg
-  pub streams : List (PageId × Stream)
+  pub progress : List (PageId × Progress)
   pub held : List (Name × ℕ)
   pub missing : List (Name × Missing)
   pub repairs : List (Name × Repairing)
@@ -33,15 +33,15 @@ pub record Memory : Type 0 where
 
 -- a member's record: active, or gone, which keeps the fixed part alone
 pub data Record : Type 0 where
-  Active : (memory : Memory) → Record
+  Active : (state : MemberState) → Record
   Gone : (fixed : Fixed) → Record
 
 -- what a member knows at first
-abbrev pub opening_memory : Fixed → Memory
-opening_memory f = record {
+abbrev pub opening_state : Fixed → MemberState
+opening_state f = record {
   fixed = f;
   words = started 64 multiplier_64 f.seed (increment_of 64 f.stream);
-  streams = [];
+  progress = [];
   held = [];
   missing = [];
   repairs = [];
@@ -50,7 +50,7 @@ opening_memory f = record {
 
 -- the record of a member at first
 abbrev pub opening_record : Fixed → Record
-opening_record f = Active (opening_memory f)
+opening_record f = Active (opening_state f)
 
 -- the part that never changes
 abbrev pub fixed_part : Record → Fixed
@@ -60,7 +60,7 @@ fixed_part (Gone f) = f
 -- ---- timers
 
 -- the request timers and the repair timers of what a member knows
-abbrev pub timers_of : Memory → List Due
+abbrev pub timers_of : MemberState → List Due
 timers_of m =
     map (λ e. record { time = e.1.expiry; rank = 2; name = e.0 }) m.missing
     ++ map (λ e. record { time = e.1.expiry; rank = 3; name = e.0 }) m.repairs
@@ -85,14 +85,14 @@ by_order Equal d e = d
 by_order Greater d e = e
 
 -- the earlier of a timer and another, if there is another
-abbrev pub sooner : Due → Option Due → Due
-sooner d None = d
-sooner d (Some e) = by_order (due_cmp d e) d e
+abbrev pub earlier_timer : Due → Option Due → Due
+earlier_timer d None = d
+earlier_timer d (Some e) = by_order (due_cmp d e) d e
 
 -- the least of these timers
 abbrev pub earliest : List Due → Option Due
 earliest [] = None
-earliest (d ∷ ds) = Some (sooner d (earliest ds))
+earliest (d ∷ ds) = Some (earlier_timer d (earliest ds))
 
 -- a record's next timer
 abbrev pub due_of : Record → Option Due
@@ -110,5 +110,5 @@ timers_at t r = count_if (λ d. d.time == t) (timers r)
 -- ---- the end
 
 -- what a member ends with: the names that it holds, with their inks, and those that it lacks
-abbrev pub exit_of : Memory → Exit
+abbrev pub exit_of : MemberState → Exit
 exit_of m = record { member = m.fixed.member; held = m.held; missing = map (λ e. e.0) m.missing }

@@ -1,7 +1,7 @@
 //! What holds of every member, and worked numbers.
 ghost use Rattle.std.specs.Prelude.{◌≡◌, [], ◌∷◌};
 ghost use Rattle.srm_member.specs.Laws.{FixedPartStays, TimersAreLater, ListenersSendNothing, AnswersAreOne};
-ghost use Rattle.srm_member.specs.Timers.{span, draw};
+ghost use Rattle.srm_member.specs.Timers.{span, timer_length};
 ghost use Rattle.srm_member.specs.Examples.{first_words};
 
 /// The fixed part of a member's record stays.
@@ -31,10 +31,10 @@ pub fn reference_words()
 
 /// Lengths that words pick of a span.
 pub fn worked_lengths()
-    ensures first { draw 0xa15c02b7 (20, 40) ≡ 33 }
-    ensures second { draw 0x7b47f409 (40, 80) ≡ 59 }
-    ensures greatest { draw 0xffffffff (20, 40) ≡ 40 }
-    ensures least { draw 0 (0, 0) ≡ 1 }
+    ensures first { timer_length 0xa15c02b7 (20, 40) ≡ 33 }
+    ensures second { timer_length 0x7b47f409 (40, 80) ≡ 59 }
+    ensures greatest { timer_length 0xffffffff (20, 40) ≡ 40 }
+    ensures least { timer_length 0 (0, 0) ≡ 1 }
 {}
 
 /// Spans of timers; from the tenth backoff on they stay.

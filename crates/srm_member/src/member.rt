@@ -1,5 +1,6 @@
 //! What a run sees of a member.
 ghost use Rattle.std.specs.Prelude.{◌≡◌, ◌<◌, ◌^◌};
+ghost use Rattle.srm_net.specs.Limits.{end_of_time};
 ghost use Rattle.srm_member.specs.Record.{Record, fixed_part, due_of};
 ghost use Rattle.srm_member.specs.Reacts.{Reacts, Finishes};
 
@@ -31,7 +32,7 @@ pub trait Member: Send + Drop {
     /// # Errors
     /// [`MemberFault::Spent`] exactly where the member is gone, and else [`MemberFault::NoMemory`] alone.
     fn react(&mut self, alloc: Global, at: u64, cause: &Cause) -> Result<React, MemberFault>
-        requires { at < 2 ^ 40 }
+        requires { at < end_of_time }
         ensures { Reacts (plain self.old) at cause.now result (plain self.new) };
 
     /// Ends the member, and gives what it holds and lacks. It is gone then, whatever is answered.

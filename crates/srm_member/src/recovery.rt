@@ -1,11 +1,12 @@
 //! Loss recovery.
 ghost use Rattle.std.specs.Prelude.{◌≡◌, ◌≢◌, ℕ, ◌<◌, ◌^◌, IfErr};
+ghost use Rattle.srm_net.specs.Limits.{end_of_time};
 ghost use Rattle.srm_net.specs.declared.role.Role.TheVariants.{Listener};
 ghost use Rattle.srm_member.specs.declared.fault.MemberFault.{MemberFault};
 ghost use Rattle.srm_member.specs.declared.cause.Cause.TheVariants.{Join, Arrival, Ask, Answer, Draw, Report};
 ghost use Rattle.srm_member.specs.Record.{fixed_part, due_of, opening_record};
 ghost use Rattle.srm_member.specs.Reacts.{Reacts, Finishes};
-ghost use Rattle.srm_member.specs.Fit.{IsFit};
+ghost use Rattle.srm_member.specs.Fit.{IsBounded};
 
 use crate::cause::Cause;
 use crate::due::Due;
@@ -13,7 +14,7 @@ use crate::exit::Exit;
 use crate::fault::MemberFault;
 use crate::fixed::Fixed;
 use crate::gone::begin;
-use crate::memory::Memory;
+use crate::member_state::MemberState;
 use crate::react::React;
 use crate::told::Told;
 use srm_net::packet::{Name, Packet};
@@ -28,7 +29,7 @@ use std::marker::Model;
 /// [`MemberFault::Spent`], and `due` answers `None`.
 #[derive(Drop)]
 pub struct Recovery {
-    memory: Memory,
+    state: MemberState,
     gone: bool,
 }
 
@@ -40,20 +41,20 @@ impl Model for Recovery {
 
     ghost Value = { Record };
 
-    ghost view = { λ r. record_of r.gone r.memory };
+    ghost view = { λ r. record_of r.gone r.state };
 
-    ghost invariant = { λ r. is_listener r.memory.fixed.role ≡ false };
+    ghost invariant = { λ r. is_listener r.state.fixed.role ≡ false };
 }
 
 impl Recovery {
     /// The record with which a member begins. It does not allocate.
     pub fn new(alloc: Global, fixed: Fixed) -> Self
         requires active { fixed.role ≢ Listener }
-        requires fit { IsFit fixed }
+        requires fit { IsBounded fixed }
         ensures { result ≡ opening_record fixed }
     {
         Recovery {
-            memory: Memory::new(alloc, fixed),
+            state: MemberState::new(alloc, fixed),
             gone: false,
         }
     }
@@ -62,7 +63,7 @@ impl Recovery {
     pub fn number(&self) -> u16
         ensures { result ≡ (fixed_part self.now).member }
     {
-        self.memory.number()
+        self.state.number()
     }
 
     /// The least timer by time, rank and name. It does not allocate.
@@ -72,7 +73,7 @@ impl Recovery {
         if self.gone {
             return None;
         }
-        self.memory.due()
+        self.state.due()
     }
 
     /// The member joins. It does not allocate.
@@ -98,11 +99,11 @@ impl Recovery {
     /// # Errors
     /// `Spent` where the member is gone already, and else `NoMemory`, after which it is.
     pub fn hear(&mut self, alloc: Global, at: u64, packet: &Packet) -> Result<React, MemberFault>
-        requires { at < 2 ^ 40 }
+        requires { at < end_of_time }
         ensures { Reacts self.old at (Arrival packet.now) result self.new }
     {
         begin(&mut self.gone)?;
-        let react = self.memory.hear(alloc, at, packet)?;
+        let react = self.state.hear(alloc, at, packet)?;
         self.gone = false;
         Ok(react)
     }
@@ -112,11 +113,11 @@ impl Recovery {
     /// # Errors
     /// `Spent` where the member is gone already, and else `NoMemory`, after which it is.
     pub fn ask(&mut self, alloc: Global, at: u64, name: Name) -> Result<React, MemberFault>
-        requires { at < 2 ^ 40 }
+        requires { at < end_of_time }
         ensures { Reacts self.old at (Ask name) result self.new }
     {
         begin(&mut self.gone)?;
-        let react = self.memory.ask(alloc, at, name)?;
+        let react = self.state.ask(alloc, at, name)?;
         self.gone = false;
         Ok(react)
     }
@@ -126,11 +127,11 @@ impl Recovery {
     /// # Errors
     /// `Spent` where the member is gone already, and else `NoMemory`, after which it is.
     pub fn answer(&mut self, alloc: Global, at: u64, name: Name) -> Result<React, MemberFault>
-        requires { at < 2 ^ 40 }
+        requires { at < end_of_time }
         ensures { Reacts self.old at (Answer name) result self.new }
     {
         begin(&mut self.gone)?;
-        let react = self.memory.answer(alloc, at, name)?;
+        let react = self.state.answer(alloc, at, name)?;
         self.gone = false;
         Ok(react)
     }
@@ -149,7 +150,7 @@ impl Recovery {
         ensures { Reacts self.old at (Draw page ink) result self.new }
     {
         begin(&mut self.gone)?;
-        let react = self.memory.draw_op(alloc, page, ink)?;
+        let react = self.state.draw_op(alloc, page, ink)?;
         self.gone = false;
         Ok(react)
     }
@@ -162,7 +163,7 @@ impl Recovery {
         ensures { (at : ℕ) → Reacts self.old at Report result self.new }
     {
         begin(&mut self.gone)?;
-        let react = self.memory.report(alloc)?;
+        let react = self.state.report(alloc)?;
         self.gone = false;
         Ok(react)
     }
@@ -172,7 +173,7 @@ impl Recovery {
     /// # Errors
     /// `Spent` where the member is gone already, and else `NoMemory`, after which it is.
     pub fn react(&mut self, alloc: Global, at: u64, cause: &Cause) -> Result<React, MemberFault>
-        requires { at < 2 ^ 40 }
+        requires { at < end_of_time }
         ensures { Reacts self.old at cause.now result self.new }
     {
         match cause {
@@ -193,7 +194,7 @@ impl Recovery {
         ensures { Finishes self.old result self.new }
     {
         begin(&mut self.gone)?;
-        let exit = self.memory.exit(alloc)?;
+        let exit = self.state.exit(alloc)?;
         Ok(exit)
     }
 }

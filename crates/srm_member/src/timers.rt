@@ -1,5 +1,6 @@
 //! Lengths of timers.
 ghost use Rattle.std.specs.Prelude.{◌≡◌, ◌*◌, ◌/◌, ◌<◌, ◌≤◌, ◌^◌, max};
+ghost use Rattle.srm_net.specs.Limits.{greatest_distance, greatest_constant};
 ghost use Rattle.srm_member.specs.Timers;
 
 /// The least and the greatest length of a timer, in ticks, after `i` backoffs: `x` and `x + y` thousandths of the distance `d`,
@@ -7,9 +8,9 @@ ghost use Rattle.srm_member.specs.Timers;
 ///
 /// `x` and `y` are thousandths, and `d` is in ticks. It does not allocate.
 pub fn span(i: u32, x: u32, y: u32, d: u64) -> (u64, u64)
-    requires least { x ≤ 64000 }
-    requires more { y ≤ 64000 }
-    requires distance { d ≤ 1023000000 }
+    requires least { x ≤ greatest_constant }
+    requires more { y ≤ greatest_constant }
+    requires distance { d ≤ greatest_distance }
     ensures value { result ≡ Timers.span i x y d }
     ensures order { result.0 ≤ result.1 }
     ensures bound { result.1 < 2 ^ 47 }
@@ -27,7 +28,7 @@ pub fn span(i: u32, x: u32, y: u32, d: u64) -> (u64, u64)
 fn thousandths(n: u64, x: u64, d: u64) -> u64
     requires times { n ≤ 1024 }
     requires part { x ≤ 128000 }
-    requires whole { d ≤ 1023000000 }
+    requires whole { d ≤ greatest_distance }
     ensures value { result ≡ n * x * d / 1000 }
     ensures bound { result < 2 ^ 47 }
 {
@@ -40,7 +41,7 @@ fn thousandths(n: u64, x: u64, d: u64) -> u64
 pub fn draw(word: u32, lo: u64, hi: u64) -> u64
     requires order { lo ≤ hi }
     requires bound { hi < 2 ^ 48 }
-    ensures value { result ≡ Timers.draw word (lo, hi) }
+    ensures value { result ≡ Timers.timer_length word (lo, hi) }
     ensures at_most { result ≤ max 1 hi }
 {
     let width = u128::from(hi - lo + 1);

@@ -16,6 +16,7 @@ use Rattle.srm_net.proofs.Numbers.{Apart, Below, in_head, in_tail, in_cases, not
 use Rattle.srm_net.proofs.Walks.{IsCut, way_crosses, walk_ends, same_link}
 use Rattle.srm_net.proofs.Growing.{joins_below, tree_cuts}
 use Rattle.srm_net.proofs.RouteLemmas.{joins_far, route_path, route_only, path_length}
+use Rattle.srm_net.specs.Limits.{greatest_distance}
 
 -- ---- members' nodes
 
@@ -80,7 +81,8 @@ delay_at_least links d u (l ∷ ls) v ns w n =
     let h : 1 ≤ delay_from u w.0 = (from_fits u w.0 (all_get HasDelays links l w.0 d w.3)).0 in
     subst (λ n. 1 ≤ n) (sym (along_first links u l w.1 ls w.0 w.3 w.4)) (omega arith)
 
-pub delay_bounded : (w : Network) → IsNetwork w → (u v : ℕ) → u < w.nodes → v < w.nodes → delay_along w.links u (route w u v) ≤ 1023000000
+pub delay_bounded : (w : Network) → IsNetwork w → (u v : ℕ) → u < w.nodes → v < w.nodes
+    → delay_along w.links u (route w u v) ≤ greatest_distance
 delay_bounded w n u v hu hv =
     let r = route_path w n.tree u v hu hv in
     let k = delay_at_most w.links n.delays u (route w u v) v r.0 r.1.0 in
@@ -89,7 +91,8 @@ delay_bounded w n u v hu hv =
     let one : length w.links + 1 ≡ w.nodes = n.tree.one_fewer in
     omega arith
 
-pub distance_bounded : (w : Network) → IsNetwork w → (a b : ℕ) → a < length w.hosts → b < length w.hosts → distance w a b ≤ 1023000000
+pub distance_bounded : (w : Network) → IsNetwork w → (a b : ℕ) → a < length w.hosts → b < length w.hosts
+    → distance w a b ≤ greatest_distance
 unfolding distance
 distance_bounded w n a b ha hb = delay_bounded w n (host w a) (host w b) (host_below w n a ha) (host_below w n b hb)
 
@@ -117,9 +120,6 @@ route_begins w t u v hu hv l rest e =
     let a : Apart (u ∷ k.2) = subst Apart k.5 r.1.1 in
     let b : k.1 < w.nodes = (joins_below w.nodes k.0 u k.1 (all_get (IsWithin w.nodes) w.links l k.0 t.ends k.3) k.4).1 in
     record { spec = k.0; next = k.1; link = k.3; joins = k.4; below = b; rest_is = route_only w t k.1 v b hv rest k.2 k.6 a.1 }
-
-pub route_self : (w : Network) → IsTree w → (u : ℕ) → u < w.nodes → route w u u ≡ []
-route_self w t u h = sym (route_only w t u u h h [] (u ∷ []) (refl, refl) (refl, tt))
 
 nowhere_within : (n : ℕ) (links : List LinkSpec) (u : ℕ) → unwrap_or (route_within n links [] u u) [] ≡ []
 unfolding route_within

@@ -19,6 +19,7 @@ use Rattle.srm_net.proofs.Walks.{walk_last, turned}
 use Rattle.srm_net.proofs.Growing.{attached_below, all_attached}
 use Rattle.srm_net.proofs.RouteLemmas.{walk_length}
 use Rattle.srm_net.proofs.PathLaws.{along_first, delay_at_most}
+use Rattle.srm_net.specs.Limits.{greatest_distance}
 
 -- a path among these nodes with this delay, which begins with this link
 pub record IsWay (links : List LinkSpec) (inside : List ℕ) (u x delay first : ℕ) : Type 0 where
@@ -290,7 +291,7 @@ tells_more nodes links ss s known down up d0 f0 d1 f1 size below new agree a sam
 -- no delay between attached nodes is above 1,023,000,000
 pub told_bounded : (nodes : ℕ) (links : List LinkSpec) (ss : List Step) (delays firsts : List ℕ) → nodes ≤ 1024 → All HasDelays links
     → Below nodes (attached ss) → TellsSoFar nodes links ss delays firsts
-    → (u x : ℕ) → is_in (attached ss) u ≡ true → is_in (attached ss) x ≡ true → number_at nodes delays u x ≤ 1023000000
+    → (u x : ℕ) → is_in (attached ss) u ≡ true → is_in (attached ss) x ≡ true → number_at nodes delays u x ≤ greatest_distance
 told_bounded nodes links ss delays firsts few d below t u x i j =
     let w = t.ways u x i j in
     let a = delay_at_most links d u w.path x w.nodes w.walk in

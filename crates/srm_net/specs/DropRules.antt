@@ -6,7 +6,7 @@ use Rattle.srm_net.specs.declared.link.OutageSpec.{OutageSpec}
 use Rattle.srm_net.specs.declared.packet.PacketId.{PacketId}
 use Rattle.srm_net.specs.Listed.{is_listed_somewhere}
 
--- the packets that links are listed as dropping, and the outages of links
+-- the packets that links are configured to drop, and the outages of links
 pub record DropRules : Type 0 where
   pub listed : List DropSpec
   pub outages : List OutageSpec

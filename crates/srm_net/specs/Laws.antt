@@ -15,6 +15,7 @@ use Rattle.srm_net.specs.Paths.{route, member_route, distance, round, drop_cmp, 
 use Rattle.srm_net.specs.DropRules.{DropRules, is_out, may_drop}
 use Rattle.srm_net.specs.Fates.{is_on_way}
 use Rattle.srm_net.specs.Least.{least_delay, out}
+use Rattle.srm_net.specs.Limits.{greatest_distance}
 
 -- in a tree the route between two nodes is a path, and there is no other
 abbrev pub OnePath : Type 0
@@ -45,7 +46,7 @@ TreesHaveOnePath = (w : Network) → IsTree w ↔ HasOnePathEach w
 abbrev pub DistancesFit : Type 0
 DistancesFit =
     (w : Network) → IsNetwork w → (a b : ℕ) → a < length w.hosts → b < length w.hosts
-    → (a ≢ b → 1 ≤ distance w a b) × (distance w a b ≤ 1023000000)
+    → (a ≢ b → 1 ≤ distance w a b) × (distance w a b ≤ greatest_distance)
 
 -- where each link takes as long in both directions, so do distances, and half a round trip is the distance
 abbrev pub AlikeBothWays : Type 0

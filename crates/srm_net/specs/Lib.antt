@@ -1,3 +1,4 @@
+pub mod Limits
 pub mod Orders
 pub mod Keys
 pub mod Names

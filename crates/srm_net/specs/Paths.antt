@@ -96,7 +96,7 @@ round w a b = distance w a b + distance w b a
 abbrev pub drop_cmp : DropSpec → DropSpec → Ordering
 drop_cmp d e = slice_cmp nat_cmp (d.link ∷ d.id.sender ∷ d.id.count ∷ []) (e.link ∷ e.id.sender ∷ e.id.count ∷ [])
 
--- whether link l is listed as dropping packet p
+-- whether link l is configured to drop packet p
 abbrev pub is_listed : List DropSpec → PacketId → ℕ → Bool
 is_listed drops p l = list_any (λ d. (d.link == l) && ((d.id.sender == p.sender) && (d.id.count == p.count))) drops
 

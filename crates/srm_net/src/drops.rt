@@ -14,7 +14,7 @@ use std::alloc::Global;
 use std::collections::HashSet;
 use std::marker::Model;
 
-/// The packets that links are listed as dropping, and the outages of links. Contracts see it as the rules of its entries in the order
+/// The packets that links are configured to drop, and the outages of links. Contracts see it as the rules of its entries in the order
 /// of links, senders and counts, each once, and of its outages as they were given.
 #[derive(Drop)]
 pub struct Drops {
@@ -65,7 +65,7 @@ impl Drops {
         })
     }
 
-    /// Whether a link is listed as dropping a packet.
+    /// Whether a link is configured to drop a packet.
     pub fn lists(&self, link: u16, id: PacketId) -> bool
         ensures { result ≡ is_listed self.now.listed id link }
     {
@@ -88,7 +88,7 @@ impl Drops {
         (is_listed && self.lists(link, id)) || self.outages.is_out(link, at)
     }
 
-    /// Whether any link is listed as dropping a packet.
+    /// Whether any link is configured to drop a packet.
     pub(crate) fn lists_somewhere(&self, id: PacketId) -> bool
         ensures { result ≡ is_listed_somewhere self.now.listed id }
     {

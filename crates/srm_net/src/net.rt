@@ -1,5 +1,6 @@
 //! A tree of nodes and links with members on some nodes, and what becomes of packets in it.
-ghost use Rattle.std.specs.Prelude.{◌≡◌, ◌≢◌, ℕ, ◌<◌, ◌≤◌, ◌^◌, true, false, not, ◌∷◌, All, IfOk, IfErr, IfSome, IfNone, length, slice_get};
+ghost use Rattle.std.specs.Prelude.{◌≡◌, ◌≢◌, ℕ, ◌<◌, ◌≤◌, ◌*◌, true, false, not, ◌∷◌, All, IfOk, IfErr, IfSome, IfNone, length, slice_get};
+ghost use Rattle.srm_net.specs.Limits.{end_of_time, greatest_distance};
 ghost use Rattle.srm_net.specs.Network.{plain_network, IsTree, HasDelays, AreHosts, IsNetwork};
 ghost use Rattle.srm_net.specs.Paths.{host, distance, round, stop, takes_out, reaches, crosses, drops_at};
 ghost use Rattle.srm_net.specs.Fates.{is_crossing, is_dropping, is_on_way};
@@ -135,7 +136,7 @@ impl Net {
         requires b { b < length self.now.hosts }
         ensures value { result ≡ distance self.now a b }
         ensures apart { a ≢ b → 1 ≤ result }
-        ensures bounded { result ≤ 1023000000 }
+        ensures bounded { result ≤ greatest_distance }
         ensures network { IsNetwork self.now }
     {
         self.tree.distance(a, b)
@@ -148,7 +149,7 @@ impl Net {
         requires b { b < length self.now.hosts }
         ensures value { result ≡ round self.now a b }
         ensures apart { a ≢ b → 2 ≤ result }
-        ensures bounded { result ≤ 2046000000 }
+        ensures bounded { result ≤ 2 * greatest_distance }
         ensures network { IsNetwork self.now }
     {
         self.distance(a, b) + self.distance(b, a)
@@ -174,7 +175,7 @@ impl Net {
     /// Whether a packet that is sent at the tick `sent` reaches member `m`: no link of the way from its sender is listed for it, or out
     /// when it comes there. It reaches its sender.
     pub fn reaches(&self, drops: &Drops, id: PacketId, sent: u64, m: u16) -> bool
-        requires sent { sent < 2 ^ 40 }
+        requires sent { sent < end_of_time }
         requires sender { id.sender < length self.now.hosts }
         requires member { m < length self.now.hosts }
         ensures { result ≡ reaches self.now drops.now id sent m }
@@ -186,7 +187,7 @@ impl Net {
     /// Whether a packet that is sent at the tick `sent` crosses a link: the link is on the way from its sender to some member, present
     /// or not, and neither it nor an earlier link of that way is listed for the packet, or out when it comes there.
     pub fn crosses(&self, drops: &Drops, id: PacketId, sent: u64, link: u16) -> bool
-        requires sent { sent < 2 ^ 40 }
+        requires sent { sent < end_of_time }
         requires sender { id.sender < length self.now.hosts }
         requires link { link < length self.now.links }
         ensures { result ≡ crosses self.now drops.now id sent link }
@@ -197,7 +198,7 @@ impl Net {
     /// Whether a packet that is sent at the tick `sent` is dropped at a link: the link is on the way from its sender to some member,
     /// present or not, it is listed for the packet, or out when it comes there, and no earlier link of that way is.
     pub fn drops_at(&self, drops: &Drops, id: PacketId, sent: u64, link: u16) -> bool
-        requires sent { sent < 2 ^ 40 }
+        requires sent { sent < end_of_time }
         requires sender { id.sender < length self.now.hosts }
         requires link { link < length self.now.links }
         ensures { result ≡ drops_at self.now drops.now id sent link }
@@ -210,7 +211,7 @@ impl Net {
     ///
     /// Of a packet that may not be dropped at all, [`is_on_way`](Net::is_on_way) tells the same without a look at the drops.
     pub fn fate(&self, drops: &Drops, id: PacketId, sent: u64, link: u16) -> Fate
-        requires sent { sent < 2 ^ 40 }
+        requires sent { sent < end_of_time }
         requires sender { id.sender < length self.now.hosts }
         requires link { link < length self.now.links }
         ensures crosses { is_crossing result ≡ crosses self.now drops.now id sent link }
@@ -236,7 +237,7 @@ impl Net {
         id: PacketId,
         sent: u64,
     ) -> Result<Spread, AllocError>
-        requires sent { sent < 2 ^ 40 }
+        requires sent { sent < end_of_time }
         requires sender { id.sender < length self.now.hosts }
         ensures spread { IfOk result (IsSpread self.now drops.now id sent) }
         ensures fits { IfOk result (FitsIn self.now) }
@@ -322,7 +323,7 @@ impl Net {
     /// The tick at which a packet comes to a link on its way to some member, where the link may yet drop it, or none where it does not
     /// come there.
     fn comes_to(&self, drops: &Drops, id: PacketId, sent: u64, link: u16) -> Option<u64>
-        requires sent { sent < 2 ^ 40 }
+        requires sent { sent < end_of_time }
         requires sender { id.sender < length self.now.hosts }
         requires link { link < length self.now.links }
         ensures crossed { IfSome result (λ at. crosses self.now drops.now id sent link

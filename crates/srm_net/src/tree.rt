@@ -1,6 +1,7 @@
 //! A tree of nodes and links with members on some nodes, and the ways in it.
-ghost use Rattle.std.specs.Prelude.{◌≡◌, ◌≢◌, ℕ, ◌+◌, ◌<◌, ◌≤◌, ◌^◌, not, ◌∷◌, Some, IfOk, length, slice_get};
+ghost use Rattle.std.specs.Prelude.{◌≡◌, ◌≢◌, ℕ, ◌+◌, ◌<◌, ◌≤◌, not, ◌∷◌, Some, IfOk, length, slice_get};
 ghost use Rattle.std.specs.List.{list_any};
+ghost use Rattle.srm_net.specs.Limits.{end_of_time, greatest_distance};
 ghost use Rattle.srm_net.specs.declared.link.LinkSpec.{LinkSpec};
 ghost use Rattle.srm_net.specs.Network.{IsNetwork};
 ghost use Rattle.srm_net.specs.Paths.{host, route, end_of, delay_along, distance, stop, stops, takes_out};
@@ -86,7 +87,7 @@ impl Tree {
         requires b { b < length self.now.hosts }
         ensures value { result ≡ distance self.now a b }
         ensures apart { a ≢ b → 1 ≤ result }
-        ensures bounded { result ≤ 1023000000 }
+        ensures bounded { result ≤ greatest_distance }
         ensures network { IsNetwork self.now }
     {
         self.ways.delay(self.host(a), self.host(b))
@@ -97,7 +98,7 @@ impl Tree {
         requires from { from < self.now.nodes }
         requires to { to < self.now.nodes }
         ensures value { result ≡ delay_along self.now.links from (route self.now from to) }
-        ensures bounded { result ≤ 1023000000 }
+        ensures bounded { result ≤ greatest_distance }
     {
         self.ways.delay(from, to)
     }
@@ -128,7 +129,7 @@ impl Tree {
         from: u16,
         to: u16,
     ) -> bool
-        requires sent { sent < 2 ^ 40 }
+        requires sent { sent < end_of_time }
         requires from { from < self.now.nodes }
         requires to { to < self.now.nodes }
         ensures { result ≡ not (list_any (takes_out drops.now id)
@@ -158,7 +159,7 @@ impl Tree {
         drops: &Drops,
         packet: Sending,
     ) -> Result<Vec<bool>, AllocError>
-        requires sent { packet.sent < 2 ^ 40 }
+        requires sent { packet.sent < end_of_time }
         requires from { packet.from < self.now.nodes }
         requires listed { packet.is_listed ≡ is_listed_somewhere drops.now.listed packet.id }
         ensures { IfOk result (λ comes. TellsComing self.now (takes_out drops.now packet.id) packet.from packet.sent comes.items) }
@@ -180,7 +181,7 @@ impl Tree {
         known: &mut [Option<bool>],
         node: u16,
     ) -> bool
-        requires sent { packet.sent < 2 ^ 40 }
+        requires sent { packet.sent < end_of_time }
         requires from { packet.from < self.now.nodes }
         requires node { node < self.now.nodes }
         requires listed { packet.is_listed ≡ is_listed_somewhere drops.now.listed packet.id }
@@ -206,7 +207,7 @@ impl Tree {
 
     /// Whether a link takes out a packet that comes to it at its end `near`.
     fn is_taken_out(&self, drops: &Drops, packet: Sending, link: u16, near: u16) -> bool
-        requires sent { packet.sent < 2 ^ 40 }
+        requires sent { packet.sent < end_of_time }
         requires from { packet.from < self.now.nodes }
         requires near { near < self.now.nodes }
         requires listed { packet.is_listed ≡ is_listed_somewhere drops.now.listed packet.id }

@@ -5,7 +5,7 @@ use Rattle.std.proofs.lemmas.List.FromFn.{map-range_with_len_more}
 use Rattle.csv.specs.Writing.{default_writer, row_text}
 use Rattle.srm_ledger.specs.declared.kind.Kind.{Kind}
 use Rattle.srm_ledger.specs.declared.kind.Kind.TheVariants.{Drawop, Request, Repair, Session, Dropped}
-use Rattle.srm_ledger.specs.Counts.{place_of, number_at}
+use Rattle.srm_ledger.specs.Counts.{place_of, counted_at}
 use Rattle.srm_report.proofs.Fives.{FiveEach, length_joined, index_joined}
 use Rattle.srm_report.specs.Links.{link_columns, link_fields, links_in, links_table}
 use Rattle.srm_report.specs.Tables.{table_of}
@@ -13,7 +13,7 @@ use Rattle.srm_report.proofs.TableLemmas.{table_first, table_more}
 
 -- the rows of the first n links
 abbrev pub first_rows : List ℕ → ℕ → List (List (List ℕ))
-first_rows totals n = map (λ l. link_fields l (number_at totals l)) (range_with_len 0 n)
+first_rows totals n = map (λ l. link_fields l (counted_at totals l)) (range_with_len 0 n)
 
 place_below : (k : Kind) → place_of k < 5
 place_below Drawop = omega arith
@@ -24,7 +24,7 @@ place_below Dropped = omega arith
 
 module _ (ls : List (List ℕ)) (five : FiveEach ls) (totals : List ℕ) (joined : concat ls ≡ totals) where
   -- the five numbers at place i are those of link i
-  numbers_are : (i : ℕ) (d : List ℕ) → i < length ls → (k : Kind) → slice_index (slice_index_or ls i d) (place_of k) ≡ number_at totals i k
+  numbers_are : (i : ℕ) (d : List ℕ) → i < length ls → (k : Kind) → slice_index (slice_index_or ls i d) (place_of k) ≡ counted_at totals i k
   numbers_are i d lt k =
       sym (index_joined ls five i (place_of k) d lt (place_below k))
       ∙ ap (λ t. slice_index t (5 * i + place_of k)) joined
@@ -37,10 +37,10 @@ module _ (ls : List (List ℕ)) (five : FiveEach ls) (totals : List ℕ) (joined
       (link_fields i (λ k. slice_index (slice_index_or ls i d) (place_of k)))
       → new ≡ old ++ line → new ≡ table_of link_columns (first_rows totals (i + 1))
   text_more i d old new line lt before is grown =
-      let same : line ≡ row_text default_writer (link_fields i (number_at totals i)) =
+      let same : line ≡ row_text default_writer (link_fields i (counted_at totals i)) =
       is ∙ (λ t. row_text default_writer (link_fields i (λ k. numbers_are i d lt k t))) in
-      table_more link_columns (first_rows totals i) (link_fields i (number_at totals i)) old new line before same grown
-      ∙ ap (table_of link_columns) (sym (map-range_with_len_more (λ l. link_fields l (number_at totals l)) 0 i i (omega arith)))
+      table_more link_columns (first_rows totals i) (link_fields i (counted_at totals i)) old new line before same grown
+      ∙ ap (table_of link_columns) (sym (map-range_with_len_more (λ l. link_fields l (counted_at totals l)) 0 i i (omega arith)))
 
   pub text_all : (i : ℕ) (text : List ℕ) → i ≡ length ls → text ≡ table_of link_columns (first_rows totals i) → text ≡ links_table totals
   unfolding links_table

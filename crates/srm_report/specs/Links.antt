@@ -3,7 +3,7 @@ use Rattle.std.specs.Prelude.{ℕ, ◌/◌, List, [], ◌∷◌, map, length, co
 use Rattle.std.specs.List.{range_with_len}
 use Rattle.srm_ledger.specs.declared.kind.Kind.{Kind}
 use Rattle.srm_ledger.specs.declared.kind.Kind.TheVariants.{Drawop, Request, Repair, Session, Dropped}
-use Rattle.srm_ledger.specs.Counts.{number_at}
+use Rattle.srm_ledger.specs.Counts.{counted_at}
 use Rattle.srm_report.specs.Tables.{table_of}
 
 -- the columns of the table
@@ -29,7 +29,7 @@ links_in totals = length totals / 5
 
 -- the rows of all links
 abbrev pub link_rows : List ℕ → List (List (List ℕ))
-link_rows totals = map (λ l. link_fields l (number_at totals l)) (range_with_len 0 (links_in totals))
+link_rows totals = map (λ l. link_fields l (counted_at totals l)) (range_with_len 0 (links_in totals))
 
 -- the table of links with these totals
 unfoldable pub links_table : List ℕ → List ℕ

@@ -5,7 +5,7 @@ use Rattle.srm_net.specs.declared.packet.Name.{Name}
 use Rattle.srm_net.specs.Network.{Network}
 use Rattle.srm_scenario.specs.Plain.{PlainScenario, network_of}
 use Rattle.srm_member.specs.declared.fixed.Fixed.{Fixed}
-use Rattle.srm_member.specs.Record.{Memory, opening_memory}
+use Rattle.srm_member.specs.Record.{MemberState, opening_state}
 pub use Rattle.srm_cell.specs.Setting.{member_at, half_rounds_from, fixed_of}
 
 -- member m is there, with this role, and the network is the scenario's
@@ -15,5 +15,5 @@ pub record HasRole (s : PlainScenario) (net : Network) (m : ℕ) (role : Role) :
   pub network : net ≡ network_of s
 
 -- what a listener knows: it begins as every member, and holds names
-abbrev pub listening : Fixed → List (Name × ℕ) → Memory
-listening f held = record (opening_memory f) { held = held }
+abbrev pub listening : Fixed → List (Name × ℕ) → MemberState
+listening f held = record (opening_state f) { held = held }

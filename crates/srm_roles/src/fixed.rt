@@ -1,7 +1,8 @@
 //! The part of a member's record that never changes.
 ghost use Rattle.std.specs.Prelude.{◌≡◌, ◌<◌, ◌≤◌, length, All, IfOk};
+ghost use Rattle.srm_net.specs.Limits.{greatest_distance};
 ghost use Rattle.srm_scenario.specs.Plain.{network_of};
-ghost use Rattle.srm_member.specs.Fit.{IsFit};
+ghost use Rattle.srm_member.specs.Fit.{IsBounded};
 ghost use Rattle.srm_roles.specs.Opening.{half_rounds_from, fixed_of};
 
 use srm_member::fixed::Fixed;
@@ -25,7 +26,7 @@ pub fn fixed_of(
     requires member { m < length scenario.now.members }
     requires network { net.now ≡ network_of scenario.now }
     ensures value { IfOk result (λ f. f ≡ fixed_of scenario.now net.now seed m) }
-    ensures fit { IfOk result IsFit }
+    ensures fit { IfOk result IsBounded }
 {
     let dist = half_rounds(alloc, net, m)?;
     let member = scenario.member(m);
@@ -49,7 +50,7 @@ pub fn fixed_of(
 fn half_rounds(alloc: Global, net: &Net, m: u16) -> Result<Sequence<u64>, AllocError>
     requires { m < length net.now.hosts }
     ensures value { IfOk result (λ ds. ds ≡ half_rounds_from net.now m) }
-    ensures bounded { IfOk result (All (λ d. d ≤ 1023000000)) }
+    ensures bounded { IfOk result (All (λ d. d ≤ greatest_distance)) }
 {
     let mut dist = Sequence::new(alloc);
     for b in 0..net.members() {

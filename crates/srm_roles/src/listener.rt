@@ -2,7 +2,7 @@
 ghost use Rattle.std.specs.Prelude.{◌≡◌, [], IfOk, OnErr, MatchResult};
 ghost use Rattle.srm_net.specs.declared.role.Role.TheVariants as role;
 ghost use Rattle.srm_member.specs.declared.fault.MemberFault.TheVariants.{NoMemory};
-ghost use Rattle.srm_member.specs.Record.{Memory, opening_record};
+ghost use Rattle.srm_member.specs.Record.{MemberState, opening_record};
 ghost use Rattle.srm_member.specs.React.{quietly, listened, react_listener};
 ghost use Rattle.srm_roles.specs.Opening.{HasRole, fixed_of};
 
@@ -108,7 +108,7 @@ impl Member for Listener {
 
 // What comes of a cause, and the names held after it.
 fn listen(held: &mut Named<u32>, cause: &Cause) -> Result<Told, AllocError>
-    ensures ok { IfOk result (λ told. (m : Memory) → m.held ≡ held.old
+    ensures ok { IfOk result (λ told. (m : MemberState) → m.held ≡ held.old
         → react_listener m cause.now ≡ quietly (record m { held = held.new }) told []) }
     ensures err { OnErr result (held.new ≡ held.old) }
 {
@@ -129,7 +129,7 @@ fn listen(held: &mut Named<u32>, cause: &Cause) -> Result<Told, AllocError>
 
 // Takes in data or a repair of a name.
 fn hold(held: &mut Named<u32>, name: Name, ink: u32) -> Result<Told, AllocError>
-    ensures ok { IfOk result (λ told. (m : Memory) → m.held ≡ held.old
+    ensures ok { IfOk result (λ told. (m : MemberState) → m.held ≡ held.old
         → listened name ink m ≡ quietly (record m { held = held.new }) told []) }
     ensures err { OnErr result (held.new ≡ held.old) }
 {

@@ -1,5 +1,5 @@
 -- What has no fault is as every accepted scenario is.
-use Rattle.std.proofs.Common.{◌≡◌, ◌≢◌, ℕ, ◌+◌, ◌<◌, ◌≤◌, ◌^◌, Bool, true, false, not, cond, List, [], ◌∷◌, ◌++◌, length, map, Option, Some}
+use Rattle.std.proofs.Common.{◌≡◌, ◌≢◌, ℕ, ◌+◌, ◌<◌, ◌≤◌, Bool, true, false, not, cond, List, [], ◌∷◌, ◌++◌, length, map, Option, Some}
 use Rattle.std.proofs.Common.{None, nat_le, nat_lt, nat_eq, slice_get, Ordering, Less, Equal, Greater, refl, sym, ap, ◌∙◌, subst, arith}
 use Rattle.std.proofs.Common.{inl, inr}
 use Rattle.std.proofs.lemmas.Bool.{and_parts, cases_Bool, false≢true, not-true}
@@ -31,6 +31,7 @@ use Rattle.srm_scenario.specs.Plain.{PlainScenario, network_of}
 use Rattle.srm_scenario.specs.Ranges.{MemberInRange, HasItsPages, InRange}
 use Rattle.srm_scenario.specs.Trees.{is_tree}
 use Rattle.srm_scenario.proofs.TreeLemmas.{tree_from_test}
+use Rattle.srm_net.specs.Limits.{end_of_time}
 
 -- ---- lists of faults without one
 
@@ -138,8 +139,8 @@ all_once cmp P (x ∷ xs) h = all_with cmp P x (ordered_once cmp xs) h.0 (all_on
 
 -- ---- members
 
-leaves : (join : ℕ) (o : Option ℕ) → leaves_after join o ≡ true → ((at : ℕ) → o ≡ Some at → at ≤ 2 ^ 40) → (at : ℕ) → o ≡ Some at
-    → (join < at) × (at ≤ 2 ^ 40)
+leaves : (join : ℕ) (o : Option ℕ) → leaves_after join o ≡ true → ((at : ℕ) → o ≡ Some at → at ≤ end_of_time) → (at : ℕ) → o ≡ Some at
+    → (join < at) × (at ≤ end_of_time)
 leaves join None h few at e = cc
 leaves join (Some end) h few at e = let same : end ≡ at = cc in (grind (arith, nat_tests), few at e)
 

@@ -12,6 +12,7 @@ use Rattle.toml.specs.declared.value.Value.{Value}
 use Rattle.srm_scenario.specs.Rules.{is_met, is_kind, rule, meets, elements, numbers, optional, count_items, all_whole}
 use Rattle.srm_scenario.specs.Described.{items_list, array_of, array_at, number_of, table_of}
 use Rattle.srm_scenario.specs.LookUps.{IsArray}
+use Rattle.srm_net.specs.Limits.{most_listed}
 
 pub items_list-of : (ds : List Data) → items_list (items_of ds) ≡ ds
 items_list-of [] = refl
@@ -147,8 +148,8 @@ pub numbers-read : {E : Type 0} (key : List ℕ) (most high : ℕ) (ms : Members
 numbers-read key most high ms vs (Ok o) h read = one-read key most high ms vs o h read
 numbers-read key most high ms vs (Err e) h read = tt
 
-pub few_read : {A : Type 0} (vs : List Value) (reading : Value → A) (xs : List A) → xs ≡ map reading vs → length (map view vs) ≤ 4096
-    → length xs ≤ 4096
+pub few_read : {A : Type 0} (vs : List Value) (reading : Value → A) (xs : List A) → xs ≡ map reading vs → length (map view vs) ≤ most_listed
+    → length xs ≤ most_listed
 few_read vs reading xs read few =
     let a : length xs ≡ length vs = ap length read ∙ length-map vs reading in
     let b : length (map view vs) ≡ length vs = length-map vs view in

@@ -1,5 +1,5 @@
 -- The ranges of a file's keys are those of the scenario.
-use Rattle.std.proofs.Common.{◌≡◌, ℕ, zero, suc, ◌+◌, ◌-◌, ◌≤◌, ◌^◌, Bool, true, false, cond, pos, negsuc, List, [], ◌∷◌, map, Option, Some}
+use Rattle.std.proofs.Common.{◌≡◌, ℕ, zero, suc, ◌+◌, ◌-◌, ◌≤◌, Bool, true, false, cond, pos, negsuc, List, [], ◌∷◌, map, Option, Some}
 use Rattle.std.proofs.Common.{None, is_some, unwrap_or, nat_le, codes, refl, sym, ap, ◌∙◌, subst, arith}
 use Rattle.std.proofs.lemmas.Bool.{and_parts, false≢true}
 use Rattle.std.proofs.lemmas.Bool.Decides.{nat_tests}
@@ -27,6 +27,7 @@ use Rattle.srm_scenario.specs.Plain.{drop_rules_of}
 use Rattle.srm_scenario.specs.Drafts.{IsDraft, links_listed, plain_of}
 use Rattle.srm_scenario.specs.Ranges.{MemberInRange, HasItsPages, InRange}
 use Rattle.srm_scenario.proofs.Acceptance.{empty_parts, none_by}
+use Rattle.srm_net.specs.Limits.{end_of_time}
 
 -- ---- numbers
 
@@ -124,12 +125,12 @@ member_range v m h =
     let (node, r2) = and_parts (is_met m (index_rule (codes "node") v)) _ r1 in
     let (role, r3) = and_parts (is_met m role_rule) _ r2 in
     let (stream, r4) = and_parts (is_met m (rule (codes "stream") (whole 0 9223372036854775807) required)) _ r3 in
-    let (join, r5) = and_parts (is_met m (rule (codes "join") (whole 0 (2 ^ 40)) optional)) _ r4 in
-    let (leave, r6) = and_parts (is_met m (rule (codes "leave") (whole 1 (2 ^ 40)) optional)) _ r5 in
+    let (join, r5) = and_parts (is_met m (rule (codes "join") (whole 0 end_of_time) optional)) _ r4 in
+    let (leave, r6) = and_parts (is_met m (rule (codes "leave") (whole 1 end_of_time) optional)) _ r5 in
     let few = required_number (codes "stream") 0 9223372036854775807 m stream in
     record {
       stream = omega (arith, few.1);
-      leave = optional_bound (codes "leave") 1 (2 ^ 40) m leave;
+      leave = optional_bound (codes "leave") 1 end_of_time m leave;
     }
 
 pages_own : (v : Version) (m : Members) → fits (member_rules v) m ≡ true → HasItsPages (entry_of m)

@@ -11,18 +11,19 @@ use Rattle.srm_scenario.specs.declared.parts.MemberSpec.{MemberSpec}
 use Rattle.srm_scenario.specs.declared.parts.DrawSpec.{DrawSpec}
 use Rattle.srm_scenario.specs.declared.parts.SessionSpec.{SessionSpec}
 use Rattle.srm_scenario.specs.Plain.{PlainScenario, network_of}
+use Rattle.srm_net.specs.Limits.{end_of_time, greatest_constant, most_listed}
 
 -- each constant is at most 64,000 thousandths
 pub record AreConstants (c : Constants) : Type 0 where
-  pub c1 : c.c1 ≤ 64000
-  pub c2 : c.c2 ≤ 64000
-  pub d1 : c.d1 ≤ 64000
-  pub d2 : c.d2 ≤ 64000
+  pub c1 : c.c1 ≤ greatest_constant
+  pub c2 : c.c2 ≤ greatest_constant
+  pub d1 : c.d1 ≤ greatest_constant
+  pub d2 : c.d2 ≤ greatest_constant
 
 -- a member joins before the end of the run and before it leaves, and pages are a late member's alone
 pub record IsMember (until : ℕ) (m : MemberSpec) : Type 0 where
   pub join : m.join < until
-  pub leave : (at : ℕ) → m.leave ≡ Some at → (m.join < at) × (at ≤ 2 ^ 40)
+  pub leave : (at : ℕ) → m.leave ≡ Some at → (m.join < at) × (at ≤ end_of_time)
   pub pages : m.role ≢ Late → m.pages ≡ []
   pub stream : m.stream < 2 ^ 63
 
@@ -52,14 +53,14 @@ IsOutage s o = (o.link < length s.links) × (o.from < o.to)
 -- an accepted scenario
 pub record IsAccepted (s : PlainScenario) : Type 0 where
   pub some_ticks : 1 ≤ s.until
-  pub few_ticks : s.until ≤ 2 ^ 40
+  pub few_ticks : s.until ≤ end_of_time
   pub constants : AreConstants s.constants
   pub network : IsNetwork (network_of s)
   pub members : All (IsMember s.until) s.members
   pub draws : All (IsDraw s) s.draws
-  pub few_draws : length s.draws ≤ 4096
+  pub few_draws : length s.draws ≤ most_listed
   pub sessions : All (IsSession s) s.sessions
-  pub few_sessions : length s.sessions ≤ 4096
+  pub few_sessions : length s.sessions ≤ most_listed
   pub drops : All (IsDrop s) s.drops.listed
   pub drops_ascend : Ascends drop_cmp s.drops.listed
   pub outages : All (IsOutage s) s.drops.outages

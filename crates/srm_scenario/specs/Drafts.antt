@@ -1,5 +1,5 @@
 -- What is read from a table before its parts are held against one another.
-use Rattle.std.specs.Prelude.{◌≡◌, ℕ, ◌-◌, ◌≤◌, ◌^◌, List, [], Option, Some, None, codes, map, length}
+use Rattle.std.specs.Prelude.{◌≡◌, ℕ, ◌-◌, ◌≤◌, List, [], Option, Some, None, codes, map, length}
 use Rattle.toml.specs.Data.{Members}
 use Rattle.srm_net.specs.declared.link.LinkSpec.{LinkSpec}
 use Rattle.srm_scenario.specs.declared.fault.ScenarioFault.{ScenarioFault}
@@ -12,13 +12,14 @@ use Rattle.srm_scenario.specs.Described.{number, constants_of, topology_of, dela
 use Rattle.srm_scenario.specs.Described.{draw_of, session_of, listed_drops, outages_in, links_to_parents}
 use Rattle.srm_scenario.specs.Faults.{key_faults, meaning_faults, is_star, entry_of}
 use Rattle.srm_scenario.specs.LookUps.{HasDegree, AreDelays}
+use Rattle.srm_net.specs.Limits.{end_of_time, most_listed}
 
 -- this is what the table lists, no key of which is a fault
 pub record IsDraft (ms : Members) (l : Draft) : Type 0 where
   pub no_fault : key_faults ms ≡ []
   pub until : number (codes "until") ms ≡ l.until
   pub some_ticks : 1 ≤ l.until
-  pub few_ticks : l.until ≤ 2 ^ 40
+  pub few_ticks : l.until ≤ end_of_time
   pub constants : constants_of ms ≡ l.constants
   pub constants_fit : AreConstants l.constants
   pub topology : topology_of ms ≡ l.topology
@@ -33,8 +34,8 @@ pub record IsDraft (ms : Members) (l : Draft) : Type 0 where
   pub sessions : elements_at (codes "session") session_of ms ≡ l.sessions.items
   pub drops : listed_drops ms ≡ l.drops.items
   pub outages : outages_in ms ≡ l.outages.items
-  pub few_draws : length l.draws.items ≤ 4096
-  pub few_sessions : length l.sessions.items ≤ 4096
+  pub few_draws : length l.draws.items ≤ most_listed
+  pub few_sessions : length l.sessions.items ≤ most_listed
 
 -- ---- the scenario of what is listed
 

@@ -1,5 +1,5 @@
 -- What look-ups in a table give.
-use Rattle.std.specs.Prelude.{◌≡◌, ℕ, ◌≤◌, ◌^◌, Bool, true, List, Option, Some, None, codes, is_some, length}
+use Rattle.std.specs.Prelude.{◌≡◌, ℕ, ◌≤◌, Bool, true, List, Option, Some, None, codes, is_some, length}
 use Rattle.std.specs.List.{list_all}
 use Rattle.toml.specs.Data.{Data, Members, get_member}
 use Rattle.srm_net.specs.Network.{IsLinkDelay}
@@ -14,6 +14,7 @@ use Rattle.srm_scenario.specs.Rules.{index_rule, topology_rule, back_rule, outag
 use Rattle.srm_scenario.specs.Rules.{shape_rules, array_rules}
 use Rattle.srm_scenario.specs.Described.{number, optional_number, number_of, array_at, says, version_of, topology_of}
 use Rattle.srm_scenario.specs.Described.{delays_of, constants_of, nodes_in}
+use Rattle.srm_net.specs.Limits.{end_of_time, most_listed}
 
 -- the value is this whole number, from low to high
 pub record IsNumber (low high : ℕ) (d : Data) (n : ℕ) : Type 0 where
@@ -97,7 +98,7 @@ pub record HasNumbers (ms : Members) (version : Version) (until : ℕ) (constant
   pub version_is : version_of ms ≡ version
   pub until_is : number (codes "until") ms ≡ until
   pub some_ticks : 1 ≤ until
-  pub few_ticks : until ≤ 2 ^ 40
+  pub few_ticks : until ≤ end_of_time
   pub constants_are : constants_of ms ≡ constants
   pub constants_fit : AreConstants constants
 
@@ -131,7 +132,7 @@ pub record HasArrays (version : Version) (ms : Members) (members draws sessions 
     pub members_are : members ≡ array_at (codes "member") ms
     pub draws_are : draws ≡ array_at (codes "draw") ms
     pub sessions_are : sessions ≡ array_at (codes "session") ms
-    pub few_draws : length draws ≤ 4096
-    pub few_sessions : length sessions ≤ 4096
+    pub few_draws : length draws ≤ most_listed
+    pub few_sessions : length sessions ≤ most_listed
     pub drops_are : drops ≡ array_at (codes "drop") ms
     pub outages_are : outages ≡ array_at (codes "outage") ms

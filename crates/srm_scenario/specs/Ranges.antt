@@ -6,11 +6,12 @@ use Rattle.srm_scenario.specs.declared.entry.MemberEntry.{MemberEntry}
 use Rattle.srm_scenario.specs.declared.parts.MemberSpec.{MemberSpec}
 use Rattle.srm_scenario.specs.Plain.{PlainScenario}
 use Rattle.srm_scenario.specs.Accepted.{AreConstants}
+use Rattle.srm_net.specs.Limits.{end_of_time, most_listed}
 
 -- a member's stream and leave are in their ranges
 pub record MemberInRange (k : MemberSpec) : Type 0 where
   pub stream : k.stream < 2 ^ 63
-  pub leave : (at : ℕ) → k.leave ≡ Some at → at ≤ 2 ^ 40
+  pub leave : (at : ℕ) → k.leave ≡ Some at → at ≤ end_of_time
 
 -- a member for which no pages are given has none
 abbrev pub HasItsPages : MemberEntry → Type 0
@@ -19,9 +20,9 @@ HasItsPages e = e.has_pages ≡ false → e.spec.pages ≡ []
 -- the numbers of a scenario are in their ranges
 pub record InRange (s : PlainScenario) : Type 0 where
   pub some_ticks : 1 ≤ s.until
-  pub few_ticks : s.until ≤ 2 ^ 40
+  pub few_ticks : s.until ≤ end_of_time
   pub constants : AreConstants s.constants
   pub delays : AllByRecursion HasDelays s.links
   pub members : AllByRecursion MemberInRange s.members
-  pub few_draws : length s.draws ≤ 4096
-  pub few_sessions : length s.sessions ≤ 4096
+  pub few_draws : length s.draws ≤ most_listed
+  pub few_sessions : length s.sessions ≤ most_listed

@@ -1,5 +1,5 @@
 -- The keys of a scenario file: what each may hold, and whether it must be there, in each version of the format.
-use Rattle.std.specs.Prelude.{ℕ, suc, ◌-◌, ◌^◌, pos, Bool, true, false, ◌&&◌, List, [], ◌∷◌, ◌++◌, Option, Some, None}
+use Rattle.std.specs.Prelude.{ℕ, suc, ◌-◌, pos, Bool, true, false, ◌&&◌, List, [], ◌∷◌, ◌++◌, Option, Some, None}
 use Rattle.std.specs.Prelude.{codes, map, nat_le, if◌then◌else◌}
 use Rattle.std.specs.List.{list_any, list_all}
 use Rattle.std.specs.Str.{bytes_eq}
@@ -7,6 +7,7 @@ use Rattle.srm_scenario.specs.declared.version.Version.{Version}
 use Rattle.srm_scenario.specs.declared.version.Version.TheVariants.{One, Two}
 use Rattle.toml.specs.Data.{Data, Items, Members, integer, string, array, table, no_items, item, no_members, member}
 use Rattle.toml.specs.Data.{get_member}
+use Rattle.srm_net.specs.Limits.{end_of_time, greatest_constant, most_listed}
 
 -- what a key may hold
 pub data Kind : Type 0 where
@@ -65,11 +66,11 @@ index_rule key version = rule key (whole 0 (last_number version)) required
 abbrev pub number_rules : List Rule
 number_rules =
     rule (codes "version") (whole 1 2) required
-    ∷ rule (codes "until") (whole 1 (2 ^ 40)) required
-    ∷ rule (codes "c1") (whole 0 64000) required
-    ∷ rule (codes "c2") (whole 0 64000) required
-    ∷ rule (codes "d1") (whole 0 64000) required
-    ∷ rule (codes "d2") (whole 0 64000) required
+    ∷ rule (codes "until") (whole 1 end_of_time) required
+    ∷ rule (codes "c1") (whole 0 greatest_constant) required
+    ∷ rule (codes "c2") (whole 0 greatest_constant) required
+    ∷ rule (codes "d1") (whole 0 greatest_constant) required
+    ∷ rule (codes "d2") (whole 0 greatest_constant) required
     ∷ []
 
 -- the topology that the top table names, and the degree of its tree
@@ -97,15 +98,15 @@ shape_rules version shaped tree =
 
 -- the outages of links
 abbrev pub outage_rule : Bool → Rule
-outage_rule allowed = rule (codes "outage") (elements 4096) (if allowed then optional else refused)
+outage_rule allowed = rule (codes "outage") (elements most_listed) (if allowed then optional else refused)
 
 -- the other arrays of the top table
 abbrev pub array_rules : Version → List Rule
 array_rules version =
     rule (codes "member") (elements (most_nodes version)) optional
-    ∷ rule (codes "draw") (elements 4096) optional
-    ∷ rule (codes "session") (elements 4096) optional
-    ∷ rule (codes "drop") (elements 4096) optional
+    ∷ rule (codes "draw") (elements most_listed) optional
+    ∷ rule (codes "session") (elements most_listed) optional
+    ∷ rule (codes "drop") (elements most_listed) optional
     ∷ outage_rule (allows_outages version)
     ∷ []
 
@@ -133,8 +134,8 @@ member_rules version =
     index_rule (codes "node") version
     ∷ role_rule
     ∷ rule (codes "stream") (whole 0 9223372036854775807) required
-    ∷ rule (codes "join") (whole 0 (2 ^ 40)) optional
-    ∷ rule (codes "leave") (whole 1 (2 ^ 40)) optional
+    ∷ rule (codes "join") (whole 0 end_of_time) optional
+    ∷ rule (codes "leave") (whole 1 end_of_time) optional
     ∷ pages_rule
     ∷ []
 
@@ -143,13 +144,13 @@ draw_rules version =
     index_rule (codes "member") version
     ∷ rule (codes "page") (whole 0 65535) required
     ∷ rule (codes "ink") (whole 0 4294967295) required
-    ∷ rule (codes "at") (whole 0 (2 ^ 40)) required
+    ∷ rule (codes "at") (whole 0 end_of_time) required
     ∷ []
 
 abbrev pub session_rules : Version → List Rule
 session_rules version =
     index_rule (codes "member") version
-    ∷ rule (codes "at") (whole 0 (2 ^ 40)) required
+    ∷ rule (codes "at") (whole 0 end_of_time) required
     ∷ []
 
 abbrev pub drop_rules : Version → List Rule
@@ -162,8 +163,8 @@ drop_rules version =
 abbrev pub outage_rules : Version → List Rule
 outage_rules version =
     index_rule (codes "link") version
-    ∷ rule (codes "from") (whole 0 (2 ^ 40)) required
-    ∷ rule (codes "to") (whole 1 (2 ^ 40)) required
+    ∷ rule (codes "from") (whole 0 end_of_time) required
+    ∷ rule (codes "to") (whole 1 end_of_time) required
     ∷ []
 
 -- ---- whether a table meets rules

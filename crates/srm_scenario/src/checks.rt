@@ -1,7 +1,7 @@
 //! Whether the parts of a scenario fit one another.
 ghost use Rattle.std.specs.Prelude.{◌≡◌, [], Some, MatchResult, length};
 ghost use Rattle.srm_scenario.specs.declared.fault.ScenarioFault.TheVariants.{BadDraw, BadSession, BadDrop, BadOutage};
-ghost use Rattle.srm_scenario.specs.Faults.{first, faults_by, is_taken, member_faults, fits_member, is_there, fits_draw, fits_session, fits_drop, fits_outage};
+ghost use Rattle.srm_scenario.specs.Faults.{first, faults_by, is_taken, member_faults, fits_member, fits_draw, fits_session, fits_drop, fits_outage};
 
 use crate::entry::MemberEntry;
 use crate::fault::ScenarioFault;
@@ -9,23 +9,12 @@ use crate::parts::{DrawSpec, MemberSpec, SessionSpec};
 use srm_net::link::{DropSpec, LinkSpec, OutageSpec};
 use srm_net::role::Role;
 
-/// Whether a member is there at this time, which is before the end of the run.
-fn is_there(until: u64, at: u64, member: &MemberSpec) -> bool
-    ensures { result ≡ is_there until at member.now }
-{
-    let stays = match member.leave {
-        Some(end) => at <= end,
-        None => true,
-    };
-    member.join <= at && stays && at < until
-}
-
 /// Whether a draw is by a sender that is there.
 fn fits_draw(until: u64, members: &[MemberSpec], draw: &DrawSpec) -> bool
     ensures { result ≡ fits_draw until members.now draw.now }
 {
     match members.get(draw.member as usize) {
-        Some(member) => matches!(member.role, Role::Sender) && is_there(until, draw.at, member),
+        Some(member) => matches!(member.role, Role::Sender) && member.is_present(until, draw.at),
         None => false,
     }
 }
@@ -36,7 +25,7 @@ fn fits_session(until: u64, members: &[MemberSpec], session: &SessionSpec) -> bo
 {
     match members.get(session.member as usize) {
         Some(member) => {
-            !matches!(member.role, Role::Listener) && is_there(until, session.at, member)
+            !matches!(member.role, Role::Listener) && member.is_present(until, session.at)
         }
         None => false,
     }

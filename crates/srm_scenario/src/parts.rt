@@ -1,4 +1,7 @@
 //! The parts of a scenario.
+ghost use Rattle.std.specs.Prelude.{◌≡◌};
+ghost use Rattle.srm_scenario.specs.Presence.{is_present};
+
 use srm_net::role::Role;
 use srm_net::sequence::Sequence;
 
@@ -30,6 +33,20 @@ pub struct MemberSpec {
     pub leave: Option<u64>,
     /// Of a late member, the pages whose earlier operations it asks for.
     pub pages: Sequence<u16>,
+}
+
+impl MemberSpec {
+    /// Whether the member is present at this tick in a run that ends at `until`: it joined by then, it leaves no earlier, and the
+    /// run is not over.
+    pub fn is_present(&self, until: u64, at: u64) -> bool
+        ensures { result ≡ is_present self.now.join self.now.leave until at }
+    {
+        let stays = match self.leave {
+            Some(end) => at <= end,
+            None => true,
+        };
+        self.join <= at && stays && at < until
+    }
 }
 
 /// A drawing operation.

@@ -1,5 +1,6 @@
 //! The script of a member.
 ghost use Rattle.std.specs.Prelude.{◌≡◌, ◌++◌, ◌∷◌, length, ◌≤◌, ◌<◌, IfOk};
+ghost use Rattle.srm_net.specs.Limits.{most_listed};
 ghost use Rattle.srm_net.specs.Orders.{ordered};
 ghost use Rattle.srm_scenario.specs.Plain.{mark_cmp, plain_mark, draw_marks, report_marks, leave_marks};
 
@@ -13,7 +14,7 @@ pub(crate) fn push_draws(
     m: u16,
     draws: &[DrawSpec],
 ) -> Result<(), AllocError>
-    requires { length draws.now ≤ 4096 }
+    requires { length draws.now ≤ most_listed }
     ensures { IfOk result (λ _. marks.new.items ≡ marks.old.items ++ draw_marks m 0 draws.now) }
 {
     for (i, draw) in draws.iter().enumerate() {
@@ -36,7 +37,7 @@ pub(crate) fn push_reports(
     m: u16,
     sessions: &[SessionSpec],
 ) -> Result<(), AllocError>
-    requires { length sessions.now ≤ 4096 }
+    requires { length sessions.now ≤ most_listed }
     ensures { IfOk result (λ _. marks.new.items ≡ marks.old.items ++ report_marks m 0 sessions.now) }
 {
     for (i, session) in sessions.iter().enumerate() {
@@ -69,8 +70,8 @@ pub(crate) fn script_of(
     draws: &[DrawSpec],
     sessions: &[SessionSpec],
 ) -> Result<Vec<Mark>, AllocError>
-    requires draws { length draws.now ≤ 4096 }
-    requires sessions { length sessions.now ≤ 4096 }
+    requires draws { length draws.now ≤ most_listed }
+    requires sessions { length sessions.now ≤ most_listed }
     ensures { IfOk result (λ marks. marks.items ≡ ordered mark_cmp
         (plain_mark join 0 0 ∷ draw_marks m 0 draws.now ++ report_marks m 0 sessions.now ++ leave_marks leave)) }
 {

@@ -1,5 +1,6 @@
 //! Jobs of single cells, as crews are handed them.
-ghost use Rattle.std.specs.Prelude.{◌≡◌, ◌≤◌, ◌^◌, length, map, All, IfOk};
+ghost use Rattle.std.specs.Prelude.{◌≡◌, ◌≤◌, length, map, All, IfOk};
+ghost use Rattle.srm_net.specs.Limits.{end_of_time, most_sent};
 ghost use Rattle.srm_net.specs.Orders.{Rises};
 ghost use Rattle.srm_scenario.specs.Plain.{mark_cmp, network_of};
 ghost use Rattle.srm_member.specs.Record.{fixed_part};
@@ -62,7 +63,7 @@ pub(crate) fn cell_of(
     script: Vec<Mark>,
     sent: u64,
 ) -> Result<Vec<Cell>, AllocError>
-    requires sent { sent ≤ 2 ^ 48 }
+    requires sent { sent ≤ most_sent }
     requires script { Rises mark_cmp script.items }
     ensures { IfOk result (λ cells. AreKnown (λ b. (⟦<dyn Member as Member>⟧ b.vtable).plain b.value)
         (length net.now.hosts) cells.items) }
@@ -88,7 +89,7 @@ pub(crate) fn add_job(
 ) -> Result<(), AllocError>
     requires jobs { MayMap (λ b. (⟦<dyn Member as Member>⟧ b.vtable).plain b.value)
         (length net.now.hosts) jobs.old.items }
-    requires till { till ≤ 2 ^ 40 }
+    requires till { till ≤ end_of_time }
     requires known { AreKnown (λ b. (⟦<dyn Member as Member>⟧ b.vtable).plain b.value)
         (length net.now.hosts) cells.items }
     ensures { IfOk result (λ _. MayMap (λ b. (⟦<dyn Member as Member>⟧ b.vtable).plain b.value)
@@ -130,7 +131,7 @@ fn next_jobs(
 ) -> Result<(Vec<Job>, Window), AllocError>
     requires known { All (λ d. AreKnown (λ b. (⟦<dyn Member as Member>⟧ b.vtable).plain b.value)
         (length net.now.hosts) d.cells.items) all.items }
-    requires till { till ≤ 2 ^ 40 }
+    requires till { till ≤ end_of_time }
     ensures { IfOk result (λ r. MayMap (λ b. (⟦<dyn Member as Member>⟧ b.vtable).plain b.value)
         (length net.now.hosts) r.0.items) }
 {
@@ -160,7 +161,7 @@ pub(crate) fn map_window<C: Crew>(
     requires jobs { MayMap (λ b. (⟦<dyn Member as Member>⟧ b.vtable).plain b.value) (length net.now.hosts) jobs.items }
     requires links { ledger.now.links ≡ length net.now.links }
     requires seat { seat.ledger ≡ ledger.now.name }
-    requires till { till ≤ 2 ^ 40 }
+    requires till { till ≤ end_of_time }
     ensures ready { C.ready crew.new }
     ensures jobs { IfOk result (λ r. MayMap (λ b. (⟦<dyn Member as Member>⟧ b.vtable).plain b.value)
         (length net.now.hosts) r.0.items) }

@@ -3,7 +3,7 @@ use Rattle.srm_net.specs.Fates.{is_crossing, is_dropping}
 use Rattle.srm_ledger.specs.Counts.{place_at, place_of}
 use Rattle.srm_cell.specs.Setting.{traffic_of}
 use Rattle.srm_cell.specs.Totalled.{bump}
-use Rattle.srm_cell.proofs.Counting.{mixed, none_counted, all_counted, counted_at, length_mixed, most}
+use Rattle.srm_cell.proofs.Counting.{mixed, none_counted, all_counted, counted_link, length_mixed, most}
 use Rattle.srm_cell.proofs.count.count.Goals as goal
 
 pub fate_in-fate-requires-clause-spread : goal.fate_in-fate-requires-clause-spread
@@ -60,7 +60,7 @@ loop-link-preserved c = λ k spread ps h.
     c.count_at.ensures
     ∙ (λ i. bump (dropping i) (5 * c.loop-link.link + 4)
     (bump (crossing i) (5 * c.loop-link.link + place_of (c.kind_of-kind.ensures i)) (is i)))
-    ∙ counted_at s ps c.args.packet.now c.loop-link.link (let many : length c.links.result.now ≡ length c.args.net.now.links =
+    ∙ counted_link s ps c.args.packet.now c.loop-link.link (let many : length c.links.result.now ≡ length c.args.net.now.links =
     ap length c.links.ensures.links in let lt = c.loop-link-test.true in omega arith)
 
 pub returns : goal.returns

@@ -1,11 +1,12 @@
 use Rattle.std.proofs.Common.{refl}
-use Rattle.srm_member.specs.React.{react, drawing, answering, asking, informed, after_entry, requested, got, lose_below, lose_from}
+use Rattle.srm_member.specs.React.{react, draw_operation, expire_repair, expire_request, hear_session, after_entry, hear_request, hear_data}
+use Rattle.srm_member.specs.React.{lose_below, lose_from}
 use Rattle.srm_cell.specs.Cells.{own_step, handle, next_event, hear}
-use Rattle.srm_engine.specs.World.{last_world, run, opening, opening_cells, step_to, step_of, least_event, after_step, settled}
+use Rattle.srm_engine.specs.World.{last_world, run, opening, opening_cells, step_to, step_of, least_event, after_step, cells_after}
 use Rattle.srm_engine.specs.OneLoss.{handings, ends}
 use Rattle.srm_engine.proofs.laws_of_names.a_loss_stays.Goals as goal
 
 pub returns : goal.returns
-unfolding last_world handings ends run opening opening_cells step_to step_of least_event after_step settled own_step handle next_event hear
-    react drawing answering asking informed after_entry requested got lose_below lose_from
+unfolding last_world handings ends run opening opening_cells step_to step_of least_event after_step cells_after own_step handle next_event
+    hear react draw_operation expire_repair expire_request hear_session after_entry hear_request hear_data lose_below lose_from
 returns c = refl

@@ -1,7 +1,7 @@
 use Rattle.std.proofs.Common.{sym, ◌∙◌, ap, subst}
 use Rattle.srm_member.specs.Record.{due_of}
 use Rattle.srm_cell.specs.Cells.{first_arrival, first_mark, next_timer, earlier, next_event}
-use Rattle.srm_cell.specs.Pending.{Stands, sooner}
+use Rattle.srm_cell.specs.Pending.{Stands, sooner_pending}
 use Rattle.srm_cell.proofs.Nexts.{sooner_stands}
 use Rattle.srm_cell.proofs.cell.Cell.least.Goals as goal
 
@@ -11,6 +11,6 @@ returns g c = λ m p h.
     let a = first_arrival m p p.inbox in
     let k = first_mark m p p.script in
     let t = next_timer m p (due_of p.holds) in
-    subst (λ o. Stands m p o (earlier a (earlier k t))) (sym (c.sooner-2.ensures ∙ ap (sooner c.arrival.result) c.sooner.ensures))
+    subst (λ o. Stands m p o (earlier a (earlier k t))) (sym (c.sooner-2.ensures ∙ ap (sooner_pending c.arrival.result) c.sooner.ensures))
     (sooner_stands m p c.arrival.result _ a (earlier k t) (c.arrival.ensures m p h)
     (sooner_stands m p c.mark.result c.timer.result k t (c.mark.ensures m p h) (c.timer.ensures m p h)))

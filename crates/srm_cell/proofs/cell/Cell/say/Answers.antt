@@ -1,7 +1,8 @@
-use Rattle.std.proofs.Common.{◌≡◌, ap, sym, ◌∙◌, refl, ◌<◌, ◌≤◌, ◌+◌, ◌^◌, arith, Some, None}
+use Rattle.std.proofs.Common.{◌≡◌, ap, sym, ◌∙◌, refl, ◌<◌, ◌≤◌, ◌+◌, arith, Some, None}
 use Rattle.srm_cell.specs.Cells.{handle, word_of, about_of}
 use Rattle.srm_cell.proofs.Saying.{wanting, gone_has_none, spent_is_gone, said_nothing, said, not_said, held, empty, holds_one}
 use Rattle.srm_cell.proofs.cell.Cell.say.Goals as goal
+use Rattle.srm_net.specs.Limits.{most_sent}
 
 pub returns-in_default : goal.returns-in_default
 returns-in_default g c = λ m e h k q. gone_has_none e e.rest.holds e.cause
@@ -52,14 +53,14 @@ pub returns-then-self-ge-COUNT_LIMIT : goal.returns-then-self-ge-COUNT_LIMIT
 returns-then-self-ge-COUNT_LIMIT g c = λ m e h k q.
     let is = held _ c.args.self.now.member e.rest.holds h.holds c.in-Some.member c.in-Some.ensures.value in
     let same = h.sent in
-    let le : 2 ^ 48 ≤ e.rest.sent = (let ge = c.if-self-ge-COUNT_LIMIT.true in omega arith) in
+    let le : most_sent ≤ e.rest.sent = (let ge = c.if-self-ge-COUNT_LIMIT.true in omega arith) in
     not_said e c.args.key c.args.cause k q _ _ c.in-Ok.reaction c.in-Some-body.body is c.in-Ok.ensures c.in-Some-body.is le
 
 pub returns : goal.returns
 returns g c = λ m e h k q.
     let is = held _ c.args.self.now.member e.rest.holds h.holds c.in-Some.member c.in-Some.ensures.value in
     let same = h.sent in
-    let lt : e.rest.sent < 2 ^ 48 = (let ge = c.if-self-ge-COUNT_LIMIT.false in omega arith) in
+    let lt : e.rest.sent < most_sent = (let ge = c.if-self-ge-COUNT_LIMIT.false in omega arith) in
     let about : about_of e.cause c.in-Ok.reaction.body ≡ c.about-subject.result = ap (λ x. about_of x c.in-Ok.reaction.body) q
     ∙ sym c.about-subject.ensures in (
       _,

@@ -6,7 +6,7 @@ use Rattle.srm_cell.specs.Crossings.{packets_of}
 use Rattle.srm_cell.specs.Cells.{PlainCell, Done, step_at, own_step}
 use Rattle.srm_cell.proofs.FitSettings.{settings_are_fit}
 use Rattle.srm_cell.proofs.CellSteps.{SentBy}
-use Rattle.srm_engine.specs.World.{after_step, settled}
+use Rattle.srm_engine.specs.World.{after_step, cells_after}
 use Rattle.srm_engine.specs.Engines.{setting_in}
 use Rattle.srm_engine.specs.Seen.{AreSeen, all_hear}
 use Rattle.srm_cell.specs.Totalled.{numbers_of}
@@ -142,7 +142,7 @@ returns-in-Ok-clause-step g c = λ seed w h.
     let sent = c.in-Ok.ensures.sent (slice_set w.cells c.in-Some.member t.0.cell) (packets_of w.trace) t.3 h.totals in
     let cells = settled_is s c.in-Some.member t.0 w.cells (get_below w.cells c.in-Some.member p.0 p.1) by
     ∙ ap (λ (r : Row). all_hear s.traffic r.sent (slice_set w.cells c.in-Some.member t.0.cell)) t.2 in (
-      record { cells = settled s c.in-Some.member t.0 0 w.cells; trace = w.trace ++ t.0.row ∷ [] },
+      record { cells = cells_after s c.in-Some.member t.0 0 w.cells; trace = w.trace ++ t.0.row ∷ [] },
       step_by s w c.args.self.now.cells.times h.seen.times c.in-Some.time c.in-Some.member c.in-Some.ensures early p.0 p.1
           ∙ ap (λ u. after_step s w c.in-Some.member (own_step u c.in-Some.member p.0)) (sym c.until-until.ensures.until)
           ∙ ap (after_step s w c.in-Some.member) t.1 ∙ after_done s w c.in-Some.member t.0,

@@ -2,17 +2,17 @@ use Rattle.std.proofs.Common.{◌≡◌, ◌<◌, ◌≤◌, ℕ, List, true, fa
 use Rattle.std.proofs.Common.{arith}
 use Rattle.std.proofs.lemmas.Bool.Decides.{nat_tests}
 use Rattle.srm_engine.specs.declared.next_times.Entry.{Entry}
-use Rattle.srm_engine.specs.NextTimes.{entry_at, least_time, times_in, IsTournament}
+use Rattle.srm_engine.specs.NextTimes.{entry_at, least_of_times, times_in, IsTournament}
 use Rattle.srm_engine.proofs.Index.{first_told, told}
 use Rattle.srm_engine.proofs.next_times.NextTimes.least.Goals as goal
 
 -- what the first entry tells is the least next time
 first : (es fs : List Entry) (e : Entry) (ts : List (Option ℕ)) → IsTournament es → fs ≡ es → times_in es ≡ ts
-    → 1 < length fs → e ≡ entry_at fs 1 → told e ≡ least_time 0 ts
+    → 1 < length fs → e ≡ entry_at fs 1 → told e ≡ least_of_times 0 ts
 first es fs e ts h same view more is =
     let size = h.size in
     let some : 0 < length (times_in es) = (let long = subst (λ (xs : List Entry). 1 < length xs) same more in omega arith) in
-    ap told (is ∙ ap (λ (xs : List Entry). entry_at xs 1) same) ∙ first_told (times_in es) es h some ∙ ap (least_time 0) view
+    ap told (is ∙ ap (λ (xs : List Entry). entry_at xs 1) same) ∙ first_told (times_in es) es h some ∙ ap (least_of_times 0) view
 
 timely : (e : Entry) → e.place < 65536 → Some (e.time, e.place) ≡ told e
 timely e h = let yes : nat_lt e.place 65536 ≡ true = lt-ltb e.place 65536 h in ap (λ b. cond b (Some (e.time, e.place)) None) (sym yes)

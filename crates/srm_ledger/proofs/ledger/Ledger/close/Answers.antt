@@ -2,7 +2,7 @@ use Rattle.std.proofs.Common.{arith, ◌≡◌, ◌≤◌, ℕ, List, drop, ap, 
 use Rattle.std.specs.Mem.Slots.{slots_items}
 use Rattle.atomic_table.specs.Table.{Me, Final, Seen}
 use Rattle.srm_ledger.specs.declared.rule.Holding.{Holding}
-use Rattle.srm_ledger.specs.Counts.{place_at, number_at}
+use Rattle.srm_ledger.specs.Counts.{place_at, counted_at}
 use Rattle.srm_ledger.specs.Seats.{SeatView, word_at, seen_there}
 use Rattle.srm_ledger.specs.Tally.{Tallied, holding}
 use Rattle.srm_ledger.proofs.Keeps.{closed_words, closed_reads}
@@ -38,7 +38,7 @@ returns-clause-seen c link kind =
     let ends = subst Ends c.seat.invariant.0 c.close_with-closed.ensures.values.2 in
     let read = closed_reads _ _ last words slots whole ends (word_at link kind) in
     let given : c.of_words.result ≡ drop 1 shares = c.of_words.ensures ∙ ap (drop 1) c.copy_words.ensures in
-    let here = ap (λ (ns : List ℕ). number_at ns link kind) given in
+    let here = ap (λ (ns : List ℕ). counted_at ns link kind) given in
     let behind = behind_at shares (place_at link kind) in
-    let P : SeatView → Type 0 = λ s. seen_there s link kind ≤ number_at c.of_words.result link kind in
+    let P : SeatView → Type 0 = λ s. seen_there s link kind ≤ counted_at c.of_words.result link kind in
     subst P c.seat.view_is (omega (arith, read, here, behind))

@@ -6,6 +6,7 @@ use Rattle.srm_net.specs.Built.{plain_of}
 use Rattle.srm_net.proofs.PathLaws.{distance_bounded, distance_apart}
 use Rattle.srm_net.proofs.BuiltLemmas.{told_distance}
 use Rattle.srm_net.proofs.tree.Tree.distance.Goals as goal
+use Rattle.srm_net.specs.Limits.{greatest_distance}
 
 in_range : (n m : Network) (a : ℕ) → n ≡ m → a < length m.hosts → a < length n.hosts
 in_range n m a e h = subst (λ (w : Network). a < length w.hosts) (sym e) h
@@ -38,5 +39,5 @@ returns-clause-apart c d =
 
 pub returns-clause-bounded : goal.returns-clause-bounded
 returns-clause-bounded c =
-    subst (λ n. n ≤ 1023000000) (sym (value_here c)) (distance_bounded c.args.self.now (network c) c.args.a c.args.b c.requires.a
+    subst (λ n. n ≤ greatest_distance) (sym (value_here c)) (distance_bounded c.args.self.now (network c) c.args.a c.args.b c.requires.a
     c.requires.b)

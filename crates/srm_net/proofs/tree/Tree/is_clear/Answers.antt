@@ -1,10 +1,11 @@
-use Rattle.std.proofs.Common.{◌∙◌, ◌^◌, ◌<◌, ◌≤◌, refl, sym, ap, subst, arith, not}
+use Rattle.std.proofs.Common.{◌∙◌, ◌<◌, ◌≤◌, refl, sym, ap, subst, arith, not}
 use Rattle.std.specs.List.{list_any}
 use Rattle.srm_net.specs.Network.{IsNetwork}
 use Rattle.srm_net.specs.Paths.{route, delay_along, stops, takes_out}
 use Rattle.srm_net.proofs.FateLemmas.{spared, none_stops}
 use Rattle.srm_net.proofs.PathLaws.{route_nowhere, delay_bounded}
 use Rattle.srm_net.proofs.tree.Tree.is_clear.Goals as goal
+use Rattle.srm_net.specs.Limits.{end_of_time, greatest_distance}
 
 pub returns-then-not-may_drop : goal.returns-then-not-may_drop
 returns-then-not-may_drop c =
@@ -14,10 +15,10 @@ returns-then-not-may_drop c =
 
 pub loop-at-init : goal.loop-at-init
 loop-at-init c =
-    let few : delay_along c.args.self.now.links c.args.from (route c.args.self.now c.args.from c.args.to) ≤ 1023000000 =
+    let few : delay_along c.args.self.now.links c.args.from (route c.args.self.now c.args.from c.args.to) ≤ greatest_distance =
     delay_bounded c.args.self.now (subst IsNetwork c.self.view_is c.self.invariant.network) c.args.from c.args.to c.requires.from
     c.requires.to in
-    let soon : c.args.sent < 2 ^ 40 = c.requires.sent in
+    let soon : c.args.sent < end_of_time = c.requires.sent in
     record { node = c.requires.from; rest = refl; in_time = omega arith }
 
 pub returns : goal.returns

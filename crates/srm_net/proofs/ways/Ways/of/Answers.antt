@@ -11,6 +11,7 @@ use Rattle.srm_net.proofs.PathLaws.{from_fits}
 use Rattle.srm_net.proofs.TreeWays.{TellsSoFar, KnownAre, tells_more, tells_root, tells_all, told_bounded, turn_at, no_step, known_more}
 use Rattle.srm_net.proofs.TreeWays.{known_root, reverse_more}
 use Rattle.srm_net.proofs.ways.Ways.of.Goals as goal
+use Rattle.srm_net.specs.Limits.{greatest_distance}
 
 -- a link of no use but as a default
 abbrev no_link : LinkSpec
@@ -75,14 +76,14 @@ attach-requires-clause-fits c u h k =
     let inside : is_in (attached (reverse (take c.loop-step.step-index c.args.steps.now))) u ≡ true =
     sym (ap (λ x. is_known x u) c.as_slice.ensures.value ∙ c.loop-step.invariant.known u (omega arith)) ∙ k in
     let bound : number_at c.args.nodes c.loop-step.ways.delays.cells.items u (get_or c.args.steps.now c.loop-step.step-index no_step).parent
-    ≤ 1023000000 =
+    ≤ greatest_distance =
     told_bounded c.args.nodes c.args.links.now (reverse (take c.loop-step.step-index c.args.steps.now)) c.loop-step.ways.delays.cells.items
     c.loop-step.ways.firsts.cells.items c.requires.few_nodes c.requires.delays t.below c.loop-step.invariant.tells u
     (get_or c.args.steps.now c.loop-step.step-index no_step).parent inside t.attaches.parent in
     let here : number_at c.loop-step.ways.delays.width c.loop-step.ways.delays.cells.items u
-    (get_or c.args.steps.now c.loop-step.step-index no_step).parent ≤ 1023000000 =
+    (get_or c.args.steps.now c.loop-step.step-index no_step).parent ≤ greatest_distance =
     subst (λ n. number_at n c.loop-step.ways.delays.cells.items u (get_or c.args.steps.now c.loop-step.step-index no_step).parent ≤
-    1023000000) (sym c.loop-step.invariant.delays_width) bound in
+    greatest_distance) (sym c.loop-step.invariant.delays_width) bound in
     let below : c.from.result < length c.args.links.now = subst (λ l. l < length c.args.links.now) (sym c.from.ensures) t.link in
     let small : delay_from (get_or c.args.steps.now c.loop-step.step-index no_step).parent (get_or c.args.links.now c.from.result no_link) ≤
     1000000 =
@@ -100,14 +101,14 @@ attach-requires-clause-fits_back c u h k =
     let inside : is_in (attached (reverse (take c.loop-step.step-index c.args.steps.now))) u ≡ true =
     sym (ap (λ x. is_known x u) c.as_slice.ensures.value ∙ c.loop-step.invariant.known u (omega arith)) ∙ k in
     let bound : number_at c.args.nodes c.loop-step.ways.delays.cells.items
-    (get_or c.args.steps.now c.loop-step.step-index no_step).parent u ≤ 1023000000 =
+    (get_or c.args.steps.now c.loop-step.step-index no_step).parent u ≤ greatest_distance =
     told_bounded c.args.nodes c.args.links.now (reverse (take c.loop-step.step-index c.args.steps.now)) c.loop-step.ways.delays.cells.items
     c.loop-step.ways.firsts.cells.items c.requires.few_nodes c.requires.delays t.below c.loop-step.invariant.tells
     (get_or c.args.steps.now c.loop-step.step-index no_step).parent u t.attaches.parent inside in
     let here : number_at c.loop-step.ways.delays.width c.loop-step.ways.delays.cells.items
-    (get_or c.args.steps.now c.loop-step.step-index no_step).parent u ≤ 1023000000 =
+    (get_or c.args.steps.now c.loop-step.step-index no_step).parent u ≤ greatest_distance =
     subst (λ n. number_at n c.loop-step.ways.delays.cells.items (get_or c.args.steps.now c.loop-step.step-index no_step).parent u ≤
-    1023000000) (sym c.loop-step.invariant.delays_width) bound in
+    greatest_distance) (sym c.loop-step.invariant.delays_width) bound in
     let below : c.from.result < length c.args.links.now = subst (λ l. l < length c.args.links.now) (sym c.from.ensures) t.link in
     let small : delay_from (get_or c.args.steps.now c.loop-step.step-index no_step).node (get_or c.args.links.now c.from.result no_link) ≤
     1000000 =

@@ -1,12 +1,13 @@
 //! What an active member knows, and how it answers.
 ghost use Rattle.std.specs.Prelude.{◌≡◌, ◌+◌, ◌-◌, ◌<◌, ◌≤◌, ◌^◌, [], ◌∷◌, ◌++◌, IsTrue, IfOk, OnOk, Some, None};
+ghost use Rattle.srm_net.specs.Limits.{end_of_time, greatest_distance, greatest_constant};
 ghost use Rattle.srm_net.specs.Names;
 ghost use Rattle.srm_member.specs.Timers;
 ghost use Rattle.srm_member.specs.declared.told.Told.TheVariants.{Sent};
-ghost use Rattle.srm_member.specs.Record.{opening_memory, exit_of, earliest, timers_of};
+ghost use Rattle.srm_member.specs.Record.{opening_state, exit_of, earliest, timers_of};
 ghost use Rattle.srm_net.specs.Roles.{is_late};
-ghost use Rattle.srm_member.specs.React.{distance_to, length_in, with_next_word, request_length, repair_length, back_off, wants, begins_at, meet, lose_one, lose_from, lose_below, names_from, lost_below, got, base, resting, got_repair, planning, asked_missing, asked_held, requested, after_entry, lost_by_entry, informed, hear_body, asking, answering, own_stream, drawing, session_of, sending};
-ghost use Rattle.srm_member.specs.Fit.{IsFit, Gives};
+ghost use Rattle.srm_member.specs.React.{distance_to, length_in, with_next_word, request_length, repair_length, back_off, wants, begins_at, meet, lose_one, lose_from, lose_below, names_from, lost_below, hear_data, base, with_rest, hear_repair, with_repair_timer, hear_request_of_missing, hear_request_of_held, hear_request, after_entry, lost_by_entry, hear_session, hear_body, expire_request, expire_repair, own_progress, draw_operation, session_of, send_body};
+ghost use Rattle.srm_member.specs.Fit.{IsBounded, Gives};
 
 use crate::due::Due;
 use crate::entries::{Missing, Repairing};
@@ -15,8 +16,8 @@ use crate::fixed::Fixed;
 use crate::named::Named;
 use crate::pages::Pages;
 use crate::pending::Pending;
+use crate::progress::Progress;
 use crate::react::React;
-use crate::stream::Stream;
 use crate::timers::{draw, span};
 use crate::told::Told;
 use rand_core::utils::NextWord;
@@ -29,45 +30,45 @@ use std::marker::Model;
 
 /// What an active member knows: its fixed part, its generator, and its tables.
 #[derive(Drop)]
-pub struct Memory {
+pub struct MemberState {
     fixed: Fixed,
     words: Lcg64Xsh32,
-    streams: Pages,
+    progress: Pages,
     held: Named<u32>,
     pending: Pending,
     rests: Named<u64>,
 }
 
-impl Model for Memory {
-    ghost use Rattle.srm_member.specs.Record.{Memory as Seen};
-    ghost use Rattle.srm_member.specs.Fit.{IsFit};
+impl Model for MemberState {
+    ghost use Rattle.srm_member.specs.Record.{MemberState as Seen};
+    ghost use Rattle.srm_member.specs.Fit.{IsBounded};
 
     ghost Value = { Seen };
 
     ghost view = { λ t. record {
       fixed = t.fixed;
       words = t.words;
-      streams = t.streams;
+      progress = t.progress;
       held = t.held;
       missing = t.pending.0;
       repairs = t.pending.1;
       rests = t.rests;
     } };
 
-    ghost invariant = { λ t. IsFit t.fixed };
+    ghost invariant = { λ t. IsBounded t.fixed };
 }
 
-impl Memory {
+impl MemberState {
     /// What a member knows at first. It does not allocate.
     pub fn new(alloc: Global, fixed: Fixed) -> Self
-        requires { IsFit fixed }
-        ensures { result ≡ opening_memory fixed }
+        requires { IsBounded fixed }
+        ensures { result ≡ opening_state fixed }
     {
         let words = Lcg64Xsh32::new(fixed.seed, fixed.stream);
-        Memory {
+        MemberState {
             fixed,
             words,
-            streams: Pages::new(alloc),
+            progress: Pages::new(alloc),
             held: Named::new(alloc),
             pending: Pending::new(alloc),
             rests: Named::new(alloc),
@@ -84,7 +85,7 @@ impl Memory {
     // The distance to a member that timers and rests go by, in ticks.
     fn distance_to(&self, who: u16) -> u64
         ensures value { result ≡ distance_to self.now who }
-        ensures bound { result ≤ 1023000000 }
+        ensures bound { result ≤ greatest_distance }
     {
         self.fixed
             .dist
@@ -96,9 +97,9 @@ impl Memory {
 
     // The length of a new timer, in ticks, which takes one word of the generator.
     fn length(&mut self, i: u32, x: u32, y: u32, d: u64) -> u64
-        requires least { x ≤ 64000 }
-        requires more { y ≤ 64000 }
-        requires distance { d ≤ 1023000000 }
+        requires least { x ≤ greatest_constant }
+        requires more { y ≤ greatest_constant }
+        requires distance { d ≤ greatest_distance }
         ensures length { result ≡ length_in self.old (Timers.span i x y d) }
         ensures word { self.new ≡ with_next_word self.old }
         ensures bound { result < 2 ^ 47 }
@@ -129,7 +130,7 @@ impl Memory {
 
     // Backs off: the request timer of a missing name is set anew (Floyd et al. 1997), at most ten times longer and longer.
     fn back_off(&mut self, at: u64, name: Name, missing: Missing) -> Result<(), AllocError>
-        requires { at < 2 ^ 40 }
+        requires { at < end_of_time }
         ensures ok { OnOk result (self.new ≡ back_off at name missing self.old) }
         ensures fixed { self.new.fixed ≡ self.old.fixed }
     {
@@ -147,7 +148,7 @@ impl Memory {
 
     // Loses a name: it is missing from here on, with a new request timer.
     fn lose_one(&mut self, at: u64, name: Name) -> Result<(), AllocError>
-        requires { at < 2 ^ 40 }
+        requires { at < end_of_time }
         ensures ok { OnOk result (self.new ≡ lose_one at name self.old) }
         ensures fixed { self.new.fixed ≡ self.old.fixed }
     {
@@ -171,7 +172,7 @@ impl Memory {
         to: u64,
         lost: &mut Sequence<Name>,
     ) -> Result<(), AllocError>
-        requires time { at < 2 ^ 40 }
+        requires time { at < end_of_time }
         requires numbers { to ≤ 2 ^ 32 }
         ensures ok { OnOk result (self.new ≡ lose_from at page (to - from) from self.old) }
         ensures names { OnOk result (lost.new ≡ lost.old ++ names_from page (to - from) from) }
@@ -209,15 +210,15 @@ impl Memory {
     }
 
     // How far the member follows a page, which it may meet here for the first time.
-    fn meet(&self, page: PageId, begin: u64) -> Stream
+    fn meet(&self, page: PageId, begin: u64) -> Progress
         requires { begin ≤ 2 ^ 32 }
         ensures { result ≡ meet self.now page begin }
     {
-        match self.streams.get(page) {
-            Some(stream) => stream,
+        match self.progress.get(page) {
+            Some(progress) => progress,
             None => {
                 let begin = self.begins_at(page, begin);
-                Stream::new(begin, begin)
+                Progress::new(begin, begin)
             }
         }
     }
@@ -230,42 +231,49 @@ impl Memory {
         page: PageId,
         n: u64,
         next: u64,
-        stream: Stream,
+        progress: Progress,
         lost: &mut Sequence<Name>,
     ) -> Result<(), AllocError>
-        requires time { at < 2 ^ 40 }
+        requires time { at < end_of_time }
         requires numbers { n ≤ 2 ^ 32 }
         requires after { next ≤ 2 ^ 32 }
-        ensures ok { OnOk result (self.new ≡ lose_below at page n next stream self.old) }
-        ensures names { OnOk result (lost.new ≡ lost.old ++ lost_below page n stream) }
+        ensures ok { OnOk result (self.new ≡ lose_below at page n next progress self.old) }
+        ensures names { OnOk result (lost.new ≡ lost.old ++ lost_below page n progress) }
         ensures fixed { self.new.fixed ≡ self.old.fixed }
     {
-        self.lose_from(at, page, stream.next(), n, lost)?;
-        self.streams.put(page, Stream::new(stream.floor(), next))?;
+        self.lose_from(at, page, progress.next(), n, lost)?;
+        self.progress
+            .put(page, Progress::new(progress.floor(), next))?;
         Ok(())
     }
 
     // Takes in data or a repair of a name.
-    #[tactic(auto, unfolding(crate::specs::React::got))]
-    fn got(&mut self, alloc: Global, at: u64, name: Name, ink: u32) -> Result<React, AllocError>
-        requires { at < 2 ^ 40 }
-        ensures ok { IfOk result (λ a. Gives a self.new (got at name ink self.old)) }
+    #[tactic(auto, unfolding(crate::specs::React::hear_data))]
+    fn hear_data(
+        &mut self,
+        alloc: Global,
+        at: u64,
+        name: Name,
+        ink: u32,
+    ) -> Result<React, AllocError>
+        requires { at < end_of_time }
+        ensures ok { IfOk result (λ a. Gives a self.new (hear_data at name ink self.old)) }
         ensures fixed { self.new.fixed ≡ self.old.fixed }
     {
         let page = page_of(name);
         let number = u64::from(name.number);
-        let stream = self.meet(page, number);
-        if number < stream.floor() {
-            self.streams.put(page, stream)?;
+        let progress = self.meet(page, number);
+        if number < progress.floor() {
+            self.progress.put(page, progress)?;
             return Ok(quietly(Told::Skip, Sequence::new(alloc)));
         }
-        if number >= stream.next() {
+        if number >= progress.next() {
             let mut lost = Sequence::new(alloc);
-            self.lose_below(at, page, number, number + 1, stream, &mut lost)?;
+            self.lose_below(at, page, number, number + 1, progress, &mut lost)?;
             self.held.put(name, ink)?;
             return Ok(quietly(Told::Fresh, lost));
         }
-        self.streams.put(page, stream)?;
+        self.progress.put(page, progress)?;
         if self.pending.missing(name).is_some() {
             self.held.put(name, ink)?;
             self.pending.find(name);
@@ -278,7 +286,7 @@ impl Memory {
     // pending repair timer, or without one to the member that sent the repair.
     fn base(&self, name: Name, who: u16) -> u64
         ensures value { result ≡ base self.now name who }
-        ensures bound { result ≤ 1023000000 }
+        ensures bound { result ≤ greatest_distance }
     {
         if name.source != self.fixed.member {
             return self.distance_to(name.source);
@@ -291,8 +299,8 @@ impl Memory {
 
     // A repair was sent: the member does not answer for the name for a while, and a pending repair timer ends.
     fn rest(&mut self, at: u64, name: Name, who: u16) -> Result<(), AllocError>
-        requires { at < 2 ^ 40 }
-        ensures ok { OnOk result (self.new ≡ resting at name who self.old) }
+        requires { at < end_of_time }
+        ensures ok { OnOk result (self.new ≡ with_rest at name who self.old) }
         ensures fixed { self.new.fixed ≡ self.old.fixed }
     {
         let base = self.base(name, who);
@@ -302,7 +310,7 @@ impl Memory {
     }
 
     // Takes in a repair of a name, by this member.
-    fn got_repair(
+    fn hear_repair(
         &mut self,
         alloc: Global,
         at: u64,
@@ -310,11 +318,11 @@ impl Memory {
         ink: u32,
         who: u16,
     ) -> Result<React, AllocError>
-        requires { at < 2 ^ 40 }
-        ensures ok { IfOk result (λ a. Gives a self.new (got_repair at name ink who self.old)) }
+        requires { at < end_of_time }
+        ensures ok { IfOk result (λ a. Gives a self.new (hear_repair at name ink who self.old)) }
         ensures fixed { self.new.fixed ≡ self.old.fixed }
     {
-        let react = self.got(alloc, at, name, ink)?;
+        let react = self.hear_data(alloc, at, name, ink)?;
         if matches!(react.told, Told::Skip) {
             return Ok(react);
         }
@@ -324,8 +332,8 @@ impl Memory {
 
     // Plans a repair, for a request of this member (Floyd et al. 1997).
     fn plan(&mut self, at: u64, name: Name, who: u16) -> Result<(), AllocError>
-        requires { at < 2 ^ 40 }
-        ensures ok { OnOk result (self.new ≡ planning at name who self.old) }
+        requires { at < end_of_time }
+        ensures ok { OnOk result (self.new ≡ with_repair_timer at name who self.old) }
         ensures fixed { self.new.fixed ≡ self.old.fixed }
     {
         let length = self.repair_length(who);
@@ -338,14 +346,14 @@ impl Memory {
     }
 
     // A request for a name that is missing.
-    fn asked_missing(
+    fn hear_request_of_missing(
         &mut self,
         at: u64,
         name: Name,
         lost: Sequence<Name>,
     ) -> Result<React, AllocError>
-        requires { at < 2 ^ 40 }
-        ensures ok { IfOk result (λ a. Gives a self.new (asked_missing at name lost self.old)) }
+        requires { at < end_of_time }
+        ensures ok { IfOk result (λ a. Gives a self.new (hear_request_of_missing at name lost self.old)) }
         ensures fixed { self.new.fixed ≡ self.old.fixed }
     {
         match self.pending.missing(name) {
@@ -361,15 +369,15 @@ impl Memory {
     }
 
     // A request for a name that is held, by this member.
-    fn asked_held(
+    fn hear_request_of_held(
         &mut self,
         alloc: Global,
         at: u64,
         name: Name,
         who: u16,
     ) -> Result<React, AllocError>
-        requires { at < 2 ^ 40 }
-        ensures ok { IfOk result (λ a. Gives a self.new (asked_held at name who self.old)) }
+        requires { at < end_of_time }
+        ensures ok { IfOk result (λ a. Gives a self.new (hear_request_of_held at name who self.old)) }
         ensures fixed { self.new.fixed ≡ self.old.fixed }
     {
         if at < self.rests.get(name).unwrap_or(0) {
@@ -383,33 +391,33 @@ impl Memory {
     }
 
     // A request for a name, by this member.
-    #[tactic(auto, unfolding(crate::specs::React::requested))]
-    fn requested(
+    #[tactic(auto, unfolding(crate::specs::React::hear_request))]
+    fn hear_request(
         &mut self,
         alloc: Global,
         at: u64,
         name: Name,
         who: u16,
     ) -> Result<React, AllocError>
-        requires { at < 2 ^ 40 }
-        ensures ok { IfOk result (λ a. Gives a self.new (requested at name who self.old)) }
+        requires { at < end_of_time }
+        ensures ok { IfOk result (λ a. Gives a self.new (hear_request at name who self.old)) }
         ensures fixed { self.new.fixed ≡ self.old.fixed }
     {
         let page = page_of(name);
         let number = u64::from(name.number);
-        let stream = self.meet(page, number + 1);
-        self.streams.put(page, stream)?;
-        if number < stream.floor() {
+        let progress = self.meet(page, number + 1);
+        self.progress.put(page, progress)?;
+        if number < progress.floor() {
             return Ok(quietly(Told::Skip, Sequence::new(alloc)));
         }
         if self.held.get(name).is_some() {
-            return self.asked_held(alloc, at, name, who);
+            return self.hear_request_of_held(alloc, at, name, who);
         }
         let mut lost = Sequence::new(alloc);
-        if number >= stream.next() {
-            self.lose_below(at, page, number + 1, number + 1, stream, &mut lost)?;
+        if number >= progress.next() {
+            self.lose_below(at, page, number + 1, number + 1, progress, &mut lost)?;
         }
-        self.asked_missing(at, name, lost)
+        self.hear_request_of_missing(at, name, lost)
     }
 
     // Takes in an entry of a session message, and lists the names that are lost by it.
@@ -420,7 +428,7 @@ impl Memory {
         heard: Heard,
         lost: &mut Sequence<Name>,
     ) -> Result<(), AllocError>
-        requires { at < 2 ^ 40 }
+        requires { at < end_of_time }
         ensures ok { OnOk result (self.new ≡ after_entry at heard self.old) }
         ensures names { OnOk result (lost.new ≡ lost.old ++ lost_by_entry heard self.old) }
         ensures fixed { self.new.fixed ≡ self.old.fixed }
@@ -430,19 +438,19 @@ impl Memory {
             page: heard.page,
         };
         let highest = u64::from(heard.highest);
-        let stream = self.meet(page, highest + 1);
-        if highest >= stream.next() {
-            self.lose_below(at, page, highest + 1, highest + 1, stream, lost)?;
+        let progress = self.meet(page, highest + 1);
+        if highest >= progress.next() {
+            self.lose_below(at, page, highest + 1, highest + 1, progress, lost)?;
         } else {
-            self.streams.put(page, stream)?;
+            self.progress.put(page, progress)?;
         }
         Ok(())
     }
 
     // Takes in a session message.
-    fn informed(&mut self, alloc: Global, at: u64, heard: &[Heard]) -> Result<React, AllocError>
-        requires { at < 2 ^ 40 }
-        ensures ok { IfOk result (λ a. Gives a self.new (informed at heard.now self.old [])) }
+    fn hear_session(&mut self, alloc: Global, at: u64, heard: &[Heard]) -> Result<React, AllocError>
+        requires { at < end_of_time }
+        ensures ok { IfOk result (λ a. Gives a self.new (hear_session at heard.now self.old [])) }
         ensures fixed { self.new.fixed ≡ self.old.fixed }
     {
         let mut lost = Sequence::new(alloc);
@@ -454,40 +462,40 @@ impl Memory {
 
     /// Takes in a packet.
     pub fn hear(&mut self, alloc: Global, at: u64, packet: &Packet) -> Result<React, AllocError>
-        requires { at < 2 ^ 40 }
+        requires { at < end_of_time }
         ensures ok { IfOk result (λ a. Gives a self.new (hear_body at packet.now.id.sender packet.now.body self.old)) }
         ensures fixed { self.new.fixed ≡ self.old.fixed }
     {
         let who = packet.id.sender;
         match &packet.body {
-            Body::Drawop { name, ink } => self.got(alloc, at, *name, *ink),
-            Body::Repair { name, ink } => self.got_repair(alloc, at, *name, *ink, who),
-            Body::Request { name } => self.requested(alloc, at, *name, who),
-            Body::Session { heard } => self.informed(alloc, at, heard.as_slice()),
+            Body::Drawop { name, ink } => self.hear_data(alloc, at, *name, *ink),
+            Body::Repair { name, ink } => self.hear_repair(alloc, at, *name, *ink, who),
+            Body::Request { name } => self.hear_request(alloc, at, *name, who),
+            Body::Session { heard } => self.hear_session(alloc, at, heard.as_slice()),
         }
     }
 
     /// The request timer of a name expires: the member asks for the name, and backs off.
-    #[tactic(auto, unfolding(crate::specs::React::asking))]
+    #[tactic(auto, unfolding(crate::specs::React::expire_request))]
     pub fn ask(&mut self, alloc: Global, at: u64, name: Name) -> Result<React, AllocError>
-        requires { at < 2 ^ 40 }
-        ensures ok { IfOk result (λ a. Gives a self.new (asking at name self.old)) }
+        requires { at < end_of_time }
+        ensures ok { IfOk result (λ a. Gives a self.new (expire_request at name self.old)) }
         ensures fixed { self.new.fixed ≡ self.old.fixed }
     {
         match self.pending.missing(name) {
             None => Ok(quietly(Told::Skip, Sequence::new(alloc))),
             Some(missing) => {
                 self.back_off(at, name, missing)?;
-                Ok(sending(alloc, Body::Request { name }))
+                Ok(send_body(alloc, Body::Request { name }))
             }
         }
     }
 
     /// The repair timer of a name expires: the member sends what it holds.
-    #[tactic(auto, unfolding(crate::specs::React::answering))]
+    #[tactic(auto, unfolding(crate::specs::React::expire_repair))]
     pub fn answer(&mut self, alloc: Global, at: u64, name: Name) -> Result<React, AllocError>
-        requires { at < 2 ^ 40 }
-        ensures ok { IfOk result (λ a. Gives a self.new (answering at name self.old)) }
+        requires { at < end_of_time }
+        ensures ok { IfOk result (λ a. Gives a self.new (expire_repair at name self.old)) }
         ensures fixed { self.new.fixed ≡ self.old.fixed }
     {
         match self.pending.repair(name) {
@@ -496,31 +504,31 @@ impl Memory {
                 let ink = self.held.get(name).unwrap_or(0);
                 let own = self.fixed.member;
                 self.rest(at, name, own)?;
-                Ok(sending(alloc, Body::Repair { name, ink }))
+                Ok(send_body(alloc, Body::Repair { name, ink }))
             }
         }
     }
 
     // How far the member follows a page of its own.
-    fn own_stream(&self, page: PageId) -> Stream
-        ensures { result ≡ own_stream self.now page }
+    fn own_progress(&self, page: PageId) -> Progress
+        ensures { result ≡ own_progress self.now page }
     {
-        match self.streams.get(page) {
-            Some(stream) => stream,
-            None => Stream::new(0, 0),
+        match self.progress.get(page) {
+            Some(progress) => progress,
+            None => Progress::new(0, 0),
         }
     }
 
     /// A sender draws, up to 4,096 operations on a page.
-    #[tactic(auto, unfolding(crate::specs::React::drawing))]
+    #[tactic(auto, unfolding(crate::specs::React::draw_operation))]
     pub fn draw_op(&mut self, alloc: Global, page: u16, ink: u32) -> Result<React, AllocError>
-        ensures ok { IfOk result (λ a. Gives a self.new (drawing page ink self.old)) }
+        ensures ok { IfOk result (λ a. Gives a self.new (draw_operation page ink self.old)) }
         ensures fixed { self.new.fixed ≡ self.old.fixed }
     {
         let source = self.fixed.member;
         let place = PageId { source, page };
-        let stream = self.own_stream(place);
-        let next = stream.next();
+        let progress = self.own_progress(place);
+        let next = progress.next();
         if !matches!(self.fixed.role, Role::Sender) || next >= 4096 {
             return Ok(quietly(Told::Skip, Sequence::new(alloc)));
         }
@@ -529,18 +537,18 @@ impl Memory {
             page,
             number: next as u32,
         };
-        self.streams
-            .put(place, Stream::new(stream.floor(), next + 1))?;
+        self.progress
+            .put(place, Progress::new(progress.floor(), next + 1))?;
         self.held.put(name, ink)?;
-        Ok(sending(alloc, Body::Drawop { name, ink }))
+        Ok(send_body(alloc, Body::Drawop { name, ink }))
     }
 
     /// The session message that tells of every page that the member follows.
     pub fn report(&self, alloc: Global) -> Result<React, AllocError>
-        ensures { IfOk result (λ a. Gives a self.now (sending self.now (session_of self.now))) }
+        ensures { IfOk result (λ a. Gives a self.now (send_body self.now (session_of self.now))) }
     {
-        let heard = self.streams.heard(alloc)?;
-        Ok(sending(alloc, Body::Session { heard }))
+        let heard = self.progress.heard(alloc)?;
+        Ok(send_body(alloc, Body::Session { heard }))
     }
 
     /// What the member ends with.
@@ -583,7 +591,7 @@ fn quietly(told: Told, lost: Sequence<Name>) -> React
     }
 }
 
-fn sending(alloc: Global, body: Body) -> React
+fn send_body(alloc: Global, body: Body) -> React
     ensures { result ≡ record { told = Sent; lost = []; body = Some body } }
 {
     React {

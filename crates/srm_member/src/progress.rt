@@ -5,14 +5,14 @@ use std::marker::Model;
 
 /// How far a member follows a page of one source.
 #[derive(Clone, Copy, Debug)]
-pub struct Stream {
+pub struct Progress {
     floor: u64,
     next: u64,
 }
 
-impl Model for Stream {
+impl Model for Progress {
     ghost use Rattle.std.specs.Prelude.{◌≤◌, ◌^◌};
-    ghost use Rattle.srm_member.specs.Record.{Stream as Seen};
+    ghost use Rattle.srm_member.specs.Record.{Progress as Seen};
 
     ghost Value = { Seen };
 
@@ -23,13 +23,13 @@ impl Model for Stream {
     ghost inverse = { λ s. record { floor = s.floor; next = s.next } };
 }
 
-impl Stream {
-    /// A stream whose numbers below `floor` do not concern the member, and whose first number not heard of is `next`.
-    pub fn new(floor: u64, next: u64) -> Stream
+impl Progress {
+    /// Numbers below `floor` do not concern the member, and `next` is the first number not heard of.
+    pub fn new(floor: u64, next: u64) -> Progress
         requires { next ≤ 2 ^ 32 }
         ensures { result ≡ record { floor = floor; next = next } }
     {
-        Stream { floor, next }
+        Progress { floor, next }
     }
 
     /// Numbers below this one do not concern the member.

@@ -1,6 +1,6 @@
 use Rattle.std.proofs.Common.{◌≡◌, ◌-◌, ◌++◌}
 use Rattle.srm_member.specs.React.{lose_from, names_from}
-use Rattle.srm_member.proofs.memory.Memory.lose_from.Given as goal
+use Rattle.srm_member.proofs.member_state.MemberState.lose_from.Given as goal
 
 -- what is still to be lost
 abbrev pub invariant-loop-number : goal.invariant-loop-number

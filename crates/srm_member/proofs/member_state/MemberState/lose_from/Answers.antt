@@ -2,7 +2,7 @@ use Rattle.std.proofs.Common.{◌+◌, ◌-◌, ◌∷◌, [], ◌++◌, sym, ap
 use Rattle.srm_net.specs.Names.{name_in}
 use Rattle.srm_member.specs.React.{lose_from, names_from}
 use Rattle.srm_member.proofs.Losses.{lose_from-next, lose_from-end, names_from-next}
-use Rattle.srm_member.proofs.memory.Memory.lose_from.Goals as goal
+use Rattle.srm_member.proofs.member_state.MemberState.lose_from.Goals as goal
 
 pub loop-number-preserved : goal.loop-number-preserved
 loop-number-preserved c =

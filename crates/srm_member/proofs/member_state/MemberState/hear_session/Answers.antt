@@ -1,0 +1,17 @@
+use Rattle.std.proofs.Common.{sym, ap, ◌∙◌}
+use Rattle.srm_member.proofs.Losses.{hear_session-turn, hear_session-end}
+use Rattle.srm_member.proofs.member_state.MemberState.hear_session.Goals as goal
+
+pub loop-entry-preserved : goal.loop-entry-preserved
+loop-entry-preserved c = record {
+  fixed = c.in_ok-after_entry.ensures.fixed ∙ c.loop-entry.invariant.fixed;
+  rest = hear_session-turn c.args.at c.args.heard.now c.loop-entry.entry-index _ c.loop-entry.self c.after_entry.new.self c.loop-entry.lost
+      c.after_entry.new.lost c.loop-entry-test.true c.in_ok-after_entry.ensures.ok c.in_ok-after_entry.ensures.names
+      ∙ c.loop-entry.invariant.rest;
+}
+
+pub returns-clause-ok : goal.returns-clause-ok
+returns-clause-ok c =
+    let last = sym c.loop-entry.invariant.rest ∙ hear_session-end c.args.at c.args.heard.now c.loop-entry.entry-index c.loop-entry.self
+    c.loop-entry.lost c.loop-entry-test.false in
+    (c.quietly.ensures ∙ sym (ap (λ r. r.answer) last), sym (ap (λ r. r.state) last))
