@@ -1,15 +1,16 @@
-//! What stands beside loss recovery in members: maps from names, copies of causes, lengths of timers.
+//! What stands beside loss recovery in members: held names, maps from names, copies of causes, lengths of timers.
 use crate::stories::carried::Carried;
 use crate::stories::event::Event;
 use crate::stories::following::attempt_twice;
 use srm_member::cause::Cause;
+use srm_member::held::Held;
 use srm_member::named::Named;
 use srm_member::timers::{draw, span};
 use srm_net::packet::{Heard, Name};
 use std::alloc::{AllocError, Global};
 use std::process::Abort;
 
-// The numbers of the names that are put into a map: more than it keeps in one block.
+// The numbers of the names that are put in: more than a map keeps in one block.
 const NUMBERS: [u32; 20] = [
     0, 1, 2, 3, 4, 5, 6, 7, 8, 9, 10, 11, 12, 13, 14, 15, 16, 17, 18, 19,
 ];
@@ -22,31 +23,46 @@ fn name(number: u32) -> Name {
     }
 }
 
-// Puts a value in, and asserts that the map is as it was where memory is refused.
-fn put(rt: &impl Abort, map: &mut Named<u32>, key: Name, value: u32) -> Result<(), AllocError> {
-    let before = NUMBERS.map(|number| map.get(name(number)));
-    if map.put(key, value).is_err() {
-        assert_eq!(rt; NUMBERS.map(|number| map.get(name(number))), before);
+// Holds a name, and asserts that all is as it was where memory is refused.
+fn hold(rt: &impl Abort, held: &mut Held, key: Name, ink: u32) -> Result<(), AllocError> {
+    let before = NUMBERS.map(|number| held.get(name(number)));
+    if held.put(key, ink).is_err() {
+        assert_eq!(rt; NUMBERS.map(|number| held.get(name(number))), before);
         return Err(AllocError);
     }
-    assert_eq!(rt; map.get(key), Some(value));
+    assert_eq!(rt; held.get(key), Some(ink));
     Ok(())
 }
 
-// Puts two values in for each name, in no order, and takes one out.
-fn fill(rt: &impl Abort, alloc: Global) -> Result<(), AllocError> {
-    let mut map = Named::new(alloc);
-    for value in 0..40 {
-        put(rt, &mut map, name(7 * value % 20), value)?;
+// Holds each name twice, in no order.
+fn hold_all(rt: &impl Abort, alloc: Global) -> Result<(), AllocError> {
+    let mut held = Held::new(alloc);
+    for ink in 0..40 {
+        hold(rt, &mut held, name(7 * ink % 20), ink)?;
     }
-    let entries = map.entries(alloc)?;
+    let entries = held.entries(alloc)?;
     assert_eq!(rt; entries.len(), 20);
     for number in 0..20 {
-        // The second value of the name: 7 * 3 is one more than 20.
-        let value = 20 + 3 * number % 20;
+        // The second ink of the name: 7 * 3 is one more than 20.
+        let ink = 20 + 3 * number % 20;
         let entry = entries.as_slice().get(number as usize);
-        assert_eq!(rt; entry.copied(), Some((name(number), value)));
+        assert_eq!(rt; entry.copied(), Some((name(number), ink)));
     }
+    Ok(())
+}
+
+#[test]
+fn names_are_held_in_order_each_with_its_last_ink(rt: HostRuntime) -> Result<(), AllocError> {
+    attempt_twice(&rt, || hold_all(&rt, rt.alloc()))
+}
+
+// Puts two values in for each name, in no order, and takes one out.
+fn take_one(rt: &impl Abort, alloc: Global) -> Result<(), AllocError> {
+    let mut map = Named::new(alloc);
+    for value in 0..40u32 {
+        map.put(name(7 * value % 20), value)?;
+    }
+    assert_eq!(rt; map.get(name(0)), Some(20));
     assert_eq!(rt; map.take(name(0)), Some(20));
     assert_eq!(rt; map.take(name(0)), None);
     let names = map.names(alloc)?;
@@ -57,7 +73,7 @@ fn fill(rt: &impl Abort, alloc: Global) -> Result<(), AllocError> {
 
 #[test]
 fn a_map_has_what_was_put_in_and_not_taken_out(rt: HostRuntime) -> Result<(), AllocError> {
-    attempt_twice(&rt, || fill(&rt, rt.alloc()))
+    attempt_twice(&rt, || take_one(&rt, rt.alloc()))
 }
 
 // Copies a cause.

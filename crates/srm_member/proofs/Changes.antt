@@ -10,28 +10,24 @@ use Rattle.srm_net.specs.declared.packet.PageId.{PageId}
 use Rattle.srm_net.specs.declared.packet.Heard.{Heard}
 use Rattle.srm_net.specs.declared.packet.Body.{Body}
 use Rattle.srm_net.specs.declared.packet.Body.TheVariants.{Drawop, Request, Repair, Session}
-use Rattle.srm_net.specs.declared.packet.Packet.{Packet}
 use Rattle.srm_net.specs.Names.{page_of, name_in, name_cmp, page_cmp}
 use Rattle.srm_member.specs.declared.cause.Cause.{Cause}
 use Rattle.srm_member.specs.declared.cause.Cause.TheVariants.{Join, Arrival, Ask, Answer, Draw, Report}
 use Rattle.srm_member.specs.declared.told.Told.{Told}
-use Rattle.srm_member.specs.declared.told.Told.TheVariants.{Entered, Fresh, Fixed, Again, Skip, Rest, Busy, Plan, Hold, Back, Sent}
-use Rattle.srm_member.specs.declared.told.Told.TheVariants.{Heard as Informed}
+use Rattle.srm_member.specs.declared.told.Told.TheVariants.{Entered, Fresh, Fixed, Again, Skip, Sent}
 use Rattle.srm_member.specs.Record.{MemberState, Missing, Repairing, Progress}
 use Rattle.srm_net.specs.Roles.{is_late, is_sender, is_listener}
-use Rattle.srm_member.specs.React.{Reaction, quietly, send_body, without, has_entry, request_length, repair_length, back_off, wants}
+use Rattle.srm_member.specs.React.{Reaction, quietly, send_body, without, has_entry, back_off, wants}
 use Rattle.srm_member.specs.React.{begins_at, with_progress, meet, lose_one, lose_from, names_from, lose_below, lost_below, with_held}
-use Rattle.srm_member.specs.React.{with_mended}
-use Rattle.srm_member.specs.React.{hear_data, with_rest, hear_repair, with_repair_timer, hear_request_by_entry, hear_request_of_missing}
+use Rattle.srm_member.specs.React.{hear_data, with_rest, hear_repair, with_repair_timer, hear_request_by_entry}
 use Rattle.srm_member.specs.React.{hear_request_of_held, hear_request, page_heard}
 use Rattle.srm_member.specs.React.{after_entry, lost_by_entry, hear_session, hear_body, expire_request_by_entry, expire_request}
 use Rattle.srm_member.specs.React.{expire_repair_by_entry, expire_repair, own_page}
-use Rattle.srm_member.specs.React.{own_progress, with_drawn, draw_operation, session_of, is_skip, react_active, listen_data, listen}
+use Rattle.srm_member.specs.React.{own_progress, with_drawn, draw_operation, is_skip, react_active, listen_data, listen}
 use Rattle.srm_member.specs.React.{react_listener}
 use Rattle.srm_member.specs.React.{react}
-use Rattle.srm_member.proofs.AllIn.{AllIn, AllIn-append}
-use Rattle.srm_member.proofs.TableChanges.{Has, names_apart, put_here, put_there, has_put, has_more, has_cases, without_less, without_there}
-use Rattle.srm_member.proofs.TableChanges.{sorted_put, sorted_without, has_some, page_here, page_cases}
+use Rattle.srm_member.proofs.TableChanges.{Has, has_put, has_more, has_cases, without_less}
+use Rattle.srm_member.proofs.TableChanges.{sorted_put, page_here, page_cases}
 use Rattle.srm_net.specs.Limits.{most_drawn}
 
 -- ---- changes that hold nothing new

@@ -1,4 +1,4 @@
--- Names, pages and timers are compared by their numbers.
+-- Names and timers are compared by their numbers.
 use Rattle.std.proofs.Common.{arith, length, ◌<◌, ◌↔◌, IsSome, IfSome, IsTrue, Bor, Some, [], ◌∷◌, ◌≡◌, Bool, false, cond, List, Option}
 use Rattle.std.proofs.Common.{None, refl, sym, ap, subst, ◌∙◌}
 use Rattle.std.specs.Ordering.{nat_cmp, ordering_then, eq_by_cmp, is_gt}
@@ -13,12 +13,10 @@ use Rattle.srm_member.proofs.Maps as maps
 use Rattle.std.specs.declared.cmp.Ordering.{Ordering}
 use Rattle.std.specs.declared.cmp.Ordering.TheVariants.{Less, Equal, Greater}
 use Rattle.srm_net.specs.declared.packet.Name.{Name}
-use Rattle.srm_net.specs.declared.packet.PageId.{PageId}
-use Rattle.srm_net.specs.Names.{name_cmp, page_cmp}
+use Rattle.srm_net.specs.Names.{name_cmp}
 use Rattle.srm_member.specs.declared.due.Due.{Due}
 use Rattle.srm_member.specs.Record.{due_cmp}
 use Rattle.srm_net.specs.contracts.packet.NameOrd.TheImpl as name_order
-use Rattle.srm_net.specs.contracts.packet.PageIdOrd.TheImpl as page_order
 use Rattle.srm_member.specs.contracts.due.DueOrd.TheImpl as due_order
 
 then_equal : (o : Ordering) → ordering_then o Equal ≡ o
@@ -29,9 +27,6 @@ then_equal Greater = refl
 pub names_compared : name_order.cmp-value.it ≡ name_cmp
 names_compared i a b = ap (λ o. ordering_then (nat_cmp a.source b.source) (ordering_then (nat_cmp a.page b.page) o))
     (sym (then_equal (nat_cmp a.number b.number))) i
-
-pub pages_compared : page_order.cmp-value.it ≡ page_cmp
-pages_compared i a b = ap (λ o. ordering_then (nat_cmp a.source b.source) o) (sym (then_equal (nat_cmp a.page b.page))) i
 
 pub dues_compared : due_order.cmp-value.it ≡ due_cmp
 dues_compared i a b = ordering_then (nat_cmp a.time b.time) (ordering_then (nat_cmp a.rank b.rank) (names_compared i a.name b.name))
@@ -46,13 +41,6 @@ pub name_without : {V : Type 0} (n : Name) (es : List (Name × V)) → lookup
     (is_at (name_order.cmp-value.it n)) (remove_entry (is_at (name_order.cmp-value.it n)) es) ≡ None
     → remove_entry (is_at (name_order.cmp-value.it n)) es ≡ without n es
 name_without n es h = maps.without-remove_entry name_order.cmp-value.it n es h ∙ ap (λ R. maps.without R n es) names_compared
-
-pub page_find : {V : Type 0} (p : PageId) (es : List (PageId × V)) → find page_cmp p es ≡ lookup (is_at (page_order.cmp-value.it p)) es
-page_find p es = ap (λ R. find R p es) (sym pages_compared) ∙ maps.find-lookup page_order.cmp-value.it p es
-
-pub page_put : {V : Type 0} (p : PageId) (v : V) (es : List (PageId × V))
-    → put page_cmp p v es ≡ insert_entry page_order.cmp-value.it es p v
-page_put p v es = ap (λ R. put R p v es) (sym pages_compared) ∙ maps.put-insert_entry page_order.cmp-value.it p v es
 
 -- an update of a set of timers, in the words of specs/
 pub due_update : (e : Due) (b : Bool) (index index2 : List Due)

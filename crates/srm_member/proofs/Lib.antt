@@ -10,5 +10,7 @@ pub mod FewerTimers
 pub mod LawProofs
 mod Losses
 pub mod Maps
+pub mod NameTests
 pub mod OrderLemmas
+pub mod PlaceLemmas
 pub mod TableChanges

@@ -1,14 +1,14 @@
 -- Tables of names and of pages: what an entry put in, or taken out, changes.
-use Rattle.std.proofs.Common.{◌≡◌, ℕ, zero, suc, ◌<◌, ◌≤◌, Bool, true, false, cond, not, T, List, [], ◌∷◌, map, refl, sym, ap, ◌∙◌, subst}
-use Rattle.std.proofs.Common.{◌≢◌, ◌⊎◌, inl, inr, arith, Ordering, Less, Equal, Greater, Option, Some, None, is_some, is_lt, ◌&&◌}
-use Rattle.std.proofs.Common.{true≢false, nat_cmp, length, slice_index_or, nat_lt, le-ltb, eq-eqb, ◌==◌}
+use Rattle.std.proofs.Common.{◌≡◌, ℕ, zero, suc, Bool, true, false, cond, not, T, List, [], ◌∷◌, map, refl, sym, ap, ◌∙◌, subst}
+use Rattle.std.proofs.Common.{◌≢◌, ◌⊎◌, inl, inr, arith, Ordering, Less, Equal, Greater, Some, None, is_some, is_lt, ◌&&◌}
+use Rattle.std.proofs.Common.{true≢false, nat_cmp, nat_lt, le-ltb, eq-eqb, ◌==◌}
 use Rattle.std.specs.List.{Contains}
 use Rattle.std.specs.Ordering.{eq_by_cmp, is_eq}
 use Rattle.std.specs.Cmp.{IsTotalOrder, on_total}
-use Rattle.std.specs.Cmp.Lexicographic.{slice_cmp, nat_list_cmp_total}
+use Rattle.std.specs.Cmp.Lexicographic.{nat_list_cmp_total}
 use Rattle.std.specs.FinMap.{slice_cmp-IsAntisymmetric, nat_cmp-IsAntisymmetric}
 use Rattle.std.specs.FinMap.Entries.{put, find, is_sorted, below_all, find-put, find-where_key, is_sorted-put, is_sorted-where_key}
-use Rattle.std.proofs.lemmas.List.Elements.{Contains-append_left, Contains-append_right}
+use Rattle.std.proofs.lemmas.List.Elements.{Contains-append_right}
 use Rattle.srm_net.specs.declared.packet.Name.{Name}
 use Rattle.srm_net.specs.declared.packet.PageId.{PageId}
 use Rattle.srm_net.specs.Names.{name_cmp, page_cmp}

@@ -7,3 +7,4 @@ pub mod Laws
 pub mod Pending
 pub mod Fit
 pub mod Orderly
+pub mod Places

@@ -8,6 +8,7 @@ pub mod exit;
 pub mod fault;
 pub mod fixed;
 pub mod gone;
+pub mod held;
 mod index;
 pub mod laws;
 pub mod member;

@@ -13,6 +13,7 @@ use crate::due::Due;
 use crate::entries::{Missing, Repairing};
 use crate::exit::Exit;
 use crate::fixed::Fixed;
+use crate::held::Held;
 use crate::named::Named;
 use crate::pages::Pages;
 use crate::pending::Pending;
@@ -34,7 +35,7 @@ pub struct MemberState {
     fixed: Fixed,
     words: Lcg64Xsh32,
     progress: Pages,
-    held: Named<u32>,
+    held: Held,
     pending: Pending,
     rests: Named<u64>,
 }
@@ -69,7 +70,7 @@ impl MemberState {
             fixed,
             words,
             progress: Pages::new(alloc),
-            held: Named::new(alloc),
+            held: Held::new(alloc),
             pending: Pending::new(alloc),
             rests: Named::new(alloc),
         }

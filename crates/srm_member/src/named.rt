@@ -62,21 +62,6 @@ impl<V: Copy> Named<V> {
         self.map.remove(&name)
     }
 
-    /// The entries, the names rising.
-    ///
-    /// # Errors
-    /// Memory was refused.
-    pub fn entries(&self, alloc: Global) -> Result<Sequence<(Name, V)>, AllocError>
-        ensures { IfOk result (λ es. es ≡ self.now) }
-    {
-        let entries: Vec<(Name, V)> = self
-            .map
-            .iter()
-            .map(|(name, value)| (*name, *value))
-            .collect(alloc)?;
-        Ok(Sequence::from_vec(entries))
-    }
-
     /// The names, rising.
     ///
     /// # Errors

@@ -3,28 +3,32 @@ ghost use Rattle.std.specs.Prelude.{◌≡◌, [], OnErr, OnOk, IfOk, map};
 ghost use Rattle.std.specs.FinMap.Entries.{put, find};
 ghost use Rattle.srm_net.specs.Names.{page_cmp};
 ghost use Rattle.srm_member.specs.Fit.{heard_of};
+ghost use Rattle.srm_member.specs.Places.{is_before, is_at, IsPlaceOf};
 
 use crate::progress::Progress;
 use srm_net::packet::{Heard, PageId};
 use srm_net::sequence::Sequence;
 use std::alloc::{AllocError, Global};
-use std::collections::BTreeMap;
 use std::marker::Model;
 
-/// How far a member follows each page, which contracts compare entry by entry, the pages rising.
+/// How far a member follows each page, in one vector that rises by page. Contracts compare it entry by entry.
 #[derive(Debug, Drop)]
 pub struct Pages {
-    map: BTreeMap<PageId, Progress>,
+    entries: Vec<(PageId, Progress)>,
 }
 
 impl Model for Pages {
-    ghost use Rattle.std.specs.Prelude.{List};
+    ghost use Rattle.std.specs.Prelude.{List, T};
+    ghost use Rattle.std.specs.FinMap.Entries.{is_sorted};
     ghost use Rattle.srm_net.specs.declared.packet.PageId.{PageId as Key};
+    ghost use Rattle.srm_net.specs.Names.{page_cmp};
     ghost use Rattle.srm_member.specs.Record.{Progress as Seen};
 
     ghost Value = { List (Key × Seen) };
 
-    ghost view = { λ t. t.map.entries };
+    ghost view = { λ t. t.entries.items };
+
+    ghost invariant = { λ t. T (is_sorted page_cmp t.entries.items) };
 }
 
 impl Pages {
@@ -33,7 +37,28 @@ impl Pages {
         ensures { result ≡ [] }
     {
         Pages {
-            map: BTreeMap::new(alloc),
+            entries: Vec::new(alloc),
+        }
+    }
+
+    // How many entries stand before the place of a page.
+    fn place(&self, page: PageId) -> usize
+        ensures { IsPlaceOf page_cmp page self.now result }
+    {
+        self.entries.as_slice().partition_point(
+            |entry: &(PageId, Progress)| -> bool
+                ensures { result ≡ is_before page_cmp page entry.now }
+            { entry.0 < page },
+        )
+    }
+
+    // Whether the entry at a place is that of a page.
+    fn is_at(&self, place: usize, page: PageId) -> bool
+        ensures { result ≡ is_at page_cmp page self.now place }
+    {
+        match self.entries.as_slice().get(place) {
+            Some(entry) => entry.0 == page,
+            None => false,
         }
     }
 
@@ -41,7 +66,12 @@ impl Pages {
     pub fn get(&self, page: PageId) -> Option<Progress>
         ensures { result ≡ find page_cmp page self.now }
     {
-        self.map.get(&page).copied()
+        let place = self.place(page);
+        if self.is_at(place, page) {
+            Some(self.entries[place].1)
+        } else {
+            None
+        }
     }
 
     /// Follows a page this far. After an error all is as it was.
@@ -49,7 +79,12 @@ impl Pages {
         ensures ok { OnOk result (self.new ≡ put page_cmp page progress self.old) }
         ensures err { OnErr result (self.new ≡ self.old) }
     {
-        self.map.insert(page, progress)?;
+        let place = self.place(page);
+        if self.is_at(place, page) {
+            self.entries[place] = (page, progress);
+        } else {
+            self.entries.insert(place, (page, progress))?;
+        }
         Ok(())
     }
 
@@ -58,7 +93,7 @@ impl Pages {
         ensures { IfOk result (λ hs. hs ≡ map (λ e. heard_of e.0 e.1) self.now) }
     {
         let mut heard = Sequence::new(alloc);
-        for (page, progress) in &self.map {
+        for (page, progress) in self.entries.iter() {
             heard.push(heard_of(*page, *progress))?;
         }
         Ok(heard)

@@ -3,7 +3,7 @@ ghost use Rattle.std.specs.Prelude.{◌≡◌, [], IfOk, OnErr, MatchResult};
 ghost use Rattle.srm_net.specs.declared.role.Role.TheVariants as role;
 ghost use Rattle.srm_member.specs.declared.fault.MemberFault.TheVariants.{NoMemory};
 ghost use Rattle.srm_member.specs.Record.{MemberState, opening_record};
-ghost use Rattle.srm_member.specs.React.{quietly, listened, react_listener};
+ghost use Rattle.srm_member.specs.React.{quietly, listen_data, react_listener};
 ghost use Rattle.srm_roles.specs.Opening.{HasRole, fixed_of};
 
 use crate::fixed::fixed_of;
@@ -13,8 +13,8 @@ use srm_member::exit::Exit;
 use srm_member::fault::MemberFault;
 use srm_member::fixed::Fixed;
 use srm_member::gone::begin;
+use srm_member::held::Held;
 use srm_member::member::Member;
-use srm_member::named::Named;
 use srm_member::react::React;
 use srm_member::told::Told;
 use srm_net::net::Net;
@@ -28,7 +28,7 @@ use std::marker::Model;
 #[derive(Drop)]
 pub struct Listener {
     fixed: Fixed,
-    held: Named<u32>,
+    held: Held,
     gone: bool,
 }
 
@@ -66,7 +66,7 @@ impl Listener {
         let fixed = fixed_of(alloc, scenario, net, seed, m)?;
         Ok(Listener {
             fixed,
-            held: Named::new(alloc),
+            held: Held::new(alloc),
             gone: false,
         })
     }
@@ -107,7 +107,7 @@ impl Member for Listener {
 }
 
 // What comes of a cause, and the names held after it.
-fn listen(held: &mut Named<u32>, cause: &Cause) -> Result<Told, AllocError>
+fn listen(held: &mut Held, cause: &Cause) -> Result<Told, AllocError>
     ensures ok { IfOk result (λ told. (m : MemberState) → m.held ≡ held.old
         → react_listener m cause.now ≡ quietly (record m { held = held.new }) told []) }
     ensures err { OnErr result (held.new ≡ held.old) }
@@ -128,9 +128,9 @@ fn listen(held: &mut Named<u32>, cause: &Cause) -> Result<Told, AllocError>
 }
 
 // Takes in data or a repair of a name.
-fn hold(held: &mut Named<u32>, name: Name, ink: u32) -> Result<Told, AllocError>
+fn hold(held: &mut Held, name: Name, ink: u32) -> Result<Told, AllocError>
     ensures ok { IfOk result (λ told. (m : MemberState) → m.held ≡ held.old
-        → listened name ink m ≡ quietly (record m { held = held.new }) told []) }
+        → listen_data name ink m ≡ quietly (record m { held = held.new }) told []) }
     ensures err { OnErr result (held.new ≡ held.old) }
 {
     if held.get(name).is_some() {

@@ -1,5 +1,20 @@
-use Rattle.srm_member.proofs.Compare.{page_find}
+use Rattle.std.proofs.Common.{◌∙◌, sym, ap, subst, Some, T, slice_index_or}
+use Rattle.std.specs.FinMap.Entries.{is_sorted}
+use Rattle.srm_net.specs.Names.{page_cmp}
+use Rattle.srm_member.proofs.PlaceLemmas.{found_there, nothing_there}
+use Rattle.srm_member.proofs.TableChanges.{page_total, tied_pages}
 use Rattle.srm_member.proofs.pages.Pages.get.Goals as goal
 
-pub returns : goal.returns
-returns c = simp page_find (cc)
+pub returns-then-is_at : goal.returns-then-is_at
+returns-then-is_at c =
+    let place = c.place-place.result in
+    let entry = c.index.result.now in
+    ap (λ e. Some e.1) (c.index.ensures ∙ ap (λ es. slice_index_or es place entry) c.self.view_is)
+    ∙ sym (found_there page_cmp page_total tied_pages c.args.page c.args.self.now place entry c.place-place.ensures
+    (sym c.is_at.ensures ∙ c.if-is_at.true))
+
+pub returns-else-is_at : goal.returns-else-is_at
+returns-else-is_at c =
+    let sorted = subst (λ es. T (is_sorted page_cmp es)) c.self.view_is c.self.invariant in
+    sym (nothing_there page_cmp page_total tied_pages c.args.page c.args.self.now c.place-place.result sorted c.place-place.ensures
+    (sym c.is_at.ensures ∙ c.if-is_at.false))
