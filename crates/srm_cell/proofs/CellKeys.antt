@@ -80,20 +80,20 @@ map_both t f g [] [] = refl
 map_both t f g [] (y ∷ ys) = ap (λ l. t (g y) ∷ l) (map_both t f g [] ys)
 map_both t f g (x ∷ xs) ys = ap (λ l. t (f x) ∷ l) (map_both t f g xs ys)
 
-memory_differs : (m : ℕ) (mem : MemberState) → T (is_sorted name_cmp mem.missing) → T (is_sorted name_cmp mem.repairs)
-    → AllDiffer (map (timer_key m) (timers (Active mem)))
-memory_differs m mem h g =
-    rw (map_both (timer_key m) (due (λ (v : Missing). v.expiry) m 2) (due (λ (v : Repairing). v.expiry) m 3) mem.missing mem.repairs)
-    (all_differ_append _ _ (dues_differ (λ (v : Missing). v.expiry) m 2 mem.missing h)
-    (dues_differ (λ (v : Repairing). v.expiry) m 3 mem.repairs g)
-    (AllIn-map (λ x. DiffersFrom x (map (λ e. timer_key m (due (λ (v : Repairing). v.expiry) m 3 e)) mem.repairs)) _ mem.missing
-    (AllIn-each _ (λ e. from_all (timer_key m (due (λ (v : Missing). v.expiry) m 2 e)) _ mem.repairs
+memory_differs : (m : ℕ) (state : MemberState) → T (is_sorted name_cmp state.missing) → T (is_sorted name_cmp state.repairs)
+    → AllDiffer (map (timer_key m) (timers (Active state)))
+memory_differs m state h g =
+    rw (map_both (timer_key m) (due (λ (v : Missing). v.expiry) m 2) (due (λ (v : Repairing). v.expiry) m 3) state.missing state.repairs)
+    (all_differ_append _ _ (dues_differ (λ (v : Missing). v.expiry) m 2 state.missing h)
+    (dues_differ (λ (v : Repairing). v.expiry) m 3 state.repairs g)
+    (AllIn-map (λ x. DiffersFrom x (map (λ e. timer_key m (due (λ (v : Repairing). v.expiry) m 3 e)) state.repairs)) _ state.missing
+    (AllIn-each _ (λ e. from_all (timer_key m (due (λ (v : Missing). v.expiry) m 2 e)) _ state.repairs
     (AllIn-each _ (λ x. differ_rank (timer_key m (due (λ (v : Missing). v.expiry) m 2 e))
-    (timer_key m (due (λ (v : Repairing). v.expiry) m 3 x)) (λ q. let r : ◌≡◌ {A = ℕ} 2 3 = q in omega arith)) mem.repairs))
-    mem.missing)))
+    (timer_key m (due (λ (v : Repairing). v.expiry) m 3 x)) (λ q. let r : ◌≡◌ {A = ℕ} 2 3 = q in omega arith)) state.repairs))
+    state.missing)))
 
 timers_differ : (m : ℕ) (r : Record) → SoundRecord r → AllDiffer (map (timer_key m) (timers r))
-timers_differ m (Active mem) s = memory_differs m mem s.asks s.answers
+timers_differ m (Active state) s = memory_differs m state s.asks s.answers
 timers_differ m (Gone f) s = tt
 
 marks_and_timers : (m : ℕ) (r : Record) (ks : List Mark) → HasOwnRanks ks

@@ -123,7 +123,7 @@ module _ {V : Type 0} (p : V → Type 0) where
 
 -- ---- after a timer is handled, no timer has its key
 
-module _ (m t : ℕ) (mem : MemberState) (sound : IsSound mem) (n : Name) where
+module _ (m t : ℕ) (state : MemberState) (sound : IsSound state) (n : Name) where
   abbrev AskKey : Key
   AskKey = timer_key m (record { time = t; rank = 2; name = n })
 
@@ -139,52 +139,52 @@ module _ (m t : ℕ) (mem : MemberState) (sound : IsSound mem) (n : Name) where
   clear_of k r h g = AllIn-append (λ d. Differs k (timer_key m d)) _ _ (AllIn-map (λ d. Differs k (timer_key m d)) _ r.missing h)
       (AllIn-map (λ d. Differs k (timer_key m d)) _ r.repairs g)
 
-  asked_clear : (w : Missing) → In (n, w) mem.missing → (o : Option Missing) → find name_cmp n mem.missing ≡ o
-      → ClearOf AskKey (expire_request_by_entry t n mem o).state
-  asked_clear w h None e = absurd (found (λ (x : Missing). true) n w mem.missing h e)
+  asked_clear : (w : Missing) → In (n, w) state.missing → (o : Option Missing) → find name_cmp n state.missing ≡ o
+      → ClearOf AskKey (expire_request_by_entry t n state o).state
+  asked_clear w h None e = absurd (found (λ (x : Missing). true) n w state.missing h e)
   asked_clear w h (Some x) e =
-      let len = request_length mem (min (x.backoffs + 1) 10) n in
-      let lt : t < t + len = (let one = draw_pos (pcg32 mem.words).0
-      (span (min (x.backoffs + 1) 10) mem.fixed.c1 mem.fixed.c2 (distance_to mem n.source)) in omega arith) in
+      let len = request_length state (min (x.backoffs + 1) 10) n in
+      let lt : t < t + len = (let one = draw_pos (pcg32 state.words).0
+      (span (min (x.backoffs + 1) 10) state.fixed.c1 state.fixed.c2 (distance_to state n.source)) in omega arith) in
       let v : Missing = record { detected = x.detected; expiry = t + len; backoffs = min (x.backoffs + 1) 10; ignore = t + len / 2 } in
-      clear_of AskKey (back_off t n x mem)
+      clear_of AskKey (back_off t n x state)
       (AllIn-weaker (Clear (λ (y : Missing). y.expiry ≢ t) n)
       (λ e. Differs AskKey (timer_key m (record { time = e.1.expiry; rank = 2; name = e.0 })))
-      (λ e c. timer_differs m 2 t n e.0 e.1.expiry c) (put name_cmp n v mem.missing)
-      (put_clear (λ (y : Missing). y.expiry ≢ t) n v mem.missing sound.asks (λ q. omega arith)))
+      (λ e c. timer_differs m 2 t n e.0 e.1.expiry c) (put name_cmp n v state.missing)
+      (put_clear (λ (y : Missing). y.expiry ≢ t) n v state.missing sound.asks (λ q. omega arith)))
       (AllIn-each (λ e. Differs AskKey (timer_key m (record { time = e.1.expiry; rank = 3; name = e.0 })))
       (λ e. differ_rank AskKey (timer_key m (record { time = e.1.expiry; rank = 3; name = e.0 }))
-      (λ q. let r : ◌≡◌ {A = ℕ} 2 3 = q in omega arith)) mem.repairs)
+      (λ q. let r : ◌≡◌ {A = ℕ} 2 3 = q in omega arith)) state.repairs)
 
-  answered_clear : (w : Repairing) → In (n, w) mem.repairs → (o : Option Repairing) → find name_cmp n mem.repairs ≡ o
-      → ClearOf AnswerKey (expire_repair_by_entry t n mem o).state
-  answered_clear w h None e = absurd (found (λ (x : Repairing). true) n w mem.repairs h e)
+  answered_clear : (w : Repairing) → In (n, w) state.repairs → (o : Option Repairing) → find name_cmp n state.repairs ≡ o
+      → ClearOf AnswerKey (expire_repair_by_entry t n state o).state
+  answered_clear w h None e = absurd (found (λ (x : Repairing). true) n w state.repairs h e)
   answered_clear w h (Some x) e =
-      clear_of AnswerKey (with_rest t n mem.fixed.member mem)
+      clear_of AnswerKey (with_rest t n state.fixed.member state)
       (AllIn-each (λ e. Differs AnswerKey (timer_key m (record { time = e.1.expiry; rank = 2; name = e.0 })))
       (λ e. differ_rank AnswerKey (timer_key m (record { time = e.1.expiry; rank = 2; name = e.0 }))
-      (λ q. let r : ◌≡◌ {A = ℕ} 3 2 = q in omega arith)) mem.missing)
+      (λ q. let r : ◌≡◌ {A = ℕ} 3 2 = q in omega arith)) state.missing)
       (AllIn-weaker (Clear (λ (y : Repairing). y.expiry ≢ t) n)
       (λ e. Differs AnswerKey (timer_key m (record { time = e.1.expiry; rank = 3; name = e.0 })))
-      (λ e c. timer_differs m 3 t n e.0 e.1.expiry c) (without n mem.repairs)
-      (without_clear (λ (y : Repairing). y.expiry ≢ t) n mem.repairs))
+      (λ e c. timer_differs m 3 t n e.0 e.1.expiry c) (without n state.repairs)
+      (without_clear (λ (y : Repairing). y.expiry ≢ t) n state.repairs))
 
-  pub asks_clear : (w : Missing) → In (n, w) mem.missing → ClearOf AskKey (react mem t (Ask n)).state
+  pub asks_clear : (w : Missing) → In (n, w) state.missing → ClearOf AskKey (react state t (Ask n)).state
   unfolding expire_request
-  asks_clear w h = let role = mem.fixed.role in
-      elim (is_listener role) as (λ b. is_listener role ≡ b → ClearOf AskKey (react mem t (Ask n)).state) [
-        | true ↦ λ l. absurd (no_table (n, w) mem.missing (sound.listener l).0 h)
-        | false ↦ λ l. subst (λ (r : Reaction). ClearOf AskKey r.state) (sym (as_active mem t (Ask n) l))
-            (asked_clear w h (find name_cmp n mem.missing) refl)
+  asks_clear w h = let role = state.fixed.role in
+      elim (is_listener role) as (λ b. is_listener role ≡ b → ClearOf AskKey (react state t (Ask n)).state) [
+        | true ↦ λ l. absurd (no_table (n, w) state.missing (sound.listener l).0 h)
+        | false ↦ λ l. subst (λ (r : Reaction). ClearOf AskKey r.state) (sym (as_active state t (Ask n) l))
+            (asked_clear w h (find name_cmp n state.missing) refl)
       ] refl
 
-  pub answers_clear : (w : Repairing) → In (n, w) mem.repairs → ClearOf AnswerKey (react mem t (Answer n)).state
+  pub answers_clear : (w : Repairing) → In (n, w) state.repairs → ClearOf AnswerKey (react state t (Answer n)).state
   unfolding expire_repair
-  answers_clear w h = elim (is_listener mem.fixed.role) as (λ b. is_listener mem.fixed.role ≡ b
-      → ClearOf AnswerKey (react mem t (Answer n)).state) [
-        | true ↦ λ l. absurd (no_table (n, w) mem.repairs (sound.listener l).1 h)
-        | false ↦ λ l. subst (λ (r : Reaction). ClearOf AnswerKey r.state) (sym (as_active mem t (Answer n) l))
-            (answered_clear w h (find name_cmp n mem.repairs) refl)
+  answers_clear w h = elim (is_listener state.fixed.role) as (λ b. is_listener state.fixed.role ≡ b
+      → ClearOf AnswerKey (react state t (Answer n)).state) [
+        | true ↦ λ l. absurd (no_table (n, w) state.repairs (sound.listener l).1 h)
+        | false ↦ λ l. subst (λ (r : Reaction). ClearOf AnswerKey r.state) (sym (as_active state t (Answer n) l))
+            (answered_clear w h (find name_cmp n state.repairs) refl)
       ] refl
 
 -- ---- cells in which no two pending events have one key
@@ -299,27 +299,27 @@ clear_sending : (m : ℕ) (k : Key) (e : Event) (r : Reaction) (body : Option Bo
 clear_sending m k e r None f l d = record { flights = f; marks = l; dues = d }
 clear_sending m k e r (Some body) f l d = clear_by m k (nat_lt e.rest.sent most_sent) _ (record { flights = f; marks = l; dues = d })
 
-clear_cause : (m : ℕ) (e : Event) (mem : MemberState) → IsSound mem → (d : Due) → In d (timers_of mem) → e.key ≡ timer_key m d
-    → AllIn (λ d. Differs e.key (timer_key m d)) (timers_of (react mem e.key.time (cause_of_timer d.rank d.name)).state)
-clear_cause m e mem sound d h q = elim (in_append d (map (λ e. record { time = e.1.expiry; rank = 2; name = e.0 }) mem.missing) _ h) [
+clear_cause : (m : ℕ) (e : Event) (state : MemberState) → IsSound state → (d : Due) → In d (timers_of state) → e.key ≡ timer_key m d
+    → AllIn (λ d. Differs e.key (timer_key m d)) (timers_of (react state e.key.time (cause_of_timer d.rank d.name)).state)
+clear_cause m e state sound d h q = elim (in_append d (map (λ e. record { time = e.1.expiry; rank = 2; name = e.0 }) state.missing) _ h) [
   | inl g ↦
-      let r = in_map (λ (e : Name × Missing). record { time = e.1.expiry; rank = 2; name = e.0 }) d mem.missing g in
+      let r = in_map (λ (e : Name × Missing). record { time = e.1.expiry; rank = 2; name = e.0 }) d state.missing g in
       let is : e.key ≡ timer_key m (record { time = r.0.1.expiry; rank = 2; name = r.0.0 }) = q ∙ ap (timer_key m) (sym r.2) in
       let now : e.key ≡ timer_key m (record { time = e.key.time; rank = 2; name = r.0.0 }) = is
       ∙ ap (λ t. timer_key m (record { time = t; rank = 2; name = r.0.0 })) (sym (ap (λ (k : Key). k.time) is)) in
       subst (λ (d : Due). AllIn (λ x. Differs e.key (timer_key m x))
-      (timers_of (react mem e.key.time (cause_of_timer d.rank d.name)).state)) r.2
-      (subst (λ k. AllIn (λ x. Differs k (timer_key m x)) (timers_of (react mem e.key.time (Ask r.0.0)).state)) (sym now)
-      (asks_clear m e.key.time mem sound r.0.0 r.0.1 r.1))
+      (timers_of (react state e.key.time (cause_of_timer d.rank d.name)).state)) r.2
+      (subst (λ k. AllIn (λ x. Differs k (timer_key m x)) (timers_of (react state e.key.time (Ask r.0.0)).state)) (sym now)
+      (asks_clear m e.key.time state sound r.0.0 r.0.1 r.1))
   | inr g ↦
-      let r = in_map (λ (e : Name × Repairing). record { time = e.1.expiry; rank = 3; name = e.0 }) d mem.repairs g in
+      let r = in_map (λ (e : Name × Repairing). record { time = e.1.expiry; rank = 3; name = e.0 }) d state.repairs g in
       let is : e.key ≡ timer_key m (record { time = r.0.1.expiry; rank = 3; name = r.0.0 }) = q ∙ ap (timer_key m) (sym r.2) in
       let now : e.key ≡ timer_key m (record { time = e.key.time; rank = 3; name = r.0.0 }) = is
       ∙ ap (λ t. timer_key m (record { time = t; rank = 3; name = r.0.0 })) (sym (ap (λ (k : Key). k.time) is)) in
       subst (λ (d : Due). AllIn (λ x. Differs e.key (timer_key m x))
-      (timers_of (react mem e.key.time (cause_of_timer d.rank d.name)).state)) r.2
-      (subst (λ k. AllIn (λ x. Differs k (timer_key m x)) (timers_of (react mem e.key.time (Answer r.0.0)).state)) (sym now)
-      (answers_clear m e.key.time mem sound r.0.0 r.0.1 r.1))
+      (timers_of (react state e.key.time (cause_of_timer d.rank d.name)).state)) r.2
+      (subst (λ k. AllIn (λ x. Differs k (timer_key m x)) (timers_of (react state e.key.time (Answer r.0.0)).state)) (sym now)
+      (answers_clear m e.key.time state sound r.0.0 r.0.1 r.1))
 ]
 
 clear_handle : (m : ℕ) (e : Event) (holds : Record) (cause : Option Cause) → AllIn (λ f. Differs e.key (arrival_key m f)) e.rest.inbox
@@ -328,13 +328,13 @@ clear_handle : (m : ℕ) (e : Event) (holds : Record) (cause : Option Cause) →
     → OnStep (ClearIn m e.key) (handle e holds cause)
 unfolding handle
 clear_handle m e (Gone f) cause fs ks s d h q c = absurd h
-clear_handle m e (Active mem) None fs ks s d h q c = cc
-clear_handle m e (Active mem) (Some cause) fs ks s d h q c =
+clear_handle m e (Active state) None fs ks s d h q c = cc
+clear_handle m e (Active state) (Some cause) fs ks s d h q c =
     let same : cause ≡ cause_of_timer d.rank d.name = cc in
-    let r = react mem e.key.time cause in
+    let r = react state e.key.time cause in
     clear_sending m e.key e r r.answer.body fs ks
-    (subst (λ k. AllIn (λ x. Differs e.key (timer_key m x)) (timers_of (react mem e.key.time k).state)) (sym same)
-    (clear_cause m e mem s d h q))
+    (subst (λ k. AllIn (λ x. Differs e.key (timer_key m x)) (timers_of (react state e.key.time k).state)) (sym same)
+    (clear_cause m e state s d h q))
 
 pub clear_step : (m : ℕ) (c : PlainCell) (e : Event) → SoundRecord c.holds → Besides m c e → OnStep (ClearIn m e.key) (step_at (Some e))
 clear_step m c e sound (inl a) = step_above (Differs e.key) m e.key.time (later_differs e.key) e refl a

@@ -38,12 +38,12 @@ const COUNT_LIMIT: u64 = 281_474_976_710_656;
 #[derive(Drop)]
 pub struct Cell {
     number: u16,
-    member: Option<Box<dyn Member>>,
+    next: Option<Pending>,
     inbox: Inbox,
+    member: Option<Box<dyn Member>>,
     script: Script,
     sent: u64,
     exit: Option<Exit>,
-    next: Option<Pending>,
 }
 
 impl Cell {

@@ -324,17 +324,17 @@ module _ (s : Setting) (fit : IsFit s) where
       -- ---- its answer
 
       module _ (a : Answers e d) where
-        abbrev mem : MemberState
-        mem = a.state
+        abbrev state : MemberState
+        state = a.state
 
         abbrev r : Reaction
         r = react a.state e.key.time a.cause
 
-        k : Knows trace m mem
-        k = (knew mem a.holds).1
+        k : Knows trace m state
+        k = (knew state a.holds).1
 
         no_exit : d.cell.exit ≡ None
-        no_exit = a.exit ∙ (knew mem a.holds).0
+        no_exit = a.exit ∙ (knew state a.holds).0
 
         known : Knows rows m r.state → CellKnows rows m d.cell.holds d.cell.exit
         known h = subst (λ x. CellKnows rows m x d.cell.exit) (sym a.holds_then)
@@ -351,7 +351,7 @@ module _ (s : Setting) (fit : IsFit s) where
         lost_here n h = (row_member, subst (λ ns. Contains ns n) (sym a.lost) h)
 
         -- what the growth from the state before says of losses
-        module _ (mid : MemberState) (grows : Grows r.answer.lost mem mid) where
+        module _ (mid : MemberState) (grows : Grows r.answer.lost state mid) where
           lost_by : (n : Name) → Has n mid.missing → Lost m n rows × ¬ ToldOf Fixed m n trace
           lost_by n h = elim (grows.lacks n h) [
             | inl g ↦ (let l = k.keeps.lacks n g in (lost_more m n l.0, l.1))
@@ -369,12 +369,12 @@ module _ (s : Setting) (fit : IsFit s) where
 
         -- ---- nothing new is held
 
-        quiet_next : Quiet mem r → Next
+        quiet_next : Quiet state r → Next
         quiet_next q =
             let g = q.grows in
             let no_draw : (j : ℕ) (n : Name) (ink : ℕ) → ¬ Draws j n ink d.row = λ j n ink h.
-            (let b : r.answer.body ≡ Some (Drawop n ink) = (sent_is h.packet h.sends).0 ∙ ap Some h.carries in subst (Allowed mem) b q.body)
-            in
+            (let b : r.answer.body ≡ Some (Drawop n ink) = (sent_is h.packet h.sends).0 ∙ ap Some h.carries in
+            subst (Allowed state) b q.body) in
             let no_fresh : (n : Name) → ¬ Now Fresh m n = λ n h. q.not_fresh (sym a.told ∙ h.told_so) in
             let no_fixed : (n : Name) → ¬ Now Fixed m n = λ n h. q.not_fixed (sym a.told ∙ h.told_so) in
             let not_told : (n : Name) → ¬ ToldOf Fixed m n trace → ¬ ToldOf Fixed m n rows =
@@ -406,11 +406,11 @@ module _ (s : Setting) (fit : IsFit s) where
               source = λ j n ink h. absurd (no_draw j n ink h);
               one = one_still no_draw;
               inks = λ p n ink h b. elim b [
-                | inl x ↦ absurd (subst (Allowed mem) ((sent_is p h).0 ∙ ap Some x) q.body)
+                | inl x ↦ absurd (subst (Allowed state) ((sent_is p h).0 ∙ ap Some x) q.body)
                 | inr x ↦ (let l = repaired p n ink h x in drew_more n.source n ink l.1)
               ];
               asks = λ p n h b.
-                  (let has : Has n mem.missing = subst (Allowed mem) ((sent_is p h).0 ∙ ap Some b) q.body in
+                  (let has : Has n state.missing = subst (Allowed state) ((sent_is p h).0 ∙ ap Some b) q.body in
                   subst (λ j. Lacks j n trace) (sym (sent_is p h).1) (k.keeps.lacks n has));
               answers = λ p n ink h b. (let l = repaired p n ink h b in (subst (λ j. Got j n trace) (sym (sent_is p h).1) l.0, l.1));
             }
@@ -418,22 +418,22 @@ module _ (s : Setting) (fit : IsFit s) where
             repaired : (p : Packet) (n : Name) (ink : ℕ) → d.row.sent ≡ Some p → p.body ≡ Repair n ink → Got m n trace
                 × Drew n.source n ink trace
             repaired p n ink h b =
-                let allowed : Has n mem.repairs × (ink ≡ unwrap_or (find name_cmp n mem.held) 0) =
-                subst (Allowed mem) ((sent_is p h).0 ∙ ap Some b) q.body in
-                let has = has_some n mem.held (k.plans n allowed.0) in
+                let allowed : Has n state.repairs × (ink ≡ unwrap_or (find name_cmp n state.held) 0) =
+                subst (Allowed state) ((sent_is p h).0 ∙ ap Some b) q.body in
+                let has = has_some n state.held (k.plans n allowed.0) in
                 let same : ink ≡ has.0 = allowed.1 ∙ ap (λ o. unwrap_or o 0) has.1 in
                 k.keeps.held_is n ink (has.1 ∙ ap Some (sym same))
 
         -- ---- a packet brought a name
 
-        brought_next : (p : Packet) → a.cause ≡ Arrival p → Brought mem p.body r → Next
+        brought_next : (p : Packet) → a.cause ≡ Arrival p → Brought state p.body r → Next
         unfolding facts
         brought_next p arrives b =
             let g = b.grows in
             let n0 = b.name in
             let silent : (x : Packet) → d.row.sent ≡ Some x → ⊥ = sends_none e d r.answer.body b.body a.sends in
             let no_draw : (j : ℕ) (n : Name) (ink : ℕ) → ¬ Draws j n ink d.row = λ j n ink h. silent h.packet h.sends in
-            let held : r.state.held ≡ put name_cmp n0 b.ink mem.held = b.held ∙ ap (put name_cmp n0 b.ink) g.held in
+            let held : r.state.held ≡ put name_cmp n0 b.ink state.held = b.held ∙ ap (put name_cmp n0 b.ink) g.held in
             let here : (t : Told) → d.row.told ≡ t → Now t m n0 = λ t h. record
             { member = row_member; told_so = h; packet = p; about = about; sent = sent; carries = carries_it p.body n0 b.ink b.brings } in
             let drawn : Drew n0.source n0 b.ink trace = was.inks p n0 b.ink sent b.brings in
@@ -445,18 +445,18 @@ module _ (s : Setting) (fit : IsFit s) where
               | inr h ↦ inr (inr (told_now Fixed m n0 (here Fixed (a.told ∙ h.0))))
             ]) in
             let has_it : (n : Name) → n0 ≡ n → Has n r.state.held = λ n q. subst (Has n) (sym held)
-            (subst (λ x. Has x (put name_cmp n0 b.ink mem.held)) q (has_put n0 b.ink mem.held)) in
-            let still : (n : Name) → Has n mem.held → Has n r.state.held =
-            λ n h. subst (Has n) (sym held) (has_more n n0 b.ink mem.held h) in
+            (subst (λ x. Has x (put name_cmp n0 b.ink state.held)) q (has_put n0 b.ink state.held)) in
+            let still : (n : Name) → Has n state.held → Has n r.state.held =
+            λ n h. subst (Has n) (sym held) (has_more n n0 b.ink state.held h) in
             let held_is : (n : Name) (ink : ℕ) → find name_cmp n r.state.held ≡ Some ink → Got m n rows
             × Drew n.source n ink rows = λ n ink f. (elim (names_apart n n0) [
               | inl q ↦
-                  let ink_is : b.ink ≡ ink = same_some _ _ (sym (put_here n0 b.ink mem.held)
-                  ∙ ap (λ x. find name_cmp x (put name_cmp n0 b.ink mem.held)) (sym q) ∙ ap (find name_cmp n) (sym held) ∙ f) in
+                  let ink_is : b.ink ≡ ink = same_some _ _ (sym (put_here n0 b.ink state.held)
+                  ∙ ap (λ x. find name_cmp x (put name_cmp n0 b.ink state.held)) (sym q) ∙ ap (find name_cmp n) (sym held) ∙ f) in
                   subst (λ x. Got m x rows × Drew x.source x ink rows) (sym q)
                   (got_it, subst (λ i. Drew n0.source n0 i rows) ink_is (drew_more n0.source n0 b.ink drawn))
               | inr ne ↦
-                  let h = k.keeps.held_is n ink (sym (put_there n n0 b.ink mem.held ne) ∙ ap (find name_cmp n) (sym held) ∙ f) in
+                  let h = k.keeps.held_is n ink (sym (put_there n n0 b.ink state.held ne) ∙ ap (find name_cmp n) (sym held) ∙ f) in
                   (got_more m n h.0, drew_more n.source n ink h.1)
             ]) in
             let got : (n : Name) → Got m n rows → Has n r.state.held = λ n h. (elim (got_cases m n h) [
@@ -486,7 +486,7 @@ module _ (s : Setting) (fit : IsFit s) where
                         (told_now Fixed m n0 (here Fixed (a.told ∙ x.0)))) in
                         subst (Has n) (sym x.2) (ap is_some (without_there n n0 b.mid.missing ne) ∙ l)
                   ]);
-                  held_sorted = subst (λ es. T (is_sorted name_cmp es)) (sym held) (sorted_put n0 b.ink mem.held k.keeps.held_sorted);
+                  held_sorted = subst (λ es. T (is_sorted name_cmp es)) (sym held) (sorted_put n0 b.ink state.held k.keeps.held_sorted);
                   missing_sorted = elim b.mends [
                     | inl x ↦ subst (λ es. T (is_sorted name_cmp es)) (sym x.1) (g.sorted k.keeps.missing_sorted)
                     | inr x ↦ subst (λ es. T (is_sorted name_cmp es)) (sym x.2)
@@ -500,7 +500,7 @@ module _ (s : Setting) (fit : IsFit s) where
                   | inl x ↦ g.below n (k.fixed n x)
                   | inr x ↦ elim b.mends [
                     | inl y ↦ absurd (not_both (a.told ∙ y.0) x.told_so)
-                    | inr y ↦ g.below n (subst (λ z. Below z mem) (only Fixed n x) (k.lost n0 (k.keeps.lacks n0 y.1).0))
+                    | inr y ↦ g.below n (subst (λ z. Below z state) (only Fixed n x) (k.lost n0 (k.keeps.lacks n0 y.1).0))
                   ]
                 ]);
                 plans = λ n h. still n (elim (g.plans n (b.plans n h)) [ inl x ↦ k.plans n x | inr x ↦ x ]);
@@ -538,7 +538,7 @@ module _ (s : Setting) (fit : IsFit s) where
 
         -- ---- a name is drawn
 
-        drawn_next : (page ink : ℕ) → a.cause ≡ Draw page ink → Drawn mem r → Next
+        drawn_next : (page ink : ℕ) → a.cause ≡ Draw page ink → Drawn state r → Next
         drawn_next page ink draws b =
             let n0 = b.name in
             let own : n0.source ≡ m = b.source ∙ k.member in
@@ -560,8 +560,8 @@ module _ (s : Setting) (fit : IsFit s) where
             let no_fresh : (n : Name) → ¬ Now Fresh m n = no_told Fresh (λ q. cc) in
             let no_fixed : (n : Name) → ¬ Now Fixed m n = no_told Fixed (λ q. cc) in
             let no_loss : (n : Name) → ¬ LosesNow m n = λ n h. contains_none n (subst (λ ns. Contains ns n) b.lost (loses n h)) in
-            let still : (n : Name) → Has n mem.held → Has n r.state.held =
-            λ n h. subst (Has n) (sym b.held) (has_more n n0 b.ink mem.held h) in
+            let still : (n : Name) → Has n state.held → Has n r.state.held =
+            λ n h. subst (Has n) (sym b.held) (has_more n n0 b.ink state.held h) in
             -- it was not drawn before
             let never : (n : Name) (i : ℕ) → n ≡ n0 → ¬ Drew n.source n i trace = λ n i q h.
             (let x : Drew n0.source n0 i trace = subst (λ y. Drew y.source y i trace) q h in
@@ -569,16 +569,16 @@ module _ (s : Setting) (fit : IsFit s) where
             let held_is : (n : Name) (i : ℕ) → find name_cmp n r.state.held
             ≡ Some i → Got m n rows × Drew n.source n i rows = λ n i f. (elim (names_apart n n0) [
               | inl q ↦
-                  let ink_is : b.ink ≡ i = same_some _ _ (sym (put_here n0 b.ink mem.held)
-                  ∙ ap (λ x. find name_cmp x (put name_cmp n0 b.ink mem.held)) (sym q) ∙ ap (find name_cmp n) (sym b.held) ∙ f) in
+                  let ink_is : b.ink ≡ i = same_some _ _ (sym (put_here n0 b.ink state.held)
+                  ∙ ap (λ x. find name_cmp x (put name_cmp n0 b.ink state.held)) (sym q) ∙ ap (find name_cmp n) (sym b.held) ∙ f) in
                   subst (λ x. Got m x rows × Drew x.source x i rows) (sym q)
                   (inl (b.ink, drew_now m n0 b.ink here), subst (λ y. Drew n0.source n0 y rows) ink_is drawn)
               | inr ne ↦
-                  let h = k.keeps.held_is n i (sym (put_there n n0 b.ink mem.held ne) ∙ ap (find name_cmp n) (sym b.held) ∙ f) in
+                  let h = k.keeps.held_is n i (sym (put_there n n0 b.ink state.held ne) ∙ ap (find name_cmp n) (sym b.held) ∙ f) in
                   (got_more m n h.0, drew_more n.source n i h.1)
             ]) in
             let has_it : (n : Name) → n ≡ n0 → Has n r.state.held = λ n q. subst (Has n) (sym b.held)
-            (subst (λ x. Has x (put name_cmp n0 b.ink mem.held)) (sym q) (has_put n0 b.ink mem.held)) in
+            (subst (λ x. Has x (put name_cmp n0 b.ink state.held)) (sym q) (has_put n0 b.ink state.held)) in
             record {
               knows = known (record {
                 member = ap (λ (f : FixedPart). f.member) b.fixed ∙ k.member;
@@ -599,7 +599,7 @@ module _ (s : Setting) (fit : IsFit s) where
                         elim (lost_cases m n h.0) [ inl x ↦ x | inr x ↦ absurd (no_loss n x) ],
                         (λ f. h.1 (told_more Fixed m n f)),
                       ));
-                  held_sorted = subst (λ es. T (is_sorted name_cmp es)) (sym b.held) (sorted_put n0 b.ink mem.held k.keeps.held_sorted);
+                  held_sorted = subst (λ es. T (is_sorted name_cmp es)) (sym b.held) (sorted_put n0 b.ink state.held k.keeps.held_sorted);
                   missing_sorted = subst (λ es. T (is_sorted name_cmp es)) (sym b.missing) k.keeps.missing_sorted;
                 };
                 drew = λ n i h. elim (drew_cases m n i h) [
@@ -630,7 +630,7 @@ module _ (s : Setting) (fit : IsFit s) where
               answers = λ p n i q h. (let y : Some (Drawop n0 b.ink) ≡ Some (Repair n i) = sym b.body ∙ (sent_is p q).0 ∙ ap Some h in cc);
             }
 
-        answer_by : (cause : Cause) → a.cause ≡ cause → Rattle.srm_member.proofs.Changes.Effect mem cause r → Next
+        answer_by : (cause : Cause) → a.cause ≡ cause → Rattle.srm_member.proofs.Changes.Effect state cause r → Next
         answer_by cause q (inl h) = quiet_next h
         answer_by (Arrival p) q (inr (inl h)) = brought_next p q h
         answer_by (Draw page ink) q (inr (inr h)) = drawn_next page ink q h
@@ -642,7 +642,7 @@ module _ (s : Setting) (fit : IsFit s) where
         answer_by Report q (inr h) = absurd (elim h [ inl x ↦ x | inr x ↦ x ])
 
         answer_next : Next
-        answer_next = answer_by a.cause refl (effect mem e.key.time a.cause)
+        answer_next = answer_by a.cause refl (effect state e.key.time a.cause)
 
       next : Next
       next = elim facts.does.how [ inl a ↦ answer_next a | inr l ↦ leave_next l ]

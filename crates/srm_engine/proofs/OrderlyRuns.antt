@@ -164,20 +164,20 @@ module _ (s : Setting) (fit : IsFit s) (own : (j : ℕ) → j < s.traffic.member
     }
 
     module _ (a : Answers e d) where
-      abbrev mem : MemberState
-      mem = a.state
+      abbrev state : MemberState
+      state = a.state
 
       abbrev r : Reaction
       r = react a.state e.key.time a.cause
 
-      holds : facts.cell.holds ≡ Active mem
+      holds : facts.cell.holds ≡ Active state
       holds = sym facts.pending.holds ∙ a.holds
 
-      active_knew : (exit : Option Exit) → CellKnows trace m (Active mem) exit → Knows trace m mem
+      active_knew : (exit : Option Exit) → CellKnows trace m (Active state) exit → Knows trace m state
       active_knew None h = h
       active_knew (Some x) h = absurd h
 
-      k : Knows trace m mem
+      k : Knows trace m state
       k = active_knew facts.cell.exit (subst (λ x. CellKnows trace m x facts.cell.exit) holds (was.names.knows m facts.cell facts.here))
 
       -- what it hears was sent
@@ -194,11 +194,11 @@ module _ (s : Setting) (fit : IsFit s) (own : (j : ℕ) → j < s.traffic.member
 
       knows : Known members r
       knows =
-          let member : mem.fixed.member < members = subst (λ j. j < members) (sym k.member) below in
+          let member : state.fixed.member < members = subst (λ j. j < members) (sym k.member) below in
           let heard : CauseOf members a.cause = cause_by a.cause a.is facts.pending.takes in
-          known members mem e.key.time a.cause member heard (subst RecordOf holds (was.pages m facts.cell facts.here))
+          known members state e.key.time a.cause member heard (subst RecordOf holds (was.pages m facts.cell facts.here))
 
-      new_by : (cause : Cause) → Effect mem cause r → (n : Name) → Contains r.answer.lost n → ¬ Below n mem
+      new_by : (cause : Cause) → Effect state cause r → (n : Name) → Contains r.answer.lost n → ¬ Below n state
       new_by cause (inl q) n c = q.grows.new n c
       new_by (Arrival p) (inr (inl b)) n c = b.grows.new n c
       new_by (Draw page ink) (inr (inr b)) n c = absurd (contains_none n (subst (λ ns. Contains ns n) b.lost c))
@@ -212,7 +212,7 @@ module _ (s : Setting) (fit : IsFit s) (own : (j : ℕ) → j < s.traffic.member
       abbrev Fixes : Type 0
       Fixes = (n : Name) × (brought d.row.about ≡ Some n) × Lacks m n trace
 
-      fixed_by : (cause : Cause) → a.cause ≡ cause → Effect mem cause r → r.answer.told ≡ Fixed → Fixes
+      fixed_by : (cause : Cause) → a.cause ≡ cause → Effect state cause r → r.answer.told ≡ Fixed → Fixes
       fixed_by cause is (inl q) t = absurd (q.not_fixed t)
       fixed_by (Arrival p) is (inr (inl b)) t = elim b.mends [
         | inl x ↦ (let y : Fresh ≡ Fixed = sym x.0 ∙ t in cc)
@@ -240,8 +240,8 @@ module _ (s : Setting) (fit : IsFit s) (own : (j : ℕ) → j < s.traffic.member
         pages = subst RecordOf (sym a.holds_then) knows.pages;
         lost = subst (OfMembers members) (sym a.lost) knows.lost;
         apart = subst Apart (sym a.lost) knows.apart;
-        new = λ n c h. new_by a.cause (effect mem e.key.time a.cause) n (subst (λ ns. Contains ns n) a.lost c) (k.lost n h);
-        fixed = λ t. fixed_by a.cause refl (effect mem e.key.time a.cause) (sym a.told ∙ t);
+        new = λ n c h. new_by a.cause (effect state e.key.time a.cause) n (subst (λ ns. Contains ns n) a.lost c) (k.lost n h);
+        fixed = λ t. fixed_by a.cause refl (effect state e.key.time a.cause) (sym a.told ∙ t);
         session = session_by r.answer.body a.sends knows.session;
       }
 

@@ -8,15 +8,15 @@ use Rattle.std.specs.FinMap.Entries.{put, find, is_sorted, below_all, by_order}
 use Rattle.std.specs.List.Sorted.{IsPartitionedBy}
 use Rattle.srm_member.specs.Places.{is_before, IsPlaceOf, is_at}
 
-first_true : (a b : Bool) → T (a && b) → T a
+pub first_true : (a b : Bool) → T (a && b) → T a
 first_true true b h = tt
 first_true false b h = absurd h
 
-second_true : (a b : Bool) → T (a && b) → T b
+pub second_true : (a b : Bool) → T (a && b) → T b
 second_true true b h = h
 second_true false b h = absurd h
 
-less_true : (r : Ordering) → T (is_lt r) → r ≡ Less
+pub less_true : (r : Ordering) → T (is_lt r) → r ≡ Less
 less_true Less h = refl
 less_true Equal h = absurd h
 less_true Greater h = absurd h

@@ -14,6 +14,7 @@ use Rattle.srm_net.specs.declared.packet.PageId.{PageId}
 use Rattle.srm_net.specs.Names.{name_cmp, page_cmp}
 use Rattle.srm_net.specs.Orders.{AllAfter, Ascends}
 use Rattle.srm_member.specs.React.{without, has_entry}
+use Rattle.srm_member.proofs.PlaceLemmas.{first_true, second_true, less_true}
 
 -- ---- names and pages that tie are the same
 
@@ -90,21 +91,6 @@ names_apart n k = elim (eq_by_cmp name_cmp n k) as (λ b. eq_by_cmp name_cmp n k
   | true ↦ λ e. inl (same_names n k e)
   | false ↦ λ e. inr (λ same. true≢false (sym (subst (λ x. eq_by_cmp name_cmp n x ≡ true) same (name_is n)) ∙ e))
 ] refl
-
--- ---- tests that hold
-
-first_true : (a b : Bool) → T (a && b) → T a
-first_true true b h = tt
-first_true false b h = absurd h
-
-second_true : (a b : Bool) → T (a && b) → T b
-second_true true b h = h
-second_true false b h = absurd h
-
-less_true : (r : Ordering) → T (is_lt r) → r ≡ Less
-less_true Less h = refl
-less_true Equal h = absurd h
-less_true Greater h = absurd h
 
 -- ---- an entry put in, or taken out
 

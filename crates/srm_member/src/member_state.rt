@@ -29,15 +29,18 @@ use srm_net::sequence::Sequence;
 use std::alloc::{AllocError, Global};
 use std::marker::Model;
 
+/// A sender draws at most so many operations on a page.
+const MOST_DRAWN: u64 = 4096;
+
 /// What an active member knows: its fixed part, its generator, and its tables.
 #[derive(Drop)]
 pub struct MemberState {
-    fixed: Fixed,
-    words: Lcg64Xsh32,
     progress: Pages,
     held: Held,
     pending: Pending,
     rests: Named<u64>,
+    words: Lcg64Xsh32,
+    fixed: Fixed,
 }
 
 impl Model for MemberState {
@@ -530,7 +533,7 @@ impl MemberState {
         let place = PageId { source, page };
         let progress = self.own_progress(place);
         let next = progress.next();
-        if !matches!(self.fixed.role, Role::Sender) || next >= 4096 {
+        if !matches!(self.fixed.role, Role::Sender) || next >= MOST_DRAWN {
             return Ok(quietly(Told::Skip, Sequence::new(alloc)));
         }
         let name = Name {

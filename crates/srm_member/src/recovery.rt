@@ -29,8 +29,8 @@ use std::marker::Model;
 /// [`MemberFault::Spent`], and `due` answers `None`.
 #[derive(Drop)]
 pub struct Recovery {
-    state: MemberState,
     gone: bool,
+    state: MemberState,
 }
 
 impl Model for Recovery {

@@ -6,6 +6,7 @@ ghost use Rattle.srm_scenario.specs.Described.{link_of, draw_of, session_of, dro
 ghost use Rattle.srm_scenario.specs.Faults.{accepted};
 
 use crate::element::Element;
+use crate::limits::{GREATEST_DELAY, LAST_TICK};
 use crate::parts::{DrawSpec, SessionSpec};
 use crate::table::{back, has_only, index, number};
 use crate::version::Version;
@@ -13,9 +14,6 @@ use srm_net::link::{DropSpec, LinkSpec, OutageSpec};
 use srm_net::packet::PacketId;
 use std::alloc::{AllocError, Global};
 use toml::Table;
-
-/// The last tick that a file may name: 2^40.
-pub(crate) const LAST_TICK: u64 = 1_099_511_627_776;
 
 fn link_of(version: Version, table: &Table) -> Option<LinkSpec>
     ensures { result ≡ accepted (link_rules version) link_of (table_view table.now) }
@@ -25,7 +23,7 @@ fn link_of(version: Version, table: &Table) -> Option<LinkSpec>
     }
     let a = index(table, "a", version)?;
     let b = index(table, "b", version)?;
-    let delay = number(table, "delay", 1, 1_000_000)?;
+    let delay = number(table, "delay", 1, GREATEST_DELAY)?;
     let back = back(table, version.allows_back())?;
     Some(LinkSpec {
         a,

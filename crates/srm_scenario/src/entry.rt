@@ -6,7 +6,7 @@ ghost use Rattle.srm_scenario.specs.Described.{number_of, array_at, role_of};
 ghost use Rattle.srm_scenario.specs.Faults.{accepted, entry_of};
 
 use crate::element::Element;
-use crate::elements::LAST_TICK;
+use crate::limits::LAST_TICK;
 use crate::parts::MemberSpec;
 use crate::table::{array, has_key, has_only, index, number, optional_number, text, whole};
 use crate::version::Version;

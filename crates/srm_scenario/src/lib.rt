@@ -11,6 +11,7 @@ mod entry;
 pub mod fault;
 pub mod feed;
 pub mod laws;
+mod limits;
 pub mod mark;
 pub mod parts;
 pub mod reading;

@@ -8,6 +8,7 @@ ghost use Rattle.toml.specs.View.{view, table_view, items_view};
 ghost use Rattle.srm_scenario.specs.Rules.{rule, whole, elements, required, optional, most_nodes, index_rule, back_rule, outage_rule, degree_rule, is_met, is_whole, has_only};
 ghost use Rattle.srm_scenario.specs.LookUps.{IsNumber, HasNumber, MayHaveNumber, HasIndex, HasNodes, HasTreeDegree, HasBack, HasOutages, IsArray};
 
+use crate::limits::{GREATEST_DELAY, MOST_LISTED};
 use crate::version::Version;
 use toml::{Table, Value};
 
@@ -108,7 +109,7 @@ pub(crate) fn back(table: &Table, is_allowed: bool) -> Option<Option<u64>>
         (HasBack is_allowed (table_view table.now)) }
 {
     if is_allowed {
-        optional_number(table, "back", 1, 1_000_000)
+        optional_number(table, "back", 1, GREATEST_DELAY)
     } else if has_key(table, "back") {
         None
     } else {
@@ -161,7 +162,7 @@ pub(crate) fn outages(table: &Table, is_allowed: bool) -> Option<&[Value]>
         (λ values. HasOutages is_allowed (table_view table.now) (map view values.now)) }
 {
     if is_allowed {
-        array(table, "outage", 4096)
+        array(table, "outage", MOST_LISTED)
     } else if has_key(table, "outage") {
         None
     } else {

@@ -8,7 +8,7 @@ ghost use Rattle.srm_scenario.specs.Faults.{rules_of_top};
 ghost use Rattle.srm_scenario.specs.LookUps.{HasTopology, HasNumbers, HasShape, HasArrays, shape_of};
 
 use crate::delays::Delays;
-use crate::elements::LAST_TICK;
+use crate::limits::{GREATEST_CONSTANT, GREATEST_DELAY, LAST_TICK, MOST_LISTED};
 use crate::parts::Constants;
 use crate::table::{array, back, degree, has_key, has_only, nodes, number, outages, text};
 use crate::topology::Topology;
@@ -66,10 +66,10 @@ fn numbers_of(table: &Table) -> Option<Numbers>
 {
     let version = number(table, "version", 1, 2)?;
     let until = number(table, "until", 1, LAST_TICK)?;
-    let c1 = number(table, "c1", 0, 64000)?;
-    let c2 = number(table, "c2", 0, 64000)?;
-    let d1 = number(table, "d1", 0, 64000)?;
-    let d2 = number(table, "d2", 0, 64000)?;
+    let c1 = number(table, "c1", 0, GREATEST_CONSTANT)?;
+    let c2 = number(table, "c2", 0, GREATEST_CONSTANT)?;
+    let d1 = number(table, "d1", 0, GREATEST_CONSTANT)?;
+    let d2 = number(table, "d2", 0, GREATEST_CONSTANT)?;
     Some(Numbers {
         version: if version == 2 {
             Version::Two
@@ -123,7 +123,7 @@ fn shape_of(table: &Table, version: Version) -> Option<Shape<'_>>
         return None;
     }
     let size = nodes(table, "size", version)?;
-    let delay = number(table, "delay", 1, 1_000_000)?;
+    let delay = number(table, "delay", 1, GREATEST_DELAY)?;
     let back = back(table, version.allows_back())?;
     let back = back.unwrap_or(delay);
     Some(Shape {
@@ -157,9 +157,9 @@ fn arrays_of(table: &Table, version: Version) -> Option<Arrays<'_>>
         (map view a.sessions.now) (map view a.drops.now) (map view a.outages.now)) }
 {
     let members = array(table, "member", usize::from(version.most_nodes()))?;
-    let draws = array(table, "draw", 4096)?;
-    let sessions = array(table, "session", 4096)?;
-    let drops = array(table, "drop", 4096)?;
+    let draws = array(table, "draw", MOST_LISTED)?;
+    let sessions = array(table, "session", MOST_LISTED)?;
+    let drops = array(table, "drop", MOST_LISTED)?;
     let outages = outages(table, version.allows_outages())?;
     Some(Arrays {
         members,
