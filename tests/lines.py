@@ -1,5 +1,5 @@
 #!/usr/bin/env python3
-"""Holds the definition of the refusals' lines, crates/srm_lab/specs/RefusalLines.antt, to the table of docs/FORMATS.md.
+"""Holds the definition of the refusals' lines, crates/srm_program/specs/RefusalLines.antt, to the table of docs/FORMATS.md.
 
 usage: tests/lines.py
 
@@ -11,7 +11,7 @@ import re
 import sys
 
 TOP = pathlib.Path(__file__).resolve().parent.parent
-DEFINITION = TOP / "crates" / "srm_lab" / "specs" / "RefusalLines.antt"
+DEFINITION = TOP / "crates" / "srm_program" / "specs" / "RefusalLines.antt"
 PAGE = TOP / "docs" / "FORMATS.md"
 COMMAND_LINE = "command line refused"
 NUMBERED = {

@@ -1,17 +1,7 @@
 //! Runs a scenario of SRM loss recovery and writes its report.
 #![tactic(auto)]
 
-mod command_line;
-mod fault;
-mod line;
-mod members;
-mod options;
-mod program;
-mod report;
-mod run;
-mod session;
-
-use crate::program::program;
+use srm_program::program::program;
 use srm_report::outlet::WriteOutlet;
 use srm_scenario::feed::ReadFeed;
 use std::process::ExitCode;

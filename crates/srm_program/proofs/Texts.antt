@@ -1,0 +1,47 @@
+-- Sessions of texts, from those of their scenarios.
+use Rattle.std.proofs.Common.{◌≡◌, ◌∙◌, ℕ, ◌≤◌, List, length, Option, Some, None, Result, Ok, Err, refl, ap, subst, inr}
+use Rattle.std.specs.Prelude.{IfSome}
+use Rattle.std.specs.Io.KnownBytes.{Keeps}
+use Rattle.srm_net.specs.Network.{Network}
+use Rattle.srm_scenario.specs.declared.fault.ScenarioFault.{ScenarioFault}
+use Rattle.srm_scenario.specs.declared.fault.ScenarioFault.TheVariants.{TooLong}
+use Rattle.srm_scenario.specs.Plain.{PlainScenario, network_of}
+use Rattle.srm_scenario.specs.Faults.{scenario_of_text, AnswersText, RefusesText}
+use Rattle.srm_scenario.proofs.Texts.{count_stays}
+use Rattle.srm_program.specs.declared.fault.Fault.{Fault}
+use Rattle.srm_program.specs.declared.fault.Fault.TheVariants.{Line, Scenario, Lab, NoMemory}
+use Rattle.srm_program.specs.declared.options.Options.{Options}
+use Rattle.srm_program.specs.Sessions.{TellsSession, TellsText, TellsFeed, reading_failures}
+
+-- the session of a text is that of the scenario that it describes
+pub session_of_text : {T : Type 0} (p : PlainScenario) (net : Network) (text : List ℕ) (seed : ℕ) (o : Options) (old new : Option (List ℕ))
+    (r : Result T Fault)
+    → scenario_of_text text ≡ Ok p → net ≡ network_of p → TellsSession p net seed o old new r → TellsText seed o text old new r
+session_of_text {T} p net text seed o old new r is made told =
+    describes r (subst (λ (w : Network). TellsSession p w seed o old new r) made told)
+  where
+    describes : (r : Result T Fault) → TellsSession p (network_of p) seed o old new r → TellsText seed o text old new r
+    describes (Ok v) told = (p, is, told)
+    describes (Err (Lab f)) told = (p, is, told)
+    describes (Err (Line f)) told = absurd told
+    describes (Err (Scenario f)) told = absurd told
+    describes (Err NoMemory) told = told
+
+-- what is told of a text counts no failure of the feed
+pub text_read : {T : Type 0} (text : List ℕ) (seed : ℕ) (o : Options) (old new : Option (List ℕ)) (r : Result T Fault) (n : ℕ)
+    → length text ≤ 1048576 → TellsText seed o text old new r → n ≡ reading_failures r n
+text_read text seed o old new (Ok v) n few told = refl
+text_read text seed o old new (Err (Lab f)) n few told = refl
+text_read text seed o old new (Err (Line f)) n few told = absurd told
+text_read text seed o old new (Err (Scenario f)) n few told = count_stays text (Err f) n few told.0
+text_read text seed o old new (Err NoMemory) n few told = refl
+
+pub keeps-itself : (known : Option (List ℕ)) → Keeps known known
+keeps-itself None = tt
+keeps-itself (Some xs) = refl
+
+-- a text that is too long is told as such
+pub long_known : (known : Option (List ℕ)) (P : Type 0) → P → IfSome known (AnswersText (Err TooLong))
+    → IfSome known (λ text. RefusesText TooLong text × P)
+long_known None P p h = tt
+long_known (Some text) P p h = (inr h, p)

@@ -1,0 +1,24 @@
+use Rattle.std.proofs.Common.{◌≡◌, ◌∙◌, ◌<◌, ◌≤◌, length, inr, arith}
+use Rattle.srm_scenario.proofs.Texts.{too_long}
+use Rattle.srm_scenario.proofs.Texts as texts
+use Rattle.srm_program.proofs.Texts.{keeps-itself, long_known, text_read}
+use Rattle.srm_program.proofs.session.simulate.Goals as goal
+
+pub returns-in-Err-TooLong-clause-taken : goal.returns-in-Err-TooLong-clause-taken
+returns-in-Err-TooLong-clause-taken g c =
+    let taken = rw c.in-Err-TooLong.field-0-is at c.in-Err-TooLong.ensures.taken in
+    let all : length taken.0 ≡ 1048577 = taken.2 in
+    let few : length taken.0 ≤ 1048577 = omega arith in
+    let many : 1048576 < length taken.0 = omega arith in
+    (taken.0, taken.1, few, (inr (too_long taken.0 many), keeps-itself _))
+
+pub returns-in-Err-TooLong-clause-report : goal.returns-in-Err-TooLong-clause-report
+returns-in-Err-TooLong-clause-report g c =
+    long_known (g.F.Feed.remaining c.args.feed.now) _ (keeps-itself (g.O.Outlet.taken c.args.outlet.now))
+    (texts.long_known (g.F.Feed.remaining c.args.feed.now) (rw c.in-Err-TooLong.field-0-is at c.in-Err-TooLong.ensures.text))
+
+pub returns-clause-read : goal.returns-clause-read
+returns-clause-read g c =
+    let few : length c.deref.result.now ≤ 1048576 = rw c.deref.ensures.value c.in-Ok.ensures.bound in
+    c.in-Ok.ensures.failures ∙ text_read c.deref.result.now c.args.seed c.args.options _ _ c.simulate_text.result
+    (g.F.Feed.failures c.args.feed.now) few c.simulate_text.ensures.report

@@ -1,0 +1,28 @@
+-- What the words of the command line ask for.
+use Rattle.std.specs.Prelude.{◌≡◌, ℕ, ◌≤◌}
+use Rattle.clap.specs.declared.error.kind.ErrorKind.{ErrorKind}
+use Rattle.clap.specs.declared.error.kind.ErrorKind.TheVariants.{OutOfMemory, DisplayHelp, DisplayVersion}
+use Rattle.srm_program.specs.declared.command_line.Reader.{Reader}
+use Rattle.srm_program.specs.declared.command_line.Reader.TheVariants.{Number, Text}
+use Rattle.srm_program.specs.declared.fault.LineFault.{LineFault}
+use Rattle.srm_program.specs.declared.fault.LineFault.TheVariants.{Line, BadWord, Help, NoMemory}
+
+-- an option that is read in this way takes this number
+abbrev pub TakesNumber : Reader → ℕ → Type 0
+TakesNumber (Number least most) n = (least ≤ n) × (n ≤ most)
+TakesNumber Text n = ⊥
+
+-- help is given, unless there was no memory for it
+abbrev pub GivesHelp : LineFault → Type 0
+GivesHelp (Help text) = Unit {0}
+GivesHelp NoMemory = Unit {0}
+GivesHelp Line = ⊥
+GivesHelp BadWord = ⊥
+
+-- what is told where `clap` answers an error of this kind: help and the version are its text, and each mistake in the
+-- words is one fault
+abbrev pub TellsKind : ErrorKind → LineFault → Type 0
+TellsKind OutOfMemory f = f ≡ NoMemory
+TellsKind DisplayHelp f = GivesHelp f
+TellsKind DisplayVersion f = GivesHelp f
+TellsKind kind f = f ≡ Line

@@ -1,0 +1,91 @@
+-- What the program does, as its devices see it: what it reads, what it writes, and its exit status.
+use Rattle.std.specs.Prelude.{⊤, ◌≡◌, ◌≢◌, ◌⊎◌, ℕ, ◌+◌, ◌^◌, ◌<◌, ◌≤◌, List, [], ◌∷◌, ◌++◌, length, take, codes, Option}
+use Rattle.std.specs.Prelude.{Result, Ok, Err, string_bytes}
+use Rattle.std.specs.Io.KnownBytes.{Appends, Consumes, Keeps}
+use Rattle.srm_scenario.specs.declared.bytes.TheConstants.{LONGEST_TEXT}
+use Rattle.srm_program.specs.declared.fault.LabFault.TheVariants.{WriteFault}
+use Rattle.srm_program.specs.declared.fault.LineFault.{LineFault}
+use Rattle.srm_program.specs.declared.fault.LineFault.TheVariants as line
+use Rattle.srm_program.specs.declared.fault.Fault.{Fault}
+use Rattle.srm_program.specs.declared.fault.Fault.TheVariants as fault
+use Rattle.srm_program.specs.declared.options.Options.{Options}
+use Rattle.srm_program.specs.RefusalLines.{line_of_fault}
+use Rattle.srm_program.specs.Runs.{MayShareBag}
+use Rattle.srm_program.specs.Sessions.{TellsFeed, ReadsToEnd, reading_failures, session_failures}
+
+-- what a command line may ask for: a seed below 2^63, and as many workers as may share a bag
+abbrev pub MayBeAsked : ℕ × Options → Type 0
+MayBeAsked asked = (asked.0 < 2 ^ 63) × MayShareBag asked.1.workers
+
+-- a device before and after: its bytes, where they are known, and how often it failed. The bytes of a feed are those
+-- still to come, those of an outlet what it has taken
+pub record Device : Type 0 where
+  pub old : Option (List ℕ)
+  pub new : Option (List ℕ)
+  pub failed : ℕ
+  pub fails : ℕ
+
+-- a device that had these bytes and then those, and had failed so often and then so often
+abbrev pub device : Option (List ℕ) → Option (List ℕ) → ℕ → ℕ → Device
+device old new failed fails = record { old = old; new = new; failed = failed; fails = fails }
+
+-- a line with its line feed
+abbrev pub full_line : List ℕ → List ℕ
+full_line l = l ++ 10 ∷ []
+
+-- the exit status after a refusal
+abbrev pub status_of_fault : Fault → ℕ
+status_of_fault (fault.Line line.Line) = 2
+status_of_fault (fault.Line line.BadWord) = 2
+status_of_fault (fault.Line (line.Help text)) = 0
+status_of_fault f = 1
+
+-- what an outlet took of help: all of it, or as many bytes as the fault tells
+abbrev pub WritesHelp : {T : Type 0} → List ℕ → Option (List ℕ) → Option (List ℕ) → Result T Fault → Type 0
+WritesHelp help old new (Ok v) = Appends old new help
+WritesHelp help old new (Err (fault.Lab (WriteFault written))) =
+    Appends old new (take written help) × (written < length help)
+WritesHelp help old new (Err f) = ⊥
+
+-- what comes of what the command line asks for, of a feed that gave this text and has this left: a session, or help;
+-- and nothing is written where the command line is refused
+abbrev pub CarriesOut : {T : Type 0} → Result (ℕ × Options) LineFault → List ℕ
+    → Option (List ℕ) → Option (List ℕ) → Option (List ℕ) → Result T Fault → Type 0
+CarriesOut (Ok asked) text old new left r = TellsFeed asked.0 asked.1 text old new r × ReadsToEnd r left
+CarriesOut (Err (line.Help help)) text old new left r = (text ≡ []) × WritesHelp (string_bytes help) old new r
+CarriesOut (Err f) text old new left r = (text ≡ []) × (r ≡ Err (fault.Line f)) × Keeps old new
+
+-- what an outlet took of a line: all of it, or its front where it failed
+abbrev pub TakesLine : Device → List ℕ → Type 0
+TakesLine d l =
+    ((d.fails ≡ d.failed) × Appends d.old d.new l)
+    ⊎ ((d.fails ≡ d.failed + 1) × (n : ℕ) × (n < length l) × Appends d.old d.new (take n l))
+
+-- what an outlet for errors took of a refusal: its line; or, where the command line was not refused, the line that
+-- memory ran out
+abbrev pub TakesFaultLine : Device → Fault → Type 0
+TakesFaultLine d f =
+    TakesLine d (full_line (line_of_fault f))
+    ⊎ ((status_of_fault f ≢ 2) × TakesLine d (full_line (codes "refused: no-memory")))
+
+-- what an outlet for errors took: nothing after success
+abbrev pub TellsErrors : {T : Type 0} → Device → Result T Fault → Type 0
+TellsErrors d (Ok v) = (d.fails ≡ d.failed) × Keeps d.old d.new
+TellsErrors d (Err f) = TakesFaultLine d f
+
+-- the exit status: 0 after success
+abbrev pub exit_status : {T : Type 0} → Result T Fault → ℕ
+exit_status (Ok v) = 0
+exit_status (Err f) = status_of_fault f
+
+-- what the program does for what the command line asks for, over the devices that it reads from, writes to and tells
+-- refusals on: something comes of it, as the exit status and the outlet for errors tell
+abbrev pub Answers : Result (ℕ × Options) LineFault → Device → Device → Device → ℕ → Type 0
+Answers asked feed outlet errors status =
+    (done : Result (Unit {0}) Fault) × (given : List ℕ)
+    × Consumes feed.old feed.new given × (length given ≤ LONGEST_TEXT + 1)
+    × CarriesOut asked given outlet.old outlet.new feed.new done
+    × (feed.fails ≡ reading_failures done feed.failed)
+    × (outlet.fails ≡ session_failures done outlet.failed)
+    × TellsErrors errors done
+    × (status ≡ exit_status done)

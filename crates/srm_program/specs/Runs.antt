@@ -1,0 +1,90 @@
+-- What a run is asked for, and what comes of it.
+use Rattle.std.specs.Prelude.{◌≡◌, ℕ, ◌≤◌, List, Option, Result, Ok, Err}
+use Rattle.srm_net.specs.Network.{Network}
+use Rattle.srm_scenario.specs.Plain.{PlainScenario}
+use Rattle.srm_cell.specs.Setting.{Setting, setting_of}
+use Rattle.srm_member.specs.declared.row.Row.{Row}
+use Rattle.srm_member.specs.declared.exit.Exit.{Exit}
+use Rattle.srm_engine.specs.declared.fault.RunFault.TheVariants as fault
+use Rattle.srm_engine.specs.declared.stream_fault.StreamFault.{StreamFault}
+use Rattle.srm_engine.specs.declared.stream_fault.StreamFault.TheVariants as stream
+use Rattle.srm_engine.specs.declared.sink.SinkFault.TheVariants.{Stopped}
+use Rattle.srm_engine.specs.declared.sink.Stage.{Stage}
+use Rattle.srm_engine.specs.declared.sink.Stage.TheVariants.{Live, Refused}
+use Rattle.srm_engine.specs.Streams.{TakesFront}
+use Rattle.srm_engine.specs.World.{World, IsOutcome, RunMeetsFull}
+use Rattle.srm_engine.specs.WindowChains.{AreWindows}
+use Rattle.srm_engine.specs.WindowRuns.{jobs_of}
+use Rattle.srm_engine.specs.Groups.{handed_jobs}
+use Rattle.srm_engine.specs.Windowed.{IsCut, MayBeWide, PassesShare, rule_of}
+use Rattle.srm_program.specs.declared.fault.LabFault.{LabFault}
+use Rattle.srm_program.specs.declared.fault.LabFault.TheVariants.{BadCut, BadWidth, ShareFull, NoMemory, CountFull}
+use Rattle.srm_program.specs.declared.fault.LabFault.TheVariants.{WriteFault}
+use Rattle.srm_program.specs.declared.options.Engine.TheVariants.{Window}
+use Rattle.srm_program.specs.declared.options.Options.{Options}
+use Rattle.srm_program.specs.Reports.{TellsReport}
+
+-- so many workers may share a bag
+abbrev pub MayShareBag : ℕ → Type 0
+MayShareBag n = (1 ≤ n) × (n ≤ 64)
+
+-- the run may be cut into windows and jobs as is asked for
+abbrev pub MayBeCut : Network → Options → Type 0
+MayBeCut net o = IsCut o.cut × MayBeWide net o.width
+
+-- at one of the windows that are asked for, the crossings up to it, with those of some of its jobs, are more than 2^47
+-- of a kind
+abbrev pub PassesShareAtWindow : Setting → Network → Options → Type 0
+PassesShareAtWindow s net o =
+    let rule = rule_of s net o.width in
+    (begins : List World) × (w : World) × AreWindows s rule begins w
+    × PassesShare s.traffic w.trace (handed_jobs 0 (jobs_of o.cut (rule w) w))
+
+-- the refusals that the engine brings: a cut and a width that may not be are refused by a run in windows, the cut
+-- first, and by no other run; and only a run in windows is refused for a share
+abbrev pub TellsAsked : {T : Type 0} → PlainScenario → Network → ℕ → Options → Result T LabFault → Type 0
+TellsAsked p net seed o (Err BadCut) = (o.engine ≡ Window) × ¬ IsCut o.cut
+TellsAsked p net seed o (Err BadWidth) = (o.engine ≡ Window) × IsCut o.cut × ¬ MayBeWide net o.width
+TellsAsked p net seed o (Err ShareFull) =
+    (o.engine ≡ Window) × MayBeCut net o × PassesShareAtWindow (setting_of p net seed) net o
+TellsAsked p net seed o r = o.engine ≡ Window → MayBeCut net o
+
+-- what comes of a run: the report of the sequential run, for the seed and the table alone, whichever engine, crew,
+-- number of workers, cut and width are asked for; or a refusal, which the engine may bring
+abbrev pub TellsRun : {T : Type 0} → PlainScenario → Network → ℕ → Options
+    → Option (List ℕ) → Option (List ℕ) → Result T LabFault → Type 0
+TellsRun p net seed o old new r = TellsReport p net seed o.show old new r × TellsAsked p net seed o r
+
+-- ---- rows that are handed to a sink
+
+-- what a refusal of an engine is to the program
+abbrev pub fault_of_stream : StreamFault → LabFault
+fault_of_stream (stream.Run fault.BadCut) = BadCut
+fault_of_stream (stream.Run fault.BadWidth) = BadWidth
+fault_of_stream (stream.Run fault.ShareFull) = ShareFull
+fault_of_stream (stream.Run fault.NoMemory) = NoMemory
+fault_of_stream (stream.Run fault.CountFull) = CountFull
+fault_of_stream (stream.Stopped n) = WriteFault n
+
+-- a sink stands as this answer says: it took all, or its device failed and it told this number
+abbrev pub StandsAfter : {T : Type 0} → Result T LabFault → Stage → Type 0
+StandsAfter (Ok v) at = at ≡ Live
+StandsAfter (Err (WriteFault written)) at = at ≡ Refused (Stopped written)
+StandsAfter (Err f) at = Unit {0}
+
+module _ {S : Type 0} (took part : S → List Row → S → Type 0) where
+  -- what an engine tells that hands its rows to a sink: the sink took the trace of the sequential run, and these are
+  -- its totals; or it took no more than a front of the trace, and nothing where the run was refused before any work
+  abbrev pub HandsRows : Setting → S → Result (List ℕ) LabFault → S → Type 0
+  HandsRows s old (Ok totals) new =
+      (rows : List Row) × (exits : List Exit) × IsOutcome s rows exits totals × took old rows new
+  HandsRows s old (Err CountFull) new = RunMeetsFull s × TakesFront took part s old new
+  HandsRows s old (Err BadCut) new = new ≡ old
+  HandsRows s old (Err BadWidth) new = new ≡ old
+  HandsRows s old (Err ShareFull) new = TakesFront took part s old new
+  HandsRows s old (Err NoMemory) new = TakesFront took part s old new
+  HandsRows s old (Err (WriteFault written)) new = TakesFront took part s old new
+
+  -- what the engine that is asked for hands on, and refuses
+  abbrev pub TellsRows : PlainScenario → Network → ℕ → Options → S → Result (List ℕ) LabFault → S → Type 0
+  TellsRows p net seed o old r new = HandsRows (setting_of p net seed) old r new × TellsAsked p net seed o r

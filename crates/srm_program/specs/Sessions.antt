@@ -1,0 +1,70 @@
+-- What comes of a session, from a scenario to its report.
+use Rattle.std.specs.Prelude.{⊤, ◌≡◌, ℕ, List, Option, Result, Ok, Err}
+use Rattle.std.specs.Io.KnownBytes.{IsAtEnd, Keeps}
+use Rattle.srm_net.specs.Network.{Network}
+use Rattle.srm_scenario.specs.declared.fault.ScenarioFault.{ScenarioFault}
+use Rattle.srm_scenario.specs.declared.fault.ScenarioFault.TheVariants.{ReadFault}
+use Rattle.srm_scenario.specs.Plain.{PlainScenario, network_of}
+use Rattle.srm_scenario.specs.Faults as faults
+use Rattle.srm_program.specs.declared.fault.LabFault.{LabFault}
+use Rattle.srm_program.specs.declared.fault.Fault.{Fault}
+use Rattle.srm_program.specs.declared.fault.Fault.TheVariants as fault
+use Rattle.srm_program.specs.declared.options.Options.{Options}
+use Rattle.srm_program.specs.Reports.{failures_after}
+use Rattle.srm_program.specs.Runs.{TellsRun}
+
+-- the count of an outlet's failures after a session: one more exactly where the answer is that it failed
+abbrev pub session_failures : {T : Type 0} → Result T Fault → ℕ → ℕ
+session_failures (Ok v) n = n
+session_failures {T} (Err (fault.Lab f)) n = let r : Result T LabFault = Err f in failures_after r n
+session_failures (Err (fault.Line f)) n = n
+session_failures (Err (fault.Scenario f)) n = n
+session_failures (Err fault.NoMemory) n = n
+
+-- what an outlet took of the session of an accepted scenario: what its run tells, and nothing where memory ran out
+-- before
+abbrev pub TellsSession : {T : Type 0} → PlainScenario → Network → ℕ → Options
+    → Option (List ℕ) → Option (List ℕ) → Result T Fault → Type 0
+TellsSession p net seed o old new (Ok v) = TellsRun p net seed o old new (let r : Result _ LabFault = Ok v in r)
+TellsSession {T} p net seed o old new (Err (fault.Lab f)) =
+    TellsRun p net seed o old new (let r : Result T LabFault = Err f in r)
+TellsSession p net seed o old new (Err (fault.Line f)) = ⊥
+TellsSession p net seed o old new (Err (fault.Scenario f)) = ⊥
+TellsSession p net seed o old new (Err fault.NoMemory) = Keeps old new
+
+-- the count of a feed's failures after a session: one more exactly where the answer is that it failed
+abbrev pub reading_failures : {T : Type 0} → Result T Fault → ℕ → ℕ
+reading_failures (Ok v) n = n
+reading_failures (Err (fault.Scenario f)) n =
+    let r : Result PlainScenario ScenarioFault = Err f in faults.failures_after r n
+reading_failures (Err (fault.Line f)) n = n
+reading_failures (Err (fault.Lab f)) n = n
+reading_failures (Err fault.NoMemory) n = n
+
+-- what an outlet took of the session of a text, with random words of this seed: what the run of its scenario tells;
+-- nothing where the text is refused, by its first fault, and nothing where memory ran out before the run
+abbrev pub TellsText : {T : Type 0} → ℕ → Options → List ℕ
+    → Option (List ℕ) → Option (List ℕ) → Result T Fault → Type 0
+TellsText seed o text old new (Ok v) =
+    (p : PlainScenario) × (faults.scenario_of_text text ≡ Ok p)
+    × TellsRun p (network_of p) seed o old new (let r : Result _ LabFault = Ok v in r)
+TellsText {T} seed o text old new (Err (fault.Lab f)) =
+    (p : PlainScenario) × (faults.scenario_of_text text ≡ Ok p)
+    × TellsRun p (network_of p) seed o old new (let r : Result T LabFault = Err f in r)
+TellsText seed o text old new (Err (fault.Line f)) = ⊥
+TellsText seed o text old new (Err (fault.Scenario f)) = faults.RefusesText f text × Keeps old new
+TellsText seed o text old new (Err fault.NoMemory) = Keeps old new
+
+-- what an outlet took of the session of a feed that gave this text: nothing where the feed failed, and else what its
+-- text tells
+abbrev pub TellsFeed : {T : Type 0} → ℕ → Options → List ℕ
+    → Option (List ℕ) → Option (List ℕ) → Result T Fault → Type 0
+TellsFeed seed o text old new (Err (fault.Scenario ReadFault)) = Keeps old new
+TellsFeed seed o text old new r = TellsText seed o text old new r
+
+-- where a text was read whole, no byte is left to come: so it is after each run, and for each fault that is one of the
+-- text
+abbrev pub ReadsToEnd : {T : Type 0} → Result T Fault → Option (List ℕ) → Type 0
+ReadsToEnd (Err (fault.Scenario f)) left = faults.ReadsToEnd (Err f) left
+ReadsToEnd (Err fault.NoMemory) left = ⊤
+ReadsToEnd r left = IsAtEnd left

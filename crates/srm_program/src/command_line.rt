@@ -1,0 +1,271 @@
+//! What the words of the command line ask for.
+ghost use Rattle.std.specs.Prelude.{IfOk};
+ghost use Rattle.clap.specs.Words.{kind_of};
+ghost use Rattle.srm_program.specs.CommandLine.{TakesNumber, TellsKind};
+ghost use Rattle.srm_program.specs.Program.{MayBeAsked};
+
+use crate::fault::LineFault;
+use crate::options::{CrewKind, Engine, Options, Show};
+use clap::builder::ValueParser;
+use clap::error::ErrorKind;
+use clap::{Arg, ArgMatches, Command, Error};
+use srm_engine::width::Width;
+use std::alloc::{AllocError, Global};
+use std::convert::AsStr;
+
+/// The version of the program.
+const VERSION: &str = "0.2.0";
+
+const ABOUT: &str = "Simulates loss recovery in SRM (Scalable Reliable Multicast), event by event.
+Reads a scenario (TOML) on standard input, and writes a table of its run (CSV) on standard output.";
+
+const AFTER_HELP: &str = "Exit status:
+  0  the table was written, or this help
+  1  refused: one line on standard error says why
+  2  the command line was refused, and standard input was not read
+
+Example:
+  srm_lab --seed 7 --show members < scenario.toml > members.csv";
+
+/// How the value of an option is read.
+#[derive(Clone, Copy, Debug)]
+pub(crate) enum Reader {
+    /// As a number, by `clap`, which refuses what is out of this range.
+    Number {
+        /// The least that is taken.
+        least: u64,
+        /// The greatest that is taken.
+        most: u64,
+    },
+    /// As a text, by the program.
+    Text,
+}
+
+/// An option: a line of the table.
+#[derive(Clone, Copy, Debug)]
+pub(crate) struct OptionLine {
+    /// Its name, after two dashes.
+    name: &'static str,
+    /// What it takes, as help shows it.
+    takes: &'static str,
+    /// What it is where it is not given.
+    default: &'static str,
+    /// What it is for.
+    about: &'static str,
+    reader: Reader,
+}
+
+const SEED: OptionLine = OptionLine {
+    name: "seed",
+    takes: "0..=9223372036854775807",
+    default: "0",
+    about: "The seed of the members' random words",
+    reader: Reader::Number {
+        least: 0,
+        most: 9_223_372_036_854_775_807,
+    },
+};
+
+const ENGINE: OptionLine = OptionLine {
+    name: "engine",
+    takes: "step|window",
+    default: "step",
+    about: "One event at a time, or windows of time; the table is the same",
+    reader: Reader::Text,
+};
+
+const CREW: OptionLine = OptionLine {
+    name: "crew",
+    takes: "plain|pool|bag",
+    default: "plain",
+    about: "Who works in a window: one thread, a pool of threads, or workers that share a bag of jobs",
+    reader: Reader::Text,
+};
+
+const WORKERS: OptionLine = OptionLine {
+    name: "workers",
+    takes: "1..=64",
+    default: "1",
+    about: "How many workers share the bag",
+    reader: Reader::Number { least: 1, most: 64 },
+};
+
+const CUT: OptionLine = OptionLine {
+    name: "cut",
+    takes: "N",
+    default: "1",
+    about: "How many members a job of a window has, 1 to 1024",
+    reader: Reader::Text,
+};
+
+const WIDTH: OptionLine = OptionLine {
+    name: "width",
+    takes: "least|promise|N",
+    default: "least",
+    about: "How wide windows are: the least delay of a link, as members promise, or ticks, from 1 to that delay",
+    reader: Reader::Text,
+};
+
+const SHOW: OptionLine = OptionLine {
+    name: "show",
+    takes: "trace|members|losses|links",
+    default: "trace",
+    about: "The table: a row for each event, member, loss or link",
+    reader: Reader::Text,
+};
+
+/// The options, in the order in which help lists them.
+const OPTIONS: [OptionLine; 7] = [SEED, ENGINE, CREW, WORKERS, CUT, WIDTH, SHOW];
+
+/// The words of `--engine`.
+const ENGINES: [(&str, Engine); 2] = [("step", Engine::Step), ("window", Engine::Window)];
+
+/// The words of `--crew`.
+const CREWS: [(&str, CrewKind); 3] = [
+    ("plain", CrewKind::Plain),
+    ("pool", CrewKind::Pool),
+    ("bag", CrewKind::Bag),
+];
+
+/// The words of `--width`, which takes a number besides.
+const WIDTHS: [(&str, Width); 2] = [("least", Width::Least), ("promise", Width::Promise)];
+
+/// The words of `--show`.
+const SHOWS: [(&str, Show); 4] = [
+    ("trace", Show::Trace),
+    ("members", Show::Members),
+    ("losses", Show::Losses),
+    ("links", Show::Links),
+];
+
+/// The seed and the options that the words of a command line ask for, of which the first is the program's name.
+///
+/// # Errors
+/// The first of these, unless memory runs out: the words are refused by `clap`; the text of an option is none of its words, and no
+/// number that it takes. Where help or the version is asked for before `clap` meets a fault, the answer is its text.
+pub fn options_of<S: AsStr>(alloc: Global, words: &[S]) -> Result<(u64, Options), LineFault>
+    ensures { IfOk result MayBeAsked }
+{
+    let matches = match command(alloc)?.try_get_matches_from(words) {
+        Ok(matches) => matches,
+        Err(error) => return Err(fault_of(alloc, &error)),
+    };
+    let seed = number(&matches, SEED)?;
+    let workers = number(&matches, WORKERS)?;
+    let options = Options {
+        engine: word(&matches, ENGINE, &ENGINES)?,
+        crew: word(&matches, CREW, &CREWS)?,
+        workers: workers as u8,
+        cut: cut(&matches)?,
+        width: width(&matches)?,
+        show: word(&matches, SHOW, &SHOWS)?,
+    };
+    Ok((seed, options))
+}
+
+// The command that `clap` reads, made of the table.
+fn command<'a>(alloc: Global) -> Result<Command<'a>, AllocError> {
+    let mut command = Command::new(alloc, "srm_lab")
+        .version(VERSION)
+        .about(ABOUT)
+        .after_help(AFTER_HELP);
+    for option in OPTIONS {
+        command = command.arg(arg_of(alloc, option))?;
+    }
+    Ok(command)
+}
+
+// The argument of an option.
+fn arg_of<'a>(alloc: Global, option: OptionLine) -> Arg<'a> {
+    let parser = match option.reader {
+        Reader::Number { least, most } => ValueParser::unsigned(least, most),
+        Reader::Text => ValueParser::string(),
+    };
+    Arg::new(alloc, option.name)
+        .long(option.name)
+        .value_name(option.takes)
+        .value_parser(parser)
+        .default_value(option.default)
+        .help(option.about)
+}
+
+// What is told of an error of `clap`.
+fn fault_of(alloc: Global, error: &Error) -> LineFault
+    ensures { TellsKind (kind_of error.now) result }
+{
+    match error.kind() {
+        ErrorKind::OutOfMemory => LineFault::NoMemory,
+        ErrorKind::DisplayHelp | ErrorKind::DisplayVersion => match format!(in alloc; "{error}") {
+            Ok(text) => LineFault::Help { text },
+            Err(_) => LineFault::NoMemory,
+        },
+        _ => LineFault::Line,
+    }
+}
+
+// The number of an option, which `clap` has looked at.
+fn number(matches: &ArgMatches<'_>, option: OptionLine) -> Result<u64, LineFault>
+    ensures { IfOk result (TakesNumber option.reader) }
+{
+    match (matches.get_one::<u64>(option.name), option.reader) {
+        (Some(number), Reader::Number { least, most }) if least <= number && number <= most => {
+            Ok(number)
+        }
+        _ => Err(LineFault::Line),
+    }
+}
+
+// The text of an option.
+fn text<'a>(matches: &ArgMatches<'a>, option: OptionLine) -> Result<&'a str, LineFault> {
+    matches.get_str(option.name).ok_or(LineFault::BadWord)
+}
+
+// What a text stands for among these words, if it is one of them.
+fn meaning<T: Copy>(text: &str, words: &[(&'static str, T)]) -> Option<T> {
+    for (word, meaning) in words {
+        if *word == text {
+            return Some(*meaning);
+        }
+    }
+    None
+}
+
+// What the word of an option stands for.
+fn word<T: Copy>(
+    matches: &ArgMatches<'_>,
+    option: OptionLine,
+    words: &[(&'static str, T)],
+) -> Result<T, LineFault> {
+    match meaning(text(matches, option)?, words) {
+        Some(meaning) => Ok(meaning),
+        None => Err(LineFault::BadWord),
+    }
+}
+
+// The number that a text of digits writes, if it is below 2^64.
+fn digits(text: &str) -> Result<u64, LineFault> {
+    if !text.bytes().all(|byte| byte.is_ascii_digit()) {
+        return Err(LineFault::BadWord);
+    }
+    match text.parse::<u64>() {
+        Ok(number) => Ok(number),
+        Err(_) => Err(LineFault::BadWord),
+    }
+}
+
+// How many members a job is to have.
+fn cut(matches: &ArgMatches<'_>) -> Result<u32, LineFault> {
+    match u32::try_from(digits(text(matches, CUT)?)?) {
+        Ok(cut) => Ok(cut),
+        Err(_) => Err(LineFault::BadWord),
+    }
+}
+
+// How wide windows are to be.
+fn width(matches: &ArgMatches<'_>) -> Result<Width, LineFault> {
+    let text = text(matches, WIDTH)?;
+    match meaning(text, &WIDTHS) {
+        Some(width) => Ok(width),
+        None => Ok(Width::Ticks(digits(text)?)),
+    }
+}

@@ -1,0 +1,12 @@
+//! What the program does, over devices that its caller makes: its command line, the run of a scenario, and its report.
+#![tactic(auto)]
+
+pub mod command_line;
+pub mod fault;
+pub mod line;
+mod members;
+pub mod options;
+pub mod program;
+mod report;
+pub mod run;
+pub mod session;

@@ -1,0 +1,84 @@
+//! A session of members, as a scenario describes it.
+ghost use Rattle.std.specs.Prelude.{◌≡◌, ◌<◌, ◌≤◌, ◌+◌, ◌-◌, ◌^◌, ℕ, List, length, IfSome};
+ghost use Rattle.std.specs.Io.KnownBytes.{Consumes};
+ghost use Rattle.srm_scenario.specs.declared.bytes.TheConstants.{LONGEST_TEXT};
+ghost use Rattle.srm_program.specs.Runs.{MayShareBag};
+ghost use Rattle.srm_program.specs.Sessions.{reading_failures, session_failures, ReadsToEnd, TellsFeed, TellsText};
+
+use crate::fault::Fault;
+use crate::members::run_members;
+use crate::options::Options;
+use srm_report::outlet::Outlet;
+use srm_scenario::bytes::{TextFault, read_text};
+use srm_scenario::fault::ScenarioFault;
+use srm_scenario::feed::Feed;
+use srm_scenario::reading::scenario_of_text;
+use std::alloc::Global;
+use std::marker::Sync;
+use std::sync::Wait;
+use std::thread::Threads;
+
+/// Reads a text from a feed, and simulates it as [`simulate_text`] does.
+///
+/// # Errors
+/// The feed failed or gives more than 1,048,576 bytes, and nothing is written; or what [`simulate_text`] answers.
+pub fn simulate<R: Threads + Wait + Sync, F: Feed, O: Outlet>(
+    rt: &R,
+    alloc: Global,
+    feed: &mut F,
+    seed: u64,
+    options: Options,
+    outlet: &mut O,
+) -> Result<(), Fault>
+    requires workers { MayShareBag options.workers }
+    requires feed { F.failures feed.old < 2 ^ 64 - 1 }
+    requires outlet { O.failures outlet.old < 2 ^ 64 - 1 }
+    ensures read { F.failures feed.new ≡ reading_failures result (F.failures feed.old) }
+    ensures failures { O.failures outlet.new ≡ session_failures result (O.failures outlet.old) }
+    // A text that was read whole leaves nothing to come.
+    ensures end { ReadsToEnd result (F.remaining feed.new) }
+    // From the bytes that the feed gave to the outlet's, also where nothing else is known of the feed.
+    ensures taken { (given : List ℕ) × Consumes (F.remaining feed.old) (F.remaining feed.new) given
+        × (length given ≤ LONGEST_TEXT + 1)
+        × TellsFeed seed options given (O.taken outlet.old) (O.taken outlet.new) result }
+    // From what is known to be still to come of the feed to the outlet's.
+    ensures report { IfSome (F.remaining feed.old) (λ text.
+        TellsFeed seed options text (O.taken outlet.old) (O.taken outlet.new) result) }
+{
+    let text = match read_text(alloc, feed) {
+        Ok(text) => text,
+        Err(TextFault::ReadFault) => return Err(Fault::Scenario(ScenarioFault::ReadFault)),
+        Err(TextFault::TooLong) => return Err(Fault::Scenario(ScenarioFault::TooLong)),
+        Err(TextFault::NoMemory) => return Err(Fault::NoMemory),
+    };
+    simulate_text(rt, alloc, &text, seed, options, outlet)
+}
+
+/// Makes the members of the scenario that a text describes with random words of this seed, runs them, and writes the report of the
+/// run to an outlet.
+///
+/// # Errors
+/// The text is refused, and nothing is written; or the run is, as [`run`](crate::run::run) says; or memory runs out in between.
+pub fn simulate_text<R: Threads + Wait + Sync, O: Outlet>(
+    rt: &R,
+    alloc: Global,
+    text: &[u8],
+    seed: u64,
+    options: Options,
+    outlet: &mut O,
+) -> Result<(), Fault>
+    requires workers { MayShareBag options.workers }
+    requires count { O.failures outlet.old < 2 ^ 64 - 1 }
+    // The count rises exactly where the answer is `WriteFault`, and then by one.
+    ensures failures { O.failures outlet.new ≡ session_failures result (O.failures outlet.old) }
+    ensures report { TellsText seed options text.now (O.taken outlet.old) (O.taken outlet.new) result }
+{
+    let scenario = match scenario_of_text(alloc, text) {
+        Ok(scenario) => scenario,
+        Err(fault) => return Err(Fault::Scenario(fault)),
+    };
+    let Ok(net) = scenario.net(alloc) else {
+        return Err(Fault::NoMemory);
+    };
+    run_members(rt, alloc, &scenario, &net, seed, options, outlet)
+}
