@@ -6,15 +6,18 @@ ghost use Rattle.srm_member.specs.Fit.{heard_of};
 ghost use Rattle.srm_member.specs.Places.{is_before, is_at, IsPlaceOf};
 
 use crate::progress::Progress;
+use smallvec::SmallVec;
 use srm_net::packet::{Heard, PageId};
 use srm_net::sequence::Sequence;
 use std::alloc::{AllocError, Global};
 use std::marker::Model;
 
 /// How far a member follows each page, in one vector that rises by page. Contracts compare it entry by entry.
+///
+/// Most members follow one page, which stands in the vector itself.
 #[derive(Debug, Drop)]
 pub struct Pages {
-    entries: Vec<(PageId, Progress)>,
+    entries: SmallVec<(PageId, Progress), 1>,
 }
 
 impl Model for Pages {
@@ -37,7 +40,7 @@ impl Pages {
         ensures { result ≡ [] }
     {
         Pages {
-            entries: Vec::new(alloc),
+            entries: SmallVec::new(alloc),
         }
     }
 

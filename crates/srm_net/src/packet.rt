@@ -24,8 +24,8 @@ pub struct Name {
     pub number: u32,
 }
 
-/// A page of one source (Floyd et al. 1997), on which drawing operations are numbered from 0.
-#[derive(Clone, Copy, Debug, PartialEq, Eq, PartialOrd, Ord)]
+/// A page of one source (Floyd et al. 1997), on which drawing operations are numbered from 0. The default is page 0 of member 0.
+#[derive(Clone, Copy, Debug, Default, PartialEq, Eq, PartialOrd, Ord)]
 pub struct PageId {
     /// The member that drew.
     pub source: u16,

@@ -8,8 +8,8 @@ use Rattle.srm_member.proofs.pages.Pages.get.Goals as goal
 pub returns-then-is_at : goal.returns-then-is_at
 returns-then-is_at c =
     let place = c.place-place.result in
-    let entry = c.index.result.now in
-    ap (λ e. Some e.1) (c.index.ensures ∙ ap (λ es. slice_index_or es place entry) c.self.view_is)
+    let entry = c.index-deref-place.result in
+    ap (λ es. Some (slice_index_or es place entry).1) (c.deref.ensures ∙ c.self.view_is)
     ∙ sym (found_there page_cmp page_total tied_pages c.args.page c.args.self.now place entry c.place-place.ensures
     (sym c.is_at.ensures ∙ c.if-is_at.true))
 

@@ -11,8 +11,8 @@ pub returns : goal.returns
 returns c =
     let page = c.args.page in
     let es = c.as_slice.result.now in
-    let sorted = subst (λ xs. T (is_sorted page_cmp xs)) (sym c.as_slice.ensures.value) c.self.invariant in
+    let sorted = subst (λ xs. T (is_sorted page_cmp xs)) (sym c.as_slice.ensures) c.self.invariant in
     let point = IsPartitionPoint-from_clause (is_before page_cmp page) es c.partition_point.result
     c.partition_point.ensures.partitioned (partitioned page_cmp page_total tied_pages page es sorted) (λ a r f' k. search rules) in
-    subst (λ xs. IsPlaceOf page_cmp page xs c.partition_point.result) (c.as_slice.ensures.value ∙ c.self.view_is)
+    subst (λ xs. IsPlaceOf page_cmp page xs c.partition_point.result) (c.as_slice.ensures ∙ c.self.view_is)
     (c.partition_point.ensures.bound, point)
