@@ -189,14 +189,30 @@ def measure(programs, chosen, figures, show, repeat):
     return by_row
 
 
-def print_growth(programs, by_row):
-    """How the time for a row grows from smaller networks to larger ones of a shape."""
-    for shape, nodes, draws in by_row:
+def starts(programs, chosen, repeat):
+    """For each scenario the seconds that each program takes for a row's share of the start: of the same network with one draw."""
+    by_row = {}
+    with tempfile.TemporaryDirectory() as folder:
+        path = pathlib.Path(folder) / "scenario.toml"
+        for scenario, rows in chosen:
+            path.write_bytes(text_of(scenario._replace(draws=1, drops=[], sessions=[])))
+            by_row[scenario.shape, scenario.nodes, scenario.draws] = [it / rows for it in times(programs, path, repeat)]
+    return by_row
+
+
+def print_growth(programs, by_row, starts_by_row):
+    """How the time for a row grows from smaller networks to larger ones of a shape, whole and without the start."""
+    for key in by_row:
+        shape, nodes, draws = key
         for small, large in GROWTH:
-            if nodes == small and (shape, large, draws) in by_row:
-                growth = zip(programs, by_row[shape, large, draws], by_row[shape, small, draws])
-                told = ", ".join(f"{program.name} {more / less:.2f}" for program, more, less in growth)
-                print(f"time for a row, {shape} of {large} over {shape} of {small}: {told}")
+            larger = shape, large, draws
+            if nodes == small and larger in by_row:
+                told = []
+                for at, program in enumerate(programs):
+                    more, less = by_row[larger][at], by_row[key][at]
+                    alone = (more - starts_by_row[larger][at]) / (less - starts_by_row[key][at])
+                    told.append(f"{program.name} {more / less:.2f} ({alone:.2f} without the start)")
+                print(f"time for a row, {shape} of {large} over {shape} of {small}: {', '.join(told)}")
 
 
 def main():
@@ -226,7 +242,8 @@ def main():
         measure(programs, chosen, instructions, print_instructions, options.repeat)
     else:
         print_head(programs, ["seconds", "rows/s"])
-        print_growth(programs, measure(programs, chosen, times, print_times, options.repeat))
+        by_row = measure(programs, chosen, times, print_times, options.repeat)
+        print_growth(programs, by_row, starts(programs, chosen, options.repeat))
 
 
 if __name__ == "__main__":
