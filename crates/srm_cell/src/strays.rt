@@ -59,6 +59,10 @@ impl Strays {
     pub fn first(&self) -> Option<(u64, PacketId)>
         ensures { result ≡ option_map (λ f. (f.arrival, f.packet.id)) (slice_get self.now 0) }
     {
+        // an emptied map still has a node, elsewhere in memory
+        if self.waiting.is_empty() {
+            return None;
+        }
         match self.waiting.first_key_value() {
             None => None,
             Some((key, packet)) => Some((key.0, packet.id)),

@@ -1,6 +1,6 @@
 -- Tables of names and of pages: what an entry put in, or taken out, changes.
 use Rattle.std.proofs.Common.{◌≡◌, ℕ, zero, suc, Bool, true, false, cond, not, T, List, [], ◌∷◌, map, refl, sym, ap, ◌∙◌, subst}
-use Rattle.std.proofs.Common.{◌≢◌, ◌⊎◌, inl, inr, arith, Ordering, Less, Equal, Greater, Some, None, is_some, is_lt, ◌&&◌}
+use Rattle.std.proofs.Common.{◌≢◌, ◌⊎◌, inl, inr, arith, Ordering, Less, Equal, Greater, Some, None, is_some}
 use Rattle.std.proofs.Common.{true≢false, nat_cmp, nat_lt, le-ltb, eq-eqb, ◌==◌}
 use Rattle.std.specs.List.{Contains}
 use Rattle.std.specs.Ordering.{eq_by_cmp, is_eq}

@@ -39,6 +39,10 @@ impl Index {
     pub fn first(&self) -> Option<Due>
         ensures { IsFirst self.now result }
     {
+        // an emptied set still has a node, elsewhere in memory
+        if self.set.is_empty() {
+            return None;
+        }
         self.set.first().copied()
     }
 

@@ -59,6 +59,10 @@ impl<V: Copy> Named<V> {
         ensures value { result ≡ find name_cmp name self.old }
         ensures rest { self.new ≡ without name self.old }
     {
+        // an emptied map still has a node, elsewhere in memory
+        if self.map.is_empty() {
+            return None;
+        }
         self.map.remove(&name)
     }
 

@@ -23,9 +23,9 @@ const REPAIR: u8 = 3;
 /// The names that a member lacks, with their request timers, and its repair timers, with an index of all timers by time.
 #[derive(Debug, Drop)]
 pub struct Pending {
+    index: Index,
     missing: Named<Missing>,
     repairs: Named<Repairing>,
-    index: Index,
 }
 
 impl Model for Pending {
@@ -48,9 +48,9 @@ impl Pending {
         ensures { result ≡ ([], []) }
     {
         Pending {
+            index: Index::new(alloc),
             missing: Named::new(alloc),
             repairs: Named::new(alloc),
-            index: Index::new(alloc),
         }
     }
 

@@ -26,8 +26,8 @@ pub told_route : (w : Network) → IsTree w → (ways : Ways) → TellsWays w.no
 told_route w t ways told u v hu hv =
     let way = told.each u v hu hv in
     let same : way.0 ≡ route w u v = route_only w t u v hu hv way.0 way.1.0 way.1.1 (apart_from_distinct way.1.0 way.1.2) in (
-      ap (λ n. number_at n ways.delays.cells.items u v) told.delays_width ∙ sym way.2 ∙ ap (delay_along w.links u) same,
-      λ d. let r = way.3 d in (r.0, sym same ∙ r.1 ∙ ap (λ n. number_at n ways.firsts.cells.items u v ∷ r.0) (sym told.firsts_width)),
+      sym way.2 ∙ ap (delay_along w.links u) same,
+      λ d. let r = way.3 d in (r.0, sym same ∙ r.1),
     )
 
 pub told_distance : (n : Inside) → IsBuilt n → (a b : ℕ) → a < length n.hosts.items → b < length n.hosts.items

@@ -17,3 +17,4 @@ pub mod FateLemmas
 pub mod OutageLemmas
 pub mod OnePaths
 pub mod SpreadLemmas
+pub mod Nearer

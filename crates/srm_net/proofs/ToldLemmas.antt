@@ -1,6 +1,7 @@
 -- What a network's tables of sides and of least distances give.
-use Rattle.std.proofs.Common.{◌≡◌, ℕ, suc, ◌+◌, ◌<◌, Bool, true, false, not, cond, ◌||◌, List, [], ◌∷◌, ◌++◌, length, Option, Some, sym, ap}
-use Rattle.std.proofs.Common.{◌∙◌, subst, inl, inr, arith, slice_get, slice_index_or}
+use Rattle.std.proofs.Common.{◌≡◌, ℕ, zero, suc, ◌+◌, ◌<◌, ◌≤◌, Bool, true, false, not, cond, ◌||◌, List, [], ◌∷◌, ◌++◌, length, Option}
+use Rattle.std.proofs.Common.{Some, sym, ap, ◌∙◌, subst, inl, inr, arith, slice_get, slice_index_or}
+use Rattle.std.proofs.Math.Bool.{or-true}
 use Rattle.std.proofs.lemmas.Bool.{cases_eq}
 use Rattle.srm_net.specs.declared.link.LinkSpec.{LinkSpec}
 use Rattle.srm_net.specs.declared.sides.Sides.{Sides}
@@ -47,6 +48,22 @@ first_near w l n u s t k e y r f =
           ∙ ap (λ b. not b || some_near_a w l k n) here);
       b = ap (λ (x : Sides). x.b) r ∙ f.b ∙ sym (some_next (λ m. is_beyond w l k (host w m)) n ∙ ap (λ b. b || some_near_b w l k n) here);
     }
+
+some_further : (f : ℕ → Bool) (n m : ℕ) → n ≤ m → some_below f n ≡ true → some_below f m ≡ true
+some_further f n zero h e = let none : n ≡ 0 = omega arith in subst (λ k. some_below f k ≡ true) none e
+some_further f n (suc m) h e =
+    elim (cases_eq n (suc m)) [
+      | inl q ↦ subst (λ k. some_below f k ≡ true) q e
+      | inr q ↦ (let below : n ≤ m = omega arith in rw (some_further f n m below e) (or-true (f m)))
+    ]
+
+-- where the first members are on both sides, all of them tell the same
+pub both_told : (w : Network) (l n : ℕ) (s : Sides) (k : LinkSpec) → n ≤ length w.hosts → s.a ≡ true → s.b ≡ true → TellsFirst w l n s k
+    → TellsSides w l k s
+both_told w l n s k h a b f = record {
+  a = a ∙ sym (some_further (λ m. not (is_beyond w l k (host w m))) n (length w.hosts) h (sym f.a ∙ a));
+  b = b ∙ sym (some_further (λ m. is_beyond w l k (host w m)) n (length w.hosts) h (sym f.b ∙ b));
+}
 
 -- what the sides of a link tell
 pub sides_told : (n : Inside) → IsTold n → (l : ℕ) (k : LinkSpec) → slice_get n.tree.links l ≡ Some k → (s : Sides) → s

@@ -11,7 +11,7 @@ use Rattle.srm_net.specs.Network.{Joins, IsWalk, IsWithin, HasDelays, IsAlike}
 use Rattle.srm_net.specs.Paths.{is_in, delay_from, delay_of, delay_along}
 use Rattle.srm_net.specs.Growth.{Attaches, attached, Grows}
 use Rattle.srm_net.specs.Grids.{number_at}
-use Rattle.srm_net.specs.Ways.{is_known, Extends, Leads, TellsWays}
+use Rattle.srm_net.specs.Ways.{IsWayOf, is_known, Extends, Leads, TellsWays}
 use Rattle.srm_net.proofs.Lists.{get_below, all_get}
 use Rattle.srm_net.proofs.Numbers.{Apart, Below, in_head, in_tail, in_cases, not_in, in_append_cases, apart_push, few_apart}
 use Rattle.srm_net.proofs.Numbers.{distinct_from_apart}
@@ -40,7 +40,7 @@ walk_push links u [] p ns l k v w g j =
 walk_push links u (m ∷ ls) p ns l k v w g j =
     (w.0, w.1, w.2 ++ v ∷ [], w.3, w.4, ap (λ t. t ++ v ∷ []) w.5, walk_push links w.1 ls p w.2 l k v w.6 g j)
 
-delay_push : (links : List LinkSpec) (u : ℕ) (ls : List ℕ) (p : ℕ) (ns : List ℕ) (l : ℕ) → IsWalk links u ls p ns
+pub delay_push : (links : List LinkSpec) (u : ℕ) (ls : List ℕ) (p : ℕ) (ns : List ℕ) (l : ℕ) → IsWalk links u ls p ns
     → delay_along links u (ls ++ l ∷ []) ≡ delay_along links u ls + delay_of p (slice_get links l)
 delay_push links u [] p ns l w = let e : delay_of u (slice_get links l)
     ≡ delay_of p (slice_get links l) = ap (λ y. delay_of y (slice_get links l)) w.0 in omega arith
@@ -289,15 +289,15 @@ tells_more nodes links ss s known down up d0 f0 d1 f1 size below new agree a sam
     }
 
 -- no delay between attached nodes is above 1,023,000,000
-pub told_bounded : (nodes : ℕ) (links : List LinkSpec) (ss : List Step) (delays firsts : List ℕ) → nodes ≤ 1024 → All HasDelays links
-    → Below nodes (attached ss) → TellsSoFar nodes links ss delays firsts
-    → (u x : ℕ) → is_in (attached ss) u ≡ true → is_in (attached ss) x ≡ true → number_at nodes delays u x ≤ greatest_distance
-told_bounded nodes links ss delays firsts few d below t u x i j =
+pub told_bounded : (nodes width : ℕ) (links : List LinkSpec) (ss : List Step) (delays firsts : List ℕ) → nodes ≤ 1024 → All HasDelays links
+    → Below nodes (attached ss) → TellsSoFar width links ss delays firsts
+    → (u x : ℕ) → is_in (attached ss) u ≡ true → is_in (attached ss) x ≡ true → number_at width delays u x ≤ greatest_distance
+told_bounded nodes width links ss delays firsts few d below t u x i j =
     let w = t.ways u x i j in
     let a = delay_at_most links d u w.path x w.nodes w.walk in
     let b = walk_length links u w.path x w.nodes w.walk in
     let c = few_apart nodes w.nodes w.apart (λ n h. below n (w.within n h)) in
-    let e : delay_along links u w.path ≡ number_at nodes delays u x = w.delay_is in
+    let e : delay_along links u w.path ≡ number_at width delays u x = w.delay_is in
     omega arith
 
 -- ---- the beginning
@@ -339,15 +339,20 @@ reverse_more steps i d h = ap reverse (take_more steps i d h) ∙ reverse-append
 
 -- ---- the end
 
-pub tells_all : (nodes : ℕ) (links : List LinkSpec) (ss : List Step) (ways : Ways) → 1 ≤ nodes → All (IsWithin nodes) links → Grows links ss
-    → length ss + 1 ≡ nodes → ways.delays.width ≡ nodes → ways.firsts.width ≡ nodes
-    → TellsSoFar nodes links ss ways.delays.cells.items ways.firsts.cells.items → TellsWays nodes links ways
-tells_all nodes links ss ways some ends g size dw fw t = record {
-  delays_width = dw;
-  firsts_width = fw;
+pub tells_all : (nodes width : ℕ) (links : List LinkSpec) (ss : List Step) (ways : Ways) → 1 ≤ nodes → All (IsWithin nodes) links
+    → Grows links ss → length ss + 1 ≡ nodes → nodes ≤ width → ways.delays.width ≡ width → ways.firsts.width ≡ width
+    → TellsSoFar width links ss ways.delays.cells.items ways.firsts.cells.items → TellsWays nodes links ways
+tells_all nodes width links ss ways some ends g size wide dw fw t = record {
+  delays_width = subst (λ n. nodes ≤ n) (sym dw) wide;
+  firsts_width = subst (λ n. nodes ≤ n) (sym fw) wide;
   each = λ u v hu hv.
       let w = t.ways u v (all_attached nodes links ss some ends g size u hu) (all_attached nodes links ss some ends g size v hv) in
-      (w.path, (w.nodes, w.walk, distinct_from_apart w.nodes w.apart), w.delay_is, w.first_is);
+      let told : IsWayOf links u v (number_at width ways.delays.cells.items u v) (number_at width ways.firsts.cells.items u v) =
+      (w.path, (w.nodes, w.walk, distinct_from_apart w.nodes w.apart), w.delay_is, w.first_is) in
+      subst (λ n. IsWayOf links u v (number_at n ways.delays.cells.items u v) (number_at ways.firsts.width ways.firsts.cells.items u v))
+      (sym dw)
+      (subst (λ n. IsWayOf links u v (number_at width ways.delays.cells.items u v) (number_at n ways.firsts.cells.items u v)) (sym fw)
+      told);
 }
 
 -- a step of no use but as a default

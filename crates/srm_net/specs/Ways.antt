@@ -1,6 +1,6 @@
 -- Tables of the ways between the nodes of a tree.
-use Rattle.std.specs.Prelude.{◌≡◌, ◌≢◌, ◌⊎◌, ℕ, ◌+◌, ◌<◌, ◌==◌, Bool, true, false, List, ◌∷◌, length, slice_index_or}
-use Rattle.std.specs.Prelude.{if◌then◌else◌}
+use Rattle.std.specs.Prelude.{◌≡◌, ◌≢◌, ◌⊎◌, ℕ, ◌+◌, ◌<◌, ◌≤◌, ◌==◌, Bool, true, false, List, ◌∷◌, length}
+use Rattle.std.specs.Prelude.{slice_index_or, if◌then◌else◌}
 use Rattle.srm_net.specs.declared.link.LinkSpec.{LinkSpec}
 use Rattle.srm_net.specs.declared.step.Step.{Step}
 use Rattle.srm_net.specs.declared.ways.Ways.{Ways}
@@ -14,12 +14,13 @@ IsWayOf links u v delay first =
     (ls : List ℕ) × IsPath links u ls v × (delay_along links u ls ≡ delay)
     × (u ≢ v → (rest : List ℕ) × (ls ≡ first ∷ rest))
 
--- the tables tell the delay and the first link of the way between any two nodes
+-- the tables have a row and a column for each node, and tell the delay and the first link of the way between any two
 pub record TellsWays (nodes : ℕ) (links : List LinkSpec) (ways : Ways) : Type 0 where
-  pub delays_width : ways.delays.width ≡ nodes
-  pub firsts_width : ways.firsts.width ≡ nodes
+  pub delays_width : nodes ≤ ways.delays.width
+  pub firsts_width : nodes ≤ ways.firsts.width
   pub each : (u v : ℕ) → u < nodes → v < nodes
-      → IsWayOf links u v (number_at nodes ways.delays.cells.items u v) (number_at nodes ways.firsts.cells.items u v)
+      → IsWayOf links u v (number_at ways.delays.width ways.delays.cells.items u v)
+      (number_at ways.firsts.width ways.firsts.cells.items u v)
 
 -- whether a node is known
 abbrev pub is_known : List Bool → ℕ → Bool

@@ -313,7 +313,7 @@ impl Net {
     {
         let spec = self.tree.link(link);
         let sides = self.sides[usize::from(link)];
-        if self.tree.is_beyond(link, node) {
+        if self.tree.delay(node, spec.b) < self.tree.delay(node, spec.a) {
             (spec.b, sides.a)
         } else {
             (spec.a, sides.b)

@@ -1,5 +1,5 @@
 //! A list of values that contracts see as a list.
-ghost use Rattle.std.specs.Prelude.{◌≡◌, ◌↔◌, IsTrue, List, length, OnOk, OnErr, ◌++◌, ◌∷◌, []};
+ghost use Rattle.std.specs.Prelude.{◌≡◌, ◌↔◌, IsTrue, List, length, IfOk, OnOk, OnErr, ◌++◌, ◌∷◌, []};
 
 use std::alloc::{AllocError, Global};
 use std::marker::Model;
@@ -24,6 +24,18 @@ impl<T> Sequence<T> {
         Sequence {
             items: Vec::new(alloc),
         }
+    }
+
+    /// The empty list, with room for so many elements.
+    ///
+    /// # Errors
+    /// Memory was refused.
+    pub fn with_capacity(alloc: Global, capacity: usize) -> Result<Self, AllocError>
+        ensures { IfOk result (λ s. s ≡ []) }
+    {
+        Ok(Sequence {
+            items: Vec::with_capacity(alloc, capacity)?,
+        })
     }
 
     /// The list of the vector's elements. It does not allocate.

@@ -235,6 +235,9 @@ impl Tree {
     {
         let mut sides = Sides { a: false, b: false };
         for m in 0..self.members() {
+            if sides.a && sides.b {
+                return sides;
+            }
             if self.is_beyond(link, self.host(m)) {
                 sides.b = true;
             } else {

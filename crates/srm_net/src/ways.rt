@@ -33,7 +33,7 @@ impl Ways {
         requires all { length steps.now + 1 ≡ nodes }
         ensures { IfOk result (λ ways. TellsWays nodes links.now ways) }
     {
-        let width = usize::from(nodes);
+        let width = row_width(nodes);
         let mut ways = Ways {
             delays: Grid::filled(alloc, width, 0)?,
             firsts: Grid::filled(alloc, width, 0)?,
@@ -107,4 +107,14 @@ impl Ways {
             self.firsts.put(node, near, step.link);
         }
     }
+}
+
+// How many places a row has in the tables of so many nodes: at least one for each, and 16 times an odd number. So the places of a column
+// are spread over the sets of a processor's cache, also where the number of nodes is a power of two.
+fn row_width(nodes: u16) -> usize
+    requires { nodes ≤ 1024 }
+    ensures wide { nodes ≤ result }
+    ensures bounded { result < 65536 }
+{
+    (usize::from(nodes) + 15) / 32 * 32 + 16
 }

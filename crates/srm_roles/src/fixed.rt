@@ -52,8 +52,9 @@ fn half_rounds(alloc: Global, net: &Net, m: u16) -> Result<Sequence<u64>, AllocE
     ensures value { IfOk result (λ ds. ds ≡ half_rounds_from net.now m) }
     ensures bounded { IfOk result (All (λ d. d ≤ greatest_distance)) }
 {
-    let mut dist = Sequence::new(alloc);
-    for b in 0..net.members() {
+    let members = net.members();
+    let mut dist = Sequence::with_capacity(alloc, usize::from(members))?;
+    for b in 0..members {
         dist.push(net.round(m, b) / 2)?;
     }
     Ok(dist)

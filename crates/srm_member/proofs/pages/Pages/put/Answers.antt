@@ -1,7 +1,7 @@
-use Rattle.std.proofs.Common.{◌≡◌, ◌∙◌, sym, ap, subst, T, length, slice_set, insert}
+use Rattle.std.proofs.Common.{◌∙◌, sym, ap, subst, T, length, slice_set, insert}
 use Rattle.std.proofs.lemmas.List.{length-set}
 use Rattle.smallvec.proofs.SmallVecLemmas.{items-with_items}
-use Rattle.std.specs.FinMap.Entries.{put, is_sorted, is_sorted-put}
+use Rattle.std.specs.FinMap.Entries.{is_sorted, is_sorted-put}
 use Rattle.srm_net.specs.declared.packet.PageId.{PageId}
 use Rattle.srm_net.specs.Names.{page_cmp}
 use Rattle.srm_member.specs.Record.{Progress}

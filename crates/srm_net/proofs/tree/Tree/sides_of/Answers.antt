@@ -1,7 +1,13 @@
 use Rattle.std.proofs.Common.{◌≡◌, ◌∙◌, sym, ap, arith, length}
-use Rattle.srm_net.proofs.ToldLemmas.{some_near_a, some_near_b, first_beyond, first_near}
+use Rattle.srm_net.proofs.ToldLemmas.{some_near_a, some_near_b, first_beyond, first_near, both_told}
 use Rattle.srm_net.proofs.tree.Tree.sides_of.Goals as goal
 use Rattle.srm_net.proofs.tree.Tree.sides_of.Goals.{then-is_beyond, else-is_beyond}
+
+pub returns-then-sides-2 : goal.returns-then-sides-2
+returns-then-sides-2 c k g =
+    let within = c.loop-m.invariant.within in
+    both_told c.args.self.now c.args.link c.loop-m.m c.loop-m.sides k (omega (arith, c.loop-m-test.true)) c.if-sides.true c.if-sides-2.true
+    (c.loop-m.invariant.told k g)
 
 pub loop-m-preserved : goal.loop-m-preserved
 loop-m-preserved c = record {
