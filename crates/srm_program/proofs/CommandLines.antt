@@ -1,5 +1,5 @@
 -- The line of a command line that is refused.
-use Rattle.std.proofs.Common.{◌≡◌, ℕ, refl, codes, arith}
+use Rattle.std.proofs.Common.{◌≡◌, refl, codes, arith}
 use Rattle.srm_program.specs.declared.fault.LineFault.TheVariants as line
 use Rattle.srm_program.specs.declared.fault.Fault.{Fault}
 use Rattle.srm_program.specs.declared.fault.Fault.TheVariants as fault

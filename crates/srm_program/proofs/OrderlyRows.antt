@@ -1,5 +1,5 @@
 -- The rows of a run are as the table of losses asks.
-use Rattle.std.proofs.Common.{◌≡◌, ◌∙◌, ℕ, List, [], ◌++◌, length, map, sym, subst, append-nil}
+use Rattle.std.proofs.Common.{◌≡◌, ◌∙◌, ℕ, List, [], ◌++◌, length, sym, subst, append-nil}
 use Rattle.std.proofs.lemmas.List.{length-map}
 use Rattle.srm_net.specs.Network.{Network}
 use Rattle.srm_scenario.specs.Accepted.{IsAccepted}

@@ -1,9 +1,8 @@
 -- Sessions of texts, from those of their scenarios.
-use Rattle.std.proofs.Common.{◌≡◌, ◌∙◌, ℕ, ◌≤◌, List, length, Option, Some, None, Result, Ok, Err, refl, ap, subst, inr}
+use Rattle.std.proofs.Common.{◌≡◌, ℕ, ◌≤◌, List, length, Option, Some, None, Result, Ok, Err, refl, subst, inr}
 use Rattle.std.specs.Prelude.{IfSome}
 use Rattle.std.specs.Io.KnownBytes.{Keeps}
 use Rattle.srm_net.specs.Network.{Network}
-use Rattle.srm_scenario.specs.declared.fault.ScenarioFault.{ScenarioFault}
 use Rattle.srm_scenario.specs.declared.fault.ScenarioFault.TheVariants.{TooLong}
 use Rattle.srm_scenario.specs.Plain.{PlainScenario, network_of}
 use Rattle.srm_scenario.specs.Faults.{scenario_of_text, AnswersText, RefusesText}
@@ -11,7 +10,7 @@ use Rattle.srm_scenario.proofs.Texts.{count_stays}
 use Rattle.srm_program.specs.declared.fault.Fault.{Fault}
 use Rattle.srm_program.specs.declared.fault.Fault.TheVariants.{Line, Scenario, Lab, NoMemory}
 use Rattle.srm_program.specs.declared.options.Options.{Options}
-use Rattle.srm_program.specs.Sessions.{TellsSession, TellsText, TellsFeed, reading_failures}
+use Rattle.srm_program.specs.Sessions.{TellsSession, TellsText, reading_failures}
 
 -- the session of a text is that of the scenario that it describes
 pub session_of_text : {T : Type 0} (p : PlainScenario) (net : Network) (text : List ℕ) (seed : ℕ) (o : Options) (old new : Option (List ℕ))

@@ -4,6 +4,7 @@
 pub mod command_line;
 pub mod fault;
 pub mod line;
+mod made;
 mod members;
 pub mod options;
 pub mod program;

@@ -5,23 +5,19 @@ ghost use Rattle.srm_program.specs.Runs.{MayShareBag};
 ghost use Rattle.srm_program.specs.Sessions.{session_failures, TellsSession};
 
 use crate::fault::Fault;
+use crate::made::{Made, made_members};
 use crate::options::Options;
 use crate::run::run;
 use srm_member::member::Member;
 use srm_net::net::Net;
-use srm_net::role::Role;
 use srm_report::outlet::Outlet;
-use srm_roles::late::Late;
-use srm_roles::listener::Listener;
-use srm_roles::receiver::Receiver;
-use srm_roles::sender::Sender;
 use srm_scenario::scenario::Scenario;
 use std::alloc::Global;
 use std::marker::Sync;
 use std::sync::Wait;
 use std::thread::Threads;
 
-/// Makes a box for each member of a scenario by its role, with random words of this seed, runs them, and writes the report of the run.
+/// Makes each member of a scenario by its role, with random words of this seed, runs them in boxes, and writes the report of the run.
 ///
 /// # Errors
 /// Memory runs out before the run, and nothing is written; or the run is refused, as [`run`] says.
@@ -41,13 +37,16 @@ pub(crate) fn run_members<R: Threads + Wait + Sync, O: Outlet>(
     ensures report { TellsSession scenario.now net.now seed options
         (O.taken outlet.old) (O.taken outlet.new) result }
 {
-    let mut members: Vec<Box<dyn Member>> = Vec::new(alloc);
-    for m in 0..scenario.members() {
-        let member: Box<dyn Member> = match scenario.role(m) {
-            Role::Sender => Box::new(alloc, Sender::new(alloc, scenario, net, seed, m)?)?,
-            Role::Receiver => Box::new(alloc, Receiver::new(alloc, scenario, net, seed, m)?)?,
-            Role::Late => Box::new(alloc, Late::new(alloc, scenario, net, seed, m)?)?,
-            Role::Listener => Box::new(alloc, Listener::new(alloc, scenario, net, seed, m)?)?,
+    let mut members: Vec<Box<dyn Member>> = Vec::with_capacity(
+        alloc,
+        usize::from(scenario.members()),
+    )?;
+    for made in made_members(alloc, scenario, net, seed)? {
+        let member: Box<dyn Member> = match made {
+            Made::Sender(sender) => Box::new(alloc, sender)?,
+            Made::Receiver(receiver) => Box::new(alloc, receiver)?,
+            Made::Late(late) => Box::new(alloc, late)?,
+            Made::Listener(listener) => Box::new(alloc, listener)?,
         };
         members.push(member)?;
     }

@@ -1,0 +1,16 @@
+use Rattle.std.proofs.Common.{◌≡◌, ◌∙◌, length, map, ap, arith}
+use Rattle.srm_engine.specs.Openings.{records_from}
+use Rattle.srm_program.specs.Unboxed.{record_of}
+use Rattle.srm_program.proofs.Openings.{opening-push}
+use Rattle.srm_program.proofs.made.made_members.Goals as goal
+
+pub loop-m-preserved : goal.loop-m-preserved
+loop-m-preserved c =
+    ap (map record_of) c.in_ok-push.ensures.items
+    ∙ opening-push record_of c.args.scenario.now c.args.net.now c.args.seed c.loop-m.m c.loop-m.all.items _ c.loop-m.invariant
+    c.in_ok-new.ensures
+
+pub returns : goal.returns
+returns c =
+    let whole : c.loop-m.m ≡ length c.args.scenario.now.members = omega (arith, c.members-m-end.ensures) in
+    c.loop-m.invariant ∙ ap (records_from c.args.scenario.now c.args.net.now c.args.seed 0) whole

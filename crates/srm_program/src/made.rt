@@ -1,0 +1,72 @@
+//! Members by their roles, before each has its box.
+ghost use Rattle.std.specs.Prelude.{◌≡◌, ◌<◌, length, map, MatchResult};
+ghost use Rattle.srm_cell.specs.Setting.{fixed_of};
+ghost use Rattle.srm_member.specs.Record.{opening_record};
+ghost use Rattle.srm_member.specs.declared.fault.MemberFault.TheVariants.{NoMemory};
+ghost use Rattle.srm_engine.specs.Openings.{HoldOpeningRecords};
+ghost use Rattle.srm_scenario.specs.Plain.{network_of};
+ghost use Rattle.srm_program.specs.declared.fault.Fault.TheVariants as fault;
+ghost use Rattle.srm_program.specs.Unboxed.{record_of};
+
+use crate::fault::Fault;
+use srm_member::fault::MemberFault;
+use srm_net::net::Net;
+use srm_net::role::Role;
+use srm_roles::late::Late;
+use srm_roles::listener::Listener;
+use srm_roles::receiver::Receiver;
+use srm_roles::sender::Sender;
+use srm_scenario::scenario::Scenario;
+use std::alloc::Global;
+
+// A member by its role. Where all members are made before the first of them has its box, no member's tables stand between the boxes.
+#[derive(Drop)]
+pub(crate) enum Made {
+    Sender(Sender),
+    Receiver(Receiver),
+    Late(Late),
+    Listener(Listener),
+}
+
+impl Made {
+    // Member m of a scenario, with the record with which it begins.
+    pub(crate) fn new(
+        alloc: Global,
+        scenario: &Scenario,
+        net: &Net,
+        seed: u64,
+        m: u16,
+    ) -> Result<Made, MemberFault>
+        requires member { m < length scenario.now.members }
+        requires network { net.now ≡ network_of scenario.now }
+        ensures { MatchResult result (λ made. record_of made ≡ opening_record (fixed_of scenario.now net.now seed m))
+            (λ e. e ≡ NoMemory) }
+    {
+        let made = match scenario.role(m) {
+            Role::Sender => Made::Sender(Sender::new(alloc, scenario, net, seed, m)?),
+            Role::Receiver => Made::Receiver(Receiver::new(alloc, scenario, net, seed, m)?),
+            Role::Late => Made::Late(Late::new(alloc, scenario, net, seed, m)?),
+            Role::Listener => Made::Listener(Listener::new(alloc, scenario, net, seed, m)?),
+        };
+        Ok(made)
+    }
+}
+
+// All members of a scenario, in order of their numbers.
+pub(crate) fn made_members(
+    alloc: Global,
+    scenario: &Scenario,
+    net: &Net,
+    seed: u64,
+) -> Result<Vec<Made>, Fault>
+    requires { net.now ≡ network_of scenario.now }
+    ensures { MatchResult result
+        (λ all. HoldOpeningRecords scenario.now net.now seed (map record_of all.items))
+        (λ e. e ≡ fault.NoMemory) }
+{
+    let mut all = Vec::with_capacity(alloc, usize::from(scenario.members()))?;
+    for m in 0..scenario.members() {
+        all.push(Made::new(alloc, scenario, net, seed, m)?)?;
+    }
+    Ok(all)
+}
