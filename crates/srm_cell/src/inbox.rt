@@ -1,5 +1,5 @@
 //! The packets on their way to one member.
-ghost use Rattle.std.specs.Prelude.{◌≡◌, List, [], ◌∷◌, MatchOption, OnOk, OnErr, slice_get, map};
+ghost use Rattle.std.specs.Prelude.{◌≡◌, List, [], ◌∷◌, ◌++◌, MatchOption, OnOk, OnErr, slice_get, map};
 ghost use Rattle.std.specs.Ordering.{is_lt};
 ghost use Rattle.std.specs.Option.{option_map};
 ghost use Rattle.srm_cell.specs.Flights.{with_flight, BringsNone, place_cmp};
@@ -58,10 +58,7 @@ impl Inbox {
             return self.strays.accept(packet, arrival);
         }
         let packet = packet.clone()?;
-        let flight = Flight { arrival, packet };
-        if self.line.push_back(flight).is_err() {
-            return Err(AllocError);
-        }
+        append(&mut self.line, Flight { arrival, packet })?;
         Ok(())
     }
 
@@ -95,6 +92,24 @@ fn is_in_turn(line: &VecDeque<Flight>, arrival: u64, id: PacketId) -> bool
     match line.back() {
         None => true,
         Some(last) => is_before((last.arrival, last.packet.id), (arrival, id)),
+    }
+}
+
+// Adds a flight behind a line.
+//
+// A full line grows by a quarter, and not to the double: all its slots are used in turn, and those of many members that are too
+// many would take each other's place in the processor's caches.
+fn append(line: &mut VecDeque<Flight>, flight: Flight) -> Result<(), AllocError>
+    ensures ok { OnOk result (line.new.items ≡ line.old.items ++ flight ∷ []) }
+    ensures err { OnErr result (line.new.items ≡ line.old.items) }
+{
+    if line.len() == line.capacity() {
+        let more = line.len() / 4 + 2;
+        line.reserve_exact(more)?;
+    }
+    match line.push_back(flight) {
+        Ok(()) => Ok(()),
+        Err(_) => Err(AllocError),
     }
 }
 
