@@ -161,7 +161,7 @@ module _ (m : ℕ) (p : Packet) (at : ℕ) where
       first_heard c c.inbox ∙ ap (λ o. earlier (Some (coming flight c)) (option_map (event_map heard) o)) h
       ∙ ap Some (second_kept _ (coming flight c) (event_map heard e) after)
   source_alike c Script e h after = marks_alike c c.script ∙ ap (option_map (event_map heard)) h
-  source_alike c (Timer d) e h after = ap (option_map (event_map heard)) h
+  source_alike c Timer e h after = timers_alike c (due_of c.holds) ∙ ap (option_map (event_map heard)) h
 
   next_with : (c : PlainCell) (o : Option Event) → next_event m c ≡ o → next_event m (heard c)
       ≡ earlier (Some (coming flight c)) (option_map (event_map heard) o)

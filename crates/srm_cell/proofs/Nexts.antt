@@ -53,13 +53,13 @@ held_due (Some r) h g = ap due_of g
 
 pub timer_known : (m n : ℕ) (p : PlainCell) (o : Option Record) (d : Due) → n ≡ m → HoldsRecord o p.holds → Some d ≡ due_in o
     → Known (record { time = d.time; member = n; rank = d.rank; a = d.name.source; b = d.name.page; c = d.name.number })
-    (next_timer m p (due_of p.holds)) (Some (timer_event m p d))
+    (next_timer m p (due_of p.holds)) (next_timer m p (due_of p.holds))
 timer_known m n p o d number holds h =
     let due : due_of p.holds ≡ Some d = held_due o p.holds holds ∙ sym h in (
       timer_event m p d,
       ap (next_timer m p) due,
       (λ i. record { time = d.time; member = number i; rank = d.rank; a = d.name.source; b = d.name.page; c = d.name.number }),
-      refl,
+      ap (next_timer m p) due,
     )
 
 -- ---- the sooner of two

@@ -178,7 +178,10 @@ impl Cell {
                 let mark = self.script.pop_first()?;
                 cause_at(mark)
             }
-            Source::Timer(due) => Some(expiry(due)),
+            Source::Timer => {
+                let due = self.due()?;
+                Some(expiry(due))
+            }
         }
     }
 
@@ -310,7 +313,7 @@ impl Cell {
                 b: due.name.page,
                 c: u64::from(due.name.number),
             },
-            source: Source::Timer(due),
+            source: Source::Timer,
         })
     }
 

@@ -4,7 +4,6 @@ ghost use Rattle.std.specs.Ordering.{is_gt};
 ghost use Rattle.srm_net.specs.Keys.{key_cmp};
 ghost use Rattle.srm_cell.specs.Pending as pending;
 
-use srm_member::due::Due;
 use srm_net::key::Key;
 use srm_net::packet::PacketId;
 use std::cmp::Ordering;
@@ -17,7 +16,7 @@ pub(crate) enum Source {
     /// In its script.
     Script,
     /// In its member's timers.
-    Timer(Due),
+    Timer,
 }
 
 /// An event that a cell has.

@@ -67,6 +67,34 @@ module _ {K V : Type 0} (cmp : K → K → Ordering) (total : IsTotalOrder cmp) 
   partitioned k (e ∷ es) s (suc i) zero d le lt h = absurd (omega arith)
   partitioned k (e ∷ es) s (suc i) (suc j) d le lt h = partitioned k es (second_true _ _ s) i j d (omega arith) (omega arith) h
 
+  same_at : (xs : List (K × V)) (i : ℕ) (a b : K × V) → i < length xs → slice_index_or xs i a ≡ slice_index_or xs i b
+  same_at [] i a b lt = absurd (omega arith)
+  same_at (x ∷ xs) zero a b lt = refl
+  same_at (x ∷ xs) (suc i) a b lt = same_at xs i a b (omega arith)
+
+  -- where the entry before a place stands before a key, and the entry there does not, that is the key's place
+  pub place_between : (k : K) (es : List (K × V)) (p : ℕ) → T (is_sorted cmp es) → p ≤ length es
+      → (0 < p → (d : K × V) × (is_before cmp k (slice_index_or es (p - 1) d) ≡ true))
+      → (p < length es → (d : K × V) × (is_before cmp k (slice_index_or es p d) ≡ false)) → IsPlaceOf cmp k es p
+  place_between k es p s le below above = (
+    le,
+    (
+      λ j d low high. partitioned k es s j (p - 1) d (omega arith) (omega arith) (below_it d (omega arith)),
+      λ j d low high. not_before (is_before cmp k (slice_index_or es j d))
+          (λ h. partitioned k es s p j d (omega arith) high h) (above_it d (omega arith)),
+    ),
+  )
+    where
+      below_it : (d : K × V) → 0 < p → is_before cmp k (slice_index_or es (p - 1) d) ≡ true
+      below_it d some = let b = below some in subst (λ e. is_before cmp k e ≡ true) (same_at es (p - 1) b.0 d (omega arith)) b.1
+
+      above_it : (d : K × V) → p < length es → is_before cmp k (slice_index_or es p d) ≡ false
+      above_it d some = let a = above some in subst (λ e. is_before cmp k e ≡ false) (same_at es p a.0 d (omega arith)) a.1
+
+      not_before : {c : Bool} (b : Bool) → (b ≡ true → c ≡ true) → c ≡ false → b ≡ false
+      not_before true h g = let x : true ≡ false = sym (h refl) ∙ g in cc
+      not_before false h g = refl
+
   -- where the last entry stands before it, a key's place is at the end
   pub place_at_end : (k : K) (es : List (K × V)) (d : K × V) → T (is_sorted cmp es) → 0 < length es
       → is_before cmp k (slice_index_or es (length es - 1) d) ≡ true → IsPlaceOf cmp k es (length es)
@@ -79,11 +107,6 @@ module _ {K V : Type 0} (cmp : K → K → Ordering) (total : IsTotalOrder cmp) 
     ),
   )
     where
-      same_at : (xs : List (K × V)) (i : ℕ) (a b : K × V) → i < length xs → slice_index_or xs i a ≡ slice_index_or xs i b
-      same_at [] i a b lt = absurd (omega arith)
-      same_at (x ∷ xs) zero a b lt = refl
-      same_at (x ∷ xs) (suc i) a b lt = same_at xs i a b (omega arith)
-
       same_last : (xs : List (K × V)) (a b : K × V) → 0 < length xs
           → slice_index_or xs (length xs - 1) a ≡ slice_index_or xs (length xs - 1) b
       same_last xs a b lt = same_at xs (length xs - 1) a b (omega arith)

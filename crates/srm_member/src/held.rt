@@ -1,5 +1,5 @@
 //! The names that a member holds.
-ghost use Rattle.std.specs.Prelude.{◌≡◌, [], OnErr, OnOk, IfOk};
+ghost use Rattle.std.specs.Prelude.{◌≡◌, ◌≤◌, ◌↔◌, [], OnErr, OnOk, IfOk, IsTrue, length};
 ghost use Rattle.std.specs.FinMap.Entries.{put, find};
 ghost use Rattle.srm_net.specs.Names.{name_cmp};
 ghost use Rattle.srm_member.specs.Places.{is_before, is_at, IsPlaceOf};
@@ -40,7 +40,27 @@ impl Held {
         }
     }
 
+    // Whether a name stands behind the first so many entries and before all others.
+    fn is_between(&self, place: usize, name: Name) -> bool
+        requires { place ≤ length self.now }
+        ensures { IsTrue result ↔ IsPlaceOf name_cmp name self.now place }
+    {
+        let (before, behind) = self.entries.as_slice().split_at(place);
+        let follows = match before.last() {
+            Some(entry) => entry.0 < name,
+            None => true,
+        };
+        let leads = match behind.first() {
+            Some(entry) => !(entry.0 < name),
+            None => true,
+        };
+        follows && leads
+    }
+
     // How many entries stand before the place of a name.
+    //
+    // Where a member holds one page without a gap, that is the name's number: it takes no search, which would read entries that the
+    // processor's cache no longer has.
     fn place(&self, name: Name) -> usize
         ensures { IsPlaceOf name_cmp name self.now result }
     {
@@ -48,6 +68,10 @@ impl Held {
             if last.0 < name {
                 return self.entries.len();
             }
+        }
+        let number = name.number as usize;
+        if number <= self.entries.len() && self.is_between(number, name) {
+            return number;
         }
         self.entries.as_slice().partition_point(
             |entry: &(Name, u32)| -> bool
