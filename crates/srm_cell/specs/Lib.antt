@@ -1,6 +1,7 @@
 pub mod Setting
 pub mod Flights
 pub mod Entries
+pub mod CompactFlights
 pub mod InboxLines
 pub mod Cells
 pub mod Pending

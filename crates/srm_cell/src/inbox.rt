@@ -5,6 +5,7 @@ ghost use Rattle.std.specs.Option.{option_map};
 ghost use Rattle.srm_cell.specs.Flights.{with_flight, BringsNone, place_cmp};
 ghost use Rattle.srm_cell.specs.InboxLines.{leads, follows};
 
+use crate::compact_flight::CompactFlight;
 use crate::flight::Flight;
 use crate::strays::Strays;
 use srm_net::packet::{Packet, PacketId};
@@ -17,7 +18,7 @@ use std::marker::Model;
 /// Packets are mostly accepted in this order, and then stand in a line. The others are kept in an ordered map.
 #[derive(Drop)]
 pub struct Inbox {
-    line: VecDeque<Flight>,
+    line: VecDeque<CompactFlight>,
     strays: Strays,
 }
 
@@ -57,8 +58,8 @@ impl Inbox {
         if !is_in_turn(&self.line, arrival, packet.id) {
             return self.strays.accept(packet, arrival);
         }
-        let packet = packet.clone()?;
-        append(&mut self.line, Flight { arrival, packet })?;
+        let flight = CompactFlight::new(*self.line.allocator(), packet, arrival)?;
+        append(&mut self.line, flight)?;
         Ok(())
     }
 
@@ -70,7 +71,7 @@ impl Inbox {
             return self.strays.first();
         }
         let flight = self.line.front()?;
-        Some((flight.arrival, flight.packet.id))
+        Some(flight.place())
     }
 
     /// Takes the first packet out.
@@ -78,7 +79,8 @@ impl Inbox {
         ensures { MatchOption result ((self.old ≡ []) × (self.new ≡ [])) (λ f. self.old ≡ f ∷ self.new) }
     {
         if is_line_next(&self.line, &self.strays) {
-            self.line.pop_front()
+            let flight = self.line.pop_front()?;
+            Some(flight.into_flight())
         } else {
             self.strays.pop_first()
         }
@@ -86,12 +88,12 @@ impl Inbox {
 }
 
 // Whether the flight of a packet goes behind a whole line.
-fn is_in_turn(line: &VecDeque<Flight>, arrival: u64, id: PacketId) -> bool
+fn is_in_turn(line: &VecDeque<CompactFlight>, arrival: u64, id: PacketId) -> bool
     ensures { result ≡ follows (arrival, id) line.now.items }
 {
     match line.back() {
         None => true,
-        Some(last) => is_before((last.arrival, last.packet.id), (arrival, id)),
+        Some(last) => is_before(last.place(), (arrival, id)),
     }
 }
 
@@ -99,7 +101,7 @@ fn is_in_turn(line: &VecDeque<Flight>, arrival: u64, id: PacketId) -> bool
 //
 // A full line grows by a quarter, and not to the double: all its slots are used in turn, and those of many members that are too
 // many would take each other's place in the processor's caches.
-fn append(line: &mut VecDeque<Flight>, flight: Flight) -> Result<(), AllocError>
+fn append(line: &mut VecDeque<CompactFlight>, flight: CompactFlight) -> Result<(), AllocError>
     ensures ok { OnOk result (line.new.items ≡ line.old.items ++ flight ∷ []) }
     ensures err { OnErr result (line.new.items ≡ line.old.items) }
 {
@@ -114,7 +116,7 @@ fn append(line: &mut VecDeque<Flight>, flight: Flight) -> Result<(), AllocError>
 }
 
 // Whether the first of a line goes before all others.
-fn is_line_next(line: &VecDeque<Flight>, strays: &Strays) -> bool
+fn is_line_next(line: &VecDeque<CompactFlight>, strays: &Strays) -> bool
     ensures { result ≡ leads line.now.items strays.now }
 {
     let Some(flight) = line.front() else {
@@ -123,7 +125,7 @@ fn is_line_next(line: &VecDeque<Flight>, strays: &Strays) -> bool
     let Some(stray) = strays.first() else {
         return true;
     };
-    is_before((flight.arrival, flight.packet.id), stray)
+    is_before(flight.place(), stray)
 }
 
 // Whether a flight goes before another, by arrival, sender and count.

@@ -4,6 +4,8 @@
 pub mod advance;
 mod boxes;
 pub mod cell;
+mod compact_body;
+mod compact_flight;
 pub mod count;
 pub mod crossings;
 pub mod fault;

@@ -1,4 +1,4 @@
-use Rattle.std.proofs.Common.{List, slice_get, option_map, ap, sym, ◌∙◌}
+use Rattle.std.proofs.Common.{List, Some, slice_get, option_map, ap, sym, ◌∙◌}
 use Rattle.srm_cell.specs.declared.flight.Flight.{Flight}
 use Rattle.srm_cell.proofs.InboxLines.{first_other, first_line}
 use Rattle.srm_cell.proofs.inbox.Inbox.first.Goals as goal
@@ -13,7 +13,8 @@ returns-then-not-is_line_next c =
 
 pub returns : goal.returns
 returns c =
-    ap (option_map (λ (f : Flight). (f.arrival, f.packet.id)))
+    ap Some c.place.ensures
+    ∙ ap (option_map (λ (f : Flight). (f.arrival, f.packet.id)))
     (first_line c.self.inside.line.items c.self.inside.strays c.in_ok-flight.flight.now
     (sym c.is_line_next.ensures ∙ c.if-not-is_line_next.false) c.self.invariant.0 c.self.invariant.1 c.in_ok-flight.ensures.lookup)
     ∙ ap (λ (l : List Flight). option_map (λ (f : Flight). (f.arrival, f.packet.id)) (slice_get l 0)) c.self.view_is

@@ -1,13 +1,16 @@
-use Rattle.std.proofs.Common.{sym, ◌∙◌}
+use Rattle.std.proofs.Common.{Some, ◌∷◌, ◌++◌, ap, sym, ◌∙◌}
+use Rattle.srm_net.specs.Orders.{ordered}
+use Rattle.srm_cell.specs.Flights.{flight_cmp}
 use Rattle.srm_cell.proofs.InboxLines.{line_popped, other_popped}
 use Rattle.srm_cell.proofs.inbox.Inbox.pop_first.Goals as goal
 
-pub returns-then-is_line_next : goal.returns-then-is_line_next
-returns-then-is_line_next c =
-    line_popped c.pop_front.result c.self.inside.line.items c.pop_front.new.self.items c.self.inside.strays c.args.self.now
+pub returns-in_ok-flight : goal.returns-in_ok-flight
+returns-in_ok-flight c =
+    line_popped (Some c.in_ok-flight.flight) c.self.inside.line.items c.pop_front.new.self.items c.self.inside.strays c.args.self.now
     c.self.inside.line.len c.self.inside.line.ok.0
-    c.pop_front.ensures.variant.1 c.pop_front.ensures.items (sym c.is_line_next.ensures ∙ c.if-is_line_next.true) c.self.invariant.0
+    c.in_ok-flight.ensures.variant.1 c.in_ok-flight.ensures.items (sym c.is_line_next.ensures ∙ c.if-is_line_next.true) c.self.invariant.0
     c.self.invariant.1 c.self.view_is
+    ∙ ap (λ f. f ∷ ordered flight_cmp (c.self.inside.strays ++ c.pop_front.new.self.items)) (sym c.into_flight.ensures)
 
 pub returns-else-is_line_next : goal.returns-else-is_line_next
 returns-else-is_line_next c =

@@ -1,0 +1,29 @@
+-- The flights that a line keeps in less room.
+use Rattle.std.specs.Prelude.{ℕ}
+use Rattle.srm_net.specs.declared.packet.Body.{Body}
+use Rattle.srm_net.specs.declared.packet.Body.TheVariants as body
+use Rattle.srm_cell.specs.declared.flight.Flight.{Flight}
+use Rattle.srm_cell.specs.declared.compact_body.CompactBody.{CompactBody}
+use Rattle.srm_cell.specs.declared.compact_body.CompactBody.TheVariants.{Drawop, Request, Repair, Session}
+use Rattle.srm_cell.specs.declared.compact_flight.CompactFlight.TheInside.{Inside}
+
+-- the member that sent the packet
+abbrev pub sender_of : CompactBody → ℕ
+sender_of (Drawop sender name ink) = sender
+sender_of (Request sender name) = sender
+sender_of (Repair sender name ink) = sender
+sender_of (Session sender heard) = sender
+
+-- what the packet carries
+abbrev pub body_of : CompactBody → Body
+body_of (Drawop sender name ink) = body.Drawop name ink
+body_of (Request sender name) = body.Request name
+body_of (Repair sender name ink) = body.Repair name ink
+body_of (Session sender heard) = body.Session heard.value
+
+-- the flight that is kept so
+abbrev pub kept_flight : Inside → Flight
+kept_flight f = record {
+  arrival = f.arrival;
+  packet = record { id = record { sender = sender_of f.body; count = f.count }; sent = f.sent; body = body_of f.body };
+}
