@@ -27,3 +27,10 @@ kept_flight f = record {
   arrival = f.arrival;
   packet = record { id = record { sender = sender_of f.body; count = f.count }; sent = f.sent; body = body_of f.body };
 }
+
+-- the body is a session message's
+abbrev pub IsSession : Body → Type 0
+IsSession (body.Drawop name ink) = ⊥
+IsSession (body.Request name) = ⊥
+IsSession (body.Repair name ink) = ⊥
+IsSession (body.Session heard) = Unit {0}

@@ -1,6 +1,6 @@
 //! What the packets of a line carry.
-ghost use Rattle.std.specs.Prelude.{◌≡◌, IfOk};
-ghost use Rattle.srm_cell.specs.CompactFlights.{sender_of, body_of};
+ghost use Rattle.std.specs.Prelude.{◌≡◌, IfOk, IfErr};
+ghost use Rattle.srm_cell.specs.CompactFlights.{sender_of, body_of, IsSession};
 
 use srm_net::packet::{Body, Heard, Name};
 use srm_net::sequence::Sequence;
@@ -50,10 +50,11 @@ impl CompactBody {
     /// A copy of what a packet of this sender carries. Only that of a session message allocates.
     ///
     /// # Errors
-    /// Memory was refused.
+    /// Memory was refused, of which only a session message's body wants any.
     pub(crate) fn new(alloc: Global, sender: u16, body: &Body) -> Result<Self, AllocError>
         ensures sender { IfOk result (λ b. sender_of b ≡ sender) }
         ensures body { IfOk result (λ b. body_of b ≡ body.now) }
+        ensures memory { IfErr result (λ _. IsSession body.now) }
     {
         match body {
             Body::Drawop { name, ink } => Ok(CompactBody::Drawop {

@@ -1,5 +1,6 @@
 //! Flights as a line keeps them.
-ghost use Rattle.std.specs.Prelude.{◌≡◌, IfOk};
+ghost use Rattle.std.specs.Prelude.{◌≡◌, IfOk, IfErr};
+ghost use Rattle.srm_cell.specs.CompactFlights.{IsSession};
 
 use crate::compact_body::CompactBody;
 use crate::flight::Flight;
@@ -34,9 +35,10 @@ impl CompactFlight {
     /// The flight of a copy of this packet. Only that of a session message allocates.
     ///
     /// # Errors
-    /// Memory was refused.
+    /// Memory was refused, of which only a session message's flight wants any.
     pub(crate) fn new(alloc: Global, packet: &Packet, arrival: u64) -> Result<Self, AllocError>
-        ensures { IfOk result (λ f. f ≡ record { arrival = arrival; packet = packet.now }) }
+        ensures ok { IfOk result (λ f. f ≡ record { arrival = arrival; packet = packet.now }) }
+        ensures memory { IfErr result (λ _. IsSession packet.now.body) }
     {
         let PacketId { sender, count } = packet.id;
         Ok(CompactFlight {

@@ -40,7 +40,7 @@ impl Held {
         }
     }
 
-    // Whether a name stands behind the first so many entries and before all others.
+    // Whether the first so many entries, and no others, stand before the place of a name.
     fn is_between(&self, place: usize, name: Name) -> bool
         requires { place ≤ length self.now }
         ensures { IsTrue result ↔ IsPlaceOf name_cmp name self.now place }

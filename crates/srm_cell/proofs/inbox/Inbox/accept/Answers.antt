@@ -23,7 +23,7 @@ returns-then-not-is_in_turn-clause-ok c =
 
 in_turn : (c : goal.In_ok-append) → follows (place_of c.in_ok-flight.flight) c.self.inside.line.items ≡ true
 in_turn c =
-    ap (λ f. follows (place_of f) c.self.inside.line.items) c.in_ok-flight.ensures ∙ sym c.is_in_turn.ensures ∙ c.if-not-is_in_turn.false
+    ap (λ f. follows (place_of f) c.self.inside.line.items) c.in_ok-flight.ensures.ok ∙ sym c.is_in_turn.ensures ∙ c.if-not-is_in_turn.false
 
 pub invariant_of-self-2 : goal.invariant_of-self-2
 invariant_of-self-2 c = (
@@ -34,7 +34,7 @@ invariant_of-self-2 c = (
 pub returns-clause-ok : goal.returns-clause-ok
 returns-clause-ok c =
     let none : BringsNone c.in_ok-flight.flight.packet.id (ordered flight_cmp (c.self.inside.strays ++ c.self.inside.line.items)) =
-    rw (c.self.view_is, c.in_ok-flight.ensures) c.requires in
+    rw (c.self.view_is, c.in_ok-flight.ensures.ok) c.requires in
     ap (λ l. ordered flight_cmp (c.self.inside.strays ++ l)) c.in_ok-append.ensures.ok
     ∙ lined_up c.in_ok-flight.flight c.self.inside.strays c.self.inside.line.items none
-    ∙ (λ i. place flight_cmp (c.in_ok-flight.ensures i) (c.self.view_is i))
+    ∙ (λ i. place flight_cmp (c.in_ok-flight.ensures.ok i) (c.self.view_is i))
