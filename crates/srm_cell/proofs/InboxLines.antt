@@ -1,17 +1,20 @@
 -- A line of flights, and others apart from it: what a flight more or less in either changes of them all in order.
-use Rattle.std.proofs.Common.{◌≡◌, ◌≢◌, ℕ, ◌<◌, ◌-◌, arith, length, slice_index_or, Result, Ok, Err, OnOk, OnErr, IsSome, MatchOption, Bool}
+use Rattle.std.proofs.Common.{◌≡◌, ◌≢◌, ℕ, zero, suc, ◌<◌, ◌≤◌, ◌-◌, arith, length, insert, slice_index_or, Result, Ok, Err, OnOk, OnErr}
+use Rattle.std.proofs.Common.{IsSome, MatchOption, Bool}
 use Rattle.std.proofs.Common.{true, false, cond, List, [], ◌∷◌, ◌++◌, Option, Some, None, slice_get, refl, sym, ap, ◌∙◌, subst}
-use Rattle.std.proofs.Common.{append_assoc, Ordering, Equal, is_lt, true≢false}
+use Rattle.std.proofs.Common.{Ordering, Equal, is_lt, true≢false}
 use Rattle.std.specs.Ordering.{ordering_reverse}
 use Rattle.std.specs.Option.{option_to_list}
 use Rattle.std.specs.Cmp.{IsTotalOrder}
+use Rattle.std.specs.List.Sorted.{IsPartitionPoint, IsPartitionedBy}
+use Rattle.srm_net.specs.declared.packet.Body.TheVariants as body
 use Rattle.srm_net.specs.declared.packet.PacketId.{PacketId}
 use Rattle.srm_net.specs.Orders.{place, ordered, NoneBelow, Rises}
 use Rattle.srm_member.proofs.AllIn.{AllIn}
-use Rattle.srm_member.proofs.OrderLemmas.{From, from_trans, lt-asym, none_below_from, place-comm, place_first, rises_place}
+use Rattle.srm_member.proofs.OrderLemmas.{From, from_trans, none_below_from, place-comm, place_first, rises_place}
 use Rattle.srm_cell.specs.declared.flight.Flight.{Flight}
 use Rattle.srm_cell.specs.Flights.{flight_cmp, BringsNone, place_of, place_cmp}
-use Rattle.srm_cell.specs.InboxLines.{follows, leads}
+use Rattle.srm_cell.specs.InboxLines.{follows, leads, goes_before, IsPlaceIn}
 use Rattle.srm_cell.proofs.Entries.{flight_total, tie}
 
 -- ---- lists in an order
@@ -28,10 +31,6 @@ module _ {A : Type 0} (cmp : A → A → Ordering) (o : IsTotalOrder cmp) where
   apart_back : (x y : A) → cmp x y ≢ Equal → cmp y x ≢ Equal
   apart_back x y h g = h (o.antisymm x y ∙ ap ordering_reverse g)
 
-  pub ordered_last : (x : A) (ys : List A) → Apart x ys → ordered cmp (ys ++ x ∷ []) ≡ place cmp x (ordered cmp ys)
-  ordered_last x [] h = refl
-  ordered_last x (y ∷ ys) h = ap (place cmp y) (ordered_last x ys h.1) ∙ place-comm cmp o y x (apart_back x y h.0) (ordered cmp ys)
-
   pub ordered_placed : (x : A) (ys zs : List A) → Apart x ys → ordered cmp (place cmp x ys ++ zs) ≡ place cmp x (ordered cmp (ys ++ zs))
   ordered_placed x [] zs h = refl
   ordered_placed x (y ∷ ys) zs h = elim (is_lt (cmp y x)) as (λ b. ordered cmp (cond b (y ∷ place cmp x ys) (x ∷ y ∷ ys) ++ zs)
@@ -39,6 +38,12 @@ module _ {A : Type 0} (cmp : A → A → Ordering) (o : IsTotalOrder cmp) where
         | true ↦ ap (place cmp y) (ordered_placed x ys zs h.1) ∙ place-comm cmp o y x (apart_back x y h.0) (ordered cmp (ys ++ zs))
         | false ↦ refl
       ]
+
+  pub ordered_among : (x : A) (ys zs : List A) → Rises cmp zs → Apart x ys
+      → ordered cmp (ys ++ place cmp x zs) ≡ place cmp x (ordered cmp (ys ++ zs))
+  ordered_among x [] zs r h = ordered_same (place cmp x zs) (rises_place cmp o x zs r) ∙ ap (place cmp x) (sym (ordered_same zs r))
+  ordered_among x (y ∷ ys) zs r h =
+      ap (place cmp y) (ordered_among x ys zs r h.1) ∙ place-comm cmp o y x (apart_back x y h.0) (ordered cmp (ys ++ zs))
 
   none_below_cond : (k : A) (b : Bool) (xs ys : List A) → NoneBelow cmp k xs → NoneBelow cmp k ys → NoneBelow cmp k (cond b xs ys)
   none_below_cond k true xs ys h g = h
@@ -81,25 +86,64 @@ module _ {A : Type 0} (cmp : A → A → Ordering) (o : IsTotalOrder cmp) where
   before_all x y [] h g = tt
   before_all x y (z ∷ zs) h g = (before_from x y z h g.0, before_all x y zs h g.1)
 
-  none_below_last : (k x : A) (ys : List A) → NoneBelow cmp k ys → From cmp o k x → NoneBelow cmp k (ys ++ x ∷ [])
-  none_below_last k x [] h g = (g, tt)
-  none_below_last k x (y ∷ ys) h g = (h.0, none_below_last k x ys h.1 g)
+  -- what is not behind one that goes before x goes before x too
+  pub earlier : (x y z : A) → From cmp o y z → is_lt (cmp z x) ≡ true → is_lt (cmp y x) ≡ true
+  earlier x y z h q = elim (is_lt (cmp y x)) as (λ b. is_lt (cmp y x) ≡ b → is_lt (cmp y x) ≡ true) [
+    | true ↦ λ e. e
+    | false ↦ λ e. absurd (true≢false (sym q ∙ from_trans cmp o x y z e h))
+  ] refl
+
+  none_below_at : (y : A) (ys : List A) (j : ℕ) (d : A) → NoneBelow cmp y ys → j < length ys → From cmp o y (slice_index_or ys j d)
+  none_below_at y [] j d h lt = absurd (omega arith)
+  none_below_at y (z ∷ zs) zero d h lt = h.0
+  none_below_at y (z ∷ zs) (suc j) d h lt = none_below_at y zs j d h.1 (omega arith)
+
+  -- of what rises, those that go before x stand before the others
+  pub partitioned : (x : A) (ys : List A) → Rises cmp ys → IsPartitionedBy (λ y. is_lt (cmp y x)) ys
+  partitioned x [] h i j d le lt q = absurd (omega arith)
+  partitioned x (y ∷ ys) h zero zero d le lt q = q
+  partitioned x (y ∷ ys) h zero (suc j) d le lt q =
+      earlier x y (slice_index_or ys j d) (none_below_at y ys j d h.0 (omega arith)) q
+  partitioned x (y ∷ ys) h (suc i) zero d le lt q = absurd (omega arith)
+  partitioned x (y ∷ ys) h (suc i) (suc j) d le lt q = partitioned x ys h.1 i j d (omega arith) (omega arith) q
+
+  -- what is put in where those before it end stands in its place among them
+  pub inserted : (x : A) (ys : List A) (p : ℕ) → p ≤ length ys
+      → IsPartitionPoint (λ y. is_lt (cmp y x) ≡ true) (λ y. is_lt (cmp y x) ≡ false) ys p → insert ys p x ≡ place cmp x ys
+  inserted x [] zero le h = refl
+  inserted x [] (suc p) le h = absurd (omega arith)
+  inserted x (y ∷ ys) zero le h =
+      sym (ap (λ b. cond b (y ∷ place cmp x ys) (x ∷ y ∷ ys)) (h.1 0 y (omega arith) (omega arith)))
+  inserted x (y ∷ ys) (suc p) le h =
+      let rest = inserted x ys p (omega arith) (
+        λ j d low high. h.0 (suc j) d (omega arith) (omega arith),
+        λ j d low high. h.1 (suc j) d (omega arith) (omega arith),
+      ) in
+      ap (λ l. y ∷ l) rest ∙ sym (ap (λ b. cond b (y ∷ place cmp x ys) (x ∷ y ∷ ys)) (h.0 0 y (omega arith) (omega arith)))
 
 -- ---- flights
 
 abbrev pub Climbs : List Flight → Type 0
 Climbs fs = Rises flight_cmp fs
 
-last_from : (f x : Flight) (xs : List Flight) → Climbs (x ∷ xs) → follows (place_of f) (x ∷ xs) ≡ true → From flight_cmp flight_total x f
-last_from f x [] h q = lt-asym flight_cmp flight_total x f q
-last_from f x (y ∷ ys) h q = from_trans flight_cmp flight_total x y f h.0.0 (last_from f y ys h.1 q)
+-- a flight with this arrival and packet
+abbrev pub flight_at : ℕ × PacketId → Flight
+flight_at k = record {
+  arrival = k.0;
+  packet = record { id = k.1; sent = 0; body = body.Request (record { source = 0; page = 0; number = 0 }) };
+}
 
--- a line rises with a flight that follows it
-pub rises_last : (f : Flight) (xs : List Flight) → Climbs xs → follows (place_of f) xs ≡ true → Climbs (xs ++ f ∷ [])
-rises_last f [] h q = (tt, tt)
-rises_last f (x ∷ []) h q = ((last_from f x [] h q, tt), (tt, tt))
-rises_last f (x ∷ y ∷ ys) h q =
-    (none_below_last flight_cmp flight_total x f (y ∷ ys) h.0 (last_from f x (y ∷ ys) h q), rises_last f (y ∷ ys) h.1 q)
+all_before : (g : Flight) (fs : List Flight) → Climbs fs → follows (place_of g) fs ≡ true → (j : ℕ) (d : Flight) → j < length fs
+    → goes_before (place_of g) (slice_index_or fs j d) ≡ true
+all_before g [] h q j d lt = absurd (omega arith)
+all_before g (f ∷ []) h q zero d lt = q
+all_before g (f ∷ []) h q (suc j) d lt = absurd (omega arith)
+all_before g (f ∷ e ∷ fs) h q zero d lt = earlier flight_cmp flight_total g f e h.0.0 (all_before g (e ∷ fs) h.1 q zero d (omega arith))
+all_before g (f ∷ e ∷ fs) h q (suc j) d lt = all_before g (e ∷ fs) h.1 q j d (omega arith)
+
+-- the place of a flight that follows a line is behind it
+pub last_place : (g : Flight) (fs : List Flight) → Climbs fs → follows (place_of g) fs ≡ true → IsPlaceIn (place_of g) fs (length fs)
+last_place g fs h q = (omega arith, (λ j d low high. all_before g fs h q j d high, λ j d low high. absurd (omega arith)))
 
 brings_placed : (id : PacketId) (g : Flight) (fs : List Flight) → BringsNone id (place flight_cmp g fs) → (g.packet.id ≢ id)
     × BringsNone id fs
@@ -123,11 +167,16 @@ apart_others : (f : Flight) (xs ys : List Flight) → Apart flight_cmp flight_to
 apart_others f [] ys h = tt
 apart_others f (x ∷ xs) ys h = (h.0, apart_others f xs ys h.1)
 
--- a flight put behind the line
-pub lined_up : (f : Flight) (xs ys : List Flight) → BringsNone f.packet.id (ordered flight_cmp (xs ++ ys))
-    → ordered flight_cmp (xs ++ (ys ++ f ∷ [])) ≡ place flight_cmp f (ordered flight_cmp (xs ++ ys))
-lined_up f xs ys h = ap (ordered flight_cmp) (sym (append_assoc xs ys (f ∷ [])))
-    ∙ ordered_last flight_cmp flight_total f (xs ++ ys) (apart f (xs ++ ys) h)
+-- a flight put into the line at its place
+pub put_in : (f : Flight) (fs : List Flight) (p : ℕ) → IsPlaceIn (place_of f) fs p → insert fs p f ≡ place flight_cmp f fs
+put_in f fs p h = inserted flight_cmp flight_total f fs p h.0 h.1
+
+pub line_rises : (f : Flight) (fs : List Flight) → Climbs fs → Climbs (place flight_cmp f fs)
+line_rises f fs h = rises_place flight_cmp flight_total f fs h
+
+pub lined_up : (f : Flight) (xs ys : List Flight) → Climbs ys → BringsNone f.packet.id (ordered flight_cmp (xs ++ ys))
+    → ordered flight_cmp (xs ++ place flight_cmp f ys) ≡ place flight_cmp f (ordered flight_cmp (xs ++ ys))
+lined_up f xs ys r h = ordered_among flight_cmp flight_total f xs ys r (apart_others f xs ys (apart f (xs ++ ys) h))
 
 -- a flight put among the others
 pub strayed : (f : Flight) (xs ys : List Flight) → BringsNone f.packet.id (ordered flight_cmp (xs ++ ys))

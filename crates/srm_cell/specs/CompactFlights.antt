@@ -1,7 +1,8 @@
 -- The flights that a line keeps in less room.
-use Rattle.std.specs.Prelude.{ℕ}
+use Rattle.std.specs.Prelude.{ℕ, ◌≤◌, ◌<◌, ◌+◌, ◌^◌}
 use Rattle.srm_net.specs.declared.packet.Body.{Body}
 use Rattle.srm_net.specs.declared.packet.Body.TheVariants as body
+use Rattle.srm_net.specs.declared.packet.Packet.{Packet}
 use Rattle.srm_cell.specs.declared.flight.Flight.{Flight}
 use Rattle.srm_cell.specs.declared.compact_body.CompactBody.{CompactBody}
 use Rattle.srm_cell.specs.declared.compact_body.CompactBody.TheVariants.{Drawop, Request, Repair, Session}
@@ -24,9 +25,14 @@ body_of (Session sender heard) = body.Session heard.value
 -- the flight that is kept so
 abbrev pub kept_flight : Inside → Flight
 kept_flight f = record {
-  arrival = f.arrival;
+  arrival = f.sent + f.travel;
   packet = record { id = record { sender = sender_of f.body; count = f.count }; sent = f.sent; body = body_of f.body };
 }
+
+-- a packet that arrives at this time has a short flight: it takes below 2^32 ticks, and the packet is one of its
+-- sender's first 2^32
+abbrev pub IsShort : Packet → ℕ → Type 0
+IsShort p at = (p.sent ≤ at) × (at < p.sent + 2 ^ 32) × (p.id.count < 2 ^ 32)
 
 -- the body is a session message's
 abbrev pub IsSession : Body → Type 0

@@ -1,7 +1,7 @@
 -- What is seen of a cell, and what its calls tell.
 use Rattle.std.specs.Prelude.{◌≡◌, ◌⊎◌, ℕ, List, Option, Some, None, Result, Ok, Err}
 use Rattle.std.specs.declared.dyn_box.DynBox.{DynBox}
-use Rattle.std.specs.Global.{Global}
+use Rattle.std.specs.Global.{Global, Box}
 use Rattle.srm_scenario.specs.declared.mark.Mark.{Mark}
 use Rattle.srm_member.specs.declared.due.Due.{Due}
 use Rattle.srm_member.specs.declared.exit.Exit.{Exit}
@@ -50,6 +50,11 @@ abbrev pub due_in : Option Record → Option Due
 due_in None = None
 due_in (Some r) = due_of r
 
+-- what a cell keeps of what its member ended with as it left
+abbrev pub exit_in : Option (Box Exit) → Option Exit
+exit_in None = None
+exit_in (Some b) = Some b.value
+
 -- what a cell's end tells: what the member ended with as it left, or else what it ends with now, unless it is gone
 abbrev pub TellsExit : PlainCell → Result Exit CellFault → Type 0
 TellsExit p (Ok x) = (p.exit ≡ Some x) ⊎ ((p.exit ≡ None) × EndsWith p.holds x)
@@ -73,9 +78,9 @@ module _ {X : Type 0} {H : X → Type 0} where
     pub sent : p.sent ≡ c.sent
     pub inbox : p.inbox ≡ c.inbox
     pub script : p.script ≡ c.script
-    pub exit : p.exit ≡ c.exit
+    pub exit : p.exit ≡ exit_in c.exit
     -- once the member has left there is no box
-    pub none_once_left : (x : Exit) → c.exit ≡ Some x → record_in f c.member ≡ None
+    pub none_once_left : (x : Exit) → exit_in c.exit ≡ Some x → record_in f c.member ≡ None
 
   -- the cell of member m is seen as this plain cell, where f is what is seen of its box. A cell whose member is gone
   -- may be seen as several plain cells: its box was dropped, and with it the member's part that never changes, so its

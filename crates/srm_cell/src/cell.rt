@@ -43,7 +43,8 @@ pub struct Cell {
     member: Option<Box<dyn Member>>,
     script: Script,
     sent: u64,
-    exit: Option<Exit>,
+    // in a box: it is not looked at before the end, and would stand between the parts of the next cell and those of this one
+    exit: Option<Box<Exit>>,
 }
 
 impl Cell {
@@ -151,7 +152,7 @@ impl Cell {
     {
         let Cell { member, exit, .. } = self;
         if let Some(exit) = exit {
-            return Ok(exit);
+            return Ok(Box::into_inner(exit));
         }
         let Some(mut member) = member else {
             return Err(CellFault::Spent);
@@ -256,6 +257,9 @@ impl Cell {
             Err(MemberFault::NoMemory) => Err(CellFault::NoMemory),
             Err(MemberFault::Spent) => Err(CellFault::Spent),
             Ok(exit) => {
+                let Ok(exit) = Box::new(alloc, exit) else {
+                    return Err(CellFault::NoMemory);
+                };
                 self.exit = Some(exit);
                 Ok(Row {
                     key,

@@ -1,6 +1,6 @@
 //! Flights as a line keeps them.
-ghost use Rattle.std.specs.Prelude.{◌≡◌, IfOk, IfErr};
-ghost use Rattle.srm_cell.specs.CompactFlights.{IsSession};
+ghost use Rattle.std.specs.Prelude.{◌≡◌, ◌↔◌, IsTrue, IfOk, IfErr};
+ghost use Rattle.srm_cell.specs.CompactFlights.{IsShort, IsSession};
 
 use crate::compact_body::CompactBody;
 use crate::flight::Flight;
@@ -8,18 +8,18 @@ use srm_net::packet::{Packet, PacketId};
 use std::alloc::{AllocError, Global};
 use std::marker::Model;
 
-/// A flight, in 40 bytes instead of 64. Contracts see it as the flight.
+/// A short flight, in 32 bytes instead of 64. Contracts see it as the flight.
 ///
 /// The lines of many members are together most of what the processor's caches have to hold.
 #[derive(Drop)]
 pub(crate) struct CompactFlight {
-    arrival: u64,
     sent: u64,
-    count: u64,
+    travel: u32,
+    count: u32,
     body: CompactBody,
 }
 
-const _: () = prove!(size_of::<CompactFlight>() == 40);
+const _: () = prove!(size_of::<CompactFlight>() == 32);
 
 impl Model for CompactFlight {
     ghost use Rattle.srm_cell.specs.declared.flight.Flight.{Flight};
@@ -29,22 +29,36 @@ impl Model for CompactFlight {
     ghost use Rattle.srm_cell.specs.CompactFlights.{kept_flight};
 
     ghost view = { kept_flight };
+
+    ghost use Rattle.std.specs.Prelude.{◌<◌, ◌+◌, ◌^◌};
+
+    // When it arrives is a number of ticks that a `u64` has.
+    ghost invariant = { λ f. f.sent + f.travel < 2 ^ 64 };
 }
 
 impl CompactFlight {
-    /// The flight of a copy of this packet. Only that of a session message allocates.
+    /// Whether the flight of a packet is a short one: it takes below 2^32 ticks, and its packet is one of the first 2^32 of its sender.
+    pub(crate) fn is_short(packet: &Packet, arrival: u64) -> bool
+        ensures { IsTrue result ↔ IsShort packet.now arrival }
+    {
+        const LIMIT: u64 = 4_294_967_296;
+        packet.sent <= arrival && arrival - packet.sent < LIMIT && packet.id.count < LIMIT
+    }
+
+    /// The short flight of a copy of this packet. Only that of a session message allocates.
     ///
     /// # Errors
     /// Memory was refused, of which only a session message's flight wants any.
     pub(crate) fn new(alloc: Global, packet: &Packet, arrival: u64) -> Result<Self, AllocError>
+        requires { IsShort packet.now arrival }
         ensures ok { IfOk result (λ f. f ≡ record { arrival = arrival; packet = packet.now }) }
         ensures memory { IfErr result (λ _. IsSession packet.now.body) }
     {
         let PacketId { sender, count } = packet.id;
         Ok(CompactFlight {
-            arrival,
             sent: packet.sent,
-            count,
+            travel: (arrival - packet.sent) as u32,
+            count: count as u32,
             body: CompactBody::new(alloc, sender, &packet.body)?,
         })
     }
@@ -55,9 +69,9 @@ impl CompactFlight {
     {
         let id = PacketId {
             sender: self.body.sender(),
-            count: self.count,
+            count: u64::from(self.count),
         };
-        (self.arrival, id)
+        (self.sent + u64::from(self.travel), id)
     }
 
     /// The flight itself. It does not allocate.

@@ -1,9 +1,10 @@
 //! The packets on their way to one member.
-ghost use Rattle.std.specs.Prelude.{◌≡◌, List, [], ◌∷◌, ◌++◌, MatchOption, OnOk, OnErr, slice_get, map};
+ghost use Rattle.std.specs.Prelude.{◌≡◌, ◌≤◌, List, [], ◌∷◌, MatchOption, OnOk, OnErr, length, insert, slice_get};
 ghost use Rattle.std.specs.Ordering.{is_lt};
 ghost use Rattle.std.specs.Option.{option_map};
-ghost use Rattle.srm_cell.specs.Flights.{with_flight, BringsNone, place_cmp};
-ghost use Rattle.srm_cell.specs.InboxLines.{leads, follows};
+ghost use Rattle.srm_net.specs.Orders.{Rises};
+ghost use Rattle.srm_cell.specs.Flights.{flight_cmp, with_flight, BringsNone, place_cmp};
+ghost use Rattle.srm_cell.specs.InboxLines.{leads, follows, goes_before, IsPlaceIn};
 
 use crate::compact_flight::CompactFlight;
 use crate::flight::Flight;
@@ -13,9 +14,13 @@ use std::alloc::{AllocError, Global};
 use std::collections::VecDeque;
 use std::marker::Model;
 
+// So many flights of a line are moved by one at most, to make room for another.
+const MOST_MOVED: usize = 8;
+
 /// The packets on their way to one member, by arrival, sender and count. Contracts see them as a list of flights.
 ///
-/// Packets are mostly accepted in this order, and then stand in a line. The others are kept in an ordered map.
+/// Packets are mostly accepted in this order or nearly so, and then stand in a line, if they have short flights. The others are kept
+/// in an ordered map.
 #[derive(Drop)]
 pub struct Inbox {
     line: VecDeque<CompactFlight>,
@@ -55,11 +60,12 @@ impl Inbox {
         ensures ok { OnOk result (self.new ≡ with_flight packet.now arrival self.old) }
         ensures err { OnErr result (self.new ≡ self.old) }
     {
-        if !is_in_turn(&self.line, arrival, packet.id) {
+        let place = place_in(&self.line, (arrival, packet.id));
+        if self.line.len() - place > MOST_MOVED || !CompactFlight::is_short(packet, arrival) {
             return self.strays.accept(packet, arrival);
         }
         let flight = CompactFlight::new(*self.line.allocator(), packet, arrival)?;
-        append(&mut self.line, flight)?;
+        put_at(&mut self.line, place, flight)?;
         Ok(())
     }
 
@@ -87,29 +93,49 @@ impl Inbox {
     }
 }
 
-// Whether the flight of a packet goes behind a whole line.
-fn is_in_turn(line: &VecDeque<CompactFlight>, arrival: u64, id: PacketId) -> bool
-    ensures { result ≡ follows (arrival, id) line.now.items }
+// How many flights of a line go before one with this arrival and packet.
+fn place_in(line: &VecDeque<CompactFlight>, flight: (u64, PacketId)) -> usize
+    requires { Rises flight_cmp line.now.items }
+    ensures { IsPlaceIn flight line.now.items result }
+{
+    if is_in_turn(line, flight) {
+        return line.len();
+    }
+    line.partition_point(
+        |other: &CompactFlight| -> bool
+            ensures { result ≡ goes_before flight other.now }
+        { is_before(other.place(), flight) },
+    )
+}
+
+// Whether a flight goes behind a whole line.
+fn is_in_turn(line: &VecDeque<CompactFlight>, flight: (u64, PacketId)) -> bool
+    ensures { result ≡ follows flight line.now.items }
 {
     match line.back() {
         None => true,
-        Some(last) => is_before(last.place(), (arrival, id)),
+        Some(last) => is_before(last.place(), flight),
     }
 }
 
-// Adds a flight behind a line.
+// Puts a flight into a line, at a place.
 //
 // A full line grows by a quarter, and not to the double: all its slots are used in turn, and those of many members that are too
 // many would take each other's place in the processor's caches.
-fn append(line: &mut VecDeque<CompactFlight>, flight: CompactFlight) -> Result<(), AllocError>
-    ensures ok { OnOk result (line.new.items ≡ line.old.items ++ flight ∷ []) }
+fn put_at(
+    line: &mut VecDeque<CompactFlight>,
+    place: usize,
+    flight: CompactFlight,
+) -> Result<(), AllocError>
+    requires { place ≤ length line.old.items }
+    ensures ok { OnOk result (line.new.items ≡ insert line.old.items place flight) }
     ensures err { OnErr result (line.new.items ≡ line.old.items) }
 {
     if line.len() == line.capacity() {
         let more = line.len() / 4 + 2;
         line.reserve_exact(more)?;
     }
-    match line.push_back(flight) {
+    match line.insert(place, flight) {
         Ok(()) => Ok(()),
         Err(_) => Err(AllocError),
     }

@@ -24,10 +24,10 @@ use srm_scenario::scenario::Scenario;
 use std::alloc::{AllocError, Global};
 
 // How many rows are handed on at a time, and for how many there is room from the start.
-const PIECE: usize = 256;
+const PIECE: usize = 32;
 
 // No run has so many pieces: 2^62 rows.
-const MOST_PIECES: u64 = 18_014_398_509_481_984;
+const MOST_PIECES: u64 = 144_115_188_075_855_872;
 
 /// A run of a scenario: the cells of all members, and the totals so far.
 #[derive(Drop)]

@@ -37,10 +37,10 @@ use std::sync::Wait;
 use std::thread::Threads;
 
 // How many bytes of a trace are gathered before they are written.
-const GATHERED: usize = 65_536;
+const GATHERED: usize = 8_192;
 
 /// Runs the members of a scenario with the engine that is asked for, and writes the report of the run. The report is that of the
-/// sequential run, whichever engine is asked for. The trace is written as its rows come, some 64 KiB at a time; another table at the
+/// sequential run, whichever engine is asked for. The trace is written as its rows come, some 8 KiB at a time; another table at the
 /// end.
 ///
 /// There is one box for each member, in order of their numbers, each holding its opening record for this scenario and one seed. After

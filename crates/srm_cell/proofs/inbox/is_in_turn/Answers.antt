@@ -6,6 +6,6 @@ use Rattle.srm_cell.proofs.inbox.is_in_turn.Goals as goal
 pub returns-in-Some : goal.returns-in-Some
 returns-in-Some c =
     c.is_before.ensures
-    ∙ ap (λ k. is_lt (place_cmp k (c.args.arrival, c.args.id))) c.place.ensures
-    ∙ last_follows (c.args.arrival, c.args.id) c.args.line.now.items c.args.line.now.len c.in-Some.last.now c.args.line.now.ok.0
+    ∙ ap (λ k. is_lt (place_cmp k c.args.flight)) c.place.ensures
+    ∙ last_follows c.args.flight c.args.line.now.items c.args.line.now.len c.in-Some.last.now c.args.line.now.ok.0
     (c.in-Some.ensures.variant.0 refl) c.in-Some.ensures.lookup

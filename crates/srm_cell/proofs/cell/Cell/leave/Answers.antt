@@ -1,6 +1,7 @@
-use Rattle.std.proofs.Common.{ap, sym, ◌∙◌, refl, None}
+use Rattle.std.proofs.Common.{ap, sym, subst, ◌∙◌, None, Some}
 use Rattle.srm_member.specs.declared.told.Told.TheVariants.{Parted}
 use Rattle.srm_cell.specs.Cells.{handle, word_of, about_of}
+use Rattle.srm_cell.specs.Views.{HasWork}
 use Rattle.srm_cell.proofs.Saying.{wanting_end, gone_has_none, ended_is_gone, left, held, empty, now_empty, no_record}
 use Rattle.srm_cell.proofs.cell.Cell.leave.Goals as goal
 
@@ -19,6 +20,11 @@ returns-in-Err-Spent g c = λ m e h k q.
     ap (λ x. handle e x e.cause) is ∙ (gone_has_none e _ e.cause
     (ended_is_gone _ _ (rw c.in-Err-Spent.field-0-is at c.in-Err-Spent.ensures)))
 
+pub returns-in_default-new : goal.returns-in_default-new
+returns-in_default-new g c = λ m e h k q.
+    let is = held _ c.args.self.now.member e.rest.holds h.holds c.in-Some.member c.in-Some.ensures.value in
+    subst HasWork (sym (left e _ _ c.in-Ok.exit is q c.in-Ok.ensures).1) tt
+
 pub returns : goal.returns
 returns g c = λ m e h k q.
     let is = held _ c.args.self.now.member e.rest.holds h.holds c.in-Some.member c.in-Some.ensures.value in
@@ -31,7 +37,7 @@ returns g c = λ m e h k q.
         about = ap (λ x. about_of x None) q i;
         told = Parted;
         lost =
-            sym c.new.ensures i;
+            sym c.new-in-Ok.ensures i;
         sent = None;
       }),
       record {
@@ -42,6 +48,6 @@ returns g c = λ m e h k q.
         sent = h.sent;
         inbox = h.inbox;
         script = h.script;
-        exit = refl;
+        exit = ap Some (sym c.in-Ok-new.ensures.ok);
       },
     )

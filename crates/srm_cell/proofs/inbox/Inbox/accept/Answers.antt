@@ -1,8 +1,8 @@
-use Rattle.std.proofs.Common.{◌≡◌, true, ◌++◌, ap, sym, subst, ◌∙◌}
+use Rattle.std.proofs.Common.{◌≡◌, ◌++◌, insert, ap, sym, subst, ◌∙◌}
 use Rattle.srm_net.specs.Orders.{place, ordered}
-use Rattle.srm_cell.specs.Flights.{flight_cmp, BringsNone, place_of}
-use Rattle.srm_cell.specs.InboxLines.{follows}
-use Rattle.srm_cell.proofs.InboxLines.{Climbs, brings_others, others_rise, other_added, rises_last, lined_up}
+use Rattle.srm_cell.specs.declared.flight.Flight.{Flight}
+use Rattle.srm_cell.specs.Flights.{flight_cmp, BringsNone}
+use Rattle.srm_cell.proofs.InboxLines.{Climbs, brings_others, others_rise, other_added, put_in, line_rises, lined_up}
 use Rattle.srm_cell.proofs.inbox.Inbox.accept.Goals as goal
 
 pub accept-requires : goal.accept-requires
@@ -16,25 +16,31 @@ invariant_of-self c = (
   c.self.invariant.1,
 )
 
-pub returns-then-not-is_in_turn-clause-ok : goal.returns-then-not-is_in_turn-clause-ok
-returns-then-not-is_in_turn-clause-ok c =
+pub returns-then-len-place-gt-MOST_MOVED-clause-ok : goal.returns-then-len-place-gt-MOST_MOVED-clause-ok
+returns-then-len-place-gt-MOST_MOVED-clause-ok c =
     other_added c.accept.result (record { arrival = c.args.arrival; packet = c.args.packet.now }) c.self.inside.strays c.accept.new.self
     c.self.inside.line.items c.args.self.now c.accept.ensures.ok c.self.view_is c.requires
 
-in_turn : (c : goal.In_ok-append) → follows (place_of c.in_ok-flight.flight) c.self.inside.line.items ≡ true
-in_turn c =
-    ap (λ f. follows (place_of f) c.self.inside.line.items) c.in_ok-flight.ensures.ok ∙ sym c.is_in_turn.ensures ∙ c.if-not-is_in_turn.false
+-- the line, the flight in its place
+with_it : (c : goal.In_ok-put_at) → c.put_at.new.line.items
+    ≡ place flight_cmp (record { arrival = c.args.arrival; packet = c.args.packet.now }) c.self.inside.line.items
+with_it c =
+    c.in_ok-put_at.ensures.ok
+    ∙ ap (λ f. insert c.self.inside.line.items c.place_in-place.result f) c.in_ok-flight.ensures.ok
+    ∙ put_in (record { arrival = c.args.arrival; packet = c.args.packet.now }) c.self.inside.line.items c.place_in-place.result
+    c.place_in-place.ensures
 
 pub invariant_of-self-2 : goal.invariant_of-self-2
 invariant_of-self-2 c = (
   c.self.invariant.0,
-  subst Climbs (sym c.in_ok-append.ensures.ok) (rises_last c.in_ok-flight.flight c.self.inside.line.items c.self.invariant.1 (in_turn c)),
+  subst Climbs (sym (with_it c)) (line_rises (record { arrival = c.args.arrival; packet = c.args.packet.now }) c.self.inside.line.items
+      c.self.invariant.1),
 )
 
 pub returns-clause-ok : goal.returns-clause-ok
 returns-clause-ok c =
-    let none : BringsNone c.in_ok-flight.flight.packet.id (ordered flight_cmp (c.self.inside.strays ++ c.self.inside.line.items)) =
-    rw (c.self.view_is, c.in_ok-flight.ensures.ok) c.requires in
-    ap (λ l. ordered flight_cmp (c.self.inside.strays ++ l)) c.in_ok-append.ensures.ok
-    ∙ lined_up c.in_ok-flight.flight c.self.inside.strays c.self.inside.line.items none
-    ∙ (λ i. place flight_cmp (c.in_ok-flight.ensures.ok i) (c.self.view_is i))
+    let f : Flight = record { arrival = c.args.arrival; packet = c.args.packet.now } in
+    ap (λ l. ordered flight_cmp (c.self.inside.strays ++ l)) (with_it c)
+    ∙ lined_up f c.self.inside.strays c.self.inside.line.items c.self.invariant.1
+    (subst (BringsNone f.packet.id) (sym c.self.view_is) c.requires)
+    ∙ ap (place flight_cmp f) c.self.view_is

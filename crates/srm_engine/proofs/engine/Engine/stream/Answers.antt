@@ -61,8 +61,8 @@ returns-in-Err-steps-clause-rows g c = λ seed h.
             (g.met.S.RowSink.part_more c.args.sink.now c.loop-left.sink c.loop-left.sink i.0.trace [] i.2
             (g.met.S.RowSink.part_none c.loop-left.sink)),
       ),
-      not_taken (λ b. (goal.Member-dyn g (b.vtable, b.value)).plain b.value) s 256 i.0 c.in-Err-steps.fault c.steps.new.self
-          (subst (λ (x : Setting). TellsSteps (λ b. (goal.Member-dyn g (b.vtable, b.value)).plain b.value) x 256 i.0
+      not_taken (λ b. (goal.Member-dyn g (b.vtable, b.value)).plain b.value) s 32 i.0 c.in-Err-steps.fault c.steps.new.self
+          (subst (λ (x : Setting). TellsSteps (λ b. (goal.Member-dyn g (b.vtable, b.value)).plain b.value) x 32 i.0
           (Err c.in-Err-steps.fault) c.steps.new.self) back t),
     )
 
@@ -90,10 +90,10 @@ returns-then-is_last-clause-rows g c = λ seed h.
     let is = c.loop-left.invariant.same in
     let i = c.loop-left.invariant.rows seed h in
     let back : setting_in c.loop-left.self seed ≡ s = λ t. setting_of (is.0 t).now (is.1 t).now seed in
-    let t = subst (λ (x : Setting). TellsSteps (λ b. (goal.Member-dyn g (b.vtable, b.value)).plain b.value) x 256 i.0
+    let t = subst (λ (x : Setting). TellsSteps (λ b. (goal.Member-dyn g (b.vtable, b.value)).plain b.value) x 32 i.0
     (Ok c.in-Ok.rows) c.steps.new.self) back
     (c.in-Ok.ensures.steps seed i.0 (subst (λ (x : Setting). IsReached x i.0) (sym back) i.1) i.3) in
-    let short : length c.in-Ok.rows.items < 256 = omega arith in (
+    let short : length c.in-Ok.rows.items < 32 = omega arith in (
       (
         t.0,
         record { reached = t.1; idle = t.5 short },
@@ -118,7 +118,7 @@ loop-left-preserved g c =
           let s = setting_in c.args.self.now seed in
           let i = c.loop-left.invariant.rows seed h in
           let back : setting_in c.loop-left.self seed ≡ s = λ t. setting_of (is.0 t).now (is.1 t).now seed in
-          let t = subst (λ (x : Setting). TellsSteps (λ b. (goal.Member-dyn g (b.vtable, b.value)).plain b.value) x 256 i.0
+          let t = subst (λ (x : Setting). TellsSteps (λ b. (goal.Member-dyn g (b.vtable, b.value)).plain b.value) x 32 i.0
           (Ok c.in-Ok.rows) c.steps.new.self) back
           (c.in-Ok.ensures.steps seed i.0 (subst (λ (x : Setting). IsReached x i.0) (sym back) i.1) i.3) in
           let room = i.4 in

@@ -13,7 +13,7 @@ invariant-loop-left g l = record {
   unfailed : g.S.RowSink.failures l.sink ≡ g.S.RowSink.failures l.fn.sink;
   rows : (seed : ℕ) → IsOpened (λ b. (goal.Member-dyn g (b.vtable, b.value)).plain b.value) seed l.fn.self
       → (w : World) × IsReached (setting_in l.fn.self seed) w × g.S.RowSink.took l.fn.sink w.trace l.sink
-      × Shows (λ b. (goal.Member-dyn g (b.vtable, b.value)).plain b.value) l.self w × (length w.trace + 256 * l.left ≤ 2 ^ 62);
+      × Shows (λ b. (goal.Member-dyn g (b.vtable, b.value)).plain b.value) l.self w × (length w.trace + 32 * l.left ≤ 2 ^ 62);
 }
 
 abbrev pub decreases-loop-left : goal.decreases-loop-left
