@@ -19,12 +19,12 @@ from dataclasses import dataclass
 from itertools import combinations
 from pathlib import Path
 
-from srm_scenarios import tree
-from srm_scenarios.cli import build, parser
-from srm_scenarios.losses import links_in_use
-from srm_scenarios.reading import read_scenario
-from srm_scenarios.scenario import Scenario
-from srm_scenarios.tables import read_trace
+from srm_lab import tree
+from srm_lab.cli import build, parser
+from srm_lab.losses import links_in_use
+from srm_lab.reading import read_scenario
+from srm_lab.scenario import Scenario
+from srm_lab.tables import read_trace
 
 HERE = Path(__file__).resolve().parent
 RULES = {

@@ -1,4 +1,4 @@
-# What stands beside the proved crates: generators of scenarios, sweeps, figures, a check against ns-2.
+# What stands beside the proved crates: the Python package, sweeps, figures, a check against ns-2.
 # All of it needs the packages in experiments/packages.txt, and Debian's own Python.
 PYTHON ?= /usr/bin/python3
 SRM_LAB ?= $(PROGRAM)
@@ -8,20 +8,20 @@ SRM_LAB ?= $(PROGRAM)
 experiments-packages: ## installs the Debian packages that experiments need (as root, after apt-get update)
 	apt-get install -y --no-install-recommends $$(cat experiments/packages.txt)
 
-check-experiments: $(SRM_LAB) ## runs a linter over the Python code of experiments, its tests, and every command of the tutorial
-	cd experiments && flake8 .
-	cd experiments && SRM_LAB=$(abspath $(SRM_LAB)) $(PYTHON) -m pytest -q -p no:cacheprovider
+check-experiments: $(SRM_LAB) ## runs a linter over the Python code, its tests, and every command of the tutorial
+	$(PYTHON) -m flake8 python experiments
+	cd python && SRM_LAB=$(abspath $(SRM_LAB)) $(PYTHON) -m pytest -q -p no:cacheprovider
 	$(PYTHON) experiments/check_tutorial.py $(SRM_LAB) docs/TUTORIAL.md
 
 .PHONY: picture
 picture: $(SRM_LAB) ## draws a run: make picture SCENARIO=examples/star-loss-at-one-member.toml > star.svg
 	@trace=$$(mktemp) && trap 'rm -f "$$trace"' EXIT && $(SRM_LAB) < $(SCENARIO) > "$$trace" && \
-		PYTHONPATH=experiments $(PYTHON) -m srm_scenarios.picture $(SCENARIO) "$$trace"
+		PYTHONPATH=python/src $(PYTHON) -m srm_lab.picture $(SCENARIO) "$$trace"
 
 CONFIG ?= config.yaml
 JOBS ?= $(shell nproc)
 # only one sweep at a time; the lock is the process's, so that a sweep that was killed leaves none behind
-SNAKEMAKE = cd experiments && mkdir -p results && flock --verbose --nonblock --conflict-exit-code 3 results/.lock \
+SNAKEMAKE = cd experiments && export PYTHONPATH=$(abspath python/src) && mkdir -p results && flock --verbose --nonblock --conflict-exit-code 3 results/.lock \
 	snakemake --nolock --rerun-incomplete --keep-going --show-failed-logs --configfile $(CONFIG)
 
 .PHONY: experiments experiments-slurm
@@ -64,7 +64,7 @@ dist: $(PROGRAM) ## packs program, man page, completions, examples and docs for 
 	@echo out/$(DIST).tar.gz
 
 compare-ns2: $(SRM_LAB) ## runs 260 scenarios in srm_lab and in ns-2, and explains each difference
-	cd experiments && $(PYTHON) -u compare_ns2.py $(abspath $(SRM_LAB)) --table results/compare-ns2.csv
+	cd experiments && PYTHONPATH=$(abspath python/src) $(PYTHON) -u compare_ns2.py $(abspath $(SRM_LAB)) --table results/compare-ns2.csv
 
 .PHONY: experiments-figures
 experiments-figures: ## puts the figures of the last `make experiments` where docs/EXPERIMENTS.md shows them

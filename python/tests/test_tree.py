@@ -3,7 +3,7 @@ import random
 
 import pytest
 
-from srm_scenarios import Scenario, ScenarioError, tree
+from srm_lab import Scenario, ScenarioError, tree
 
 GRAPHML = """<?xml version="1.0" encoding="UTF-8"?>
 <graphml xmlns="http://graphml.graphdrawing.org/xmlns">

@@ -1,6 +1,6 @@
 """A picture of a run: an SVG with time across and the members down, in order of their way from the source.
 
-usage: python3 -m srm_scenarios.picture SCENARIO TRACE [--from TICK] [--to TICK] > PICTURE.svg
+usage: python3 -m srm_lab.picture SCENARIO TRACE [--from TICK] [--to TICK] > PICTURE.svg
 """
 import argparse
 import math
@@ -233,7 +233,7 @@ def nice_step(span):
 
 
 def main(words=None):
-    parser = argparse.ArgumentParser(prog="python3 -m srm_scenarios.picture", description=__doc__.splitlines()[0])
+    parser = argparse.ArgumentParser(prog="python3 -m srm_lab.picture", description=__doc__.splitlines()[0])
     parser.add_argument("scenario")
     parser.add_argument("trace")
     parser.add_argument("--from", dest="begin", type=int, default=0, metavar="TICK", help="first tick shown")

@@ -1,5 +1,5 @@
 """Counting in a trace."""
-from srm_scenarios.tables import Row, read_trace, sent_by_name
+from srm_lab.tables import Row, read_trace, sent_by_name
 
 TRACE = """time,member,cause,ref,result,lost,sent
 0,0,join,-,in,0,-

@@ -3,9 +3,9 @@ import io
 
 import pytest
 
-from srm_scenarios import ScenarioError
-from srm_scenarios.gather import lost_operations, write_table
-from srm_scenarios.sweep import Experiment
+from srm_lab import ScenarioError
+from srm_lab.gather import lost_operations, write_table
+from srm_lab.sweep import Experiment
 
 LOSSES = """member,source,page,number,detected,recovered,delay
 1,0,0,0,11,15,4/2

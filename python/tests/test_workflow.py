@@ -7,7 +7,7 @@ from pathlib import Path
 
 import pytest
 
-HERE = Path(__file__).resolve().parents[1]
+HERE = Path(__file__).resolve().parents[2] / "experiments"
 PROGRAM = """#!/bin/sh
 # srm_lab --seed N --show TABLE: one loss, or a refusal where REFUSE says so
 [ "$2" = "$REFUSE" ] && { echo "refused: bad-drop 0" >&2; exit 1; }

@@ -36,7 +36,7 @@ class Experiment:
         return [(label, seed) for label in self.points for seed in self.seeds]
 
     def words(self, label, seed):
-        """The words of `python3 -m srm_scenarios` for a point and a seed."""
+        """The words of `srm-scenarios` for a point and a seed."""
         point = self.points[label]
         words = [point["kind"]]
         if point["kind"] == "file":

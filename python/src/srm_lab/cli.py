@@ -133,7 +133,7 @@ def parser():
     add("--no-session", action="store_true", help="no session message")
     add("--until", type=int, help="end of the run (default: time for 64 rounds of requests and repairs)")
     whole = argparse.ArgumentParser(
-        prog="python3 -m srm_scenarios", description=ABOUT, formatter_class=argparse.RawDescriptionHelpFormatter
+        prog="srm-scenarios", description=ABOUT, formatter_class=argparse.RawDescriptionHelpFormatter
     )
     kinds = whole.add_subparsers(dest="kind", required=True, metavar="KIND")
     for kind, told in (
@@ -160,9 +160,9 @@ def main(words=None):
     try:
         scenario = build(options)
         command = shlex.join(words).encode("unicode_escape").decode()  # one line, whatever the words have
-        scenario.comments = [f"made by: python3 -m srm_scenarios {command}"]
+        scenario.comments = [f"made by: srm-scenarios {command}"]
         sys.stdout.write(scenario.text())
     except ScenarioError as fault:
-        sys.stderr.write(f"srm_scenarios: {fault}\n")
+        sys.stderr.write(f"srm-scenarios: {fault}\n")
         return 1
     return 0

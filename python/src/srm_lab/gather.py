@@ -7,7 +7,7 @@ COLUMNS = ["losers", "open", "requests", "repairs", "least_delay", "greatest_del
 def lost_operations(losses, sent):
     """For each name that somebody lost, the columns above; times in ticks.
 
-    `losses` are the lines of `--show losses`, `sent` those of `python3 -m srm_scenarios.tables`. A delay is from
+    `losses` are the lines of `--show losses`, `sent` those of `python3 -m srm_lab.tables`. A delay is from
     detection to recovery, and the last member is the one that recovers last (of several the first by number).
     `open` counts the members that never recover; where there is one, no time is told.
     """

@@ -3,7 +3,7 @@ import tomllib
 
 import pytest
 
-from srm_scenarios.cli import main
+from srm_lab.cli import main
 
 
 @pytest.fixture
@@ -104,7 +104,7 @@ def test_file_of_edges(write, tmp_path):
 
 
 @pytest.mark.parametrize("words, told", [
-    ("chain --size 300", "size is 300"),
+    ("chain --size 1025", "size is 1025"),
     ("chain --size 5 --members 6", "--members is 6"),
     ("chain --size 5 --members some", "say a number or all"),
     ("chain --size 5 --source 5", "no node that may host"),
@@ -136,7 +136,7 @@ def test_file_of_edges(write, tmp_path):
 def test_what_the_format_has_no_room_for(words, told, capsys):
     assert main(words.split()) == 1
     text = capsys.readouterr()
-    assert text.out == "" and text.err.startswith("srm_scenarios: ") and text.err.count("\n") == 1
+    assert text.out == "" and text.err.startswith("srm-scenarios: ") and text.err.count("\n") == 1
     assert told in text.err
 
 

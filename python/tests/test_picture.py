@@ -5,11 +5,11 @@ from xml.etree import ElementTree
 
 import pytest
 
-from srm_scenarios import ScenarioError
-from srm_scenarios.history import History, Loss
-from srm_scenarios.picture import main, nice_step
-from srm_scenarios.reading import read_scenario
-from srm_scenarios.tables import read_trace
+from srm_lab import ScenarioError
+from srm_lab.history import History, Loss
+from srm_lab.picture import main, nice_step
+from srm_lab.reading import read_scenario
+from srm_lab.tables import read_trace
 
 ROOT = Path(__file__).resolve().parents[2]
 TRACES = sorted((ROOT / "examples").glob("*.trace.csv"))
