@@ -18,14 +18,18 @@ picture: $(SRM_LAB) ## draws a run: make picture SCENARIO=examples/star-loss-at-
 	@trace=$$(mktemp) && trap 'rm -f "$$trace"' EXIT && $(SRM_LAB) < $(SCENARIO) > "$$trace" && \
 		PYTHONPATH=python/src $(PYTHON) -m srm_lab.picture $(SCENARIO) "$$trace"
 
-CONFIG ?= config.yaml
+CONFIG ?= experiments/config.yaml
 JOBS ?= $(shell nproc)
-# only one sweep at a time; the lock is the process's, so that a sweep that was killed leaves none behind
-SNAKEMAKE = cd experiments && export PYTHONPATH=$(abspath python/src) && mkdir -p results && flock --verbose --nonblock --conflict-exit-code 3 results/.lock \
-	snakemake --nolock --rerun-incomplete --keep-going --show-failed-logs --configfile $(CONFIG)
+# a name is taken from where make was called, and where there is no such file, from experiments/
+CONFIG_FILE = $(firstword $(wildcard $(PWD)/$(CONFIG) $(abspath $(CONFIG)) $(abspath experiments/$(CONFIG))) $(CONFIG))
+# only one sweep at a time into one folder; the lock is the process's, so that a killed sweep leaves none behind
+SNAKEMAKE = cd experiments && export PYTHONPATH=$(abspath python/src) && \
+	results=$$($(PYTHON) check_config.py $(CONFIG_FILE)) && mkdir -p "$$results" && \
+	flock --verbose --nonblock --conflict-exit-code 3 "$$results/.lock" \
+	snakemake --nolock --rerun-incomplete --keep-going --show-failed-logs --configfile $(CONFIG_FILE)
 
 .PHONY: experiments experiments-slurm
-experiments: $(SRM_LAB) ## runs the sweeps of experiments/config.yaml, or CONFIG=.., with their tables and figures; what is there is kept
+experiments: $(SRM_LAB) ## runs the sweeps of experiments/config.yaml, or CONFIG=.., with their tables, figures and report; what is there is kept
 	$(SNAKEMAKE) --cores $(JOBS) --config program=$(abspath $(SRM_LAB))
 
 # fifty runs in a job, of which as many run side by side as the job has processors; the directory has to be one that all
