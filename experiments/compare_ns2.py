@@ -24,6 +24,7 @@ from srm_lab.cli import build, parser
 from srm_lab.link import Link
 from srm_lab.losses import links_in_use
 from srm_lab.parts import Draw, Drop, Member, Session
+from srm_lab.statistics import difference, interval
 from srm_lab.tables import read_trace
 
 HERE = Path(__file__).resolve().parent
@@ -299,21 +300,35 @@ def said(result):
     return f"{asks} request{'s' * (asks != 1)} and {answers} repair{'s' * (answers != 1)}, last recovery at {last:g}"
 
 
-def compare_star(programs, members=33, lost=40, seeds=5):
-    """Mean requests of a star with random timers; the time of both programs."""
-    print(f"star of {members} members, {members - 1} losers, {seeds} seeds of {lost} losses: "
-          "mean requests for a loss; seconds of processor time for all seeds")
-    print(f"{'C2':>4} {'srm_lab':>8} {'ns-2':>8} {'1+(G-2)/C2':>11} {'apart':>7} {'srm_lab s':>10} {'ns-2 s':>8}")
+STAR = """star of {members} members, {losers} losers, C1 = 2, D1 = 1, D2 = 0: mean requests for a loss, of seeds 1 to \
+{seeds} with {lost} losses each,
+and the difference, ns-2's less srm_lab's, each with its 95 per cent interval over seeds (Student's t; Welch's for the \
+difference).
+The two programs share no random words, though their seeds have the same numbers; in each, the runs of every C2 have \
+the same seeds.
+Seconds are of processor time for all seeds."""
+
+
+def compare_star(programs, members=33, lost=40, seeds=20):
+    """Mean requests of a star with random timers, with intervals over seeds; the time of both programs."""
+    print(STAR.format(members=members, losers=members - 1, seeds=seeds, lost=lost))
+    print(f"{'C2':>4} {'srm_lab':>24} {'ns-2':>24} {'1+(G-2)/C2':>11} {'difference':>24} {'srm_lab s':>10} "
+          f"{'ns-2 s':>8}")
     for c2 in (2, 4, 8, 16, 32):
         means, spent = [], []
         text = from_words(f"star --size {members + 1} --delay 1000 --draws {2 * lost} --drop-every 2 --no-session "
                           f"--drop-link adjacent --c1 2 --c2 {c2} --d1 1 --d2 0 --until 2000000")
         for run in (lambda seed: programs.ours(text, seed), lambda seed: programs.ns2(text, (), seed, (0, 2))):
             results = [run(seed) for seed in range(1, seeds + 1)]
-            means.append(sum(counts(result)[0] for result in results) / (seeds * lost))
+            means.append([counts(result)[0] / lost for result in results])
             spent.append(sum(result.seconds for result in results))
-        print(f"{c2:4} {means[0]:8.3f} {means[1]:8.3f} {1 + (members - 2) / c2:11.3f} {means[0] / means[1] - 1:+7.1%} "
-              f"{spent[0]:10.2f} {spent[1]:8.2f}")
+        print(f"{c2:4} {said_interval(interval(means[0])):>24} {said_interval(interval(means[1])):>24} "
+              f"{1 + (members - 2) / c2:11.3f} {said_interval(difference(*means)):>24} "
+              f"{spent[0]:10.2f} {spent[1]:8.2f}", flush=True)
+
+
+def said_interval(one):
+    return f"{one.mean:.3f} [{one.low:.3f}, {one.high:.3f}]"
 
 
 def main():

@@ -30,7 +30,7 @@ COLOURS = (BLUE, ORANGE, GREEN, PURPLE, "#e69f00", "#56b4e9", "#000000")
 THEORY = "#222222"
 STYLES = ("--", ":", "-.")
 MARKS = "osv^D<>"
-ROUND = [factor * 10**power for power in range(-1, 4) for factor in (1, 1.5, 2, 3, 5, 7)]
+ROUND = [factor * 10**power for power in range(-2, 4) for factor in (1, 1.5, 2, 3, 5, 7)]
 LABELS = {
     "size": "nodes", "members": "session size (members)", "c1": "C1", "c2": "C2", "d1": "D1", "d2": "D2",
     "drop_link": "link that loses", "delay": "delay of a link (ticks)", "back": "delay back of a link (ticks)",

@@ -5,6 +5,7 @@ import pandas
 import pytest
 
 from srm_lab import ScenarioError, interval, paired, run, scenario, summarise
+from srm_lab.statistics import difference
 
 
 def test_students_interval():
@@ -29,6 +30,13 @@ def test_one_value_has_no_interval():
 def test_intervals_that_are_refused(words, told):
     with pytest.raises(ScenarioError, match=told):
         interval([1, 2], **words)
+
+
+def test_welchs_interval_of_two_independent_samples():
+    # variances 1 and 4 of 3 and 3 values: standard error sqrt(5 / 3), 2.94 degrees of freedom, t 3.2184
+    one = difference([1, 2, 3], [4, 6, 8])
+    assert one.mean == 4
+    assert (one.low, one.high) == (pytest.approx(4 - 4.155, abs=2e-3), pytest.approx(4 + 4.155, abs=2e-3))
 
 
 def test_replications_are_seeds_and_not_losses():
