@@ -14,7 +14,8 @@ use Rattle.srm_report.specs.declared.standing.Standing.{Standing}
 use Rattle.srm_report.specs.declared.standing.Standing.TheVariants as standing
 use Rattle.srm_report.specs.declared.trace_sink.TraceSink.{TraceSink}
 use Rattle.srm_report.specs.Trace.{trace_of_rows}
-use Rattle.srm_report.specs.TraceSinks.{stage_at, text_next, IsText, stage_of, outlet_under, gathered_by, written_by, GrewBy, Wrote}
+use Rattle.srm_report.specs.Standings.{text_next, IsText, GrewBy}
+use Rattle.srm_report.specs.TraceSinks.{stage_at, stage_of, outlet_under, gathered_by, written_by, Wrote}
 use Rattle.srm_report.specs.TraceSinks.{PutsAll, PutsFront, PutsRows, PutsPart}
 use Rattle.srm_report.specs.SinkLaws.{all_more, front_more}
 use Rattle.srm_program.specs.declared.fault.LabFault.{LabFault}

@@ -11,7 +11,7 @@ use Rattle.srm_report.specs.Links.{links_table}
 use Rattle.srm_report.specs.Losses.{losses_table}
 use Rattle.srm_report.specs.Members.{members_table}
 use Rattle.srm_report.specs.Trace.{trace_of_rows}
-use Rattle.srm_report.specs.TraceSinks.{GrewBy}
+use Rattle.srm_report.specs.Standings.{GrewBy}
 use Rattle.srm_program.specs.declared.fault.LabFault.{LabFault}
 use Rattle.srm_program.specs.declared.fault.LabFault.TheVariants.{BadCut, BadWidth, ShareFull, NoMemory, CountFull}
 use Rattle.srm_program.specs.declared.fault.LabFault.TheVariants.{WriteFault}

@@ -9,6 +9,7 @@ pub mod Members
 pub mod MembersSinks
 pub mod NoRows
 pub mod Rows
+pub mod Standings
 pub mod Tables
 pub mod Trace
 pub mod TraceSinks
