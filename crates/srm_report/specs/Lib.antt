@@ -4,7 +4,10 @@ pub mod Devices
 pub mod Lines
 pub mod Links
 pub mod Losses
+pub mod LossesSinks
 pub mod Members
+pub mod MembersSinks
+pub mod NoRows
 pub mod Rows
 pub mod Tables
 pub mod Trace

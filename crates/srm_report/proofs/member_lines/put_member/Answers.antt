@@ -2,7 +2,7 @@ use Rattle.std.proofs.Common.{◌∙◌, ◌-◌, decimal, refl, ap}
 use Rattle.srm_report.specs.Members.{role_word}
 use Rattle.srm_report.specs.Rows.{time_text}
 use Rattle.srm_report.proofs.LineLemmas.{line_is_row, no_field, field, decimal_is_plain, role_is_plain, time_is_plain}
-use Rattle.srm_report.proofs.members.put_member.Goals as goal
+use Rattle.srm_report.proofs.member_lines.put_member.Goals as goal
 
 pub returns : goal.returns
 returns c =

@@ -6,8 +6,8 @@ use Rattle.srm_report.specs.Lines.{line_written}
 use Rattle.srm_report.specs.Losses.{delay_text, ratio}
 use Rattle.srm_report.specs.Rows.{time_text}
 use Rattle.srm_report.proofs.LineLemmas.{HasFields, line_is_row, field, decimal_is_plain, delay_is_plain, time_is_plain}
-use Rattle.srm_report.proofs.losses.put_loss.Goals.{in-None, in-Some}
-use Rattle.srm_report.proofs.losses.put_loss.Goals as goal
+use Rattle.srm_report.proofs.loss_lines.put_loss.Goals.{in-None, in-Some}
+use Rattle.srm_report.proofs.loss_lines.put_loss.Goals as goal
 
 pub returns : goal.returns
 returns c =
