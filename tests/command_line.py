@@ -194,6 +194,15 @@ class Windows(unittest.TestCase):
             with self.subTest(width=width):
                 self.assertEqual(ended([*WINDOW, "--width", width])[0], BAD_WIDTH)
 
+    def test_a_width_of_two_is_refused_where_a_link_takes_one_tick_in_either_direction(self):
+        there_in_one = (EXAMPLES / "two-way-delays.toml").read_bytes()
+        back_in_one = there_in_one.replace(b"delay = 1\nback = 3", b"delay = 3\nback = 1")
+        self.assertNotEqual(back_in_one, there_in_one)
+        for text in (there_in_one, back_in_one):
+            with self.subTest(text=text):
+                self.assertEqual(ended([*WINDOW, "--width", "2"], text)[0], BAD_WIDTH)
+                self.assertEqual(ended([*WINDOW, "--width", "1"], text)[0][0], 0)
+
     def test_windows_are_as_wide_as_a_link_unless_another_width_is_asked_for(self):
         text = chain(3, 7, 3)
         least = allocations(WINDOW, text)

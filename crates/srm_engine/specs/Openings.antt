@@ -8,7 +8,7 @@ use Rattle.srm_member.specs.Record.{Record, opening_record}
 use Rattle.srm_cell.specs.declared.cell.Cell.{Cell}
 use Rattle.srm_cell.specs.Setting.{setting_of, fixed_of}
 use Rattle.srm_engine.specs.declared.cells.Cells.{Cells}
-use Rattle.srm_engine.specs.World.{opening_cells}
+use Rattle.srm_model.specs.World.{opening_cells}
 use Rattle.srm_engine.specs.Seen.{AreCells, ShowCells}
 
 -- the opening records of n members from i on, for a scenario, its network and a seed

@@ -6,7 +6,7 @@ use Rattle.srm_scenario.specs.Plain.{PlainScenario}
 use Rattle.srm_member.specs.declared.row.Row.{Row}
 use Rattle.srm_member.specs.declared.exit.Exit.{Exit}
 use Rattle.srm_cell.specs.Setting.{setting_of}
-use Rattle.srm_engine.specs.World.{IsOutcome}
+use Rattle.srm_model.specs.World.{IsOutcome}
 use Rattle.srm_program.specs.declared.fault.LabFault.{LabFault}
 use Rattle.srm_program.specs.declared.fault.LabFault.TheVariants.{BadCut, BadWidth, ShareFull, NoMemory, CountFull, WriteFault}
 use Rattle.srm_program.specs.declared.options.Show.{Show}

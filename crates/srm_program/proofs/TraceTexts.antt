@@ -8,7 +8,7 @@ use Rattle.srm_member.specs.declared.row.Row.{Row}
 use Rattle.srm_cell.specs.Setting.{setting_of}
 use Rattle.srm_engine.specs.declared.sink.SinkFault.TheVariants as sink
 use Rattle.srm_engine.specs.declared.sink.Stage.TheVariants as stage
-use Rattle.srm_engine.specs.World.{World, IsReached, IsLast}
+use Rattle.srm_model.specs.World.{World, IsReached, IsLast}
 use Rattle.srm_engine.specs.Streams as streams
 use Rattle.srm_report.specs.declared.standing.Standing.{Standing}
 use Rattle.srm_report.specs.declared.standing.Standing.TheVariants as standing

@@ -6,7 +6,7 @@ use Rattle.srm_scenario.specs.Plain.{PlainScenario}
 use Rattle.srm_member.specs.declared.row.Row.{Row}
 use Rattle.srm_cell.specs.Crossings.{crossings}
 use Rattle.srm_cell.specs.Setting.{setting_of, traffic_of}
-use Rattle.srm_engine.specs.World.{World, IsReached, IsLast, RunMeetsFull}
+use Rattle.srm_model.specs.World.{World, IsReached, IsLast, RunMeetsFull}
 use Rattle.srm_report.specs.Links.{links_table}
 use Rattle.srm_report.specs.Losses.{losses_table}
 use Rattle.srm_report.specs.Members.{members_table}

@@ -9,7 +9,7 @@ use Rattle.srm_engine.specs.Groups.{AreGrouped, all_in}
 use Rattle.srm_engine.proofs.ExitsKept.{all_end}
 use Rattle.srm_engine.proofs.Opened.{length_opening}
 use Rattle.srm_engine.proofs.PhaseLemmas.{exits_are}
-use Rattle.srm_engine.specs.World.{opening}
+use Rattle.srm_model.specs.World.{opening}
 use Rattle.srm_engine.proofs.Stepping.{opening_reached, opening_trace}
 use Rattle.srm_engine.proofs.WindowStreamLemmas.{front_taken}
 use Rattle.srm_engine.proofs.WindowedLemmas.{opened, total_words}

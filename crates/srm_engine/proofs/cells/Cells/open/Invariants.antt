@@ -2,7 +2,7 @@ use Rattle.std.proofs.Common.{◌≡◌, ◌+◌, ℕ, length, map}
 use Rattle.std.specs.Vec.Iter.{into_iter_items}
 use Rattle.srm_net.specs.Network.{Network}
 use Rattle.srm_cell.specs.Setting.{setting_of}
-use Rattle.srm_engine.specs.World.{opening_cells}
+use Rattle.srm_model.specs.World.{opening_cells}
 use Rattle.srm_engine.specs.Seen.{AreCells}
 use Rattle.srm_engine.specs.Openings.{HoldOpeningRecords, records_from}
 use Rattle.srm_engine.proofs.cells.Cells.open.Given as goal
