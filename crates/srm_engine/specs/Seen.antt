@@ -42,6 +42,10 @@ module _ {X : Type 0} {H : X → Type 0} where
   AreNextTimes f cs ts =
       (length ts ≡ length cs) × ((ps : List PlainCell) → AreCells f cs ps → AreTimes ts ps)
 
+  -- of whatever these cells are seen as, they are seen so with their next times
+  abbrev pub IsIndexed : (DynBox X Global H → Record) → List (Cell X H) → Cells X H → Type 0
+  IsIndexed f cs indexed = (ps : List PlainCell) → AreCells f cs ps → ShowCells f indexed ps
+
   -- what a member's own step tells, where its cell was p among ps, and what it leaves
   abbrev pub TellsTake : (DynBox X Global H → Record) → ℕ → List PlainCell → StepOutcome Stepped
       → Result (Option Row) CellFault → List (Cell X H) → List (Option ℕ) → Type 0

@@ -5,7 +5,7 @@ use Rattle.srm_cell.specs.Setting.{setting_of}
 use Rattle.srm_model.specs.World.{opening_cells}
 use Rattle.srm_engine.specs.Seen.{AreCells}
 use Rattle.srm_engine.specs.Openings.{HoldOpeningRecords, records_from}
-use Rattle.srm_engine.proofs.cells.Cells.open.Given as goal
+use Rattle.srm_engine.proofs.cells.open_cells.Given as goal
 
 abbrev pub invariant-loop-member : goal.invariant-loop-member
 invariant-loop-member g l =

@@ -6,7 +6,7 @@ use Rattle.srm_model.specs.World.{opening_cells}
 use Rattle.srm_engine.specs.Seen.{AreCells, AreTimes}
 use Rattle.srm_engine.specs.Openings.{records_from}
 use Rattle.srm_engine.proofs.Opened.{none_seen, length_opening, record_first, none_left}
-use Rattle.srm_engine.proofs.cells.Cells.open.Goals as goal
+use Rattle.srm_engine.proofs.cells.open_cells.Goals as goal
 
 pub loop-member-init : goal.loop-member-init
 loop-member-init g c = let i = c.into_iter-member-iterator.ensures.into_iter_gives.0 in (
@@ -43,8 +43,8 @@ loop-member-preserved g c = (
       ),
 )
 
-pub returns : goal.returns
-returns g c = λ net seed h.
+pub returns-clause-opened : goal.returns-clause-opened
+returns-clause-opened g c = λ net seed h.
     let s = setting_of c.args.scenario.now net seed in
     let k = length c.loop-member.cells.items in
     let i = c.loop-member.invariant.2 net seed h in
@@ -54,13 +54,5 @@ returns g c = λ net seed h.
     (sym (ap (map (λ b. (goal.Member-dyn g (b.vtable, b.value)).plain b.value)) none) ∙ i.2) in
     let was = i.1 in
     let all : k ≡ s.traffic.members = omega arith in
-    let ps = opening_cells s s.traffic.members 0 in
-    let cells : AreCells (λ b. (goal.Member-dyn g (b.vtable, b.value)).plain b.value) c.loop-member.cells.items ps =
     subst (λ j. AreCells (λ b. (goal.Member-dyn g (b.vtable, b.value)).plain b.value) c.loop-member.cells.items (opening_cells s j 0)) all
-    i.3 in
-    record {
-      cells = cells;
-      times = subst (λ (ts : List (Option ℕ)). AreTimes ts ps) (sym c.in_ok-times.ensures)
-          (c.in_ok-next_times.ensures.1 ps (subst (λ cs. AreCells (λ b. (goal.Member-dyn g (b.vtable, b.value)).plain b.value) cs ps)
-          (sym c.as_slice.ensures.value) cells));
-    }
+    i.3
