@@ -1,0 +1,26 @@
+"""One table for an experiment: a row for each lost operation of each run."""
+import csv
+from collections.abc import Callable
+from typing import TextIO
+
+from .measures import OperationsTable
+from .sweep import Experiment
+
+NAME = ("source", "page", "number")
+COLUMNS = [column for column in OperationsTable.columns if column not in NAME]
+
+
+def write_table(experiment: Experiment, path_of: Callable[[str, int], str], out: TextIO) -> None:
+    """Writes the table of an experiment; `path_of(label, seed)` is where the operations of a run are.
+
+    Its columns are the experiment's keys, the seed, the operation as source/page/number, those of the table of
+    operations, and the experiment's own metrics.
+    """
+    keys = [name for name in experiment.config if name != "seeds"]
+    table = csv.DictWriter(out, [*keys, "seed", "operation", *COLUMNS, *experiment.metrics], lineterminator="\n")
+    table.writeheader()
+    for label, seed in experiment.runs():
+        with open(path_of(label, seed), newline="", encoding="utf-8") as operations:
+            for row in csv.DictReader(operations):
+                operation = "/".join(row.pop(part) for part in NAME)
+                table.writerow({**experiment.points[label], "seed": seed, "operation": operation, **row})

@@ -1,0 +1,44 @@
+"""The ranges of the scenario format (docs/FORMATS.md), one row for each of its versions."""
+from dataclasses import dataclass
+
+from .errors import ScenarioError
+
+
+@dataclass(frozen=True)
+class Limits:
+    """What one version of the format has room for, and whether it has links with two delays, and outages."""
+
+    nodes: int
+    members: int
+    two_way: bool
+    outages: bool
+    elements: int = 4096
+    pages: int = 256
+    page: int = 65_535
+    delay: int = 1_000_000
+    constant: int = 64_000
+    time: int = 2**40
+    ink: int = 2**32 - 1
+    count: int = 2**32 - 1
+    stream: int = 2**63 - 1
+    bytes: int = 1_048_576
+
+
+VERSIONS = {
+    1: Limits(nodes=256, members=256, two_way=False, outages=False),
+    2: Limits(nodes=1024, members=1024, two_way=True, outages=True),
+}
+NEWEST = VERSIONS[max(VERSIONS)]
+MOST_NODES = NEWEST.nodes
+MOST_DELAY = NEWEST.delay
+MOST_TIME = NEWEST.time
+MOST_SEED = NEWEST.stream
+
+
+def within(what: str, value: object, least: int, most: int) -> int:
+    """The value, if it is a whole number from least to most."""
+    if isinstance(value, bool) or not isinstance(value, int):
+        raise ScenarioError(f"{what} is {value!r}, and has to be a whole number")
+    if not least <= value <= most:
+        raise ScenarioError(f"{what} is {value}, and has to be {least} to {most}")
+    return value

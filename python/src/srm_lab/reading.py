@@ -1,0 +1,90 @@
+"""Scenario files: reading them."""
+import json
+import tomllib
+from pathlib import Path
+from typing import Any
+
+from . import tree as trees
+from .errors import ScenarioError
+from .form import check_keys
+from .limits import NEWEST
+from .link import Link
+from .parts import Draw, Drop, Member, Outage, Session
+from .rules import check_rules
+from .scenario import Scenario
+from .tree import Tree
+from .writing import NAMES
+
+
+def read_scenario(text: str | bytes) -> Scenario:
+    """The scenario in a text, which is refused where the program would refuse it: the first of its faults."""
+    raw = text.encode() if isinstance(text, str) else text
+    if len(raw) > NEWEST.bytes:
+        raise ScenarioError(f"the text has {len(raw)} bytes, and may have {NEWEST.bytes}")
+    try:
+        text = raw.decode("utf-8-sig")
+        table = tomllib.loads(text)
+    except (UnicodeDecodeError, tomllib.TOMLDecodeError) as fault:
+        raise ScenarioError(f"this is no TOML in UTF-8: {fault}") from None
+    comments = _comments(text)
+    return from_table(table, comments)
+
+
+def load_scenario(path: str | Path) -> Scenario:
+    """The scenario in a file."""
+    try:
+        return read_scenario(Path(path).read_bytes())
+    except OSError as fault:
+        raise ScenarioError(f"{path}: {fault.strerror}") from None
+    except ScenarioError as fault:
+        raise ScenarioError(f"{path}: {fault}", fault.part, fault.place, fault.key) from None
+
+
+def from_table(table: dict[str, Any], comments: list[str] | None = None) -> Scenario:
+    """The scenario of a file's keys and values, and of the comments in front of them."""
+    check_keys(table)
+    comments = comments or []
+    names = [json.loads(line.removeprefix(NAMES)) for line in comments if line.startswith(NAMES)]
+    try:
+        network = tree_of(table, tuple(names[0]) if names else ())
+    except ScenarioError as fault:
+        raise ScenarioError(f"the network: {fault}", "tree") from None
+    given = Scenario(
+        tree=network,
+        members=tuple(Member(**{**one, **({"pages": tuple(one["pages"])} if "pages" in one else {})})
+                      for one in table.get("member", [])),
+        until=table["until"],
+        **{name: table[name] for name in ("c1", "c2", "d1", "d2")},
+        draws=tuple(Draw(**one) for one in table.get("draw", [])),
+        sessions=tuple(Session(**one) for one in table.get("session", [])),
+        drops=tuple(Drop(**one) for one in table.get("drop", [])),
+        outages=tuple(Outage(one["link"], one["from"], one["to"]) for one in table.get("outage", [])),
+        version=table["version"],
+        comments=tuple(line for line in comments if not line.startswith(NAMES)),
+    )
+    check_rules(given)
+    return given
+
+
+def tree_of(table: dict[str, Any], names: tuple[str, ...] = ()) -> Tree:
+    """The network of a scenario's table."""
+    shape = table.get("topology")
+    if shape is None:
+        links = tuple(Link(one["a"], one["b"], one["delay"], one.get("back", one["delay"]))
+                      for one in table.get("link", []))
+        return Tree(table["nodes"], links, names=names if len(names) == table["nodes"] else ())
+    if shape == "tree":
+        made = trees.bounded_degree(table["size"], table["degree"], table["delay"])
+    else:
+        made = (trees.chain if shape == "chain" else trees.star)(table["size"], table["delay"])
+    return made.with_back(table["back"]) if "back" in table else made
+
+
+def _comments(text: str) -> list[str]:
+    """The lines of comment in front of a file's keys."""
+    found = []
+    for line in text.splitlines():
+        if not line.startswith("#"):
+            break
+        found.append(line[1:].removeprefix(" "))
+    return found

@@ -1,0 +1,161 @@
+"""Networks: trees of nodes and links."""
+import random
+from collections.abc import Callable, Iterable
+from dataclasses import dataclass, field, replace
+from functools import cached_property
+
+from .errors import ScenarioError
+from .limits import MOST_DELAY, MOST_NODES, within
+from .link import Link
+
+
+@dataclass(frozen=True)
+class Tree:
+    """A tree of nodes 0 to `nodes - 1`, whose links are numbered from 0.
+
+    `shorthand` has the keys that stand for the links in a scenario file, where the format has a name for the tree.
+    `names` has the name of each node, in order, where the tree comes from a graph with names.
+    """
+
+    nodes: int
+    links: tuple[Link, ...]
+    shorthand: dict = field(default_factory=dict)
+    names: tuple[str, ...] = ()
+
+    def __post_init__(self) -> None:
+        within("the number of nodes", self.nodes, 1, MOST_NODES)
+        if len(self.links) != self.nodes - 1:
+            raise ScenarioError(f"{self.nodes} nodes and {len(self.links)} links are no tree")
+        for place, link in enumerate(self.links):
+            within(f"an end of link {place}", link.a, 0, self.nodes - 1)
+            within(f"an end of link {place}", link.b, 0, self.nodes - 1)
+            within(f"the delay of link {place}", link.delay, 1, MOST_DELAY)
+            within(f"the delay back of link {place}", link.back, 1, MOST_DELAY)
+        if len(self.parents(0)) != self.nodes:
+            raise ScenarioError("the links join only some of the nodes, so they are no tree")
+
+    @property
+    def hub(self) -> int | None:
+        """The node that hosts no member, or None."""
+        return 0 if self.shorthand.get("topology") == "star" else None
+
+    @property
+    def is_even(self) -> bool:
+        """Whether every link takes as long in either direction."""
+        return all(link.is_even for link in self.links)
+
+    def name(self, node: int) -> str | int:
+        """The name of a node, which is its number where the tree has no names."""
+        return self.names[node] if self.names else node
+
+    def number(self, name: str | int) -> int:
+        """The number of the node of this name, or with this number."""
+        if str(name) in self.names:
+            return self.names.index(str(name))
+        if not self.names and isinstance(name, int) and 0 <= name < self.nodes:
+            return name
+        raise ScenarioError(f"there is no node {name!r}")
+
+    def hosts(self) -> list[int]:
+        """The nodes that may host a member, in rising order."""
+        return [node for node in range(self.nodes) if node != self.hub]
+
+    @cached_property
+    def _near(self) -> list[list[tuple[int, int]]]:
+        near: list[list[tuple[int, int]]] = [[] for _ in range(self.nodes)]
+        for place, link in enumerate(self.links):
+            near[link.a].append((link.b, place))
+            near[link.b].append((link.a, place))
+        return near
+
+    def neighbours(self) -> list[list[tuple[int, int]]]:
+        """For each node its (neighbour, link) pairs."""
+        return self._near
+
+    def parents(self, root: int) -> dict[int, tuple[int, int] | None]:
+        """For each node that the root reaches its (parent, link), breadth first; the root's is None."""
+        found: dict[int, tuple[int, int] | None] = {root: None}
+        order = [root]
+        for node in order:
+            for neighbour, link in self._near[node]:
+                if neighbour not in found:
+                    found[neighbour] = (node, link)
+                    order.append(neighbour)
+        return found
+
+    def ways(self, root: int) -> dict[int, list[int]]:
+        """For each node the links on the way from the root to it, in order."""
+        ways: dict[int, list[int]] = {}
+        for node, near in self.parents(root).items():
+            ways[node] = [] if near is None else [*ways[near[0]], near[1]]
+        return ways
+
+    def distances(self, root: int) -> dict[int, int]:
+        """For each node its distance from the root in ticks: the delays of the way there, each in its direction."""
+        distances: dict[int, int] = {}
+        for node, near in self.parents(root).items():
+            distances[node] = 0 if near is None else distances[near[0]] + self.links[near[1]].delay_from(near[0])
+        return distances
+
+    def round_trips(self, root: int) -> dict[int, int]:
+        """For each node the distance from the root to it and back, in ticks."""
+        trips: dict[int, int] = {}
+        for node, near in self.parents(root).items():
+            trips[node] = 0 if near is None else trips[near[0]] + sum(self.links[near[1]][2:])
+        return trips
+
+    def with_delays(self, least: int, most: int, rng: random.Random) -> "Tree":
+        """The same tree with a random delay from least to most at each link, the same in both directions."""
+        within("the least delay", least, 1, MOST_DELAY)
+        within("the greatest delay", most, least, MOST_DELAY)
+        return Tree(self.nodes, tuple(Link.both_ways(link.a, link.b, rng.randint(least, most)) for link in self.links),
+                    names=self.names)
+
+    def with_back(self, back: int | Callable[[], int]) -> "Tree":
+        """The same tree with this delay in the other direction of each link, or with what the function gives."""
+        if callable(back) and self.hub is not None:
+            raise ScenarioError("the format has one delay back for all links of a star")
+        shorthand = {**self.shorthand, "back": back} if self.shorthand and not callable(back) else {}
+        links = tuple(link._replace(back=back() if callable(back) else back) for link in self.links)
+        return replace(self, links=links, shorthand=shorthand)
+
+
+def _even(ends: Iterable[tuple[int, int]], delay: int) -> tuple[Link, ...]:
+    return tuple(Link.both_ways(a, b, delay) for a, b in ends)
+
+
+def chain(size: int, delay: int) -> Tree:
+    """Nodes in a row: link i joins nodes i and i + 1."""
+    within("size", size, 1, MOST_NODES)
+    links = _even(((node, node + 1) for node in range(size - 1)), delay)
+    return Tree(size, links, {"topology": "chain", "size": size, "delay": delay})
+
+
+def star(size: int, delay: int) -> Tree:
+    """A hub, node 0, which hosts nobody, with a link to each other node."""
+    within("size", size, 1, MOST_NODES)
+    links = _even(((0, node) for node in range(1, size)), delay)
+    return Tree(size, links, {"topology": "star", "size": size, "delay": delay})
+
+
+def bounded_degree(size: int, degree: int, delay: int) -> Tree:
+    """A tree, numbered breadth first, in which each inner node has this degree, as far as the nodes last."""
+    within("size", size, 1, MOST_NODES)
+    within("degree", degree, 2, MOST_NODES - 1)
+
+    def parent(node: int) -> int:
+        return 0 if node <= degree else 1 + (node - degree - 1) // (degree - 1)
+
+    links = _even(((parent(node), node) for node in range(1, size)), delay)
+    return Tree(size, links, {"topology": "tree", "size": size, "degree": degree, "delay": delay})
+
+
+def random_labelled(size: int, delay: int, rng: random.Random) -> Tree:
+    """A tree that each labelled tree of this size is with one and the same chance: that of a random Pruefer code."""
+    within("size", size, 1, MOST_NODES)
+    if size < 3:
+        return Tree(size, _even(((node, node + 1) for node in range(size - 1)), delay))
+    import networkx
+
+    graph = networkx.from_prufer_sequence([rng.randrange(size) for _ in range(size - 2)])
+    return Tree(size, _even(((min(a, b), max(a, b)) for a, b in sorted(graph.edges)), delay))

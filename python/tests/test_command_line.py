@@ -1,0 +1,172 @@
+"""Scenarios as the command line writes them."""
+import tomllib
+
+import pytest
+
+from srm_lab.cli import main
+
+
+@pytest.fixture
+def write(capsys):
+    """The table of the scenario that the words give."""
+    def run(words):
+        status = main(words.split())
+        text = capsys.readouterr()
+        assert status == 0, text.err
+        return tomllib.loads(text.out)
+    return run
+
+
+def test_tree_with_a_random_choice_of_members(write):
+    table = write("tree --size 100 --members 40 --seed 3 --drop-link adjacent")
+    assert (table["topology"], table["size"], table["degree"]) == ("tree", 100, 4)
+    assert len(table["member"]) == 40
+    nodes = [member["node"] for member in table["member"]]
+    assert nodes[0] == 0 and len(set(nodes)) == 40 and max(nodes) < 100
+    assert [member["role"] for member in table["member"]] == ["sender"] + 39 * ["receiver"]
+    assert table["drop"][0]["link"] < 4  # the root's own links are the first four
+
+
+def test_one_seed_gives_one_scenario(capsys):
+    texts = []
+    for seed in ("3", "3", "4"):
+        assert main(["random", "--size", "30", "--members", "9", "--drop-link", "random", "--seed", seed]) == 0
+        texts.append(capsys.readouterr().out.split("\n", 1)[1])
+    assert texts[0] == texts[1] != texts[2]
+
+
+def test_constants_are_written_in_thousandths(write):
+    table = write("chain --size 2 --c1 1.5 --c2 0 --d1 0.001 --d2 64")
+    assert [table[name] for name in ("c1", "c2", "d1", "d2")] == [1500, 0, 1, 64000]
+
+
+def test_constants_that_grow_with_the_session(write):
+    table = write("star --size 101 --d1 log10 --c2 sqrt")
+    assert (table["d1"], table["c2"]) == (2000, 10000)  # 100 members
+
+
+def test_streams_differ(write):
+    table = write("chain --size 200")
+    assert len({member["stream"] for member in table["member"]}) == 200
+
+
+def test_draws_every_so_many_ticks_and_a_session_message_after_them(write):
+    table = write("chain --size 2 --draws 4 --every 10 --start 5 --session-after 3")
+    assert [draw["at"] for draw in table["draw"]] == [5, 15, 25, 35]
+    assert table["session"] == [{"member": 0, "at": 38}]
+    assert table["until"] > 38
+
+
+def test_no_session_message(write):
+    assert "session" not in write("chain --size 2 --no-session")
+
+
+def test_every_third_packet_is_lost(write):
+    table = write("chain --size 4 --draws 9 --drop-link 1 --drop-every 3")
+    assert table["drop"] == [{"link": 1, "sender": 0, "count": count} for count in (0, 3, 6)]
+
+
+def test_named_packets_are_lost(write):
+    table = write("chain --size 4 --draws 9 --drop-link 2 --drop-packet 1 --drop-packet 8")
+    assert [drop["count"] for drop in table["drop"]] == [1, 8]
+
+
+def test_link_by_its_way_from_the_source(write):
+    assert write("chain --size 9 --drop-link hops:5")["drop"][0]["link"] == 4
+    assert write("chain --size 9 --source 8 --drop-link adjacent")["drop"][0]["link"] == 7
+
+
+def test_random_link_is_on_the_way_to_a_member(write):
+    links = {write(f"chain --size 9 --members 3 --seed {seed} --drop-link random")["drop"][0]["link"]
+             for seed in range(20)}
+    assert len(links) > 2
+    table = write("chain --size 2 --drop-link random")
+    assert table["drop"][0]["link"] == 0
+
+
+def test_random_source(write):
+    nodes = {write(f"chain --size 9 --source random --seed {seed}")["member"][0]["node"] for seed in range(20)}
+    assert len(nodes) > 3
+
+
+def test_random_delays(write):
+    table = write("tree --size 9 --delay 10 --delay-to 30 --seed 2")
+    assert "topology" not in table
+    assert all(10 <= link["delay"] <= 30 for link in table["link"])
+
+
+def test_file_of_edges(write, tmp_path):
+    path = tmp_path / "net.edges"
+    path.write_text("a b 3\nb c 4\n")
+    table = write(f"file {path} --drop-link 1")
+    assert table["nodes"] == 3
+    assert table["link"] == [{"a": 0, "b": 1, "delay": 3}, {"a": 1, "b": 2, "delay": 4}]
+
+
+@pytest.mark.parametrize("words, told", [
+    ("chain --size 1025", "size is 1025"),
+    ("chain --size 5 --members 6", "--members is 6"),
+    ("chain --size 5 --members some", "say a number or all"),
+    ("chain --size 5 --source 5", "no node that may host"),
+    ("star --size 5 --source 0", "no node that may host"),
+    ("star --size 1", "no node may host"),
+    ("star --size 5 --delay-to 2000", "one delay for all links of a star"),
+    ("chain --size 5 --delay 0", "delay of link 0 is 0"),
+    ("chain --size 5 --delay 9 --delay-to 8", "greatest delay is 8"),
+    ("chain --size 5 --c1 65", "65 in thousandths is 65000"),
+    ("chain --size 5 --c1 -1", "-1 in thousandths is -1000"),
+    ("chain --size 5 --c2 0.0005", "three decimals"),
+    ("chain --size 5 --c2 many", "no number"),
+    ("chain --size 5 --c2 nan", "three decimals"),
+    ("chain --size 5 --draws 4097", "--draws is 4097"),
+    ("chain --size 5 --drop-link 4", "there is no link 4"),
+    ("chain --size 5 --drop-link hops:5", "no link 5 links from the source"),
+    ("chain --size 5 --drop-link hops:far", "no number of links"),
+    ("chain --size 5 --drop-link near", "no choice of a link"),
+    ("chain --size 1 --drop-link random", "no link is on the way"),
+    ("chain --size 5 --drop-every 2", "need --drop-link"),
+    ("chain --size 5 --drop-link 0 --drop-every 0", "--drop-every is 0"),
+    ("chain --size 5 --drop-link 0 --drop-packet 2", "no draw 2 to lose"),
+    ("chain --size 5 --until 1099511627777", "`until` is 1099511627777"),
+    ("chain --size 5 --start -3", "the tick of a draw is -3"),
+    ("chain --size 5 --drop-link 0 --drop-packet -1 --any-packet", "number of a lost packet is -1"),
+    ("chain --size 5 --until 1", "draw 1: `at` is 1, which is not before the end of the run at 1"),
+    ("file nowhere.gml", "No such file"),
+])
+def test_what_the_format_has_no_room_for(words, told, capsys):
+    assert main(words.split()) == 1
+    text = capsys.readouterr()
+    assert text.out == "" and text.err.startswith("srm-scenarios: ") and text.err.count("\n") == 1
+    assert told in text.err
+
+
+def test_lost_packets_that_may_be_repairs_are_refused(capsys):
+    # draws 100 ticks apart on links of 10 ticks: the source may repair the first loss before it draws again
+    words = "chain --size 3 --delay 10 --draws 9 --every 100 --drop-link 0 --drop-every 4".split()
+    assert main(words) == 1
+    assert "packet 4 of the source is drawn at tick 400, and from tick 150 on" in capsys.readouterr().err
+    assert main([*words, "--any-packet"]) == 0
+
+
+def test_lost_packets_are_data_up_to_the_earliest_repair(srm_lab, capsys):
+    # detected at 1 + 10, asked at least 20 later, 10 back, and at least 10 for the repair timer: tick 51
+    words = "chain --size 3 --delay 10 --c1 2 --c2 0 --d1 1 --d2 0 --session-after 9".split()
+    words += ["--drop-link", "0", "--drop-packet", "0"]
+    assert main([*words, "--draws", "51", "--drop-packet", "50"]) == 0
+    trace = srm_lab(capsys.readouterr().out)
+    assert "51,0,answer,0/0/0,sent,0,0:51" in trace  # the packet after the 51 draws
+    assert main([*words, "--draws", "52", "--drop-packet", "51"]) == 1
+
+
+def test_the_program_takes_what_is_written_and_everyone_recovers(srm_lab, capsys):
+    for words in (
+        "chain --size 9 --drop-link hops:3",
+        "star --size 20 --drop-link adjacent --draws 20 --drop-every 2",
+        "tree --size 256 --members 30 --source random --drop-link random --seed 5 --draws 6 --drop-every 2",
+        "random --size 40 --drop-link random --seed 6 --delay 500 --delay-to 1500",
+        "chain --size 3 --draws 1 --drop-link 1",
+    ):
+        assert main(words.split()) == 0
+        lines = srm_lab(capsys.readouterr().out, "--show", "losses").splitlines()
+        assert len(lines) > 1, words
+        assert all(not line.endswith("-") for line in lines), words

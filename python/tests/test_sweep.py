@@ -1,0 +1,98 @@
+"""Experiments of a configuration, and their tables."""
+import io
+from pathlib import Path
+
+import pytest
+
+from srm_lab import ScenarioError
+from srm_lab.gather import write_table
+from srm_lab.sweep import Experiment, check_config
+
+ROOT = Path(__file__).resolve().parents[2]
+
+OPERATIONS = """source,page,number,losers,left,open,requests,repairs,\
+least_delay,greatest_delay,last_delay,last_round_trip
+0,0,0,2,0,0,2,1,4,7,7,4
+0,0,3,2,0,1,5,4,,,,
+"""
+DRAWS = ("lines", "over_session_size")
+
+
+def test_points_are_the_product_of_the_lists():
+    one = Experiment("e", {"kind": "star", "size": [5, 9], "c2": [0, 2], "d1": [1], "seeds": 3})
+    assert list(one.points) == ["size-5_c2-0", "size-5_c2-2", "size-9_c2-0", "size-9_c2-2"]
+    assert len(one.runs()) == 12
+    assert one.words("size-9_c2-2", 3) == ["star", "--size", "9", "--c2", "2", "--d1", "1", "--seed", "3"]
+
+
+def test_losses_are_every_second_packet():
+    one = Experiment("e", {"kind": "chain", "size": 3, "drop_link": "hops:1", "losses": 7, "seeds": [4]})
+    assert one.words("only", 4) == [
+        "chain", "--size", "3", "--drop-link", "hops:1", "--draws", "14", "--drop-every", "2", "--seed", "4"]
+
+
+def test_file_is_named_after_its_kind():
+    one = Experiment("e", {"kind": "file", "path": ["a.gml", "b.gml"], "seeds": 1})
+    assert one.words("path-b.gml", 1) == ["file", "b.gml", "--seed", "1"]
+
+
+def test_value_twice_is_refused():
+    with pytest.raises(ScenarioError, match="a list has a value twice"):
+        Experiment("e", {"kind": "star", "size": [5, 5], "seeds": 1})
+
+
+def test_experiment_without_seeds_is_refused():
+    with pytest.raises(ScenarioError, match="seeds have to be there"):
+        Experiment("e", {"kind": "star", "size": 5})
+
+
+def test_keys_that_repeat_and_flags():
+    one = Experiment("e", {"kind": "chain", "size": 3, "leave": ["2:0-100", "1:5 1:9-20"], "any_packet": True,
+                           "outage": "1:10-20 0:5-6", "back": 7, "loss": 0.5, "seeds": 1})
+    assert one.words("leave-1-5-1-9-20", 1) == [
+        "chain", "--size", "3", "--leave", "1:5", "--leave", "1:9-20", "--any-packet",
+        "--outage", "1:10-20", "--outage", "0:5-6", "--back", "7", "--loss", "0.5", "--seed", "1"]
+
+
+@pytest.mark.parametrize("change, told", [
+    ({"experiment": {}}, "there is no 'experiment'"),
+    ({"experiments": {"one": {"kind": "chain", "size": 3, "sizes": 4, "seeds": 1}}}, "no key 'sizes'"),
+    ({"experiments": {"one": {"kind": "ring", "size": 3, "seeds": 1}}}, "there is no kind 'ring'"),
+    ({"experiments": {"one": {"kind": "chain", "size": 3, "leave": "9:1-2", "seeds": 1}}}, "only: members is 9"),
+    ({"experiments": {"one": {"kind": "chain", "size": 3, "outage": "2:1-2", "seeds": 1}}}, "there is no link 2"),
+    ({"experiments": {"one": {"kind": "chain", "size": [3, 2000], "seeds": 1}}}, "size-2000: size is 2000"),
+    ({"figures": {"f": {"draw": "line", "of": ["one"]}}}, "figure f, draw: there is no 'line'"),
+    ({"figures": {"f": {"draw": "lines", "of": ["two"]}}}, "figure f, of: there is no 'two'"),
+    ({"figures": {"f": {"draw": "lines", "of": ["one"], "x": "size"}}}, "lines need x and y"),
+    ({"figures": {"f": {"draw": "lines", "of": ["one"], "x": "c3", "y": "ratio"}}}, "there is no 'c3'"),
+    ({"figures": {"f": {"of": ["one"]}}}, "draw and of have to be there"),
+])
+def test_configurations_that_are_refused(change, told):
+    config = {"experiments": {"one": {"kind": "chain", "size": 3, "seeds": 2}}, "figures": {}, **change}
+    with pytest.raises(ScenarioError, match=told):
+        check_config(config, DRAWS)
+
+
+def test_each_configuration_of_the_repository_is_accepted():
+    import figures
+    import yaml
+    for name in ("config.yaml", "small.yaml"):
+        check_config(yaml.safe_load((ROOT / "experiments" / name).read_text()), figures.DRAWS)
+
+
+def test_table_of_an_experiment(tmp_path):
+    one = Experiment("e", {"kind": "chain", "size": [2, 3], "seeds": 1, "metrics": {"own": "a.py:f"}})
+
+    def path_of(label, seed):
+        path = tmp_path / f"{label}-{seed}"
+        lines = OPERATIONS.splitlines()
+        path.write_text("\n".join([lines[0] + ",own", *(line + ",8" for line in lines[1:])]) + "\n")
+        return path
+
+    out = io.StringIO()
+    write_table(one, path_of, out)
+    assert out.getvalue().splitlines() == [
+        "kind,size,seed,operation,losers,left,open,requests,repairs,least_delay,greatest_delay,last_delay,"
+        "last_round_trip,own",
+        "chain,2,1,0/0/0,2,0,0,2,1,4,7,7,4,8", "chain,2,1,0/0/3,2,0,1,5,4,,,,,8",
+        "chain,3,1,0/0/0,2,0,0,2,1,4,7,7,4,8", "chain,3,1,0/0/3,2,0,1,5,4,,,,,8"]

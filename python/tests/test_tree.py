@@ -1,0 +1,154 @@
+"""Networks that are made by rule, at random or from files."""
+import random
+
+import pytest
+
+from srm_lab import Delays, Scenario, ScenarioError, graphs, tree
+from srm_lab.link import Link
+from srm_lab.parts import Member
+
+GRAPHML = """<?xml version="1.0" encoding="UTF-8"?>
+<graphml xmlns="http://graphml.graphdrawing.org/xmlns">
+  <key id="d0" for="edge" attr.name="delay" attr.type="int"/>
+  <graph edgedefault="undirected">
+    <node id="a"/><node id="b"/><node id="c"/>
+    <edge source="a" target="b"><data key="d0">7</data></edge>
+    <edge source="b" target="c"/>
+  </graph>
+</graphml>
+"""
+GML = "graph [\n node [ id 5 ]\n node [ id 6 ]\n node [ id 9 ]\n edge [ source 5 target 9 delay 4 ]\n" \
+      " edge [ source 9 target 6 ]\n]\n"
+
+
+def test_chain_joins_each_node_to_the_next():
+    assert tree.chain(4, 3).links == (Link(0, 1, 3, 3), Link(1, 2, 3, 3), Link(2, 3, 3, 3))
+
+
+def test_star_has_a_hub_without_a_member():
+    made = tree.star(4, 3)
+    assert made.links == (Link(0, 1, 3, 3), Link(0, 2, 3, 3), Link(0, 3, 3, 3))
+    assert made.hosts() == [1, 2, 3]
+
+
+def test_bounded_degree_tree_is_numbered_breadth_first():
+    # degree 3: the root has children 1, 2, 3; node 1 has 4 and 5; node 2 has 6 and 7
+    made = tree.bounded_degree(8, 3, 1)
+    assert [link.a for link in made.links] == [0, 0, 0, 1, 1, 2, 2]
+
+
+def test_inner_nodes_have_the_degree():
+    made = tree.bounded_degree(256, 4, 1)
+    degree = [len(near) for near in made.neighbours()]
+    # 4 links of the root and 3 further ones of each of 83 nodes are 253; the two last ones are one more node's
+    assert set(degree[:84]) == {4}
+    assert degree[84] == 3 and set(degree[85:]) == {1}
+
+
+def test_random_tree_of_a_seed_is_one_and_the_same():
+    first = tree.random_labelled(50, 2, random.Random(9))
+    assert first == tree.random_labelled(50, 2, random.Random(9))
+    assert first != tree.random_labelled(50, 2, random.Random(10))
+    assert first.nodes == 50 and len(first.links) == 49
+
+
+@pytest.mark.parametrize("size", [1, 2, 3])
+def test_small_random_trees(size):
+    assert len(tree.random_labelled(size, 1, random.Random(0)).links) == size - 1
+
+
+def test_each_labelled_tree_of_three_nodes_comes_up():
+    middles = set()
+    for seed in range(40):
+        near = tree.random_labelled(3, 1, random.Random(seed)).neighbours()
+        middles.add(max(range(3), key=lambda node: len(near[node])))
+    assert middles == {0, 1, 2}
+
+
+def test_ways_and_distances_from_a_node():
+    made = tree.Tree(4, (Link(2, 0, 5, 5), Link(0, 1, 7, 7), Link(3, 2, 1, 1)))
+    assert made.ways(1) == {1: [], 0: [1], 2: [1, 0], 3: [1, 0, 2]}
+    assert made.distances(1) == {1: 0, 0: 7, 2: 12, 3: 13}
+
+
+def test_random_delays_are_in_range_and_leave_the_shape():
+    made = tree.bounded_degree(40, 4, 1).with_delays(10, 20, random.Random(1))
+    assert made.shorthand == {}
+    assert all(10 <= delay <= 20 for _, _, delay, _ in made.links)
+    assert len({delay for _, _, delay, _ in made.links}) > 1
+
+
+def test_graphml_with_a_delay(tmp_path):
+    path = tmp_path / "three.graphml"
+    path.write_text(GRAPHML)
+    assert graphs.from_file(path, Delays(default=2)).links == (Link(0, 1, 7, 7), Link(1, 2, 2, 2))
+
+
+def test_gml_nodes_are_numbered_in_their_order(tmp_path):
+    path = tmp_path / "three.gml"
+    path.write_text(GML)
+    assert graphs.from_file(path, Delays(default=2)).links == (Link(0, 2, 4, 4), Link(1, 2, 2, 2))
+
+
+def test_list_of_edges(tmp_path):
+    path = tmp_path / "three.edges"
+    path.write_text("# a comment\nhome office 12\n\noffice lab  # without a delay\n")
+    assert graphs.from_file(path, Delays(default=2)).links == (Link(0, 1, 12, 12), Link(1, 2, 2, 2))
+
+
+@pytest.mark.parametrize("text, told", [
+    ("a b\nb c\nc a\n", "are no tree"),
+    ("a b\nc d\n", "are no tree"),
+    ("a b\na b\nc d\n", "no tree"),
+    ("a a\n", "are no tree"),
+    ("a b 1.5\n", "no whole number"),
+    ("a b soon\n", "no number"),
+    ("a b 0\n", "delay of link 0 is 0"),
+    ("a b 1000001\n", "delay of link 0 is 1000001"),
+    ("a b 1 2\n", "line 1 has 4 words"),
+    ("", "number of nodes is 0"),
+    ("".join(f"0 {node}\n" for node in range(1, 1025)), "room for 1024"),
+])
+def test_lists_of_edges_that_are_refused(tmp_path, text, told):
+    path = tmp_path / "graph.edges"
+    path.write_text(text)
+    with pytest.raises(ScenarioError, match=told):
+        graphs.from_file(path, Delays(default=1))
+
+
+@pytest.mark.parametrize("name, text, told", [
+    ("none.gml", None, "No such file"),
+    ("wrong.gml", "graph {", "cannot be read"),
+    ("wrong.graphml", "<graphml", "cannot be read"),
+    ("graph.dot", "graph { a -- b }", "has to end in"),
+])
+def test_files_that_are_refused(tmp_path, name, text, told):
+    if text is not None:
+        (tmp_path / name).write_text(text)
+    with pytest.raises(ScenarioError, match=told):
+        graphs.from_file(tmp_path / name, Delays(default=1))
+
+
+@pytest.mark.parametrize("made, version", [
+    (tree.chain(256, 1), 1), (tree.chain(257, 1), 2), (tree.chain(1024, 1), 2),
+    (tree.bounded_degree(9, 255, 1), 1), (tree.bounded_degree(9, 256, 1), 2),
+])
+def test_a_scenario_names_the_first_version_that_has_room(made, version):
+    made = Scenario(made, (Member(1, "sender", 1),))
+    assert made.table()["version"] == version
+
+
+@pytest.mark.parametrize("make, told", [
+    (lambda: tree.chain(0, 1), "size is 0"),
+    (lambda: tree.chain(1025, 1), "size is 1025"),
+    (lambda: tree.star(1300, 1), "size is 1300"),
+    (lambda: tree.chain(2, 0), "delay of link 0 is 0"),
+    (lambda: tree.bounded_degree(9, 1, 1), "degree is 1"),
+    (lambda: tree.bounded_degree(9, 1024, 1), "degree is 1024"),
+    (lambda: tree.random_labelled(1025, 1, random.Random(0)), "size is 1025"),
+    (lambda: tree.Tree(3, (Link(0, 1, 1, 1), Link(1, 0, 1, 1))), "no tree"),
+    (lambda: tree.Tree(2, (Link(0, 2, 1, 1),)), "end of link 0 is 2"),
+])
+def test_networks_that_are_refused(make, told):
+    with pytest.raises(ScenarioError, match=told):
+        make()
