@@ -127,10 +127,10 @@ def test_file_of_edges(write, tmp_path):
     ("chain --size 5 --drop-every 2", "need --drop-link"),
     ("chain --size 5 --drop-link 0 --drop-every 0", "--drop-every is 0"),
     ("chain --size 5 --drop-link 0 --drop-packet 2", "no draw 2 to lose"),
-    ("chain --size 5 --until 1099511627777", "until is 1099511627777"),
+    ("chain --size 5 --until 1099511627777", "`until` is 1099511627777"),
     ("chain --size 5 --start -3", "the tick of a draw is -3"),
     ("chain --size 5 --drop-link 0 --drop-packet -1 --any-packet", "number of a lost packet is -1"),
-    ("chain --size 5 --until 1", "a draw at tick 1 is not before the end"),
+    ("chain --size 5 --until 1", "draw 1: `at` is 1, which is not before the end of the run at 1"),
     ("file nowhere.gml", "No such file"),
 ])
 def test_what_the_format_has_no_room_for(words, told, capsys):

@@ -1,5 +1,8 @@
-"""Counting in a trace."""
-from srm_lab.tables import Row, read_trace, sent_by_name
+"""Reading a trace."""
+import pytest
+
+from srm_lab import ScenarioError
+from srm_lab.tables import Row, read_trace
 
 TRACE = """time,member,cause,ref,result,lost,sent
 0,0,join,-,in,0,-
@@ -20,5 +23,12 @@ def test_rows_are_read():
     assert len(rows) == 9
 
 
-def test_requests_and_repairs_of_each_operation():
-    assert sent_by_name(read_trace(TRACE.splitlines())) == {(0, 0, 0): (2, 1), (0, 0, 1): (0, 0)}
+@pytest.mark.parametrize("text, told", [
+    ("", "this is no trace"),
+    ("link,data\n", "its first line is 'link,data'"),
+    (TRACE + "19,1,ask\n", "line 11 is no line of a trace: '19,1,ask'"),
+    (TRACE + "x,1,ask,0/0/0,sent,0,-\n", "line 11 is no line of a trace"),
+])
+def test_what_is_no_trace(text, told):
+    with pytest.raises(ScenarioError, match=told):
+        list(read_trace(text.splitlines()))

@@ -3,7 +3,9 @@ import random
 
 import pytest
 
-from srm_lab import Scenario, ScenarioError, tree
+from srm_lab import Delays, Scenario, ScenarioError, graphs, tree
+from srm_lab.link import Link
+from srm_lab.parts import Member
 
 GRAPHML = """<?xml version="1.0" encoding="UTF-8"?>
 <graphml xmlns="http://graphml.graphdrawing.org/xmlns">
@@ -20,19 +22,19 @@ GML = "graph [\n node [ id 5 ]\n node [ id 6 ]\n node [ id 9 ]\n edge [ source 5
 
 
 def test_chain_joins_each_node_to_the_next():
-    assert tree.chain(4, 3).links == ((0, 1, 3), (1, 2, 3), (2, 3, 3))
+    assert tree.chain(4, 3).links == (Link(0, 1, 3, 3), Link(1, 2, 3, 3), Link(2, 3, 3, 3))
 
 
 def test_star_has_a_hub_without_a_member():
     made = tree.star(4, 3)
-    assert made.links == ((0, 1, 3), (0, 2, 3), (0, 3, 3))
+    assert made.links == (Link(0, 1, 3, 3), Link(0, 2, 3, 3), Link(0, 3, 3, 3))
     assert made.hosts() == [1, 2, 3]
 
 
 def test_bounded_degree_tree_is_numbered_breadth_first():
     # degree 3: the root has children 1, 2, 3; node 1 has 4 and 5; node 2 has 6 and 7
     made = tree.bounded_degree(8, 3, 1)
-    assert [parent for parent, _, _ in made.links] == [0, 0, 0, 1, 1, 2, 2]
+    assert [link.a for link in made.links] == [0, 0, 0, 1, 1, 2, 2]
 
 
 def test_inner_nodes_have_the_degree():
@@ -64,7 +66,7 @@ def test_each_labelled_tree_of_three_nodes_comes_up():
 
 
 def test_ways_and_distances_from_a_node():
-    made = tree.Tree(4, ((2, 0, 5), (0, 1, 7), (3, 2, 1)))
+    made = tree.Tree(4, (Link(2, 0, 5, 5), Link(0, 1, 7, 7), Link(3, 2, 1, 1)))
     assert made.ways(1) == {1: [], 0: [1], 2: [1, 0], 3: [1, 0, 2]}
     assert made.distances(1) == {1: 0, 0: 7, 2: 12, 3: 13}
 
@@ -72,26 +74,26 @@ def test_ways_and_distances_from_a_node():
 def test_random_delays_are_in_range_and_leave_the_shape():
     made = tree.bounded_degree(40, 4, 1).with_delays(10, 20, random.Random(1))
     assert made.shorthand == {}
-    assert all(10 <= delay <= 20 for _, _, delay in made.links)
-    assert len({delay for _, _, delay in made.links}) > 1
+    assert all(10 <= delay <= 20 for _, _, delay, _ in made.links)
+    assert len({delay for _, _, delay, _ in made.links}) > 1
 
 
 def test_graphml_with_a_delay(tmp_path):
     path = tmp_path / "three.graphml"
     path.write_text(GRAPHML)
-    assert tree.from_file(path, 2).links == ((0, 1, 7), (1, 2, 2))
+    assert graphs.from_file(path, Delays(default=2)).links == (Link(0, 1, 7, 7), Link(1, 2, 2, 2))
 
 
 def test_gml_nodes_are_numbered_in_their_order(tmp_path):
     path = tmp_path / "three.gml"
     path.write_text(GML)
-    assert tree.from_file(path, 2).links == ((0, 2, 4), (1, 2, 2))
+    assert graphs.from_file(path, Delays(default=2)).links == (Link(0, 2, 4, 4), Link(1, 2, 2, 2))
 
 
 def test_list_of_edges(tmp_path):
     path = tmp_path / "three.edges"
     path.write_text("# a comment\nhome office 12\n\noffice lab  # without a delay\n")
-    assert tree.from_file(path, 2).links == ((0, 1, 12), (1, 2, 2))
+    assert graphs.from_file(path, Delays(default=2)).links == (Link(0, 1, 12, 12), Link(1, 2, 2, 2))
 
 
 @pytest.mark.parametrize("text, told", [
@@ -111,7 +113,7 @@ def test_lists_of_edges_that_are_refused(tmp_path, text, told):
     path = tmp_path / "graph.edges"
     path.write_text(text)
     with pytest.raises(ScenarioError, match=told):
-        tree.from_file(path, 1)
+        graphs.from_file(path, Delays(default=1))
 
 
 @pytest.mark.parametrize("name, text, told", [
@@ -124,7 +126,7 @@ def test_files_that_are_refused(tmp_path, name, text, told):
     if text is not None:
         (tmp_path / name).write_text(text)
     with pytest.raises(ScenarioError, match=told):
-        tree.from_file(tmp_path / name, 1)
+        graphs.from_file(tmp_path / name, Delays(default=1))
 
 
 @pytest.mark.parametrize("made, version", [
@@ -132,7 +134,7 @@ def test_files_that_are_refused(tmp_path, name, text, told):
     (tree.bounded_degree(9, 255, 1), 1), (tree.bounded_degree(9, 256, 1), 2),
 ])
 def test_a_scenario_names_the_first_version_that_has_room(made, version):
-    made = Scenario(made, [(1, "sender")], until=9, c1=0, c2=0, d1=0, d2=0)
+    made = Scenario(made, (Member(1, "sender", 1),))
     assert made.table()["version"] == version
 
 
@@ -144,8 +146,8 @@ def test_a_scenario_names_the_first_version_that_has_room(made, version):
     (lambda: tree.bounded_degree(9, 1, 1), "degree is 1"),
     (lambda: tree.bounded_degree(9, 1024, 1), "degree is 1024"),
     (lambda: tree.random_labelled(1025, 1, random.Random(0)), "size is 1025"),
-    (lambda: tree.Tree(3, ((0, 1, 1), (1, 0, 1))), "no tree"),
-    (lambda: tree.Tree(2, ((0, 2, 1),)), "end of link 0 is 2"),
+    (lambda: tree.Tree(3, (Link(0, 1, 1, 1), Link(1, 0, 1, 1))), "no tree"),
+    (lambda: tree.Tree(2, (Link(0, 2, 1, 1),)), "end of link 0 is 2"),
 ])
 def test_networks_that_are_refused(make, told):
     with pytest.raises(ScenarioError, match=told):

@@ -1,124 +1,163 @@
 """The command line: writes one scenario to standard output."""
 import argparse
-import math
 import random
 import shlex
 import sys
-from decimal import Decimal, InvalidOperation
+from collections.abc import Callable, Sequence
+from dataclasses import replace
 
-from . import losses, tree
+from . import graphs, losses, tree
 from .errors import ScenarioError
-from .limits import MOST_TIME, within
-from .scenario import Scenario
+from .graphs import Delays
+from .limits import MOST_TIME, NEWEST, within
+from .parts import Draw, Drop, Member, Session
+from .scenario import Scenario, Ticks, place_members, thousandths
+from .tree import Tree
 
 ABOUT = """Writes a scenario file of srm_lab to standard output.
 
 Member 0 is the source: it draws, and its packets are lost. The other members are receivers. Times and delays are in
 ticks, constants are plain numbers (2 is written as 2000 thousandths). All random choices are those of --seed.
 """
+DELAY = 1000
 
 
-def constant(text, members):
-    """A timer constant in thousandths: of a number with at most three decimals, or of log10 or sqrt of the members."""
-    if text in ("log10", "sqrt"):
-        value = math.log10(members) if text == "log10" else math.sqrt(members)
-        return round(1000 * value)
-    try:
-        value = Decimal(text) * 1000
-    except InvalidOperation:
-        raise ScenarioError(f"{text!r} is no number, log10 or sqrt") from None
-    if not value.is_finite() or value != int(value):
-        raise ScenarioError(f"{text} has more than three decimals, and the format has thousandths")
-    return within(f"{text} in thousandths", int(value), 0, 64_000)
-
-
-def network(options, rng):
+def network(options: argparse.Namespace, rng: random.Random) -> Tree:
     """The network of the command line."""
-    made = {
-        "chain": lambda: tree.chain(options.size, options.delay),
-        "star": lambda: tree.star(options.size, options.delay),
-        "tree": lambda: tree.bounded_degree(options.size, options.degree, options.delay),
-        "random": lambda: tree.random_labelled(options.size, options.delay, rng),
-        "file": lambda: tree.from_file(options.path, options.delay, options.delay_attribute),
-    }[options.kind]()
-    if options.delay_to is None:
-        return made
-    if made.hub is not None:
-        raise ScenarioError("the format has one delay for all links of a star: leave out --delay-to")
-    return made.with_delays(options.delay, options.delay_to, rng)
+    delay = DELAY if options.delay is None else options.delay
+    kinds: dict[str, Callable[[], Tree]] = {
+        "chain": lambda: tree.chain(options.size, delay),
+        "star": lambda: tree.star(options.size, delay),
+        "tree": lambda: tree.bounded_degree(options.size, options.degree, delay),
+        "random": lambda: tree.random_labelled(options.size, delay, rng),
+        "file": lambda: graph_of(options),
+    }
+    made = kinds[options.kind]()
+    if options.delay_to is not None:
+        if made.hub is not None:
+            raise ScenarioError("the format has one delay for all links of a star: leave out --delay-to")
+        made = made.with_delays(delay, options.delay_to, rng)
+    if options.back_to is not None:
+        least = within("--back", options.back, 1, options.back_to)
+        made = made.with_back(lambda: rng.randint(least, options.back_to))
+    elif options.back is not None:
+        made = made.with_back(options.back)
+    return made
 
 
-def members_of(options, made, rng):
+def graph_of(options: argparse.Namespace) -> Tree:
+    """The network in the file of the command line."""
+    delays = Delays(options.delay_attribute, options.delay, options.factor, options.back_attribute)
+    root = None if options.source in ("first", "random") else options.source
+    try:
+        return graphs.from_file(options.path, delays, options.spanning_tree, root)
+    except ScenarioError as fault:
+        raise ScenarioError(str(fault).replace("no default delay is given", "--delay gives none")
+                            .replace("spanning_tree=\"shortest\" or \"minimum\"", "--spanning-tree shortest or minimum")
+                            .replace("give a factor", "give a --factor")) from None
+
+
+def members_of(options: argparse.Namespace, made: Tree, rng: random.Random) -> list[int]:
     """The members' nodes, the source's first and the others in rising order."""
-    hosts = made.hosts()
-    if options.source == "first":
-        source = hosts[0] if hosts else None
-    elif options.source == "random":
-        source = rng.choice(hosts) if hosts else None
-    elif options.source.isdigit() and int(options.source) in hosts:
-        source = int(options.source)
-    else:
-        raise ScenarioError(f"--source {options.source}: no node that may host a member")
-    if source is None:
-        raise ScenarioError("no node may host a member")
-    others = [node for node in hosts if node != source]
-    if options.members != "all":
-        if not options.members.isdigit():
-            raise ScenarioError(f"--members {options.members}: say a number or all")
-        count = within("--members", int(options.members), 1, len(hosts))
-        others = sorted(rng.sample(others, count - 1))
-    return [source, *others]
+    if options.members != "all" and not options.members.isdigit():
+        raise ScenarioError(f"--members {options.members}: say a number or all")
+    count = options.members
+    if count != "all":
+        count = within("--members", int(count), 1, max(1, len(made.hosts())))
+    source = options.source
+    try:
+        return place_members(made, count, int(source) if source.isdigit() and not made.names else source, rng)
+    except ScenarioError as fault:
+        if source in ("first", "random"):
+            raise
+        raise ScenarioError(f"--source {source}: no node that may host a member") from fault
 
 
-def until_of(scenario):
-    """An end that leaves time for 64 rounds of asking and repairing after the last draw or session message."""
-    distances = scenario.tree.distances(scenario.members[0][0])
-    farthest = 2 * max(distances[node] for node, _ in scenario.members)
-    constants = scenario.c1 + scenario.c2 + scenario.d1 + scenario.d2
-    last = max([*scenario.draws, *scenario.sessions], default=0)
-    return min(MOST_TIME, last + farthest + 64 * (2 + constants // 1000 + 1) * max(1, farthest) + 1)
+def ticks(text: str) -> Ticks:
+    """A tick, or a range of them as FIRST-LAST."""
+    first, dash, last = text.partition("-")
+    if not first.isdigit() or dash and not last.isdigit():
+        raise ScenarioError(f"{text!r} is no tick and no range of ticks, FIRST-LAST")
+    return (int(first), int(last)) if dash else int(first)
 
 
-def build(options):
+def counted(option: str, text: str) -> tuple[int, Ticks]:
+    """How many members, and when: N:TICK or N:FIRST-LAST."""
+    count, colon, when = text.partition(":")
+    if not colon or not count.isdigit():
+        raise ScenarioError(f"{option} {text}: say N:TICK or N:FIRST-LAST")
+    return int(count), ticks(when)
+
+
+def outage(text: str) -> tuple[int, int, int]:
+    """A link, and the first and the last tick of an outage: LINK:FIRST-LAST."""
+    link, colon, when = text.partition(":")
+    range_ = ticks(when) if colon else 0
+    if not link.isdigit() or not isinstance(range_, tuple):
+        raise ScenarioError(f"--outage {text}: say LINK:FIRST-LAST")
+    return int(link), *range_
+
+
+def build(options: argparse.Namespace) -> Scenario:
     """The scenario of a parsed command line."""
     rng = random.Random(options.seed)
     made = network(options, rng)
     nodes = members_of(options, made, rng)
-    within("--draws", options.draws, 0, 4096)
+    within("--draws", options.draws, 0, NEWEST.elements)
     within("--every", options.every, 1, MOST_TIME)
-    draws = [options.start + place * options.every for place in range(options.draws)]
-    sessions = [] if options.no_session or not draws else [draws[-1] + options.session_after]
+    draws = [within("the tick of a draw", options.start + place * options.every, 0, MOST_TIME)
+             for place in range(options.draws)]
+    after = [] if options.no_session or not draws else [draws[-1] + options.session_after]
+    constants = {name: thousandths(getattr(options, name), len(nodes)) for name in ("c1", "c2", "d1", "d2")}
     scenario = Scenario(
         tree=made,
-        members=[(node, "sender" if place == 0 else "receiver") for place, node in enumerate(nodes)],
-        until=MOST_TIME,
-        **{name: constant(getattr(options, name), len(nodes)) for name in ("c1", "c2", "d1", "d2")},
-        draws=draws,
-        sessions=sessions,
+        members=tuple(Member(node, "receiver" if place else "sender", place + 1) for place, node in enumerate(nodes)),
+        draws=tuple(Draw(0, 0, number, at) for number, at in enumerate(draws)),
+        sessions=tuple(Session(0, at) for at in after),
+        until=options.until, **constants, seed=options.seed,
     )
-    if options.drop_link is not None:
-        link = losses.choose_link(options.drop_link, made, nodes[0], nodes[1:], rng)
-        if options.drop_every is not None:
-            counts = range(0, options.draws, within("--drop-every", options.drop_every, 1, 4096))
-        else:
-            counts = options.drop_packet or [0]
-        scenario.drops = [(link, count) for count in counts]
-        if not options.any_packet:
-            losses.check_that_data_is_lost(scenario, link)
-    elif options.drop_every is not None or options.drop_packet:
-        raise ScenarioError("--drop-every and --drop-packet need --drop-link")
-    scenario.until = until_of(scenario) if options.until is None else options.until
+    return disturbed(with_drops(scenario, options, rng), options).check()
+
+
+def with_drops(scenario: Scenario, options: argparse.Namespace, rng: random.Random) -> Scenario:
+    """The scenario with the packets that one link drops."""
+    if options.drop_link is None:
+        if options.drop_every is not None or options.drop_packet:
+            raise ScenarioError("--drop-every and --drop-packet need --drop-link")
+        return scenario
+    link = losses.link_of(options.drop_link, scenario, rng)
+    counts: Sequence[int] = options.drop_packet or [0]
+    if options.drop_every is not None:
+        counts = range(0, options.draws, within("--drop-every", options.drop_every, 1, NEWEST.elements))
+    for count in counts:
+        within("the number of a lost packet", count, 0, NEWEST.count)
+    scenario = replace(scenario, drops=tuple(Drop(link, 0, count) for count in counts))
+    if not options.any_packet:
+        losses.check_that_data_is_lost(scenario, link)
     return scenario
 
 
-def parser():
-    """The command line's parser."""
+def disturbed(scenario: Scenario, options: argparse.Namespace) -> Scenario:
+    """The scenario with its members that join late and leave, its outages, and its losses at random."""
+    for text in options.join:
+        scenario = scenario.join(*counted("--join", text))
+    for text in options.leave:
+        scenario = scenario.leave(*counted("--leave", text))
+    for text in options.outage:
+        scenario = scenario.outage(*outage(text))
+    return scenario if options.loss is None else scenario.lose(rate=options.loss)
+
+
+def common_options() -> argparse.ArgumentParser:
+    """The options of every kind of network."""
     common = argparse.ArgumentParser(add_help=False)
     add = common.add_argument
-    add("--delay", type=int, default=1000, help="delay of each link (default 1000)")
+    add("--delay", type=int, help=f"delay of each link (default {DELAY}; of a file: of edges that have none)")
     add("--delay-to", type=int, metavar="MOST", help="random delays from --delay to this")
+    add("--back", type=int, metavar="DELAY", help="delay of each link in the other direction (default the same)")
+    add("--back-to", type=int, metavar="MOST", help="random delays in the other direction, from --back to this")
     add("--members", default="all", metavar="N", help="how many members, the source among them, or all (default)")
-    add("--source", default="first", metavar="NODE", help="the source's node: a number, first (default) or random")
+    add("--source", default="first", metavar="NODE", help="the source's node: number, name, first (default) or random")
     add("--seed", type=int, default=0, help="seed of all random choices (default 0)")
     for name, default in (("c1", "2"), ("c2", "2"), ("d1", "1"), ("d2", "1")):
         add(f"--{name}", default=default, metavar="X", help=f"number, log10 or sqrt of the members (default {default})")
@@ -129,9 +168,22 @@ def parser():
     add("--drop-packet", type=int, action="append", metavar="COUNT", help="lose this packet; repeatable (default 0)")
     add("--drop-every", type=int, metavar="K", help="lose packets 0, K, 2 K and so on")
     add("--any-packet", action="store_true", help="the lost packets may be repairs of the source")
+    add("--loss", type=float, metavar="RATE", help="each link loses each of the source's first packets, as many as "
+        "draws, with this probability")
+    add("--outage", action="append", default=[], metavar="LINK:FIRST-LAST", help="a link is out; repeatable")
+    add("--join", action="append", default=[], metavar="N:FIRST-LAST", help="N receivers join in these ticks; "
+        "repeatable")
+    add("--leave", action="append", default=[], metavar="N:FIRST-LAST", help="N receivers leave in these ticks; "
+        "repeatable")
     add("--session-after", type=int, default=1, metavar="TICKS", help="session message after the last draw (default 1)")
     add("--no-session", action="store_true", help="no session message")
     add("--until", type=int, help="end of the run (default: time for 64 rounds of requests and repairs)")
+    return common
+
+
+def parser() -> argparse.ArgumentParser:
+    """The command line's parser."""
+    common = common_options()
     whole = argparse.ArgumentParser(
         prog="srm-scenarios", description=ABOUT, formatter_class=argparse.RawDescriptionHelpFormatter
     )
@@ -146,22 +198,24 @@ def parser():
         one.add_argument("--size", type=int, required=True, help="how many nodes, a star's hub among them")
         if kind == "tree":
             one.add_argument("--degree", type=int, default=4, help="degree of inner nodes (default 4)")
-    told = "a tree in GraphML (.graphml), GML (.gml) or a list of edges (.edges, .edgelist, .txt)"
+    told = "a graph in GraphML (.graphml), GML (.gml) or a list of edges (.edges, .edgelist, .txt)"
     one = kinds.add_parser("file", help=told, description=told, parents=[common])
     one.add_argument("path")
     one.add_argument("--delay-attribute", default="delay", metavar="NAME", help="an edge's delay (default delay)")
+    one.add_argument("--back-attribute", metavar="NAME", help="an edge's delay in the other direction")
+    one.add_argument("--factor", type=float, default=1, metavar="X", help="ticks for each unit of these delays")
+    one.add_argument("--spanning-tree", choices=graphs.SPANNING, help="the tree that is taken of a graph that is none")
     return whole
 
 
-def main(words=None):
+def main(words: Sequence[str] | None = None) -> int:
     """Writes the scenario of the words, or says on standard error why there is none and ends with status 1."""
     words = sys.argv[1:] if words is None else words
     options = parser().parse_args(words)
     try:
         scenario = build(options)
         command = shlex.join(words).encode("unicode_escape").decode()  # one line, whatever the words have
-        scenario.comments = [f"made by: srm-scenarios {command}"]
-        sys.stdout.write(scenario.text())
+        sys.stdout.write(replace(scenario, comments=(f"made by: srm-scenarios {command}",)).text())
     except ScenarioError as fault:
         sys.stderr.write(f"srm-scenarios: {fault}\n")
         return 1

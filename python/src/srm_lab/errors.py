@@ -1,5 +1,24 @@
-"""The one exception of this package."""
+"""The exceptions of this package."""
 
 
 class ScenarioError(ValueError):
-    """What was asked for cannot be written as a scenario file; the message says why."""
+    """What was asked for is no scenario, no trace of it, or cannot be written; the message names the key and the rule.
+
+    `part` is the part of the format that is at fault (`top`, `link`, `member`, `draw`, `session`, `drop` or `outage`),
+    `place` the element's place in it, `key` the key; each is None where the fault is of no such part.
+    """
+
+    def __init__(self, told: str, part: str | None = None, place: int | None = None, key: str | None = None):
+        super().__init__(told)
+        self.part, self.place, self.key = part, place, key
+
+
+class RefusedError(RuntimeError):
+    """The program refused a run. The message is the program's line; `status` is its exit status."""
+
+    def __init__(self, line: str, status: int):
+        super().__init__(line)
+        self.line, self.status = line, status
+
+    def __reduce__(self) -> tuple:
+        return RefusedError, (self.line, self.status)

@@ -1,24 +1,41 @@
-"""The ranges of the scenario format (docs/FORMATS.md)."""
+"""The ranges of the scenario format (docs/FORMATS.md), one row for each of its versions."""
+from dataclasses import dataclass
+
 from .errors import ScenarioError
 
-MOST_NODES_OF_VERSION_1 = 256
-MOST_NODES = 1024
-MOST_MEMBERS = 1024
-MOST_ELEMENTS = 4096
-MOST_DELAY = 1_000_000
-MOST_CONSTANT = 64_000
-MOST_TIME = 2**40
-MOST_BYTES = 1_048_576
-MOST_SEED = 2**63 - 1
-DEGREES = range(2, MOST_NODES)
+
+@dataclass(frozen=True)
+class Limits:
+    """What one version of the format has room for, and whether it has links with two delays, and outages."""
+
+    nodes: int
+    members: int
+    two_way: bool
+    outages: bool
+    elements: int = 4096
+    pages: int = 256
+    page: int = 65_535
+    delay: int = 1_000_000
+    constant: int = 64_000
+    time: int = 2**40
+    ink: int = 2**32 - 1
+    count: int = 2**32 - 1
+    stream: int = 2**63 - 1
+    bytes: int = 1_048_576
 
 
-def version_for(nodes, degree=0):
-    """The first version of the format that has room for so many nodes, and for a tree of this degree."""
-    return 1 if nodes <= MOST_NODES_OF_VERSION_1 and degree < MOST_NODES_OF_VERSION_1 else 2
+VERSIONS = {
+    1: Limits(nodes=256, members=256, two_way=False, outages=False),
+    2: Limits(nodes=1024, members=1024, two_way=True, outages=True),
+}
+NEWEST = VERSIONS[max(VERSIONS)]
+MOST_NODES = NEWEST.nodes
+MOST_DELAY = NEWEST.delay
+MOST_TIME = NEWEST.time
+MOST_SEED = NEWEST.stream
 
 
-def within(what, value, least, most):
+def within(what: str, value: object, least: int, most: int) -> int:
     """The value, if it is a whole number from least to most."""
     if isinstance(value, bool) or not isinstance(value, int):
         raise ScenarioError(f"{what} is {value!r}, and has to be a whole number")

@@ -1,8 +1,17 @@
-"""Which link loses packets, and whether the lost packets are known to be data."""
+"""Which links lose packets, and whether the lost packets are known to be data."""
+import random
+from collections.abc import Callable, Iterable
+from typing import TYPE_CHECKING
+
 from .errors import ScenarioError
+from .parts import Drop
+from .tree import Tree
+
+if TYPE_CHECKING:
+    from .scenario import Scenario
 
 
-def links_in_use(tree, source, nodes):
+def links_in_use(tree: Tree, source: int, nodes: Iterable[int]) -> dict[int, int]:
     """For each link on the way from the source to another member: how many links from the source its far end is."""
     ways = tree.ways(source)
     depth = {}
@@ -12,7 +21,15 @@ def links_in_use(tree, source, nodes):
     return depth
 
 
-def choose_link(choice, tree, source, nodes, rng):
+def link_of(choice: str, given: "Scenario", rng: random.Random) -> int:
+    """The link of a choice (`choose_link`), seen from member 0."""
+    if not given.members:
+        raise ScenarioError("there is no member 0, from which the link could be chosen")
+    source, *others = [member.node for member in given.members]
+    return choose_link(choice, given.tree, source, others, rng)
+
+
+def choose_link(choice: str, tree: Tree, source: int, nodes: list[int], rng: random.Random) -> int:
     """The link of a choice: a number, `adjacent`, `random`, or `hops:H` (its far end is H links from the source)."""
     depth = links_in_use(tree, source, nodes)
     if choice.isdigit():
@@ -35,49 +52,66 @@ def choose_link(choice, tree, source, nodes, rng):
     return rng.choice(wanted)
 
 
-def losers(tree, source, nodes, link):
+def bernoulli(given: "Scenario", rate: float, link: int | None, rng: random.Random,
+              packets: Callable[[int], int]) -> list[Drop]:
+    """Each packet of each sender, dropped by each link on its ways (or by one link) with a probability."""
+    drops: list[Drop] = []
+    nodes = [member.node for member in given.members]
+    for sender, member in enumerate(given.members):
+        used = sorted(links_in_use(given.tree, member.node, nodes)) if member.role == "sender" else []
+        for one in used:
+            if link in (None, one):
+                drops += [Drop(one, sender, count) for count in range(packets(sender)) if rng.random() < rate]
+    return drops
+
+
+def losers(tree: Tree, source: int, nodes: Iterable[int], link: int) -> list[int]:
     """The nodes among `nodes` that are behind the link, seen from the source."""
     ways = tree.ways(source)
     return [node for node in nodes if link in ways[node]]
 
 
-def earliest_repair(scenario, link):
+def earliest_repair(given: "Scenario", link: int) -> int | None:
     """The first tick at which the source may send a repair of its own, or None where nobody can ask for one.
 
-    It is after the first draw or session message that shows the first loss came to the nearest loser, that one's
-    shortest request timer, the request's way back, and the source's shortest repair timer.
+    It is after the first draw or session message that shows the first loss came to a loser, that one's shortest
+    request timer, the request's way back, and the source's shortest repair timer.
     """
-    source = scenario.members[0][0]
-    behind = losers(scenario.tree, source, [node for node, _ in scenario.members[1:]], link)
-    first = min((count for _, count in scenario.drops), default=None)
+    source, *others = [member.node for member in given.members]
+    behind = losers(given.tree, source, others, link)
+    first = min((drop.count for drop in given.drops), default=None)
     if not behind or first is None:
         return None
-    later = [*scenario.draws[first + 1:], *scenario.sessions]
+    later = [*(draw.at for draw in given.draws[first + 1:]), *(session.at for session in given.sessions)]
     if not later:
         return None
-    distance = min(scenario.tree.distances(source)[node] for node in behind)
-    asked = min(later) + distance + max(1, scenario.c1 * distance // 1000)
-    return asked + distance + max(1, scenario.d1 * distance // 1000)
+    trips = given.tree.round_trips(source)
+
+    def answered(node: int) -> int:
+        half = trips[node] // 2
+        return trips[node] + max(1, given.c1 * half // 1000) + max(1, given.d1 * half // 1000)
+
+    return min(later) + min(map(answered, behind))
 
 
-def check_that_data_is_lost(scenario, link):
+def check_that_data_is_lost(given: "Scenario", link: int) -> None:
     """Refuses drops whose packet count may not be that of the draw of this number.
 
     A packet count runs over all that the source sends. It is the number of the draw as long as the source has sent
     no repair and no session message before.
     """
-    for _, count in scenario.drops:
-        if not 0 <= count < len(scenario.draws):
-            raise ScenarioError(f"there is no draw {count} to lose: there are {len(scenario.draws)}")
-    limit = earliest_repair(scenario, link)
+    for drop in given.drops:
+        if not 0 <= drop.count < len(given.draws):
+            raise ScenarioError(f"there is no draw {drop.count} to lose: there are {len(given.draws)}")
+    limit = earliest_repair(given, link)
     if limit is None:
         return
-    session = min(scenario.sessions, default=None)
-    for _, count in scenario.drops:
-        at = scenario.draws[count]
+    session = min((session.at for session in given.sessions), default=None)
+    for drop in given.drops:
+        at = given.draws[drop.count].at
         if at >= limit or session is not None and at >= session:
             raise ScenarioError(
-                f"packet {count} of the source is drawn at tick {at}, and from tick {limit} on the source may have "
-                "sent repairs, which count too: draw faster, lose fewer packets, lengthen the delays, or say "
+                f"packet {drop.count} of the source is drawn at tick {at}, and from tick {limit} on the source may "
+                "have sent repairs, which count too: draw faster, lose fewer packets, lengthen the delays, or say "
                 "--any-packet"
             )

@@ -1,58 +1,90 @@
-"""Reading a scenario file, as far as pictures and comparisons need it. The program alone says what is refused."""
+"""Scenario files: reading them."""
+import json
 import tomllib
-from dataclasses import dataclass
+from pathlib import Path
+from typing import Any
 
-from . import tree
+from . import tree as trees
 from .errors import ScenarioError
+from .form import check_keys
+from .limits import NEWEST
+from .link import Link
+from .parts import Draw, Drop, Member, Outage, Session
+from .rules import check_rules
+from .scenario import Scenario
+from .tree import Tree
+from .writing import NAMES
 
 
-@dataclass(frozen=True)
-class Given:
-    """A scenario as read: its tree, and its table with the defaults filled in."""
-
-    tree: tree.Tree
-    table: dict
-
-    @property
-    def members(self):
-        return self.table["member"]
-
-    def source(self):
-        """The member that draws first, or member 0."""
-        draws = sorted(self.table["draw"], key=lambda draw: draw["at"])
-        return draws[0]["member"] if draws else 0
-
-    def wants(self, member, page):
-        """Whether operations from before this member came to the page concern it."""
-        return self.members[member]["role"] != "late" or page in self.members[member].get("pages", [])
-
-    def is_out(self, link, at):
-        """Whether a link is out at a tick, and so drops each packet that comes to it."""
-        return any(it["link"] == link and it["from"] <= at < it["to"] for it in self.table["outage"])
-
-    def distance(self, a, b):
-        """The distance of two members in ticks."""
-        return self.tree.distances(self.members[a]["node"])[self.members[b]["node"]]
-
-
-def read_scenario(text):
-    """The scenario in a text."""
+def read_scenario(text: str | bytes) -> Scenario:
+    """The scenario in a text, which is refused where the program would refuse it: the first of its faults."""
+    raw = text.encode() if isinstance(text, str) else text
+    if len(raw) > NEWEST.bytes:
+        raise ScenarioError(f"the text has {len(raw)} bytes, and may have {NEWEST.bytes}")
     try:
+        text = raw.decode("utf-8-sig")
         table = tomllib.loads(text)
-        table = {"member": [], "draw": [], "session": [], "drop": [], "outage": [], **table}
-        return Given(tree_of(table), table)
-    except (tomllib.TOMLDecodeError, KeyError) as fault:
-        raise ScenarioError(f"this is no scenario: {fault}") from None
+    except (UnicodeDecodeError, tomllib.TOMLDecodeError) as fault:
+        raise ScenarioError(f"this is no TOML in UTF-8: {fault}") from None
+    comments = _comments(text)
+    return from_table(table, comments)
 
 
-def tree_of(table):
-    """The tree of a scenario's table."""
+def load_scenario(path: str | Path) -> Scenario:
+    """The scenario in a file."""
+    try:
+        return read_scenario(Path(path).read_bytes())
+    except OSError as fault:
+        raise ScenarioError(f"{path}: {fault.strerror}") from None
+    except ScenarioError as fault:
+        raise ScenarioError(f"{path}: {fault}", fault.part, fault.place, fault.key) from None
+
+
+def from_table(table: dict[str, Any], comments: list[str] | None = None) -> Scenario:
+    """The scenario of a file's keys and values, and of the comments in front of them."""
+    check_keys(table)
+    comments = comments or []
+    names = [json.loads(line.removeprefix(NAMES)) for line in comments if line.startswith(NAMES)]
+    try:
+        network = tree_of(table, tuple(names[0]) if names else ())
+    except ScenarioError as fault:
+        raise ScenarioError(f"the network: {fault}", "tree") from None
+    given = Scenario(
+        tree=network,
+        members=tuple(Member(**{**one, **({"pages": tuple(one["pages"])} if "pages" in one else {})})
+                      for one in table.get("member", [])),
+        until=table["until"],
+        **{name: table[name] for name in ("c1", "c2", "d1", "d2")},
+        draws=tuple(Draw(**one) for one in table.get("draw", [])),
+        sessions=tuple(Session(**one) for one in table.get("session", [])),
+        drops=tuple(Drop(**one) for one in table.get("drop", [])),
+        outages=tuple(Outage(one["link"], one["from"], one["to"]) for one in table.get("outage", [])),
+        version=table["version"],
+        comments=tuple(line for line in comments if not line.startswith(NAMES)),
+    )
+    check_rules(given)
+    return given
+
+
+def tree_of(table: dict[str, Any], names: tuple[str, ...] = ()) -> Tree:
+    """The network of a scenario's table."""
     shape = table.get("topology")
     if shape is None:
-        links = tuple((link["a"], link["b"], link["delay"]) for link in table.get("link", []))
-        return tree.Tree(table["nodes"], links)
+        links = tuple(Link(one["a"], one["b"], one["delay"], one.get("back", one["delay"]))
+                      for one in table.get("link", []))
+        return Tree(table["nodes"], links, names=names if len(names) == table["nodes"] else ())
     if shape == "tree":
-        return tree.bounded_degree(table["size"], table["degree"], table["delay"])
-    if shape not in ("chain", "star"):
-        raise ScenarioError(f"topology {shape!r} is none of chain, star and tree")
-    return getattr(tree, shape)(table["size"], table["delay"])
+        made = trees.bounded_degree(table["size"], table["degree"], table["delay"])
+    else:
+        made = (trees.chain if shape == "chain" else trees.star)(table["size"], table["delay"])
+    return made.with_back(table["back"]) if "back" in table else made
+
+
+def _comments(text: str) -> list[str]:
+    """The lines of comment in front of a file's keys."""
+    found = []
+    for line in text.splitlines():
+        if not line.startswith("#"):
+            break
+        found.append(line[1:].removeprefix(" "))
+    return found

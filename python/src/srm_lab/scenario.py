@@ -1,73 +1,380 @@
-"""A scenario, and its text in the scenario format."""
-from dataclasses import dataclass, field
+"""A scenario, and the verbs that build one.
 
-import tomli_w
+    from srm_lab import scenario
+    scenario.random_tree(nodes=200, members=60, seed=7).lose(rate=0.01).leave(members=20, at=(5_000, 15_000))
 
+Every function and verb gives a scenario that the format takes, or raises ScenarioError with a sentence that names the
+key and the rule. Times and delays are in ticks. All random choices are those of the scenario's seed, of each verb its
+own.
+"""
+import math
+import random
+from collections.abc import Iterable
+from dataclasses import dataclass, replace
+from decimal import Decimal, InvalidOperation
+from functools import cached_property
+from pathlib import Path
+from typing import Any
+
+from . import graphs, losses, tree as trees, writing
 from .errors import ScenarioError
-from .limits import (MOST_BYTES, MOST_CONSTANT, MOST_ELEMENTS, MOST_MEMBERS, MOST_TIME, version_for, within)
+from .form import check_keys
+from .graphs import Delays
+from .limits import MOST_TIME, NEWEST, VERSIONS, within
+from .parts import Draw, Drop, Member, Outage, Session
+from .rules import check_rules
 from .tree import Tree
 
+DELAY = 100
+Ticks = int | tuple[int, int]
 
-@dataclass
+
+@dataclass(frozen=True)
 class Scenario:
-    """What a run is given. Members are (node, role); member 0 is the source of the draws.
+    """What a run is given. Constants are in thousandths.
 
-    `draws` has the tick of each draw, `sessions` that of each session message, both by member 0; `drops` has
-    (link, packet count) pairs of member 0's packets. Constants are in thousandths.
+    Where `until` is None, the end leaves time for 64 rounds of asking and repairing after the last draw, session
+    message or join. Where `version` is None, the first version of the format that has room is written.
+    `comments` are the lines in front of the file; the names of nodes stand there as well.
     """
 
     tree: Tree
-    members: list
-    until: int
-    c1: int
-    c2: int
-    d1: int
-    d2: int
-    draws: list = field(default_factory=list)
-    sessions: list = field(default_factory=list)
-    drops: list = field(default_factory=list)
-    comments: list = field(default_factory=list)
+    members: tuple[Member, ...] = ()
+    until: int | None = None
+    c1: int = 2000
+    c2: int = 2000
+    d1: int = 1000
+    d2: int = 1000
+    draws: tuple[Draw, ...] = ()
+    sessions: tuple[Session, ...] = ()
+    drops: tuple[Drop, ...] = ()
+    outages: tuple[Outage, ...] = ()
+    version: int | None = None
+    comments: tuple[str, ...] = ()
+    seed: int = 0
 
-    def check(self):
-        """Refuses what the format has no room for."""
-        within("until", self.until, 1, MOST_TIME)
-        for name in ("c1", "c2", "d1", "d2"):
-            within(f"{name} in thousandths", getattr(self, name), 0, MOST_CONSTANT)
-        within("the number of members", len(self.members), 0, MOST_MEMBERS)
-        for what, elements in (("draws", self.draws), ("session messages", self.sessions), ("drops", self.drops)):
-            within(f"the number of {what}", len(elements), 0, MOST_ELEMENTS)
-        for what, times in (("a draw", self.draws), ("a session message", self.sessions)):
-            for at in times:
-                within(f"the tick of {what}", at, 0, MOST_TIME)
-                if at >= self.until:
-                    raise ScenarioError(f"{what} at tick {at} is not before the end of the run at {self.until}")
+    # ---- what it says ----------------------------------------------------------
 
-        for _, count in self.drops:
-            within("the number of a lost packet", count, 0, 2**32 - 1)
+    @cached_property
+    def end(self) -> int:
+        """Events before this tick are handled."""
+        return self.until if self.until is not None else self._room()
 
-    def table(self):
+    def _room(self) -> int:
+        """An end that leaves time for 64 rounds of asking and repairing after the last thing that is to happen."""
+        nodes = [member.node for member in self.members] or [0]
+        first = self.tree.round_trips(nodes[0])
+        far = max(nodes, key=first.__getitem__)
+        trips = self.tree.round_trips(far)
+        farthest = max(trips[node] for node in nodes)
+        constants = self.c1 + self.c2 + self.d1 + self.d2
+        last = max([*(draw.at for draw in self.draws), *(session.at for session in self.sessions),
+                    *(member.join for member in self.members)], default=0)
+        return min(MOST_TIME, last + farthest + 64 * (2 + constants // 1000 + 1) * max(1, farthest) + 1)
+
+    @property
+    def least_version(self) -> int:
+        """The first version of the format that has room for this scenario."""
+        for version, limits in VERSIONS.items():
+            fits = max(self.tree.nodes, self.tree.shorthand.get("degree", 0) + 1) <= limits.nodes
+            two_way = limits.two_way or self.tree.is_even and "back" not in self.tree.shorthand
+            if fits and two_way and len(self.members) <= limits.members and (limits.outages or not self.outages):
+                return version
+        return max(VERSIONS)
+
+    def source(self) -> int:
+        """The member that draws first, or member 0."""
+        return min(self.draws, key=lambda draw: draw.at).member if self.draws else 0
+
+    def wants(self, member: int, page: int) -> bool:
+        """Whether operations from before this member came to the page concern it."""
+        return self.members[member].wants(page)
+
+    def is_out(self, link: int, at: int) -> bool:
+        """Whether a link is out at a tick, and so drops each packet that comes to it."""
+        return any(outage.is_on(at) for outage in self.outages_of.get(link, ()))
+
+    @cached_property
+    def outages_of(self) -> dict[int, list[Outage]]:
+        """The outages of each link that has some."""
+        found: dict[int, list[Outage]] = {}
+        for outage in self.outages:
+            found.setdefault(outage.link, []).append(outage)
+        return found
+
+    @cached_property
+    def drops_of(self) -> dict[tuple[int, int], frozenset[int]]:
+        """The links that drop a packet, for each (sender, count) that some link drops."""
+        found: dict[tuple[int, int], set[int]] = {}
+        for drop in self.drops:
+            found.setdefault((drop.sender, drop.count), set()).add(drop.link)
+        return {packet: frozenset(links) for packet, links in found.items()}
+
+    def distance(self, a: int, b: int) -> int:
+        """How long a packet takes from one member to another, in ticks."""
+        return self.tree.distances(self.members[a].node)[self.members[b].node]
+
+    def round_trip(self, a: int, b: int) -> int:
+        """The distance from one member to another and back, in ticks."""
+        return self.tree.round_trips(self.members[a].node)[self.members[b].node]
+
+    # ---- its text --------------------------------------------------------------
+
+    def check(self) -> "Scenario":
+        """This scenario, or ScenarioError with the first thing that the format refuses."""
+        check_keys(writing.table_of(self))
+        check_rules(self)
+        return self
+
+    def table(self) -> dict[str, Any]:
         """The keys and values of the scenario file."""
-        self.check()
-        version = version_for(self.tree.nodes, self.tree.shorthand.get("degree", 0))
-        top = {"version": version, "until": self.until}
-        top.update({name: getattr(self, name) for name in ("c1", "c2", "d1", "d2")})
-        top.update(self.tree.shorthand or {"nodes": self.tree.nodes})
-        if not self.tree.shorthand:
-            top["link"] = [{"a": a, "b": b, "delay": delay} for a, b, delay in self.tree.links]
-        top["member"] = [
-            {"node": node, "role": role, "stream": number + 1} for number, (node, role) in enumerate(self.members)
-        ]
-        top["draw"] = [
-            {"member": 0, "page": 0, "ink": number, "at": at} for number, at in enumerate(self.draws)
-        ]
-        top["session"] = [{"member": 0, "at": at} for at in self.sessions]
-        top["drop"] = [{"link": link, "sender": 0, "count": count} for link, count in self.drops]
-        return {key: value for key, value in top.items() if value != []}
+        return writing.table_of(self.check())
 
-    def text(self):
+    def text(self) -> str:
         """The scenario file."""
-        lines = "".join(f"# {comment}\n" for comment in self.comments)
-        text = lines + tomli_w.dumps(self.table())
-        if len(text.encode()) > MOST_BYTES:
-            raise ScenarioError(f"the text has {len(text.encode())} bytes, and the format has room for {MOST_BYTES}")
-        return text
+        return writing.text_of(self.check())
+
+    def write(self, path: str | Path) -> Path:
+        """Writes the scenario file, and gives its path."""
+        path = Path(path)
+        path.write_text(self.text(), encoding="utf-8")
+        return path
+
+    # ---- verbs -----------------------------------------------------------------
+
+    def _with(self, **changes: Any) -> "Scenario":
+        return replace(self, **changes).check()
+
+    def _rng(self, verb: str, seed: int | None) -> random.Random:
+        return random.Random(f"{verb} {self.seed if seed is None else seed}")
+
+    def constants(self, **values: float | str) -> "Scenario":
+        """Sets `c1`, `c2`, `d1` or `d2`: a number with at most three decimals, or `log10` or `sqrt` of the members."""
+        unknown = set(values) - {"c1", "c2", "d1", "d2"}
+        if unknown:
+            raise ScenarioError(f"{', '.join(sorted(unknown))}: the constants are c1, c2, d1 and d2")
+        return self._with(**{name: thousandths(str(value), len(self.members)) for name, value in values.items()})
+
+    def ends(self, until: int) -> "Scenario":
+        """Handles events before this tick only."""
+        return self._with(until=until)
+
+    def back(self, delay: int, most: int | None = None, seed: int | None = None) -> "Scenario":
+        """Gives the other direction of each link this delay, or a random one from `delay` to `most`."""
+        if most is None:
+            return self._with(tree=self.tree.with_back(delay))
+        rng = self._rng("back", seed)
+        return self._with(tree=self.tree.with_back(lambda: rng.randint(delay, within("most", most, delay, MOST_TIME))))
+
+    def member(self, node: int | str, role: str = "receiver", **keys: Any) -> "Scenario":
+        """Puts one more member on a node, named by its number or its name; `keys` are those of Member."""
+        keys.setdefault("stream", len(self.members) + 1)
+        return self._with(members=(*self.members, Member(self.tree.number(node), role, **keys)))
+
+    def role(self, members: Iterable[int], role: str, pages: Iterable[int] | None = None) -> "Scenario":
+        """Gives members a role; `pages` are those that late members want."""
+        wanted = None if pages is None else tuple(pages)
+        return self._changed(list(members), lambda member: replace(member, role=role, pages=wanted))
+
+    def join(self, members: int | Iterable[int], at: Ticks, seed: int | None = None) -> "Scenario":
+        """Lets members join at a tick, or each at a random one of a range, both ends in it.
+
+        A number says how many receivers and listeners, chosen at random among those that join at 0.
+        """
+        rng = self._rng("join", seed)
+        free = [place for place, one in enumerate(self.members) if one.role != "sender" and one.join == 0]
+        return self._changed(_chosen(members, free, rng), lambda member: replace(member, join=_tick(at, rng)))
+
+    def leave(self, members: int | Iterable[int], at: Ticks, seed: int | None = None) -> "Scenario":
+        """Lets members leave at a tick, or each at a random one of a range, both ends in it.
+
+        A number says how many, chosen at random among those that do not draw and do not leave yet.
+        """
+        rng = self._rng("leave", seed)
+        free = [place for place, one in enumerate(self.members) if one.role != "sender" and one.leave is None]
+        return self._changed(_chosen(members, free, rng), lambda member: replace(member, leave=_tick(at, rng)))
+
+    def _changed(self, places: list[int], change: Any) -> "Scenario":
+        members = list(self.members)
+        for place in places:
+            if not 0 <= place < len(members):
+                raise ScenarioError(f"there is no member {place}: there are {len(members)}")
+            members[place] = change(members[place])
+        return self._with(members=tuple(members))
+
+    def draw(self, at: int, member: int = 0, page: int = 0, ink: int | None = None) -> "Scenario":
+        """Lets a sender draw once more."""
+        ink = len(self.draws) if ink is None else ink
+        return self._with(draws=(*self.draws, Draw(member, page, ink, at)))
+
+    def session(self, at: int, member: int = 0) -> "Scenario":
+        """Lets a member send a session message."""
+        return self._with(sessions=(*self.sessions, Session(member, at)))
+
+    def drawing(self, count: int, every: int = DELAY, start: int = 0, member: int = 0, page: int = 0) -> "Scenario":
+        """In place of all draws and session messages of a sender: so many draws, `every` ticks apart, on one page.
+
+        A session message follows `every` ticks after the last of them, so that a loss of the last one is found too.
+        """
+        within("count", count, 0, NEWEST.elements)
+        within("every", every, 1, MOST_TIME)
+        own = tuple(Draw(member, page, number, start + number * every) for number in range(count))
+        told = (Session(member, start + count * every),) if count else ()
+        return self._with(draws=(*(one for one in self.draws if one.member != member), *own),
+                          sessions=(*(one for one in self.sessions if one.member != member), *told))
+
+    def drop(self, link: int, count: int | Iterable[int], sender: int = 0) -> "Scenario":
+        """Lets a link drop a packet of a sender, or several, by their numbers among all that it sends, from 0."""
+        counts = [count] if isinstance(count, int) else list(count)
+        return self._with(drops=(*self.drops, *(Drop(link, sender, one) for one in counts)))
+
+    def lose(self, rate: float | None = None, every: int | None = None, link: int | str | None = None,
+             packets: int | None = None, seed: int | None = None) -> "Scenario":
+        """Drops packets by a rule, which is written as the list of drops that it gives.
+
+        With a `rate` each link on the way from a sender to another member drops each packet of that sender with this
+        probability. With `every` a link drops the packets 0, K, 2 K and so on of member 0. `link` says which one: a
+        number, `adjacent` to member 0, `random`, or `hops:H`; with a rate all links do where none is named. A packet
+        counts among all that its sender sends; the first `packets` may be lost, by default as many as it draws.
+        """
+        if (rate is None) == (every is None):
+            raise ScenarioError("lose: give either a rate or every")
+        rng = self._rng("lose", seed)
+        named = None if link is None else losses.link_of(str(link), self, rng)
+        if every is not None:
+            if named is None:
+                raise ScenarioError("lose: every needs a link")
+            counts = range(0, self._packets(0, packets), within("every", every, 1, NEWEST.elements))
+            return self._with(drops=(*self.drops, *(Drop(named, 0, count) for count in counts)))
+        found = losses.bernoulli(self, _probability(rate), named, rng, lambda sender: self._packets(sender, packets))
+        return self._with(drops=(*self.drops, *found))
+
+    def _packets(self, sender: int, packets: int | None) -> int:
+        drawn = sum(draw.member == sender for draw in self.draws)
+        return drawn if packets is None else within("packets", packets, 0, NEWEST.count)
+
+    def outage(self, link: int, first: int, last: int) -> "Scenario":
+        """Lets a link drop each packet that comes to it from tick `first` to tick `last`, both in it."""
+        return self._with(outages=(*self.outages, Outage(link, first, last + 1)))
+
+
+def _probability(rate: float | None) -> float:
+    if not isinstance(rate, (int, float)) or not 0 <= rate <= 1:
+        raise ScenarioError(f"lose: rate is {rate!r}, and has to be from 0 to 1")
+    return float(rate)
+
+
+def _tick(at: Ticks, rng: random.Random) -> int:
+    """A tick that is given, or a random one of a range."""
+    if isinstance(at, int):
+        return at
+    first, last = at
+    if first > last:
+        raise ScenarioError(f"at is {at!r}, and its first tick is after its last")
+    return rng.randint(first, last)
+
+
+def _chosen(members: int | Iterable[int], free: list[int], rng: random.Random) -> list[int]:
+    """The members that are named, or so many of the free ones."""
+    if not isinstance(members, int):
+        return list(members)
+    return sorted(rng.sample(free, within("members", members, 0, len(free))))
+
+
+def thousandths(text: str, members: int) -> int:
+    """A timer constant in thousandths: of a number with at most three decimals, or of log10 or sqrt of the members."""
+    if text in ("log10", "sqrt"):
+        value = math.log10(max(1, members)) if text == "log10" else math.sqrt(members)
+        return round(1000 * value)
+    try:
+        number = Decimal(text) * 1000
+    except InvalidOperation:
+        raise ScenarioError(f"{text!r} is no number, log10 or sqrt") from None
+    if not number.is_finite() or number != int(number):
+        raise ScenarioError(f"{text} has more than three decimals, and the format has thousandths")
+    return within(f"{text} in thousandths", int(number), 0, NEWEST.constant)
+
+
+# ---- scenarios on networks of a kind -------------------------------------------
+
+def chain(nodes: int, members: int | str = "all", source: int | str = "first", delay: int = DELAY,
+          seed: int = 0) -> Scenario:
+    """Nodes in a row. See `on` for the other words."""
+    return on(trees.chain(nodes, delay), members, source, seed)
+
+
+def star(nodes: int, members: int | str = "all", source: int | str = "first", delay: int = DELAY,
+         seed: int = 0) -> Scenario:
+    """A hub, node 0, without a member, and a link from it to each other node. See `on` for the other words."""
+    return on(trees.star(nodes, delay), members, source, seed)
+
+
+def regular_tree(nodes: int, degree: int = 4, members: int | str = "all", source: int | str = "first",
+                 delay: int = DELAY) -> Scenario:
+    """A tree whose inner nodes have this degree, as far as the nodes last. See `on` for the other words."""
+    return on(trees.bounded_degree(nodes, degree, delay), members, source)
+
+
+def random_tree(nodes: int, members: int | str = "all", source: int | str = "first", delay: int = DELAY,
+                seed: int = 0) -> Scenario:
+    """A random labelled tree: each one of this size has the same chance. See `on` for the other words."""
+    return on(trees.random_labelled(nodes, delay, random.Random(f"tree {seed}")), members, source, seed)
+
+
+def from_graph(graph: Any, delays: Delays | int = Delays(), spanning_tree: str | None = None,
+               members: int | str = "all", source: int | str = "first") -> Scenario:
+    """A networkx graph whose nodes keep their names; `delays` says where its delays stand, or is that of each link.
+
+    The shortest spanning tree is that of the source, where the source is named.
+    """
+    delays = Delays(default=delays) if isinstance(delays, int) else delays
+    root = source if source in graph else None
+    return on(graphs.from_graph(graph, delays, spanning_tree, root), members, source)
+
+
+def from_file(path: str | Path, delays: Delays | int = Delays(), spanning_tree: str | None = None,
+              members: int | str = "all", source: int | str = "first") -> Scenario:
+    """The graph in a GraphML or GML file, or a list of edges, as `from_graph` takes it."""
+    delays = Delays(default=delays) if isinstance(delays, int) else delays
+    root = None if source in ("first", "random") else str(source)
+    return on(graphs.from_file(path, delays, spanning_tree, root), members, source)
+
+
+def on(tree: Tree, members: int | str = "all", source: int | str = "first", seed: int = 0) -> Scenario:
+    """A session on a network: member 0, a sender, draws 100 times, 100 ticks apart, and the others receive.
+
+    `members` is how many there are, the source among them, on nodes chosen at random, or `all`. `source` is a node by
+    its number or name, `first` or `random`. `drawing` puts other draws in place of these.
+    """
+    nodes = place_members(tree, members, source, random.Random(f"members {seed}"))
+    made = tuple(Member(node, "receiver" if place else "sender", place + 1) for place, node in enumerate(nodes))
+    return Scenario(tree, made, seed=seed).drawing(100)
+
+
+def place_members(tree: Tree, members: int | str, source: int | str, rng: random.Random) -> list[int]:
+    """The members' nodes, the source's first and the others in rising order."""
+    hosts = tree.hosts()
+    if not hosts:
+        raise ScenarioError("no node may host a member")
+    if source in ("first", "random"):
+        node = hosts[0] if source == "first" else rng.choice(hosts)
+    else:
+        node = tree.number(source)
+        if node not in hosts:
+            raise ScenarioError(f"source {source}: no node that may host a member")
+    others = [host for host in hosts if host != node]
+    if members != "all":
+        others = sorted(rng.sample(others, within("members", members, 1, len(hosts)) - 1))
+    return [node, *others]
+
+
+def read(text: str | bytes) -> Scenario:
+    """The scenario in a text, which is refused where the program would refuse it."""
+    from .reading import read_scenario
+    return read_scenario(text)
+
+
+def load(path: str | Path) -> Scenario:
+    """The scenario in a file."""
+    from .reading import load_scenario
+    return load_scenario(path)

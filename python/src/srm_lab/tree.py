@@ -1,180 +1,161 @@
-"""Networks: trees of nodes and links, made by rule, at random, or from a file."""
-from dataclasses import dataclass, field
+"""Networks: trees of nodes and links."""
+import random
+from collections.abc import Callable, Iterable
+from dataclasses import dataclass, field, replace
+from functools import cached_property
 
 from .errors import ScenarioError
-from .limits import DEGREES, MOST_DELAY, MOST_NODES, within
+from .limits import MOST_DELAY, MOST_NODES, within
+from .link import Link
 
 
 @dataclass(frozen=True)
 class Tree:
-    """A tree of nodes 0 to `nodes - 1`; `links[i]` is (node, node, delay in ticks).
+    """A tree of nodes 0 to `nodes - 1`, whose links are numbered from 0.
 
     `shorthand` has the keys that stand for the links in a scenario file, where the format has a name for the tree.
+    `names` has the name of each node, in order, where the tree comes from a graph with names.
     """
 
     nodes: int
-    links: tuple
+    links: tuple[Link, ...]
     shorthand: dict = field(default_factory=dict)
+    names: tuple[str, ...] = ()
 
-    def __post_init__(self):
+    def __post_init__(self) -> None:
         within("the number of nodes", self.nodes, 1, MOST_NODES)
         if len(self.links) != self.nodes - 1:
             raise ScenarioError(f"{self.nodes} nodes and {len(self.links)} links are no tree")
-        for place, (a, b, delay) in enumerate(self.links):
-            within(f"an end of link {place}", a, 0, self.nodes - 1)
-            within(f"an end of link {place}", b, 0, self.nodes - 1)
-            within(f"the delay of link {place}", delay, 1, MOST_DELAY)
+        for place, link in enumerate(self.links):
+            within(f"an end of link {place}", link.a, 0, self.nodes - 1)
+            within(f"an end of link {place}", link.b, 0, self.nodes - 1)
+            within(f"the delay of link {place}", link.delay, 1, MOST_DELAY)
+            within(f"the delay back of link {place}", link.back, 1, MOST_DELAY)
         if len(self.parents(0)) != self.nodes:
             raise ScenarioError("the links join only some of the nodes, so they are no tree")
 
     @property
-    def hub(self):
+    def hub(self) -> int | None:
         """The node that hosts no member, or None."""
         return 0 if self.shorthand.get("topology") == "star" else None
 
-    def hosts(self):
+    @property
+    def is_even(self) -> bool:
+        """Whether every link takes as long in either direction."""
+        return all(link.is_even for link in self.links)
+
+    def name(self, node: int) -> str | int:
+        """The name of a node, which is its number where the tree has no names."""
+        return self.names[node] if self.names else node
+
+    def number(self, name: str | int) -> int:
+        """The number of the node of this name, or with this number."""
+        if str(name) in self.names:
+            return self.names.index(str(name))
+        if not self.names and isinstance(name, int) and 0 <= name < self.nodes:
+            return name
+        raise ScenarioError(f"there is no node {name!r}")
+
+    def hosts(self) -> list[int]:
         """The nodes that may host a member, in rising order."""
         return [node for node in range(self.nodes) if node != self.hub]
 
-    def neighbours(self):
-        """For each node its (neighbour, link) pairs."""
-        near = [[] for _ in range(self.nodes)]
-        for place, (a, b, _) in enumerate(self.links):
-            near[a].append((b, place))
-            near[b].append((a, place))
+    @cached_property
+    def _near(self) -> list[list[tuple[int, int]]]:
+        near: list[list[tuple[int, int]]] = [[] for _ in range(self.nodes)]
+        for place, link in enumerate(self.links):
+            near[link.a].append((link.b, place))
+            near[link.b].append((link.a, place))
         return near
 
-    def parents(self, root):
-        """For each node that the root reaches its (parent, link), breadth first; the root's is (None, None)."""
-        near = self.neighbours()
-        found = {root: (None, None)}
+    def neighbours(self) -> list[list[tuple[int, int]]]:
+        """For each node its (neighbour, link) pairs."""
+        return self._near
+
+    def parents(self, root: int) -> dict[int, tuple[int, int] | None]:
+        """For each node that the root reaches its (parent, link), breadth first; the root's is None."""
+        found: dict[int, tuple[int, int] | None] = {root: None}
         order = [root]
         for node in order:
-            for neighbour, link in near[node]:
+            for neighbour, link in self._near[node]:
                 if neighbour not in found:
                     found[neighbour] = (node, link)
                     order.append(neighbour)
         return found
 
-    def ways(self, root):
+    def ways(self, root: int) -> dict[int, list[int]]:
         """For each node the links on the way from the root to it, in order."""
-        ways = {}
-        for node, (parent, link) in self.parents(root).items():
-            ways[node] = [] if parent is None else [*ways[parent], link]
+        ways: dict[int, list[int]] = {}
+        for node, near in self.parents(root).items():
+            ways[node] = [] if near is None else [*ways[near[0]], near[1]]
         return ways
 
-    def distances(self, root):
-        """For each node its distance from the root, in ticks."""
-        return {node: sum(self.links[link][2] for link in way) for node, way in self.ways(root).items()}
+    def distances(self, root: int) -> dict[int, int]:
+        """For each node its distance from the root in ticks: the delays of the way there, each in its direction."""
+        distances: dict[int, int] = {}
+        for node, near in self.parents(root).items():
+            distances[node] = 0 if near is None else distances[near[0]] + self.links[near[1]].delay_from(near[0])
+        return distances
 
-    def with_delays(self, least, most, rng):
-        """The same tree with a random delay from least to most at each link."""
+    def round_trips(self, root: int) -> dict[int, int]:
+        """For each node the distance from the root to it and back, in ticks."""
+        trips: dict[int, int] = {}
+        for node, near in self.parents(root).items():
+            trips[node] = 0 if near is None else trips[near[0]] + sum(self.links[near[1]][2:])
+        return trips
+
+    def with_delays(self, least: int, most: int, rng: random.Random) -> "Tree":
+        """The same tree with a random delay from least to most at each link, the same in both directions."""
         within("the least delay", least, 1, MOST_DELAY)
         within("the greatest delay", most, least, MOST_DELAY)
-        return Tree(self.nodes, tuple((a, b, rng.randint(least, most)) for a, b, _ in self.links))
+        return Tree(self.nodes, tuple(Link.both_ways(link.a, link.b, rng.randint(least, most)) for link in self.links),
+                    names=self.names)
+
+    def with_back(self, back: int | Callable[[], int]) -> "Tree":
+        """The same tree with this delay in the other direction of each link, or with what the function gives."""
+        if callable(back) and self.hub is not None:
+            raise ScenarioError("the format has one delay back for all links of a star")
+        shorthand = {**self.shorthand, "back": back} if self.shorthand and not callable(back) else {}
+        links = tuple(link._replace(back=back() if callable(back) else back) for link in self.links)
+        return replace(self, links=links, shorthand=shorthand)
 
 
-def chain(size, delay):
+def _even(ends: Iterable[tuple[int, int]], delay: int) -> tuple[Link, ...]:
+    return tuple(Link.both_ways(a, b, delay) for a, b in ends)
+
+
+def chain(size: int, delay: int) -> Tree:
     """Nodes in a row: link i joins nodes i and i + 1."""
     within("size", size, 1, MOST_NODES)
-    links = tuple((node, node + 1, delay) for node in range(size - 1))
+    links = _even(((node, node + 1) for node in range(size - 1)), delay)
     return Tree(size, links, {"topology": "chain", "size": size, "delay": delay})
 
 
-def star(size, delay):
+def star(size: int, delay: int) -> Tree:
     """A hub, node 0, which hosts nobody, with a link to each other node."""
     within("size", size, 1, MOST_NODES)
-    links = tuple((0, node, delay) for node in range(1, size))
+    links = _even(((0, node) for node in range(1, size)), delay)
     return Tree(size, links, {"topology": "star", "size": size, "delay": delay})
 
 
-def bounded_degree(size, degree, delay):
+def bounded_degree(size: int, degree: int, delay: int) -> Tree:
     """A tree, numbered breadth first, in which each inner node has this degree, as far as the nodes last."""
     within("size", size, 1, MOST_NODES)
-    within("degree", degree, DEGREES.start, DEGREES.stop - 1)
+    within("degree", degree, 2, MOST_NODES - 1)
 
-    def parent(node):
+    def parent(node: int) -> int:
         return 0 if node <= degree else 1 + (node - degree - 1) // (degree - 1)
 
-    links = tuple((parent(node), node, delay) for node in range(1, size))
+    links = _even(((parent(node), node) for node in range(1, size)), delay)
     return Tree(size, links, {"topology": "tree", "size": size, "degree": degree, "delay": delay})
 
 
-def random_labelled(size, delay, rng):
+def random_labelled(size: int, delay: int, rng: random.Random) -> Tree:
     """A tree that each labelled tree of this size is with one and the same chance: that of a random Pruefer code."""
     within("size", size, 1, MOST_NODES)
     if size < 3:
-        return Tree(size, tuple((node, node + 1, delay) for node in range(size - 1)))
+        return Tree(size, _even(((node, node + 1) for node in range(size - 1)), delay))
     import networkx
 
     graph = networkx.from_prufer_sequence([rng.randrange(size) for _ in range(size - 2)])
-    return Tree(size, tuple((min(a, b), max(a, b), delay) for a, b in sorted(graph.edges)))
-
-
-def from_graph(graph, delay, attribute="delay"):
-    """The tree of a networkx graph, its nodes numbered in the graph's own order.
-
-    A link's delay is the edge's attribute of that name, a whole number, and `delay` where the edge has none.
-    """
-    if graph.number_of_nodes() > MOST_NODES:
-        raise ScenarioError(f"the graph has {graph.number_of_nodes()} nodes, and the format has room for {MOST_NODES}")
-    number = {node: place for place, node in enumerate(graph.nodes)}
-    links = []
-    for a, b, data in graph.edges(data=True):
-        links.append((number[a], number[b], _delay(data.get(attribute, delay), attribute)))
-    return Tree(len(number), tuple(links))
-
-
-def _delay(value, attribute):
-    """A delay from a file, which may write whole numbers as text or as decimals."""
-    try:
-        number = float(value)
-    except (TypeError, ValueError):
-        raise ScenarioError(f"{attribute} = {value!r} of an edge is no number") from None
-    if number != int(number):
-        raise ScenarioError(f"{attribute} = {value!r} of an edge is no whole number of ticks")
-    return int(number)
-
-
-def from_file(path, delay, attribute="delay"):
-    """The tree in a GraphML or GML file, or in a list of edges (`node node` or `node node delay` in each line)."""
-    import networkx
-
-    name = str(path).lower()
-    try:
-        if name.endswith(".graphml"):
-            graph = networkx.read_graphml(path)
-        elif name.endswith(".gml"):
-            graph = networkx.read_gml(path, label=None if _has_no_labels(path) else "label")
-        elif name.endswith((".edges", ".edgelist", ".txt")):
-            graph = _edge_list(path, attribute)
-        else:
-            raise ScenarioError(f"{path}: the name has to end in .graphml, .gml, .edges, .edgelist or .txt")
-    except OSError as fault:
-        raise ScenarioError(f"{path}: {fault.strerror}") from None
-    except ScenarioError:
-        raise
-    except Exception as fault:  # each of networkx's readers has exceptions of its own
-        raise ScenarioError(f"{path}: cannot be read as a graph: {fault}") from None
-    return from_graph(graph, delay, attribute)
-
-
-def _has_no_labels(path):
-    with open(path, encoding="utf-8") as text:
-        return not any(line.split()[:1] == ["label"] for line in text)
-
-
-def _edge_list(path, attribute):
-    """A graph from lines of two node names and perhaps a delay; `#` begins a comment."""
-    import networkx
-
-    graph = networkx.MultiGraph()
-    with open(path, encoding="utf-8") as text:
-        for place, line in enumerate(text, 1):
-            words = line.split("#")[0].split()
-            if not words:
-                continue
-            if len(words) not in (2, 3):
-                raise ScenarioError(f"{path}: line {place} has {len(words)} words, and has to have 2 or 3")
-            graph.add_edge(words[0], words[1], **({attribute: words[2]} if len(words) == 3 else {}))
-    return graph
+    return Tree(size, _even(((min(a, b), max(a, b)) for a, b in sorted(graph.edges)), delay))

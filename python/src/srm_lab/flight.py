@@ -1,0 +1,45 @@
+"""The ways of one packet: when it is where, and where it is dropped."""
+from .follower import Packet
+from .scenario import Scenario
+
+
+class Flight:
+    """A packet on the ways from its sender's node; every time is of its own direction of each link."""
+
+    def __init__(self, packet: Packet, given: Scenario, node: int):
+        self.packet, self.given = packet, given
+        self._parents = given.tree.parents(node)
+        self._distances = given.tree.distances(node)
+        self._hosts = {member.node for member in given.members}
+        self._dropping = given.drops_of.get((packet.sender, packet.count), frozenset())
+
+    def time_at(self, node: int) -> int:
+        """When it is at a node, or would be if nothing dropped it."""
+        return self.packet.time + self._distances[node]
+
+    def before(self, node: int) -> int | None:
+        """The last node with a member before this one on its way, or None at the sender's."""
+        near = self._parents[node]
+        while near is not None:
+            if near[0] in self._hosts:
+                return near[0]
+            near = self._parents[near[0]]
+        return None
+
+    def taken_at(self, node: int) -> float | None:
+        """The middle of its time on the first link of its way to a node that drops it, or None where none does."""
+        taken = None
+        near = self._parents[node]
+        while near is not None:
+            before, link = near
+            if link in self._dropping or self.given.is_out(link, self.time_at(before)):
+                taken = self.time_at(before) + self.given.tree.links[link].delay_from(before) / 2
+            near = self._parents[before]
+        return taken
+
+    def dropped(self, near: int, node: int) -> float | None:
+        """When it is dropped between two nodes of one way; None where it comes through, or does not come that far.
+
+        That it does not come so far shows at no member between them, so nothing is drawn there.
+        """
+        return None if self.taken_at(near) is not None else self.taken_at(node)

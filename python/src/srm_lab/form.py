@@ -1,0 +1,131 @@
+"""The keys of a scenario file, with their types and ranges, as docs/FORMATS.md has them."""
+from collections.abc import Callable, Iterator
+from dataclasses import dataclass
+from typing import Any
+
+from .errors import ScenarioError
+from .limits import VERSIONS, Limits
+from .parts import ROLES
+
+Check = Callable[[object], str | None]
+PARTS = ("link", "member", "draw", "session", "drop", "outage")
+
+
+@dataclass(frozen=True)
+class Key:
+    """A key of a table: what its value may be, and whether it must be there."""
+
+    check: Check
+    needed: bool = True
+
+
+def number(least: int, most: int) -> Check:
+    """A whole number in a range."""
+    def check(value: object) -> str | None:
+        if isinstance(value, bool) or not isinstance(value, int):
+            return f"is {value!r}, and has to be a whole number"
+        return None if least <= value <= most else f"is {value}, and has to be {least} to {most}"
+    return check
+
+
+def word(*words: str) -> Check:
+    """One of some words."""
+    def check(value: object) -> str | None:
+        return None if isinstance(value, str) and value in words else f"is {value!r}, and has to be {', '.join(words)}"
+    return check
+
+
+def array(most: int, of: Check | None = None) -> Check:
+    """An array of at most so many elements, each of which passes a check."""
+    def check(value: object) -> str | None:
+        if not isinstance(value, list):
+            return f"is {type(value).__name__}, and has to be an array"
+        if len(value) > most:
+            return f"has {len(value)} elements, and may have {most}"
+        if of is None:
+            return None
+        return next((f"has an element that {told}" for told in map(of, value) if told), None)
+    return check
+
+
+def elements(limits: Limits) -> dict[str, dict[str, Key]]:
+    """The keys of the elements of each part."""
+    node = Key(number(0, limits.nodes - 1))
+    member = Key(number(0, limits.members - 1))
+    link = Key(number(0, limits.nodes - 1))
+    at = Key(number(0, limits.time))
+    delay = number(1, limits.delay)
+    back = {"back": Key(delay, False)} if limits.two_way else {}
+    return {
+        "link": {"a": node, "b": node, "delay": Key(delay), **back},
+        "member": {"node": node, "role": Key(word(*ROLES)), "stream": Key(number(0, limits.stream)),
+                   "join": Key(number(0, limits.time), False), "leave": Key(number(1, limits.time), False),
+                   "pages": Key(array(limits.pages, number(0, limits.page)), False)},
+        "draw": {"member": member, "page": Key(number(0, limits.page)), "ink": Key(number(0, limits.ink)), "at": at},
+        "session": {"member": member, "at": at},
+        "drop": {"link": link, "sender": member, "count": Key(number(0, limits.count))},
+        "outage": {"link": link, "from": at, "to": Key(number(1, limits.time))},
+    }
+
+
+def top(limits: Limits, table: dict[str, Any]) -> dict[str, Key]:
+    """The keys of the top table, which depend on whether a topology is named."""
+    constant = Key(number(0, limits.constant))
+    keys = {"version": Key(number(min(VERSIONS), max(VERSIONS))), "until": Key(number(1, limits.time)),
+            "c1": constant, "c2": constant, "d1": constant, "d2": constant}
+    if "topology" in table:
+        delay = number(1, limits.delay)
+        keys |= {"topology": Key(word("chain", "star", "tree")), "size": Key(number(1, limits.nodes)),
+                 "delay": Key(delay)}
+        if limits.two_way:
+            keys["back"] = Key(delay, False)
+        if table["topology"] == "tree":
+            keys["degree"] = Key(number(2, limits.nodes - 1))
+    else:
+        keys |= {"nodes": Key(number(1, limits.nodes)), "link": Key(array(limits.nodes - 1), False)}
+    keys["member"] = Key(array(limits.members), False)
+    for part in ("draw", "session", "drop", *(["outage"] if limits.outages else [])):
+        keys[part] = Key(array(limits.elements), False)
+    return keys
+
+
+def faults(table: dict[str, Any], keys: dict[str, Key]) -> Iterator[tuple[str, str]]:
+    """What is wrong with the keys of one table: each key, and what is told of it."""
+    for key in table:
+        if key not in keys:
+            yield key, "is no key here" + _hint(key, table)
+    for key, one in keys.items():
+        if key in table:
+            told = one.check(table[key])
+            if told:
+                yield key, told
+        elif one.needed:
+            yield key, "is missing"
+
+
+def _hint(key: str, table: dict[str, Any]) -> str:
+    """Why a key is not allowed that the format has elsewhere."""
+    if "version" in table and key in ("nodes", "link") and "topology" in table:
+        return " beside `topology`"
+    if "version" in table and key in ("size", "delay", "back", "degree") and "topology" not in table:
+        return " without `topology`"
+    if key == "degree":
+        return " but for a tree"
+    if key in ("back", "outage"):
+        return " in version 1"
+    return ""
+
+
+def check_keys(table: dict[str, Any]) -> None:
+    """Refuses a table in which a key is unknown, missing, of a wrong type or out of its range; the first fault."""
+    version = table.get("version")
+    limits = VERSIONS.get(version, VERSIONS[max(VERSIONS)]) if isinstance(version, int) else VERSIONS[max(VERSIONS)]
+    for key, told in faults(table, top(limits, table)):
+        raise ScenarioError(f"top table: `{key}` {told}", "top", 0, key)
+    keys = elements(limits)
+    for part in PARTS:
+        for place, element in enumerate(table.get(part, [])):
+            if not isinstance(element, dict):
+                raise ScenarioError(f"{part} {place} is {element!r}, and has to be a table", part, place)
+            for key, told in faults(element, keys[part]):
+                raise ScenarioError(f"{part} {place}: `{key}` {told}", part, place, key)

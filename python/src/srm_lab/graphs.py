@@ -1,0 +1,157 @@
+"""Networks from networkx graphs, GraphML, GML and lists of edges."""
+import math
+from dataclasses import dataclass
+from pathlib import Path
+from typing import Any
+
+import networkx
+
+from .errors import ScenarioError
+from .limits import MOST_NODES
+from .link import Link
+from .tree import Tree
+
+SPANNING = ("shortest", "minimum")
+
+
+@dataclass(frozen=True)
+class Delays:
+    """Where the delays of a graph's edges stand, and what they are in ticks.
+
+    A link's delay is the edge's attribute `attribute` times `factor`, rounded to a whole tick; its delay back is that
+    of `back`, if such an attribute is named. Of a directed graph each edge has the delay of its own direction. An edge
+    without the attribute takes `default` ticks; where there is no default, it is refused.
+    """
+
+    attribute: str = "delay"
+    default: int | None = None
+    factor: float = 1
+    back: str | None = None
+
+    def of(self, edge: str, data: dict[str, Any], attribute: str) -> int:
+        """The ticks of an edge, which `edge` names."""
+        if attribute not in data:
+            if self.default is None:
+                raise ScenarioError(f"{edge} has no attribute {attribute!r}, and no default delay is given")
+            return self.default
+        value = data[attribute]
+        try:
+            ticks = float(value) * self.factor
+        except (TypeError, ValueError):
+            raise ScenarioError(f"{edge}: {attribute} = {value!r} is no number") from None
+        if not math.isfinite(ticks):
+            raise ScenarioError(f"{edge}: {attribute} = {value!r} is no finite number")
+        if self.factor == 1 and ticks != int(ticks):
+            raise ScenarioError(f"{edge}: {attribute} = {value!r} is no whole number of ticks: give a factor")
+        return round(ticks)
+
+
+def from_graph(graph: Any, delays: Delays = Delays(), spanning_tree: str | None = None, root: Any = None) -> Tree:
+    """The tree of a networkx graph. Nodes are numbered in the graph's own order, and keep their names.
+
+    A graph that is no tree is refused, unless `spanning_tree` says which of its trees is taken: `shortest`, that of
+    the shortest paths from `root` (without it from the graph's first node), or `minimum`, that of the least sum of
+    delays.
+    """
+    if graph.number_of_nodes() > MOST_NODES:
+        raise ScenarioError(f"the graph has {graph.number_of_nodes()} nodes, and the format has room for {MOST_NODES}")
+    number = {node: place for place, node in enumerate(graph.nodes)}
+    links = _links_of(graph, delays)
+    if spanning_tree is not None:
+        links = _spanned(list(number), links, spanning_tree, root)
+    elif number and len(links) != len(number) - 1:
+        raise ScenarioError(f"{len(number)} nodes and {len(links)} edges are no tree: "
+                            "say spanning_tree=\"shortest\" or \"minimum\"")
+    made = tuple(Link(number[a], number[b], delay, back) for a, b, delay, back in links)
+    return Tree(len(number), made, names=tuple(str(node) for node in number))
+
+
+def _links_of(graph: Any, delays: Delays) -> list[tuple[Any, Any, int, int]]:
+    """Each edge with its delays; of a directed graph the two edges between two nodes are one link."""
+    links: dict[tuple[Any, Any], tuple[Any, Any, int, int]] = {}
+    many = []
+    found = 0
+    for a, b, data in graph.edges(data=True):
+        edge = f"edge {a} - {b}"
+        found += delays.attribute in data
+        delay = delays.of(edge, data, delays.attribute)
+        back = delay if delays.back is None else delays.of(edge, data, delays.back)
+        if graph.is_directed() and (b, a) in links and a != b:
+            links[b, a] = (*links[b, a][:3], delay)
+        elif (a, b) in links:
+            many.append((a, b, delay, back))
+        else:
+            links[a, b] = (a, b, delay, back)
+    if not found and delays.attribute != "delay" and graph.number_of_edges():
+        raise ScenarioError(f"no edge has an attribute {delays.attribute!r}")
+    return [*links.values(), *many]
+
+
+def _spanned(nodes: list[Any], links: list[tuple[Any, Any, int, int]], which: str, root: Any) -> list:
+    """The links of a spanning tree."""
+    if which not in SPANNING:
+        raise ScenarioError(f"spanning_tree is {which!r}, and has to be one of {', '.join(SPANNING)}")
+    simple = networkx.Graph()
+    simple.add_nodes_from(nodes)
+    for link in sorted(links, key=lambda link: -(link[2] + link[3])):  # of parallel edges the shortest stays
+        if link[0] != link[1]:
+            simple.add_edge(link[0], link[1], weight=link[2] + link[3], link=link)
+    if not networkx.is_connected(simple):
+        raise ScenarioError("the graph is not connected, so it has no spanning tree")
+    if which == "minimum":
+        chosen = networkx.minimum_spanning_tree(simple).edges
+    else:
+        if root is None:
+            root = nodes[0]
+        if root not in simple:
+            raise ScenarioError(f"the root {root!r} is no node of the graph")
+        near, _ = networkx.dijkstra_predecessor_and_distance(simple, root)
+        chosen = [(before[0], node) for node, before in near.items() if before]
+    kept = {simple.edges[edge]["link"] for edge in chosen}
+    return [link for link in links if link in kept]
+
+
+def from_file(path: str | Path, delays: Delays = Delays(), spanning_tree: str | None = None,
+              root: str | None = None) -> Tree:
+    """The tree in a GraphML or GML file, or in a list of edges (`node node` or `node node delay` in each line)."""
+    name = str(path).lower()
+    try:
+        if name.endswith(".graphml"):
+            graph = networkx.read_graphml(path)
+        elif name.endswith(".gml"):
+            graph = networkx.read_gml(path, label=None if _has_no_labels(path) else "label")
+        elif name.endswith((".edges", ".edgelist", ".txt")):
+            graph = _edge_list(path, delays.attribute)
+        else:
+            raise ScenarioError(f"{path}: the name has to end in .graphml, .gml, .edges, .edgelist or .txt")
+    except OSError as fault:
+        raise ScenarioError(f"{path}: {fault.strerror}") from None
+    except ScenarioError:
+        raise
+    except Exception as fault:  # each of networkx's readers has exceptions of its own
+        raise ScenarioError(f"{path}: cannot be read as a graph: {fault}") from None
+    if root is not None:
+        root = next((node for node in graph.nodes if str(node) == root), root)
+    try:
+        return from_graph(graph, delays, spanning_tree, root)
+    except ScenarioError as fault:
+        raise ScenarioError(f"{path}: {fault}") from None
+
+
+def _has_no_labels(path: str | Path) -> bool:
+    with open(path, encoding="utf-8") as text:
+        return not any(line.split()[:1] == ["label"] for line in text)
+
+
+def _edge_list(path: str | Path, attribute: str) -> Any:
+    """A graph from lines of two node names and perhaps a delay; `#` begins a comment."""
+    graph = networkx.MultiGraph()
+    with open(path, encoding="utf-8") as text:
+        for place, line in enumerate(text, 1):
+            words = line.split("#")[0].split()
+            if not words:
+                continue
+            if len(words) not in (2, 3):
+                raise ScenarioError(f"{path}: line {place} has {len(words)} words, and has to have 2 or 3")
+            graph.add_edge(words[0], words[1], **({attribute: words[2]} if len(words) == 3 else {}))
+    return graph

@@ -1,0 +1,96 @@
+"""What the parts of a scenario have to be to each other, as docs/FORMATS.md has it, in the order of its refusals."""
+from typing import TYPE_CHECKING
+
+from .errors import ScenarioError
+
+if TYPE_CHECKING:
+    from .scenario import Scenario
+
+
+def check_rules(given: "Scenario") -> None:
+    """Refuses a scenario whose parts do not fit each other, with the first of its faults."""
+    _members(given)
+    _draws(given)
+    _sessions(given)
+    _drops(given)
+    _outages(given)
+
+
+def _members(given: "Scenario") -> None:
+    taken: dict[int, int] = {}
+    for place, member in enumerate(given.members):
+        def fault(key: str, told: str, place: int = place) -> ScenarioError:
+            return ScenarioError(f"member {place}: `{key}` {told}", "member", place, key)
+
+        if member.node >= given.tree.nodes:
+            raise fault("node", f"is {member.node}, and the network has {given.tree.nodes} nodes")
+        if member.node == given.tree.hub:
+            raise fault("node", f"is {member.node}, the hub of the star, on which no member may be placed")
+        if member.node in taken:
+            raise fault("node", f"is {member.node}, on which member {taken[member.node]} is: a node has one member")
+        if member.join >= given.end:
+            raise fault("join", f"is {member.join}, and has to be before the end of the run at {given.end}")
+        if member.leave is not None and member.leave <= member.join:
+            raise fault("leave", f"is {member.leave}, and has to be after it joins at {member.join}")
+        if member.pages is not None and member.role != "late":
+            raise fault("pages", f"are given, and its role is {member.role}: only a late member has wanted pages")
+        taken[member.node] = place
+
+
+def _while_there(given: "Scenario", part: str, place: int, at: int, number: int) -> None:
+    """Refuses what a member is to do at a time at which it is not there, or that is not before the end."""
+    member = given.members[number]
+    told = None
+    if at < member.join:
+        told = f"before member {number} joins at {member.join}"
+    elif member.leave is not None and at > member.leave:
+        told = f"after member {number} leaves at {member.leave}"
+    elif at >= given.end:
+        told = f"not before the end of the run at {given.end}"
+    if told:
+        raise ScenarioError(f"{part} {place}: `at` is {at}, which is {told}", part, place, "at")
+
+
+def _known(given: "Scenario", part: str, place: int, key: str, number: int) -> None:
+    if number >= len(given.members):
+        raise ScenarioError(f"{part} {place}: `{key}` is {number}, and there are {len(given.members)} members",
+                            part, place, key)
+
+
+def _draws(given: "Scenario") -> None:
+    for place, draw in enumerate(given.draws):
+        _known(given, "draw", place, "member", draw.member)
+        role = given.members[draw.member].role
+        if role != "sender":
+            raise ScenarioError(f"draw {place}: `member` is {draw.member}, a {role}, and only senders draw",
+                                "draw", place, "member")
+        _while_there(given, "draw", place, draw.at, draw.member)
+
+
+def _sessions(given: "Scenario") -> None:
+    for place, session in enumerate(given.sessions):
+        _known(given, "session", place, "member", session.member)
+        if given.members[session.member].role == "listener":
+            raise ScenarioError(f"session {place}: `member` is {session.member}, a listener, which sends nothing",
+                                "session", place, "member")
+        _while_there(given, "session", place, session.at, session.member)
+
+
+def _link(given: "Scenario", part: str, place: int, link: int) -> None:
+    if link >= len(given.tree.links):
+        raise ScenarioError(f"{part} {place}: there is no link {link}: the network has {len(given.tree.links)}",
+                            part, place, "link")
+
+
+def _drops(given: "Scenario") -> None:
+    for place, drop in enumerate(given.drops):
+        _link(given, "drop", place, drop.link)
+        _known(given, "drop", place, "sender", drop.sender)
+
+
+def _outages(given: "Scenario") -> None:
+    for place, outage in enumerate(given.outages):
+        _link(given, "outage", place, outage.link)
+        if outage.first >= outage.end:
+            raise ScenarioError(f"outage {place}: `from` is {outage.first}, and has to be below `to`, {outage.end}",
+                                "outage", place, "from")

@@ -1,0 +1,53 @@
+"""Scenario files: writing them."""
+import json
+from dataclasses import asdict
+from typing import TYPE_CHECKING, Any
+
+import tomli_w
+
+from .errors import ScenarioError
+from .limits import VERSIONS
+
+if TYPE_CHECKING:
+    from .scenario import Scenario
+
+NAMES = "names of nodes: "
+
+
+def table_of(given: "Scenario") -> dict[str, Any]:
+    """The keys and values of a scenario's file."""
+    top: dict[str, Any] = {"version": given.least_version if given.version is None else given.version,
+                           "until": given.end}
+    top |= {name: getattr(given, name) for name in ("c1", "c2", "d1", "d2")}
+    top |= given.tree.shorthand or {"nodes": given.tree.nodes}
+    parts = {
+        "link": [] if given.tree.shorthand else [
+            {"a": link.a, "b": link.b, "delay": link.delay, **({} if link.is_even else {"back": link.back})}
+            for link in given.tree.links],
+        "member": [_member(asdict(member)) for member in given.members],
+        "draw": [asdict(draw) for draw in given.draws],
+        "session": [asdict(session) for session in given.sessions],
+        "drop": [asdict(drop) for drop in given.drops],
+        "outage": [{"link": one.link, "from": one.first, "to": one.end} for one in given.outages],
+    }
+    return top | {name: elements for name, elements in parts.items() if elements}
+
+
+def _member(keys: dict[str, Any]) -> dict[str, Any]:
+    """A member's keys, without those that have their defaults."""
+    if keys["pages"] is not None:
+        keys["pages"] = list(keys["pages"])
+    return {key: value for key, value in keys.items() if value is not None and (key, value) != ("join", 0)}
+
+
+def text_of(given: "Scenario") -> str:
+    """A scenario's file: its comments, the names of its nodes as a comment, and its table."""
+    comments = list(given.comments)
+    if given.tree.names:
+        comments.append(NAMES + json.dumps(given.tree.names))
+    lines = "".join(f"# {line}".rstrip() + "\n" for comment in comments for line in comment.splitlines() or [""])
+    text = lines + tomli_w.dumps(table_of(given))
+    most = VERSIONS[max(VERSIONS)].bytes
+    if len(text.encode()) > most:
+        raise ScenarioError(f"the text has {len(text.encode())} bytes, and the format has room for {most}")
+    return text
