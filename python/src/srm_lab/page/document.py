@@ -6,12 +6,12 @@ from collections.abc import Iterable, Iterator
 from typing import Any
 
 from ..history import History
-from ..reading import Given
+from ..scenario import Scenario
 from .columns import packed, steps
 from .cut import Cut, Part, part_of
 from .lengths import lengths_of
 from .network import links_of
-from .run import Event, Name, events_of
+from .run import Name, events_of
 
 CAUSES = ("join", "data", "request", "repair", "session", "ask", "answer", "draw", "report", "leave")
 RESULTS = ("in", "out", "fresh", "fixed", "again", "skip", "rest", "busy", "plan", "hold", "back", "told", "sent")
@@ -21,7 +21,7 @@ KINDS = ("data", "request", "repair", "session")
 class Document:
     """A run's page as data."""
 
-    def __init__(self, given: Given, rows: Iterable[Any], seed: int = 0, cut: Cut = Cut()) -> None:
+    def __init__(self, given: Scenario, rows: Iterable[Any], seed: int = 0, cut: Cut = Cut()) -> None:
         self.given, self.seed, self.cut = given, seed, cut
         self.all = list(events_of(History(given, rows)))
         last = self.all[-1].row.time if self.all else 0
@@ -44,21 +44,20 @@ class Document:
 
     def about(self, title: str, comments: list[str]) -> dict[str, Any]:
         """All but the columns: the scenario, and what of the trace is there."""
-        table = self.given.table
-        members = [[it["node"], it["role"], it["stream"], it.get("join", 0), it.get("leave"), it.get("pages", [])]
-                   for it in self.given.members]
+        given = self.given
+        members = [[it.node, it.role, it.stream, it.join, it.leave, list(it.pages or ())] for it in given.members]
         return {
             "title": title,
             "comments": comments,
             "seed": self.seed,
-            "until": table["until"],
-            "constants": [table[key] for key in ("c1", "c2", "d1", "d2")],
-            "kind": table.get("topology", "links"),
-            "nodes": table.get("nodes", table.get("size")),
-            "links": [list(link) for link in links_of(table)],
+            "until": given.end,
+            "constants": [given.c1, given.c2, given.d1, given.d2],
+            "kind": given.tree.shorthand.get("topology", "links"),
+            "nodes": given.tree.nodes,
+            "links": [list(link) for link in links_of(given)],
             "members": members,
-            "drops": sorted({(it["link"], it["sender"], it["count"]) for it in table["drop"]}),
-            "outages": [[it["link"], it["from"], it["to"]] for it in table["outage"]],
+            "drops": sorted({(it.link, it.sender, it.count) for it in given.drops}),
+            "outages": [[it.link, it.first, it.end] for it in given.outages],
             "names": self.names,
             "told": None if self.part.names is None else [int(name in self.part.names) for name in self.names],
             "timers": self.lengths is not None,

@@ -2,7 +2,7 @@
 from collections import Counter
 from typing import Any
 
-from ..reading import Given
+from ..scenario import Scenario
 from .network import RoundTrips, links_of
 from .run import Event
 from .words import Words
@@ -13,12 +13,11 @@ MOST_BACKOFFS = 10
 class Lengths:
     """The lengths of timers, drawn in the order in which they were set."""
 
-    def __init__(self, given: Given, seed: int) -> None:
+    def __init__(self, given: Scenario, seed: int) -> None:
         self.members = given.members
-        self.constants = given.table
-        table = given.table
-        self.trips = RoundTrips(table.get("nodes", table.get("size", 0)), links_of(table))
-        self.words = [Words(seed, member["stream"]) for member in given.members]
+        self.given = given
+        self.trips = RoundTrips(given.tree.nodes, links_of(given))
+        self.words = [Words(seed, member.stream) for member in given.members]
         self.attempts: Counter[tuple[int, tuple[int, ...]]] = Counter()
 
     def of(self, event: Event) -> list[int]:
@@ -39,12 +38,12 @@ class Lengths:
         return self._scaled("c", 2**backoffs, timer.member, timer.name[0])
 
     def _scaled(self, letter: str, share: int, member: int, other: int) -> tuple[int, int]:
-        least, more = self.constants[letter + "1"], self.constants[letter + "2"]
-        share *= self.trips.half(self.members[member]["node"], self.members[other]["node"])
+        least, more = getattr(self.given, letter + "1"), getattr(self.given, letter + "2")
+        share *= self.trips.half(self.members[member].node, self.members[other].node)
         return share * least // 1000, share * (least + more) // 1000
 
 
-def lengths_of(given: Given, events: list[Event], seed: int, begins: int) -> list[list[int]] | None:
+def lengths_of(given: Scenario, events: list[Event], seed: int, begins: int) -> list[list[int]] | None:
     """For each row the lengths of the timers that it set, or None where the trace is not that of this seed.
 
     A timer that expired lasted its length; one that ended otherwise lasted no longer than that.

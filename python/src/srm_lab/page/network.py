@@ -1,40 +1,19 @@
-"""The links of a scenario's table, with both delays, and round trips over them."""
+"""Round trips over a scenario's links."""
 from functools import lru_cache
-from typing import Any, NamedTuple
+
+from ..link import Link
+from ..scenario import Scenario
 
 
-class Way(NamedTuple):
-    """A link: its ends, and the ticks that a packet takes from `a` to `b` and from `b` to `a`."""
-
-    a: int
-    b: int
-    delay: int
-    back: int
-
-
-def links_of(table: dict[str, Any]) -> list[Way]:
-    """The links of a scenario's table, in their order."""
-    shape = table.get("topology")
-    if shape is None:
-        return [Way(link["a"], link["b"], link["delay"], link.get("back", link["delay"])) for link in table.get("link", [])]
-    delay = table["delay"]
-    back = table.get("back", delay)
-    return [Way(parent_of(shape, node, table.get("degree", 2)), node, delay, back) for node in range(1, table["size"])]
-
-
-def parent_of(shape: str, node: int, degree: int) -> int:
-    """The parent of a node in a chain, a star or a tree, as docs/FORMATS.md numbers them."""
-    if shape == "chain":
-        return node - 1
-    if shape == "star" or node <= degree:
-        return 0
-    return 1 + (node - degree - 1) // (degree - 1)
+def links_of(given: Scenario) -> tuple[Link, ...]:
+    """The links of a scenario, in their order."""
+    return given.tree.links
 
 
 class RoundTrips:
     """Half the round trip between two nodes, rounded down."""
 
-    def __init__(self, nodes: int, links: list[Way]) -> None:
+    def __init__(self, nodes: int, links: tuple[Link, ...]) -> None:
         self.near: list[list[tuple[int, int]]] = [[] for _ in range(nodes)]
         for link in links:
             self.near[link.a].append((link.b, link.delay + link.back))
