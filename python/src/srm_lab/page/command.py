@@ -16,9 +16,9 @@ from .cut import MOST_ROWS, Cut
 from .document import Document
 from .html import page
 
-ABOUT = """Writes a page that plays a run to standard output: one HTML file, which opens from disk and asks nothing of the network.
-
-Without a trace the run is made: by --program, by the program that the environment's SRM_LAB names, or by srm_lab of the PATH.
+ABOUT = """Writes a page that plays a run to standard output: one HTML file, which opens from disk and asks nothing
+of the network. Without a trace the run is made: by --program, by the program that the environment's SRM_LAB names, or
+by srm_lab of the PATH.
 """
 COLUMNS = ["time", "member", "cause", "ref", "result", "lost", "sent"]
 

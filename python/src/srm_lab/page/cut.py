@@ -29,8 +29,8 @@ class Part:
 def part_of(events: list[Event], cut: Cut) -> Part:
     """The rows of a run that a cut leaves.
 
-    Rows after the end go. With names, only joins, leaves and rows about one of these stay. With a begin, of the rows before it
-    only joins, leaves and rows about operations that a later row is about, or that somebody lacks there.
+    Rows after the end go. With names, only joins, leaves and rows about one of these stay. With a begin, of the rows
+    before it only joins, leaves and rows about operations that a later row is about, or that somebody lacks there.
     """
     kept = [event for event in events if cut.end is None or event.row.time <= cut.end]
     names: set[Name] | None = None

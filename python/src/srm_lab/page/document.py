@@ -92,7 +92,8 @@ class Document:
             "packetSender": [packet.sender for packet in self.packets],
             "packetCount": list(steps(packet.count for packet in self.packets)),
             "packetKind": [KINDS.index(packet.kind) for packet in self.packets],
-            "packetName": [0 if packet.name is None else 1 + self.number[tuple(packet.name)] for packet in self.packets],
+            "packetName": [0 if packet.name is None else 1 + self.number[tuple(packet.name)]
+                           for packet in self.packets],
             "packetTime": list(steps(packet.time for packet in self.packets)),
             "packetRow": [1 + sent_at.get(id(packet), -1) for packet in self.packets],
         }

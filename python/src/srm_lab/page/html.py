@@ -7,9 +7,9 @@ from ..errors import ScenarioError
 
 ASSETS = Path(__file__).parent / "assets"
 # in the order in which later files use what earlier ones define
-SCRIPTS = ("codes", "decode", "network", "trace", "history", "states", "tables", "moments", "rules", "reasons", "elements", "theme",
-           "layout", "marks", "player", "address", "filters", "network_view", "sequence_view", "slider", "lanes", "why", "grid",
-           "keys", "app")
+SCRIPTS = ("codes", "decode", "network", "trace", "history", "states", "tables", "moments", "rules", "reasons",
+           "elements", "theme", "layout", "marks", "player", "address", "filters", "network_view", "sequence_view",
+           "slider", "lanes", "why", "grid", "keys", "app")
 D3 = ("/usr/share/nodejs/d3/dist/d3.min.js",)
 
 
@@ -18,7 +18,8 @@ def library() -> str:
     for path in (os.environ.get("D3_JS"), *D3):
         if path and Path(path).is_file():
             return Path(path).read_text(encoding="utf-8")
-    raise ScenarioError("the page needs d3: install Debian's package node-d3, or name a d3.min.js of version 5 in D3_JS")
+    raise ScenarioError("the page needs d3: install Debian's package node-d3, or name a d3.min.js of version 5 in "
+                        "D3_JS")
 
 
 def script() -> str:

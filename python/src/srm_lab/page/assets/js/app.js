@@ -140,11 +140,11 @@ class App {
     this.speedOutput = element("output", { id: "speed" });
     this.skipBox = element("input", { type: "checkbox", id: "skip", checked: true, change: () => player.setSkips(this.skipBox.checked) });
     byId("controls").append(
-      button("⏮", "To the beginning (Home)", () => player.seek(-Infinity)),
+      button("|◂", "To the beginning (Home)", () => player.seek(-Infinity)),
       button("◂ Event", "One event back (←)", () => player.stepEvent(-1)),
       this.playButton,
       button("Event ▸", "One event on (→)", () => player.stepEvent(1)),
-      button("⏭", "To the end (End)", () => player.seek(Infinity)),
+      button("▸|", "To the end (End)", () => player.seek(Infinity)),
       this.tickOutput,
       button("◂ Loss", "To the previous loss (P)", () => this.stepLoss(-1)),
       button("Loss ▸", "To the next loss (N)", () => this.stepLoss(1)),
@@ -210,8 +210,8 @@ class App {
         classOf: (row) => (row === this.player.rows - 1 ? "now" : row >= this.player.rows ? "later" : ""),
       }),
       members: () => ({
-        items: tables.members, none: "No member.",
-        columns: MEMBER_COLUMNS.map((title, at) => ({ ...cell(MEMBER_COLUMNS, at, false), isNumber: at !== 1, title, width: at === 1 ? "62px" : "minmax(30px,1fr)" })),
+        items: tables.members, none: "No member.", minimum: 820,
+        columns: MEMBER_COLUMNS.map((title, at) => ({ ...cell(MEMBER_COLUMNS, at, false), isNumber: at !== 1, title, width: at === 1 ? "74px" : "minmax(0,1fr)" })),
         onPick: (item) => this.pick({ kind: "member", member: item[0] }), isPicked: (item) => this.selection?.kind === "member" && this.selection.member === item[0],
       }),
       losses: () => ({

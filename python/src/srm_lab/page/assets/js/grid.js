@@ -4,8 +4,8 @@ const LINE = 24;
 
 /** A table with sortable columns. A column has `title`, `value(item)`, `isNumber`, and `width` as in grid-template-columns. */
 class Grid {
-  constructor(box, { columns, items, onPick, isPicked, classOf, none }) {
-    Object.assign(this, { columns, items, onPick, isPicked, classOf, none });
+  constructor(box, { columns, items, onPick, isPicked, classOf, none, minimum = 0 }) {
+    Object.assign(this, { columns, items, onPick, isPicked, classOf, none, minimum });
     this.sorted = { column: -1, isFalling: false };
     this.order = items.map((_, at) => at);
     this.focused = 0;
@@ -16,9 +16,9 @@ class Grid {
     const widths = this.columns.map((column) => column.width ?? "minmax(0,1fr)").join(" ");
     this.widths = `grid-template-columns:${widths}`;
     this.heads = this.columns.map((column, at) => element("button", { type: "button", class: column.isNumber ? "number" : "", title: `Sort by ${column.title}`, click: () => this.sortBy(at) }, column.title));
-    const head = element("div", { class: "head", role: "rowgroup" }, element("div", { class: "line", role: "row", style: this.widths },
+    const head = element("div", { class: "head", role: "rowgroup", style: `min-width:${this.minimum}px` }, element("div", { class: "line", role: "row", style: this.widths },
       this.heads.map((button) => element("span", { role: "columnheader", class: button.className }, button))));
-    this.body = element("div", { class: "body", role: "rowgroup", style: `height:${this.items.length * LINE}px` });
+    this.body = element("div", { class: "body", role: "rowgroup", style: `height:${this.items.length * LINE}px;min-width:${this.minimum}px` });
     this.scroller = element("div", { class: "grid", role: "grid", tabindex: "0", "aria-rowcount": this.items.length, "aria-label": "Table",
       scroll: () => this.draw(), keydown: (event) => this._key(event) }, head, this.body);
     if (!this.items.length) this.scroller.append(element("p", { class: "none" }, this.none ?? "None."));

@@ -46,7 +46,7 @@ const DASHES = [[], [7, 3], [2, 3], [1, 4]];
 
 /** A small canvas for a legend, on which something is drawn. */
 function swatch(draw, width = 22, height = 14) {
-  const canvas = element("canvas", { class: "swatch", "aria-hidden": "true" });
+  const canvas = element("canvas", { class: "swatch", "aria-hidden": "true", style: `width:${width}px;height:${height}px` });
   const scale = window.devicePixelRatio || 1;
   canvas.width = width * scale;
   canvas.height = height * scale;

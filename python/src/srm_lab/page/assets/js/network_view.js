@@ -293,7 +293,7 @@ class NetworkView {
     for (const { packet, x, y } of moving) {
       const text = packet.name >= 0 ? trace.nameText(packet.name) : "session";
       context.fillStyle = this.theme.kinds[packet.kind];
-      context.fillText(text, x + r + 3, y - r - 5 - 12 * this.lanes[packet.id]);
+      context.fillText(text, x + r + 3, y - this.radius - 9 - 12 * this.lanes[packet.id]);
     }
   }
 
