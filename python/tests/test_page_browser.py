@@ -91,8 +91,8 @@ def test_opens_plays_and_has_the_programs_tables(browser, make_page, srm_lab, na
     scenario = EXAMPLES / f"{name}.toml"
     show(browser, make_page(scenario))
     for table in ("trace", "members", "losses", "links"):
-        assert browser.execute_script(f"return srmPage.model.csv('{table}')") == srm_lab(scenario.read_text(), "--show",
-                                                                                      table), table
+        must = srm_lab(scenario.read_text(), "--show", table)
+        assert browser.execute_script(f"return srmPage.model.csv('{table}')") == must, table
     browser.execute_script("srmPage.player.setSpeed(1e9); srmPage.player.play()")
     wait_for(browser, "return !srmPage.player.isPlaying && srmPage.player.rows === srmPage.model.trace.length")
     browser.execute_script("srmPage.showView('sequence')")
@@ -160,10 +160,10 @@ def test_a_link_to_a_moment(browser, make_page):
         document.documentElement.dataset.theme, document.querySelector('#why h2').textContent];""")
     assert said == ["sequence", "losses", 3, "dark", "Operation 0/0/0"]
     press(browser, "\ue014")
-    wait_for(browser, "return location.hash.includes('tick=15') && location.hash.includes('rows=16')")
+    wait_for(browser, "return location.hash.includes('tick=16') && location.hash.includes('rows=16')")
     kept = browser.execute_script("return location.hash").lstrip("#")
     show(browser, path, kept)
-    assert moment(browser) == [15, 16]
+    assert moment(browser) == [16, 16]
     assert errors(browser) == []
 
 
@@ -238,7 +238,7 @@ def test_a_run_of_1024_members_and_250000_rows(browser, make_page, srm_lab, tmp_
         requestAnimationFrame(count);""")
     print(f"opened in {opened:.2f} s, {frames:.0f} frames a second, {room} bytes")
     for table in ("members", "losses", "links"):
-        assert browser.execute_script(f"return srmPage.model.csv('{table}')") == srm_lab(scenario.read_text(), "--show",
-                                                                                      table), table
+        must = srm_lab(scenario.read_text(), "--show", table)
+        assert browser.execute_script(f"return srmPage.model.csv('{table}')") == must, table
     assert errors(browser) == []
     assert opened < 3 and frames >= 30

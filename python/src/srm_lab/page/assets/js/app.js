@@ -321,6 +321,7 @@ class App {
     if (this.table === "rows") this._showInGrid();
     if (this.player.isPlaying) return;
     this.tell(this._inWords());
+    this.views.network.describe();
     this._write();
   }
 

@@ -55,7 +55,7 @@ function numbersIn(text, limit) {
 class Surface {
   constructor(canvas, onResize) {
     this.canvas = canvas;
-    this.context = canvas.getContext("2d");
+    this.context = canvas.getContext("2d", { alpha: false });
     this.width = this.height = 0;
     new ResizeObserver(() => { if (this.fit()) onResize(); }).observe(canvas.parentElement);
     this.fit();

@@ -41,6 +41,8 @@ function cross(context, x, y, r, colour, width = 2.5) {
   context.restore();
 }
 
+const MOST_EDGED = 150;
+
 /** How packets of one kind are drawn as lines. */
 const DASHES = [[], [7, 3], [2, 3], [1, 4]];
 
@@ -90,6 +92,19 @@ function drawPacket(context, theme, kind, x, y, r) {
   packetOutline(context, kind, x, y, r);
   context.fillStyle = theme.kinds[kind];
   context.fill();
+  context.lineWidth = 1;
+  context.strokeStyle = theme.paper;
+  context.stroke();
+}
+
+/** Draws packets of one kind at once. */
+function drawPackets(context, theme, kind, places, r) {
+  if (!places.length) return;
+  context.beginPath();
+  for (const { x, y } of places) packetOutline(context, kind, x, y, r);
+  context.fillStyle = theme.kinds[kind];
+  context.fill();
+  if (places.length > MOST_EDGED) return;
   context.lineWidth = 1;
   context.strokeStyle = theme.paper;
   context.stroke();

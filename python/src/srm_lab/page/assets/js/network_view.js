@@ -64,12 +64,13 @@ class NetworkView {
     if (!this.fitted || this.surface.canvas.offsetParent === null) return;
     this.surface.fit();
     const context = this.surface.cleared(this.theme.paper);
-    this.surface.paste(this._links());
+    this.surface.paste(this.radius < 5 ? this._still() : this._links());
     this._outages(context);
     this._selectedLink(context);
-    this._members(context);
+    if (this.radius >= 5) this._members(context);
+    this._rings(context);
+    this._labels(context);
     this._packets(context);
-    this._describe();
   }
 
   /** Links and nodes without a member, drawn once for a place. */
@@ -163,11 +164,23 @@ class NetworkView {
 
   _members(context) {
     const { states } = this.model;
-    const isSmall = this.radius < 5;
-    if (isSmall) this._manyMembers(context);
-    else this.network.members.forEach((member, number) => drawMember(context, this.theme, member.role, states.of(number), this.x[member.node], this.y[member.node], this.radius));
-    this._rings(context);
-    this._labels(context);
+    this.network.members.forEach((member, number) => drawMember(context, this.theme, member.role, states.of(number), this.x[member.node], this.y[member.node], this.radius));
+  }
+
+  /** Links with many small members, drawn anew only where a member's state changed. */
+  _still() {
+    const { states } = this.model;
+    const seen = Uint8Array.from(this.network.members, (_, member) => states.of(member));
+    if (this.still && this.still.background === this.background && seen.every((state, member) => state === this.still.seen[member])) return this.still.canvas;
+    const background = this._links();
+    const { canvas, context } = this.surface.copy();
+    context.save();
+    context.setTransform(1, 0, 0, 1, 0, 0);
+    context.drawImage(background, 0, 0);
+    context.restore();
+    this._manyMembers(context);
+    this.still = { canvas, seen, background };
+    return canvas;
   }
 
   /** Members as small marks, those of one state at once; those that lack something are drawn larger, and last. */
@@ -246,7 +259,7 @@ class NetworkView {
       if (this.filters.shows(packet) && packet.row < states.rows) this._follow(context, packet, moving);
     }
     const r = Math.max(3.2, Math.min(6.5, this.radius * 0.55));
-    for (const { packet, x, y } of moving) drawPacket(context, this.theme, packet.kind, x, y, r);
+    KINDS.forEach((_, kind) => drawPackets(context, this.theme, kind, moving.filter(({ packet }) => packet.kind === kind), r));
     if (moving.length && moving.length <= MOST_LABELLED_PACKETS && this.radius >= 8) this._packetLabels(context, moving, r);
   }
 
@@ -298,7 +311,7 @@ class NetworkView {
   }
 
   /** What is seen, in words, for those who do not see it. */
-  _describe() {
+  describe() {
     const { states } = this.model;
     const counts = STATES.map(() => 0);
     for (let member = 0; member < states.members; member++) counts[states.of(member)]++;
