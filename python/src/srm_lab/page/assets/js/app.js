@@ -210,8 +210,8 @@ class App {
         classOf: (row) => (row === this.player.rows - 1 ? "now" : row >= this.player.rows ? "later" : ""),
       }),
       members: () => ({
-        items: tables.members, none: "No member.", minimum: 820,
-        columns: MEMBER_COLUMNS.map((title, at) => ({ ...cell(MEMBER_COLUMNS, at, false), isNumber: at !== 1, title, width: at === 1 ? "74px" : "minmax(0,1fr)" })),
+        items: tables.members, none: "No member.", minimum: 900,
+        columns: MEMBER_COLUMNS.map((title, at) => ({ ...cell(MEMBER_COLUMNS, at, false), isNumber: at !== 1, title, width: at <= 1 ? "82px" : "minmax(0,1fr)" })),
         onPick: (item) => this.pick({ kind: "member", member: item[0] }), isPicked: (item) => this.selection?.kind === "member" && this.selection.member === item[0],
       }),
       losses: () => ({

@@ -62,11 +62,14 @@ class NetworkView {
   /** Draws the moment of the model. */
   draw() {
     if (!this.fitted || this.surface.canvas.offsetParent === null) return;
-    this.surface.fit();
+    if (this.surface.fit()) {
+      this.resize();
+      return;
+    }
     const context = this.surface.cleared(this.theme.paper);
     this.surface.paste(this.radius < 5 ? this._still() : this._links());
-    this._outages(context);
     this._selectedLink(context);
+    this._outages(context);
     if (this.radius >= 5) this._members(context);
     this._rings(context);
     this._labels(context);
@@ -110,10 +113,11 @@ class NetworkView {
     if (this.radius < 9) return;
     context.fillStyle = this.theme.soft;
     context.font = `11px ${TEXT_FONT}`;
-    context.textAlign = "center";
     context.textBaseline = "middle";
     this.network.links.forEach(({ a, b }, link) => {
-      const [x, y] = this._beside(a, b, 0.5, 14);
+      const isSteep = Math.abs(this.y[a] - this.y[b]) > Math.abs(this.x[a] - this.x[b]);
+      context.textAlign = isSteep ? "left" : "center";
+      const [x, y] = isSteep ? [(this.x[a] + this.x[b]) / 2 + 9, (this.y[a] + this.y[b]) / 2] : this._beside(a, b, 0.5, 14);
       context.fillText(`link ${link}`, x, y);
     });
   }
@@ -159,7 +163,7 @@ class NetworkView {
   _selectedLink(context) {
     if (this.selection?.kind !== "link") return;
     const { a, b } = this.network.links[this.selection.link];
-    this._line(context, a, b, this.theme.accent, 4, []);
+    this._line(context, a, b, this.theme.accent, 7, []);
   }
 
   _members(context) {
@@ -258,7 +262,7 @@ class NetworkView {
       const packet = trace.packets[id];
       if (this.filters.shows(packet) && packet.row < states.rows) this._follow(context, packet, moving);
     }
-    const r = Math.max(3.2, Math.min(6.5, this.radius * 0.55));
+    const r = Math.max(2.2, Math.min(6.5, this.radius * 0.55));
     KINDS.forEach((_, kind) => drawPackets(context, this.theme, kind, moving.filter(({ packet }) => packet.kind === kind), r));
     if (moving.length && moving.length <= MOST_LABELLED_PACKETS && this.radius >= 8) this._packetLabels(context, moving, r);
   }

@@ -60,6 +60,43 @@ class SequenceView {
     return first ? new Reasons(this.model.history, first.name).members() : new Set(this.order.slice(0, MOST_COLUMNS));
   }
 
+  /** With many members only the packets of one loss are shown, with those by which it was found: the selected one, or the first. */
+  _focusOn(selection) {
+    const { history } = this.model;
+    const isMany = this.network.members.length > MOST_COLUMNS && history.losses.length > 0;
+    const name = selection?.kind === "loss" ? selection.name : this.focus?.name ?? history.losses[0]?.name;
+    if (!isMany || name === this.focus?.name) return;
+    const losses = history.lossesOfName.get(name) ?? [];
+    this.focus = { name, packets: new Set(losses.map((loss) => this.trace.packet[loss.detected])) };
+    this._zoomTo(this._extentOf(name, losses));
+  }
+
+  /** From the drawing of an operation to its last recovery, request or repair. */
+  _extentOf(name, losses) {
+    const { time } = this.trace;
+    const sent = this.trace.packets.filter((packet) => packet.name === name).map((packet) => packet.time);
+    const ends = losses.map((loss) => this.model.history.endOf(loss)).filter((row) => row >= 0).map((row) => time[row]);
+    return d3.extent([...sent, ...ends, ...losses.map((loss) => time[loss.detected])]);
+  }
+
+  _zoomTo([begin, end]) {
+    const [first, last] = this.base.domain();
+    const [top, bottom] = this.base.range();
+    const margin = Math.max(1, 0.08 * (end - begin));
+    const k = Math.max(1, (last - first) / (end - begin + 2 * margin));
+    const y = top - k * this.base(Math.max(first, begin - margin));
+    this.transform = d3.zoomIdentity.translate(0, k === 1 ? 0 : Math.max(y, bottom - k * bottom)).scale(k);
+    this.surface.canvas.__zoom = this.transform;
+  }
+
+  _tellsName(name) {
+    return this.filters.showsName(name) && (this.filters.name >= 0 || !this.focus || name === this.focus.name);
+  }
+
+  _tellsPacket(packet) {
+    return this.filters.name >= 0 || !this.focus || packet.name === this.focus.name || this.focus.packets.has(packet.id);
+  }
+
   redrawAll() {
     this.picture = null;
     this.draw();
@@ -174,7 +211,7 @@ class SequenceView {
   _losses(context) {
     const { history } = this.model;
     for (const loss of history.losses) {
-      if (!this.place.has(loss.member) || !this.filters.showsName(loss.name)) continue;
+      if (!this.place.has(loss.member) || !this._tellsName(loss.name)) continue;
       const end = history.endOf(loss);
       const [begin, until] = [this.trace.time[loss.detected], end >= 0 ? this.trace.time[end] : this.to];
       if (until < this.from || begin > this.to) continue;
@@ -191,7 +228,7 @@ class SequenceView {
   _packets(context) {
     const used = new Map();
     for (const packet of this.trace.packets) {
-      if (!this.filters.shows(packet) || packet.time > this.to) continue;
+      if (!this.filters.shows(packet) || !this._tellsPacket(packet) || packet.time > this.to) continue;
       const route = this.network.routeOf(packet.sender);
       if (packet.time + route.longest < this.from) continue;
       this._packet(context, packet, route, used);
@@ -208,8 +245,8 @@ class SequenceView {
       if (near === undefined || near === null) continue;
       const line = this._way(packet, route, near, member);
       if (line.y1 < TOP_MARGIN - 40 || line.y0 > this.surface.height) continue;
-      const shift = this._lane(used, near, member, line.begin, packet);
-      if (heard.has(member)) this._packetLine(context, packet, line, shift, heard.get(member));
+      if (!heard.has(member)) continue;
+      this._packetLine(context, packet, line, this._lane(used, near, member, line.begin, packet), heard.get(member));
     }
     for (const at of fate?.dropped ?? []) this._dropped(context, packet, route, at, from, used);
   }
@@ -291,31 +328,40 @@ class SequenceView {
 
   /** Timers along their members' lines: set at a ring, expired at a dot, ended otherwise at a bar. */
   _timers(context) {
-    for (const timer of this.model.history.timers) {
-      if (!this.place.has(timer.member) || !this.filters.showsName(timer.name) || !this.filters.kinds[timer.kind]) continue;
-      const begin = this.trace.time[timer.set];
-      const end = timer.end >= 0 ? this.trace.time[timer.end] : this.to;
-      if (end >= this.from && begin <= this.to) this._timer(context, timer, begin, end);
-    }
+    const shown = this.model.history.timers.filter((timer) => this._showsTimer(timer));
+    for (const timer of shown) this._timerLine(context, timer);
+    for (const timer of shown) this._timerSet(context, timer);
+    for (const timer of shown) if (timer.end >= 0) this._timerEnd(context, timer);
   }
 
-  _timer(context, timer, begin, end) {
-    const colour = this.theme.kinds[timer.kind];
+  _showsTimer(timer) {
+    if (!this.place.has(timer.member) || !this._tellsName(timer.name) || !this.filters.kinds[timer.kind]) return false;
+    const end = timer.end >= 0 ? this.trace.time[timer.end] : this.to;
+    return end >= this.from && this.trace.time[timer.set] <= this.to;
+  }
+
+  _timerLine(context, timer) {
     const x = this.x(timer.member);
-    this._stroke(context, [[x, this.y(begin)], [x, this.y(end)]], colour, 2.4, []);
+    const end = timer.end >= 0 ? this.trace.time[timer.end] : this.to;
+    this._stroke(context, [[x, this.y(this.trace.time[timer.set])], [x, this.y(end)]], this.theme.kinds[timer.kind], 2.4, []);
+  }
+
+  _timerSet(context, timer) {
+    const [x, y] = [this.x(timer.member), this.y(this.trace.time[timer.set])];
     context.beginPath();
-    context.arc(x, this.y(begin), 3, 0, 2 * Math.PI);
+    context.arc(x, y, 3, 0, 2 * Math.PI);
     context.fillStyle = this.theme.paper;
     context.fill();
+    context.strokeStyle = this.theme.kinds[timer.kind];
+    context.lineWidth = 1.8;
     context.stroke();
-    this._hit(x, this.y(begin), timer.set, timer);
-    if (timer.end < 0) return;
-    this._timerEnd(context, timer, x, this.y(end), colour);
-    this._hit(x, this.y(end), timer.end, timer);
+    this._hit(x, y, timer.set, timer);
   }
 
-  _timerEnd(context, timer, x, y, colour) {
-    context.fillStyle = colour;
+  _timerEnd(context, timer) {
+    const [x, y] = [this.x(timer.member), this.y(this.trace.time[timer.end])];
+    context.fillStyle = this.theme.kinds[timer.kind];
+    this._hit(x, y, timer.end, timer);
     if (timer.how !== "expired") {
       context.fillRect(x - 5, y - 1.2, 10, 2.4);
       return;
@@ -346,6 +392,10 @@ class SequenceView {
 
   _memberHead(context, member) {
     const x = this.x(member);
+    if (this.step < 24) {
+      this._steepHead(context, member, x);
+      return;
+    }
     const { role } = this.network.members[member];
     const r = Math.min(11, this.step * 0.45);
     const isPicked = this.selection?.kind === "member" && this.selection.member === member;
@@ -357,9 +407,21 @@ class SequenceView {
     context.lineWidth = 1;
     context.stroke();
     context.fillStyle = textOn(isPicked ? this.theme.accent : this.theme.holds);
-    context.font = `600 ${this.step < 22 ? 8 : 11}px ${TEXT_FONT}`;
+    context.font = `600 11px ${TEXT_FONT}`;
     context.textAlign = "center";
     context.fillText(member, x, 30);
+  }
+
+  /** A member's number upwards, where columns are narrow. */
+  _steepHead(context, member, x) {
+    context.save();
+    context.translate(x, TOP_MARGIN - 4);
+    context.rotate(-Math.PI / 2);
+    context.fillStyle = this.selection?.kind === "member" && this.selection.member === member ? this.theme.accent : this.theme.ink;
+    context.font = `600 10px ${TEXT_FONT}`;
+    context.textAlign = "left";
+    context.fillText(member, 0, 0);
+    context.restore();
   }
 
   /** Which members are shown, where it is not all. */
@@ -367,7 +429,7 @@ class SequenceView {
     const all = this.network.members.length;
     if (this.columns.length === all) return "Members by their distance from the source";
     const why = this.filters.members ? "of the filter" : this.concerned ? "that the selected loss concerns" : "that the first loss concerns";
-    return `${this.columns.length} of ${all} members: ${this.isCut ? "some of those" : "those"} ${why}`;
+    return `${this.columns.length} of ${grouping(all)} members: ${this.isCut ? "some of those" : "those"} ${why}${this.focus && this.filters.name < 0 ? `, ${this.trace.nameText(this.focus.name)}, with its packets only` : ""}`;
   }
 
   /** The line of the present tick. */
@@ -411,6 +473,8 @@ class SequenceView {
   select(selection, concerned) {
     this.selection = selection;
     this.concerned = concerned;
+    this.base.range([TOP_MARGIN + 14, this.surface.height - 20]);
+    this._focusOn(selection);
     this.redrawAll();
   }
 
