@@ -26,6 +26,16 @@ picture: $(SRM_LAB) ## draws a run: make picture SCENARIO=examples/star-loss-at-
 	@trace=$$(mktemp) && trap 'rm -f "$$trace"' EXIT && $(SRM_LAB) $(ARGUMENTS) < $(SCENARIO) > "$$trace" && \
 		PYTHONPATH=python/src $(PYTHON) -m srm_lab.picture $(SCENARIO) "$$trace" $(PICTURE)
 
+.PHONY: page pages
+page: $(SRM_LAB) ## writes a page that plays a run: make page SCENARIO=examples/star-loss-at-one-member.toml > star.html
+	@SRM_LAB=$(abspath $(SRM_LAB)) PYTHONPATH=python/src $(PYTHON) -m srm_lab page $(SCENARIO) $(ARGUMENTS)
+
+pages: $(SRM_LAB) ## writes such a page for each file of examples/ to out/pages/
+	@mkdir -p out/pages
+	@for scenario in examples/*.toml; do \
+		$(MAKE) --no-print-directory page SCENARIO=$$scenario > out/pages/$$(basename $$scenario .toml).html || exit 1; done
+	@echo out/pages
+
 CONFIG ?= experiments/config.yaml
 JOBS ?= $(shell nproc)
 # a name is taken from where make was called, and where there is no such file, from experiments/

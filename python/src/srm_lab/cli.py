@@ -10,6 +10,7 @@ from . import graphs, losses, tree
 from .errors import ScenarioError
 from .graphs import Delays
 from .limits import MOST_TIME, NEWEST, within
+from .page import command as page_command
 from .parts import Draw, Drop, Member, Session
 from .scenario import Scenario, Ticks, place_members, thousandths
 from .tree import Tree
@@ -18,6 +19,8 @@ ABOUT = """Writes a scenario file of srm_lab to standard output.
 
 Member 0 is the source: it draws, and its packets are lost. The other members are receivers. Times and delays are in
 ticks, constants are plain numbers (2 is written as 2000 thousandths). All random choices are those of --seed.
+
+`srm-scenarios page SCENARIO [TRACE]` writes a page that plays a run instead; see its --help.
 """
 DELAY = 1000
 
@@ -211,6 +214,8 @@ def parser() -> argparse.ArgumentParser:
 def main(words: Sequence[str] | None = None) -> int:
     """Writes the scenario of the words, or says on standard error why there is none and ends with status 1."""
     words = sys.argv[1:] if words is None else words
+    if words[:1] == ["page"]:
+        return page_command.main(words[1:])
     options = parser().parse_args(words)
     try:
         scenario = build(options)

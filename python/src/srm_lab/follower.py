@@ -94,7 +94,10 @@ class Follower:
 
     def _lost(self, row: Row, packet: Packet | None) -> list[Name]:
         """The names that a member finds missing in this row."""
-        if packet is None or self.given.members[row.member].role == "listener" or row.result == "skip":
+        if packet is None or self.given.members[row.member].role == "listener":
+            return []
+        if row.result == "skip":
+            self._skipped(row.member, packet)
             return []
         if packet.name is None:
             tops = packet.listed
@@ -112,6 +115,11 @@ class Follower:
             raise ScenarioError(f"member {row.member} lost {row.lost} names at tick {row.time}, and not {len(lost)}: "
                                 "is this the trace of this scenario?")
         return lost
+
+    def _skipped(self, member: int, packet: Packet) -> None:
+        """A late member meets a page at a request too, which does not concern it."""
+        if packet.name is not None and (member, *packet.name[:2]) not in self._next:
+            self._meet(member, *packet.name[:2], packet.name[2] + 1)
 
     def _first(self, member: int, source: int, page: int, otherwise: int) -> int:
         """The first number that the member has not heard of; at a new page 0, or `otherwise` where it is late."""

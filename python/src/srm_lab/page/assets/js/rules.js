@@ -1,0 +1,168 @@
+// The rule of docs/MODEL.md that a row followed, in words.
+
+/** Tells rows in words. */
+class Rules {
+  constructor(history) {
+    this.history = history;
+    this.trace = history.trace;
+    this.network = history.network;
+  }
+
+  /** What happened in a row, in one line. */
+  headline(row) {
+    const { trace } = this;
+    const member = `Member ${trace.member[row]}`;
+    const name = trace.nameText(trace.name[row]);
+    const packet = trace.packet[row] >= 0 ? trace.packets[trace.packet[row]] : null;
+    switch (trace.cause[row]) {
+      case CAUSE.join: return `${member} joins`;
+      case CAUSE.leave: return `${member} leaves`;
+      case CAUSE.draw: return trace.result[row] === RESULT.sent ? `${member} draws ${name}` : `${member} is to draw`;
+      case CAUSE.report: return `${member} sends a session message`;
+      case CAUSE.ask: return `${member} asks for ${name}`;
+      case CAUSE.answer: return `${member} repairs ${name}`;
+      case CAUSE.session: return `${member} hears a session message of member ${packet.sender}`;
+      case CAUSE.request: return `${member} hears member ${packet.sender} ask for ${name}`;
+      case CAUSE.repair: return `${member} hears a repair of ${name} by member ${packet.sender}`;
+      default: return `${member} hears ${name} of its source`;
+    }
+  }
+
+  /** The rule that a row followed: sentences. */
+  rule(row) {
+    const { trace } = this;
+    const sentences = this._case(row);
+    if (trace.lost[row] > 0) sentences.push(this._losses(row));
+    if (trace.cause[row] === CAUSE.repair && trace.result[row] !== RESULT.skip) sentences.push(...this._heardRepair(row));
+    if (trace.sent[row] >= 0) sentences.push(this._sent(row));
+    return sentences;
+  }
+
+  _case(row) {
+    const { trace } = this;
+    const name = trace.nameText(trace.name[row]);
+    switch (trace.result[row]) {
+      case RESULT.in: return ["From its join on a member hears packets, and what the scenario has it draw and report happens."];
+      case RESULT.out: return ["A member that leaves takes its timers and its open losses with it."];
+      case RESULT.fresh: return this._fresh(row, name);
+      case RESULT.fixed: return [`It was missing ${name}. It takes the operation in, and its request timer ends.`];
+      case RESULT.again: return [`It has ${name} already.`];
+      case RESULT.told: return ["It learns the highest number that the sender knows of, page by page."];
+      case RESULT.skip: return [this._skip(row, name)];
+      case RESULT.rest: return [this._rest(row, name)];
+      case RESULT.busy: return [this._busy(row, name)];
+      case RESULT.plan: return [`It holds ${name}, no rest is on, and no repair timer is pending: it sets one for the requester.`, this._timer(row, KIND.repair)];
+      case RESULT.hold: return [this._hold(row, name)];
+      case RESULT.back: return [`It lacks ${name} too, and its ignore time is over: it backs off, so that its request timer is set anew.`, this._timer(row, KIND.request)];
+      default: return this._sentCase(row, name);
+    }
+  }
+
+  _fresh(row, name) {
+    const isListener = this.network.members[this.trace.member[row]].role === "listener";
+    if (isListener) return [`A listener takes in what it does not hold: ${name}.`];
+    return [`${name} is at or above the first number of its page that the member had not heard of: it takes the operation in.`];
+  }
+
+  _skip(row, name) {
+    const cause = this.trace.cause[row];
+    if (this.network.members[this.trace.member[row]].role === "listener") return "A listener skips all but data and repairs.";
+    if (cause === CAUSE.draw) return "The page has its 4,096 operations, so nothing is drawn.";
+    if (isArrival(cause)) return `${name} is from before the first thing that this late member heard of the page, so it does not concern it.`;
+    return "There is no such timer.";
+  }
+
+  _rest(row, name) {
+    const rest = this._restAt(row);
+    const until = rest ? ` until tick ${rest.to}` : "";
+    return `It holds ${name}, but sent or heard a repair of it a short while ago: the name rests${until}, and the request goes unanswered.`;
+  }
+
+  _busy(row, name) {
+    const timer = this._timerAt(row, KIND.repair);
+    const told = timer ? ` It was set at ${this.trace.time[timer.set]} for member ${timer.requester}${this._due(timer)}.` : "";
+    return `It holds ${name}, and its repair timer is pending already, which stays as it is.${told}`;
+  }
+
+  _hold(row, name) {
+    const timer = this._timerAt(row, KIND.request);
+    const until = timer ? this.history.ignoreUntil(timer) : null;
+    return `It lacks ${name} too, but backed off a short while ago: up to its ignore time${until === null ? "" : `, tick ${until},`} a request makes it back off no further.`;
+  }
+
+  _sentCase(row, name) {
+    switch (this.trace.cause[row]) {
+      case CAUSE.ask: return [`Its request timer expired, and it still lacks ${name}: it asks all members, and backs off.`, this._timer(row, KIND.request)];
+      case CAUSE.answer: return [`Its repair timer expired: it sends ${name} to all. ${this._restBegins(row)}`];
+      case CAUSE.draw: return [`It draws the next operation of its page, holds it, and sends it as data.`];
+      default: return ["It tells of each page that it knows the highest number."];
+    }
+  }
+
+  _losses(row) {
+    const { trace, history } = this;
+    const names = Array.from(trace.lostIn(row));
+    const told = names.slice(0, 4).map((name) => trace.nameText(name)).join(", ");
+    const more = trace.lost[row] - Math.min(names.length, 4);
+    const first = names.length ? history.losses[history.lossAt[history.cell(trace.member[row], names[0])]].timers[0] : null;
+    const timer = first && names.length === 1 ? ` ${this._timerText(first)}` : "";
+    return `By that it finds ${trace.lost[row]} operation${trace.lost[row] === 1 ? "" : "s"} missing: ${told}${more > 0 ? ` and ${more} more` : ""}. Each gets a request timer.${timer}`;
+  }
+
+  _heardRepair(row) {
+    if (this.network.members[this.trace.member[row]].role === "listener") return [];
+    const ended = this._timersOf(row, KIND.repair).some((timer) => timer.end === row);
+    return [`${this._restBegins(row)}${ended ? " Its own repair timer ends: the repair is sent already." : ""}`];
+  }
+
+  _restBegins(row) {
+    const rest = this._restsOf(row).find((it) => it.begin === row);
+    return rest ? `The name rests for ${rest.to - rest.from} ticks, up to ${rest.to}: requests for it go unanswered.` : "";
+  }
+
+  _sent(row) {
+    const packet = this.trace.packets[this.trace.sent[row]];
+    const fate = this.network.fateOf(packet);
+    const links = fate ? fate.dropped.map((at) => this.network.routeOf(packet.sender).link[at]) : [];
+    const dropped = links.length ? ` It is dropped at link ${links.join(" and link ")}.` : "";
+    return `It sends its packet ${this.trace.packetText(packet)} to all members.${dropped}`;
+  }
+
+  /** The timer that a row set. */
+  _timer(row, kind) {
+    const timer = this._timersOf(row, kind).filter((it) => it.set === row).pop();
+    return timer ? this._timerText(timer) : "";
+  }
+
+  /** A timer in words: from where it was drawn, and when it ends. */
+  _timerText(timer) {
+    const drawn = timer.least === timer.most ? `${timer.least}` : `${timer.least} to ${timer.most}`;
+    const after = timer.backoffs ? ` after ${timer.backoffs} backoff${timer.backoffs === 1 ? "" : "s"}` : "";
+    return `The timer is drawn from ${drawn} ticks${after}${this._due(timer)}.`;
+  }
+
+  _due(timer) {
+    const expiry = this.history.expiryOf(timer);
+    return expiry === null ? "" : `, and would expire at tick ${expiry}`;
+  }
+
+  _timersOf(row, kind) {
+    const { trace, history } = this;
+    const timers = history.timersOf.get(trace.member[row]) ?? [];
+    return timers.filter((timer) => timer.kind === kind && timer.name === trace.name[row]);
+  }
+
+  /** The timer that is pending as a row comes. */
+  _timerAt(row, kind) {
+    return this._timersOf(row, kind).filter((timer) => timer.set < row && (timer.end < 0 || timer.end >= row)).pop();
+  }
+
+  _restsOf(row) {
+    const rests = this.history.restsOf.get(this.trace.member[row]) ?? [];
+    return rests.filter((rest) => rest.name === this.trace.name[row]);
+  }
+
+  _restAt(row) {
+    return this._restsOf(row).filter((rest) => rest.begin < row).pop();
+  }
+}

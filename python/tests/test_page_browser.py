@@ -1,0 +1,249 @@
+"""Pages in Chromium: they open without errors and without the network, play, and show what the program's tables say."""
+import csv
+import gzip
+import io
+import json
+import shutil
+import time
+from pathlib import Path
+
+import pytest
+
+from srm_lab.page.command import main
+from srm_lab.page.html import library
+
+ROOT = Path(__file__).resolve().parents[2]
+EXAMPLES = ROOT / "examples"
+NAMES = sorted(path.stem for path in EXAMPLES.glob("*.toml"))
+TICKS = 10
+webdriver = pytest.importorskip("selenium.webdriver")
+
+
+@pytest.fixture(scope="module")
+def browser():
+    """Headless Chromium; without it the test is skipped."""
+    chromium, driver = shutil.which("chromium"), shutil.which("chromedriver")
+    if not chromium or not driver:
+        pytest.skip("no chromium or no chromedriver")
+    options = webdriver.ChromeOptions()
+    options.binary_location = chromium
+    for word in ("--headless=new", "--no-sandbox", "--disable-gpu", "--disable-dev-shm-usage",
+                 "--window-size=1440,900", "--force-prefers-color-scheme=light"):
+        options.add_argument(word)
+    options.set_capability("goog:loggingPrefs", {"browser": "ALL", "performance": "ALL"})
+    from selenium.webdriver.chrome.service import Service
+    one = webdriver.Chrome(service=Service(driver), options=options)
+    yield one
+    one.quit()
+
+
+@pytest.fixture
+def make_page(tmp_path, capsys, program):
+    """Writes the page of a scenario's file, and returns its path."""
+    def make(scenario, *words):
+        assert main([str(scenario), *words, "--program", str(program)]) == 0
+        path = tmp_path / "run.html"
+        path.write_text(capsys.readouterr().out, encoding="utf-8")
+        return path
+
+    return make
+
+
+def show(browser, path, moment=""):
+    """Opens a page at a moment, and waits until it is there."""
+    browser.get("about:blank")
+    browser.get_log("performance")
+    browser.get_log("browser")
+    browser.get(f"{path.as_uri()}#{moment}")
+    wait_for(browser, "return document.body && document.body.dataset.ready === 'yes'")
+
+
+def wait_for(browser, question, seconds=20):
+    """Waits for seconds at most until the page answers yes."""
+    until = time.monotonic() + seconds
+    while not browser.execute_script(question):
+        assert time.monotonic() < until, question
+        time.sleep(0.02)
+
+
+def errors(browser):
+    return [entry["message"] for entry in browser.get_log("browser") if entry["level"] in ("SEVERE", "WARNING")]
+
+
+def requests(browser):
+    """What the page asked for beside itself."""
+    events = [json.loads(entry["message"])["message"] for entry in browser.get_log("performance")]
+    asked = [it["params"]["request"]["url"] for it in events if it["method"] == "Network.requestWillBeSent"]
+    return [url for url in asked if not url.startswith(("file:", "data:", "blob:", "about:"))]
+
+
+def press(browser, key):
+    from selenium.webdriver.common.action_chains import ActionChains
+    ActionChains(browser).send_keys(key).perform()
+
+
+def moment(browser):
+    return browser.execute_script("const p = srmPage.player; return [p.tick, p.rows];")
+
+
+@pytest.mark.parametrize("name", NAMES)
+def test_opens_plays_and_has_the_programs_tables(browser, make_page, srm_lab, name):
+    scenario = EXAMPLES / f"{name}.toml"
+    show(browser, make_page(scenario))
+    for table in ("trace", "members", "losses", "links"):
+        must = srm_lab(scenario.read_text(), "--show", table)
+        assert browser.execute_script(f"return srmPage.model.csv('{table}')") == must, table
+    browser.execute_script("srmPage.player.setSpeed(1e9); srmPage.player.play()")
+    wait_for(browser, "return !srmPage.player.isPlaying && srmPage.player.rows === srmPage.model.trace.length")
+    browser.execute_script("srmPage.showView('sequence')")
+    assert errors(browser) == [] and requests(browser) == []
+
+
+def shown_cells(browser, table):
+    browser.execute_script(f"srmPage.showTable('{table}')")
+    return browser.execute_script("return Array.from(document.querySelectorAll('#grid .body .line'), "
+                                  "(line) => Array.from(line.children, (cell) => cell.textContent))")
+
+
+def test_lines_of_the_tables_are_the_programs(browser, make_page, srm_lab):
+    scenario = EXAMPLES / "outage-in-mid-session.toml"
+    show(browser, make_page(scenario))
+    for table in ("members", "losses", "links"):
+        rows = list(csv.reader(io.StringIO(srm_lab(scenario.read_text(), "--show", table))))
+        assert shown_cells(browser, table) == rows[1:]
+
+
+def expected(trace, losses, tick):
+    """Of each member its state's name and how many operations it holds and lacks, from the program's tables."""
+    rows = [row for row in csv.DictReader(io.StringIO(trace)) if int(row["time"]) <= tick]
+    found = {}
+    for row in rows:
+        member = found.setdefault(int(row["member"]), {"held": 0, "lacked": 0, "there": False, "left": False})
+        member["there"] |= row["cause"] == "join"
+        member["left"] |= row["cause"] == "leave"
+        member["held"] += row["result"] in ("fresh", "fixed") or (row["cause"], row["result"]) == ("draw", "sent")
+    for loss in csv.DictReader(io.StringIO(losses)):
+        is_open = loss["recovered"] == "-" or int(loss["recovered"]) > tick
+        if int(loss["detected"]) <= tick and is_open and not found[int(loss["member"])]["left"]:
+            found[int(loss["member"])]["lacked"] += 1
+    return found
+
+
+@pytest.mark.parametrize("name", ["chain-of-five-one-loss", "outage-in-mid-session", "receiver-that-leaves",
+                                  "late-joiner", "star-loss-at-one-member"])
+def test_states_at_ten_ticks_are_those_of_the_trace(browser, make_page, srm_lab, name):
+    scenario = EXAMPLES / f"{name}.toml"
+    trace, losses = srm_lab(scenario.read_text()), srm_lab(scenario.read_text(), "--show", "losses")
+    last = int(trace.splitlines()[-1].split(",")[0])
+    show(browser, make_page(scenario))
+    for tick in (last * part // (TICKS - 1) for part in (9, 0, 5, 2, 8, 1, 7, 3, 6, 4)):
+        browser.execute_script(f"srmPage.player.seek({tick})")
+        shown = browser.execute_script("""
+            const { states } = srmPage.model;
+            const words = ["absent", "holds", "plans", "rests", "lacks", "asked", "left"];
+            return Array.from({ length: states.members },
+                (_, member) => [words[states.of(member)], states.count(0, member), states.count(1, member)]);""")
+        for member, (state, held, lacked) in enumerate(shown):
+            must = expected(trace, losses, tick).get(member)
+            assert (state == "absent") == (must is None or not must["there"]), (tick, member)
+            if must is None:
+                continue
+            assert (state == "left") == must["left"] and held == must["held"], (tick, member)
+            assert lacked == must["lacked"] and (state in ("lacks", "asked")) == (must["lacked"] > 0), (tick, member)
+
+
+def test_a_link_to_a_moment(browser, make_page):
+    path = make_page(EXAMPLES / "chain-of-five-one-loss.toml")
+    show(browser, path, "tick=15&view=sequence&table=losses&hide=session&name=0/0/0&select=loss:0/0/0:3&theme=dark")
+    assert moment(browser) == [15, 15]
+    said = browser.execute_script("""return [srmPage.view, srmPage.table, srmPage.selection.member,
+        document.documentElement.dataset.theme, document.querySelector('#why h2').textContent];""")
+    assert said == ["sequence", "losses", 3, "dark", "Operation 0/0/0"]
+    press(browser, "\ue014")
+    wait_for(browser, "return location.hash.includes('tick=16') && location.hash.includes('rows=16')")
+    kept = browser.execute_script("return location.hash").lstrip("#")
+    show(browser, path, kept)
+    assert moment(browser) == [16, 16]
+    assert errors(browser) == []
+
+
+def test_keys(browser, make_page):
+    left, right, home, end, shift = "\ue012", "\ue014", "\ue011", "\ue010", "\ue008"
+    show(browser, make_page(EXAMPLES / "chain-of-five-one-loss.toml"))
+    press(browser, home)
+    begin = moment(browser)
+    press(browser, right)
+    assert moment(browser)[1] == begin[1] + 1
+    press(browser, left)
+    assert moment(browser)[1] == begin[1]
+    press(browser, end)
+    assert moment(browser) == [19, 22]
+    press(browser, home)
+    press(browser, "n")
+    assert moment(browser)[0] == 12
+    press(browser, shift + right)
+    assert moment(browser)[0] == 13
+    press(browser, "2")
+    assert browser.execute_script("return srmPage.view") == "sequence"
+    speed = browser.execute_script("return srmPage.player.speed")
+    press(browser, "+")
+    assert browser.execute_script("return srmPage.player.speed") > speed
+    press(browser, " ")
+    assert browser.execute_script("return srmPage.player.isPlaying")
+    press(browser, " ")
+    assert not browser.execute_script("return srmPage.player.isPlaying")
+    press(browser, "s")
+    assert not browser.execute_script("return srmPage.player.skips")
+    press(browser, "?")
+    assert browser.execute_script("return document.querySelector('dialog').open")
+    assert errors(browser) == []
+
+
+def large(draws):
+    """A tree of 1,024 members, with losses at nine links."""
+    lines = ['version = 2', 'until = 10000000', 'c1 = 2000', 'c2 = 2000', 'd1 = 1000', 'd2 = 1000',
+             'topology = "tree"', 'size = 1024', 'delay = 1000', 'degree = 4', 'member = [']
+    lines += [f'{{ node = {node}, role = "{"receiver" if node else "sender"}", stream = {node + 1} }},'
+              for node in range(1024)]
+    lines += ["]", "draw = ["]
+    lines += [f"{{ member = 0, page = 0, ink = {draw}, at = {700 * draw} }}," for draw in range(draws)]
+    lines += ["]", "drop = ["]
+    lines += [f"{{ link = {link}, sender = 0, count = {3 * place} }},"
+              for place, link in enumerate((3, 40, 200, 900, 11, 500, 77, 650, 333))]
+    return "\n".join([*lines, "]"])
+
+
+def frames_a_second(browser):
+    """Of three seconds of play; others that work on the machine make it less."""
+    return browser.execute_async_script("""
+        const done = arguments[0];
+        let frames = 0;
+        const begin = performance.now();
+        srmPage.player.play();
+        const count = (now) => {
+          frames++;
+          if (now - begin > 3000) { srmPage.player.pause(); done(1000 * frames / (now - begin)); }
+          else requestAnimationFrame(count);
+        };
+        requestAnimationFrame(count);""")
+
+
+def test_a_run_of_1024_members_and_250000_rows(browser, make_page, srm_lab, tmp_path):
+    """It opens in 3 seconds, plays at 30 frames a second, and is small."""
+    scenario = tmp_path / "large.toml"
+    scenario.write_text(large(220))
+    trace = srm_lab(scenario.read_text())
+    assert 240_000 < trace.count("\n") <= 250_001
+    path = make_page(scenario)
+    room = path.stat().st_size - len(library().encode())
+    assert room <= 5 * len(gzip.compress(trace.encode(), 9))
+    begin = time.monotonic()
+    show(browser, path)
+    opened = time.monotonic() - begin
+    frames = max(frames_a_second(browser) for _ in range(3))
+    print(f"opened in {opened:.2f} s, {frames:.0f} frames a second, {room} bytes")
+    for table in ("members", "losses", "links"):
+        must = srm_lab(scenario.read_text(), "--show", table)
+        assert browser.execute_script(f"return srmPage.model.csv('{table}')") == must, table
+    assert errors(browser) == []
+    assert opened < 3 and frames >= 30
