@@ -28,8 +28,9 @@ $(PROGRAM): $(SOURCES)
 run: $(PROGRAM) ## prints the trace of a scenario, or what ARGUMENTS ask for: make run SCENARIO=examples/two-nodes.toml ARGUMENTS="--show links"
 	@$(PROGRAM) $(ARGUMENTS) < $(SCENARIO)
 
-try: ## the same program, unproved and with no build before it, in under a minute: make try SCENARIO=..
-	@cd crates/srm_lab && $(RT) try < $(abspath $(SCENARIO))
+try: ## the same program, unproved and compiled anew each time, in one to two and a half minutes: make try SCENARIO=.. ARGUMENTS=..
+	@echo "compiling the program, without a proof: one to two and a half minutes" >&2
+	@cd crates/srm_lab && $(RT) try $(if $(ARGUMENTS),-- $(ARGUMENTS)) < $(abspath $(SCENARIO))
 
 check: ## what an edit needs: proves each crate that changed, or CRATE=srm_net with the crates below it; checks scripts and documents
 	@tests/tools_tests.py -q

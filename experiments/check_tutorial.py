@@ -4,7 +4,7 @@ usage: check_tutorial.py PROGRAM PAGE...
 
 Commands stand in blocks marked `console`, each after `$ `, with further lines after `> `; what follows is their output,
 in which a line `...` stands for any lines. They are run by one shell, in order, at the root of the repository, with
-PROGRAM as `srm_lab` on the path. Ends with status 1 at the first page with a difference.
+PROGRAM as `srm_lab`. Ends with status 1 at the first page with a difference.
 """
 import os
 import re
@@ -43,13 +43,11 @@ def run(commands, program):
     """What each command writes, and its status, from one shell."""
     with tempfile.TemporaryDirectory() as place:
         place = Path(place)
-        (place / "bin").mkdir()
-        (place / "bin/python3").symlink_to("/usr/bin/python3")
-        # the page puts its own directory in front of the path; a function stands before both
+        # the page puts its own directories in front of the path; a function stands before all, and SRM_LAB for Python
         script = [f'srm_lab() {{ "{program}" "$@"; }}']
         for number, (command, _) in enumerate(commands):
             script.append(f"{{ {command}\n}} > {place}/{number}.out 2>&1; echo $? > {place}/{number}.status")
-        environment = {**os.environ, "PATH": f"{place}/bin:{os.environ['PATH']}", "TMPDIR": str(place)}
+        environment = {**os.environ, "SRM_LAB": str(program), "TMPDIR": str(place), "XDG_CACHE_HOME": str(place)}
         subprocess.run(["bash", "-c", "\n".join(script)], cwd=ROOT, env=environment, check=False)
         for number in range(len(commands)):
             status = place / f"{number}.status"

@@ -19,11 +19,12 @@ from dataclasses import dataclass
 from itertools import combinations
 from pathlib import Path
 
-from srm_lab import tree
+from srm_lab import Scenario, read_scenario, tree
 from srm_lab.cli import build, parser
+from srm_lab.link import Link
 from srm_lab.losses import links_in_use
-from srm_lab.reading import read_scenario
-from srm_lab.scenario import Scenario
+from srm_lab.parts import Draw, Drop, Member, Session
+from srm_lab.statistics import difference, interval
 from srm_lab.tables import read_trace
 
 HERE = Path(__file__).resolve().parent
@@ -116,22 +117,22 @@ def whole(text):
 def ns2_input(text, rules, seed, cycle=None):
     """A scenario's text as ns2/srm.tcl reads it; `cycle` is (link, K) in place of the drops of every K-th draw."""
     given = read_scenario(text)
-    table = given.table
-    draws = sorted(draw["at"] for draw in table["draw"])
+    draws = sorted(draw.at for draw in given.draws)
     every = draws[1] - draws[0] if len(draws) > 1 else 1
     assert draws == [place * every for place in range(len(draws))], "draws have to be equally far apart, from tick 0"
-    lines = ["constants " + " ".join(str(table[name] / 1000) for name in ("c1", "c2", "d1", "d2")),
-             f"seed {seed}", f"end {table['until']}"]
-    lines += [f"link {a} {b} {delay}" for a, b, delay in given.tree.links]
-    lines += [f"member {member['node']}" for member in table["member"]]
+    lines = ["constants " + " ".join(str(getattr(given, name) / 1000) for name in ("c1", "c2", "d1", "d2")),
+             f"seed {seed}", f"end {given.end}"]
+    assert given.tree.is_even, "ns-2 is given one delay for a link"
+    lines += [f"link {link.a} {link.b} {link.delay}" for link in given.tree.links]
+    lines += [f"member {member.node}" for member in given.members]
     lines += [f"draws {len(draws)} {every}"]
-    lines += [f"session {session['at']}" for session in table["session"]]
+    lines += [f"session {session.at}" for session in given.sessions]
     if cycle:
         lines.append(f"cycle {cycle[0]} {cycle[1]}")
     else:
-        links = [drop["link"] for drop in table["drop"]]
+        links = [drop.link for drop in given.drops]
         assert len(links) == len(set(links)), "ns-2 drops one packet at a link"
-        lines += [f"drop {drop['link']} {drop['count']}" for drop in table["drop"]]
+        lines += [f"drop {drop.link} {drop.count}" for drop in given.drops]
     return "\n".join([*lines, *(f"rule {rule}" for rule in rules), ""])
 
 
@@ -162,7 +163,7 @@ def one_loss_on_a_regular_tree(rng):
 def random_tree(rng):
     """A random tree with random even delays, so that half of a timer is a whole number."""
     made = tree.random_labelled(rng.randint(3, 25), 2, rng)
-    return tree.Tree(made.nodes, tuple((a, b, 2 * rng.randint(1, 50)) for a, b, _ in made.links))
+    return tree.Tree(made.nodes, tuple(Link.both_ways(link.a, link.b, 2 * rng.randint(1, 50)) for link in made.links))
 
 
 def scenario(rng, made, lost, draws, every, sessions=()):
@@ -175,9 +176,12 @@ def scenario(rng, made, lost, draws, every, sessions=()):
     c1, d1 = rng.choice(CONSTANTS)
     farthest = 2 * max(made.distances(source).values())
     until = draws * every + max([0, *sessions]) + 200 * (2 + c1 + d1) * farthest
-    return Scenario(made, [(source, "sender"), *((node, "receiver") for node in nodes)], until,
-                    1000 * c1, 0, 1000 * d1, 0, [place * every for place in range(draws)],
-                    [(draws - 1) * every + after for after in sessions], drops).text()
+    members = tuple(Member(node, "receiver" if place else "sender", place + 1)
+                    for place, node in enumerate([source, *nodes]))
+    return Scenario(made, members, until, 1000 * c1, 0, 1000 * d1, 0,
+                    tuple(Draw(0, 0, place, place * every) for place in range(draws)),
+                    tuple(Session(0, (draws - 1) * every + after) for after in sessions),
+                    tuple(Drop(link, 0, count) for link, count in drops)).text()
 
 
 def one_loss_on_a_random_tree(rng):
@@ -296,21 +300,35 @@ def said(result):
     return f"{asks} request{'s' * (asks != 1)} and {answers} repair{'s' * (answers != 1)}, last recovery at {last:g}"
 
 
-def compare_star(programs, members=33, lost=40, seeds=5):
-    """Mean requests of a star with random timers; the time of both programs."""
-    print(f"star of {members} members, {members - 1} losers, {seeds} seeds of {lost} losses: "
-          "mean requests for a loss; seconds of processor time for all seeds")
-    print(f"{'C2':>4} {'srm_lab':>8} {'ns-2':>8} {'1+(G-2)/C2':>11} {'apart':>7} {'srm_lab s':>10} {'ns-2 s':>8}")
+STAR = """star of {members} members, {losers} losers, C1 = 2, D1 = 1, D2 = 0: mean requests for a loss, of seeds 1 to \
+{seeds} with {lost} losses each,
+and the difference, ns-2's less srm_lab's, each with its 95 per cent interval over seeds (Student's t; Welch's for the \
+difference).
+The two programs share no random words, though their seeds have the same numbers; in each, the runs of every C2 have \
+the same seeds.
+Seconds are of processor time for all seeds."""
+
+
+def compare_star(programs, members=33, lost=40, seeds=20):
+    """Mean requests of a star with random timers, with intervals over seeds; the time of both programs."""
+    print(STAR.format(members=members, losers=members - 1, seeds=seeds, lost=lost))
+    print(f"{'C2':>4} {'srm_lab':>24} {'ns-2':>24} {'1+(G-2)/C2':>11} {'difference':>24} {'srm_lab s':>10} "
+          f"{'ns-2 s':>8}")
     for c2 in (2, 4, 8, 16, 32):
         means, spent = [], []
         text = from_words(f"star --size {members + 1} --delay 1000 --draws {2 * lost} --drop-every 2 --no-session "
                           f"--drop-link adjacent --c1 2 --c2 {c2} --d1 1 --d2 0 --until 2000000")
         for run in (lambda seed: programs.ours(text, seed), lambda seed: programs.ns2(text, (), seed, (0, 2))):
             results = [run(seed) for seed in range(1, seeds + 1)]
-            means.append(sum(counts(result)[0] for result in results) / (seeds * lost))
+            means.append([counts(result)[0] / lost for result in results])
             spent.append(sum(result.seconds for result in results))
-        print(f"{c2:4} {means[0]:8.3f} {means[1]:8.3f} {1 + (members - 2) / c2:11.3f} {means[0] / means[1] - 1:+7.1%} "
-              f"{spent[0]:10.2f} {spent[1]:8.2f}")
+        print(f"{c2:4} {said_interval(interval(means[0])):>24} {said_interval(interval(means[1])):>24} "
+              f"{1 + (members - 2) / c2:11.3f} {said_interval(difference(*means)):>24} "
+              f"{spent[0]:10.2f} {spent[1]:8.2f}", flush=True)
+
+
+def said_interval(one):
+    return f"{one.mean:.3f} [{one.low:.3f}, {one.high:.3f}]"
 
 
 def main():

@@ -1,10 +1,15 @@
 """Figures from the tables of experiments.
 
-usage: figures.py DRAW OVER SVG PNG TABLE...
+usage: figures.py WORDS SVG PNG TABLE...
 
-DRAW is a function below, OVER the column along its x axis (- where the function has one of its own).
+WORDS is the figure's part of a configuration, as JSON: `draw` names a function of DRAWS, which takes the other words.
+A point is the mean over seeds of the means of each seed, with a 95 per cent interval (Student's t) over the seeds; a
+band is from the lower to the upper quartile of all losses.
 """
+import json
 import sys
+from collections.abc import Sequence
+from typing import Any
 
 import matplotlib
 import pandas
@@ -15,138 +20,226 @@ matplotlib.rcParams["svg.fonttype"] = "none"  # letters stay letters
 matplotlib.rcParams["font.size"] = 10
 
 import matplotlib.pyplot as plot  # noqa: E402
+from matplotlib.axes import Axes  # noqa: E402
+from matplotlib.figure import Figure  # noqa: E402
+from matplotlib.ticker import FixedLocator, FuncFormatter, NullLocator  # noqa: E402
+from srm_lab.statistics import interval  # noqa: E402
 
 BLUE, ORANGE, GREEN, PURPLE, GREY = "#0072b2", "#d55e00", "#009e73", "#cc79a7", "#666666"
+COLOURS = (BLUE, ORANGE, GREEN, PURPLE, "#e69f00", "#56b4e9", "#000000")
+THEORY = "#222222"
+STYLES = ("--", ":", "-.")
+MARKS = "osv^D<>"
+ROUND = [factor * 10**power for power in range(-2, 4) for factor in (1, 1.5, 2, 3, 5, 7)]
+LABELS = {
+    "size": "nodes", "members": "session size (members)", "c1": "C1", "c2": "C2", "d1": "D1", "d2": "D2",
+    "drop_link": "link that loses", "delay": "delay of a link (ticks)", "back": "delay back of a link (ticks)",
+    "degree": "degree of inner nodes", "loss": "probability of a loss on a link", "losers": "losers of a loss",
+    "requests": "requests for a loss", "repairs": "repairs for a loss", "left": "members that left with a loss",
+    "ratio": "delay of the last member\n(round trips to the source)", "last_delay": "delay of the last member (ticks)",
+    "least_delay": "least delay of a member (ticks)", "greatest_delay": "greatest delay of a member (ticks)",
+}
 
 
-def read(path):
-    """A table of an experiment; operations that somebody never recovered are left out, and told."""
+def read(path: str) -> pandas.DataFrame:
+    """A table of an experiment, without the operations that somebody lacked to the end, and those without a delay.
+
+    How many these are, and how many losses ended with a leave, is in `attrs`, and goes into the figure.
+    """
     table = pandas.read_csv(path)
-    left = int((table["open"] > 0).sum())
-    if left:
-        sys.stderr.write(f"{path}: {left} of {len(table)} operations were not recovered by all, and are left out\n")
-    table = table[table["open"] == 0].copy()
-    table["ratio"] = table["last_delay"] / table["last_round_trip"]
-    return table
+    wanted = (table["open"] == 0) & table["last_delay"].notna()
+    kept = table[wanted].copy()
+    kept["ratio"] = kept["last_delay"] / kept["last_round_trip"]
+    kept.attrs = {"rows": len(table), "open": int((table["open"] > 0).sum()),
+                  "gone": int(((table["open"] == 0) & table["last_delay"].isna()).sum()),
+                  "left": int(table["left"].sum())}
+    return kept
 
 
-def quartiles(table, over, column):
-    """Median, quartiles and mean of a column for each value of another."""
-    groups = table.groupby(over)[column]
-    return pandas.DataFrame({
-        "low": groups.quantile(0.25), "median": groups.median(), "high": groups.quantile(0.75), "mean": groups.mean()})
+def left_out(tables: Sequence[pandas.DataFrame]) -> str:
+    """What a figure leaves out of its tables, in words."""
+    total = {key: sum(table.attrs.get(key, 0) for table in tables) for key in ("rows", "open", "gone", "left")}
+    told = []
+    if total["open"]:
+        told.append(f"left out: {total['open']} of {total['rows']} operations, which some member lacked to the end")
+    if total["gone"]:
+        told.append(f"left out: {total['gone']} of {total['rows']} operations, all of whose losers left")
+    if total["left"]:
+        told.append(f"{total['left']} losses ended with a leave, and count in no delay")
+    return "; ".join(told)
 
 
-def bars(axes, table, over, column, colour, label, mean=True):
-    """Medians with quartiles as bars, and means as a dashed line."""
-    points = quartiles(table, over, column)
-    spread = [points["median"] - points["low"], points["high"] - points["median"]]
-    axes.errorbar(points.index, points["median"], yerr=spread, color=colour, marker="o", markersize=4, capsize=3,
-                  linewidth=1.2, label=f"{label}: median, quartiles")
-    if mean:
-        axes.plot(points.index, points["mean"], color=colour, linestyle=":", marker="x", markersize=4,
-                  label=f"{label}: mean")
+def label_of(column: str) -> str:
+    """The label of an axis on which a column is drawn."""
+    return LABELS.get(column, column.replace("_", " "))
+
+
+def points_of(table: pandas.DataFrame, over: str, column: str) -> pandas.DataFrame:
+    """Of each value of `over`: the mean over seeds with its interval, and the quartiles of all losses."""
+    rows = {}
+    for value, group in table.groupby(over):
+        mean = interval(group.groupby("seed")[column].mean())
+        rows[value] = {"mean": mean.mean, "low": mean.low, "high": mean.high,
+                       "lower": group[column].quantile(0.25), "upper": group[column].quantile(0.75)}
+    return pandas.DataFrame.from_dict(rows, orient="index")
+
+
+def means(axes: Axes, table: pandas.DataFrame, over: str, column: str, look: tuple[str, str, str],
+          band: bool = True) -> pandas.DataFrame:
+    """Means with intervals over seeds, joined by a line, and a band of quartiles; `look` is colour, mark, label."""
+    colour, mark, label = look
+    points = points_of(table, over, column)
+    spread = [(points["mean"] - points["low"]).fillna(0), (points["high"] - points["mean"]).fillna(0)]
+    axes.errorbar(points.index, points["mean"], yerr=spread, color=colour, marker=mark, markersize=4, capsize=3,
+                  linewidth=1.2, label=f"{label}: mean, 95% interval over seeds")
+    if band:
+        axes.fill_between(points.index, points["lower"], points["upper"], color=colour, alpha=0.15, linewidth=0,
+                          label=f"{label}: quartiles of all losses")
     return points
 
 
-def over_session_size(tables, over):
-    """Requests, repairs and delay of each loss against the number of members, as in the paper's figures."""
-    table, = tables
-    figure, parts = plot.subplots(3, 1, figsize=(6.4, 8.4), sharex=True)
-    for axes, column, colour, label, unit in (
-        (parts[0], "requests", ORANGE, "requests", "requests for a loss"),
-        (parts[1], "repairs", GREEN, "repairs", "repairs for a loss"),
-        (parts[2], "ratio", BLUE, "last member's delay", "delay of the last member\n(round trips to the source)"),
-    ):
-        points = bars(axes, table, over, column, colour, label)
-        axes.set_ylabel(unit)
-        axes.set_ylim(0, 1.35 * points.to_numpy().max())  # room for the legend above all points
-        axes.legend(fontsize=8, loc="upper right")
+def finish(figure: Figure, parts: Sequence[Axes], tables: Sequence[pandas.DataFrame], below: float = -0.2) -> Figure:
+    """Letters of panels, grids, legends under the axes, and what is left out."""
+    for letter, axes in zip("abcdef", parts):
+        told = axes.get_title()
+        axes.set_title("")
+        axes.set_title(f"({letter}) {told}".strip() if len(parts) > 1 else told, loc="left", fontsize=10)
         axes.grid(alpha=0.3)
-    parts[2].set_xlabel("session size (members)")
+        axes.legend(fontsize=8, loc="upper center", bbox_to_anchor=(0.5, below), ncol=1, frameon=False)
+    told = left_out(tables)
+    if told:
+        figure.text(0.01, -0.01, told, fontsize=8, va="top")
     return figure
 
 
-def requests_in_a_star(tables, _):
+def name_ticks(axis: Any, values: Sequence[float]) -> None:
+    """Labels an axis at these values, and nowhere else."""
+    axis.set_major_locator(FixedLocator(list(values)))
+    axis.set_minor_locator(NullLocator())
+    axis.set_major_formatter(FuncFormatter(lambda value, _: f"{value:g}"))
+
+
+def over_session_size(tables: list[pandas.DataFrame], words: dict[str, str]) -> Figure:
+    """Requests, repairs and delay of each loss against what `over` names: nodes or members."""
+    table, = tables
+    over = words.get("over", "size")
+    figure, parts = plot.subplots(3, 1, figsize=(6.4, 9.6), sharex=True)
+    for axes, column, colour, mark in zip(parts, ("requests", "repairs", "ratio"), (ORANGE, GREEN, BLUE), "os^"):
+        points = means(axes, table, over, column, (colour, mark, column if column != "ratio" else "delay"))
+        axes.set_ylabel(label_of(column))
+        axes.set_ylim(0, 1.1 * points.to_numpy().max())
+        axes.tick_params(labelbottom=True)
+    name_ticks(parts[2].xaxis, sorted(table[over].unique()))
+    parts[2].set_xlabel(label_of(over))
+    finish(figure, parts, tables, -0.12)
+    parts[2].legend(fontsize=8, loc="upper center", bbox_to_anchor=(0.5, -0.25), frameon=False)
+    return figure
+
+
+def lines(tables: list[pandas.DataFrame], words: dict[str, str]) -> Figure:
+    """`y` against `x`, a line for each value of `by`; tables of several experiments side by side."""
+    figure, grid = plot.subplots(1, len(tables), figsize=(5.4 * len(tables), 4.4), squeeze=False)
+    x, y, by = words["x"], words["y"], words.get("by")
+    for axes, table in zip(grid[0], tables):
+        if y not in table:
+            raise SystemExit(f"there is no column {y!r}: there are {', '.join(table.columns)}")
+        groups = [("", table)] if by is None else [(f"{label_of(by)} {value}", one) for value, one in table.groupby(by)]
+        for (label, one), colour, mark in zip(groups, COLOURS * len(groups), MARKS * len(groups)):
+            means(axes, one, x, y, (colour, mark, label or label_of(y).split("\n")[0]), band=len(groups) == 1)
+        axes.set_xlabel(label_of(x))
+        axes.set_ylabel(label_of(y))
+        if pandas.api.types.is_numeric_dtype(table[x]):
+            name_ticks(axes.xaxis, sorted(table[x].unique()))
+    return finish(figure, list(grid[0]), tables)
+
+
+def requests_in_a_star(tables: list[pandas.DataFrame], words: dict[str, str]) -> Figure:
     """Requests against C2 where the source's own link loses, with 1 + (G - 2) / C2."""
-    figure, (left, right) = plot.subplots(1, 2, figsize=(10, 4.2))
-    for table, members, colour in zip(tables, (100, 33), (ORANGE, PURPLE)):
-        bars(left, table, "c2", "requests", colour, f"G = {members}")
+    figure, (left, right) = plot.subplots(1, 2, figsize=(10, 5.2))
+    for table, colour, mark, style in zip(tables, (ORANGE, PURPLE), "os", STYLES):
+        members, c1 = int(table["size"].iloc[0]) - 1, table["c1"].iloc[0]
+        told = f"G = {members}, C1 = {c1:g}"
+        means(left, table, "c2", "requests", (colour, mark, told), band=False)
         asked = [c2 / 10 for c2 in range(10, 10 * int(table["c2"].max()) + 1)]
-        left.plot(asked, [1 + (members - 2) / c2 for c2 in asked], color=colour, alpha=0.6, linewidth=1,
-                  label=f"1 + (G - 2) / C2, G = {members}")
+        left.plot(asked, [1 + (members - 2) / c2 for c2 in asked], color=THEORY, linewidth=1, linestyle=style,
+                  label=f"theory, 1 + (G - 2) / C2, G = {members}")
+        means(right, table, "c2", "ratio", ({ORANGE: BLUE, PURPLE: GREEN}[colour], mark, told), band=False)
     left.set_yscale("log")
-    left.set_ylabel("requests for a loss")
-    bars(right, tables[0], "c2", "ratio", BLUE, "G = 100", mean=False)
-    bars(right, tables[1], "c2", "ratio", GREEN, "G = 33", mean=False)
-    right.set_ylabel("recovery delay of the last member\n(round trips to the source)")
+    name_ticks(left.yaxis, ROUND)
+    left.set_ylabel(label_of("requests"))
+    right.set_ylabel(label_of("ratio"))
     right.set_ylim(bottom=0)
     for axes in (left, right):
-        axes.set_xlabel("C2")
-        axes.legend(fontsize=7)
-        axes.grid(alpha=0.3)
-    return figure
+        axes.set_xlabel(label_of("c2"))
+    return finish(figure, [left, right], tables)
 
 
-def chain_of_sure_timers(tables, _):
+def chain_of_sure_timers(tables: list[pandas.DataFrame], words: dict[str, str]) -> Figure:
     """Requests, repairs and delay against the way to the first loser, with D (c1 s + 2 + d1)."""
     table, = tables
     table["hops"] = table["drop_link"].str.removeprefix("hops:").astype(int)
-    figure, (left, right) = plot.subplots(1, 2, figsize=(10, 4.2))
+    c1, d1 = table["c1"].iloc[0], table["d1"].iloc[0]
+    figure, (left, right) = plot.subplots(1, 2, figsize=(10, 4.8))
     for column, colour, mark in (("requests", ORANGE, "o"), ("repairs", GREEN, "x")):
-        points = quartiles(table, "hops", column)
-        left.plot(points.index, points["median"], color=colour, marker=mark, label=f"{column}: median, all the same")
+        points = points_of(table, "hops", column)
+        left.plot(points.index, points["mean"], color=colour, marker=mark, label=f"{column}: mean")
     left.set_ylabel("packets for a loss")
     left.set_ylim(0, 3)
     delay = table["delay"].iloc[0]
     low, high = table.groupby("hops")["least_delay"].min(), table.groupby("hops")["greatest_delay"].max()
-    right.plot(low.index, low / delay, color=BLUE, marker="v", linestyle="none", label="least of all members")
-    right.plot(high.index, high / delay, color=ORANGE, marker="^", linestyle="none", label="greatest of all members")
+    right.plot(low.index, low / delay, color=BLUE, marker="v", linestyle="none", label="least of all members and seeds")
+    right.plot(high.index, high / delay, color=ORANGE, marker="^", linestyle="none",
+               label="greatest of all members and seeds")
     way = [0, table["hops"].max()]
-    right.plot(way, [hops + 3 for hops in way], color=GREY, linewidth=1, label="c1 s + 2 + d1, c1 = d1 = 1")
+    right.plot(way, [c1 * hops + 2 + d1 for hops in way], color=THEORY, linewidth=1, linestyle="--",
+               label=f"theory, C1 s + 2 + D1, C1 = {c1:g}, D1 = {d1:g}")
     right.set_ylabel("recovery delay (delays of a link)")
     for axes in (left, right):
         axes.set_xlabel("s: links from the source to the first loser")
-        axes.legend(fontsize=8)
-        axes.grid(alpha=0.3)
-    return figure
+    return finish(figure, [left, right], tables)
 
 
-def requests_against_delay(tables, _):
+def requests_against_delay(tables: list[pandas.DataFrame], words: dict[str, str]) -> Figure:
     """Mean requests against mean delay, each point a C2, for near and far losses."""
-    figure, parts = plot.subplots(1, 2, figsize=(10, 4.4))
-    for axes, table, title in zip(parts, tables, ("chain of 50 members", "tree of degree 4, 161 members")):
-        for link, colour in zip(sorted(table["drop_link"].unique(), key=lambda text: int(text[5:])),
-                                (ORANGE, BLUE, GREEN)):
-            one = table[table["drop_link"] == link].groupby("c2")
-            delay, requests = one["ratio"].median(), one["requests"].mean()
+    figure, parts = plot.subplots(1, 2, figsize=(10, 5.4))
+    for axes, table in zip(parts, tables):
+        size, c1 = int(table["size"].iloc[0]), table["c1"].iloc[0]
+        shape = f"{table['kind'].iloc[0]} of {size} members"
+        for link, colour, mark in zip(sorted(table["drop_link"].unique(), key=lambda text: int(text[5:])), COLOURS,
+                                      MARKS):
+            one = table[table["drop_link"] == link]
+            delay, requests = points_of(one, "c2", "ratio"), points_of(one, "c2", "requests")
             hops = int(link[5:])
-            spread = [delay - one["ratio"].quantile(0.25), one["ratio"].quantile(0.75) - delay]
-            axes.errorbar(delay, requests, xerr=spread, color=colour, marker="o", markersize=4, linewidth=1, capsize=2,
-                          label=f"first loser {hops} link{'s' if hops > 1 else ''} away")
+            axes.errorbar(delay["mean"], requests["mean"], color=colour, marker=mark, markersize=4, linewidth=1,
+                          xerr=[delay["mean"] - delay["low"], delay["high"] - delay["mean"]], capsize=2,
+                          yerr=[requests["mean"] - requests["low"], requests["high"] - requests["mean"]],
+                          label=f"first loser {hops} link{'s' if hops > 1 else ''} away, C1 = {c1:g}: "
+                                "means, 95% intervals over seeds")
             for c2 in delay.index:
-                axes.annotate(f"{c2:g}", (delay[c2], requests[c2]), textcoords="offset points", xytext=(4, 4),
-                              fontsize=7, color=colour)
-        axes.set_title(f"{title}; at each mark its C2", fontsize=10)
-        axes.set_xlabel("delay of the last member (round trips): median, quartiles")
-        axes.set_ylabel("mean requests for a loss")
+                axes.annotate(f"{c2:g}", (delay["mean"][c2], requests["mean"][c2]), textcoords="offset points",
+                              xytext=(4, 4), fontsize=7, color=colour)
+        axes.set_title(f"{shape}; at each mark its C2")
+        axes.set_xlabel("delay of the last member (round trips to the source)")
+        axes.set_ylabel("requests for a loss")
         axes.set_xscale("log")
-        axes.xaxis.set_major_formatter("{x:g}")
-        axes.xaxis.set_minor_formatter("")
-        axes.legend(fontsize=7, loc="upper center", bbox_to_anchor=(0.5, -0.16), ncol=3)
-        axes.grid(alpha=0.3, which="both")
-    return figure
+        name_ticks(axes.xaxis, ROUND)
+        axes.set_xlim(0.8 * table.groupby(["drop_link", "c2"])["ratio"].mean().min(),
+                      1.25 * table.groupby(["drop_link", "c2"])["ratio"].mean().max())
+    return finish(figure, list(parts), tables, -0.16)
 
 
 DRAWS = {draw.__name__: draw for draw in (
-    over_session_size, requests_in_a_star, chain_of_sure_timers, requests_against_delay)}
+    over_session_size, lines, requests_in_a_star, chain_of_sure_timers, requests_against_delay)}
 
 
-def main(draw, over, svg, png, *paths):
-    figure = DRAWS[draw]([read(path) for path in paths], over)
+def main(words: str, svg: str, png: str, *paths: str) -> None:
+    """Draws one figure."""
+    asked = json.loads(words)
+    tables = [read(path) for path in paths]
+    figure = DRAWS[asked["draw"]](tables, asked)
     figure.tight_layout()
-    figure.savefig(svg, metadata={"Date": None})
-    figure.savefig(png, dpi=150, metadata={"Software": None})
+    figure.savefig(svg, metadata={"Date": None}, bbox_inches="tight")
+    figure.savefig(png, dpi=150, metadata={"Software": None}, bbox_inches="tight")
 
 
 if __name__ == "__main__":

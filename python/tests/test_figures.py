@@ -1,4 +1,5 @@
-"""What figures show: medians, quartiles and means, and axes that say what they are."""
+"""What figures show: means with intervals over seeds, quartiles, and axes that say what they are."""
+import json
 import re
 
 import pandas
@@ -6,47 +7,81 @@ import pytest
 
 import figures
 
-HEADER = ("size,members,drop_link,delay,c2,seed,operation,losers,open,requests,repairs,"
+HEADER = ("kind,size,members,drop_link,delay,c1,d1,c2,seed,operation,losers,left,open,requests,repairs,"
           "least_delay,greatest_delay,last_delay,last_round_trip\n")
 ROWS = "".join(
-    f"{size},{size},hops:{hops},1000,{c2},{seed},0/0/0,3,0,{seed},1,{1000 * (hops + 3)},{1000 * (hops + 3)},6000,4000\n"
+    f"chain,{size},{size},hops:{hops},1000,2,1,{c2},{seed},0/0/0,3,0,0,{seed},1,{1000 * (hops + 3)},"
+    f"{1000 * (hops + 3)},6000,4000\n"
     for size in (10, 20) for hops in (1, 2) for c2 in (1, 2) for seed in (1, 2, 3))
-LABELS = {
-    "over_session_size": ["requests for a loss", "repairs for a loss", "(round trips to the source)",
-                          "session size (members)", "requests: median, quartiles"],
-    "requests_in_a_star": ["requests for a loss", "C2", "1 + (G - 2) / C2, G = 33"],
-    "chain_of_sure_timers": ["packets for a loss", "recovery delay (delays of a link)",
-                             "s: links from the source to the first loser"],
-    "requests_against_delay": ["mean requests for a loss", "delay of the last member (round trips): median, quartiles",
-                               "first loser 2 links away"],
+WORDS = {
+    "over_session_size": {"over": "size"}, "requests_in_a_star": {}, "chain_of_sure_timers": {},
+    "requests_against_delay": {}, "lines": {"x": "c2", "y": "ratio", "by": "drop_link"},
 }
-TABLES = {"over_session_size": 1, "requests_in_a_star": 2, "chain_of_sure_timers": 1, "requests_against_delay": 2}
+LABELS = {
+    "over_session_size": ["requests for a loss", "repairs for a loss", "(round trips to the source)", "nodes",
+                          "requests: mean, 95% interval over seeds", "requests: quartiles of all losses", "(a)", "(c)"],
+    "requests_in_a_star": ["requests for a loss", "C2", "theory, 1 + (G - 2) / C2, G = 9", "(a)", "(b)",
+                           "G = 9, C1 = 2: mean, 95% interval over seeds"],
+    "chain_of_sure_timers": ["packets for a loss", "recovery delay (delays of a link)", "(b)",
+                             "theory, C1 s + 2 + D1, C1 = 2, D1 = 1", "s: links from the source to the first loser"],
+    "requests_against_delay": ["requests for a loss", "delay of the last member (round trips to the source)",
+                               "first loser 2 links away, C1 = 2: means, 95% intervals over seeds",
+                               "(a) chain of 10 members; at each mark its C2"],
+    "lines": ["C2", "(round trips to the source)", "link that loses hops:2: mean, 95% interval over seeds"],
+}
+TABLES = {"over_session_size": 1, "requests_in_a_star": 2, "chain_of_sure_timers": 1, "requests_against_delay": 2,
+          "lines": 1}
 
 
-def test_median_quartiles_and_mean():
-    table = pandas.DataFrame({"c2": [1, 1, 1, 1, 1, 4], "requests": [10, 2, 1, 4, 3, 7]})
-    points = figures.quartiles(table, "c2", "requests")
-    assert points.loc[1].to_dict() == {"low": 2, "median": 3, "high": 4, "mean": 4}
-    assert points.loc[4].to_dict() == {"low": 7, "median": 7, "high": 7, "mean": 7}
+def test_mean_over_seeds_its_interval_and_quartiles_of_all_losses():
+    # means of the seeds are 2 and 6; Student's t for 2 seeds is 12.7062, the standard error 2
+    table = pandas.DataFrame({"c2": 1, "seed": [1, 1, 2, 2], "requests": [1, 3, 5, 7]})
+    points = figures.points_of(table, "c2", "requests").loc[1]
+    assert points["mean"] == 4 and points["low"] == pytest.approx(4 - 2 * 12.7062, abs=1e-3)
+    assert (points["lower"], points["upper"]) == (2.5, 5.5)
 
 
-def test_operations_that_somebody_never_recovered_are_left_out_and_told(tmp_path, capsys):
-    path = tmp_path / "one.csv"
-    path.write_text("open,requests,last_delay,last_round_trip\n0,1,6,4\n2,9,,\n0,3,10,4\n")
-    table = figures.read(path)
-    assert list(table["requests"]) == [1, 3] and list(table["ratio"]) == [1.5, 2.5]
-    assert capsys.readouterr().err == f"{path}: 1 of 3 operations were not recovered by all, and are left out\n"
+def drawn(tmp_path, draw, words, rows, name="one"):
+    """The pictures of a figure whose tables all have these rows."""
+    path, svg, png = (tmp_path / f"{name}.{ending}" for ending in ("csv", "svg", "png"))
+    path.write_text(HEADER + rows)
+    figures.main(json.dumps({"draw": draw, **words}), svg, png, *[path] * TABLES[draw])
+    return svg.read_bytes(), png.read_bytes()
+
+
+def texts_of(svg):
+    return re.findall(r"<text[^>]*>([^<]*)</text>", svg.decode())
 
 
 @pytest.mark.parametrize("draw", figures.DRAWS)
 def test_axes_have_labels_and_one_table_gives_one_picture(draw, tmp_path):
-    path = tmp_path / "table.csv"
+    first, second = (drawn(tmp_path, draw, WORDS[draw], ROWS, name) for name in ("first", "second"))
+    assert first == second
+    assert [label for label in LABELS[draw] if label not in texts_of(first[0])] == []
+
+
+@pytest.mark.parametrize("over, label", [("size", "nodes"), ("members", "session size (members)"), ("c2", "C2")])
+def test_label_of_an_axis_is_that_of_what_is_drawn(over, label, tmp_path):
+    texts = texts_of(drawn(tmp_path, "over_session_size", {"over": over}, ROWS)[0])
+    assert label in texts
+    assert label == "session size (members)" or "session size (members)" not in texts
+
+
+def test_what_is_left_out_is_counted_in_the_figure(tmp_path):
+    rows = ROWS + ("chain,10,10,hops:1,1000,2,1,1,1,0/0/2,3,1,2,9,1,,,,\n"  # two members lack it to the end
+                   "chain,10,10,hops:1,1000,2,1,1,1,0/0/4,2,2,0,9,1,,,,\n")  # both losers left
+    texts = texts_of(drawn(tmp_path, "lines", WORDS["lines"], rows)[0])
+    assert any("left out: 1 of 26 operations, which some member lacked to the end" in text for text in texts)
+    assert any("left out: 1 of 26 operations, all of whose losers left" in text for text in texts)
+    assert any("3 losses ended with a leave" in text for text in texts)
+    assert not any("left out" in text for text in texts_of(drawn(tmp_path, "lines", WORDS["lines"], ROWS)[0]))
+
+
+def test_no_legend_stands_over_data(tmp_path, monkeypatch):
+    path = tmp_path / "one.csv"
     path.write_text(HEADER + ROWS)
-    pictures = []
-    for name in ("first", "second"):
-        svg, png = tmp_path / f"{name}.svg", tmp_path / f"{name}.png"
-        figures.main(draw, "size", svg, png, *[path] * TABLES[draw])
-        pictures.append((svg.read_bytes(), png.read_bytes()))
-    assert pictures[0] == pictures[1]
-    texts = re.findall(r"<text[^>]*>([^<]*)</text>", pictures[0][0].decode())
-    assert [label for label in LABELS[draw] if label not in texts] == []
+    for draw, function in figures.DRAWS.items():
+        figure = function([figures.read(path) for _ in range(TABLES[draw])], WORDS[draw])
+        figure.canvas.draw()
+        for axes in figure.axes:
+            assert not axes.get_legend().get_window_extent().overlaps(axes.get_window_extent()), draw

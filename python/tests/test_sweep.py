@@ -1,23 +1,21 @@
 """Experiments of a configuration, and their tables."""
 import io
+from pathlib import Path
 
 import pytest
 
 from srm_lab import ScenarioError
-from srm_lab.gather import lost_operations, write_table
-from srm_lab.sweep import Experiment
+from srm_lab.gather import write_table
+from srm_lab.sweep import Experiment, check_config
 
-LOSSES = """member,source,page,number,detected,recovered,delay
-1,0,0,0,11,15,4/2
-2,0,0,0,12,19,7/4
-2,0,0,3,30,-,-
-3,0,0,3,31,40,9/6
+ROOT = Path(__file__).resolve().parents[2]
+
+OPERATIONS = """source,page,number,losers,left,open,requests,repairs,\
+least_delay,greatest_delay,last_delay,last_round_trip
+0,0,0,2,0,0,2,1,4,7,7,4
+0,0,3,2,0,1,5,4,,,,
 """
-SENT = """source,page,number,requests,repairs
-0,0,0,2,1
-0,0,1,0,0
-0,0,3,5,4
-"""
+DRAWS = ("lines", "over_session_size")
 
 
 def test_points_are_the_product_of_the_lists():
@@ -48,24 +46,53 @@ def test_experiment_without_seeds_is_refused():
         Experiment("e", {"kind": "star", "size": 5})
 
 
-def test_row_for_each_operation_that_somebody_lost():
-    first, second = lost_operations(LOSSES.splitlines(), SENT.splitlines())
-    assert first == {"operation": "0/0/0", "losers": 2, "open": 0, "requests": "2", "repairs": "1",
-                     "least_delay": 4, "greatest_delay": 7, "last_delay": 7, "last_round_trip": 4}
-    assert second == {"operation": "0/0/3", "losers": 2, "open": 1, "requests": "5", "repairs": "4"}
+def test_keys_that_repeat_and_flags():
+    one = Experiment("e", {"kind": "chain", "size": 3, "leave": ["2:0-100", "1:5 1:9-20"], "any_packet": True,
+                           "outage": "1:10-20 0:5-6", "back": 7, "loss": 0.5, "seeds": 1})
+    assert one.words("leave-1-5-1-9-20", 1) == [
+        "chain", "--size", "3", "--leave", "1:5", "--leave", "1:9-20", "--any-packet",
+        "--outage", "1:10-20", "--outage", "0:5-6", "--back", "7", "--loss", "0.5", "--seed", "1"]
+
+
+@pytest.mark.parametrize("change, told", [
+    ({"experiment": {}}, "there is no 'experiment'"),
+    ({"experiments": {"one": {"kind": "chain", "size": 3, "sizes": 4, "seeds": 1}}}, "no key 'sizes'"),
+    ({"experiments": {"one": {"kind": "ring", "size": 3, "seeds": 1}}}, "there is no kind 'ring'"),
+    ({"experiments": {"one": {"kind": "chain", "size": 3, "leave": "9:1-2", "seeds": 1}}}, "only: members is 9"),
+    ({"experiments": {"one": {"kind": "chain", "size": 3, "outage": "2:1-2", "seeds": 1}}}, "there is no link 2"),
+    ({"experiments": {"one": {"kind": "chain", "size": [3, 2000], "seeds": 1}}}, "size-2000: size is 2000"),
+    ({"figures": {"f": {"draw": "line", "of": ["one"]}}}, "figure f, draw: there is no 'line'"),
+    ({"figures": {"f": {"draw": "lines", "of": ["two"]}}}, "figure f, of: there is no 'two'"),
+    ({"figures": {"f": {"draw": "lines", "of": ["one"], "x": "size"}}}, "lines need x and y"),
+    ({"figures": {"f": {"draw": "lines", "of": ["one"], "x": "c3", "y": "ratio"}}}, "there is no 'c3'"),
+    ({"figures": {"f": {"of": ["one"]}}}, "draw and of have to be there"),
+])
+def test_configurations_that_are_refused(change, told):
+    config = {"experiments": {"one": {"kind": "chain", "size": 3, "seeds": 2}}, "figures": {}, **change}
+    with pytest.raises(ScenarioError, match=told):
+        check_config(config, DRAWS)
+
+
+def test_each_configuration_of_the_repository_is_accepted():
+    import figures
+    import yaml
+    for name in ("config.yaml", "small.yaml"):
+        check_config(yaml.safe_load((ROOT / "experiments" / name).read_text()), figures.DRAWS)
 
 
 def test_table_of_an_experiment(tmp_path):
-    one = Experiment("e", {"kind": "chain", "size": [2, 3], "seeds": 1})
+    one = Experiment("e", {"kind": "chain", "size": [2, 3], "seeds": 1, "metrics": {"own": "a.py:f"}})
 
-    def path_of(kind, label, seed):
-        path = tmp_path / f"{label}-{seed}-{kind}"
-        path.write_text(LOSSES if kind == "losses" else SENT)
+    def path_of(label, seed):
+        path = tmp_path / f"{label}-{seed}"
+        lines = OPERATIONS.splitlines()
+        path.write_text("\n".join([lines[0] + ",own", *(line + ",8" for line in lines[1:])]) + "\n")
         return path
 
     out = io.StringIO()
     write_table(one, path_of, out)
     assert out.getvalue().splitlines() == [
-        "kind,size,seed,operation,losers,open,requests,repairs,least_delay,greatest_delay,last_delay,last_round_trip",
-        "chain,2,1,0/0/0,2,0,2,1,4,7,7,4", "chain,2,1,0/0/3,2,1,5,4,,,,",
-        "chain,3,1,0/0/0,2,0,2,1,4,7,7,4", "chain,3,1,0/0/3,2,1,5,4,,,,"]
+        "kind,size,seed,operation,losers,left,open,requests,repairs,least_delay,greatest_delay,last_delay,"
+        "last_round_trip,own",
+        "chain,2,1,0/0/0,2,0,0,2,1,4,7,7,4,8", "chain,2,1,0/0/3,2,0,1,5,4,,,,,8",
+        "chain,3,1,0/0/0,2,0,0,2,1,4,7,7,4,8", "chain,3,1,0/0/3,2,0,1,5,4,,,,,8"]

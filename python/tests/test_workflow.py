@@ -1,23 +1,33 @@
 """The workflow, with a stand-in for the program: what is refused, and what goes on."""
 import json
 import os
+import re
 import shutil
 import subprocess
+import sys
 from pathlib import Path
 
 import pytest
 
 HERE = Path(__file__).resolve().parents[2] / "experiments"
 PROGRAM = """#!/bin/sh
-# srm_lab --seed N --show TABLE: one loss, or a refusal where REFUSE says so
+# srm_lab --seed N: one loss, or a refusal where REFUSE says so
 [ "$2" = "$REFUSE" ] && { echo "refused: bad-drop 0" >&2; exit 1; }
-case $4 in
-    losses) printf 'member,source,page,number,detected,recovered,delay\\n1,0,0,0,11,15,4/2\\n' ;;
-    trace) printf 'time,member,cause,ref,result,lost,sent\\n0,0,draw,0/0/0,sent,0,0:0\\n12,1,ask,0/0/0,sent,0,1:0\\n' ;;
-esac
+cat <<END
+time,member,cause,ref,result,lost,sent
+0,0,draw,0/0/0,sent,0,0:0
+1,0,draw,0/0/1,sent,0,0:1
+1001,1,data,0:1,fresh,1,-
+3001,1,ask,0/0/0,sent,0,1:0
+4001,0,request,1:0,plan,0,-
+5001,0,answer,0/0/0,sent,0,0:2
+6001,1,repair,0:2,fixed,0,-
+END
 """
-CONFIG = {"experiments": {"one": {"kind": "chain", "size": 2, "drop_link": 0, "seeds": 3}}, "figures": {}}
-ROWS = [f"chain,2,0,{seed},0/0/0,1,0,1,0,4,4,4,2" for seed in (1, 2, 3)]
+METRIC = "def repairs_of_the_source(runs):\n    return int(runs.members['repairs'][0])\n"
+CONFIG = {"experiments": {"one": {"kind": "chain", "size": 2, "drop_link": 0, "seeds": 3}},
+          "figures": {"delay": {"draw": "lines", "of": ["one"], "x": "size", "y": "ratio"}}}
+ROWS = [f"chain,2,0,{seed},0/0/0,1,0,0,1,1,5000,5000,5000,2000,1" for seed in (1, 2, 3)]
 
 
 @pytest.fixture
@@ -29,9 +39,12 @@ def sweep(tmp_path):
     program.write_text(PROGRAM)
     program.chmod(0o755)
     config = tmp_path / "config.json"
-    config.write_text(json.dumps({**CONFIG, "program": str(program), "results": str(tmp_path / "results")}))
+    (tmp_path / "metric.py").write_text(METRIC)
 
-    def run(refuse):
+    def run(refuse, **change):
+        one = {**CONFIG["experiments"]["one"], "metrics": {"own": f"{tmp_path}/metric.py:repairs_of_the_source"}}
+        config.write_text(json.dumps({**CONFIG, "experiments": {"one": one}, "program": str(program),
+                                      "results": str(tmp_path / "results"), **change}))
         return subprocess.run(
             ["snakemake", "--snakefile", HERE / "Snakefile", "--configfile", config, "--cores", "2", "--keep-going",
              "--nolock", "--rerun-incomplete", "--show-failed-logs"],
@@ -53,3 +66,41 @@ def test_refused_run_fails_alone_and_is_run_again(sweep):
     assert second.returncode == 0, second.stderr
     assert [(runs / f"seed-{seed}.losses.csv").stat().st_mtime_ns for seed in (1, 3)] == before
     assert (sweep.results / "tables/one.csv").read_text().splitlines()[1:] == ROWS
+    report = (sweep.results / "report.html").read_text()
+    assert "<svg" in report and "size: 2" in report and "pandas" in report and "http-equiv" not in report
+    assert not re.search(r'(src|href)="(?!#|data:)', report.replace("xlink:href=\"#", ""))
+
+
+@pytest.mark.parametrize("change, told", [
+    ({"experiments": {"one": {"kind": "chain", "size": 2, "sizes": 3, "seeds": 1}}}, "there is no key 'sizes'"),
+    ({"figures": {"f": {"draw": "line", "of": ["one"]}}}, "figure f, draw: there is no 'line'"),
+])
+def test_configuration_is_refused_once_before_the_first_run(sweep, change, told):
+    done = sweep("none", **change)
+    assert done.returncode != 0 and (done.stdout + done.stderr).count(told) == 1
+    assert not sweep.results.exists()
+
+
+def make(*words, cwd=HERE.parent):
+    """What make would do."""
+    done = subprocess.run(["make", "-n", f"--directory={HERE.parent}", *words], cwd=cwd, capture_output=True, text=True,
+                          env={**os.environ, "PWD": str(cwd)}, check=False)
+    assert done.returncode == 0, done.stderr
+    return done.stdout
+
+
+def test_configuration_is_taken_from_where_make_was_called(tmp_path):
+    (tmp_path / "mine.yaml").write_text("{}")
+    assert f"--configfile {tmp_path}/mine.yaml" in make("SRM_LAB=/bin/true", "experiments", "CONFIG=mine.yaml",
+                                                        cwd=tmp_path)
+    assert f"--configfile {HERE}/small.yaml" in make("SRM_LAB=/bin/true", "experiments", "CONFIG=small.yaml")
+    assert f"--configfile {HERE}/config.yaml" in make("SRM_LAB=/bin/true", "experiments")
+
+
+def test_sweeps_with_different_results_have_different_locks():
+    said = make("SRM_LAB=/bin/true", "experiments")
+    assert 'flock --verbose --nonblock --conflict-exit-code 3 "$results/.lock"' in said
+    for name, results in (("config.yaml", "results"), ("small.yaml", "results-small")):
+        done = subprocess.run([sys.executable, "check_config.py", name], cwd=HERE, capture_output=True, text=True,
+                              env={**os.environ, "PYTHONPATH": str(HERE.parent / "python/src")}, check=False)
+        assert done.stdout == f"{results}\n", done.stderr

@@ -111,13 +111,13 @@ def build(options: argparse.Namespace) -> Scenario:
     draws = [within("the tick of a draw", options.start + place * options.every, 0, MOST_TIME)
              for place in range(options.draws)]
     after = [] if options.no_session or not draws else [draws[-1] + options.session_after]
-    constants = {name: thousandths(getattr(options, name), len(nodes)) for name in ("c1", "c2", "d1", "d2")}
+    c1, c2, d1, d2 = (thousandths(getattr(options, name), len(nodes)) for name in ("c1", "c2", "d1", "d2"))
     scenario = Scenario(
         tree=made,
         members=tuple(Member(node, "receiver" if place else "sender", place + 1) for place, node in enumerate(nodes)),
         draws=tuple(Draw(0, 0, number, at) for number, at in enumerate(draws)),
         sessions=tuple(Session(0, at) for at in after),
-        until=options.until, **constants, seed=options.seed,
+        until=options.until, c1=c1, c2=c2, d1=d1, d2=d2, seed=options.seed,
     )
     return disturbed(with_drops(scenario, options, rng), options).check()
 

@@ -11,6 +11,7 @@ class Flight:
         self._parents = given.tree.parents(node)
         self._distances = given.tree.distances(node)
         self._hosts = {member.node for member in given.members}
+        self._hearers = {node, *(given.members[member].node for member in packet.heard)}
         self._dropping = given.drops_of.get((packet.sender, packet.count), frozenset())
 
     def time_at(self, node: int) -> int:
@@ -19,9 +20,16 @@ class Flight:
 
     def before(self, node: int) -> int | None:
         """The last node with a member before this one on its way, or None at the sender's."""
+        return self._last_of(self._hosts, node)
+
+    def heard_before(self, node: int) -> int | None:
+        """The last node before this one on its way whose member sent or heard it, or None at the sender's."""
+        return self._last_of(self._hearers, node)
+
+    def _last_of(self, nodes: set[int], node: int) -> int | None:
         near = self._parents[node]
         while near is not None:
-            if near[0] in self._hosts:
+            if near[0] in nodes:
                 return near[0]
             near = self._parents[near[0]]
         return None

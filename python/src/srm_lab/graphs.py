@@ -4,8 +4,6 @@ from dataclasses import dataclass
 from pathlib import Path
 from typing import Any
 
-import networkx
-
 from .errors import ScenarioError
 from .limits import MOST_NODES
 from .link import Link
@@ -89,6 +87,8 @@ def _links_of(graph: Any, delays: Delays) -> list[tuple[Any, Any, int, int]]:
 
 def _spanned(nodes: list[Any], links: list[tuple[Any, Any, int, int]], which: str, root: Any) -> list:
     """The links of a spanning tree."""
+    import networkx
+
     if which not in SPANNING:
         raise ScenarioError(f"spanning_tree is {which!r}, and has to be one of {', '.join(SPANNING)}")
     simple = networkx.Graph()
@@ -114,6 +114,8 @@ def _spanned(nodes: list[Any], links: list[tuple[Any, Any, int, int]], which: st
 def from_file(path: str | Path, delays: Delays = Delays(), spanning_tree: str | None = None,
               root: str | None = None) -> Tree:
     """The tree in a GraphML or GML file, or in a list of edges (`node node` or `node node delay` in each line)."""
+    import networkx  # here, since most scenarios are made without it, and it takes long to load
+
     name = str(path).lower()
     try:
         if name.endswith(".graphml"):
@@ -145,6 +147,8 @@ def _has_no_labels(path: str | Path) -> bool:
 
 def _edge_list(path: str | Path, attribute: str) -> Any:
     """A graph from lines of two node names and perhaps a delay; `#` begins a comment."""
+    import networkx
+
     graph = networkx.MultiGraph()
     with open(path, encoding="utf-8") as text:
         for place, line in enumerate(text, 1):

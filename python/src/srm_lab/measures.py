@@ -3,7 +3,7 @@
 Each is a class with `columns`, `take` for a step of the trace, and `rows` at its end. They keep no rows of the trace.
 """
 from collections import Counter, defaultdict
-from collections.abc import Callable, Iterable, Iterator
+from collections.abc import Iterable, Iterator
 from typing import Any, ClassVar, Protocol
 
 from .clocks import Clocks
@@ -188,7 +188,7 @@ class OperationsTable:
         return min(delays), max(delays), last, self.given.round_trip(-member, name[0])
 
 
-TABLES: dict[str, Callable[[Scenario], Any]] = {
+TABLES: dict[str, Any] = {
     "losses": LossesTable, "operations": OperationsTable, "members": MembersTable, "links": LinksTable,
     "timers": TimersTable, "trace": TraceTable}
 

@@ -108,7 +108,7 @@ class Picture:
         self.add(f'<rect class="loss" x="{at}" y="42" width="26" height="12"/>')
         leave = " or leave" if self.history.leaves else ""
         self.add(f'<text x="{at + 32}" y="53">lacked: from detection to recovery{leave}</text>')
-        at += 300 if leave else 270
+        at += 320 if leave else 270
         for mark, told in (("set", "timer set"), ("expired", "expired"), ("stopped", "stopped or set anew")):
             self.line((at, 48), (at + 24, 48), 'class="timer" stroke="#555"')
             self._mark(at + 12, 48, "#555", mark)
@@ -166,15 +166,16 @@ class Picture:
         told += f" of {slashed(packet.name)}" if packet.name else ""
         stroke = f'class="packet" stroke="{COLOURS[packet.kind]}"'
         for member in self.order:
-            near = flight.before(self.given.members[member].node)
-            if near is None:
+            target = self.given.members[member].node
+            near, heard = flight.before(target), flight.heard_before(target)
+            if near is None or heard is None:
                 continue
-            start, arrival = flight.time_at(near), flight.time_at(self.given.members[member].node)
-            dropped = flight.dropped(near, self.given.members[member].node)
+            dropped, arrival = flight.dropped(near, target), flight.time_at(target)
             if dropped is not None:
-                self._dropped((near, member), (start, dropped, arrival), stroke, told)
-            elif member in packet.heard and self.inside(start) and self.inside(arrival):
-                self.line((self.x(start), self.y(self.at_node[near])), (self.x(arrival), self.y(member)), stroke, told)
+                self._dropped((near, member), (flight.time_at(near), dropped, arrival), stroke, told)
+            elif member in packet.heard and self.inside(flight.time_at(heard)) and self.inside(arrival):
+                start = (self.x(flight.time_at(heard)), self.y(self.at_node[heard]))
+                self.line(start, (self.x(arrival), self.y(member)), stroke, told)
 
     def _dropped(self, ends: tuple[int, int], times: tuple[int, float, int], stroke: str, told: str) -> None:
         """The line to the middle of the link that drops, and a cross there."""

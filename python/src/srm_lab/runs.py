@@ -2,24 +2,21 @@
 import hashlib
 import json
 import os
-import shutil
-import subprocess
 import tempfile
 from collections.abc import Callable, Iterable, Iterator
 from concurrent.futures import ProcessPoolExecutor
-from contextlib import contextmanager
 from dataclasses import dataclass, field, replace
 from pathlib import Path
 
 import pandas
 import tqdm
 
-from .errors import RefusedError, ScenarioError
+from .errors import ScenarioError
 from .limits import MOST_SEED, within
-from .measures import TABLES, measure
+from .measures import TABLES, Measure, measure
 from .scenario import Scenario
 from .statistics import Summary, summarise
-from .tables import Row, read_trace
+from .traces import find_program, trace_of
 
 LAYOUT = 1  # of the tables; a cache of another layout is not read
 CACHE = "cache"
@@ -53,37 +50,6 @@ def _digest(program: Path) -> str:
     return _digests[known]
 
 
-@contextmanager
-def trace_of(given: Scenario, seed: int, program: Path) -> Iterator[Iterator[Row]]:
-    """The rows of a run, while the program writes them; RefusedError where it refuses the run."""
-    with tempfile.TemporaryFile() as scenario, tempfile.TemporaryFile() as told:
-        scenario.write(given.text().encode())
-        scenario.seek(0)
-        with subprocess.Popen([program, "--seed", str(seed)], stdin=scenario, stdout=subprocess.PIPE, stderr=told,
-                              encoding="ascii") as running:
-            assert running.stdout is not None
-            try:
-                yield _rows(running.stdout, running, told)
-            finally:
-                running.kill()
-
-
-def _rows(lines: Iterable[str], running: subprocess.Popen, told: tempfile._TemporaryFileWrapper) -> Iterator[Row]:
-    """The rows of a trace, and after them, or in place of a header, the program's refusal if it has one."""
-    several = iter(lines)
-    first = next(several, None)
-    if first is not None:
-        yield from read_trace(_again(first, several))
-    if running.wait():
-        told.seek(0)
-        raise RefusedError(told.read().decode(errors="replace").strip(), running.returncode)
-
-
-def _again(first: str, others: Iterator[str]) -> Iterator[str]:
-    yield first
-    yield from others
-
-
 def perform(job: Job) -> dict[str, pandas.DataFrame]:
     """The tables of a run: those that the cache has, or of one run of the program."""
     place = None if job.cache is None else job.cache / job.key()
@@ -91,20 +57,26 @@ def perform(job: Job) -> dict[str, pandas.DataFrame]:
         return {name: _read(place / f"{name}.csv", name) for name in job.tables}
     with trace_of(job.given, job.seed, job.program) as rows:
         measured = measure(job.given, rows, job.tables)
-    made = {name: _typed(pandas.DataFrame(list(one.rows()), columns=list(one.columns)), name)
-            for name, one in measured.items()}
+    made = {name: frame_of(name, one) for name, one in measured.items()}
     if place is not None:
         _keep(place, made)
     return made
 
 
-def _typed(frame: pandas.DataFrame, name: str) -> pandas.DataFrame:
-    columns = TABLES[name].columns  # type: ignore[attr-defined]
-    return frame.astype({column: kind for column, kind in columns.items()})
+def frame_of(name: str, measured: Measure) -> pandas.DataFrame:
+    """A table as a DataFrame, with numbers as numbers."""
+    return pandas.DataFrame(list(measured.rows()), columns=list(measured.columns)).astype(TABLES[name].columns)
+
+
+def framed(given: Scenario, measured: list[tuple[int, dict[str, Measure]]]) -> dict[str, pandas.DataFrame]:
+    """The tables of some seeds as DataFrames."""
+    names = list(measured[0][1]) if measured else []
+    return {name: _joined(given, [(seed, frame_of(name, tables[name])) for seed, tables in measured])
+            for name in names}
 
 
 def _read(path: Path, name: str) -> pandas.DataFrame:
-    kinds = dict(TABLES[name].columns)  # type: ignore[attr-defined]
+    kinds = TABLES[name].columns
     return pandas.read_csv(path, dtype=kinds, keep_default_na=False, na_values={
         column: [""] for column, kind in kinds.items() if kind != "str"})
 
@@ -215,16 +187,6 @@ def _joined(given: Scenario, parts: list[tuple[int, pandas.DataFrame]]) -> panda
     whole = pandas.concat([part for _, part in parts], ignore_index=True) if parts else pandas.DataFrame()
     nodes = [] if given.tree.names else [column for column in ("node", "a", "b") if column in whole]
     return whole.astype({column: "Int64" for column in nodes})
-
-
-def find_program(program: str | Path | None = None) -> Path:
-    """The program: the one given, or SRM_LAB of the environment, or srm_lab on the path."""
-    named = program or os.environ.get("SRM_LAB") or shutil.which("srm_lab")
-    if named is None:
-        raise ScenarioError("there is no program srm_lab: put it on the path, or say where it is in SRM_LAB")
-    if not Path(named).exists():
-        raise ScenarioError(f"there is no program {named}")
-    return Path(named).resolve()
 
 
 def cache_folder() -> Path:

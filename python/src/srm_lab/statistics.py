@@ -94,6 +94,23 @@ def summarise(frame: pandas.DataFrame, column: str, by: str = "seed", method: st
                    missing, method, level)
 
 
+def difference(first: list[float], second: list[float], level: float = 0.95) -> Interval:
+    """The mean of the second values less that of the first, with Welch's interval for two independent samples.
+
+    For runs that share no random words; `paired` is for those that share their seeds.
+    """
+    one, other = numpy.asarray(first, dtype=float), numpy.asarray(second, dtype=float)
+    mean = float(other.mean() - one.mean())
+    if min(len(one), len(other)) < 2:
+        return Interval(mean, math.nan, math.nan)
+    parts = [one.var(ddof=1) / len(one), other.var(ddof=1) / len(other)]
+    if not sum(parts):
+        return Interval(mean, mean, mean)
+    freedom = sum(parts)**2 / (parts[0]**2 / (len(one) - 1) + parts[1]**2 / (len(other) - 1))
+    wide = float(stats.t.ppf((1 + level) / 2, freedom)) * math.sqrt(sum(parts))
+    return Interval(mean, mean - wide, mean + wide)
+
+
 @dataclass(frozen=True)
 class Paired:
     """The difference of two settings, seed by seed: `table` has both means and their difference for each seed."""

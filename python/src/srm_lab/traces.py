@@ -1,0 +1,54 @@
+"""Runs of the program: their traces."""
+import os
+import shutil
+import subprocess
+import tempfile
+from collections.abc import Iterable, Iterator
+from contextlib import contextmanager
+from pathlib import Path
+from typing import IO
+
+from .errors import RefusedError, ScenarioError
+from .scenario import Scenario
+from .tables import Row, read_trace
+
+
+def find_program(program: str | Path | None = None) -> Path:
+    """The program: the one given, or SRM_LAB of the environment, or srm_lab on the path."""
+    named = program or os.environ.get("SRM_LAB") or shutil.which("srm_lab")
+    if named is None:
+        raise ScenarioError("there is no program srm_lab: put it on the path, or say where it is in SRM_LAB")
+    if not Path(named).exists():
+        raise ScenarioError(f"there is no program {named}")
+    return Path(named).resolve()
+
+
+@contextmanager
+def trace_of(given: Scenario, seed: int, program: Path) -> Iterator[Iterator[Row]]:
+    """The rows of a run, while the program writes them; RefusedError where it refuses the run."""
+    with tempfile.TemporaryFile() as scenario, tempfile.TemporaryFile() as told:
+        scenario.write(given.text().encode())
+        scenario.seek(0)
+        with subprocess.Popen([program, "--seed", str(seed)], stdin=scenario, stdout=subprocess.PIPE, stderr=told,
+                              encoding="ascii") as running:
+            assert running.stdout is not None
+            try:
+                yield _rows(running.stdout, running, told)
+            finally:
+                running.kill()
+
+
+def _rows(lines: Iterable[str], running: subprocess.Popen, told: IO[bytes]) -> Iterator[Row]:
+    """The rows of a trace, and after them, or in place of a header, the program's refusal if it has one."""
+    several = iter(lines)
+    first = next(several, None)
+    if first is not None:
+        yield from read_trace(_again(first, several))
+    if running.wait():
+        told.seek(0)
+        raise RefusedError(told.read().decode(errors="replace").strip(), running.returncode)
+
+
+def _again(first: str, others: Iterator[str]) -> Iterator[str]:
+    yield first
+    yield from others

@@ -1,0 +1,168 @@
+"""Runs: their tables are the program's, computed from one trace; the cache, refusals, and what is kept."""
+import io
+import os
+import stat
+import subprocess
+import sys
+from pathlib import Path
+
+import pandas
+import pytest
+
+from srm_lab import RefusedError, ScenarioError, read_scenario, run, scenario
+from srm_lab.follower import Follower
+from srm_lab.tables import read_trace
+
+ROOT = Path(__file__).resolve().parents[2]
+FILES = sorted([*(ROOT / "examples").glob("*.toml"), *(ROOT / "tests/scenarios").glob("*.toml")])
+TABLES = ["members", "losses", "links"]
+RANDOM = [
+    scenario.random_tree(40, members=25, seed=1).constants(d1="log10").lose(rate=0.02).leave(6, at=(500, 9000)),
+    scenario.random_tree(30, seed=2, delay=10).back(5, most=30).lose(rate=0.02).join(8, at=(50, 900))
+    .outage(3, 80, 900),
+    scenario.star(20, delay=50).lose(every=3, link="adjacent").outage(5, 100, 700).role([4], "listener"),
+    scenario.chain(12).drawing(20, every=30).role([3, 5], "sender").drawing(9, every=50, member=3, page=2)
+    .drawing(9, every=70, member=5).lose(rate=0.03).role([7], "late", pages=[2]).join([7], at=600),
+]
+
+
+def as_the_program(frame, name):
+    """A table of the package in the program's columns and words."""
+    frame = frame.drop(columns="seed")
+    if name == "losses":
+        done = frame["recovered"].notna()
+        frame["delay"] = (frame["delay"].astype("string") + "/" + frame["round_trip"].astype("string")).where(done)
+    columns = {"losses": ["round_trip", "ended", "node"], "links": ["a", "b"], "members": []}[name]
+    return frame.drop(columns=columns).to_csv(index=False, na_rep="-")
+
+
+@pytest.mark.parametrize("text", [*(path.read_text() for path in FILES), *(given.text() for given in RANDOM)],
+                         ids=[*(path.stem for path in FILES), *(f"random-{place}" for place in range(len(RANDOM)))])
+def test_tables_of_one_trace_are_those_that_the_program_writes(text, program, srm_lab):
+    runs = run(read_scenario(text), seeds=[3], tables=TABLES, program=program, cache=None)
+    for name in TABLES:
+        assert as_the_program(runs.table(name), name) == srm_lab(text, "--seed", "3", "--show", name), name
+
+
+def test_losses_have_numbers_and_ends(program):
+    # the chain of the tutorial: detected at 70 and 80, recovered at 140 and 150, round trips 40 and 60
+    given = scenario.chain(4, delay=10).constants(c2=0, d2=0).drawing(0).draw(0).draw(50).drop(1, 0)
+    runs = run(given, tables=["losses", "operations", "timers"], program=program, cache=None)
+    losses = runs.losses
+    assert list(losses["detected"]) == [70, 80] and list(losses["recovered"]) == [140, 150]
+    assert list(losses["delay"]) == [70, 70] and list(losses["round_trip"]) == [40, 60]
+    assert list(losses["ended"]) == ["recovered", "recovered"]
+    one, = runs.operations.to_dict("records")
+    assert (one["losers"], one["requests"], one["repairs"], one["last_delay"], one["last_round_trip"]) == (
+        2, 1, 1, 70, 60)
+    timers = runs.timers[["member", "kind", "set", "ended", "how"]].values.tolist()
+    assert [2, "request", 70, 110, "expired"] in timers
+    assert [3, "request", 80, 120, "backed off"] in timers
+    assert [0, "repair", 130, 140, "stopped"] in timers
+
+
+def test_loss_of_a_member_that_leaves_is_no_open_one(program):
+    given = scenario.chain(4, delay=10).constants(c2=0, d2=0).drawing(0).draw(0).draw(50).drop(1, 0)
+    gone = run(given.leave([3], at=100), tables=["losses", "operations"], program=program, cache=None)
+    assert list(gone.losses["ended"]) == ["recovered", "left"]
+    assert gone.operations[["losers", "left", "open", "last_delay"]].values.tolist() == [[2, 1, 0, 70]]
+    short = run(given.ends(145), tables=["losses", "operations"], program=program, cache=None)
+    assert list(short.losses["ended"]) == ["recovered", "open"]
+    assert short.operations["open"].tolist() == [1] and short.operations["last_delay"].isna().all()
+
+
+@pytest.fixture
+def counted(program, tmp_path):
+    """A program that counts its runs, and how many there were."""
+    path, log = tmp_path / "srm_lab", tmp_path / "log"
+    path.write_text(f'#!/bin/sh\necho run >> {log}\nexec {program} "$@"\n')
+    path.chmod(path.stat().st_mode | stat.S_IEXEC)
+    log.write_text("")
+    return path, lambda: len(log.read_text().splitlines())
+
+
+def test_program_runs_once_for_a_seed_and_not_again_for_what_the_cache_has(counted, tmp_path):
+    path, runs = counted
+    given = scenario.chain(4).lose(every=9, link=1)
+    words = {"program": path, "cache": tmp_path / "cache"}
+    first = run(given, range(3), tables=[*TABLES, "timers", "operations"], **words)
+    assert runs() == 3
+    again = run(given, range(3), tables=TABLES, **words)
+    assert runs() == 3
+    for name in TABLES:
+        pandas.testing.assert_frame_equal(first.table(name), again.table(name))
+    run(given, range(4), tables=TABLES, **words)
+    assert runs() == 4
+    run(given.constants(c1=3), range(3), tables=TABLES, **words)
+    assert runs() == 7
+    path.write_text(path.read_text() + "# another program\n")
+    run(given, range(3), tables=TABLES, **words)
+    assert runs() == 10
+
+
+def test_refusal_has_the_line_of_the_program(tmp_path):
+    path = tmp_path / "srm_lab"
+    path.write_text('#!/bin/sh\necho "refused: no-memory" >&2\nexit 1\n')
+    path.chmod(0o755)
+    for seeds in ([0], [0, 1]):
+        with pytest.raises(RefusedError, match="^refused: no-memory$") as fault:
+            run(scenario.chain(3), seeds, program=path, cache=None)
+        assert fault.value.status == 1
+
+
+def test_trace_that_breaks_off_with_a_refusal_is_that_refusal(tmp_path):
+    path = tmp_path / "srm_lab"
+    path.write_text('#!/bin/sh\nprintf "time,member,cause,ref,result,lost,sent\\n0,0,join,-,in,0,-\\n"\n'
+                    'echo "refused: no-memory" >&2\nexit 1\n')
+    path.chmod(0o755)
+    with pytest.raises(RefusedError, match="no-memory"):
+        run(scenario.chain(3), program=path, cache=None)
+
+
+@pytest.mark.parametrize("words, told", [
+    ({"tables": ["loss"]}, "there is no table 'loss': there are losses"),
+    ({"seeds": [1, 1]}, "a seed is given twice"),
+    ({"seeds": [-1]}, "a seed is -1"),
+    ({"program": "/nowhere/srm_lab"}, "there is no program /nowhere/srm_lab"),
+])
+def test_what_cannot_be_run(words, told, program):
+    with pytest.raises(ScenarioError, match=told):
+        run(scenario.chain(3), **{"program": program, "cache": None, **words})
+
+
+def test_table_that_was_not_asked_for(program):
+    with pytest.raises(ScenarioError, match="'links' was not asked for: these runs have losses"):
+        run(scenario.chain(3), program=program, cache=None).links
+
+
+def test_tables_on_disk(program, tmp_path):
+    runs = run(scenario.chain(3).drop(1, 0), range(2), program=program, cache=None)
+    path, = runs.save(tmp_path / "out")
+    assert pandas.read_csv(path)["delay"].tolist() == runs.losses["delay"].tolist()
+
+
+def test_follower_forgets_packets_that_have_come_to_everyone(srm_lab):
+    given = scenario.chain(5, delay=10).drawing(2000, every=10).lose(every=50, link=2)
+    follower = Follower(given)
+    most = 0
+    for _ in follower.follow(read_trace(io.StringIO(srm_lab(given.text())))):
+        most = max(most, len(follower._packets))
+    # a packet is under way for at most the round trip of the ends, 80 ticks: some ten packets of the source
+    assert most < 60
+
+
+def test_memory_does_not_grow_with_the_trace_where_only_tables_are_asked_for(program):
+    """Ten times the rows take no more memory: a packet, and a row, are kept no longer than they are needed."""
+    script = ("import resource, sys; from srm_lab import run, scenario; "
+              "given = scenario.chain(2, delay=1).drawing(0).ends(int(sys.argv[1])).constants(c1=0, c2=0, d1=0, d2=0); "
+              "given = given.draw(0).draw(1).drop(0, 0).outage(0, 3, int(sys.argv[1])); "
+              "rows = run(given, tables=['members'], cache=None).members['requests'].sum(); "
+              "print(rows, resource.getrusage(resource.RUSAGE_SELF).ru_maxrss)")
+    found = []
+    for end in (10_000, 200_000):
+        done = subprocess.run([sys.executable, "-c", script, str(end)], capture_output=True, text=True, check=False,
+                              env={**os.environ, "PYTHONPATH": str(ROOT / "python/src"), "SRM_LAB": str(program)})
+        assert done.returncode == 0, done.stderr
+        found.append([int(word) for word in done.stdout.split()])
+    (few, before), (many, after) = found
+    assert many > 15 * few and after < before + 8 * 1024  # kilobytes

@@ -1,0 +1,152 @@
+"""Scenarios: read and written without loss, built by verbs, and refused as the format refuses them."""
+import importlib.util
+import tomllib
+from dataclasses import replace
+from pathlib import Path
+
+import pytest
+
+from srm_lab import ScenarioError, read_scenario, scenario
+from srm_lab.parts import Drop, Outage
+
+ROOT = Path(__file__).resolve().parents[2]
+FILES = sorted([*(ROOT / "examples").glob("*.toml"), *(ROOT / "tests/scenarios").glob("*.toml")])
+
+
+def refusals():
+    """The texts of tests/refusals.txt, each with what the program answers."""
+    spec = importlib.util.spec_from_file_location("refusals", ROOT / "tests/refusals.py")
+    module = importlib.util.module_from_spec(spec)
+    spec.loader.exec_module(module)
+    return list(module.cases(module.CASES.read_text(encoding="utf-8")))
+
+
+def answer_of(text):
+    """What the program would say, from what the package says."""
+    try:
+        read_scenario(text)
+    except ScenarioError as fault:
+        if fault.part is None:
+            return "not-toml"
+        if fault.part == "tree":
+            return "not-tree"
+        return f"{fault.part} {fault.place}"
+    return "accepted"
+
+
+@pytest.mark.parametrize("number, text, answer", refusals(), ids=lambda value: value if isinstance(value, int) else "")
+def test_package_refuses_what_the_program_refuses_and_nothing_else(number, text, answer):
+    wanted = answer.removeprefix("bad-key ").removeprefix("bad-")
+    assert answer_of(text) == wanted
+
+
+def defaults_left_out(table):
+    """A file's table without the keys that say what holds without them."""
+    table = {key: value for key, value in table.items() if value != []}
+    for member in table.get("member", []):
+        if member.get("join") == 0:
+            del member["join"]
+    for link in table.get("link", []):
+        if link.get("back") == link["delay"]:
+            del link["back"]
+    return table
+
+
+@pytest.mark.parametrize("path", FILES, ids=lambda path: path.stem)
+def test_file_is_read_and_written_without_loss(path):
+    given = scenario.load(path)
+    assert defaults_left_out(given.table()) == defaults_left_out(tomllib.loads(path.read_text()))
+    assert read_scenario(given.text()) == given
+
+
+def test_names_of_nodes_and_comments_stand_in_the_file():
+    import networkx
+    given = scenario.from_graph(networkx.Graph([("home", "the office"), ("the office", "lab")]), delays=7)
+    given = replace(given, until=given.end, version=1, comments=("first", "", "third"))
+    assert read_scenario(given.text()) == given
+    assert read_scenario(given.text()).tree.names == ("home", "the office", "lab")
+
+
+def test_every_part_of_the_format_can_be_built(srm_lab):
+    given = (scenario.chain(9, members=3, delay=10, seed=4).constants(c1=1.5, c2="log10", d1=1, d2=0)
+             .back(5, most=20).drawing(4, every=7)
+             .member(next(node for node in range(9) if node not in taken(9, 4)), role="listener", leave=500)
+             .role([1], "late", pages=[0, 3]).join([1], at=15).role([2], "sender")
+             .drawing(2, every=9, start=3, member=2, page=6).draw(40, member=2, page=6, ink=99).session(60, member=1)
+             .drop(0, [1, 3]).outage(1, first=20, last=29).leave([2], at=(80, 90)).ends(4000))
+    table = tomllib.loads(given.text())
+    assert set(table) == {"version", "until", "c1", "c2", "d1", "d2", "nodes", "link", "member", "draw", "session",
+                          "drop", "outage"}
+    assert (table["version"], table["c1"], table["until"]) == (2, 1500, 4000)
+    assert table["member"][1] | {"node": 0} == {
+        "node": 0, "role": "late", "stream": 2, "join": 15, "pages": [0, 3]}
+    assert 80 <= table["member"][2]["leave"] <= 90
+    assert table["outage"] == [{"link": 1, "from": 20, "to": 30}]
+    assert {"member": 2, "page": 6, "ink": 99, "at": 40} in table["draw"]
+    assert srm_lab(given.text()).startswith("time,member")
+
+
+def taken(nodes, seed):
+    """The nodes of the members of a chain of three members."""
+    return {member.node for member in scenario.chain(nodes, members=3, delay=10, seed=seed).members}
+
+
+def test_losses_at_random_are_those_of_a_rate_and_a_seed():
+    given = scenario.chain(11, seed=3).drawing(400)
+    drops = given.lose(rate=0.1).drops
+    # 10 links and 400 packets: 400 drops expected, with a standard deviation of 19
+    assert 300 < len(drops) < 500 and len(set(drops)) == len(drops)
+    assert drops == given.lose(rate=0.1).drops != given.lose(rate=0.1, seed=4).drops
+    assert given.lose(rate=0).drops == ()
+    assert given.lose(rate=1, link=2, packets=3).drops == (Drop(2, 0, 0), Drop(2, 0, 1), Drop(2, 0, 2))
+
+
+def test_every_third_packet_is_lost():
+    assert scenario.chain(4).drawing(7).lose(every=3, link="hops:2").drops == tuple(
+        Drop(1, 0, count) for count in (0, 3, 6))
+
+
+def test_outage_has_both_its_ticks():
+    assert scenario.chain(2).outage(0, first=800, last=1200).outages == (Outage(0, 800, 1201),)
+
+
+def test_one_seed_gives_one_scenario_and_verbs_choose_apart():
+    def made(seed):
+        return scenario.random_tree(30, members=20, seed=seed).leave(5, at=(100, 190)).join(5, at=(10, 90)).text()
+    assert made(1) == made(1) != made(2)
+    given = scenario.chain(40, seed=1)
+    assert [member.leave for member in given.leave(9, at=(1, 999)).members] != [
+        member.join or None for member in given.join(9, at=(1, 999)).members]
+
+
+@pytest.mark.parametrize("make, told", [
+    (lambda: scenario.chain(3).draw(5, member=1), "draw 100: `member` is 1, a receiver, and only senders draw"),
+    (lambda: scenario.chain(3).drop(2, 0), "drop 0: there is no link 2: the network has 2"),
+    (lambda: scenario.chain(3).outage(0, 9, 8), "outage 0: `from` is 9, and has to be below `to`, 9"),
+    (lambda: scenario.chain(3).leave([1], 0), "member 1: `leave` is 0, and has to be 1 to 1099511627776"),
+    (lambda: scenario.chain(3).leave([1], 7).session(8, member=1), "which is after member 1 leaves at 7"),
+    (lambda: scenario.chain(3).member(0), "`node` is 0, on which member 0 is: a node has one member"),
+    (lambda: scenario.star(3).member(0), "`node` is 0, the hub of the star"),
+    (lambda: scenario.chain(3).role([1], "receiver", pages=[]), "only a late member has wanted pages"),
+    (lambda: scenario.chain(3).role([1], "speaker"), "`role` is 'speaker', and has to be sender, receiver"),
+    (lambda: scenario.chain(3).leave(3, 5), "members is 3, and has to be 0 to 2"),
+    (lambda: scenario.chain(3).leave([7], 5), "there is no member 7: there are 3"),
+    (lambda: scenario.chain(3).leave([1], (9, 5)), "its first tick is after its last"),
+    (lambda: scenario.chain(3).lose(), "give either a rate or every"),
+    (lambda: scenario.chain(3).lose(every=2), "every needs a link"),
+    (lambda: scenario.chain(3).lose(rate=1.5), "rate is 1.5, and has to be from 0 to 1"),
+    (lambda: scenario.chain(900).lose(rate=1), "`drop` has 89900 elements, and may have 4096"),
+    (lambda: scenario.chain(3).constants(c3=1), "c3: the constants are c1, c2, d1 and d2"),
+    (lambda: scenario.chain(3).constants(c1=65), "65 in thousandths is 65000"),
+    (lambda: scenario.chain(3).ends(4), "draw 0: `at`"),
+    (lambda: replace(scenario.chain(3).back(7), version=1).check(), "`back` is no key here in version 1"),
+    (lambda: scenario.star(3).back(7, most=9), "one delay back for all links of a star"),
+    (lambda: scenario.chain(3, source=5), "there is no node 5"),
+    (lambda: scenario.star(3, source=0), "no node that may host"),
+])
+def test_what_is_refused_has_a_sentence_with_the_key_and_the_rule(make, told):
+    if told == "draw 0: `at`":
+        told = "draw 1: `at` is 100, which is not before the end of the run at 4"
+    with pytest.raises(ScenarioError) as fault:
+        make()
+    assert told in str(fault.value)
