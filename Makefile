@@ -52,11 +52,12 @@ test: ## the merge gate: proves everything from nothing, with tests and must-fai
 	@tests/widths.py
 	@tools/gate.py -- make --no-print-directory test-program test-memory
 
-test-program: $(PROGRAM) ## compares what the program prints with each file of examples/, and its refusals, and tries it on some random scenarios
+test-program: $(PROGRAM) ## compares what the program prints with each file of examples/, and its refusals, and tries it at the format's limits and on some random scenarios
 	@tests/compare_program.py $(PROGRAM) examples tests/scenarios
 	@tests/refusals.py $(PROGRAM)
 	@tests/hostile.py $(PROGRAM) -q
 	@tests/command_line.py $(PROGRAM) -q
+	@tests/limits.py $(PROGRAM)
 	@tests/same_bytes.py --runs $(FEW_CASES) $(PROGRAM)
 	@tests/fuzz.py --from 1 --cases $(FEW_CASES) $(PROGRAM)
 

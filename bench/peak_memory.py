@@ -1,13 +1,13 @@
 #!/usr/bin/env python3
-"""How much memory the built program takes at its peak for traces of three lengths, by each engine and crew.
+"""How much memory the built program takes at its peak for runs of three lengths, by table, engine and crew.
 
-usage: bench/peak_memory.py PROGRAM [--show TABLE]
+usage: bench/peak_memory.py PROGRAM [--show TABLE]..
 
 Runs PROGRAM on a star of 17 nodes with 16 members. The source's own link drops the first packet of each of four pages, later ones tell
 the others of the loss, and the source leaves. All constants are 0, so that the others ask for what nobody can mend at every tick
 until the run ends, at tick 1,000, 4,000 or 16,000: some 400,000, 1,750,000 and 7,150,000 rows of one and the same scenario. Prints,
-for each engine and crew, the rows and the peak resident memory of each run, in KiB, and the greatest over the least. It asserts
-nothing. With `--show links` the rows are kept: that takes some 2 GB.
+for each table, engine and crew, the lines and the peak resident memory of each run, in KiB, and the greatest over the least. It asserts
+nothing. No table keeps rows: the memory of losses grows with the losses of the run alone, and that of the others does not grow.
 """
 import argparse
 import subprocess
@@ -17,6 +17,7 @@ import tempfile
 MEMBERS = 16
 PAGES = 4
 ENDS = [1000, 4000, 16000]
+TABLES = ["trace", "members", "losses", "links"]
 WINDOW = ["--engine", "window", "--workers", "2", "--crew"]
 ENGINES = [("step", []), *((f"window, {crew}", [*WINDOW, crew]) for crew in ("plain", "pool", "bag"))]
 
@@ -61,13 +62,14 @@ def measure(program, words, text):
 def main():
     parser = argparse.ArgumentParser(description="peak memory of traces of three lengths")
     parser.add_argument("program")
-    parser.add_argument("--show", default="trace")
+    parser.add_argument("--show", action="append", choices=TABLES, help="a table; all four where none is named")
     given = parser.parse_args()
-    for name, words in ENGINES:
-        runs = [measure(given.program, [*words, "--show", given.show], scenario(until)) for until in ENDS]
-        peaks = [peak for _, peak in runs]
-        told = ", ".join(f"{rows} rows {peak} KiB" for rows, peak in runs)
-        print(f"{name}: {told}; {max(peaks) / min(peaks):.2f} times")
+    for table in given.show or TABLES:
+        for name, words in ENGINES:
+            runs = [measure(given.program, [*words, "--show", table], scenario(until)) for until in ENDS]
+            peaks = [peak for _, peak in runs]
+            told = ", ".join(f"{lines} lines {peak} KiB" for lines, peak in runs)
+            print(f"{table}, {name}: {told}; {max(peaks) / min(peaks):.2f} times")
 
 
 if __name__ == "__main__":

@@ -8,11 +8,18 @@ SRM_LAB ?= $(PROGRAM)
 experiments-packages: ## installs the Debian packages that experiments need (as root, after apt-get update)
 	apt-get install -y --no-install-recommends $$(cat experiments/packages.txt)
 
-check-experiments: $(SRM_LAB) ## runs a linter and a type checker over the Python code, its tests, and every command of the tutorial and the study
-	$(PYTHON) -m flake8 python experiments
+check-experiments: $(SRM_LAB) ## runs a linter over all Python of the repository, a type checker over the package, its tests, and every command of the tutorial and the study
+	$(PYTHON) -m flake8 .
 	cd python && mypy
 	cd python && SRM_LAB=$(abspath $(SRM_LAB)) $(PYTHON) -m pytest -q -p no:cacheprovider
 	$(PYTHON) experiments/check_tutorial.py $(SRM_LAB) docs/TUTORIAL.md docs/STUDY.md
+
+# what of the Python package needs no package runs in the merge gate
+.PHONY: test-python
+test: test-python
+
+test-python: ## reads each scenario of the repository with the Python package, and compares its tables with those that stand there
+	@python/tests/plain.py
 
 .PHONY: picture
 picture: $(SRM_LAB) ## draws a run: make picture SCENARIO=examples/star-loss-at-one-member.toml ARGUMENTS="--seed 2" PICTURE="--from 10 --to 40" > star.svg

@@ -74,6 +74,19 @@ def counted(source, words, text, output=None):
         return os.path.getsize(told.name)
 
 
+def writes(words, text):
+    """How many bytes a run writes, and by how many calls that write, its line of errors included."""
+    with tempfile.TemporaryFile() as given, tempfile.TemporaryFile() as taken:
+        given.write(text)
+        given.seek(0)
+        child = subprocess.Popen([program, *words], stdin=given, stdout=taken)
+        os.waitid(os.P_PID, child.pid, os.WEXITED | os.WNOWAIT)
+        told = dict(line.split(": ") for line in pathlib.Path(f"/proc/{child.pid}/io").read_text().splitlines())
+        if child.wait() != 0:
+            raise AssertionError(f"status {child.returncode}")
+        return int(told["wchar"]), int(told["syscw"])
+
+
 def threads(words, text=LONE):
     """How many threads a run starts."""
     return counted("count_threads", words, text)
@@ -95,6 +108,14 @@ def chain(nodes, delay, apart=90):
     draws = "".join(f"  {{ member = 0, page = 0, ink = 7, at = {at} }},\n" for at in range(0, 91, apart))
     top = f'version = 1\nuntil = 100\nc1 = 0\nc2 = 0\nd1 = 0\nd2 = 0\ntopology = "chain"\nsize = {nodes}\ndelay = {delay}\n'
     return f"{top}member = [\n{members}]\ndraw = [\n{draws}]\n".encode()
+
+
+def star(members, draws):
+    """A star of listeners round a node, but for a sender that draws so many times, every second tick: each hears each draw."""
+    roles = "".join(f'  {{ node = {node}, role = "{"sender" if node == 1 else "listener"}", stream = 0 }},\n' for node in range(1, members + 1))
+    drawn = "".join(f"  {{ member = 0, page = 0, ink = 7, at = {2 * at} }},\n" for at in range(draws))
+    top = f'version = 1\nuntil = {2 * draws + 10}\nc1 = 0\nc2 = 0\nd1 = 0\nd2 = 0\ntopology = "star"\nsize = {members + 1}\ndelay = 1\n'
+    return f"{top}member = [\n{roles}]\ndraw = [\n{drawn}]\n".encode()
 
 
 class Seeds(unittest.TestCase):
@@ -122,6 +143,16 @@ class Seeds(unittest.TestCase):
     def test_seeds_are_told_apart(self):
         self.assertNotEqual(self.check(["--seed", "42"], 42), self.check([], 0))
         self.assertEqual(self.check(["--seed", "42"], 42), (EXAMPLES / "drawn-timers.seed-42.trace.csv").read_bytes())
+
+
+class Writes(unittest.TestCase):
+    def test_a_long_trace_is_written_in_large_pieces(self):
+        """Some 160,000 rows are written by at most 2,000 calls, though they come 32 at a time."""
+        for words in ([], WINDOW):
+            with self.subTest(words=words):
+                size, calls = writes(words, star(255, 625))
+                self.assertGreater(size, 2_000_000)
+                self.assertLessEqual(calls, 2_000)
 
 
 class Tables(unittest.TestCase):
@@ -162,6 +193,15 @@ class Windows(unittest.TestCase):
         for width in ("0", "18446744073709551615"):
             with self.subTest(width=width):
                 self.assertEqual(ended([*WINDOW, "--width", width])[0], BAD_WIDTH)
+
+    def test_a_width_of_two_is_refused_where_a_link_takes_one_tick_in_either_direction(self):
+        there_in_one = (EXAMPLES / "two-way-delays.toml").read_bytes()
+        back_in_one = there_in_one.replace(b"delay = 1\nback = 3", b"delay = 3\nback = 1")
+        self.assertNotEqual(back_in_one, there_in_one)
+        for text in (there_in_one, back_in_one):
+            with self.subTest(text=text):
+                self.assertEqual(ended([*WINDOW, "--width", "2"], text)[0], BAD_WIDTH)
+                self.assertEqual(ended([*WINDOW, "--width", "1"], text)[0][0], 0)
 
     def test_windows_are_as_wide_as_a_link_unless_another_width_is_asked_for(self):
         text = chain(3, 7, 3)
@@ -282,19 +322,48 @@ def narrow(words, most, **streams):
     return subprocess.run([program, *words], stdin=subprocess.DEVNULL, preexec_fn=limit, restore_signals=False, **streams)
 
 
+# What help says, line by line: the options of README's table, and the exit statuses of docs/FORMATS.md.
+HELP = """\
+Simulates loss recovery in SRM (Scalable Reliable Multicast), event by event.
+Reads a scenario (TOML) on standard input, and writes a table of its run (CSV) on standard output.
+
+Usage: srm_lab [OPTIONS]
+
+Options:
+      --seed <0..=9223372036854775807>
+          The seed of the members' random words [default: 0]
+      --engine <step|window>
+          One event at a time, or windows of time; the table is the same [default: step]
+      --crew <plain|pool|bag>
+          Who works in a window: one thread, a pool of threads, or workers that share a bag of jobs [default: plain]
+      --workers <1..=64>
+          How many workers share the bag [default: 1]
+      --cut <N>
+          How many members a job of a window has, 1 to 1024 [default: 1]
+      --width <least|promise|N>
+          How wide windows are: the least delay of a link, as members promise, or ticks, from 1 to that delay [default: least]
+      --show <trace|members|losses|links>
+          The table: a row for each event, member, loss or link [default: trace]
+  -h, --help
+          Print help
+  -V, --version
+          Print version
+
+Exit status:
+  0  the table was written, or this help
+  1  refused: one line on standard error says why
+  2  the command line was refused, and standard input was not read
+
+Example:
+  srm_lab --seed 7 --show members < scenario.toml > members.csv
+""".splitlines()
+
+
 class Help(unittest.TestCase):
-    def test_help_tells_each_option_with_what_it_takes(self):
+    def test_help_tells_each_option_and_each_status(self):
         (status, text, told), unread = ended(["--help"])
         self.assertEqual((status, told, unread), (0, b"", len(CHAIN)))
-        for part in (
-            "standard input", "standard output", "CSV", "Usage: srm_lab [OPTIONS]",
-            "--seed <0..=9223372036854775807>", "[default: 0]", "--engine <step|window>", "[default: step]",
-            "--crew <plain|pool|bag>", "[default: plain]", "--workers <1..=64>", "[default: 1]", "--cut <N>", "1 to 1024",
-            "--width <least|promise|N>", "[default: least]", "--show <trace|members|losses|links>", "[default: trace]",
-            "Exit status:\n  0 ", "\n  1 ", "\n  2 ", "Example:\n  srm_lab --seed 7",
-        ):
-            with self.subTest(part=part):
-                self.assertIn(part, text.decode())
+        self.assertEqual(text.decode().splitlines(), HELP)
 
     def test_help_that_is_met_first_is_given(self):
         must = ended(["--help"])

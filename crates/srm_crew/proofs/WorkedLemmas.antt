@@ -102,8 +102,8 @@ module _ {T D : Type 0} (R : T → Result D CellFault → Type 0) (numbers : D �
   tells_after P p S s u (Err e) a b = stops_after P p S s [] u e a b
 
   -- one item
-  pub item_worked : (p q : PassView T) (s t : SeatView) (u v : List D) (x : T) → TellsTake p (Some x) q
-      → TellsItem (λ r. R x r) numbers s u (Ok tt) t v → Worked R numbers p s u q t v
+  pub item_worked : (p q : PassView T) (s t : SeatView) (u v : Vec D) (x : T) → TellsTake p (Some x) q
+      → TellsItem (λ r. R x r) numbers s u (Ok tt) t v → Worked R numbers p s u.items q t v.items
   item_worked p q s t u v x take item = record {
     places = take.0 ∷ [];
     more = item.0 ∷ [];
@@ -113,7 +113,7 @@ module _ {T D : Type 0} (R : T → Result D CellFault → Type 0) (numbers : D �
     grown = record { ledger = item.3.ledger; weight = item.3.weight; shares = λ k. let e = item.3.shares k in omega (arith, e) };
   }
 
-  pub item_stops : (p q : PassView T) (s t : SeatView) (u v : List D) (x : T) (e : CrewFault) → TellsTake p (Some x) q
+  pub item_stops : (p q : PassView T) (s t : SeatView) (u v : Vec D) (x : T) (e : CrewFault) → TellsTake p (Some x) q
       → TellsItem (λ r. R x r) numbers s u (Err e) t v → Stops R numbers p.put p.taken s e
   item_stops p q s t u v x fault.NoMemory take item = tt
   item_stops p q s t u v x fault.Spent take item = (take.0, (x, take.2, item))

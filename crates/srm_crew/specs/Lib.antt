@@ -1,3 +1,4 @@
+pub mod Faults
 pub mod Crews
 pub mod Notes
 pub mod Places

@@ -1,13 +1,16 @@
 -- Workers that share a bag of items and a seat: what they tell, where R says what may come of an item.
-use Rattle.std.specs.Prelude.{◌≡◌, ◌+◌, ◌++◌, ◌∷◌, ℕ, List, [], length, slice_get, Some, Result, Ok, Err}
+use Rattle.std.specs.Prelude.{◌≡◌, ◌≢◌, ◌⊎◌, ◌<◌, ◌≤◌, ◌+◌, ◌++◌, ◌∷◌, ℕ, List, [], length, vec_capacity, slice_get}
+use Rattle.std.specs.Prelude.{Some, Result, Ok, Err}
 use Rattle.std.specs.List.{AllZip}
 use Rattle.std.specs.Global.{Vec}
 use Rattle.srm_ledger.specs.Seats.{SeatView, both_seats}
-use Rattle.srm_ledger.specs.Tally.{SomePast}
+use Rattle.srm_ledger.specs.Tally.{AllFit, SomePast}
 use Rattle.srm_cell.specs.declared.fault.CellFault.{CellFault}
 use Rattle.srm_cell.specs.declared.fault.CellFault.TheVariants as cell
 use Rattle.srm_crew.specs.declared.fault.CrewFault.{CrewFault}
 use Rattle.srm_crew.specs.declared.fault.CrewFault.TheVariants as fault
+use Rattle.srm_crew.specs.declared.bag_fault.SplitFault.{SplitFault}
+use Rattle.srm_crew.specs.declared.bag_fault.SplitFault.TheVariants as split
 use Rattle.srm_crew.specs.Places.{EachAtMostOnce}
 use Rattle.srm_crew.specs.Passes.{PassView, both_passes, TookEachAtMostOnce}
 use Rattle.srm_crew.specs.Crews.{HasGrown, IsPast, word_of}
@@ -29,13 +32,22 @@ with_list p taken = record { bag = p.bag; weight = p.weight; put = p.put; taken 
 abbrev pub InOrder : {D : Type 0} → List ℕ → List D → List D → Type 0
 InOrder places results all = (length all ≡ length results) × AllZip (λ p d. slice_get all p ≡ Some d) places results
 
+-- why a pass and a seat of these weights are not halved: one of them has weight 1, or memory was refused
+abbrev pub MayNotHalve : ℕ → ℕ → SplitFault → Type 0
+MayNotHalve pass seat split.TooManySeats = (pass ≡ 1) ⊎ (seat ≡ 1)
+MayNotHalve pass seat split.NoMemory = pass ≢ 1
+
 module _ {D : Type 0} where
-  -- what one item more tells, of which P says what may come: a result more, and a seat that has grown by its numbers
-  abbrev pub TellsItem : (Result D CellFault → Type 0) → (D → List ℕ) → SeatView → List D → Result (Unit {0}) CrewFault
-      → SeatView → List D → Type 0
+  -- what one item more tells, of which P says what may come: a result more, and a seat that has grown by its numbers.
+  -- Memory is refused to the work, or else to a list of results that is full, and then the seat has grown
+  abbrev pub TellsItem : (Result D CellFault → Type 0) → (D → List ℕ) → SeatView → Vec D → Result (Unit {0}) CrewFault
+      → SeatView → Vec D → Type 0
   TellsItem P numbers seat results (Ok u) new_seat new_results =
-      (d : D) × P (Ok d) × (new_results ≡ results ++ d ∷ []) × HasGrown (word_of (numbers d)) seat new_seat
-  TellsItem P numbers seat results (Err fault.NoMemory) new_seat new_results = Unit {0}
+      (d : D) × P (Ok d) × (new_results.items ≡ results.items ++ d ∷ []) × HasGrown (word_of (numbers d)) seat new_seat
+  TellsItem P numbers seat results (Err fault.NoMemory) new_seat new_results =
+      P (Err cell.NoMemory)
+      ⊎ ((d : D) × P (Ok d) × HasGrown (word_of (numbers d)) seat new_seat
+      × (vec_capacity results ≤ length results.items))
   TellsItem P numbers seat results (Err fault.Spent) new_seat new_results = P (Err cell.Spent)
   TellsItem P numbers seat results (Err fault.CountFull) new_seat new_results = P (Err cell.CountFull)
   TellsItem P numbers seat results (Err fault.ShareFull) new_seat new_results =
@@ -79,14 +91,16 @@ module _ {T D : Type 0} where
       × HasGrown (λ k. sum_of numbers k v.0.items) seat v.1
   TellsAll R numbers items seat (Err e) = Stops R numbers items [] seat e
 
-  -- what comes of two workers: both passes and seats in one, and the results of the first before those of the second
+  -- what comes of two workers: both passes and seats in one, and the results of the first before those of the second.
+  -- Memory is refused only where both seats fit into one, and the first list of results has no room for the second
   abbrev pub TellsBoth : Result (PassView T × SeatView × Vec D) CrewFault
       → Result (PassView T × SeatView × Vec D) CrewFault → Result (PassView T × SeatView × Vec D) CrewFault → Type 0
   TellsBoth (Err e) b r = r ≡ Err e
   TellsBoth (Ok a) (Err e) r = r ≡ Err e
   TellsBoth (Ok a) (Ok b) (Ok r) = (r.0 ≡ both_passes a.0 b.0) × (r.1 ≡ both_seats a.1 b.1)
       × (r.2.items ≡ a.2.items ++ b.2.items)
-  TellsBoth (Ok a) (Ok b) (Err fault.NoMemory) = Unit {0}
+  TellsBoth (Ok a) (Ok b) (Err fault.NoMemory) = AllFit a.1.shares b.1.shares
+      × (vec_capacity a.2 < length a.2.items + length b.2.items)
   TellsBoth (Ok a) (Ok b) (Err fault.ShareFull) = TookEachAtMostOnce (both_passes a.0 b.0)
       × SomePast a.1.shares b.1.shares
   TellsBoth (Ok a) (Ok b) (Err e) = ⊥

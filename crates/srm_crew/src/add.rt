@@ -1,8 +1,9 @@
 //! Crossings, added to a ledger.
-ghost use Rattle.std.specs.Prelude.{◌≡◌, ◌<◌, ◌≤◌, ◌+◌, ◌*◌, ◌^◌, ℕ, List, length, All, MatchResult};
+ghost use Rattle.std.specs.Prelude.{◌≡◌, ◌<◌, ◌≤◌, ◌+◌, ◌*◌, ◌^◌, ℕ, List, length, All, Err, IfErr, MatchResult};
 ghost use Rattle.srm_ledger.specs.Counts.{place_of};
 ghost use Rattle.srm_cell.specs.Jobs.{PlainJob};
 ghost use Rattle.srm_cell.specs.Setting.{Traffic};
+ghost use Rattle.srm_crew.specs.Faults.{crew_fault_of};
 ghost use Rattle.srm_crew.specs.Crews.{HasGrown, IsPast, word_of, sum_at, TellsEach, TellsMap};
 
 use crate::fault::CrewFault;
@@ -73,13 +74,16 @@ pub(crate) fn add_each(ledger: &Ledger, seat: &mut Seat, all: &[Done]) -> Result
     for done in all {
         match add_crossings(ledger, seat, &done.crossings) {
             Ok(()) => {}
-            Err(fault) => return Err(fault),
+            Err(full) => return Err(full),
         }
     }
     Ok(())
 }
 
-/// The jobs that are done, with a seat that has grown by the crossings of all of them; or why not.
+/// The jobs that are done, with a seat that has grown by the crossings of all of them. It does not allocate.
+///
+/// # Errors
+/// The cells' refusal, where they were refused; and else `ShareFull` alone.
 pub(crate) fn settle(
     ledger: &Ledger,
     seat: Seat,
@@ -88,19 +92,19 @@ pub(crate) fn settle(
     requires seat { seat.ledger ≡ ledger.now.name }
     requires known { (s : Traffic) × (ps : List PlainJob) × (s.links ≡ ledger.now.links)
         × TellsEach (λ b. (⟦<dyn Member as Member>⟧ b.vtable).plain b.value) s ps advanced }
-    ensures { (s : Traffic) (ps : List PlainJob) → s.links ≡ ledger.now.links
+    ensures refused { MatchResult advanced (λ _. IfErr result (λ e. e ≡ CrewFault.ShareFull))
+        (λ e. result ≡ Err (crew_fault_of e)) }
+    ensures told { (s : Traffic) (ps : List PlainJob) → s.links ≡ ledger.now.links
         → TellsEach (λ b. (⟦<dyn Member as Member>⟧ b.vtable).plain b.value) s ps advanced
         → TellsMap (λ b. (⟦<dyn Member as Member>⟧ b.vtable).plain b.value) s seat ps result }
 {
     let all = match advanced {
         Ok(all) => all,
-        Err(CellFault::NoMemory) => return Err(CrewFault::NoMemory),
-        Err(CellFault::Spent) => return Err(CrewFault::Spent),
-        Err(CellFault::CountFull) => return Err(CrewFault::CountFull),
+        Err(fault) => return Err(CrewFault::from(fault)),
     };
     let mut seat = seat;
     match add_each(ledger, &mut seat, all.as_slice()) {
         Ok(()) => Ok((all, seat)),
-        Err(ShareFull) => Err(CrewFault::ShareFull),
+        Err(full) => Err(CrewFault::from(full)),
     }
 }

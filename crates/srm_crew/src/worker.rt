@@ -10,7 +10,7 @@ use crate::fault::CrewFault;
 use crate::gate::Gate;
 use crate::pass::Pass;
 use srm_cell::fault::CellFault;
-use srm_ledger::ledger::{Ledger, Seat, ShareFull};
+use srm_ledger::ledger::{Ledger, Seat};
 use std::sync::Wait;
 
 // Works on an item, adds the numbers of what comes of it, and keeps that.
@@ -24,19 +24,10 @@ fn work_on<T, D: Counted + Drop, F: Fn(T) -> Result<D, CellFault>>(
     requires seat { seat.old.ledger ≡ ledger.now.name }
     requires ready { F.pre work item }
     requires long { (d : D) → F.post work item (Ok d) → length (D.numbers d) ≡ 5 * ledger.now.links }
-    ensures { TellsItem (λ r. F.post work item r) D.numbers seat.old results.old.items result
-        seat.new results.new.items }
+    ensures { TellsItem (λ r. F.post work item r) D.numbers seat.old results.old result seat.new results.new }
 {
-    let done = match work(item) {
-        Ok(done) => done,
-        Err(CellFault::NoMemory) => return Err(CrewFault::NoMemory),
-        Err(CellFault::Spent) => return Err(CrewFault::Spent),
-        Err(CellFault::CountFull) => return Err(CrewFault::CountFull),
-    };
-    match add_crossings(ledger, seat, done.crossings()) {
-        Ok(()) => {}
-        Err(ShareFull) => return Err(CrewFault::ShareFull),
-    }
+    let done = work(item)?;
+    add_crossings(ledger, seat, done.crossings())?;
     match results.push(done) {
         Ok(()) => Ok(()),
         Err(_) => Err(CrewFault::NoMemory),

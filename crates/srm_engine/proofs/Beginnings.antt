@@ -4,11 +4,11 @@ use Rattle.std.proofs.Common.{option_map, unwrap_or, refl, sym, ap, ◌∙◌, a
 use Rattle.std.proofs.lemmas.Bool.Decides.{nat_tests}
 use Rattle.srm_cell.specs.Setting.{Setting}
 use Rattle.srm_cell.specs.Cells.{PlainCell, Event, next_event, time_of}
-use Rattle.srm_engine.specs.World.{World, least_event}
+use Rattle.srm_model.specs.World.{World, least_event}
 use Rattle.srm_engine.specs.NextTimes.{least_of_times, sooner_time}
 use Rattle.srm_engine.specs.Seen.{AreTimes}
-use Rattle.srm_engine.specs.Windows.{least_with}
-use Rattle.srm_engine.specs.WindowChains.{start_of}
+use Rattle.srm_model.specs.Windows.{least_with}
+use Rattle.srm_model.specs.WindowChains.{start_of}
 use Rattle.srm_engine.specs.Soonest.{IsLeast, due}
 use Rattle.srm_engine.proofs.SoonLemmas.{Any, with_le, with_in, with_one, least_is_one}
 use Rattle.srm_engine.proofs.Stepping.{time_and_member, least_is_event}

@@ -16,7 +16,7 @@ use Rattle.srm_cell.specs.Views.{IsCell}
 use Rattle.srm_cell.specs.Jobs as cell
 use Rattle.srm_engine.specs.Seen.{AreCells}
 use Rattle.srm_engine.specs.Groups.{numbered, AreCuts, AreFull, sizes, all_in}
-use Rattle.srm_engine.proofs.RunLemmas.{shifted}
+use Rattle.srm_model.proofs.RunLemmas.{shifted}
 
 same_some : {A : Type 0} (x y : A) → Some x ≡ Some y → x ≡ y
 same_some x y h = cc

@@ -18,11 +18,11 @@ use Rattle.srm_cell.specs.OwnRuns.{told_to}
 use Rattle.srm_cell.specs.declared.fault.CellFault.TheVariants as fault
 use Rattle.srm_cell.specs.Views.{IsCell, IsGone, TellsExit}
 use Rattle.srm_cell.proofs.Rising.{OnStep}
-use Rattle.srm_engine.specs.World.{World, IsReached, after_step, least_event, opening, opening_cells, run, cells_after, step, step_of}
-use Rattle.srm_engine.specs.World.{step_to}
+use Rattle.srm_model.specs.World.{World, IsReached, after_step, least_event, opening, opening_cells, run, cells_after, step, step_of}
+use Rattle.srm_model.specs.World.{step_to}
 use Rattle.srm_engine.specs.Outcomes.{HasEnd, AllEnd}
 use Rattle.srm_engine.specs.Seen.{AreCells}
-use Rattle.srm_engine.proofs.RunLemmas.{run_by, run_first}
+use Rattle.srm_model.proofs.RunLemmas.{run_by, run_first}
 use Rattle.srm_net.specs.Limits.{most_sent}
 
 abbrev Kept : PlainCell → Type 0

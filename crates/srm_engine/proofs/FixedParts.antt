@@ -15,11 +15,11 @@ use Rattle.srm_cell.specs.Cells.{sending_step, step_at}
 use Rattle.srm_cell.specs.OwnRuns.{told_to}
 use Rattle.srm_cell.proofs.Counts.{Taken, next_taken}
 use Rattle.srm_cell.proofs.Rising.{OnEvent, OnStep, before_on}
-use Rattle.srm_engine.specs.World.{World, least_event, opening, opening_cells, run, cells_after}
+use Rattle.srm_model.specs.World.{World, least_event, opening, opening_cells, run, cells_after}
 use Rattle.srm_engine.specs.Ends.{KeepFixed}
-use Rattle.srm_engine.proofs.RunLemmas.{Seq, next, rest, shifted}
-use Rattle.srm_engine.proofs.Sequential.{run_seq, step_facts}
-use Rattle.srm_engine.proofs.Settled.{each_after}
+use Rattle.srm_model.proofs.RunLemmas.{Seq, next, rest, shifted}
+use Rattle.srm_model.proofs.Sequential.{run_seq, step_facts}
+use Rattle.srm_model.proofs.Settled.{each_after}
 use Rattle.srm_net.specs.Limits.{most_sent}
 
 same_some : {A : Type 0} (x y : A) → Some x ≡ Some y → x ≡ y

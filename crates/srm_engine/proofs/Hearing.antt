@@ -4,7 +4,7 @@ use Rattle.std.proofs.Common.{◌∙◌, slice_get, slice_set, nat_lt, lt-ltb, l
 use Rattle.srm_net.specs.declared.packet.Packet.{Packet}
 use Rattle.srm_cell.specs.Setting.{Traffic, arrival_of}
 use Rattle.srm_cell.specs.Cells.{PlainCell, hear, hear_at}
-use Rattle.srm_engine.specs.Seen.{heard_below}
+use Rattle.srm_model.specs.Hearing.{heard_below}
 use Rattle.srm_engine.proofs.SeenLemmas.{same_some}
 
 module _ (s : Traffic) (p : Packet) where

@@ -21,12 +21,12 @@ use Rattle.srm_cell.specs.Jobs as cell
 use Rattle.srm_cell.proofs.CrossingLemmas.{crossings_add}
 use Rattle.srm_crew.specs.Crews.{AreJobs, AnyEnds, HasGrown, word_of, rows_of}
 use Rattle.srm_crew.proofs.Sums.{crossings_long}
-use Rattle.srm_engine.specs.WindowRuns.{OwnResult, AreOwnRuns, rows_in, cells_in, PlainJob, jobs_within, jobs_from, AreJobRuns}
+use Rattle.srm_model.specs.WindowRuns.{OwnResult, AreOwnRuns, rows_in, cells_in, PlainJob, jobs_within, jobs_from, AreJobRuns}
 use Rattle.srm_engine.specs.Groups.{numbered, handed_jobs, AreCuts, sizes, all_in, jobs_with, groups_of, lists_of, some_of}
 use Rattle.srm_engine.specs.Windowed.{IsCounted}
-use Rattle.srm_engine.proofs.RunLemmas.{shifted}
-use Rattle.srm_engine.proofs.OneWindow.{as_many_results}
-use Rattle.srm_engine.proofs.WindowJobs.{jobs_are_runs, crossings_keep, get_first, get_second, joined-append}
+use Rattle.srm_model.proofs.RunLemmas.{shifted}
+use Rattle.srm_model.proofs.OneWindow.{as_many_results}
+use Rattle.srm_model.proofs.WindowJobs.{jobs_are_runs, crossings_keep, get_first, get_second, joined-append}
 use Rattle.srm_engine.proofs.CellLists.{AreFrom, as_many_from, split_from, join_from, first_cut, no_more_groups}
 use Rattle.srm_net.specs.Limits.{end_of_time}
 

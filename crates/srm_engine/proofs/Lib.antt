@@ -1,6 +1,4 @@
-pub mod Departed
 pub mod ExitsKept
-pub mod HandedOnce
 pub mod Index
 pub mod NewPackets
 pub mod Hearing
@@ -9,23 +7,8 @@ pub mod PhaseLemmas
 pub mod StreamLemmas
 pub mod SeenLemmas
 pub mod Stepping
-pub mod LawProofs
-pub mod Merge
-pub mod NamesKept
-pub mod OneStep
-pub mod OneWindow
-pub mod LostNames
-pub mod MarkRows
-pub mod OrderlyRuns
-pub mod SortedRows
-pub mod WindowChain
-pub mod WindowEnds
-pub mod WindowJobs
-pub mod WindowPackets
-pub mod WindowRows
 pub mod CellLists
 pub mod JobLemmas
-pub mod KMerging
 pub mod FixedParts
 pub mod Promises
 pub mod SoonLemmas
@@ -33,14 +16,4 @@ pub mod SoonGroups
 pub mod Beginnings
 pub mod WindowedLemmas
 pub mod WindowStreamLemmas
-pub mod RunLemmas
-pub mod ScheduleLemmas
-pub mod Sequential
-pub mod Settled
-pub mod StrictRuns
-pub mod TraceRows
-pub mod Lookahead
-pub mod PendingKeys
-mod OneOutcome
-mod LeastOfAll
-mod AllSchedules
+pub mod KMerging

@@ -14,7 +14,7 @@ use Rattle.srm_cell.specs.Setting.{Setting, setting_of, fixed_of}
 use Rattle.srm_cell.specs.Crossings.{packets_of, crossings_at, crossings}
 use Rattle.srm_cell.specs.Cells.{PlainCell, new_cell, opening_cell, next_event, time_of}
 use Rattle.srm_cell.specs.Views.{IsCell}
-use Rattle.srm_engine.specs.World.{World, opening, opening_cells}
+use Rattle.srm_model.specs.World.{World, opening, opening_cells}
 use Rattle.srm_engine.specs.Seen.{AreTimes, AreCells}
 use Rattle.srm_cell.specs.Totalled.{numbers_of}
 use Rattle.srm_engine.specs.Openings.{records_from}

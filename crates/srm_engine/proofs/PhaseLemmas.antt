@@ -14,13 +14,13 @@ use Rattle.srm_cell.specs.Views.{TellsExit, EndsWith, IsCell}
 use Rattle.srm_engine.specs.declared.engine.Engine.{Engine}
 use Rattle.srm_engine.specs.declared.fault.RunFault.{RunFault}
 use Rattle.srm_engine.specs.declared.fault.RunFault.TheVariants as fault
-use Rattle.srm_engine.specs.World.{World, IsReached, step, after_step, exit_at, exits_of}
+use Rattle.srm_model.specs.World.{World, IsReached, step, after_step, exit_at, exits_of}
 use Rattle.srm_engine.specs.Faults.{fault_of}
 use Rattle.srm_engine.specs.Engines.{TellsWorld}
 use Rattle.srm_engine.specs.Outcomes.{TellsTrace, TellsRun, EndAs}
 use Rattle.srm_engine.specs.Seen.{AreCells, TellsTake}
 use Rattle.srm_cell.specs.declared.cell.Cell.{Cell}
-use Rattle.srm_engine.proofs.RunLemmas.{after_full}
+use Rattle.srm_model.proofs.RunLemmas.{after_full}
 use Rattle.srm_engine.proofs.Stepping.{meets_full}
 
 pub pushed_if : {A E : Type 0} {B : Type 0} (r : Result A E) (xs ys zs : List B) → is_err r ≡ false → zs ≡ cond (is_ok r) xs ys → zs ≡ xs

@@ -15,7 +15,7 @@ use Rattle.srm_net.specs.Roles.{is_listener}
 use Rattle.srm_member.specs.declared.fixed.Fixed.{Fixed as FixedPart}
 use Rattle.srm_cell.specs.Setting.{Setting, setting_of, member_at, no_member}
 use Rattle.srm_cell.specs.Cells.{PlainCell, time_of, next_event}
-use Rattle.srm_engine.specs.Windows.{out, promise_by, promise_of, least_promise, way_of}
+use Rattle.srm_model.specs.Windows.{out, promise_by, promise_of, least_promise, way_of}
 use Rattle.srm_engine.specs.Ends.{KeepFixed}
 use Rattle.srm_engine.specs.Soonest.{IsLeast, promised}
 use Rattle.srm_engine.proofs.SoonLemmas.{Any, with_le, with_in, with_one}

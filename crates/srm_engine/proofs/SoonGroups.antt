@@ -26,14 +26,14 @@ use Rattle.srm_cell.proofs.Heard.{stands_heard}
 use Rattle.srm_cell.proofs.OwnRunLemmas.{after_idle}
 use Rattle.srm_engine.specs.declared.soonest.Soonest.{Soonest}
 use Rattle.srm_engine.specs.Groups.{AreCuts, AreGrouped, sizes, all_in}
-use Rattle.srm_engine.specs.WindowRuns.{OwnResult, AreOwnRuns, cells_in}
+use Rattle.srm_model.specs.WindowRuns.{OwnResult, AreOwnRuns, cells_in}
 use Rattle.srm_engine.specs.Soonest.{IsSoonest, AreSoonest, AreThose, IsAmong, due}
 use Rattle.srm_engine.proofs.CellLists.{first_cut, no_more_groups, in_group, at_place}
 use Rattle.srm_engine.proofs.Index.{get_set_same, get_set_other}
-use Rattle.srm_engine.proofs.OneWindow.{as_many_results}
-use Rattle.srm_engine.proofs.RunLemmas.{shifted}
+use Rattle.srm_model.proofs.OneWindow.{as_many_results}
+use Rattle.srm_model.proofs.RunLemmas.{shifted}
 use Rattle.srm_engine.proofs.SeenLemmas.{same_some, there}
-use Rattle.srm_engine.proofs.Sequential.{get_below}
+use Rattle.srm_model.proofs.Sequential.{get_below}
 use Rattle.srm_engine.proofs.SoonLemmas.{NoLater, soon_same_cells, soon_same_members}
 
 same_number : (x y : ℕ) → Some x ≡ Some y → x ≡ y

@@ -7,11 +7,11 @@ use Rattle.std.proofs.lemmas.Option.{slice_get_within}
 use Rattle.std.proofs.Math.ListN.{length-set}
 use Rattle.srm_engine.proofs.Index.{get_set_same, get_set_other}
 use Rattle.srm_engine.proofs.SeenLemmas.{same_some}
-use Rattle.srm_engine.proofs.Sequential.{get_below}
+use Rattle.srm_model.proofs.Sequential.{get_below}
 use Rattle.srm_cell.specs.Setting.{Setting}
 use Rattle.srm_cell.specs.Cells.{PlainCell}
 use Rattle.srm_engine.specs.declared.soonest.Soonest.{Soonest}
-use Rattle.srm_engine.specs.Windows.{least_with, promise_by, way_of}
+use Rattle.srm_model.specs.Windows.{least_with, promise_by, way_of}
 use Rattle.srm_engine.specs.Soonest.{IsLeast, IsSoonest, AreSoonest, IsAmong, due, promised}
 
 -- where the second is there at all, and is no later

@@ -13,7 +13,7 @@ use Rattle.srm_engine.specs.declared.fault.RunFault.TheVariants as fault
 use Rattle.srm_engine.specs.declared.sink.SinkFault.{SinkFault}
 use Rattle.srm_engine.specs.declared.sink.SinkFault.TheVariants as sink
 use Rattle.srm_engine.specs.declared.stream_fault.StreamFault.{StreamFault}
-use Rattle.srm_engine.specs.World.{World, IsReached, step, opening}
+use Rattle.srm_model.specs.World.{World, IsReached, step, opening}
 use Rattle.srm_engine.specs.Engines.{TellsWorld}
 use Rattle.srm_engine.specs.Outcomes.{TellsTrace, TellsRun}
 use Rattle.srm_engine.specs.Streams.{fault_of_sink, TakesFront, TellsSteps, MeetsRefusal}

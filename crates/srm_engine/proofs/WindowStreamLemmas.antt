@@ -13,7 +13,7 @@ use Rattle.srm_engine.specs.declared.sink.SinkFault.{SinkFault}
 use Rattle.srm_engine.specs.declared.sink.SinkFault.TheVariants as sink
 use Rattle.srm_engine.specs.declared.stream_fault.StreamFault.{StreamFault}
 use Rattle.srm_engine.specs.declared.stream_fault.StreamFault.TheVariants.{Run}
-use Rattle.srm_engine.specs.World.{World}
+use Rattle.srm_model.specs.World.{World}
 use Rattle.srm_engine.specs.Streams.{fault_of_sink}
 use Rattle.srm_engine.specs.Windowed.{TellsWindow}
 use Rattle.srm_engine.specs.WindowStreams.{IsUnderWay, MeetsWindowRefusal}

@@ -26,12 +26,12 @@ use Rattle.srm_crew.specs.Crews.{AreJobs, AnyEnds, word_of}
 use Rattle.srm_engine.specs.declared.fault.RunFault.{RunFault}
 use Rattle.srm_engine.specs.declared.fault.RunFault.TheVariants as fault
 use Rattle.srm_engine.specs.declared.window.Grouped.{Grouped}
-use Rattle.srm_engine.specs.World.{World, row_cmp, IsReached, RunMeetsFull, opening, opening_cells}
-use Rattle.srm_engine.specs.Schedules.{IsSafe, HasNoResult}
+use Rattle.srm_model.specs.World.{World, row_cmp, IsReached, RunMeetsFull, opening, opening_cells}
+use Rattle.srm_model.specs.Schedules.{IsSafe, HasNoResult}
 use Rattle.srm_engine.specs.Seen.{AreCells}
-use Rattle.srm_engine.specs.Windows.{IsWidth}
-use Rattle.srm_engine.specs.WindowRuns.{OwnResult, AreOwnRuns, rows_in, cells_in, IsMerge, AreNewInTurn, IsWindow, jobs_of}
-use Rattle.srm_engine.specs.WindowChains.{IsNext, start_of, IsEndRule, width_rule, AreWindows, window_jobs}
+use Rattle.srm_model.specs.Windows.{IsWidth}
+use Rattle.srm_model.specs.WindowRuns.{OwnResult, AreOwnRuns, rows_in, cells_in, IsMerge, AreNewInTurn, IsWindow, jobs_of}
+use Rattle.srm_model.specs.WindowChains.{IsNext, start_of, IsEndRule, width_rule, AreWindows, window_jobs}
 use Rattle.srm_engine.specs.Groups.{handed_jobs, AreCuts, AreGrouped, sizes, all_in, jobs_with, groups_of, lists_of, some_of}
 use Rattle.srm_engine.specs.declared.ends.Ends.{Ends}
 use Rattle.srm_engine.specs.declared.ends.Ends.TheVariants.{After, Promised}
@@ -44,16 +44,16 @@ use Rattle.srm_engine.specs.WindowStreams.{MeetsWindowRefusal}
 use Rattle.srm_engine.proofs.CellLists.{from_seen, seen_from, few_groups}
 use Rattle.srm_engine.proofs.JobLemmas.{any_cell, are_jobs, may_advance, as_many_jobs, places_with, job_results, cuts_kept, joined_some}
 use Rattle.srm_engine.proofs.JobLemmas.{all_some}
-use Rattle.srm_engine.proofs.LawProofs.{never_spent}
-use Rattle.srm_engine.proofs.OneWindow.{as_many_results}
-use Rattle.srm_engine.proofs.Sequential.{good_reached}
+use Rattle.srm_model.proofs.LawProofs.{never_spent}
+use Rattle.srm_model.proofs.OneWindow.{as_many_results}
+use Rattle.srm_model.proofs.Sequential.{good_reached}
 use Rattle.srm_engine.proofs.Stepping.{opening_trace}
 use Rattle.srm_engine.proofs.Opened.{opening_is}
-use Rattle.srm_engine.proofs.WindowJobs.{jobs_run_all}
-use Rattle.srm_engine.proofs.WindowRows.{own_rows_are_sorted}
-use Rattle.srm_engine.proofs.WindowPackets.{window_packets_are_new}
-use Rattle.srm_engine.proofs.WindowEnds.{widths_are_rules, promises_are_a_rule, starts_tell}
-use Rattle.srm_engine.proofs.WindowChain.{windows_are_reached, windows_follow, refused_windows_meet_full, calls_follow}
+use Rattle.srm_model.proofs.WindowJobs.{jobs_run_all}
+use Rattle.srm_model.proofs.WindowRows.{own_rows_are_sorted}
+use Rattle.srm_model.proofs.WindowPackets.{window_packets_are_new}
+use Rattle.srm_model.proofs.WindowEnds.{widths_are_rules, promises_are_a_rule, starts_tell}
+use Rattle.srm_model.proofs.WindowChain.{windows_are_reached, windows_follow, refused_windows_meet_full, calls_follow}
 
 -- ---- the jobs of a window
 

@@ -11,9 +11,9 @@ use Rattle.srm_engine.specs.declared.fault.RunFault.TheVariants as fault
 use Rattle.srm_engine.specs.declared.ends.Ends.{Ends}
 use Rattle.srm_engine.specs.declared.ends.Ends.TheVariants.{After, Promised}
 use Rattle.srm_engine.specs.declared.soonest.Soonest.{Soonest}
-use Rattle.srm_engine.specs.World.{World, IsReached}
-use Rattle.srm_engine.specs.Windows.{IsWidth, promise_end}
-use Rattle.srm_engine.specs.WindowChains.{start_of, width_rule}
+use Rattle.srm_model.specs.World.{World, IsReached}
+use Rattle.srm_model.specs.Windows.{IsWidth, promise_end}
+use Rattle.srm_model.specs.WindowChains.{start_of, width_rule}
 use Rattle.srm_engine.specs.Soonest.{AreSoonest}
 use Rattle.srm_engine.specs.Windowed.{MayBeWide, rule_of}
 

@@ -14,10 +14,11 @@ use Rattle.srm_cell.specs.Totalled.{numbers_of}
 use Rattle.srm_engine.specs.declared.engine.Engine.{Engine}
 use Rattle.srm_engine.specs.declared.fault.RunFault.{RunFault}
 use Rattle.srm_engine.specs.declared.fault.RunFault.TheVariants as fault
-use Rattle.srm_engine.specs.World.{World, IsReached, step, opening}
+use Rattle.srm_model.specs.World.{World, IsReached, step, opening}
 use Rattle.srm_engine.specs.Openings.{HoldOpeningRecords}
-use Rattle.srm_engine.specs.Seen.{ShowCells, IsNew, all_hear, heard_below}
-use Rattle.srm_engine.specs.Totalled.{and_sent, MaySend}
+use Rattle.srm_model.specs.Hearing.{IsNew, all_hear, heard_below}
+use Rattle.srm_engine.specs.Seen.{ShowCells}
+use Rattle.srm_model.specs.Totalled.{and_sent, MaySend}
 use Rattle.srm_net.specs.Limits.{end_of_time}
 
 module _ {X : Type 0} {H : X → Type 0} where

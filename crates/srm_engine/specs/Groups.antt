@@ -14,10 +14,11 @@ use Rattle.srm_cell.specs.Flights.{BringsNone}
 use Rattle.srm_cell.specs.Setting.{Setting}
 use Rattle.srm_cell.specs.Cells.{PlainCell, hear_at}
 use Rattle.srm_cell.specs.Jobs as cell
-use Rattle.srm_engine.specs.Seen.{AreCells, IsNew, heard_below}
+use Rattle.srm_model.specs.Hearing.{IsNew, heard_below}
+use Rattle.srm_engine.specs.Seen.{AreCells}
 use Rattle.srm_engine.specs.declared.window.Grouped.{Grouped}
 use Rattle.srm_engine.specs.Soonest.{AreSoonest}
-use Rattle.srm_engine.specs.WindowRuns.{PlainJob, AreNewInTurn, each_hears}
+use Rattle.srm_model.specs.WindowRuns.{PlainJob, AreNewInTurn, each_hears}
 use Rattle.srm_net.specs.Limits.{end_of_time}
 
 -- ---- jobs as crews see them

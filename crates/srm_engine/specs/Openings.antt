@@ -7,9 +7,8 @@ use Rattle.srm_scenario.specs.Plain.{PlainScenario}
 use Rattle.srm_member.specs.Record.{Record, opening_record}
 use Rattle.srm_cell.specs.declared.cell.Cell.{Cell}
 use Rattle.srm_cell.specs.Setting.{setting_of, fixed_of}
-use Rattle.srm_engine.specs.declared.cells.Cells.{Cells}
-use Rattle.srm_engine.specs.World.{opening_cells}
-use Rattle.srm_engine.specs.Seen.{AreCells, ShowCells}
+use Rattle.srm_model.specs.World.{opening_cells}
+use Rattle.srm_engine.specs.Seen.{AreCells}
 
 -- the opening records of n members from i on, for a scenario, its network and a seed
 abbrev pub records_from : PlainScenario → Network → ℕ → ℕ → ℕ → List Record
@@ -26,10 +25,10 @@ MayOpen p rs = (net : Network) × (seed : ℕ) × HoldOpeningRecords p net seed 
 
 module _ {X : Type 0} {H : X → Type 0} where
   -- the cells of all members at the beginning, with the network and the seed of which the records are
-  abbrev pub Opens : (DynBox X Global H → Record) → PlainScenario → List Record → Cells X H → Type 0
-  Opens f p rs cells =
+  abbrev pub Opens : (DynBox X Global H → Record) → PlainScenario → List Record → List (Cell X H) → Type 0
+  Opens f p rs cs =
       (net : Network) (seed : ℕ) → HoldOpeningRecords p net seed rs
-      → ShowCells f cells (opening_cells (setting_of p net seed) (length p.members) 0)
+      → AreCells f cs (opening_cells (setting_of p net seed) (length p.members) 0)
 
   -- after the next member's cell was added to those of the members before it
   abbrev pub AddsMember : (DynBox X Global H → Record) → PlainScenario → Record → List (Cell X H) → List (Cell X H)

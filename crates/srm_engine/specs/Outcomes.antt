@@ -16,7 +16,7 @@ use Rattle.srm_engine.specs.declared.fault.RunFault.{RunFault}
 use Rattle.srm_engine.specs.declared.fault.RunFault.TheVariants as fault
 use Rattle.srm_engine.specs.declared.outcome.Outcome.{Outcome}
 pub use Rattle.srm_engine.specs.Openings.{records_from, HoldOpeningRecords}
-use Rattle.srm_engine.specs.World.{World, IsLast, IsOutcome, RunMeetsFull, exit_at}
+use Rattle.srm_model.specs.World.{World, IsLast, IsOutcome, RunMeetsFull, exit_at}
 use Rattle.srm_engine.specs.Engines.{Shows, IsOpened, setting_in}
 
 -- what a run tells: the outcome of the sequential run; or that it meets a step for which the packet count is used up

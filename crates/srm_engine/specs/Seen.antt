@@ -1,6 +1,5 @@
 -- What is seen of the cells and next times of all members.
-use Rattle.std.specs.Prelude.{◌≡◌, ℕ, suc, List, [], ◌∷◌, Option, Some, None, Result, Ok, Err, length, slice_get}
-use Rattle.std.specs.Prelude.{slice_set, nat_lt, if◌then◌else◌}
+use Rattle.std.specs.Prelude.{◌≡◌, ℕ, List, Option, Some, None, Result, Ok, Err, length, slice_get, slice_set}
 use Rattle.std.specs.declared.dyn_box.DynBox.{DynBox}
 use Rattle.std.specs.Global.{Global}
 use Rattle.srm_net.specs.declared.packet.Packet.{Packet}
@@ -10,9 +9,8 @@ use Rattle.srm_member.specs.Record.{Record}
 use Rattle.srm_cell.specs.declared.cell.Cell.{Cell}
 use Rattle.srm_cell.specs.declared.fault.CellFault.{CellFault}
 use Rattle.srm_cell.specs.declared.fault.CellFault.TheVariants as fault
-use Rattle.srm_cell.specs.Setting.{Traffic}
 use Rattle.srm_cell.specs.Flights.{BringsNone}
-use Rattle.srm_cell.specs.Cells.{PlainCell, hear, hear_at, own_step, next_event, time_of, StepOutcome, Idle, Full}
+use Rattle.srm_cell.specs.Cells.{PlainCell, hear_at, own_step, next_event, time_of, StepOutcome, Idle, Full}
 use Rattle.srm_cell.specs.Cells.{Spent, Done, Stepped}
 use Rattle.srm_cell.specs.Views.{IsCell}
 use Rattle.srm_engine.specs.declared.cells.Cells.{Cells}
@@ -21,20 +19,6 @@ use Rattle.srm_engine.specs.declared.cells.Cells.{Cells}
 pub record AreTimes (ts : List (Option ℕ)) (ps : List PlainCell) : Type 0 where
   pub as_many : length ts ≡ length ps
   pub each : (j : ℕ) (p : PlainCell) → slice_get ps j ≡ Some p → slice_get ts j ≡ Some (time_of (next_event j p))
-
--- no cell hears this packet yet
-abbrev pub IsNew : PacketId → List PlainCell → Type 0
-IsNew id ps = (j : ℕ) (p : PlainCell) → slice_get ps j ≡ Some p → BringsNone id p.inbox
-
--- the cells of members i and on, of which those below member k have heard the packet
-abbrev pub heard_below : Traffic → Packet → ℕ → ℕ → List PlainCell → List PlainCell
-heard_below t p k i [] = []
-heard_below t p k i (c ∷ cs) = (if nat_lt i k then hear t p i c else c) ∷ heard_below t p k (suc i) cs
-
--- every cell hears the packet that was sent, if any was
-abbrev pub all_hear : Traffic → Option Packet → List PlainCell → List PlainCell
-all_hear t None cs = cs
-all_hear t (Some p) cs = heard_below t p (length cs) 0 cs
 
 module _ {X : Type 0} {H : X → Type 0} where
   -- the cells are seen as these plain cells, where f is what is seen of a box
@@ -57,6 +41,10 @@ module _ {X : Type 0} {H : X → Type 0} where
   abbrev pub AreNextTimes : (DynBox X Global H → Record) → List (Cell X H) → List (Option ℕ) → Type 0
   AreNextTimes f cs ts =
       (length ts ≡ length cs) × ((ps : List PlainCell) → AreCells f cs ps → AreTimes ts ps)
+
+  -- of whatever these cells are seen as, they are seen so with their next times
+  abbrev pub IsIndexed : (DynBox X Global H → Record) → List (Cell X H) → Cells X H → Type 0
+  IsIndexed f cs indexed = (ps : List PlainCell) → AreCells f cs ps → ShowCells f indexed ps
 
   -- what a member's own step tells, where its cell was p among ps, and what it leaves
   abbrev pub TellsTake : (DynBox X Global H → Record) → ℕ → List PlainCell → StepOutcome Stepped

@@ -8,7 +8,7 @@ use Rattle.srm_cell.specs.Setting.{Setting}
 use Rattle.srm_cell.specs.Cells.{PlainCell, next_event, time_of}
 use Rattle.srm_cell.specs.Views.{IsCell}
 use Rattle.srm_engine.specs.declared.soonest.Soonest.{Soonest}
-use Rattle.srm_engine.specs.Windows.{promise_by, way_of}
+use Rattle.srm_model.specs.Windows.{promise_by, way_of}
 
 -- when member m's cell has its next event
 abbrev pub due : ℕ → PlainCell → Option ℕ

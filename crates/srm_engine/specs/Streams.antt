@@ -18,7 +18,7 @@ use Rattle.srm_engine.specs.declared.sink.Stage.{Stage}
 use Rattle.srm_engine.specs.declared.sink.Stage.TheVariants.{Live, Refused}
 use Rattle.srm_engine.specs.declared.stream_fault.StreamFault.{StreamFault}
 use Rattle.srm_engine.specs.declared.stream_fault.StreamFault.TheVariants.{Run, Stopped}
-use Rattle.srm_engine.specs.World.{World, IsReached, IsLast, IsOutcome, RunMeetsFull, step}
+use Rattle.srm_model.specs.World.{World, IsReached, IsLast, IsOutcome, RunMeetsFull, step}
 use Rattle.srm_engine.specs.Openings.{HoldOpeningRecords}
 use Rattle.srm_engine.specs.Outcomes.{TellsRun}
 use Rattle.srm_engine.specs.Engines.{Shows, IsOpened, setting_in}

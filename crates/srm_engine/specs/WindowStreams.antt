@@ -14,9 +14,9 @@ use Rattle.srm_engine.specs.declared.fault.RunFault.TheVariants as fault
 use Rattle.srm_engine.specs.declared.stream_fault.StreamFault.{StreamFault}
 use Rattle.srm_engine.specs.declared.stream_fault.StreamFault.TheVariants.{Run, Stopped}
 use Rattle.srm_engine.specs.declared.window.Grouped.{Grouped}
-use Rattle.srm_engine.specs.World.{World, IsLast, RunMeetsFull}
-use Rattle.srm_engine.specs.WindowRuns.{jobs_of}
-use Rattle.srm_engine.specs.WindowChains.{AreWindows}
+use Rattle.srm_model.specs.World.{World, IsLast, RunMeetsFull}
+use Rattle.srm_model.specs.WindowRuns.{jobs_of}
+use Rattle.srm_model.specs.WindowChains.{AreWindows}
 use Rattle.srm_engine.specs.Openings.{HoldOpeningRecords}
 use Rattle.srm_engine.specs.Groups.{handed_jobs}
 use Rattle.srm_engine.specs.Streams.{TakesFront}

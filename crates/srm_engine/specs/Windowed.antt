@@ -18,11 +18,11 @@ use Rattle.srm_engine.specs.declared.fault.RunFault.{RunFault}
 use Rattle.srm_engine.specs.declared.fault.RunFault.TheVariants as fault
 use Rattle.srm_engine.specs.declared.outcome.Outcome.{Outcome}
 use Rattle.srm_engine.specs.declared.window.Grouped.{Grouped}
-use Rattle.srm_engine.specs.World.{World, IsLast, IsOutcome, RunMeetsFull}
-use Rattle.srm_engine.specs.Schedules.{HasNoResult}
-use Rattle.srm_engine.specs.Windows.{IsWidth, promise_end}
-use Rattle.srm_engine.specs.WindowRuns.{OwnResult, AreOwnRuns, rows_in, cells_in, IsWindow, jobs_of}
-use Rattle.srm_engine.specs.WindowChains.{AreWindows, width_rule, least_width, window_jobs}
+use Rattle.srm_model.specs.World.{World, IsLast, IsOutcome, RunMeetsFull}
+use Rattle.srm_model.specs.Schedules.{HasNoResult}
+use Rattle.srm_model.specs.Windows.{IsWidth, promise_end}
+use Rattle.srm_model.specs.WindowRuns.{OwnResult, AreOwnRuns, rows_in, cells_in, IsWindow, jobs_of}
+use Rattle.srm_model.specs.WindowChains.{AreWindows, width_rule, least_width, window_jobs}
 use Rattle.srm_engine.specs.Openings.{HoldOpeningRecords}
 use Rattle.srm_engine.specs.Groups.{AreKept, handed_jobs, some_of}
 

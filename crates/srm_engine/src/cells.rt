@@ -1,11 +1,10 @@
 //! The cells of all members.
-ghost use Rattle.std.specs.Prelude.{◌≡◌, ◌<◌, ◌≤◌, IfOk, IfErr, length, map};
+ghost use Rattle.std.specs.Prelude.{◌≡◌, ◌<◌, ◌≤◌, IfOk, length, map};
 ghost use Rattle.srm_net.specs.Limits.{end_of_time};
-ghost use Rattle.srm_engine.specs.Seen.{AreNextTimes, HandsTo, TakesStep, IsNewAt};
+ghost use Rattle.srm_engine.specs.Seen.{AreNextTimes, HandsTo, TakesStep, IsIndexed, IsNewAt};
 ghost use Rattle.srm_engine.specs.Openings.{MayOpen, Opens, AddsMember};
 ghost use Rattle.srm_engine.specs.Outcomes.{AllEnd, EndAs};
 
-use crate::fault::RunFault;
 use crate::next_times::NextTimes;
 use srm_cell::cell::Cell;
 use srm_cell::fault::CellFault;
@@ -16,6 +15,60 @@ use srm_net::packet::Packet;
 use srm_scenario::scenario::Scenario;
 use std::alloc::{AllocError, Global};
 
+/// The cells of all members at the beginning of a run, in order of the members' numbers.
+pub(crate) fn open_cells(
+    alloc: Global,
+    scenario: &Scenario,
+    members: Vec<Box<dyn Member>>,
+) -> Result<Vec<Cell>, AllocError>
+    requires { MayOpen scenario.now (map (λ b. plain b) members.items) }
+    ensures few { IfOk result (λ cells. length cells.items < 65536) }
+    ensures opened { IfOk result (λ cells. Opens (λ b. plain b) scenario.now (map (λ b. plain b) members.items) cells.items) }
+{
+    let mut cells = Vec::with_capacity(alloc, usize::from(scenario.members()))?;
+    for member in members {
+        add(alloc, scenario, member, &mut cells)?;
+    }
+    Ok(cells)
+}
+
+// Adds the cell of the next member, with its script.
+fn add(
+    alloc: Global,
+    scenario: &Scenario,
+    member: Box<dyn Member>,
+    cells: &mut Vec<Cell>,
+) -> Result<(), AllocError>
+    requires few { length scenario.now.members < 65536 }
+    requires number { length cells.old.items < length scenario.now.members }
+    ensures { IfOk result (λ _. AddsMember (λ b. plain b) scenario.now (plain member) cells.old.items cells.new.items) }
+{
+    let number = cells.len() as u16;
+    let Ok(script) = scenario.script(alloc, number) else {
+        return Err(AllocError);
+    };
+    cells.push(Cell::new(alloc, member, script, 0))?;
+    Ok(())
+}
+
+/// What each member ends with, as it left or as it is, in order of the cells.
+pub(crate) fn finish_cells(alloc: Global, cells: Vec<Cell>) -> Result<Vec<Exit>, AllocError>
+    requires { AllEnd (λ b. plain (b.vtable, b.value)) cells.items }
+    ensures { IfOk result (λ exits. EndAs (λ b. plain (b.vtable, b.value)) cells.items exits.items) }
+{
+    let mut exits = Vec::with_capacity(alloc, cells.len())?;
+    for cell in cells {
+        let exit = match cell.finish(alloc) {
+            Ok(exit) => exit,
+            Err(CellFault::NoMemory) => return Err(AllocError),
+            Err(CellFault::Spent) => unreachable!(),
+            Err(CellFault::CountFull) => unreachable!(),
+        };
+        exits.push(exit)?;
+    }
+    Ok(exits)
+}
+
 /// The cells of all members in order of their numbers, and their next times.
 #[derive(Drop)]
 pub(crate) struct Cells {
@@ -24,19 +77,11 @@ pub(crate) struct Cells {
 }
 
 impl Cells {
-    /// The cells of all members at the beginning of a run.
-    pub(crate) fn open(
-        alloc: Global,
-        scenario: &Scenario,
-        members: Vec<Box<dyn Member>>,
-    ) -> Result<Cells, AllocError>
-        requires boxes { MayOpen scenario.now (map (λ b. plain b) members.items) }
-        ensures { IfOk result (λ cells. Opens (λ b. plain b) scenario.now (map (λ b. plain b) members.items) cells) }
+    /// These cells, their next times found.
+    pub(crate) fn of(alloc: Global, cells: Vec<Cell>) -> Result<Cells, AllocError>
+        requires { length cells.items ≤ 65536 }
+        ensures { IfOk result (λ indexed. IsIndexed (λ b. plain (b.vtable, b.value)) cells.items indexed) }
     {
-        let mut cells = Vec::with_capacity(alloc, usize::from(scenario.members()))?;
-        for member in members {
-            add(alloc, scenario, member, &mut cells)?;
-        }
         let times = NextTimes::of(alloc, next_times(alloc, cells.as_slice())?)?;
         Ok(Cells { cells, times })
     }
@@ -78,47 +123,6 @@ impl Cells {
         self.times.set(member, next);
         Ok(())
     }
-
-    /// What each member ends with, as it left or as it is. It fails only where memory runs out.
-    pub(crate) fn finish(self, alloc: Global) -> Result<Vec<Exit>, RunFault>
-        requires ends { AllEnd (λ b. plain (b.vtable, b.value)) self.cells.items }
-        ensures exits { IfOk result (λ exits. EndAs (λ b. plain (b.vtable, b.value)) self.cells.items exits.items) }
-        ensures fault { IfErr result (λ e. e ≡ RunFault.NoMemory) }
-    {
-        let Cells { cells, .. } = self;
-        let mut exits = Vec::new(alloc);
-        for cell in cells {
-            let exit = match cell.finish(alloc) {
-                Ok(exit) => exit,
-                Err(CellFault::NoMemory) => return Err(RunFault::NoMemory),
-                Err(CellFault::Spent) => unreachable!(),
-                Err(CellFault::CountFull) => unreachable!(),
-            };
-            if exits.push(exit).is_err() {
-                return Err(RunFault::NoMemory);
-            }
-        }
-        Ok(exits)
-    }
-}
-
-// Adds the cell of the next member, with its script.
-fn add(
-    alloc: Global,
-    scenario: &Scenario,
-    member: Box<dyn Member>,
-    cells: &mut Vec<Cell>,
-) -> Result<(), AllocError>
-    requires few { length scenario.now.members < 65536 }
-    requires number { length cells.old.items < length scenario.now.members }
-    ensures { IfOk result (λ _. AddsMember (λ b. plain b) scenario.now (plain member) cells.old.items cells.new.items) }
-{
-    let number = cells.len() as u16;
-    let Ok(script) = scenario.script(alloc, number) else {
-        return Err(AllocError);
-    };
-    cells.push(Cell::new(alloc, member, script, 0))?;
-    Ok(())
 }
 
 // The next time of each cell, in order.

@@ -2,9 +2,9 @@
 ghost use Rattle.std.specs.Prelude.{◌≡◌, ◌<◌, ◌≤◌, ◌+◌, ◌↔◌, ℕ, IsTrue, min, length};
 ghost use Rattle.srm_scenario.specs.Plain.{network_of};
 ghost use Rattle.srm_cell.specs.Setting.{Setting, setting_of};
-ghost use Rattle.srm_engine.specs.World.{World};
-ghost use Rattle.srm_engine.specs.Windows.{IsWidth, way_of};
-ghost use Rattle.srm_engine.specs.WindowChains.{least_width};
+ghost use Rattle.srm_model.specs.World.{World};
+ghost use Rattle.srm_model.specs.Windows.{IsWidth, way_of};
+ghost use Rattle.srm_model.specs.WindowChains.{least_width};
 ghost use Rattle.srm_engine.specs.Ends.{ends_rule, BeginsAt, TellsEnds};
 
 use crate::fault::RunFault;

@@ -9,7 +9,7 @@ ghost use Rattle.srm_engine.specs.Sinks.{IsOpen};
 ghost use Rattle.srm_engine.specs.Streams.{StandsAs, stopped_in, MayTake, TakesSteps, StreamsRows};
 
 use crate::arrival::arrival;
-use crate::cells::Cells;
+use crate::cells::{Cells, open_cells};
 use crate::fault::{RunFault, run_fault};
 use crate::sink::RowSink;
 use crate::stream_fault::{StreamFault, hand};
@@ -53,7 +53,7 @@ impl<'a> Engine<'a> {
             (map (λ b. plain b) members.items) e) }
     {
         let totals = Totals::new(alloc, net.links().len() as u16)?;
-        let cells = Cells::open(alloc, scenario, members)?;
+        let cells = Cells::of(alloc, open_cells(alloc, scenario, members)?)?;
         Ok(Engine {
             scenario,
             net,

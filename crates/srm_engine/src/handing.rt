@@ -3,7 +3,7 @@ ghost use Rattle.std.specs.Prelude.{◌≡◌, ◌<◌, ◌≤◌, ◌/◌, ℕ,
 ghost use Rattle.srm_net.specs.Limits.{end_of_time};
 ghost use Rattle.srm_scenario.specs.Plain.{network_of};
 ghost use Rattle.srm_cell.specs.Setting.{Setting, setting_of};
-ghost use Rattle.srm_engine.specs.Windows.{way_of};
+ghost use Rattle.srm_model.specs.Windows.{way_of};
 ghost use Rattle.srm_engine.specs.Groups.{AreCuts, sizes, all_in, IsNewTo, HandsIn, MayDeliverIn, DeliversIn, MayHear, Hears};
 
 use crate::arrival::arrival;

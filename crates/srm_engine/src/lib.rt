@@ -1,4 +1,4 @@
-//! Engines: the sequential run of all members, and the laws of the model: schedules and windows.
+//! Engines: the sequential run of all members, and the run in windows of time.
 #![tactic(auto)]
 
 pub mod arrival;
@@ -9,11 +9,6 @@ pub mod fault;
 mod groups;
 mod handing;
 pub mod kept_rows;
-pub mod laws;
-pub mod laws_of_names;
-pub mod laws_of_packets;
-pub mod laws_of_tables;
-pub mod laws_of_windows;
 pub mod next_times;
 pub mod outcome;
 pub mod sink;

@@ -3,12 +3,12 @@ ghost use Rattle.std.specs.Prelude.{◌≡◌, ◌+◌, ◌<◌, ◌≤◌, ℕ,
 ghost use Rattle.srm_scenario.specs.Plain.{network_of};
 ghost use Rattle.srm_cell.specs.Cells.{PlainCell};
 ghost use Rattle.srm_cell.specs.Setting.{Setting, setting_of};
-ghost use Rattle.srm_engine.specs.Windows.{promise_by, least_with as lesser, least_promise as least_promised};
+ghost use Rattle.srm_model.specs.Windows.{promise_by, least_with as lesser, least_promise as least_promised};
 ghost use Rattle.srm_engine.specs.Ends.{KeepFixed};
 ghost use Rattle.srm_engine.specs.Groups.{AreCuts, AreGrouped, sizes, all_in};
-ghost use Rattle.srm_engine.specs.World.{World};
-ghost use Rattle.srm_engine.specs.WindowChains.{start_of};
-ghost use Rattle.srm_engine.specs.WindowRuns.{OwnResult, AreOwnRuns, cells_in};
+ghost use Rattle.srm_model.specs.World.{World};
+ghost use Rattle.srm_model.specs.WindowChains.{start_of};
+ghost use Rattle.srm_model.specs.WindowRuns.{OwnResult, AreOwnRuns, cells_in};
 ghost use Rattle.srm_engine.specs.Soonest.{IsAmong, IsSoonest, AreSoonest, AreThose};
 
 use crate::ends::way;

@@ -4,6 +4,7 @@ ghost use Rattle.srm_scenario.specs.Plain.{network_of};
 ghost use Rattle.srm_engine.specs.Openings.{HoldOpeningRecords};
 ghost use Rattle.srm_engine.specs.Outcomes.{RunsFrom};
 
+use crate::cells::finish_cells;
 use crate::engine::Engine;
 use crate::fault::RunFault;
 use crate::outcome::Outcome;
@@ -37,9 +38,8 @@ pub fn step_run(
         Err(fault) => return Err(fault),
     };
     let Engine { cells, totals, .. } = engine;
-    let exits = match cells.finish(alloc) {
-        Ok(exits) => exits,
-        Err(fault) => return Err(fault),
+    let Ok(exits) = finish_cells(alloc, cells.cells) else {
+        return Err(RunFault::NoMemory);
     };
     Ok(Outcome {
         trace,

@@ -5,6 +5,7 @@ ghost use Rattle.srm_engine.specs.Openings.{HoldOpeningRecords};
 ghost use Rattle.srm_engine.specs.Sinks.{IsOpen};
 ghost use Rattle.srm_engine.specs.Streams.{StandsAs, stopped_in, StreamsFrom, RefusedFrom};
 
+use crate::cells::finish_cells;
 use crate::engine::Engine;
 use crate::fault::RunFault;
 use crate::sink::RowSink;
@@ -56,8 +57,10 @@ pub fn step_stream<S: RowSink>(
         return Err(fault);
     }
     let Engine { cells, totals, .. } = engine;
-    match cells.finish(alloc) {
-        Ok(exits) => Ok((exits, totals)),
-        Err(fault) => Err(StreamFault::Run { fault }),
-    }
+    let Ok(exits) = finish_cells(alloc, cells.cells) else {
+        return Err(StreamFault::Run {
+            fault: RunFault::NoMemory,
+        });
+    };
+    Ok((exits, totals))
 }

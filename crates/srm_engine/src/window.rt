@@ -5,8 +5,8 @@ ghost use Rattle.srm_scenario.specs.Plain.{network_of};
 ghost use Rattle.srm_scenario.specs.Accepted.{IsAccepted};
 ghost use Rattle.srm_cell.specs.Setting.{setting_of};
 ghost use Rattle.srm_cell.specs.Crossings.{joined};
-ghost use Rattle.srm_engine.specs.World.{World, row_cmp, IsReached};
-ghost use Rattle.srm_engine.specs.Schedules.{IsSafe};
+ghost use Rattle.srm_model.specs.World.{World, row_cmp, IsReached};
+ghost use Rattle.srm_model.specs.Schedules.{IsSafe};
 ghost use Rattle.srm_engine.specs.Windowed.{IsCut, Holds, TellsJobs, TellsWindow};
 
 use crate::fault::RunFault;

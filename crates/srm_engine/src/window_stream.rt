@@ -8,11 +8,10 @@ ghost use Rattle.srm_engine.specs.Streams.{StandsAs, stopped_in, StreamsFrom};
 ghost use Rattle.srm_engine.specs.Windowed.{IsCut, rule_of};
 ghost use Rattle.srm_engine.specs.WindowStreams.{IsLeft, IsUnderWay, TellsStreamAsked, CallsInWindows};
 
-use crate::cells::Cells;
+use crate::cells::{finish_cells, open_cells};
 use crate::ends::Ends;
 use crate::fault::RunFault;
 use crate::groups::{flatten, group};
-use crate::next_times::NextTimes;
 use crate::sink::RowSink;
 use crate::soonest::soonest_of_each;
 use crate::stream_fault::StreamFault;
@@ -64,10 +63,9 @@ fn stream<C: Crew, S: RowSink>(
     let Ok((ledger, seat)) = Ledger::open(alloc, net.links().len()) else {
         return Err(NO_MEMORY);
     };
-    let Ok(cells) = Cells::open(alloc, scenario, members) else {
+    let Ok(cells) = open_cells(alloc, scenario, members) else {
         return Err(NO_MEMORY);
     };
-    let Cells { cells, .. } = cells;
     let Ok(groups) = group(alloc, cells, cut) else {
         return Err(NO_MEMORY);
     };
@@ -83,13 +81,8 @@ fn stream<C: Crew, S: RowSink>(
     let Ok(cells) = flatten(alloc, groups) else {
         return Err(NO_MEMORY);
     };
-    let cells = Cells {
-        cells,
-        times: NextTimes::new(alloc),
-    };
-    let exits = match cells.finish(alloc) {
-        Ok(exits) => exits,
-        Err(fault) => return Err(StreamFault::Run { fault }),
+    let Ok(exits) = finish_cells(alloc, cells) else {
+        return Err(NO_MEMORY);
     };
     let totals = match ledger.close(seat) {
         Ok(totals) => totals,

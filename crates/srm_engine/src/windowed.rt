@@ -3,7 +3,7 @@ ghost use Rattle.std.specs.Prelude.{◌≡◌, ◌<◌, ◌≤◌, ◌+◌, ◌-
 ghost use Rattle.srm_scenario.specs.Plain.{network_of};
 ghost use Rattle.srm_scenario.specs.Accepted.{IsAccepted};
 ghost use Rattle.srm_cell.specs.Setting.{setting_of};
-ghost use Rattle.srm_engine.specs.World.{opening};
+ghost use Rattle.srm_model.specs.World.{opening};
 ghost use Rattle.srm_engine.specs.Ends.{ends_rule, MayEnd};
 ghost use Rattle.srm_engine.specs.Sinks.{IsOpen};
 ghost use Rattle.srm_engine.specs.Streams.{StandsAs, stopped_in};

@@ -2,5 +2,6 @@ pub mod CommandLines
 pub mod Openings
 pub mod OrderlyRows
 pub mod Refusals
+pub mod TableTexts
 pub mod Texts
 pub mod TraceTexts

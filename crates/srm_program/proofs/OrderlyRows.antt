@@ -8,8 +8,8 @@ use Rattle.srm_member.specs.declared.exit.Exit.{Exit}
 use Rattle.srm_member.specs.declared.row.Row.{Row}
 use Rattle.srm_member.specs.Orderly.{IsOrderly}
 use Rattle.srm_cell.specs.Setting.{setting_of}
-use Rattle.srm_engine.specs.World.{IsOutcome}
-use Rattle.srm_engine.proofs.OrderlyRuns.{traces_are_orderly}
+use Rattle.srm_model.specs.World.{IsOutcome}
+use Rattle.srm_model.proofs.OrderlyRuns.{traces_are_orderly}
 
 orderly_of : (p : PlainScenario) (seed : ℕ) (rows : List Row) (exits : List Exit) (totals : List ℕ) → IsAccepted p
     → IsOutcome (setting_of p (network_of p) seed) rows exits totals → IsOrderly (length (network_of p).hosts) rows

@@ -8,13 +8,14 @@ use Rattle.srm_member.specs.declared.row.Row.{Row}
 use Rattle.srm_cell.specs.Setting.{setting_of}
 use Rattle.srm_engine.specs.declared.sink.SinkFault.TheVariants as sink
 use Rattle.srm_engine.specs.declared.sink.Stage.TheVariants as stage
-use Rattle.srm_engine.specs.World.{World, IsReached, IsLast}
+use Rattle.srm_model.specs.World.{World, IsReached, IsLast}
 use Rattle.srm_engine.specs.Streams as streams
 use Rattle.srm_report.specs.declared.standing.Standing.{Standing}
 use Rattle.srm_report.specs.declared.standing.Standing.TheVariants as standing
 use Rattle.srm_report.specs.declared.trace_sink.TraceSink.{TraceSink}
 use Rattle.srm_report.specs.Trace.{trace_of_rows}
-use Rattle.srm_report.specs.TraceSinks.{stage_at, text_next, IsText, stage_of, outlet_under, gathered_by, written_by, GrewBy, Wrote}
+use Rattle.srm_report.specs.Standings.{text_next, IsText, GrewBy}
+use Rattle.srm_report.specs.TraceSinks.{stage_at, stage_of, outlet_under, gathered_by, written_by, Wrote}
 use Rattle.srm_report.specs.TraceSinks.{PutsAll, PutsFront, PutsRows, PutsPart}
 use Rattle.srm_report.specs.SinkLaws.{all_more, front_more}
 use Rattle.srm_program.specs.declared.fault.LabFault.{LabFault}

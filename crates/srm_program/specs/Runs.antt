@@ -12,9 +12,9 @@ use Rattle.srm_engine.specs.declared.sink.SinkFault.TheVariants.{Stopped}
 use Rattle.srm_engine.specs.declared.sink.Stage.{Stage}
 use Rattle.srm_engine.specs.declared.sink.Stage.TheVariants.{Live, Refused}
 use Rattle.srm_engine.specs.Streams.{TakesFront}
-use Rattle.srm_engine.specs.World.{World, IsOutcome, RunMeetsFull}
-use Rattle.srm_engine.specs.WindowChains.{AreWindows}
-use Rattle.srm_engine.specs.WindowRuns.{jobs_of}
+use Rattle.srm_model.specs.World.{World, IsOutcome, RunMeetsFull}
+use Rattle.srm_model.specs.WindowChains.{AreWindows}
+use Rattle.srm_model.specs.WindowRuns.{jobs_of}
 use Rattle.srm_engine.specs.Groups.{handed_jobs}
 use Rattle.srm_engine.specs.Windowed.{IsCut, MayBeWide, PassesShare, rule_of}
 use Rattle.srm_program.specs.declared.fault.LabFault.{LabFault}

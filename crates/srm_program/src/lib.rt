@@ -1,8 +1,10 @@
 //! What the program does, over devices that its caller makes: its command line, the run of a scenario, and its report.
 #![tactic(auto)]
 
+mod asked;
 pub mod command_line;
 pub mod fault;
+mod hand_rows;
 pub mod line;
 mod made;
 mod members;

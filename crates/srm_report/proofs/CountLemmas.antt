@@ -1,11 +1,12 @@
 -- Counts of rows, row by row.
-use Rattle.std.proofs.Common.{◌≡◌, ◌∙◌, ℕ, ◌+◌, ◌<◌, ◌≢◌, Bool, true, false, cond, ◌&&◌, List, [], ◌∷◌, ◌++◌, length, Option, Some, None}
-use Rattle.std.proofs.Common.{refl, ap, sym, subst, take, get_or, slice_set, ◌==◌, eqb-true, eq-eqb, true≢false, arith}
+use Rattle.std.proofs.Common.{◌≡◌, ◌∙◌, ℕ, zero, suc, ◌+◌, ◌<◌, ◌≤◌, ◌≢◌, All, Bool, true, false, cond, ◌&&◌, List, [], ◌∷◌, ◌++◌}
+use Rattle.std.proofs.Common.{length, Option, Some, None}
+use Rattle.std.proofs.Common.{refl, ap, sym, subst, get_or, slice_set, ◌==◌, eqb-true, eq-eqb, true≢false, arith}
 use Rattle.std.specs.List.{find, count_by}
 use Rattle.std.specs.Option.{option_or}
 use Rattle.std.proofs.lemmas.List.Sums.{sum_by_push}
 use Rattle.std.proofs.lemmas.List.Folds.{find-append}
-use Rattle.std.proofs.lemmas.List.{take_more, get_or-set_other, length-set}
+use Rattle.std.proofs.lemmas.List.{get_or_read, get_or-set_other, length-set}
 use Rattle.std.proofs.lemmas.Grind.{get_or-set_at}
 use Rattle.srm_member.specs.declared.row.Word.{Word}
 use Rattle.srm_member.specs.declared.row.Row.{Row}
@@ -92,23 +93,6 @@ rows_push m (q ∷ rows) r = elim (q.key.member == m) as (λ b. cond b (q ∷ ro
     under true q xs ys = refl
     under false q xs ys = refl
 
--- the rows of the member of the next row, and of another
-pub rows_here : (m : ℕ) (rows : List Row) (i : ℕ) (r : Row) → i < length rows → r ≡ get_or rows i r → r.key.member ≡ m
-    → rows_of m (take (i + 1) rows) ≡ rows_of m (take i rows) ++ r ∷ []
-rows_here m rows i r lt is here =
-    ap (rows_of m) (take_more rows i r lt) ∙ ap (λ q. rows_of m (take i rows ++ q ∷ [])) (sym is) ∙ rows_push m (take i rows) r
-    ∙ ap (λ b. cond b (rows_of m (take i rows) ++ r ∷ []) (rows_of m (take i rows))) (eq-eqb _ _ here)
-
-pub rows_elsewhere : (m : ℕ) (rows : List Row) (i : ℕ) (r : Row) → i < length rows → r ≡ get_or rows i r → r.key.member ≢ m
-    → rows_of m (take (i + 1) rows) ≡ rows_of m (take i rows)
-rows_elsewhere m rows i r lt is ne =
-    ap (rows_of m) (take_more rows i r lt) ∙ ap (λ q. rows_of m (take i rows ++ q ∷ [])) (sym is) ∙ rows_push m (take i rows) r
-    ∙ elim (r.key.member == m) as (λ b. (r.key.member == m) ≡ b → cond b (rows_of m (take i rows) ++ r ∷ []) (rows_of m (take i rows))
-    ≡ rows_of m (take i rows)) [
-      | true ↦ λ e. absurd (ne (eqb-true _ _ e))
-      | false ↦ λ e. refl
-    ] refl
-
 -- the rows of one member more
 pub member_rows-more : (rows : List Row) (m : ℕ) (ks : List MemberSpec) (k : MemberSpec) (n : ℕ) → m + length ks ≡ n
     → member_rows rows m (ks ++ k ∷ []) ≡ member_rows rows m ks ++ member_fields n k (counts_of (rows_of n rows)) ∷ []
@@ -116,59 +100,81 @@ member_rows-more rows m [] k n e = let same : m ≡ n = omega arith in ap (λ j.
 member_rows-more rows m (q ∷ ks) k n e = ap (λ l. member_fields m q (counts_of (rows_of m rows)) ∷ l)
     (member_rows-more rows (m + 1) ks k n (omega arith))
 
--- ---- the counts of all members, with one row more
+-- ---- how great counts are
 
-more : (i : ℕ) (c : Counts) → IsAtMost i c → IsAtMost (i + 1) c
-more i c b = let a = b.drawn in let d = b.heard in let e = b.lost in let f = b.fixed in let g = b.requests in let h = b.repairs in let j =
-    b.sessions in
+-- so after any more rows
+pub at_most : (n m : ℕ) (c : Counts) → n ≤ m → IsAtMost n c → IsAtMost m c
+at_most n m c up b = let a = b.drawn in let d = b.heard in let e = b.lost in let f = b.fixed in let g = b.requests in let h = b.repairs in
+    let j = b.sessions in
     record {
       drawn = omega arith;
       heard = omega arith;
       lost = omega arith;
       fixed = omega arith;
       requests = omega arith;
-      repairs =
-          omega arith;
+      repairs = omega arith;
       sessions = omega arith;
     }
 
-module _ (members : ℕ) (rows : List Row) (i : ℕ) (r : Row) (lt : i < length rows) (is : r ≡ get_or rows i r) where
-  abbrev pub Counted : ℕ → List Row → List Counts → Type 0
-  Counted n rs cs = AreCounts members rs cs × ((m : ℕ) (d : Counts) → m < length cs → IsAtMost n (get_or cs m d))
+-- of one member more, of which no row was counted
+pub bounds_pushed : (n : ℕ) (cs : List Counts) (c : Counts) → All (IsAtMost n) cs → IsAtMost 0 c
+    → (k : ℕ) (d : Counts) → k < length (cs ++ c ∷ []) → IsAtMost n (get_or (cs ++ c ∷ []) k d)
+bounds_pushed n [] c h b zero d lt = at_most 0 n c (omega arith) b
+bounds_pushed n [] c h b (suc k) d lt = absurd (omega arith)
+bounds_pushed n (x ∷ cs) c h b zero d lt = h zero d (omega arith)
+bounds_pushed n (x ∷ cs) c h b (suc k) d lt = bounds_pushed n cs c (λ j e l. h (suc j) e (omega arith)) b k d (omega arith)
 
-  module _ (cs : List Counts) (was : AreCounts members (take i rows) cs)
-      (bounds : (m : ℕ) (d : Counts) → m < length cs → IsAtMost i (get_or cs m d)) where
-    other : (m : ℕ) (d : Counts) → m < members → r.key.member ≢ m → get_or cs m d ≡ counts_of (rows_of m (take (i + 1) rows))
-    other m d h ne = was.each m d h ∙ ap counts_of (sym (rows_elsewhere m rows i r lt is ne))
+-- of the member whose row was counted, and of the others
+pub bounds_set : (n : ℕ) (cs : List Counts) (k : ℕ) (c : Counts) → All (IsAtMost n) cs → k < length cs → IsAtMost (n + 1) c
+    → All (IsAtMost (n + 1)) (slice_set cs k c)
+bounds_set n cs k c h within b = λ m d lt.
+    elim (m == k) as (λ e. (m == k) ≡ e → IsAtMost (n + 1) (get_or (slice_set cs k c) m d)) [
+      | true ↦ λ q. subst (IsAtMost (n + 1)) (sym (get_or-set_at cs k m c d (eqb-true m k q) within)) b
+      | false ↦ λ q.
+          let ne : m ≢ k = λ same. true≢false (sym (eq-eqb m k same) ∙ q) in
+          let long = length-set cs k c in
+          subst (IsAtMost (n + 1)) (sym (get_or-set_other cs k m c d ne))
+          (at_most n (n + 1) (get_or cs m d) (omega arith) (h m d (omega arith)))
+    ] refl
 
-    -- a row of no member
-    pub counted_none : (k : ℕ) → k ≡ r.key.member → (k < length cs → ⊥) → Counted (i + 1) (take (i + 1) rows) cs
-    counted_none k e out = (
-      record { as_many = was.as_many; each = λ m d h. other m d h (λ same. out (let l = was.as_many in omega arith)) },
-      (λ m d h. more i (get_or cs m d) (bounds m d h)),
-    )
+-- ---- the counts of all members
 
-    -- a row of the member whose counts are these
-    pub counted : (k : ℕ) (old new : Counts) → k ≡ r.key.member → k < length cs → old ≡ get_or cs k old
-        → ((rs : List Row) → old ≡ counts_of rs → new ≡ counts_of (rs ++ r ∷ [])) → ((n : ℕ) → IsAtMost n old → IsAtMost (n + 1) new)
-        → Counted (i + 1) (take (i + 1) rows) (slice_set cs k new)
-    counted k old new e h here adds bound = (
-      record {
-        as_many = length-set cs k new ∙ was.as_many;
-        each = λ m d l. elim (m == k) as (λ b. (m == k) ≡ b → get_or (slice_set cs k new) m d ≡ counts_of (rows_of m (take (i + 1) rows))) [
-          | true ↦ λ q. let same : m ≡ k = eqb-true m k q in
-              get_or-set_at cs k m new d same h ∙ adds (rows_of m (take i rows))
-              (here ∙ ap (λ j. get_or cs j old) (sym same) ∙ was.each m old l)
-              ∙ ap counts_of (sym (rows_here m rows i r lt is (sym e ∙ sym same)))
-          | false ↦ λ q. let ne : m ≢ k = λ same. true≢false (sym (eq-eqb m k same) ∙ q) in
-              get_or-set_other cs k m new d ne ∙ other m d l (λ same. ne (sym same ∙ sym e))
-        ] refl;
-      },
-      (λ m d l. elim (m == k) as (λ b. (m == k) ≡ b → IsAtMost (i + 1) (get_or (slice_set cs k new) m d)) [
-        | true ↦ λ q. let same : m ≡ k = eqb-true m k q in
-            subst (IsAtMost (i + 1)) (sym (get_or-set_at cs k m new d same h)) (bound i (subst (IsAtMost i) (sym here) (bounds k old h)))
-        | false ↦ λ q. let ne : m ≢ k = λ same. true≢false (sym (eq-eqb m k same) ∙ q) in
-            subst (IsAtMost (i + 1)) (sym (get_or-set_other cs k m new d ne))
-            (more i (get_or cs m d) (bounds m d (let e = length-set cs k new in omega arith)))
-      ] refl),
-    )
+-- a member more, of which no row was counted
+at_pushed : (cs : List Counts) (c : Counts) (m : ℕ) → get_or (cs ++ c ∷ []) m c ≡ get_or cs m c
+at_pushed [] c zero = refl
+at_pushed [] c (suc m) = refl
+at_pushed (x ∷ cs) c zero = refl
+at_pushed (x ∷ cs) c (suc m) = at_pushed cs c m
+
+pub counts_pushed : (rows : List Row) (cs : List Counts) (c : Counts) → c ≡ counts_of [] → AreCounts rows cs → AreCounts rows (cs ++ c ∷ [])
+counts_pushed rows cs c none was m =
+    subst (λ (d : Counts). get_or (cs ++ d ∷ []) m (counts_of []) ≡ counts_of (rows_of m rows)) (sym none)
+    (at_pushed cs (counts_of []) m ∙ was m)
+
+not_eqb : (a b : ℕ) → a ≢ b → (a == b) ≡ false
+not_eqb a b ne = elim (a == b) as (λ t. (a == b) ≡ t → t ≡ false) [
+  | true ↦ λ e. absurd (ne (eqb-true a b e))
+  | false ↦ λ e. refl
+] refl
+
+-- one row more, of the member whose counts are these
+module _ (rows : List Row) (r : Row) (cs : List Counts) (was : AreCounts rows cs) where
+  rows_at : (m : ℕ) (b : Bool) → (r.key.member == m) ≡ b → rows_of m (rows ++ r ∷ []) ≡ cond b (rows_of m rows ++ r ∷ []) (rows_of m rows)
+  rows_at m b e = rows_push m rows r ∙ ap (λ t. cond t (rows_of m rows ++ r ∷ []) (rows_of m rows)) e
+
+  pub counted : (k : ℕ) (old new : Counts) → k ≡ r.key.member → k < length cs → old ≡ get_or cs k old
+      → ((rs : List Row) → old ≡ counts_of rs → new ≡ counts_of (rs ++ r ∷ []))
+      → AreCounts (rows ++ r ∷ []) (slice_set cs k new)
+  counted k old new e within here adds = λ m.
+      elim (m == k) as (λ b. (m == k) ≡ b → get_or (slice_set cs k new) m (counts_of []) ≡ counts_of (rows_of m (rows ++ r ∷ []))) [
+        | true ↦ λ q.
+            let same : m ≡ k = eqb-true m k q in
+            get_or-set_at cs k m new (counts_of []) same within
+            ∙ adds (rows_of m rows)
+            (get_or_read cs k old within here (counts_of []) ∙ ap (λ j. get_or cs j (counts_of [])) (sym same) ∙ was m)
+            ∙ ap counts_of (sym (rows_at m true (eq-eqb _ _ (sym e ∙ sym same))))
+        | false ↦ λ q.
+            let ne : m ≢ k = λ same. true≢false (sym (eq-eqb m k same) ∙ q) in
+            get_or-set_other cs k m new (counts_of []) ne ∙ was m
+            ∙ ap counts_of (sym (rows_at m false (not_eqb r.key.member m (λ same. ne (sym same ∙ sym e)))))
+      ] refl

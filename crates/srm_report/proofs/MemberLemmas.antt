@@ -1,5 +1,5 @@
 -- The table of members, member by member.
-use Rattle.std.proofs.Common.{◌≡◌, ◌∙◌, ℕ, ◌+◌, List, [], ◌∷◌, ◌++◌, length, Some, ap, sym, take, get_or, slice_get, arith}
+use Rattle.std.proofs.Common.{◌≡◌, ◌∙◌, ℕ, ◌+◌, List, [], ◌∷◌, ◌++◌, length, Some, ap, sym, take, slice_get, arith}
 use Rattle.std.proofs.Math.Seq.{take-length}
 use Rattle.std.proofs.lemmas.List.{take_more, length-take-le}
 use Rattle.std.proofs.lemmas.Option.{get_or_from_slice_get, slice_get_within}
@@ -8,21 +8,20 @@ use Rattle.srm_scenario.specs.declared.parts.MemberSpec.{MemberSpec}
 use Rattle.srm_scenario.specs.Plain.{PlainScenario}
 use Rattle.srm_member.specs.declared.row.Row.{Row}
 use Rattle.srm_report.specs.declared.counts.Counts.{Counts}
-use Rattle.srm_report.specs.Counted.{AreCounts}
+use Rattle.srm_report.specs.Counted.{AreCounts, counts_at}
 use Rattle.srm_report.specs.Members.{counts_of, member_columns, member_fields, member_rows, members_table}
 use Rattle.srm_report.specs.Rows.{rows_of}
 use Rattle.srm_report.specs.Tables.{table_of}
 use Rattle.srm_report.proofs.TableLemmas.{table_more}
 use Rattle.srm_report.proofs.CountLemmas.{member_rows-more}
 
-module _ (rows : List Row) (ks : List MemberSpec) (members : ℕ) (all : members ≡ length ks) (cs : List Counts)
-    (counts : AreCounts members rows cs) where
-  pub text_more : (m j : ℕ) (k : MemberSpec) (n : Counts) (old new line : List ℕ) → slice_get ks m ≡ Some k → j ≡ m → n ≡ get_or cs j n
+module _ (rows : List Row) (ks : List MemberSpec) (cs : List Counts) (counts : AreCounts rows cs) where
+  pub text_more : (m : ℕ) (k : MemberSpec) (n : Counts) (old new line : List ℕ) → slice_get ks m ≡ Some k → n ≡ counts_at cs m
       → old ≡ table_of member_columns (member_rows rows 0 (take m ks)) → line ≡ row_text default_writer (member_fields m k n)
       → new ≡ old ++ line → new ≡ table_of member_columns (member_rows rows 0 (take (m + 1) ks))
-  text_more m j k n old new line here same is before f grown =
+  text_more m k n old new line here is before f grown =
       let lt = slice_get_within ks m k here in
-      let own : n ≡ counts_of (rows_of m rows) = is ∙ ap (λ i. get_or cs i n) same ∙ counts.each m n (omega arith) in
+      let own : n ≡ counts_of (rows_of m rows) = is ∙ counts m in
       let long = length-take-le m ks (omega arith) in
       let one : take (m + 1) ks ≡ take m ks ++ k ∷ [] = take_more ks m k lt
       ∙ ap (λ q. take m ks ++ q ∷ []) (get_or_from_slice_get ks m k k here) in

@@ -1,12 +1,13 @@
 -- What writing after what is gathered does to a sink.
-use Rattle.std.proofs.Common.{◌≡◌, ◌∙◌, ℕ, Bool, List, [], ◌++◌, Option, Result, Ok, Err, refl, ap, sym, subst, append-nil}
+use Rattle.std.proofs.Common.{◌≡◌, ◌∙◌, ℕ, Bool, List, [], ◌++◌, Option, Result, Ok, Err, length, ◌≤◌, refl, ap, sym, subst, append-nil}
 use Rattle.std.specs.Result.{MatchResult}
 use Rattle.srm_member.specs.declared.row.Row.{Row}
 use Rattle.srm_engine.specs.declared.sink.SinkFault.{SinkFault}
 use Rattle.srm_engine.specs.declared.sink.SinkFault.TheVariants as fault
 use Rattle.srm_report.specs.declared.standing.Standing.{Standing}
 use Rattle.srm_report.specs.declared.trace_sink.TraceSink.{TraceSink}
-use Rattle.srm_report.specs.TraceSinks.{outlet_under, gathered_by, written_by, text_next, IsText, after_answer, TakesText, Wrote, PutsAll}
+use Rattle.srm_report.specs.Standings.{text_next, IsText, after_answer, TakesText}
+use Rattle.srm_report.specs.TraceSinks.{outlet_under, gathered_by, written_by, Wrote, PutsAll}
 use Rattle.srm_report.specs.TraceSinks.{PutsText, PutsRows, PutsPart, WritesThrough}
 use Rattle.srm_report.specs.SinkLaws.{all_more, front_more}
 
@@ -25,19 +26,20 @@ written_after taken a b c text (Err e) none same h k =
 
 -- where a sink stands, and whether it took rows, has no part in what it wrote
 stood : {O : Type 0} (taken : O → Option (List ℕ)) (a b : TraceSink O) (out : List ℕ) (begun : Bool) (s : Standing)
-    → Wrote taken a out b → Wrote taken a out (record b { has_begun = begun; standing = s })
-stood taken a b out begun s h = record { bytes = h.bytes; counted = h.counted }
+    (fits : length b.gathered.items ≤ b.room)
+    → Wrote taken a out b → Wrote taken a out (record b { has_begun = begun; standing = s; within = fits })
+stood taken a b out begun s fits h = record { bytes = h.bytes; counted = h.counted }
 
 -- after the text of rows was put, and the sink stands as the answer says
 pub rows_put : {O A : Type 0} (taken : O → Option (List ℕ)) (a b : TraceSink O) (rows : List Row) (r : Result A SinkFault)
-    (begun : Bool) (s : Standing)
+    (begun : Bool) (s : Standing) (fits : length b.gathered.items ≤ b.room)
     → PutsText taken a (text_next a.standing rows) r b → s ≡ after_answer r
-    → MatchResult r (λ (_ : A). PutsRows taken a rows (record b { has_begun = begun; standing = s }))
-    (λ (_ : SinkFault). PutsPart taken a rows (record b { has_begun = begun; standing = s }))
-rows_put taken a b rows (Ok v) begun s h e = (
+    → MatchResult r (λ (_ : A). PutsRows taken a rows (record b { has_begun = begun; standing = s; within = fits }))
+    (λ (_ : SinkFault). PutsPart taken a rows (record b { has_begun = begun; standing = s; within = fits }))
+rows_put taken a b rows (Ok v) begun s fits h e = (
   text_next a.standing rows,
   subst (λ (at : Standing). IsText a.standing at rows (text_next a.standing rows)) (sym e) refl,
-  (h.0, h.1, stood taken a b h.0 begun s h.2),
+  (h.0, h.1, stood taken a b h.0 begun s fits h.2),
 )
-rows_put taken a b rows (Err fault.NoMemory) begun s h e = (h.0, h.1, h.2, stood taken a b h.0 begun s h.3)
-rows_put taken a b rows (Err (fault.Stopped n)) begun s h e = (h.0.0, h.0.1, h.0.2, stood taken a b h.0.0 begun s h.0.3)
+rows_put taken a b rows (Err fault.NoMemory) begun s fits h e = (h.0, h.1, h.2, stood taken a b h.0 begun s fits h.3)
+rows_put taken a b rows (Err (fault.Stopped n)) begun s fits h e = (h.0.0, h.0.1, h.0.2, stood taken a b h.0.0 begun s fits h.0.3)

@@ -1,5 +1,6 @@
 -- Counting rows one by one.
-use Rattle.std.specs.Prelude.{◌≡◌, ℕ, ◌*◌, ◌^◌, ◌<◌, ◌≤◌, Bool, List, length, Option, Some, None, cond, slice_index_or}
+use Rattle.std.specs.Prelude.{◌≡◌, ℕ, ◌*◌, ◌^◌, ◌≤◌, Bool, List, [], Option, Some, None, cond}
+use Rattle.std.specs.Prelude.{slice_index_or}
 use Rattle.srm_member.specs.declared.row.Row.{Row}
 use Rattle.srm_report.specs.declared.counts.Counts.{Counts}
 use Rattle.srm_report.specs.Members.{counts_of}
@@ -20,7 +21,10 @@ abbrev pub earlier : Option ℕ → ℕ → Bool → Option ℕ
 earlier (Some known) time is_one = Some known
 earlier None time is_one = cond is_one (Some time) None
 
--- of each of so many members, what its rows say
-pub record AreCounts (members : ℕ) (rows : List Row) (cs : List Counts) : Type 0 where
-  pub as_many : length cs ≡ members
-  pub each : (m : ℕ) (d : Counts) → m < members → slice_index_or cs m d ≡ counts_of (rows_of m rows)
+-- the counts of member m: those of no row, where the list ends before
+abbrev pub counts_at : List Counts → ℕ → Counts
+counts_at cs m = slice_index_or cs m (counts_of [])
+
+-- of each member, what its rows say
+abbrev pub AreCounts : List Row → List Counts → Type 0
+AreCounts rows cs = (m : ℕ) → counts_at cs m ≡ counts_of (rows_of m rows)

@@ -4,8 +4,12 @@ pub mod Devices
 pub mod Lines
 pub mod Links
 pub mod Losses
+pub mod LossesSinks
 pub mod Members
+pub mod MembersSinks
+pub mod NoRows
 pub mod Rows
+pub mod Standings
 pub mod Tables
 pub mod Trace
 pub mod TraceSinks

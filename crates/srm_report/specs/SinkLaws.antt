@@ -9,7 +9,8 @@ use Rattle.srm_report.specs.declared.standing.Standing.{Standing}
 use Rattle.srm_report.specs.declared.standing.Standing.TheVariants.{Fresh, Live, NoMemory, Stopped}
 use Rattle.srm_report.specs.declared.trace_sink.TraceSink.{TraceSink}
 use Rattle.srm_report.specs.Trace.{trace_line, trace_lines}
-use Rattle.srm_report.specs.TraceSinks.{lead, text_next, IsText, GrewBy, outlet_under, gathered_by, written_by, Wrote}
+use Rattle.srm_report.specs.Standings.{lead, text_next, IsText, GrewBy}
+use Rattle.srm_report.specs.TraceSinks.{outlet_under, gathered_by, written_by, Wrote}
 use Rattle.srm_report.specs.TraceSinks.{PutsAll, PutsFront, PutsRows, PutsPart, AreOverOne}
 
 -- ---- text
@@ -80,10 +81,10 @@ joins g t o b u p r h k =
     ∙ sym (append_assoc o p r)
 
 pub one_self : {O : Type 0} (a : TraceSink O) → AreOverOne a a
-one_self a = refl
+one_self a = (refl, refl)
 
 pub one_more : {O : Type 0} (a b c : TraceSink O) → AreOverOne a b → AreOverOne b c → AreOverOne a c
-one_more a b c h k = k ∙ h
+one_more a b c h k = (k.0 ∙ h.0, k.1 ∙ h.1)
 
 module _ {O : Type 0} (taken : O → Option (List ℕ)) where
   pub wrote_none : (a : TraceSink O) → Wrote taken a [] a

@@ -1,5 +1,5 @@
 -- A trace that is written as its rows come.
-use Rattle.std.specs.Prelude.{◌≡◌, ℕ, ◌+◌, ◌-◌, ◌^◌, min, List, [], ◌++◌, length, Option, Result, Ok, Err}
+use Rattle.std.specs.Prelude.{◌≡◌, ℕ, List, [], ◌++◌, length, Option, Result, Ok, Err}
 use Rattle.std.specs.Io.KnownBytes.{Appends}
 use Rattle.srm_member.specs.declared.row.Row.{Row}
 use Rattle.srm_engine.specs.declared.sink.SinkFault.{SinkFault}
@@ -10,45 +10,7 @@ use Rattle.srm_report.specs.declared.standing.Standing.{Standing}
 use Rattle.srm_report.specs.declared.standing.Standing.TheVariants.{Fresh, Live, NoMemory, Stopped}
 use Rattle.srm_report.specs.declared.trace_sink.TraceSink.{TraceSink}
 use Rattle.srm_report.specs.declared.writing.WriteFault.{WriteFault}
-use Rattle.srm_report.specs.Trace.{trace_header, trace_lines}
-
--- ---- text
-
--- what comes before the rows that a sink takes next: the header, where it took none yet
-abbrev pub lead : Standing → List ℕ
-lead Fresh = trace_header
-lead Live = []
-lead NoMemory = []
-lead Stopped = []
-
--- the text of the rows that a sink takes next
-abbrev pub text_next : Standing → List Row → List ℕ
-text_next at rows = lead at ++ trace_lines rows
-
--- this is the text of all rows that a sink took between these two standings: none where it is still fresh
-abbrev pub IsText : Standing → Standing → List Row → List ℕ → Type 0
-IsText old Fresh rows text = (old ≡ Fresh) × (rows ≡ []) × (text ≡ [])
-IsText old Live rows text = text ≡ text_next old rows
-IsText old NoMemory rows text = text ≡ text_next old rows
-IsText old Stopped rows text = text ≡ text_next old rows
-
--- where a sink stands after this answer
-abbrev pub after_answer : {A : Type 0} → Result A SinkFault → Standing
-after_answer (Ok v) = Live
-after_answer (Err fault.NoMemory) = NoMemory
-after_answer (Err (fault.Stopped n)) = Stopped
-
--- ---- counts
-
--- a count has grown by a number, and stays at 2^64 - 1 once there
-abbrev pub GrewBy : ℕ → ℕ → ℕ → Type 0
-GrewBy old n new = min new (2 ^ 64 - 1) ≡ min (old + n) (2 ^ 64 - 1)
-
--- what is taken of a text: all of it, or else a front; and the bytes are counted
-abbrev pub TakesText : {O A E : Type 0} → (O → Option (List ℕ)) → O → ℕ → List ℕ → Result A E → O → ℕ → Type 0
-TakesText taken old n text (Ok v) new m = Appends (taken old) (taken new) text × GrewBy n (length text) m
-TakesText taken old n text (Err e) new m =
-    (out rest : List ℕ) × (text ≡ out ++ rest) × Appends (taken old) (taken new) out × GrewBy n (length out) m
+use Rattle.srm_report.specs.Standings.{GrewBy, IsText, text_next}
 
 -- ---- sinks
 
@@ -74,13 +36,17 @@ module _ {O : Type 0} where
   abbrev pub gathered_by : TraceSink O → List ℕ
   gathered_by s = s.gathered.items
 
+  -- how many bytes may be gathered
+  abbrev pub room_of : TraceSink O → ℕ
+  room_of s = s.room
+
   -- how many bytes the outlet took by the sink, up to 2^64 - 1
   abbrev pub written_by : TraceSink O → ℕ
   written_by s = s.written
 
-  -- both write to one outlet
+  -- both write to one outlet, and may gather as much
   abbrev pub AreOverOne : TraceSink O → TraceSink O → Type 0
-  AreOverOne a b = b.outlet.ghost_name ≡ a.outlet.ghost_name
+  AreOverOne a b = (b.outlet.ghost_name ≡ a.outlet.ghost_name) × (room_of b ≡ room_of a)
 
   module _ (taken : O → Option (List ℕ)) where
     -- between these two values the outlet took these bytes, and they were counted

@@ -1,6 +1,6 @@
 //! A trace that is written as its rows come.
-ghost use Rattle.std.specs.Prelude.{◌≡◌, ◌<◌, ◌+◌, ◌-◌, ◌^◌, [], is_ok, if◌then◌else◌, IfOk};
-ghost use Rattle.srm_report.specs.TraceSinks.{text_next, after_answer, TakesText};
+ghost use Rattle.std.specs.Prelude.{◌≡◌, ◌<◌, ◌+◌, ◌-◌, ◌^◌, ◌≤◌, [], is_ok, if◌then◌else◌, length, IfOk};
+ghost use Rattle.srm_report.specs.Standings.{text_next, after_answer, TakesText};
 
 use crate::fault::ReportFault;
 use crate::outlet::{OutFault, Outlet};
@@ -25,6 +25,8 @@ pub struct TraceSink<'a, O> {
     // How many bytes the outlet took, up to 2^64 - 1.
     written: u64,
     standing: Standing,
+    // No more is gathered than there is room for.
+    pub ghost within: { length gathered.items ≤ room },
 }
 
 // The text of the rows that a sink takes next.
@@ -70,7 +72,7 @@ fn write<O: Outlet>(outlet: &mut O, written: &mut u64, text: &[u8]) -> Result<()
 impl<'a, O: Outlet> TraceSink<'a, O> {
     ghost use Rattle.srm_engine.specs.declared.sink.Stage.{Stage as AStage};
     ghost use Rattle.srm_engine.specs.Sinks.{IsOpen, stops_in};
-    ghost use Rattle.srm_report.specs.TraceSinks.{stage_of, standing_of, outlet_under, gathered_by, written_by, AreOverOne, PutsText, LeavesOutlet, WritesGathered, WritesThrough, Flushes};
+    ghost use Rattle.srm_report.specs.TraceSinks.{stage_of, standing_of, outlet_under, gathered_by, room_of, written_by, AreOverOne, PutsText, LeavesOutlet, WritesGathered, WritesThrough, Flushes};
 
     /// A sink over this outlet, which took no rows yet. It writes each piece of the trace as it comes. It does not allocate.
     pub fn over(alloc: Global, outlet: &'a mut O) -> Self
@@ -78,6 +80,7 @@ impl<'a, O: Outlet> TraceSink<'a, O> {
         ensures same { outlet_under result ≡ outlet.old }
         ensures stage { stage_of result ≡ AStage.Fresh }
         ensures gathered { gathered_by result ≡ [] }
+        ensures room { room_of result ≡ 0 }
         ensures written { written_by result ≡ 0 }
     {
         TraceSink::gathering(alloc, outlet, 0)
@@ -89,6 +92,7 @@ impl<'a, O: Outlet> TraceSink<'a, O> {
         ensures same { outlet_under result ≡ outlet.old }
         ensures stage { stage_of result ≡ AStage.Fresh }
         ensures gathered { gathered_by result ≡ [] }
+        ensures room { room_of result ≡ room }
         ensures written { written_by result ≡ 0 }
     {
         TraceSink {

@@ -10,8 +10,12 @@ use srm_member::told::Told;
 use srm_net::packet::PacketId;
 use srm_report::outlet::{Outlet, WriteOutlet};
 use srm_report::trace_sink::TraceSink;
-use srm_report::writing::WriteFault;
+use srm_report::writing::{WriteFault, write_out};
 use std::alloc::{AllocError, Global};
+use std::io;
+use std::io::Write;
+use std::sync::Arc;
+use std::sync::atomic::{AtomicU64, Ordering};
 use std::test::Fail;
 
 const TEXT: &[u8] =
@@ -136,5 +140,70 @@ fn a_sink_over_an_outlet_writes_each_piece_as_it_comes(rt: HostRuntime) -> Resul
     let told = written_at_once(alloc, TraceSink::over(alloc, &mut outlet))?;
     assert_eq!(rt; told, None);
     assert_eq!(rt; outlet.into_inner().taken.as_slice(), &TEXT[..57]);
+    Ok(())
+}
+
+/// Takes all bytes, and counts the writes and the bytes for others to see.
+#[derive(Drop)]
+struct Counting {
+    writes: Arc<AtomicU64>,
+    bytes: Arc<AtomicU64>,
+}
+
+impl Write for Counting {
+    fn write(&mut self, piece: &[u8]) -> io::Result<usize> {
+        self.writes.fetch_add(1, Ordering::SeqCst);
+        self.bytes.fetch_add(piece.len() as u64, Ordering::SeqCst);
+        Ok(piece.len())
+    }
+
+    fn flush(&mut self) -> io::Result<()> {
+        Ok(())
+    }
+}
+
+// The header and the first rows are written at once, so that a run is seen to go; then up to 1,000 bytes are gathered.
+#[test]
+fn only_what_comes_after_the_first_rows_is_gathered(rt: HostRuntime) -> Result<(), Fail> {
+    let alloc = rt.alloc();
+    let writes = Arc::new(alloc, AtomicU64::new(0))?;
+    let bytes = Arc::new(alloc, AtomicU64::new(0))?;
+    let mut outlet = WriteOutlet::new(Counting {
+        writes: Arc::try_clone(&writes)?,
+        bytes: Arc::try_clone(&bytes)?,
+    });
+    let first = one(alloc, join(alloc)?)?;
+    let second = one(alloc, arrival(alloc)?)?;
+    let mut sink = TraceSink::gathering(alloc, &mut outlet, 1_000);
+    if sink.rows(alloc, Vec::new(alloc)).is_err() {
+        return Err(Fail::from("no memory"));
+    }
+    assert_eq!(rt; bytes.load(Ordering::SeqCst), 39);
+    if sink.rows(alloc, first).is_err() {
+        return Err(Fail::from("no memory"));
+    }
+    assert_eq!(rt; bytes.load(Ordering::SeqCst), 57);
+    if sink.rows(alloc, second).is_err() {
+        return Err(Fail::from("no memory"));
+    }
+    assert_eq!(rt; bytes.load(Ordering::SeqCst), 57);
+    assert_eq!(rt; sink.flush(), Ok(()));
+    assert_eq!(rt; bytes.load(Ordering::SeqCst), TEXT.len() as u64);
+    Ok(())
+}
+
+// A writer that takes all that it is given is asked once.
+#[test]
+fn a_text_is_written_at_once(rt: HostRuntime) -> Result<(), Fail> {
+    let alloc = rt.alloc();
+    let writes = Arc::new(alloc, AtomicU64::new(0))?;
+    let bytes = Arc::new(alloc, AtomicU64::new(0))?;
+    let mut outlet = WriteOutlet::new(Counting {
+        writes: Arc::try_clone(&writes)?,
+        bytes: Arc::try_clone(&bytes)?,
+    });
+    assert_eq!(rt; write_out(&mut outlet, TEXT), Ok(()));
+    assert_eq!(rt; writes.load(Ordering::SeqCst), 1);
+    assert_eq!(rt; bytes.load(Ordering::SeqCst), TEXT.len() as u64);
     Ok(())
 }

@@ -6,7 +6,8 @@ use Rattle.srm_scenario.specs.declared.fault.Part.TheVariants as part
 use Rattle.srm_scenario.specs.declared.version.Version.{Version}
 use Rattle.srm_scenario.specs.declared.fault.ScenarioFault.{ScenarioFault}
 use Rattle.srm_scenario.specs.declared.fault.ScenarioFault.TheVariants.{BadKey}
-use Rattle.srm_scenario.specs.Rules.{Rule, fits, link_rules, member_rules, draw_rules, session_rules, drop_rules, outage_rules}
+use Rattle.srm_scenario.specs.declared.rule.Rule.{Rule}
+use Rattle.srm_scenario.specs.Rules.{fits, link_rules, member_rules, draw_rules, session_rules, drop_rules, outage_rules}
 use Rattle.srm_scenario.specs.Described.{array_at, version_of}
 use Rattle.srm_scenario.specs.Faults.{first, IsFault, fault_unless, rules_of_top, top_faults, element_faults, key_faults}
 

@@ -1,9 +1,8 @@
 -- The ranges of a file's keys are those of the scenario.
-use Rattle.std.proofs.Common.{◌≡◌, ℕ, zero, suc, ◌+◌, ◌-◌, ◌≤◌, Bool, true, false, cond, pos, negsuc, List, [], ◌∷◌, map, Option, Some}
-use Rattle.std.proofs.Common.{None, is_some, unwrap_or, nat_le, codes, refl, sym, ap, ◌∙◌, subst, arith}
-use Rattle.std.proofs.lemmas.Bool.{and_parts, false≢true}
-use Rattle.std.proofs.lemmas.Bool.Decides.{nat_tests}
-use Rattle.std.specs.List.{list_all, AllByRecursion}
+use Rattle.std.proofs.Common.{◌≡◌, ℕ, zero, suc, ◌+◌, ◌-◌, Bool, true, false, cond, List, [], ◌∷◌, map, Option, Some}
+use Rattle.std.proofs.Common.{None, is_some, unwrap_or, codes, refl, sym, ap, ◌∙◌, subst, arith}
+use Rattle.std.proofs.lemmas.Bool.{false≢true}
+use Rattle.std.specs.List.{AllByRecursion}
 use Rattle.std.specs.Option.{option_and_then}
 use Rattle.toml.specs.Data.{Data, Members, string, integer, float, boolean, datetime, array, table, get_member}
 use Rattle.srm_net.specs.declared.link.LinkSpec.{LinkSpec}
@@ -16,9 +15,13 @@ use Rattle.srm_scenario.specs.declared.parts.MemberSpec.{MemberSpec}
 use Rattle.srm_scenario.specs.declared.delays.Delays.{Delays}
 use Rattle.srm_scenario.specs.declared.topology.Topology.{Topology}
 use Rattle.srm_scenario.specs.declared.version.Version.{Version}
-use Rattle.srm_scenario.specs.Rules.{Rule, rule, whole, required, optional, refused, meets, allows_back, index_rule, back_rule, is_met}
-use Rattle.srm_scenario.specs.Rules.{is_whole, has_only, fits, fits_element, link_rules, member_rules, role_rule}
-use Rattle.srm_scenario.specs.Described.{version_of, back_at, delays_of, number_of, optional_number, number, array_of, array_at, table_of}
+use Rattle.srm_scenario.specs.declared.key.Key.TheVariants as key
+use Rattle.srm_scenario.specs.declared.rule.Kind.TheVariants.{Whole}
+use Rattle.srm_scenario.specs.declared.rule.Need.TheVariants.{Optional, Refused}
+use Rattle.srm_scenario.specs.declared.rule.Rule.{Rule}
+use Rattle.srm_scenario.specs.KeyLimits.{greatest_delay, last_stream}
+use Rattle.srm_scenario.specs.Rules.{rule, meets, allows_back, back_rule, is_met, fits, fits_element, link_rules, member_rules}
+use Rattle.srm_scenario.specs.Described.{version_of, back_at, delays_of, number_of, number, array_of, array_at, table_of}
 use Rattle.srm_scenario.specs.Described.{link_of, member_of, elements_at, links_to_parents, nodes_in, links_in, described_scenario}
 use Rattle.srm_scenario.specs.Described.{topology_of}
 use Rattle.srm_scenario.specs.Faults.{element_faults, entry_of, key_faults, top_faults}
@@ -27,52 +30,8 @@ use Rattle.srm_scenario.specs.Plain.{drop_rules_of}
 use Rattle.srm_scenario.specs.Drafts.{IsDraft, links_listed, plain_of}
 use Rattle.srm_scenario.specs.Ranges.{MemberInRange, HasItsPages, InRange}
 use Rattle.srm_scenario.proofs.Acceptance.{empty_parts, none_by}
+use Rattle.srm_scenario.proofs.KeyRanges.{number_fits, optional_bound, rule_met, whole_number}
 use Rattle.srm_net.specs.Limits.{end_of_time}
-
--- ---- numbers
-
-whole_range : (low high : ℕ) (d : Data) → is_whole low high d ≡ true → (n : ℕ) → number_of d ≡ Some n → (low ≤ n) × (n ≤ high)
-whole_range low high (integer (pos m)) h n e =
-    let same : m ≡ n = cc in
-    let (p, q) = and_parts (nat_le low m) (nat_le m high) h in
-    (grind (arith, nat_tests), grind (arith, nat_tests))
-whole_range low high (integer (negsuc m)) h n e = absurd (false≢true h)
-whole_range low high (string t) h n e = absurd (false≢true h)
-whole_range low high (float t) h n e = absurd (false≢true h)
-whole_range low high (boolean t) h n e = absurd (false≢true h)
-whole_range low high (datetime t) h n e = absurd (false≢true h)
-whole_range low high (array t) h n e = absurd (false≢true h)
-whole_range low high (table t) h n e = absurd (false≢true h)
-
-whole_number : (low high other : ℕ) (d : Data) → is_whole low high d ≡ true → (low ≤ unwrap_or (number_of d) other)
-    × (unwrap_or (number_of d) other ≤ high)
-whole_number low high other (integer (pos m)) h =
-    let (p, q) = and_parts (nat_le low m) (nat_le m high) h in
-    (grind (arith, nat_tests), grind (arith, nat_tests))
-whole_number low high other (integer (negsuc m)) h = absurd (false≢true h)
-whole_number low high other (string t) h = absurd (false≢true h)
-whole_number low high other (float t) h = absurd (false≢true h)
-whole_number low high other (boolean t) h = absurd (false≢true h)
-whole_number low high other (datetime t) h = absurd (false≢true h)
-whole_number low high other (array t) h = absurd (false≢true h)
-whole_number low high other (table t) h = absurd (false≢true h)
-
-required_number : (key : List ℕ) (low high : ℕ) (ms : Members) → is_met ms (rule key (whole low high) required) ≡ true
-    → (low ≤ number key ms) × (number key ms ≤ high)
-required_number key low high ms h = by (get_member key ms) h
-  where
-    by : (o : Option Data) → meets required (whole low high) o ≡ true → (low ≤ unwrap_or (option_and_then number_of o) 0)
-        × (unwrap_or (option_and_then number_of o) 0 ≤ high)
-    by None e = absurd (false≢true e)
-    by (Some d) e = whole_number low high 0 d e
-
-optional_bound : (key : List ℕ) (low high : ℕ) (ms : Members) → is_met ms (rule key (whole low high) optional) ≡ true → (n : ℕ)
-    → optional_number key ms ≡ Some n → n ≤ high
-optional_bound key low high ms h = by (get_member key ms) h
-  where
-    by : (o : Option Data) → meets optional (whole low high) o ≡ true → (n : ℕ) → option_and_then number_of o ≡ Some n → n ≤ high
-    by None e n f = cc
-    by (Some d) e n f = let r = whole_range low high d e n f in r.1
 
 -- ---- elements
 
@@ -99,38 +58,28 @@ read_elements : {A : Type 0} (P : A → Type 0) (p : Part) (reading : Members �
 read_elements P p reading rules f ds h = all_read P reading rules f ds (none_by (BadKey p) (fits_element rules) 0 ds h)
 
 -- the second delay of a link is in range, where it is given or the first is in range
-back_fits : (m : Members) (allowed : Bool) → is_met m (back_rule allowed) ≡ true → IsLinkDelay (number (codes "delay") m)
+pub back_fits : (m : Members) (allowed : Bool) → is_met m (back_rule allowed) ≡ true → IsLinkDelay (number (codes "delay") m)
     → IsLinkDelay (back_at m)
 back_fits m allowed h delay = by (get_member (codes "back") m) allowed h
   where
-    by : (o : Option Data) (b : Bool) → meets (cond b optional refused) (whole 1 1000000) o ≡ true
+    by : (o : Option Data) (b : Bool) → meets (cond b Optional Refused) (Whole 1 greatest_delay) o ≡ true
         → IsLinkDelay (unwrap_or (option_and_then number_of o) (number (codes "delay") m))
     by None b e = delay
-    by (Some d) true e = whole_number 1 1000000 (number (codes "delay") m) d e
+    by (Some d) true e = whole_number 1 greatest_delay (number (codes "delay") m) d e
     by (Some d) false e = absurd (false≢true e)
 
 link_delay : (v : Version) (m : Members) → fits (link_rules v) m ≡ true → HasDelays (link_of m)
 link_delay v m h =
-    let (keys, r1) = and_parts (has_only (map (λ r. r.key) (link_rules v)) m) (list_all (is_met m) (link_rules v)) h in
-    let (a, r2) = and_parts (is_met m (index_rule (codes "a") v)) _ r1 in
-    let (b, r3) = and_parts (is_met m (index_rule (codes "b") v)) _ r2 in
-    let (delay, r4) = and_parts (is_met m (rule (codes "delay") (whole 1 1000000) required)) _ r3 in
-    let (back, r5) = and_parts (is_met m (back_rule (allows_back v))) _ r4 in
-    let there = required_number (codes "delay") 1 1000000 m delay in
-    (there, back_fits m (allows_back v) back there)
+    let there = number_fits (link_rules v) m h 2 key.Delay 1 greatest_delay refl in
+    (there, back_fits m (allows_back v) (rule_met (link_rules v) m h 3 (back_rule (allows_back v)) refl) there)
 
 member_range : (v : Version) (m : Members) → fits (member_rules v) m ≡ true → MemberInRange (entry_of m).spec
 member_range v m h =
-    let (keys, r1) = and_parts (has_only (map (λ r. r.key) (member_rules v)) m) (list_all (is_met m) (member_rules v)) h in
-    let (node, r2) = and_parts (is_met m (index_rule (codes "node") v)) _ r1 in
-    let (role, r3) = and_parts (is_met m role_rule) _ r2 in
-    let (stream, r4) = and_parts (is_met m (rule (codes "stream") (whole 0 9223372036854775807) required)) _ r3 in
-    let (join, r5) = and_parts (is_met m (rule (codes "join") (whole 0 end_of_time) optional)) _ r4 in
-    let (leave, r6) = and_parts (is_met m (rule (codes "leave") (whole 1 end_of_time) optional)) _ r5 in
-    let few = required_number (codes "stream") 0 9223372036854775807 m stream in
+    let few = number_fits (member_rules v) m h 2 key.Stream 0 last_stream refl in
     record {
       stream = omega (arith, few.1);
-      leave = optional_bound (codes "leave") 1 end_of_time m leave;
+      leave = optional_bound key.Leave 1 end_of_time m
+          (rule_met (member_rules v) m h 4 (rule key.Leave (Whole 1 end_of_time) Optional) refl);
     }
 
 pages_own : (v : Version) (m : Members) → fits (member_rules v) m ≡ true → HasItsPages (entry_of m)

@@ -1,12 +1,11 @@
 pub mod Marks
+pub mod KeyRanges
 pub mod Tables
 pub mod Placed
 pub mod ScriptLemmas
 pub mod Sorting
 pub mod Members
-pub mod Words
 pub mod Arrays
-pub mod TopRules
 pub mod Shapes
 pub mod FaultLists
 pub mod TreeLemmas
@@ -14,6 +13,7 @@ pub mod Once
 pub mod Acceptance
 pub mod Meanings
 pub mod InRanges
+pub mod TopFits
 pub mod TableAnswers
 pub mod Texts
 pub mod TopologyTrees

@@ -1,14 +1,13 @@
 -- Lists that ascend and have the same elements are one.
-use Rattle.std.proofs.Common.{◌≡◌, ◌⊎◌, ◌↔◌, ℕ, zero, suc, ◌+◌, ◌<◌, List, [], ◌∷◌, length, Contains, Ordering, Less, Equal, Greater, refl}
+use Rattle.std.proofs.Common.{◌≡◌, ◌⊎◌, ◌↔◌, zero, suc, List, [], ◌∷◌, Contains, Ordering, Less, Greater, refl}
 use Rattle.std.proofs.Common.{sym, ap, ◌∙◌, subst, inl, inr, arith}
 use Rattle.std.proofs.lemmas.Cmp.{nat_list_cmp_total, on_total}
 use Rattle.std.specs.Cmp.{IsTotalOrder}
 use Rattle.std.specs.Ordering.{ordering_reverse}
-use Rattle.std.specs.Prelude.{slice_index_or}
 use Rattle.srm_net.specs.declared.link.DropSpec.{DropSpec}
 use Rattle.srm_net.specs.DropSets.{ordered_once}
 use Rattle.srm_net.specs.Orders.{AllAfter, Ascends}
-use Rattle.srm_net.specs.Paths.{drop_cmp, is_listed}
+use Rattle.srm_net.specs.Paths.{drop_cmp}
 use Rattle.srm_net.proofs.DropLemmas.{drops_ascend, listed_ordered, contains_listed, listed_contains}
 
 Among : {A : Type 0} → A → List A → Type 0

@@ -1,10 +1,10 @@
 -- The scripts of an accepted scenario's members.
-use Rattle.std.proofs.Common.{zero, suc, ◌≡◌, ◌⊎◌, ℕ, ◌+◌, ◌<◌, ◌≤◌, ◌≢◌, Bool, true, false, List, [], ◌∷◌, ◌++◌, Option, Some, None, refl}
-use Rattle.std.proofs.Common.{sym, ap, ◌∙◌, inl, inr, arith, Ordering, Equal, slice_get, ◌==◌, eqb-true, nat_cmp, subst, cond, All, length}
+use Rattle.std.proofs.Common.{zero, suc, ◌≡◌, ℕ, ◌+◌, ◌<◌, ◌≤◌, ◌≢◌, Bool, true, false, List, [], ◌∷◌, ◌++◌, Option, Some, None, refl}
+use Rattle.std.proofs.Common.{sym, ap, ◌∙◌, inl, inr, arith, Equal, slice_get, ◌==◌, eqb-true, subst, cond, All}
 use Rattle.std.proofs.lemmas.List.Elements.{All-from_recursion, recursion_from_All}
 use Rattle.std.specs.List.{AllByRecursion}
 use Rattle.std.specs.Cmp.{IsTotalOrder, on_total}
-use Rattle.std.specs.Cmp.Lexicographic.{slice_cmp, nat_list_cmp_total}
+use Rattle.std.specs.Cmp.Lexicographic.{nat_list_cmp_total}
 use Rattle.std.specs.FinMap.{slice_cmp-IsAntisymmetric, nat_cmp-IsAntisymmetric}
 use Rattle.srm_net.specs.declared.role.Role.TheVariants.{Sender, Listener}
 use Rattle.srm_net.specs.Orders.{ordered, Ascends}
@@ -14,7 +14,7 @@ use Rattle.srm_scenario.specs.declared.parts.DrawSpec.{DrawSpec}
 use Rattle.srm_scenario.specs.declared.parts.SessionSpec.{SessionSpec}
 use Rattle.srm_scenario.specs.Plain.{PlainScenario, mark_cmp, plain_mark, draw_marks, report_marks, leave_marks, marks_of, script_of}
 use Rattle.srm_scenario.specs.Accepted.{IsAccepted, IsMember, IsThere, IsDraw, IsSession}
-use Rattle.srm_scenario.specs.Scripts.{IsMark, IsScript, ScriptsFit}
+use Rattle.srm_scenario.specs.Scripts.{IsMark, ScriptsFit}
 use Rattle.srm_scenario.proofs.Placed.{Apart, all_ordered, all_append, all_weaker, apart_append, ascends_ordered}
 
 -- ---- the order of marks

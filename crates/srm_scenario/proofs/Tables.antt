@@ -1,13 +1,21 @@
 -- Tables beside the members that they stand for, and what their look-ups give.
-use Rattle.std.proofs.Common.{◌≡◌, ℕ, Bool, true, false, List, [], ◌∷◌, Option, Some, None, map, ap, refl, sym, ◌∙◌, unwrap_or}
-use Rattle.std.specs.List.{list_any}
-use Rattle.std.specs.Option.{option_and_then, MatchOption}
+use Rattle.std.proofs.Common.{◌≡◌, ℕ, Bool, List, [], ◌∷◌, Option, Some, None, map, option_map, is_some, ap, refl, sym, ◌∙◌}
+use Rattle.std.specs.List.{list_any, list_all}
+use Rattle.std.proofs.Common.{length, nat_le}
+use Rattle.srm_scenario.specs.declared.rule.Kind.TheVariants.{Numbers, Elements}
 use Rattle.std.specs.Prelude.{◌||◌, ◌&&◌}
 use Rattle.std.specs.Str.{bytes_eq}
-use Rattle.toml.specs.Data.{Data, Members, member, get_member}
-use Rattle.srm_scenario.specs.Rules.{Kind, has_only, is_met, is_whole, rule, meets, whole, required, optional}
-use Rattle.srm_scenario.specs.Described.{number_of}
-use Rattle.srm_scenario.specs.LookUps.{IsNumber, HasNumber, MayHaveNumber}
+use Rattle.toml.specs.Data.{Data, Items, Members, member, string, integer, float, boolean, datetime, array, table, as_array, get_member}
+use Rattle.toml.specs.View.{view, items_view, members_view}
+use Rattle.std.proofs.Common.{Bor, nat_cmp, string_bytes}
+use Rattle.std.specs.BTreeMap.{is_at}
+use Rattle.std.specs.Cmp.Lexicographic.{slice_cmp}
+use Rattle.std.specs.Map.{lookup}
+use Rattle.toml.proofs.Views.{Entry, table_get}
+use Rattle.toml.specs.declared.value.Value.{Value}
+use Rattle.srm_scenario.specs.Rules.{has_only, is_kind, is_whole, all_whole, count_items}
+use Rattle.srm_scenario.specs.Described.{array_of}
+use Rattle.srm_scenario.proofs.Arrays.{items_list-of, count-view, all_whole-view}
 
 pub list_any-map : {A B : Type 0} (p : B → Bool) (f : A → B) (xs : List A) → list_any p (map f xs) ≡ list_any (λ x. p (f x)) xs
 list_any-map p f [] = refl
@@ -17,38 +25,62 @@ pub has_only-step : (keys : List (List ℕ)) (k : List ℕ) (d : Data) (ms : Mem
     → has_only keys (member k d ms) ≡ (b && has_only keys ms)
 has_only-step keys k d ms b h = ap (λ c. c && has_only keys ms) h
 
--- ---- numbers
+pub is_some-map : {A B : Type 0} (f : A → B) (o : Option A) (p : Option B) → option_map f o ≡ p → is_some o ≡ is_some p
+is_some-map f None p e = ap is_some e
+is_some-map f (Some x) p e = ap is_some e
 
-pub number-there : (key : List ℕ) (low high : ℕ) (ms : Members) (d : Data) (o : Option ℕ) → Some d ≡ get_member key ms
-    → MatchOption o (is_whole low high d ≡ false) (IsNumber low high d)
-    → MatchOption o (is_met ms (rule key (whole low high) required) ≡ false) (HasNumber key low high ms)
-number-there key low high ms d None got h = ap (meets required (whole low high)) (sym got) ∙ h
-number-there key low high ms d (Some n) got h = record {
-  met = ap (meets required (whole low high)) (sym got) ∙ h.whole;
-  is = ap (λ (o : Option Data). unwrap_or (option_and_then number_of o) 0) (sym got) ∙ ap (λ (o : Option ℕ). unwrap_or o 0) h.is;
-  least = h.least;
-  most = h.most;
-}
+-- the values of an array that was found
+pub array_found : (o : Option Data) (d : Data) (vs : List Value) → Some d ≡ o → Some (items_view vs) ≡ as_array d
+    → map view vs ≡ array_of o
+array_found o (array ds) vs got is =
+    let same : items_view vs ≡ ds = cc in
+    sym (ap array_of (sym got ∙ ap (λ (e : _). Some (array e)) (sym same)) ∙ items_list-of (map view vs))
+array_found o (string t) vs got is = cc
+array_found o (integer t) vs got is = cc
+array_found o (float t) vs got is = cc
+array_found o (boolean t) vs got is = cc
+array_found o (datetime t) vs got is = cc
+array_found o (table t) vs got is = cc
 
-pub number-absent : (key : List ℕ) (low high : ℕ) (ms : Members) → None ≡ get_member key ms → is_met ms (rule key (whole low high) required)
-    ≡ false
-number-absent key low high ms got = ap (meets required (whole low high)) (sym got)
+-- what was found is no array
+pub no_array_found : (o : Option Data) (d : Data) → Some d ≡ o → None ≡ as_array d → [] ≡ array_of o
+no_array_found o (array ds) got is = cc
+no_array_found o (string t) got is = ap array_of got
+no_array_found o (integer t) got is = ap array_of got
+no_array_found o (float t) got is = ap array_of got
+no_array_found o (boolean t) got is = ap array_of got
+no_array_found o (datetime t) got is = ap array_of got
+no_array_found o (table t) got is = ap array_of got
 
-pub optional-there : (key : List ℕ) (low high : ℕ) (ms : Members) (d : Data) (n : ℕ) → Some d ≡ get_member key ms
-    → IsNumber low high d n → MayHaveNumber key low high ms (Some n)
-optional-there key low high ms d n got h = record {
-  met = ap (meets optional (whole low high)) (sym got) ∙ h.whole;
-  is = ap (option_and_then number_of) (sym got) ∙ h.is;
-  within = (h.least, h.most);
-}
+-- what a table has at a key
+pub looked_up : (r : Option (Bor Value)) (name key : List ℕ) (es : List Entry) → name ≡ key
+    → option_map (λ x. x.now) r ≡ lookup (is_at (λ x. slice_cmp nat_cmp name (string_bytes x))) es
+    → option_map (λ x. view x.now) r ≡ get_member key (members_view es)
+looked_up r name key es same found = table_get r name es found ∙ ap (λ (k : List ℕ). get_member k (members_view es)) same
 
-pub optional-wrong : (key : List ℕ) (low high : ℕ) (ms : Members) (d : Data) → Some d ≡ get_member key ms
-    → is_whole low high d ≡ false → is_met ms (rule key (whole low high) optional) ≡ false
-optional-wrong key low high ms d got h = ap (meets optional (whole low high)) (sym got) ∙ h
+-- whether an array has few enough values
+pub are_few : (most : ℕ) (d : Data) (vs : List Value) → Some (items_view vs) ≡ as_array d
+    → nat_le (length vs) most ≡ is_kind (Elements most) d
+are_few most (array ds) vs is =
+    let same : items_view vs ≡ ds = cc in
+    ap (λ n. nat_le n most) (sym (count-view vs)) ∙ ap (λ (e : Items). nat_le (count_items e) most) same
+are_few most (string t) vs is = cc
+are_few most (integer t) vs is = cc
+are_few most (float t) vs is = cc
+are_few most (boolean t) vs is = cc
+are_few most (datetime t) vs is = cc
+are_few most (table t) vs is = cc
 
-pub optional-absent : (key : List ℕ) (low high : ℕ) (ms : Members) → None ≡ get_member key ms → MayHaveNumber key low high ms None
-optional-absent key low high ms got = record {
-  met = ap (meets optional (whole low high)) (sym got);
-  is = ap (option_and_then number_of) (sym got);
-  within = tt;
-}
+-- and each of them is a whole number up to a limit
+pub are_small : (most high : ℕ) (d : Data) (vs : List Value) → Some (items_view vs) ≡ as_array d
+    → (nat_le (length vs) most && list_all (λ v. is_whole 0 high (view v)) vs) ≡ is_kind (Numbers most high) d
+are_small most high (array ds) vs is =
+    let same : items_view vs ≡ ds = cc in
+    (λ i. nat_le (sym (count-view vs) i) most && all_whole-view high vs i)
+    ∙ ap (λ (e : Items). nat_le (count_items e) most && all_whole high e) same
+are_small most high (string t) vs is = cc
+are_small most high (integer t) vs is = cc
+are_small most high (float t) vs is = cc
+are_small most high (boolean t) vs is = cc
+are_small most high (datetime t) vs is = cc
+are_small most high (table t) vs is = cc

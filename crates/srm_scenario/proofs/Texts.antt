@@ -18,7 +18,8 @@ use Rattle.srm_scenario.specs.declared.fault.Part.{Part}
 use Rattle.srm_scenario.specs.declared.fault.Part.TheVariants as part
 use Rattle.srm_scenario.specs.declared.version.Version.{Version}
 use Rattle.srm_scenario.specs.Described.{array_at, version_of, described_scenario}
-use Rattle.srm_scenario.specs.Rules.{Rule, fits, fits_element, link_rules, member_rules, draw_rules, session_rules, drop_rules}
+use Rattle.srm_scenario.specs.declared.rule.Rule.{Rule}
+use Rattle.srm_scenario.specs.Rules.{fits, fits_element, link_rules, member_rules, draw_rules, session_rules, drop_rules}
 use Rattle.srm_scenario.specs.Rules.{outage_rules}
 use Rattle.srm_scenario.specs.Trees.{is_tree}
 use Rattle.srm_scenario.specs.Faults.{fault_unless, faults_by, rules_of_top, top_faults, member_faults, fits_member, fits_draw}

@@ -1,6 +1,6 @@
 -- What is wrong with a table or a text that is to be a scenario, and the scenario where nothing is.
 use Rattle.std.specs.Prelude.{⊤, ◌≡◌, ◌⊎◌, ℕ, ◌+◌, Bool, true, false, not, ◌&&◌, ◌||◌, List, [], ◌∷◌, ◌++◌, Option}
-use Rattle.std.specs.Prelude.{Some, None, Result, Ok, Err, is_some, codes, length, slice_get, nat_le, nat_lt, ◌==◌}
+use Rattle.std.specs.Prelude.{Some, None, Result, Ok, Err, is_some, codes, length, slice_get, nat_lt, ◌==◌}
 use Rattle.std.specs.Prelude.{if◌then◌else◌}
 use Rattle.std.specs.List.{list_any}
 use Rattle.std.specs.Io.KnownBytes.{IsAtEnd}
@@ -24,7 +24,8 @@ use Rattle.srm_scenario.specs.declared.topology.Topology.{Topology}
 use Rattle.srm_scenario.specs.declared.topology.Topology.TheVariants.{Star}
 use Rattle.srm_scenario.specs.Plain.{PlainScenario, network_of}
 use Rattle.srm_scenario.specs.Trees.{is_tree}
-use Rattle.srm_scenario.specs.Rules.{Rule, top_rules, link_rules, member_rules, draw_rules, session_rules, drop_rules}
+use Rattle.srm_scenario.specs.declared.rule.Rule.{Rule}
+use Rattle.srm_scenario.specs.Rules.{top_rules, link_rules, member_rules, draw_rules, session_rules, drop_rules}
 use Rattle.srm_scenario.specs.Rules.{outage_rules, fits, fits_element}
 use Rattle.srm_scenario.specs.Presence.{is_present}
 use Rattle.srm_scenario.specs.Described.{version_of, member_of, says, array_at, table_of, elements_at, topology_of}

@@ -1,6 +1,8 @@
 pub mod Plain
 pub mod Accepted
 pub mod Pages
+pub mod Keys
+pub mod KeyLimits
 pub mod Rules
 pub mod Described
 pub mod Trees

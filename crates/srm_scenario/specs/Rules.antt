@@ -8,31 +8,25 @@ use Rattle.srm_scenario.specs.declared.version.Version.TheVariants.{One, Two}
 use Rattle.toml.specs.Data.{Data, Items, Members, integer, string, array, table, no_items, item, no_members, member}
 use Rattle.toml.specs.Data.{get_member}
 use Rattle.srm_net.specs.Limits.{end_of_time, greatest_constant, most_listed}
+use Rattle.srm_scenario.specs.declared.key.Key.{Key}
+use Rattle.srm_scenario.specs.declared.key.Key.TheVariants as key
+use Rattle.srm_scenario.specs.declared.rule.Kind.{Kind}
+use Rattle.srm_scenario.specs.declared.rule.Kind.TheVariants.{Whole, Word, Numbers, Elements}
+use Rattle.srm_scenario.specs.declared.rule.Need.{Need}
+use Rattle.srm_scenario.specs.declared.rule.Need.TheVariants.{Required, Optional, Refused}
+use Rattle.srm_scenario.specs.declared.rule.Rule.{Rule}
+use Rattle.srm_scenario.specs.declared.rule.Words.{Words}
+use Rattle.srm_scenario.specs.declared.rule.Words.TheVariants.{Roles, Topologies}
+use Rattle.srm_scenario.specs.Keys.{name_of}
+use Rattle.srm_scenario.specs.KeyLimits.{greatest_delay, last_count, last_ink, last_page, last_stream, most_pages}
 
--- what a key may hold
-pub data Kind : Type 0 where
-  -- a whole number from the first to the second, both allowed
-  whole : ℕ → ℕ → Kind
-  -- one of these words
-  word : List (List ℕ) → Kind
-  -- an array of at most so many whole numbers, none above the second
-  numbers : ℕ → ℕ → Kind
-  -- an array of at most so many elements, which are a part of their own
-  elements : ℕ → Kind
-
--- whether a key must be there
-pub data Need : Type 0 where
-  required : Need
-  optional : Need
-  refused : Need
+-- the words of a set, one of which a key may hold
+abbrev pub words_of : Words → List (List ℕ)
+words_of Roles = codes "sender" ∷ codes "receiver" ∷ codes "late" ∷ codes "listener" ∷ []
+words_of Topologies = codes "chain" ∷ codes "star" ∷ codes "tree" ∷ []
 
 -- what the format says of one key
-pub record Rule : Type 0 where
-  pub key : List ℕ
-  pub kind : Kind
-  pub need : Need
-
-abbrev pub rule : List ℕ → Kind → Need → Rule
+abbrev pub rule : Key → Kind → Need → Rule
 rule key kind need = record { key = key; kind = kind; need = need }
 
 -- ---- what differs between the versions
@@ -59,54 +53,54 @@ allows_outages Two = true
 -- ---- the table of the format
 
 -- the number of a node, a link or a member
-abbrev pub index_rule : List ℕ → Version → Rule
-index_rule key version = rule key (whole 0 (last_number version)) required
+abbrev pub index_rule : Key → Version → Rule
+index_rule k version = rule k (Whole 0 (last_number version)) Required
 
 -- numbers of the top table
 abbrev pub number_rules : List Rule
 number_rules =
-    rule (codes "version") (whole 1 2) required
-    ∷ rule (codes "until") (whole 1 end_of_time) required
-    ∷ rule (codes "c1") (whole 0 greatest_constant) required
-    ∷ rule (codes "c2") (whole 0 greatest_constant) required
-    ∷ rule (codes "d1") (whole 0 greatest_constant) required
-    ∷ rule (codes "d2") (whole 0 greatest_constant) required
+    rule key.Version (Whole 1 2) Required
+    ∷ rule key.Until (Whole 1 end_of_time) Required
+    ∷ rule key.C1 (Whole 0 greatest_constant) Required
+    ∷ rule key.C2 (Whole 0 greatest_constant) Required
+    ∷ rule key.D1 (Whole 0 greatest_constant) Required
+    ∷ rule key.D2 (Whole 0 greatest_constant) Required
     ∷ []
 
 -- the topology that the top table names, and the degree of its tree
 abbrev pub topology_rule : Rule
-topology_rule = rule (codes "topology") (word (codes "chain" ∷ codes "star" ∷ codes "tree" ∷ [])) optional
+topology_rule = rule key.Topology (Word Topologies) Optional
 
 abbrev pub degree_rule : Version → Bool → Rule
-degree_rule version tree = rule (codes "degree") (whole 2 (last_number version)) (if tree then required else refused)
+degree_rule version tree = rule key.Degree (Whole 2 (last_number version)) (if tree then Required else Refused)
 
 -- the second delay of a link, or of each link of a topology
 abbrev pub back_rule : Bool → Rule
-back_rule allowed = rule (codes "back") (whole 1 1000000) (if allowed then optional else refused)
+back_rule allowed = rule key.Back (Whole 1 greatest_delay) (if allowed then Optional else Refused)
 
 -- nodes and links, in the top table: `shaped` where it names a topology, `tree` where that is a tree
 abbrev pub shape_rules : Version → Bool → Bool → List Rule
 shape_rules version shaped tree =
-    rule (codes "nodes") (whole 1 (most_nodes version)) (if shaped then refused else required)
+    rule key.Nodes (Whole 1 (most_nodes version)) (if shaped then Refused else Required)
     ∷ topology_rule
-    ∷ rule (codes "size") (whole 1 (most_nodes version)) (if shaped then required else refused)
-    ∷ rule (codes "delay") (whole 1 1000000) (if shaped then required else refused)
+    ∷ rule key.Size (Whole 1 (most_nodes version)) (if shaped then Required else Refused)
+    ∷ rule key.Delay (Whole 1 greatest_delay) (if shaped then Required else Refused)
     ∷ back_rule (shaped && allows_back version)
     ∷ degree_rule version tree
-    ∷ rule (codes "link") (elements (last_number version)) (if shaped then refused else optional)
+    ∷ rule key.Link (Elements (last_number version)) (if shaped then Refused else Optional)
     ∷ []
 
 -- the outages of links
 abbrev pub outage_rule : Bool → Rule
-outage_rule allowed = rule (codes "outage") (elements most_listed) (if allowed then optional else refused)
+outage_rule allowed = rule key.Outage (Elements most_listed) (if allowed then Optional else Refused)
 
 -- the other arrays of the top table
 abbrev pub array_rules : Version → List Rule
 array_rules version =
-    rule (codes "member") (elements (most_nodes version)) optional
-    ∷ rule (codes "draw") (elements most_listed) optional
-    ∷ rule (codes "session") (elements most_listed) optional
-    ∷ rule (codes "drop") (elements most_listed) optional
+    rule key.Member (Elements (most_nodes version)) Optional
+    ∷ rule key.Draw (Elements most_listed) Optional
+    ∷ rule key.Session (Elements most_listed) Optional
+    ∷ rule key.Drop (Elements most_listed) Optional
     ∷ outage_rule (allows_outages version)
     ∷ []
 
@@ -115,56 +109,55 @@ top_rules version shaped tree = number_rules ++ (shape_rules version shaped tree
 
 abbrev pub link_rules : Version → List Rule
 link_rules version =
-    index_rule (codes "a") version
-    ∷ index_rule (codes "b") version
-    ∷ rule (codes "delay") (whole 1 1000000) required
+    index_rule key.A version
+    ∷ index_rule key.B version
+    ∷ rule key.Delay (Whole 1 greatest_delay) Required
     ∷ back_rule (allows_back version)
     ∷ []
 
 -- the rules of two keys of a member
 abbrev pub role_rule : Rule
-role_rule = rule (codes "role")
-    (word (codes "sender" ∷ codes "receiver" ∷ codes "late" ∷ codes "listener" ∷ [])) required
+role_rule = rule key.Role (Word Roles) Required
 
 abbrev pub pages_rule : Rule
-pages_rule = rule (codes "pages") (numbers 256 65535) optional
+pages_rule = rule key.Pages (Numbers most_pages last_page) Optional
 
 abbrev pub member_rules : Version → List Rule
 member_rules version =
-    index_rule (codes "node") version
+    index_rule key.Node version
     ∷ role_rule
-    ∷ rule (codes "stream") (whole 0 9223372036854775807) required
-    ∷ rule (codes "join") (whole 0 end_of_time) optional
-    ∷ rule (codes "leave") (whole 1 end_of_time) optional
+    ∷ rule key.Stream (Whole 0 last_stream) Required
+    ∷ rule key.Join (Whole 0 end_of_time) Optional
+    ∷ rule key.Leave (Whole 1 end_of_time) Optional
     ∷ pages_rule
     ∷ []
 
 abbrev pub draw_rules : Version → List Rule
 draw_rules version =
-    index_rule (codes "member") version
-    ∷ rule (codes "page") (whole 0 65535) required
-    ∷ rule (codes "ink") (whole 0 4294967295) required
-    ∷ rule (codes "at") (whole 0 end_of_time) required
+    index_rule key.Member version
+    ∷ rule key.Page (Whole 0 last_page) Required
+    ∷ rule key.Ink (Whole 0 last_ink) Required
+    ∷ rule key.At (Whole 0 end_of_time) Required
     ∷ []
 
 abbrev pub session_rules : Version → List Rule
 session_rules version =
-    index_rule (codes "member") version
-    ∷ rule (codes "at") (whole 0 end_of_time) required
+    index_rule key.Member version
+    ∷ rule key.At (Whole 0 end_of_time) Required
     ∷ []
 
 abbrev pub drop_rules : Version → List Rule
 drop_rules version =
-    index_rule (codes "link") version
-    ∷ index_rule (codes "sender") version
-    ∷ rule (codes "count") (whole 0 4294967295) required
+    index_rule key.Link version
+    ∷ index_rule key.Sender version
+    ∷ rule key.Count (Whole 0 last_count) Required
     ∷ []
 
 abbrev pub outage_rules : Version → List Rule
 outage_rules version =
-    index_rule (codes "link") version
-    ∷ rule (codes "from") (whole 0 end_of_time) required
-    ∷ rule (codes "to") (whole 1 end_of_time) required
+    index_rule key.Link version
+    ∷ rule key.From (Whole 0 end_of_time) Required
+    ∷ rule key.To (Whole 1 end_of_time) Required
     ∷ []
 
 -- ---- whether a table meets rules
@@ -191,23 +184,23 @@ all_whole high (item d ds) = is_whole 0 high d && all_whole high ds
 
 -- the value is of this kind
 abbrev pub is_kind : Kind → Data → Bool
-is_kind (whole low high) d = is_whole low high d
-is_kind (word ws) d = list_any (λ w. is_text w d) ws
-is_kind (numbers most high) (array ds) = nat_le (count_items ds) most && all_whole high ds
-is_kind (elements most) (array ds) = nat_le (count_items ds) most
+is_kind (Whole low high) d = is_whole low high d
+is_kind (Word ws) d = list_any (λ w. is_text w d) (words_of ws)
+is_kind (Numbers most high) (array ds) = nat_le (count_items ds) most && all_whole high ds
+is_kind (Elements most) (array ds) = nat_le (count_items ds) most
 is_kind k d = false
 
 -- what stands at a key, if anything, is as it must be
 abbrev pub meets : Need → Kind → Option Data → Bool
-meets required k None = false
-meets required k (Some d) = is_kind k d
-meets optional k None = true
-meets optional k (Some d) = is_kind k d
-meets refused k None = true
-meets refused k (Some d) = false
+meets Required k None = false
+meets Required k (Some d) = is_kind k d
+meets Optional k None = true
+meets Optional k (Some d) = is_kind k d
+meets Refused k None = true
+meets Refused k (Some d) = false
 
 abbrev pub is_met : Members → Rule → Bool
-is_met ms r = meets r.need r.kind (get_member r.key ms)
+is_met ms r = meets r.need r.kind (get_member (name_of r.key) ms)
 
 -- the table has no keys but these
 abbrev pub has_only : List (List ℕ) → Members → Bool
@@ -216,7 +209,7 @@ has_only keys (member k d ms) = list_any (λ key. bytes_eq key k) keys && has_on
 
 -- the table has no unknown key, and each rule is met
 abbrev pub fits : List Rule → Members → Bool
-fits rules ms = has_only (map (λ r. r.key) rules) ms && list_all (is_met ms) rules
+fits rules ms = has_only (map (λ r. name_of r.key) rules) ms && list_all (is_met ms) rules
 
 -- the value is a table that fits the rules
 abbrev pub fits_element : List Rule → Data → Bool

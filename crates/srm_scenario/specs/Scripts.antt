@@ -1,5 +1,5 @@
 -- What every member's script has.
-use Rattle.std.specs.Prelude.{◌≡◌, ◌≢◌, ◌⊎◌, ℕ, ◌<◌, ◌≤◌, All, List, Option, Some, slice_get}
+use Rattle.std.specs.Prelude.{◌≡◌, ◌≢◌, ◌⊎◌, ℕ, ◌<◌, ◌≤◌, All, List, Some, slice_get}
 use Rattle.srm_net.specs.declared.role.Role.TheVariants.{Sender, Listener}
 use Rattle.srm_net.specs.Orders.{Ascends}
 use Rattle.srm_scenario.specs.declared.mark.Mark.{Mark}

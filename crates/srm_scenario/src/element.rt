@@ -13,7 +13,7 @@ use toml::{Table, Value};
 pub(crate) trait Element: Sized + Drop {
     ghost use Rattle.std.specs.Prelude.{List};
     ghost use Rattle.srm_scenario.specs.declared.version.Version.{Version};
-    ghost use Rattle.srm_scenario.specs.Rules.{Rule};
+    ghost use Rattle.srm_scenario.specs.declared.rule.Rule.{Rule};
     ghost use Rattle.toml.specs.Data.{Members};
 
     // What its table is to have, in each version of the format.

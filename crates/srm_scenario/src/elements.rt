@@ -6,9 +6,10 @@ ghost use Rattle.srm_scenario.specs.Described.{link_of, draw_of, session_of, dro
 ghost use Rattle.srm_scenario.specs.Faults.{accepted};
 
 use crate::element::Element;
-use crate::limits::{GREATEST_DELAY, LAST_TICK};
+use crate::key::Key;
 use crate::parts::{DrawSpec, SessionSpec};
-use crate::table::{back, has_only, index, number};
+use crate::rules::{draw_rules, drop_rules, link_rules, outage_rules, session_rules};
+use crate::table::{fits, number, optional_number};
 use crate::version::Version;
 use srm_net::link::{DropSpec, LinkSpec, OutageSpec};
 use srm_net::packet::PacketId;
@@ -18,75 +19,70 @@ use toml::Table;
 fn link_of(version: Version, table: &Table) -> Option<LinkSpec>
     ensures { result ≡ accepted (link_rules version) link_of (table_view table.now) }
 {
-    if !has_only(table, &["a", "b", "delay", "back"]) {
+    if !fits(table, &link_rules(version)) {
         return None;
     }
-    let a = index(table, "a", version)?;
-    let b = index(table, "b", version)?;
-    let delay = number(table, "delay", 1, GREATEST_DELAY)?;
-    let back = back(table, version.allows_back())?;
+    let delay = number(table, Key::Delay);
     Some(LinkSpec {
-        a,
-        b,
+        a: number(table, Key::A) as u16,
+        b: number(table, Key::B) as u16,
         delay,
-        back: back.unwrap_or(delay),
+        back: optional_number(table, Key::Back).unwrap_or(delay),
     })
 }
 
 fn draw_of(version: Version, table: &Table) -> Option<DrawSpec>
     ensures { result ≡ accepted (draw_rules version) draw_of (table_view table.now) }
 {
-    if !has_only(table, &["member", "page", "ink", "at"]) {
+    if !fits(table, &draw_rules(version)) {
         return None;
     }
-    let member = index(table, "member", version)?;
-    let page = number(table, "page", 0, 65535)?;
-    let ink = number(table, "ink", 0, 4_294_967_295)?;
-    let at = number(table, "at", 0, LAST_TICK)?;
     Some(DrawSpec {
-        member,
-        page: page as u16,
-        ink: ink as u32,
-        at,
+        member: number(table, Key::Member) as u16,
+        page: number(table, Key::Page) as u16,
+        ink: number(table, Key::Ink) as u32,
+        at: number(table, Key::At),
     })
 }
 
 fn session_of(version: Version, table: &Table) -> Option<SessionSpec>
     ensures { result ≡ accepted (session_rules version) session_of (table_view table.now) }
 {
-    if !has_only(table, &["member", "at"]) {
+    if !fits(table, &session_rules(version)) {
         return None;
     }
-    let member = index(table, "member", version)?;
-    let at = number(table, "at", 0, LAST_TICK)?;
-    Some(SessionSpec { member, at })
+    Some(SessionSpec {
+        member: number(table, Key::Member) as u16,
+        at: number(table, Key::At),
+    })
 }
 
 fn drop_of(version: Version, table: &Table) -> Option<DropSpec>
     ensures { result ≡ accepted (drop_rules version) drop_of (table_view table.now) }
 {
-    if !has_only(table, &["link", "sender", "count"]) {
+    if !fits(table, &drop_rules(version)) {
         return None;
     }
-    let link = index(table, "link", version)?;
-    let sender = index(table, "sender", version)?;
-    let count = number(table, "count", 0, 4_294_967_295)?;
     Some(DropSpec {
-        link,
-        id: PacketId { sender, count },
+        link: number(table, Key::Link) as u16,
+        id: PacketId {
+            sender: number(table, Key::Sender) as u16,
+            count: number(table, Key::Count),
+        },
     })
 }
 
 fn outage_of(version: Version, table: &Table) -> Option<OutageSpec>
     ensures { result ≡ accepted (outage_rules version) outage_of (table_view table.now) }
 {
-    if !has_only(table, &["link", "from", "to"]) {
+    if !fits(table, &outage_rules(version)) {
         return None;
     }
-    let link = index(table, "link", version)?;
-    let from = number(table, "from", 0, LAST_TICK)?;
-    let to = number(table, "to", 1, LAST_TICK)?;
-    Some(OutageSpec { link, from, to })
+    Some(OutageSpec {
+        link: number(table, Key::Link) as u16,
+        from: number(table, Key::From),
+        to: number(table, Key::To),
+    })
 }
 
 impl Element for LinkSpec {

@@ -1,4 +1,7 @@
-//! The bounds of a scenario file's numbers and arrays.
+//! The limits of a scenario file's numbers and arrays.
+
+/// The last version of the format.
+pub(crate) const LAST_VERSION: u64 = 2;
 
 /// The last tick that a file may name: 2^40.
 pub(crate) const LAST_TICK: u64 = 1_099_511_627_776;
@@ -9,5 +12,20 @@ pub(crate) const GREATEST_DELAY: u64 = 1_000_000;
 /// The greatest constant of timers, in thousandths.
 pub(crate) const GREATEST_CONSTANT: u64 = 64_000;
 
+/// The last stream of random words.
+pub(crate) const LAST_STREAM: u64 = 9_223_372_036_854_775_807;
+
+/// The last number of a page.
+pub(crate) const LAST_PAGE: u64 = 65_535;
+
+/// The last number of an ink.
+pub(crate) const LAST_INK: u64 = 4_294_967_295;
+
+/// The last count that a drop may name, of the packets of a sender.
+pub(crate) const LAST_COUNT: u64 = 4_294_967_295;
+
+/// At most so many pages does a late member ask for.
+pub(crate) const MOST_PAGES: u64 = 256;
+
 /// At most so many draws may a file list, and so many session messages, drops and outages.
-pub(crate) const MOST_LISTED: usize = 4096;
+pub(crate) const MOST_LISTED: u64 = 4096;

@@ -1,171 +1,207 @@
-//! Looking up the keys of a table.
-ghost use Rattle.std.specs.Prelude.{◌≡◌, ℕ, ◌≤◌, true, false, length, map, MatchOption, Some, None, option_map, is_some};
-ghost use Rattle.std.specs.Option.{option_and_then};
-ghost use Rattle.toml.specs.Data.{as_str, get_member};
-ghost use Rattle.std.specs.List.{list_any};
+//! Tables beside the rules of their keys, and the values at their keys.
+ghost use Rattle.std.specs.Prelude.{◌≡◌, Some, None, MatchOption, map, is_some};
+ghost use Rattle.std.specs.List.{list_any, list_all};
 ghost use Rattle.std.specs.Str.{bytes_eq};
-ghost use Rattle.toml.specs.View.{view, table_view, items_view};
-ghost use Rattle.srm_scenario.specs.Rules.{rule, whole, elements, required, optional, most_nodes, index_rule, back_rule, outage_rule, degree_rule, is_met, is_whole, has_only};
-ghost use Rattle.srm_scenario.specs.LookUps.{IsNumber, HasNumber, MayHaveNumber, HasIndex, HasNodes, HasTreeDegree, HasBack, HasOutages, IsArray};
+ghost use Rattle.toml.specs.Data.{as_array, get_member};
+ghost use Rattle.toml.specs.View.{view, items_view, table_view};
+ghost use Rattle.srm_scenario.specs.declared.rule.Kind.TheVariants.{Numbers, Elements};
+ghost use Rattle.srm_scenario.specs.Keys.{name_of};
+ghost use Rattle.srm_scenario.specs.Rules.{fits, has_only, is_met, is_kind, is_whole, is_text, words_of};
+ghost use Rattle.srm_scenario.specs.Described.{number, number_of, optional_number, array_at, says};
 
-use crate::limits::{GREATEST_DELAY, MOST_LISTED};
-use crate::version::Version;
+use crate::key::Key;
+use crate::rule::{Kind, Need, Rule, Words};
 use toml::{Table, Value};
 
-/// Whether the key is one of these.
-fn is_one_of(key: &str, keys: &[&str]) -> bool
-    ensures { result ≡ list_any (λ k. bytes_eq k.now key.now) keys.now }
+/// Whether the table has no unknown key, and each rule is met.
+pub(crate) fn fits(table: &Table, rules: &[Rule]) -> bool
+    ensures { result ≡ fits rules.now (table_view table.now) }
 {
-    keys.iter().any(|known| *known == key)
+    has_only(table, rules) && are_met(table, rules)
 }
 
-/// Whether the table has no keys but these.
-pub(crate) fn has_only(table: &Table, keys: &[&str]) -> bool
-    ensures { result ≡ has_only (map (λ k. k.now) keys.now) (table_view table.now) }
+/// Whether each rule is met.
+fn are_met(table: &Table, rules: &[Rule]) -> bool
+    ensures { result ≡ list_all (is_met (table_view table.now)) rules.now }
+{
+    rules.iter().all(|rule| is_met(table, *rule))
+}
+
+/// Whether these rules have the key.
+fn is_known(key: &str, rules: &[Rule]) -> bool
+    ensures { result ≡ list_any (λ r. bytes_eq (name_of r.key) key.now) rules.now }
+{
+    rules.iter().any(|rule| rule.key.name() == key)
+}
+
+/// Whether the table has no keys but those of the rules.
+fn has_only(table: &Table, rules: &[Rule]) -> bool
+    ensures { result ≡ has_only (map (λ r. name_of r.key) rules.now) (table_view table.now) }
 {
     for (key, _value) in table.iter() {
-        if !is_one_of(key.as_str(), &*keys) {
+        if !is_known(key.as_str(), rules) {
             return false;
         }
     }
     true
 }
 
-/// The whole number that a value is, if it is one from `low` to `high`.
-pub(crate) fn whole(value: &Value, low: u64, high: u64) -> Option<u64>
-    ensures { MatchOption result (is_whole low high (view value.now) ≡ false) (IsNumber low high (view value.now)) }
+/// Whether what stands at a rule's key, if anything, is as it must be.
+fn is_met(table: &Table, rule: Rule) -> bool
+    ensures { result ≡ is_met (table_view table.now) rule }
 {
-    if let Value::Integer(n) = value
-        && *n >= 0
-        && low <= *n as u64
-        && *n as u64 <= high
-    {
-        return Some(*n as u64);
+    match table.get(rule.key.name()) {
+        Some(value) => match rule.need {
+            Need::Required | Need::Optional => is_kind(value, rule.kind),
+            Need::Refused => false,
+        },
+        None => match rule.need {
+            Need::Required => false,
+            Need::Optional | Need::Refused => true,
+        },
     }
-    None
 }
 
-/// The whole number at a key that must be there, if it is one from `low` to `high`.
-pub(crate) fn number(table: &Table, key: &str, low: u64, high: u64) -> Option<u64>
-    ensures { MatchOption result
-        (is_met (table_view table.now) (rule key.now (whole low high) required) ≡ false)
-        (HasNumber key.now low high (table_view table.now)) }
+/// Whether a value is of a kind.
+fn is_kind(value: &Value, kind: Kind) -> bool
+    ensures { result ≡ is_kind kind (view value.now) }
 {
-    match table.get(key) {
-        Some(value) => whole(value, low, high),
+    match kind {
+        Kind::Whole(low, high) => is_whole(value, low, high),
+        Kind::Word(words) => is_word(value, words),
+        Kind::Numbers(most, high) => are_numbers(value, most, high),
+        Kind::Elements(most) => are_elements(value, most),
+    }
+}
+
+/// The values of an array, if a value is one.
+fn values_of(value: &Value) -> Option<&[Value]>
+    ensures { MatchOption result (None ≡ as_array (view value.now))
+        (λ values. Some (items_view values.now) ≡ as_array (view value.now)) }
+{
+    match value.as_array() {
+        Some(values) => Some(values.as_slice()),
         None => None,
     }
 }
 
-/// The number of a node, a link or a member at a key that must be there, if it is one of the version.
-pub(crate) fn index(table: &Table, key: &str, version: Version) -> Option<u16>
-    ensures { MatchOption result
-        (is_met (table_view table.now) (index_rule key.now version) ≡ false)
-        (HasIndex key.now version (table_view table.now)) }
+/// Whether a value is an array of at most so many elements.
+fn are_elements(value: &Value, most: u64) -> bool
+    ensures { result ≡ is_kind (Elements most) (view value.now) }
 {
-    let n = number(table, key, 0, u64::from(version.last_number()))?;
-    Some(n as u16)
-}
-
-/// The number of nodes at a key that must be there, if it is one of the version.
-pub(crate) fn nodes(table: &Table, key: &str, version: Version) -> Option<u16>
-    ensures { MatchOption result
-        (is_met (table_view table.now) (rule key.now (whole 1 (most_nodes version)) required) ≡ false)
-        (HasNodes key.now version (table_view table.now)) }
-{
-    let n = number(table, key, 1, u64::from(version.most_nodes()))?;
-    Some(n as u16)
-}
-
-/// The degree of a tree, which must be there, if it is one of the version.
-pub(crate) fn degree(table: &Table, version: Version) -> Option<u16>
-    ensures { MatchOption result
-        (is_met (table_view table.now) (degree_rule version true) ≡ false)
-        (HasTreeDegree version (table_view table.now)) }
-{
-    let n = number(table, "degree", 2, u64::from(version.last_number()))?;
-    Some(n as u16)
-}
-
-/// The whole number at a key that need not be there, if it is one from `low` to `high`: `Some(None)` where the key is not there.
-pub(crate) fn optional_number(table: &Table, key: &str, low: u64, high: u64) -> Option<Option<u64>>
-    ensures { MatchOption result
-        (is_met (table_view table.now) (rule key.now (whole low high) optional) ≡ false)
-        (MayHaveNumber key.now low high (table_view table.now)) }
-{
-    match table.get(key) {
-        Some(value) => match whole(value, low, high) {
-            Some(n) => Some(Some(n)),
-            None => None,
-        },
-        None => Some(None),
+    match values_of(value) {
+        Some(values) => values.len() as u64 <= most,
+        None => false,
     }
 }
 
-/// The delay at the key `back`, from 1 to 1,000,000, where a table may have one: `Some(None)` where the key is not there.
-pub(crate) fn back(table: &Table, is_allowed: bool) -> Option<Option<u64>>
-    ensures { MatchOption result
-        (is_met (table_view table.now) (back_rule is_allowed) ≡ false)
-        (HasBack is_allowed (table_view table.now)) }
+/// Whether a value is an array of at most so many whole numbers, none above `high`.
+fn are_numbers(value: &Value, most: u64, high: u64) -> bool
+    ensures { result ≡ is_kind (Numbers most high) (view value.now) }
 {
-    if is_allowed {
-        optional_number(table, "back", 1, GREATEST_DELAY)
-    } else if has_key(table, "back") {
-        None
-    } else {
-        Some(None)
+    match values_of(value) {
+        Some(values) => values.len() as u64 <= most && are_whole(values, high),
+        None => false,
     }
+}
+
+/// Whether each value is a whole number up to `high`.
+fn are_whole(values: &[Value], high: u64) -> bool
+    ensures { result ≡ list_all (λ v. is_whole 0 high (view v)) values.now }
+{
+    values.iter().all(|value| is_whole(value, 0, high))
+}
+
+/// Whether a value is a whole number from `low` to `high`.
+fn is_whole(value: &Value, low: u64, high: u64) -> bool
+    ensures { result ≡ is_whole low high (view value.now) }
+{
+    match number_of(value) {
+        Some(number) => low <= number && number <= high,
+        None => false,
+    }
+}
+
+/// Whether a value is this text.
+fn is_text(value: &Value, word: &str) -> bool
+    ensures { result ≡ is_text word.now (view value.now) }
+{
+    match value {
+        Value::String(text) => text.as_str() == word,
+        _ => false,
+    }
+}
+
+/// Whether a value is a word of a set.
+fn is_word(value: &Value, words: Words) -> bool
+    ensures { result ≡ list_any (λ w. is_text w (view value.now)) (words_of words) }
+{
+    match words {
+        Words::Roles => {
+            is_text(value, "sender")
+                || is_text(value, "receiver")
+                || is_text(value, "late")
+                || is_text(value, "listener")
+        }
+        Words::Topologies => {
+            is_text(value, "chain") || is_text(value, "star") || is_text(value, "tree")
+        }
+    }
+}
+
+/// The whole number that a value is, if it is one.
+pub(crate) fn number_of(value: &Value) -> Option<u64>
+    ensures { result ≡ number_of (view value.now) }
+{
+    match value {
+        Value::Integer(number) if *number >= 0 => Some(*number as u64),
+        _ => None,
+    }
+}
+
+/// The whole number at a key, if there is one.
+pub(crate) fn optional_number(table: &Table, key: Key) -> Option<u64>
+    ensures { result ≡ optional_number (name_of key) (table_view table.now) }
+{
+    match table.get(key.name()) {
+        Some(value) => number_of(value),
+        None => None,
+    }
+}
+
+/// The whole number at a key, or 0.
+pub(crate) fn number(table: &Table, key: Key) -> u64
+    ensures { result ≡ number (name_of key) (table_view table.now) }
+{
+    optional_number(table, key).unwrap_or(0)
 }
 
 /// Whether the table has a key.
-pub(crate) fn has_key(table: &Table, key: &str) -> bool
-    ensures { result ≡ is_some (get_member key.now (table_view table.now)) }
+pub(crate) fn has_key(table: &Table, key: Key) -> bool
+    ensures { result ≡ is_some (get_member (name_of key) (table_view table.now)) }
 {
-    table.get(key).is_some()
+    table.get(key.name()).is_some()
 }
 
-/// The text at a key, if there is one.
-pub(crate) fn text<'a>(table: &'a Table, key: &str) -> Option<&'a str>
-    ensures { option_map (λ s. s.now) result ≡ option_and_then as_str (get_member key.now (table_view table.now)) }
+/// Whether this word stands at a key.
+pub(crate) fn says(table: &Table, key: Key, word: &str) -> bool
+    ensures { result ≡ says (name_of key) word.now (table_view table.now) }
 {
-    match table.get(key) {
-        Some(value) => value.as_str(),
-        None => None,
+    match table.get(key.name()) {
+        Some(value) => is_text(value, word),
+        None => false,
     }
 }
 
-/// The values of the array at a key that need not be there, if there are at most so many: none where the key is not there.
-pub(crate) fn array<'a>(table: &'a Table, key: &str, most: usize) -> Option<&'a [Value]>
-    ensures { MatchOption result
-        (is_met (table_view table.now) (rule key.now (elements most) optional) ≡ false)
-        (λ values. IsArray key.now most (table_view table.now) (map view values.now)) }
+/// The values of the array at a key: none where no array is there.
+pub(crate) fn array(table: &Table, key: Key) -> &[Value]
+    ensures { map view result.now ≡ array_at (name_of key) (table_view table.now) }
 {
-    match table.get(key) {
-        Some(value) => match value.as_array() {
-            Some(values) => {
-                if values.len() > most {
-                    return None;
-                }
-                Some(values.as_slice())
-            }
-            None => None,
+    match table.get(key.name()) {
+        Some(value) => match values_of(value) {
+            Some(values) => values,
+            None => &[],
         },
-        None => Some(&[]),
-    }
-}
-
-/// The values of the array at the key `outage`, if there are at most 4,096, where a table may have one: none where the key is not
-/// there.
-pub(crate) fn outages(table: &Table, is_allowed: bool) -> Option<&[Value]>
-    ensures { MatchOption result
-        (is_met (table_view table.now) (outage_rule is_allowed) ≡ false)
-        (λ values. HasOutages is_allowed (table_view table.now) (map view values.now)) }
-{
-    if is_allowed {
-        array(table, "outage", MOST_LISTED)
-    } else if has_key(table, "outage") {
-        None
-    } else {
-        Some(&[])
+        None => &[],
     }
 }

@@ -1,5 +1,6 @@
 //! Versions of the scenario format.
-ghost use Rattle.std.specs.Prelude.{◌≡◌, ◌≤◌};
+ghost use Rattle.std.specs.Prelude.{◌≡◌, ◌≤◌, ◌==◌, if◌then◌else◌};
+ghost use Rattle.srm_scenario.specs.declared.version.Version.TheVariants.{One, Two};
 
 /// A version of the scenario format.
 #[derive(Clone, Copy, Debug, PartialEq, Eq)]
@@ -12,6 +13,16 @@ pub(crate) enum Version {
 
 impl Version {
     ghost use Rattle.srm_scenario.specs.Rules.{allows_back, allows_outages, most_nodes, last_number};
+
+    /// The version of this number. Where there is none of this number, it is the first.
+    pub(crate) fn of(number: u64) -> Version
+        ensures { result ≡ (if number == 2 then Two else One) }
+    {
+        match number {
+            2 => Version::Two,
+            _ => Version::One,
+        }
+    }
 
     /// Whether links may have a second delay.
     pub(crate) fn allows_back(self) -> bool

@@ -13,7 +13,7 @@ use Rattle.srm_member.specs.declared.exit.Exit.{Exit}
 use Rattle.srm_cell.specs.Setting.{Setting, traffic_of, setting_of}
 use Rattle.srm_cell.specs.Cells.{Idle, Full, Spent, Done}
 use Rattle.srm_cell.specs.Crossings.{crossings}
-use Rattle.srm_engine.specs.World.{World, step, last_world, opening, exits_of}
+use Rattle.srm_model.specs.World.{World, step, last_world, opening, exits_of}
 
 -- what an event is about, in short: nothing, a packet by its identity, or a name
 pub data Subject : Type 0 where

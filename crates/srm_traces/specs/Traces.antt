@@ -4,7 +4,7 @@ use Rattle.std.specs.Prelude.{ℕ, List, [], ◌∷◌, Some, None}
 use Rattle.srm_member.specs.declared.row.Word.TheVariants as word
 use Rattle.srm_member.specs.declared.exit.Exit.{Exit}
 use Rattle.srm_member.specs.declared.told.Told.TheVariants as told
-use Rattle.srm_engine.specs.OneLoss.{an_exit}
+use Rattle.srm_model.specs.OneLoss.{an_exit}
 use Rattle.srm_traces.specs.Runs.{Brief, Nothing, Of, Named, handled, packet, name}
 
 -- one loss on a chain of five: its request, and the repair by the nearest that holds it: its trace

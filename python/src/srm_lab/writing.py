@@ -3,8 +3,6 @@ import json
 from dataclasses import asdict
 from typing import TYPE_CHECKING, Any
 
-import tomli_w
-
 from .errors import ScenarioError
 from .limits import VERSIONS
 
@@ -42,6 +40,8 @@ def _member(keys: dict[str, Any]) -> dict[str, Any]:
 
 def text_of(given: "Scenario") -> str:
     """A scenario's file: its comments, the names of its nodes as a comment, and its table."""
+    import tomli_w  # here, so that scenarios can be read, and traces followed, with no package at all
+
     comments = list(given.comments)
     if given.tree.names:
         comments.append(NAMES + json.dumps(given.tree.names))

@@ -5,7 +5,7 @@ use Rattle.srm_member.specs.React.{react, draw_operation, expire_repair, expire_
 use Rattle.srm_member.specs.React.{lose_below, lose_from}
 use Rattle.srm_cell.specs.Cells.{own_step, handle, next_event, hear}
 use Rattle.srm_cell.specs.Crossings.{crossings}
-use Rattle.srm_engine.specs.World.{last_world, run, opening, opening_cells, step_to, step_of, least_event, after_step, cells_after}
+use Rattle.srm_model.specs.World.{last_world, run, opening, opening_cells, step_to, step_of, least_event, after_step, cells_after}
 use Rattle.srm_traces.specs.Runs.{world_at_end, whole_trace, whole_totals}
 use Rattle.srm_traces.proofs.two_nodes.Goals as goal
 

@@ -9,8 +9,8 @@ add_each-requires-clause-long g c =
     rw c.as_slice.ensures.value (all_long (λ b. (goal.Member-dyn g (b.vtable, b.value)).plain b.value) k.0 c.args.ledger.now.links k.1
     c.in-Ok.all.items k.2 (subst (TellsEach (λ b. (goal.Member-dyn g (b.vtable, b.value)).plain b.value) k.0 k.1) c.in-Ok.is k.3))
 
-pub returns-in-Ok-add_each : goal.returns-in-Ok-add_each
-returns-in-Ok-add_each g c = λ s ps links h.
+pub returns-in-Ok-add_each-clause-told : goal.returns-in-Ok-add_each-clause-told
+returns-in-Ok-add_each-clause-told g c = λ s ps links h.
     let all = subst (TellsEach (λ b. (goal.Member-dyn g (b.vtable, b.value)).plain b.value) s ps) c.in-Ok.is h in
     let new = rw c.as_slice.ensures.value at c.in-Ok-add_each.ensures in (
       all,
@@ -22,10 +22,11 @@ returns-in-Ok-add_each g c = λ s ps links h.
       },
     )
 
-pub returns-in-Err : goal.returns-in-Err
-returns-in-Err g c = λ s ps links h.
+pub returns-in-Err-add_each-clause-told : goal.returns-in-Err-add_each-clause-told
+returns-in-Err-add_each-clause-told g c = λ s ps links h.
     let all = subst (TellsEach (λ b. (goal.Member-dyn g (b.vtable, b.value)).plain b.value) s ps) c.in-Ok.is h in
-    let past = rw c.as_slice.ensures.value at c.in-Err.ensures in (
+    let past = rw c.as_slice.ensures.value at c.in-Err-add_each.ensures in
+    rw c.from-in-Err-add_each.ensures (
       rows_of c.in-Ok.all.items,
       rows_of_all (λ b. (goal.Member-dyn g (b.vtable, b.value)).plain b.value) s ps c.in-Ok.all.items all,
       (

@@ -19,7 +19,7 @@ work_on-requires-clause-long g c = λ d came.
 pub loop-preserved : goal.loop-preserved
 loop-preserved g c = record {
   worked = worked_more _ _ _ _ _ _ _ _ _ _ _ c.loop.invariant.worked
-      (item_worked _ _ c.loop.pass c.take.new.pass c.loop.seat c.work_on.new.seat c.loop.results.items c.work_on.new.results.items
+      (item_worked _ _ c.loop.pass c.take.new.pass c.loop.seat c.work_on.new.seat c.loop.results c.work_on.new.results
       c.in-Some-take.item c.in-Some-take.ensures.taken c.in-Ok.ensures);
   bag = c.in-Some-take.ensures.bag ∙ c.loop.invariant.bag;
   ledger = c.in-Ok.ensures.3.ledger ∙ c.loop.invariant.ledger;
@@ -29,5 +29,5 @@ pub returns-in-Err-clause-work : goal.returns-in-Err-clause-work
 returns-in-Err-clause-work g c =
     stops_after (λ x r. goal.F-post g c.args.work x r) g.D.Counted.numbers _ _ _ _ _ _ _ c.loop.invariant.worked
     (item_stops (λ x r. goal.F-post g c.args.work x r) g.D.Counted.numbers c.loop.pass c.take.new.pass c.loop.seat c.work_on.new.seat
-    c.loop.results.items c.work_on.new.results.items
+    c.loop.results c.work_on.new.results
     c.in-Some-take.item c.in-Err.fault c.in-Some-take.ensures.taken c.in-Err.ensures)

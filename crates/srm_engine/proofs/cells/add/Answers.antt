@@ -3,7 +3,7 @@ use Rattle.srm_scenario.specs.Plain.{script_of}
 use Rattle.srm_cell.specs.Setting.{setting_of}
 use Rattle.srm_cell.specs.Cells.{PlainCell, opening_cell}
 use Rattle.srm_cell.specs.Views.{IsCell}
-use Rattle.srm_engine.specs.World.{opening_cells}
+use Rattle.srm_model.specs.World.{opening_cells}
 use Rattle.srm_engine.specs.Seen.{AreCells}
 use Rattle.srm_engine.proofs.Opened.{more_cells, opened_cell, length_opening, next_opening}
 use Rattle.srm_engine.proofs.cells.add.Goals as goal

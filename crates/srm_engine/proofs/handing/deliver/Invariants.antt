@@ -1,7 +1,7 @@
 use Rattle.std.proofs.Common.{◌≡◌, ℕ, List}
 use Rattle.srm_cell.specs.Setting.{setting_of, traffic_of}
 use Rattle.srm_cell.specs.Cells.{PlainCell}
-use Rattle.srm_engine.specs.Seen.{heard_below}
+use Rattle.srm_model.specs.Hearing.{heard_below}
 use Rattle.srm_engine.specs.Groups.{AreKept}
 use Rattle.srm_engine.proofs.handing.deliver.Given as goal
 

@@ -3,10 +3,10 @@ use Rattle.std.proofs.Math.Seq.{split_at, take-suc}
 use Rattle.std.proofs.lemmas.List.{take_all}
 use Rattle.srm_cell.specs.Setting.{setting_of, traffic_of}
 use Rattle.srm_cell.specs.Cells.{PlainCell}
-use Rattle.srm_engine.specs.Seen.{all_hear}
+use Rattle.srm_model.specs.Hearing.{all_hear}
 use Rattle.srm_engine.specs.Groups.{AreKept}
-use Rattle.srm_engine.specs.WindowRuns.{each_hears}
-use Rattle.srm_engine.proofs.WindowRows.{packets_are_heard_in_turn, length-each_hears}
+use Rattle.srm_model.specs.WindowRuns.{each_hears}
+use Rattle.srm_model.proofs.WindowRows.{packets_are_heard_in_turn, length-each_hears}
 use Rattle.srm_engine.proofs.handing.hear.Goals.{in-Some+in_ok-deliver, in_default}
 use Rattle.srm_engine.proofs.handing.hear.Goals as goal
 

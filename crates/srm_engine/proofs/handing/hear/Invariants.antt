@@ -2,7 +2,7 @@ use Rattle.std.proofs.Common.{◌≡◌, ℕ, List, take}
 use Rattle.srm_cell.specs.Setting.{setting_of, traffic_of}
 use Rattle.srm_cell.specs.Cells.{PlainCell}
 use Rattle.srm_engine.specs.Groups.{AreKept}
-use Rattle.srm_engine.specs.WindowRuns.{each_hears}
+use Rattle.srm_model.specs.WindowRuns.{each_hears}
 use Rattle.srm_engine.proofs.handing.hear.Given as goal
 
 abbrev pub invariant-loop-row : goal.invariant-loop-row

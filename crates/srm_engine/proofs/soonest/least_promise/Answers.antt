@@ -1,7 +1,7 @@
 use Rattle.std.proofs.Common.{◌+◌, ◌/◌, ◌≡◌, get_or, sym, subst, arith}
 use Rattle.std.proofs.lemmas.Option.{slice_get-get_or}
 use Rattle.srm_engine.specs.declared.soonest.Soonest.{Soonest}
-use Rattle.srm_engine.specs.Windows.{least_promise}
+use Rattle.srm_model.specs.Windows.{least_promise}
 use Rattle.srm_engine.specs.Soonest.{IsLeast, promised}
 use Rattle.srm_engine.proofs.SoonLemmas.{Any, BestOf, best_none, best_more, best_is_least, least_is_one}
 use Rattle.srm_engine.proofs.Promises.{promise_is_least}

@@ -3,7 +3,7 @@ use Rattle.std.proofs.lemmas.Option.{slice_get-get_or}
 use Rattle.srm_scenario.proofs.Members.{few_members}
 use Rattle.srm_cell.specs.Setting.{setting_of}
 use Rattle.srm_engine.specs.declared.soonest.Soonest.{Soonest}
-use Rattle.srm_engine.specs.WindowRuns.{cells_in}
+use Rattle.srm_model.specs.WindowRuns.{cells_in}
 use Rattle.srm_engine.specs.Soonest.{IsSoonest}
 use Rattle.srm_engine.proofs.SeenLemmas.{same_some}
 use Rattle.srm_engine.proofs.SoonGroups.{looked_at, group_within, soonest_idle, one_set, one_kept, all_looked}

@@ -3,7 +3,7 @@ use Rattle.srm_cell.specs.Setting.{setting_of}
 use Rattle.srm_cell.specs.Cells.{PlainCell}
 use Rattle.srm_engine.specs.declared.soonest.Soonest.{Soonest}
 use Rattle.srm_engine.specs.Groups.{AreGrouped}
-use Rattle.srm_engine.specs.WindowRuns.{OwnResult, AreOwnRuns, cells_in}
+use Rattle.srm_model.specs.WindowRuns.{OwnResult, AreOwnRuns, cells_in}
 use Rattle.srm_engine.specs.Soonest.{IsSoonest, AreSoonest}
 use Rattle.srm_engine.proofs.soonest.look_again.Given as goal
 

@@ -9,11 +9,11 @@ use Rattle.srm_engine.proofs.Opened.{totals_are}
 use Rattle.srm_engine.proofs.PhaseLemmas.{exits_are}
 use Rattle.srm_engine.proofs.step_run.step_run.Goals as goal
 
-pub finish-requires : goal.finish-requires
-finish-requires g c =
+pub finish_cells-requires : goal.finish_cells-requires
+finish_cells-requires g c =
     let seed = c.requires.boxes.0 in
     let t = c.in-Ok-run.ensures.trace seed (c.in-Ok.ensures.opened seed c.requires.boxes.1) in
-    record { ends = all_end _ (setting_in c.in-Ok.engine seed) c.run.new.self.cells.cells.items t.0 t.1.reached t.3.seen.cells }
+    all_end _ (setting_in c.in-Ok.engine seed) c.run.new.self.cells.cells.items t.0 t.1.reached t.3.seen.cells
 
 pub returns : goal.returns
 returns g c = λ seed h.
@@ -33,6 +33,6 @@ returns g c = λ seed h.
       world = t.0;
       last = t.1;
       trace_is = t.2;
-      exits_are = exits_are _ _ t.0 c.in-Ok-finish.exits.items t.3.seen.cells c.in-Ok-finish.ensures.exits;
+      exits_are = exits_are _ _ t.0 c.in-Ok-finish_cells.exits.items t.3.seen.cells c.in-Ok-finish_cells.ensures;
       totals_are = t.3.totals ∙ kept ∙ its ∙ totals_are s t.0;
     }

@@ -4,7 +4,7 @@ use Rattle.srm_cell.specs.Crossings.{packets_of}
 use Rattle.srm_cell.specs.Setting.{Setting, setting_of, traffic_of}
 use Rattle.srm_cell.specs.Totalled.{numbers_of}
 use Rattle.srm_engine.specs.declared.fault.RunFault.{RunFault}
-use Rattle.srm_engine.specs.World.{opening, IsReached, IsLast}
+use Rattle.srm_model.specs.World.{opening, IsReached, IsLast}
 use Rattle.srm_engine.specs.Engines.{setting_in, traffic_in}
 use Rattle.srm_engine.specs.Outcomes.{TellsRun}
 use Rattle.srm_engine.specs.Streams.{MeetsRefusal}
@@ -14,11 +14,11 @@ use Rattle.srm_engine.proofs.PhaseLemmas.{exits_are}
 use Rattle.srm_engine.proofs.Stepping.{opening_reached, opening_trace}
 use Rattle.srm_engine.proofs.step_stream.step_stream.Goals as goal
 
-pub finish-requires : goal.finish-requires
-finish-requires g c =
+pub finish_cells-requires : goal.finish_cells-requires
+finish_cells-requires g c =
     let seed = c.requires.boxes.0 in
     let t = (c.in_default.ensures.rows seed (c.in-Ok.ensures.opened seed c.requires.boxes.1)).0 in
-    record { ends = all_end _ (setting_in c.in-Ok.engine seed) c.stream.new.self.cells.cells.items t.0 t.1.reached t.3.seen.cells }
+    all_end _ (setting_in c.in-Ok.engine seed) c.stream.new.self.cells.cells.items t.0 t.1.reached t.3.seen.cells
 
 pub returns-in-Err-clause-stream : goal.returns-in-Err-clause-stream
 returns-in-Err-clause-stream g c = λ seed h.
@@ -45,8 +45,8 @@ returns-in-Err-stream-clause-refused g c = λ seed h.
     subst (λ (x : Setting). MeetsRefusal {A = Unit {0}} x (Err c.in-Err-stream.fault)) here
     (c.in-Err-stream.ensures.rows seed (c.in-Ok.ensures.opened seed h)).1
 
-pub returns-in-Err-finish-clause-stream : goal.returns-in-Err-finish-clause-stream
-returns-in-Err-finish-clause-stream g c = λ seed h.
+pub returns-in_default-finish_cells-clause-stream : goal.returns-in_default-finish_cells-clause-stream
+returns-in_default-finish_cells-clause-stream g c = λ seed h.
     let given = c.in-Ok.ensures.given in
     let here : setting_in c.in-Ok.engine seed ≡ setting_of c.args.scenario.now c.args.net.now seed =
     λ k. setting_of (given.0 k) (given.1 k) seed in
@@ -58,12 +58,8 @@ returns-in-Err-finish-clause-stream g c = λ seed h.
           (g.met.S.RowSink.part_none c.stream.new.sink)),
     )
 
-pub returns-in-Err-finish-clause-refused : goal.returns-in-Err-finish-clause-refused
-returns-in-Err-finish-clause-refused g c = λ seed h.
-    subst (λ (x : RunFault). TellsRun (setting_of c.args.scenario.now c.args.net.now seed) (Err x)) (sym c.in-Err-finish.ensures.fault) tt
-
-pub returns-in-Ok-finish-clause-stream : goal.returns-in-Ok-finish-clause-stream
-returns-in-Ok-finish-clause-stream g c = λ seed h.
+pub returns-clause-stream : goal.returns-clause-stream
+returns-clause-stream g c = λ seed h.
     let s = setting_of c.args.scenario.now c.args.net.now seed in
     let given = c.in-Ok.ensures.given in
     let same = c.in_default.ensures.same in
@@ -79,7 +75,7 @@ returns-in-Ok-finish-clause-stream g c = λ seed h.
         world = t.0;
         last = subst (λ (x : Setting). IsLast x t.0) here t.1;
         trace_is = refl;
-        exits_are = exits_are _ _ t.0 c.in-Ok-finish.exits.items t.3.seen.cells c.in-Ok-finish.ensures.exits;
+        exits_are = exits_are _ _ t.0 c.in-Ok-finish_cells.exits.items t.3.seen.cells c.in-Ok-finish_cells.ensures;
         totals_are = t.3.totals ∙ kept ∙ its ∙ totals_are s t.0;
       },
       t.2,

@@ -3,10 +3,10 @@ use Rattle.std.specs.Global.{Global}
 use Rattle.std.specs.Vec.Iter.{into_iter_items}
 use Rattle.std.proofs.lemmas.List.Sorted.{ranks_by}
 use Rattle.srm_member.specs.declared.row.Row.{Row}
-use Rattle.srm_engine.specs.World.{row_cmp}
+use Rattle.srm_model.specs.World.{row_cmp}
 use Rattle.srm_cell.specs.Crossings.{joined}
 use Rattle.srm_engine.proofs.KMerging.{sources_give, all_merged, merged_in_order, joined_is, last_alone}
-use Rattle.srm_engine.proofs.SortedRows.{rows_total}
+use Rattle.srm_model.proofs.SortedRows.{rows_total}
 use Rattle.srm_engine.proofs.window.merge.Goals as goal
 
 pub returns-then-len-lt2 : goal.returns-then-len-lt2

@@ -2,12 +2,12 @@ use Rattle.std.proofs.Common.{◌≡◌, ◌∙◌, ◌<◌, ◌+◌, ◌^◌, s
 use Rattle.srm_cell.specs.Setting.{setting_of, traffic_of}
 use Rattle.srm_cell.specs.Crossings.{joined, crossings}
 use Rattle.srm_crew.specs.Crews.{word_of, rows_of}
-use Rattle.srm_engine.specs.WindowRuns.{rows_in, cells_in, jobs_of}
+use Rattle.srm_model.specs.WindowRuns.{rows_in, cells_in, jobs_of}
 use Rattle.srm_engine.specs.Groups.{handed_jobs, some_of, groups_of, all_in, sizes, AreCuts, AreGrouped}
 use Rattle.srm_engine.specs.Soonest.{AreSoonest}
 use Rattle.srm_engine.proofs.SoonGroups.{as_many_kept, written}
 use Rattle.srm_engine.proofs.JobLemmas.{counted_more, rows_joined}
-use Rattle.srm_engine.proofs.OneWindow.{as_many_results}
+use Rattle.srm_model.proofs.OneWindow.{as_many_results}
 use Rattle.srm_engine.proofs.WindowedLemmas.{members_are, jobs_may, jobs_few, jobs_placed, jobs_seen, jobs_not_spent, jobs_full, jobs_done}
 use Rattle.srm_engine.proofs.window.run_jobs.Goals as goal
 

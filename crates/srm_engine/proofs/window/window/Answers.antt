@@ -1,7 +1,7 @@
 use Rattle.std.proofs.Common.{◌++◌, sym, subst, refl}
 use Rattle.srm_cell.specs.Setting.{setting_of, traffic_of}
 use Rattle.srm_cell.specs.Crossings.{joined}
-use Rattle.srm_engine.specs.WindowRuns.{rows_in, cells_in, after_window, AreNewInTurn}
+use Rattle.srm_model.specs.WindowRuns.{rows_in, cells_in, after_window, AreNewInTurn}
 use Rattle.srm_engine.specs.Windowed.{IsCounted}
 use Rattle.srm_engine.proofs.JobLemmas.{counted_merged}
 use Rattle.srm_engine.proofs.WindowedLemmas.{lists_sorted, merge_of, new_in_turn, all_members, refused}

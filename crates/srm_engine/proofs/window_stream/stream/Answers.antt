@@ -9,7 +9,7 @@ use Rattle.srm_engine.specs.Groups.{AreGrouped, all_in}
 use Rattle.srm_engine.proofs.ExitsKept.{all_end}
 use Rattle.srm_engine.proofs.Opened.{length_opening}
 use Rattle.srm_engine.proofs.PhaseLemmas.{exits_are}
-use Rattle.srm_engine.specs.World.{opening}
+use Rattle.srm_model.specs.World.{opening}
 use Rattle.srm_engine.proofs.Stepping.{opening_reached, opening_trace}
 use Rattle.srm_engine.proofs.WindowStreamLemmas.{front_taken}
 use Rattle.srm_engine.proofs.WindowedLemmas.{opened, total_words}
@@ -19,7 +19,7 @@ pub soonest_of_each-requires-clause-members : goal.soonest_of_each-requires-clau
 soonest_of_each-requires-clause-members g c =
     let b = c.requires.boxes in
     let all = ap (λ l. length (all_in l)) c.as_slice.ensures.value ∙ ap length c.in-Ok-group.ensures.same
-    ∙ (c.in-Ok-open.ensures c.args.net.now b.0 b.1).cells.as_many
+    ∙ (c.in-Ok-open_cells.ensures.opened c.args.net.now b.0 b.1).as_many
     ∙ length_opening (setting_of c.args.scenario.now c.args.net.now b.0) (length c.args.scenario.now.members) 0 in
     omega (arith, all)
 
@@ -30,8 +30,8 @@ windows-requires-clause-opened g c =
       opened (λ b. (goal.Member-dyn g (b.vtable, b.value)).plain b.value) (setting_of c.args.scenario.now c.args.net.now b.0)
           c.in-Ok.ledger c.args.cut (length c.args.net.now.links)
           (record { groups = c.in-Ok-group.groups; soon = c.in-Ok-soonest_of_each.soon; seat = c.in-Ok.seat })
-          c.in-Ok-open.cells.cells.items
-          (c.in-Ok-open.ensures c.args.net.now b.0 b.1).cells c.in-Ok-group.ensures.same c.in-Ok-group.ensures.cuts
+          c.in-Ok-open_cells.cells.items
+          (c.in-Ok-open_cells.ensures.opened c.args.net.now b.0 b.1) c.in-Ok-group.ensures.same c.in-Ok-group.ensures.cuts
           (λ ps h. c.in-Ok-soonest_of_each.ensures b.0 ps
           (subst (λ l. AreGrouped (λ b. (goal.Member-dyn g (b.vtable, b.value)).plain b.value) c.args.cut l ps)
           (sym c.as_slice.ensures.value)
@@ -47,8 +47,8 @@ returns-in_default-clause-stream g c = λ seed h.
           (g.met.S.RowSink.part_none c.args.sink.now),
     )
 
-pub returns-in_default-open-clause-stream : goal.returns-in_default-open-clause-stream
-returns-in_default-open-clause-stream g c = λ seed h.
+pub returns-in_default-open_cells-clause-stream : goal.returns-in_default-open_cells-clause-stream
+returns-in_default-open_cells-clause-stream g c = λ seed h.
     let s = setting_of c.args.scenario.now c.args.net.now seed in (
       opening s,
       opening_reached s,
@@ -78,8 +78,8 @@ pub returns-in-Err-clause-stream : goal.returns-in-Err-clause-stream
 returns-in-Err-clause-stream g c = λ seed h.
     (c.in-Err.ensures.windows seed (opened (λ b. (goal.Member-dyn g (b.vtable, b.value)).plain b.value)
     (setting_of c.args.scenario.now c.args.net.now seed) c.in-Ok.ledger c.args.cut (length c.args.net.now.links)
-    (record { groups = c.in-Ok-group.groups; soon = c.in-Ok-soonest_of_each.soon; seat = c.in-Ok.seat }) c.in-Ok-open.cells.cells.items
-    (c.in-Ok-open.ensures c.args.net.now seed h).cells c.in-Ok-group.ensures.same c.in-Ok-group.ensures.cuts
+    (record { groups = c.in-Ok-group.groups; soon = c.in-Ok-soonest_of_each.soon; seat = c.in-Ok.seat }) c.in-Ok-open_cells.cells.items
+    (c.in-Ok-open_cells.ensures.opened c.args.net.now seed h) c.in-Ok-group.ensures.same c.in-Ok-group.ensures.cuts
     (λ ps h. c.in-Ok-soonest_of_each.ensures seed ps
     (subst (λ l. AreGrouped (λ b. (goal.Member-dyn g (b.vtable, b.value)).plain b.value) c.args.cut l ps) (sym c.as_slice.ensures.value)
     h)) (c.in-Ok.ensures.1 ∙ ap (λ n. whole_seat c.in-Ok.ledger.name n) (ap length c.links.ensures.links)))).0
@@ -88,8 +88,8 @@ pub returns-in-Err-clause-windows : goal.returns-in-Err-clause-windows
 returns-in-Err-clause-windows g c = λ seed h.
     (c.in-Err.ensures.windows seed (opened (λ b. (goal.Member-dyn g (b.vtable, b.value)).plain b.value)
     (setting_of c.args.scenario.now c.args.net.now seed) c.in-Ok.ledger c.args.cut (length c.args.net.now.links)
-    (record { groups = c.in-Ok-group.groups; soon = c.in-Ok-soonest_of_each.soon; seat = c.in-Ok.seat }) c.in-Ok-open.cells.cells.items
-    (c.in-Ok-open.ensures c.args.net.now seed h).cells c.in-Ok-group.ensures.same c.in-Ok-group.ensures.cuts
+    (record { groups = c.in-Ok-group.groups; soon = c.in-Ok-soonest_of_each.soon; seat = c.in-Ok.seat }) c.in-Ok-open_cells.cells.items
+    (c.in-Ok-open_cells.ensures.opened c.args.net.now seed h) c.in-Ok-group.ensures.same c.in-Ok-group.ensures.cuts
     (λ ps h. c.in-Ok-soonest_of_each.ensures seed ps
     (subst (λ l. AreGrouped (λ b. (goal.Member-dyn g (b.vtable, b.value)).plain b.value) c.args.cut l ps) (sym c.as_slice.ensures.value)
     h)) (c.in-Ok.ensures.1 ∙ ap (λ n. whole_seat c.in-Ok.ledger.name n) (ap length c.links.ensures.links)))).1
@@ -98,8 +98,8 @@ pub returns-in_default-flatten-clause-stream : goal.returns-in_default-flatten-c
 returns-in_default-flatten-clause-stream g c = λ seed h.
     let t = c.in-Ok-windows.ensures.windows seed (opened (λ b. (goal.Member-dyn g (b.vtable, b.value)).plain b.value)
     (setting_of c.args.scenario.now c.args.net.now seed) c.in-Ok.ledger c.args.cut (length c.args.net.now.links)
-    (record { groups = c.in-Ok-group.groups; soon = c.in-Ok-soonest_of_each.soon; seat = c.in-Ok.seat }) c.in-Ok-open.cells.cells.items
-    (c.in-Ok-open.ensures c.args.net.now seed h).cells c.in-Ok-group.ensures.same c.in-Ok-group.ensures.cuts
+    (record { groups = c.in-Ok-group.groups; soon = c.in-Ok-soonest_of_each.soon; seat = c.in-Ok.seat }) c.in-Ok-open_cells.cells.items
+    (c.in-Ok-open_cells.ensures.opened c.args.net.now seed h) c.in-Ok-group.ensures.same c.in-Ok-group.ensures.cuts
     (λ ps h. c.in-Ok-soonest_of_each.ensures seed ps
     (subst (λ l. AreGrouped (λ b. (goal.Member-dyn g (b.vtable, b.value)).plain b.value) c.args.cut l ps) (sym c.as_slice.ensures.value)
     h)) (c.in-Ok.ensures.1 ∙ ap (λ n. whole_seat c.in-Ok.ledger.name n) (ap length c.links.ensures.links))) in (
@@ -109,12 +109,12 @@ returns-in_default-flatten-clause-stream g c = λ seed h.
           c.windows.new.sink t.1.trace t.4,
     )
 
-pub returns-in-Err-finish-clause-stream : goal.returns-in-Err-finish-clause-stream
-returns-in-Err-finish-clause-stream g c = λ seed h.
+pub returns-in_default-finish_cells-clause-stream : goal.returns-in_default-finish_cells-clause-stream
+returns-in_default-finish_cells-clause-stream g c = λ seed h.
     let t = c.in-Ok-windows.ensures.windows seed (opened (λ b. (goal.Member-dyn g (b.vtable, b.value)).plain b.value)
     (setting_of c.args.scenario.now c.args.net.now seed) c.in-Ok.ledger c.args.cut (length c.args.net.now.links)
-    (record { groups = c.in-Ok-group.groups; soon = c.in-Ok-soonest_of_each.soon; seat = c.in-Ok.seat }) c.in-Ok-open.cells.cells.items
-    (c.in-Ok-open.ensures c.args.net.now seed h).cells c.in-Ok-group.ensures.same c.in-Ok-group.ensures.cuts
+    (record { groups = c.in-Ok-group.groups; soon = c.in-Ok-soonest_of_each.soon; seat = c.in-Ok.seat }) c.in-Ok-open_cells.cells.items
+    (c.in-Ok-open_cells.ensures.opened c.args.net.now seed h) c.in-Ok-group.ensures.same c.in-Ok-group.ensures.cuts
     (λ ps h. c.in-Ok-soonest_of_each.ensures seed ps
     (subst (λ l. AreGrouped (λ b. (goal.Member-dyn g (b.vtable, b.value)).plain b.value) c.args.cut l ps) (sym c.as_slice.ensures.value)
     h)) (c.in-Ok.ensures.1 ∙ ap (λ n. whole_seat c.in-Ok.ledger.name n) (ap length c.links.ensures.links))) in (
@@ -124,29 +124,27 @@ returns-in-Err-finish-clause-stream g c = λ seed h.
           c.windows.new.sink t.1.trace t.4,
     )
 
-pub finish-requires : goal.finish-requires
-finish-requires g c =
+pub finish_cells-requires : goal.finish_cells-requires
+finish_cells-requires g c =
     let b = c.requires.boxes in
     let t = c.in-Ok-windows.ensures.windows b.0 (opened (λ b. (goal.Member-dyn g (b.vtable, b.value)).plain b.value)
     (setting_of c.args.scenario.now c.args.net.now b.0) c.in-Ok.ledger c.args.cut (length c.args.net.now.links)
-    (record { groups = c.in-Ok-group.groups; soon = c.in-Ok-soonest_of_each.soon; seat = c.in-Ok.seat }) c.in-Ok-open.cells.cells.items
-    (c.in-Ok-open.ensures c.args.net.now b.0 b.1).cells c.in-Ok-group.ensures.same c.in-Ok-group.ensures.cuts
+    (record { groups = c.in-Ok-group.groups; soon = c.in-Ok-soonest_of_each.soon; seat = c.in-Ok.seat }) c.in-Ok-open_cells.cells.items
+    (c.in-Ok-open_cells.ensures.opened c.args.net.now b.0 b.1) c.in-Ok-group.ensures.same c.in-Ok-group.ensures.cuts
     (λ ps h. c.in-Ok-soonest_of_each.ensures b.0 ps
     (subst (λ l. AreGrouped (λ b. (goal.Member-dyn g (b.vtable, b.value)).plain b.value) c.args.cut l ps) (sym c.as_slice.ensures.value)
     h)) (c.in-Ok.ensures.1 ∙ ap (λ n. whole_seat c.in-Ok.ledger.name n) (ap length c.links.ensures.links))) in
-    record {
-      ends = all_end _ (setting_of c.args.scenario.now c.args.net.now b.0) c.in-Ok-flatten.cells.items t.1 t.3.reached
-          (subst (λ l. AreCells (λ b. (goal.Member-dyn g (b.vtable, b.value)).plain b.value) l t.1.cells) (sym c.in-Ok-flatten.ensures)
-          t.5.kept.grouped.cells);
-    }
+    all_end _ (setting_of c.args.scenario.now c.args.net.now b.0) c.in-Ok-flatten.cells.items t.1 t.3.reached
+    (subst (λ l. AreCells (λ b. (goal.Member-dyn g (b.vtable, b.value)).plain b.value) l t.1.cells) (sym c.in-Ok-flatten.ensures)
+    t.5.kept.grouped.cells)
 
 pub close-requires : goal.close-requires
 close-requires g c =
     let b = c.requires.boxes in
     let t = c.in-Ok-windows.ensures.windows b.0 (opened (λ b. (goal.Member-dyn g (b.vtable, b.value)).plain b.value)
     (setting_of c.args.scenario.now c.args.net.now b.0) c.in-Ok.ledger c.args.cut (length c.args.net.now.links)
-    (record { groups = c.in-Ok-group.groups; soon = c.in-Ok-soonest_of_each.soon; seat = c.in-Ok.seat }) c.in-Ok-open.cells.cells.items
-    (c.in-Ok-open.ensures c.args.net.now b.0 b.1).cells c.in-Ok-group.ensures.same c.in-Ok-group.ensures.cuts
+    (record { groups = c.in-Ok-group.groups; soon = c.in-Ok-soonest_of_each.soon; seat = c.in-Ok.seat }) c.in-Ok-open_cells.cells.items
+    (c.in-Ok-open_cells.ensures.opened c.args.net.now b.0 b.1) c.in-Ok-group.ensures.same c.in-Ok-group.ensures.cuts
     (λ ps h. c.in-Ok-soonest_of_each.ensures b.0 ps
     (subst (λ l. AreGrouped (λ b. (goal.Member-dyn g (b.vtable, b.value)).plain b.value) c.args.cut l ps) (sym c.as_slice.ensures.value)
     h)) (c.in-Ok.ensures.1 ∙ ap (λ n. whole_seat c.in-Ok.ledger.name n) (ap length c.links.ensures.links))) in
@@ -157,8 +155,8 @@ unreachable-requires g c =
     let b = c.requires.boxes in
     let t = c.in-Ok-windows.ensures.windows b.0 (opened (λ b. (goal.Member-dyn g (b.vtable, b.value)).plain b.value)
     (setting_of c.args.scenario.now c.args.net.now b.0) c.in-Ok.ledger c.args.cut (length c.args.net.now.links)
-    (record { groups = c.in-Ok-group.groups; soon = c.in-Ok-soonest_of_each.soon; seat = c.in-Ok.seat }) c.in-Ok-open.cells.cells.items
-    (c.in-Ok-open.ensures c.args.net.now b.0 b.1).cells c.in-Ok-group.ensures.same c.in-Ok-group.ensures.cuts
+    (record { groups = c.in-Ok-group.groups; soon = c.in-Ok-soonest_of_each.soon; seat = c.in-Ok.seat }) c.in-Ok-open_cells.cells.items
+    (c.in-Ok-open_cells.ensures.opened c.args.net.now b.0 b.1) c.in-Ok-group.ensures.same c.in-Ok-group.ensures.cuts
     (λ ps h. c.in-Ok-soonest_of_each.ensures b.0 ps
     (subst (λ l. AreGrouped (λ b. (goal.Member-dyn g (b.vtable, b.value)).plain b.value) c.args.cut l ps) (sym c.as_slice.ensures.value)
     h)) (c.in-Ok.ensures.1 ∙ ap (λ n. whole_seat c.in-Ok.ledger.name n) (ap length c.links.ensures.links))) in
@@ -171,8 +169,8 @@ returns-clause-stream g c = λ seed h.
     let s = setting_of c.args.scenario.now c.args.net.now seed in
     let t = c.in-Ok-windows.ensures.windows seed (opened (λ b. (goal.Member-dyn g (b.vtable, b.value)).plain b.value)
     (setting_of c.args.scenario.now c.args.net.now seed) c.in-Ok.ledger c.args.cut (length c.args.net.now.links)
-    (record { groups = c.in-Ok-group.groups; soon = c.in-Ok-soonest_of_each.soon; seat = c.in-Ok.seat }) c.in-Ok-open.cells.cells.items
-    (c.in-Ok-open.ensures c.args.net.now seed h).cells c.in-Ok-group.ensures.same c.in-Ok-group.ensures.cuts
+    (record { groups = c.in-Ok-group.groups; soon = c.in-Ok-soonest_of_each.soon; seat = c.in-Ok.seat }) c.in-Ok-open_cells.cells.items
+    (c.in-Ok-open_cells.ensures.opened c.args.net.now seed h) c.in-Ok-group.ensures.same c.in-Ok-group.ensures.cuts
     (λ ps h. c.in-Ok-soonest_of_each.ensures seed ps
     (subst (λ l. AreGrouped (λ b. (goal.Member-dyn g (b.vtable, b.value)).plain b.value) c.args.cut l ps) (sym c.as_slice.ensures.value)
     h)) (c.in-Ok.ensures.1 ∙ ap (λ n. whole_seat c.in-Ok.ledger.name n) (ap length c.links.ensures.links))) in
@@ -184,9 +182,9 @@ returns-clause-stream g c = λ seed h.
         world = t.1;
         last = t.3;
         trace_is = refl;
-        exits_are = exits_are _ _ t.1 c.in-Ok-finish.exits.items
+        exits_are = exits_are _ _ t.1 c.in-Ok-finish_cells.exits.items
             (subst (λ l. AreCells (λ b. (goal.Member-dyn g (b.vtable, b.value)).plain b.value) l t.1.cells) (sym c.in-Ok-flatten.ensures)
-            t.5.kept.grouped.cells) c.in-Ok-finish.ensures.exits;
+            t.5.kept.grouped.cells) c.in-Ok-finish_cells.ensures;
         totals_are = total_words c.in-Ok-close.totals c.in-Ok-windows.cells.seat.shares (crossings s.traffic t.1.trace)
             c.in-Ok-close.ensures.totals long t.5.counted.shares;
       },
@@ -197,8 +195,8 @@ pub returns-clause-windows : goal.returns-clause-windows
 returns-clause-windows g c = λ seed h.
     let t = c.in-Ok-windows.ensures.windows seed (opened (λ b. (goal.Member-dyn g (b.vtable, b.value)).plain b.value)
     (setting_of c.args.scenario.now c.args.net.now seed) c.in-Ok.ledger c.args.cut (length c.args.net.now.links)
-    (record { groups = c.in-Ok-group.groups; soon = c.in-Ok-soonest_of_each.soon; seat = c.in-Ok.seat }) c.in-Ok-open.cells.cells.items
-    (c.in-Ok-open.ensures c.args.net.now seed h).cells c.in-Ok-group.ensures.same c.in-Ok-group.ensures.cuts
+    (record { groups = c.in-Ok-group.groups; soon = c.in-Ok-soonest_of_each.soon; seat = c.in-Ok.seat }) c.in-Ok-open_cells.cells.items
+    (c.in-Ok-open_cells.ensures.opened c.args.net.now seed h) c.in-Ok-group.ensures.same c.in-Ok-group.ensures.cuts
     (λ ps h. c.in-Ok-soonest_of_each.ensures seed ps
     (subst (λ l. AreGrouped (λ b. (goal.Member-dyn g (b.vtable, b.value)).plain b.value) c.args.cut l ps) (sym c.as_slice.ensures.value)
     h)) (c.in-Ok.ensures.1 ∙ ap (λ n. whole_seat c.in-Ok.ledger.name n) (ap length c.links.ensures.links))) in

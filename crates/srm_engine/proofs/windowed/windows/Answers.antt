@@ -1,13 +1,13 @@
 use Rattle.std.proofs.Common.{◌∙◌, ◌<◌, ◌≤◌, List, sym, ◌++◌, ◌∷◌, [], add-zero, arith, subst}
 use Rattle.srm_member.specs.declared.row.Row.{Row}
 use Rattle.srm_cell.specs.Setting.{setting_of}
-use Rattle.srm_engine.specs.World.{opening}
-use Rattle.srm_engine.specs.WindowChains.{no_window, start_of}
+use Rattle.srm_model.specs.World.{opening}
+use Rattle.srm_model.specs.WindowChains.{no_window, start_of}
 use Rattle.srm_engine.specs.Ends.{ends_rule}
 use Rattle.srm_engine.specs.Soonest.{AreSoonest}
 use Rattle.srm_engine.proofs.Stepping.{opening_reached, opening_trace}
-use Rattle.srm_engine.proofs.WindowEnds.{starts_tell}
-use Rattle.srm_engine.proofs.WindowChain.{windows_are_reached}
+use Rattle.srm_model.proofs.WindowEnds.{starts_tell}
+use Rattle.srm_model.proofs.WindowChain.{windows_are_reached}
 use Rattle.srm_engine.proofs.WindowedLemmas.{reached, safe, within, follows, later, call_more, not_windowed}
 use Rattle.srm_engine.proofs.WindowStreamLemmas.{front_taken, sink_meets, sink_under_way, window_under_way}
 use Rattle.srm_engine.proofs.windowed.windows.Goals as goal

@@ -1,8 +1,8 @@
 use Rattle.std.proofs.Common.{◌≡◌, ℕ, ◌-◌, List, min}
 use Rattle.srm_cell.specs.Setting.{setting_of}
 use Rattle.srm_engine.specs.declared.sink.Stage.TheVariants.{Live}
-use Rattle.srm_engine.specs.World.{World, opening}
-use Rattle.srm_engine.specs.WindowChains.{AreWindows, start_of}
+use Rattle.srm_model.specs.World.{World, opening}
+use Rattle.srm_model.specs.WindowChains.{AreWindows, start_of}
 use Rattle.srm_engine.specs.Ends.{ends_rule}
 use Rattle.srm_engine.specs.Windowed.{Holds, calls_of}
 use Rattle.srm_engine.proofs.windowed.windows.Given as goal

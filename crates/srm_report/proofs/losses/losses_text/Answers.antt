@@ -1,51 +1,15 @@
-use Rattle.std.proofs.Common.{◌≡◌, ◌∙◌, ◌<◌, None, length, sym, subst, arith}
-use Rattle.csv.specs.Writing.{fields_text, is_blank}
-use Rattle.srm_report.specs.declared.course.Course.{Course}
-use Rattle.srm_report.specs.declared.loss.Loss.{Loss}
-use Rattle.srm_report.specs.Courses.{TellLosses}
-use Rattle.srm_report.specs.Losses.{loss_columns}
-use Rattle.srm_report.proofs.TableLemmas.{table_first}
-use Rattle.srm_report.proofs.LossLemmas.{text_next, text_all, next_among}
+use Rattle.std.proofs.Common.{[], length, sym, subst, append-nil}
+use Rattle.srm_member.specs.Orderly.{IsOrderly}
 use Rattle.srm_report.proofs.losses.losses_text.Goals as goal
 
--- in place of an entry that is not there
-abbrev none : Loss × Course
-none = (record { member = 0; name = record { source = 0; page = 0; number = 0 } }, record { detected = 0; recovered = None })
-
-pub loop-entry-init : goal.loop-entry-init
-unfolding fields_text is_blank
-loop-entry-init c = table_first loss_columns _ c.in_ok-text.ensures.items
-
-pub put_loss-requires-clause-member : goal.put_loss-requires-clause-member
-put_loss-requires-clause-member c =
-    let es = c.deref-entry-items.result.now in
-    let tell = subst (TellLosses c.args.rows.now) (sym (c.deref-entry-items.ensures.value ∙ c.in_ok-entries.ensures)) c.in_ok-losses.ensures
-    in
-    let lt : c.loop-entry.entry-index < length es = c.loop-entry-test.true in
-    (next_among c.args.rows.now (length c.args.net.now.hosts) c.requires es tell c.loop-entry.entry-index none lt).0
-
-pub put_loss-requires-clause-source : goal.put_loss-requires-clause-source
-put_loss-requires-clause-source c =
-    let es = c.deref-entry-items.result.now in
-    let tell = subst (TellLosses c.args.rows.now) (sym (c.deref-entry-items.ensures.value ∙ c.in_ok-entries.ensures)) c.in_ok-losses.ensures
-    in
-    let lt : c.loop-entry.entry-index < length es = c.loop-entry-test.true in
-    (next_among c.args.rows.now (length c.args.net.now.hosts) c.requires es tell c.loop-entry.entry-index none lt).1
-
-pub loop-entry-preserved : goal.loop-entry-preserved
-loop-entry-preserved c =
-    let es = c.deref-entry-items.result.now in
-    let tell = subst (TellLosses c.args.rows.now) (sym (c.deref-entry-items.ensures.value ∙ c.in_ok-entries.ensures)) c.in_ok-losses.ensures
-    in
-    let lt : c.loop-entry.entry-index < length es = c.loop-entry-test.true in
-    text_next c.args.rows.now (length c.args.net.now.hosts) c.requires es tell c.args.net.now c.loop-entry.entry-index none _ _ _ lt
-    c.loop-entry.invariant (c.text.ensures ∙ c.put_loss.ensures) c.in_ok-extend_from_slice.ensures.items
+pub text-requires : goal.text-requires
+text-requires c =
+    let members = length c.args.net.now.hosts in
+    let o = subst (IsOrderly members) (sym (append-nil c.args.rows.now)) c.requires in
+    (c.args.rows.now, c.requires, c.in_ok-take.ensures members [] [] o c.new-sink.ensures.found)
 
 pub returns : goal.returns
 returns c =
-    let es = c.deref-entry-items.result.now in
-    let tell = subst (TellLosses c.args.rows.now) (sym (c.deref-entry-items.ensures.value ∙ c.in_ok-entries.ensures)) c.in_ok-losses.ensures
-    in
-    let whole : c.loop-entry.entry-index ≡ length es = omega arith in
-    text_all c.args.rows.now (length c.args.net.now.hosts) c.requires es tell c.args.net.now c.loop-entry.entry-index _ whole
-    c.loop-entry.invariant
+    let members = length c.args.net.now.hosts in
+    let o = subst (IsOrderly members) (sym (append-nil c.args.rows.now)) c.requires in
+    c.text.ensures c.args.rows.now c.requires (c.in_ok-take.ensures members [] [] o c.new-sink.ensures.found)

@@ -1,7 +1,7 @@
 use Rattle.std.proofs.Common.{◌≡◌, sym, subst, IfOk}
 use Rattle.srm_report.specs.declared.standing.Standing.{Standing}
 use Rattle.srm_report.specs.Trace.{trace_of_rows}
-use Rattle.srm_report.specs.TraceSinks.{text_next}
+use Rattle.srm_report.specs.Standings.{text_next}
 use Rattle.srm_report.proofs.trace_sink.text_of.Goals as goal
 
 pub returns-in-Fresh : goal.returns-in-Fresh

@@ -1,6 +1,6 @@
 use Rattle.std.proofs.Common.{◌≡◌, length, take, drop, sym, subst, take-append-drop, arith}
 use Rattle.std.proofs.lemmas.List.{length-take-le}
-use Rattle.srm_report.specs.TraceSinks.{GrewBy}
+use Rattle.srm_report.specs.Standings.{GrewBy}
 use Rattle.srm_report.specs.SinkLaws.{count_cut}
 use Rattle.srm_report.proofs.trace_sink.write.Goals as goal
 

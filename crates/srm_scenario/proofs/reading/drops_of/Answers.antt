@@ -1,5 +1,3 @@
-use Rattle.std.proofs.Common.{◌≡◌}
-use Rattle.srm_scenario.specs.Plain.{drop_rules_of}
 use Rattle.srm_scenario.proofs.Once.{drops_once}
 use Rattle.srm_scenario.proofs.reading.drops_of.Goals as goal
 

@@ -1,4 +1,4 @@
-use Rattle.std.proofs.Common.{List, ap, sym, subst, ◌∙◌}
+use Rattle.std.proofs.Common.{sym, subst, ◌∙◌}
 use Rattle.std.proofs.lemmas.Result.{err_from_is_err_and}
 use Rattle.srm_scenario.specs.Accepted.{IsAccepted}
 use Rattle.srm_scenario.specs.Plain.{PlainScenario, drop_rules_of}

@@ -10,6 +10,6 @@ settle-requires-clause-known g c = some_told (λ b. (goal.Member-dyn g (b.vtable
 
 pub returns-clause-done : goal.returns-clause-done
 returns-clause-done g c = record {
-  tells = λ ps h. c.settle.ensures (traffic_of c.args.scenario.now c.args.net.now) ps
+  tells = λ ps h. c.settle.ensures.told (traffic_of c.args.scenario.now c.args.net.now) ps
       (sym c.requires.links) (c.advance_in_pool-advanced.ensures.tells ps h);
 }

@@ -1,6 +1,6 @@
 use Rattle.std.proofs.Common.{sym, ap}
 use Rattle.srm_cell.specs.Setting.{setting_of}
-use Rattle.srm_engine.specs.WindowChains.{width_rule}
+use Rattle.srm_model.specs.WindowChains.{width_rule}
 use Rattle.srm_engine.proofs.ends.Ends.of.Goals as goal
 
 pub returns-in-Least : goal.returns-in-Least

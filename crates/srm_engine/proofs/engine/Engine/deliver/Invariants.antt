@@ -1,6 +1,7 @@
 use Rattle.std.proofs.Common.{◌≡◌, List}
 use Rattle.srm_cell.specs.Cells.{PlainCell}
-use Rattle.srm_engine.specs.Seen.{ShowCells, heard_below}
+use Rattle.srm_model.specs.Hearing.{heard_below}
+use Rattle.srm_engine.specs.Seen.{ShowCells}
 use Rattle.srm_engine.specs.Engines.{IsStillOf, traffic_in}
 use Rattle.srm_engine.proofs.engine.Engine.deliver.Given as goal
 

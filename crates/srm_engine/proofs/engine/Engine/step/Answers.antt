@@ -6,14 +6,15 @@ use Rattle.srm_cell.specs.Crossings.{packets_of}
 use Rattle.srm_cell.specs.Cells.{PlainCell, Done, step_at, own_step}
 use Rattle.srm_cell.proofs.FitSettings.{settings_are_fit}
 use Rattle.srm_cell.proofs.CellSteps.{SentBy}
-use Rattle.srm_engine.specs.World.{after_step, cells_after}
+use Rattle.srm_model.specs.World.{after_step, cells_after}
 use Rattle.srm_engine.specs.Engines.{setting_in}
-use Rattle.srm_engine.specs.Seen.{AreSeen, all_hear}
+use Rattle.srm_model.specs.Hearing.{all_hear}
+use Rattle.srm_engine.specs.Seen.{AreSeen}
 use Rattle.srm_cell.specs.Totalled.{numbers_of}
-use Rattle.srm_engine.specs.Totalled.{MaySend, and_sent}
+use Rattle.srm_model.specs.Totalled.{MaySend, and_sent}
 use Rattle.srm_engine.proofs.PhaseLemmas.{refused}
-use Rattle.srm_engine.proofs.RunLemmas.{after_spent}
-use Rattle.srm_engine.proofs.Sequential.{get_below}
+use Rattle.srm_model.proofs.RunLemmas.{after_spent}
+use Rattle.srm_model.proofs.Sequential.{get_below}
 use Rattle.srm_engine.proofs.Stepping.{is_over, is_late, step_by, cell_there, event, member_is, is_least, own_is, after_idle, after_done}
 use Rattle.srm_engine.proofs.Stepping.{settled_is, may_send, not_spent, sent_by_member, packets_more}
 use Rattle.srm_engine.proofs.engine.Engine.step.Goals as goal

@@ -2,7 +2,7 @@ use Rattle.std.proofs.Common.{◌≡◌, ◌<◌, ◌^◌, List, [], ◌∷◌, 
 use Rattle.std.proofs.Common.{length-append, arith}
 use Rattle.srm_member.specs.declared.row.Row.{Row}
 use Rattle.srm_cell.specs.Setting.{Setting, setting_of}
-use Rattle.srm_engine.specs.World.{step, IsReached}
+use Rattle.srm_model.specs.World.{step, IsReached}
 use Rattle.srm_engine.specs.Engines.{setting_in, TellsWorld}
 use Rattle.srm_engine.proofs.PhaseLemmas.{pushed_if}
 use Rattle.srm_engine.proofs.StreamLemmas.{countable, not_stepped}

@@ -1,5 +1,5 @@
 use Rattle.std.proofs.Common.{◌≡◌, ◌≤◌, ◌-◌, ◌++◌, ℕ, length, vec_len}
-use Rattle.srm_engine.specs.World.{World, IsReached}
+use Rattle.srm_model.specs.World.{World, IsReached}
 use Rattle.srm_engine.specs.Engines.{IsStillOf, Shows, setting_in}
 use Rattle.srm_engine.proofs.engine.Engine.steps.Given as goal
 

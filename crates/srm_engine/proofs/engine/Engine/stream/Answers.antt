@@ -1,7 +1,7 @@
 use Rattle.std.proofs.Common.{◌≡◌, ◌<◌, List, [], Ok, Err, refl, sym, ◌∙◌, ap, subst, add-zero, append-nil, length, length-append, arith}
 use Rattle.srm_member.specs.declared.row.Row.{Row}
 use Rattle.srm_cell.specs.Setting.{Setting, setting_of}
-use Rattle.srm_engine.specs.World.{opening, IsReached}
+use Rattle.srm_model.specs.World.{opening, IsReached}
 use Rattle.srm_engine.specs.Engines.{setting_in}
 use Rattle.srm_engine.specs.Streams.{TellsSteps}
 use Rattle.srm_engine.proofs.StreamLemmas.{sink_refuses, not_taken}

@@ -1,6 +1,6 @@
 use Rattle.std.proofs.Common.{◌≡◌, ◌≤◌, ◌+◌, ◌*◌, ◌^◌, ℕ, length}
 use Rattle.srm_engine.specs.declared.sink.Stage.TheVariants.{Live}
-use Rattle.srm_engine.specs.World.{World, IsReached}
+use Rattle.srm_model.specs.World.{World, IsReached}
 use Rattle.srm_engine.specs.Engines.{IsStillOf, IsOpened, Shows, setting_in}
 use Rattle.srm_engine.proofs.engine.Engine.stream.Given as goal
 

@@ -1,0 +1,48 @@
+use Rattle.std.proofs.Common.{◌≡◌, List, [], ◌∷◌, ◌++◌, sym, ◌∙◌, ap, subst, append_assoc, append-nil, arith}
+use Rattle.std.proofs.lemmas.Grind.{common_steps}
+use Rattle.std.specs.Vec.Iter.{into_iter_items}
+use Rattle.srm_member.specs.declared.exit.Exit.{Exit}
+use Rattle.srm_engine.specs.Outcomes.{EndAs}
+use Rattle.srm_engine.proofs.ExitsKept.{never_spent}
+use Rattle.srm_engine.proofs.PhaseLemmas.{ended}
+use Rattle.srm_engine.proofs.cells.finish_cells.Goals as goal
+
+pub loop-cell-init : goal.loop-cell-init
+loop-cell-init g c = (
+  tt,
+  tt,
+  rw (c.into_iter-cell-iterator.ensures.into_iter_gives.0, c.in_ok-exits.ensures.items) (λ xs h. h),
+  rw c.into_iter-cell-iterator.ensures.into_iter_gives.0 c.requires,
+)
+
+pub loop-cell-preserved : goal.loop-cell-preserved
+loop-cell-preserved g c = (
+  tt,
+  tt,
+  λ xs h.
+      let pushed = c.in_ok-push.ensures.items in
+      let same : c.push.new.self.items ++ xs ≡ c.loop-cell.exits.items ++ (c.in-Ok.exit ∷ xs) = ap (λ (es : List Exit). es ++ xs) pushed
+      ∙ append_assoc c.loop-cell.exits.items (c.in-Ok.exit ∷ []) xs in
+      subst (λ (es : List Exit). EndAs (λ b. (goal.Member-dyn g (b.vtable, b.value)).plain b.value) c.args.cells.items es) (sym same)
+      (c.loop-cell.invariant.2 (c.in-Ok.exit ∷ xs)
+      (rw c.in-Some.ensures.steps.0 ((λ m p is. ended p c.in-Ok.exit (c.in-Ok.ensures m p is)), h))),
+  (rw c.in-Some.ensures.steps.0 at c.loop-cell.invariant.3).1,
+)
+
+pub unreachable-requires : goal.unreachable-requires
+unreachable-requires g c =
+    let cell = (rw c.in-Some.ensures.steps.0 at c.loop-cell.invariant.3).0 in
+    never_spent cell.1 cell.3 (rw c.in-Err-Spent.field-0-is at c.in-Err-Spent.ensures cell.0 cell.1 cell.2)
+
+pub unreachable-requires-in-Err-CountFull : goal.unreachable-requires-in-Err-CountFull
+unreachable-requires-in-Err-CountFull g c =
+    let cell = (rw c.in-Some.ensures.steps.0 at c.loop-cell.invariant.3).0 in
+    rw c.in-Err-CountFull.field-0-is at c.in-Err-CountFull.ensures cell.0 cell.1 cell.2
+
+pub returns : goal.returns
+returns g c =
+    let h = c.loop-cell.cell-iterator.rest.ok in
+    let none : into_iter_items c.loop-cell.cell-iterator ≡ [] = grind (arith, common_steps) in
+    subst (λ (es : List Exit). EndAs (λ b. (goal.Member-dyn g (b.vtable, b.value)).plain b.value) c.args.cells.items es)
+    (append-nil c.loop-cell.exits.items)
+    (c.loop-cell.invariant.2 [] (rw none tt))

@@ -1,5 +1,0 @@
-use Rattle.srm_engine.proofs.LawProofs.{cells_run_alone as the_law}
-use Rattle.srm_engine.proofs.laws.cells_run_alone.Goals as goal
-
-pub returns : goal.returns
-returns c = the_law

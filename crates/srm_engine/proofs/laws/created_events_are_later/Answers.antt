@@ -1,5 +1,0 @@
-use Rattle.srm_engine.proofs.PendingKeys.{created_events_are_later as the_law}
-use Rattle.srm_engine.proofs.laws.created_events_are_later.Goals as goal
-
-pub returns : goal.returns
-returns c = the_law

@@ -1,5 +1,0 @@
-use Rattle.srm_engine.proofs.StrictRuns.{keys_rise as the_law}
-use Rattle.srm_engine.proofs.laws.keys_rise.Goals as goal
-
-pub returns : goal.returns
-returns c = the_law

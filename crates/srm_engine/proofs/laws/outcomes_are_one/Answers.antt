@@ -1,5 +1,0 @@
-use Rattle.srm_engine.proofs.OneOutcome.{outcomes_are_one as the_law}
-use Rattle.srm_engine.proofs.laws.outcomes_are_one.Goals as goal
-
-pub returns : goal.returns
-returns c = the_law

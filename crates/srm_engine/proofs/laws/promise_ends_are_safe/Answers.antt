@@ -1,5 +1,0 @@
-use Rattle.srm_engine.proofs.Lookahead.{promise_ends_are_safe as the_law}
-use Rattle.srm_engine.proofs.laws.promise_ends_are_safe.Goals as goal
-
-pub returns : goal.returns
-returns c = the_law

@@ -1,5 +1,0 @@
-use Rattle.srm_engine.proofs.LawProofs.{refusals_are_met as the_law}
-use Rattle.srm_engine.proofs.laws.refusals_are_met.Goals as goal
-
-pub returns : goal.returns
-returns c = the_law

@@ -1,5 +1,0 @@
-use Rattle.srm_engine.proofs.LawProofs.{run_ends as the_law}
-use Rattle.srm_engine.proofs.laws.run_ends.Goals as goal
-
-pub returns : goal.returns
-returns c = the_law

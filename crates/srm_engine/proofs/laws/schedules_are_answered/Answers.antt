@@ -1,5 +1,0 @@
-use Rattle.srm_engine.proofs.AllSchedules.{schedules_are_answered as the_law}
-use Rattle.srm_engine.proofs.laws.schedules_are_answered.Goals as goal
-
-pub returns : goal.returns
-returns c = the_law

@@ -1,5 +1,0 @@
-use Rattle.srm_engine.proofs.NamesKept
-use Rattle.srm_engine.proofs.laws_of_names.repairs_are_of_held.Goals as goal
-
-pub returns : goal.returns
-returns c = NamesKept.repairs_are_of_held

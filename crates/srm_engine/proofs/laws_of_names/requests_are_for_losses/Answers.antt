@@ -1,5 +1,0 @@
-use Rattle.srm_engine.proofs.NamesKept
-use Rattle.srm_engine.proofs.laws_of_names.requests_are_for_losses.Goals as goal
-
-pub returns : goal.returns
-returns c = NamesKept.requests_are_for_losses

@@ -1,5 +1,0 @@
-use Rattle.srm_engine.proofs.HandedOnce
-use Rattle.srm_engine.proofs.laws_of_packets.packets_are_numbered.Goals as goal
-
-pub returns : goal.returns
-returns c = HandedOnce.packets_are_numbered

@@ -1,5 +1,0 @@
-use Rattle.srm_engine.proofs.WindowJobs.{jobs_are_in_place as the_law}
-use Rattle.srm_engine.proofs.laws_of_windows.jobs_are_in_place.Goals as goal
-
-pub returns : goal.returns
-returns c = the_law

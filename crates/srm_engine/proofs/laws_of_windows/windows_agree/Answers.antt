@@ -1,5 +1,0 @@
-use Rattle.srm_engine.proofs.OneWindow.{windows_agree as the_law}
-use Rattle.srm_engine.proofs.laws_of_windows.windows_agree.Goals as goal
-
-pub returns : goal.returns
-returns c = the_law

@@ -1,5 +1,0 @@
-use Rattle.srm_engine.proofs.WindowChain.{windows_are_reached as the_law}
-use Rattle.srm_engine.proofs.laws_of_windows.windows_are_reached.Goals as goal
-
-pub returns : goal.returns
-returns c = the_law

@@ -1,0 +1,303 @@
+-- What a member loses in one answer, and the pages of which it tells: they are of members, and no name is lost twice.
+use Rattle.std.proofs.Common.{◌≡◌, ℕ, zero, suc, ◌+◌, ◌-◌, ◌<◌, ◌≤◌, Bool, true, false, cond, ◌&&◌, List, [], ◌∷◌, ◌++◌, refl, sym, ap, ◌∙◌}
+use Rattle.std.proofs.Common.{subst, inl, inr, arith, Ordering, Less, Equal, Greater, Option, Some, None, unwrap_or, nat_lt, nat_le}
+use Rattle.std.specs.List.{Contains}
+use Rattle.std.specs.FinMap.Entries.{put, find, by_order}
+use Rattle.std.proofs.lemmas.List.Elements.{Contains-append_right, Contains-append_cases}
+use Rattle.srm_net.specs.declared.packet.Name.{Name}
+use Rattle.srm_net.specs.declared.packet.PageId.{PageId}
+use Rattle.srm_net.specs.declared.packet.Heard.{Heard}
+use Rattle.srm_net.specs.declared.packet.Body.{Body}
+use Rattle.srm_net.specs.declared.packet.Body.TheVariants.{Drawop, Request, Repair, Session}
+use Rattle.srm_net.specs.declared.packet.Packet.{Packet}
+use Rattle.srm_net.specs.Names.{page_of, name_in, name_cmp, page_cmp}
+use Rattle.srm_member.specs.declared.fixed.Fixed.{Fixed as FixedPart}
+use Rattle.srm_member.specs.declared.cause.Cause.{Cause}
+use Rattle.srm_member.specs.declared.cause.Cause.TheVariants.{Join, Arrival, Ask, Answer, Draw, Report}
+use Rattle.srm_member.specs.declared.told.Told.{Told}
+use Rattle.srm_member.specs.declared.told.Told.TheVariants.{Entered, Fresh, Fixed, Again, Skip, Rest, Busy, Plan, Hold, Heard as Informed}
+use Rattle.srm_member.specs.declared.entries.Missing.{Missing}
+use Rattle.srm_member.specs.declared.entries.Repairing.{Repairing}
+use Rattle.srm_member.specs.Fit.{heard_of}
+use Rattle.srm_member.specs.Record.{MemberState, Progress}
+use Rattle.srm_net.specs.Roles.{is_sender, is_listener}
+use Rattle.srm_member.specs.React.{Reaction, quietly, has_entry, with_progress, meet, lose_one, lose_from, names_from, lose_below}
+use Rattle.srm_member.specs.React.{lost_below}
+use Rattle.srm_member.specs.React.{with_held, with_mended, hear_data, with_rest, hear_repair, with_repair_timer, hear_request_by_entry}
+use Rattle.srm_member.specs.React.{hear_request_of_held, hear_request}
+use Rattle.srm_member.specs.React.{page_heard, after_entry, lost_by_entry, hear_session, hear_body, expire_request_by_entry, expire_request}
+use Rattle.srm_member.specs.React.{expire_repair_by_entry, expire_repair}
+use Rattle.srm_member.specs.React.{own_page, own_progress, draw_operation, is_skip, react_active, listen_data, listen, react_listener}
+use Rattle.srm_member.specs.React.{react}
+use Rattle.srm_member.proofs.AllIn.{AllIn, AllIn-append, AllIn-map}
+use Rattle.srm_member.proofs.Changes.{Below, Grows, Brings, from_page, effect}
+use Rattle.srm_model.proofs.TraceRows.{contains_none}
+use Rattle.srm_net.specs.Limits.{most_drawn}
+
+-- ---- lists with no element twice
+
+abbrev pub Apart : {A : Type 0} → List A → Type 0
+Apart [] = Unit {0}
+Apart (x ∷ xs) = (¬ Contains xs x) × Apart xs
+
+apart_append : {A : Type 0} (xs ys : List A) → Apart xs → Apart ys → ((x : A) → Contains xs x → ¬ Contains ys x) → Apart (xs ++ ys)
+apart_append [] ys h g none = g
+apart_append (x ∷ xs) ys h g none = (
+  λ c. elim (Contains-append_cases xs ys x c) [ inl a ↦ h.0 a | inr b ↦ none x (0, omega arith, refl) b ],
+  apart_append xs ys h.1 g (λ y c. none y (Contains-append_right (x ∷ []) xs y c)),
+)
+
+-- what stands before an element of such a list is another
+pub none_before : {A : Type 0} (front back : List A) (x : A) → Apart (front ++ x ∷ back) → ¬ Contains front x
+none_before [] back x h c = contains_none x c
+none_before (y ∷ front) back x h (zero, l, e) =
+    h.0 (subst (Contains (front ++ x ∷ back)) (sym e) (Contains-append_right front (x ∷ back) x (0, omega arith, refl)))
+none_before (y ∷ front) back x h (suc k, l, e) = none_before front back x h.1 (k, omega arith, e)
+
+-- ---- pages and names of members
+
+either_way : {A : Type 0} (Q : A → Type 0) (b : Bool) (x y : A) → Q x → Q y → Q (cond b x y)
+either_way Q true x y h g = h
+either_way Q false x y h g = g
+
+any_order : {A : Type 0} (Q : A → Type 0) (r : Ordering) (a b c : A) → Q a → Q b → Q c → Q (by_order r a b c)
+any_order Q Less a b c h g f = h
+any_order Q Equal a b c h g f = g
+any_order Q Greater a b c h g f = f
+
+-- an entry of a session message, for a member that is no listener
+entry_grows : (at : ℕ) (h : Heard) (m : MemberState) → is_listener m.fixed.role ≡ false → Grows (lost_by_entry h m) m (after_entry at h m)
+unfolding react hear_session
+entry_grows at h m no_listener =
+    let p : Packet = record { id = record { sender = 0; count = 0 }; sent = 0; body = Session (h ∷ []) } in
+    let same : react m at (Arrival p) ≡ quietly (after_entry at h m) Informed (lost_by_entry h m) =
+    ap (λ b. cond b (react_listener m (Arrival p)) (react_active m at (Arrival p))) no_listener in
+    elim (effect m at (Arrival p)) [
+      | inl q ↦ subst (λ (r : Reaction). Grows r.answer.lost m r.state) same q.grows
+      | inr b ↦ absurd (elim b [ inl x ↦ no_name x.name x.ink x.brings | inr x ↦ x ])
+    ]
+  where
+    no_name : (n : Name) (ink : ℕ) → Brings (Session (h ∷ [])) n ink → ⊥
+    no_name n ink (inl e) = cc
+    no_name n ink (inr e) = cc
+
+module _ (members : ℕ) where
+  abbrev pub OfMembers : List Name → Type 0
+  OfMembers ns = AllIn (λ (n : Name). n.source < members) ns
+
+  abbrev pub PagesOf : List (PageId × Progress) → Type 0
+  PagesOf es = AllIn (λ (e : PageId × Progress). e.0.source < members) es
+
+  abbrev pub HeardOf : List Heard → Type 0
+  HeardOf hs = AllIn (λ (h : Heard). h.source < members) hs
+
+  -- the sources in a packet are members
+  abbrev pub BodyOf : Body → Type 0
+  BodyOf (Drawop n ink) = n.source < members
+  BodyOf (Request n) = n.source < members
+  BodyOf (Repair n ink) = n.source < members
+  BodyOf (Session hs) = HeardOf hs
+
+  abbrev pub CauseOf : Cause → Type 0
+  CauseOf (Arrival p) = BodyOf p.body
+  CauseOf _ = Unit {0}
+
+  -- those in a session message, if it is one
+  abbrev pub SessionOf : Option Body → Type 0
+  SessionOf (Some (Session hs)) = HeardOf hs
+  SessionOf _ = Unit {0}
+
+  -- what an answer leaves, loses and sends
+  pub record Known (r : Reaction) : Type 0 where
+    pub pages : PagesOf r.state.progress
+    pub lost : OfMembers r.answer.lost
+    pub apart : Apart r.answer.lost
+    pub session : SessionOf r.answer.body
+
+  pages_put : (p : PageId) (v : Progress) (es : List (PageId × Progress)) → p.source < members → PagesOf es → PagesOf (put page_cmp p v es)
+  pages_put p v [] h g = (h, tt)
+  pages_put p v (e ∷ es) h g = any_order PagesOf (page_cmp p e.0) _ _ _ (h, g) (g.0, g.1) (g.0, pages_put p v es h g.1)
+
+  -- ---- losses
+
+  lose_pages : (at : ℕ) (p : PageId) (count first : ℕ) (m : MemberState) → (lose_from at p count first m).progress ≡ m.progress
+  unfolding lose_from
+  lose_pages at p zero first m = refl
+  lose_pages at p (suc count) first m = lose_pages at p count (suc first) (lose_one at (name_in p first) m)
+
+  pages_below : (at : ℕ) (p : PageId) (n next : ℕ) (s : Progress) (m : MemberState) → p.source < members → PagesOf m.progress
+      → PagesOf (lose_below at p n next s m).progress
+  unfolding lose_below
+  pages_below at p n next s m h g =
+      let k = lose_from at p (n - s.next) s.next m in
+      pages_put p (record { floor = s.floor; next = next }) k.progress h (subst PagesOf (sym (lose_pages at p (n - s.next) s.next m)) g)
+
+  names_of : (p : PageId) (count first : ℕ) → p.source < members → OfMembers (names_from p count first)
+  names_of p zero first h = tt
+  names_of p (suc count) first h = (h, names_of p count (suc first) h)
+
+  names_apart : (p : PageId) (count first : ℕ) → Apart (names_from p count first)
+  names_apart p zero first = tt
+  names_apart p (suc count) first = (
+    λ c. (let f = from_page p count (suc first) (name_in p first) c in let le : suc first ≤ first = f.1 in omega arith),
+    names_apart p count (suc first),
+  )
+
+  plain : (m : MemberState) (answer : Told) → PagesOf m.progress → Known (quietly m answer [])
+  plain m answer g = record { pages = g; lost = tt; apart = tt; session = tt }
+
+  losing : (m : MemberState) (answer : Told) (p : PageId) (n : ℕ) (s : Progress) → p.source < members → PagesOf m.progress
+      → Known (quietly m answer (lost_below p n s))
+  losing m answer p n s h g =
+      let count = n - s.next in
+      record { pages = g; lost = names_of p count s.next h; apart = names_apart p count s.next; session = tt }
+
+  -- ---- packets
+
+  got_known : (at : ℕ) (n : Name) (ink : ℕ) (m : MemberState) → n.source < members → PagesOf m.progress → Known (hear_data at n ink m)
+  unfolding hear_data
+  got_known at n ink m h g =
+      let p = page_of n in
+      let s = meet m p n.number in
+      let k = with_progress p s m in
+      let met : PagesOf k.progress = pages_put p s m.progress h g in
+      let lose = lose_below at p n.number (n.number + 1) s m in
+      let lost : PagesOf lose.progress = pages_below at p n.number (n.number + 1) s m h g in
+      either_way Known (nat_lt n.number s.floor) _ _ (plain k Skip met)
+      (either_way Known (nat_le s.next n.number) _ _ (losing (with_held n ink lose) Fresh p n.number s h lost)
+      (either_way Known (has_entry n m.missing) _ _ (plain (with_mended n ink k) Fixed met) (plain k Again met)))
+
+  repair_known : (at : ℕ) (n : Name) (ink who : ℕ) (m : MemberState) → n.source < members → PagesOf m.progress
+      → Known (hear_repair at n ink who m)
+  repair_known at n ink who m h g =
+      let r = hear_data at n ink m in
+      let k = got_known at n ink m h g in
+      either_way Known (is_skip r.answer.told) r (record r { state = with_rest at n who r.state }) k
+      (record { pages = k.pages; lost = k.lost; apart = k.apart; session = k.session })
+
+  asked_known : (at : ℕ) (n : Name) (lost : List Name) (m : MemberState) (o : Option Missing) → Known (quietly m Hold lost)
+      → Known (hear_request_by_entry at n lost m o)
+  asked_known at n lost m None k = k
+  asked_known at n lost m (Some e) k =
+      either_way Known (nat_lt at e.ignore) _ _ k (record { pages = k.pages; lost = k.lost; apart = k.apart; session = tt })
+
+  held_known : (at : ℕ) (n : Name) (who : ℕ) (m : MemberState) → PagesOf m.progress → Known (hear_request_of_held at n who m)
+  held_known at n who m g =
+      either_way Known (nat_lt at (unwrap_or (find name_cmp n m.rests) 0)) _ _ (plain m Rest g)
+      (either_way Known (has_entry n m.repairs) _ _ (plain m Busy g) (plain (with_repair_timer at n who m) Plan g))
+
+  request_known : (at : ℕ) (n : Name) (who : ℕ) (m : MemberState) → n.source < members → PagesOf m.progress
+      → Known (hear_request at n who m)
+  unfolding hear_request
+  request_known at n who m h g =
+      let p = page_of n in
+      let s = meet m p (n.number + 1) in
+      let k = with_progress p s m in
+      let met : PagesOf k.progress = pages_put p s m.progress h g in
+      let lose = lose_below at p (n.number + 1) (n.number + 1) s k in
+      let lost : PagesOf lose.progress = pages_below at p (n.number + 1) (n.number + 1) s k h met in
+      either_way Known (nat_lt n.number s.floor) _ _ (plain k Skip met)
+      (either_way Known (has_entry n k.held) _ _ (held_known at n who k met)
+      (either_way Known (nat_le s.next n.number) _ _
+      (asked_known at n (lost_below p (n.number + 1) s) lose (find name_cmp n lose.missing) (losing lose Hold p (n.number + 1) s h lost))
+      (asked_known at n [] k (find name_cmp n k.missing) (plain k Hold met))))
+
+  entry_pages : (at : ℕ) (h : Heard) (m : MemberState) → h.source < members → PagesOf m.progress → PagesOf (after_entry at h m).progress
+  unfolding after_entry
+  entry_pages at h m lt g =
+      let p = page_heard h in
+      let s = meet m p (h.highest + 1) in
+      either_way (λ (k : MemberState). PagesOf k.progress) (nat_le s.next h.highest) _ _
+      (pages_below at p (h.highest + 1) (h.highest + 1) s m lt g) (pages_put p s m.progress lt g)
+
+  -- names of later entries are new, and so others than those lost by the entries before
+  informed_known : (at : ℕ) (hs : List Heard) (m : MemberState) (lost : List Name) → is_listener m.fixed.role ≡ false → HeardOf hs
+      → ((n : Name) → Contains lost n → Below n m) → Known (quietly m Informed lost) → Known (hear_session at hs m lost)
+  unfolding hear_session
+  informed_known at [] m lost no_listener of_hs below k = k
+  informed_known at (h ∷ hs) m lost no_listener of_hs below k =
+      let g = entry_grows at h m no_listener in
+      let p = page_heard h in
+      let s = meet m p (h.highest + 1) in
+      let more = lost_by_entry h m in
+      informed_known at hs (after_entry at h m) (lost ++ more) (ap (λ (f : FixedPart). is_listener f.role) g.fixed ∙ no_listener) of_hs.1
+      (λ n c. elim (Contains-append_cases lost more n c) [ inl x ↦ g.below n (below n x) | inr x ↦ g.heard n x ])
+      (record {
+        pages = entry_pages at h m of_hs.0 k.pages;
+        lost = AllIn-append (λ (n : Name). n.source < members) lost more k.lost (names_of p ((h.highest + 1) - s.next) s.next of_hs.0);
+        apart = apart_append lost more k.apart (names_apart p ((h.highest + 1) - s.next) s.next) (λ n c x. g.new n x (below n c));
+        session = tt;
+      })
+
+  hear_known : (at who : ℕ) (b : Body) (m : MemberState) → is_listener m.fixed.role ≡ false → BodyOf b → PagesOf m.progress
+      → Known (hear_body at who b m)
+  hear_known at who (Drawop n ink) m no_listener h g = got_known at n ink m h g
+  hear_known at who (Repair n ink) m no_listener h g = repair_known at n ink who m h g
+  hear_known at who (Request n) m no_listener h g = request_known at n who m h g
+  hear_known at who (Session hs) m no_listener h g =
+      informed_known at hs m [] no_listener h (λ n c. absurd (contains_none n c)) (plain m Informed g)
+
+  -- ---- timers, draws and reports
+
+  asking_known : (at : ℕ) (n : Name) (m : MemberState) (o : Option Missing) → PagesOf m.progress → Known (expire_request_by_entry at n m o)
+  asking_known at n m None g = plain m Skip g
+  asking_known at n m (Some e) g = record { pages = g; lost = tt; apart = tt; session = tt }
+
+  answering_known : (at : ℕ) (n : Name) (m : MemberState) (o : Option Repairing) → PagesOf m.progress
+      → Known (expire_repair_by_entry at n m o)
+  answering_known at n m None g = plain m Skip g
+  answering_known at n m (Some e) g = record { pages = g; lost = tt; apart = tt; session = tt }
+
+  drawing_known : (page ink : ℕ) (m : MemberState) → m.fixed.member < members → PagesOf m.progress → Known (draw_operation page ink m)
+  unfolding draw_operation
+  drawing_known page ink m h g =
+      let p = own_page m page in
+      let s = own_progress m p in
+      either_way Known (is_sender m.fixed.role && nat_lt s.next most_drawn) _ _
+      (record { pages = pages_put p (record { floor = s.floor; next = s.next + 1 }) m.progress h g; lost = tt; apart = tt; session = tt })
+      (plain m Skip g)
+
+  active_known : (m : MemberState) (at : ℕ) (cause : Cause) → is_listener m.fixed.role ≡ false → m.fixed.member < members
+      → CauseOf cause → PagesOf m.progress → Known (react_active m at cause)
+  unfolding expire_request expire_repair
+  active_known m at Join no_listener h c g = plain m Entered g
+  active_known m at (Arrival p) no_listener h c g = hear_known at p.id.sender p.body m no_listener c g
+  active_known m at (Ask n) no_listener h c g = asking_known at n m (find name_cmp n m.missing) g
+  active_known m at (Answer n) no_listener h c g = answering_known at n m (find name_cmp n m.repairs) g
+  active_known m at (Draw page ink) no_listener h c g = drawing_known page ink m h g
+  active_known m at Report no_listener h c g = record {
+    pages = g;
+    lost = tt;
+    apart = tt;
+    session = AllIn-map (λ (x : Heard). x.source < members) (λ e. heard_of e.0 e.1) m.progress g;
+  }
+
+  -- ---- listeners
+
+  listened_known : (n : Name) (ink : ℕ) (m : MemberState) → PagesOf m.progress → Known (listen_data n ink m)
+  listened_known n ink m g = either_way Known (has_entry n m.held) _ _ (plain m Again g) (plain (with_held n ink m) Fresh g)
+
+  listen_known : (b : Body) (m : MemberState) → PagesOf m.progress → Known (listen b m)
+  listen_known (Drawop n ink) m g = listened_known n ink m g
+  listen_known (Repair n ink) m g = listened_known n ink m g
+  listen_known (Request n) m g = plain m Skip g
+  listen_known (Session hs) m g = plain m Skip g
+
+  listener_known : (m : MemberState) (cause : Cause) → PagesOf m.progress → Known (react_listener m cause)
+  listener_known m Join g = plain m Entered g
+  listener_known m (Arrival p) g = listen_known p.body m g
+  listener_known m (Ask n) g = plain m Skip g
+  listener_known m (Answer n) g = plain m Skip g
+  listener_known m (Draw page ink) g = plain m Skip g
+  listener_known m Report g = plain m Skip g
+
+  by_role : (m : MemberState) (at : ℕ) (cause : Cause) (b : Bool) → is_listener m.fixed.role ≡ b → m.fixed.member < members
+      → CauseOf cause → PagesOf m.progress → Known (cond b (react_listener m cause) (react_active m at cause))
+  by_role m at cause true q h c g = listener_known m cause g
+  by_role m at cause false q h c g = active_known m at cause q h c g
+
+  -- what a member answers, where it and all that it heard of are members
+  pub known : (m : MemberState) (at : ℕ) (cause : Cause) → m.fixed.member < members → CauseOf cause → PagesOf m.progress
+      → Known (react m at cause)
+  unfolding react
+  known m at cause h c g = by_role m at cause (is_listener m.fixed.role) refl h c g

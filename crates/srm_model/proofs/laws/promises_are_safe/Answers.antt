@@ -1,0 +1,5 @@
+use Rattle.srm_model.proofs.LawProofs.{promises_are_safe as the_law}
+use Rattle.srm_model.proofs.laws.promises_are_safe.Goals as goal
+
+pub returns : goal.returns
+returns c = the_law

@@ -1,0 +1,13 @@
+pub mod World
+pub mod Hearing
+pub mod Schedules
+pub mod Windows
+pub mod WindowRuns
+pub mod WindowChains
+pub mod WindowLaws
+pub mod Laws
+pub mod Handed
+pub mod HeldNames
+pub mod OneLoss
+pub mod Tables
+pub mod Totalled

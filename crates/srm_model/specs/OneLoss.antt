@@ -1,0 +1,62 @@
+-- A worked run: two members, one of which loses a packet of the other.
+use Rattle.std.specs.Prelude.{ℕ, ◌+◌, ◌-◌, not, ◌&&◌, List, [], ◌∷◌, map, None, ◌==◌, if◌then◌else◌}
+use Rattle.srm_net.specs.declared.packet.Name.{Name}
+use Rattle.srm_net.specs.declared.role.Role.TheVariants.{Sender, Receiver}
+use Rattle.srm_scenario.specs.declared.mark.Mark.{Mark}
+use Rattle.srm_member.specs.declared.exit.Exit.{Exit}
+use Rattle.srm_cell.specs.Setting.{Setting}
+use Rattle.srm_model.specs.World.{last_world, opening, exits_of}
+use Rattle.srm_model.specs.Handed.{handing_count}
+
+-- a mark of a script
+abbrev pub mark : ℕ → ℕ → ℕ → ℕ → Mark
+mark at rank place ink = record { at = at; rank = rank; place = place; page = 0; ink = ink }
+
+-- two members, one tick apart. Member 0 draws with ink 7 at 0 and with ink 8 at 10, and its first packet is dropped.
+-- Request and repair timers take one and a half, and one, times the distance
+abbrev pub one_loss : ℕ → Setting
+one_loss until = record {
+  traffic = record {
+    until = until;
+    members = 2;
+    join = λ m. 0;
+    leave = λ m. None;
+    distance = λ a b. (a - b) + (b - a);
+    reaches = λ p m. not (p.id.sender == 0 && (p.id.count == 0 && m == 1));
+    links = 1;
+    crosses = λ p l. not (p.id.sender == 0 && p.id.count == 0);
+    drops_at = λ p l. p.id.sender == 0 && p.id.count == 0;
+  };
+  fixed = λ m. record {
+    member = m;
+    role = if m == 0 then Sender else Receiver;
+    c1 = 1500;
+    c2 = 0;
+    d1 = 1000;
+    d2 = 0;
+    dist = if m == 0 then 0 ∷ 1 ∷ [] else 1 ∷ 0 ∷ [];
+    pages = [];
+    seed = 42;
+    stream = m + 1;
+  };
+  script = λ m. if m == 0 then mark 0 0 0 0 ∷ mark 0 4 0 7 ∷ mark 10 4 1 8 ∷ [] else mark 0 0 0 0 ∷ [];
+}
+
+-- how often the whole run hands each of these packets, of a sender and a count, to a member
+unfoldable pub handings : Setting → List (ℕ × ℕ × ℕ) → List ℕ
+handings s ks =
+    map (λ k. handing_count (record { sender = k.0; count = k.1 }) k.2 (last_world s 100 (opening s)).trace) ks
+
+-- what the members end with
+unfoldable pub ends : Setting → List Exit
+ends s = exits_of (last_world s 100 (opening s))
+
+-- member 0's drawing operations
+abbrev pub first : Name
+first = record { source = 0; page = 0; number = 0 }
+
+abbrev pub second : Name
+second = record { source = 0; page = 0; number = 1 }
+
+abbrev pub an_exit : ℕ → List (Name × ℕ) → List Name → Exit
+an_exit m held missing = record { member = m; held = held; missing = missing }

@@ -1,0 +1,34 @@
+-- Rows of members that are counted as they come.
+use Rattle.std.specs.Prelude.{List, [], ◌++◌}
+use Rattle.std.proofs.Common.{sym, subst, append_assoc, append-nil}
+use Rattle.srm_member.specs.declared.row.Row.{Row}
+use Rattle.srm_engine.specs.declared.sink.Stage.{Stage}
+use Rattle.srm_report.specs.declared.counts.Counts.{Counts}
+use Rattle.srm_report.specs.declared.members_sink.MembersSink.{MembersSink}
+use Rattle.srm_report.specs.Counted.{AreCounts}
+
+-- where the sink stands
+abbrev pub stage_of_members : MembersSink → Stage
+stage_of_members s = s.stage
+
+-- the counts of the members, up to the last that had a row
+abbrev pub counts_in : MembersSink → List Counts
+counts_in s = s.counts.items
+
+-- the sink has counted exactly these rows
+abbrev pub HasCounted : List Row → MembersSink → Type 0
+HasCounted rows s = AreCounts rows (counts_in s)
+
+-- between these two values exactly these rows were counted, after those before
+abbrev pub CountsRows : MembersSink → List Row → MembersSink → Type 0
+CountsRows a rows b = (before : List Row) → HasCounted before a → HasCounted (before ++ rows) b
+
+-- ---- how counts compose over calls
+
+pub counts_none : (a : MembersSink) → CountsRows a [] a
+counts_none a before h = subst (λ (l : List Row). HasCounted l a) (sym (append-nil before)) h
+
+pub counts_more :
+    (a b c : MembersSink) (xs ys : List Row) → CountsRows a xs b → CountsRows b ys c → CountsRows a (xs ++ ys) c
+counts_more a b c xs ys h k before counted =
+    subst (λ (l : List Row). HasCounted l c) (append_assoc before xs ys) (k (before ++ xs) (h before counted))

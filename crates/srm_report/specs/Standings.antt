@@ -1,0 +1,47 @@
+-- What a sink puts next, by where it stands, and how it counts what was taken.
+use Rattle.std.specs.Prelude.{◌≡◌, ℕ, ◌+◌, ◌-◌, ◌^◌, min, List, [], ◌++◌, length, Option, Result, Ok, Err}
+use Rattle.std.specs.Io.KnownBytes.{Appends}
+use Rattle.srm_member.specs.declared.row.Row.{Row}
+use Rattle.srm_engine.specs.declared.sink.SinkFault.{SinkFault}
+use Rattle.srm_engine.specs.declared.sink.SinkFault.TheVariants as fault
+use Rattle.srm_report.specs.declared.standing.Standing.{Standing}
+use Rattle.srm_report.specs.declared.standing.Standing.TheVariants.{Fresh, Live, NoMemory, Stopped}
+use Rattle.srm_report.specs.Trace.{trace_header, trace_lines}
+
+-- ---- text
+
+-- what comes before the rows that a sink takes next: the header, where it took none yet
+abbrev pub lead : Standing → List ℕ
+lead Fresh = trace_header
+lead Live = []
+lead NoMemory = []
+lead Stopped = []
+
+-- the text of the rows that a sink takes next
+abbrev pub text_next : Standing → List Row → List ℕ
+text_next at rows = lead at ++ trace_lines rows
+
+-- this is the text of all rows that a sink took between these two standings: none where it is still fresh
+abbrev pub IsText : Standing → Standing → List Row → List ℕ → Type 0
+IsText old Fresh rows text = (old ≡ Fresh) × (rows ≡ []) × (text ≡ [])
+IsText old Live rows text = text ≡ text_next old rows
+IsText old NoMemory rows text = text ≡ text_next old rows
+IsText old Stopped rows text = text ≡ text_next old rows
+
+-- where a sink stands after this answer
+abbrev pub after_answer : {A : Type 0} → Result A SinkFault → Standing
+after_answer (Ok v) = Live
+after_answer (Err fault.NoMemory) = NoMemory
+after_answer (Err (fault.Stopped n)) = Stopped
+
+-- ---- counts
+
+-- a count has grown by a number, and stays at 2^64 - 1 once there
+abbrev pub GrewBy : ℕ → ℕ → ℕ → Type 0
+GrewBy old n new = min new (2 ^ 64 - 1) ≡ min (old + n) (2 ^ 64 - 1)
+
+-- what is taken of a text: all of it, or else a front; and the bytes are counted
+abbrev pub TakesText : {O A E : Type 0} → (O → Option (List ℕ)) → O → ℕ → List ℕ → Result A E → O → ℕ → Type 0
+TakesText taken old n text (Ok v) new m = Appends (taken old) (taken new) text × GrewBy n (length text) m
+TakesText taken old n text (Err e) new m =
+    (out rest : List ℕ) × (text ≡ out ++ rest) × Appends (taken old) (taken new) out × GrewBy n (length out) m

@@ -1,0 +1,105 @@
+//! What became of each loss, taken in as the rows come.
+ghost use Rattle.std.specs.Prelude.{◌≡◌};
+
+use crate::by_loss::ByLoss;
+use crate::course::Course;
+use crate::courses::note;
+use crate::fault::ReportFault;
+use crate::loss_lines::table_text;
+use srm_engine::sink::{RowSink, SinkFault, Stage};
+use srm_member::row::Row;
+use srm_net::net::Net;
+use std::alloc::{AllocError, Global};
+
+/// Keeps what became of each loss, and no row. It has no device that fails. Its room grows with the losses, and not with the rows.
+#[derive(Drop)]
+pub struct LossesSink {
+    losses: ByLoss<Course>,
+    stage: Stage,
+}
+
+impl LossesSink {
+    ghost use Rattle.std.specs.Prelude.{ℕ, List, [], length, IfOk, OnOk};
+    ghost use Rattle.srm_member.specs.declared.row.Row.{Row as R};
+    ghost use Rattle.srm_member.specs.Orderly.{IsOrderly};
+    ghost use Rattle.srm_engine.specs.declared.sink.Stage.{Stage as AStage};
+    ghost use Rattle.srm_report.specs.Losses.{losses_table};
+    ghost use Rattle.srm_report.specs.LossesSinks.{stage_of_losses, HasFound, FindsLosses};
+
+    /// It took no row yet. It does not allocate.
+    pub fn new(alloc: Global) -> Self
+        ensures found { HasFound [] result }
+        ensures stage { stage_of_losses result ≡ Stage.Fresh }
+    {
+        LossesSink {
+            losses: ByLoss::new(alloc),
+            stage: Stage::Fresh,
+        }
+    }
+
+    /// The table of losses of the rows that it took, which are orderly, as [`losses_text`](crate::losses::losses_text) gives it.
+    ///
+    /// # Errors
+    /// Memory ran out.
+    pub fn text(&self, alloc: Global, net: &Net) -> Result<Vec<u8>, ReportFault>
+        requires { (rows : List R) × IsOrderly (length net.now.hosts) rows × HasFound rows self.now }
+        ensures { (rows : List R) → IsOrderly (length net.now.hosts) rows → HasFound rows self.now
+            → IfOk result (λ text. text.items ≡ losses_table net.now rows) }
+    {
+        let entries = self.losses.entries(alloc)?;
+        table_text(alloc, net, entries.as_slice())
+    }
+
+    // Takes in what these rows say of losses.
+    pub(crate) fn take(&mut self, rows: &[Row]) -> Result<(), AllocError>
+        ensures { OnOk result (FindsLosses self.old rows.now self.new) }
+    {
+        for row in rows {
+            note(&mut self.losses, row)?;
+        }
+        Ok(())
+    }
+}
+
+impl RowSink for LossesSink {
+    ghost use Rattle.std.specs.Prelude.{refl, List, ◌++◌};
+    ghost use Rattle.srm_report.specs.LossesSinks.{stage_of_losses, FindsLosses, finds_none, finds_more};
+
+    ghost stage = { stage_of_losses };
+
+    ghost failures = { λ _. 0 };
+
+    ghost same = { λ _ _. Unit {0} };
+
+    ghost took = { FindsLosses };
+
+    ghost part = { λ _ _ _. Unit {0} };
+
+    ghost same_self = { λ a. tt };
+
+    ghost same_more = { λ a b c p q. tt };
+
+    ghost took_none = { finds_none };
+
+    ghost took_more = { finds_more };
+
+    ghost part_none = { λ a. tt };
+
+    ghost part_more = { λ a b c xs ys p q. tt };
+
+    ghost part_longer = { λ a b xs ys p. tt };
+
+    fn rows(&mut self, _alloc: Global, rows: Vec<Row>) -> Result<(), SinkFault> {
+        match self.take(rows.as_slice()) {
+            Ok(()) => {
+                self.stage = Stage::Live;
+                Ok(())
+            }
+            Err(AllocError) => {
+                let fault = SinkFault::NoMemory;
+                self.stage = Stage::Refused { fault };
+                Err(fault)
+            }
+        }
+    }
+}

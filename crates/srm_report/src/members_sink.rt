@@ -1,0 +1,140 @@
+//! What the rows of each member say of it, counted as they come.
+ghost use Rattle.std.specs.Prelude.{◌≡◌, ◌≤◌, ◌<◌, ◌+◌, All};
+ghost use Rattle.srm_report.specs.Counted.{IsAtMost};
+
+use crate::counts::Counts;
+use crate::fault::ReportFault;
+use crate::member_lines::table_text;
+use srm_engine::sink::{RowSink, SinkFault, Stage};
+use srm_member::row::Row;
+use srm_scenario::scenario::Scenario;
+use std::alloc::{AllocError, Global};
+
+// How many rows are counted at most, so that no count of them is too great for its number.
+const MOST_ROWS: u64 = 1 << 63;
+
+/// Counts what the rows of each member say of it, and keeps no row. It has no device that fails. Its room grows with the greatest
+/// number of a member that had a row, and not with the rows.
+#[derive(Drop)]
+pub struct MembersSink {
+    // The counts of each member, up to the last that had a row.
+    counts: Vec<Counts>,
+    // How many rows were counted.
+    taken: u64,
+    stage: Stage,
+    ghost bounds: { All (IsAtMost taken) counts.items },
+}
+
+impl MembersSink {
+    ghost use Rattle.std.specs.Prelude.{ℕ, List, [], ◌∷◌, ◌++◌, length, IfOk, OnOk};
+    ghost use Rattle.srm_member.specs.declared.row.Row.{Row as R};
+    ghost use Rattle.srm_engine.specs.declared.sink.Stage.{Stage as AStage};
+    ghost use Rattle.srm_report.specs.Members.{members_table};
+    ghost use Rattle.srm_report.specs.MembersSinks.{stage_of_members, counts_in, HasCounted, CountsRows};
+
+    /// It has counted no row yet. It does not allocate.
+    pub fn new(alloc: Global) -> Self
+        ensures counted { HasCounted [] result }
+        ensures stage { stage_of_members result ≡ Stage.Fresh }
+    {
+        MembersSink {
+            counts: Vec::new(alloc),
+            taken: 0,
+            stage: Stage::Fresh,
+        }
+    }
+
+    /// The table of members of the rows that it counted, as [`members_text`](crate::members::members_text) gives it.
+    ///
+    /// # Errors
+    /// Memory ran out.
+    pub fn text(&self, alloc: Global, scenario: &Scenario) -> Result<Vec<u8>, ReportFault>
+        ensures { (rows : List R) → HasCounted rows self.now
+            → IfOk result (λ text. text.items ≡ members_table scenario.now rows) }
+    {
+        table_text(alloc, scenario, self.counts.as_slice())
+    }
+
+    // Counts these rows. It answers no memory also where they would be more than 2^63 rows in all.
+    pub(crate) fn take(&mut self, rows: &[Row]) -> Result<(), AllocError>
+        ensures { OnOk result (CountsRows self.old rows.now self.new) }
+    {
+        for row in rows {
+            self.count(row)?;
+        }
+        Ok(())
+    }
+
+    // Counts one more row.
+    fn count(&mut self, row: &Row) -> Result<(), AllocError>
+        ensures { OnOk result (CountsRows self.old (row.now ∷ []) self.new) }
+    {
+        if self.taken >= MOST_ROWS {
+            return Err(AllocError);
+        }
+        let member = usize::from(row.key.member);
+        self.reach(member)?;
+        self.counts[member].add(row);
+        self.taken += 1;
+        Ok(())
+    }
+
+    // Makes room for the counts of a member.
+    fn reach(&mut self, member: usize) -> Result<(), AllocError>
+        ensures room { OnOk result (member < length (counts_in self.new)) }
+        ensures taken { self.new.taken ≡ self.old.taken }
+        ensures counts { (rows : List R) → HasCounted rows self.old → HasCounted rows self.new }
+    {
+        while self.counts.len() <= member {
+            self.counts.push(Counts::new())?;
+        }
+        Ok(())
+    }
+}
+
+impl RowSink for MembersSink {
+    ghost use Rattle.std.specs.Prelude.{refl, List, ◌++◌};
+    ghost use Rattle.srm_report.specs.MembersSinks.{stage_of_members, CountsRows, counts_none, counts_more};
+
+    ghost stage = { stage_of_members };
+
+    ghost failures = { λ _. 0 };
+
+    ghost same = { λ _ _. Unit {0} };
+
+    ghost took = { CountsRows };
+
+    ghost part = { λ _ _ _. Unit {0} };
+
+    ghost same_self = { λ a. tt };
+
+    ghost same_more = { λ a b c p q. tt };
+
+    ghost took_none = { counts_none };
+
+    ghost took_more = { counts_more };
+
+    ghost part_none = { λ a. tt };
+
+    ghost part_more = { λ a b c xs ys p q. tt };
+
+    ghost part_longer = { λ a b xs ys p. tt };
+
+    /// Counts the rows.
+    ///
+    /// # Errors
+    /// `NoMemory`, also where they would be more than 2^63 rows in all.
+    fn rows(&mut self, _alloc: Global, rows: Vec<Row>) -> Result<(), SinkFault> {
+        match self.take(rows.as_slice()) {
+            Ok(()) => {
+                self.stage = Stage::Live;
+                Ok(())
+            }
+            Err(AllocError) => {
+                let fault = SinkFault::NoMemory;
+                self.stage = Stage::Refused { fault };
+                Err(fault)
+            }
+        }
+    }
+}

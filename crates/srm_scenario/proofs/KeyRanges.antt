@@ -1,0 +1,78 @@
+-- What a rule that is met says of the number at its key.
+use Rattle.std.proofs.Common.{◌≡◌, ℕ, zero, suc, ◌≤◌, Bool, true, pos, negsuc, List, [], ◌∷◌, Option, Some, None, unwrap_or, nat_le}
+use Rattle.std.proofs.Common.{slice_get, subst, arith}
+use Rattle.std.proofs.lemmas.Bool.{and_parts, false≢true}
+use Rattle.std.proofs.lemmas.Bool.Decides.{nat_tests}
+use Rattle.std.specs.List.{list_all}
+use Rattle.std.specs.Option.{option_and_then}
+use Rattle.toml.specs.Data.{Data, Members, string, integer, float, boolean, datetime, array, table, get_member}
+use Rattle.srm_scenario.specs.declared.key.Key.{Key}
+use Rattle.srm_scenario.specs.declared.rule.Kind.TheVariants.{Whole}
+use Rattle.srm_scenario.specs.declared.rule.Need.TheVariants.{Required, Optional}
+use Rattle.srm_scenario.specs.declared.rule.Rule.{Rule}
+use Rattle.srm_scenario.specs.Keys.{name_of}
+use Rattle.srm_scenario.specs.Rules.{rule, meets, is_met, is_whole, has_only, fits}
+use Rattle.srm_scenario.specs.Described.{number_of, optional_number, number}
+
+whole_range : (low high : ℕ) (d : Data) → is_whole low high d ≡ true → (n : ℕ) → number_of d ≡ Some n → (low ≤ n) × (n ≤ high)
+whole_range low high (integer (pos m)) h n e =
+    let same : m ≡ n = cc in
+    let (p, q) = and_parts (nat_le low m) (nat_le m high) h in
+    (grind (arith, nat_tests), grind (arith, nat_tests))
+whole_range low high (integer (negsuc m)) h n e = absurd (false≢true h)
+whole_range low high (string t) h n e = absurd (false≢true h)
+whole_range low high (float t) h n e = absurd (false≢true h)
+whole_range low high (boolean t) h n e = absurd (false≢true h)
+whole_range low high (datetime t) h n e = absurd (false≢true h)
+whole_range low high (array t) h n e = absurd (false≢true h)
+whole_range low high (table t) h n e = absurd (false≢true h)
+
+pub whole_number : (low high other : ℕ) (d : Data) → is_whole low high d ≡ true → (low ≤ unwrap_or (number_of d) other)
+    × (unwrap_or (number_of d) other ≤ high)
+whole_number low high other (integer (pos m)) h =
+    let (p, q) = and_parts (nat_le low m) (nat_le m high) h in
+    (grind (arith, nat_tests), grind (arith, nat_tests))
+whole_number low high other (integer (negsuc m)) h = absurd (false≢true h)
+whole_number low high other (string t) h = absurd (false≢true h)
+whole_number low high other (float t) h = absurd (false≢true h)
+whole_number low high other (boolean t) h = absurd (false≢true h)
+whole_number low high other (datetime t) h = absurd (false≢true h)
+whole_number low high other (array t) h = absurd (false≢true h)
+whole_number low high other (table t) h = absurd (false≢true h)
+
+pub required_number : (key : Key) (low high : ℕ) (ms : Members) → is_met ms (rule key (Whole low high) Required) ≡ true
+    → (low ≤ number (name_of key) ms) × (number (name_of key) ms ≤ high)
+required_number key low high ms h = by (get_member (name_of key) ms) h
+  where
+    by : (o : Option Data) → meets Required (Whole low high) o ≡ true → (low ≤ unwrap_or (option_and_then number_of o) 0)
+        × (unwrap_or (option_and_then number_of o) 0 ≤ high)
+    by None e = absurd (false≢true e)
+    by (Some d) e = whole_number low high 0 d e
+
+pub optional_bound : (key : Key) (low high : ℕ) (ms : Members) → is_met ms (rule key (Whole low high) Optional) ≡ true → (n : ℕ)
+    → optional_number (name_of key) ms ≡ Some n → n ≤ high
+optional_bound key low high ms h = by (get_member (name_of key) ms) h
+  where
+    by : (o : Option Data) → meets Optional (Whole low high) o ≡ true → (n : ℕ) → option_and_then number_of o ≡ Some n → n ≤ high
+    by None e n f = cc
+    by (Some d) e n f = let r = whole_range low high d e n f in r.1
+
+-- ---- the rules of a table
+
+all_at : {A : Type 0} (p : A → Bool) (xs : List A) (n : ℕ) (x : A) → list_all p xs ≡ true → slice_get xs n ≡ Some x → p x ≡ true
+all_at p [] n x h e = cc
+all_at p (y ∷ ys) zero x h e =
+    let same : y ≡ x = cc in
+    subst (λ z. p z ≡ true) same (and_parts (p y) (list_all p ys) h).0
+all_at p (y ∷ ys) (suc n) x h e = all_at p ys n x (and_parts (p y) (list_all p ys) h).1 e
+
+-- a table that fits rules meets each of them
+pub rule_met : (rules : List Rule) (ms : Members) → fits rules ms ≡ true → (n : ℕ) (r : Rule) → slice_get rules n ≡ Some r
+    → is_met ms r ≡ true
+rule_met rules ms h n r e = all_at (is_met ms) rules n r (and_parts (has_only _ ms) (list_all (is_met ms) rules) h).1 e
+
+-- so the number at the key of one is in its range
+pub number_fits : (rules : List Rule) (ms : Members) → fits rules ms ≡ true → (n : ℕ) (key : Key) (low high : ℕ)
+    → slice_get rules n ≡ Some (rule key (Whole low high) Required)
+    → (low ≤ number (name_of key) ms) × (number (name_of key) ms ≤ high)
+number_fits rules ms h n key low high e = required_number key low high ms (rule_met rules ms h n (rule key (Whole low high) Required) e)

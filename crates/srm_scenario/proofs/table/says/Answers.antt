@@ -1,0 +1,15 @@
+use Rattle.std.proofs.Common.{◌∙◌, ap}
+use Rattle.srm_scenario.specs.Keys.{name_of}
+use Rattle.srm_scenario.specs.Described.{is_text_or}
+use Rattle.srm_scenario.proofs.Tables.{looked_up}
+use Rattle.srm_scenario.proofs.table.says.Goals as goal
+
+pub returns-in-Some : goal.returns-in-Some
+returns-in-Some c =
+    let found = looked_up c.get.result c.name.result.now (name_of c.args.key) c.args.table.now.entries c.name.ensures c.get.ensures.value in
+    c.is_text.ensures ∙ ap (is_text_or c.args.word.now) (rw c.in-Some.is at found)
+
+pub returns-in-None : goal.returns-in-None
+returns-in-None c =
+    let found = looked_up c.get.result c.name.result.now (name_of c.args.key) c.args.table.now.entries c.name.ensures c.get.ensures.value in
+    ap (is_text_or c.args.word.now) (rw c.in-None.is at found)

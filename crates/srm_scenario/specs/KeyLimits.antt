@@ -1,0 +1,24 @@
+-- The limits of a scenario file's numbers and arrays that no other crate has.
+use Rattle.std.specs.Prelude.{ℕ}
+
+-- the greatest delay of a link in one direction, in ticks
+abbrev pub greatest_delay : ℕ
+greatest_delay = 1000000
+
+-- the last number of a page, of an ink, and of a packet of a sender that a drop names
+abbrev pub last_page : ℕ
+last_page = 65535
+
+abbrev pub last_ink : ℕ
+last_ink = 4294967295
+
+abbrev pub last_count : ℕ
+last_count = 4294967295
+
+-- the last stream of random words: below 2^63
+abbrev pub last_stream : ℕ
+last_stream = 9223372036854775807
+
+-- how many pages a late member asks for at most
+abbrev pub most_pages : ℕ
+most_pages = 256

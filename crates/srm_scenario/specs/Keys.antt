@@ -1,0 +1,40 @@
+-- The names of the keys of scenario files.
+use Rattle.std.specs.Prelude.{ℕ, List, codes}
+use Rattle.srm_scenario.specs.declared.key.Key.{Key}
+use Rattle.srm_scenario.specs.declared.key.Key.TheVariants as key
+
+-- a key as it stands in a file
+abbrev pub name_of : Key → List ℕ
+name_of key.Version = codes "version"
+name_of key.Until = codes "until"
+name_of key.C1 = codes "c1"
+name_of key.C2 = codes "c2"
+name_of key.D1 = codes "d1"
+name_of key.D2 = codes "d2"
+name_of key.Nodes = codes "nodes"
+name_of key.Topology = codes "topology"
+name_of key.Size = codes "size"
+name_of key.Delay = codes "delay"
+name_of key.Back = codes "back"
+name_of key.Degree = codes "degree"
+name_of key.Link = codes "link"
+name_of key.Member = codes "member"
+name_of key.Draw = codes "draw"
+name_of key.Session = codes "session"
+name_of key.Drop = codes "drop"
+name_of key.Outage = codes "outage"
+name_of key.A = codes "a"
+name_of key.B = codes "b"
+name_of key.Node = codes "node"
+name_of key.Role = codes "role"
+name_of key.Stream = codes "stream"
+name_of key.Join = codes "join"
+name_of key.Leave = codes "leave"
+name_of key.Pages = codes "pages"
+name_of key.Page = codes "page"
+name_of key.Ink = codes "ink"
+name_of key.At = codes "at"
+name_of key.Sender = codes "sender"
+name_of key.Count = codes "count"
+name_of key.From = codes "from"
+name_of key.To = codes "to"
