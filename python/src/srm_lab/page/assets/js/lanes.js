@@ -74,7 +74,9 @@ class Lanes {
     lane.append("text").attr("x", LANES_LEFT - 8).attr("y", y + 4).attr("text-anchor", "end").text(trace.nameText(name));
     for (const loss of history.lossesOf.get(this.member) ?? []) if (loss.name === name) this._loss(lane, loss, y);
     for (const rest of history.restsOf.get(this.member) ?? []) if (rest.name === name) this._rest(lane, rest, y);
-    for (const timer of history.timersOf.get(this.member) ?? []) if (timer.name === name) this._timer(lane, timer, y);
+    const timers = (history.timersOf.get(this.member) ?? []).filter((timer) => timer.name === name);
+    for (const timer of timers) this._timer(lane, timer, y);
+    for (const timer of timers) if (timer.end >= 0) this._end(lane, timer, this.x(trace.time[timer.end]), y, `var(--${KINDS[timer.kind]})`);
   }
 
   /** A bar from a tick to another, clipped to the lane. */
@@ -116,7 +118,6 @@ class Lanes {
       .append("title").text(told);
     lane.append("circle").attr("cx", this.x(set)).attr("cy", y).attr("r", 3.4).attr("fill", "var(--paper)").attr("stroke", colour).attr("stroke-width", 1.6)
       .style("cursor", "pointer").on("click", () => this.onPick({ kind: "row", row: timer.set }));
-    if (timer.end >= 0) this._end(lane, timer, this.x(end), y, colour);
   }
 
   _end(lane, timer, x, y, colour) {

@@ -117,7 +117,7 @@ class NetworkView {
     this.network.links.forEach(({ a, b }, link) => {
       const isSteep = Math.abs(this.y[a] - this.y[b]) > Math.abs(this.x[a] - this.x[b]);
       context.textAlign = isSteep ? "left" : "center";
-      const [x, y] = isSteep ? [(this.x[a] + this.x[b]) / 2 + 9, (this.y[a] + this.y[b]) / 2] : this._beside(a, b, 0.5, 14);
+      const [x, y] = isSteep ? [0.7 * this.x[a] + 0.3 * this.x[b] + 9, 0.7 * this.y[a] + 0.3 * this.y[b]] : this._beside(a, b, 0.3, 14);
       context.fillText(`link ${link}`, x, y);
     });
   }
@@ -140,12 +140,7 @@ class NetworkView {
       this._line(context, a, b, this.theme.paper, 6, []);
       this._line(context, a, b, this.theme.cross, 3, [6, 5]);
       if (this.radius < 4) continue;
-      const [x, y] = this._beside(a, b, 0.5, -15);
-      context.fillStyle = this.theme.cross;
-      context.font = `bold 12px ${TEXT_FONT}`;
-      context.textAlign = "center";
-      context.textBaseline = "middle";
-      context.fillText(`out to ${grouping(to)}`, x, y);
+      this._note(context, a, b, -1, `out to ${grouping(to)}`);
     }
   }
 
@@ -296,11 +291,18 @@ class NetworkView {
     drawPacket(context, this.theme, packet.kind, x, y, r);
     cross(context, x, y, r + 3, this.theme.cross, 3);
     if (this.radius < 4 || this.lanes[packet.id] > 0) return;
+    this._note(context, route.near[at], route.far[at], 1, "dropped");
+  }
+
+  /** A word at the middle of a link: below or right of it (1), or above or left (-1), clear of a cross there. */
+  _note(context, from, to, side, text) {
+    const [x, y] = [(this.x[from] + this.x[to]) / 2, (this.y[from] + this.y[to]) / 2];
+    const isSteep = Math.abs(this.y[from] - this.y[to]) > Math.abs(this.x[from] - this.x[to]);
     context.font = `bold 12px ${TEXT_FONT}`;
-    context.textAlign = "center";
+    context.textAlign = !isSteep ? "center" : side > 0 ? "left" : "right";
     context.textBaseline = "middle";
     context.fillStyle = this.theme.cross;
-    context.fillText("dropped", ...this._beside(route.near[at], route.far[at], 0.5, -28));
+    context.fillText(text, isSteep ? x + 20 * side : x, isSteep ? y : y + 24 * side);
   }
 
   _packetLabels(context, moving, r) {
