@@ -19,7 +19,7 @@ export RT
 
 .PHONY: build run try check test test-program test-memory fuzz bench install fmt clean help
 
-build: $(PROGRAM) ## proves and builds the program, if a source is newer than it (the first time some twelve minutes)
+build: $(PROGRAM) ## proves and builds the program, if a source is newer than it (the first time some 25 minutes on 4 processors)
 
 $(PROGRAM): $(SOURCES)
 	@tools/prove.py --program crates/srm_lab
