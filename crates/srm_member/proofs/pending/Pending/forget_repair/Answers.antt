@@ -1,6 +1,6 @@
 use Rattle.std.proofs.Common.{sym, ◌∙◌}
 use Rattle.srm_member.proofs.Indexes.{answered-step, without-none}
-use Rattle.srm_member.proofs.pending.Pending.forget.Goals as goal
+use Rattle.srm_member.proofs.pending.Pending.forget_repair.Goals as goal
 
 pub invariant_of-self : goal.invariant_of-self
 invariant_of-self c =

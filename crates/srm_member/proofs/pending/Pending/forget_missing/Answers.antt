@@ -1,6 +1,6 @@
 use Rattle.std.proofs.Common.{sym, ◌∙◌}
 use Rattle.srm_member.proofs.Indexes.{found-step, without-none}
-use Rattle.srm_member.proofs.pending.Pending.find.Goals as goal
+use Rattle.srm_member.proofs.pending.Pending.forget_missing.Goals as goal
 
 pub invariant_of-self : goal.invariant_of-self
 invariant_of-self c =
