@@ -2,11 +2,12 @@ RT ?= rt
 PROGRAM := crates/srm_lab/out/srm_lab
 SOURCES := crates.txt $(shell find crates -path '*/out' -prune -o \( -name '*.rt' -o -name '*.antt' \) -print)
 CRATES := $(notdir $(patsubst %/src,%,$(wildcard crates/*/src)))
-TEST_PROGRAMS := $(foreach crate,srm_examples srm_calls srm_crew_calls srm_report_calls,crates/$(crate)/out/$(crate)_tests)
+TEST_PROGRAMS := $(foreach crate,srm_examples srm_scenario_tests srm_cell_tests srm_crew_tests srm_report_tests,crates/$(crate)/out/$(crate)_tests)
 # those that pass whichever allocation is refused
-TESTS_OF_MEMORY := $(TEST_PROGRAMS:%/srm_calls_tests=%/srm_calls_tests:ledger_tests)
-TESTS_OF_MEMORY := $(TESTS_OF_MEMORY:%/srm_crew_calls_tests=%/srm_crew_calls_tests:crew_tests)
-TESTS_OF_MEMORY := $(TESTS_OF_MEMORY:%/srm_report_calls_tests=%/srm_report_calls_tests:drops_tests)
+TESTS_OF_MEMORY := $(filter-out %/srm_scenario_tests_tests,$(TEST_PROGRAMS))
+TESTS_OF_MEMORY := $(TESTS_OF_MEMORY:%/srm_cell_tests_tests=%/srm_cell_tests_tests:ledger_tests)
+TESTS_OF_MEMORY := $(TESTS_OF_MEMORY:%/srm_crew_tests_tests=%/srm_crew_tests_tests:crew_tests)
+TESTS_OF_MEMORY := $(TESTS_OF_MEMORY:%/srm_report_tests_tests=%/srm_report_tests_tests:drops_tests)
 PREFIX ?= /usr/local
 SCENARIO ?= examples/two-nodes.toml
 ARGUMENTS ?=

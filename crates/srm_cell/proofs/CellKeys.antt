@@ -7,6 +7,8 @@ use Rattle.srm_net.specs.declared.packet.Name.{Name}
 use Rattle.srm_net.specs.Keys.{key_cmp}
 use Rattle.srm_net.specs.Names.{name_cmp}
 use Rattle.srm_net.specs.Orders.{Ascends}
+use Rattle.srm_net.proofs.TotalOrders.{key_total}
+use Rattle.srm_net.proofs.Basics.{T_first, T_second, T_less}
 use Rattle.srm_scenario.specs.declared.mark.Mark.{Mark}
 use Rattle.srm_scenario.specs.Plain.{mark_cmp}
 use Rattle.srm_member.specs.declared.due.Due.{Due}
@@ -14,8 +16,7 @@ use Rattle.srm_member.specs.declared.entries.Missing.{Missing}
 use Rattle.srm_member.specs.declared.entries.Repairing.{Repairing}
 use Rattle.srm_member.specs.Record.{MemberState, Record, Active, Gone, timers}
 use Rattle.srm_member.proofs.AllIn.{AllIn, AllIn-each, AllIn-map}
-use Rattle.srm_member.proofs.OrderLemmas.{key_total}
-use Rattle.srm_member.proofs.FewerTimers.{T_first, T_second, T_less, SoundRecord}
+use Rattle.srm_member.proofs.FewerTimers.{SoundRecord}
 use Rattle.srm_cell.specs.declared.flight.Flight.{Flight}
 use Rattle.srm_cell.specs.Flights.{flight_cmp}
 use Rattle.srm_cell.specs.Setting.{HasOwnRanks}

@@ -6,7 +6,7 @@ use Rattle.srm_cell.specs.Cells.{Done, Event, Full, Idle, PlainCell, Spent, Step
 use Rattle.srm_cell.specs.Cells.{first_mark, handle, hear_at, next_event, next_timer, own_step, sending_step, step_at, timer_event}
 use Rattle.srm_cell.specs.Flights.{flight_cmp}
 use Rattle.srm_cell.specs.declared.flight.Flight.{Flight}
-use Rattle.srm_member.proofs.OrderLemmas.{head_le, key_total, nat_cmp_self}
+use Rattle.srm_member.proofs.OrderLemmas.{head_le}
 use Rattle.srm_member.specs.React.{Reaction, react}
 use Rattle.srm_member.specs.Record.{Active, Gone, Record, due_cmp, earliest, earlier_timer, by_order, timers}
 use Rattle.srm_member.specs.declared.cause.Cause.{Cause}
@@ -18,6 +18,8 @@ use Rattle.srm_net.specs.declared.packet.Body.{Body}
 use Rattle.srm_net.specs.declared.packet.Packet.{Packet}
 use Rattle.srm_scenario.specs.declared.mark.Mark.{Mark}
 use Rattle.srm_net.specs.Limits.{most_sent}
+use Rattle.srm_net.proofs.Basics.{nat_cmp_self}
+use Rattle.srm_net.proofs.TotalOrders.{key_total}
 
 -- ---- the earliest event before an end
 

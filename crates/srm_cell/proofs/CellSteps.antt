@@ -11,7 +11,7 @@ use Rattle.srm_cell.specs.Flights.{flight_cmp, numbers_of_flight}
 use Rattle.srm_cell.specs.OwnRuns.{told_to}
 use Rattle.srm_cell.specs.Setting.{Traffic, arrival_of}
 use Rattle.srm_cell.specs.declared.flight.Flight.{Flight}
-use Rattle.srm_member.proofs.OrderLemmas.{place-comm, same_numbers}
+use Rattle.srm_member.proofs.OrderLemmas.{place-comm}
 use Rattle.srm_member.specs.React.{Reaction, react}
 use Rattle.srm_member.specs.Record.{Active, Gone, Record, timers}
 use Rattle.srm_member.specs.declared.cause.Cause.{Cause}
@@ -21,6 +21,7 @@ use Rattle.srm_net.specs.declared.packet.Body.{Body}
 use Rattle.srm_net.specs.declared.packet.Packet.{Packet}
 use Rattle.srm_scenario.specs.declared.mark.Mark.{Mark}
 use Rattle.srm_net.specs.Limits.{most_sent}
+use Rattle.srm_net.proofs.Basics.{same_numbers, nth_number}
 
 -- ---- whose events a cell's are
 
@@ -103,13 +104,9 @@ own_step_is end m c d e = subst (IsStepOf m) e (own_step_of end m c)
 pub flight_total : IsTotalOrder flight_cmp
 flight_total = on_total numbers_of_flight nat_list_cmp_total
 
-second_number : List ℕ → ℕ
-second_number (a ∷ b ∷ s) = b
-second_number _ = 0
-
 apart_flights : (f g : Flight) → f.packet.id.sender ≢ g.packet.id.sender → flight_cmp f g ≢ Equal
-unfolding second_number
-apart_flights f g ne e = ne (ap second_number (same_numbers (numbers_of_flight f) (numbers_of_flight g) e))
+unfolding nth_number
+apart_flights f g ne e = ne (ap (nth_number 1) (same_numbers (numbers_of_flight f) (numbers_of_flight g) e))
 
 hear_at_comm : (p q : Packet) (a b : Option ℕ) (c : PlainCell) → p.id.sender ≢ q.id.sender → hear_at p a (hear_at q b c)
     ≡ hear_at q b (hear_at p a c)

@@ -1,5 +1,5 @@
 -- After a step no event that is pending has its key; and what a step does to inbox, script and packet count.
-use Rattle.std.proofs.Common.{◌≡◌, ℕ, zero, suc, ◌<◌, ◌≤◌, ◌+◌, ◌/◌, min, Bool, true, false, cond, not, T, List, [], ◌∷◌, map, refl}
+use Rattle.std.proofs.Common.{◌≡◌, ℕ, suc, ◌<◌, ◌≤◌, ◌+◌, ◌/◌, min, Bool, true, false, cond, not, T, List, [], ◌∷◌, map, refl}
 use Rattle.std.proofs.Common.{sym, ap, ◌∙◌, subst, ◌≢◌, ◌⊎◌, inl, inr, arith, Less, Equal, Greater, Option, Some, None, nat_lt, is_lt}
 use Rattle.std.proofs.Common.{true≢false}
 use Rattle.std.specs.Ordering.{eq_by_cmp, is_eq, ordering_reverse}
@@ -15,10 +15,9 @@ use Rattle.srm_cell.specs.Setting.{HasOwnRanks}
 use Rattle.srm_cell.specs.declared.flight.Flight.{Flight}
 use Rattle.srm_member.proofs.AllIn.{AllIn, AllIn-append, AllIn-each, AllIn-map, AllIn-weaker}
 use Rattle.srm_member.proofs.Bounds.{draw_pos}
-use Rattle.srm_member.proofs.FewerTimers.{In, IsSound, SoundRecord, T_first, T_less, T_second, found, in_append, in_map, name_self}
-use Rattle.srm_member.proofs.FewerTimers.{name_total, no_table}
+use Rattle.srm_member.proofs.FewerTimers.{In, IsSound, SoundRecord, found, in_append, in_map}
+use Rattle.srm_member.proofs.FewerTimers.{no_table}
 use Rattle.srm_member.proofs.LawProofs.{as_active}
-use Rattle.srm_member.proofs.OrderLemmas.{key_total, same_numbers}
 use Rattle.srm_net.specs.Roles.{is_listener}
 use Rattle.srm_member.specs.React.{Reaction, expire_repair, expire_repair_by_entry, expire_request, expire_request_by_entry, back_off}
 use Rattle.srm_member.specs.React.{distance_to, react, request_length}
@@ -40,16 +39,13 @@ use Rattle.srm_net.specs.declared.packet.Packet.{Packet}
 use Rattle.srm_scenario.specs.Plain.{mark_cmp}
 use Rattle.srm_scenario.specs.declared.mark.Mark.{Mark}
 use Rattle.srm_net.specs.Limits.{most_sent}
+use Rattle.srm_net.proofs.Basics.{same_numbers, T_first, T_second, T_less, nth_number}
+use Rattle.srm_net.proofs.TotalOrders.{key_total, name_total, name_self}
 
 -- ---- keys that differ
 
 abbrev pub Differs : Key → Key → Type 0
 Differs k l = key_cmp k l ≢ Equal
-
-nth_number : ℕ → List ℕ → ℕ
-nth_number n [] = 0
-nth_number zero (x ∷ xs) = x
-nth_number (suc n) (x ∷ xs) = nth_number n xs
 
 same_keys : (k l : Key) → key_cmp k l ≡ Equal → numbers_of_key k ≡ numbers_of_key l
 same_keys k l e = same_numbers (numbers_of_key k) (numbers_of_key l) e
@@ -350,6 +346,14 @@ clear_step m c e sound (inr h) =
 
 abbrev pub IsTail : {A : Type 0} → List A → List A → Type 0
 IsTail {A} ys xs = (ys ≡ xs) ⊎ ((x : A) × (xs ≡ x ∷ ys))
+
+pub all_tail : {A : Type 0} (Q : A → Type 0) (ys xs : List A) → IsTail ys xs → AllIn Q xs → AllIn Q ys
+all_tail Q ys xs (inl e) h = subst (AllIn Q) (sym e) h
+all_tail Q ys xs (inr e) h = (subst (AllIn Q) e.1 h).1
+
+pub ranks_tail : (ys xs : List Mark) → IsTail ys xs → HasOwnRanks xs → HasOwnRanks ys
+ranks_tail ys xs (inl e) h = subst HasOwnRanks (sym e) h
+ranks_tail ys xs (inr e) h = (subst HasOwnRanks e.1 h).1
 
 pub record RestOf (c : PlainCell) (e : Event) : Type 0 where
   pub sent : e.rest.sent ≡ c.sent

@@ -2,10 +2,11 @@
 use Rattle.std.proofs.Common.{◌≡◌, ℕ, zero, suc, ◌+◌, ◌*◌, ◌<◌, ◌≤◌, Bool, true, false, cond, ◌&&◌, ◌==◌, List, [], ◌∷◌, ◌++◌, length, refl}
 use Rattle.std.proofs.Common.{sym, ap, ◌∙◌, slice_index, nat_lt, lt-ltb, le-ltb, arith, add-zero, zero-add, le_refl, length-append}
 use Rattle.std.specs.List.{flat_map, range_with_len, count_by}
-use Rattle.std.proofs.lemmas.List.Sums.{sum_by-append, count_by-le-length}
+use Rattle.std.proofs.lemmas.List.Sums.{count_by-le-length}
 use Rattle.srm_net.specs.declared.packet.Body.{Body}
 use Rattle.srm_net.specs.declared.packet.Body.TheVariants.{Drawop, Request, Repair, Session}
 use Rattle.srm_net.specs.declared.packet.Packet.{Packet}
+use Rattle.srm_net.proofs.Basics.{one_if, count_last}
 use Rattle.srm_ledger.specs.declared.kind.Kind.{Kind}
 use Rattle.srm_ledger.specs.declared.kind.Kind.TheVariants as kind
 use Rattle.srm_ledger.specs.Counts.{place_of}
@@ -14,12 +15,6 @@ use Rattle.srm_cell.specs.Crossings.{kind_of, crossed, dropped, crossings_at}
 use Rattle.srm_cell.specs.Totalled.{numbers_of, bump}
 
 -- ---- one link
-
-abbrev one_if : Bool → ℕ
-one_if b = cond b 1 0
-
-count_more : {A : Type 0} (q : A → Bool) (xs : List A) (x : A) → count_by q (xs ++ x ∷ []) ≡ count_by q xs + one_if (q x)
-count_more q xs x = sum_by-append (λ y. cond (q y) 1 0) xs (x ∷ []) ∙ ap (λ n. count_by q xs + n) (zero-add (one_if (q x)))
 
 head : (b : Body) (c d : Bool) (a0 a1 a2 a3 a4 : ℕ) (t : List ℕ)
     → bump d 4 (bump c (place_of (kind_of b)) (a0 ∷ a1 ∷ a2 ∷ a3 ∷ a4 ∷ t))
@@ -61,10 +56,10 @@ module _ (s : Traffic) (ps : List Packet) (p : Packet) where
 
   crossed_more : (k : Kind) (l : ℕ) → crossed s k l all
       ≡ crossed s k l ps + one_if ((place_of (kind_of p.body) == place_of k) && s.crosses p l)
-  crossed_more k l = count_more (λ q. (place_of (kind_of q.body) == place_of k) && s.crosses q l) ps p
+  crossed_more k l = count_last (λ q. (place_of (kind_of q.body) == place_of k) && s.crosses q l) ps p
 
   dropped_more : (l : ℕ) → dropped s l all ≡ dropped s l ps + one_if (s.drops_at p l)
-  dropped_more l = count_more (λ q. s.drops_at q l) ps p
+  dropped_more l = count_last (λ q. s.drops_at q l) ps p
 
   -- the five numbers of each of n links from l on; those of links below k with the packet
   abbrev pub mixed : ℕ → ℕ → ℕ → List ℕ

@@ -7,7 +7,7 @@ use Rattle.srm_cell.specs.Cells.{arrival_key, mark_key, timer_key, Done, Event, 
 use Rattle.srm_cell.specs.Cells.{first_mark, handle, next_event, pending_at, sending_step, step_at, untimed_at}
 use Rattle.srm_cell.specs.declared.flight.Flight.{Flight}
 use Rattle.srm_member.proofs.AllIn.{AllIn-each, AllIn-weaker}
-use Rattle.srm_member.proofs.FewerTimers.{In, IsSound, SoundRecord, fewer_answers, fewer_asks, in_append, in_map, no_more, one_if}
+use Rattle.srm_member.proofs.FewerTimers.{In, IsSound, SoundRecord, fewer_answers, fewer_asks, in_append, in_map, no_more}
 use Rattle.srm_member.proofs.FewerTimers.{sound_react}
 use Rattle.srm_member.specs.React.{Reaction, react}
 use Rattle.srm_member.specs.declared.entries.Missing.{Missing}
@@ -20,6 +20,7 @@ use Rattle.srm_net.specs.declared.packet.Body.{Body}
 use Rattle.srm_net.specs.declared.packet.Name.{Name}
 use Rattle.srm_scenario.specs.declared.mark.Mark.{Mark}
 use Rattle.srm_net.specs.Limits.{most_sent}
+use Rattle.srm_net.proofs.Basics.{one_if}
 
 -- ---- what the next event takes from a cell
 

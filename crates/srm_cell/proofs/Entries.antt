@@ -1,26 +1,18 @@
 -- What putting an entry into an inbox's map does to the flights.
-use Rattle.std.proofs.Common.{◌≡◌, ℕ, zero, suc, true, false, cond, List, [], ◌∷◌, refl, sym, ap, ◌∙◌, true≢false, Ordering, Less, Equal}
+use Rattle.std.proofs.Common.{◌≡◌, ℕ, true, false, cond, List, [], ◌∷◌, refl, sym, ap, ◌∙◌, true≢false, Ordering, Less, Equal}
 use Rattle.std.proofs.Common.{Greater, is_lt, Result, Ok, Err}
 use Rattle.std.specs.Ordering.{nat_cmp, ordering_reverse, ordering_then, match_ordering}
-use Rattle.std.specs.Cmp.{IsTotalOrder, on_total}
-use Rattle.std.specs.Cmp.Lexicographic.{slice_cmp, nat_list_cmp_total}
+use Rattle.std.specs.Cmp.Lexicographic.{slice_cmp}
 use Rattle.std.specs.BTreeMap.{insert_entry}
 use Rattle.std.specs.FinMap.{slice_cmp-IsAntisymmetric, nat_cmp-IsAntisymmetric}
 use Rattle.std.specs.Result.{OnOk, is_err}
 use Rattle.srm_net.specs.declared.packet.Packet.{Packet}
 use Rattle.srm_net.specs.Orders.{place}
+use Rattle.srm_net.proofs.Basics.{nth_number, regrouped}
 use Rattle.srm_cell.specs.declared.flight.Flight.{Flight}
 use Rattle.srm_cell.specs.Flights.{numbers_of_flight, flight_cmp, BringsNone}
 use Rattle.srm_cell.specs.Entries.{flight_of, flights_of, HasKey, HaveKeys}
-
-pub flight_total : IsTotalOrder flight_cmp
-flight_total = on_total numbers_of_flight nat_list_cmp_total
-
--- flights that compare as equal bring one packet
-nth_number : ℕ → List ℕ → ℕ
-nth_number n [] = 0
-nth_number zero (x ∷ xs) = x
-nth_number (suc n) (x ∷ xs) = nth_number n xs
+use Rattle.srm_cell.proofs.CellSteps.{flight_total}
 
 pub tie : (f g : Flight) → flight_cmp f g ≡ Equal → f.packet.id ≡ g.packet.id
 unfolding nth_number
@@ -29,16 +21,6 @@ tie f g q =
     let sender : f.packet.id.sender ≡ g.packet.id.sender = ap (nth_number 1) same in
     let count : f.packet.id.count ≡ g.packet.id.count = ap (nth_number 2) same in
     λ i. record { sender = sender i; count = count i }
-
--- three comparisons, grouped to the left
-regrouped : (a b c : Ordering) → ordering_then (ordering_then a b) c ≡ ordering_then a (ordering_then b (ordering_then c Equal))
-regrouped Less b c = refl
-regrouped Equal Less c = refl
-regrouped Equal Equal Less = refl
-regrouped Equal Equal Equal = refl
-regrouped Equal Equal Greater = refl
-regrouped Equal Greater c = refl
-regrouped Greater b c = refl
 
 -- how the map compares its keys
 abbrev pub slot_cmp : (ℕ × ℕ × ℕ) → (ℕ × ℕ × ℕ) → Ordering

@@ -7,6 +7,7 @@ use Rattle.std.proofs.lemmas.Option.{slice_get-get_or}
 use Rattle.std.specs.Ordering.{ordering_then}
 use Rattle.srm_net.specs.Orders.{Ascends, AllAfter}
 use Rattle.srm_net.proofs.PathLaws.{distance_apart}
+use Rattle.srm_net.proofs.Basics.{nat_cmp_self}
 use Rattle.srm_scenario.specs.declared.mark.Mark.{Mark}
 use Rattle.srm_scenario.specs.declared.parts.MemberSpec.{MemberSpec}
 use Rattle.srm_scenario.specs.Plain.{PlainScenario, network_of, mark_cmp, script_of}
@@ -16,7 +17,7 @@ use Rattle.srm_scenario.proofs.ScriptLemmas.{scripts_fit}
 use Rattle.srm_member.specs.declared.cause.Cause.{Cause}
 use Rattle.srm_member.specs.declared.cause.Cause.TheVariants.{Join, Draw, Report}
 use Rattle.srm_member.proofs.AllIn.{AllIn, AllIn-at_places}
-use Rattle.srm_member.proofs.OrderLemmas.{head_le, nat_cmp_self}
+use Rattle.srm_member.proofs.OrderLemmas.{head_le}
 use Rattle.srm_cell.specs.Setting.{HasOwnRanks, EndsAtLeave, cause_of_mark, member_at, no_member}
 use Rattle.srm_cell.specs.Laws.{SettingsAreFit}
 

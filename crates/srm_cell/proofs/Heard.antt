@@ -6,11 +6,12 @@ use Rattle.srm_net.specs.declared.key.Key.{Key}
 use Rattle.srm_net.specs.declared.packet.Packet.{Packet}
 use Rattle.srm_net.specs.Keys.{key_cmp}
 use Rattle.srm_net.specs.Orders.{place}
+use Rattle.srm_net.proofs.TotalOrders.{key_total}
 use Rattle.srm_scenario.specs.declared.mark.Mark.{Mark}
 use Rattle.srm_member.specs.declared.cause.Cause.TheVariants.{Arrival}
 use Rattle.srm_member.specs.declared.due.Due.{Due}
 use Rattle.srm_member.specs.Record.{due_of}
-use Rattle.srm_member.proofs.OrderLemmas.{key_total, from_refl, from_trans, from_not_greater, not_greater}
+use Rattle.srm_member.proofs.OrderLemmas.{from_refl, from_trans, from_not_greater, not_greater}
 use Rattle.srm_cell.specs.declared.flight.Flight.{Flight}
 use Rattle.srm_cell.specs.declared.pending.Source.{Source}
 use Rattle.srm_cell.specs.declared.pending.Source.TheVariants.{Inbox, Script, Timer}
@@ -70,7 +71,7 @@ earlier_of_three (Some d) None z = refl
 earlier_of_three (Some d) (Some e) None = refl
 earlier_of_three (Some d) (Some e) (Some f) = ap Some (of_three d e f (key_cmp d.key e.key) (key_cmp e.key f.key) refl refl)
 
-some_first : (d : Event) (o : Option Event) → earlier (Some d) o ≢ None
+pub some_first : (d : Event) (o : Option Event) → earlier (Some d) o ≢ None
 some_first d None h = cc
 some_first d (Some e) h = cc
 

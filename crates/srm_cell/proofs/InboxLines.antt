@@ -1,6 +1,6 @@
 -- A line of flights, and others apart from it: what a flight more or less in either changes of them all in order.
 use Rattle.std.proofs.Common.{◌≡◌, ◌≢◌, ℕ, zero, suc, ◌<◌, ◌≤◌, ◌-◌, arith, length, insert, slice_index_or, Result, Ok, Err, OnOk, OnErr}
-use Rattle.std.proofs.Common.{IsSome, MatchOption, Bool}
+use Rattle.std.proofs.Common.{IsSome, MatchOption}
 use Rattle.std.proofs.Common.{true, false, cond, List, [], ◌∷◌, ◌++◌, Option, Some, None, slice_get, refl, sym, ap, ◌∙◌, subst}
 use Rattle.std.proofs.Common.{Ordering, Equal, is_lt, true≢false}
 use Rattle.std.specs.Ordering.{ordering_reverse}
@@ -11,11 +11,12 @@ use Rattle.srm_net.specs.declared.packet.Body.TheVariants as body
 use Rattle.srm_net.specs.declared.packet.PacketId.{PacketId}
 use Rattle.srm_net.specs.Orders.{place, ordered, NoneBelow, Rises}
 use Rattle.srm_member.proofs.AllIn.{AllIn}
-use Rattle.srm_member.proofs.OrderLemmas.{From, from_trans, none_below_from, place-comm, place_first, rises_place}
+use Rattle.srm_member.proofs.OrderLemmas.{From, from_trans, none_below_from, place-comm, place_first, rises_place, none_below_cond}
 use Rattle.srm_cell.specs.declared.flight.Flight.{Flight}
 use Rattle.srm_cell.specs.Flights.{flight_cmp, BringsNone, place_of, place_cmp}
 use Rattle.srm_cell.specs.InboxLines.{follows, leads, goes_before, IsPlaceIn}
-use Rattle.srm_cell.proofs.Entries.{flight_total, tie}
+use Rattle.srm_cell.proofs.Entries.{tie}
+use Rattle.srm_cell.proofs.CellSteps.{flight_total}
 
 -- ---- lists in an order
 
@@ -45,13 +46,9 @@ module _ {A : Type 0} (cmp : A → A → Ordering) (o : IsTotalOrder cmp) where
   ordered_among x (y ∷ ys) zs r h =
       ap (place cmp y) (ordered_among x ys zs r h.1) ∙ place-comm cmp o y x (apart_back x y h.0) (ordered cmp (ys ++ zs))
 
-  none_below_cond : (k : A) (b : Bool) (xs ys : List A) → NoneBelow cmp k xs → NoneBelow cmp k ys → NoneBelow cmp k (cond b xs ys)
-  none_below_cond k true xs ys h g = h
-  none_below_cond k false xs ys h g = g
-
   none_below_place : (k x : A) (ys : List A) → From cmp o k x → NoneBelow cmp k ys → NoneBelow cmp k (place cmp x ys)
   none_below_place k x [] h g = (h, tt)
-  none_below_place k x (y ∷ ys) h g = none_below_cond k (is_lt (cmp y x))
+  none_below_place k x (y ∷ ys) h g = none_below_cond cmp o k (is_lt (cmp y x))
       (y ∷ place cmp x ys) (x ∷ y ∷ ys) (g.0, none_below_place k x ys h g.1) (h, g)
 
   none_below_ordered : (k : A) (xs : List A) → NoneBelow cmp k xs → NoneBelow cmp k (ordered cmp xs)

@@ -1,18 +1,20 @@
 -- The next event of a cell is the least of all that it has pending.
-use Rattle.std.proofs.Common.{◌≡◌, ◌≢◌, ℕ, List, [], ◌∷◌, ◌++◌, map, Option, Some, None, refl, sym, ◌∙◌, subst}
+use Rattle.std.proofs.Common.{◌≡◌, ℕ, List, [], ◌∷◌, ◌++◌, map, None, refl, sym, ◌∙◌, subst}
 use Rattle.srm_net.specs.declared.key.Key.{Key}
 use Rattle.srm_net.specs.Keys.{key_cmp}
 use Rattle.srm_net.specs.Orders.{NoneBelow}
+use Rattle.srm_net.proofs.TotalOrders.{key_total}
 use Rattle.srm_scenario.specs.declared.mark.Mark.{Mark}
 use Rattle.srm_member.specs.declared.due.Due.{Due}
 use Rattle.srm_member.specs.Record.{timers}
 use Rattle.srm_member.proofs.AllIn.{AllIn}
-use Rattle.srm_member.proofs.OrderLemmas.{from_refl, key_total}
+use Rattle.srm_member.proofs.OrderLemmas.{from_refl}
 use Rattle.srm_cell.specs.declared.flight.Flight.{Flight}
-use Rattle.srm_cell.specs.Cells.{PlainCell, Event, earlier, first_arrival, first_mark, arrival_key, mark_key, timer_key}
+use Rattle.srm_cell.specs.Cells.{PlainCell, earlier, first_arrival, first_mark, arrival_key, mark_key, timer_key}
 use Rattle.srm_cell.specs.Laws.{NextEventsAreLeast}
 use Rattle.srm_cell.proofs.CellLemmas.{first_timer, next_event_is}
 use Rattle.srm_cell.proofs.Tidy.{NotBefore, Least, above_least}
+use Rattle.srm_cell.proofs.Heard.{some_first}
 
 none_of : {A : Type 0} (k : Key) (f : A → Key) (xs : List A) → AllIn (λ x. NotBefore k (f x)) xs → NoneBelow key_cmp k (map f xs)
 none_of k f [] h = tt
@@ -21,10 +23,6 @@ none_of k f (x ∷ xs) h = (h.0, none_of k f xs h.1)
 none_in_both : (k : Key) (xs ys : List Key) → NoneBelow key_cmp k xs → NoneBelow key_cmp k ys → NoneBelow key_cmp k (xs ++ ys)
 none_in_both k [] ys a b = b
 none_in_both k (x ∷ xs) ys a b = (a.0, none_in_both k xs ys a.1 b)
-
-some_first : (d : Event) (o : Option Event) → earlier (Some d) o ≢ None
-some_first d None h = cc
-some_first d (Some e) h = cc
 
 nothing : (m : ℕ) (c : PlainCell) (fs : List Flight) (ks : List Mark) (ds : List Due)
     → earlier (first_arrival m c fs) (earlier (first_mark m c ks) (first_timer m c ds)) ≡ None

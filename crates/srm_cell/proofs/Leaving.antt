@@ -1,7 +1,7 @@
 -- Members that left: nothing is pending at a record that is gone.
 use Rattle.std.proofs.Common.{◌≡◌, ◌≢◌, ℕ, zero, suc, ◌<◌, ◌≤◌, Bool, true, false, cond, List, [], ◌∷◌, refl, sym, ap, ◌∙◌, subst, ◌⊎◌}
-use Rattle.std.proofs.Common.{inl, inr, arith, Option, Some, None, nat_lt, nat_le, is_lt, true≢false, ltb-true, lt-ltb, leb-true, eqb-true}
-use Rattle.std.proofs.Common.{eq-eqb, ◌==◌, Less, nat_cmp}
+use Rattle.std.proofs.Common.{inl, inr, arith, Option, Some, None, nat_lt, true≢false, lt-ltb, leb-true}
+use Rattle.std.proofs.Common.{eq-eqb, ◌==◌}
 use Rattle.srm_net.specs.declared.key.Key.{Key}
 use Rattle.srm_net.specs.declared.packet.Packet.{Packet}
 use Rattle.srm_net.specs.declared.packet.Body.{Body}
@@ -12,7 +12,7 @@ use Rattle.srm_member.specs.declared.due.Due.{Due}
 use Rattle.srm_member.specs.Record.{Record, Active, Gone, timers}
 use Rattle.srm_member.specs.React.{Reaction, react}
 use Rattle.srm_member.proofs.AllIn.{AllIn, AllIn-place}
-use Rattle.srm_member.proofs.OrderLemmas.{key_total, from_refl, nat_cmp_self}
+use Rattle.srm_member.proofs.OrderLemmas.{from_refl}
 use Rattle.srm_cell.specs.declared.flight.Flight.{Flight}
 use Rattle.srm_cell.specs.Flights.{flight_cmp}
 use Rattle.srm_scenario.specs.Presence.{is_up_to}
@@ -25,9 +25,11 @@ use Rattle.srm_cell.proofs.CellSteps.{before_some}
 use Rattle.srm_cell.proofs.Rising.{OnEvent, earlier_on, OnStep}
 use Rattle.srm_cell.proofs.Tidy.{NotBefore, Least, IsTidy, RestTidy, above_least, next_tidy, tidy_step}
 use Rattle.srm_cell.proofs.Counts.{Taken, next_taken}
-use Rattle.srm_cell.proofs.Clear.{IsTail, RestOf, next_rest, StepOf, step_is_of}
+use Rattle.srm_cell.proofs.Clear.{IsTail, RestOf, next_rest, StepOf, step_is_of, all_tail, ranks_tail}
 use Rattle.srm_cell.proofs.OwnRunLemmas.{end_by, end_first, end_now}
 use Rattle.srm_net.specs.Limits.{most_sent}
+use Rattle.srm_net.proofs.Basics.{nat_cmp_self}
+use Rattle.srm_net.proofs.TotalOrders.{key_total}
 
 abbrev pub IsActive : Record → Type 0
 IsActive (Active m) = Unit {0}
@@ -161,17 +163,9 @@ over_by : (r : Record) (c : PlainCell) → (c.inbox ≡ []) × (c.script ≡ [])
 over_by (Active m) c h = tt
 over_by (Gone f) c h = h
 
-up_to_tail : {A : Type 0} (Q : A → Type 0) (ys xs : List A) → IsTail ys xs → AllIn Q xs → AllIn Q ys
-up_to_tail Q ys xs (inl e) h = subst (AllIn Q) (sym e) h
-up_to_tail Q ys xs (inr e) h = (subst (AllIn Q) e.1 h).1
-
 marks_tail : (leave : Option ℕ) (ys xs : List Mark) → IsTail ys xs → EndsAtLeave leave xs → EndsAtLeave leave ys
 marks_tail leave ys xs (inl e) h = subst (EndsAtLeave leave) (sym e) h
 marks_tail leave ys xs (inr e) h = (subst (EndsAtLeave leave) e.1 h).1
-
-ranks_tail : (ys xs : List Mark) → IsTail ys xs → HasOwnRanks xs → HasOwnRanks ys
-ranks_tail ys xs (inl e) h = subst HasOwnRanks (sym e) h
-ranks_tail ys xs (inr e) h = (subst HasOwnRanks e.1 h).1
 
 -- after a leave nothing is pending
 left_over : (leave : Option ℕ) (m : ℕ) (c : PlainCell) (e : Event) (d : Stepped) → IsTidy c → Stays leave c → next_event m c ≡ Some e
@@ -198,7 +192,7 @@ stays_step leave m c e d tidy s q x =
     let active : ActiveOrLeft e d = subst (OnStep (ActiveOrLeft e)) x (active_handle e e.rest.holds e.cause refl) in
     record {
       flights = subst (AllIn (λ f. is_up_to f.arrival leave ≡ true)) (sym did.inbox)
-          (up_to_tail (λ f. is_up_to f.arrival leave ≡ true) _ _ rest_of.inbox s.flights);
+          (all_tail (λ f. is_up_to f.arrival leave ≡ true) _ _ rest_of.inbox s.flights);
       marks = subst (EndsAtLeave leave) (sym did.script) (marks_tail leave _ _ rest_of.script s.marks);
       ranks = subst HasOwnRanks (sym did.script) (ranks_tail _ _ rest_of.script s.ranks);
       over = elim active [

@@ -14,7 +14,7 @@ use Rattle.srm_cell.specs.Cells.{pending_at, sending_step, step_at}
 use Rattle.srm_cell.specs.OwnRuns.{own_end}
 use Rattle.srm_member.proofs.FewerTimers.{SoundRecord}
 use Rattle.srm_member.proofs.LawProofs.{as_listener, no_body, same_fixed}
-use Rattle.srm_member.proofs.OrderLemmas.{from_refl, key_total}
+use Rattle.srm_member.proofs.OrderLemmas.{from_refl}
 use Rattle.srm_net.specs.Roles.{is_listener}
 use Rattle.srm_member.specs.React.{Reaction, react}
 use Rattle.srm_member.specs.Record.{Active, Gone, Record}
@@ -22,6 +22,7 @@ use Rattle.srm_member.specs.declared.cause.Cause.{Cause}
 use Rattle.srm_member.specs.declared.fixed.Fixed.{Fixed}
 use Rattle.srm_net.specs.Keys.{key_cmp}
 use Rattle.srm_net.specs.declared.key.Key.{Key}
+use Rattle.srm_net.proofs.TotalOrders.{key_total}
 
 -- ---- an own run ends
 

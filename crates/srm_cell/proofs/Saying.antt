@@ -10,8 +10,8 @@ use Rattle.srm_member.specs.declared.fault.MemberFault.TheVariants as member
 use Rattle.srm_member.specs.Record.{Record, Active, Gone}
 use Rattle.srm_member.specs.React.{Reaction, react}
 use Rattle.srm_member.specs.Reacts.{Reacts, Finishes}
-use Rattle.srm_cell.specs.Cells.{Event, StepOutcome, Full, Spent, Done, Stepped, handle, sending_step, row_of, packet_of, parting}
-use Rattle.srm_cell.specs.Views.{IsGone, IsHere, HasWork, HoldsRecord, record_in}
+use Rattle.srm_cell.specs.Cells.{Event, Full, Spent, Done, Stepped, handle, sending_step, row_of, packet_of, parting}
+use Rattle.srm_cell.specs.Views.{IsGone, HasWork, HoldsRecord, record_in}
 use Rattle.srm_net.specs.Limits.{most_sent}
 
 -- a member that is gone has no answer
@@ -30,9 +30,6 @@ ended_is_gone (Gone f) s h = tt
 
 -- what is known where a member answered
 module _ (e : Event) (key : Key) (cause : Cause) (same : key ≡ e.key) (caused : e.cause ≡ Some cause) where
-  abbrev Handled : Record → StepOutcome Stepped → Type 0
-  Handled h o = handle e h e.cause ≡ o
-
   answered : (r s : Record) (a : React) → Reacts r key.time cause (Ok a) s
       → (o : Option Body) → a.body ≡ o → (x : Reaction) × (x.answer ≡ a) × (s ≡ Active x.state) × (handle e r e.cause ≡ sending_step e x o)
   unfolding handle
@@ -111,10 +108,6 @@ pub wanting_end : (e : Event) (r s : Record) → e.rest.holds ≡ r → e.cause 
 unfolding handle
 wanting_end e (Gone f) s holds caused h = absurd h
 wanting_end e (Active m) s holds caused h = subst HasWork (sym (ap (λ q. handle e q e.cause) holds ∙ ap (handle e (Active m)) caused)) tt
-
-pub ending_is_here : (r s : Record) → Finishes r (Err member.NoMemory) s → IsHere r
-ending_is_here (Active m) s h = tt
-ending_is_here (Gone f) s h = h
 
 -- at a leave
 pub left : (e : Event) (r s : Record) (x : Exit) → e.rest.holds ≡ r → e.cause ≡ None → Finishes r (Ok x) s

@@ -1,8 +1,8 @@
 -- Cells whose inboxes and scripts are in order, and what the least event says of them.
-use Rattle.std.proofs.Common.{◌≡◌, ℕ, ◌<◌, ◌≤◌, ◌+◌, Bool, true, false, cond, not, ◌&&◌, List, [], ◌∷◌, refl, sym, ap, ◌∙◌, subst, ◌≢◌}
+use Rattle.std.proofs.Common.{◌≡◌, ℕ, ◌<◌, ◌≤◌, ◌+◌, Bool, true, false, cond, not, List, [], ◌∷◌, refl, sym, ap, ◌∙◌, subst, ◌≢◌}
 use Rattle.std.proofs.Common.{arith, Ordering, Less, Equal, Greater, Option, Some, None, nat_lt, nat_le, is_lt, ltb-true, eqb-true, ◌==◌}
 use Rattle.std.proofs.Common.{le-ltb}
-use Rattle.std.proofs.lemmas.Bool.{eqb-false}
+use Rattle.std.proofs.lemmas.Bool.{eqb-false, and_parts}
 use Rattle.srm_cell.proofs.CellLemmas.{first_le, first_timer, next_event_is}
 use Rattle.srm_cell.proofs.CellSteps.{flight_total}
 use Rattle.srm_cell.proofs.Rising.{Above, OnEvent, OnStep, earlier_on}
@@ -14,7 +14,7 @@ use Rattle.srm_scenario.specs.Presence.{is_up_to}
 use Rattle.srm_cell.specs.Setting.{Traffic, arrival_of}
 use Rattle.srm_cell.specs.declared.flight.Flight.{Flight}
 use Rattle.srm_member.proofs.AllIn.{AllIn}
-use Rattle.srm_member.proofs.OrderLemmas.{From, from_greater, from_not_greater, from_trans, key_total, nat_cmp_self, not_greater}
+use Rattle.srm_member.proofs.OrderLemmas.{From, from_greater, from_not_greater, from_trans, not_greater}
 use Rattle.srm_member.proofs.OrderLemmas.{rises_place}
 use Rattle.srm_member.specs.React.{Reaction, react}
 use Rattle.srm_member.specs.Record.{Active, Gone, Record, timers}
@@ -28,6 +28,8 @@ use Rattle.srm_net.specs.declared.packet.Packet.{Packet}
 use Rattle.srm_scenario.specs.Plain.{mark_cmp}
 use Rattle.srm_scenario.specs.declared.mark.Mark.{Mark}
 use Rattle.srm_net.specs.Limits.{most_sent}
+use Rattle.srm_net.proofs.Basics.{nat_cmp_self}
+use Rattle.srm_net.proofs.TotalOrders.{key_total}
 
 -- ---- keys of flights and marks of one member
 
@@ -169,10 +171,6 @@ tidy_told s None m c t = t
 tidy_told s (Some p) m c t = tidy_hear_at p (arrival_of s p m) c t
 
 -- ---- what a packet's arrival is
-
-and_parts : (a b : Bool) → (a && b) ≡ true → (a ≡ true) × (b ≡ true)
-and_parts true b h = (refl, h)
-and_parts false b h = cc
 
 if_some : (b : Bool) (n at : ℕ) → cond b (Some n) None ≡ Some at → (b ≡ true) × (n ≡ at)
 if_some true n at h = (refl, cc)

@@ -35,8 +35,8 @@ abbrev pub IsShort : Packet → ℕ → Type 0
 IsShort p at = (p.sent ≤ at) × (at < p.sent + 2 ^ 32) × (p.id.count < 2 ^ 32)
 
 -- the body is a session message's
-abbrev pub IsSession : Body → Type 0
-IsSession (body.Drawop name ink) = ⊥
-IsSession (body.Request name) = ⊥
-IsSession (body.Repair name ink) = ⊥
-IsSession (body.Session heard) = Unit {0}
+abbrev pub CarriesSession : Body → Type 0
+CarriesSession (body.Drawop name ink) = ⊥
+CarriesSession (body.Request name) = ⊥
+CarriesSession (body.Repair name ink) = ⊥
+CarriesSession (body.Session heard) = Unit {0}

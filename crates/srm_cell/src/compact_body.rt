@@ -1,6 +1,6 @@
 //! What the packets of a line carry.
 ghost use Rattle.std.specs.Prelude.{◌≡◌, IfOk, IfErr};
-ghost use Rattle.srm_cell.specs.CompactFlights.{sender_of, body_of, IsSession};
+ghost use Rattle.srm_cell.specs.CompactFlights.{sender_of, body_of, CarriesSession};
 
 use srm_net::packet::{Body, Heard, Name};
 use srm_net::sequence::Sequence;
@@ -54,7 +54,7 @@ impl CompactBody {
     pub(crate) fn new(alloc: Global, sender: u16, body: &Body) -> Result<Self, AllocError>
         ensures sender { IfOk result (λ b. sender_of b ≡ sender) }
         ensures body { IfOk result (λ b. body_of b ≡ body.now) }
-        ensures memory { IfErr result (λ _. IsSession body.now) }
+        ensures memory { IfErr result (λ _. CarriesSession body.now) }
     {
         match body {
             Body::Drawop { name, ink } => Ok(CompactBody::Drawop {

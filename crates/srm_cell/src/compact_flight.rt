@@ -1,6 +1,6 @@
 //! Flights as a line keeps them.
 ghost use Rattle.std.specs.Prelude.{◌≡◌, ◌↔◌, IsTrue, IfOk, IfErr};
-ghost use Rattle.srm_cell.specs.CompactFlights.{IsShort, IsSession};
+ghost use Rattle.srm_cell.specs.CompactFlights.{IsShort, CarriesSession};
 
 use crate::compact_body::CompactBody;
 use crate::flight::Flight;
@@ -52,7 +52,7 @@ impl CompactFlight {
     pub(crate) fn new(alloc: Global, packet: &Packet, arrival: u64) -> Result<Self, AllocError>
         requires { IsShort packet.now arrival }
         ensures ok { IfOk result (λ f. f ≡ record { arrival = arrival; packet = packet.now }) }
-        ensures memory { IfErr result (λ _. IsSession packet.now.body) }
+        ensures memory { IfErr result (λ _. CarriesSession packet.now.body) }
     {
         let PacketId { sender, count } = packet.id;
         Ok(CompactFlight {

@@ -6,6 +6,7 @@ ghost use Rattle.srm_cell.specs.Pending as pending;
 
 use srm_net::key::Key;
 use srm_net::packet::PacketId;
+use srm_net::rank;
 use std::cmp::Ordering;
 
 /// Where a cell has an event.
@@ -37,7 +38,7 @@ impl Pending {
             key: Key {
                 time,
                 member,
-                rank: 1,
+                rank: rank::ARRIVAL,
                 a: id.sender,
                 b: 0,
                 c: id.count,

@@ -7,6 +7,7 @@ use srm_member::cause::Cause;
 use srm_member::due::Due;
 use srm_member::row::{About, Word};
 use srm_net::packet::Body;
+use srm_net::rank;
 use srm_scenario::mark::Mark;
 
 // The kind of an event that has a cause.
@@ -48,12 +49,12 @@ pub(crate) fn cause_at(mark: Mark) -> Option<Cause>
     ensures { result ≡ cause_of_mark mark }
 {
     match mark.rank {
-        0 => Some(Cause::Join),
-        4 => Some(Cause::Draw {
+        rank::JOIN => Some(Cause::Join),
+        rank::DRAW => Some(Cause::Draw {
             page: mark.page,
             ink: mark.ink,
         }),
-        5 => Some(Cause::Report),
+        rank::REPORT => Some(Cause::Report),
         _ => None,
     }
 }
@@ -62,7 +63,7 @@ pub(crate) fn cause_at(mark: Mark) -> Option<Cause>
 pub(crate) fn expiry(due: Due) -> Cause
     ensures { result ≡ cause_of_timer due.rank due.name }
 {
-    if due.rank == 2 {
+    if due.rank == rank::REQUEST {
         Cause::Ask { name: due.name }
     } else {
         Cause::Answer { name: due.name }

@@ -19,14 +19,15 @@ use Rattle.srm_cell.specs.OwnRuns.{own_end}
 use Rattle.srm_cell.specs.Crossings.{joined, crossings, added}
 use Rattle.srm_cell.specs.Jobs as cell
 use Rattle.srm_cell.proofs.CrossingLemmas.{crossings_add}
+use Rattle.srm_cell.proofs.RowPackets.{joined-append}
 use Rattle.srm_crew.specs.Crews.{AreJobs, AnyEnds, HasGrown, word_of, rows_of}
 use Rattle.srm_crew.proofs.Sums.{crossings_long}
-use Rattle.srm_model.specs.WindowRuns.{OwnResult, AreOwnRuns, rows_in, cells_in, PlainJob, jobs_within, jobs_from, AreJobRuns}
+use Rattle.srm_model.specs.WindowRuns.{OwnResult, AreOwnRuns, rows_in, cells_in, WindowJob, jobs_within, jobs_from, AreJobRuns}
 use Rattle.srm_engine.specs.Groups.{numbered, handed_jobs, AreCuts, sizes, all_in, jobs_with, groups_of, lists_of, some_of}
 use Rattle.srm_engine.specs.Windowed.{IsCounted}
 use Rattle.srm_model.proofs.RunLemmas.{shifted}
 use Rattle.srm_model.proofs.OneWindow.{as_many_results}
-use Rattle.srm_model.proofs.WindowJobs.{jobs_are_runs, crossings_keep, get_first, get_second, joined-append}
+use Rattle.srm_model.proofs.WindowJobs.{jobs_are_runs, crossings_keep, get_first, get_second}
 use Rattle.srm_engine.proofs.CellLists.{AreFrom, as_many_from, split_from, join_from, first_cut, no_more_groups}
 use Rattle.srm_net.specs.Limits.{end_of_time}
 
@@ -203,11 +204,11 @@ module _ {X : Type 0} {H : X → Type 0} (f : DynBox X Global H → Record) wher
       let more = own_results end (suc i) cs lists after h.1 in
       (record { rows = r; cell = h.0.0 } ∷ more.0, (h.0.1, more.1), (h.0.2, more.2), ap (λ l. r ∷ l) more.3)
 
-  pub job_results : (t : Traffic) (i : ℕ) (js : List PlainJob) (ds : List (job.Done X H))
+  pub job_results : (t : Traffic) (i : ℕ) (js : List WindowJob) (ds : List (job.Done X H))
       → AllZip (λ p d. cell.IsDone f t p d) (handed_jobs i js) ds
       → (rss : List (List OwnResult)) × AreJobRuns i js rss × AreFrom f i (all_in (groups_of ds)) (cells_in (joined rss))
       × (lists_of ds ≡ rows_in (joined rss))
-      × (sizes (groups_of ds) ≡ map (λ (j : PlainJob). length j.cells) js)
+      × (sizes (groups_of ds) ≡ map (λ (j : WindowJob). length j.cells) js)
   job_results t i [] [] h = ([], tt, tt, refl, refl)
   job_results t i [] (d ∷ ds) h = absurd h
   job_results t i (j ∷ js) [] h = absurd h
@@ -227,8 +228,8 @@ module _ {X : Type 0} {H : X → Type 0} (f : DynBox X Global H → Record) wher
         ap (λ n. n ∷ sizes (groups_of ds)) size ∙ ap (λ l. length j.cells ∷ l) more.4,
       )
 
-  sizes_are : (till place i : ℕ) (gs : List (Vec (Cell X H))) (js : List PlainJob) → AreJobs f (jobs_with till place gs) (handed_jobs i js)
-      → sizes gs ≡ map (λ (j : PlainJob). length j.cells) js
+  sizes_are : (till place i : ℕ) (gs : List (Vec (Cell X H))) (js : List WindowJob) → AreJobs f (jobs_with till place gs) (handed_jobs i js)
+      → sizes gs ≡ map (λ (j : WindowJob). length j.cells) js
   sizes_are till place i [] [] h = refl
   sizes_are till place i [] (j ∷ js) h = absurd h
   sizes_are till place i (g ∷ gs) [] h = absurd h
@@ -237,9 +238,9 @@ module _ {X : Type 0} {H : X → Type 0} (f : DynBox X Global H → Record) wher
       ∙ ap (λ l. length j.cells ∷ l) (sizes_are till (suc place) (i + length j.cells) gs js h.1)
 
   -- the groups keep their sizes
-  pub cuts_kept : (cut till : ℕ) (gs : List (Vec (Cell X H))) (js : List PlainJob) (ds : List (job.Done X H)) → AreCuts cut (sizes gs)
+  pub cuts_kept : (cut till : ℕ) (gs : List (Vec (Cell X H))) (js : List WindowJob) (ds : List (job.Done X H)) → AreCuts cut (sizes gs)
       → AreJobs f (jobs_with till 0 gs) (handed_jobs 0 js)
-      → sizes (groups_of ds) ≡ map (λ (j : PlainJob). length j.cells) js → AreCuts cut (sizes (groups_of ds))
+      → sizes (groups_of ds) ≡ map (λ (j : WindowJob). length j.cells) js → AreCuts cut (sizes (groups_of ds))
   cuts_kept cut till gs js ds cuts h e = subst (AreCuts cut) (sizes_are till 0 0 gs js h ∙ sym e) cuts
 
   pub rows_joined : (ds : List (job.Done X H)) → rows_of ds ≡ joined (lists_of ds)

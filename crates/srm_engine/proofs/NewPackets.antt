@@ -10,13 +10,13 @@ use Rattle.srm_cell.specs.Flights.{BringsNone}
 use Rattle.srm_cell.specs.Cells.{PlainCell, Event, before, Done, Stepped, step_at, next_event}
 use Rattle.srm_cell.proofs.Rising.{OnEvent, before_on, OnStep}
 use Rattle.srm_cell.proofs.CellSteps.{SentBy}
-use Rattle.srm_cell.proofs.Clear.{CountAfter, StepOf, step_is_of, RestOf, next_rest}
+use Rattle.srm_cell.proofs.Clear.{CountAfter, StepOf, step_is_of, RestOf, next_rest, all_tail}
 use Rattle.srm_member.proofs.AllIn.{AllIn}
 use Rattle.srm_model.specs.World.{World, least_event, run, opening}
 use Rattle.srm_model.specs.Hearing.{IsNew}
 use Rattle.srm_model.proofs.RunLemmas.{Seq, rest, next}
 use Rattle.srm_model.proofs.Sequential.{Good, step_facts, good_step, good_opening, run_seq, get_below}
-use Rattle.srm_model.proofs.StrictRuns.{Strict, strict_step, strict_opening, sent_of, sent_here, all_tail}
+use Rattle.srm_model.proofs.StrictRuns.{Strict, strict_step, strict_opening, sent_of, sent_here}
 use Rattle.srm_engine.proofs.Index.{get_set_same, get_set_other}
 use Rattle.srm_engine.proofs.SeenLemmas.{same_some}
 

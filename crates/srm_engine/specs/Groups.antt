@@ -18,7 +18,7 @@ use Rattle.srm_model.specs.Hearing.{IsNew, heard_below}
 use Rattle.srm_engine.specs.Seen.{AreCells}
 use Rattle.srm_engine.specs.declared.window.Grouped.{Grouped}
 use Rattle.srm_engine.specs.Soonest.{AreSoonest}
-use Rattle.srm_model.specs.WindowRuns.{PlainJob, AreNewInTurn, each_hears}
+use Rattle.srm_model.specs.WindowRuns.{WindowJob, AreNewInTurn, each_hears}
 use Rattle.srm_net.specs.Limits.{end_of_time}
 
 -- ---- jobs as crews see them
@@ -29,7 +29,7 @@ numbered i [] = []
 numbered i (c ∷ cs) = record { member = i; cell = c } ∷ numbered (suc i) cs
 
 -- the jobs, of which the first has the cells of member i and on, as they are handed to a crew
-abbrev pub handed_jobs : ℕ → List PlainJob → List cell.PlainJob
+abbrev pub handed_jobs : ℕ → List WindowJob → List cell.PlainJob
 handed_jobs i [] = []
 handed_jobs i (j ∷ js) =
     record { place = j.place; till = j.till; cells = numbered i j.cells } ∷ handed_jobs (i + length j.cells) js

@@ -1,25 +1,22 @@
 -- Calls of an active member.
-use Rattle.std.proofs.Common.{◌≡◌, ℕ, Bool, false, cond, [], None, Ok, refl, sym, ap, ◌∙◌, subst}
+use Rattle.std.proofs.Common.{◌≡◌, ℕ, Bool, false, [], None, Ok, refl, sym, ap, ◌∙◌, subst}
 use Rattle.srm_member.specs.declared.cause.Cause.TheVariants.{Join}
 use Rattle.srm_member.specs.declared.told.Told.TheVariants.{Entered}
 use Rattle.srm_member.specs.declared.cause.Cause.{Cause}
 use Rattle.srm_member.specs.declared.react.React.{React}
 use Rattle.srm_member.specs.Record.{MemberState, Record, Active}
 use Rattle.srm_net.specs.Roles.{is_listener}
-use Rattle.srm_member.specs.React.{react, react_active, react_listener}
+use Rattle.srm_member.specs.React.{react_active}
 use Rattle.srm_member.specs.Reacts.{Reacts}
 use Rattle.srm_member.specs.Fit.{Gives, record_of}
-
-react-active : (m : MemberState) (at : ℕ) (cause : Cause) → is_listener m.fixed.role ≡ false → react m at cause ≡ react_active m at cause
-unfolding react
-react-active m at cause e = ap (λ b. cond b (react_listener m cause) (react_active m at cause)) e
+use Rattle.srm_member.proofs.LawProofs.{as_active}
 
 -- the answer and what the member knows then are the table's
 pub call_gives : (r : Record) (gone : Bool) (m m2 : MemberState) (at : ℕ) (cause : Cause) (a : React) → record_of gone m ≡ r → gone ≡ false
     → is_listener m.fixed.role ≡ false
     → Gives a m2 (react_active m at cause) → Reacts r at cause (Ok a) (Active m2)
 call_gives r gone m m2 at cause a view on role g =
-    let e = sym (react-active m at cause role) in
+    let e = sym (as_active m at cause role) in
     subst (λ s. Reacts s at cause (Ok a) (Active m2)) (sym (ap (λ b. record_of b m) on) ∙ view)
     (g.0 ∙ ap (λ x. x.answer) e, ap (λ x. Active x) (g.1 ∙ ap (λ x. x.state) e))
 

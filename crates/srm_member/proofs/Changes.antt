@@ -1,10 +1,11 @@
 -- What an event changes of the names that a member holds and lacks.
-use Rattle.std.proofs.Common.{◌≡◌, ℕ, zero, suc, ◌<◌, ◌≤◌, ◌+◌, ◌-◌, min, Bool, true, false, cond, not, ◌&&◌, T, List, [], ◌∷◌, ◌++◌, refl}
+use Rattle.std.proofs.Common.{◌≡◌, ℕ, zero, suc, ◌<◌, ◌≤◌, ◌+◌, ◌-◌, Bool, true, false, cond, not, ◌&&◌, T, List, [], ◌∷◌, ◌++◌, refl}
 use Rattle.std.proofs.Common.{sym, ap, ◌∙◌, subst, ◌≢◌, ◌⊎◌, inl, inr, arith, Option, Some, None, is_some, unwrap_or, nat_lt, nat_le}
-use Rattle.std.proofs.Common.{ltb-true, true≢false, append-nil}
+use Rattle.std.proofs.Common.{append-nil}
 use Rattle.std.specs.List.{Contains}
 use Rattle.std.proofs.lemmas.List.Elements.{Contains-append_left, Contains-append_right, Contains-append_cases}
 use Rattle.std.specs.FinMap.Entries.{put, find, is_sorted}
+use Rattle.std.proofs.lemmas.Option.{same_Some}
 use Rattle.srm_net.specs.declared.packet.Name.{Name}
 use Rattle.srm_net.specs.declared.packet.PageId.{PageId}
 use Rattle.srm_net.specs.declared.packet.Heard.{Heard}
@@ -117,16 +118,13 @@ met m p x = elim (find page_cmp p m.progress) as (λ o. find page_cmp p m.progre
 none_some : {A : Type 0} (o : Option A) (a : A) → o ≡ None → o ≡ Some a → ⊥
 none_some o a e f = let x : None ≡ Some a = sym e ∙ f in cc
 
-same_some : {A : Type 0} (a b : A) → Some a ≡ Some b → a ≡ b
-same_some a b e = cc
-
 -- progress whose next number is no lower than that of the page met
 below_put : (m : MemberState) (p : PageId) (x : ℕ) (s : Progress) → (meet m p x).next ≤ s.next → (n : Name) → Below n m
     → Below n (with_progress p s m)
 below_put m p x s le n b = elim (page_cases (page_of n) p s m.progress) [
   | inl same ↦
       let old : (meet m p x).next ≡ b.0.next = (elim (met m p x) [
-        | inl e ↦ ap (λ (t : Progress). t.next) (same_some _ _ (sym e ∙ ap (λ q. find page_cmp q m.progress) (sym same) ∙ b.1))
+        | inl e ↦ ap (λ (t : Progress). t.next) (same_Some _ _ (sym e ∙ ap (λ q. find page_cmp q m.progress) (sym same) ∙ b.1))
         | inr e ↦ absurd (none_some (find page_cmp p m.progress) b.0 e.0 (ap (λ q. find page_cmp q m.progress) (sym same) ∙ b.1))
       ]) in
       let lt = b.2 in
@@ -155,7 +153,7 @@ grows_meet m p x = grows_progress m p x (meet m p x) (omega arith)
 not_heard : (m : MemberState) (n : Name) (x : ℕ) → (meet m (page_of n) x).next ≤ n.number → ¬ Below n m
 not_heard m n x le b = elim (met m (page_of n) x) [
   | inl e ↦
-      let same : (meet m (page_of n) x).next ≡ b.0.next = ap (λ (t : Progress). t.next) (same_some _ _ (sym e ∙ b.1)) in
+      let same : (meet m (page_of n) x).next ≡ b.0.next = ap (λ (t : Progress). t.next) (same_Some _ _ (sym e ∙ b.1)) in
       let lt = b.2 in
       omega arith
   | inr e ↦ none_some (find page_cmp (page_of n) m.progress) b.0 e.0 b.1
@@ -593,7 +591,7 @@ drawing_effect at page ink m =
       repairs = refl;
       new = λ b. elim (own_met m p) [
         | inl e ↦
-            let same : s.next ≡ b.0.next = ap (λ (u : Progress). u.next) (same_some _ _ (sym e ∙ b.1)) in
+            let same : s.next ≡ b.0.next = ap (λ (u : Progress). u.next) (same_Some _ _ (sym e ∙ b.1)) in
             let lt : s.next < b.0.next = b.2 in
             omega arith
         | inr e ↦ none_some (find page_cmp p m.progress) b.0 e b.1
@@ -602,7 +600,7 @@ drawing_effect at page ink m =
       below = λ k b. elim (page_cases (page_of k) p t m.progress) [
         | inl same ↦
             let old : s.next ≡ b.0.next = (elim (own_met m p) [
-              | inl e ↦ ap (λ (u : Progress). u.next) (same_some _ _ (sym e ∙ ap (λ q. find page_cmp q m.progress) (sym same) ∙ b.1))
+              | inl e ↦ ap (λ (u : Progress). u.next) (same_Some _ _ (sym e ∙ ap (λ q. find page_cmp q m.progress) (sym same) ∙ b.1))
               | inr e ↦ absurd (none_some (find page_cmp p m.progress) b.0 e (ap (λ q. find page_cmp q m.progress) (sym same) ∙ b.1))
             ]) in
             let lt = b.2 in

@@ -7,12 +7,15 @@ use Rattle.std.specs.declared.cmp.Ordering.TheVariants.{Less, Equal, Greater}
 use Rattle.std.specs.Ordering.{eq_by_cmp, is_eq, is_gt, is_lt, ordering_reverse}
 use Rattle.std.specs.FinMap.Entries.{find, is_sorted, below_all}
 use Rattle.std.proofs.lemmas.Bool.Decides.{nat_tests}
+use Rattle.std.proofs.lemmas.Bool.{or_right}
 use Rattle.srm_net.specs.declared.packet.Name.{Name}
 use Rattle.srm_net.specs.Names.{name_cmp}
+use Rattle.srm_net.proofs.Basics.{T_first, T_second, is_Equal}
+use Rattle.srm_net.proofs.TotalOrders.{tied_names}
 use Rattle.srm_member.specs.declared.due.Due.{Due}
 use Rattle.srm_member.specs.Record.{Missing, Repairing, due_cmp, by_order, earlier_timer, earliest}
 use Rattle.srm_member.specs.Pending.{has, Rises, IsFirst, IsIndexed, pending_timers, request_timer, repair_timer, expiry_of, is_at_time}
-use Rattle.srm_member.proofs.Indexes.{due_total, due_same, same, due_eq, due_itself, name_same}
+use Rattle.srm_member.proofs.Indexes.{due_total, due_same, same, due_eq, due_itself}
 
 -- ---- the earliest of a list is its first
 
@@ -32,26 +35,14 @@ either : (a b : Bool) → (a || b) ≡ true → (P : Type 0) → (a ≡ true →
 either true b e P f g = f refl
 either false b e P f g = g e
 
-is_eq-Equal : (o : Ordering) → is_eq o ≡ true → o ≡ Equal
-is_eq-Equal Less e = cc
-is_eq-Equal Equal e = refl
-is_eq-Equal Greater e = cc
-
-or-right : (a b : Bool) → b ≡ true → (a || b) ≡ true
-or-right true b e = refl
-or-right false b e = e
-
 at_head : (d : Due) (ds : List Due) → has (d ∷ ds) d ≡ true
 at_head d ds = ap (λ b. b || has ds d) (due_itself d)
-
-abbrev by_step : Due → List Due → Option Due → Type 0
-by_step d ds o = IsFirst ds o → IsFirst (d ∷ ds) (Some (earlier_timer d o))
 
 step_none : (d : Due) (ds : List Due) → ds ≡ [] → IsFirst (d ∷ ds) (Some d)
 step_none d ds e = (
   at_head d ds,
   λ x h. either (eq_by_cmp due_cmp x d) (has ds x) h (is_gt (due_cmp d x) ≡ false)
-      (λ t. subst (λ y. is_gt (due_cmp d y) ≡ false) (sym (due_same x d (is_eq-Equal _ t))) (ap is_gt (is_eq-Equal _ (due_itself d))))
+      (λ t. subst (λ y. is_gt (due_cmp d y) ≡ false) (sym (due_same x d (is_Equal _ t))) (ap is_gt (is_Equal _ (due_itself d))))
       (λ t. let no = sym (ap (λ l. has l x) e) ∙ t in cc),
 )
 
@@ -59,19 +50,19 @@ step_some : (d m : Due) (ds : List Due) → IsFirst ds (Some m) → (o : Orderin
 step_some d m ds h Less e = (
   at_head d ds,
   λ x k. either (eq_by_cmp due_cmp x d) (has ds x) k (is_gt (due_cmp d x) ≡ false)
-      (λ t. subst (λ y. is_gt (due_cmp d y) ≡ false) (sym (due_same x d (is_eq-Equal _ t))) (ap is_gt (is_eq-Equal _ (due_itself d))))
+      (λ t. subst (λ y. is_gt (due_cmp d y) ≡ false) (sym (due_same x d (is_Equal _ t))) (ap is_gt (is_Equal _ (due_itself d))))
       (λ t. not_after d m x (ap is_gt e) (h.1 x t)),
 )
 step_some d m ds h Equal e = (
   at_head d ds,
   λ x k. either (eq_by_cmp due_cmp x d) (has ds x) k (is_gt (due_cmp d x) ≡ false)
-      (λ t. subst (λ y. is_gt (due_cmp d y) ≡ false) (sym (due_same x d (is_eq-Equal _ t))) (ap is_gt (is_eq-Equal _ (due_itself d))))
+      (λ t. subst (λ y. is_gt (due_cmp d y) ≡ false) (sym (due_same x d (is_Equal _ t))) (ap is_gt (is_Equal _ (due_itself d))))
       (λ t. not_after d m x (ap is_gt e) (h.1 x t)),
 )
 step_some d m ds h Greater e = (
-  or-right (eq_by_cmp due_cmp m d) (has ds m) h.0,
+  or_right (eq_by_cmp due_cmp m d) (has ds m) h.0,
   λ x k. either (eq_by_cmp due_cmp x d) (has ds x) k (is_gt (due_cmp m x) ≡ false)
-      (λ t. subst (λ y. is_gt (due_cmp m y) ≡ false) (sym (due_same x d (is_eq-Equal _ t)))
+      (λ t. subst (λ y. is_gt (due_cmp m y) ≡ false) (sym (due_same x d (is_Equal _ t)))
       (ap is_gt (due_total.antisymm m d ∙ ap ordering_reverse e)))
       (λ t. h.1 x t),
 )
@@ -118,17 +109,9 @@ below-none x (f ∷ es) h =
       | Greater ↦ λ t. absurd t
     ] h
 
-T-left : (a b : Bool) → T (a && b) → T a
-T-left true b h = tt
-T-left false b h = h
-
-T-right : (a b : Bool) → T (a && b) → T b
-T-right true b h = h
-T-right false b h = absurd h
-
 not_found : {V : Type 0} (q : Name) (e : Name × V) (es : List (Name × V)) → Rises (e ∷ es) → same q e.0 ≡ true → find name_cmp q es ≡ None
-not_found q e es h t = subst (λ n. find name_cmp n es ≡ None) (sym (name_same q e.0 (is_eq-Equal _ t)))
-    (below-none e.0 es (T-left _ (is_sorted name_cmp es) h))
+not_found q e es h t = subst (λ n. find name_cmp n es ≡ None) (sym (tied_names q e.0 (is_Equal _ t)))
+    (below-none e.0 es (T_first _ (is_sorted name_cmp es) h))
 
 at_entry : (x y b c r t : Bool) → (c ≡ true → t ≡ false) → x ≡ y → (((x && (b && c)) || (b && t)) ≡ (b && cond c y t))
 at_entry x y true true r t h e = ap (λ z. (x && true) || z) (h refl) ∙
@@ -150,7 +133,7 @@ has-map {V = V} f r d (e ∷ es) h =
     let c : Bool = same d.name e.0 in
     ap (λ b. b || has (map (λ (e : Name × V). record { time = f e.1; rank = r; name = e.0 }) es) d)
     (due_eq d (record { time = f e.1; rank = r; name = e.0 }))
-    ∙ ap (λ b. ((d.time == f e.1) && ((d.rank == r) && c)) || b) (has-map f r d es (T-right (below_all name_cmp e.0 es) _ h))
+    ∙ ap (λ b. ((d.time == f e.1) && ((d.rank == r) && c)) || b) (has-map f r d es (T_second (below_all name_cmp e.0 es) _ h))
     ∙ ap (λ b. ((d.time == f e.1) && (b && c)) || ((r == d.rank) && rest)) (eqb-swap d.rank r)
     ∙ at_entry (d.time == f e.1) (f e.1 == d.time) (r == d.rank) c true rest
     (λ t. ap (λ o. is_at_time d.time (option_map f o)) (not_found d.name e es h t)) (eqb-swap d.time (f e.1))

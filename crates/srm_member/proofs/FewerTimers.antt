@@ -1,15 +1,12 @@
 -- A reaction at a tick leaves no more timers at that tick, and fewer where it handles one of them.
-use Rattle.std.proofs.Common.{◌≡◌, ℕ, ◌<◌, ◌≤◌, ◌+◌, ◌/◌, min, Bool, true, false, cond, not, ◌&&◌, T, List, [], ◌∷◌, ◌++◌, map, filter}
+use Rattle.std.proofs.Common.{◌≡◌, ℕ, ◌<◌, ◌≤◌, ◌+◌, ◌/◌, min, Bool, true, false, cond, not, T, List, [], ◌∷◌, ◌++◌, map, filter}
 use Rattle.std.proofs.Common.{refl, sym, ap, ◌∙◌, subst, ◌≢◌, ◌⊎◌, inl, inr, arith, Ordering, Less, Equal, Greater, Option, Some, None}
-use Rattle.std.proofs.Common.{is_lt, eqb-true, ◌==◌, le_refl}
+use Rattle.std.proofs.Common.{eqb-true, ◌==◌, le_refl}
 use Rattle.std.specs.Ordering.{eq_by_cmp, is_eq, ordering_reverse}
-use Rattle.std.specs.Cmp.{IsTotalOrder, on_total}
-use Rattle.std.specs.Cmp.Lexicographic.{nat_list_cmp_total}
 use Rattle.std.specs.FinMap.Entries.{put, find, by_order, is_sorted, below_all, is_sorted-put, is_sorted-where_key}
 use Rattle.rand_pcg.specs.Pcg.{pcg32}
 use Rattle.srm_member.proofs.Bounds.{draw_pos, kept_state}
 use Rattle.srm_member.proofs.LawProofs.{as_active, as_listener}
-use Rattle.srm_member.proofs.OrderLemmas.{nat_cmp_self}
 use Rattle.srm_net.specs.Roles.{is_listener}
 use Rattle.srm_member.specs.React.{Reaction, expire_repair, expire_repair_by_entry, expire_request, expire_request_by_entry, back_off}
 use Rattle.srm_member.specs.React.{distance_to, listen, listen_data, react}
@@ -24,14 +21,13 @@ use Rattle.srm_net.specs.Names.{name_cmp}
 use Rattle.srm_net.specs.declared.packet.Body.{Body}
 use Rattle.srm_net.specs.declared.packet.Body.TheVariants.{Drawop, Repair, Request, Session}
 use Rattle.srm_net.specs.declared.packet.Name.{Name}
+use Rattle.srm_net.proofs.Basics.{one_if, T_first, T_second, T_less}
+use Rattle.srm_net.proofs.TotalOrders.{name_total, name_self}
 
 -- ---- counts
 
-abbrev pub one_if : Bool → ℕ
-one_if b = cond b 1 0
-
 module _ {A : Type 0} (p : A → Bool) where
-  count-append : (xs ys : List A) → count_if p (xs ++ ys) ≡ count_if p xs + count_if p ys
+  pub count-append : (xs ys : List A) → count_if p (xs ++ ys) ≡ count_if p xs + count_if p ys
   count-append [] ys = omega arith
   count-append (x ∷ xs) ys = let e = count-append xs ys in omega arith
 
@@ -61,28 +57,6 @@ pub in_map : {A B : Type 0} (f : A → B) (y : B) (xs : List A) → In y (map f 
 in_map f y [] h = absurd h
 in_map f y (x ∷ xs) (inl e) = (x, inl refl, e)
 in_map f y (x ∷ xs) (inr h) = let r = in_map f y xs h in (r.0, inr r.1, r.2)
-
-abbrev numbers_of_name : Name → List ℕ
-numbers_of_name n = n.source ∷ n.page ∷ n.number ∷ []
-
-pub name_total : IsTotalOrder name_cmp
-name_total = on_total numbers_of_name nat_list_cmp_total
-
-pub name_self : (n : Name) → name_cmp n n ≡ Equal
-name_self n = let a = nat_cmp_self n.source in let b = nat_cmp_self n.page in let c = nat_cmp_self n.number in simp (a, b, c)
-
-pub T_first : (a b : Bool) → T (a && b) → T a
-T_first true b h = tt
-T_first false b h = absurd h
-
-pub T_second : (a b : Bool) → T (a && b) → T b
-T_second true b h = h
-T_second false b h = absurd h
-
-pub T_less : (r : Ordering) → T (is_lt r) → r ≡ Less
-T_less Less h = refl
-T_less Equal h = absurd h
-T_less Greater h = absurd h
 
 module _ {V : Type 0} (p : V → Bool) where
   abbrev at_value : (Name × V) → Bool

@@ -2,7 +2,6 @@
 use Rattle.std.proofs.Common.{◌≡◌, ℕ, eqb, Bool, true, false, cond, not, ◌&&◌, List, [], ◌∷◌, Option, Some, None, refl, sym, ap, ◌∙◌, subst}
 use Rattle.std.proofs.Common.{arith, ◌==◌}
 use Rattle.std.specs.Option.{option_map}
-use Rattle.std.specs.declared.cmp.Ordering.{Ordering}
 use Rattle.std.specs.declared.cmp.Ordering.TheVariants.{Equal}
 use Rattle.std.specs.Ordering.{eq_by_cmp, is_eq}
 use Rattle.std.specs.Cmp.{IsTotalOrder, both_ways}
@@ -12,42 +11,24 @@ use Rattle.std.proofs.lemmas.Bool.Decides.{nat_tests}
 use Rattle.std.proofs.lemmas.Bool.{eqb-true}
 use Rattle.srm_net.specs.declared.packet.Name.{Name}
 use Rattle.srm_net.specs.Names.{name_cmp}
+use Rattle.srm_net.proofs.TotalOrders.{name_total, tied_names}
 use Rattle.srm_member.specs.declared.due.Due.{Due}
 use Rattle.srm_member.specs.Record.{Missing, Repairing, due_cmp, numbers_of_due}
 use Rattle.srm_member.specs.React.{without}
 use Rattle.srm_member.proofs.Maps.{find-lookup, kept}
 use Rattle.srm_member.specs.Pending.{has, Rises, expiry_of, is_at_time, IsIndexed, request_timer, repair_timer}
+use Rattle.srm_member.proofs.TableChanges.{same_names, name_is}
 
 -- ---- names and timers are compared by their numbers
 
 abbrev numbers_of : Name → List ℕ
 numbers_of n = n.source ∷ n.page ∷ n.number ∷ []
 
-pub name_total : IsTotalOrder name_cmp
-name_total = on_texts numbers_of
-
 pub due_total : IsTotalOrder due_cmp
 due_total = on_texts numbers_of_due
 
 abbrev pub same : Name → Name → Bool
 same m n = eq_by_cmp name_cmp m n
-
-same-from : (m n : Name) → same m n ≡ true → m ≡ n
-same-from m n e =
-    let s = same_text (numbers_of m) (numbers_of n) (sym (texts_ties (numbers_of m) (numbers_of n) ∙ e)) in
-    let a : m.source ≡ n.source = cc in
-    let b : m.page ≡ n.page = cc in
-    let c : m.number ≡ n.number = cc in
-    λ i. record { source = a i; page = b i; number = c i }
-
-equal-true : (o : Ordering) → o ≡ Equal → is_eq o ≡ true
-equal-true o e = ap is_eq e
-
-pub name_same : (m n : Name) → name_cmp m n ≡ Equal → m ≡ n
-name_same m n e = same-from m n (equal-true _ e)
-
-same-itself : (n : Name) → same n n ≡ true
-same-itself n = sym (texts_ties (numbers_of n) (numbers_of n)) ∙ grind (arith, nat_tests)
 
 pub due_eq : (d e : Due) → eq_by_cmp due_cmp d e ≡ ((d.time == e.time) && ((d.rank == e.rank) && same d.name e.name))
 due_eq d e =
@@ -59,7 +40,7 @@ due_itself d = sym (texts_ties (numbers_of_due d) (numbers_of_due d)) ∙ grind 
 
 pub due_same : (d e : Due) → due_cmp d e ≡ Equal → d ≡ e
 due_same d e h =
-    let s = same_text (numbers_of_due d) (numbers_of_due e) (sym (texts_ties (numbers_of_due d) (numbers_of_due e) ∙ equal-true _ h)) in
+    let s = same_text (numbers_of_due d) (numbers_of_due e) (sym (texts_ties (numbers_of_due d) (numbers_of_due e) ∙ ap is_eq h)) in
     let t : d.time ≡ e.time = cc in
     let r : d.rank ≡ e.rank = cc in
     let a : d.name.source ≡ e.name.source = cc in
@@ -68,8 +49,8 @@ due_same d e h =
     λ i. record { time = t i; rank = r i; name = record { source = a i; page = b i; number = c i } }
 
 same-swap : (m n : Name) → same m n ≡ same n m
-same-swap m n = both_ways (same m n) (same n m) (λ e. let s = same-from m n e in subst (λ k. same k m ≡ true) s (same-itself m))
-    (λ e. let s = same-from n m e in subst (λ k. same k n ≡ true) s (same-itself n))
+same-swap m n = both_ways (same m n) (same n m) (λ e. let s = same_names m n e in subst (λ k. same k m ≡ true) s (name_is m))
+    (λ e. let s = same_names n m e in subst (λ k. same k n ≡ true) s (name_is n))
 
 -- ---- an index by the test of its elements, against when each timer expires
 
@@ -87,7 +68,7 @@ picked : (f : ℕ → Name → Option ℕ) (r k : ℕ) (n m : Name) → ((r == k
 picked f r k n m e =
     let a : (r == k) ≡ true = grind (arith, nat_tests) in
     let b : same n m ≡ true = grind (arith, nat_tests) in
-    λ i. f (sym (eqb-true r k a) i) (sym (same-from n m b) i)
+    λ i. f (sym (eqb-true r k a) i) (sym (same_names n m b) i)
 
 -- a timer taken out
 ties_less : (c c2 : Due → Bool) (f : ℕ → Name → Option ℕ) (t r : ℕ) (n : Name) → Ties c f → f r n ≡ Some t
@@ -135,7 +116,7 @@ cond_not false x y = refl
 
 find_without : {V : Type 0} (q n : Name) (es : List (Name × V)) → find name_cmp q (without n es) ≡ cond (same n q) None (find name_cmp q es)
 find_without q n es =
-    find-where_key name_cmp (λ x. not (same n x)) q (λ x e. ap (λ k. not (same n k)) (sym (name_same q x e))) es
+    find-where_key name_cmp (λ x. not (same n x)) q (λ x e. ap (λ k. not (same n k)) (sym (tied_names q x e))) es
     ∙ cond_not (same n q) (find name_cmp q es) None
 
 cond_twice : {A : Type 0} (b : Bool) (x y z : A) → cond b x (cond b y z) ≡ cond b x z
@@ -144,7 +125,7 @@ cond_twice false x y z = refl
 
 pub put-without : {V : Type 0} (n : Name) (v : V) (es : List (Name × V)) → Rises es → put name_cmp n v (without n es) ≡ put name_cmp n v es
 put-without n v es h =
-    same_entries name_cmp name_total name_same _ _ (rises-put n v _ (rises-without n es h)) (rises-put n v es h)
+    same_entries name_cmp name_total tied_names _ _ (rises-put n v _ (rises-without n es h)) (rises-put n v es h)
     (λ q. find_put q n v (without n es) ∙ ap (cond (same n q) (Some v)) (find_without q n es)
     ∙ cond_twice (same n q) (Some v) None (find name_cmp q es) ∙ sym (find_put q n v es))
 
@@ -207,14 +188,14 @@ ties_same : (c c2 c3 : Due → Bool) (f : ℕ → Name → Option ℕ) (t r : �
     → ((d : Due) → c3 d ≡ cond (eq_by_cmp due_cmp (timer t r n) d) false (c2 d)) → Ties c3 f
 ties_same c c2 c3 f t r n tie none more less =
     let g = changed (Some t) r n f in
-    let one : same n n ≡ true = same-itself n in
+    let one : same n n ≡ true = name_is n in
     let both : ((r == r) && same n n) ≡ true = grind (arith, nat_tests) in
     let now : g r n ≡ Some t = ap (λ b. cond b (Some t) (f r n)) both in
     ties_by c3 (changed None r n g) f (ties_less c2 c3 g t r n (ties_more c c2 f t r n tie none more) now less)
     (changed_back f (Some t) r n none)
 
 pub find-none : {V : Type 0} (n : Name) (es : List (Name × V)) → find name_cmp n (without n es) ≡ None
-find-none n es = find_without n n es ∙ ap (λ b. cond b None (find name_cmp n es)) (same-itself n)
+find-none n es = find_without n n es ∙ ap (λ b. cond b None (find name_cmp n es)) (name_is n)
 
 pub without-none : {V : Type 0} (n : Name) (es : List (Name × V)) → find name_cmp n es ≡ None → without n es ≡ es
 without-none n es h = kept (λ k. same n k) es (sym (find-lookup name_cmp n es) ∙ h)

@@ -1,6 +1,7 @@
 -- Tests of names and of pages in code, in the words of specs/.
 use Rattle.std.proofs.Common.{rules, ◌≡◌, ℕ, Bool, true, false, ◌&&◌, nat_eq, refl, sym, ◌∙◌, subst, eq-eqb, eqb-true, is_lt}
 use Rattle.std.specs.Ordering.{eq_by_cmp, partial_lt}
+use Rattle.std.proofs.lemmas.Bool.{and_parts}
 use Rattle.srm_net.specs.declared.packet.Name.{Name}
 use Rattle.srm_net.specs.declared.packet.PageId.{PageId}
 use Rattle.srm_net.specs.contracts.packet.NamePartialOrd.TheImpl as name_partial
@@ -12,24 +13,16 @@ use Rattle.srm_member.proofs.TableChanges.{same_names, name_is, same_pages, page
 pub name_lt : (a b : Name) → partial_lt name_partial.partial_cmp-value.it a b ≡ is_lt (name_cmp a b)
 name_lt a b = search rules
 
--- whether one page is below another
-pub page_lt : (a b : PageId) → partial_lt page_partial.partial_cmp-value.it a b ≡ is_lt (page_cmp a b)
-page_lt a b = search rules
-
 abbrev are_same : Name → Name → Bool
 are_same a b = nat_eq a.source b.source && (nat_eq a.page b.page && nat_eq a.number b.number)
-
-and_true : (a b : Bool) → (a && b) ≡ true → (a ≡ true) × (b ≡ true)
-and_true true b h = (refl, h)
-and_true false b h = cc
 
 itself : (n : ℕ) → nat_eq n n ≡ true
 itself n = eq-eqb _ _ refl
 
 same_by : (a b : Name) → are_same a b ≡ true → b ≡ a
 same_by a b h =
-    let s = and_true (nat_eq a.source b.source) (nat_eq a.page b.page && nat_eq a.number b.number) h in
-    let p = and_true (nat_eq a.page b.page) (nat_eq a.number b.number) s.1 in
+    let s = and_parts (nat_eq a.source b.source) (nat_eq a.page b.page && nat_eq a.number b.number) h in
+    let p = and_parts (nat_eq a.page b.page) (nat_eq a.number b.number) s.1 in
     let source : b.source ≡ a.source = sym (eqb-true _ _ s.0) in
     let page : b.page ≡ a.page = sym (eqb-true _ _ p.0) in
     let number : b.number ≡ a.number = sym (eqb-true _ _ p.1) in
@@ -53,7 +46,7 @@ are_one_page a b = nat_eq a.source b.source && nat_eq a.page b.page
 
 one_page_by : (a b : PageId) → are_one_page a b ≡ true → b ≡ a
 one_page_by a b h =
-    let s = and_true (nat_eq a.source b.source) (nat_eq a.page b.page) h in
+    let s = and_parts (nat_eq a.source b.source) (nat_eq a.page b.page) h in
     let source : b.source ≡ a.source = sym (eqb-true _ _ s.0) in
     let page : b.page ≡ a.page = sym (eqb-true _ _ s.1) in
     λ i. record { source = source i; page = page i }

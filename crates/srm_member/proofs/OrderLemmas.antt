@@ -1,17 +1,10 @@
 -- Lists kept in an order, and the orders of numbers and keys.
 use Rattle.std.proofs.Common.{◌≡◌, ℕ, ◌<◌, ◌≤◌, true, false, List, [], ◌∷◌, refl, sym, ap, ◌∙◌, ◌≢◌, arith, Ordering, Less, Equal, Greater}
-use Rattle.std.proofs.Common.{nat_cmp, is_lt, ltb-true, eqb-true, true≢false, ◌==◌, nat_lt, cond, Bool, le-ltb, eq-eqb}
+use Rattle.std.proofs.Common.{nat_cmp, is_lt, ltb-true, eqb-true, true≢false, ◌==◌, nat_lt, cond, Bool}
 use Rattle.std.specs.Ordering.{ordering_then, ordering_reverse}
 use Rattle.std.specs.Cmp.{IsTotalOrder}
-use Rattle.std.specs.Cmp.Lexicographic.{slice_cmp, nat_list_cmp_total}
-use Rattle.std.specs.FinMap.{slice_cmp-IsAntisymmetric, nat_cmp-IsAntisymmetric}
-use Rattle.srm_net.specs.Keys.{key_cmp, numbers_of_key}
 use Rattle.srm_net.specs.Orders.{place, NoneBelow, Rises, AllAfter, Ascends}
-
-pub is_Less : (r : Ordering) → is_lt r ≡ true → r ≡ Less
-is_Less Less h = refl
-is_Less Equal h = absurd (true≢false (sym h))
-is_Less Greater h = absurd (true≢false (sym h))
+use Rattle.srm_net.proofs.Basics.{is_Less}
 
 pub not_less : (r : Ordering) → r ≡ Less → is_lt (ordering_reverse r) ≡ false
 not_less r e = rw e
@@ -45,10 +38,6 @@ place-comm cmp o x y apart zs = elim (cmp x y) as (λ r. cmp x y ≡ r → place
   | Greater ↦ λ e. sym (place-swap cmp o y x (ap is_lt (o.antisymm y x ∙ ap ordering_reverse e)) zs)
 ] refl
 
--- lists of numbers that the order does not tell apart are equal
-pub same_numbers : (xs ys : List ℕ) → slice_cmp nat_cmp xs ys ≡ Equal → xs ≡ ys
-same_numbers xs ys e = slice_cmp-IsAntisymmetric nat_cmp-IsAntisymmetric xs ys e
-
 -- the first numbers are in order
 pub head_le : (a b : ℕ) (o : Ordering) → ordering_then (nat_cmp a b) o ≢ Greater → a ≤ b
 head_le a b o h = elim (nat_lt a b) as (λ l. nat_lt a b ≡ l → a ≤ b) [
@@ -58,12 +47,6 @@ head_le a b o h = elim (nat_lt a b) as (λ l. nat_lt a b ≡ l → a ≤ b) [
     | false ↦ λ q. absurd (h (simp (e, q)))
   ] refl
 ] refl
-
-pub key_total : IsTotalOrder key_cmp
-key_total = Rattle.std.specs.Cmp.on_total numbers_of_key nat_list_cmp_total
-
-pub nat_cmp_self : (n : ℕ) → nat_cmp n n ≡ Equal
-nat_cmp_self n = let l : nat_lt n n ≡ false = le-ltb _ _ (omega arith) in let e : (n == n) ≡ true = eq-eqb _ _ refl in simp (l, e)
 
 -- ---- orders, where not less is the other way round
 
@@ -105,7 +88,7 @@ module _ {A : Type 0} (cmp : A → A → Ordering) (o : IsTotalOrder cmp) where
     ] refl
   ] refl
 
-  none_below_cond : (k : A) (b : Bool) (xs ys : List A) → NoneBelow cmp k xs → NoneBelow cmp k ys → NoneBelow cmp k (cond b xs ys)
+  pub none_below_cond : (k : A) (b : Bool) (xs ys : List A) → NoneBelow cmp k xs → NoneBelow cmp k ys → NoneBelow cmp k (cond b xs ys)
   none_below_cond k true xs ys h g = h
   none_below_cond k false xs ys h g = g
 

@@ -1,35 +1,13 @@
 -- Entries whose keys rise: what stands at a key's place, and what an entry put there makes of them.
-use Rattle.std.proofs.Common.{◌≡◌, ℕ, zero, suc, ◌<◌, ◌≤◌, ◌-◌, Bool, true, false, cond, T, ◌&&◌, List, [], ◌∷◌, length, refl, sym, ap}
+use Rattle.std.proofs.Common.{◌≡◌, ℕ, zero, suc, ◌<◌, ◌≤◌, ◌-◌, Bool, true, false, cond, T, List, [], ◌∷◌, length, refl, sym, ap}
 use Rattle.std.proofs.Common.{◌∙◌, subst}
 use Rattle.std.proofs.Common.{arith, Ordering, Less, Equal, Greater, Some, None, slice_set, slice_index_or, insert, is_lt}
 use Rattle.std.specs.Ordering.{eq_by_cmp, is_eq, ordering_reverse}
 use Rattle.std.specs.Cmp.{IsTotalOrder}
 use Rattle.std.specs.FinMap.Entries.{put, find, is_sorted, below_all, by_order}
 use Rattle.std.specs.List.Sorted.{IsPartitionedBy}
+use Rattle.srm_net.proofs.Basics.{T_first, T_second, T_less, is_Less, is_Equal}
 use Rattle.srm_member.specs.Places.{is_before, IsPlaceOf, is_at}
-
-pub first_true : (a b : Bool) → T (a && b) → T a
-first_true true b h = tt
-first_true false b h = absurd h
-
-pub second_true : (a b : Bool) → T (a && b) → T b
-second_true true b h = h
-second_true false b h = absurd h
-
-pub less_true : (r : Ordering) → T (is_lt r) → r ≡ Less
-less_true Less h = refl
-less_true Equal h = absurd h
-less_true Greater h = absurd h
-
-is_less : (r : Ordering) → is_lt r ≡ true → r ≡ Less
-is_less Less h = refl
-is_less Equal h = cc
-is_less Greater h = cc
-
-is_equal : (r : Ordering) → is_eq r ≡ true → r ≡ Equal
-is_equal Less h = cc
-is_equal Equal h = refl
-is_equal Greater h = cc
 
 module _ {K V : Type 0} (cmp : K → K → Ordering) where
   -- whether the entry that stands at a place is the key's
@@ -44,28 +22,22 @@ module _ {K V : Type 0} (cmp : K → K → Ordering) where
   none_there k (e ∷ es) zero le = absurd (omega arith)
   none_there k (e ∷ es) (suc p) le = none_there k es p (omega arith)
 
-  -- a key that has an entry at a place has a place among the entries
-  pub at_within : (k : K) (es : List (K × V)) (p : ℕ) → is_at cmp k es p ≡ true → p < length es
-  at_within k [] p h = cc
-  at_within k (e ∷ es) zero h = omega arith
-  at_within k (e ∷ es) (suc p) h = let lt = at_within k es p h in omega arith
-
 module _ {K V : Type 0} (cmp : K → K → Ordering) (total : IsTotalOrder cmp) (tied : (a b : K) → cmp a b ≡ Equal → a ≡ b) where
   below_at : (x : K) (es : List (K × V)) (j : ℕ) (d : K × V) → T (below_all cmp x es) → j < length es
       → cmp x (slice_index_or es j d).0 ≡ Less
   below_at x [] j d b lt = absurd (omega arith)
-  below_at x (e ∷ es) zero d b lt = less_true _ (first_true _ _ b)
-  below_at x (e ∷ es) (suc j) d b lt = below_at x es j d (second_true _ _ b) (omega arith)
+  below_at x (e ∷ es) zero d b lt = T_less _ (T_first _ _ b)
+  below_at x (e ∷ es) (suc j) d b lt = below_at x es j d (T_second _ _ b) (omega arith)
 
   -- entries that rise stand before a key's place up to there
   pub partitioned : (k : K) (es : List (K × V)) → T (is_sorted cmp es) → IsPartitionedBy (is_before cmp k) es
   partitioned k [] s i j d le lt h = absurd (omega arith)
   partitioned k (e ∷ es) s zero zero d le lt h = h
   partitioned k (e ∷ es) s zero (suc j) d le lt h =
-      let under = below_at e.0 es j d (first_true _ _ s) (omega arith) in
-      ap is_lt (total.trans e.0 (slice_index_or es j d).0 k under (is_less _ h))
+      let under = below_at e.0 es j d (T_first _ _ s) (omega arith) in
+      ap is_lt (total.trans e.0 (slice_index_or es j d).0 k under (is_Less _ h))
   partitioned k (e ∷ es) s (suc i) zero d le lt h = absurd (omega arith)
-  partitioned k (e ∷ es) s (suc i) (suc j) d le lt h = partitioned k es (second_true _ _ s) i j d (omega arith) (omega arith) h
+  partitioned k (e ∷ es) s (suc i) (suc j) d le lt h = partitioned k es (T_second _ _ s) i j d (omega arith) (omega arith) h
 
   same_at : (xs : List (K × V)) (i : ℕ) (a b : K × V) → i < length xs → slice_index_or xs i a ≡ slice_index_or xs i b
   same_at [] i a b lt = absurd (omega arith)
@@ -132,7 +104,7 @@ module _ {K V : Type 0} (cmp : K → K → Ordering) (total : IsTotalOrder cmp) 
   )
 
   above : (k : K) (e : K × V) → is_before cmp k e ≡ true → cmp k e.0 ≡ Greater
-  above k e h = total.antisymm k e.0 ∙ ap ordering_reverse (is_less _ h)
+  above k e h = total.antisymm k e.0 ∙ ap ordering_reverse (is_Less _ h)
 
   -- an entry that does not stand before a key's place, and is not the key's, is behind it
   behind : (k : K) (e : K × V) → is_before cmp k e ≡ false → eq_by_cmp cmp k e.0 ≡ false → cmp k e.0 ≡ Less
@@ -157,8 +129,8 @@ module _ {K V : Type 0} (cmp : K → K → Ordering) (total : IsTotalOrder cmp) 
   unfolding Stands
   put_old k v [] p h a = cc
   put_old k v (e ∷ es) zero h a =
-      ap (λ o. by_order o ((k, v) ∷ e ∷ es) ((e.0, v) ∷ es) (e ∷ put cmp k v es)) (is_equal _ a)
-      ∙ ap (λ j. (j, v) ∷ es) (sym (tied k e.0 (is_equal _ a)))
+      ap (λ o. by_order o ((k, v) ∷ e ∷ es) ((e.0, v) ∷ es) (e ∷ put cmp k v es)) (is_Equal _ a)
+      ∙ ap (λ j. (j, v) ∷ es) (sym (tied k e.0 (is_Equal _ a)))
   put_old k v (e ∷ es) (suc p) h a =
       ap (λ o. by_order o ((k, v) ∷ e ∷ es) ((e.0, v) ∷ es) (e ∷ put cmp k v es)) (above k e h.0)
       ∙ ap (λ r. e ∷ r) (put_old k v es p h.1 a)
@@ -166,8 +138,8 @@ module _ {K V : Type 0} (cmp : K → K → Ordering) (total : IsTotalOrder cmp) 
   none_behind : (k x : K) (es : List (K × V)) → cmp k x ≡ Less → T (below_all cmp x es) → find cmp k es ≡ None
   none_behind k x [] l b = refl
   none_behind k x (e ∷ es) l b =
-      let less = total.trans k x e.0 l (less_true _ (first_true _ _ b)) in
-      ap (λ o. cond (is_eq o) (Some e.1) (find cmp k es)) less ∙ none_behind k x es l (second_true _ _ b)
+      let less = total.trans k x e.0 l (T_less _ (T_first _ _ b)) in
+      ap (λ o. cond (is_eq o) (Some e.1) (find cmp k es)) less ∙ none_behind k x es l (T_second _ _ b)
 
   find_none : (k : K) (es : List (K × V)) (p : ℕ) → T (is_sorted cmp es) → Stands k es p → is_at cmp k es p ≡ false
       → find cmp k es ≡ None
@@ -175,9 +147,9 @@ module _ {K V : Type 0} (cmp : K → K → Ordering) (total : IsTotalOrder cmp) 
   find_none k [] p s h a = refl
   find_none k (e ∷ es) zero s h a =
       let less = behind k e h a in
-      ap (λ o. cond (is_eq o) (Some e.1) (find cmp k es)) less ∙ none_behind k e.0 es less (first_true _ _ s)
+      ap (λ o. cond (is_eq o) (Some e.1) (find cmp k es)) less ∙ none_behind k e.0 es less (T_first _ _ s)
   find_none k (e ∷ es) (suc p) s h a =
-      ap (λ o. cond (is_eq o) (Some e.1) (find cmp k es)) (above k e h.0) ∙ find_none k es p (second_true _ _ s) h.1 a
+      ap (λ o. cond (is_eq o) (Some e.1) (find cmp k es)) (above k e h.0) ∙ find_none k es p (T_second _ _ s) h.1 a
 
   find_some : (k : K) (es : List (K × V)) (p : ℕ) (d : K × V) → Stands k es p → is_at cmp k es p ≡ true
       → find cmp k es ≡ Some (slice_index_or es p d).1

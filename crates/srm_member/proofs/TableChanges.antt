@@ -1,61 +1,21 @@
 -- Tables of names and of pages: what an entry put in, or taken out, changes.
-use Rattle.std.proofs.Common.{◌≡◌, ℕ, zero, suc, Bool, true, false, cond, not, T, List, [], ◌∷◌, map, refl, sym, ap, ◌∙◌, subst}
-use Rattle.std.proofs.Common.{◌≢◌, ◌⊎◌, inl, inr, arith, Ordering, Less, Equal, Greater, Some, None, is_some}
-use Rattle.std.proofs.Common.{true≢false, nat_cmp, nat_lt, le-ltb, eq-eqb, ◌==◌}
+use Rattle.std.proofs.Common.{◌≡◌, zero, suc, Bool, true, false, cond, not, T, List, [], ◌∷◌, map, refl, sym, ap, ◌∙◌, subst}
+use Rattle.std.proofs.Common.{◌≢◌, ◌⊎◌, inl, inr, arith, Less, Equal, Some, None, is_some}
+use Rattle.std.proofs.Common.{true≢false}
 use Rattle.std.specs.List.{Contains}
 use Rattle.std.specs.Ordering.{eq_by_cmp, is_eq}
-use Rattle.std.specs.Cmp.{IsTotalOrder, on_total}
-use Rattle.std.specs.Cmp.Lexicographic.{nat_list_cmp_total}
-use Rattle.std.specs.FinMap.{slice_cmp-IsAntisymmetric, nat_cmp-IsAntisymmetric}
 use Rattle.std.specs.FinMap.Entries.{put, find, is_sorted, below_all, find-put, find-where_key, is_sorted-put, is_sorted-where_key}
 use Rattle.std.proofs.lemmas.List.Elements.{Contains-append_right}
+use Rattle.std.proofs.lemmas.Cmp.{tied_itself}
 use Rattle.srm_net.specs.declared.packet.Name.{Name}
 use Rattle.srm_net.specs.declared.packet.PageId.{PageId}
 use Rattle.srm_net.specs.Names.{name_cmp, page_cmp}
 use Rattle.srm_net.specs.Orders.{AllAfter, Ascends}
+use Rattle.srm_net.proofs.TotalOrders.{name_total, page_total, tied_names, tied_pages, name_self}
+use Rattle.srm_net.proofs.Basics.{is_Equal, T_first, T_second, T_less}
 use Rattle.srm_member.specs.React.{without, has_entry}
-use Rattle.srm_member.proofs.PlaceLemmas.{first_true, second_true, less_true}
 
 -- ---- names and pages that tie are the same
-
-abbrev numbers_of_name : Name → List ℕ
-numbers_of_name n = n.source ∷ n.page ∷ n.number ∷ []
-
-abbrev numbers_of_page : PageId → List ℕ
-numbers_of_page p = p.source ∷ p.page ∷ []
-
-pub name_total : IsTotalOrder name_cmp
-name_total = on_total numbers_of_name nat_list_cmp_total
-
-pub page_total : IsTotalOrder page_cmp
-page_total = on_total numbers_of_page nat_list_cmp_total
-
-nth_number : ℕ → List ℕ → ℕ
-nth_number n [] = 0
-nth_number zero (x ∷ xs) = x
-nth_number (suc n) (x ∷ xs) = nth_number n xs
-
-is_Equal : (r : Ordering) → is_eq r ≡ true → r ≡ Equal
-is_Equal Less h = cc
-is_Equal Equal h = refl
-is_Equal Greater h = cc
-
-pub tied_names : (n k : Name) → name_cmp n k ≡ Equal → n ≡ k
-unfolding nth_number
-tied_names n k e =
-    let same = slice_cmp-IsAntisymmetric nat_cmp-IsAntisymmetric (numbers_of_name n) (numbers_of_name k) e in
-    let source : n.source ≡ k.source = ap (nth_number 0) same in
-    let page : n.page ≡ k.page = ap (nth_number 1) same in
-    let number : n.number ≡ k.number = ap (nth_number 2) same in
-    λ i. record { source = source i; page = page i; number = number i }
-
-pub tied_pages : (p q : PageId) → page_cmp p q ≡ Equal → p ≡ q
-unfolding nth_number
-tied_pages p q e =
-    let same = slice_cmp-IsAntisymmetric nat_cmp-IsAntisymmetric (numbers_of_page p) (numbers_of_page q) e in
-    let source : p.source ≡ q.source = ap (nth_number 0) same in
-    let page : p.page ≡ q.page = ap (nth_number 1) same in
-    λ i. record { source = source i; page = page i }
 
 pub same_names : (n k : Name) → eq_by_cmp name_cmp n k ≡ true → n ≡ k
 same_names n k h = tied_names n k (is_Equal _ h)
@@ -63,21 +23,11 @@ same_names n k h = tied_names n k (is_Equal _ h)
 pub same_pages : (p q : PageId) → eq_by_cmp page_cmp p q ≡ true → p ≡ q
 same_pages p q h = tied_pages p q (is_Equal _ h)
 
-nat_cmp_self : (n : ℕ) → nat_cmp n n ≡ Equal
-nat_cmp_self n = let l : nat_lt n n ≡ false = le-ltb _ _ (omega arith) in let e : (n == n) ≡ true = eq-eqb _ _ refl in simp (l, e)
-
-pub name_self : (n : Name) → name_cmp n n ≡ Equal
-name_self n = let a = nat_cmp_self n.source in let b = nat_cmp_self n.page in let c = nat_cmp_self n.number in simp (a, b, c)
-
 pub name_is : (n : Name) → eq_by_cmp name_cmp n n ≡ true
 name_is n = ap is_eq (name_self n)
 
 pub page_is : (p : PageId) → eq_by_cmp page_cmp p p ≡ true
-page_is p =
-    let a = nat_cmp_self p.source in
-    let b = nat_cmp_self p.page in
-    let tie : page_cmp p p ≡ Equal = simp (a, b) in
-    ap is_eq tie
+page_is p = ap is_eq (tied_itself page_total p)
 
 pub other_names : (n k : Name) → n ≢ k → eq_by_cmp name_cmp n k ≡ false
 other_names n k ne = elim (eq_by_cmp name_cmp n k) as (λ b. eq_by_cmp name_cmp n k ≡ b → eq_by_cmp name_cmp n k ≡ false) [
@@ -159,21 +109,21 @@ module _ {V : Type 0} where
 
   after_all : (k : Name) (es : List (Name × V)) → T (below_all name_cmp k es) → AllAfter name_cmp k (names_of es)
   after_all k [] h = tt
-  after_all k (e ∷ es) h = (less_true _ (first_true _ _ h), after_all k es (second_true _ _ h))
+  after_all k (e ∷ es) h = (T_less _ (T_first _ _ h), after_all k es (T_second _ _ h))
 
   pub ascend : (es : List (Name × V)) → T (is_sorted name_cmp es) → Ascends name_cmp (names_of es)
   ascend [] h = tt
-  ascend (e ∷ es) h = (after_all e.0 es (first_true _ _ h), ascend es (second_true _ _ h))
+  ascend (e ∷ es) h = (after_all e.0 es (T_first _ _ h), ascend es (T_second _ _ h))
 
   -- what stands in a list that is greater than k is not k
   not_in : (k : Name) (es : List (Name × V)) → T (below_all name_cmp k es) → (v : V) → Contains es (k, v) → ⊥
   not_in k [] h v c = let l = c.1 in omega arith
   not_in k (e ∷ es) h v (zero, l, q) =
-      let less : name_cmp k e.0 ≡ Less = less_true _ (first_true _ _ h) in
+      let less : name_cmp k e.0 ≡ Less = T_less _ (T_first _ _ h) in
       let tie : name_cmp k e.0 ≡ Equal = ap (λ (x : Name × V). name_cmp k x.0) q ∙ name_self k in
       let x : Less ≡ Equal = sym less ∙ tie in
       cc
-  not_in k (e ∷ es) h v (suc i, l, q) = not_in k es (second_true _ _ h) v (i, omega arith, q)
+  not_in k (e ∷ es) h v (suc i, l, q) = not_in k es (T_second _ _ h) v (i, omega arith, q)
 
   pub contained_found : (es : List (Name × V)) → T (is_sorted name_cmp es) → (k : Name) (v : V) → Contains es (k, v) → find name_cmp k es
       ≡ Some v
@@ -183,9 +133,9 @@ module _ {V : Type 0} where
       let tie : eq_by_cmp name_cmp k e.0 ≡ true = ap (λ (x : Name × V). eq_by_cmp name_cmp k x.0) same ∙ name_is k in
       ap (λ b. cond b (Some e.1) (find name_cmp k es)) tie ∙ ap (λ (x : Name × V). Some x.1) same
   contained_found (e ∷ es) s k v (suc i, l, q) = elim (names_apart k e.0) [
-    | inl same ↦ absurd (not_in e.0 es (first_true _ _ s) v (subst (λ x. Contains es (x, v)) same (i, omega arith, q)))
+    | inl same ↦ absurd (not_in e.0 es (T_first _ _ s) v (subst (λ x. Contains es (x, v)) same (i, omega arith, q)))
     | inr ne ↦ ap (λ b. cond b (Some e.1) (find name_cmp k es)) (other_names k e.0 ne)
-        ∙ contained_found es (second_true _ _ s) k v (i, omega arith, q)
+        ∙ contained_found es (T_second _ _ s) k v (i, omega arith, q)
   ]
 
   pub found_contained : (es : List (Name × V)) (k : Name) (v : V) → find name_cmp k es ≡ Some v → Contains es (k, v)

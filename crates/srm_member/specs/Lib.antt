@@ -7,4 +7,5 @@ pub mod Laws
 pub mod Pending
 pub mod Fit
 pub mod Orderly
+pub mod Kinds
 pub mod Places

@@ -6,7 +6,7 @@ use srm_net::packet::Name;
 pub struct Due {
     /// When it expires, in ticks.
     pub time: u64,
-    /// The rank of its event: 2 for a request timer, 3 for a repair timer.
+    /// The rank of its event: that of a request timer or of a repair timer.
     pub rank: u8,
     /// The name that it asks for or answers.
     pub name: Name,

@@ -280,7 +280,7 @@ impl MemberState {
         self.progress.put(page, progress)?;
         if self.pending.missing(name).is_some() {
             self.held.put(name, ink)?;
-            self.pending.find(name);
+            self.pending.forget_missing(name);
             return Ok(quietly(Told::Fixed, Sequence::new(alloc)));
         }
         Ok(quietly(Told::Again, Sequence::new(alloc)))
@@ -309,7 +309,7 @@ impl MemberState {
     {
         let base = self.base(name, who);
         self.rests.put(name, at + 3 * base)?;
-        self.pending.forget(name);
+        self.pending.forget_repair(name);
         Ok(())
     }
 

@@ -11,14 +11,10 @@ use crate::entries::{Missing, Repairing};
 use crate::index::Index;
 use crate::named::Named;
 use srm_net::packet::Name;
+use srm_net::rank;
 use srm_net::sequence::Sequence;
 use std::alloc::{AllocError, Global};
 use std::marker::Model;
-
-// The ranks of timers' events.
-const REQUEST: u8 = 2;
-
-const REPAIR: u8 = 3;
 
 /// The names that a member lacks, with their request timers, and its repair timers, with an index of all timers by time.
 #[derive(Debug, Drop)]
@@ -86,7 +82,7 @@ impl Pending {
     pub fn miss(&mut self, name: Name, missing: Missing) -> Result<(), AllocError>
         ensures { OnOk result (self.new ≡ (put name_cmp name missing self.old.0, self.old.1)) }
     {
-        self.find(name);
+        self.forget_missing(name);
         let due = request_due(name, missing);
         self.index.insert(due)?;
         match self.missing.put(name, missing) {
@@ -99,7 +95,7 @@ impl Pending {
     }
 
     /// Forgets that a name was missing, which ends its request timer.
-    pub fn find(&mut self, name: Name)
+    pub fn forget_missing(&mut self, name: Name)
         ensures rising { Rises self.old.0 }
         ensures left { self.new ≡ (without name self.old.0, self.old.1) }
     {
@@ -112,7 +108,7 @@ impl Pending {
     pub fn plan(&mut self, name: Name, repair: Repairing) -> Result<(), AllocError>
         ensures { OnOk result (self.new ≡ (self.old.0, put name_cmp name repair self.old.1)) }
     {
-        self.forget(name);
+        self.forget_repair(name);
         let due = repair_due(name, repair);
         self.index.insert(due)?;
         match self.repairs.put(name, repair) {
@@ -124,8 +120,8 @@ impl Pending {
         }
     }
 
-    /// Ends a repair timer.
-    pub fn forget(&mut self, name: Name)
+    /// Forgets a repair that was planned, which ends its timer.
+    pub fn forget_repair(&mut self, name: Name)
         ensures rising { Rises self.old.1 }
         ensures left { self.new ≡ (self.old.0, without name self.old.1) }
     {
@@ -140,7 +136,7 @@ fn request_due(name: Name, missing: Missing) -> Due
 {
     Due {
         time: missing.expiry,
-        rank: REQUEST,
+        rank: rank::REQUEST,
         name,
     }
 }
@@ -150,7 +146,7 @@ fn repair_due(name: Name, repair: Repairing) -> Due
 {
     Due {
         time: repair.expiry,
-        rank: REPAIR,
+        rank: rank::REPAIR,
         name,
     }
 }

@@ -1,4 +1,7 @@
 //! Rows of a trace.
+ghost use Rattle.std.specs.Prelude.{◌≡◌};
+ghost use Rattle.srm_member.specs.Kinds as kinds;
+
 use crate::told::Told;
 use srm_net::key::Key;
 use srm_net::packet::{Name, Packet};
@@ -27,6 +30,60 @@ pub enum Word {
     Report,
     /// `leave`
     Leave,
+}
+
+impl Word {
+    /// Whether a member joins.
+    pub fn is_join(self) -> bool
+        ensures { result ≡ kinds.is_join self }
+    {
+        matches!(self, Word::Join)
+    }
+
+    /// Whether a member leaves.
+    pub fn is_leave(self) -> bool
+        ensures { result ≡ kinds.is_leave self }
+    {
+        matches!(self, Word::Leave)
+    }
+
+    /// Whether a member draws.
+    pub fn is_draw(self) -> bool
+        ensures { result ≡ kinds.is_draw self }
+    {
+        matches!(self, Word::Draw)
+    }
+
+    /// Whether a request timer expires.
+    pub fn is_ask(self) -> bool
+        ensures { result ≡ kinds.is_ask self }
+    {
+        matches!(self, Word::Ask)
+    }
+
+    /// Whether a repair timer expires.
+    pub fn is_answer(self) -> bool
+        ensures { result ≡ kinds.is_answer self }
+    {
+        matches!(self, Word::Answer)
+    }
+
+    /// Whether a member reports to its session.
+    pub fn is_report(self) -> bool
+        ensures { result ≡ kinds.is_report self }
+    {
+        matches!(self, Word::Report)
+    }
+
+    /// Whether a packet arrives.
+    pub fn is_arrival(self) -> bool
+        ensures { result ≡ kinds.is_arrival self }
+    {
+        matches!(
+            self,
+            Word::Data | Word::Request | Word::Repair | Word::Session
+        )
+    }
 }
 
 /// What a row's event is about.

@@ -1,4 +1,6 @@
 //! What a member tells of an event.
+ghost use Rattle.std.specs.Prelude.{◌≡◌};
+ghost use Rattle.srm_member.specs.Kinds as kinds;
 
 /// What came of an event at a member, and the word that stands for it in a trace.
 #[derive(Clone, Copy, Debug, PartialEq, Eq)]
@@ -29,4 +31,20 @@ pub enum Told {
     Heard,
     /// It sent a packet: `sent`.
     Sent,
+}
+
+impl Told {
+    /// Whether the member sent a packet.
+    pub fn is_sent(self) -> bool
+        ensures { result ≡ kinds.is_sent self }
+    {
+        matches!(self, Told::Sent)
+    }
+
+    /// Whether the member took in an operation that it was missing.
+    pub fn is_fixed(self) -> bool
+        ensures { result ≡ kinds.is_fixed self }
+    {
+        matches!(self, Told::Fixed)
+    }
 }

@@ -11,7 +11,7 @@ use Rattle.srm_model.proofs.RunLemmas.{end_late, fewer, full_flag, spent_flag}
 use Rattle.srm_model.proofs.ScheduleLemmas.{Safe, safe_after, step_late}
 use Rattle.srm_model.proofs.Settled.{at_member, get_after}
 
-mapped : {A B : Type 0} (f : A → B) (o : Option A) (x : B) → option_map f o ≡ Some x → (a : A) × (o ≡ Some a) × (f a ≡ x)
+pub mapped : {A B : Type 0} (f : A → B) (o : Option A) (x : B) → option_map f o ≡ Some x → (a : A) × (o ≡ Some a) × (f a ≡ x)
 mapped f None x h = cc
 mapped f (Some a) x h = (a, refl, cc)
 

@@ -1,6 +1,7 @@
 -- Members that left, in the worlds of the sequential run: nothing is pending at a record that is gone.
 use Rattle.std.proofs.Common.{◌≡◌, ◌≢◌, ℕ, zero, suc, ◌<◌, ◌≤◌, ◌+◌, true, List, refl, sym, subst, inl, inr, arith, Option, Some, None}
 use Rattle.std.proofs.Common.{slice_get, zero-add, add-zero, ◌⊎◌, leb-true}
+use Rattle.std.proofs.lemmas.Option.{same_Some}
 use Rattle.srm_net.specs.declared.packet.Packet.{Packet}
 use Rattle.srm_member.specs.declared.row.Row.{Row}
 use Rattle.srm_member.specs.Record.{Record, Active, Gone}
@@ -14,7 +15,6 @@ use Rattle.srm_cell.proofs.Tidy.{arrival_is, arrival_up_to}
 use Rattle.srm_cell.proofs.Counts.{above_weaker}
 use Rattle.srm_cell.proofs.Leaving.{IsActive, Stays, stays_step, stays_hear_at, left_at, not_spent, rest_active}
 use Rattle.srm_model.specs.World.{World, cells_after, least_event, opening, opening_cells, run}
-use Rattle.srm_model.proofs.ScheduleLemmas.{same_Some}
 use Rattle.srm_model.proofs.RunLemmas.{Seq, rest, next, shifted, least_from}
 use Rattle.srm_model.proofs.Sequential.{EachCell, Good, StepFacts, step_facts, good_step, above_after, above_time}
 use Rattle.srm_model.proofs.Settled.{each_after}

@@ -1,22 +1,24 @@
 -- In the sequential run each flight of a packet that was sent is on the way or was handed, and nothing else is.
 use Rattle.std.proofs.Common.{◌≡◌, ℕ, zero, suc, ◌<◌, ◌≤◌, ◌+◌, Bool, true, false, cond, ◌&&◌, List, [], ◌∷◌, ◌++◌, length, refl, sym, ap}
-use Rattle.std.proofs.Common.{◌∙◌, subst, ◌≢◌, ◌⊎◌, inl, inr, arith, Ordering, Less, Equal, Greater, Option, Some, None, is_some}
-use Rattle.std.proofs.Common.{option_map, nat_lt, lt-ltb, slice_get, eqb-true, ◌==◌, le_refl}
+use Rattle.std.proofs.Common.{◌∙◌, subst, ◌≢◌, inl, inr, arith, Ordering, Less, Equal, Greater, Option, Some, None, is_some}
+use Rattle.std.proofs.Common.{option_map, nat_lt, slice_get, eqb-true, ◌==◌}
 use Rattle.std.proofs.lemmas.Bool.{eqb-false}
 use Rattle.std.specs.List.{Contains, count_by}
+use Rattle.std.proofs.lemmas.Option.{same_Some}
 use Rattle.srm_net.specs.declared.key.Key.{Key}
 use Rattle.srm_net.specs.declared.packet.PacketId.{PacketId}
 use Rattle.srm_net.specs.declared.packet.Body.{Body}
 use Rattle.srm_net.specs.declared.packet.Body.TheVariants.{Drawop, Request, Repair, Session}
 use Rattle.srm_net.specs.declared.packet.Packet.{Packet}
 use Rattle.srm_net.specs.Keys.{key_cmp}
+use Rattle.srm_net.proofs.Basics.{one_if, count_last}
 use Rattle.srm_member.specs.declared.cause.Cause.{Cause}
 use Rattle.srm_member.specs.declared.cause.Cause.TheVariants.{Join, Arrival, Ask, Answer, Draw, Report}
 use Rattle.srm_member.specs.declared.row.About.TheVariants.{Of}
 use Rattle.srm_member.specs.declared.row.Row.{Row}
 use Rattle.srm_member.specs.Record.{due_of}
 use Rattle.srm_member.specs.React.{react}
-use Rattle.srm_member.proofs.AllIn.{AllIn, AllIn-place}
+use Rattle.srm_member.proofs.AllIn.{AllIn, AllIn-place, AllIn-weaker}
 use Rattle.srm_cell.specs.declared.flight.Flight.{Flight}
 use Rattle.srm_cell.specs.Flights.{flight_cmp}
 use Rattle.srm_cell.specs.Setting.{Setting, arrival_of}
@@ -25,11 +27,11 @@ use Rattle.srm_cell.specs.Cells.{before, Idle, Stepped, word_of_body, word_of, d
 use Rattle.srm_cell.specs.OwnRuns.{told_to}
 use Rattle.srm_cell.proofs.CellLemmas.{first_le, second_le}
 use Rattle.srm_model.specs.World.{World, cells_after, least_event, step, opening, opening_cells, IsReached, IsLast}
-use Rattle.srm_model.specs.Handed.{SentIn, same_packet, is_arrival, handing_count, is_sending, sending_count, PacketsAreNumbered}
+use Rattle.srm_model.specs.Handed.{SentIn, same_packet, is_arrival_of, handing_count, is_sending, sending_count, PacketsAreNumbered}
 use Rattle.srm_model.specs.Handed.{PacketsAreHandedOnce, HandedPacketsWereSent, PacketsAreTheirIdentities}
-use Rattle.srm_model.proofs.OneStep.{TakesFlight, NoArrival, Takes, Sends, Steps, StepFacts, step_facts, same_some, here_after}
+use Rattle.srm_model.proofs.OneStep.{TakesFlight, NoArrival, Takes, Sends, Steps, StepFacts, step_facts, here_after}
 use Rattle.srm_model.proofs.OneStep.{there_after, each_after, length_after, length_opening, nothing_left, run_keeps, arrival_is}
-use Rattle.srm_model.proofs.TraceRows.{contains_none, contains_cases, sent_more, sent_cases, sent_now, one_if, count_last, count_first}
+use Rattle.srm_model.proofs.TraceRows.{contains_none, contains_cases, sent_more, sent_cases, sent_now, count_first}
 use Rattle.srm_model.proofs.TraceRows.{count_none, count_place, not_same, same_self, elsewhere, not_arrival, here, IsSplit, split_cases}
 
 drawn_not_of : (body : Option Body) (k : Packet) → drawn body ≢ Of k
@@ -71,10 +73,6 @@ pub all_contained : {A : Type 0} (Q : A → Type 0) (xs : List A) → AllIn Q xs
 all_contained Q [] h x c = absurd (contains_none x c)
 all_contained Q (y ∷ ys) h x (zero, l, e) = subst Q e h.0
 all_contained Q (y ∷ ys) h x (suc k, l, e) = all_contained Q ys h.1 x (k, omega arith, e)
-
-all_weaker : {A : Type 0} (P Q : A → Type 0) → ((x : A) → P x → Q x) → (xs : List A) → AllIn P xs → AllIn Q xs
-all_weaker P Q f [] h = tt
-all_weaker P Q f (x ∷ xs) h = (f x h.0, all_weaker P Q f xs h.1)
 
 -- every cell is so
 abbrev pub EachCell : (ℕ → PlainCell → Type 0) → List PlainCell → Type 0
@@ -162,7 +160,7 @@ module _ (s : Setting) where
       counts_by (Some body) h = (
         (let some : one_if (is_some d.row.sent) ≡ 1 = ap (λ o. one_if (is_some o)) h.0 in let more = h.1 in omega arith),
         (λ p q.
-            let same : packet_of e body ≡ p = same_some _ _ (sym h.0 ∙ q) in
+            let same : packet_of e body ≡ p = same_Some _ _ (sym h.0 ∙ q) in
             let sender : m ≡ p.id.sender = ap (λ (x : Packet). x.id.sender) same in
             let count : e.rest.sent ≡ p.id.count = ap (λ (x : Packet). x.id.count) same in
             let a : sent_of cs p.id.sender ≡ e.rest.sent = ap (sent_of cs) (sym sender) ∙ sent_was in
@@ -308,14 +306,14 @@ module _ (s : Setting) where
         ]
         | inr gp ↦ elim (sent_cases q trace d.row hq) [
           | inl gq ↦ absurd (new_id p (is_new p gp) q.id (was.counted q gq) same)
-          | inr gq ↦ same_some p q (sym gp ∙ gq)
+          | inr gq ↦ same_Some p q (sym gp ∙ gq)
         ]
       ]
 
       -- ---- flights
 
       flights_more : (j : ℕ) (fs : List Flight) → AllIn (IsFlight trace j) fs → AllIn (IsFlight rows j) fs
-      flights_more j fs a = all_weaker (IsFlight trace j) (IsFlight rows j) (λ f g. (sent_more f.packet trace (d.row ∷ []) g.0, g.1)) fs a
+      flights_more j fs a = AllIn-weaker (IsFlight trace j) (IsFlight rows j) (λ f g. (sent_more f.packet trace (d.row ∷ []) g.0, g.1)) fs a
 
       flights_hear : (p : Packet) → d.row.sent ≡ Some p → (j : ℕ) (o : Option ℕ) (c : PlainCell) → arrival_of s.traffic p j ≡ o
           → AllIn (IsFlight trace j) c.inbox → AllIn (IsFlight rows j) (hear_at p o c).inbox
@@ -342,16 +340,16 @@ module _ (s : Setting) where
           (λ f g. not_same k f.packet.id (new f.packet.id (was.counted f.packet (all_contained (IsFlight trace j) fs a f g).0)))
 
       none_handed : (k : PacketId) → ((q : PacketId) → q.count < sent_of cs q.sender → k ≢ q) → (j : ℕ) → handing_count k j rows ≡ 0
-      none_handed k new j = count_none (is_arrival k j) rows (λ r g. not_arrival k j r (λ q y. new q.id (handed_was r g q y)))
+      none_handed k new j = count_none (is_arrival_of k j) rows (λ r g. not_arrival k j r (λ q y. new q.id (handed_was r g q y)))
 
       -- the stepping member's inbox and its new row
       once_here_by : Takes facts.cell e → (k : PacketId) → count_by (is_flight k) facts.cell.inbox
-          ≡ one_if (is_arrival k m d.row) + count_by (is_flight k) e.rest.inbox
+          ≡ one_if (is_arrival_of k m d.row) + count_by (is_flight k) e.rest.inbox
       once_here_by (inl t) k =
           ap (count_by (is_flight k)) t.inbox ∙ count_first (is_flight k) t.flight e.rest.inbox
           ∙ ap (λ b. one_if b + count_by (is_flight k) e.rest.inbox) (sym (here k t.flight.packet m d.row member (about_arrival t)))
       once_here_by (inr t) k =
-          let no : one_if (is_arrival k m d.row) ≡ 0 = ap one_if (not_arrival k m d.row (λ q y. absurd (about_none t.1 q y))) in
+          let no : one_if (is_arrival_of k m d.row) ≡ 0 = ap one_if (not_arrival k m d.row (λ q y. absurd (about_none t.1 q y))) in
           let same : count_by (is_flight k) e.rest.inbox ≡ count_by (is_flight k) facts.cell.inbox = ap (count_by (is_flight k)) t.0 in
           omega arith
 
@@ -364,7 +362,7 @@ module _ (s : Setting) where
           let b : count_by (is_flight k) (inbox_of (slice_get cs m)) ≡ count_by (is_flight k) facts.cell.inbox =
           ap (λ o. count_by (is_flight k) (inbox_of o)) facts.here in
           let c = once_here_by facts.pending.takes k in
-          let g = count_last (is_arrival k m) trace d.row in
+          let g = count_last (is_arrival_of k m) trace d.row in
           omega arith
 
       -- how often the packet of this step is put into another inbox
@@ -390,8 +388,8 @@ module _ (s : Setting) where
           ≡ put_in k j d.row.sent (slice_get cs j) + (count_by (is_flight k) (inbox_of (slice_get cs j)) + handing_count k j trace)
       once_there k j ne =
           let a = ap (λ o. count_by (is_flight k) (inbox_of o)) (there_after s m d cs j ne) ∙ told_count k j d.row.sent (slice_get cs j) in
-          let g = count_last (is_arrival k j) trace d.row in
-          let no : one_if (is_arrival k j d.row) ≡ 0 = ap one_if (elsewhere k j d.row (λ q. ne (sym q ∙ member))) in
+          let g = count_last (is_arrival_of k j) trace d.row in
+          let no : one_if (is_arrival_of k j d.row) ≡ 0 = ap one_if (elsewhere k j d.row (λ q. ne (sym q ∙ member))) in
           omega arith
 
       -- nothing is put in of a packet that was sent before
@@ -476,7 +474,7 @@ module _ (s : Setting) where
                 let a = once_there p.id j (eqb-false _ _ q) in
                 let b : put_in p.id j d.row.sent (slice_get cs j) ≡ one_if (is_some (arrival_of s.traffic p j)) =
                 ap (λ z. put_in p.id j z (slice_get cs j)) y ∙ put_new p y j (slice_get cs j) refl in
-                let l = count_last (is_arrival p.id j) trace d.row in
+                let l = count_last (is_arrival_of p.id j) trace d.row in
                 omega arith
           ] refl
 
@@ -521,7 +519,7 @@ module _ (s : Setting) where
   opening_empty : (n i j : ℕ) (c : PlainCell) → slice_get (opening_cells s n i) j ≡ Some c → c.inbox ≡ []
   unfolding opening_cells
   opening_empty zero i j c h = cc
-  opening_empty (suc n) i zero c h = ap (λ (b : PlainCell). b.inbox) (sym (same_some _ _ h))
+  opening_empty (suc n) i zero c h = ap (λ (b : PlainCell). b.inbox) (sym (same_Some _ _ h))
   opening_empty (suc n) i (suc j) c h = opening_empty n (suc i) j c h
 
   opening_sent : (n i j : ℕ) → sent_of (opening_cells s n i) j ≡ 0
@@ -593,7 +591,7 @@ module _ (s : Setting) where
   late_all i (x ∷ cs) h zero c g = (
     i,
     subst (λ y. Late (next_event i y))
-        (same_some _ _ g) (late_earlier (next_event i x) (least_event (suc i) cs) h).0,
+        (same_Some _ _ g) (late_earlier (next_event i x) (least_event (suc i) cs) h).0,
   )
   late_all i (x ∷ cs) h (suc j) c g = late_all (suc i) cs (late_earlier (next_event i x) (least_event (suc i) cs) h).1 j c g
 

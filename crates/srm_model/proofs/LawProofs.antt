@@ -1,8 +1,8 @@
 -- The laws.
 use Rattle.std.proofs.Common.{ltb-false, suc-add, ◌≡◌, ℕ, zero, suc, ◌≤◌, ◌+◌, Bool, true, false, List, [], ◌∷◌, ◌++◌, length, drop, refl}
-use Rattle.std.proofs.Common.{sym, ap, ◌∙◌, subst, ◌⊎◌, inl, inr, arith, Option, Some, None, slice_get, ◌==◌, eqb-true, eq-eqb, cond, ◌&&◌}
+use Rattle.std.proofs.Common.{sym, ap, ◌∙◌, subst, ◌⊎◌, inl, inr, arith, Option, Some, None, slice_get, ◌==◌, eqb-true, eq-eqb, cond}
 use Rattle.std.proofs.Common.{option_map, nat_lt, add-zero, zero-add, append_assoc, append-nil, le_refl, ◌≢◌}
-use Rattle.std.proofs.lemmas.Bool.{eqb-false}
+use Rattle.std.proofs.lemmas.Bool.{eqb-false, ne_eqb, and_right}
 use Rattle.std.proofs.Math.Seq.{drop-append_seam}
 use Rattle.srm_cell.proofs.CellLemmas.{keep, outcome_map, stepped_map}
 use Rattle.srm_cell.proofs.CellSteps.{SentBy, before_some, some_not_idle, told_late}
@@ -16,7 +16,7 @@ use Rattle.srm_model.proofs.Departed.{Stable, least_not_spent, stable_opening, s
 use Rattle.srm_model.proofs.RunLemmas.{Ends, after_full, after_stepped, ending, fewer, full_flag, least_own, not_done, quiet_ends, run_by}
 use Rattle.srm_model.proofs.RunLemmas.{run_first, seq_first, seq_refused, seq_run, seq_schedule, shifted, spent_flag, step_none}
 use Rattle.srm_model.proofs.RunLemmas.{to_the_end, total}
-use Rattle.srm_model.proofs.ScheduleLemmas.{Quiet, Safe, Sched, go, not_me, own_of_is, own_rows_late, safe_after, same_end, step_late}
+use Rattle.srm_model.proofs.ScheduleLemmas.{Quiet, Safe, Sched, go, own_of_is, own_rows_late, safe_after, same_end, step_late}
 use Rattle.srm_model.proofs.ScheduleLemmas.{stop}
 use Rattle.srm_model.proofs.Sequential.{good_reached, promise_safe, seq_ordered, window_safe}
 use Rattle.srm_model.proofs.Settled.{at_member, get_after}
@@ -27,10 +27,6 @@ use Rattle.srm_model.specs.World.{World, after_step, least_event, opening, row_c
 use Rattle.srm_member.specs.declared.row.Row.{Row}
 use Rattle.srm_net.specs.Orders.{ordered}
 use Rattle.srm_net.specs.declared.packet.Packet.{Packet}
-
-and_no : (b : Bool) → (b && false) ≡ false
-and_no true = refl
-and_no false = refl
 
 -- ---- a schedule, as the steps of the cells
 
@@ -93,7 +89,7 @@ module _ (s : Setting) (end : ℕ) where
   not_heard m None c h = refl
   not_heard m (Some p) c h =
       let q : (m == p.id.sender) ≡ true = eq-eqb _ _ (sym h) in
-      let none : arrival_of s.traffic p m ≡ None = simp q (simp (and_no (nat_lt m s.traffic.members))) in
+      let none : arrival_of s.traffic p m ≡ None = simp q (simp (and_right (nat_lt m s.traffic.members) false refl)) in
       ap (λ o. hear_at p o c) none
 
   end_map : (x : Option Packet) → ((p : Packet) → x ≡ Some p → (m at : ℕ) → arrival_of s.traffic p m ≡ Some at → end ≤ at)
@@ -150,7 +146,7 @@ module _ (s : Setting) (end : ℕ) where
             let late = step_late s end cs safe b d e in
             let here : slice_get (cells_after s b d 0 cs) m ≡ Some (told_to s.traffic d.row.sent m c) = get_after s b d m cs
             ∙ ap (option_map (at_member s b d m)) g ∙ ap (λ x. Some (cond x d.cell (told_to s.traffic d.row.sent m c))) mb in
-            let other : (d.row.key.member == m) ≡ false = not_me s end d.row.key.member m (λ q. eqb-false _ _ mb (sym q ∙ is.0)) in
+            let other : (d.row.key.member == m) ≡ false = ne_eqb d.row.key.member m (λ q. eqb-false _ _ mb (sym q ∙ is.0)) in
             let r = alone more quiet (safe_after s end cs safe b d e) m (told_to s.traffic d.row.sent m c) here in (
               r.0,
               from_idle (stepped_map (told_to s.traffic d.row.sent m)) _ (sym (end_map d.row.sent late m r.0 c) ∙ r.1),

@@ -5,9 +5,10 @@ use Rattle.std.specs.List.{Contains}
 use Rattle.srm_net.specs.declared.key.Key.{Key}
 use Rattle.srm_net.specs.Keys.{key_cmp}
 use Rattle.srm_net.specs.Orders.{NoneBelow}
+use Rattle.srm_net.proofs.TotalOrders.{key_total}
 use Rattle.srm_member.proofs.AllIn.{AllIn}
-use Rattle.srm_member.proofs.OrderLemmas.{from_refl, key_total}
-use Rattle.srm_cell.specs.Cells.{PlainCell, Event, earlier, next_event, before, pending_keys}
+use Rattle.srm_member.proofs.OrderLemmas.{from_refl}
+use Rattle.srm_cell.specs.Cells.{PlainCell, Event, next_event, before, pending_keys}
 use Rattle.srm_cell.proofs.CellSteps.{before_some}
 use Rattle.srm_cell.proofs.LeastEvents.{next_events_are_least}
 use Rattle.srm_cell.proofs.Rising.{OnEvent, IsAbove, next_above}
@@ -15,7 +16,7 @@ use Rattle.srm_cell.proofs.Tidy.{NotBefore, Least, above_least}
 use Rattle.srm_model.specs.World.{least_event}
 use Rattle.srm_model.specs.Laws.{keys_from, StepsTakeTheLeast}
 use Rattle.srm_model.proofs.PendingKeys.{each_above, all_above_keys}
-use Rattle.srm_model.proofs.RunLemmas.{least_from, shifted}
+use Rattle.srm_model.proofs.RunLemmas.{least_from, shifted, none_earlier}
 use Rattle.srm_model.proofs.Sequential.{good_reached, least_of_all}
 
 none_below : (k : Key) (ls : List Key) → AllIn (NotBefore k) ls → NoneBelow key_cmp k ls
@@ -37,20 +38,12 @@ on_some : (Q : Event → Type 0) (o : Option Event) (e : Event) → OnEvent Q o 
 on_some Q None e h q = cc
 on_some Q (Some d) e h q = let same : d ≡ e = cc in subst Q same h
 
-some_earlier : (d : Event) (o : Option Event) → earlier (Some d) o ≡ None → ⊥
-some_earlier d None h = cc
-some_earlier d (Some e) h = cc
-
-both_none : (x y : Option Event) → earlier x y ≡ None → (x ≡ None) × (y ≡ None)
-both_none None y h = (refl, h)
-both_none (Some d) y h = absurd (some_earlier d y h)
-
 no_keys : (i : ℕ) (cs : List PlainCell) → ((j : ℕ) (c : PlainCell) → slice_get cs j ≡ Some c → next_event (i + j) c ≡ None
     → pending_keys (i + j) c ≡ []) → least_event i cs ≡ None → keys_from i cs ≡ []
 unfolding least_event
 no_keys i [] none h = refl
 no_keys i (c ∷ cs) none h =
-    let parts = both_none (next_event i c) (least_event (suc i) cs) h in
+    let parts = none_earlier (next_event i c) (least_event (suc i) cs) h in
     let first : pending_keys i c ≡ [] = rw add-zero at (none 0 c refl (rw (add-zero i) parts.0)) in
     let rest : keys_from (suc i) cs ≡ [] = no_keys (suc i) cs (λ j d g n. rw (shifted i j) at (none (suc j) d g (rw (shifted i j) n)))
     parts.1 in

@@ -6,6 +6,7 @@ use Rattle.std.proofs.lemmas.Bool.{eqb-false}
 use Rattle.std.proofs.lemmas.List.{length-map}
 use Rattle.std.proofs.Math.Nat.{min-le_left, min-le_right}
 use Rattle.std.specs.List.{range_with_len}
+use Rattle.std.proofs.lemmas.Option.{same_Some}
 use Rattle.srm_net.specs.declared.link.LinkSpec.{LinkSpec}
 use Rattle.srm_net.specs.Network.{Network, IsNetwork, IsWalk}
 use Rattle.srm_net.specs.Paths.{host, member_route, distance, delay_along}
@@ -19,13 +20,14 @@ use Rattle.srm_member.specs.Record.{Record, Active, Gone, fixed_part}
 use Rattle.srm_net.specs.Roles.{is_listener}
 use Rattle.srm_member.proofs.AllIn.{AllIn}
 use Rattle.srm_member.proofs.FewerTimers.{In}
-use Rattle.srm_member.proofs.OrderLemmas.{key_total, from_refl}
+use Rattle.srm_member.proofs.OrderLemmas.{from_refl}
 use Rattle.srm_cell.specs.Setting.{Setting, setting_of}
 use Rattle.srm_cell.specs.Cells.{PlainCell, Event, Silent, next_event, time_of}
 use Rattle.srm_cell.proofs.CellSteps.{before_some}
 use Rattle.srm_cell.proofs.Tidy.{Least, not_before_time}
 use Rattle.srm_cell.proofs.FitSettings.{settings_are_fit}
 use Rattle.srm_net.specs.Keys.{key_cmp}
+use Rattle.srm_net.proofs.TotalOrders.{key_total}
 use Rattle.srm_model.specs.World.{World, least_event}
 use Rattle.srm_model.specs.Windows.{IsWidth, least_with, out, promise_by, promise_of, least_promise, promise_end}
 use Rattle.srm_model.specs.Laws.{LinkDelaysAreSafe, PromiseEndsAreSafe}
@@ -55,12 +57,9 @@ fold_pos : (a : ℕ) (xs : List ℕ) → 0 < a → AllIn (λ x. 0 < x) xs → 0 
 fold_pos a [] h g = h
 fold_pos a (x ∷ xs) h g = fold_pos (min a x) xs (min_pos a x h g.0) g.1
 
-same_number : (x y : ℕ) → Some x ≡ Some y → x ≡ y
-same_number x y e = cc
-
 least_pos : (xs : List ℕ) (k : ℕ) → least xs ≡ Some k → AllIn (λ x. 0 < x) xs → 0 < k
 least_pos [] k h a = let y : ⊥ = cc in absurd y
-least_pos (x ∷ xs) k h a = subst (λ n. 0 < n) (same_number _ _ h) (fold_pos x xs a.0 a.1)
+least_pos (x ∷ xs) k h a = subst (λ n. 0 < n) (same_Some _ _ h) (fold_pos x xs a.0 a.1)
 
 in_mapped : {A B : Type 0} (f : A → B) (x : A) (xs : List A) → In x xs → In (f x) (map f xs)
 in_mapped f x [] h = h
@@ -138,7 +137,7 @@ module _ (s : Setting) where
 
   least_with_in : (n k : ℕ) (o : Option ℕ) → o ≡ Some k → least_with n o ≤ k
   least_with_in n k None h = let y : ⊥ = cc in absurd y
-  least_with_in n k (Some x) h = let e = same_number _ _ h in let g = min-le_right n x in omega arith
+  least_with_in n k (Some x) h = let e = same_Some _ _ h in let g = min-le_right n x in omega arith
 
   promise_le : (i : ℕ) (cs : List PlainCell) (j : ℕ) (c : PlainCell) (t : ℕ) → slice_get cs j ≡ Some c → promise_of s (i + j) c ≡ Some t
       → least_promise s i cs ≤ t
@@ -200,7 +199,7 @@ module _ (s : Setting) where
       → t < k
   later_by t None y k h f g = let z : ⊥ = cc in absurd z
   later_by t (Some a) None k h f g = let z : ⊥ = cc in absurd z
-  later_by t (Some a) (Some b) k h f g = let e = same_number _ _ h in let p = f a refl in let q = g b refl in omega arith
+  later_by t (Some a) (Some b) k h f g = let e = same_Some _ _ h in let p = f a refl in let q = g b refl in omega arith
 
   from_cond : (b : Bool) (o : Option ℕ) (k : ℕ) → cond b None o ≡ Some k → o ≡ Some k
   from_cond true o k h = let z : ⊥ = cc in absurd z
@@ -209,7 +208,7 @@ module _ (s : Setting) where
   time_from : (t m : ℕ) (c : PlainCell) (o : Option Event) → ((e : Event) → o ≡ Some e → t ≤ e.key.time) → (a : ℕ) → time_of o ≡ Some a
       → t ≤ a
   time_from t m c None f a h = let z : ⊥ = cc in absurd z
-  time_from t m c (Some e) f a h = let q = same_number _ _ h in let p = f e refl in omega arith
+  time_from t m c (Some e) f a h = let q = same_Some _ _ h in let p = f e refl in omega arith
 
   all_later : (t : ℕ) → t < s.traffic.until → (i : ℕ) (cs : List PlainCell)
       → ((j : ℕ) (c : PlainCell) (e : Event) → slice_get cs j ≡ Some c → next_event (i + j) c ≡ Some e → t ≤ e.key.time)

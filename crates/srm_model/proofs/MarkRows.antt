@@ -23,11 +23,11 @@ use Rattle.srm_member.specs.React.{Reaction, react}
 use Rattle.srm_member.proofs.AllIn.{AllIn}
 use Rattle.srm_cell.specs.declared.flight.Flight.{Flight}
 use Rattle.srm_cell.specs.Setting.{Traffic, cause_of_mark}
-use Rattle.srm_cell.specs.Cells.{PlainCell, Event, mark_key, first_arrival, first_mark, next_timer, next_event, Full, Done, Stepped}
+use Rattle.srm_cell.specs.Cells.{PlainCell, Event, mark_key, first_arrival, first_mark, next_timer, next_event, Done, Stepped}
 use Rattle.srm_cell.specs.Cells.{word_of_body, word_of, cause_of_timer, sending_step, handle, step_at}
 use Rattle.srm_cell.proofs.Rising.{OnEvent, earlier_on, OnStep}
 use Rattle.srm_model.specs.World.{row_cmp}
-use Rattle.srm_model.proofs.OneStep.{Does}
+use Rattle.srm_model.proofs.OneStep.{Does, on_full}
 use Rattle.srm_model.proofs.SortedRows.{rows_total}
 use Rattle.srm_model.proofs.TraceRows.{contains_none}
 use Rattle.srm_net.specs.Limits.{most_sent}
@@ -141,10 +141,6 @@ module _ (Q : Mark → Type 0) (m : ℕ) (c : PlainCell) (all : AllIn Q c.script
 
 abbrev SameScript : Event → Stepped → Type 0
 SameScript e d = d.cell.script ≡ e.rest.script
-
-on_full : (Q : Stepped → Type 0) (b : Bool) (x : Stepped) → Q x → OnStep Q (cond b (Done x) Full)
-on_full Q true x h = h
-on_full Q false x h = tt
 
 script_sending : (e : Event) (r : Reaction) (body : Option Body) → OnStep (SameScript e) (sending_step e r body)
 script_sending e r None = refl

@@ -22,12 +22,13 @@ use Rattle.srm_model.specs.Laws.{MergesAgree, by_member, new_rows}
 use Rattle.srm_model.specs.Schedules.{rows_of}
 use Rattle.srm_model.specs.World.{World, opening, row_cmp, run}
 use Rattle.srm_member.proofs.AllIn.{AllIn}
-use Rattle.srm_member.proofs.FewerTimers.{In, in_append, one_if}
+use Rattle.srm_member.proofs.FewerTimers.{In, in_append, count-append}
 use Rattle.srm_member.proofs.OrderLemmas.{rises}
 use Rattle.srm_member.specs.Record.{count_if}
 use Rattle.srm_member.specs.declared.row.Row.{Row}
 use Rattle.srm_net.specs.Orders.{AllAfter, Ascends, NoneBelow, Rises}
 use Rattle.srm_net.specs.declared.key.Key.{Key}
+use Rattle.srm_net.proofs.Basics.{one_if}
 
 module _ {A : Type 0} (cmp : A → A → Ordering) (o : IsTotalOrder cmp) where
   -- how many elements have the key of k
@@ -106,10 +107,6 @@ module _ {A : Type 0} (cmp : A → A → Ordering) (o : IsTotalOrder cmp) where
 -- ---- the rows of a list, by members
 
 module _ {A : Type 0} (p : A → Bool) where
-  count-joined : (xs ys : List A) → count_if p (xs ++ ys) ≡ count_if p xs + count_if p ys
-  count-joined [] ys = omega arith
-  count-joined (x ∷ xs) ys = let e = count-joined xs ys in omega arith
-
   count-cond : (b : Bool) (x : A) (xs : List A) → count_if p (cond b (x ∷ xs) xs) ≡ one_if (b && p x) + count_if p xs
   count-cond true x xs = refl
   count-cond false x xs = omega arith
@@ -162,7 +159,7 @@ module _ (p : Row → Bool) where
   unfolding in_range
   count-by_member zero i rows = none_counted rows
   count-by_member (suc n) i rows =
-      let a = count-joined p (rows_of i rows) (joined (by_member (suc i) n rows)) in
+      let a = count-append p (rows_of i rows) (joined (by_member (suc i) n rows)) in
       let b = count-filter p (λ r. r.key.member == i) rows in
       let c = count-by_member n (suc i) rows in
       let d = both_ranges i n rows in

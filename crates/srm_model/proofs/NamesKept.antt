@@ -4,6 +4,7 @@ use Rattle.std.proofs.Common.{inr, arith, Option, Some, None, is_some, unwrap_or
 use Rattle.std.specs.List.{Contains}
 use Rattle.std.specs.FinMap.Entries.{put, find, is_sorted}
 use Rattle.std.proofs.lemmas.List.Elements.{Contains-append_left}
+use Rattle.std.proofs.lemmas.Option.{same_Some}
 use Rattle.srm_net.specs.declared.packet.Name.{Name}
 use Rattle.srm_net.specs.declared.packet.Body.{Body}
 use Rattle.srm_net.specs.declared.packet.Body.TheVariants.{Drawop, Request, Repair}
@@ -22,15 +23,15 @@ use Rattle.srm_member.specs.Record.{MemberState, Record, Active, Gone, exit_of}
 use Rattle.srm_member.specs.React.{Reaction, react}
 use Rattle.srm_member.proofs.TableChanges.{Has, names_apart, put_here, put_there, has_put, has_more, without_less, without_there}
 use Rattle.srm_member.proofs.TableChanges.{sorted_put, sorted_without, has_some, ascend, contained_found, found_contained, named, has_name}
-use Rattle.srm_member.proofs.Changes.{Below, Grows, Allowed, Quiet, Brings, Mends, Brought, Drawn, effect}
+use Rattle.srm_member.proofs.Changes.{Below, Grows, Allowed, Quiet, Brings, Brought, Drawn, effect}
 use Rattle.srm_cell.specs.Setting.{Setting, IsFit, arrival_of}
 use Rattle.srm_cell.specs.Cells.{PlainCell, opening_cell, hear_at, hear, Event, Stepped, word_of, about_of, packet_of}
 use Rattle.srm_cell.specs.OwnRuns.{told_to}
 use Rattle.srm_model.specs.World.{World, cells_after, opening, opening_cells, IsReached, exit_at}
 use Rattle.srm_model.specs.Handed.{SentIn}
-use Rattle.srm_model.specs.HeldNames.{Draws, Drew, Carries, TellsOf, ToldOf, Got, Lost, Lacks, EndsWith, ExitsAreWhatRowsSay}
+use Rattle.srm_model.specs.HeldNames.{Draws, Drew, Carries, TellsOfName, ToldOf, Got, Lost, Lacks, EndsHolding, ExitsAreWhatRowsSay}
 use Rattle.srm_model.specs.HeldNames.{RequestsAreForLosses, RepairsAreOfHeld}
-use Rattle.srm_model.proofs.OneStep.{Takes, Sends, Answers, Leaves, Steps, StepFacts, same_some, each_after, run_keeps}
+use Rattle.srm_model.proofs.OneStep.{Takes, Sends, Answers, Leaves, Steps, StepFacts, each_after, run_keeps}
 use Rattle.srm_model.proofs.TraceRows.{contains_none, contains_last, contains_cases, sent_more, sent_cases, IsSplit, split_cases}
 use Rattle.srm_model.proofs.HandedOnce as handing
 use Rattle.srm_model.proofs.HandedOnce.{EachCell, Handed, handed_step, handed_opening}
@@ -81,7 +82,7 @@ sent_body : (e : Event) (body : Option Body) (d : Stepped) (p : Packet) → Send
     × (p.id.sender ≡ e.key.member)
 sent_body e None d p h q = let x : None ≡ Some p = sym h.0 ∙ q in cc
 sent_body e (Some b) d p h q =
-    let same : packet_of e b ≡ p = same_some _ _ (sym h.0 ∙ q) in
+    let same : packet_of e b ≡ p = same_Some _ _ (sym h.0 ∙ q) in
     (ap (λ (x : Packet). Some x.body) same, sym (ap (λ (x : Packet). x.id.sender) same))
 
 sends_none : (e : Event) (d : Stepped) (body : Option Body) → body ≡ None → Sends e body d → (p : Packet) → d.row.sent ≡ Some p → ⊥
@@ -132,9 +133,9 @@ module _ (s : Setting) (fit : IsFit s) where
 
       -- the row tells this of n, from a packet that was sent before
       abbrev Now : Told → ℕ → Name → Type 0
-      Now t j n = TellsOf t j n trace d.row
+      Now t j n = TellsOfName t j n trace d.row
 
-      tells_more : (t : Told) (j : ℕ) (n : Name) (r : Row) → TellsOf t j n trace r → TellsOf t j n rows r
+      tells_more : (t : Told) (j : ℕ) (n : Name) (r : Row) → TellsOfName t j n trace r → TellsOfName t j n rows r
       tells_more t j n r h = record {
         member = h.member;
         told_so = h.told_so;
@@ -163,7 +164,7 @@ module _ (s : Setting) (fit : IsFit s) where
       told_cases t j n h =
           let g = h.2 in
           let sent = sent_before h.0 h.1 g.packet g.about g.sent in
-          let tells : TellsOf t j n trace h.0 = record {
+          let tells : TellsOfName t j n trace h.0 = record {
             member = g.member;
             told_so = g.told_so;
             packet = g.packet;
@@ -175,7 +176,7 @@ module _ (s : Setting) (fit : IsFit s) where
           elim (contains_cases trace d.row h.0 h.1) [
             | inl c ↦ inl (h.0, c, tells)
             | inr c ↦
-                inr (subst (TellsOf t j n trace) (sym c) tells)
+                inr (subst (TellsOfName t j n trace) (sym c) tells)
           ]
 
       lost_more : (j : ℕ) (n : Name) → Lost j n trace → Lost j n rows
@@ -450,7 +451,7 @@ module _ (s : Setting) (fit : IsFit s) where
             let held_is : (n : Name) (ink : ℕ) → find name_cmp n r.state.held ≡ Some ink → Got m n rows
             × Drew n.source n ink rows = λ n ink f. (elim (names_apart n n0) [
               | inl q ↦
-                  let ink_is : b.ink ≡ ink = same_some _ _ (sym (put_here n0 b.ink state.held)
+                  let ink_is : b.ink ≡ ink = same_Some _ _ (sym (put_here n0 b.ink state.held)
                   ∙ ap (λ x. find name_cmp x (put name_cmp n0 b.ink state.held)) (sym q) ∙ ap (find name_cmp n) (sym held) ∙ f) in
                   subst (λ x. Got m x rows × Drew x.source x ink rows) (sym q)
                   (got_it, subst (λ i. Drew n0.source n0 i rows) ink_is (drew_more n0.source n0 b.ink drawn))
@@ -552,7 +553,7 @@ module _ (s : Setting) (fit : IsFit s) where
               carries = refl;
             } in
             let only : (j : ℕ) (n : Name) (i : ℕ) → Draws j n i d.row → (n ≡ n0) × (i ≡ b.ink) = λ j n i h.
-            (let same : h.packet ≡ packet_of e (Drawop n0 b.ink) = same_some _ _ (sym h.sends ∙ row_sent) in
+            (let same : h.packet ≡ packet_of e (Drawop n0 b.ink) = same_Some _ _ (sym h.sends ∙ row_sent) in
             same_ops n n0 i b.ink (sym h.carries ∙ ap (λ (x : Packet). x.body) same)) in
             let drawn : Drew n0.source n0 b.ink rows = subst (λ j. Drew j n0 b.ink rows) (sym own) (drew_now m n0 b.ink here) in
             let no_told : (t : Told) → Sent ≢ t → (n : Name) → ¬ Now t m n = λ t ne n h. ne (sym (a.told ∙ b.told) ∙ h.told_so) in
@@ -568,7 +569,7 @@ module _ (s : Setting) (fit : IsFit s) where
             let held_is : (n : Name) (i : ℕ) → find name_cmp n r.state.held
             ≡ Some i → Got m n rows × Drew n.source n i rows = λ n i f. (elim (names_apart n n0) [
               | inl q ↦
-                  let ink_is : b.ink ≡ i = same_some _ _ (sym (put_here n0 b.ink state.held)
+                  let ink_is : b.ink ≡ i = same_Some _ _ (sym (put_here n0 b.ink state.held)
                   ∙ ap (λ x. find name_cmp x (put name_cmp n0 b.ink state.held)) (sym q) ∙ ap (find name_cmp n) (sym b.held) ∙ f) in
                   subst (λ x. Got m x rows × Drew x.source x i rows) (sym q)
                   (inl (b.ink, drew_now m n0 b.ink here), subst (λ y. Drew n0.source n0 y rows) ink_is drawn)
@@ -621,7 +622,7 @@ module _ (s : Setting) (fit : IsFit s) where
               ];
               inks = λ p n i q h. (let body : Some (Drawop n0 b.ink) ≡ Some p.body = sym b.body ∙ (sent_is p q).0 in elim h [
                 | inl x ↦
-                    let same = same_ops n0 n b.ink i (same_some _ _ (body ∙ ap Some x)) in
+                    let same = same_ops n0 n b.ink i (same_Some _ _ (body ∙ ap Some x)) in
                     subst (λ y. Drew y.source y i rows) same.0 (subst (λ y. Drew n0.source n0 y rows) same.1 drawn)
                 | inr x ↦ (let y : Some (Drawop n0 b.ink) ≡ Some (Repair n i) = body ∙ ap Some x in cc)
               ]);
@@ -705,7 +706,7 @@ module _ (s : Setting) (fit : IsFit s) where
   opening_knows zero i e j c h = cc
   opening_knows (suc n) i e zero c h =
       let here : i + 0 ≡ i = omega arith in
-      subst (λ (x : PlainCell). CellKnows [] (i + 0) x.holds x.exit) (same_some _ _ h)
+      subst (λ (x : PlainCell). CellKnows [] (i + 0) x.holds x.exit) (same_Some _ _ h)
       (subst (λ x. CellKnows [] x (opening_cell s i).holds (opening_cell s i).exit) (sym here) (knows_nothing i (omega arith)))
   opening_knows (suc n) i e (suc j) c h =
       let there : suc i + j ≡ i + suc j = omega arith in
@@ -731,7 +732,7 @@ module _ (s : Setting) (fit : IsFit s) where
   -- ---- exits
 
   ends_by : (w : World) → Names w.cells w.trace → (j : ℕ) (m : MemberState) → m.fixed.member ≡ j → Keeps w.trace j m.held m.missing
-      → EndsWith w.trace j (exit_of m)
+      → EndsHolding w.trace j (exit_of m)
   ends_by w names j m member k = record {
     member = member;
     held = λ n ink. (
@@ -748,16 +749,16 @@ module _ (s : Setting) (fit : IsFit s) where
   }
 
   ends : (w : World) → Names w.cells w.trace → (j : ℕ) (holds : Record) (exit : Option Exit) → CellKnows w.trace j holds exit
-      → EndsWith w.trace j (exit_at holds exit)
+      → EndsHolding w.trace j (exit_at holds exit)
   ends w names j (Active m) None h = ends_by w names j m h.member h.keeps
   ends w names j (Active m) (Some x) h = absurd h
   ends w names j (Gone f) None h = absurd h
-  ends w names j (Gone f) (Some x) h = subst (EndsWith w.trace j) (sym h.1) (ends_by w names j h.0 h.2 h.3)
+  ends w names j (Gone f) (Some x) h = subst (EndsHolding w.trace j) (sym h.1) (ends_by w names j h.0 h.2 h.3)
 
 get_map : {A B : Type 0} (f : A → B) (xs : List A) (j : ℕ) (y : B) → slice_get (map f xs) j ≡ Some y → (x : A) × (slice_get xs j ≡ Some x)
     × (f x ≡ y)
 get_map f [] j y h = cc
-get_map f (x ∷ xs) zero y h = (x, refl, same_some _ _ h)
+get_map f (x ∷ xs) zero y h = (x, refl, same_Some _ _ h)
 get_map f (x ∷ xs) (suc j) y h = get_map f xs j y h
 
 length_map : {A B : Type 0} (f : A → B) (xs : List A) → length (map f xs) ≡ length xs
@@ -770,7 +771,7 @@ exits_are_what_rows_say s w fit reached =
       length_map (λ (c : PlainCell). exit_at c.holds c.exit) w.cells ∙ names.handed.members,
       (λ j x h.
           let g = get_map (λ (c : PlainCell). exit_at c.holds c.exit) w.cells j x h in
-          subst (EndsWith w.trace j) g.2 (ends s fit w names j g.0.holds g.0.exit (names.knows j g.0 g.1))),
+          subst (EndsHolding w.trace j) g.2 (ends s fit w names j g.0.holds g.0.exit (names.knows j g.0 g.1))),
     )
 
 pub requests_are_for_losses : RequestsAreForLosses

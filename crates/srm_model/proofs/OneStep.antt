@@ -21,7 +21,7 @@ use Rattle.srm_cell.specs.OwnRuns.{told_to}
 use Rattle.srm_cell.proofs.Rising.{OnEvent, earlier_on, before_on, OnStep}
 use Rattle.srm_cell.proofs.CellSteps.{some_not_idle}
 use Rattle.srm_model.proofs.Settled.{at_member, get_after}
-pub use Rattle.srm_model.proofs.Settled.{same_some, each_after, length_after}
+pub use Rattle.srm_model.proofs.Settled.{each_after, length_after}
 use Rattle.srm_model.proofs.RunLemmas.{least_from, run_by, run_first, step_none, step_is}
 use Rattle.srm_model.specs.World.{World, cells_after, after_step, least_event, step, run, opening_cells}
 use Rattle.srm_net.specs.Limits.{most_sent}
@@ -132,7 +132,7 @@ pub record Does (e : Event) (d : Stepped) : Type 0 where
   pub inbox : d.cell.inbox ≡ e.rest.inbox
   pub how : Answers e d ⊎ Leaves e d
 
-on_full : (Q : Stepped → Type 0) (b : Bool) (x : Stepped) → Q x → OnStep Q (cond b (Done x) Full)
+pub on_full : (Q : Stepped → Type 0) (b : Bool) (x : Stepped) → Q x → OnStep Q (cond b (Done x) Full)
 on_full Q true x h = h
 on_full Q false x h = tt
 

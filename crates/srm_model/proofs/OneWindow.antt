@@ -6,6 +6,7 @@ use Rattle.std.specs.Cmp.{IsTotalOrder}
 use Rattle.std.specs.List.Sorted.{IsPermutation}
 use Rattle.std.proofs.lemmas.List.Sorted.{IsPermutation-refl, IsPermutation-sym, IsPermutation-trans, IsPermutation-cons}
 use Rattle.std.proofs.lemmas.List.Sorted.{IsPermutation-middle}
+use Rattle.std.proofs.lemmas.Option.{same_Some}
 use Rattle.srm_net.specs.Orders.{place, ordered, Rises}
 use Rattle.srm_member.specs.declared.row.Row.{Row}
 use Rattle.srm_cell.specs.Cells.{PlainCell, StepOutcome, Idle, Done}
@@ -49,9 +50,6 @@ as_many_results end i (c ∷ cs) [] h = absurd h
 pub have_results : (end : ℕ) (w : World) (rs : List OwnResult) → AreOwnRuns end 0 w.cells rs → (m : ℕ) → HasResult end w m
 have_results end w rs h m c g = let r = result_at end 0 w.cells rs h m c g in (r.1.steps, rw zero-add at r.1.ends)
 
-same_some : {A : Type 0} (x y : A) → Some x ≡ Some y → x ≡ y
-same_some x y h = cc
-
 module _ (s : Setting) (end : ℕ) (rows : List Row) where
   -- where each cell ran alone and heard the rows, in which its own are those of its run, the results are those of the
   -- members
@@ -66,7 +64,7 @@ module _ (s : Setting) (end : ℕ) (rows : List Row) where
       let same = own_runs_are_one end i c r.rows (own_rows end i a.0 c) r.cell (own_after end i a.0 c) h.0
       (record { steps = a.0; ends = a.1; rows_are = refl; leaves = refl }) in
       let first = same.0 ∙ sym a.2 in
-      let heard : d ≡ hear_rows s.traffic i rows r.cell = same_some _ _ a.3 ∙ ap (hear_rows s.traffic i rows) (sym same.1) in
+      let heard : d ≡ hear_rows s.traffic i rows r.cell = same_Some _ _ a.3 ∙ ap (hear_rows s.traffic i rows) (sym same.1) in
       let more = run_alone (suc i) cs rs ds h.1 (omega arith) (λ j b g. rw (← shifted i j) (alone (suc j) b g)) in
       (λ k. first k ∷ more.0 k, λ k. heard k ∷ more.1 k)
   run_alone i [] (r ∷ rs) ds h many alone = absurd h

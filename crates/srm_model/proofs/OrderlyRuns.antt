@@ -1,9 +1,9 @@
 -- The rows of a run of an accepted scenario are orderly.
 use Rattle.std.proofs.Common.{◌≡◌, ℕ, zero, suc, ◌<◌, ◌+◌, List, [], ◌∷◌, ◌++◌, length, refl, sym, ap, ◌∙◌, subst, inl, inr, arith, Option}
-use Rattle.std.proofs.Common.{Some, None, unwrap_or, slice_get, append_assoc, append-nil, zero-add}
+use Rattle.std.proofs.Common.{Some, None, unwrap_or, slice_get, append_assoc, zero-add}
 use Rattle.std.specs.List.{Contains}
 use Rattle.std.proofs.lemmas.List.Elements.{Contains-append_left, Contains-append_right}
-use Rattle.std.proofs.lemmas.Option.{slice_get-get_or}
+use Rattle.std.proofs.lemmas.Option.{slice_get-get_or, same_Some}
 use Rattle.srm_net.specs.declared.packet.Name.{Name}
 use Rattle.srm_net.specs.declared.packet.Body.{Body}
 use Rattle.srm_net.specs.declared.packet.Body.TheVariants.{Drawop, Request, Repair, Session}
@@ -32,7 +32,7 @@ use Rattle.srm_cell.specs.Cells.{PlainCell, opening_cell, hear_at, hear, Event, 
 use Rattle.srm_cell.specs.OwnRuns.{told_to}
 use Rattle.srm_cell.proofs.FitSettings.{settings_are_fit}
 use Rattle.srm_cell.proofs.Rising.{OnEvent, before_on}
-use Rattle.srm_model.specs.World.{World, cells_after, opening, opening_cells, run, row_cmp, IsReached, IsOutcome}
+use Rattle.srm_model.specs.World.{World, cells_after, opening, opening_cells, run, row_cmp, IsReached}
 use Rattle.srm_model.specs.Handed.{SentIn}
 use Rattle.srm_model.specs.HeldNames.{Drew, Carries, ToldOf, Lost, Lacks}
 use Rattle.srm_model.specs.Tables.{TracesAreOrderly}
@@ -42,7 +42,7 @@ use Rattle.srm_model.proofs.LostNames.{Apart, none_before, OfMembers, PagesOf, B
 use Rattle.srm_model.proofs.MarkRows.{ascends_first, IsOwnMark, MarksOf, next_marks, script_after, RowMarks, row_marks, joins_once}
 use Rattle.srm_model.proofs.MarkRows.{leaves_once}
 use Rattle.srm_model.proofs.NamesKept.{CellKnows, Knows, Names, names_step, names_reached}
-use Rattle.srm_model.proofs.OneStep.{Takes, Sends, Answers, Leaves, Steps, StepFacts, same_some, each_after, run_keeps}
+use Rattle.srm_model.proofs.OneStep.{Takes, Sends, Answers, Leaves, Steps, StepFacts, each_after, run_keeps}
 use Rattle.srm_model.proofs.RunLemmas.{least_from}
 use Rattle.srm_model.proofs.StrictRuns.{keys_rise}
 use Rattle.srm_model.proofs.TraceRows.{contains_none, contains_cases, sent_more, sent_cases, sent_now, IsSplit, split_cases}
@@ -51,8 +51,8 @@ use Rattle.srm_model.proofs.WindowPackets.{split_at}
 -- ---- what a row brings
 
 carries_carried : (b : Body) (n : Name) → carried b ≡ Some n → Carries n b
-carries_carried (Drawop k ink) n h = same_some k n h
-carries_carried (Repair k ink) n h = same_some k n h
+carries_carried (Drawop k ink) n h = same_Some k n h
+carries_carried (Repair k ink) n h = same_Some k n h
 carries_carried (Request k) n h = let x : None ≡ Some n = h in cc
 carries_carried (Session hs) n h = let x : None ≡ Some n = h in cc
 
@@ -183,7 +183,7 @@ module _ (s : Setting) (fit : IsFit s) (own : (j : ℕ) → j < s.traffic.member
       -- what it hears was sent
       cause_by : (cause : Cause) → e.cause ≡ Some cause → Takes facts.cell e → CauseOf members cause
       cause_by cause is (inl t) =
-          let same : Arrival t.flight.packet ≡ cause = same_some _ _ (sym t.cause ∙ is) in
+          let same : Arrival t.flight.packet ≡ cause = same_Some _ _ (sym t.cause ∙ is) in
           subst (CauseOf members) same (was.bodies t.flight.packet (handing.taken s cs trace e d was.names.handed steps t).0)
       cause_by (Arrival p) is (inr t) = absurd (t.1 p is)
       cause_by Join is (inr t) = tt
@@ -232,7 +232,7 @@ module _ (s : Setting) (fit : IsFit s) (own : (j : ℕ) → j < s.traffic.member
           → SessionOf members (Some p.body)
       session_by None h g p q = let x : None ≡ Some p = sym h.0 ∙ q in cc
       session_by (Some b) h g p q =
-          let same : packet_of e b ≡ p = same_some _ _ (sym h.0 ∙ q) in
+          let same : packet_of e b ≡ p = same_Some _ _ (sym h.0 ∙ q) in
           subst (λ (x : Packet). SessionOf members (Some x.body)) same g
 
       answer_now : Now
@@ -356,7 +356,7 @@ module _ (s : Setting) (fit : IsFit s) (own : (j : ℕ) → j < s.traffic.member
   opening_each Q all zero i e j c h = cc
   opening_each Q all (suc n) i e zero c h =
       let here : i + 0 ≡ i = omega arith in
-      subst (Q (i + 0)) (same_some _ _ h) (subst (λ x. Q x (opening_cell s i)) (sym here) (all i (omega arith)))
+      subst (Q (i + 0)) (same_Some _ _ h) (subst (λ x. Q x (opening_cell s i)) (sym here) (all i (omega arith)))
   opening_each Q all (suc n) i e (suc j) c h =
       let there : suc i + j ≡ i + suc j = omega arith in
       subst (λ x. Q x c) there (opening_each Q all n (suc i) (omega arith) j c h)
@@ -444,10 +444,3 @@ module _ (p : PlainScenario) (a : IsAccepted p) (seed : ℕ) where
 pub traces_are_orderly : TracesAreOrderly
 traces_are_orderly p seed a w reached before after parts =
     first_orderly (setting_of p (network_of p) seed) (settings_are_fit p seed a) (own_marks p a seed) w reached before after parts
-
--- so are the rows of a complete run
-pub outcome_is_orderly : (p : PlainScenario) (seed : ℕ) → IsAccepted p → (trace : List Row) (exits : List Exit) (totals : List ℕ)
-    → IsOutcome (setting_of p (network_of p) seed) trace exits totals → IsOrderly (length p.members) trace
-outcome_is_orderly p seed a trace exits totals o =
-    let all = traces_are_orderly p seed a o.world o.last.reached o.world.trace [] (sym (append-nil o.world.trace)) in
-    subst (IsOrderly (length p.members)) (sym o.trace_is) all

@@ -1,7 +1,8 @@
 -- The sequential run to an end is a complete schedule, if own runs end.
 use Rattle.std.proofs.Common.{◌≡◌, ℕ, zero, suc, ◌<◌, ◌≤◌, ◌+◌, Bool, true, false, List, [], ◌∷◌, ◌++◌, length, refl, sym, ap, ◌∙◌, subst}
-use Rattle.std.proofs.Common.{subst₂, ◌≢◌, ◌⊎◌, inl, inr, arith, Ordering, Less, Equal, Greater, eqb-true, eq-eqb, ◌==◌, Option, Some, None}
+use Rattle.std.proofs.Common.{subst₂, ◌≢◌, ◌⊎◌, inl, inr, arith, Ordering, Less, Equal, Greater, eq-eqb, ◌==◌, Option, Some, None}
 use Rattle.std.proofs.Common.{slice_get, add-zero, zero-add, append_assoc, append-nil}
+use Rattle.std.proofs.lemmas.Bool.{ne_eqb}
 use Rattle.srm_cell.proofs.CellLemmas.{before-earlier, outcome_map, stepped_map}
 use Rattle.srm_cell.proofs.CellSteps.{IsOf, before_more, before_of, next_event_of, some_not_idle, told_late}
 use Rattle.srm_cell.proofs.OwnRunLemmas.{end_by, end_first, end_now}
@@ -30,7 +31,7 @@ from_earlier (Some d) None e h = inl h
 from_earlier (Some d) (Some f) e h = elim (from_by_key (key_cmp d.key f.key) d f)
     [ inl g ↦ inl (ap Some (sym g) ∙ h) | inr g ↦ inr (ap Some (sym g) ∙ h) ]
 
-none_earlier : (x y : Option Event) → earlier x y ≡ None → (x ≡ None) × (y ≡ None)
+pub none_earlier : (x y : Option Event) → earlier x y ≡ None → (x ≡ None) × (y ≡ None)
 none_earlier None y h = (refl, h)
 none_earlier (Some d) None h = cc
 none_earlier (Some d) (Some f) h = cc
@@ -111,12 +112,9 @@ module _ (s : Setting) (end : ℕ) where
   Ends i (c ∷ cs) (n ∷ ns) (b ∷ bs) = (own_end end i n c ≡ ending b) × Ends (suc i) cs ns bs
   Ends i _ _ _ = ⊥
 
-  off : (i a : ℕ) → i ≢ a → (i == a) ≡ false
-  off i a ne = elim (i == a) as (λ x. (i == a) ≡ x → (i == a) ≡ false) [ true ↦ λ e. absurd (ne (eqb-true _ _ e)) | false ↦ λ e. e ] refl
-
   head_off : (a : ℕ) (d : Stepped) → SendsLate s end d.row → (i n : ℕ) (c : PlainCell) (b : Bool) → i ≢ a → own_end end i n c ≡ ending b
       → own_end end i n (at_member s a d i c) ≡ ending b
-  head_off a d late i n c b ne h = let no : (i == a) ≡ false = off i a ne in rw no (end_late d.row.sent late i n c b h)
+  head_off a d late i n c b ne h = let no : (i == a) ≡ false = ne_eqb i a ne in rw no (end_late d.row.sent late i n c b h)
 
   ends_other : (a : ℕ) (d : Stepped) → SendsLate s end d.row → (i : ℕ) (cs : List PlainCell) (ns : List ℕ) (bs : List Bool) → a < i
       → Ends i cs ns bs → Ends i (cells_after s a d i cs) ns bs

@@ -1,7 +1,8 @@
 -- All complete schedules to a safe end leave the same cells, and the same rows in order.
 use Rattle.std.proofs.Common.{◌≡◌, ℕ, zero, suc, ◌≤◌, true, false, List, [], ◌∷◌, refl, sym, ap, ◌∙◌, subst, subst₂, ◌≢◌, Equal, eqb-true}
 use Rattle.std.proofs.Common.{◌==◌, Option, Some, None, option_map, slice_get}
-use Rattle.std.proofs.lemmas.Bool.{eqb-false}
+use Rattle.std.proofs.lemmas.Bool.{eqb-false, ne_eqb}
+use Rattle.std.proofs.lemmas.Option.{same_Some}
 use Rattle.srm_cell.proofs.CellLemmas.{outcome_map, stepped_map}
 use Rattle.srm_cell.proofs.CellSteps.{SentBy, own_step_is, told_late}
 use Rattle.srm_cell.proofs.OwnRunLemmas.{rows_by, rows_done, rows_first}
@@ -11,11 +12,13 @@ use Rattle.srm_cell.specs.Setting.{Setting, arrival_of}
 use Rattle.srm_model.proofs.Settled.{at_member, get_after, swap_cells}
 use Rattle.srm_model.specs.Schedules.{AllSendLate, SendsLate, own_of}
 use Rattle.srm_model.specs.World.{row_cmp, cells_after}
-use Rattle.srm_member.proofs.OrderLemmas.{key_total, place-comm, same_numbers}
+use Rattle.srm_member.proofs.OrderLemmas.{place-comm}
 use Rattle.srm_member.specs.declared.row.Row.{Row}
 use Rattle.srm_net.specs.Keys.{numbers_of_key}
 use Rattle.srm_net.specs.Orders.{ordered, place}
 use Rattle.srm_net.specs.declared.packet.Packet.{Packet}
+use Rattle.srm_net.proofs.Basics.{same_numbers}
+use Rattle.srm_net.proofs.TotalOrders.{key_total}
 
 -- the steps of a schedule, from the cells before to the cells after, with the rows as they come
 pub data Sched (s : Setting) (end : ℕ) : List PlainCell → List ℕ → List Row → List PlainCell → Type 0 where
@@ -36,9 +39,6 @@ present end m (Some c) d e = (c, refl, e)
 
 pub own_of_is : (end m : ℕ) (o : Option PlainCell) (d : Stepped) → own_of end m o ≡ Done d → (d.row.key.member ≡ m) × SentBy m d.row.sent
 own_of_is end m o d e = let h = present end m o d e in own_step_is end m h.0 d h.2
-
-pub same_Some : {A : Type 0} (x y : A) → Some x ≡ Some y → x ≡ y
-same_Some x y e = cc
 
 module _ (s : Setting) (end : ℕ) where
   -- ---- what stays safe
@@ -93,15 +93,12 @@ module _ (s : Setting) (end : ℕ) where
 
   -- ---- an own step after another member's
 
-  pub not_me : (k m : ℕ) → k ≢ m → (k == m) ≡ false
-  not_me k m ne = elim (k == m) as (λ x. (k == m) ≡ x → (k == m) ≡ false) [ true ↦ λ e. absurd (ne (eqb-true _ _ e)) | false ↦ λ e. e ] refl
-
   own_later : (cs : List PlainCell) → Safe s end cs → (a b : ℕ) (da db : Stepped) → a ≢ b → own_of end a (slice_get cs a) ≡ Done da
       → own_of end b (slice_get cs b) ≡ Done db →
       own_of end b (slice_get (cells_after s a da 0 cs) b) ≡ Done (stepped_map (told_to s.traffic da.row.sent b) db)
   own_later cs safe a b da db ne ea eb =
       let h = present end b (slice_get cs b) db eb in
-      let off : (b == a) ≡ false = not_me b a (λ e. ne (sym e)) in
+      let off : (b == a) ≡ false = ne_eqb b a (λ e. ne (sym e)) in
       rw (get_after s a da b cs, h.1) (rw off (rw (told_late s.traffic end b da.row.sent (step_late cs safe a da ea) h.0, h.2) refl))
 
   -- ---- what comes first may be any member's that has an event pending

@@ -1,6 +1,7 @@
 -- The worlds of the sequential run, the order of its rows, and safe ends.
 use Rattle.std.proofs.Common.{◌≡◌, ℕ, zero, suc, ◌<◌, ◌≤◌, ◌+◌, List, [], ◌∷◌, ◌++◌, length, refl, sym, ap, ◌∙◌, subst, ◌≢◌}
 use Rattle.std.proofs.Common.{◌⊎◌, inl, inr, arith, Option, Some, None, slice_get, zero-add, add-zero}
+use Rattle.std.proofs.lemmas.Option.{same_Some}
 use Rattle.srm_cell.proofs.CellSteps.{IsOf, IsStepOf, SentBy, before_of, before_some, next_event_of, step_at_of}
 use Rattle.srm_cell.proofs.Counts.{Taken, above_weaker, next_taken, rest_sound, sound_step}
 use Rattle.srm_cell.proofs.OwnRunLemmas.{rows_by, rows_first}
@@ -14,18 +15,19 @@ use Rattle.srm_cell.specs.Cells.{step_at}
 use Rattle.srm_cell.specs.OwnRuns.{own_rows, told_to}
 use Rattle.srm_cell.specs.Setting.{IsFit, Setting, arrival_of}
 use Rattle.srm_model.proofs.RunLemmas.{Seq, least_from, next, rest}
-use Rattle.srm_model.proofs.ScheduleLemmas.{Safe, same_Some}
+use Rattle.srm_model.proofs.ScheduleLemmas.{Safe}
 use Rattle.srm_model.proofs.OneStep.{run_begins}
 use Rattle.srm_model.proofs.Settled.{each_after, length_after}
 use Rattle.srm_model.specs.Schedules.{AllSendLate, SendsLate}
 use Rattle.srm_model.specs.World.{World, least_event, opening, opening_cells, row_cmp, run, cells_after}
 use Rattle.srm_member.proofs.FewerTimers.{SoundRecord}
-use Rattle.srm_member.proofs.OrderLemmas.{from_refl, key_total, rises}
+use Rattle.srm_member.proofs.OrderLemmas.{from_refl, rises}
 use Rattle.srm_member.specs.declared.row.Row.{Row}
 use Rattle.srm_net.specs.Keys.{key_cmp}
 use Rattle.srm_net.specs.Orders.{ordered, place}
 use Rattle.srm_net.specs.declared.key.Key.{Key}
 use Rattle.srm_net.specs.declared.packet.Packet.{Packet}
+use Rattle.srm_net.proofs.TotalOrders.{key_total}
 use Rattle.srm_scenario.proofs.ScriptLemmas.{mark_total}
 use Rattle.srm_scenario.specs.Plain.{mark_cmp}
 

@@ -4,15 +4,13 @@ use Rattle.std.proofs.Common.{eqb-true, ◌==◌, Option, Some, None}
 use Rattle.std.proofs.lemmas.Bool.{eqb-false}
 use Rattle.std.proofs.Common.{option_map, slice_get, add-zero}
 use Rattle.std.proofs.Common.{zero-add}
+use Rattle.std.proofs.lemmas.Option.{same_Some}
 use Rattle.srm_cell.proofs.CellLemmas.{stepped_map}
 use Rattle.srm_cell.proofs.CellSteps.{SentBy, told_comm}
 use Rattle.srm_cell.specs.Cells.{PlainCell, Stepped}
 use Rattle.srm_cell.specs.OwnRuns.{told_to}
 use Rattle.srm_cell.specs.Setting.{Setting}
 use Rattle.srm_model.specs.World.{cells_after}
-
-pub same_some : {A : Type 0} (x y : A) → Some x ≡ Some y → x ≡ y
-same_some x y e = cc
 
 module _ (s : Setting) where
   -- ---- the cells after a step, one by one
@@ -43,7 +41,7 @@ module _ (s : Setting) where
       → ((b : PlainCell) → o ≡ Some b → j ≢ m → Q j (told_to s.traffic d.row.sent j b))
       → (c : PlainCell) → option_map (at_member m d j) o ≡ Some c → Q j c
   each_some Q m d j None h g c e = cc
-  each_some Q m d j (Some b) h g c e = subst (Q j) (same_some _ _ e) (each_at Q m d j b h (g b refl))
+  each_some Q m d j (Some b) h g c e = subst (Q j) (same_Some _ _ e) (each_at Q m d j b h (g b refl))
 
   pub each_after : (Q : ℕ → PlainCell → Type 0) (cs : List PlainCell) (m : ℕ) (d : Stepped) → Q m d.cell
       → ((j : ℕ) (c : PlainCell) → slice_get cs j ≡ Some c → j ≢ m → Q j (told_to s.traffic d.row.sent j c))

@@ -5,8 +5,9 @@ use Rattle.std.specs.List.Sorted.{IsSorted}
 use Rattle.std.proofs.lemmas.List.Sorted.{ranks_by, sorted_far}
 use Rattle.std.proofs.Math.ListN.{get_or}
 use Rattle.srm_net.specs.Orders.{Ascends, NoneBelow, Rises}
+use Rattle.srm_net.proofs.TotalOrders.{key_total}
 use Rattle.srm_member.specs.declared.row.Row.{Row}
-use Rattle.srm_member.proofs.OrderLemmas.{key_total, rises}
+use Rattle.srm_member.proofs.OrderLemmas.{rises}
 use Rattle.srm_model.specs.World.{row_cmp}
 
 module _ {A : Type 0} (cmp : A → A → Ordering) (o : IsTotalOrder cmp) where

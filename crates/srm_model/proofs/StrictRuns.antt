@@ -1,12 +1,13 @@
 -- The keys of the sequential run rise strictly.
-use Rattle.std.proofs.Common.{◌≡◌, ℕ, zero, suc, ◌<◌, ◌≤◌, ◌+◌, Bool, true, false, cond, List, [], ◌∷◌, length, refl, sym, ap, ◌∙◌, subst}
+use Rattle.std.proofs.Common.{◌≡◌, ℕ, zero, suc, ◌<◌, ◌≤◌, ◌+◌, true, false, cond, List, [], ◌∷◌, length, refl, sym, ap, ◌∙◌, subst}
 use Rattle.std.proofs.Common.{◌≢◌, inl, inr, arith, Ordering, Less, Equal, Greater, Option, Some, None, option_map, is_lt, slice_get}
 use Rattle.std.proofs.Common.{true≢false, eqb-true, ◌==◌, le_refl, eq-eqb, zero-add}
 use Rattle.std.specs.Ordering.{ordering_reverse}
 use Rattle.std.specs.Cmp.{IsTotalOrder}
+use Rattle.std.proofs.lemmas.Option.{same_Some}
 use Rattle.srm_cell.proofs.CellSteps.{SentBy, flight_total}
-use Rattle.srm_cell.proofs.Clear.{Besides, CountAfter, Differs, IsDistinct, IsTail, RestOf, StepOf, clear_step, differ_member}
-use Rattle.srm_cell.proofs.Clear.{later_differs, next_besides, next_rest, step_is_of, then_after}
+use Rattle.srm_cell.proofs.Clear.{Besides, CountAfter, Differs, IsDistinct, IsTail, RestOf, StepOf, clear_step, differ_member, ranks_tail}
+use Rattle.srm_cell.proofs.Clear.{later_differs, next_besides, next_rest, step_is_of, then_after, all_tail}
 use Rattle.srm_cell.proofs.Rising.{Above, IsAbove, OnEvent, OnStep, before_on, next_above, step_above}
 use Rattle.srm_cell.specs.Cells.{arrival_key, mark_key, timer_key, Done, Event, PlainCell, StepOutcome, Stepped, before, hear, hear_at}
 use Rattle.srm_cell.specs.Cells.{next_event, step_at}
@@ -16,7 +17,6 @@ use Rattle.srm_cell.specs.OwnRuns.{told_to}
 use Rattle.srm_cell.specs.Setting.{HasOwnRanks, IsFit, Setting, arrival_of}
 use Rattle.srm_cell.specs.declared.flight.Flight.{Flight}
 use Rattle.srm_model.proofs.RunLemmas.{Seq, next, rest, seq_run}
-use Rattle.srm_model.proofs.ScheduleLemmas.{same_Some}
 use Rattle.srm_model.proofs.Sequential.{EachCell, Good, StepFacts, above_after, above_all, above_step, good_opening, good_step}
 use Rattle.srm_model.proofs.Settled.{each_after}
 use Rattle.srm_model.proofs.Sequential.{run_seq, step_facts}
@@ -24,56 +24,36 @@ use Rattle.srm_model.proofs.Settled.{at_member, get_after}
 use Rattle.srm_model.specs.Laws.{KeysRise}
 use Rattle.srm_model.specs.World.{World, least_event, opening, opening_cells, row_cmp, run, cells_after}
 use Rattle.srm_member.proofs.AllIn.{AllIn, AllIn-both, AllIn-each, AllIn-place, AllIn-weaker}
-use Rattle.srm_member.proofs.OrderLemmas.{is_Less, key_total, same_numbers}
 use Rattle.srm_member.specs.Record.{timers}
 use Rattle.srm_member.specs.declared.row.Row.{Row}
 use Rattle.srm_net.specs.Keys.{key_cmp}
 use Rattle.srm_net.specs.Orders.{AllAfter, Ascends, place}
 use Rattle.srm_net.specs.declared.key.Key.{Key}
 use Rattle.srm_net.specs.declared.packet.Packet.{Packet}
+use Rattle.srm_net.proofs.Basics.{is_Less, same_numbers, nth_number, after_place, after_less}
+use Rattle.srm_net.proofs.TotalOrders.{key_total}
 use Rattle.srm_scenario.specs.Plain.{mark_cmp}
-use Rattle.srm_scenario.specs.declared.mark.Mark.{Mark}
 
 -- ---- lists that ascend
 
 module _ {A : Type 0} (cmp : A → A → Ordering) (o : IsTotalOrder cmp) where
-  after_cond : (x : A) (b : Bool) (ys zs : List A) → AllAfter cmp x ys → AllAfter cmp x zs → AllAfter cmp x (cond b ys zs)
-  after_cond x true ys zs h g = h
-  after_cond x false ys zs h g = g
-
-  after_place : (x y : A) (zs : List A) → cmp x y ≡ Less → AllAfter cmp x zs → AllAfter cmp x (place cmp y zs)
-  after_place x y [] h g = (h, tt)
-  after_place x y (z ∷ zs) h g = after_cond x (is_lt (cmp z y)) (z ∷ place cmp y zs) (y ∷ z ∷ zs) (g.0, after_place x y zs h g.1) (h, g)
-
-  after_less : (x y : A) (zs : List A) → cmp x y ≡ Less → AllAfter cmp y zs → AllAfter cmp x zs
-  after_less x y [] h g = tt
-  after_less x y (z ∷ zs) h g = (o.trans x y z h g.0, after_less x y zs h g.1)
-
   ascends_place : (x : A) (ys : List A) → AllIn (λ y. cmp x y ≢ Equal) ys → Ascends cmp ys → Ascends cmp (place cmp x ys)
   ascends_place x [] h g = (tt, tt)
   ascends_place x (y ∷ ys) h g = elim (is_lt (cmp y x)) as
       (λ b. is_lt (cmp y x) ≡ b → Ascends cmp (cond b (y ∷ place cmp x ys) (x ∷ y ∷ ys))) [
-        | true ↦ λ q. (after_place y x ys (is_Less _ q) g.0, ascends_place x ys h.1 g.1)
+        | true ↦ λ q. (after_place cmp o y x ys (is_Less _ q) g.0, ascends_place x ys h.1 g.1)
         | false ↦ λ q.
             let less : cmp x y ≡ Less = elim (cmp x y) as (λ r. cmp x y ≡ r → cmp x y ≡ Less) [
               | Less ↦ λ e. e
               | Equal ↦ λ e. absurd (h.0 e)
               | Greater ↦ λ e. absurd (true≢false (sym (ap is_lt (o.antisymm y x ∙ ap ordering_reverse e)) ∙ q))
             ] refl in
-            ((less, after_less x y ys less g.0), g)
+            ((less, after_less cmp o x y ys less g.0), g)
       ] refl
 
 ascends_tail : {A : Type 0} (cmp : A → A → Ordering) (ys xs : List A) → IsTail ys xs → Ascends cmp xs → Ascends cmp ys
 ascends_tail cmp ys xs (inl e) h = subst (Ascends cmp) (sym e) h
 ascends_tail cmp ys xs (inr e) h = (subst (Ascends cmp) e.1 h).1
-
-ranks_tail : (ys xs : List Mark) → IsTail ys xs → HasOwnRanks xs → HasOwnRanks ys
-ranks_tail ys xs (inl e) h = subst HasOwnRanks (sym e) h
-ranks_tail ys xs (inr e) h = (subst HasOwnRanks e.1 h).1
-
-pub all_tail : {A : Type 0} (Q : A → Type 0) (ys xs : List A) → IsTail ys xs → AllIn Q xs → AllIn Q ys
-all_tail Q ys xs (inl e) h = subst (AllIn Q) (sym e) h
-all_tail Q ys xs (inr e) h = (subst (AllIn Q) e.1 h).1
 
 -- ---- how many packets each member sent
 
@@ -87,11 +67,6 @@ sent_of cs x = sent_by (slice_get cs x)
 -- the packets in an inbox were sent
 abbrev pub IsFresh : List PlainCell → PlainCell → Type 0
 IsFresh cs c = AllIn (λ f. f.packet.id.count < sent_of cs f.packet.id.sender) c.inbox
-
-nth_number : ℕ → List ℕ → ℕ
-nth_number n [] = 0
-nth_number zero (x ∷ xs) = x
-nth_number (suc n) (x ∷ xs) = nth_number n xs
 
 fresh_apart : (cs : List PlainCell) (f : Flight) (fs : List Flight) → f.packet.id.count ≡ sent_of cs f.packet.id.sender
     → AllIn (λ g. g.packet.id.count < sent_of cs g.packet.id.sender) fs → AllIn (λ g. flight_cmp f g ≢ Equal) fs

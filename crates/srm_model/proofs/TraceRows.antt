@@ -1,17 +1,19 @@
 -- Rows, packets and counts of a trace that grows by a row.
-use Rattle.std.proofs.Common.{◌≡◌, ℕ, zero, suc, ◌<◌, ◌≤◌, ◌+◌, Bool, true, false, cond, ◌&&◌, List, [], ◌∷◌, ◌++◌, refl, sym, ap, ◌∙◌}
-use Rattle.std.proofs.Common.{subst, ◌≢◌, ◌⊎◌, inl, inr, arith, Ordering, Option, Some, None, is_lt, length, slice_index_or, true≢false}
+use Rattle.std.proofs.Common.{◌≡◌, ℕ, zero, suc, ◌<◌, ◌+◌, Bool, true, false, cond, ◌&&◌, List, [], ◌∷◌, ◌++◌, refl, sym, ap, ◌∙◌}
+use Rattle.std.proofs.Common.{◌≢◌, ◌⊎◌, inl, inr, arith, Ordering, Some, is_lt}
 use Rattle.std.proofs.Common.{◌==◌, eqb-true}
 use Rattle.std.specs.List.{Contains, count_by}
-use Rattle.std.proofs.lemmas.List.Sums.{sum_by-append, sum_by-cons}
+use Rattle.std.proofs.lemmas.List.Sums.{sum_by-cons}
 use Rattle.std.proofs.lemmas.List.Elements.{Contains-append_left, Contains-append_right, Contains-append_cases}
+use Rattle.std.proofs.lemmas.Bool.{and_right, and_parts}
 use Rattle.srm_net.specs.declared.packet.PacketId.{PacketId}
 use Rattle.srm_net.specs.declared.packet.Packet.{Packet}
 use Rattle.srm_net.specs.Orders.{place}
+use Rattle.srm_net.proofs.Basics.{one_if}
 use Rattle.srm_member.specs.declared.row.About.{About}
 use Rattle.srm_member.specs.declared.row.About.TheVariants.{Nothing, Of, Named}
 use Rattle.srm_member.specs.declared.row.Row.{Row}
-use Rattle.srm_model.specs.Handed.{SentIn, same_packet, is_of, is_arrival}
+use Rattle.srm_model.specs.Handed.{SentIn, same_packet, is_about, is_arrival_of}
 
 -- ---- elements
 
@@ -41,12 +43,6 @@ sent_now p rows r h = (r, contains_last rows r, h)
 
 -- ---- counts
 
-abbrev pub one_if : Bool → ℕ
-one_if b = cond b 1 0
-
-pub count_last : {A : Type 0} (q : A → Bool) (xs : List A) (y : A) → count_by q (xs ++ y ∷ []) ≡ count_by q xs + one_if (q y)
-count_last q xs y = let e = sum_by-append (λ x. cond (q x) 1 0) xs (y ∷ []) in omega arith
-
 pub count_first : {A : Type 0} (q : A → Bool) (x : A) (xs : List A) → count_by q (x ∷ xs) ≡ one_if (q x) + count_by q xs
 count_first q x xs = sum_by-cons (λ y. cond (q y) 1 0) x xs
 
@@ -72,13 +68,9 @@ count_place q cmp x (y ∷ ys) =
 
 -- ---- identities of packets
 
-and_true : (a b : Bool) → (a && b) ≡ true → (a ≡ true) × (b ≡ true)
-and_true true b h = (refl, h)
-and_true false b h = cc
-
 pub is_same : (p q : PacketId) → same_packet p q ≡ true → p ≡ q
 is_same p q h =
-    let a = and_true (p.sender == q.sender) (p.count == q.count) h in
+    let a = and_parts (p.sender == q.sender) (p.count == q.count) h in
     let sender : p.sender ≡ q.sender = eqb-true _ _ a.0 in
     let count : p.count ≡ q.count = eqb-true _ _ a.1 in
     λ i. record { sender = sender i; count = count i }
@@ -95,27 +87,23 @@ same_self p = let a : (p.sender == p.sender) ≡ true = Rattle.std.proofs.Common
 
 -- a row at another member, or of which the packet is another, or which is no arrival, is not an arrival of this packet
 -- here
-pub elsewhere : (k : PacketId) (m : ℕ) (r : Row) → r.key.member ≢ m → is_arrival k m r ≡ false
-elsewhere k m r ne = elim (r.key.member == m) as (λ b. (r.key.member == m) ≡ b → is_arrival k m r ≡ false) [
+pub elsewhere : (k : PacketId) (m : ℕ) (r : Row) → r.key.member ≢ m → is_arrival_of k m r ≡ false
+elsewhere k m r ne = elim (r.key.member == m) as (λ b. (r.key.member == m) ≡ b → is_arrival_of k m r ≡ false) [
   | true ↦ λ e. absurd (ne (eqb-true _ _ e))
   | false ↦ λ e. simp e
 ] refl
 
-and_false : (b : Bool) → (b && false) ≡ false
-and_false true = refl
-and_false false = refl
-
-pub not_of : (k : PacketId) (a : About) → ((q : Packet) → a ≡ Of q → k ≢ q.id) → is_of k a ≡ false
+pub not_of : (k : PacketId) (a : About) → ((q : Packet) → a ≡ Of q → k ≢ q.id) → is_about k a ≡ false
 not_of k Nothing h = refl
 not_of k (Named n) h = refl
 not_of k (Of q) h = not_same k q.id (h q refl)
 
-pub not_arrival : (k : PacketId) (m : ℕ) (r : Row) → ((q : Packet) → r.about ≡ Of q → k ≢ q.id) → is_arrival k m r ≡ false
-not_arrival k m r h = ap (λ b. (r.key.member == m) && b) (not_of k r.about h) ∙ and_false (r.key.member == m)
+pub not_arrival : (k : PacketId) (m : ℕ) (r : Row) → ((q : Packet) → r.about ≡ Of q → k ≢ q.id) → is_arrival_of k m r ≡ false
+not_arrival k m r h = ap (λ b. (r.key.member == m) && b) (not_of k r.about h) ∙ and_right (r.key.member == m) false refl
 
-pub here : (k : PacketId) (q : Packet) (m : ℕ) (r : Row) → r.key.member ≡ m → r.about ≡ Of q → is_arrival k m r ≡ same_packet k q.id
-here k q m r e a = let b : (r.key.member == m) ≡ true = Rattle.std.proofs.Common.eq-eqb _ _ e in ap (λ b. b && is_of k r.about) b
-    ∙ ap (is_of k) a
+pub here : (k : PacketId) (q : Packet) (m : ℕ) (r : Row) → r.key.member ≡ m → r.about ≡ Of q → is_arrival_of k m r ≡ same_packet k q.id
+here k q m r e a = let b : (r.key.member == m) ≡ true = Rattle.std.proofs.Common.eq-eqb _ _ e in ap (λ b. b && is_about k r.about) b
+    ∙ ap (is_about k) a
 
 -- ---- a row of a list, and the rows before it
 

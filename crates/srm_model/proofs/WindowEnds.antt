@@ -1,6 +1,7 @@
 -- Where windows begin and end.
 use Rattle.std.proofs.Common.{◌≡◌, ℕ, ◌<◌, ◌≤◌, ◌+◌, true, false, List, [], ◌∷◌, refl, sym, ap, ◌∙◌, arith, Option, Some, None, unwrap_or}
 use Rattle.std.proofs.Common.{nat_lt, lt-ltb, le-ltb, ltb-false}
+use Rattle.std.proofs.lemmas.Option.{same_Some}
 use Rattle.srm_net.specs.Least.{least_delay}
 use Rattle.srm_net.proofs.LawProofs.{least_delay_fits}
 use Rattle.srm_scenario.specs.Plain.{PlainScenario, network_of}
@@ -64,16 +65,13 @@ width_is_rule p seed width accepted pos wide =
 pub widths_are_rules : WidthsAreRules
 widths_are_rules p seed width accepted pos wide = width_is_rule p seed width accepted pos wide
 
-same_number : (x y : ℕ) → Some x ≡ Some y → x ≡ y
-same_number x y e = cc
-
 pub least_is_a_rule : LeastIsARule
 least_is_a_rule p seed accepted = elim (least_delay (network_of p)) as
     (λ o. least_delay (network_of p) ≡ o → IsEndRule (setting_of p (network_of p) seed)
     (width_rule (setting_of p (network_of p) seed) (unwrap_or o p.until))) [
       | None ↦ λ e. width_is_rule p seed p.until accepted accepted.some_ticks (λ d h. let x : None ≡ Some d = sym e ∙ h in cc)
       | Some d ↦ λ e. width_is_rule p seed d accepted (least_delay_fits (network_of p) accepted.network d e).0
-          (λ k h. let x = same_number d k (sym e ∙ h) in omega arith)
+          (λ k h. let x = same_Some d k (sym e ∙ h) in omega arith)
     ] refl
 
 with_no_more : (n : ℕ) (o : Option ℕ) → least_with n o ≤ n

@@ -1,6 +1,6 @@
 -- The jobs of a window, and the crossings of their rows.
 use Rattle.std.proofs.Common.{◌≡◌, ℕ, zero, suc, ◌<◌, ◌≤◌, ◌+◌, ◌*◌, Bool, cond, inl, inr, slice_get, zero-add, le_refl, ◌&&◌, ◌==◌, List}
-use Rattle.std.proofs.Common.{[], ◌∷◌, ◌++◌, length, take, drop, map, refl, sym, ap, ◌∙◌, subst, arith, Option, Some, None, append_assoc}
+use Rattle.std.proofs.Common.{[], ◌∷◌, ◌++◌, length, take, drop, map, refl, sym, ap, ◌∙◌, subst, arith, Option, Some, None}
 use Rattle.std.proofs.Common.{length-drop, add-zero}
 use Rattle.std.proofs.Math.Nat.{suc-mul}
 use Rattle.std.specs.List.{count_by, sum_by, flat_map, range_with_len, cons_option}
@@ -8,6 +8,7 @@ use Rattle.std.specs.List.Sorted.{IsPermutation}
 use Rattle.std.proofs.lemmas.List.{drop-drop, map-append, take-append-drop}
 use Rattle.std.proofs.lemmas.List.Sums.{sum_by-cons}
 use Rattle.std.proofs.lemmas.List.Sorted.{sum_by-IsPermutation}
+use Rattle.std.proofs.lemmas.Option.{same_Some}
 use Rattle.srm_net.specs.declared.packet.Packet.{Packet}
 use Rattle.srm_member.specs.declared.row.Row.{Row}
 use Rattle.srm_cell.specs.Setting.{Setting}
@@ -19,7 +20,8 @@ use Rattle.srm_ledger.specs.Counts.{place_of}
 use Rattle.srm_cell.specs.Crossings.{packets_of, kind_of, crossings_at, crossings, added}
 use Rattle.srm_cell.proofs.CrossingLemmas.{crossings_add}
 use Rattle.srm_cell.specs.Crossings.{joined}
-use Rattle.srm_model.specs.WindowRuns.{OwnResult, AreOwnRuns, rows_in, crossings_of_all, PlainJob, jobs_within, AreJobRuns, job_rows}
+use Rattle.srm_cell.proofs.RowPackets.{joined-append}
+use Rattle.srm_model.specs.WindowRuns.{OwnResult, AreOwnRuns, rows_in, crossings_of_all, WindowJob, jobs_within, AreJobRuns, job_rows}
 use Rattle.srm_model.specs.WindowRuns.{SomeMeetsFull, SomeJobMeetsFull}
 use Rattle.srm_model.specs.WindowLaws.{JobsAreRuns, JobsAreInPlace, JobsRunAll, JobsRefuse, CrossingsKeep, CrossingsAreTotals}
 
@@ -56,17 +58,14 @@ few_jobs (suc n) cut till place (c ∷ cs) pos =
     let short = shorter cut (length cs) c cs pos (le_refl (length (c ∷ cs))) in
     omega arith
 
-same_some : {A : Type 0} (x y : A) → Some x ≡ Some y → x ≡ y
-same_some x y h = cc
-
-nth_job : (n cut till place : ℕ) (cs : List PlainCell) (k : ℕ) (j : PlainJob) → slice_get (jobs_within n cut till place cs) k ≡ Some j → j
+nth_job : (n cut till place : ℕ) (cs : List PlainCell) (k : ℕ) (j : WindowJob) → slice_get (jobs_within n cut till place cs) k ≡ Some j → j
     ≡ record { place = place + k; till = till; cells = take cut (drop (k * cut) cs) }
 nth_job n cut till place [] k j h = cc
 nth_job zero cut till place (c ∷ cs) k j h = cc
 nth_job (suc n) cut till place (c ∷ cs) zero j h =
     let now : place ≡ place + 0 = omega arith in
     let none : 0 * cut ≡ 0 = omega arith in
-    sym (same_some _ _ h) ∙ (λ i. record { place = now i; till = till; cells = take cut (drop (sym none i) (c ∷ cs)) })
+    sym (same_Some _ _ h) ∙ (λ i. record { place = now i; till = till; cells = take cut (drop (sym none i) (c ∷ cs)) })
 nth_job (suc n) cut till place (c ∷ cs) (suc k) j h =
     let now : suc place + k ≡ place + suc k = omega arith in
     let at : cut + k * cut ≡ suc k * cut = omega (arith, suc-mul k cut) in
@@ -74,7 +73,7 @@ nth_job (suc n) cut till place (c ∷ cs) (suc k) j h =
     (λ i. record { place = now i; till = till; cells = take cut ((drop-drop (k * cut) cut (c ∷ cs) ∙ ap (λ m. drop m (c ∷ cs)) at) i) })
 
 all_cells : (n cut till place : ℕ) (cs : List PlainCell) → 0 < cut → length cs ≤ n
-    → joined (map (λ (j : PlainJob). j.cells) (jobs_within n cut till place cs)) ≡ cs
+    → joined (map (λ (j : WindowJob). j.cells) (jobs_within n cut till place cs)) ≡ cs
 all_cells n cut till place [] pos le = refl
 all_cells zero cut till place (c ∷ cs) pos le = absurd (omega arith)
 all_cells (suc n) cut till place (c ∷ cs) pos le = ap (λ l. take cut (c ∷ cs) ++ l)
@@ -187,10 +186,6 @@ unfolding crossings
 crossings_keep s qs rs h = links_keep s qs rs h (range_with_len 0 s.traffic.links)
 
 -- ---- crossings of jobs
-
-pub joined-append : {A : Type 0} (xs ys : List (List A)) → joined (xs ++ ys) ≡ joined xs ++ joined ys
-joined-append [] ys = refl
-joined-append (x ∷ xs) ys = ap (λ l. x ++ l) (joined-append xs ys) ∙ sym (append_assoc x (joined xs) (joined ys))
 
 joined-jobs : (rss : List (List OwnResult)) → joined (job_rows rss) ≡ joined (rows_in (joined rss))
 joined-jobs [] = refl

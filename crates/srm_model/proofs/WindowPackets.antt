@@ -4,9 +4,11 @@ use Rattle.std.proofs.Common.{None, option_map, slice_get, add-zero, append_asso
 use Rattle.std.specs.List.{Contains}
 use Rattle.std.proofs.lemmas.List.Sums.{sum_by-append}
 use Rattle.std.proofs.lemmas.List.Elements.{Contains-append_left, Contains-append_right}
+use Rattle.std.proofs.lemmas.Option.{same_Some}
 use Rattle.srm_net.specs.declared.key.Key.{Key}
 use Rattle.srm_net.specs.declared.packet.PacketId.{PacketId}
 use Rattle.srm_net.specs.declared.packet.Packet.{Packet}
+use Rattle.srm_net.proofs.Basics.{one_if}
 use Rattle.srm_member.specs.declared.row.Row.{Row}
 use Rattle.srm_member.proofs.AllIn.{AllIn, AllIn-second, AllIn-place, AllIn-weaker}
 use Rattle.srm_cell.specs.declared.flight.Flight.{Flight}
@@ -16,7 +18,7 @@ use Rattle.srm_cell.specs.Cells.{PlainCell, StepOutcome, Idle, Full, Spent, Done
 use Rattle.srm_cell.specs.Cells.{hear_at}
 use Rattle.srm_cell.specs.OwnRuns.{hear_rows, own_after, told_to}
 use Rattle.srm_cell.proofs.CellSteps.{before_some}
-use Rattle.srm_cell.proofs.Clear.{RestOf, StepOf, next_rest, step_is_of}
+use Rattle.srm_cell.proofs.Clear.{RestOf, StepOf, next_rest, step_is_of, all_tail}
 use Rattle.srm_cell.proofs.OwnRunLemmas.{after_by, after_first}
 use Rattle.srm_cell.proofs.Rising.{OnEvent, OnStep, before_on}
 use Rattle.srm_model.specs.World.{World, least_event, IsReached}
@@ -24,15 +26,11 @@ use Rattle.srm_model.specs.Handed.{SentIn, is_sending, sending_count}
 use Rattle.srm_model.specs.WindowRuns.{OwnResult, AreOwnRuns, cells_in, after_window, IsWindow}
 use Rattle.srm_model.specs.WindowLaws.{WindowPacketsAreNew}
 use Rattle.srm_model.proofs.HandedOnce.{handed_reached, packets_are_numbered, IsFlight}
-use Rattle.srm_model.proofs.TraceRows.{contains_none, count_first, one_if, sent_more}
+use Rattle.srm_model.proofs.TraceRows.{contains_none, count_first, sent_more}
 use Rattle.srm_model.proofs.OneWindow.{new_rows_are, part_rows, windows_agree}
 use Rattle.srm_model.proofs.RunLemmas.{Seq, rest, next, shifted}
 use Rattle.srm_model.proofs.Sequential.{Good, good_reached, good_step, member_below, step_facts}
-use Rattle.srm_model.proofs.StrictRuns.{all_tail}
 use Rattle.srm_model.proofs.WindowRows.{get_heard}
-
-same_some : {A : Type 0} (x y : A) → Some x ≡ Some y → x ≡ y
-same_some x y h = cc
 
 -- ---- rows of the run are of its members, and before its end
 
@@ -148,7 +146,7 @@ get_cell end i (c ∷ cs) (r ∷ rs) h zero d g = (
   c,
   h.0.steps,
   refl,
-  same_some _ _ (sym g) ∙ h.0.leaves
+  same_Some _ _ (sym g) ∙ h.0.leaves
       ∙ ap (λ k. own_after end k h.0.steps c) (sym (add-zero i)),
 )
 get_cell end i (c ∷ cs) (r ∷ rs) h (suc j) d g = rw (shifted i j) (get_cell end (suc i) cs rs h.1 j d g)
@@ -157,7 +155,7 @@ get_cell end i (c ∷ cs) [] h j d g = absurd h
 
 mapped : {A B : Type 0} (f : A → B) (o : Option A) (y : B) → option_map f o ≡ Some y → (x : A) × (o ≡ Some x) × (f x ≡ y)
 mapped f None y h = cc
-mapped f (Some x) y h = (x, refl, same_some _ _ h)
+mapped f (Some x) y h = (x, refl, same_Some _ _ h)
 
 pub window_packets_are_new : WindowPacketsAreNew
 window_packets_are_new s w end fit reached within safe results all alone merge rows after r p split sent =

@@ -4,6 +4,7 @@ use Rattle.std.proofs.Common.{subst, arith, Option, Some, None, option_map, slic
 use Rattle.std.specs.List.{AllByRecursion}
 use Rattle.std.specs.List.Sorted.{IsSorted}
 use Rattle.std.proofs.lemmas.List.Elements.{All-from_recursion}
+use Rattle.std.proofs.lemmas.Option.{same_Some}
 use Rattle.srm_net.specs.Orders.{AllAfter, Ascends}
 use Rattle.srm_net.specs.declared.packet.Packet.{Packet}
 use Rattle.srm_member.specs.declared.row.Row.{Row}
@@ -45,12 +46,9 @@ module _ {A : Type 0} (cmp : A → A → Ordering) where
     ascends_filter [] h = tt
     ascends_filter (x ∷ xs) h = ascends_cond x (filter q xs) (q x) (after_filter x xs h.0) (ascends_filter xs h.1)
 
-same_some : {A : Type 0} (x y : A) → Some x ≡ Some y → x ≡ y
-same_some x y h = cc
-
 member_rows : (n i : ℕ) (rows : List Row) (j : ℕ) (l : List Row) → slice_get (by_member i n rows) j ≡ Some l → l ≡ rows_of (i + j) rows
 member_rows zero i rows j l h = cc
-member_rows (suc n) i rows zero l h = same_some _ _ (sym h) ∙ ap (λ k. rows_of k rows) (sym (add-zero i))
+member_rows (suc n) i rows zero l h = same_Some _ _ (sym h) ∙ ap (λ k. rows_of k rows) (sym (add-zero i))
 member_rows (suc n) i rows (suc j) l h = member_rows n (suc i) rows j l h ∙ ap (λ k. rows_of k rows) (sym (shifted i j))
 
 each_listed : {A : Type 0} (Q : A → Type 0) (xs : List A) → ((m : ℕ) (x : A) → slice_get xs m ≡ Some x → Q x) → AllByRecursion Q xs

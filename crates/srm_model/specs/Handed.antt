@@ -19,18 +19,18 @@ abbrev pub same_packet : PacketId → PacketId → Bool
 same_packet p q = (p.sender == q.sender) && (p.count == q.count)
 
 -- whether an event is about this packet, which arrives
-abbrev pub is_of : PacketId → About → Bool
-is_of p (Of q) = same_packet p q.id
-is_of p Nothing = false
-is_of p (Named n) = false
+abbrev pub is_about : PacketId → About → Bool
+is_about p (Of q) = same_packet p q.id
+is_about p Nothing = false
+is_about p (Named n) = false
 
 -- whether a row is an arrival of the packet at member m
-abbrev pub is_arrival : PacketId → ℕ → Row → Bool
-is_arrival p m r = (r.key.member == m) && is_of p r.about
+abbrev pub is_arrival_of : PacketId → ℕ → Row → Bool
+is_arrival_of p m r = (r.key.member == m) && is_about p r.about
 
 -- how often the rows hand the packet to member m
 abbrev pub handing_count : PacketId → ℕ → List Row → ℕ
-handing_count p m rows = count_by (is_arrival p m) rows
+handing_count p m rows = count_by (is_arrival_of p m) rows
 
 -- whether a row sends a packet of member m
 abbrev pub is_sending : ℕ → Row → Bool

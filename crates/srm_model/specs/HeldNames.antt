@@ -38,7 +38,7 @@ Carries n (Repair k ink) = k ≡ n
 Carries n _ = ⊥
 
 -- a row in which member m tells this of a packet of n, which one of the rows sent
-pub record TellsOf (told : Told) (m : ℕ) (n : Name) (rows : List Row) (r : Row) : Type 0 where
+pub record TellsOfName (told : Told) (m : ℕ) (n : Name) (rows : List Row) (r : Row) : Type 0 where
   pub member : r.key.member ≡ m
   pub told_so : r.told ≡ told
   pub packet : Packet
@@ -48,7 +48,7 @@ pub record TellsOf (told : Told) (m : ℕ) (n : Name) (rows : List Row) (r : Row
 
 -- in one of the rows member m tells this of n
 abbrev pub ToldOf : Told → ℕ → Name → List Row → Type 0
-ToldOf told m n rows = (r : Row) × Contains rows r × TellsOf told m n rows r
+ToldOf told m n rows = (r : Row) × Contains rows r × TellsOfName told m n rows r
 
 -- member m drew n, or took it in as fresh or as fixed
 abbrev pub Got : ℕ → Name → List Row → Type 0
@@ -68,7 +68,7 @@ Exactly A B = (A → B) × (B → A)
 
 -- after these rows this is what member m ends with: the names that it got, rising, each with the ink with which its
 -- source drew it; and the names that it lacks, rising
-pub record EndsWith (rows : List Row) (m : ℕ) (x : Exit) : Type 0 where
+pub record EndsHolding (rows : List Row) (m : ℕ) (x : Exit) : Type 0 where
   pub member : x.member ≡ m
   pub held : (n : Name) (ink : ℕ) → Exactly (Contains x.held (n, ink)) (Got m n rows × Drew n.source n ink rows)
   pub drawn : (n : Name) → Got m n rows → (ink : ℕ) × Drew n.source n ink rows
@@ -83,7 +83,7 @@ abbrev pub ExitsAreWhatRowsSay : Type 0
 ExitsAreWhatRowsSay =
     (s : Setting) (w : World) → IsFit s → IsReached s w
     → (length (exits_of w) ≡ s.traffic.members)
-    × ((m : ℕ) (x : Exit) → slice_get (exits_of w) m ≡ Some x → EndsWith w.trace m x)
+    × ((m : ℕ) (x : Exit) → slice_get (exits_of w) m ≡ Some x → EndsHolding w.trace m x)
 
 -- a request is sent only for a name that its sender lost, and has not fixed
 abbrev pub RequestsAreForLosses : Type 0

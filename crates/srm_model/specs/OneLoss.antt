@@ -52,11 +52,11 @@ unfoldable pub ends : Setting → List Exit
 ends s = exits_of (last_world s 100 (opening s))
 
 -- member 0's drawing operations
-abbrev pub first : Name
-first = record { source = 0; page = 0; number = 0 }
+abbrev pub first_name : Name
+first_name = record { source = 0; page = 0; number = 0 }
 
-abbrev pub second : Name
-second = record { source = 0; page = 0; number = 1 }
+abbrev pub second_name : Name
+second_name = record { source = 0; page = 0; number = 1 }
 
 abbrev pub an_exit : ℕ → List (Name × ℕ) → List Name → Exit
 an_exit m held missing = record { member = m; held = held; missing = missing }

@@ -13,7 +13,7 @@ use Rattle.srm_model.specs.Windows.{IsWidth, promise_end, IsFirstQuiet}
 use Rattle.srm_cell.specs.Crossings.{joined}
 use Rattle.srm_model.specs.Hearing.{all_hear}
 use Rattle.srm_model.specs.WindowRuns.{OwnResult, AreOwnRuns, rows_in, cells_in, IsMerge, each_hears, AreNewInTurn}
-use Rattle.srm_model.specs.WindowRuns.{IsWindow, crossings_of_all, PlainJob, jobs_from, jobs_of, AreJobRuns, job_rows}
+use Rattle.srm_model.specs.WindowRuns.{IsWindow, crossings_of_all, WindowJob, jobs_from, jobs_of, AreJobRuns, job_rows}
 use Rattle.srm_model.specs.WindowRuns.{SomeJobMeetsFull}
 use Rattle.srm_model.specs.WindowChains.{IsNext, IsOver, start_of, IsEndRule, width_rule, least_width, AreWindows}
 use Rattle.srm_model.specs.WindowChains.{window_jobs}
@@ -68,9 +68,9 @@ abbrev pub JobsAreInPlace : Type 0
 JobsAreInPlace =
     (cut till : ℕ) (w : World) → 0 < cut
     → (length (jobs_of cut till w) ≤ length w.cells)
-    × ((k : ℕ) (j : PlainJob) → slice_get (jobs_of cut till w) k ≡ Some j → j
+    × ((k : ℕ) (j : WindowJob) → slice_get (jobs_of cut till w) k ≡ Some j → j
     ≡ record { place = k; till = till; cells = take cut (drop (k * cut) w.cells) })
-    × (joined (map (λ (j : PlainJob). j.cells) (jobs_of cut till w)) ≡ w.cells)
+    × (joined (map (λ (j : WindowJob). j.cells) (jobs_of cut till w)) ≡ w.cells)
 
 -- the results of a window's jobs, job after job, are those of all its cells
 abbrev pub JobsRunAll : Type 0

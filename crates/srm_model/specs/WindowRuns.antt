@@ -70,13 +70,13 @@ crossings_of_all t (rows ∷ lists) = added (crossings t rows) (crossings_of_all
 -- ---- jobs
 
 -- a job: its place among the window's jobs, its end, and its cells as they are when the window begins
-pub record PlainJob : Type 0 where
+pub record WindowJob : Type 0 where
   pub place : ℕ
   pub till : ℕ
   pub cells : List PlainCell
 
 -- jobs from a place on, of `cut` cells each, the last one of fewer. There are no more than n
-abbrev pub jobs_within : ℕ → ℕ → ℕ → ℕ → List PlainCell → List PlainJob
+abbrev pub jobs_within : ℕ → ℕ → ℕ → ℕ → List PlainCell → List WindowJob
 jobs_within n cut till place [] = []
 jobs_within zero cut till place (c ∷ cs) = []
 jobs_within (suc n) cut till place (c ∷ cs) =
@@ -84,15 +84,15 @@ jobs_within (suc n) cut till place (c ∷ cs) =
     ∷ jobs_within n cut till (suc place) (drop cut (c ∷ cs))
 
 -- jobs from a place on, of all these cells
-abbrev pub jobs_from : ℕ → ℕ → ℕ → List PlainCell → List PlainJob
+abbrev pub jobs_from : ℕ → ℕ → ℕ → List PlainCell → List WindowJob
 jobs_from cut till place cells = jobs_within (length cells) cut till place cells
 
 -- the jobs of a window: its cells in consecutive runs of `cut`
-abbrev pub jobs_of : ℕ → ℕ → World → List PlainJob
+abbrev pub jobs_of : ℕ → ℕ → World → List WindowJob
 jobs_of cut till w = jobs_from cut till 0 w.cells
 
 -- the results of the jobs' cells, job after job, of which the first has the cells of member i and on
-abbrev pub AreJobRuns : ℕ → List PlainJob → List (List OwnResult) → Type 0
+abbrev pub AreJobRuns : ℕ → List WindowJob → List (List OwnResult) → Type 0
 AreJobRuns i [] [] = Unit {0}
 AreJobRuns i (j ∷ js) (rs ∷ rss) = AreOwnRuns j.till i j.cells rs × AreJobRuns (i + length j.cells) js rss
 AreJobRuns i _ _ = ⊥
@@ -106,6 +106,6 @@ abbrev pub SomeMeetsFull : ℕ → ℕ → List PlainCell → Type 0
 SomeMeetsFull end i cs = (j : ℕ) × (c : PlainCell) × (slice_get cs j ≡ Some c) × MeetsFull end (i + j) c
 
 -- so does a cell of one of the jobs, of which the first has the cells of member i and on
-abbrev pub SomeJobMeetsFull : ℕ → List PlainJob → Type 0
+abbrev pub SomeJobMeetsFull : ℕ → List WindowJob → Type 0
 SomeJobMeetsFull i [] = ⊥
 SomeJobMeetsFull i (j ∷ js) = SomeMeetsFull j.till i j.cells ⊎ SomeJobMeetsFull (i + length j.cells) js

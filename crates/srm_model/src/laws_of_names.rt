@@ -1,7 +1,7 @@
 //! The laws of names: members end with what their rows say, and ask and answer for names that they lack or have.
 ghost use Rattle.std.specs.Prelude.{◌≡◌, [], ◌∷◌};
 ghost use Rattle.srm_model.specs.HeldNames.{ExitsAreWhatRowsSay, RequestsAreForLosses, RepairsAreOfHeld};
-ghost use Rattle.srm_model.specs.OneLoss.{one_loss, handings, ends, first, second, an_exit};
+ghost use Rattle.srm_model.specs.OneLoss.{one_loss, handings, ends, first_name, second_name, an_exit};
 
 /// A member holds exactly the names that it drew or took in, each with the ink with which its source drew it, and lacks exactly
 /// those that it lost and did not fix.
@@ -24,12 +24,12 @@ pub fn repairs_are_of_held()
 pub fn a_loss_is_repaired()
     ensures handed { handings (one_loss 1000)
         ((0, 0, 1) ∷ (0, 1, 1) ∷ (0, 1, 0) ∷ (1, 0, 0) ∷ (0, 2, 1) ∷ (0, 3, 1) ∷ []) ≡ 0 ∷ 1 ∷ 0 ∷ 1 ∷ 1 ∷ 0 ∷ [] }
-    ensures ends { ends (one_loss 1000) ≡ an_exit 0 ((first, 7) ∷ (second, 8) ∷ []) []
-        ∷ an_exit 1 ((first, 7) ∷ (second, 8) ∷ []) [] ∷ [] }
+    ensures ends { ends (one_loss 1000) ≡ an_exit 0 ((first_name, 7) ∷ (second_name, 8) ∷ []) []
+        ∷ an_exit 1 ((first_name, 7) ∷ (second_name, 8) ∷ []) [] ∷ [] }
 {}
 
 /// The same run, cut short before the repair: the operation stays missing.
 pub fn a_loss_stays()
-    ensures { ends (one_loss 15) ≡ an_exit 0 ((first, 7) ∷ (second, 8) ∷ []) []
-        ∷ an_exit 1 ((second, 8) ∷ []) (first ∷ []) ∷ [] }
+    ensures { ends (one_loss 15) ≡ an_exit 0 ((first_name, 7) ∷ (second_name, 8) ∷ []) []
+        ∷ an_exit 1 ((second_name, 8) ∷ []) (first_name ∷ []) ∷ [] }
 {}

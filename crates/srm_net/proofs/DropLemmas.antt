@@ -3,8 +3,7 @@ use Rattle.std.proofs.Common.{◌≡◌, ℕ, zero, suc, ◌<◌, Bool, true, fa
 use Rattle.std.proofs.Common.{◌∙◌, inl, inr, arith, eqb, eq-eqb, eqb-true, Contains, Ordering, Less, Equal, Greater}
 use Rattle.std.specs.List.{list_any}
 use Rattle.std.specs.Ordering.{match_ordering, ordering_reverse}
-use Rattle.std.specs.Cmp.{IsTotalOrder, on_total}
-use Rattle.std.specs.Cmp.Lexicographic.{nat_list_cmp_total}
+use Rattle.std.specs.Cmp.{IsTotalOrder}
 use Rattle.std.specs.FinMap.{slice_cmp-IsAntisymmetric, nat_cmp-IsAntisymmetric}
 use Rattle.std.proofs.lemmas.Bool.{both_ways, false_from_ne_true, ne_eqb, cases_Bool, cases_eq, and_parts, and_from, or_cases, or_left}
 use Rattle.std.proofs.lemmas.Bool.{or_right, false≢true}
@@ -14,14 +13,12 @@ use Rattle.srm_net.specs.Orders.{AllAfter, Ascends}
 use Rattle.srm_net.specs.Paths.{drop_cmp, is_listed}
 use Rattle.srm_net.specs.Listed.{is_listed_somewhere}
 use Rattle.srm_net.specs.DropSets.{with_once, ordered_once, has_packet}
+use Rattle.srm_net.proofs.Basics.{after_less, or_turn}
+use Rattle.srm_net.proofs.TotalOrders.{drop_total}
 
 -- ---- lists in order, each element once
 
 module _ {A : Type 0} (cmp : A → A → Ordering) (o : IsTotalOrder cmp) where
-  after_less : (x y : A) (zs : List A) → cmp x y ≡ Less → AllAfter cmp y zs → AllAfter cmp x zs
-  after_less x y [] h a = tt
-  after_less x y (z ∷ zs) h a = (o.trans x y z h a.0, after_less x y zs h a.1)
-
   after_once : (x y : A) (zs : List A) → cmp y x ≡ Less → AllAfter cmp y zs → AllAfter cmp y (with_once cmp x zs)
   after_once x y [] h a = (h, tt)
   after_once x y (z ∷ zs) h a =
@@ -35,7 +32,7 @@ module _ {A : Type 0} (cmp : A → A → Ordering) (o : IsTotalOrder cmp) where
   ascends_once x [] a = (tt, tt)
   ascends_once x (z ∷ zs) a =
       elim (cmp x z) as (λ r. cmp x z ≡ r → Ascends cmp (match_ordering r (x ∷ z ∷ zs) (z ∷ zs) (z ∷ with_once cmp x zs))) [
-        | Less ↦ λ e. ((e, after_less x z zs e a.0), a)
+        | Less ↦ λ e. ((e, after_less cmp o x z zs e a.0), a)
         | Equal ↦ λ e. a
         | Greater ↦ λ e. (after_once x z zs (o.antisymm z x ∙ ap ordering_reverse e) a.0, ascends_once x zs a.1)
       ] refl
@@ -47,12 +44,6 @@ module _ {A : Type 0} (cmp : A → A → Ordering) (o : IsTotalOrder cmp) where
 or_same : (b c : Bool) → (b || c) ≡ (b || (b || c))
 or_same true c = refl
 or_same false c = refl
-
-or_turn : (a b c : Bool) → (a || (b || c)) ≡ (b || (a || c))
-or_turn true true c = refl
-or_turn true false c = refl
-or_turn false true c = refl
-or_turn false false c = refl
 
 module _ {A : Type 0} (cmp : A → A → Ordering) (f : A → Bool) (same : (x y : A) → cmp x y ≡ Equal → f x ≡ f y) where
   any_once : (x : A) (zs : List A) → list_any f (with_once cmp x zs) ≡ (f x || list_any f zs)
@@ -70,9 +61,6 @@ module _ {A : Type 0} (cmp : A → A → Ordering) (f : A → Bool) (same : (x y
   any_ordered (x ∷ xs) = any_once x (ordered_once cmp xs) ∙ ap (λ t. f x || t) (any_ordered xs)
 
 -- ---- drops
-
-pub drop_total : IsTotalOrder drop_cmp
-drop_total = on_total (λ (d : DropSpec). d.link ∷ d.id.sender ∷ d.id.count ∷ []) nat_list_cmp_total
 
 pub drops_ascend : (ds : List DropSpec) → Ascends drop_cmp (ordered_once drop_cmp ds)
 drops_ascend ds = ordered_ascends drop_cmp drop_total ds

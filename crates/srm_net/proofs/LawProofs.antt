@@ -1,22 +1,19 @@
 -- The laws of distances, of the least of them, and of drops.
-use Rattle.std.proofs.Common.{◌≡◌, ◌≢◌, ◌⊎◌, ◌↔◌, ℕ, zero, suc, ◌+◌, ◌/◌, ◌<◌, ◌≤◌, min, Bool, true, false, not, cond, ◌==◌, List, [], ◌∷◌}
+use Rattle.std.proofs.Common.{◌≡◌, ◌≢◌, ◌⊎◌, ◌↔◌, ℕ, zero, suc, ◌+◌, ◌/◌, ◌<◌, ◌≤◌, min, true, false, not, cond, ◌==◌, List, [], ◌∷◌}
 use Rattle.std.proofs.Common.{length, map, filter, fold, Some, None, refl, sym, ap, ◌∙◌, subst, inl, inr, arith, eqb, slice_get, All}
 use Rattle.std.proofs.Common.{Contains, Less, Equal, Greater}
 use Rattle.std.specs.List.{range_with_len, list_any}
 use Rattle.std.specs.Ordering.{ordering_reverse}
-use Rattle.std.specs.Cmp.{IsTotalOrder, on_total}
+use Rattle.std.specs.Cmp.{on_total}
 use Rattle.std.specs.Cmp.Lexicographic.{nat_list_cmp_total}
 use Rattle.std.specs.FinMap.{slice_cmp-IsAntisymmetric, nat_cmp-IsAntisymmetric}
 use Rattle.std.proofs.lemmas.Bool.{ne_eqb, eqb-false, cases_Bool, cases_eq, false≢true}
-use Rattle.srm_net.specs.declared.key.Key.{Key}
 use Rattle.srm_net.specs.declared.packet.Heard.{Heard}
-use Rattle.srm_net.specs.declared.packet.Name.{Name}
 use Rattle.srm_net.specs.declared.packet.PacketId.{PacketId}
-use Rattle.srm_net.specs.declared.packet.PageId.{PageId}
 use Rattle.srm_net.specs.declared.link.LinkSpec.{LinkSpec}
 use Rattle.srm_net.specs.declared.link.DropSpec.{DropSpec}
 use Rattle.srm_net.specs.Orders.{AllAfter}
-use Rattle.srm_net.specs.Keys.{key_cmp, numbers_of_key}
+use Rattle.srm_net.specs.Keys.{key_cmp}
 use Rattle.srm_net.specs.Names.{name_cmp, page_cmp, id_cmp, heard_cmp}
 use Rattle.srm_net.specs.Network.{Network, IsTree, IsWalk, IsAlike, HasDelays, IsNetwork}
 use Rattle.srm_net.specs.Paths.{is_in, route, host, member_route, delay_from, delay_along, distance, drop_cmp, is_listed, stops, takes_out}
@@ -31,7 +28,9 @@ use Rattle.srm_net.proofs.Growing.{grows_to, all_attached}
 use Rattle.srm_net.proofs.RouteLemmas.{route_path, route_only}
 use Rattle.srm_net.proofs.PathLaws.{host_below, hosts_apart, hosts_in, along_first, distance_bounded, distance_apart, route_nowhere}
 use Rattle.srm_net.proofs.TreeWays.{BothWays, both_ways_grown}
-use Rattle.srm_net.proofs.DropLemmas.{contains_listed, listed_contains, drop_total}
+use Rattle.srm_net.proofs.DropLemmas.{contains_listed, listed_contains}
+use Rattle.srm_net.proofs.TotalOrders.{drop_total, key_total, tied_keys, name_total, tied_names, page_total, tied_pages}
+use Rattle.srm_net.proofs.Basics.{same_tests}
 
 -- ---- distances
 
@@ -271,11 +270,6 @@ reaches_its_sender w rules p sent = ap (λ ls. not (list_any (takes_out rules p)
 
 -- ---- sets of drops
 
-same_tests : (a b : Bool) → (a ≡ true → b ≡ true) → (b ≡ true → a ≡ true) → a ≡ b
-same_tests true b f g = sym (f refl)
-same_tests false true f g = g refl
-same_tests false false f g = refl
-
 pub same_drops_listed : SameDropsListed
 same_drops_listed ds es h p l =
     let d : DropSpec = record { link = l; id = p } in
@@ -334,46 +328,16 @@ one_list_of_drops (x ∷ xs) (y ∷ ys) a b h =
 
 -- ---- keys
 
-pub key_total : IsTotalOrder key_cmp
-key_total = on_total numbers_of_key nat_list_cmp_total
-
-pub same_key : (k l : Key) → key_cmp k l ≡ Equal → k ≡ l
-same_key k l e =
-    let q : numbers_of_key k ≡ numbers_of_key l = slice_cmp-IsAntisymmetric nat_cmp-IsAntisymmetric _ _ e in
-    let a : k.time ≡ l.time = cc in
-    let b : k.member ≡ l.member = cc in
-    let c : k.rank ≡ l.rank = cc in
-    let d : k.a ≡ l.a = cc in
-    let f : k.b ≡ l.b = cc in
-    let g : k.c ≡ l.c = cc in
-    λ i. record { time = a i; member = b i; rank = c i; a = d i; b = f i; c = g i }
-
 pub keys_ordered : OrdersTotally key_cmp
-keys_ordered = (key_total, same_key)
+keys_ordered = (key_total, tied_keys)
 
 -- ---- names, pages, identities of packets, and entries of session messages
 
-same_name : (n o : Name) → name_cmp n o ≡ Equal → n ≡ o
-same_name n o e =
-    let q : n.source ∷ n.page ∷ n.number ∷ [] ≡ o.source ∷ o.page ∷ o.number ∷ [] =
-    slice_cmp-IsAntisymmetric nat_cmp-IsAntisymmetric _ _ e in
-    let a : n.source ≡ o.source = cc in
-    let b : n.page ≡ o.page = cc in
-    let c : n.number ≡ o.number = cc in
-    λ i. record { source = a i; page = b i; number = c i }
-
 pub names_ordered : OrdersTotally name_cmp
-names_ordered = (on_total (λ (n : Name). n.source ∷ n.page ∷ n.number ∷ []) nat_list_cmp_total, same_name)
-
-same_page : (p q : PageId) → page_cmp p q ≡ Equal → p ≡ q
-same_page p q e =
-    let r : p.source ∷ p.page ∷ [] ≡ q.source ∷ q.page ∷ [] = slice_cmp-IsAntisymmetric nat_cmp-IsAntisymmetric _ _ e in
-    let a : p.source ≡ q.source = cc in
-    let b : p.page ≡ q.page = cc in
-    λ i. record { source = a i; page = b i }
+names_ordered = (name_total, tied_names)
 
 pub pages_ordered : OrdersTotally page_cmp
-pages_ordered = (on_total (λ (p : PageId). p.source ∷ p.page ∷ []) nat_list_cmp_total, same_page)
+pages_ordered = (page_total, tied_pages)
 
 same_identity : (p q : PacketId) → id_cmp p q ≡ Equal → p ≡ q
 same_identity p q e =

@@ -1,3 +1,5 @@
+pub mod Basics
+pub mod TotalOrders
 pub mod Numbers
 pub mod Lists
 pub mod DropLemmas

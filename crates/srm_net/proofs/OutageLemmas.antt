@@ -15,6 +15,7 @@ use Rattle.srm_net.specs.DropRules.{is_out}
 use Rattle.srm_net.specs.Laws.{SameOutagesOut}
 use Rattle.srm_net.specs.Outages.{outage_at, no_outage, begins_by, last_lasts, LastsLongest}
 use Rattle.srm_net.proofs.Lists.{index_get, get_index, get_push_old, get_push_new}
+use Rattle.srm_net.proofs.Basics.{same_tests}
 
 -- ---- places of a list
 
@@ -221,11 +222,6 @@ out_from (x ∷ xs) l t zero h e f g =
     (and_from (nat_le x.from t) (nat_lt t x.to) (le-leb x.from t f) (lt-ltb t x.to g)))
 out_from (x ∷ xs) l t (suc j) h e f g = or_right (is_on l t x) (is_out xs l t) (out_from xs l t j (omega arith) e f g)
 
-same_answers : (a b : Bool) → (a ≡ true → b ≡ true) → (b ≡ true → a ≡ true) → a ≡ b
-same_answers true b f g = sym (f refl)
-same_answers false true f g = g refl
-same_answers false false f g = refl
-
 module _ (xs ss : List OutageSpec) (p : Prolongs xs ss) (l t n : ℕ)
     (point : IsPartitionPoint (λ s. begins_by l t s ≡ true) (λ s. begins_by l t s ≡ false) ss n) where
   -- the last span that has begun, where it is of the link and ends later, is as long as an outage that is on
@@ -276,7 +272,7 @@ module _ (xs ss : List OutageSpec) (p : Prolongs xs ss) (l t n : ℕ)
   lasting_all (suc m) q few it = lasting m q (let size : length ss ≡ length xs = p.size in omega arith) it
 
   pub sorted_tells : n ≤ length ss → is_out xs l t ≡ last_lasts ss n l t
-  sorted_tells few = same_answers (is_out xs l t) (last_lasts ss n l t) (λ h. lasts (out_in xs l t h) few) (λ h. lasting_all n refl few h)
+  sorted_tells few = same_tests (is_out xs l t) (last_lasts ss n l t) (λ h. lasts (out_in xs l t h) few) (λ h. lasting_all n refl few h)
 
 pub last_tells : (list xs ss : List OutageSpec) → IsPermutation list xs → Prolongs xs ss → (l t n : ℕ) → n ≤ length ss
     → IsPartitionPoint (λ s. begins_by l t s ≡ true) (λ s. begins_by l t s ≡ false) ss n → is_out list l t ≡ last_lasts ss n l t
@@ -295,5 +291,5 @@ out_there os qs h l t e =
     (subst (λ (o : OutageSpec). o.from ≤ t) (sym is) r.3) (subst (λ (o : OutageSpec). t < o.to) (sym is) r.4)
 
 pub same_outages_out : SameOutagesOut
-same_outages_out os qs h l t = same_answers (is_out os l t) (is_out qs l t) (out_there os qs (λ o. (h o).0) l t)
+same_outages_out os qs h l t = same_tests (is_out os l t) (is_out qs l t) (out_there os qs (λ o. (h o).0) l t)
     (out_there qs os (λ o. (h o).1) l t)

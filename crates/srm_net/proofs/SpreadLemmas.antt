@@ -11,7 +11,7 @@ use Rattle.srm_net.specs.Network.{Network, Joins, IsWalk, IsTree, IsNetwork}
 use Rattle.srm_net.specs.Paths.{is_in, end_of, delay_of, delay_along, host, route, Stop, stop, stops, takes_out, reaches, crosses, drops_at}
 use Rattle.srm_net.specs.DropRules.{DropRules, may_drop}
 use Rattle.srm_net.specs.Tables.{is_beyond, near_end, far_from, some_beyond}
-use Rattle.srm_net.specs.Spreads.{comes_to, AreKnown, PlainSpread, IsSpread, FitsIn, TellsComing}
+use Rattle.srm_net.specs.Spreads.{comes_to, AreKnown, PlainSpread, IsSpread, FitsIn}
 use Rattle.srm_net.proofs.Lists.{below_get, get_set_same, get_set_other}
 use Rattle.srm_net.proofs.Numbers.{Apart, in_head, in_tail, in_cases, in_append_cases, not_in, apart_push, apart_from_distinct}
 use Rattle.srm_net.proofs.Walks.{turned, walk_last, same_link, same_far}
@@ -342,12 +342,4 @@ spread_everywhere w rules p sent n s h e f g = record {
   nodes = ap length g ∙ length-replicate n true ∙ e;
   each = λ x lt. ap (λ bs. slice_get bs x) g ∙ get_all n true x (subst (λ m. x < m) (sym e) lt)
       ∙ ap Some (sym (comes_everywhere w rules p sent (host w p.sender) x h));
-}
-
-pub spread_told : (w : Network) (rules : DropRules) (p : PacketId) (sent u : ℕ) (s : PlainSpread) (bs : List Bool) → u ≡ host w p.sender
-    → TellsComing w (takes_out rules p) u sent bs → s.sender ≡ p.sender → s.comes ≡ bs → IsSpread w rules p sent s
-spread_told w rules p sent u s bs e t f g = record {
-  sender = f;
-  nodes = ap length g ∙ t.nodes;
-  each = λ x lt. ap (λ bs. slice_get bs x) g ∙ t.each x lt ∙ ap (λ v. Some (comes_to w (takes_out rules p) v sent x)) e;
 }

@@ -5,13 +5,13 @@ ghost use Rattle.std.specs.Prelude.{◌≡◌};
 ///
 /// | rank | event | `a`, `b`, `c` |
 /// |---|---|---|
-/// | 0 | join | 0, 0, 0 |
-/// | 1 | arrival of a packet | its sender, 0, its count |
-/// | 2 | request timer | source, page and number of its name |
-/// | 3 | repair timer | source, page and number of its name |
-/// | 4 | draw | 0, 0, its place in the scenario |
-/// | 5 | report | 0, 0, its place in the scenario |
-/// | 6 | leave | 0, 0, 0 |
+/// | `rank::JOIN` | join | 0, 0, 0 |
+/// | `rank::ARRIVAL` | arrival of a packet | its sender, 0, its count |
+/// | `rank::REQUEST` | request timer | source, page and number of its name |
+/// | `rank::REPAIR` | repair timer | source, page and number of its name |
+/// | `rank::DRAW` | draw | 0, 0, its place in the scenario |
+/// | `rank::REPORT` | report | 0, 0, its place in the scenario |
+/// | `rank::LEAVE` | leave | 0, 0, 0 |
 #[derive(Clone, Copy, Debug, PartialEq, Eq, PartialOrd, Ord)]
 pub struct Key {
     /// When the event is, in ticks.

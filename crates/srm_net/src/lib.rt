@@ -13,6 +13,7 @@ pub mod net;
 mod order;
 mod outages;
 pub mod packet;
+pub mod rank;
 pub mod role;
 mod sending;
 pub mod sequence;

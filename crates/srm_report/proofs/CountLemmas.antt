@@ -1,5 +1,5 @@
 -- Counts of rows, row by row.
-use Rattle.std.proofs.Common.{◌≡◌, ◌∙◌, ℕ, zero, suc, ◌+◌, ◌<◌, ◌≤◌, ◌≢◌, All, Bool, true, false, cond, ◌&&◌, List, [], ◌∷◌, ◌++◌}
+use Rattle.std.proofs.Common.{◌≡◌, ◌∙◌, ℕ, ◌+◌, ◌<◌, ◌≤◌, ◌≢◌, All, Bool, true, false, cond, ◌&&◌, List, [], ◌∷◌, ◌++◌}
 use Rattle.std.proofs.Common.{length, Option, Some, None}
 use Rattle.std.proofs.Common.{refl, ap, sym, subst, get_or, slice_set, ◌==◌, eqb-true, eq-eqb, true≢false, arith}
 use Rattle.std.specs.List.{find, count_by}
@@ -8,27 +8,29 @@ use Rattle.std.proofs.lemmas.List.Sums.{sum_by_push}
 use Rattle.std.proofs.lemmas.List.Folds.{find-append}
 use Rattle.std.proofs.lemmas.List.{get_or_read, get_or-set_other, length-set}
 use Rattle.std.proofs.lemmas.Grind.{get_or-set_at}
+use Rattle.srm_model.specs.Schedules.{rows_of}
 use Rattle.srm_member.specs.declared.row.Word.{Word}
 use Rattle.srm_member.specs.declared.row.Row.{Row}
+use Rattle.srm_member.specs.Kinds.{is_join, is_leave, is_draw, is_ask, is_answer, is_report, is_arrival, is_sent, is_fixed}
 use Rattle.srm_scenario.specs.declared.parts.MemberSpec.{MemberSpec}
 use Rattle.srm_report.specs.declared.counts.Counts.{Counts}
-use Rattle.srm_report.specs.Counted.{earlier, IsAtMost, AreCounts}
+use Rattle.srm_report.specs.Counted.{first_known, IsAtMost, AreCounts}
 use Rattle.srm_report.specs.Members.{counts_of, member_fields, member_rows}
-use Rattle.srm_report.specs.Rows.{is_join, is_leave, is_draw, is_ask, is_answer, is_report, is_arrival, is_sent, is_fixed, rows_of, time_of}
+use Rattle.srm_report.specs.Rows.{row_time}
 use Rattle.srm_report.specs.Rows.{time_of_kind}
 
 -- ---- one row more
 
-time_or : (o : Option Row) (b : Bool) (r : Row) → earlier (time_of o) r.key.time b ≡ time_of (option_or o (cond b (Some r) None))
+time_or : (o : Option Row) (b : Bool) (r : Row) → first_known (row_time o) r.key.time b ≡ row_time (option_or o (cond b (Some r) None))
 time_or (Some q) b r = refl
 time_or None true r = refl
 time_or None false r = refl
 
-time_more : (kind : Word → Bool) (rows : List Row) (r : Row) → earlier (time_of_kind kind rows) r.key.time (kind r.cause)
+time_more : (kind : Word → Bool) (rows : List Row) (r : Row) → first_known (time_of_kind kind rows) r.key.time (kind r.cause)
     ≡ time_of_kind kind (rows ++ r ∷ [])
 time_more kind rows r =
     time_or (find (λ (q : Row). kind q.cause) rows) (kind r.cause) r
-    ∙ ap time_of (sym (find-append (λ (q : Row). kind q.cause) rows (r ∷ [])))
+    ∙ ap row_time (sym (find-append (λ (q : Row). kind q.cause) rows (r ∷ [])))
 
 count_more : (p : Row → Bool) (rows : List Row) (r : Row) → count_by p rows + cond (p r) 1 0 ≡ count_by p (rows ++ r ∷ [])
 count_more p rows r = sym (sum_by_push (λ q. cond (p q) 1 0) rows r)
@@ -36,7 +38,7 @@ count_more p rows r = sym (sum_by_push (λ q. cond (p q) 1 0) rows r)
 -- what rows say, with one row more, of which each number tells its part
 pub counts_more : (rows : List Row) (r : Row) (c : Counts) (joined left : Option ℕ) (drawn heard lost fixed requests repairs sessions : ℕ)
     → c ≡ counts_of rows
-    → joined ≡ earlier c.joined r.key.time (is_join r.cause) → left ≡ earlier c.left r.key.time (is_leave r.cause)
+    → joined ≡ first_known c.joined r.key.time (is_join r.cause) → left ≡ first_known c.left r.key.time (is_leave r.cause)
     → drawn ≡ cond (is_draw r.cause && is_sent r.told) 1 0 → heard ≡ cond (is_arrival r.cause) 1 0 → lost ≡ length r.lost → fixed
     ≡ cond (is_fixed r.told) 1 0
     → requests ≡ cond (is_ask r.cause && is_sent r.told) 1 0 → repairs ≡ cond (is_answer r.cause && is_sent r.told) 1 0 → sessions
@@ -56,8 +58,8 @@ pub counts_more : (rows : List Row) (r : Row) (c : Counts) (joined left : Option
     }) (counts_of (rows ++ r ∷ []))
 unfolding counts_of
 counts_more rows r c joined left drawn heard lost fixed requests repairs sessions e j l d h n f q a s =
-    let J = j ∙ ap (λ (x : Counts). earlier x.joined r.key.time (is_join r.cause)) e ∙ time_more is_join rows r in
-    let L = l ∙ ap (λ (x : Counts). earlier x.left r.key.time (is_leave r.cause)) e ∙ time_more is_leave rows r in
+    let J = j ∙ ap (λ (x : Counts). first_known x.joined r.key.time (is_join r.cause)) e ∙ time_more is_join rows r in
+    let L = l ∙ ap (λ (x : Counts). first_known x.left r.key.time (is_leave r.cause)) e ∙ time_more is_leave rows r in
     let D = (λ i. (e i).drawn + d i) ∙ count_more (λ q. is_draw q.cause && is_sent q.told) rows r in
     let H = (λ i. (e i).heard + h i) ∙ count_more (λ q. is_arrival q.cause) rows r in
     let N = (λ i. (e i).lost + n i) ∙ sym (sum_by_push (λ (q : Row). length q.lost) rows r) in
@@ -116,14 +118,6 @@ at_most n m c up b = let a = b.drawn in let d = b.heard in let e = b.lost in let
       sessions = omega arith;
     }
 
--- of one member more, of which no row was counted
-pub bounds_pushed : (n : ℕ) (cs : List Counts) (c : Counts) → All (IsAtMost n) cs → IsAtMost 0 c
-    → (k : ℕ) (d : Counts) → k < length (cs ++ c ∷ []) → IsAtMost n (get_or (cs ++ c ∷ []) k d)
-bounds_pushed n [] c h b zero d lt = at_most 0 n c (omega arith) b
-bounds_pushed n [] c h b (suc k) d lt = absurd (omega arith)
-bounds_pushed n (x ∷ cs) c h b zero d lt = h zero d (omega arith)
-bounds_pushed n (x ∷ cs) c h b (suc k) d lt = bounds_pushed n cs c (λ j e l. h (suc j) e (omega arith)) b k d (omega arith)
-
 -- of the member whose row was counted, and of the others
 pub bounds_set : (n : ℕ) (cs : List Counts) (k : ℕ) (c : Counts) → All (IsAtMost n) cs → k < length cs → IsAtMost (n + 1) c
     → All (IsAtMost (n + 1)) (slice_set cs k c)
@@ -138,18 +132,6 @@ bounds_set n cs k c h within b = λ m d lt.
     ] refl
 
 -- ---- the counts of all members
-
--- a member more, of which no row was counted
-at_pushed : (cs : List Counts) (c : Counts) (m : ℕ) → get_or (cs ++ c ∷ []) m c ≡ get_or cs m c
-at_pushed [] c zero = refl
-at_pushed [] c (suc m) = refl
-at_pushed (x ∷ cs) c zero = refl
-at_pushed (x ∷ cs) c (suc m) = at_pushed cs c m
-
-pub counts_pushed : (rows : List Row) (cs : List Counts) (c : Counts) → c ≡ counts_of [] → AreCounts rows cs → AreCounts rows (cs ++ c ∷ [])
-counts_pushed rows cs c none was m =
-    subst (λ (d : Counts). get_or (cs ++ d ∷ []) m (counts_of []) ≡ counts_of (rows_of m rows)) (sym none)
-    (at_pushed cs (counts_of []) m ∙ was m)
 
 not_eqb : (a b : ℕ) → a ≢ b → (a == b) ≡ false
 not_eqb a b ne = elim (a == b) as (λ t. (a == b) ≡ t → t ≡ false) [

@@ -1,7 +1,7 @@
 -- What became of losses, row by row.
 use Rattle.std.proofs.Common.{◌≡◌, ◌∙◌, ℕ, zero, suc, ◌<◌, ◌≢◌, ◌⊎◌, inl, inr, Bool, true, false, cond, T, ◌&&◌, ◌||◌, List, [], ◌∷◌, ◌++◌}
 use Rattle.std.proofs.Common.{length, map, Option, Some, None, is_some, refl, ap, sym, subst, append-nil, append_assoc, ◌==◌, eqb-true}
-use Rattle.std.proofs.Common.{eq-eqb, true≢false, arith, Ordering, Less, Equal, Greater, is_lt, get_or}
+use Rattle.std.proofs.Common.{eq-eqb, true≢false, arith, Less, Equal, Greater, is_lt, get_or}
 use Rattle.std.specs.List.{Contains, list_any}
 use Rattle.std.specs.List as lists
 use Rattle.std.specs.Option.{option_map, option_map_or, option_or}
@@ -14,30 +14,28 @@ use Rattle.std.proofs.lemmas.Grind.{flat_map-append}
 use Rattle.std.proofs.lemmas.List.{map-append}
 use Rattle.std.proofs.lemmas.List.Elements.{Contains-append_left, Contains-append_right}
 use Rattle.std.proofs.lemmas.Map.Views.{Contains-from_any}
+use Rattle.std.proofs.lemmas.Bool.{and_from}
 use Rattle.srm_net.specs.declared.packet.Name.{Name}
 use Rattle.srm_net.specs.Orders.{place, ordered}
+use Rattle.srm_net.proofs.Basics.{nat_cmp_self, same_numbers, is_Equal, T_first, T_second, T_less, or_turn}
 use Rattle.srm_member.specs.declared.told.Told.{Told}
 use Rattle.srm_member.specs.declared.told.Told.TheVariants.{Fixed}
 use Rattle.srm_member.specs.declared.told.Told.TheVariants as told
 use Rattle.srm_member.specs.declared.row.Row.{Row}
 use Rattle.srm_member.specs.Orderly.{LostIn, FixedIn, brought}
-use Rattle.srm_member.proofs.OrderLemmas.{place-comm, same_numbers, nat_cmp_self}
+use Rattle.srm_member.proofs.OrderLemmas.{place-comm}
 use Rattle.srm_member.proofs.TableChanges.{same_names, name_is}
+use Rattle.srm_member.specs.Kinds.{is_fixed}
 use Rattle.srm_report.specs.declared.course.Course.{Course}
 use Rattle.srm_report.specs.declared.loss.Loss.{Loss}
 use Rattle.srm_report.specs.Courses.{TellLosses, after_fix, fixed_at, course_of, losing, name_fixed}
 use Rattle.srm_report.specs.Losses.{loss_cmp, numbers_of_loss, losses_in, detects, fixes, detected_at, recovered_at}
-use Rattle.srm_report.specs.Rows.{is_fixed, is_name, time_of}
+use Rattle.srm_report.specs.Rows.{is_name, row_time}
 
 -- ---- losses that tie are the same
 
 pub loss_total : IsTotalOrder loss_cmp
 loss_total = on_total numbers_of_loss nat_list_cmp_total
-
-is_Equal : (o : Ordering) → is_eq o ≡ true → o ≡ Equal
-is_Equal Less h = absurd (true≢false (sym h))
-is_Equal Equal h = refl
-is_Equal Greater h = absurd (true≢false (sym h))
 
 same_losses : (j k : Loss) → eq_by_cmp loss_cmp j k ≡ true → j ≡ k
 same_losses j k h =
@@ -82,9 +80,6 @@ and_false : (a b : Bool) → b ≡ false → (a && b) ≡ false
 and_false true b h = h
 and_false false b h = refl
 
-both_true : (a b : Bool) → a ≡ true → b ≡ true → (a && b) ≡ true
-both_true a b p q = ap (λ x. x && b) p ∙ q
-
 first_false : (a b : Bool) → (a || b) ≡ false → a ≡ false
 first_false true b h = h
 first_false false b h = refl
@@ -93,31 +88,13 @@ second_false : (a b : Bool) → (a || b) ≡ false → b ≡ false
 second_false true b h = absurd (true≢false h)
 second_false false b h = h
 
-or_swap : (a b c : Bool) → (a || (b || c)) ≡ (b || (a || c))
-or_swap true true c = refl
-or_swap true false c = refl
-or_swap false b c = refl
-
 not_true : (b : Bool) → (b ≡ true → ⊥) → b ≡ false
 not_true true h = absurd (h refl)
 not_true false h = refl
 
-T_first : (a b : Bool) → T (a && b) → T a
-T_first true b h = tt
-T_first false b h = h
-
-T_second : (a b : Bool) → T (a && b) → T b
-T_second true b h = h
-T_second false b h = absurd h
-
 T_both : (a b : Bool) → T a → T b → T (a && b)
 T_both true b p q = q
 T_both false b p q = p
-
-is_less : (o : Ordering) → T (is_lt o) → o ≡ Less
-is_less Less h = refl
-is_less Equal h = absurd h
-is_less Greater h = absurd h
 
 any_append : {A : Type 0} (p : A → Bool) (xs ys : List A) → list_any p (xs ++ ys) ≡ (list_any p xs || list_any p ys)
 any_append p [] ys = refl
@@ -184,12 +161,12 @@ keys_put k c (e ∷ es) none =
 below_less : (k x : Loss) (es : List (Loss × Course)) → loss_cmp k x ≡ Less → T (below_all loss_cmp x es) → T (below_all loss_cmp k es)
 below_less k x [] q h = tt
 below_less k x (e ∷ es) q h =
-    T_both _ _ (subst (λ o. T (is_lt o)) (sym (loss_total.trans k x e.0 q (is_less _ (T_first _ _ h)))) tt)
+    T_both _ _ (subst (λ o. T (is_lt o)) (sym (loss_total.trans k x e.0 q (T_less _ (T_first _ _ h)))) tt)
     (below_less k x es q (T_second _ _ h))
 
 below_none : (k : Loss) (es : List (Loss × Course)) → T (below_all loss_cmp k es) → find loss_cmp k es ≡ None
 below_none k [] h = refl
-below_none k (e ∷ es) h = ap (λ o. cond (is_eq o) (Some e.1) (find loss_cmp k es)) (is_less _ (T_first _ _ h))
+below_none k (e ∷ es) h = ap (λ o. cond (is_eq o) (Some e.1) (find loss_cmp k es)) (T_less _ (T_first _ _ h))
     ∙ below_none k es (T_second _ _ h)
 
 -- an entry put in anew leaves the losses as they are
@@ -234,7 +211,7 @@ ordered_push (y ∷ ys) x h =
 
 any_cond : (p : Loss → Bool) (b : Bool) (x y : Loss) (xs ys : List Loss) → list_any p xs ≡ (p x || list_any p ys)
     → list_any p (cond b (y ∷ xs) (x ∷ y ∷ ys)) ≡ (p x || (p y || list_any p ys))
-any_cond p true x y xs ys h = ap (λ b. p y || b) h ∙ or_swap (p y) (p x) (list_any p ys)
+any_cond p true x y xs ys h = ap (λ b. p y || b) h ∙ or_turn (p y) (p x) (list_any p ys)
 any_cond p false x y xs ys h = refl
 
 any_place : (p : Loss → Bool) (x : Loss) (ys : List Loss) → list_any p (place loss_cmp x ys) ≡ (p x || list_any p ys)
@@ -249,36 +226,36 @@ any_ordered p (x ∷ xs) = any_place p x (ordered loss_cmp xs) ∙ ap (λ b. p x
 
 -- when the first of the rows is that passes a test
 abbrev at : (Row → Bool) → List Row → Option ℕ
-at t rows = time_of (lists.find t rows)
+at t rows = row_time (lists.find t rows)
 
 abbrev if_so : Bool → Row → Option Row
 if_so b q = cond b (Some q) None
 
-at_push : (t : Row → Bool) (rows : List Row) (q : Row) → at t (rows ++ q ∷ []) ≡ time_of (option_or (lists.find t rows) (if_so (t q) q))
-at_push t rows q = ap time_of (find-append t rows (q ∷ []))
+at_push : (t : Row → Bool) (rows : List Row) (q : Row) → at t (rows ++ q ∷ []) ≡ row_time (option_or (lists.find t rows) (if_so (t q) q))
+at_push t rows q = ap row_time (find-append t rows (q ∷ []))
 
 alike : (o : Option Row) (b : Bool) (p q : Row) → p.key.time ≡ q.key.time
-    → time_of (option_or o (if_so b p)) ≡ time_of (option_or o (if_so b q))
+    → row_time (option_or o (if_so b p)) ≡ row_time (option_or o (if_so b q))
 alike (Some r) b p q e = refl
 alike None true p q e = ap (λ n. Some n) e
 alike None false p q e = refl
 
-none_more : (o : Option Row) → time_of (option_or o None) ≡ time_of o
+none_more : (o : Option Row) → row_time (option_or o None) ≡ row_time o
 none_more (Some r) = refl
 none_more None = refl
 
 at_same : (t : Row → Bool) (rows : List Row) (p q : Row) → p.key.time ≡ q.key.time → t p ≡ t q → at t (rows ++ p ∷ [])
     ≡ at t (rows ++ q ∷ [])
 at_same t rows p q e h =
-    at_push t rows p ∙ ap (λ b. time_of (option_or (lists.find t rows) (if_so b p))) h ∙ alike (lists.find t rows) (t q) p q e
+    at_push t rows p ∙ ap (λ b. row_time (option_or (lists.find t rows) (if_so b p))) h ∙ alike (lists.find t rows) (t q) p q e
     ∙ sym (at_push t rows q)
 
 at_none : (t : Row → Bool) (rows : List Row) (q : Row) → t q ≡ false → at t (rows ++ q ∷ []) ≡ at t rows
-at_none t rows q h = at_push t rows q ∙ ap (λ b. time_of (option_or (lists.find t rows) (if_so b q))) h ∙ none_more (lists.find t rows)
+at_none t rows q h = at_push t rows q ∙ ap (λ b. row_time (option_or (lists.find t rows) (if_so b q))) h ∙ none_more (lists.find t rows)
 
 at_first : (t : Row → Bool) (rows : List Row) (q : Row) → lists.find t rows ≡ None → t q ≡ true → at t (rows ++ q ∷ []) ≡ Some q.key.time
 at_first t rows q none h =
-    at_push t rows q ∙ ap (λ b. time_of (option_or (lists.find t rows) (if_so b q))) h ∙ ap (λ o. time_of (option_or o (Some q))) none
+    at_push t rows q ∙ ap (λ b. row_time (option_or (lists.find t rows) (if_so b q))) h ∙ ap (λ o. row_time (option_or o (Some q))) none
 
 find_none : (t : Row → Bool) (rows : List Row) → ((q : Row) → Contains rows q → t q ≡ true → ⊥) → lists.find t rows ≡ None
 find_none t [] h = refl
@@ -288,10 +265,10 @@ find_none t (q ∷ rows) h =
 
 find_some : (t : Row → Bool) (rows : List Row) (q : Row) → Contains rows q → t q ≡ true → (n : ℕ) × (at t rows ≡ Some n)
 find_some t [] q c h = absurd (let l = c.1 in omega arith)
-find_some t (r ∷ rows) q (zero, l, e) h = (r.key.time, ap (λ b. time_of (cond b (Some r) (lists.find t rows))) (ap t e ∙ h))
+find_some t (r ∷ rows) q (zero, l, e) h = (r.key.time, ap (λ b. row_time (cond b (Some r) (lists.find t rows))) (ap t e ∙ h))
 find_some t (r ∷ rows) q (suc i, l, e) h =
     let rest = find_some t rows q (i, omega arith, e) h in
-    elim (t r) as (λ b. (n : ℕ) × (time_of (cond b (Some r) (lists.find t rows)) ≡ Some n)) [ true ↦ (r.key.time, refl) | false ↦ rest ]
+    elim (t r) as (λ b. (n : ℕ) × (row_time (cond b (Some r) (lists.find t rows)) ≡ Some n)) [ true ↦ (r.key.time, refl) | false ↦ rest ]
 
 course_same : (rows more : List Row) (k : Loss) → detected_at rows k ≡ detected_at more k → recovered_at rows k ≡ recovered_at more k
     → course_of rows k ≡ course_of more k
@@ -357,7 +334,7 @@ module _ (rows : List Row) (r : Row) (front : List Name) (n : Name) (es : List (
   none =
       was.courses k
       ∙ (λ i. option_map (λ at. let c : Course = record { detected = at; recovered = recovered_at (rows ++ q0 ∷ []) k } in c)
-      ((at_none (detects k) rows q0 detects_not ∙ ap time_of not_before) i))
+      ((at_none (detects k) rows q0 detects_not ∙ ap row_time not_before) i))
 
   grown : losses_in (rows ++ q1 ∷ []) ≡ losses_in (rows ++ q0 ∷ []) ++ k ∷ []
   grown =
@@ -376,9 +353,9 @@ module _ (rows : List Row) (r : Row) (front : List Name) (n : Name) (es : List (
 
   lost_now : course_of (rows ++ q1 ∷ []) k ≡ Some (record { detected = r.key.time; recovered = None })
   lost_now = course_is (rows ++ q1 ∷ []) k r.key.time None
-      (at_first (detects k) rows q1 not_before (both_true (m == m) _ (eq-eqb m m refl)
+      (at_first (detects k) rows q1 not_before (and_from (m == m) _ (eq-eqb m m refl)
       (in_named n (front ++ n ∷ []) (Contains-append_right front (n ∷ []) n (0, omega arith, refl)))))
-      (at_none (fixes k) rows q1 (and_false (m == m) false refl) ∙ ap time_of not_fixed)
+      (at_none (fixes k) rows q1 (and_false (m == m) false refl) ∙ ap row_time not_fixed)
 
   -- another loss, in the row with one loss more
   other : (j : Loss) → eq_by_cmp loss_cmp j k ≡ false → detects j q1 ≡ detects j q0
@@ -467,11 +444,11 @@ module _ (rows : List Row) (r : Row) (es : List (Loss × Course)) (was : TellLos
 
     detected : (d : ℕ) × (detected_at (rows ++ q ∷ []) k2 ≡ Some d)
     detected = find_some (detects k2) (rows ++ q ∷ []) lost.0 (Contains-append_left rows (q ∷ []) lost.0 lost.1)
-        (both_true (lost.0.key.member == r.key.member) _ (eq-eqb _ _ lost.2) (in_named n lost.0.lost lost.3))
+        (and_from (lost.0.key.member == r.key.member) _ (eq-eqb _ _ lost.2) (in_named n lost.0.lost lost.3))
 
     before_fix : course_of (rows ++ q ∷ []) k2 ≡ Some (record { detected = detected.0; recovered = None })
     before_fix = course_is (rows ++ q ∷ []) k2 detected.0 None detected.1
-        (at_none (fixes k2) rows q (unfixed_now k2) ∙ ap time_of not_fixed_yet)
+        (at_none (fixes k2) rows q (unfixed_now k2) ∙ ap row_time not_fixed_yet)
 
     abbrev mended : Course
     mended = record { detected = detected.0; recovered = Some r.key.time }
@@ -479,7 +456,7 @@ module _ (rows : List Row) (r : Row) (es : List (Loss × Course)) (was : TellLos
     after : course_of (rows ++ r ∷ []) k2 ≡ Some mended
     after = course_is (rows ++ r ∷ []) k2 detected.0 (Some r.key.time) (at_same (detects k2) rows r q refl refl ∙ detected.1)
         (at_first (fixes k2) rows r not_fixed_yet
-        (fixes_is k2 ∙ both_true (r.key.member == r.key.member) _ (eq-eqb _ _ refl)
+        (fixes_is k2 ∙ and_from (r.key.member == r.key.member) _ (eq-eqb _ _ refl)
         (ap (λ o. option_map_or (is_name n) o false) fix ∙ name_is n)))
 
     apart : (j : Loss) → eq_by_cmp loss_cmp j k2 ≡ false → fixes j r ≡ false

@@ -7,8 +7,8 @@ use Rattle.srm_ledger.specs.declared.kind.Kind.{Kind}
 use Rattle.srm_ledger.specs.declared.kind.Kind.TheVariants.{Drawop, Request, Repair, Session, Dropped}
 use Rattle.srm_ledger.specs.Counts.{place_of, counted_at}
 use Rattle.srm_report.proofs.Fives.{FiveEach, length_joined, index_joined}
-use Rattle.srm_report.specs.Links.{link_columns, link_fields, links_in, links_table}
-use Rattle.srm_report.specs.Tables.{table_of}
+use Rattle.srm_report.specs.Links.{link_columns, link_fields, links_counted, links_table}
+use Rattle.srm_report.specs.Tables.{table_lines}
 use Rattle.srm_report.proofs.TableLemmas.{table_first, table_more}
 
 -- the rows of the first n links
@@ -29,24 +29,24 @@ module _ (ls : List (List ℕ)) (five : FiveEach ls) (totals : List ℕ) (joined
       sym (index_joined ls five i (place_of k) d lt (place_below k))
       ∙ ap (λ t. slice_index t (5 * i + place_of k)) joined
 
-  pub links_are : links_in totals ≡ length ls
+  pub links_are : links_counted totals ≡ length ls
   links_are = let long = length_joined ls five in let same : length (concat ls) ≡ length totals = ap length joined in omega arith
 
   pub text_more : (i : ℕ) (d : List ℕ) (old new line : List ℕ) → i < length ls
-      → old ≡ table_of link_columns (first_rows totals i) → line ≡ row_text default_writer
+      → old ≡ table_lines link_columns (first_rows totals i) → line ≡ row_text default_writer
       (link_fields i (λ k. slice_index (slice_index_or ls i d) (place_of k)))
-      → new ≡ old ++ line → new ≡ table_of link_columns (first_rows totals (i + 1))
+      → new ≡ old ++ line → new ≡ table_lines link_columns (first_rows totals (i + 1))
   text_more i d old new line lt before is grown =
       let same : line ≡ row_text default_writer (link_fields i (counted_at totals i)) =
       is ∙ (λ t. row_text default_writer (link_fields i (λ k. numbers_are i d lt k t))) in
       table_more link_columns (first_rows totals i) (link_fields i (counted_at totals i)) old new line before same grown
-      ∙ ap (table_of link_columns) (sym (map-range_with_len_more (λ l. link_fields l (counted_at totals l)) 0 i i (omega arith)))
+      ∙ ap (table_lines link_columns) (sym (map-range_with_len_more (λ l. link_fields l (counted_at totals l)) 0 i i (omega arith)))
 
-  pub text_all : (i : ℕ) (text : List ℕ) → i ≡ length ls → text ≡ table_of link_columns (first_rows totals i) → text ≡ links_table totals
+  pub text_all : (i : ℕ) (text : List ℕ) → i ≡ length ls → text ≡ table_lines link_columns (first_rows totals i) → text ≡ links_table totals
   unfolding links_table
-  text_all i text whole is = is ∙ ap (λ n. table_of link_columns (first_rows totals n)) (whole ∙ sym links_are)
+  text_all i text whole is = is ∙ ap (λ n. table_lines link_columns (first_rows totals n)) (whole ∙ sym links_are)
 
 -- the table before its first link
 pub text_first : (totals : List ℕ) (text : List ℕ) → text ≡ row_text default_writer link_columns → text
-    ≡ table_of link_columns (first_rows totals 0)
+    ≡ table_lines link_columns (first_rows totals 0)
 text_first totals text e = table_first link_columns text e

@@ -8,17 +8,19 @@ use Rattle.std.specs.Option.{option_map}
 use Rattle.std.specs.FinMap.Entries.{find, put}
 use Rattle.std.proofs.lemmas.List.{take_more}
 use Rattle.std.proofs.lemmas.List.Elements.{Contains-append_left, Contains-append_right}
+use Rattle.std.proofs.lemmas.Option.{same_Some}
 use Rattle.csv.specs.Writing.{default_writer, row_text}
 use Rattle.srm_net.specs.declared.packet.Name.{Name}
 use Rattle.srm_net.specs.Network.{Network}
 use Rattle.srm_member.specs.declared.row.Row.{Row}
 use Rattle.srm_member.specs.Orderly.{IsOrderly, IsAmong, LostIn, FixedIn, brought}
+use Rattle.srm_member.specs.Kinds.{is_fixed}
 use Rattle.srm_report.specs.declared.course.Course.{Course}
 use Rattle.srm_report.specs.declared.loss.Loss.{Loss}
 use Rattle.srm_report.specs.Courses.{TellLosses, course_of, losing, name_fixed}
 use Rattle.srm_report.specs.Losses.{loss_cmp, detects, detected_at, recovered_at, loss_columns, loss_fields, loss_row, losses_table}
-use Rattle.srm_report.specs.Rows.{is_fixed, time_of}
-use Rattle.srm_report.specs.Tables.{table_of}
+use Rattle.srm_report.specs.Rows.{row_time}
+use Rattle.srm_report.specs.Tables.{table_lines}
 use Rattle.srm_report.proofs.CourseLemmas.{found, named_in, first_true, second_true, told_is, one_more}
 use Rattle.srm_report.proofs.TableLemmas.{table_more}
 
@@ -48,9 +50,6 @@ contained_split xs x (i, l, e) = (take i xs, drop (i + 1) xs, split xs i x l (sy
 
 -- ---- what was fixed was lost
 
-same_some : {A : Type 0} (x y : A) → Some x ≡ Some y → x ≡ y
-same_some x y e = cc
-
 pub fixed_was_lost : (members : ℕ) (rows after : List Row) (r : Row) → IsOrderly members (rows ++ r ∷ after) → (m : ℕ) (n : Name)
     → FixedIn m n rows → LostIn m n rows
 fixed_was_lost members rows after r o m n fixed =
@@ -59,7 +58,7 @@ fixed_was_lost members rows after r o m n fixed =
     let whole : rows ++ r ∷ after ≡ parts.0 ++ q ∷ (parts.1 ++ r ∷ after) = ap (λ l. l ++ r ∷ after) parts.2
     ∙ append_assoc parts.0 (q ∷ parts.1) (r ∷ after) in
     let was = o.fixed_after parts.0 (parts.1 ++ r ∷ after) q whole fixed.3 in
-    let name : was.0 ≡ n = same_some _ _ (sym was.1 ∙ fixed.4) in
+    let name : was.0 ≡ n = same_Some _ _ (sym was.1 ∙ fixed.4) in
     let lost : LostIn m n parts.0 = subst (λ k. LostIn m k parts.0) name (subst (λ j. LostIn j was.0 parts.0) fixed.2 was.2) in
     (lost.0, subst (λ l. Contains l lost.0) (sym parts.2) (Contains-append_left parts.0 (q ∷ parts.1) lost.0 lost.1), lost.2, lost.3)
 
@@ -70,7 +69,7 @@ fix_facts members rows after r o n h = elim (is_fixed r.told) as
     (λ b. is_fixed r.told ≡ b → cond b (brought r.about) None ≡ Some n → LostIn r.key.member n rows × ¬ FixedIn r.key.member n rows) [
       | true ↦ λ e g.
           let was = o.fixed_after rows after r refl (told_is r.told e) in
-          let name : was.0 ≡ n = same_some _ _ (sym was.1 ∙ g) in
+          let name : was.0 ≡ n = same_Some _ _ (sym was.1 ∙ g) in
           subst (λ k. LostIn r.key.member k rows × ¬ FixedIn r.key.member k rows) name (was.2, was.3)
       | false ↦ λ e g. cc
     ] refl h
@@ -105,13 +104,13 @@ told rows k c e = elim (detected_at rows k) as (λ o. option_map (λ at. record 
     → (o ≡ Some c.detected) × (recovered_at rows k ≡ c.recovered)) [
       | None ↦ λ h. cc
       | Some at ↦ λ h.
-          let same : record { detected = at; recovered = recovered_at rows k } ≡ c = same_some _ _ h in
+          let same : record { detected = at; recovered = recovered_at rows k } ≡ c = same_Some _ _ h in
           (ap (λ (x : Course). Some x.detected) same, ap (λ (x : Course). x.recovered) same)
     ] e
 
-find_is : (t : Row → Bool) (rows : List Row) (n : ℕ) → time_of (lists.find t rows) ≡ Some n → (q : Row) × Contains rows q × (t q ≡ true)
+find_is : (t : Row → Bool) (rows : List Row) (n : ℕ) → row_time (lists.find t rows) ≡ Some n → (q : Row) × Contains rows q × (t q ≡ true)
 find_is t [] n h = cc
-find_is t (q ∷ rows) n h = elim (t q) as (λ b. t q ≡ b → time_of (cond b (Some q) (lists.find t rows)) ≡ Some n → (p : Row)
+find_is t (q ∷ rows) n h = elim (t q) as (λ b. t q ≡ b → row_time (cond b (Some q) (lists.find t rows)) ≡ Some n → (p : Row)
     × Contains (q ∷ rows) p × (t p ≡ true)) [
       | true ↦ λ e g. (q, (0, omega arith, refl), e)
       | false ↦ λ e g. (let f = find_is t rows n g in (f.0, Contains-append_right (q ∷ []) rows f.0 f.1, f.2))
@@ -140,9 +139,9 @@ module _ (rows : List Row) (members : ℕ) (orderly : IsOrderly members rows) (e
         )
 
   text_more : (net : Network) (i : ℕ) (k : Loss) (c : Course) (old new line : List ℕ) → i < length es → (k, c) ≡ get_or es i (k, c)
-      → old ≡ table_of loss_columns (map (loss_row net rows) (take i (map (λ e. e.0) es))) → line
+      → old ≡ table_lines loss_columns (map (loss_row net rows) (take i (map (λ e. e.0) es))) → line
       ≡ row_text default_writer (loss_fields net k (Some c.detected) c.recovered)
-      → new ≡ old ++ line → new ≡ table_of loss_columns (map (loss_row net rows) (take (i + 1) (map (λ e. e.0) es)))
+      → new ≡ old ++ line → new ≡ table_lines loss_columns (map (loss_row net rows) (take (i + 1) (map (λ e. e.0) es)))
   text_more net i k c old new line lt here before is grown =
       let ks = map (λ (e : Loss × Course). e.0) es in
       let long : length ks ≡ length es = length-keys es in
@@ -150,7 +149,7 @@ module _ (rows : List Row) (members : ℕ) (orderly : IsOrderly members rows) (e
       ∙ ap (λ x. take i ks ++ x ∷ []) (get-map es i k c lt here) in
       table_more loss_columns (map (loss_row net rows) (take i ks)) (loss_row net rows k) old new line before
       (is ∙ ap (row_text default_writer) (is_row i k c lt here net)) grown
-      ∙ ap (table_of loss_columns) (sym (ap (map (loss_row net rows)) one ∙ map-push (loss_row net rows) (take i ks) k))
+      ∙ ap (table_lines loss_columns) (sym (ap (map (loss_row net rows)) one ∙ map-push (loss_row net rows) (take i ks) k))
     where
       get-map : (es : List (Loss × Course)) (i : ℕ) (k : Loss) (c : Course) → i < length es → (k, c) ≡ get_or es i (k, c)
           → get_or (map (λ e. e.0) es) i k ≡ k
@@ -177,21 +176,17 @@ module _ (rows : List Row) (members : ℕ) (orderly : IsOrderly members rows) (e
   next_among i d lt = among i (get_or es i d).0 (get_or es i d).1 lt (read i d lt)
 
   pub text_next : (net : Network) (i : ℕ) (d : Loss × Course) (old new line : List ℕ) → i < length es
-      → old ≡ table_of loss_columns (map (loss_row net rows) (take i (map (λ e. e.0) es)))
+      → old ≡ table_lines loss_columns (map (loss_row net rows) (take i (map (λ e. e.0) es)))
       → line ≡ row_text default_writer (loss_fields net (get_or es i d).0 (Some (get_or es i d).1.detected) (get_or es i d).1.recovered)
-      → new ≡ old ++ line → new ≡ table_of loss_columns (map (loss_row net rows) (take (i + 1) (map (λ e. e.0) es)))
+      → new ≡ old ++ line → new ≡ table_lines loss_columns (map (loss_row net rows) (take (i + 1) (map (λ e. e.0) es)))
   text_next net i d old new line lt before is grown = text_more net i (get_or es i d).0 (get_or es i d).1 old new line lt
       (read i d lt) before is grown
 
   pub text_all : (net : Network) (i : ℕ) (text : List ℕ) → i ≡ length es →
-      text ≡ table_of loss_columns (map (loss_row net rows) (take i (map (λ e. e.0) es))) → text ≡ losses_table net rows
+      text ≡ table_lines loss_columns (map (loss_row net rows) (take i (map (λ e. e.0) es))) → text ≡ losses_table net rows
   unfolding losses_table
   text_all net i text whole is =
       let ks = map (λ (e : Loss × Course). e.0) es in
       let long : i ≡ length ks = whole ∙ sym (length-keys es) in
-      is ∙ ap (λ n. table_of loss_columns (map (loss_row net rows) (take n ks))) long
-      ∙ ap (λ l. table_of loss_columns (map (loss_row net rows) l)) (take-length ks ∙ tell.losses)
-
--- no rows tell of no loss
-pub tell_nothing : TellLosses [] []
-tell_nothing = record { sorted = tt; losses = refl; courses = λ k. refl }
+      is ∙ ap (λ n. table_lines loss_columns (map (loss_row net rows) (take n ks))) long
+      ∙ ap (λ l. table_lines loss_columns (map (loss_row net rows) l)) (take-length ks ∙ tell.losses)

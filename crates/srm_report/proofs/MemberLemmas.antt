@@ -3,6 +3,7 @@ use Rattle.std.proofs.Common.{◌≡◌, ◌∙◌, ℕ, ◌+◌, List, [], ◌�
 use Rattle.std.proofs.Math.Seq.{take-length}
 use Rattle.std.proofs.lemmas.List.{take_more, length-take-le}
 use Rattle.std.proofs.lemmas.Option.{get_or_from_slice_get, slice_get_within}
+use Rattle.srm_model.specs.Schedules.{rows_of}
 use Rattle.csv.specs.Writing.{default_writer, row_text}
 use Rattle.srm_scenario.specs.declared.parts.MemberSpec.{MemberSpec}
 use Rattle.srm_scenario.specs.Plain.{PlainScenario}
@@ -10,15 +11,14 @@ use Rattle.srm_member.specs.declared.row.Row.{Row}
 use Rattle.srm_report.specs.declared.counts.Counts.{Counts}
 use Rattle.srm_report.specs.Counted.{AreCounts, counts_at}
 use Rattle.srm_report.specs.Members.{counts_of, member_columns, member_fields, member_rows, members_table}
-use Rattle.srm_report.specs.Rows.{rows_of}
-use Rattle.srm_report.specs.Tables.{table_of}
+use Rattle.srm_report.specs.Tables.{table_lines}
 use Rattle.srm_report.proofs.TableLemmas.{table_more}
 use Rattle.srm_report.proofs.CountLemmas.{member_rows-more}
 
 module _ (rows : List Row) (ks : List MemberSpec) (cs : List Counts) (counts : AreCounts rows cs) where
   pub text_more : (m : ℕ) (k : MemberSpec) (n : Counts) (old new line : List ℕ) → slice_get ks m ≡ Some k → n ≡ counts_at cs m
-      → old ≡ table_of member_columns (member_rows rows 0 (take m ks)) → line ≡ row_text default_writer (member_fields m k n)
-      → new ≡ old ++ line → new ≡ table_of member_columns (member_rows rows 0 (take (m + 1) ks))
+      → old ≡ table_lines member_columns (member_rows rows 0 (take m ks)) → line ≡ row_text default_writer (member_fields m k n)
+      → new ≡ old ++ line → new ≡ table_lines member_columns (member_rows rows 0 (take (m + 1) ks))
   text_more m k n old new line here is before f grown =
       let lt = slice_get_within ks m k here in
       let own : n ≡ counts_of (rows_of m rows) = is ∙ counts m in
@@ -27,10 +27,10 @@ module _ (rows : List Row) (ks : List MemberSpec) (cs : List Counts) (counts : A
       ∙ ap (λ q. take m ks ++ q ∷ []) (get_or_from_slice_get ks m k k here) in
       table_more member_columns (member_rows rows 0 (take m ks)) (member_fields m k (counts_of (rows_of m rows))) old new line before
       (f ∙ ap (λ q. row_text default_writer (member_fields m k q)) own) grown
-      ∙ ap (table_of member_columns) (sym (member_rows-more rows 0 (take m ks) k m (omega arith)) ∙ ap (member_rows rows 0) (sym one))
+      ∙ ap (table_lines member_columns) (sym (member_rows-more rows 0 (take m ks) k m (omega arith)) ∙ ap (member_rows rows 0) (sym one))
 
 pub text_all : (rows : List Row) (s : PlainScenario) (m : ℕ) (text : List ℕ) → m ≡ length s.members → text
-    ≡ table_of member_columns (member_rows rows 0 (take m s.members)) → text ≡ members_table s rows
+    ≡ table_lines member_columns (member_rows rows 0 (take m s.members)) → text ≡ members_table s rows
 unfolding members_table
-text_all rows s m text whole is = is ∙ ap (λ n. table_of member_columns (member_rows rows 0 (take n s.members))) whole
-    ∙ ap (λ ks. table_of member_columns (member_rows rows 0 ks)) (take-length s.members)
+text_all rows s m text whole is = is ∙ ap (λ n. table_lines member_columns (member_rows rows 0 (take n s.members))) whole
+    ∙ ap (λ ks. table_lines member_columns (member_rows rows 0 ks)) (take-length s.members)

@@ -2,11 +2,11 @@
 use Rattle.std.proofs.Common.{◌≡◌, ◌∙◌, ℕ, List, [], ◌∷◌, ◌++◌, ap, sym, append-nil, append_assoc}
 use Rattle.std.proofs.lemmas.Grind.{flat_map-append}
 use Rattle.csv.specs.Writing.{default_writer, row_text}
-use Rattle.srm_report.specs.Tables.{lines_of, table_of}
+use Rattle.srm_report.specs.Tables.{lines_of, table_lines}
 
 -- a table of no rows is the line of its columns
-pub table_first : (columns : List (List ℕ)) (text : List ℕ) → text ≡ row_text default_writer columns → text ≡ table_of columns []
-unfolding table_of lines_of
+pub table_first : (columns : List (List ℕ)) (text : List ℕ) → text ≡ row_text default_writer columns → text ≡ table_lines columns []
+unfolding table_lines lines_of
 table_first columns text e = e ∙ sym (append-nil (row_text default_writer columns))
 
 lines_more : (rows : List (List (List ℕ))) (r : List (List ℕ)) → lines_of (rows ++ r ∷ []) ≡ lines_of rows ++ row_text default_writer r
@@ -17,8 +17,8 @@ lines_more rows r =
 
 -- a text that grows by the line of one row more
 pub table_more : (columns : List (List ℕ)) (rows : List (List (List ℕ))) (r : List (List ℕ)) (old new line : List ℕ)
-    → old ≡ table_of columns rows → line ≡ row_text default_writer r → new ≡ old ++ line → new ≡ table_of columns (rows ++ r ∷ [])
-unfolding table_of
+    → old ≡ table_lines columns rows → line ≡ row_text default_writer r → new ≡ old ++ line → new ≡ table_lines columns (rows ++ r ∷ [])
+unfolding table_lines
 table_more columns rows r old new line before is grown =
     grown ∙ ap (λ l. old ++ l) is ∙ ap (λ l. l ++ row_text default_writer r) before
     ∙ append_assoc (row_text default_writer columns) (lines_of rows) (row_text default_writer r)

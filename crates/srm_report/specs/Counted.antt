@@ -1,10 +1,10 @@
 -- Counting rows one by one.
 use Rattle.std.specs.Prelude.{◌≡◌, ℕ, ◌*◌, ◌^◌, ◌≤◌, Bool, List, [], Option, Some, None, cond}
 use Rattle.std.specs.Prelude.{slice_index_or}
+use Rattle.srm_model.specs.Schedules.{rows_of}
 use Rattle.srm_member.specs.declared.row.Row.{Row}
 use Rattle.srm_report.specs.declared.counts.Counts.{Counts}
 use Rattle.srm_report.specs.Members.{counts_of}
-use Rattle.srm_report.specs.Rows.{rows_of}
 
 -- after n rows, each of which may have lost as many names as a list can have
 pub record IsAtMost (n : ℕ) (c : Counts) : Type 0 where
@@ -17,9 +17,9 @@ pub record IsAtMost (n : ℕ) (c : Counts) : Type 0 where
   pub sessions : c.sessions ≤ n
 
 -- a time that was known, or else this one, where it is one
-abbrev pub earlier : Option ℕ → ℕ → Bool → Option ℕ
-earlier (Some known) time is_one = Some known
-earlier None time is_one = cond is_one (Some time) None
+abbrev pub first_known : Option ℕ → ℕ → Bool → Option ℕ
+first_known (Some known) time is_one = Some known
+first_known None time is_one = cond is_one (Some time) None
 
 -- the counts of member m: those of no row, where the list ends before
 abbrev pub counts_at : List Counts → ℕ → Counts

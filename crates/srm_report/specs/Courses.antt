@@ -7,10 +7,10 @@ use Rattle.srm_net.specs.Orders.{ordered}
 use Rattle.srm_member.specs.declared.told.Told.TheVariants.{Skip}
 use Rattle.srm_member.specs.declared.row.Row.{Row}
 use Rattle.srm_member.specs.Orderly.{brought}
+use Rattle.srm_member.specs.Kinds.{is_fixed}
 use Rattle.srm_report.specs.declared.course.Course.{Course}
 use Rattle.srm_report.specs.declared.loss.Loss.{Loss}
 use Rattle.srm_report.specs.Losses.{loss_cmp, losses_in, detected_at, recovered_at}
-use Rattle.srm_report.specs.Rows.{is_fixed}
 
 -- the entries after this loss was fixed at this time, if it is among them
 abbrev pub fixed_at : ℕ → Loss → List (Loss × Course) → Option Course → List (Loss × Course)

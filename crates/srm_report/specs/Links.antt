@@ -4,7 +4,7 @@ use Rattle.std.specs.List.{range_with_len}
 use Rattle.srm_ledger.specs.declared.kind.Kind.{Kind}
 use Rattle.srm_ledger.specs.declared.kind.Kind.TheVariants.{Drawop, Request, Repair, Session, Dropped}
 use Rattle.srm_ledger.specs.Counts.{counted_at}
-use Rattle.srm_report.specs.Tables.{table_of}
+use Rattle.srm_report.specs.Tables.{table_lines}
 
 -- the columns of the table
 abbrev pub link_columns : List (List ℕ)
@@ -24,13 +24,13 @@ link_fields l number =
     ∷ []
 
 -- how many links these totals count, each by five numbers
-abbrev pub links_in : List ℕ → ℕ
-links_in totals = length totals / 5
+abbrev pub links_counted : List ℕ → ℕ
+links_counted totals = length totals / 5
 
 -- the rows of all links
 abbrev pub link_rows : List ℕ → List (List (List ℕ))
-link_rows totals = map (λ l. link_fields l (counted_at totals l)) (range_with_len 0 (links_in totals))
+link_rows totals = map (λ l. link_fields l (counted_at totals l)) (range_with_len 0 (links_counted totals))
 
 -- the table of links with these totals
 unfoldable pub links_table : List ℕ → List ℕ
-links_table totals = table_of link_columns (link_rows totals)
+links_table totals = table_lines link_columns (link_rows totals)

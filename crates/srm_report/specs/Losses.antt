@@ -10,9 +10,10 @@ use Rattle.srm_net.specs.Orders.{ordered}
 use Rattle.srm_net.specs.Paths.{round}
 use Rattle.srm_member.specs.declared.row.Row.{Row}
 use Rattle.srm_member.specs.Orderly.{brought}
+use Rattle.srm_member.specs.Kinds.{is_fixed}
 use Rattle.srm_report.specs.declared.loss.Loss.{Loss}
-use Rattle.srm_report.specs.Rows.{is_fixed, is_name, time_of, time_text}
-use Rattle.srm_report.specs.Tables.{table_of}
+use Rattle.srm_report.specs.Rows.{is_name, row_time, time_text}
+use Rattle.srm_report.specs.Tables.{table_lines}
 
 -- losses are compared by member, source, page and number
 abbrev pub numbers_of_loss : Loss → List ℕ
@@ -36,11 +37,11 @@ fixes k r = (r.key.member == k.member) && (is_fixed r.told && option_map_or (is_
 
 -- when the loss was detected
 abbrev pub detected_at : List Row → Loss → Option ℕ
-detected_at rows k = time_of (find (detects k) rows)
+detected_at rows k = row_time (find (detects k) rows)
 
 -- when it was fixed
 abbrev pub recovered_at : List Row → Loss → Option ℕ
-recovered_at rows k = time_of (find (fixes k) rows)
+recovered_at rows k = row_time (find (fixes k) rows)
 
 -- a time over another, not reduced
 abbrev pub ratio : ℕ → ℕ → List ℕ
@@ -70,4 +71,4 @@ loss_row net rows k = loss_fields net k (detected_at rows k) (recovered_at rows 
 
 -- the table of all losses of these rows, in rising order
 unfoldable pub losses_table : Network → List Row → List ℕ
-losses_table net rows = table_of loss_columns (map (loss_row net rows) (ordered loss_cmp (losses_in rows)))
+losses_table net rows = table_lines loss_columns (map (loss_row net rows) (ordered loss_cmp (losses_in rows)))

@@ -1,15 +1,16 @@
 -- The table of members: of each, what its rows say.
 use Rattle.std.specs.Prelude.{ℕ, ◌+◌, ◌-◌, List, [], ◌∷◌, length, codes, decimal}
 use Rattle.std.specs.List.{count_by, sum_by}
+use Rattle.srm_model.specs.Schedules.{rows_of}
 use Rattle.srm_net.specs.declared.role.Role.{Role}
 use Rattle.srm_net.specs.declared.role.Role.TheVariants.{Sender, Receiver, Late, Listener}
 use Rattle.srm_scenario.specs.declared.parts.MemberSpec.{MemberSpec}
 use Rattle.srm_scenario.specs.Plain.{PlainScenario}
 use Rattle.srm_member.specs.declared.row.Row.{Row}
+use Rattle.srm_member.specs.Kinds.{is_join, is_leave, is_draw, is_ask, is_answer, is_report, is_arrival, is_fixed}
 use Rattle.srm_report.specs.declared.counts.Counts.{Counts}
-use Rattle.srm_report.specs.Rows.{is_join, is_leave, is_draw, is_ask, is_answer, is_report, is_arrival, is_fixed}
-use Rattle.srm_report.specs.Rows.{rows_of, sent_rows, time_of_kind, time_text}
-use Rattle.srm_report.specs.Tables.{table_of}
+use Rattle.srm_report.specs.Rows.{sent_rows, time_of_kind, time_text}
+use Rattle.srm_report.specs.Tables.{table_lines}
 
 -- the word of a role
 abbrev pub role_word : Role → List ℕ
@@ -53,4 +54,4 @@ member_rows rows m (k ∷ ks) = member_fields m k (counts_of (rows_of m rows)) �
 
 -- the table of a scenario's members that left these rows
 unfoldable pub members_table : PlainScenario → List Row → List ℕ
-members_table s rows = table_of member_columns (member_rows rows 0 s.members)
+members_table s rows = table_lines member_columns (member_rows rows 0 s.members)

@@ -8,5 +8,5 @@ unfoldable pub lines_of : List (List (List ℕ)) → List ℕ
 lines_of rows = flat_map (row_text default_writer) rows
 
 -- the table of these columns with these rows
-unfoldable pub table_of : List (List ℕ) → List (List (List ℕ)) → List ℕ
-table_of columns rows = row_text default_writer columns ++ lines_of rows
+unfoldable pub table_lines : List (List ℕ) → List (List (List ℕ)) → List ℕ
+table_lines columns rows = row_text default_writer columns ++ lines_of rows

@@ -1,11 +1,11 @@
 //! What the rows of a member say of it.
 ghost use Rattle.std.specs.Prelude.{◌≡◌, ℕ, List, ◌+◌, ◌<◌, ◌^◌, [], ◌∷◌, ◌++◌, None, ◌&&◌, cond};
 ghost use Rattle.srm_member.specs.declared.row.Row.{Row as R};
-ghost use Rattle.srm_report.specs.Counted.{IsAtMost, earlier};
+ghost use Rattle.srm_report.specs.Counted.{IsAtMost, first_known};
 ghost use Rattle.srm_report.specs.Members.{counts_of};
-ghost use Rattle.srm_report.specs.Rows as rows;
+ghost use Rattle.srm_member.specs.Kinds.{is_sent};
 
-use srm_member::row::{Row, Word};
+use srm_member::row::Row;
 use srm_member::told::Told;
 
 /// What the rows of a member say of it.
@@ -63,21 +63,21 @@ impl Counts {
             lost,
             ..
         } = row;
-        self.joined = first_time(self.joined, key.time, is_join(*cause));
-        self.left = first_time(self.left, key.time, is_leave(*cause));
-        self.drawn += one_if_sent(is_draw(*cause), *told);
-        self.heard += one_if(is_arrival(*cause));
+        self.joined = first_time(self.joined, key.time, cause.is_join());
+        self.left = first_time(self.left, key.time, cause.is_leave());
+        self.drawn += one_if_sent(cause.is_draw(), *told);
+        self.heard += one_if(cause.is_arrival());
         self.lost += lost.len() as u128;
-        self.fixed += one_if(is_fixed(*told));
-        self.requests += one_if_sent(is_ask(*cause), *told);
-        self.repairs += one_if_sent(is_answer(*cause), *told);
-        self.sessions += one_if_sent(is_report(*cause), *told);
+        self.fixed += one_if(told.is_fixed());
+        self.requests += one_if_sent(cause.is_ask(), *told);
+        self.repairs += one_if_sent(cause.is_answer(), *told);
+        self.sessions += one_if_sent(cause.is_report(), *told);
     }
 }
 
 // The time that was known before, or else this one, where it is one.
 fn first_time(known: Option<u64>, time: u64, is_one: bool) -> Option<u64>
-    ensures { result ≡ earlier known time is_one }
+    ensures { result ≡ first_known known time is_one }
 {
     match known {
         None if is_one => Some(time),
@@ -94,65 +94,7 @@ fn one_if(test: bool) -> u64
 
 // 1 where the event is of the kind asked for, and the member sent a packet.
 fn one_if_sent(is_of_kind: bool, told: Told) -> u64
-    ensures { result ≡ cond (is_of_kind && rows.is_sent told) 1 0 }
+    ensures { result ≡ cond (is_of_kind && is_sent told) 1 0 }
 {
-    one_if(is_of_kind && is_sent(told))
-}
-
-fn is_join(cause: Word) -> bool
-    ensures { result ≡ rows.is_join cause }
-{
-    matches!(cause, Word::Join)
-}
-
-fn is_leave(cause: Word) -> bool
-    ensures { result ≡ rows.is_leave cause }
-{
-    matches!(cause, Word::Leave)
-}
-
-fn is_draw(cause: Word) -> bool
-    ensures { result ≡ rows.is_draw cause }
-{
-    matches!(cause, Word::Draw)
-}
-
-fn is_ask(cause: Word) -> bool
-    ensures { result ≡ rows.is_ask cause }
-{
-    matches!(cause, Word::Ask)
-}
-
-fn is_answer(cause: Word) -> bool
-    ensures { result ≡ rows.is_answer cause }
-{
-    matches!(cause, Word::Answer)
-}
-
-fn is_report(cause: Word) -> bool
-    ensures { result ≡ rows.is_report cause }
-{
-    matches!(cause, Word::Report)
-}
-
-// A packet arrived.
-fn is_arrival(cause: Word) -> bool
-    ensures { result ≡ rows.is_arrival cause }
-{
-    matches!(
-        cause,
-        Word::Data | Word::Request | Word::Repair | Word::Session
-    )
-}
-
-fn is_sent(told: Told) -> bool
-    ensures { result ≡ rows.is_sent told }
-{
-    matches!(told, Told::Sent)
-}
-
-fn is_fixed(told: Told) -> bool
-    ensures { result ≡ rows.is_fixed told }
-{
-    matches!(told, Told::Fixed)
+    one_if(is_of_kind && told.is_sent())
 }

@@ -1,5 +1,5 @@
 -- Calls of a listener.
-use Rattle.std.proofs.Common.{◌≡◌, ℕ, Bool, true, false, cond, List, [], None, Ok, refl, sym, ap, ◌∙◌, subst}
+use Rattle.std.proofs.Common.{◌≡◌, ℕ, Bool, true, false, List, [], None, Ok, refl, sym, ap, ◌∙◌, subst}
 use Rattle.srm_net.specs.declared.packet.Name.{Name}
 use Rattle.srm_member.specs.declared.cause.Cause.{Cause}
 use Rattle.srm_member.specs.declared.told.Told.{Told}
@@ -7,14 +7,11 @@ use Rattle.srm_member.specs.declared.fixed.Fixed.{Fixed}
 use Rattle.srm_member.specs.declared.react.React.{React}
 use Rattle.srm_member.specs.Record.{MemberState, Record, Active}
 use Rattle.srm_net.specs.Roles.{is_listener}
-use Rattle.srm_member.specs.React.{quietly, react, react_active, react_listener}
+use Rattle.srm_member.specs.React.{quietly, react_listener}
 use Rattle.srm_member.specs.Reacts.{Reacts}
 use Rattle.srm_member.specs.Fit.{record_of}
+use Rattle.srm_member.proofs.LawProofs.{as_listener}
 use Rattle.srm_roles.specs.Opening.{listening}
-
-react-listener : (m : MemberState) (at : ℕ) (cause : Cause) → is_listener m.fixed.role ≡ true → react m at cause ≡ react_listener m cause
-unfolding react
-react-listener m at cause e = ap (λ b. cond b (react_listener m cause) (react_active m at cause)) e
 
 pub listener_gives : (r : Record) (gone : Bool) (f : Fixed) (held held2 : List (Name × ℕ)) (at : ℕ) (cause : Cause) (told : Told)
     (lost : List Name)
@@ -23,7 +20,7 @@ pub listener_gives : (r : Record) (gone : Bool) (f : Fixed) (held held2 : List (
     → Reacts r at cause (Ok (record { told = told; lost = lost; body = None })) (Active (listening f held2))
 listener_gives r gone f held held2 at cause told lost view on role gives none =
     let m = listening f held in
-    let e = react-listener m at cause role ∙ gives m refl in
+    let e = as_listener m at cause role ∙ gives m refl in
     subst (λ s. Reacts s at cause (Ok (record { told = told; lost = lost; body = None })) (Active (listening f held2)))
     (sym (ap (λ b. record_of b m) on) ∙ view) (
       ap (λ (l : List Name). let a : React = record { told = told; lost = l; body = None } in a) none ∙ sym (ap (λ x. x.answer) e),

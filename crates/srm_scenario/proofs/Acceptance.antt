@@ -31,6 +31,7 @@ use Rattle.srm_scenario.specs.Plain.{PlainScenario, network_of}
 use Rattle.srm_scenario.specs.Ranges.{MemberInRange, HasItsPages, InRange}
 use Rattle.srm_scenario.specs.Trees.{is_tree}
 use Rattle.srm_scenario.proofs.TreeLemmas.{tree_from_test}
+use Rattle.srm_scenario.proofs.Placed.{all_weaker}
 use Rattle.srm_net.specs.Limits.{end_of_time}
 
 -- ---- lists of faults without one
@@ -53,10 +54,6 @@ none_by fault test i (x ∷ xs) h = by (test x) refl (none_by fault test (i + 1)
         × AllByRecursion (λ y. test y ≡ true) xs
     by true e rest h = (e, rest h)
     by false e rest h = cc
-
-all_map : {A : Type 0} (P Q : A → Type 0) → ((x : A) → P x → Q x) → (xs : List A) → AllByRecursion P xs → AllByRecursion Q xs
-all_map P Q f [] h = tt
-all_map P Q f (x ∷ xs) h = (f x h.0, all_map P Q f xs h.1)
 
 -- ---- draws, session messages, drops and outages
 
@@ -287,7 +284,7 @@ accepted_from s star entries listed range its members drops h =
     let apart : IsDistinct nat_eq (map (λ k. k.node) s.members) = subst (λ (l : List MemberSpec). IsDistinct nat_eq (map (λ k. k.node) l))
     (sym members) (nodes_apart s.until s.nodes star [] 0 entries placed) in
     let listed_fit = all_once drop_cmp (IsDrop s) listed
-    (all_map _ (IsDrop s) (drop_fits s) listed (none_by BadDrop (fits_drop (length s.links) (length s.members)) 0 listed dropped)) in
+    (all_weaker _ (IsDrop s) (drop_fits s) listed (none_by BadDrop (fits_drop (length s.links) (length s.members)) 0 listed dropped)) in
     record {
       some_ticks = range.some_ticks;
       few_ticks = range.few_ticks;
@@ -298,15 +295,16 @@ accepted_from s star entries listed range its members drops h =
         hosts = (All-from_recursion (λ n. n < s.nodes) _ hosts, apart);
       };
       members = All-from_recursion (IsMember s.until) s.members fit;
-      draws = All-from_recursion (IsDraw s) s.draws (all_map _ (IsDraw s)
+      draws = All-from_recursion (IsDraw s) s.draws (all_weaker _ (IsDraw s)
           (draw_fits s) s.draws (none_by BadDraw (fits_draw s.until s.members) 0 s.draws drawn));
       few_draws = range.few_draws;
       sessions = All-from_recursion (IsSession s) s.sessions
-          (all_map _ (IsSession s) (session_fits s) s.sessions (none_by BadSession (fits_session s.until s.members) 0 s.sessions told));
+          (all_weaker _ (IsSession s) (session_fits s) s.sessions (none_by BadSession (fits_session s.until s.members) 0 s.sessions told));
       few_sessions = range.few_sessions;
       drops = All-from_recursion (IsDrop s) s.drops.listed
           (subst (λ (l : List DropSpec). AllByRecursion (IsDrop s) l) (sym drops) listed_fit);
       drops_ascend = subst (λ (l : List DropSpec). Rattle.srm_net.specs.Orders.Ascends drop_cmp l) (sym drops) (drops_ascend listed);
       outages = All-from_recursion (IsOutage s) s.drops.outages
-          (all_map _ (IsOutage s) (outage_fits s) s.drops.outages (none_by BadOutage (fits_outage (length s.links)) 0 s.drops.outages out));
+          (all_weaker _ (IsOutage s) (outage_fits s) s.drops.outages
+          (none_by BadOutage (fits_outage (length s.links)) 0 s.drops.outages out));
     }

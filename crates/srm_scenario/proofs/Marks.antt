@@ -1,5 +1,5 @@
 -- The order of marks.
-use Rattle.std.proofs.Common.{◌≡◌, ℕ, Bool, List, [], ◌∷◌, ◌++◌, Option, Some, Ordering, Less, Equal, Greater, nat_cmp, is_lt, refl, sym}
+use Rattle.std.proofs.Common.{◌≡◌, ℕ, Bool, List, [], ◌∷◌, ◌++◌, Option, Some, Ordering, nat_cmp, is_lt, sym}
 use Rattle.std.proofs.Common.{ap, ◌∙◌, subst}
 use Rattle.std.proofs.lemmas.Cmp.{nat_list_cmp_total}
 use Rattle.std.proofs.lemmas.List.Sorted.{ranks_by}
@@ -8,6 +8,7 @@ use Rattle.std.specs.List.Sorted.{IsSortedBy, IsStableBy}
 use Rattle.std.specs.Ordering.{ordering_then}
 use Rattle.std.specs.List.{slice_get}
 use Rattle.srm_net.specs.Orders.{ordered, Rises}
+use Rattle.srm_net.proofs.Basics.{regrouped}
 use Rattle.srm_scenario.specs.declared.mark.Mark.{Mark}
 use Rattle.srm_scenario.specs.declared.parts.MemberSpec.{MemberSpec}
 use Rattle.srm_scenario.specs.declared.parts.DrawSpec.{DrawSpec}
@@ -18,15 +19,6 @@ use Rattle.srm_scenario.proofs.Sorting.{ordered-from_sort, Rises-ordered}
 -- the order of the tuples by which the code sorts
 abbrev pub keyed : Mark → Mark → Ordering
 keyed x y = ordering_then (ordering_then (nat_cmp x.at y.at) (nat_cmp x.rank y.rank)) (nat_cmp x.place y.place)
-
-regrouped : (a b c : Ordering) → ordering_then (ordering_then a b) c ≡ ordering_then a (ordering_then b (ordering_then c Equal))
-regrouped Less b c = refl
-regrouped Equal Less c = refl
-regrouped Equal Equal Less = refl
-regrouped Equal Equal Equal = refl
-regrouped Equal Equal Greater = refl
-regrouped Equal Greater c = refl
-regrouped Greater b c = refl
 
 keyed-is : (x y : Mark) → keyed x y ≡ mark_cmp x y
 keyed-is x y = regrouped (nat_cmp x.at y.at) (nat_cmp x.rank y.rank) (nat_cmp x.place y.place)

@@ -1,7 +1,6 @@
 -- Lists that ascend and have the same elements are one.
 use Rattle.std.proofs.Common.{◌≡◌, ◌⊎◌, ◌↔◌, zero, suc, List, [], ◌∷◌, Contains, Ordering, Less, Greater, refl}
 use Rattle.std.proofs.Common.{sym, ap, ◌∙◌, subst, inl, inr, arith}
-use Rattle.std.proofs.lemmas.Cmp.{nat_list_cmp_total, on_total}
 use Rattle.std.specs.Cmp.{IsTotalOrder}
 use Rattle.std.specs.Ordering.{ordering_reverse}
 use Rattle.srm_net.specs.declared.link.DropSpec.{DropSpec}
@@ -9,6 +8,7 @@ use Rattle.srm_net.specs.DropSets.{ordered_once}
 use Rattle.srm_net.specs.Orders.{AllAfter, Ascends}
 use Rattle.srm_net.specs.Paths.{drop_cmp}
 use Rattle.srm_net.proofs.DropLemmas.{drops_ascend, listed_ordered, contains_listed, listed_contains}
+use Rattle.srm_net.proofs.TotalOrders.{drop_total}
 
 Among : {A : Type 0} → A → List A → Type 0
 Among x [] = ⊥
@@ -68,9 +68,6 @@ module _ {A : Type 0} (cmp : A → A → Ordering) (o : IsTotalOrder cmp) where
       let back : (d : A) → Among d (x ∷ ys) → Among d (x ∷ xs) = subst (λ t. (d : A) → Among d (t ∷ ys) → Among d (x ∷ xs)) (sym heads) g in
       ap (λ (t : A). t ∷ xs) heads ∙ ap (λ (l : List A). y ∷ l)
       (one_list xs ys up.1 vp.1 (tail_among x xs ys up.0 there) (tail_among x ys xs vp0 back))
-
-drop_total : IsTotalOrder drop_cmp
-drop_total = on_total (λ (d : DropSpec). d.link ∷ d.id.sender ∷ d.id.count ∷ []) nat_list_cmp_total
 
 -- drops that ascend, and are those listed, are the listed ones in order, each once
 pub drops_once : (xs listed : List DropSpec) → Ascends drop_cmp xs → ((d : DropSpec) → Contains xs d ↔ Contains listed d) → xs

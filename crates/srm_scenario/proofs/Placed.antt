@@ -4,7 +4,8 @@ use Rattle.std.proofs.Common.{Equal, Greater, is_lt, true≢false}
 use Rattle.std.specs.Ordering.{ordering_reverse}
 use Rattle.std.specs.Cmp.{IsTotalOrder}
 use Rattle.std.specs.List.{AllByRecursion}
-use Rattle.srm_net.specs.Orders.{place, ordered, AllAfter, Ascends}
+use Rattle.srm_net.specs.Orders.{place, ordered, Ascends}
+use Rattle.srm_net.proofs.Basics.{is_Less, after_place, after_less}
 
 -- no two elements are equal to the order
 abbrev pub Apart : {A : Type 0} → (A → A → Ordering) → List A → Type 0
@@ -42,11 +43,6 @@ apart_append cmp [] ys h g f = g
 apart_append cmp (x ∷ xs) ys h g f = (all_append _ xs ys h.0 f.0, apart_append cmp xs ys h.1 g f.1)
 
 module _ {A : Type 0} (cmp : A → A → Ordering) (o : IsTotalOrder cmp) where
-  is_Less : (r : Ordering) → is_lt r ≡ true → r ≡ Less
-  is_Less Less h = refl
-  is_Less Equal h = absurd (true≢false (sym h))
-  is_Less Greater h = absurd (true≢false (sym h))
-
   -- not less and not equal is greater
   is_after : (x y : A) → is_lt (cmp y x) ≡ false → cmp x y ≢ Equal → cmp x y ≡ Less
   is_after x y h n = elim (cmp x y) as (λ r. cmp x y ≡ r → cmp x y ≡ Less) [
@@ -55,23 +51,11 @@ module _ {A : Type 0} (cmp : A → A → Ordering) (o : IsTotalOrder cmp) where
     | Greater ↦ λ e. absurd (true≢false (sym (ap is_lt (o.antisymm y x ∙ ap ordering_reverse e)) ∙ h))
   ] refl
 
-  after_cond : (k : A) (b : Bool) (xs ys : List A) → AllAfter cmp k xs → AllAfter cmp k ys → AllAfter cmp k (cond b xs ys)
-  after_cond k true xs ys h g = h
-  after_cond k false xs ys h g = g
-
-  after_place : (k x : A) (ys : List A) → cmp k x ≡ Less → AllAfter cmp k ys → AllAfter cmp k (place cmp x ys)
-  after_place k x [] h g = (h, tt)
-  after_place k x (y ∷ ys) h g = after_cond k (is_lt (cmp y x)) (y ∷ place cmp x ys) (x ∷ y ∷ ys) (g.0, after_place k x ys h g.1) (h, g)
-
-  after_trans : (k x : A) (ys : List A) → cmp k x ≡ Less → AllAfter cmp x ys → AllAfter cmp k ys
-  after_trans k x [] h g = tt
-  after_trans k x (y ∷ ys) h g = (o.trans k x y h g.0, after_trans k x ys h g.1)
-
   ascends_place : (x : A) (ys : List A) → AllByRecursion (λ y. cmp x y ≢ Equal) ys → Ascends cmp ys → Ascends cmp (place cmp x ys)
   ascends_place x [] n h = (tt, tt)
   ascends_place x (y ∷ ys) n h = elim (is_lt (cmp y x)) as (λ b. is_lt (cmp y x) ≡ b → Ascends cmp (place cmp x (y ∷ ys))) [
-    | true ↦ λ e. rw e (after_place y x ys (is_Less _ e) h.0, ascends_place x ys n.1 h.1)
-    | false ↦ λ e. rw e (let l : cmp x y ≡ Less = is_after x y e n.0 in ((l, after_trans x y ys l h.0), h))
+    | true ↦ λ e. rw e (after_place cmp o y x ys (is_Less _ e) h.0, ascends_place x ys n.1 h.1)
+    | false ↦ λ e. rw e (let l : cmp x y ≡ Less = is_after x y e n.0 in ((l, after_less cmp o x y ys l h.0), h))
   ] refl
 
   -- in order they ascend

@@ -6,6 +6,7 @@ use Rattle.std.specs.List.{AllByRecursion}
 use Rattle.std.specs.Cmp.{IsTotalOrder, on_total}
 use Rattle.std.specs.Cmp.Lexicographic.{nat_list_cmp_total}
 use Rattle.std.specs.FinMap.{slice_cmp-IsAntisymmetric, nat_cmp-IsAntisymmetric}
+use Rattle.std.proofs.lemmas.Option.{same_Some}
 use Rattle.srm_net.specs.declared.role.Role.TheVariants.{Sender, Listener}
 use Rattle.srm_net.specs.Orders.{ordered, Ascends}
 use Rattle.srm_scenario.specs.declared.mark.Mark.{Mark}
@@ -112,12 +113,6 @@ ranks_apart : (r q : ℕ) (i j : ℕ) (xs ys : List Mark) → r < q → AllByRec
 ranks_apart r q i j xs ys lt h g =
     all_weaker (Later r i) _ (λ x w. all_weaker (Later q j) _ (λ y v. other_rank x y (let a = w.0 in let b = v.0 in omega arith)) ys g) xs h
 
-both_ranks : (r : ℕ) (xs ys zs : List Mark) → AllByRecursion (λ x. AllByRecursion (λ y. mark_cmp x y ≢ Equal) ys) xs
-    → AllByRecursion (λ x. AllByRecursion (λ y. mark_cmp x y ≢ Equal) zs) xs
-    → AllByRecursion (λ x. AllByRecursion (λ y. mark_cmp x y ≢ Equal) (ys ++ zs)) xs
-both_ranks r [] ys zs h g = tt
-both_ranks r (x ∷ xs) ys zs h g = (all_append _ ys zs h.0 g.0, both_ranks r xs ys zs h.1 g.1)
-
 abbrev pub marks_by : PlainScenario → ℕ → MemberSpec → List Mark
 marks_by s m k = plain_mark k.join 0 0 ∷ draw_marks m 0 s.draws ++ report_marks m 0 s.sessions ++ leave_marks k.leave
 
@@ -207,15 +202,12 @@ join_is until k h = record {
   leave = λ z. absurd (omega arith);
 }
 
-Some-injective : (a b : ℕ) → Some a ≡ Some b → a ≡ b
-Some-injective a b e = cc
-
 leave_is : (until : ℕ) (k : MemberSpec) → IsMember until k → (at : ℕ) → k.leave ≡ Some at → IsMark until k (plain_mark at 6 0)
 leave_is until k h at e = record {
   rank = inr (omega arith);
   last_rank = omega arith;
   joined = let f = (h.leave at e).0 in omega arith;
-  stays = λ end g. let f = Some-injective at end (sym e ∙ g) in omega arith;
+  stays = λ end g. let f = same_Some at end (sym e ∙ g) in omega arith;
   early = λ z. absurd (omega arith);
   join = λ z. absurd (omega arith);
   draw = λ z. absurd (omega arith);

@@ -1,7 +1,7 @@
 -- The test of a tree, and what a tree is.
 use Rattle.std.proofs.Common.{◌≡◌, ℕ, zero, suc, ◌+◌, ◌<◌, Bool, true, false, List, [], ◌∷◌, length, Option, Some, None, is_some, nat_le}
 use Rattle.std.proofs.Common.{nat_lt, refl, ap, arith, inl, inr, eqb}
-use Rattle.std.proofs.lemmas.Bool.{and_parts, cases_Bool, false≢true}
+use Rattle.std.proofs.lemmas.Bool.{and_parts, cases_Bool, false≢true, and_from}
 use Rattle.std.proofs.lemmas.Bool.Decides.{nat_tests}
 use Rattle.std.proofs.lemmas.List.Elements.{recursion_from_All, All-from_recursion}
 use Rattle.std.specs.List.{list_all, AllByRecursion, IsDistinct}
@@ -12,9 +12,6 @@ use Rattle.srm_net.specs.Paths.{route_within}
 use Rattle.srm_net.proofs.Numbers.{apart_from_distinct, distinct_from_apart}
 use Rattle.srm_net.proofs.RouteLemmas.{Found, found_path, path_found, path_length}
 use Rattle.srm_scenario.specs.Trees.{all_below, has_way, is_tree}
-
-pub both : (a b : Bool) → a ≡ true → b ≡ true → (a && b) ≡ true
-both a b p q = (λ i. p i && q i)
 
 below_all : (test : ℕ → Bool) (n k : ℕ) → all_below test n ≡ true → k < n → test k ≡ true
 below_all test zero k h lt = absurd (omega arith)
@@ -27,13 +24,14 @@ below_all test (suc n) k h lt =
 
 all_from_below : (test : ℕ → Bool) (n : ℕ) → ((k : ℕ) → k < n → test k ≡ true) → all_below test n ≡ true
 all_from_below test zero h = refl
-all_from_below test (suc n) h = both _ _ (h n (omega arith)) (all_from_below test n (λ k lt. h k (omega arith)))
+all_from_below test (suc n) h = and_from _ _ (h n (omega arith)) (all_from_below test n (λ k lt. h k (omega arith)))
 
 within_both : (n : ℕ) (k : LinkSpec) → (nat_lt k.a n && nat_lt k.b n) ≡ true → IsWithin n k
 within_both n k h = let (p, q) = and_parts (nat_lt k.a n) (nat_lt k.b n) h in (grind (arith, nat_tests), grind (arith, nat_tests))
 
 both_within : (n : ℕ) (k : LinkSpec) → IsWithin n k → (nat_lt k.a n && nat_lt k.b n) ≡ true
-both_within n k h = let p = h.0 in let q = h.1 in both (nat_lt k.a n) (nat_lt k.b n) (grind (arith, nat_tests)) (grind (arith, nat_tests))
+both_within n k h = let p = h.0 in let q = h.1 in
+    and_from (nat_lt k.a n) (nat_lt k.b n) (grind (arith, nat_tests)) (grind (arith, nat_tests))
 
 ends_all : (n : ℕ) (ks : List LinkSpec) → list_all (λ k. nat_lt k.a n && nat_lt k.b n) ks ≡ true → AllByRecursion (IsWithin n) ks
 ends_all n [] h = tt
@@ -43,7 +41,7 @@ ends_all n (k ∷ ks) h =
 
 all_ends : (n : ℕ) (ks : List LinkSpec) → AllByRecursion (IsWithin n) ks → list_all (λ k. nat_lt k.a n && nat_lt k.b n) ks ≡ true
 all_ends n [] h = refl
-all_ends n (k ∷ ks) h = both _ _ (both_within n k h.0) (all_ends n ks h.1)
+all_ends n (k ∷ ks) h = and_from _ _ (both_within n k h.0) (all_ends n ks h.1)
 
 some_found : (o : Option (List ℕ)) → is_some o ≡ true → Found o
 some_found None h = absurd (false≢true h)
@@ -90,9 +88,9 @@ test_from_tree w t =
     let some = t.some_nodes in
     let few = t.few_nodes in
     let fewer = t.one_fewer in
-    both (nat_le 1 n) _ (grind (arith, nat_tests)) (both (nat_le n 1024) _
-    (grind (arith, nat_tests)) (both _ _ (all_ends n w.links (recursion_from_All (IsWithin n) w.links t.ends))
-    (both (length w.links + 1 == n) _ (grind (arith, nat_tests))
+    and_from (nat_le 1 n) _ (grind (arith, nat_tests)) (and_from (nat_le n 1024) _
+    (grind (arith, nat_tests)) (and_from _ _ (all_ends n w.links (recursion_from_All (IsWithin n) w.links t.ends))
+    (and_from (length w.links + 1 == n) _ (grind (arith, nat_tests))
     (all_from_below _ n (λ u hu. all_from_below _ n (λ v hv. path_way w t u v hu hv))))))
 
 -- hosts play no part in it

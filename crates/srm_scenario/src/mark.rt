@@ -5,7 +5,7 @@
 pub struct Mark {
     /// When it is, in ticks.
     pub at: u64,
-    /// The rank of its event: 0 a join, 4 a draw, 5 a report, 6 a leave.
+    /// The rank of its event: that of a join, of a draw, of a report or of a leave.
     pub rank: u8,
     /// Its place among the scenario's draws or sessions, from 0; 0 for a join or a leave.
     pub place: u16,

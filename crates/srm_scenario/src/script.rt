@@ -6,6 +6,7 @@ ghost use Rattle.srm_scenario.specs.Plain.{mark_cmp, plain_mark, draw_marks, rep
 
 use crate::mark::Mark;
 use crate::parts::{DrawSpec, SessionSpec};
+use srm_net::rank;
 use std::alloc::{AllocError, Global};
 
 /// Appends the marks of a member's draws.
@@ -21,7 +22,7 @@ pub(crate) fn push_draws(
         if draw.member == m {
             marks.push(Mark {
                 at: draw.at,
-                rank: 4,
+                rank: rank::DRAW,
                 place: i as u16,
                 page: draw.page,
                 ink: draw.ink,
@@ -44,7 +45,7 @@ pub(crate) fn push_reports(
         if session.member == m {
             marks.push(Mark {
                 at: session.at,
-                rank: 5,
+                rank: rank::REPORT,
                 place: i as u16,
                 page: 0,
                 ink: 0,
@@ -78,7 +79,7 @@ pub(crate) fn script_of(
     let mut marks = Vec::new(alloc);
     marks.push(Mark {
         at: join,
-        rank: 0,
+        rank: rank::JOIN,
         place: 0,
         page: 0,
         ink: 0,
@@ -88,7 +89,7 @@ pub(crate) fn script_of(
     if let Some(at) = leave {
         marks.push(Mark {
             at,
-            rank: 6,
+            rank: rank::LEAVE,
             place: 0,
             page: 0,
             ink: 0,

@@ -2,9 +2,9 @@ use Rattle.std.proofs.Common.{rules, ◌∙◌, ◌≤◌, sym, subst}
 use Rattle.std.proofs.lemmas.List.Sorted.{IsPartitionPoint-from_clause}
 use Rattle.srm_cell.specs.InboxLines.{goes_before, IsPlaceIn}
 use Rattle.srm_cell.specs.Flights.{flight_cmp}
-use Rattle.srm_cell.proofs.Entries.{flight_total}
 use Rattle.srm_cell.proofs.InboxLines.{flight_at, last_place, partitioned}
 use Rattle.srm_cell.proofs.inbox.place_in.Goals as goal
+use Rattle.srm_cell.proofs.CellSteps.{flight_total}
 
 pub returns-then-is_in_turn : goal.returns-then-is_in_turn
 returns-then-is_in_turn c =

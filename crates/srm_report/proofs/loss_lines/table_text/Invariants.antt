@@ -5,12 +5,12 @@ use Rattle.srm_report.specs.declared.course.Course.{Course}
 use Rattle.srm_report.specs.declared.loss.Loss.{Loss}
 use Rattle.srm_report.specs.Courses.{TellLosses}
 use Rattle.srm_report.specs.Losses.{loss_columns, loss_row}
-use Rattle.srm_report.specs.Tables.{table_of}
+use Rattle.srm_report.specs.Tables.{table_lines}
 use Rattle.srm_report.proofs.loss_lines.table_text.Given as goal
 
 -- the header and the rows of the losses so far were written, whichever rows they are of
 abbrev pub invariant-loop-entry : goal.invariant-loop-entry
 invariant-loop-entry l =
     (rows : List Row) → IsOrderly (length l.net.hosts) rows → TellLosses rows l.entries
-    → l.text.items ≡ table_of loss_columns
+    → l.text.items ≡ table_lines loss_columns
     (map (loss_row l.net rows) (take l.entry-index (map (λ (e : Loss × Course). e.0) l.entries)))

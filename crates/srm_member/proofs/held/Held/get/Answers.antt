@@ -1,8 +1,8 @@
 use Rattle.std.proofs.Common.{◌∙◌, sym, ap, subst, Some, T, slice_index_or}
 use Rattle.std.specs.FinMap.Entries.{is_sorted}
 use Rattle.srm_net.specs.Names.{name_cmp}
+use Rattle.srm_net.proofs.TotalOrders.{name_total, tied_names}
 use Rattle.srm_member.proofs.PlaceLemmas.{found_there, nothing_there}
-use Rattle.srm_member.proofs.TableChanges.{name_total, tied_names}
 use Rattle.srm_member.proofs.held.Held.get.Goals as goal
 
 pub returns-then-is_at : goal.returns-then-is_at

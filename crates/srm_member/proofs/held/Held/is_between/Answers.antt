@@ -3,10 +3,10 @@ use Rattle.std.specs.Bool.{IsTrue}
 use Rattle.std.specs.FinMap.Entries.{is_sorted}
 use Rattle.srm_net.specs.declared.packet.Name.{Name}
 use Rattle.srm_net.specs.Names.{name_cmp}
+use Rattle.srm_net.proofs.TotalOrders.{name_total, tied_names}
 use Rattle.srm_member.specs.Places.{is_before, IsPlaceOf}
 use Rattle.srm_member.proofs.NameTests.{name_lt}
 use Rattle.srm_member.proofs.PlaceLemmas.{place_between}
-use Rattle.srm_member.proofs.TableChanges.{name_total, tied_names}
 use Rattle.srm_member.proofs.held.Held.is_between.Goals as goal
 use Rattle.srm_member.proofs.held.Held.is_between.Goals.{in-Some, in-None, in-Some-first, in-None-first}
 

@@ -2,10 +2,10 @@ use Rattle.std.proofs.Common.{rules, ◌≡◌, ◌∙◌, sym, subst, true, T}
 use Rattle.std.proofs.lemmas.List.Sorted.{IsPartitionPoint-from_clause}
 use Rattle.std.specs.FinMap.Entries.{is_sorted}
 use Rattle.srm_net.specs.Names.{name_cmp}
+use Rattle.srm_net.proofs.TotalOrders.{name_total, tied_names}
 use Rattle.srm_member.specs.Places.{is_before, IsPlaceOf}
 use Rattle.srm_member.proofs.NameTests.{name_lt}
 use Rattle.srm_member.proofs.PlaceLemmas.{partitioned, place_at_end}
-use Rattle.srm_member.proofs.TableChanges.{name_total, tied_names}
 use Rattle.srm_member.proofs.held.Held.place.Goals as goal
 
 pub returns-then-lt : goal.returns-then-lt

@@ -1,8 +1,9 @@
 use Rattle.std.proofs.Common.{◌≡◌, ◌∙◌, sym, ap, subst, T, slice_set, insert}
 use Rattle.std.specs.FinMap.Entries.{put, is_sorted}
 use Rattle.srm_net.specs.Names.{name_cmp}
+use Rattle.srm_net.proofs.TotalOrders.{name_total, tied_names}
 use Rattle.srm_member.proofs.PlaceLemmas.{put_over, put_between}
-use Rattle.srm_member.proofs.TableChanges.{name_total, tied_names, sorted_put}
+use Rattle.srm_member.proofs.TableChanges.{sorted_put}
 use Rattle.srm_member.proofs.held.Held.put.Goals as goal
 
 pub returns-then-is_at-clause-ok : goal.returns-then-is_at-clause-ok

@@ -1,8 +1,8 @@
 use Rattle.std.proofs.Common.{◌∙◌, sym, ap, subst, Some, T, slice_index_or}
 use Rattle.std.specs.FinMap.Entries.{is_sorted}
 use Rattle.srm_net.specs.Names.{page_cmp}
+use Rattle.srm_net.proofs.TotalOrders.{page_total, tied_pages}
 use Rattle.srm_member.proofs.PlaceLemmas.{found_there, nothing_there}
-use Rattle.srm_member.proofs.TableChanges.{page_total, tied_pages}
 use Rattle.srm_member.proofs.pages.Pages.get.Goals as goal
 
 pub returns-then-is_at : goal.returns-then-is_at

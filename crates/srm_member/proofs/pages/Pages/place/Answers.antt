@@ -2,9 +2,9 @@ use Rattle.std.proofs.Common.{rules, ◌∙◌, sym, subst, T}
 use Rattle.std.proofs.lemmas.List.Sorted.{IsPartitionPoint-from_clause}
 use Rattle.std.specs.FinMap.Entries.{is_sorted}
 use Rattle.srm_net.specs.Names.{page_cmp}
+use Rattle.srm_net.proofs.TotalOrders.{page_total, tied_pages}
 use Rattle.srm_member.specs.Places.{is_before, IsPlaceOf}
 use Rattle.srm_member.proofs.PlaceLemmas.{partitioned}
-use Rattle.srm_member.proofs.TableChanges.{page_total, tied_pages}
 use Rattle.srm_member.proofs.pages.Pages.place.Goals as goal
 
 pub returns : goal.returns

@@ -4,9 +4,9 @@ use Rattle.smallvec.proofs.SmallVecLemmas.{items-with_items}
 use Rattle.std.specs.FinMap.Entries.{is_sorted, is_sorted-put}
 use Rattle.srm_net.specs.declared.packet.PageId.{PageId}
 use Rattle.srm_net.specs.Names.{page_cmp}
+use Rattle.srm_net.proofs.TotalOrders.{page_total, tied_pages}
 use Rattle.srm_member.specs.Record.{Progress}
 use Rattle.srm_member.proofs.PlaceLemmas.{put_over, put_between}
-use Rattle.srm_member.proofs.TableChanges.{page_total, tied_pages}
 use Rattle.srm_member.proofs.pages.Pages.put.Goals as goal
 
 pub returns-then-is_at-clause-ok : goal.returns-then-is_at-clause-ok

@@ -1,5 +1,0 @@
-use Rattle.std.proofs.Common.{◌≡◌}
-use Rattle.srm_calls.proofs.ledger_tests.threads.add_to_link.Given as goal
-
-abbrev pub invariant-loop-place : goal.invariant-loop-place
-invariant-loop-place l = l.seat.ledger ≡ l.ledger.name

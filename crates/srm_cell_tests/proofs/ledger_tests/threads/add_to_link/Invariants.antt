@@ -1,0 +1,5 @@
+use Rattle.std.proofs.Common.{◌≡◌}
+use Rattle.srm_cell_tests.proofs.ledger_tests.threads.add_to_link.Given as goal
+
+abbrev pub invariant-loop-place : goal.invariant-loop-place
+invariant-loop-place l = l.seat.ledger ≡ l.ledger.name

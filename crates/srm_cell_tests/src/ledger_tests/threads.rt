@@ -1,0 +1,173 @@
+//! Threads that add at once, each with a seat of its own.
+ghost use Rattle.std.specs.Prelude.{◌≡◌, ◌<◌, ◌≤◌, ◌+◌, ◌*◌, length, IfOk};
+ghost use denote.Param.Send.{IsSync};
+
+use crate::ledger_tests::stories::{attempt_twice, halves, open};
+use srm_ledger::kind::Kind;
+use srm_ledger::ledger::Ledger;
+use srm_ledger::seat::Seat;
+use srm_ledger::totals::Totals;
+use std::alloc::{AllocError, Global};
+use std::process::Abort;
+use std::thread::{Threads, join};
+
+// The kinds in the order of their places.
+const KINDS: [Kind; 5] = [
+    Kind::Drawop,
+    Kind::Request,
+    Kind::Repair,
+    Kind::Session,
+    Kind::Dropped,
+];
+
+// What each thread adds.
+#[derive(Clone, Copy)]
+enum Work {
+    // 1 to the requests of the first link, so often.
+    Requests { times: u32 },
+    // 1 to the first number of the first link, 2 to its second, and so on over all links, so often.
+    Everywhere { times: u32 },
+}
+
+// The number that is added to a kind of a link.
+fn number(link: usize, place: usize) -> u64
+    requires { (link < 1023) × (place < 5) }
+    ensures { result ≡ 5 * link + place + 1 }
+{
+    (5 * link + place + 1) as u64
+}
+
+fn add_requests(ledger: &Ledger, seat: Seat, times: u32) -> Seat
+    requires ledger { seat.ledger ≡ ledger.now.name }
+    requires link { 0 < ledger.now.links }
+    ensures { result.ledger ≡ ledger.now.name }
+{
+    let mut seat = seat;
+    for _ in 0..times {
+        let _ = ledger.add(&mut seat, 0, Kind::Request, 1);
+    }
+    seat
+}
+
+fn add_to_link(ledger: &Ledger, seat: Seat, link: usize) -> Seat
+    requires ledger { seat.ledger ≡ ledger.now.name }
+    requires link { (link < ledger.now.links) × (ledger.now.links ≤ 1023) }
+    ensures { result.ledger ≡ ledger.now.name }
+{
+    let mut seat = seat;
+    for place in 0..5 {
+        let _ = ledger.add(&mut seat, link, KINDS[place], number(link, place));
+    }
+    seat
+}
+
+fn add_to_all(ledger: &Ledger, seat: Seat) -> Seat
+    requires { seat.ledger ≡ ledger.now.name }
+    ensures { result.ledger ≡ ledger.now.name }
+{
+    let mut seat = seat;
+    for link in 0..ledger.links() {
+        seat = add_to_link(ledger, seat, link);
+    }
+    seat
+}
+
+fn add_everywhere(ledger: &Ledger, seat: Seat, times: u32) -> Seat
+    requires { seat.ledger ≡ ledger.now.name }
+    ensures { result.ledger ≡ ledger.now.name }
+{
+    let mut seat = seat;
+    for _ in 0..times {
+        seat = add_to_all(ledger, seat);
+    }
+    seat
+}
+
+// So many threads, each with a seat of its own, and all seats in one again.
+fn add_in_threads<R: Abort + Threads + Sync>(
+    rt: &R,
+    alloc: Global,
+    ledger: &Ledger,
+    seat: Seat,
+    threads: u8,
+    work: Work,
+) -> Result<Seat, AllocError>
+    requires ledger { seat.ledger ≡ ledger.now.name }
+    requires link { 0 < ledger.now.links }
+    ensures { IfOk result (λ s. s.ledger ≡ ledger.now.name) }
+{
+    if threads <= 1 {
+        return Ok(match work {
+            Work::Requests { times } => add_requests(ledger, seat, times),
+            Work::Everywhere { times } => add_everywhere(ledger, seat, times),
+        });
+    }
+    let (seat, other) = halves(rt, alloc, ledger, seat)?;
+    let less = threads / 2;
+    let more = threads - less;
+    let (first, second) = join(
+        rt,
+        move || -> Result<Seat, AllocError>
+            requires { IsSync R.row × (seat.ledger ≡ ledger.now.name) × (0 < ledger.now.links) }
+            ensures { IfOk result (λ s. s.ledger ≡ ledger.entry.now.name) }
+        { add_in_threads(rt, alloc, ledger, seat, more, work) },
+        move || -> Result<Seat, AllocError>
+            requires { IsSync R.row × (other.ledger ≡ ledger.now.name) × (0 < ledger.now.links) }
+            ensures { IfOk result (λ s. s.ledger ≡ ledger.entry.now.name) }
+        { add_in_threads(rt, alloc, ledger, other, less, work) },
+    );
+    let Ok(both) = ledger.join(first?, second?) else {
+        assert!(rt; false, "not joined");
+        return Err(AllocError);
+    };
+    Ok(both)
+}
+
+// What a ledger closes at after threads have added.
+fn totals_of_threads<R: Abort + Threads + Sync>(
+    rt: &R,
+    alloc: Global,
+    links: usize,
+    threads: u8,
+    work: Work,
+) -> Result<Totals, AllocError>
+    requires { (0 < links) × (links ≤ 1023) }
+    ensures { IfOk result (λ t. length t ≡ 5 * links) }
+{
+    let (ledger, seat) = open(alloc, links)?;
+    let seat = add_in_threads(rt, alloc, &ledger, seat, threads, work)?;
+    let Ok(totals) = ledger.close(seat) else {
+        assert!(rt; false, "not closed");
+        return Err(AllocError);
+    };
+    Ok(totals)
+}
+
+fn add_from_two<R: Abort + Threads + Sync>(rt: &R, alloc: Global) -> Result<(), AllocError> {
+    let work = Work::Requests { times: 1000 };
+    let totals = totals_of_threads(rt, alloc, 1, 2, work)?;
+    assert_eq!(rt; totals.links(), [[0, 2000, 0, 0, 0]].as_slice());
+    Ok(())
+}
+
+#[test]
+fn two_threads_add_a_thousand_each(rt: HostRuntime) -> Result<(), AllocError> {
+    attempt_twice(&rt, || add_from_two(&rt, rt.alloc()))
+}
+
+fn add_from_eight<R: Abort + Threads + Sync>(rt: &R, alloc: Global) -> Result<(), AllocError> {
+    let work = Work::Everywhere { times: 20 };
+    let totals = totals_of_threads(rt, alloc, 255, 8, work)?;
+    for link in 0..255 {
+        for place in 0..5 {
+            let total = totals.number(link, KINDS[place]);
+            assert_eq!(rt; total, 160 * number(usize::from(link), place));
+        }
+    }
+    Ok(())
+}
+
+#[test]
+fn eight_threads_add_to_all_kinds_of_all_links(rt: HostRuntime) -> Result<(), AllocError> {
+    attempt_twice(&rt, || add_from_eight(&rt, rt.alloc()))
+}

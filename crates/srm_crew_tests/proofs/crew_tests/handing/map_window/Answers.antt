@@ -1,0 +1,23 @@
+use Rattle.std.proofs.Common.{◌∙◌, length}
+use Rattle.srm_crew_tests.proofs.HandedLemmas.{known_done, same_ledger}
+use Rattle.srm_crew_tests.proofs.crew_tests.handing.map_window.Goals as goal
+
+pub map-requires-clause-jobs : goal.map-requires-clause-jobs
+map-requires-clause-jobs g c = c.requires.jobs.jobs
+
+pub map-requires-clause-many : goal.map-requires-clause-many
+map-requires-clause-many g c = c.requires.jobs.few
+
+pub map-requires-clause-places : goal.map-requires-clause-places
+map-requires-clause-places g c = c.requires.jobs.places
+
+pub next_jobs-requires-clause-known : goal.next_jobs-requires-clause-known
+next_jobs-requires-clause-known g c =
+    known_done (λ b. (goal.Member-dyn g (b.vtable, b.value)).plain b.value) (length c.args.net.now.hosts) c.args.scenario.now c.args.net.now
+    c.args.seat c.args.jobs.items c.in-Ok.mapped c.requires.jobs c.in-Ok.ensures.done
+
+pub returns-clause-seat : goal.returns-clause-seat
+returns-clause-seat g c =
+    same_ledger (λ b. (goal.Member-dyn g (b.vtable, b.value)).plain b.value) (length c.args.net.now.hosts) c.args.scenario.now
+    c.args.net.now c.args.seat c.args.jobs.items c.in-Ok.mapped c.requires.jobs c.in-Ok.ensures.done
+    ∙ c.requires.seat

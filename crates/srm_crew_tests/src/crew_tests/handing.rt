@@ -1,0 +1,178 @@
+//! Jobs of single cells, as crews are handed them.
+ghost use Rattle.std.specs.Prelude.{◌≡◌, ◌≤◌, length, map, All, IfOk};
+ghost use Rattle.srm_net.specs.Limits.{end_of_time, most_sent};
+ghost use Rattle.srm_net.specs.Orders.{Rises};
+ghost use Rattle.srm_scenario.specs.Plain.{mark_cmp, network_of};
+ghost use Rattle.srm_member.specs.Record.{fixed_part};
+ghost use Rattle.srm_crew_tests.specs.Handed.{MayMap, AreKnown};
+
+use crate::crew_tests::seen::Window;
+use srm_cell::cell::Cell;
+use srm_cell::job::{Done, Job};
+use srm_crew::crew::Crew;
+use srm_crew::fault::CrewFault;
+use srm_ledger::ledger::{Ledger, Seat};
+use srm_member::member::Member;
+use srm_net::net::Net;
+use srm_scenario::fault::ScenarioFault;
+use srm_scenario::feed::ReadFeed;
+use srm_scenario::mark::Mark;
+use srm_scenario::reading::read_scenario;
+use srm_scenario::scenario::Scenario;
+use std::alloc::{AllocError, Global};
+use std::process::Abort;
+
+/// A scenario that is accepted, and its network.
+pub(crate) fn opened(
+    rt: &impl Abort,
+    alloc: Global,
+    text: &str,
+) -> Result<(Scenario, Net), AllocError>
+    ensures { IfOk result (λ r. r.1 ≡ network_of r.0) }
+{
+    let mut feed = ReadFeed::new(text.as_bytes());
+    let scenario = match read_scenario(alloc, &mut feed) {
+        Ok(scenario) => scenario,
+        Err(fault) => {
+            assert_eq!(rt; fault, ScenarioFault::NoMemory);
+            return Err(AllocError);
+        }
+    };
+    let Ok(net) = scenario.net(alloc) else {
+        return Err(AllocError);
+    };
+    Ok((scenario, net))
+}
+
+// As many jobs as a crew is handed at most.
+const MOST_JOBS: usize = 1024;
+
+// The number of the member in a box.
+fn number_of(member: &Box<dyn Member>) -> u16
+    ensures { result ≡ (fixed_part ((⟦<dyn Member as Member>⟧ member.now.vtable).plain member.now.value)).member }
+{
+    member.number()
+}
+
+/// The cell of a member, alone.
+pub(crate) fn cell_of(
+    rt: &impl Abort,
+    alloc: Global,
+    net: &Net,
+    member: Box<dyn Member>,
+    script: Vec<Mark>,
+    sent: u64,
+) -> Result<Vec<Cell>, AllocError>
+    requires sent { sent ≤ most_sent }
+    requires script { Rises mark_cmp script.items }
+    ensures { IfOk result (λ cells. AreKnown (λ b. (⟦<dyn Member as Member>⟧ b.vtable).plain b.value)
+        (length net.now.hosts) cells.items) }
+{
+    let number = number_of(&member);
+    let members = net.members();
+    if number >= members {
+        assert!(rt; false, "no member {number}");
+        return Err(AllocError);
+    }
+    let mut cells = Vec::new(alloc);
+    cells.push(Cell::new(alloc, member, script, sent))?;
+    Ok(cells)
+}
+
+/// Adds a job of these cells, of which there may be none.
+pub(crate) fn add_job(
+    rt: &impl Abort,
+    net: &Net,
+    jobs: &mut Vec<Job>,
+    till: u64,
+    cells: Vec<Cell>,
+) -> Result<(), AllocError>
+    requires jobs { MayMap (λ b. (⟦<dyn Member as Member>⟧ b.vtable).plain b.value)
+        (length net.now.hosts) jobs.old.items }
+    requires till { till ≤ end_of_time }
+    requires known { AreKnown (λ b. (⟦<dyn Member as Member>⟧ b.vtable).plain b.value)
+        (length net.now.hosts) cells.items }
+    ensures { IfOk result (λ _. MayMap (λ b. (⟦<dyn Member as Member>⟧ b.vtable).plain b.value)
+        (length net.now.hosts) jobs.new.items) }
+{
+    let place = jobs.len();
+    if place >= MOST_JOBS {
+        assert!(rt; false, "too many jobs");
+        return Err(AllocError);
+    }
+    jobs.push(Job { place, till, cells })?;
+    Ok(())
+}
+
+/// Jobs that have no cells.
+pub(crate) fn idle_jobs(
+    rt: &impl Abort,
+    alloc: Global,
+    net: &Net,
+    count: usize,
+) -> Result<Vec<Job>, AllocError>
+    ensures { IfOk result (λ jobs. MayMap (λ b. (⟦<dyn Member as Member>⟧ b.vtable).plain b.value)
+        (length net.now.hosts) jobs.items) }
+{
+    let mut jobs = Vec::new(alloc);
+    for _ in 0..count {
+        add_job(rt, net, &mut jobs, 0, Vec::new(alloc))?;
+    }
+    Ok(jobs)
+}
+
+// The jobs of the same cells up to another end, and what was done.
+fn next_jobs(
+    rt: &impl Abort,
+    alloc: Global,
+    net: &Net,
+    all: Vec<Done>,
+    till: u64,
+) -> Result<(Vec<Job>, Window), AllocError>
+    requires known { All (λ d. AreKnown (λ b. (⟦<dyn Member as Member>⟧ b.vtable).plain b.value)
+        (length net.now.hosts) d.cells.items) all.items }
+    requires till { till ≤ end_of_time }
+    ensures { IfOk result (λ r. MayMap (λ b. (⟦<dyn Member as Member>⟧ b.vtable).plain b.value)
+        (length net.now.hosts) r.0.items) }
+{
+    let mut window = Window::new(alloc);
+    let mut jobs = Vec::new(alloc);
+    for done in all {
+        window.add(&done)?;
+        let Done { cells, .. } = done;
+        add_job(rt, net, &mut jobs, till, cells)?;
+    }
+    Ok((jobs, window))
+}
+
+/// Hands a window's jobs to a crew. Gives the same cells' jobs up to another end, the seat, and what was done.
+pub(crate) fn map_window<C: Crew>(
+    rt: &impl Abort,
+    alloc: Global,
+    crew: &mut C,
+    scenario: &Scenario,
+    net: &Net,
+    ledger: &Ledger,
+    seat: Seat,
+    jobs: Vec<Job>,
+    till: u64,
+) -> Result<(Vec<Job>, Seat, Window), CrewFault>
+    requires ready { C.ready crew.old }
+    requires jobs { MayMap (λ b. (⟦<dyn Member as Member>⟧ b.vtable).plain b.value) (length net.now.hosts) jobs.items }
+    requires links { ledger.now.links ≡ length net.now.links }
+    requires seat { seat.ledger ≡ ledger.now.name }
+    requires till { till ≤ end_of_time }
+    ensures ready { C.ready crew.new }
+    ensures jobs { IfOk result (λ r. MayMap (λ b. (⟦<dyn Member as Member>⟧ b.vtable).plain b.value)
+        (length net.now.hosts) r.0.items) }
+    ensures seat { IfOk result (λ r. r.1.ledger ≡ ledger.now.name) }
+{
+    let (all, seat) = match crew.map(alloc, scenario, net, ledger, seat, jobs) {
+        Ok(mapped) => mapped,
+        Err(fault) => return Err(fault),
+    };
+    let Ok((next, window)) = next_jobs(rt, alloc, net, all, till) else {
+        return Err(CrewFault::NoMemory);
+    };
+    Ok((next, seat, window))
+}
