@@ -3,6 +3,7 @@ use Rattle.std.proofs.Common.{◌≡◌, ℕ, ◌+◌, ◌<◌, ◌≤◌, Bool,
 use Rattle.std.proofs.lemmas.Bool.{both_ways}
 use Rattle.srm_net.specs.declared.link.LinkSpec.{LinkSpec}
 use Rattle.srm_net.specs.declared.step.Step.{Step}
+use Rattle.srm_net.specs.Limits.{most_nodes}
 use Rattle.srm_net.specs.Network.{plain_network, Joins, IsWithin, IsTree, HasDelays, AreHosts, IsNetwork}
 use Rattle.srm_net.specs.Growth.{Attaches, attached, Grows, LeadsOut, StaysWithin}
 use Rattle.srm_net.specs.Ways.{is_known, TellsWays}
@@ -52,7 +53,7 @@ stuck_no_tree nodes links ss known agree few within t =
     (agree s.parent b.0 ∙ a.parent) (agree s.node b.1 ∙ a.node)
 
 -- what grew to all nodes is a tree
-pub whole_tree : (nodes : ℕ) (links : List LinkSpec) (ss : List Step) → 1 ≤ nodes → nodes ≤ 1024 → All (IsWithin nodes) links
+pub whole_tree : (nodes : ℕ) (links : List LinkSpec) (ss : List Step) → 1 ≤ nodes → nodes ≤ most_nodes → All (IsWithin nodes) links
     → length links + 1 ≡ nodes → Grows links ss → length ss + 1 ≡ nodes → IsTree (plain_network nodes links [])
 whole_tree nodes links ss some few ends one g all = record {
   some_nodes = some;

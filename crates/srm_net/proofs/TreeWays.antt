@@ -19,7 +19,7 @@ use Rattle.srm_net.proofs.Walks.{walk_last, turned}
 use Rattle.srm_net.proofs.Growing.{attached_below, all_attached}
 use Rattle.srm_net.proofs.RouteLemmas.{walk_length}
 use Rattle.srm_net.proofs.PathLaws.{along_first, delay_at_most}
-use Rattle.srm_net.specs.Limits.{greatest_distance}
+use Rattle.srm_net.specs.Limits.{most_nodes, greatest_distance}
 
 -- a path among these nodes with this delay, which begins with this link
 pub record IsWay (links : List LinkSpec) (inside : List ℕ) (u x delay first : ℕ) : Type 0 where
@@ -288,8 +288,8 @@ tells_more nodes links ss s known down up d0 f0 d1 f1 size below new agree a sam
       still = λ u h. e.kept u u (omega arith) (inr refl) ∙ t.still u h;
     }
 
--- no delay between attached nodes is above 1,023,000,000
-pub told_bounded : (nodes width : ℕ) (links : List LinkSpec) (ss : List Step) (delays firsts : List ℕ) → nodes ≤ 1024 → All HasDelays links
+-- no delay between attached nodes is above the greatest distance
+pub told_bounded : (nodes width : ℕ) (links : List LinkSpec) (ss : List Step) (delays firsts : List ℕ) → nodes ≤ most_nodes → All HasDelays links
     → Below nodes (attached ss) → TellsSoFar width links ss delays firsts
     → (u x : ℕ) → is_in (attached ss) u ≡ true → is_in (attached ss) x ≡ true → number_at width delays u x ≤ greatest_distance
 told_bounded nodes width links ss delays firsts few d below t u x i j =

@@ -3,6 +3,7 @@ ghost use Rattle.std.specs.Prelude.{◌≡◌, ◌↔◌, All, IsTrue};
 ghost use Rattle.srm_net.specs.Network.{IsWithin, IsLinkDelay, HasDelays, AreHosts};
 ghost use Rattle.srm_net.specs.Paths.{is_in};
 
+use crate::limits::GREATEST_LINK_DELAY;
 use crate::link::LinkSpec;
 
 /// Whether both ends of each link are nodes.
@@ -16,7 +17,7 @@ pub(crate) fn are_within(nodes: u16, links: &[LinkSpec]) -> bool
 fn is_link_delay(delay: u64) -> bool
     ensures { IsTrue result ↔ IsLinkDelay delay }
 {
-    delay >= 1 && delay <= 1_000_000
+    delay >= 1 && delay <= GREATEST_LINK_DELAY
 }
 
 /// Whether each link's delays are 1 to 1,000,000 ticks, in both directions.

@@ -8,6 +8,7 @@ pub mod fault;
 mod grid;
 pub mod key;
 pub mod laws;
+pub mod limits;
 pub mod link;
 pub mod net;
 mod order;

@@ -5,6 +5,7 @@ ghost use Rattle.srm_net.specs.Growth.{Grows, LeadsOut, StaysWithin};
 
 use crate::checks::are_within;
 use crate::fault::NetFault;
+use crate::limits::MOST_NODES;
 use crate::link::LinkSpec;
 use crate::step::Step;
 use std::alloc::Global;
@@ -24,7 +25,7 @@ pub(crate) fn attaching_order(
         ⊎ ((e ≡ NetFault.NotTree) × (¬ IsTree (plain_network nodes links.now [])))) }
 {
     if nodes < 1
-        || nodes > 1024
+        || nodes > MOST_NODES
         || links.len() + 1 != usize::from(nodes)
         || !are_within(nodes, links)
     {
