@@ -1,6 +1,9 @@
 pub mod Numbers
 pub mod Lists
 pub mod DropLemmas
+pub mod Marks
+pub mod Adjacent
+pub mod Waits
 pub mod Walks
 pub mod Growing
 pub mod RouteLemmas

@@ -1,8 +1,10 @@
 //! Nodes, links, paths and drops of a tree-shaped network, and the packets and event keys that travel in it.
 #![tactic(auto)]
 
+mod adjacency;
 mod checks;
 pub mod drops;
+mod earlier;
 pub mod fate;
 pub mod fault;
 mod grid;

@@ -85,7 +85,8 @@ impl Net {
         if !have_delays(links) {
             return Err(NetFault::BadDelay);
         }
-        if !are_hosts(nodes, hosts) {
+        let are_fit = are_hosts(alloc, nodes, hosts)?;
+        if !are_fit {
             return Err(NetFault::BadHost);
         }
         let tree = Tree {

@@ -8,8 +8,9 @@ use Rattle.srm_net.specs.Grids.{number_at}
 use Rattle.srm_net.specs.Ways.{is_known, Extends, Leads}
 use Rattle.srm_net.proofs.Lists.{get_index}
 use Rattle.srm_net.proofs.PathLaws.{from_fits}
-use Rattle.srm_net.proofs.TreeWays.{TellsSoFar, KnownAre, tells_more, tells_root, tells_all, told_bounded, turn_at, no_step, known_more}
-use Rattle.srm_net.proofs.TreeWays.{known_root, reverse_more}
+use Rattle.srm_net.proofs.TreeWays.{TellsSoFar, tells_more, tells_root, tells_all, told_bounded, turn_at, no_step}
+use Rattle.srm_net.proofs.TreeWays.{reverse_more}
+use Rattle.srm_net.proofs.Marks.{KnownAre, known_more, known_root}
 use Rattle.srm_net.proofs.ways.Ways.of.Goals as goal
 use Rattle.srm_net.specs.Limits.{greatest_link_delay, greatest_distance}
 
