@@ -82,7 +82,8 @@ beyond_unused (s ∷ ss) l x n =
 pub beyond_new : (s : Step) (ss : List Step) (l : ℕ) → beyond (s ∷ ss) l s.node ≡ cond (eqb s.link l) true (beyond ss l s.parent)
 beyond_new s ss l = rw (eq-eqb s.node s.node refl) refl
 
-pub beyond_old : (s : Step) (ss : List Step) (l x : ℕ) → is_in (attached ss) s.node ≡ false → is_in (attached ss) x ≡ true → beyond (s ∷ ss) l x
+pub beyond_old : (s : Step) (ss : List Step) (l x : ℕ) → is_in (attached ss) s.node ≡ false → is_in (attached ss) x ≡ true
+    → beyond (s ∷ ss) l x
     ≡ beyond ss l x
 beyond_old s ss l x n i = rw (ne_eqb s.node x (λ e. both_ways _ n (subst (λ t. is_in (attached ss) t ≡ true) (sym e) i))) refl
 

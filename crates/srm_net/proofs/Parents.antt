@@ -62,7 +62,8 @@ module _ (parent : ℕ → ℕ) where
         grows links n h (omega arith),
       )
 
-  pub parents_tree : (nodes : ℕ) (links : List LinkSpec) → 1 ≤ nodes → nodes ≤ most_nodes → All (IsWithin nodes) links → length links + 1 ≡ nodes
+  pub parents_tree : (nodes : ℕ) (links : List LinkSpec) → 1 ≤ nodes → nodes ≤ most_nodes → All (IsWithin nodes) links
+      → length links + 1 ≡ nodes
       → JoinsParents parent links → IsTree (plain_network nodes links [])
   parents_tree nodes links some few ends many h =
       let taken : length (steps (length links)) + 1 ≡ nodes = omega (arith, steps_length (length links)) in

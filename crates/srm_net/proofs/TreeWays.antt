@@ -286,7 +286,8 @@ tells_more nodes links ss s known down up d0 f0 d1 f1 size below new agree a sam
     }
 
 -- no delay between attached nodes is above the greatest distance
-pub told_bounded : (nodes width : ℕ) (links : List LinkSpec) (ss : List Step) (delays firsts : List ℕ) → nodes ≤ most_nodes → All HasDelays links
+pub told_bounded : (nodes width : ℕ) (links : List LinkSpec) (ss : List Step) (delays firsts : List ℕ) → nodes ≤ most_nodes
+    → All HasDelays links
     → Below nodes (attached ss) → TellsSoFar width links ss delays firsts
     → (u x : ℕ) → is_in (attached ss) u ≡ true → is_in (attached ss) x ≡ true → number_at width delays u x ≤ greatest_distance
 told_bounded nodes width links ss delays firsts few d below t u x i j =

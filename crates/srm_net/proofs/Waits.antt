@@ -109,7 +109,8 @@ target_cases ps s x h =
       | inr e ↦ elim (in_cases s.node x [] e) [ inl f ↦ inr f | inr f ↦ absurd (false≢true f) ]
     ]
 
-pub covers_skip : (links : List LinkSpec) (ss ps : List Step) (s : Step) → is_in (attached ss) s.node ≡ true → Covers links ss (ps ++ s ∷ [])
+pub covers_skip : (links : List LinkSpec) (ss ps : List Step) (s : Step) → is_in (attached ss) s.node ≡ true
+    → Covers links ss (ps ++ s ∷ [])
     → Covers links ss ps
 covers_skip links ss ps s known c l k u x g j i =
     elim (c l k u x g j i) [
@@ -121,7 +122,8 @@ covers_skip links ss ps s known c l k u x g j i =
     ]
 
 -- the neighbours of one node more
-covers_added : (nodes : ℕ) (links : List LinkSpec) (ss : List Step) (marks : List Bool) (old new : List Step) (y : ℕ) → All (IsWithin nodes) links
+covers_added : (nodes : ℕ) (links : List LinkSpec) (ss : List Step) (marks : List Bool) (old new : List Step) (y : ℕ)
+    → All (IsWithin nodes) links
     → KnownAre nodes ss marks → Adds links marks y old new
     → (l : ℕ) (k : LinkSpec) (x : ℕ) → slice_get links l ≡ Some k → Joins k y x
     → (is_in (attached ss) x ≡ true) ⊎ (is_in (targets new) x ≡ true)

@@ -25,5 +25,6 @@ pub record TellsLinks (nodes : ℕ) (links : List LinkSpec) (t : Adjacency) : Ty
   pub last_long : length t.last.items ≡ nodes
   pub last : (u : ℕ) → u < nodes → slice_index t.last.items u ≡ last_meeting links u (length links)
   pub earlier_long : length t.earlier.items ≡ length links
-  pub earlier : (l : ℕ) (k : LinkSpec) → slice_get links l ≡ Some k → (e : Earlier) × (slice_get t.earlier.items l ≡ Some e)
+  pub earlier : (l : ℕ) (k : LinkSpec) → slice_get links l ≡ Some k
+      → (e : Earlier) × (slice_get t.earlier.items l ≡ Some e)
       × TellsEarlier links l k e

@@ -1,4 +1,5 @@
-use Rattle.std.proofs.Common.{◌≡◌, ◌∙◌, ℕ, zero, suc, ◌<◌, sym, subst, arith, refl, true, false, take, get_or, length, List, [], ◌∷◌, ◌++◌, slice_set, ◌+◌, ◌≤◌}
+use Rattle.std.proofs.Common.{◌≡◌, ◌∙◌, ℕ, zero, suc, ◌<◌, sym, subst, arith, refl, true, false, take, get_or, length, List, []}
+use Rattle.std.proofs.Common.{◌∷◌, ◌++◌, slice_set, ◌+◌, ◌≤◌}
 use Rattle.std.proofs.Common.{below_more}
 use Rattle.std.proofs.lemmas.Bool.{both_ways}
 use Rattle.std.proofs.lemmas.List.{length-set, take_more, take_all, get_or_default}

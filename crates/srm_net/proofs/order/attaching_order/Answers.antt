@@ -1,4 +1,5 @@
-use Rattle.std.proofs.Common.{◌≡◌, ◌∙◌, sym, ap, subst, inr, refl, arith, length, reverse, ◌+◌, ◌-◌, ◌*◌, ◌<◌, ◌≤◌, ◌∷◌, [], All, true, false}
+use Rattle.std.proofs.Common.{◌≡◌, ◌∙◌, sym, ap, subst, inr, refl, arith, length, reverse, ◌+◌, ◌-◌, ◌*◌, ◌<◌, ◌≤◌, ◌∷◌, [], All}
+use Rattle.std.proofs.Common.{true, false}
 use Rattle.std.proofs.Common.{slice_set}
 use Rattle.std.proofs.lemmas.List.{length-set, length-reverse, reverse-append, length_push}
 use Rattle.srm_net.specs.Network.{IsWithin}
@@ -100,7 +101,8 @@ loop-step-smaller c =
     fewer_wait (nodes - length steps) (nodes - (length steps + 1)) (length links) (length ps) (length all) (omega arith) few in
     subst (λ n. (nodes - n) * (length links + 1) + length all < (nodes - length steps) * (length links + 1)
     + length c.loop-step.pending.items) (sym one)
-    (subst (λ n. (nodes - (length steps + 1)) * (length links + 1) + length all < (nodes - length steps) * (length links + 1) + n) (sym two) r)
+    (subst (λ n. (nodes - (length steps + 1)) * (length links + 1) + length all < (nodes - length steps) * (length links + 1) + n) (sym
+    two) r)
 
 pub loop-step-preserved : goal.loop-step-preserved
 loop-step-preserved c =
@@ -133,7 +135,8 @@ loop-step-preserved c =
       waits = subst (λ ts. Wait links ts (newest ts) (reverse all)) (sym more)
           (adds.wait (s ∷ ss) (in_head s.node (attached ss)) (waits_new links s ss (reverse ps) new w.2));
       covers = subst (λ ts. Covers links ts all) (sym more)
-          (covers_new nodes links s ss marks ps all ends (subst (KnownAre nodes (s ∷ ss)) (sym c.as_slice-in-Some.ensures.value) marked) adds
+          (covers_new nodes links s ss marks ps all ends (subst (KnownAre nodes (s ∷ ss)) (sym c.as_slice-in-Some.ensures.value) marked)
+          adds
           (subst (Covers links ss) c.in-Some.ensures.items inv.covers));
     }
 

@@ -58,7 +58,8 @@ loop-next-smaller c =
     let inv = c.loop-next.invariant in
     let t = turn_told links u inv.next.0 c.loop-next.next m inv.next.1 inv.next.2 (omega arith) in
     let before : c.at-next.result ≡ last_meeting links u m =
-    before_told (length c.args.known.now) links u m c.from-in-loop-next.result c.from-in-loop-next-3.result c.args.self.now c.index.result.now
+    before_told (length c.args.known.now) links u m c.from-in-loop-next.result c.from-in-loop-next-3.result c.args.self.now
+    c.index.result.now
     c.at-next.result c.requires.told t c.from-in-loop-next.ensures c.from-in-loop-next-3.ensures c.index.ensures c.at-next.ensures in
     let most : last_meeting links u m ≤ m = last_at_most links u m in
     omega arith
