@@ -20,4 +20,5 @@ pub mod FateLemmas
 pub mod OutageLemmas
 pub mod OnePaths
 pub mod SpreadLemmas
+pub mod Rootings
 pub mod Nearer

@@ -5,6 +5,9 @@ use Rattle.srm_net.specs.declared.step.Step.{Step}
 use Rattle.srm_net.specs.Limits.{most_nodes}
 use Rattle.srm_net.specs.Network.{plain_network, IsWithin, IsTree, HasDelays, AreHosts, IsNetwork}
 use Rattle.srm_net.specs.Growth.{Grows}
+use Rattle.srm_net.specs.declared.position.Position.{Position}
+use Rattle.srm_net.specs.Paths.{route}
+use Rattle.srm_net.specs.Rooting.{IsRooted, TellsPositions}
 use Rattle.srm_net.specs.Ways.{TellsWays}
 use Rattle.srm_net.specs.declared.tree.Tree.TheInside.{Inside}
 use Rattle.srm_net.specs.Built.{IsBuilt}
@@ -38,13 +41,46 @@ tree_of_any nodes links hs gs t = record {
   connected = t.connected;
 }
 
+rooted_of_any : (nodes : ℕ) (links : List LinkSpec) (hs gs : List ℕ) (ps : List Position) → IsRooted (plain_network nodes links hs) ps
+    → IsRooted (plain_network nodes links gs) ps
+unfolding route
+rooted_of_any nodes links hs gs ps r = record {
+  tree = tree_of_any nodes links hs gs r.tree;
+  place = r.place;
+  root = r.root;
+  apart = r.apart;
+  long = r.long;
+  each = λ u hu.
+      let p = r.each u hu in
+      record {
+        place_is = p.place_is;
+        depth = p.depth;
+        parent = λ some.
+            let h = p.parent some in
+            record { node = h.node; earlier = h.earlier; link = h.link; leads = h.leads; route = h.route };
+        jump = record { node = p.jump.node; there = p.jump.there; back = p.jump.back };
+        jump_earlier = p.jump_earlier;
+        jump_above = p.jump_above;
+        up = p.up;
+        down = p.down;
+      };
+}
+
 -- a tree whose parts were checked is a network with its ways
 pub built_tree : (t : Inside) (links : List LinkSpec) (hosts : List ℕ) → t.links.items ≡ links → t.hosts.items ≡ hosts
-    → IsTree (plain_network t.nodes links []) → All HasDelays links → AreHosts t.nodes hosts → TellsWays t.nodes links t.ways → IsBuilt t
-built_tree t links hosts e f tree delays are ways =
+    → IsTree (plain_network t.nodes links []) → All HasDelays links → AreHosts t.nodes hosts → TellsWays t.nodes links t.ways
+    → IsRooted (plain_network t.nodes links []) t.rooted.positions.items → IsBuilt t
+unfolding TellsPositions
+built_tree t links hosts e f tree delays are ways rooted =
     let whole : IsNetwork (plain_network t.nodes links hosts) = record
     { tree = tree_of_any t.nodes links [] hosts tree; delays = delays; hosts = are } in
     let here : IsNetwork (plain_network t.nodes t.links.items t.hosts.items) =
     subst (λ hs. IsNetwork (plain_network t.nodes t.links.items hs)) (sym f)
     (subst (λ ls. IsNetwork (plain_network t.nodes ls hosts)) (sym e) whole) in
-    record { network = here; ways = subst (λ ls. TellsWays t.nodes ls t.ways) (sym e) ways }
+    record {
+      network = here;
+      ways = subst (λ ls. TellsWays t.nodes ls t.ways) (sym e) ways;
+      rooted = subst (λ hs. IsRooted (plain_network t.nodes t.links.items hs) t.rooted.positions.items) (sym f)
+          (subst (λ ls. IsRooted (plain_network t.nodes ls hosts) t.rooted.positions.items) (sym e)
+          (rooted_of_any t.nodes links [] hosts t.rooted.positions.items rooted));
+    }

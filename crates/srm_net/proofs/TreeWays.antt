@@ -321,7 +321,7 @@ tells_root nodes size links delays firsts e =
 
 -- ---- steps one by one
 
-grows_tail : (links : List LinkSpec) (xs ys : List Step) → Grows links (xs ++ ys) → Grows links ys
+pub grows_tail : (links : List LinkSpec) (xs ys : List Step) → Grows links (xs ++ ys) → Grows links ys
 grows_tail links [] ys g = g
 grows_tail links (x ∷ xs) ys g = grows_tail links xs ys g.1
 

@@ -17,6 +17,7 @@ pub mod Growth
 pub mod Ways
 pub mod Adjacencies
 pub mod Waiting
+pub mod Rooting
 pub mod Spreads
 pub mod Tables
 pub mod Built
