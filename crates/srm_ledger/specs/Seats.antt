@@ -3,6 +3,7 @@ use Rattle.std.specs.Prelude.{◌≡◌, ◌≤◌, ◌<◌, ℕ, ◌+◌, ◌*�
 use Rattle.std.specs.Prelude.{slice_set}
 use Rattle.atomic_table.specs.Seated.{TableId}
 use Rattle.atomic_table.specs.Table.{Me}
+use Rattle.srm_net.specs.Limits.{most_links}
 use Rattle.srm_ledger.specs.declared.kind.Kind.{Kind}
 use Rattle.srm_ledger.specs.declared.rule.Holding.{Holding}
 use Rattle.srm_ledger.specs.Counts.{place_of, counted_at}
@@ -114,7 +115,7 @@ ReadsAreIn s totals = (link : ℕ) (kind : Kind) → seen_there s link kind ≤ 
 
 -- the table of a ledger of so many links: five words for each and a spare one, no slots; its key is the number of words
 abbrev pub IsLedger : ℕ → TableId → ℕ → Type 0
-IsLedger links id key = (links ≤ 1023) × (id.words ≡ words_of links) × (id.slots ≡ 0) × (key ≡ words_of links)
+IsLedger links id key = (links ≤ most_links) × (id.words ≡ words_of links) × (id.slots ≡ 0) × (key ≡ words_of links)
 
 -- a seat of so many words, of which the rule knows just what stands in memory
 abbrev pub IsSeat : Me (Unit {0}) Holding → ℕ → ℕ → List ℕ → List ℕ → Type 0

@@ -1,5 +1,6 @@
 //! Counts of packets per link and kind, in words that threads add to at once.
 ghost use Rattle.std.specs.Prelude.{◌≡◌, ℕ, ◌+◌, ◌*◌, ◌≤◌, ◌<◌, ◌↔◌, length, IfOk, IfErr, MatchResult};
+ghost use Rattle.srm_net.specs.Limits.{most_links};
 ghost use Rattle.srm_ledger.specs.Tally.{AllFit, SomePast};
 ghost use Rattle.srm_ledger.specs.Seats.{LedgerView, IsLedger, word_at, words_of, share, seen_there, whole_seat};
 ghost use Rattle.srm_ledger.specs.Seats.{Grows, IsFull, with_seen, half_with_shares, half_without, both_seats};
@@ -35,7 +36,7 @@ impl Model for Ledger {
 
 // The place of the word of a link and a kind, in a ledger of so many links.
 fn word_in(links: usize, link: usize, kind: Kind) -> usize
-    requires { (link < links) × (links ≤ 1023) }
+    requires { (link < links) × (links ≤ most_links) }
     ensures word { result ≡ word_at link kind }
     ensures below { result < words_of links }
 {
@@ -48,7 +49,7 @@ impl Ledger {
     /// # Errors
     /// Memory was refused.
     pub fn open(alloc: Global, links: usize) -> Result<(Ledger, Seat), LedgerFault>
-        requires { links ≤ 1023 }
+        requires { links ≤ most_links }
         ensures { IfOk result (λ r. (r.0.links ≡ links) × (r.1 ≡ whole_seat r.0.name links)) }
     {
         let count = 5 * links + 1;
@@ -76,7 +77,7 @@ impl Ledger {
     /// How many links there are: at most 1,023.
     pub fn links(&self) -> usize
         ensures links { result ≡ self.now.links }
-        ensures few { self.now.links ≤ 1023 }
+        ensures few { self.now.links ≤ most_links }
     {
         self.links
     }

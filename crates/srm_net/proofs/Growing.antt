@@ -6,7 +6,7 @@ use Rattle.srm_net.specs.declared.link.LinkSpec.{LinkSpec}
 use Rattle.srm_net.specs.declared.step.Step.{Step}
 use Rattle.srm_net.specs.Network.{Network, Joins, IsWalk, IsWithin, IsConnected, IsTree}
 use Rattle.srm_net.specs.Paths.{is_in}
-use Rattle.srm_net.specs.Growth.{Attaches, attached, used, Grows}
+use Rattle.srm_net.specs.Growth.{Attaches, attached, used, Grows, beyond}
 use Rattle.srm_net.proofs.Lists.{get_below, all_get}
 use Rattle.srm_net.proofs.Numbers.{Apart, Below, in_head, in_tail, in_cases, not_head, not_tail, not_in, all_below, one_missing}
 use Rattle.srm_net.proofs.Walks.{same_ends, same_link, turned, HasCuts}
@@ -71,12 +71,7 @@ attached_below nodes links (s ∷ ss) n a g x i =
 
 -- ---- the cut at a link
 
--- whether node x is beyond link l, as seen from node 0
-abbrev pub beyond : List Step → ℕ → ℕ → Bool
-beyond [] l x = false
-beyond (s ∷ ss) l x = cond (eqb s.node x) (cond (eqb s.link l) true (beyond ss l s.parent)) (beyond ss l x)
-
-beyond_unused : (ss : List Step) (l x : ℕ) → is_in (used ss) l ≡ false → beyond ss l x ≡ false
+pub beyond_unused : (ss : List Step) (l x : ℕ) → is_in (used ss) l ≡ false → beyond ss l x ≡ false
 beyond_unused [] l x n = refl
 beyond_unused (s ∷ ss) l x n =
     elim (cases_Bool (eqb s.node x)) [
@@ -84,10 +79,11 @@ beyond_unused (s ∷ ss) l x n =
       | inr e ↦ rw e (beyond_unused ss l x (not_tail s.link l (used ss) n))
     ]
 
-beyond_new : (s : Step) (ss : List Step) (l : ℕ) → beyond (s ∷ ss) l s.node ≡ cond (eqb s.link l) true (beyond ss l s.parent)
+pub beyond_new : (s : Step) (ss : List Step) (l : ℕ) → beyond (s ∷ ss) l s.node ≡ cond (eqb s.link l) true (beyond ss l s.parent)
 beyond_new s ss l = rw (eq-eqb s.node s.node refl) refl
 
-beyond_old : (s : Step) (ss : List Step) (l x : ℕ) → is_in (attached ss) s.node ≡ false → is_in (attached ss) x ≡ true → beyond (s ∷ ss) l x
+pub beyond_old : (s : Step) (ss : List Step) (l x : ℕ) → is_in (attached ss) s.node ≡ false → is_in (attached ss) x ≡ true
+    → beyond (s ∷ ss) l x
     ≡ beyond ss l x
 beyond_old s ss l x n i = rw (ne_eqb s.node x (λ e. both_ways _ n (subst (λ t. is_in (attached ss) t ≡ true) (sym e) i))) refl
 

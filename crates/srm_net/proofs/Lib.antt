@@ -3,6 +3,9 @@ pub mod TotalOrders
 pub mod Numbers
 pub mod Lists
 pub mod DropLemmas
+pub mod Marks
+pub mod Adjacent
+pub mod Waits
 pub mod Walks
 pub mod Growing
 pub mod RouteLemmas
@@ -19,4 +22,5 @@ pub mod FateLemmas
 pub mod OutageLemmas
 pub mod OnePaths
 pub mod SpreadLemmas
+pub mod Rootings
 pub mod Nearer

@@ -1,7 +1,8 @@
 -- Elements of lists by their numbers.
 use Rattle.std.proofs.Common.{◌≡◌, ◌≢◌, ℕ, zero, suc, ◌+◌, ◌*◌, ◌<◌, ◌==◌, ◌&&◌, cond, inl, inr, eq-eqb, slice_set, List, [], ◌∷◌, ◌++◌}
-use Rattle.std.proofs.Common.{length, Some, refl, ap, ◌∙◌, sym, arith, slice_get, slice_index_or, All}
+use Rattle.std.proofs.Common.{Bool, false, length, Some, refl, ap, ◌∙◌, sym, arith, slice_get, slice_index_or, All}
 use Rattle.std.proofs.lemmas.Bool.{ne_eqb, cases_eq}
+use Rattle.std.proofs.lemmas.List.{get_or_default}
 use Rattle.std.proofs.lemmas.Nat.{mul-add-lt, same_from_place}
 use Rattle.srm_net.specs.Grids.{cell}
 
@@ -31,6 +32,14 @@ all_get P xs i x a h = let e = get_index xs i x x h in let p : P (slice_index_or
 -- what reading an element says
 pub read_get : {A : Type 0} (xs : List A) (i : ℕ) (x : A) → i < length xs → x ≡ slice_index_or xs i x → slice_get xs i ≡ Some x
 read_get xs i x h e = index_get xs i x h ∙ ap Some (sym e)
+
+-- what reading a number says, where it is read at this place
+pub read_at : (xs : List ℕ) (i u r : ℕ) → i ≡ u → u < length xs → r ≡ slice_index_or xs i r → r ≡ slice_index_or xs u 0
+read_at xs i u r e h g = g ∙ ap (λ j. slice_index_or xs j r) e ∙ sym (get_or_default xs u 0 r h)
+
+-- the same of a mark
+pub read_mark : (xs : List Bool) (i u : ℕ) (r : Bool) → i ≡ u → u < length xs → r ≡ slice_index_or xs i r → slice_index_or xs u false ≡ r
+read_mark xs i u r e h g = get_or_default xs u false r h ∙ sym (g ∙ ap (λ j. slice_index_or xs j r) e)
 
 -- ---- writing an element
 

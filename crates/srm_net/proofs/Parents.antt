@@ -7,6 +7,7 @@ use Rattle.std.specs.Prelude.{◌||◌, ◌==◌}
 use Rattle.srm_net.specs.declared.link.LinkSpec.{LinkSpec}
 use Rattle.srm_net.specs.declared.step.Step.{Step}
 use Rattle.srm_net.specs.Growth.{attached, Grows}
+use Rattle.srm_net.specs.Limits.{most_nodes}
 use Rattle.srm_net.specs.Network.{IsWithin, IsTree, plain_network}
 use Rattle.srm_net.specs.Paths.{is_in}
 use Rattle.srm_net.proofs.OrderLemmas.{whole_tree}
@@ -61,7 +62,8 @@ module _ (parent : ℕ → ℕ) where
         grows links n h (omega arith),
       )
 
-  pub parents_tree : (nodes : ℕ) (links : List LinkSpec) → 1 ≤ nodes → nodes ≤ 1024 → All (IsWithin nodes) links → length links + 1 ≡ nodes
+  pub parents_tree : (nodes : ℕ) (links : List LinkSpec) → 1 ≤ nodes → nodes ≤ most_nodes → All (IsWithin nodes) links
+      → length links + 1 ≡ nodes
       → JoinsParents parent links → IsTree (plain_network nodes links [])
   parents_tree nodes links some few ends many h =
       let taken : length (steps (length links)) + 1 ≡ nodes = omega (arith, steps_length (length links)) in

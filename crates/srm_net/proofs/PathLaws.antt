@@ -16,7 +16,7 @@ use Rattle.srm_net.proofs.Numbers.{Apart, Below, in_head, in_tail, in_cases, not
 use Rattle.srm_net.proofs.Walks.{IsCut, way_crosses, walk_ends, same_link}
 use Rattle.srm_net.proofs.Growing.{joins_below, tree_cuts}
 use Rattle.srm_net.proofs.RouteLemmas.{joins_far, route_path, route_only, path_length}
-use Rattle.srm_net.specs.Limits.{greatest_distance}
+use Rattle.srm_net.specs.Limits.{most_nodes, greatest_link_delay, greatest_distance}
 
 -- ---- members' nodes
 
@@ -47,9 +47,9 @@ hosts_in nodes (y ∷ ys) a x i =
           hosts_in nodes ys (λ k d h. a (suc k) d (omega arith)) x e
     ]
 
-pub few_members : (w : Network) → IsNetwork w → length w.hosts ≤ 1024
+pub few_members : (w : Network) → IsNetwork w → length w.hosts ≤ most_nodes
 few_members w n =
-    let few : w.nodes ≤ 1024 = n.tree.few_nodes in
+    let few : w.nodes ≤ most_nodes = n.tree.few_nodes in
     let k = few_apart w.nodes w.hosts (apart_from_distinct w.hosts n.hosts.1) (hosts_in w.nodes w.hosts n.hosts.0) in
     omega arith
 
@@ -67,12 +67,12 @@ pub from_fits : (u : ℕ) (k : LinkSpec) → HasDelays k → IsLinkDelay (delay_
 from_fits u k h = elim (eqb k.a u) as (λ b. IsLinkDelay (cond b k.delay k.back)) [ true ↦ h.0 | false ↦ h.1 ]
 
 pub delay_at_most : (links : List LinkSpec) → All HasDelays links → (u : ℕ) (ls : List ℕ) (v : ℕ) (ns : List ℕ) → IsWalk links u ls v ns
-    → delay_along links u ls ≤ 1000000 * length ls
+    → delay_along links u ls ≤ greatest_link_delay * length ls
 delay_at_most links d u [] v ns w = omega arith
 delay_at_most links d u (l ∷ ls) v ns w =
     let k = delay_at_most links d w.1 ls v w.2 w.6 in
-    let h : delay_from u w.0 ≤ 1000000 = (from_fits u w.0 (all_get HasDelays links l w.0 d w.3)).1 in
-    subst (λ n. n ≤ 1000000 * suc (length ls)) (sym (along_first links u l w.1 ls w.0 w.3 w.4)) (omega arith)
+    let h : delay_from u w.0 ≤ greatest_link_delay = (from_fits u w.0 (all_get HasDelays links l w.0 d w.3)).1 in
+    subst (λ n. n ≤ greatest_link_delay * suc (length ls)) (sym (along_first links u l w.1 ls w.0 w.3 w.4)) (omega arith)
 
 pub delay_at_least : (links : List LinkSpec) → All HasDelays links → (u : ℕ) (ls : List ℕ) (v : ℕ) (ns : List ℕ) → IsWalk links u ls v ns
     → u ≢ v → 1 ≤ delay_along links u ls
@@ -87,7 +87,7 @@ delay_bounded w n u v hu hv =
     let r = route_path w n.tree u v hu hv in
     let k = delay_at_most w.links n.delays u (route w u v) v r.0 r.1.0 in
     let l : length (route w u v) ≤ length w.links = path_length w n.tree u (route w u v) v r.0 r.1.0 r.1.1 hu in
-    let few : w.nodes ≤ 1024 = n.tree.few_nodes in
+    let few : w.nodes ≤ most_nodes = n.tree.few_nodes in
     let one : length w.links + 1 ≡ w.nodes = n.tree.one_fewer in
     omega arith
 

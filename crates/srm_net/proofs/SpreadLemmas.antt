@@ -64,7 +64,7 @@ walk_back links u (l ∷ ls) v ns w a =
       ]);
     }
 
-end_joined : (links : List LinkSpec) (l : ℕ) (k : LinkSpec) (x y : ℕ) → slice_get links l ≡ Some k → Joins k x y
+pub end_joined : (links : List LinkSpec) (l : ℕ) (k : LinkSpec) (x y : ℕ) → slice_get links l ≡ Some k → Joins k x y
     → end_of x (slice_get links l) ≡ y
 end_joined links l k x y g j = ap (end_of x) g ∙ ap (λ o. unwrap_or o x) (joins_far k x y j)
 

@@ -1,9 +1,9 @@
 -- The ways between the nodes of a growing tree.
 use Rattle.std.proofs.Common.{◌≡◌, ◌≢◌, ℕ, zero, suc, ◌+◌, ◌*◌, ◌<◌, ◌≤◌, Bool, true, false, cond, List, [], ◌∷◌, ◌++◌, length, take, drop}
-use Rattle.std.proofs.Common.{reverse, replicate, Some, refl, sym, ap, ◌∙◌, subst, inl, inr, arith, eqb, eq-eqb, slice_get, slice_set}
-use Rattle.std.proofs.Common.{unwrap_or, All, get_or, ◌||◌}
+use Rattle.std.proofs.Common.{reverse, replicate, Some, refl, sym, ap, ◌∙◌, subst, inl, inr, arith, eqb, eq-eqb, slice_get}
+use Rattle.std.proofs.Common.{unwrap_or, All, get_or}
 use Rattle.std.proofs.lemmas.Bool.{ne_eqb, cases_eq, both_ways, false≢true}
-use Rattle.std.proofs.lemmas.List.{take-append-drop, reverse-append, take_more, length-replicate, get_or-set_same, get_or-set_other}
+use Rattle.std.proofs.lemmas.List.{take-append-drop, reverse-append, take_more}
 use Rattle.srm_net.specs.declared.link.LinkSpec.{LinkSpec}
 use Rattle.srm_net.specs.declared.step.Step.{Step}
 use Rattle.srm_net.specs.declared.ways.Ways.{Ways}
@@ -13,13 +13,14 @@ use Rattle.srm_net.specs.Growth.{Attaches, attached, Grows}
 use Rattle.srm_net.specs.Grids.{number_at}
 use Rattle.srm_net.specs.Ways.{IsWayOf, is_known, Extends, Leads, TellsWays}
 use Rattle.srm_net.proofs.Lists.{get_below, all_get}
+use Rattle.srm_net.proofs.Marks.{KnownAre}
 use Rattle.srm_net.proofs.Numbers.{Apart, Below, in_head, in_tail, in_cases, not_in, in_append_cases, apart_push, few_apart}
 use Rattle.srm_net.proofs.Numbers.{distinct_from_apart}
 use Rattle.srm_net.proofs.Walks.{walk_last, turned}
 use Rattle.srm_net.proofs.Growing.{attached_below, all_attached}
 use Rattle.srm_net.proofs.RouteLemmas.{walk_length}
 use Rattle.srm_net.proofs.PathLaws.{along_first, delay_at_most}
-use Rattle.srm_net.specs.Limits.{greatest_distance}
+use Rattle.srm_net.specs.Limits.{most_nodes, greatest_distance}
 
 -- a path among these nodes with this delay, which begins with this link
 pub record IsWay (links : List LinkSpec) (inside : List ℕ) (u x delay first : ℕ) : Type 0 where
@@ -229,10 +230,6 @@ both_ways_grown links (s ∷ ss) g u x i j =
 
 -- ---- tables of a growing tree
 
--- the nodes marked as known are the attached ones
-abbrev pub KnownAre : ℕ → List Step → List Bool → Type 0
-KnownAre nodes ss known = (x : ℕ) → x < nodes → is_known known x ≡ is_in (attached ss) x
-
 -- the tables tell the ways between the attached nodes
 pub record TellsSoFar (nodes : ℕ) (links : List LinkSpec) (ss : List Step) (delays firsts : List ℕ) : Type 0 where
   pub ways : (u x : ℕ) → is_in (attached ss) u ≡ true → is_in (attached ss) x ≡ true
@@ -288,8 +285,9 @@ tells_more nodes links ss s known down up d0 f0 d1 f1 size below new agree a sam
       still = λ u h. e.kept u u (omega arith) (inr refl) ∙ t.still u h;
     }
 
--- no delay between attached nodes is above 1,023,000,000
-pub told_bounded : (nodes width : ℕ) (links : List LinkSpec) (ss : List Step) (delays firsts : List ℕ) → nodes ≤ 1024 → All HasDelays links
+-- no delay between attached nodes is above the greatest distance
+pub told_bounded : (nodes width : ℕ) (links : List LinkSpec) (ss : List Step) (delays firsts : List ℕ) → nodes ≤ most_nodes
+    → All HasDelays links
     → Below nodes (attached ss) → TellsSoFar width links ss delays firsts
     → (u x : ℕ) → is_in (attached ss) u ≡ true → is_in (attached ss) x ≡ true → number_at width delays u x ≤ greatest_distance
 told_bounded nodes width links ss delays firsts few d below t u x i j =
@@ -323,7 +321,7 @@ tells_root nodes size links delays firsts e =
 
 -- ---- steps one by one
 
-grows_tail : (links : List LinkSpec) (xs ys : List Step) → Grows links (xs ++ ys) → Grows links ys
+pub grows_tail : (links : List LinkSpec) (xs ys : List Step) → Grows links (xs ++ ys) → Grows links ys
 grows_tail links [] ys g = g
 grows_tail links (x ∷ xs) ys g = grows_tail links xs ys g.1
 
@@ -381,31 +379,3 @@ turn_at nodes links steps i some ends g h =
           (in_head (get_or steps i no_step).node (attached (reverse (take i steps))));
       link = get_below links (get_or steps i no_step).link a.spec a.link;
     }
-
-known_set : (known : List Bool) (n : ℕ) → n < length known → (x : ℕ) → is_known (slice_set known n true) x
-    ≡ cond (eqb n x) true (is_known known x)
-known_set known n h x =
-    elim (cases_eq n x) [
-      | inl e ↦ subst (λ t. is_known (slice_set known n true) t ≡ cond (eqb n t) true (is_known known t)) e
-          (get_or-set_same known n true false h ∙ sym (ap (λ b. cond b true (is_known known n)) (eq-eqb n n refl)))
-      | inr d ↦ get_or-set_other known n x true false (λ e. d (sym e)) ∙ sym (ap (λ b. cond b true (is_known known x)) (ne_eqb n x d))
-    ]
-
-in_cons : (n : ℕ) (xs : List ℕ) (x : ℕ) → is_in (n ∷ xs) x ≡ cond (eqb n x) true (is_in xs x)
-in_cons n xs x = elim (eqb n x) as (λ b. (b || is_in xs x) ≡ cond b true (is_in xs x)) [ true ↦ refl | false ↦ refl ]
-
-pub known_more : (nodes : ℕ) (ss : List Step) (s : Step) (known : List Bool) → length known ≡ nodes → s.node < nodes
-    → KnownAre nodes ss known → KnownAre nodes (s ∷ ss) (slice_set known s.node true)
-known_more nodes ss s known e h k x lt =
-    known_set known s.node (omega arith) x ∙ ap (λ b. cond (eqb s.node x) true b) (k x lt) ∙ sym (in_cons s.node (attached ss) x)
-
-none_known : (n x : ℕ) → is_known (replicate n false) x ≡ false
-none_known zero x = refl
-none_known (suc n) zero = refl
-none_known (suc n) (suc x) = none_known n x
-
-pub known_root : (nodes : ℕ) (known : List Bool) → 1 ≤ nodes → known ≡ replicate nodes false → KnownAre nodes [] (slice_set known 0 true)
-known_root nodes known some e x lt =
-    let size : length known ≡ nodes = ap length e ∙ length-replicate nodes false in
-    known_set known 0 (omega arith) x ∙ ap (λ b. cond (eqb 0 x) true b) (ap (λ k. is_known k x) e ∙ none_known nodes x)
-    ∙ sym (in_cons 0 [] x)

@@ -1,5 +1,5 @@
 -- A tree grown from node 0 by attaching one node after the other.
-use Rattle.std.specs.Prelude.{◌≡◌, ℕ, Bool, true, false, List, [], ◌∷◌, Some, map, slice_get, slice_index_or}
+use Rattle.std.specs.Prelude.{◌≡◌, ℕ, Bool, true, false, cond, List, [], ◌∷◌, Some, map, slice_get, ◌==◌}
 use Rattle.srm_net.specs.declared.link.LinkSpec.{LinkSpec}
 use Rattle.srm_net.specs.declared.step.Step.{Step}
 use Rattle.srm_net.specs.Network.{Joins}
@@ -27,14 +27,21 @@ abbrev pub Grows : List LinkSpec → List Step → Type 0
 Grows links [] = Unit {0}
 Grows links (s ∷ ss) = Attaches links (attached ss) s × Grows links ss
 
--- the step's link leads from a known node to another
-pub record LeadsOut (links : List LinkSpec) (known : List Bool) (s : Step) : Type 0 where
-  pub spec : LinkSpec
-  pub link : slice_get links s.link ≡ Some spec
-  pub joins : Joins spec s.parent s.node
-  pub parent : slice_index_or known s.parent false ≡ true
-  pub node : slice_index_or known s.node false ≡ false
+-- whether node x is beyond link l, as seen from node 0
+abbrev pub beyond : List Step → ℕ → ℕ → Bool
+beyond [] l x = false
+beyond (s ∷ ss) l x = cond (s.node == x) (cond (s.link == l) true (beyond ss l s.parent)) (beyond ss l x)
 
--- the link's ends are both known, or neither is
-abbrev pub StaysWithin : List Bool → LinkSpec → Type 0
-StaysWithin known k = slice_index_or known k.a false ≡ slice_index_or known k.b false
+-- node u is node x or above it: each link beyond which it is, from node 0, has x beyond it too
+abbrev pub IsAbove : List Step → ℕ → ℕ → Type 0
+IsAbove ss u x = (l : ℕ) → beyond ss l u ≡ true → beyond ss l x ≡ true
+
+-- the node that was attached last
+abbrev pub newest : List Step → ℕ
+newest [] = 0
+newest (s ∷ ss) = s.node
+
+-- each step attaches a node to the one that was attached before it, or to one that is above that
+abbrev pub IsInPreorder : List Step → Type 0
+IsInPreorder [] = Unit {0}
+IsInPreorder (s ∷ ss) = IsAbove ss s.parent (newest ss) × IsInPreorder ss

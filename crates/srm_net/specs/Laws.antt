@@ -15,7 +15,7 @@ use Rattle.srm_net.specs.Paths.{route, member_route, distance, round, drop_cmp, 
 use Rattle.srm_net.specs.DropRules.{DropRules, is_out, may_drop}
 use Rattle.srm_net.specs.Fates.{is_on_way}
 use Rattle.srm_net.specs.Least.{least_delay, out}
-use Rattle.srm_net.specs.Limits.{greatest_distance}
+use Rattle.srm_net.specs.Limits.{most_nodes, greatest_distance}
 
 -- in a tree the route between two nodes is a path, and there is no other
 abbrev pub OnePath : Type 0
@@ -31,10 +31,10 @@ HasOnePath links u v = (ls : List ℕ) × IsPath links u ls v × ((ms : List ℕ
 abbrev pub JoinsTwo : ℕ → LinkSpec → Type 0
 JoinsTwo nodes k = (k.a < nodes) × (k.b < nodes) × (k.a ≢ k.b)
 
--- 1 to 1,024 nodes, each link between two of them, and exactly one path between any two
+-- 1 node to as many as there may be, each link between two of them, and exactly one path between any two
 pub record HasOnePathEach (w : Network) : Type 0 where
   pub some_nodes : 1 ≤ w.nodes
-  pub few_nodes : w.nodes ≤ 1024
+  pub few_nodes : w.nodes ≤ most_nodes
   pub ends : All (JoinsTwo w.nodes) w.links
   pub one_path : (u v : ℕ) → u < w.nodes → v < w.nodes → HasOnePath w.links u v
 
@@ -42,7 +42,7 @@ pub record HasOnePathEach (w : Network) : Type 0 where
 abbrev pub TreesHaveOnePath : Type 0
 TreesHaveOnePath = (w : Network) → IsTree w ↔ HasOnePathEach w
 
--- distances are at least 1 between different members, and at most 1,023,000,000
+-- distances are at least 1 between different members, and at most the greatest
 abbrev pub DistancesFit : Type 0
 DistancesFit =
     (w : Network) → IsNetwork w → (a b : ℕ) → a < length w.hosts → b < length w.hosts

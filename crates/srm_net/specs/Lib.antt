@@ -15,6 +15,9 @@ pub mod DropSets
 pub mod Grids
 pub mod Growth
 pub mod Ways
+pub mod Adjacencies
+pub mod Waiting
+pub mod Rooting
 pub mod Spreads
 pub mod Tables
 pub mod Built

@@ -1,13 +1,25 @@
 -- The numbers that bound scenarios and runs.
-use Rattle.std.specs.Prelude.{ℕ, ◌^◌}
+use Rattle.std.specs.Prelude.{ℕ, ◌-◌, ◌*◌, ◌^◌}
 
 -- no scenario runs beyond this tick, and each of its events comes before it
 abbrev pub end_of_time : ℕ
 end_of_time = 2 ^ 40
 
--- the longest way of a network, in ticks: 1,023 links of 1,000,000 ticks each
+-- so many nodes may a network have, and so many members, since each is on a node of its own
+abbrev pub most_nodes : ℕ
+most_nodes = 1024
+
+-- so many links, which are one fewer than the nodes
+abbrev pub most_links : ℕ
+most_links = most_nodes - 1
+
+-- so many ticks may a link take in either direction
+abbrev pub greatest_link_delay : ℕ
+greatest_link_delay = 1000000
+
+-- the longest way of a network, in ticks: over so many links, each of the greatest delay
 abbrev pub greatest_distance : ℕ
-greatest_distance = 1023000000
+greatest_distance = most_links * greatest_link_delay
 
 -- each constant of timers, in thousandths, is at most this one
 abbrev pub greatest_constant : ℕ

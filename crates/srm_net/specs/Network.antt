@@ -2,6 +2,7 @@
 use Rattle.std.specs.Prelude.{◌≡◌, ◌⊎◌, ℕ, ◌+◌, ◌<◌, ◌≤◌, All, List, [], ◌∷◌, Some, length, slice_get, nat_eq}
 use Rattle.std.specs.List.{IsDistinct}
 use Rattle.srm_net.specs.declared.link.LinkSpec.{LinkSpec}
+use Rattle.srm_net.specs.Limits.{most_nodes, greatest_link_delay}
 
 -- nodes are 0 up to their number; link l is the l-th of the list, and member m is on the m-th node of `hosts`
 pub record Network : Type 0 where
@@ -37,17 +38,17 @@ IsWithin nodes k = (k.a < nodes) × (k.b < nodes)
 abbrev pub IsConnected : Network → Type 0
 IsConnected w = (u v : ℕ) → u < w.nodes → v < w.nodes → (ls : List ℕ) × IsPath w.links u ls v
 
--- 1 to 1,024 nodes, connected by one link fewer
+-- 1 node to as many as there may be, connected by one link fewer
 pub record IsTree (w : Network) : Type 0 where
   pub some_nodes : 1 ≤ w.nodes
-  pub few_nodes : w.nodes ≤ 1024
+  pub few_nodes : w.nodes ≤ most_nodes
   pub ends : All (IsWithin w.nodes) w.links
   pub one_fewer : length w.links + 1 ≡ w.nodes
   pub connected : IsConnected w
 
--- 1 to 1,000,000 ticks
+-- 1 tick to as many as a link may take
 abbrev pub IsLinkDelay : ℕ → Type 0
-IsLinkDelay d = (1 ≤ d) × (d ≤ 1000000)
+IsLinkDelay d = (1 ≤ d) × (d ≤ greatest_link_delay)
 
 -- the link's two delays, from a to b and from b to a, are such
 abbrev pub HasDelays : LinkSpec → Type 0

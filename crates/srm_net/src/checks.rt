@@ -1,9 +1,10 @@
 //! What links and hosts are checked for.
-ghost use Rattle.std.specs.Prelude.{◌≡◌, ◌↔◌, All, IsTrue};
+ghost use Rattle.std.specs.Prelude.{◌↔◌, All, IfOk, IsTrue};
 ghost use Rattle.srm_net.specs.Network.{IsWithin, IsLinkDelay, HasDelays, AreHosts};
-ghost use Rattle.srm_net.specs.Paths.{is_in};
 
+use crate::limits::GREATEST_LINK_DELAY;
 use crate::link::LinkSpec;
+use std::alloc::{AllocError, Global};
 
 /// Whether both ends of each link are nodes.
 pub(crate) fn are_within(nodes: u16, links: &[LinkSpec]) -> bool
@@ -16,7 +17,7 @@ pub(crate) fn are_within(nodes: u16, links: &[LinkSpec]) -> bool
 fn is_link_delay(delay: u64) -> bool
     ensures { IsTrue result ↔ IsLinkDelay delay }
 {
-    delay >= 1 && delay <= 1_000_000
+    delay >= 1 && delay <= GREATEST_LINK_DELAY
 }
 
 /// Whether each link's delays are 1 to 1,000,000 ticks, in both directions.
@@ -27,23 +28,15 @@ pub(crate) fn have_delays(links: &[LinkSpec]) -> bool
 }
 
 /// Whether each host is a node, and no two members share one.
-pub(crate) fn are_hosts(nodes: u16, hosts: &[u16]) -> bool
-    ensures { IsTrue result ↔ AreHosts nodes hosts.now }
+pub(crate) fn are_hosts(alloc: Global, nodes: u16, hosts: &[u16]) -> Result<bool, AllocError>
+    ensures { IfOk result (λ are. IsTrue are ↔ AreHosts nodes hosts.now) }
 {
-    for (m, host) in hosts.iter().enumerate() {
-        if *host >= nodes {
-            return false;
+    let mut taken = vec![in alloc; false; usize::from(nodes)]?;
+    for host in hosts {
+        if *host >= nodes || taken[usize::from(*host)] {
+            return Ok(false);
         }
-        if stands_in(&hosts[..m], *host) {
-            return false;
-        }
+        taken[usize::from(*host)] = true;
     }
-    true
-}
-
-/// Whether a node is in the list.
-fn stands_in(hosts: &[u16], node: u16) -> bool
-    ensures { result ≡ is_in hosts.now node }
-{
-    hosts.iter().any(|host| *host == node)
+    Ok(true)
 }

@@ -1,20 +1,25 @@
 //! Nodes, links, paths and drops of a tree-shaped network, and the packets and event keys that travel in it.
 #![tactic(auto)]
 
+mod adjacency;
 mod checks;
 pub mod drops;
+mod earlier;
 pub mod fate;
 pub mod fault;
 mod grid;
 pub mod key;
 pub mod laws;
+pub mod limits;
 pub mod link;
 pub mod net;
 mod order;
 mod outages;
 pub mod packet;
+mod position;
 pub mod rank;
 pub mod role;
+mod rooted;
 mod sending;
 pub mod sequence;
 mod sides;

@@ -18,6 +18,7 @@ use crate::fault::NetFault;
 use crate::link::LinkSpec;
 use crate::order::attaching_order;
 use crate::packet::PacketId;
+use crate::rooted::Rooted;
 use crate::sending::Sending;
 use crate::sides::Sides;
 use crate::spread::Spread;
@@ -85,14 +86,17 @@ impl Net {
         if !have_delays(links) {
             return Err(NetFault::BadDelay);
         }
-        if !are_hosts(nodes, hosts) {
+        let are_fit = are_hosts(alloc, nodes, hosts)?;
+        if !are_fit {
             return Err(NetFault::BadHost);
         }
+        let rooted = Rooted::of(alloc, nodes, links, steps.as_slice())?;
         let tree = Tree {
             nodes,
             links: links.to_vec(alloc)?,
             hosts: hosts.to_vec(alloc)?,
             ways: Ways::of(alloc, nodes, links, steps.as_slice())?,
+            rooted,
         };
         let sides = tree.all_sides(alloc)?;
         let outs = tree.all_outs(alloc)?;

@@ -13,6 +13,7 @@ ghost use Rattle.srm_net.specs.Tables.{is_beyond, TellsSides, TellsAllSides, Tel
 use crate::drops::Drops;
 use crate::link::LinkSpec;
 use crate::packet::PacketId;
+use crate::rooted::Rooted;
 use crate::sending::Sending;
 use crate::sides::Sides;
 use crate::ways::Ways;
@@ -26,6 +27,7 @@ pub(crate) struct Tree {
     pub(crate) links: Vec<LinkSpec>,
     pub(crate) hosts: Vec<u16>,
     pub(crate) ways: Ways,
+    pub(crate) rooted: Rooted,
 }
 
 impl Model for Tree {

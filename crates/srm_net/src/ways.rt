@@ -2,6 +2,7 @@
 ghost use Rattle.std.specs.Prelude.{◌≡◌, ◌≢◌, ◌⊎◌, ℕ, ◌+◌, ◌<◌, ◌≤◌, ◌==◌, true, false, All, IfOk, length, reverse, slice_index_or, if◌then◌else◌};
 ghost use Rattle.srm_net.specs.Grids.{number_at};
 ghost use Rattle.srm_net.specs.Growth.{Grows};
+ghost use Rattle.srm_net.specs.Limits.{most_nodes};
 ghost use Rattle.srm_net.specs.Network.{HasDelays, IsWithin};
 ghost use Rattle.srm_net.specs.Ways.{TellsWays, Extends, Leads};
 
@@ -26,7 +27,7 @@ impl Ways {
         steps: &[Step],
     ) -> Result<Ways, AllocError>
         requires some_nodes { 1 ≤ nodes }
-        requires few_nodes { nodes ≤ 1024 }
+        requires few_nodes { nodes ≤ most_nodes }
         requires ends { All (IsWithin nodes) links.now }
         requires delays { All HasDelays links.now }
         requires grows { Grows links.now (reverse steps.now) }
@@ -112,7 +113,7 @@ impl Ways {
 // How many places a row has in the tables of so many nodes: at least one for each, and 16 times an odd number. So the places of a column
 // are spread over the sets of a processor's cache, also where the number of nodes is a power of two.
 fn row_width(nodes: u16) -> usize
-    requires { nodes ≤ 1024 }
+    requires { nodes ≤ most_nodes }
     ensures wide { nodes ≤ result }
     ensures bounded { result < 65536 }
 {

@@ -7,6 +7,7 @@ use Rattle.std.proofs.lemmas.List.Elements.{recursion_from_All, All-from_recursi
 use Rattle.std.specs.List.{list_all, AllByRecursion, IsDistinct}
 use Rattle.std.specs.Prelude.{◌&&◌, ◌==◌}
 use Rattle.srm_net.specs.declared.link.LinkSpec.{LinkSpec}
+use Rattle.srm_net.specs.Limits.{most_nodes}
 use Rattle.srm_net.specs.Network.{Network, IsWithin, IsPath, IsTree, AreHosts, plain_network}
 use Rattle.srm_net.specs.Paths.{route_within}
 use Rattle.srm_net.proofs.Numbers.{apart_from_distinct, distinct_from_apart}
@@ -69,7 +70,7 @@ unfolding is_tree
 tree_from_test w h =
     let n = w.nodes in
     let (some, rest) = and_parts (nat_le 1 n) _ h in
-    let (few, rest2) = and_parts (nat_le n 1024) _ rest in
+    let (few, rest2) = and_parts (nat_le n most_nodes) _ rest in
     let (ends, rest3) = and_parts (list_all (λ k. nat_lt k.a n && nat_lt k.b n) w.links) _ rest2 in
     let (fewer, ways) = and_parts (length w.links + 1 == n) _ rest3 in
     record {
@@ -88,7 +89,7 @@ test_from_tree w t =
     let some = t.some_nodes in
     let few = t.few_nodes in
     let fewer = t.one_fewer in
-    and_from (nat_le 1 n) _ (grind (arith, nat_tests)) (and_from (nat_le n 1024) _
+    and_from (nat_le 1 n) _ (grind (arith, nat_tests)) (and_from (nat_le n most_nodes) _
     (grind (arith, nat_tests)) (and_from _ _ (all_ends n w.links (recursion_from_All (IsWithin n) w.links t.ends))
     (and_from (length w.links + 1 == n) _ (grind (arith, nat_tests))
     (all_from_below _ n (λ u hu. all_from_below _ n (λ v hv. path_way w t u v hu hv))))))

@@ -1,12 +1,21 @@
-use Rattle.std.proofs.Common.{◌≡◌, ◌∙◌, sym, ap, eqb, eq-eqb, not, slice_get, Some}
+use Rattle.std.proofs.Common.{◌≡◌, ◌∙◌, sym, ap, eqb, eq-eqb, not, slice_get, Some, ◌<◌, ◌≤◌, arith}
 use Rattle.srm_net.specs.declared.link.LinkSpec.{LinkSpec}
 use Rattle.srm_net.specs.Network.{Network}
 use Rattle.srm_net.specs.Paths.{is_in, route}
 use Rattle.srm_net.specs.Tables.{is_beyond}
 use Rattle.srm_net.specs.Built.{plain_of}
-use Rattle.srm_net.proofs.BuiltLemmas.{seen_below, beyond_by_first}
+use Rattle.srm_net.proofs.BuiltLemmas.{seen_below, beyond_by_first, end_below}
 use Rattle.srm_net.proofs.PathLaws.{route_nowhere}
 use Rattle.srm_net.proofs.tree.Tree.is_beyond.Goals as goal
+
+pub first-requires-clause-from : goal.first-requires-clause-from
+first-requires-clause-from c =
+    let here : slice_get c.self.inside.links.items c.args.link ≡ Some c.link-end.result =
+    ap (λ (v : Network). slice_get v.links c.args.link) c.self.view_is ∙ c.link-end.ensures in
+    let within : c.link-end.result.a < c.self.inside.nodes =
+    (end_below c.self.inside c.self.invariant c.args.link c.link-end.result here).0 in
+    let wide : c.self.inside.nodes ≤ c.self.inside.ways.firsts.width = c.self.invariant.ways.firsts_width in
+    omega arith
 
 pub returns-then-node-end : goal.returns-then-node-end
 returns-then-node-end c k g =

@@ -8,10 +8,11 @@ use Rattle.srm_net.specs.Grids.{number_at}
 use Rattle.srm_net.specs.Ways.{is_known, Extends, Leads}
 use Rattle.srm_net.proofs.Lists.{get_index}
 use Rattle.srm_net.proofs.PathLaws.{from_fits}
-use Rattle.srm_net.proofs.TreeWays.{TellsSoFar, KnownAre, tells_more, tells_root, tells_all, told_bounded, turn_at, no_step, known_more}
-use Rattle.srm_net.proofs.TreeWays.{known_root, reverse_more}
+use Rattle.srm_net.proofs.TreeWays.{TellsSoFar, tells_more, tells_root, tells_all, told_bounded, turn_at, no_step}
+use Rattle.srm_net.proofs.TreeWays.{reverse_more}
+use Rattle.srm_net.proofs.Marks.{KnownAre, known_more, known_root}
 use Rattle.srm_net.proofs.ways.Ways.of.Goals as goal
-use Rattle.srm_net.specs.Limits.{greatest_distance}
+use Rattle.srm_net.specs.Limits.{greatest_link_delay, greatest_distance}
 
 -- what is below the number of nodes is below the width of a row
 in_row : (nodes width : ℕ) → nodes ≤ width → (u : ℕ) → u < nodes → u < width
@@ -99,7 +100,7 @@ attach-requires-clause-fits c u h k =
     greatest_distance) (sym c.loop-step.invariant.delays_width) bound in
     let below : c.from.result < length c.args.links.now = subst (λ l. l < length c.args.links.now) (sym c.from.ensures) t.link in
     let small : delay_from (get_or c.args.steps.now c.loop-step.step-index no_step).parent (get_or c.args.links.now c.from.result no_link) ≤
-    1000000 =
+    greatest_link_delay =
     (from_fits (get_or c.args.steps.now c.loop-step.step-index no_step).parent (get_or c.args.links.now c.from.result no_link)
     (c.requires.delays c.from.result no_link below)).1 in
     let same : c.delay_from-down.result ≡ delay_from (get_or c.args.steps.now c.loop-step.step-index no_step).parent
@@ -124,7 +125,7 @@ attach-requires-clause-fits_back c u h k =
     greatest_distance) (sym c.loop-step.invariant.delays_width) bound in
     let below : c.from.result < length c.args.links.now = subst (λ l. l < length c.args.links.now) (sym c.from.ensures) t.link in
     let small : delay_from (get_or c.args.steps.now c.loop-step.step-index no_step).node (get_or c.args.links.now c.from.result no_link) ≤
-    1000000 =
+    greatest_link_delay =
     (from_fits (get_or c.args.steps.now c.loop-step.step-index no_step).node (get_or c.args.links.now c.from.result no_link)
     (c.requires.delays c.from.result no_link below)).1 in
     let same : c.delay_from-up.result ≡ delay_from (get_or c.args.steps.now c.loop-step.step-index no_step).node

@@ -1,5 +1,6 @@
 use Rattle.std.proofs.Common.{◌≡◌, length, take, reverse}
-use Rattle.srm_net.proofs.TreeWays.{KnownAre, TellsSoFar}
+use Rattle.srm_net.proofs.TreeWays.{TellsSoFar}
+use Rattle.srm_net.proofs.Marks.{KnownAre}
 use Rattle.srm_net.proofs.ways.Ways.of.Given as goal
 
 abbrev pub invariant-loop-step : goal.invariant-loop-step

@@ -1,0 +1,56 @@
+-- Nodes that are marked.
+use Rattle.std.proofs.Common.{◌≡◌, ℕ, zero, suc, ◌<◌, ◌≤◌, Bool, true, false, cond, List, [], ◌∷◌, ◌++◌, length, replicate, refl}
+use Rattle.std.proofs.Common.{sym, ap, ◌∙◌, subst, inl, inr, arith, eqb, eq-eqb, slice_set, ◌||◌, ◌==◌}
+use Rattle.std.proofs.lemmas.Bool.{ne_eqb, cases_eq}
+use Rattle.std.proofs.lemmas.List.{length-replicate, get_or-set_same, get_or-set_other}
+use Rattle.srm_net.specs.declared.step.Step.{Step}
+use Rattle.srm_net.specs.Growth.{attached}
+use Rattle.srm_net.specs.Paths.{is_in}
+use Rattle.srm_net.specs.Ways.{is_known}
+use Rattle.srm_net.proofs.DropLemmas.{any_push}
+
+-- of the nodes, those of this list are marked
+abbrev pub Marks : ℕ → List ℕ → List Bool → Type 0
+Marks nodes xs known = (x : ℕ) → x < nodes → is_known known x ≡ is_in xs x
+
+-- the nodes marked as known are the attached ones
+abbrev pub KnownAre : ℕ → List Step → List Bool → Type 0
+KnownAre nodes ss known = Marks nodes (attached ss) known
+
+known_set : (known : List Bool) (n : ℕ) → n < length known → (x : ℕ) → is_known (slice_set known n true) x
+    ≡ cond (eqb n x) true (is_known known x)
+known_set known n h x =
+    elim (cases_eq n x) [
+      | inl e ↦ subst (λ t. is_known (slice_set known n true) t ≡ cond (eqb n t) true (is_known known t)) e
+          (get_or-set_same known n true false h ∙ sym (ap (λ b. cond b true (is_known known n)) (eq-eqb n n refl)))
+      | inr d ↦ get_or-set_other known n x true false (λ e. d (sym e)) ∙ sym (ap (λ b. cond b true (is_known known x)) (ne_eqb n x d))
+    ]
+
+in_cons : (n : ℕ) (xs : List ℕ) (x : ℕ) → is_in (n ∷ xs) x ≡ cond (eqb n x) true (is_in xs x)
+in_cons n xs x = elim (eqb n x) as (λ b. (b || is_in xs x) ≡ cond b true (is_in xs x)) [ true ↦ refl | false ↦ refl ]
+
+pub mark_more : (nodes : ℕ) (xs : List ℕ) (n : ℕ) (known : List Bool) → length known ≡ nodes → n < nodes → Marks nodes xs known
+    → Marks nodes (n ∷ xs) (slice_set known n true)
+mark_more nodes xs n known e h k x lt =
+    known_set known n (omega arith) x ∙ ap (λ b. cond (eqb n x) true b) (k x lt) ∙ sym (in_cons n xs x)
+
+-- the same with the new one at the end
+pub mark_push : (nodes : ℕ) (xs : List ℕ) (n : ℕ) (known : List Bool) → length known ≡ nodes → n < nodes → Marks nodes xs known
+    → Marks nodes (xs ++ n ∷ []) (slice_set known n true)
+mark_push nodes xs n known e h k x lt =
+    known_set known n (omega arith) x ∙ ap (λ b. cond (eqb n x) true b) (k x lt) ∙ sym (any_push (λ m. m == x) xs n)
+
+pub known_more : (nodes : ℕ) (ss : List Step) (s : Step) (known : List Bool) → length known ≡ nodes → s.node < nodes
+    → KnownAre nodes ss known → KnownAre nodes (s ∷ ss) (slice_set known s.node true)
+known_more nodes ss s known e h k = mark_more nodes (attached ss) s.node known e h k
+
+pub none_known : (n x : ℕ) → is_known (replicate n false) x ≡ false
+none_known zero x = refl
+none_known (suc n) zero = refl
+none_known (suc n) (suc x) = none_known n x
+
+pub known_root : (nodes : ℕ) (known : List Bool) → 1 ≤ nodes → known ≡ replicate nodes false → KnownAre nodes [] (slice_set known 0 true)
+known_root nodes known some e x lt =
+    let size : length known ≡ nodes = ap length e ∙ length-replicate nodes false in
+    known_set known 0 (omega arith) x ∙ ap (λ b. cond (eqb 0 x) true b) (ap (λ k. is_known k x) e ∙ none_known nodes x)
+    ∙ sym (in_cons 0 [] x)

@@ -1,0 +1,199 @@
+-- A tree that grows by steps that waited.
+use Rattle.std.proofs.Common.{◌≡◌, ◌⊎◌, ℕ, ◌+◌, ◌*◌, ◌<◌, ◌≤◌, Bool, true, false, List, [], ◌∷◌, ◌++◌, length, reverse}
+use Rattle.std.proofs.Common.{Some, refl, sym, ap, ◌∙◌, subst, inl, inr, arith, eqb, slice_get, All}
+use Rattle.std.proofs.lemmas.Bool.{cases_Bool, both_ways, false≢true}
+use Rattle.std.proofs.lemmas.List.{reverse-append, map-append}
+use Rattle.srm_net.specs.declared.link.LinkSpec.{LinkSpec}
+use Rattle.srm_net.specs.declared.step.Step.{Step}
+use Rattle.srm_net.specs.Network.{plain_network, Joins, IsWithin, IsTree}
+use Rattle.srm_net.specs.Paths.{is_in}
+use Rattle.srm_net.specs.Growth.{Attaches, attached, Grows, beyond, IsAbove}
+use Rattle.srm_net.specs.Waiting.{targets, LeadsFrom, Wait, Adds}
+use Rattle.srm_net.specs.Ways.{is_known}
+use Rattle.srm_net.proofs.Lists.{all_get}
+use Rattle.srm_net.proofs.Marks.{KnownAre}
+use Rattle.srm_net.proofs.Numbers.{in_head, in_tail, in_cases, in_append_left, in_append_right, in_append_cases, one_missing, few_apart}
+use Rattle.srm_net.proofs.Growing.{attached_length, attached_apart, attached_below, beyond_new, beyond_old, joins_below, leaves_by}
+use Rattle.srm_net.proofs.Growing.{root_attached}
+
+-- ---- above
+
+pub above_itself : (ss : List Step) (x : ℕ) → IsAbove ss x x
+above_itself ss x l h = h
+
+above_on : (ss : List Step) (p q x : ℕ) → IsAbove ss p q → IsAbove ss q x → IsAbove ss p x
+above_on ss p q x a b l h = b l (a l h)
+
+above_kept : (s : Step) (ss : List Step) (p x : ℕ) → is_in (attached ss) s.node ≡ false → is_in (attached ss) p ≡ true
+    → is_in (attached ss) x ≡ true → IsAbove ss p x → IsAbove (s ∷ ss) p x
+above_kept s ss p x new hp hx a l h = beyond_old s ss l x new hx ∙ a l (sym (beyond_old s ss l p new hp) ∙ h)
+
+above_new : (s : Step) (ss : List Step) (p : ℕ) → is_in (attached ss) s.node ≡ false → is_in (attached ss) p ≡ true
+    → IsAbove ss p s.parent → IsAbove (s ∷ ss) p s.node
+above_new s ss p new hp a l h =
+    let up : beyond ss l s.parent ≡ true = a l (sym (beyond_old s ss l p new hp) ∙ h) in
+    beyond_new s ss l ∙ elim (cases_Bool (eqb s.link l)) [ inl e ↦ rw e refl | inr e ↦ rw e up ]
+
+-- ---- waiting
+
+leads_kept : (links : List LinkSpec) (s : Step) (ss : List Step) (r : Step) → LeadsFrom links ss r → LeadsFrom links (s ∷ ss) r
+leads_kept links s ss r f = record {
+  spec = f.spec;
+  link = f.link;
+  joins = f.joins;
+  parent = in_tail s.node r.parent (attached ss) f.parent;
+}
+
+waits_kept : (links : List LinkSpec) (s : Step) (ss : List Step) (x : ℕ) (rest : List Step) → is_in (attached ss) s.node ≡ false
+    → is_in (attached ss) x ≡ true → Wait links ss x rest → Wait links (s ∷ ss) x rest
+waits_kept links s ss x [] new hx w = tt
+waits_kept links s ss x (r ∷ rest) new hx w = (
+  leads_kept links s ss r w.0,
+  above_kept s ss r.parent x new w.0.parent hx w.1,
+  waits_kept links s ss r.parent rest new w.0.parent w.2,
+)
+
+-- once the first of them is taken, the others wait at its node
+pub waits_new : (links : List LinkSpec) (s : Step) (ss : List Step) (rest : List Step) → is_in (attached ss) s.node ≡ false
+    → Wait links ss s.parent rest → Wait links (s ∷ ss) s.node rest
+waits_new links s ss [] new w = tt
+waits_new links s ss (r ∷ rest) new w = (
+  leads_kept links s ss r w.0,
+  above_new s ss r.parent new w.0.parent w.1,
+  waits_kept links s ss r.parent rest new w.0.parent w.2,
+)
+
+-- and where it is left out, at the same node as before
+pub waits_skip : (links : List LinkSpec) (ss : List Step) (x : ℕ) (s : Step) (rest : List Step) → Wait links ss x (s ∷ rest)
+    → Wait links ss x rest
+waits_skip links ss x s [] w = tt
+waits_skip links ss x s (r ∷ rest) w = (w.2.0, above_on ss r.parent s.parent x w.2.1 w.1, w.2.2)
+
+pub waits_push : (links : List LinkSpec) (ss : List Step) (x : ℕ) (ps : List Step) (s : Step) → s.parent ≡ x → LeadsFrom links ss s
+    → Wait links ss x (reverse ps) → Wait links ss x (reverse (ps ++ s ∷ []))
+waits_push links ss x ps s e f w =
+    subst (Wait links ss x) (sym (reverse-append ps (s ∷ []))) (
+      f,
+      subst (λ y. IsAbove ss s.parent y) e (above_itself ss s.parent),
+      subst (λ y. Wait links ss y (reverse ps)) (sym e) w,
+    )
+
+pub attaches_waited : (links : List LinkSpec) (ss : List Step) (s : Step) → LeadsFrom links ss s → is_in (attached ss) s.node ≡ false
+    → Attaches links (attached ss) s
+attaches_waited links ss s f new = record { spec = f.spec; link = f.link; joins = f.joins; parent = f.parent; node = new }
+
+-- the step that comes next, before which the others stood
+pub next_waits : (links : List LinkSpec) (ss : List Step) (x : ℕ) (pending ps : List Step) (s : Step) → pending ≡ ps ++ s ∷ []
+    → Wait links ss x (reverse pending) → Wait links ss x (s ∷ reverse ps)
+next_waits links ss x pending ps s e w = subst (Wait links ss x) (ap reverse e ∙ reverse-append ps (s ∷ [])) w
+
+pub leads_below : (nodes : ℕ) (links : List LinkSpec) (ss : List Step) (s : Step) → All (IsWithin nodes) links → LeadsFrom links ss s
+    → s.node < nodes
+leads_below nodes links ss s ends f =
+    (joins_below nodes f.spec s.parent s.node (all_get (IsWithin nodes) links s.link f.spec ends f.link) f.joins).1
+
+-- ---- all neighbours
+
+-- each neighbour of an attached node is attached, or a step to it waits
+abbrev pub Covers : List LinkSpec → List Step → List Step → Type 0
+Covers links ss pending =
+    (l : ℕ) (k : LinkSpec) (u x : ℕ) → slice_get links l ≡ Some k → Joins k u x → is_in (attached ss) u ≡ true
+    → (is_in (attached ss) x ≡ true) ⊎ (is_in (targets pending) x ≡ true)
+
+target_cases : (ps : List Step) (s : Step) (x : ℕ) → is_in (targets (ps ++ s ∷ [])) x ≡ true
+    → (is_in (targets ps) x ≡ true) ⊎ (s.node ≡ x)
+target_cases ps s x h =
+    elim (in_append_cases (targets ps) (s.node ∷ []) x
+    (subst (λ ns. is_in ns x ≡ true) (map-append (λ (t : Step). t.node) ps (s ∷ [])) h)) [
+      | inl e ↦ inl e
+      | inr e ↦ elim (in_cases s.node x [] e) [ inl f ↦ inr f | inr f ↦ absurd (false≢true f) ]
+    ]
+
+pub covers_skip : (links : List LinkSpec) (ss ps : List Step) (s : Step) → is_in (attached ss) s.node ≡ true
+    → Covers links ss (ps ++ s ∷ [])
+    → Covers links ss ps
+covers_skip links ss ps s known c l k u x g j i =
+    elim (c l k u x g j i) [
+      | inl e ↦ inl e
+      | inr e ↦ elim (target_cases ps s x e) [
+        | inl f ↦ inr f
+        | inr f ↦ inl (subst (λ y. is_in (attached ss) y ≡ true) f known)
+      ]
+    ]
+
+-- the neighbours of one node more
+covers_added : (nodes : ℕ) (links : List LinkSpec) (ss : List Step) (marks : List Bool) (old new : List Step) (y : ℕ)
+    → All (IsWithin nodes) links
+    → KnownAre nodes ss marks → Adds links marks y old new
+    → (l : ℕ) (k : LinkSpec) (x : ℕ) → slice_get links l ≡ Some k → Joins k y x
+    → (is_in (attached ss) x ≡ true) ⊎ (is_in (targets new) x ≡ true)
+covers_added nodes links ss marks old new y ends agree a l k x g j =
+    let below : x < nodes = (joins_below nodes k y x (all_get (IsWithin nodes) links l k ends g) j).1 in
+    elim (cases_Bool (is_known marks x)) [ inl e ↦ inl (sym (agree x below) ∙ e) | inr e ↦ inr (a.each l k x g j e) ]
+
+pub covers_new : (nodes : ℕ) (links : List LinkSpec) (s : Step) (ss : List Step) (marks : List Bool) (ps new : List Step)
+    → All (IsWithin nodes) links
+    → KnownAre nodes (s ∷ ss) marks → Adds links marks s.node ps new → Covers links ss (ps ++ s ∷ []) → Covers links (s ∷ ss) new
+covers_new nodes links s ss marks ps new ends agree a c l k u x g j i =
+    elim (in_cases s.node u (attached ss) i) [
+      | inl e ↦ covers_added nodes links (s ∷ ss) marks ps new s.node ends agree a l k x g (subst (λ y. Joins k y x) (sym e) j)
+      | inr e ↦ elim (c l k u x g j e) [
+        | inl f ↦ inl (in_tail s.node x (attached ss) f)
+        | inr f ↦ elim (target_cases ps s x f) [
+          | inl h ↦ inr (a.kept x h)
+          | inr h ↦ inl (subst (λ y. is_in (s.node ∷ attached ss) y ≡ true) h (in_head s.node (attached ss)))
+        ]
+      ]
+    ]
+
+pub covers_root : (nodes : ℕ) (links : List LinkSpec) (marks : List Bool) (new : List Step) → All (IsWithin nodes) links
+    → KnownAre nodes [] marks → Adds links marks 0 [] new → Covers links [] new
+covers_root nodes links marks new ends agree a l k u x g j i =
+    elim (in_cases 0 u [] i) [
+      | inl e ↦ covers_added nodes links [] marks [] new 0 ends agree a l k x g (subst (λ y. Joins k y x) (sym e) j)
+      | inr e ↦ absurd (false≢true e)
+    ]
+
+-- ---- the end
+
+-- no more nodes are attached than there are
+pub attached_fit : (nodes : ℕ) (links : List LinkSpec) (ss : List Step) → 1 ≤ nodes → All (IsWithin nodes) links → Grows links ss
+    → length ss + 1 ≤ nodes
+attached_fit nodes links ss some ends g =
+    let k = few_apart nodes (attached ss) (attached_apart links ss g) (attached_below nodes links ss some ends g) in
+    let long = attached_length ss in
+    omega arith
+
+-- where no step waits, and some node is not attached, there is no tree
+pub stuck_no_tree : (nodes : ℕ) (links : List LinkSpec) (ss : List Step) → length ss + 1 < nodes → Covers links ss []
+    → (t : IsTree (plain_network nodes links [])) → ⊥
+stuck_no_tree nodes links ss few c t =
+    let long = attached_length ss in
+    let missing = one_missing nodes (attached ss) (omega arith) in
+    let path = t.connected 0 missing.0 t.some_nodes missing.1 in
+    let out = leaves_by links (attached ss) 0 path.0 missing.0 path.1.0 path.1.1 (root_attached ss) missing.2 in
+    let s = out.0 in
+    let a = out.1 in
+    elim (c s.link a.spec s.parent s.node a.link a.joins a.parent) [ inl e ↦ both_ways _ a.node e | inr e ↦ false≢true e ]
+
+-- ---- it ends
+
+pub none_left : (ps : List Step) → length ps ≡ 0 → ps ≡ []
+none_left [] e = refl
+none_left (s ∷ ss) e = absurd (omega arith)
+
+pub fewer_wait : (m n links old new : ℕ) → m ≡ n + 1 → new ≤ old + links → n * (links + 1) + new < m * (links + 1) + (old + 1)
+fewer_wait m n links old new e h =
+    let p : m * (links + 1) ≡ n * (links + 1) + (links + 1) = ap (λ t. t * (links + 1)) e ∙ omega arith in
+    omega arith
+
+-- ---- one more waits
+
+pub target_kept : (ps : List Step) (s : Step) (x : ℕ) → is_in (targets ps) x ≡ true → is_in (targets (ps ++ s ∷ [])) x ≡ true
+target_kept ps s x h =
+    subst (λ ns. is_in ns x ≡ true) (sym (map-append (λ (t : Step). t.node) ps (s ∷ []))) (in_append_left (targets ps) (s.node ∷ []) x h)
+
+pub target_new : (ps : List Step) (s : Step) (x : ℕ) → s.node ≡ x → is_in (targets (ps ++ s ∷ [])) x ≡ true
+target_new ps s x e =
+    subst (λ ns. is_in ns x ≡ true) (sym (map-append (λ (t : Step). t.node) ps (s ∷ [])))
+    (in_append_right (targets ps) (s.node ∷ []) x (subst (λ y. is_in (s.node ∷ []) y ≡ true) e (in_head s.node [])))
