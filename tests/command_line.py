@@ -61,17 +61,32 @@ def ended(words, text=CHAIN):
         return (done.returncode, done.stdout, done.stderr), len(rest.read())
 
 
-def counted(source, words, text, output=None):
-    """How often a run of the program does what a library counts."""
+def counted(source, words, text, output=None, most=None):
+    """How often a run of the program does what a library counts. Its output may be closed once so many bytes were read of it."""
     if source not in libraries:
         libraries[source] = f"{libraries['folder']}/{source}.so"
         built = ["cc", "-O2", "-shared", "-fPIC", "-o", libraries[source], TOP / "tests" / f"{source}.c", "-ldl"]
         subprocess.run(built, check=True)
     with tempfile.NamedTemporaryFile() as told:
         environment = {"LD_PRELOAD": libraries[source], "TELL": told.name}
+        if most is not None:
+            run_and_close(words, text, most, environment)
+            return os.path.getsize(told.name)
         with open(output or os.devnull, "wb") as taken:
             subprocess.run([program, *words], input=text, stdout=taken, stderr=subprocess.PIPE, env=environment, timeout=60)
         return os.path.getsize(told.name)
+
+
+def run_and_close(words, text, most, environment):
+    """Runs the program, reads so many bytes of its output, and closes that."""
+    with tempfile.TemporaryFile() as given:
+        given.write(text)
+        given.seek(0)
+        streams = {"stdin": given, "stdout": subprocess.PIPE, "stderr": subprocess.DEVNULL}
+        with subprocess.Popen([program, *words], env=environment, **streams) as child:
+            child.stdout.read(most)
+            child.stdout.close()
+            child.wait(60)
 
 
 def writes(words, text):
@@ -95,6 +110,11 @@ def threads(words, text=LONE):
 def allocations_with_full_output(words, text):
     """How many allocations a run makes whose standard output takes nothing, beside those for its words."""
     return counted("refuse_allocation", words, text, FULL) - counted("refuse_allocation", words, b"[")
+
+
+def allocations_until_closed(words, text, most):
+    """How many allocations a run makes whose output is closed once so many bytes were read, beside those for its words."""
+    return counted("refuse_allocation", words, text, most=most) - counted("refuse_allocation", words, b"[")
 
 
 def allocations(words, text):
@@ -230,6 +250,16 @@ class Traces(unittest.TestCase):
             with self.subTest(words=words):
                 self.assertLess(allocations_with_full_output(words, text), 3 / 4 * allocations(words, text))
 
+    def test_a_long_run_ends_soon_after_its_output_is_closed(self):
+        """Of some 160,000 rows, in over 2,000,000 bytes, 20,000 bytes are read; a pipe keeps 64 KiB more."""
+        text = star(255, 625)
+        for words in ([], WINDOW):
+            with self.subTest(words=words):
+                # those before the first row
+                begun = allocations_with_full_output(words, text)
+                left = allocations_until_closed(words, text, 20_000) - begun
+                self.assertLess(left, 1 / 4 * (allocations(words, text) - begun))
+
     def test_other_tables_are_written_at_the_end(self):
         text = chain(40, 1, 1)
         for table in ("members", "losses", "links"):
@@ -259,6 +289,16 @@ class Crews(unittest.TestCase):
     def test_a_pool_has_threads_of_its_own(self):
         self.assertGreater(threads([*WINDOW, "--crew", "pool"], chain(20, 1)), 0)
         self.assertEqual(threads([*WINDOW, "--crew", "plain"], chain(20, 1)), 0)
+
+    def test_a_pool_has_a_thread_for_each_processor(self):
+        """In a window of many jobs, where the processors are a power of two. The thread that calls is one of them."""
+        processors = os.sched_getaffinity(0)
+        self.addCleanup(os.sched_setaffinity, 0, processors)
+        for many in (1, 2, 4, 8):
+            if many <= len(processors):
+                os.sched_setaffinity(0, sorted(processors)[:many])
+                with self.subTest(processors=many):
+                    self.assertEqual(threads([*WINDOW, "--crew", "pool"], chain(64, 100)), many - 1)
 
     def test_a_bag_is_asked_for_by_its_name_alone(self):
         text = chain(20, 1)

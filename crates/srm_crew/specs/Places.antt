@@ -10,7 +10,7 @@ module _ {T : Type 0} where
   abbrev pub hold_of : ℕ → List T → List ℕ → Hold T
   hold_of w put taken = record { weight = w; put = put; taken = taken }
 
-  -- a pass that was both_holds away
+  -- a pass that was joined to another
   abbrev pub spent : Hold T
   spent = hold_of 0 [] []
 

@@ -25,8 +25,8 @@ pub trait Crew {
     /// # Errors
     /// [`CrewFault::Spent`] only where a job meets an event of a member that is gone; [`CrewFault::CountFull`] only where one meets
     /// a packet count that is used up; [`CrewFault::ShareFull`] only where the seat's share of a word, with the crossings of some of
-    /// the rows, is above 2^47; and [`CrewFault::NoMemory`]. Which of several comes is open. After each the jobs and the seat are
-    /// gone.
+    /// the rows, is above [`SHARE_MOST`](srm_ledger::seat::SHARE_MOST); and [`CrewFault::NoMemory`]. Which of several comes is
+    /// open. After each the jobs and the seat are gone.
     fn map(
         &mut self,
         alloc: Global,

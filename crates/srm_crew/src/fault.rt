@@ -9,7 +9,7 @@ pub enum CrewFault {
     NoMemory,
     /// A cell's member is gone, and has no answer to its next event.
     Spent,
-    /// A seat's share of a word would pass 2^47.
+    /// A seat's share of a word would pass [`SHARE_MOST`](srm_ledger::seat::SHARE_MOST).
     ShareFull,
     /// A cell's member was to send a packet, and its packet count, 2^48, is used up.
     CountFull,
