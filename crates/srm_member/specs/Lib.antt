@@ -8,3 +8,7 @@ pub mod Pending
 pub mod Fit
 pub mod Orderly
 pub mod Places
+pub mod Backoff
+pub mod Intervals
+pub mod IntervalLaws
+pub mod WorkedIntervals
