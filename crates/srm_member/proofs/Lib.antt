@@ -7,6 +7,7 @@ mod Earliest
 mod Indexes
 pub mod Changes
 pub mod FewerTimers
+pub mod IntervalProofs
 pub mod LawProofs
 mod Losses
 pub mod Maps

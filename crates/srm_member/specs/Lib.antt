@@ -9,3 +9,7 @@ pub mod Fit
 pub mod Orderly
 pub mod Kinds
 pub mod Places
+pub mod Backoff
+pub mod Intervals
+pub mod IntervalLaws
+pub mod WorkedIntervals

@@ -1,6 +1,7 @@
 //! Members of a session: what they know, what they answer, and their timers.
 #![tactic(auto)]
 
+pub mod backoff;
 pub mod cause;
 pub mod due;
 pub mod entries;
@@ -10,7 +11,10 @@ pub mod fixed;
 pub mod gone;
 pub mod held;
 mod index;
+pub mod interval;
+pub mod interval_laws;
 pub mod laws;
+pub mod limits;
 pub mod member;
 mod member_state;
 pub mod named;
