@@ -11,6 +11,7 @@ TESTS_OF_MEMORY := $(TESTS_OF_MEMORY:%/srm_report_tests_tests=%/srm_report_tests
 PREFIX ?= /usr/local
 SCENARIO ?= examples/two-nodes.toml
 ARGUMENTS ?=
+EXPLAIN = $(if $(filter --explain,$(ARGUMENTS)),,--explain)
 CRATE ?=
 BENCH ?=
 SECONDS ?= 60
@@ -27,11 +28,11 @@ $(PROGRAM): $(SOURCES)
 	@touch $@
 
 run: $(PROGRAM) ## prints the trace of a scenario, or what ARGUMENTS ask for: make run SCENARIO=examples/two-nodes.toml ARGUMENTS="--show links"
-	@$(PROGRAM) $(ARGUMENTS) < $(SCENARIO)
+	@$(PROGRAM) $(EXPLAIN) $(ARGUMENTS) < $(SCENARIO)
 
 try: ## the same program, unproved and compiled anew each time, in one to two and a half minutes: make try SCENARIO=.. ARGUMENTS=..
 	@echo "compiling the program, without a proof: one to two and a half minutes" >&2
-	@cd crates/srm_lab && $(RT) try $(if $(ARGUMENTS),-- $(ARGUMENTS)) < $(abspath $(SCENARIO))
+	@cd crates/srm_lab && $(RT) try -- $(EXPLAIN) $(ARGUMENTS) < $(abspath $(SCENARIO))
 
 check: ## what an edit needs: proves each crate that changed, or CRATE=srm_net with the crates below it; checks scripts and documents
 	@tests/tools_tests.py -q
@@ -56,6 +57,7 @@ test: ## the merge gate: proves everything from nothing, with tests and must-fai
 test-program: $(PROGRAM) ## compares what the program prints with each file of examples/, and its refusals, and tries it at the format's limits and on some random scenarios
 	@tests/compare_program.py $(PROGRAM) examples tests/scenarios
 	@tests/refusals.py $(PROGRAM)
+	@tests/explanations.py $(PROGRAM)
 	@tests/hostile.py $(PROGRAM) -q
 	@tests/command_line.py $(PROGRAM) -q
 	@tests/limits.py $(PROGRAM)

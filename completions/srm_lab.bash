@@ -8,7 +8,7 @@ _srm_lab() {
         --crew) mapfile -t COMPREPLY < <(compgen -W "plain pool bag" -- "$word") ;;
         --width) mapfile -t COMPREPLY < <(compgen -W "least promise" -- "$word") ;;
         --seed | --workers | --cut) ;;
-        *) mapfile -t COMPREPLY < <(compgen -W "--seed --engine --crew --workers --cut --width --show --help --version" -- "$word") ;;
+        *) mapfile -t COMPREPLY < <(compgen -W "--seed --engine --crew --workers --cut --width --show --check --explain --help --version" -- "$word") ;;
     esac
 }
 complete -o default -F _srm_lab srm_lab

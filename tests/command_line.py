@@ -384,6 +384,10 @@ Options:
           How wide windows are: the least delay of a link, as members promise, or ticks, from 1 to that delay [default: least]
       --show <trace|members|losses|links>
           The table: a row for each event, member, loss or link [default: trace]
+      --check
+          Only read and check the scenario, and write nothing
+      --explain
+          After the line of a refusal say what to mend
   -h, --help
           Print help
   -V, --version
@@ -396,7 +400,46 @@ Exit status:
 
 Example:
   srm_lab --seed 7 --show members < scenario.toml > members.csv
+
+With --explain a refusal says after its line what to mend.
 """.splitlines()
+
+
+class Checks(unittest.TestCase):
+    def test_a_scenario_that_is_accepted_is_not_run(self):
+        for words in (["--check"], ["--check", "--explain"], ["--check", *WINDOW, "--cut", "0"], ["--show", "links", "--check"]):
+            with self.subTest(words=words):
+                self.assertEqual(ended(words), ((0, b"", b""), 0))
+
+    def test_one_that_is_not_is_refused_as_ever(self):
+        for text, line in ((b"", b"refused: bad-key top 0\n"), (b"[", b"refused: not-toml\n")):
+            self.assertEqual(ended(["--check"], text), ((1, b"", line), 0))
+
+
+class Explanations(unittest.TestCase):
+    def check(self, words, *told):
+        (status, written, lines), unread = ended(["--explain", *words])
+        self.assertEqual((status, written, unread), (2, b"", len(CHAIN)))
+        self.assertTrue(lines.startswith(REFUSED[2]))
+        for it in told:
+            self.assertIn(it, lines.decode())
+
+    def test_a_refused_word_is_named_and_what_may_stand_there(self):
+        self.check(["--crew", "six"], "'six'", "--crew", "plain, pool, bag")
+        self.check(["--shw", "links"], "'--shw'", "'--show'")
+        self.check(["--workers", "65"], "'65'", "1..=64")
+        self.check(["--cut", "+1"], "'+1'", "--cut <N>", "1 to 1024")
+        self.check(["--width", "Least"], "'Least'", "--width <least|promise|N>")
+        self.check(["--seed", "1", "--seed", "2"], "--seed", "multiple times")
+        self.check(["--seed"], "--seed", "value is required")
+
+    def test_a_run_that_is_not_refused_is_not_explained(self):
+        self.assertEqual(ended(["--explain"])[0], (0, TRACE, b""))
+
+    def test_a_closed_output_is_not_explained(self):
+        with open(FULL, "wb") as full:
+            done = subprocess.run([program, "--explain"], input=CHAIN, stdout=full, stderr=subprocess.PIPE, timeout=60)
+        self.assertEqual((done.returncode, done.stderr), (1, b"refused: write-fault 0\n"))
 
 
 class Help(unittest.TestCase):

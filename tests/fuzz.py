@@ -14,9 +14,10 @@ scenario with bytes or numbers changed, or a command line that must be refused. 
   status 1. Where Python cannot read the text as TOML, any refusal of a scenario may come. A refused command line has status 2.
 - The run in windows, with a crew, workers, a cut and a width at random, gives the sequential engine's bytes; and where the cut or
   the width is none that the scenario allows, their refusal (fuzz_windows.py).
+- With --explain a refusal has the same line, status and standard output, and something after the line.
 - Each run ends within LONGEST seconds.
 
-A table, or a width, that the program's --help does not name is left out. Prints each case that fails and writes its scenario to out/;
+A table, a width, or an option, that the program's --help does not name is left out. Prints each case that fails and writes its scenario to out/;
 --case SEED runs one case again. Without --from the first seed is a random one. Ends with status 1 where a case failed.
 """
 import argparse
@@ -124,10 +125,22 @@ def check_windows(run, named, case, must):
         is_same(" ".join(words), run(words, case.text), (1, b"", f"refused: {line}\n".encode()))
 
 
+def check_explained(run, words, text, end):
+    """Sees that an explanation changes nothing of a refusal but what follows its line."""
+    status, printed, told = run(["--explain", *words], text)
+    line, _, more = told.partition(b"\n")
+    is_same("--explain", (status, printed, line + b"\n"), end)
+    if not more.endswith(b"\n"):
+        raise Wrong(f"--explain: {more[:200]} after the line")
+
+
 def check(run, named, case):
     """Runs one case, and raises Wrong where the program does what it must not. Its help names these words."""
     if case.words is not None:
-        is_same(case.words, run(case.words, case.text), (2, b"", b"command line refused\n"))
+        end = (2, b"", b"command line refused\n")
+        is_same(case.words, run(case.words, case.text), end)
+        if "explain" in named:
+            check_explained(run, case.words, case.text, end)
         return
     first = run(["--seed", str(case.seed)] if case.seed else [], case.text)
     is_in_form("trace", first)
@@ -137,6 +150,8 @@ def check(run, named, case):
         raise Wrong(f"it must be accepted: {first[2]}")
     if isinstance(case.must, str) and case.must != fuzz_scenarios.UNKNOWN:
         is_same("refusal", first, (1, b"", f"refused: {case.must}\n".encode()))
+    if first[0] != 0 and "explain" in named:
+        check_explained(run, [], case.text, first)
     tables = [table for table in fuzz_tables.HEADERS if table in named]
     must = ends(tables, case, first)
     for table in tables:

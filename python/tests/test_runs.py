@@ -110,6 +110,16 @@ def test_refusal_has_the_line_of_the_program(tmp_path):
         assert fault.value.status == 1
 
 
+def test_refusal_has_what_the_program_explains(tmp_path):
+    path = tmp_path / "srm_lab"
+    path.write_text('#!/bin/sh\ntest "$1" = --explain && printf "refused: bad-width\\n  why\\n  and more\\n" >&2\nexit 1\n')
+    path.chmod(0o755)
+    with pytest.raises(RefusedError) as fault:
+        run(scenario.chain(3), program=path, cache=None)
+    assert (fault.value.line, fault.value.explanation) == ("refused: bad-width", "  why\n  and more")
+    assert str(fault.value) == "refused: bad-width\n  why\n  and more"
+
+
 def test_trace_that_breaks_off_with_a_refusal_is_that_refusal(tmp_path):
     path = tmp_path / "srm_lab"
     path.write_text('#!/bin/sh\nprintf "time,member,cause,ref,result,lost,sent\\n0,0,join,-,in,0,-\\n"\n'

@@ -1,4 +1,5 @@
 pub mod CommandLines
+pub mod GivenTexts
 pub mod Openings
 pub mod OrderlyRows
 pub mod Refusals

@@ -1,5 +1,5 @@
 -- Sessions of texts, from those of their scenarios.
-use Rattle.std.proofs.Common.{◌≡◌, ℕ, ◌≤◌, List, length, Option, Some, None, Result, Ok, Err, refl, subst, inr}
+use Rattle.std.proofs.Common.{◌≡◌, ℕ, ◌≤◌, Bool, false, List, length, Option, Some, None, Result, Ok, Err, refl, sym, subst, inr}
 use Rattle.std.specs.Prelude.{IfSome}
 use Rattle.std.specs.Io.KnownBytes.{Keeps}
 use Rattle.srm_net.specs.Network.{Network}
@@ -10,18 +10,24 @@ use Rattle.srm_scenario.proofs.Texts.{count_stays}
 use Rattle.srm_program.specs.declared.fault.Fault.{Fault}
 use Rattle.srm_program.specs.declared.fault.Fault.TheVariants.{Line, Scenario, Lab, NoMemory}
 use Rattle.srm_program.specs.declared.options.Options.{Options}
-use Rattle.srm_program.specs.Sessions.{TellsSession, TellsText, reading_failures}
+use Rattle.srm_program.specs.declared.fault.LabFault.{LabFault}
+use Rattle.srm_program.specs.Sessions.{TellsSession, TellsTask, TellsText, reading_failures}
 
 -- the session of a text is that of the scenario that it describes
 pub session_of_text : {T : Type 0} (p : PlainScenario) (net : Network) (text : List ℕ) (seed : ℕ) (o : Options) (old new : Option (List ℕ))
     (r : Result T Fault)
-    → scenario_of_text text ≡ Ok p → net ≡ network_of p → TellsSession p net seed o old new r → TellsText seed o text old new r
-session_of_text {T} p net text seed o old new r is made told =
+    → scenario_of_text text ≡ Ok p → o.check ≡ false → net ≡ network_of p → TellsSession p net seed o old new r
+    → TellsText seed o text old new r
+session_of_text {T} p net text seed o old new r is runs made told =
     describes r (subst (λ (w : Network). TellsSession p w seed o old new r) made told)
   where
     describes : (r : Result T Fault) → TellsSession p (network_of p) seed o old new r → TellsText seed o text old new r
-    describes (Ok v) told = (p, is, told)
-    describes (Err (Lab f)) told = (p, is, told)
+    describes (Ok v) told =
+        let r : Result T LabFault = Ok v in
+        (p, is, subst (λ (b : Bool). TellsTask b p seed o old new r) (sym runs) told)
+    describes (Err (Lab f)) told =
+        let r : Result T LabFault = Err f in
+        (p, is, subst (λ (b : Bool). TellsTask b p seed o old new r) (sym runs) told)
     describes (Err (Line f)) told = absurd told
     describes (Err (Scenario f)) told = absurd told
     describes (Err NoMemory) told = told

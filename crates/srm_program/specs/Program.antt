@@ -9,6 +9,8 @@ use Rattle.srm_program.specs.declared.fault.LineFault.TheVariants as line
 use Rattle.srm_program.specs.declared.fault.Fault.{Fault}
 use Rattle.srm_program.specs.declared.fault.Fault.TheVariants as fault
 use Rattle.srm_program.specs.declared.options.Options.{Options}
+use Rattle.srm_program.specs.declared.request.Request.{Request}
+use Rattle.srm_program.specs.Explained.{Follows}
 use Rattle.srm_program.specs.RefusalLines.{line_of_fault}
 use Rattle.srm_program.specs.Runs.{MayShareBag}
 use Rattle.srm_program.specs.Sessions.{TellsFeed, ReadsToEnd, reading_failures, session_failures}
@@ -61,17 +63,22 @@ TakesLine d l =
     ((d.fails ≡ d.failed) × Appends d.old d.new l)
     ⊎ ((d.fails ≡ d.failed + 1) × (n : ℕ) × (n < length l) × Appends d.old d.new (take n l))
 
--- what an outlet for errors took of a refusal: its line; or, where the command line was not refused, the line that
--- memory ran out
-abbrev pub TakesFaultLine : Device → Fault → Type 0
-TakesFaultLine d f =
-    TakesLine d (full_line (line_of_fault f))
+-- what an outlet took of a line and what follows it: both, or the line alone
+abbrev pub TakesEither : Device → List ℕ → List ℕ → Type 0
+TakesEither d l told = TakesLine d (l ++ told) ⊎ TakesLine d l
+
+-- what an outlet for errors took of a refusal: its line and what follows it, or its line alone; or, where the command
+-- line was not refused, the line that memory ran out
+abbrev pub TakesFaultLine : Device → Fault → List ℕ → Type 0
+TakesFaultLine d f told =
+    TakesEither d (full_line (line_of_fault f)) told
     ⊎ ((status_of_fault f ≢ 2) × TakesLine d (full_line (codes "refused: no-memory")))
 
--- what an outlet for errors took: nothing after success
-abbrev pub TellsErrors : {T : Type 0} → Device → Result T Fault → Type 0
-TellsErrors d (Ok v) = (d.fails ≡ d.failed) × Keeps d.old d.new
-TellsErrors d (Err f) = TakesFaultLine d f
+-- what an outlet for errors took, where a session was given this text: nothing after success, and after a refusal its
+-- line and what is asked for to follow it
+abbrev pub TellsErrors : {T : Type 0} → Device → Request → List ℕ → Result T Fault → Type 0
+TellsErrors d request given (Ok v) = (d.fails ≡ d.failed) × Keeps d.old d.new
+TellsErrors d request given (Err f) = (told : List ℕ) × Follows request given f told × TakesFaultLine d f told
 
 -- the exit status: 0 after success
 abbrev pub exit_status : {T : Type 0} → Result T Fault → ℕ
@@ -80,12 +87,12 @@ exit_status (Err f) = status_of_fault f
 
 -- what the program does for what the command line asks for, over the devices that it reads from, writes to and tells
 -- refusals on: something comes of it, as the exit status and the outlet for errors tell
-abbrev pub Answers : Result (ℕ × Options) LineFault → Device → Device → Device → ℕ → Type 0
-Answers asked feed outlet errors status =
+abbrev pub Answers : Request → Device → Device → Device → ℕ → Type 0
+Answers request feed outlet errors status =
     (done : Result (Unit {0}) Fault) × (given : List ℕ)
     × Consumes feed.old feed.new given × (length given ≤ LONGEST_TEXT + 1)
-    × CarriesOut asked given outlet.old outlet.new feed.new done
+    × CarriesOut request.asked given outlet.old outlet.new feed.new done
     × (feed.fails ≡ reading_failures done feed.failed)
     × (outlet.fails ≡ session_failures done outlet.failed)
-    × TellsErrors errors done
+    × TellsErrors errors request given done
     × (status ≡ exit_status done)

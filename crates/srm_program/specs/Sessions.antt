@@ -1,5 +1,5 @@
 -- What comes of a session, from a scenario to its report.
-use Rattle.std.specs.Prelude.{⊤, ◌≡◌, ℕ, List, Option, Result, Ok, Err}
+use Rattle.std.specs.Prelude.{⊤, ◌≡◌, ℕ, Bool, true, false, List, Option, Result, Ok, Err}
 use Rattle.std.specs.Io.KnownBytes.{IsAtEnd, Keeps}
 use Rattle.srm_net.specs.Network.{Network}
 use Rattle.srm_scenario.specs.declared.fault.ScenarioFault.{ScenarioFault}
@@ -41,16 +41,24 @@ reading_failures (Err (fault.Line f)) n = n
 reading_failures (Err (fault.Lab f)) n = n
 reading_failures (Err fault.NoMemory) n = n
 
+-- what an outlet took of an accepted scenario: what its run tells; nothing where it was only to be checked, which
+-- cannot be refused
+abbrev pub TellsTask : {T : Type 0} → Bool → PlainScenario → ℕ → Options
+    → Option (List ℕ) → Option (List ℕ) → Result T LabFault → Type 0
+TellsTask false p seed o old new r = TellsRun p (network_of p) seed o old new r
+TellsTask true p seed o old new (Ok v) = Keeps old new
+TellsTask true p seed o old new (Err f) = ⊥
+
 -- what an outlet took of the session of a text, with random words of this seed: what the run of its scenario tells;
 -- nothing where the text is refused, by its first fault, and nothing where memory ran out before the run
 abbrev pub TellsText : {T : Type 0} → ℕ → Options → List ℕ
     → Option (List ℕ) → Option (List ℕ) → Result T Fault → Type 0
 TellsText seed o text old new (Ok v) =
     (p : PlainScenario) × (faults.scenario_of_text text ≡ Ok p)
-    × TellsRun p (network_of p) seed o old new (let r : Result _ LabFault = Ok v in r)
+    × TellsTask o.check p seed o old new (let r : Result _ LabFault = Ok v in r)
 TellsText {T} seed o text old new (Err (fault.Lab f)) =
     (p : PlainScenario) × (faults.scenario_of_text text ≡ Ok p)
-    × TellsRun p (network_of p) seed o old new (let r : Result T LabFault = Err f in r)
+    × TellsTask o.check p seed o old new (let r : Result T LabFault = Err f in r)
 TellsText seed o text old new (Err (fault.Line f)) = ⊥
 TellsText seed o text old new (Err (fault.Scenario f)) = faults.RefusesText f text × Keeps old new
 TellsText seed o text old new (Err fault.NoMemory) = Keeps old new

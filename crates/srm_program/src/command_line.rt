@@ -8,7 +8,7 @@ use crate::fault::LineFault;
 use crate::options::{CrewKind, Engine, Options, Show};
 use clap::builder::ValueParser;
 use clap::error::ErrorKind;
-use clap::{Arg, ArgMatches, Command, Error};
+use clap::{Arg, ArgAction, ArgMatches, Command, Error};
 use srm_engine::width::Width;
 use std::alloc::{AllocError, Global};
 use std::convert::AsStr;
@@ -25,7 +25,9 @@ const AFTER_HELP: &str = "Exit status:
   2  the command line was refused, and standard input was not read
 
 Example:
-  srm_lab --seed 7 --show members < scenario.toml > members.csv";
+  srm_lab --seed 7 --show members < scenario.toml > members.csv
+
+With --explain a refusal says after its line what to mend.";
 
 /// How the value of an option is read.
 #[derive(Clone, Copy, Debug)]
@@ -53,6 +55,8 @@ pub(crate) struct OptionLine {
     /// What it is for.
     about: &'static str,
     reader: Reader,
+    /// Its words, where it takes no other text.
+    words: &'static [&'static str],
 }
 
 const SEED: OptionLine = OptionLine {
@@ -64,6 +68,7 @@ const SEED: OptionLine = OptionLine {
         least: 0,
         most: 9_223_372_036_854_775_807,
     },
+    words: &[],
 };
 
 const ENGINE: OptionLine = OptionLine {
@@ -72,6 +77,7 @@ const ENGINE: OptionLine = OptionLine {
     default: "step",
     about: "One event at a time, or windows of time; the table is the same",
     reader: Reader::Text,
+    words: &["step", "window"],
 };
 
 const CREW: OptionLine = OptionLine {
@@ -80,6 +86,7 @@ const CREW: OptionLine = OptionLine {
     default: "plain",
     about: "Who works in a window: one thread, a pool of threads, or workers that share a bag of jobs",
     reader: Reader::Text,
+    words: &["plain", "pool", "bag"],
 };
 
 const WORKERS: OptionLine = OptionLine {
@@ -88,6 +95,7 @@ const WORKERS: OptionLine = OptionLine {
     default: "1",
     about: "How many workers share the bag",
     reader: Reader::Number { least: 1, most: 64 },
+    words: &[],
 };
 
 const CUT: OptionLine = OptionLine {
@@ -96,6 +104,7 @@ const CUT: OptionLine = OptionLine {
     default: "1",
     about: "How many members a job of a window has, 1 to 1024",
     reader: Reader::Text,
+    words: &[],
 };
 
 const WIDTH: OptionLine = OptionLine {
@@ -104,6 +113,7 @@ const WIDTH: OptionLine = OptionLine {
     default: "least",
     about: "How wide windows are: the least delay of a link, as members promise, or ticks, from 1 to that delay",
     reader: Reader::Text,
+    words: &[],
 };
 
 const SHOW: OptionLine = OptionLine {
@@ -112,7 +122,30 @@ const SHOW: OptionLine = OptionLine {
     default: "trace",
     about: "The table: a row for each event, member, loss or link",
     reader: Reader::Text,
+    words: &["trace", "members", "losses", "links"],
 };
+
+/// An option that takes nothing.
+#[derive(Clone, Copy, Debug)]
+struct Flag {
+    /// Its name, after two dashes.
+    name: &'static str,
+    /// What it is for.
+    about: &'static str,
+}
+
+const CHECK: Flag = Flag {
+    name: "check",
+    about: "Only read and check the scenario, and write nothing",
+};
+
+const EXPLAIN: Flag = Flag {
+    name: "explain",
+    about: "After the line of a refusal say what to mend",
+};
+
+/// The options that take nothing, in the order in which help lists them, after the others.
+const FLAGS: [Flag; 2] = [CHECK, EXPLAIN];
 
 /// The options, in the order in which help lists them.
 const OPTIONS: [OptionLine; 7] = [SEED, ENGINE, CREW, WORKERS, CUT, WIDTH, SHOW];
@@ -146,7 +179,7 @@ const SHOWS: [(&str, Show); 4] = [
 pub fn options_of<S: AsStr>(alloc: Global, words: &[S]) -> Result<(u64, Options), LineFault>
     ensures { IfOk result MayBeAsked }
 {
-    let matches = match command(alloc)?.try_get_matches_from(words) {
+    let matches = match command(alloc, Wording::Any)?.try_get_matches_from(words) {
         Ok(matches) => matches,
         Err(error) => return Err(fault_of(alloc, &error)),
     };
@@ -159,27 +192,79 @@ pub fn options_of<S: AsStr>(alloc: Global, words: &[S]) -> Result<(u64, Options)
         cut: cut(&matches)?,
         width: width(&matches)?,
         show: word(&matches, SHOW, &SHOWS)?,
+        check: matches.get_flag(CHECK.name),
+        explain: matches.get_flag(EXPLAIN.name),
     };
     Ok((seed, options))
 }
 
+/// What is told of refused words after their line: `clap`'s message, which names the word and what may stand in its place. It is
+/// empty where no word asks for an explanation.
+///
+/// # Errors
+/// Memory ran out.
+pub fn message_of<S: AsStr>(alloc: Global, words: &[S]) -> Result<String, AllocError> {
+    if !words.iter().any(|word| word.as_str() == "--explain") {
+        return Ok(String::new(alloc));
+    }
+    match command(alloc, Wording::Words)?.try_get_matches_from(words) {
+        Ok(matches) => message_of_numbers(alloc, &matches),
+        Err(error) => format!(in alloc; "{error}"),
+    }
+}
+
+// What is told of words whose options take other text besides, and not this one.
+fn message_of_numbers(alloc: Global, matches: &ArgMatches<'_>) -> Result<String, AllocError> {
+    let option = if cut(matches).is_err() { CUT } else { WIDTH };
+    let name = option.name;
+    let takes = option.takes;
+    let about = option.about;
+    let text = matches.get_str(name).unwrap_or("");
+    format!(in alloc;
+        "error: invalid value '{text}' for '--{name} <{takes}>': N is decimal digits alone\n\n{about}\n"
+    )
+}
+
+/// How `clap` is to look at the texts of options.
+#[derive(Clone, Copy, Debug)]
+enum Wording {
+    /// Any text is taken, so that what the program refuses comes after all that `clap` does.
+    Any,
+    /// Where an option takes words alone, other text is refused.
+    Words,
+}
+
 // The command that `clap` reads, made of the table.
-fn command<'a>(alloc: Global) -> Result<Command<'a>, AllocError> {
+fn command<'a>(alloc: Global, wording: Wording) -> Result<Command<'a>, AllocError> {
     let mut command = Command::new(alloc, "srm_lab")
         .version(VERSION)
         .about(ABOUT)
         .after_help(AFTER_HELP);
     for option in OPTIONS {
-        command = command.arg(arg_of(alloc, option))?;
+        command = command.arg(arg_of(alloc, option, wording))?;
+    }
+    for flag in FLAGS {
+        command = command.arg(arg_of_flag(alloc, flag))?;
     }
     Ok(command)
 }
 
+// The argument of an option that takes nothing.
+fn arg_of_flag<'a>(alloc: Global, flag: Flag) -> Arg<'a> {
+    Arg::new(alloc, flag.name)
+        .long(flag.name)
+        .action(ArgAction::SetTrue)
+        .help(flag.about)
+}
+
 // The argument of an option.
-fn arg_of<'a>(alloc: Global, option: OptionLine) -> Arg<'a> {
-    let parser = match option.reader {
-        Reader::Number { least, most } => ValueParser::unsigned(least, most),
-        Reader::Text => ValueParser::string(),
+fn arg_of<'a>(alloc: Global, option: OptionLine, wording: Wording) -> Arg<'a> {
+    let parser = match (option.reader, wording) {
+        (Reader::Number { least, most }, _) => ValueParser::unsigned(least, most),
+        (Reader::Text, Wording::Words) if !option.words.is_empty() => ValueParser::Names(
+            option.words,
+        ),
+        (Reader::Text, _) => ValueParser::string(),
     };
     Arg::new(alloc, option.name)
         .long(option.name)

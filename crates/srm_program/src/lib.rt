@@ -3,6 +3,7 @@
 
 mod asked;
 pub mod command_line;
+mod explained;
 pub mod fault;
 mod hand_rows;
 pub mod line;
@@ -11,5 +12,6 @@ mod members;
 pub mod options;
 pub mod program;
 mod report;
+pub mod request;
 pub mod run;
 pub mod session;

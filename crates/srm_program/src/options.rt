@@ -49,4 +49,8 @@ pub struct Options {
     pub width: Width,
     /// What is shown.
     pub show: Show,
+    /// Whether the scenario is only read and checked, and nothing is run or shown.
+    pub check: bool,
+    /// Whether a refusal is explained after its line.
+    pub explain: bool,
 }

@@ -1,18 +1,20 @@
 //! What the program does, over its devices.
-ghost use Rattle.std.specs.Prelude.{◌≡◌, ◌≤◌, ◌<◌, ◌+◌, ◌-◌, ◌^◌, ℕ, List, length, Result, IfErr, IfOk, string_bytes};
+ghost use Rattle.std.specs.Prelude.{◌≡◌, ◌≤◌, ◌<◌, ◌+◌, ◌-◌, ◌^◌, ℕ, List, length, IfErr, IfOk, string_bytes};
 ghost use Rattle.std.specs.Io.KnownBytes.{Consumes};
 ghost use Rattle.srm_scenario.specs.declared.bytes.TheConstants.{LONGEST_TEXT};
-ghost use Rattle.srm_program.specs.declared.fault.LineFault.{LineFault};
-ghost use Rattle.srm_program.specs.declared.options.Options.{Options};
+ghost use Rattle.srm_program.specs.declared.request.Request.{Request};
+ghost use Rattle.srm_program.specs.Explained.{KeepsText};
 ghost use Rattle.srm_program.specs.RefusalLines.{line_of_fault};
-ghost use Rattle.srm_program.specs.Program.{device, full_line, status_of_fault, Answers, CarriesOut, MayBeAsked, TakesFaultLine, TakesLine};
+ghost use Rattle.srm_program.specs.Program.{device, full_line, status_of_fault, Answers, CarriesOut, MayBeAsked, TakesEither, TakesFaultLine, TakesLine};
 ghost use Rattle.srm_program.specs.Sessions.{reading_failures, session_failures};
 
-use crate::command_line::options_of;
+use crate::command_line::{message_of, options_of};
+use crate::explained::{asks_explanation, following};
 use crate::fault::{Fault, LabFault, LineFault};
 use crate::line::{NoMemory, line_of};
 use crate::options::Options;
-use crate::session::simulate;
+use crate::request::Request;
+use crate::session::{Session, simulate};
 use srm_report::outlet::Outlet;
 use srm_report::writing::{WriteFault, write_out};
 use srm_scenario::feed::Feed;
@@ -27,7 +29,8 @@ use std::thread::Threads;
 const REFUSED_WORDS: u8 = 2;
 
 /// Does what the words ask for, the program's name first: reads a scenario from the feed and writes the report of its run to the
-/// outlet, or writes help there. A refusal is told as one line on the outlet for errors. Answers the exit status: 0 where all was
+/// outlet, or writes help there. A refusal is told as one line on the outlet for errors, and explained after it where that is asked
+/// for. Answers the exit status: 0 where all was
 /// written, 1 after a refusal, and 2 where the command line is refused. For help and a refused command line nothing is read.
 pub fn program<R: Threads + Wait + Sync, F: Feed, O: Outlet, E: Outlet>(
     rt: &R,
@@ -40,54 +43,78 @@ pub fn program<R: Threads + Wait + Sync, F: Feed, O: Outlet, E: Outlet>(
     requires feed { F.failures feed.old < 2 ^ 64 - 1 }
     requires outlet { O.failures outlet.old < 2 ^ 64 - 1 }
     requires errors { E.failures errors.old < 2 ^ 64 - 1 }
-    ensures { (asked : Result (ℕ × Options) LineFault) × IfOk asked MayBeAsked
-        × Answers asked
+    ensures { (request : Request) × IfOk request.asked MayBeAsked
+        × Answers request
         (device (F.remaining feed.old) (F.remaining feed.new) (F.failures feed.old) (F.failures feed.new))
         (device (O.taken outlet.old) (O.taken outlet.new) (O.failures outlet.old) (O.failures outlet.new))
         (device (E.taken errors.old) (E.taken errors.new) (E.failures errors.old) (E.failures errors.new))
         result }
 {
-    answer(rt, alloc, asked(alloc, words), feed, outlet, errors)
+    answer(rt, alloc, request_of(alloc, words), feed, outlet, errors)
 }
 
 // What the words ask for. A word that is no text is refused.
-fn asked(alloc: Global, words: io::Result<Args>) -> Result<(u64, Options), LineFault>
-    ensures { IfOk result MayBeAsked }
+fn request_of(alloc: Global, words: io::Result<Args>) -> Request
+    ensures { IfOk result.asked MayBeAsked }
 {
-    match words {
-        Ok(words) => {
-            let words: Vec<String> = words.collect(alloc)?;
-            options_of(alloc, words.as_slice())
-        }
-        Err(error) if error.kind() == io::ErrorKind::OutOfMemory => Err(LineFault::NoMemory),
-        Err(_) => Err(LineFault::Line),
+    let fault = match words {
+        Ok(words) => match words.collect(alloc) {
+            Ok(words) => return understood(alloc, &words),
+            Err(_) => LineFault::NoMemory,
+        },
+        Err(error) if error.kind() == io::ErrorKind::OutOfMemory => LineFault::NoMemory,
+        Err(_) => LineFault::Line,
+    };
+    Request {
+        asked: Err(fault),
+        message: String::new(alloc),
+    }
+}
+
+// What words of text ask for. Where they are refused, and there is no memory to say why, nothing more is told.
+fn understood(alloc: Global, words: &Vec<String>) -> Request
+    ensures { IfOk result.asked MayBeAsked }
+{
+    let asked = options_of(alloc, words.as_slice());
+    let message = match &asked {
+        Err(LineFault::Line | LineFault::BadWord) => message_of(alloc, words.as_slice()),
+        _ => Ok(String::new(alloc)),
+    };
+    Request {
+        asked,
+        message: message.unwrap_or(String::new(alloc)),
     }
 }
 
 /// Does what is asked for, and answers the exit status: 0 where all was written, 1 after a refusal, and 2 where the command line is
-/// refused. A refusal is told as one line on the outlet for errors, as far as that takes it.
+/// refused. A refusal is told as one line on the outlet for errors, and where that is asked for explained after it, as far as that
+/// outlet takes it and there is memory for an explanation.
 pub fn answer<R: Threads + Wait + Sync, F: Feed, O: Outlet, E: Outlet>(
     rt: &R,
     alloc: Global,
-    asked: Result<(u64, Options), LineFault>,
+    request: Request,
     feed: &mut F,
     outlet: &mut O,
     errors: &mut E,
 ) -> u8
-    requires asked { IfOk asked MayBeAsked }
+    requires asked { IfOk request.asked MayBeAsked }
     requires feed { F.failures feed.old < 2 ^ 64 - 1 }
     requires outlet { O.failures outlet.old < 2 ^ 64 - 1 }
     requires errors { E.failures errors.old < 2 ^ 64 - 1 }
-    ensures { Answers asked
+    ensures { Answers request
         (device (F.remaining feed.old) (F.remaining feed.new) (F.failures feed.old) (F.failures feed.new))
         (device (O.taken outlet.old) (O.taken outlet.new) (O.failures outlet.old) (O.failures outlet.new))
         (device (E.taken errors.old) (E.taken errors.new) (E.failures errors.old) (E.failures errors.new))
         result }
 {
-    match carry_out(rt, alloc, asked, feed, outlet) {
+    let Request { asked, message } = request;
+    let explains = asks_explanation(&asked);
+    let Session { done, text } = carry_out(rt, alloc, asked, feed, outlet);
+    match done {
         Ok(()) => 0,
         Err(fault) => {
-            tell(alloc, &fault, errors);
+            let told = following(alloc, explains, message, &fault, &text);
+            tell(alloc, &fault, told.as_str(), errors);
             status_of(&fault)
         }
     }
@@ -100,40 +127,59 @@ fn carry_out<R: Threads + Wait + Sync, F: Feed, O: Outlet>(
     asked: Result<(u64, Options), LineFault>,
     feed: &mut F,
     outlet: &mut O,
-) -> Result<(), Fault>
+) -> Session
     requires asked { IfOk asked MayBeAsked }
     requires feed { F.failures feed.old < 2 ^ 64 - 1 }
     requires outlet { O.failures outlet.old < 2 ^ 64 - 1 }
     ensures unread { IfErr asked (λ _. feed.new ≡ feed.old) }
-    ensures read { F.failures feed.new ≡ reading_failures result (F.failures feed.old) }
-    ensures failures { O.failures outlet.new ≡ session_failures result (O.failures outlet.old) }
+    ensures read { F.failures feed.new ≡ reading_failures result.done (F.failures feed.old) }
+    ensures failures { O.failures outlet.new ≡ session_failures result.done (O.failures outlet.old) }
     ensures taken { (given : List ℕ) × Consumes (F.remaining feed.old) (F.remaining feed.new) given
         × (length given ≤ LONGEST_TEXT + 1)
-        × CarriesOut asked given (O.taken outlet.old) (O.taken outlet.new) (F.remaining feed.new) result }
+        × CarriesOut asked given (O.taken outlet.old) (O.taken outlet.new) (F.remaining feed.new) result.done
+        × KeepsText result.done given result.text.items }
 {
     match asked {
         Ok((seed, options)) => simulate(rt, alloc, feed, seed, options, outlet),
         Err(LineFault::Help { text }) => match write_out(outlet, text.as_bytes()) {
-            Ok(()) => Ok(()),
-            Err(WriteFault { written }) => Err(Fault::Lab(LabFault::WriteFault { written })),
+            Ok(()) => Session::unread(alloc, Ok(())),
+            Err(WriteFault { written }) => {
+                Session::unread(alloc, Err(Fault::Lab(LabFault::WriteFault { written })))
+            }
         },
-        Err(fault) => Err(Fault::Line(fault)),
+        Err(fault) => Session::unread(alloc, Err(Fault::Line(fault))),
     }
 }
 
-// Tells the line of a refusal, which does not allocate where the command line is refused.
-fn tell<E: Outlet>(alloc: Global, fault: &Fault, errors: &mut E)
+// Tells the line of a refusal and what follows it. Where nothing follows, the line of a refused command line does not allocate.
+fn tell<E: Outlet>(alloc: Global, fault: &Fault, told: &str, errors: &mut E)
     requires { E.failures errors.old < 2 ^ 64 - 1 }
     ensures { TakesFaultLine
         (device (E.taken errors.old) (E.taken errors.new) (E.failures errors.old) (E.failures errors.new))
-        fault.now }
+        fault.now told.now }
 {
     if status_of(fault) == REFUSED_WORDS {
-        return put_line(b"command line refused\n", errors);
+        return put_both(alloc, "command line refused\n", told, errors);
     }
     match full_line_of(alloc, fault) {
-        Ok(line) => put_line(line.as_bytes(), errors),
+        Ok(line) => put_both(alloc, line.as_str(), told, errors),
         Err(NoMemory) => put_line(b"refused: no-memory\n", errors),
+    }
+}
+
+// Puts a line and what follows it, or the line alone where there is no memory for both.
+fn put_both<E: Outlet>(alloc: Global, line: &str, told: &str, errors: &mut E)
+    requires { E.failures errors.old < 2 ^ 64 - 1 }
+    ensures { TakesEither
+        (device (E.taken errors.old) (E.taken errors.new) (E.failures errors.old) (E.failures errors.new))
+        line.now told.now }
+{
+    if told.is_empty() {
+        return put_line(line.as_bytes(), errors);
+    }
+    match format!(in alloc; "{line}{told}") {
+        Ok(both) => put_line(both.as_bytes(), errors),
+        Err(_) => put_line(line.as_bytes(), errors),
     }
 }
 

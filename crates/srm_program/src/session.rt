@@ -1,7 +1,8 @@
 //! A session of members, as a scenario describes it.
-ghost use Rattle.std.specs.Prelude.{◌≡◌, ◌<◌, ◌≤◌, ◌+◌, ◌-◌, ◌^◌, ℕ, List, length, IfSome};
+ghost use Rattle.std.specs.Prelude.{◌≡◌, ◌<◌, ◌≤◌, ◌+◌, ◌-◌, ◌^◌, ℕ, List, [], length, IfSome};
 ghost use Rattle.std.specs.Io.KnownBytes.{Consumes};
 ghost use Rattle.srm_scenario.specs.declared.bytes.TheConstants.{LONGEST_TEXT};
+ghost use Rattle.srm_program.specs.Explained.{KeepsText};
 ghost use Rattle.srm_program.specs.Runs.{MayShareBag};
 ghost use Rattle.srm_program.specs.Sessions.{reading_failures, session_failures, ReadsToEnd, TellsFeed, TellsText};
 
@@ -18,10 +19,30 @@ use std::marker::Sync;
 use std::sync::Wait;
 use std::thread::Threads;
 
-/// Reads a text from a feed, and simulates it as [`simulate_text`] does.
-///
-/// # Errors
-/// The feed failed or gives more than 1,048,576 bytes, and nothing is written; or what [`simulate_text`] answers.
+/// What came of a session.
+#[derive(Debug, Drop)]
+pub struct Session {
+    /// Whether it was refused, and why.
+    pub done: Result<(), Fault>,
+    /// The text that was read, so that a refusal can be explained; empty where none was read whole.
+    pub text: Vec<u8>,
+}
+
+impl Session {
+    // A session that read no text.
+    pub(crate) fn unread(alloc: Global, done: Result<(), Fault>) -> Session
+        ensures done { result.done ≡ done }
+        ensures text { result.text.items ≡ [] }
+    {
+        Session {
+            done,
+            text: Vec::new(alloc),
+        }
+    }
+}
+
+/// Reads a text from a feed, and simulates it as [`simulate_text`] does. The session is refused where the feed failed or gives more
+/// than 1,048,576 bytes, and nothing is written; or with what [`simulate_text`] answers.
 pub fn simulate<R: Threads + Wait + Sync, F: Feed, O: Outlet>(
     rt: &R,
     alloc: Global,
@@ -29,33 +50,43 @@ pub fn simulate<R: Threads + Wait + Sync, F: Feed, O: Outlet>(
     seed: u64,
     options: Options,
     outlet: &mut O,
-) -> Result<(), Fault>
+) -> Session
     requires workers { MayShareBag options.workers }
     requires feed { F.failures feed.old < 2 ^ 64 - 1 }
     requires outlet { O.failures outlet.old < 2 ^ 64 - 1 }
-    ensures read { F.failures feed.new ≡ reading_failures result (F.failures feed.old) }
-    ensures failures { O.failures outlet.new ≡ session_failures result (O.failures outlet.old) }
+    ensures read { F.failures feed.new ≡ reading_failures result.done (F.failures feed.old) }
+    ensures failures { O.failures outlet.new ≡ session_failures result.done (O.failures outlet.old) }
     // A text that was read whole leaves nothing to come.
-    ensures end { ReadsToEnd result (F.remaining feed.new) }
+    ensures end { ReadsToEnd result.done (F.remaining feed.new) }
     // From the bytes that the feed gave to the outlet's, also where nothing else is known of the feed.
     ensures taken { (given : List ℕ) × Consumes (F.remaining feed.old) (F.remaining feed.new) given
         × (length given ≤ LONGEST_TEXT + 1)
-        × TellsFeed seed options given (O.taken outlet.old) (O.taken outlet.new) result }
+        × TellsFeed seed options given (O.taken outlet.old) (O.taken outlet.new) result.done
+        × KeepsText result.done given result.text.items }
     // From what is known to be still to come of the feed to the outlet's.
     ensures report { IfSome (F.remaining feed.old) (λ text.
-        TellsFeed seed options text (O.taken outlet.old) (O.taken outlet.new) result) }
+        TellsFeed seed options text (O.taken outlet.old) (O.taken outlet.new) result.done) }
 {
     let text = match read_text(alloc, feed) {
         Ok(text) => text,
-        Err(TextFault::ReadFault) => return Err(Fault::Scenario(ScenarioFault::ReadFault)),
-        Err(TextFault::TooLong) => return Err(Fault::Scenario(ScenarioFault::TooLong)),
-        Err(TextFault::NoMemory) => return Err(Fault::NoMemory),
+        Err(TextFault::ReadFault) => {
+            let done = Err(Fault::Scenario(ScenarioFault::ReadFault));
+            let text = Vec::new(alloc);
+            return Session { done, text };
+        }
+        Err(TextFault::TooLong) => {
+            let done = Err(Fault::Scenario(ScenarioFault::TooLong));
+            let text = Vec::new(alloc);
+            return Session { done, text };
+        }
+        Err(TextFault::NoMemory) => return Session::unread(alloc, Err(Fault::NoMemory)),
     };
-    simulate_text(rt, alloc, &text, seed, options, outlet)
+    let done = simulate_text(rt, alloc, &text, seed, options, outlet);
+    Session { done, text }
 }
 
 /// Makes the members of the scenario that a text describes with random words of this seed, runs them, and writes the report of the
-/// run to an outlet.
+/// run to an outlet. Where the scenario is only to be checked, nothing more is done.
 ///
 /// # Errors
 /// The text is refused, and nothing is written; or the run is, as [`run`](crate::run::run) says; or memory runs out in between.
@@ -77,6 +108,9 @@ pub fn simulate_text<R: Threads + Wait + Sync, O: Outlet>(
         Ok(scenario) => scenario,
         Err(fault) => return Err(Fault::Scenario(fault)),
     };
+    if options.check {
+        return Ok(());
+    }
     let Ok(net) = scenario.net(alloc) else {
         return Err(Fault::NoMemory);
     };

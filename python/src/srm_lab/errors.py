@@ -14,11 +14,14 @@ class ScenarioError(ValueError):
 
 
 class RefusedError(RuntimeError):
-    """The program refused a run. The message is the program's line; `status` is its exit status."""
+    """The program refused a run. The message is the program's line, and below it the explanation if there is one.
 
-    def __init__(self, line: str, status: int):
-        super().__init__(line)
-        self.line, self.status = line, status
+    `line` is the line alone, `explanation` what the program said after it, and `status` its exit status.
+    """
+
+    def __init__(self, line: str, status: int, explanation: str = ""):
+        super().__init__(f"{line}\n{explanation}" if explanation else line)
+        self.line, self.status, self.explanation = line, status, explanation
 
     def __reduce__(self) -> tuple:
-        return RefusedError, (self.line, self.status)
+        return RefusedError, (self.line, self.status, self.explanation)

@@ -29,7 +29,7 @@ def trace_of(given: Scenario, seed: int, program: Path) -> Iterator[Iterator[Row
     with tempfile.TemporaryFile() as scenario, tempfile.TemporaryFile() as told:
         scenario.write(given.text().encode())
         scenario.seek(0)
-        with subprocess.Popen([program, "--seed", str(seed)], stdin=scenario, stdout=subprocess.PIPE, stderr=told,
+        with subprocess.Popen([program, "--explain", "--seed", str(seed)], stdin=scenario, stdout=subprocess.PIPE, stderr=told,
                               encoding="ascii") as running:
             assert running.stdout is not None
             try:
@@ -46,7 +46,8 @@ def _rows(lines: Iterable[str], running: subprocess.Popen, told: IO[bytes]) -> I
         yield from read_trace(_again(first, several))
     if running.wait():
         told.seek(0)
-        raise RefusedError(told.read().decode(errors="replace").strip(), running.returncode)
+        line, _, explanation = told.read().decode(errors="replace").partition("\n")
+        raise RefusedError(line.strip(), running.returncode, explanation.rstrip("\n"))
 
 
 def _again(first: str, others: Iterator[str]) -> Iterator[str]:

@@ -10,7 +10,7 @@ returns-in-Err-TooLong-clause-taken g c =
     let all : length taken.0 ≡ 1048577 = taken.2 in
     let few : length taken.0 ≤ 1048577 = omega arith in
     let many : 1048576 < length taken.0 = omega arith in
-    (taken.0, taken.1, few, (inr (too_long taken.0 many), keeps-itself _))
+    (taken.0, taken.1, few, (inr (too_long taken.0 many), keeps-itself _), tt)
 
 pub returns-in-Err-TooLong-clause-report : goal.returns-in-Err-TooLong-clause-report
 returns-in-Err-TooLong-clause-report g c =
@@ -20,5 +20,5 @@ returns-in-Err-TooLong-clause-report g c =
 pub returns-clause-read : goal.returns-clause-read
 returns-clause-read g c =
     let few : length c.deref.result.now ≤ 1048576 = rw c.deref.ensures.value c.in-Ok.ensures.bound in
-    c.in-Ok.ensures.failures ∙ text_read c.deref.result.now c.args.seed c.args.options _ _ c.simulate_text.result
-    (g.F.Feed.failures c.args.feed.now) few c.simulate_text.ensures.report
+    c.in-Ok.ensures.failures ∙ text_read c.deref.result.now c.args.seed c.args.options _ _ c.simulate_text-done.result
+    (g.F.Feed.failures c.args.feed.now) few c.simulate_text-done.ensures.report

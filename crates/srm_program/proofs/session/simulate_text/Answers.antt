@@ -4,4 +4,4 @@ use Rattle.srm_program.proofs.session.simulate_text.Goals as goal
 pub returns-clause-report : goal.returns-clause-report
 returns-clause-report g c =
     session_of_text c.in-Ok.scenario c.in-Ok-net.net c.args.text.now c.args.seed c.args.options _ _ c.run_members.result
-    c.in-Ok.ensures.scenario c.in-Ok-net.ensures c.run_members.ensures.report
+    c.in-Ok.ensures.scenario c.if-options.false c.in-Ok-net.ensures c.run_members.ensures.report

@@ -1,0 +1,57 @@
+-- What is told of a refusal after its line.
+use Rattle.std.specs.Prelude.{◌≡◌, ◌⊎◌, ℕ, Bool, true, false, List, [], codes, Result, Ok, Err, string_bytes}
+use Rattle.srm_scenario.specs.declared.fault.ScenarioFault.TheVariants.{ReadFault, TooLong}
+use Rattle.srm_explain.specs.Explanations.{note, Explains}
+use Rattle.srm_program.specs.declared.fault.LabFault.{LabFault}
+use Rattle.srm_program.specs.declared.fault.LabFault.TheVariants as lab
+use Rattle.srm_program.specs.declared.fault.LineFault.{LineFault}
+use Rattle.srm_program.specs.declared.fault.Fault.{Fault}
+use Rattle.srm_program.specs.declared.fault.Fault.TheVariants as fault
+use Rattle.srm_program.specs.declared.options.Options.{Options}
+use Rattle.srm_program.specs.declared.request.Request.{Request}
+
+-- whether words ask for explanations of what is refused of a session
+abbrev pub asks_explanation : Result (ℕ × Options) LineFault → Bool
+asks_explanation (Ok asked) = asked.1.explain
+asks_explanation (Err f) = false
+
+-- what is said of the fault of a run
+abbrev pub lab_sentence : LabFault → List ℕ
+lab_sentence lab.BadCut = codes "--cut is 1 to 1024 where --engine is window"
+lab_sentence lab.BadWidth = codes "--width is at least 1, and at most the least delay of a link in either direction"
+lab_sentence lab.ShareFull = codes "more than 140737488355328 packets of a kind crossed a link, or were dropped at it"
+lab_sentence lab.NoMemory = codes "there was no memory left"
+lab_sentence lab.CountFull = codes "a member sent 281474976710656 packets, which are as many as are counted"
+lab_sentence (lab.WriteFault written) = []
+
+-- these lines explain the fault of a session that read this text: nothing where standard output failed, whose reader
+-- may have gone away
+abbrev pub ExplainsFault : List ℕ → Fault → List ℕ → Type 0
+ExplainsFault text (fault.Line f) told = told ≡ []
+ExplainsFault text (fault.Scenario f) told = Explains f text told
+ExplainsFault text (fault.Lab (lab.WriteFault written)) told = told ≡ []
+ExplainsFault text (fault.Lab f) told = told ≡ note (lab_sentence f)
+ExplainsFault text fault.NoMemory told = told ≡ note (codes "there was no memory left")
+
+-- what may follow the line of a fault of a session that read this text: nothing where no explanation is asked for, and
+-- else its explanation, unless there was no memory for it
+abbrev pub MayFollow : Bool → List ℕ → Fault → List ℕ → Type 0
+MayFollow false text f told = told ≡ []
+MayFollow true text f told = (told ≡ []) ⊎ ExplainsFault text f told
+
+-- what is told after the line of a fault, where a session read this text: of refused words their message
+abbrev pub FollowsLine : Bool → List ℕ → List ℕ → Fault → List ℕ → Type 0
+FollowsLine asks message text (fault.Line f) told = told ≡ message
+FollowsLine asks message text f told = MayFollow asks text f told
+
+-- the same, as words ask for it
+abbrev pub Follows : Request → List ℕ → Fault → List ℕ → Type 0
+Follows request text f told = FollowsLine (asks_explanation request.asked) (string_bytes request.message) text f told
+
+-- the text that is kept after a session that was given this text: the same, wherever a fault is one of the text itself
+abbrev pub KeepsText : {T : Type 0} → Result T Fault → List ℕ → List ℕ → Type 0
+KeepsText (Err (fault.Scenario ReadFault)) given text = Unit {0}
+KeepsText (Err (fault.Scenario TooLong)) given text = Unit {0}
+KeepsText (Err fault.NoMemory) given text = Unit {0}
+KeepsText (Err (fault.Line f)) given text = Unit {0}
+KeepsText r given text = text ≡ given

@@ -1,0 +1,82 @@
+//! What is told of a fault after its line.
+ghost use Rattle.std.specs.Prelude.{◌≡◌, IfOk, string_bytes};
+ghost use Rattle.srm_program.specs.Explained.{asks_explanation, lab_sentence, ExplainsFault, FollowsLine, MayFollow};
+ghost use Rattle.srm_program.specs.declared.options.Options.{Options};
+
+use crate::fault::{Fault, LabFault, LineFault};
+use crate::options::Options;
+use srm_explain::explanation::explain;
+use std::alloc::{AllocError, Global};
+
+/// Whether a refusal is to be explained, as the words of a command line ask for.
+pub(crate) fn asks_explanation(asked: &Result<(u64, Options), LineFault>) -> bool
+    ensures { result ≡ asks_explanation asked.now }
+{
+    match asked {
+        Ok((_, options)) => options.explain,
+        Err(_) => false,
+    }
+}
+
+/// What is told after the line of a fault, where a session read this text: of refused words their message.
+pub(crate) fn following(
+    alloc: Global,
+    asks: bool,
+    message: String,
+    fault: &Fault,
+    text: &[u8],
+) -> String
+    ensures { FollowsLine asks (string_bytes message) text.now fault.now (string_bytes result) }
+{
+    match fault {
+        Fault::Line(_) => message,
+        _ => told_of(alloc, asks, fault, text),
+    }
+}
+
+// What is told of the fault of a session that read this text, which is nothing where no explanation is asked for, or where there was no
+// memory for it.
+fn told_of(alloc: Global, asks: bool, fault: &Fault, text: &[u8]) -> String
+    ensures { MayFollow asks text.now fault.now (string_bytes result) }
+{
+    if !asks {
+        return String::new(alloc);
+    }
+    match explained(alloc, fault, text) {
+        Ok(told) => told,
+        Err(AllocError) => String::new(alloc),
+    }
+}
+
+// The explanation of the fault of a session that read this text.
+fn explained(alloc: Global, fault: &Fault, text: &[u8]) -> Result<String, AllocError>
+    ensures { IfOk result (λ told. ExplainsFault text.now fault.now (string_bytes told)) }
+{
+    match fault {
+        Fault::Line(_) => Ok(String::new(alloc)),
+        Fault::Scenario(fault) => explain(alloc, *fault, text),
+        Fault::Lab(LabFault::WriteFault { .. }) => Ok(String::new(alloc)),
+        Fault::Lab(fault) => {
+            let sentence = lab_sentence(*fault);
+            format!(in alloc; "  {sentence}\n")
+        }
+        Fault::NoMemory => String::from_str(alloc, "  there was no memory left\n"),
+    }
+}
+
+// What is said of the fault of a run.
+fn lab_sentence(fault: LabFault) -> &'static str
+    ensures { result.now ≡ lab_sentence fault }
+{
+    match fault {
+        LabFault::BadCut => "--cut is 1 to 1024 where --engine is window",
+        LabFault::BadWidth =>
+            "--width is at least 1, and at most the least delay of a link in either direction",
+        LabFault::ShareFull =>
+            "more than 140737488355328 packets of a kind crossed a link, or were dropped at it",
+        LabFault::NoMemory => "there was no memory left",
+        LabFault::CountFull =>
+            "a member sent 281474976710656 packets, which are as many as are counted",
+        LabFault::WriteFault { .. } => "",
+    }
+}

@@ -1,0 +1,110 @@
+#!/usr/bin/env python3
+"""Runs the built program with --explain on refused texts and command lines, and reads what it tells after the line of a refusal.
+
+usage: tests/explanations.py PROGRAM
+
+Each case of tests/explanations.txt must be told as it stands there. Each text of tests/refusals.txt that is refused must have the same
+line, status and standard output as without --explain, and after the line lines that begin with two spaces. Where they name a line and
+a column of the text, they show that line, with a mark below that column; and where three lines stand before the text, they name a line
+that is three further on, and tell all else as before. Of a text that is accepted nothing is told. Prints a line for each difference,
+and ends with status 1 where there is one.
+"""
+import os
+import pathlib
+import re
+import subprocess
+import sys
+
+sys.dont_write_bytecode = True
+
+import refusals
+
+CASES = pathlib.Path(__file__).with_name("explanations.txt")
+SHOWN = 60
+MOVED = "# moved\n# by three\n# lines\n"
+PLACE = re.compile(r"  --> standard input, line (\d+), column (\d+)\n +(\d+) \| (.*)\n +\| ( *)(\^+)\n")
+
+
+def ended(program, words, text):
+    """Status, whether something stands on standard output, and standard error."""
+    done = subprocess.run([program, *words], input=text.encode(), capture_output=True, timeout=60)
+    return done.returncode, bool(done.stdout), done.stderr.decode(errors="replace")
+
+
+def stored():
+    """The name, the words, the text and what is told of each case of tests/explanations.txt."""
+    for block in CASES.read_text(encoding="utf-8").split("\n=== ")[1:]:
+        name, _, rest = block.partition("\n")
+        words, _, rest = rest.partition("\n")
+        text, bar, told = rest.partition("--- told\n")
+        if not words.startswith("$") or not bar:
+            raise ValueError(f"{CASES.name}: {name} is no case")
+        yield name, words.removeprefix("$").split(), text, told.rstrip("\n") + "\n"
+
+
+def faults_of_place(text, told):
+    """What is wrong with the line and the column that are told."""
+    found = PLACE.search(told)
+    if not found:
+        return "it shows no line" if "-->" in told else None
+    line, column, number, shown, gap, _ = found.groups()
+    lines = text.split("\n")
+    if line != number or not 1 <= int(line) <= len(lines):
+        return f"line {line}, of {len(lines)}"
+    whole = lines[int(line) - 1]
+    if len(whole) <= SHOWN and (shown != whole.replace("\t", " ") or len(gap) + 1 != int(column)):
+        return f"it shows {shown!r} with a mark below {len(gap) + 1}, and line {line} is {whole!r}, column {column}"
+    return None
+
+
+def moved(told):
+    """What is told where the text stands three lines further down, with the gaps in front of bars left out."""
+    told = re.sub(r"line (\d+), column", lambda found: f"line {int(found[1]) + 3}, column", told)
+    told = re.sub(r"(?m)^  (\d+) \|", lambda found: f"  {int(found[1]) + 3} |", told)
+    return without_gaps(told)
+
+
+def without_gaps(told):
+    return re.sub(r"(?m)^ +\|", "|", told)
+
+
+def faults_of(program, text, answer):
+    """What is wrong with what is told of a text with this answer."""
+    status, written, told = ended(program, ["--explain"], text)
+    if answer == "accepted":
+        if status != 0 or told:
+            yield f"status {status}, {told!r}"
+        return
+    line, _, more = told.partition("\n")
+    if (status, written, line) != (1, False, f"refused: {answer}"):
+        yield f"status {status}, {told!r}"
+    if not more or not all(it.startswith("  ") for it in more.splitlines()) or not told.endswith("\n"):
+        yield f"after the line stands {more!r}"
+    wrong = faults_of_place(text, more)
+    if wrong:
+        yield wrong
+    again = ended(program, ["--explain"], MOVED + text)[2]
+    if without_gaps(again) != moved(told):
+        yield f"moved by three lines it is told as {again!r}, and before as {told!r}"
+
+
+def main():
+    program = os.path.abspath(sys.argv[1])
+    tried, differences = 0, 0
+    for name, words, text, must in stored():
+        tried += 1
+        _, _, told = ended(program, ["--explain", *words], text)
+        if told != must:
+            differences += 1
+            print(f"{CASES.name}, {name}:\n{told}and not:\n{must}")
+    for number, text, answer in refusals.cases(refusals.CASES.read_text(encoding="utf-8")):
+        tried += 1
+        for wrong in faults_of(program, text, answer):
+            differences += 1
+            print(f"tests/refusals.txt:{number}: {wrong}")
+    print(f"{tried} explanations tried, {differences} differences")
+    return differences > 0 or not tried
+
+
+if __name__ == "__main__":
+    sys.exit(main())
