@@ -1,4 +1,4 @@
-// The page's address keeps what is looked at: after `#` the tick, the rows handled, view, table, filters, selection, theme.
+// The page's address keeps what is looked at: tick, rows handled, view, table, filters, selection and theme, after `#`.
 
 /** Reads and writes the address. Writing waits until nothing changed for a moment. */
 class Address {
@@ -19,9 +19,13 @@ class Address {
   }
 
   writeNow(parts) {
-    const kept = Object.entries(parts).filter(([, value]) => value !== "" && value !== null && value !== undefined);
-    const text = kept.map(([key, value]) => `${key}=${encodeURIComponent(value).replace(/%2F/g, "/").replace(/%3A/g, ":").replace(/%2C/g, ",")}`).join("&");
-    this.written = `#${text}`;
+    const kept = Object.entries(parts).filter(([, value]) => value !== "");
+    this.written = `#${kept.map(([key, value]) => `${key}=${readable(value)}`).join("&")}`;
     window.history.replaceState(null, "", this.written);
   }
+}
+
+/** A value of the address, in which `/`, `:` and `,` may stand as they are. */
+function readable(value) {
+  return encodeURIComponent(value).replace(/%(2F|3A|2C)/g, (code) => decodeURIComponent(code));
 }

@@ -42,24 +42,28 @@ class Reader {
   }
 }
 
-/** All numbers of a column. */
+/** All numbers of a column: there are as many as bytes below 128. */
 function numbersOf(block) {
+  let count = 0;
+  for (let at = 0; at < block.length; at++) if (block[at] < 128) count++;
   const reader = new Reader(block);
-  const numbers = new Float64Array(block.reduce((count, byte) => count + (byte < 128 ? 1 : 0), 0));
-  for (let at = 0; at < numbers.length; at++) numbers[at] = reader.number();
+  const numbers = new Float64Array(count);
+  for (let at = 0; at < count; at++) numbers[at] = reader.number();
   return numbers;
 }
 
-/** The numbers whose steps a column has: 2 s is a step up by s, and 2 s - 1 one down by s. */
-function summed(numbers) {
+/** Makes steps the numbers that they lead to: 2 s is a step up by s, and 2 s - 1 one down by s. */
+function addUp(steps) {
   let value = 0;
-  return numbers.map((step) => {
+  for (let at = 0; at < steps.length; at++) {
+    const step = steps[at];
     value += step % 2 === 0 ? step / 2 : -(step + 1) / 2;
-    return value;
-  });
+    steps[at] = value;
+  }
 }
 
-const STEPPED = new Set(["rowNumber", "rowTime", "rowMember", "rowPacket", "rowName", "lostName", "packetCount", "packetTime"]);
+const STEPPED = new Set(["rowNumber", "rowTime", "rowMember", "rowPacket", "rowName", "lostName", "packetCount",
+  "packetTime"]);
 
 /** The page's data: `about`, as the page's maker wrote it, and `columns` by name. */
 async function decode(text) {
@@ -67,8 +71,8 @@ async function decode(text) {
   const about = JSON.parse(new TextDecoder().decode(reader.block(reader.number())));
   const columns = {};
   for (const [name, length] of about.columns) {
-    const numbers = numbersOf(reader.block(length));
-    columns[name] = STEPPED.has(name) ? summed(numbers) : numbers;
+    columns[name] = numbersOf(reader.block(length));
+    if (STEPPED.has(name)) addUp(columns[name]);
   }
   return { about, columns };
 }

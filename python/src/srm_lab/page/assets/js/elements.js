@@ -33,7 +33,8 @@ function ranges(numbers, most = 24) {
     if (last && number === last[1] + 1) last[1] = number;
     else runs.push([number, number]);
   }
-  const parts = runs.map(([begin, end]) => (begin === end ? `${begin}` : end === begin + 1 ? `${begin}, ${end}` : `${begin} to ${end}`));
+  const inWords = ([begin, end]) => (end > begin + 1 ? `${begin} to ${end}` : d3.range(begin, end + 1).join(", "));
+  const parts = runs.map(inWords);
   const shown = parts.slice(0, most).join(", ");
   return parts.length > most ? `${shown} and more, ${sorted.length} in all` : shown;
 }
@@ -49,54 +50,4 @@ function numbersIn(text, limit) {
     for (let number = Number(match[1]); number <= last; number++) found.add(number);
   }
   return found;
-}
-
-/** A canvas that keeps the size of its box, in device pixels. */
-class Surface {
-  constructor(canvas, onResize) {
-    this.canvas = canvas;
-    this.context = canvas.getContext("2d", { alpha: false });
-    this.width = this.height = 0;
-    new ResizeObserver(() => { if (this.fit()) onResize(); }).observe(canvas.parentElement);
-    this.fit();
-  }
-
-  /** Takes the box's size; whether it changed. */
-  fit() {
-    const box = this.canvas.parentElement.getBoundingClientRect();
-    const scale = window.devicePixelRatio || 1;
-    const width = Math.max(1, Math.round(box.width));
-    const height = Math.max(1, Math.round(box.height));
-    if (width === this.width && height === this.height && scale === this.scale) return false;
-    [this.width, this.height, this.scale] = [width, height, scale];
-    this.canvas.width = Math.round(width * scale);
-    this.canvas.height = Math.round(height * scale);
-    return box.width > 0;
-  }
-
-  /** The context, with the canvas cleared to a colour and one unit a CSS pixel. */
-  cleared(colour) {
-    const { context } = this;
-    context.setTransform(this.scale, 0, 0, this.scale, 0, 0);
-    context.fillStyle = colour;
-    context.fillRect(0, 0, this.width, this.height);
-    return context;
-  }
-
-  /** A second canvas of the same size, to draw on once and copy often. */
-  copy() {
-    const canvas = document.createElement("canvas");
-    canvas.width = this.canvas.width;
-    canvas.height = this.canvas.height;
-    const context = canvas.getContext("2d");
-    context.setTransform(this.scale, 0, 0, this.scale, 0, 0);
-    return { canvas, context };
-  }
-
-  /** Copies such a canvas. */
-  paste(canvas) {
-    this.context.setTransform(1, 0, 0, 1, 0, 0);
-    this.context.drawImage(canvas, 0, 0);
-    this.context.setTransform(this.scale, 0, 0, this.scale, 0, 0);
-  }
 }

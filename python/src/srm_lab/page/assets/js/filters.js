@@ -1,5 +1,7 @@
 // What is shown: kinds of packets, operations, members.
 
+const MOST_OFFERED = 500;
+
 /** The reader's choice of what the pictures show. */
 class Filters {
   constructor(form, trace, network, theme, onChange) {
@@ -15,36 +17,35 @@ class Filters {
   }
 
   _build(theme) {
-    this.boxes = KINDS.map((kind, number) => element("input", { type: "checkbox", checked: true, change: () => this._readKinds(), id: `kind-${kind}` }));
-    this.swatches = element("fieldset", {});
-    this.nameBox = element("input", { type: "text", list: "names", placeholder: "all", id: "filter-name", spellcheck: "false", input: () => this._readName() });
-    this.memberBox = element("input", { type: "text", placeholder: "all", id: "filter-members", spellcheck: "false", input: () => this._readMembers() });
-    const options = this.trace.names.slice(0, 500).map((name) => element("option", { value: name.join("/") }));
+    this.boxes = KINDS.map((kind) => element("input",
+      { type: "checkbox", checked: true, id: `kind-${kind}`, change: () => this._readKinds() }));
+    this.kindsBox = element("fieldset", {});
+    this.nameBox = this._textBox("filter-name", () => this._readName(), "names");
+    this.memberBox = this._textBox("filter-members", () => this._readMembers());
+    const options = this.trace.names.slice(0, MOST_OFFERED).map((name) => element("option", { value: name.join("/") }));
     this.form.addEventListener("submit", (event) => event.preventDefault());
     this.form.append(
-      this.swatches,
-      element("label", { title: "An operation: source/page/number" }, "Operation", this.nameBox), element("datalist", { id: "names" }, options),
+      this.kindsBox,
+      element("label", { title: "An operation: source/page/number" }, "Operation", this.nameBox),
+      element("datalist", { id: "names" }, options),
       element("label", { title: "Members of the sequence view, as in 0, 3-7" }, "Members", this.memberBox),
       element("button", { type: "button", id: "filter-all", click: () => this.clear() }, "Show all"),
     );
     this.recolour(theme);
   }
 
+  _textBox(id, input, list = null) {
+    return element("input", { type: "text", id, list, input, placeholder: "all", spellcheck: "false", autocomplete: "off" });
+  }
+
   /** Draws the legend of packets anew. */
   recolour(theme) {
     const labels = KINDS.map((kind, number) => element("label", {}, this.boxes[number],
       swatch((context, x, y) => {
-        context.strokeStyle = theme.kinds[number];
-        context.lineWidth = 2;
-        context.setLineDash(DASHES[number]);
-        context.beginPath();
-        context.moveTo(0, y);
-        context.lineTo(2 * x, y);
-        context.stroke();
-        context.setLineDash([]);
+        strokeLine(context, [[0, y], [2 * x, y]], theme.kinds[number], 2, DASHES[number]);
         drawPacket(context, theme, number, x, y, 4.5);
       }), kind === "session" ? "session message" : kind));
-    this.swatches.replaceChildren(element("legend", { class: "hidden" }, "Packets"), ...labels);
+    this.kindsBox.replaceChildren(element("legend", { class: "hidden" }, "Packets"), ...labels);
   }
 
   _readKinds() {

@@ -1,29 +1,40 @@
 // Tables of which only the lines in sight are made.
 
 const LINE = 24;
+const LINES_BEYOND = 4;
 
-/** A table with sortable columns. A column has `title`, `value(item)`, `isNumber`, and `width` as in grid-template-columns. */
+/**
+ * A table with sortable columns. A column has `title`, `value(item)`, `isNumber`, and may have `key(item)` to sort by and
+ * `width` as in grid-template-columns.
+ */
 class Grid {
-  constructor(box, { columns, items, onPick, isPicked, classOf, none, minimum = 0 }) {
-    Object.assign(this, { columns, items, onPick, isPicked, classOf, none, minimum });
+  constructor(box, { label, columns, items, onPick, isPicked, classOf = () => "", none, minimum = 0 }) {
+    Object.assign(this, { columns, items, onPick, isPicked, classOf });
     this.sorted = { column: -1, isFalling: false };
     this.order = items.map((_, at) => at);
     this.focused = 0;
-    this._build(box);
-  }
-
-  _build(box) {
-    const widths = this.columns.map((column) => column.width ?? "minmax(0,1fr)").join(" ");
-    this.widths = `grid-template-columns:${widths}`;
-    this.heads = this.columns.map((column, at) => element("button", { type: "button", class: column.isNumber ? "number" : "", title: `Sort by ${column.title}`, click: () => this.sortBy(at) }, column.title));
-    const head = element("div", { class: "head", role: "rowgroup", style: `min-width:${this.minimum}px` }, element("div", { class: "line", role: "row", style: this.widths },
-      this.heads.map((button) => element("span", { role: "columnheader", class: button.className }, button))));
-    this.body = element("div", { class: "body", role: "rowgroup", style: `height:${this.items.length * LINE}px;min-width:${this.minimum}px` });
-    this.scroller = element("div", { class: "grid", role: "grid", tabindex: "0", "aria-rowcount": this.items.length, "aria-label": "Table",
-      scroll: () => this.draw(), keydown: (event) => this._key(event) }, head, this.body);
-    if (!this.items.length) this.scroller.append(element("p", { class: "none" }, this.none ?? "None."));
+    this.widths = `grid-template-columns:${columns.map((column) => column.width ?? "minmax(0,1fr)").join(" ")}`;
+    this.heads = columns.map((column, at) => this._headButton(column, at));
+    const size = `height:${items.length * LINE}px;min-width:${minimum}px`;
+    this.body = element("div", { class: "body", role: "rowgroup", style: size });
+    this.scroller = element("div", {
+      class: "grid", role: "grid", tabindex: "0", "aria-label": label, "aria-rowcount": items.length + 1,
+      scroll: () => this.draw(), keydown: (event) => this._key(event),
+    }, this._head(minimum), this.body, items.length ? null : element("p", { class: "none" }, none));
     box.replaceChildren(this.scroller);
     new ResizeObserver(() => this.draw()).observe(this.scroller);
+  }
+
+  _headButton(column, at) {
+    const title = `Sort by ${column.title}`;
+    return element("button", { type: "button", class: classOfColumn(column), title, click: () => this.sortBy(at) }, column.title);
+  }
+
+  _head(minimum) {
+    const cells = this.heads.map((button) =>
+      element("span", { role: "columnheader", class: button.className, "aria-sort": "none" }, button));
+    const line = element("div", { class: "line", role: "row", "aria-rowindex": 1, style: this.widths }, cells);
+    return element("div", { class: "head", role: "rowgroup", style: `min-width:${minimum}px` }, line);
   }
 
   /** Sorts by a column: rising, or falling where it is rising already. */
@@ -33,26 +44,31 @@ class Grid {
     const sign = isFalling ? -1 : 1;
     this.order.sort((one, other) => sign * compared(values[one], values[other]) || one - other);
     this.heads.forEach((head, at) => {
-      head.textContent = this.columns[at].title + (at === column ? (isFalling ? " ▾" : " ▴") : "");
-      head.parentElement.setAttribute("aria-sort", at !== column ? "none" : isFalling ? "descending" : "ascending");
+      const isSorted = at === column;
+      head.textContent = `${this.columns[at].title}${isSorted ? (isFalling ? " ▾" : " ▴") : ""}`;
+      head.parentElement.setAttribute("aria-sort", !isSorted ? "none" : isFalling ? "descending" : "ascending");
     });
     this.draw();
   }
 
   /** Makes the lines in sight. */
   draw() {
-    const first = Math.max(0, Math.floor(this.scroller.scrollTop / LINE) - 4);
-    const last = Math.min(this.items.length, first + Math.ceil(this.scroller.clientHeight / LINE) + 8);
-    const lines = [];
-    for (let at = first; at < last; at++) lines.push(this._line(at));
-    this.body.replaceChildren(...lines);
+    const { scrollTop, clientHeight } = this.scroller;
+    const first = Math.max(0, Math.floor(scrollTop / LINE) - LINES_BEYOND);
+    const last = Math.min(this.items.length, first + Math.ceil(clientHeight / LINE) + 2 * LINES_BEYOND);
+    this.body.replaceChildren(...d3.range(first, last).map((at) => this._line(at)));
+    this.scroller.setAttribute("aria-activedescendant", this.body.querySelector("[aria-selected=true]")?.id ?? "");
   }
 
   _line(at) {
     const item = this.items[this.order[at]];
-    const cells = this.columns.map((column) => element("span", { role: "gridcell", class: column.isNumber ? "number" : "", title: column.hint ? column.hint(item) : null }, String(column.value(item))));
-    return element("div", { class: `line ${this.classOf ? this.classOf(item) : ""}`, role: "row", "aria-rowindex": at + 1, style: `${this.widths};top:${at * LINE}px`,
-      "aria-selected": String(this.isPicked(item)), click: () => { this.focused = at; this.onPick(item); } }, cells);
+    const cells = this.columns.map((column) =>
+      element("span", { role: "gridcell", class: classOfColumn(column) }, String(column.value(item))));
+    return element("div", {
+      class: `line ${this.classOf(item)}`, role: "row", id: `line-${at}`, "aria-rowindex": at + 2,
+      "aria-selected": String(this.isPicked(item)), style: `${this.widths};top:${at * LINE}px`,
+      click: () => { this.focused = at; this.onPick(item); },
+    }, cells);
   }
 
   /** Brings an item into sight. */
@@ -60,10 +76,11 @@ class Grid {
     const at = this.sorted.column < 0 ? place : this.order.indexOf(place);
     if (at < 0) return;
     this.focused = at;
+    const { scroller } = this;
     const top = at * LINE;
-    const room = this.scroller.clientHeight - LINE - 4;
-    if (top < this.scroller.scrollTop) this.scroller.scrollTop = top;
-    else if (top + LINE > this.scroller.scrollTop + room) this.scroller.scrollTop = top + LINE - room;
+    const room = scroller.clientHeight - LINE - 4;
+    if (top < scroller.scrollTop) scroller.scrollTop = top;
+    else if (top + LINE > scroller.scrollTop + room) scroller.scrollTop = top + LINE - room;
     this.draw();
   }
 
@@ -75,8 +92,12 @@ class Grid {
     event.stopPropagation();
     const at = Math.max(0, Math.min(this.items.length - 1, this.focused + by));
     this.onPick(this.items[this.order[at]]);
-    this.show(this.sorted.column < 0 ? at : this.order[at]);
+    this.show(this.order[at]);
   }
+}
+
+function classOfColumn({ isNumber }) {
+  return isNumber ? "number" : "";
 }
 
 /** Numbers by size and before texts, texts by letters. */

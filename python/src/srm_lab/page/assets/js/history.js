@@ -2,7 +2,10 @@
 
 const MOST_BACKOFFS = 10;
 
-/** The losses, timers and rests of a run. Places of rows are numbers in the page's trace; -1 stands for none. */
+/**
+ * The losses, timers and rests of a run, and in which rows a member gained an operation (`gains` is 1). Rows are numbers in
+ * the page's trace; -1 stands for none.
+ */
 class History {
   constructor(trace, network, about, lengths) {
     this.trace = trace;
@@ -10,15 +13,16 @@ class History {
     this.constants = about.constants;
     this.lengths = about.timers ? lengths : null;
     this.nextLength = 0;
-    this.names = trace.names.length;
     this.losses = [];
     this.timers = [];
     this.rests = [];
-    const cells = network.members.length * this.names;
-    this.got = new Int32Array(cells).fill(-1);
-    this.lossAt = new Int32Array(cells).fill(-1);
-    this.restAt = new Int32Array(cells).fill(-1);
-    this.repairAt = new Int32Array(cells).fill(-1);
+    this.gains = new Uint8Array(trace.length);
+    // of each member by name: the row that brought the operation, its loss, its pending repair timer, its last rest
+    const byName = () => network.members.map(() => new Map());
+    this.got = byName();
+    this.lossAt = byName();
+    this.repairAt = byName();
+    this.restAt = byName();
     this.joined = new Int32Array(network.members.length).fill(-1);
     this.left = new Int32Array(network.members.length).fill(-1);
     for (let row = 0; row < trace.length; row++) this._take(row);
@@ -26,11 +30,6 @@ class History {
     this.lossesOfName = grouped(this.losses, (loss) => loss.name);
     this.timersOf = grouped(this.timers, (timer) => timer.member);
     this.restsOf = grouped(this.rests, (rest) => rest.member);
-  }
-
-  /** The place of a member and a name. */
-  cell(member, name) {
-    return member * this.names + name;
   }
 
   _take(row) {
@@ -44,8 +43,8 @@ class History {
   }
 
   _lose(row, member, name) {
-    const loss = { id: this.losses.length, member, name, detected: row, recovered: -1, left: -1, asked: -1, requests: 0, timers: [] };
-    this.lossAt[this.cell(member, name)] = loss.id;
+    const loss = { member, name, detected: row, recovered: -1, left: -1, asked: -1, requests: 0, timers: [] };
+    this.lossAt[member].set(name, loss);
     this.losses.push(loss);
     this._ask(row, loss);
   }
@@ -54,24 +53,29 @@ class History {
   _follow(row, member, name) {
     const cause = this.trace.cause[row];
     const result = this.trace.result[row];
-    const cell = this.cell(member, name);
-    if (result === RESULT.fixed) this._recover(row, cell);
-    if (result === RESULT.fresh || result === RESULT.fixed || (cause === CAUSE.draw && result === RESULT.sent)) this.got[cell] = row;
-    if (result === RESULT.back) this._backOff(row, cell, "backed off");
+    const isSent = result === RESULT.sent;
+    if (result === RESULT.fixed) this._recover(row, member, name);
+    if (result === RESULT.fresh || result === RESULT.fixed || (cause === CAUSE.draw && isSent)) this._gain(row, member, name);
+    if (result === RESULT.back) this._backOff(row, member, name, "backed off");
     if (result === RESULT.plan) this._plan(row, member, name);
-    if (cause === CAUSE.ask && result === RESULT.sent) this._backOff(row, cell, "expired");
-    if (cause === CAUSE.answer && result === RESULT.sent) this._answered(row, member, name, "expired");
+    if (cause === CAUSE.ask && isSent) this._backOff(row, member, name, "expired");
+    if (cause === CAUSE.answer && isSent) this._answered(row, member, name, "expired");
     if (cause === CAUSE.repair && result !== RESULT.skip) this._answered(row, member, name, "stopped");
   }
 
-  _recover(row, cell) {
-    const loss = this.losses[this.lossAt[cell]];
+  _gain(row, member, name) {
+    this.got[member].set(name, row);
+    this.gains[row] = 1;
+  }
+
+  _recover(row, member, name) {
+    const loss = this.lossAt[member].get(name);
     loss.recovered = row;
     this._end(loss.timers[loss.timers.length - 1], row, "stopped");
   }
 
-  _backOff(row, cell, how) {
-    const loss = this.losses[this.lossAt[cell]];
+  _backOff(row, member, name, how) {
+    const loss = this.lossAt[member].get(name);
     if (loss.asked < 0) loss.asked = row;
     if (how === "expired") loss.requests++;
     this._end(loss.timers[loss.timers.length - 1], row, how);
@@ -96,12 +100,14 @@ class History {
     const timer = this._timer(row, member, name, KIND.repair);
     timer.requester = requester;
     [timer.least, timer.most] = spanOf(this.network.half(member, requester), d1, d2);
-    this.repairAt[this.cell(member, name)] = timer.id;
+    this.repairAt[member].set(name, timer);
   }
 
   _timer(row, member, name, kind) {
     const length = this.lengths ? this.lengths[this.nextLength++] : null;
-    const timer = { id: this.timers.length, member, name, kind, set: row, length, least: 0, most: 0, end: -1, how: "pending", backoffs: 0, requester: -1 };
+    const timer = {
+      member, name, kind, set: row, length, least: 0, most: 0, end: -1, how: "pending", backoffs: 0, requester: -1,
+    };
     this.timers.push(timer);
     return timer;
   }
@@ -114,36 +120,33 @@ class History {
   /** A repair was sent or heard: a repair timer ends, and the name rests. A listener keeps neither. */
   _answered(row, member, name, how) {
     if (this.network.members[member].role === "listener") return;
-    const cell = this.cell(member, name);
-    const timer = this.repairAt[cell] >= 0 ? this.timers[this.repairAt[cell]] : null;
+    const timer = this.repairAt[member].get(name);
     if (timer) this._end(timer, row, how);
-    this.repairAt[cell] = -1;
+    this.repairAt[member].delete(name);
     const source = this.trace.names[name][0];
-    const other = member !== source ? source : timer ? timer.requester : this.trace.packets[this.trace.packet[row]].sender;
+    const other = member !== source ? source : timer?.requester ?? this.trace.packets[this.trace.packet[row]].sender;
     this._rest(row, member, name, 3 * this.network.half(member, other));
   }
 
   _rest(row, member, name, ticks) {
-    const cell = this.cell(member, name);
-    if (this.restAt[cell] >= 0) this.rests[this.restAt[cell]].cut = row;
-    this.restAt[cell] = this.rests.length;
-    const begin = this.trace.time[row];
-    this.rests.push({ member, name, begin: row, from: begin, to: begin + ticks, cut: -1 });
+    const last = this.restAt[member].get(name);
+    if (last) last.cut = row;
+    const from = this.trace.time[row];
+    const rest = { member, name, begin: row, from, to: from + ticks, cut: -1 };
+    this.restAt[member].set(name, rest);
+    this.rests.push(rest);
   }
 
   /** A member leaves: its losses, timers and rests end with it. */
   _leave(row, member) {
     this.left[member] = row;
-    for (let name = 0; name < this.names; name++) {
-      const cell = this.cell(member, name);
-      const loss = this.lossAt[cell] >= 0 ? this.losses[this.lossAt[cell]] : null;
-      if (loss && loss.recovered < 0) {
-        loss.left = row;
-        this._end(loss.timers[loss.timers.length - 1], row, "left");
-      }
-      if (this.repairAt[cell] >= 0) this._end(this.timers[this.repairAt[cell]], row, "left");
-      if (this.restAt[cell] >= 0) this.rests[this.restAt[cell]].cut = row;
+    for (const loss of this.lossAt[member].values()) {
+      if (loss.recovered >= 0) continue;
+      loss.left = row;
+      this._end(loss.timers[loss.timers.length - 1], row, "left");
     }
+    for (const timer of this.repairAt[member].values()) this._end(timer, row, "left");
+    for (const rest of this.restAt[member].values()) rest.cut = row;
   }
 
   /** The row at which a loss ended, by recovery or leave, or -1. */

@@ -33,15 +33,22 @@ function isTaken(event) {
 function listenToKeys(actions) {
   document.addEventListener("keydown", (event) => {
     if (isTaken(event)) return;
-    const key = event.shiftKey && event.key.startsWith("Arrow") ? `Shift ${event.key}` : event.key.length === 1 ? event.key.toLowerCase() : event.key;
-    if (!actions[key]) return;
+    const action = actions[keyOf(event)];
+    if (!action) return;
     event.preventDefault();
-    actions[key]();
+    action();
   });
+}
+
+/** The name of a key press in `actions`. */
+function keyOf({ key, shiftKey }) {
+  if (shiftKey && key.startsWith("Arrow")) return `Shift ${key}`;
+  return key.length === 1 ? key.toLowerCase() : key;
 }
 
 /** The table of keys, as an element. */
 function keyHelp() {
-  const lines = KEY_HELP.map(([keys, told]) => element("tr", {}, element("td", {}, keys.flatMap((key, at) => [at ? " " : "", element("kbd", {}, key)])), element("td", {}, told)));
+  const lines = KEY_HELP.map(([keys, told]) => element("tr", {},
+    element("td", {}, keys.flatMap((key, at) => [at ? " " : "", element("kbd", {}, key)])), element("td", {}, told)));
   return element("table", {}, element("tbody", {}, lines));
 }

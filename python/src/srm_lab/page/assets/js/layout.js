@@ -63,7 +63,8 @@ class Layout {
       this.isStretched = true;
       return;
     }
-    d3.tree().size([2 * Math.PI, 1]).separation((one, other) => (one.parent === other.parent ? 1 : 1.6) / Math.max(1, one.depth))(hierarchy);
+    const separation = (one, other) => (one.parent === other.parent ? 1 : 1.6) / Math.max(1, one.depth);
+    d3.tree().size([2 * Math.PI, 1]).separation(separation)(hierarchy);
     hierarchy.each((it) => this._place(it.data.node, it.y * Math.sin(it.x), -it.y * Math.cos(it.x)));
   }
 
@@ -81,16 +82,4 @@ class Layout {
     const ys = this.y.map((y) => height / 2 + (y - (top + bottom) / 2) * (down > 1e-6 ? scaleY : 0));
     return { x: xs, y: ys };
   }
-}
-
-/** The least distance between two nodes that a link joins, or that stand side by side; at most so many are looked at. */
-function spacingOf(places, most) {
-  const tree = d3.quadtree();
-  let least = most;
-  for (let node = 0; node < places.x.length; node++) {
-    const near = tree.find(places.x[node], places.y[node], least);
-    if (near) least = Math.min(least, Math.hypot(near[0] - places.x[node], near[1] - places.y[node]));
-    tree.add([places.x[node], places.y[node]]);
-  }
-  return least;
 }

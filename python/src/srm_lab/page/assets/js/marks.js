@@ -1,24 +1,28 @@
 // The marks that stand for members, packets and drops: each told apart by its shape, not by its colour alone.
 
-/** Adds a member's outline to the path: a square for a sender, a triangle for a late member, a diamond for a listener, else a circle. */
-function roleOutline(context, role, x, y, r) {
-  if (role === "sender") context.rect(x - 0.9 * r, y - 0.9 * r, 1.8 * r, 1.8 * r);
-  else if (role === "late") polygon(context, [[x, y - 1.2 * r], [x + 1.1 * r, y + 0.8 * r], [x - 1.1 * r, y + 0.8 * r]]);
-  else if (role === "listener") polygon(context, [[x, y - 1.2 * r], [x + 1.2 * r, y], [x, y + 1.2 * r], [x - 1.2 * r, y]]);
-  else {
-    context.moveTo(x + r, y);
-    context.arc(x, y, r, 0, 2 * Math.PI);
+/** Adds a shape to the path. */
+function outline(context, shape, x, y, r) {
+  switch (shape) {
+    case "square": context.rect(x - 0.9 * r, y - 0.9 * r, 1.8 * r, 1.8 * r); break;
+    case "triangle": polygon(context, [[x, y - 1.25 * r], [x + 1.15 * r, y + 0.85 * r], [x - 1.15 * r, y + 0.85 * r]]); break;
+    case "diamond": polygon(context, [[x, y - 1.25 * r], [x + 1.25 * r, y], [x, y + 1.25 * r], [x - 1.25 * r, y]]); break;
+    default:
+      context.moveTo(x + r, y);
+      context.arc(x, y, r, 0, 2 * Math.PI);
   }
 }
 
-/** Adds a packet's outline to the path: a circle for data, a triangle for a request, a square for a repair, a diamond for a session message. */
+const ROLE_SHAPES = { sender: "square", receiver: "circle", late: "triangle", listener: "diamond" };
+const KIND_SHAPES = ["circle", "triangle", "square", "diamond"];
+
+/** Adds a member's outline to the path. */
+function roleOutline(context, role, x, y, r) {
+  outline(context, ROLE_SHAPES[role], x, y, r);
+}
+
+/** Adds a packet's outline to the path. */
 function packetOutline(context, kind, x, y, r) {
-  if (kind === KIND.data) {
-    context.moveTo(x + r, y);
-    context.arc(x, y, r, 0, 2 * Math.PI);
-  } else if (kind === KIND.request) polygon(context, [[x, y - 1.25 * r], [x + 1.15 * r, y + 0.85 * r], [x - 1.15 * r, y + 0.85 * r]]);
-  else if (kind === KIND.repair) context.rect(x - 0.95 * r, y - 0.95 * r, 1.9 * r, 1.9 * r);
-  else polygon(context, [[x, y - 1.25 * r], [x + 1.25 * r, y], [x, y + 1.25 * r], [x - 1.25 * r, y]]);
+  outline(context, KIND_SHAPES[kind], x, y, r);
 }
 
 function polygon(context, points) {
@@ -26,19 +30,52 @@ function polygon(context, points) {
   context.closePath();
 }
 
-/** Strokes a cross. */
-function cross(context, x, y, r, colour, width = 2.5) {
-  context.save();
+/** Strokes a line through points. */
+function strokeLine(context, points, colour, width, dash) {
   context.strokeStyle = colour;
   context.lineWidth = width;
-  context.setLineDash([]);
+  context.setLineDash(dash);
   context.beginPath();
-  context.moveTo(x - r, y - r);
-  context.lineTo(x + r, y + r);
-  context.moveTo(x - r, y + r);
-  context.lineTo(x + r, y - r);
+  points.forEach(([x, y], at) => (at ? context.lineTo(x, y) : context.moveTo(x, y)));
   context.stroke();
-  context.restore();
+  context.setLineDash([]);
+}
+
+/** Strokes a cross. */
+function cross(context, x, y, r, colour, width = 2.5) {
+  strokeLine(context, [[x - r, y - r], [x + r, y + r]], colour, width, []);
+  strokeLine(context, [[x - r, y + r], [x + r, y - r]], colour, width, []);
+}
+
+/** Fills a bar for the time in which an operation is lacked. */
+function lossBar(context, theme, x, y, wide, tall, isChosen) {
+  context.fillStyle = theme.lost;
+  context.globalAlpha = isChosen ? 0.65 : 0.32;
+  context.fillRect(x, y, wide, tall);
+  context.globalAlpha = 1;
+}
+
+/** A ring where a timer is set. */
+function timerSetMark(context, theme, kind, x, y) {
+  context.beginPath();
+  context.arc(x, y, 3, 0, 2 * Math.PI);
+  context.fillStyle = theme.paper;
+  context.fill();
+  context.strokeStyle = theme.kinds[kind];
+  context.lineWidth = 1.8;
+  context.stroke();
+}
+
+/** A dot where a timer expires, a bar where it ends otherwise. */
+function timerEndMark(context, theme, kind, how, x, y) {
+  context.fillStyle = theme.kinds[kind];
+  if (how !== "expired") {
+    context.fillRect(x - 5, y - 1.2, 10, 2.4);
+    return;
+  }
+  context.beginPath();
+  context.arc(x, y, 4.2, 0, 2 * Math.PI);
+  context.fill();
 }
 
 const MOST_EDGED = 150;
@@ -48,7 +85,8 @@ const DASHES = [[], [7, 3], [2, 3], [1, 4]];
 
 /** A small canvas for a legend, on which something is drawn. */
 function swatch(draw, width = 22, height = 14) {
-  const canvas = element("canvas", { class: "swatch", "aria-hidden": "true", style: `width:${width}px;height:${height}px` });
+  const style = `width:${width}px;height:${height}px`;
+  const canvas = element("canvas", { class: "swatch", "aria-hidden": "true", style });
   const scale = window.devicePixelRatio || 1;
   canvas.width = width * scale;
   canvas.height = height * scale;
@@ -101,7 +139,7 @@ function drawPacket(context, theme, kind, x, y, r) {
 function drawPackets(context, theme, kind, places, r) {
   if (!places.length) return;
   context.beginPath();
-  for (const { x, y } of places) packetOutline(context, kind, x, y, r);
+  for (const [x, y] of places) packetOutline(context, kind, x, y, r);
   context.fillStyle = theme.kinds[kind];
   context.fill();
   if (places.length > MOST_EDGED) return;

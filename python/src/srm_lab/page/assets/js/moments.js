@@ -1,25 +1,13 @@
 // When a run is busy: from where to where packets travel or events are handled.
 
-/** Spans of ticks, apart from each other and rising, that cover some spans. */
-function united(spans) {
-  const sorted = spans.slice().sort((one, other) => one[0] - other[0]);
-  const found = [];
-  for (const [begin, end] of sorted) {
-    const last = found[found.length - 1];
-    if (last && begin <= last[1]) last[1] = Math.max(last[1], end);
-    else found.push([begin, end]);
-  }
-  return found;
-}
-
 /** A run's first and last tick, and the spans in which something happens. */
 class Moments {
   constructor(trace, network, about) {
     const flights = trace.packets.map((packet) => [packet.time, packet.time + this._flight(packet, network)]);
-    const events = Array.from(trace.time, (time) => [time, time]);
+    const ticks = trace.time.filter((time, row) => row === 0 || time !== trace.time[row - 1]);
     const limit = Math.min(about.until, about.cut.to ?? Infinity);
     this.begin = about.cut.from;
-    this.busy = united([...flights, ...events])
+    this.busy = united([...flights, ...Array.from(ticks, (time) => [time, time])])
       .map(([begin, end]) => [Math.max(begin, this.begin), Math.min(end, limit)])
       .filter(([begin, end]) => begin <= end);
     const last = this.busy[this.busy.length - 1];

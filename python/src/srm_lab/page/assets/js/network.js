@@ -48,7 +48,8 @@ class Network {
     this.kind = about.kind;
     this.nodes = about.nodes;
     this.links = about.links.map(([a, b, delay, back]) => ({ a, b, delay, back }));
-    this.members = about.members.map(([node, role, stream, join, leave, pages]) => ({ node, role, stream, join, leave, pages }));
+    this.members = about.members.map(([node, role, stream, join, leave, pages]) =>
+      ({ node, role, stream, join, leave, pages }));
     this.memberNodes = this.members.map((member) => member.node);
     this.memberAt = new Int32Array(this.nodes).fill(-1);
     this.memberNodes.forEach((node, member) => { this.memberAt[node] = member; });
@@ -61,8 +62,15 @@ class Network {
     this.trips = new Map();
     this.drops = new Map();
     for (const [link, sender, count] of about.drops) this._drop(`${sender}:${count}`, link);
-    this.outages = about.outages.map(([link, from, to]) => ({ link, from, to }));
-    this.outagesOf = grouped(this.outages, (it) => it.link);
+    this._outages(about.outages.map(([link, from, to]) => ({ link, from, to })));
+  }
+
+  _outages(outages) {
+    const times = (some) => new Times(some.map(({ from, to }) => [from, to]));
+    this.outages = outages;
+    this.outagesByLink = grouped(outages, (it) => it.link);
+    this.timesOut = new Map(Array.from(this.outagesByLink, ([link, some]) => [link, times(some)]));
+    this.timesOfOutages = times(outages);
   }
 
   _drop(packet, link) {
@@ -109,20 +117,30 @@ class Network {
     return Math.floor(this.roundTrip(member, other) / 2);
   }
 
+  /** A link's outages. */
+  outagesOf(link) {
+    return this.outagesByLink.get(link) ?? [];
+  }
+
   /** Whether a link is out at a tick. */
   isOut(link, tick) {
-    return (this.outagesOf.get(link) ?? []).some(({ from, to }) => from <= tick && tick < to);
+    return this.timesOut.get(link)?.meet(tick) ?? false;
+  }
+
+  /** The links that took a packet out. */
+  linksThatTookOut(packet) {
+    const route = this.routeOf(packet.sender);
+    return (this.fateOf(packet)?.dropped ?? []).map((at) => route.link[at]);
   }
 
   /**
-   * What became of a packet on its way: null where no link took it out; else `dropped`, the route's places at which one did,
-   * and `crossed`, which has a 1 for each place that it crossed.
+   * What became of a packet on its way: null where no link took it out; else `dropped`, the route's places at which one
+   * did, and `crossed`, which has a 1 for each place that it crossed.
    */
   fateOf(packet) {
     const drops = this.drops.get(`${packet.sender}:${packet.count}`);
     const route = this.routeOf(packet.sender);
-    const mayMeet = this.outages.some(({ from, to }) => from <= packet.time + route.longest && packet.time < to);
-    if (!drops && !mayMeet) return null;
+    if (!drops && !this.timesOfOutages.meet(packet.time, packet.time + route.longest)) return null;
     const crossed = new Uint8Array(route.link.length);
     const dropped = [];
     for (let at = 0; at < route.link.length; at++) {
@@ -139,10 +157,10 @@ class Network {
 /** Lists of items by key. */
 function grouped(items, keyOf) {
   const lists = new Map();
-  for (const item of items) {
-    const key = keyOf(item);
+  items.forEach((item, at) => {
+    const key = keyOf(item, at);
     if (!lists.has(key)) lists.set(key, []);
     lists.get(key).push(item);
-  }
+  });
   return lists;
 }

@@ -1,6 +1,7 @@
 // The clock of the page: a moment of the run, moved by play, steps and the slider.
 
-const SPEEDS = [-2, -1, 0, 1, 2, 3, 4, 5, 6, 7, 8].flatMap((power) => [1, 2, 5].map((factor) => factor * 10 ** power));
+// ticks a second
+const SPEEDS = d3.range(-2, 9).flatMap((power) => [1, 2, 5].map((factor) => factor * 10 ** power));
 const SECONDS_OF_A_RUN = 30;
 const STEPS_A_SECOND = 2;
 
@@ -30,7 +31,7 @@ class Player {
   }
 
   play() {
-    if (this.tick >= this.moments.end && this.rows >= this.trace.length) this._move(this.moments.begin, this.trace.rowsUpTo(this.moments.begin));
+    if (this.tick >= this.moments.end && this.rows >= this.trace.length) this.seek(this.moments.begin);
     this.isPlaying = true;
     this.last = null;
     requestAnimationFrame((now) => this._frame(now));

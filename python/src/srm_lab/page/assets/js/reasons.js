@@ -7,24 +7,26 @@ class Reasons {
     this.trace = history.trace;
     this.name = name;
     this.losses = (history.lossesOfName.get(name) ?? []).slice().sort((one, other) => one.detected - other.detected);
-    this.packets = this.trace.packets.filter((packet) => packet.name === name);
-    this.drawn = this.packets.find((packet) => packet.kind === KIND.data) ?? null;
-    this.requests = this.packets.filter((packet) => packet.kind === KIND.request).map((packet) => this._request(packet));
-    this.repairs = this.packets.filter((packet) => packet.kind === KIND.repair).map((packet) => this._repair(packet));
+    const packets = this.trace.packets.filter((packet) => packet.name === name);
+    const ofKind = (kind) => packets.filter((packet) => packet.kind === kind);
+    this.drawn = ofKind(KIND.data)[0] ?? null;
+    this.requests = ofKind(KIND.request).map((packet) => this._request(packet));
+    this.repairs = ofKind(KIND.repair).map((packet) => this._repair(packet));
     this.plans = history.timers.filter((timer) => timer.kind === KIND.repair && timer.name === name);
   }
 
-  /** A request: which members it held back, which it made plan a repair, and who did neither. */
+  /** A request: whom it held back, who ignored it, whom it made plan a repair, and who planned already or rested. */
   _request(packet) {
     const heard = Array.from(this.trace.hearersOf(packet));
-    const with_ = (result) => heard.filter((row) => this.trace.result[row] === result).map((row) => this.trace.member[row]);
+    const membersWith = (result) => heard.filter((row) => this.trace.result[row] === result)
+      .map((row) => this.trace.member[row]);
     return {
       packet,
-      heldBack: with_(RESULT.back),
-      ignored: with_(RESULT.hold),
-      planned: with_(RESULT.plan),
-      busy: with_(RESULT.busy),
-      resting: with_(RESULT.rest),
+      heldBack: membersWith(RESULT.back),
+      ignored: membersWith(RESULT.hold),
+      planned: membersWith(RESULT.plan),
+      busy: membersWith(RESULT.busy),
+      resting: membersWith(RESULT.rest),
       droppedAt: this.droppedAt(packet),
     };
   }
@@ -42,9 +44,7 @@ class Reasons {
 
   /** The links at which a packet was dropped. */
   droppedAt(packet) {
-    const { network } = this.history;
-    const fate = network.fateOf(packet);
-    return fate ? fate.dropped.map((at) => network.routeOf(packet.sender).link[at]) : [];
+    return this.history.network.linksThatTookOut(packet);
   }
 
   /** Where a packet of the operation, or what it carries, first came into being: its source. */
@@ -52,23 +52,23 @@ class Reasons {
     return this.trace.names[this.name][0];
   }
 
-  /** How a member found a loss, in words. */
+  /** By what a member found a loss. */
   found(loss) {
     const { trace } = this;
     const row = loss.detected;
     const packet = trace.packets[trace.packet[row]];
-    if (trace.cause[row] === CAUSE.session) return `a session message of member ${packet.sender}`;
-    if (trace.cause[row] === CAUSE.request) return `the request of member ${packet.sender}`;
-    return `a gap before ${trace.nameText(trace.name[row])}`;
+    if (trace.cause[row] === CAUSE.session) return `session of ${packet.sender}`;
+    if (trace.cause[row] === CAUSE.request) return `request of ${packet.sender}`;
+    return `gap before ${trace.nameText(trace.name[row])}`;
   }
 
   /** When a loser would have asked, by its first timer: a tick, or the interval it was drawn from. */
   wouldAsk(loss) {
     const timer = loss.timers[0];
     const expiry = this.history.expiryOf(timer);
-    if (expiry !== null) return `${expiry}`;
+    if (expiry !== null) return grouping(expiry);
     const set = this.trace.time[timer.set];
-    return timer.least === timer.most ? `${set + timer.least}` : `${set + timer.least} to ${set + timer.most}`;
+    return spanText(set + timer.least, set + timer.most);
   }
 
   /** A loss's delay in round trips to the source, or null while it is open. */
@@ -79,7 +79,7 @@ class Reasons {
     return { ticks, trip, trips: ticks / trip };
   }
 
-  /** The members that the operation's loss concerns: its source, losers, requesters, and those that planned or sent repairs. */
+  /** The members that the loss concerns: source, losers, requesters, and those that planned or sent repairs. */
   members() {
     const found = new Set([this.source]);
     for (const loss of this.losses) found.add(loss.member);

@@ -1,5 +1,7 @@
 // The rule of docs/MODEL.md that a row followed, in words.
 
+const MOST_NAMED = 4;
+
 /** Tells rows in words. */
 class Rules {
   constructor(history) {
@@ -17,7 +19,8 @@ class Rules {
     switch (trace.cause[row]) {
       case CAUSE.join: return `${member} joins`;
       case CAUSE.leave: return `${member} leaves`;
-      case CAUSE.draw: return trace.result[row] === RESULT.sent ? `${member} draws ${name}` : `${member} is to draw`;
+      case CAUSE.draw:
+        return trace.result[row] === RESULT.sent ? `${member} draws ${name}` : `${member} is to draw, and draws nothing`;
       case CAUSE.report: return `${member} sends a session message`;
       case CAUSE.ask: return `${member} asks for ${name}`;
       case CAUSE.answer: return `${member} repairs ${name}`;
@@ -42,7 +45,8 @@ class Rules {
     const { trace } = this;
     const name = trace.nameText(trace.name[row]);
     switch (trace.result[row]) {
-      case RESULT.in: return ["From its join on a member hears packets, and what the scenario has it draw and report happens."];
+      case RESULT.in:
+        return ["From its join on a member hears packets, and does what the scenario has it draw and report."];
       case RESULT.out: return ["A member that leaves takes its timers and its open losses with it."];
       case RESULT.fresh: return this._fresh(row, name);
       case RESULT.fixed: return [`It was missing ${name}. It takes the operation in, and its request timer ends.`];
@@ -51,50 +55,66 @@ class Rules {
       case RESULT.skip: return [this._skip(row, name)];
       case RESULT.rest: return [this._rest(row, name)];
       case RESULT.busy: return [this._busy(row, name)];
-      case RESULT.plan: return [`It holds ${name}, no rest is on, and no repair timer is pending: it sets one for the requester.`, this._timer(row, KIND.repair)];
+      case RESULT.plan:
+        return [`It holds ${name}, no rest is on, and no repair timer is pending: it sets one for the requester.`,
+          this._timer(row, KIND.repair)];
       case RESULT.hold: return [this._hold(row, name)];
-      case RESULT.back: return [`It lacks ${name} too, and its ignore time is over: it backs off, so that its request timer is set anew.`, this._timer(row, KIND.request)];
+      case RESULT.back:
+        return [`It lacks ${name} too, and its ignore time is over: it backs off, so that its request timer is set anew.`,
+          this._timer(row, KIND.request)];
       default: return this._sentCase(row, name);
     }
   }
 
+  _isListener(row) {
+    return this.network.members[this.trace.member[row]].role === "listener";
+  }
+
   _fresh(row, name) {
-    const isListener = this.network.members[this.trace.member[row]].role === "listener";
-    if (isListener) return [`A listener takes in what it does not hold: ${name}.`];
-    return [`${name} is at or above the first number of its page that the member had not heard of: it takes the operation in.`];
+    if (this._isListener(row)) return [`A listener takes in what it does not hold: ${name}.`];
+    return [`${name} is at or above the first number of its page that the member had not heard of: it takes the `
+      + "operation in."];
   }
 
   _skip(row, name) {
     const cause = this.trace.cause[row];
-    if (this.network.members[this.trace.member[row]].role === "listener") return "A listener skips all but data and repairs.";
+    if (this._isListener(row)) return "A listener skips all but data and repairs.";
     if (cause === CAUSE.draw) return "The page has its 4,096 operations, so nothing is drawn.";
-    if (isArrival(cause)) return `${name} is from before the first thing that this late member heard of the page, so it does not concern it.`;
+    if (isArrival(cause)) {
+      return `${name} is from before the first thing that this late member heard of the page, so it does not concern it.`;
+    }
     return "There is no such timer.";
   }
 
   _rest(row, name) {
     const rest = this._restAt(row);
-    const until = rest ? ` until tick ${rest.to}` : "";
-    return `It holds ${name}, but sent or heard a repair of it a short while ago: the name rests${until}, and the request goes unanswered.`;
+    const until = rest ? ` until tick ${grouping(rest.to)}` : "";
+    return `It holds ${name}, but sent or heard a repair of it a short while ago: the name rests${until}, and the request `
+      + "goes unanswered.";
   }
 
   _busy(row, name) {
     const timer = this._timerAt(row, KIND.repair);
-    const told = timer ? ` It was set at ${this.trace.time[timer.set]} for member ${timer.requester}${this._due(timer)}.` : "";
+    const told = timer
+      ? ` It was set at ${grouping(this.trace.time[timer.set])} for member ${timer.requester}${this._due(timer)}.` : "";
     return `It holds ${name}, and its repair timer is pending already, which stays as it is.${told}`;
   }
 
   _hold(row, name) {
     const timer = this._timerAt(row, KIND.request);
     const until = timer ? this.history.ignoreUntil(timer) : null;
-    return `It lacks ${name} too, but backed off a short while ago: up to its ignore time${until === null ? "" : `, tick ${until},`} a request makes it back off no further.`;
+    const at = until === null ? "" : `, tick ${grouping(until)},`;
+    return `It lacks ${name} too, but backed off a short while ago: before its ignore time${at} a request makes it back off `
+      + "no further.";
   }
 
   _sentCase(row, name) {
     switch (this.trace.cause[row]) {
-      case CAUSE.ask: return [`Its request timer expired, and it still lacks ${name}: it asks all members, and backs off.`, this._timer(row, KIND.request)];
+      case CAUSE.ask:
+        return [`Its request timer expired, and it still lacks ${name}: it asks all members, and backs off.`,
+          this._timer(row, KIND.request)];
       case CAUSE.answer: return [`Its repair timer expired: it sends ${name} to all. ${this._restBegins(row)}`];
-      case CAUSE.draw: return [`It draws the next operation of its page, holds it, and sends it as data.`];
+      case CAUSE.draw: return ["It draws the next operation of its page, holds it, and sends it as data."];
       default: return ["It tells of each page that it knows the highest number."];
     }
   }
@@ -102,28 +122,30 @@ class Rules {
   _losses(row) {
     const { trace, history } = this;
     const names = Array.from(trace.lostIn(row));
-    const told = names.slice(0, 4).map((name) => trace.nameText(name)).join(", ");
-    const more = trace.lost[row] - Math.min(names.length, 4);
-    const first = names.length ? history.losses[history.lossAt[history.cell(trace.member[row], names[0])]].timers[0] : null;
-    const timer = first && names.length === 1 ? ` ${this._timerText(first)}` : "";
-    return `By that it finds ${trace.lost[row]} operation${trace.lost[row] === 1 ? "" : "s"} missing: ${told}${more > 0 ? ` and ${more} more` : ""}. Each gets a request timer.${timer}`;
+    const told = names.slice(0, MOST_NAMED).map((name) => trace.nameText(name)).join(", ");
+    const more = trace.lost[row] - Math.min(names.length, MOST_NAMED);
+    const rest = more > 0 ? ` and ${more} more` : "";
+    const found = `By that it finds ${counted(trace.lost[row], "operation")} missing: ${told}${rest}.`;
+    if (names.length !== 1) return `${found} Each gets a request timer.`;
+    return `${found} ${this._timerText(history.lossAt[trace.member[row]].get(names[0]).timers[0])}`;
   }
 
   _heardRepair(row) {
-    if (this.network.members[this.trace.member[row]].role === "listener") return [];
+    if (this._isListener(row)) return [];
     const ended = this._timersOf(row, KIND.repair).some((timer) => timer.end === row);
     return [`${this._restBegins(row)}${ended ? " Its own repair timer ends: the repair is sent already." : ""}`];
   }
 
   _restBegins(row) {
     const rest = this._restsOf(row).find((it) => it.begin === row);
-    return rest ? `The name rests for ${rest.to - rest.from} ticks, up to ${rest.to}: requests for it go unanswered.` : "";
+    if (!rest) return "";
+    const ticks = counted(rest.to - rest.from, "tick");
+    return `The name rests for ${ticks}, up to ${grouping(rest.to)}: requests for it go unanswered.`;
   }
 
   _sent(row) {
     const packet = this.trace.packets[this.trace.sent[row]];
-    const fate = this.network.fateOf(packet);
-    const links = fate ? fate.dropped.map((at) => this.network.routeOf(packet.sender).link[at]) : [];
+    const links = this.network.linksThatTookOut(packet);
     const dropped = links.length ? ` It is dropped at link ${links.join(" and link ")}.` : "";
     return `It sends its packet ${this.trace.packetText(packet)} to all members.${dropped}`;
   }
@@ -136,14 +158,14 @@ class Rules {
 
   /** A timer in words: from where it was drawn, and when it ends. */
   _timerText(timer) {
-    const drawn = timer.least === timer.most ? `${timer.least}` : `${timer.least} to ${timer.most}`;
-    const after = timer.backoffs ? ` after ${timer.backoffs} backoff${timer.backoffs === 1 ? "" : "s"}` : "";
-    return `The timer is drawn from ${drawn} ticks${after}${this._due(timer)}.`;
+    const kind = timer.kind === KIND.request ? "request" : "repair";
+    const after = timer.backoffs ? ` after ${counted(timer.backoffs, "backoff")}` : "";
+    return `The ${kind} timer is drawn from ${spanText(timer.least, timer.most)} ticks${after}${this._due(timer)}.`;
   }
 
   _due(timer) {
     const expiry = this.history.expiryOf(timer);
-    return expiry === null ? "" : `, and would expire at tick ${expiry}`;
+    return expiry === null ? "" : `, and is due at tick ${grouping(expiry)}`;
   }
 
   _timersOf(row, kind) {

@@ -46,7 +46,6 @@ class Slider {
   }
 
   draw() {
-    if (this.surface.fit()) this.background = null;
     const { width, height } = this.surface;
     this.scale.range([0, width]);
     if (!this.background) this._drawBackground(width, height);

@@ -52,20 +52,13 @@ class States {
     this.counts = COUNTS.map(() => new Int32Array(this.members));
     this.byRow = new Changes();
     this.byTick = new Changes();
-    this._possessions();
     this._losses();
     this._plans();
     this._rests();
     this.byRow.sort();
     this.byTick.sort();
+    this.rows = 0;
     this.moveTo(0, 0);
-  }
-
-  _possessions() {
-    const { got, names } = this.history;
-    for (let cell = 0; cell < got.length; cell++) {
-      if (got[cell] >= 0) this.byRow.add(got[cell], Math.floor(cell / names), COUNT.held, 1);
-    }
   }
 
   _losses() {
@@ -100,10 +93,19 @@ class States {
   /** Goes to a moment: `rows` rows were handled, and it is tick `tick`. */
   moveTo(tick, rows) {
     const apply = (member, count, step) => { this.counts[count][member] += step; };
+    this._gain(rows);
     this.tick = tick;
     this.rows = rows;
     this.byRow.moveTo(rows - 1, apply);
     this.byTick.moveTo(Math.floor(tick), apply);
+  }
+
+  /** Counts what members hold, row by row on or back. */
+  _gain(rows) {
+    const { gains, trace } = this.history;
+    const held = this.counts[COUNT.held];
+    for (let row = this.rows; row < rows; row++) held[trace.member[row]] += gains[row];
+    for (let row = rows; row < this.rows; row++) held[trace.member[row]] -= gains[row];
   }
 
   /** A member's count. */
@@ -121,4 +123,9 @@ class States {
     if (this.counts[COUNT.planned][member] > 0) return STATE.plans;
     return this.counts[COUNT.resting][member] > 0 ? STATE.rests : STATE.holds;
   }
+}
+
+/** Whether members of a state lack an operation. */
+function isLacking(state) {
+  return state === STATE.lacks || state === STATE.asked;
 }

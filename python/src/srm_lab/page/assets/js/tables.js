@@ -1,6 +1,7 @@
 // The program's tables of members, losses and links, from the trace.
 
-const MEMBER_COLUMNS = ["member", "role", "node", "joined", "left", "drawn", "heard", "lost", "fixed", "open", "requests", "repairs", "sessions"];
+const MEMBER_COLUMNS = ["member", "role", "node", "joined", "left", "drawn", "heard", "lost", "fixed", "open", "requests",
+  "repairs", "sessions"];
 const LOSS_COLUMNS = ["member", "source", "page", "number", "detected", "recovered", "delay"];
 const LINK_COLUMNS = ["link", "data", "requests", "repairs", "sessions", "dropped"];
 const TRACE_COLUMNS = ["time", "member", "cause", "ref", "result", "lost", "sent"];
@@ -53,8 +54,9 @@ function linkTable(history) {
   for (const packet of trace.packets) {
     if (packet.row < 0) continue;
     const fate = network.fateOf(packet);
+    const key = packet.sender * KINDS.length + packet.kind;
     if (fate) countFate(rows, network.routeOf(packet.sender), packet.kind, fate);
-    else whole.set(packet.sender * KINDS.length + packet.kind, 1 + (whole.get(packet.sender * KINDS.length + packet.kind) ?? 0));
+    else whole.set(key, 1 + (whole.get(key) ?? 0));
   }
   for (const [key, count] of whole) {
     const kind = key % KINDS.length;

@@ -101,12 +101,14 @@ class Trace {
 
   /** The fields of a row as they stand in the trace. */
   fields(row) {
-    const cause = this.cause[row];
-    const packet = this.packet[row];
-    const ref = packet >= 0 ? this.packetText(this.packets[packet]) : this._hasName(row) ? this.nameText(this.name[row]) : "-";
-    const sent = this.sent[row];
-    return [this.time[row], this.member[row], CAUSES[cause], ref, RESULTS[this.result[row]], this.lost[row],
-      sent >= 0 ? this.packetText(this.packets[sent]) : "-"];
+    const sent = this.sent[row] >= 0 ? this.packetText(this.packets[this.sent[row]]) : "-";
+    return [this.time[row], this.member[row], CAUSES[this.cause[row]], this._reference(row), RESULTS[this.result[row]],
+      this.lost[row], sent];
+  }
+
+  _reference(row) {
+    if (this.packet[row] >= 0) return this.packetText(this.packets[this.packet[row]]);
+    return this._hasName(row) ? this.nameText(this.name[row]) : "-";
   }
 
   /** The number of the first row after a tick, which is that of rows up to the tick. */

@@ -1,0 +1,107 @@
+// The packets of the network's picture: those that are on a link, and those that a link took out.
+
+const MOST_LABELLED_PACKETS = 8;
+const LABEL_HEIGHT = 14;
+
+/** Draws packets at the present moment onto a network's view. */
+class NetworkPackets {
+  constructor(view) {
+    this.view = view;
+    this.network = view.network;
+    this.packets = view.model.trace.packets;
+    this.times = Float64Array.from(this.packets, (packet) => packet.time);
+    this.lanes = lanesOf(this.packets);
+    this.fates = new Map();
+    const senders = Array.from(new Set(this.packets.map((packet) => packet.sender)));
+    this.farthest = d3.max(senders, (sender) => this.network.routeOf(sender).longest) ?? 0;
+    this.slowest = d3.max(this.network.links, (link) => Math.max(link.delay, link.back)) ?? 1;
+  }
+
+  /** Packets that are on a link now, and drops that happened within a link's delay. */
+  draw(context) {
+    const { view } = this;
+    const { states } = view.model;
+    const from = d3.bisectLeft(this.times, states.tick - this.farthest - this.slowest);
+    this.places = KINDS.map(() => []);
+    this.labels = [];
+    for (let id = from; id < this.packets.length && this.times[id] <= states.tick; id++) {
+      const packet = this.packets[id];
+      if (view.filters.shows(packet) && packet.row < states.rows) this._follow(context, packet);
+    }
+    const r = Math.max(2.2, Math.min(6.5, view.radius * 0.55));
+    this.places.forEach((places, kind) => drawPackets(context, view.theme, kind, places, r));
+    if (this.labels.length <= MOST_LABELLED_PACKETS && view.radius >= 8) this._drawLabels(context, r);
+  }
+
+  _fateOf(packet) {
+    if (!this.fates.has(packet.id)) this.fates.set(packet.id, this.network.fateOf(packet));
+    return this.fates.get(packet.id);
+  }
+
+  /** Keeps where a packet is, and draws where it was dropped. */
+  _follow(context, packet) {
+    const { link, begin, end, longest } = this.network.routeOf(packet.sender);
+    const age = this.view.model.states.tick - packet.time;
+    if (age > longest + this.slowest) return;
+    const fate = this._fateOf(packet);
+    for (let at = 0; at < link.length; at++) {
+      const isOn = age >= begin[at] && age < end[at];
+      if (isOn && (!fate || fate.crossed[at])) this._move(packet, at, (age - begin[at]) / (end[at] - begin[at]));
+    }
+    for (const at of fate?.dropped ?? []) this._dropped(context, packet, at, age);
+  }
+
+  /** Where a packet is, a part of the way along a place of its route. */
+  _on(packet, at, part) {
+    const route = this.network.routeOf(packet.sender);
+    const aside = laneOffset(this.lanes[packet.id]) * Math.max(4, this.view.radius * 0.7);
+    return this.view.beside(route.near[at], route.far[at], part, aside);
+  }
+
+  _move(packet, at, part) {
+    const place = this._on(packet, at, part);
+    this.places[packet.kind].push(place);
+    if (this.labels.length <= MOST_LABELLED_PACKETS) this.labels.push({ packet, place });
+  }
+
+  /** A packet that came to the link that takes it out: it stops in the middle, at a cross. */
+  _dropped(context, packet, at, age) {
+    const { view } = this;
+    const { near, far, begin, end } = this.network.routeOf(packet.sender);
+    const since = age - begin[at];
+    if (since < 0 || since > Math.max(end[at] - begin[at], 1)) return;
+    const [x, y] = this._on(packet, at, 0.5);
+    const r = Math.max(4, Math.min(9, view.radius * 0.7));
+    drawPacket(context, view.theme, packet.kind, x, y, r);
+    cross(context, x, y, r + 3, view.theme.cross, 3);
+    if (view.radius >= 4 && this.lanes[packet.id] === 0) view.note(context, near[at], far[at], 1, "dropped");
+  }
+
+  /** The operations that packets are about, above them; where several stand at one place, once. */
+  _drawLabels(context, r) {
+    const { view } = this;
+    const { trace } = view.model;
+    const labelled = new Set();
+    context.font = `11px ${TEXT_FONT}`;
+    context.textAlign = "center";
+    context.textBaseline = "middle";
+    for (const { packet, place: [x, y] } of this.labels) {
+      const text = packet.name >= 0 ? trace.nameText(packet.name) : "session";
+      const top = y - r - 10 - LABEL_HEIGHT * this.lanes[packet.id];
+      const key = `${text} ${Math.round(x / 8)} ${Math.round(top / 8)}`;
+      if (!labelled.has(key)) view.plate(context, text, x, top);
+      labelled.add(key);
+    }
+  }
+}
+
+/** For each packet how many packets its sender sent before it in the same tick. */
+function lanesOf(packets) {
+  const counts = new Map();
+  return Int32Array.from(packets, ({ sender, time }) => {
+    const key = `${sender}@${time}`;
+    const lane = counts.get(key) ?? 0;
+    counts.set(key, lane + 1);
+    return lane;
+  });
+}

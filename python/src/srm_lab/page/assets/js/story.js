@@ -1,0 +1,71 @@
+// What became of an operation, in a few sentences.
+
+const MOST_IN_A_STORY = 4;
+
+/** A delay in round trips, rounded for reading. */
+const tripsText = d3.format(".3~f");
+
+/** The story of an operation's loss: sentences. */
+function storyOf(reasons) {
+  if (!reasons.losses.length) return ["Nobody lost it."];
+  return [lossSentence(reasons), requestSentence(reasons), repairSentence(reasons), recoverySentence(reasons)].filter(Boolean);
+}
+
+function lossSentence({ losses, trace }) {
+  const losers = membersInWords(losses.map((loss) => loss.member));
+  return `${capital(losers)} lost it, and found out ${ticksInWords(losses.map((loss) => trace.time[loss.detected]))}.`;
+}
+
+function requestSentence({ requests }) {
+  if (!requests.length) return "Nobody asked for it.";
+  const [first] = requests;
+  const heldBack = first.heldBack.length ? `, which held back ${membersInWords(first.heldBack)}` : "";
+  const more = requests.length > 1 ? `, and ${counted(requests.length - 1, "more request")} followed` : "";
+  return `Member ${first.packet.sender} asked first, at tick ${grouping(first.packet.time)}${heldBack}${more}.`;
+}
+
+function repairSentence({ repairs, plans, requests }) {
+  if (!repairs.length) return requests.length ? "Nobody answered." : "";
+  const [{ packet }] = repairs;
+  const planners = Array.from(new Set(plans.map((plan) => plan.member)));
+  const planned = planners.length > 1 ? `${capital(membersInWords(planners))} planned a repair; member` : "Member";
+  const more = repairs.length > 1 ? `, and ${counted(repairs.length - 1, "more repair")} followed` : "";
+  return `${planned} ${packet.sender} answered first, at tick ${grouping(packet.time)}${more}.`;
+}
+
+function recoverySentence(reasons) {
+  const { losses, trace } = reasons;
+  const recovered = losses.filter((loss) => loss.recovered >= 0);
+  const left = losses.filter((loss) => loss.recovered < 0 && loss.left >= 0).length;
+  const open = losses.length - recovered.length - left;
+  const others = [
+    left ? `${counted(left, "member")} left without it` : "",
+    open ? `${counted(open, "member")} ${open === 1 ? "lacks" : "lack"} it to the end` : "",
+  ].filter(Boolean).join(", and ");
+  if (!recovered.length) return `${capital(others)}.`;
+  const last = grouping(d3.max(recovered, (loss) => trace.time[loss.recovered]));
+  const [least, most] = d3.extent(recovered, (loss) => reasons.delay(loss).trips).map(tripsText);
+  const delays = least === most ? least : `${least} to ${most}`;
+  const one = `Member ${losses[0].member}`;
+  const who = others ? `${recovered.length} of ${losses.length}` : losses.length === 1 ? one : "All of them";
+  return `${who} had it by tick ${last}, ${delays} round trips to the source after finding out`
+    + `${others ? `; ${others}` : ""}.`;
+}
+
+/** Some members in words: by their numbers where they are few. */
+function membersInWords(members) {
+  const sorted = members.slice().sort((one, other) => one - other);
+  if (sorted.length > MOST_IN_A_STORY) return counted(sorted.length, "member");
+  if (sorted.length === 1) return `member ${sorted[0]}`;
+  return `members ${sorted.slice(0, -1).join(", ")} and ${sorted[sorted.length - 1]}`;
+}
+
+/** Some ticks in words: one, or the first and the last. */
+function ticksInWords(ticks) {
+  const [first, last] = d3.extent(ticks);
+  return first === last ? `at tick ${grouping(first)}` : `at ticks ${grouping(first)} to ${grouping(last)}`;
+}
+
+function capital(text) {
+  return text[0].toUpperCase() + text.slice(1);
+}
