@@ -12,6 +12,7 @@ PREFIX ?= /usr/local
 SCENARIO ?= examples/two-nodes.toml
 ARGUMENTS ?=
 EXPLAIN = $(if $(filter --explain,$(ARGUMENTS)),,--explain)
+TRIED ?= out/try
 CRATE ?=
 BENCH ?=
 SECONDS ?= 60
@@ -30,9 +31,8 @@ $(PROGRAM): $(SOURCES)
 run: $(PROGRAM) ## prints the trace of a scenario, or what ARGUMENTS ask for: make run SCENARIO=examples/two-nodes.toml ARGUMENTS="--show links"
 	@$(PROGRAM) $(EXPLAIN) $(ARGUMENTS) < $(SCENARIO)
 
-try: ## the same program, unproved and compiled anew each time, in one to two and a half minutes: make try SCENARIO=.. ARGUMENTS=..
-	@echo "compiling the program, without a proof: one to two and a half minutes" >&2
-	@cd crates/srm_lab && $(RT) try -- $(EXPLAIN) $(ARGUMENTS) < $(abspath $(SCENARIO))
+try: ## the same program, unproved: compiled in one to four minutes, and run again at once while no source changes: make try SCENARIO=.. ARGUMENTS=..
+	@tools/try_program.py $(TRIED) crates/srm_lab $(EXPLAIN) $(ARGUMENTS) < $(SCENARIO)
 
 check: ## what an edit needs: proves each crate that changed, or CRATE=srm_net with the crates below it; checks scripts and documents
 	@tests/tools_tests.py -q
@@ -92,4 +92,4 @@ help: ## lists these targets
 install: $(PROGRAM) ## copies the program to PREFIX/bin, by default /usr/local/bin
 	install -D -m 755 $(PROGRAM) $(DESTDIR)$(PREFIX)/bin/srm_lab
 
-include experiments/targets.mk
+include experiments/targets.mk experiments/repository.mk

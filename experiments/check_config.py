@@ -7,7 +7,7 @@ Ends with status 1 and one line on standard error where a part of the configurat
 import sys
 
 import yaml
-from figures import DRAWS
+from figures import NEEDS
 from srm_lab import ScenarioError
 from srm_lab.sweep import check_config
 
@@ -18,7 +18,7 @@ def main(path: str) -> int:
             config = yaml.safe_load(text)
         if not isinstance(config, dict):
             raise ScenarioError("this is no configuration")
-        check_config(config, DRAWS)
+        check_config(config, NEEDS)
     except (ScenarioError, OSError, yaml.YAMLError) as fault:
         sys.stderr.write(f"{path}: {fault}\n")
         return 1

@@ -24,6 +24,7 @@ from matplotlib.axes import Axes  # noqa: E402
 from matplotlib.figure import Figure  # noqa: E402
 from matplotlib.ticker import FixedLocator, FuncFormatter, NullLocator  # noqa: E402
 from srm_lab.statistics import interval  # noqa: E402
+from srm_lab.sweep import Needs  # noqa: E402
 
 BLUE, ORANGE, GREEN, PURPLE, GREY = "#0072b2", "#d55e00", "#009e73", "#cc79a7", "#666666"
 COLOURS = (BLUE, ORANGE, GREEN, PURPLE, "#e69f00", "#56b4e9", "#000000")
@@ -230,6 +231,11 @@ def requests_against_delay(tables: list[pandas.DataFrame], words: dict[str, str]
 
 DRAWS = {draw.__name__: draw for draw in (
     over_session_size, lines, requests_in_a_star, chain_of_sure_timers, requests_against_delay)}
+NEEDS = {
+    "over_session_size": Needs(1), "lines": Needs(4), "requests_in_a_star": Needs(2, ("size", "c1", "c2")),
+    "chain_of_sure_timers": Needs(1, ("drop_link", "delay", "c1", "d1")),
+    "requests_against_delay": Needs(2, ("size", "drop_link", "c1", "c2")),
+}
 
 
 def main(words: str, svg: str, png: str, *paths: str) -> None:

@@ -29,7 +29,7 @@ ERRORS_SHOWN = 20
 
 FIRST_BUILD = """\
 Nothing is proved yet. The first build proves the program: some 25 minutes on 4 processors.
-`make try SCENARIO=..` runs the same program unproved, in one to two and a half minutes."""
+`make try SCENARIO=..` runs the same program unproved, the first time in one to four minutes."""
 
 # Lines that say what is wrong: an error, a note on a place or a goal, a function without its proof, a complaint of rt itself.
 ERROR = re.compile(

@@ -78,10 +78,18 @@ def test_directed_graph_has_a_delay_in_each_direction():
     (lambda graph: graphs.from_graph(graph, Delays("ms", factor=0.1), "minimum"), "delay of link 0 is 0"),
     (lambda graph: graphs.from_graph(networkx.Graph([(1, 2), (3, 4), (4, 3)]), Delays(default=1), "minimum"),
      "not connected"),
+    (lambda graph: graphs.from_graph(networkx.Graph([(1, "1")]), Delays(default=1)), "two nodes .* have the name '1'"),
 ])
 def test_graphs_that_are_refused(make, told, square):
     with pytest.raises(ScenarioError, match=told):
         make(square)
+
+
+def test_members_of_a_graph_are_chosen_by_a_seed():
+    graph = networkx.path_graph(60)
+    chosen = [tuple(member.node for member in scenario.from_graph(graph, 5, members=9, seed=seed).members)
+              for seed in (1, 1, 2)]
+    assert chosen[0] == chosen[1] != chosen[2] and len(chosen[0]) == 9
 
 
 def test_tables_use_the_names_of_nodes(program, square):

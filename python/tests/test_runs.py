@@ -140,6 +140,23 @@ def test_what_cannot_be_run(words, told, program):
         run(scenario.chain(3), **{"program": program, "cache": None, **words})
 
 
+def test_other_options_of_the_program_are_handed_on(program, tmp_path):
+    given = scenario.star(9, delay=50).lose(every=3, link="adjacent").drawing(12)
+    words = {"tables": TABLES, "program": program, "cache": tmp_path}
+    step = run(given, **words)
+    window = run(given, options=["--engine", "window", "--crew", "bag", "--workers", "2"], **words)
+    for name in TABLES:
+        pandas.testing.assert_frame_equal(step.table(name), window.table(name))
+    with pytest.raises(RefusedError, match="refused: bad-cut"):
+        run(given, options=["--engine", "window", "--cut", "0"], **words)
+
+
+def test_progress_is_shown_where_it_is_asked_for(program, capsys):
+    for progress, shown in ((True, True), (None, False), (False, False)):  # standard error is no terminal here
+        run(scenario.chain(3), range(2), program=program, cache=None, progress=progress)
+        assert ("2/2" in capsys.readouterr().err) == shown
+
+
 def test_table_that_was_not_asked_for(program):
     with pytest.raises(ScenarioError, match="'links' was not asked for: these runs have losses"):
         run(scenario.chain(3), program=program, cache=None).links

@@ -67,6 +67,15 @@ def test_names_of_nodes_and_comments_stand_in_the_file():
     assert read_scenario(given.text()).tree.names == ("home", "the office", "lab")
 
 
+@pytest.mark.parametrize("line", ["names of nodes: of what?", "names of nodes: 7", 'names of nodes: ["a", "a", "b"]'])
+def test_comment_that_only_looks_like_names_stays_a_comment(line):
+    import networkx
+    given = replace(scenario.from_graph(networkx.path_graph(3), delays=7), comments=(line,))
+    text = given.text().replace('# names of nodes: ["0", "1", "2"]\n', "")
+    assert read_scenario(text).comments == (line,) and read_scenario(text).tree.names == ()
+    assert read_scenario(given.text()).tree.names == ("0", "1", "2")
+
+
 def test_every_part_of_the_format_can_be_built(srm_lab):
     given = (scenario.chain(9, members=3, delay=10, seed=4).constants(c1=1.5, c2="log10", d1=1, d2=0)
              .back(5, most=20).drawing(4, every=7)
@@ -106,6 +115,15 @@ def test_every_third_packet_is_lost():
         Drop(1, 0, count) for count in (0, 3, 6))
 
 
+def test_losses_of_one_of_several_senders():
+    given = scenario.chain(6, seed=3).role([4], "sender").drawing(50).drawing(30, member=4)
+    assert given.lose(every=10, link="adjacent", sender=4).drops in (
+        tuple(Drop(link, 4, count) for count in (0, 10, 20)) for link in (3, 4))
+    assert {drop.sender for drop in given.lose(rate=0.2).drops} == {0, 4}
+    of_one = given.lose(rate=0.2, sender=4).drops
+    assert {drop.sender for drop in of_one} == {4} and set(of_one) <= set(given.lose(rate=0.2).drops)
+
+
 def test_outage_has_both_its_ticks():
     assert scenario.chain(2).outage(0, first=800, last=1200).outages == (Outage(0, 800, 1201),)
 
@@ -134,6 +152,7 @@ def test_one_seed_gives_one_scenario_and_verbs_choose_apart():
     (lambda: scenario.chain(3).leave([1], (9, 5)), "its first tick is after its last"),
     (lambda: scenario.chain(3).lose(), "give either a rate or every"),
     (lambda: scenario.chain(3).lose(every=2), "every needs a link"),
+    (lambda: scenario.chain(3).lose(rate=0.5, sender=3), "sender is 3, and has to be 0 to 2"),
     (lambda: scenario.chain(3).lose(rate=1.5), "rate is 1.5, and has to be from 0 to 1"),
     (lambda: scenario.chain(900).lose(rate=1), "`drop` has 89900 elements, and may have 4096"),
     (lambda: scenario.chain(3).constants(c3=1), "c3: the constants are c1, c2, d1 and d2"),

@@ -6,7 +6,7 @@ import pytest
 
 from srm_lab import ScenarioError
 from srm_lab.gather import write_table
-from srm_lab.sweep import Experiment, check_config
+from srm_lab.sweep import Experiment, Needs, check_config
 
 ROOT = Path(__file__).resolve().parents[2]
 
@@ -15,7 +15,7 @@ least_delay,greatest_delay,last_delay,last_round_trip
 0,0,0,2,0,0,2,1,4,7,7,4
 0,0,3,2,0,1,5,4,,,,
 """
-DRAWS = ("lines", "over_session_size")
+DRAWS = {"lines": Needs(4), "over_session_size": Needs(1), "requests_against_delay": Needs(2, ("drop_link", "c1"))}
 
 
 def test_points_are_the_product_of_the_lists():
@@ -66,6 +66,28 @@ def test_keys_that_repeat_and_flags():
     ({"figures": {"f": {"draw": "lines", "of": ["one"], "x": "size"}}}, "lines need x and y"),
     ({"figures": {"f": {"draw": "lines", "of": ["one"], "x": "c3", "y": "ratio"}}}, "there is no 'c3'"),
     ({"figures": {"f": {"of": ["one"]}}}, "draw and of have to be there"),
+    ({"figures": ["f"]}, "figures are no names"),
+    ({"figures": {"f": {"draw": "lines", "of": [], "x": "size", "y": "ratio"}}}, "takes a list of 1 to 4 experiments"),
+    ({"figures": {"f": {"draw": "lines", "of": "one", "x": "size", "y": "ratio"}}}, "takes a list of 1 to 4"),
+    ({"figures": {"f": {"draw": "over_session_size", "of": ["one", "one"]}}}, "takes a list of one experiment"),
+    ({"figures": {"f": {"draw": "lines", "of": ["one"], "x": "size", "y": "ratoi"}}}, "y: there is no 'ratoi'"),
+    ({"figures": {"f": {"draw": "over_session_size", "of": ["one"], "over": "members"}}}, "there is no 'members'"),
+    ({"figures": {"f": {"draw": "requests_against_delay", "of": ["one"]}}}, "of one: there is no 'drop_link'"),
+    ({"experiments": {"one": {"kind": "chain", "size": 3, "c1": 2, "drop_link": ["hops:1", "random"], "seeds": 1}},
+      "figures": {"f": {"draw": "requests_against_delay", "of": ["one"]}}}, "needs links hops:H, and drop_link has"),
+    ({"experiments": {"one": 5}}, "kind and seeds have to be there"),
+    ({"experiments": {"one": {"kind": "chain", "size": 3, "seeds": 0}}}, "seeds is 0, and has to be 1 to"),
+    ({"experiments": {"one": {"kind": "chain", "size": 3, "seeds": "two"}}}, "seeds is 'two', and has to be a whole"),
+    ({"experiments": {"one": {"kind": "chain", "size": 3, "seeds": [1, 1]}}}, "without the same twice"),
+    ({"experiments": {"one": {"kind": "chain", "size": 3, "seeds": []}}}, "without the same twice"),
+    ({"experiments": {"one": {"kind": "chain", "size": 3, "seeds": 1, "metrics": {"own": "nowhere.py:f"}}}},
+     "there has to be such a file"),
+    ({"experiments": {"one": {"kind": "chain", "size": 3, "seeds": 1, "metrics": {"own": f"{__file__}:nothing"}}}},
+     "has no function nothing"),
+    ({"experiments": {"one": {"kind": "chain", "size": 3, "seeds": 1, "metrics": {"losers": f"{__file__}:ROOT"}}}},
+     "has a column 'losers' besides"),
+    ({"experiments": {"one": {"kind": "chain", "size": 3, "seeds": 1, "metrics": [f"{__file__}:ROOT"]}}},
+     "metrics are no names"),
 ])
 def test_configurations_that_are_refused(change, told):
     config = {"experiments": {"one": {"kind": "chain", "size": 3, "seeds": 2}}, "figures": {}, **change}
@@ -73,11 +95,26 @@ def test_configurations_that_are_refused(change, told):
         check_config(config, DRAWS)
 
 
+def test_file_of_a_metric_that_cannot_be_loaded_is_named(tmp_path):
+    (tmp_path / "own.py").write_text("import nothing_of_this_name\n")
+    one = {"kind": "chain", "size": 3, "seeds": 1, "metrics": {"own": f"{tmp_path}/own.py:f"}}
+    with pytest.raises(ScenarioError, match="own.py cannot be loaded: ModuleNotFoundError"):
+        check_config({"experiments": {"one": one}}, DRAWS)
+
+
+def test_figure_of_a_metric_is_accepted(tmp_path):
+    (tmp_path / "own.py").write_text("def f(runs):\n    return 1\n")
+    one = {"kind": "chain", "size": [3, 4], "seeds": 1, "metrics": {"own": f"{tmp_path}/own.py:f"}}
+    for y in ("own", "size", "ratio", "requests"):
+        check_config({"experiments": {"one": one}, "figures": {"f": {"draw": "lines", "of": ["one"], "x": "size",
+                                                                     "y": y}}}, DRAWS)
+
+
 def test_each_configuration_of_the_repository_is_accepted():
     import figures
     import yaml
     for name in ("config.yaml", "small.yaml"):
-        check_config(yaml.safe_load((ROOT / "experiments" / name).read_text()), figures.DRAWS)
+        check_config(yaml.safe_load((ROOT / "experiments" / name).read_text()), figures.NEEDS)
 
 
 def test_table_of_an_experiment(tmp_path):

@@ -3,11 +3,7 @@ import csv
 from collections.abc import Callable
 from typing import TextIO
 
-from .measures import OperationsTable
-from .sweep import Experiment
-
-NAME = ("source", "page", "number")
-COLUMNS = [column for column in OperationsTable.columns if column not in NAME]
+from .sweep import COLUMNS, NAME, Experiment
 
 
 def write_table(experiment: Experiment, path_of: Callable[[str, int], str], out: TextIO) -> None:

@@ -1,5 +1,6 @@
 """Networks from networkx graphs, GraphML, GML and lists of edges."""
 import math
+from collections.abc import Iterable
 from dataclasses import dataclass
 from pathlib import Path
 from typing import Any
@@ -54,6 +55,7 @@ def from_graph(graph: Any, delays: Delays = Delays(), spanning_tree: str | None 
     if graph.number_of_nodes() > MOST_NODES:
         raise ScenarioError(f"the graph has {graph.number_of_nodes()} nodes, and the format has room for {MOST_NODES}")
     number = {node: place for place, node in enumerate(graph.nodes)}
+    _check_names(number)
     links = _links_of(graph, delays)
     if spanning_tree is not None:
         links = _spanned(list(number), links, spanning_tree, root)
@@ -62,6 +64,15 @@ def from_graph(graph: Any, delays: Delays = Delays(), spanning_tree: str | None 
                             "say spanning_tree=\"shortest\" or \"minimum\"")
     made = tuple(Link(number[a], number[b], delay, back) for a, b, delay, back in links)
     return Tree(len(number), made, names=tuple(str(node) for node in number))
+
+
+def _check_names(nodes: Iterable[Any]) -> None:
+    """Refuses two nodes whose names are one text, such as 1 and "1"."""
+    known: set[str] = set()
+    for node in nodes:
+        if str(node) in known:
+            raise ScenarioError(f"two nodes of the graph have the name {str(node)!r}")
+        known.add(str(node))
 
 
 def _links_of(graph: Any, delays: Delays) -> list[tuple[Any, Any, int, int]]:

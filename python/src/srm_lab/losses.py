@@ -21,12 +21,12 @@ def links_in_use(tree: Tree, source: int, nodes: Iterable[int]) -> dict[int, int
     return depth
 
 
-def link_of(choice: str, given: "Scenario", rng: random.Random) -> int:
-    """The link of a choice (`choose_link`), seen from member 0."""
-    if not given.members:
-        raise ScenarioError("there is no member 0, from which the link could be chosen")
-    source, *others = [member.node for member in given.members]
-    return choose_link(choice, given.tree, source, others, rng)
+def link_of(choice: str, given: "Scenario", rng: random.Random, sender: int = 0) -> int:
+    """The link of a choice (`choose_link`), seen from a member."""
+    if sender >= len(given.members):
+        raise ScenarioError(f"there is no member {sender}, from which the link could be chosen")
+    nodes = [member.node for member in given.members]
+    return choose_link(choice, given.tree, nodes.pop(sender), nodes, rng)
 
 
 def choose_link(choice: str, tree: Tree, source: int, nodes: list[int], rng: random.Random) -> int:

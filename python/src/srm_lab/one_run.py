@@ -28,7 +28,10 @@ def function_of(text: str) -> Callable[..., Any]:
     if spec is None or spec.loader is None or not Path(path).exists():
         raise ScenarioError(f"metric {text!r}: say FILE.py:FUNCTION, and there has to be such a file")
     module = importlib.util.module_from_spec(spec)
-    spec.loader.exec_module(module)
+    try:
+        spec.loader.exec_module(module)
+    except Exception as fault:  # whatever a file of somebody's own raises
+        raise ScenarioError(f"metric {text!r}: {path} cannot be loaded: {fault!r}") from fault
     if not callable(getattr(module, name, None)):
         raise ScenarioError(f"metric {text!r}: {path} has no function {name}")
     return getattr(module, name)

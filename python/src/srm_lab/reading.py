@@ -1,6 +1,5 @@
 """Scenario files: reading them."""
 import json
-import tomllib
 from pathlib import Path
 from typing import Any
 
@@ -12,6 +11,7 @@ from .link import Link
 from .parts import Draw, Drop, Member, Outage, Session
 from .rules import check_rules
 from .scenario import Scenario
+from .toml_text import read_toml
 from .tree import Tree
 from .writing import NAMES
 
@@ -23,11 +23,10 @@ def read_scenario(text: str | bytes) -> Scenario:
         raise ScenarioError(f"the text has {len(raw)} bytes, and may have {NEWEST.bytes}")
     try:
         text = raw.decode("utf-8-sig")
-        table = tomllib.loads(text)
-    except (UnicodeDecodeError, tomllib.TOMLDecodeError) as fault:
+        table = read_toml(text)
+    except ValueError as fault:  # of the encoding too
         raise ScenarioError(f"this is no TOML in UTF-8: {fault}") from None
-    comments = _comments(text)
-    return from_table(table, comments)
+    return from_table(table, _comments(text))
 
 
 def load_scenario(path: str | Path) -> Scenario:
@@ -44,9 +43,10 @@ def from_table(table: dict[str, Any], comments: list[str] | None = None) -> Scen
     """The scenario of a file's keys and values, and of the comments in front of them."""
     check_keys(table)
     comments = comments or []
-    names = [json.loads(line.removeprefix(NAMES)) for line in comments if line.startswith(NAMES)]
+    names = {line: found for line in comments if (found := _names_in(line, table.get("nodes")))}
+    told = next(iter(names), None)
     try:
-        network = tree_of(table, tuple(names[0]) if names else ())
+        network = tree_of(table, () if told is None else names[told])
     except ScenarioError as fault:
         raise ScenarioError(f"the network: {fault}", "tree") from None
     given = Scenario(
@@ -60,7 +60,7 @@ def from_table(table: dict[str, Any], comments: list[str] | None = None) -> Scen
         drops=tuple(Drop(**one) for one in table.get("drop", [])),
         outages=tuple(Outage(one["link"], one["from"], one["to"]) for one in table.get("outage", [])),
         version=table["version"],
-        comments=tuple(line for line in comments if not line.startswith(NAMES)),
+        comments=tuple(line for line in comments if line != told),
     )
     check_rules(given)
     return given
@@ -72,12 +72,22 @@ def tree_of(table: dict[str, Any], names: tuple[str, ...] = ()) -> Tree:
     if shape is None:
         links = tuple(Link(one["a"], one["b"], one["delay"], one.get("back", one["delay"]))
                       for one in table.get("link", []))
-        return Tree(table["nodes"], links, names=names if len(names) == table["nodes"] else ())
+        return Tree(table["nodes"], links, names=names)
     if shape == "tree":
         made = trees.bounded_degree(table["size"], table["degree"], table["delay"])
     else:
         made = (trees.chain if shape == "chain" else trees.star)(table["size"], table["delay"])
     return made.with_back(table["back"]) if "back" in table else made
+
+
+def _names_in(line: str, nodes: int | None) -> tuple[str, ...]:
+    """The names of so many nodes that a line of comment tells, none where it tells something else."""
+    try:
+        found = json.loads(line.removeprefix(NAMES)) if line.startswith(NAMES) else None
+    except ValueError:
+        found = None
+    is_told = isinstance(found, list) and all(isinstance(name, str) for name in found)
+    return tuple(found) if is_told and len(set(found)) == len(found) == nodes else ()
 
 
 def _comments(text: str) -> list[str]:

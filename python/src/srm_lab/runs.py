@@ -2,6 +2,7 @@
 import hashlib
 import json
 import os
+import sys
 import tempfile
 from collections.abc import Callable, Iterable, Iterator
 from concurrent.futures import ProcessPoolExecutor
@@ -31,10 +32,11 @@ class Job:
     tables: tuple[str, ...]
     program: Path
     cache: Path | None
+    options: tuple[str, ...] = ()
 
     def key(self) -> str:
-        """What the tables depend on: the scenario, the seed and the program."""
-        words = [LAYOUT, replace(self.given, comments=()).text(), self.seed, _digest(self.program)]
+        """What the tables depend on: the scenario, the seed, the program and its other options."""
+        words = [LAYOUT, replace(self.given, comments=()).text(), self.seed, _digest(self.program), *self.options]
         return hashlib.sha256(json.dumps(words).encode()).hexdigest()
 
 
@@ -55,7 +57,7 @@ def perform(job: Job) -> dict[str, pandas.DataFrame]:
     place = None if job.cache is None else job.cache / job.key()
     if place is not None and all((place / f"{name}.csv").exists() for name in job.tables):
         return {name: _read(place / f"{name}.csv", name) for name in job.tables}
-    with trace_of(job.given, job.seed, job.program) as rows:
+    with trace_of(job.given, job.seed, job.program, job.options) as rows:
         measured = measure(job.given, rows, job.tables)
     made = {name: frame_of(name, one) for name, one in measured.items()}
     if place is not None:
@@ -140,13 +142,14 @@ class Runs:
 
 def run(given: Scenario, seeds: Iterable[int] = range(1), tables: Iterable[str] = ("losses",),
         program: str | Path | None = None, cache: str | Path | None = CACHE, workers: int | None = None,
-        progress: bool | None = None) -> Runs:
+        progress: bool | None = None, options: Iterable[str] = ()) -> Runs:
     """Runs a scenario with each seed, and gives the tables of all runs.
 
     The program is run once for each seed, on `workers` processors (by default on all); a bar shows the progress where
     standard error is a terminal, or where `progress` says so. What a run gave is kept in the folder `cache` (by default
     the user's, srm_lab in XDG_CACHE_HOME), and read from there where the scenario, the seed and the program are the
-    same; with None nothing is kept. The program is `program`, or SRM_LAB of the environment, or srm_lab on the path.
+    same; with None nothing is kept. The program is `program`, or SRM_LAB of the environment, or srm_lab on the path;
+    `options` are more words of its command line that leave the trace as it is, such as `--engine` and `window`.
 
     Raises RefusedError with the program's line where it refuses a run, and ScenarioError where no table has a name.
     """
@@ -159,9 +162,9 @@ def run(given: Scenario, seeds: Iterable[int] = range(1), tables: Iterable[str] 
         raise ScenarioError("a seed is given twice")
     found = find_program(program)
     place = cache_folder() if cache == CACHE else None if cache is None else Path(cache)
-    jobs = [Job(given.check(), seed, wanted, found, place) for seed in numbers]
-    results = list(tqdm.tqdm(_performed(jobs, workers), total=len(jobs), unit="run",
-                             disable=None if progress is None else not progress))
+    jobs = [Job(given.check(), seed, wanted, found, place, tuple(options)) for seed in numbers]
+    is_shown = sys.stderr.isatty() if progress is None else progress
+    results = list(tqdm.tqdm(_performed(jobs, workers), total=len(jobs), unit="run", disable=not is_shown))
     frames = {name: _joined(given, [(seed, result[name]) for seed, result in zip(numbers, results)]) for name in wanted}
     return Runs(given, numbers, frames)
 

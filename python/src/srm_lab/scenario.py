@@ -229,25 +229,28 @@ class Scenario:
         return self._with(drops=(*self.drops, *(Drop(link, sender, one) for one in counts)))
 
     def lose(self, rate: float | None = None, every: int | None = None, link: int | str | None = None,
-             packets: int | None = None, seed: int | None = None) -> "Scenario":
+             packets: int | None = None, seed: int | None = None, sender: int | None = None) -> "Scenario":
         """Drops packets by a rule, which is written as the list of drops that it gives.
 
         With a `rate` each link on the way from a sender to another member drops each packet of that sender with this
-        probability. With `every` a link drops the packets 0, K, 2 K and so on of member 0. `link` says which one: a
-        number, `adjacent` to member 0, `random`, or `hops:H`; with a rate all links do where none is named. A packet
-        counts among all that its sender sends; the first `packets` may be lost, by default as many as it draws.
+        probability, or only those of one `sender`. With `every` a link drops the packets 0, K, 2 K and so on of the
+        `sender`, by default member 0. `link` says which one: a number, `adjacent` to the sender, `random`, or `hops:H`
+        away from it; with a rate all links do where none is named. A packet counts among all that its sender sends; the
+        first `packets` may be lost, by default as many as it draws.
         """
         if (rate is None) == (every is None):
             raise ScenarioError("lose: give either a rate or every")
-        rng = self._rng("lose", seed)
-        named = None if link is None else losses.link_of(str(link), self, rng)
+        if sender is not None:
+            within("sender", sender, 0, max(0, len(self.members) - 1))
+        rng, one = self._rng("lose", seed), sender or 0
+        named = None if link is None else losses.link_of(str(link), self, rng, one)
         if every is not None:
             if named is None:
                 raise ScenarioError("lose: every needs a link")
-            counts = range(0, self._packets(0, packets), within("every", every, 1, NEWEST.elements))
-            return self._with(drops=(*self.drops, *(Drop(named, 0, count) for count in counts)))
+            counts = range(0, self._packets(one, packets), within("every", every, 1, NEWEST.elements))
+            return self._with(drops=(*self.drops, *(Drop(named, one, count) for count in counts)))
         found = losses.bernoulli(self, _probability(rate), named, rng, lambda sender: self._packets(sender, packets))
-        return self._with(drops=(*self.drops, *found))
+        return self._with(drops=(*self.drops, *(drop for drop in found if sender in (None, drop.sender))))
 
     def _packets(self, sender: int, packets: int | None) -> int:
         drawn = sum(draw.member == sender for draw in self.draws)
@@ -310,9 +313,9 @@ def star(nodes: int, members: int | str = "all", source: int | str = "first", de
 
 
 def regular_tree(nodes: int, degree: int = 4, members: int | str = "all", source: int | str = "first",
-                 delay: int = DELAY) -> Scenario:
+                 delay: int = DELAY, seed: int = 0) -> Scenario:
     """A tree whose inner nodes have this degree, as far as the nodes last. See `on` for the other words."""
-    return on(trees.bounded_degree(nodes, degree, delay), members, source)
+    return on(trees.bounded_degree(nodes, degree, delay), members, source, seed)
 
 
 def random_tree(nodes: int, members: int | str = "all", source: int | str = "first", delay: int = DELAY,
@@ -322,22 +325,22 @@ def random_tree(nodes: int, members: int | str = "all", source: int | str = "fir
 
 
 def from_graph(graph: Any, delays: Delays | int = Delays(), spanning_tree: str | None = None,
-               members: int | str = "all", source: int | str = "first") -> Scenario:
+               members: int | str = "all", source: int | str = "first", seed: int = 0) -> Scenario:
     """A networkx graph whose nodes keep their names; `delays` says where its delays stand, or is that of each link.
 
     The shortest spanning tree is that of the source, where the source is named.
     """
     delays = Delays(default=delays) if isinstance(delays, int) else delays
     root = source if source in graph else None
-    return on(graphs.from_graph(graph, delays, spanning_tree, root), members, source)
+    return on(graphs.from_graph(graph, delays, spanning_tree, root), members, source, seed)
 
 
 def from_file(path: str | Path, delays: Delays | int = Delays(), spanning_tree: str | None = None,
-              members: int | str = "all", source: int | str = "first") -> Scenario:
+              members: int | str = "all", source: int | str = "first", seed: int = 0) -> Scenario:
     """The graph in a GraphML or GML file, or a list of edges, as `from_graph` takes it."""
     delays = Delays(default=delays) if isinstance(delays, int) else delays
     root = None if source in ("first", "random") else str(source)
-    return on(graphs.from_file(path, delays, spanning_tree, root), members, source)
+    return on(graphs.from_file(path, delays, spanning_tree, root), members, source, seed)
 
 
 def on(tree: Tree, members: int | str = "all", source: int | str = "first", seed: int = 0) -> Scenario:

@@ -1,17 +1,29 @@
 """The experiments and figures of a configuration: what they ask for, and whether that can be done."""
 import argparse
-from collections.abc import Collection, Iterable
+from collections.abc import Collection, Iterable, Mapping
 from itertools import product
-from typing import Any
+from typing import Any, NamedTuple
 
 from .cli import build, parser
 from .errors import ScenarioError
+from .limits import MOST_SEED, within
+from .measures import OperationsTable
+from .one_run import function_of
 
 OWN = ("kind", "losses", "seeds", "metrics", "path")
 TOP = ("program", "python", "results", "experiments", "figures")
 FIGURE = ("draw", "of", "x", "y", "by", "over")
 LISTED = ("join", "leave", "outage", "drop_packet")
 FLAGS = ("any_packet", "no_session")
+NAME = ("source", "page", "number")
+COLUMNS = tuple(column for column in OperationsTable.columns if column not in NAME)
+
+
+class Needs(NamedTuple):
+    """What a kind of figure needs: of how many experiments it may be, and which keys each of them has to have."""
+
+    most: int
+    keys: tuple[str, ...] = ()
 
 
 class Experiment:
@@ -19,10 +31,11 @@ class Experiment:
 
     def __init__(self, name: str, config: dict[str, Any]):
         self.name = name
-        self.config = dict(config)
-        if "kind" not in self.config or "seeds" not in self.config:
+        if not isinstance(config, dict) or "kind" not in config or "seeds" not in config:
             raise ScenarioError(f"experiment {name}: kind and seeds have to be there")
+        self.config = dict(config)
         self.metrics: dict[str, str] = self.config.pop("metrics", {})
+        self.seeds = self._seeds(self.config["seeds"])
         lists = {key: value if isinstance(value, list) else [value]
                  for key, value in self.config.items() if key != "seeds"}
         self.varied = [key for key, values in lists.items() if len(values) > 1]
@@ -34,11 +47,18 @@ class Experiment:
         if len(self.points) != len(list(product(*lists.values()))):
             raise ScenarioError(f"experiment {name}: a list has a value twice")
 
-    @property
-    def seeds(self) -> list[int]:
+    def _seeds(self, given: Any) -> list[int]:
         """The seeds: those listed, or 1 to the number given."""
-        seeds = self.config["seeds"]
-        return list(seeds) if isinstance(seeds, list) else list(range(1, seeds + 1))
+        what = f"experiment {self.name}: seeds"
+        seeds = given if isinstance(given, list) else list(range(1, within(what, given, 1, MOST_SEED) + 1))
+        if not seeds or len({str(seed) for seed in seeds}) < len(seeds):
+            raise ScenarioError(f"{what} are {seeds!r}, and have to be a number, or a list without the same twice")
+        return [within(what, seed, 0, MOST_SEED) for seed in seeds]
+
+    @property
+    def columns(self) -> list[str]:
+        """The columns of its table that a figure may draw."""
+        return [*(key for key in self.config if key != "seeds"), *COLUMNS, "ratio", *self.metrics]
 
     def runs(self) -> list[tuple[str, int]]:
         """Each (point's name, seed), in order."""
@@ -65,6 +85,7 @@ class Experiment:
                 if key not in OWN and key not in known:
                     raise ScenarioError(f"experiment {self.name}: there is no key {key!r}: {kind} has "
                                         f"{', '.join(sorted({*known, *OWN[:-1]}))}")
+        self._check_metrics()
         for label in self.points:
             try:
                 build(parser().parse_args(self.words(label, self.seeds[0])))
@@ -72,6 +93,18 @@ class Experiment:
                 raise ScenarioError(f"experiment {self.name}, {label}: {fault}") from None
             except SystemExit:
                 raise ScenarioError(f"experiment {self.name}, {label}: the words of the generators above") from None
+
+    def _check_metrics(self) -> None:
+        """Refuses a metric that no function gives, or that has the name of another column."""
+        if not isinstance(self.metrics, dict):
+            raise ScenarioError(f"experiment {self.name}: metrics are no names, each with its FILE.py:FUNCTION")
+        for name, where in self.metrics.items():
+            if name in (*self.config, "operation", "seed", "ratio", *COLUMNS):
+                raise ScenarioError(f"experiment {self.name}: the table has a column {name!r} besides this metric")
+            try:
+                function_of(str(where))
+            except ScenarioError as fault:
+                raise ScenarioError(f"experiment {self.name}: {fault}") from None
 
 
 def option(key: str, value: Any) -> list[str]:
@@ -109,23 +142,44 @@ def known(what: str, given: Iterable[str], names: Collection[str]) -> None:
             raise ScenarioError(f"{what}: there is no {name!r}: there are {', '.join(names)}")
 
 
-def check_config(config: dict[str, Any], draws: Collection[str]) -> None:
+def check_config(config: dict[str, Any], draws: Mapping[str, Needs]) -> None:
     """Refuses a configuration of which a part could not be made, before anything is; `draws` are the kinds of figures.
     """
     known("the configuration", config, TOP)
     if not isinstance(config.get("experiments"), dict):
         raise ScenarioError("the configuration: say which experiments")
     experiments = experiments_of(config)
-    for name, one in (config.get("figures") or {}).items():
+    figures = config.get("figures") or {}
+    if not isinstance(figures, dict):
+        raise ScenarioError("the configuration: figures are no names, each with what it is of")
+    for name, one in figures.items():
         if not isinstance(one, dict) or "draw" not in one or "of" not in one:
             raise ScenarioError(f"figure {name}: draw and of have to be there")
         known(f"figure {name}", one, FIGURE)
         known(f"figure {name}, draw", [one["draw"]], draws)
-        known(f"figure {name}, of", one["of"], experiments)
-        if one["draw"] == "lines" and not {"x", "y"} <= set(one):
-            raise ScenarioError(f"figure {name}: lines need x and y")
-        for experiment in one["of"]:
-            keys = [one[key] for key in ("x", "by", "over") if key in one]
-            known(f"figure {name}, of {experiment}", keys, list(experiments[experiment].config))
+        check_figure(f"figure {name}", one, draws[one["draw"]], experiments)
     for experiment in experiments.values():
         experiment.check()
+
+
+def check_figure(what: str, one: dict[str, Any], needs: Needs, experiments: dict[str, Experiment]) -> None:
+    """Refuses a figure of experiments that are not there or do not fit it, or of a column that these do not have."""
+    wanted = one["of"]
+    if not isinstance(wanted, list) or not 1 <= len(wanted) <= needs.most:
+        several = "one experiment" if needs.most == 1 else f"1 to {needs.most} experiments"
+        raise ScenarioError(f"{what}, of: {one['draw']} takes a list of {several}")
+    known(f"{what}, of", wanted, experiments)
+    if one["draw"] == "lines" and not {"x", "y"} <= set(one):
+        raise ScenarioError(f"{what}: lines need x and y")
+    for name in wanted:
+        config = experiments[name].config
+        keys = [one[key] for key in ("x", "by", "over") if key in one]
+        if one["draw"] == "over_session_size" and not keys:
+            keys = ["size"]
+        known(f"{what}, of {name}", [*keys, *needs.keys], list(config))
+        if "y" in one:
+            known(f"{what}, of {name}, y", [one["y"]], experiments[name].columns)
+        hops = config.get("drop_link") if "drop_link" in needs.keys else []
+        for link in hops if isinstance(hops, list) else [hops]:
+            if not str(link).startswith("hops:"):
+                raise ScenarioError(f"{what}, of {name}: {one['draw']} needs links hops:H, and drop_link has {link!r}")

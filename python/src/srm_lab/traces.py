@@ -3,7 +3,7 @@ import os
 import shutil
 import subprocess
 import tempfile
-from collections.abc import Iterable, Iterator
+from collections.abc import Iterable, Iterator, Sequence
 from contextlib import contextmanager
 from pathlib import Path
 from typing import IO
@@ -24,13 +24,16 @@ def find_program(program: str | Path | None = None) -> Path:
 
 
 @contextmanager
-def trace_of(given: Scenario, seed: int, program: Path) -> Iterator[Iterator[Row]]:
-    """The rows of a run, while the program writes them; RefusedError where it refuses the run."""
+def trace_of(given: Scenario, seed: int, program: Path, options: Sequence[str] = ()) -> Iterator[Iterator[Row]]:
+    """The rows of a run, while the program writes them; RefusedError where it refuses the run.
+
+    `options` are more words of the program's command line, which has to write the trace with them.
+    """
     with tempfile.TemporaryFile() as scenario, tempfile.TemporaryFile() as told:
         scenario.write(given.text().encode())
         scenario.seek(0)
-        with subprocess.Popen([program, "--explain", "--seed", str(seed)], stdin=scenario, stdout=subprocess.PIPE, stderr=told,
-                              encoding="ascii") as running:
+        with subprocess.Popen([program, "--explain", "--seed", str(seed), *options], stdin=scenario,
+                              stdout=subprocess.PIPE, stderr=told, encoding="ascii") as running:
             assert running.stdout is not None
             try:
                 yield _rows(running.stdout, running, told)

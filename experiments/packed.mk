@@ -1,0 +1,14 @@
+# The targets of what `make dist` packs, which has the built program and no sources; there it is called Makefile.
+PROGRAM := bin/srm_lab
+SCENARIO ?= examples/two-nodes.toml
+ARGUMENTS ?=
+
+.PHONY: help run
+
+help: ## lists these targets
+	@sed -n 's/^\([a-z0-9-]*\):[^#]*## \(.*\)/\1\t\2/p' $(MAKEFILE_LIST) | awk -F '\t' '{ printf "make %-12s %s\n", $$1, $$2 }'
+
+run: ## prints the trace of a scenario, or what ARGUMENTS ask for: make run SCENARIO=examples/two-nodes.toml ARGUMENTS="--show links"
+	@$(PROGRAM) $(ARGUMENTS) < $(SCENARIO)
+
+include experiments/targets.mk
