@@ -14,6 +14,5 @@ pub mod Promises
 pub mod SoonLemmas
 pub mod SoonGroups
 pub mod Beginnings
-pub mod WindowedLemmas
-pub mod WindowStreamLemmas
+pub mod WindowLemmas
 pub mod KMerging

@@ -1,7 +1,6 @@
 -- What steps, and pieces of a run, tell.
-use Rattle.std.proofs.Common.{◌≡◌, ◌<◌, ◌≤◌, ◌+◌, ◌-◌, ◌^◌, ℕ, List, [], ◌++◌, length, length-append, Result, Ok, Err, refl, sym, ap, ◌∙◌}
+use Rattle.std.proofs.Common.{◌≡◌, ◌<◌, ◌≤◌, ◌+◌, ◌^◌, ℕ, List, [], ◌++◌, length, length-append, Result, Ok, Err, sym, ap, ◌∙◌}
 use Rattle.std.proofs.Common.{subst, append-nil, arith}
-use Rattle.std.specs.Result.{MatchResult}
 use Rattle.std.specs.declared.dyn_box.DynBox.{DynBox}
 use Rattle.std.specs.Global.{Global, Vec}
 use Rattle.srm_member.specs.declared.row.Row.{Row}
@@ -16,7 +15,7 @@ use Rattle.srm_engine.specs.declared.stream_fault.StreamFault.{StreamFault}
 use Rattle.srm_model.specs.World.{World, IsReached, step, opening}
 use Rattle.srm_engine.specs.Engines.{TellsWorld}
 use Rattle.srm_engine.specs.Outcomes.{TellsTrace, TellsRun}
-use Rattle.srm_engine.specs.Streams.{fault_of_sink, TakesFront, TellsSteps, MeetsRefusal}
+use Rattle.srm_engine.specs.Streams.{fault_of_sink, TellsSteps, MeetsRefusal}
 use Rattle.srm_engine.proofs.Stepping.{meets_full, opening_trace}
 
 -- rows that a list in memory has after few others are few enough to be counted
@@ -32,6 +31,13 @@ sink_refuses A s e h = subst (λ (x : StreamFault). MeetsRefusal {A = A} s (Err 
     by : (f : SinkFault) → MeetsRefusal {A = A} s (Err (fault_of_sink f))
     by sink.NoMemory = tt
     by (sink.Stopped n) = tt
+
+-- rows that a sink took are a front of themselves
+pub front_taken : {S : Type 0} (took part : S → List Row → S → Type 0) → ((a : S) → part a [] a)
+    → ((a b c : S) (xs ys : List Row) → took a xs b → part b ys c → part a (xs ++ ys) c)
+    → (a b : S) (rows : List Row) → took a rows b → part a rows b
+front_taken took part none more a b rows h =
+    subst (λ (l : List Row). part a l b) (append-nil rows) (more a b b rows [] h (none b))
 
 module _ {X : Type 0} {H : X → Type 0} where
   -- what a refused step tells

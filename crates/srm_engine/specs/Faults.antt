@@ -1,11 +1,35 @@
--- What a cell's refusal is to a run.
+-- What refusals of cells, crews and windows are to a run.
 use Rattle.srm_cell.specs.declared.fault.CellFault.{CellFault}
 use Rattle.srm_cell.specs.declared.fault.CellFault.TheVariants as cell
+use Rattle.srm_crew.specs.declared.fault.CrewFault.{CrewFault}
+use Rattle.srm_crew.specs.declared.fault.CrewFault.TheVariants as crew
 use Rattle.srm_engine.specs.declared.fault.RunFault.{RunFault}
 use Rattle.srm_engine.specs.declared.fault.RunFault.TheVariants as fault
+use Rattle.srm_engine.specs.declared.cutting.CuttingFault.{CuttingFault}
+use Rattle.srm_engine.specs.declared.cutting.CuttingFault.TheVariants as cutting
+use Rattle.srm_engine.specs.declared.window_fault.WindowFault.{WindowFault}
+use Rattle.srm_engine.specs.declared.window_fault.WindowFault.TheVariants as window
 
 -- a packet count that is used up is one to the run as well. The run of a scenario meets no event at a member that left
 abbrev pub fault_of : CellFault → RunFault
 fault_of cell.NoMemory = fault.NoMemory
 fault_of cell.CountFull = fault.CountFull
 fault_of cell.Spent = fault.NoMemory
+
+-- the refusal of the same name. No window of a run meets an event at a member that left
+abbrev pub window_fault_of : CrewFault → WindowFault
+window_fault_of crew.NoMemory = window.NoMemory
+window_fault_of crew.ShareFull = window.ShareFull
+window_fault_of crew.CountFull = window.CountFull
+window_fault_of crew.Spent = window.NoMemory
+
+-- the refusal of the same name
+abbrev pub run_fault_of : WindowFault → RunFault
+run_fault_of window.NoMemory = fault.NoMemory
+run_fault_of window.ShareFull = fault.ShareFull
+run_fault_of window.CountFull = fault.CountFull
+
+-- the refusal of the same name
+abbrev pub cutting_refused : CuttingFault → RunFault
+cutting_refused cutting.BadCut = fault.BadCut
+cutting_refused cutting.BadWidth = fault.BadWidth

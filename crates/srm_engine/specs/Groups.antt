@@ -1,5 +1,5 @@
 -- The cells of all members, those of each job together.
-use Rattle.std.specs.Prelude.{◌≡◌, ◌+◌, ◌<◌, ◌≤◌, ℕ, suc, List, [], ◌∷◌, ◌++◌, length, map, slice_get, slice_set}
+use Rattle.std.specs.Prelude.{◌≡◌, ◌+◌, ◌/◌, ◌<◌, ◌≤◌, ℕ, suc, List, [], ◌∷◌, ◌++◌, length, map, slice_get, slice_set}
 use Rattle.std.specs.Prelude.{Some}
 use Rattle.std.specs.declared.dyn_box.DynBox.{DynBox}
 use Rattle.std.specs.Global.{Global, Vec}
@@ -16,7 +16,7 @@ use Rattle.srm_cell.specs.Cells.{PlainCell, hear_at}
 use Rattle.srm_cell.specs.Jobs as cell
 use Rattle.srm_model.specs.Hearing.{IsNew, heard_below}
 use Rattle.srm_engine.specs.Seen.{AreCells}
-use Rattle.srm_engine.specs.declared.window.Grouped.{Grouped}
+use Rattle.srm_engine.specs.declared.groups.Groups.{Groups}
 use Rattle.srm_engine.specs.Soonest.{AreSoonest}
 use Rattle.srm_model.specs.WindowRuns.{WindowJob, AreNewInTurn, each_hears}
 use Rattle.srm_net.specs.Limits.{end_of_time}
@@ -43,6 +43,10 @@ some_of ([] ∷ ls) = some_of ls
 some_of ((x ∷ xs) ∷ ls) = (x ∷ xs) ∷ some_of ls
 
 -- ---- groups
+
+-- so many cells may be in a job
+abbrev pub IsCut : ℕ → Type 0
+IsCut cut = (0 < cut) × (cut ≤ 1024)
 
 -- groups of these sizes are runs of `cut` cells, the last of which may have fewer, but has one
 abbrev pub AreCuts : ℕ → List ℕ → Type 0
@@ -92,38 +96,46 @@ module _ {X : Type 0} {H : X → Type 0} where
   IsNewTo m id gs = (c : Cell X H) → slice_get (all_in gs) m ≡ Some c → BringsNone id c.inbox
 
   -- the groups are those of all these plain cells, and what is kept of them is how soon something is due in each
-  pub record AreKept (f : DynBox X Global H → Record) (s : Setting) (cut : ℕ) (e : Grouped X H)
+  pub record AreKept (f : DynBox X Global H → Record) (s : Setting) (e : Groups X H)
       (ps : List PlainCell) : Type 0 where
-    pub grouped : AreGrouped f cut e.groups.items ps
-    pub soon : AreSoonest s cut e.soon.items ps
+    pub cut : IsCut e.cut
+    pub grouped : AreGrouped f e.cut e.groups.items ps
+    pub soon : AreSoonest s e.cut e.soon.items ps
+
+  -- a packet may be handed to member m: there is such a member, and the packet is new to it
+  pub record MayHand (m : ℕ) (id : PacketId) (e : Groups X H) : Type 0 where
+    pub cut : 0 < e.cut
+    pub cuts : AreCuts e.cut (sizes e.groups.items)
+    pub member : m < length (all_in e.groups.items)
+    pub soon : m / e.cut < length e.soon.items
+    pub new : IsNewTo m id e.groups.items
 
   -- after member m was handed a packet, which arrives at a tick
-  abbrev pub HandsIn : (DynBox X Global H → Record) → Setting → ℕ → ℕ → Packet → ℕ → Grouped X H → Grouped X H → Type 0
-  HandsIn f s cut m p at old new =
-      (ps : List PlainCell) (q : PlainCell) → AreKept f s cut old ps → slice_get ps m ≡ Some q
-      → AreKept f s cut new (slice_set ps m (hear_at p (Some at) q))
+  abbrev pub HandsIn : (DynBox X Global H → Record) → Setting → ℕ → Packet → ℕ → Groups X H → Groups X H → Type 0
+  HandsIn f s m p at old new =
+      (ps : List PlainCell) (q : PlainCell) → AreKept f s old ps → slice_get ps m ≡ Some q
+      → AreKept f s new (slice_set ps m (hear_at p (Some at) q))
 
   -- a packet may be handed out: a member sent it before the latest end of all, and it is new to the cells of all
-  pub record MayDeliverIn (f : DynBox X Global H → Record) (s : Setting) (cut : ℕ) (p : Packet)
-      (e : Grouped X H) : Type 0 where
+  pub record MayDeliverIn (f : DynBox X Global H → Record) (s : Setting) (p : Packet) (e : Groups X H) : Type 0 where
     pub sent : p.sent < end_of_time
     pub sender : p.id.sender < s.traffic.members
     pub cells : List PlainCell
     pub many : length cells ≡ s.traffic.members
-    pub seen : AreKept f s cut e cells
+    pub seen : AreKept f s e cells
     pub new : IsNew p.id cells
 
   -- after a packet was handed out: every cell has heard it
-  abbrev pub DeliversIn : (DynBox X Global H → Record) → Setting → ℕ → Packet → Grouped X H → Grouped X H → Type 0
-  DeliversIn f s cut p old new =
-      (ps : List PlainCell) → AreKept f s cut old ps → AreKept f s cut new (heard_below s.traffic p (length ps) 0 ps)
+  abbrev pub DeliversIn : (DynBox X Global H → Record) → Setting → Packet → Groups X H → Groups X H → Type 0
+  DeliversIn f s p old new =
+      (ps : List PlainCell) → AreKept f s old ps → AreKept f s new (heard_below s.traffic p (length ps) 0 ps)
 
   -- the packets of rows may be handed out, one after the other
-  abbrev pub MayHear : (DynBox X Global H → Record) → Setting → ℕ → List Row → Grouped X H → Type 0
-  MayHear f s cut rows e =
-      (ps : List PlainCell) × AreKept f s cut e ps × (length ps ≡ s.traffic.members) × AreNewInTurn s.traffic rows ps
+  abbrev pub MayHear : (DynBox X Global H → Record) → Setting → List Row → Groups X H → Type 0
+  MayHear f s rows e =
+      (ps : List PlainCell) × AreKept f s e ps × (length ps ≡ s.traffic.members) × AreNewInTurn s.traffic rows ps
 
   -- after that every cell has heard them
-  abbrev pub Hears : (DynBox X Global H → Record) → Setting → ℕ → List Row → Grouped X H → Grouped X H → Type 0
-  Hears f s cut rows old new =
-      (ps : List PlainCell) → AreKept f s cut old ps → AreKept f s cut new (each_hears s.traffic 0 rows ps)
+  abbrev pub Hears : (DynBox X Global H → Record) → Setting → List Row → Groups X H → Groups X H → Type 0
+  Hears f s rows old new =
+      (ps : List PlainCell) → AreKept f s old ps → AreKept f s new (each_hears s.traffic 0 rows ps)

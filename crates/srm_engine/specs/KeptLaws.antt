@@ -1,5 +1,5 @@
 -- How what sinks in memory keep composes over calls.
-use Rattle.std.specs.Prelude.{◌≡◌, List, [], ◌++◌, refl}
+use Rattle.std.specs.Prelude.{List, [], ◌++◌, refl}
 use Rattle.std.proofs.Common.{◌∙◌, ap, sym, append_assoc, append-nil}
 use Rattle.srm_member.specs.declared.row.Row.{Row}
 use Rattle.srm_engine.specs.declared.kept_rows.KeptRows.{KeptRows}

@@ -13,3 +13,4 @@ pub mod Kept
 pub mod KeptLaws
 pub mod Streams
 pub mod WindowStreams
+pub mod WindowEngines

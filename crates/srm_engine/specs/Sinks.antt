@@ -1,6 +1,5 @@
 -- Who takes the rows of a run as they come.
-use Rattle.std.specs.Prelude.{◌≡◌, ℕ, List, ◌++◌, Result, Ok, Err}
-use Rattle.srm_member.specs.declared.row.Row.{Row}
+use Rattle.std.specs.Prelude.{ℕ, Result, Ok, Err}
 use Rattle.srm_engine.specs.declared.sink.SinkFault.{SinkFault}
 use Rattle.srm_engine.specs.declared.sink.SinkFault.TheVariants.{NoMemory, Stopped}
 use Rattle.srm_engine.specs.declared.sink.Stage.{Stage}

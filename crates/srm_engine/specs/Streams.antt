@@ -1,5 +1,5 @@
 -- Runs that hand their rows on as they come, and what they tell.
-use Rattle.std.specs.Prelude.{◌≡◌, ◌<◌, ◌≤◌, ◌+◌, ◌^◌, ℕ, List, [], ◌++◌, length, Result, Ok, Err}
+use Rattle.std.specs.Prelude.{◌≡◌, ◌<◌, ◌≤◌, ◌^◌, ℕ, List, ◌++◌, length, Result, Ok, Err}
 use Rattle.std.specs.declared.dyn_box.DynBox.{DynBox}
 use Rattle.std.specs.Global.{Global, Vec}
 use Rattle.srm_net.specs.Network.{Network}
@@ -12,6 +12,8 @@ use Rattle.srm_cell.specs.Cells.{Idle}
 use Rattle.srm_engine.specs.declared.engine.Engine.{Engine}
 use Rattle.srm_engine.specs.declared.fault.RunFault.{RunFault}
 use Rattle.srm_engine.specs.declared.fault.RunFault.TheVariants as fault
+use Rattle.srm_engine.specs.declared.halt.Halt.{Halt}
+use Rattle.srm_engine.specs.declared.halt.Halt.TheVariants as halt
 use Rattle.srm_engine.specs.declared.sink.SinkFault.{SinkFault}
 use Rattle.srm_engine.specs.declared.sink.SinkFault.TheVariants as sink
 use Rattle.srm_engine.specs.declared.sink.Stage.{Stage}
@@ -29,6 +31,22 @@ use Rattle.srm_engine.specs.Engines.{Shows, IsOpened, setting_in}
 abbrev pub fault_of_sink : SinkFault → StreamFault
 fault_of_sink sink.NoMemory = Run fault.NoMemory
 fault_of_sink (sink.Stopped n) = Stopped n
+
+-- what a sink answered last in a run that ends so
+abbrev pub sink_in : {A F : Type 0} → Result A (Halt F) → Result (Unit {0}) SinkFault
+sink_in (Ok v) = Ok tt
+sink_in (Err (halt.Run e)) = Ok tt
+sink_in (Err (halt.Sink e)) = Err e
+
+-- a run that is refused is so only where P holds of why
+abbrev pub HaltsIf : {F : Type 0} → (F → Type 0) → Halt F → Type 0
+HaltsIf P (halt.Run e) = P e
+HaltsIf P (halt.Sink e) = Unit {0}
+
+-- what a halt is to those who asked for the run, where a refusal of the run is this
+abbrev pub stream_fault_of : {F : Type 0} → (F → RunFault) → Halt F → StreamFault
+stream_fault_of told (halt.Run e) = Run (told e)
+stream_fault_of told (halt.Sink e) = fault_of_sink e
 
 -- how many failures of a sink's device this answer tells
 abbrev pub stopped_in : {A : Type 0} → Result A StreamFault → ℕ

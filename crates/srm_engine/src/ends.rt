@@ -7,7 +7,6 @@ ghost use Rattle.srm_model.specs.Windows.{IsWidth, way_of};
 ghost use Rattle.srm_model.specs.WindowChains.{least_width};
 ghost use Rattle.srm_engine.specs.Ends.{ends_rule, BeginsAt, TellsEnds};
 
-use crate::fault::RunFault;
 use crate::soonest::{Soonest, least_promise};
 use crate::width::Width;
 use srm_net::net::Net;
@@ -24,24 +23,21 @@ pub(crate) enum Ends {
 }
 
 impl Ends {
-    /// Where windows of this width end.
-    ///
-    /// # Errors
-    /// `BadWidth` where windows may not be so wide.
-    pub(crate) fn of(scenario: &Scenario, net: &Net, width: Width) -> Result<Ends, RunFault>
+    /// Where windows of this width end, if they may be so wide.
+    pub(crate) fn of(scenario: &Scenario, net: &Net, width: Width) -> Option<Ends>
         requires network { net.now ≡ network_of scenario.now }
         ensures { TellsEnds scenario.now net.now width result }
     {
         match width {
-            Width::Least => Ok(Ends::After(widest(scenario, net))),
+            Width::Least => Some(Ends::After(widest(scenario, net))),
             Width::Ticks(ticks) => {
                 if may_be_wide(net, ticks) {
-                    Ok(Ends::After(ticks))
+                    Some(Ends::After(ticks))
                 } else {
-                    Err(RunFault::BadWidth)
+                    None
                 }
             }
-            Width::Promise => Ok(Ends::Promised),
+            Width::Promise => Some(Ends::Promised),
         }
     }
 

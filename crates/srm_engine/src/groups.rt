@@ -1,19 +1,148 @@
 //! The cells of all members, those of each job together.
-ghost use Rattle.std.specs.Prelude.{◌≡◌, ◌<◌, ◌++◌, IfOk, map};
+ghost use Rattle.std.specs.Prelude.{◌≡◌, ◌<◌, ◌≤◌, ◌++◌, ℕ, List, IfOk, length, map};
+ghost use Rattle.srm_net.specs.Limits.{end_of_time};
+ghost use Rattle.srm_scenario.specs.Plain.{network_of};
+ghost use Rattle.srm_cell.specs.Cells.{PlainCell};
+ghost use Rattle.srm_cell.specs.Setting.{Setting, setting_of};
+ghost use Rattle.srm_model.specs.Windows.{way_of};
+ghost use Rattle.srm_engine.specs.Seen.{AreCells};
 ghost use Rattle.srm_engine.specs.Groups.{AreCuts, sizes, all_in, jobs_with, groups_of, lists_of, some_of};
+ghost use Rattle.srm_engine.specs.Groups.{IsCut, AreKept, MayHand, HandsIn, MayDeliverIn, DeliversIn, MayHear, Hears};
 
+use crate::arrival::arrival;
+use crate::ends::way;
+use crate::soonest::{Soonest, soonest_of_each};
 use srm_cell::cell::Cell;
 use srm_cell::job::{Done, Job};
+use srm_member::member::Member;
 use srm_member::row::Row;
+use srm_net::net::Net;
+use srm_net::packet::Packet;
 use srm_net::sequence::Sequence;
+use srm_scenario::scenario::Scenario;
 use std::alloc::{AllocError, Global};
 
-/// The cells in groups of `cut`, the last of which may have fewer.
-pub(crate) fn group(
-    alloc: Global,
-    cells: Vec<Cell>,
-    cut: usize,
-) -> Result<Vec<Vec<Cell>>, AllocError>
+/// The cells of all members, those of each job together, and how soon something is due in each of these groups.
+#[derive(Drop)]
+pub(crate) struct Groups {
+    /// How many cells a group has. The last one may have fewer.
+    pub(crate) cut: usize,
+    pub(crate) groups: Vec<Vec<Cell>>,
+    pub(crate) soon: Vec<Soonest>,
+}
+
+impl Groups {
+    /// These cells in groups of `cut`.
+    pub(crate) fn of(
+        alloc: Global,
+        scenario: &Scenario,
+        net: &Net,
+        cells: Vec<Cell>,
+        cut: usize,
+    ) -> Result<Groups, AllocError>
+        requires network { net.now ≡ network_of scenario.now }
+        requires cut { IsCut cut }
+        requires members { length cells.items ≤ length scenario.now.members }
+        ensures cut { IfOk result (λ all. all.cut ≡ cut) }
+        ensures kept { IfOk result (λ all. (seed : ℕ) (ps : List PlainCell)
+            → AreCells (λ b. plain (b.vtable, b.value)) cells.items ps
+            → AreKept (λ b. plain (b.vtable, b.value)) (setting_of scenario.now net.now seed) all ps) }
+    {
+        let groups = group(alloc, cells, cut)?;
+        let soon = soonest_of_each(alloc, scenario, net, groups.as_slice(), cut)?;
+        Ok(Groups { cut, groups, soon })
+    }
+
+    // A member, whose own packets have this way before them, is handed a packet, which arrives at tick `at`.
+    fn hand(
+        &mut self,
+        member: u16,
+        way: Option<u64>,
+        packet: &Packet,
+        at: u64,
+    ) -> Result<(), AllocError>
+        requires { MayHand member packet.now.id self.old }
+        ensures cut { IfOk result (λ _. self.new.cut ≡ self.old.cut) }
+        ensures heard { IfOk result (λ _. (s : Setting) → way ≡ way_of s member
+            → HandsIn (λ b. plain (b.vtable, b.value)) s member packet.now at self.old self.new) }
+    {
+        let number = usize::from(member);
+        let index = number / self.cut;
+        let group = &mut self.groups[index];
+        let cell = &mut group[number % self.cut];
+        let Ok(()) = cell.accept(packet, at) else {
+            return Err(AllocError);
+        };
+        let next = cell.next_time();
+        let soonest = &mut self.soon[index];
+        *soonest = soonest.with(next, way);
+        Ok(())
+    }
+
+    // Every member to which a packet has a flight is handed it.
+    fn deliver(
+        &mut self,
+        alloc: Global,
+        scenario: &Scenario,
+        net: &Net,
+        packet: &Packet,
+    ) -> Result<(), AllocError>
+        requires network { net.now ≡ network_of scenario.now }
+        requires may { (seed : ℕ) × MayDeliverIn (λ b. plain (b.vtable, b.value))
+            (setting_of scenario.now net.now seed) packet.now self.old }
+        ensures cut { IfOk result (λ _. self.new.cut ≡ self.old.cut) }
+        ensures heard { IfOk result (λ _. (seed : ℕ) → DeliversIn (λ b. plain (b.vtable, b.value))
+            (setting_of scenario.now net.now seed) packet.now self.old self.new) }
+    {
+        let spread = net.spread(alloc, scenario.drops(), packet.id, packet.sent)?;
+        for member in 0..scenario.members() {
+            if let Some(at) = arrival(scenario, net, packet, &spread, member) {
+                let way = way(scenario, net, member);
+                self.hand(member, way, packet, at)?;
+            }
+        }
+        Ok(())
+    }
+
+    /// Every member hears the packets of the rows, one after the other.
+    pub(crate) fn hear(
+        &mut self,
+        alloc: Global,
+        scenario: &Scenario,
+        net: &Net,
+        rows: &[Row],
+    ) -> Result<(), AllocError>
+        requires network { net.now ≡ network_of scenario.now }
+        requires until { scenario.now.until ≤ end_of_time }
+        requires may { (seed : ℕ) × MayHear (λ b. plain (b.vtable, b.value))
+            (setting_of scenario.now net.now seed) rows.now self.old }
+        ensures cut { IfOk result (λ _. self.new.cut ≡ self.old.cut) }
+        ensures heard { IfOk result (λ _. (seed : ℕ) → Hears (λ b. plain (b.vtable, b.value))
+            (setting_of scenario.now net.now seed) rows.now self.old self.new) }
+    {
+        for row in rows {
+            if let Some(packet) = &row.sent {
+                self.deliver(alloc, scenario, net, packet)?;
+            }
+        }
+        Ok(())
+    }
+
+    /// All cells in one vector, in order of the members' numbers.
+    pub(crate) fn into_cells(self, alloc: Global) -> Result<Vec<Cell>, AllocError>
+        ensures { IfOk result (λ cells. cells.items ≡ all_in self.groups.items) }
+    {
+        let mut cells = Vec::new(alloc);
+        for group in self.groups {
+            let mut group = group;
+            cells.append(&mut group)?;
+        }
+        Ok(cells)
+    }
+}
+
+// The cells in groups of `cut`, the last of which may have fewer.
+fn group(alloc: Global, cells: Vec<Cell>, cut: usize) -> Result<Vec<Vec<Cell>>, AllocError>
     requires { 0 < cut }
     ensures same { IfOk result (λ groups. all_in groups.items ≡ cells.items) }
     ensures cuts { IfOk result (λ groups. AreCuts cut (sizes groups.items)) }
@@ -74,16 +203,4 @@ fn add_lists(lists: &mut Vec<Vec<Row>>, rows: Vec<Sequence<Row>>) -> Result<(), 
         }
     }
     Ok(())
-}
-
-/// All cells in one vector, group after group.
-pub(crate) fn flatten(alloc: Global, groups: Vec<Vec<Cell>>) -> Result<Vec<Cell>, AllocError>
-    ensures { IfOk result (λ cells. cells.items ≡ all_in groups.items) }
-{
-    let mut cells = Vec::new(alloc);
-    for group in groups {
-        let mut group = group;
-        cells.append(&mut group)?;
-    }
-    Ok(cells)
 }

@@ -3,12 +3,14 @@
 
 pub mod arrival;
 mod cells;
+mod cutting;
 mod ends;
 mod engine;
 pub mod fault;
 mod groups;
-mod handing;
+mod halt;
 pub mod kept_rows;
+mod merge;
 pub mod next_times;
 pub mod outcome;
 pub mod sink;
@@ -17,7 +19,7 @@ pub mod step_run;
 pub mod step_stream;
 pub mod stream_fault;
 pub mod width;
-mod window;
+mod window_engine;
+pub mod window_fault;
 pub mod window_run;
 pub mod window_stream;
-mod windowed;

@@ -67,7 +67,7 @@ fn soonest_in(scenario: &Scenario, net: &Net, cells: &[Cell], first: usize, unti
     requires members { first + length cells.now ≤ length scenario.now.members }
     requires few { length scenario.now.members < 65536 }
     ensures { (seed : ℕ) (ps : List PlainCell)
-        → AreThose (λ b. (⟦<dyn Member as Member>⟧ b.vtable).plain b.value) first cells.now ps
+        → AreThose (λ b. plain (b.vtable, b.value)) first cells.now ps
         → IsSoonest (setting_of scenario.now net.now seed) (IsAmong first (length cells.now)) ps result }
 {
     let mut soonest = Soonest {
@@ -94,7 +94,7 @@ pub(crate) fn soonest_of_each(
     requires cuts { AreCuts cut (sizes groups.now) }
     requires members { length (all_in groups.now) ≤ length scenario.now.members }
     ensures { IfOk result (λ xs. (seed : ℕ) (ps : List PlainCell)
-        → AreGrouped (λ b. (⟦<dyn Member as Member>⟧ b.vtable).plain b.value) cut groups.now ps
+        → AreGrouped (λ b. plain (b.vtable, b.value)) cut groups.now ps
         → AreSoonest (setting_of scenario.now net.now seed) cut xs.items ps) }
 {
     let until = scenario.until();
@@ -121,7 +121,7 @@ pub(crate) fn look_again(
     requires members { length (all_in groups.now) ≤ length scenario.now.members }
     requires many { length groups.now ≤ length soon.old }
     ensures { (seed : ℕ) (ps : List PlainCell) (results : List OwnResult) → AreOwnRuns end 0 ps results
-        → AreGrouped (λ b. (⟦<dyn Member as Member>⟧ b.vtable).plain b.value) cut groups.now (cells_in results)
+        → AreGrouped (λ b. plain (b.vtable, b.value)) cut groups.now (cells_in results)
         → AreSoonest (setting_of scenario.now net.now seed) cut soon.old ps
         → AreSoonest (setting_of scenario.now net.now seed) cut soon.new (cells_in results) }
 {

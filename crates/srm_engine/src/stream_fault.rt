@@ -5,9 +5,11 @@ ghost use Rattle.srm_engine.specs.Sinks.{IsOpen};
 ghost use Rattle.srm_engine.specs.Streams.{fault_of_sink, StandsAs, stopped_in};
 
 use crate::fault::RunFault;
+use crate::halt::Halt;
 use crate::sink::{RowSink, SinkFault};
+use crate::window_fault::WindowFault;
 use srm_member::row::Row;
-use std::alloc::Global;
+use std::alloc::{AllocError, Global};
 
 /// Why a run that hands its rows on came to no end.
 #[derive(Clone, Copy, Debug, PartialEq, Eq)]
@@ -22,6 +24,39 @@ pub enum StreamFault {
         /// How much it had taken by the sink in all, as the sink told.
         written: u64,
     },
+}
+
+/// What refused memory is to a run.
+impl From<AllocError> for StreamFault {
+    ghost use Rattle.std.specs.Prelude.{◌≡◌};
+    ghost use Rattle.srm_engine.specs.declared.fault.RunFault.{RunFault};
+    ghost use Rattle.srm_engine.specs.declared.stream_fault.StreamFault.{StreamFault};
+
+    ghost from_gives = { λ _ told. told ≡ StreamFault.Run RunFault.NoMemory };
+
+    fn from(_error: AllocError) -> StreamFault {
+        StreamFault::Run {
+            fault: RunFault::NoMemory,
+        }
+    }
+}
+
+/// What a halt is to those who asked for a run in windows.
+impl From<Halt<WindowFault>> for StreamFault {
+    ghost use Rattle.std.specs.Prelude.{◌≡◌};
+    ghost use Rattle.srm_engine.specs.Faults.{run_fault_of};
+    ghost use Rattle.srm_engine.specs.Streams.{stream_fault_of};
+
+    ghost from_gives = { λ halt told. told ≡ stream_fault_of run_fault_of halt };
+
+    fn from(halt: Halt<WindowFault>) -> StreamFault {
+        match halt {
+            Halt::Run(fault) => StreamFault::Run {
+                fault: fault.into(),
+            },
+            Halt::Sink(fault) => stream_fault(fault),
+        }
+    }
 }
 
 // What a sink's refusal is to a run.

@@ -1,95 +1,24 @@
 //! The run in windows, its rows handed on as they come.
-ghost use Rattle.std.specs.Prelude.{◌≡◌, ◌<◌, ◌≤◌, ◌+◌, ◌-◌, ◌^◌, ℕ, IfErr, map};
+ghost use Rattle.std.specs.Prelude.{◌≡◌, ◌<◌, ◌≤◌, ◌+◌, ◌-◌, ◌^◌, ℕ, map};
 ghost use Rattle.srm_scenario.specs.Plain.{network_of};
 ghost use Rattle.srm_engine.specs.Openings.{HoldOpeningRecords};
-ghost use Rattle.srm_engine.specs.Ends.{ends_rule, MayEnd};
 ghost use Rattle.srm_engine.specs.Sinks.{IsOpen};
 ghost use Rattle.srm_engine.specs.Streams.{StandsAs, stopped_in, StreamsFrom};
-ghost use Rattle.srm_engine.specs.Windowed.{IsCut, rule_of};
-ghost use Rattle.srm_engine.specs.WindowStreams.{IsLeft, IsUnderWay, TellsStreamAsked, CallsInWindows};
+ghost use Rattle.srm_engine.specs.Windowed.{rule_of};
+ghost use Rattle.srm_engine.specs.WindowStreams.{IsLeft, TellsStreamAsked, CallsInWindows};
 
-use crate::cells::{finish_cells, open_cells};
-use crate::ends::Ends;
-use crate::fault::RunFault;
-use crate::groups::{flatten, group};
+use crate::cutting::Cutting;
 use crate::sink::RowSink;
-use crate::soonest::soonest_of_each;
 use crate::stream_fault::StreamFault;
 use crate::width::Windows;
-use crate::window::Grouped;
-use crate::windowed::windows;
+use crate::window_engine::WindowEngine;
 use srm_crew::crew::Crew;
-use srm_ledger::ledger::Ledger;
 use srm_ledger::totals::Totals;
 use srm_member::exit::Exit;
 use srm_member::member::Member;
 use srm_net::net::Net;
 use srm_scenario::scenario::Scenario;
 use std::alloc::Global;
-
-// Memory was refused to the run.
-const NO_MEMORY: StreamFault = StreamFault::Run {
-    fault: RunFault::NoMemory,
-};
-
-// The run in windows that end so.
-fn stream<C: Crew, S: RowSink>(
-    alloc: Global,
-    scenario: &Scenario,
-    net: &Net,
-    members: Vec<Box<dyn Member>>,
-    crew: &mut C,
-    cut: usize,
-    ends: &Ends,
-    sink: &mut S,
-) -> Result<(Vec<Exit>, Totals), StreamFault>
-    requires ready { C.ready crew.old }
-    requires network { net.now ≡ network_of scenario.now }
-    requires boxes { (seed : ℕ) × HoldOpeningRecords scenario.now net.now seed (map (λ b. plain b) members.items) }
-    requires cut { IsCut cut }
-    requires ends { MayEnd net.now ends.now }
-    requires open { IsOpen (S.stage sink.old) }
-    requires failures { S.failures sink.old < 2 ^ 64 - 1 }
-    ensures ready { C.ready crew.new }
-    ensures device { S.same sink.old sink.new }
-    ensures stands { StandsAs result (S.stage sink.new) }
-    ensures failures { S.failures sink.new ≡ S.failures sink.old + stopped_in result }
-    ensures fault { IfErr result IsUnderWay }
-    ensures stream { StreamsFrom S.took S.part scenario.now net.now (map (λ b. plain b) members.items)
-        sink.old result sink.new }
-    ensures windows { CallsInWindows C.handed scenario.now net.now (map (λ b. plain b) members.items)
-        (λ s. ends_rule s ends.now) cut crew.old result crew.new }
-{
-    let Ok((ledger, seat)) = Ledger::open(alloc, net.links().len()) else {
-        return Err(NO_MEMORY);
-    };
-    let Ok(cells) = open_cells(alloc, scenario, members) else {
-        return Err(NO_MEMORY);
-    };
-    let Ok(groups) = group(alloc, cells, cut) else {
-        return Err(NO_MEMORY);
-    };
-    let Ok(soon) = soonest_of_each(alloc, scenario, net, groups.as_slice(), cut) else {
-        return Err(NO_MEMORY);
-    };
-    let cells = Grouped { groups, soon, seat };
-    let cells = match windows(alloc, scenario, net, &ledger, crew, cut, ends, cells, sink) {
-        Ok(cells) => cells,
-        Err(fault) => return Err(fault),
-    };
-    let Grouped { groups, seat, .. } = cells;
-    let Ok(cells) = flatten(alloc, groups) else {
-        return Err(NO_MEMORY);
-    };
-    let Ok(exits) = finish_cells(alloc, cells) else {
-        return Err(NO_MEMORY);
-    };
-    let totals = match ledger.close(seat) {
-        Ok(totals) => totals,
-        Err(_) => unreachable!(),
-    };
-    Ok((exits, totals))
-}
 
 /// The run of a scenario in windows of time, as `window_run`'s, its rows handed to a sink as they come: first none, and then those of
 /// each window, in order, once it has ended. So no more than one window's rows are in memory at once. What is answered are the exits
@@ -129,15 +58,20 @@ pub fn window_stream<C: Crew, S: RowSink>(
     ensures windows { CallsInWindows C.handed scenario.now net.now (map (λ b. plain b) members.items)
         (λ s. rule_of s net.now asked.width) asked.cut crew.old result crew.new }
 {
-    if asked.cut == 0 || asked.cut > 1024 {
-        return Err(StreamFault::Run {
-            fault: RunFault::BadCut,
-        });
-    }
-    let ends = match Ends::of(scenario, net, asked.width) {
-        Ok(ends) => ends,
-        Err(fault) => return Err(StreamFault::Run { fault }),
+    let cutting = match Cutting::of(scenario, net, asked) {
+        Ok(cutting) => cutting,
+        Err(fault) => return Err(fault.into()),
     };
-    let cut = asked.cut as usize;
-    stream(alloc, scenario, net, members, crew, cut, &ends, sink)
+    let engine = match WindowEngine::open(alloc, scenario, net, members, cutting) {
+        Ok(engine) => engine,
+        Err(error) => return Err(error.into()),
+    };
+    let ran = match engine.stream(alloc, crew, sink) {
+        Ok(ran) => ran,
+        Err(halt) => return Err(halt.into()),
+    };
+    match ran.finish(alloc) {
+        Ok(ends) => Ok(ends),
+        Err(error) => Err(error.into()),
+    }
 }

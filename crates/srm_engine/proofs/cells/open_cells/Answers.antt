@@ -1,9 +1,9 @@
-use Rattle.std.proofs.Common.{◌≡◌, ◌+◌, ℕ, List, Option, [], sym, ◌∙◌, ap, subst, length, map, arith, add-one, zero-add}
+use Rattle.std.proofs.Common.{◌≡◌, ◌+◌, [], sym, ◌∙◌, ap, subst, length, map, arith, add-one, zero-add}
 use Rattle.std.proofs.lemmas.Grind.{common_steps}
 use Rattle.std.specs.Vec.Iter.{into_iter_items}
 use Rattle.srm_cell.specs.Setting.{setting_of}
 use Rattle.srm_model.specs.World.{opening_cells}
-use Rattle.srm_engine.specs.Seen.{AreCells, AreTimes}
+use Rattle.srm_engine.specs.Seen.{AreCells}
 use Rattle.srm_engine.specs.Openings.{records_from}
 use Rattle.srm_engine.proofs.Opened.{none_seen, length_opening, record_first, none_left}
 use Rattle.srm_engine.proofs.cells.open_cells.Goals as goal

@@ -3,10 +3,8 @@ use Rattle.srm_member.specs.declared.row.Row.{Row}
 use Rattle.srm_cell.specs.Crossings.{packets_of}
 use Rattle.srm_cell.specs.Setting.{Setting, setting_of, traffic_of}
 use Rattle.srm_cell.specs.Totalled.{numbers_of}
-use Rattle.srm_engine.specs.declared.fault.RunFault.{RunFault}
 use Rattle.srm_model.specs.World.{opening, IsReached, IsLast}
 use Rattle.srm_engine.specs.Engines.{setting_in, traffic_in}
-use Rattle.srm_engine.specs.Outcomes.{TellsRun}
 use Rattle.srm_engine.specs.Streams.{MeetsRefusal}
 use Rattle.srm_engine.proofs.ExitsKept.{all_end}
 use Rattle.srm_engine.proofs.Opened.{totals_are}

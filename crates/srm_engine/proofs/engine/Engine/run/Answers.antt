@@ -1,4 +1,4 @@
-use Rattle.std.proofs.Common.{◌≤◌, ◌-◌, ◌^◌, ap, length, lit≤, arith}
+use Rattle.std.proofs.Common.{◌-◌, ◌^◌, ap, length, lit≤, arith}
 use Rattle.srm_model.specs.World.{opening}
 use Rattle.srm_engine.specs.Engines.{setting_in}
 use Rattle.srm_engine.proofs.StreamLemmas.{all_traced}

@@ -1,0 +1,346 @@
+-- The windows of an engine: its jobs, what a crew did, and its rows.
+use Rattle.std.proofs.Common.{◌≡◌, ℕ, zero, suc, ◌<◌, ◌≤◌, ◌+◌, ◌^◌, min, List, [], ◌∷◌, ◌++◌, Ok, Err, refl, sym, ap, ◌∙◌, subst, arith}
+use Rattle.std.proofs.Common.{All, IsSorted, IsPermutation, length, map, drop, slice_index, replicate, ◌*◌}
+use Rattle.std.proofs.lemmas.List.{map-append, length-map}
+use Rattle.std.specs.List.{AllZip, range_with_len}
+use Rattle.std.specs.declared.dyn_box.DynBox.{DynBox}
+use Rattle.std.specs.Global.{Global, Vec}
+use Rattle.srm_net.specs.Network.{Network}
+use Rattle.srm_scenario.specs.Plain.{PlainScenario, network_of}
+use Rattle.srm_scenario.specs.Accepted.{IsAccepted}
+use Rattle.srm_scenario.specs.declared.parts.MemberSpec.{MemberSpec}
+use Rattle.srm_scenario.proofs.Members.{few_members}
+use Rattle.srm_member.specs.declared.row.Row.{Row}
+use Rattle.srm_member.specs.Record.{Record}
+use Rattle.srm_ledger.specs.Seats.{LedgerView, SeatView, whole_seat, words_of}
+use Rattle.srm_cell.proofs.RowPackets.{nothing_counted, numbers_are}
+use Rattle.srm_cell.specs.declared.cell.Cell.{Cell}
+use Rattle.srm_cell.specs.declared.job.Job.{Job}
+use Rattle.srm_cell.specs.declared.job.Done as job
+use Rattle.srm_cell.specs.Setting.{Traffic, Setting, IsFit, setting_of}
+use Rattle.srm_cell.specs.Cells.{Event, Full, Spent}
+use Rattle.srm_cell.specs.Crossings.{joined, crossings}
+use Rattle.srm_cell.specs.Jobs as cell
+use Rattle.srm_cell.proofs.FitSettings.{settings_are_fit}
+use Rattle.srm_crew.specs.declared.fault.CrewFault.{CrewFault}
+use Rattle.srm_crew.specs.declared.fault.CrewFault.TheVariants as crew
+use Rattle.srm_crew.specs.Crews.{AreJobs, AnyEnds, AreRowsOfSome, TellsMap, HasGrown, IsPast, rows_of, word_of}
+use Rattle.srm_engine.specs.declared.window_engine.WindowEngine.{WindowEngine}
+use Rattle.srm_engine.specs.declared.window_fault.WindowFault.{WindowFault}
+use Rattle.srm_engine.specs.declared.window_fault.WindowFault.TheVariants as window
+use Rattle.srm_engine.specs.declared.cutting.Cutting.{Cutting}
+use Rattle.srm_engine.specs.declared.width.Windows.{Windows}
+use Rattle.srm_engine.specs.declared.halt.Halt.{Halt}
+use Rattle.srm_engine.specs.declared.halt.Halt.TheVariants as halt
+use Rattle.srm_engine.specs.declared.sink.SinkFault.TheVariants as sink
+use Rattle.srm_model.specs.World.{World, row_cmp, IsReached, IsLast, RunMeetsFull, opening}
+use Rattle.srm_model.specs.Schedules.{IsSafe, HasNoResult}
+use Rattle.srm_model.specs.Windows.{IsWidth}
+use Rattle.srm_model.specs.WindowRuns.{OwnResult, AreOwnRuns, rows_in, cells_in, IsMerge, AreNewInTurn}
+use Rattle.srm_model.specs.WindowRuns.{IsWindow, after_window, jobs_of}
+use Rattle.srm_model.specs.WindowChains.{IsNext, start_of, IsEndRule, width_rule, AreWindows, window_jobs}
+use Rattle.srm_engine.specs.Groups.{handed_jobs, AreGrouped, all_in, jobs_with, groups_of, lists_of, some_of}
+use Rattle.srm_engine.specs.declared.ends.Ends.{Ends}
+use Rattle.srm_engine.specs.declared.ends.Ends.TheVariants.{After, Promised}
+use Rattle.srm_engine.specs.Ends.{BeginsAt, MayEnd, TellsCutting, ends_rule}
+use Rattle.srm_engine.specs.Faults.{window_fault_of, run_fault_of}
+use Rattle.srm_engine.specs.Streams.{HaltsIf, stream_fault_of}
+use Rattle.srm_engine.specs.WindowStreams.{MeetsWindowRefusal}
+use Rattle.srm_engine.specs.Windowed.{IsCounted, MayCome, calls_of, rule_of}
+use Rattle.srm_engine.specs.WindowEngines.{ComesTo, Stands, BeginsNext, EndsNext, course_of, setting_by, rule_by}
+use Rattle.srm_engine.proofs.CellLists.{from_seen, seen_from, few_groups}
+use Rattle.srm_engine.proofs.JobLemmas.{any_cell, are_jobs, may_advance, as_many_jobs, places_with, job_results, cuts_kept, joined_some}
+use Rattle.srm_engine.proofs.JobLemmas.{all_some, counted_more, counted_merged, rows_joined}
+use Rattle.srm_model.proofs.LawProofs.{never_spent}
+use Rattle.srm_model.proofs.OneWindow.{as_many_results}
+use Rattle.srm_model.proofs.Sequential.{good_reached}
+use Rattle.srm_engine.proofs.Stepping.{opening_trace}
+use Rattle.srm_model.proofs.WindowJobs.{jobs_run_all}
+use Rattle.srm_model.proofs.WindowRows.{own_rows_are_sorted}
+use Rattle.srm_model.proofs.WindowPackets.{window_packets_are_new}
+use Rattle.srm_model.proofs.WindowEnds.{widths_are_rules, promises_are_a_rule, starts_tell}
+use Rattle.srm_model.proofs.WindowChain.{windows_are_reached, windows_follow, refused_windows_meet_full, calls_follow}
+
+-- ---- windows
+
+-- windows that end so follow a rule
+pub ends_are_rules : (p : PlainScenario) (net : Network) → net ≡ network_of p → IsAccepted p → (seed : ℕ) (ends : Ends) → MayEnd net ends
+    → IsEndRule (setting_of p net seed) (ends_rule (setting_of p net seed) ends)
+ends_are_rules p net is accepted seed (After n) may =
+    subst (λ (k : Network). IsEndRule (setting_of p k seed) (width_rule (setting_of p k seed) n)) (sym is)
+    (widths_are_rules p seed n accepted may.0 (subst (λ (k : Network). IsWidth k n) is may.1))
+ends_are_rules p net is accepted seed Promised may =
+    promises_are_a_rule (setting_of p net seed) (subst (λ (k : Network). IsFit (setting_of p k seed)) (sym is)
+    (settings_are_fit p seed accepted))
+
+-- ---- records
+
+-- what is known of the jobs of the window that ends so, before the crew's call and after it is refused
+pub record JobsTell {X : Type 0} {H : X → Type 0} (f : DynBox X Global H → Record) (e : WindowEngine X H) (seed end : ℕ) (w : World)
+    (js : List (Job X H)) : Type 0 where
+  pub may : All (λ (j : Job X H). cell.MayAdvance f (length e.net.now.hosts) j) js
+  pub few : length js ≤ 1024
+  pub placed : map (λ (j : Job X H). j.place) js ≡ range_with_len 0 (length js)
+  pub seen : AreJobs f js (handed_jobs 0 (jobs_of e.groups.cut end w))
+  pub not_spent : AnyEnds Spent (handed_jobs 0 (jobs_of e.groups.cut end w)) → ⊥
+  pub full : AnyEnds Full (handed_jobs 0 (jobs_of e.groups.cut end w)) → RunMeetsFull (setting_by e seed)
+  pub past : ((rows : List Row) × AreRowsOfSome (handed_jobs 0 (jobs_of e.groups.cut end w)) rows
+      × IsPast (word_of (crossings (setting_by e seed).traffic rows)) e.seat)
+      → MayCome (setting_by e seed) (rule_by e seed) e.groups.cut window.ShareFull
+
+-- what a crew's refusal tells of the window
+pub map_refused : {X : Type 0} {H : X → Type 0} (f : DynBox X Global H → Record) (e : WindowEngine X H) (seed end : ℕ) (w : World)
+    (js : List (Job X H)) → JobsTell f e seed end w js → (x : CrewFault)
+    → TellsMap f (setting_by e seed).traffic e.seat (handed_jobs 0 (jobs_of e.groups.cut end w)) (Err x)
+    → MayCome (setting_by e seed) (rule_by e seed) e.groups.cut (window_fault_of x)
+map_refused f e seed end w js j crew.NoMemory h = tt
+map_refused f e seed end w js j crew.ShareFull h = j.past h
+map_refused f e seed end w js j crew.CountFull h = j.full h
+map_refused f e seed end w js j crew.Spent h = tt
+
+-- what the crew did for the window that ends so
+pub record WindowRan {X : Type 0} {H : X → Type 0} (f : DynBox X Global H → Record) (e : WindowEngine X H) (seed end : ℕ) (w : World)
+    (ds : List (job.Done X H)) : Type 0 where
+  pub results : List OwnResult
+  pub alone : AreOwnRuns end 0 w.cells results
+  pub grouped : AreGrouped f e.groups.cut (groups_of ds) (cells_in results)
+  pub rows : lists_of ds ≡ rows_in results
+  pub as_many : length (cells_in results) ≡ length w.cells
+  pub members : length (cells_in results) ≡ length e.scenario.now.members
+  pub sorted : All (IsSorted row_cmp) (some_of (rows_in results))
+
+-- ---- the next window
+
+module _ {X : Type 0} {H : X → Type 0} (f : DynBox X Global H → Record) (e : WindowEngine X H) (is : Stands f e) (seed : ℕ)
+    (begins : List World) (w : World) (comes : ComesTo f seed e begins w) where
+  abbrev s : Setting
+  s = setting_by e seed
+
+  pub fit : IsFit s
+  fit = subst (λ (n : Network). IsFit (setting_of e.scenario.now n seed)) (sym is.network) (settings_are_fit e.scenario.now seed
+      is.accepted)
+
+  rule_is : IsEndRule s (rule_by e seed)
+  rule_is = ends_are_rules e.scenario.now e.net.now is.network is.accepted seed e.ends is.ends
+
+  pub reached : IsReached s w
+  reached = (windows_are_reached s (rule_by e seed) begins w comes.windows).0
+
+  pub members_are : length w.cells ≡ length e.scenario.now.members
+  members_are = (good_reached s fit reached.0 w reached.1).members
+
+  -- where something is pending
+  module _ (begin : ℕ) (at : BeginsNext f e begin) (early : begin < e.scenario.now.until) where
+    begin_is : begin ≡ start_of s w
+    begin_is = let b = at seed begins w comes in omega (arith, b)
+
+    pub next : (v : Event) × IsNext s w v
+    next = let v = (starts_tell s w).0 (let b = begin_is in omega arith) in (v.0, v.1)
+
+    pub begins_at : BeginsAt s w e.groups.cut e.groups.soon.items begin e.scenario.now.until
+    begins_at = record { fit = fit; reached = reached; soon = comes.kept.soon; begin_is = begin_is; until_is = refl }
+
+  -- nothing is pending
+  pub is_last : (begin : ℕ) → BeginsNext f e begin → e.scenario.now.until ≤ begin → IsLast s w
+  is_last begin at late =
+      let b = at seed begins w comes in
+      (windows_are_reached s (rule_by e seed) begins w comes.windows).1
+      ((starts_tell s w).1 (omega (arith, b, late)))
+
+  -- ---- its jobs
+
+  module _ (end : ℕ) (at : EndsNext f e end) where
+    abbrev gs : List (Vec (Cell X H))
+    gs = e.groups.groups.items
+
+    abbrev cut : ℕ
+    cut = e.groups.cut
+
+    grouped : AreGrouped f cut gs w.cells
+    grouped = comes.kept.grouped
+
+    abbrev upcoming : List cell.PlainJob
+    upcoming = handed_jobs 0 (jobs_of cut end w)
+
+    abbrev v : Event
+    v = (at seed begins w comes).0.0
+
+    is_next : IsNext s w v
+    is_next = (at seed begins w comes).0.1
+
+    pub end_is : end ≡ rule_by e seed w
+    end_is = (at seed begins w comes).1
+
+    pub within : end ≤ e.scenario.now.until
+    within = let b = rule_is.within w in omega (arith, end_is)
+
+    safe : IsSafe s end w
+    safe = subst (λ n. IsSafe s n w) (sym end_is) (rule_is.safe w v reached is_next)
+
+    hosts_are : length e.net.now.hosts ≡ length e.scenario.now.members
+    hosts_are = ap (λ (n : Network). length n.hosts) is.network ∙ length-map e.scenario.now.members (λ (k : MemberSpec). k.node)
+
+    own_jobs : AreJobs f (jobs_with end 0 gs) upcoming
+    own_jobs = are_jobs f cut end 0 0 gs w.cells comes.kept.cut.0 grouped.cuts (from_seen f (all_in gs) w.cells grouped.cells)
+
+    -- what is known of the jobs of a window, before and after the crew's call
+    pub jobs_tell : (js : List (Job X H)) → js ≡ jobs_with end 0 gs → JobsTell f e seed end w js
+    jobs_tell js same =
+        let a = ap length same ∙ as_many_jobs f end 0 gs in
+        let many = members_are in record {
+          may =
+              let few = is.accepted.few_ticks in
+              let hosts = hosts_are in
+              let cuts = comes.kept.cut in
+              let b = within in
+              subst (All (λ (j : Job X H). cell.MayAdvance f (length e.net.now.hosts) j)) (sym same)
+              (may_advance f cut end (length e.net.now.hosts) gs w.cells cuts.0 cuts.1 (omega arith) (omega arith) grouped.cuts
+              (from_seen f (all_in gs) w.cells grouped.cells));
+          few =
+              let b = few_groups cut gs comes.kept.cut.0 grouped.cuts in
+              let c = grouped.cells.as_many in
+              let most = few_members e.scenario.now is.accepted in
+              omega (arith, a);
+          placed = ap (map (λ (j : Job X H). j.place)) same ∙ places_with f end 0 gs ∙ ap (range_with_len 0) (sym a);
+          seen = subst (λ l. AreJobs f l upcoming) (sym same) own_jobs;
+          not_spent = λ h.
+              let r = any_cell Spent cut end w.cells h in
+              (never_spent s w fit reached).1 end r.0 r.3.0 r.1 r.2 r.3.1;
+          full = λ h.
+              let r = any_cell Full cut end w.cells h in
+              refused_windows_meet_full s (rule_by e seed) begins w v fit rule_is comes.windows is_next r.0
+              (subst (λ n. HasNoResult n w r.0) end_is (r.1, r.2, r.3));
+          past = λ h. (
+            begins,
+            w,
+            comes.windows,
+            (
+              h.0,
+              subst (λ n. AreRowsOfSome (handed_jobs 0 (jobs_of cut n w)) h.0) end_is h.1,
+              h.2.0,
+              subst (λ n. 2 ^ 47 < n + word_of (crossings s.traffic h.0) h.2.0) (comes.counted.shares h.2.0) h.2.1,
+            ),
+          );
+        }
+
+    -- what the crew did
+    pub window_ran : (ds : List (job.Done X H)) → AllZip (λ p d. cell.IsDone f s.traffic p d) upcoming ds → WindowRan f e seed end w ds
+    window_ran ds h =
+        let r = job_results f s.traffic 0 (jobs_of cut end w) ds h in
+        let alone = jobs_run_all w cut end r.0 comes.kept.cut.0 r.1 in record {
+          results = joined r.0;
+          alone = alone;
+          grouped = record {
+            cells = seen_from f (all_in (groups_of ds)) (cells_in (joined r.0)) r.2;
+            cuts = cuts_kept f cut end gs (jobs_of cut end w) ds grouped.cuts own_jobs r.4;
+          };
+          rows = r.3;
+          as_many = as_many_results end 0 w.cells (joined r.0) alone;
+          members = as_many_results end 0 w.cells (joined r.0) alone ∙ members_are;
+          sorted = all_some (IsSorted row_cmp) (rows_in (joined r.0)) (own_rows_are_sorted s w end fit reached within safe (joined r.0)
+              alone);
+        }
+
+    -- ---- its rows
+
+    module _ (ds : List (job.Done X H)) (ran : WindowRan f e seed end w ds) (rows : List Row)
+        (merged : IsPermutation (joined (some_of (lists_of ds))) rows × IsSorted row_cmp rows) where
+      merge_is : IsMerge (rows_in ran.results) rows
+      merge_is = record {
+        all = subst (λ l. IsPermutation l rows) (ap (λ l. joined (some_of l)) ran.rows ∙ joined_some (rows_in ran.results)) merged.0;
+        in_order = merged.1;
+      }
+
+      pub new_in_turn : AreNewInTurn s.traffic rows (cells_in ran.results)
+      new_in_turn = window_packets_are_new s w end fit reached within safe ran.results rows ran.alone merge_is
+
+      abbrev pub after : World
+      after = after_window s w ran.results rows
+
+      pub window_is : IsWindow s end w after
+      window_is = record { results = ran.results; rows = rows; alone = ran.alone; merged = merge_is; is = refl }
+
+      pub one_more : AreWindows s (rule_by e seed) (begins ++ w ∷ []) after × (start_of s w < start_of s after)
+      one_more = windows_follow s (rule_by e seed) begins w after v fit rule_is comes.windows is_next
+          (subst (λ n. IsWindow s n w after) end_is window_is)
+
+      pub later : (begin n : ℕ) → BeginsNext f e begin → begin < e.scenario.now.until → n ≡ min e.scenario.now.until (start_of s after)
+          → begin < n
+      later begin n at early is_next =
+          let more = one_more.1 in
+          let b = at seed begins w comes in
+          omega (arith, b, is_next)
+
+      pub counted_after : (seat : SeatView) → HasGrown (word_of (crossings s.traffic (rows_of ds))) e.seat seat
+          → IsCounted s.traffic e.ledger (w.trace ++ rows) seat
+      counted_after seat grown = counted_merged s e.ledger w.trace (joined (rows_in ran.results)) rows seat merge_is.all
+          (counted_more s.traffic e.ledger w.trace (rows_of ds) (joined (rows_in ran.results)) e.seat seat comes.counted grown
+          (rows_joined f ds ∙ ap joined ran.rows))
+
+-- ---- the beginning of a run
+
+zeros : (n k : ℕ) → slice_index (replicate n 0) k ≡ 0
+zeros zero k = refl
+zeros (suc n) zero = refl
+zeros (suc n) (suc k) = zeros n k
+
+none_crossed : (t : Traffic) (k : ℕ) → word_of (crossings t []) k ≡ 0
+none_crossed t zero = refl
+none_crossed t (suc k) = ap (λ ns. slice_index ns k) (sym (nothing_counted t ∙ numbers_are t [])) ∙ zeros (5 * t.links) k
+
+-- a whole seat at the beginning counts the rows of the opening world
+pub opened_counted : (s : Setting) (l : LedgerView) (links : ℕ) (seat : SeatView) → seat ≡ whole_seat l.name links
+    → IsCounted s.traffic l (opening s).trace seat
+opened_counted s l links seat whole = record {
+  ledger = ap (λ (v : SeatView). v.ledger) whole;
+  weight = ap (λ (v : SeatView). v.weight) whole;
+  shares = λ k. ap (λ (v : SeatView). slice_index v.shares k) whole ∙ zeros (words_of links) k ∙ sym (none_crossed s.traffic k)
+      ∙ ap (λ rows. word_of (crossings s.traffic rows) k) (sym (opening_trace s));
+}
+
+-- ---- calls
+
+-- the calls for one window more
+pub call_more : (rule : World → ℕ) (cut : ℕ) (begins : List World) (w : World) → calls_of rule cut (begins ++ w ∷ [])
+    ≡ calls_of rule cut begins ++ handed_jobs 0 (jobs_of cut (rule w) w) ∷ []
+call_more rule cut begins w = ap (map (handed_jobs 0)) ((calls_follow rule cut).1 begins w)
+    ∙ map-append (handed_jobs 0) (window_jobs rule cut begins) (jobs_of cut (rule w) w ∷ [])
+
+-- ---- what was asked for
+
+-- what holds of an engine's run holds of the run that was asked for
+pub as_asked : {X : Type 0} {H : X → Type 0} (Q : Setting → (World → ℕ) → ℕ → Type 0) (e : WindowEngine X H) (p : PlainScenario)
+    (net : Network) (c : Cutting) (asked : Windows) (seed : ℕ) → course_of e ≡ (p, net, c.cut, c.ends) → TellsCutting p net asked (Ok c)
+    → Q (setting_by e seed) (rule_by e seed) e.groups.cut
+    → Q (setting_of p net seed) (rule_of (setting_of p net seed) net asked.width) asked.cut
+as_asked Q e p net c asked seed course told h =
+    subst (Q (setting_of p net seed) (rule_of (setting_of p net seed) net asked.width)) told.1
+    (subst (λ (rule : World → ℕ). Q (setting_of p net seed) rule c.cut) (sym (told.2.2 seed))
+    (subst (λ (k : PlainScenario × Network × ℕ × Ends). Q (setting_of k.0 k.1 seed) (ends_rule (setting_of k.0 k.1 seed) k.3) k.2)
+    course h))
+
+-- when a run that hands its rows on is refused
+pub halts_refuse : {C : Type 0} (s : Setting) (rule : World → ℕ) (cut : ℕ) (old : C) (x : Halt WindowFault) (new : C)
+    → HaltsIf (MayCome s rule cut) x → MeetsWindowRefusal s rule cut old (stream_fault_of run_fault_of x) new
+halts_refuse s rule cut old (halt.Run window.NoMemory) new h = h
+halts_refuse s rule cut old (halt.Run window.CountFull) new h = h
+halts_refuse s rule cut old (halt.Run window.ShareFull) new h = h
+halts_refuse s rule cut old (halt.Sink sink.NoMemory) new h = tt
+halts_refuse s rule cut old (halt.Sink (sink.Stopped n)) new h = tt
+
+-- ---- its end
+
+same_list : (xs ys : List ℕ) → length xs ≡ length ys → ((k : ℕ) → slice_index xs k ≡ slice_index ys k) → xs ≡ ys
+same_list [] [] e each = refl
+same_list [] (y ∷ ys) e each = absurd (omega arith)
+same_list (x ∷ xs) [] e each = absurd (omega arith)
+same_list (x ∷ xs) (y ∷ ys) e each = (λ i. each 0 i ∷ xs) ∙ ap (λ l. y ∷ l) (same_list xs ys (omega arith) (λ k. each (suc k)))
+
+pub total_words : (totals shares numbers : List ℕ) → totals ≡ drop 1 shares → length totals ≡ length numbers
+    → ((k : ℕ) → slice_index shares k ≡ word_of numbers k) → totals ≡ numbers
+total_words totals [] numbers e long each = e ∙ nothing numbers (sym long ∙ ap length e)
+  where
+    nothing : (ns : List ℕ) → length ns ≡ 0 → [] ≡ ns
+    nothing [] z = refl
+    nothing (n ∷ ns) z = absurd (omega arith)
+total_words totals (x ∷ xs) numbers e long each = e ∙ same_list xs numbers (sym (ap length e) ∙ long) (λ k. each (suc k))

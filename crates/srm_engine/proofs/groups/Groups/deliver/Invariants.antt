@@ -1,0 +1,14 @@
+use Rattle.std.proofs.Common.{◌≡◌, ℕ, List}
+use Rattle.srm_cell.specs.Setting.{setting_of, traffic_of}
+use Rattle.srm_cell.specs.Cells.{PlainCell}
+use Rattle.srm_model.specs.Hearing.{heard_below}
+use Rattle.srm_engine.specs.Groups.{AreKept}
+use Rattle.srm_engine.proofs.groups.Groups.deliver.Given as goal
+
+abbrev pub invariant-loop-member : goal.invariant-loop-member
+invariant-loop-member g l =
+    (l.self.cut ≡ l.fn.self.cut)
+    × ((seed : ℕ) (ps : List PlainCell) → AreKept (λ b. (goal.Member-dyn g (b.vtable, b.value)).plain b.value)
+    (setting_of l.scenario l.net seed) l.fn.self ps
+    → AreKept (λ b. (goal.Member-dyn g (b.vtable, b.value)).plain b.value)
+    (setting_of l.scenario l.net seed) l.self (heard_below (traffic_of l.scenario l.net) l.packet l.member 0 ps))

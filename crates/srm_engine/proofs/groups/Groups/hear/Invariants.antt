@@ -1,0 +1,14 @@
+use Rattle.std.proofs.Common.{◌≡◌, ℕ, List, take}
+use Rattle.srm_cell.specs.Setting.{setting_of, traffic_of}
+use Rattle.srm_cell.specs.Cells.{PlainCell}
+use Rattle.srm_engine.specs.Groups.{AreKept}
+use Rattle.srm_model.specs.WindowRuns.{each_hears}
+use Rattle.srm_engine.proofs.groups.Groups.hear.Given as goal
+
+abbrev pub invariant-loop-row : goal.invariant-loop-row
+invariant-loop-row g l =
+    (l.self.cut ≡ l.fn.self.cut)
+    × ((seed : ℕ) (ps : List PlainCell) → AreKept (λ b. (goal.Member-dyn g (b.vtable, b.value)).plain b.value)
+    (setting_of l.scenario l.net seed) l.fn.self ps
+    → AreKept (λ b. (goal.Member-dyn g (b.vtable, b.value)).plain b.value)
+    (setting_of l.scenario l.net seed) l.self (each_hears (traffic_of l.scenario l.net) 0 (take l.row-index l.rows) ps))

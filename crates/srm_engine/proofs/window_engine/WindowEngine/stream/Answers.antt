@@ -1,0 +1,143 @@
+use Rattle.std.proofs.Common.{◌∙◌, ◌<◌, ℕ, List, sym, ◌++◌, ◌∷◌, [], add-zero, arith, ap, subst, refl}
+use Rattle.srm_net.specs.Network.{Network}
+use Rattle.srm_scenario.specs.Plain.{PlainScenario}
+use Rattle.srm_member.specs.declared.row.Row.{Row}
+use Rattle.srm_cell.specs.Setting.{setting_of}
+use Rattle.srm_model.specs.World.{opening, IsReached, IsLast}
+use Rattle.srm_engine.specs.declared.ends.Ends.{Ends}
+use Rattle.srm_engine.specs.Ends.{ends_rule}
+use Rattle.srm_engine.specs.Windowed.{MayCome, calls_of}
+use Rattle.srm_engine.specs.WindowEngines.{setting_by, rule_by}
+use Rattle.srm_engine.proofs.Stepping.{opening_reached, opening_trace}
+use Rattle.srm_engine.proofs.StreamLemmas.{front_taken}
+use Rattle.srm_engine.proofs.WindowLemmas.{reached, is_last, call_more}
+use Rattle.srm_engine.proofs.window_engine.WindowEngine.stream.Goals as goal
+
+pub returns-in-Err-clause-windows : goal.returns-in-Err-clause-windows
+returns-in-Err-clause-windows g c = λ seed h.
+    let s = setting_by c.args.self seed in (
+      (
+        opening s,
+        opening_reached s,
+        subst (λ (l : List Row). g.S.RowSink.part c.args.sink.now l c.rows.new.self) (c.new.ensures.items ∙ sym (opening_trace s))
+            c.in-Err.ensures.rows,
+      ),
+      tt,
+    )
+
+pub loop-begin-init : goal.loop-begin-init
+loop-begin-init g c = record {
+  ready = c.requires.ready;
+  stands = c.requires.stands;
+  course = refl;
+  next = c.begin-begin.ensures;
+  device = c.in_default.ensures.same;
+  live = c.in_default.ensures.stage;
+  unfailed = c.in_default.ensures.failures ∙ add-zero _;
+  windows = λ seed h.
+      let s = setting_by c.args.self seed in (
+        [],
+        opening s,
+        h,
+        subst (λ (l : List Row). g.S.RowSink.took c.args.sink.now l c.rows.new.self) (c.new.ensures.items ∙ sym (opening_trace s))
+            c.in_default.ensures.rows,
+        g.met.C.Crew.handed_none c.args.crew.now,
+      );
+}
+
+pub window-requires-clause-early : goal.window-requires-clause-early
+window-requires-clause-early g c =
+    let same = ap (λ (k : PlainScenario × Network × ℕ × Ends). k.0.until) c.loop-begin.invariant.course in
+    let until = c.until-until.ensures.until in
+    let early : c.loop-begin.begin < c.until-until.result = c.loop-begin-test.true in
+    omega (arith, same)
+
+pub returns-in-Err-window-clause-windows : goal.returns-in-Err-window-clause-windows
+returns-in-Err-window-clause-windows g c = λ seed h.
+    let v = c.loop-begin.invariant in
+    let i = v.windows seed h in
+    let x = c.in-Err-window.fault in (
+      (
+        i.1,
+        subst (λ (k : PlainScenario × Network × ℕ × Ends). IsReached (setting_of k.0 k.1 seed) i.1) v.course
+            (reached (λ b. (goal.Member-dyn g (b.vtable, b.value)).plain b.value) c.loop-begin.engine v.stands seed i.0 i.1 i.2),
+        front_taken g.S.RowSink.took g.S.RowSink.part g.met.S.RowSink.part_none g.met.S.RowSink.part_more c.args.sink.now
+            c.loop-begin.sink i.1.trace i.3,
+      ),
+      subst (λ (k : PlainScenario × Network × ℕ × Ends). MayCome (setting_of k.0 k.1 seed) (ends_rule (setting_of k.0 k.1 seed) k.3) k.2 x)
+          v.course (c.in-Err-window.ensures.window seed i.0 i.1 i.2),
+    )
+
+pub returns-in-Err-rows-clause-windows : goal.returns-in-Err-rows-clause-windows
+returns-in-Err-rows-clause-windows g c = λ seed h.
+    let v = c.loop-begin.invariant in
+    let i = v.windows seed h in
+    let told = c.in-Ok.ensures.window seed i.0 i.1 i.2 in (
+      (
+        told.0,
+        subst (λ (k : PlainScenario × Network × ℕ × Ends). IsReached (setting_of k.0 k.1 seed) told.0) (c.in-Ok.ensures.course ∙ v.course)
+            (reached (λ b. (goal.Member-dyn g (b.vtable, b.value)).plain b.value) c.in-Ok.ran.0 c.in-Ok.ensures.stands seed (i.0 ++ i.1 ∷
+            []) told.0 told.1),
+        subst (λ (l : List Row). g.S.RowSink.part c.args.sink.now l c.rows-in-loop-begin.new.self) (sym told.2)
+            (g.met.S.RowSink.part_more c.args.sink.now c.loop-begin.sink c.rows-in-loop-begin.new.self i.1.trace c.in-Ok.ran.1.items i.3
+            c.in-Err-rows.ensures.rows),
+      ),
+      tt,
+    )
+
+pub loop-begin-smaller : goal.loop-begin-smaller
+loop-begin-smaller g c =
+    let more = c.in-Ok.ensures.later c.begin-begin-in-loop-begin.result c.begin-begin-in-loop-begin.ensures in
+    let early : c.loop-begin.begin < c.until-until.result = c.loop-begin-test.true in
+    omega arith
+
+pub loop-begin-preserved : goal.loop-begin-preserved
+loop-begin-preserved g c = record {
+  ready = c.in-Ok.ensures.ready;
+  stands = c.in-Ok.ensures.stands;
+  course = c.in-Ok.ensures.course ∙ c.loop-begin.invariant.course;
+  next = c.begin-begin-in-loop-begin.ensures;
+  device = g.met.S.RowSink.same_more c.args.sink.now c.loop-begin.sink c.rows-in-loop-begin.new.self c.loop-begin.invariant.device
+      c.in_default-rows.ensures.same;
+  live = c.in_default-rows.ensures.stage;
+  unfailed = c.in_default-rows.ensures.failures ∙ add-zero _ ∙ c.loop-begin.invariant.unfailed;
+  windows = λ seed h.
+      let i = c.loop-begin.invariant.windows seed h in
+      let e = c.loop-begin.engine in
+      let told = c.in-Ok.ensures.window seed i.0 i.1 i.2 in
+      let rule = rule_by e seed in
+      let calls = subst (λ l. g.C.Crew.handed c.args.crew.now l c.window.new.crew) (sym (call_more rule e.groups.cut i.0 i.1))
+      (g.met.C.Crew.handed_more _ _ _ _ _ i.4 told.3) in (
+        i.0 ++ i.1 ∷ [],
+        told.0,
+        told.1,
+        subst (λ (l : List Row). g.S.RowSink.took c.args.sink.now l c.rows-in-loop-begin.new.self) (sym told.2)
+            (g.met.S.RowSink.took_more c.args.sink.now c.loop-begin.sink c.rows-in-loop-begin.new.self i.1.trace c.in-Ok.ran.1.items i.3
+            c.in_default-rows.ensures.rows),
+        subst (λ (k : PlainScenario × Network × ℕ × Ends). g.C.Crew.handed c.args.crew.now
+            (calls_of (ends_rule (setting_of k.0 k.1 seed) k.3) k.2 (i.0 ++ i.1 ∷ [])) c.window.new.crew) (sym c.in-Ok.ensures.course)
+            calls,
+      );
+}
+
+pub returns-clause-windows : goal.returns-clause-windows
+returns-clause-windows g c = λ seed h.
+    let v = c.loop-begin.invariant in
+    let i = v.windows seed h in
+    let same = ap (λ (k : PlainScenario × Network × ℕ × Ends). k.0.until) v.course in
+    let until = c.until-until.ensures.until in
+    let no = c.loop-begin-test.false in
+    let last = is_last (λ b. (goal.Member-dyn g (b.vtable, b.value)).plain b.value) c.loop-begin.engine v.stands seed i.0 i.1 i.2
+    c.loop-begin.begin v.next (omega (arith, same)) in (
+      i.0,
+      i.1,
+      i.2,
+      subst (λ (k : PlainScenario × Network × ℕ × Ends). IsLast (setting_of k.0 k.1 seed) i.1) v.course last,
+      i.3,
+      subst (λ (k : PlainScenario × Network × ℕ × Ends). g.C.Crew.handed c.args.crew.now
+          (calls_of (ends_rule (setting_of k.0 k.1 seed) k.3) k.2 i.0) c.loop-begin.crew) v.course i.4,
+    )
+
+pub returns-in-Err-rows-clause-device : goal.returns-in-Err-rows-clause-device
+returns-in-Err-rows-clause-device g c = g.met.S.RowSink.same_more c.args.sink.now c.loop-begin.sink c.rows-in-loop-begin.new.self
+    c.loop-begin.invariant.device c.in-Err-rows.ensures.same

@@ -1,0 +1,70 @@
+//! How a run is cut, once it was checked.
+ghost use Rattle.std.specs.Prelude.{◌≡◌};
+ghost use Rattle.srm_scenario.specs.Plain.{network_of};
+ghost use Rattle.srm_engine.specs.Ends.{TellsCutting};
+
+use crate::ends::Ends;
+use crate::fault::RunFault;
+use crate::stream_fault::StreamFault;
+use crate::width::Windows;
+use srm_net::net::Net;
+use srm_scenario::scenario::Scenario;
+
+/// How a run is cut: it was checked that it may be cut so.
+#[derive(Drop)]
+pub(crate) struct Cutting {
+    /// How many cells a job has, 1 to 1,024.
+    pub(crate) cut: usize,
+    /// Where windows end.
+    pub(crate) ends: Ends,
+}
+
+/// Why a run may not be cut as was asked.
+#[derive(Clone, Copy, Debug, PartialEq, Eq)]
+pub(crate) enum CuttingFault {
+    /// A job was to have no cell, or more than 1,024.
+    BadCut,
+    /// Windows were to be no tick wide, or wider than the least delay of a link.
+    BadWidth,
+}
+
+impl Cutting {
+    /// How a run is cut that is to be cut so.
+    ///
+    /// # Errors
+    /// `BadCut` comes before `BadWidth`.
+    pub(crate) fn of(
+        scenario: &Scenario,
+        net: &Net,
+        asked: Windows,
+    ) -> Result<Cutting, CuttingFault>
+        requires network { net.now ≡ network_of scenario.now }
+        ensures { TellsCutting scenario.now net.now asked result }
+    {
+        if asked.cut == 0 || asked.cut > 1024 {
+            return Err(CuttingFault::BadCut);
+        }
+        let Some(ends) = Ends::of(scenario, net, asked.width) else {
+            return Err(CuttingFault::BadWidth);
+        };
+        let cut = asked.cut as usize;
+        Ok(Cutting { cut, ends })
+    }
+}
+
+/// What a run that may not be cut so answers: the refusal of the same name.
+impl From<CuttingFault> for StreamFault {
+    ghost use Rattle.std.specs.Prelude.{◌≡◌};
+    ghost use Rattle.srm_engine.specs.Faults.{cutting_refused};
+    ghost use Rattle.srm_engine.specs.declared.stream_fault.StreamFault.{StreamFault};
+
+    ghost from_gives = { λ fault told. told ≡ StreamFault.Run (cutting_refused fault) };
+
+    fn from(fault: CuttingFault) -> StreamFault {
+        let fault = match fault {
+            CuttingFault::BadCut => RunFault::BadCut,
+            CuttingFault::BadWidth => RunFault::BadWidth,
+        };
+        StreamFault::Run { fault }
+    }
+}

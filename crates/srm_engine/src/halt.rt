@@ -1,0 +1,11 @@
+//! Why a run that hands its rows on comes to no end.
+use crate::sink::SinkFault;
+
+/// Why a run that hands its rows on comes to no end.
+#[derive(Clone, Copy, Debug, PartialEq, Eq)]
+pub(crate) enum Halt<F> {
+    /// The run is refused.
+    Run(F),
+    /// The sink refused rows.
+    Sink(SinkFault),
+}

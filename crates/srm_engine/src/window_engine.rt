@@ -1,0 +1,211 @@
+//! The engine in windows.
+ghost use Rattle.std.specs.Prelude.{◌≡◌, ◌<◌, ◌+◌, ◌-◌, ◌^◌, ℕ, List, IfOk, map};
+ghost use Rattle.srm_scenario.specs.Plain.{network_of};
+ghost use Rattle.srm_model.specs.World.{World};
+ghost use Rattle.srm_engine.specs.Openings.{HoldOpeningRecords};
+ghost use Rattle.srm_engine.specs.Ends.{MayCut};
+ghost use Rattle.srm_engine.specs.Sinks.{IsOpen, stage_after, stops_in};
+ghost use Rattle.srm_engine.specs.Streams.{sink_in};
+ghost use Rattle.srm_engine.specs.WindowEngines.{Stands, course_of, OpensAt, BeginsNext, EndsNext, TellsWindow, TellsWindows};
+ghost use Rattle.srm_engine.specs.WindowEngines.{Finishes};
+
+use crate::cells::{finish_cells, open_cells};
+use crate::cutting::Cutting;
+use crate::ends::Ends;
+use crate::groups::{Groups, apart, jobs};
+use crate::halt::Halt;
+use crate::merge::merge;
+use crate::sink::RowSink;
+use crate::soonest::{least, look_again};
+use crate::window_fault::{WindowFault, window_fault};
+use srm_crew::crew::Crew;
+use srm_ledger::ledger::{Ledger, Seat};
+use srm_ledger::totals::Totals;
+use srm_member::exit::Exit;
+use srm_member::member::Member;
+use srm_member::row::Row;
+use srm_net::net::Net;
+use srm_scenario::scenario::Scenario;
+use std::alloc::{AllocError, Global};
+
+/// A run of a scenario in windows: the cells of all members in the groups of its jobs, the ledger with its whole seat, and where
+/// windows end.
+#[derive(Drop)]
+pub(crate) struct WindowEngine<'a> {
+    pub(crate) scenario: &'a Scenario,
+    pub(crate) net: &'a Net,
+    pub(crate) ledger: Ledger,
+    pub(crate) seat: Seat,
+    pub(crate) groups: Groups,
+    pub(crate) ends: Ends,
+}
+
+impl<'a> WindowEngine<'a> {
+    /// The cells of all members at the beginning, nothing counted.
+    pub(crate) fn open(
+        alloc: Global,
+        scenario: &'a Scenario,
+        net: &'a Net,
+        members: Vec<Box<dyn Member>>,
+        cutting: Cutting,
+    ) -> Result<WindowEngine<'a>, AllocError>
+        requires network { net.now ≡ network_of scenario.now }
+        requires cutting { MayCut net.now cutting }
+        requires boxes { (seed : ℕ) × HoldOpeningRecords scenario.now net.now seed (map (λ b. plain b) members.items) }
+        ensures course { IfOk result (λ e. course_of e ≡ (scenario.now, net.now, cutting.cut, cutting.ends)) }
+        ensures stands { IfOk result (λ e. Stands (λ b. plain b) e) }
+        ensures opened { IfOk result (λ e. (seed : ℕ) → HoldOpeningRecords scenario.now net.now seed
+            (map (λ b. plain b) members.items) → OpensAt (λ b. plain b) seed e) }
+    {
+        let _until = scenario.until();
+        let Ok((ledger, seat)) = Ledger::open(alloc, net.links().len()) else {
+            return Err(AllocError);
+        };
+        let cells = open_cells(alloc, scenario, members)?;
+        let Cutting { cut, ends } = cutting;
+        let groups = Groups::of(alloc, scenario, net, cells, cut)?;
+        Ok(WindowEngine {
+            scenario,
+            net,
+            ledger,
+            seat,
+            groups,
+            ends,
+        })
+    }
+
+    // When the next window begins: at the least of the next times of all cells, or with the end of the run.
+    fn begin(&self) -> u64
+        ensures { BeginsNext (λ b. plain (b.vtable, b.value)) self.now result }
+    {
+        least(self.groups.soon.as_slice(), self.scenario.until())
+    }
+
+    // When the window ends that begins at this tick.
+    fn end(&self, begin: u64) -> u64
+        requires stands { Stands (λ b. plain (b.vtable, b.value)) self.now }
+        requires begin { BeginsNext (λ b. plain (b.vtable, b.value)) self.now begin }
+        requires early { begin < self.now.scenario.now.until }
+        ensures { EndsNext (λ b. plain (b.vtable, b.value)) self.now result }
+    {
+        self.ends
+            .end(self.groups.soon.as_slice(), begin, self.scenario.until())
+    }
+
+    /// The window that begins at this tick: every cell runs alone to its end, the rows are merged, and every cell hears their packets.
+    fn window<C: Crew>(
+        self,
+        alloc: Global,
+        crew: &mut C,
+        begin: u64,
+    ) -> Result<(WindowEngine<'a>, Vec<Row>), WindowFault>
+        requires ready { C.ready crew.old }
+        requires stands { Stands (λ b. plain (b.vtable, b.value)) self }
+        requires begin { BeginsNext (λ b. plain (b.vtable, b.value)) self begin }
+        requires early { begin < self.scenario.now.until }
+        ensures ready { C.ready crew.new }
+        ensures course { IfOk result (λ ran. course_of ran.0 ≡ course_of self.entry) }
+        ensures stands { IfOk result (λ ran. Stands (λ b. plain (b.vtable, b.value)) ran.0) }
+        ensures later { IfOk result (λ ran. (next : ℕ) → BeginsNext (λ b. plain (b.vtable, b.value)) ran.0 next
+            → begin < next) }
+        ensures window { TellsWindow C.handed (λ b. plain (b.vtable, b.value)) self.entry crew.old result crew.new }
+    {
+        let end = self.end(begin);
+        let WindowEngine {
+            scenario,
+            net,
+            ledger,
+            seat,
+            groups,
+            ends,
+        } = self;
+        let Groups { cut, groups, soon } = groups;
+        let jobs = jobs(alloc, groups, end)?;
+        let (all, seat) = match crew.map(alloc, scenario, net, &ledger, seat, jobs) {
+            Ok(done) => done,
+            Err(fault) => return Err(window_fault(fault)),
+        };
+        let (groups, lists) = apart(alloc, all)?;
+        let mut soon = soon;
+        look_again(
+            scenario,
+            net,
+            groups.as_slice(),
+            cut,
+            end,
+            soon.as_mut_slice(),
+        );
+        let mut groups = Groups { cut, groups, soon };
+        let rows = merge(alloc, lists)?;
+        groups.hear(alloc, scenario, net, rows.as_slice())?;
+        let engine = WindowEngine {
+            scenario,
+            net,
+            ledger,
+            seat,
+            groups,
+            ends,
+        };
+        Ok((engine, rows))
+    }
+
+    /// Windows, one after the other, until nothing is pending before the end of the run. Their rows are handed to a sink: first none,
+    /// and then those of each window as it ends.
+    pub(crate) fn stream<C: Crew, S: RowSink>(
+        self,
+        alloc: Global,
+        crew: &mut C,
+        sink: &mut S,
+    ) -> Result<WindowEngine<'a>, Halt<WindowFault>>
+        requires ready { C.ready crew.old }
+        requires stands { Stands (λ b. plain (b.vtable, b.value)) self }
+        requires open { IsOpen (S.stage sink.old) }
+        requires failures { S.failures sink.old < 2 ^ 64 - 1 }
+        ensures ready { C.ready crew.new }
+        ensures stands { IfOk result (λ e. Stands (λ b. plain (b.vtable, b.value)) e) }
+        ensures course { IfOk result (λ e. course_of e ≡ course_of self.entry) }
+        ensures device { S.same sink.old sink.new }
+        ensures stage { S.stage sink.new ≡ stage_after (sink_in result) }
+        ensures failures { S.failures sink.new ≡ S.failures sink.old + stops_in (sink_in result) }
+        ensures windows { TellsWindows C.handed S.took S.part (λ b. plain (b.vtable, b.value)) self.entry crew.old
+            sink.old result sink.new crew.new }
+    {
+        if let Err(fault) = sink.rows(alloc, Vec::new(alloc)) {
+            return Err(Halt::Sink(fault));
+        }
+        let until = self.scenario.until();
+        let mut engine = self;
+        let mut begin = engine.begin();
+        while begin < until {
+            let (next, rows) = match engine.window(alloc, crew, begin) {
+                Ok(ran) => ran,
+                Err(fault) => return Err(Halt::Run(fault)),
+            };
+            if let Err(fault) = sink.rows(alloc, rows) {
+                return Err(Halt::Sink(fault));
+            }
+            begin = next.begin();
+            engine = next;
+        }
+        Ok(engine)
+    }
+
+    /// What each member ends with, and what was counted.
+    pub(crate) fn finish(self, alloc: Global) -> Result<(Vec<Exit>, Totals), AllocError>
+        requires stands { Stands (λ b. plain (b.vtable, b.value)) self }
+        ensures { IfOk result (λ ends. Finishes (λ b. plain (b.vtable, b.value)) self.entry ends.0.items ends.1) }
+    {
+        let WindowEngine {
+            ledger,
+            seat,
+            groups,
+            ..
+        } = self;
+        let exits = finish_cells(alloc, groups.into_cells(alloc)?)?;
+        let totals = match ledger.close(seat) {
+            Ok(totals) => totals,
+            Err(_) => unreachable!(),
+        };
+        Ok((exits, totals))
+    }
+}
