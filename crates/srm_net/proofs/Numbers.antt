@@ -52,6 +52,19 @@ distinct_from_apart (x ∷ xs) h = (other_all x xs h.0, distinct_from_apart xs h
 
 -- ---- appending
 
+pub in_append_left : (xs ys : List ℕ) (x : ℕ) → is_in xs x ≡ true → is_in (xs ++ ys) x ≡ true
+in_append_left [] ys x h = absurd (false≢true h)
+in_append_left (y ∷ xs) ys x h =
+    elim (in_cases y x xs h) [
+      | inl e ↦ subst (λ t. is_in (y ∷ (xs ++ ys)) t ≡ true) e (in_head y (xs ++ ys))
+      | inr e ↦
+          in_tail y x (xs ++ ys) (in_append_left xs ys x e)
+    ]
+
+pub in_append_right : (xs ys : List ℕ) (x : ℕ) → is_in ys x ≡ true → is_in (xs ++ ys) x ≡ true
+in_append_right [] ys x h = h
+in_append_right (y ∷ xs) ys x h = in_tail y x (xs ++ ys) (in_append_right xs ys x h)
+
 pub in_append_cases : (xs ys : List ℕ) (x : ℕ) → is_in (xs ++ ys) x ≡ true → (is_in xs x ≡ true) ⊎ (is_in ys x ≡ true)
 in_append_cases [] ys x h = inr h
 in_append_cases (y ∷ xs) ys x h =

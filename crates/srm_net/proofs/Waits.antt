@@ -12,7 +12,7 @@ use Rattle.srm_net.specs.Waiting.{targets, LeadsFrom, Wait, Adds}
 use Rattle.srm_net.specs.Ways.{is_known}
 use Rattle.srm_net.proofs.Lists.{all_get}
 use Rattle.srm_net.proofs.Marks.{KnownAre}
-use Rattle.srm_net.proofs.Numbers.{in_head, in_tail, in_cases, in_append_left, in_append_right, in_append_cases, one_missing, few_apart}
+use Rattle.srm_net.proofs.Numbers.{in_head, in_tail, in_append_left, in_append_right, in_cases, in_append_cases, one_missing, few_apart}
 use Rattle.srm_net.proofs.Growing.{attached_length, attached_apart, attached_below, beyond_new, beyond_old, joins_below, leaves_by}
 use Rattle.srm_net.proofs.Growing.{root_attached}
 
