@@ -20,6 +20,7 @@ from srm_lab.tables import read_trace
 
 ROOT = Path(__file__).resolve().parents[2]
 EXAMPLES = ROOT / "examples"
+STYLES = (ROOT / "python/src/srm_lab/page/assets/page.css").read_text()
 LATE = """version = 1
 until = 100
 c1 = 1000
@@ -137,3 +138,26 @@ def test_parts_of_the_page_are_filled_in_once():
     assert filled("<{{a}}{{b}}>", {"a": "{{b}}", "b": "x"}) == "<{{b}}x>"
     with pytest.raises(ScenarioError):
         in_script("</script>")
+
+
+def luminance(colour):
+    """Relative luminance, as the Web Content Accessibility Guidelines (WCAG 2) define it."""
+    parts = (int(colour[at:at + 2], 16) / 255 for at in (1, 3, 5))
+    linear = [part / 12.92 if part <= 0.04045 else ((part + 0.055) / 1.055) ** 2.4 for part in parts]
+    return sum(weight * part for weight, part in zip((0.2126, 0.7152, 0.0722), linear))
+
+
+def contrast(one, other):
+    dark, light = sorted(map(luminance, (one, other)))
+    return (light + 0.05) / (dark + 0.05)
+
+
+@pytest.mark.parametrize("block", [":root {", ':root[data-theme="dark"] {'])
+def test_contrast_of_texts_and_marks(block):
+    """WCAG 2, level AA: 4.5 for texts, 3 for what a picture is understood by and for the edges of fields."""
+    of = dict(re.findall(r"--(\w+): (#[0-9a-f]{6})", STYLES.split(block)[1].split("}")[0]))
+    for text in ("ink", "soft", "accent", "cross"):
+        assert min(contrast(of[text], of["paper"]), contrast(of[text], of["panel"])) >= 4.5, text
+    assert contrast(of["onaccent"], of["accent"]) >= 4.5
+    for mark in ("data", "request", "repair", "session", "lost", "lacks", "node", "edge"):
+        assert contrast(of[mark], of["paper"]) >= 3, mark

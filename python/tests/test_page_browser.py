@@ -3,6 +3,7 @@ import csv
 import gzip
 import io
 import json
+import os
 import shutil
 import time
 from pathlib import Path
@@ -101,6 +102,10 @@ def test_opens_plays_and_has_the_programs_tables(browser, make_page, srm_lab, na
 
 def shown_cells(browser, table):
     browser.execute_script(f"srmPage.showTable('{table}')")
+    return shown_cells_now(browser)
+
+
+def shown_cells_now(browser):
     return browser.execute_script("return Array.from(document.querySelectorAll('#grid .body .line'), "
                                   "(line) => Array.from(line.children, (cell) => cell.textContent))")
 
@@ -199,6 +204,49 @@ def test_keys(browser, make_page):
     assert errors(browser) == []
 
 
+def click(browser, selector):
+    browser.execute_script("document.querySelector(arguments[0]).click()", selector)
+
+
+def test_a_click_sorts_a_table_and_selects_in_the_picture(browser, make_page):
+    show(browser, make_page(EXAMPLES / "outage-in-mid-session.toml"), "table=members")
+    heard = "#grid [role=columnheader]:nth-child(7)"
+    click(browser, f"{heard} button")
+    assert [line[6] for line in shown_cells_now(browser)] == ["4", "4", "6"]
+    click(browser, f"{heard} button")
+    assert [line[6] for line in shown_cells_now(browser)] == ["6", "4", "4"]
+    assert browser.execute_script(f"return document.querySelector('{heard}').ariaSort") == "descending"
+    click(browser, "#grid .body .line")
+    assert browser.execute_script("return srmPage.views.network.picked") == [1]
+    browser.execute_script("srmPage.showTable('losses')")
+    click(browser, "#grid .body .line:last-child")
+    assert browser.execute_script("return srmPage.views.network.picked") == [2]
+    assert browser.execute_script("return document.querySelector('#why h2').textContent") == "Operation 0/0/2"
+    assert errors(browser) == []
+
+
+def test_the_story_of_a_loss(browser, make_page):
+    """What docs/TUTORIAL.md tells of such a chain, with the numbers of the tables of examples/."""
+    show(browser, make_page(EXAMPLES / "chain-of-five-one-loss.toml"), "select=loss:0/0/0")
+    story = browser.execute_script("return document.querySelector('#why .rule').textContent")
+    assert "Members 2, 3 and 4 lost it, and found out at ticks 12 to 14." in story
+    assert "Member 2 asked first, at tick 14, which suppressed the request of members 3 and 4." in story
+    assert "All of them had it by tick 19, 0.625 to 1.25 round trips to the source after finding out." in story
+
+
+def test_little_motion(browser, make_page):
+    """Ticks with events one after the other, some few a second, and no packet between two nodes."""
+    reduce = [{"name": "prefers-reduced-motion", "value": "reduce"}]
+    browser.execute_cdp_cmd("Emulation.setEmulatedMedia", {"features": reduce})
+    try:
+        show(browser, make_page(EXAMPLES / "two-nodes.toml"))
+        press(browser, " ")
+        wait_for(browser, "return !srmPage.player.isPlaying || srmPage.player.tick > 0")
+        assert browser.execute_script("return srmPage.player.tick") in (3, 5, 8)
+    finally:
+        browser.execute_cdp_cmd("Emulation.setEmulatedMedia", {"features": []})
+
+
 def large(draws):
     """A tree of 1,024 members, with losses at nine links."""
     lines = ['version = 2', 'until = 10000000', 'c1 = 2000', 'c2 = 2000', 'd1 = 1000', 'd2 = 1000',
@@ -213,8 +261,24 @@ def large(draws):
     return "\n".join([*lines, "]"])
 
 
-def frames_a_second(browser):
-    """Of three seconds of play; others that work on the machine make it less."""
+def processes(pid):
+    """A process and those that it started, directly or not."""
+    found = [pid]
+    for one in found:
+        for thread in Path(f"/proc/{one}/task").glob("*/children"):
+            found += map(int, thread.read_text().split())
+    return found
+
+
+def seconds_of_processor(browser):
+    """What Chromium's processes have used in all, which is more than any one processor had to give."""
+    stats = (Path(f"/proc/{pid}/stat") for pid in processes(browser.service.process.pid))
+    fields = (stat.read_text().rsplit(")", 1)[1].split() for stat in stats if stat.exists())
+    return sum(int(of[11]) + int(of[12]) for of in fields) / os.sysconf("SC_CLK_TCK")
+
+
+def frames_of_play(browser):
+    """How many frames three seconds of play have; others that work on the machine make it less."""
     return browser.execute_async_script("""
         const done = arguments[0];
         let frames = 0;
@@ -222,14 +286,21 @@ def frames_a_second(browser):
         srmPage.player.play();
         const count = (now) => {
           frames++;
-          if (now - begin > 3000) { srmPage.player.pause(); done(1000 * frames / (now - begin)); }
+          if (now - begin > 3000) { srmPage.player.pause(); done(frames); }
           else requestAnimationFrame(count);
         };
         requestAnimationFrame(count);""")
 
 
+def speed_of_play(browser):
+    """Frames in a second of the clock, and in a second of processor."""
+    begin, used = time.monotonic(), seconds_of_processor(browser)
+    frames = frames_of_play(browser)
+    return frames / (time.monotonic() - begin), frames / (seconds_of_processor(browser) - used)
+
+
 def test_a_run_of_1024_members_and_250000_rows(browser, make_page, srm_lab, tmp_path):
-    """It opens in 3 seconds, plays at 30 frames a second, and is small."""
+    """It opens in 3 seconds, plays at 30 frames a second, and is small; what it takes of processors is printed."""
     scenario = tmp_path / "large.toml"
     scenario.write_text(large(220))
     trace = srm_lab(scenario.read_text())
@@ -237,11 +308,12 @@ def test_a_run_of_1024_members_and_250000_rows(browser, make_page, srm_lab, tmp_
     path = make_page(scenario)
     room = path.stat().st_size - len(library().encode())
     assert room <= 5 * len(gzip.compress(trace.encode(), 9))
-    begin = time.monotonic()
+    begin, used = time.monotonic(), seconds_of_processor(browser)
     show(browser, path)
-    opened = time.monotonic() - begin
-    frames = max(frames_a_second(browser) for _ in range(3))
-    print(f"opened in {opened:.2f} s, {frames:.0f} frames a second, {room} bytes")
+    opened, used = time.monotonic() - begin, seconds_of_processor(browser) - used
+    frames, frames_used = max(speed_of_play(browser) for _ in range(3))
+    print(f"opened in {opened:.2f} s, {used:.2f} of processor; {frames:.0f} frames a second, "
+          f"{frames_used:.0f} in a second of processor; {room} bytes")
     for table in ("members", "losses", "links"):
         must = srm_lab(scenario.read_text(), "--show", table)
         assert browser.execute_script(f"return srmPage.model.csv('{table}')") == must, table

@@ -1,5 +1,5 @@
 """Which rows of a run stand in a page, and what is said of those that do not."""
-from dataclasses import dataclass, field
+from dataclasses import dataclass
 
 from .run import Event, Name
 
@@ -23,7 +23,6 @@ class Part:
     events: list[Event]
     names: set[Name] | None = None
     too_many: bool = False
-    seen: list[str] = field(default_factory=list)
 
 
 def part_of(events: list[Event], cut: Cut) -> Part:

@@ -1,6 +1,7 @@
 // The page put together.
 
-const PANEL_INTERVAL = 180;
+// milliseconds between two drawings of the texts while it plays
+const PANEL_INTERVAL = 250;
 const ZOOM = 1.6;
 
 /** The page. */
@@ -187,11 +188,12 @@ class App {
     this._leaveRow();
     this.views[this.view].follow();
     this.slider.draw();
-    this.controls.show();
     const now = performance.now();
-    if (player.isPlaying && now - (this.lastPanels ?? 0) < PANEL_INTERVAL) return;
-    this.lastPanels = now;
-    this._panels();
+    if (!player.isPlaying || now - (this.lastPanels ?? 0) >= PANEL_INTERVAL) {
+      this.lastPanels = now;
+      this._panels();
+    }
+    this.controls.show();
   }
 
   /** A row that is no more the present one is selected no longer. */
@@ -202,8 +204,8 @@ class App {
   }
 
   _panels() {
-    this.why.show(this.selection);
     if (this.table === "rows") this.tables.reveal();
+    this.why.show(this.selection);
     if (this.player.isPlaying) return;
     this.tell(this._inWords());
     this.views.network.describe();
@@ -219,7 +221,7 @@ class App {
 
   /** Says something to those who do not see the page. */
   tell(text) {
-    if (byId("told").textContent !== text) byId("told").textContent = text;
+    setText(byId("told"), text);
   }
 
   _filtered() {

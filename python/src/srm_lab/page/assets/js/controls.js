@@ -30,9 +30,10 @@ class Controls {
   show() {
     const { player } = this;
     const tick = Math.floor(player.tick);
-    this.tick.textContent = `Tick ${grouping(tick)} · event ${grouping(player.rows)} of ${grouping(player.trace.length)}`;
-    this.speed.textContent = `${d3.format(",~r")(player.speed)} ${player.speed === 1 ? "tick" : "ticks"}/s`;
-    this.playButton.textContent = player.isPlaying ? "❚❚ Pause" : "▶ Play";
+    const events = `event ${grouping(player.rows)} of ${grouping(player.trace.length)}`;
+    setText(this.tick, `Tick ${grouping(tick)} · ${events}`);
+    setText(this.speed, `${d3.format(",~r")(player.speed)} ${player.speed === 1 ? "tick" : "ticks"}/s`);
+    setText(this.playButton, player.isPlaying ? "❚❚ Pause" : "▶ Play");
     this.playButton.title = `${player.isPlaying ? "Pause" : "Play"} (space)`;
     this.skipBox.checked = player.skips;
   }

@@ -11,6 +11,11 @@ function element(tag, attributes = {}, ...children) {
   return made;
 }
 
+/** Gives an element a text, if it has another: what stays the same need not be laid out anew. */
+function setText(box, text) {
+  if (box.textContent !== text) box.textContent = text;
+}
+
 /** The element of an id. */
 function byId(id) {
   return document.getElementById(id);

@@ -78,8 +78,6 @@ function timerEndMark(context, theme, kind, how, x, y) {
   context.fill();
 }
 
-const MOST_EDGED = 150;
-
 /** How packets of one kind are drawn as lines. */
 const DASHES = [[], [7, 3], [2, 3], [1, 4]];
 
@@ -124,25 +122,17 @@ function drawMember(context, theme, role, state, x, y, r) {
   if (style.crossed) cross(context, x, y, 0.7 * r, theme.soft, 1.5);
 }
 
-/** Draws a packet. */
-function drawPacket(context, theme, kind, x, y, r) {
+/** Fills a packet's mark. */
+function fillPacket(context, theme, kind, x, y, r) {
   context.beginPath();
   packetOutline(context, kind, x, y, r);
   context.fillStyle = theme.kinds[kind];
   context.fill();
-  context.lineWidth = 1;
-  context.strokeStyle = theme.paper;
-  context.stroke();
 }
 
-/** Draws packets of one kind at once. */
-function drawPackets(context, theme, kind, places, r) {
-  if (!places.length) return;
-  context.beginPath();
-  for (const [x, y] of places) packetOutline(context, kind, x, y, r);
-  context.fillStyle = theme.kinds[kind];
-  context.fill();
-  if (places.length > MOST_EDGED) return;
+/** Draws a packet, with an edge that sets it off from others. */
+function drawPacket(context, theme, kind, x, y, r) {
+  fillPacket(context, theme, kind, x, y, r);
   context.lineWidth = 1;
   context.strokeStyle = theme.paper;
   context.stroke();

@@ -2,6 +2,7 @@
 
 const MOST_LABELLED_PACKETS = 8;
 const LABEL_HEIGHT = 14;
+const MOST_EDGED = 150;
 
 /** Draws packets at the present moment onto a network's view. */
 class NetworkPackets {
@@ -29,8 +30,18 @@ class NetworkPackets {
       if (view.filters.shows(packet) && packet.row < states.rows) this._follow(context, packet);
     }
     const r = Math.max(2.2, Math.min(6.5, view.radius * 0.55));
-    this.places.forEach((places, kind) => drawPackets(context, view.theme, kind, places, r));
+    this.places.forEach((places, kind) => this._drawKind(context, kind, places, r));
     if (this.labels.length <= MOST_LABELLED_PACKETS && view.radius >= 8) this._drawLabels(context, r);
+  }
+
+  /** Packets of one kind: where they are many, without an edge. */
+  _drawKind(context, kind, places, r) {
+    const { theme } = this.view;
+    const draw = places.length <= MOST_EDGED
+      ? (to, x, y) => drawPacket(to, theme, kind, x, y, r)
+      : (to, x, y) => fillPacket(to, theme, kind, x, y, r);
+    const key = `packet ${kind} ${r} ${places.length <= MOST_EDGED}`;
+    this.view.sprites.copyTo(context, places, { key, reach: 1.3 * r + 2, draw });
   }
 
   _fateOf(packet) {
@@ -61,7 +72,9 @@ class NetworkPackets {
   _move(packet, at, part) {
     const place = this._on(packet, at, part);
     this.places[packet.kind].push(place);
-    if (this.labels.length <= MOST_LABELLED_PACKETS) this.labels.push({ packet, place });
+    if (this.labels.length > MOST_LABELLED_PACKETS) return;
+    const { near, far } = this.network.routeOf(packet.sender);
+    this.labels.push({ packet, place, isSteep: this.view.isSteep(near[at], far[at]) });
   }
 
   /** A packet that came to the link that takes it out: it stops in the middle, at a cross. */
@@ -77,7 +90,7 @@ class NetworkPackets {
     if (view.radius >= 4 && this.lanes[packet.id] === 0) view.note(context, near[at], far[at], 1, "dropped");
   }
 
-  /** The operations that packets are about, above them; where several stand at one place, once. */
+  /** The operations that packets are about, above them, or left of them on steep links; where several meet, once. */
   _drawLabels(context, r) {
     const { view } = this;
     const { trace } = view.model;
@@ -85,11 +98,13 @@ class NetworkPackets {
     context.font = `11px ${TEXT_FONT}`;
     context.textAlign = "center";
     context.textBaseline = "middle";
-    for (const { packet, place: [x, y] } of this.labels) {
+    for (const { packet, place: [x, y], isSteep } of this.labels) {
       const text = packet.name >= 0 ? trace.nameText(packet.name) : "session";
-      const top = y - r - 10 - LABEL_HEIGHT * this.lanes[packet.id];
-      const key = `${text} ${Math.round(x / 8)} ${Math.round(top / 8)}`;
-      if (!labelled.has(key)) view.plate(context, text, x, top);
+      const lane = LABEL_HEIGHT * this.lanes[packet.id];
+      const left = isSteep ? x - r - 6 - context.measureText(text).width / 2 : x;
+      const top = isSteep ? y - lane : y - r - 10 - lane;
+      const key = `${text} ${Math.round(x / 8)} ${Math.round(y / 8)}`;
+      if (!labelled.has(key)) view.plate(context, text, left, top);
       labelled.add(key);
     }
   }

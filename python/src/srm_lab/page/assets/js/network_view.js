@@ -6,6 +6,8 @@ const LEAST_RADIUS = 1.6;
 const MOST_SPACING = 120;
 const NETWORK_MARGIN = 46;
 const MOST_PICKED_LABELS = 12;
+// in the order in which small members are drawn
+const SMALL_STATES = [STATE.absent, STATE.left, STATE.rests, STATE.plans, STATE.lacks, STATE.asked];
 
 /** Draws the network at a moment. */
 class NetworkView {
@@ -18,6 +20,7 @@ class NetworkView {
     this.picked = [];
     this.surface = new Surface(canvas, () => this.resize());
     this.zoom = zoomOn(this.surface, [0.5, 60], (transform) => this._zoomed(transform), (place) => onPick(this.at(place)));
+    this.sprites = new Sprites(this.surface);
     this.packets = new NetworkPackets(this);
     this.resize();
   }
@@ -48,6 +51,12 @@ class NetworkView {
     const most = Math.max(this.room, READABLE_RADIUS);
     this.radius = Math.max(LEAST_RADIUS, Math.min(MOST_RADIUS, most, 0.36 * this.memberSpacing * k));
     this.background = null;
+    this.sprites.clear();
+  }
+
+  /** Whether members are too small for their numbers. */
+  get isSmall() {
+    return this.radius < 5;
   }
 
   zoomBy(factor) {
@@ -65,17 +74,18 @@ class NetworkView {
 
   redrawAll() {
     this.background = null;
+    this.sprites.clear();
     this.draw();
   }
 
   draw() {
     if (this.surface.isHidden) return;
-    const isSmall = this.radius < 5;
     const context = this.surface.cleared(this.theme.paper);
-    this.surface.paste(isSmall ? this._still() : this._links());
+    this.surface.paste(this._links());
     this._selectedLink(context);
     this._outages(context);
-    if (!isSmall) this._members(context);
+    if (this.isSmall) this._smallMembers(context);
+    else this._members(context);
     this._rings(context);
     this._labels(context);
     this.packets.draw(context);
@@ -83,7 +93,7 @@ class NetworkView {
 
   // ---- links and nodes ----------------------------------------------------------------
 
-  /** Links and nodes without a member, drawn once for a place. */
+  /** Links and what else stays as it is, drawn once for a place. */
   _links() {
     if (this.background) return this.background;
     const { canvas, context } = this.surface.copy(this.theme.paper);
@@ -97,6 +107,7 @@ class NetworkView {
     context.stroke();
     this._emptyNodes(context);
     this._linkNumbers(context);
+    if (this.isSmall) this._memberPlaces(context);
     this.background = canvas;
     return canvas;
   }
@@ -113,7 +124,8 @@ class NetworkView {
     context.fill();
   }
 
-  _isSteep(a, b) {
+  /** Whether a link runs rather down than across. */
+  isSteep(a, b) {
     return Math.abs(this.y[a] - this.y[b]) > Math.abs(this.x[a] - this.x[b]);
   }
 
@@ -124,7 +136,7 @@ class NetworkView {
     context.font = `11px ${TEXT_FONT}`;
     context.textBaseline = "middle";
     this.network.links.forEach(({ a, b }, link) => {
-      const isSteep = this._isSteep(a, b);
+      const isSteep = this.isSteep(a, b);
       context.textAlign = isSteep ? "left" : "center";
       const along = [0.7 * this.x[a] + 0.3 * this.x[b] + 9, 0.7 * this.y[a] + 0.3 * this.y[b]];
       context.fillText(`link ${link}`, ...(isSteep ? along : this.beside(a, b, 0.3, 14)));
@@ -166,7 +178,7 @@ class NetworkView {
   /** A word at the middle of a link: below or right of it (1), or above or left (-1), clear of a cross there. */
   note(context, from, to, side, text) {
     const [x, y] = [(this.x[from] + this.x[to]) / 2, (this.y[from] + this.y[to]) / 2];
-    const isSteep = this._isSteep(from, to);
+    const isSteep = this.isSteep(from, to);
     context.font = `bold 12px ${TEXT_FONT}`;
     context.textAlign = !isSteep ? "center" : side > 0 ? "left" : "right";
     context.textBaseline = "middle";
@@ -182,40 +194,46 @@ class NetworkView {
       drawMember(context, this.theme, role, states.of(member), this.x[node], this.y[node], this.radius));
   }
 
-  /** Links with many small members, drawn anew only where a member's state changed. */
-  _still() {
+  /** Members as small marks. Those that hold all stand on the background; those that lack something come last. */
+  _smallMembers(context) {
     const { states } = this.model;
-    const background = this._links();
-    const seen = Uint8Array.from(this.network.members, (_, member) => states.of(member));
-    const isSame = this.still?.background === background && seen.every((state, member) => state === this.still.seen[member]);
-    if (isSame) return this.still.canvas;
-    const { canvas, context } = this.surface.copy(this.theme.paper);
-    this.surface.paste(background, context);
-    this._manyMembers(context, seen);
-    this.still = { canvas, seen, background };
-    return canvas;
-  }
-
-  /** Members as small marks, those of one state at once; those that lack something are drawn larger, and last. */
-  _manyMembers(context, states) {
-    const byState = grouped(this.network.members, (_, member) => states[member]);
-    for (const state of Array.from(byState.keys()).sort((one, other) => isLacking(one) - isLacking(other))) {
-      this._smallMarks(context, state, byState.get(state));
+    const places = STATES.map(() => new Map());
+    this.network.members.forEach(({ node, role }, member) => {
+      const state = states.of(member);
+      if (state === STATE.holds) return;
+      if (!places[state].has(role)) places[state].set(role, []);
+      places[state].get(role).push([this.x[node], this.y[node]]);
+    });
+    for (const state of SMALL_STATES) {
+      for (const [role, some] of places[state]) this.sprites.copyTo(context, some, this._smallMark(state, role));
     }
   }
 
-  _smallMarks(context, state, members) {
+  /** The mark of small members of a state and a role. */
+  _smallMark(state, role) {
+    const r = role === "sender" ? Math.max(4, this.radius) : this.radius;
+    const size = isLacking(state) ? Math.max(3.2, 1.3 * r) : r;
+    const draw = (context, x, y) => this._drawSmall(context, state, role, [x, y], size);
+    return { key: `${state} ${role}`, reach: 1.3 * size + 2, draw };
+  }
+
+  _drawSmall(context, state, role, [x, y], size) {
     const style = stateStyle(this.theme, state);
-    const r = isLacking(state) ? Math.max(3.2, this.radius * 1.3) : this.radius;
     context.beginPath();
-    for (const { node, role } of members) {
-      roleOutline(context, role, this.x[node], this.y[node], role === "sender" ? Math.max(4, r) : r);
-    }
+    roleOutline(context, role, x, y, size);
     context.fillStyle = state === STATE.holds ? this.theme.node : style.fill;
     context.fill();
     context.strokeStyle = style.ring;
     context.lineWidth = isLacking(state) ? 1.2 : 0.5;
     context.stroke();
+  }
+
+  /** All members as if they held all, for the background. */
+  _memberPlaces(context) {
+    for (const { node, role } of this.network.members) {
+      const size = role === "sender" ? Math.max(4, this.radius) : this.radius;
+      this._drawSmall(context, STATE.holds, role, [this.x[node], this.y[node]], size);
+    }
   }
 
   /** Rings around the members that the selection concerns. */

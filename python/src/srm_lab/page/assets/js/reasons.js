@@ -15,20 +15,33 @@ class Reasons {
     this.plans = history.timers.filter((timer) => timer.kind === KIND.repair && timer.name === name);
   }
 
-  /** A request: whom it held back, who ignored it, whom it made plan a repair, and who planned already or rested. */
+  /**
+   * A request: whom it suppressed, who backed off (those and others that had asked before), who ignored it, whom it made
+   * plan a repair, and who planned already or rested.
+   */
   _request(packet) {
     const heard = Array.from(this.trace.hearersOf(packet));
     const membersWith = (result) => heard.filter((row) => this.trace.result[row] === result)
       .map((row) => this.trace.member[row]);
+    const asked = new Set(this._askedBefore(heard));
     return {
       packet,
-      heldBack: membersWith(RESULT.back),
+      suppressed: membersWith(RESULT.back).filter((member) => !asked.has(member)),
+      backedOff: membersWith(RESULT.back),
       ignored: membersWith(RESULT.hold),
       planned: membersWith(RESULT.plan),
       busy: membersWith(RESULT.busy),
       resting: membersWith(RESULT.rest),
       droppedAt: this.droppedAt(packet),
     };
+  }
+
+  /** The members of some rows that asked for the operation themselves before these. */
+  _askedBefore(rows) {
+    const { trace } = this;
+    const own = this.losses.filter((loss) => loss.requests > 0);
+    const first = new Map(own.map((loss) => [loss.member, loss.timers.find((timer) => timer.how === "expired").end]));
+    return rows.filter((row) => first.get(trace.member[row]) < row).map((row) => trace.member[row]);
   }
 
   /** A repair: who took the operation from it, and whose repair timer it ended. */

@@ -19,17 +19,18 @@ function lossSentence({ losses, trace }) {
 function requestSentence({ requests }) {
   if (!requests.length) return "Nobody asked for it.";
   const [first] = requests;
-  const heldBack = first.heldBack.length ? `, which held back ${membersInWords(first.heldBack)}` : "";
-  const more = requests.length > 1 ? `, and ${counted(requests.length - 1, "more request")} followed` : "";
-  return `Member ${first.packet.sender} asked first, at tick ${grouping(first.packet.time)}${heldBack}${more}.`;
+  const { packet, suppressed } = first;
+  const heldBack = suppressed.length ? `, which suppressed the request of ${membersInWords(suppressed)}` : "";
+  const more = requests.length > 1 ? `; ${counted(requests.length - 1, "more request")} followed` : "";
+  return `Member ${packet.sender} asked first, at tick ${grouping(packet.time)}${heldBack}${more}.`;
 }
 
 function repairSentence({ repairs, plans, requests }) {
   if (!repairs.length) return requests.length ? "Nobody answered." : "";
   const [{ packet }] = repairs;
   const planners = Array.from(new Set(plans.map((plan) => plan.member)));
-  const planned = planners.length > 1 ? `${capital(membersInWords(planners))} planned a repair; member` : "Member";
-  const more = repairs.length > 1 ? `, and ${counted(repairs.length - 1, "more repair")} followed` : "";
+  const planned = planners.length > 1 ? `${capital(membersInWords(planners))} planned a repair, and member` : "Member";
+  const more = repairs.length > 1 ? `; ${counted(repairs.length - 1, "more repair")} followed` : "";
   return `${planned} ${packet.sender} answered first, at tick ${grouping(packet.time)}${more}.`;
 }
 
@@ -55,7 +56,7 @@ function recoverySentence(reasons) {
 /** Some members in words: by their numbers where they are few. */
 function membersInWords(members) {
   const sorted = members.slice().sort((one, other) => one - other);
-  if (sorted.length > MOST_IN_A_STORY) return counted(sorted.length, "member");
+  if (sorted.length > MOST_IN_A_STORY) return `${grouping(sorted.length)} members`;
   if (sorted.length === 1) return `member ${sorted[0]}`;
   return `members ${sorted.slice(0, -1).join(", ")} and ${sorted[sorted.length - 1]}`;
 }

@@ -2,6 +2,7 @@
 
 const TABLE_NAMES = ["rows", "members", "losses", "links"];
 const ROW_WIDTHS = ["1fr", "1.1fr", "1fr", "1.1fr", "0.8fr", "0.6fr", "0.9fr"];
+const LOSS_WIDTHS = ["1fr", "0.9fr", "0.7fr", "0.95fr", "1.1fr", "1.2fr", "1.2fr"];
 const MEMBERS_WIDTH = 900;
 const LOSS_DELAY = LOSS_COLUMNS.indexOf("delay");
 
@@ -79,7 +80,7 @@ class TablePanel {
       none: "Nobody lost anything.",
       items: this.model.tables.losses,
       columns: LOSS_COLUMNS.map((title, at) => ({
-        title, value: ({ values }) => values[at], isNumber: true, width: at === LOSS_DELAY ? "1.4fr" : "1fr",
+        title, value: ({ values }) => values[at], isNumber: true, width: LOSS_WIDTHS[at],
         key: at === LOSS_DELAY ? ({ values }) => ratioIn(values[at]) : undefined,
       })),
       onPick: ({ loss }) => this.onPick({ kind: "loss", name: loss.name, member: loss.member }),

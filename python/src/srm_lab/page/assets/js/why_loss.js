@@ -54,10 +54,12 @@ class WhyLoss {
     const { refs } = this;
     const { requests } = reasons;
     if (!requests.length) return [];
-    const heads = ["tick", "member", "packet", "held back", "ignored by", "made plan", "plan already", "rested", "dropped at"];
+    const heads = ["tick", "member", "packet", "suppressed", "backed off", "ignored by", "made plan",
+      "plan already", "rested", "dropped at"];
     const lines = requests.map((request) => [
       refs.sendingOf(request.packet), refs.member(request.packet.sender), refs.packet(request.packet),
-      ...[request.heldBack, request.ignored, request.planned, request.busy, request.resting].map((it) => refs.members(it)),
+      ...[request.suppressed, request.backedOff.filter((member) => !request.suppressed.includes(member)), request.ignored,
+        request.planned, request.busy, request.resting].map((it) => refs.members(it)),
       refs.links(request.droppedAt),
     ]);
     return [element("h3", {}, `Who asked: ${counted(requests.length, "request")}`), smallTable(heads, lines)];
