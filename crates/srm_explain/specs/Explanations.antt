@@ -1,5 +1,10 @@
 -- What is told of a fault after its line.
-use Rattle.std.specs.Prelude.{◌≡◌, ℕ, List, [], ◌∷◌, ◌++◌, codes}
+use Rattle.std.specs.Prelude.{◌≡◌, ◌⊎◌, ℕ, List, [], ◌∷◌, ◌++◌, Some, codes}
+use Rattle.toml.specs.Data.{Members}
+use Rattle.toml.specs.Parse.{parse_document}
+use Rattle.srm_scenario.specs.declared.fault.Part.{Part}
+use Rattle.srm_explain.specs.declared.finding.Finding.{Finding}
+use Rattle.srm_explain.specs.Findings.{rules_in, FindsAt, TellsNotes}
 use Rattle.srm_scenario.specs.declared.fault.ScenarioFault.{ScenarioFault}
 use Rattle.srm_scenario.specs.declared.fault.ScenarioFault.TheVariants.{NoMemory, ReadFault, TooLong, NotToml, BadKey}
 use Rattle.srm_scenario.specs.declared.fault.ScenarioFault.TheVariants.{NotTree, BadMember, BadDraw, BadSession}
@@ -25,6 +30,18 @@ general_sentence (BadDrop place) = codes "a drop is of a link and a member that 
 general_sentence (BadOutage place) = codes "an outage is of a link that there is, and ends after it begins"
 general_sentence NoMemory = codes "there was no memory left"
 
--- these lines explain why a text is refused with this fault
+-- lines tell, below some line of the text or none, what is wrong at this place of a part of a document
+abbrev pub TellsKey : Part → ℕ → Members → List ℕ → Type 0
+TellsKey p place top told =
+    (found : Finding) × FindsAt (rules_in p top) p place top found
+    × (notes : List ℕ) × TellsNotes (rules_in p top) p top found notes
+    × (picture : List ℕ) × (told ≡ picture ++ notes)
+
+-- these lines explain why a text is refused with this fault. What they say of a text that is no TOML are the words of
+-- the library that reads it
 abbrev pub Explains : ScenarioFault → List ℕ → List ℕ → Type 0
+Explains NotToml text told = Unit {0}
+Explains (BadKey p place) text told =
+    ((top : Members) × (parse_document text ≡ Some top) × TellsKey p place top told)
+    ⊎ (told ≡ note (general_sentence (BadKey p place)))
 Explains fault text told = told ≡ note (general_sentence fault)

@@ -2,4 +2,13 @@
 #![tactic(auto)]
 
 pub mod explanation;
+mod finding;
 mod general;
+mod keys;
+mod locate;
+mod nearest;
+mod picture;
+mod rules_in;
+mod sentence;
+mod span;
+mod token;

@@ -2,9 +2,9 @@
 
 /// How long a packet takes over each link of a topology, in ticks.
 #[derive(Clone, Copy, Debug, PartialEq, Eq)]
-pub(crate) struct Delays {
+pub struct Delays {
     /// From a node's parent to the node.
-    pub(crate) delay: u64,
+    pub delay: u64,
     /// From a node to its parent.
-    pub(crate) back: u64,
+    pub back: u64,
 }

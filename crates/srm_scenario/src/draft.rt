@@ -17,34 +17,34 @@ use toml::Table;
 
 /// A scenario as its table gives it, before its parts are held against one another.
 #[derive(Debug, Drop)]
-pub(crate) struct Draft {
+pub struct Draft {
     /// When the run ends, in ticks.
-    pub(crate) until: u64,
+    pub until: u64,
     /// The constants of the timers.
-    pub(crate) constants: Constants,
+    pub constants: Constants,
     /// The topology that the table names.
-    pub(crate) topology: Option<Topology>,
+    pub topology: Option<Topology>,
     /// How many nodes there are.
-    pub(crate) nodes: u16,
+    pub nodes: u16,
     /// The delays of each link of the topology, in ticks.
-    pub(crate) delays: Delays,
+    pub delays: Delays,
     /// The links that the table lists.
-    pub(crate) links: Vec<LinkSpec>,
+    pub links: Vec<LinkSpec>,
     /// The members.
-    pub(crate) members: Vec<MemberEntry>,
+    pub members: Vec<MemberEntry>,
     /// The draws.
-    pub(crate) draws: Vec<DrawSpec>,
+    pub draws: Vec<DrawSpec>,
     /// The session messages.
-    pub(crate) sessions: Vec<SessionSpec>,
+    pub sessions: Vec<SessionSpec>,
     /// The drops, as they are listed.
-    pub(crate) drops: Vec<DropSpec>,
+    pub drops: Vec<DropSpec>,
     /// The outages.
-    pub(crate) outages: Vec<OutageSpec>,
+    pub outages: Vec<OutageSpec>,
 }
 
 impl Draft {
     /// The draft that a table gives. A fault of its keys is refused, the first one.
-    pub(crate) fn read(alloc: Global, table: &Table) -> Result<Draft, ScenarioFault>
+    pub fn read(alloc: Global, table: &Table) -> Result<Draft, ScenarioFault>
         ensures draft { IfOk result (IsDraft (table_view table.now)) }
         ensures fault { IfErr result (λ e. IsFault e (key_faults (table_view table.now))) }
     {

@@ -19,11 +19,11 @@ use toml::{Table, Value};
 
 /// A member, and whether pages are given for it.
 #[derive(Debug, Drop)]
-pub(crate) struct MemberEntry {
+pub struct MemberEntry {
     /// The member.
-    pub(crate) spec: MemberSpec,
+    pub spec: MemberSpec,
     /// Whether its table has the key `pages`.
-    pub(crate) has_pages: bool,
+    pub has_pages: bool,
 }
 
 /// The role that a member's table names.

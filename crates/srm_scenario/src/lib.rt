@@ -3,11 +3,11 @@
 
 pub mod bytes;
 mod checks;
-mod delays;
-mod draft;
+pub mod delays;
+pub mod draft;
 mod element;
 mod elements;
-mod entry;
+pub mod entry;
 pub mod fault;
 pub mod feed;
 pub mod key;
@@ -17,10 +17,10 @@ pub mod mark;
 pub mod parts;
 pub mod reading;
 pub mod rule;
-mod rules;
+pub mod rules;
 pub mod scenario;
 pub mod script;
-mod table;
+pub mod table;
 mod top;
 pub mod topology;
-mod version;
+pub mod version;

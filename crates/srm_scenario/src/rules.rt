@@ -27,7 +27,7 @@ fn back_rule(allowed: bool) -> Rule
 }
 
 /// The top table: `shaped` where it names a topology, `tree` where that is a tree.
-pub(crate) fn top_rules(version: Version, shaped: bool, tree: bool) -> [Rule; 18]
+pub fn top_rules(version: Version, shaped: bool, tree: bool) -> [Rule; 18]
     ensures { result ≡ top_rules version shaped tree }
 {
     let most = u64::from(version.most_nodes());
@@ -69,7 +69,7 @@ pub(crate) fn top_rules(version: Version, shaped: bool, tree: bool) -> [Rule; 18
 }
 
 /// A link.
-pub(crate) fn link_rules(version: Version) -> [Rule; 4]
+pub fn link_rules(version: Version) -> [Rule; 4]
     ensures { result ≡ link_rules version }
 {
     [
@@ -81,7 +81,7 @@ pub(crate) fn link_rules(version: Version) -> [Rule; 4]
 }
 
 /// A member.
-pub(crate) fn member_rules(version: Version) -> [Rule; 6]
+pub fn member_rules(version: Version) -> [Rule; 6]
     ensures { result ≡ member_rules version }
 {
     let pages = Kind::Numbers(MOST_PAGES, LAST_PAGE);
@@ -96,7 +96,7 @@ pub(crate) fn member_rules(version: Version) -> [Rule; 6]
 }
 
 /// A draw.
-pub(crate) fn draw_rules(version: Version) -> [Rule; 4]
+pub fn draw_rules(version: Version) -> [Rule; 4]
     ensures { result ≡ draw_rules version }
 {
     [
@@ -108,7 +108,7 @@ pub(crate) fn draw_rules(version: Version) -> [Rule; 4]
 }
 
 /// A session message.
-pub(crate) fn session_rules(version: Version) -> [Rule; 2]
+pub fn session_rules(version: Version) -> [Rule; 2]
     ensures { result ≡ session_rules version }
 {
     [
@@ -118,7 +118,7 @@ pub(crate) fn session_rules(version: Version) -> [Rule; 2]
 }
 
 /// A drop.
-pub(crate) fn drop_rules(version: Version) -> [Rule; 3]
+pub fn drop_rules(version: Version) -> [Rule; 3]
     ensures { result ≡ drop_rules version }
 {
     [
@@ -129,7 +129,7 @@ pub(crate) fn drop_rules(version: Version) -> [Rule; 3]
 }
 
 /// An outage.
-pub(crate) fn outage_rules(version: Version) -> [Rule; 3]
+pub fn outage_rules(version: Version) -> [Rule; 3]
     ensures { result ≡ outage_rules version }
 {
     [

@@ -28,14 +28,14 @@ fn are_met(table: &Table, rules: &[Rule]) -> bool
 }
 
 /// Whether these rules have the key.
-fn is_known(key: &str, rules: &[Rule]) -> bool
+pub fn is_known(key: &str, rules: &[Rule]) -> bool
     ensures { result ≡ list_any (λ r. bytes_eq (name_of r.key) key.now) rules.now }
 {
     rules.iter().any(|rule| rule.key.name() == key)
 }
 
 /// Whether the table has no keys but those of the rules.
-fn has_only(table: &Table, rules: &[Rule]) -> bool
+pub fn has_only(table: &Table, rules: &[Rule]) -> bool
     ensures { result ≡ has_only (map (λ r. name_of r.key) rules.now) (table_view table.now) }
 {
     for (key, _value) in table.iter() {
@@ -63,7 +63,7 @@ fn is_met(table: &Table, rule: Rule) -> bool
 }
 
 /// Whether a value is of a kind.
-fn is_kind(value: &Value, kind: Kind) -> bool
+pub fn is_kind(value: &Value, kind: Kind) -> bool
     ensures { result ≡ is_kind kind (view value.now) }
 {
     match kind {
@@ -75,7 +75,7 @@ fn is_kind(value: &Value, kind: Kind) -> bool
 }
 
 /// The values of an array, if a value is one.
-fn values_of(value: &Value) -> Option<&[Value]>
+pub fn values_of(value: &Value) -> Option<&[Value]>
     ensures { MatchOption result (None ≡ as_array (view value.now))
         (λ values. Some (items_view values.now) ≡ as_array (view value.now)) }
 {
@@ -150,7 +150,7 @@ fn is_word(value: &Value, words: Words) -> bool
 }
 
 /// The whole number that a value is, if it is one.
-pub(crate) fn number_of(value: &Value) -> Option<u64>
+pub fn number_of(value: &Value) -> Option<u64>
     ensures { result ≡ number_of (view value.now) }
 {
     match value {
@@ -170,21 +170,21 @@ pub(crate) fn optional_number(table: &Table, key: Key) -> Option<u64>
 }
 
 /// The whole number at a key, or 0.
-pub(crate) fn number(table: &Table, key: Key) -> u64
+pub fn number(table: &Table, key: Key) -> u64
     ensures { result ≡ number (name_of key) (table_view table.now) }
 {
     optional_number(table, key).unwrap_or(0)
 }
 
 /// Whether the table has a key.
-pub(crate) fn has_key(table: &Table, key: Key) -> bool
+pub fn has_key(table: &Table, key: Key) -> bool
     ensures { result ≡ is_some (get_member (name_of key) (table_view table.now)) }
 {
     table.get(key.name()).is_some()
 }
 
 /// Whether this word stands at a key.
-pub(crate) fn says(table: &Table, key: Key, word: &str) -> bool
+pub fn says(table: &Table, key: Key, word: &str) -> bool
     ensures { result ≡ says (name_of key) word.now (table_view table.now) }
 {
     match table.get(key.name()) {
@@ -194,7 +194,7 @@ pub(crate) fn says(table: &Table, key: Key, word: &str) -> bool
 }
 
 /// The values of the array at a key: none where no array is there.
-pub(crate) fn array(table: &Table, key: Key) -> &[Value]
+pub fn array(table: &Table, key: Key) -> &[Value]
     ensures { map view result.now ≡ array_at (name_of key) (table_view table.now) }
 {
     match table.get(key.name()) {

@@ -4,7 +4,7 @@ ghost use Rattle.srm_scenario.specs.declared.version.Version.TheVariants.{One, T
 
 /// A version of the scenario format.
 #[derive(Clone, Copy, Debug, PartialEq, Eq)]
-pub(crate) enum Version {
+pub enum Version {
     /// A link takes as long in both directions, and is never out. There are at most 256 nodes.
     One,
     /// A link may have a second delay, `back`, and outages. There are at most 1,024 nodes.
@@ -15,7 +15,7 @@ impl Version {
     ghost use Rattle.srm_scenario.specs.Rules.{allows_back, allows_outages, most_nodes, last_number};
 
     /// The version of this number. Where there is none of this number, it is the first.
-    pub(crate) fn of(number: u64) -> Version
+    pub fn of(number: u64) -> Version
         ensures { result ≡ (if number == 2 then Two else One) }
     {
         match number {
@@ -25,7 +25,7 @@ impl Version {
     }
 
     /// Whether links may have a second delay.
-    pub(crate) fn allows_back(self) -> bool
+    pub fn allows_back(self) -> bool
         ensures { result ≡ allows_back self }
     {
         match self {
@@ -35,7 +35,7 @@ impl Version {
     }
 
     /// Whether links may have outages.
-    pub(crate) fn allows_outages(self) -> bool
+    pub fn allows_outages(self) -> bool
         ensures { result ≡ allows_outages self }
     {
         match self {
@@ -45,7 +45,7 @@ impl Version {
     }
 
     /// How many nodes there are at most, and how many members: 256 or 1,024.
-    pub(crate) fn most_nodes(self) -> u16
+    pub fn most_nodes(self) -> u16
         ensures nodes { result ≡ most_nodes self }
         ensures some { 1 ≤ result }
         ensures few { result ≤ 1024 }
@@ -57,7 +57,7 @@ impl Version {
     }
 
     /// The last number that a node, a link or a member may have: 255 or 1,023.
-    pub(crate) fn last_number(self) -> u16
+    pub fn last_number(self) -> u16
         ensures number { result ≡ last_number self }
         ensures few { result ≤ 1023 }
     {

@@ -1,0 +1,153 @@
+-- What is wrong with the keys of a table, and what is said of it.
+use Rattle.std.specs.Prelude.{◌≡◌, ◌⊎◌, ◌&&◌, not, ℕ, Bool, true, false}
+use Rattle.std.specs.Prelude.{List, [], ◌∷◌, ◌++◌, Option, Some, None, codes, decimal}
+use Rattle.std.specs.Prelude.{IsSome, IfSome, is_some, map, slice_get, string_bytes, if◌then◌else◌}
+use Rattle.std.specs.List.{list_any}
+use Rattle.std.specs.Str.{bytes_eq}
+use Rattle.toml.specs.Data.{Data, Members, table, as_table, get_member}
+use Rattle.srm_scenario.specs.declared.fault.Part.{Part}
+use Rattle.srm_scenario.specs.declared.fault.Part.TheVariants as part
+use Rattle.srm_scenario.specs.declared.key.Key.{Key}
+use Rattle.srm_scenario.specs.declared.key.Key.TheVariants as key
+use Rattle.srm_scenario.specs.declared.rule.Kind.{Kind}
+use Rattle.srm_scenario.specs.declared.rule.Kind.TheVariants.{Whole, Word, Numbers, Elements}
+use Rattle.srm_scenario.specs.declared.rule.Need.{Need}
+use Rattle.srm_scenario.specs.declared.rule.Need.TheVariants.{Required, Refused}
+use Rattle.srm_scenario.specs.declared.rule.Rule.{Rule}
+use Rattle.srm_scenario.specs.declared.rule.Words.TheVariants.{Roles, Topologies}
+use Rattle.srm_scenario.specs.Keys.{name_of}
+use Rattle.srm_scenario.specs.Rules.{is_kind, has_only, link_rules, member_rules, draw_rules, session_rules, drop_rules}
+use Rattle.srm_scenario.specs.Rules.{outage_rules, top_rules}
+use Rattle.srm_scenario.specs.Described.{array_at, says, version_of}
+use Rattle.srm_scenario.specs.declared.version.Version.{Version}
+use Rattle.srm_scenario.specs.declared.version.Version.TheVariants.{Two}
+use Rattle.srm_explain.specs.declared.finding.Finding.{Finding}
+use Rattle.srm_explain.specs.declared.finding.Finding.TheVariants as finding
+
+-- ---- what is found
+
+-- whether a top table names a topology, and whether that is a tree
+abbrev pub is_shaped : Members → Bool
+is_shaped top = is_some (get_member (codes "topology") top)
+
+abbrev pub is_treelike : Members → Bool
+is_treelike top = says (codes "topology") (codes "tree") top
+
+-- the rules of a part of a file in a version of the format, where this is the top table
+abbrev pub rules_for : Version → Part → Members → List Rule
+rules_for version part.Top top = top_rules version (is_shaped top) (is_treelike top)
+rules_for version part.Link top = link_rules version
+rules_for version part.Member top = member_rules version
+rules_for version part.Draw top = draw_rules version
+rules_for version part.Session top = session_rules version
+rules_for version part.Drop top = drop_rules version
+rules_for version part.Outage top = outage_rules version
+
+-- the same, in the version that the top table names
+abbrev pub rules_in : Part → Members → List Rule
+rules_in p top = rules_for (version_of top) p top
+
+-- the key of the array whose elements a part is
+abbrev pub array_of : Part → Option Key
+array_of part.Top = None
+array_of part.Link = Some key.Link
+array_of part.Member = Some key.Member
+array_of part.Draw = Some key.Draw
+array_of part.Session = Some key.Session
+array_of part.Drop = Some key.Drop
+array_of part.Outage = Some key.Outage
+
+-- the element at a place of the array at a key, and the top table itself where there is no key
+abbrev pub element_of : Option Key → ℕ → Members → Option Data
+element_of None place top = Some (table top)
+element_of (Some k) place top = slice_get (array_at (name_of k) top) place
+
+-- what stands at a place of a part
+abbrev pub data_at : Part → ℕ → Members → Option Data
+data_at p place top = element_of (array_of p) place top
+
+-- one of the rules is that of this key
+abbrev pub HasKey : List Rule → Key → Type 0
+HasKey rules key = (i : ℕ) × (r : Rule) × (slice_get rules i ≡ Some r) × (r.key ≡ key)
+
+-- the rule is broken as is told: its key has to be there and is not, or must not be there and is, or what stands at it
+-- is not of the rule's kind
+abbrev pub IsBroken : Rule → Members → Finding → Type 0
+IsBroken r ms (finding.Missing s) = (s ≡ r) × (r.need ≡ Required) × (get_member (name_of r.key) ms ≡ None)
+IsBroken r ms (finding.Refused s) = (s ≡ r) × (r.need ≡ Refused) × IsSome (get_member (name_of r.key) ms)
+IsBroken r ms (finding.Wrong s) =
+    (s ≡ r) × (d : Data) × (get_member (name_of r.key) ms ≡ Some d) × (is_kind r.kind d ≡ false)
+IsBroken r ms f = ⊥
+
+-- this is wrong with a table beside these rules: a key of it is none of theirs, or one of them is broken
+abbrev pub IsFinding : List Rule → Members → Finding → Type 0
+IsFinding rules ms finding.NoTable = ⊥
+IsFinding rules ms (finding.Unknown key near) =
+    (has_only (map (λ r. name_of r.key) rules) ms ≡ false)
+    × (list_any (λ r. bytes_eq (name_of r.key) (string_bytes key)) rules ≡ false)
+    × IfSome near (HasKey rules)
+IsFinding rules ms f = (i : ℕ) × (r : Rule) × (slice_get rules i ≡ Some r) × IsBroken r ms f
+
+-- this is wrong with a value beside these rules: it is no table, or something is wrong with the table
+abbrev pub FindsIn : List Rule → Data → Finding → Type 0
+FindsIn rules d finding.NoTable = as_table d ≡ None
+FindsIn rules d f = (ms : Members) × (d ≡ table ms) × IsFinding rules ms f
+
+-- this is wrong at a place of a part beside these rules
+abbrev pub FindsAt : List Rule → Part → ℕ → Members → Finding → Type 0
+FindsAt rules p place top f = (d : Data) × (data_at p place top ≡ Some d) × FindsIn rules d f
+
+-- whether rules allow a key
+abbrev pub is_refused : Need → Bool
+is_refused Refused = true
+is_refused need = false
+
+abbrev pub allows : List Rule → Key → Bool
+allows rules key = list_any (λ r. bytes_eq (name_of r.key) (name_of key) && not (is_refused r.need)) rules
+
+-- why a key of this part is not allowed
+abbrev pub IsReason : Part → Members → Key → List ℕ → Type 0
+IsReason p top key reason =
+    ((reason ≡ codes " in version 1; version 2 has it") × (allows (rules_for Two p top) key ≡ true))
+    ⊎ ((reason ≡ codes " without topology") × (is_shaped top ≡ false))
+    ⊎ ((reason ≡ codes " unless topology is \"tree\"") × (is_shaped top ≡ true))
+    ⊎ ((reason ≡ codes " beside topology") × (is_shaped top ≡ true))
+
+-- what follows a sentence: of a key that is not allowed the reason
+abbrev pub FollowsSentence : Part → Members → Finding → List ℕ → Type 0
+FollowsSentence p top (finding.Refused r) reason = IsReason p top r.key reason
+FollowsSentence p top f reason = reason ≡ []
+
+-- ---- what is said of it
+
+-- what a key may hold
+abbrev pub allowed : Kind → List ℕ
+allowed (Whole low high) = codes "a whole number from " ++ (decimal low ++ (codes " to " ++ decimal high))
+allowed (Word Roles) = codes "one of \"sender\", \"receiver\", \"late\", \"listener\""
+allowed (Word Topologies) = codes "one of \"chain\", \"star\", \"tree\""
+allowed (Numbers most high) =
+    codes "an array of at most " ++ (decimal most ++ (codes " whole numbers from 0 to " ++ decimal high))
+allowed (Elements most) = codes "an array of at most " ++ (decimal most ++ codes " tables")
+
+-- the keys that rules allow, each with a space in front
+abbrev pub keys_of : List Rule → List ℕ
+keys_of [] = []
+keys_of (r ∷ rs) = if is_refused r.need then keys_of rs else (codes " " ++ name_of r.key) ++ keys_of rs
+
+-- what is said of what is wrong with a table beside these rules
+abbrev pub sentence_of : List Rule → Finding → List ℕ
+sentence_of rules finding.NoTable = codes "this is no table\n  the keys of one here are" ++ keys_of rules
+sentence_of rules (finding.Unknown key None) =
+    codes "there is no such key here\n  the keys here are" ++ keys_of rules
+sentence_of rules (finding.Unknown key (Some near)) =
+    codes "there is no such key here; did you mean "
+    ++ (name_of near ++ (codes "?\n  the keys here are" ++ keys_of rules))
+sentence_of rules (finding.Missing r) = name_of r.key ++ (codes " is missing: it is " ++ allowed r.kind)
+sentence_of rules (finding.Wrong r) = name_of r.key ++ (codes " is " ++ allowed r.kind)
+sentence_of rules (finding.Refused r) = name_of r.key ++ codes " is not allowed"
+
+-- the lines below a picture: the sentence, and of a key that is not allowed the reason
+abbrev pub TellsNotes : List Rule → Part → Members → Finding → List ℕ → Type 0
+TellsNotes rules p top f told =
+    (reason : List ℕ) × FollowsSentence p top f reason
+    × (told ≡ codes "  " ++ (sentence_of rules f ++ (reason ++ 10 ∷ [])))

@@ -1,0 +1,23 @@
+//! What is wrong with the keys of a table.
+use srm_scenario::key::Key;
+use srm_scenario::rule::Rule;
+
+/// What is wrong with the keys of a table, or that an element is none.
+#[derive(Debug, Drop)]
+pub enum Finding {
+    /// The element is no table.
+    NoTable,
+    /// A key of the table is none of its part.
+    Unknown {
+        /// The key.
+        key: String,
+        /// The key of the part that differs from it the least, if one differs by little.
+        near: Option<Key>,
+    },
+    /// The table lacks the key of this rule.
+    Missing(Rule),
+    /// What stands at the key of this rule is not what the rule asks for.
+    Wrong(Rule),
+    /// The key of this rule is not allowed there.
+    Refused(Rule),
+}

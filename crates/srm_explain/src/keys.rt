@@ -1,0 +1,151 @@
+//! What is wrong with the keys of a table, beside the rules of its part.
+ghost use Rattle.std.specs.Prelude.{◌≡◌, Some, IfOk, IfSome, option_map};
+ghost use Rattle.toml.specs.View.{table_view, view};
+ghost use Rattle.srm_explain.specs.Findings.{array_of, element_of, FindsAt, FindsIn, IsBroken, IsFinding};
+
+use crate::finding::Finding;
+use crate::nearest::nearest;
+use srm_scenario::fault::Part;
+use srm_scenario::key::Key;
+use srm_scenario::rule::{Need, Rule};
+use srm_scenario::table::{array, has_only, is_kind, is_known};
+use std::alloc::{AllocError, Global};
+use toml::{Table, Value};
+
+/// What is wrong with the table at a place of a part, beside the rules of that part, if something is: it is no table; or a key of it is
+/// none of the part's; or else the first rule that what stands at
+/// its key breaks; or else the first whose key is missing.
+///
+/// # Errors
+/// Memory ran out.
+pub(crate) fn finding_at(
+    alloc: Global,
+    top: &Table,
+    part: Part,
+    place: usize,
+    rules: &[Rule],
+) -> Result<Option<Finding>, AllocError>
+    ensures { IfOk result (λ f. IfSome f (FindsAt rules.now part place (table_view top.now))) }
+{
+    let Some(key) = array_of(part) else {
+        return finding_of(alloc, top, rules);
+    };
+    match element_at(top, key, place) {
+        Some(value) => finding_of_value(alloc, value, rules),
+        None => Ok(None),
+    }
+}
+
+// The element at a place of the array at a key.
+fn element_at(top: &Table, key: Key, place: usize) -> Option<&Value>
+    ensures { option_map (λ v. view v.now) result ≡ element_of (Some key) place (table_view top.now) }
+{
+    array(top, key).get(place)
+}
+
+// What is wrong with an element beside these rules, if something is.
+fn finding_of_value(
+    alloc: Global,
+    value: &Value,
+    rules: &[Rule],
+) -> Result<Option<Finding>, AllocError>
+    ensures { IfOk result (λ f. IfSome f (FindsIn rules.now (view value.now))) }
+{
+    match value {
+        Value::Table(table) => finding_of(alloc, table, rules),
+        _ => Ok(Some(Finding::NoTable)),
+    }
+}
+
+/// The key of the array whose elements a part is.
+pub(crate) fn array_of(part: Part) -> Option<Key>
+    ensures { result ≡ array_of part }
+{
+    match part {
+        Part::Top => None,
+        Part::Link => Some(Key::Link),
+        Part::Member => Some(Key::Member),
+        Part::Draw => Some(Key::Draw),
+        Part::Session => Some(Key::Session),
+        Part::Drop => Some(Key::Drop),
+        Part::Outage => Some(Key::Outage),
+    }
+}
+
+// What is wrong with a table beside these rules, if something is.
+fn finding_of(alloc: Global, table: &Table, rules: &[Rule]) -> Result<Option<Finding>, AllocError>
+    ensures { IfOk result (λ f. IfSome f (IsFinding rules.now (table_view table.now))) }
+{
+    if has_only(table, rules) {
+        return Ok(match wrong_in(table, rules) {
+            Some(found) => Some(found),
+            None => missing_in(table, rules),
+        });
+    }
+    for (key, _value) in table.iter() {
+        if !is_known(key.as_str(), rules) {
+            let near = nearest(alloc, key.as_str(), rules)?;
+            let key = key.clone()?;
+            return Ok(Some(Finding::Unknown { key, near }));
+        }
+    }
+    Ok(None)
+}
+
+// The first of these rules that what stands at its key breaks, if one is.
+fn wrong_in(table: &Table, rules: &[Rule]) -> Option<Finding>
+    ensures { IfSome result (IsFinding rules.now (table_view table.now)) }
+{
+    for rule in rules {
+        let found = wrong_at(table, *rule);
+        if found.is_some() {
+            return found;
+        }
+    }
+    None
+}
+
+// How what stands at a rule's key breaks the rule, if it does.
+fn wrong_at(table: &Table, rule: Rule) -> Option<Finding>
+    ensures { IfSome result (IsBroken rule (table_view table.now)) }
+{
+    match table.get(rule.key.name()) {
+        None => None,
+        Some(value) => match rule.need {
+            Need::Refused => Some(Finding::Refused(rule)),
+            Need::Required | Need::Optional => {
+                if is_kind(value, rule.kind) {
+                    None
+                } else {
+                    Some(Finding::Wrong(rule))
+                }
+            }
+        },
+    }
+}
+
+// The first of these rules whose key the table lacks, if one is.
+fn missing_in(table: &Table, rules: &[Rule]) -> Option<Finding>
+    ensures { IfSome result (IsFinding rules.now (table_view table.now)) }
+{
+    for rule in rules {
+        let found = missing_at(table, *rule);
+        if found.is_some() {
+            return found;
+        }
+    }
+    None
+}
+
+// That the table lacks a rule's key, if it does.
+fn missing_at(table: &Table, rule: Rule) -> Option<Finding>
+    ensures { IfSome result (IsBroken rule (table_view table.now)) }
+{
+    match table.get(rule.key.name()) {
+        Some(_) => None,
+        None => match rule.need {
+            Need::Required => Some(Finding::Missing(rule)),
+            Need::Optional | Need::Refused => None,
+        },
+    }
+}

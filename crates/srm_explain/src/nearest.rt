@@ -1,0 +1,28 @@
+//! The key that was probably meant.
+ghost use Rattle.std.specs.Prelude.{IfOk, IfSome};
+ghost use Rattle.srm_explain.specs.Findings.{HasKey};
+
+use srm_scenario::key::Key;
+use srm_scenario::rule::{Need, Rule};
+use std::alloc::{AllocError, Global};
+use strsim::levenshtein;
+
+/// Of the keys that these rules allow the one that differs the least from this text, if it differs by no more than a third of its
+/// letters, or by one.
+///
+/// # Errors
+/// Memory ran out.
+pub(crate) fn nearest(alloc: Global, text: &str, rules: &[Rule]) -> Result<Option<Key>, AllocError>
+    ensures { IfOk result (λ near. IfSome near (HasKey rules.now)) }
+{
+    let mut least = text.len().max(3) / 3 + 1;
+    let mut near = None;
+    for rule in rules {
+        let edits = levenshtein(alloc, text, rule.key.name())?;
+        if edits < least && rule.need != Need::Refused {
+            least = edits;
+            near = Some(rule.key);
+        }
+    }
+    Ok(near)
+}

@@ -1,0 +1,94 @@
+//! The rules of a part of a file.
+ghost use Rattle.std.specs.Prelude.{◌≡◌, IfOk, is_some, codes};
+ghost use Rattle.std.specs.List.{list_any};
+ghost use Rattle.toml.specs.Data.{get_member};
+ghost use Rattle.toml.specs.View.{table_view};
+ghost use Rattle.srm_explain.specs.Findings.{allows, rules_for, rules_in, FollowsSentence, IsReason};
+
+use crate::finding::Finding;
+use srm_scenario::fault::Part;
+use srm_scenario::key::Key;
+use srm_scenario::rule::{Need, Rule};
+use srm_scenario::rules::{
+    draw_rules, drop_rules, link_rules, member_rules, outage_rules, session_rules, top_rules,
+};
+use srm_scenario::table::{has_key, number, says};
+use srm_scenario::version::Version;
+use std::alloc::{AllocError, Global};
+use toml::Table;
+
+/// The rules of a part of a file, where this is its top table.
+///
+/// # Errors
+/// Memory ran out.
+pub(crate) fn rules_in(alloc: Global, part: Part, top: &Table) -> Result<Vec<Rule>, AllocError>
+    ensures { IfOk result (λ rules. rules.items ≡ rules_in part (table_view top.now)) }
+{
+    rules_for(alloc, Version::of(number(top, Key::Version)), part, top)
+}
+
+// The rules of a part in a version of the format, where this is the top table.
+fn rules_for(
+    alloc: Global,
+    version: Version,
+    part: Part,
+    top: &Table,
+) -> Result<Vec<Rule>, AllocError>
+    ensures { IfOk result (λ rules. rules.items ≡ rules_for version part (table_view top.now)) }
+{
+    match part {
+        Part::Top => {
+            let shaped = has_key(top, Key::Topology);
+            let tree = says(top, Key::Topology, "tree");
+            Vec::from_slice(alloc, &top_rules(version, shaped, tree))
+        }
+        Part::Link => Vec::from_slice(alloc, &link_rules(version)),
+        Part::Member => Vec::from_slice(alloc, &member_rules(version)),
+        Part::Draw => Vec::from_slice(alloc, &draw_rules(version)),
+        Part::Session => Vec::from_slice(alloc, &session_rules(version)),
+        Part::Drop => Vec::from_slice(alloc, &drop_rules(version)),
+        Part::Outage => Vec::from_slice(alloc, &outage_rules(version)),
+    }
+}
+
+// Whether rules allow a key.
+fn allows(rules: &[Rule], key: Key) -> bool
+    ensures { result ≡ allows rules.now key }
+{
+    rules.iter().any(|rule| rule.key.name() == key.name() && !matches!(rule.need, Need::Refused))
+}
+
+/// What follows the sentence of a finding: of a key that is not allowed the reason.
+///
+/// # Errors
+/// Memory ran out.
+pub(crate) fn reason_after(
+    alloc: Global,
+    part: Part,
+    top: &Table,
+    finding: &Finding,
+) -> Result<&'static str, AllocError>
+    ensures { IfOk result (λ reason. FollowsSentence part (table_view top.now) finding.now reason.now) }
+{
+    match finding {
+        Finding::Refused(rule) => reason_for(alloc, part, top, rule.key),
+        _ => Ok(""),
+    }
+}
+
+// Why a key of this part is not allowed, where its rule refuses it.
+fn reason_for(alloc: Global, part: Part, top: &Table, key: Key) -> Result<&'static str, AllocError>
+    ensures { IfOk result (λ reason. IsReason part (table_view top.now) key reason.now) }
+{
+    let later = rules_for(alloc, Version::Two, part, top)?;
+    let reason = if allows(&later, key) {
+        " in version 1; version 2 has it"
+    } else if !has_key(top, Key::Topology) {
+        " without topology"
+    } else if matches!(key, Key::Degree) {
+        " unless topology is \"tree\""
+    } else {
+        " beside topology"
+    };
+    Ok(reason)
+}

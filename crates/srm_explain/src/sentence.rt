@@ -1,0 +1,95 @@
+//! What is said of what is wrong with the keys of a table.
+ghost use Rattle.std.specs.Prelude.{◌≡◌, IfOk, string_bytes};
+ghost use Rattle.srm_explain.specs.Findings.{allowed, keys_of, sentence_of};
+
+use crate::finding::Finding;
+use srm_scenario::rule::{Kind, Need, Rule, Words};
+use std::alloc::{AllocError, Global};
+
+/// What is said of what is wrong with a table beside these rules.
+///
+/// # Errors
+/// Memory ran out.
+pub(crate) fn sentence_of(
+    alloc: Global,
+    rules: &[Rule],
+    finding: &Finding,
+) -> Result<String, AllocError>
+    ensures { IfOk result (λ s. string_bytes s ≡ sentence_of rules.now finding.now) }
+{
+    match finding {
+        Finding::NoTable => {
+            let keys = keys_of(alloc, rules)?;
+            format!(in alloc; "this is no table\n  the keys of one here are{keys}")
+        }
+        Finding::Unknown { near, .. } => match near {
+            None => {
+                let keys = keys_of(alloc, rules)?;
+                format!(in alloc; "there is no such key here\n  the keys here are{keys}")
+            }
+            Some(near) => {
+                let keys = keys_of(alloc, rules)?;
+                let near = near.name();
+                format!(in alloc;
+                    "there is no such key here; did you mean {near}?\n  the keys here are{keys}"
+                )
+            }
+        },
+        Finding::Missing(rule) => {
+            let name = rule.key.name();
+            let allowed = allowed(alloc, rule.kind)?;
+            format!(in alloc; "{name} is missing: it is {allowed}")
+        }
+        Finding::Wrong(rule) => {
+            let name = rule.key.name();
+            let allowed = allowed(alloc, rule.kind)?;
+            format!(in alloc; "{name} is {allowed}")
+        }
+        Finding::Refused(rule) => {
+            let name = rule.key.name();
+            format!(in alloc; "{name} is not allowed")
+        }
+    }
+}
+
+// What a key may hold.
+fn allowed(alloc: Global, kind: Kind) -> Result<String, AllocError>
+    ensures { IfOk result (λ s. string_bytes s ≡ allowed kind) }
+{
+    match kind {
+        Kind::Whole(low, high) => {
+            let allowed = format!(in alloc; "a whole number from {low} to {high}")?;
+            Ok(allowed)
+        }
+        Kind::Word(Words::Roles) => {
+            String::from_str(
+                alloc,
+                "one of \"sender\", \"receiver\", \"late\", \"listener\"",
+            )
+        }
+        Kind::Word(Words::Topologies) => {
+            String::from_str(alloc, "one of \"chain\", \"star\", \"tree\"")
+        }
+        Kind::Numbers(most, high) => {
+            let allowed = format!(in alloc;
+                "an array of at most {most} whole numbers from 0 to {high}"
+            )?;
+            Ok(allowed)
+        }
+        Kind::Elements(most) => format!(in alloc; "an array of at most {most} tables"),
+    }
+}
+
+// The keys that rules allow, each with a space in front.
+fn keys_of(alloc: Global, rules: &[Rule]) -> Result<String, AllocError>
+    ensures { IfOk result (λ s. string_bytes s ≡ keys_of rules.now) }
+{
+    let mut keys = String::new(alloc);
+    for rule in rules {
+        if !matches!(rule.need, Need::Refused) {
+            keys.push_str(" ")?;
+            keys.push_str(rule.key.name())?;
+        }
+    }
+    Ok(keys)
+}
