@@ -18,7 +18,7 @@ use srm_scenario::scenario::Scenario;
 use std::alloc::Global;
 
 /// The sequential run of a scenario, as `step_run`'s, its rows handed to a sink as they come: first none, and then all of them, in
-/// order, some 256 at a time. So no more than these are in memory at once. What is answered are the exits of the members, in order
+/// order, 32 at a time. So no more than these are in memory at once. What is answered are the exits of the members, in order
 /// of their numbers, and the crossings and drops of the trace's packets.
 ///
 /// There is one box for each member, in order of their numbers, each holding its opening record for this scenario and one seed.
