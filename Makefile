@@ -42,6 +42,8 @@ check: ## what an edit needs: proves each crate that changed, or CRATE=srm_net w
 	@tests/calls.py
 	@tests/lines.py
 	@tests/widths.py
+	@tests/links.py
+	@tests/versions.py
 	@tools/prove.py $(if $(CRATE),crates/$(CRATE),crates)
 
 test: ## the merge gate: proves everything from nothing, with tests and must-fail edits, and checks the program that this made; tells the times
@@ -52,6 +54,8 @@ test: ## the merge gate: proves everything from nothing, with tests and must-fai
 	@tests/calls.py
 	@tests/lines.py
 	@tests/widths.py
+	@tests/links.py
+	@tests/versions.py
 	@tools/gate.py -- make --no-print-directory test-program test-memory
 
 test-program: $(PROGRAM) ## compares what the program prints with each file of examples/, and its refusals, and tries it at the format's limits and on some random scenarios

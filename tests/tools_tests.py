@@ -1,5 +1,5 @@
 #!/usr/bin/env python3
-"""Tests of the scripts in tools/, of tests/architecture.py and of tests/calls.py, on what `rt` prints and on a small source.
+"""Tests of the scripts in tools/, and of architecture.py, calls.py, links.py and versions.py in tests/, on small texts.
 
 No proof is run.
 """
@@ -17,7 +17,9 @@ sys.path[:0] = [str(TOP / "tools"), str(TOP / "tests")]
 import architecture
 import calls
 import gate
+import links
 import prove
+import versions
 import watch
 
 ONE_FAILS = """\
@@ -249,6 +251,48 @@ class Calls(unittest.TestCase):
         page = SHELF_PAGE.replace("- `Reader::read`", "- `Shelf::len`").replace("- `Shelf::len`: always", "- `Shelf::put`: always")
         told = ["Reader::read may wait, and is not named there", "Shelf::len is named among the calls that may wait, and is none"]
         self.assertEqual(self.faults(page), [*told, "Shelf::put is named among the calls that do not allocate, and is none"])
+
+
+class Links(unittest.TestCase):
+    def setUp(self):
+        self.top = pathlib.Path(self.enterContext(tempfile.TemporaryDirectory())).resolve()
+        self.page = self.top / "page.md"
+        self.page.write_text("# One `word`, two\n\n## Again\n\n## Again\n\n```\n# no heading\n```\n", encoding="utf-8")
+        self.enterContext(mock.patch.object(links, "TOP", self.top))
+        links.anchors.cache_clear()
+
+    def test_links_that_lead_somewhere(self):
+        for link in ("page.md", "#one-word-two", "page.md#again", "#again-1", "https://example.org/none.md"):
+            self.assertIsNone(links.fault(self.page, link), link)
+
+    def test_links_that_lead_nowhere(self):
+        for link in ("other.md", "#no-heading", "#again-2", "../page.md", "/page.md"):
+            self.assertIsNotNone(links.fault(self.page, link), link)
+
+    def test_code_holds_no_link(self):
+        self.assertEqual(links.LINK.findall(links.CODE.sub("", "`[a](b)` [c](d) ![e [f]](g)")), ["d", "g"])
+
+
+class Versions(unittest.TestCase):
+    def faults(self, changelog, tags=()):
+        texts = {versions.PROGRAM: 'const VERSION: &str = "1.2.0";', "CITATION.cff": "version: 1.2.0\n",
+                 "python/pyproject.toml": 'version = "1.2.0"\n', "CHANGELOG.md": changelog}
+        with tempfile.TemporaryDirectory() as top:
+            for name, text in texts.items():
+                path = pathlib.Path(top) / name
+                path.parent.mkdir(parents=True, exist_ok=True)
+                path.write_text(text, encoding="utf-8")
+            with mock.patch.object(versions, "TOP", pathlib.Path(top)), mock.patch.object(versions, "tags", lambda: list(tags)):
+                return list(versions.faults())
+
+    def test_versions_that_agree(self):
+        self.assertEqual(self.faults("## [Unreleased]\n\nTo be 1.2.0.\n\n## [1.1.0] - 2026-01-01\n", ["v1.2.0"]), [])
+        self.assertEqual(self.faults("## [1.2.0] - 2026-01-01\n\n## [1.1.0] - 2025-01-01\n"), [])
+
+    def test_versions_that_differ(self):
+        self.assertEqual(len(self.faults("## [1.1.0] - 2026-01-01\n")), 1)
+        self.assertEqual(len(self.faults("To be 1.2.0.\n", ["v1.1.0"])), 1)
+        self.assertEqual(len(self.faults("nothing\n")), 1)
 
 
 if __name__ == "__main__":
