@@ -112,7 +112,9 @@ def test_refusal_has_the_line_of_the_program(tmp_path):
 
 def test_refusal_has_what_the_program_explains(tmp_path):
     path = tmp_path / "srm_lab"
-    path.write_text('#!/bin/sh\ntest "$1" = --explain && printf "refused: bad-width\\n  why\\n  and more\\n" >&2\nexit 1\n')
+    path.write_text('#!/bin/sh\n'
+                    'test "$1" = --explain && printf "refused: bad-width\\n  why\\n  and more\\n" >&2\n'
+                    'exit 1\n')
     path.chmod(0o755)
     with pytest.raises(RefusedError) as fault:
         run(scenario.chain(3), program=path, cache=None)
