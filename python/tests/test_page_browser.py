@@ -119,18 +119,31 @@ def test_lines_of_the_tables_are_the_programs(browser, make_page, srm_lab):
 
 
 def expected(trace, losses, tick):
-    """Of each member its state's name and how many operations it holds and lacks, from the program's tables."""
+    """Of each member, by the program's tables: whether it is there and whether it left, how many operations it holds, those
+    that it lacks, those that it asked for or heard a request for, and those that it plans to repair."""
     rows = [row for row in csv.DictReader(io.StringIO(trace)) if int(row["time"]) <= tick]
+    names = {row["sent"]: row["ref"] for row in rows if row["sent"] != "-"}
     found = {}
     for row in rows:
-        member = found.setdefault(int(row["member"]), {"held": 0, "lacked": 0, "there": False, "left": False})
+        nothing = {"there": False, "left": False, "held": 0, "asked": set(), "plans": set()}
+        member = found.setdefault(int(row["member"]), nothing)
+        event, name = (row["cause"], row["result"]), names.get(row["ref"], row["ref"])
         member["there"] |= row["cause"] == "join"
-        member["left"] |= row["cause"] == "leave"
-        member["held"] += row["result"] in ("fresh", "fixed") or (row["cause"], row["result"]) == ("draw", "sent")
+        member["held"] += row["result"] in ("fresh", "fixed") or event == ("draw", "sent")
+        if event in (("ask", "sent"), ("request", "back"), ("request", "hold")):
+            member["asked"].add(name)
+        if event == ("request", "plan"):
+            member["plans"].add(name)
+        elif row["cause"] in ("answer", "repair") and row["result"] != "skip":
+            member["plans"].discard(name)
+        if row["cause"] == "leave":
+            member.update(left=True, plans=set())
+    for member in found.values():
+        member["lacked"] = set()
     for loss in csv.DictReader(io.StringIO(losses)):
         is_open = loss["recovered"] == "-" or int(loss["recovered"]) > tick
         if int(loss["detected"]) <= tick and is_open and not found[int(loss["member"])]["left"]:
-            found[int(loss["member"])]["lacked"] += 1
+            found[int(loss["member"])]["lacked"].add(f"{loss['source']}/{loss['page']}/{loss['number']}")
     return found
 
 
@@ -154,7 +167,9 @@ def test_states_at_ten_ticks_are_those_of_the_trace(browser, make_page, srm_lab,
             if must is None:
                 continue
             assert (state == "left") == must["left"] and held == must["held"], (tick, member)
-            assert lacked == must["lacked"] and (state in ("lacks", "asked")) == (must["lacked"] > 0), (tick, member)
+            assert lacked == len(must["lacked"]) and (state in ("lacks", "asked")) == (lacked > 0), (tick, member)
+            assert (state == "asked") == (lacked > 0 and must["lacked"] <= must["asked"]), (tick, member)
+            assert (state == "plans") == (lacked == 0 and len(must["plans"]) > 0), (tick, member)
 
 
 def test_a_link_to_a_moment(browser, make_page):
