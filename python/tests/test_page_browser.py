@@ -119,8 +119,8 @@ def test_lines_of_the_tables_are_the_programs(browser, make_page, srm_lab):
 
 
 def expected(trace, losses, tick):
-    """Of each member, by the program's tables: whether it is there and whether it left, how many operations it holds, those
-    that it lacks, those that it asked for or heard a request for, and those that it plans to repair."""
+    """Of each member, by the program's tables: whether it is there and whether it left, how many operations it holds,
+    those that it lacks, those that it asked for or heard a request for, and those that it plans to repair."""
     rows = [row for row in csv.DictReader(io.StringIO(trace)) if int(row["time"]) <= tick]
     names = {row["sent"]: row["ref"] for row in rows if row["sent"] != "-"}
     found = {}
