@@ -11,8 +11,8 @@ import pytest
 
 HERE = Path(__file__).resolve().parents[2] / "experiments"
 PROGRAM = """#!/bin/sh
-# srm_lab --seed N: one loss, or a refusal where REFUSE says so
-[ "$2" = "$REFUSE" ] && { echo "refused: bad-drop 0" >&2; exit 1; }
+# srm_lab --explain --seed N: one loss, or a refusal where REFUSE says so
+[ "$3" = "$REFUSE" ] && { echo "refused: bad-drop 0" >&2; exit 1; }
 cat <<END
 time,member,cause,ref,result,lost,sent
 0,0,draw,0/0/0,sent,0,0:0
