@@ -1,0 +1,88 @@
+//! Teams: workers who live as long as their leader runs.
+ghost use Rattle.std.specs.Prelude.{◌≡◌, ◌<◌, Err, length, All, IfOk, IfErr};
+ghost use Rattle.std.specs.List.{AllZip};
+
+use crate::bench::Bench;
+use crate::ends::Ends;
+use crate::fault::TeamFault;
+use crate::naming::Naming;
+use crate::opened::Opened;
+use crate::work::Work;
+use std::alloc::{AllocError, Global};
+use std::marker::Model;
+use std::sync::Wait;
+
+/// The leader's hold of a team: it is given lists of items, and gives what comes of each. The workers end once it is dropped.
+/// Clauses see how many items a list may have.
+#[derive(Drop)]
+pub struct Team<W: Work<T, D> + Copy, T: Drop, D: Drop, J: Naming> {
+    ends: Ends<W, T, D, J>,
+    room: usize,
+}
+
+impl<W: Work<T, D> + Copy, T: Drop, D: Drop, J: Naming> Model for Team<W, T, D, J> {
+    ghost use Rattle.srm_team.specs.Tells.{TeamView};
+
+    ghost Value = { TeamView };
+
+    ghost view = { λ t. record { room = t.room } };
+}
+
+/// A team for lists of at most `room` items, and the bench for its workers.
+///
+/// # Errors
+/// [`AllocError`]: the history is gone.
+pub fn open_team<W: Work<T, D> + Copy, T: Drop, D: Drop, J: Naming>(
+    alloc: Global,
+    opened: Opened<W, T>,
+    room: usize,
+) -> Result<(Team<W, T, D, J>, Bench<W, T, D, J>), AllocError>
+    requires { opened ≡ J.book }
+    ensures { IfOk result (λ r. r.0.room ≡ room) }
+{
+    let (book, front) = opened.named::<J>();
+    let (to_workers, orders) = crossbeam_channel::bounded(alloc, room)?;
+    let (from_workers, answers) = crossbeam_channel::bounded(alloc, room)?;
+    let bench = Bench {
+        orders: orders.clone()?,
+        answers: from_workers,
+    };
+    let ends = Ends {
+        book,
+        front,
+        to_workers,
+        orders,
+        answers,
+    };
+    Ok((Team { ends, room }, bench))
+}
+
+impl<W: Work<T, D> + Copy, T: Drop, D: Drop, J: Naming> Team<W, T, D, J> {
+    /// What comes of each item, in order of places. The workers and the leader's own thread take items as they come free, so any of
+    /// them may work on any item. It returns when the last result is back.
+    ///
+    /// # Errors
+    /// 1. `TooMany`: exactly where there are more items than the team has room for.
+    /// 2. As met: `NoMemory`; `Worn`, after 2^62 lists; `Left`, a channel was closed while results were to come, which no clause
+    ///    rules out and no call meets.
+    ///
+    /// The items are then gone. The team may be called again.
+    pub fn map<R: Wait>(
+        &mut self,
+        rt: &R,
+        alloc: Global,
+        work: W,
+        items: Vec<T>,
+    ) -> Result<Vec<D>, TeamFault>
+        requires { All (λ x. W.ready work x) items.items }
+        ensures given { IfOk result (λ v. AllZip (λ x d. W.gives work x d) items.items v.items) }
+        ensures refused { self.old.room < length items.items → result ≡ Err TeamFault.TooMany }
+        ensures else_other { IfErr result (λ e. e ≡ TeamFault.TooMany → self.old.room < length items.items) }
+        ensures room { self.new ≡ self.old }
+    {
+        if items.len() > self.room {
+            return Err(TeamFault::TooMany);
+        }
+        self.ends.map(rt, alloc, work, items)
+    }
+}
