@@ -11,14 +11,15 @@ import re
 import subprocess
 import sys
 import tempfile
+from collections.abc import Iterator
 from pathlib import Path
 
 ROOT = Path(__file__).resolve().parents[1]
 
 
-def commands_of(page):
+def commands_of(page: str) -> list[tuple[str, list[str]]]:
     """Each command of a page's console blocks, with its output."""
-    found = []
+    found: list[tuple[list[str], list[str]]] = []
     for block in re.findall(r"^```console\n(.*?)^```$", page, re.MULTILINE | re.DOTALL):
         for line in block.splitlines():
             if line.startswith("$ "):
@@ -30,7 +31,7 @@ def commands_of(page):
     return [("\n".join(command), output) for command, output in found]
 
 
-def fits(got, wanted):
+def fits(got: list[str], wanted: list[str]) -> bool:
     """Whether lines are the wanted ones, where `...` is any lines."""
     if not wanted:
         return not got
@@ -39,10 +40,10 @@ def fits(got, wanted):
     return bool(got) and got[0] == wanted[0] and fits(got[1:], wanted[1:])
 
 
-def run(commands, program):
+def run(commands: list[tuple[str, list[str]]], program: Path) -> Iterator[tuple[str, int | None]]:
     """What each command writes, and its status, from one shell."""
-    with tempfile.TemporaryDirectory() as place:
-        place = Path(place)
+    with tempfile.TemporaryDirectory() as directory:
+        place = Path(directory)
         # the page puts its own directories in front of the path; a function stands before all, and SRM_LAB for Python
         script = [f'srm_lab() {{ "{program}" "$@"; }}']
         for number, (command, _) in enumerate(commands):
@@ -54,7 +55,7 @@ def run(commands, program):
             yield (place / f"{number}.out").read_text(), int(status.read_text()) if status.exists() else None
 
 
-def check(path, program):
+def check(path: str | Path, program: Path) -> int:
     """How many commands of a page do otherwise than it says."""
     commands = commands_of(Path(path).read_text())
     wrong = 0
@@ -66,7 +67,7 @@ def check(path, program):
     return wrong
 
 
-def main(program, *pages):
+def main(program: str, *pages: str) -> int:
     return 1 if any([check(page, Path(program).resolve()) for page in pages]) else 0
 
 

@@ -1,6 +1,6 @@
 """Compares srm_lab with the SRM agent of ns-2: lost packets, requests, repairs and their times.
 
-usage: compare_ns2.py PROGRAM [--only FAMILY] [--table FILE]
+usage: compare_ns2.py PROGRAM [--only FAMILY] [--jobs N] [--table FILE]
 
 Timers have no random part in the families of FAMILIES, so that each request and repair has its one tick in both
 programs. Where they differ, rules of srm_lab are put into ns-2's agent until they do not: the fewest that do so
@@ -10,21 +10,26 @@ unexplained.
 """
 import argparse
 import csv
+import os
 import random
 import resource
 import subprocess
 import sys
 import tempfile
+from collections.abc import Callable, Iterable, Sequence
+from concurrent.futures import ThreadPoolExecutor
 from dataclasses import dataclass
+from functools import partial
 from itertools import combinations
 from pathlib import Path
+from typing import Any
 
 from srm_lab import Scenario, read_scenario, tree
 from srm_lab.cli import build, parser
 from srm_lab.link import Link
 from srm_lab.losses import links_in_use
 from srm_lab.parts import Draw, Drop, Member, Session
-from srm_lab.statistics import difference, interval
+from srm_lab.statistics import Interval, difference, interval
 from srm_lab.tables import read_trace
 
 HERE = Path(__file__).resolve().parent
@@ -43,41 +48,42 @@ RULES = {
 class Result:
     """What a run did: (time, member, ask or answer, number) sent, and (member, number) lost with its two times."""
 
-    sent: list
-    losses: dict
+    sent: list[tuple[float, int, str, int]]
+    losses: dict[tuple[int, int], tuple[float, float | None]]
     seconds: float = 0.0  # of processor time, from the start of the program to its end
     of_run: float = 0.0  # those of them that ns-2 took for the run, without its start and its setup
 
-    def same(self, other):
+    def same(self, other: "Result") -> bool:
         return self.sent == other.sent and self.losses == other.losses
 
 
 class Programs:
     """Both programs, each running one scenario's text."""
 
-    def __init__(self, program):
+    def __init__(self, program: str):
         self.program = program
 
-    def ours(self, text, seed=0):
+    def ours(self, text: str, seed: int = 0) -> Result:
         begin = children_seconds()
         trace = self._srm_lab(text, seed, "trace")
         spent = children_seconds() - begin
         sent = [(row.time, row.member, row.cause, int(row.ref.split("/")[2])) for row in read_trace(trace.splitlines())
                 if row.cause in ("ask", "answer") and row.result == "sent"]
-        losses = {}
+        losses: dict[tuple[int, int], tuple[float, float | None]] = {}
         for row in csv.DictReader(self._srm_lab(text, seed, "losses").splitlines()):
             recovered = None if row["recovered"] == "-" else int(row["recovered"])
             losses[int(row["member"]), int(row["number"])] = (int(row["detected"]), recovered)
         return Result(sorted(sent), losses, spent)
 
-    def _srm_lab(self, text, seed, show):
+    def _srm_lab(self, text: str, seed: int, show: str) -> str:
         done = subprocess.run([self.program, "--seed", str(seed), "--show", show], input=text.encode(),
                               capture_output=True, check=False)
         if done.returncode:
             raise SystemExit(f"{self.program}: {done.stderr.decode().strip()}")
         return done.stdout.decode()
 
-    def ns2(self, text, rules=(), seed=1, cycle=None):
+    def ns2(self, text: str, rules: Iterable[str] = (), seed: int = 1,
+            cycle: tuple[int, int] | None = None) -> Result:
         with tempfile.NamedTemporaryFile("w", suffix=".txt") as given:
             given.write(ns2_input(text, rules, seed, cycle))
             given.flush()
@@ -102,19 +108,19 @@ class Programs:
         return result
 
 
-def children_seconds():
+def children_seconds() -> float:
     """The processor time of all programs that this one ran to their ends; other work of the machine does not count."""
     usage = resource.getrusage(resource.RUSAGE_CHILDREN)
     return usage.ru_utime + usage.ru_stime
 
 
-def whole(text):
+def whole(text: str) -> float:
     """A time of ns-2: a whole number where timers have no random part."""
     number = float(text)
     return int(number) if number == int(number) else number
 
 
-def ns2_input(text, rules, seed, cycle=None):
+def ns2_input(text: str, rules: Iterable[str], seed: int, cycle: tuple[int, int] | None = None) -> str:
     """A scenario's text as ns2/srm.tcl reads it; `cycle` is (link, K) in place of the drops of every K-th draw."""
     given = read_scenario(text)
     draws = sorted(draw.at for draw in given.draws)
@@ -138,35 +144,36 @@ def ns2_input(text, rules, seed, cycle=None):
 
 # ---- families ------------------------------------------------------------------
 
-def from_words(words):
+def from_words(words: str) -> str:
     return build(parser().parse_args(words.split())).text()
 
 
-def one_loss_on_a_chain(rng):
+def one_loss_on_a_chain(rng: random.Random) -> str:
     size = rng.randint(3, 30)
     return from_words(f"chain --size {size} --delay {2 * rng.randint(1, 20)} --every 1000 --no-session "
                       f"--drop-link hops:{rng.randint(1, size - 1)} {constants(rng)}")
 
 
-def one_loss_on_a_star(rng):
+def one_loss_on_a_star(rng: random.Random) -> str:
     size = rng.randint(4, 20)
     link = rng.randint(0, size - 2)
     return from_words(f"star --size {size} --delay {2 * rng.randint(1, 20)} --every 1000 --no-session "
                       f"--drop-link {link} {constants(rng)}")
 
 
-def one_loss_on_a_regular_tree(rng):
+def one_loss_on_a_regular_tree(rng: random.Random) -> str:
     return from_words(f"tree --size {rng.randint(4, 40)} --degree {rng.randint(3, 5)} --delay {2 * rng.randint(1, 20)} "
                       f"--every 1000 --no-session --drop-link random --seed {rng.randrange(10**6)} {constants(rng)}")
 
 
-def random_tree(rng):
+def random_tree(rng: random.Random) -> tree.Tree:
     """A random tree with random even delays, so that half of a timer is a whole number."""
     made = tree.random_labelled(rng.randint(3, 25), 2, rng)
     return tree.Tree(made.nodes, tuple(Link.both_ways(link.a, link.b, 2 * rng.randint(1, 50)) for link in made.links))
 
 
-def scenario(rng, made, lost, draws, every, sessions=()):
+def scenario(rng: random.Random, made: tree.Tree, lost: int, draws: int, every: int,
+             sessions: Sequence[int] = ()) -> str:
     """Members on all nodes, the source on a random one; `lost` random links lose a random draw each."""
     nodes = list(range(made.nodes))
     source = nodes.pop(rng.randrange(made.nodes))
@@ -184,23 +191,23 @@ def scenario(rng, made, lost, draws, every, sessions=()):
                     tuple(Drop(link, 0, count) for link, count in drops)).text()
 
 
-def one_loss_on_a_random_tree(rng):
+def one_loss_on_a_random_tree(rng: random.Random) -> str:
     return scenario(rng, random_tree(rng), 1, 2, 1000)
 
 
-def losses_at_several_links(rng):
+def losses_at_several_links(rng: random.Random) -> str:
     """Different draws are lost at different links, at once: the source sends no repair before its last draw."""
     return scenario(rng, random_tree(rng), rng.randint(2, 6), rng.randint(2, 4), 1)
 
 
-def loss_found_by_a_session_message(rng):
+def loss_found_by_a_session_message(rng: random.Random) -> str:
     return scenario(rng, random_tree(rng), 1, 1, 1, [100])
 
 
 CONSTANTS = [(1, 1), (2, 1), (3, 1), (1, 2), (3, 2), (5, 3)]
 
 
-def constants(rng):
+def constants(rng: random.Random) -> str:
     c1, d1 = rng.choice(CONSTANTS)
     return f"--c1 {c1} --c2 0 --d1 {d1} --d2 0"
 
@@ -213,7 +220,7 @@ FAMILIES = {
 
 # ---- comparing -----------------------------------------------------------------
 
-def explain(programs, text, ours):
+def explain(programs: Programs, text: str, ours: Result) -> tuple[str, ...] | None:
     """The fewest rules with which ns-2 does what srm_lab did, or None."""
     for count in range(len(RULES) + 1):
         for rules in combinations(RULES, count):
@@ -224,9 +231,10 @@ def explain(programs, text, ours):
     return None
 
 
-def simultaneous(text, ours_trace):
+def simultaneous(text: str, ours_trace: str) -> bool:
     """Whether two packets about one name come to a member at one tick: then srm_lab takes them by sender."""
-    seen, about = set(), {}
+    seen: set[tuple[int, int, str]] = set()
+    about: dict[str, str] = {}
     for row in read_trace(ours_trace.splitlines()):
         if row.sent != "-":
             about[row.sent] = row.ref
@@ -238,14 +246,14 @@ def simultaneous(text, ours_trace):
     return False
 
 
-def compare_families(programs, only, rows):
+def compare_families(programs: Programs, only: str, rows: list[list[Any]]) -> int:
     """Runs every scenario of every family; how many differences stay unexplained."""
     open_ones = 0
     for make, count in FAMILIES.items():
         if only not in make.__name__:
             continue
         rng = random.Random(make.__name__)
-        told = {}
+        told: dict[str, int] = {}
         for place in range(count):
             text = make(rng)
             ours, theirs = programs.ours(text), programs.ns2(text)
@@ -267,13 +275,13 @@ def compare_families(programs, only, rows):
     return open_ones
 
 
-def counts(result):
+def counts(result: Result) -> tuple[int, int]:
     """How many requests and how many repairs were sent."""
     asks = sum(1 for one in result.sent if one[2] == "ask")
     return asks, len(result.sent) - asks
 
 
-def compare_differences(programs):
+def compare_differences(programs: Programs) -> int:
     """Shows each rule by its scenario of ns2/differences; how many do not show it.
 
     There both programs differ; with all rules of srm_lab ns-2 does the same; with all but this one it does not.
@@ -294,50 +302,65 @@ def compare_differences(programs):
     return wrong
 
 
-def said(result):
+def said(result: Result) -> str:
     asks, answers = counts(result)
     last = max((at for _, at in result.losses.values() if at is not None), default=0)
     return f"{asks} request{'s' * (asks != 1)} and {answers} repair{'s' * (answers != 1)}, last recovery at {last:g}"
 
 
-STAR = """star of {members} members, {losers} losers, C1 = 2, D1 = 1, D2 = 0: mean requests for a loss, of seeds 1 to \
-{seeds} with {lost} losses each,
+CHANCES = (2, 4, 8, 16, 32)  # values of C2
+STAR = """star of {members} members, n = {losers} losers, C1 = 2, D1 = 1, D2 = 0: mean requests for a loss, of {seeds} \
+seeds with {lost} losses each,
 and the difference, ns-2's less srm_lab's, each with its 95 per cent interval over seeds (Student's t; Welch's for the \
 difference).
-The two programs share no random words, though their seeds have the same numbers; in each, the runs of every C2 have \
-the same seeds.
-Seconds are of processor time for all seeds."""
+Each C2 has every fifth seed, of its own, so that no two rows share a random word. The two programs are given seeds of \
+the same numbers, and share no random words either.
+The last row is of all runs, each in parts of 1 + n / C2. Seconds are of processor time for all seeds."""
 
 
-def compare_star(programs, members=33, lost=40, seeds=20):
+def compare_star(programs: Programs, jobs: int, members: int = 33, lost: int = 40, seeds: int = 25) -> None:
     """Mean requests of a star with random timers, with intervals over seeds; the time of both programs."""
     print(STAR.format(members=members, losers=members - 1, seeds=seeds, lost=lost))
-    print(f"{'C2':>4} {'srm_lab':>24} {'ns-2':>24} {'1+(G-2)/C2':>11} {'difference':>24} {'srm_lab s':>10} "
-          f"{'ns-2 s':>8}")
-    for c2 in (2, 4, 8, 16, 32):
-        means, spent = [], []
+    print(f"{'C2':>4} {'seeds':>9} {'srm_lab':>24} {'ns-2':>24} {'1 + n / C2':>11} {'difference':>24} "
+          f"{'srm_lab s':>10} {'ns-2 s':>8}")
+    relative: tuple[list[float], list[float]] = ([], [])
+    for place, c2 in enumerate(CHANCES):
+        own = range(1 + place, 1 + len(CHANCES) * seeds, len(CHANCES))
         text = from_words(f"star --size {members + 1} --delay 1000 --draws {2 * lost} --drop-every 2 --no-session "
                           f"--drop-link adjacent --c1 2 --c2 {c2} --d1 1 --d2 0 --until 2000000")
-        for run in (lambda seed: programs.ours(text, seed), lambda seed: programs.ns2(text, (), seed, (0, 2))):
-            results = [run(seed) for seed in range(1, seeds + 1)]
-            means.append([counts(result)[0] / lost for result in results])
-            spent.append(sum(result.seconds for result in results))
-        print(f"{c2:4} {said_interval(interval(means[0])):>24} {said_interval(interval(means[1])):>24} "
-              f"{1 + (members - 2) / c2:11.3f} {said_interval(difference(*means)):>24} "
+        runs = (partial(programs.ours, text), partial(programs.ns2, text, (), cycle=(0, 2)))
+        means, spent = zip(*(requests_of(run, own, lost, jobs) for run in runs))
+        theory = 1 + (members - 1) / c2
+        for values, kept in zip(means, relative):
+            kept += [value / theory for value in values]
+        print(f"{c2:4} {own[0]:>4}..{own[-1]:<3} {said_interval(interval(means[0])):>24} "
+              f"{said_interval(interval(means[1])):>24} {theory:11.3f} {said_interval(difference(*means)):>24} "
               f"{spent[0]:10.2f} {spent[1]:8.2f}", flush=True)
+    print(f"{'all':>4} {'':>9} {said_interval(interval(relative[0])):>24} {said_interval(interval(relative[1])):>24} "
+          f"{1:11.3f} {said_interval(difference(*relative)):>24}")
 
 
-def said_interval(one):
+def requests_of(run: Callable[..., Result], seeds: range, lost: int, jobs: int) -> tuple[list[float], float]:
+    """The mean number of requests for a loss of each seed, and the processor time of all; `jobs` run side by side."""
+    begin = children_seconds()
+    with ThreadPoolExecutor(jobs) as pool:
+        results = list(pool.map(lambda seed: run(seed=seed), seeds))
+    return [counts(result)[0] / lost for result in results], children_seconds() - begin
+
+
+def said_interval(one: Interval) -> str:
     return f"{one.mean:.3f} [{one.low:.3f}, {one.high:.3f}]"
 
 
-def main():
+def main() -> int:
     words = argparse.ArgumentParser(description=__doc__, formatter_class=argparse.RawDescriptionHelpFormatter)
     words.add_argument("program")
     words.add_argument("--only", default="", help="a part of a family's name; then nothing else is run")
+    words.add_argument("--jobs", type=int, default=len(os.sched_getaffinity(0)), help="runs of the star side by side")
     words.add_argument("--table", type=Path, help="where a CSV row for each scenario is written")
     options = words.parse_args()
-    programs, rows = Programs(options.program), []
+    programs = Programs(options.program)
+    rows: list[list[Any]] = []
     wrong = compare_families(programs, options.only, rows)
     if options.table:
         options.table.parent.mkdir(parents=True, exist_ok=True)
@@ -351,7 +374,7 @@ def main():
           f"ns-2 {sum(float(row[9]) for row in rows):.2f}, {sum(float(row[10]) for row in rows):.2f} of them its runs")
     if not options.only:
         wrong += compare_differences(programs)
-        compare_star(programs)
+        compare_star(programs, options.jobs)
     return 1 if wrong else 0
 
 

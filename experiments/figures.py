@@ -7,6 +7,7 @@ A point is the mean over seeds of the means of each seed, with a 95 per cent int
 band is from the lower to the upper quartile of all losses.
 """
 import json
+import math
 import sys
 from collections.abc import Sequence
 from typing import Any
@@ -22,7 +23,10 @@ matplotlib.rcParams["font.size"] = 10
 import matplotlib.pyplot as plot  # noqa: E402
 from matplotlib.axes import Axes  # noqa: E402
 from matplotlib.figure import Figure  # noqa: E402
+from matplotlib.path import Path  # noqa: E402
+from matplotlib.text import Annotation  # noqa: E402
 from matplotlib.ticker import FixedLocator, FuncFormatter, NullLocator  # noqa: E402
+from matplotlib.transforms import Bbox  # noqa: E402
 from srm_lab.statistics import interval  # noqa: E402
 from srm_lab.sweep import Needs  # noqa: E402
 
@@ -86,17 +90,29 @@ def points_of(table: pandas.DataFrame, over: str, column: str) -> pandas.DataFra
 
 
 def means(axes: Axes, table: pandas.DataFrame, over: str, column: str, look: tuple[str, str, str],
-          band: bool = True) -> pandas.DataFrame:
-    """Means with intervals over seeds, joined by a line, and a band of quartiles; `look` is colour, mark, label."""
+          band: bool = True, joined: bool = True) -> pandas.DataFrame:
+    """Means with intervals over seeds, and quartiles of all losses; `look` is colour, mark, label.
+
+    Means that are not `joined` leave a line of theory beside them to be seen.
+    """
     colour, mark, label = look
     points = points_of(table, over, column)
     spread = [(points["mean"] - points["low"]).fillna(0), (points["high"] - points["mean"]).fillna(0)]
     axes.errorbar(points.index, points["mean"], yerr=spread, color=colour, marker=mark, markersize=4, capsize=3,
-                  linewidth=1.2, label=f"{label}: mean, 95% interval over seeds")
+                  linewidth=1.2, linestyle="-" if joined else "none", label=f"{label}: mean, 95% interval over seeds")
     if band:
+        quartiles(axes, points, colour, label)
+    return points
+
+
+def quartiles(axes: Axes, points: pandas.DataFrame, colour: str, label: str) -> None:
+    """The quartiles of all losses: a band, or, where both are the same at each point, a line."""
+    if (points["lower"] == points["upper"]).all():
+        axes.plot(points.index, points["lower"], color=colour, linewidth=1, linestyle=":",
+                  label=f"{label}: quartiles of all losses, both the same")
+    else:
         axes.fill_between(points.index, points["lower"], points["upper"], color=colour, alpha=0.15, linewidth=0,
                           label=f"{label}: quartiles of all losses")
-    return points
 
 
 def finish(figure: Figure, parts: Sequence[Axes], tables: Sequence[pandas.DataFrame], below: float = -0.2) -> Figure:
@@ -155,16 +171,16 @@ def lines(tables: list[pandas.DataFrame], words: dict[str, str]) -> Figure:
 
 
 def requests_in_a_star(tables: list[pandas.DataFrame], words: dict[str, str]) -> Figure:
-    """Requests against C2 where the source's own link loses, with 1 + (G - 2) / C2."""
+    """Requests against C2 where the source's own link loses, with 1 + n / C2 for n losers."""
     figure, (left, right) = plot.subplots(1, 2, figsize=(10, 5.2))
-    for table, colour, mark, style in zip(tables, (ORANGE, PURPLE), "os", STYLES):
-        members, c1 = int(table["size"].iloc[0]) - 1, table["c1"].iloc[0]
-        told = f"G = {members}, C1 = {c1:g}"
-        means(left, table, "c2", "requests", (colour, mark, told), band=False)
+    for table, (colour, other), mark, style in zip(tables, ((ORANGE, BLUE), (PURPLE, GREEN)), "os", STYLES):
+        losers, c1 = int(table["size"].iloc[0]) - 2, table["c1"].iloc[0]
+        told = f"n = {losers}, C1 = {c1:g}"
+        means(left, table, "c2", "requests", (colour, mark, told), band=False, joined=False)
         asked = [c2 / 10 for c2 in range(10, 10 * int(table["c2"].max()) + 1)]
-        left.plot(asked, [1 + (members - 2) / c2 for c2 in asked], color=THEORY, linewidth=1, linestyle=style,
-                  label=f"theory, 1 + (G - 2) / C2, G = {members}")
-        means(right, table, "c2", "ratio", ({ORANGE: BLUE, PURPLE: GREEN}[colour], mark, told), band=False)
+        left.plot(asked, [requests_of(losers, c2) for c2 in asked], color=THEORY, linewidth=1, linestyle=style,
+                  label=f"theory, 1 + n / C2, n = {losers}")
+        means(right, table, "c2", "ratio", (other, mark, told), band=False)
     left.set_yscale("log")
     name_ticks(left.yaxis, ROUND)
     left.set_ylabel(label_of("requests"))
@@ -173,6 +189,15 @@ def requests_in_a_star(tables: list[pandas.DataFrame], words: dict[str, str]) ->
     for axes in (left, right):
         axes.set_xlabel(label_of("c2"))
     return finish(figure, [left, right], tables)
+
+
+def requests_of(losers: int, c2: float) -> float:
+    """The expected number of requests of n losers, as far from each other as from the source, at C2 of at least 1.
+
+    Their timers are n uniform numbers from an interval of length C2 times the distance; those ask whose timers end
+    less than one distance after the first. That is 1 + n / C2, less C2^-n, which is 1 at C2 = 1 and soon nothing.
+    """
+    return 1 + losers / c2 - c2**-losers
 
 
 def chain_of_sure_timers(tables: list[pandas.DataFrame], words: dict[str, str]) -> Figure:
@@ -203,30 +228,68 @@ def chain_of_sure_timers(tables: list[pandas.DataFrame], words: dict[str, str]) 
 def requests_against_delay(tables: list[pandas.DataFrame], words: dict[str, str]) -> Figure:
     """Mean requests against mean delay, each point a C2, for near and far losses."""
     figure, parts = plot.subplots(1, 2, figsize=(10, 5.4))
-    for axes, table in zip(parts, tables):
-        size, c1 = int(table["size"].iloc[0]), table["c1"].iloc[0]
-        shape = f"{table['kind'].iloc[0]} of {size} members"
-        for link, colour, mark in zip(sorted(table["drop_link"].unique(), key=lambda text: int(text[5:])), COLOURS,
-                                      MARKS):
-            one = table[table["drop_link"] == link]
-            delay, requests = points_of(one, "c2", "ratio"), points_of(one, "c2", "requests")
-            hops = int(link[5:])
-            axes.errorbar(delay["mean"], requests["mean"], color=colour, marker=mark, markersize=4, linewidth=1,
-                          xerr=[delay["mean"] - delay["low"], delay["high"] - delay["mean"]], capsize=2,
-                          yerr=[requests["mean"] - requests["low"], requests["high"] - requests["mean"]],
-                          label=f"first loser {hops} link{'s' if hops > 1 else ''} away, C1 = {c1:g}: "
-                                "means, 95% intervals over seeds")
-            for c2 in delay.index:
-                axes.annotate(f"{c2:g}", (delay["mean"][c2], requests["mean"][c2]), textcoords="offset points",
-                              xytext=(4, 4), fontsize=7, color=colour)
-        axes.set_title(f"{shape}; at each mark its C2")
-        axes.set_xlabel("delay of the last member (round trips to the source)")
-        axes.set_ylabel("requests for a loss")
-        axes.set_xscale("log")
-        name_ticks(axes.xaxis, ROUND)
-        axes.set_xlim(0.8 * table.groupby(["drop_link", "c2"])["ratio"].mean().min(),
-                      1.25 * table.groupby(["drop_link", "c2"])["ratio"].mean().max())
-    return finish(figure, list(parts), tables, -0.16)
+    drawn = [trade_off(axes, table) for axes, table in zip(parts, tables)]
+    finish(figure, list(parts), tables, -0.16)
+    figure.tight_layout()  # labels are placed by what stands beside them in the finished picture
+    for axes, lines_drawn in zip(parts, drawn):
+        label_marks(axes, lines_drawn)
+    return figure
+
+
+def trade_off(axes: Axes, table: pandas.DataFrame) -> list[tuple[str, pandas.DataFrame, pandas.DataFrame]]:
+    """One panel; of each of its lines the colour, the delays and the requests."""
+    size, c1 = int(table["size"].iloc[0]), table["c1"].iloc[0]
+    drawn = []
+    for link, colour, mark in zip(sorted(table["drop_link"].unique(), key=lambda text: int(text[5:])), COLOURS, MARKS):
+        one = table[table["drop_link"] == link]
+        delay, requests = points_of(one, "c2", "ratio"), points_of(one, "c2", "requests")
+        hops = int(link[5:])
+        axes.errorbar(delay["mean"], requests["mean"], color=colour, marker=mark, markersize=4, linewidth=1,
+                      xerr=[delay["mean"] - delay["low"], delay["high"] - delay["mean"]], capsize=2,
+                      yerr=[requests["mean"] - requests["low"], requests["high"] - requests["mean"]],
+                      label=f"first loser {hops} link{'s' if hops > 1 else ''} away, C1 = {c1:g}: "
+                            "means, 95% intervals over seeds")
+        drawn.append((colour, delay, requests))
+    axes.set_title(f"{table['kind'].iloc[0]} of {size} members; at each mark its C2")
+    axes.set_xlabel("delay of the last member (round trips to the source)")
+    axes.set_ylabel("requests for a loss")
+    axes.set_xscale("log")
+    name_ticks(axes.xaxis, ROUND)
+    points = table.groupby(["drop_link", "c2"])["ratio"].mean()
+    axes.set_xlim(0.8 * points.min(), 1.25 * points.max())
+    return drawn
+
+
+def label_marks(axes: Axes, drawn: list[tuple[str, pandas.DataFrame, pandas.DataFrame]]) -> None:
+    """Writes beside each mark what it stands for, where no line, interval or other label is in the way."""
+    taken = [Path(axes.transData.transform(one)) for _, delay, requests in drawn for one in strokes(delay, requests)]
+    boxes: list[Bbox] = []
+    for colour, delay, requests in drawn:
+        for c2 in delay.index:
+            label = axes.annotate(f"{c2:g}", (delay["mean"][c2], requests["mean"][c2]), textcoords="offset points",
+                                  xytext=(0, 0), fontsize=7, color=colour, ha="center", va="center_baseline")
+            label.xyann = min(AROUND, key=lambda offset: crossings(label, offset, taken, boxes))
+            boxes.append(label.get_window_extent())
+
+
+AROUND = [(far * math.cos(turn * math.pi / 8), far * math.sin(turn * math.pi / 8))
+          for far in (8, 10, 12, 15, 18) for turn in (2, 1, 3, 0, 4, 6, 14, 12, 10, 8, 5, 7, 9, 11, 13, 15)]
+
+
+def strokes(delay: pandas.DataFrame, requests: pandas.DataFrame) -> list[list[tuple[float, float]]]:
+    """The line through the means, and their intervals, each as its corners."""
+    found = [list(zip(delay["mean"], requests["mean"]))]
+    for (_, x), (_, y) in zip(delay.iterrows(), requests.iterrows()):
+        found += [[(x["low"], y["mean"]), (x["high"], y["mean"])], [(x["mean"], y["low"]), (x["mean"], y["high"])]]
+    return [corners for corners in found if not any(math.isnan(value) for corner in corners for value in corner)]
+
+
+def crossings(label: Annotation, offset: tuple[float, float], taken: list[Path], boxes: list[Bbox]) -> int:
+    """How many strokes and other labels are in the way of a label that stands at this offset from its mark."""
+    label.xyann = offset
+    box = label.get_window_extent().padded(1.5)
+    return (sum(path.intersects_bbox(box, filled=False) for path in taken)
+            + sum(box.overlaps(other) for other in boxes))
 
 
 DRAWS = {draw.__name__: draw for draw in (
@@ -246,6 +309,7 @@ def main(words: str, svg: str, png: str, *paths: str) -> None:
     figure.tight_layout()
     figure.savefig(svg, metadata={"Date": None}, bbox_inches="tight")
     figure.savefig(png, dpi=150, metadata={"Software": None}, bbox_inches="tight")
+    plot.close(figure)
 
 
 if __name__ == "__main__":

@@ -36,7 +36,7 @@ def table_of(experiment: Experiment, path: Path) -> tuple[str, str]:
     columns = ["requests", "repairs", "ratio", *experiment.metrics]
     rows = []
     keys = experiment.varied or ["kind"]
-    for point, group in table.groupby(keys):
+    for point, group in table.groupby(keys if len(keys) > 1 else keys[0]):
         values = point if isinstance(point, tuple) else (point,)
         seeds = group.groupby("seed")
         rows.append({**dict(zip(keys, values)), "seeds": seeds.ngroups, "losses": len(group),

@@ -13,15 +13,15 @@ ROWS = "".join(
     f"chain,{size},{size},hops:{hops},1000,2,1,{c2},{seed},0/0/0,3,0,0,{seed},1,{1000 * (hops + 3)},"
     f"{1000 * (hops + 3)},6000,4000\n"
     for size in (10, 20) for hops in (1, 2) for c2 in (1, 2) for seed in (1, 2, 3))
-WORDS = {
+WORDS: dict[str, dict[str, str]] = {
     "over_session_size": {"over": "size"}, "requests_in_a_star": {}, "chain_of_sure_timers": {},
     "requests_against_delay": {}, "lines": {"x": "c2", "y": "ratio", "by": "drop_link"},
 }
 LABELS = {
     "over_session_size": ["requests for a loss", "repairs for a loss", "(round trips to the source)", "nodes",
                           "requests: mean, 95% interval over seeds", "requests: quartiles of all losses", "(a)", "(c)"],
-    "requests_in_a_star": ["requests for a loss", "C2", "theory, 1 + (G - 2) / C2, G = 9", "(a)", "(b)",
-                           "G = 9, C1 = 2: mean, 95% interval over seeds"],
+    "requests_in_a_star": ["requests for a loss", "C2", "theory, 1 + n / C2, n = 8", "(a)", "(b)",
+                           "n = 8, C1 = 2: mean, 95% interval over seeds"],
     "chain_of_sure_timers": ["packets for a loss", "recovery delay (delays of a link)", "(b)",
                              "theory, C1 s + 2 + D1, C1 = 2, D1 = 1", "s: links from the source to the first loser"],
     "requests_against_delay": ["requests for a loss", "delay of the last member (round trips to the source)",
@@ -75,6 +75,41 @@ def test_what_is_left_out_is_counted_in_the_figure(tmp_path):
     assert any("left out: 1 of 26 operations, all of whose losers left" in text for text in texts)
     assert any("3 losses ended with a leave" in text for text in texts)
     assert not any("left out" in text for text in texts_of(drawn(tmp_path, "lines", WORDS["lines"], ROWS)[0]))
+
+
+def test_quartiles_that_are_the_same_are_a_line_and_no_band(tmp_path):
+    rows = ROWS.replace(",1000,2,1,1,2,", ",1000,2,1,1,1,")
+    texts = texts_of(drawn(tmp_path, "over_session_size", {"over": "size"}, rows)[0])
+    assert "repairs: quartiles of all losses, both the same" in texts  # each loss has one repair
+    assert "requests: quartiles of all losses" in texts  # and one to three requests
+
+
+@pytest.mark.parametrize("losers, c2, expected", [
+    (99, 1, 99),  # all ask: the interval is as wide as the way from one to the other
+    (1, 7, 1),
+    (2, 4, 1 + 7 / 16),  # two of 0..4 are less than 1 apart with a chance of 1 - (3 / 4)^2
+    (32, 16, 3),
+])
+def test_expected_requests_in_a_star(losers, c2, expected):
+    assert figures.requests_of(losers, c2) == pytest.approx(expected)
+
+
+def test_no_line_runs_through_a_label(tmp_path):
+    path = tmp_path / "one.csv"
+    path.write_text(HEADER + "".join(
+        f"chain,10,10,hops:{hops},1000,2,1,{c2},{seed},0/0/0,3,0,0,{hops + (c2 - 3)**2 + seed},1,"
+        f"{delay},{delay},{delay},4000\n"
+        for hops in (1, 2) for c2 in range(1, 7) for seed in (1, 2, 3) for delay in [1000 * (hops + c2) + 50 * seed]))
+    figure = figures.requests_against_delay([figures.read(path)] * 2, {})
+    for axes in figure.axes:
+        labels = [text.get_window_extent() for text in axes.texts]
+        assert len(labels) == 12
+        for box in labels:
+            assert sum(box.overlaps(other) for other in labels) == 1  # itself
+            for container in axes.containers:
+                line, _, bars = container.lines
+                for stroke in [line.get_path(), *(path for bar in bars for path in bar.get_paths())]:
+                    assert not axes.transData.transform_path(stroke).intersects_bbox(box, filled=False)
 
 
 def test_no_legend_stands_over_data(tmp_path, monkeypatch):

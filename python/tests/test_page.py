@@ -54,8 +54,9 @@ def document(name, seed=0, **cut):
 
 def head_of(page):
     """The JSON at the head of a page's data."""
-    data = re.search(r'id="data">([^<]*)<', page).group(1)
-    body = zlib.decompress(base64.b64decode(data))
+    data = re.search(r'id="data">([^<]*)<', page)
+    assert data is not None
+    body = zlib.decompress(base64.b64decode(data.group(1)))
     length, at, factor = 0, 0, 1
     while True:
         length += (body[at] & 127) * factor

@@ -123,7 +123,7 @@ def expected(trace, losses, tick):
     those that it lacks, those that it asked for or heard a request for, and those that it plans to repair."""
     rows = [row for row in csv.DictReader(io.StringIO(trace)) if int(row["time"]) <= tick]
     names = {row["sent"]: row["ref"] for row in rows if row["sent"] != "-"}
-    found = {}
+    found: dict[int, dict] = {}
     for row in rows:
         nothing = {"there": False, "left": False, "held": 0, "asked": set(), "plans": set()}
         member = found.setdefault(int(row["member"]), nothing)

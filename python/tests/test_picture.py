@@ -153,6 +153,7 @@ def test_member_that_left_lacks_nothing_after_its_leave(capsys, tmp_path):
     assert "member 1 lacks 0/0/0 from 20 till it leaves at 25" in text
     assert "member 1 leaves at 25" in text
     box = re.search(r'class="loss" x="([^"]*)" y="[^"]*" width="([^"]*)"[^>]*><title>member 1 lacks', text)
+    assert box is not None
     assert (float(box[1]) - 130 + float(box[2])) / (840 / 90) == pytest.approx(25, abs=0.01)
 
 

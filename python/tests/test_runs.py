@@ -170,6 +170,27 @@ def test_tables_on_disk(program, tmp_path):
     assert pandas.read_csv(path)["delay"].tolist() == runs.losses["delay"].tolist()
 
 
+def test_tables_as_parquet(program, tmp_path):
+    pytest.importorskip("pyarrow")
+    runs = run(scenario.chain(3).drop(1, 0), range(2), tables=TABLES, program=program, cache=None)
+    for name, path in zip(TABLES, runs.save(tmp_path, "parquet")):
+        pandas.testing.assert_frame_equal(pandas.read_parquet(path), runs.table(name))
+
+
+def test_what_parquet_needs_is_told_where_it_is_missing(program, tmp_path, monkeypatch):
+    for package in ("pyarrow", "fastparquet"):
+        monkeypatch.setitem(sys.modules, package, None)  # as if it were not installed
+    runs = run(scenario.chain(3).drop(1, 0), program=program, cache=None)
+    with pytest.raises(ScenarioError, match="parquet needs pyarrow or fastparquet"):
+        runs.save(tmp_path, "parquet")
+
+
+@pytest.mark.parametrize("ending", ["xlsx", ""])
+def test_other_endings_are_refused(ending, program, tmp_path):
+    with pytest.raises(ScenarioError, match="has to be csv or parquet"):
+        run(scenario.chain(3), program=program, cache=None).save(tmp_path, ending)
+
+
 def test_follower_forgets_packets_that_have_come_to_everyone(srm_lab):
     given = scenario.chain(5, delay=10).drawing(2000, every=10).lose(every=50, link=2)
     follower = Follower(given)

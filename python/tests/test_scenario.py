@@ -16,6 +16,7 @@ FILES = sorted([*(ROOT / "examples").glob("*.toml"), *(ROOT / "tests/scenarios")
 def refusals():
     """The texts of tests/refusals.txt, each with what the program answers."""
     spec = importlib.util.spec_from_file_location("refusals", ROOT / "tests/refusals.py")
+    assert spec is not None and spec.loader is not None
     module = importlib.util.module_from_spec(spec)
     spec.loader.exec_module(module)
     return list(module.cases(module.CASES.read_text(encoding="utf-8")))

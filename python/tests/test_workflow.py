@@ -1,4 +1,5 @@
 """The workflow, with a stand-in for the program: what is refused, and what goes on."""
+import fcntl
 import json
 import os
 import re
@@ -25,8 +26,9 @@ time,member,cause,ref,result,lost,sent
 END
 """
 METRIC = "def repairs_of_the_source(runs):\n    return int(runs.members['repairs'][0])\n"
-CONFIG = {"experiments": {"one": {"kind": "chain", "size": 2, "drop_link": 0, "seeds": 3}},
-          "figures": {"delay": {"draw": "lines", "of": ["one"], "x": "size", "y": "ratio"}}}
+ONE: dict = {"kind": "chain", "size": 2, "drop_link": 0, "seeds": 3}
+CONFIG: dict[str, dict] = {"experiments": {"one": ONE},
+                           "figures": {"delay": {"draw": "lines", "of": ["one"], "x": "size", "y": "ratio"}}}
 ROWS = [f"chain,2,0,{seed},0/0/0,1,0,0,1,1,5000,5000,5000,2000,1" for seed in (1, 2, 3)]
 
 
@@ -42,7 +44,7 @@ def sweep(tmp_path):
     (tmp_path / "metric.py").write_text(METRIC)
 
     def run(refuse, **change):
-        one = {**CONFIG["experiments"]["one"], "metrics": {"own": f"{tmp_path}/metric.py:repairs_of_the_source"}}
+        one = {**ONE, "metrics": {"own": f"{tmp_path}/metric.py:repairs_of_the_source"}}
         config.write_text(json.dumps({**CONFIG, "experiments": {"one": one}, "program": str(program),
                                       "results": str(tmp_path / "results"), **change}))
         return subprocess.run(
@@ -50,23 +52,23 @@ def sweep(tmp_path):
              "--nolock", "--rerun-incomplete", "--show-failed-logs"],
             cwd=HERE, env={**os.environ, "REFUSE": refuse}, capture_output=True, text=True, check=False)
 
-    run.results = tmp_path / "results"
     return run
 
 
-def test_refused_run_fails_alone_and_is_run_again(sweep):
+def test_refused_run_fails_alone_and_is_run_again(sweep, tmp_path):
     first = sweep("2")
-    runs = sweep.results / "runs/one/only"
+    results = tmp_path / "results"
+    runs = results / "runs/one/only"
     assert first.returncode != 0 and "refused: bad-drop 0" in first.stderr
-    assert not (sweep.results / "tables/one.csv").exists()
+    assert not (results / "tables/one.csv").exists()
     assert [(runs / f"seed-{seed}.losses.csv").exists() for seed in (1, 2, 3)] == [True, False, True]
     assert (runs / "seed-2.run.log").read_text() == "refused: bad-drop 0\n"
     before = [(runs / f"seed-{seed}.losses.csv").stat().st_mtime_ns for seed in (1, 3)]
     second = sweep("none")
     assert second.returncode == 0, second.stderr
     assert [(runs / f"seed-{seed}.losses.csv").stat().st_mtime_ns for seed in (1, 3)] == before
-    assert (sweep.results / "tables/one.csv").read_text().splitlines()[1:] == ROWS
-    report = (sweep.results / "report.html").read_text()
+    assert (results / "tables/one.csv").read_text().splitlines()[1:] == ROWS
+    report = (results / "report.html").read_text()
     assert "<svg" in report and "size: 2" in report and "pandas" in report and "http-equiv" not in report
     assert not re.search(r'(src|href)="(?!#|data:)', report.replace("xlink:href=\"#", ""))
 
@@ -75,10 +77,10 @@ def test_refused_run_fails_alone_and_is_run_again(sweep):
     ({"experiments": {"one": {"kind": "chain", "size": 2, "sizes": 3, "seeds": 1}}}, "there is no key 'sizes'"),
     ({"figures": {"f": {"draw": "line", "of": ["one"]}}}, "figure f, draw: there is no 'line'"),
 ])
-def test_configuration_is_refused_once_before_the_first_run(sweep, change, told):
+def test_configuration_is_refused_once_before_the_first_run(sweep, change, told, tmp_path):
     done = sweep("none", **change)
     assert done.returncode != 0 and (done.stdout + done.stderr).count(told) == 1
-    assert not sweep.results.exists()
+    assert not (tmp_path / "results").exists()
 
 
 def make(*words, cwd=HERE.parent):
@@ -95,6 +97,45 @@ def test_configuration_is_taken_from_where_make_was_called(tmp_path):
                                                         cwd=tmp_path)
     assert f"--configfile {HERE}/small.yaml" in make("SRM_LAB=/bin/true", "experiments", "CONFIG=small.yaml")
     assert f"--configfile {HERE}/config.yaml" in make("SRM_LAB=/bin/true", "experiments")
+
+
+@pytest.fixture
+def started(tmp_path):
+    """Starts `make experiments` of a small sweep, whose program waits until a file is there."""
+    if shutil.which("snakemake") is None:
+        pytest.skip("no snakemake")
+
+    def start(name, waits_for):
+        begun, program, config = (tmp_path / f"{name}.{ending}" for ending in ("begun", "sh", "json"))
+        waiting = f"touch {begun}\nuntil [ -e {waits_for} ]; do sleep 0.1; done\n"
+        program.write_text(PROGRAM.replace("#!/bin/sh\n", f"#!/bin/sh\n{waiting}"))
+        program.chmod(0o755)
+        config.write_text(json.dumps({"experiments": {"one": {**ONE, "seeds": 1}},
+                                      "results": str(tmp_path / name)}))
+        return subprocess.Popen(["make", "-s", f"--directory={HERE.parent}", "experiments", f"CONFIG={config}",
+                                 f"SRM_LAB={program}", "JOBS=1"], stderr=subprocess.PIPE, stdout=subprocess.PIPE,
+                                text=True)
+
+    return start
+
+
+def test_sweeps_with_different_results_run_side_by_side(started, tmp_path):
+    """The program of each waits until that of the other has begun, so neither would end after the other."""
+    sweeps = started("first", tmp_path / "second.begun"), started("second", tmp_path / "first.begun")
+    for sweep, name in zip(sweeps, ("first", "second")):
+        _, told = sweep.communicate(timeout=600)
+        assert sweep.returncode == 0, told
+        assert len((tmp_path / name / "tables/one.csv").read_text().splitlines()) == 2
+
+
+def test_second_sweep_into_the_same_results_is_refused_at_once(started, tmp_path):
+    results = tmp_path / "same"
+    results.mkdir()
+    with open(results / ".lock", "w") as lock:
+        fcntl.flock(lock, fcntl.LOCK_EX)
+        sweep = started("same", "/")
+        _, told = sweep.communicate(timeout=600)
+    assert sweep.returncode != 0 and "failed to get lock" in told and not (results / "runs").exists()
 
 
 def test_sweeps_with_different_results_have_different_locks():

@@ -3,7 +3,8 @@ import argparse
 import random
 import shlex
 import sys
-from collections.abc import Callable, Sequence
+from collections.abc import Callable, Iterator, Sequence
+from contextlib import contextmanager
 from dataclasses import replace
 
 from . import graphs, losses, tree
@@ -12,7 +13,7 @@ from .graphs import Delays
 from .limits import MOST_TIME, NEWEST, within
 from .page import command as page_command
 from .parts import Draw, Drop, Member, Session
-from .scenario import Scenario, Ticks, place_members, thousandths
+from .scenario import Scenario, Ticks, from_router_map, place_members, thousandths
 from .tree import Tree
 
 ABOUT = """Writes a scenario file of srm_lab to standard output.
@@ -35,7 +36,12 @@ def network(options: argparse.Namespace, rng: random.Random) -> Tree:
         "random": lambda: tree.random_labelled(options.size, delay, rng),
         "file": lambda: graph_of(options),
     }
-    made = kinds[options.kind]()
+    return kinds[options.kind]()
+
+
+def with_delays(made: Tree, options: argparse.Namespace, rng: random.Random) -> Tree:
+    """The network with the random delays, and those of the other direction, that the command line asks for."""
+    delay = DELAY if options.delay is None else options.delay
     if options.delay_to is not None:
         if made.hub is not None:
             raise ScenarioError("the format has one delay for all links of a star: leave out --delay-to")
@@ -52,8 +58,15 @@ def graph_of(options: argparse.Namespace) -> Tree:
     """The network in the file of the command line."""
     delays = Delays(options.delay_attribute, options.delay, options.factor, options.back_attribute)
     root = None if options.source in ("first", "random") else options.source
-    try:
+    with as_options():
         return graphs.from_file(options.path, delays, options.spanning_tree, root)
+
+
+@contextmanager
+def as_options() -> Iterator[None]:
+    """What is refused inside is told in the words of the command line."""
+    try:
+        yield
     except ScenarioError as fault:
         raise ScenarioError(str(fault).replace("no default delay is given", "--delay gives none")
                             .replace("spanning_tree=\"shortest\" or \"minimum\"", "--spanning-tree shortest or minimum")
@@ -101,11 +114,26 @@ def outage(text: str) -> tuple[int, int, int]:
     return int(link), *range_
 
 
+def mapped(options: argparse.Namespace) -> tuple[Tree, list[int]]:
+    """The tree that a session on the map in a file uses, and its members' nodes, the source's first."""
+    delays = Delays(options.delay_attribute, options.delay, options.factor, options.back_attribute)
+    members = options.members
+    if members != "all":
+        members = int(members) if members.isdigit() else members.split(",")
+    with as_options():
+        made = from_router_map(options.path, delays, members, options.source, options.seed)
+    return made.tree, [member.node for member in made.members]
+
+
 def build(options: argparse.Namespace) -> Scenario:
     """The scenario of a parsed command line."""
     rng = random.Random(options.seed)
-    made = network(options, rng)
-    nodes = members_of(options, made, rng)
+    if options.kind == "map":
+        made, nodes = mapped(options)
+        made = with_delays(made, options, rng)
+    else:
+        made = with_delays(network(options, rng), options, rng)
+        nodes = members_of(options, made, rng)
     within("--draws", options.draws, 0, NEWEST.elements)
     within("--every", options.every, 1, MOST_TIME)
     draws = [within("the tick of a draw", options.start + place * options.every, 0, MOST_TIME)
@@ -159,7 +187,8 @@ def common_options() -> argparse.ArgumentParser:
     add("--delay-to", type=int, metavar="MOST", help="random delays from --delay to this")
     add("--back", type=int, metavar="DELAY", help="delay of each link in the other direction (default the same)")
     add("--back-to", type=int, metavar="MOST", help="random delays in the other direction, from --back to this")
-    add("--members", default="all", metavar="N", help="how many members, the source among them, or all (default)")
+    add("--members", default="all", metavar="N", help="how many members, the source among them, or all (default); "
+        "of a map also their names, parted by commas")
     add("--source", default="first", metavar="NODE", help="the source's node: number, name, first (default) or random")
     add("--seed", type=int, default=0, help="seed of all random choices (default 0)")
     for name, default in (("c1", "2"), ("c2", "2"), ("d1", "1"), ("d2", "1")):
@@ -201,13 +230,19 @@ def parser() -> argparse.ArgumentParser:
         one.add_argument("--size", type=int, required=True, help="how many nodes, a star's hub among them")
         if kind == "tree":
             one.add_argument("--degree", type=int, default=4, help="degree of inner nodes (default 4)")
-    told = "a graph in GraphML (.graphml), GML (.gml) or a list of edges (.edges, .edgelist, .txt)"
-    one = kinds.add_parser("file", help=told, description=told, parents=[common])
-    one.add_argument("path")
-    one.add_argument("--delay-attribute", default="delay", metavar="NAME", help="an edge's delay (default delay)")
-    one.add_argument("--back-attribute", metavar="NAME", help="an edge's delay in the other direction")
-    one.add_argument("--factor", type=float, default=1, metavar="X", help="ticks for each unit of these delays")
-    one.add_argument("--spanning-tree", choices=graphs.SPANNING, help="the tree that is taken of a graph that is none")
+    files = "GraphML (.graphml), GML (.gml) or a list of edges (.edges, .edgelist, .txt)"
+    for kind, told in (
+        ("file", f"a graph in {files}"),
+        ("map", f"the tree that a session on a map of routers uses; the map is in {files}"),
+    ):
+        one = kinds.add_parser(kind, help=told, description=told, parents=[common])
+        one.add_argument("path")
+        one.add_argument("--delay-attribute", default="delay", metavar="NAME", help="an edge's delay (default delay)")
+        one.add_argument("--back-attribute", metavar="NAME", help="an edge's delay in the other direction")
+        one.add_argument("--factor", type=float, default=1, metavar="X", help="ticks for each unit of these delays")
+        if kind == "file":
+            one.add_argument("--spanning-tree", choices=graphs.SPANNING,
+                             help="the tree that is taken of a graph that is none")
     return whole
 
 

@@ -55,8 +55,8 @@ def from_graph(graph: Any, delays: Delays = Delays(), spanning_tree: str | None 
     if graph.number_of_nodes() > MOST_NODES:
         raise ScenarioError(f"the graph has {graph.number_of_nodes()} nodes, and the format has room for {MOST_NODES}")
     number = {node: place for place, node in enumerate(graph.nodes)}
-    _check_names(number)
-    links = _links_of(graph, delays)
+    check_names(number)
+    links = links_of(graph, delays)
     if spanning_tree is not None:
         links = _spanned(list(number), links, spanning_tree, root)
     elif number and len(links) != len(number) - 1:
@@ -66,7 +66,7 @@ def from_graph(graph: Any, delays: Delays = Delays(), spanning_tree: str | None 
     return Tree(len(number), made, names=tuple(str(node) for node in number))
 
 
-def _check_names(nodes: Iterable[Any]) -> None:
+def check_names(nodes: Iterable[Any]) -> None:
     """Refuses two nodes whose names are one text, such as 1 and "1"."""
     known: set[str] = set()
     for node in nodes:
@@ -75,7 +75,7 @@ def _check_names(nodes: Iterable[Any]) -> None:
         known.add(str(node))
 
 
-def _links_of(graph: Any, delays: Delays) -> list[tuple[Any, Any, int, int]]:
+def links_of(graph: Any, delays: Delays) -> list[tuple[Any, Any, int, int]]:
     """Each edge with its delays; of a directed graph the two edges between two nodes are one link."""
     links: dict[tuple[Any, Any], tuple[Any, Any, int, int]] = {}
     many = []
@@ -124,31 +124,41 @@ def _spanned(nodes: list[Any], links: list[tuple[Any, Any, int, int]], which: st
 
 def from_file(path: str | Path, delays: Delays = Delays(), spanning_tree: str | None = None,
               root: str | None = None) -> Tree:
-    """The tree in a GraphML or GML file, or in a list of edges (`node node` or `node node delay` in each line)."""
+    """The tree in a GraphML or GML file, or in a list of edges, as `read_graph` reads them."""
+    graph = read_graph(path, delays.attribute)
+    try:
+        return from_graph(graph, delays, spanning_tree, node_of(graph, root))
+    except ScenarioError as fault:
+        raise ScenarioError(f"{path}: {fault}") from None
+
+
+def node_of(graph: Any, name: Any) -> Any:
+    """The node of a graph that has this name, or the name itself where there is none."""
+    return name if name is None or name in graph else next((node for node in graph if str(node) == str(name)), name)
+
+
+def read_graph(path: str | Path, attribute: str = "delay") -> Any:
+    """The graph in a GraphML or GML file, or in a list of edges (`node node` or `node node delay` in each line).
+
+    The delays of a list of edges become this attribute.
+    """
     import networkx  # here, since most scenarios are made without it, and it takes long to load
 
     name = str(path).lower()
     try:
         if name.endswith(".graphml"):
-            graph = networkx.read_graphml(path)
-        elif name.endswith(".gml"):
-            graph = networkx.read_gml(path, label=None if _has_no_labels(path) else "label")
-        elif name.endswith((".edges", ".edgelist", ".txt")):
-            graph = _edge_list(path, delays.attribute)
-        else:
-            raise ScenarioError(f"{path}: the name has to end in .graphml, .gml, .edges, .edgelist or .txt")
+            return networkx.read_graphml(path)
+        if name.endswith(".gml"):
+            return networkx.read_gml(path, label=None if _has_no_labels(path) else "label")
+        if name.endswith((".edges", ".edgelist", ".txt")):
+            return _edge_list(path, attribute)
     except OSError as fault:
         raise ScenarioError(f"{path}: {fault.strerror}") from None
     except ScenarioError:
         raise
     except Exception as fault:  # each of networkx's readers has exceptions of its own
         raise ScenarioError(f"{path}: cannot be read as a graph: {fault}") from None
-    if root is not None:
-        root = next((node for node in graph.nodes if str(node) == root), root)
-    try:
-        return from_graph(graph, delays, spanning_tree, root)
-    except ScenarioError as fault:
-        raise ScenarioError(f"{path}: {fault}") from None
+    raise ScenarioError(f"{path}: the name has to end in .graphml, .gml, .edges, .edgelist or .txt")
 
 
 def _has_no_labels(path: str | Path) -> bool:

@@ -13,7 +13,7 @@ from .rules import check_rules
 from .scenario import Scenario
 from .toml_text import read_toml
 from .tree import Tree
-from .writing import NAMES
+from .writing import NAMES, ROUTES
 
 
 def read_scenario(text: str | bytes) -> Scenario:
@@ -44,9 +44,10 @@ def from_table(table: dict[str, Any], comments: list[str] | None = None) -> Scen
     check_keys(table)
     comments = comments or []
     names = {line: found for line in comments if (found := _names_in(line, table.get("nodes")))}
-    told = next(iter(names), None)
+    routes = {line: ways for line in comments if (ways := _routes_in(line, len(table.get("link", []))))}
+    told = next(iter(names), ""), next(iter(routes), "")
     try:
-        network = tree_of(table, () if told is None else names[told])
+        network = tree_of(table, names.get(told[0], ()), routes.get(told[1], ()))
     except ScenarioError as fault:
         raise ScenarioError(f"the network: {fault}", "tree") from None
     given = Scenario(
@@ -60,19 +61,19 @@ def from_table(table: dict[str, Any], comments: list[str] | None = None) -> Scen
         drops=tuple(Drop(**one) for one in table.get("drop", [])),
         outages=tuple(Outage(one["link"], one["from"], one["to"]) for one in table.get("outage", [])),
         version=table["version"],
-        comments=tuple(line for line in comments if line != told),
+        comments=tuple(line for line in comments if line not in told or not line),
     )
     check_rules(given)
     return given
 
 
-def tree_of(table: dict[str, Any], names: tuple[str, ...] = ()) -> Tree:
+def tree_of(table: dict[str, Any], names: tuple[str, ...] = (), routes: tuple[tuple[str, ...], ...] = ()) -> Tree:
     """The network of a scenario's table."""
     shape = table.get("topology")
     if shape is None:
         links = tuple(Link(one["a"], one["b"], one["delay"], one.get("back", one["delay"]))
                       for one in table.get("link", []))
-        return Tree(table["nodes"], links, names=names)
+        return Tree(table["nodes"], links, names=names, routes=routes)
     if shape == "tree":
         made = trees.bounded_degree(table["size"], table["degree"], table["delay"])
     else:
@@ -80,14 +81,27 @@ def tree_of(table: dict[str, Any], names: tuple[str, ...] = ()) -> Tree:
     return made.with_back(table["back"]) if "back" in table else made
 
 
+def _told(line: str, what: str) -> list[Any]:
+    """The list that a line of comment tells of this, and an empty one where it tells something else."""
+    try:
+        found = json.loads(line.removeprefix(what)) if line.startswith(what) else []
+    except ValueError:
+        return []
+    return found if isinstance(found, list) else []
+
+
 def _names_in(line: str, nodes: int | None) -> tuple[str, ...]:
     """The names of so many nodes that a line of comment tells, none where it tells something else."""
-    try:
-        found = json.loads(line.removeprefix(NAMES)) if line.startswith(NAMES) else None
-    except ValueError:
-        found = None
-    is_told = isinstance(found, list) and all(isinstance(name, str) for name in found)
+    found = _told(line, NAMES)
+    is_told = all(isinstance(name, str) for name in found)
     return tuple(found) if is_told and len(set(found)) == len(found) == nodes else ()
+
+
+def _routes_in(line: str, links: int) -> tuple[tuple[str, ...], ...]:
+    """The routes of so many links that a line of comment tells, none where it tells something else."""
+    found = _told(line, ROUTES)
+    is_told = all(isinstance(route, list) and all(isinstance(name, str) for name in route) for route in found)
+    return tuple(tuple(route) for route in found) if is_told and len(found) == links else ()
 
 
 def _comments(text: str) -> list[str]:

@@ -125,7 +125,7 @@ class Runs:
         return summarise(frame, column, by, method=method, level=level)
 
     def save(self, directory: str | Path, ending: str = "csv") -> list[Path]:
-        """Writes each table to a file, as `csv` or (where pandas can) `parquet`."""
+        """Writes each table to a file, as `csv` or `parquet`; the latter needs pyarrow or fastparquet besides."""
         directory = Path(directory)
         directory.mkdir(parents=True, exist_ok=True)
         writers: dict[str, Callable[[pandas.DataFrame, Path], None]] = {
@@ -136,7 +136,11 @@ class Runs:
         paths = []
         for name, table in self.tables.items():
             paths.append(directory / f"{name}.{ending}")
-            writers[ending](table, paths[-1])
+            try:
+                writers[ending](table, paths[-1])
+            except ImportError:
+                raise ScenarioError("parquet needs pyarrow or fastparquet, and neither of these Python packages is "
+                                    "installed (Debian 12 has none: pip install srm_lab[parquet])") from None
         return paths
 
 

@@ -16,7 +16,7 @@ from functools import cached_property
 from pathlib import Path
 from typing import Any
 
-from . import graphs, losses, tree as trees, writing
+from . import graphs, losses, router_map, tree as trees, writing
 from .errors import ScenarioError
 from .form import check_keys
 from .graphs import Delays
@@ -343,13 +343,48 @@ def from_file(path: str | Path, delays: Delays | int = Delays(), spanning_tree: 
     return on(graphs.from_file(path, delays, spanning_tree, root), members, source, seed)
 
 
+def from_router_map(graph: Any, delays: Delays | int = Delays(), members: int | str | Iterable[Any] = "all",
+                    source: Any = "first", seed: int = 0) -> Scenario:
+    """A session on a map of routers of any size: the tree of shortest ways from the source to the members.
+
+    `graph` is a networkx graph or the path of a file. `members` names their nodes, or says how many there are, the
+    source among them, chosen at random among those that the source reaches, or `all`. Ways on which there is no member
+    are left out, and routers that only hand on are joined into one link with those beside them; `tree.names` and
+    `tree.routes` lead back to the map. The tree may have 1,024 nodes. `srm_lab.router_map` has the rules.
+    """
+    delays = Delays(default=delays) if isinstance(delays, int) else delays
+    if isinstance(graph, (str, Path)):
+        graph = graphs.read_graph(graph, delays.attribute)
+    if not graph:
+        raise ScenarioError("the map has no node")
+    rng = random.Random(f"members {seed}")
+    root = graphs.node_of(graph, source)
+    if root not in graph:
+        if source not in ("first", "random"):
+            raise ScenarioError(f"the map has no node {source!r}")
+        root = next(iter(graph)) if source == "first" else rng.choice(list(graph))
+    steps = router_map.shortest_ways(graph, delays, root)
+    others = router_map.reached(graph, root, steps)
+    if isinstance(members, int):
+        picked = set(rng.sample(range(len(others)), within("members", members, 1, len(others) + 1) - 1))
+        others = [node for place, node in enumerate(others) if place in picked]
+    elif members != "all":
+        others = router_map.named(graph, root, steps, [members] if isinstance(members, str) else members)
+    tree = router_map.reduced(graph, root, steps, others)
+    return _session(tree, [tree.number(str(node)) for node in (root, *others)], seed)
+
+
 def on(tree: Tree, members: int | str = "all", source: int | str = "first", seed: int = 0) -> Scenario:
     """A session on a network: member 0, a sender, draws 100 times, 100 ticks apart, and the others receive.
 
     `members` is how many there are, the source among them, on nodes chosen at random, or `all`. `source` is a node by
     its number or name, `first` or `random`. `drawing` puts other draws in place of these.
     """
-    nodes = place_members(tree, members, source, random.Random(f"members {seed}"))
+    return _session(tree, place_members(tree, members, source, random.Random(f"members {seed}")), seed)
+
+
+def _session(tree: Tree, nodes: Iterable[int], seed: int) -> Scenario:
+    """A session of members on these nodes, the source's first."""
     made = tuple(Member(node, "receiver" if place else "sender", place + 1) for place, node in enumerate(nodes))
     return Scenario(tree, made, seed=seed).drawing(100)
 

@@ -68,7 +68,7 @@ class Experiment:
         """The words of `srm-scenarios` for a point and a seed."""
         point = self.points[label]
         words = [str(point["kind"])]
-        if point["kind"] == "file":
+        if point["kind"] in ("file", "map"):
             words.append(str(point["path"]))
         for key, value in point.items():
             if key not in OWN:

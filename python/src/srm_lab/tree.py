@@ -14,13 +14,15 @@ class Tree:
     """A tree of nodes 0 to `nodes - 1`, whose links are numbered from 0.
 
     `shorthand` has the keys that stand for the links in a scenario file, where the format has a name for the tree.
-    `names` has the name of each node, in order, where the tree comes from a graph with names.
+    `names` has the name of each node, in order, where the tree comes from a graph with names. `routes` has the names of
+    the routers on each link, from `a` to `b`, both among them, where links of a map were joined.
     """
 
     nodes: int
     links: tuple[Link, ...]
     shorthand: dict = field(default_factory=dict)
     names: tuple[str, ...] = ()
+    routes: tuple[tuple[str, ...], ...] = ()
 
     def __post_init__(self) -> None:
         within("the number of nodes", self.nodes, 1, MOST_NODES)
@@ -47,6 +49,18 @@ class Tree:
     def name(self, node: int) -> str | int:
         """The name of a node, which is its number where the tree has no names."""
         return self.names[node] if self.names else node
+
+    def route(self, link: int) -> tuple[str | int, ...]:
+        """The names of the nodes that a link stands for, from one end to the other: its ends, and routers of a map."""
+        return self.routes[link] if self.routes else (self.name(self.links[link].a), self.name(self.links[link].b))
+
+    def link_between(self, a: str | int, b: str | int) -> int:
+        """The number of the link that the way from one node to its neighbour is on; of a map, from router to router."""
+        for link in range(len(self.links)):
+            route = self.route(link)
+            if any({str(a), str(b)} == {str(one), str(other)} for one, other in zip(route, route[1:])):
+                return link
+        raise ScenarioError(f"there is no link between {a!r} and {b!r}")
 
     def number(self, name: str | int) -> int:
         """The number of the node of this name, or with this number."""
@@ -108,8 +122,8 @@ class Tree:
         """The same tree with a random delay from least to most at each link, the same in both directions."""
         within("the least delay", least, 1, MOST_DELAY)
         within("the greatest delay", most, least, MOST_DELAY)
-        return Tree(self.nodes, tuple(Link.both_ways(link.a, link.b, rng.randint(least, most)) for link in self.links),
-                    names=self.names)
+        links = tuple(Link.both_ways(link.a, link.b, rng.randint(least, most)) for link in self.links)
+        return replace(self, links=links, shorthand={})
 
     def with_back(self, back: int | Callable[[], int]) -> "Tree":
         """The same tree with this delay in the other direction of each link, or with what the function gives."""

@@ -10,6 +10,7 @@ if TYPE_CHECKING:
     from .scenario import Scenario
 
 NAMES = "names of nodes: "
+ROUTES = "routes of links: "
 
 
 def table_of(given: "Scenario") -> dict[str, Any]:
@@ -39,12 +40,14 @@ def _member(keys: dict[str, Any]) -> dict[str, Any]:
 
 
 def text_of(given: "Scenario") -> str:
-    """A scenario's file: its comments, the names of its nodes as a comment, and its table."""
+    """A scenario's file: its comments, the names of nodes and the routes of links as comments, and its table."""
     import tomli_w  # here, so that scenarios can be read, and traces followed, with no package at all
 
     comments = list(given.comments)
     if given.tree.names:
         comments.append(NAMES + json.dumps(given.tree.names))
+    if given.tree.routes:
+        comments.append(ROUTES + json.dumps(given.tree.routes))
     lines = "".join(f"# {line}".rstrip() + "\n" for comment in comments for line in comment.splitlines() or [""])
     text = lines + tomli_w.dumps(table_of(given))
     most = VERSIONS[max(VERSIONS)].bytes
