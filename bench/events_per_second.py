@@ -1,5 +1,5 @@
 #!/usr/bin/env python3
-"""Rows per second of the built program, beside a plain simulator of the same model (baseline.rs).
+"""Rows per second of the built program, beside a plain simulator of the same model (baseline/).
 
 usage: bench/events_per_second.py PROGRAM [--repeat N] [--long] [--only TEXT] [--instructions]
 
@@ -16,7 +16,6 @@ times. README.md in this folder tells what the scenarios are. Nothing is asserte
 The baseline is built with `rustc -O` into out/. Without rustc the program is timed alone.
 """
 import argparse
-import collections
 import os
 import pathlib
 import re
@@ -24,51 +23,72 @@ import shutil
 import subprocess
 import sys
 import tempfile
+from collections.abc import Callable
+from typing import NamedTuple
 
 TOP = pathlib.Path(__file__).resolve().parent.parent
-SOURCE = TOP / "bench" / "baseline.rs"
+SOURCES = TOP / "bench" / "baseline"
 BASELINE = TOP / "out" / "baseline"
 SIZES = [16, 64, 256, 1024]
 # Sizes of which the times for a row are compared.
 GROWTH = [(16, 256), (256, 1024)]
 
-# A generated scenario; `drops` and `sessions` are lists of the lines of these elements.
-Scenario = collections.namedtuple("Scenario", ["name", "shape", "nodes", "draws", "until", "drops", "sessions"])
 
-# A program under measurement, with its name in the tables.
-Program = collections.namedtuple("Program", ["name", "path"])
+class Scenario(NamedTuple):
+    """A generated scenario; `drops` and `sessions` are lists of the lines of these elements."""
+
+    name: str
+    shape: str
+    nodes: int
+    draws: int
+    until: int
+    drops: list[str]
+    sessions: list[str]
 
 
-def drop(link, count):
+class Program(NamedTuple):
+    """A program under measurement, with its name in the tables."""
+
+    name: str
+    path: str | pathlib.Path
+
+
+# what is measured of each program: instructions, or seconds
+Figures = list[float]
+# the figure for a row of each program, by shape, nodes and draws
+ByRow = dict[tuple[str, int, int], Figures]
+
+
+def drop(link: int, count: int) -> str:
     return f"[[drop]]\nlink = {link}\nsender = 0\ncount = {count}"
 
 
-def ordinary(shape, nodes, draws):
+def ordinary(shape: str, nodes: int, draws: int) -> Scenario:
     """One sender; of its packets 0, 10, 20 .. below `draws` each is dropped, at link 0, 10, 20 .. in turn."""
     drops = [drop(count % (nodes - 1), count) for count in range(0, draws, 10)]
     return Scenario(f"{shape} of {nodes}, {draws:,} draws", shape, nodes, draws, 2_000_000, drops, [])
 
 
-def at_the_limits():
+def at_the_limits() -> Scenario:
     """256 nodes and members, and 4,096 draws, session messages and drops each: as many as version 1 of the format allows."""
     drops = [drop(count % 255, count) for count in range(4096)]
     sessions = [f"[[session]]\nmember = {k % 256}\nat = {k * 1000 + 500}" for k in range(4096)]
     return Scenario("at the limits", "chain", 256, 4096, 2**40, drops, sessions)
 
 
-def scenarios(long):
+def scenarios(long: bool) -> list[Scenario]:
     """What is timed."""
     draws = 1000 if long else 200
     found = [ordinary(shape, nodes, draws) for shape in ["chain", "tree", "star"] for nodes in SIZES]
     return found + [at_the_limits()] if long else found
 
 
-def scenarios_of_instructions():
+def scenarios_of_instructions() -> list[Scenario]:
     """Those whose instructions are counted."""
     return [ordinary("chain", 256, 1024), ordinary("star", 256, 400)]
 
 
-def text_of(scenario):
+def text_of(scenario: Scenario) -> bytes:
     """The scenario as a file's text. Each node but a star's hub has a member, and the first of them is the sender."""
     shape, first = scenario.shape, 1 if scenario.shape == "star" else 0
     version = 1 if scenario.nodes <= 256 else 2
@@ -83,17 +103,17 @@ def text_of(scenario):
     return ("\n".join(lines + scenario.sessions + scenario.drops) + "\n").encode()
 
 
-def baseline():
+def baseline() -> Program | None:
     """The built baseline, or None where there is no rustc."""
     if shutil.which("rustc") is None:
         return None
-    if not BASELINE.exists() or BASELINE.stat().st_mtime < SOURCE.stat().st_mtime:
+    if not BASELINE.exists() or any(BASELINE.stat().st_mtime < it.stat().st_mtime for it in SOURCES.glob("*.rs")):
         BASELINE.parent.mkdir(exist_ok=True)
-        subprocess.run(["rustc", "-O", "--edition", "2021", "-o", BASELINE, SOURCE], check=True)
+        subprocess.run(["rustc", "-O", "--edition", "2021", "-o", BASELINE, SOURCES / "main.rs"], check=True)
     return Program("baseline", BASELINE)
 
 
-def output(program, words, text):
+def output(program: Program, words: list[str], text: bytes) -> bytes:
     """What a program writes on standard output."""
     done = subprocess.run([program.path, *words], input=text, capture_output=True)
     if done.returncode != 0:
@@ -102,7 +122,7 @@ def output(program, words, text):
     return done.stdout
 
 
-def compare(programs, what, words, text):
+def compare(programs: list[Program], what: str, words: list[str], text: bytes) -> int:
     """The rows that all programs write; ends this script where two differ."""
     first = output(programs[0], words, text)
     for other in programs[1:]:
@@ -119,7 +139,7 @@ def compare(programs, what, words, text):
     return first.count(b"\n") - 1
 
 
-def compare_examples(programs):
+def compare_examples(programs: list[Program]) -> int:
     examples = sorted((TOP / "examples").glob("*.toml"))
     for example in examples:
         for seed in ["0", "42"]:
@@ -128,7 +148,7 @@ def compare_examples(programs):
     return len(examples)
 
 
-def processor_time(program, path):
+def processor_time(program: Program, path: pathlib.Path) -> float:
     """Seconds, of the user's and the system's processor time, that a program takes for a scenario's file."""
     with open(path, "rb") as text:
         process = subprocess.Popen([program.path], stdin=text, stdout=subprocess.DEVNULL)
@@ -139,7 +159,7 @@ def processor_time(program, path):
     return usage.ru_utime + usage.ru_stime
 
 
-def times(programs, path, repeat):
+def times(programs: list[Program], path: pathlib.Path, repeat: int) -> Figures:
     """For each program its least time, where they run in turn."""
     best = [float("inf")] * len(programs)
     for _ in range(repeat):
@@ -147,36 +167,42 @@ def times(programs, path, repeat):
     return best
 
 
-def instructions(programs, path, _):
+def instructions(programs: list[Program], path: pathlib.Path, _: int) -> Figures:
     """For each program the instructions that callgrind counts."""
-    counted = []
+    counted: Figures = []
     for program in programs:
-        command = ["valgrind", "--tool=callgrind", "--callgrind-out-file=/dev/null", program.path]
+        command = ["valgrind", "--tool=callgrind", "--callgrind-out-file=/dev/null", str(program.path)]
         with open(path, "rb") as text:
             done = subprocess.run(command, stdin=text, stdout=subprocess.DEVNULL, stderr=subprocess.PIPE, check=True)
-        counted.append(int(re.search(rb"Collected : (\d+)", done.stderr)[1]))
+        counted += [int(number) for number in re.findall(rb"Collected : (\d+)", done.stderr)]
     return counted
 
 
-def print_head(programs, unit):
+def print_head(programs: list[Program], unit: list[str]) -> None:
     columns = [f"{program.name} {it}" for it in unit for program in programs]
     print(f"{'scenario':28} {'rows':>9}" + "".join(f" {it:>18}" for it in columns) + "  ratio" * (len(programs) > 1))
 
 
-def print_line(name, rows, columns, found):
+def print_line(name: str, rows: int, columns: list[str], found: Figures) -> None:
     ratio = f" {found[0] / found[1]:6.2f}" if len(found) > 1 else ""
     print(f"{name:28} {rows:9}" + "".join(f" {it:>18}" for it in columns) + ratio, flush=True)
 
 
-def print_times(name, rows, best):
+def print_times(name: str, rows: int, best: Figures) -> None:
     print_line(name, rows, [f"{it:.3f}" for it in best] + [f"{rows / it:.0f}" for it in best], best)
 
 
-def print_instructions(name, rows, counted):
+def print_instructions(name: str, rows: int, counted: Figures) -> None:
     print_line(name, rows, [f"{it / rows:.0f}" for it in counted], counted)
 
 
-def measure(programs, chosen, figures, show, repeat):
+def measure(
+    programs: list[Program],
+    chosen: list[tuple[Scenario, int]],
+    figures: Callable[[list[Program], pathlib.Path, int], Figures],
+    show: Callable[[str, int, Figures], None],
+    repeat: int,
+) -> ByRow:
     """A line for each scenario, and rows that all programs agree on; gives each program's figure for a row."""
     by_row = {}
     with tempfile.TemporaryDirectory() as folder:
@@ -189,7 +215,7 @@ def measure(programs, chosen, figures, show, repeat):
     return by_row
 
 
-def starts(programs, chosen, repeat):
+def starts(programs: list[Program], chosen: list[tuple[Scenario, int]], repeat: int) -> ByRow:
     """For each scenario the seconds that each program takes for a row's share of the start: of the same network with one draw."""
     by_row = {}
     with tempfile.TemporaryDirectory() as folder:
@@ -200,7 +226,7 @@ def starts(programs, chosen, repeat):
     return by_row
 
 
-def print_growth(programs, by_row, starts_by_row):
+def print_growth(programs: list[Program], by_row: ByRow, starts_by_row: ByRow) -> None:
     """How the time for a row grows from smaller networks to larger ones of a shape, whole and without the start."""
     for key in by_row:
         shape, nodes, draws = key
@@ -215,7 +241,7 @@ def print_growth(programs, by_row, starts_by_row):
                 print(f"time for a row, {shape} of {large} over {shape} of {small}: {', '.join(told)}")
 
 
-def main():
+def main() -> None:
     parser = argparse.ArgumentParser(description=__doc__, formatter_class=argparse.RawDescriptionHelpFormatter)
     parser.add_argument("program")
     parser.add_argument("--repeat", type=int, default=3)
@@ -232,9 +258,9 @@ def main():
     else:
         programs.append(plain)
     examples = compare_examples(programs)
-    chosen = scenarios_of_instructions() if options.instructions else scenarios(options.long)
-    chosen = [scenario for scenario in chosen if options.only in scenario.name]
-    chosen = [(scenario, compare(programs, scenario.name, [], text_of(scenario))) for scenario in chosen]
+    found = scenarios_of_instructions() if options.instructions else scenarios(options.long)
+    named = [scenario for scenario in found if options.only in scenario.name]
+    chosen = [(scenario, compare(programs, scenario.name, [], text_of(scenario))) for scenario in named]
     if plain is not None:
         print(f"the same bytes from both: {examples} scenarios of examples/, {len(chosen)} generated ones", flush=True)
     if options.instructions:

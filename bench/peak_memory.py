@@ -19,10 +19,10 @@ PAGES = 4
 ENDS = [1000, 4000, 16000]
 TABLES = ["trace", "members", "losses", "links"]
 WINDOW = ["--engine", "window", "--workers", "2", "--crew"]
-ENGINES = [("step", []), *((f"window, {crew}", [*WINDOW, crew]) for crew in ("plain", "pool", "bag"))]
+ENGINES: list[tuple[str, list[str]]] = [("step", []), *((f"window, {crew}", [*WINDOW, crew]) for crew in ("plain", "pool", "bag"))]
 
 
-def scenario(until):
+def scenario(until: int) -> bytes:
     """Member 0 draws twice on each page and leaves; its link drops the first packet of each."""
     lines = ["version = 1", f"until = {until}", "c1 = 0", "c2 = 0", "d1 = 0", "d2 = 0"]
     lines += ['topology = "star"', f"size = {MEMBERS + 1}", "delay = 5"]
@@ -37,18 +37,19 @@ def scenario(until):
     return ("\n".join(lines) + "\n").encode()
 
 
-def high_water(pid):
+def high_water(pid: int) -> int:
     """The most resident memory of a process so far in KiB, or 0 where it has ended."""
     with open(f"/proc/{pid}/status") as status:
         return next((int(line.split()[1]) for line in status if line.startswith("VmHWM:")), 0)
 
 
-def measure(program, words, text):
+def measure(program: str, words: list[str], text: bytes) -> tuple[int, int]:
     """Lines of the table below its header, and the peak resident memory in KiB, looked at as each piece of the table comes."""
     with tempfile.TemporaryFile() as given:
         given.write(text)
         given.seek(0)
         child = subprocess.Popen([program, *words], stdin=given, stdout=subprocess.PIPE, bufsize=0)
+        assert child.stdout is not None
         lines, peak = -1, 0
         while piece := child.stdout.read(1 << 16):
             lines += piece.count(b"\n")
@@ -59,7 +60,7 @@ def measure(program, words, text):
         return lines, peak
 
 
-def main():
+def main() -> None:
     parser = argparse.ArgumentParser(description="peak memory of traces of three lengths")
     parser.add_argument("program")
     parser.add_argument("--show", action="append", choices=TABLES, help="a table; all four where none is named")

@@ -1,32 +1,62 @@
 #!/usr/bin/env python3
 """How long the built program takes with each engine and crew, side by side, on wide and on narrow windows.
 
-usage: bench/time_of_engines.py PROGRAM [--nodes N] [--draws N] [--workers N] [--repeat N] [--only TEXT]
+usage: bench/time_of_engines.py PROGRAM [--nodes N] [--draws N] [--workers N] [--repeat N] [--only TEXT] [--cases]
 
 Runs PROGRAM on a chain, a tree and a star of N nodes (256 by default, at most 1,024) with a member on each node, a star's hub aside.
-Member 0 draws 4,096 times, one draw each 10 ticks, and of its packets one in forty is dropped, at one link after the other. Links take 1,000 ticks (wide windows:
-many events each) or 1 tick (narrow ones: few). What is shown is the table of links, which is short, so that the time is the engine's.
+Member 0 draws 4,096 times, one draw each 10 ticks, and of its packets one in forty is dropped, at one link after the other. Links take
+1,000 ticks (wide windows: many events each) or 1 tick (narrow ones: few). What is shown is the table of links, which is short, so that
+the time is the engine's.
 Windows are as wide as the least delay of a link, and a job has as many members as go evenly to four jobs for each worker.
 
 All engines must write the same bytes; where one does not, nothing more is timed, and the status is 1. Prints the least wall time of N
 runs, and that time over the sequential engine's. It asserts nothing about speed.
+
+--cases  in place of these the cases of CASES, larger ones, each with the table of links and with the trace. One that PROGRAM does
+         not read is left out, and told: more than 1,024 nodes need version 3 of the format (README.md in this folder).
 """
 import argparse
 import subprocess
 import sys
 import time
+from collections.abc import Iterator
+from typing import NamedTuple
 
 DRAWS = 4096
 SPACING = 10
 DROPPED = 40
+MOST_CUT = 1024
 SHAPES = ["chain", "tree", "star"]
 DELAYS = {"wide": 1000, "narrow": 1}
 
 
-def scenario(shape, nodes, delay, draws):
+class Case(NamedTuple):
+    """A network with a member on each node, a star's hub aside; the delay of its links, and how often member 0 draws."""
+
+    name: str
+    shape: str
+    nodes: int
+    delay: int
+    draws: int
+    tables: tuple[str, ...]
+
+
+LINKS, BOTH = ("links",), ("links", "trace")
+CASES = [
+    Case("tree of 1,024, 1,024 draws", "tree", 1024, 1000, 1024, BOTH),
+    Case("star of 1,024, 100 draws", "star", 1024, 1000, 100, BOTH),
+    Case("tree of 1,024, 4,096 draws", "tree", 1024, 1000, 4096, BOTH),
+    Case("chain of 1,024, 1,024 draws", "chain", 1024, 1000, 1024, LINKS),
+    Case("tree of 10,000, 100 draws", "tree", 10000, 1000, 100, LINKS),
+    Case("tree of 1,024, links of one tick", "tree", 1024, 1, 1024, LINKS),
+]
+
+
+def scenario(shape: str, nodes: int, delay: int, draws: int) -> bytes:
     """The text of a scenario. Timers have no random part."""
     first = 1 if shape == "star" else 0
-    lines = [f"version = {1 if nodes <= 256 else 2}", f"until = {draws * SPACING + 100 * delay * nodes}"]
+    version = next(version for version, most in ((1, 256), (2, 1024), (3, 65535)) if nodes <= most)
+    lines = [f"version = {version}", f"until = {draws * SPACING + 100 * delay * nodes}"]
     lines += ["c1 = 2000", "c2 = 0", "d1 = 1000", "d2 = 0", f'topology = "{shape}"', f"size = {nodes}", f"delay = {delay}"]
     lines += ["degree = 4"] if shape == "tree" else []
     for node in range(first, nodes):
@@ -39,28 +69,30 @@ def scenario(shape, nodes, delay, draws):
     return ("\n".join(lines) + "\n").encode()
 
 
-def engines(nodes, workers):
+def engines(nodes: int, workers: int) -> dict[str, list[str]]:
     """The options of each engine, by its name."""
-    window = ["--engine", "window", "--width", "least", "--workers", str(workers), "--cut", str(max(1, nodes // (4 * workers)))]
+    cut = min(MOST_CUT, max(1, nodes // (4 * workers)))
+    window = ["--engine", "window", "--width", "least", "--workers", str(workers), "--cut", str(cut)]
     return {"step": [], **{f"window, {crew}": [*window, "--crew", crew] for crew in ("plain", "pool", "bag")}}
 
 
-def timed(program, words, text):
+def timed(program: str, words: list[str], text: bytes) -> tuple[bytes, float]:
     """What a run writes, and its wall time in seconds."""
     begin = time.perf_counter()
-    done = subprocess.run([program, "--show", "links", *words], input=text, capture_output=True)
+    done = subprocess.run([program, *words], input=text, capture_output=True)
     spent = time.perf_counter() - begin
     if done.returncode != 0:
         sys.exit(f"{program}: status {done.returncode}: {done.stderr.decode(errors='replace').strip()}")
     return done.stdout, spent
 
 
-def least_times(program, text, options):
-    """The least time of each engine, which run in turn."""
-    least, reference = {}, None
+def least_times(table: str, nodes: int, text: bytes, options: argparse.Namespace) -> dict[str, float]:
+    """The least time of each engine for a table, which run in turn."""
+    least: dict[str, float] = {}
+    reference: bytes | None = None
     for _ in range(options.repeat):
-        for name, words in engines(options.nodes, options.workers).items():
-            written, spent = timed(program, words, text)
+        for name, words in engines(nodes, options.workers).items():
+            written, spent = timed(options.program, ["--show", table, *words], text)
             reference = reference or written
             if written != reference:
                 sys.exit(f"{name}: not the bytes of the sequential engine")
@@ -68,7 +100,26 @@ def least_times(program, text, options):
     return least
 
 
-def main():
+def is_read(program: str, name: str, text: bytes) -> bool:
+    """Whether a program reads a scenario; tells why not."""
+    done = subprocess.run([program, "--check"], input=text, capture_output=True)
+    if done.returncode != 0:
+        print(f"{name:32} left out: {done.stderr.decode(errors='replace').strip()}", flush=True)
+    return done.returncode == 0
+
+
+def asked(options: argparse.Namespace) -> Iterator[Case]:
+    """The cases that the options ask for."""
+    if options.cases:
+        yield from (case for case in CASES if options.only in case.name)
+        return
+    for windows, delay in DELAYS.items():
+        for shape in SHAPES:
+            if options.only in f"{windows} {shape}":
+                yield Case(f"{windows} {shape}", shape, options.nodes, delay, options.draws, LINKS)
+
+
+def main() -> None:
     parser = argparse.ArgumentParser(description=__doc__, formatter_class=argparse.RawDescriptionHelpFormatter)
     parser.add_argument("program")
     parser.add_argument("--nodes", type=int, default=256)
@@ -76,14 +127,15 @@ def main():
     parser.add_argument("--workers", type=int, default=4)
     parser.add_argument("--repeat", type=int, default=3)
     parser.add_argument("--only", default="")
+    parser.add_argument("--cases", action="store_true")
     options = parser.parse_args()
-    print(f"{'scenario':14} {'engine':14} {'seconds':>8} {'over step':>9}")
-    for windows, delay in DELAYS.items():
-        for shape in SHAPES:
-            if options.only in f"{windows} {shape}":
-                times = least_times(options.program, scenario(shape, options.nodes, delay, options.draws), options)
-                for name, spent in times.items():
-                    print(f"{windows + ' ' + shape:14} {name:14} {spent:8.3f} {spent / times['step']:9.2f}", flush=True)
+    print(f"{'scenario':32} {'table':5} {'engine':14} {'seconds':>8} {'over step':>9}")
+    for case in asked(options):
+        text = scenario(case.shape, case.nodes, case.delay, case.draws)
+        for table in case.tables if is_read(options.program, case.name, text) else ():
+            times = least_times(table, case.nodes, text, options)
+            for name, spent in times.items():
+                print(f"{case.name:32} {table:5} {name:14} {spent:8.3f} {spent / times['step']:9.2f}", flush=True)
 
 
 if __name__ == "__main__":

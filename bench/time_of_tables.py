@@ -20,7 +20,7 @@ LOST = 50
 TABLES = ["trace", "members", "losses", "links"]
 
 
-def scenario(draws):
+def scenario(draws: int) -> bytes:
     """Timers have no random part, so that one request and one repair mend each loss, before the next draw but one."""
     lines = [
         "version = 1",
@@ -44,9 +44,9 @@ def scenario(draws):
     return ("\n".join(lines) + "\n").encode()
 
 
-def measure(program, show, text, repeat):
+def measure(program: str, show: str, text: bytes, repeat: int) -> tuple[int, float]:
     """Lines of the table below its header, and the least wall time in seconds."""
-    best, lines = None, 0
+    best, lines = float("inf"), 0
     for _ in range(repeat):
         begin = time.perf_counter()
         done = subprocess.run([program, "--show", show], input=text, capture_output=True)
@@ -54,11 +54,11 @@ def measure(program, show, text, repeat):
         if done.returncode != 0:
             sys.exit(f"{program}: status {done.returncode}: {done.stderr.decode(errors='replace').strip()}")
         lines = done.stdout.count(b"\n") - 1
-        best = spent if best is None else min(best, spent)
+        best = min(best, spent)
     return lines, best
 
 
-def main():
+def main() -> None:
     parser = argparse.ArgumentParser(description=__doc__, formatter_class=argparse.RawDescriptionHelpFormatter)
     parser.add_argument("program")
     parser.add_argument("--draws", type=int, default=DRAWS)

@@ -1,10 +1,12 @@
 #!/usr/bin/env python3
 """Runs the program on scenarios made at random, and holds what it writes to a second computation from the documents.
 
-usage: tests/fuzz.py [--seconds N | --cases N] [--from SEED] [--case SEED] [PROGRAM]
+usage: tests/fuzz.py [--seconds N | --cases N] [--from SEED] [--case SEED] [--versions LIST] [PROGRAM]
 
 Each case is made from its number, its seed: a scenario of the format's grammar, one that is spoiled in one place, an example or a
-scenario with bytes or numbers changed, or a command line that must be refused. Of each this is asserted:
+scenario with bytes or numbers changed, or a command line that must be refused. The scenarios are of the versions of the format that
+--versions lists, as 1,2,3, and any other version must be refused; without it, of those that the program reads. Of each case this is
+asserted:
 
 - Each row of the trace is of an event that was pending, and is what the model's tables say; nothing is passed over, and nothing
   left (fuzz_replay.py).
@@ -14,7 +16,8 @@ scenario with bytes or numbers changed, or a command line that must be refused. 
   status 1. Where Python cannot read the text as TOML, any refusal of a scenario may come. A refused command line has status 2.
 - The run in windows, with a crew, workers, a cut and a width at random, gives the sequential engine's bytes; and where the cut or
   the width is none that the scenario allows, their refusal (fuzz_windows.py).
-- With --explain a refusal has the same line, status and standard output, and something after the line.
+- With --explain a refusal has the same line, status and standard output, and lines after that line, which begin with two spaces
+  where the words are not refused.
 - Each run ends within LONGEST seconds.
 
 A table, a width, or an option, that the program's --help does not name is left out. Prints each case that fails and writes its scenario to out/;
@@ -30,6 +33,7 @@ import resource
 import subprocess
 import sys
 import time
+from collections.abc import Callable, Iterator
 
 sys.dont_write_bytecode = True
 
@@ -37,8 +41,13 @@ import fuzz_replay
 import fuzz_scenarios
 import fuzz_tables
 import fuzz_windows
-from fuzz_format import Scenario
+from fuzz_format import VERSIONS, Scenario
+from fuzz_scenarios import Case
 from fuzz_tables import Wrong
+
+# how a run ends: its status, what stands on standard output and what on standard error
+End = tuple[int, bytes, bytes]
+Run = Callable[[list[str], bytes], End]
 
 TOP = pathlib.Path(__file__).resolve().parent.parent
 PROGRAM = TOP / "crates" / "srm_lab" / "out" / "srm_lab"
@@ -52,10 +61,10 @@ REFUSAL = re.compile(
 NO_MEMORY = (1, b"", b"refused: no-memory\n")
 
 
-def runner(program):
+def runner(program: pathlib.Path) -> Run:
     """The program as a function of its words and its standard input: status, standard output and standard error."""
 
-    def run(words, text):
+    def run(words: list[str], text: bytes) -> End:
         try:
             done = subprocess.run([program, *words], input=text, capture_output=True, timeout=LONGEST)
         except subprocess.TimeoutExpired as late:
@@ -65,7 +74,7 @@ def runner(program):
     return run
 
 
-def words_named(run):
+def words_named(run: Run) -> set[str]:
     """The words of the program's help."""
     status, told, _ = run(["--help"], b"")
     if status != 0:
@@ -73,46 +82,48 @@ def words_named(run):
     return set(re.findall(r"\w+", told.decode()))
 
 
-def is_same(what, got, must):
+def is_same(what: object, got: End, must: End) -> None:
     """Refuses an end that is not as it must be: tells the first line that differs."""
     if (got[0], got[2]) != (must[0], must[2]):
-        raise Wrong(f"{what}: status {got[0]}, {got[2][:200]} on standard error, and not status {must[0]}, {must[2][:200]}")
+        raise Wrong(f"{what}: status {got[0]}, {got[2][:200]!r} on standard error, and not status {must[0]}, {must[2][:200]!r}")
     if got[1] != must[1]:
         lines = itertools.zip_longest(got[1].split(b"\n"), must[1].split(b"\n"))
         number, pair = next((at, pair) for at, pair in enumerate(lines, 1) if pair[0] != pair[1])
-        raise Wrong(f"{what}: line {number} is {pair[0]}, and not {pair[1]}")
+        raise Wrong(f"{what}: line {number} is {pair[0]!r}, and not {pair[1]!r}")
 
 
-def is_in_form(table, end):
+def is_in_form(table: str, end: End) -> None:
     """Refuses an end that is neither this table nor a refusal of a scenario."""
     status, printed, told = end
     if status == 0 and not told:
         fuzz_tables.lines_of(table, printed)
     elif not (status == 1 and not printed and REFUSAL.fullmatch(told)) and end != NO_MEMORY:
-        raise Wrong(f"{table}: status {status}, {len(printed)} bytes on standard output, {told[:200]} on standard error")
+        raise Wrong(f"{table}: status {status}, {len(printed)} bytes on standard output, {told[:200]!r} on standard error")
 
 
-def expected(scenario, seed, trace):
+def expected(scenario: Scenario, seed: int, trace: bytes) -> dict[str, bytes]:
     """The other tables, from a trace that is first held to the model."""
     rows = fuzz_tables.rows_of(trace)
-    losses = fuzz_replay.Replay(scenario, seed).run(rows)
+    replay = fuzz_replay.Replay(scenario, seed)
+    losses = replay.run(rows)
     return {
         "trace": trace,
         "members": fuzz_tables.members_table(scenario, rows),
         "losses": fuzz_tables.losses_table(scenario, losses),
         "links": fuzz_tables.links_table(scenario, rows),
+        "timers": fuzz_tables.timers_table(replay.timers),
     }
 
 
-def ends(tables, case, first):
+def ends(tables: list[str], case: Case, first: End) -> dict[str, End]:
     """How a run for each table must end, as far as it is known, from the end of a first one, which wrote the trace."""
-    if first[0] != 0 or case.must == fuzz_scenarios.UNKNOWN:
+    if first[0] != 0 or isinstance(case.must, str):
         return {"trace": first} if first[0] == 0 else dict.fromkeys(tables, first)
     texts = expected(Scenario(case.must), case.seed, first[1])
     return {table: (0, texts[table], b"") for table in tables}
 
 
-def check_windows(run, named, case, must):
+def check_windows(run: Run, named: set[str], case: Case, must: dict[str, End]) -> None:
     """Runs an accepted case in windows, for each table, and once with a cut or a width that is refused."""
     rng = fuzz_windows.random_of(case)
     top = case.must if isinstance(case.must, dict) else None
@@ -122,19 +133,22 @@ def check_windows(run, named, case, must):
         is_same(" ".join(["--show", table, *words]), run([f"--seed={case.seed}", *words, "--show", table], case.text), end)
     if top is not None:
         words, line = fuzz_windows.refused(rng, top)
-        is_same(" ".join(words), run(words, case.text), (1, b"", f"refused: {line}\n".encode()))
+        end = (1, b"", f"refused: {line}\n".encode())
+        is_same(" ".join(words), run(words, case.text), end)
+        if "explain" in named:
+            check_explained(run, words, case.text, end)
 
 
-def check_explained(run, words, text, end):
+def check_explained(run: Run, words: list[str], text: bytes, end: End) -> None:
     """Sees that an explanation changes nothing of a refusal but what follows its line."""
     status, printed, told = run(["--explain", *words], text)
     line, _, more = told.partition(b"\n")
     is_same("--explain", (status, printed, line + b"\n"), end)
-    if not more.endswith(b"\n"):
+    if not more.endswith(b"\n") or status == 1 and not all(it.startswith(b"  ") for it in more.splitlines()):
         raise Wrong(f"--explain: {more[:200]} after the line")
 
 
-def check(run, named, case):
+def check(run: Run, named: set[str], case: Case) -> None:
     """Runs one case, and raises Wrong where the program does what it must not. Its help names these words."""
     if case.words is not None:
         end = (2, b"", b"command line refused\n")
@@ -147,7 +161,7 @@ def check(run, named, case):
     if case.must == fuzz_scenarios.UNKNOWN and first == NO_MEMORY:
         return
     if isinstance(case.must, dict) and first[0] != 0:
-        raise Wrong(f"it must be accepted: {first[2]}")
+        raise Wrong(f"it must be accepted: {first[2]!r}")
     if isinstance(case.must, str) and case.must != fuzz_scenarios.UNKNOWN:
         is_same("refusal", first, (1, b"", f"refused: {case.must}\n".encode()))
     if first[0] != 0 and "explain" in named:
@@ -166,14 +180,14 @@ def check(run, named, case):
         is_same("--engine window", run(["--engine", "window", "--cut", "0", "--width", "0"], case.text), first)
 
 
-def case_of(seed):
+def case_of(seed: int, versions: tuple[int, ...]) -> Case:
     examples = [it.read_bytes() for it in sorted((TOP / "examples").glob("*.toml"))]
-    return fuzz_scenarios.case_of(random.Random(seed), examples)
+    return fuzz_scenarios.case_of(random.Random(seed), examples, versions)
 
 
-def failure(run, named, seed):
+def failure(run: Run, named: set[str], seed: int, versions: tuple[int, ...]) -> tuple[str | None, str]:
     """Runs the case of a seed; the line that tells what is wrong with it, or None, and what kind of case it is."""
-    case = case_of(seed)
+    case = case_of(seed, versions)
     try:
         check(run, named, case)
     except Exception as wrong:
@@ -188,7 +202,7 @@ def failure(run, named, seed):
     return None, case.kind
 
 
-def seeds(options):
+def seeds(options: argparse.Namespace) -> Iterator[int]:
     """The seeds of the cases to run, until the time is over or there were enough."""
     if options.case is not None:
         yield options.case
@@ -201,13 +215,22 @@ def seeds(options):
         seed += 1
 
 
-def main():
+def versions_of(word: str) -> tuple[int, ...]:
+    """The versions that an argument lists, as 1,2,3."""
+    versions = tuple(sorted(int(it) for it in word.split(",")))
+    if not set(versions) <= {1, 2, 3}:
+        raise ValueError(word)
+    return versions
+
+
+def main() -> int:
     parser = argparse.ArgumentParser(description=__doc__, formatter_class=argparse.RawDescriptionHelpFormatter)
     parser.add_argument("program", nargs="?", type=pathlib.Path, default=PROGRAM)
     parser.add_argument("--seconds", type=float, default=60)
     parser.add_argument("--cases", type=int)
     parser.add_argument("--from", type=int, dest="first", metavar="SEED")
     parser.add_argument("--case", type=int, metavar="SEED")
+    parser.add_argument("--versions", type=versions_of, default=VERSIONS, metavar="LIST")
     options = parser.parse_args()
     resource.setrlimit(resource.RLIMIT_AS, (MEMORY, resource.getrlimit(resource.RLIMIT_AS)[1]))
     run = runner(options.program.absolute())
@@ -215,9 +238,10 @@ def main():
         named = words_named(run)
     except (OSError, Wrong) as wrong:
         sys.exit(f"{options.program}: {wrong}")
-    kinds, failed, began = collections.Counter(), 0, time.monotonic()
+    kinds: collections.Counter[str] = collections.Counter()
+    failed, began = 0, time.monotonic()
     for seed in seeds(options):
-        told, kind = failure(run, named, seed)
+        told, kind = failure(run, named, seed, options.versions)
         kinds[kind] += 1
         if told:
             failed += 1

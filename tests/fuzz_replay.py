@@ -5,11 +5,20 @@ names and the packet of the model's table; keys must rise; no event may be passe
 `until`. These together leave one trace. On the way each packet is handed once to each member that it reaches and that is there,
 at its time of sending plus the distance, and to no other.
 """
-from fuzz_tables import ARRIVALS, SENDS, Wrong
+from typing import Any
+
+from fuzz_format import Scenario, Table
+from fuzz_tables import ARRIVALS, SENDS, Numbers, Row, Timers, Wrong
 
 RANKS = {"join": 0, **dict.fromkeys(ARRIVALS, 1), "ask": 2, "answer": 3, "draw": 4, "report": 5, "leave": 6}
 MOST_BACKOFFS = 10
+# by the factor of backoff: how often it is taken at most
+MOST_FACTORS = {2: 10, 3: 6}
+MOST_DUPLICATES = 10**6
 PAGE_FULL = 4096
+
+# what comes of an event: its result, the names that are lost, and what is sent, if anything
+Outcome = tuple[str, list[Numbers], Any]
 
 
 class Words:
@@ -17,15 +26,15 @@ class Words:
 
     MASK = 2**64 - 1
 
-    def __init__(self, seed, stream):
+    def __init__(self, seed: int, stream: int) -> None:
         self.increment = (2 * stream + 1) & self.MASK
         self.state = (seed + self.increment) & self.MASK
         self.step()
 
-    def step(self):
+    def step(self) -> None:
         self.state = (self.state * 6364136223846793005 + self.increment) & self.MASK
 
-    def next(self):
+    def next(self) -> int:
         """The next word, of 32 bits."""
         old = self.state
         self.step()
@@ -36,64 +45,153 @@ class Words:
 class Entry:
     """How far a member is with a page: numbers below `floor` do not concern it, `next` is the first not heard of."""
 
-    def __init__(self, first):
+    def __init__(self, first: int) -> None:
         self.floor = self.next = first
 
 
 class Missing:
     """A name that a member lacks, with its request timer."""
 
-    def __init__(self, ignore):
-        self.expiry, self.backoffs, self.ignore = None, 0, ignore
+    def __init__(self, detected: int, expiry: int) -> None:
+        self.detected = self.ignore = detected
+        self.expiry, self.backoffs = expiry, 0
+
+
+class RepairTimer:
+    """When a repair timer was set and expires, and whose request set it."""
+
+    def __init__(self, begun: int, expiry: int, requester: int) -> None:
+        self.begun, self.expiry, self.requester = begun, expiry, requester
+
+
+class Constant:
+    """A constant of timers, and the limits between which it is kept."""
+
+    def __init__(self, top: Table, name: str) -> None:
+        self.value: int = top[name]
+        self.least: int = top.get(f"{name}_least", self.value)
+        self.most: int = top.get(f"{name}_most", self.value)
+
+    def add(self, more: int) -> None:
+        self.value = min(self.most, max(self.least, self.value + more))
+
+
+class Interval:
+    """What timers of one kind are drawn from, and what their constants are adapted to (Floyd et al. 1997)."""
+
+    def __init__(self, top: Table, start: str, width: str) -> None:
+        self.start, self.width = Constant(top, start), Constant(top, width)
+        self.duplicates, self.sent_first = 0, False
+        self.ave_duplicates: int | None = None
+        self.ave_delay: int | None = None
+
+    def begin_period(self) -> None:
+        """Adapts the constants to the period that ends, but only where some delay is known."""
+        if self.ave_delay is not None:
+            self.ave_duplicates = average(self.ave_duplicates, 1000 * self.duplicates)
+            more_start, more_width = steps(self.ave_duplicates, self.ave_delay, self.sent_first)
+            self.start.add(more_start)
+            self.width.add(more_width)
+        self.duplicates, self.sent_first = 0, False
+
+    def take_in_delay(self, ticks: int, half_round_trip: int) -> None:
+        self.ave_delay = average(self.ave_delay, 1000 * ticks // (2 * max(1, half_round_trip)))
+
+    def send_first(self) -> None:
+        self.start.add(-50)
+        self.sent_first = True
+
+    def hear_duplicate(self) -> None:
+        self.duplicates = min(MOST_DUPLICATES, self.duplicates + 1)
+
+
+def average(before: int | None, value: int) -> int:
+    """An average in thousandths, in which a new value weighs a quarter."""
+    return value if before is None else (3 * before + value) // 4
+
+
+def steps(duplicates: int, delay: int, sent_first: bool) -> tuple[int, int]:
+    """By how much a new period changes start and width, from the averages in thousandths."""
+    if sent_first:
+        return 0, -100
+    if duplicates >= 1000:
+        return 100, 500
+    if duplicates >= 900:
+        return 50, 0
+    return -50 if duplicates < 250 else 0, -100 if delay > 1000 else 0
 
 
 class Member:
     """What one member knows, and what is pending for it."""
 
-    def __init__(self, scenario, seed, number):
+    def __init__(self, scenario: Scenario, seed: int, number: int) -> None:
         self.scenario, self.number = scenario, number
         given = scenario.members[number]
         self.role, self.pages = given["role"], set(given["pages"])
         self.words = Words(seed, given["stream"])
-        self.entries, self.held, self.missing, self.repairs, self.rests = {}, set(), {}, {}, {}
-        self.sent, self.joined, self.left = 0, None, None
-        self.inbox = {}
+        self.requests, self.answers = Interval(scenario.top, "c1", "c2"), Interval(scenario.top, "d1", "d2")
+        self.entries: dict[Numbers, Entry] = {}
+        self.held: set[Numbers] = set()
+        self.missing: dict[Numbers, Missing] = {}
+        self.repairs: dict[Numbers, RepairTimer] = {}
+        self.rests: dict[Numbers, int] = {}
+        self.sent = 0
+        self.joined: int | None = None
+        self.left: int | None = None
+        self.inbox: dict[Numbers, int] = {}
         self.draws = self.acts("draw")
         self.reports = self.acts("session")
 
-    def acts(self, part):
+    def acts(self, part: str) -> list[Table]:
         """Its draws or session messages, the last one first."""
         own = [it for it in self.scenario.top.get(part, []) if it["member"] == self.number]
         return sorted(own, key=lambda it: it["at"])[::-1]
 
     # ---- timers ------------------------------------------------------------------
 
-    def drawn(self, backoffs, constants, other):
+    def timers(self) -> Timers:
+        """The constants of its timers, and what they are adapted to."""
+        requests, answers = self.requests, self.answers
+        constants = tuple(it.value for it in (requests.start, requests.width, answers.start, answers.width))
+        return constants, (requests.ave_duplicates, requests.ave_delay, answers.ave_duplicates, answers.ave_delay)
+
+    def half(self, other: int) -> int:
+        """Half the round trip to another member."""
+        return self.scenario.half_round_trip(self.number, other)
+
+    def drawn(self, backoffs: int, interval: Interval, other: int) -> int:
         """The length of a timer, which takes one word."""
-        least, more = (self.scenario.top[constant] for constant in constants)
-        share = 2 ** min(backoffs, MOST_BACKOFFS) * self.scenario.half_round_trip(self.number, other)
-        low, high = share * least // 1000, share * (least + more) // 1000
+        factor = self.scenario.top.get("backoff", 2)
+        share = factor ** min(backoffs, MOST_FACTORS[factor]) * self.half(other)
+        low, high = share * interval.start.value // 1000, share * (interval.start.value + interval.width.value) // 1000
         return max(1, low + self.words.next() * (high - low + 1) // 2**32)
 
-    def is_not_passed_over(self, expiry, rank, name, row):
+    def is_not_passed_over(self, expiry: int, rank: int, name: Numbers, row: Row) -> None:
         """Refuses a row before which a timer should have fired."""
         if (expiry, rank) < (row.time, RANKS[row.cause]):
             raise Wrong(f"{row}: a timer for {name} was passed over, which expires at {expiry}")
 
-    def back_off(self, name, row):
+    def note_delay(self, name: Numbers, row: Row) -> None:
+        """How long it was without a name until a request, or a repair before any, averaged."""
+        lost = self.missing.get(name)
+        if lost is not None and lost.backoffs == 0:
+            self.requests.take_in_delay(row.time - lost.detected, self.half(name[0]))
+
+    def back_off(self, name: Numbers, row: Row) -> None:
         lost = self.missing[name]
         self.is_not_passed_over(lost.expiry, RANKS["ask"], name, row)
+        self.note_delay(name, row)
         lost.backoffs = min(lost.backoffs + 1, MOST_BACKOFFS)
-        length = self.drawn(lost.backoffs, ("c1", "c2"), name[0])
+        length = self.drawn(lost.backoffs, self.requests, name[0])
         lost.expiry, lost.ignore = row.time + length, row.time + length // 2
 
-    def base(self, name, other):
+    def base(self, name: Numbers, other: int) -> int:
         """Half the round trip by which a rest is measured: at the source that to another member, which asked or repaired."""
-        return self.scenario.half_round_trip(self.number, other if name[0] == self.number else name[0])
+        return self.half(other if name[0] == self.number else name[0])
 
     # ---- pages -------------------------------------------------------------------
 
-    def meet(self, name, late_first):
+    def meet(self, name: Numbers, late_first: int) -> Entry:
         """The entry of a page, made where there is none."""
         page = name[:2]
         if page not in self.entries:
@@ -101,20 +199,21 @@ class Member:
             self.entries[page] = Entry(late_first if is_unwanted else 0)
         return self.entries[page]
 
-    def lose_up_to(self, name, row):
-        """The names up to this one that were not heard of, each missing from now on."""
+    def lose_up_to(self, name: Numbers, row: Row, begins: bool = True) -> list[Numbers]:
+        """The names up to this one that were not heard of, each missing from now on. A period begins with the first loss of an event."""
         page, last = name[:2], name[2]
         entry = self.entries[page]
         lost = [(*page, number) for number in range(entry.next, last + 1)]
+        if lost and begins:
+            self.requests.begin_period()
         for it in lost:
-            self.missing[it] = Missing(row.time)
-            self.missing[it].expiry = row.time + self.drawn(0, ("c1", "c2"), it[0])
+            self.missing[it] = Missing(row.time, row.time + self.drawn(0, self.requests, it[0]))
         entry.next = max(entry.next, last + 1)
         return lost
 
     # ---- what comes of an event: the result, the names lost, and what is sent, if anything --------------
 
-    def data(self, row, name):
+    def data(self, row: Row, name: Numbers) -> Outcome:
         if self.role == "listener":
             result = "again" if name in self.held else "fresh"
             self.held.add(name)
@@ -133,60 +232,80 @@ class Member:
             return "fixed", [], None
         return "again", [], None
 
-    def repair(self, row, name):
+    def repair(self, row: Row, name: Numbers) -> Outcome:
+        if self.role != "listener":
+            self.note_delay(name, row)
         came = self.data(row, name)
         if self.role != "listener" and came[0] != "skip":
-            expiry, requester = self.repairs.pop(name, (None, row.ref[0]))
-            self.rests[name] = row.time + 3 * self.base(name, requester)
-            if expiry is not None:
-                self.is_not_passed_over(expiry, RANKS["answer"], name, row)
+            self.note_repair(row, name)
+            self.end_of_repair(row, name, sender_of(row))
         return came
 
-    def request(self, row, name):
+    def note_repair(self, row: Row, name: Numbers) -> None:
+        """A repair, heard or sent, tells how long the own timer of it lasted; one heard while the name rests is a duplicate."""
+        timer = self.repairs.get(name)
+        if timer is not None:
+            self.answers.take_in_delay(row.time - timer.begun, self.half(timer.requester))
+        elif row.time < self.rests.get(name, 0):
+            self.answers.hear_duplicate()
+
+    def end_of_repair(self, row: Row, name: Numbers, other: int) -> None:
+        """The name rests, and its repair timer ends."""
+        timer = self.repairs.pop(name, None)
+        self.rests[name] = row.time + 3 * self.base(name, timer.requester if timer is not None else other)
+        if timer is not None:
+            self.is_not_passed_over(timer.expiry, RANKS["answer"], name, row)
+
+    def request(self, row: Row, name: Numbers) -> Outcome:
         if self.role == "listener" or name[2] < self.meet(name, name[2] + 1).floor:
             return "skip", [], None
         if name in self.held:
             return self.held_request(row, name), [], None
         lost = self.lose_up_to(name, row)
         if row.time < self.missing[name].ignore:
+            self.requests.hear_duplicate()
             return "hold", lost, None
         self.back_off(name, row)
         return "back", lost, None
 
-    def held_request(self, row, name):
+    def held_request(self, row: Row, name: Numbers) -> str:
         if row.time < self.rests.get(name, 0):
             return "rest"
         if name in self.repairs:
             return "busy"
-        requester = row.ref[0]
-        self.repairs[name] = row.time + self.drawn(0, ("d1", "d2"), requester), requester
+        self.answers.begin_period()
+        requester = sender_of(row)
+        self.repairs[name] = RepairTimer(row.time, row.time + self.drawn(0, self.answers, requester), requester)
         return "plan"
 
-    def session(self, row, told):
+    def session(self, row: Row, told: list[Numbers]) -> Outcome:
         if self.role == "listener":
             return "skip", [], None
-        lost = []
+        lost: list[Numbers] = []
         for name in told:
             self.meet(name, name[2] + 1)
-            lost += self.lose_up_to(name, row)
+            lost += self.lose_up_to(name, row, begins=not lost)
         return "told", lost, None
 
-    def ask(self, row):
+    def ask(self, row: Row) -> Outcome:
         name = row.ref
-        if name not in self.missing or self.missing[name].expiry != row.time:
+        if name is None or name not in self.missing or self.missing[name].expiry != row.time:
             raise Wrong(f"{row}: no request timer expires")
+        if self.missing[name].backoffs == 0:
+            self.requests.send_first()
         self.back_off(name, row)
         return "sent", [], name
 
-    def answer(self, row):
+    def answer(self, row: Row) -> Outcome:
         name = row.ref
-        expiry, requester = self.repairs.pop(name, (None, None))
-        if expiry != row.time or name not in self.held:
+        if name is None or name not in self.held or name not in self.repairs or self.repairs[name].expiry != row.time:
             raise Wrong(f"{row}: no repair timer expires")
-        self.rests[name] = row.time + 3 * self.base(name, requester)
+        self.answers.send_first()
+        self.note_repair(row, name)
+        self.end_of_repair(row, name, self.number)
         return "sent", [], name
 
-    def draw(self, row):
+    def draw(self, row: Row) -> Outcome:
         page = self.scripted(self.draws, row)["page"]
         entry = self.entries.setdefault((self.number, page), Entry(0))
         if entry.next >= PAGE_FULL:
@@ -196,50 +315,58 @@ class Member:
         entry.next += 1
         return "sent", [], name
 
-    def report(self, row):
+    def report(self, row: Row) -> Outcome:
         self.scripted(self.reports, row)
         return "sent", [], [(*page, entry.next - 1) for page, entry in sorted(self.entries.items())]
 
-    def join(self, row):
+    def join(self, row: Row) -> Outcome:
         if self.joined is not None or row.time != self.scenario.members[self.number]["join"]:
             raise Wrong(f"{row}: it does not join now")
         self.joined = row.time
         return "in", [], None
 
-    def leave(self, row):
+    def leave(self, row: Row) -> Outcome:
         if row.time != self.scenario.members[self.number]["leave"]:
             raise Wrong(f"{row}: it does not leave now")
         self.nothing_is_pending(row.time)
         self.left = row.time
         return "out", [], None
 
-    def scripted(self, acts, row):
+    def scripted(self, acts: list[Table], row: Row) -> Table:
         """The next draw or session message, which has to be now."""
         if not acts or acts[-1]["at"] != row.time:
             raise Wrong(f"{row}: the scenario has none now")
         return acts.pop()
 
-    def nothing_is_pending(self, last):
+    def nothing_is_pending(self, last: int) -> None:
         """Refuses an end, of the member or of the run, at which an event up to this time is left."""
         timers = [(lost.expiry, "ask", name) for name, lost in self.missing.items()]
-        timers += [(expiry, "answer", name) for name, (expiry, _) in self.repairs.items()]
+        timers += [(timer.expiry, "answer", name) for name, timer in self.repairs.items()]
         acts = [(it["at"], "draw or report") for it in self.draws + self.reports]
-        left = [it for it in timers + acts if it[0] <= last] + sorted(self.inbox.items())
+        left = [*(it for it in [*timers, *acts] if it[0] <= last), *sorted(self.inbox.items())]
         if left:
             raise Wrong(f"member {self.number}: pending at its end, and not handled: {left}")
 
 
-class Replay:
-    """A trace so far: the members, the packets sent with what they carry, and the losses."""
+def sender_of(row: Row) -> int:
+    """Who sent the packet that arrives."""
+    if row.ref is None:
+        raise Wrong(f"{row}: no packet")
+    return row.ref[0]
 
-    def __init__(self, scenario, seed):
+
+class Replay:
+    """A trace so far: the members, the packets sent with what they carry, the losses, and what timers go by."""
+
+    def __init__(self, scenario: Scenario, seed: int) -> None:
         self.scenario = scenario
         self.members = [Member(scenario, seed, number) for number in range(len(scenario.members))]
-        self.packets = {}
-        self.losses = {}
-        self.last = ()
+        self.packets: dict[Numbers, tuple[str, Any]] = {}
+        self.losses: dict[tuple[int, Numbers], tuple[int, int | None]] = {}
+        self.timers: list[tuple[Row, Timers]] = []
+        self.last: tuple[int, ...] = ()
 
-    def run(self, rows):
+    def run(self, rows: list[Row]) -> dict[tuple[int, Numbers], tuple[int, int | None]]:
         """Each name that a member lost, with the times at which it missed it and took it in, or None."""
         for row in rows:
             self.take(row)
@@ -252,7 +379,7 @@ class Replay:
                 member.nothing_is_pending(self.scenario.until - 1)
         return self.losses
 
-    def take(self, row):
+    def take(self, row: Row) -> None:
         if row.member >= len(self.members) or row.time >= self.scenario.until:
             raise Wrong(f"{row}: no such member, or not before until")
         member = self.members[row.member]
@@ -260,13 +387,16 @@ class Replay:
             raise Wrong(f"{row}: the member is not there")
         self.keys_rise(row)
         carried = (self.handed(member, row),) if row.cause in ARRIVALS else ()
+        constants = member.timers()[0]
         result, lost, sends = getattr(member, row.cause)(row, *carried)
+        if member.timers()[0] != constants or row.cause == "join" and member.role != "listener":
+            self.timers.append((row, member.timers()))
         if (row.result, row.lost) != (result, len(lost)):
             raise Wrong(f"{row}: its result is {result}, and it loses {lost}")
         self.note_losses(row, lost, carried)
         self.send(member, row, sends)
 
-    def keys_rise(self, row):
+    def keys_rise(self, row: Row) -> None:
         """Keys rise; draws and session messages of one tick, which show no place, are told apart by the script."""
         rank = RANKS[row.cause]
         key = row.time, row.member, rank, *(row.ref if row.cause not in ("draw", "report") and row.ref else ())
@@ -274,16 +404,16 @@ class Replay:
             raise Wrong(f"{row}: it stands below {self.last}")
         self.last = key
 
-    def handed(self, member, row):
+    def handed(self, member: Member, row: Row) -> Any:
         """What a packet carries that arrives now: the name, or what a session message tells."""
-        if member.inbox.pop(row.ref, None) != row.time:
+        if row.ref is None or member.inbox.pop(row.ref, None) != row.time:
             raise Wrong(f"{row}: this packet does not arrive now, or did already")
         cause, carried = self.packets[row.ref]
         if SENDS[cause] != row.cause:
             raise Wrong(f"{row}: the packet was sent by {cause}")
         return carried
 
-    def note_losses(self, row, lost, carried):
+    def note_losses(self, row: Row, lost: list[Numbers], carried: tuple[Any, ...]) -> None:
         for name in lost:
             if (row.member, name) in self.losses:
                 raise Wrong(f"{row}: {name} was lost before")
@@ -294,7 +424,7 @@ class Replay:
                 raise Wrong(f"{row}: {carried[0]} was fixed before")
             self.losses[row.member, carried[0]] = detected, row.time
 
-    def send(self, member, row, sends):
+    def send(self, member: Member, row: Row, sends: Any) -> None:
         """A packet that is sent is on its way to each member that it reaches and that is there when it arrives."""
         packet = None if sends is None else (row.member, member.sent)
         if row.sent != packet or (row.cause in ("ask", "answer", "draw") and row.ref != sends):

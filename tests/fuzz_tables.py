@@ -1,12 +1,18 @@
-"""Reads a trace, and computes from its rows the other three tables, as docs/FORMATS.md says what they have."""
+"""Reads a trace, and computes from its rows the other tables, as docs/FORMATS.md says what they have. The rows of losses and of timers
+are those that fuzz_replay.py finds."""
 import collections
 import re
+from collections.abc import Iterable
+from typing import NamedTuple
+
+from fuzz_format import Scenario
 
 HEADERS = {
     "trace": "time,member,cause,ref,result,lost,sent",
     "members": "member,role,node,joined,left,drawn,heard,lost,fixed,open,requests,repairs,sessions",
     "losses": "member,source,page,number,detected,recovered,delay",
     "links": "link,data,requests,repairs,sessions,dropped",
+    "timers": "time,member,cause,ref,c1,c2,d1,d2,ave_dup_req,ave_req_delay,ave_dup_rep,ave_rep_delay",
 }
 ARRIVALS = ("data", "request", "repair", "session")
 SENDS = {"draw": "data", "ask": "request", "answer": "repair", "report": "session"}
@@ -21,19 +27,36 @@ PACKET = re.compile(f"{NUMBER}:{NUMBER}")
 NAME = re.compile(f"{NUMBER}/{NUMBER}/{NUMBER}")
 ROW = re.compile(f"({NUMBER}),({NUMBER}),([a-z]+),([0-9:/]+|-),([a-z]+),({NUMBER}),({NUMBER}:{NUMBER}|-)")
 
-Row = collections.namedtuple("Row", "time member cause ref result lost sent")
+# a packet, as its sender and its count, or a name, as source, page and number
+Numbers = tuple[int, ...]
+
+
+class Row(NamedTuple):
+    """A row of a trace."""
+
+    time: int
+    member: int
+    cause: str
+    ref: Numbers | None
+    result: str
+    lost: int
+    sent: Numbers | None
+
+
+# the four constants of a member's timers after an event, and the four averages, of which there may be none yet
+Timers = tuple[tuple[int, ...], tuple[int | None, ...]]
 
 
 class Wrong(Exception):
     """Something that the program must not do."""
 
 
-def numbers(text):
+def numbers(text: str) -> Numbers:
     """The numbers of a packet, 2:0, or of a name, 0/0/1."""
     return tuple(int(it) for it in re.split("[:/]", text))
 
 
-def lines_of(table, text):
+def lines_of(table: str, text: bytes) -> list[str]:
     """The lines of a table below its header, each of which ended with a line feed."""
     if not text.isascii():
         raise Wrong(f"{table}: not all of it is ASCII")
@@ -43,7 +66,7 @@ def lines_of(table, text):
     return lines[1:-1]
 
 
-def row_of(line):
+def row_of(line: str) -> Row:
     """One row of a trace, if it has the form of one."""
     found = ROW.fullmatch(line)
     if found is None or found[5] not in RESULTS.get(found[3], ()):
@@ -56,24 +79,24 @@ def row_of(line):
     return Row(int(time), int(member), cause, None if ref == "-" else numbers(ref), result, int(lost), as_numbers)
 
 
-def rows_of(trace):
+def rows_of(trace: bytes) -> list[Row]:
     """The rows of a trace."""
     return [row_of(line) for line in lines_of("trace", trace)]
 
 
-def table(name, lines):
+def table(name: str, lines: Iterable[str]) -> bytes:
     """The bytes of a table."""
     return "".join(f"{line}\n" for line in [HEADERS[name], *lines]).encode()
 
 
-def csv(*fields):
+def csv(*fields: object) -> str:
     """One line; a dash stands for None."""
     return ",".join("-" if it is None else str(it) for it in fields)
 
 
-def members_table(scenario, rows):
+def members_table(scenario: Scenario, rows: list[Row]) -> bytes:
     """One line for each member: filters, counts and sums over its rows."""
-    by_member = collections.defaultdict(list)
+    by_member: dict[int, list[Row]] = collections.defaultdict(list)
     for row in rows:
         by_member[row.member].append(row)
     lines = []
@@ -90,7 +113,7 @@ def members_table(scenario, rows):
     return table("members", lines)
 
 
-def losses_table(scenario, losses):
+def losses_table(scenario: Scenario, losses: dict[tuple[int, Numbers], tuple[int, int | None]]) -> bytes:
     """One line for each lost name, from the times at which a member missed a name and took it in, if it did."""
     lines = []
     for (member, name), (detected, recovered) in sorted(losses.items()):
@@ -100,13 +123,29 @@ def losses_table(scenario, losses):
     return table("losses", lines)
 
 
-def links_table(scenario, rows):
+def links_table(scenario: Scenario, rows: list[Row]) -> bytes:
     """One line for each link: of the packets that were sent, those that crossed it, by kind, and those dropped at it."""
-    crossed, dropped = collections.Counter(), collections.Counter()
+    crossed: collections.Counter[tuple[int, str]] = collections.Counter()
+    dropped: collections.Counter[int] = collections.Counter()
     for row in rows:
         if row.sent is not None:
-            fate = scenario.fate(*row.sent, row.time)
+            sender, count = row.sent
+            fate = scenario.fate(sender, count, row.time)
             crossed.update((link, SENDS[row.cause]) for link in fate.crossed)
             dropped.update(fate.dropped)
     links = range(len(scenario.links))
     return table("links", [csv(link, *(crossed[link, kind] for kind in ARRIVALS), dropped[link]) for link in links])
+
+
+def ref_text(row: Row) -> str | None:
+    """What a row is about, as a table has it: a packet where something arrives, or else a name."""
+    if row.ref is None:
+        return None
+    return (":" if row.cause in ARRIVALS else "/").join(str(it) for it in row.ref)
+
+
+def timers_table(timers: list[tuple[Row, Timers]]) -> bytes:
+    """One line for each event after which a member's timers go by other constants, and for each join of a member that has timers."""
+    return table("timers", [
+        csv(row.time, row.member, row.cause, ref_text(row), *constants, *averages) for row, (constants, averages) in timers
+    ])
