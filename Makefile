@@ -2,9 +2,9 @@ RT ?= rt
 PROGRAM := crates/srm_lab/out/srm_lab
 SOURCES := crates.txt $(shell find crates -path '*/out' -prune -o \( -name '*.rt' -o -name '*.antt' \) -print)
 CRATES := $(notdir $(patsubst %/src,%,$(wildcard crates/*/src)))
-TEST_PROGRAMS := $(foreach crate,srm_examples srm_scenario_tests srm_cell_tests srm_crew_tests srm_report_tests,crates/$(crate)/out/$(crate)_tests)
+TEST_PROGRAMS := $(foreach crate,srm_examples srm_scenario_tests srm_cell_tests srm_team_tests srm_crew_tests srm_report_tests,crates/$(crate)/out/$(crate)_tests)
 # those that pass whichever allocation is refused
-TESTS_OF_MEMORY := $(filter-out %/srm_scenario_tests_tests,$(TEST_PROGRAMS))
+TESTS_OF_MEMORY := $(filter-out %/srm_scenario_tests_tests %/srm_team_tests_tests,$(TEST_PROGRAMS))
 TESTS_OF_MEMORY := $(TESTS_OF_MEMORY:%/srm_cell_tests_tests=%/srm_cell_tests_tests:ledger_tests)
 TESTS_OF_MEMORY := $(TESTS_OF_MEMORY:%/srm_crew_tests_tests=%/srm_crew_tests_tests:crew_tests)
 TESTS_OF_MEMORY := $(TESTS_OF_MEMORY:%/srm_report_tests_tests=%/srm_report_tests_tests:drops_tests)
@@ -68,8 +68,9 @@ test-program: $(PROGRAM) ## compares what the program prints with each file of e
 	@tests/same_bytes.py --runs $(FEW_CASES) $(PROGRAM)
 	@tests/fuzz.py --from 1 --cases $(FEW_CASES) $(PROGRAM)
 
-test-memory: $(PROGRAM) $(TEST_PROGRAMS) ## refuses each allocation in turn, of the program on each example with each engine, on three with each table and each crew that takes threads, and of each test of members, roles, the ledger, crews and the drops of whole runs' boxes
+test-memory: $(PROGRAM) $(TEST_PROGRAMS) ## refuses each allocation in turn, of the program on each example with each engine, on three with each table and each crew that takes threads, on each scenario whose explanation is stored, and of each test of members, roles, the ledger, crews and the drops of whole runs' boxes
 	@tests/refuse_allocations.py --program $(PROGRAM) examples/*.toml --tests $(TESTS_OF_MEMORY)
+	@tests/refuse_allocations.py --explained $(PROGRAM)
 	@tests/refuse_allocations.py --more $(PROGRAM) $(FEW_SCENARIOS:%=examples/%.toml)
 
 $(TEST_PROGRAMS): $(SOURCES)

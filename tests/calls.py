@@ -1,15 +1,20 @@
 #!/usr/bin/env python3
-"""Holds docs/CALLS.md to the sources: each public call that can refuse stands there, once, and each that may wait is named.
+"""Holds docs/CALLS.md to the sources: its tables are the refusals that the calls' own documentation tells.
 
-usage: tests/calls.py
+usage: tests/calls.py [--write]
 
 A public call is a `pub fn` of a public module, a method of a public trait, or a copy (`clone`) of a type whose copy takes memory;
 of a program, whose modules are all its own, each `pub fn`. It can refuse where it answers a Result, and may wait where it is given
-a runtime that may wait or start threads, or a crew. Each row's refusals have to be among those that the call's type has, and each
-that such a type has, has to stand in a row. What the page lists as not allocating is given no allocator. Ends with status 1 where
-one of these is not so.
+a runtime that may wait or start threads, or a crew.
+
+With --write the tables of the page are written anew: for each crate a row for each call that can refuse, with what stands under
+`# Errors` in its documentation; calls of one text share a row. Without it the script ends with status 1 where a table of the page
+is another, where a call that can refuse says nothing of it, or names a refusal that its type has not, where a refusal of a type is
+named by no call, where a call that may wait is not listed, or where a call that is listed as not allocating is given an allocator.
 """
+import argparse
 import dataclasses
+import itertools
 import pathlib
 import re
 import sys
@@ -21,16 +26,21 @@ WAITING = "Calls that may wait"
 WITHOUT_MEMORY = "Calls that do not allocate"
 RUNTIMES = re.compile(r"\b(Wait|Threads)\b")
 OPENING, CLOSING = "<([{", ">)]}"
+ERRORS = "# Errors"
+COPIED = "`AllocError`."
+HEAD = "| call | what it refuses, and what stands then |\n|---|---|\n"
 
 
 @dataclasses.dataclass(frozen=True)
 class Call:
-    """A public call: its crate, its name with that of its type or trait, its answer, and what it takes with all bounds on it."""
+    """A public call: its crate, its name with that of its type or trait, its answer, what it takes with all bounds on it, and what its
+    documentation says of its refusals."""
 
     crate: str
     name: str
     answer: str
     bounds: str
+    errors: str
 
     def refuses(self):
         return self.answer.startswith("Result<")
@@ -88,6 +98,22 @@ def parts(text):
     return generic + text[place : end + 1], text[end + 1 :].partition("->")[2].strip()
 
 
+def plain(text):
+    """A text of documentation as the page has it: links are their words, and a refusal goes by its own name."""
+    text = re.sub(r"\[(`[^`]*`)\](\([^)]*\))?", r"\1", text)
+    return re.sub(r"`\w+(?:Fault|Error)::(\w+)`", r"`\1`", text)
+
+
+def errors(lines, number):
+    """What the documentation above a line says of refusals."""
+    first = number
+    while re.match(r" *(///|#\[)", lines[first - 1]):
+        first -= 1
+    told = [line.strip()[3:].strip() for line in lines[first:number] if line.strip().startswith("///")]
+    after = told[told.index(ERRORS) + 1 :] if ERRORS in told else []
+    return plain(" ".join(line for line in after if line))
+
+
 def block(line):
     """The trait and the type of an impl, the trait of a declaration, or neither."""
     if found := re.match(r"pub trait (\w+)", line):
@@ -127,9 +153,10 @@ def calls_of_file(crate, text, traits):
             continue
         own, answer = parts(head(lines, number))
         owner = (kind or trait) if found[1] else None
-        yield Call(crate, f"{owner}::{found[3]}" if owner else found[3], answer, bounds + own)
+        told = errors(lines, number) or (COPIED if found[3] == "clone" else "")
+        yield Call(crate, f"{owner}::{found[3]}" if owner else found[3], answer, bounds + own, told)
     for name in copies(text):
-        yield Call(crate, f"{name}::clone", "Result<Self, AllocError>", "")
+        yield Call(crate, f"{name}::clone", "Result<Self, AllocError>", "", COPIED)
 
 
 def public_calls():
@@ -178,12 +205,31 @@ def sections(text):
     return dict(zip(pieces[1::2], pieces[2::2]))
 
 
-def rows(text):
-    """The calls that each row of a table is of, and the refusals that it names."""
-    for line in text.splitlines():
-        cells = line.strip("|").split(" | ")
-        if line.startswith("|") and len(cells) == 3 and "`" in cells[0]:
-            yield re.findall(r"`([\w:]+)`", cells[0]), re.findall(r"`([A-Z]\w*)`", cells[1])
+def table(crate, calls):
+    """The table of a crate: a row for each text that its calls' documentation has of refusals."""
+    refusing = [call for call in calls if call.crate == crate and call.refuses()]
+    texts = dict.fromkeys(call.errors for call in refusing)
+    named = {text: ", ".join(f"`{call.name}`" for call in refusing if call.errors == text) for text in texts}
+    return HEAD + "".join(f"| {named[text]} | {text} |\n" for text in texts)
+
+
+def told_in(text):
+    """A part of the page without its table, and its table."""
+    lines = text.splitlines(keepends=True)
+    kept = [list(group) for is_row, group in itertools.groupby(lines, lambda line: line.startswith("|")) if not is_row]
+    return kept, "".join(line for line in lines if line.startswith("|"))
+
+
+def written(text, calls):
+    """The page with each table written anew."""
+    pieces = re.split(r"^(## .*\n)", text, flags=re.M)
+    for place in range(1, len(pieces), 2):
+        crate = pieces[place][3:].strip()
+        if crate.startswith(PREFIX):
+            kept, _ = told_in(pieces[place + 1])
+            before, after = "".join(kept[0]), "".join("".join(group) for group in kept[1:])
+            pieces[place + 1] = before + table(crate, calls) + after
+    return "".join(pieces)
 
 
 def listed(page, part):
@@ -191,36 +237,33 @@ def listed(page, part):
     return {name for line in re.findall(r"^- (.*?): ", page.get(part, ""), re.M) for name in re.findall(r"`([\w:]+)`", line)}
 
 
-def faults_of_rows(crate, text, calls, known):
-    """What is wrong with the rows of a crate."""
-    refusing = {call.name: call for call in calls if call.crate == crate and call.refuses()}
-    told = [(name, names) for calls_told, names in rows(text) for name in calls_told]
-    for name in sorted(refusing.keys() - {name for name, _ in told}):
-        yield f"{crate}: {name} can refuse, and has no row"
-    for name, _ in told:
-        if name not in refusing:
-            yield f"{crate}: {name} has a row, and is no public call that can refuse"
-    for name in sorted({name for name, _ in told if [it for it, _ in told].count(name) > 1}):
-        yield f"{crate}: {name} has more than one row"
-    for name, names in told:
-        if name in refusing:
-            for wrong in sorted(set(names) - names_in(refusing[name].fault(), known)):
-                yield f"{crate}: {name} has no refusal {wrong}"
+def faults_of_calls(calls, known):
+    """What is wrong with what the calls' documentation says of refusals."""
+    refusing = [call for call in calls if call.refuses()]
+    for call in refusing:
+        if not call.errors:
+            yield f"{call.crate}: {call.name} can refuse, and its documentation has no `{ERRORS}`"
+        for wrong in sorted(set(names_told(call)) - names_in(call.fault(), known)):
+            yield f"{call.crate}: {call.name} has no refusal {wrong}"
+    named = {name for call in refusing for name in names_told(call)}
+    types = {kind for call in refusing for kind in re.findall(r"\w+", call.fault()) if kind.endswith("Fault")}
+    for kind in sorted(types & known.keys()):
+        for name in sorted(set(known[kind][0]) - named):
+            yield f"no call names the refusal {name} of {kind}"
 
 
-def faults(text, calls, waiting, known):
+def names_told(call):
+    """The names of refusals in what is told of a call's."""
+    return re.findall(r"`([A-Z]\w*[a-z]\w*)`", call.errors)
+
+
+def faults(text, calls, waiting):
     """What is wrong with the page."""
     page = sections(text)
     for crate in sorted({call.crate for call in calls if call.refuses()} - page.keys()):
         yield f"there is no part on {crate}"
-    for crate in page:
-        if crate.startswith(PREFIX):
-            yield from faults_of_rows(crate, page[crate], calls, known)
-    named = {name for part in page for _, names in rows(page[part]) for name in names}
-    types = {kind for call in calls if call.refuses() for kind in re.findall(r"\w+", call.fault()) if kind.endswith("Fault")}
-    for kind in sorted(types & known.keys()):
-        for name in sorted(set(known[kind][0]) - named):
-            yield f"no row names the refusal {name} of {kind}"
+    if written(text, calls) != text:
+        yield "a table is not that of the sources: tests/calls.py --write writes it"
     waits = {call.name for call in calls if may_wait(call, waiting)}
     for name in sorted(waits - listed(page, WAITING)):
         yield f"{name} may wait, and is not named there"
@@ -231,11 +274,15 @@ def faults(text, calls, waiting, known):
 
 
 def main():
-    if len(sys.argv) > 1:
-        print(__doc__)
-        return
+    reader = argparse.ArgumentParser(description=__doc__, formatter_class=argparse.RawDescriptionHelpFormatter)
+    reader.add_argument("--write", action="store_true", help="write the tables of the page anew")
+    asked = reader.parse_args()
     calls, waiting = public_calls()
-    found = list(faults(PAGE.read_text(encoding="utf-8"), calls, waiting, variants()))
+    text = PAGE.read_text(encoding="utf-8")
+    if asked.write:
+        text = written(text, calls)
+        PAGE.write_text(text, encoding="utf-8")
+    found = list(faults_of_calls(calls, variants())) + list(faults(text, calls, waiting))
     for fault in found:
         print(f"docs/CALLS.md: {fault}", file=sys.stderr)
     sys.exit(1 if found else 0)

@@ -372,16 +372,6 @@ Usage: srm_lab [OPTIONS]
 Options:
       --seed <0..=9223372036854775807>
           The seed of the members' random words [default: 0]
-      --engine <step|window>
-          One event at a time, or windows of time; the table is the same [default: step]
-      --crew <plain|pool|bag>
-          Who works in a window: one thread, a pool of threads, or workers that share a bag of jobs [default: plain]
-      --workers <1..=64>
-          How many workers share the bag [default: 1]
-      --cut <N>
-          How many members a job of a window has, 1 to 1024 [default: 1]
-      --width <least|promise|N>
-          How wide windows are: the least delay of a link, as members promise, or ticks, from 1 to that delay [default: least]
       --show <trace|members|losses|links>
           The table: a row for each event, member, loss or link [default: trace]
       --check
@@ -392,6 +382,18 @@ Options:
           Print help
   -V, --version
           Print version
+
+Windows (advanced: how a run is worked out, the table is the same):
+      --engine <step|window>
+          One event at a time, or windows of time [default: step]
+      --crew <plain|pool|bag>
+          Who works in a window: one thread, a pool of threads, or workers that share a bag of jobs [default: plain]
+      --workers <1..=64>
+          How many workers share the bag [default: 1]
+      --cut <N>
+          How many members a job of a window has, 1 to 1024 [default: 1]
+      --width <least|promise|N>
+          How wide windows are: the least delay of a link, as members promise, or ticks, from 1 to that delay [default: least]
 
 Exit status:
   0  the table was written, or this help

@@ -5,8 +5,8 @@ usage: tests/explanations.py PROGRAM
 
 Each case of tests/explanations.txt must be told as it stands there. Each text of tests/refusals.txt that is refused must have the same
 line, status and standard output as without --explain, and after the line lines that begin with two spaces. Where they name a line and
-a column of the text, they show that line, with a mark below that column; and where three lines stand before the text, they name a line
-that is three further on, and tell all else as before. Of a text that is accepted nothing is told. Prints a line for each difference,
+a column of the text, they show that line, with a mark below that column; they say more than what the fault is; and where three lines
+stand before the text, they name a line that is three further on, and tell all else as before. Of a text that is accepted nothing is told. Prints a line for each difference,
 and ends with status 1 where there is one.
 """
 import os
@@ -20,8 +20,19 @@ sys.dont_write_bytecode = True
 import refusals
 
 CASES = pathlib.Path(__file__).with_name("explanations.txt")
-SHOWN = 60
+SHOWN = 100
 MOVED = "# moved\n# by three\n# lines\n"
+# what the faults of a scenario are: of no text is this all that is told
+GENERAL = (
+    "a scenario is a TOML document in UTF-8",
+    "a key there is unknown, missing or not allowed, or its value is out of its range",
+    "the links have to make a tree of the nodes",
+    "this member does not fit the network, the run or the members before it",
+    "a draw is by a sender that is present",
+    "a session message is by a member that is present and no listener",
+    "a drop is of a link and a member that there are",
+    "an outage is of a link that there is, and ends after it begins",
+)
 PLACE = re.compile(r"  --> standard input, line (\d+), column (\d+)\n +(\d+) \| (.*)\n +\| ( *)(\^+)\n")
 
 
@@ -39,7 +50,7 @@ def stored():
         text, bar, told = rest.partition("--- told\n")
         if not words.startswith("$") or not bar:
             raise ValueError(f"{CASES.name}: {name} is no case")
-        yield name, words.removeprefix("$").split(), text, told.rstrip("\n") + "\n"
+        yield name, words.removeprefix("$").split(), refusals.repeated(text), told.rstrip("\n") + "\n"
 
 
 def faults_of_place(text, told):
@@ -80,6 +91,8 @@ def faults_of(program, text, answer):
         yield f"status {status}, {told!r}"
     if not more or not all(it.startswith("  ") for it in more.splitlines()) or not told.endswith("\n"):
         yield f"after the line stands {more!r}"
+    if any(sentence in more for sentence in GENERAL):
+        yield f"nothing is told but {more!r}"
     wrong = faults_of_place(text, more)
     if wrong:
         yield wrong

@@ -17,10 +17,14 @@ CASES = pathlib.Path(__file__).with_name("refusals.txt")
 HEADER = b"time,member,cause,ref,result,lost,sent\n"
 
 
+def repeated(text):
+    """The text with what is to stand in it several times standing so often, with commas between."""
+    return re.sub(r"<(\d+) of ([^>]*)>", lambda found: ",".join([found[2]] * int(found[1])), text)
+
+
 def lines_of(text):
     """The lines that stand with semicolons between them, with their elements repeated."""
-    text = re.sub(r"<(\d+) of ([^>]*)>", lambda found: ",".join([found[2]] * int(found[1])), text)
-    return [line.strip() for line in text.split(";")]
+    return [line.strip() for line in repeated(text).split(";")]
 
 
 def cases(text):

@@ -163,6 +163,10 @@ class Architecture(unittest.TestCase):
 SHELF = """\
 pub trait Reader {
     /// Reads.
+    ///
+    /// # Errors
+    /// 1. [`ShelfFault::Full`]: there is no room, as of [`len`](Shelf::len).
+    /// 2. `Torn`.
     fn read<R: Wait>(&self, rt: &R, into: &mut [u8]) -> Result<usize, ShelfFault>
         requires { ready self }
 }
@@ -173,6 +177,10 @@ pub struct Shelf {
 }
 
 impl<F: Fn(u8) -> bool> Shelf<F> {
+    /// Puts.
+    ///
+    /// # Errors
+    /// `Full`.
     pub fn put<'a>(
         &'a mut self,
         alloc: Global,
@@ -193,6 +201,10 @@ impl Reader for Shelf {
 }
 
 impl Display for Shelf {
+    /// Shows.
+    ///
+    /// # Errors
+    /// Refused.
     fn show(&self) -> Result<(), Full> {}
 }
 """
@@ -200,11 +212,14 @@ KNOWN = {"ShelfFault": (["Full", "Torn"], [])}
 SHELF_PAGE = """\
 ## low
 
-| call | refusals | after |
-|---|---|---|
-| `Reader::read`, `Shelf::put` | 1. `Full`. 2. `Torn` | as it was |
-| `Shelf::clone` | `AllocError` | |
-| `Shelf::show` | refused | |
+Of shelves.
+
+| call | what it refuses, and what stands then |
+|---|---|
+| `Reader::read` | 1. `Full`: there is no room, as of `len`. 2. `Torn`. |
+| `Shelf::put` | `Full`. |
+| `Shelf::show` | Refused. |
+| `Shelf::clone` | `AllocError`. |
 
 ## Calls that may wait
 
@@ -220,7 +235,7 @@ class Calls(unittest.TestCase):
     def faults(self, page=SHELF_PAGE, source=SHELF):
         found = list(calls.calls_of_file("low", source, {"Reader"}))
         with mock.patch.object(calls, "PREFIX", "low"):
-            return list(calls.faults(page, found, set(), KNOWN))
+            return list(calls.faults_of_calls(found, KNOWN)) + list(calls.faults(page, found, set()))
 
     def test_public_calls_are_found_with_what_they_answer(self):
         found = {call.name: call.answer for call in calls.calls_of_file("low", SHELF, {"Reader"})}
@@ -230,22 +245,29 @@ class Calls(unittest.TestCase):
     def test_page_that_fits_has_no_fault(self):
         self.assertEqual(self.faults(), [])
 
-    def test_call_without_a_row_is_told(self):
-        page = SHELF_PAGE.replace(", `Shelf::put`", "")
-        self.assertEqual(self.faults(page), ["low: Shelf::put can refuse, and has no row"])
+    def test_stale_table_is_told_and_written_anew(self):
+        stale = SHELF_PAGE.replace("| `Full`. |", "| `Torn`. |")
+        self.assertEqual(self.faults(stale), ["a table is not that of the sources: tests/calls.py --write writes it"])
+        found = list(calls.calls_of_file("low", SHELF, {"Reader"}))
+        with mock.patch.object(calls, "PREFIX", "low"):
+            self.assertEqual(calls.written(stale, found), SHELF_PAGE)
 
-    def test_row_of_no_call_is_told(self):
-        page = SHELF_PAGE.replace("`Shelf::put`", "`Shelf::put`, `Shelf::inner`, `Shelf::len`")
-        told = [f"low: Shelf::{name} has a row, and is no public call that can refuse" for name in ("inner", "len")]
-        self.assertEqual(self.faults(page), told)
+    def test_calls_of_one_text_share_a_row(self):
+        source = SHELF.replace("    /// Refused.", "    /// `Full`.")
+        found = list(calls.calls_of_file("low", source, {"Reader"}))
+        self.assertIn("| `Shelf::put`, `Shelf::show` | `Full`. |\n", calls.table("low", found))
+
+    def test_call_whose_documentation_tells_no_refusal_is_told(self):
+        source = SHELF.replace("    /// # Errors\n    /// `Full`.\n", "")
+        self.assertIn("low: Shelf::put can refuse, and its documentation has no `# Errors`", self.faults(source=source))
 
     def test_refusal_that_the_type_has_not_is_told(self):
-        page = SHELF_PAGE.replace("| `AllocError`", "| `Lost`")
-        self.assertEqual(self.faults(page), ["low: Shelf::clone has no refusal Lost"])
+        source = SHELF.replace("    /// Refused.", "    /// `Lost`.")
+        self.assertIn("low: Shelf::show has no refusal Lost", self.faults(source=source))
 
-    def test_refusal_that_no_row_names_is_told(self):
-        page = SHELF_PAGE.replace(" 2. `Torn`", "")
-        self.assertEqual(self.faults(page), ["no row names the refusal Torn of ShelfFault"])
+    def test_refusal_that_no_call_names_is_told(self):
+        source = SHELF.replace("    /// 2. `Torn`.\n", "")
+        self.assertIn("no call names the refusal Torn of ShelfFault", self.faults(source=source))
 
     def test_waiting_and_memory_are_told(self):
         page = SHELF_PAGE.replace("- `Reader::read`", "- `Shelf::len`").replace("- `Shelf::len`: always", "- `Shelf::put`: always")

@@ -11,7 +11,7 @@ use Rattle.srm_net.specs.Orders.{place}
 use Rattle.srm_net.proofs.Basics.{nth_number, regrouped}
 use Rattle.srm_cell.specs.declared.flight.Flight.{Flight}
 use Rattle.srm_cell.specs.Flights.{numbers_of_flight, flight_cmp, BringsNone}
-use Rattle.srm_cell.specs.Entries.{flight_of, flights_of, HasKey, HaveKeys}
+use Rattle.srm_cell.specs.Entries.{flight_of, flights_of, IsKeyedByPacket, HaveKeys}
 use Rattle.srm_cell.proofs.CellSteps.{flight_total}
 
 pub tie : (f g : Flight) → flight_cmp f g ≡ Equal → f.packet.id ≡ g.packet.id
@@ -29,7 +29,8 @@ slot_cmp k l = ordering_then (ordering_then (nat_cmp k.0 l.0) (nat_cmp k.1 l.1))
 same : (k l : ℕ × ℕ × ℕ) → slot_cmp k l ≡ slice_cmp nat_cmp (k.0 ∷ k.1 ∷ k.2 ∷ []) (l.0 ∷ l.1 ∷ l.2 ∷ [])
 same k l = regrouped (nat_cmp k.0 l.0) (nat_cmp k.1 l.1) (nat_cmp k.2 l.2)
 
-keys_compare : (d e : (ℕ × ℕ × ℕ) × Packet) → HasKey d → HasKey e → slot_cmp d.0 e.0 ≡ flight_cmp (flight_of d) (flight_of e)
+keys_compare : (d e : (ℕ × ℕ × ℕ) × Packet) → IsKeyedByPacket d → IsKeyedByPacket e
+    → slot_cmp d.0 e.0 ≡ flight_cmp (flight_of d) (flight_of e)
 keys_compare d e h g = rw (← h.0, ← h.1, ← g.0, ← g.1) (same d.0 e.0)
 
 abbrev Entry : Type 0
@@ -51,7 +52,7 @@ by_place d e es Greater h apart more =
     ap (λ l. flight_of e ∷ l) more ∙ ap (λ b. cond b (flight_of e ∷ place flight_cmp (flight_of d) (flights_of es))
     (flight_of d ∷ flight_of e ∷ flights_of es)) (sym back)
 
-pub placed : (d : Entry) (es : List Entry) → HasKey d → HaveKeys es → BringsNone d.1.id (flights_of es)
+pub placed : (d : Entry) (es : List Entry) → IsKeyedByPacket d → HaveKeys es → BringsNone d.1.id (flights_of es)
     → flights_of (insert_entry slot_cmp es d.0 d.1) ≡ place flight_cmp (flight_of d) (flights_of es)
 placed d [] h g none = refl
 placed d (e ∷ es) h g none =
@@ -60,14 +61,14 @@ placed d (e ∷ es) h g none =
     ∙ by_place d e es (flight_cmp (flight_of d) (flight_of e)) refl (λ q. none.0 (sym (tie (flight_of d) (flight_of e) q)))
     (placed d es h g.1 none.1)
 
-with_keys : (d e : Entry) (es : List Entry) (o : Ordering) → (o ≡ Equal → ⊥) → HasKey d → HasKey e → HaveKeys es
+with_keys : (d e : Entry) (es : List Entry) (o : Ordering) → (o ≡ Equal → ⊥) → IsKeyedByPacket d → IsKeyedByPacket e → HaveKeys es
     → HaveKeys (insert_entry slot_cmp es d.0 d.1)
     → HaveKeys (match_ordering o (d ∷ e ∷ es) ((e.0, d.1) ∷ es) (e ∷ insert_entry slot_cmp es d.0 d.1))
 with_keys d e es Less apart h g gs more = (h, (g, gs))
 with_keys d e es Equal apart h g gs more = absurd (apart refl)
 with_keys d e es Greater apart h g gs more = (g, more)
 
-pub keys_stay : (d : Entry) (es : List Entry) → HasKey d → HaveKeys es → BringsNone d.1.id (flights_of es)
+pub keys_stay : (d : Entry) (es : List Entry) → IsKeyedByPacket d → HaveKeys es → BringsNone d.1.id (flights_of es)
     → HaveKeys (insert_entry slot_cmp es d.0 d.1)
 keys_stay d [] h g none = (h, tt)
 keys_stay d (e ∷ es) h g none =

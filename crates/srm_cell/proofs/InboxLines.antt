@@ -13,7 +13,7 @@ use Rattle.srm_net.specs.Orders.{place, ordered, NoneBelow, Rises}
 use Rattle.srm_member.proofs.AllIn.{AllIn}
 use Rattle.srm_member.proofs.OrderLemmas.{From, from_trans, none_below_from, place-comm, place_first, rises_place, none_below_cond}
 use Rattle.srm_cell.specs.declared.flight.Flight.{Flight}
-use Rattle.srm_cell.specs.Flights.{flight_cmp, BringsNone, place_of, place_cmp}
+use Rattle.srm_cell.specs.Flights.{flight_cmp, BringsNone, turn_of, place_cmp}
 use Rattle.srm_cell.specs.InboxLines.{follows, leads, goes_before, IsPlaceIn}
 use Rattle.srm_cell.proofs.Entries.{tie}
 use Rattle.srm_cell.proofs.CellSteps.{flight_total}
@@ -130,8 +130,8 @@ flight_at k = record {
   packet = record { id = k.1; sent = 0; body = body.Request (record { source = 0; page = 0; number = 0 }) };
 }
 
-all_before : (g : Flight) (fs : List Flight) → Climbs fs → follows (place_of g) fs ≡ true → (j : ℕ) (d : Flight) → j < length fs
-    → goes_before (place_of g) (slice_index_or fs j d) ≡ true
+all_before : (g : Flight) (fs : List Flight) → Climbs fs → follows (turn_of g) fs ≡ true → (j : ℕ) (d : Flight) → j < length fs
+    → goes_before (turn_of g) (slice_index_or fs j d) ≡ true
 all_before g [] h q j d lt = absurd (omega arith)
 all_before g (f ∷ []) h q zero d lt = q
 all_before g (f ∷ []) h q (suc j) d lt = absurd (omega arith)
@@ -139,7 +139,7 @@ all_before g (f ∷ e ∷ fs) h q zero d lt = earlier flight_cmp flight_total g 
 all_before g (f ∷ e ∷ fs) h q (suc j) d lt = all_before g (e ∷ fs) h.1 q j d (omega arith)
 
 -- the place of a flight that follows a line is behind it
-pub last_place : (g : Flight) (fs : List Flight) → Climbs fs → follows (place_of g) fs ≡ true → IsPlaceIn (place_of g) fs (length fs)
+pub last_place : (g : Flight) (fs : List Flight) → Climbs fs → follows (turn_of g) fs ≡ true → IsPlaceIn (turn_of g) fs (length fs)
 last_place g fs h q = (omega arith, (λ j d low high. all_before g fs h q j d high, λ j d low high. absurd (omega arith)))
 
 brings_placed : (id : PacketId) (g : Flight) (fs : List Flight) → BringsNone id (place flight_cmp g fs) → (g.packet.id ≢ id)
@@ -165,7 +165,7 @@ apart_others f [] ys h = tt
 apart_others f (x ∷ xs) ys h = (h.0, apart_others f xs ys h.1)
 
 -- a flight put into the line at its place
-pub put_in : (f : Flight) (fs : List Flight) (p : ℕ) → IsPlaceIn (place_of f) fs p → insert fs p f ≡ place flight_cmp f fs
+pub put_in : (f : Flight) (fs : List Flight) (p : ℕ) → IsPlaceIn (turn_of f) fs p → insert fs p f ≡ place flight_cmp f fs
 put_in f fs p h = inserted flight_cmp flight_total f fs p h.0 h.1
 
 pub line_rises : (f : Flight) (fs : List Flight) → Climbs fs → Climbs (place flight_cmp f fs)
@@ -206,12 +206,12 @@ none_first (f ∷ fs) q = absurd (true≢false q)
 -- ---- what the calls tell
 
 last_is : (k : ℕ × PacketId) (f : Flight) (fs : List Flight) (x : Flight) → x ≡ slice_index_or (f ∷ fs) (length fs) x
-    → is_lt (place_cmp (place_of x) k) ≡ follows k (f ∷ fs)
-last_is k f [] x h = ap (λ y. is_lt (place_cmp (place_of y) k)) h
+    → is_lt (place_cmp (turn_of x) k) ≡ follows k (f ∷ fs)
+last_is k f [] x h = ap (λ y. is_lt (place_cmp (turn_of y) k)) h
 last_is k f (g ∷ fs) x h = last_is k g fs x h
 
 pub last_follows : (k : ℕ × PacketId) (fs : List Flight) (n : ℕ) (x : Flight) → n ≡ length fs → 0 < n → x ≡ slice_index_or fs (n - 1) x
-    → is_lt (place_cmp (place_of x) k) ≡ follows k fs
+    → is_lt (place_cmp (turn_of x) k) ≡ follows k fs
 last_follows k [] n x e lt h = absurd (omega arith)
 last_follows k (f ∷ fs) n x e lt h =
     let before : n - 1 ≡ length fs = omega arith in

@@ -36,10 +36,10 @@ crossings_at t ps l =
     ∷ dropped t l ps ∷ []
 
 -- two lists of numbers, added number by number
-abbrev pub added : List ℕ → List ℕ → List ℕ
-added [] ns = []
-added (m ∷ ms) [] = []
-added (m ∷ ms) (n ∷ ns) = (m + n) ∷ added ms ns
+abbrev pub added_each : List ℕ → List ℕ → List ℕ
+added_each [] ns = []
+added_each (m ∷ ms) [] = []
+added_each (m ∷ ms) (n ∷ ns) = (m + n) ∷ added_each ms ns
 
 -- the lists one after the other
 abbrev pub joined : {A : Type 0} → List (List A) → List A

@@ -11,9 +11,9 @@ abbrev pub flights_of : List ((ℕ × ℕ × ℕ) × Packet) → List Flight
 flights_of es = map (λ e. flight_of e) es
 
 -- the key of an entry has its packet's sender and count
-abbrev pub HasKey : ((ℕ × ℕ × ℕ) × Packet) → Type 0
-HasKey e = (e.0.1 ≡ e.1.id.sender) × (e.0.2 ≡ e.1.id.count)
+abbrev pub IsKeyedByPacket : ((ℕ × ℕ × ℕ) × Packet) → Type 0
+IsKeyedByPacket e = (e.0.1 ≡ e.1.id.sender) × (e.0.2 ≡ e.1.id.count)
 
 abbrev pub HaveKeys : List ((ℕ × ℕ × ℕ) × Packet) → Type 0
 HaveKeys [] = Unit {0}
-HaveKeys (e ∷ es) = HasKey e × HaveKeys es
+HaveKeys (e ∷ es) = IsKeyedByPacket e × HaveKeys es

@@ -17,8 +17,8 @@ abbrev pub flight_cmp : Flight → Flight → Ordering
 flight_cmp f g = slice_cmp nat_cmp (numbers_of_flight f) (numbers_of_flight g)
 
 -- what the order of flights goes by: when one arrives, and which packet it brings
-abbrev pub place_of : Flight → ℕ × PacketId
-place_of f = (f.arrival, f.packet.id)
+abbrev pub turn_of : Flight → ℕ × PacketId
+turn_of f = (f.arrival, f.packet.id)
 
 -- the same order, of these
 abbrev pub place_cmp : (ℕ × PacketId) → (ℕ × PacketId) → Ordering

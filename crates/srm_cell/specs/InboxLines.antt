@@ -4,11 +4,11 @@ use Rattle.std.specs.List.Sorted.{IsPartitionPoint}
 use Rattle.std.specs.Ordering.{is_lt}
 use Rattle.srm_net.specs.declared.packet.PacketId.{PacketId}
 use Rattle.srm_cell.specs.declared.flight.Flight.{Flight}
-use Rattle.srm_cell.specs.Flights.{place_of, place_cmp}
+use Rattle.srm_cell.specs.Flights.{turn_of, place_cmp}
 
 -- whether another goes before a flight with this arrival and packet
 abbrev pub goes_before : (ℕ × PacketId) → Flight → Bool
-goes_before k f = is_lt (place_cmp (place_of f) k)
+goes_before k f = is_lt (place_cmp (turn_of f) k)
 
 -- whether a flight with this arrival and packet goes behind the last of a line
 abbrev pub follows : (ℕ × PacketId) → List Flight → Bool
@@ -24,4 +24,4 @@ IsPlaceIn k fs p = (p ≤ length fs) × IsPartitionPoint (λ f. goes_before k f 
 abbrev pub leads : List Flight → List Flight → Bool
 leads [] gs = false
 leads (f ∷ fs) [] = true
-leads (f ∷ fs) (g ∷ gs) = is_lt (place_cmp (place_of f) (place_of g))
+leads (f ∷ fs) (g ∷ gs) = is_lt (place_cmp (turn_of f) (turn_of g))

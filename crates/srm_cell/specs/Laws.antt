@@ -9,7 +9,7 @@ use Rattle.srm_cell.specs.Setting.{Traffic, IsFit, setting_of}
 use Rattle.srm_cell.specs.Flights.{flight_cmp}
 use Rattle.srm_cell.specs.Cells.{PlainCell, Event, next_event, pending_keys}
 use Rattle.srm_cell.specs.OwnRuns.{IsOwnRun}
-use Rattle.srm_cell.specs.Crossings.{crossings, added}
+use Rattle.srm_cell.specs.Crossings.{crossings, added_each}
 
 -- an own run has one result
 abbrev pub OwnRunsAreOne : Type 0
@@ -23,7 +23,7 @@ SettingsAreFit = (s : PlainScenario) (seed : ℕ) → IsAccepted s → IsFit (se
 
 -- the crossings of two lists of rows together are those of each, added
 abbrev pub CrossingsAdd : Type 0
-CrossingsAdd = (t : Traffic) (qs rs : List Row) → crossings t (qs ++ rs) ≡ added (crossings t qs) (crossings t rs)
+CrossingsAdd = (t : Traffic) (qs rs : List Row) → crossings t (qs ++ rs) ≡ added_each (crossings t qs) (crossings t rs)
 
 -- a cell whose inbox and script rise has nothing pending before its next event, and nothing at all where it has none
 abbrev pub NextEventsAreLeast : Type 0

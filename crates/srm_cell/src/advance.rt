@@ -20,8 +20,8 @@ use std::alloc::{AllocError, Global};
 /// Each cell of the job handles its own events before the job's end, in key order, and none of another cell.
 ///
 /// # Errors
-/// `NoMemory`, or of `Spent` and `CountFull` the first that is met where the cells are taken one after the other. The cells are
-/// then gone.
+/// `Spent` or `CountFull`, that of the first cell, one after the other, whose own run is refused; or `NoMemory`, but not where
+/// there is no cell, or where the first has an event and no member to answer it. The job, its cells and their boxes are gone.
 pub fn advance(alloc: Global, scenario: &Scenario, net: &Net, job: Job) -> Result<Done, CellFault>
     requires { MayAdvance (λ b. plain b) (length net.now.hosts) job }
     ensures { Advances (λ b. plain b) scenario.now net.now job result }

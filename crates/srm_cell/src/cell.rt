@@ -80,7 +80,7 @@ impl Cell {
     /// Adds a packet that arrives at tick `arrival`.
     ///
     /// # Errors
-    /// `NoMemory` alone; the cell is then as it was.
+    /// `NoMemory`: the cell is then as it was.
     pub fn accept(&mut self, packet: &Packet, arrival: u64) -> Result<(), CellFault>
         requires { BringsNone packet.now.id self.old.inbox }
         ensures ok { OnOk result (Becomes (λ b. plain b) (λ p. hear_at packet.now (Some arrival) p) self.old self.new) }
@@ -99,8 +99,9 @@ impl Cell {
     /// box is dropped.
     ///
     /// # Errors
-    /// `NoMemory` only where there is an event to handle; `Spent` where its member is gone; `CountFull` where the member is to send a
-    /// packet with its packet count used up. The cell is then of no more use.
+    /// `Spent` only where there is an event and its member is gone; `CountFull` only where the member is to send a packet with
+    /// its packet count used up; `NoMemory` only where there is an event, and a member to answer it. Nothing is known of the cell
+    /// then, and it is of no more use.
     pub fn step(&mut self, alloc: Global, end: u64) -> Result<Option<Row>, CellFault>
         requires { end ≤ end_of_time }
         ensures { Steps (λ b. plain b) end self.old result self.new }
@@ -124,7 +125,8 @@ impl Cell {
     /// The cell's own events before tick `end`, one after the other, and a row for each. Where there is none it does not allocate.
     ///
     /// # Errors
-    /// That of the first [`Cell::step`] that is refused. The cell is then of no more use.
+    /// That of the first [`Cell::step`] that is refused: `Spent`, `CountFull`, or `NoMemory`, only where there is a first event
+    /// and a member to answer it. Nothing is known of the cell then, and it is of no more use.
     pub fn run(&mut self, alloc: Global, end: u64) -> Result<Sequence<Row>, CellFault>
         requires { end ≤ end_of_time }
         ensures { Runs (λ b. plain b) end self.old result self.new }
@@ -146,7 +148,8 @@ impl Cell {
     /// What the member ends with: as it left, or else as it ends now. Its box is dropped.
     ///
     /// # Errors
-    /// `NoMemory`, or `Spent` where the member is gone and left no exit.
+    /// `Spent` only where the member is gone and left no exit; `NoMemory` only where it is there and left no exit. The cell and
+    /// its box are gone.
     pub fn finish(self, alloc: Global) -> Result<Exit, CellFault>
         ensures { Ends (λ b. plain b) self result }
     {

@@ -76,7 +76,7 @@ impl Crossings {
     /// Counts the packets that the rows' members sent. Where none was sent it does not allocate.
     ///
     /// # Errors
-    /// Memory was refused; nothing is known of the numbers then.
+    /// [`AllocError`], only where some row sent a packet: nothing is known of the numbers then.
     pub fn count_rows(
         &mut self,
         alloc: Global,

@@ -54,7 +54,7 @@ impl Inbox {
     /// Adds a packet that arrives at tick `arrival`.
     ///
     /// # Errors
-    /// Memory was refused; the inbox is then as it was.
+    /// [`AllocError`]: the inbox is then as it was.
     pub fn accept(&mut self, packet: &Packet, arrival: u64) -> Result<(), AllocError>
         requires { BringsNone packet.now.id self.old }
         ensures ok { OnOk result (self.new ≡ with_flight packet.now arrival self.old) }

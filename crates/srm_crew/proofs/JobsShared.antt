@@ -19,7 +19,7 @@ use Rattle.srm_cell.proofs.CrossingLemmas.{crossings_add}
 use Rattle.srm_crew.specs.declared.fault.CrewFault.{CrewFault}
 use Rattle.srm_crew.specs.declared.fault.CrewFault.TheVariants as fault
 use Rattle.srm_crew.specs.Places.{times}
-use Rattle.srm_crew.specs.Crews.{AreJobs, AnyEnds, AreRowsOfSome, Maps, TellsMap, sum_at, word_of}
+use Rattle.srm_crew.specs.Crews.{AreJobs, AnyEnds, AreRowsOfSome, Maps, TellsMap, sum_at, counted_in}
 use Rattle.srm_crew.specs.Shared.{HoldsAt, sum_of, ComeOf, Stops, TellsAll}
 use Rattle.srm_crew.proofs.Gathering.{all_done}
 use Rattle.srm_crew.proofs.Peeling.{lower, lower_times, peel}
@@ -31,13 +31,13 @@ module _ {X : Type 0} {H : X → Type 0} where
 
   sum_of_is : (k : ℕ) (ds : List (job.Done X H)) → sum_of numbers k ds ≡ sum_at k ds
   sum_of_is k [] = refl
-  sum_of_is k (d ∷ ds) = ap (λ n. word_of d.crossings k + n) (sum_of_is k ds)
+  sum_of_is k (d ∷ ds) = ap (λ n. counted_in d.crossings k + n) (sum_of_is k ds)
 
   -- rows of jobs that are done, each once at most, and their crossings
   some_rows : (f : DynBox X Global H → Record) (k : PlainScenario) (net : Network) (js : List (Job X H)) (ps : List PlainJob)
       (places : List ℕ) (ds : List (job.Done X H)) → AreJobs f js ps
       → ((p : ℕ) → times p places ≤ 1) → ComeOf (λ j r. Advances f k net j r) js places ds
-      → (rows : List Row) × AreRowsOfSome ps rows × ((w : ℕ) → sum_of numbers w ds ≡ word_of (crossings (traffic_of k net) rows) w)
+      → (rows : List Row) × AreRowsOfSome ps rows × ((w : ℕ) → sum_of numbers w ds ≡ counted_in (crossings (traffic_of k net) rows) w)
   some_rows f k net [] [] [] [] h once z = ([], refl, λ w. sym (none_crossed (traffic_of k net) w))
   some_rows f k net [] [] [] (d ∷ ds) h once z = absurd z
   some_rows f k net [] [] (p ∷ places) [] h once z = absurd z
@@ -56,14 +56,14 @@ module _ {X : Type 0} {H : X → Type 0} where
       (λ (n : (times 0 places ≡ 0) × ((w : ℕ) → sum_of numbers w ds ≡ sum_of numbers w r.results)).
       (more.0, inl more.1, λ w. n.1 w ∙ more.2 w))
       (λ (n : (times 0 places ≡ 1) × (d : job.Done X H) × Advances f k net j (Ok d)
-      × ((w : ℕ) → sum_of numbers w ds ≡ word_of (numbers d) w + sum_of numbers w r.results)).
+      × ((w : ℕ) → sum_of numbers w ds ≡ counted_in (numbers d) w + sum_of numbers w r.results)).
       let done = n.2.tells p h.0 in
       let own = joined n.1.rows.items in (
         own ++ more.0,
         inr (own, more.0, rows_are f p.till p.cells n.1.rows.items n.1.cells.items done.runs, refl, more.1),
         λ w.
-            let one : word_of n.1.crossings w ≡ word_of (crossings t own) w = ap (λ ns. word_of ns w) done.crossings_are in
-            let both = ap (λ ns. word_of ns w) (crossings_add t own more.0)
+            let one : counted_in n.1.crossings w ≡ counted_in (crossings t own) w = ap (λ ns. counted_in ns w) done.crossings_are in
+            let both = ap (λ ns. counted_in ns w) (crossings_add t own more.0)
             ∙ word_of_added (crossings t own) (crossings t more.0) (crossings_long t own ∙ sym (crossings_long t more.0)) w in
             let a = n.3 w in let b = more.2 w in omega (arith, one, both, a, b),
       ))

@@ -10,27 +10,10 @@ use Rattle.atomic_table.proofs.Lists.{at_set, at_snoc, set_else}
 use Rattle.crossbeam_queue.specs.Fifo.{Pushes, Pops, Forks, Merges, Learns}
 use Rattle.srm_crew.specs.declared.rule.Hold.{Hold}
 use Rattle.srm_crew.specs.declared.rule.Spot.{Spot}
-use Rattle.srm_crew.specs.Places.{hold_of, spent, total, times, AllBelow, weight_of, count_of, times_of, PassOk, Kept, puts, takes, short}
+use Rattle.srm_ledger.specs.Tally.{total}
+use Rattle.srm_ledger.proofs.SumsOver.{total_set, total_snoc, total_part, total_none}
+use Rattle.srm_crew.specs.Places.{hold_of, spent, times, AllBelow, weight_of, count_of, times_of, PassOk, Kept, puts, takes, short}
 use Rattle.srm_crew.specs.Places.{rests, fits, first_half, second_half, both_holds}
-
-module _ {V : Type 0} (f : V → ℕ) where
-  pub total_set : (l : List V) (i : ℕ) (v w : V) → get_elem? l i ≡ some v → total f (set l i w) + f v ≡ total f l + f w
-  total_set [] i v w e = absurd (some-ne-none v (sym e))
-  total_set (x ∷ xs) zero v w e = let is : f x ≡ f v = ap f (some-injective x v e) in omega arith
-  total_set (x ∷ xs) (suc i) v w e = let r = total_set xs i v w e in omega arith
-
-  pub total_snoc : (l : List V) (v : V) → total f (l ++ v ∷ []) ≡ total f l + f v
-  total_snoc [] v = omega arith
-  total_snoc (x ∷ xs) v = let r = total_snoc xs v in omega arith
-
-  pub total_part : (l : List V) (j : ℕ) (v : V) → get_elem? l j ≡ some v → f v ≤ total f l
-  total_part [] j v e = absurd (some-ne-none v (sym e))
-  total_part (x ∷ xs) zero v e = let is : f x ≡ f v = ap f (some-injective x v e) in omega arith
-  total_part (x ∷ xs) (suc j) v e = let r = total_part xs j v e in omega arith
-
-  pub total_none : (l : List V) → ((j : ℕ) (v : V) → get_elem? l j ≡ some v → f v ≡ 0) → total f l ≡ 0
-  total_none [] h = refl
-  total_none (x ∷ xs) h = let a = h 0 x refl in let r = total_none xs (λ j v e. h (suc j) v e) in omega arith
 
 pub times_append : (p : ℕ) (xs ys : List ℕ) → times p (xs ++ ys) ≡ times p xs + times p ys
 times_append p [] ys = omega arith

@@ -5,7 +5,7 @@ use Rattle.std.specs.List.{AllZip}
 use mathlib.Core.Logic.{dite}
 use native.Mathlib.Decide.{ℕ_discrete, dec_le}
 use Rattle.srm_crew.specs.Places.{times, EachOnce}
-use Rattle.srm_crew.specs.Crews.{word_of}
+use Rattle.srm_crew.specs.Crews.{counted_in}
 use Rattle.srm_crew.specs.Shared.{HoldsAt, sum_of}
 
 -- ---- places
@@ -65,7 +65,7 @@ module _ {T D : Type 0} (Q : T → D → Type 0) (numbers : D → List ℕ) wher
     pub results : List D
     pub rest : AllZip (λ p d. HoldsAt (λ y. Q y d) xs p) (lower ps) results
     pub first : ((times 0 ps ≡ 0) × ((k : ℕ) → sum_of numbers k ds ≡ sum_of numbers k results))
-        ⊎ ((times 0 ps ≡ 1) × (d : D) × Q x d × ((k : ℕ) → sum_of numbers k ds ≡ word_of (numbers d) k + sum_of numbers k results))
+        ⊎ ((times 0 ps ≡ 1) × (d : D) × Q x d × ((k : ℕ) → sum_of numbers k ds ≡ counted_in (numbers d) k + sum_of numbers k results))
 
   pub peel : (x : T) (xs : List T) (ps : List ℕ) (ds : List D) → ((p : ℕ) → times p ps ≤ 1)
       → AllZip (λ p d. HoldsAt (λ y. Q y d) (x ∷ xs) p) ps ds → Peeled x xs ps ds
@@ -102,7 +102,7 @@ module _ {T D : Type 0} (Q : T → D → Type 0) (numbers : D → List ℕ) wher
             (λ (h : (times 0 ps ≡ 0) × ((k : ℕ) → sum_of numbers k ds ≡ sum_of numbers k r.results)). inl
             (other ∙ h.0, λ k. let e = h.1 k in omega (arith, e)))
             (λ (h : (times 0 ps ≡ 1) × (e : D) × Q x e
-            × ((k : ℕ) → sum_of numbers k ds ≡ word_of (numbers e) k + sum_of numbers k r.results)).
+            × ((k : ℕ) → sum_of numbers k ds ≡ counted_in (numbers e) k + sum_of numbers k r.results)).
             inr (other ∙ h.0, h.1, h.2, λ k. let e = h.3 k in omega (arith, e)))
             r.first;
       }
@@ -120,8 +120,9 @@ module _ {D : Type 0} (numbers : D → List ℕ) where
       let here = once.0 0 (omega arith) in
       ⊎_elim
       (λ h. absurd (let e = h.0 in omega (arith, e, here)))
-      (λ (h : (times 0 ps ≡ 1) × (d : D) × (x ≡ d) × ((k : ℕ) → sum_of numbers k ds ≡ word_of (numbers d) k + sum_of numbers k r.results)).
-      let e = h.3 k in let same : word_of (numbers x) k ≡ word_of (numbers h.1) k = ap (λ y. word_of (numbers y) k) h.2 in
+      (λ (h : (times 0 ps ≡ 1) × (d : D) × (x ≡ d)
+      × ((k : ℕ) → sum_of numbers k ds ≡ counted_in (numbers d) k + sum_of numbers k r.results)).
+      let e = h.3 k in let same : counted_in (numbers x) k ≡ counted_in (numbers h.1) k = ap (λ y. counted_in (numbers y) k) h.2 in
       omega (arith, e, same, more))
       r.first
     where

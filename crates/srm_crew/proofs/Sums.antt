@@ -12,22 +12,22 @@ use Rattle.srm_member.specs.Record.{Record}
 use Rattle.srm_cell.specs.declared.cell.Cell.{Cell}
 use Rattle.srm_cell.specs.declared.job.Done as job
 use Rattle.srm_cell.specs.Setting.{Traffic}
-use Rattle.srm_cell.specs.Crossings.{joined, crossings, crossings_at, packets_of, added}
+use Rattle.srm_cell.specs.Crossings.{joined, crossings, crossings_at, packets_of, added_each}
 use Rattle.srm_cell.specs.Jobs.{OwnCell, PlainJob, IsDone, RanEach}
 use Rattle.srm_cell.proofs.CrossingLemmas.{crossings_add}
 use Rattle.srm_cell.proofs.RowPackets.{nothing_counted, numbers_are}
-use Rattle.srm_crew.specs.Crews.{word_of, sum_at, rows_of, AreRowsOf, AreRowsOfSome}
+use Rattle.srm_crew.specs.Crews.{counted_in, sum_at, rows_of, AreRowsOf, AreRowsOfSome}
 
 -- ---- numbers
 
-word_added : (xs ys : List ℕ) → length xs ≡ length ys → (k : ℕ) → slice_index (added xs ys) k ≡ slice_index xs k + slice_index ys k
+word_added : (xs ys : List ℕ) → length xs ≡ length ys → (k : ℕ) → slice_index (added_each xs ys) k ≡ slice_index xs k + slice_index ys k
 word_added [] [] e k = omega arith
 word_added [] (y ∷ ys) e k = absurd (omega arith)
 word_added (x ∷ xs) [] e k = absurd (omega arith)
 word_added (x ∷ xs) (y ∷ ys) e zero = refl
 word_added (x ∷ xs) (y ∷ ys) e (suc k) = word_added xs ys (omega arith) k
 
-pub word_of_added : (xs ys : List ℕ) → length xs ≡ length ys → (k : ℕ) → word_of (added xs ys) k ≡ word_of xs k + word_of ys k
+pub word_of_added : (xs ys : List ℕ) → length xs ≡ length ys → (k : ℕ) → counted_in (added_each xs ys) k ≡ counted_in xs k + counted_in ys k
 word_of_added xs ys e zero = omega arith
 word_of_added xs ys e (suc k) = word_added xs ys e k
 
@@ -44,7 +44,7 @@ pub crossings_long : (s : Traffic) (rows : List Row) → length (crossings s row
 unfolding crossings
 crossings_long s rows = five_each s (packets_of rows) 0 s.links
 
-pub none_crossed : (s : Traffic) (k : ℕ) → word_of (crossings s []) k ≡ 0
+pub none_crossed : (s : Traffic) (k : ℕ) → counted_in (crossings s []) k ≡ 0
 none_crossed s zero = refl
 none_crossed s (suc k) = ap (λ ns. slice_index ns k) (sym (nothing_counted s ∙ numbers_are s [])) ∙ zeros (5 * s.links) k
 
@@ -56,16 +56,16 @@ module _ {X : Type 0} {H : X → Type 0} where
   sum_append k (x ∷ xs) ys = let e = sum_append k xs ys in omega (arith, e)
 
   pub sum_more : (k : ℕ) (ds : List (job.Done X H)) (i : ℕ) (d : job.Done X H) → i < length ds → d ≡ get_or ds i d
-      → sum_at k (take (i + 1) ds) ≡ sum_at k (take i ds) + word_of d.crossings k
+      → sum_at k (take (i + 1) ds) ≡ sum_at k (take i ds) + counted_in d.crossings k
   sum_more k ds i d lt e =
       ap (sum_at k) (take_more ds i d lt) ∙ sum_append k (take i ds) (get_or ds i d ∷ [])
-      ∙ ap (λ (x : job.Done X H). sum_at k (take i ds) + (word_of x.crossings k + 0)) (sym e) ∙ (omega arith)
+      ∙ ap (λ (x : job.Done X H). sum_at k (take i ds) + (counted_in x.crossings k + 0)) (sym e) ∙ (omega arith)
 
   pub sum_some : (k : ℕ) (ds : List (job.Done X H)) (i : ℕ) (d : job.Done X H) → i < length ds → d ≡ get_or ds i d
-      → sum_at k (take i ds) + word_of d.crossings k ≤ sum_at k ds
+      → sum_at k (take i ds) + counted_in d.crossings k ≤ sum_at k ds
   sum_some k [] i d lt e = absurd (omega arith)
-  sum_some k (x ∷ ds) zero d lt e = let same : word_of d.crossings k ≡ word_of x.crossings k =
-      ap (λ (y : job.Done X H). word_of y.crossings k) e in omega (arith, same)
+  sum_some k (x ∷ ds) zero d lt e = let same : counted_in d.crossings k ≡ counted_in x.crossings k =
+      ap (λ (y : job.Done X H). counted_in y.crossings k) e in omega (arith, same)
   sum_some k (x ∷ ds) (suc i) d lt e = let more = sum_some k ds i d (omega arith) e in omega (arith, more)
 
   pub all_long : (f : DynBox X Global H → Record) (s : Traffic) (n : ℕ) (ps : List PlainJob) (ds : List (job.Done X H)) → s.links ≡ n
@@ -77,15 +77,15 @@ module _ {X : Type 0} {H : X → Type 0} where
       (ap length z.0.crossings_are ∙ crossings_long s (joined d.rows.items) ∙ ap (λ k. 5 * k) e) (all_long f s n ps ds e z.1)
 
   pub sum_is : (f : DynBox X Global H → Record) (s : Traffic) (ps : List PlainJob) (ds : List (job.Done X H))
-      → AllZip (λ p d. IsDone f s p d) ps ds → (k : ℕ) → sum_at k ds ≡ word_of (crossings s (rows_of ds)) k
+      → AllZip (λ p d. IsDone f s p d) ps ds → (k : ℕ) → sum_at k ds ≡ counted_in (crossings s (rows_of ds)) k
   sum_is f s [] [] z k = sym (none_crossed s k)
   sum_is f s [] (d ∷ ds) z k = absurd z
   sum_is f s (p ∷ ps) [] z k = absurd z
   sum_is f s (p ∷ ps) (d ∷ ds) z k =
       let own = joined d.rows.items in
-      let one : word_of d.crossings k ≡ word_of (crossings s own) k = ap (λ ns. word_of ns k) z.0.crossings_are in
+      let one : counted_in d.crossings k ≡ counted_in (crossings s own) k = ap (λ ns. counted_in ns k) z.0.crossings_are in
       let more = sum_is f s ps ds z.1 k in
-      let both = ap (λ ns. word_of ns k) (crossings_add s own (rows_of ds))
+      let both = ap (λ ns. counted_in ns k) (crossings_add s own (rows_of ds))
       ∙ word_of_added (crossings s own) (crossings s (rows_of ds)) (crossings_long s own ∙ sym (crossings_long s (rows_of ds))) k in
       omega (arith, one, more, both)
 

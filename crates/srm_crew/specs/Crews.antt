@@ -41,8 +41,8 @@ abbrev pub IsPast : (ℕ → ℕ) → SeatView → Type 0
 IsPast by old = (k : ℕ) × (2 ^ 47 < slice_index old.shares k + by k)
 
 -- what is counted in each word: word 0 is spare, and the others are the five numbers of each link in turn
-abbrev pub word_of : List ℕ → ℕ → ℕ
-word_of numbers k = slice_index (0 ∷ numbers) k
+abbrev pub counted_in : List ℕ → ℕ → ℕ
+counted_in numbers k = slice_index (0 ∷ numbers) k
 
 -- ---- jobs
 
@@ -79,7 +79,7 @@ module _ {X : Type 0} {H : X → Type 0} where
   -- the numbers at a word of the crossings of all that is done, added up
   abbrev pub sum_at : ℕ → List (job.Done X H) → ℕ
   sum_at k [] = 0
-  sum_at k (d ∷ ds) = word_of d.crossings k + sum_at k ds
+  sum_at k (d ∷ ds) = counted_in d.crossings k + sum_at k ds
 
   -- what advancing each job tells
   abbrev pub TellsEach : (DynBox X Global H → Record) → Traffic → List PlainJob
@@ -99,11 +99,11 @@ module _ {X : Type 0} {H : X → Type 0} where
   abbrev pub TellsMap : (DynBox X Global H → Record) → Traffic → SeatView → List PlainJob
       → Result (Vec (job.Done X H) × SeatView) CrewFault → Type 0
   TellsMap f t seat ps (Ok v) =
-      AllZip (λ p d. IsDone f t p d) ps v.0.items × HasGrown (word_of (crossings t (rows_of v.0.items))) seat v.1
+      AllZip (λ p d. IsDone f t p d) ps v.0.items × HasGrown (counted_in (crossings t (rows_of v.0.items))) seat v.1
   TellsMap f t seat ps (Err fault.NoMemory) = Unit {0}
   TellsMap f t seat ps (Err fault.Spent) = AnyEnds Spent ps
   TellsMap f t seat ps (Err fault.ShareFull) =
-      (rows : List Row) × AreRowsOfSome ps rows × IsPast (word_of (crossings t rows)) seat
+      (rows : List Row) × AreRowsOfSome ps rows × IsPast (counted_in (crossings t rows)) seat
   TellsMap f t seat ps (Err fault.CountFull) = AnyEnds Full ps
 
   -- the same, of all jobs that they may be seen as

@@ -3,6 +3,7 @@ use Rattle.std.specs.Prelude.{◌≡◌, ℕ, ◌+◌, ◌-◌, ◌/◌, ◌<◌
 use Rattle.std.specs.Prelude.{slice_get, Some}
 use mathlib.Core.Option.{some}
 use lib.ListN.{get_elem?}
+use Rattle.srm_ledger.specs.Tally.{total}
 use Rattle.srm_crew.specs.declared.rule.Hold.{Hold}
 use Rattle.srm_crew.specs.declared.rule.Spot.{Spot}
 
@@ -16,11 +17,6 @@ module _ {T : Type 0} where
 
   abbrev pub first_whole : Hold T
   first_whole = hold_of 65536 [] []
-
--- f of each pass, added up
-abbrev pub total : {V : Type 0} → (V → ℕ) → List V → ℕ
-total f [] = 0
-total f (v ∷ vs) = f v + total f vs
 
 -- how often p stands in the list
 abbrev pub times : ℕ → List ℕ → ℕ

@@ -4,5 +4,5 @@ use Rattle.srm_crew.specs.declared.recording.Note.{Note}
 use Rattle.srm_crew.specs.declared.recording.Recording.{Recording}
 
 -- the notes of each call so far
-abbrev pub calls_of : Recording → List (List Note)
-calls_of r = r.calls.items
+abbrev pub calls_kept : Recording → List (List Note)
+calls_kept r = r.calls.items

@@ -13,7 +13,7 @@ use Rattle.srm_crew.specs.declared.bag_fault.SplitFault.{SplitFault}
 use Rattle.srm_crew.specs.declared.bag_fault.SplitFault.TheVariants as split
 use Rattle.srm_crew.specs.Places.{EachAtMostOnce}
 use Rattle.srm_crew.specs.Passes.{PassView, both_passes, TookEachAtMostOnce}
-use Rattle.srm_crew.specs.Crews.{HasGrown, IsPast, word_of}
+use Rattle.srm_crew.specs.Crews.{HasGrown, IsPast, counted_in}
 
 -- P holds of the item at a place of the list
 abbrev pub HoldsAt : {T : Type 0} → (T → Type 0) → List T → ℕ → Type 0
@@ -22,7 +22,7 @@ HoldsAt {T} P items place = (x : T) × (slice_get items place ≡ Some x) × P x
 -- the numbers at a word of all results, added up
 abbrev pub sum_of : {D : Type 0} → (D → List ℕ) → ℕ → List D → ℕ
 sum_of numbers k [] = 0
-sum_of numbers k (d ∷ ds) = word_of (numbers d) k + sum_of numbers k ds
+sum_of numbers k (d ∷ ds) = counted_in (numbers d) k + sum_of numbers k ds
 
 -- the pass, with a list
 abbrev pub with_list : {T : Type 0} → PassView T → List ℕ → PassView T
@@ -43,15 +43,16 @@ module _ {D : Type 0} where
   abbrev pub TellsItem : (Result D CellFault → Type 0) → (D → List ℕ) → SeatView → Vec D → Result (Unit {0}) CrewFault
       → SeatView → Vec D → Type 0
   TellsItem P numbers seat results (Ok u) new_seat new_results =
-      (d : D) × P (Ok d) × (new_results.items ≡ results.items ++ d ∷ []) × HasGrown (word_of (numbers d)) seat new_seat
+      (d : D) × P (Ok d) × (new_results.items ≡ results.items ++ d ∷ [])
+      × HasGrown (counted_in (numbers d)) seat new_seat
   TellsItem P numbers seat results (Err fault.NoMemory) new_seat new_results =
       P (Err cell.NoMemory)
-      ⊎ ((d : D) × P (Ok d) × HasGrown (word_of (numbers d)) seat new_seat
+      ⊎ ((d : D) × P (Ok d) × HasGrown (counted_in (numbers d)) seat new_seat
       × (vec_capacity results ≤ length results.items))
   TellsItem P numbers seat results (Err fault.Spent) new_seat new_results = P (Err cell.Spent)
   TellsItem P numbers seat results (Err fault.CountFull) new_seat new_results = P (Err cell.CountFull)
   TellsItem P numbers seat results (Err fault.ShareFull) new_seat new_results =
-      (d : D) × P (Ok d) × IsPast (word_of (numbers d)) seat
+      (d : D) × P (Ok d) × IsPast (counted_in (numbers d)) seat
 
 module _ {T D : Type 0} where
   -- these may come of the items at these places

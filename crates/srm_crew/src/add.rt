@@ -4,7 +4,7 @@ ghost use Rattle.srm_ledger.specs.Counts.{place_of};
 ghost use Rattle.srm_cell.specs.Jobs.{PlainJob};
 ghost use Rattle.srm_cell.specs.Setting.{Traffic};
 ghost use Rattle.srm_crew.specs.Faults.{crew_fault_of};
-ghost use Rattle.srm_crew.specs.Crews.{HasGrown, IsPast, word_of, sum_at, TellsEach, TellsMap};
+ghost use Rattle.srm_crew.specs.Crews.{HasGrown, IsPast, counted_in, sum_at, TellsEach, TellsMap};
 
 use crate::fault::CrewFault;
 use srm_cell::crossings::Crossings;
@@ -33,8 +33,8 @@ fn kind_at(place: usize) -> Kind
 fn add_totals(ledger: &Ledger, seat: &mut Seat, totals: &Totals) -> Result<(), ShareFull>
     requires seat { seat.old.ledger ≡ ledger.now.name }
     requires long { length totals.now ≡ 5 * ledger.now.links }
-    ensures { MatchResult result (λ _. HasGrown (word_of totals.now) seat.old seat.new)
-        (λ _. IsPast (word_of totals.now) seat.old) }
+    ensures { MatchResult result (λ _. HasGrown (counted_in totals.now) seat.old seat.new)
+        (λ _. IsPast (counted_in totals.now) seat.old) }
 {
     for i in 0..5 * ledger.links() {
         let link = i / 5;
@@ -55,8 +55,8 @@ pub(crate) fn add_crossings(
 ) -> Result<(), ShareFull>
     requires seat { seat.old.ledger ≡ ledger.now.name }
     requires long { length crossings.now ≡ 5 * ledger.now.links }
-    ensures { MatchResult result (λ _. HasGrown (word_of crossings.now) seat.old seat.new)
-        (λ _. IsPast (word_of crossings.now) seat.old) }
+    ensures { MatchResult result (λ _. HasGrown (counted_in crossings.now) seat.old seat.new)
+        (λ _. IsPast (counted_in crossings.now) seat.old) }
 {
     match crossings.counted() {
         None => Ok(()),

@@ -36,7 +36,7 @@ impl<T> Bag<T> {
     /// An empty bag, into which `room` items can be put in all, and its one pass.
     ///
     /// # Errors
-    /// `NoMemory` alone.
+    /// `NoMemory`.
     pub fn open(alloc: Global, room: usize) -> Result<(Bag<T>, Pass<T>), BagFault>
         requires { (1 ≤ room) × (room ≤ 1024) }
         ensures { IfOk result (λ r. (r.0.room ≡ room) × (r.1 ≡ fresh_pass r.0.name)) }
@@ -60,7 +60,8 @@ impl<T> Bag<T> {
     /// Puts an item at the next place. Only the whole pass puts, and no more than the room in all. It does not allocate.
     ///
     /// # Errors
-    /// `NotWhole`, and then `Full`; the item is given back, and the pass is as it was.
+    /// Refused exactly where one of these is so, the first first: `NotWhole`, the pass is not the whole; `Full`, as many items
+    /// were put as there is room for. The item comes back, and the pass is as it was.
     pub fn put<R: Wait>(&self, rt: &R, pass: &mut Pass<T>, item: T) -> Result<(), (T, PutFault)>
         requires { pass.old.bag ≡ self.now.name }
         ensures bag { pass.new.bag ≡ pass.old.bag }
@@ -99,7 +100,7 @@ impl<T> Bag<T> {
     /// Two passes of half the weight each, the larger one first, which keeps the list.
     ///
     /// # Errors
-    /// `TooManySeats` exactly where the weight is 1, and `NoMemory`; the pass is given back as it was.
+    /// `TooManySeats` exactly where the pass's weight is 1, and `NoMemory` only where it is more. The pass comes back as it was.
     pub fn split(
         &self,
         alloc: Global,
@@ -178,7 +179,8 @@ impl<T> Bag<T> {
     /// The list of the whole pass, where as many items were taken as put. It does not allocate.
     ///
     /// # Errors
-    /// `NotWhole`, and then `NotEmpty`; bag and pass are given back as they were.
+    /// Refused exactly where one of these is so, the first first: `NotWhole`, the pass is not the whole; `NotEmpty`, fewer items
+    /// were taken than put. Bag and pass come back as they were.
     pub fn empty(self, pass: Pass<T>) -> Result<Taken, (Bag<T>, Pass<T>, EmptyFault)>
     where
         T: Drop,

@@ -76,7 +76,7 @@ impl<R: Threads + Wait + Sync, G: Gate + Sync> BagCrew<R, G> {
     /// As [`Crew::map`], whatever the gate is: a crew with a gate of its own calls it.
     ///
     /// # Errors
-    /// As those of [`Crew::map`].
+    /// `Spent`, `CountFull`, `ShareFull` and `NoMemory`, as of [`Crew::map`].
     pub fn map_with_gate(
         &self,
         alloc: Global,

@@ -35,11 +35,11 @@ pub struct Recording {
 }
 
 impl Recording {
-    ghost use Rattle.srm_crew.specs.Recorded.{calls_of};
+    ghost use Rattle.srm_crew.specs.Recorded.{calls_kept};
 
     /// It has noted nothing yet.
     pub fn new(alloc: Global) -> Recording
-        ensures { calls_of result ≡ [] }
+        ensures { calls_kept result ≡ [] }
     {
         Recording {
             inner: PlainCrew::new(),
@@ -49,7 +49,7 @@ impl Recording {
 
     /// The calls so far.
     pub fn calls(&self) -> &[Sequence<Note>]
-        ensures { result.now ≡ calls_of self.now }
+        ensures { result.now ≡ calls_kept self.now }
     {
         self.calls.as_slice()
     }

@@ -12,6 +12,7 @@ use Rattle.srm_model.specs.WindowChains.{start_of}
 use Rattle.srm_engine.specs.Soonest.{IsLeast, due}
 use Rattle.srm_engine.proofs.SoonLemmas.{Any, with_le, with_in, with_one, least_is_one}
 use Rattle.srm_engine.proofs.Stepping.{time_and_member, least_is_event}
+use Rattle.srm_engine.proofs.SeenLemmas.{same_some}
 
 abbrev least_among : ℕ → ℕ → List PlainCell → ℕ
 least_among n i [] = n
@@ -24,9 +25,6 @@ times_from i (c ∷ cs) = time_of (next_event i c) ∷ times_from (suc i) cs
 length_times : (i : ℕ) (cs : List PlainCell) → length (times_from i cs) ≡ length cs
 length_times i [] = refl
 length_times i (c ∷ cs) = ap suc (length_times (suc i) cs)
-
-same_some : {A : Type 0} (x y : A) → Some x ≡ Some y → x ≡ y
-same_some x y h = cc
 
 get_time : (i : ℕ) (cs : List PlainCell) (j : ℕ) (c : PlainCell) → slice_get cs j ≡ Some c → slice_get (times_from i cs) j
     ≡ Some (time_of (next_event (i + j) c))

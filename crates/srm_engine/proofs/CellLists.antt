@@ -3,10 +3,8 @@ use Rattle.std.proofs.Common.{◌≡◌, ℕ, zero, suc, ◌+◌, ◌*◌, ◌/�
 use Rattle.std.proofs.Common.{refl, sym, ap, ◌∙◌, subst, arith, slice_get, slice_set, get_or, add-zero, zero-add, length-append, append-nil}
 use Rattle.std.proofs.Common.{append_assoc}
 use Rattle.std.proofs.Math.Nat.{suc-mul}
-use Rattle.std.proofs.Math.Seq.{split_at, take-suc}
 use Rattle.std.proofs.lemmas.List.{map-append}
 use native.Mathlib.Nat.{div-add-mod', mod-lt}
-use Rattle.std.proofs.lemmas.Option.{slice_get-get_or}
 use Rattle.std.specs.declared.dyn_box.DynBox.{DynBox}
 use Rattle.std.specs.Global.{Global, Vec}
 use Rattle.srm_member.specs.Record.{Record}
@@ -17,9 +15,7 @@ use Rattle.srm_cell.specs.Jobs as cell
 use Rattle.srm_engine.specs.Seen.{AreCells}
 use Rattle.srm_engine.specs.Groups.{numbered, AreCuts, AreFull, sizes, all_in}
 use Rattle.srm_model.proofs.RunLemmas.{shifted}
-
-same_some : {A : Type 0} (x y : A) → Some x ≡ Some y → x ≡ y
-same_some x y h = cc
+use Rattle.srm_engine.proofs.SeenLemmas.{same_some}
 
 module _ {X : Type 0} {H : X → Type 0} (f : DynBox X Global H → Record) where
   -- the cells are those of member i and on
@@ -66,14 +62,6 @@ module _ {X : Type 0} {H : X → Type 0} (f : DynBox X Global H → Record) wher
   there [] j lt = absurd (omega arith)
   there (p ∷ ps) zero lt = (p, refl)
   there (p ∷ ps) (suc j) lt = there ps j (omega arith)
-
-  -- cell k, and what it is seen as
-  pub cell_at : (i : ℕ) (cs : List (Cell X H)) (ps : List PlainCell) → AreFrom i cs ps → (k : ℕ) (c : Cell X H) → k < length cs → c
-      ≡ get_or cs k c → (p : PlainCell) × (slice_get ps k ≡ Some p) × IsCell f (i + k) c p
-  cell_at i cs ps h k c lt e =
-      let many = as_many_from i cs ps h in
-      let p = there ps k (omega arith) in
-      (p.0, p.1, each_from i cs ps h k c p.0 (slice_get-get_or cs k c lt ∙ ap Some (sym e)) p.1)
 
   -- ---- some cells and others after them
 
@@ -254,47 +242,3 @@ module _ {A : Type 0} where
   pub nothing_in : (xs : List A) → length xs ≡ 0 → xs ≡ []
   nothing_in [] e = refl
   nothing_in (x ∷ xs) e = absurd (omega arith)
-
-  take_sum : (i n : ℕ) (xs : List A) → take (i + n) xs ≡ take i xs ++ take n (drop i xs)
-  take_sum zero n xs = ap (λ k. take k xs) (zero-add n)
-  take_sum (suc i) n [] = none (suc i + n) ∙ sym (none n)
-    where
-      none : (k : ℕ) → take {A = A} k [] ≡ []
-      none zero = refl
-      none (suc k) = refl
-  take_sum (suc i) n (x ∷ xs) = let e : suc i + n ≡ suc (i + n) = omega arith in ap (λ k. take k (x ∷ xs)) e
-      ∙ ap (λ l. x ∷ l) (take_sum i n xs)
-
-  take_short : (i : ℕ) (xs : List A) → i ≤ length xs → length (take i xs) ≡ i
-  take_short zero xs le = refl
-  take_short (suc i) [] le = absurd (omega arith)
-  take_short (suc i) (x ∷ xs) le = ap suc (take_short i xs (omega arith))
-
--- the cells of group k
-module _ {X : Type 0} {H : X → Type 0} (f : DynBox X Global H → Record) where
-  pub group_at : (gs : List (Vec (Cell X H))) (ps : List PlainCell) → AreFrom f 0 (all_in gs) ps → (k : ℕ) (g : Vec (Cell X H))
-      → k < length gs → g ≡ get_or gs k g
-      → (qs : List PlainCell) × AreFrom f (length (all_in (take k gs))) g.items qs
-      × (take (length (all_in (take (suc k) gs))) ps ≡ take (length (all_in (take k gs))) ps ++ qs)
-      × (length (take (length (all_in (take k gs))) ps) ≡ length (all_in (take k gs)))
-  group_at gs ps h k g lt is =
-      let before = all_in (take k gs) in
-      let rest = all_in (drop (suc k) gs) in
-      let split : gs ≡ take k gs ++ g ∷ drop (suc k) gs = split_at gs k g lt
-      ∙ ap (λ (v : Vec (Cell X H)). take k gs ++ v ∷ drop (suc k) gs) (sym is) in
-      let all : all_in gs ≡ before ++ (g.items ++ rest) = ap all_in split ∙ all_in_append (take k gs) (g ∷ drop (suc k) gs) in
-      let here = subst (λ l. AreFrom f 0 l ps) all h in
-      let parts = split_from f 0 before (g.items ++ rest) ps here in
-      let own = split_from f (0 + length before) g.items rest (drop (length before) ps) parts.1 in
-      let qs = take (length g.items) (drop (length before) ps) in
-      let more : take (suc k) gs ≡ take k gs ++ g ∷ [] = take-suc gs k g lt ∙ ap (λ (v : Vec (Cell X H)). take k gs ++ v ∷ []) (sym is) in
-      let size : length (all_in (take (suc k) gs)) ≡ length before + length g.items =
-      ap (λ l. length (all_in l)) more ∙ ap length (all_in_append (take k gs) (g ∷ []) ∙ ap (λ l. before ++ l) (append-nil g.items))
-      ∙ length-append before g.items in
-      let many = as_many_from f 0 (before ++ (g.items ++ rest)) ps here in
-      let long = length-append before (g.items ++ rest) in (
-        qs,
-        subst (λ n. AreFrom f n g.items qs) (zero-add (length before)) own.0,
-        ap (λ n. take n ps) size ∙ take_sum (length before) (length g.items) ps,
-        take_short (length before) ps (omega arith),
-      )

@@ -21,9 +21,7 @@ use Rattle.srm_model.proofs.RunLemmas.{Seq, next, rest, shifted}
 use Rattle.srm_model.proofs.Sequential.{run_seq, step_facts}
 use Rattle.srm_model.proofs.Settled.{each_after}
 use Rattle.srm_net.specs.Limits.{most_sent}
-
-same_some : {A : Type 0} (x y : A) → Some x ≡ Some y → x ≡ y
-same_some x y h = cc
+use Rattle.srm_engine.proofs.SeenLemmas.{same_some}
 
 -- ---- a step
 

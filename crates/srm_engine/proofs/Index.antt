@@ -11,7 +11,7 @@ use Rattle.std.proofs.lemmas.Option.{slice_get-get_or}
 use Rattle.std.specs.Int.Bits.{bit_and, bit_xor, xor_add_and}
 use Rattle.srm_engine.specs.declared.next_times.Entry.{Entry}
 use Rattle.srm_engine.specs.NextTimes.{sooner_time, least_of_times, is_time, entry_of, time_in, entry_at, sooner_entry, winner_below}
-use Rattle.srm_engine.specs.NextTimes.{IsTree}
+use Rattle.srm_engine.specs.NextTimes.{AreWinners}
 use Rattle.srm_engine.specs.NextTimes.{SetsLeaf, IsEntryOf, Holds, times_in, IsTournament}
 
 -- ---- a list with one place written
@@ -168,7 +168,7 @@ either_way p q = by (chosen p q) (chosen q p)
 halves : (x : ℕ) → (x ≡ 2 * (x / 2)) ⊎ (x ≡ 2 * (x / 2) + 1)
 halves x = grind arith
 
-module _ (es : List Entry) (n : ℕ) (size : length es ≡ 2 * n) (tree : IsTree es) where
+module _ (es : List Entry) (n : ℕ) (size : length es ≡ 2 * n) (tree : AreWinners es) where
   above : (i j : ℕ) → entry_at es i ≡ winner_below es i → (j ≡ 2 * i) ⊎ (j ≡ 2 * i + 1) → NotAfter (entry_at es i) (entry_at es j)
   above i j at side =
       let c = chosen (entry_at es (2 * i)) (entry_at es (2 * i + 1)) in
@@ -300,7 +300,7 @@ tournament ts es h = subst (λ us. Holds us es) (sym (times_are ts es h)) h
 
 -- so it is where the number of members is named otherwise
 pub held : (ts : List (Option ℕ)) (es : List Entry) (n : ℕ) → n ≡ length ts → length ts ≤ 65536 → length es ≡ 2 * n
-    → ((m : ℕ) → m < n → IsEntryOf (slice_index_or ts m None) m (entry_at es (n + m))) → IsTree es → Holds ts es
+    → ((m : ℕ) → m < n → IsEntryOf (slice_index_or ts m None) m (entry_at es (n + m))) → AreWinners es → Holds ts es
 held ts es n e few size leaves tree = record {
   size = size ∙ ap (λ k. 2 * k) e;
   few = few;
@@ -311,7 +311,7 @@ held ts es n e few size leaves tree = record {
 -- ---- a time is set
 
 pub holds_set : (ts : List (Option ℕ)) (es fs : List Entry) (m : ℕ) (t : Option ℕ) (e : Entry) → Holds ts es → m < length ts
-    → length fs ≡ length es → IsTree fs → IsEntryOf t m e → SetsLeaf (length ts + m) e es fs → Holds (slice_set ts m t) fs
+    → length fs ≡ length es → AreWinners fs → IsEntryOf t m e → SetsLeaf (length ts + m) e es fs → Holds (slice_set ts m t) fs
 holds_set ts es fs m t e h lt same tree is set =
     let n : ℕ = length ts in
     let size : length es ≡ 2 * n = h.size in

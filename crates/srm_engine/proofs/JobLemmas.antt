@@ -16,11 +16,11 @@ use Rattle.srm_cell.specs.declared.job.Done as job
 use Rattle.srm_cell.specs.Setting.{Traffic, Setting}
 use Rattle.srm_cell.specs.Cells.{PlainCell, StepOutcome, Stepped}
 use Rattle.srm_cell.specs.OwnRuns.{own_end}
-use Rattle.srm_cell.specs.Crossings.{joined, crossings, added}
+use Rattle.srm_cell.specs.Crossings.{joined, crossings, added_each}
 use Rattle.srm_cell.specs.Jobs as cell
 use Rattle.srm_cell.proofs.CrossingLemmas.{crossings_add}
 use Rattle.srm_cell.proofs.RowPackets.{joined-append}
-use Rattle.srm_crew.specs.Crews.{AreJobs, AnyEnds, HasGrown, word_of, rows_of}
+use Rattle.srm_crew.specs.Crews.{AreJobs, AnyEnds, HasGrown, counted_in, rows_of}
 use Rattle.srm_crew.proofs.Sums.{crossings_long}
 use Rattle.srm_model.specs.WindowRuns.{OwnResult, AreOwnRuns, rows_in, cells_in, WindowJob, jobs_within, jobs_from, AreJobRuns}
 use Rattle.srm_engine.specs.Groups.{numbered, handed_jobs, AreCuts, sizes, all_in, jobs_with, groups_of, lists_of, some_of}
@@ -266,30 +266,30 @@ all_some P ((x ∷ xs) ∷ ls) h = All-cons P (x ∷ xs) (some_of ls) (All-head 
 
 -- ---- crossings
 
-word_added : (xs ys : List ℕ) → length xs ≡ length ys → (k : ℕ) → slice_index (added xs ys) k ≡ slice_index xs k + slice_index ys k
+word_added : (xs ys : List ℕ) → length xs ≡ length ys → (k : ℕ) → slice_index (added_each xs ys) k ≡ slice_index xs k + slice_index ys k
 word_added [] [] e k = omega arith
 word_added [] (y ∷ ys) e k = absurd (omega arith)
 word_added (x ∷ xs) [] e k = absurd (omega arith)
 word_added (x ∷ xs) (y ∷ ys) e zero = refl
 word_added (x ∷ xs) (y ∷ ys) e (suc k) = word_added xs ys (omega arith) k
 
-word_of_added : (xs ys : List ℕ) → length xs ≡ length ys → (k : ℕ) → word_of (added xs ys) k ≡ word_of xs k + word_of ys k
+word_of_added : (xs ys : List ℕ) → length xs ≡ length ys → (k : ℕ) → counted_in (added_each xs ys) k ≡ counted_in xs k + counted_in ys k
 word_of_added xs ys e zero = omega arith
 word_of_added xs ys e (suc k) = word_added xs ys e k
 
-word_joined : (t : Traffic) (qs rs : List Row) (k : ℕ) → word_of (crossings t (qs ++ rs)) k
-    ≡ word_of (crossings t qs) k + word_of (crossings t rs) k
-word_joined t qs rs k = ap (λ ns. word_of ns k) (crossings_add t qs rs) ∙
+word_joined : (t : Traffic) (qs rs : List Row) (k : ℕ) → counted_in (crossings t (qs ++ rs)) k
+    ≡ counted_in (crossings t qs) k + counted_in (crossings t rs) k
+word_joined t qs rs k = ap (λ ns. counted_in ns k) (crossings_add t qs rs) ∙
     word_of_added (crossings t qs) (crossings t rs) (crossings_long t qs ∙ sym (crossings_long t rs)) k
 
 pub counted_more : (t : Traffic) (l : LedgerView) (trace rows more : List Row) (old new : SeatView) → IsCounted t l trace old
-    → HasGrown (word_of (crossings t rows)) old new → rows ≡ more → IsCounted t l (trace ++ more) new
+    → HasGrown (counted_in (crossings t rows)) old new → rows ≡ more → IsCounted t l (trace ++ more) new
 counted_more t l trace rows more old new c g e = record {
   ledger = g.ledger ∙ c.ledger;
   weight = g.weight ∙ c.weight;
   shares = λ k.
-      g.shares k ∙ ap (λ n. n + word_of (crossings t rows) k) (c.shares k)
-      ∙ sym (word_joined t trace rows k) ∙ ap (λ rs. word_of (crossings t (trace ++ rs)) k) e;
+      g.shares k ∙ ap (λ n. n + counted_in (crossings t rows) k) (c.shares k)
+      ∙ sym (word_joined t trace rows k) ∙ ap (λ rs. counted_in (crossings t (trace ++ rs)) k) e;
 }
 
 -- crossings do not depend on the order of new rows
@@ -299,6 +299,6 @@ counted_merged s l trace rows merged seat h c = record {
   ledger = c.ledger;
   weight = c.weight;
   shares = λ k.
-      c.shares k ∙ word_joined s.traffic trace rows k ∙ ap (λ ns. word_of (crossings s.traffic trace) k + word_of ns k)
+      c.shares k ∙ word_joined s.traffic trace rows k ∙ ap (λ ns. counted_in (crossings s.traffic trace) k + counted_in ns k)
       (crossings_keep s rows merged h) ∙ sym (word_joined s.traffic trace merged k);
 }

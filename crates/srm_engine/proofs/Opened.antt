@@ -1,5 +1,5 @@
 -- The cells at the beginning of a run.
-use Rattle.std.proofs.Common.{◌≡◌, ◌⊎◌, ℕ, zero, suc, ◌+◌, ◌*◌, ◌<◌, List, [], ◌∷◌, ◌++◌, length, replicate, Option, Some, inl, inr, refl}
+use Rattle.std.proofs.Common.{◌≡◌, ◌⊎◌, ℕ, zero, suc, ◌+◌, ◌*◌, ◌<◌, List, [], ◌∷◌, ◌++◌, length, replicate, Some, inl, inr, refl}
 use Rattle.std.proofs.Common.{sym, ap, ◌∙◌, subst, slice_get, arith, length-append, add-one}
 use Rattle.std.specs.List.{flat_map, range_with_len}
 use Rattle.std.specs.declared.dyn_box.DynBox.{DynBox}
@@ -12,10 +12,10 @@ use Rattle.srm_ledger.specs.Counts.{nothing_at}
 use Rattle.srm_cell.specs.declared.cell.Cell.{Cell}
 use Rattle.srm_cell.specs.Setting.{Setting, setting_of, fixed_of}
 use Rattle.srm_cell.specs.Crossings.{packets_of, crossings_at, crossings}
-use Rattle.srm_cell.specs.Cells.{PlainCell, new_cell, opening_cell, next_event, time_of}
+use Rattle.srm_cell.specs.Cells.{PlainCell, new_cell, opening_cell}
 use Rattle.srm_cell.specs.Views.{IsCell}
 use Rattle.srm_model.specs.World.{World, opening, opening_cells}
-use Rattle.srm_engine.specs.Seen.{AreTimes, AreCells}
+use Rattle.srm_engine.specs.Seen.{AreCells}
 use Rattle.srm_cell.specs.Totalled.{numbers_of}
 use Rattle.srm_engine.specs.Openings.{records_from}
 use Rattle.srm_engine.proofs.SeenLemmas.{same_some}
@@ -40,17 +40,6 @@ get_short : {A : Type 0} (xs : List A) (y : A) (j : ℕ) → slice_get xs j ≡ 
 get_short [] y j h = cc
 get_short (x ∷ xs) y zero h = omega arith
 get_short (x ∷ xs) y (suc j) h = let g = get_short xs y j h in omega arith
-
-pub more_times : (ts : List (Option ℕ)) (ps : List PlainCell) (t : Option ℕ) (q : PlainCell) → AreTimes ts ps → t
-    ≡ time_of (next_event (length ps) q) → AreTimes (ts ++ t ∷ []) (ps ++ q ∷ [])
-more_times ts ps t q h e = record {
-  as_many = length-append ts (t ∷ []) ∙ ap (λ n. n + 1) h.as_many ∙ sym (length-append ps (q ∷ []));
-  each = λ j p g. elim (get_last ps q p j g) [
-    | inl a ↦ get_before ts t (time_of (next_event j p)) j (h.each j p a)
-    | inr a ↦ ap (slice_get (ts ++ t ∷ [])) (a.0 ∙ sym h.as_many) ∙ get_end ts t
-        ∙ ap Some (e ∙ ap (λ k. time_of (next_event k q)) (sym a.0) ∙ ap (λ x. time_of (next_event j x)) a.1)
-  ];
-}
 
 module _ {X : Type 0} {H : X → Type 0} where
   pub more_cells : (f : DynBox X Global H → Record) (cs : List (Cell X H)) (ps : List PlainCell) (c : Cell X H) (q : PlainCell)

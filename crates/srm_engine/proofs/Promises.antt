@@ -19,9 +19,7 @@ use Rattle.srm_model.specs.Windows.{out, promise_by, promise_of, least_promise, 
 use Rattle.srm_engine.specs.Ends.{KeepFixed}
 use Rattle.srm_engine.specs.Soonest.{IsLeast, promised}
 use Rattle.srm_engine.proofs.SoonLemmas.{Any, with_le, with_in, with_one}
-
-same_some : {A : Type 0} (x y : A) → Some x ≡ Some y → x ≡ y
-same_some x y h = cc
+use Rattle.srm_engine.proofs.SeenLemmas.{same_some}
 
 -- no promise without a way
 no_promise : (x : Option ℕ) → promise_by x None ≡ None

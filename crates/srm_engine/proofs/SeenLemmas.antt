@@ -12,7 +12,7 @@ use Rattle.srm_cell.specs.declared.fault.CellFault.{CellFault}
 use Rattle.srm_cell.specs.declared.fault.CellFault.TheVariants as fault
 use Rattle.srm_cell.specs.Cells.{PlainCell, next_event, time_of, StepOutcome, Stepped}
 use Rattle.srm_cell.specs.Views.{IsCell, TellsStep}
-use Rattle.srm_engine.specs.Seen.{AreTimes, AreCells, AreSeen, TellsTake}
+use Rattle.srm_engine.specs.Seen.{AreTimes, AreCells, AreSeen, TellsOwnStep}
 use Rattle.srm_engine.proofs.Index.{get_set_same, get_set_other}
 
 pub same_some : {A : Type 0} (x y : A) → Some x ≡ Some y → x ≡ y
@@ -74,7 +74,7 @@ module _ {X : Type 0} {H : X → Type 0} where
       (p : PlainCell) (o : StepOutcome Stepped) (row : Option Row) (c : Cell X H) (t : Option ℕ)
       → AreSeen f cs ts ps → slice_get ps m ≡ Some p → m < length cs → m < length ts → TellsStep f m p o (Ok row) c
       → ((q : PlainCell) → IsCell f m c q → t ≡ time_of (next_event m q)) → ts1 ≡ slice_set ts m t
-      → TellsTake f m ps o (Ok row) (slice_set cs m c) ts1
+      → TellsOwnStep f m ps o (Ok row) (slice_set cs m c) ts1
   taken f cs ts ts1 ps m p o None c t h g lc lt tells e u = (
     tells.0,
     subst (λ qs. AreSeen f (slice_set cs m c) ts1 qs) (set_same ps m p g)
@@ -85,8 +85,8 @@ module _ {X : Type 0} {H : X → Type 0} where
 
   pub not_taken : (f : DynBox X Global H → Record) (m : ℕ) (p : PlainCell) (ps : List PlainCell) (o : StepOutcome Stepped) (x : CellFault)
       (c : Cell X H) (cs : List (Cell X H)) (ts : List (Option ℕ))
-      → TellsStep f m p o (Err x) c → TellsTake f m ps o (Err x) cs ts
-  not_taken f m p ps o fault.NoMemory c cs ts h = tt
+      → TellsStep f m p o (Err x) c → TellsOwnStep f m ps o (Err x) cs ts
+  not_taken f m p ps o fault.NoMemory c cs ts h = h
   not_taken f m p ps o fault.Spent c cs ts h = h
   not_taken f m p ps o fault.CountFull c cs ts h = h
 

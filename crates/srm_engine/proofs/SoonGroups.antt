@@ -1,12 +1,11 @@
 -- How soon something is due in each group, after own runs and after packets were heard.
 use Rattle.std.proofs.Common.{◌≡◌, ◌⊎◌, inl, inr, ℕ, zero, suc, ◌+◌, ◌-◌, ◌*◌, ◌/◌, ◌%◌, ◌<◌, ◌≤◌, ◌==◌, true, false, cond, List, [], ◌∷◌}
 use Rattle.std.proofs.Common.{◌++◌, Option, Some, None, Ordering, Less, Equal, Greater, refl, sym, ap, ◌∙◌, subst, arith, slice_get}
-use Rattle.std.proofs.Common.{slice_set, get_or, length, length-append, append-nil, take, drop, nat_lt, le-ltb, eqb-true, zero-add}
+use Rattle.std.proofs.Common.{slice_set, get_or, length, length-append, nat_lt, le-ltb, eqb-true, zero-add}
 use Rattle.std.proofs.Math.Nat.{suc-mul}
 use Rattle.std.proofs.lemmas.Bool.{eqb-false}
 use Rattle.std.proofs.lemmas.Bool.Decides.{nat_tests}
 use Rattle.std.proofs.lemmas.Nat.{div-mul-add}
-use Rattle.std.proofs.lemmas.List.{take_all}
 use Rattle.std.proofs.lemmas.Option.{slice_get_within}
 use Rattle.std.specs.Ordering.{is_gt}
 use Rattle.std.specs.declared.dyn_box.DynBox.{DynBox}
@@ -27,7 +26,7 @@ use Rattle.srm_cell.proofs.OwnRunLemmas.{after_idle}
 use Rattle.srm_engine.specs.declared.soonest.Soonest.{Soonest}
 use Rattle.srm_engine.specs.Groups.{AreCuts, AreGrouped, sizes, all_in}
 use Rattle.srm_model.specs.WindowRuns.{OwnResult, AreOwnRuns, cells_in}
-use Rattle.srm_engine.specs.Soonest.{IsSoonest, AreSoonest, AreThose, IsAmong, due}
+use Rattle.srm_engine.specs.Soonest.{IsSoonest, AreSoonest, AreThose, IsInRange, due}
 use Rattle.srm_engine.proofs.CellLists.{first_cut, no_more_groups, in_group, at_place}
 use Rattle.srm_engine.proofs.Index.{get_set_same, get_set_other}
 use Rattle.srm_model.proofs.OneWindow.{as_many_results}
@@ -35,9 +34,6 @@ use Rattle.srm_model.proofs.RunLemmas.{shifted}
 use Rattle.srm_engine.proofs.SeenLemmas.{same_some, there}
 use Rattle.srm_model.proofs.Sequential.{get_below}
 use Rattle.srm_engine.proofs.SoonLemmas.{NoLater, soon_same_cells, soon_same_members}
-
-same_number : (x y : ℕ) → Some x ≡ Some y → x ≡ y
-same_number x y h = cc
 
 -- ---- the members of a group
 
@@ -85,13 +81,13 @@ module _ {X : Type 0} {H : X → Type 0} (f : DynBox X Global H → Record) (cut
 
   -- the members of group k are those with that quotient
   pub soonest_of_group : (s : Setting) (k : ℕ) (g : Vec (Cell X H)) (x : Soonest) → k < length gs → g ≡ get_or gs k g
-      → IsSoonest s (IsAmong (k * cut) (length g.items)) ps x
+      → IsSoonest s (IsInRange (k * cut) (length g.items)) ps x
       → IsSoonest s (λ m. m / cut ≡ k) ps x
   soonest_of_group s k g x lt is soon =
       let at = group_within cut gs k g pos h.cuts lt in
       let many : length g.items ≡ length (get_or gs k g).items = ap (λ (v : Vec (Cell X H)). length v.items) is in
       let all = h.cells.as_many in
-      soon_same_members s (IsAmong (k * cut) (length g.items)) (λ m. m / cut ≡ k) ps x
+      soon_same_members s (IsInRange (k * cut) (length g.items)) (λ m. m / cut ≡ k) ps x
       (λ m in_all a. let le = a.0 in let less = a.1 in let most = at.most in let d = at_offset m le in
       ap (λ n. n / cut) d.1 ∙ div-mul-add k cut d.0 (let e = d.1 in omega arith))
       (λ m in_all e.
@@ -107,10 +103,10 @@ module _ {X : Type 0} {H : X → Type 0} (f : DynBox X Global H → Record) (cut
   -- what a look at the cells of group k tells is how soon something is due in the group
   pub looked_at : (s : Setting) (k : ℕ) (g : Vec (Cell X H)) (own : List (Cell X H)) (x : Soonest) → k < length gs → g ≡ get_or gs k g → own
       ≡ g.items
-      → (AreThose f (k * cut) own ps → IsSoonest s (IsAmong (k * cut) (length own)) ps x) → IsSoonest s (λ m. m / cut ≡ k) ps x
+      → (AreThose f (k * cut) own ps → IsSoonest s (IsInRange (k * cut) (length own)) ps x) → IsSoonest s (λ m. m / cut ≡ k) ps x
   looked_at s k g own x lt is same told =
       let those = subst (λ l. AreThose f (k * cut) l ps) (sym same) (those_of_group k g lt is) in
-      soonest_of_group s k g x lt is (subst (λ l. IsSoonest s (IsAmong (k * cut) (length l)) ps x) same (told those))
+      soonest_of_group s k g x lt is (subst (λ l. IsSoonest s (IsInRange (k * cut) (length l)) ps x) same (told those))
 
   pub group_below : (m : ℕ) → m < length ps → m / cut < length gs
   group_below m lt = let all = h.cells.as_many in (at_place cut gs m m pos h.cuts refl (omega arith)).group
@@ -189,7 +185,7 @@ heard_no_later m p at c None h u e = let no : due m c ≡ None = ap time_of h in
 heard_no_later m p at c (Some q) h u e = by _ refl (stands_heard m p at c (Some q) h)
   where
     is : u ≡ q.key.time
-    is = same_number u q.key.time (sym e ∙ ap time_of h.1 ∙ ap (λ k. Some k.time) (sym h.2))
+    is = same_some u q.key.time (sym e ∙ ap time_of h.1 ∙ ap (λ k. Some k.time) (sym h.2))
 
     of : (r : Pending) → r.key.time ≤ q.key.time → Stands m (hear_at p (Some at) c) (Some r) (next_event m (hear_at p (Some at) c))
         → (v : ℕ) × (due m (hear_at p (Some at) c) ≡ Some v) × (v ≤ u)
@@ -206,16 +202,6 @@ heard_no_later m p at c (Some q) h u e = by _ refl (stands_heard m p at c (Some 
     by Greater k t = of q (omega arith) (rw k at t)
 
 -- ---- one group after the other
-
--- a vector after what it holds was written
-pub written : {A : Type 0} (n : ℕ) (xs new : List A) → n ≡ length xs → length new ≡ length xs → take n (new ++ drop (length new) xs) ≡ new
-written n xs new long same =
-    ap (λ k. take n (new ++ drop k xs)) same ∙ ap (λ l. take n (new ++ l)) (none xs) ∙ ap (take n) (append-nil new)
-    ∙ take_all n new (omega arith)
-  where
-    none : {A : Type 0} (ys : List A) → drop (length ys) ys ≡ []
-    none [] = refl
-    none (y ∷ ys) = none ys
 
 pub pushed_each : {A : Type 0} (P : ℕ → A → Type 0) (xs : List A) (y : A) → ((j : ℕ) (x : A) → slice_get xs j ≡ Some x → P j x)
     → P (length xs) y

@@ -12,14 +12,11 @@ use Rattle.srm_cell.specs.Setting.{Setting}
 use Rattle.srm_cell.specs.Cells.{PlainCell}
 use Rattle.srm_engine.specs.declared.soonest.Soonest.{Soonest}
 use Rattle.srm_model.specs.Windows.{least_with, promise_by, way_of}
-use Rattle.srm_engine.specs.Soonest.{IsLeast, IsSoonest, AreSoonest, IsAmong, due, promised}
+use Rattle.srm_engine.specs.Soonest.{IsLeast, IsSoonest, AreSoonest, IsInRange, due, promised}
 
 -- where the second is there at all, and is no later
 abbrev pub NoLater : Option ℕ → Option ℕ → Type 0
 NoLater x y = (u : ℕ) → x ≡ Some u → (v : ℕ) × (y ≡ Some v) × (v ≤ u)
-
-same_number : (x y : ℕ) → Some x ≡ Some y → x ≡ y
-same_number x y h = cc
 
 pub with_le : (n : ℕ) (o : Option ℕ) → least_with n o ≤ n
 with_le n None = omega arith
@@ -27,7 +24,7 @@ with_le n (Some k) = omega arith
 
 pub with_in : (n u : ℕ) (o : Option ℕ) → o ≡ Some u → least_with n o ≤ u
 with_in n u None h = cc
-with_in n u (Some k) h = let e = same_number k u h in omega arith
+with_in n u (Some k) h = let e = same_some k u h in omega arith
 
 -- the lesser is the first, or the other
 pub with_one : (n : ℕ) (o : Option ℕ) → (least_with n o ≡ n) ⊎ (o ≡ Some (least_with n o))
@@ -49,16 +46,9 @@ module _ (g : ℕ → PlainCell → Option ℕ) (n : ℕ) where
   pub least_is_one : (P : ℕ → Type 0) (ps : List PlainCell) (t u : ℕ) → IsLeast g P n ps t → IsLeast g P n ps u → t ≡ u
   least_is_one P ps t u h k = let a = at_most P ps t u h k in let b = at_most P ps u t k h in omega arith
 
-  pub none_yet : (i : ℕ) (ps : List PlainCell) → IsLeast g (IsAmong i 0) n ps n
-  none_yet i ps = record {
-    most = omega arith;
-    none_less = λ m c u p at e. let a = p.0 in let b = p.1 in absurd (omega arith);
-    one = inl refl;
-  }
-
   -- one member more
-  pub one_more : (i k : ℕ) (ps : List PlainCell) (t : ℕ) (p : PlainCell) → slice_get ps (i + k) ≡ Some p → IsLeast g (IsAmong i k) n ps t
-      → IsLeast g (IsAmong i (k + 1)) n ps (least_with t (g (i + k) p))
+  pub one_more : (i k : ℕ) (ps : List PlainCell) (t : ℕ) (p : PlainCell) → slice_get ps (i + k) ≡ Some p → IsLeast g (IsInRange i k) n ps t
+      → IsLeast g (IsInRange i (k + 1)) n ps (least_with t (g (i + k) p))
   one_more i k ps t p at h = record {
     most = let a = with_le t (g (i + k) p) in let b = h.most in omega arith;
     none_less = λ m c u q get e. elim (m == i + k) as (λ b. (m == i + k) ≡ b → least_with t (g (i + k) p) ≤ u) [
@@ -78,8 +68,8 @@ module _ (g : ℕ → PlainCell → Option ℕ) (n : ℕ) where
   }
     where
       by : (least_with t (g (i + k) p) ≡ t) ⊎ (g (i + k) p ≡ Some (least_with t (g (i + k) p)))
-          → (t ≡ n) ⊎ ((m : ℕ) × (c : PlainCell) × IsAmong i k m × (slice_get ps m ≡ Some c) × (g m c ≡ Some t))
-          → (least_with t (g (i + k) p) ≡ n) ⊎ ((m : ℕ) × (c : PlainCell) × IsAmong i (k + 1) m × (slice_get ps m ≡ Some c)
+          → (t ≡ n) ⊎ ((m : ℕ) × (c : PlainCell) × IsInRange i k m × (slice_get ps m ≡ Some c) × (g m c ≡ Some t))
+          → (least_with t (g (i + k) p) ≡ n) ⊎ ((m : ℕ) × (c : PlainCell) × IsInRange i (k + 1) m × (slice_get ps m ≡ Some c)
           × (g m c ≡ Some (least_with t (g (i + k) p))))
       by (inr e) old = inr (i + k, p, (omega arith, omega arith), at, e)
       by (inl e) (inl was) = inl (e ∙ was)
@@ -186,7 +176,7 @@ module _ (n : ℕ) where
       by : (min best (h x) ≡ best) ⊎ (Some (h x) ≡ Some (min best (h x)))
           → (best ≡ n) ⊎ ((j : ℕ) × (y : Soonest) × (slice_get xs j ≡ Some y) × (best ≡ h y))
           → (min best (h x) ≡ n) ⊎ ((j : ℕ) × (y : Soonest) × (slice_get xs j ≡ Some y) × (min best (h x) ≡ h y))
-      by (inr e) old = inr (k, x, at, sym (same_number (h x) (min best (h x)) e))
+      by (inr e) old = inr (k, x, at, sym (same_some (h x) (min best (h x)) e))
       by (inl e) (inl was) = inl (e ∙ was)
       by (inl e) (inr a) = inr (a.0, a.1, a.2, e ∙ a.3)
 
@@ -244,7 +234,7 @@ no_later_promise None y way h u e = none way e
 no_later_promise (Some t) y None h u e = cc
 no_later_promise (Some t) y (Some k) h u e =
     let now = h t refl in
-    let is = same_number (t + k) u e in
+    let is = same_some (t + k) u e in
     let le = now.2 in
     (now.0 + k, ap (λ o. promise_by o (Some k)) now.1, omega (arith, is))
 
@@ -253,11 +243,11 @@ module _ (s : Setting) where
   pub soon_more : (i k : ℕ) (ps : List PlainCell) (x y : Soonest) (p : PlainCell) (next way : Option ℕ) → slice_get ps (i + k) ≡ Some p
       → next ≡ due (i + k) p → way ≡ way_of s (i + k) → y.time ≡ least_with x.time next → y.promise
       ≡ least_with x.promise (promise_by next way)
-      → IsSoonest s (IsAmong i k) ps x → IsSoonest s (IsAmong i (k + 1)) ps y
+      → IsSoonest s (IsInRange i k) ps x → IsSoonest s (IsInRange i (k + 1)) ps y
   soon_more i k ps x y p next way at n w t r h = record {
-    time = subst (λ u. IsLeast due (IsAmong i (k + 1)) s.traffic.until ps u) (sym (t ∙ ap (least_with x.time) n))
+    time = subst (λ u. IsLeast due (IsInRange i (k + 1)) s.traffic.until ps u) (sym (t ∙ ap (least_with x.time) n))
         (one_more due s.traffic.until i k ps x.time p at h.time);
-    promise = subst (λ u. IsLeast (promised s) (IsAmong i (k + 1)) s.traffic.until ps u)
+    promise = subst (λ u. IsLeast (promised s) (IsInRange i (k + 1)) s.traffic.until ps u)
         (sym (r ∙ (λ j. least_with x.promise (promise_by (n j) (w j)))))
         (one_more (promised s) s.traffic.until i k ps x.promise p at h.promise);
   }

@@ -24,7 +24,7 @@ use Rattle.srm_cell.specs.Jobs as cell
 use Rattle.srm_cell.proofs.FitSettings.{settings_are_fit}
 use Rattle.srm_crew.specs.declared.fault.CrewFault.{CrewFault}
 use Rattle.srm_crew.specs.declared.fault.CrewFault.TheVariants as crew
-use Rattle.srm_crew.specs.Crews.{AreJobs, AnyEnds, AreRowsOfSome, TellsMap, HasGrown, IsPast, rows_of, word_of}
+use Rattle.srm_crew.specs.Crews.{AreJobs, AnyEnds, AreRowsOfSome, TellsMap, HasGrown, IsPast, rows_of, counted_in}
 use Rattle.srm_engine.specs.declared.window_engine.WindowEngine.{WindowEngine}
 use Rattle.srm_engine.specs.declared.window_fault.WindowFault.{WindowFault}
 use Rattle.srm_engine.specs.declared.window_fault.WindowFault.TheVariants as window
@@ -46,8 +46,8 @@ use Rattle.srm_engine.specs.Ends.{BeginsAt, MayEnd, TellsCutting, ends_rule}
 use Rattle.srm_engine.specs.Faults.{window_fault_of, run_fault_of}
 use Rattle.srm_engine.specs.Streams.{HaltsIf, stream_fault_of}
 use Rattle.srm_engine.specs.WindowStreams.{MeetsWindowRefusal}
-use Rattle.srm_engine.specs.Windowed.{IsCounted, MayCome, calls_of, rule_of}
-use Rattle.srm_engine.specs.WindowEngines.{ComesTo, Stands, BeginsNext, EndsNext, course_of, setting_by, rule_by}
+use Rattle.srm_engine.specs.Windowed.{IsCounted, MayCome, calls_for, rule_of}
+use Rattle.srm_engine.specs.WindowEngines.{ComesTo, IsUnderWay, BeginsNext, EndsNext, course_of, setting_by, rule_by}
 use Rattle.srm_engine.proofs.CellLists.{from_seen, seen_from, few_groups}
 use Rattle.srm_engine.proofs.JobLemmas.{any_cell, are_jobs, may_advance, as_many_jobs, places_with, job_results, cuts_kept, joined_some}
 use Rattle.srm_engine.proofs.JobLemmas.{all_some, counted_more, counted_merged, rows_joined}
@@ -85,7 +85,7 @@ pub record JobsTell {X : Type 0} {H : X → Type 0} (f : DynBox X Global H → R
   pub not_spent : AnyEnds Spent (handed_jobs 0 (jobs_of e.groups.cut end w)) → ⊥
   pub full : AnyEnds Full (handed_jobs 0 (jobs_of e.groups.cut end w)) → RunMeetsFull (setting_by e seed)
   pub past : ((rows : List Row) × AreRowsOfSome (handed_jobs 0 (jobs_of e.groups.cut end w)) rows
-      × IsPast (word_of (crossings (setting_by e seed).traffic rows)) e.seat)
+      × IsPast (counted_in (crossings (setting_by e seed).traffic rows)) e.seat)
       → MayCome (setting_by e seed) (rule_by e seed) e.groups.cut window.ShareFull
 
 -- what a crew's refusal tells of the window
@@ -111,7 +111,7 @@ pub record WindowRan {X : Type 0} {H : X → Type 0} (f : DynBox X Global H → 
 
 -- ---- the next window
 
-module _ {X : Type 0} {H : X → Type 0} (f : DynBox X Global H → Record) (e : WindowEngine X H) (is : Stands f e) (seed : ℕ)
+module _ {X : Type 0} {H : X → Type 0} (f : DynBox X Global H → Record) (e : WindowEngine X H) (is : IsUnderWay f e) (seed : ℕ)
     (begins : List World) (w : World) (comes : ComesTo f seed e begins w) where
   abbrev s : Setting
   s = setting_by e seed
@@ -218,7 +218,7 @@ module _ {X : Type 0} {H : X → Type 0} (f : DynBox X Global H → Record) (e :
               h.0,
               subst (λ n. AreRowsOfSome (handed_jobs 0 (jobs_of cut n w)) h.0) end_is h.1,
               h.2.0,
-              subst (λ n. 2 ^ 47 < n + word_of (crossings s.traffic h.0) h.2.0) (comes.counted.shares h.2.0) h.2.1,
+              subst (λ n. 2 ^ 47 < n + counted_in (crossings s.traffic h.0) h.2.0) (comes.counted.shares h.2.0) h.2.1,
             ),
           );
         }
@@ -271,7 +271,7 @@ module _ {X : Type 0} {H : X → Type 0} (f : DynBox X Global H → Record) (e :
           let b = at seed begins w comes in
           omega (arith, b, is_next)
 
-      pub counted_after : (seat : SeatView) → HasGrown (word_of (crossings s.traffic (rows_of ds))) e.seat seat
+      pub counted_after : (seat : SeatView) → HasGrown (counted_in (crossings s.traffic (rows_of ds))) e.seat seat
           → IsCounted s.traffic e.ledger (w.trace ++ rows) seat
       counted_after seat grown = counted_merged s e.ledger w.trace (joined (rows_in ran.results)) rows seat merge_is.all
           (counted_more s.traffic e.ledger w.trace (rows_of ds) (joined (rows_in ran.results)) e.seat seat comes.counted grown
@@ -284,7 +284,7 @@ zeros zero k = refl
 zeros (suc n) zero = refl
 zeros (suc n) (suc k) = zeros n k
 
-none_crossed : (t : Traffic) (k : ℕ) → word_of (crossings t []) k ≡ 0
+none_crossed : (t : Traffic) (k : ℕ) → counted_in (crossings t []) k ≡ 0
 none_crossed t zero = refl
 none_crossed t (suc k) = ap (λ ns. slice_index ns k) (sym (nothing_counted t ∙ numbers_are t [])) ∙ zeros (5 * t.links) k
 
@@ -295,14 +295,14 @@ opened_counted s l links seat whole = record {
   ledger = ap (λ (v : SeatView). v.ledger) whole;
   weight = ap (λ (v : SeatView). v.weight) whole;
   shares = λ k. ap (λ (v : SeatView). slice_index v.shares k) whole ∙ zeros (words_of links) k ∙ sym (none_crossed s.traffic k)
-      ∙ ap (λ rows. word_of (crossings s.traffic rows) k) (sym (opening_trace s));
+      ∙ ap (λ rows. counted_in (crossings s.traffic rows) k) (sym (opening_trace s));
 }
 
 -- ---- calls
 
 -- the calls for one window more
-pub call_more : (rule : World → ℕ) (cut : ℕ) (begins : List World) (w : World) → calls_of rule cut (begins ++ w ∷ [])
-    ≡ calls_of rule cut begins ++ handed_jobs 0 (jobs_of cut (rule w) w) ∷ []
+pub call_more : (rule : World → ℕ) (cut : ℕ) (begins : List World) (w : World) → calls_for rule cut (begins ++ w ∷ [])
+    ≡ calls_for rule cut begins ++ handed_jobs 0 (jobs_of cut (rule w) w) ∷ []
 call_more rule cut begins w = ap (map (handed_jobs 0)) ((calls_follow rule cut).1 begins w)
     ∙ map-append (handed_jobs 0) (window_jobs rule cut begins) (jobs_of cut (rule w) w ∷ [])
 
@@ -337,7 +337,7 @@ same_list (x ∷ xs) [] e each = absurd (omega arith)
 same_list (x ∷ xs) (y ∷ ys) e each = (λ i. each 0 i ∷ xs) ∙ ap (λ l. y ∷ l) (same_list xs ys (omega arith) (λ k. each (suc k)))
 
 pub total_words : (totals shares numbers : List ℕ) → totals ≡ drop 1 shares → length totals ≡ length numbers
-    → ((k : ℕ) → slice_index shares k ≡ word_of numbers k) → totals ≡ numbers
+    → ((k : ℕ) → slice_index shares k ≡ counted_in numbers k) → totals ≡ numbers
 total_words totals [] numbers e long each = e ∙ nothing numbers (sym long ∙ ap length e)
   where
     nothing : (ns : List ℕ) → length ns ≡ 0 → [] ≡ ns

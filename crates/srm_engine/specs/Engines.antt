@@ -11,15 +11,21 @@ use Rattle.srm_cell.specs.Setting.{Traffic, Setting, traffic_of, setting_of}
 use Rattle.srm_cell.specs.Crossings.{packets_of}
 use Rattle.srm_cell.specs.Cells.{PlainCell, StepOutcome, Idle, Full, Done}
 use Rattle.srm_cell.specs.Totalled.{numbers_of}
+use Rattle.srm_cell.specs.Views.{HasWork}
 use Rattle.srm_engine.specs.declared.engine.Engine.{Engine}
-use Rattle.srm_engine.specs.declared.fault.RunFault.{RunFault}
-use Rattle.srm_engine.specs.declared.fault.RunFault.TheVariants as fault
+use Rattle.srm_engine.specs.declared.step_fault.StepFault.{StepFault}
+use Rattle.srm_engine.specs.declared.step_fault.StepFault.TheVariants as fault
 use Rattle.srm_model.specs.World.{World, IsReached, step, opening}
 use Rattle.srm_engine.specs.Openings.{HoldOpeningRecords}
 use Rattle.srm_model.specs.Hearing.{IsNew, all_hear, heard_below}
 use Rattle.srm_engine.specs.Seen.{ShowCells}
 use Rattle.srm_model.specs.Totalled.{and_sent, MaySend}
 use Rattle.srm_net.specs.Limits.{end_of_time}
+
+-- when a step with this outcome may be refused: memory may be only where there is a step to take
+abbrev pub MayRefuseStep : StepOutcome World → StepFault → Type 0
+MayRefuseStep o fault.NoMemory = HasWork o
+MayRefuseStep o fault.CountFull = o ≡ Full
 
 module _ {X : Type 0} {H : X → Type 0} where
   -- the traffic of an engine's scenario and network
@@ -47,20 +53,16 @@ module _ {X : Type 0} {H : X → Type 0} where
   abbrev pub MayStep : (DynBox X Global H → Record) → Engine X H → Type 0
   MayStep f e = (seed : ℕ) × (w : World) × IsReached (setting_in e seed) w × Shows f e w × (length w.trace + 3 < 2 ^ 64)
 
-  -- what the step with this outcome tells: it is over, or the row that it adds
-  abbrev pub TellsWorld : (DynBox X Global H → Record) → World → StepOutcome World → Result (Option Row) RunFault
+  -- what the step with this outcome tells: it is over, or the row that it adds; or why it is refused
+  abbrev pub TellsWorld : (DynBox X Global H → Record) → World → StepOutcome World → Result (Option Row) StepFault
       → Engine X H → Type 0
   TellsWorld f w o (Ok None) after = (o ≡ Idle) × Shows f after w
   TellsWorld f w o (Ok (Some row)) after =
       (v : World) × (o ≡ Done v) × (v.trace ≡ w.trace ++ row ∷ []) × Shows f after v
-  TellsWorld f w o (Err fault.NoMemory) after = Unit {0}
-  TellsWorld f w o (Err fault.CountFull) after = o ≡ Full
-  TellsWorld f w o (Err fault.BadCut) after = ⊥
-  TellsWorld f w o (Err fault.BadWidth) after = ⊥
-  TellsWorld f w o (Err fault.ShareFull) after = ⊥
+  TellsWorld f w o (Err e) after = MayRefuseStep o e
 
   -- so of whatever world the engine is seen as, with every seed
-  abbrev pub StepsOn : (DynBox X Global H → Record) → Engine X H → Result (Option Row) RunFault → Engine X H → Type 0
+  abbrev pub StepsOn : (DynBox X Global H → Record) → Engine X H → Result (Option Row) StepFault → Engine X H → Type 0
   StepsOn f old r new = (seed : ℕ) (w : World) → Shows f old w → TellsWorld f w (step (setting_in old seed) w) r new
 
   -- a packet, if any, may be sent: it is new to all cells, and the packets so far are few enough to be counted

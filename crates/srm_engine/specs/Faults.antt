@@ -1,4 +1,4 @@
--- What refusals of cells, crews and windows are to a run.
+-- What refusals of cells, crews, steps and windows are to a run.
 use Rattle.srm_cell.specs.declared.fault.CellFault.{CellFault}
 use Rattle.srm_cell.specs.declared.fault.CellFault.TheVariants as cell
 use Rattle.srm_crew.specs.declared.fault.CrewFault.{CrewFault}
@@ -7,14 +7,21 @@ use Rattle.srm_engine.specs.declared.fault.RunFault.{RunFault}
 use Rattle.srm_engine.specs.declared.fault.RunFault.TheVariants as fault
 use Rattle.srm_engine.specs.declared.cutting.CuttingFault.{CuttingFault}
 use Rattle.srm_engine.specs.declared.cutting.CuttingFault.TheVariants as cutting
+use Rattle.srm_engine.specs.declared.step_fault.StepFault.{StepFault}
+use Rattle.srm_engine.specs.declared.step_fault.StepFault.TheVariants as step
 use Rattle.srm_engine.specs.declared.window_fault.WindowFault.{WindowFault}
 use Rattle.srm_engine.specs.declared.window_fault.WindowFault.TheVariants as window
 
--- a packet count that is used up is one to the run as well. The run of a scenario meets no event at a member that left
-abbrev pub fault_of : CellFault → RunFault
-fault_of cell.NoMemory = fault.NoMemory
-fault_of cell.CountFull = fault.CountFull
-fault_of cell.Spent = fault.NoMemory
+-- the refusal of the same name. No step of a run meets an event at a member that left
+abbrev pub step_fault_of : CellFault → StepFault
+step_fault_of cell.NoMemory = step.NoMemory
+step_fault_of cell.CountFull = step.CountFull
+step_fault_of cell.Spent = step.NoMemory
+
+-- the refusal of the same name
+abbrev pub step_refused : StepFault → RunFault
+step_refused step.NoMemory = fault.NoMemory
+step_refused step.CountFull = fault.CountFull
 
 -- the refusal of the same name. No window of a run meets an event at a member that left
 abbrev pub window_fault_of : CrewFault → WindowFault

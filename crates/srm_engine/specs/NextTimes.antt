@@ -47,8 +47,8 @@ abbrev pub winner_below : List Entry → ℕ → Entry
 winner_below es i = sooner_entry (entry_at es (2 * i)) (entry_at es (2 * i + 1))
 
 -- each entry that has two below it is the sooner of them
-abbrev pub IsTree : List Entry → Type 0
-IsTree es = (i : ℕ) → 0 < i → 2 * i + 1 < length es → entry_at es i ≡ winner_below es i
+abbrev pub AreWinners : List Entry → Type 0
+AreWinners es = (i : ℕ) → 0 < i → 2 * i + 1 < length es → entry_at es i ≡ winner_below es i
 
 -- in the second list the leaf is this entry, and each other leaf is as in the first
 abbrev pub SetsLeaf : ℕ → Entry → List Entry → List Entry → Type 0
@@ -63,7 +63,7 @@ pub record Holds (ts : List (Option ℕ)) (es : List Entry) : Type 0 where
   pub size : length es ≡ 2 * length ts
   pub few : length ts ≤ 65536
   pub leaves : (m : ℕ) → m < length ts → IsEntryOf (slice_index_or ts m None) m (entry_at es (length ts + m))
-  pub tree : IsTree es
+  pub tree : AreWinners es
 
 -- the times of the members, whose entries are the latter half
 abbrev pub times_in : List Entry → List (Option ℕ)

@@ -12,7 +12,7 @@ use Rattle.srm_cell.specs.declared.fault.CellFault.TheVariants as fault
 use Rattle.srm_cell.specs.Flights.{BringsNone}
 use Rattle.srm_cell.specs.Cells.{PlainCell, hear_at, own_step, next_event, time_of, StepOutcome, Idle, Full}
 use Rattle.srm_cell.specs.Cells.{Spent, Done, Stepped}
-use Rattle.srm_cell.specs.Views.{IsCell}
+use Rattle.srm_cell.specs.Views.{IsCell, HasWork}
 use Rattle.srm_engine.specs.declared.cells.Cells.{Cells}
 
 -- the next times are those of the cells
@@ -43,25 +43,25 @@ module _ {X : Type 0} {H : X → Type 0} where
       (length ts ≡ length cs) × ((ps : List PlainCell) → AreCells f cs ps → AreTimes ts ps)
 
   -- of whatever these cells are seen as, they are seen so with their next times
-  abbrev pub IsIndexed : (DynBox X Global H → Record) → List (Cell X H) → Cells X H → Type 0
-  IsIndexed f cs indexed = (ps : List PlainCell) → AreCells f cs ps → ShowCells f indexed ps
+  abbrev pub IsIndexOf : (DynBox X Global H → Record) → List (Cell X H) → Cells X H → Type 0
+  IsIndexOf f cs indexed = (ps : List PlainCell) → AreCells f cs ps → ShowCells f indexed ps
 
   -- what a member's own step tells, where its cell was p among ps, and what it leaves
-  abbrev pub TellsTake : (DynBox X Global H → Record) → ℕ → List PlainCell → StepOutcome Stepped
+  abbrev pub TellsOwnStep : (DynBox X Global H → Record) → ℕ → List PlainCell → StepOutcome Stepped
       → Result (Option Row) CellFault → List (Cell X H) → List (Option ℕ) → Type 0
-  TellsTake f m ps o (Ok None) cs ts = (o ≡ Idle) × AreSeen f cs ts ps
-  TellsTake f m ps o (Ok (Some row)) cs ts =
+  TellsOwnStep f m ps o (Ok None) cs ts = (o ≡ Idle) × AreSeen f cs ts ps
+  TellsOwnStep f m ps o (Ok (Some row)) cs ts =
       (d : Stepped) × (o ≡ Done d) × (d.row ≡ row) × AreSeen f cs ts (slice_set ps m d.cell)
-  TellsTake f m ps o (Err fault.NoMemory) cs ts = Unit {0}
-  TellsTake f m ps o (Err fault.Spent) cs ts = o ≡ Spent
-  TellsTake f m ps o (Err fault.CountFull) cs ts = o ≡ Full
+  TellsOwnStep f m ps o (Err fault.NoMemory) cs ts = HasWork o
+  TellsOwnStep f m ps o (Err fault.Spent) cs ts = o ≡ Spent
+  TellsOwnStep f m ps o (Err fault.CountFull) cs ts = o ≡ Full
 
   -- so of whatever the cells are seen as
   abbrev pub TakesStep : (DynBox X Global H → Record) → ℕ → ℕ → Cells X H → Result (Option Row) CellFault → Cells X H
       → Type 0
   TakesStep f m end old r new =
       (ps : List PlainCell) (p : PlainCell) → ShowCells f old ps → slice_get ps m ≡ Some p
-      → TellsTake f m ps (own_step end m p) r new.cells.items new.times
+      → TellsOwnStep f m ps (own_step end m p) r new.cells.items new.times
 
   -- the cell of member m has no such packet on its way
   abbrev pub IsNewAt : ℕ → PacketId → Cells X H → Type 0

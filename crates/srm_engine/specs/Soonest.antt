@@ -30,8 +30,8 @@ pub record IsSoonest (s : Setting) (P : ℕ → Type 0) (ps : List PlainCell) (x
   pub promise : IsLeast (promised s) P s.traffic.until ps x.promise
 
 -- member m is one of the n members from i on
-abbrev pub IsAmong : ℕ → ℕ → ℕ → Type 0
-IsAmong i n m = (i ≤ m) × (m < i + n)
+abbrev pub IsInRange : ℕ → ℕ → ℕ → Type 0
+IsInRange i n m = (i ≤ m) × (m < i + n)
 
 -- so soon something is due in each group of `cut` members
 pub record AreSoonest (s : Setting) (cut : ℕ) (xs : List Soonest) (ps : List PlainCell) : Type 0 where

@@ -1,5 +1,5 @@
 -- Runs that hand their rows on as they come, and what they tell.
-use Rattle.std.specs.Prelude.{◌≡◌, ◌<◌, ◌≤◌, ◌^◌, ℕ, List, ◌++◌, length, Result, Ok, Err}
+use Rattle.std.specs.Prelude.{◌≡◌, ◌⊎◌, ◌<◌, ◌≤◌, ◌^◌, ℕ, List, ◌++◌, length, Result, Ok, Err, MatchResult}
 use Rattle.std.specs.declared.dyn_box.DynBox.{DynBox}
 use Rattle.std.specs.Global.{Global, Vec}
 use Rattle.srm_net.specs.Network.{Network}
@@ -9,6 +9,7 @@ use Rattle.srm_member.specs.declared.exit.Exit.{Exit}
 use Rattle.srm_member.specs.Record.{Record}
 use Rattle.srm_cell.specs.Setting.{Setting, setting_of}
 use Rattle.srm_cell.specs.Cells.{Idle}
+use Rattle.srm_cell.specs.Views.{HasWork}
 use Rattle.srm_engine.specs.declared.engine.Engine.{Engine}
 use Rattle.srm_engine.specs.declared.fault.RunFault.{RunFault}
 use Rattle.srm_engine.specs.declared.fault.RunFault.TheVariants as fault
@@ -18,11 +19,13 @@ use Rattle.srm_engine.specs.declared.sink.SinkFault.{SinkFault}
 use Rattle.srm_engine.specs.declared.sink.SinkFault.TheVariants as sink
 use Rattle.srm_engine.specs.declared.sink.Stage.{Stage}
 use Rattle.srm_engine.specs.declared.sink.Stage.TheVariants.{Live, Refused}
+use Rattle.srm_engine.specs.declared.step_fault.StepFault.{StepFault}
+use Rattle.srm_engine.specs.declared.step_fault.StepFault.TheVariants as step_fault
 use Rattle.srm_engine.specs.declared.stream_fault.StreamFault.{StreamFault}
 use Rattle.srm_engine.specs.declared.stream_fault.StreamFault.TheVariants.{Run, Stopped}
 use Rattle.srm_model.specs.World.{World, IsReached, IsLast, IsOutcome, RunMeetsFull, step}
 use Rattle.srm_engine.specs.Openings.{HoldOpeningRecords}
-use Rattle.srm_engine.specs.Outcomes.{TellsRun}
+use Rattle.srm_engine.specs.Outcomes.{TellsOutcome}
 use Rattle.srm_engine.specs.Engines.{Shows, IsOpened, setting_in}
 
 -- ---- refusals
@@ -62,16 +65,28 @@ StandsAs (Err (Stopped n)) at = at ≡ Refused (sink.Stopped n)
 
 -- ---- rows
 
+-- when the steps from a world of a run on may be refused: for memory only where there is one to take, or where there
+-- were more rows than are counted; and where the run meets one for which the packet count is used up
+abbrev pub MayStop : Setting → World → StepFault → Type 0
+MayStop s w step_fault.NoMemory = HasWork (step s w) ⊎ (2 ^ 62 ≤ length w.trace)
+MayStop s w step_fault.CountFull = RunMeetsFull s
+
 module _ {S : Type 0} (took part : S → List Row → S → Type 0) where
   -- the sink took no more than a front of the rows of the sequential run
-  abbrev pub TakesFront : Setting → S → S → Type 0
-  TakesFront s old new = (w : World) × IsReached s w × part old w.trace new
+  abbrev pub TakesTraceFront : Setting → S → S → Type 0
+  TakesTraceFront s old new = (w : World) × IsReached s w × part old w.trace new
+
+  -- why the rows of a run were not all handed on: its steps were refused, and the sink took the rows so far; or the
+  -- sink refused some, and took no more than a front of the trace
+  abbrev pub TellsHalt : Setting → S → Halt StepFault → S → Type 0
+  TellsHalt s old (halt.Run e) new = (w : World) × IsReached s w × took old w.trace new × MayStop s w e
+  TellsHalt s old (halt.Sink e) new = TakesTraceFront s old new
 
   -- what a run that hands its rows to a sink tells: the exits and crossings of the sequential run, of which the sink
   -- took exactly the trace; or the sink took no more than a front of it
   abbrev pub TellsStream : Setting → S → Result (Vec Exit × List ℕ) StreamFault → S → Type 0
   TellsStream s old (Ok v) new = (rows : List Row) × IsOutcome s rows v.0.items v.1 × took old rows new
-  TellsStream s old (Err e) new = TakesFront s old new
+  TellsStream s old (Err e) new = TakesTraceFront s old new
 
   -- so with each seed of which the records, those of the boxes, are opening records
   abbrev pub StreamsFrom : PlainScenario → Network → List Record → S → Result (Vec Exit × List ℕ) StreamFault → S
@@ -82,7 +97,7 @@ module _ {S : Type 0} (took part : S → List Row → S → Type 0) where
 -- when a run that is not cut into windows is refused: where `step_run` is, or where the sink was
 abbrev pub MeetsRefusal : {A : Type 0} → Setting → Result A StreamFault → Type 0
 MeetsRefusal s (Ok v) = Unit {0}
-MeetsRefusal s (Err (Run e)) = TellsRun s (Err e)
+MeetsRefusal s (Err (Run e)) = TellsOutcome s (Err e)
 MeetsRefusal s (Err (Stopped n)) = Unit {0}
 
 -- so with each seed of which the records, those of the boxes, are opening records
@@ -97,20 +112,16 @@ module _ {X : Type 0} {H : X → Type 0} where
   MayTake f e = (seed : ℕ) × (w : World) × IsReached (setting_in e seed) w × Shows f e w × (length w.trace ≤ 2 ^ 62)
 
   -- what steps from a world on tell, up to so many: the rows up to a later world, the last of the run where there are
-  -- fewer
-  abbrev pub TellsSteps : (DynBox X Global H → Record) → Setting → ℕ → World → Result (Vec Row) RunFault
+  -- fewer; or why they are refused
+  abbrev pub TellsSteps : (DynBox X Global H → Record) → Setting → ℕ → World → Result (Vec Row) StepFault
       → Engine X H → Type 0
-  TellsSteps f s most w (Ok rows) after =
-      (v : World) × IsReached s v × (v.trace ≡ w.trace ++ rows.items) × Shows f after v
-      × (length rows.items ≤ most) × (length rows.items < most → step s v ≡ Idle)
-  TellsSteps f s most w (Err fault.NoMemory) after = Unit {0}
-  TellsSteps f s most w (Err fault.CountFull) after = RunMeetsFull s
-  TellsSteps f s most w (Err fault.BadCut) after = ⊥
-  TellsSteps f s most w (Err fault.BadWidth) after = ⊥
-  TellsSteps f s most w (Err fault.ShareFull) after = ⊥
+  TellsSteps f s most w r after =
+      MatchResult r (λ rows. (v : World) × IsReached s v × (v.trace ≡ w.trace ++ rows.items) × Shows f after v
+      × (length rows.items < most → step s v ≡ Idle))
+      (MayStop s w)
 
   -- so of whatever world of a run the engine is seen as, with every seed
-  abbrev pub TakesSteps : (DynBox X Global H → Record) → ℕ → Engine X H → Result (Vec Row) RunFault → Engine X H
+  abbrev pub TakesSteps : (DynBox X Global H → Record) → ℕ → Engine X H → Result (Vec Row) StepFault → Engine X H
       → Type 0
   TakesSteps f most old r new =
       (seed : ℕ) (w : World) → IsReached (setting_in old seed) w → Shows f old w
@@ -118,16 +129,15 @@ module _ {X : Type 0} {H : X → Type 0} where
 
   module _ {S : Type 0} (took part : S → List Row → S → Type 0) where
     -- what the steps of a run tell, the rows of which are handed to a sink: the last world of the sequential run, of
-    -- which the sink took the trace
-    abbrev pub TellsRows : {A : Type 0} → (DynBox X Global H → Record) → Setting → S → Result A StreamFault → S
+    -- which the sink took the trace; or why not all were handed on
+    abbrev pub TellsRows : {A : Type 0} → (DynBox X Global H → Record) → Setting → S → Result A (Halt StepFault) → S
         → Engine X H → Type 0
-    TellsRows f s old (Ok v) new after = (w : World) × IsLast s w × took old w.trace new × Shows f after w
-    TellsRows f s old (Err e) new after = TakesFront took part s old new
+    TellsRows f s old r new after =
+        MatchResult r (λ _. (w : World) × IsLast s w × took old w.trace new × Shows f after w)
+        (λ x. TellsHalt took part s old x new)
 
     -- so of an engine that is opened, with every seed
-    abbrev pub StreamsRows : {A : Type 0} → (DynBox X Global H → Record) → Engine X H → S → Result A StreamFault
-        → S → Engine X H
-        → Type 0
+    abbrev pub StreamsRows : {A : Type 0} → (DynBox X Global H → Record) → Engine X H → S → Result A (Halt StepFault)
+        → S → Engine X H → Type 0
     StreamsRows f e old r new after =
-        (seed : ℕ) → IsOpened f seed e
-        → TellsRows f (setting_in e seed) old r new after × MeetsRefusal (setting_in e seed) r
+        (seed : ℕ) → IsOpened f seed e → TellsRows f (setting_in e seed) old r new after

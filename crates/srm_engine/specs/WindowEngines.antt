@@ -21,8 +21,8 @@ use Rattle.srm_engine.specs.declared.window_engine.WindowEngine.{WindowEngine}
 use Rattle.srm_engine.specs.declared.window_fault.WindowFault.{WindowFault}
 use Rattle.srm_engine.specs.Ends.{ends_rule, MayEnd}
 use Rattle.srm_engine.specs.Groups.{AreKept, handed_jobs}
-use Rattle.srm_engine.specs.Streams.{TakesFront, HaltsIf}
-use Rattle.srm_engine.specs.Windowed.{IsCounted, MayCome, calls_of}
+use Rattle.srm_engine.specs.Streams.{TakesTraceFront, HaltsIf}
+use Rattle.srm_engine.specs.Windowed.{IsCounted, MayCome, calls_for}
 
 module _ {X : Type 0} {H : X → Type 0} where
   -- what an engine's run is of: its scenario and network, how many cells a job has, and where windows end
@@ -45,9 +45,9 @@ module _ {X : Type 0} {H : X → Type 0} where
     pub kept : AreKept f (setting_by e seed) e.groups w.cells
     pub counted : IsCounted (setting_by e seed).traffic e.ledger w.trace e.seat
 
-  -- the engine stands: its scenario is accepted, the network is the scenario's, the ledger has the network's links,
+  -- the run is under way: its scenario is accepted, the network is the scenario's, the ledger has the network's links,
   -- windows may end so, and some of them came to what the engine is seen as
-  pub record Stands (f : DynBox X Global H → Record) (e : WindowEngine X H) : Type 0 where
+  pub record IsUnderWay (f : DynBox X Global H → Record) (e : WindowEngine X H) : Type 0 where
     pub accepted : IsAccepted e.scenario.now
     pub network : e.net.now ≡ network_of e.scenario.now
     pub links : e.ledger.links ≡ length e.net.now.links
@@ -98,6 +98,6 @@ module _ {X : Type 0} {H : X → Type 0} where
         (seed : ℕ) → OpensAt f seed e
         → MatchResult r (λ v. (begins : List World) × (w : World) × ComesTo f seed v begins w
         × IsLast (setting_by e seed) w × took from w.trace to
-        × handed old (calls_of (rule_by e seed) e.groups.cut begins) new)
-        (λ x. TakesFront took part (setting_by e seed) from to
+        × handed old (calls_for (rule_by e seed) e.groups.cut begins) new)
+        (λ x. TakesTraceFront took part (setting_by e seed) from to
         × HaltsIf (MayCome (setting_by e seed) (rule_by e seed) e.groups.cut) x)

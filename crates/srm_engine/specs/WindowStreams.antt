@@ -12,14 +12,14 @@ use Rattle.srm_engine.specs.declared.stream_fault.StreamFault.TheVariants.{Run, 
 use Rattle.srm_model.specs.World.{World, IsLast}
 use Rattle.srm_model.specs.WindowChains.{AreWindows}
 use Rattle.srm_engine.specs.Openings.{HoldOpeningRecords}
-use Rattle.srm_engine.specs.Windowed.{IsCut, MayBeWide, calls_of, TellsAsked, MayRefuse}
+use Rattle.srm_engine.specs.Windowed.{IsCut, MayBeWide, calls_for, TellsRunAsked, MayRefuse}
 
 -- ---- what is asked for
 
 -- whether what was asked for is refused, and when: as that of a run whose rows are kept
 abbrev pub TellsStreamAsked : {A : Type 0} → Network → Windows → Result A StreamFault → Type 0
 TellsStreamAsked net asked (Ok v) = IsCut asked.cut × MayBeWide net asked.width
-TellsStreamAsked net asked (Err (Run e)) = TellsAsked net asked (Err e)
+TellsStreamAsked net asked (Err (Run e)) = TellsRunAsked net asked (Err e)
 TellsStreamAsked net asked (Err (Stopped n)) = IsCut asked.cut × MayBeWide net asked.width
 
 -- a sink is left as it was where the cut or the width is refused
@@ -44,7 +44,7 @@ module _ {C : Type 0} (handed : C → List (List cell.PlainJob) → C → Type 0
   abbrev pub TellsCalls : {A : Type 0} → Setting → (World → ℕ) → ℕ → C → Result A StreamFault → C → Type 0
   TellsCalls s rule cut old (Ok v) new =
       (begins : List World) × (w : World) × AreWindows s rule begins w × IsLast s w
-      × handed old (calls_of rule cut begins) new
+      × handed old (calls_for rule cut begins) new
   TellsCalls s rule cut old (Err e) new = MeetsWindowRefusal s rule cut old e new
 
   -- so with each seed of which the records, those of the boxes, are opening records

@@ -8,7 +8,7 @@ use Rattle.srm_ledger.specs.Seats.{LedgerView, SeatView}
 use Rattle.srm_cell.specs.Setting.{Traffic, Setting, setting_of}
 use Rattle.srm_cell.specs.Crossings.{crossings}
 use Rattle.srm_cell.specs.Jobs as cell
-use Rattle.srm_crew.specs.Crews.{word_of, AreRowsOfSome}
+use Rattle.srm_crew.specs.Crews.{counted_in, AreRowsOfSome}
 use Rattle.srm_engine.specs.declared.width.Width.{Width}
 use Rattle.srm_engine.specs.declared.width.Width.TheVariants as width
 use Rattle.srm_engine.specs.declared.width.Windows.{Windows}
@@ -42,14 +42,14 @@ rule_of s net width.Promise = promise_end s
 -- ---- calls of a crew
 
 -- the jobs of the windows that begin in these worlds, as a crew is handed them: one call for each window
-abbrev pub calls_of : (World → ℕ) → ℕ → List World → List (List cell.PlainJob)
-calls_of rule cut begins = map (handed_jobs 0) (window_jobs rule cut begins)
+abbrev pub calls_for : (World → ℕ) → ℕ → List World → List (List cell.PlainJob)
+calls_for rule cut begins = map (handed_jobs 0) (window_jobs rule cut begins)
 
 -- the crossings of a trace, with those of the rows of some of the jobs, are more than 2^47 at some place
 abbrev pub PassesShare : Traffic → List Row → List cell.PlainJob → Type 0
 PassesShare t trace js =
     (rows : List Row) × AreRowsOfSome js rows
-    × (k : ℕ) × (2 ^ 47 < word_of (crossings t trace) k + word_of (crossings t rows) k)
+    × (k : ℕ) × (2 ^ 47 < counted_in (crossings t trace) k + counted_in (crossings t rows) k)
 
 -- ---- what is counted
 
@@ -57,7 +57,7 @@ PassesShare t trace js =
 pub record IsCounted (t : Traffic) (l : LedgerView) (rows : List Row) (seat : SeatView) : Type 0 where
   pub ledger : seat.ledger ≡ l.name
   pub weight : seat.weight ≡ 65536
-  pub shares : (k : ℕ) → slice_index seat.shares k ≡ word_of (crossings t rows) k
+  pub shares : (k : ℕ) → slice_index seat.shares k ≡ counted_in (crossings t rows) k
 
 -- ---- refusals
 
@@ -82,13 +82,13 @@ MayRefuse s rule cut old fault.BadWidth new = new ≡ old
 -- ---- a run
 
 -- whether what was asked for is refused, and when
-abbrev pub TellsAsked : Network → Windows → Result Outcome RunFault → Type 0
-TellsAsked net asked (Err fault.BadCut) = ¬ IsCut asked.cut
-TellsAsked net asked (Err fault.BadWidth) = IsCut asked.cut × ¬ MayBeWide net asked.width
-TellsAsked net asked (Err fault.ShareFull) = IsCut asked.cut × MayBeWide net asked.width
-TellsAsked net asked (Err fault.NoMemory) = IsCut asked.cut × MayBeWide net asked.width
-TellsAsked net asked (Err fault.CountFull) = IsCut asked.cut × MayBeWide net asked.width
-TellsAsked net asked (Ok v) = IsCut asked.cut × MayBeWide net asked.width
+abbrev pub TellsRunAsked : Network → Windows → Result Outcome RunFault → Type 0
+TellsRunAsked net asked (Err fault.BadCut) = ¬ IsCut asked.cut
+TellsRunAsked net asked (Err fault.BadWidth) = IsCut asked.cut × ¬ MayBeWide net asked.width
+TellsRunAsked net asked (Err fault.ShareFull) = IsCut asked.cut × MayBeWide net asked.width
+TellsRunAsked net asked (Err fault.NoMemory) = IsCut asked.cut × MayBeWide net asked.width
+TellsRunAsked net asked (Err fault.CountFull) = IsCut asked.cut × MayBeWide net asked.width
+TellsRunAsked net asked (Ok v) = IsCut asked.cut × MayBeWide net asked.width
 
 module _ {C : Type 0} (handed : C → List (List cell.PlainJob) → C → Type 0) where
   -- what a run in windows tells: the outcome of the sequential run, for which the crew was handed exactly the windows'
@@ -97,7 +97,7 @@ module _ {C : Type 0} (handed : C → List (List cell.PlainJob) → C → Type 0
   TellsWindowRun s rule cut old (Ok v) new =
       IsOutcome s v.trace.items v.exits.items v.totals
       × ((begins : List World) × (w : World) × AreWindows s rule begins w × IsLast s w
-      × handed old (calls_of rule cut begins) new)
+      × handed old (calls_for rule cut begins) new)
   TellsWindowRun s rule cut old (Err e) new = MayRefuse s rule cut old e new
 
   -- so with each seed of which the records, those of the boxes, are opening records

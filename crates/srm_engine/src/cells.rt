@@ -1,7 +1,7 @@
 //! The cells of all members.
 ghost use Rattle.std.specs.Prelude.{◌≡◌, ◌<◌, ◌≤◌, IfOk, length, map};
 ghost use Rattle.srm_net.specs.Limits.{end_of_time};
-ghost use Rattle.srm_engine.specs.Seen.{AreNextTimes, HandsTo, TakesStep, IsIndexed, IsNewAt};
+ghost use Rattle.srm_engine.specs.Seen.{AreNextTimes, HandsTo, TakesStep, IsIndexOf, IsNewAt};
 ghost use Rattle.srm_engine.specs.Openings.{MayOpen, Opens, AddsMember};
 ghost use Rattle.srm_engine.specs.Outcomes.{AllEnd, EndAs};
 
@@ -80,7 +80,7 @@ impl Cells {
     /// These cells, their next times found.
     pub(crate) fn of(alloc: Global, cells: Vec<Cell>) -> Result<Cells, AllocError>
         requires { length cells.items ≤ 65536 }
-        ensures { IfOk result (λ indexed. IsIndexed (λ b. plain (b.vtable, b.value)) cells.items indexed) }
+        ensures { IfOk result (λ indexed. IsIndexOf (λ b. plain (b.vtable, b.value)) cells.items indexed) }
     {
         let times = NextTimes::of(alloc, next_times(alloc, cells.as_slice())?)?;
         Ok(Cells { cells, times })

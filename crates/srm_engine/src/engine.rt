@@ -1,18 +1,17 @@
 //! The sequential engine.
-ghost use Rattle.std.specs.Prelude.{◌≡◌, ◌<◌, ◌+◌, ◌-◌, ◌^◌, ℕ, IfOk, map};
+ghost use Rattle.std.specs.Prelude.{◌≡◌, ◌<◌, ◌≤◌, ◌+◌, ◌-◌, ◌^◌, ℕ, IfOk, length, map};
 ghost use Rattle.srm_net.specs.Spreads.{IsSpread};
 ghost use Rattle.srm_scenario.specs.Plain.{network_of};
 ghost use Rattle.srm_engine.specs.Openings.{HoldOpeningRecords};
-ghost use Rattle.srm_engine.specs.Outcomes.{Runs};
 ghost use Rattle.srm_engine.specs.Engines.{IsSetUp, IsStillOf, MayStep, StepsOn, MaySendNow, Sends, MayDeliver, Delivers, IsOpened, OpensFrom};
-ghost use Rattle.srm_engine.specs.Sinks.{IsOpen};
-ghost use Rattle.srm_engine.specs.Streams.{StandsAs, stopped_in, MayTake, TakesSteps, StreamsRows};
+ghost use Rattle.srm_engine.specs.Sinks.{IsOpen, stage_after, stops_in, HandsPieces};
+ghost use Rattle.srm_engine.specs.Streams.{sink_in, MayTake, TakesSteps, StreamsRows};
 
 use crate::arrival::arrival;
 use crate::cells::{Cells, open_cells};
-use crate::fault::{RunFault, run_fault};
-use crate::sink::RowSink;
-use crate::stream_fault::{StreamFault, hand};
+use crate::halt::Halt;
+use crate::sink::{RowSink, hand_none};
+use crate::step_fault::{StepFault, step_fault};
 use srm_cell::count::count;
 use srm_ledger::totals::Totals;
 use srm_member::member::Member;
@@ -23,7 +22,7 @@ use srm_net::spread::Spread;
 use srm_scenario::scenario::Scenario;
 use std::alloc::{AllocError, Global};
 
-// How many rows are handed on at a time, and for how many there is room from the start.
+// How many rows are handed on at a time.
 const PIECE: usize = 32;
 
 // No run has so many pieces: 2^62 rows.
@@ -62,72 +61,61 @@ impl<'a> Engine<'a> {
         })
     }
 
-    /// Steps, one after the other, until nothing is pending before the end of the run.
-    pub(crate) fn run(&mut self, alloc: Global) -> Result<Vec<Row>, RunFault>
-        requires network { IsSetUp self.old }
-        requires opened { (seed : ℕ) × IsOpened (λ b. plain (b.vtable, b.value)) seed self.old }
-        ensures same { IsStillOf self.old self.new }
-        ensures trace { Runs (λ b. plain (b.vtable, b.value)) self.old result self.new }
-    {
-        self.steps(alloc, usize::MAX)
-    }
-
-    /// The same, and the rows are handed to a sink, in pieces: first none, and then all of them, in order.
+    /// Steps, one after the other, until nothing is pending before the end of the run. The rows are handed to a sink in pieces: first
+    /// none, and then all of them, in order, no more than 32 at a time.
     pub(crate) fn stream<S: RowSink>(
         &mut self,
         alloc: Global,
         sink: &mut S,
-    ) -> Result<(), StreamFault>
+    ) -> Result<(), Halt<StepFault>>
         requires network { IsSetUp self.old }
         requires opened { (seed : ℕ) × IsOpened (λ b. plain (b.vtable, b.value)) seed self.old }
         requires open { IsOpen (S.stage sink.old) }
         requires failures { S.failures sink.old < 2 ^ 64 - 1 }
         ensures same { IsStillOf self.old self.new }
         ensures device { S.same sink.old sink.new }
-        ensures stands { StandsAs result (S.stage sink.new) }
-        ensures failures { S.failures sink.new ≡ S.failures sink.old + stopped_in result }
+        ensures stage { S.stage sink.new ≡ stage_after (sink_in result) }
+        ensures failures { S.failures sink.new ≡ S.failures sink.old + stops_in (sink_in result) }
+        ensures pieces { HandsPieces S.handed sink.old sink.new }
         ensures rows { StreamsRows S.took S.part (λ b. plain (b.vtable, b.value)) self.old sink.old result
             sink.new self.new }
     {
-        if let Err(fault) = hand(alloc, sink, Vec::new(alloc)) {
-            return Err(fault);
+        if let Err(fault) = hand_none(alloc, sink) {
+            return Err(Halt::Sink(fault));
         }
         let mut left = MOST_PIECES;
         while left > 0 {
             let rows = match self.steps(alloc, PIECE) {
                 Ok(rows) => rows,
-                Err(fault) => return Err(StreamFault::Run { fault }),
+                Err(fault) => return Err(Halt::Run(fault)),
             };
             let is_last = rows.len() < PIECE;
-            if let Err(fault) = hand(alloc, sink, rows) {
-                return Err(fault);
+            if let Err(fault) = sink.rows(alloc, rows) {
+                return Err(Halt::Sink(fault));
             }
             if is_last {
                 return Ok(());
             }
             left -= 1;
         }
-        Err(StreamFault::Run {
-            fault: RunFault::NoMemory,
-        })
+        Err(Halt::Run(StepFault::NoMemory))
     }
 
     /// Steps, one after the other, until nothing is pending before the end of the run, or there are so many rows.
-    pub(crate) fn steps(&mut self, alloc: Global, most: usize) -> Result<Vec<Row>, RunFault>
+    pub(crate) fn steps(&mut self, alloc: Global, most: usize) -> Result<Vec<Row>, StepFault>
         requires network { IsSetUp self.old }
         requires known { MayTake (λ b. plain (b.vtable, b.value)) self.old }
         ensures same { IsStillOf self.old self.new }
+        ensures few { IfOk result (λ rows. length rows.items ≤ most) }
         ensures steps { TakesSteps (λ b. plain (b.vtable, b.value)) most self.old result self.new }
     {
-        let Ok(mut rows) = Vec::with_capacity(alloc, most.min(PIECE)) else {
-            return Err(RunFault::NoMemory);
-        };
+        let mut rows = Vec::new(alloc);
         while rows.len() < most {
             match self.step(alloc) {
                 Ok(None) => return Ok(rows),
                 Ok(Some(row)) => {
                     if rows.push(row).is_err() {
-                        return Err(RunFault::NoMemory);
+                        return Err(StepFault::NoMemory);
                     }
                 }
                 Err(fault) => return Err(fault),
@@ -137,7 +125,7 @@ impl<'a> Engine<'a> {
     }
 
     /// The step of the sequential run: the least pending event of all is taken, and its packet handed out.
-    pub(crate) fn step(&mut self, alloc: Global) -> Result<Option<Row>, RunFault>
+    pub(crate) fn step(&mut self, alloc: Global) -> Result<Option<Row>, StepFault>
         requires network { IsSetUp self.old }
         requires known { MayStep (λ b. plain (b.vtable, b.value)) self.old }
         ensures same { IsStillOf self.old self.new }
@@ -153,12 +141,10 @@ impl<'a> Engine<'a> {
         let row = match self.cells.step(alloc, member, until) {
             Ok(Some(row)) => row,
             Ok(None) => return Ok(None),
-            Err(fault) => return Err(run_fault(fault)),
+            Err(fault) => return Err(step_fault(fault)),
         };
-        match self.send(alloc, &row) {
-            Ok(()) => Ok(Some(row)),
-            Err(AllocError) => Err(RunFault::NoMemory),
-        }
+        self.send(alloc, &row)?;
+        Ok(Some(row))
     }
 
     // Counts and hands out the packet that a row sent, if any.

@@ -15,6 +15,7 @@ pub mod next_times;
 pub mod outcome;
 pub mod sink;
 mod soonest;
+pub mod step_fault;
 pub mod step_run;
 pub mod step_stream;
 pub mod stream_fault;

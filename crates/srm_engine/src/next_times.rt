@@ -1,6 +1,6 @@
 //! The next times of all members, the least of them at hand.
 ghost use Rattle.std.specs.Prelude.{◌≡◌, ◌<◌, ◌≤◌, ◌*◌, ◌%◌, [], IfOk, length, slice_set};
-ghost use Rattle.srm_engine.specs.NextTimes.{least_of_times, sooner_entry, IsEntryOf, IsTree, SetsLeaf};
+ghost use Rattle.srm_engine.specs.NextTimes.{least_of_times, sooner_entry, IsEntryOf, AreWinners, SetsLeaf};
 
 use std::alloc::{AllocError, Global};
 use std::marker::Model;
@@ -49,7 +49,7 @@ impl NextTimes {
     /// The next times of members 0, 1 and on, in ticks.
     ///
     /// # Errors
-    /// Memory was refused.
+    /// [`AllocError`]: the times are gone.
     pub fn of(alloc: Global, times: Vec<Option<u64>>) -> Result<Self, AllocError>
         requires { length times.items ≤ 65536 }
         ensures { IfOk result (λ n. n ≡ times.items) }
@@ -124,8 +124,8 @@ fn climb(entries: &mut [Entry], leaf: usize, entry: Entry)
     requires pairs { length entries.old % 2 ≡ 0 }
     requires leaf { length entries.old ≤ 2 * leaf }
     requires within { leaf < length entries.old }
-    requires tree { IsTree entries.old }
-    ensures tree { IsTree entries.new }
+    requires tree { AreWinners entries.old }
+    ensures tree { AreWinners entries.new }
     ensures leaves { SetsLeaf leaf entry entries.old entries.new }
 {
     let mut node = leaf;

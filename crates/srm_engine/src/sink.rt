@@ -1,5 +1,5 @@
 //! Who takes the rows of a run as they come.
-ghost use Rattle.std.specs.Prelude.{◌≡◌, ◌<◌, ◌+◌, ◌-◌, ◌^◌, ◌++◌, [], ℕ, List, MatchResult};
+ghost use Rattle.std.specs.Prelude.{◌≡◌, ◌<◌, ◌+◌, ◌-◌, ◌^◌, ◌∷◌, ◌++◌, [], ℕ, List, MatchResult};
 ghost use Rattle.srm_member.specs.declared.row.Row.{Row as OneRow};
 ghost use Rattle.srm_engine.specs.declared.sink.Stage.{Stage as AStage};
 ghost use Rattle.srm_engine.specs.Sinks.{IsOpen, stage_after, stops_in};
@@ -33,8 +33,9 @@ pub enum Stage {
     },
 }
 
-/// Who takes rows. A contract sees where it stands, how often the device under it failed, and two relations between its values before
-/// and after: that in between it took exactly a list of rows, or no more than a front of one, which may end inside a row's text.
+/// Who takes rows. A contract sees where it stands, how often the device under it failed, and three relations between its values before
+/// and after: that in between it was handed exactly a list of calls; that it took exactly a list of rows; or that it took no more than a
+/// front of one, which may end inside a row's text.
 pub trait RowSink {
     // Where it stands.
     ghost stage: { Self → AStage };
@@ -45,6 +46,9 @@ pub trait RowSink {
     // Both are over one device.
     ghost same: { Self → Self → Type 0 };
 
+    // Between these two values it was handed exactly these calls, each the list of its rows.
+    ghost handed: { Self → List (List OneRow) → Self → Type 0 };
+
     // Between these two values it took exactly these rows.
     ghost took: { Self → List OneRow → Self → Type 0 };
 
@@ -54,20 +58,25 @@ pub trait RowSink {
     /// Takes these rows, after those that it took before. There may be none.
     ///
     /// # Errors
-    /// `Stopped` exactly where the device under the sink failed; else `NoMemory`. The sink has then taken a front of the rows, and may
-    /// not be asked again.
+    /// `Stopped` exactly where the device under the sink failed: its count of failures is then one higher. Else `NoMemory`. The
+    /// sink took no more than a front of the rows, stands refused by the fault that it told, and may not be asked again.
     fn rows(&mut self, alloc: Global, rows: Vec<Row>) -> Result<(), SinkFault>
         requires open { IsOpen (stage self.old) }
         requires failures { failures self.old < 2 ^ 64 - 1 }
         ensures same { same self.old self.new }
         ensures stage { stage self.new ≡ stage_after result }
         ensures failures { failures self.new ≡ failures self.old + stops_in result }
+        ensures handed { handed self.old (rows.items ∷ []) self.new }
         ensures rows { MatchResult result (λ _. took self.old rows.items self.new)
             (λ _. part self.old rows.items self.new) };
 
     ghost same_self: { (a : Self) → same a a };
 
     ghost same_more: { (a b c : Self) → same a b → same b c → same a c };
+
+    ghost handed_none: { (a : Self) → handed a [] a };
+
+    ghost handed_more: { (a b c : Self) (xs ys : List (List OneRow)) → handed a xs b → handed b ys c → handed a (xs ++ ys) c };
 
     ghost took_none: { (a : Self) → took a [] a };
 
@@ -78,4 +87,17 @@ pub trait RowSink {
     ghost part_more: { (a b c : Self) (xs ys : List OneRow) → took a xs b → part b ys c → part a (xs ++ ys) c };
 
     ghost part_longer: { (a b : Self) (xs ys : List OneRow) → part a xs b → part a (xs ++ ys) b };
+}
+
+/// Hands a sink no rows: the call by which a run begins.
+pub(crate) fn hand_none<S: RowSink>(alloc: Global, sink: &mut S) -> Result<(), SinkFault>
+    requires open { IsOpen (S.stage sink.old) }
+    requires failures { S.failures sink.old < 2 ^ 64 - 1 }
+    ensures same { S.same sink.old sink.new }
+    ensures stage { S.stage sink.new ≡ stage_after result }
+    ensures failures { S.failures sink.new ≡ S.failures sink.old + stops_in result }
+    ensures handed { S.handed sink.old ([] ∷ []) sink.new }
+    ensures rows { MatchResult result (λ _. S.took sink.old [] sink.new) (λ _. S.part sink.old [] sink.new) }
+{
+    sink.rows(alloc, Vec::new(alloc))
 }

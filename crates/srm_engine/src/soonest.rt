@@ -9,7 +9,7 @@ ghost use Rattle.srm_engine.specs.Groups.{AreCuts, AreGrouped, sizes, all_in};
 ghost use Rattle.srm_model.specs.World.{World};
 ghost use Rattle.srm_model.specs.WindowChains.{start_of};
 ghost use Rattle.srm_model.specs.WindowRuns.{OwnResult, AreOwnRuns, cells_in};
-ghost use Rattle.srm_engine.specs.Soonest.{IsAmong, IsSoonest, AreSoonest, AreThose};
+ghost use Rattle.srm_engine.specs.Soonest.{IsInRange, IsSoonest, AreSoonest, AreThose};
 
 use crate::ends::way;
 use srm_cell::cell::Cell;
@@ -68,7 +68,7 @@ fn soonest_in(scenario: &Scenario, net: &Net, cells: &[Cell], first: usize, unti
     requires few { length scenario.now.members < 65536 }
     ensures { (seed : ℕ) (ps : List PlainCell)
         → AreThose (λ b. plain (b.vtable, b.value)) first cells.now ps
-        → IsSoonest (setting_of scenario.now net.now seed) (IsAmong first (length cells.now)) ps result }
+        → IsSoonest (setting_of scenario.now net.now seed) (IsInRange first (length cells.now)) ps result }
 {
     let mut soonest = Soonest {
         time: until,

@@ -4,10 +4,11 @@ ghost use Rattle.srm_scenario.specs.Plain.{network_of};
 ghost use Rattle.srm_engine.specs.Openings.{HoldOpeningRecords};
 ghost use Rattle.srm_engine.specs.Outcomes.{RunsFrom};
 
-use crate::cells::finish_cells;
-use crate::engine::Engine;
 use crate::fault::RunFault;
+use crate::kept_rows::KeptRows;
 use crate::outcome::Outcome;
+use crate::step_stream::step_stream;
+use crate::stream_fault::StreamFault;
 use srm_member::member::Member;
 use srm_net::net::Net;
 use srm_scenario::scenario::Scenario;
@@ -30,20 +31,14 @@ pub fn step_run(
     requires boxes { (seed : ℕ) × HoldOpeningRecords scenario.now net.now seed (map (λ b. plain b) members.items) }
     ensures { RunsFrom scenario.now net.now (map (λ b. plain b) members.items) result }
 {
-    let Ok(mut engine) = Engine::open(alloc, scenario, net, members) else {
-        return Err(RunFault::NoMemory);
-    };
-    let trace = match engine.run(alloc) {
-        Ok(trace) => trace,
-        Err(fault) => return Err(fault),
-    };
-    let Engine { cells, totals, .. } = engine;
-    let Ok(exits) = finish_cells(alloc, cells.cells) else {
-        return Err(RunFault::NoMemory);
-    };
-    Ok(Outcome {
-        trace,
-        exits,
-        totals,
-    })
+    let mut kept = KeptRows::new(alloc);
+    match step_stream(alloc, scenario, net, members, &mut kept) {
+        Ok((exits, totals)) => Ok(Outcome {
+            trace: kept.into_rows(),
+            exits,
+            totals,
+        }),
+        Err(StreamFault::Run { fault }) => Err(fault),
+        Err(StreamFault::Stopped { .. }) => unreachable!(),
+    }
 }

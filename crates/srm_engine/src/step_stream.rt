@@ -2,12 +2,11 @@
 ghost use Rattle.std.specs.Prelude.{◌≡◌, ◌<◌, ◌+◌, ◌-◌, ◌^◌, ℕ, map};
 ghost use Rattle.srm_scenario.specs.Plain.{network_of};
 ghost use Rattle.srm_engine.specs.Openings.{HoldOpeningRecords};
-ghost use Rattle.srm_engine.specs.Sinks.{IsOpen};
+ghost use Rattle.srm_engine.specs.Sinks.{IsOpen, TellsPieces};
 ghost use Rattle.srm_engine.specs.Streams.{StandsAs, stopped_in, StreamsFrom, RefusedFrom};
 
 use crate::cells::finish_cells;
 use crate::engine::Engine;
-use crate::fault::RunFault;
 use crate::sink::RowSink;
 use crate::stream_fault::StreamFault;
 use srm_ledger::totals::Totals;
@@ -24,9 +23,12 @@ use std::alloc::Global;
 /// There is one box for each member, in order of their numbers, each holding its opening record for this scenario and one seed.
 ///
 /// # Errors
-/// `Stopped` exactly where the device under the sink failed, with the number that the sink told; `Run` with `CountFull` only where the
-/// run comes to a member that is to send a packet with its packet count used up; else `Run` with `NoMemory`, also where the run would
-/// have more than 2^62 rows. The sink has then taken no more than a front of the trace. The boxes are gone.
+/// As met: `Stopped`, exactly where the device under the sink failed, with the number that the sink told; `Run` with `CountFull`,
+/// only where the run comes to a member that is to send a packet with its packet count used up; `Run` with `NoMemory`, also where
+/// memory was refused to the sink, or the run would have more than 2^62 rows.
+///
+/// The boxes are then gone. The sink took no more than a front of the trace; after `Stopped` it stands refused, and its count of
+/// failures is one higher.
 pub fn step_stream<S: RowSink>(
     alloc: Global,
     scenario: &Scenario,
@@ -41,26 +43,21 @@ pub fn step_stream<S: RowSink>(
     ensures device { S.same sink.old sink.new }
     ensures stands { StandsAs result (S.stage sink.new) }
     ensures failures { S.failures sink.new ≡ S.failures sink.old + stopped_in result }
+    ensures pieces { TellsPieces S.handed sink.old result sink.new }
     ensures stream { StreamsFrom S.took S.part scenario.now net.now (map (λ b. plain b) members.items)
         sink.old result sink.new }
     ensures refused { RefusedFrom scenario.now net.now (map (λ b. plain b) members.items) result }
 {
     let mut engine = match Engine::open(alloc, scenario, net, members) {
         Ok(engine) => engine,
-        Err(_) => {
-            return Err(StreamFault::Run {
-                fault: RunFault::NoMemory,
-            });
-        }
+        Err(error) => return Err(error.into()),
     };
-    if let Err(fault) = engine.stream(alloc, sink) {
-        return Err(fault);
+    if let Err(halt) = engine.stream(alloc, sink) {
+        return Err(halt.into());
     }
     let Engine { cells, totals, .. } = engine;
-    let Ok(exits) = finish_cells(alloc, cells.cells) else {
-        return Err(StreamFault::Run {
-            fault: RunFault::NoMemory,
-        });
-    };
-    Ok((exits, totals))
+    match finish_cells(alloc, cells.cells) {
+        Ok(exits) => Ok((exits, totals)),
+        Err(error) => Err(error.into()),
+    }
 }

@@ -1,15 +1,13 @@
 //! Why a run that hands its rows on came to no end.
-ghost use Rattle.std.specs.Prelude.{◌≡◌, ◌<◌, ◌+◌, ◌-◌, ◌^◌, MatchResult};
-ghost use Rattle.srm_engine.specs.declared.sink.SinkFault.{SinkFault as AFault};
-ghost use Rattle.srm_engine.specs.Sinks.{IsOpen};
-ghost use Rattle.srm_engine.specs.Streams.{fault_of_sink, StandsAs, stopped_in};
+ghost use Rattle.std.specs.Prelude.{◌≡◌};
+ghost use Rattle.srm_engine.specs.Streams.{fault_of_sink};
 
 use crate::fault::RunFault;
 use crate::halt::Halt;
-use crate::sink::{RowSink, SinkFault};
+use crate::sink::SinkFault;
+use crate::step_fault::StepFault;
 use crate::window_fault::WindowFault;
-use srm_member::row::Row;
-use std::alloc::{AllocError, Global};
+use std::alloc::AllocError;
 
 /// Why a run that hands its rows on came to no end.
 #[derive(Clone, Copy, Debug, PartialEq, Eq)]
@@ -41,6 +39,24 @@ impl From<AllocError> for StreamFault {
     }
 }
 
+/// What a halt is to those who asked for a run that is not cut into windows.
+impl From<Halt<StepFault>> for StreamFault {
+    ghost use Rattle.std.specs.Prelude.{◌≡◌};
+    ghost use Rattle.srm_engine.specs.Faults.{step_refused};
+    ghost use Rattle.srm_engine.specs.Streams.{stream_fault_of};
+
+    ghost from_gives = { λ halt told. told ≡ stream_fault_of step_refused halt };
+
+    fn from(halt: Halt<StepFault>) -> StreamFault {
+        match halt {
+            Halt::Run(fault) => StreamFault::Run {
+                fault: fault.into(),
+            },
+            Halt::Sink(fault) => stream_fault(fault),
+        }
+    }
+}
+
 /// What a halt is to those who asked for a run in windows.
 impl From<Halt<WindowFault>> for StreamFault {
     ghost use Rattle.std.specs.Prelude.{◌≡◌};
@@ -68,25 +84,5 @@ fn stream_fault(fault: SinkFault) -> StreamFault
             fault: RunFault::NoMemory,
         },
         SinkFault::Stopped { written } => StreamFault::Stopped { written },
-    }
-}
-
-/// Hands rows to a sink.
-pub(crate) fn hand<S: RowSink>(
-    alloc: Global,
-    sink: &mut S,
-    rows: Vec<Row>,
-) -> Result<(), StreamFault>
-    requires open { IsOpen (S.stage sink.old) }
-    requires failures { S.failures sink.old < 2 ^ 64 - 1 }
-    ensures device { S.same sink.old sink.new }
-    ensures stands { StandsAs result (S.stage sink.new) }
-    ensures failures { S.failures sink.new ≡ S.failures sink.old + stopped_in result }
-    ensures rows { MatchResult result (λ _. S.took sink.old rows.items sink.new)
-        (λ e. S.part sink.old rows.items sink.new × ((f : AFault) × (e ≡ fault_of_sink f))) }
-{
-    match sink.rows(alloc, rows) {
-        Ok(()) => Ok(()),
-        Err(fault) => Err(stream_fault(fault)),
     }
 }

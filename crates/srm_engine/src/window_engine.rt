@@ -6,7 +6,7 @@ ghost use Rattle.srm_engine.specs.Openings.{HoldOpeningRecords};
 ghost use Rattle.srm_engine.specs.Ends.{MayCut};
 ghost use Rattle.srm_engine.specs.Sinks.{IsOpen, stage_after, stops_in};
 ghost use Rattle.srm_engine.specs.Streams.{sink_in};
-ghost use Rattle.srm_engine.specs.WindowEngines.{Stands, course_of, OpensAt, BeginsNext, EndsNext, TellsWindow, TellsWindows};
+ghost use Rattle.srm_engine.specs.WindowEngines.{IsUnderWay, course_of, OpensAt, BeginsNext, EndsNext, TellsWindow, TellsWindows};
 ghost use Rattle.srm_engine.specs.WindowEngines.{Finishes};
 
 use crate::cells::{finish_cells, open_cells};
@@ -15,7 +15,7 @@ use crate::ends::Ends;
 use crate::groups::{Groups, apart, jobs};
 use crate::halt::Halt;
 use crate::merge::merge;
-use crate::sink::RowSink;
+use crate::sink::{RowSink, hand_none};
 use crate::soonest::{least, look_again};
 use crate::window_fault::{WindowFault, window_fault};
 use srm_crew::crew::Crew;
@@ -53,7 +53,7 @@ impl<'a> WindowEngine<'a> {
         requires cutting { MayCut net.now cutting }
         requires boxes { (seed : ℕ) × HoldOpeningRecords scenario.now net.now seed (map (λ b. plain b) members.items) }
         ensures course { IfOk result (λ e. course_of e ≡ (scenario.now, net.now, cutting.cut, cutting.ends)) }
-        ensures stands { IfOk result (λ e. Stands (λ b. plain b) e) }
+        ensures stands { IfOk result (λ e. IsUnderWay (λ b. plain b) e) }
         ensures opened { IfOk result (λ e. (seed : ℕ) → HoldOpeningRecords scenario.now net.now seed
             (map (λ b. plain b) members.items) → OpensAt (λ b. plain b) seed e) }
     {
@@ -83,7 +83,7 @@ impl<'a> WindowEngine<'a> {
 
     // When the window ends that begins at this tick.
     fn end(&self, begin: u64) -> u64
-        requires stands { Stands (λ b. plain (b.vtable, b.value)) self.now }
+        requires stands { IsUnderWay (λ b. plain (b.vtable, b.value)) self.now }
         requires begin { BeginsNext (λ b. plain (b.vtable, b.value)) self.now begin }
         requires early { begin < self.now.scenario.now.until }
         ensures { EndsNext (λ b. plain (b.vtable, b.value)) self.now result }
@@ -100,12 +100,12 @@ impl<'a> WindowEngine<'a> {
         begin: u64,
     ) -> Result<(WindowEngine<'a>, Vec<Row>), WindowFault>
         requires ready { C.ready crew.old }
-        requires stands { Stands (λ b. plain (b.vtable, b.value)) self }
+        requires stands { IsUnderWay (λ b. plain (b.vtable, b.value)) self }
         requires begin { BeginsNext (λ b. plain (b.vtable, b.value)) self begin }
         requires early { begin < self.scenario.now.until }
         ensures ready { C.ready crew.new }
         ensures course { IfOk result (λ ran. course_of ran.0 ≡ course_of self.entry) }
-        ensures stands { IfOk result (λ ran. Stands (λ b. plain (b.vtable, b.value)) ran.0) }
+        ensures stands { IfOk result (λ ran. IsUnderWay (λ b. plain (b.vtable, b.value)) ran.0) }
         ensures later { IfOk result (λ ran. (next : ℕ) → BeginsNext (λ b. plain (b.vtable, b.value)) ran.0 next
             → begin < next) }
         ensures window { TellsWindow C.handed (λ b. plain (b.vtable, b.value)) self.entry crew.old result crew.new }
@@ -158,11 +158,11 @@ impl<'a> WindowEngine<'a> {
         sink: &mut S,
     ) -> Result<WindowEngine<'a>, Halt<WindowFault>>
         requires ready { C.ready crew.old }
-        requires stands { Stands (λ b. plain (b.vtable, b.value)) self }
+        requires stands { IsUnderWay (λ b. plain (b.vtable, b.value)) self }
         requires open { IsOpen (S.stage sink.old) }
         requires failures { S.failures sink.old < 2 ^ 64 - 1 }
         ensures ready { C.ready crew.new }
-        ensures stands { IfOk result (λ e. Stands (λ b. plain (b.vtable, b.value)) e) }
+        ensures stands { IfOk result (λ e. IsUnderWay (λ b. plain (b.vtable, b.value)) e) }
         ensures course { IfOk result (λ e. course_of e ≡ course_of self.entry) }
         ensures device { S.same sink.old sink.new }
         ensures stage { S.stage sink.new ≡ stage_after (sink_in result) }
@@ -170,7 +170,7 @@ impl<'a> WindowEngine<'a> {
         ensures windows { TellsWindows C.handed S.took S.part (λ b. plain (b.vtable, b.value)) self.entry crew.old
             sink.old result sink.new crew.new }
     {
-        if let Err(fault) = sink.rows(alloc, Vec::new(alloc)) {
+        if let Err(fault) = hand_none(alloc, sink) {
             return Err(Halt::Sink(fault));
         }
         let until = self.scenario.until();
@@ -192,7 +192,7 @@ impl<'a> WindowEngine<'a> {
 
     /// What each member ends with, and what was counted.
     pub(crate) fn finish(self, alloc: Global) -> Result<(Vec<Exit>, Totals), AllocError>
-        requires stands { Stands (λ b. plain (b.vtable, b.value)) self }
+        requires stands { IsUnderWay (λ b. plain (b.vtable, b.value)) self }
         ensures { IfOk result (λ ends. Finishes (λ b. plain (b.vtable, b.value)) self.entry ends.0.items ends.1) }
     {
         let WindowEngine {

@@ -9,7 +9,8 @@ use std::alloc::AllocError;
 /// Why a window is refused.
 #[derive(Clone, Copy, Debug, PartialEq, Eq)]
 pub enum WindowFault {
-    /// More packets crossed a link, or were dropped at it, than the ledger counts: 2^47 of a kind.
+    /// More packets crossed a link, or were dropped at it, than the ledger counts of a kind:
+    /// [`SHARE_MOST`](srm_ledger::seat::SHARE_MOST).
     ShareFull,
     /// Memory was refused.
     NoMemory,

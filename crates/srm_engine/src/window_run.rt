@@ -2,7 +2,7 @@
 ghost use Rattle.std.specs.Prelude.{◌≡◌, ℕ, map};
 ghost use Rattle.srm_scenario.specs.Plain.{network_of};
 ghost use Rattle.srm_engine.specs.Openings.{HoldOpeningRecords};
-ghost use Rattle.srm_engine.specs.Windowed.{rule_of, TellsAsked, RunsInWindows};
+ghost use Rattle.srm_engine.specs.Windowed.{rule_of, TellsRunAsked, RunsInWindows};
 
 use crate::fault::RunFault;
 use crate::kept_rows::KeptRows;
@@ -23,8 +23,13 @@ use std::alloc::Global;
 /// an error the boxes are gone.
 ///
 /// # Errors
-/// `BadCut` and `BadWidth` come first, in this order, before any work. `ShareFull` where the packets that cross a link are too many
-/// for the ledger; `CountFull` where the sequential run answers it.
+/// 1. `BadCut`: exactly where the cut is none of 1 to 1,024 members.
+/// 2. `BadWidth`: exactly where the width is none that the network allows.
+/// 3. As met: `ShareFull`, only where the crossings up to a window, with those of some of its jobs, are more than 2^47 of a kind
+///    at some link; `CountFull`, only where the sequential run answers it; and `NoMemory`.
+///
+/// The first two come before any work and whatever the memory, and the crew is then as it was; after the others it may be called
+/// again. The boxes are gone.
 pub fn window_run<C: Crew>(
     alloc: Global,
     scenario: &Scenario,
@@ -37,7 +42,7 @@ pub fn window_run<C: Crew>(
     requires network { net.now ≡ network_of scenario.now }
     requires boxes { (seed : ℕ) × HoldOpeningRecords scenario.now net.now seed (map (λ b. plain b) members.items) }
     ensures ready { C.ready crew.new }
-    ensures asked { TellsAsked net.now asked result }
+    ensures asked { TellsRunAsked net.now asked result }
     ensures run { RunsInWindows C.handed scenario.now net.now (map (λ b. plain b) members.items)
         (λ s. rule_of s net.now asked.width) asked.cut crew.old result crew.new }
 {

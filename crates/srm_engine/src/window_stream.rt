@@ -29,10 +29,12 @@ use std::alloc::Global;
 /// an error the boxes are gone, and the sink has taken no more than a front of the trace.
 ///
 /// # Errors
-/// `Run` with `BadCut` and with `BadWidth` come first, in this order, before any work: the sink is then as it was. `Stopped` exactly
-/// where the device under the sink failed, with the number that the sink told. `Run` with `ShareFull` where the packets that cross a
-/// link are too many for the ledger; with `CountFull` where the sequential run answers it; with `NoMemory` also where memory was
-/// refused to the sink.
+/// 1. `Run` with `BadCut`, and 2. `Run` with `BadWidth`, as of [`window_run`](crate::window_run::window_run): the sink and the
+///    crew are then as they were.
+/// 3. As met: `Stopped`, exactly where the device under the sink failed, with the number that the sink told; `Run` with
+///    `ShareFull`, `CountFull` or `NoMemory`, the last also where memory was refused to the sink.
+///
+/// The boxes are then gone. The sink stands as after [`step_stream`](crate::step_stream::step_stream).
 pub fn window_stream<C: Crew, S: RowSink>(
     alloc: Global,
     scenario: &Scenario,

@@ -1,7 +1,8 @@
 //! What tests of several crates take: whole scenarios, each with every byte that it must give, and members whose end is
-//! watched; and what members answer, call by call.
+//! watched or whose reactions are counted; and what members answer, call by call.
 #![tactic(auto)]
 
+pub mod counted;
 #[cfg(test)]
 mod member_tests;
 #[cfg(test)]

@@ -63,7 +63,7 @@ impl Watch {
     /// The member, watched from now on.
     ///
     /// # Errors
-    /// Memory was refused: the member is gone, and not watched.
+    /// [`AllocError`]: the member is gone, and not watched.
     pub fn over<M: Member>(&mut self, alloc: Global, inner: M) -> Result<Watched<M>, AllocError>
         ensures member { IfOk result (λ w. w.inner ≡ inner) }
         ensures more { IfOk result (λ _. length self.new.drops.items ≡ length self.old.drops.items + 1) }

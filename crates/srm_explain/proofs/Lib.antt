@@ -1,1 +1,3 @@
+mod Closed
 mod Found
+mod Listed

@@ -1,10 +1,17 @@
 -- What is told of a fault after its line.
-use Rattle.std.specs.Prelude.{◌≡◌, ◌⊎◌, ℕ, List, [], ◌∷◌, ◌++◌, Some, codes}
+use Rattle.std.specs.Prelude.{◌≡◌, ◌≢◌, ◌⊎◌, ℕ, List, [], ◌∷◌, ◌++◌, Some, codes}
+use Rattle.std.specs.List.{AllByRecursion}
 use Rattle.toml.specs.Data.{Members}
 use Rattle.toml.specs.Parse.{parse_document}
 use Rattle.srm_scenario.specs.declared.fault.Part.{Part}
 use Rattle.srm_explain.specs.declared.finding.Finding.{Finding}
 use Rattle.srm_explain.specs.Findings.{rules_in, FindsAt, TellsNotes}
+use Rattle.srm_explain.specs.declared.flaw.Flaw.{Flaw}
+use Rattle.srm_explain.specs.Flaws.{flaw_sentence, IsFlaw}
+use Rattle.srm_explain.specs.declared.misfit.Misfit.{Misfit}
+use Rattle.srm_explain.specs.Misfits.{links_of, misfit_sentence, Breaks}
+use Rattle.srm_scenario.specs.declared.draft.Draft.{Draft}
+use Rattle.srm_scenario.specs.Drafts.{IsDraft}
 use Rattle.srm_scenario.specs.declared.fault.ScenarioFault.{ScenarioFault}
 use Rattle.srm_scenario.specs.declared.fault.ScenarioFault.TheVariants.{NoMemory, ReadFault, TooLong, NotToml, BadKey}
 use Rattle.srm_scenario.specs.declared.fault.ScenarioFault.TheVariants.{NotTree, BadMember, BadDraw, BadSession}
@@ -13,6 +20,11 @@ use Rattle.srm_scenario.specs.declared.fault.ScenarioFault.TheVariants.{BadDrop,
 -- a sentence as it stands below a line: with two spaces in front, and its line feed
 abbrev pub note : List ℕ → List ℕ
 note sentence = codes "  " ++ sentence ++ 10 ∷ []
+
+-- the notes of several reasons
+abbrev pub flaw_notes : List Flaw → List ℕ
+flaw_notes [] = []
+flaw_notes (f ∷ fs) = note (flaw_sentence f) ++ flaw_notes fs
 
 -- what a fault is, without its text
 abbrev pub general_sentence : ScenarioFault → List ℕ
@@ -37,6 +49,29 @@ TellsKey p place top told =
     × (notes : List ℕ) × TellsNotes (rules_in p top) p top found notes
     × (picture : List ℕ) × (told ≡ picture ++ notes)
 
+-- lines tell, below some line of the text or none, which rule the element of this fault breaks, in the draft that a
+-- document gives
+abbrev pub TellsMisfit : ScenarioFault → Members → List ℕ → Type 0
+TellsMisfit fault top told =
+    (l : Draft) × IsDraft top l × (m : Misfit) × Breaks l fault m
+    × (picture : List ℕ) × (told ≡ picture ++ note (misfit_sentence m))
+
+-- the same of a text, or what the fault is
+abbrev pub ExplainsMisfit : ScenarioFault → List ℕ → List ℕ → Type 0
+ExplainsMisfit fault text told =
+    ((top : Members) × (parse_document text ≡ Some top) × TellsMisfit fault top told)
+    ⊎ (told ≡ note (general_sentence fault))
+
+-- lines tell these reasons, of which there is one, below some line of the text or none
+abbrev pub TellsFlaws : List Flaw → List ℕ → Type 0
+TellsFlaws flaws told = (flaws ≢ []) × (picture : List ℕ) × (told ≡ picture ++ flaw_notes flaws)
+
+-- lines tell why the links make no tree of the nodes, in the draft that a document gives
+abbrev pub TellsTree : Members → List ℕ → Type 0
+TellsTree top told =
+    (l : Draft) × IsDraft top l
+    × (flaws : List Flaw) × AllByRecursion (IsFlaw l.nodes (links_of l)) flaws × TellsFlaws flaws told
+
 -- these lines explain why a text is refused with this fault. What they say of a text that is no TOML are the words of
 -- the library that reads it
 abbrev pub Explains : ScenarioFault → List ℕ → List ℕ → Type 0
@@ -44,4 +79,12 @@ Explains NotToml text told = Unit {0}
 Explains (BadKey p place) text told =
     ((top : Members) × (parse_document text ≡ Some top) × TellsKey p place top told)
     ⊎ (told ≡ note (general_sentence (BadKey p place)))
+Explains NotTree text told =
+    ((top : Members) × (parse_document text ≡ Some top) × TellsTree top told)
+    ⊎ (told ≡ note (general_sentence NotTree))
+Explains (BadMember place) text told = ExplainsMisfit (BadMember place) text told
+Explains (BadDraw place) text told = ExplainsMisfit (BadDraw place) text told
+Explains (BadSession place) text told = ExplainsMisfit (BadSession place) text told
+Explains (BadDrop place) text told = ExplainsMisfit (BadDrop place) text told
+Explains (BadOutage place) text told = ExplainsMisfit (BadOutage place) text told
 Explains fault text told = told ≡ note (general_sentence fault)

@@ -1,2 +1,4 @@
 pub mod Explanations
 pub mod Findings
+pub mod Flaws
+pub mod Misfits

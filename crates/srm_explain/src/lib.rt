@@ -3,9 +3,15 @@
 
 pub mod explanation;
 mod finding;
+mod flaw;
+mod flaw_sentence;
+mod flaws;
 mod general;
 mod keys;
 mod locate;
+mod misfit;
+mod misfit_sentence;
+mod misfits;
 mod nearest;
 mod picture;
 mod rules_in;

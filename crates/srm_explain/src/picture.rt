@@ -19,7 +19,8 @@ pub(crate) fn picture_of(alloc: Global, text: &[u8], span: Span) -> Result<Strin
     let meant = String::from_utf8_lossy(alloc, part(text, span.start.min(end), span.end.min(end)))?;
     let after = String::from_utf8_lossy(alloc, part(text, span.end.min(end), end))?;
     let column = before.chars().count().saturating_add(1);
-    let from = if column > SHOWN - BEFORE {
+    let whole = String::from_utf8_lossy(alloc, part(text, begin, end))?;
+    let from = if whole.chars().count() > SHOWN && column > SHOWN - BEFORE {
         column - BEFORE
     } else {
         0

@@ -11,31 +11,10 @@ use lib.ListN.{get_elem?}
 use Rattle.atomic_table.specs.Table.{State, keeps, step, Allows, Splits, Joins, Final, Seen}
 use Rattle.atomic_table.proofs.Lists.{at_set, at_snoc, at_index}
 use Rattle.srm_ledger.proofs.Zips.{added_at, larger_at}
+use Rattle.srm_ledger.proofs.SumsOver.{total_set, total_snoc, total_part, total_most}
 use Rattle.srm_ledger.specs.declared.rule.Holding.{Holding}
 use Rattle.srm_ledger.specs.Tally.{spent, total, weight_of, share_at, seen_at, SeatOk, Tallied, Finds, grew, saw, adds, reads, first_half}
-use Rattle.srm_ledger.specs.Tally.{second_half, joined, AllFit, AreWords}
-
-pub total_set : (f : Holding → ℕ) (l : List Holding) (i : ℕ) (v w : Holding) → get_elem? l i ≡ some v → total f (set l i w) + f v
-    ≡ total f l + f w
-total_set f [] i v w e = absurd (some-ne-none v (sym e))
-total_set f (x ∷ xs) zero v w e = let is : f x ≡ f v = ap f (some-injective x v e) in omega arith
-total_set f (x ∷ xs) (suc i) v w e = let r = total_set f xs i v w e in omega arith
-
-pub total_snoc : (f : Holding → ℕ) (l : List Holding) (v : Holding) → total f (l ++ v ∷ []) ≡ total f l + f v
-total_snoc f [] v = omega arith
-total_snoc f (x ∷ xs) v = let r = total_snoc f xs v in omega arith
-
-pub total_part : (f : Holding → ℕ) (l : List Holding) (j : ℕ) (v : Holding) → get_elem? l j ≡ some v → f v ≤ total f l
-total_part f [] j v e = absurd (some-ne-none v (sym e))
-total_part f (x ∷ xs) zero v e = let is : f x ≡ f v = ap f (some-injective x v e) in omega arith
-total_part f (x ∷ xs) (suc j) v e = let r = total_part f xs j v e in omega arith
-
--- where each is at most c times its weight, the sum is
-pub total_most : (f g : Holding → ℕ) (l : List Holding) (c : ℕ) → ((j : ℕ) (v : Holding) → get_elem? l j ≡ some v → f v ≤ g v * c)
-    → total f l ≤ total g l * c
-total_most f g [] c h = omega arith
-total_most f g (x ∷ xs) c h = let a = h 0 x refl in let r = total_most f g xs c (λ j v e. h (suc j) v e) in
-    let d : (g x + total g xs) * c ≡ g x * c + total g xs * c = omega arith in omega arith
+use Rattle.srm_ledger.specs.Tally.{second_half, joined_holding, AllFit, AreWords}
 
 -- an empty seat adds nothing
 at_most : (words : List ℕ) (v : Holding) (k : ℕ) → SeatOk words v → share_at k v ≤ v.weight * (2 ^ 47)
@@ -192,9 +171,9 @@ split_allowed n id v two s h at =
     }
 
 pub join_allowed : {S : Type 0} (n id : ℕ) (v : Holding) (other : ℕ) (w : Holding) → 1 ≤ v.weight → AllFit v.shares w.shares
-    → Joins (Tallied {S = S} n) id v other w (joined v w) spent
+    → Joins (Tallied {S = S} n) id v other w (joined_holding v w) spent
 join_allowed n id v other w alive fit s h at two at' =
-    let b = joined v w in
+    let b = joined_holding v w in
     let vs = set s.views id b in
     let was : get_elem? s.views other ≡ some w = ⊎_elim (λ (t : (other ≡ id) × (b ≡ w)). absurd (two t.0))
     (λ (t : (other ≢ id) × (get_elem? s.views other ≡ some w)). t.1) (at_set s.views id other b w at') in

@@ -60,8 +60,8 @@ with_more s link kind n = record {
 }
 
 -- n is added, and the share is at most 2^47 after it
-abbrev pub Grows : SeatView → ℕ → Kind → ℕ → SeatView → Type 0
-Grows s link kind n t = (share s link kind + n ≤ 2 ^ 47) × (t ≡ with_more s link kind n)
+abbrev pub SeatGrows : SeatView → ℕ → Kind → ℕ → SeatView → Type 0
+SeatGrows s link kind n t = (share s link kind + n ≤ 2 ^ 47) × (t ≡ with_more s link kind n)
 
 -- the share would pass 2^47 if n were added
 abbrev pub IsFull : SeatView → ℕ → Kind → ℕ → Type 0

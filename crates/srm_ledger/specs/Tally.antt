@@ -14,8 +14,8 @@ holding w xs ys = record { weight = w; shares = xs; seen = ys }
 abbrev pub spent : Holding
 spent = holding 0 [] []
 
--- f of each seat, added up
-abbrev pub total : (Holding → ℕ) → List Holding → ℕ
+-- f of each seat, or of whatever a list has, added up
+abbrev pub total : {V : Type 0} → (V → ℕ) → List V → ℕ
 total f [] = 0
 total f (v ∷ vs) = f v + total f vs
 
@@ -109,8 +109,8 @@ abbrev pub second_half : Holding → Holding
 second_half v = holding (v.weight / 2) (replicate (length v.shares) 0) v.seen
 
 -- a join: the second seat is spent
-abbrev pub joined : Holding → Holding → Holding
-joined v w = holding (v.weight + w.weight) (added v.shares w.shares) (larger v.seen w.seen)
+abbrev pub joined_holding : Holding → Holding → Holding
+joined_holding v w = holding (v.weight + w.weight) (added v.shares w.shares) (larger v.seen w.seen)
 
 -- ---- the end
 

@@ -7,7 +7,7 @@ pub enum LedgerFault {
     NoMemory,
 }
 
-/// The seat's share would pass 2^47.
+/// The seat's share would pass [`SHARE_MOST`](crate::seat::SHARE_MOST).
 #[derive(Debug, PartialEq, Eq, Drop)]
 pub struct ShareFull;
 

@@ -1,7 +1,8 @@
 //! Laws of the rule that a ledger's words keep at every moment.
 ghost use Rattle.srm_ledger.specs.Laws.{WordsNeverWrap, WholeSeatsHaveTheWords, ReadsAreNotAbove};
 
-/// No word is ever above 2^63, so none wraps: at most 65,536 seats hold at most 2^47 of it each.
+/// No word is ever above 2^63, so none wraps: at most [`WHOLE`](crate::seat::WHOLE) seats hold at most
+/// [`SHARE_MOST`](crate::seat::SHARE_MOST) of it each.
 pub fn words_never_wrap()
     ensures { WordsNeverWrap }
 {}

@@ -3,7 +3,7 @@ ghost use Rattle.std.specs.Prelude.{◌≡◌, ℕ, ◌+◌, ◌*◌, ◌≤◌,
 ghost use Rattle.srm_net.specs.Limits.{most_links};
 ghost use Rattle.srm_ledger.specs.Tally.{AllFit, SomePast};
 ghost use Rattle.srm_ledger.specs.Seats.{LedgerView, IsLedger, word_at, words_of, share, seen_there, whole_seat};
-ghost use Rattle.srm_ledger.specs.Seats.{Grows, IsFull, with_seen, half_with_shares, half_without, both_seats};
+ghost use Rattle.srm_ledger.specs.Seats.{SeatGrows, IsFull, with_seen, half_with_shares, half_without, both_seats};
 ghost use Rattle.srm_ledger.specs.Seats.{totals_of, ReadsAreIn};
 
 pub use crate::fault::{LedgerFault, NotWhole, ShareFull, SplitFault};
@@ -19,7 +19,7 @@ use std::marker::Model;
 /// Five words for each link, behind a spare one that stays 0. Threads share them, each with a seat of its own.
 ///
 /// At every moment, whatever the threads do, each word is the sum of what all seats added to it, and the weights of all
-/// seats add up to 65,536. No call waits for another thread.
+/// seats add up to [`WHOLE`]. No call waits for another thread.
 #[derive(Drop)]
 pub struct Ledger {
     table: Table<(), Holding, usize, SumsOfShares, Global>,
@@ -44,10 +44,10 @@ fn word_in(links: usize, link: usize, kind: Kind) -> usize
 }
 
 impl Ledger {
-    /// A ledger of at most 1,023 links whose words are all 0, and its whole seat.
+    /// A ledger of fewer links than [`MOST_NODES`](srm_net::limits::MOST_NODES) whose words are all 0, and its whole seat.
     ///
     /// # Errors
-    /// Memory was refused.
+    /// `NoMemory`.
     pub fn open(alloc: Global, links: usize) -> Result<(Ledger, Seat), LedgerFault>
         requires { links ≤ most_links }
         ensures { IfOk result (λ r. (r.0.links ≡ links) × (r.1 ≡ whole_seat r.0.name links)) }
@@ -74,7 +74,7 @@ impl Ledger {
         Ok((Ledger { table, links }, seat))
     }
 
-    /// How many links there are: at most 1,023.
+    /// How many links there are: fewer than [`MOST_NODES`](srm_net::limits::MOST_NODES).
     pub fn links(&self) -> usize
         ensures links { result ≡ self.now.links }
         ensures few { self.now.links ≤ most_links }
@@ -85,12 +85,13 @@ impl Ledger {
     /// Adds `n` to the word of a link and a kind, and to the seat's share of it. It does not allocate.
     ///
     /// # Errors
-    /// The seat's share would pass 2^47. Nothing changes.
+    /// `ShareFull` exactly where the seat's share would pass [`SHARE_MOST`]. The seat is then as it was, and nothing was added to
+    /// the word.
     pub fn add(&self, seat: &mut Seat, link: usize, kind: Kind, n: u64) -> Result<(), ShareFull>
         requires seat { seat.old.ledger ≡ self.now.name }
         requires link { link < self.now.links }
         ensures wide { length seat.old.shares ≡ words_of self.now.links }
-        ensures sum { MatchResult result (λ _. Grows seat.old link kind n seat.new) (λ _. IsFull seat.old link kind n) }
+        ensures sum { MatchResult result (λ _. SeatGrows seat.old link kind n seat.new) (λ _. IsFull seat.old link kind n) }
         ensures same { IfErr result (λ _. seat.new ≡ seat.old) }
     {
         let word = word_in(self.links, link, kind);
@@ -122,7 +123,7 @@ impl Ledger {
     /// was read.
     ///
     /// # Errors
-    /// The seat comes back as it was, where its weight is 1 or memory was refused.
+    /// `TooManySeats` exactly where the seat's weight is 1, and `NoMemory` only where it is more. The seat comes back as it was.
     pub fn split(&self, alloc: Global, seat: Seat) -> Result<(Seat, Seat), (Seat, SplitFault)>
         requires { seat.ledger ≡ self.now.name }
         ensures weight { IfOk result (λ _. 2 ≤ seat.weight) }
@@ -165,7 +166,7 @@ impl Ledger {
     /// Shares and weights are added, and of each two numbers that were read the larger is kept. It does not allocate.
     ///
     /// # Errors
-    /// Both seats come back as they were, where two shares of some word would add up to more than 2^47.
+    /// Refused exactly where two shares of some word would add up to more than [`SHARE_MOST`]: both seats come back as they were.
     pub fn join(&self, first: Seat, second: Seat) -> Result<Seat, (Seat, Seat)>
         requires first { first.ledger ≡ self.now.name }
         requires second { second.ledger ≡ self.now.name }
@@ -205,7 +206,7 @@ impl Ledger {
     /// The words, which are the whole seat's shares; nothing that was read is above them. It does not allocate.
     ///
     /// # Errors
-    /// Ledger and seat come back as they were, where the seat's weight is below the whole.
+    /// `NotWhole` exactly where the seat's weight is below the whole: ledger and seat come back as they were.
     pub fn close(self, seat: Seat) -> Result<Totals, (Ledger, Seat, NotWhole)>
         requires { seat.ledger ≡ self.name }
         ensures whole { IfOk result (λ _. seat.weight ≡ 65536) }

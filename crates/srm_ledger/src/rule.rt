@@ -14,7 +14,7 @@ pub struct Holding {
     pub seen: LinkedList<u64>,
 }
 
-/// Each word is the sum of its seats' shares, all weights add up to 65,536, and no seat has read more than its words.
+/// Each word is the sum of its seats' shares, all weights add up to [`WHOLE`](crate::seat::WHOLE), and no seat has read more than its words.
 pub struct SumsOfShares;
 
 impl TableRule<(), Holding, usize> for SumsOfShares {
@@ -58,9 +58,9 @@ impl Split<Holding> for Halves {
 pub(crate) struct Both;
 
 impl Join<Holding> for Both {
-    ghost use Rattle.srm_ledger.specs.Tally.{joined, spent};
+    ghost use Rattle.srm_ledger.specs.Tally.{joined_holding, spent};
 
-    ghost both = { joined };
+    ghost both = { joined_holding };
 
     ghost spent = { spent };
 }

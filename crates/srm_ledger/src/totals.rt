@@ -33,7 +33,7 @@ impl Totals {
     /// Nothing counted yet at any of `links` links.
     ///
     /// # Errors
-    /// Memory was refused.
+    /// [`AllocError`].
     pub fn new(alloc: Global, links: u16) -> Result<Self, AllocError>
         ensures { IfOk result (λ t. t ≡ nothing_at links) }
     {

@@ -14,7 +14,8 @@ use Rattle.srm_net.proofs.Basics.{T_first, T_second, is_Equal}
 use Rattle.srm_net.proofs.TotalOrders.{tied_names}
 use Rattle.srm_member.specs.declared.due.Due.{Due}
 use Rattle.srm_member.specs.Record.{Missing, Repairing, due_cmp, by_order, earlier_timer, earliest}
-use Rattle.srm_member.specs.Pending.{has, Rises, IsFirst, IsIndexed, pending_timers, request_timer, repair_timer, expiry_of, is_at_time}
+use Rattle.srm_member.specs.Pending.{has, RisesByName, IsFirst, IsIndexed, pending_timers, request_timer, repair_timer}
+use Rattle.srm_member.specs.Pending.{expiry_of, is_at_time}
 use Rattle.srm_member.proofs.Indexes.{due_total, due_same, same, due_eq, due_itself}
 
 -- ---- the earliest of a list is its first
@@ -109,7 +110,8 @@ below-none x (f ∷ es) h =
       | Greater ↦ λ t. absurd t
     ] h
 
-not_found : {V : Type 0} (q : Name) (e : Name × V) (es : List (Name × V)) → Rises (e ∷ es) → same q e.0 ≡ true → find name_cmp q es ≡ None
+not_found : {V : Type 0} (q : Name) (e : Name × V) (es : List (Name × V)) → RisesByName (e ∷ es) → same q e.0 ≡ true
+    → find name_cmp q es ≡ None
 not_found q e es h t = subst (λ n. find name_cmp n es ≡ None) (sym (tied_names q e.0 (is_Equal _ t)))
     (below-none e.0 es (T_first _ (is_sorted name_cmp es) h))
 
@@ -124,7 +126,7 @@ at_time-cond : {V : Type 0} (f : V → ℕ) (t : ℕ) (c : Bool) (v : V) (o : Op
 at_time-cond f t true v o = refl
 at_time-cond f t false v o = refl
 
-has-map : {V : Type 0} (f : V → ℕ) (r : ℕ) (d : Due) (es : List (Name × V)) → Rises es
+has-map : {V : Type 0} (f : V → ℕ) (r : ℕ) (d : Due) (es : List (Name × V)) → RisesByName es
     → has (map (λ e. record { time = f e.1; rank = r; name = e.0 }) es) d
     ≡ ((r == d.rank) && is_at_time d.time (option_map f (find name_cmp d.name es)))
 has-map f r d [] h = elim (r == d.rank) as (λ b. false ≡ (b && false)) [ true ↦ refl | false ↦ refl ]
@@ -149,7 +151,8 @@ by_rank k t x y =
       | false ↦ λ e. elim (3 == k) as (λ b. (b && is_at_time t y) ≡ is_at_time t (cond b y None)) [ true ↦ refl | false ↦ refl ]
     ] refl
 
-has-timers : (ms : List (Name × Missing)) (rs : List (Name × Repairing)) → Rises ms → Rises rs → (d : Due) → has (pending_timers ms rs) d
+has-timers : (ms : List (Name × Missing)) (rs : List (Name × Repairing)) → RisesByName ms → RisesByName rs
+    → (d : Due) → has (pending_timers ms rs) d
     ≡ is_at_time d.time (expiry_of ms rs d.rank d.name)
 has-timers ms rs g h d =
     has-append (map (λ (e : Name × Missing). request_timer e.0 e.1) ms) (map (λ (e : Name × Repairing). repair_timer e.0 e.1) rs) d

@@ -16,7 +16,7 @@ use Rattle.srm_member.specs.declared.due.Due.{Due}
 use Rattle.srm_member.specs.Record.{Missing, Repairing, due_cmp, numbers_of_due}
 use Rattle.srm_member.specs.React.{without}
 use Rattle.srm_member.proofs.Maps.{find-lookup, kept}
-use Rattle.srm_member.specs.Pending.{has, Rises, expiry_of, is_at_time, IsIndexed, request_timer, repair_timer}
+use Rattle.srm_member.specs.Pending.{has, RisesByName, expiry_of, is_at_time, IsIndexed, request_timer, repair_timer}
 use Rattle.srm_member.proofs.TableChanges.{same_names, name_is}
 
 -- ---- names and timers are compared by their numbers
@@ -100,10 +100,10 @@ ties_more c c2 f t r n tie was more d =
 
 -- ---- the tables
 
-pub rises-put : {V : Type 0} (n : Name) (v : V) (es : List (Name × V)) → Rises es → Rises (put name_cmp n v es)
+pub rises-put : {V : Type 0} (n : Name) (v : V) (es : List (Name × V)) → RisesByName es → RisesByName (put name_cmp n v es)
 rises-put n v es h = is_sorted-put name_cmp name_total n v es h
 
-pub rises-without : {V : Type 0} (n : Name) (es : List (Name × V)) → Rises es → Rises (without n es)
+pub rises-without : {V : Type 0} (n : Name) (es : List (Name × V)) → RisesByName es → RisesByName (without n es)
 rises-without n es h = is_sorted-where_key name_cmp (λ x. not (same n x)) es h
 
 find_put : {V : Type 0} (q n : Name) (v : V) (es : List (Name × V)) → find name_cmp q (put name_cmp n v es)
@@ -123,7 +123,8 @@ cond_twice : {A : Type 0} (b : Bool) (x y z : A) → cond b x (cond b y z) ≡ c
 cond_twice true x y z = refl
 cond_twice false x y z = refl
 
-pub put-without : {V : Type 0} (n : Name) (v : V) (es : List (Name × V)) → Rises es → put name_cmp n v (without n es) ≡ put name_cmp n v es
+pub put-without : {V : Type 0} (n : Name) (v : V) (es : List (Name × V)) → RisesByName es
+    → put name_cmp n v (without n es) ≡ put name_cmp n v es
 put-without n v es h =
     same_entries name_cmp name_total tied_names _ _ (rises-put n v _ (rises-without n es h)) (rises-put n v es h)
     (λ q. find_put q n v (without n es) ∙ ap (cond (same n q) (Some v)) (find_without q n es)

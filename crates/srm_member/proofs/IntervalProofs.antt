@@ -1,14 +1,14 @@
 -- What holds of every interval, through all of its changes.
 use Rattle.std.proofs.Common.{◌≡◌, ℕ, List, [], ◌∷◌, Option, Some, None, arith}
 use Rattle.srm_member.specs.Intervals.{Limits, Interval, within, adapt, opening_interval}
-use Rattle.srm_member.specs.IntervalLaws.{Change, Begins, Delays, Sends, Hears, changed, after_changes, IsOrdered, IsWithin}
+use Rattle.srm_member.specs.IntervalLaws.{Change, Begins, Delays, Sends, Hears, changed, after_changes, IsOrdered, IsWithinLimits}
 use Rattle.srm_member.specs.IntervalLaws.{HasNoRoom, ConstantsStayWithinLimits, WithoutRoomConstantsStay}
 
 -- start and width are within their limits
 abbrev AreWithin : Limits → Limits → Interval → Type 0
-AreWithin start width i = IsWithin start i.start × IsWithin width i.width
+AreWithin start width i = IsWithinLimits start i.start × IsWithinLimits width i.width
 
-within_limits : (l : Limits) (x : ℕ) → IsOrdered l → IsWithin l (within l x)
+within_limits : (l : Limits) (x : ℕ) → IsOrdered l → IsWithinLimits l (within l x)
 within_limits l x h = (omega arith, omega arith)
 
 adapted_within : (start width : Limits) → IsOrdered start → IsOrdered width → (o : Option ℕ) (i : Interval)
@@ -35,7 +35,7 @@ constants_stay_within_limits start width cs hs hw = always_within start width hs
 ordered_without_room : (l : Limits) → HasNoRoom l → IsOrdered l
 ordered_without_room l h = (omega arith, omega arith)
 
-only_first : (l : Limits) (x : ℕ) → HasNoRoom l → IsWithin l x → x ≡ l.first
+only_first : (l : Limits) (x : ℕ) → HasNoRoom l → IsWithinLimits l x → x ≡ l.first
 only_first l x h w = omega arith
 
 pub without_room_constants_stay : WithoutRoomConstantsStay

@@ -32,14 +32,14 @@ abbrev pub IsOrdered : Limits → Type 0
 IsOrdered l = (l.least ≤ l.first) × (l.first ≤ l.most)
 
 -- a constant is neither below its least nor above its most
-abbrev pub IsWithin : Limits → ℕ → Type 0
-IsWithin l x = (l.least ≤ x) × (x ≤ l.most)
+abbrev pub IsWithinLimits : Limits → ℕ → Type 0
+IsWithinLimits l x = (l.least ≤ x) × (x ≤ l.most)
 
 -- start and width stay within their limits
 abbrev pub ConstantsStayWithinLimits : Type 0
 ConstantsStayWithinLimits =
     (start width : Limits) (cs : List Change) → IsOrdered start → IsOrdered width
-    → let i = interval_after start width cs in IsWithin start i.start × IsWithin width i.width
+    → let i = interval_after start width cs in IsWithinLimits start i.start × IsWithinLimits width i.width
 
 -- least, first value and most are one
 abbrev pub HasNoRoom : Limits → Type 0

@@ -36,8 +36,8 @@ is_at_time t None = false
 is_at_time t (Some x) = x == t
 
 -- the names of the entries rise
-abbrev pub Rises : {V : Type 0} → List (Name × V) → Type 0
-Rises es = T (is_sorted name_cmp es)
+abbrev pub RisesByName : {V : Type 0} → List (Name × V) → Type 0
+RisesByName es = T (is_sorted name_cmp es)
 
 -- whether the index has a timer
 abbrev pub has : List Due → Due → Bool
@@ -51,6 +51,6 @@ IsFirst index (Some d) = (has index d ≡ true) × ((e : Due) → has index e �
 -- the keys of both tables rise, and the index has a timer exactly where it is pending
 pub record IsIndexed (index : List Due) (missing : List (Name × Missing))
     (repairs : List (Name × Repairing)) : Type 0 where
-  pub missing_rise : Rises missing
-  pub repairs_rise : Rises repairs
+  pub missing_rise : RisesByName missing
+  pub repairs_rise : RisesByName repairs
   pub timers : (d : Due) → has index d ≡ is_at_time d.time (expiry_of missing repairs d.rank d.name)

@@ -7,7 +7,7 @@ use crate::fault::MemberFault;
 /// way.
 ///
 /// # Errors
-/// [`MemberFault::Spent`] exactly where the member is gone.
+/// `Spent` exactly where the member is gone: it is as it was. Nothing is allocated.
 pub fn begin(gone: &mut bool) -> Result<(), MemberFault>
     ensures here { OnOk result (gone.old ≡ false) }
     ensures spent { IfErr result (λ e. e ≡ MemberFault.Spent) }

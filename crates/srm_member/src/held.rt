@@ -21,13 +21,13 @@ pub struct Held {
 impl Model for Held {
     ghost use Rattle.std.specs.Prelude.{List, ℕ};
     ghost use Rattle.srm_net.specs.declared.packet.Name.{Name as Key};
-    ghost use Rattle.srm_member.specs.Pending.{Rises};
+    ghost use Rattle.srm_member.specs.Pending.{RisesByName};
 
     ghost Value = { List (Key × ℕ) };
 
     ghost view = { λ h. h.entries.items };
 
-    ghost invariant = { λ h. Rises h.entries.items };
+    ghost invariant = { λ h. RisesByName h.entries.items };
 }
 
 impl Held {
@@ -105,7 +105,7 @@ impl Held {
     /// Holds a name with this ink.
     ///
     /// # Errors
-    /// Memory was refused; all is then as it was.
+    /// [`AllocError`]: all is then as it was.
     pub fn put(&mut self, name: Name, ink: u32) -> Result<(), AllocError>
         ensures ok { OnOk result (self.new ≡ put name_cmp name ink self.old) }
         ensures err { OnErr result (self.new ≡ self.old) }
@@ -122,7 +122,7 @@ impl Held {
     /// The names, rising, each with its ink.
     ///
     /// # Errors
-    /// Memory was refused.
+    /// [`AllocError`].
     pub fn entries(&self, alloc: Global) -> Result<Sequence<(Name, u32)>, AllocError>
         ensures { IfOk result (λ es. es ≡ self.now) }
     {

@@ -165,7 +165,7 @@ impl Interval {
         self.sent_first = true;
     }
 
-    /// Hears a duplicate, of which up to 1,000,000 are counted in a period. It does not allocate.
+    /// Hears a duplicate, of which up to 1,000,000 (`MOST_DUPLICATES`) are counted in a period. It does not allocate.
     pub fn hear_duplicate(&mut self)
         ensures { self.new ≡ hear_duplicate self.old }
     {

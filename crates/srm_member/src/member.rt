@@ -30,7 +30,7 @@ pub trait Member: Send + Drop {
     /// Handles a cause at a time, in ticks, below 2^40.
     ///
     /// # Errors
-    /// [`MemberFault::Spent`] exactly where the member is gone, and else [`MemberFault::NoMemory`] alone.
+    /// `Spent` exactly where the member is gone: it is then as it was. Else `NoMemory` alone: it is then gone.
     fn react(&mut self, alloc: Global, at: u64, cause: &Cause) -> Result<React, MemberFault>
         requires { at < end_of_time }
         ensures { Reacts (plain self.old) at cause.now result (plain self.new) };
@@ -38,7 +38,7 @@ pub trait Member: Send + Drop {
     /// Ends the member, and gives what it holds and lacks. It is gone then, whatever is answered.
     ///
     /// # Errors
-    /// [`MemberFault::Spent`] exactly where the member was gone, and else [`MemberFault::NoMemory`] alone.
+    /// `Spent` exactly where the member was gone, and else `NoMemory` alone. It is gone, whatever the answer.
     fn finish(&mut self, alloc: Global) -> Result<Exit, MemberFault>
         ensures { Finishes (plain self.old) result (plain self.new) };
 }

@@ -523,7 +523,7 @@ impl MemberState {
         }
     }
 
-    /// A sender draws, up to 4,096 operations on a page.
+    /// A sender draws, up to 4,096 (`MOST_DRAWN`) operations on a page.
     #[tactic(auto, unfolding(crate::specs::React::draw_operation))]
     pub fn draw_op(&mut self, alloc: Global, page: u16, ink: u32) -> Result<React, AllocError>
         ensures ok { IfOk result (λ a. Gives a self.new (draw_operation page ink self.old)) }

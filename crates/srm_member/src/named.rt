@@ -45,7 +45,7 @@ impl<V: Copy> Named<V> {
     /// Gives a name this value.
     ///
     /// # Errors
-    /// Memory was refused; the map is then as it was.
+    /// [`AllocError`]: the map is then as it was.
     pub fn put(&mut self, name: Name, value: V) -> Result<(), AllocError>
         ensures ok { OnOk result (self.new ≡ put name_cmp name value self.old) }
         ensures err { OnErr result (self.new ≡ self.old) }
@@ -69,7 +69,7 @@ impl<V: Copy> Named<V> {
     /// The names, rising.
     ///
     /// # Errors
-    /// Memory was refused.
+    /// [`AllocError`].
     pub fn names(&self, alloc: Global) -> Result<Sequence<Name>, AllocError>
         ensures { IfOk result (λ ns. ns ≡ map (λ e. e.0) self.now) }
     {

@@ -4,7 +4,7 @@ ghost use Rattle.std.specs.FinMap.Entries.{put, find};
 ghost use Rattle.srm_net.specs.Names.{name_cmp};
 ghost use Rattle.srm_member.specs.Record.{earliest};
 ghost use Rattle.srm_member.specs.React.{without};
-ghost use Rattle.srm_member.specs.Pending.{Rises, pending_timers, request_timer, repair_timer};
+ghost use Rattle.srm_member.specs.Pending.{RisesByName, pending_timers, request_timer, repair_timer};
 
 use crate::due::Due;
 use crate::entries::{Missing, Repairing};
@@ -96,7 +96,7 @@ impl Pending {
 
     /// Forgets that a name was missing, which ends its request timer.
     pub fn forget_missing(&mut self, name: Name)
-        ensures rising { Rises self.old.0 }
+        ensures rising { RisesByName self.old.0 }
         ensures left { self.new ≡ (without name self.old.0, self.old.1) }
     {
         if let Some(before) = self.missing.take(name) {
@@ -122,7 +122,7 @@ impl Pending {
 
     /// Forgets a repair that was planned, which ends its timer.
     pub fn forget_repair(&mut self, name: Name)
-        ensures rising { Rises self.old.1 }
+        ensures rising { RisesByName self.old.1 }
         ensures left { self.new ≡ (self.old.0, without name self.old.1) }
     {
         if let Some(before) = self.repairs.take(name) {

@@ -79,7 +79,7 @@ impl Recovery {
     /// The member joins. It does not allocate.
     ///
     /// # Errors
-    /// [`MemberFault::Spent`] exactly where the member is gone.
+    /// `Spent` exactly where the member is gone: it is as it was. Nothing is allocated.
     pub fn join(&mut self, alloc: Global) -> Result<React, MemberFault>
         ensures reacts { (at : ℕ) → Reacts self.old at Join result self.new }
         ensures spent_alone { IfErr result (λ e. e ≡ MemberFault.Spent) }
@@ -97,7 +97,7 @@ impl Recovery {
     /// A packet arrives at a time, in ticks, below 2^40.
     ///
     /// # Errors
-    /// `Spent` where the member is gone already, and else `NoMemory`, after which it is.
+    /// As of [`Member::react`](crate::member::Member::react): `Spent` and `NoMemory`.
     pub fn hear(&mut self, alloc: Global, at: u64, packet: &Packet) -> Result<React, MemberFault>
         requires { at < end_of_time }
         ensures { Reacts self.old at (Arrival packet.now) result self.new }
@@ -111,7 +111,7 @@ impl Recovery {
     /// The request timer of a name expires at a time, in ticks, below 2^40.
     ///
     /// # Errors
-    /// `Spent` where the member is gone already, and else `NoMemory`, after which it is.
+    /// As of [`Member::react`](crate::member::Member::react): `Spent` and `NoMemory`.
     pub fn ask(&mut self, alloc: Global, at: u64, name: Name) -> Result<React, MemberFault>
         requires { at < end_of_time }
         ensures { Reacts self.old at (Ask name) result self.new }
@@ -125,7 +125,7 @@ impl Recovery {
     /// The repair timer of a name expires at a time, in ticks, below 2^40.
     ///
     /// # Errors
-    /// `Spent` where the member is gone already, and else `NoMemory`, after which it is.
+    /// As of [`Member::react`](crate::member::Member::react): `Spent` and `NoMemory`.
     pub fn answer(&mut self, alloc: Global, at: u64, name: Name) -> Result<React, MemberFault>
         requires { at < end_of_time }
         ensures { Reacts self.old at (Answer name) result self.new }
@@ -139,7 +139,7 @@ impl Recovery {
     /// The member is to draw on a page at a time, in ticks.
     ///
     /// # Errors
-    /// `Spent` where the member is gone already, and else `NoMemory`, after which it is.
+    /// As of [`Member::react`](crate::member::Member::react): `Spent` and `NoMemory`.
     pub fn draw_op(
         &mut self,
         alloc: Global,
@@ -158,7 +158,7 @@ impl Recovery {
     /// The member is to send a session message.
     ///
     /// # Errors
-    /// `Spent` where the member is gone already, and else `NoMemory`, after which it is.
+    /// As of [`Member::react`](crate::member::Member::react): `Spent` and `NoMemory`.
     pub fn report(&mut self, alloc: Global) -> Result<React, MemberFault>
         ensures { (at : ℕ) → Reacts self.old at Report result self.new }
     {
@@ -171,7 +171,7 @@ impl Recovery {
     /// Handles a cause at a time, in ticks, below 2^40.
     ///
     /// # Errors
-    /// `Spent` where the member is gone already, and else `NoMemory`, after which it is.
+    /// As of [`Member::react`](crate::member::Member::react): `Spent` and `NoMemory`.
     pub fn react(&mut self, alloc: Global, at: u64, cause: &Cause) -> Result<React, MemberFault>
         requires { at < end_of_time }
         ensures { Reacts self.old at cause.now result self.new }
@@ -189,7 +189,7 @@ impl Recovery {
     /// Ends the member, and gives what it holds and lacks. It is gone then, whatever the answer.
     ///
     /// # Errors
-    /// `Spent` where the member is gone already, and else `NoMemory`.
+    /// As of [`Member::finish`](crate::member::Member::finish): `Spent` and `NoMemory`.
     pub fn finish(&mut self, alloc: Global) -> Result<Exit, MemberFault>
         ensures { Finishes self.old result self.new }
     {

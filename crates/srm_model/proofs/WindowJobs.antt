@@ -17,7 +17,7 @@ use Rattle.srm_cell.specs.OwnRuns.{MeetsFull}
 use Rattle.srm_ledger.specs.declared.kind.Kind.{Kind}
 use Rattle.srm_ledger.specs.declared.kind.Kind.TheVariants.{Drawop, Request, Repair, Session}
 use Rattle.srm_ledger.specs.Counts.{place_of}
-use Rattle.srm_cell.specs.Crossings.{packets_of, kind_of, crossings_at, crossings, added}
+use Rattle.srm_cell.specs.Crossings.{packets_of, kind_of, crossings_at, crossings, added_each}
 use Rattle.srm_cell.proofs.CrossingLemmas.{crossings_add}
 use Rattle.srm_cell.specs.Crossings.{joined}
 use Rattle.srm_cell.proofs.RowPackets.{joined-append}
@@ -195,7 +195,7 @@ joined-jobs (rs ∷ rss) =
 
 crossings-joined : (s : Setting) (lists : List (List Row)) → crossings_of_all s.traffic lists ≡ crossings s.traffic (joined lists)
 crossings-joined s [] = refl
-crossings-joined s (rows ∷ lists) = ap (added (crossings s.traffic rows)) (crossings-joined s lists)
+crossings-joined s (rows ∷ lists) = ap (added_each (crossings s.traffic rows)) (crossings-joined s lists)
     ∙ sym (crossings_add s.traffic rows (joined lists))
 
 pub crossings_are_totals : CrossingsAreTotals
@@ -203,4 +203,4 @@ crossings_are_totals s trace rows rss merge =
     let all : crossings_of_all s.traffic (job_rows rss) ≡ crossings s.traffic rows =
     crossings-joined s (job_rows rss) ∙ ap (crossings s.traffic) (joined-jobs rss)
     ∙ crossings_keep s (joined (rows_in (joined rss))) rows merge.all in
-    ap (added (crossings s.traffic trace)) all ∙ sym (crossings_add s.traffic trace rows)
+    ap (added_each (crossings s.traffic trace)) all ∙ sym (crossings_add s.traffic trace rows)

@@ -6,7 +6,7 @@ use Rattle.srm_scenario.specs.Accepted.{IsAccepted}
 use Rattle.srm_member.specs.declared.row.Row.{Row}
 use Rattle.srm_cell.specs.Setting.{Setting, IsFit, setting_of}
 use Rattle.srm_cell.specs.Cells.{PlainCell, Event}
-use Rattle.srm_cell.specs.Crossings.{crossings, added}
+use Rattle.srm_cell.specs.Crossings.{crossings, added_each}
 use Rattle.srm_model.specs.World.{World, row_cmp, IsReached, IsLast, RunMeetsFull}
 use Rattle.srm_model.specs.Schedules.{IsSafe, HasResult, HasNoResult}
 use Rattle.srm_model.specs.Windows.{IsWidth, promise_end, IsFirstQuiet}
@@ -91,7 +91,7 @@ CrossingsKeep = (s : Setting) (qs rs : List Row) → IsPermutation qs rs → cro
 abbrev pub CrossingsAreTotals : Type 0
 CrossingsAreTotals =
     (s : Setting) (trace rows : List Row) (results : List (List OwnResult)) → IsMerge (rows_in (joined results)) rows
-    → added (crossings s.traffic trace) (crossings_of_all s.traffic (job_rows results))
+    → added_each (crossings s.traffic trace) (crossings_of_all s.traffic (job_rows results))
     ≡ crossings s.traffic (trace ++ rows)
 
 -- ---- ends

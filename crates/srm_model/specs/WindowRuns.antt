@@ -6,7 +6,7 @@ use Rattle.srm_member.specs.declared.row.Row.{Row}
 use Rattle.srm_cell.specs.Setting.{Traffic, Setting}
 use Rattle.srm_cell.specs.Cells.{PlainCell}
 use Rattle.srm_cell.specs.OwnRuns.{IsOwnRun, MeetsFull, hear_rows}
-use Rattle.srm_cell.specs.Crossings.{crossings, added}
+use Rattle.srm_cell.specs.Crossings.{crossings, added_each}
 use Rattle.srm_model.specs.World.{World, row_cmp}
 use Rattle.srm_model.specs.Hearing.{IsNew}
 use Rattle.srm_cell.specs.Crossings.{joined}
@@ -65,7 +65,7 @@ pub record IsWindow (s : Setting) (end : ℕ) (w v : World) : Type 0 where
 -- the crossings of the rows of each list, added up
 abbrev pub crossings_of_all : Traffic → List (List Row) → List ℕ
 crossings_of_all t [] = crossings t []
-crossings_of_all t (rows ∷ lists) = added (crossings t rows) (crossings_of_all t lists)
+crossings_of_all t (rows ∷ lists) = added_each (crossings t rows) (crossings_of_all t lists)
 
 -- ---- jobs
 

@@ -8,17 +8,17 @@ use Rattle.srm_net.specs.declared.earlier.Earlier.{Earlier}
 use Rattle.srm_net.specs.declared.adjacency.Adjacency.{Adjacency}
 use Rattle.srm_net.specs.Network.{Joins}
 use Rattle.srm_net.specs.Tables.{far_from}
-use Rattle.srm_net.specs.Adjacencies.{meets, last_meeting, TellsEarlier, TellsLinks}
+use Rattle.srm_net.specs.Adjacencies.{meets_node, last_meeting, TellsEarlier, TellsLinks}
 use Rattle.srm_net.proofs.Lists.{get_index, index_get, get_push_old, get_push_new}
 use Rattle.srm_net.proofs.Walks.{same_far}
 
 -- ---- a link that meets a node
 
-pub meets_joined : (k : LinkSpec) (u x : ℕ) → Joins k u x → meets u (Some k) ≡ true
+pub meets_joined : (k : LinkSpec) (u x : ℕ) → Joins k u x → meets_node u (Some k) ≡ true
 meets_joined k u x (inl p) = or_left _ _ (eq-eqb k.a u p.0)
 meets_joined k u x (inr p) = or_right _ _ (eq-eqb k.b u p.0)
 
-pub joins_other : (k : LinkSpec) (u : ℕ) → meets u (Some k) ≡ true → Joins k u (far_from k u)
+pub joins_other : (k : LinkSpec) (u : ℕ) → meets_node u (Some k) ≡ true → Joins k u (far_from k u)
 joins_other k u m =
     elim (cases_Bool (eqb k.a u)) [
       | inl e ↦ rw e (inl (eqb-true k.a u e, refl))
@@ -33,52 +33,52 @@ other_is k u x j = same_far k u (far_from k u) x (joins_other k u (meets_joined 
 pub last_at_most : (links : List LinkSpec) (u n : ℕ) → last_meeting links u n ≤ n
 last_at_most links u zero = omega arith
 last_at_most links u (suc n) =
-    elim (cases_Bool (meets u (slice_get links n))) [
+    elim (cases_Bool (meets_node u (slice_get links n))) [
       | inl e ↦ rw e (omega arith)
       | inr e ↦ rw e (let k = last_at_most links u n in omega arith)
     ]
 
 -- no later one meets the node
-pub last_misses : (links : List LinkSpec) (u n l : ℕ) → last_meeting links u n ≤ l → l < n → meets u (slice_get links l) ≡ false
+pub last_misses : (links : List LinkSpec) (u n l : ℕ) → last_meeting links u n ≤ l → l < n → meets_node u (slice_get links l) ≡ false
 last_misses links u zero l h lt = absurd (omega arith)
 last_misses links u (suc n) l h lt =
-    elim (cases_Bool (meets u (slice_get links n))) [
+    elim (cases_Bool (meets_node u (slice_get links n))) [
       | inl e ↦ (let g : n + 1 ≤ l = rw e at h in absurd (omega arith))
       | inr e ↦ (let g : last_meeting links u n ≤ l = rw e at h in
           elim (cases_eq l n) [
-            | inl q ↦ subst (λ t. meets u (slice_get links t) ≡ false) (sym q) e
+            | inl q ↦ subst (λ t. meets_node u (slice_get links t) ≡ false) (sym q) e
             | inr q ↦ last_misses links u n l g (omega arith)
           ])
     ]
 
 pub record Met (links : List LinkSpec) (u n m : ℕ) : Type 0 where
   pub below : m < n
-  pub met : meets u (slice_get links m) ≡ true
+  pub met : meets_node u (slice_get links m) ≡ true
 
 pub last_meets : (links : List LinkSpec) (u n m : ℕ) → last_meeting links u n ≡ m + 1 → Met links u n m
 last_meets links u zero m e = absurd (omega arith)
 last_meets links u (suc n) m e =
-    elim (cases_Bool (meets u (slice_get links n))) [
+    elim (cases_Bool (meets_node u (slice_get links n))) [
       | inl q ↦ (let g : n + 1 ≡ m + 1 = rw q at e in
           let same : n ≡ m = omega arith in
-          record { below = omega arith; met = subst (λ t. meets u (slice_get links t) ≡ true) same q })
+          record { below = omega arith; met = subst (λ t. meets_node u (slice_get links t) ≡ true) same q })
       | inr q ↦ (let g : last_meeting links u n ≡ m + 1 = rw q at e in
           let r = last_meets links u n m g in
           record { below = (let k : m < n = r.below in omega arith); met = r.met })
     ]
 
-last_hit : (links : List LinkSpec) (u n : ℕ) (k : LinkSpec) → slice_get links n ≡ Some k → meets u (Some k) ≡ true
+last_hit : (links : List LinkSpec) (u n : ℕ) (k : LinkSpec) → slice_get links n ≡ Some k → meets_node u (Some k) ≡ true
     → last_meeting links u (n + 1) ≡ n + 1
 last_hit links u n k g m =
     let e : n + 1 ≡ suc n = omega arith in
-    let here : meets u (slice_get links n) ≡ true = ap (meets u) g ∙ m in
+    let here : meets_node u (slice_get links n) ≡ true = ap (meets_node u) g ∙ m in
     ap (last_meeting links u) e ∙ rw here refl
 
-last_kept : (links : List LinkSpec) (u n : ℕ) (k : LinkSpec) → slice_get links n ≡ Some k → meets u (Some k) ≡ false
+last_kept : (links : List LinkSpec) (u n : ℕ) (k : LinkSpec) → slice_get links n ≡ Some k → meets_node u (Some k) ≡ false
     → last_meeting links u (n + 1) ≡ last_meeting links u n
 last_kept links u n k g m =
     let e : n + 1 ≡ suc n = omega arith in
-    let here : meets u (slice_get links n) ≡ false = ap (meets u) g ∙ m in
+    let here : meets_node u (slice_get links n) ≡ false = ap (meets_node u) g ∙ m in
     ap (last_meeting links u) e ∙ rw here refl
 
 -- ---- one link more
@@ -132,7 +132,7 @@ no_link = record { a = 0; b = 0; delay = 0; back = 0 }
 pub record Turn (links : List LinkSpec) (u m : ℕ) : Type 0 where
   pub below : m < length links
   pub link : slice_get links m ≡ Some (get_or links m no_link)
-  pub meets_it : meets u (Some (get_or links m no_link)) ≡ true
+  pub meets_it : meets_node u (Some (get_or links m no_link)) ≡ true
   pub joins : Joins (get_or links m no_link) u (far_from (get_or links m no_link) u)
 
 pub turn_told : (links : List LinkSpec) (u n next m : ℕ) → n ≤ length links → next ≡ last_meeting links u n → next ≡ m + 1 → Turn links u m
@@ -140,11 +140,11 @@ turn_told links u n next m le e f =
     let r = last_meets links u n m (sym e ∙ f) in
     let below : m < length links = (let b : m < n = r.below in omega arith) in
     let g : slice_get links m ≡ Some (get_or links m no_link) = index_get links m no_link below in
-    let here : meets u (Some (get_or links m no_link)) ≡ true = sym (ap (meets u) g) ∙ r.met in
+    let here : meets_node u (Some (get_or links m no_link)) ≡ true = sym (ap (meets_node u) g) ∙ r.met in
     record { below = below; link = g; meets_it = here; joins = joins_other (get_or links m no_link) u here }
 
 -- what is told of the link's end is the link before
-pub before_is : (links : List LinkSpec) (u l : ℕ) (k : LinkSpec) (e : Earlier) → meets u (Some k) ≡ true → TellsEarlier links l k e
+pub before_is : (links : List LinkSpec) (u l : ℕ) (k : LinkSpec) (e : Earlier) → meets_node u (Some k) ≡ true → TellsEarlier links l k e
     → cond (eqb k.a u) e.a e.b ≡ last_meeting links u l
 before_is links u l k e m t =
     elim (cases_Bool (eqb k.a u)) [
@@ -170,6 +170,6 @@ pub told_from : (links : List LinkSpec) (u before m l : ℕ) (k : LinkSpec) (x :
     → slice_get links l ≡ Some k → Joins k u x → m ≤ l
 told_from links u before m l k x e le g j =
     elim (cases_lt l m) [
-      | inl lt ↦ absurd (both_ways _ (last_misses links u m l (omega arith) lt) (ap (meets u) g ∙ meets_joined k u x j))
+      | inl lt ↦ absurd (both_ways _ (last_misses links u m l (omega arith) lt) (ap (meets_node u) g ∙ meets_joined k u x j))
       | inr ge ↦ ge
     ]

@@ -9,7 +9,7 @@ use Rattle.srm_net.specs.Paths.{is_in}
 use Rattle.srm_net.specs.Growth.{Attaches, attached, used, Grows, beyond}
 use Rattle.srm_net.proofs.Lists.{get_below, all_get}
 use Rattle.srm_net.proofs.Numbers.{Apart, Below, in_head, in_tail, in_cases, not_head, not_tail, not_in, all_below, one_missing}
-use Rattle.srm_net.proofs.Walks.{same_ends, same_link, turned, HasCuts}
+use Rattle.srm_net.proofs.Walks.{same_ends, same_link, turned, IsCut, HasCuts}
 
 pub attached_length : (ss : List Step) → length (attached ss) ≡ length ss + 1
 attached_length [] = refl
@@ -144,9 +144,11 @@ all_attached nodes links ss n a g e x h =
     all_below nodes (attached ss) (attached_apart links ss g) (attached_below nodes links ss n a g)
     (let k = attached_length ss in omega arith) x h
 
+pub grown_cut : (links : List LinkSpec) (ss : List Step) → Grows links ss → length ss ≡ length links → (l : ℕ) → IsCut links l (beyond ss l)
+grown_cut links ss g e l m k u x i j = beyond_over links ss g l m k u x (all_used links ss g e m (get_below links m k i)) i j
+
 pub grown_cuts : (links : List LinkSpec) (ss : List Step) → Grows links ss → length ss ≡ length links → HasCuts links
-grown_cuts links ss g e l =
-    (beyond ss l, λ m k u x i j. beyond_over links ss g l m k u x (all_used links ss g e m (get_below links m k i)) i j)
+grown_cuts links ss g e l = (beyond ss l, grown_cut links ss g e l)
 
 -- ---- growing
 

@@ -11,7 +11,6 @@ pub mod Growing
 pub mod RouteLemmas
 pub mod PathLaws
 pub mod BuiltLemmas
-pub mod WayLemmas
 pub mod TreeWays
 pub mod OrderLemmas
 pub mod ToldLemmas
@@ -23,4 +22,6 @@ pub mod OutageLemmas
 pub mod OnePaths
 pub mod SpreadLemmas
 pub mod Rootings
-pub mod Nearer
+pub mod Subtrees
+pub mod Beyond
+pub mod Firsts

@@ -1,10 +1,7 @@
 -- Elements of lists by their numbers.
-use Rattle.std.proofs.Common.{◌≡◌, ◌≢◌, ℕ, zero, suc, ◌+◌, ◌*◌, ◌<◌, ◌==◌, ◌&&◌, cond, inl, inr, eq-eqb, slice_set, List, [], ◌∷◌, ◌++◌}
+use Rattle.std.proofs.Common.{◌≡◌, ◌≢◌, ℕ, zero, suc, ◌<◌, slice_set, List, [], ◌∷◌, ◌++◌}
 use Rattle.std.proofs.Common.{Bool, false, length, Some, refl, ap, ◌∙◌, sym, arith, slice_get, slice_index_or, All}
-use Rattle.std.proofs.lemmas.Bool.{ne_eqb, cases_eq}
 use Rattle.std.proofs.lemmas.List.{get_or_default}
-use Rattle.std.proofs.lemmas.Nat.{mul-add-lt, same_from_place}
-use Rattle.srm_net.specs.Grids.{cell}
 
 pub get_below : {A : Type 0} (xs : List A) (i : ℕ) (x : A) → slice_get xs i ≡ Some x → i < length xs
 get_below [] i x h = cc
@@ -54,29 +51,6 @@ get_set_other (y ∷ ys) zero zero x n = absurd (n refl)
 get_set_other (y ∷ ys) zero (suc j) x n = refl
 get_set_other (y ∷ ys) (suc i) zero x n = refl
 get_set_other (y ∷ ys) (suc i) (suc j) x n = get_set_other ys i j x (λ e. n (ap suc e))
-
--- ---- writing a value into a table
-
--- a value put into a row and a column stands there, and each other stays
-pub cell_put : {A : Type 0} (width : ℕ) (xs : List A) (row column : ℕ) (x : A) → length xs ≡ width * width → row < width → column < width
-    → (r c : ℕ) → c < width
-    → cell width (slice_set xs (row * width + column) x) r c ≡ cond ((r == row) && (c == column)) (Some x) (cell width xs r c)
-cell_put width xs row column x e hr hc r c h =
-    elim (cases_eq r row) [
-      | inl p ↦ elim (cases_eq c column) [
-        | inl q ↦
-            (let fits : row * width + column < width * width = mul-add-lt row width column width hr hc in
-            let same : r * width + c ≡ row * width + column = ap (λ t. t * width + c) p ∙ ap (λ t. row * width + t) q in
-            ap (slice_get (slice_set xs (row * width + column) x)) same ∙ get_set_same xs (row * width + column) x (omega arith)
-            ∙ sym (rw (eq-eqb r row p, eq-eqb c column q) refl))
-        | inr n ↦
-            get_set_other xs (row * width + column) (r * width + c) x (λ s. n ((same_from_place r c row column width h hc (sym s)).1))
-            ∙ sym (rw (eq-eqb r row p, ne_eqb c column n) refl)
-      ]
-      | inr n ↦
-          get_set_other xs (row * width + column) (r * width + c) x (λ s. n ((same_from_place r c row column width h hc (sym s)).0))
-          ∙ sym (rw (ne_eqb r row n) refl)
-    ]
 
 -- ---- one element more
 

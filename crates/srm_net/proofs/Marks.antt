@@ -6,7 +6,7 @@ use Rattle.std.proofs.lemmas.List.{length-replicate, get_or-set_same, get_or-set
 use Rattle.srm_net.specs.declared.step.Step.{Step}
 use Rattle.srm_net.specs.Growth.{attached}
 use Rattle.srm_net.specs.Paths.{is_in}
-use Rattle.srm_net.specs.Ways.{is_known}
+use Rattle.srm_net.specs.Known.{is_known}
 use Rattle.srm_net.proofs.DropLemmas.{any_push}
 
 -- of the nodes, those of this list are marked

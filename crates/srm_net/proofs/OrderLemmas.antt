@@ -8,7 +8,6 @@ use Rattle.srm_net.specs.Growth.{Grows}
 use Rattle.srm_net.specs.declared.position.Position.{Position}
 use Rattle.srm_net.specs.Paths.{route}
 use Rattle.srm_net.specs.Rooting.{IsRooted, TellsPositions}
-use Rattle.srm_net.specs.Ways.{TellsWays}
 use Rattle.srm_net.specs.declared.tree.Tree.TheInside.{Inside}
 use Rattle.srm_net.specs.Built.{IsBuilt}
 use Rattle.srm_net.proofs.Numbers.{distinct_from_apart}
@@ -58,20 +57,23 @@ rooted_of_any nodes links hs gs ps r = record {
         parent = λ some.
             let h = p.parent some in
             record { node = h.node; earlier = h.earlier; link = h.link; leads = h.leads; route = h.route };
+        subtree = λ some. let h = p.subtree some in record { own = h.own; within = h.within; whole = h.whole };
         jump = record { node = p.jump.node; there = p.jump.there; back = p.jump.back };
         jump_earlier = p.jump_earlier;
         jump_above = p.jump_above;
         up = p.up;
         down = p.down;
       };
+  whole = r.whole;
+  nested = r.nested;
 }
 
--- a tree whose parts were checked is a network with its ways
+-- a tree whose parts were checked is a network with the positions of its nodes
 pub built_tree : (t : Inside) (links : List LinkSpec) (hosts : List ℕ) → t.links.items ≡ links → t.hosts.items ≡ hosts
-    → IsTree (plain_network t.nodes links []) → All HasDelays links → AreHosts t.nodes hosts → TellsWays t.nodes links t.ways
+    → IsTree (plain_network t.nodes links []) → All HasDelays links → AreHosts t.nodes hosts
     → IsRooted (plain_network t.nodes links []) t.rooted.positions.items → IsBuilt t
 unfolding TellsPositions
-built_tree t links hosts e f tree delays are ways rooted =
+built_tree t links hosts e f tree delays are rooted =
     let whole : IsNetwork (plain_network t.nodes links hosts) = record
     { tree = tree_of_any t.nodes links [] hosts tree; delays = delays; hosts = are } in
     let here : IsNetwork (plain_network t.nodes t.links.items t.hosts.items) =
@@ -79,7 +81,6 @@ built_tree t links hosts e f tree delays are ways rooted =
     (subst (λ ls. IsNetwork (plain_network t.nodes ls hosts)) (sym e) whole) in
     record {
       network = here;
-      ways = subst (λ ls. TellsWays t.nodes ls t.ways) (sym e) ways;
       rooted = subst (λ hs. IsRooted (plain_network t.nodes t.links.items hs) t.rooted.positions.items) (sym f)
           (subst (λ ls. IsRooted (plain_network t.nodes ls hosts) t.rooted.positions.items) (sym e)
           (rooted_of_any t.nodes links [] hosts t.rooted.positions.items rooted));

@@ -9,10 +9,10 @@ use Rattle.std.proofs.lemmas.List.{get_or-set_same, get_or-set_other}
 use Rattle.srm_net.specs.declared.link.LinkSpec.{LinkSpec}
 use Rattle.srm_net.specs.declared.position.Position.{Position}
 use Rattle.srm_net.specs.declared.step.Step.{Step}
-use Rattle.srm_net.specs.Growth.{Attaches, attached, Grows}
+use Rattle.srm_net.specs.Growth.{Attaches, attached, Grows, place_in}
 use Rattle.srm_net.specs.Network.{Network, Joins, IsWalk, IsTree, HasDelays, AreHosts, IsNetwork}
 use Rattle.srm_net.specs.Paths.{is_in, route, delay_of, delay_along}
-use Rattle.srm_net.specs.Rooting.{takes, nowhere, at, IsParent, IsPassed, IsPosition, IsRooted}
+use Rattle.srm_net.specs.Rooting.{takes, nowhere, at, IsParent, IsPassed, IsSubtree, IsPosition, IsRooted}
 use Rattle.srm_net.proofs.Lists.{get_below}
 use Rattle.srm_net.proofs.Numbers.{in_head, in_tail, in_cases, not_in, distinct_from_apart}
 use Rattle.srm_net.proofs.Walks.{turned}
@@ -24,22 +24,17 @@ use Rattle.srm_net.proofs.SpreadLemmas.{end_joined, route_there}
 
 -- ---- places
 
--- the place of a node among those attached, the root the first
-abbrev pub place_in : List Step → ℕ → ℕ
-place_in [] v = 0
-place_in (s ∷ ss) v = cond (eqb s.node v) (length ss + 1) (place_in ss v)
-
-place_most : (ss : List Step) (v : ℕ) → place_in ss v ≤ length ss
+pub place_most : (ss : List Step) (v : ℕ) → place_in ss v ≤ length ss
 place_most [] v = omega arith
 place_most (s ∷ ss) v =
     elim (cases_Bool (eqb s.node v)) [ inl e ↦ rw e (omega arith) | inr e ↦ rw e (let k = place_most ss v in omega arith) ]
 
-in_later : (later ss : List Step) (v : ℕ) → is_in (attached ss) v ≡ true → is_in (attached (later ++ ss)) v ≡ true
+pub in_later : (later ss : List Step) (v : ℕ) → is_in (attached ss) v ≡ true → is_in (attached (later ++ ss)) v ≡ true
 in_later [] ss v i = i
 in_later (r ∷ later) ss v i = in_tail r.node v (attached (later ++ ss)) (in_later later ss v i)
 
 -- later steps leave places as they are
-place_kept : (links : List LinkSpec) (later ss : List Step) (v : ℕ) → Grows links (later ++ ss) → is_in (attached ss) v ≡ true
+pub place_kept : (links : List LinkSpec) (later ss : List Step) (v : ℕ) → Grows links (later ++ ss) → is_in (attached ss) v ≡ true
     → place_in (later ++ ss) v ≡ place_in ss v
 place_kept links [] ss v g i = refl
 place_kept links (r ∷ later) ss v g i =
@@ -222,10 +217,11 @@ module _ (w : Network) (t : IsTree w) (later : List Step) (s : Step) (ss : List 
       }
 
   pub position_new : (above far new : Position) → 1 ≤ w.nodes
+      → IsSubtree w (place_in (later ++ s ∷ ss)) s.node s.link new.end
       → IsPosition w (place_in (later ++ s ∷ ss)) s.parent above
       → IsPosition w (place_in (later ++ s ∷ ss)) above.jump far
       → Follows w.links (length ss) s above far new → IsPosition w (place_in (later ++ s ∷ ss)) s.node new
-  position_new above far new some p q f =
+  position_new above far new some sub p q f =
       let place = place_in (later ++ s ∷ ss) in
       let h = parent_of_new in
       let there = place_new in
@@ -249,6 +245,7 @@ module _ (w : Network) (t : IsTree w) (later : List Step) (s : Step) (ss : List 
         depth = omega arith;
         parent = λ _. subst (λ a. IsParent w place s.node a new.link) (sym f.parent_is)
             (subst (λ l. IsParent w place s.node s.parent l) (sym f.link_is) h);
+        subtree = λ _. subst (λ l. IsSubtree w place s.node l new.end) (sym f.link_is) sub;
         jump = jump.0;
         jump_earlier = λ _. earlier;
         jump_above = omega arith;
@@ -328,23 +325,29 @@ module _ (w : Network) (t : IsTree w) (steps : List Step) (g : Grows w.links (re
       p.jump.node (subst (λ ts. place_in ts q.jump ≤ length (reverse (take i steps))) split c)
 
   pub step_position : (above far new : Position)
+      → IsSubtree w (place_in (reverse steps)) (get_or steps i no_step).node (get_or steps i no_step).link new.end
       → IsPosition w (place_in (reverse steps)) (get_or steps i no_step).parent above
       → IsPosition w (place_in (reverse steps)) above.jump far → Follows w.links i (get_or steps i no_step) above far new
       → IsPosition w (place_in (reverse steps)) (get_or steps i no_step).node new
-  step_position above far new p q f =
+  step_position above far new sub p q f =
       subst (λ ts. IsPosition w (place_in ts) (get_or steps i no_step).node new) (sym split)
       (position_new w t (reverse (drop (i + 1) steps)) (get_or steps i no_step) (reverse (take i steps)) grown inside below above far new
       t.some_nodes
+      (subst (λ ts. IsSubtree w (place_in ts) (get_or steps i no_step).node (get_or steps i no_step).link new.end) split sub)
       (subst (λ ts. IsPosition w (place_in ts) (get_or steps i no_step).parent above) split p)
       (subst (λ ts. IsPosition w (place_in ts) above.jump far) split q)
       (subst (λ n. Follows w.links n (get_or steps i no_step) above far new) (sym count) f))
 
--- the root
-pub root_position : (w : Network) (place : ℕ → ℕ) → 1 ≤ w.nodes → place 0 ≡ 0 → IsPosition w place 0 nowhere
-root_position w place some e = record {
+-- the root, with this end
+abbrev pub root_with : ℕ → Position
+root_with end = record { place = 0; end = end; depth = 0; parent = 0; link = 0; jump = 0; up = 0; down = 0 }
+
+pub root_position : (w : Network) (place : ℕ → ℕ) (end : ℕ) → 1 ≤ w.nodes → place 0 ≡ 0 → IsPosition w place 0 (root_with end)
+root_position w place end some e = record {
   place_is = sym e;
   depth = omega arith;
   parent = λ h. absurd (omega arith);
+  subtree = λ h. absurd (omega arith);
   jump = passed_itself w place 0 some;
   jump_earlier = λ h. absurd (omega arith);
   jump_above = omega arith;
@@ -352,23 +355,28 @@ root_position w place some e = record {
   down = sym (takes_nothing w 0);
 }
 
-pub nowhere_each : (n u : ℕ) → at (replicate n nowhere) u ≡ nowhere
-nowhere_each zero u = refl
-nowhere_each (suc n) zero = refl
-nowhere_each (suc n) (suc u) = nowhere_each n u
+pub each_alike : (n u : ℕ) (q : Position) → u < n → at (replicate n q) u ≡ q
+each_alike zero u q h = absurd (omega arith)
+each_alike (suc n) zero q h = refl
+each_alike (suc n) (suc u) q h = each_alike n u q (omega arith)
 
--- one position more
-pub position_set : (w : Network) (place : ℕ → ℕ) (ss : List Step) (s : Step) (ps : List Position) (q : Position)
+-- one position more, of which each tells something
+pub position_set : (P : ℕ → Position → Type 0) (ss : List Step) (s : Step) (ps : List Position) (q : Position)
     → is_in (attached ss) s.node ≡ false → s.node < length ps
-    → ((u : ℕ) → is_in (attached ss) u ≡ true → IsPosition w place u (at ps u))
-    → IsPosition w place s.node q → (u : ℕ) → is_in (attached (s ∷ ss)) u ≡ true → IsPosition w place u (at (slice_set ps s.node q) u)
-position_set w place ss s ps q new h told here u i =
+    → ((u : ℕ) → is_in (attached ss) u ≡ true → P u (at ps u))
+    → P s.node q → (u : ℕ) → is_in (attached (s ∷ ss)) u ≡ true → P u (at (slice_set ps s.node q) u)
+position_set P ss s ps q new h told here u i =
     elim (in_cases s.node u (attached ss) i) [
-      | inl e ↦ subst (λ y. IsPosition w place y (at (slice_set ps s.node q) y)) e
-          (subst (IsPosition w place s.node) (sym (get_or-set_same ps s.node q nowhere h)) here)
+      | inl e ↦ subst (λ y. P y (at (slice_set ps s.node q) y)) e
+          (subst (P s.node) (sym (get_or-set_same ps s.node q nowhere h)) here)
       | inr j ↦ (let d : u ≢ s.node = λ e. both_ways _ new (subst (λ y. is_in (attached ss) y ≡ true) e j) in
-          subst (IsPosition w place u) (sym (get_or-set_other ps s.node u q nowhere d)) (told u j))
+          subst (P u) (sym (get_or-set_other ps s.node u q nowhere d)) (told u j))
     ]
+
+-- what is known of the end of a position while others are missing
+pub record HasEnd (ends : List ℕ) (place : ℕ → ℕ) (u : ℕ) (q : Position) : Type 0 where
+  pub is : q.end ≡ slice_index_or ends u 0
+  pub under : 1 ≤ place u → slice_index_or ends u 0 ≤ slice_index_or ends q.parent 0
 
 -- ---- a hop towards another node
 

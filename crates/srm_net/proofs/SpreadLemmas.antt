@@ -140,7 +140,8 @@ none_known w out u t n known e x b g = absurd (never n x b (ap (λ ks. slice_get
 
 -- ---- the two ends of a link
 
-first_of : (w : Network) (l : ℕ) (k : LinkSpec) → LinkOf w l k → (u x y : ℕ) → u < w.nodes → x < w.nodes → Joins k x y → (ls : List ℕ)
+-- a link at a node that is on the way from it is the first of that
+pub first_of : (w : Network) (l : ℕ) (k : LinkSpec) → LinkOf w l k → (u x y : ℕ) → u < w.nodes → x < w.nodes → Joins k x y → (ls : List ℕ)
     → route w x u ≡ ls → is_in ls l ≡ true → route w x u ≡ l ∷ route w y u
 first_of w l k o u x y hu hx j [] e i = absurd (false≢true i)
 first_of w l k o u x y hu hx j (f ∷ rest) e i =

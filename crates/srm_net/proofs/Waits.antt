@@ -9,7 +9,7 @@ use Rattle.srm_net.specs.Network.{plain_network, Joins, IsWithin, IsTree}
 use Rattle.srm_net.specs.Paths.{is_in}
 use Rattle.srm_net.specs.Growth.{Attaches, attached, Grows, beyond, IsAbove}
 use Rattle.srm_net.specs.Waiting.{targets, LeadsFrom, Wait, Adds}
-use Rattle.srm_net.specs.Ways.{is_known}
+use Rattle.srm_net.specs.Known.{is_known}
 use Rattle.srm_net.proofs.Lists.{all_get}
 use Rattle.srm_net.proofs.Marks.{KnownAre}
 use Rattle.srm_net.proofs.Numbers.{in_head, in_tail, in_append_left, in_append_right, in_cases, in_append_cases, one_missing, few_apart}

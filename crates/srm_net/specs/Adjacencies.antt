@@ -6,14 +6,14 @@ use Rattle.srm_net.specs.declared.earlier.Earlier.{Earlier}
 use Rattle.srm_net.specs.declared.adjacency.Adjacency.{Adjacency}
 
 -- whether a link, if there is one, meets node u
-abbrev pub meets : ℕ → Option LinkSpec → Bool
-meets u None = false
-meets u (Some k) = (k.a == u) || (k.b == u)
+abbrev pub meets_node : ℕ → Option LinkSpec → Bool
+meets_node u None = false
+meets_node u (Some k) = (k.a == u) || (k.b == u)
 
 -- one more than the number of the last of the first n links that meets node u, or 0 where none does
 abbrev pub last_meeting : List LinkSpec → ℕ → ℕ → ℕ
 last_meeting links u zero = 0
-last_meeting links u (suc n) = if meets u (slice_get links n) then n + 1 else last_meeting links u n
+last_meeting links u (suc n) = if meets_node u (slice_get links n) then n + 1 else last_meeting links u n
 
 -- the links before link l, this link, at its ends
 pub record TellsEarlier (links : List LinkSpec) (l : ℕ) (k : LinkSpec) (e : Earlier) : Type 0 where

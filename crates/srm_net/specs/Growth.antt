@@ -1,5 +1,6 @@
 -- A tree grown from node 0 by attaching one node after the other.
-use Rattle.std.specs.Prelude.{◌≡◌, ℕ, Bool, true, false, cond, List, [], ◌∷◌, Some, map, slice_get, ◌==◌}
+use Rattle.std.specs.Prelude.{◌≡◌, ℕ, ◌+◌, ◌<◌, ◌≤◌, Bool, true, false, cond, List, [], ◌∷◌, Some, length, map}
+use Rattle.std.specs.Prelude.{reverse, slice_get, slice_index_or, ◌==◌}
 use Rattle.srm_net.specs.declared.link.LinkSpec.{LinkSpec}
 use Rattle.srm_net.specs.declared.step.Step.{Step}
 use Rattle.srm_net.specs.Network.{Joins}
@@ -45,3 +46,26 @@ newest (s ∷ ss) = s.node
 abbrev pub IsInPreorder : List Step → Type 0
 IsInPreorder [] = Unit {0}
 IsInPreorder (s ∷ ss) = IsAbove ss s.parent (newest ss) × IsInPreorder ss
+
+-- the place of a node among those attached, the root the first
+abbrev pub place_in : List Step → ℕ → ℕ
+place_in [] v = 0
+place_in (s ∷ ss) v = cond (s.node == v) (length ss + 1) (place_in ss v)
+
+-- the nodes beyond the link of step s, as seen from node 0, have the places from its node's up to below this end
+pub record IsSpan (ss : List Step) (s : Step) (end : ℕ) : Type 0 where
+  pub own : place_in ss s.node < end
+  pub within : (x : ℕ) → is_in (attached ss) x ≡ true → beyond ss s.link x ≡ true
+      → (place_in ss s.node ≤ place_in ss x) × (place_in ss x < end)
+  pub whole : (x : ℕ) → is_in (attached ss) x ≡ true → place_in ss s.node ≤ place_in ss x → place_in ss x < end
+      → beyond ss s.link x ≡ true
+
+-- at the node of each of these steps, the oldest standing first, its end is told. It doesn't pass the one of the node
+-- above it, and that of node 0 comes after all places
+pub record TellsEnds (steps : List Step) (ends : List ℕ) : Type 0 where
+  pub spans : (i : ℕ) (s : Step) → slice_get steps i ≡ Some s
+      → IsSpan (reverse steps) s (slice_index_or ends s.node 0)
+  pub nested : (i : ℕ) (s : Step) → slice_get steps i ≡ Some s
+      → slice_index_or ends s.node 0 ≤ slice_index_or ends s.parent 0
+  pub root : (x : ℕ) → is_in (attached (reverse steps)) x ≡ true
+      → place_in (reverse steps) x < slice_index_or ends 0 0

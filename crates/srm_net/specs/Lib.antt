@@ -12,9 +12,8 @@ pub mod Least
 pub mod Outages
 pub mod OutageTables
 pub mod DropSets
-pub mod Grids
 pub mod Growth
-pub mod Ways
+pub mod Known
 pub mod Adjacencies
 pub mod Waiting
 pub mod Rooting

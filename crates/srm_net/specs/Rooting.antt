@@ -1,8 +1,8 @@
 -- Positions of nodes in a tree that is rooted at node 0.
-use Rattle.std.specs.Prelude.{◌≡◌, ℕ, ◌+◌, ◌<◌, ◌≤◌, List, ◌∷◌, length, slice_get, slice_index_or}
+use Rattle.std.specs.Prelude.{◌≡◌, ℕ, ◌+◌, ◌<◌, ◌≤◌, true, List, ◌∷◌, length, slice_get, slice_index_or}
 use Rattle.srm_net.specs.declared.position.Position.{Position}
 use Rattle.srm_net.specs.Network.{Network, IsTree}
-use Rattle.srm_net.specs.Paths.{route, end_of, delay_along}
+use Rattle.srm_net.specs.Paths.{is_in, route, end_of, delay_along}
 
 -- how long a packet takes from node u to node v
 abbrev pub takes : Network → ℕ → ℕ → ℕ
@@ -10,7 +10,7 @@ takes w u v = delay_along w.links u (route w u v)
 
 -- a position of no use but as a default
 abbrev pub nowhere : Position
-nowhere = record { place = 0; depth = 0; parent = 0; link = 0; jump = 0; up = 0; down = 0 }
+nowhere = record { place = 0; end = 0; depth = 0; parent = 0; link = 0; jump = 0; up = 0; down = 0 }
 
 -- the position of node u
 abbrev pub at : List Position → ℕ → Position
@@ -30,11 +30,18 @@ pub record IsPassed (w : Network) (place : ℕ → ℕ) (u j : ℕ) : Type 0 whe
   pub there : (v : ℕ) → v < w.nodes → place v ≤ place j → takes w u v ≡ takes w u j + takes w j v
   pub back : (v : ℕ) → v < w.nodes → place v ≤ place j → takes w v u ≡ takes w v j + takes w j u
 
+-- the nodes to which the way from node 0 takes link l have the places from the one of node u up to below this end
+pub record IsSubtree (w : Network) (place : ℕ → ℕ) (u l end : ℕ) : Type 0 where
+  pub own : place u < end
+  pub within : (x : ℕ) → x < w.nodes → is_in (route w 0 x) l ≡ true → (place u ≤ place x) × (place x < end)
+  pub whole : (x : ℕ) → x < w.nodes → place u ≤ place x → place x < end → is_in (route w 0 x) l ≡ true
+
 -- the position of node u is told
 pub record IsPosition (w : Network) (place : ℕ → ℕ) (u : ℕ) (q : Position) : Type 0 where
   pub place_is : q.place ≡ place u
   pub depth : q.depth ≤ place u
   pub parent : 1 ≤ place u → IsParent w place u q.parent q.link
+  pub subtree : 1 ≤ place u → IsSubtree w place u q.link q.end
   pub jump : IsPassed w place u q.jump
   pub jump_earlier : 1 ≤ place u → place q.jump < place u
   pub jump_above : place q.jump ≤ place u
@@ -49,7 +56,28 @@ pub record IsRooted (w : Network) (positions : List Position) : Type 0 where
   pub apart : (u v : ℕ) → u < w.nodes → v < w.nodes → place u ≡ place v → u ≡ v
   pub long : length positions ≡ w.nodes
   pub each : (u : ℕ) → u < w.nodes → IsPosition w place u (at positions u)
+  -- all nodes are below the root, and those below a node are below its parent
+  pub whole : (x : ℕ) → x < w.nodes → place x < (at positions 0).end
+  pub nested : (u : ℕ) → u < w.nodes → 1 ≤ place u → (at positions u).end ≤ (at positions (at positions u).parent).end
 
 -- the positions of the nodes of a network are told
 unfoldable pub TellsPositions : Network → List Position → Type 0
 TellsPositions w positions = IsRooted w positions
+
+-- the way from node u to node v begins with link l, which leads to node x
+pub record IsFirst (w : Network) (u v l x : ℕ) : Type 0 where
+  pub link : l < length w.links
+  pub leads : end_of u (slice_get w.links l) ≡ x
+  pub node : x < w.nodes
+  pub route : route w u v ≡ l ∷ route w x v
+
+-- a position holds the place of the node of another: that node is the one of the position, or below it
+abbrev pub IsHeld : Position → Position → Type 0
+IsHeld q p = (q.place ≤ p.place) × (p.place < q.end)
+
+-- node x is the one below node u, and next to it, that is node v or above it
+pub record IsChildAbove (w : Network) (positions : List Position) (u v x : ℕ) : Type 0 where
+  pub node : x < w.nodes
+  pub parent : (at positions x).parent ≡ u
+  pub below : (at positions u).place < (at positions x).place
+  pub held : IsHeld (at positions x) (at positions v)

@@ -5,7 +5,7 @@ use Rattle.srm_net.specs.declared.step.Step.{Step}
 use Rattle.srm_net.specs.Network.{Joins}
 use Rattle.srm_net.specs.Paths.{is_in}
 use Rattle.srm_net.specs.Growth.{attached, IsAbove}
-use Rattle.srm_net.specs.Ways.{is_known}
+use Rattle.srm_net.specs.Known.{is_known}
 
 -- the nodes to which steps lead
 abbrev pub targets : List Step → List ℕ

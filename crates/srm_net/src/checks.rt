@@ -13,14 +13,14 @@ pub(crate) fn are_within(nodes: u16, links: &[LinkSpec]) -> bool
     links.iter().all(|link| link.a < nodes && link.b < nodes)
 }
 
-/// Whether a delay is 1 to 1,000,000 ticks.
+/// Whether a delay is 1 to [`GREATEST_LINK_DELAY`] ticks.
 fn is_link_delay(delay: u64) -> bool
     ensures { IsTrue result ↔ IsLinkDelay delay }
 {
     delay >= 1 && delay <= GREATEST_LINK_DELAY
 }
 
-/// Whether each link's delays are 1 to 1,000,000 ticks, in both directions.
+/// Whether each link's delays are 1 to [`GREATEST_LINK_DELAY`] ticks, in both directions.
 pub(crate) fn have_delays(links: &[LinkSpec]) -> bool
     ensures { IsTrue result ↔ All HasDelays links.now }
 {

@@ -7,10 +7,10 @@ use std::alloc::AllocError;
 /// `build` looks for them in this order, except that memory may run out at any step.
 #[derive(Clone, Copy, Debug, PartialEq, Eq)]
 pub enum NetFault {
-    /// The number of nodes is not 1 to 1,024, an end of a link is no node, the links are not one fewer than
-    /// the nodes, or they do not connect them.
+    /// The number of nodes is not 1 to [`MOST_NODES`](crate::limits::MOST_NODES), an end of a link is no node, the links are not one
+    /// fewer than the nodes, or they do not connect them.
     NotTree,
-    /// A link's delay, in either direction, is not 1 to 1,000,000 ticks.
+    /// A link's delay, in either direction, is not 1 to [`GREATEST_LINK_DELAY`](crate::limits::GREATEST_LINK_DELAY) ticks.
     BadDelay,
     /// A member is on no node, or two share one.
     BadHost,

@@ -21,7 +21,8 @@ pub fn one_path()
     ensures { OnePath }
 {}
 
-/// Trees are exactly the networks of 1 to 1,024 nodes, each link between two of them, that have exactly one path between any two nodes.
+/// Trees are exactly the networks of 1 to [`MOST_NODES`](crate::limits::MOST_NODES) nodes, each link between two of them, that have
+/// exactly one path between any two nodes.
 pub fn trees_have_one_path()
     ensures { TreesHaveOnePath }
 {}

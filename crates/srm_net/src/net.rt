@@ -23,7 +23,6 @@ use crate::sending::Sending;
 use crate::sides::Sides;
 use crate::spread::Spread;
 use crate::tree::Tree;
-use crate::ways::Ways;
 use std::alloc::{AllocError, Global};
 use std::marker::Model;
 
@@ -57,9 +56,10 @@ impl Net {
     ///
     /// The first of these that applies, though memory may run out at any step:
     ///
-    /// 1. [`NetFault::NotTree`]: `nodes` is not 1 to 1,024, an end of a link is no node, there are not `nodes - 1`
-    ///    links, or they do not connect the nodes.
-    /// 2. [`NetFault::BadDelay`]: a delay, in either direction, is not 1 to 1,000,000 ticks.
+    /// 1. [`NetFault::NotTree`]: `nodes` is not 1 to [`MOST_NODES`](crate::limits::MOST_NODES), an end of a link is no node, there are
+    ///    not `nodes - 1` links, or they do not connect the nodes.
+    /// 2. [`NetFault::BadDelay`]: a delay, in either direction, is not 1 to
+    ///    [`GREATEST_LINK_DELAY`](crate::limits::GREATEST_LINK_DELAY) ticks.
     /// 3. [`NetFault::BadHost`]: a member is on no node, or two members share one.
     /// 4. [`NetFault::NoMemory`].
     pub fn build(
@@ -90,13 +90,11 @@ impl Net {
         if !are_fit {
             return Err(NetFault::BadHost);
         }
-        let rooted = Rooted::of(alloc, nodes, links, steps.as_slice())?;
         let tree = Tree {
             nodes,
             links: links.to_vec(alloc)?,
             hosts: hosts.to_vec(alloc)?,
-            ways: Ways::of(alloc, nodes, links, steps.as_slice())?,
-            rooted,
+            rooted: Rooted::of(alloc, nodes, links, steps.as_slice())?,
         };
         let sides = tree.all_sides(alloc)?;
         let outs = tree.all_outs(alloc)?;
@@ -109,7 +107,7 @@ impl Net {
         })
     }
 
-    /// How many members there are: at most 1,024.
+    /// How many members there are: at most [`MOST_NODES`](crate::limits::MOST_NODES).
     pub fn members(&self) -> u16
         ensures members { result ≡ length self.now.hosts }
         ensures network { IsNetwork self.now }
@@ -117,7 +115,7 @@ impl Net {
         self.tree.members()
     }
 
-    /// The links, in the order of their numbers: at most 1,023.
+    /// The links, in the order of their numbers: fewer than [`MOST_NODES`](crate::limits::MOST_NODES).
     pub fn links(&self) -> &[LinkSpec]
         ensures links { result.now ≡ self.now.links }
         ensures network { IsNetwork self.now }
@@ -232,8 +230,7 @@ impl Net {
     /// may not be dropped at all, none is, and no memory is asked for.
     ///
     /// # Errors
-    ///
-    /// Memory was refused.
+    /// [`AllocError`], only where the packet may be dropped.
     pub fn spread(
         &self,
         alloc: Global,
@@ -317,7 +314,7 @@ impl Net {
     {
         let spec = self.tree.link(link);
         let sides = self.sides[usize::from(link)];
-        if self.tree.delay(node, spec.b) < self.tree.delay(node, spec.a) {
+        if self.tree.is_beyond(link, node) {
             (spec.b, sides.a)
         } else {
             (spec.a, sides.b)

@@ -14,7 +14,7 @@ use std::alloc::Global;
 /// The steps by which the tree of these links grows from node 0, one for each other node, in preorder. It takes a number of steps that
 /// grows as the number of links.
 ///
-/// [`NetFault::NotTree`] where it is no tree of 1 to 1,024 nodes.
+/// [`NetFault::NotTree`] where it is no tree of 1 to [`MOST_NODES`] nodes.
 pub(crate) fn attaching_order(
     alloc: Global,
     nodes: u16,

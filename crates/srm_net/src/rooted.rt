@@ -1,9 +1,10 @@
 //! A tree that is rooted at node 0.
-ghost use Rattle.std.specs.Prelude.{◌≡◌, ◌⊎◌, ◌+◌, ◌≤◌, ◌<◌, [], All, IfOk, length, reverse};
-ghost use Rattle.srm_net.specs.Growth.{Grows};
+ghost use Rattle.std.specs.Prelude.{◌≡◌, ◌≢◌, ◌⊎◌, ℕ, ◌+◌, ◌≤◌, ◌<◌, [], List, All, IfOk, length, reverse};
+ghost use Rattle.srm_net.specs.Growth.{Grows, IsInPreorder, TellsEnds};
+ghost use Rattle.srm_net.specs.declared.link.LinkSpec.{LinkSpec};
 ghost use Rattle.srm_net.specs.Limits.{most_nodes};
 ghost use Rattle.srm_net.specs.Network.{Network, HasDelays, IsNetwork, IsTree, IsWithin, plain_network};
-ghost use Rattle.srm_net.specs.Rooting.{takes, at, IsRooted};
+ghost use Rattle.srm_net.specs.Rooting.{takes, at, IsRooted, IsFirst, IsHeld, IsChildAbove};
 
 use crate::link::LinkSpec;
 use crate::position::Position;
@@ -27,11 +28,15 @@ impl Rooted {
         requires tree { IsTree (plain_network nodes links.now []) }
         requires delays { All HasDelays links.now }
         requires grows { Grows links.now (reverse steps.now) }
+        requires preorder { IsInPreorder (reverse steps.now) }
         requires all { length steps.now + 1 ≡ nodes }
         ensures { IfOk result (λ rooted. IsRooted (plain_network nodes links.now []) rooted.positions.items) }
     {
+        let ends = subtree_ends(alloc, nodes, steps)?;
+        let whole = ends[0];
         let root = Position {
             place: 0,
+            end: whole,
             depth: 0,
             parent: 0,
             link: 0,
@@ -45,8 +50,10 @@ impl Rooted {
             let above = positions[usize::from(step.parent)];
             let far = positions[usize::from(above.jump)];
             let farther = positions[usize::from(far.jump)];
+            let end = ends[usize::from(step.node)];
             positions[usize::from(step.node)] = Position {
                 place: index as u16 + 1,
+                end,
                 depth: above.depth + 1,
                 parent: step.parent,
                 link: step.link,
@@ -90,6 +97,59 @@ impl Rooted {
         ticks
     }
 
+    /// The link by which the way from one node to another begins, and the node to which it leads. It takes a number of steps that grows
+    /// as the logarithm of the number of nodes.
+    pub(crate) fn first_step(&self, from: u16, to: u16) -> (u16, u16)
+        requires rooted { (w : Network) × IsRooted w self.now.positions.items × (from < w.nodes) × (to < w.nodes) }
+        requires apart { from ≢ to }
+        ensures { (w : Network) → IsRooted w self.now.positions.items → from < w.nodes → to < w.nodes
+            → IsFirst w from to result.0 result.1 }
+    {
+        let here = self.position(from);
+        if here.holds(self.position(to).place) {
+            let child = self.child_above(from, to);
+            (self.position(child).link, child)
+        } else {
+            (here.link, here.parent)
+        }
+    }
+
+    /// The node next below `from` that is `to` or above it, which is below `from`.
+    fn child_above(&self, from: u16, to: u16) -> u16
+        requires rooted { (w : Network) × IsRooted w self.now.positions.items × (from < w.nodes) × (to < w.nodes) }
+        requires apart { from ≢ to }
+        requires below { IsHeld (at self.now.positions.items from) (at self.now.positions.items to) }
+        ensures { (w : Network) → IsRooted w self.now.positions.items → from < w.nodes → to < w.nodes
+            → IsChildAbove w self.now.positions.items from to result }
+    {
+        let mut node = to;
+        while self.position(node).parent != from {
+            node = self.above_within(self.position(node), from, to);
+        }
+        node
+    }
+
+    /// A node above one of this position: the one to which it jumps, where that is below `from` and `to` is it or below it, and else its
+    /// parent.
+    fn above_within(&self, position: Position, from: u16, to: u16) -> u16
+        requires jump { position.jump < length self.now.positions.items }
+        requires from { from < length self.now.positions.items }
+        requires to { to < length self.now.positions.items }
+        ensures { ((result ≡ position.jump) × (position.jump ≢ from)
+            × IsHeld (at self.now.positions.items from) (at self.now.positions.items position.jump)
+            × IsHeld (at self.now.positions.items position.jump) (at self.now.positions.items to))
+            ⊎ (result ≡ position.parent) }
+    {
+        let far = self.position(position.jump);
+        let top = self.position(from);
+        let low = self.position(to);
+        if position.jump != from && top.holds(far.place) && far.holds(low.place) {
+            position.jump
+        } else {
+            position.parent
+        }
+    }
+
     /// A node above one of this position, on the way from it to a node of an earlier place.
     fn above(&self, position: Position, place: u16) -> u16
         requires { position.jump < length self.now.positions.items }
@@ -114,4 +174,25 @@ fn jump_of(parent: u16, above: Position, far: Position, farther: Position) -> u1
     } else {
         parent
     }
+}
+
+// For each node one more than the last place of the nodes that are it or below it. The steps are seen from the last to the
+// first: so all nodes below one are seen before it.
+fn subtree_ends(alloc: Global, nodes: u16, steps: &[Step]) -> Result<Vec<u16>, AllocError>
+    requires grows { (links : List LinkSpec) × IsTree (plain_network nodes links []) × Grows links (reverse steps.now) }
+    requires preorder { IsInPreorder (reverse steps.now) }
+    requires all { length steps.now + 1 ≡ nodes }
+    ensures long { IfOk result (λ ends. length ends.items ≡ nodes) }
+    ensures ends { IfOk result (λ ends. TellsEnds steps.now ends.items) }
+{
+    let mut ends = vec![in alloc; 0u16; usize::from(nodes)]?;
+    ends[0] = 1;
+    for index in (0..steps.len()).rev() {
+        let step = steps[index];
+        let own = ends[usize::from(step.node)].max(index as u16 + 2);
+        ends[usize::from(step.node)] = own;
+        let above = ends[usize::from(step.parent)].max(own);
+        ends[usize::from(step.parent)] = above;
+    }
+    Ok(ends)
 }

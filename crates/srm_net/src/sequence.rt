@@ -29,7 +29,7 @@ impl<T> Sequence<T> {
     /// The empty list, with room for so many elements.
     ///
     /// # Errors
-    /// Memory was refused.
+    /// [`AllocError`].
     pub fn with_capacity(alloc: Global, capacity: usize) -> Result<Self, AllocError>
         ensures { IfOk result (λ s. s ≡ []) }
     {
@@ -77,7 +77,7 @@ impl<T> Sequence<T> {
     /// Appends an element.
     ///
     /// # Errors
-    /// Memory was refused; the list is then as it was.
+    /// [`AllocError`]: the list is then as it was, and the element is gone.
     pub fn push(&mut self, item: T) -> Result<(), AllocError>
     where
         T: Drop,

@@ -16,17 +16,15 @@ use crate::packet::PacketId;
 use crate::rooted::Rooted;
 use crate::sending::Sending;
 use crate::sides::Sides;
-use crate::ways::Ways;
 use std::alloc::{AllocError, Global};
 use std::marker::Model;
 
-/// A tree of nodes and links, with members on some nodes, and the way between each two nodes.
+/// A tree of nodes and links, with members on some nodes, and the positions of the nodes where it is rooted at node 0.
 #[derive(Drop)]
 pub(crate) struct Tree {
     pub(crate) nodes: u16,
     pub(crate) links: Vec<LinkSpec>,
     pub(crate) hosts: Vec<u16>,
-    pub(crate) ways: Ways,
     pub(crate) rooted: Rooted,
 }
 
@@ -43,7 +41,7 @@ impl Model for Tree {
 }
 
 impl Tree {
-    /// How many members there are: at most 1,024.
+    /// How many members there are: at most [`MOST_NODES`](crate::limits::MOST_NODES).
     pub(crate) fn members(&self) -> u16
         ensures members { result ≡ length self.now.hosts }
         ensures network { IsNetwork self.now }
@@ -92,7 +90,7 @@ impl Tree {
         ensures bounded { result ≤ greatest_distance }
         ensures network { IsNetwork self.now }
     {
-        self.ways.delay(self.host(a), self.host(b))
+        self.delay(self.host(a), self.host(b))
     }
 
     /// How long a packet takes from one node to another, in ticks.
@@ -101,8 +99,9 @@ impl Tree {
         requires to { to < self.now.nodes }
         ensures value { result ≡ delay_along self.now.links from (route self.now from to) }
         ensures bounded { result ≤ greatest_distance }
+        ensures network { IsNetwork self.now }
     {
-        self.ways.delay(from, to)
+        self.rooted.delay(from, to)
     }
 
     /// The first link of the way between two nodes, and the node to which it leads.
@@ -115,10 +114,7 @@ impl Tree {
         ensures end { end_of from (slice_get self.now.links result.0) ≡ result.1 }
         ensures node { result.1 < self.now.nodes }
     {
-        let link = self.ways.first(from, to);
-        let spec = self.links[usize::from(link)];
-        let next = if spec.a == from { spec.b } else { spec.a };
-        (link, next)
+        self.rooted.first_step(from, to)
     }
 
     /// Whether no link of the way between two nodes takes out a packet that is at the first of them at the tick `sent`. Where the packet
@@ -226,8 +222,15 @@ impl Tree {
         requires node { node < self.now.nodes }
         ensures { (k : LinkSpec) → slice_get self.now.links link ≡ Some k → result ≡ is_beyond self.now link k node }
     {
-        let end = self.link(link).a;
-        node != end && self.ways.first(end, node) == link
+        let spec = self.link(link);
+        let near = self.rooted.position(spec.a);
+        let far = self.rooted.position(spec.b);
+        let place = self.rooted.position(node).place;
+        if near.place < far.place {
+            far.holds(place)
+        } else {
+            !near.holds(place)
+        }
     }
 
     /// Whether members are on the two sides of a link.

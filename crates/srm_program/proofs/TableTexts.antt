@@ -13,7 +13,7 @@ use Rattle.srm_program.specs.declared.options.Show.{Show}
 use Rattle.srm_program.specs.declared.options.Engine.TheVariants.{Window}
 use Rattle.srm_program.specs.declared.options.Options.{Options}
 use Rattle.srm_program.specs.Reports.{shown, report_of, Writes, TellsTable}
-use Rattle.srm_program.specs.Runs.{MayBeCut, TellsAsked}
+use Rattle.srm_program.specs.Runs.{MayBeCut, TellsRefusedFor}
 
 module _ (p : PlainScenario) (net : Network) (seed : ℕ) (show : Show) (rows : List Row) (exits : List Exit) (totals : List ℕ)
     (o : IsOutcome (setting_of p net seed) rows exits totals) where
@@ -35,7 +35,7 @@ module _ (p : PlainScenario) (net : Network) (seed : ℕ) (show : Show) (rows : 
 -- what is written after a whole run is refused for no reason of the engine's
 pub asked_told : {T : Type 0} (p : PlainScenario) (net : Network) (seed : ℕ) (o : Options)
     → (o.engine ≡ Window → MayBeCut net o) → (old new : Option (List ℕ)) (report : List ℕ) (r : Result T LabFault)
-    → Writes old new report r → TellsAsked p net seed o r
+    → Writes old new report r → TellsRefusedFor p net seed o r
 asked_told p net seed o h old new report (Ok v) w = h
 asked_told p net seed o h old new report (Err NoMemory) w = h
 asked_told p net seed o h old new report (Err (WriteFault n)) w = h

@@ -85,7 +85,7 @@ module _ {O : Type 0} (taken : O → Option (List ℕ)) (a : TraceSink O) (new :
         ap (λ k. min k (2 ^ 64 - 1)) (sym (told c.standing c.written n at)) ∙ wrote.counted
         ∙ ap (λ k. min (k + length out) (2 ^ 64 - 1)) none_written
 
-    fronted : (c : TraceSink O) → streams.TakesFront (PutsRows taken) (PutsPart taken) (setting_of p net seed) a c
+    fronted : (c : TraceSink O) → streams.TakesTraceFront (PutsRows taken) (PutsPart taken) (setting_of p net seed) a c
         → (out : List ℕ) × TakesFront p net seed (taken (outlet_under a)) (taken (outlet_under c)) out × Wrote taken a out c
     fronted c h =
         let f : PutsFront taken a (trace_of_rows h.0.trace) c = subst (λ (l : List ℕ). PutsFront taken a l c) (first_text h.0.trace) h.2 in

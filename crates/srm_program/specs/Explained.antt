@@ -1,5 +1,9 @@
 -- What is told of a refusal after its line.
-use Rattle.std.specs.Prelude.{◌≡◌, ◌⊎◌, ℕ, Bool, true, false, List, [], codes, Result, Ok, Err, string_bytes}
+use Rattle.std.specs.Prelude.{◌≡◌, ◌⊎◌, ℕ, Bool, true, false, List, [], ◌++◌, codes, decimal, Option, Some, None}
+use Rattle.std.specs.Prelude.{Result, Ok, Err, string_bytes}
+use Rattle.srm_net.specs.Least.{least_delay}
+use Rattle.srm_scenario.specs.Faults.{scenario_of_text}
+use Rattle.srm_scenario.specs.Plain.{PlainScenario, network_of}
 use Rattle.srm_scenario.specs.declared.fault.ScenarioFault.TheVariants.{ReadFault, TooLong}
 use Rattle.srm_explain.specs.Explanations.{note, Explains}
 use Rattle.srm_program.specs.declared.fault.LabFault.{LabFault}
@@ -15,14 +19,25 @@ abbrev pub asks_explanation : Result (ℕ × Options) LineFault → Bool
 asks_explanation (Ok asked) = asked.1.explain
 asks_explanation (Err f) = false
 
--- what is said of the fault of a run
+-- what is said of the fault of a run, where that needs no text
 abbrev pub lab_sentence : LabFault → List ℕ
 lab_sentence lab.BadCut = codes "--cut is 1 to 1024 where --engine is window"
-lab_sentence lab.BadWidth = codes "--width is at least 1, and at most the least delay of a link in either direction"
 lab_sentence lab.ShareFull = codes "more than 140737488355328 packets of a kind crossed a link, or were dropped at it"
 lab_sentence lab.NoMemory = codes "there was no memory left"
 lab_sentence lab.CountFull = codes "a member sent 281474976710656 packets, which are as many as are counted"
+lab_sentence lab.BadWidth = []
 lab_sentence (lab.WriteFault written) = []
+
+-- what is said of a width that a network with this least delay of a link, or with no link, does not allow
+abbrev pub width_sentence : Option ℕ → List ℕ
+width_sentence (Some delay) =
+    codes "--width is 1 to " ++ (decimal delay ++ codes " in this network: no link takes less in either direction")
+width_sentence None = codes "--width is at least 1"
+
+-- the same, of the network of the scenario that this text is
+abbrev pub ExplainsWidth : List ℕ → List ℕ → Type 0
+ExplainsWidth text told =
+    (p : PlainScenario) × (scenario_of_text text ≡ Ok p) × (told ≡ note (width_sentence (least_delay (network_of p))))
 
 -- these lines explain the fault of a session that read this text: nothing where standard output failed, whose reader
 -- may have gone away
@@ -30,6 +45,7 @@ abbrev pub ExplainsFault : List ℕ → Fault → List ℕ → Type 0
 ExplainsFault text (fault.Line f) told = told ≡ []
 ExplainsFault text (fault.Scenario f) told = Explains f text told
 ExplainsFault text (fault.Lab (lab.WriteFault written)) told = told ≡ []
+ExplainsFault text (fault.Lab lab.BadWidth) told = ExplainsWidth text told
 ExplainsFault text (fault.Lab f) told = told ≡ note (lab_sentence f)
 ExplainsFault text fault.NoMemory told = told ≡ note (codes "there was no memory left")
 

@@ -11,7 +11,7 @@ use Rattle.srm_engine.specs.declared.stream_fault.StreamFault.TheVariants as str
 use Rattle.srm_engine.specs.declared.sink.SinkFault.TheVariants.{Stopped}
 use Rattle.srm_engine.specs.declared.sink.Stage.{Stage}
 use Rattle.srm_engine.specs.declared.sink.Stage.TheVariants.{Live, Refused}
-use Rattle.srm_engine.specs.Streams.{TakesFront}
+use Rattle.srm_engine.specs.Streams.{TakesTraceFront}
 use Rattle.srm_model.specs.World.{World, IsOutcome, RunMeetsFull}
 use Rattle.srm_model.specs.WindowChains.{AreWindows}
 use Rattle.srm_model.specs.WindowRuns.{jobs_of}
@@ -42,18 +42,18 @@ PassesShareAtWindow s net o =
 
 -- the refusals that the engine brings: a cut and a width that may not be are refused by a run in windows, the cut
 -- first, and by no other run; and only a run in windows is refused for a share
-abbrev pub TellsAsked : {T : Type 0} → PlainScenario → Network → ℕ → Options → Result T LabFault → Type 0
-TellsAsked p net seed o (Err BadCut) = (o.engine ≡ Window) × ¬ IsCut o.cut
-TellsAsked p net seed o (Err BadWidth) = (o.engine ≡ Window) × IsCut o.cut × ¬ MayBeWide net o.width
-TellsAsked p net seed o (Err ShareFull) =
+abbrev pub TellsRefusedFor : {T : Type 0} → PlainScenario → Network → ℕ → Options → Result T LabFault → Type 0
+TellsRefusedFor p net seed o (Err BadCut) = (o.engine ≡ Window) × ¬ IsCut o.cut
+TellsRefusedFor p net seed o (Err BadWidth) = (o.engine ≡ Window) × IsCut o.cut × ¬ MayBeWide net o.width
+TellsRefusedFor p net seed o (Err ShareFull) =
     (o.engine ≡ Window) × MayBeCut net o × PassesShareAtWindow (setting_of p net seed) net o
-TellsAsked p net seed o r = o.engine ≡ Window → MayBeCut net o
+TellsRefusedFor p net seed o r = o.engine ≡ Window → MayBeCut net o
 
 -- what comes of a run: the report of the sequential run, for the seed and the table alone, whichever engine, crew,
 -- number of workers, cut and width are asked for; or a refusal, which the engine may bring
-abbrev pub TellsRun : {T : Type 0} → PlainScenario → Network → ℕ → Options
+abbrev pub TellsRunFor : {T : Type 0} → PlainScenario → Network → ℕ → Options
     → Option (List ℕ) → Option (List ℕ) → Result T LabFault → Type 0
-TellsRun p net seed o old new r = TellsReport p net seed o.show old new r × TellsAsked p net seed o r
+TellsRunFor p net seed o old new r = TellsReport p net seed o.show old new r × TellsRefusedFor p net seed o r
 
 -- ---- rows that are handed to a sink
 
@@ -78,13 +78,13 @@ module _ {S : Type 0} (took part : S → List Row → S → Type 0) where
   abbrev pub HandsRows : Setting → S → Result (List ℕ) LabFault → S → Type 0
   HandsRows s old (Ok totals) new =
       (rows : List Row) × (exits : List Exit) × IsOutcome s rows exits totals × took old rows new
-  HandsRows s old (Err CountFull) new = RunMeetsFull s × TakesFront took part s old new
+  HandsRows s old (Err CountFull) new = RunMeetsFull s × TakesTraceFront took part s old new
   HandsRows s old (Err BadCut) new = new ≡ old
   HandsRows s old (Err BadWidth) new = new ≡ old
-  HandsRows s old (Err ShareFull) new = TakesFront took part s old new
-  HandsRows s old (Err NoMemory) new = TakesFront took part s old new
-  HandsRows s old (Err (WriteFault written)) new = TakesFront took part s old new
+  HandsRows s old (Err ShareFull) new = TakesTraceFront took part s old new
+  HandsRows s old (Err NoMemory) new = TakesTraceFront took part s old new
+  HandsRows s old (Err (WriteFault written)) new = TakesTraceFront took part s old new
 
   -- what the engine that is asked for hands on, and refuses
   abbrev pub TellsRows : PlainScenario → Network → ℕ → Options → S → Result (List ℕ) LabFault → S → Type 0
-  TellsRows p net seed o old r new = HandsRows (setting_of p net seed) old r new × TellsAsked p net seed o r
+  TellsRows p net seed o old r new = HandsRows (setting_of p net seed) old r new × TellsRefusedFor p net seed o r

@@ -11,7 +11,7 @@ use Rattle.srm_program.specs.declared.fault.Fault.{Fault}
 use Rattle.srm_program.specs.declared.fault.Fault.TheVariants as fault
 use Rattle.srm_program.specs.declared.options.Options.{Options}
 use Rattle.srm_program.specs.Reports.{failures_after}
-use Rattle.srm_program.specs.Runs.{TellsRun}
+use Rattle.srm_program.specs.Runs.{TellsRunFor}
 
 -- the count of an outlet's failures after a session: one more exactly where the answer is that it failed
 abbrev pub session_failures : {T : Type 0} → Result T Fault → ℕ → ℕ
@@ -25,9 +25,9 @@ session_failures (Err fault.NoMemory) n = n
 -- before
 abbrev pub TellsSession : {T : Type 0} → PlainScenario → Network → ℕ → Options
     → Option (List ℕ) → Option (List ℕ) → Result T Fault → Type 0
-TellsSession p net seed o old new (Ok v) = TellsRun p net seed o old new (let r : Result _ LabFault = Ok v in r)
+TellsSession p net seed o old new (Ok v) = TellsRunFor p net seed o old new (let r : Result _ LabFault = Ok v in r)
 TellsSession {T} p net seed o old new (Err (fault.Lab f)) =
-    TellsRun p net seed o old new (let r : Result T LabFault = Err f in r)
+    TellsRunFor p net seed o old new (let r : Result T LabFault = Err f in r)
 TellsSession p net seed o old new (Err (fault.Line f)) = ⊥
 TellsSession p net seed o old new (Err (fault.Scenario f)) = ⊥
 TellsSession p net seed o old new (Err fault.NoMemory) = Keeps old new
@@ -45,7 +45,7 @@ reading_failures (Err fault.NoMemory) n = n
 -- cannot be refused
 abbrev pub TellsTask : {T : Type 0} → Bool → PlainScenario → ℕ → Options
     → Option (List ℕ) → Option (List ℕ) → Result T LabFault → Type 0
-TellsTask false p seed o old new r = TellsRun p (network_of p) seed o old new r
+TellsTask false p seed o old new r = TellsRunFor p (network_of p) seed o old new r
 TellsTask true p seed o old new (Ok v) = Keeps old new
 TellsTask true p seed o old new (Err f) = ⊥
 

@@ -75,7 +75,7 @@ const ENGINE: OptionLine = OptionLine {
     name: "engine",
     takes: "step|window",
     default: "step",
-    about: "One event at a time, or windows of time; the table is the same",
+    about: "One event at a time, or windows of time",
     reader: Reader::Text,
     words: &["step", "window"],
 };
@@ -147,8 +147,14 @@ const EXPLAIN: Flag = Flag {
 /// The options that take nothing, in the order in which help lists them, after the others.
 const FLAGS: [Flag; 2] = [CHECK, EXPLAIN];
 
-/// The options, in the order in which help lists them.
-const OPTIONS: [OptionLine; 7] = [SEED, ENGINE, CREW, WORKERS, CUT, WIDTH, SHOW];
+/// The options of every day, in the order in which help lists them.
+const EVERYDAY: [OptionLine; 2] = [SEED, SHOW];
+
+/// The options of the run in windows, in the order in which help lists them, after all others.
+const WINDOWS: [OptionLine; 5] = [ENGINE, CREW, WORKERS, CUT, WIDTH];
+
+/// What stands over the options of the run in windows.
+const WINDOWS_HEADING: &str = "Windows (advanced: how a run is worked out, the table is the same)";
 
 /// The words of `--engine`.
 const ENGINES: [(&str, Engine); 2] = [("step", Engine::Step), ("window", Engine::Window)];
@@ -174,8 +180,10 @@ const SHOWS: [(&str, Show); 4] = [
 /// The seed and the options that the words of a command line ask for, of which the first is the program's name.
 ///
 /// # Errors
-/// The first of these, unless memory runs out: the words are refused by `clap`; the text of an option is none of its words, and no
-/// number that it takes. Where help or the version is asked for before `clap` meets a fault, the answer is its text.
+/// 1. `Line`: `clap` refuses the words; or `Help`, where help or the version is asked for before that.
+/// 2. `BadWord`: the text of an option is none of its words, and no number that it takes.
+///
+/// `NoMemory` may come at any place. That the order is so is shown by tests.
 pub fn options_of<S: AsStr>(alloc: Global, words: &[S]) -> Result<(u64, Options), LineFault>
     ensures { IfOk result MayBeAsked }
 {
@@ -202,7 +210,7 @@ pub fn options_of<S: AsStr>(alloc: Global, words: &[S]) -> Result<(u64, Options)
 /// empty where no word asks for an explanation.
 ///
 /// # Errors
-/// Memory ran out.
+/// [`AllocError`].
 pub fn message_of<S: AsStr>(alloc: Global, words: &[S]) -> Result<String, AllocError> {
     if !words.iter().any(|word| word.as_str() == "--explain") {
         return Ok(String::new(alloc));
@@ -239,12 +247,16 @@ fn command<'a>(alloc: Global, wording: Wording) -> Result<Command<'a>, AllocErro
     let mut command = Command::new(alloc, "srm_lab")
         .version(VERSION)
         .about(ABOUT)
-        .after_help(AFTER_HELP);
-    for option in OPTIONS {
+        .after_help(AFTER_HELP)
+        .next_line_help(true);
+    for option in EVERYDAY {
         command = command.arg(arg_of(alloc, option, wording))?;
     }
     for flag in FLAGS {
         command = command.arg(arg_of_flag(alloc, flag))?;
+    }
+    for option in WINDOWS {
+        command = command.arg(arg_of(alloc, option, wording).help_heading(WINDOWS_HEADING))?;
     }
     Ok(command)
 }

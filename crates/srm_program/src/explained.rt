@@ -1,11 +1,12 @@
 //! What is told of a fault after its line.
 ghost use Rattle.std.specs.Prelude.{◌≡◌, IfOk, string_bytes};
-ghost use Rattle.srm_program.specs.Explained.{asks_explanation, lab_sentence, ExplainsFault, FollowsLine, MayFollow};
+ghost use Rattle.srm_program.specs.Explained.{asks_explanation, lab_sentence, width_sentence, ExplainsFault, ExplainsWidth, FollowsLine, MayFollow};
 ghost use Rattle.srm_program.specs.declared.options.Options.{Options};
 
 use crate::fault::{Fault, LabFault, LineFault};
 use crate::options::Options;
 use srm_explain::explanation::explain;
+use srm_scenario::reading::scenario_of_text;
 use std::alloc::{AllocError, Global};
 
 /// Whether a refusal is to be explained, as the words of a command line ask for.
@@ -56,6 +57,7 @@ fn explained(alloc: Global, fault: &Fault, text: &[u8]) -> Result<String, AllocE
         Fault::Line(_) => Ok(String::new(alloc)),
         Fault::Scenario(fault) => explain(alloc, *fault, text),
         Fault::Lab(LabFault::WriteFault { .. }) => Ok(String::new(alloc)),
+        Fault::Lab(LabFault::BadWidth) => explained_width(alloc, text),
         Fault::Lab(fault) => {
             let sentence = lab_sentence(*fault);
             format!(in alloc; "  {sentence}\n")
@@ -64,19 +66,46 @@ fn explained(alloc: Global, fault: &Fault, text: &[u8]) -> Result<String, AllocE
     }
 }
 
-// What is said of the fault of a run.
+// The explanation of a width that the network of this text's scenario does not allow.
+fn explained_width(alloc: Global, text: &[u8]) -> Result<String, AllocError>
+    ensures { IfOk result (λ told. ExplainsWidth text.now (string_bytes told)) }
+{
+    let Ok(scenario) = scenario_of_text(alloc, text) else {
+        return Err(AllocError);
+    };
+    let Ok(net) = scenario.net(alloc) else {
+        return Err(AllocError);
+    };
+    let sentence = width_sentence(alloc, net.least_delay())?;
+    let told = format!(in alloc; "  {sentence}\n")?;
+    Ok(told)
+}
+
+// What is said of a width, where this is the least delay of a link, if there is a link.
+fn width_sentence(alloc: Global, least: Option<u64>) -> Result<String, AllocError>
+    ensures { IfOk result (λ s. string_bytes s ≡ width_sentence least) }
+{
+    match least {
+        Some(delay) => {
+            format!(in alloc;
+                "--width is 1 to {delay} in this network: no link takes less in either direction"
+            )
+        }
+        None => String::from_str(alloc, "--width is at least 1"),
+    }
+}
+
+// What is said of the fault of a run, where that needs no text.
 fn lab_sentence(fault: LabFault) -> &'static str
     ensures { result.now ≡ lab_sentence fault }
 {
     match fault {
         LabFault::BadCut => "--cut is 1 to 1024 where --engine is window",
-        LabFault::BadWidth =>
-            "--width is at least 1, and at most the least delay of a link in either direction",
         LabFault::ShareFull =>
             "more than 140737488355328 packets of a kind crossed a link, or were dropped at it",
         LabFault::NoMemory => "there was no memory left",
         LabFault::CountFull =>
             "a member sent 281474976710656 packets, which are as many as are counted",
-        LabFault::WriteFault { .. } => "",
+        LabFault::BadWidth | LabFault::WriteFault { .. } => "",
     }
 }

@@ -13,7 +13,8 @@ pub enum LabFault {
     /// Windows were to be no tick wide, or wider than the least delay of a link.
     #[error("windows are to be 1 tick wide or more, and no wider than the least delay of a link")]
     BadWidth,
-    /// In the run in windows more packets crossed a link, or were dropped at it, than are counted: 2^47 of a kind.
+    /// In the run in windows more packets crossed a link, or were dropped at it, than are counted of a kind:
+    /// [`SHARE_MOST`](srm_ledger::seat::SHARE_MOST).
     #[error("more than 140737488355328 packets of a kind were counted at a link")]
     ShareFull,
     /// Memory ran out.

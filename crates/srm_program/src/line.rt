@@ -19,7 +19,7 @@ impl From<AllocError> for NoMemory {
 /// The line that tells why the program refuses, without its line feed.
 ///
 /// # Errors
-/// Memory ran out.
+/// `NoMemory`.
 pub fn line_of(alloc: Global, fault: &Fault) -> Result<String, NoMemory>
     ensures { IfOk result (λ line. string_bytes line ≡ line_of_fault fault.now) }
 {

@@ -6,7 +6,7 @@ ghost use Rattle.srm_member.specs.declared.fault.MemberFault.TheVariants.{NoMemo
 ghost use Rattle.srm_engine.specs.Openings.{HoldOpeningRecords};
 ghost use Rattle.srm_scenario.specs.Plain.{network_of};
 ghost use Rattle.srm_program.specs.declared.fault.Fault.TheVariants as fault;
-ghost use Rattle.srm_program.specs.Unboxed.{record_of};
+ghost use Rattle.srm_program.specs.Unboxed.{record_made};
 
 use crate::fault::Fault;
 use srm_member::fault::MemberFault;
@@ -39,7 +39,7 @@ impl Made {
     ) -> Result<Made, MemberFault>
         requires member { m < length scenario.now.members }
         requires network { net.now ≡ network_of scenario.now }
-        ensures { MatchResult result (λ made. record_of made ≡ opening_record (fixed_of scenario.now net.now seed m))
+        ensures { MatchResult result (λ made. record_made made ≡ opening_record (fixed_of scenario.now net.now seed m))
             (λ e. e ≡ NoMemory) }
     {
         let made = match scenario.role(m) {
@@ -61,7 +61,7 @@ pub(crate) fn made_members(
 ) -> Result<Vec<Made>, Fault>
     requires { net.now ≡ network_of scenario.now }
     ensures { MatchResult result
-        (λ all. HoldOpeningRecords scenario.now net.now seed (map record_of all.items))
+        (λ all. HoldOpeningRecords scenario.now net.now seed (map record_made all.items))
         (λ e. e ≡ fault.NoMemory) }
 {
     let mut all = Vec::with_capacity(alloc, usize::from(scenario.members()))?;

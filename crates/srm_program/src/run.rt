@@ -6,7 +6,7 @@ ghost use Rattle.srm_engine.specs.Outcomes.{HoldOpeningRecords};
 ghost use Rattle.srm_engine.specs.declared.sink.Stage.{Stage};
 ghost use Rattle.srm_report.specs.TraceSinks.{stage_of, outlet_under, gathered_by, written_by, AreOverOne};
 ghost use Rattle.srm_program.specs.Reports.{failures_after, TellsTable, TellsTrace};
-ghost use Rattle.srm_program.specs.Runs.{MayShareBag, TellsAsked, TellsRun};
+ghost use Rattle.srm_program.specs.Runs.{MayShareBag, TellsRefusedFor, TellsRunFor};
 
 use crate::asked::Asked;
 use crate::fault::LabFault;
@@ -32,17 +32,20 @@ use std::thread::Threads;
 const GATHERED: usize = 8_192;
 
 /// Runs the members of a scenario with the engine that is asked for, and writes the report of the run. The report is that of the
-/// sequential run, whichever engine is asked for. The trace is written as its rows come, some 8 KiB at a time; another table at the
-/// end.
+/// sequential run, whichever engine is asked for. The trace is written as its rows come, some 8 KiB at a time (`GATHERED`); another
+/// table at the end.
 ///
 /// There is one box for each member, in order of their numbers, each holding its opening record for this scenario and one seed. After
 /// an error the boxes are gone.
 ///
 /// # Errors
-/// The first that is met: of a run in windows the cut is none of 1 to 1,024 members, or the width is no width for this network, before
-/// any work; or more packets crossed a link than its threads count; memory ran out, or a member was to send a packet with its packet
-/// count used up, and of the trace a front was written, of another table nothing; or the outlet failed, and has taken as many bytes
-/// of the report as the fault tells, up to 2^64 - 1.
+/// 1. `BadCut` and 2. `BadWidth`, with the engine of windows alone, exactly where they are so, before any work.
+/// 3. As met: `ShareFull`, only with that engine; `CountFull`, only where the sequential run meets it; and `NoMemory`.
+/// 4. `WriteFault`: exactly where the outlet failed in the call.
+///
+/// The boxes are then gone. Of the trace, which is written as the run goes, the outlet took a front, and nothing after `BadCut`
+/// and `BadWidth`; of another table nothing, unless it failed, and then a front, fewer bytes than all. After `WriteFault` it took
+/// just as many bytes as the fault counts, up to 2^64 - 1, and its count of failures is one higher.
 pub fn run<R: Threads + Wait + Sync, O: Outlet>(
     rt: &R,
     alloc: Global,
@@ -59,7 +62,7 @@ pub fn run<R: Threads + Wait + Sync, O: Outlet>(
     // The count rises exactly where the answer is `WriteFault`, and then by one.
     ensures failures { O.failures outlet.new ≡ failures_after result (O.failures outlet.old) }
     ensures report { (seed : ℕ) → HoldOpeningRecords scenario.now net.now seed (map (λ b. plain b) members.items)
-        → TellsRun scenario.now net.now seed options (O.taken outlet.old) (O.taken outlet.new) result }
+        → TellsRunFor scenario.now net.now seed options (O.taken outlet.old) (O.taken outlet.new) result }
 {
     // By its contract, every scenario is accepted: that makes the rows of its run orderly.
     let _ = scenario.until();
@@ -92,7 +95,7 @@ fn write_trace<R: Threads + Wait + Sync, O: Outlet>(
     ensures trace { (seed : ℕ) → HoldOpeningRecords asked.now.scenario.now asked.now.net.now seed (map (λ b. plain b) members.items)
         → TellsTrace asked.now.scenario.now asked.now.net.now seed (O.taken outlet.old) (O.taken outlet.new) result }
     ensures asked { (seed : ℕ) → HoldOpeningRecords asked.now.scenario.now asked.now.net.now seed (map (λ b. plain b) members.items)
-        → TellsAsked asked.now.scenario.now asked.now.net.now seed asked.now.options result }
+        → TellsRefusedFor asked.now.scenario.now asked.now.net.now seed asked.now.options result }
 {
     let mut sink = TraceSink::gathering(alloc, outlet, GATHERED);
     let answer = write_rows(rt, alloc, asked, members, &mut sink);
@@ -123,7 +126,7 @@ fn write_rows<R: Threads + Wait + Sync, O: Outlet>(
         → TellsTrace asked.now.scenario.now asked.now.net.now seed (O.taken (outlet_under sink.old))
         (O.taken (outlet_under sink.new)) result }
     ensures asked { (seed : ℕ) → HoldOpeningRecords asked.now.scenario.now asked.now.net.now seed (map (λ b. plain b) members.items)
-        → TellsAsked asked.now.scenario.now asked.now.net.now seed asked.now.options result }
+        → TellsRefusedFor asked.now.scenario.now asked.now.net.now seed asked.now.options result }
 {
     match hand_rows(rt, alloc, asked, members, sink) {
         Ok(_) => match sink.flush() {
@@ -150,7 +153,7 @@ fn write_members<R: Threads + Wait + Sync, O: Outlet>(
     ensures table { (seed : ℕ) → HoldOpeningRecords asked.now.scenario.now asked.now.net.now seed (map (λ b. plain b) members.items)
         → TellsTable asked.now.scenario.now asked.now.net.now seed Show.Members (O.taken outlet.old) (O.taken outlet.new) result }
     ensures asked { (seed : ℕ) → HoldOpeningRecords asked.now.scenario.now asked.now.net.now seed (map (λ b. plain b) members.items)
-        → TellsAsked asked.now.scenario.now asked.now.net.now seed asked.now.options result }
+        → TellsRefusedFor asked.now.scenario.now asked.now.net.now seed asked.now.options result }
 {
     let mut sink = MembersSink::new(alloc);
     match hand_rows(rt, alloc, asked, members, &mut sink) {
@@ -176,7 +179,7 @@ fn write_losses<R: Threads + Wait + Sync, O: Outlet>(
     ensures table { (seed : ℕ) → HoldOpeningRecords asked.now.scenario.now asked.now.net.now seed (map (λ b. plain b) members.items)
         → TellsTable asked.now.scenario.now asked.now.net.now seed Show.Losses (O.taken outlet.old) (O.taken outlet.new) result }
     ensures asked { (seed : ℕ) → HoldOpeningRecords asked.now.scenario.now asked.now.net.now seed (map (λ b. plain b) members.items)
-        → TellsAsked asked.now.scenario.now asked.now.net.now seed asked.now.options result }
+        → TellsRefusedFor asked.now.scenario.now asked.now.net.now seed asked.now.options result }
 {
     let mut sink = LossesSink::new(alloc);
     match hand_rows(rt, alloc, asked, members, &mut sink) {
@@ -201,7 +204,7 @@ fn write_links<R: Threads + Wait + Sync, O: Outlet>(
     ensures table { (seed : ℕ) → HoldOpeningRecords asked.now.scenario.now asked.now.net.now seed (map (λ b. plain b) members.items)
         → TellsTable asked.now.scenario.now asked.now.net.now seed Show.Links (O.taken outlet.old) (O.taken outlet.new) result }
     ensures asked { (seed : ℕ) → HoldOpeningRecords asked.now.scenario.now asked.now.net.now seed (map (λ b. plain b) members.items)
-        → TellsAsked asked.now.scenario.now asked.now.net.now seed asked.now.options result }
+        → TellsRefusedFor asked.now.scenario.now asked.now.net.now seed asked.now.options result }
 {
     let mut sink = NoRows::new();
     match hand_rows(rt, alloc, asked, members, &mut sink) {

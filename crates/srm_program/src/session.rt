@@ -42,7 +42,7 @@ impl Session {
 }
 
 /// Reads a text from a feed, and simulates it as [`simulate_text`] does. The session is refused where the feed failed or gives more
-/// than 1,048,576 bytes, and nothing is written; or with what [`simulate_text`] answers.
+/// than [`LONGEST_TEXT`](srm_scenario::bytes::LONGEST_TEXT) bytes, and nothing is written; or with what [`simulate_text`] answers.
 pub fn simulate<R: Threads + Wait + Sync, F: Feed, O: Outlet>(
     rt: &R,
     alloc: Global,
@@ -89,7 +89,10 @@ pub fn simulate<R: Threads + Wait + Sync, F: Feed, O: Outlet>(
 /// run to an outlet. Where the scenario is only to be checked, nothing more is done.
 ///
 /// # Errors
-/// The text is refused, and nothing is written; or the run is, as [`run`](crate::run::run) says; or memory runs out in between.
+/// 1. `Scenario`: the first fault of the text, as of [`scenario_of_text`](srm_scenario::reading::scenario_of_text).
+/// 2. `Lab`: that of [`run`](crate::run::run), and then the outlet is as said there.
+///
+/// `NoMemory` may come at any place. But for those of `run`, the outlet took nothing.
 pub fn simulate_text<R: Threads + Wait + Sync, O: Outlet>(
     rt: &R,
     alloc: Global,

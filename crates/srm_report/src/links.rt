@@ -28,7 +28,7 @@ const HEADER: &[u8] = b"link,data,requests,repairs,sessions,dropped\n";
 /// | `dropped` | how many packets of any kind were dropped at it |
 ///
 /// # Errors
-/// Memory ran out.
+/// `NoMemory`.
 pub fn links_text(alloc: Global, totals: &Totals) -> Result<Vec<u8>, ReportFault>
     ensures { IfOk result (λ text. text.items ≡ links_table totals.now) }
 {

@@ -25,7 +25,7 @@ use std::alloc::Global;
 /// The rows are orderly, as those of every run are.
 ///
 /// # Errors
-/// Memory ran out.
+/// `NoMemory`.
 pub fn losses_text(alloc: Global, net: &Net, rows: &[Row]) -> Result<Vec<u8>, ReportFault>
     requires { IsOrderly (length net.now.hosts) rows.now }
     ensures { IfOk result (λ text. text.items ≡ losses_table net.now rows.now) }

@@ -40,7 +40,7 @@ impl LossesSink {
     /// The table of losses of the rows that it took, which are orderly, as [`losses_text`](crate::losses::losses_text) gives it.
     ///
     /// # Errors
-    /// Memory ran out.
+    /// `NoMemory`: the sink is as it was.
     pub fn text(&self, alloc: Global, net: &Net) -> Result<Vec<u8>, ReportFault>
         requires { (rows : List R) × IsOrderly (length net.now.hosts) rows × HasFound rows self.now }
         ensures { (rows : List R) → IsOrderly (length net.now.hosts) rows → HasFound rows self.now
@@ -71,6 +71,8 @@ impl RowSink for LossesSink {
 
     ghost same = { λ _ _. Unit {0} };
 
+    ghost handed = { λ _ _ _. Unit {0} };
+
     ghost took = { FindsLosses };
 
     ghost part = { λ _ _ _. Unit {0} };
@@ -78,6 +80,10 @@ impl RowSink for LossesSink {
     ghost same_self = { λ a. tt };
 
     ghost same_more = { λ a b c p q. tt };
+
+    ghost handed_none = { λ a. tt };
+
+    ghost handed_more = { λ a b c xs ys p q. tt };
 
     ghost took_none = { finds_none };
 

@@ -28,7 +28,7 @@ use std::alloc::Global;
 /// | `sessions` | how many session messages it sent |
 ///
 /// # Errors
-/// Memory ran out.
+/// `NoMemory`.
 pub fn members_text(
     alloc: Global,
     scenario: &Scenario,

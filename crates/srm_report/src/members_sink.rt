@@ -47,7 +47,7 @@ impl MembersSink {
     /// The table of members of the rows that it counted, as [`members_text`](crate::members::members_text) gives it.
     ///
     /// # Errors
-    /// Memory ran out.
+    /// `NoMemory`: the sink is as it was.
     pub fn text(&self, alloc: Global, scenario: &Scenario) -> Result<Vec<u8>, ReportFault>
         ensures { (rows : List R) → HasCounted rows self.now
             → IfOk result (λ text. text.items ≡ members_table scenario.now rows) }
@@ -55,7 +55,7 @@ impl MembersSink {
         table_text(alloc, scenario, self.counts.as_slice())
     }
 
-    // Counts these rows. It answers no memory also where they would be more than 2^63 rows in all.
+    // Counts these rows. It answers no memory also where they would be more than [`MOST_ROWS`] in all.
     pub(crate) fn take(&mut self, rows: &[Row]) -> Result<(), AllocError>
         ensures { OnOk result (CountsRows self.old rows.now self.new) }
     {
@@ -102,6 +102,8 @@ impl RowSink for MembersSink {
 
     ghost same = { λ _ _. Unit {0} };
 
+    ghost handed = { λ _ _ _. Unit {0} };
+
     ghost took = { CountsRows };
 
     ghost part = { λ _ _ _. Unit {0} };
@@ -109,6 +111,10 @@ impl RowSink for MembersSink {
     ghost same_self = { λ a. tt };
 
     ghost same_more = { λ a b c p q. tt };
+
+    ghost handed_none = { λ a. tt };
+
+    ghost handed_more = { λ a b c xs ys p q. tt };
 
     ghost took_none = { counts_none };
 
@@ -123,7 +129,7 @@ impl RowSink for MembersSink {
     /// Counts the rows.
     ///
     /// # Errors
-    /// `NoMemory`, also where they would be more than 2^63 rows in all.
+    /// `NoMemory`, also where they would be more than 2^63 rows in all (`MOST_ROWS`).
     fn rows(&mut self, _alloc: Global, rows: Vec<Row>) -> Result<(), SinkFault> {
         match self.take(rows.as_slice()) {
             Ok(()) => {

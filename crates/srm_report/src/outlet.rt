@@ -21,7 +21,7 @@ pub trait Outlet {
     /// Takes bytes from the front of the piece, and answers how many: at least one where there is one.
     ///
     /// # Errors
-    /// The device failed, and took no byte. It may be asked again.
+    /// `OutFault`: the device failed, and took no byte. The outlet's count of failures is one higher, and it may be asked again.
     fn put(&mut self, piece: &[u8]) -> Result<usize, OutFault>
         requires { failures self.old < 2 ^ 64 - 1 }
         ensures bound { WritesAtMost result piece.now }

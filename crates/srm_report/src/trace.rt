@@ -32,7 +32,7 @@ const USUAL_LINE: usize = 40;
 /// | `sent` | `sender:count` of the packet that it sent, or `-` |
 ///
 /// # Errors
-/// Memory ran out.
+/// `NoMemory`.
 pub fn trace_text(alloc: Global, rows: &[Row]) -> Result<Vec<u8>, ReportFault>
     ensures { IfOk result (λ text. text.items ≡ trace_of_rows rows.now) }
 {
@@ -44,7 +44,7 @@ pub fn trace_text(alloc: Global, rows: &[Row]) -> Result<Vec<u8>, ReportFault>
 /// The lines of these rows, as they stand in the text of a trace: without a header.
 ///
 /// # Errors
-/// Memory ran out.
+/// `NoMemory`.
 pub fn lines_text(alloc: Global, rows: &[Row]) -> Result<Vec<u8>, ReportFault>
     ensures { IfOk result (λ text. text.items ≡ trace_lines rows.now) }
 {

@@ -108,8 +108,9 @@ impl<'a, O: Outlet> TraceSink<'a, O> {
     /// Writes what is gathered.
     ///
     /// # Errors
-    /// The outlet failed. The fault says how many bytes of the trace it took by this sink in all, up to 2^64 - 1. The sink may not be
-    /// asked again.
+    /// `WriteFault` exactly where the outlet failed in the call. It has then taken a front of what was gathered, and its count of
+    /// failures is one higher; the fault says how many bytes it took by this sink in all, up to 2^64 - 1. The sink stands
+    /// refused, and may not be asked again.
     pub fn flush(&mut self) -> Result<(), WriteFault>
         requires open { IsOpen (stage_of self.old) }
         requires failures { O.failures (outlet_under self.old) < 2 ^ 64 - 1 }
@@ -220,6 +221,8 @@ impl<'a, O: Outlet> RowSink for TraceSink<'a, O> {
 
     ghost same = { AreOverOne };
 
+    ghost handed = { λ _ _ _. Unit {0} };
+
     ghost took = { PutsRows O.taken };
 
     ghost part = { PutsPart O.taken };
@@ -227,6 +230,10 @@ impl<'a, O: Outlet> RowSink for TraceSink<'a, O> {
     ghost same_self = { one_self };
 
     ghost same_more = { one_more };
+
+    ghost handed_none = { λ a. tt };
+
+    ghost handed_more = { λ a b c xs ys p q. tt };
 
     ghost took_none = { rows_none O.taken };
 

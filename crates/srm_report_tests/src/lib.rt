@@ -2,12 +2,12 @@
 #![tactic(auto)]
 
 #[cfg(test)]
-mod counted;
-#[cfg(test)]
 mod drops_tests;
 pub mod failing;
 #[cfg(test)]
 mod fault_tests;
+#[cfg(test)]
+mod gate_tests;
 #[cfg(test)]
 mod outlet_tests;
 #[cfg(test)]

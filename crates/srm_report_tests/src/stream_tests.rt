@@ -1,4 +1,4 @@
-//! Runs in windows whose rows are taken as they come: how far such a run is when they are.
+//! Runs whose rows are taken as they come: how far such a run is when they are.
 
 use crate::failing::Failing;
 use crate::streaming::stream_text;
@@ -20,10 +20,10 @@ use std::sync::atomic::{AtomicU64, Ordering};
 use std::test::Fail;
 
 // Windows of one tick, in which one job has the cells of all members.
-const TICKS: Windows = Windows {
+const TICKS: Option<Windows> = Some(Windows {
     cut: 64,
     width: Width::Ticks(1),
-};
+});
 
 // The job of all five members, up to the end of a window.
 const fn all_five(till: u64) -> Note {
@@ -118,5 +118,67 @@ fn rows_are_written_before_later_windows_are_run(rt: HostRuntime) -> Result<(), 
     drop(sink);
     assert_eq!(rt; outlet.into_inner().noted, Some(2));
     assert_eq!(rt; reacts.load(Ordering::SeqCst), 5);
+    Ok(())
+}
+
+// A sender that draws at each of twenty ticks, and two listeners a tick from it.
+const TWENTY_DRAWS: &str = r#"version = 1
+until = 30
+c1 = 0
+c2 = 0
+d1 = 0
+d2 = 0
+nodes = 3
+link = [
+  { a = 0, b = 1, delay = 1 },
+  { a = 0, b = 2, delay = 1 },
+]
+member = [
+  { node = 0, role = "sender", stream = 1 },
+  { node = 1, role = "listener", stream = 2 },
+  { node = 2, role = "listener", stream = 3 },
+]
+draw = [
+  { member = 0, page = 0, ink = 7, at = 0 },
+  { member = 0, page = 0, ink = 7, at = 1 },
+  { member = 0, page = 0, ink = 7, at = 2 },
+  { member = 0, page = 0, ink = 7, at = 3 },
+  { member = 0, page = 0, ink = 7, at = 4 },
+  { member = 0, page = 0, ink = 7, at = 5 },
+  { member = 0, page = 0, ink = 7, at = 6 },
+  { member = 0, page = 0, ink = 7, at = 7 },
+  { member = 0, page = 0, ink = 7, at = 8 },
+  { member = 0, page = 0, ink = 7, at = 9 },
+  { member = 0, page = 0, ink = 7, at = 10 },
+  { member = 0, page = 0, ink = 7, at = 11 },
+  { member = 0, page = 0, ink = 7, at = 12 },
+  { member = 0, page = 0, ink = 7, at = 13 },
+  { member = 0, page = 0, ink = 7, at = 14 },
+  { member = 0, page = 0, ink = 7, at = 15 },
+  { member = 0, page = 0, ink = 7, at = 16 },
+  { member = 0, page = 0, ink = 7, at = 17 },
+  { member = 0, page = 0, ink = 7, at = 18 },
+  { member = 0, page = 0, ink = 7, at = 19 },
+]
+"#;
+
+// The sender joins and draws twenty times. When the first row is written it has drawn eleven times: the first 32 rows are three
+// joins, eleven draws, and the arrivals of nine packets at two members.
+#[test]
+fn rows_are_written_before_later_events_are_handled(rt: HostRuntime) -> Result<(), Fail> {
+    let alloc = rt.alloc();
+    let reacts = Arc::new(alloc, AtomicU64::new(0))?;
+    let mut outlet = WriteOutlet::new(Noting {
+        number: Arc::try_clone(&reacts)?,
+        left: HEADER.len(),
+        noted: None,
+    });
+    let mut crew = Recording::new(alloc);
+    let mut sink = TraceSink::over(alloc, &mut outlet);
+    let fault = stream_text(alloc, TWENTY_DRAWS, &reacts, &mut crew, None, &mut sink)?;
+    assert_eq!(rt; fault, None);
+    drop(sink);
+    assert_eq!(rt; outlet.into_inner().noted, Some(12));
+    assert_eq!(rt; reacts.load(Ordering::SeqCst), 21);
     Ok(())
 }

@@ -1,14 +1,15 @@
-//! A run in windows whose rows a sink takes.
+//! A run whose rows a sink takes, in windows or one event at a time.
 ghost use Rattle.std.specs.Prelude.{◌≡◌, ◌<◌, ◌-◌, ◌^◌};
 ghost use Rattle.srm_scenario.specs.Plain.{network_of};
 ghost use Rattle.srm_engine.specs.Sinks.{IsOpen};
 
-use crate::counted::Counted;
 use srm_crew::recording::Recording;
 use srm_engine::sink::RowSink;
+use srm_engine::step_stream::step_stream;
 use srm_engine::stream_fault::StreamFault;
 use srm_engine::width::Windows;
 use srm_engine::window_stream::window_stream;
+use srm_examples::counted::Counted;
 use srm_member::member::Member;
 use srm_net::net::Net;
 use srm_net::role::Role;
@@ -24,15 +25,15 @@ use std::sync::Arc;
 use std::sync::atomic::AtomicU64;
 use std::test::Fail;
 
-// Runs the members of a scenario in windows, made by their roles with random words of seed 0; the senders count how
-// often they react. Why the run was refused, if it was.
-fn stream_in_windows<S: RowSink>(
+// Runs the members of a scenario, made by their roles with random words of seed 0, in windows or else in the sequential
+// run; the senders count how often they react. Why the run was refused, if it was.
+fn stream_members<S: RowSink>(
     alloc: Global,
     scenario: &Scenario,
     net: &Net,
     reacts: &Arc<AtomicU64>,
     crew: &mut Recording,
-    windows: Windows,
+    asked: Option<Windows>,
     sink: &mut S,
 ) -> Result<Option<StreamFault>, Fail>
     requires network { net.now ≡ network_of scenario.now }
@@ -53,17 +54,22 @@ fn stream_in_windows<S: RowSink>(
         };
         members.push(member)?;
     }
-    Ok(window_stream(alloc, scenario, net, members, crew, windows, sink).err())
+    match asked {
+        Some(windows) => {
+            Ok(window_stream(alloc, scenario, net, members, crew, windows, sink).err())
+        }
+        None => Ok(step_stream(alloc, scenario, net, members, sink).err()),
+    }
 }
 
-/// Runs the members of a scenario's text in windows, made by their roles with random words of seed 0; the senders count
-/// how often they react. Why the run was refused, if it was.
+/// Runs the members of a scenario's text, made by their roles with random words of seed 0, in windows or else in the
+/// sequential run; the senders count how often they react. Why the run was refused, if it was.
 pub(crate) fn stream_text<S: RowSink>(
     alloc: Global,
     text: &str,
     reacts: &Arc<AtomicU64>,
     crew: &mut Recording,
-    windows: Windows,
+    asked: Option<Windows>,
     sink: &mut S,
 ) -> Result<Option<StreamFault>, Fail>
     requires open { IsOpen (S.stage sink.old) }
@@ -72,5 +78,5 @@ pub(crate) fn stream_text<S: RowSink>(
     let mut feed = ReadFeed::new(text.as_bytes());
     let scenario = read_scenario(alloc, &mut feed)?;
     let net = scenario.net(alloc)?;
-    stream_in_windows(alloc, &scenario, &net, reacts, crew, windows, sink)
+    stream_members(alloc, &scenario, &net, reacts, crew, asked, sink)
 }

@@ -1,7 +1,9 @@
 //! The windows of whole runs, as a crew that notes its calls is handed them.
 use crate::streaming::stream_text;
 use srm_crew::recording::{Note, Recording};
+use srm_engine::fault::RunFault;
 use srm_engine::kept_rows::KeptRows;
+use srm_engine::stream_fault::StreamFault;
 use srm_engine::width::{Width, Windows};
 use srm_examples::scenarios::{A_SENDER_AND_TWO_LISTENERS, STAR_LOSS_AT_THE_SOURCE};
 use std::alloc::Global;
@@ -15,7 +17,7 @@ fn recorded(alloc: Global, text: &str, windows: Windows) -> Result<Recording, Fa
     let reacts = Arc::new(alloc, AtomicU64::new(0))?;
     let mut crew = Recording::new(alloc);
     let mut kept = KeptRows::new(alloc);
-    match stream_text(alloc, text, &reacts, &mut crew, windows, &mut kept)? {
+    match stream_text(alloc, text, &reacts, &mut crew, Some(windows), &mut kept)? {
         None => Ok(crew),
         Some(_) => Err(Fail::from("no memory")),
     }
@@ -54,6 +56,41 @@ fn expect_first_round_a_node(
     let windows = Windows { cut: 3, width };
     let crew = recorded(alloc, STAR_LOSS_AT_THE_SOURCE.scenario, windows)?;
     expect_first(rt, &crew, &three_and_one(end))
+}
+
+// Why a run with these windows is refused, if it is; its crew is then handed nothing.
+fn refused(rt: &impl Abort, alloc: Global, cut: u32, width: Width) -> Result<RunFault, Fail> {
+    let reacts = Arc::new(alloc, AtomicU64::new(0))?;
+    let mut crew = Recording::new(alloc);
+    let mut kept = KeptRows::new(alloc);
+    let text = STAR_LOSS_AT_THE_SOURCE.scenario;
+    let asked = Some(Windows { cut, width });
+    match stream_text(alloc, text, &reacts, &mut crew, asked, &mut kept)? {
+        Some(StreamFault::Run { fault }) => {
+            assert_eq!(rt; crew.calls().len(), 0);
+            Ok(fault)
+        }
+        _ => Err(Fail::from("not refused")),
+    }
+}
+
+// The least delay of a link is 5 ticks. A cut is looked at before a width.
+#[test]
+fn a_run_that_may_not_be_cut_so_hands_its_crew_nothing(rt: HostRuntime) -> Result<(), Fail> {
+    let alloc = rt.alloc();
+    let narrow = Width::Ticks(1);
+    assert_eq!(rt; refused(&rt, alloc, 0, narrow)?, RunFault::BadCut);
+    assert_eq!(rt; refused(&rt, alloc, 1025, narrow)?, RunFault::BadCut);
+    assert_eq!(rt; refused(&rt, alloc, 0, Width::Ticks(0))?, RunFault::BadCut);
+    assert_eq!(rt;
+        refused(&rt, alloc, 1, Width::Ticks(0))?,
+        RunFault::BadWidth
+    );
+    assert_eq!(rt;
+        refused(&rt, alloc, 1, Width::Ticks(6))?,
+        RunFault::BadWidth
+    );
+    Ok(())
 }
 
 #[test]

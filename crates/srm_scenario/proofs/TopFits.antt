@@ -18,7 +18,8 @@ use Rattle.srm_scenario.specs.declared.version.Version.{Version}
 use Rattle.srm_scenario.specs.declared.version.Version.TheVariants.{One, Two}
 use Rattle.srm_scenario.specs.Keys.{name_of}
 use Rattle.srm_scenario.specs.KeyLimits.{greatest_delay}
-use Rattle.srm_scenario.specs.Rules.{rule, fits, is_met, is_text, meets, most_nodes, last_number, allows_back, topology_rule, degree_rule}
+use Rattle.srm_scenario.specs.Rules.{rule, fits, is_met, is_text, meets, most_nodes_in, last_number, allows_back}
+use Rattle.srm_scenario.specs.Rules.{topology_rule, degree_rule}
 use Rattle.srm_scenario.specs.Rules.{back_rule, count_items}
 use Rattle.srm_scenario.specs.Described.{number, is_text_or, says, array_of, array_at, items_list, version_of, topology_of}
 use Rattle.srm_scenario.specs.Described.{nodes_in, delays_of}
@@ -27,7 +28,7 @@ use Rattle.srm_scenario.specs.LookUps.{HasDegree, AreDelays}
 use Rattle.srm_scenario.proofs.InRanges.{back_fits}
 use Rattle.srm_scenario.proofs.KeyRanges.{number_fits, required_number, rule_met}
 
-pub few_nodes : (v : Version) → (most_nodes v ≤ 1024) × (last_number v ≤ 1023)
+pub few_nodes : (v : Version) → (most_nodes_in v ≤ 1024) × (last_number v ≤ 1023)
 few_nodes One = (omega arith, omega arith)
 few_nodes Two = (omega arith, omega arith)
 
@@ -142,13 +143,13 @@ module _ (ms : Members) (h : fits (rules_of_top ms) ms ≡ true) where
       let few = few_nodes (version_of ms) in
       omega (arith, r.1, few.1)
 
-  pub nodes_fit : (1 ≤ nodes_in (topology_of ms) ms) × (nodes_in (topology_of ms) ms ≤ most_nodes (version_of ms))
+  pub nodes_fit : (1 ≤ nodes_in (topology_of ms) ms) × (nodes_in (topology_of ms) ms ≤ most_nodes_in (version_of ms))
   nodes_fit =
-      let n = met 6 (rule key.Nodes (Whole 1 (most_nodes (version_of ms))) (if shaped then Refused else Required)) refl in
-      let s = met 8 (rule key.Size (Whole 1 (most_nodes (version_of ms))) (if shaped then Required else Refused)) refl in
-      nodes_by (most_nodes (version_of ms)) ms (topology_of ms)
-      (subst (λ b. is_met ms (rule key.Nodes (Whole 1 (most_nodes (version_of ms))) (if b then Refused else Required)) ≡ true) there n)
-      (subst (λ b. is_met ms (rule key.Size (Whole 1 (most_nodes (version_of ms))) (if b then Required else Refused)) ≡ true) there s)
+      let n = met 6 (rule key.Nodes (Whole 1 (most_nodes_in (version_of ms))) (if shaped then Refused else Required)) refl in
+      let s = met 8 (rule key.Size (Whole 1 (most_nodes_in (version_of ms))) (if shaped then Required else Refused)) refl in
+      nodes_by (most_nodes_in (version_of ms)) ms (topology_of ms)
+      (subst (λ b. is_met ms (rule key.Nodes (Whole 1 (most_nodes_in (version_of ms))) (if b then Refused else Required)) ≡ true) there n)
+      (subst (λ b. is_met ms (rule key.Size (Whole 1 (most_nodes_in (version_of ms))) (if b then Required else Refused)) ≡ true) there s)
 
   pub delays_fit : AreDelays (topology_of ms) (delays_of ms)
   delays_fit =

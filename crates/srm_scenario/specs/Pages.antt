@@ -9,5 +9,5 @@ lists_page None page = false
 lists_page (Some k) page = list_any (λ p. p == page) k.pages
 
 -- whether member m's list of pages has this page
-abbrev pub wants : PlainScenario → ℕ → ℕ → Bool
-wants s m page = lists_page (slice_get s.members m) page
+abbrev pub wants_page : PlainScenario → ℕ → ℕ → Bool
+wants_page s m page = lists_page (slice_get s.members m) page

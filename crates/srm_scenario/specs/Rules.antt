@@ -21,9 +21,9 @@ use Rattle.srm_scenario.specs.Keys.{name_of}
 use Rattle.srm_scenario.specs.KeyLimits.{greatest_delay, last_count, last_ink, last_page, last_stream, most_pages}
 
 -- the words of a set, one of which a key may hold
-abbrev pub words_of : Words → List (List ℕ)
-words_of Roles = codes "sender" ∷ codes "receiver" ∷ codes "late" ∷ codes "listener" ∷ []
-words_of Topologies = codes "chain" ∷ codes "star" ∷ codes "tree" ∷ []
+abbrev pub spellings_of : Words → List (List ℕ)
+spellings_of Roles = codes "sender" ∷ codes "receiver" ∷ codes "late" ∷ codes "listener" ∷ []
+spellings_of Topologies = codes "chain" ∷ codes "star" ∷ codes "tree" ∷ []
 
 -- what the format says of one key
 abbrev pub rule : Key → Kind → Need → Rule
@@ -32,13 +32,13 @@ rule key kind need = record { key = key; kind = kind; need = need }
 -- ---- what differs between the versions
 
 -- how many nodes there are at most, and how many members, each of which has a node of its own
-abbrev pub most_nodes : Version → ℕ
-most_nodes One = 256
-most_nodes Two = 1024
+abbrev pub most_nodes_in : Version → ℕ
+most_nodes_in One = 256
+most_nodes_in Two = 1024
 
 -- the last number that a node, a link or a member may have
 abbrev pub last_number : Version → ℕ
-last_number version = most_nodes version - 1
+last_number version = most_nodes_in version - 1
 
 -- whether links may have a second delay
 abbrev pub allows_back : Version → Bool
@@ -81,9 +81,9 @@ back_rule allowed = rule key.Back (Whole 1 greatest_delay) (if allowed then Opti
 -- nodes and links, in the top table: `shaped` where it names a topology, `tree` where that is a tree
 abbrev pub shape_rules : Version → Bool → Bool → List Rule
 shape_rules version shaped tree =
-    rule key.Nodes (Whole 1 (most_nodes version)) (if shaped then Refused else Required)
+    rule key.Nodes (Whole 1 (most_nodes_in version)) (if shaped then Refused else Required)
     ∷ topology_rule
-    ∷ rule key.Size (Whole 1 (most_nodes version)) (if shaped then Required else Refused)
+    ∷ rule key.Size (Whole 1 (most_nodes_in version)) (if shaped then Required else Refused)
     ∷ rule key.Delay (Whole 1 greatest_delay) (if shaped then Required else Refused)
     ∷ back_rule (shaped && allows_back version)
     ∷ degree_rule version tree
@@ -97,7 +97,7 @@ outage_rule allowed = rule key.Outage (Elements most_listed) (if allowed then Op
 -- the other arrays of the top table
 abbrev pub array_rules : Version → List Rule
 array_rules version =
-    rule key.Member (Elements (most_nodes version)) Optional
+    rule key.Member (Elements (most_nodes_in version)) Optional
     ∷ rule key.Draw (Elements most_listed) Optional
     ∷ rule key.Session (Elements most_listed) Optional
     ∷ rule key.Drop (Elements most_listed) Optional
@@ -185,7 +185,7 @@ all_whole high (item d ds) = is_whole 0 high d && all_whole high ds
 -- the value is of this kind
 abbrev pub is_kind : Kind → Data → Bool
 is_kind (Whole low high) d = is_whole low high d
-is_kind (Word ws) d = list_any (λ w. is_text w d) (words_of ws)
+is_kind (Word ws) d = list_any (λ w. is_text w d) (spellings_of ws)
 is_kind (Numbers most high) (array ds) = nat_le (count_items ds) most && all_whole high ds
 is_kind (Elements most) (array ds) = nat_le (count_items ds) most
 is_kind k d = false

@@ -44,6 +44,9 @@ pub struct Draft {
 
 impl Draft {
     /// The draft that a table gives. A fault of its keys is refused, the first one.
+    ///
+    /// # Errors
+    /// `BadKey`, the first fault of the table's keys in the order of [`scenario_of`](crate::reading::scenario_of); or `NoMemory`.
     pub fn read(alloc: Global, table: &Table) -> Result<Draft, ScenarioFault>
         ensures draft { IfOk result (IsDraft (table_view table.now)) }
         ensures fault { IfErr result (λ e. IsFault e (key_faults (table_view table.now))) }

@@ -87,6 +87,9 @@ impl Element for MemberEntry {
 
     ghost reading = { entry_of };
 
+    ///
+    /// # Errors
+    /// [`AllocError`].
     fn read(alloc: Global, version: Version, table: &Table) -> Result<Option<Self>, AllocError> {
         entry_of(alloc, version, table)
     }

@@ -43,7 +43,7 @@ pub enum ScenarioFault {
     /// The feed failed.
     #[error("the scenario could not be read")]
     ReadFault,
-    /// The text has more than 1,048,576 bytes.
+    /// The text has more than [`LONGEST_TEXT`](crate::bytes::LONGEST_TEXT) bytes.
     #[error("the scenario has more than 1048576 bytes")]
     TooLong,
     /// The text is not UTF-8, or no TOML document.

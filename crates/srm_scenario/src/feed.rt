@@ -22,7 +22,7 @@ pub trait Feed {
     /// only at the end of the bytes.
     ///
     /// # Errors
-    /// The device failed, and gave no byte. It may be asked again.
+    /// `FeedFault`: the device failed, and gave no byte. The feed's count of failures is one higher, and it may be asked again.
     fn feed(&mut self, buf: &mut [u8]) -> Result<usize, FeedFault>
         requires { failures self.old < 2 ^ 64 - 1 }
         ensures bound { ReadsAtMost result buf.new }

@@ -147,9 +147,11 @@ fn scenario_from(alloc: Global, draft: Draft) -> Result<Scenario, ScenarioFault>
 /// The scenario of a table, the top table of a scenario file.
 ///
 /// # Errors
+/// The first fault of the table, but for `NoMemory`, which may come at any place:
 ///
-/// The first fault of the table, unless memory runs out: faults of keys part by part, each part's in the order of their places,
-/// and then what does not fit the rest of the scenario.
+/// 1. `BadKey`: the first in the order of the parts `Top`, `Link`, `Member`, `Draw`, `Session`, `Drop`, `Outage`, and in each by
+///    place.
+/// 2. `NotTree`; 3. `BadMember`; 4. `BadDraw`; 5. `BadSession`; 6. `BadDrop`; 7. `BadOutage`: each with its least place.
 pub fn scenario_of(alloc: Global, table: &Table) -> Result<Scenario, ScenarioFault>
     ensures scenario { IfOk result (λ s. scenario_of_table (table_view table.now) ≡ Ok s) }
     ensures accepted { IfOk result IsAccepted }
@@ -163,9 +165,11 @@ pub fn scenario_of(alloc: Global, table: &Table) -> Result<Scenario, ScenarioFau
 /// The scenario of a text.
 ///
 /// # Errors
+/// The first of these, but for `NoMemory`, which may come at any place:
 ///
-/// The first of these, unless memory runs out: [`ScenarioFault::TooLong`] where the text has more than 1,048,576 bytes,
-/// [`ScenarioFault::NotToml`] where they are not UTF-8 or no TOML document, and then those of [`scenario_of`].
+/// 1. `TooLong`: the text has more than [`LONGEST_TEXT`] bytes.
+/// 2. `NotToml`: it is not UTF-8, or no TOML document.
+/// 3. Those of [`scenario_of`].
 pub fn scenario_of_text(alloc: Global, text: &[u8]) -> Result<Scenario, ScenarioFault>
     ensures scenario { IfOk result (λ s. scenario_of_text text.now ≡ Ok s) }
     ensures accepted { IfOk result IsAccepted }
@@ -186,13 +190,18 @@ pub fn scenario_of_text(alloc: Global, text: &[u8]) -> Result<Scenario, Scenario
     }
 }
 
-/// Reads a scenario from a feed, of which it takes at most 1,048,577 bytes.
+/// Reads a scenario from a feed, of which it takes at most one byte more than [`LONGEST_TEXT`].
 ///
 /// # Errors
+/// The first of these, but for `NoMemory`, which may come at any place:
 ///
-/// The first of these, unless memory runs out: [`ScenarioFault::ReadFault`] where the feed failed, [`ScenarioFault::TooLong`]
-/// where it has more than 1,048,576 bytes, [`ScenarioFault::NotToml`] where they are not UTF-8 or no TOML document, and then those
-/// of [`scenario_of`].
+/// 1. `ReadFault`: exactly where the feed failed in the call.
+/// 2. `TooLong`: more than [`LONGEST_TEXT`] bytes were still to come.
+/// 3. `NotToml`: they are not UTF-8, or no TOML document.
+/// 4. Those of [`scenario_of`].
+///
+/// Of the feed so much is taken as [`read_text`] takes. After each refusal from `NotToml` on but `NoMemory`, nothing is left to
+/// come where its bytes are known.
 pub fn read_scenario<F: Feed>(alloc: Global, feed: &mut F) -> Result<Scenario, ScenarioFault>
     requires { F.failures feed.old < 2 ^ 64 - 1 }
     // The count rises exactly where the answer is `ReadFault`, and then by one.

@@ -3,7 +3,7 @@ ghost use Rattle.std.specs.Prelude.{◌≡◌, ◌<◌, Some, length, map, slice
 ghost use Rattle.srm_net.specs.Orders.{Rises};
 ghost use Rattle.srm_scenario.specs.Accepted.{IsAccepted};
 ghost use Rattle.srm_scenario.specs.Plain.{network_of, script_of, mark_cmp};
-ghost use Rattle.srm_scenario.specs.Pages.{wants};
+ghost use Rattle.srm_scenario.specs.Pages.{wants_page};
 
 use crate::fault::ScenarioFault;
 use crate::mark::Mark;
@@ -78,7 +78,7 @@ impl Scenario {
         self.constants
     }
 
-    /// How many members there are: at most 1,024. They are numbered from 0.
+    /// How many members there are: at most [`MOST_NODES`](srm_net::limits::MOST_NODES). They are numbered from 0.
     pub fn members(&self) -> u16
         ensures { result ≡ length self.now.members }
     {
@@ -136,7 +136,7 @@ impl Scenario {
     /// Whether member m's list of pages has this page. Only a late member has one.
     pub fn wants(&self, m: u16, page: u16) -> bool
         requires { m < length self.now.members }
-        ensures { result ≡ wants self.now m page }
+        ensures { result ≡ wants_page self.now m page }
     {
         self.member(m).pages.as_slice().contains(&page)
     }
@@ -158,8 +158,7 @@ impl Scenario {
     /// The scenario's network.
     ///
     /// # Errors
-    ///
-    /// [`NetFault::NoMemory`] alone.
+    /// `NoMemory`.
     pub fn net(&self, alloc: Global) -> Result<Net, NetFault>
         ensures { MatchResult result (λ net. net ≡ network_of self.now) (λ e. e ≡ NetFault.NoMemory) }
     {
@@ -170,8 +169,7 @@ impl Scenario {
     /// The script of member m: its join, draws, session messages and leave, in the order of their keys.
     ///
     /// # Errors
-    ///
-    /// [`ScenarioFault::NoMemory`] alone.
+    /// `NoMemory`.
     pub fn script(&self, alloc: Global, m: u16) -> Result<Vec<Mark>, ScenarioFault>
         requires { m < length self.now.members }
         ensures script { IfOk result (λ marks. marks.items ≡ script_of self.now m) }

@@ -6,7 +6,7 @@ ghost use Rattle.toml.specs.Data.{as_array, get_member};
 ghost use Rattle.toml.specs.View.{view, items_view, table_view};
 ghost use Rattle.srm_scenario.specs.declared.rule.Kind.TheVariants.{Numbers, Elements};
 ghost use Rattle.srm_scenario.specs.Keys.{name_of};
-ghost use Rattle.srm_scenario.specs.Rules.{fits, has_only, is_met, is_kind, is_whole, is_text, words_of};
+ghost use Rattle.srm_scenario.specs.Rules.{fits, has_only, is_met, is_kind, is_whole, is_text, spellings_of};
 ghost use Rattle.srm_scenario.specs.Described.{number, number_of, optional_number, array_at, says};
 
 use crate::key::Key;
@@ -134,7 +134,7 @@ fn is_text(value: &Value, word: &str) -> bool
 
 /// Whether a value is a word of a set.
 fn is_word(value: &Value, words: Words) -> bool
-    ensures { result ≡ list_any (λ w. is_text w (view value.now)) (words_of words) }
+    ensures { result ≡ list_any (λ w. is_text w (view value.now)) (spellings_of words) }
 {
     match words {
         Words::Roles => {

@@ -66,7 +66,7 @@ fn numbers_of(table: &Table) -> Numbers
 pub(crate) struct Shape<'a> {
     /// The topology that the table names.
     pub(crate) topology: Option<Topology>,
-    /// How many nodes there are: 1 to 1,024.
+    /// How many nodes there are: 1 to [`MOST_NODES`](srm_net::limits::MOST_NODES).
     pub(crate) nodes: u16,
     /// The delays of each link of the topology, in ticks.
     pub(crate) delays: Delays,

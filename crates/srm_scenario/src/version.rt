@@ -12,7 +12,7 @@ pub enum Version {
 }
 
 impl Version {
-    ghost use Rattle.srm_scenario.specs.Rules.{allows_back, allows_outages, most_nodes, last_number};
+    ghost use Rattle.srm_scenario.specs.Rules.{allows_back, allows_outages, most_nodes_in, last_number};
 
     /// The version of this number. Where there is none of this number, it is the first.
     pub fn of(number: u64) -> Version
@@ -46,7 +46,7 @@ impl Version {
 
     /// How many nodes there are at most, and how many members: 256 or 1,024.
     pub fn most_nodes(self) -> u16
-        ensures nodes { result ≡ most_nodes self }
+        ensures nodes { result ≡ most_nodes_in self }
         ensures some { 1 ≤ result }
         ensures few { result ≤ 1024 }
     {

@@ -1,7 +1,7 @@
 use Rattle.std.proofs.Common.{◌≡◌, ◌∙◌, ◌+◌, Some, sym, ap, subst, length, slice_get, arith}
 use Rattle.std.proofs.lemmas.Option.{slice_get-get_or}
 use Rattle.srm_cell.specs.Setting.{setting_of}
-use Rattle.srm_engine.specs.Soonest.{IsAmong, IsSoonest}
+use Rattle.srm_engine.specs.Soonest.{IsInRange, IsSoonest}
 use Rattle.srm_engine.proofs.SoonLemmas.{soon_more}
 use Rattle.srm_engine.proofs.soonest.soonest_in.Goals as goal
 
@@ -21,5 +21,5 @@ returns g c = λ seed ps those.
     let past = c.loop-place-test.false in
     let end = c.loop-place.auto.place-end in
     let all : c.loop-place.place ≡ length c.args.cells.now = omega arith in
-    subst (λ n. IsSoonest (setting_of c.args.scenario.now c.args.net.now seed) (IsAmong c.args.first n) ps c.loop-place.soonest) all
+    subst (λ n. IsSoonest (setting_of c.args.scenario.now c.args.net.now seed) (IsInRange c.args.first n) ps c.loop-place.soonest) all
     (c.loop-place.invariant seed ps those)

@@ -1,10 +1,10 @@
 use Rattle.std.proofs.Common.{ℕ, List}
 use Rattle.srm_cell.specs.Setting.{setting_of}
 use Rattle.srm_cell.specs.Cells.{PlainCell}
-use Rattle.srm_engine.specs.Soonest.{IsAmong, IsSoonest, AreThose}
+use Rattle.srm_engine.specs.Soonest.{IsInRange, IsSoonest, AreThose}
 use Rattle.srm_engine.proofs.soonest.soonest_in.Given as goal
 
 abbrev pub invariant-loop-place : goal.invariant-loop-place
 invariant-loop-place g l =
     (seed : ℕ) (ps : List PlainCell) → AreThose (λ b. (goal.Member-dyn g (b.vtable, b.value)).plain b.value) l.first l.cells ps
-    → IsSoonest (setting_of l.scenario l.net seed) (IsAmong l.first l.place) ps l.soonest
+    → IsSoonest (setting_of l.scenario l.net seed) (IsInRange l.first l.place) ps l.soonest

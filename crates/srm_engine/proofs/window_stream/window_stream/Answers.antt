@@ -4,8 +4,8 @@ use Rattle.srm_cell.specs.Setting.{setting_of}
 use Rattle.srm_cell.specs.Crossings.{crossings}
 use Rattle.srm_model.specs.World.{opening, IsLast}
 use Rattle.srm_model.specs.WindowChains.{AreWindows}
-use Rattle.srm_engine.specs.Streams.{TakesFront, HaltsIf}
-use Rattle.srm_engine.specs.Windowed.{MayCome, calls_of, rule_of}
+use Rattle.srm_engine.specs.Streams.{TakesTraceFront, HaltsIf}
+use Rattle.srm_engine.specs.Windowed.{MayCome, calls_for, rule_of}
 use Rattle.srm_engine.proofs.Stepping.{opening_reached, opening_trace}
 use Rattle.srm_engine.proofs.StreamLemmas.{front_taken}
 use Rattle.srm_engine.proofs.WindowLemmas.{as_asked, halts_refuse}
@@ -31,7 +31,7 @@ returns-in-Err-open-clause-stream g c = λ seed h.
 
 pub returns-in-Err-stream-clause-stream : goal.returns-in-Err-stream-clause-stream
 returns-in-Err-stream-clause-stream g c = λ seed h.
-    as_asked (λ s rule cut. TakesFront g.S.RowSink.took g.S.RowSink.part s c.args.sink.now c.stream.new.sink) c.in-Ok-open.engine
+    as_asked (λ s rule cut. TakesTraceFront g.S.RowSink.took g.S.RowSink.part s c.args.sink.now c.stream.new.sink) c.in-Ok-open.engine
     c.args.scenario.now c.args.net.now c.in-Ok.cutting c.args.asked seed c.in-Ok-open.ensures.course c.in-Ok.ensures
     (c.in-Err-stream.ensures.windows seed (c.in-Ok-open.ensures.opened seed h)).0
 
@@ -83,6 +83,6 @@ returns-in-Ok-finish-clause-windows g c = λ seed h.
           (c.in-Ok-stream.ensures.course ∙ c.in-Ok-open.ensures.course) c.in-Ok.ensures t.2.windows,
       as_asked (λ s rule cut. IsLast s t.1) c.in-Ok-open.engine c.args.scenario.now c.args.net.now c.in-Ok.cutting c.args.asked seed
           c.in-Ok-open.ensures.course c.in-Ok.ensures t.3,
-      as_asked (λ s rule cut. g.C.Crew.handed c.args.crew.now (calls_of rule cut t.0) c.stream.new.crew) c.in-Ok-open.engine
+      as_asked (λ s rule cut. g.C.Crew.handed c.args.crew.now (calls_for rule cut t.0) c.stream.new.crew) c.in-Ok-open.engine
           c.args.scenario.now c.args.net.now c.in-Ok.cutting c.args.asked seed c.in-Ok-open.ensures.course c.in-Ok.ensures t.5,
     )

@@ -6,7 +6,7 @@ use Rattle.srm_net.specs.Network.{IsWithin}
 use Rattle.srm_net.specs.Paths.{is_in}
 use Rattle.srm_net.specs.Growth.{attached, Grows, newest, IsInPreorder}
 use Rattle.srm_net.specs.Waiting.{Wait, Adds}
-use Rattle.srm_net.specs.Ways.{is_known}
+use Rattle.srm_net.specs.Known.{is_known}
 use Rattle.srm_net.proofs.Lists.{read_mark}
 use Rattle.srm_net.proofs.Marks.{KnownAre, known_more}
 use Rattle.srm_net.proofs.Numbers.{in_head}

@@ -1,13 +1,13 @@
 use Rattle.std.proofs.Common.{◌≡◌, ◌∙◌, length, map, ap, arith}
 use Rattle.srm_engine.specs.Openings.{records_from}
-use Rattle.srm_program.specs.Unboxed.{record_of}
+use Rattle.srm_program.specs.Unboxed.{record_made}
 use Rattle.srm_program.proofs.Openings.{opening-push}
 use Rattle.srm_program.proofs.made.made_members.Goals as goal
 
 pub loop-m-preserved : goal.loop-m-preserved
 loop-m-preserved c =
-    ap (map record_of) c.in_ok-push.ensures.items
-    ∙ opening-push record_of c.args.scenario.now c.args.net.now c.args.seed c.loop-m.m c.loop-m.all.items _ c.loop-m.invariant
+    ap (map record_made) c.in_ok-push.ensures.items
+    ∙ opening-push record_made c.args.scenario.now c.args.net.now c.args.seed c.loop-m.m c.loop-m.all.items _ c.loop-m.invariant
     c.in_ok-new.ensures
 
 pub returns : goal.returns

@@ -3,7 +3,7 @@ use Rattle.std.proofs.lemmas.Grind.{common_steps}
 use Rattle.std.specs.Vec.Iter.{into_iter_items}
 use denote.Param.Object.{read_made}
 use Rattle.srm_member.specs.Record.{Record}
-use Rattle.srm_program.specs.Unboxed.{record_of}
+use Rattle.srm_program.specs.Unboxed.{record_made}
 use Rattle.srm_program.proofs.Openings.{one-boxed, all-boxed}
 use Rattle.srm_program.proofs.members.run_members.OwnLists.{own-1, at-1-1, at-1-2, at-1-3, at-1-4}
 use Rattle.srm_program.proofs.members.run_members.Goals as goal
@@ -14,9 +14,9 @@ pub loop-made-init : goal.loop-made-init
 loop-made-init g c = (
   tt,
   tt,
-  ap (λ bs. map (λ b. (own-1.entry b.vtable).1.plain b.value) bs ++ map record_of (into_iter_items c.into_iter-made-iterator.result))
+  ap (λ bs. map (λ b. (own-1.entry b.vtable).1.plain b.value) bs ++ map record_made (into_iter_items c.into_iter-made-iterator.result))
       c.in_ok-members.ensures.items
-      ∙ ap (map record_of) c.into_iter-made-iterator.ensures.into_iter_gives.0
+      ∙ ap (map record_made) c.into_iter-made-iterator.ensures.into_iter_gives.0
       ∙ c.in_ok-made-items.ensures,
 )
 
@@ -24,28 +24,28 @@ pub loop-made-preserved : goal.loop-made-preserved
 loop-made-preserved g c = (
   tt,
   tt,
-  ap (λ bs. map (λ b. (own-1.entry b.vtable).1.plain b.value) bs ++ map record_of (into_iter_items c.next.new.self))
+  ap (λ bs. map (λ b. (own-1.entry b.vtable).1.plain b.value) bs ++ map record_made (into_iter_items c.next.new.self))
       c.in_ok-push.ensures.items
-      ∙ one-boxed (λ b. (own-1.entry b.vtable).1.plain b.value) record_of c.loop-made.members.items c.match-made.member c.in-Some.made _
+      ∙ one-boxed (λ b. (own-1.entry b.vtable).1.plain b.value) record_made c.loop-made.members.items c.match-made.member c.in-Some.made _
       (elim c.match-made.branch [
         | in-Sender+in_ok-new-in-Sender w ↦
             ap (λ b. (own-1.entry b.vtable).1.plain b.value) w.member-is
             ∙ read_made own-1 (own-1.entry at-1-1) at-1-1 refl Record (λ j. j.1.plain) _ _ _ w.into_dyn_box.ensures.1
-            ∙ w.in_ok-new-in-Sender.ensures.ok ∙ sym (ap record_of w.in-Sender.is)
+            ∙ w.in_ok-new-in-Sender.ensures.ok ∙ sym (ap record_made w.in-Sender.is)
         | in-Receiver+in_ok-new-in-Receiver w ↦
             ap (λ b. (own-1.entry b.vtable).1.plain b.value) w.member-is
             ∙ read_made own-1 (own-1.entry at-1-2) at-1-2 refl Record (λ j. j.1.plain) _ _ _ w.into_dyn_box-in_ok-new-in-Receiver.ensures.1
-            ∙ w.in_ok-new-in-Receiver.ensures.ok ∙ sym (ap record_of w.in-Receiver.is)
+            ∙ w.in_ok-new-in-Receiver.ensures.ok ∙ sym (ap record_made w.in-Receiver.is)
         | in-Late+in_ok-new-in-Late w ↦
             ap (λ b. (own-1.entry b.vtable).1.plain b.value) w.member-is
             ∙ read_made own-1 (own-1.entry at-1-3) at-1-3 refl Record (λ j. j.1.plain) _ _ _ w.into_dyn_box-in_ok-new-in-Late.ensures.1
-            ∙ w.in_ok-new-in-Late.ensures.ok ∙ sym (ap record_of w.in-Late.is)
+            ∙ w.in_ok-new-in-Late.ensures.ok ∙ sym (ap record_made w.in-Late.is)
         | in-Listener+in_ok-new-in-Listener w ↦
             ap (λ b. (own-1.entry b.vtable).1.plain b.value) w.member-is
             ∙ read_made own-1 (own-1.entry at-1-4) at-1-4 refl Record (λ j. j.1.plain) _ _ _ w.into_dyn_box-in_ok-new-in-Listener.ensures.1
-            ∙ w.in_ok-new-in-Listener.ensures.ok ∙ sym (ap record_of w.in-Listener.is)
+            ∙ w.in_ok-new-in-Listener.ensures.ok ∙ sym (ap record_made w.in-Listener.is)
       ])
-      ∙ sym (ap (λ ms. map (λ b. (own-1.entry b.vtable).1.plain b.value) c.loop-made.members.items ++ map record_of ms)
+      ∙ sym (ap (λ ms. map (λ b. (own-1.entry b.vtable).1.plain b.value) c.loop-made.members.items ++ map record_made ms)
       c.in-Some.ensures.steps.0)
       ∙ c.loop-made.invariant.2,
 )
@@ -56,7 +56,7 @@ run-requires-clause-boxes g c =
     let none : into_iter_items c.loop-made.made-iterator ≡ [] = grind (arith, common_steps) in
     λ κs alive. (
       c.args.seed,
-      all-boxed (λ b. (own-1.entry b.vtable).1.plain b.value) record_of c.loop-made.members.items
+      all-boxed (λ b. (own-1.entry b.vtable).1.plain b.value) record_made c.loop-made.members.items
           (into_iter_items c.loop-made.made-iterator) _ none c.loop-made.invariant.2,
     )
 
@@ -65,7 +65,7 @@ returns-in-Ok-clause-report g c =
     let ok = c.loop-made.made-iterator.rest.ok in
     let none : into_iter_items c.loop-made.made-iterator ≡ [] = grind (arith, common_steps) in
     c.in-Ok.ensures.report c.args.seed
-    (all-boxed (λ b. (own-1.entry b.vtable).1.plain b.value) record_of c.loop-made.members.items
+    (all-boxed (λ b. (own-1.entry b.vtable).1.plain b.value) record_made c.loop-made.members.items
     (into_iter_items c.loop-made.made-iterator) _ none c.loop-made.invariant.2)
 
 pub returns-in-Err-clause-report : goal.returns-in-Err-clause-report
@@ -73,5 +73,5 @@ returns-in-Err-clause-report g c =
     let ok = c.loop-made.made-iterator.rest.ok in
     let none : into_iter_items c.loop-made.made-iterator ≡ [] = grind (arith, common_steps) in
     c.in-Err.ensures.report c.args.seed
-    (all-boxed (λ b. (own-1.entry b.vtable).1.plain b.value) record_of c.loop-made.members.items
+    (all-boxed (λ b. (own-1.entry b.vtable).1.plain b.value) record_made c.loop-made.members.items
     (into_iter_items c.loop-made.made-iterator) _ none c.loop-made.invariant.2)

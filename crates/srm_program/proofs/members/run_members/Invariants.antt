@@ -1,7 +1,7 @@
 use Rattle.std.proofs.Common.{◌++◌, map}
 use Rattle.std.specs.Vec.Iter.{into_iter_items}
 use Rattle.srm_engine.specs.Openings.{HoldOpeningRecords}
-use Rattle.srm_program.specs.Unboxed.{record_of}
+use Rattle.srm_program.specs.Unboxed.{record_made}
 use Rattle.srm_program.proofs.members.run_members.OwnLists.{own-1}
 use Rattle.srm_program.proofs.members.run_members.Given as goal
 
@@ -11,4 +11,4 @@ invariant-loop-made g l =
     (goal.iterator-loop-made g).can_next l.made-iterator
     × (goal.iterator-loop-made g).is_finite l.made-iterator
     × HoldOpeningRecords l.scenario l.net l.seed
-    (map (λ b. (own-1.entry b.vtable).1.plain b.value) l.members.items ++ map record_of (into_iter_items l.made-iterator))
+    (map (λ b. (own-1.entry b.vtable).1.plain b.value) l.members.items ++ map record_made (into_iter_items l.made-iterator))

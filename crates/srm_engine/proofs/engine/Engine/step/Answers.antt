@@ -1,12 +1,14 @@
 use Rattle.std.proofs.Common.{◌≡◌, ◌<◌, ◌≤◌, ◌++◌, ◌∷◌, [], List, Some, sym, ◌∙◌, ap, subst, slice_set, arith, le_refl}
+use Rattle.std.proofs.lemmas.Result.{err_from_is_err_and}
 use Rattle.srm_net.specs.Network.{Network}
 use Rattle.srm_member.specs.declared.row.Row.{Row}
 use Rattle.srm_cell.specs.Setting.{setting_of, traffic_of, IsFit}
 use Rattle.srm_cell.specs.Crossings.{packets_of}
 use Rattle.srm_cell.specs.Cells.{PlainCell, Done, step_at, own_step}
+use Rattle.srm_cell.specs.Views.{HasWork}
 use Rattle.srm_cell.proofs.FitSettings.{settings_are_fit}
 use Rattle.srm_cell.proofs.CellSteps.{SentBy}
-use Rattle.srm_model.specs.World.{after_step, cells_after}
+use Rattle.srm_model.specs.World.{after_step, cells_after, step}
 use Rattle.srm_engine.specs.Engines.{setting_in}
 use Rattle.srm_model.specs.Hearing.{all_hear}
 use Rattle.srm_engine.specs.Seen.{AreSeen}
@@ -71,8 +73,8 @@ returns-in-Ok-None-clause-step g c = λ seed w h.
       record { seen = t.1; totals = h.totals },
     )
 
-pub run_fault-requires : goal.run_fault-requires
-run_fault-requires g c = λ spent.
+pub step_fault-requires : goal.step_fault-requires
+step_fault-requires g c = λ spent.
     let k = c.requires.known in
     let s = setting_in c.args.self.now k.0 in
     let fit : IsFit s = subst (λ (n : Network). IsFit (setting_of c.args.self.now.scenario.now n k.0)) (sym c.requires.network)
@@ -93,9 +95,9 @@ returns-in-Err-clause-step g c = λ seed w h.
     let early : c.in-Some.time < c.args.self.now.scenario.now.until =
     (let lt = c.if-time-until.false in let u = c.until-until.ensures.until in omega arith) in
     let p = cell_there s w c.args.self.now.cells.times h.seen.times c.in-Some.time c.in-Some.member c.in-Some.ensures early in
-    rw c.run_fault.ensures (refused (λ b. (goal.Member-dyn g (b.vtable, b.value)).plain b.value) s w c.in-Some.member w.cells
-    (own_step c.until-until.result c.in-Some.member p.0) c.in-Err.fault c.step.new.self.cells.items c.step.new.self.times _
-    (run_fault-requires g c.before) (c.in-Err.ensures w.cells p.0 h.seen p.1)
+    rw c.step_fault.ensures (refused (λ b. (goal.Member-dyn g (b.vtable, b.value)).plain b.value) s w c.in-Some.member w.cells
+    (own_step c.until-until.result c.in-Some.member p.0) c.in-Err.fault c.step.new.self.cells.items c.step.new.self.times
+    (step_fault-requires g c.before) (c.in-Err.ensures w.cells p.0 h.seen p.1)
     (step_by s w c.args.self.now.cells.times h.seen.times c.in-Some.time c.in-Some.member c.in-Some.ensures early p.0 p.1
     ∙ ap (λ u. after_step s w c.in-Some.member (own_step u c.in-Some.member p.0)) (sym c.until-until.ensures.until)))
 
@@ -125,8 +127,8 @@ send-requires-clause-may g c =
           (subst (λ m. MaySend s.traffic.members (slice_set k.1.cells m t.0.cell) (packets_of k.1.trace) t.0.row.sent) of may),
     )
 
-pub returns-in-Ok-clause-step : goal.returns-in-Ok-clause-step
-returns-in-Ok-clause-step g c = λ seed w h.
+pub returns-clause-step : goal.returns-clause-step
+returns-clause-step g c = λ seed w h.
     let s = setting_in c.args.self.now seed in
     let early : c.in-Some.time < c.args.self.now.scenario.now.until =
     (let lt = c.if-time-until.false in let u = c.until-until.ensures.until in omega arith) in
@@ -140,7 +142,7 @@ returns-in-Ok-clause-step g c = λ seed w h.
     ∙ ap (λ u. own_step u c.in-Some.member p.0) (sym c.until-until.ensures.until) ∙ t.1 in
     let by = subst (λ m. SentBy m t.0.row.sent) of (sent_by_member e t.0 done) in
     let same = c.send.ensures.same in
-    let sent = c.in-Ok.ensures.sent (slice_set w.cells c.in-Some.member t.0.cell) (packets_of w.trace) t.3 h.totals in
+    let sent = c.in_ok-send.ensures.sent (slice_set w.cells c.in-Some.member t.0.cell) (packets_of w.trace) t.3 h.totals in
     let cells = settled_is s c.in-Some.member t.0 w.cells (get_below w.cells c.in-Some.member p.0 p.1) by
     ∙ ap (λ (r : Row). all_hear s.traffic r.sent (slice_set w.cells c.in-Some.member t.0.cell)) t.2 in (
       record { cells = cells_after s c.in-Some.member t.0 0 w.cells; trace = w.trace ++ t.0.row ∷ [] },
@@ -156,3 +158,18 @@ returns-in-Ok-clause-step g c = λ seed w h.
             ∙ sym (λ k. numbers_of (traffic_of (same.0 k).now (same.1 k).now) (packets_of (w.trace ++ t.0.row ∷ [])));
       },
     )
+
+pub returns-in_err-send-clause-step : goal.returns-in_err-send-clause-step
+returns-in_err-send-clause-step g c = λ seed w h.
+    let s = setting_in c.args.self.now seed in
+    let early : c.in-Some.time < c.args.self.now.scenario.now.until =
+    (let lt = c.if-time-until.false in let u = c.until-until.ensures.until in omega arith) in
+    let p = cell_there s w c.args.self.now.cells.times h.seen.times c.in-Some.time c.in-Some.member c.in-Some.ensures early in
+    let told = rw c.in-Ok-Some.field-0-is at c.in-Ok-Some.ensures in
+    let t = told w.cells p.0 h.seen p.1 in
+    let done : step s w ≡ Done (record { cells = cells_after s c.in-Some.member t.0 0 w.cells; trace = w.trace ++ t.0.row ∷ [] }) =
+    step_by s w c.args.self.now.cells.times h.seen.times c.in-Some.time c.in-Some.member c.in-Some.ensures early p.0 p.1
+    ∙ ap (λ u. after_step s w c.in-Some.member (own_step u c.in-Some.member p.0)) (sym c.until-until.ensures.until)
+    ∙ ap (after_step s w c.in-Some.member) t.1 ∙ after_done s w c.in-Some.member t.0 in
+    let told_err = err_from_is_err_and c.from_residual.result c.from_residual.ensures.1 in
+    rw (told_err.1, told_err.2) (subst HasWork (sym done) tt)

@@ -1,19 +1,19 @@
-use Rattle.std.proofs.Common.{◌≡◌, ◌<◌, ◌^◌, List, [], ◌∷◌, ◌++◌, Err, refl, sym, ◌∙◌, ap, subst, append-nil, append_assoc, length}
+use Rattle.std.proofs.Common.{◌≡◌, ◌<◌, ◌^◌, List, [], ◌∷◌, ◌++◌, inl, inr, refl, sym, ◌∙◌, ap, subst, append-nil, append_assoc, length}
 use Rattle.std.proofs.Common.{length-append, arith}
 use Rattle.srm_member.specs.declared.row.Row.{Row}
 use Rattle.srm_cell.specs.Setting.{Setting, setting_of}
 use Rattle.srm_model.specs.World.{step, IsReached}
-use Rattle.srm_engine.specs.Engines.{setting_in, TellsWorld}
-use Rattle.srm_engine.proofs.PhaseLemmas.{pushed_if}
-use Rattle.srm_engine.proofs.StreamLemmas.{countable, not_stepped}
+use Rattle.srm_engine.specs.Engines.{setting_in, MayRefuseStep}
+use Rattle.srm_cell.proofs.Pushes.{pushed_if}
+use Rattle.srm_engine.proofs.StreamLemmas.{countable, not_stepped, stepped_from}
 use Rattle.srm_engine.proofs.Stepping.{reached_more}
 use Rattle.srm_engine.proofs.engine.Engine.steps.Goals as goal
 
 pub loop-alloc-init : goal.loop-alloc-init
 loop-alloc-init g c = (
   (refl, refl),
-  λ seed w r h. (w, r, sym (append-nil w.trace) ∙ ap (λ (l : List Row). w.trace ++ l) (sym c.in-Ok.ensures.items), h),
-  (let none = ap length c.in-Ok.ensures.items in omega arith),
+  λ seed w r h. (w, r, sym (append-nil w.trace) ∙ ap (λ (l : List Row). w.trace ++ l) (sym c.new-rows.ensures.items), h, inl refl),
+  (let none = ap length c.new-rows.ensures.items in omega arith),
 )
 
 pub step-requires-clause-known : goal.step-requires-clause-known
@@ -49,6 +49,7 @@ loop-alloc-preserved g c =
             t.2 ∙ ap (λ (l : List Row). l ++ c.in-Ok-Some.row ∷ []) i.2 ∙
                 append_assoc w.trace c.loop-alloc.rows.items (c.in-Ok-Some.row ∷ []) ∙ ap (λ (l : List Row). w.trace ++ l) (sym pushed),
             t.3,
+            inr (stepped_from s w i.0 t.0 (sym here ∙ t.1) i.4),
           ),
       (let more = ap length pushed ∙ length-append c.loop-alloc.rows.items (c.in-Ok-Some.row ∷ []) in omega arith),
     )
@@ -59,9 +60,7 @@ returns-in-Err-clause-steps g c = λ seed w r h.
     let is = c.loop-alloc.invariant.0 in
     let i = c.loop-alloc.invariant.1 seed w r h in
     let here : step (setting_in c.loop-alloc.self seed) i.0 ≡ step s i.0 = λ k. step (setting_of (is.0 k).now (is.1 k).now seed) i.0 in
-    not_stepped (λ b. (goal.Member-dyn g (b.vtable, b.value)).plain b.value) s c.args.most w i.0 c.in-Err.fault c.step.new.self i.1
-    (subst (λ o. TellsWorld (λ b. (goal.Member-dyn g (b.vtable, b.value)).plain b.value) i.0 o (Err c.in-Err.fault) c.step.new.self) here
-    (c.in-Err.ensures.step seed i.0 i.3))
+    not_stepped s w i.0 c.in-Err.fault i.1 i.4 (subst (λ o. MayRefuseStep o c.in-Err.fault) here (c.in-Err.ensures.step seed i.0 i.3))
 
 pub returns-in-Ok-None-clause-steps : goal.returns-in-Ok-None-clause-steps
 returns-in-Ok-None-clause-steps g c = λ seed w r h.
@@ -71,9 +70,19 @@ returns-in-Ok-None-clause-steps g c = λ seed w r h.
     let told = rw c.in-Ok-None.field-0-is at c.in-Ok-None.ensures.step in
     let t = told seed i.0 i.3 in
     let here : step (setting_in c.loop-alloc.self seed) i.0 ≡ step s i.0 = λ k. step (setting_of (is.0 k).now (is.1 k).now seed) i.0 in
-    (i.0, i.1, i.2, t.1, c.loop-alloc.invariant.2, λ _. sym here ∙ t.0)
+    (i.0, i.1, i.2, t.1, λ _. sym here ∙ t.0)
 
 pub returns-clause-steps : goal.returns-clause-steps
 returns-clause-steps g c = λ seed w r h.
     let i = c.loop-alloc.invariant.1 seed w r h in
-    (i.0, i.1, i.2, i.3, c.loop-alloc.invariant.2, λ lt. absurd (omega (arith, lt)))
+    (i.0, i.1, i.2, i.3, λ lt. absurd (omega (arith, lt)))
+
+pub returns-then-is_err-clause-steps : goal.returns-then-is_err-clause-steps
+returns-then-is_err-clause-steps g c = λ seed w r h.
+    let s = setting_in c.args.self.now seed in
+    let is = c.loop-alloc.invariant.0 in
+    let i = c.loop-alloc.invariant.1 seed w r h in
+    let told = rw c.in-Ok-Some.field-0-is at c.in-Ok-Some.ensures.step in
+    let t = told seed i.0 i.3 in
+    let here : step (setting_in c.loop-alloc.self seed) i.0 ≡ step s i.0 = λ k. step (setting_of (is.0 k).now (is.1 k).now seed) i.0 in
+    inl (stepped_from s w i.0 t.0 (sym here ∙ t.1) i.4)

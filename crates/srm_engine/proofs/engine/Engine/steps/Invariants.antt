@@ -1,5 +1,6 @@
-use Rattle.std.proofs.Common.{◌≡◌, ◌≤◌, ◌-◌, ◌++◌, ℕ, length, vec_len}
-use Rattle.srm_model.specs.World.{World, IsReached}
+use Rattle.std.proofs.Common.{◌≡◌, ◌⊎◌, ◌≤◌, ◌-◌, ◌++◌, ℕ, length, vec_len}
+use Rattle.srm_cell.specs.Views.{HasWork}
+use Rattle.srm_model.specs.World.{World, IsReached, step}
 use Rattle.srm_engine.specs.Engines.{IsStillOf, Shows, setting_in}
 use Rattle.srm_engine.proofs.engine.Engine.steps.Given as goal
 
@@ -10,7 +11,8 @@ invariant-loop-alloc g l =
     × ((seed : ℕ) (w : World) → IsReached (setting_in l.fn.self seed) w →
     Shows (λ b. (goal.Member-dyn g (b.vtable, b.value)).plain b.value) l.fn.self w
     → (v : World) × IsReached (setting_in l.fn.self seed) v × (v.trace ≡ w.trace ++ l.rows.items)
-    × Shows (λ b. (goal.Member-dyn g (b.vtable, b.value)).plain b.value) l.self v)
+    × Shows (λ b. (goal.Member-dyn g (b.vtable, b.value)).plain b.value) l.self v
+    × ((v ≡ w) ⊎ HasWork (step (setting_in l.fn.self seed) w)))
     × (length l.rows.items ≤ l.most)
 
 abbrev pub decreases-loop-alloc : goal.decreases-loop-alloc

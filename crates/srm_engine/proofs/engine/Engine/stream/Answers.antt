@@ -1,37 +1,37 @@
-use Rattle.std.proofs.Common.{◌≡◌, ◌<◌, List, [], Ok, Err, refl, sym, ◌∙◌, ap, subst, add-zero, append-nil, length, length-append, arith}
+use Rattle.std.proofs.Common.{◌≡◌, ◌<◌, ◌≤◌, List, [], Ok, inr, refl, sym, ◌∙◌, ap, subst, add-zero, length, length-append, arith}
+use Rattle.std.proofs.lemmas.List.Elements.{All-nil}
 use Rattle.srm_member.specs.declared.row.Row.{Row}
 use Rattle.srm_cell.specs.Setting.{Setting, setting_of}
 use Rattle.srm_model.specs.World.{opening, IsReached}
 use Rattle.srm_engine.specs.Engines.{setting_in}
-use Rattle.srm_engine.specs.Streams.{TellsSteps}
-use Rattle.srm_engine.proofs.StreamLemmas.{sink_refuses, not_taken}
+use Rattle.srm_engine.specs.Sinks.{most_rows}
+use Rattle.srm_engine.specs.Streams.{TellsSteps, MayStop}
+use Rattle.srm_engine.proofs.StreamLemmas.{piece_more}
 use Rattle.srm_engine.proofs.Stepping.{opening_reached, opening_trace}
 use Rattle.srm_engine.proofs.engine.Engine.stream.Goals as goal
 
 pub returns-in-Err-clause-rows : goal.returns-in-Err-clause-rows
 returns-in-Err-clause-rows g c = λ seed h.
-    let s = setting_in c.args.self.now seed in
-    let took = c.in-Err.ensures.rows in (
-      (
-        opening s,
-        opening_reached s,
-        subst (λ (l : List Row). g.S.RowSink.part c.args.sink.now l c.hand.new.sink) (c.new.ensures.items ∙ sym (opening_trace s)) took.0,
-      ),
-      sink_refuses (Unit {0}) s c.in-Err.fault took.1,
+    let s = setting_in c.args.self.now seed in (
+      opening s,
+      opening_reached s,
+      subst (λ (l : List Row). g.S.RowSink.part c.args.sink.now l c.hand_none.new.sink) (sym (opening_trace s))
+          c.in-Err.ensures.rows,
     )
 
 pub loop-left-init : goal.loop-left-init
 loop-left-init g c = record {
   same = (refl, refl);
-  device = c.in_default.ensures.device;
-  live = c.in_default.ensures.stands;
+  device = c.in_default.ensures.same;
+  live = c.in_default.ensures.stage;
   unfailed = c.in_default.ensures.failures ∙ add-zero _;
+  pieces = ([], All-nil (λ (l : List Row). length l ≤ most_rows), c.in_default.ensures.handed);
   rows = λ seed h.
       let s = setting_in c.args.self.now seed in
       let none = ap length (opening_trace s) in (
         opening s,
         opening_reached s,
-        subst (λ (l : List Row). g.S.RowSink.took c.args.sink.now l c.hand.new.sink) (c.new.ensures.items ∙ sym (opening_trace s))
+        subst (λ (l : List Row). g.S.RowSink.took c.args.sink.now l c.hand_none.new.sink) (sym (opening_trace s))
             c.in_default.ensures.rows,
         h,
         omega arith,
@@ -54,34 +54,24 @@ returns-in-Err-steps-clause-rows g c = λ seed h.
     let i = c.loop-left.invariant.rows seed h in
     let back : setting_in c.loop-left.self seed ≡ s = λ t. setting_of (is.0 t).now (is.1 t).now seed in
     let t = c.in-Err-steps.ensures.steps seed i.0 (subst (λ (x : Setting). IsReached x i.0) (sym back) i.1) i.3 in (
-      (
-        i.0,
-        i.1,
-        subst (λ (l : List Row). g.S.RowSink.part c.args.sink.now l c.loop-left.sink) (append-nil i.0.trace)
-            (g.met.S.RowSink.part_more c.args.sink.now c.loop-left.sink c.loop-left.sink i.0.trace [] i.2
-            (g.met.S.RowSink.part_none c.loop-left.sink)),
-      ),
-      not_taken (λ b. (goal.Member-dyn g (b.vtable, b.value)).plain b.value) s 32 i.0 c.in-Err-steps.fault c.steps.new.self
-          (subst (λ (x : Setting). TellsSteps (λ b. (goal.Member-dyn g (b.vtable, b.value)).plain b.value) x 32 i.0
-          (Err c.in-Err-steps.fault) c.steps.new.self) back t),
+      i.0,
+      i.1,
+      i.2,
+      subst (λ (x : Setting). MayStop x i.0 c.in-Err-steps.fault) back t,
     )
 
-pub returns-in-Err-hand-clause-rows : goal.returns-in-Err-hand-clause-rows
-returns-in-Err-hand-clause-rows g c = λ seed h.
+pub returns-in-Err-rows-clause-rows : goal.returns-in-Err-rows-clause-rows
+returns-in-Err-rows-clause-rows g c = λ seed h.
     let s = setting_in c.args.self.now seed in
     let is = c.loop-left.invariant.same in
     let i = c.loop-left.invariant.rows seed h in
     let back : setting_in c.loop-left.self seed ≡ s = λ t. setting_of (is.0 t).now (is.1 t).now seed in
-    let t = c.in-Ok.ensures.steps seed i.0 (subst (λ (x : Setting). IsReached x i.0) (sym back) i.1) i.3 in
-    let took = c.in-Err-hand.ensures.rows in (
-      (
-        t.0,
-        subst (λ (x : Setting). IsReached x t.0) back t.1,
-        subst (λ (l : List Row). g.S.RowSink.part c.args.sink.now l c.hand-in-loop-left.new.sink) (sym t.2)
-            (g.met.S.RowSink.part_more c.args.sink.now c.loop-left.sink c.hand-in-loop-left.new.sink i.0.trace c.in-Ok.rows.items i.2
-            took.0),
-      ),
-      sink_refuses (Unit {0}) s c.in-Err-hand.fault took.1,
+    let t = c.in-Ok.ensures.steps seed i.0 (subst (λ (x : Setting). IsReached x i.0) (sym back) i.1) i.3 in (
+      t.0,
+      subst (λ (x : Setting). IsReached x t.0) back t.1,
+      subst (λ (l : List Row). g.S.RowSink.part c.args.sink.now l c.rows.new.self) (sym t.2)
+          (g.met.S.RowSink.part_more c.args.sink.now c.loop-left.sink c.rows.new.self i.0.trace c.in-Ok.rows.items i.2
+          c.in-Err-rows.ensures.rows),
     )
 
 pub returns-then-is_last-clause-rows : goal.returns-then-is_last-clause-rows
@@ -94,26 +84,29 @@ returns-then-is_last-clause-rows g c = λ seed h.
     (Ok c.in-Ok.rows) c.steps.new.self) back
     (c.in-Ok.ensures.steps seed i.0 (subst (λ (x : Setting). IsReached x i.0) (sym back) i.1) i.3) in
     let short : length c.in-Ok.rows.items < 32 = omega arith in (
-      (
-        t.0,
-        record { reached = t.1; idle = t.5 short },
-        subst (λ (l : List Row). g.S.RowSink.took c.args.sink.now l c.hand-in-loop-left.new.sink) (sym t.2)
-            (g.met.S.RowSink.took_more c.args.sink.now c.loop-left.sink c.hand-in-loop-left.new.sink i.0.trace c.in-Ok.rows.items i.2
-            c.in_default-hand.ensures.rows),
-        t.3,
-      ),
-      tt,
+      t.0,
+      record { reached = t.1; idle = t.4 short },
+      subst (λ (l : List Row). g.S.RowSink.took c.args.sink.now l c.rows.new.self) (sym t.2)
+          (g.met.S.RowSink.took_more c.args.sink.now c.loop-left.sink c.rows.new.self i.0.trace c.in-Ok.rows.items i.2
+          c.in_default-rows.ensures.rows),
+      t.3,
     )
+
+pub returns-then-is_last-clause-pieces : goal.returns-then-is_last-clause-pieces
+returns-then-is_last-clause-pieces g c = piece_more g.S.RowSink.handed g.met.S.RowSink.handed_more c.args.sink.now c.loop-left.sink
+    c.rows.new.self c.in-Ok.rows.items c.loop-left.invariant.pieces c.in-Ok.ensures.few c.in_default-rows.ensures.handed
 
 pub loop-left-preserved : goal.loop-left-preserved
 loop-left-preserved g c =
     let is = c.loop-left.invariant.same in
     let same = c.steps.ensures.same in record {
       same = (same.0 ∙ is.0, same.1 ∙ is.1);
-      device = g.met.S.RowSink.same_more c.args.sink.now c.loop-left.sink c.hand-in-loop-left.new.sink c.loop-left.invariant.device
-          c.in_default-hand.ensures.device;
-      live = c.in_default-hand.ensures.stands;
-      unfailed = c.in_default-hand.ensures.failures ∙ add-zero _ ∙ c.loop-left.invariant.unfailed;
+      device = g.met.S.RowSink.same_more c.args.sink.now c.loop-left.sink c.rows.new.self c.loop-left.invariant.device
+          c.in_default-rows.ensures.same;
+      live = c.in_default-rows.ensures.stage;
+      unfailed = c.in_default-rows.ensures.failures ∙ add-zero _ ∙ c.loop-left.invariant.unfailed;
+      pieces = piece_more g.S.RowSink.handed g.met.S.RowSink.handed_more c.args.sink.now c.loop-left.sink c.rows.new.self
+          c.in-Ok.rows.items c.loop-left.invariant.pieces c.in-Ok.ensures.few c.in_default-rows.ensures.handed;
       rows = λ seed h.
           let s = setting_in c.args.self.now seed in
           let i = c.loop-left.invariant.rows seed h in
@@ -122,13 +115,13 @@ loop-left-preserved g c =
           (Ok c.in-Ok.rows) c.steps.new.self) back
           (c.in-Ok.ensures.steps seed i.0 (subst (λ (x : Setting). IsReached x i.0) (sym back) i.1) i.3) in
           let room = i.4 in
-          let few = t.4 in
+          let few = c.in-Ok.ensures.few in
           let long = ap length t.2 ∙ length-append i.0.trace c.in-Ok.rows.items in (
             t.0,
             t.1,
-            subst (λ (l : List Row). g.S.RowSink.took c.args.sink.now l c.hand-in-loop-left.new.sink) (sym t.2)
-                (g.met.S.RowSink.took_more c.args.sink.now c.loop-left.sink c.hand-in-loop-left.new.sink i.0.trace c.in-Ok.rows.items i.2
-                c.in_default-hand.ensures.rows),
+            subst (λ (l : List Row). g.S.RowSink.took c.args.sink.now l c.rows.new.self) (sym t.2)
+                (g.met.S.RowSink.took_more c.args.sink.now c.loop-left.sink c.rows.new.self i.0.trace c.in-Ok.rows.items i.2
+                c.in_default-rows.ensures.rows),
             t.3,
             omega arith,
           );
@@ -136,13 +129,14 @@ loop-left-preserved g c =
 
 pub returns-clause-rows : goal.returns-clause-rows
 returns-clause-rows g c = λ seed h.
-    let i = c.loop-left.invariant.rows seed h in (
-      (
-        i.0,
-        i.1,
-        subst (λ (l : List Row). g.S.RowSink.part c.args.sink.now l c.loop-left.sink) (append-nil i.0.trace)
-            (g.met.S.RowSink.part_more c.args.sink.now c.loop-left.sink c.loop-left.sink i.0.trace [] i.2
-            (g.met.S.RowSink.part_none c.loop-left.sink)),
-      ),
-      tt,
-    )
+    let i = c.loop-left.invariant.rows seed h in
+    let none = c.loop-left-test.false in
+    let all = i.4 in
+    (i.0, i.1, i.2, inr (omega arith))
+
+pub returns-in-Err-clause-pieces : goal.returns-in-Err-clause-pieces
+returns-in-Err-clause-pieces g c = ([], All-nil (λ (l : List Row). length l ≤ most_rows), c.in-Err.ensures.handed)
+
+pub returns-in-Err-rows-clause-pieces : goal.returns-in-Err-rows-clause-pieces
+returns-in-Err-rows-clause-pieces g c = piece_more g.S.RowSink.handed g.met.S.RowSink.handed_more c.args.sink.now c.loop-left.sink
+    c.rows.new.self c.in-Ok.rows.items c.loop-left.invariant.pieces c.in-Ok.ensures.few c.in-Err-rows.ensures.handed

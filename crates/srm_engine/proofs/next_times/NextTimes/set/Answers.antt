@@ -1,7 +1,7 @@
 use Rattle.std.proofs.Common.{◌≡◌, ◌<◌, ◌+◌, ◌/◌, ◌++◌, ℕ, List, Option, length, take, drop, sym, ◌∙◌, ap, subst, slice_set, arith}
 use Rattle.std.proofs.Math.Seq.{take-append_seam}
 use Rattle.srm_engine.specs.declared.next_times.Entry.{Entry}
-use Rattle.srm_engine.specs.NextTimes.{Holds, IsTournament, times_in, IsTree, SetsLeaf, IsEntryOf}
+use Rattle.srm_engine.specs.NextTimes.{Holds, IsTournament, times_in, AreWinners, SetsLeaf, IsEntryOf}
 use Rattle.srm_engine.proofs.Index.{holds_set, times_are, tournament}
 use Rattle.srm_engine.proofs.next_times.NextTimes.set.Goals as goal
 
@@ -12,7 +12,7 @@ written len old new = take len (new ++ drop (length new) old)
 -- a tournament that climbed, put back in its vector, is one of the times with the one that was set
 put_back : (len : ℕ) (es was new : List Entry) (leaf m : ℕ) (t : Option ℕ) (e : Entry) (ts : List (Option ℕ))
     → IsTournament es → times_in es ≡ ts → m < length ts → len ≡ length es → was ≡ es → length new ≡ length was
-    → leaf ≡ length es / 2 + m → IsEntryOf t m e → IsTree new → SetsLeaf leaf e was new
+    → leaf ≡ length es / 2 + m → IsEntryOf t m e → AreWinners new → SetsLeaf leaf e was new
     → IsTournament (written len es new) × (times_in (written len es new) ≡ slice_set ts m t)
 put_back len es was new leaf m t e ts h view lt all same as_long at is tree set =
     let held : Holds ts es = subst (λ us. Holds us es) view h in

@@ -6,7 +6,7 @@ use Rattle.srm_cell.specs.Setting.{setting_of}
 use Rattle.srm_model.specs.World.{opening, IsReached, IsLast}
 use Rattle.srm_engine.specs.declared.ends.Ends.{Ends}
 use Rattle.srm_engine.specs.Ends.{ends_rule}
-use Rattle.srm_engine.specs.Windowed.{MayCome, calls_of}
+use Rattle.srm_engine.specs.Windowed.{MayCome, calls_for}
 use Rattle.srm_engine.specs.WindowEngines.{setting_by, rule_by}
 use Rattle.srm_engine.proofs.Stepping.{opening_reached, opening_trace}
 use Rattle.srm_engine.proofs.StreamLemmas.{front_taken}
@@ -19,7 +19,7 @@ returns-in-Err-clause-windows g c = λ seed h.
       (
         opening s,
         opening_reached s,
-        subst (λ (l : List Row). g.S.RowSink.part c.args.sink.now l c.rows.new.self) (c.new.ensures.items ∙ sym (opening_trace s))
+        subst (λ (l : List Row). g.S.RowSink.part c.args.sink.now l c.hand_none.new.sink) (sym (opening_trace s))
             c.in-Err.ensures.rows,
       ),
       tt,
@@ -39,7 +39,7 @@ loop-begin-init g c = record {
         [],
         opening s,
         h,
-        subst (λ (l : List Row). g.S.RowSink.took c.args.sink.now l c.rows.new.self) (c.new.ensures.items ∙ sym (opening_trace s))
+        subst (λ (l : List Row). g.S.RowSink.took c.args.sink.now l c.hand_none.new.sink) (sym (opening_trace s))
             c.in_default.ensures.rows,
         g.met.C.Crew.handed_none c.args.crew.now,
       );
@@ -78,8 +78,8 @@ returns-in-Err-rows-clause-windows g c = λ seed h.
         subst (λ (k : PlainScenario × Network × ℕ × Ends). IsReached (setting_of k.0 k.1 seed) told.0) (c.in-Ok.ensures.course ∙ v.course)
             (reached (λ b. (goal.Member-dyn g (b.vtable, b.value)).plain b.value) c.in-Ok.ran.0 c.in-Ok.ensures.stands seed (i.0 ++ i.1 ∷
             []) told.0 told.1),
-        subst (λ (l : List Row). g.S.RowSink.part c.args.sink.now l c.rows-in-loop-begin.new.self) (sym told.2)
-            (g.met.S.RowSink.part_more c.args.sink.now c.loop-begin.sink c.rows-in-loop-begin.new.self i.1.trace c.in-Ok.ran.1.items i.3
+        subst (λ (l : List Row). g.S.RowSink.part c.args.sink.now l c.rows.new.self) (sym told.2)
+            (g.met.S.RowSink.part_more c.args.sink.now c.loop-begin.sink c.rows.new.self i.1.trace c.in-Ok.ran.1.items i.3
             c.in-Err-rows.ensures.rows),
       ),
       tt,
@@ -97,7 +97,7 @@ loop-begin-preserved g c = record {
   stands = c.in-Ok.ensures.stands;
   course = c.in-Ok.ensures.course ∙ c.loop-begin.invariant.course;
   next = c.begin-begin-in-loop-begin.ensures;
-  device = g.met.S.RowSink.same_more c.args.sink.now c.loop-begin.sink c.rows-in-loop-begin.new.self c.loop-begin.invariant.device
+  device = g.met.S.RowSink.same_more c.args.sink.now c.loop-begin.sink c.rows.new.self c.loop-begin.invariant.device
       c.in_default-rows.ensures.same;
   live = c.in_default-rows.ensures.stage;
   unfailed = c.in_default-rows.ensures.failures ∙ add-zero _ ∙ c.loop-begin.invariant.unfailed;
@@ -111,11 +111,11 @@ loop-begin-preserved g c = record {
         i.0 ++ i.1 ∷ [],
         told.0,
         told.1,
-        subst (λ (l : List Row). g.S.RowSink.took c.args.sink.now l c.rows-in-loop-begin.new.self) (sym told.2)
-            (g.met.S.RowSink.took_more c.args.sink.now c.loop-begin.sink c.rows-in-loop-begin.new.self i.1.trace c.in-Ok.ran.1.items i.3
+        subst (λ (l : List Row). g.S.RowSink.took c.args.sink.now l c.rows.new.self) (sym told.2)
+            (g.met.S.RowSink.took_more c.args.sink.now c.loop-begin.sink c.rows.new.self i.1.trace c.in-Ok.ran.1.items i.3
             c.in_default-rows.ensures.rows),
         subst (λ (k : PlainScenario × Network × ℕ × Ends). g.C.Crew.handed c.args.crew.now
-            (calls_of (ends_rule (setting_of k.0 k.1 seed) k.3) k.2 (i.0 ++ i.1 ∷ [])) c.window.new.crew) (sym c.in-Ok.ensures.course)
+            (calls_for (ends_rule (setting_of k.0 k.1 seed) k.3) k.2 (i.0 ++ i.1 ∷ [])) c.window.new.crew) (sym c.in-Ok.ensures.course)
             calls,
       );
 }
@@ -135,9 +135,9 @@ returns-clause-windows g c = λ seed h.
       subst (λ (k : PlainScenario × Network × ℕ × Ends). IsLast (setting_of k.0 k.1 seed) i.1) v.course last,
       i.3,
       subst (λ (k : PlainScenario × Network × ℕ × Ends). g.C.Crew.handed c.args.crew.now
-          (calls_of (ends_rule (setting_of k.0 k.1 seed) k.3) k.2 i.0) c.loop-begin.crew) v.course i.4,
+          (calls_for (ends_rule (setting_of k.0 k.1 seed) k.3) k.2 i.0) c.loop-begin.crew) v.course i.4,
     )
 
 pub returns-in-Err-rows-clause-device : goal.returns-in-Err-rows-clause-device
-returns-in-Err-rows-clause-device g c = g.met.S.RowSink.same_more c.args.sink.now c.loop-begin.sink c.rows-in-loop-begin.new.self
+returns-in-Err-rows-clause-device g c = g.met.S.RowSink.same_more c.args.sink.now c.loop-begin.sink c.rows.new.self
     c.loop-begin.invariant.device c.in-Err-rows.ensures.same

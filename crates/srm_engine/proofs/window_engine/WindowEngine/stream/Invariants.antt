@@ -1,15 +1,15 @@
 use Rattle.std.proofs.Common.{◌≡◌, ℕ, ◌-◌, List}
 use Rattle.srm_engine.specs.declared.sink.Stage.TheVariants.{Live}
 use Rattle.srm_model.specs.World.{World}
-use Rattle.srm_engine.specs.Windowed.{calls_of}
-use Rattle.srm_engine.specs.WindowEngines.{Stands, BeginsNext, OpensAt, ComesTo, course_of, rule_by}
+use Rattle.srm_engine.specs.Windowed.{calls_for}
+use Rattle.srm_engine.specs.WindowEngines.{IsUnderWay, BeginsNext, OpensAt, ComesTo, course_of, rule_by}
 use Rattle.srm_engine.proofs.window_engine.WindowEngine.stream.Given as goal
 
 -- the sink took the rows of the windows so far, for which the crew was handed their jobs
 abbrev pub invariant-loop-begin : goal.invariant-loop-begin
 invariant-loop-begin g l = record {
   ready : g.C.Crew.ready l.crew;
-  stands : Stands (λ b. (goal.Member-dyn g (b.vtable, b.value)).plain b.value) l.engine;
+  stands : IsUnderWay (λ b. (goal.Member-dyn g (b.vtable, b.value)).plain b.value) l.engine;
   course : course_of l.engine ≡ course_of l.fn.self;
   next : BeginsNext (λ b. (goal.Member-dyn g (b.vtable, b.value)).plain b.value) l.engine l.begin;
   device : g.S.RowSink.same l.fn.sink l.sink;
@@ -18,7 +18,7 @@ invariant-loop-begin g l = record {
   windows : (seed : ℕ) → OpensAt (λ b. (goal.Member-dyn g (b.vtable, b.value)).plain b.value) seed l.fn.self
       → (begins : List World) × (w : World) × ComesTo (λ b. (goal.Member-dyn g (b.vtable, b.value)).plain b.value) seed l.engine begins w
       × g.S.RowSink.took l.fn.sink w.trace l.sink
-      × g.C.Crew.handed l.fn.crew (calls_of (rule_by l.engine seed) l.engine.groups.cut begins) l.crew;
+      × g.C.Crew.handed l.fn.crew (calls_for (rule_by l.engine seed) l.engine.groups.cut begins) l.crew;
 }
 
 abbrev pub decreases-loop-begin : goal.decreases-loop-begin

@@ -1,14 +1,26 @@
 use Rattle.std.proofs.Common.{◌≡◌, ◌∙◌, ◌++◌, ◌∷◌, [], sym, ap, subst, refl, arith, length, All, IsSorted, IsPermutation}
+use Rattle.std.proofs.Common.{ℕ, List, take, drop, append-nil}
+use Rattle.std.proofs.lemmas.List.{take_all}
 use Rattle.srm_cell.specs.Crossings.{joined}
 use Rattle.srm_model.specs.World.{row_cmp}
 use Rattle.srm_model.specs.WindowRuns.{cells_in, AreNewInTurn, jobs_of}
 use Rattle.srm_engine.specs.Groups.{handed_jobs, groups_of, all_in, sizes, some_of, AreCuts, AreGrouped}
 use Rattle.srm_engine.specs.Soonest.{AreSoonest}
 use Rattle.srm_engine.specs.WindowEngines.{setting_by}
-use Rattle.srm_engine.proofs.SoonGroups.{as_many_kept, written}
+use Rattle.srm_engine.proofs.SoonGroups.{as_many_kept}
 use Rattle.srm_engine.proofs.WindowLemmas.{jobs_tell, window_ran, map_refused, end_is}
 use Rattle.srm_engine.proofs.WindowLemmas.{new_in_turn, after, one_more, counted_after, later}
 use Rattle.srm_engine.proofs.window_engine.WindowEngine.window.Goals as goal
+
+-- a vector after what it holds was written
+written : {A : Type 0} (n : ℕ) (xs new : List A) → n ≡ length xs → length new ≡ length xs → take n (new ++ drop (length new) xs) ≡ new
+written n xs new long same =
+    ap (λ k. take n (new ++ drop k xs)) same ∙ ap (λ l. take n (new ++ l)) (none xs) ∙ ap (take n) (append-nil new)
+    ∙ take_all n new (omega arith)
+  where
+    none : {A : Type 0} (ys : List A) → drop (length ys) ys ≡ []
+    none [] = refl
+    none (y ∷ ys) = none ys
 
 pub map-requires-clause-jobs : goal.map-requires-clause-jobs
 map-requires-clause-jobs g c =

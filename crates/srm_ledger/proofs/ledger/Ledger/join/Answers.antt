@@ -1,7 +1,7 @@
 use Rattle.std.proofs.Common.{arith, ◌≡◌, ℕ, ◌+◌, ◌^◌, ◌≤◌, List, [], slice_index, length, sym, ap, ◌∙◌, subst}
 use Rattle.atomic_table.specs.Table.{Me, Joins}
 use Rattle.srm_ledger.specs.declared.rule.Holding.{Holding}
-use Rattle.srm_ledger.specs.Tally.{Tallied, Finds, holding, spent, joined, saw}
+use Rattle.srm_ledger.specs.Tally.{Tallied, Finds, holding, spent, joined_holding, saw}
 use Rattle.srm_ledger.proofs.Keeps.{join_allowed, read_allowed, spare_saw}
 use Rattle.srm_ledger.proofs.Tied.{same_table, MayRead}
 use Rattle.srm_ledger.proofs.Zips.{added_at, added_length, larger_length}
@@ -18,7 +18,7 @@ join_seat-requires c =
     let id = c.first.inside.hold.id in
     let other = c.second.inside.hold.id in
     let P : Me (Unit {0}) Holding → Me (Unit {0}) Holding → Type 0 =
-    λ m k. Joins (Tallied table.key) id m.0 other k.0 (joined m.0 k.0) spent in (
+    λ m k. Joins (Tallied table.key) id m.0 other k.0 (joined_holding m.0 k.0) spent in (
       one,
       two,
       ap (λ m. m.1) b.0,
@@ -38,7 +38,7 @@ load-requires c =
     let width' = ap (λ t. t.words) two in
     let long = larger_length c.first.inside.seen.items c.second.inside.seen.items (omega arith) in
     let e = c.join_seat.ensures in
-    let is = e.2 ∙ (λ i. (joined (a.0 i).0 (b.0 i).0, (a.0 i).1)) in (
+    let is = e.2 ∙ (λ i. (joined_holding (a.0 i).0 (b.0 i).0, (a.0 i).1)) in (
       e.0 ∙ one,
       omega arith,
       subst (MayRead table.key table.table_id.slots c.join_seat.new.seat.id 0) (sym is)
@@ -58,10 +58,10 @@ invariant_of-result c =
     let seen = c.raise_each.ensures in
     let j = c.join_seat.ensures in
     let l = c.load.ensures in
-    let was : c.join_seat.new.seat.me ≡ (joined first second, []) =
-    j.2 ∙ (λ i. (joined (a.0 i).0 (b.0 i).0, (a.0 i).1)) in
+    let was : c.join_seat.new.seat.me ≡ (joined_holding first second, []) =
+    j.2 ∙ (λ i. (joined_holding (a.0 i).0 (b.0 i).0, (a.0 i).1)) in
     let found = subst (λ (m : Me (Unit {0}) Holding). Finds m.0 0 c.load.result) was l.2.1 in
-    let view : c.load.new.seat.me ≡ (joined first second, []) =
+    let view : c.load.new.seat.me ≡ (joined_holding first second, []) =
     l.2.0 ∙ (λ i. (saw (was i).0 0 c.load.result, (was i).1)) ∙ ap (λ (x : Holding). (x, [])) (spare_saw _ _ found) in
     let most : weight ≤ 65536 = found.part in
     let width = ap (λ t. t.words) (l.0 ∙ j.0) in

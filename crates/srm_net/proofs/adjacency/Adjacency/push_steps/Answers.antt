@@ -9,7 +9,7 @@ use Rattle.srm_net.specs.Paths.{is_in}
 use Rattle.srm_net.specs.Tables.{far_from}
 use Rattle.srm_net.specs.Adjacencies.{last_meeting}
 use Rattle.srm_net.specs.Waiting.{targets, Wait}
-use Rattle.srm_net.specs.Ways.{is_known}
+use Rattle.srm_net.specs.Known.{is_known}
 use Rattle.srm_net.proofs.Lists.{get_below, read_at}
 use Rattle.srm_net.proofs.Adjacent.{turn_told, before_told, told_from, last_at_most, other_is, no_link}
 use Rattle.srm_net.proofs.Walks.{same_link}

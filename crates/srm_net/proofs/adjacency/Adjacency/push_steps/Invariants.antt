@@ -6,7 +6,7 @@ use Rattle.srm_net.specs.Growth.{attached}
 use Rattle.srm_net.specs.Network.{Joins}
 use Rattle.srm_net.specs.Paths.{is_in}
 use Rattle.srm_net.specs.Waiting.{targets, Wait}
-use Rattle.srm_net.specs.Ways.{is_known}
+use Rattle.srm_net.specs.Known.{is_known}
 use Rattle.srm_net.proofs.adjacency.Adjacency.push_steps.Given as goal
 
 abbrev pub invariant-loop-next : goal.invariant-loop-next

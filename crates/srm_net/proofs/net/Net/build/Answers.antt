@@ -13,10 +13,8 @@ invariant_of-tree c =
       nodes = c.args.nodes;
       links = c.in_ok-to_vec.field-0;
       hosts = c.in_ok-to_vec-2.field-0;
-      ways = c.in_ok-of.field-0;
-      rooted = c.in_ok-rooted.rooted;
+      rooted = c.in_ok-of.field-0;
     }) c.args.links.now c.args.hosts.now links hosts c.in_ok-steps.ensures.tree delays are c.in_ok-of.ensures
-    c.in_ok-rooted.ensures
 
 pub invariant_of-tree-2 : goal.invariant_of-tree-2
 invariant_of-tree-2 c =
@@ -28,10 +26,8 @@ invariant_of-tree-2 c =
       nodes = c.args.nodes;
       links = c.in_ok-to_vec.field-0;
       hosts = c.in_ok-to_vec-2.field-0;
-      ways = c.in_ok-of.field-0;
-      rooted = c.in_ok-rooted.rooted;
+      rooted = c.in_ok-of.field-0;
     }) c.args.links.now c.args.hosts.now links hosts c.in_ok-steps.ensures.tree delays are c.in_ok-of.ensures
-    c.in_ok-rooted.ensures
 
 pub invariant_of-tree-3 : goal.invariant_of-tree-3
 invariant_of-tree-3 c =
@@ -43,7 +39,5 @@ invariant_of-tree-3 c =
       nodes = c.args.nodes;
       links = c.in_ok-to_vec.field-0;
       hosts = c.in_ok-to_vec-2.field-0;
-      ways = c.in_ok-of.field-0;
-      rooted = c.in_ok-rooted.rooted;
+      rooted = c.in_ok-of.field-0;
     }) c.args.links.now c.args.hosts.now links hosts c.in_ok-steps.ensures.tree delays are c.in_ok-of.ensures
-    c.in_ok-rooted.ensures

@@ -1,34 +1,60 @@
 use Rattle.std.proofs.Common.{◌≡◌, ◌∙◌, sym, ap, subst, refl, arith, ℕ, ◌+◌, ◌<◌, ◌≤◌, length, take, reverse, get_or, slice_get, true, []}
-use Rattle.std.proofs.Common.{slice_set, ◌∷◌}
+use Rattle.std.proofs.Common.{slice_set, slice_index_or, ◌∷◌}
 use Rattle.std.proofs.lemmas.List.{length-set, length-replicate, length-reverse, take_all}
 use Rattle.srm_net.specs.declared.position.Position.{Position}
-use Rattle.srm_net.specs.Growth.{attached}
+use Rattle.srm_net.specs.Growth.{attached, place_in}
 use Rattle.srm_net.specs.Limits.{greatest_distance, greatest_link_delay}
 use Rattle.srm_net.specs.Network.{plain_network}
 use Rattle.srm_net.specs.Paths.{is_in, delay_from, delay_of}
-use Rattle.srm_net.specs.Rooting.{takes, nowhere, at, IsPosition}
+use Rattle.srm_net.specs.Rooting.{takes, at, IsSubtree, IsPosition}
 use Rattle.srm_net.proofs.Adjacent.{no_link}
 use Rattle.srm_net.proofs.Growing.{all_attached}
-use Rattle.srm_net.proofs.Lists.{get_below, get_index}
+use Rattle.srm_net.proofs.Lists.{get_below, get_index, index_get, read_at}
 use Rattle.srm_net.proofs.PathLaws.{delay_bounded, from_fits}
 use Rattle.srm_net.proofs.TreeWays.{no_step, reverse_more}
-use Rattle.srm_net.proofs.Rootings.{place_in, place_apart, place_root, network_of, read_position, step_here, step_parent}
+use Rattle.srm_net.proofs.Rootings.{place_apart, place_root, network_of, read_position, step_here, step_parent}
 use Rattle.srm_net.proofs.Rootings.{step_node, parent_low}
-use Rattle.srm_net.proofs.Rootings.{jump_attached, step_position, root_position, nowhere_each, position_set, only_root}
+use Rattle.srm_net.proofs.Rootings.{jump_attached, step_position, root_position, root_with, each_alike, position_set, HasEnd, only_root}
+use Rattle.srm_net.proofs.Subtrees.{subtree_of}
 use Rattle.srm_net.proofs.rooted.Rooted.of.Goals as goal
+
+pub subtree_ends-requires-clause-grows : goal.subtree_ends-requires-clause-grows
+subtree_ends-requires-clause-grows c = (c.args.links.now, c.requires.tree, c.requires.grows)
+
+pub index-end-requires : goal.index-end-requires
+index-end-requires c =
+    let w = plain_network c.args.nodes c.args.links.now [] in
+    let b : (get_or c.args.steps.now c.loop-index.index no_step).node < c.args.nodes = step_node w c.requires.tree c.args.steps.now
+    c.requires.grows c.requires.all c.loop-index.index c.loop-index-test.true in
+    let long : length c.in_ok-ends.ends.items ≡ c.args.nodes = c.in_ok-ends.ensures.long in
+    omega (arith, c.in_ok-ends.ends.ok.0)
 
 pub loop-index-init : goal.loop-index-init
 loop-index-init c =
     let w = plain_network c.args.nodes c.args.links.now [] in
     let items = c.in_ok-positions.ensures.items_if_clones_equal (λ y h. h) in
     let place = place_in (reverse c.args.steps.now) in
+    let end = c.index-whole.result.now in
+    let ends = c.in_ok-ends.ends.items in
+    let some : 0 < c.from.result = omega (arith, c.requires.tree.some_nodes, c.from.ensures) in
+    let first : place 0 ≡ 0 = place_root c.args.links.now (reverse c.args.steps.now) c.requires.grows in
+    let root : at c.in_ok-positions.positions.items 0 ≡ root_with end =
+    ap (λ ps. at ps 0) items ∙ each_alike c.from.result 0 (root_with end) some in
+    let long : length ends ≡ c.args.nodes = c.in_ok-ends.ensures.long in
+    let read : end ≡ slice_index_or ends 0 0 =
+    read_at ends 0 0 end refl (omega (arith, c.requires.tree.some_nodes)) c.index-whole.ensures in
     record {
-      long = ap length items ∙ length-replicate c.from.result nowhere ∙ c.from.ensures;
+      long = ap length items ∙ length-replicate c.from.result (root_with end) ∙ c.from.ensures;
       told = λ u i. subst (λ y. IsPosition w place y (at c.in_ok-positions.positions.items y)) (only_root u i)
-          (subst (λ ps. IsPosition w place 0 (at ps 0)) (sym items)
-          (subst (IsPosition w place 0) (sym (nowhere_each c.from.result 0))
-          (root_position w place c.requires.tree.some_nodes (place_root c.args.links.now (reverse c.args.steps.now) c.requires.grows))));
+          (subst (IsPosition w place 0) (sym root) (root_position w place end c.requires.tree.some_nodes first));
+      ended = λ u i. subst (λ y. HasEnd ends place y (at c.in_ok-positions.positions.items y)) (only_root u i)
+          (subst (HasEnd ends place 0) (sym root) (record { is = read; under = λ h. absurd (omega arith) }));
     }
+
+pub index-whole-requires : goal.index-whole-requires
+index-whole-requires c =
+    let long : length c.in_ok-ends.ends.items ≡ c.args.nodes = c.in_ok-ends.ensures.long in
+    omega (arith, c.in_ok-ends.ends.ok.0, c.requires.tree.some_nodes)
 
 pub bounds-links-from : goal.bounds-links-from
 bounds-links-from c =
@@ -185,8 +211,20 @@ loop-index-preserved c =
     let q : IsPosition w place above.jump far = subst (IsPosition w place above.jump) (sym (read_position ps c.from-in-loop-index-3.result
     above.jump far c.from-in-loop-index-3.ensures (omega arith) c.index-far.ensures)) (inv.told above.jump
     (jump_attached w c.requires.tree steps c.requires.grows c.requires.all i c.loop-index-test.true above p)) in
+    let ends = c.in_ok-ends.ends.items in
+    let all : length (reverse steps) + 1 ≡ c.args.nodes = (let k = length-reverse steps in let h = c.requires.all in omega arith) in
+    let ended : length ends ≡ c.args.nodes = c.in_ok-ends.ensures.long in
+    let node : s.node < c.args.nodes = step_node w c.requires.tree steps c.requires.grows c.requires.all i c.loop-index-test.true in
+    let end : c.index-end.result.now ≡ slice_index_or ends s.node 0 =
+    read_at ends c.from-in-loop-index-5.result s.node c.index-end.result.now c.from-in-loop-index-5.ensures (omega arith)
+    c.index-end.ensures in
+    let sub : IsSubtree w place s.node s.link c.index-end.result.now =
+    subst (IsSubtree w place s.node s.link) (sym end)
+    (subtree_of w c.requires.tree (reverse steps) c.requires.grows all s (slice_index_or ends s.node 0)
+    (c.in_ok-ends.ensures.ends.spans i s (index_get steps i no_step c.loop-index-test.true))) in
     let new : Position = record {
       place = i + 1;
+      end = c.index-end.result.now;
       depth = above.depth + 1;
       parent = s.parent;
       link = s.link;
@@ -202,7 +240,7 @@ loop-index-preserved c =
     ∙ ap (delay_from s.parent) k ∙ sym (ap (delay_of s.parent) a.link) in
     let here : IsPosition w place s.node new = step_position w c.requires.tree steps c.requires.grows c.requires.all i
     c.loop-index-test.true
-    above far new p q (record {
+    above far new sub p q (record {
       place_is = refl;
       depth_is = refl;
       parent_is = refl;
@@ -211,13 +249,20 @@ loop-index-preserved c =
       up_is = ap (λ n. n + above.up) up;
       down_is = ap (λ n. above.down + n) down;
     }) in
+    let ending : HasEnd ends place s.node new = record {
+      is = end;
+      under = λ _. c.in_ok-ends.ensures.ends.nested i s (index_get steps i no_step c.loop-index-test.true);
+    } in
     let within : s.node < length ps = subst (λ n. s.node < n) (sym long)
     (step_node w c.requires.tree steps c.requires.grows c.requires.all i c.loop-index-test.true) in
     let more : reverse (take (i + 1) steps) ≡ s ∷ reverse (take i steps) = reverse_more steps i no_step c.loop-index-test.true in
     record {
-      long = length-set ps c.from-in-loop-index-5.result new ∙ long;
-      told = λ u h. subst (λ n. IsPosition w place u (at (slice_set ps n new) u)) (sym c.from-in-loop-index-5.ensures)
-          (position_set w place (reverse (take i steps)) s ps new a.node within inv.told here u
+      long = length-set ps c.from-in-loop-index-6.result new ∙ long;
+      told = λ u h. subst (λ n. IsPosition w place u (at (slice_set ps n new) u)) (sym c.from-in-loop-index-6.ensures)
+          (position_set (IsPosition w place) (reverse (take i steps)) s ps new a.node within inv.told here u
+          (subst (λ ts. is_in (attached ts) u ≡ true) more h));
+      ended = λ u h. subst (λ n. HasEnd ends place u (at (slice_set ps n new) u)) (sym c.from-in-loop-index-6.ensures)
+          (position_set (HasEnd ends place) (reverse (take i steps)) s ps new a.node within inv.ended ending u
           (subst (λ ts. is_in (attached ts) u ≡ true) more h));
     }
 
@@ -231,11 +276,25 @@ returns c =
     let inside : (u : ℕ) → u < c.args.nodes → is_in (attached (reverse steps)) u ≡ true =
     λ u h. all_attached c.args.nodes links (reverse steps) t.some_nodes t.ends c.requires.grows all u h in
     let whole : take c.loop-index.index steps ≡ steps = take_all c.loop-index.index steps c.loop-index-test.false in
+    let place = place_in (reverse steps) in
+    let ps = c.loop-index.positions.items in
+    let ends = c.in_ok-ends.ends.items in
+    let told : (u : ℕ) → u < c.args.nodes → IsPosition w place u (at ps u) =
+    λ u hu. c.loop-index.invariant.told u (subst (λ ts. is_in (attached (reverse ts)) u ≡ true) (sym whole) (inside u hu)) in
+    let ended : (u : ℕ) → u < c.args.nodes → HasEnd ends place u (at ps u) =
+    λ u hu. c.loop-index.invariant.ended u (subst (λ ts. is_in (attached (reverse ts)) u ≡ true) (sym whole) (inside u hu)) in
     record {
       tree = t;
-      place = place_in (reverse steps);
+      place = place;
       root = place_root links (reverse steps) c.requires.grows;
       apart = λ u v hu hv e. place_apart (reverse steps) u v (inside u hu) (inside v hv) e;
       long = c.loop-index.invariant.long;
-      each = λ u hu. c.loop-index.invariant.told u (subst (λ ts. is_in (attached (reverse ts)) u ≡ true) (sym whole) (inside u hu));
+      each = told;
+      whole = λ x hx. subst (λ n. place x < n) (sym (ended 0 t.some_nodes).is) (c.in_ok-ends.ensures.ends.root x (inside x hx));
+      nested = λ u hu h.
+          let up = (told u hu).parent h in
+          let a : (at ps u).end ≡ slice_index_or ends u 0 = (ended u hu).is in
+          let b : slice_index_or ends u 0 ≤ slice_index_or ends (at ps u).parent 0 = (ended u hu).under h in
+          let d : (at ps (at ps u).parent).end ≡ slice_index_or ends (at ps u).parent 0 = (ended (at ps u).parent up.node).is in
+          omega arith;
     }

@@ -1,20 +1,34 @@
-use Rattle.std.proofs.Common.{◌∙◌, sym, subst, ◌≤◌}
-use Rattle.srm_net.specs.Network.{IsNetwork}
-use Rattle.srm_net.proofs.PathLaws.{delay_bounded}
-use Rattle.srm_net.proofs.BuiltLemmas.{told_delay}
-use Rattle.srm_net.proofs.tree.Tree.delay.Goals as goal
+use Rattle.std.proofs.Common.{◌≡◌, ◌∙◌, sym, ap, subst, ◌≤◌}
 use Rattle.srm_net.specs.Limits.{greatest_distance}
+use Rattle.srm_net.specs.Network.{Network, IsNetwork}
+use Rattle.srm_net.specs.Rooting.{takes}
+use Rattle.srm_net.specs.Built.{plain_of}
+use Rattle.srm_net.proofs.BuiltLemmas.{seen_below, rooted_in}
+use Rattle.srm_net.proofs.PathLaws.{delay_bounded}
+use Rattle.srm_net.proofs.tree.Tree.delay.Goals as goal
+
+pub delay-requires : goal.delay-requires
+delay-requires c = record {
+  rooted = (
+    plain_of c.self.inside,
+    c.self.invariant.network,
+    rooted_in c.self.inside c.self.invariant,
+    seen_below (plain_of c.self.inside) c.args.self.now c.args.from c.self.view_is c.requires.from,
+    seen_below (plain_of c.self.inside) c.args.self.now c.args.to c.self.view_is c.requires.to,
+  );
+}
+
+value : (c : goal.After-delay) → c.delay.result ≡ takes c.args.self.now c.args.from c.args.to
+value c =
+    c.delay.ensures (plain_of c.self.inside) (rooted_in c.self.inside c.self.invariant)
+    (seen_below (plain_of c.self.inside) c.args.self.now c.args.from c.self.view_is c.requires.from)
+    (seen_below (plain_of c.self.inside) c.args.self.now c.args.to c.self.view_is c.requires.to)
+    ∙ ap (λ (w : Network). takes w c.args.from c.args.to) c.self.view_is
 
 pub returns-clause-value : goal.returns-clause-value
-returns-clause-value c =
-    c.delay.ensures ∙ told_delay c.self.inside c.self.invariant c.args.self.now c.self.view_is c.args.from c.args.to c.requires.from
-    c.requires.to
+returns-clause-value c = value c
 
 pub returns-clause-bounded : goal.returns-clause-bounded
 returns-clause-bounded c =
-    let w = c.args.self.now in
-    let value = c.delay.ensures ∙ told_delay c.self.inside c.self.invariant w c.self.view_is c.args.from c.args.to c.requires.from
-    c.requires.to in
-    subst (λ n. n ≤ greatest_distance) (sym value) (delay_bounded w (subst IsNetwork c.self.view_is c.self.invariant.network) c.args.from
-    c.args.to
-    c.requires.from c.requires.to)
+    subst (λ n. n ≤ greatest_distance) (sym (value c)) (delay_bounded c.args.self.now
+    (subst IsNetwork c.self.view_is c.self.invariant.network) c.args.from c.args.to c.requires.from c.requires.to)

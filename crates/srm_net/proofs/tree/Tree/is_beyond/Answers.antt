@@ -1,40 +1,44 @@
-use Rattle.std.proofs.Common.{◌≡◌, ◌∙◌, sym, ap, eqb, eq-eqb, not, slice_get, Some, ◌<◌, ◌≤◌, arith}
-use Rattle.srm_net.specs.declared.link.LinkSpec.{LinkSpec}
-use Rattle.srm_net.specs.Network.{Network}
-use Rattle.srm_net.specs.Paths.{is_in, route}
-use Rattle.srm_net.specs.Tables.{is_beyond}
+use Rattle.std.proofs.Common.{◌∙◌}
 use Rattle.srm_net.specs.Built.{plain_of}
-use Rattle.srm_net.proofs.BuiltLemmas.{seen_below, beyond_by_first, end_below}
-use Rattle.srm_net.proofs.PathLaws.{route_nowhere}
+use Rattle.srm_net.proofs.Beyond.{read_a, read_b}
+use Rattle.srm_net.proofs.BuiltLemmas.{seen_below, link_seen, beyond_seen, end_below, rooted_in, position_there}
 use Rattle.srm_net.proofs.tree.Tree.is_beyond.Goals as goal
 
-pub first-requires-clause-from : goal.first-requires-clause-from
-first-requires-clause-from c =
-    let here : slice_get c.self.inside.links.items c.args.link ≡ Some c.link-end.result =
-    ap (λ (v : Network). slice_get v.links c.args.link) c.self.view_is ∙ c.link-end.ensures in
-    let within : c.link-end.result.a < c.self.inside.nodes =
-    (end_below c.self.inside c.self.invariant c.args.link c.link-end.result here).0 in
-    let wide : c.self.inside.nodes ≤ c.self.inside.ways.firsts.width = c.self.invariant.ways.firsts_width in
-    omega arith
+pub position-near-requires : goal.position-near-requires
+position-near-requires c =
+    position_there c.self.inside c.self.invariant c.link-spec.result.a
+    (end_below c.self.inside c.self.invariant c.args.link c.link-spec.result (link_seen (plain_of c.self.inside) c.args.self.now
+    c.self.view_is c.args.link c.link-spec.result c.link-spec.ensures)).0
 
-pub returns-then-node-end : goal.returns-then-node-end
-returns-then-node-end c k g =
-    let e = c.self.view_is in
-    let w = plain_of c.self.inside in
-    let j = c.link-end.result in
-    let here : slice_get c.self.inside.links.items c.args.link ≡ Some j = ap (λ (v : Network). slice_get v.links c.args.link) e
-    ∙ c.link-end.ensures in
-    let same : j ≡ k = (let s : Some j ≡ Some k = sym c.link-end.ensures ∙ g in cc) in
-    let a : eqb c.first.result c.args.link ≡ is_beyond w c.args.link j c.args.node =
-    beyond_by_first c.self.inside c.self.invariant c.args.link j here c.args.node c.first.result
-    (seen_below w c.args.self.now c.args.node e c.requires.node) c.if-node-end.true c.first.ensures in
-    a ∙ ap (λ (v : Network). is_beyond v c.args.link j c.args.node) e ∙
-    ap (λ (i : LinkSpec). is_beyond c.args.self.now c.args.link i c.args.node) same
+pub position-far-requires : goal.position-far-requires
+position-far-requires c =
+    position_there c.self.inside c.self.invariant c.link-spec.result.b
+    (end_below c.self.inside c.self.invariant c.args.link c.link-spec.result (link_seen (plain_of c.self.inside) c.args.self.now
+    c.self.view_is c.args.link c.link-spec.result c.link-spec.ensures)).1
 
-pub returns-else-node-end : goal.returns-else-node-end
-returns-else-node-end c k g =
-    let same : c.link-end.result ≡ k = (let s : Some c.link-end.result ≡ Some k = sym c.link-end.ensures ∙ g in cc) in
-    ap not (eq-eqb c.args.node c.link-end.result.a c.if-node-end.false)
-    ∙ sym (ap (λ ls. is_in ls c.args.link) (ap (route c.args.self.now c.link-end.result.a) c.if-node-end.false
-    ∙ route_nowhere c.args.self.now c.link-end.result.a))
-    ∙ ap (λ (i : LinkSpec). is_beyond c.args.self.now c.args.link i c.args.node) same
+pub position-place-requires : goal.position-place-requires
+position-place-requires c =
+    position_there c.self.inside c.self.invariant c.args.node
+    (seen_below (plain_of c.self.inside) c.args.self.now c.args.node c.self.view_is c.requires.node)
+
+pub returns-then-near-far : goal.returns-then-near-far
+returns-then-near-far c k g =
+    read_b (plain_of c.self.inside) c.self.inside.rooted.positions.items (rooted_in c.self.inside c.self.invariant) c.args.link
+    c.link-spec.result
+    (link_seen (plain_of c.self.inside) c.args.self.now c.self.view_is c.args.link c.link-spec.result c.link-spec.ensures) c.args.node
+    (seen_below (plain_of c.self.inside) c.args.self.now c.args.node c.self.view_is c.requires.node) c.position-near.result
+    c.position-far.result c.position-place.result c.position-near.ensures c.position-far.ensures c.position-place.ensures
+    c.if-near-far.true c.holds.result c.holds.ensures.within c.holds.ensures.whole
+    ∙ beyond_seen (plain_of c.self.inside) c.args.self.now c.self.view_is c.args.link c.args.node c.link-spec.result k
+    c.link-spec.ensures g
+
+pub returns-else-near-far : goal.returns-else-near-far
+returns-else-near-far c k g =
+    read_a (plain_of c.self.inside) c.self.inside.rooted.positions.items (rooted_in c.self.inside c.self.invariant) c.args.link
+    c.link-spec.result
+    (link_seen (plain_of c.self.inside) c.args.self.now c.self.view_is c.args.link c.link-spec.result c.link-spec.ensures) c.args.node
+    (seen_below (plain_of c.self.inside) c.args.self.now c.args.node c.self.view_is c.requires.node) c.position-near.result
+    c.position-far.result c.position-place.result c.position-near.ensures c.position-far.ensures c.position-place.ensures
+    c.if-near-far.false c.holds-else-near-far.result c.holds-else-near-far.ensures.within c.holds-else-near-far.ensures.whole
+    ∙ beyond_seen (plain_of c.self.inside) c.args.self.now c.self.view_is c.args.link c.args.node c.link-spec.result k
+    c.link-spec.ensures g

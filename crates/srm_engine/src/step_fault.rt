@@ -1,0 +1,55 @@
+//! Why a step of the sequential run is refused.
+ghost use Rattle.std.specs.Prelude.{◌≡◌, ◌≢◌};
+ghost use Rattle.srm_engine.specs.Faults.{step_fault_of};
+
+use crate::fault::RunFault;
+use srm_cell::fault::CellFault;
+use std::alloc::AllocError;
+
+/// Why a step of the sequential run is refused.
+#[derive(Clone, Copy, Debug, PartialEq, Eq)]
+pub enum StepFault {
+    /// Memory was refused.
+    NoMemory,
+    /// A member was to send a packet, and its packet count, 2^48, is used up.
+    CountFull,
+}
+
+/// What a cell's refusal is to a step, in which no cell meets an event after its member left.
+pub fn step_fault(fault: CellFault) -> StepFault
+    requires { fault ≢ CellFault.Spent }
+    ensures { result ≡ step_fault_of fault }
+{
+    match fault {
+        CellFault::NoMemory => StepFault::NoMemory,
+        CellFault::CountFull => StepFault::CountFull,
+        CellFault::Spent => unreachable!(),
+    }
+}
+
+/// What refused memory is to a step.
+impl From<AllocError> for StepFault {
+    ghost use Rattle.std.specs.Prelude.{◌≡◌};
+    ghost use Rattle.srm_engine.specs.declared.step_fault.StepFault.{StepFault};
+
+    ghost from_gives = { λ _ told. told ≡ StepFault.NoMemory };
+
+    fn from(_error: AllocError) -> StepFault {
+        StepFault::NoMemory
+    }
+}
+
+/// What a step's refusal is to its run: the refusal of the same name.
+impl From<StepFault> for RunFault {
+    ghost use Rattle.std.specs.Prelude.{◌≡◌};
+    ghost use Rattle.srm_engine.specs.Faults.{step_refused};
+
+    ghost from_gives = { λ fault told. told ≡ step_refused fault };
+
+    fn from(fault: StepFault) -> RunFault {
+        match fault {
+            StepFault::NoMemory => RunFault::NoMemory,
+            StepFault::CountFull => RunFault::CountFull,
+        }
+    }
+}

@@ -1,0 +1,12 @@
+use Rattle.std.proofs.Common.{◌∙◌, IfOk, List, sym, subst}
+use Rattle.std.specs.List.{AllByRecursion}
+use Rattle.srm_net.specs.declared.link.LinkSpec.{LinkSpec}
+use Rattle.srm_explain.specs.Flaws.{IsFlaw}
+use Rattle.srm_explain.proofs.Listed.{links_without_topology}
+use Rattle.srm_explain.proofs.flaws.flaws_in.Goals as goal
+
+pub returns-in-None : goal.returns-in-None
+returns-in-None c =
+    let l = c.args.draft.now in
+    subst (λ (ks : List LinkSpec). IfOk c.flaws_of.result (λ flaws. AllByRecursion (IsFlaw l.nodes ks) flaws.items))
+    (c.deref.ensures.value ∙ sym (links_without_topology l c.in-None.is)) c.flaws_of.ensures

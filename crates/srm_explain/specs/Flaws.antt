@@ -1,0 +1,62 @@
+-- Why the links of a scenario make no tree of its nodes, and what is said of that.
+use Rattle.std.specs.Prelude.{◌≡◌, ◌≢◌, ℕ, ◌+◌, ◌<◌, ◌≤◌, Bool, false, not, ◌&&◌, ◌||◌, List, [], ◌∷◌, ◌++◌}
+use Rattle.std.specs.Prelude.{Some, length, unwrap_or, slice_get, codes, decimal}
+use Rattle.std.specs.List.{list_all, AllByRecursion}
+use Rattle.srm_net.specs.declared.link.LinkSpec.{LinkSpec}
+use Rattle.srm_net.specs.Network.{plain_network}
+use Rattle.srm_scenario.specs.declared.key.Key.{Key}
+use Rattle.srm_scenario.specs.declared.key.Key.TheVariants as key
+use Rattle.srm_scenario.specs.Trees.{has_way}
+use Rattle.srm_explain.specs.declared.flaw.Flaw.{Flaw}
+use Rattle.srm_explain.specs.declared.flaw.Flaw.TheVariants as flaw
+
+-- ---- what is found
+
+-- the end of a link that stands at this key
+abbrev pub end_at : Key → LinkSpec → ℕ
+end_at key.A k = k.a
+end_at other k = k.b
+
+-- a node to which these links make no way from node 0
+abbrev pub IsUnreached : ℕ → List LinkSpec → ℕ → Type 0
+IsUnreached nodes links v = (v < nodes) × (has_way (plain_network nodes links []) 0 v ≡ false)
+
+-- for this reason these links make no tree of so many nodes
+abbrev pub IsFlaw : ℕ → List LinkSpec → Flaw → Type 0
+IsFlaw nodes links (flaw.NoEnd link key n) =
+    (k : LinkSpec) × (slice_get links link ≡ Some k) × (n ≡ nodes) × (nodes ≤ end_at key k)
+IsFlaw nodes links (flaw.LinkCount n m) = (n ≡ nodes) × (m ≡ length links) × (length links + 1 ≢ nodes)
+IsFlaw nodes links (flaw.Unreached vs) = AllByRecursion (IsUnreached nodes links) vs.items
+
+-- ---- what is said of it
+
+-- numbers, each with a space in front
+abbrev pub spaced : List ℕ → List ℕ
+spaced [] = []
+spaced (n ∷ ns) = (codes " " ++ decimal n) ++ spaced ns
+
+-- what is said of a reason
+abbrev pub flaw_sentence : Flaw → List ℕ
+flaw_sentence (flaw.NoEnd link key nodes) =
+    codes "link "
+    ++ (decimal link ++ (codes " ends at no node: " ++ (decimal nodes ++ codes " in all, numbered from 0")))
+flaw_sentence (flaw.LinkCount nodes links) =
+    codes "nodes: "
+    ++ (decimal nodes ++ (codes ", links: " ++ (decimal links ++ codes "; a tree has one link fewer than nodes")))
+flaw_sentence (flaw.Unreached nodes) = codes "not reached from node 0:" ++ spaced nodes.items
+
+-- ---- marks
+
+-- whether a node is marked
+abbrev pub is_reached : List Bool → ℕ → Bool
+is_reached reached v = unwrap_or (slice_get reached v) false
+
+-- whether both ends of a link are marked, or neither
+abbrev pub is_even : List Bool → LinkSpec → Bool
+is_even reached k =
+    (not (is_reached reached k.a) || is_reached reached k.b) && (not (is_reached reached k.b) || is_reached reached k.a)
+
+-- whether node 0 is marked, and of each link both ends or neither: then every node is marked to which there is a way
+-- from node 0
+abbrev pub is_closed : List Bool → List LinkSpec → Bool
+is_closed reached links = is_reached reached 0 && list_all (is_even reached) links

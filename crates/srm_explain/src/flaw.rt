@@ -1,0 +1,28 @@
+//! Why links make no tree of the nodes.
+use srm_scenario::key::Key;
+
+/// Why links make no tree of the nodes.
+#[derive(Debug, PartialEq, Eq, Drop)]
+pub enum Flaw {
+    /// An end of a link is no node.
+    NoEnd {
+        /// The number of the link.
+        link: usize,
+        /// The key of that end: `a` or `b`.
+        key: Key,
+        /// How many nodes there are.
+        nodes: u16,
+    },
+    /// There is not one link fewer than nodes.
+    LinkCount {
+        /// How many nodes there are.
+        nodes: u16,
+        /// How many links there are.
+        links: usize,
+    },
+    /// Some nodes are not reached from node 0.
+    Unreached {
+        /// Those nodes.
+        nodes: Vec<u16>,
+    },
+}

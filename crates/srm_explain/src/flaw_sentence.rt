@@ -1,0 +1,56 @@
+//! What is said of what keeps links from making a tree of the nodes.
+ghost use Rattle.std.specs.Prelude.{◌≡◌, IfOk, string_bytes};
+ghost use Rattle.srm_explain.specs.Flaws.{flaw_sentence, spaced};
+ghost use Rattle.srm_explain.specs.Explanations.{flaw_notes};
+
+use crate::flaw::Flaw;
+use std::alloc::{AllocError, Global};
+
+/// What is said of several reasons, each in a line of its own.
+///
+/// # Errors
+/// Memory ran out.
+pub(crate) fn flaw_notes(alloc: Global, flaws: &[Flaw]) -> Result<String, AllocError>
+    ensures { IfOk result (λ s. string_bytes s ≡ flaw_notes flaws.now) }
+{
+    let mut notes = String::new(alloc);
+    for flaw in flaws {
+        let sentence = flaw_sentence(alloc, flaw)?;
+        notes.push_str("  ")?;
+        notes.push_str(sentence.as_str())?;
+        notes.push_str("\n")?;
+    }
+    Ok(notes)
+}
+
+// What is said of a reason.
+fn flaw_sentence(alloc: Global, flaw: &Flaw) -> Result<String, AllocError>
+    ensures { IfOk result (λ s. string_bytes s ≡ flaw_sentence flaw.now) }
+{
+    match flaw {
+        Flaw::NoEnd { link, nodes, .. } => format!(in alloc;
+            "link {link} ends at no node: {nodes} in all, numbered from 0"
+        ),
+        Flaw::LinkCount { nodes, links } => {
+            format!(in alloc;
+                "nodes: {nodes}, links: {links}; a tree has one link fewer than nodes"
+            )
+        }
+        Flaw::Unreached { nodes } => {
+            let numbers = spaced(alloc, nodes)?;
+            format!(in alloc; "not reached from node 0:{numbers}")
+        }
+    }
+}
+
+// Numbers, each with a space in front.
+fn spaced(alloc: Global, numbers: &[u16]) -> Result<String, AllocError>
+    ensures { IfOk result (λ s. string_bytes s ≡ spaced numbers.now) }
+{
+    let mut told = String::new(alloc);
+    for number in numbers {
+        let one = format!(in alloc; " {number}")?;
+        told.push_str(one.as_str())?;
+    }
+    Ok(told)
+}

@@ -1,0 +1,188 @@
+//! A whole run with a crew that has a gate of its own.
+ghost use Rattle.std.specs.Prelude.{◌≤◌};
+ghost use denote.Param.Send.{IsSync};
+
+use crate::drops_tests::run_once;
+use srm_cell::job::{Done, Job};
+use srm_crew::bag_crew::BagCrew;
+use srm_crew::crew::Crew;
+use srm_crew::fault::CrewFault;
+use srm_crew::gate::Gate;
+use srm_crew::pass::Pass;
+use srm_engine::width::{Width, Windows};
+use srm_examples::scenarios::CHAIN_OF_FIVE_ONE_LOSS;
+use srm_ledger::ledger::{Ledger, Seat};
+use srm_net::net::Net;
+use srm_scenario::scenario::Scenario;
+use std::alloc::{AllocError, Global};
+use std::marker::Sync;
+use std::process::Abort;
+use std::sync::atomic::{AtomicU64, Ordering};
+use std::sync::{Arc, Wait};
+use std::thread::{Threads, yield_now};
+
+// How often a job looks whether the other has come, and lets other threads run: some seconds.
+const LOOKS: u32 = 5_000_000;
+
+/// How often the first job of a window entered a gate, the second and any other, and how often one of the first two waited in vain.
+#[derive(Drop)]
+struct Entries {
+    first: AtomicU64,
+    second: AtomicU64,
+    others: AtomicU64,
+    missed: AtomicU64,
+}
+
+impl Entries {
+    // None entered yet.
+    fn new(alloc: Global) -> Result<Arc<Self>, AllocError> {
+        Ok(Arc::new(
+            alloc,
+            Entries {
+                first: AtomicU64::new(0),
+                second: AtomicU64::new(0),
+                others: AtomicU64::new(0),
+                missed: AtomicU64::new(0),
+            },
+        )?)
+    }
+
+    // Enters as `own`, and waits until `other` has come as often, or until one has waited in vain.
+    fn meet(&self, own: &AtomicU64, other: &AtomicU64) {
+        let before = own.fetch_add(1, Ordering::SeqCst);
+        for _ in 0..LOOKS {
+            if other.load(Ordering::SeqCst) > before || self.missed.load(Ordering::SeqCst) > 0 {
+                return;
+            }
+            yield_now();
+        }
+        self.missed.fetch_add(1, Ordering::SeqCst);
+    }
+}
+
+/// A gate that counts who enters, and at which the first two jobs of each window wait for each other.
+#[derive(Drop)]
+struct Counting {
+    entries: Arc<Entries>,
+}
+
+impl Gate for Counting {
+    fn enter<T, R: Wait>(&self, _rt: &R, place: usize, _pass: &Pass<T>) {
+        let Entries { first, second, .. } = &*self.entries;
+        match place {
+            0 => self.entries.meet(first, second),
+            1 => self.entries.meet(second, first),
+            _ => {
+                self.entries.others.fetch_add(1, Ordering::SeqCst);
+            }
+        }
+    }
+}
+
+/// Workers that share a bag, and pass that gate with each job.
+#[derive(Drop)]
+struct Gated<R> {
+    workers: BagCrew<R, Counting>,
+}
+
+impl<R: Threads + Wait + Sync> Crew for Gated<R> {
+    ghost ready = { λ _. IsSync R.row };
+
+    ghost handed = { λ _ _ _. Unit {0} };
+
+    ghost handed_none = { λ c. tt };
+
+    ghost handed_more = { λ a b c xs ys p q. tt };
+
+    fn map(
+        &mut self,
+        alloc: Global,
+        scenario: &Scenario,
+        net: &Net,
+        ledger: &Ledger,
+        seat: Seat,
+        jobs: Vec<Job>,
+    ) -> Result<(Vec<Done>, Seat), CrewFault> {
+        self.workers
+            .map_with_gate(alloc, scenario, net, ledger, seat, jobs)
+    }
+}
+
+// Windows of one tick, the least delay of a link, with a job for each member.
+const ALONE: Option<Windows> = Some(Windows {
+    cut: 1,
+    width: Width::Least,
+});
+
+// Events are handled at 12 different ticks, so there are 12 windows, each with a job for each of the five members. In each the jobs of
+// the first two members are under way at once.
+fn pass_the_gate<R: Abort + Threads + Wait + Sync>(
+    rt: &R,
+    alloc: Global,
+    workers: u8,
+) -> Result<(), AllocError>
+    requires { (2 ≤ workers) × (workers ≤ 64) }
+{
+    let entries = Entries::new(alloc)?;
+    let gate = Counting {
+        entries: Arc::try_clone(&entries)?,
+    };
+    let mut crew = Gated {
+        workers: BagCrew::new(rt, gate, workers),
+    };
+    run_once(rt, alloc, CHAIN_OF_FIVE_ONE_LOSS.scenario, &mut crew, ALONE)?;
+    assert_eq!(rt; entries.missed.load(Ordering::SeqCst), 0);
+    assert_eq!(rt; entries.first.load(Ordering::SeqCst), 12);
+    assert_eq!(rt; entries.second.load(Ordering::SeqCst), 12);
+    assert_eq!(rt; entries.others.load(Ordering::SeqCst), 36);
+    Ok(())
+}
+
+#[test]
+fn two_workers_of_a_run_are_in_the_gate_at_once(rt: HostRuntime) -> Result<(), AllocError> {
+    pass_the_gate(&rt, rt.alloc(), 2)
+}
+
+#[test]
+fn two_of_64_workers_of_a_run_are_in_the_gate_at_once(rt: HostRuntime) -> Result<(), AllocError> {
+    pass_the_gate(&rt, rt.alloc(), 64)
+}
+
+/// A crew that has no memory, and counts its calls.
+#[derive(Drop)]
+struct OutOfMemory {
+    calls: u32,
+}
+
+impl Crew for OutOfMemory {
+    ghost ready = { λ _. Unit {0} };
+
+    ghost handed = { λ _ _ _. Unit {0} };
+
+    ghost handed_none = { λ c. tt };
+
+    ghost handed_more = { λ a b c xs ys p q. tt };
+
+    fn map(
+        &mut self,
+        _alloc: Global,
+        _scenario: &Scenario,
+        _net: &Net,
+        _ledger: &Ledger,
+        _seat: Seat,
+        _jobs: Vec<Job>,
+    ) -> Result<(Vec<Done>, Seat), CrewFault> {
+        self.calls = self.calls.saturating_add(1);
+        Err(CrewFault::NoMemory)
+    }
+}
+
+// The crew is called once, and the run ends as one that has no memory.
+#[test]
+fn a_run_ends_where_its_crew_has_no_memory(rt: HostRuntime) {
+    let mut crew = OutOfMemory { calls: 0 };
+    let text = CHAIN_OF_FIVE_ONE_LOSS.scenario;
+    let answer = run_once(&rt, rt.alloc(), text, &mut crew, ALONE);
+    assert_eq!(rt; answer, Err(AllocError));
+    assert_eq!(rt; crew.calls, 1);
+}
