@@ -19,17 +19,19 @@ from typing import NamedTuple
 TOP = pathlib.Path(__file__).resolve().parent.parent
 CRATES = TOP / "crates"
 FUNCTION = re.compile(r"^\s*(?:pub(?:\(crate\))? )?fn (\w+)")
-OWNER = re.compile(r"^(?:impl(?:<.*?>)? (?:.* for )?|pub trait |trait |pub\(crate\) trait )(\w+)")
+OWNER = re.compile(r"^(?:impl(?:<.*?>)? (?:([\w:]+)(?:<.*>)? for )?|(?:pub(?:\(crate\))? )?trait )(\w+)")
 IMPORT = re.compile(r"ghost use Rattle\.(\w+)\.specs\.([\w.]+?)(?:\.\{([^}]*)\}| as (\w+));")
 CLAUSE = re.compile(r"^\s*(?:requires|ensures|//)")
 DEFINED = r"^\s*(?:(?:abbrev|unfoldable|pub|record|data|type) )*{}\b.* :"
 
 
 class Function(NamedTuple):
-    """A function of a source file: its type or trait, if it has one, its name, and its line, counted from 1."""
+    """A function of a source file: its type or trait, if it has one, with the trait that the type has it by; its name; and its line,
+    counted from 1."""
 
     path: pathlib.Path
     owner: str
+    by: str
     name: str
     line: int
 
@@ -46,14 +48,14 @@ class Function(NamedTuple):
 def functions(crate: str | None) -> Iterator[Function]:
     """Every function of the sources, or of a crate's."""
     for path in sorted(CRATES.glob(f"{crate or '*'}/src/**/*.rt")):
-        owner = ""
+        owner = by = ""
         for number, line in enumerate(path.read_text(encoding="utf-8").splitlines(), 1):
             if found := OWNER.match(line):
-                owner = found[1]
+                by, owner = found[1] or "", found[2]
             elif line.startswith("}"):
-                owner = ""
+                owner = by = ""
             if found := FUNCTION.match(line):
-                yield Function(path, owner, found[1], number)
+                yield Function(path, owner, by, found[1], number)
 
 
 def contract(function: Function) -> list[str]:
@@ -136,7 +138,8 @@ def tell(function: Function) -> None:
     print(f"{function.crate.name}: {owner}{function.name}")
     print(f"  body         {function.path.relative_to(TOP)}:{function.line}")
     clauses = contract(function)
-    print("  contract" if clauses else "  contract     none: what is proved of it is that it is safe and ends")
+    without = f"that of {function.by}::{function.name}" if function.by else "none: it is proved to be safe and to end"
+    print("  contract" if clauses else f"  contract     {without}")
     for line in clauses:
         print(f"    {line.strip()}")
     for name, place in definitions(function, clauses):
