@@ -22,9 +22,12 @@ LONGEST = 300
 NAME = re.compile(r"`([A-Za-z_][\w:]*)`")
 HEAD = """# Where each promise stands
 
-For each call that [PROMISES.md](PROMISES.md) cites: the file with its contract and its body, the definitions that the contract cites, and its proof. Search the file for `fn` and the call's name. Where no folder is named, the call needs no proof beside its body. `tests/where.py --write` writes this page, and `make check` refuses it where it is stale.
+For each call that [PROMISES.md](PROMISES.md) cites: the file with its contract and its body, the definitions that the contract cites, and its proof; below these, the definitions, rules and types that its rows name. Search a file for `fn` and the call's name, or for the name. Where no folder is named, the call needs no proof beside its body. `tests/where.py --write` writes this page, and `make check` refuses it where it is stale.
 """
 TABLE = "| call | contract and body | definitions | proof |\n|---|---|---|---|\n"
+NAMES = "\n| definition, rule or type | file |\n|---|---|\n"
+CLAIM = "The whole claim"
+CLAIMED = ("srm_program", "srm_engine", "srm_model", "srm_crew")
 
 
 @dataclass
@@ -48,6 +51,19 @@ class Sources:
 
     calls: list[Call] = field(default_factory=list)
     names: set[str] = field(default_factory=set)
+    places: dict[str, list[pathlib.Path]] = field(default_factory=dict)
+
+    def have(self, names: list[str], path: pathlib.Path) -> None:
+        """These names stand in a file."""
+        self.names.update(names)
+        for name in names:
+            self.places.setdefault(name, []).append(path)
+
+    def place(self, crate: str, name: str) -> pathlib.Path | None:
+        """The file of a definition, rule or type: that of the crate, or else the first."""
+        places = self.places.get(name, [])
+        own = [it for it in places if crate in it.parts]
+        return (own or places or [None])[0]
 
     def find(self, crate: str, cited: str) -> list[Call]:
         """The functions that this name cites; those of the crate alone where it has some."""
@@ -88,12 +104,13 @@ def sources() -> Sources:
         crate = path.relative_to(TOP / "crates").parts[0]
         found.calls += calls_of(crate, path)
         text = path.read_text(encoding="utf-8")
-        found.names |= {path.stem, crate, *re.findall(r"\b(?:struct|enum|trait|type) (\w+)", text)}
+        found.names |= {path.stem, crate}
+        found.have(re.findall(r"^(?:pub(?:\(crate\))? )?(?:struct|enum|trait) (\w+)", text, re.M), path)
         found.names |= set(re.findall(r"^    ([A-Z]\w*)[,{ (]", text, re.M)) | set(re.findall(r"^    ghost (\w+)", text, re.M))
         found.names |= set(re.findall(r"\bghost (\w+):", text))
-    for path in (TOP / "crates").glob("*/specs/**/*.antt"):
+    for path in sorted((TOP / "crates").glob("*/specs/**/*.antt")):
         text = path.read_text(encoding="utf-8")
-        found.names |= set(re.findall(r"^ *(?:\w+ )*pub (?:record )?(\w+)", text, re.M))
+        found.have(re.findall(r"^ *(?:\w+ )*pub (?:record )?(\w+)", text, re.M), path)
     return found
 
 
@@ -185,25 +202,44 @@ def of_trait(stated: Call, call: Call) -> str:
     return "" if stated is call else f"; contract in [{stated.path.name}](../{stated.path.relative_to(TOP)})"
 
 
+def row_of(call: Call, found: Sources) -> str:
+    """The row of a call."""
+    shown = call.name if call.owner in (call.name, call.path.stem) and "laws" not in call.owner else f"{call.owner}::{call.name}"
+    file = call.path.relative_to(TOP)
+    stated = [it for it in found.calls if call.of and (it.owner, it.name) == (call.of, call.name)] or [call]
+    body = f"[{file.name}](../{file}){of_trait(stated[0], call)}"
+    return f"| `{shown}` | {body} | {definitions(stated[0])} | {proof(call)} |\n"
+
+
+def section(title: str, cells: list[str], crates: tuple[str, ...], found: Sources) -> str:
+    """The part of the page for rows that cite calls of these crates, the first that has one."""
+    calls: dict[tuple[pathlib.Path, str, str], Call] = {}
+    named: dict[str, pathlib.Path] = {}
+    clauses = {clause for it in found.calls for clause in it.clauses()}
+    for cell in cells:
+        for name, _ in cited(crates[0], cell, found):
+            here = [it for crate in crates for it in found.find(crate, name) if it.crate == crate or "::" in name]
+            own = [it for it in here if it.owner in (it.path.stem, name.rpartition("::")[0])]
+            calls.update({(it.path, it.owner, it.name): it for it in own[:1]} if len(crates) > 1 else {})
+        if len(crates) == 1:
+            calls.update({(it.path, it.owner, it.name): it for it in cites(crates[0], cell, found) if it.crate == crates[0]})
+        for name in NAME.findall(cell):
+            place = found.place(crates[0], name)
+            if place is not None and name not in clauses and not any(found.find(crate, name) for crate in crates):
+                named.setdefault(name, place)
+    rows_of_calls = "".join(row_of(it, found) for it in calls.values())
+    rows_of_names = "".join(f"| `{name}` | [{it.name}](../{it.relative_to(TOP)}) |\n" for name, it in sorted(named.items()))
+    return f"\n## {title}\n\n{TABLE}{rows_of_calls}{NAMES + rows_of_names if named else ''}"
+
+
 def page(text: str, found: Sources) -> str:
     """The page."""
-    told = HEAD
-    seen: set[tuple[pathlib.Path, str, str]] = set()
-    last = ""
+    claim = text.partition(f"## {CLAIM}\n")[2].partition("\n## ")[0]
+    told = HEAD + section(CLAIM, [cell for line in claim.splitlines() if line.startswith("|") for cell in line.split("|")[2:4]], CLAIMED, found)
+    of_crates: dict[str, list[str]] = {}
     for crate, cells in rows(text):
-        for call in cites(crate, cells[1], found):
-            key = call.path, call.owner, call.name
-            if key in seen or call.crate != crate:
-                continue
-            seen.add(key)
-            if crate != last:
-                told += f"\n## {crate}\n\n{TABLE}"
-                last = crate
-            shown = f"{call.owner}::{call.name}" if call.owner != call.name else call.name
-            file = call.path.relative_to(TOP)
-            stated = [it for it in found.calls if call.of and (it.owner, it.name) == (call.of, call.name)] or [call]
-            body = f"[{file.name}](../{file}){of_trait(stated[0], call)}"
-            told += f"| `{shown}` | {body} | {definitions(stated[0])} | {proof(call)} |\n"
+        of_crates.setdefault(crate, []).append(cells[1])
+    told += "".join(section(crate, cells, (crate,), found) for crate, cells in of_crates.items())
     return re.sub(r"\|  (?=\|)", "| ", told)
 
 
