@@ -202,9 +202,10 @@ def of_trait(stated: Call, call: Call) -> str:
     return "" if stated is call else f"; contract in [{stated.path.name}](../{stated.path.relative_to(TOP)})"
 
 
-def row_of(call: Call, found: Sources) -> str:
-    """The row of a call."""
-    shown = call.name if call.owner in (call.name, call.path.stem) and "laws" not in call.owner else f"{call.owner}::{call.name}"
+def row_of(call: Call, cells: str, found: Sources) -> str:
+    """The row of a call, by the name that these cells cite it by."""
+    owned = f"{call.owner}::{call.name}"
+    shown = owned if call.owner != call.path.stem or f"`{owned}`" in cells or f"`{call.owner}`" in cells else call.name
     file = call.path.relative_to(TOP)
     stated = [it for it in found.calls if call.of and (it.owner, it.name) == (call.of, call.name)] or [call]
     body = f"[{file.name}](../{file}){of_trait(stated[0], call)}"
@@ -227,7 +228,7 @@ def section(title: str, cells: list[str], crates: tuple[str, ...], found: Source
             place = found.place(crates[0], name)
             if place is not None and name not in clauses and not any(found.find(crate, name) for crate in crates):
                 named.setdefault(name, place)
-    rows_of_calls = "".join(row_of(it, found) for it in calls.values())
+    rows_of_calls = "".join(row_of(it, " ".join(cells), found) for it in calls.values())
     rows_of_names = "".join(f"| `{name}` | [{it.name}](../{it.relative_to(TOP)}) |\n" for name, it in sorted(named.items()))
     return f"\n## {title}\n\n{TABLE}{rows_of_calls}{NAMES + rows_of_names if named else ''}"
 
