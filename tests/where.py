@@ -22,7 +22,7 @@ LONGEST = 300
 NAME = re.compile(r"`([A-Za-z_][\w:]*)`")
 HEAD = """# Where each promise stands
 
-For each call that [PROMISES.md](PROMISES.md) cites: the file with its contract and its body, the definitions that the contract cites, and its proof; below these, the definitions, rules and types that its rows name. Search a file for `fn` and the call's name, or for the name. Where no folder is named, the call needs no proof beside its body. `tests/where.py --write` writes this page, and `make check` refuses it where it is stale.
+For each call that [PROMISES.md](PROMISES.md) cites: the file with its contract and its body, the definitions that the contract cites, and its proof; below these, the definitions, rules and types that its rows name. Search a file for `fn` and the call's name, or for the name. Where no folder is named, the checker proves the call from its body and the contracts of what that calls. `tests/where.py --write` writes this page, and `make check` refuses it where it is stale.
 """
 TABLE = "| call | contract and body | definitions | proof |\n|---|---|---|---|\n"
 NAMES = "\n| definition, rule or type | file |\n|---|---|\n"
