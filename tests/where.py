@@ -142,8 +142,17 @@ def cited(crate: str, cell: str, found: Sources) -> Iterator[tuple[str, list[Cal
             yield name, calls
         owners = NAME.findall(head + "`")
         for name in NAME.findall(clauses):
-            methods = [it for other in owners for it in found.find(crate, f"{other}::{name}")]
-            yield name, [] if any(name in it.clauses() for it in here) else methods or found.find(crate, name)
+            if not any(name in it.clauses() for it in here):
+                methods = [it for other in owners for it in found.find(crate, f"{other}::{name}")]
+                yield name, methods or found.find(crate, name)
+
+
+def clauses_that_are_not_there(crate: str, cell: str, found: Sources) -> Iterator[str]:
+    """The names after a colon that are neither clauses of the calls before it nor calls."""
+    told = dict(cited(crate, cell, found))
+    known = {clause for calls in told.values() for call in calls for clause in call.clauses()}
+    for part in re.sub(r"\([^()]*\)", "", cell).split(";"):
+        yield from (name for name in NAME.findall(part.partition("`: ")[2]) if name not in known and not told[name])
 
 
 def cites(crate: str, cell: str, found: Sources) -> list[Call]:
@@ -158,10 +167,11 @@ def faults_of_row(crate: str, cells: list[str], found: Sources) -> Iterator[str]
         return
     if len(cells[0]) > LONGEST:
         yield f"its promise has more than {LONGEST} characters"
-    clauses = {clause for call in cites(crate, cells[1], found) for clause in call.clauses()}
     for name, calls in cited(crate, cells[1], found):
-        if not calls and name not in found.names and name not in clauses:
-            yield f"there is no call, clause or type {name}"
+        if not calls and name not in found.names:
+            yield f"there is no call or type {name}"
+    for name in clauses_that_are_not_there(crate, cells[1], found):
+        yield f"there is no clause {name}"
     for bracket in re.findall(r"\(([^()]*)\)", cells[1]):
         for name in NAME.findall(bracket):
             if name not in found.names and not found.find(crate, name):
