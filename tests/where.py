@@ -63,7 +63,7 @@ class Sources:
         """The file of a definition, rule or type: that of the crate, or else the first."""
         places = self.places.get(name, [])
         own = [it for it in places if crate in it.parts]
-        return (own or places or [None])[0]
+        return next(iter(own or places), None)
 
     def find(self, crate: str, cited: str) -> list[Call]:
         """The functions that this name cites; those of the crate alone where it has some."""

@@ -13,6 +13,8 @@ import where
 class Rows(unittest.TestCase):
     """Rows of srm_net."""
 
+    found: where.Sources
+
     @classmethod
     def setUpClass(cls) -> None:
         cls.found = where.sources()
