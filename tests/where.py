@@ -5,7 +5,7 @@ the definitions that the contract cites, and its proof.
 usage: tests/where.py [--write]
 
 A row's second column cites calls (`Net::build`, `laws::one_path`, `advance`), after a colon clauses of them, and in brackets
-definitions. Each has to be there, and so has each script that the fourth column names; a promise has at most 300 characters.
+definitions. Each has to be there, and so has each script and test that the fourth column names; a promise has at most 300 characters.
 With --write the page is written anew. Ends with status 1 where one of these is not so, or the page is another.
 """
 import argparse
@@ -179,6 +179,9 @@ def faults_of_row(crate: str, cells: list[str], found: Sources) -> Iterator[str]
     for script in re.findall(r"`((?:tests|bench|tools)/[\w./]+)`", cells[3]):
         if not (TOP / script).exists():
             yield f"there is no {script}"
+    for name in NAME.findall(cells[3]):
+        if "_" in name and name not in found.names and not any(it.name == name for it in found.calls):
+            yield f"there is no test {name}"
 
 
 def definitions(call: Call) -> str:

@@ -32,6 +32,7 @@ class Rows(unittest.TestCase):
         self.assertEqual(self.faults("`Net::distance`: `nearest`"), ["there is no clause nearest"])
         self.assertEqual(self.faults("`Net::distance` (`IsNearest`)"), ["there is no definition IsNearest"])
         self.assertEqual(self.faults("", tests="runs (`tests/nearest.py`)"), ["there is no tests/nearest.py"])
+        self.assertEqual(self.faults("", tests="that it is near (`it_is_near`)"), ["there is no test it_is_near"])
 
     def test_promises_are_short(self) -> None:
         self.assertEqual(self.faults("", promise="x" * 301), ["its promise has more than 300 characters"])
