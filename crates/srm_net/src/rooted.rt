@@ -74,8 +74,25 @@ impl Rooted {
     }
 
     /// How long a packet takes from one node to another, in ticks. It takes a number of steps that grows as the logarithm of the number
-    /// of nodes.
+    /// of nodes, and where one of the two nodes is below the other it takes no climb.
     pub(crate) fn delay(&self, from: u16, to: u16) -> u64
+        requires rooted { (w : Network) × IsNetwork w × IsRooted w self.now.positions.items × (from < w.nodes) × (to < w.nodes) }
+        ensures { (w : Network) → IsRooted w self.now.positions.items → from < w.nodes → to < w.nodes
+            → result ≡ takes w from to }
+    {
+        let here = self.position(from);
+        let there = self.position(to);
+        if here.holds(there.place) {
+            there.down - here.down
+        } else if there.holds(here.place) {
+            here.up - there.up
+        } else {
+            self.delay_around(from, to)
+        }
+    }
+
+    /// The same, told by a climb from both nodes until they meet.
+    fn delay_around(&self, from: u16, to: u16) -> u64
         requires rooted { (w : Network) × IsNetwork w × IsRooted w self.now.positions.items × (from < w.nodes) × (to < w.nodes) }
         ensures { (w : Network) → IsRooted w self.now.positions.items → from < w.nodes → to < w.nodes
             → result ≡ takes w from to }

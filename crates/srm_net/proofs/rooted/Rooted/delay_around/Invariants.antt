@@ -1,7 +1,7 @@
 use Rattle.std.proofs.Common.{◌≡◌, ◌+◌, ◌<◌}
 use Rattle.srm_net.specs.Network.{Network}
 use Rattle.srm_net.specs.Rooting.{takes, at, IsRooted}
-use Rattle.srm_net.proofs.rooted.Rooted.delay.Given as goal
+use Rattle.srm_net.proofs.rooted.Rooted.delay_around.Given as goal
 
 abbrev pub invariant-loop-near : goal.invariant-loop-near
 invariant-loop-near l =
