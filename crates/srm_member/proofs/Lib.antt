@@ -7,6 +7,9 @@ mod Earliest
 mod Indexes
 pub mod Changes
 pub mod FewerTimers
+mod AdaptingProofs
+mod Alike
+mod IntervalChanges
 pub mod IntervalProofs
 pub mod LawProofs
 mod Losses
