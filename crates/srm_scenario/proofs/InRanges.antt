@@ -30,7 +30,7 @@ use Rattle.srm_scenario.specs.Plain.{drop_rules_of}
 use Rattle.srm_scenario.specs.Drafts.{IsDraft, links_listed, plain_of}
 use Rattle.srm_scenario.specs.Ranges.{MemberInRange, HasItsPages, InRange}
 use Rattle.srm_scenario.proofs.Acceptance.{empty_parts, none_by}
-use Rattle.srm_scenario.proofs.KeyRanges.{number_fits, optional_bound, rule_met, whole_number}
+use Rattle.srm_scenario.proofs.KeyRanges.{number_fits, optional_bound, or_fits, rule_met}
 use Rattle.srm_net.specs.Limits.{end_of_time}
 
 -- ---- elements
@@ -60,13 +60,7 @@ read_elements P p reading rules f ds h = all_read P reading rules f ds (none_by 
 -- the second delay of a link is in range, where it is given or the first is in range
 pub back_fits : (m : Members) (allowed : Bool) → is_met m (back_rule allowed) ≡ true → IsLinkDelay (number (codes "delay") m)
     → IsLinkDelay (back_at m)
-back_fits m allowed h delay = by (get_member (codes "back") m) allowed h
-  where
-    by : (o : Option Data) (b : Bool) → meets (cond b Optional Refused) (Whole 1 greatest_delay) o ≡ true
-        → IsLinkDelay (unwrap_or (option_and_then number_of o) (number (codes "delay") m))
-    by None b e = delay
-    by (Some d) true e = whole_number 1 greatest_delay (number (codes "delay") m) d e
-    by (Some d) false e = absurd (false≢true e)
+back_fits m allowed h delay = or_fits allowed key.Back 1 greatest_delay (number (codes "delay") m) m h delay.0 delay.1
 
 link_delay : (v : Version) (m : Members) → fits (link_rules v) m ≡ true → HasDelays (link_of m)
 link_delay v m h =
@@ -173,6 +167,7 @@ described_is ms l h =
     λ i. record {
       until = h.until i;
       constants = h.constants i;
+      room = h.room i;
       nodes = h.nodes i;
       links = links i;
       members = members i;

@@ -113,6 +113,7 @@ fn scenario_from(alloc: Global, draft: Draft) -> Result<Scenario, ScenarioFault>
     let Draft {
         until,
         constants,
+        room,
         topology,
         nodes,
         delays,
@@ -135,6 +136,7 @@ fn scenario_from(alloc: Global, draft: Draft) -> Result<Scenario, ScenarioFault>
     Ok(Scenario {
         until,
         constants,
+        room,
         nodes,
         links,
         members,
