@@ -54,7 +54,7 @@ listens m (Repair n ink) = same_if (has_entry n m.held) _ _ m.request_interval m
 listens m (Request n) = (refl, refl)
 listens m (Session hs) = (refl, refl)
 
-listener_stays : (m : MemberState) (cause : Cause) → let after = (react_listener m cause).state in
+pub listener_stays : (m : MemberState) (cause : Cause) → let after = (react_listener m cause).state in
     (after.request_interval ≡ m.request_interval) × (after.repair_interval ≡ m.repair_interval)
 listener_stays m Join = (refl, refl)
 listener_stays m (Arrival p) = listens m p.body

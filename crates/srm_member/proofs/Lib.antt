@@ -13,6 +13,7 @@ mod IntervalChanges
 pub mod IntervalProofs
 pub mod LawProofs
 mod Losses
+mod OtherEvents
 pub mod Maps
 pub mod NameTests
 pub mod OrderLemmas

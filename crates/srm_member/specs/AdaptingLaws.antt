@@ -1,6 +1,9 @@
 -- What holds of the intervals of every member's timers.
-use Rattle.std.specs.Prelude.{◌≡◌, ℕ, List}
+use Rattle.std.specs.Prelude.{◌≡◌, ℕ, Bool, true, false, List}
+use Rattle.srm_net.specs.declared.packet.Body.{Body}
+use Rattle.srm_net.specs.declared.packet.Body.TheVariants.{Drawop, Request, Repair, Session}
 use Rattle.srm_member.specs.declared.cause.Cause.{Cause}
+use Rattle.srm_member.specs.declared.cause.Cause.TheVariants.{Join, Arrival, Ask, Answer, Draw, Report}
 use Rattle.srm_member.specs.declared.fixed.Fixed.{Fixed}
 use Rattle.srm_net.specs.declared.role.Role.TheVariants.{Listener}
 use Rattle.srm_member.specs.IntervalLaws.{Change, after_changes, IsOrdered, IsWithinLimits, HasNoRoom}
@@ -13,6 +16,38 @@ IntervalsChangeAlone =
     (m : MemberState) (at : ℕ) (cause : Cause) → let after = (react m at cause).state in
     ((cs : List Change) × (after.request_interval ≡ after_changes m.fixed.c1 m.fixed.c2 cs m.request_interval))
     × ((cs : List Change) × (after.repair_interval ≡ after_changes m.fixed.d1 m.fixed.d2 cs m.repair_interval))
+
+-- whether an event may change the interval of request timers: a packet that arrives, or a request timer that expires
+abbrev pub may_adapt_requests : Cause → Bool
+may_adapt_requests Join = false
+may_adapt_requests (Arrival k) = true
+may_adapt_requests (Ask n) = true
+may_adapt_requests (Answer n) = false
+may_adapt_requests (Draw page ink) = false
+may_adapt_requests Report = false
+
+-- whether a packet may change the interval of repair timers: a request or a repair
+abbrev pub is_of_recovery : Body → Bool
+is_of_recovery (Drawop n ink) = false
+is_of_recovery (Request n) = true
+is_of_recovery (Repair n ink) = true
+is_of_recovery (Session hs) = false
+
+-- whether an event may change it: a request or a repair that arrives, or a repair timer that expires
+abbrev pub may_adapt_repairs : Cause → Bool
+may_adapt_repairs Join = false
+may_adapt_repairs (Arrival k) = is_of_recovery k.body
+may_adapt_repairs (Ask n) = false
+may_adapt_repairs (Answer n) = true
+may_adapt_repairs (Draw page ink) = false
+may_adapt_repairs Report = false
+
+-- every other event leaves the interval as it is
+abbrev pub OtherEventsLeaveIntervals : Type 0
+OtherEventsLeaveIntervals =
+    (m : MemberState) (at : ℕ) (cause : Cause) → let after = (react m at cause).state in
+    (may_adapt_requests cause ≡ false → after.request_interval ≡ m.request_interval)
+    × (may_adapt_repairs cause ≡ false → after.repair_interval ≡ m.repair_interval)
 
 -- a listener's intervals stay
 abbrev pub ListenersIntervalsStay : Type 0

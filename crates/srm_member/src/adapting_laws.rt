@@ -1,10 +1,16 @@
 //! What holds of the intervals of every member's timers.
-ghost use Rattle.srm_member.specs.AdaptingLaws.{IntervalsChangeAlone, ListenersIntervalsStay, ConstantsBeginWithinLimits, ConstantsOfMembersStayWithinLimits, FixedTimersIgnoreWhatIsSeen};
+ghost use Rattle.srm_member.specs.AdaptingLaws.{IntervalsChangeAlone, OtherEventsLeaveIntervals, ListenersIntervalsStay, ConstantsBeginWithinLimits, ConstantsOfMembersStayWithinLimits, FixedTimersIgnoreWhatIsSeen};
 
 /// An event changes a member's intervals by their four changes alone: a period begins, a delay is taken in, the member sends first, or it
 /// hears a duplicate.
 pub fn intervals_change_alone()
     ensures { IntervalsChangeAlone }
+{}
+
+/// The interval of request timers is changed by packets that arrive and request timers that expire alone, that of repair timers by requests
+/// and repairs that arrive and repair timers that expire alone.
+pub fn other_events_leave_intervals()
+    ensures { OtherEventsLeaveIntervals }
 {}
 
 /// A listener's intervals stay.
