@@ -1,9 +1,8 @@
 -- The ranges of a file's keys are those of the scenario.
-use Rattle.std.proofs.Common.{◌≡◌, ℕ, zero, suc, ◌+◌, ◌-◌, Bool, true, false, cond, List, [], ◌∷◌, map, Option, Some}
+use Rattle.std.proofs.Common.{◌≡◌, ℕ, zero, suc, ◌+◌, ◌-◌, Bool, true, false, List, [], ◌∷◌, map, Option, Some}
 use Rattle.std.proofs.Common.{None, is_some, unwrap_or, codes, refl, sym, ap, ◌∙◌, subst, arith}
 use Rattle.std.proofs.lemmas.Bool.{false≢true}
 use Rattle.std.specs.List.{AllByRecursion}
-use Rattle.std.specs.Option.{option_and_then}
 use Rattle.toml.specs.Data.{Data, Members, string, integer, float, boolean, datetime, array, table, get_member}
 use Rattle.srm_net.specs.declared.link.LinkSpec.{LinkSpec}
 use Rattle.srm_net.specs.Network.{IsLinkDelay, HasDelays}
@@ -17,10 +16,10 @@ use Rattle.srm_scenario.specs.declared.topology.Topology.{Topology}
 use Rattle.srm_scenario.specs.declared.version.Version.{Version}
 use Rattle.srm_scenario.specs.declared.key.Key.TheVariants as key
 use Rattle.srm_scenario.specs.declared.rule.Kind.TheVariants.{Whole}
-use Rattle.srm_scenario.specs.declared.rule.Need.TheVariants.{Optional, Refused}
+use Rattle.srm_scenario.specs.declared.rule.Need.TheVariants.{Optional}
 use Rattle.srm_scenario.specs.declared.rule.Rule.{Rule}
 use Rattle.srm_scenario.specs.KeyLimits.{greatest_delay, last_stream}
-use Rattle.srm_scenario.specs.Rules.{rule, meets, allows_back, back_rule, is_met, fits, fits_element, link_rules, member_rules}
+use Rattle.srm_scenario.specs.Rules.{rule, allows_back, back_rule, is_met, fits, fits_element, link_rules, member_rules}
 use Rattle.srm_scenario.specs.Described.{version_of, back_at, delays_of, number_of, number, array_of, array_at, table_of}
 use Rattle.srm_scenario.specs.Described.{link_of, member_of, elements_at, links_to_parents, nodes_in, links_in, described_scenario}
 use Rattle.srm_scenario.specs.Described.{topology_of}

@@ -1,11 +1,11 @@
-use Rattle.std.proofs.Common.{◌≡◌, ◌∙◌, ap, sym, subst, arith}
+use Rattle.std.proofs.Common.{◌∙◌, ap, sym, subst, arith}
 use Rattle.std.specs.Prelude.{◌==◌, if◌then◌else◌}
 use Rattle.toml.specs.View.{table_view}
 use Rattle.srm_scenario.specs.declared.parts.Constants.{Constants}
 use Rattle.srm_scenario.specs.declared.parts.Room.{Room}
 use Rattle.srm_scenario.specs.declared.version.Version.TheVariants.{One, Two, Three}
 use Rattle.srm_scenario.specs.Accepted.{AreConstants}
-use Rattle.srm_scenario.specs.Described.{constants_of}
+use Rattle.srm_scenario.specs.Described.{room_of}
 use Rattle.srm_scenario.proofs.TopFits.{until_fits, constants_fit}
 use Rattle.srm_scenario.proofs.top.numbers_of.Goals as goal
 
@@ -21,5 +21,5 @@ returns c =
       constants_are = sym c.constants_of.ensures;
       room_is = sym c.room_of.ensures;
       constants_fit = subst (λ (r : Room). AreConstants c.constants_of.result r) (sym c.room_of.ensures)
-          (subst (λ (k : Constants). AreConstants k _) (sym c.constants_of.ensures) (constants_fit ms c.requires));
+          (subst (λ (k : Constants). AreConstants k (room_of ms)) (sym c.constants_of.ensures) (constants_fit ms c.requires));
     }
