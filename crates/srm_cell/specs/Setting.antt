@@ -14,6 +14,8 @@ use Rattle.srm_scenario.specs.Presence.{is_present}
 use Rattle.srm_member.specs.declared.cause.Cause.{Cause}
 use Rattle.srm_member.specs.declared.cause.Cause.TheVariants.{Join, Draw, Report}
 use Rattle.srm_member.specs.declared.fixed.Fixed.{Fixed}
+use Rattle.srm_member.specs.declared.backoff.BackoffFactor.TheVariants.{Two}
+use Rattle.srm_member.specs.Intervals.{without_room}
 
 -- what becomes of packets. Events before `until` are handled. Of each member: when it joins and when it leaves. Of each
 -- two members: how long a packet is on its way from the one to the other. Of each packet: whom it reaches, which links
@@ -54,10 +56,11 @@ abbrev pub fixed_of : PlainScenario → Network → ℕ → ℕ → Fixed
 fixed_of s net seed m = record {
   member = m;
   role = (member_at s m).role;
-  c1 = s.constants.c1;
-  c2 = s.constants.c2;
-  d1 = s.constants.d1;
-  d2 = s.constants.d2;
+  backoff = Two;
+  c1 = without_room s.constants.c1;
+  c2 = without_room s.constants.c2;
+  d1 = without_room s.constants.d1;
+  d2 = without_room s.constants.d2;
   dist = half_rounds_from net m;
   pages = (member_at s m).pages;
   seed = seed;

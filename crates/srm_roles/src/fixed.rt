@@ -5,7 +5,9 @@ ghost use Rattle.srm_scenario.specs.Plain.{network_of};
 ghost use Rattle.srm_member.specs.Fit.{IsBounded};
 ghost use Rattle.srm_roles.specs.Opening.{half_rounds_from, fixed_of};
 
+use srm_member::backoff::BackoffFactor;
 use srm_member::fixed::Fixed;
+use srm_member::limits::Limits;
 use srm_net::net::Net;
 use srm_net::sequence::Sequence;
 use srm_scenario::scenario::Scenario;
@@ -35,10 +37,11 @@ pub fn fixed_of(
     Ok(Fixed {
         member: m,
         role: member.role,
-        c1: constants.c1,
-        c2: constants.c2,
-        d1: constants.d1,
-        d2: constants.d2,
+        backoff: BackoffFactor::Two,
+        c1: Limits::without_room(constants.c1),
+        c2: Limits::without_room(constants.c2),
+        d1: Limits::without_room(constants.d1),
+        d2: Limits::without_room(constants.d2),
         dist,
         pages,
         seed,

@@ -134,6 +134,7 @@ pub plain_made : (l : Draft) (links : List LinkSpec) (members : List MemberSpec)
     → ◌≡◌ {A = PlainScenario} (record {
       until = l.until;
       constants = l.constants;
+      room = l.room;
       nodes = l.nodes;
       links = links;
       members = members;
@@ -146,6 +147,7 @@ unfolding plain_of
 plain_made l links members drops m same = λ i. record {
   until = l.until;
   constants = l.constants;
+      room = l.room;
   nodes = l.nodes;
   links = m.links_are i;
   members = m.members_are i;

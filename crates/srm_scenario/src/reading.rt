@@ -110,6 +110,7 @@ fn scenario_from(alloc: Global, draft: Draft) -> Result<Scenario, ScenarioFault>
     let Draft {
         until,
         constants,
+        room,
         topology,
         nodes,
         delays,
@@ -132,6 +133,7 @@ fn scenario_from(alloc: Global, draft: Draft) -> Result<Scenario, ScenarioFault>
     Ok(Scenario {
         until,
         constants,
+        room,
         nodes,
         links,
         members,
