@@ -24,4 +24,5 @@ pub mod SpreadLemmas
 pub mod Rootings
 pub mod Subtrees
 pub mod Beyond
+pub mod OccupiedLemmas
 pub mod Firsts

@@ -12,6 +12,7 @@ pub mod laws;
 pub mod limits;
 pub mod link;
 pub mod net;
+mod occupied;
 mod order;
 mod outages;
 pub mod packet;

@@ -8,10 +8,11 @@ ghost use Rattle.srm_net.specs.Paths.{host, route, end_of, delay_along, distance
 ghost use Rattle.srm_net.specs.Listed.{is_listed_somewhere};
 ghost use Rattle.srm_net.specs.Spreads.{comes_to, AreKnown, TellsComing};
 ghost use Rattle.srm_net.specs.Least.{least_delay, out};
-ghost use Rattle.srm_net.specs.Tables.{is_beyond, TellsSides, TellsAllSides, TellsOuts};
+ghost use Rattle.srm_net.specs.Tables.{is_beyond, TellsAllSides, TellsOuts};
 
 use crate::drops::Drops;
 use crate::link::LinkSpec;
+use crate::occupied::Occupied;
 use crate::packet::PacketId;
 use crate::rooted::Rooted;
 use crate::sending::Sending;
@@ -233,25 +234,6 @@ impl Tree {
         }
     }
 
-    /// Whether members are on the two sides of a link.
-    pub(crate) fn sides_of(&self, link: u16) -> Sides
-        requires { link < length self.now.links }
-        ensures { (k : LinkSpec) → slice_get self.now.links link ≡ Some k → TellsSides self.now link k result }
-    {
-        let mut sides = Sides { a: false, b: false };
-        for m in 0..self.members() {
-            if sides.a && sides.b {
-                return sides;
-            }
-            if self.is_beyond(link, self.host(m)) {
-                sides.b = true;
-            } else {
-                sides.a = true;
-            }
-        }
-        sides
-    }
-
     /// The least distance from a member to another, in ticks, or none where there is no other.
     pub(crate) fn out_of(&self, m: u16) -> Option<u64>
         requires { m < length self.now.hosts }
@@ -271,13 +253,14 @@ impl Tree {
         least
     }
 
-    /// Whether members are on the two sides of each link.
+    /// Whether members are on the two sides of each link. It takes a number of steps that grows as the numbers of nodes and members.
     pub(crate) fn all_sides(&self, alloc: Global) -> Result<Vec<Sides>, AllocError>
         ensures { IfOk result (λ all. TellsAllSides self.now all.items) }
     {
+        let occupied = Occupied::of(alloc, &self.rooted, self.hosts.as_slice())?;
         let mut all = Vec::new(alloc);
         for link in 0..self.links().len() as u16 {
-            all.push(self.sides_of(link))?;
+            all.push(occupied.sides(&self.rooted, self.link(link)))?;
         }
         Ok(all)
     }
