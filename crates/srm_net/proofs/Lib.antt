@@ -25,3 +25,5 @@ pub mod Rootings
 pub mod Subtrees
 pub mod Beyond
 pub mod Firsts
+pub mod NodeOrder
+pub mod Arrivals
