@@ -26,3 +26,5 @@ pub mod Subtrees
 pub mod Beyond
 pub mod OccupiedLemmas
 pub mod Firsts
+pub mod NodeOrder
+pub mod Arrivals
