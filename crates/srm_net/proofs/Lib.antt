@@ -25,4 +25,5 @@ pub mod Rootings
 pub mod Subtrees
 pub mod Beyond
 pub mod OccupiedLemmas
+pub mod OutLemmas
 pub mod Firsts
