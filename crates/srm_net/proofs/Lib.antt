@@ -25,6 +25,7 @@ pub mod Rootings
 pub mod Subtrees
 pub mod Beyond
 pub mod OccupiedLemmas
+pub mod OutLemmas
 pub mod Firsts
 pub mod NodeOrder
 pub mod Arrivals

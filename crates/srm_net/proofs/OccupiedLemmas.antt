@@ -1,6 +1,8 @@
 -- Which places have members, and on which sides of links members are.
-use Rattle.std.proofs.Common.{◌≡◌, ◌⊎◌, ℕ, zero, suc, ◌+◌, ◌<◌, ◌≤◌, min, Bool, true, false, not, cond, List, [], ◌∷◌, ◌++◌, length, Some, refl, sym}
-use Rattle.std.proofs.Common.{ap, ◌∙◌, subst, inl, inr, arith, eqb, eq-eqb, slice_get, slice_index, slice_set, take, replicate, ◌||◌}
+use Rattle.std.proofs.Common.{◌≡◌, ◌⊎◌, ℕ, zero, suc, ◌+◌, ◌<◌, ◌≤◌, min, Bool, true, false, not, cond, List, [], ◌∷◌, ◌++◌, length, Some}
+use Rattle.std.proofs.Common.{}
+use Rattle.std.proofs.Common.{refl, sym, ap, ◌∙◌, subst, inl, inr, arith, eqb, eq-eqb, slice_get, slice_index, slice_set, take, replicate}
+use Rattle.std.proofs.Common.{◌||◌}
 use Rattle.std.proofs.lemmas.Bool.{cases_Bool, cases_eq, ne_eqb, both_ways, false≢true}
 use Rattle.std.proofs.lemmas.List.{get_or-set_same, get_or-set_other, take_more}
 use Rattle.srm_net.specs.declared.link.LinkSpec.{LinkSpec}
@@ -239,8 +241,8 @@ module _ (w : Network) (ps : List Position) (o : Occupied) (i : IsOccupied w ps 
       λ m hm n. sym (b_holds w ps i.rooted l k g lt2 (host w m) (here m hm) false
       (λ t. absurd (false≢true t)) (λ p q. absurd (n (subst (λ (q : Position). IsHeld q (at ps (host w m))) (sym eb) (p, q))))) in
       record {
-        a = outer_is ps w.hosts b (λ m. not (is_beyond w l k (host w m))) outer (λ m hm h. ap not (held m hm h)) (λ m hm n. ap not (apart m hm n))
-            to;
+        a = outer_is ps w.hosts b (λ m. not (is_beyond w l k (host w m))) outer
+            (λ m hm h. ap not (held m hm h)) (λ m hm n. ap not (apart m hm n)) to;
         b = inner_is ps w.hosts b (λ m. is_beyond w l k (host w m)) inner held apart ti;
       }
 
@@ -257,14 +259,14 @@ module _ (w : Network) (ps : List Position) (o : Occupied) (i : IsOccupied w ps 
       λ m hm n. sym (a_holds w ps i.rooted l k g le2 (host w m) (here m hm) false
       (λ t. absurd (false≢true t)) (λ p q. absurd (n (subst (λ (q : Position). IsHeld q (at ps (host w m))) (sym ea) (p, q))))) in
       record {
-        a = inner_is ps w.hosts a (λ m. not (is_beyond w l k (host w m))) inner (λ m hm h. ap not (held m hm h)) (λ m hm n. ap not (apart m hm n))
-            ti;
+        a = inner_is ps w.hosts a (λ m. not (is_beyond w l k (host w m))) inner
+            (λ m hm h. ap not (held m hm h)) (λ m hm n. ap not (apart m hm n)) ti;
         b = outer_is ps w.hosts a (λ m. is_beyond w l k (host w m)) outer held apart to;
       }
 
 -- the same at the network that callers see
-pub sides_seen : (v w : Network) → v ≡ w → (l : ℕ) (j k : LinkSpec) (s : Sides) → slice_get w.links l ≡ Some j → slice_get w.links l ≡ Some k
-    → TellsSides v l j s → TellsSides w l k s
+pub sides_seen : (v w : Network) → v ≡ w → (l : ℕ) (j k : LinkSpec) (s : Sides) → slice_get w.links l ≡ Some j
+    → slice_get w.links l ≡ Some k → TellsSides v l j s → TellsSides w l k s
 sides_seen v w e l j k s g h t =
     let same : j ≡ k = (let q : Some j ≡ Some k = sym g ∙ h in cc) in
     subst (λ (i : LinkSpec). TellsSides w l i s) same (subst (λ (n : Network). TellsSides n l j s) e t)

@@ -20,6 +20,7 @@ pub mod Rooting
 pub mod Spreads
 pub mod Tables
 pub mod Occupancy
+pub mod Nearness
 pub mod Built
 pub mod Told
 pub mod Laws

@@ -8,11 +8,14 @@ ghost use Rattle.srm_net.specs.Paths.{host, route, end_of, delay_along, distance
 ghost use Rattle.srm_net.specs.Listed.{is_listed_somewhere};
 ghost use Rattle.srm_net.specs.Spreads.{TellsComing};
 ghost use Rattle.srm_net.specs.Least.{least_delay, out};
+ghost use Rattle.srm_net.specs.Spreads.{comes_to, AreKnown, TellsComing};
+ghost use Rattle.srm_net.specs.Least.{least_delay};
 ghost use Rattle.srm_net.specs.Tables.{is_beyond, TellsAllSides, TellsOuts};
 
 use crate::drops::Drops;
 use crate::link::LinkSpec;
 use crate::occupied::Occupied;
+use crate::outs;
 use crate::packet::PacketId;
 use crate::rooted::Rooted;
 use crate::sending::Sending;
@@ -188,25 +191,6 @@ impl Tree {
         }
     }
 
-    /// The least distance from a member to another, in ticks, or none where there is no other.
-    pub(crate) fn out_of(&self, m: u16) -> Option<u64>
-        requires { m < length self.now.hosts }
-        ensures { result ≡ out self.now m }
-    {
-        let mut least = None;
-        for b in 0..self.members() {
-            if b == m {
-                continue;
-            }
-            let distance = self.distance(m, b);
-            least = match least {
-                None => Some(distance),
-                Some(known) => Some(known.min(distance)),
-            };
-        }
-        least
-    }
-
     /// Whether members are on the two sides of each link. It takes a number of steps that grows as the numbers of nodes and members.
     pub(crate) fn all_sides(&self, alloc: Global) -> Result<Vec<Sides>, AllocError>
         ensures { IfOk result (λ all. TellsAllSides self.now all.items) }
@@ -219,15 +203,11 @@ impl Tree {
         Ok(all)
     }
 
-    /// Each member's least distance to another.
+    /// Each member's least distance to another. It takes a number of steps that grows as the numbers of nodes and members.
     pub(crate) fn all_outs(&self, alloc: Global) -> Result<Vec<Option<u64>>, AllocError>
         ensures { IfOk result (λ all. TellsOuts self.now all.items) }
     {
-        let mut all = Vec::new(alloc);
-        for m in 0..self.members() {
-            all.push(self.out_of(m))?;
-        }
-        Ok(all)
+        outs::all_outs(alloc, &self.rooted, self.hosts.as_slice())
     }
 
     /// The least delay of a link in either direction, in ticks, or none where there is no link.
