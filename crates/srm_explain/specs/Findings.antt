@@ -48,14 +48,14 @@ abbrev pub rules_in : Part → Members → List Rule
 rules_in p top = rules_for (version_of top) p top
 
 -- the key of the array whose elements a part is
-abbrev pub array_of : Part → Option Key
-array_of part.Top = None
-array_of part.Link = Some key.Link
-array_of part.Member = Some key.Member
-array_of part.Draw = Some key.Draw
-array_of part.Session = Some key.Session
-array_of part.Drop = Some key.Drop
-array_of part.Outage = Some key.Outage
+abbrev pub array_key : Part → Option Key
+array_key part.Top = None
+array_key part.Link = Some key.Link
+array_key part.Member = Some key.Member
+array_key part.Draw = Some key.Draw
+array_key part.Session = Some key.Session
+array_key part.Drop = Some key.Drop
+array_key part.Outage = Some key.Outage
 
 -- the element at a place of the array at a key, and the top table itself where there is no key
 abbrev pub element_of : Option Key → ℕ → Members → Option Data
@@ -64,7 +64,7 @@ element_of (Some k) place top = slice_get (array_at (name_of k) top) place
 
 -- what stands at a place of a part
 abbrev pub data_at : Part → ℕ → Members → Option Data
-data_at p place top = element_of (array_of p) place top
+data_at p place top = element_of (array_key p) place top
 
 -- one of the rules is that of this key
 abbrev pub HasKey : List Rule → Key → Type 0
