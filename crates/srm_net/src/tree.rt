@@ -7,8 +7,6 @@ ghost use Rattle.srm_net.specs.Network.{IsNetwork};
 ghost use Rattle.srm_net.specs.Paths.{host, route, end_of, delay_along, distance, stops, takes_out};
 ghost use Rattle.srm_net.specs.Listed.{is_listed_somewhere};
 ghost use Rattle.srm_net.specs.Spreads.{TellsComing};
-ghost use Rattle.srm_net.specs.Least.{least_delay, out};
-ghost use Rattle.srm_net.specs.Spreads.{comes_to, AreKnown, TellsComing};
 ghost use Rattle.srm_net.specs.Least.{least_delay};
 ghost use Rattle.srm_net.specs.Tables.{is_beyond, TellsAllSides, TellsOuts};
 
