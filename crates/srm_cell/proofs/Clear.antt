@@ -4,7 +4,6 @@ use Rattle.std.proofs.Common.{sym, ap, ◌∙◌, subst, ◌≢◌, ◌⊎◌, i
 use Rattle.std.proofs.Common.{true≢false}
 use Rattle.std.specs.Ordering.{eq_by_cmp, is_eq, ordering_reverse}
 use Rattle.std.specs.FinMap.Entries.{put, find, by_order, is_sorted, below_all}
-use Rattle.rand_pcg.specs.Pcg.{pcg32}
 use Rattle.srm_cell.proofs.CellLemmas.{first_timer, next_event_is}
 use Rattle.srm_cell.proofs.Rising.{Above, OnEvent, OnStep, earlier_on, step_above}
 use Rattle.srm_cell.specs.Cells.{arrival_key, mark_key, timer_key, Done, Event, Full, PlainCell, Stepped, before, cause_of_timer}
@@ -14,18 +13,17 @@ use Rattle.srm_cell.specs.Flights.{flight_cmp}
 use Rattle.srm_cell.specs.Setting.{HasOwnRanks}
 use Rattle.srm_cell.specs.declared.flight.Flight.{Flight}
 use Rattle.srm_member.proofs.AllIn.{AllIn, AllIn-append, AllIn-each, AllIn-map, AllIn-weaker}
-use Rattle.srm_member.proofs.Bounds.{draw_pos}
+use Rattle.srm_member.proofs.Bounds.{request_length_pos}
 use Rattle.srm_member.proofs.FewerTimers.{In, IsSound, SoundRecord, found, in_append, in_map}
 use Rattle.srm_member.proofs.FewerTimers.{no_table}
 use Rattle.srm_member.proofs.LawProofs.{as_active}
 use Rattle.srm_net.specs.Roles.{is_listener}
 use Rattle.srm_member.specs.React.{Reaction, expire_repair, expire_repair_by_entry, expire_request, expire_request_by_entry, back_off}
-use Rattle.srm_member.specs.React.{distance_to, react, request_length}
+use Rattle.srm_member.specs.React.{react, request_length, with_request_delay, with_request_first, with_repair_first}
 use Rattle.srm_member.specs.React.{with_rest, without}
 use Rattle.srm_member.specs.declared.entries.Missing.{Missing}
 use Rattle.srm_member.specs.declared.entries.Repairing.{Repairing}
 use Rattle.srm_member.specs.Record.{Active, Gone, MemberState, Record, timers, timers_of}
-use Rattle.srm_member.specs.Timers.{span}
 use Rattle.srm_member.specs.declared.cause.Cause.{Cause}
 use Rattle.srm_member.specs.declared.cause.Cause.TheVariants.{Answer, Ask}
 use Rattle.srm_member.specs.declared.due.Due.{Due}
@@ -139,11 +137,11 @@ module _ (m t : ℕ) (state : MemberState) (sound : IsSound state) (n : Name) wh
       → ClearOf AskKey (expire_request_by_entry t n state o).state
   asked_clear w h None e = absurd (found (λ (x : Missing). true) n w state.missing h e)
   asked_clear w h (Some x) e =
-      let len = request_length state (min (x.backoffs + 1) 10) n in
-      let lt : t < t + len = (let one = draw_pos (pcg32 state.words).0
-      (span (min (x.backoffs + 1) 10) state.fixed.c1 state.fixed.c2 (distance_to state n.source)) in omega arith) in
+      let asked = with_request_delay t n x (with_request_first x state) in
+      let len = request_length asked (min (x.backoffs + 1) 10) n in
+      let lt : t < t + len = (let one = request_length_pos asked (min (x.backoffs + 1) 10) n in omega arith) in
       let v : Missing = record { detected = x.detected; expiry = t + len; backoffs = min (x.backoffs + 1) 10; ignore = t + len / 2 } in
-      clear_of AskKey (back_off t n x state)
+      clear_of AskKey (back_off t n x (with_request_first x state))
       (AllIn-weaker (Clear (λ (y : Missing). y.expiry ≢ t) n)
       (λ e. Differs AskKey (timer_key m (record { time = e.1.expiry; rank = 2; name = e.0 })))
       (λ e c. timer_differs m 2 t n e.0 e.1.expiry c) (put name_cmp n v state.missing)
@@ -156,7 +154,7 @@ module _ (m t : ℕ) (state : MemberState) (sound : IsSound state) (n : Name) wh
       → ClearOf AnswerKey (expire_repair_by_entry t n state o).state
   answered_clear w h None e = absurd (found (λ (x : Repairing). true) n w state.repairs h e)
   answered_clear w h (Some x) e =
-      clear_of AnswerKey (with_rest t n state.fixed.member state)
+      clear_of AnswerKey (with_rest t n state.fixed.member (with_repair_first t x state))
       (AllIn-each (λ e. Differs AnswerKey (timer_key m (record { time = e.1.expiry; rank = 2; name = e.0 })))
       (λ e. differ_rank AnswerKey (timer_key m (record { time = e.1.expiry; rank = 2; name = e.0 }))
       (λ q. let r : ◌≡◌ {A = ℕ} 3 2 = q in omega arith)) state.missing)

@@ -3,12 +3,27 @@ use Rattle.std.specs.Prelude.{ℕ, Bool, [], if◌then◌else◌}
 use Rattle.srm_net.specs.declared.role.Role.{Role}
 use Rattle.srm_net.specs.declared.role.Role.TheVariants.{Listener, Receiver}
 use Rattle.srm_member.specs.declared.fixed.Fixed.{Fixed}
+use Rattle.srm_member.specs.declared.backoff.BackoffFactor.TheVariants.{Two}
+use Rattle.srm_member.specs.Intervals.{without_room}
 use Rattle.srm_member.specs.Record.{Record, Active, Gone, opening_state}
 
 -- the part that never changes of a member that knows no distance and wants no page
 abbrev pub plain_fixed : Role → ℕ → Fixed
 plain_fixed role m =
-    record { member = m; role = role; c1 = 0; c2 = 0; d1 = 0; d2 = 0; dist = []; pages = []; seed = 0; stream = 0 }
+    let none = without_room 0 in
+    record {
+      member = m;
+      role = role;
+      backoff = Two;
+      c1 = none;
+      c2 = none;
+      d1 = none;
+      d2 = none;
+      dist = [];
+      pages = [];
+      seed = 0;
+      stream = 0;
+    }
 
 -- the record, by whether it is gone, of a member that joins no recovery and counts the drops of its box
 abbrev pub probe_record : ℕ → Bool → Record

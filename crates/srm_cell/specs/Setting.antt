@@ -14,6 +14,9 @@ use Rattle.srm_scenario.specs.Presence.{is_present}
 use Rattle.srm_member.specs.declared.cause.Cause.{Cause}
 use Rattle.srm_member.specs.declared.cause.Cause.TheVariants.{Join, Draw, Report}
 use Rattle.srm_member.specs.declared.fixed.Fixed.{Fixed}
+use Rattle.srm_member.specs.declared.backoff.BackoffFactor.{BackoffFactor}
+use Rattle.srm_member.specs.declared.backoff.BackoffFactor.TheVariants.{Two, Three}
+use Rattle.srm_member.specs.Intervals.{Limits}
 
 -- what becomes of packets. Events before `until` are handled. Of each member: when it joins and when it leaves. Of each
 -- two members: how long a packet is on its way from the one to the other. Of each packet: whom it reaches, which links
@@ -49,15 +52,24 @@ member_at s m = unwrap_or (slice_get s.members m) no_member
 abbrev pub half_rounds_from : Network → ℕ → List ℕ
 half_rounds_from net m = map (λ b. paths.round net m b / 2) (range_with_len 0 (length net.hosts))
 
+-- the factor of backoffs that a scenario's number names
+abbrev pub factor_of : ℕ → BackoffFactor
+factor_of n = if n == 3 then Three else Two
+
+-- a constant of timers, with the least and the most that it is adapted to
+abbrev pub limits_of : ℕ → ℕ → ℕ → Limits
+limits_of first least most = record { first = first; least = least; most = most }
+
 -- the part of member m's record that never changes
 abbrev pub fixed_of : PlainScenario → Network → ℕ → ℕ → Fixed
 fixed_of s net seed m = record {
   member = m;
   role = (member_at s m).role;
-  c1 = s.constants.c1;
-  c2 = s.constants.c2;
-  d1 = s.constants.d1;
-  d2 = s.constants.d2;
+  backoff = factor_of s.room.backoff;
+  c1 = limits_of s.constants.c1 s.room.least.c1 s.room.most.c1;
+  c2 = limits_of s.constants.c2 s.room.least.c2 s.room.most.c2;
+  d1 = limits_of s.constants.d1 s.room.least.d1 s.room.most.d1;
+  d2 = limits_of s.constants.d2 s.room.least.d2 s.room.most.d2;
   dist = half_rounds_from net m;
   pages = (member_at s m).pages;
   seed = seed;

@@ -10,7 +10,7 @@ use Rattle.std.proofs.lemmas.Nat.{and_mask}
 use Rattle.std.proofs.lemmas.Option.{slice_get-get_or}
 use Rattle.std.specs.Int.Bits.{bit_and, bit_xor, xor_add_and}
 use Rattle.srm_engine.specs.declared.next_times.Entry.{Entry}
-use Rattle.srm_engine.specs.NextTimes.{sooner_time, least_of_times, is_time, entry_of, time_in, entry_at, sooner_entry, winner_below}
+use Rattle.srm_engine.specs.NextTimes.{sooner_time, least_of_times, is_time, slot_of, time_in, entry_at, sooner_entry, winner_below}
 use Rattle.srm_engine.specs.NextTimes.{AreWinners}
 use Rattle.srm_engine.specs.NextTimes.{SetsLeaf, IsEntryOf, Holds, times_in, IsTournament}
 
@@ -227,10 +227,10 @@ untimed o t h = by (is_time t o) refl
 
 -- the entry comes after none of those of the members with these times
 abbrev IsFirst : List (Option ℕ) → Entry → Type 0
-IsFirst ts e = (u j : ℕ) → is_time u (slice_get ts j) ≡ true → (j < length ts) × (u < 2 ^ 64) × NotAfter e (entry_of (Some u) j)
+IsFirst ts e = (u j : ℕ) → is_time u (slice_get ts j) ≡ true → (j < length ts) × (u < 2 ^ 64) × NotAfter e (slot_of (Some u) j)
 
 first_is_told : (ts : List (Option ℕ)) (m : ℕ) (o : Option ℕ) → slice_index_or ts m None ≡ o → m < length ts → length ts ≤ 65536
-    → IsFirst ts (entry_of o m) → told (entry_of o m) ≡ least_of_times 0 ts
+    → IsFirst ts (slot_of o m) → told (slot_of o m) ≡ least_of_times 0 ts
 first_is_told ts m (Some t) e lt few none =
     let yes : nat_lt m 65536 ≡ true = lt-ltb m 65536 (omega arith) in
     let here : is_time t (slice_get ts m) ≡ true = ap (is_time t) (slice_get-get_or ts m None lt ∙ ap Some e) ∙ eq-eqb t t refl in
@@ -241,7 +241,7 @@ first_is_told ts m None e lt few none =
     ap (λ b. cond b (Some (18446744073709551615, 65536 + m)) None) no
     ∙ sym (no_least ts (λ t j. untimed (slice_get ts j) t (λ g. late t j (none t j g))) 0)
   where
-    late : (t j : ℕ) → (j < length ts) × (t < 2 ^ 64) × NotAfter (entry_of None m) (entry_of (Some t) j) → ⊥
+    late : (t j : ℕ) → (j < length ts) × (t < 2 ^ 64) × NotAfter (slot_of None m) (slot_of (Some t) j) → ⊥
     late t j (short, fits, inl a) = omega arith
     late t j (short, fits, inr a) = let le = a.1 in omega arith
 
@@ -252,12 +252,12 @@ first_told ts es h some =
     let leaf = of_a_leaf es n size h.tree (2 * n) 1 (omega arith) (omega arith) (omega arith) in
     let m : ℕ = leaf.0 in
     let lt : m < n = leaf.1 in
-    let is : entry_at es 1 ≡ entry_of (slice_index_or ts m None) m = leaf.2 ∙ (h.leaves m lt).0 in
+    let is : entry_at es 1 ≡ slot_of (slice_index_or ts m None) m = leaf.2 ∙ (h.leaves m lt).0 in
     let first : IsFirst ts (entry_at es 1) = λ u j g.
     let r = timed ts u j g in
     let within : j < n = r.0 in
     let l = h.leaves j within in
-    let at : entry_at es (n + j) ≡ entry_of (Some u) j = l.0 ∙ ap (λ o. entry_of o j) r.1 in
+    let at : entry_at es (n + j) ≡ slot_of (Some u) j = l.0 ∙ ap (λ o. slot_of o j) r.1 in
     let far : NotAfter (entry_at es 1) (entry_at es (n + j)) =
     first_of_all es n size h.tree (2 * n) (n + j) (omega arith) (omega arith) (omega arith) in
     (within, subst (λ (e : Entry). e.time < 2 ^ 64) at l.1, subst (NotAfter (entry_at es 1)) at far) in
@@ -265,14 +265,14 @@ first_told ts es h some =
 
 -- ---- the times that entries stand for
 
-time_of_entry : (o : Option ℕ) (m : ℕ) → m < 65536 → time_in (entry_of o m) ≡ o
+time_of_entry : (o : Option ℕ) (m : ℕ) → m < 65536 → time_in (slot_of o m) ≡ o
 time_of_entry None m lt =
     let no : nat_lt (65536 + m) 65536 ≡ false = grind (arith, nat_tests) in
     ap (λ b. cond b (Some 18446744073709551615) None) no
 time_of_entry (Some t) m lt = let yes : nat_lt m 65536 ≡ true = lt-ltb m 65536 lt in ap (λ b. cond b (Some t) None) yes
 
 leaves_tell : (ts : List (Option ℕ)) (es : List Entry) (i : ℕ) → length es ≡ length ts → i + length ts ≤ 65536
-    → ((m : ℕ) → m < length ts → entry_at es m ≡ entry_of (slice_index_or ts m None) (i + m)) → map time_in es ≡ ts
+    → ((m : ℕ) → m < length ts → entry_at es m ≡ slot_of (slice_index_or ts m None) (i + m)) → map time_in es ≡ ts
 leaves_tell [] [] i len few h = refl
 leaves_tell [] (e ∷ es) i len few h = absurd (omega arith)
 leaves_tell (t ∷ ts) [] i len few h = absurd (omega arith)
@@ -280,7 +280,7 @@ leaves_tell (t ∷ ts) (e ∷ es) i len few h =
     let here : time_in e ≡ t = ap time_in (h 0 (omega arith)) ∙ time_of_entry t (i + 0) (omega arith) in
     let rest : map time_in es ≡ ts = leaves_tell ts es (suc i) (omega arith) (omega arith) (λ m lt.
     let next : i + suc m ≡ suc i + m = omega arith in
-    h (suc m) (omega arith) ∙ ap (entry_of (slice_index_or ts m None)) next) in
+    h (suc m) (omega arith) ∙ ap (slot_of (slice_index_or ts m None)) next) in
     λ k. here k ∷ rest k
 
 pub times_are : (ts : List (Option ℕ)) (es : List Entry) → Holds ts es → times_in es ≡ ts
@@ -292,7 +292,7 @@ times_are ts es h =
     let len : length (drop n es) ≡ n = length-drop n es ∙ omega arith in
     ap (λ k. map time_in (drop k es)) half ∙ leaves_tell ts (drop n es) 0 len (omega arith) (λ m lt.
     get_or-drop n es m (record { time = 0; place = 0 }) ∙ (h.leaves m lt).0
-    ∙ ap (entry_of (slice_index_or ts m None)) (sym (zero-add m)))
+    ∙ ap (slot_of (slice_index_or ts m None)) (sym (zero-add m)))
 
 -- entries that hold these times are a tournament
 pub tournament : (ts : List (Option ℕ)) (es : List Entry) → Holds ts es → IsTournament es

@@ -3,6 +3,7 @@ pub mod Index
 pub mod NewPackets
 pub mod Hearing
 pub mod Opened
+pub mod Openings
 pub mod PhaseLemmas
 pub mod StreamLemmas
 pub mod SeenLemmas

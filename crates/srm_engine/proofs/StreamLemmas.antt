@@ -56,12 +56,13 @@ module _ {S : Type 0} (handed : S → List (List Row) → S → Type 0) where
 module _ {S : Type 0} (took part : S → List Row → S → Type 0) where
   -- where not all rows were handed on, a front was
   pub halted_front : ((a : S) → part a [] a) → ((a b c : S) (xs ys : List Row) → took a xs b → part b ys c → part a (xs ++ ys) c)
-      → (s : Setting) (old : S) (x : Halt StepFault) (new : S) → TellsHalt took part s old x new → TakesTraceFront took part s old new
-  halted_front none more s old (halt.Run e) new h = (h.0, h.1, front_taken took part none more old new h.0.trace h.2)
-  halted_front none more s old (halt.Sink e) new h = h
+      → {F : Type 0} (may : World → F → Type 0) (s : Setting) (old : S) (x : Halt F) (new : S) → TellsHalt took part may s old x new
+      → TakesTraceFront took part s old new
+  halted_front none more may s old (halt.Run e) new h = (h.0, h.1, front_taken took part none more old new h.0.trace h.2)
+  halted_front none more may s old (halt.Sink e) new h = h
 
   -- when a run that is not cut into windows, and hands its rows on, is refused
-  pub halts_refuse : (A : Type 0) (s : Setting) (old : S) (x : Halt StepFault) (new : S) → TellsHalt took part s old x new
+  pub halts_refuse : (A : Type 0) (s : Setting) (old : S) (x : Halt StepFault) (new : S) → TellsHalt took part (MayStop s) s old x new
       → MeetsRefusal {A = A} s (Err (stream_fault_of step_refused x))
   halts_refuse A s old (halt.Run fault.NoMemory) new h = tt
   halts_refuse A s old (halt.Run fault.CountFull) new h = h.3

@@ -24,7 +24,7 @@ use Rattle.srm_cell.specs.Jobs as cell
 use Rattle.srm_cell.proofs.FitSettings.{settings_are_fit}
 use Rattle.srm_crew.specs.declared.fault.CrewFault.{CrewFault}
 use Rattle.srm_crew.specs.declared.fault.CrewFault.TheVariants as crew
-use Rattle.srm_crew.specs.Crews.{AreJobs, AnyEnds, AreRowsOfSome, TellsMap, HasGrown, IsPast, rows_of, counted_in}
+use Rattle.srm_crew.specs.Crews.{AreJobs, AnyEnds, AreRowsOfSome, TellsMap, Maps, HasGrown, IsPast, rows_of, counted_in}
 use Rattle.srm_engine.specs.declared.window_engine.WindowEngine.{WindowEngine}
 use Rattle.srm_engine.specs.declared.window_fault.WindowFault.{WindowFault}
 use Rattle.srm_engine.specs.declared.window_fault.WindowFault.TheVariants as window
@@ -44,10 +44,10 @@ use Rattle.srm_engine.specs.declared.ends.Ends.{Ends}
 use Rattle.srm_engine.specs.declared.ends.Ends.TheVariants.{After, Promised}
 use Rattle.srm_engine.specs.Ends.{BeginsAt, MayEnd, TellsCutting, ends_rule}
 use Rattle.srm_engine.specs.Faults.{window_fault_of, run_fault_of}
-use Rattle.srm_engine.specs.Streams.{HaltsIf, stream_fault_of}
+use Rattle.srm_engine.specs.Streams.{TellsHalt, stream_fault_of}
 use Rattle.srm_engine.specs.WindowStreams.{MeetsWindowRefusal}
 use Rattle.srm_engine.specs.Windowed.{IsCounted, MayCome, calls_for, rule_of}
-use Rattle.srm_engine.specs.WindowEngines.{ComesTo, IsUnderWay, BeginsNext, EndsNext, course_of, setting_by, rule_by}
+use Rattle.srm_engine.specs.WindowEngines.{ComesTo, IsUnderWay, BeginsNext, EndsNext, frame_of, setting_by, rule_by}
 use Rattle.srm_engine.proofs.CellLists.{from_seen, seen_from, few_groups}
 use Rattle.srm_engine.proofs.JobLemmas.{any_cell, are_jobs, may_advance, as_many_jobs, places_with, job_results, cuts_kept, joined_some}
 use Rattle.srm_engine.proofs.JobLemmas.{all_some, counted_more, counted_merged, rows_joined}
@@ -86,17 +86,18 @@ pub record JobsTell {X : Type 0} {H : X → Type 0} (f : DynBox X Global H → R
   pub full : AnyEnds Full (handed_jobs 0 (jobs_of e.groups.cut end w)) → RunMeetsFull (setting_by e seed)
   pub past : ((rows : List Row) × AreRowsOfSome (handed_jobs 0 (jobs_of e.groups.cut end w)) rows
       × IsPast (counted_in (crossings (setting_by e seed).traffic rows)) e.seat)
-      → MayCome (setting_by e seed) (rule_by e seed) e.groups.cut window.ShareFull
+      → MayCome (setting_by e seed) (rule_by e seed) e.groups.cut w window.ShareFull
+  pub pending : MayCome (setting_by e seed) (rule_by e seed) e.groups.cut w window.NoMemory
 
 -- what a crew's refusal tells of the window
 pub map_refused : {X : Type 0} {H : X → Type 0} (f : DynBox X Global H → Record) (e : WindowEngine X H) (seed end : ℕ) (w : World)
     (js : List (Job X H)) → JobsTell f e seed end w js → (x : CrewFault)
     → TellsMap f (setting_by e seed).traffic e.seat (handed_jobs 0 (jobs_of e.groups.cut end w)) (Err x)
-    → MayCome (setting_by e seed) (rule_by e seed) e.groups.cut (window_fault_of x)
-map_refused f e seed end w js j crew.NoMemory h = tt
+    → MayCome (setting_by e seed) (rule_by e seed) e.groups.cut w (window_fault_of x)
+map_refused f e seed end w js j crew.NoMemory h = j.pending
 map_refused f e seed end w js j crew.ShareFull h = j.past h
 map_refused f e seed end w js j crew.CountFull h = j.full h
-map_refused f e seed end w js j crew.Spent h = tt
+map_refused f e seed end w js j crew.Spent h = j.pending
 
 -- what the crew did for the window that ends so
 pub record WindowRan {X : Type 0} {H : X → Type 0} (f : DynBox X Global H → Record) (e : WindowEngine X H) (seed end : ℕ) (w : World)
@@ -212,7 +213,6 @@ module _ {X : Type 0} {H : X → Type 0} (f : DynBox X Global H → Record) (e :
               (subst (λ n. HasNoResult n w r.0) end_is (r.1, r.2, r.3));
           past = λ h. (
             begins,
-            w,
             comes.windows,
             (
               h.0,
@@ -221,6 +221,7 @@ module _ {X : Type 0} {H : X → Type 0} (f : DynBox X Global H → Record) (e :
               subst (λ n. 2 ^ 47 < n + counted_in (crossings s.traffic h.0) h.2.0) (comes.counted.shares h.2.0) h.2.1,
             ),
           );
+          pending = (at seed begins w comes).0;
         }
 
     -- what the crew did
@@ -240,6 +241,12 @@ module _ {X : Type 0} {H : X → Type 0} (f : DynBox X Global H → Record) (e :
           sorted = all_some (IsSorted row_cmp) (rows_in (joined r.0)) (own_rows_are_sorted s w end fit reached within safe (joined r.0)
               alone);
         }
+
+    -- what a crew's answer tells of the window
+    pub mapped : (js : List (Job X H)) → js ≡ jobs_with end 0 gs → (r : Vec (job.Done X H) × SeatView)
+        → Maps f e.scenario.now e.net.now e.seat js (Ok r)
+        → WindowRan f e seed end w r.0.items × HasGrown (counted_in (crossings s.traffic (rows_of r.0.items))) e.seat r.1
+    mapped js same r maps = let told = maps.tells upcoming (jobs_tell js same).seen in (window_ran r.0.items told.0, told.1)
 
     -- ---- its rows
 
@@ -277,6 +284,16 @@ module _ {X : Type 0} {H : X → Type 0} (f : DynBox X Global H → Record) (e :
           (counted_more s.traffic e.ledger w.trace (rows_of ds) (joined (rows_in ran.results)) e.seat seat comes.counted grown
           (rows_joined f ds ∙ ap joined ran.rows))
 
+-- the same of the windows that a run under way came to
+module _ {X : Type 0} {H : X → Type 0} (f : DynBox X Global H → Record) (e : WindowEngine X H) (is : IsUnderWay f e) (end : ℕ)
+    (at : EndsNext f e end) (js : List (Job X H)) (same : js ≡ jobs_with end 0 e.groups.groups.items) where
+  pub jobs_tell_now : JobsTell f e is.seed end is.world js
+  jobs_tell_now = jobs_tell f e is is.seed is.begins is.world is.comes end at js same
+
+  pub ran_now : (r : Vec (job.Done X H) × SeatView) → Maps f e.scenario.now e.net.now e.seat js (Ok r)
+      → WindowRan f e is.seed end is.world r.0.items
+  ran_now r maps = (mapped f e is is.seed is.begins is.world is.comes end at js same r maps).0
+
 -- ---- the beginning of a run
 
 zeros : (n k : ℕ) → slice_index (replicate n 0) k ≡ 0
@@ -310,23 +327,24 @@ call_more rule cut begins w = ap (map (handed_jobs 0)) ((calls_follow rule cut).
 
 -- what holds of an engine's run holds of the run that was asked for
 pub as_asked : {X : Type 0} {H : X → Type 0} (Q : Setting → (World → ℕ) → ℕ → Type 0) (e : WindowEngine X H) (p : PlainScenario)
-    (net : Network) (c : Cutting) (asked : Windows) (seed : ℕ) → course_of e ≡ (p, net, c.cut, c.ends) → TellsCutting p net asked (Ok c)
+    (net : Network) (c : Cutting) (asked : Windows) (seed : ℕ) → frame_of e ≡ (p, net, c.cut, c.ends) → TellsCutting p net asked (Ok c)
     → Q (setting_by e seed) (rule_by e seed) e.groups.cut
     → Q (setting_of p net seed) (rule_of (setting_of p net seed) net asked.width) asked.cut
-as_asked Q e p net c asked seed course told h =
+as_asked Q e p net c asked seed same told h =
     subst (Q (setting_of p net seed) (rule_of (setting_of p net seed) net asked.width)) told.1
     (subst (λ (rule : World → ℕ). Q (setting_of p net seed) rule c.cut) (sym (told.2.2 seed))
     (subst (λ (k : PlainScenario × Network × ℕ × Ends). Q (setting_of k.0 k.1 seed) (ends_rule (setting_of k.0 k.1 seed) k.3) k.2)
-    course h))
+    same h))
 
--- when a run that hands its rows on is refused
-pub halts_refuse : {C : Type 0} (s : Setting) (rule : World → ℕ) (cut : ℕ) (old : C) (x : Halt WindowFault) (new : C)
-    → HaltsIf (MayCome s rule cut) x → MeetsWindowRefusal s rule cut old (stream_fault_of run_fault_of x) new
-halts_refuse s rule cut old (halt.Run window.NoMemory) new h = h
-halts_refuse s rule cut old (halt.Run window.CountFull) new h = h
-halts_refuse s rule cut old (halt.Run window.ShareFull) new h = h
-halts_refuse s rule cut old (halt.Sink sink.NoMemory) new h = tt
-halts_refuse s rule cut old (halt.Sink (sink.Stopped n)) new h = tt
+-- when a run in windows that hands its rows on is refused
+pub halts_refuse : {C S : Type 0} (took part : S → List Row → S → Type 0) (s : Setting) (rule : World → ℕ) (n : ℕ) (old : C) (from : S)
+    (x : Halt WindowFault) (to : S) (new : C) → TellsHalt took part (MayCome s rule n) s from x to
+    → MeetsWindowRefusal s rule n old (stream_fault_of run_fault_of x) new
+halts_refuse took part s rule n old from (halt.Run window.NoMemory) to new h = tt
+halts_refuse took part s rule n old from (halt.Run window.CountFull) to new h = h.3
+halts_refuse took part s rule n old from (halt.Run window.ShareFull) to new h = (h.0, h.3)
+halts_refuse took part s rule n old from (halt.Sink sink.NoMemory) to new h = tt
+halts_refuse took part s rule n old from (halt.Sink (sink.Stopped k)) to new h = tt
 
 -- ---- its end
 

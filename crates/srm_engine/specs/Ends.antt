@@ -36,11 +36,11 @@ MayEnd net (After n) = (0 < n) × IsWidth net n
 MayEnd net Promised = Unit {0}
 
 -- what is told where windows of a width are asked for: where they end, if they may be so wide
-abbrev pub TellsEnds : PlainScenario → Network → Width → Option Ends → Type 0
-TellsEnds p net width (Some ends) =
+abbrev pub TellsRule : PlainScenario → Network → Width → Option Ends → Type 0
+TellsRule p net width (Some ends) =
     MayBeWide net width × MayEnd net ends
     × ((seed : ℕ) → rule_of (setting_of p net seed) net width ≡ ends_rule (setting_of p net seed) ends)
-TellsEnds p net width None = ¬ MayBeWide net width
+TellsRule p net width None = ¬ MayBeWide net width
 
 -- ---- cutting
 
@@ -51,7 +51,7 @@ MayCut net c = IsCut c.cut × MayEnd net c.ends
 -- what is told where a run is to be cut so: how it is cut; or that a job may not have so many cells, or else that
 -- windows may not be so wide
 abbrev pub TellsCutting : PlainScenario → Network → Windows → Result Cutting CuttingFault → Type 0
-TellsCutting p net asked (Ok c) = IsCut c.cut × (c.cut ≡ asked.cut) × TellsEnds p net asked.width (Some c.ends)
+TellsCutting p net asked (Ok c) = IsCut c.cut × (c.cut ≡ asked.cut) × TellsRule p net asked.width (Some c.ends)
 TellsCutting p net asked (Err cutting.BadCut) = ¬ IsCut asked.cut
 TellsCutting p net asked (Err cutting.BadWidth) = IsCut asked.cut × ¬ MayBeWide net asked.width
 

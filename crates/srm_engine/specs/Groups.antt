@@ -18,7 +18,7 @@ use Rattle.srm_model.specs.Hearing.{IsNew, heard_below}
 use Rattle.srm_engine.specs.Seen.{AreCells}
 use Rattle.srm_engine.specs.declared.groups.Groups.{Groups}
 use Rattle.srm_engine.specs.Soonest.{AreSoonest}
-use Rattle.srm_model.specs.WindowRuns.{WindowJob, AreNewInTurn, each_hears}
+use Rattle.srm_model.specs.WindowRuns.{WindowJob, OwnResult, AreOwnRuns, cells_in, AreNewInTurn, each_hears}
 use Rattle.srm_net.specs.Limits.{end_of_time}
 
 -- ---- jobs as crews see them
@@ -101,6 +101,22 @@ module _ {X : Type 0} {H : X → Type 0} where
     pub cut : IsCut e.cut
     pub grouped : AreGrouped f e.cut e.groups.items ps
     pub soon : AreSoonest s e.cut e.soon.items ps
+
+  -- groups may be looked through again in a run with n members: they are runs of `cut` cells, of no more members, and
+  -- something is kept of each
+  pub record MayLookAgain (n : ℕ) (e : Groups X H) : Type 0 where
+    pub cut : IsCut e.cut
+    pub cuts : AreCuts e.cut (sizes e.groups.items)
+    pub members : length (all_in e.groups.items) ≤ n
+    pub many : length e.groups.items ≤ length e.soon.items
+
+  -- after groups were looked through again: where what was kept is how soon something was due before the own runs of
+  -- all cells to a tick, what is kept is how soon something is due after them
+  abbrev pub LooksAgain : (DynBox X Global H → Record) → Setting → ℕ → Groups X H → Groups X H → Type 0
+  LooksAgain f s end old new =
+      (ps : List PlainCell) (results : List OwnResult) → AreOwnRuns end 0 ps results
+      → AreGrouped f old.cut old.groups.items (cells_in results) → AreSoonest s old.cut old.soon.items ps
+      → AreKept f s new (cells_in results)
 
   -- a packet may be handed to member m: there is such a member, and the packet is new to it
   pub record MayHand (m : ℕ) (id : PacketId) (e : Groups X H) : Type 0 where

@@ -25,9 +25,9 @@ is_time t (Some (Some u)) = u == t
 -- ---- the tournament
 
 -- the entry of member m: its time and its number; without a time it comes after all members that have one
-abbrev pub entry_of : Option ℕ → ℕ → Entry
-entry_of None m = record { time = 18446744073709551615; place = 65536 + m }
-entry_of (Some t) m = record { time = t; place = m }
+abbrev pub slot_of : Option ℕ → ℕ → Entry
+slot_of None m = record { time = 18446744073709551615; place = 65536 + m }
+slot_of (Some t) m = record { time = t; place = m }
 
 -- the time that an entry stands for
 abbrev pub time_in : Entry → Option ℕ
@@ -56,7 +56,7 @@ SetsLeaf leaf e old new = (i : ℕ) → length old ≤ 2 * i → entry_at new i 
 
 -- this is the entry of member m with a time of 64 bits, or with none
 abbrev pub IsEntryOf : Option ℕ → ℕ → Entry → Type 0
-IsEntryOf time m e = (e ≡ entry_of time m) × (e.time < 2 ^ 64)
+IsEntryOf time m e = (e ≡ slot_of time m) × (e.time < 2 ^ 64)
 
 -- the entries are a tree over those of the members with these times
 pub record Holds (ts : List (Option ℕ)) (es : List Entry) : Type 0 where

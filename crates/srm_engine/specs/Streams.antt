@@ -41,11 +41,6 @@ sink_in (Ok v) = Ok tt
 sink_in (Err (halt.Run e)) = Ok tt
 sink_in (Err (halt.Sink e)) = Err e
 
--- a run that is refused is so only where P holds of why
-abbrev pub HaltsIf : {F : Type 0} → (F → Type 0) → Halt F → Type 0
-HaltsIf P (halt.Run e) = P e
-HaltsIf P (halt.Sink e) = Unit {0}
-
 -- what a halt is to those who asked for the run, where a refusal of the run is this
 abbrev pub stream_fault_of : {F : Type 0} → (F → RunFault) → Halt F → StreamFault
 stream_fault_of told (halt.Run e) = Run (told e)
@@ -76,11 +71,11 @@ module _ {S : Type 0} (took part : S → List Row → S → Type 0) where
   abbrev pub TakesTraceFront : Setting → S → S → Type 0
   TakesTraceFront s old new = (w : World) × IsReached s w × part old w.trace new
 
-  -- why the rows of a run were not all handed on: its steps were refused, and the sink took the rows so far; or the
-  -- sink refused some, and took no more than a front of the trace
-  abbrev pub TellsHalt : Setting → S → Halt StepFault → S → Type 0
-  TellsHalt s old (halt.Run e) new = (w : World) × IsReached s w × took old w.trace new × MayStop s w e
-  TellsHalt s old (halt.Sink e) new = TakesTraceFront s old new
+  -- why the rows of a run were not all handed on: it was refused at a world in which it may be, and the sink took the
+  -- rows so far; or the sink refused some, and took no more than a front of the trace
+  abbrev pub TellsHalt : {F : Type 0} → (World → F → Type 0) → Setting → S → Halt F → S → Type 0
+  TellsHalt may s old (halt.Run e) new = (w : World) × IsReached s w × took old w.trace new × may w e
+  TellsHalt may s old (halt.Sink e) new = TakesTraceFront s old new
 
   -- what a run that hands its rows to a sink tells: the exits and crossings of the sequential run, of which the sink
   -- took exactly the trace; or the sink took no more than a front of it
@@ -130,14 +125,14 @@ module _ {X : Type 0} {H : X → Type 0} where
   module _ {S : Type 0} (took part : S → List Row → S → Type 0) where
     -- what the steps of a run tell, the rows of which are handed to a sink: the last world of the sequential run, of
     -- which the sink took the trace; or why not all were handed on
-    abbrev pub TellsRows : {A : Type 0} → (DynBox X Global H → Record) → Setting → S → Result A (Halt StepFault) → S
+    abbrev pub StepsToEnd : {A : Type 0} → (DynBox X Global H → Record) → Setting → S → Result A (Halt StepFault) → S
         → Engine X H → Type 0
-    TellsRows f s old r new after =
+    StepsToEnd f s old r new after =
         MatchResult r (λ _. (w : World) × IsLast s w × took old w.trace new × Shows f after w)
-        (λ x. TellsHalt took part s old x new)
+        (λ x. TellsHalt took part (MayStop s) s old x new)
 
     -- so of an engine that is opened, with every seed
     abbrev pub StreamsRows : {A : Type 0} → (DynBox X Global H → Record) → Engine X H → S → Result A (Halt StepFault)
         → S → Engine X H → Type 0
     StreamsRows f e old r new after =
-        (seed : ℕ) → IsOpened f seed e → TellsRows f (setting_in e seed) old r new after
+        (seed : ℕ) → IsOpened f seed e → StepsToEnd f (setting_in e seed) old r new after

@@ -21,13 +21,13 @@ use Rattle.srm_engine.specs.declared.window_engine.WindowEngine.{WindowEngine}
 use Rattle.srm_engine.specs.declared.window_fault.WindowFault.{WindowFault}
 use Rattle.srm_engine.specs.Ends.{ends_rule, MayEnd}
 use Rattle.srm_engine.specs.Groups.{AreKept, handed_jobs}
-use Rattle.srm_engine.specs.Streams.{TakesTraceFront, HaltsIf}
+use Rattle.srm_engine.specs.Streams.{TellsHalt}
 use Rattle.srm_engine.specs.Windowed.{IsCounted, MayCome, calls_for}
 
 module _ {X : Type 0} {H : X → Type 0} where
   -- what an engine's run is of: its scenario and network, how many cells a job has, and where windows end
-  abbrev pub course_of : WindowEngine X H → PlainScenario × Network × ℕ × Ends
-  course_of e = (e.scenario.now, e.net.now, e.groups.cut, e.ends)
+  abbrev pub frame_of : WindowEngine X H → PlainScenario × Network × ℕ × Ends
+  frame_of e = (e.scenario.now, e.net.now, e.groups.cut, e.ends)
 
   -- the setting of its run with a seed
   abbrev pub setting_by : WindowEngine X H → ℕ → Setting
@@ -74,8 +74,8 @@ module _ {X : Type 0} {H : X → Type 0} where
       → ((v : Event) × IsNext (setting_by e seed) w v) × (end ≡ rule_by e seed w)
 
   -- exits and totals are those of the world as which the engine is seen
-  abbrev pub Finishes : (DynBox X Global H → Record) → WindowEngine X H → List Exit → List ℕ → Type 0
-  Finishes f e exits totals =
+  abbrev pub TellsEnd : (DynBox X Global H → Record) → WindowEngine X H → List Exit → List ℕ → Type 0
+  TellsEnd f e exits totals =
       (seed : ℕ) (begins : List World) (w : World) → ComesTo f seed e begins w
       → (exits ≡ exits_of w) × (totals ≡ crossings (setting_by e seed).traffic w.trace)
 
@@ -87,17 +87,17 @@ module _ {X : Type 0} {H : X → Type 0} where
         (seed : ℕ) (begins : List World) (w : World) → ComesTo f seed e begins w
         → MatchResult r (λ v. (u : World) × ComesTo f seed v.0 (begins ++ w ∷ []) u × (u.trace ≡ w.trace ++ v.1.items)
         × handed old (handed_jobs 0 (jobs_of e.groups.cut (rule_by e seed w) w) ∷ []) new)
-        (MayCome (setting_by e seed) (rule_by e seed) e.groups.cut)
+        (MayCome (setting_by e seed) (rule_by e seed) e.groups.cut w)
 
   module _ {C S : Type 0} (handed : C → List (List cell.PlainJob) → C → Type 0) (took part : S → List Row → S → Type 0)
       (f : DynBox X Global H → Record) where
     -- what all windows of a run tell: they come to its last world, of which the sink took the trace, and the crew was
-    -- handed their jobs, window after window; or the sink took no more than a front of it, and why
+    -- handed their jobs, window after window; or why not all rows were handed on
     abbrev pub TellsWindows : WindowEngine X H → C → S → Result (WindowEngine X H) (Halt WindowFault) → S → C → Type 0
     TellsWindows e old from r to new =
         (seed : ℕ) → OpensAt f seed e
         → MatchResult r (λ v. (begins : List World) × (w : World) × ComesTo f seed v begins w
         × IsLast (setting_by e seed) w × took from w.trace to
         × handed old (calls_for (rule_by e seed) e.groups.cut begins) new)
-        (λ x. TakesTraceFront took part (setting_by e seed) from to
-        × HaltsIf (MayCome (setting_by e seed) (rule_by e seed) e.groups.cut) x)
+        (λ x. TellsHalt took part (MayCome (setting_by e seed) (rule_by e seed) e.groups.cut) (setting_by e seed)
+        from x to)

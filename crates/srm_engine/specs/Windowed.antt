@@ -6,6 +6,7 @@ use Rattle.srm_member.specs.declared.row.Row.{Row}
 use Rattle.srm_member.specs.Record.{Record}
 use Rattle.srm_ledger.specs.Seats.{LedgerView, SeatView}
 use Rattle.srm_cell.specs.Setting.{Traffic, Setting, setting_of}
+use Rattle.srm_cell.specs.Cells.{Event}
 use Rattle.srm_cell.specs.Crossings.{crossings}
 use Rattle.srm_cell.specs.Jobs as cell
 use Rattle.srm_crew.specs.Crews.{counted_in, AreRowsOfSome}
@@ -20,7 +21,7 @@ use Rattle.srm_engine.specs.declared.window_fault.WindowFault.TheVariants as win
 use Rattle.srm_model.specs.World.{World, IsLast, IsOutcome, RunMeetsFull}
 use Rattle.srm_model.specs.Windows.{IsWidth, promise_end}
 use Rattle.srm_model.specs.WindowRuns.{jobs_of}
-use Rattle.srm_model.specs.WindowChains.{AreWindows, width_rule, least_width, window_jobs}
+use Rattle.srm_model.specs.WindowChains.{AreWindows, IsNext, width_rule, least_width, window_jobs}
 use Rattle.srm_engine.specs.Openings.{HoldOpeningRecords}
 pub use Rattle.srm_engine.specs.Groups.{IsCut}
 use Rattle.srm_engine.specs.Groups.{handed_jobs}
@@ -61,21 +62,22 @@ pub record IsCounted (t : Traffic) (l : LedgerView) (rows : List Row) (seat : Se
 
 -- ---- refusals
 
--- when a window of a run may be refused: where the run meets a step for which the packet count is used up; and where
--- the crossings up to a window, with those of some of its jobs, are too many for a share
-abbrev pub MayCome : Setting → (World → ℕ) → ℕ → WindowFault → Type 0
-MayCome s rule cut window.NoMemory = Unit {0}
-MayCome s rule cut window.CountFull = RunMeetsFull s
-MayCome s rule cut window.ShareFull =
-    (begins : List World) × (w : World) × AreWindows s rule begins w
+-- when the window that begins in a world of a run may be refused: for memory only where something is pending; where
+-- the run meets a step for which the packet count is used up; and where the crossings up to it, with those of some of
+-- its jobs, are too many for a share
+abbrev pub MayCome : Setting → (World → ℕ) → ℕ → World → WindowFault → Type 0
+MayCome s rule cut w window.NoMemory = (e : Event) × IsNext s w e
+MayCome s rule cut w window.CountFull = RunMeetsFull s
+MayCome s rule cut w window.ShareFull =
+    (begins : List World) × AreWindows s rule begins w
     × PassesShare s.traffic w.trace (handed_jobs 0 (jobs_of cut (rule w) w))
 
--- when a run in windows may be refused: as a window of it; and before any call of the crew, where the cut or the width
--- is
+-- when a run in windows may be refused: for memory; as some window of it; and before any call of the crew, where the
+-- cut or the width is
 abbrev pub MayRefuse : {C : Type 0} → Setting → (World → ℕ) → ℕ → C → RunFault → C → Type 0
-MayRefuse s rule cut old fault.NoMemory new = MayCome s rule cut window.NoMemory
-MayRefuse s rule cut old fault.CountFull new = MayCome s rule cut window.CountFull
-MayRefuse s rule cut old fault.ShareFull new = MayCome s rule cut window.ShareFull
+MayRefuse s rule cut old fault.NoMemory new = Unit {0}
+MayRefuse s rule cut old fault.CountFull new = RunMeetsFull s
+MayRefuse s rule cut old fault.ShareFull new = (w : World) × MayCome s rule cut w window.ShareFull
 MayRefuse s rule cut old fault.BadCut new = new ≡ old
 MayRefuse s rule cut old fault.BadWidth new = new ≡ old
 

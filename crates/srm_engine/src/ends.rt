@@ -5,7 +5,7 @@ ghost use Rattle.srm_cell.specs.Setting.{Setting, setting_of};
 ghost use Rattle.srm_model.specs.World.{World};
 ghost use Rattle.srm_model.specs.Windows.{IsWidth, way_of};
 ghost use Rattle.srm_model.specs.WindowChains.{least_width};
-ghost use Rattle.srm_engine.specs.Ends.{ends_rule, BeginsAt, TellsEnds};
+ghost use Rattle.srm_engine.specs.Ends.{ends_rule, BeginsAt, TellsRule};
 
 use crate::soonest::{Soonest, least_promise};
 use crate::width::Width;
@@ -26,7 +26,7 @@ impl Ends {
     /// Where windows of this width end, if they may be so wide.
     pub(crate) fn of(scenario: &Scenario, net: &Net, width: Width) -> Option<Ends>
         requires network { net.now ≡ network_of scenario.now }
-        ensures { TellsEnds scenario.now net.now width result }
+        ensures { TellsRule scenario.now net.now width result }
     {
         match width {
             Width::Least => Some(Ends::After(widest(scenario, net))),

@@ -7,11 +7,12 @@ ghost use Rattle.srm_cell.specs.Setting.{Setting, setting_of};
 ghost use Rattle.srm_model.specs.Windows.{way_of};
 ghost use Rattle.srm_engine.specs.Seen.{AreCells};
 ghost use Rattle.srm_engine.specs.Groups.{AreCuts, sizes, all_in, jobs_with, groups_of, lists_of, some_of};
-ghost use Rattle.srm_engine.specs.Groups.{IsCut, AreKept, MayHand, HandsIn, MayDeliverIn, DeliversIn, MayHear, Hears};
+ghost use Rattle.srm_engine.specs.Groups.{IsCut, AreKept, MayLookAgain, LooksAgain};
+ghost use Rattle.srm_engine.specs.Groups.{MayHand, HandsIn, MayDeliverIn, DeliversIn, MayHear, Hears};
 
 use crate::arrival::arrival;
 use crate::ends::way;
-use crate::soonest::{Soonest, soonest_of_each};
+use crate::soonest::{Soonest, soonest_in, soonest_of_each};
 use srm_cell::cell::Cell;
 use srm_cell::job::{Done, Job};
 use srm_member::member::Member;
@@ -51,6 +52,28 @@ impl Groups {
         let groups = group(alloc, cells, cut)?;
         let soon = soonest_of_each(alloc, scenario, net, groups.as_slice(), cut)?;
         Ok(Groups { cut, groups, soon })
+    }
+
+    /// Looks again for how soon something is due in each group in which something was due before tick `end`, after the own runs of all
+    /// cells to it: where nothing was, no cell has changed.
+    pub(crate) fn look_again(self, scenario: &Scenario, net: &Net, end: u64) -> Groups
+        requires network { net.now ≡ network_of scenario.now }
+        requires may { MayLookAgain (length scenario.now.members) self }
+        ensures same { (result.cut ≡ self.cut) × (result.groups ≡ self.groups) }
+        ensures soon { (seed : ℕ) → LooksAgain (λ b. plain (b.vtable, b.value))
+            (setting_of scenario.now net.now seed) end self result }
+    {
+        let until = scenario.until();
+        let Groups { cut, groups, soon } = self;
+        let mut soon = soon;
+        let all = groups.as_slice();
+        let kept = soon.as_mut_slice();
+        for (place, group) in all.iter().enumerate() {
+            if kept[place].time < end {
+                kept[place] = soonest_in(scenario, net, group.as_slice(), place * cut, until);
+            }
+        }
+        Groups { cut, groups, soon }
     }
 
     // A member, whose own packets have this way before them, is handed a packet, which arrives at tick `at`.

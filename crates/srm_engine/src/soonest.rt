@@ -8,7 +8,6 @@ ghost use Rattle.srm_engine.specs.Ends.{KeepFixed};
 ghost use Rattle.srm_engine.specs.Groups.{AreCuts, AreGrouped, sizes, all_in};
 ghost use Rattle.srm_model.specs.World.{World};
 ghost use Rattle.srm_model.specs.WindowChains.{start_of};
-ghost use Rattle.srm_model.specs.WindowRuns.{OwnResult, AreOwnRuns, cells_in};
 ghost use Rattle.srm_engine.specs.Soonest.{IsInRange, IsSoonest, AreSoonest, AreThose};
 
 use crate::ends::way;
@@ -60,8 +59,14 @@ fn least_with_sum(time: u64, next: Option<u64>, way: Option<u64>) -> u64
     }
 }
 
-// How soon something is due in the cells of the members from `first` on, in a run that ends at tick `until`.
-fn soonest_in(scenario: &Scenario, net: &Net, cells: &[Cell], first: usize, until: u64) -> Soonest
+/// How soon something is due in the cells of the members from `first` on, in a run that ends at tick `until`.
+pub(crate) fn soonest_in(
+    scenario: &Scenario,
+    net: &Net,
+    cells: &[Cell],
+    first: usize,
+    until: u64,
+) -> Soonest
     requires network { net.now ≡ network_of scenario.now }
     requires until { until ≡ scenario.now.until }
     requires members { first + length cells.now ≤ length scenario.now.members }
@@ -103,34 +108,6 @@ pub(crate) fn soonest_of_each(
         soonest.push(soonest_in(scenario, net, group.as_slice(), place * cut, until))?;
     }
     Ok(soonest)
-}
-
-/// Looks again for how soon something is due in each group in which something was due before tick `end`, after the own runs of all
-/// cells to it: where nothing was, no cell has changed.
-pub(crate) fn look_again(
-    scenario: &Scenario,
-    net: &Net,
-    groups: &[Vec<Cell>],
-    cut: usize,
-    end: u64,
-    soon: &mut [Soonest],
-)
-    requires network { net.now ≡ network_of scenario.now }
-    requires cut { 0 < cut }
-    requires cuts { AreCuts cut (sizes groups.now) }
-    requires members { length (all_in groups.now) ≤ length scenario.now.members }
-    requires many { length groups.now ≤ length soon.old }
-    ensures { (seed : ℕ) (ps : List PlainCell) (results : List OwnResult) → AreOwnRuns end 0 ps results
-        → AreGrouped (λ b. plain (b.vtable, b.value)) cut groups.now (cells_in results)
-        → AreSoonest (setting_of scenario.now net.now seed) cut soon.old ps
-        → AreSoonest (setting_of scenario.now net.now seed) cut soon.new (cells_in results) }
-{
-    let until = scenario.until();
-    for (place, group) in groups.iter().enumerate() {
-        if soon[place].time < end {
-            soon[place] = soonest_in(scenario, net, group.as_slice(), place * cut, until);
-        }
-    }
 }
 
 /// When the next window begins, or the run ends: the least of the end of the run and of the next times of all cells.

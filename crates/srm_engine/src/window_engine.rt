@@ -6,8 +6,8 @@ ghost use Rattle.srm_engine.specs.Openings.{HoldOpeningRecords};
 ghost use Rattle.srm_engine.specs.Ends.{MayCut};
 ghost use Rattle.srm_engine.specs.Sinks.{IsOpen, stage_after, stops_in};
 ghost use Rattle.srm_engine.specs.Streams.{sink_in};
-ghost use Rattle.srm_engine.specs.WindowEngines.{IsUnderWay, course_of, OpensAt, BeginsNext, EndsNext, TellsWindow, TellsWindows};
-ghost use Rattle.srm_engine.specs.WindowEngines.{Finishes};
+ghost use Rattle.srm_engine.specs.WindowEngines.{IsUnderWay, frame_of, OpensAt, BeginsNext, EndsNext, TellsWindow, TellsWindows};
+ghost use Rattle.srm_engine.specs.WindowEngines.{TellsEnd};
 
 use crate::cells::{finish_cells, open_cells};
 use crate::cutting::Cutting;
@@ -16,7 +16,7 @@ use crate::groups::{Groups, apart, jobs};
 use crate::halt::Halt;
 use crate::merge::merge;
 use crate::sink::{RowSink, hand_none};
-use crate::soonest::{least, look_again};
+use crate::soonest::least;
 use crate::window_fault::{WindowFault, window_fault};
 use srm_crew::crew::Crew;
 use srm_ledger::ledger::{Ledger, Seat};
@@ -52,7 +52,7 @@ impl<'a> WindowEngine<'a> {
         requires network { net.now ≡ network_of scenario.now }
         requires cutting { MayCut net.now cutting }
         requires boxes { (seed : ℕ) × HoldOpeningRecords scenario.now net.now seed (map (λ b. plain b) members.items) }
-        ensures course { IfOk result (λ e. course_of e ≡ (scenario.now, net.now, cutting.cut, cutting.ends)) }
+        ensures frame { IfOk result (λ e. frame_of e ≡ (scenario.now, net.now, cutting.cut, cutting.ends)) }
         ensures stands { IfOk result (λ e. IsUnderWay (λ b. plain b) e) }
         ensures opened { IfOk result (λ e. (seed : ℕ) → HoldOpeningRecords scenario.now net.now seed
             (map (λ b. plain b) members.items) → OpensAt (λ b. plain b) seed e) }
@@ -104,7 +104,7 @@ impl<'a> WindowEngine<'a> {
         requires begin { BeginsNext (λ b. plain (b.vtable, b.value)) self begin }
         requires early { begin < self.scenario.now.until }
         ensures ready { C.ready crew.new }
-        ensures course { IfOk result (λ ran. course_of ran.0 ≡ course_of self.entry) }
+        ensures frame { IfOk result (λ ran. frame_of ran.0 ≡ frame_of self.entry) }
         ensures stands { IfOk result (λ ran. IsUnderWay (λ b. plain (b.vtable, b.value)) ran.0) }
         ensures later { IfOk result (λ ran. (next : ℕ) → BeginsNext (λ b. plain (b.vtable, b.value)) ran.0 next
             → begin < next) }
@@ -126,16 +126,7 @@ impl<'a> WindowEngine<'a> {
             Err(fault) => return Err(window_fault(fault)),
         };
         let (groups, lists) = apart(alloc, all)?;
-        let mut soon = soon;
-        look_again(
-            scenario,
-            net,
-            groups.as_slice(),
-            cut,
-            end,
-            soon.as_mut_slice(),
-        );
-        let mut groups = Groups { cut, groups, soon };
+        let mut groups = Groups { cut, groups, soon }.look_again(scenario, net, end);
         let rows = merge(alloc, lists)?;
         groups.hear(alloc, scenario, net, rows.as_slice())?;
         let engine = WindowEngine {
@@ -163,7 +154,7 @@ impl<'a> WindowEngine<'a> {
         requires failures { S.failures sink.old < 2 ^ 64 - 1 }
         ensures ready { C.ready crew.new }
         ensures stands { IfOk result (λ e. IsUnderWay (λ b. plain (b.vtable, b.value)) e) }
-        ensures course { IfOk result (λ e. course_of e ≡ course_of self.entry) }
+        ensures frame { IfOk result (λ e. frame_of e ≡ frame_of self.entry) }
         ensures device { S.same sink.old sink.new }
         ensures stage { S.stage sink.new ≡ stage_after (sink_in result) }
         ensures failures { S.failures sink.new ≡ S.failures sink.old + stops_in (sink_in result) }
@@ -193,7 +184,7 @@ impl<'a> WindowEngine<'a> {
     /// What each member ends with, and what was counted.
     pub(crate) fn finish(self, alloc: Global) -> Result<(Vec<Exit>, Totals), AllocError>
         requires stands { IsUnderWay (λ b. plain (b.vtable, b.value)) self }
-        ensures { IfOk result (λ ends. Finishes (λ b. plain (b.vtable, b.value)) self.entry ends.0.items ends.1) }
+        ensures { IfOk result (λ ends. TellsEnd (λ b. plain (b.vtable, b.value)) self.entry ends.0.items ends.1) }
     {
         let WindowEngine {
             ledger,

@@ -2,10 +2,11 @@
 use crate::stories::carried::Carried;
 use crate::stories::event::Event;
 use crate::stories::following::attempt_twice;
+use srm_member::backoff::BackoffFactor;
 use srm_member::cause::Cause;
 use srm_member::held::Held;
 use srm_member::named::Named;
-use srm_member::timers::{draw, span};
+use srm_member::timers::draw;
 use srm_net::packet::{Heard, Name};
 use std::alloc::{AllocError, Global};
 use std::process::Abort;
@@ -105,7 +106,7 @@ fn lengths_of_timers(rt: HostRuntime) {
         (0, 0xa15c_02b7, (20, 40), 33),
         (1, 0x7b47_f409, (40, 80), 59),
     ] {
-        let (lo, hi) = span(backoffs, 2000, 2000, 10);
+        let (lo, hi) = BackoffFactor::Two.span(backoffs, 2000, 2000, 10);
         assert_eq!(rt; (lo, hi), ends);
         assert_eq!(rt; draw(word, lo, hi), length);
     }

@@ -1,6 +1,7 @@
 //! Loss recovery, call by call.
 ghost use Rattle.std.specs.Prelude.{◌≢◌, ◌≤◌, All};
-ghost use Rattle.srm_net.specs.Limits.{greatest_distance, greatest_constant};
+ghost use Rattle.srm_net.specs.Limits.{greatest_distance};
+ghost use Rattle.srm_member.specs.Intervals.{greatest_adapted};
 ghost use Rattle.srm_net.specs.declared.role.Role.TheVariants.{Listener};
 
 use crate::stories::called::Called;
@@ -10,7 +11,9 @@ use crate::stories::losses::{BACKING_OFF, DRAWN};
 use crate::stories::receiver::RECEIVER;
 use crate::stories::sender::SENDER;
 use crate::stories::story::Story;
+use srm_member::backoff::BackoffFactor;
 use srm_member::fixed::Fixed;
+use srm_member::limits::Limits;
 use srm_member::member::Member;
 use srm_member::recovery::Recovery;
 use srm_net::role::Role;
@@ -29,17 +32,18 @@ fn lead(
     story: &Story,
 ) -> Result<(), AllocError>
     requires active { role ≢ Listener }
-    requires least { c1 ≤ greatest_constant }
-    requires more { c2 ≤ greatest_constant }
+    requires least { c1 ≤ greatest_adapted }
+    requires more { c2 ≤ greatest_adapted }
     requires distances { All (λ d. d ≤ greatest_distance) dist.now }
 {
     let fixed = Fixed {
         member: story.member,
         role,
-        c1,
-        c2,
-        d1: 1000,
-        d2: 0,
+        backoff: BackoffFactor::Two,
+        c1: Limits::without_room(c1),
+        c2: Limits::without_room(c2),
+        d1: Limits::without_room(1000),
+        d2: Limits::without_room(0),
         dist: Sequence::from_vec(dist.to_vec(alloc)?),
         pages: Sequence::from_vec([1].to_vec(alloc)?),
         seed: 42,

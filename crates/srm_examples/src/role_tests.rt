@@ -96,7 +96,12 @@ fn fixed_part(rt: &impl Abort, alloc: Global) -> Result<(), AllocError> {
     let fixed = fixed_of(alloc, &scenario, &net, 42, 2)?;
     assert_eq!(rt; (fixed.member, fixed.role), (2, Role::Late));
     assert_eq!(rt;
-        [fixed.c1, fixed.c2, fixed.d1, fixed.d2],
+        [
+            fixed.c1.first(),
+            fixed.c2.first(),
+            fixed.d1.first(),
+            fixed.d2.first()
+        ],
         [2000, 2000, 1000, 0]
     );
     assert_eq!(rt; fixed.dist.as_slice(), [10, 5, 0, 5].as_slice());

@@ -7,7 +7,7 @@ use Rattle.srm_scenario.specs.declared.key.Key.{Key}
 use Rattle.srm_scenario.specs.declared.rule.Rule.{Rule}
 use Rattle.srm_explain.specs.declared.finding.Finding.{Finding}
 use Rattle.srm_explain.specs.declared.finding.Finding.TheVariants as finding
-use Rattle.srm_explain.specs.Findings.{array_of, element_of, FindsAt, FindsIn, IsFinding}
+use Rattle.srm_explain.specs.Findings.{array_key, element_of, FindsAt, FindsIn, IsFinding}
 
 in_table : (rules : List Rule) (d : Data) (ms : Members) (f : Finding) → d ≡ table ms → IsFinding rules ms f → FindsIn rules d f
 in_table rules d ms finding.NoTable is h = absurd h
@@ -24,7 +24,7 @@ found_in rules d ms (Err e) is h = h
 
 -- the same of the top table
 pub found_at_top : {E : Type 0} (rules : List Rule) (p : Part) (place : ℕ) (top : Members) (r : Result (Option Finding) E)
-    → array_of p ≡ None → IfOk r (λ o. IfSome o (IsFinding rules top)) → IfOk r (λ o. IfSome o (FindsAt rules p place top))
+    → array_key p ≡ None → IfOk r (λ o. IfSome o (IsFinding rules top)) → IfOk r (λ o. IfSome o (FindsAt rules p place top))
 found_at_top rules p place top (Ok (Some f)) none h =
     (table top, ap (λ (k : Option Key). element_of k place top) none, in_table rules (table top) top f refl h)
 found_at_top rules p place top (Ok None) none h = h

@@ -18,9 +18,9 @@ use Rattle.srm_scenario.specs.declared.rule.Words.TheVariants.{Roles, Topologies
 use Rattle.srm_scenario.specs.Keys.{name_of}
 use Rattle.srm_scenario.specs.Rules.{is_kind, has_only, link_rules, member_rules, draw_rules, session_rules, drop_rules}
 use Rattle.srm_scenario.specs.Rules.{outage_rules, top_rules}
-use Rattle.srm_scenario.specs.Described.{array_at, says, version_of}
+use Rattle.srm_scenario.specs.Described.{array_at, constants_of, says, version_of}
 use Rattle.srm_scenario.specs.declared.version.Version.{Version}
-use Rattle.srm_scenario.specs.declared.version.Version.TheVariants.{Two}
+use Rattle.srm_scenario.specs.declared.version.Version.TheVariants.{Two, Three}
 use Rattle.srm_explain.specs.declared.finding.Finding.{Finding}
 use Rattle.srm_explain.specs.declared.finding.Finding.TheVariants as finding
 
@@ -35,7 +35,7 @@ is_treelike top = says (codes "topology") (codes "tree") top
 
 -- the rules of a part of a file in a version of the format, where this is the top table
 abbrev pub rules_for : Version → Part → Members → List Rule
-rules_for version part.Top top = top_rules version (is_shaped top) (is_treelike top)
+rules_for version part.Top top = top_rules version (constants_of top) (is_shaped top) (is_treelike top)
 rules_for version part.Link top = link_rules version
 rules_for version part.Member top = member_rules version
 rules_for version part.Draw top = draw_rules version
@@ -48,14 +48,14 @@ abbrev pub rules_in : Part → Members → List Rule
 rules_in p top = rules_for (version_of top) p top
 
 -- the key of the array whose elements a part is
-abbrev pub array_of : Part → Option Key
-array_of part.Top = None
-array_of part.Link = Some key.Link
-array_of part.Member = Some key.Member
-array_of part.Draw = Some key.Draw
-array_of part.Session = Some key.Session
-array_of part.Drop = Some key.Drop
-array_of part.Outage = Some key.Outage
+abbrev pub array_key : Part → Option Key
+array_key part.Top = None
+array_key part.Link = Some key.Link
+array_key part.Member = Some key.Member
+array_key part.Draw = Some key.Draw
+array_key part.Session = Some key.Session
+array_key part.Drop = Some key.Drop
+array_key part.Outage = Some key.Outage
 
 -- the element at a place of the array at a key, and the top table itself where there is no key
 abbrev pub element_of : Option Key → ℕ → Members → Option Data
@@ -64,7 +64,7 @@ element_of (Some k) place top = slice_get (array_at (name_of k) top) place
 
 -- what stands at a place of a part
 abbrev pub data_at : Part → ℕ → Members → Option Data
-data_at p place top = element_of (array_of p) place top
+data_at p place top = element_of (array_key p) place top
 
 -- one of the rules is that of this key
 abbrev pub HasKey : List Rule → Key → Type 0
@@ -109,6 +109,7 @@ allows rules key = list_any (λ r. bytes_eq (name_of r.key) (name_of key) && not
 abbrev pub IsReason : Part → Members → Key → List ℕ → Type 0
 IsReason p top key reason =
     ((reason ≡ codes " in version 1; version 2 has it") × (allows (rules_for Two p top) key ≡ true))
+    ⊎ ((reason ≡ codes " in this version; version 3 has it") × (allows (rules_for Three p top) key ≡ true))
     ⊎ ((reason ≡ codes " without topology") × (is_shaped top ≡ false))
     ⊎ ((reason ≡ codes " unless topology is \"tree\"") × (is_shaped top ≡ true))
     ⊎ ((reason ≡ codes " beside topology") × (is_shaped top ≡ true))

@@ -10,7 +10,7 @@ use crate::flaw::Flaw;
 use crate::flaw_sentence::flaw_notes;
 use crate::flaws::flaws_in;
 use crate::general::general_sentence;
-use crate::keys::{array_of, finding_at};
+use crate::keys::{array_key, finding_at};
 use crate::locate::{Target, locate};
 use crate::misfit_sentence::misfit_sentence;
 use crate::misfits::misfit_of;
@@ -182,7 +182,7 @@ fn picture_of_value(
     place: usize,
     key: Key,
 ) -> Result<String, AllocError> {
-    let array = match array_of(part) {
+    let array = match array_key(part) {
         Some(array) => Some(array.name()),
         None => None,
     };
@@ -224,7 +224,7 @@ fn picture_of_finding(
         Finding::Unknown { key, .. } => key.as_str(),
         Finding::Missing(rule) | Finding::Wrong(rule) | Finding::Refused(rule) => rule.key.name(),
     };
-    let array = match array_of(part) {
+    let array = match array_key(part) {
         Some(array) => Some(array.name()),
         None => None,
     };

@@ -1,7 +1,7 @@
 //! What is wrong with the keys of a table, beside the rules of its part.
 ghost use Rattle.std.specs.Prelude.{◌≡◌, Some, IfOk, IfSome, option_map};
 ghost use Rattle.toml.specs.View.{table_view, view};
-ghost use Rattle.srm_explain.specs.Findings.{array_of, element_of, FindsAt, FindsIn, IsBroken, IsFinding};
+ghost use Rattle.srm_explain.specs.Findings.{array_key, element_of, FindsAt, FindsIn, IsBroken, IsFinding};
 
 use crate::finding::Finding;
 use crate::nearest::nearest;
@@ -27,7 +27,7 @@ pub(crate) fn finding_at(
 ) -> Result<Option<Finding>, AllocError>
     ensures { IfOk result (λ f. IfSome f (FindsAt rules.now part place (table_view top.now))) }
 {
-    let Some(key) = array_of(part) else {
+    let Some(key) = array_key(part) else {
         return finding_of(alloc, top, rules);
     };
     match element_at(top, key, place) {
@@ -58,8 +58,8 @@ fn finding_of_value(
 }
 
 /// The key of the array whose elements a part is.
-pub(crate) fn array_of(part: Part) -> Option<Key>
-    ensures { result ≡ array_of part }
+pub(crate) fn array_key(part: Part) -> Option<Key>
+    ensures { result ≡ array_key part }
 {
     match part {
         Part::Top => None,

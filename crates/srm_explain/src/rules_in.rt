@@ -13,6 +13,7 @@ use srm_scenario::rules::{
     draw_rules, drop_rules, link_rules, member_rules, outage_rules, session_rules, top_rules,
 };
 use srm_scenario::table::{has_key, number, says};
+use srm_scenario::top::constants_of;
 use srm_scenario::version::Version;
 use std::alloc::{AllocError, Global};
 use toml::Table;
@@ -40,7 +41,7 @@ fn rules_for(
         Part::Top => {
             let shaped = has_key(top, Key::Topology);
             let tree = says(top, Key::Topology, "tree");
-            Vec::from_slice(alloc, &top_rules(version, shaped, tree))
+            Vec::from_slice(alloc, &top_rules(version, constants_of(top), shaped, tree))
         }
         Part::Link => Vec::from_slice(alloc, &link_rules(version)),
         Part::Member => Vec::from_slice(alloc, &member_rules(version)),
@@ -80,9 +81,12 @@ pub(crate) fn reason_after(
 fn reason_for(alloc: Global, part: Part, top: &Table, key: Key) -> Result<&'static str, AllocError>
     ensures { IfOk result (λ reason. IsReason part (table_view top.now) key reason.now) }
 {
-    let later = rules_for(alloc, Version::Two, part, top)?;
-    let reason = if allows(&later, key) {
+    let second = rules_for(alloc, Version::Two, part, top)?;
+    let third = rules_for(alloc, Version::Three, part, top)?;
+    let reason = if allows(&second, key) {
         " in version 1; version 2 has it"
+    } else if allows(&third, key) {
+        " in this version; version 3 has it"
     } else if !has_key(top, Key::Topology) {
         " without topology"
     } else if matches!(key, Key::Degree) {

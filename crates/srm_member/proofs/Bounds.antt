@@ -1,6 +1,6 @@
 -- What a reaction does to the timers and to the fixed part.
 use Rattle.std.proofs.Common.{◌≡◌, ℕ, zero, suc, ◌<◌, ◌≤◌, ◌+◌, ◌-◌, max, min, Bool, true, false, cond, ◌&&◌, List, [], ◌∷◌, map, refl}
-use Rattle.std.proofs.Common.{arith, Option, Some, None, unwrap_or, nat_lt, nat_le}
+use Rattle.std.proofs.Common.{arith, Option, Some, None, unwrap_or, nat_lt, nat_le, sym, subst, ◌∙◌}
 use Rattle.std.specs.FinMap.Entries.{put, find}
 use Rattle.srm_net.specs.declared.packet.Name.{Name}
 use Rattle.srm_net.specs.declared.packet.PageId.{PageId}
@@ -17,8 +17,10 @@ use Rattle.srm_member.specs.Timers.{timer_length}
 use Rattle.srm_member.specs.Record.{MemberState, timers_of, Missing, Repairing, Progress}
 use Rattle.srm_net.specs.Roles.{is_sender, is_listener}
 use Rattle.srm_member.specs.React.{Reaction, quietly, send_body, without, has_entry, request_length, repair_length, back_off, with_progress}
+use Rattle.srm_member.specs.React.{with_request_delay, with_losses_begun, with_mending_seen, with_repair_seen, with_repairs_begun}
+use Rattle.srm_member.specs.React.{with_request_first, with_repair_first}
 use Rattle.srm_member.specs.React.{meet, lose_one, lose_from, lose_below, with_held, with_mended, hear_data, with_rest, hear_repair}
-use Rattle.srm_member.specs.React.{with_repair_timer}
+use Rattle.srm_member.specs.React.{with_repair_timer, with_duplicate_request}
 use Rattle.srm_member.specs.React.{hear_request_by_entry, hear_request_of_held, hear_request, page_heard, after_entry, hear_session}
 use Rattle.srm_member.specs.React.{hear_body, expire_request_by_entry, expire_request}
 use Rattle.srm_member.specs.React.{expire_repair_by_entry, expire_repair, own_page, own_progress, with_drawn, draw_operation, is_skip}
@@ -32,6 +34,9 @@ at_least_one x = omega arith
 
 pub draw_pos : (w : ℕ) (s : ℕ × ℕ) → 1 ≤ timer_length w s
 draw_pos w s = at_least_one _
+
+pub request_length_pos : (m : MemberState) (i : ℕ) (n : Name) → 1 ≤ request_length m i n
+request_length_pos m i n = draw_pos _ _
 
 -- ---- what a reaction does to the tables of timers: it puts in later ones, and takes some out
 
@@ -59,7 +64,7 @@ module _ (f : Fixed) (A : List (Name × Missing) → Type 0) (B : List (Name × 
   kept_back_off : (n : Name) (e : Missing) (m : MemberState) → Kept m → Kept (back_off at n e m)
   kept_back_off n e m k = record {
     same = k.same;
-    asks = put_ask n _ m.missing (sooner (request_length m (min (e.backoffs + 1) 10) n) (draw_pos _ _)) k.asks;
+    asks = put_ask n _ m.missing (sooner (request_length (with_request_delay at n e m) (min (e.backoffs + 1) 10) n) (draw_pos _ _)) k.asks;
     answers = k.answers;
   }
 
@@ -79,9 +84,17 @@ module _ (f : Fixed) (A : List (Name × Missing) → Type 0) (B : List (Name × 
   kept_progress : (p : PageId) (s : Progress) (m : MemberState) → Kept m → Kept (with_progress p s m)
   kept_progress p s m k = record { same = k.same; asks = k.asks; answers = k.answers }
 
-  kept_lose : (p : PageId) (n next : ℕ) (s : Progress) (m : MemberState) → Kept m → Kept (lose_below at p n next s m)
+  -- what changes an interval alone
+  kept_same : (m n : MemberState) → n.fixed ≡ m.fixed → n.missing ≡ m.missing → n.repairs ≡ m.repairs → Kept m → Kept n
+  kept_same m n f a r k = record { same = f ∙ k.same; asks = subst A (sym a) k.asks; answers = subst B (sym r) k.answers }
+
+  kept_lose : (p : PageId) (n next : ℕ) (s : Progress) (lost : List Name) (m : MemberState) → Kept m
+      → Kept (lose_below at p n next s lost m)
   unfolding lose_below
-  kept_lose p n next s m k = kept_progress p _ (lose_from at p (n - s.next) s.next m) (kept_lose_from p (n - s.next) s.next m k)
+  kept_lose p n next s lost m k =
+      let begun = with_losses_begun lost n s m in
+      kept_progress p _ (lose_from at p (n - s.next) s.next begun)
+      (kept_lose_from p (n - s.next) s.next begun (kept_same m begun refl refl refl k))
 
   kept_holding : (n : Name) (ink : ℕ) (m : MemberState) → Kept m → Kept (with_held n ink m)
   kept_holding n ink m k = record { same = k.same; asks = k.asks; answers = k.answers }
@@ -96,25 +109,31 @@ module _ (f : Fixed) (A : List (Name × Missing) → Type 0) (B : List (Name × 
   kept_planning n who m k = record {
     same = k.same;
     asks = k.asks;
-    answers = put_answer n _ m.repairs (sooner (repair_length m who) (draw_pos _ _)) k.answers;
+    answers = put_answer n _ m.repairs (sooner (repair_length (with_repairs_begun m) who) (draw_pos _ _)) k.answers;
   }
 
-  kept_got : (n : Name) (ink : ℕ) (m : MemberState) → Kept m → Kept (hear_data at n ink m).state
+  kept_got : (n : Name) (ink : ℕ) (repaired : Bool) (m : MemberState) → Kept m → Kept (hear_data at n ink repaired m).state
   unfolding hear_data
-  kept_got n ink m k =
+  kept_got n ink repaired m k =
       let s = meet m (page_of n) n.number in
       kept_if (nat_lt n.number s.floor) _ _ (kept_progress (page_of n) s m k)
-      (kept_if (nat_le s.next n.number) _ _ (kept_holding n ink _ (kept_lose (page_of n) n.number (n.number + 1) s m k))
-      (kept_if (has_entry n m.missing) _ _ (kept_mending n ink _ (kept_progress (page_of n) s m k)) (kept_progress (page_of n) s m k)))
+      (kept_if (nat_le s.next n.number) _ _ (kept_holding n ink _ (kept_lose (page_of n) n.number (n.number + 1) s [] m k))
+      (kept_if (has_entry n m.missing) _ _
+      (kept_mending n ink _ (kept_progress (page_of n) s _ (kept_same m (with_mending_seen at n repaired m) refl refl refl k)))
+      (kept_progress (page_of n) s m k)))
 
   kept_got_repair : (n : Name) (ink who : ℕ) (m : MemberState) → Kept m → Kept (hear_repair at n ink who m).state
-  kept_got_repair n ink who m k = let r = hear_data at n ink m in
-      kept_if (is_skip r.answer.told) _ _ (kept_got n ink m k) (kept_resting n who r.state (kept_got n ink m k))
+  kept_got_repair n ink who m k =
+      let r = hear_data at n ink true m in
+      let g = kept_got n ink true m k in
+      kept_if (is_skip r.answer.told) _ _ g
+      (kept_resting n who _ (kept_same r.state (with_repair_seen at n r.state) refl refl refl g))
 
   kept_asked : (n : Name) (lost : List Name) (m : MemberState) (o : Option Missing) → Kept m
       → Kept (hear_request_by_entry at n lost m o).state
   kept_asked n lost m None k = k
-  kept_asked n lost m (Some e) k = kept_if (nat_lt at e.ignore) _ _ k (kept_back_off n e m k)
+  kept_asked n lost m (Some e) k =
+      kept_if (nat_lt at e.ignore) _ _ (kept_same m (with_duplicate_request m) refl refl refl k) (kept_back_off n e m k)
 
   kept_held : (n : Name) (r : ℕ) (m : MemberState) → Kept m → Kept (hear_request_of_held at n r m).state
   kept_held n r m k =
@@ -127,38 +146,38 @@ module _ (f : Fixed) (A : List (Name × Missing) → Type 0) (B : List (Name × 
       let s = meet m0 (page_of n) (n.number + 1) in
       let m = with_progress (page_of n) s m0 in
       let k : Kept m = kept_progress (page_of n) s m0 k0 in
-      let l = lose_below at (page_of n) (n.number + 1) (n.number + 1) s m in
+      let l = lose_below at (page_of n) (n.number + 1) (n.number + 1) s [] m in
       kept_if (nat_lt n.number s.floor) _ _ k
       (kept_if (has_entry n m.held) _ _ (kept_held n r m k)
       (kept_if (nat_le s.next n.number) _ _
-      (kept_asked n _ l (find name_cmp n l.missing) (kept_lose (page_of n) (n.number + 1) (n.number + 1) s m k))
+      (kept_asked n _ l (find name_cmp n l.missing) (kept_lose (page_of n) (n.number + 1) (n.number + 1) s [] m k))
       (kept_asked n [] m (find name_cmp n m.missing) k)))
 
-  kept_entry : (h : Heard) (m : MemberState) → Kept m → Kept (after_entry at h m)
+  kept_entry : (h : Heard) (lost : List Name) (m : MemberState) → Kept m → Kept (after_entry at h lost m)
   unfolding after_entry
-  kept_entry h m k =
+  kept_entry h lost m k =
       let s = meet m (page_heard h) (h.highest + 1) in
-      kept_cond (nat_le s.next h.highest) _ _ (kept_lose (page_heard h) (h.highest + 1) (h.highest + 1) s m k)
+      kept_cond (nat_le s.next h.highest) _ _ (kept_lose (page_heard h) (h.highest + 1) (h.highest + 1) s lost m k)
       (kept_progress (page_heard h) s m k)
 
   kept_told : (hs : List Heard) (m : MemberState) (lost : List Name) → Kept m → Kept (hear_session at hs m lost).state
   unfolding hear_session
   kept_told [] m lost k = k
-  kept_told (h ∷ hs) m lost k = kept_told hs (after_entry at h m) _ (kept_entry h m k)
+  kept_told (h ∷ hs) m lost k = kept_told hs (after_entry at h lost m) _ (kept_entry h lost m k)
 
   kept_heard : (who : ℕ) (b : Body) (m : MemberState) → Kept m → Kept (hear_body at who b m).state
-  kept_heard who (Drawop n ink) m k = kept_got n ink m k
+  kept_heard who (Drawop n ink) m k = kept_got n ink false m k
   kept_heard who (Repair n ink) m k = kept_got_repair n ink who m k
   kept_heard who (Request n) m k = kept_requested n who m k
   kept_heard who (Session hs) m k = kept_told hs m [] k
 
   kept_asking : (n : Name) (m : MemberState) (o : Option Missing) → Kept m → Kept (expire_request_by_entry at n m o).state
   kept_asking n m None k = k
-  kept_asking n m (Some e) k = kept_back_off n e m k
+  kept_asking n m (Some e) k = kept_back_off n e _ (kept_same m (with_request_first e m) refl refl refl k)
 
   kept_answering : (n : Name) (m : MemberState) (o : Option Repairing) → Kept m → Kept (expire_repair_by_entry at n m o).state
   kept_answering n m None k = k
-  kept_answering n m (Some e) k = kept_resting n m.fixed.member m k
+  kept_answering n m (Some e) k = kept_resting n m.fixed.member _ (kept_same m (with_repair_first at e m) refl refl refl k)
 
   kept_drawing : (page ink : ℕ) (m : MemberState) → Kept m → Kept (draw_operation page ink m).state
   unfolding draw_operation

@@ -19,6 +19,8 @@ use Rattle.srm_member.specs.declared.told.Told.TheVariants.{Entered, Fresh, Fixe
 use Rattle.srm_member.specs.Record.{MemberState, Missing, Repairing, Progress}
 use Rattle.srm_net.specs.Roles.{is_late, is_sender, is_listener}
 use Rattle.srm_member.specs.React.{Reaction, quietly, send_body, without, has_entry, back_off, wants}
+use Rattle.srm_member.specs.React.{with_losses_begun, with_repair_seen, with_duplicate_request}
+use Rattle.srm_member.specs.React.{with_request_first, with_repair_first}
 use Rattle.srm_member.specs.React.{begins_at, with_progress, meet, lose_one, lose_from, names_from, lose_below, lost_below, with_held}
 use Rattle.srm_member.specs.React.{hear_data, with_rest, hear_repair, with_repair_timer, hear_request_by_entry}
 use Rattle.srm_member.specs.React.{hear_request_of_held, hear_request, page_heard}
@@ -220,15 +222,16 @@ from_page p (suc count) first n (suc k, l, e) =
     let b = r.2 in
     (r.0, omega arith, omega arith)
 
-grows_lose : (at : ℕ) (p : PageId) (x end next : ℕ) (m : MemberState) → end ≤ next → (meet m p x).next ≤ next
-    → Grows (lost_below p end (meet m p x)) m (lose_below at p end next (meet m p x) m)
+grows_lose : (at : ℕ) (p : PageId) (x end next : ℕ) (lost : List Name) (m : MemberState) → end ≤ next → (meet m p x).next ≤ next
+    → Grows (lost_below p end (meet m p x)) m (lose_below at p end next (meet m p x) lost m)
 unfolding lose_below
-grows_lose at p x end next m low high =
+grows_lose at p x end next lost m low high =
     let s = meet m p x in
     let t : Progress = record { floor = s.floor; next = next } in
     let count = end - s.next in
-    let k = lose_from at p count s.next m in
-    let same = same_but at p count s.next m in
+    let begun = with_losses_begun lost end s m in
+    let k = lose_from at p count s.next begun in
+    let same = same_but at p count s.next begun in
     record {
       fixed = same.fixed;
       held = same.held;
@@ -241,9 +244,9 @@ grows_lose at p x end next m low high =
           let a = f.1 in
           let b = f.2 in
           (t, ap (λ q. find page_cmp q (put page_cmp p t k.progress)) f.0 ∙ page_here p t k.progress, omega arith));
-      lacks = λ n h. missing_lost at p count s.next m n h;
+      lacks = λ n h. missing_lost at p count s.next begun n h;
       still = same.still;
-      lacking = λ n c. lost_missing at p count s.next m n c;
+      lacking = λ n c. lost_missing at p count s.next begun n c;
       plans = λ n h. inl (subst (Has n) same.repairs h);
       sorted = same.sorted;
     }
@@ -376,9 +379,10 @@ Got m b r = Quiet m r ⊎ Brought m b r
 le_of : (a b : ℕ) → nat_le a b ≡ true → a ≤ b
 le_of a b h = Rattle.std.proofs.Common.leb-true a b h
 
-got_effect : (b : Body) (at : ℕ) (n : Name) (ink : ℕ) (m : MemberState) → Brings b n ink → Got m b (hear_data at n ink m)
+got_effect : (b : Body) (at : ℕ) (n : Name) (ink : ℕ) (repaired : Bool) (m : MemberState) → Brings b n ink
+    → Got m b (hear_data at n ink repaired m)
 unfolding hear_data
-got_effect b at n ink m brings =
+got_effect b at n ink repaired m brings =
     let s = meet m (page_of n) n.number in
     if_either (Got m b) (nat_lt n.number s.floor) _ _
     (λ low. inl (record { grows = grows_meet m (page_of n) n.number; not_fresh = λ e. cc; not_fixed = λ e. cc; body = tt }))
@@ -387,8 +391,8 @@ got_effect b at n ink m brings =
       name = n;
       ink = ink;
       brings = brings;
-      mid = lose_below at (page_of n) n.number (n.number + 1) s m;
-      grows = grows_lose at (page_of n) n.number n.number (n.number + 1) m
+      mid = lose_below at (page_of n) n.number (n.number + 1) s [] m;
+      grows = grows_lose at (page_of n) n.number n.number (n.number + 1) [] m
           (omega arith) (let le = le_of s.next n.number new in omega arith);
       fixed = refl;
       held = refl;
@@ -414,9 +418,12 @@ got_effect b at n ink m brings =
     (λ has. inl (record { grows = grows_meet m (page_of n) n.number; not_fresh = λ e. cc; not_fixed = λ e. cc; body = tt }))))
 
 rested : (m : MemberState) (b : Body) (at : ℕ) (n : Name) (who : ℕ) (r : Reaction) → Got m b r
-    → Got m b (record r { state = with_rest at n who r.state })
+    → Got m b (record r { state = with_rest at n who (with_repair_seen at n r.state) })
 rested m b at n who r (inl q) = inl (record {
-  grows = grows_then r.answer.lost m r.state (with_rest at n who r.state) q.grows (grows_resting at n who r.state);
+  grows = grows_then r.answer.lost m r.state _ q.grows
+      (grows_then [] r.state (with_repair_seen at n r.state) _
+      (grows_same r.state (with_repair_seen at n r.state) refl refl refl refl refl)
+      (grows_resting at n who (with_repair_seen at n r.state)));
   not_fresh = q.not_fresh;
   not_fixed = q.not_fixed;
   body = q.body;
@@ -437,9 +444,10 @@ rested m b at n who r (inr q) = inr (record {
 
 repair_effect : (b : Body) (at : ℕ) (n : Name) (ink who : ℕ) (m : MemberState) → Brings b n ink → Got m b (hear_repair at n ink who m)
 repair_effect b at n ink who m brings =
-    let r = hear_data at n ink m in
-    if_either (Got m b) (is_skip r.answer.told) r (record r { state = with_rest at n who r.state }) (λ skip. got_effect b at n ink m brings)
-    (λ goes. rested m b at n who r (got_effect b at n ink m brings))
+    let r = hear_data at n ink true m in
+    let g = got_effect b at n ink true m brings in
+    if_either (Got m b) (is_skip r.answer.told) r (record r { state = with_rest at n who (with_repair_seen at n r.state) }) (λ skip. g)
+    (λ goes. rested m b at n who r g)
 
 -- ---- requests
 
@@ -448,7 +456,12 @@ asked_effect : (at : ℕ) (n : Name) (lost : List Name) (m k : MemberState) (o :
     → Quiet m (hear_request_by_entry at n lost k o)
 asked_effect at n lost m k None e g = record { grows = g; not_fresh = λ e. cc; not_fixed = λ e. cc; body = tt }
 asked_effect at n lost m k (Some x) e g = if_either (Quiet m) (nat_lt at x.ignore) _ _
-    (λ early. record { grows = g; not_fresh = λ e. cc; not_fixed = λ e. cc; body = tt })
+    (λ early. record {
+      grows = grows_then lost m k (with_duplicate_request k) g (grows_same k (with_duplicate_request k) refl refl refl refl refl);
+      not_fresh = λ e. cc;
+      not_fixed = λ e. cc;
+      body = tt;
+    })
     (λ late. record {
       grows = grows_then lost m k (back_off at n x k) g (grows_back_off at n x k (ap is_some e));
       not_fresh =
@@ -482,7 +495,7 @@ request_effect at n who m =
     let s = meet m p (n.number + 1) in
     let k = with_progress p s m in
     let g = grows_meet m p (n.number + 1) in
-    let lose = lose_below at p (n.number + 1) (n.number + 1) s k in
+    let lose = lose_below at p (n.number + 1) (n.number + 1) s [] k in
     if_either (Quiet m) (nat_lt n.number s.floor) _ _
     (λ low. record { grows = g; not_fresh = λ e. cc; not_fixed = λ e. cc; body = tt })
     (λ high. if_either (Quiet m) (has_entry n k.held) _ _
@@ -494,8 +507,8 @@ request_effect at n who m =
     let low : (meet k p (n.number + 1)).next ≤ n.number + 1 =
     (let e : (meet k p (n.number + 1)).next ≡ s.next = ap (λ (t : Progress). t.next) again in omega arith) in
     let l : Grows (lost_below p (n.number + 1) s) k lose =
-    subst (λ t. Grows (lost_below p (n.number + 1) t) k (lose_below at p (n.number + 1) (n.number + 1) t k)) again
-    (grows_lose at p (n.number + 1) (n.number + 1) (n.number + 1) k (omega arith) low) in
+    subst (λ t. Grows (lost_below p (n.number + 1) t) k (lose_below at p (n.number + 1) (n.number + 1) t [] k)) again
+    (grows_lose at p (n.number + 1) (n.number + 1) (n.number + 1) [] k (omega arith) low) in
     asked_effect at n (lost_below p (n.number + 1) s) m lose (find name_cmp n lose.missing) refl
     (grows_on [] (lost_below p (n.number + 1) s) m k lose g l))
     (λ old. asked_effect at n [] m k (find name_cmp n k.missing) refl g)))
@@ -505,13 +518,13 @@ request_effect at n who m =
 none_below : (p : PageId) (end : ℕ) (s : Progress) → end ≤ s.next → lost_below p end s ≡ []
 none_below p end s le = let none : end - s.next ≡ 0 = omega arith in ap (λ c. names_from p c s.next) none
 
-entry_effect : (at : ℕ) (h : Heard) (m : MemberState) → Grows (lost_by_entry h m) m (after_entry at h m)
+pub entry_effect : (at : ℕ) (h : Heard) (lost : List Name) (m : MemberState) → Grows (lost_by_entry h m) m (after_entry at h lost m)
 unfolding after_entry
-entry_effect at h m =
+entry_effect at h lost m =
     let p = page_heard h in
     let s = meet m p (h.highest + 1) in
     if_either (Grows (lost_by_entry h m) m) (nat_le s.next h.highest) _ _
-    (λ new. let le = le_of s.next h.highest new in grows_lose at p (h.highest + 1) (h.highest + 1) (h.highest + 1) m (omega arith)
+    (λ new. let le = le_of s.next h.highest new in grows_lose at p (h.highest + 1) (h.highest + 1) (h.highest + 1) lost m (omega arith)
     (omega arith))
     (λ old.
     let none : lost_below p (h.highest + 1) s ≡ [] = none_below p (h.highest + 1) s (high_of s.next h.highest old) in
@@ -523,14 +536,14 @@ entry_effect at h m =
 informed_effect : (at : ℕ) (hs : List Heard) (m k : MemberState) (lost : List Name) → Grows lost m k → Quiet m (hear_session at hs k lost)
 unfolding hear_session
 informed_effect at [] m k lost g = record { grows = g; not_fresh = λ e. cc; not_fixed = λ e. cc; body = tt }
-informed_effect at (h ∷ hs) m k lost g = informed_effect at hs m (after_entry at h k) _
-    (grows_on lost (lost_by_entry h k) m k (after_entry at h k) g (entry_effect at h k))
+informed_effect at (h ∷ hs) m k lost g = informed_effect at hs m (after_entry at h lost k) _
+    (grows_on lost (lost_by_entry h k) m k (after_entry at h lost k) g (entry_effect at h lost k))
 
 nothing : (m : MemberState) → Grows [] m m
 nothing m = grows_same m m refl refl refl refl refl
 
 hear_effect : (at who : ℕ) (b : Body) (m : MemberState) → Got m b (hear_body at who b m)
-hear_effect at who (Drawop n ink) m = got_effect (Drawop n ink) at n ink m (inl refl)
+hear_effect at who (Drawop n ink) m = got_effect (Drawop n ink) at n ink false m (inl refl)
 hear_effect at who (Repair n ink) m = repair_effect (Repair n ink) at n ink who m (inr refl)
 hear_effect at who (Request n) m = inl (request_effect at n who m)
 hear_effect at who (Session hs) m = inl (informed_effect at hs m m [] (nothing m))
@@ -544,7 +557,8 @@ asking_effect : (at : ℕ) (n : Name) (m : MemberState) (o : Option Missing) →
     → Quiet m (expire_request_by_entry at n m o)
 asking_effect at n m None e = skips m Skip (λ e. cc) (λ e. cc)
 asking_effect at n m (Some x) e = record {
-  grows = grows_back_off at n x m (ap is_some e);
+  grows = grows_then [] m (with_request_first x m) _ (grows_same m (with_request_first x m) refl refl refl refl refl)
+      (grows_back_off at n x (with_request_first x m) (ap is_some e));
   not_fresh = λ e. cc;
   not_fixed = λ e. cc;
   body =
@@ -555,7 +569,8 @@ answering_effect : (at : ℕ) (n : Name) (m : MemberState) (o : Option Repairing
     → Quiet m (expire_repair_by_entry at n m o)
 answering_effect at n m None e = skips m Skip (λ e. cc) (λ e. cc)
 answering_effect at n m (Some x) e = record {
-  grows = grows_resting at n m.fixed.member m;
+  grows = grows_then [] m (with_repair_first at x m) _ (grows_same m (with_repair_first at x m) refl refl refl refl refl)
+      (grows_resting at n m.fixed.member (with_repair_first at x m));
   not_fresh = λ e. cc;
   not_fixed = λ e. cc;
   body =

@@ -4,15 +4,13 @@ use Rattle.std.proofs.Common.{refl, sym, ap, ◌∙◌, subst, ◌≢◌, ◌⊎
 use Rattle.std.proofs.Common.{eqb-true, ◌==◌, le_refl}
 use Rattle.std.specs.Ordering.{eq_by_cmp, is_eq, ordering_reverse}
 use Rattle.std.specs.FinMap.Entries.{put, find, by_order, is_sorted, below_all, is_sorted-put, is_sorted-where_key}
-use Rattle.rand_pcg.specs.Pcg.{pcg32}
-use Rattle.srm_member.proofs.Bounds.{draw_pos, kept_state}
+use Rattle.srm_member.proofs.Bounds.{request_length_pos, kept_state}
 use Rattle.srm_member.proofs.LawProofs.{as_active, as_listener}
 use Rattle.srm_net.specs.Roles.{is_listener}
 use Rattle.srm_member.specs.React.{Reaction, expire_repair, expire_repair_by_entry, expire_request, expire_request_by_entry, back_off}
-use Rattle.srm_member.specs.React.{distance_to, listen, listen_data, react}
+use Rattle.srm_member.specs.React.{listen, listen_data, react, with_request_delay, with_request_first, with_repair_first}
 use Rattle.srm_member.specs.React.{react_listener, request_length, with_rest, without}
 use Rattle.srm_member.specs.Record.{Active, Gone, MemberState, Missing, Record, Repairing, count_if, timers_at}
-use Rattle.srm_member.specs.Timers.{span}
 use Rattle.srm_member.specs.declared.cause.Cause.{Cause}
 use Rattle.srm_member.specs.declared.cause.Cause.TheVariants.{Answer, Arrival, Ask, Draw, Join, Report}
 use Rattle.srm_member.specs.declared.due.Due.{Due}
@@ -225,13 +223,13 @@ module _ (t : ℕ) (m : MemberState) (sound : IsSound m) (n : Name) where
   unfolding asks_at answers_at
   fewer_asking w h some None e = absurd (found (λ (x : Missing). x.expiry == t) n w m.missing h e)
   fewer_asking w h some (Some x) e =
-      let len = request_length m (min (x.backoffs + 1) 10) n in
-      let lt : t < t + len = (let one = draw_pos (pcg32 m.words).0
-      (span (min (x.backoffs + 1) 10) m.fixed.c1 m.fixed.c2 (distance_to m n.source)) in omega arith) in
+      let asked = with_request_delay t n x (with_request_first x m) in
+      let len = request_length asked (min (x.backoffs + 1) 10) n in
+      let lt : t < t + len = (let one = request_length_pos asked (min (x.backoffs + 1) 10) n in omega arith) in
       let v : Missing = record { detected = x.detected; expiry = t + len; backoffs = min (x.backoffs + 1) 10; ignore = t + len / 2 } in
       let less = put_less (λ (y : Missing). y.expiry == t) n v w m.missing sound.asks h (not_now t v.expiry lt) some in
       let before = timers_count t m in
-      let after = timers_count t (back_off t n x m) in
+      let after = timers_count t (back_off t n x (with_request_first x m)) in
       omega arith
 
   fewer_answering : (w : Repairing) → In (n, w) m.repairs → (w.expiry == t) ≡ true → (o : Option Repairing) → find name_cmp n m.repairs ≡ o
@@ -241,7 +239,7 @@ module _ (t : ℕ) (m : MemberState) (sound : IsSound m) (n : Name) where
   fewer_answering w h some (Some x) e =
       let less = without_less (λ (y : Repairing). y.expiry == t) n w m.repairs h some in
       let before = timers_count t m in
-      let after = timers_count t (with_rest t n m.fixed.member m) in
+      let after = timers_count t (with_rest t n m.fixed.member (with_repair_first t x m)) in
       omega arith
 
   pub fewer_asks : (w : Missing) → In (n, w) m.missing → (w.expiry == t)

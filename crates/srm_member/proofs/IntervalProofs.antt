@@ -5,18 +5,18 @@ use Rattle.srm_member.specs.IntervalLaws.{Change, Begins, Delays, Sends, Hears, 
 use Rattle.srm_member.specs.IntervalLaws.{HasNoRoom, ConstantsStayWithinLimits, WithoutRoomConstantsStay}
 
 -- start and width are within their limits
-abbrev AreWithin : Limits → Limits → Interval → Type 0
+abbrev pub AreWithin : Limits → Limits → Interval → Type 0
 AreWithin start width i = IsWithinLimits start i.start × IsWithinLimits width i.width
 
 within_limits : (l : Limits) (x : ℕ) → IsOrdered l → IsWithinLimits l (within l x)
 within_limits l x h = (omega arith, omega arith)
 
-adapted_within : (start width : Limits) → IsOrdered start → IsOrdered width → (o : Option ℕ) (i : Interval)
+pub adapted_within : (start width : Limits) → IsOrdered start → IsOrdered width → (o : Option ℕ) (i : Interval)
     → AreWithin start width i → AreWithin start width (adapt start width o i)
 adapted_within start width hs hw None i h = h
 adapted_within start width hs hw (Some delay) i h = (within_limits start _ hs, within_limits width _ hw)
 
-changed_within : (start width : Limits) → IsOrdered start → IsOrdered width → (c : Change) (i : Interval)
+pub changed_within : (start width : Limits) → IsOrdered start → IsOrdered width → (c : Change) (i : Interval)
     → AreWithin start width i → AreWithin start width (changed start width c i)
 changed_within start width hs hw Begins i h = adapted_within start width hs hw i.average_delay i h
 changed_within start width hs hw (Delays t d) i h = h
@@ -32,10 +32,10 @@ always_within start width hs hw (c ∷ cs) i h =
 pub constants_stay_within_limits : ConstantsStayWithinLimits
 constants_stay_within_limits start width cs hs hw = always_within start width hs hw cs (opening_interval start width) (hs, hw)
 
-ordered_without_room : (l : Limits) → HasNoRoom l → IsOrdered l
+pub ordered_without_room : (l : Limits) → HasNoRoom l → IsOrdered l
 ordered_without_room l h = (omega arith, omega arith)
 
-only_first : (l : Limits) (x : ℕ) → HasNoRoom l → IsWithinLimits l x → x ≡ l.first
+pub only_first : (l : Limits) (x : ℕ) → HasNoRoom l → IsWithinLimits l x → x ≡ l.first
 only_first l x h w = omega arith
 
 pub without_room_constants_stay : WithoutRoomConstantsStay

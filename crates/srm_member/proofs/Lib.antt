@@ -7,9 +7,13 @@ mod Earliest
 mod Indexes
 pub mod Changes
 pub mod FewerTimers
+mod AdaptingProofs
+mod Alike
+mod IntervalChanges
 pub mod IntervalProofs
 pub mod LawProofs
 mod Losses
+mod OtherEvents
 pub mod Maps
 pub mod NameTests
 pub mod OrderLemmas

@@ -32,7 +32,7 @@ pub names_from-next : (p : PageId) (k to : ℕ) → k < to → names_from p (to 
 names_from-next p k to h = ap (λ c. names_from p c k) (one_more k to h) ∙ ap (λ j. name_in p k ∷ names_from p (to - (k + 1)) j) (next_one k)
 
 pub hear_session-turn : (at : ℕ) (hs : List Heard) (i : ℕ) (d : Heard) (m m2 : MemberState) (lost lost2 : List Name) → i < length hs → m2
-    ≡ after_entry at (get_or hs i d) m → lost2 ≡ lost ++ lost_by_entry (get_or hs i d) m
+    ≡ after_entry at (get_or hs i d) lost m → lost2 ≡ lost ++ lost_by_entry (get_or hs i d) m
     → hear_session at (drop (i + 1) hs) m2 lost2 ≡ hear_session at (drop i hs) m lost
 unfolding hear_session
 hear_session-turn at hs i d m m2 lost lost2 h e f =

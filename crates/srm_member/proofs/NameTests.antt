@@ -5,7 +5,6 @@ use Rattle.std.proofs.lemmas.Bool.{and_parts}
 use Rattle.srm_net.specs.declared.packet.Name.{Name}
 use Rattle.srm_net.specs.declared.packet.PageId.{PageId}
 use Rattle.srm_net.specs.contracts.packet.NamePartialOrd.TheImpl as name_partial
-use Rattle.srm_net.specs.contracts.packet.PageIdPartialOrd.TheImpl as page_partial
 use Rattle.srm_net.specs.Names.{name_cmp, page_cmp}
 use Rattle.srm_member.proofs.TableChanges.{same_names, name_is, same_pages, page_is}
 

@@ -6,15 +6,11 @@ use Rattle.srm_net.specs.declared.packet.PageId.{PageId}
 use Rattle.srm_net.specs.declared.packet.Heard.{Heard}
 use Rattle.srm_member.specs.Record.{MemberState, Record, Active, Gone, Progress}
 use Rattle.srm_member.specs.React.{Reaction}
-use Rattle.srm_net.specs.Limits.{greatest_distance, greatest_constant}
+use Rattle.srm_net.specs.Limits.{greatest_distance}
 
--- constants are at most 64,000 thousandths, and distances at most 1,023,000,000 ticks
-pub record IsBounded (f : Fixed) : Type 0 where
-  pub c1 : f.c1 ≤ greatest_constant
-  pub c2 : f.c2 ≤ greatest_constant
-  pub d1 : f.d1 ≤ greatest_constant
-  pub d2 : f.d2 ≤ greatest_constant
-  pub dist : All (λ d. d ≤ greatest_distance) f.dist
+-- distances are at most 1,023,000,000 ticks
+abbrev pub IsBounded : Fixed → Type 0
+IsBounded f = All (λ d. d ≤ greatest_distance) f.dist
 
 -- the answer and what the member then knows are those of the table
 abbrev pub Gives : React → MemberState → Reaction → Type 0

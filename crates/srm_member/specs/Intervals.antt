@@ -16,6 +16,10 @@ pub record Limits : Type 0 where
   pub least : ℕ
   pub most : ℕ
 
+-- a constant without room, which stays as it is
+abbrev pub without_room : ℕ → Limits
+without_room x = record { first = x; least = x; most = x }
+
 -- an interval of timers: its start and width, in thousandths of a distance; of the period that is open, how many
 -- duplicates were heard, and whether the member itself sent first; and the averages, in thousandths, of duplicates in a
 -- period and of delays in round trips, none before their first value

@@ -9,7 +9,9 @@ pub mod Fit
 pub mod Orderly
 pub mod Kinds
 pub mod Places
+pub mod Averages
 pub mod Backoff
 pub mod Intervals
 pub mod IntervalLaws
 pub mod WorkedIntervals
+pub mod AdaptingLaws

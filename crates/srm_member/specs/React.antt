@@ -1,7 +1,7 @@
 -- How a member answers a cause: the table for senders, receivers and late joiners, and the table for listeners.
 use Rattle.std.specs.Prelude.{ℕ, zero, suc, ◌+◌, ◌-◌, ◌*◌, ◌/◌, min, Bool, true, false, not, ◌&&◌, List, [], ◌∷◌, ◌++◌}
-use Rattle.std.specs.Prelude.{map, filter, Option, Some, None, is_some, unwrap_or, nat_lt, nat_le, ◌==◌, slice_index}
-use Rattle.std.specs.Prelude.{if◌then◌else◌}
+use Rattle.std.specs.Prelude.{map, filter, length, Option, Some, None, is_some, unwrap_or, nat_lt, nat_le, ◌==◌}
+use Rattle.std.specs.Prelude.{slice_index, if◌then◌else◌}
 use Rattle.std.specs.List.{list_any}
 use Rattle.std.specs.Ordering.{eq_by_cmp}
 use Rattle.std.specs.FinMap.Entries.{put, find}
@@ -19,7 +19,9 @@ use Rattle.srm_member.specs.declared.told.Told.{Told}
 use Rattle.srm_member.specs.declared.told.Told.TheVariants.{Entered, Fresh, Fixed, Again, Skip, Rest, Busy, Plan, Hold}
 use Rattle.srm_member.specs.declared.told.Told.TheVariants.{Back, Sent, Heard as Informed}
 use Rattle.srm_member.specs.declared.react.React.{React}
-use Rattle.srm_member.specs.Timers.{span, timer_length}
+use Rattle.srm_member.specs.Timers.{timer_length}
+use Rattle.srm_member.specs.Backoff.{span_by}
+use Rattle.srm_member.specs.Intervals.{Interval, begin_period, take_in_delay, send_first, hear_duplicate}
 use Rattle.srm_member.specs.Record.{Progress, Missing, Repairing, MemberState}
 use Rattle.srm_net.specs.Limits.{most_drawn}
 
@@ -60,16 +62,28 @@ length_in m s = timer_length (pcg32 m.words).0 s
 
 -- the length of a request timer after i backoffs
 abbrev pub request_length : MemberState → ℕ → Name → ℕ
-request_length m i n = length_in m (span i m.fixed.c1 m.fixed.c2 (distance_to m n.source))
+request_length m i n =
+    length_in m (span_by m.fixed.backoff i m.request_interval.start m.request_interval.width (distance_to m n.source))
 
 -- the length of a repair timer for a request of this member
 abbrev pub repair_length : MemberState → ℕ → ℕ
-repair_length m who = length_in m (span 0 m.fixed.d1 m.fixed.d2 (distance_to m who))
+repair_length m who =
+    length_in m (span_by m.fixed.backoff 0 m.repair_interval.start m.repair_interval.width (distance_to m who))
+
+-- the request interval, once it took in the delay since the loss of a name was detected
+abbrev pub after_request_delay : ℕ → Name → Missing → MemberState → Interval
+after_request_delay at n e m = take_in_delay (at - e.detected) (distance_to m n.source) m.request_interval
+
+-- the first time that a member backs off for a name, the delay since its loss was detected is taken in
+abbrev pub with_request_delay : ℕ → Name → Missing → MemberState → MemberState
+with_request_delay at n e m =
+    record m { request_interval = if e.backoffs == 0 then after_request_delay at n e m else m.request_interval }
 
 -- back off: the count rises, up to 10, and the timer is set anew; in the first half of it the member backs off no
 -- further
 abbrev pub back_off : ℕ → Name → Missing → MemberState → MemberState
-back_off at n e m =
+back_off at n e m0 =
+    let m = with_request_delay at n e m0 in
     let i = min (e.backoffs + 1) 10 in
     let len = request_length m i n in
     record (with_next_word m) {
@@ -114,10 +128,20 @@ abbrev pub names_from : PageId → ℕ → ℕ → List Name
 names_from p zero k = []
 names_from p (suc count) k = name_in p k ∷ names_from p count (suc k)
 
--- lose every number below n that was not heard of; from there on the next number is this
-unfoldable pub lose_below : ℕ → PageId → ℕ → ℕ → Progress → MemberState → MemberState
-lose_below at p n next s m = with_progress p (record { floor = s.floor; next = next })
-    (lose_from at p (n - s.next) s.next m)
+-- before an event loses the numbers below n that were not heard of: a period of request timers begins, if it loses any,
+-- and lost none before
+abbrev pub with_losses_begun : List Name → ℕ → Progress → MemberState → MemberState
+with_losses_begun lost n s m = record m {
+  request_interval =
+      if (length lost == 0) && nat_lt s.next n then begin_period m.fixed.c1 m.fixed.c2 m.request_interval
+      else m.request_interval;
+}
+
+-- lose every number below n that was not heard of, in an event that lost these names before; from there on the next
+-- number is this
+unfoldable pub lose_below : ℕ → PageId → ℕ → ℕ → Progress → List Name → MemberState → MemberState
+lose_below at p n next s lost m = with_progress p (record { floor = s.floor; next = next })
+    (lose_from at p (n - s.next) s.next (with_losses_begun lost n s m))
 
 -- the names that are lost by that
 abbrev pub lost_below : PageId → ℕ → Progress → List Name
@@ -133,15 +157,27 @@ with_held n ink m = record m { held = put name_cmp n ink m.held }
 abbrev pub with_mended : Name → ℕ → MemberState → MemberState
 with_mended n ink m = record m { held = put name_cmp n ink m.held; missing = without n m.missing }
 
--- data or a repair of this name
-unfoldable pub hear_data : ℕ → Name → ℕ → MemberState → Reaction
-hear_data at n ink m =
+-- the request interval where a name is mended: before the member backed off for it, a repair ends the delay
+abbrev pub interval_at_mending : ℕ → Name → Bool → MemberState → Option Missing → Interval
+interval_at_mending at n repaired m None = m.request_interval
+interval_at_mending at n repaired m (Some e) =
+    if repaired && (e.backoffs == 0) then after_request_delay at n e m else m.request_interval
+
+-- before a name is mended, by a repair or by data
+abbrev pub with_mending_seen : ℕ → Name → Bool → MemberState → MemberState
+with_mending_seen at n repaired m =
+    record m { request_interval = interval_at_mending at n repaired m (find name_cmp n m.missing) }
+
+-- data, or a repair, of this name
+unfoldable pub hear_data : ℕ → Name → ℕ → Bool → MemberState → Reaction
+hear_data at n ink repaired m =
     let s = meet m (page_of n) n.number in
     if nat_lt n.number s.floor then quietly (with_progress (page_of n) s m) Skip []
     else if nat_le s.next n.number then
-    quietly (with_held n ink (lose_below at (page_of n) n.number (n.number + 1) s m)) Fresh
+    quietly (with_held n ink (lose_below at (page_of n) n.number (n.number + 1) s [] m)) Fresh
     (lost_below (page_of n) n.number s)
-    else if has_entry n m.missing then quietly (with_mended n ink (with_progress (page_of n) s m)) Fixed []
+    else if has_entry n m.missing then
+    quietly (with_mended n ink (with_progress (page_of n) s (with_mending_seen at n repaired m))) Fixed []
     else quietly (with_progress (page_of n) s m) Again []
 
 -- who set the repair timer, or, where there is none, who sent the repair
@@ -165,24 +201,52 @@ abbrev pub is_skip : Told → Bool
 is_skip Skip = true
 is_skip _ = false
 
+-- the repair interval, once it took in the delay since a repair timer was set
+abbrev pub after_repair_delay : ℕ → Repairing → MemberState → Interval
+after_repair_delay at r m = take_in_delay (at - r.set) (distance_to m r.requester) m.repair_interval
+
+-- whether a name's rest has not ended
+abbrev pub is_at_rest : ℕ → Name → MemberState → Bool
+is_at_rest at n m = nat_lt at (unwrap_or (find name_cmp n m.rests) 0)
+
+-- the repair interval at a repair that is heard: it ends the delay of a pending repair timer, and at rest is a
+-- duplicate
+abbrev pub interval_at_repair : ℕ → Name → MemberState → Option Repairing → Interval
+interval_at_repair at n m (Some r) = after_repair_delay at r m
+interval_at_repair at n m None =
+    if is_at_rest at n m then hear_duplicate m.repair_interval else m.repair_interval
+
+-- before the rest after a repair that is heard
+abbrev pub with_repair_seen : ℕ → Name → MemberState → MemberState
+with_repair_seen at n m = record m { repair_interval = interval_at_repair at n m (find name_cmp n m.repairs) }
+
 -- a repair of this name
 abbrev pub hear_repair : ℕ → Name → ℕ → ℕ → MemberState → Reaction
 hear_repair at n ink who m =
-    let r = hear_data at n ink m in
-    if is_skip r.answer.told then r else record r { state = with_rest at n who r.state }
+    let r = hear_data at n ink true m in
+    if is_skip r.answer.told then r else record r { state = with_rest at n who (with_repair_seen at n r.state) }
+
+-- a period of repair timers begins
+abbrev pub with_repairs_begun : MemberState → MemberState
+with_repairs_begun m = record m { repair_interval = begin_period m.fixed.d1 m.fixed.d2 m.repair_interval }
 
 -- plan a repair, for a request of this member
 abbrev pub with_repair_timer : ℕ → Name → ℕ → MemberState → MemberState
-with_repair_timer at n who m =
+with_repair_timer at n who m0 =
+    let m = with_repairs_begun m0 in
     record (with_next_word m) {
       repairs = put name_cmp n
-          (record { expiry = at + repair_length m who; requester = who }) m.repairs;
+          (record { set = at; expiry = at + repair_length m who; requester = who }) m.repairs;
     }
+
+-- a request that is held is a duplicate
+abbrev pub with_duplicate_request : MemberState → MemberState
+with_duplicate_request m = record m { request_interval = hear_duplicate m.request_interval }
 
 -- a request for a name that is missing
 abbrev pub hear_request_by_entry : ℕ → Name → List Name → MemberState → Option Missing → Reaction
 hear_request_by_entry at n lost m None = quietly m Hold lost
-hear_request_by_entry at n lost m (Some e) = if nat_lt at e.ignore then quietly m Hold lost
+hear_request_by_entry at n lost m (Some e) = if nat_lt at e.ignore then quietly (with_duplicate_request m) Hold lost
     else quietly (back_off at n e m) Back lost
 
 -- a request for a name that is not held
@@ -192,7 +256,7 @@ hear_request_of_missing at n lost m = hear_request_by_entry at n lost m (find na
 -- a request for a name that is held
 abbrev pub hear_request_of_held : ℕ → Name → ℕ → MemberState → Reaction
 hear_request_of_held at n who m =
-    if nat_lt at (unwrap_or (find name_cmp n m.rests) 0) then quietly m Rest []
+    if is_at_rest at n m then quietly m Rest []
     else if has_entry n m.repairs then quietly m Busy []
     else quietly (with_repair_timer at n who m) Plan []
 
@@ -204,18 +268,18 @@ hear_request at n who m0 =
     if nat_lt n.number s.floor then quietly m Skip []
     else if has_entry n m.held then hear_request_of_held at n who m
     else if nat_le s.next n.number then hear_request_of_missing at n (lost_below (page_of n) (n.number + 1) s)
-    (lose_below at (page_of n) (n.number + 1) (n.number + 1) s m)
+    (lose_below at (page_of n) (n.number + 1) (n.number + 1) s [] m)
     else hear_request_of_missing at n [] m
 
 -- the page of an entry of a session message
 abbrev pub page_heard : Heard → PageId
 page_heard h = record { source = h.source; page = h.page }
 
--- after an entry of a session message: every number up to its highest was heard of
-unfoldable pub after_entry : ℕ → Heard → MemberState → MemberState
-after_entry at h m =
+-- after an entry of a session message that lost these names before: every number up to its highest was heard of
+unfoldable pub after_entry : ℕ → Heard → List Name → MemberState → MemberState
+after_entry at h lost m =
     let s = meet m (page_heard h) (h.highest + 1) in
-    if nat_le s.next h.highest then lose_below at (page_heard h) (h.highest + 1) (h.highest + 1) s m
+    if nat_le s.next h.highest then lose_below at (page_heard h) (h.highest + 1) (h.highest + 1) s lost m
     else with_progress (page_heard h) s m
 
 -- the names that are lost by it: none where the next number is above the highest
@@ -225,28 +289,40 @@ lost_by_entry h m = lost_below (page_heard h) (h.highest + 1) (meet m (page_hear
 -- a session message: each entry in turn
 unfoldable pub hear_session : ℕ → List Heard → MemberState → List Name → Reaction
 hear_session at [] m lost = quietly m Informed lost
-hear_session at (h ∷ hs) m lost = hear_session at hs (after_entry at h m) (lost ++ lost_by_entry h m)
+hear_session at (h ∷ hs) m lost = hear_session at hs (after_entry at h lost m) (lost ++ lost_by_entry h m)
 
 -- a packet from this member
 abbrev pub hear_body : ℕ → ℕ → Body → MemberState → Reaction
-hear_body at who (Drawop n ink) m = hear_data at n ink m
+hear_body at who (Drawop n ink) m = hear_data at n ink false m
 hear_body at who (Repair n ink) m = hear_repair at n ink who m
 hear_body at who (Request n) m = hear_request at n who m
 hear_body at who (Session hs) m = hear_session at hs m []
 
+-- before a member asks for a name: it asks first, if it had not backed off for it
+abbrev pub with_request_first : Missing → MemberState → MemberState
+with_request_first e m = record m {
+  request_interval = if e.backoffs == 0 then send_first m.fixed.c1 m.request_interval else m.request_interval;
+}
+
 -- the request timer of a name expires
 abbrev pub expire_request_by_entry : ℕ → Name → MemberState → Option Missing → Reaction
 expire_request_by_entry at n m None = quietly m Skip []
-expire_request_by_entry at n m (Some e) = send_body (back_off at n e m) (Request n)
+expire_request_by_entry at n m (Some e) = send_body (back_off at n e (with_request_first e m)) (Request n)
 
 -- what a member answers to it: it asks, and backs off
 unfoldable pub expire_request : ℕ → Name → MemberState → Reaction
 expire_request at n m = expire_request_by_entry at n m (find name_cmp n m.missing)
 
+-- before a member answers: it answers first, and the delay since it set the timer is taken in
+abbrev pub with_repair_first : ℕ → Repairing → MemberState → MemberState
+with_repair_first at r m0 =
+    let m = record m0 { repair_interval = send_first m0.fixed.d1 m0.repair_interval } in
+    record m { repair_interval = after_repair_delay at r m }
+
 -- the repair timer of a name expires
 abbrev pub expire_repair_by_entry : ℕ → Name → MemberState → Option Repairing → Reaction
 expire_repair_by_entry at n m None = quietly m Skip []
-expire_repair_by_entry at n m (Some e) = send_body (with_rest at n m.fixed.member m)
+expire_repair_by_entry at n m (Some e) = send_body (with_rest at n m.fixed.member (with_repair_first at e m))
     (Repair n (unwrap_or (find name_cmp n m.held) 0))
 
 -- what a member answers to it: it sends a repair, and rests

@@ -13,18 +13,22 @@ use Rattle.srm_member.specs.declared.due.Due.{Due}
 use Rattle.srm_member.specs.declared.exit.Exit.{Exit}
 pub use Rattle.srm_member.specs.declared.entries.Missing.{Missing}
 pub use Rattle.srm_member.specs.declared.entries.Repairing.{Repairing}
+use Rattle.srm_member.specs.Intervals.{Interval, opening_interval}
 
 -- of one page: numbers below floor do not concern the member, and next is the first number not heard of
 pub record Progress : Type 0 where
   pub floor : ℕ
   pub next : ℕ
 
--- what an active member knows: its fixed part; its generator; its progress on each page; the inks of the names that it
--- holds; the names that it lacks; its repair timers; and, of names that it answered or heard repaired, the time before
--- which it does not answer again. Finite maps are lists of entries whose keys rise
+-- what an active member knows: its fixed part; its generator; the intervals of its request timers and of its repair
+-- timers; its progress on each page; the inks of the names that it holds; the names that it lacks; its repair timers;
+-- and, of names that it answered or heard repaired, the time before which it does not answer again. Finite maps are
+-- lists of entries whose keys rise
 pub record MemberState : Type 0 where
   pub fixed : Fixed
   pub words : Lcg
+  pub request_interval : Interval
+  pub repair_interval : Interval
   pub progress : List (PageId × Progress)
   pub held : List (Name × ℕ)
   pub missing : List (Name × Missing)
@@ -41,6 +45,8 @@ abbrev pub opening_state : Fixed → MemberState
 opening_state f = record {
   fixed = f;
   words = started 64 multiplier_64 f.seed (increment_of 64 f.stream);
+  request_interval = opening_interval f.c1 f.c2;
+  repair_interval = opening_interval f.d1 f.d2;
   progress = [];
   held = [];
   missing = [];

@@ -16,6 +16,8 @@ pub struct Missing {
 /// A repair timer.
 #[derive(Clone, Copy, Debug, PartialEq, Eq)]
 pub struct Repairing {
+    /// When it was set, in ticks.
+    pub set: u64,
     /// When it expires, in ticks.
     pub expiry: u64,
     /// The member whose request set it.

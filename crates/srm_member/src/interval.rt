@@ -4,6 +4,7 @@ ghost use Rattle.srm_net.specs.Limits.{end_of_time};
 ghost use Rattle.srm_member.specs.Intervals;
 ghost use Rattle.srm_member.specs.Intervals.{greatest_adapted, opening_interval, adapted, adapt, begin_period, take_in_delay, send_first, hear_duplicate};
 
+use crate::average::Average;
 use crate::limits::Limits;
 use std::marker::Model;
 
@@ -16,13 +17,16 @@ const MOST_DUPLICATES: u32 = 1_000_000;
 /// rounding down to whole thousandths, and that nothing is adapted before a delay was averaged.
 #[derive(Clone, Copy, Debug)]
 pub struct Interval {
-    average_delay: Option<u64>,
-    average_duplicates: Option<u32>,
+    average_delay: Average,
+    average_duplicates: Average,
     start: u32,
     width: u32,
     duplicates: u32,
     sent_first: bool,
 }
+
+// each member has two of them
+const _: () = prove!(size_of::<Interval>() == 32);
 
 impl Model for Interval {
     ghost use Rattle.std.specs.Prelude.{◌≤◌, ◌*◌, unwrap_or};
@@ -63,8 +67,8 @@ impl Interval {
         ensures { result ≡ opening_interval start width }
     {
         Interval {
-            average_delay: None,
-            average_duplicates: None,
+            average_delay: Average::new(),
+            average_duplicates: Average::new(),
             start: start.first(),
             width: width.first(),
             duplicates: 0,
@@ -89,17 +93,17 @@ impl Interval {
     }
 
     /// The average of duplicates in a period, in thousandths, if there is one. It does not allocate.
-    pub fn average_duplicates(self) -> Option<u32>
+    pub fn average_duplicates(self) -> Option<u64>
         ensures { result ≡ self.average_duplicates }
     {
-        self.average_duplicates
+        self.average_duplicates.get()
     }
 
     /// The average delay in round trips, in thousandths, if there is one. It does not allocate.
     pub fn average_delay(self) -> Option<u64>
         ensures { result ≡ self.average_delay }
     {
-        self.average_delay
+        self.average_delay.get()
     }
 
     /// Begins a period. Where a delay was averaged, the average of duplicates takes in those of the period that ends, and start and
@@ -107,7 +111,7 @@ impl Interval {
     pub fn begin_period(&mut self, start: Limits, width: Limits)
         ensures { self.new ≡ begin_period start width self.old }
     {
-        if let Some(delay) = self.average_delay {
+        if let Some(delay) = self.average_delay.get() {
             self.adapt(start, width, delay);
         }
         self.duplicates = 0;
@@ -118,12 +122,12 @@ impl Interval {
     fn adapt(&mut self, start: Limits, width: Limits, delay: u64)
         ensures { self.new ≡ adapt start width (Some delay) self.old }
     {
-        let before = self.average_duplicates.map(u64::from);
-        let duplicates = average(before, 1000 * u64::from(self.duplicates));
+        let duplicates = self
+            .average_duplicates
+            .take_in(1000 * u64::from(self.duplicates));
         let (next_start, next_width) = self.adapted(duplicates, delay);
         self.start = start.within(next_start);
         self.width = width.within(next_width);
-        self.average_duplicates = Some(duplicates as u32);
     }
 
     // Start and width for the next period, before limits.
@@ -154,7 +158,7 @@ impl Interval {
         ensures { self.new ≡ take_in_delay ticks distance self.old }
     {
         let delay = 500 * ticks / distance.max(1);
-        self.average_delay = Some(average(self.average_delay, delay));
+        self.average_delay.take_in(delay);
     }
 
     /// The member itself sends first in this period: the start falls, within its limits. It does not allocate.
@@ -170,18 +174,5 @@ impl Interval {
         ensures { self.new ≡ hear_duplicate self.old }
     {
         self.duplicates = (self.duplicates + 1).min(MOST_DUPLICATES);
-    }
-}
-
-// An average after it takes in `x`, with weight 1/4 (Floyd et al. 1997), rounded down (this project's own).
-fn average(before: Option<u64>, x: u64) -> u64
-    requires before { unwrap_or before 0 < 2 ^ 60 }
-    requires next { x < 2 ^ 60 }
-    ensures value { result ≡ Intervals.average before x }
-    ensures bound { (most : ℕ) → unwrap_or before 0 ≤ most → x ≤ most → result ≤ most }
-{
-    match before {
-        Some(average) => (3 * average + x) / 4,
-        None => x,
     }
 }

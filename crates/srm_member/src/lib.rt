@@ -1,6 +1,8 @@
 //! Members of a session: what they know, what they answer, and their timers.
 #![tactic(auto)]
 
+pub mod adapting_laws;
+mod average;
 pub mod backoff;
 pub mod cause;
 pub mod due;

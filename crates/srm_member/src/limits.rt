@@ -42,7 +42,7 @@ impl Limits {
     /// A constant without room, which stays as it is. It does not allocate.
     pub fn without_room(constant: u32) -> Self
         requires { constant ≤ greatest_adapted }
-        ensures { result ≡ record { first = constant; least = constant; most = constant } }
+        ensures { result ≡ Intervals.without_room constant }
     {
         Limits::new(constant, constant, constant)
     }

@@ -1,12 +1,13 @@
 //! What an active member knows, and how it answers.
 ghost use Rattle.std.specs.Prelude.{◌≡◌, ◌+◌, ◌-◌, ◌<◌, ◌≤◌, ◌^◌, [], ◌∷◌, ◌++◌, IsTrue, IfOk, OnOk, Some, None};
-ghost use Rattle.srm_net.specs.Limits.{end_of_time, greatest_distance, greatest_constant};
+ghost use Rattle.srm_net.specs.Limits.{end_of_time, greatest_distance};
 ghost use Rattle.srm_net.specs.Names;
-ghost use Rattle.srm_member.specs.Timers;
+ghost use Rattle.srm_member.specs.Backoff.{span_by};
+ghost use Rattle.srm_member.specs.Intervals.{greatest_adapted};
 ghost use Rattle.srm_member.specs.declared.told.Told.TheVariants.{Sent};
 ghost use Rattle.srm_member.specs.Record.{opening_state, exit_of, earliest, timers_of};
 ghost use Rattle.srm_net.specs.Roles.{is_late};
-ghost use Rattle.srm_member.specs.React.{distance_to, length_in, with_next_word, request_length, repair_length, back_off, wants, begins_at, meet, lose_one, lose_from, lose_below, names_from, lost_below, hear_data, base, with_rest, hear_repair, with_repair_timer, hear_request_of_missing, hear_request_of_held, hear_request, after_entry, lost_by_entry, hear_session, hear_body, expire_request, expire_repair, own_progress, draw_operation, session_of, send_body};
+ghost use Rattle.srm_member.specs.React.{distance_to, length_in, with_next_word, request_length, repair_length, with_request_delay, back_off, wants, begins_at, meet, lose_one, lose_from, with_losses_begun, lose_below, names_from, lost_below, with_mending_seen, hear_data, base, with_rest, is_at_rest, after_repair_delay, with_repair_seen, hear_repair, with_repairs_begun, with_repair_timer, hear_request_of_missing, hear_request_of_held, hear_request, after_entry, lost_by_entry, hear_session, hear_body, with_request_first, expire_request, with_repair_first, expire_repair, own_progress, draw_operation, session_of, send_body};
 ghost use Rattle.srm_member.specs.Fit.{IsBounded, Gives};
 
 use crate::due::Due;
@@ -14,12 +15,13 @@ use crate::entries::{Missing, Repairing};
 use crate::exit::Exit;
 use crate::fixed::Fixed;
 use crate::held::Held;
+use crate::interval::Interval;
 use crate::named::Named;
 use crate::pages::Pages;
 use crate::pending::Pending;
 use crate::progress::Progress;
 use crate::react::React;
-use crate::timers::{draw, span};
+use crate::timers::draw;
 use crate::told::Told;
 use rand_core::utils::NextWord;
 use rand_pcg::Lcg64Xsh32;
@@ -32,7 +34,7 @@ use std::marker::Model;
 /// A sender draws at most so many operations on a page.
 const MOST_DRAWN: u64 = 4096;
 
-/// What an active member knows: its fixed part, its generator, and its tables.
+/// What an active member knows: its fixed part, its generator, the intervals of its timers, and its tables.
 #[derive(Drop)]
 pub struct MemberState {
     progress: Pages,
@@ -40,6 +42,8 @@ pub struct MemberState {
     pending: Pending,
     rests: Named<u64>,
     words: Lcg64Xsh32,
+    request_interval: Interval,
+    repair_interval: Interval,
     fixed: Fixed,
 }
 
@@ -52,6 +56,8 @@ impl Model for MemberState {
     ghost view = { λ t. record {
       fixed = t.fixed;
       words = t.words;
+      request_interval = t.request_interval;
+      repair_interval = t.repair_interval;
       progress = t.progress;
       held = t.held;
       missing = t.pending.0;
@@ -69,9 +75,13 @@ impl MemberState {
         ensures { result ≡ opening_state fixed }
     {
         let words = Lcg64Xsh32::new(fixed.seed, fixed.stream);
+        let request_interval = Interval::new(fixed.c1, fixed.c2);
+        let repair_interval = Interval::new(fixed.d1, fixed.d2);
         MemberState {
             fixed,
             words,
+            request_interval,
+            repair_interval,
             progress: Pages::new(alloc),
             held: Held::new(alloc),
             pending: Pending::new(alloc),
@@ -101,14 +111,14 @@ impl MemberState {
 
     // The length of a new timer, in ticks, which takes one word of the generator.
     fn length(&mut self, i: u32, x: u32, y: u32, d: u64) -> u64
-        requires least { x ≤ greatest_constant }
-        requires more { y ≤ greatest_constant }
+        requires least { x ≤ greatest_adapted }
+        requires more { y ≤ greatest_adapted }
         requires distance { d ≤ greatest_distance }
-        ensures length { result ≡ length_in self.old (Timers.span i x y d) }
+        ensures length { result ≡ length_in self.old (span_by self.old.fixed.backoff i x y d) }
         ensures word { self.new ≡ with_next_word self.old }
-        ensures bound { result < 2 ^ 47 }
+        ensures bound { result < 2 ^ 58 }
     {
-        let (lo, hi) = span(i, x, y, d);
+        let (lo, hi) = self.fixed.backoff.span(i, x, y, d);
         draw(self.words.next_word(), lo, hi)
     }
 
@@ -116,20 +126,45 @@ impl MemberState {
     fn request_length(&mut self, i: u32, name: Name) -> u64
         ensures length { result ≡ request_length self.old i name }
         ensures word { self.new ≡ with_next_word self.old }
-        ensures bound { result < 2 ^ 47 }
+        ensures bound { result < 2 ^ 58 }
     {
         let distance = self.distance_to(name.source);
-        self.length(i, self.fixed.c1, self.fixed.c2, distance)
+        let interval = self.request_interval;
+        self.length(i, interval.start(), interval.width(), distance)
     }
 
     // The length of a new repair timer for a request of this member, in ticks.
     fn repair_length(&mut self, who: u16) -> u64
         ensures length { result ≡ repair_length self.old who }
         ensures word { self.new ≡ with_next_word self.old }
-        ensures bound { result < 2 ^ 47 }
+        ensures bound { result < 2 ^ 58 }
     {
         let distance = self.distance_to(who);
-        self.length(0, self.fixed.d1, self.fixed.d2, distance)
+        let interval = self.repair_interval;
+        self.length(0, interval.start(), interval.width(), distance)
+    }
+
+    // The first time that a member backs off for a name, the request interval takes in the delay since its loss was detected.
+    fn take_in_request_delay(&mut self, at: u64, name: Name, missing: Missing)
+        requires { at < end_of_time }
+        ensures { self.new ≡ with_request_delay at name missing self.old }
+    {
+        if missing.backoffs > 0 {
+            return;
+        }
+        let distance = self.distance_to(name.source);
+        self.request_interval
+            .take_in_delay(at.saturating_sub(missing.detected), distance);
+    }
+
+    // The repair interval takes in the delay since a repair timer was set.
+    fn take_in_repair_delay(&mut self, at: u64, repair: Repairing)
+        requires { at < end_of_time }
+        ensures { self.new ≡ record self.old { repair_interval = after_repair_delay at repair self.old } }
+    {
+        let distance = self.distance_to(repair.requester);
+        self.repair_interval
+            .take_in_delay(at.saturating_sub(repair.set), distance);
     }
 
     // Backs off: the request timer of a missing name is set anew (Floyd et al. 1997), at most ten times longer and longer.
@@ -138,6 +173,7 @@ impl MemberState {
         ensures ok { OnOk result (self.new ≡ back_off at name missing self.old) }
         ensures fixed { self.new.fixed ≡ self.old.fixed }
     {
+        self.take_in_request_delay(at, name, missing);
         let backoffs = missing.backoffs.min(9) + 1;
         let length = self.request_length(backoffs, name);
         let later = Missing {
@@ -227,6 +263,16 @@ impl MemberState {
         }
     }
 
+    // A period of request timers begins, if an event loses numbers of a page below `n`, and lost none before.
+    fn begin_losses(&mut self, n: u64, progress: Progress, lost: &Sequence<Name>)
+        ensures { self.new ≡ with_losses_begun lost.now n progress self.old }
+    {
+        if lost.is_empty() && progress.next() < n {
+            self.request_interval
+                .begin_period(self.fixed.c1, self.fixed.c2);
+        }
+    }
+
     // Loses every number of a page below `n` that was not heard of, and lists them; the page's next number is then `next`.
     #[tactic(auto, unfolding(crate::specs::React::lose_below))]
     fn lose_below(
@@ -241,17 +287,18 @@ impl MemberState {
         requires time { at < end_of_time }
         requires numbers { n ≤ 2 ^ 32 }
         requires after { next ≤ 2 ^ 32 }
-        ensures ok { OnOk result (self.new ≡ lose_below at page n next progress self.old) }
+        ensures ok { OnOk result (self.new ≡ lose_below at page n next progress lost.old self.old) }
         ensures names { OnOk result (lost.new ≡ lost.old ++ lost_below page n progress) }
         ensures fixed { self.new.fixed ≡ self.old.fixed }
     {
+        self.begin_losses(n, progress, lost);
         self.lose_from(at, page, progress.next(), n, lost)?;
         self.progress
             .put(page, Progress::new(progress.floor(), next))?;
         Ok(())
     }
 
-    // Takes in data or a repair of a name.
+    // Takes in data, or a repair, of a name.
     #[tactic(auto, unfolding(crate::specs::React::hear_data))]
     fn hear_data(
         &mut self,
@@ -259,9 +306,10 @@ impl MemberState {
         at: u64,
         name: Name,
         ink: u32,
+        repaired: bool,
     ) -> Result<React, AllocError>
         requires { at < end_of_time }
-        ensures ok { IfOk result (λ a. Gives a self.new (hear_data at name ink self.old)) }
+        ensures ok { IfOk result (λ a. Gives a self.new (hear_data at name ink repaired self.old)) }
         ensures fixed { self.new.fixed ≡ self.old.fixed }
     {
         let page = page_of(name);
@@ -278,7 +326,10 @@ impl MemberState {
             return Ok(quietly(Told::Fresh, lost));
         }
         self.progress.put(page, progress)?;
-        if self.pending.missing(name).is_some() {
+        if let Some(missing) = self.pending.missing(name) {
+            if repaired {
+                self.take_in_request_delay(at, name, missing);
+            }
             self.held.put(name, ink)?;
             self.pending.forget_missing(name);
             return Ok(quietly(Told::Fixed, Sequence::new(alloc)));
@@ -313,6 +364,28 @@ impl MemberState {
         Ok(())
     }
 
+    // Whether a name's rest has not ended.
+    fn is_at_rest(&self, at: u64, name: Name) -> bool
+        ensures { result ≡ is_at_rest at name self.now }
+    {
+        at < self.rests.get(name).unwrap_or(0)
+    }
+
+    // A repair of a name is heard: it ends the delay of a pending repair timer, and at rest is a duplicate.
+    fn see_repair(&mut self, at: u64, name: Name)
+        requires { at < end_of_time }
+        ensures { self.new ≡ with_repair_seen at name self.old }
+    {
+        match self.pending.repair(name) {
+            Some(repair) => self.take_in_repair_delay(at, repair),
+            None => {
+                if self.is_at_rest(at, name) {
+                    self.repair_interval.hear_duplicate();
+                }
+            }
+        }
+    }
+
     // Takes in a repair of a name, by this member.
     fn hear_repair(
         &mut self,
@@ -326,12 +399,21 @@ impl MemberState {
         ensures ok { IfOk result (λ a. Gives a self.new (hear_repair at name ink who self.old)) }
         ensures fixed { self.new.fixed ≡ self.old.fixed }
     {
-        let react = self.hear_data(alloc, at, name, ink)?;
+        let react = self.hear_data(alloc, at, name, ink, true)?;
         if matches!(react.told, Told::Skip) {
             return Ok(react);
         }
+        self.see_repair(at, name);
         self.rest(at, name, who)?;
         Ok(react)
+    }
+
+    // A period of repair timers begins.
+    fn begin_repairs(&mut self)
+        ensures { self.new ≡ with_repairs_begun self.old }
+    {
+        self.repair_interval
+            .begin_period(self.fixed.d1, self.fixed.d2);
     }
 
     // Plans a repair, for a request of this member (Floyd et al. 1997).
@@ -340,8 +422,10 @@ impl MemberState {
         ensures ok { OnOk result (self.new ≡ with_repair_timer at name who self.old) }
         ensures fixed { self.new.fixed ≡ self.old.fixed }
     {
+        self.begin_repairs();
         let length = self.repair_length(who);
         let repair = Repairing {
+            set: at,
             expiry: at + length,
             requester: who,
         };
@@ -364,6 +448,7 @@ impl MemberState {
             None => Ok(quietly(Told::Hold, lost)),
             Some(missing) => {
                 if at < missing.ignore {
+                    self.request_interval.hear_duplicate();
                     return Ok(quietly(Told::Hold, lost));
                 }
                 self.back_off(at, name, missing)?;
@@ -384,7 +469,7 @@ impl MemberState {
         ensures ok { IfOk result (λ a. Gives a self.new (hear_request_of_held at name who self.old)) }
         ensures fixed { self.new.fixed ≡ self.old.fixed }
     {
-        if at < self.rests.get(name).unwrap_or(0) {
+        if self.is_at_rest(at, name) {
             return Ok(quietly(Told::Rest, Sequence::new(alloc)));
         }
         if self.pending.repair(name).is_some() {
@@ -433,7 +518,7 @@ impl MemberState {
         lost: &mut Sequence<Name>,
     ) -> Result<(), AllocError>
         requires { at < end_of_time }
-        ensures ok { OnOk result (self.new ≡ after_entry at heard self.old) }
+        ensures ok { OnOk result (self.new ≡ after_entry at heard lost.old self.old) }
         ensures names { OnOk result (lost.new ≡ lost.old ++ lost_by_entry heard self.old) }
         ensures fixed { self.new.fixed ≡ self.old.fixed }
     {
@@ -472,10 +557,19 @@ impl MemberState {
     {
         let who = packet.id.sender;
         match &packet.body {
-            Body::Drawop { name, ink } => self.hear_data(alloc, at, *name, *ink),
+            Body::Drawop { name, ink } => self.hear_data(alloc, at, *name, *ink, false),
             Body::Repair { name, ink } => self.hear_repair(alloc, at, *name, *ink, who),
             Body::Request { name } => self.hear_request(alloc, at, *name, who),
             Body::Session { heard } => self.hear_session(alloc, at, heard.as_slice()),
+        }
+    }
+
+    // The member asks for a name: it asks first, if it had not backed off for it.
+    fn ask_first(&mut self, missing: Missing)
+        ensures { self.new ≡ with_request_first missing self.old }
+    {
+        if missing.backoffs == 0 {
+            self.request_interval.send_first(self.fixed.c1);
         }
     }
 
@@ -489,10 +583,20 @@ impl MemberState {
         match self.pending.missing(name) {
             None => Ok(quietly(Told::Skip, Sequence::new(alloc))),
             Some(missing) => {
+                self.ask_first(missing);
                 self.back_off(at, name, missing)?;
                 Ok(send_body(alloc, Body::Request { name }))
             }
         }
+    }
+
+    // The member answers first, and the delay since it set the timer is taken in.
+    fn answer_first(&mut self, at: u64, repair: Repairing)
+        requires { at < end_of_time }
+        ensures { self.new ≡ with_repair_first at repair self.old }
+    {
+        self.repair_interval.send_first(self.fixed.d1);
+        self.take_in_repair_delay(at, repair);
     }
 
     /// The repair timer of a name expires: the member sends what it holds.
@@ -504,7 +608,8 @@ impl MemberState {
     {
         match self.pending.repair(name) {
             None => Ok(quietly(Told::Skip, Sequence::new(alloc))),
-            Some(_) => {
+            Some(repair) => {
+                self.answer_first(at, repair);
                 let ink = self.held.get(name).unwrap_or(0);
                 let own = self.fixed.member;
                 self.rest(at, name, own)?;

@@ -22,7 +22,7 @@ use Rattle.srm_member.specs.Fit.{heard_of}
 use Rattle.srm_member.specs.Record.{MemberState, Progress}
 use Rattle.srm_net.specs.Roles.{is_sender, is_listener}
 use Rattle.srm_member.specs.React.{Reaction, quietly, has_entry, with_progress, meet, lose_one, lose_from, names_from, lose_below}
-use Rattle.srm_member.specs.React.{lost_below}
+use Rattle.srm_member.specs.React.{lost_below, with_losses_begun, with_mending_seen, with_repair_seen}
 use Rattle.srm_member.specs.React.{with_held, with_mended, hear_data, with_rest, hear_repair, with_repair_timer, hear_request_by_entry}
 use Rattle.srm_member.specs.React.{hear_request_of_held, hear_request}
 use Rattle.srm_member.specs.React.{page_heard, after_entry, lost_by_entry, hear_session, hear_body, expire_request_by_entry, expire_request}
@@ -30,7 +30,7 @@ use Rattle.srm_member.specs.React.{expire_repair_by_entry, expire_repair}
 use Rattle.srm_member.specs.React.{own_page, own_progress, draw_operation, is_skip, react_active, listen_data, listen, react_listener}
 use Rattle.srm_member.specs.React.{react}
 use Rattle.srm_member.proofs.AllIn.{AllIn, AllIn-append, AllIn-map}
-use Rattle.srm_member.proofs.Changes.{Below, Grows, Brings, from_page, effect}
+use Rattle.srm_member.proofs.Changes.{Below, Grows, Brings, from_page, effect, entry_effect}
 use Rattle.srm_model.proofs.TraceRows.{contains_none}
 use Rattle.srm_net.specs.Limits.{most_drawn}
 
@@ -64,22 +64,6 @@ any_order : {A : Type 0} (Q : A → Type 0) (r : Ordering) (a b c : A) → Q a �
 any_order Q Less a b c h g f = h
 any_order Q Equal a b c h g f = g
 any_order Q Greater a b c h g f = f
-
--- an entry of a session message, for a member that is no listener
-entry_grows : (at : ℕ) (h : Heard) (m : MemberState) → is_listener m.fixed.role ≡ false → Grows (lost_by_entry h m) m (after_entry at h m)
-unfolding react hear_session
-entry_grows at h m no_listener =
-    let p : Packet = record { id = record { sender = 0; count = 0 }; sent = 0; body = Session (h ∷ []) } in
-    let same : react m at (Arrival p) ≡ quietly (after_entry at h m) Informed (lost_by_entry h m) =
-    ap (λ b. cond b (react_listener m (Arrival p)) (react_active m at (Arrival p))) no_listener in
-    elim (effect m at (Arrival p)) [
-      | inl q ↦ subst (λ (r : Reaction). Grows r.answer.lost m r.state) same q.grows
-      | inr b ↦ absurd (elim b [ inl x ↦ no_name x.name x.ink x.brings | inr x ↦ x ])
-    ]
-  where
-    no_name : (n : Name) (ink : ℕ) → Brings (Session (h ∷ [])) n ink → ⊥
-    no_name n ink (inl e) = cc
-    no_name n ink (inr e) = cc
 
 module _ (members : ℕ) where
   abbrev pub OfMembers : List Name → Type 0
@@ -125,12 +109,13 @@ module _ (members : ℕ) where
   lose_pages at p zero first m = refl
   lose_pages at p (suc count) first m = lose_pages at p count (suc first) (lose_one at (name_in p first) m)
 
-  pages_below : (at : ℕ) (p : PageId) (n next : ℕ) (s : Progress) (m : MemberState) → p.source < members → PagesOf m.progress
-      → PagesOf (lose_below at p n next s m).progress
+  pages_below : (at : ℕ) (p : PageId) (n next : ℕ) (s : Progress) (lost : List Name) (m : MemberState) → p.source < members
+      → PagesOf m.progress → PagesOf (lose_below at p n next s lost m).progress
   unfolding lose_below
-  pages_below at p n next s m h g =
-      let k = lose_from at p (n - s.next) s.next m in
-      pages_put p (record { floor = s.floor; next = next }) k.progress h (subst PagesOf (sym (lose_pages at p (n - s.next) s.next m)) g)
+  pages_below at p n next s lost m h g =
+      let begun = with_losses_begun lost n s m in
+      let k = lose_from at p (n - s.next) s.next begun in
+      pages_put p (record { floor = s.floor; next = next }) k.progress h (subst PagesOf (sym (lose_pages at p (n - s.next) s.next begun)) g)
 
   names_of : (p : PageId) (count first : ℕ) → p.source < members → OfMembers (names_from p count first)
   names_of p zero first h = tt
@@ -154,32 +139,35 @@ module _ (members : ℕ) where
 
   -- ---- packets
 
-  got_known : (at : ℕ) (n : Name) (ink : ℕ) (m : MemberState) → n.source < members → PagesOf m.progress → Known (hear_data at n ink m)
+  got_known : (at : ℕ) (n : Name) (ink : ℕ) (repaired : Bool) (m : MemberState) → n.source < members → PagesOf m.progress
+      → Known (hear_data at n ink repaired m)
   unfolding hear_data
-  got_known at n ink m h g =
+  got_known at n ink repaired m h g =
       let p = page_of n in
       let s = meet m p n.number in
       let k = with_progress p s m in
       let met : PagesOf k.progress = pages_put p s m.progress h g in
-      let lose = lose_below at p n.number (n.number + 1) s m in
-      let lost : PagesOf lose.progress = pages_below at p n.number (n.number + 1) s m h g in
+      let lose = lose_below at p n.number (n.number + 1) s [] m in
+      let lost : PagesOf lose.progress = pages_below at p n.number (n.number + 1) s [] m h g in
       either_way Known (nat_lt n.number s.floor) _ _ (plain k Skip met)
       (either_way Known (nat_le s.next n.number) _ _ (losing (with_held n ink lose) Fresh p n.number s h lost)
-      (either_way Known (has_entry n m.missing) _ _ (plain (with_mended n ink k) Fixed met) (plain k Again met)))
+      (either_way Known (has_entry n m.missing) _ _
+      (plain (with_mended n ink (with_progress p s (with_mending_seen at n repaired m))) Fixed met) (plain k Again met)))
 
   repair_known : (at : ℕ) (n : Name) (ink who : ℕ) (m : MemberState) → n.source < members → PagesOf m.progress
       → Known (hear_repair at n ink who m)
   repair_known at n ink who m h g =
-      let r = hear_data at n ink m in
-      let k = got_known at n ink m h g in
-      either_way Known (is_skip r.answer.told) r (record r { state = with_rest at n who r.state }) k
+      let r = hear_data at n ink true m in
+      let k = got_known at n ink true m h g in
+      either_way Known (is_skip r.answer.told) r (record r { state = with_rest at n who (with_repair_seen at n r.state) }) k
       (record { pages = k.pages; lost = k.lost; apart = k.apart; session = k.session })
 
   asked_known : (at : ℕ) (n : Name) (lost : List Name) (m : MemberState) (o : Option Missing) → Known (quietly m Hold lost)
       → Known (hear_request_by_entry at n lost m o)
   asked_known at n lost m None k = k
   asked_known at n lost m (Some e) k =
-      either_way Known (nat_lt at e.ignore) _ _ k (record { pages = k.pages; lost = k.lost; apart = k.apart; session = tt })
+      either_way Known (nat_lt at e.ignore) _ _ (record { pages = k.pages; lost = k.lost; apart = k.apart; session = tt })
+      (record { pages = k.pages; lost = k.lost; apart = k.apart; session = tt })
 
   held_known : (at : ℕ) (n : Name) (who : ℕ) (m : MemberState) → PagesOf m.progress → Known (hear_request_of_held at n who m)
   held_known at n who m g =
@@ -194,21 +182,22 @@ module _ (members : ℕ) where
       let s = meet m p (n.number + 1) in
       let k = with_progress p s m in
       let met : PagesOf k.progress = pages_put p s m.progress h g in
-      let lose = lose_below at p (n.number + 1) (n.number + 1) s k in
-      let lost : PagesOf lose.progress = pages_below at p (n.number + 1) (n.number + 1) s k h met in
+      let lose = lose_below at p (n.number + 1) (n.number + 1) s [] k in
+      let lost : PagesOf lose.progress = pages_below at p (n.number + 1) (n.number + 1) s [] k h met in
       either_way Known (nat_lt n.number s.floor) _ _ (plain k Skip met)
       (either_way Known (has_entry n k.held) _ _ (held_known at n who k met)
       (either_way Known (nat_le s.next n.number) _ _
       (asked_known at n (lost_below p (n.number + 1) s) lose (find name_cmp n lose.missing) (losing lose Hold p (n.number + 1) s h lost))
       (asked_known at n [] k (find name_cmp n k.missing) (plain k Hold met))))
 
-  entry_pages : (at : ℕ) (h : Heard) (m : MemberState) → h.source < members → PagesOf m.progress → PagesOf (after_entry at h m).progress
+  entry_pages : (at : ℕ) (h : Heard) (lost : List Name) (m : MemberState) → h.source < members → PagesOf m.progress
+      → PagesOf (after_entry at h lost m).progress
   unfolding after_entry
-  entry_pages at h m lt g =
+  entry_pages at h lost m lt g =
       let p = page_heard h in
       let s = meet m p (h.highest + 1) in
       either_way (λ (k : MemberState). PagesOf k.progress) (nat_le s.next h.highest) _ _
-      (pages_below at p (h.highest + 1) (h.highest + 1) s m lt g) (pages_put p s m.progress lt g)
+      (pages_below at p (h.highest + 1) (h.highest + 1) s lost m lt g) (pages_put p s m.progress lt g)
 
   -- names of later entries are new, and so others than those lost by the entries before
   informed_known : (at : ℕ) (hs : List Heard) (m : MemberState) (lost : List Name) → is_listener m.fixed.role ≡ false → HeardOf hs
@@ -216,14 +205,15 @@ module _ (members : ℕ) where
   unfolding hear_session
   informed_known at [] m lost no_listener of_hs below k = k
   informed_known at (h ∷ hs) m lost no_listener of_hs below k =
-      let g = entry_grows at h m no_listener in
+      let g = entry_effect at h lost m in
       let p = page_heard h in
       let s = meet m p (h.highest + 1) in
       let more = lost_by_entry h m in
-      informed_known at hs (after_entry at h m) (lost ++ more) (ap (λ (f : FixedPart). is_listener f.role) g.fixed ∙ no_listener) of_hs.1
+      informed_known at hs (after_entry at h lost m) (lost ++ more)
+      (ap (λ (f : FixedPart). is_listener f.role) g.fixed ∙ no_listener) of_hs.1
       (λ n c. elim (Contains-append_cases lost more n c) [ inl x ↦ g.below n (below n x) | inr x ↦ g.heard n x ])
       (record {
-        pages = entry_pages at h m of_hs.0 k.pages;
+        pages = entry_pages at h lost m of_hs.0 k.pages;
         lost = AllIn-append (λ (n : Name). n.source < members) lost more k.lost (names_of p ((h.highest + 1) - s.next) s.next of_hs.0);
         apart = apart_append lost more k.apart (names_apart p ((h.highest + 1) - s.next) s.next) (λ n c x. g.new n x (below n c));
         session = tt;
@@ -231,7 +221,7 @@ module _ (members : ℕ) where
 
   hear_known : (at who : ℕ) (b : Body) (m : MemberState) → is_listener m.fixed.role ≡ false → BodyOf b → PagesOf m.progress
       → Known (hear_body at who b m)
-  hear_known at who (Drawop n ink) m no_listener h g = got_known at n ink m h g
+  hear_known at who (Drawop n ink) m no_listener h g = got_known at n ink false m h g
   hear_known at who (Repair n ink) m no_listener h g = repair_known at n ink who m h g
   hear_known at who (Request n) m no_listener h g = request_known at n who m h g
   hear_known at who (Session hs) m no_listener h g =

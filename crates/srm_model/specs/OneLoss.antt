@@ -3,7 +3,9 @@ use Rattle.std.specs.Prelude.{ℕ, ◌+◌, ◌-◌, not, ◌&&◌, List, [], �
 use Rattle.srm_net.specs.declared.packet.Name.{Name}
 use Rattle.srm_net.specs.declared.role.Role.TheVariants.{Sender, Receiver}
 use Rattle.srm_scenario.specs.declared.mark.Mark.{Mark}
+use Rattle.srm_member.specs.declared.backoff.BackoffFactor.TheVariants.{Two}
 use Rattle.srm_member.specs.declared.exit.Exit.{Exit}
+use Rattle.srm_member.specs.Intervals.{without_room}
 use Rattle.srm_cell.specs.Setting.{Setting}
 use Rattle.srm_model.specs.World.{last_world, opening, exits_of}
 use Rattle.srm_model.specs.Handed.{handing_count}
@@ -30,10 +32,11 @@ one_loss until = record {
   fixed = λ m. record {
     member = m;
     role = if m == 0 then Sender else Receiver;
-    c1 = 1500;
-    c2 = 0;
-    d1 = 1000;
-    d2 = 0;
+    backoff = Two;
+    c1 = without_room 1500;
+    c2 = without_room 0;
+    d1 = without_room 1000;
+    d2 = without_room 0;
     dist = if m == 0 then 0 ∷ 1 ∷ [] else 1 ∷ 0 ∷ [];
     pages = [];
     seed = 42;

@@ -10,7 +10,7 @@ use Rattle.srm_net.specs.Paths.{route, host, delay_along, Stop, stop, stops, tak
 use Rattle.srm_net.specs.DropRules.{DropRules}
 use Rattle.srm_net.specs.Tables.{is_beyond, near_end, some_beyond}
 use Rattle.srm_net.specs.Built.{plain_of, IsBuilt}
-use Rattle.srm_net.specs.Rooting.{IsRooted, TellsPositions}
+use Rattle.srm_net.specs.Rooting.{IsRooted, TellsPositions, TellsTree}
 use Rattle.srm_net.proofs.Lists.{below_get, all_get}
 use Rattle.srm_net.proofs.PathLaws.{near_stop, is_free, crosses_is, drops_is}
 
@@ -41,6 +41,9 @@ beyond_seen n m e l x j k g h =
 pub rooted_in : (n : Inside) → IsBuilt n → IsRooted (plain_of n) n.rooted.positions.items
 unfolding TellsPositions
 rooted_in n i = i.rooted
+
+pub tree_in : (n : Inside) → IsBuilt n → TellsTree (plain_of n) n.rooted
+tree_in n i = record { rooted = rooted_in n i; order = i.order }
 
 pub position_there : (n : Inside) → IsBuilt n → (u : ℕ) → u < n.nodes → u < length n.rooted.positions.items
 position_there n i u hu = subst (λ m. u < m) (sym (rooted_in n i).long) hu

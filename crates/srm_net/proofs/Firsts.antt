@@ -1,17 +1,18 @@
 -- The first link of the way between two nodes, told by their positions.
-use Rattle.std.proofs.Common.{◌≡◌, ◌≢◌, ◌⊎◌, ℕ, ◌<◌, ◌≤◌, Bool, true, false, not, cond, List, [], ◌∷◌, refl, sym, ap, ◌∙◌}
+use Rattle.std.proofs.Common.{◌≡◌, ◌≢◌, ◌⊎◌, ℕ, zero, suc, ◌+◌, ◌<◌, ◌≤◌, Bool, true, false, not, cond, List, [], ◌∷◌, refl, sym, ap, ◌∙◌}
 use Rattle.std.proofs.Common.{subst, inl, inr, arith, eqb, eqb-true, unwrap_or}
 use Rattle.std.proofs.lemmas.Bool.{cases_Bool, cases_eq, false≢true}
 use Rattle.srm_net.specs.declared.link.LinkSpec.{LinkSpec}
 use Rattle.srm_net.specs.declared.position.Position.{Position}
 use Rattle.srm_net.specs.Network.{Network, Joins}
 use Rattle.srm_net.specs.Paths.{is_in, route, end_of, far_end}
-use Rattle.srm_net.specs.Rooting.{at, IsRooted, IsFirst, IsHeld, IsChildAbove}
+use Rattle.srm_net.specs.Rooting.{takes, at, IsRooted, IsFirst, IsHeld, IsChildAbove}
 use Rattle.srm_net.specs.Tables.{is_beyond}
 use Rattle.srm_net.proofs.Lists.{below_get}
 use Rattle.srm_net.proofs.Numbers.{in_cases, in_append_cases, not_in}
 use Rattle.srm_net.proofs.Walks.{turned}
 use Rattle.srm_net.proofs.PathLaws.{LinkOf, on_route}
+use Rattle.srm_net.proofs.Rootings.{takes_nothing, parent_there, parent_back}
 use Rattle.srm_net.proofs.SpreadLemmas.{end_joined, route_there, first_of}
 
 -- the two ends of a link by which a node is below another
@@ -234,3 +235,49 @@ module _ (w : Network) (ps : List Position) (r : IsRooted w ps) where
             × ((at ps z).place < (at ps x).place)) (sym c)
             (p.1, λ e. n (sym e), p.2, held_by_parent x v hx hv one held, p.3))
       ]
+
+  -- on the way between the root and a node that node u holds, a packet comes by node u
+  by_steps : (n u v : ℕ) → u < w.nodes → v < w.nodes → (at ps v).place ≤ n → IsHeld (at ps u) (at ps v)
+      → (takes w 0 v ≡ takes w 0 u + takes w u v) × (takes w v 0 ≡ takes w v u + takes w u 0)
+  by_steps zero u v hu hv le held =
+      let eu = place_of u hu in
+      let ev = place_of v hv in
+      let h0 : (at ps u).place ≤ (at ps v).place = held.0 in
+      let same : u ≡ v = r.apart u v hu hv (omega arith) in
+      let none = takes_nothing w u in
+      subst (λ z. (takes w 0 z ≡ takes w 0 u + takes w u z) × (takes w z 0 ≡ takes w z u + takes w u 0)) same (omega arith, omega arith)
+  by_steps (suc n) u v hu hv le held =
+      elim (cases_eq u v) [
+        | inl same ↦ (let none = takes_nothing w u in
+            subst (λ z. (takes w 0 z ≡ takes w 0 u + takes w u z) × (takes w z 0 ≡ takes w z u + takes w u 0)) same
+            (omega arith, omega arith))
+        | inr d ↦ (let p = (at ps v).parent in
+            let l = (at ps v).link in
+            let up = parent_held u v hu hv d held in
+            let low : (at ps p).place < (at ps v).place = up.3 in
+            let k0 : (at ps u).place ≤ (at ps p).place = up.2.0 in
+            let rest = by_steps n u p hu up.1 (omega arith) up.2 in
+            let rest0 : takes w 0 p ≡ takes w 0 u + takes w u p = rest.0 in
+            let rest1 : takes w p 0 ≡ takes w p u + takes w u 0 = rest.1 in
+            let eu = place_of u hu in
+            let ev = place_of v hv in
+            let ep = place_of p up.1 in
+            let root : r.place 0 ≡ 0 = r.root in
+            let h = (r.each v hv).parent up.0 in
+            let a = parent_back w r.tree r.place v p l hv h 0 some (omega arith) in
+            let b = parent_back w r.tree r.place v p l hv h u hu (omega arith) in
+            let c = parent_there w r.place v p l h 0 some (omega arith) in
+            let e = parent_there w r.place v p l h u hu (omega arith) in
+            (omega arith, omega arith))
+      ]
+
+  -- so the delays to and from the root tell those between the two
+  pub down_held : (u v : ℕ) → u < w.nodes → v < w.nodes → IsHeld (at ps u) (at ps v) → (at ps v).down ≡ (at ps u).down + takes w u v
+  down_held u v hu hv held =
+      (r.each v hv).down ∙ (by_steps ((at ps v).place) u v hu hv (omega arith) held).0
+      ∙ ap (λ n. n + takes w u v) (sym (r.each u hu).down)
+
+  pub up_held : (u v : ℕ) → u < w.nodes → v < w.nodes → IsHeld (at ps u) (at ps v) → (at ps v).up ≡ takes w v u + (at ps u).up
+  up_held u v hu hv held =
+      (r.each v hv).up ∙ (by_steps ((at ps v).place) u v hu hv (omega arith) held).1
+      ∙ ap (λ n. takes w v u + n) (sym (r.each u hu).up)

@@ -24,4 +24,8 @@ pub mod SpreadLemmas
 pub mod Rootings
 pub mod Subtrees
 pub mod Beyond
+pub mod OccupiedLemmas
+pub mod OutLemmas
 pub mod Firsts
+pub mod NodeOrder
+pub mod Arrivals

@@ -17,7 +17,8 @@ Marks nodes xs known = (x : ℕ) → x < nodes → is_known known x ≡ is_in xs
 abbrev pub KnownAre : ℕ → List Step → List Bool → Type 0
 KnownAre nodes ss known = Marks nodes (attached ss) known
 
-known_set : (known : List Bool) (n : ℕ) → n < length known → (x : ℕ) → is_known (slice_set known n true) x
+-- whether a node is marked, after one of them was
+pub known_set : (known : List Bool) (n : ℕ) → n < length known → (x : ℕ) → is_known (slice_set known n true) x
     ≡ cond (eqb n x) true (is_known known x)
 known_set known n h x =
     elim (cases_eq n x) [

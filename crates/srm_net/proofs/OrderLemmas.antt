@@ -7,7 +7,7 @@ use Rattle.srm_net.specs.Network.{plain_network, IsWithin, IsTree, HasDelays, Ar
 use Rattle.srm_net.specs.Growth.{Grows}
 use Rattle.srm_net.specs.declared.position.Position.{Position}
 use Rattle.srm_net.specs.Paths.{route}
-use Rattle.srm_net.specs.Rooting.{IsRooted, TellsPositions}
+use Rattle.srm_net.specs.Rooting.{IsRooted, TellsPositions, TellsTree}
 use Rattle.srm_net.specs.declared.tree.Tree.TheInside.{Inside}
 use Rattle.srm_net.specs.Built.{IsBuilt}
 use Rattle.srm_net.proofs.Numbers.{distinct_from_apart}
@@ -71,9 +71,9 @@ rooted_of_any nodes links hs gs ps r = record {
 -- a tree whose parts were checked is a network with the positions of its nodes
 pub built_tree : (t : Inside) (links : List LinkSpec) (hosts : List ℕ) → t.links.items ≡ links → t.hosts.items ≡ hosts
     → IsTree (plain_network t.nodes links []) → All HasDelays links → AreHosts t.nodes hosts
-    → IsRooted (plain_network t.nodes links []) t.rooted.positions.items → IsBuilt t
+    → TellsTree (plain_network t.nodes links []) t.rooted → IsBuilt t
 unfolding TellsPositions
-built_tree t links hosts e f tree delays are rooted =
+built_tree t links hosts e f tree delays are told =
     let whole : IsNetwork (plain_network t.nodes links hosts) = record
     { tree = tree_of_any t.nodes links [] hosts tree; delays = delays; hosts = are } in
     let here : IsNetwork (plain_network t.nodes t.links.items t.hosts.items) =
@@ -83,5 +83,6 @@ built_tree t links hosts e f tree delays are rooted =
       network = here;
       rooted = subst (λ hs. IsRooted (plain_network t.nodes t.links.items hs) t.rooted.positions.items) (sym f)
           (subst (λ ls. IsRooted (plain_network t.nodes ls hosts) t.rooted.positions.items) (sym e)
-          (rooted_of_any t.nodes links [] hosts t.rooted.positions.items rooted));
+          (rooted_of_any t.nodes links [] hosts t.rooted.positions.items told.rooted));
+      order = record { node = told.order.node; each = told.order.each };
     }

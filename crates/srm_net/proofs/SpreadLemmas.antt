@@ -11,7 +11,7 @@ use Rattle.srm_net.specs.Network.{Network, Joins, IsWalk, IsTree, IsNetwork}
 use Rattle.srm_net.specs.Paths.{is_in, end_of, delay_of, delay_along, host, route, Stop, stop, stops, takes_out, reaches, crosses, drops_at}
 use Rattle.srm_net.specs.DropRules.{DropRules, may_drop}
 use Rattle.srm_net.specs.Tables.{is_beyond, near_end, far_from, some_beyond}
-use Rattle.srm_net.specs.Spreads.{comes_to, AreKnown, PlainSpread, IsSpread, FitsIn}
+use Rattle.srm_net.specs.Spreads.{comes_to, PlainSpread, IsSpread, FitsIn}
 use Rattle.srm_net.proofs.Lists.{below_get, get_set_same, get_set_other}
 use Rattle.srm_net.proofs.Numbers.{Apart, in_head, in_tail, in_cases, in_append_cases, not_in, apart_push, apart_from_distinct}
 use Rattle.srm_net.proofs.Walks.{turned, walk_last, same_link, same_far}
@@ -113,30 +113,6 @@ comes_next w n out u t x y l hu hx hy e f =
     ∙ ap (λ ss. not (list_any out ss)) (stops_push w.links u t (route w u y) l)
     ∙ ap not (any_push out (stops w.links u t (route w u y)) s)
     ∙ not_pushed (out s) (list_any out (stops w.links u t (route w u y)))
-
--- ---- nodes of which it is known whether the packet comes there
-
-pub known_more : (w : Network) (out : Stop → Bool) (u t : ℕ) (known : List (Option Bool)) → AreKnown w out u t known → (n : ℕ)
-    → n < length known → (v : Bool) → v ≡ comes_to w out u t n
-    → AreKnown w out u t (slice_set known n (Some v))
-known_more w out u t known h n lt v e x b g =
-    elim (cases_eq n x) [
-      | inl q ↦
-          (let r : Some (Some v) ≡ Some (Some b) = sym (get_set_same known n (Some v) lt)
-          ∙ subst (λ y. slice_get (slice_set known n (Some v)) y ≡ Some (Some b)) (sym q) g in
-          let same : v ≡ b = cc in
-          sym same ∙ e ∙ ap (comes_to w out u t) q)
-      | inr q ↦ h x b (sym (get_set_other known n x (Some v) q) ∙ g)
-    ]
-
-pub none_known : (w : Network) (out : Stop → Bool) (u t n : ℕ) (known : List (Option Bool)) → known ≡ replicate n None
-    → AreKnown w out u t known
-none_known w out u t n known e x b g = absurd (never n x b (ap (λ ks. slice_get ks x) (sym e) ∙ g))
-  where
-    never : (n x : ℕ) (b : Bool) → slice_get (replicate n None) x ≡ Some (Some b) → ⊥
-    never zero x b h = cc
-    never (suc n) zero b h = cc
-    never (suc n) (suc x) b h = never n x b h
 
 -- ---- the two ends of a link
 

@@ -1,69 +1,15 @@
 -- What a network's tables of sides and of least distances give.
-use Rattle.std.proofs.Common.{◌≡◌, ℕ, zero, suc, ◌+◌, ◌<◌, ◌≤◌, Bool, true, false, not, cond, ◌||◌, List, [], ◌∷◌, ◌++◌, length, Option}
+use Rattle.std.proofs.Common.{◌≡◌, ℕ, ◌+◌, ◌<◌, Bool, true, false, cond, List, [], ◌∷◌, ◌++◌, length, Option}
 use Rattle.std.proofs.Common.{Some, sym, ap, ◌∙◌, subst, inl, inr, arith, slice_get, slice_index_or}
-use Rattle.std.proofs.Math.Bool.{or-true}
 use Rattle.std.proofs.lemmas.Bool.{cases_eq}
 use Rattle.srm_net.specs.declared.link.LinkSpec.{LinkSpec}
 use Rattle.srm_net.specs.declared.sides.Sides.{Sides}
 use Rattle.srm_net.specs.declared.net.Net.TheInside.{Inside}
 use Rattle.srm_net.specs.Network.{Network}
-use Rattle.srm_net.specs.Paths.{host, some_below}
 use Rattle.srm_net.specs.Tables.{is_beyond, near_end, some_beyond, TellsSides}
 use Rattle.srm_net.specs.Least.{out}
 use Rattle.srm_net.specs.Told.{IsTold}
 use Rattle.srm_net.proofs.Lists.{get_below, below_get, get_index, get_push_old, get_push_new}
-
--- whether one of the first n members is on the side of a link's end a, and of its end b
-
-abbrev pub some_near_a : Network → ℕ → LinkSpec → ℕ → Bool
-some_near_a w l k n = some_below (λ m. not (is_beyond w l k (host w m))) n
-
-abbrev pub some_near_b : Network → ℕ → LinkSpec → ℕ → Bool
-some_near_b w l k n = some_below (λ m. is_beyond w l k (host w m)) n
-
--- the sides as told by the first n members
-pub record TellsFirst (w : Network) (l n : ℕ) (s : Sides) (k : LinkSpec) : Type 0 where
-  pub a : s.a ≡ some_near_a w l k n
-  pub b : s.b ≡ some_near_b w l k n
-
-some_next : (f : ℕ → Bool) (n : ℕ) → some_below f (n + 1) ≡ (f n || some_below f n)
-some_next f n = let e : n + 1 ≡ suc n = omega arith in ap (some_below f) e
-
-pub first_beyond : (w : Network) (l n u : ℕ) (s t : Sides) (k : LinkSpec) → u ≡ host w n → is_beyond w l k u ≡ true → t
-    ≡ record s { b = true } → TellsFirst w l n s k → TellsFirst w l (n + 1) t k
-first_beyond w l n u s t k e y r f =
-    let here : is_beyond w l k (host w n) ≡ true = subst (λ v. is_beyond w l k v ≡ true) e y in
-    record {
-      a = ap (λ (x : Sides). x.a) r ∙ f.a ∙ sym (some_next (λ m. not (is_beyond w l k (host w m))) n
-          ∙ ap (λ b. not b || some_near_a w l k n) here);
-      b = ap (λ (x : Sides). x.b) r ∙ sym (some_next (λ m. is_beyond w l k (host w m)) n ∙ ap (λ b. b || some_near_b w l k n) here);
-    }
-
-pub first_near : (w : Network) (l n u : ℕ) (s t : Sides) (k : LinkSpec) → u ≡ host w n → is_beyond w l k u ≡ false → t
-    ≡ record s { a = true } → TellsFirst w l n s k → TellsFirst w l (n + 1) t k
-first_near w l n u s t k e y r f =
-    let here : is_beyond w l k (host w n) ≡ false = subst (λ v. is_beyond w l k v ≡ false) e y in
-    record {
-      a = ap (λ (x : Sides). x.a) r ∙ sym (some_next (λ m. not (is_beyond w l k (host w m))) n
-          ∙ ap (λ b. not b || some_near_a w l k n) here);
-      b = ap (λ (x : Sides). x.b) r ∙ f.b ∙ sym (some_next (λ m. is_beyond w l k (host w m)) n ∙ ap (λ b. b || some_near_b w l k n) here);
-    }
-
-some_further : (f : ℕ → Bool) (n m : ℕ) → n ≤ m → some_below f n ≡ true → some_below f m ≡ true
-some_further f n zero h e = let none : n ≡ 0 = omega arith in subst (λ k. some_below f k ≡ true) none e
-some_further f n (suc m) h e =
-    elim (cases_eq n (suc m)) [
-      | inl q ↦ subst (λ k. some_below f k ≡ true) q e
-      | inr q ↦ (let below : n ≤ m = omega arith in rw (some_further f n m below e) (or-true (f m)))
-    ]
-
--- where the first members are on both sides, all of them tell the same
-pub both_told : (w : Network) (l n : ℕ) (s : Sides) (k : LinkSpec) → n ≤ length w.hosts → s.a ≡ true → s.b ≡ true → TellsFirst w l n s k
-    → TellsSides w l k s
-both_told w l n s k h a b f = record {
-  a = a ∙ sym (some_further (λ m. not (is_beyond w l k (host w m))) n (length w.hosts) h (sym f.a ∙ a));
-  b = b ∙ sym (some_further (λ m. is_beyond w l k (host w m)) n (length w.hosts) h (sym f.b ∙ b));
-}
 
 -- what the sides of a link tell
 pub sides_told : (n : Inside) → IsTold n → (l : ℕ) (k : LinkSpec) → slice_get n.tree.links l ≡ Some k → (s : Sides) → s

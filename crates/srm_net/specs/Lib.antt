@@ -19,6 +19,8 @@ pub mod Waiting
 pub mod Rooting
 pub mod Spreads
 pub mod Tables
+pub mod Occupancy
+pub mod Nearness
 pub mod Built
 pub mod Told
 pub mod Laws

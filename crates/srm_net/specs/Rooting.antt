@@ -1,6 +1,7 @@
 -- Positions of nodes in a tree that is rooted at node 0.
-use Rattle.std.specs.Prelude.{◌≡◌, ℕ, ◌+◌, ◌<◌, ◌≤◌, true, List, ◌∷◌, length, slice_get, slice_index_or}
+use Rattle.std.specs.Prelude.{◌≡◌, ℕ, ◌+◌, ◌<◌, ◌≤◌, true, List, ◌∷◌, Some, length, slice_get, slice_index_or}
 use Rattle.srm_net.specs.declared.position.Position.{Position}
+use Rattle.srm_net.specs.declared.rooted.Rooted.{Rooted}
 use Rattle.srm_net.specs.Network.{Network, IsTree}
 use Rattle.srm_net.specs.Paths.{is_in, route, end_of, delay_along}
 
@@ -63,6 +64,16 @@ pub record IsRooted (w : Network) (positions : List Position) : Type 0 where
 -- the positions of the nodes of a network are told
 unfoldable pub TellsPositions : Network → List Position → Type 0
 TellsPositions w positions = IsRooted w positions
+
+-- the nodes stand in the order of their places
+pub record IsInOrder (w : Network) (positions : List Position) (order : List ℕ) : Type 0 where
+  pub node : (i u : ℕ) → slice_get order i ≡ Some u → (u < w.nodes) × ((at positions u).place ≡ i)
+  pub each : (u : ℕ) → u < w.nodes → slice_get order (at positions u).place ≡ Some u
+
+-- the positions of the nodes of a tree are told, and their order
+pub record TellsTree (w : Network) (r : Rooted) : Type 0 where
+  pub rooted : IsRooted w r.positions.items
+  pub order : IsInOrder w r.positions.items r.order.items
 
 -- the way from node u to node v begins with link l, which leads to node x
 pub record IsFirst (w : Network) (u v l x : ℕ) : Type 0 where

@@ -1,10 +1,12 @@
 -- To which nodes a packet comes.
-use Rattle.std.specs.Prelude.{◌≡◌, ℕ, ◌<◌, Bool, not, List, Option, Some, length, slice_get}
+use Rattle.std.specs.Prelude.{◌≡◌, ℕ, ◌+◌, ◌<◌, Bool, not, List, Option, Some, None, length, slice_get, if◌then◌else◌}
 use Rattle.std.specs.List.{list_any}
 use Rattle.srm_net.specs.declared.packet.PacketId.{PacketId}
 use Rattle.srm_net.specs.Network.{Network}
 use Rattle.srm_net.specs.DropRules.{DropRules}
-use Rattle.srm_net.specs.Paths.{host, route, Stop, stops, takes_out}
+use Rattle.srm_net.specs.Paths.{host, route, Stop, stop, stops, takes_out}
+use Rattle.srm_net.specs.Rooting.{takes, at, IsHeld}
+use Rattle.srm_net.specs.declared.position.Position.{Position}
 
 -- what becomes of one packet: who sends it, and for each node whether it comes there
 pub record PlainSpread : Type 0 where
@@ -27,9 +29,25 @@ pub record FitsIn (w : Network) (s : PlainSpread) : Type 0 where
   pub sender : s.sender < length w.hosts
   pub nodes : length s.comes ≡ w.nodes
 
--- of the nodes of which it is known whether the packet comes there, it is known rightly
-abbrev pub AreKnown : Network → (Stop → Bool) → ℕ → ℕ → List (Option Bool) → Type 0
-AreKnown w out u t known = (x : ℕ) (b : Bool) → slice_get known x ≡ Some (Some b) → b ≡ comes_to w out u t x
+-- the tick at which a packet that is at node u at tick t comes to node x, if it comes there
+abbrev pub arrival : Network → (Stop → Bool) → ℕ → ℕ → ℕ → Option ℕ
+arrival w out u t x = if comes_to w out u t x then Some (t + takes w u x) else None
+
+-- the tick at which it comes to the far end of a link that takes so many ticks, if it comes to the link
+abbrev pub past_link : (Stop → Bool) → ℕ → ℕ → Option ℕ → Option ℕ
+past_link out l ticks None = None
+past_link out l ticks (Some at) = if out (stop l at) then None else Some (at + ticks)
+
+-- it is told of each node when the packet comes there, if it does
+pub record TellsArrivals (w : Network) (out : Stop → Bool) (u t : ℕ) (arrivals : List (Option ℕ)) : Type 0 where
+  pub nodes : length arrivals ≡ w.nodes
+  pub each : (x : ℕ) → x < w.nodes → slice_get arrivals x ≡ Some (arrival w out u t x)
+
+-- and so far of each node that is this one or above it
+pub record TellsAbove (w : Network) (positions : List Position) (out : Stop → Bool) (u t : ℕ) (arrivals : List (Option ℕ)) : Type 0 where
+  pub nodes : length arrivals ≡ w.nodes
+  pub above : (x : ℕ) → x < w.nodes → IsHeld (at positions x) (at positions u)
+      → slice_get arrivals x ≡ Some (arrival w out u t x)
 
 -- it is told of each node whether the packet comes there
 pub record TellsComing (w : Network) (out : Stop → Bool) (u t : ℕ) (comes : List Bool) : Type 0 where

@@ -1,5 +1,5 @@
 //! A tree of nodes and links with members on some nodes, and what becomes of packets in it.
-ghost use Rattle.std.specs.Prelude.{◌≡◌, ◌≢◌, ℕ, ◌<◌, ◌≤◌, ◌*◌, true, false, not, ◌∷◌, All, IfOk, IfErr, IfSome, IfNone, length, slice_get};
+ghost use Rattle.std.specs.Prelude.{◌≡◌, ◌≢◌, ◌↔◌, ℕ, ◌<◌, ◌≤◌, ◌*◌, true, false, not, [], ◌∷◌, All, IfOk, IfErr, IfSome, IfNone, IsTrue, length, slice_get};
 ghost use Rattle.srm_net.specs.Limits.{end_of_time, greatest_distance};
 ghost use Rattle.srm_net.specs.Network.{plain_network, IsTree, HasDelays, AreHosts, IsNetwork};
 ghost use Rattle.srm_net.specs.Paths.{host, distance, round, stop, takes_out, reaches, crosses, drops_at};
@@ -50,6 +50,21 @@ impl Model for Net {
 }
 
 impl Net {
+    /// Whether these links make a tree of nodes 0 to `nodes - 1`: what [`build`](Net::build) tests first, without the network. It takes
+    /// a number of steps that grows as the number of links.
+    ///
+    /// # Errors
+    /// [`AllocError`].
+    pub fn is_tree(alloc: Global, nodes: u16, links: &[LinkSpec]) -> Result<bool, AllocError>
+        ensures { IfOk result (λ is. IsTrue is ↔ IsTree (plain_network nodes links.now [])) }
+    {
+        match attaching_order(alloc, nodes, links) {
+            Ok(_) => Ok(true),
+            Err(NetFault::NoMemory) => Err(AllocError),
+            Err(_) => Ok(false),
+        }
+    }
+
     /// The network of nodes 0 to `nodes - 1` with these links, and member m on the node `hosts[m]`.
     ///
     /// # Errors

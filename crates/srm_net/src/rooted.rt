@@ -1,20 +1,26 @@
 //! A tree that is rooted at node 0.
-ghost use Rattle.std.specs.Prelude.{◌≡◌, ◌≢◌, ◌⊎◌, ℕ, ◌+◌, ◌≤◌, ◌<◌, [], List, All, IfOk, length, reverse};
-ghost use Rattle.srm_net.specs.Growth.{Grows, IsInPreorder, TellsEnds};
+ghost use Rattle.std.specs.Prelude.{◌≡◌, ◌≢◌, ◌⊎◌, ℕ, ◌+◌, ◌≤◌, ◌<◌, [], List, All, Some, IfOk, length, reverse, slice_get};
+ghost use Rattle.srm_net.specs.Growth.{attached, Grows, IsInPreorder, TellsEnds};
 ghost use Rattle.srm_net.specs.declared.link.LinkSpec.{LinkSpec};
-ghost use Rattle.srm_net.specs.Limits.{most_nodes};
+ghost use Rattle.srm_net.specs.Limits.{end_of_time};
+ghost use Rattle.srm_net.specs.Listed.{is_listed_somewhere};
 ghost use Rattle.srm_net.specs.Network.{Network, HasDelays, IsNetwork, IsTree, IsWithin, plain_network};
-ghost use Rattle.srm_net.specs.Rooting.{takes, at, IsRooted, IsFirst, IsHeld, IsChildAbove};
+ghost use Rattle.srm_net.specs.Paths.{takes_out};
+ghost use Rattle.srm_net.specs.Rooting.{takes, at, IsRooted, TellsTree, IsFirst, IsHeld, IsChildAbove};
+ghost use Rattle.srm_net.specs.Spreads.{TellsArrivals, TellsAbove};
 
+use crate::drops::Drops;
 use crate::link::LinkSpec;
 use crate::position::Position;
+use crate::sending::Sending;
 use crate::step::Step;
 use std::alloc::{AllocError, Global};
 
-/// The position of each node.
+/// The position of each node, and the nodes in the order of their places.
 #[derive(Drop)]
 pub(crate) struct Rooted {
     pub(crate) positions: Vec<Position>,
+    pub(crate) order: Vec<u16>,
 }
 
 impl Rooted {
@@ -30,8 +36,9 @@ impl Rooted {
         requires grows { Grows links.now (reverse steps.now) }
         requires preorder { IsInPreorder (reverse steps.now) }
         requires all { length steps.now + 1 ≡ nodes }
-        ensures { IfOk result (λ rooted. IsRooted (plain_network nodes links.now []) rooted.positions.items) }
+        ensures { IfOk result (TellsTree (plain_network nodes links.now [])) }
     {
+        let order = in_order(alloc, steps)?;
         let ends = subtree_ends(alloc, nodes, steps)?;
         let whole = ends[0];
         let root = Position {
@@ -62,7 +69,7 @@ impl Rooted {
                 down: above.down + link.delay_from(step.parent),
             };
         }
-        Ok(Rooted { positions })
+        Ok(Rooted { positions, order })
     }
 
     /// The position of a node.
@@ -74,8 +81,25 @@ impl Rooted {
     }
 
     /// How long a packet takes from one node to another, in ticks. It takes a number of steps that grows as the logarithm of the number
-    /// of nodes.
+    /// of nodes, and where one of the two nodes is below the other it takes no climb.
     pub(crate) fn delay(&self, from: u16, to: u16) -> u64
+        requires rooted { (w : Network) × IsNetwork w × IsRooted w self.now.positions.items × (from < w.nodes) × (to < w.nodes) }
+        ensures { (w : Network) → IsRooted w self.now.positions.items → from < w.nodes → to < w.nodes
+            → result ≡ takes w from to }
+    {
+        let here = self.position(from);
+        let there = self.position(to);
+        if here.holds(there.place) {
+            there.down - here.down
+        } else if there.holds(here.place) {
+            here.up - there.up
+        } else {
+            self.delay_around(from, to)
+        }
+    }
+
+    /// The same, told by a climb from both nodes until they meet.
+    fn delay_around(&self, from: u16, to: u16) -> u64
         requires rooted { (w : Network) × IsNetwork w × IsRooted w self.now.positions.items × (from < w.nodes) × (to < w.nodes) }
         ensures { (w : Network) → IsRooted w self.now.positions.items → from < w.nodes → to < w.nodes
             → result ≡ takes w from to }
@@ -95,6 +119,72 @@ impl Rooted {
             }
         }
         ticks
+    }
+
+    /// When a packet comes to each node, in ticks, or none where it does not come there. It takes a number of steps that grows as the
+    /// number of nodes: a climb from its sender tells of those above that, and then each other node is told by the one above it.
+    ///
+    /// # Errors
+    /// [`AllocError`].
+    pub(crate) fn arrivals(
+        &self,
+        alloc: Global,
+        drops: &Drops,
+        packet: Sending,
+    ) -> Result<Vec<Option<u64>>, AllocError>
+        requires rooted { (w : Network) × IsNetwork w × TellsTree w self.now × (packet.from < w.nodes) }
+        requires sent { packet.sent < end_of_time }
+        requires listed { packet.is_listed ≡ is_listed_somewhere drops.now.listed packet.id }
+        ensures { (w : Network) → TellsTree w self.now → packet.from < w.nodes
+            → IfOk result (λ all. TellsArrivals w (takes_out drops.now packet.id) packet.from packet.sent all.items) }
+    {
+        let mut arrivals = vec![in alloc; None; self.positions.len()]?;
+        arrivals[usize::from(packet.from)] = Some(packet.sent);
+        self.arrive_above(drops, packet, arrivals.as_mut_slice());
+        self.arrive_below(drops, packet, arrivals.as_mut_slice());
+        Ok(arrivals)
+    }
+
+    /// Tells when a packet comes to each node above its sender, of which it is told already.
+    fn arrive_above(&self, drops: &Drops, packet: Sending, arrivals: &mut [Option<u64>])
+        requires rooted { (w : Network) × IsNetwork w × IsRooted w self.now.positions.items × (packet.from < w.nodes) }
+        requires sent { packet.sent < end_of_time }
+        requires listed { packet.is_listed ≡ is_listed_somewhere drops.now.listed packet.id }
+        requires size { length arrivals.old ≡ length self.now.positions.items }
+        requires home { slice_get arrivals.old packet.from ≡ Some (Some packet.sent) }
+        ensures { (w : Network) → IsRooted w self.now.positions.items → packet.from < w.nodes
+            → TellsAbove w self.now.positions.items (takes_out drops.now packet.id) packet.from packet.sent arrivals.new }
+    {
+        let mut node = packet.from;
+        while node != 0 {
+            let here = self.position(node);
+            let ticks = here.up - self.position(here.parent).up;
+            let at = arrivals[usize::from(node)];
+            arrivals[usize::from(here.parent)] = packet.past(drops, here.link, ticks, at);
+            node = here.parent;
+        }
+    }
+
+    /// Tells when a packet comes to each node, where it is told of those above its sender.
+    fn arrive_below(&self, drops: &Drops, packet: Sending, arrivals: &mut [Option<u64>])
+        requires rooted { (w : Network) × IsNetwork w × TellsTree w self.now × (packet.from < w.nodes)
+            × TellsAbove w self.now.positions.items (takes_out drops.now packet.id) packet.from packet.sent arrivals.old }
+        requires sent { packet.sent < end_of_time }
+        requires listed { packet.is_listed ≡ is_listed_somewhere drops.now.listed packet.id }
+        ensures { (w : Network) → TellsTree w self.now → packet.from < w.nodes
+            → TellsAbove w self.now.positions.items (takes_out drops.now packet.id) packet.from packet.sent arrivals.old
+            → TellsArrivals w (takes_out drops.now packet.id) packet.from packet.sent arrivals.new }
+    {
+        let from = self.position(packet.from).place;
+        for node in self.order.as_slice() {
+            let here = self.position(*node);
+            if here.holds(from) {
+                continue;
+            }
+            let ticks = here.down - self.position(here.parent).down;
+            let at = arrivals[usize::from(here.parent)];
+            arrivals[usize::from(*node)] = packet.past(drops, here.link, ticks, at);
+        }
     }
 
     /// The link by which the way from one node to another begins, and the node to which it leads. It takes a number of steps that grows
@@ -162,6 +252,17 @@ impl Rooted {
             position.parent
         }
     }
+}
+
+// The nodes in the order in which these steps attach them, node 0 the first.
+fn in_order(alloc: Global, steps: &[Step]) -> Result<Vec<u16>, AllocError>
+    ensures { IfOk result (λ order. order.items ≡ reverse (attached (reverse steps.now))) }
+{
+    let mut order = vec![in alloc; 0u16]?;
+    for step in steps {
+        order.push(step.node)?;
+    }
+    Ok(order)
 }
 
 // The node to which one below a node of the position `above` jumps: as far as the next two jumps from there together, where these are

@@ -1,17 +1,19 @@
 //! A tree of nodes and links with members on some nodes, and the ways in it.
-ghost use Rattle.std.specs.Prelude.{◌≡◌, ◌≢◌, ℕ, ◌+◌, ◌<◌, ◌≤◌, not, ◌∷◌, Some, IfOk, length, slice_get};
+ghost use Rattle.std.specs.Prelude.{◌≡◌, ◌≢◌, ◌<◌, ◌≤◌, not, ◌∷◌, Some, IfOk, length, slice_get};
 ghost use Rattle.std.specs.List.{list_any};
 ghost use Rattle.srm_net.specs.Limits.{end_of_time, greatest_distance};
 ghost use Rattle.srm_net.specs.declared.link.LinkSpec.{LinkSpec};
 ghost use Rattle.srm_net.specs.Network.{IsNetwork};
-ghost use Rattle.srm_net.specs.Paths.{host, route, end_of, delay_along, distance, stop, stops, takes_out};
+ghost use Rattle.srm_net.specs.Paths.{host, route, end_of, delay_along, distance, stops, takes_out};
 ghost use Rattle.srm_net.specs.Listed.{is_listed_somewhere};
-ghost use Rattle.srm_net.specs.Spreads.{comes_to, AreKnown, TellsComing};
-ghost use Rattle.srm_net.specs.Least.{least_delay, out};
-ghost use Rattle.srm_net.specs.Tables.{is_beyond, TellsSides, TellsAllSides, TellsOuts};
+ghost use Rattle.srm_net.specs.Spreads.{TellsComing};
+ghost use Rattle.srm_net.specs.Least.{least_delay};
+ghost use Rattle.srm_net.specs.Tables.{is_beyond, TellsAllSides, TellsOuts};
 
 use crate::drops::Drops;
 use crate::link::LinkSpec;
+use crate::occupied::Occupied;
+use crate::outs;
 use crate::packet::PacketId;
 use crate::rooted::Rooted;
 use crate::sending::Sending;
@@ -162,58 +164,12 @@ impl Tree {
         requires listed { packet.is_listed ≡ is_listed_somewhere drops.now.listed packet.id }
         ensures { IfOk result (λ comes. TellsComing self.now (takes_out drops.now packet.id) packet.from packet.sent comes.items) }
     {
-        let mut known = vec![in alloc; None; usize::from(self.nodes)]?;
-        let mut comes = Vec::with_capacity(alloc, usize::from(self.nodes))?;
-        for node in 0..self.nodes {
-            comes.push(self.comes_to(drops, packet, known.as_mut_slice(), node))?;
+        let arrivals = self.rooted.arrivals(alloc, drops, packet)?;
+        let mut comes = Vec::with_capacity(alloc, arrivals.len())?;
+        for arrival in &arrivals {
+            comes.push(arrival.is_some())?;
         }
         Ok(comes)
-    }
-
-    /// Whether a packet comes to a node. The nodes of which this is known already are not asked again; those of the way to this one are
-    /// known then.
-    fn comes_to(
-        &self,
-        drops: &Drops,
-        packet: Sending,
-        known: &mut [Option<bool>],
-        node: u16,
-    ) -> bool
-        requires sent { packet.sent < end_of_time }
-        requires from { packet.from < self.now.nodes }
-        requires node { node < self.now.nodes }
-        requires listed { packet.is_listed ≡ is_listed_somewhere drops.now.listed packet.id }
-        requires size { length known.old ≡ self.now.nodes }
-        requires known { AreKnown self.now (takes_out drops.now packet.id) packet.from packet.sent known.old }
-        ensures value { result ≡ comes_to self.now (takes_out drops.now packet.id) packet.from packet.sent node }
-        ensures size { length known.new ≡ self.now.nodes }
-        ensures known { AreKnown self.now (takes_out drops.now packet.id) packet.from packet.sent known.new }
-    {
-        let _ = &self.nodes; // a tree: so the way to a node is that to the one before it, and one link more
-        if node == packet.from {
-            return true;
-        }
-        if let Some(comes) = known[usize::from(node)] {
-            return comes;
-        }
-        let (link, parent) = self.first_step(node, packet.from);
-        let comes = self.comes_to(drops, packet, known, parent)
-            && !self.is_taken_out(drops, packet, link, parent);
-        known[usize::from(node)] = Some(comes);
-        comes
-    }
-
-    /// Whether a link takes out a packet that comes to it at its end `near`.
-    fn is_taken_out(&self, drops: &Drops, packet: Sending, link: u16, near: u16) -> bool
-        requires sent { packet.sent < end_of_time }
-        requires from { packet.from < self.now.nodes }
-        requires near { near < self.now.nodes }
-        requires listed { packet.is_listed ≡ is_listed_somewhere drops.now.listed packet.id }
-        ensures { result ≡ takes_out drops.now packet.id (stop link (packet.sent
-            + delay_along self.now.links packet.from (route self.now packet.from near))) }
-    {
-        let at = packet.sent + self.delay(packet.from, near);
-        drops.takes_out_of(packet.is_listed, packet.id, link, at)
     }
 
     /// Whether a node is beyond a link, as seen from the link's end `a`.
@@ -233,64 +189,23 @@ impl Tree {
         }
     }
 
-    /// Whether members are on the two sides of a link.
-    pub(crate) fn sides_of(&self, link: u16) -> Sides
-        requires { link < length self.now.links }
-        ensures { (k : LinkSpec) → slice_get self.now.links link ≡ Some k → TellsSides self.now link k result }
-    {
-        let mut sides = Sides { a: false, b: false };
-        for m in 0..self.members() {
-            if sides.a && sides.b {
-                return sides;
-            }
-            if self.is_beyond(link, self.host(m)) {
-                sides.b = true;
-            } else {
-                sides.a = true;
-            }
-        }
-        sides
-    }
-
-    /// The least distance from a member to another, in ticks, or none where there is no other.
-    pub(crate) fn out_of(&self, m: u16) -> Option<u64>
-        requires { m < length self.now.hosts }
-        ensures { result ≡ out self.now m }
-    {
-        let mut least = None;
-        for b in 0..self.members() {
-            if b == m {
-                continue;
-            }
-            let distance = self.distance(m, b);
-            least = match least {
-                None => Some(distance),
-                Some(known) => Some(known.min(distance)),
-            };
-        }
-        least
-    }
-
-    /// Whether members are on the two sides of each link.
+    /// Whether members are on the two sides of each link. It takes a number of steps that grows as the numbers of nodes and members.
     pub(crate) fn all_sides(&self, alloc: Global) -> Result<Vec<Sides>, AllocError>
         ensures { IfOk result (λ all. TellsAllSides self.now all.items) }
     {
+        let occupied = Occupied::of(alloc, &self.rooted, self.hosts.as_slice())?;
         let mut all = Vec::new(alloc);
         for link in 0..self.links().len() as u16 {
-            all.push(self.sides_of(link))?;
+            all.push(occupied.sides(&self.rooted, self.link(link)))?;
         }
         Ok(all)
     }
 
-    /// Each member's least distance to another.
+    /// Each member's least distance to another. It takes a number of steps that grows as the numbers of nodes and members.
     pub(crate) fn all_outs(&self, alloc: Global) -> Result<Vec<Option<u64>>, AllocError>
         ensures { IfOk result (λ all. TellsOuts self.now all.items) }
     {
-        let mut all = Vec::new(alloc);
-        for m in 0..self.members() {
-            all.push(self.out_of(m))?;
-        }
-        Ok(all)
+        outs::all_outs(alloc, &self.rooted, self.hosts.as_slice())
     }
 
     /// The least delay of a link in either direction, in ticks, or none where there is no link.

@@ -3,11 +3,15 @@ ghost use Rattle.std.specs.Prelude.{◌≡◌, ◌<◌, ◌≤◌, length, All, 
 ghost use Rattle.srm_net.specs.Limits.{greatest_distance};
 ghost use Rattle.srm_scenario.specs.Plain.{network_of};
 ghost use Rattle.srm_member.specs.Fit.{IsBounded};
-ghost use Rattle.srm_roles.specs.Opening.{half_rounds_from, fixed_of};
+ghost use Rattle.srm_scenario.specs.Accepted.{HasRoom};
+ghost use Rattle.srm_roles.specs.Opening.{factor_of, limits_of, half_rounds_from, fixed_of};
 
+use srm_member::backoff::BackoffFactor;
 use srm_member::fixed::Fixed;
+use srm_member::limits::Limits;
 use srm_net::net::Net;
 use srm_net::sequence::Sequence;
+use srm_scenario::parts::Room;
 use srm_scenario::scenario::Scenario;
 use std::alloc::{AllocError, Global};
 
@@ -31,19 +35,44 @@ pub fn fixed_of(
     let dist = half_rounds(alloc, net, m)?;
     let member = scenario.member(m);
     let pages = member.pages.clone()?;
-    let constants = scenario.constants();
+    let first = scenario.constants();
+    let Room {
+        least,
+        most,
+        backoff,
+    } = scenario.room();
     Ok(Fixed {
         member: m,
         role: member.role,
-        c1: constants.c1,
-        c2: constants.c2,
-        d1: constants.d1,
-        d2: constants.d2,
+        backoff: factor_of(backoff),
+        c1: limits_of(first.c1, least.c1, most.c1),
+        c2: limits_of(first.c2, least.c2, most.c2),
+        d1: limits_of(first.d1, least.d1, most.d1),
+        d2: limits_of(first.d2, least.d2, most.d2),
         dist,
         pages,
         seed,
         stream: member.stream,
     })
+}
+
+// The factor of backoffs that a scenario's number names.
+fn factor_of(backoff: u64) -> BackoffFactor
+    ensures { result ≡ factor_of backoff }
+{
+    if backoff == 3 {
+        BackoffFactor::Three
+    } else {
+        BackoffFactor::Two
+    }
+}
+
+// A constant of timers, with the least and the most that it is adapted to.
+fn limits_of(first: u64, least: u64, most: u64) -> Limits
+    requires { HasRoom least first most }
+    ensures { result ≡ limits_of first least most }
+{
+    Limits::new(first as u32, least as u32, most as u32)
 }
 
 // Half the round trip between a member and each member in turn, rounded down, in ticks.

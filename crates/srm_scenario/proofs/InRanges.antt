@@ -1,9 +1,8 @@
 -- The ranges of a file's keys are those of the scenario.
-use Rattle.std.proofs.Common.{◌≡◌, ℕ, zero, suc, ◌+◌, ◌-◌, Bool, true, false, cond, List, [], ◌∷◌, map, Option, Some}
+use Rattle.std.proofs.Common.{◌≡◌, ℕ, zero, suc, ◌+◌, ◌-◌, Bool, true, false, List, [], ◌∷◌, map, Option, Some}
 use Rattle.std.proofs.Common.{None, is_some, unwrap_or, codes, refl, sym, ap, ◌∙◌, subst, arith}
 use Rattle.std.proofs.lemmas.Bool.{false≢true}
 use Rattle.std.specs.List.{AllByRecursion}
-use Rattle.std.specs.Option.{option_and_then}
 use Rattle.toml.specs.Data.{Data, Members, string, integer, float, boolean, datetime, array, table, get_member}
 use Rattle.srm_net.specs.declared.link.LinkSpec.{LinkSpec}
 use Rattle.srm_net.specs.Network.{IsLinkDelay, HasDelays}
@@ -17,10 +16,10 @@ use Rattle.srm_scenario.specs.declared.topology.Topology.{Topology}
 use Rattle.srm_scenario.specs.declared.version.Version.{Version}
 use Rattle.srm_scenario.specs.declared.key.Key.TheVariants as key
 use Rattle.srm_scenario.specs.declared.rule.Kind.TheVariants.{Whole}
-use Rattle.srm_scenario.specs.declared.rule.Need.TheVariants.{Optional, Refused}
+use Rattle.srm_scenario.specs.declared.rule.Need.TheVariants.{Optional}
 use Rattle.srm_scenario.specs.declared.rule.Rule.{Rule}
 use Rattle.srm_scenario.specs.KeyLimits.{greatest_delay, last_stream}
-use Rattle.srm_scenario.specs.Rules.{rule, meets, allows_back, back_rule, is_met, fits, fits_element, link_rules, member_rules}
+use Rattle.srm_scenario.specs.Rules.{rule, allows_back, back_rule, is_met, fits, fits_element, link_rules, member_rules}
 use Rattle.srm_scenario.specs.Described.{version_of, back_at, delays_of, number_of, number, array_of, array_at, table_of}
 use Rattle.srm_scenario.specs.Described.{link_of, member_of, elements_at, links_to_parents, nodes_in, links_in, described_scenario}
 use Rattle.srm_scenario.specs.Described.{topology_of}
@@ -30,7 +29,7 @@ use Rattle.srm_scenario.specs.Plain.{drop_rules_of}
 use Rattle.srm_scenario.specs.Drafts.{IsDraft, links_listed, plain_of}
 use Rattle.srm_scenario.specs.Ranges.{MemberInRange, HasItsPages, InRange}
 use Rattle.srm_scenario.proofs.Acceptance.{empty_parts, none_by}
-use Rattle.srm_scenario.proofs.KeyRanges.{number_fits, optional_bound, rule_met, whole_number}
+use Rattle.srm_scenario.proofs.KeyRanges.{number_fits, optional_bound, or_fits, rule_met}
 use Rattle.srm_net.specs.Limits.{end_of_time}
 
 -- ---- elements
@@ -60,13 +59,7 @@ read_elements P p reading rules f ds h = all_read P reading rules f ds (none_by 
 -- the second delay of a link is in range, where it is given or the first is in range
 pub back_fits : (m : Members) (allowed : Bool) → is_met m (back_rule allowed) ≡ true → IsLinkDelay (number (codes "delay") m)
     → IsLinkDelay (back_at m)
-back_fits m allowed h delay = by (get_member (codes "back") m) allowed h
-  where
-    by : (o : Option Data) (b : Bool) → meets (cond b Optional Refused) (Whole 1 greatest_delay) o ≡ true
-        → IsLinkDelay (unwrap_or (option_and_then number_of o) (number (codes "delay") m))
-    by None b e = delay
-    by (Some d) true e = whole_number 1 greatest_delay (number (codes "delay") m) d e
-    by (Some d) false e = absurd (false≢true e)
+back_fits m allowed h delay = or_fits allowed key.Back 1 greatest_delay (number (codes "delay") m) m h delay.0 delay.1
 
 link_delay : (v : Version) (m : Members) → fits (link_rules v) m ≡ true → HasDelays (link_of m)
 link_delay v m h =
@@ -173,6 +166,7 @@ described_is ms l h =
     λ i. record {
       until = h.until i;
       constants = h.constants i;
+      room = h.room i;
       nodes = h.nodes i;
       links = links i;
       members = members i;

@@ -1,6 +1,6 @@
 -- What a rule that is met says of the number at its key.
-use Rattle.std.proofs.Common.{◌≡◌, ℕ, zero, suc, ◌≤◌, Bool, true, pos, negsuc, List, [], ◌∷◌, Option, Some, None, unwrap_or, nat_le}
-use Rattle.std.proofs.Common.{slice_get, subst, arith}
+use Rattle.std.proofs.Common.{◌≡◌, ℕ, zero, suc, ◌≤◌, Bool, true, false, cond, pos, negsuc, List, [], ◌∷◌, Option, Some, None}
+use Rattle.std.proofs.Common.{unwrap_or, nat_le, slice_get, subst, arith}
 use Rattle.std.proofs.lemmas.Bool.{and_parts, false≢true}
 use Rattle.std.proofs.lemmas.Bool.Decides.{nat_tests}
 use Rattle.std.specs.List.{list_all}
@@ -8,10 +8,10 @@ use Rattle.std.specs.Option.{option_and_then}
 use Rattle.toml.specs.Data.{Data, Members, string, integer, float, boolean, datetime, array, table, get_member}
 use Rattle.srm_scenario.specs.declared.key.Key.{Key}
 use Rattle.srm_scenario.specs.declared.rule.Kind.TheVariants.{Whole}
-use Rattle.srm_scenario.specs.declared.rule.Need.TheVariants.{Required, Optional}
+use Rattle.srm_scenario.specs.declared.rule.Need.TheVariants.{Required, Optional, Refused}
 use Rattle.srm_scenario.specs.declared.rule.Rule.{Rule}
 use Rattle.srm_scenario.specs.Keys.{name_of}
-use Rattle.srm_scenario.specs.Rules.{rule, meets, is_met, is_whole, has_only, fits}
+use Rattle.srm_scenario.specs.Rules.{rule, rule_if, meets, is_met, is_whole, has_only, fits}
 use Rattle.srm_scenario.specs.Described.{number_of, optional_number, number}
 
 whole_range : (low high : ℕ) (d : Data) → is_whole low high d ≡ true → (n : ℕ) → number_of d ≡ Some n → (low ≤ n) × (n ≤ high)
@@ -56,6 +56,18 @@ optional_bound key low high ms h = by (get_member (name_of key) ms) h
     by : (o : Option Data) → meets Optional (Whole low high) o ≡ true → (n : ℕ) → option_and_then number_of o ≡ Some n → n ≤ high
     by None e n f = cc
     by (Some d) e n f = let r = whole_range low high d e n f in r.1
+
+-- a number that a version may have at a key is in its range, or another one, in the same range, stands for it
+pub or_fits : (allowed : Bool) (key : Key) (low high other : ℕ) (ms : Members)
+    → is_met ms (rule_if allowed key (Whole low high)) ≡ true → low ≤ other → other ≤ high
+    → (low ≤ unwrap_or (optional_number (name_of key) ms) other) × (unwrap_or (optional_number (name_of key) ms) other ≤ high)
+or_fits allowed key low high other ms h least most = by (get_member (name_of key) ms) allowed h
+  where
+    by : (o : Option Data) (b : Bool) → meets (cond b Optional Refused) (Whole low high) o ≡ true
+        → (low ≤ unwrap_or (option_and_then number_of o) other) × (unwrap_or (option_and_then number_of o) other ≤ high)
+    by None b e = (least, most)
+    by (Some d) true e = whole_number low high other d e
+    by (Some d) false e = absurd (false≢true e)
 
 -- ---- the rules of a table
 

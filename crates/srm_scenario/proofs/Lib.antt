@@ -17,3 +17,4 @@ pub mod TopFits
 pub mod TableAnswers
 pub mod Texts
 pub mod TopologyTrees
+pub mod TakenNodes

@@ -1,7 +1,7 @@
 -- The faults of what is listed, one check after the other.
 use Rattle.std.proofs.Common.{◌≡◌, ◌⊎◌, Bool, true, false, List, [], ◌++◌, length, map, Some, refl, sym, ap, ◌∙◌, subst, inl, inr}
 use Rattle.srm_net.specs.declared.link.LinkSpec.{LinkSpec}
-use Rattle.srm_net.specs.Network.{plain_network, HasDelays}
+use Rattle.srm_net.specs.Network.{plain_network}
 use Rattle.srm_net.specs.DropRules.{DropRules}
 use Rattle.srm_scenario.specs.declared.fault.ScenarioFault.{ScenarioFault}
 use Rattle.srm_scenario.specs.declared.fault.ScenarioFault.TheVariants.{NoMemory, NotTree, BadDraw, BadSession, BadDrop, BadOutage}
@@ -76,9 +76,9 @@ tree_fault l links e same (inr (is, wrong)) =
 
 module _ (l : Draft) (links : List LinkSpec) (e : ScenarioFault) (same : links ≡ links_listed l.topology l.nodes l.delays l.links.items)
     (tree : is_tree (plain_network l.nodes links []) ≡ true) where
-  pub place_fault : first (Placed l) ≡ Some e → IsFault e (faults_in l)
+  pub place_fault : IsFault e (Placed l) → IsFault e (faults_in l)
   unfolding meaning_faults plain_of
-  place_fault h = later (Tree l) _ e (no_tree_fault l links same tree) (here (Placed l) _ e (inr h))
+  place_fault h = later (Tree l) _ e (no_tree_fault l links same tree) (here (Placed l) _ e h)
 
   module _ (members : List MemberSpec) (members_are : members ≡ map (λ e. e.spec) l.members.items) (placed : Placed l ≡ []) where
     made : Made l links members
@@ -134,6 +134,7 @@ pub plain_made : (l : Draft) (links : List LinkSpec) (members : List MemberSpec)
     → ◌≡◌ {A = PlainScenario} (record {
       until = l.until;
       constants = l.constants;
+      room = l.room;
       nodes = l.nodes;
       links = links;
       members = members;
@@ -146,6 +147,7 @@ unfolding plain_of
 plain_made l links members drops m same = λ i. record {
   until = l.until;
   constants = l.constants;
+      room = l.room;
   nodes = l.nodes;
   links = m.links_are i;
   members = m.members_are i;
@@ -159,9 +161,3 @@ pub accepted_made : (l : Draft) → InRange (plain_of l) → AllByRecursion HasI
     → IsAccepted (plain_of l)
 unfolding plain_of
 accepted_made l range pages none = accepted_from (plain_of l) (is_star l.topology) l.members.items l.drops.items range pages refl refl none
-
--- the delays of the links that are made
-pub delays_made : (l : Draft) (links : List LinkSpec) → links ≡ links_listed l.topology l.nodes l.delays l.links.items
-    → InRange (plain_of l) → AllByRecursion HasDelays links
-unfolding plain_of
-delays_made l links same range = subst (λ (ks : List LinkSpec). AllByRecursion HasDelays ks) (sym same) range.delays

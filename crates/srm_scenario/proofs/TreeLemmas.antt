@@ -4,11 +4,11 @@ use Rattle.std.proofs.Common.{nat_lt, refl, ap, arith, inl, inr, eqb}
 use Rattle.std.proofs.lemmas.Bool.{and_parts, cases_Bool, false≢true, and_from}
 use Rattle.std.proofs.lemmas.Bool.Decides.{nat_tests}
 use Rattle.std.proofs.lemmas.List.Elements.{recursion_from_All, All-from_recursion}
-use Rattle.std.specs.List.{list_all, AllByRecursion, IsDistinct}
+use Rattle.std.specs.List.{list_all, AllByRecursion}
 use Rattle.std.specs.Prelude.{◌&&◌, ◌==◌}
 use Rattle.srm_net.specs.declared.link.LinkSpec.{LinkSpec}
 use Rattle.srm_net.specs.Limits.{most_nodes}
-use Rattle.srm_net.specs.Network.{Network, IsWithin, IsPath, IsTree, AreHosts, plain_network}
+use Rattle.srm_net.specs.Network.{Network, IsWithin, IsPath, IsTree, plain_network}
 use Rattle.srm_net.specs.Paths.{route_within}
 use Rattle.srm_net.proofs.Numbers.{apart_from_distinct, distinct_from_apart}
 use Rattle.srm_net.proofs.RouteLemmas.{Found, found_path, path_found, path_length}
@@ -102,8 +102,3 @@ without_hosts n links a b = refl
 -- a test that is not passed, where there is no tree
 pub not_tree : (w : Network) → (IsTree w → ⊥) → is_tree w ≡ false
 not_tree w h = elim (cases_Bool (is_tree w)) [ inl e ↦ absurd (h (tree_from_test w e)) | inr e ↦ e ]
-
--- no hosts are hosts
-pub no_hosts : (n : ℕ) → AreHosts n []
-unfolding IsDistinct
-no_hosts n = (All-from_recursion (λ k. k < n) [] tt, tt)

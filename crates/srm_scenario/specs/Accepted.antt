@@ -7,18 +7,26 @@ use Rattle.srm_net.specs.Orders.{Ascends}
 use Rattle.srm_net.specs.Network.{IsNetwork}
 use Rattle.srm_net.specs.Paths.{drop_cmp}
 use Rattle.srm_scenario.specs.declared.parts.Constants.{Constants}
+use Rattle.srm_scenario.specs.declared.parts.Room.{Room}
 use Rattle.srm_scenario.specs.declared.parts.MemberSpec.{MemberSpec}
 use Rattle.srm_scenario.specs.declared.parts.DrawSpec.{DrawSpec}
 use Rattle.srm_scenario.specs.declared.parts.SessionSpec.{SessionSpec}
 use Rattle.srm_scenario.specs.Plain.{PlainScenario, network_of}
-use Rattle.srm_net.specs.Limits.{end_of_time, greatest_constant, most_listed}
+use Rattle.srm_scenario.specs.KeyLimits.{greatest_limit}
+use Rattle.srm_net.specs.Limits.{end_of_time, most_listed}
 
--- each constant is at most 64,000 thousandths
-pub record AreConstants (c : Constants) : Type 0 where
-  pub c1 : c.c1 ≤ greatest_constant
-  pub c2 : c.c2 ≤ greatest_constant
-  pub d1 : c.d1 ≤ greatest_constant
-  pub d2 : c.d2 ≤ greatest_constant
+-- a constant begins within its limits, which are at most 1,024,000 thousandths
+abbrev pub HasRoom : ℕ → ℕ → ℕ → Type 0
+HasRoom least first most = (least ≤ first) × (first ≤ most) × (most ≤ greatest_limit)
+
+-- each constant begins within its limits, and backoffs make timers twice or three times as long
+pub record AreConstants (c : Constants) (room : Room) : Type 0 where
+  pub c1 : HasRoom room.least.c1 c.c1 room.most.c1
+  pub c2 : HasRoom room.least.c2 c.c2 room.most.c2
+  pub d1 : HasRoom room.least.d1 c.d1 room.most.d1
+  pub d2 : HasRoom room.least.d2 c.d2 room.most.d2
+  pub twice : 2 ≤ room.backoff
+  pub thrice : room.backoff ≤ 3
 
 -- a member joins before the end of the run and before it leaves, and pages are a late member's alone
 pub record IsMember (until : ℕ) (m : MemberSpec) : Type 0 where
@@ -54,7 +62,7 @@ IsOutage s o = (o.link < length s.links) × (o.from < o.to)
 pub record IsAccepted (s : PlainScenario) : Type 0 where
   pub some_ticks : 1 ≤ s.until
   pub few_ticks : s.until ≤ end_of_time
-  pub constants : AreConstants s.constants
+  pub constants : AreConstants s.constants s.room
   pub network : IsNetwork (network_of s)
   pub members : All (IsMember s.until) s.members
   pub draws : All (IsDraw s) s.draws

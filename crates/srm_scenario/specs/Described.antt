@@ -9,12 +9,13 @@ use Rattle.srm_net.specs.declared.link.LinkSpec.{LinkSpec}
 use Rattle.srm_net.specs.declared.link.DropSpec.{DropSpec}
 use Rattle.srm_net.specs.declared.link.OutageSpec.{OutageSpec}
 use Rattle.srm_scenario.specs.declared.parts.Constants.{Constants}
+use Rattle.srm_scenario.specs.declared.parts.Room.{Room}
 use Rattle.srm_scenario.specs.declared.parts.MemberSpec.{MemberSpec}
 use Rattle.srm_scenario.specs.declared.parts.DrawSpec.{DrawSpec}
 use Rattle.srm_scenario.specs.declared.parts.SessionSpec.{SessionSpec}
 use Rattle.srm_scenario.specs.declared.delays.Delays.{Delays}
 use Rattle.srm_scenario.specs.declared.version.Version.{Version}
-use Rattle.srm_scenario.specs.declared.version.Version.TheVariants.{One, Two}
+use Rattle.srm_scenario.specs.declared.version.Version.TheVariants.{One, Two, Three}
 use Rattle.srm_scenario.specs.declared.topology.Topology.{Topology}
 use Rattle.srm_scenario.specs.declared.topology.Topology.TheVariants.{Chain, Star, Tree}
 use Rattle.srm_scenario.specs.Plain.{PlainScenario, drop_rules_of}
@@ -39,6 +40,10 @@ abbrev pub is_text_or : List ℕ → Option Data → Bool
 is_text_or w None = false
 is_text_or w (Some d) = is_text w d
 
+-- the whole number at a key, or that at another key where there is none
+abbrev pub number_or : List ℕ → List ℕ → Members → ℕ
+number_or key other ms = unwrap_or (optional_number key ms) (number other ms)
+
 -- whether this word stands at a key
 abbrev pub says : List ℕ → List ℕ → Members → Bool
 says key w ms = is_text_or w (get_member key ms)
@@ -62,13 +67,14 @@ table_of d = no_members
 
 -- the version of the format that a file names
 abbrev pub version_of : Members → Version
-version_of ms = if number (codes "version") ms == 2 then Two else One
+version_of ms =
+    if number (codes "version") ms == 3 then Three else if number (codes "version") ms == 2 then Two else One
 
 -- ---- elements
 
 -- the delay in the other direction, which is the same where none is given for it
 abbrev pub back_at : Members → ℕ
-back_at ms = unwrap_or (optional_number (codes "back") ms) (number (codes "delay") ms)
+back_at ms = number_or (codes "back") (codes "delay") ms
 
 abbrev pub link_of : Members → LinkSpec
 link_of ms = record {
@@ -176,10 +182,36 @@ constants_of ms = record {
   d2 = number (codes "d2") ms;
 }
 
+-- the least values of the constants: the first ones where none are given
+abbrev pub least_of : Members → Constants
+least_of ms = record {
+  c1 = number_or (codes "c1_least") (codes "c1") ms;
+  c2 = number_or (codes "c2_least") (codes "c2") ms;
+  d1 = number_or (codes "d1_least") (codes "d1") ms;
+  d2 = number_or (codes "d2_least") (codes "d2") ms;
+}
+
+-- the greatest values of the constants: the first ones where none are given
+abbrev pub most_of : Members → Constants
+most_of ms = record {
+  c1 = number_or (codes "c1_most") (codes "c1") ms;
+  c2 = number_or (codes "c2_most") (codes "c2") ms;
+  d1 = number_or (codes "d1_most") (codes "d1") ms;
+  d2 = number_or (codes "d2_most") (codes "d2") ms;
+}
+
+abbrev pub room_of : Members → Room
+room_of ms = record {
+  least = least_of ms;
+  most = most_of ms;
+  backoff = unwrap_or (optional_number (codes "backoff") ms) 2;
+}
+
 unfoldable pub described_scenario : Members → PlainScenario
 described_scenario ms = record {
   until = number (codes "until") ms;
   constants = constants_of ms;
+  room = room_of ms;
   nodes = nodes_in (topology_of ms) ms;
   links = links_in (topology_of ms) ms;
   members = elements_at (codes "member") member_of ms;

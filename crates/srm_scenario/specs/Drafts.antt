@@ -8,8 +8,8 @@ use Rattle.srm_scenario.specs.declared.delays.Delays.{Delays}
 use Rattle.srm_scenario.specs.declared.topology.Topology.{Topology}
 use Rattle.srm_scenario.specs.Accepted.{AreConstants}
 use Rattle.srm_scenario.specs.Plain.{PlainScenario, drop_rules_of}
-use Rattle.srm_scenario.specs.Described.{number, constants_of, topology_of, delays_of, nodes_in, elements_at, link_of}
-use Rattle.srm_scenario.specs.Described.{draw_of, session_of, listed_drops, outages_in, links_to_parents}
+use Rattle.srm_scenario.specs.Described.{number, constants_of, room_of, topology_of, delays_of, nodes_in, elements_at}
+use Rattle.srm_scenario.specs.Described.{link_of, draw_of, session_of, listed_drops, outages_in, links_to_parents}
 use Rattle.srm_scenario.specs.Faults.{key_faults, meaning_faults, is_star, entry_of}
 use Rattle.srm_scenario.specs.LookUps.{HasDegree, AreDelays}
 use Rattle.srm_net.specs.Limits.{end_of_time, most_listed}
@@ -21,7 +21,8 @@ pub record IsDraft (ms : Members) (l : Draft) : Type 0 where
   pub some_ticks : 1 ≤ l.until
   pub few_ticks : l.until ≤ end_of_time
   pub constants : constants_of ms ≡ l.constants
-  pub constants_fit : AreConstants l.constants
+  pub room : room_of ms ≡ l.room
+  pub constants_fit : AreConstants l.constants l.room
   pub topology : topology_of ms ≡ l.topology
   pub degree : HasDegree l.topology
   pub nodes : nodes_in (topology_of ms) ms ≡ l.nodes
@@ -49,6 +50,7 @@ unfoldable pub plain_of : Draft → PlainScenario
 plain_of l = record {
   until = l.until;
   constants = l.constants;
+  room = l.room;
   nodes = l.nodes;
   links = links_listed l.topology l.nodes l.delays l.links.items;
   members = map (λ e. e.spec) l.members.items;

@@ -29,7 +29,7 @@ use Rattle.srm_scenario.specs.Rules.{top_rules, link_rules, member_rules, draw_r
 use Rattle.srm_scenario.specs.Rules.{outage_rules, fits, fits_element}
 use Rattle.srm_scenario.specs.Presence.{is_present}
 use Rattle.srm_scenario.specs.Described.{version_of, member_of, says, array_at, table_of, elements_at, topology_of}
-use Rattle.srm_scenario.specs.Described.{listed_drops, described_scenario}
+use Rattle.srm_scenario.specs.Described.{constants_of, listed_drops, described_scenario}
 
 -- one fault for each element that fails a test, at its place, the first element being at place i
 abbrev pub faults_by : {A : Type 0} → (ℕ → ScenarioFault) → (A → Bool) → ℕ → List A → List ScenarioFault
@@ -60,9 +60,9 @@ accepted rules reading ms = if fits rules ms then Some (reading ms) else None
 abbrev pub accepted_element : {A : Type 0} → List Rule → (Members → A) → Data → Option A
 accepted_element rules reading d = if fits_element rules d then Some (reading (table_of d)) else None
 
--- the top table's rules, by its version and the topology that it names
+-- the top table's rules, by its version, the first values of the constants, and the topology that it names
 abbrev pub rules_of_top : Members → List Rule
-rules_of_top ms = top_rules (version_of ms) (is_some (get_member (codes "topology") ms))
+rules_of_top ms = top_rules (version_of ms) (constants_of ms) (is_some (get_member (codes "topology") ms))
     (says (codes "topology") (codes "tree") ms)
 
 abbrev pub top_faults : Members → List ScenarioFault

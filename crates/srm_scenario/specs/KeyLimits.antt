@@ -5,6 +5,10 @@ use Rattle.std.specs.Prelude.{ℕ}
 abbrev pub greatest_delay : ℕ
 greatest_delay = 1000000
 
+-- the greatest value of a constant of timers that members adapt, in thousandths
+abbrev pub greatest_limit : ℕ
+greatest_limit = 1024000
+
 -- the last number of a page, of an ink, and of a packet of a sender that a drop names
 abbrev pub last_page : ℕ
 last_page = 65535

@@ -14,3 +14,4 @@ pub mod Scripts
 pub mod Drafts
 pub mod Ranges
 pub mod Topologies
+pub mod Taken

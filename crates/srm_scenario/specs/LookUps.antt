@@ -7,8 +7,10 @@ use Rattle.srm_scenario.specs.declared.version.Version.{Version}
 use Rattle.srm_scenario.specs.declared.topology.Topology.{Topology}
 use Rattle.srm_scenario.specs.declared.topology.Topology.TheVariants.{Tree}
 use Rattle.srm_scenario.specs.declared.parts.Constants.{Constants}
+use Rattle.srm_scenario.specs.declared.parts.Room.{Room}
 use Rattle.srm_scenario.specs.Accepted.{AreConstants}
 use Rattle.srm_scenario.specs.Described.{number, array_at, version_of, topology_of, delays_of, constants_of, nodes_in}
+use Rattle.srm_scenario.specs.Described.{room_of}
 use Rattle.srm_net.specs.Limits.{end_of_time, most_listed}
 
 -- the degree of a tree is 2 to 1,023
@@ -16,14 +18,16 @@ abbrev pub HasDegree : Option Topology → Type 0
 HasDegree (Some (Tree degree)) = (2 ≤ degree) × (degree ≤ 1023)
 HasDegree t = Unit {0}
 
--- the table's version, end of the run and constants
-pub record HasNumbers (ms : Members) (version : Version) (until : ℕ) (constants : Constants) : Type 0 where
-  pub version_is : version_of ms ≡ version
-  pub until_is : number (codes "until") ms ≡ until
-  pub some_ticks : 1 ≤ until
-  pub few_ticks : until ≤ end_of_time
-  pub constants_are : constants_of ms ≡ constants
-  pub constants_fit : AreConstants constants
+-- the table's version, end of the run, constants and their room
+pub record HasNumbers (ms : Members) (version : Version) (until : ℕ) (constants : Constants) (room : Room) : Type 0
+  where
+    pub version_is : version_of ms ≡ version
+    pub until_is : number (codes "until") ms ≡ until
+    pub some_ticks : 1 ≤ until
+    pub few_ticks : until ≤ end_of_time
+    pub constants_are : constants_of ms ≡ constants
+    pub room_is : room_of ms ≡ room
+    pub constants_fit : AreConstants constants room
 
 -- the delays of a topology's links are 1 to 1,000,000
 abbrev pub AreDelays : Option Topology → Delays → Type 0

@@ -13,15 +13,18 @@ use Rattle.srm_net.specs.DropRules.{DropRules}
 use Rattle.srm_net.specs.Paths.{drop_cmp}
 use Rattle.srm_scenario.specs.declared.mark.Mark.{Mark}
 use Rattle.srm_scenario.specs.declared.parts.Constants.{Constants}
+use Rattle.srm_scenario.specs.declared.parts.Room.{Room}
 use Rattle.srm_scenario.specs.declared.parts.MemberSpec.{MemberSpec}
 use Rattle.srm_scenario.specs.declared.parts.DrawSpec.{DrawSpec}
 use Rattle.srm_scenario.specs.declared.parts.SessionSpec.{SessionSpec}
 
--- what a run is given: events before `until` are handled. Members, links, draws and sessions are numbered in their
--- lists' order, listed drops stand in rising order, each once, and outages in the order of their list
+-- what a run is given: events before `until` are handled, and members adapt the constants of their timers within their
+-- room. Members, links, draws and sessions are numbered in their lists' order, listed drops stand in rising order, each
+-- once, and outages in the order of their list
 pub record PlainScenario : Type 0 where
   pub until : ℕ
   pub constants : Constants
+  pub room : Room
   pub nodes : ℕ
   pub links : List LinkSpec
   pub members : List MemberSpec

@@ -21,7 +21,7 @@ HasItsPages e = e.has_pages ≡ false → e.spec.pages ≡ []
 pub record InRange (s : PlainScenario) : Type 0 where
   pub some_ticks : 1 ≤ s.until
   pub few_ticks : s.until ≤ end_of_time
-  pub constants : AreConstants s.constants
+  pub constants : AreConstants s.constants s.room
   pub delays : AllByRecursion HasDelays s.links
   pub members : AllByRecursion MemberInRange s.members
   pub few_draws : length s.draws ≤ most_listed

@@ -4,10 +4,11 @@ use Rattle.std.specs.Prelude.{codes, map, nat_le, if◌then◌else◌}
 use Rattle.std.specs.List.{list_any, list_all}
 use Rattle.std.specs.Str.{bytes_eq}
 use Rattle.srm_scenario.specs.declared.version.Version.{Version}
-use Rattle.srm_scenario.specs.declared.version.Version.TheVariants.{One, Two}
+use Rattle.srm_scenario.specs.declared.version.Version.TheVariants.{One, Two, Three}
 use Rattle.toml.specs.Data.{Data, Items, Members, integer, string, array, table, no_items, item, no_members, member}
 use Rattle.toml.specs.Data.{get_member}
 use Rattle.srm_net.specs.Limits.{end_of_time, greatest_constant, most_listed}
+use Rattle.srm_scenario.specs.declared.parts.Constants.{Constants}
 use Rattle.srm_scenario.specs.declared.key.Key.{Key}
 use Rattle.srm_scenario.specs.declared.key.Key.TheVariants as key
 use Rattle.srm_scenario.specs.declared.rule.Kind.{Kind}
@@ -18,7 +19,8 @@ use Rattle.srm_scenario.specs.declared.rule.Rule.{Rule}
 use Rattle.srm_scenario.specs.declared.rule.Words.{Words}
 use Rattle.srm_scenario.specs.declared.rule.Words.TheVariants.{Roles, Topologies}
 use Rattle.srm_scenario.specs.Keys.{name_of}
-use Rattle.srm_scenario.specs.KeyLimits.{greatest_delay, last_count, last_ink, last_page, last_stream, most_pages}
+use Rattle.srm_scenario.specs.KeyLimits.{greatest_delay, greatest_limit, last_count, last_ink, last_page, last_stream}
+use Rattle.srm_scenario.specs.KeyLimits.{most_pages}
 
 -- the words of a set, one of which a key may hold
 abbrev pub spellings_of : Words → List (List ℕ)
@@ -35,6 +37,7 @@ rule key kind need = record { key = key; kind = kind; need = need }
 abbrev pub most_nodes_in : Version → ℕ
 most_nodes_in One = 256
 most_nodes_in Two = 1024
+most_nodes_in Three = 1024
 
 -- the last number that a node, a link or a member may have
 abbrev pub last_number : Version → ℕ
@@ -44,11 +47,25 @@ last_number version = most_nodes_in version - 1
 abbrev pub allows_back : Version → Bool
 allows_back One = false
 allows_back Two = true
+allows_back Three = true
 
 -- whether links may have outages
 abbrev pub allows_outages : Version → Bool
 allows_outages One = false
 allows_outages Two = true
+allows_outages Three = true
+
+-- whether members may adapt the constants of their timers
+abbrev pub allows_limits : Version → Bool
+allows_limits One = false
+allows_limits Two = false
+allows_limits Three = true
+
+-- the greatest first value of a constant of timers, in thousandths
+abbrev pub greatest_constant_in : Version → ℕ
+greatest_constant_in One = greatest_constant
+greatest_constant_in Two = greatest_constant
+greatest_constant_in Three = greatest_limit
 
 -- ---- the table of the format
 
@@ -56,15 +73,37 @@ allows_outages Two = true
 abbrev pub index_rule : Key → Version → Rule
 index_rule k version = rule k (Whole 0 (last_number version)) Required
 
+-- the first value of a constant of timers
+abbrev pub constant_rule : Key → Version → Rule
+constant_rule k version = rule k (Whole 0 (greatest_constant_in version)) Required
+
 -- numbers of the top table
-abbrev pub number_rules : List Rule
-number_rules =
-    rule key.Version (Whole 1 2) Required
+abbrev pub number_rules : Version → List Rule
+number_rules version =
+    rule key.Version (Whole 1 3) Required
     ∷ rule key.Until (Whole 1 end_of_time) Required
-    ∷ rule key.C1 (Whole 0 greatest_constant) Required
-    ∷ rule key.C2 (Whole 0 greatest_constant) Required
-    ∷ rule key.D1 (Whole 0 greatest_constant) Required
-    ∷ rule key.D2 (Whole 0 greatest_constant) Required
+    ∷ constant_rule key.C1 version
+    ∷ constant_rule key.C2 version
+    ∷ constant_rule key.D1 version
+    ∷ constant_rule key.D2 version
+    ∷ []
+
+-- a key that a version has or has not
+abbrev pub rule_if : Bool → Key → Kind → Rule
+rule_if allowed k kind = rule k kind (if allowed then Optional else Refused)
+
+-- the least and the greatest value of each constant of timers, beside its first value, and the factor of backoffs
+abbrev pub limit_rules : Bool → Constants → List Rule
+limit_rules allowed first =
+    rule_if allowed key.C1Least (Whole 0 first.c1)
+    ∷ rule_if allowed key.C2Least (Whole 0 first.c2)
+    ∷ rule_if allowed key.D1Least (Whole 0 first.d1)
+    ∷ rule_if allowed key.D2Least (Whole 0 first.d2)
+    ∷ rule_if allowed key.C1Most (Whole first.c1 greatest_limit)
+    ∷ rule_if allowed key.C2Most (Whole first.c2 greatest_limit)
+    ∷ rule_if allowed key.D1Most (Whole first.d1 greatest_limit)
+    ∷ rule_if allowed key.D2Most (Whole first.d2 greatest_limit)
+    ∷ rule_if allowed key.Backoff (Whole 2 3)
     ∷ []
 
 -- the topology that the top table names, and the degree of its tree
@@ -76,7 +115,7 @@ degree_rule version tree = rule key.Degree (Whole 2 (last_number version)) (if t
 
 -- the second delay of a link, or of each link of a topology
 abbrev pub back_rule : Bool → Rule
-back_rule allowed = rule key.Back (Whole 1 greatest_delay) (if allowed then Optional else Refused)
+back_rule allowed = rule_if allowed key.Back (Whole 1 greatest_delay)
 
 -- nodes and links, in the top table: `shaped` where it names a topology, `tree` where that is a tree
 abbrev pub shape_rules : Version → Bool → Bool → List Rule
@@ -92,7 +131,7 @@ shape_rules version shaped tree =
 
 -- the outages of links
 abbrev pub outage_rule : Bool → Rule
-outage_rule allowed = rule key.Outage (Elements most_listed) (if allowed then Optional else Refused)
+outage_rule allowed = rule_if allowed key.Outage (Elements most_listed)
 
 -- the other arrays of the top table
 abbrev pub array_rules : Version → List Rule
@@ -104,8 +143,12 @@ array_rules version =
     ∷ outage_rule (allows_outages version)
     ∷ []
 
-abbrev pub top_rules : Version → Bool → Bool → List Rule
-top_rules version shaped tree = number_rules ++ (shape_rules version shaped tree ++ array_rules version)
+-- the top table, with these first values of the constants: `shaped` where it names a topology, `tree` where that is a
+-- tree
+abbrev pub top_rules : Version → Constants → Bool → Bool → List Rule
+top_rules version first shaped tree =
+    number_rules version
+    ++ (limit_rules (allows_limits version) first ++ (shape_rules version shaped tree ++ array_rules version))
 
 abbrev pub link_rules : Version → List Rule
 link_rules version =

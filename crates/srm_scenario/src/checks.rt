@@ -1,13 +1,16 @@
 //! Whether the parts of a scenario fit one another.
-ghost use Rattle.std.specs.Prelude.{◌≡◌, [], Some, MatchResult, length};
+ghost use Rattle.std.specs.Prelude.{◌≡◌, ◌<◌, ◌≤◌, List, [], Some, MatchResult, length};
 ghost use Rattle.srm_scenario.specs.declared.fault.ScenarioFault.TheVariants.{BadDraw, BadSession, BadDrop, BadOutage};
-ghost use Rattle.srm_scenario.specs.Faults.{first, faults_by, is_taken, member_faults, fits_member, fits_draw, fits_session, fits_drop, fits_outage};
+ghost use Rattle.srm_scenario.specs.declared.entry.MemberEntry.{MemberEntry};
+ghost use Rattle.srm_scenario.specs.Faults.{first, IsFault, faults_by, is_taken, member_faults, fits_member, fits_draw, fits_session, fits_drop, fits_outage};
+ghost use Rattle.srm_scenario.specs.Taken.{MarksNodes};
 
 use crate::entry::MemberEntry;
 use crate::fault::ScenarioFault;
 use crate::parts::{DrawSpec, MemberSpec, SessionSpec};
 use srm_net::link::{DropSpec, LinkSpec, OutageSpec};
 use srm_net::role::Role;
+use std::alloc::Global;
 
 /// Whether a draw is by a sender that is there.
 fn fits_draw(until: u64, members: &[MemberSpec], draw: &DrawSpec) -> bool
@@ -101,22 +104,19 @@ pub(crate) fn check_outages(links: &[LinkSpec], outages: &[OutageSpec]) -> Resul
     Ok(())
 }
 
-/// Whether one of the members is on this node.
-fn is_taken(members: &[MemberEntry], node: u16) -> bool
-    ensures { result ≡ is_taken members.now node }
+/// Whether a node is marked.
+fn is_taken(taken: &[bool], node: u16) -> bool
+    requires { node < length taken.now }
+    ensures { (members : List MemberEntry) → MarksNodes members taken.now → result ≡ is_taken members node }
 {
-    members.iter().any(|member| member.spec.node == node)
+    taken[usize::from(node)]
 }
 
-/// Whether a member fits the network, the run, and the members before it.
-fn fits_member(
-    until: u64,
-    nodes: u16,
-    star: bool,
-    earlier: &[MemberEntry],
-    entry: &MemberEntry,
-) -> bool
-    ensures { result ≡ fits_member until nodes star earlier.now entry.now }
+/// Whether a member fits the network, the run, and the members before it, of which the nodes are marked.
+fn fits_member(until: u64, nodes: u16, star: bool, taken: &[bool], entry: &MemberEntry) -> bool
+    requires { nodes ≤ length taken.now }
+    ensures { (earlier : List MemberEntry) → MarksNodes earlier taken.now
+        → result ≡ fits_member until nodes star earlier entry.now }
 {
     let member = &entry.spec;
     let leaves_later = match member.leave {
@@ -125,14 +125,15 @@ fn fits_member(
     };
     member.node < nodes
         && !(star && member.node == 0)
-        && !is_taken(earlier, member.node)
+        && !is_taken(taken, member.node)
         && member.join < until
         && leaves_later
         && (!entry.has_pages || matches!(member.role, Role::Late))
 }
 
-/// The first member that does not fit is a fault.
+/// The first member that does not fit is a fault. It takes a number of steps that grows as the numbers of nodes and members.
 pub(crate) fn check_members(
+    alloc: Global,
     until: u64,
     nodes: u16,
     star: bool,
@@ -140,12 +141,14 @@ pub(crate) fn check_members(
 ) -> Result<(), ScenarioFault>
     ensures { MatchResult result
         (λ _. member_faults until nodes star [] 0 entries.now ≡ [])
-        (λ e. first (member_faults until nodes star [] 0 entries.now) ≡ Some e) }
+        (λ e. IsFault e (member_faults until nodes star [] 0 entries.now)) }
 {
+    let mut taken = vec![in alloc; false; usize::from(nodes)]?;
     for (place, entry) in entries.iter().enumerate() {
-        if !fits_member(until, nodes, star, &entries[..place], entry) {
+        if !fits_member(until, nodes, star, &taken, entry) {
             return Err(ScenarioFault::BadMember { place });
         }
+        taken[usize::from(entry.spec.node)] = true;
     }
     Ok(())
 }

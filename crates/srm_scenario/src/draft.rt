@@ -8,7 +8,7 @@ use crate::delays::Delays;
 use crate::element::read_elements;
 use crate::entry::MemberEntry;
 use crate::fault::{Part, ScenarioFault};
-use crate::parts::{Constants, DrawSpec, SessionSpec};
+use crate::parts::{Constants, DrawSpec, Room, SessionSpec};
 use crate::top::top_of;
 use crate::topology::Topology;
 use srm_net::link::{DropSpec, LinkSpec, OutageSpec};
@@ -20,8 +20,10 @@ use toml::Table;
 pub struct Draft {
     /// When the run ends, in ticks.
     pub until: u64,
-    /// The constants of the timers.
+    /// The first values of the constants of timers.
     pub constants: Constants,
+    /// How far they are adapted.
+    pub room: Room,
     /// The topology that the table names.
     pub topology: Option<Topology>,
     /// How many nodes there are.
@@ -67,6 +69,7 @@ impl Draft {
         Ok(Draft {
             until: top.numbers.until,
             constants: top.numbers.constants,
+            room: top.numbers.room,
             topology: top.shape.topology,
             nodes: top.shape.nodes,
             delays: top.shape.delays,

@@ -17,6 +17,24 @@ pub enum Key {
     D1,
     /// `d2`.
     D2,
+    /// `c1_least`.
+    C1Least,
+    /// `c2_least`.
+    C2Least,
+    /// `d1_least`.
+    D1Least,
+    /// `d2_least`.
+    D2Least,
+    /// `c1_most`.
+    C1Most,
+    /// `c2_most`.
+    C2Most,
+    /// `d1_most`.
+    D1Most,
+    /// `d2_most`.
+    D2Most,
+    /// `backoff`.
+    Backoff,
     /// `nodes`.
     Nodes,
     /// `topology`.
@@ -85,6 +103,15 @@ impl Key {
             Key::C2 => "c2",
             Key::D1 => "d1",
             Key::D2 => "d2",
+            Key::C1Least => "c1_least",
+            Key::C2Least => "c2_least",
+            Key::D1Least => "d1_least",
+            Key::D2Least => "d2_least",
+            Key::C1Most => "c1_most",
+            Key::C2Most => "c2_most",
+            Key::D1Most => "d1_most",
+            Key::D2Most => "d2_most",
+            Key::Backoff => "backoff",
             Key::Nodes => "nodes",
             Key::Topology => "topology",
             Key::Size => "size",

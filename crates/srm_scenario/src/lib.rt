@@ -21,6 +21,6 @@ pub mod rules;
 pub mod scenario;
 pub mod script;
 pub mod table;
-mod top;
+pub mod top;
 pub mod topology;
 pub mod version;

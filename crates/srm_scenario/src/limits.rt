@@ -1,7 +1,7 @@
 //! The limits of a scenario file's numbers and arrays.
 
 /// The last version of the format.
-pub(crate) const LAST_VERSION: u64 = 2;
+pub(crate) const LAST_VERSION: u64 = 3;
 
 /// The last tick that a file may name: 2^40.
 pub(crate) const LAST_TICK: u64 = 1_099_511_627_776;
@@ -9,8 +9,11 @@ pub(crate) const LAST_TICK: u64 = 1_099_511_627_776;
 /// The greatest delay of a link in one direction, in ticks.
 pub(crate) const GREATEST_DELAY: u64 = 1_000_000;
 
-/// The greatest constant of timers, in thousandths.
+/// The greatest constant of timers in versions 1 and 2, in thousandths.
 pub(crate) const GREATEST_CONSTANT: u64 = 64_000;
+
+/// The greatest value of a constant of timers that members adapt, in thousandths.
+pub(crate) const GREATEST_LIMIT: u64 = 1_024_000;
 
 /// The last stream of random words.
 pub(crate) const LAST_STREAM: u64 = 9_223_372_036_854_775_807;

@@ -5,17 +5,29 @@ ghost use Rattle.srm_scenario.specs.Presence.{is_present};
 use srm_net::role::Role;
 use srm_net::sequence::Sequence;
 
-/// The constants of the timers (Floyd et al. 1997), in thousandths, each 0 to 64,000.
+/// The constants of the timers (Floyd et al. 1997), in thousandths, each 0 to 1,024,000.
 #[derive(Clone, Copy, Debug, PartialEq, Eq)]
 pub struct Constants {
     /// The least length of a request timer, in thousandths of the distance to the source.
-    pub c1: u32,
+    pub c1: u64,
     /// By how much a request timer may be longer, in thousandths of the same distance.
-    pub c2: u32,
+    pub c2: u64,
     /// The least length of a repair timer, in thousandths of the distance to the requester.
-    pub d1: u32,
+    pub d1: u64,
     /// By how much a repair timer may be longer, in thousandths of the same distance.
-    pub d2: u32,
+    pub d2: u64,
+}
+
+/// How far members adapt the constants of their timers (Floyd et al. 1997). Where the least and the greatest values are the first
+/// ones, timers are fixed.
+#[derive(Clone, Copy, Debug, PartialEq, Eq)]
+pub struct Room {
+    /// The least value of each constant, in thousandths.
+    pub least: Constants,
+    /// The greatest value of each constant, in thousandths.
+    pub most: Constants,
+    /// How many times as long a backoff makes a timer: 2 or 3.
+    pub backoff: u64,
 }
 
 /// A member of the session.

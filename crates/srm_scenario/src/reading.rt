@@ -3,7 +3,7 @@ ghost use Rattle.std.specs.Prelude.{◌≡◌, ◌⊎◌, ◌≤◌, ◌<◌, tr
 ghost use Rattle.std.specs.Io.KnownBytes.{Consumes};
 ghost use Rattle.std.specs.List.{AllByRecursion};
 ghost use Rattle.toml.specs.View.{table_view};
-ghost use Rattle.srm_net.specs.Network.{plain_network, HasDelays};
+ghost use Rattle.srm_net.specs.Network.{plain_network};
 ghost use Rattle.srm_scenario.specs.Accepted.{IsAccepted};
 ghost use Rattle.srm_scenario.specs.Faults.{IsFault, is_star, scenario_of_table, scenario_of_text, failures_after, AnswersText, ReadsToEnd, RefusesText};
 ghost use Rattle.srm_scenario.specs.LookUps.{HasDegree};
@@ -23,7 +23,6 @@ use crate::parts::MemberSpec;
 use crate::scenario::Scenario;
 use crate::topology::Topology;
 use srm_net::drops::Drops;
-use srm_net::fault::NetFault;
 use srm_net::link::{DropSpec, LinkSpec, OutageSpec};
 use srm_net::net::Net;
 use std::alloc::{AllocError, Global};
@@ -31,18 +30,16 @@ use toml::Table;
 
 /// Links that do not make a tree of the nodes are a fault.
 fn check_tree(alloc: Global, nodes: u16, links: &[LinkSpec]) -> Result<(), ScenarioFault>
-    requires { AllByRecursion HasDelays links.now }
     ensures { MatchResult result
         (λ _. is_tree (plain_network nodes links.now []) ≡ true)
         (λ e. (e ≡ ScenarioFault.NoMemory) ⊎ ((e ≡ ScenarioFault.NotTree)
         × (is_tree (plain_network nodes links.now []) ≡ false))) }
 {
-    match Net::build(alloc, nodes, links, &[]) {
-        Ok(_) => return Ok(()),
-        Err(NetFault::NotTree) => return Err(ScenarioFault::NotTree),
-        Err(NetFault::BadDelay) => unreachable!(),
-        Err(NetFault::BadHost) => unreachable!(),
-        Err(NetFault::NoMemory) => return Err(ScenarioFault::NoMemory),
+    let is_tree = Net::is_tree(alloc, nodes, links)?;
+    if is_tree {
+        Ok(())
+    } else {
+        Err(ScenarioFault::NotTree)
     }
 }
 
@@ -113,6 +110,7 @@ fn scenario_from(alloc: Global, draft: Draft) -> Result<Scenario, ScenarioFault>
     let Draft {
         until,
         constants,
+        room,
         topology,
         nodes,
         delays,
@@ -125,7 +123,7 @@ fn scenario_from(alloc: Global, draft: Draft) -> Result<Scenario, ScenarioFault>
     } = draft;
     let links = links_of(alloc, topology, nodes, delays, links)?;
     check_tree(alloc, nodes, &links)?;
-    check_members(until, nodes, is_star(topology), &entries)?;
+    check_members(alloc, until, nodes, is_star(topology), &entries)?;
     let members = members_of(alloc, entries)?;
     check_draws(until, &members, &draws)?;
     check_sessions(until, &members, &sessions)?;
@@ -135,6 +133,7 @@ fn scenario_from(alloc: Global, draft: Draft) -> Result<Scenario, ScenarioFault>
     Ok(Scenario {
         until,
         constants,
+        room,
         nodes,
         links,
         members,

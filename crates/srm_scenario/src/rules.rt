@@ -1,12 +1,13 @@
 //! The table of the format: each key of each part, what it may hold and whether it must be there, in each version.
 ghost use Rattle.std.specs.Prelude.{◌≡◌};
-ghost use Rattle.srm_scenario.specs.Rules.{index_rule, back_rule, top_rules, link_rules, member_rules, draw_rules, session_rules, drop_rules, outage_rules};
+ghost use Rattle.srm_scenario.specs.Rules.{index_rule, back_rule, constant_rule, rule_if, top_rules, link_rules, member_rules, draw_rules, session_rules, drop_rules, outage_rules};
 
 use crate::key::Key;
 use crate::limits::{
-    GREATEST_CONSTANT, GREATEST_DELAY, LAST_COUNT, LAST_INK, LAST_PAGE, LAST_STREAM, LAST_TICK,
+    GREATEST_DELAY, GREATEST_LIMIT, LAST_COUNT, LAST_INK, LAST_PAGE, LAST_STREAM, LAST_TICK,
     LAST_VERSION, MOST_LISTED, MOST_PAGES,
 };
+use crate::parts::Constants;
 use crate::rule::{Kind, Need, Rule, Words};
 use crate::version::Version;
 
@@ -18,33 +19,55 @@ fn index_rule(key: Key, version: Version) -> Rule
     Rule::new(key, Kind::Whole(0, last), Need::Required)
 }
 
+/// The first value of a constant of timers.
+fn constant_rule(key: Key, version: Version) -> Rule
+    ensures { result ≡ constant_rule key version }
+{
+    Rule::new(key, Kind::Whole(0, version.greatest_constant()), Need::Required)
+}
+
+/// A key that a version has or has not.
+fn rule_if(allowed: bool, key: Key, kind: Kind) -> Rule
+    ensures { result ≡ rule_if allowed key kind }
+{
+    Rule::new(key, kind, Need::optional_if(allowed))
+}
+
 /// The second delay of a link, or of each link of a topology.
 fn back_rule(allowed: bool) -> Rule
     ensures { result ≡ back_rule allowed }
 {
-    let need = Need::optional_if(allowed);
-    Rule::new(Key::Back, Kind::Whole(1, GREATEST_DELAY), need)
+    rule_if(allowed, Key::Back, Kind::Whole(1, GREATEST_DELAY))
 }
 
-/// The top table: `shaped` where it names a topology, `tree` where that is a tree.
-pub fn top_rules(version: Version, shaped: bool, tree: bool) -> [Rule; 18]
-    ensures { result ≡ top_rules version shaped tree }
+/// The top table, with these first values of the constants of timers: `shaped` where it names a topology, `tree` where that is a
+/// tree.
+pub fn top_rules(version: Version, first: Constants, shaped: bool, tree: bool) -> [Rule; 27]
+    ensures { result ≡ top_rules version first shaped tree }
 {
     let most = u64::from(version.most_nodes());
     let last = u64::from(version.last_number());
-    let constant = Kind::Whole(0, GREATEST_CONSTANT);
+    let limits = version.allows_limits();
     let delay = Kind::Whole(1, GREATEST_DELAY);
     let listed = Kind::Elements(MOST_LISTED);
     let in_topology = Need::required_if(shaped);
     let in_tree = Need::required_if(tree);
-    let outages = Need::optional_if(version.allows_outages());
     [
         Rule::new(Key::Version, Kind::Whole(1, LAST_VERSION), Need::Required),
         Rule::new(Key::Until, Kind::Whole(1, LAST_TICK), Need::Required),
-        Rule::new(Key::C1, constant, Need::Required),
-        Rule::new(Key::C2, constant, Need::Required),
-        Rule::new(Key::D1, constant, Need::Required),
-        Rule::new(Key::D2, constant, Need::Required),
+        constant_rule(Key::C1, version),
+        constant_rule(Key::C2, version),
+        constant_rule(Key::D1, version),
+        constant_rule(Key::D2, version),
+        rule_if(limits, Key::C1Least, Kind::Whole(0, first.c1)),
+        rule_if(limits, Key::C2Least, Kind::Whole(0, first.c2)),
+        rule_if(limits, Key::D1Least, Kind::Whole(0, first.d1)),
+        rule_if(limits, Key::D2Least, Kind::Whole(0, first.d2)),
+        rule_if(limits, Key::C1Most, Kind::Whole(first.c1, GREATEST_LIMIT)),
+        rule_if(limits, Key::C2Most, Kind::Whole(first.c2, GREATEST_LIMIT)),
+        rule_if(limits, Key::D1Most, Kind::Whole(first.d1, GREATEST_LIMIT)),
+        rule_if(limits, Key::D2Most, Kind::Whole(first.d2, GREATEST_LIMIT)),
+        rule_if(limits, Key::Backoff, Kind::Whole(2, 3)),
         Rule::new(
             Key::Nodes,
             Kind::Whole(1, most),
@@ -64,7 +87,7 @@ pub fn top_rules(version: Version, shaped: bool, tree: bool) -> [Rule; 18]
         Rule::new(Key::Draw, listed, Need::Optional),
         Rule::new(Key::Session, listed, Need::Optional),
         Rule::new(Key::Drop, listed, Need::Optional),
-        Rule::new(Key::Outage, listed, outages),
+        rule_if(version.allows_outages(), Key::Outage, listed),
     ]
 }
 

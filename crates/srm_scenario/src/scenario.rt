@@ -7,7 +7,7 @@ ghost use Rattle.srm_scenario.specs.Pages.{wants_page};
 
 use crate::fault::ScenarioFault;
 use crate::mark::Mark;
-use crate::parts::{Constants, DrawSpec, MemberSpec, SessionSpec};
+use crate::parts::{Constants, DrawSpec, MemberSpec, Room, SessionSpec};
 use crate::script::script_of;
 use srm_net::drops::Drops;
 use srm_net::fault::NetFault;
@@ -23,6 +23,7 @@ use std::marker::Model;
 pub struct Scenario {
     pub(crate) until: u64,
     pub(crate) constants: Constants,
+    pub(crate) room: Room,
     pub(crate) nodes: u16,
     pub(crate) links: Vec<LinkSpec>,
     pub(crate) members: Vec<MemberSpec>,
@@ -41,6 +42,7 @@ impl Model for Scenario {
     ghost view = { λ s. record {
       until = s.until;
       constants = s.constants;
+      room = s.room;
       nodes = s.nodes;
       links = s.links.items;
       members = s.members.items;
@@ -52,6 +54,7 @@ impl Model for Scenario {
     ghost invariant = { λ s. IsAccepted (record {
       until = s.until;
       constants = s.constants;
+      room = s.room;
       nodes = s.nodes;
       links = s.links.items;
       members = s.members.items;
@@ -70,12 +73,20 @@ impl Scenario {
         self.until
     }
 
-    /// The constants of the timers, in thousandths.
+    /// The first values of the constants of timers, in thousandths.
     pub fn constants(&self) -> Constants
         ensures constants { result ≡ self.now.constants }
         ensures accepted { IsAccepted self.now }
     {
         self.constants
+    }
+
+    /// How far members adapt the constants of their timers.
+    pub fn room(&self) -> Room
+        ensures room { result ≡ self.now.room }
+        ensures accepted { IsAccepted self.now }
+    {
+        self.room
     }
 
     /// How many members there are: at most [`MOST_NODES`](srm_net::limits::MOST_NODES). They are numbered from 0.

@@ -7,7 +7,7 @@ ghost use Rattle.toml.specs.View.{view, items_view, table_view};
 ghost use Rattle.srm_scenario.specs.declared.rule.Kind.TheVariants.{Numbers, Elements};
 ghost use Rattle.srm_scenario.specs.Keys.{name_of};
 ghost use Rattle.srm_scenario.specs.Rules.{fits, has_only, is_met, is_kind, is_whole, is_text, spellings_of};
-ghost use Rattle.srm_scenario.specs.Described.{number, number_of, optional_number, array_at, says};
+ghost use Rattle.srm_scenario.specs.Described.{number, number_of, number_or, optional_number, array_at, says};
 
 use crate::key::Key;
 use crate::rule::{Kind, Need, Rule, Words};
@@ -174,6 +174,16 @@ pub fn number(table: &Table, key: Key) -> u64
     ensures { result ≡ number (name_of key) (table_view table.now) }
 {
     optional_number(table, key).unwrap_or(0)
+}
+
+/// The whole number at a key, or that at another key where there is none.
+pub(crate) fn number_or(table: &Table, key: Key, other: Key) -> u64
+    ensures { result ≡ number_or (name_of key) (name_of other) (table_view table.now) }
+{
+    match optional_number(table, key) {
+        Some(number) => number,
+        None => number(table, other),
+    }
 }
 
 /// Whether the table has a key.

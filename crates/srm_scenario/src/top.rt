@@ -2,15 +2,15 @@
 ghost use Rattle.std.specs.Prelude.{◌≡◌, ◌≤◌, true, false, codes, map, MatchOption};
 ghost use Rattle.toml.specs.View.{view, table_view};
 ghost use Rattle.srm_scenario.specs.Rules.{fits};
-ghost use Rattle.srm_scenario.specs.Described.{number, says, topology_of};
+ghost use Rattle.srm_scenario.specs.Described.{constants_of, least_of, most_of, number, room_of, says, topology_of};
 ghost use Rattle.srm_scenario.specs.Faults.{rules_of_top};
 ghost use Rattle.srm_scenario.specs.LookUps.{HasNumbers, HasShape, HasArrays};
 
 use crate::delays::Delays;
 use crate::key::Key;
-use crate::parts::Constants;
+use crate::parts::{Constants, Room};
 use crate::rules::top_rules;
-use crate::table::{array, fits, has_key, number, optional_number, says};
+use crate::table::{array, fits, has_key, number, number_or, optional_number, says};
 use crate::topology::Topology;
 use crate::version::Version;
 use toml::{Table, Value};
@@ -40,24 +40,69 @@ pub(crate) struct Numbers {
     pub(crate) version: Version,
     /// When the run ends, in ticks.
     pub(crate) until: u64,
-    /// The constants of the timers.
+    /// The first values of the constants of timers.
     pub(crate) constants: Constants,
+    /// How far they are adapted.
+    pub(crate) room: Room,
+}
+
+/// The first values of the constants of timers, in range or not; 0 where there is none.
+pub fn constants_of(table: &Table) -> Constants
+    ensures { result ≡ constants_of (table_view table.now) }
+{
+    Constants {
+        c1: number(table, Key::C1),
+        c2: number(table, Key::C2),
+        d1: number(table, Key::D1),
+        d2: number(table, Key::D2),
+    }
+}
+
+/// The least values of the constants.
+fn least_of(table: &Table) -> Constants
+    ensures { result ≡ least_of (table_view table.now) }
+{
+    Constants {
+        c1: number_or(table, Key::C1Least, Key::C1),
+        c2: number_or(table, Key::C2Least, Key::C2),
+        d1: number_or(table, Key::D1Least, Key::D1),
+        d2: number_or(table, Key::D2Least, Key::D2),
+    }
+}
+
+/// The greatest values of the constants.
+fn most_of(table: &Table) -> Constants
+    ensures { result ≡ most_of (table_view table.now) }
+{
+    Constants {
+        c1: number_or(table, Key::C1Most, Key::C1),
+        c2: number_or(table, Key::C2Most, Key::C2),
+        d1: number_or(table, Key::D1Most, Key::D1),
+        d2: number_or(table, Key::D2Most, Key::D2),
+    }
+}
+
+/// How far the constants are adapted.
+fn room_of(table: &Table) -> Room
+    ensures { result ≡ room_of (table_view table.now) }
+{
+    Room {
+        least: least_of(table),
+        most: most_of(table),
+        backoff: optional_number(table, Key::Backoff).unwrap_or(2),
+    }
 }
 
 /// The numbers of a table that fits its rules.
 fn numbers_of(table: &Table) -> Numbers
     requires { fits (rules_of_top (table_view table.now)) (table_view table.now) ≡ true }
-    ensures { HasNumbers (table_view table.now) result.version result.until result.constants }
+    ensures { HasNumbers (table_view table.now) result.version result.until result.constants result.room }
 {
     Numbers {
         version: Version::of(number(table, Key::Version)),
         until: number(table, Key::Until),
-        constants: Constants {
-            c1: number(table, Key::C1) as u32,
-            c2: number(table, Key::C2) as u32,
-            d1: number(table, Key::D1) as u32,
-            d2: number(table, Key::D2) as u32,
-        },
+        constants: constants_of(table),
+        room: room_of(table),
     }
 }
 
@@ -84,13 +129,12 @@ fn shape_of(table: &Table) -> Shape<'_>
         Some(_) => number(table, Key::Size),
         None => number(table, Key::Nodes),
     };
-    let delay = number(table, Key::Delay);
     Shape {
         topology,
         nodes: nodes as u16,
         delays: Delays {
-            delay,
-            back: optional_number(table, Key::Back).unwrap_or(delay),
+            delay: number(table, Key::Delay),
+            back: number_or(table, Key::Back, Key::Delay),
         },
         links: array(table, Key::Link),
     }
@@ -144,7 +188,7 @@ fn is_top(table: &Table) -> bool
     let version = Version::of(number(table, Key::Version));
     let shaped = has_key(table, Key::Topology);
     let tree = says(table, Key::Topology, "tree");
-    fits(table, &top_rules(version, shaped, tree))
+    fits(table, &top_rules(version, constants_of(table), shaped, tree))
 }
 
 /// What the table holds, if it is as a top table must be.
@@ -152,7 +196,7 @@ pub(crate) fn top_of(table: &Table) -> Option<Top<'_>>
     ensures { MatchOption result
         (fits (rules_of_top (table_view table.now)) (table_view table.now) ≡ false)
         (λ t. (fits (rules_of_top (table_view table.now)) (table_view table.now) ≡ true)
-        × HasNumbers (table_view table.now) t.numbers.version t.numbers.until t.numbers.constants
+        × HasNumbers (table_view table.now) t.numbers.version t.numbers.until t.numbers.constants t.numbers.room
         × HasShape (table_view table.now) t.shape.topology t.shape.nodes t.shape.delays (map view t.shape.links.now)
         × HasArrays (table_view table.now) (map view t.arrays.members.now) (map view t.arrays.draws.now)
         (map view t.arrays.sessions.now) (map view t.arrays.drops.now) (map view t.arrays.outages.now)) }

@@ -1,6 +1,8 @@
 //! Versions of the scenario format.
 ghost use Rattle.std.specs.Prelude.{◌≡◌, ◌≤◌, ◌==◌, if◌then◌else◌};
-ghost use Rattle.srm_scenario.specs.declared.version.Version.TheVariants.{One, Two};
+ghost use Rattle.srm_scenario.specs.declared.version.Version.TheVariants.{One, Two, Three};
+
+use crate::limits::{GREATEST_CONSTANT, GREATEST_LIMIT};
 
 /// A version of the scenario format.
 #[derive(Clone, Copy, Debug, PartialEq, Eq)]
@@ -9,16 +11,19 @@ pub enum Version {
     One,
     /// A link may have a second delay, `back`, and outages. There are at most 1,024 nodes.
     Two,
+    /// As version 2; and members may adapt the constants of their timers.
+    Three,
 }
 
 impl Version {
-    ghost use Rattle.srm_scenario.specs.Rules.{allows_back, allows_outages, most_nodes_in, last_number};
+    ghost use Rattle.srm_scenario.specs.Rules.{allows_back, allows_limits, allows_outages, greatest_constant_in, most_nodes_in, last_number};
 
     /// The version of this number. Where there is none of this number, it is the first.
     pub fn of(number: u64) -> Version
-        ensures { result ≡ (if number == 2 then Two else One) }
+        ensures { result ≡ (if number == 3 then Three else if number == 2 then Two else One) }
     {
         match number {
+            3 => Version::Three,
             2 => Version::Two,
             _ => Version::One,
         }
@@ -30,7 +35,7 @@ impl Version {
     {
         match self {
             Version::One => false,
-            Version::Two => true,
+            Version::Two | Version::Three => true,
         }
     }
 
@@ -40,7 +45,27 @@ impl Version {
     {
         match self {
             Version::One => false,
-            Version::Two => true,
+            Version::Two | Version::Three => true,
+        }
+    }
+
+    /// Whether members may adapt the constants of their timers.
+    pub fn allows_limits(self) -> bool
+        ensures { result ≡ allows_limits self }
+    {
+        match self {
+            Version::One | Version::Two => false,
+            Version::Three => true,
+        }
+    }
+
+    /// The greatest first value of a constant of timers, in thousandths: 64,000 or 1,024,000.
+    pub fn greatest_constant(self) -> u64
+        ensures { result ≡ greatest_constant_in self }
+    {
+        match self {
+            Version::One | Version::Two => GREATEST_CONSTANT,
+            Version::Three => GREATEST_LIMIT,
         }
     }
 
@@ -52,7 +77,7 @@ impl Version {
     {
         match self {
             Version::One => 256,
-            Version::Two => 1024,
+            Version::Two | Version::Three => 1024,
         }
     }
 

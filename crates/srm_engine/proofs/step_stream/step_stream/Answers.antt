@@ -8,7 +8,7 @@ use Rattle.srm_cell.specs.Totalled.{numbers_of}
 use Rattle.srm_model.specs.World.{opening, IsReached, IsLast}
 use Rattle.srm_engine.specs.Engines.{setting_in, traffic_in}
 use Rattle.srm_engine.specs.Faults.{step_refused}
-use Rattle.srm_engine.specs.Streams.{MeetsRefusal, stream_fault_of}
+use Rattle.srm_engine.specs.Streams.{MayStop, MeetsRefusal, stream_fault_of}
 use Rattle.srm_engine.proofs.ExitsKept.{all_end}
 use Rattle.srm_engine.proofs.Opened.{totals_are}
 use Rattle.srm_engine.proofs.PhaseLemmas.{exits_are}
@@ -37,7 +37,7 @@ returns-in-Err-stream-clause-stream g c = λ seed h.
     let here : setting_in c.in-Ok.engine seed ≡ setting_of c.args.scenario.now c.args.net.now seed =
     λ k. setting_of (given.0 k) (given.1 k) seed in
     let t = halted_front g.S.RowSink.took g.S.RowSink.part g.met.S.RowSink.part_none g.met.S.RowSink.part_more
-    (setting_in c.in-Ok.engine seed) c.args.sink.now c.in-Err-stream.halt c.stream.new.sink
+    (MayStop (setting_in c.in-Ok.engine seed)) (setting_in c.in-Ok.engine seed) c.args.sink.now c.in-Err-stream.halt c.stream.new.sink
     (c.in-Err-stream.ensures.rows seed (c.in-Ok.ensures.opened seed h)) in
     (t.0, subst (λ (x : Setting). IsReached x t.0) here t.1, t.2)
 

@@ -1,20 +1,15 @@
-use Rattle.std.proofs.Common.{Err, refl, ap, inr, subst, []}
-use Rattle.srm_net.specs.Network.{Network, IsNetwork, plain_network}
-use Rattle.srm_scenario.proofs.TreeLemmas.{test_from_tree, not_tree, no_hosts}
+use Rattle.std.proofs.Common.{refl, inr, []}
+use Rattle.std.proofs.lemmas.Bool.{both_ways}
+use Rattle.srm_net.specs.Network.{plain_network}
+use Rattle.srm_scenario.proofs.TreeLemmas.{test_from_tree, not_tree}
 use Rattle.srm_scenario.proofs.reading.check_tree.Goals as goal
 
-pub returns-in-Ok : goal.returns-in-Ok
-returns-in-Ok c =
-    let network = subst (λ (w : Network). IsNetwork w) c.in-Ok.ensures.same c.in-Ok.ensures.network in
-    test_from_tree (plain_network c.args.nodes c.args.links.now []) network.tree
+pub returns-then-is_tree : goal.returns-then-is_tree
+returns-then-is_tree c =
+    test_from_tree (plain_network c.args.nodes c.args.links.now []) (c.in_ok-is_tree.ensures.0 c.if-is_tree.true)
 
-pub returns-in-Err-NotTree : goal.returns-in-Err-NotTree
-returns-in-Err-NotTree c = inr (
+pub returns-else-is_tree : goal.returns-else-is_tree
+returns-else-is_tree c = inr (
   refl,
-  not_tree (plain_network c.args.nodes c.args.links.now [])
-      (c.in-Err-NotTree.ensures.not_tree (ap Err c.in-Err-NotTree.field-0-is)),
+  not_tree (plain_network c.args.nodes c.args.links.now []) (λ t. both_ways _ c.if-is_tree.false (c.in_ok-is_tree.ensures.1 t)),
 )
-
-pub unreachable-requires-in-Err-BadHost : goal.unreachable-requires-in-Err-BadHost
-unreachable-requires-in-Err-BadHost c = let h = c.in-Err-BadHost.ensures.bad_host (ap Err c.in-Err-BadHost.field-0-is) in
-    h.2 (no_hosts c.args.nodes)

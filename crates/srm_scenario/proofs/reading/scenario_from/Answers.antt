@@ -3,12 +3,8 @@ use Rattle.std.proofs.lemmas.Result.{err_from_is_err_and}
 use Rattle.srm_scenario.specs.Accepted.{IsAccepted}
 use Rattle.srm_scenario.specs.Plain.{PlainScenario, drop_rules_of}
 use Rattle.srm_scenario.proofs.Meanings.{Made, tree_fault, place_fault, draw_fault, session_fault, drop_fault, outage_fault, no_fault}
-use Rattle.srm_scenario.proofs.Meanings.{plain_made, accepted_made, delays_made}
+use Rattle.srm_scenario.proofs.Meanings.{plain_made, accepted_made}
 use Rattle.srm_scenario.proofs.reading.scenario_from.Goals as goal
-
-pub check_tree-requires : goal.check_tree-requires
-check_tree-requires c =
-    delays_made c.args.draft c.deref.result.now (c.deref.ensures.value ∙ c.in_ok-links.ensures) c.requires.range
 
 pub returns-in_err-check_tree-clause-fault : goal.returns-in_err-check_tree-clause-fault
 returns-in_err-check_tree-clause-fault c =

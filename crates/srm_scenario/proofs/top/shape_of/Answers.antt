@@ -1,4 +1,4 @@
-use Rattle.std.proofs.Common.{◌≡◌, ◌∙◌, Option, ap, sym, subst, unwrap_or, arith}
+use Rattle.std.proofs.Common.{◌≡◌, ◌∙◌, Option, ap, sym, subst, arith}
 use Rattle.toml.specs.View.{table_view}
 use Rattle.srm_scenario.specs.declared.delays.Delays.{Delays}
 use Rattle.srm_scenario.specs.declared.topology.Topology.{Topology}
@@ -35,10 +35,9 @@ returns c =
     ] in
     let fits = nodes_fit ms c.requires in
     let few = few_nodes (version_of ms) in
-    let back = c.unwrap_or.ensures ∙ (λ i. unwrap_or (c.optional_number.ensures i) (c.number-delay.ensures i)) in
     let named = sym c.topology-topology.ensures in
-    let delays : delays_of ms ≡ record { delay = c.number-delay.result; back = c.unwrap_or.result } =
-    (λ i. record { delay = sym c.number-delay.ensures i; back = sym back i }) in
+    let delays : delays_of ms ≡ record { delay = c.number.result; back = c.number_or.result } =
+    (λ i. record { delay = sym c.number.ensures i; back = sym c.number_or.ensures i }) in
     record {
       topology_is = named;
       topology_fits = subst HasDegree named (topology_fits ms c.requires);
@@ -46,7 +45,7 @@ returns c =
       some_nodes = omega (arith, fits.0);
       few_nodes = omega (arith, fits.1, few.0);
       delays_are = delays;
-      delays_fit = subst (λ (o : Option Topology). AreDelays o (record { delay = c.number-delay.result; back = c.unwrap_or.result })) named
+      delays_fit = subst (λ (o : Option Topology). AreDelays o (record { delay = c.number.result; back = c.number_or.result })) named
           (subst (λ (d : Delays). AreDelays (topology_of ms) d) delays (delays_fit ms c.requires));
       links_are = c.array.ensures;
     }

@@ -9,27 +9,22 @@ use Rattle.srm_engine.specs.Ends.{ends_rule}
 use Rattle.srm_engine.specs.Windowed.{MayCome, calls_for}
 use Rattle.srm_engine.specs.WindowEngines.{setting_by, rule_by}
 use Rattle.srm_engine.proofs.Stepping.{opening_reached, opening_trace}
-use Rattle.srm_engine.proofs.StreamLemmas.{front_taken}
 use Rattle.srm_engine.proofs.WindowLemmas.{reached, is_last, call_more}
 use Rattle.srm_engine.proofs.window_engine.WindowEngine.stream.Goals as goal
 
 pub returns-in-Err-clause-windows : goal.returns-in-Err-clause-windows
 returns-in-Err-clause-windows g c = λ seed h.
     let s = setting_by c.args.self seed in (
-      (
-        opening s,
-        opening_reached s,
-        subst (λ (l : List Row). g.S.RowSink.part c.args.sink.now l c.hand_none.new.sink) (sym (opening_trace s))
-            c.in-Err.ensures.rows,
-      ),
-      tt,
+      opening s,
+      opening_reached s,
+      subst (λ (l : List Row). g.S.RowSink.part c.args.sink.now l c.hand_none.new.sink) (sym (opening_trace s)) c.in-Err.ensures.rows,
     )
 
 pub loop-begin-init : goal.loop-begin-init
 loop-begin-init g c = record {
   ready = c.requires.ready;
   stands = c.requires.stands;
-  course = refl;
+  frame = refl;
   next = c.begin-begin.ensures;
   device = c.in_default.ensures.same;
   live = c.in_default.ensures.stage;
@@ -47,7 +42,7 @@ loop-begin-init g c = record {
 
 pub window-requires-clause-early : goal.window-requires-clause-early
 window-requires-clause-early g c =
-    let same = ap (λ (k : PlainScenario × Network × ℕ × Ends). k.0.until) c.loop-begin.invariant.course in
+    let same = ap (λ (k : PlainScenario × Network × ℕ × Ends). k.0.until) c.loop-begin.invariant.frame in
     let until = c.until-until.ensures.until in
     let early : c.loop-begin.begin < c.until-until.result = c.loop-begin-test.true in
     omega (arith, same)
@@ -57,15 +52,12 @@ returns-in-Err-window-clause-windows g c = λ seed h.
     let v = c.loop-begin.invariant in
     let i = v.windows seed h in
     let x = c.in-Err-window.fault in (
-      (
-        i.1,
-        subst (λ (k : PlainScenario × Network × ℕ × Ends). IsReached (setting_of k.0 k.1 seed) i.1) v.course
-            (reached (λ b. (goal.Member-dyn g (b.vtable, b.value)).plain b.value) c.loop-begin.engine v.stands seed i.0 i.1 i.2),
-        front_taken g.S.RowSink.took g.S.RowSink.part g.met.S.RowSink.part_none g.met.S.RowSink.part_more c.args.sink.now
-            c.loop-begin.sink i.1.trace i.3,
-      ),
-      subst (λ (k : PlainScenario × Network × ℕ × Ends). MayCome (setting_of k.0 k.1 seed) (ends_rule (setting_of k.0 k.1 seed) k.3) k.2 x)
-          v.course (c.in-Err-window.ensures.window seed i.0 i.1 i.2),
+      i.1,
+      subst (λ (k : PlainScenario × Network × ℕ × Ends). IsReached (setting_of k.0 k.1 seed) i.1) v.frame
+          (reached (λ b. (goal.Member-dyn g (b.vtable, b.value)).plain b.value) c.loop-begin.engine v.stands seed i.0 i.1 i.2),
+      i.3,
+      subst (λ (k : PlainScenario × Network × ℕ × Ends). MayCome (setting_of k.0 k.1 seed) (ends_rule (setting_of k.0 k.1 seed) k.3) k.2
+          i.1 x) v.frame (c.in-Err-window.ensures.window seed i.0 i.1 i.2),
     )
 
 pub returns-in-Err-rows-clause-windows : goal.returns-in-Err-rows-clause-windows
@@ -73,16 +65,13 @@ returns-in-Err-rows-clause-windows g c = λ seed h.
     let v = c.loop-begin.invariant in
     let i = v.windows seed h in
     let told = c.in-Ok.ensures.window seed i.0 i.1 i.2 in (
-      (
-        told.0,
-        subst (λ (k : PlainScenario × Network × ℕ × Ends). IsReached (setting_of k.0 k.1 seed) told.0) (c.in-Ok.ensures.course ∙ v.course)
-            (reached (λ b. (goal.Member-dyn g (b.vtable, b.value)).plain b.value) c.in-Ok.ran.0 c.in-Ok.ensures.stands seed (i.0 ++ i.1 ∷
-            []) told.0 told.1),
-        subst (λ (l : List Row). g.S.RowSink.part c.args.sink.now l c.rows.new.self) (sym told.2)
-            (g.met.S.RowSink.part_more c.args.sink.now c.loop-begin.sink c.rows.new.self i.1.trace c.in-Ok.ran.1.items i.3
-            c.in-Err-rows.ensures.rows),
-      ),
-      tt,
+      told.0,
+      subst (λ (k : PlainScenario × Network × ℕ × Ends). IsReached (setting_of k.0 k.1 seed) told.0) (c.in-Ok.ensures.frame ∙ v.frame)
+          (reached (λ b. (goal.Member-dyn g (b.vtable, b.value)).plain b.value) c.in-Ok.ran.0 c.in-Ok.ensures.stands seed (i.0 ++ i.1 ∷
+          []) told.0 told.1),
+      subst (λ (l : List Row). g.S.RowSink.part c.args.sink.now l c.rows.new.self) (sym told.2)
+          (g.met.S.RowSink.part_more c.args.sink.now c.loop-begin.sink c.rows.new.self i.1.trace c.in-Ok.ran.1.items i.3
+          c.in-Err-rows.ensures.rows),
     )
 
 pub loop-begin-smaller : goal.loop-begin-smaller
@@ -95,7 +84,7 @@ pub loop-begin-preserved : goal.loop-begin-preserved
 loop-begin-preserved g c = record {
   ready = c.in-Ok.ensures.ready;
   stands = c.in-Ok.ensures.stands;
-  course = c.in-Ok.ensures.course ∙ c.loop-begin.invariant.course;
+  frame = c.in-Ok.ensures.frame ∙ c.loop-begin.invariant.frame;
   next = c.begin-begin-in-loop-begin.ensures;
   device = g.met.S.RowSink.same_more c.args.sink.now c.loop-begin.sink c.rows.new.self c.loop-begin.invariant.device
       c.in_default-rows.ensures.same;
@@ -115,7 +104,7 @@ loop-begin-preserved g c = record {
             (g.met.S.RowSink.took_more c.args.sink.now c.loop-begin.sink c.rows.new.self i.1.trace c.in-Ok.ran.1.items i.3
             c.in_default-rows.ensures.rows),
         subst (λ (k : PlainScenario × Network × ℕ × Ends). g.C.Crew.handed c.args.crew.now
-            (calls_for (ends_rule (setting_of k.0 k.1 seed) k.3) k.2 (i.0 ++ i.1 ∷ [])) c.window.new.crew) (sym c.in-Ok.ensures.course)
+            (calls_for (ends_rule (setting_of k.0 k.1 seed) k.3) k.2 (i.0 ++ i.1 ∷ [])) c.window.new.crew) (sym c.in-Ok.ensures.frame)
             calls,
       );
 }
@@ -124,7 +113,7 @@ pub returns-clause-windows : goal.returns-clause-windows
 returns-clause-windows g c = λ seed h.
     let v = c.loop-begin.invariant in
     let i = v.windows seed h in
-    let same = ap (λ (k : PlainScenario × Network × ℕ × Ends). k.0.until) v.course in
+    let same = ap (λ (k : PlainScenario × Network × ℕ × Ends). k.0.until) v.frame in
     let until = c.until-until.ensures.until in
     let no = c.loop-begin-test.false in
     let last = is_last (λ b. (goal.Member-dyn g (b.vtable, b.value)).plain b.value) c.loop-begin.engine v.stands seed i.0 i.1 i.2
@@ -132,10 +121,10 @@ returns-clause-windows g c = λ seed h.
       i.0,
       i.1,
       i.2,
-      subst (λ (k : PlainScenario × Network × ℕ × Ends). IsLast (setting_of k.0 k.1 seed) i.1) v.course last,
+      subst (λ (k : PlainScenario × Network × ℕ × Ends). IsLast (setting_of k.0 k.1 seed) i.1) v.frame last,
       i.3,
       subst (λ (k : PlainScenario × Network × ℕ × Ends). g.C.Crew.handed c.args.crew.now
-          (calls_for (ends_rule (setting_of k.0 k.1 seed) k.3) k.2 i.0) c.loop-begin.crew) v.course i.4,
+          (calls_for (ends_rule (setting_of k.0 k.1 seed) k.3) k.2 i.0) c.loop-begin.crew) v.frame i.4,
     )
 
 pub returns-in-Err-rows-clause-device : goal.returns-in-Err-rows-clause-device

@@ -2,7 +2,7 @@ use Rattle.std.proofs.Common.{◌≡◌, ℕ, ◌-◌, List}
 use Rattle.srm_engine.specs.declared.sink.Stage.TheVariants.{Live}
 use Rattle.srm_model.specs.World.{World}
 use Rattle.srm_engine.specs.Windowed.{calls_for}
-use Rattle.srm_engine.specs.WindowEngines.{IsUnderWay, BeginsNext, OpensAt, ComesTo, course_of, rule_by}
+use Rattle.srm_engine.specs.WindowEngines.{IsUnderWay, BeginsNext, OpensAt, ComesTo, frame_of, rule_by}
 use Rattle.srm_engine.proofs.window_engine.WindowEngine.stream.Given as goal
 
 -- the sink took the rows of the windows so far, for which the crew was handed their jobs
@@ -10,7 +10,7 @@ abbrev pub invariant-loop-begin : goal.invariant-loop-begin
 invariant-loop-begin g l = record {
   ready : g.C.Crew.ready l.crew;
   stands : IsUnderWay (λ b. (goal.Member-dyn g (b.vtable, b.value)).plain b.value) l.engine;
-  course : course_of l.engine ≡ course_of l.fn.self;
+  frame : frame_of l.engine ≡ frame_of l.fn.self;
   next : BeginsNext (λ b. (goal.Member-dyn g (b.vtable, b.value)).plain b.value) l.engine l.begin;
   device : g.S.RowSink.same l.fn.sink l.sink;
   live : g.S.RowSink.stage l.sink ≡ Live;

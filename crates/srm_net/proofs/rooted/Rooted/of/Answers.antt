@@ -6,9 +6,10 @@ use Rattle.srm_net.specs.Growth.{attached, place_in}
 use Rattle.srm_net.specs.Limits.{greatest_distance, greatest_link_delay}
 use Rattle.srm_net.specs.Network.{plain_network}
 use Rattle.srm_net.specs.Paths.{is_in, delay_from, delay_of}
-use Rattle.srm_net.specs.Rooting.{takes, at, IsSubtree, IsPosition}
+use Rattle.srm_net.specs.Rooting.{takes, at, IsSubtree, IsPosition, IsRooted, IsInOrder}
 use Rattle.srm_net.proofs.Adjacent.{no_link}
-use Rattle.srm_net.proofs.Growing.{all_attached}
+use Rattle.srm_net.proofs.Growing.{all_attached, attached_below}
+use Rattle.srm_net.proofs.NodeOrder.{in_places}
 use Rattle.srm_net.proofs.Lists.{get_below, get_index, index_get, read_at}
 use Rattle.srm_net.proofs.PathLaws.{delay_bounded, from_fits}
 use Rattle.srm_net.proofs.TreeWays.{no_step, reverse_more}
@@ -283,7 +284,7 @@ returns c =
     λ u hu. c.loop-index.invariant.told u (subst (λ ts. is_in (attached (reverse ts)) u ≡ true) (sym whole) (inside u hu)) in
     let ended : (u : ℕ) → u < c.args.nodes → HasEnd ends place u (at ps u) =
     λ u hu. c.loop-index.invariant.ended u (subst (λ ts. is_in (attached (reverse ts)) u ≡ true) (sym whole) (inside u hu)) in
-    record {
+    let rooted : IsRooted w ps = record {
       tree = t;
       place = place;
       root = place_root links (reverse steps) c.requires.grows;
@@ -297,4 +298,7 @@ returns c =
           let b : slice_index_or ends u 0 ≤ slice_index_or ends (at ps u).parent 0 = (ended u hu).under h in
           let d : (at ps (at ps u).parent).end ≡ slice_index_or ends (at ps u).parent 0 = (ended (at ps u).parent up.node).is in
           omega arith;
-    }
+    } in
+    let order : IsInOrder w ps (reverse (attached (reverse steps))) = in_places w ps links (reverse steps) c.requires.grows inside
+    (attached_below c.args.nodes links (reverse steps) t.some_nodes t.ends c.requires.grows) (λ u hu. (told u hu).place_is) in
+    record { rooted = rooted; order = subst (IsInOrder w ps) (sym c.in_ok-order.ensures) order }

@@ -118,6 +118,7 @@ returns-clause-draft c =
       some_ticks = t.1.some_ticks;
       few_ticks = t.1.few_ticks;
       constants = t.1.constants_are;
+      room = t.1.room_is;
       constants_fit = t.1.constants_fit;
       topology = t.2.topology_is;
       degree = t.2.topology_fits;

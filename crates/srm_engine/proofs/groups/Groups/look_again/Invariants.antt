@@ -1,0 +1,18 @@
+use Rattle.std.proofs.Common.{◌≡◌, ◌<◌, ◌≤◌, ◌/◌, ℕ, List, Some, slice_get}
+use Rattle.srm_cell.specs.Setting.{setting_of}
+use Rattle.srm_cell.specs.Cells.{PlainCell}
+use Rattle.srm_engine.specs.declared.soonest.Soonest.{Soonest}
+use Rattle.srm_engine.specs.Groups.{AreGrouped}
+use Rattle.srm_model.specs.WindowRuns.{OwnResult, AreOwnRuns, cells_in}
+use Rattle.srm_engine.specs.Soonest.{IsSoonest, AreSoonest}
+use Rattle.srm_engine.proofs.groups.Groups.look_again.Given as goal
+
+-- the groups so far were looked through again, and of the others what was kept stands
+abbrev pub invariant-loop-place : goal.invariant-loop-place
+invariant-loop-place g l =
+    (seed : ℕ) (ps : List PlainCell) (results : List OwnResult) → AreOwnRuns l.end 0 ps results
+    → AreGrouped (λ b. (goal.Member-dyn g (b.vtable, b.value)).plain b.value) l.cut l.all (cells_in results)
+    → AreSoonest (setting_of l.scenario l.net seed) l.cut l.initial.kept ps
+    → (j : ℕ) (x : Soonest) → slice_get l.kept j ≡ Some x
+    → (j < l.place → IsSoonest (setting_of l.scenario l.net seed) (λ m. m / l.cut ≡ j) (cells_in results) x)
+    × (l.place ≤ j → IsSoonest (setting_of l.scenario l.net seed) (λ m. m / l.cut ≡ j) ps x)

@@ -1,0 +1,431 @@
+-- Without room members whose records differ in intervals alone answer alike.
+use Rattle.std.proofs.Common.{◌≡◌, ℕ, zero, suc, ◌+◌, ◌-◌, ◌/◌, min, Bool, true, false, cond, ◌&&◌, List, [], ◌∷◌, ◌++◌, refl}
+use Rattle.std.proofs.Common.{Option, Some, None, nat_lt, nat_le, ap, sym, subst, ◌∙◌, arith}
+use Rattle.std.specs.FinMap.Entries.{put, find}
+use Rattle.srm_net.specs.declared.packet.Name.{Name}
+use Rattle.srm_net.specs.declared.packet.PageId.{PageId}
+use Rattle.srm_net.specs.declared.packet.Heard.{Heard}
+use Rattle.srm_net.specs.declared.packet.Body.{Body}
+use Rattle.srm_net.specs.declared.packet.Body.TheVariants.{Drawop, Request, Repair, Session}
+use Rattle.srm_net.specs.Names.{page_of, name_in, name_cmp}
+use Rattle.srm_net.specs.Roles.{is_sender, is_listener}
+use Rattle.srm_net.specs.Limits.{most_drawn}
+use Rattle.srm_member.specs.declared.cause.Cause.{Cause}
+use Rattle.srm_member.specs.declared.cause.Cause.TheVariants.{Join, Arrival, Ask, Answer, Draw, Report}
+use Rattle.srm_member.specs.declared.fixed.Fixed.{Fixed}
+use Rattle.srm_member.specs.Backoff.{span_by}
+use Rattle.srm_member.specs.Intervals.{Interval, Limits}
+use Rattle.srm_member.specs.IntervalLaws.{Change, changed, IsWithinLimits, HasNoRoom}
+use Rattle.srm_member.specs.AdaptingLaws.{HasFixedTimers, IsAdaptedWithin, FixedTimersIgnoreWhatIsSeen}
+use Rattle.srm_member.specs.Record.{MemberState, Missing, Repairing, Progress, timers_of}
+use Rattle.srm_member.specs.React.{Reaction, has_entry, distance_to, length_in, with_next_word, request_length, repair_length, back_off}
+use Rattle.srm_member.specs.React.{with_progress, with_request_delay, with_losses_begun, with_mending_seen, with_repair_seen}
+use Rattle.srm_member.specs.React.{with_repairs_begun}
+use Rattle.srm_member.specs.React.{with_duplicate_request, with_request_first, with_repair_first, is_at_rest, meet, lose_one, lose_from}
+use Rattle.srm_member.specs.React.{lose_below, lost_below, with_held, with_mended, hear_data, with_rest, hear_repair, with_repair_timer}
+use Rattle.srm_member.specs.React.{hear_request_by_entry, hear_request_of_held, hear_request_of_missing, hear_request, page_heard}
+use Rattle.srm_member.specs.React.{after_entry}
+use Rattle.srm_member.specs.React.{lost_by_entry, hear_session, hear_body, expire_request_by_entry, expire_request, expire_repair_by_entry}
+use Rattle.srm_member.specs.React.{expire_repair, own_page, own_progress, draw_operation, is_skip, react_active, listen_data}
+use Rattle.srm_member.specs.React.{listen, react_listener, react}
+use Rattle.srm_member.proofs.IntervalProofs.{changed_within, ordered_without_room, only_first}
+use Rattle.srm_member.proofs.IntervalChanges.{Adapts, adapts_delay, adapts_losses, adapts_mending, adapts_repair_seen, adapts_repairs_begun}
+use Rattle.srm_member.proofs.IntervalChanges.{adapts_duplicate, adapts_request_first, adapts_repair_first, adapts_same, adapts_back_off}
+
+-- start and width are the first values
+abbrev AreFirst : Limits → Limits → Interval → Type 0
+AreFirst start width i = (i.start ≡ start.first) × (i.width ≡ width.first)
+
+first_within : (l : Limits) (x : ℕ) → HasNoRoom l → x ≡ l.first → IsWithinLimits l x
+first_within l x h e = (omega arith, omega arith)
+
+stays_first : (start width : Limits) → HasNoRoom start → HasNoRoom width → (c : Change) (i : Interval) → AreFirst start width i
+    → AreFirst start width (changed start width c i)
+stays_first start width hs hw c i h =
+    let kept = changed_within start width (ordered_without_room start hs) (ordered_without_room width hw) c i
+    (first_within start i.start hs h.0, first_within width i.width hw h.1) in
+    (only_first start _ hs kept.0, only_first width _ hw kept.1)
+
+-- a record with other intervals
+abbrev swapped : Interval → Interval → MemberState → MemberState
+swapped a b m = record m { request_interval = a; repair_interval = b }
+
+module _ (f : Fixed) (roomless : HasFixedTimers f) where
+  abbrev Asks : Interval → Type 0
+  Asks = AreFirst f.c1 f.c2
+
+  abbrev Answers : Interval → Type 0
+  Answers = AreFirst f.d1 f.d2
+
+  asks : (c : Change) (i : Interval) → Asks i → Asks (changed f.c1 f.c2 c i)
+  asks = stays_first f.c1 f.c2 roomless.c1 roomless.c2
+
+  answers : (c : Change) (i : Interval) → Answers i → Answers (changed f.d1 f.d2 c i)
+  answers = stays_first f.d1 f.d2 roomless.d1 roomless.d2
+
+  -- this fixed part, and the first constants
+  abbrev Fit : MemberState → Type 0
+  Fit m = Adapts f Asks Answers asks answers m
+
+  record Alike (m k : MemberState) : Type 0 where
+    pub left : Fit m
+    pub right : Fit k
+    pub same : k ≡ swapped k.request_interval k.repair_interval m
+
+  record AlikeReaction (r s : Reaction) : Type 0 where
+    pub answer : s.answer ≡ r.answer
+    pub state : Alike r.state s.state
+
+  swap : (a b : Interval) (m : MemberState) → Fit m → Fit (swapped a b m) → Alike m (swapped a b m)
+  swap a b m l r = record { left = l; right = r; same = refl }
+
+  -- what holds of every record with other intervals holds of one that is alike
+  by_swap : (R : MemberState → Type 0) (m k : MemberState) → Alike m k
+      → ((a b : Interval) → Fit (swapped a b m) → R (swapped a b m)) → R k
+  by_swap R m k h g = subst R (sym h.same) (g k.request_interval k.repair_interval (subst Fit h.same h.right))
+
+  same_fit : (m n : MemberState) → n.fixed ≡ m.fixed → n.request_interval ≡ m.request_interval → n.repair_interval ≡ m.repair_interval
+      → Fit m → Fit n
+  same_fit = adapts_same f Asks Answers asks answers
+
+  alike_cond : (b : Bool) (m n k l : MemberState) → Alike m k → Alike n l → Alike (cond b m n) (cond b k l)
+  alike_cond true m n k l h g = h
+  alike_cond false m n k l h g = g
+
+  alike_if : (b : Bool) (x y z w : Reaction) → AlikeReaction x z → AlikeReaction y w → AlikeReaction (cond b x y) (cond b z w)
+  alike_if true x y z w h g = h
+  alike_if false x y z w h g = g
+
+  -- ---- lengths of timers
+
+  request_same : (a b : Interval) (m : MemberState) → Fit m → Fit (swapped a b m) → (i : ℕ) (n : Name)
+      → request_length (swapped a b m) i n ≡ request_length m i n
+  request_same a b m l r i n =
+      let start : a.start ≡ m.request_interval.start = r.requests.0 ∙ sym l.requests.0 in
+      let width : a.width ≡ m.request_interval.width = r.requests.1 ∙ sym l.requests.1 in
+      ap (λ x. length_in m (span_by m.fixed.backoff i x a.width (distance_to m n.source))) start
+      ∙ ap (λ y. length_in m (span_by m.fixed.backoff i m.request_interval.start y (distance_to m n.source))) width
+
+  repair_same : (a b : Interval) (m : MemberState) → Fit m → Fit (swapped a b m) → (who : ℕ)
+      → repair_length (swapped a b m) who ≡ repair_length m who
+  repair_same a b m l r who =
+      let start : b.start ≡ m.repair_interval.start = r.repairs.0 ∙ sym l.repairs.0 in
+      let width : b.width ≡ m.repair_interval.width = r.repairs.1 ∙ sym l.repairs.1 in
+      ap (λ x. length_in m (span_by m.fixed.backoff 0 x b.width (distance_to m who))) start
+      ∙ ap (λ y. length_in m (span_by m.fixed.backoff 0 m.repair_interval.start y (distance_to m who))) width
+
+  -- ---- what sets timers
+
+  abbrev lost_with : ℕ → Name → MemberState → ℕ → MemberState
+  lost_with at n m len = record (with_next_word m) {
+    missing = put name_cmp n (record { detected = at; expiry = at + len; backoffs = 0; ignore = at }) m.missing;
+  }
+
+  alike_lose_one : (at : ℕ) (n : Name) (m k : MemberState) → Alike m k → Alike (lose_one at n m) (lose_one at n k)
+  alike_lose_one at n m k h = by_swap (λ q. Alike (lose_one at n m) (lose_one at n q)) m k h (λ a b fit. record {
+    left = same_fit m (lose_one at n m) refl refl refl h.left;
+    right = same_fit (swapped a b m) (lose_one at n (swapped a b m)) refl refl refl fit;
+    same = ap (λ len. swapped a b (lost_with at n m len)) (request_same a b m h.left fit 0 n);
+  })
+
+  abbrev backed_with : ℕ → Name → Missing → MemberState → ℕ → MemberState
+  backed_with at n e m len = record (with_next_word m) {
+    missing = put name_cmp n
+        (record { detected = e.detected; expiry = at + len; backoffs = min (e.backoffs + 1) 10; ignore = at + len / 2 }) m.missing;
+  }
+
+  alike_back_off : (at : ℕ) (n : Name) (e : Missing) (m k : MemberState) → Alike m k → Alike (back_off at n e m) (back_off at n e k)
+  alike_back_off at n e m k h = by_swap (λ q. Alike (back_off at n e m) (back_off at n e q)) m k h (λ a b fit.
+      let q = with_request_delay at n e (swapped a b m) in
+      let l = adapts_delay f Asks Answers asks answers at n e m h.left in
+      let r = adapts_delay f Asks Answers asks answers at n e (swapped a b m) fit in
+      record {
+        left = adapts_back_off f Asks Answers asks answers at n e m h.left;
+        right = adapts_back_off f Asks Answers asks answers at n e (swapped a b m) fit;
+        same = ap (λ len. swapped q.request_interval b (backed_with at n e m len))
+            (request_same q.request_interval b (with_request_delay at n e m) l r (min (e.backoffs + 1) 10) n);
+      })
+
+  abbrev planned_with : ℕ → Name → ℕ → MemberState → ℕ → MemberState
+  planned_with at n who m len = record (with_next_word m) {
+    repairs = put name_cmp n (record { set = at; expiry = at + len; requester = who }) m.repairs;
+  }
+
+  alike_planning : (at : ℕ) (n : Name) (who : ℕ) (m k : MemberState) → Alike m k
+      → Alike (with_repair_timer at n who m) (with_repair_timer at n who k)
+  alike_planning at n who m k h = by_swap (λ q. Alike (with_repair_timer at n who m) (with_repair_timer at n who q)) m k h (λ a b fit.
+      let q = with_repairs_begun (swapped a b m) in
+      let l = adapts_repairs_begun f Asks Answers asks answers m h.left in
+      let r = adapts_repairs_begun f Asks Answers asks answers (swapped a b m) fit in
+      record {
+        left = same_fit (with_repairs_begun m) (with_repair_timer at n who m) refl refl refl l;
+        right = same_fit q (with_repair_timer at n who (swapped a b m)) refl refl refl r;
+        same = ap (λ len. swapped a q.repair_interval (planned_with at n who m len))
+            (repair_same a q.repair_interval (with_repairs_begun m) l r who);
+      })
+
+  -- ---- what sets none
+
+  -- a change of other parts than intervals
+  alike_plain : (F : MemberState → MemberState) → ((a b : Interval) (m : MemberState) → F (swapped a b m) ≡ swapped a b (F m))
+      → ((m : MemberState) → Fit m → Fit (F m))
+      → ((m : MemberState) → (F m).request_interval ≡ m.request_interval) → ((m : MemberState) → (F m).repair_interval ≡ m.repair_interval)
+      → (m k : MemberState) → Alike m k → Alike (F m) (F k)
+  alike_plain F e fits p q m k h = record {
+    left = fits m h.left;
+    right = fits k h.right;
+    same = ap F h.same ∙ e k.request_interval k.repair_interval m
+        ∙ ap (λ a. swapped a k.repair_interval (F m)) (sym (p k)) ∙ ap (λ b. swapped (F k).request_interval b (F m)) (sym (q k));
+  }
+
+  alike_progress : (p : PageId) (s : Progress) (m k : MemberState) → Alike m k → Alike (with_progress p s m) (with_progress p s k)
+  alike_progress p s = alike_plain (with_progress p s) (λ a b m. refl) (λ m h. same_fit m (with_progress p s m) refl refl refl h)
+      (λ m. refl) (λ m. refl)
+
+  alike_holding : (n : Name) (ink : ℕ) (m k : MemberState) → Alike m k → Alike (with_held n ink m) (with_held n ink k)
+  alike_holding n ink = alike_plain (with_held n ink) (λ a b m. refl) (λ m h. same_fit m (with_held n ink m) refl refl refl h)
+      (λ m. refl) (λ m. refl)
+
+  alike_mended : (n : Name) (ink : ℕ) (m k : MemberState) → Alike m k → Alike (with_mended n ink m) (with_mended n ink k)
+  alike_mended n ink = alike_plain (with_mended n ink) (λ a b m. refl) (λ m h. same_fit m (with_mended n ink m) refl refl refl h)
+      (λ m. refl) (λ m. refl)
+
+  alike_resting : (at : ℕ) (n : Name) (who : ℕ) (m k : MemberState) → Alike m k → Alike (with_rest at n who m) (with_rest at n who k)
+  alike_resting at n who = alike_plain (with_rest at n who) (λ a b m. refl)
+      (λ m h. same_fit m (with_rest at n who m) refl refl refl h) (λ m. refl) (λ m. refl)
+
+  alike_lose_from : (at : ℕ) (p : PageId) (count first : ℕ) (m k : MemberState) → Alike m k
+      → Alike (lose_from at p count first m) (lose_from at p count first k)
+  unfolding lose_from
+  alike_lose_from at p zero first m k h = h
+  alike_lose_from at p (suc count) first m k h = alike_lose_from at p count (suc first) (lose_one at (name_in p first) m)
+      (lose_one at (name_in p first) k) (alike_lose_one at (name_in p first) m k h)
+
+  -- ---- what changes intervals alone
+
+  -- a change of intervals alone
+  alike_change : (F : MemberState → MemberState)
+      → ((m : MemberState) → F m ≡ swapped (F m).request_interval (F m).repair_interval m) → ((m : MemberState) → Fit m → Fit (F m))
+      → (m k : MemberState) → Alike m k → Alike (F m) (F k)
+  alike_change F e fits m k h =
+      let a = (F k).request_interval in
+      let b = (F k).repair_interval in
+      record {
+        left = fits m h.left;
+        right = fits k h.right;
+        same = e k ∙ ap (swapped a b) h.same ∙ sym (ap (swapped a b) (e m));
+      }
+
+  alike_losses : (lost : List Name) (n : ℕ) (s : Progress) (m k : MemberState) → Alike m k
+      → Alike (with_losses_begun lost n s m) (with_losses_begun lost n s k)
+  alike_losses lost n s = alike_change (with_losses_begun lost n s) (λ m. refl) (adapts_losses f Asks Answers asks answers lost n s)
+
+  alike_mending : (at : ℕ) (n : Name) (repaired : Bool) (m k : MemberState) → Alike m k
+      → Alike (with_mending_seen at n repaired m) (with_mending_seen at n repaired k)
+  alike_mending at n repaired =
+      alike_change (with_mending_seen at n repaired) (λ m. refl) (adapts_mending f Asks Answers asks answers at n repaired)
+
+  alike_repair_seen : (at : ℕ) (n : Name) (m k : MemberState) → Alike m k → Alike (with_repair_seen at n m) (with_repair_seen at n k)
+  alike_repair_seen at n = alike_change (with_repair_seen at n) (λ m. refl) (adapts_repair_seen f Asks Answers asks answers at n)
+
+  alike_duplicate : (m k : MemberState) → Alike m k → Alike (with_duplicate_request m) (with_duplicate_request k)
+  alike_duplicate = alike_change with_duplicate_request (λ m. refl) (adapts_duplicate f Asks Answers asks answers)
+
+  alike_request_first : (e : Missing) (m k : MemberState) → Alike m k → Alike (with_request_first e m) (with_request_first e k)
+  alike_request_first e = alike_change (with_request_first e) (λ m. refl) (adapts_request_first f Asks Answers asks answers e)
+
+  alike_repair_first : (at : ℕ) (r : Repairing) (m k : MemberState) → Alike m k
+      → Alike (with_repair_first at r m) (with_repair_first at r k)
+  alike_repair_first at r = alike_change (with_repair_first at r) (λ m. refl) (adapts_repair_first f Asks Answers asks answers at r)
+
+  -- ---- events
+
+  alike_lose : (at : ℕ) (p : PageId) (n next : ℕ) (s : Progress) (lost : List Name) (m k : MemberState) → Alike m k
+      → Alike (lose_below at p n next s lost m) (lose_below at p n next s lost k)
+  unfolding lose_below
+  alike_lose at p n next s lost m k h =
+      alike_progress p (record { floor = s.floor; next = next }) _ _
+      (alike_lose_from at p (n - s.next) s.next _ _ (alike_losses lost n s m k h))
+
+  data_alike : (at : ℕ) (n : Name) (ink : ℕ) (repaired : Bool) (a b : Interval) (m : MemberState) → Alike m (swapped a b m)
+      → AlikeReaction (hear_data at n ink repaired m) (hear_data at n ink repaired (swapped a b m))
+  unfolding hear_data
+  data_alike at n ink repaired a b m h =
+      let p = page_of n in
+      let s = meet m p n.number in
+      let q = swapped a b m in
+      let met = alike_progress p s m q h in
+      alike_if (nat_lt n.number s.floor) _ _ _ _ (record { answer = refl; state = met })
+      (alike_if (nat_le s.next n.number) _ _ _ _
+      (record { answer = refl; state = alike_holding n ink _ _ (alike_lose at p n.number (n.number + 1) s [] m q h) })
+      (alike_if (has_entry n m.missing) _ _ _ _
+      (record { answer = refl; state = alike_mended n ink _ _ (alike_progress p s _ _ (alike_mending at n repaired m q h)) })
+      (record { answer = refl; state = met })))
+
+  alike_data : (at : ℕ) (n : Name) (ink : ℕ) (repaired : Bool) (m k : MemberState) → Alike m k
+      → AlikeReaction (hear_data at n ink repaired m) (hear_data at n ink repaired k)
+  alike_data at n ink repaired m k h = by_swap (λ q. AlikeReaction (hear_data at n ink repaired m) (hear_data at n ink repaired q)) m k h
+      (λ a b fit. data_alike at n ink repaired a b m (swap a b m h.left fit))
+
+  repaired_alike : (at : ℕ) (n : Name) (who : ℕ) (r s : Reaction) → AlikeReaction r s
+      → AlikeReaction (cond (is_skip r.answer.told) r (record r { state = with_rest at n who (with_repair_seen at n r.state) }))
+      (cond (is_skip s.answer.told) s (record s { state = with_rest at n who (with_repair_seen at n s.state) }))
+  repaired_alike at n who r s h =
+      let rests : Reaction → Reaction = λ x. record x { state = with_rest at n who (with_repair_seen at n x.state) } in
+      subst (λ b. AlikeReaction (cond (is_skip r.answer.told) r (rests r)) (cond b s (rests s)))
+      (sym (ap (λ (x : Rattle.srm_member.specs.declared.react.React.React). is_skip x.told) h.answer))
+      (alike_if (is_skip r.answer.told) r (rests r) s (rests s) h
+      (record { answer = h.answer; state = alike_resting at n who _ _ (alike_repair_seen at n r.state s.state h.state) }))
+
+  alike_repair : (at : ℕ) (n : Name) (ink who : ℕ) (m k : MemberState) → Alike m k
+      → AlikeReaction (hear_repair at n ink who m) (hear_repair at n ink who k)
+  alike_repair at n ink who m k h = repaired_alike at n who _ _ (alike_data at n ink true m k h)
+
+  alike_asked : (at : ℕ) (n : Name) (lost : List Name) (m k : MemberState) (o : Option Missing) → Alike m k
+      → AlikeReaction (hear_request_by_entry at n lost m o) (hear_request_by_entry at n lost k o)
+  alike_asked at n lost m k None h = record { answer = refl; state = h }
+  alike_asked at n lost m k (Some e) h = alike_if (nat_lt at e.ignore) _ _ _ _
+      (record { answer = refl; state = alike_duplicate m k h }) (record { answer = refl; state = alike_back_off at n e m k h })
+
+  alike_missing : (at : ℕ) (n : Name) (lost : List Name) (m k : MemberState) → Alike m k
+      → AlikeReaction (hear_request_of_missing at n lost m) (hear_request_of_missing at n lost k)
+  alike_missing at n lost m k h =
+      by_swap (λ q. AlikeReaction (hear_request_of_missing at n lost m) (hear_request_of_missing at n lost q)) m k h
+      (λ a b fit. alike_asked at n lost m (swapped a b m) (find name_cmp n m.missing) (swap a b m h.left fit))
+
+  alike_held : (at : ℕ) (n : Name) (who : ℕ) (m k : MemberState) → Alike m k
+      → AlikeReaction (hear_request_of_held at n who m) (hear_request_of_held at n who k)
+  alike_held at n who m k h =
+      by_swap (λ q. AlikeReaction (hear_request_of_held at n who m) (hear_request_of_held at n who q)) m k h (λ a b fit.
+      let g = swap a b m h.left fit in
+      alike_if (is_at_rest at n m) _ _ _ _ (record { answer = refl; state = g })
+      (alike_if (has_entry n m.repairs) _ _ _ _ (record { answer = refl; state = g })
+      (record { answer = refl; state = alike_planning at n who m (swapped a b m) g })))
+
+  request_alike : (at : ℕ) (n : Name) (who : ℕ) (a b : Interval) (m : MemberState) → Alike m (swapped a b m)
+      → AlikeReaction (hear_request at n who m) (hear_request at n who (swapped a b m))
+  unfolding hear_request
+  request_alike at n who a b m h =
+      let p = page_of n in
+      let s = meet m p (n.number + 1) in
+      let k = with_progress p s m in
+      let met = alike_progress p s m (swapped a b m) h in
+      alike_if (nat_lt n.number s.floor) _ _ _ _ (record { answer = refl; state = met })
+      (alike_if (has_entry n k.held) _ _ _ _ (alike_held at n who _ _ met)
+      (alike_if (nat_le s.next n.number) _ _ _ _
+      (alike_missing at n (lost_below p (n.number + 1) s) _ _ (alike_lose at p (n.number + 1) (n.number + 1) s [] _ _ met))
+      (alike_missing at n [] _ _ met)))
+
+  alike_entry : (at : ℕ) (d : Heard) (lost : List Name) (a b : Interval) (m : MemberState) → Alike m (swapped a b m)
+      → Alike (after_entry at d lost m) (after_entry at d lost (swapped a b m))
+  unfolding after_entry
+  alike_entry at d lost a b m h =
+      let s = meet m (page_heard d) (d.highest + 1) in
+      alike_cond (nat_le s.next d.highest) _ _ _ _
+      (alike_lose at (page_heard d) (d.highest + 1) (d.highest + 1) s lost m (swapped a b m) h)
+      (alike_progress (page_heard d) s m (swapped a b m) h)
+
+  alike_session : (at : ℕ) (hs : List Heard) (m k : MemberState) (lost : List Name) → Alike m k
+      → AlikeReaction (hear_session at hs m lost) (hear_session at hs k lost)
+  unfolding hear_session
+  alike_session at [] m k lost h = record { answer = refl; state = h }
+  alike_session at (d ∷ hs) m k lost h =
+      by_swap (λ q. AlikeReaction (hear_session at (d ∷ hs) m lost) (hear_session at (d ∷ hs) q lost)) m k h (λ a b fit.
+      alike_session at hs (after_entry at d lost m) (after_entry at d lost (swapped a b m)) (lost ++ lost_by_entry d m)
+      (alike_entry at d lost a b m (swap a b m h.left fit)))
+
+  alike_hear : (at who : ℕ) (body : Body) (a b : Interval) (m : MemberState) → Alike m (swapped a b m)
+      → AlikeReaction (hear_body at who body m) (hear_body at who body (swapped a b m))
+  alike_hear at who (Drawop n ink) a b m h = data_alike at n ink false a b m h
+  alike_hear at who (Repair n ink) a b m h = alike_repair at n ink who m (swapped a b m) h
+  alike_hear at who (Request n) a b m h = request_alike at n who a b m h
+  alike_hear at who (Session hs) a b m h = alike_session at hs m (swapped a b m) [] h
+
+  alike_asking : (at : ℕ) (n : Name) (m k : MemberState) (o : Option Missing) → Alike m k
+      → AlikeReaction (expire_request_by_entry at n m o) (expire_request_by_entry at n k o)
+  alike_asking at n m k None h = record { answer = refl; state = h }
+  alike_asking at n m k (Some e) h = record { answer = refl; state = alike_back_off at n e _ _ (alike_request_first e m k h) }
+
+  alike_answering : (at : ℕ) (n : Name) (a b : Interval) (m : MemberState) (o : Option Repairing) → Alike m (swapped a b m)
+      → AlikeReaction (expire_repair_by_entry at n m o) (expire_repair_by_entry at n (swapped a b m) o)
+  alike_answering at n a b m None h = record { answer = refl; state = h }
+  alike_answering at n a b m (Some r) h =
+      record { answer = refl; state = alike_resting at n m.fixed.member _ _ (alike_repair_first at r m (swapped a b m) h) }
+
+  alike_drawing : (page ink : ℕ) (a b : Interval) (m : MemberState) → Alike m (swapped a b m)
+      → AlikeReaction (draw_operation page ink m) (draw_operation page ink (swapped a b m))
+  unfolding draw_operation
+  alike_drawing page ink a b m h =
+      let p = own_page m page in
+      let s = own_progress m p in
+      alike_if (is_sender m.fixed.role && nat_lt s.next most_drawn) _ _ _ _
+      (record {
+        answer = refl;
+        state = alike_holding (name_in p s.next) ink _ _
+            (alike_progress p (record { floor = s.floor; next = s.next + 1 }) m (swapped a b m) h);
+      }) (record { answer = refl; state = h })
+
+  alike_active : (at : ℕ) (cause : Cause) (a b : Interval) (m : MemberState) → Alike m (swapped a b m)
+      → AlikeReaction (react_active m at cause) (react_active (swapped a b m) at cause)
+  unfolding expire_request expire_repair
+  alike_active at Join a b m h = record { answer = refl; state = h }
+  alike_active at (Arrival p) a b m h = alike_hear at p.id.sender p.body a b m h
+  alike_active at (Ask n) a b m h = alike_asking at n m (swapped a b m) (find name_cmp n m.missing) h
+  alike_active at (Answer n) a b m h = alike_answering at n a b m (find name_cmp n m.repairs) h
+  alike_active at (Draw page ink) a b m h = alike_drawing page ink a b m h
+  alike_active at Report a b m h = record { answer = refl; state = h }
+
+  alike_listened : (n : Name) (ink : ℕ) (a b : Interval) (m : MemberState) → Alike m (swapped a b m)
+      → AlikeReaction (listen_data n ink m) (listen_data n ink (swapped a b m))
+  alike_listened n ink a b m h = alike_if (has_entry n m.held) _ _ _ _ (record { answer = refl; state = h })
+      (record { answer = refl; state = alike_holding n ink m (swapped a b m) h })
+
+  alike_listen : (body : Body) (a b : Interval) (m : MemberState) → Alike m (swapped a b m)
+      → AlikeReaction (listen body m) (listen body (swapped a b m))
+  alike_listen (Drawop n ink) a b m h = alike_listened n ink a b m h
+  alike_listen (Repair n ink) a b m h = alike_listened n ink a b m h
+  alike_listen (Request n) a b m h = record { answer = refl; state = h }
+  alike_listen (Session hs) a b m h = record { answer = refl; state = h }
+
+  alike_listener : (cause : Cause) (a b : Interval) (m : MemberState) → Alike m (swapped a b m)
+      → AlikeReaction (react_listener m cause) (react_listener (swapped a b m) cause)
+  alike_listener Join a b m h = record { answer = refl; state = h }
+  alike_listener (Arrival p) a b m h = alike_listen p.body a b m h
+  alike_listener (Ask n) a b m h = record { answer = refl; state = h }
+  alike_listener (Answer n) a b m h = record { answer = refl; state = h }
+  alike_listener (Draw page ink) a b m h = record { answer = refl; state = h }
+  alike_listener Report a b m h = record { answer = refl; state = h }
+
+  react_alike : (at : ℕ) (cause : Cause) (a b : Interval) (m : MemberState) → Alike m (swapped a b m)
+      → AlikeReaction (react m at cause) (react (swapped a b m) at cause)
+  unfolding react
+  react_alike at cause a b m h =
+      alike_if (is_listener m.fixed.role) _ _ _ _ (alike_listener cause a b m h) (alike_active at cause a b m h)
+
+  alike_react : (at : ℕ) (cause : Cause) (m k : MemberState) → Alike m k → AlikeReaction (react m at cause) (react k at cause)
+  alike_react at cause m k h = by_swap (λ q. AlikeReaction (react m at cause) (react q at cause)) m k h
+      (λ a b fit. react_alike at cause a b m (swap a b m h.left fit))
+
+-- a record within limits without room has the first constants
+first_of : (f : Fixed) (roomless : HasFixedTimers f) (m : MemberState) → m.fixed ≡ f → IsAdaptedWithin m → Fit f roomless m
+first_of f roomless m e w = record {
+  same = e;
+  requests = (
+    only_first f.c1 m.request_interval.start roomless.c1 (subst (λ (g : Fixed). IsWithinLimits g.c1 m.request_interval.start) e w.c1),
+    only_first f.c2 m.request_interval.width roomless.c2 (subst (λ (g : Fixed). IsWithinLimits g.c2 m.request_interval.width) e w.c2),
+  );
+  repairs = (
+    only_first f.d1 m.repair_interval.start roomless.d1 (subst (λ (g : Fixed). IsWithinLimits g.d1 m.repair_interval.start) e w.d1),
+    only_first f.d2 m.repair_interval.width roomless.d2 (subst (λ (g : Fixed). IsWithinLimits g.d2 m.repair_interval.width) e w.d2),
+  );
+}
+
+pub fixed_timers_ignore_what_is_seen : FixedTimersIgnoreWhatIsSeen
+fixed_timers_ignore_what_is_seen m k at cause roomless wm wk differ =
+    let fixed : k.fixed ≡ m.fixed = ap (λ (x : MemberState). x.fixed) differ in
+    let r = alike_react m.fixed roomless at cause m k (record {
+      left = first_of m.fixed roomless m refl wm;
+      right = first_of m.fixed roomless k fixed wk;
+      same = differ;
+    }) in
+    (r.answer, ap timers_of r.state.same, r.state.same)

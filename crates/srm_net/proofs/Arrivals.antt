@@ -1,0 +1,327 @@
+-- When a packet comes to the nodes of a tree.
+use Rattle.std.proofs.Common.{◌≡◌, ◌≢◌, ◌⊎◌, ℕ, ◌+◌, ◌-◌, ◌^◌, ◌<◌, ◌≤◌, Bool, true, false, not, ◌&&◌, List, Option, Some, None, length}
+use Rattle.std.proofs.Common.{refl, sym, ap, ◌∙◌, subst, inl, inr, arith, slice_get, slice_set, if◌then◌else◌, is_some, IfSome}
+use Rattle.std.proofs.lemmas.Bool.{cases_eq, cases_lt, both_ways}
+use Rattle.std.proofs.lemmas.List.{length-set}
+use Rattle.srm_net.specs.declared.position.Position.{Position}
+use Rattle.srm_net.specs.Limits.{end_of_time, greatest_distance}
+use Rattle.srm_net.specs.Network.{Network, IsTree, IsNetwork}
+use Rattle.srm_net.specs.Paths.{route, delay_of, delay_along, Stop, stop}
+use Rattle.srm_net.specs.Rooting.{takes, at, IsRooted, IsFirst, IsHeld, IsInOrder}
+use Rattle.srm_net.specs.Spreads.{comes_to, arrival, past_link, TellsArrivals, TellsAbove}
+use Rattle.srm_net.proofs.Lists.{get_below, get_set_same, get_set_other}
+use Rattle.srm_net.proofs.RouteLemmas.{route_path}
+use Rattle.srm_net.proofs.PathLaws.{delay_bounded}
+use Rattle.srm_net.proofs.TreeWays.{delay_push}
+use Rattle.srm_net.proofs.Rootings.{takes_nothing, parent_back}
+use Rattle.srm_net.proofs.SpreadLemmas.{comes_home, comes_next, route_there}
+use Rattle.srm_net.proofs.Firsts.{parent_held, held_by_parent, held_itself, first_down, first_up, up_held}
+
+-- ---- from one node to the next
+
+some_where : (b : Bool) (n : ℕ) → is_some (if b then Some n else None) ≡ b
+some_where true n = refl
+some_where false n = refl
+
+-- it comes where it is told when
+pub told_where : (w : Network) (out : Stop → Bool) (u t : ℕ) (arrivals : List (Option ℕ)) → TellsArrivals w out u t arrivals
+    → (i : ℕ) (a : Option ℕ) → slice_get arrivals i ≡ Some a → is_some a ≡ comes_to w out u t i
+told_where w out u t arrivals told i a g =
+    let size : length arrivals ≡ w.nodes = told.nodes in
+    let within = get_below arrivals i a g in
+    let same : Some a ≡ Some (arrival w out u t i) = sym g ∙ told.each i (omega arith) in
+    let e : a ≡ arrival w out u t i = cc in
+    ap is_some e ∙ some_where (comes_to w out u t i) (t + takes w u i)
+
+turned_over : (o : Bool) (n : ℕ) → (if not o then Some n else None) ≡ (if o then None else Some n)
+turned_over true n = refl
+turned_over false n = refl
+
+passed : (b : Bool) (out : Stop → Bool) (l n ticks : ℕ) → (if b && not (out (stop l n)) then Some (n + ticks) else None)
+    ≡ past_link out l ticks (if b then Some n else None)
+passed true out l n ticks = turned_over (out (stop l n)) (n + ticks)
+passed false out l n ticks = refl
+
+-- the packet comes to node x from node y, over link l in so many ticks
+pub record Comes (w : Network) (out : Stop → Bool) (u t y x l ticks : ℕ) : Type 0 where
+  pub takes_is : takes w u x ≡ takes w u y + ticks
+  pub arrival_is : arrival w out u t x ≡ past_link out l ticks (arrival w out u t y)
+
+comes_over : (w : Network) → IsTree w → (out : Stop → Bool) (u t y x l ticks : ℕ) → u < w.nodes → x < w.nodes → IsFirst w x u l y
+    → takes w u x ≡ takes w u y + ticks → Comes w out u t y x l ticks
+comes_over w n out u t y x l ticks hu hx f e =
+    let come = comes_to w out u t y && not (out (stop l (t + takes w u y))) in
+    let next : comes_to w out u t x ≡ come = comes_next w n out u t x y l hu hx f.node f.route f.leads in
+    let later : t + takes w u x ≡ (t + takes w u y) + ticks = omega arith in
+    record {
+      takes_is = e;
+      arrival_is = ap (λ b. if b then Some (t + takes w u x) else None) next
+          ∙ ap (λ k. if comes_to w out u t y && not (out (stop l (t + takes w u y))) then Some k else None) later
+          ∙ passed (comes_to w out u t y) out l (t + takes w u y) ticks;
+    }
+
+pub home : (w : Network) (out : Stop → Bool) (u t : ℕ) → arrival w out u t u ≡ Some t
+home w out u t =
+    let none = takes_nothing w u in
+    let same : t + takes w u u ≡ t = omega arith in
+    ap (λ b. if b then Some (t + takes w u u) else None) (comes_home w out u t) ∙ ap Some same
+
+held_back : (b : Bool) (n m : ℕ) → n < m → (ticks : ℕ) → n + ticks < m → IfSome (if b then Some n else None) (λ k. k + ticks < m)
+held_back true n m h ticks e = e
+held_back false n m h ticks e = tt
+
+pub less_of : (n i : ℕ) → n ≢ i → n < i + 1 → n < i
+less_of n i d h = elim (cases_lt n i) [ inl e ↦ e | inr e ↦ absurd (d (omega arith)) ]
+
+-- it comes in time
+pub soon : (w : Network) → IsNetwork w → (out : Stop → Bool) (u t y x l ticks : ℕ) → u < w.nodes → x < w.nodes → t < end_of_time
+    → Comes w out u t y x l ticks → IfSome (arrival w out u t y) (λ k. k + ticks < 2 ^ 64)
+soon w n out u t y x l ticks hu hx ht c =
+    let most : takes w u x ≤ greatest_distance = delay_bounded w n u x hu hx in
+    let e : takes w u x ≡ takes w u y + ticks = c.takes_is in
+    held_back (comes_to w out u t y) (t + takes w u y) (2 ^ 64) (omega arith) ticks (omega arith)
+
+-- a position is held by another, or not, as they are read
+pub held_read : (ps : List Position) (x u : ℕ) (here from : Position) → here ≡ at ps x → from ≡ at ps u → IsHeld here from
+    → IsHeld (at ps x) (at ps u)
+held_read ps x u here from e f h = subst (λ (q : Position). IsHeld q (at ps u)) e (subst (λ (q : Position). IsHeld here q) f h)
+
+pub not_held_read : (ps : List Position) (x u : ℕ) (here from : Position) (b : Bool) → here ≡ at ps x → from ≡ at ps u
+    → (here.place ≤ from.place → from.place < here.end → b ≡ true) → b ≡ false → IsHeld (at ps x) (at ps u) → ⊥
+not_held_read ps x u here from b e f whole n held =
+    let place : here.place ≡ (at ps x).place = ap (λ (q : Position). q.place) e in
+    let end : here.end ≡ (at ps x).end = ap (λ (q : Position). q.end) e in
+    let other : from.place ≡ (at ps u).place = ap (λ (q : Position). q.place) f in
+    let h0 : (at ps x).place ≤ (at ps u).place = held.0 in
+    let h1 : (at ps u).place < (at ps x).end = held.1 in
+    both_ways _ n (whole (omega arith) (omega arith))
+
+module _ (w : Network) (ps : List Position) (r : IsRooted w ps) where
+  -- a node but the root, and its parent
+  pub record Above (n : ℕ) : Type 0 where
+    pub node : (at ps n).parent < w.nodes
+    pub lower : (at ps (at ps n).parent).place < (at ps n).place
+
+  above_of : (n : ℕ) → n < w.nodes → 1 ≤ r.place n → Above n
+  above_of n hn h =
+      let p = (r.each n hn).parent h in
+      let en = (r.each n hn).place_is in
+      let ep = (r.each (at ps n).parent p.node).place_is in
+      let low : r.place (at ps n).parent < r.place n = p.earlier in
+      record { node = p.node; lower = omega arith }
+
+  -- from a node that is above the sender to its parent
+  pub record Up (out : Stop → Bool) (u t n : ℕ) : Type 0 where
+    pub node : (at ps n).parent < w.nodes
+    pub lower : (at ps (at ps n).parent).place < (at ps n).place
+    pub held : IsHeld (at ps (at ps n).parent) (at ps u)
+    pub less : (at ps (at ps n).parent).up ≤ (at ps n).up
+    pub comes : Comes w out u t n (at ps n).parent (at ps n).link ((at ps n).up - (at ps (at ps n).parent).up)
+
+  pub upwards : (out : Stop → Bool) (u t n : ℕ) → u < w.nodes → n < w.nodes → n ≢ 0 → IsHeld (at ps n) (at ps u) → Up out u t n
+  upwards out u t n hu hn d held =
+      let some : 1 ≤ w.nodes = r.tree.some_nodes in
+      let root : r.place 0 ≡ 0 = r.root in
+      let h : 1 ≤ r.place n = elim (cases_eq (r.place n) 0)
+      [ inl z ↦ absurd (d (r.apart n 0 hn some (z ∙ sym root))) | inr z ↦ omega arith ] in
+      let a = above_of n hn h in
+      let p = (at ps n).parent in
+      let over = held_by_parent w ps r n u hn hu h held in
+      let own = held_by_parent w ps r n n hn hn h (held_itself w ps r n hn) in
+      let x : (at ps u).up ≡ takes w u n + (at ps n).up = up_held w ps r n u hn hu held in
+      let y : (at ps u).up ≡ takes w u p + (at ps p).up = up_held w ps r p u a.node hu over in
+      let z : (at ps n).up ≡ takes w n p + (at ps p).up = up_held w ps r p n a.node hn own in
+      let first = first_down w ps r p u n a.node hu (record { node = hn; parent = refl; below = a.lower; held = held }) in
+      record {
+        node = a.node;
+        lower = a.lower;
+        held = over;
+        less = omega arith;
+        comes = comes_over w r.tree out u t n p (at ps n).link ((at ps n).up - (at ps p).up) hu a.node first (omega arith);
+      }
+
+  -- the same as it is read
+  pub record UpRead (out : Stop → Bool) (u t n : ℕ) (here there : Position) : Type 0 where
+    pub node : here.parent < w.nodes
+    pub less : there.up ≤ here.up
+    pub comes : Comes w out u t n here.parent here.link (here.up - there.up)
+
+  pub upwards_read : (out : Stop → Bool) (u t n : ℕ) (here there : Position) → u < w.nodes → n < w.nodes → n ≢ 0
+      → IsHeld (at ps n) (at ps u) → here ≡ at ps n → there ≡ at ps here.parent → UpRead out u t n here there
+  upwards_read out u t n here there hu hn d held e f =
+      let up = upwards out u t n hu hn d held in
+      let P : Position → Type 0 = λ h. (q : Position) → q ≡ at ps h.parent → UpRead out u t n h q in
+      let at_n : P (at ps n) = λ q g. subst (λ (k : Position). UpRead out u t n (at ps n) k) (sym g)
+      (record { node = up.node; less = up.less; comes = up.comes }) in
+      subst P (sym e) at_n there f
+
+  -- from its parent to a node that is not above the sender
+  pub record Down (out : Stop → Bool) (u t x : ℕ) : Type 0 where
+    pub node : (at ps x).parent < w.nodes
+    pub lower : (at ps (at ps x).parent).place < (at ps x).place
+    pub less : (at ps (at ps x).parent).down ≤ (at ps x).down
+    pub comes : Comes w out u t (at ps x).parent x (at ps x).link ((at ps x).down - (at ps (at ps x).parent).down)
+
+  pub downwards : (out : Stop → Bool) (u t x : ℕ) → u < w.nodes → x < w.nodes → (IsHeld (at ps x) (at ps u) → ⊥) → Down out u t x
+  downwards out u t x hu hx n =
+      let some : 1 ≤ w.nodes = r.tree.some_nodes in
+      let root : r.place 0 ≡ 0 = r.root in
+      let eu = (r.each u hu).place_is in
+      let ex = (r.each x hx).place_is in
+      let h : 1 ≤ r.place x = elim (cases_eq (r.place x) 0) [
+        | inl z ↦ (let same : x ≡ 0 = r.apart x 0 hx some (z ∙ sym root) in
+            let all : r.place u < (at ps x).end = subst (λ y. r.place u < (at ps y).end) (sym same) (r.whole u hu) in
+            absurd (n (omega arith, omega arith)))
+        | inr z ↦ omega arith
+      ] in
+      let a = above_of x hx h in
+      let p = (at ps x).parent in
+      let l = (at ps x).link in
+      let f = first_up w ps r x u hx hu n in
+      let way = route_path w r.tree u p hu a.node in
+      let last : takes w u x ≡ takes w u p + delay_of p (slice_get w.links l) =
+      ap (delay_along w.links u) (route_there w r.tree u x p l hu hx a.node f.route f.leads)
+      ∙ delay_push w.links u (route w u p) p way.0 l way.1.0 in
+      let low : r.place p < r.place x = ((r.each x hx).parent h).earlier in
+      let back : takes w 0 x ≡ takes w 0 p + delay_of p (slice_get w.links l) =
+      parent_back w r.tree r.place x p l hx ((r.each x hx).parent h) 0 some (omega arith) in
+      let dx : (at ps x).down ≡ takes w 0 x = (r.each x hx).down in
+      let dp : (at ps p).down ≡ takes w 0 p = (r.each p a.node).down in
+      record {
+        node = a.node;
+        lower = a.lower;
+        less = omega arith;
+        comes = comes_over w r.tree out u t p x l ((at ps x).down - (at ps p).down) hu hx f (omega arith);
+      }
+
+  -- the same as it is read
+  pub record DownRead (out : Stop → Bool) (u t x : ℕ) (here there : Position) : Type 0 where
+    pub node : here.parent < w.nodes
+    pub lower : (at ps here.parent).place < here.place
+    pub less : there.down ≤ here.down
+    pub comes : Comes w out u t here.parent x here.link (here.down - there.down)
+
+  pub downwards_read : (out : Stop → Bool) (u t x : ℕ) (here there : Position) → u < w.nodes → x < w.nodes
+      → (IsHeld (at ps x) (at ps u) → ⊥) → here ≡ at ps x → there ≡ at ps here.parent → DownRead out u t x here there
+  downwards_read out u t x here there hu hx n e f =
+      let down = downwards out u t x hu hx n in
+      let P : Position → Type 0 = λ h. (q : Position) → q ≡ at ps h.parent → DownRead out u t x h q in
+      let at_x : P (at ps x) = λ q g. subst (λ (k : Position). DownRead out u t x (at ps x) k) (sym g)
+      (record { node = down.node; lower = down.lower; less = down.less; comes = down.comes }) in
+      subst P (sym e) at_x there f
+
+  -- ---- the climb from the sender
+
+  -- it is told of node n and of those between it and the sender
+  pub record Climbed (out : Stop → Bool) (u t n : ℕ) (arrivals : List (Option ℕ)) : Type 0 where
+    pub node : n < w.nodes
+    pub held : IsHeld (at ps n) (at ps u)
+    pub size : length arrivals ≡ w.nodes
+    pub told : (x : ℕ) → x < w.nodes → IsHeld (at ps x) (at ps u) → (at ps n).place ≤ (at ps x).place
+        → slice_get arrivals x ≡ Some (arrival w out u t x)
+
+  same_place : (x y : ℕ) → x < w.nodes → y < w.nodes → (at ps x).place ≡ (at ps y).place → x ≡ y
+  same_place x y hx hy e = r.apart x y hx hy (sym (r.each x hx).place_is ∙ e ∙ (r.each y hy).place_is)
+
+  pub climbed_none : (out : Stop → Bool) (u t : ℕ) (arrivals : List (Option ℕ)) → u < w.nodes → length arrivals ≡ w.nodes
+      → slice_get arrivals u ≡ Some (Some t) → Climbed out u t u arrivals
+  climbed_none out u t arrivals hu e g = record {
+    node = hu;
+    held = held_itself w ps r u hu;
+    size = e;
+    told = λ x hx held le.
+        let low : (at ps x).place ≤ (at ps u).place = held.0 in
+        let same : x ≡ u = same_place x u hx hu (omega arith) in
+        subst (λ y. slice_get arrivals y ≡ Some (arrival w out u t y)) (sym same) (g ∙ ap Some (sym (home w out u t)));
+  }
+
+  pub climbed_more : (out : Stop → Bool) (u t n : ℕ) (arrivals : List (Option ℕ)) (v : Option ℕ) → u < w.nodes → n ≢ 0
+      → Climbed out u t n arrivals → v ≡ arrival w out u t (at ps n).parent
+      → Climbed out u t (at ps n).parent (slice_set arrivals (at ps n).parent v)
+  climbed_more out u t n arrivals v hu d c e =
+      let p = (at ps n).parent in
+      let up = upwards out u t n hu c.node d c.held in
+      let size : length arrivals ≡ w.nodes = c.size in
+      let hp : p < w.nodes = up.node in
+      record {
+        node = up.node;
+        held = up.held;
+        size = length-set arrivals p v ∙ size;
+        told = λ x hx held le.
+            elim (cases_eq p x) [
+              | inl same ↦ subst (λ y. slice_get (slice_set arrivals p v) y ≡ Some (arrival w out u t y)) same
+                  (get_set_same arrivals p v (omega arith) ∙ ap Some e)
+              | inr other ↦ get_set_other arrivals p x v other ∙ c.told x hx held (elim (cases_lt (at ps x).place (at ps n).place) [
+                | inl less ↦ absurd (let n0 : (at ps n).place ≤ (at ps u).place = c.held.0 in
+                    let x1 : (at ps u).place < (at ps x).end = held.1 in
+                    let apart : x ≢ n = λ s. (let q = ap (λ y. (at ps y).place) s in absurd (omega arith)) in
+                    let below = parent_held w ps r x n hx c.node apart (omega arith, omega arith) in
+                    let x0 : (at ps x).place ≤ (at ps p).place = below.2.0 in
+                    other (same_place p x up.node hx (omega arith)))
+                | inr more ↦ more
+              ])
+            ];
+      }
+
+  pub climbed_all : (out : Stop → Bool) (u t n : ℕ) (arrivals : List (Option ℕ)) → n ≡ 0 → Climbed out u t n arrivals
+      → TellsAbove w ps out u t arrivals
+  climbed_all out u t n arrivals e c =
+      let some : 1 ≤ w.nodes = r.tree.some_nodes in
+      let root : r.place 0 ≡ 0 = r.root in
+      let first : (at ps 0).place ≡ r.place 0 = (r.each 0 some).place_is in
+      let least : (at ps n).place ≡ (at ps 0).place = ap (λ y. (at ps y).place) e in
+      record { nodes = c.size; above = λ x hx held. c.told x hx held (omega arith) }
+
+  -- ---- the pass over all nodes
+
+  -- it is told of those above the sender, and of those at the first i places
+  pub record Passed (out : Stop → Bool) (u t i : ℕ) (arrivals : List (Option ℕ)) : Type 0 where
+    pub size : length arrivals ≡ w.nodes
+    pub above : (x : ℕ) → x < w.nodes → IsHeld (at ps x) (at ps u) → slice_get arrivals x ≡ Some (arrival w out u t x)
+    pub told : (x : ℕ) → x < w.nodes → (at ps x).place < i → slice_get arrivals x ≡ Some (arrival w out u t x)
+
+  pub passed_none : (out : Stop → Bool) (u t : ℕ) (arrivals : List (Option ℕ)) → TellsAbove w ps out u t arrivals → Passed out u t 0 arrivals
+  passed_none out u t arrivals a = record { size = a.nodes; above = a.above; told = λ x hx lt. absurd (omega arith) }
+
+  pub passed_held : (out : Stop → Bool) (u t i x : ℕ) (arrivals : List (Option ℕ)) → x < w.nodes → (at ps x).place ≡ i
+      → IsHeld (at ps x) (at ps u) → Passed out u t i arrivals → Passed out u t (i + 1) arrivals
+  passed_held out u t i x arrivals hx e held p = record {
+    size = p.size;
+    above = p.above;
+    told = λ y hy lt.
+        elim (cases_eq (at ps y).place i) [
+          | inl f ↦ (let same : x ≡ y = same_place x y hx hy (e ∙ sym f) in
+              subst (λ z. slice_get arrivals z ≡ Some (arrival w out u t z)) same (p.above x hx held))
+          | inr n ↦ p.told y hy (omega arith)
+        ];
+  }
+
+  pub passed_more : (out : Stop → Bool) (u t i x : ℕ) (arrivals : List (Option ℕ)) (v : Option ℕ) → x < w.nodes → (at ps x).place ≡ i
+      → Passed out u t i arrivals → v ≡ arrival w out u t x → Passed out u t (i + 1) (slice_set arrivals x v)
+  passed_more out u t i x arrivals v hx e p f =
+      let size : length arrivals ≡ w.nodes = p.size in
+      let here : slice_get (slice_set arrivals x v) x ≡ Some (arrival w out u t x) =
+      get_set_same arrivals x v (omega arith) ∙ ap Some f in
+      record {
+        size = length-set arrivals x v ∙ size;
+        above = λ y hy held.
+            elim (cases_eq x y) [
+              | inl same ↦ subst (λ z. slice_get (slice_set arrivals x v) z ≡ Some (arrival w out u t z)) same here
+              | inr other ↦ get_set_other arrivals x y v other ∙ p.above y hy held
+            ];
+        told = λ y hy lt.
+            elim (cases_eq x y) [
+              | inl same ↦ subst (λ z. slice_get (slice_set arrivals x v) z ≡ Some (arrival w out u t z)) same here
+              | inr other ↦ (let n : (at ps y).place ≢ i = λ g. other (same_place x y hx hy (e ∙ sym g)) in
+                  get_set_other arrivals x y v other ∙ p.told y hy (less_of (at ps y).place i n lt))
+            ];
+      }
+
+  pub passed_all : (out : Stop → Bool) (u t i : ℕ) (order : List ℕ) (arrivals : List (Option ℕ)) → IsInOrder w ps order
+      → length order ≤ i → Passed out u t i arrivals → TellsArrivals w out u t arrivals
+  passed_all out u t i order arrivals o h p = record {
+    nodes = p.size;
+    each = λ x hx.
+        let within = get_below order (at ps x).place x (o.each x hx) in
+        p.told x hx (omega arith);
+  }

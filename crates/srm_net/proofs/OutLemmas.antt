@@ -1,0 +1,552 @@
+-- The nearest members of each node, found from below and then from above.
+use Rattle.std.proofs.Common.{◌≡◌, ◌≢◌, ◌⊎◌, ℕ, zero, suc, ◌+◌, ◌-◌, ◌^◌, ◌<◌, ◌≤◌, min, List, [], ◌∷◌, length, Option, Some, None, refl}
+use Rattle.std.proofs.Common.{sym, ap, ◌∙◌, subst, inl, inr, arith, slice_get, slice_index, slice_index_or, slice_set, lit≤, All}
+use Rattle.std.proofs.Common.{take, drop, ◌++◌}
+use Rattle.std.proofs.lemmas.Bool.{cases_eq}
+use Rattle.std.proofs.lemmas.List.{length-set, get_or-set_same, get_or-set_other, get_or_default, take_all, take-append-le}
+use Rattle.srm_net.specs.declared.near.Near.{Near}
+use Rattle.srm_net.specs.declared.nearest.Nearest.{Nearest}
+use Rattle.srm_net.specs.declared.nearest.Nearest.TheVariants.{Nobody, One, Two}
+use Rattle.srm_net.specs.declared.position.Position.{Position}
+use Rattle.srm_net.specs.Least.{out}
+use Rattle.srm_net.specs.Limits.{greatest_distance}
+use Rattle.srm_net.specs.Nearness.{second_ticks, IsOneOf, IsOrdered, Covers, Takes, nearest_of, IsByPlace, IsSound, TellsOwn}
+use Rattle.srm_net.specs.Nearness.{TellsBelow, TellsNearest}
+use Rattle.srm_net.specs.Network.{Network, IsNetwork}
+use Rattle.srm_net.specs.Paths.{host, distance, route, delay_of, delay_along}
+use Rattle.srm_net.specs.Rooting.{takes, at, IsRooted, IsFirst, IsHeld, IsChildAbove}
+use Rattle.srm_net.proofs.Firsts.{first_down, first_up, held_itself, held_later, held_by_parent, parent_held}
+use Rattle.srm_net.proofs.LawProofs.{out_fits, out_of_the_only_one}
+use Rattle.srm_net.proofs.Lists.{get_push_old, get_push_new}
+use Rattle.srm_net.proofs.PathLaws.{delay_bounded, distance_apart, host_below}
+use Rattle.srm_net.proofs.Rootings.{takes_nothing, parent_there, parent_back}
+use Rattle.srm_net.proofs.ToldLemmas.{OutsBelow}
+
+-- a member at its own node
+abbrev pub at_own : ℕ → Near
+at_own m = record { member = m; ticks = 0 }
+
+-- ---- the least distance from a member is that to the second of the nearest
+
+to_itself : (w : Network) (m : ℕ) → distance w m m ≡ 0
+unfolding distance
+to_itself w m = takes_nothing w (host w m)
+
+out_from : (w : Network) → IsNetwork w → (m : ℕ) → m < length w.hosts → (p : Nearest) → IsOrdered p
+    → ((n : Near) → IsOneOf p n → n.member < length w.hosts) → ((n : Near) → IsOneOf p n → distance w m n.member ≤ n.ticks)
+    → ((b : ℕ) → b < length w.hosts → Covers p b (distance w m b)) → (o : Option ℕ) → out w m ≡ o → second_ticks p ≡ o
+out_from w n m hm Nobody order member ticks all o e = absurd (all m hm)
+out_from w n m hm (One a) order member ticks all None e = refl
+out_from w n m hm (One a) order member ticks all (Some d) e =
+    let f = (out_fits w m d e).0 in
+    let here = (all m hm).0 in
+    let there = (all f.0 f.1).0 in
+    absurd (f.2 (sym there ∙ here))
+out_from w n m hm (Two a b) order member ticks all o e =
+    let ha = member a (inl refl) in
+    let hb = member b (inr refl) in
+    let order1 : a.ticks ≤ b.ticks = order.1 in
+    let own : a.member ≡ m = elim (cases_eq a.member m) [
+      | inl q ↦ q
+      | inr q ↦ (let ta : distance w m a.member ≤ a.ticks = ticks a (inl refl) in
+          let far : 1 ≤ distance w m a.member = distance_apart w n m a.member hm ha (λ s. q (sym s)) in
+          let none = to_itself w m in
+          elim (all m hm) [
+            | inl c ↦ c.0
+            | inr c ↦ absurd (let c1 : b.ticks ≤ distance w m m = c in omega arith)
+          ])
+    ] in
+    let other : b.member ≢ m = λ q. order.0 (own ∙ sym q) in
+    let tb : distance w m b.member ≤ b.ticks = ticks b (inr refl) in
+    let most : (x : ℕ) → x < length w.hosts → x ≢ m → b.ticks ≤ distance w m x =
+    λ x hx d. elim (all x hx) [ inl c ↦ absurd (d (sym c.0 ∙ own)) | inr c ↦ c ] in
+    by_out own other tb (most b.member hb other) most o e
+  where
+    by_out : a.member ≡ m → b.member ≢ m → distance w m b.member ≤ b.ticks → b.ticks ≤ distance w m b.member
+        → ((x : ℕ) → x < length w.hosts → x ≢ m → b.ticks ≤ distance w m x) → (o : Option ℕ) → out w m ≡ o → Some b.ticks ≡ o
+    by_out own other tb bt most None e = absurd (other (out_of_the_only_one w m e b.member (member b (inr refl))))
+    by_out own other tb bt most (Some d) e =
+        let f = out_fits w m d e in
+        let is : distance w m f.0.0 ≡ d = f.0.3 in
+        let one : b.ticks ≤ distance w m f.0.0 = most f.0.0 f.0.1 f.0.2 in
+        let two : d ≤ distance w m b.member = f.1 b.member (member b (inr refl)) other in
+        ap Some (omega arith)
+
+pub out_is_second : (w : Network) (table : List Nearest) → IsNetwork w → IsSound w table → TellsNearest w table → (m : ℕ)
+    → m < length w.hosts → second_ticks (nearest_of table (host w m)) ≡ out w m
+unfolding distance
+out_is_second w table n s t m hm =
+    let u = host w m in
+    let hu = host_below w n m hm in
+    out_from w n m hm (nearest_of table u) (s.ordered u hu) (λ k i. s.member u k hu i) (λ k i. s.ticks u k hu i)
+    (λ b hb. t u b hu hb) (out w m) refl
+
+pub outs_push : (w : Network) (i : ℕ) (outs : List (Option ℕ)) (x : Option ℕ) → length outs ≡ i → OutsBelow w i outs → x ≡ out w i
+    → OutsBelow w (i + 1) (outs ++ x ∷ [])
+outs_push w i outs x long old new m h =
+    elim (cases_eq m i) [
+      | inl e ↦ subst (λ k. slice_get (outs ++ x ∷ []) k ≡ Some (out w k)) (sym e) (get_push_new outs x i long ∙ ap Some new)
+      | inr d ↦ get_push_old outs x m (omega arith) ∙ old m (omega arith)
+    ]
+
+-- ---- tables that are lent and come back
+
+pub written_back : (old new : List Nearest) (k : ℕ) → length new ≡ k → take k (new ++ drop (length new) old) ≡ new
+written_back old new k e =
+    let h : k ≤ length new = omega arith in
+    take-append-le k new (drop (length new) old) h ∙ take_all k new (omega arith)
+
+pub read_nearest : (table : List Nearest) (i u : ℕ) (x : Nearest) → i ≡ u → u < length table → x ≡ slice_index_or table i x
+    → x ≡ nearest_of table u
+read_nearest table i u x e h g = g ∙ ap (λ j. slice_index_or table j x) e ∙ sym (get_or_default table u Nobody x h)
+
+-- ---- one node's members are taken into account at another
+
+le_min : (x y z : ℕ) → z ≤ x → z ≤ y → z ≤ min x y
+le_min x y z h g = omega arith
+
+module _ (w : Network) (n : IsNetwork w) (table : List Nearest) (s : IsSound w table) (from to d : ℕ) (new : Nearest) (hf : from < w.nodes)
+    (ht : to < w.nodes) (t : Takes (nearest_of table to) (nearest_of table from) d new) where
+  there : to < length table
+  there = subst (λ k. to < k) (sym s.long) ht
+
+  at_new : nearest_of (slice_set table to new) to ≡ new
+  at_new = get_or-set_same table to new Nobody there
+
+  at_old : (u : ℕ) → to ≢ u → nearest_of (slice_set table to new) u ≡ nearest_of table u
+  at_old u q = get_or-set_other table to u new Nobody (λ e. q (sym e))
+
+  -- what holds of the new ones, and of the others
+  at_each : (P : ℕ → Nearest → Type 0) → P to new → ((u : ℕ) → u < w.nodes → P u (nearest_of table u)) → (u : ℕ) → u < w.nodes
+      → P u (nearest_of (slice_set table to new) u)
+  at_each P here old u hu =
+      elim (cases_eq to u) [
+        | inl e ↦ subst (λ v. P v (nearest_of (slice_set table to new) v)) e (subst (P to) (sym at_new) here)
+        | inr q ↦ subst (P u) (sym (at_old u q)) (old u hu)
+      ]
+
+  pub step_sound : ((x : ℕ) → x < w.nodes → takes w to x ≤ takes w from x + d) → IsSound w (slice_set table to new)
+  step_sound near = record {
+    long = length-set table to new ∙ s.long;
+    ordered = at_each (λ u p. IsOrdered p) (t.ordered (s.ordered to ht)) s.ordered;
+    member = λ u k hu. at_each (λ u p. IsOneOf p k → k.member < length w.hosts) (λ i. elim (t.from k i) [
+      | inl o ↦ s.member to k ht o
+      | inr o ↦ subst (λ (j : Near). j.member < length w.hosts) (sym o.2) (s.member from o.0 hf o.1)
+    ]) (λ v hv. s.member v k hv) u hu;
+    ticks = λ u k hu. at_each (λ u p. IsOneOf p k → takes w u (host w k.member) ≤ k.ticks) (λ i. elim (t.from k i) [
+      | inl o ↦ s.ticks to k ht o
+      | inr o ↦ subst (λ (j : Near). takes w to (host w j.member) ≤ j.ticks) (sym o.2)
+          (let hx = host_below w n o.0.member (s.member from o.0 hf o.1) in
+          let a : takes w from (host w o.0.member) ≤ o.0.ticks = s.ticks from o.0 hf o.1 in
+          let b : takes w to (host w o.0.member) ≤ takes w from (host w o.0.member) + d = near (host w o.0.member) hx in
+          let c : takes w to (host w o.0.member) ≤ greatest_distance = delay_bounded w n to (host w o.0.member) ht hx in
+          let few : greatest_distance ≤ 2 ^ 64 - 1 = lit≤ tt in
+          le_min (o.0.ticks + d) (2 ^ 64 - 1) (takes w to (host w o.0.member)) (omega arith) (le_trans c few))
+    ]) (λ v hv. s.ticks v k hv) u hu;
+  }
+    where
+      le_trans : {x y z : ℕ} → x ≤ y → y ≤ z → x ≤ z
+      le_trans h g = omega arith
+
+  pub step_keeps : (u m ticks : ℕ) → u < w.nodes → Covers (nearest_of table u) m ticks
+      → Covers (nearest_of (slice_set table to new) u) m ticks
+  step_keeps u m ticks hu =
+      at_each (λ v p. Covers (nearest_of table v) m ticks → Covers p m ticks) (t.keeps (s.ordered to ht) m ticks) (λ v hv c. c) u hu
+
+  pub step_takes : (m ticks : ℕ) → Covers (nearest_of table from) m ticks
+      → Covers (nearest_of (slice_set table to new) to) m (ticks + d)
+  step_takes m ticks c =
+      subst (λ p. Covers p m (ticks + d)) (sym at_new) (t.takes (s.ordered to ht) (s.ordered from hf) m ticks c)
+
+-- ---- a node and its parent
+
+module _ (w : Network) (ps : List Position) (r : IsRooted w ps) where
+  some : 1 ≤ w.nodes
+  some = r.tree.some_nodes
+
+  place_of : (u : ℕ) → u < w.nodes → (at ps u).place ≡ r.place u
+  place_of u hu = (r.each u hu).place_is
+
+  held_or_not : (q p : Position) → IsHeld q p ⊎ (IsHeld q p → ⊥)
+  held_or_not q p =
+      elim (split q.place p.place) [
+        | inl a ↦ inr (λ h. let k : q.place ≤ p.place = h.0 in absurd (omega arith))
+        | inr a ↦ elim (split q.end p.place) [
+          | inl b ↦ inl (a, b)
+          | inr b ↦ inr (λ h. let k : p.place < q.end = h.1 in absurd (omega arith))
+        ]
+      ]
+    where
+      split : (x y : ℕ) → (y < x) ⊎ (x ≤ y)
+      split x y = grind arith
+
+  -- over the link of a node from its parent, and back
+  abbrev pub over_down : ℕ → ℕ
+  over_down c = delay_of (at ps c).parent (slice_get w.links (at ps c).link)
+
+  abbrev pub over_up : ℕ → ℕ
+  over_up c = delay_of c (slice_get w.links (at ps c).link)
+
+  by_first : (u v l x : ℕ) → IsFirst w u v l x → takes w u v ≡ delay_of u (slice_get w.links l) + takes w x v
+  by_first u v l x f =
+      ap (delay_along w.links u) f.route
+      ∙ ap (λ y. delay_of u (slice_get w.links l) + delay_along w.links y (route w x v)) f.leads
+
+  module _ (c : ℕ) (hc : c < w.nodes) (one : 1 ≤ (at ps c).place) where
+    one_at : 1 ≤ r.place c
+    one_at = let e = place_of c hc in omega arith
+
+    pub parent_there_below : (at ps c).parent < w.nodes
+    parent_there_below = ((r.each c hc).parent one_at).node
+
+    pub parent_before : (at ps (at ps c).parent).place < (at ps c).place
+    parent_before =
+        let up = (r.each c hc).parent one_at in
+        let low : r.place (at ps c).parent < r.place c = up.earlier in
+        let e = place_of c hc in
+        let f = place_of (at ps c).parent up.node in
+        omega arith
+
+    pub from_parent : (x : ℕ) → x < w.nodes → IsHeld (at ps c) (at ps x) → takes w (at ps c).parent x ≡ takes w c x + over_down c
+    from_parent x hx h =
+        let child : IsChildAbove w ps (at ps c).parent x c = record { node = hc; parent = refl; below = parent_before; held = h } in
+        let e = by_first (at ps c).parent x (at ps c).link c (first_down w ps r (at ps c).parent x c parent_there_below hx child) in
+        omega arith
+
+    pub to_parent : (x : ℕ) → x < w.nodes → (IsHeld (at ps c) (at ps x) → ⊥) → takes w c x ≡ takes w (at ps c).parent x + over_up c
+    to_parent x hx h =
+        let e = by_first c x (at ps c).link (at ps c).parent (first_up w ps r c x hc hx h) in
+        omega arith
+
+    pub parent_near : (x : ℕ) → x < w.nodes → takes w (at ps c).parent x ≤ takes w c x + over_down c
+    parent_near x hx =
+        elim (held_or_not (at ps c) (at ps x)) [
+          | inl h ↦ (let e = from_parent x hx h in omega arith)
+          | inr h ↦ (let e = to_parent x hx h in omega arith)
+        ]
+
+    pub child_near : (x : ℕ) → x < w.nodes → takes w c x ≤ takes w (at ps c).parent x + over_up c
+    child_near x hx =
+        elim (held_or_not (at ps c) (at ps x)) [
+          | inl h ↦ (let e = from_parent x hx h in omega arith)
+          | inr h ↦ (let e = to_parent x hx h in omega arith)
+        ]
+
+    pub down_more : (at ps c).down ≡ (at ps (at ps c).parent).down + over_down c
+    down_more =
+        let root : r.place 0 ≡ 0 = r.root in
+        let k = one_at in
+        (r.each c hc).down
+        ∙ parent_back w r.tree r.place c (at ps c).parent (at ps c).link hc ((r.each c hc).parent one_at) 0 some (omega arith)
+        ∙ ap (λ d. d + over_down c) (sym (r.each (at ps c).parent parent_there_below).down)
+
+    pub up_more : (at ps c).up ≡ over_up c + (at ps (at ps c).parent).up
+    up_more =
+        let root : r.place 0 ≡ 0 = r.root in
+        let k = one_at in
+        (r.each c hc).up
+        ∙ parent_there w r.place c (at ps c).parent (at ps c).link ((r.each c hc).parent one_at) 0 some (omega arith)
+        ∙ ap (λ d. over_up c + d) (sym (r.each (at ps c).parent parent_there_below).up)
+
+  -- the node next below one on the way to another that is below it
+  child_from : (u v : ℕ) → u < w.nodes → v < w.nodes → (n x : ℕ) → (at ps x).place ≤ n → x < w.nodes → u ≢ x
+      → IsHeld (at ps u) (at ps x) → IsHeld (at ps x) (at ps v) → (y : ℕ) × IsChildAbove w ps u v y
+  child_from u v hu hv zero x le hx d below held =
+      let lt : (at ps u).place < (at ps x).place = held_later w ps r u x hu hx d below in absurd (omega arith)
+  child_from u v hu hv (suc n) x le hx d below held =
+      let lt : (at ps u).place < (at ps x).place = held_later w ps r u x hu hx d below in
+      elim (cases_eq (at ps x).parent u) [
+        | inl e ↦ (x, record { node = hx; parent = e; below = lt; held = held })
+        | inr e ↦ (let p = parent_held w ps r u x hu hx d below in
+            let one : 1 ≤ r.place x = p.0 in
+            let low : (at ps (at ps x).parent).place < (at ps x).place = p.3 in
+            child_from u v hu hv n (at ps x).parent (omega arith) p.1 (λ q. e (sym q)) p.2 (held_by_parent w ps r x v hx hv one held))
+      ]
+
+  pub child_over : (u v : ℕ) → u < w.nodes → v < w.nodes → u ≢ v → IsHeld (at ps u) (at ps v) → (y : ℕ) × IsChildAbove w ps u v y
+  child_over u v hu hv d h = child_from u v hu hv (at ps v).place v (omega arith) hv d h (held_itself w ps r v hv)
+
+  pub place_most : (u : ℕ) → u < w.nodes → (at ps u).place < (at ps 0).end
+  place_most u hu = subst (λ p. p < (at ps 0).end) (sym (place_of u hu)) (r.whole u hu)
+
+  pub root_holds : (u x : ℕ) → u < w.nodes → x < w.nodes → (at ps u).place ≡ 0 → IsHeld (at ps u) (at ps x)
+  root_holds u x hu hx z =
+      let root : r.place 0 ≡ 0 = r.root in
+      let e = place_of u hu in
+      let same : u ≡ 0 = r.apart u 0 hu some (sym e ∙ z ∙ sym root) in
+      let most = place_most x hx in
+      (omega arith, subst (λ v. (at ps x).place < (at ps v).end) (sym same) most)
+
+-- ---- from below
+
+-- the nodes from this place on were taken into account at their parents
+pub record UpTo (w : Network) (ps : List Position) (table : List Nearest) (i : ℕ) : Type 0 where
+  pub sound : IsSound w table
+  pub own : TellsOwn w table
+  pub below : (c m : ℕ) → c < w.nodes → m < length w.hosts → i ≤ (at ps c).place → 1 ≤ (at ps c).place
+      → IsHeld (at ps c) (at ps (host w m)) → Covers (nearest_of table (at ps c).parent) m (takes w (at ps c).parent (host w m))
+
+-- ---- what is read of positions
+
+pub delay_down : (w : Network) (ps : List Position) (r : IsRooted w ps) (c : ℕ) (hc : c < w.nodes) → 1 ≤ (at ps c).place
+    → (q above : Position) → q ≡ at ps c → above ≡ at ps q.parent
+    → (q.down ≡ above.down + over_down w ps r c) × (q.down - above.down ≡ over_down w ps r c)
+delay_down w ps r c hc one q above e f =
+    let k = down_more w ps r c hc one in
+    let a : q.down ≡ (at ps c).down = ap (λ (p : Position). p.down) e in
+    let b : above.down ≡ (at ps (at ps c).parent).down = ap (λ (p : Position). p.down) (f ∙ ap (λ (p : Position). at ps p.parent) e) in
+    let sum : q.down ≡ above.down + over_down w ps r c = a ∙ k ∙ ap (λ d. d + over_down w ps r c) (sym b) in
+    (sum, omega arith)
+
+pub delay_up : (w : Network) (ps : List Position) (r : IsRooted w ps) (c : ℕ) (hc : c < w.nodes) → 1 ≤ (at ps c).place
+    → (q above : Position) → q ≡ at ps c → above ≡ at ps q.parent
+    → (q.up ≡ over_up w ps r c + above.up) × (q.up - above.up ≡ over_up w ps r c)
+delay_up w ps r c hc one q above e f =
+    let k = up_more w ps r c hc one in
+    let a : q.up ≡ (at ps c).up = ap (λ (p : Position). p.up) e in
+    let b : above.up ≡ (at ps (at ps c).parent).up = ap (λ (p : Position). p.up) (f ∙ ap (λ (p : Position). at ps p.parent) e) in
+    let sum : q.up ≡ over_up w ps r c + above.up = a ∙ k ∙ ap (λ d. over_up w ps r c + d) (sym b) in
+    (sum, omega arith)
+
+-- ---- the order of places
+
+pub below_set : (n : ℕ) (xs : List ℕ) (i x : ℕ) → x < n → All (λ u. u < n) xs → All (λ u. u < n) (slice_set xs i x)
+below_set n xs i x h a k d lt =
+    let same : length (slice_set xs i x) ≡ length xs = length-set xs i x in
+    elim (cases_eq i k) [
+      | inl e ↦ subst (λ v. v < n) (sym (ap (λ j. slice_index_or (slice_set xs i x) j d) (sym e)
+          ∙ get_or-set_same xs i x d (omega arith))) h
+      | inr q ↦ subst (λ v. v < n) (sym (get_or-set_other xs i k x d (λ e. q (sym e)))) (a k d (omega arith))
+    ]
+
+pub placed_more : (w : Network) (ps : List Position) → IsRooted w ps → (xs : List ℕ) (n : ℕ) → length xs ≡ (at ps 0).end → n < w.nodes
+    → ((u : ℕ) → u < n → slice_index xs (at ps u).place ≡ u)
+    → (u : ℕ) → u < n + 1 → slice_index (slice_set xs (at ps n).place n) (at ps u).place ≡ u
+placed_more w ps r xs n long hn old u h =
+    let most = place_most w ps r n hn in
+    elim (cases_eq u n) [
+      | inl e ↦ subst (λ v. slice_index (slice_set xs (at ps n).place n) (at ps v).place ≡ v) (sym e)
+          (get_or-set_same xs (at ps n).place n 0 (omega arith))
+      | inr d ↦ (let hu : u < w.nodes = omega arith in
+          let other : (at ps u).place ≢ (at ps n).place =
+          λ e. d (r.apart u n hu hn (sym (place_of w ps r u hu) ∙ e ∙ place_of w ps r n hn)) in
+          get_or-set_other xs (at ps n).place (at ps u).place n 0 other ∙ old u (omega arith))
+    ]
+
+-- ---- members at their own nodes
+
+abbrev pub IsHome : List ℕ → List Nearest → ℕ → Type 0
+IsHome hosts table i = (m : ℕ) → m < i → nearest_of table (slice_index hosts m) ≡ One (at_own m)
+
+abbrev pub IsAlone : List ℕ → List Nearest → ℕ → Type 0
+IsAlone hosts table i = (u : ℕ) → (nearest_of table u ≡ Nobody)
+    ⊎ ((m : ℕ) × (m < i) × (slice_index hosts m ≡ u) × (nearest_of table u ≡ One (at_own m)))
+
+pub home_more : (hosts : List ℕ) (table : List Nearest) (i : ℕ) → slice_index hosts i < length table
+    → ((m : ℕ) → m < i → slice_index hosts m ≢ slice_index hosts i) → IsHome hosts table i
+    → IsHome hosts (slice_set table (slice_index hosts i) (One (at_own i))) (i + 1)
+home_more hosts table i lt apart old m h =
+    elim (cases_eq m i) [
+      | inl e ↦ subst
+          (λ k. nearest_of (slice_set table (slice_index hosts i) (One (at_own i))) (slice_index hosts k) ≡ One (at_own k)) (sym e)
+          (get_or-set_same table (slice_index hosts i) (One (at_own i)) Nobody lt)
+      | inr d ↦ get_or-set_other table (slice_index hosts i) (slice_index hosts m) (One (at_own i)) Nobody (apart m (omega arith))
+          ∙ old m (omega arith)
+    ]
+
+pub alone_more : (hosts : List ℕ) (table : List Nearest) (i : ℕ) → slice_index hosts i < length table → IsAlone hosts table i
+    → IsAlone hosts (slice_set table (slice_index hosts i) (One (at_own i))) (i + 1)
+alone_more hosts table i lt old u =
+    elim (cases_eq (slice_index hosts i) u) [
+      | inl e ↦ inr (
+        i,
+        omega arith,
+        e,
+        ap (nearest_of (slice_set table (slice_index hosts i) (One (at_own i)))) (sym e)
+            ∙ get_or-set_same table (slice_index hosts i) (One (at_own i)) Nobody lt,
+      )
+      | inr d ↦ (let same = get_or-set_other table (slice_index hosts i) u (One (at_own i)) Nobody (λ e. d (sym e)) in
+          elim (old u) [
+            | inl e ↦ inl (same ∙ e)
+            | inr e ↦ (let before : e.0 < i = e.1 in inr (e.0, omega arith, e.2, same ∙ e.3))
+          ])
+    ]
+
+pub home_sound : (w : Network) (table : List Nearest) (i : ℕ) → length table ≡ w.nodes → i ≤ length w.hosts → IsAlone w.hosts table i
+    → IsSound w table
+home_sound w table i long few alone = record {
+  long = long;
+  ordered = λ u hu. elim (alone u) [ inl e ↦ subst IsOrdered (sym e) tt | inr e ↦ subst IsOrdered (sym e.3) tt ];
+  member = λ u k hu o. elim (alone u) [
+    | inl e ↦ absurd (subst (λ p. IsOneOf p k) e o)
+    | inr e ↦ (let is : k ≡ at_own e.0 = subst (λ p. IsOneOf p k) e.3 o in
+        let lt : e.0 < i = e.1 in
+        subst (λ (j : Near). j.member < length w.hosts) (sym is) (omega arith))
+  ];
+  ticks = λ u k hu o. elim (alone u) [
+    | inl e ↦ absurd (subst (λ p. IsOneOf p k) e o)
+    | inr e ↦ (let is : k ≡ at_own e.0 = subst (λ p. IsOneOf p k) e.3 o in
+        let none = takes_nothing w u in
+        let zero : takes w u (host w e.0) ≡ 0 = ap (takes w u) e.2 ∙ none in
+        subst (λ (j : Near). takes w u (host w j.member) ≤ j.ticks) (sym is) (omega arith))
+  ];
+}
+
+module _ (w : Network) (ps : List Position) (order : List ℕ) (b : IsByPlace w ps order) where
+  pub up_start : (table : List Nearest) → IsSound w table → TellsOwn w table → UpTo w ps table (length order)
+  up_start table s o = record {
+    sound = s;
+    own = o;
+    below = λ c m hc hm le one held.
+        let most : (at ps c).place < (at ps 0).end = place_most w ps b.rooted c hc in
+        let long : length order ≡ (at ps 0).end = b.long in
+        absurd (omega arith);
+  }
+
+  -- a node at whose place that has come has all members below it
+  complete : (table : List Nearest) (i : ℕ) → UpTo w ps table i → (u m : ℕ) → u < w.nodes → m < length w.hosts → i ≤ (at ps u).place + 1
+      → IsHeld (at ps u) (at ps (host w m)) → Covers (nearest_of table u) m (takes w u (host w m))
+  complete table i up u m hu hm le held =
+      elim (cases_eq u (host w m)) [
+        | inl e ↦ subst (λ t. Covers (nearest_of table u) m t)
+            (sym (takes_nothing w u) ∙ ap (takes w u) e)
+            (subst (λ v. Covers (nearest_of table v) m 0) (sym e) (up.own m hm))
+        | inr d ↦ (let y = child_over w ps b.rooted u (host w m) hu (host_below w b.network m hm) d held in
+            let lower : (at ps u).place < (at ps y.0).place = y.1.below in
+            subst (λ v. Covers (nearest_of table v) m (takes w v (host w m))) y.1.parent
+            (up.below y.0 m y.1.node hm (omega arith) (omega arith) y.1.held))
+      ]
+
+  pub up_done : (table : List Nearest) → UpTo w ps table 0 → TellsBelow w ps table
+  up_done table up u m hu hm held = complete table 0 up u m hu hm (omega arith) held
+
+  module _ (table : List Nearest) (i : ℕ) (lt : i < length order) where
+    u : ℕ
+    u = slice_index order i
+
+    pub node_at : slice_index order i < w.nodes
+    node_at = b.below i 0 lt
+
+    pub up_skip : UpTo w ps table (i + 1) → (at ps (slice_index order i)).place ≡ 0 → UpTo w ps table i
+    up_skip up z = record {
+      sound = up.sound;
+      own = up.own;
+      below = λ c m hc hm le one held. elim (cases_eq (at ps c).place i) [
+        | inl e ↦ (let same : slice_index order i ≡ c = ap (slice_index order) (sym e) ∙ b.placed c hc in
+            let none : (at ps c).place ≡ 0 = subst (λ v. (at ps v).place ≡ 0) same z in
+            absurd (omega arith))
+        | inr d ↦ up.below c m hc hm (omega arith) one held
+      ];
+    }
+
+    pub up_sound : IsSound w table → (one : 1 ≤ (at ps (slice_index order i)).place) → (d : ℕ)
+        → d ≡ over_down w ps b.rooted (slice_index order i) → (new : Nearest)
+        → Takes (nearest_of table (at ps (slice_index order i)).parent) (nearest_of table (slice_index order i)) d new
+        → IsSound w (slice_set table (at ps (slice_index order i)).parent new)
+    up_sound s one d is new t =
+        let c = slice_index order i in
+        let p = (at ps c).parent in
+        step_sound w b.network table s c p d new node_at (parent_there_below w ps b.rooted c node_at one) t
+        (λ x hx. subst (λ k. takes w p x ≤ takes w c x + k) (sym is) (parent_near w ps b.rooted c node_at one x hx))
+
+    pub up_step : UpTo w ps table (i + 1) → (one : 1 ≤ (at ps (slice_index order i)).place) → (d : ℕ)
+        → d ≡ over_down w ps b.rooted (slice_index order i) → (new : Nearest)
+        → Takes (nearest_of table (at ps (slice_index order i)).parent) (nearest_of table (slice_index order i)) d new
+        → UpTo w ps (slice_set table (at ps (slice_index order i)).parent new) i
+    up_step up one d is new t =
+        let c = slice_index order i in
+        let p = (at ps c).parent in
+        let hp = parent_there_below w ps b.rooted c node_at one in
+        record {
+          sound = up_sound up.sound one d is new t;
+          own = λ m hm. step_keeps w b.network table up.sound c p d new node_at hp t (host w m) m 0 (host_below w b.network m hm)
+              (up.own m hm);
+          below = λ x m hx hm le first held. elim (cases_eq (at ps x).place i) [
+            | inl e ↦ (let same : c ≡ x = ap (slice_index order) (sym e) ∙ b.placed x hx in
+                let here : IsHeld (at ps c) (at ps (host w m)) = subst (λ v. IsHeld (at ps v) (at ps (host w m))) (sym same) held in
+                let place : (at ps c).place ≡ i = ap (λ v. (at ps v).place) same ∙ e in
+                let all = complete table (i + 1) up c m node_at hm (omega arith) here in
+                let got = step_takes w b.network table up.sound c p d new node_at hp t m (takes w c (host w m)) all in
+                let far : takes w c (host w m) + d ≡ takes w p (host w m) = ap (λ k. takes w c (host w m) + k) is
+                ∙ sym (from_parent w ps b.rooted c node_at one (host w m) (host_below w b.network m hm) here) in
+                subst (λ v. Covers (nearest_of (slice_set table p new) (at ps v).parent) m (takes w (at ps v).parent (host w m))) same
+                (subst (λ k. Covers (nearest_of (slice_set table p new) p) m k) far got))
+            | inr q ↦ step_keeps w b.network table up.sound c p d new node_at hp t (at ps x).parent m (takes w (at ps x).parent (host w m))
+                (parent_there_below w ps b.rooted x hx first) (up.below x m hx hm (omega arith) first held)
+          ];
+        }
+
+  -- ---- and from above
+
+  -- at the nodes before this place all members were taken into account
+  pub record DownTo (table : List Nearest) (i : ℕ) : Type 0 where
+    pub sound : IsSound w table
+    pub below : TellsBelow w ps table
+    pub all : (u m : ℕ) → u < w.nodes → m < length w.hosts → (at ps u).place < i → Covers (nearest_of table u) m (takes w u (host w m))
+
+  pub down_start : (table : List Nearest) → IsSound w table → TellsBelow w ps table → DownTo table 0
+  down_start table s t = record { sound = s; below = t; all = λ u m hu hm lt. absurd (omega arith) }
+
+  pub down_done : (table : List Nearest) (i : ℕ) → length order ≤ i → DownTo table i → TellsNearest w table
+  down_done table i le down u m hu hm =
+      let most : (at ps u).place < (at ps 0).end = place_most w ps b.rooted u hu in
+      let long : length order ≡ (at ps 0).end = b.long in
+      down.all u m hu hm (omega arith)
+
+  module _ (table : List Nearest) (i : ℕ) (lt : i < length order) where
+    here : slice_index order i < w.nodes
+    here = b.below i 0 lt
+
+    pub down_skip : DownTo table i → (at ps (slice_index order i)).place ≡ 0 → DownTo table (i + 1)
+    down_skip down z = record {
+      sound = down.sound;
+      below = down.below;
+      all = λ v m hv hm le. elim (cases_eq (at ps v).place i) [
+        | inl e ↦ (let same : slice_index order i ≡ v = ap (slice_index order) (sym e) ∙ b.placed v hv in
+            let none : (at ps v).place ≡ 0 = subst (λ x. (at ps x).place ≡ 0) same z in
+            down.below v m hv hm (root_holds w ps b.rooted v (host w m) hv (host_below w b.network m hm) none))
+        | inr d ↦ down.all v m hv hm (omega arith)
+      ];
+    }
+
+    pub down_sound : IsSound w table → (one : 1 ≤ (at ps (slice_index order i)).place) → (d : ℕ)
+        → d ≡ over_up w ps b.rooted (slice_index order i) → (new : Nearest)
+        → Takes (nearest_of table (slice_index order i)) (nearest_of table (at ps (slice_index order i)).parent) d new
+        → IsSound w (slice_set table (slice_index order i) new)
+    down_sound s one d is new t =
+        let c = slice_index order i in
+        let p = (at ps c).parent in
+        step_sound w b.network table s p c d new (parent_there_below w ps b.rooted c here one) here t
+        (λ x hx. subst (λ k. takes w c x ≤ takes w p x + k) (sym is) (child_near w ps b.rooted c here one x hx))
+
+    pub down_step : DownTo table i → (one : 1 ≤ (at ps (slice_index order i)).place) → (d : ℕ)
+        → d ≡ over_up w ps b.rooted (slice_index order i) → (new : Nearest)
+        → Takes (nearest_of table (slice_index order i)) (nearest_of table (at ps (slice_index order i)).parent) d new
+        → DownTo (slice_set table (slice_index order i) new) (i + 1)
+    down_step down one d is new t =
+        let c = slice_index order i in
+        let p = (at ps c).parent in
+        let hp = parent_there_below w ps b.rooted c here one in
+        let before : (at ps p).place < (at ps c).place = parent_before w ps b.rooted c here one in
+        record {
+          sound = down_sound down.sound one d is new t;
+          below = λ v m hv hm held. step_keeps w b.network table down.sound p c d new hp here t v m (takes w v (host w m)) hv
+              (down.below v m hv hm held);
+          all = λ v m hv hm le. elim (cases_eq (at ps v).place i) [
+            | inl e ↦ (let same : c ≡ v = ap (slice_index order) (sym e) ∙ b.placed v hv in
+                let place : (at ps c).place ≡ i = ap (λ x. (at ps x).place) same ∙ e in
+                let hx = host_below w b.network m hm in
+                subst (λ x. Covers (nearest_of (slice_set table c new) x) m (takes w x (host w m))) same
+                (elim (held_or_not w ps b.rooted (at ps c) (at ps (host w m))) [
+                  | inl h ↦ step_keeps w b.network table down.sound p c d new hp here t c m (takes w c (host w m)) here
+                      (down.below c m here hm h)
+                  | inr h ↦ (let got = step_takes w b.network table down.sound p c d new hp here t m (takes w p (host w m))
+                      (down.all p m hp hm (omega arith)) in
+                      let far : takes w p (host w m) + d ≡ takes w c (host w m) = ap (λ k. takes w p (host w m) + k) is
+                      ∙ sym (to_parent w ps b.rooted c here one (host w m) hx h) in
+                      subst (λ k. Covers (nearest_of (slice_set table c new) c) m k) far got)
+                ]))
+            | inr q ↦ step_keeps w b.network table down.sound p c d new hp here t v m (takes w v (host w m)) hv
+                (down.all v m hv hm (omega arith))
+          ];
+        }

@@ -1,0 +1,118 @@
+//! How far it is from each member to the nearest other.
+ghost use Rattle.std.specs.Prelude.{◌≡◌, ◌<◌, IfOk, length, slice_set};
+ghost use Rattle.srm_net.specs.Nearness.{Takes, nearest_of, IsByPlace, IsSound, TellsOwn, TellsBelow, TellsNearest};
+ghost use Rattle.srm_net.specs.Network.{Network, IsNetwork};
+ghost use Rattle.srm_net.specs.Rooting.{IsRooted};
+ghost use Rattle.srm_net.specs.Tables.{TellsOuts};
+ghost use Rattle.srm_net.specs.declared.nearest.Nearest.{Nearest};
+
+use crate::near::Near;
+use crate::nearest::Nearest;
+use crate::rooted::Rooted;
+use std::alloc::{AllocError, Global};
+
+/// The least distance of each of these hosts' members to another, in ticks. It takes a number of steps that grows as the numbers of nodes
+/// and hosts: the nearest two members of each node are found among those below it first, from the last place to the first, and then
+/// among all, from the first to the last. At a member's node the nearest is the member itself.
+pub(crate) fn all_outs(
+    alloc: Global,
+    rooted: &Rooted,
+    hosts: &[u16],
+) -> Result<Vec<Option<u64>>, AllocError>
+    requires { (w : Network) × IsNetwork w × IsRooted w rooted.now.positions.items × (w.hosts ≡ hosts.now) }
+    ensures { (w : Network) → IsNetwork w → IsRooted w rooted.now.positions.items → w.hosts ≡ hosts.now
+        → IfOk result (λ outs. TellsOuts w outs.items) }
+{
+    let order = by_place(alloc, rooted)?;
+    let mut table = at_home(alloc, rooted, hosts)?;
+    offer_up(rooted, &order, table.as_mut_slice());
+    offer_down(rooted, &order, table.as_mut_slice());
+    let mut outs = Vec::new(alloc);
+    for host in hosts {
+        outs.push(table[usize::from(*host)].second())?;
+    }
+    Ok(outs)
+}
+
+// The nodes in the order of their places.
+fn by_place(alloc: Global, rooted: &Rooted) -> Result<Vec<u16>, AllocError>
+    requires { (w : Network) × IsNetwork w × IsRooted w rooted.now.positions.items }
+    ensures { (w : Network) → IsNetwork w → IsRooted w rooted.now.positions.items
+        → IfOk result (λ order. IsByPlace w rooted.now.positions.items order.items) }
+{
+    let size = rooted.position(0).end;
+    let mut order = vec![in alloc; 0u16; usize::from(size)]?;
+    for node in 0..rooted.positions.len() as u16 {
+        let place = rooted.position(node).place;
+        order[usize::from(place)] = node;
+    }
+    Ok(order)
+}
+
+// For each node that hosts a member this one alone.
+fn at_home(alloc: Global, rooted: &Rooted, hosts: &[u16]) -> Result<Vec<Nearest>, AllocError>
+    requires { (w : Network) × IsNetwork w × IsRooted w rooted.now.positions.items × (w.hosts ≡ hosts.now) }
+    ensures sound { (w : Network) → IsNetwork w → IsRooted w rooted.now.positions.items → w.hosts ≡ hosts.now
+        → IfOk result (λ table. IsSound w table.items) }
+    ensures own { (w : Network) → IsNetwork w → IsRooted w rooted.now.positions.items → w.hosts ≡ hosts.now
+        → IfOk result (λ table. TellsOwn w table.items) }
+{
+    let mut table = vec![in alloc; Nearest::Nobody; rooted.positions.len()]?;
+    for (member, host) in hosts.iter().enumerate() {
+        let own = Near {
+            member: member as u16,
+            ticks: 0,
+        };
+        table[usize::from(*host)] = Nearest::One(own);
+    }
+    Ok(table)
+}
+
+// Takes into account at each node the members below it.
+fn offer_up(rooted: &Rooted, order: &[u16], table: &mut [Nearest])
+    requires { (w : Network) × IsByPlace w rooted.now.positions.items order.now × IsSound w table.old }
+    ensures sound { (w : Network) → IsByPlace w rooted.now.positions.items order.now → IsSound w table.old → TellsOwn w table.old
+        → IsSound w table.new }
+    ensures below { (w : Network) → IsByPlace w rooted.now.positions.items order.now → IsSound w table.old → TellsOwn w table.old
+        → TellsBelow w rooted.now.positions.items table.new }
+{
+    for index in (0..order.len()).rev() {
+        let node = order[index];
+        let here = rooted.position(node);
+        if here.place == 0 {
+            continue;
+        }
+        let delay = here.down - rooted.position(here.parent).down;
+        offer(table, node, here.parent, delay);
+    }
+}
+
+// Takes into account at each node those that are not below it.
+fn offer_down(rooted: &Rooted, order: &[u16], table: &mut [Nearest])
+    requires { (w : Network) × IsByPlace w rooted.now.positions.items order.now × IsSound w table.old }
+    ensures sound { (w : Network) → IsByPlace w rooted.now.positions.items order.now → IsSound w table.old
+        → TellsBelow w rooted.now.positions.items table.old → IsSound w table.new }
+    ensures nearest { (w : Network) → IsByPlace w rooted.now.positions.items order.now → IsSound w table.old
+        → TellsBelow w rooted.now.positions.items table.old → TellsNearest w table.new }
+{
+    for index in 0..order.len() {
+        let node = order[index];
+        let here = rooted.position(node);
+        if here.place == 0 {
+            continue;
+        }
+        let delay = here.up - rooted.position(here.parent).up;
+        offer(table, here.parent, node, delay);
+    }
+}
+
+// Takes into account at node `to` the members that are at node `from`, to which a packet from there takes so long.
+fn offer(table: &mut [Nearest], from: u16, to: u16, delay: u64)
+    requires from { from < length table.old }
+    requires to { to < length table.old }
+    ensures { (new : Nearest) × (table.new ≡ slice_set table.old to new)
+        × Takes (nearest_of table.old to) (nearest_of table.old from) delay new }
+{
+    let new = table[usize::from(to)].with_all(table[usize::from(from)], delay);
+    table[usize::from(to)] = new;
+}
