@@ -1,5 +1,5 @@
 -- When a packet comes to the nodes of a tree.
-use Rattle.std.proofs.Common.{◌≡◌, ◌≢◌, ◌⊎◌, ℕ, ◌+◌, ◌-◌, ◌^◌, ◌<◌, ◌≤◌, Bool, true, false, not, ◌&&◌, List, Option, Some, None, length}
+use Rattle.std.proofs.Common.{◌≡◌, ◌≢◌, ℕ, ◌+◌, ◌-◌, ◌^◌, ◌<◌, ◌≤◌, Bool, true, false, not, ◌&&◌, List, Option, Some, None, length}
 use Rattle.std.proofs.Common.{refl, sym, ap, ◌∙◌, subst, inl, inr, arith, slice_get, slice_set, if◌then◌else◌, is_some, IfSome}
 use Rattle.std.proofs.lemmas.Bool.{cases_eq, cases_lt, both_ways}
 use Rattle.std.proofs.lemmas.List.{length-set}
@@ -280,7 +280,8 @@ module _ (w : Network) (ps : List Position) (r : IsRooted w ps) where
     pub above : (x : ℕ) → x < w.nodes → IsHeld (at ps x) (at ps u) → slice_get arrivals x ≡ Some (arrival w out u t x)
     pub told : (x : ℕ) → x < w.nodes → (at ps x).place < i → slice_get arrivals x ≡ Some (arrival w out u t x)
 
-  pub passed_none : (out : Stop → Bool) (u t : ℕ) (arrivals : List (Option ℕ)) → TellsAbove w ps out u t arrivals → Passed out u t 0 arrivals
+  pub passed_none : (out : Stop → Bool) (u t : ℕ) (arrivals : List (Option ℕ)) → TellsAbove w ps out u t arrivals
+      → Passed out u t 0 arrivals
   passed_none out u t arrivals a = record { size = a.nodes; above = a.above; told = λ x hx lt. absurd (omega arith) }
 
   pub passed_held : (out : Stop → Bool) (u t i x : ℕ) (arrivals : List (Option ℕ)) → x < w.nodes → (at ps x).place ≡ i

@@ -1,9 +1,9 @@
 -- To which nodes a packet comes, found from node to node.
-use Rattle.std.proofs.Common.{◌≡◌, ◌≢◌, ℕ, zero, suc, ◌+◌, ◌<◌, Bool, true, false, not, cond, ◌&&◌, List, [], ◌∷◌, ◌++◌, length, Option}
-use Rattle.std.proofs.Common.{Some, None, refl, sym, ap, ◌∙◌, subst, inl, inr, arith, eq-eqb, eqb-true, slice_get, slice_set, replicate}
+use Rattle.std.proofs.Common.{◌≡◌, ◌≢◌, ℕ, zero, suc, ◌+◌, ◌<◌, Bool, true, false, not, cond, ◌&&◌, List, [], ◌∷◌, ◌++◌, length}
+use Rattle.std.proofs.Common.{Some, refl, sym, ap, ◌∙◌, subst, inl, inr, arith, eq-eqb, eqb-true, slice_get, replicate}
 use Rattle.std.proofs.Common.{unwrap_or}
 use Rattle.std.specs.List.{list_any}
-use Rattle.std.proofs.lemmas.Bool.{cases_Bool, cases_eq, both_ways, ne_eqb, false≢true}
+use Rattle.std.proofs.lemmas.Bool.{cases_Bool, both_ways, ne_eqb, false≢true}
 use Rattle.std.proofs.lemmas.List.{length-replicate}
 use Rattle.srm_net.specs.declared.link.LinkSpec.{LinkSpec}
 use Rattle.srm_net.specs.declared.packet.PacketId.{PacketId}
@@ -12,7 +12,7 @@ use Rattle.srm_net.specs.Paths.{is_in, end_of, delay_of, delay_along, host, rout
 use Rattle.srm_net.specs.DropRules.{DropRules, may_drop}
 use Rattle.srm_net.specs.Tables.{is_beyond, near_end, far_from, some_beyond}
 use Rattle.srm_net.specs.Spreads.{comes_to, PlainSpread, IsSpread, FitsIn}
-use Rattle.srm_net.proofs.Lists.{below_get, get_set_same, get_set_other}
+use Rattle.srm_net.proofs.Lists.{below_get}
 use Rattle.srm_net.proofs.Numbers.{Apart, in_head, in_tail, in_cases, in_append_cases, not_in, apart_push, apart_from_distinct}
 use Rattle.srm_net.proofs.Walks.{turned, walk_last, same_link, same_far}
 use Rattle.srm_net.proofs.RouteLemmas.{joins_far, route_path, route_only}

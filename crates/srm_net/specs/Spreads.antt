@@ -44,7 +44,8 @@ pub record TellsArrivals (w : Network) (out : Stop → Bool) (u t : ℕ) (arriva
   pub each : (x : ℕ) → x < w.nodes → slice_get arrivals x ≡ Some (arrival w out u t x)
 
 -- and so far of each node that is this one or above it
-pub record TellsAbove (w : Network) (positions : List Position) (out : Stop → Bool) (u t : ℕ) (arrivals : List (Option ℕ)) : Type 0 where
+pub record TellsAbove (w : Network) (positions : List Position) (out : Stop → Bool) (u t : ℕ)
+    (arrivals : List (Option ℕ)) : Type 0 where
   pub nodes : length arrivals ≡ w.nodes
   pub above : (x : ℕ) → x < w.nodes → IsHeld (at positions x) (at positions u)
       → slice_get arrivals x ≡ Some (arrival w out u t x)

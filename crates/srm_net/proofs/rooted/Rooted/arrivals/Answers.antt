@@ -1,6 +1,5 @@
-use Rattle.std.proofs.Common.{◌≡◌, ◌∙◌, ◌<◌, ◌≤◌, ℕ, List, Option, Some, ◌++◌, length, sym, ap, subst, arith, take, slice_get, slice_set}
+use Rattle.std.proofs.Common.{◌≡◌, ◌∙◌, ◌<◌, ℕ, List, Option, Some, ◌++◌, length, sym, ap, subst, arith, take, slice_get, slice_set}
 use Rattle.std.proofs.lemmas.List.{take-append-le, take_all}
-use Rattle.srm_net.specs.Network.{Network}
 use Rattle.srm_net.specs.Paths.{takes_out}
 use Rattle.srm_net.specs.Spreads.{TellsAbove, TellsArrivals}
 use Rattle.srm_net.proofs.Lists.{get_set_same}
@@ -17,7 +16,8 @@ arrive_above-requires-clause-home c =
     let long : length c.args.self.now.positions.items ≡ q.0.nodes = q.2.rooted.long in
     let within : c.args.packet.from < q.0.nodes = q.3 in
     let count = c.len.ensures in
-    let there : c.args.packet.from < length c.in_ok-arrivals.arrivals.items = omega (arith, c.args.self.now.positions.ok.0, c.in_ok-arrivals.arrivals.ok.0) in
+    let there : c.args.packet.from < length c.in_ok-arrivals.arrivals.items =
+    omega (arith, c.args.self.now.positions.ok.0, c.in_ok-arrivals.arrivals.ok.0) in
     ap (λ es. slice_get es c.args.packet.from) c.as_mut_slice.ensures.value
     ∙ ap (λ i. slice_get (slice_set c.in_ok-arrivals.arrivals.items i (Some c.args.packet.sent)) c.args.packet.from) c.from.ensures
     ∙ get_set_same c.in_ok-arrivals.arrivals.items c.args.packet.from (Some c.args.packet.sent) there

@@ -5,7 +5,8 @@ use Rattle.srm_net.specs.Paths.{takes_out}
 use Rattle.srm_net.specs.Rooting.{at}
 use Rattle.srm_net.specs.Spreads.{arrival, past_link}
 use Rattle.srm_net.proofs.Lists.{get_index, index_get}
-use Rattle.srm_net.proofs.Arrivals.{Passed, passed_none, passed_held, passed_more, passed_all, held_read, not_held_read, downwards_read, soon}
+use Rattle.srm_net.proofs.Arrivals.{Passed, passed_none, passed_held, passed_more, passed_all, held_read, not_held_read}
+use Rattle.srm_net.proofs.Arrivals.{downwards_read, soon}
 use Rattle.srm_net.proofs.rooted.Rooted.arrive_below.Goals as goal
 
 pub position-here-requires : goal.position-here-requires
