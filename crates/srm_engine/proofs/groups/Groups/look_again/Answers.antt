@@ -120,7 +120,8 @@ returns-clause-soon g c = λ seed ps results alone h soon.
       cut = may.cut;
       grouped = h;
       soon = subst (λ l. AreSoonest s c.args.self.cut l (cells_in results))
-          (sym (written c.args.self.soon.len c.args.self.soon.items c.loop-place.kept c.args.self.soon.ok.0 (c.loop-place.auto.kept ∙ kept)))
+          (sym (written c.args.self.soon.len c.args.self.soon.items c.loop-place.kept c.args.self.soon.ok.0
+          (c.loop-place.auto.kept ∙ kept)))
           (all_looked (λ b. (goal.Member-dyn g (b.vtable, b.value)).plain b.value) c.args.self.cut c.as_slice-all.result.now ps results
           may.cut.0 c.args.end alone grouped s c.as_mut_slice-kept.result.now c.loop-place.kept c.loop-place.place c.loop-place-test.false
           c.loop-place.auto.kept (omega arith) began (c.loop-place.invariant seed ps results alone grouped began));

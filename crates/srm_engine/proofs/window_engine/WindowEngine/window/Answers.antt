@@ -11,18 +11,18 @@ use Rattle.srm_engine.proofs.window_engine.WindowEngine.window.Goals as goal
 
 pub map-requires-clause-jobs : goal.map-requires-clause-jobs
 map-requires-clause-jobs g c =
-    (jobs_tell_now (λ b. (goal.Member-dyn g (b.vtable, b.value)).plain b.value) c.args.self c.requires.stands c.end-end.result c.end-end.ensures
-    c.in_ok-jobs.jobs.items c.in_ok-jobs.ensures).may
+    (jobs_tell_now (λ b. (goal.Member-dyn g (b.vtable, b.value)).plain b.value) c.args.self c.requires.stands c.end-end.result
+    c.end-end.ensures c.in_ok-jobs.jobs.items c.in_ok-jobs.ensures).may
 
 pub map-requires-clause-many : goal.map-requires-clause-many
 map-requires-clause-many g c =
-    (jobs_tell_now (λ b. (goal.Member-dyn g (b.vtable, b.value)).plain b.value) c.args.self c.requires.stands c.end-end.result c.end-end.ensures
-    c.in_ok-jobs.jobs.items c.in_ok-jobs.ensures).few
+    (jobs_tell_now (λ b. (goal.Member-dyn g (b.vtable, b.value)).plain b.value) c.args.self c.requires.stands c.end-end.result
+    c.end-end.ensures c.in_ok-jobs.jobs.items c.in_ok-jobs.ensures).few
 
 pub map-requires-clause-places : goal.map-requires-clause-places
 map-requires-clause-places g c =
-    (jobs_tell_now (λ b. (goal.Member-dyn g (b.vtable, b.value)).plain b.value) c.args.self c.requires.stands c.end-end.result c.end-end.ensures
-    c.in_ok-jobs.jobs.items c.in_ok-jobs.ensures).placed
+    (jobs_tell_now (λ b. (goal.Member-dyn g (b.vtable, b.value)).plain b.value) c.args.self c.requires.stands c.end-end.result
+    c.end-end.ensures c.in_ok-jobs.jobs.items c.in_ok-jobs.ensures).placed
 
 pub map-requires-clause-seat : goal.map-requires-clause-seat
 map-requires-clause-seat g c = c.requires.stands.comes.counted.ledger
@@ -30,8 +30,8 @@ map-requires-clause-seat g c = c.requires.stands.comes.counted.ledger
 pub window_fault-requires : goal.window_fault-requires
 window_fault-requires g c = λ spent.
     let w = c.requires.stands.world in
-    let j = jobs_tell_now (λ b. (goal.Member-dyn g (b.vtable, b.value)).plain b.value) c.args.self c.requires.stands c.end-end.result c.end-end.ensures
-    c.in_ok-jobs.jobs.items c.in_ok-jobs.ensures in
+    let j = jobs_tell_now (λ b. (goal.Member-dyn g (b.vtable, b.value)).plain b.value) c.args.self c.requires.stands c.end-end.result
+    c.end-end.ensures c.in_ok-jobs.jobs.items c.in_ok-jobs.ensures in
     j.not_spent (rw spent at c.in-Err.ensures.done.tells (handed_jobs 0 (jobs_of c.args.self.groups.cut c.end-end.result w)) j.seen)
 
 pub returns-in-Err-clause-window : goal.returns-in-Err-clause-window
@@ -45,8 +45,8 @@ returns-in-Err-clause-window g c = λ seed begins w comes.
 pub look_again-groups-requires-clause-may : goal.look_again-groups-requires-clause-may
 look_again-groups-requires-clause-may g c =
     let k = c.requires.stands in
-    let ran = ran_now (λ b. (goal.Member-dyn g (b.vtable, b.value)).plain b.value) c.args.self c.requires.stands c.end-end.result c.end-end.ensures
-    c.in_ok-jobs.jobs.items c.in_ok-jobs.ensures c.in-Ok.done c.in-Ok.ensures.done in
+    let ran = ran_now (λ b. (goal.Member-dyn g (b.vtable, b.value)).plain b.value) c.args.self c.requires.stands c.end-end.result
+    c.end-end.ensures c.in_ok-jobs.jobs.items c.in_ok-jobs.ensures c.in-Ok.done c.in-Ok.ensures.done in
     let same = c.in_ok-groups.ensures.groups in
     let all = ap (λ l. length (all_in l)) same in
     let cuts = subst (λ l. AreCuts c.args.self.groups.cut (sizes l)) (sym same) ran.grouped.cuts in
@@ -61,8 +61,8 @@ look_again-groups-requires-clause-may g c =
 
 pub merge-requires : goal.merge-requires
 merge-requires g c =
-    let ran = ran_now (λ b. (goal.Member-dyn g (b.vtable, b.value)).plain b.value) c.args.self c.requires.stands c.end-end.result c.end-end.ensures
-    c.in_ok-jobs.jobs.items c.in_ok-jobs.ensures c.in-Ok.done c.in-Ok.ensures.done in
+    let ran = ran_now (λ b. (goal.Member-dyn g (b.vtable, b.value)).plain b.value) c.args.self c.requires.stands c.end-end.result
+    c.end-end.ensures c.in_ok-jobs.jobs.items c.in_ok-jobs.ensures c.in-Ok.done c.in-Ok.ensures.done in
     record { sorted = subst (All (IsSorted row_cmp)) (sym (c.in_ok-groups.ensures.lists ∙ ap some_of ran.rows)) ran.sorted }
 
 pub hear-requires-clause-until : goal.hear-requires-clause-until
@@ -73,8 +73,8 @@ hear-requires-clause-may g c =
     let k = c.requires.stands in
     let w = k.world in
     let ds = c.in-Ok.done.0.items in
-    let ran = ran_now (λ b. (goal.Member-dyn g (b.vtable, b.value)).plain b.value) c.args.self c.requires.stands c.end-end.result c.end-end.ensures
-    c.in_ok-jobs.jobs.items c.in_ok-jobs.ensures c.in-Ok.done c.in-Ok.ensures.done in
+    let ran = ran_now (λ b. (goal.Member-dyn g (b.vtable, b.value)).plain b.value) c.args.self c.requires.stands c.end-end.result
+    c.end-end.ensures c.in_ok-jobs.jobs.items c.in_ok-jobs.ensures c.in-Ok.done c.in-Ok.ensures.done in
     let s = setting_by c.args.self k.seed in
     let cut = c.args.self.groups.cut in
     let grouped = subst (λ l. AreGrouped (λ b. (goal.Member-dyn g (b.vtable, b.value)).plain b.value) cut l (cells_in ran.results))
