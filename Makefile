@@ -39,6 +39,8 @@ check: ## what an edit needs: proves each crate that changed, or CRATE=srm_net w
 	@tests/fuzz_tests.py -q
 	@tests/architecture.py
 	@tests/promises.py
+	@tests/where_tests.py -q
+	@tests/where.py
 	@tests/calls.py
 	@tests/lines.py
 	@tests/widths.py
@@ -51,6 +53,8 @@ test: ## the merge gate: proves everything from nothing, with tests and must-fai
 	@tests/fuzz_tests.py -q
 	@tests/architecture.py
 	@tests/promises.py
+	@tests/where_tests.py -q
+	@tests/where.py
 	@tests/calls.py
 	@tests/lines.py
 	@tests/widths.py

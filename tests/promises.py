@@ -17,7 +17,7 @@ PAGE = TOP / "docs" / "PROMISES.md"
 def named_in(text):
     """The edits that the tables of the page name."""
     rows = [line.strip("|").split(" | ") for line in text.splitlines() if line.startswith("|")]
-    return {name for cells in rows if len(cells) > 2 for name in re.findall(r"`([a-z0-9_]+)`", cells[2])}
+    return {name for cells in rows if len(cells) > 3 for name in re.findall(r"`([a-z0-9_]+)`", cells[2])}
 
 
 def misfits(edit):
