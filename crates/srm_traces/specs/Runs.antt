@@ -3,6 +3,7 @@ use Rattle.std.specs.Prelude.{◌≡◌, ℕ, zero, suc, List, map, Option, Some
 use Rattle.srm_net.specs.declared.packet.PacketId.{PacketId}
 use Rattle.srm_net.specs.declared.packet.Name.{Name}
 use Rattle.srm_net.specs.declared.packet.Packet.{Packet}
+use Rattle.srm_scenario.specs.declared.parts.Constants.{Constants}
 use Rattle.srm_scenario.specs.Plain.{PlainScenario, network_of}
 use Rattle.srm_member.specs.declared.row.Word.{Word}
 use Rattle.srm_member.specs.declared.row.About.{About}
@@ -10,6 +11,7 @@ use Rattle.srm_member.specs.declared.row.About.TheVariants as about
 use Rattle.srm_member.specs.declared.row.Row.{Row}
 use Rattle.srm_member.specs.declared.told.Told.{Told}
 use Rattle.srm_member.specs.declared.exit.Exit.{Exit}
+use Rattle.srm_member.specs.Record.{Record, Active, Gone}
 use Rattle.srm_cell.specs.Setting.{Setting, traffic_of, setting_of}
 use Rattle.srm_cell.specs.Cells.{Idle, Full, Spent, Done}
 use Rattle.srm_cell.specs.Crossings.{crossings}
@@ -79,3 +81,17 @@ whole_totals p seed = crossings (traffic_of p (network_of p)) (world_at_end p se
 -- what its members end with
 unfoldable pub whole_exits : PlainScenario → ℕ → List Exit
 whole_exits p seed = exits_of (world_at_end p seed)
+
+-- the constants of a member's timers; of one that is gone the first ones
+abbrev pub constants_in : Record → Constants
+constants_in (Active m) = record {
+  c1 = m.request_interval.start;
+  c2 = m.request_interval.width;
+  d1 = m.repair_interval.start;
+  d2 = m.repair_interval.width;
+}
+constants_in (Gone f) = record { c1 = f.c1.first; c2 = f.c2.first; d1 = f.d1.first; d2 = f.d2.first }
+
+-- those of its members at its end
+unfoldable pub whole_constants : PlainScenario → ℕ → List Constants
+whole_constants p seed = map (λ c. constants_in c.holds) (world_at_end p seed).cells

@@ -1,10 +1,13 @@
 -- Worked scenarios.
-use Rattle.std.specs.Prelude.{ℕ, zero, suc, List, [], ◌∷◌, Some, None}
+use Rattle.std.specs.Prelude.{ℕ, zero, suc, ◌+◌, List, [], ◌∷◌, Some, None}
 use Rattle.srm_net.specs.declared.role.Role.{Role}
 use Rattle.srm_net.specs.declared.role.Role.TheVariants.{Sender, Receiver, Late, Listener}
 use Rattle.srm_net.specs.declared.link.LinkSpec.{LinkSpec}
 use Rattle.srm_net.specs.declared.link.DropSpec.{DropSpec}
+use Rattle.srm_net.specs.declared.link.OutageSpec.{OutageSpec}
 use Rattle.srm_net.specs.DropRules.{DropRules}
+use Rattle.srm_scenario.specs.declared.parts.Constants.{Constants}
+use Rattle.srm_scenario.specs.declared.parts.Room.{Room}
 use Rattle.srm_scenario.specs.declared.parts.MemberSpec.{MemberSpec}
 use Rattle.srm_scenario.specs.declared.parts.DrawSpec.{DrawSpec}
 use Rattle.srm_scenario.specs.declared.parts.SessionSpec.{SessionSpec}
@@ -40,6 +43,18 @@ session m at = record { member = m; at = at }
 abbrev pub drop : ℕ → ℕ → ℕ → DropSpec
 drop l sender count = record { link = l; id = record { sender = sender; count = count } }
 
+-- constants of timers, in thousandths
+abbrev pub thousandths : ℕ → ℕ → ℕ → ℕ → Constants
+thousandths c1 c2 d1 d2 = record { c1 = c1; c2 = c2; d1 = d1; d2 = d2 }
+
+-- constants of request timers, beside repair timers that last as long as the way from the requester
+abbrev pub timed : ℕ → ℕ → Constants
+timed c1 c2 = thousandths c1 c2 1000 0
+
+-- constants without room, and backoffs that make timers twice as long
+abbrev pub fixed_room : Constants → Room
+fixed_room first = record { least = first; most = first; backoff = 2 }
+
 -- these drops, and no outage
 abbrev pub lists_alone : List DropSpec → DropRules
 lists_alone drops = record { listed = drops; outages = [] }
@@ -48,7 +63,8 @@ lists_alone drops = record { listed = drops; outages = [] }
 abbrev pub chain_of_five_one_loss : PlainScenario
 chain_of_five_one_loss = record {
   until = 100;
-  constants = record { c1 = 1000; c2 = 0; d1 = 1000; d2 = 0 };
+  constants = timed 1000 0;
+  room = fixed_room (timed 1000 0);
   nodes = 5;
   links = chain_links 1 0 4;
   members = member 0 Sender 1 ∷ member 1 Receiver 2 ∷ member 2 Receiver 3 ∷ member 3 Receiver 4
@@ -62,7 +78,8 @@ chain_of_five_one_loss = record {
 abbrev pub loss_on_the_source_link : PlainScenario
 loss_on_the_source_link = record {
   until = 1000;
-  constants = record { c1 = 1000; c2 = 0; d1 = 1000; d2 = 0 };
+  constants = timed 1000 0;
+  room = fixed_room (timed 1000 0);
   nodes = 3;
   links = chain_links 1 0 2;
   members = member 0 Sender 1 ∷ member 1 Receiver 2 ∷ member 2 Receiver 3 ∷ [];
@@ -75,7 +92,8 @@ loss_on_the_source_link = record {
 abbrev pub repair_before_the_timer_of_its_tick : PlainScenario
 repair_before_the_timer_of_its_tick = record {
   until = 1000;
-  constants = record { c1 = 1500; c2 = 0; d1 = 1000; d2 = 0 };
+  constants = timed 1500 0;
+  room = fixed_room (timed 1500 0);
   nodes = 2;
   links = chain_links 1 0 1;
   members = member 0 Sender 1 ∷ member 1 Receiver 2 ∷ [];
@@ -92,7 +110,8 @@ stopped_before_the_repair = record repair_before_the_timer_of_its_tick { until =
 abbrev pub drawn_timers : PlainScenario
 drawn_timers = record {
   until = 1000;
-  constants = record { c1 = 2000; c2 = 2000; d1 = 1000; d2 = 0 };
+  constants = timed 2000 2000;
+  room = fixed_room (timed 2000 2000);
   nodes = 2;
   links = chain_links 10 0 1;
   members = member 0 Sender 1 ∷ member 1 Receiver 54 ∷ [];
@@ -105,7 +124,8 @@ drawn_timers = record {
 abbrev pub star_loss_at_the_source : PlainScenario
 star_loss_at_the_source = record {
   until = 1000;
-  constants = record { c1 = 1000; c2 = 0; d1 = 1000; d2 = 0 };
+  constants = timed 1000 0;
+  room = fixed_room (timed 1000 0);
   nodes = 5;
   links = star_links 5 0 4;
   members = member 1 Sender 1 ∷ member 2 Receiver 2 ∷ member 3 Receiver 3 ∷ member 4 Receiver 4 ∷ [];
@@ -118,7 +138,8 @@ star_loss_at_the_source = record {
 abbrev pub star_loss_at_one_member : PlainScenario
 star_loss_at_one_member = record {
   until = 1000;
-  constants = record { c1 = 1000; c2 = 0; d1 = 1000; d2 = 0 };
+  constants = timed 1000 0;
+  room = fixed_room (timed 1000 0);
   nodes = 5;
   links = star_links 5 0 4;
   members = member 1 Sender 1 ∷ member 2 Receiver 2 ∷ member 3 Receiver 3 ∷ member 4 Receiver 4 ∷ [];
@@ -131,7 +152,8 @@ star_loss_at_one_member = record {
 abbrev pub receiver_that_leaves : PlainScenario
 receiver_that_leaves = record {
   until = 1000;
-  constants = record { c1 = 1000; c2 = 0; d1 = 1000; d2 = 0 };
+  constants = timed 1000 0;
+  room = fixed_room (timed 1000 0);
   nodes = 2;
   links = chain_links 1 0 1;
   members = member 0 Sender 1 ∷ record (member 1 Receiver 2) { leave = Some 1 } ∷ [];
@@ -144,7 +166,8 @@ receiver_that_leaves = record {
 abbrev pub late_joiner : PlainScenario
 late_joiner = record {
   until = 1000;
-  constants = record { c1 = 1000; c2 = 0; d1 = 1000; d2 = 0 };
+  constants = timed 1000 0;
+  room = fixed_room (timed 1000 0);
   nodes = 2;
   links = chain_links 1 0 1;
   members = member 0 Sender 1 ∷ record (member 1 Late 2) { join = 50; pages = 1 ∷ [] } ∷ [];
@@ -157,7 +180,8 @@ late_joiner = record {
 abbrev pub session_reveals_a_loss : PlainScenario
 session_reveals_a_loss = record {
   until = 1000;
-  constants = record { c1 = 1000; c2 = 0; d1 = 1000; d2 = 0 };
+  constants = timed 1000 0;
+  room = fixed_room (timed 1000 0);
   nodes = 2;
   links = chain_links 1 0 1;
   members = member 0 Sender 1 ∷ member 1 Receiver 2 ∷ [];
@@ -170,7 +194,8 @@ session_reveals_a_loss = record {
 abbrev pub two_nodes : PlainScenario
 two_nodes = record {
   until = 20;
-  constants = record { c1 = 1000; c2 = 0; d1 = 1000; d2 = 0 };
+  constants = timed 1000 0;
+  room = fixed_room (timed 1000 0);
   nodes = 2;
   links = link 0 1 3 ∷ [];
   members = member 0 Sender 1 ∷ member 1 Listener 2 ∷ [];
@@ -183,7 +208,8 @@ two_nodes = record {
 abbrev pub mended_by_the_data_itself : PlainScenario
 mended_by_the_data_itself = record {
   until = 1000;
-  constants = record { c1 = 1000; c2 = 0; d1 = 1000; d2 = 0 };
+  constants = timed 1000 0;
+  room = fixed_room (timed 1000 0);
   nodes = 3;
   links = chain_links 1 0 2;
   members = member 1 Receiver 1 ∷ member 0 Sender 2 ∷ member 2 Receiver 3 ∷ [];
@@ -196,7 +222,8 @@ mended_by_the_data_itself = record {
 abbrev pub loss_learnt_from_a_request : PlainScenario
 loss_learnt_from_a_request = record {
   until = 1000;
-  constants = record { c1 = 1000; c2 = 0; d1 = 1000; d2 = 0 };
+  constants = timed 1000 0;
+  room = fixed_room (timed 1000 0);
   nodes = 3;
   links = chain_links 1 0 2;
   members = member 0 Sender 1 ∷ member 1 Receiver 2 ∷ member 2 Receiver 3 ∷ [];
@@ -209,11 +236,66 @@ loss_learnt_from_a_request = record {
 abbrev pub outage_of_one_tick : PlainScenario
 outage_of_one_tick = record {
   until = 100;
-  constants = record { c1 = 1000; c2 = 0; d1 = 1000; d2 = 0 };
+  constants = timed 1000 0;
+  room = fixed_room (timed 1000 0);
   nodes = 3;
   links = chain_links 5 0 2;
   members = member 0 Sender 1 ∷ member 1 Listener 2 ∷ member 2 Listener 3 ∷ [];
   draws = draw 0 0 7 0 ∷ draw 0 0 8 10 ∷ [];
   sessions = [];
   drops = record { listed = []; outages = record { link = 1; from = 5; to = 6 } ∷ [] };
+}
+
+-- an outage of one tick
+abbrev pub outage : ℕ → ℕ → OutageSpec
+outage l from = record { link = l; from = from; to = from + 1 }
+
+-- two pairs of operations of a source, of which the second is drawn a tick after the first
+abbrev pub two_pairs : List DrawSpec
+two_pairs = draw 0 0 0 0 ∷ draw 0 0 1 1 ∷ draw 0 0 2 1000 ∷ draw 0 0 3 1001 ∷ []
+
+-- a link loses the packets that come to it in these two ticks
+abbrev pub loses_at : ℕ → ℕ → ℕ → DropRules
+loses_at l first second = record { listed = []; outages = outage l first ∷ outage l second ∷ [] }
+
+-- a member that alone asks, at two losses: the second time it asks sooner
+abbrev pub request_timers_adapted : PlainScenario
+request_timers_adapted = record {
+  until = 2000;
+  constants = timed 2000 0;
+  room = record { least = timed 500 0; most = timed 2000 0; backoff = 3 };
+  nodes = 3;
+  links = chain_links 20 0 2;
+  members = member 0 Sender 1 ∷ member 1 Receiver 2 ∷ member 2 Receiver 3 ∷ [];
+  draws = two_pairs;
+  sessions = [];
+  drops = loses_at 1 20 1020;
+}
+
+-- two members that answer together, at two losses of another, and a third that hears both: its repair timers get longer
+abbrev pub repair_timers_adapted : PlainScenario
+repair_timers_adapted = record {
+  until = 2000;
+  constants = thousandths 1500 0 1500 0;
+  room = record { least = thousandths 1500 0 500 0; most = thousandths 1500 0 2000 0; backoff = 3 };
+  nodes = 5;
+  links = link 0 1 20 ∷ link 0 2 20 ∷ link 0 3 60 ∷ link 0 4 20 ∷ [];
+  members = member 1 Sender 1 ∷ member 2 Receiver 2 ∷ member 3 Receiver 3 ∷ member 4 Receiver 4 ∷ [];
+  draws = two_pairs;
+  sessions = [];
+  drops = loses_at 3 20 1020;
+}
+
+-- two members that ask together, at two losses, and a third that hears both: its request timers get longer
+abbrev pub two_ask_together : PlainScenario
+two_ask_together = record {
+  until = 2000;
+  constants = thousandths 1000 0 500 0;
+  room = record { least = thousandths 500 0 500 0; most = thousandths 2000 0 500 0; backoff = 3 };
+  nodes = 5;
+  links = link 0 1 20 ∷ link 1 2 20 ∷ link 1 3 20 ∷ link 1 4 60 ∷ [];
+  members = member 0 Sender 1 ∷ member 2 Receiver 2 ∷ member 3 Receiver 3 ∷ member 4 Receiver 4 ∷ [];
+  draws = two_pairs;
+  sessions = [];
+  drops = loses_at 0 0 1000;
 }

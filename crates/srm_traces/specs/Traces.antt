@@ -1,10 +1,12 @@
 -- The traces of the worked scenarios, and their crossings: for each link data, requests, repairs, session messages and
--- drops. Of some, what their members end with.
+-- drops. Of some, what their members end with, or the constants of their timers at the end.
 use Rattle.std.specs.Prelude.{ℕ, List, [], ◌∷◌, Some, None}
+use Rattle.srm_scenario.specs.declared.parts.Constants.{Constants}
 use Rattle.srm_member.specs.declared.row.Word.TheVariants as word
 use Rattle.srm_member.specs.declared.exit.Exit.{Exit}
 use Rattle.srm_member.specs.declared.told.Told.TheVariants as told
 use Rattle.srm_model.specs.OneLoss.{an_exit}
+use Rattle.srm_traces.specs.Scenarios.{thousandths}
 use Rattle.srm_traces.specs.Runs.{Brief, Nothing, Of, Named, handled, packet, name}
 
 -- one loss on a chain of five: its request, and the repair by the nearest that holds it: its trace
@@ -337,3 +339,149 @@ outage_of_one_tick_trace =
 -- and its crossings
 abbrev pub outage_of_one_tick_totals : List ℕ
 outage_of_one_tick_totals = 2 ∷ 0 ∷ 0 ∷ 0 ∷ 0 ∷ 1 ∷ 0 ∷ 0 ∷ 0 ∷ 1 ∷ []
+
+-- a member that alone asks, and asks sooner at its next loss: its trace
+abbrev pub request_timers_adapted_trace : List Brief
+request_timers_adapted_trace =
+    handled 0 0 word.Join Nothing told.Entered 0 None
+    ∷ handled 0 0 word.Draw (Named (name 0 0 0)) told.Sent 0 (Some (packet 0 0))
+    ∷ handled 0 1 word.Join Nothing told.Entered 0 None
+    ∷ handled 0 2 word.Join Nothing told.Entered 0 None
+    ∷ handled 1 0 word.Draw (Named (name 0 0 1)) told.Sent 0 (Some (packet 0 1))
+    ∷ handled 20 1 word.Data (Of (packet 0 0)) told.Fresh 0 None
+    ∷ handled 21 1 word.Data (Of (packet 0 1)) told.Fresh 0 None
+    ∷ handled 41 2 word.Data (Of (packet 0 1)) told.Fresh 1 None
+    ∷ handled 121 2 word.Ask (Named (name 0 0 0)) told.Sent 0 (Some (packet 2 0))
+    ∷ handled 141 1 word.Request (Of (packet 2 0)) told.Plan 0 None
+    ∷ handled 161 0 word.Request (Of (packet 2 0)) told.Plan 0 None
+    ∷ handled 161 1 word.Answer (Named (name 0 0 0)) told.Sent 0 (Some (packet 1 0))
+    ∷ handled 181 0 word.Repair (Of (packet 1 0)) told.Again 0 None
+    ∷ handled 181 2 word.Repair (Of (packet 1 0)) told.Fixed 0 None
+    ∷ handled 1000 0 word.Draw (Named (name 0 0 2)) told.Sent 0 (Some (packet 0 2))
+    ∷ handled 1001 0 word.Draw (Named (name 0 0 3)) told.Sent 0 (Some (packet 0 3))
+    ∷ handled 1020 1 word.Data (Of (packet 0 2)) told.Fresh 0 None
+    ∷ handled 1021 1 word.Data (Of (packet 0 3)) told.Fresh 0 None
+    ∷ handled 1041 2 word.Data (Of (packet 0 3)) told.Fresh 1 None
+    ∷ handled 1119 2 word.Ask (Named (name 0 0 2)) told.Sent 0 (Some (packet 2 1))
+    ∷ handled 1139 1 word.Request (Of (packet 2 1)) told.Plan 0 None
+    ∷ handled 1159 0 word.Request (Of (packet 2 1)) told.Plan 0 None
+    ∷ handled 1159 1 word.Answer (Named (name 0 0 2)) told.Sent 0 (Some (packet 1 1))
+    ∷ handled 1179 0 word.Repair (Of (packet 1 1)) told.Again 0 None
+    ∷ handled 1179 2 word.Repair (Of (packet 1 1)) told.Fixed 0 None
+    ∷ []
+
+-- and its crossings
+abbrev pub request_timers_adapted_totals : List ℕ
+request_timers_adapted_totals = 4 ∷ 2 ∷ 2 ∷ 0 ∷ 0 ∷ 2 ∷ 2 ∷ 2 ∷ 0 ∷ 2 ∷ []
+
+-- and the constants of its members at the end
+abbrev pub request_timers_adapted_constants : List Constants
+request_timers_adapted_constants = thousandths 2000 0 1000 0 ∷ thousandths 2000 0 1000 0 ∷ thousandths 1900 0 1000 0 ∷ []
+
+-- two members that answer together, and a third that hears both: its trace
+abbrev pub repair_timers_adapted_trace : List Brief
+repair_timers_adapted_trace =
+    handled 0 0 word.Join Nothing told.Entered 0 None
+    ∷ handled 0 0 word.Draw (Named (name 0 0 0)) told.Sent 0 (Some (packet 0 0))
+    ∷ handled 0 1 word.Join Nothing told.Entered 0 None
+    ∷ handled 0 2 word.Join Nothing told.Entered 0 None
+    ∷ handled 0 3 word.Join Nothing told.Entered 0 None
+    ∷ handled 1 0 word.Draw (Named (name 0 0 1)) told.Sent 0 (Some (packet 0 1))
+    ∷ handled 40 1 word.Data (Of (packet 0 0)) told.Fresh 0 None
+    ∷ handled 41 1 word.Data (Of (packet 0 1)) told.Fresh 0 None
+    ∷ handled 41 3 word.Data (Of (packet 0 1)) told.Fresh 1 None
+    ∷ handled 80 2 word.Data (Of (packet 0 0)) told.Fresh 0 None
+    ∷ handled 81 2 word.Data (Of (packet 0 1)) told.Fresh 0 None
+    ∷ handled 101 3 word.Ask (Named (name 0 0 0)) told.Sent 0 (Some (packet 3 0))
+    ∷ handled 141 0 word.Request (Of (packet 3 0)) told.Plan 0 None
+    ∷ handled 141 1 word.Request (Of (packet 3 0)) told.Plan 0 None
+    ∷ handled 181 2 word.Request (Of (packet 3 0)) told.Plan 0 None
+    ∷ handled 201 0 word.Answer (Named (name 0 0 0)) told.Sent 0 (Some (packet 0 2))
+    ∷ handled 201 1 word.Answer (Named (name 0 0 0)) told.Sent 0 (Some (packet 1 0))
+    ∷ handled 241 0 word.Repair (Of (packet 1 0)) told.Again 0 None
+    ∷ handled 241 1 word.Repair (Of (packet 0 2)) told.Again 0 None
+    ∷ handled 241 3 word.Repair (Of (packet 0 2)) told.Fixed 0 None
+    ∷ handled 241 3 word.Repair (Of (packet 1 0)) told.Again 0 None
+    ∷ handled 281 2 word.Repair (Of (packet 0 2)) told.Again 0 None
+    ∷ handled 281 2 word.Repair (Of (packet 1 0)) told.Again 0 None
+    ∷ handled 1000 0 word.Draw (Named (name 0 0 2)) told.Sent 0 (Some (packet 0 3))
+    ∷ handled 1001 0 word.Draw (Named (name 0 0 3)) told.Sent 0 (Some (packet 0 4))
+    ∷ handled 1040 1 word.Data (Of (packet 0 3)) told.Fresh 0 None
+    ∷ handled 1041 1 word.Data (Of (packet 0 4)) told.Fresh 0 None
+    ∷ handled 1041 3 word.Data (Of (packet 0 4)) told.Fresh 1 None
+    ∷ handled 1080 2 word.Data (Of (packet 0 3)) told.Fresh 0 None
+    ∷ handled 1081 2 word.Data (Of (packet 0 4)) told.Fresh 0 None
+    ∷ handled 1101 3 word.Ask (Named (name 0 0 2)) told.Sent 0 (Some (packet 3 1))
+    ∷ handled 1141 0 word.Request (Of (packet 3 1)) told.Plan 0 None
+    ∷ handled 1141 1 word.Request (Of (packet 3 1)) told.Plan 0 None
+    ∷ handled 1181 2 word.Request (Of (packet 3 1)) told.Plan 0 None
+    ∷ handled 1199 0 word.Answer (Named (name 0 0 2)) told.Sent 0 (Some (packet 0 5))
+    ∷ handled 1199 1 word.Answer (Named (name 0 0 2)) told.Sent 0 (Some (packet 1 1))
+    ∷ handled 1239 0 word.Repair (Of (packet 1 1)) told.Again 0 None
+    ∷ handled 1239 1 word.Repair (Of (packet 0 5)) told.Again 0 None
+    ∷ handled 1239 3 word.Repair (Of (packet 0 5)) told.Fixed 0 None
+    ∷ handled 1239 3 word.Repair (Of (packet 1 1)) told.Again 0 None
+    ∷ handled 1279 2 word.Repair (Of (packet 0 5)) told.Again 0 None
+    ∷ handled 1279 2 word.Repair (Of (packet 1 1)) told.Again 0 None
+    ∷ []
+
+-- and its crossings
+abbrev pub repair_timers_adapted_totals : List ℕ
+repair_timers_adapted_totals = 4 ∷ 2 ∷ 4 ∷ 0 ∷ 0 ∷ 4 ∷ 2 ∷ 4 ∷ 0 ∷ 0 ∷ 4 ∷ 2 ∷ 4 ∷ 0 ∷ 0 ∷ 2 ∷ 2 ∷ 4 ∷ 0 ∷ 2 ∷ []
+
+-- and the constants of its members at the end
+abbrev pub repair_timers_adapted_constants : List Constants
+repair_timers_adapted_constants =
+    thousandths 1500 0 1400 0 ∷ thousandths 1500 0 1400 0 ∷ thousandths 1500 0 1600 0 ∷ thousandths 1500 0 1500 0 ∷ []
+
+-- two members that ask together, and a third that hears both: its trace
+abbrev pub two_ask_together_trace : List Brief
+two_ask_together_trace =
+    handled 0 0 word.Join Nothing told.Entered 0 None
+    ∷ handled 0 0 word.Draw (Named (name 0 0 0)) told.Sent 0 (Some (packet 0 0))
+    ∷ handled 0 1 word.Join Nothing told.Entered 0 None
+    ∷ handled 0 2 word.Join Nothing told.Entered 0 None
+    ∷ handled 0 3 word.Join Nothing told.Entered 0 None
+    ∷ handled 1 0 word.Draw (Named (name 0 0 1)) told.Sent 0 (Some (packet 0 1))
+    ∷ handled 41 1 word.Data (Of (packet 0 1)) told.Fresh 1 None
+    ∷ handled 41 2 word.Data (Of (packet 0 1)) told.Fresh 1 None
+    ∷ handled 81 1 word.Ask (Named (name 0 0 0)) told.Sent 0 (Some (packet 1 0))
+    ∷ handled 81 2 word.Ask (Named (name 0 0 0)) told.Sent 0 (Some (packet 2 0))
+    ∷ handled 81 3 word.Data (Of (packet 0 1)) told.Fresh 1 None
+    ∷ handled 121 0 word.Request (Of (packet 1 0)) told.Plan 0 None
+    ∷ handled 121 0 word.Request (Of (packet 2 0)) told.Busy 0 None
+    ∷ handled 121 1 word.Request (Of (packet 2 0)) told.Hold 0 None
+    ∷ handled 121 2 word.Request (Of (packet 1 0)) told.Hold 0 None
+    ∷ handled 141 0 word.Answer (Named (name 0 0 0)) told.Sent 0 (Some (packet 0 2))
+    ∷ handled 161 3 word.Request (Of (packet 1 0)) told.Back 0 None
+    ∷ handled 161 3 word.Request (Of (packet 2 0)) told.Hold 0 None
+    ∷ handled 181 1 word.Repair (Of (packet 0 2)) told.Fixed 0 None
+    ∷ handled 181 2 word.Repair (Of (packet 0 2)) told.Fixed 0 None
+    ∷ handled 221 3 word.Repair (Of (packet 0 2)) told.Fixed 0 None
+    ∷ handled 1000 0 word.Draw (Named (name 0 0 2)) told.Sent 0 (Some (packet 0 3))
+    ∷ handled 1001 0 word.Draw (Named (name 0 0 3)) told.Sent 0 (Some (packet 0 4))
+    ∷ handled 1041 1 word.Data (Of (packet 0 4)) told.Fresh 1 None
+    ∷ handled 1041 2 word.Data (Of (packet 0 4)) told.Fresh 1 None
+    ∷ handled 1079 1 word.Ask (Named (name 0 0 2)) told.Sent 0 (Some (packet 1 1))
+    ∷ handled 1079 2 word.Ask (Named (name 0 0 2)) told.Sent 0 (Some (packet 2 1))
+    ∷ handled 1081 3 word.Data (Of (packet 0 4)) told.Fresh 1 None
+    ∷ handled 1119 0 word.Request (Of (packet 1 1)) told.Plan 0 None
+    ∷ handled 1119 0 word.Request (Of (packet 2 1)) told.Busy 0 None
+    ∷ handled 1119 1 word.Request (Of (packet 2 1)) told.Hold 0 None
+    ∷ handled 1119 2 word.Request (Of (packet 1 1)) told.Hold 0 None
+    ∷ handled 1139 0 word.Answer (Named (name 0 0 2)) told.Sent 0 (Some (packet 0 5))
+    ∷ handled 1159 3 word.Request (Of (packet 1 1)) told.Back 0 None
+    ∷ handled 1159 3 word.Request (Of (packet 2 1)) told.Hold 0 None
+    ∷ handled 1179 1 word.Repair (Of (packet 0 5)) told.Fixed 0 None
+    ∷ handled 1179 2 word.Repair (Of (packet 0 5)) told.Fixed 0 None
+    ∷ handled 1219 3 word.Repair (Of (packet 0 5)) told.Fixed 0 None
+    ∷ []
+
+-- and its crossings
+abbrev pub two_ask_together_totals : List ℕ
+two_ask_together_totals = 2 ∷ 4 ∷ 2 ∷ 0 ∷ 2 ∷ 2 ∷ 4 ∷ 2 ∷ 0 ∷ 0 ∷ 2 ∷ 4 ∷ 2 ∷ 0 ∷ 0 ∷ 2 ∷ 4 ∷ 2 ∷ 0 ∷ 0 ∷ []
+
+-- and the constants of its members at the end
+abbrev pub two_ask_together_constants : List Constants
+two_ask_together_constants =
+    thousandths 1000 0 500 0 ∷ thousandths 900 0 500 0 ∷ thousandths 900 0 500 0 ∷ thousandths 1100 0 500 0 ∷ []

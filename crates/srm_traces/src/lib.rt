@@ -1,11 +1,12 @@
-//! Worked scenarios, whose whole traces and crossings the checker computes from the definitions; of some, what their members end with.
+//! Worked scenarios, whose whole traces and crossings the checker computes from the definitions; of some, what their members end with, or the constants of their timers at the end.
 #![tactic(auto)]
 
 ghost use Rattle.std.specs.Prelude.{◌≡◌};
-ghost use Rattle.srm_traces.specs.Runs.{whole_trace, whole_totals, whole_exits, IsWhole};
+ghost use Rattle.srm_traces.specs.Runs.{whole_trace, whole_totals, whole_exits, whole_constants, IsWhole};
 ghost use Rattle.srm_traces.specs.Scenarios;
 ghost use Rattle.srm_traces.specs.Traces.{chain_of_five_one_loss_trace, chain_of_five_one_loss_totals, loss_on_the_source_link_trace, loss_on_the_source_link_totals, repair_before_the_timer_of_its_tick_trace, repair_before_the_timer_of_its_tick_totals, stopped_before_the_repair_trace, stopped_before_the_repair_totals, stopped_before_the_repair_exits, drawn_timers_trace, drawn_timers_totals, star_loss_at_the_source_trace, star_loss_at_the_source_totals, star_loss_at_one_member_trace, star_loss_at_one_member_totals, receiver_that_leaves_trace, receiver_that_leaves_totals, receiver_that_leaves_exits, late_joiner_trace, late_joiner_totals, late_joiner_exits, session_reveals_a_loss_trace, session_reveals_a_loss_totals, two_nodes_trace, two_nodes_totals, mended_by_the_data_itself_trace, mended_by_the_data_itself_totals, loss_learnt_from_a_request_trace, loss_learnt_from_a_request_totals};
 ghost use Rattle.srm_traces.specs.Traces.{outage_of_one_tick_trace, outage_of_one_tick_totals};
+ghost use Rattle.srm_traces.specs.Traces.{request_timers_adapted_trace, request_timers_adapted_totals, request_timers_adapted_constants, repair_timers_adapted_trace, repair_timers_adapted_totals, repair_timers_adapted_constants, two_ask_together_trace, two_ask_together_totals, two_ask_together_constants};
 
 /// One loss on a chain of five: its request, and the repair by the nearest that holds it.
 pub fn chain_of_five_one_loss()
@@ -108,4 +109,28 @@ pub fn outage_of_one_tick()
     ensures trace { whole_trace Scenarios.outage_of_one_tick 0 ≡ outage_of_one_tick_trace }
     ensures totals { whole_totals Scenarios.outage_of_one_tick 0 ≡ outage_of_one_tick_totals }
     ensures whole { IsWhole Scenarios.outage_of_one_tick 0 }
+{}
+
+/// A member that alone asks, at two losses: the second time it asks sooner.
+pub fn request_timers_adapted()
+    ensures trace { whole_trace Scenarios.request_timers_adapted 0 ≡ request_timers_adapted_trace }
+    ensures totals { whole_totals Scenarios.request_timers_adapted 0 ≡ request_timers_adapted_totals }
+    ensures constants { whole_constants Scenarios.request_timers_adapted 0 ≡ request_timers_adapted_constants }
+    ensures whole { IsWhole Scenarios.request_timers_adapted 0 }
+{}
+
+/// Two members that answer together, at two losses of another, and a third that hears both: its repair timers get longer.
+pub fn repair_timers_adapted()
+    ensures trace { whole_trace Scenarios.repair_timers_adapted 0 ≡ repair_timers_adapted_trace }
+    ensures totals { whole_totals Scenarios.repair_timers_adapted 0 ≡ repair_timers_adapted_totals }
+    ensures constants { whole_constants Scenarios.repair_timers_adapted 0 ≡ repair_timers_adapted_constants }
+    ensures whole { IsWhole Scenarios.repair_timers_adapted 0 }
+{}
+
+/// Two members that ask together, at two losses, and a third that hears both: its request timers get longer.
+pub fn two_ask_together()
+    ensures trace { whole_trace Scenarios.two_ask_together 0 ≡ two_ask_together_trace }
+    ensures totals { whole_totals Scenarios.two_ask_together 0 ≡ two_ask_together_totals }
+    ensures constants { whole_constants Scenarios.two_ask_together 0 ≡ two_ask_together_constants }
+    ensures whole { IsWhole Scenarios.two_ask_together 0 }
 {}
