@@ -67,7 +67,8 @@ unfolding hear_session
 hearing_session at [] m lost = refl
 hearing_session at (h ∷ hs) m lost = hearing_session at hs (after_entry at h lost m) _ ∙ hearing_entry at h lost m
 
-hearing : (at who : ℕ) (b : Body) (m : MemberState) → is_of_recovery b ≡ false → (hear_body at who b m).state.repair_interval ≡ m.repair_interval
+hearing : (at who : ℕ) (b : Body) (m : MemberState) → is_of_recovery b ≡ false
+    → (hear_body at who b m).state.repair_interval ≡ m.repair_interval
 hearing at who (Drawop n ink) m h = hearing_data at n ink m
 hearing at who (Repair n ink) m h = cc
 hearing at who (Request n) m h = cc

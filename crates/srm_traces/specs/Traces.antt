@@ -376,7 +376,8 @@ request_timers_adapted_totals = 4 ∷ 2 ∷ 2 ∷ 0 ∷ 0 ∷ 2 ∷ 2 ∷ 2 ∷ 
 
 -- and the constants of its members at the end
 abbrev pub request_timers_adapted_constants : List Constants
-request_timers_adapted_constants = thousandths 2000 0 1000 0 ∷ thousandths 2000 0 1000 0 ∷ thousandths 1900 0 1000 0 ∷ []
+request_timers_adapted_constants =
+    thousandths 2000 0 1000 0 ∷ thousandths 2000 0 1000 0 ∷ thousandths 1900 0 1000 0 ∷ []
 
 -- two members that answer together, and a third that hears both: its trace
 abbrev pub repair_timers_adapted_trace : List Brief
