@@ -5,6 +5,7 @@ import random
 import re
 import sys
 import unittest
+import unittest.mock
 
 sys.dont_write_bytecode = True
 TOP = pathlib.Path(__file__).resolve().parent.parent
@@ -20,6 +21,7 @@ import fuzz_worked
 from fuzz_format import Link, Table
 
 ALL_VERSIONS = (1, 2, 3)
+in_larger_networks = unittest.mock.patch.object(fuzz_format, "LARGER_NETWORKS", True)
 
 # what examples/chain-of-five-one-loss.toml says
 CHAIN_OF_FIVE: Table = {
@@ -147,7 +149,7 @@ class Refusals(unittest.TestCase):
             (None, top()),
             ("bad-key top 0", top(until=fuzz_format.LATEST + 1)),
             ("bad-key top 0", top(until=1.0)),
-            ("bad-key top 0", top(version=3)),
+            ("bad-key top 0", top(version=4)),
             (None, top(version=2)),
             ("bad-key top 0", top(back=1)),
             (None, top(version=2, back=1)),
@@ -217,6 +219,10 @@ class Repetition(unittest.TestCase):
                 self.assertIn(made["version"], versions)
                 self.assertIsNone(fuzz_format.refusal_of(made, versions), seed)
 
+    @in_larger_networks
+    def test_each_made_scenario_of_larger_networks_is_accepted(self) -> None:
+        self.test_each_made_scenario_is_accepted_in_its_version()
+
     def test_folding_changes_no_element(self) -> None:
         rng = random.Random(1)
         draws = [{"member": 0, "page": 0, "ink": 7, "at": at} for at in (0, 40, 80, 81, 82, 5, 5, 5, 4)]
@@ -228,7 +234,7 @@ class RefusalsOfVersion3(unittest.TestCase):
     def check(self, rows: list[tuple[str | None, Table]]) -> None:
         for must, it in rows:
             self.assertEqual(fuzz_format.refusal_of(it, ALL_VERSIONS), must, it)
-            self.assertEqual(fuzz_format.refusal_of({**it, "version": 3}), "bad-key top 0")
+            self.assertEqual(fuzz_format.refusal_of({**it, "version": 3}, (1, 2)), "bad-key top 0")
 
     def test_limits_of_constants(self) -> None:
         self.check([
@@ -251,6 +257,20 @@ class RefusalsOfVersion3(unittest.TestCase):
             ("bad-key top 0", top(version=4)),
         ])
 
+    def test_without_larger_networks_limits_are_those_of_version_2(self) -> None:
+        member, draw = CHAIN_OF_FIVE["member"], CHAIN_OF_FIVE["draw"]
+        self.check([
+            (None, top(version=3, size=1024)),
+            ("bad-key top 0", top(version=3, size=1025)),
+            ("bad-key member 0", top(version=3, size=1024, member=[{**member[0], "node": 1024}])),
+            ("bad-key top 0", top(version=3, draw=4097 * draw[:1])),
+            ("bad-key draw 0", top(version=3, draw=[{**draw[0], "times": 2}])),
+            ("bad-key member 1", top(version=3, member=[member[0], {**member[1], "every": 1}])),
+            ("bad-key top 0", PARENTS),
+            ("bad-key top 0", top(version=3, parent=[0])),
+        ])
+
+    @in_larger_networks
     def test_parents(self) -> None:
         bare = {key: value for key, value in PARENTS.items() if key not in ("delays", "backs")}
         self.check([
@@ -281,6 +301,7 @@ class RefusalsOfVersion3(unittest.TestCase):
             ("bad-member 1", {**bare, "parent": [], "delay": 1}),
         ])
 
+    @in_larger_networks
     def test_repetition(self) -> None:
         member, draw, drop = CHAIN_OF_FIVE["member"], CHAIN_OF_FIVE["draw"], CHAIN_OF_FIVE["drop"]
         two = {"times": 2, "every": 1}
@@ -311,6 +332,7 @@ class RefusalsOfVersion3(unittest.TestCase):
             ("bad-key link 0", top(version=3, topology=None, size=None, delay=None, nodes=2, link=[{"a": 0, "b": 1, "delay": 1, "times": 1}])),
         ])
 
+    @in_larger_networks
     def test_larger_networks(self) -> None:
         self.check([
             (None, top(version=3, size=65535, member=[{"node": 65534, "role": "sender", "stream": 0}], draw=[], drop=[])),
