@@ -97,6 +97,6 @@ module _ {X : Type 0} {H : X → Type 0} where
   abbrev pub IsOpened : (DynBox X Global H → Record) → ℕ → Engine X H → Type 0
   IsOpened f seed e = Shows f e (opening (setting_in e seed))
 
-  -- so with each seed of which the records, those of the boxes, are opening records
+  -- so for every seed whose opening records the boxes hold
   abbrev pub OpensFrom : (DynBox X Global H → Record) → PlainScenario → Network → List Record → Engine X H → Type 0
   OpensFrom f p net rs e = (seed : ℕ) → HoldOpeningRecords p net seed rs → IsOpened f seed e

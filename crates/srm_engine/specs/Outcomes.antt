@@ -25,7 +25,7 @@ TellsOutcome s (Err fault.BadCut) = ⊥
 TellsOutcome s (Err fault.BadWidth) = ⊥
 TellsOutcome s (Err fault.ShareFull) = ⊥
 
--- so with each seed of which the records, those of the boxes, are opening records
+-- so for every seed whose opening records the boxes hold
 abbrev pub RunsFrom : PlainScenario → Network → List Record → Result Outcome RunFault → Type 0
 RunsFrom p net rs r = (seed : ℕ) → HoldOpeningRecords p net seed rs → TellsOutcome (setting_of p net seed) r
 

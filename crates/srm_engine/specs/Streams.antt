@@ -83,7 +83,7 @@ module _ {S : Type 0} (took part : S → List Row → S → Type 0) where
   TellsStream s old (Ok v) new = (rows : List Row) × IsOutcome s rows v.0.items v.1 × took old rows new
   TellsStream s old (Err e) new = TakesTraceFront s old new
 
-  -- so with each seed of which the records, those of the boxes, are opening records
+  -- so for every seed whose opening records the boxes hold
   abbrev pub StreamsFrom : PlainScenario → Network → List Record → S → Result (Vec Exit × List ℕ) StreamFault → S
       → Type 0
   StreamsFrom p net rs old r new = (seed : ℕ) → HoldOpeningRecords p net seed rs
@@ -95,7 +95,7 @@ MeetsRefusal s (Ok v) = Unit {0}
 MeetsRefusal s (Err (Run e)) = TellsOutcome s (Err e)
 MeetsRefusal s (Err (Stopped n)) = Unit {0}
 
--- so with each seed of which the records, those of the boxes, are opening records
+-- so for every seed whose opening records the boxes hold
 abbrev pub RefusedFrom : {A : Type 0} → PlainScenario → Network → List Record → Result A StreamFault → Type 0
 RefusedFrom p net rs r = (seed : ℕ) → HoldOpeningRecords p net seed rs → MeetsRefusal (setting_of p net seed) r
 

@@ -47,7 +47,7 @@ module _ {C : Type 0} (handed : C → List (List cell.PlainJob) → C → Type 0
       × handed old (calls_for rule cut begins) new
   TellsCalls s rule cut old (Err e) new = MeetsWindowRefusal s rule cut old e new
 
-  -- so with each seed of which the records, those of the boxes, are opening records
+  -- so for every seed whose opening records the boxes hold
   abbrev pub CallsInWindows : {A : Type 0} → PlainScenario → Network → List Record → (Setting → World → ℕ) → ℕ → C
       → Result A StreamFault → C → Type 0
   CallsInWindows p net rs rule cut old r new =

@@ -102,7 +102,7 @@ module _ {C : Type 0} (handed : C → List (List cell.PlainJob) → C → Type 0
       × handed old (calls_for rule cut begins) new)
   TellsWindowRun s rule cut old (Err e) new = MayRefuse s rule cut old e new
 
-  -- so with each seed of which the records, those of the boxes, are opening records
+  -- so for every seed whose opening records the boxes hold
   abbrev pub RunsInWindows : PlainScenario → Network → List Record → (Setting → World → ℕ) → ℕ → C
       → Result Outcome RunFault → C → Type 0
   RunsInWindows p net rs rule cut old r new =
