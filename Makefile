@@ -39,8 +39,8 @@ check: ## what an edit needs: proves each crate that changed, or CRATE=srm_net w
 	@tests/fuzz_tests.py -q
 	@tests/architecture.py
 	@tests/promises.py
-	@tests/where_tests.py -q
-	@tests/where.py
+	@tests/where_page_tests.py -q
+	@tests/where_page.py
 	@tests/calls.py
 	@tests/lines.py
 	@tests/widths.py
@@ -53,8 +53,8 @@ test: ## the merge gate: proves everything from nothing, with tests and must-fai
 	@tests/fuzz_tests.py -q
 	@tests/architecture.py
 	@tests/promises.py
-	@tests/where_tests.py -q
-	@tests/where.py
+	@tests/where_page_tests.py -q
+	@tests/where_page.py
 	@tests/calls.py
 	@tests/lines.py
 	@tests/widths.py
