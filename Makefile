@@ -41,7 +41,7 @@ check: ## what an edit needs: proves each crate that changed, or CRATE=srm_net w
 	@tests/architecture.py
 	@tests/promises.py
 	@tests/where_page_tests.py -q
-	@tests/where.py
+	@tests/where_page.py
 	@tests/calls.py
 	@tests/lines.py
 	@tests/widths.py
@@ -56,7 +56,7 @@ test: ## the merge gate: proves everything from nothing, with tests and must-fai
 	@tests/architecture.py
 	@tests/promises.py
 	@tests/where_page_tests.py -q
-	@tests/where.py
+	@tests/where_page.py
 	@tests/calls.py
 	@tests/lines.py
 	@tests/widths.py

@@ -1,5 +1,5 @@
 #!/usr/bin/env python3
-"""Tests of where.py: which rows of docs/PROMISES.md it refuses, and what it finds of a call. The sources are those of the crates."""
+"""Tests of where_page.py: which rows of docs/PROMISES.md it refuses, and what it finds of a call. The sources are those of the crates."""
 import pathlib
 import sys
 import unittest
@@ -7,7 +7,7 @@ import unittest
 sys.dont_write_bytecode = True
 sys.path.insert(0, str(pathlib.Path(__file__).resolve().parent))
 
-import where
+import where_page as where
 
 
 class Rows(unittest.TestCase):

@@ -2,7 +2,7 @@
 """Holds docs/PROMISES.md to the sources, and makes docs/WHERE.md of it: where each call that a row cites has its contract, its body,
 the definitions that the contract cites, and its proof.
 
-usage: tests/where.py [--write]
+usage: tests/where_page.py [--write]
 
 A row's second column cites calls (`Net::build`, `laws::one_path`, `advance`), after a colon clauses of them, and in brackets
 definitions. Each has to be there, and so has each script and test that the fourth column names; a promise has at most 300 characters.
@@ -22,7 +22,7 @@ LONGEST = 300
 NAME = re.compile(r"`([A-Za-z_][\w:]*)`")
 HEAD = """# Where each promise stands
 
-For each call that [PROMISES.md](PROMISES.md) cites: the file with its contract and its body, the definitions that the contract cites, and its proof; below these, the definitions, rules and types that its rows name. Search a file for `fn` and the call's name, or for the name. Where no folder is named, the checker proves the call from its body and the contracts of what that calls. `tests/where.py --write` writes this page, and `make check` refuses it where it is stale.
+For each call that [PROMISES.md](PROMISES.md) cites: the file with its contract and its body, the definitions that the contract cites, and its proof; below these, the definitions, rules and types that its rows name. Search a file for `fn` and the call's name, or for the name. Where no folder is named, the checker proves the call from its body and the contracts of what that calls. `tests/where_page.py --write` writes this page, and `make check` refuses it where it is stale.
 """
 TABLE = "| call | contract and body | definitions | proof |\n|---|---|---|---|\n"
 NAMES = "\n| definition, rule or type | file |\n|---|---|\n"
@@ -268,7 +268,7 @@ def main() -> None:
     if asked.write:
         PAGE.write_text(told, encoding="utf-8")
     elif not PAGE.is_file() or PAGE.read_text(encoding="utf-8") != told:
-        wrong.append("docs/WHERE.md is not that of the sources: tests/where.py --write writes it")
+        wrong.append("docs/WHERE.md is not that of the sources: tests/where_page.py --write writes it")
     for fault in wrong:
         print(fault, file=sys.stderr)
     sys.exit(1 if wrong else 0)
