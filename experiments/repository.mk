@@ -14,6 +14,17 @@ test: test-python
 test-python: ## reads each scenario of the repository with the Python package, and compares its tables with those that stand there
 	@python/tests/plain.py
 
+# time and memory beside the plain program of bench/, which `make bench` builds too, and beside ns-2
+PLAIN := out/baseline
+
+$(PLAIN): $(wildcard bench/baseline/*.rs)
+	@mkdir -p $(@D)
+	rustc -O --edition 2021 -o $@ bench/baseline/main.rs
+
+.PHONY: compare-sizes
+compare-sizes: $(SRM_LAB) $(PLAIN) ## prints time and memory at three sizes, of the program, of a plain program and, where it is there, of ns-2, which takes long
+	cd experiments && PYTHONPATH=$(abspath python/src) $(PYTHON) -u compare_sizes.py $(abspath $(SRM_LAB)) --plain $(abspath $(PLAIN))
+
 # ---- a program that installs ---------------------------------------------------
 SHARE = $(DESTDIR)$(PREFIX)/share
 PACKED ?= out

@@ -10,8 +10,9 @@ use srm_scenario::draft::Draft;
 use srm_scenario::key::Key;
 use std::alloc::{AllocError, Global};
 
-/// Why the links of a draft make no tree of its nodes: an end of a link is no node; or else how many links there are, where these are
-/// too many or too few, and which nodes are not reached from node 0. Those of a topology make one.
+/// Why the links of a draft make no tree of its nodes. If an end of a link is no node, that is told alone. Else it is told how
+/// many links there are, where these are too many or too few, and which nodes are not reached from node 0. The links of a
+/// topology make a tree.
 ///
 /// # Errors
 /// Memory ran out.

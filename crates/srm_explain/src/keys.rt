@@ -12,9 +12,9 @@ use srm_scenario::table::{array, has_only, is_kind, is_known};
 use std::alloc::{AllocError, Global};
 use toml::{Table, Value};
 
-/// What is wrong with the table at a place of a part, beside the rules of that part, if something is: it is no table; or a key of it is
-/// none of the part's; or else the first rule that what stands at
-/// its key breaks; or else the first whose key is missing.
+/// What is wrong with the table at a place of a part, by the rules of that part. The first of these that applies is told: it is
+/// no table; a key of it is none of the part's; what stands at a key breaks its rule, by the first such rule; a key is missing,
+/// by the first such rule. Where none applies nothing is told.
 ///
 /// # Errors
 /// Memory ran out.

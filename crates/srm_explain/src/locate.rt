@@ -5,7 +5,7 @@ use crate::token::{Token, TokenKind};
 /// What is looked for: a table of a scenario, and a key of it.
 #[derive(Clone, Copy, Debug)]
 pub(crate) struct Target<'a> {
-    /// The array of which the table is an element; none for the top table.
+    /// The array that has the table as an element; none for the top table.
     pub(crate) array: Option<&'a str>,
     /// The place of the element.
     pub(crate) place: usize,

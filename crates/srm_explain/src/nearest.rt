@@ -7,8 +7,8 @@ use srm_scenario::rule::{Need, Rule};
 use std::alloc::{AllocError, Global};
 use strsim::levenshtein;
 
-/// Of the keys that these rules allow the one that differs the least from this text, if it differs by no more than a third of its
-/// letters, or by one.
+/// The key that differs the least from this text, of those that these rules allow. There is none where it differs by more than a
+/// third of its letters and by more than one.
 ///
 /// # Errors
 /// Memory ran out.

@@ -8,7 +8,7 @@ const SHOWN: usize = 100;
 /// How many characters are shown before what is meant, where a line is longer.
 const BEFORE: usize = 40;
 
-/// The line of a text in which a part of it begins, with its number and column and with that part underlined.
+/// The line of a text in which a part of it begins, with the line's number, the column, and that part underlined.
 ///
 /// # Errors
 /// Memory ran out.

@@ -177,7 +177,7 @@ const SHOWS: [(&str, Show); 4] = [
     ("links", Show::Links),
 ];
 
-/// The seed and the options that the words of a command line ask for, of which the first is the program's name.
+/// The seed and the options that the words of a command line ask for. The first word is the program's name.
 ///
 /// # Errors
 /// 1. `Line`: `clap` refuses the words; or `Help`, where help or the version is asked for before that.

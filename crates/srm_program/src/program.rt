@@ -28,10 +28,11 @@ use std::thread::Threads;
 // The exit status where the command line is refused.
 const REFUSED_WORDS: u8 = 2;
 
-/// Does what the words ask for, the program's name first: reads a scenario from the feed and writes the report of its run to the
-/// outlet, or writes help there. A refusal is told as one line on the outlet for errors, and explained after it where that is asked
-/// for. Answers the exit status: 0 where all was
-/// written, 1 after a refusal, and 2 where the command line is refused. For help and a refused command line nothing is read.
+/// Does what the words ask for. The first word is the program's name. It reads a scenario from the feed and writes the report of
+/// its run to the outlet, or writes help there. For help and a refused command line nothing is read.
+///
+/// A refusal is told as one line on the outlet for errors, and explained after it where that is asked for. The answer is the exit
+/// status: 0 where all was written, 1 after a refusal, and 2 where the command line is refused.
 pub fn program<R: Threads + Wait + Sync, F: Feed, O: Outlet, E: Outlet>(
     rt: &R,
     alloc: Global,
@@ -86,9 +87,9 @@ fn understood(alloc: Global, words: &Vec<String>) -> Request
     }
 }
 
-/// Does what is asked for, and answers the exit status: 0 where all was written, 1 after a refusal, and 2 where the command line is
-/// refused. A refusal is told as one line on the outlet for errors, and where that is asked for explained after it, as far as that
-/// outlet takes it and there is memory for an explanation.
+/// Does what is asked for, and answers the exit status: 0 where all was written, 1 after a refusal, and 2 where the command line
+/// is refused. A refusal is told as one line on the outlet for errors, and explained after it where that is asked for and memory
+/// suffices. An outlet for errors that fails changes no status.
 pub fn answer<R: Threads + Wait + Sync, F: Feed, O: Outlet, E: Outlet>(
     rt: &R,
     alloc: Global,

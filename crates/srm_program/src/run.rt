@@ -31,21 +31,21 @@ use std::thread::Threads;
 // How many bytes of a trace are gathered before they are written.
 const GATHERED: usize = 8_192;
 
-/// Runs the members of a scenario with the engine that is asked for, and writes the report of the run. The report is that of the
-/// sequential run, whichever engine is asked for. The trace is written as its rows come, some 8 KiB at a time (`GATHERED`); another
-/// table at the end.
+/// Runs the members of a scenario with the engine that is asked for, and writes the report of the run. Both engines write the
+/// same bytes: the report is that of the sequential run, for every seed whose opening records the boxes hold. The trace is
+/// written as its rows come, some 8 KiB at a time (`GATHERED`), and each other table at the end.
 ///
-/// There is one box for each member, in order of their numbers, each holding its opening record for this scenario and one seed. After
-/// an error the boxes are gone.
+/// There is one box for each member, in order of their numbers. Each holds its opening record for this scenario, all for one
+/// seed.
 ///
 /// # Errors
 /// 1. `BadCut` and 2. `BadWidth`, with the engine of windows alone, exactly where they are so, before any work.
 /// 3. As met: `ShareFull`, only with that engine; `CountFull`, only where the sequential run meets it; and `NoMemory`.
 /// 4. `WriteFault`: exactly where the outlet failed in the call.
 ///
-/// The boxes are then gone. Of the trace, which is written as the run goes, the outlet took a front, and nothing after `BadCut`
-/// and `BadWidth`; of another table nothing, unless it failed, and then a front, fewer bytes than all. After `WriteFault` it took
-/// just as many bytes as the fault counts, up to 2^64 - 1, and its count of failures is one higher.
+/// The boxes are then gone. Of the trace the outlet took a prefix, and nothing after `BadCut` and `BadWidth`. Of another table it
+/// took nothing, unless it failed: then it took a prefix, fewer bytes than all. After `WriteFault` it took exactly as many bytes
+/// as the fault counts, up to 2^64 - 1, and its count of failures is one higher.
 pub fn run<R: Threads + Wait + Sync, O: Outlet>(
     rt: &R,
     alloc: Global,

@@ -41,8 +41,9 @@ impl Session {
     }
 }
 
-/// Reads a text from a feed, and simulates it as [`simulate_text`] does. The session is refused where the feed failed or gives more
-/// than [`LONGEST_TEXT`](srm_scenario::bytes::LONGEST_TEXT) bytes, and nothing is written; or with what [`simulate_text`] answers.
+/// Reads a text from a feed, and simulates it as [`simulate_text`] does. Where the feed failed, or gives more than
+/// [`LONGEST_TEXT`](srm_scenario::bytes::LONGEST_TEXT) bytes, the session is refused and nothing is written. Else it is what
+/// [`simulate_text`] answers.
 pub fn simulate<R: Threads + Wait + Sync, F: Feed, O: Outlet>(
     rt: &R,
     alloc: Global,
@@ -85,14 +86,14 @@ pub fn simulate<R: Threads + Wait + Sync, F: Feed, O: Outlet>(
     Session { done, text }
 }
 
-/// Makes the members of the scenario that a text describes with random words of this seed, runs them, and writes the report of the
-/// run to an outlet. Where the scenario is only to be checked, nothing more is done.
+/// Makes the members of the scenario that a text describes, with random words of this seed, runs them, and writes the report of
+/// the run to an outlet. Where the scenario is only to be checked, it is read and nothing more is done.
 ///
 /// # Errors
 /// 1. `Scenario`: the first fault of the text, as of [`scenario_of_text`](srm_scenario::reading::scenario_of_text).
 /// 2. `Lab`: that of [`run`](crate::run::run), and then the outlet is as said there.
 ///
-/// `NoMemory` may come at any place. But for those of `run`, the outlet took nothing.
+/// `NoMemory` may come at any place. After each refusal but those of `run` the outlet has taken nothing.
 pub fn simulate_text<R: Threads + Wait + Sync, O: Outlet>(
     rt: &R,
     alloc: Global,

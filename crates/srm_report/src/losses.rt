@@ -9,8 +9,8 @@ use srm_member::row::Row;
 use srm_net::net::Net;
 use std::alloc::Global;
 
-/// The table of losses, as CSV with line feeds: a header, and a line for each name that a member lost, rising by member, source,
-/// page and number.
+/// The table of losses, as CSV with line feeds: a header, and a line for each name that a member lost. Lines rise by member,
+/// source, page and number.
 ///
 /// | column | what it has |
 /// |---|---|

@@ -37,7 +37,7 @@ impl LossesSink {
         }
     }
 
-    /// The table of losses of the rows that it took, which are orderly, as [`losses_text`](crate::losses::losses_text) gives it.
+    /// The table of losses of the rows that it took, as [`losses_text`](crate::losses::losses_text) gives it. They are orderly.
     ///
     /// # Errors
     /// `NoMemory`: the sink is as it was.

@@ -9,8 +9,7 @@ use std::io::Write;
 #[derive(Clone, Copy, Debug, PartialEq, Eq)]
 pub struct OutFault;
 
-/// A device for bytes, which a contract sees as the bytes that it has taken, where they are known, and how often it
-/// failed.
+/// A device for bytes. A contract sees the bytes that it has taken, where they are known, and how often it failed.
 pub trait Outlet {
     // The bytes that the device has taken, where they are known.
     ghost taken: { Self → Option (List ℕ) };
@@ -30,8 +29,8 @@ pub trait Outlet {
         ensures failures { failures self.new ≡ (if is_ok result then failures self.old else failures self.old + 1) };
 }
 
-/// An outlet of any writer. Each error of the writer, and each time that it takes nothing of a piece that is not empty, is
-/// one failure.
+/// An outlet of any writer. Each error of the writer is one failure. So is each time that it takes nothing of a piece that has a
+/// byte.
 #[derive(Drop)]
 pub struct WriteOutlet<W> {
     writer: W,

@@ -11,9 +11,9 @@ use srm_engine::sink::{RowSink, SinkFault};
 use srm_member::row::Row;
 use std::alloc::Global;
 
-/// Writes a trace to an outlet as its rows come: the header before the first of them. The header and the first rows are written at
-/// once, so that a long run is seen to go; what is short after them may be gathered before the outlet is asked to take it, and
-/// `flush` writes what is left at the end.
+/// Writes a trace to an outlet as its rows come, with the header before the first of them. The header and the first rows are
+/// written at once, so that a long run is seen to go. Short pieces after them may be gathered before they are written. `flush`
+/// writes what is left at the end.
 #[derive(Drop)]
 pub struct TraceSink<'a, O> {
     outlet: &'a mut O,
@@ -86,7 +86,7 @@ impl<'a, O: Outlet> TraceSink<'a, O> {
         TraceSink::gathering(alloc, outlet, 0)
     }
 
-    /// The same, but that up to so many bytes are gathered before they are written, once the first rows were.
+    /// The same, but once the first rows are written up to so many bytes are gathered before they are written.
     pub fn gathering(alloc: Global, outlet: &'a mut O, room: usize) -> Self
         ensures outlet { result.outlet.ghost_name ≡ outlet.entry.ghost_name }
         ensures same { outlet_under result ≡ outlet.old }
@@ -108,9 +108,9 @@ impl<'a, O: Outlet> TraceSink<'a, O> {
     /// Writes what is gathered.
     ///
     /// # Errors
-    /// `WriteFault` exactly where the outlet failed in the call. It has then taken a front of what was gathered, and its count of
-    /// failures is one higher; the fault says how many bytes it took by this sink in all, up to 2^64 - 1. The sink stands
-    /// refused, and may not be asked again.
+    /// `WriteFault` exactly where the outlet failed in the call. The outlet has then taken a prefix of what was gathered, and its
+    /// count of failures is one higher. The fault says how many bytes it took by this sink in all, up to 2^64 - 1. The sink
+    /// stands refused, and may not be asked again.
     pub fn flush(&mut self) -> Result<(), WriteFault>
         requires open { IsOpen (stage_of self.old) }
         requires failures { O.failures (outlet_under self.old) < 2 ^ 64 - 1 }
@@ -245,7 +245,8 @@ impl<'a, O: Outlet> RowSink for TraceSink<'a, O> {
 
     ghost part_longer = { part_longer O.taken };
 
-    /// Writes the rows, or gathers them, after those before; before the first of all, of which there may be none, the header.
+    /// Writes the rows after those before, or gathers them. The first call puts the header before its rows, also where it has
+    /// none.
     ///
     /// # Errors
     /// `Stopped` exactly where the outlet failed, with how many bytes it took by this sink in all, the header's too, up to 2^64 - 1.

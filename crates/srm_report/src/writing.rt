@@ -14,8 +14,8 @@ pub struct WriteFault {
 /// Writes the text to the outlet. It does not allocate.
 ///
 /// # Errors
-/// `WriteFault` exactly where the outlet failed in the call. It has then taken as many bytes of the text, from its front, as the
-/// fault says, fewer than all; its count of failures is one higher.
+/// `WriteFault` exactly where the outlet failed in the call. The outlet has then taken a prefix of the text, with as many bytes
+/// as the fault says and fewer than all, and its count of failures is one higher.
 pub fn write_out<O: Outlet>(outlet: &mut O, text: &[u8]) -> Result<(), WriteFault>
     requires { O.failures outlet.old < 2 ^ 64 - 1 }
     // The count rises exactly where the answer is a fault, and then by one.

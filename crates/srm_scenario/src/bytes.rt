@@ -23,14 +23,14 @@ pub enum TextFault {
     NoMemory,
 }
 
-/// Reads all bytes that the feed has still to give, of which it takes at most one more than [`LONGEST_TEXT`].
+/// Reads all bytes that the feed has still to give. It takes at most one byte more than [`LONGEST_TEXT`].
 ///
 /// # Errors
 /// In this order, but for `NoMemory`, which may come at any place:
 ///
 /// 1. `ReadFault`: exactly where the feed failed in the call. Its count of failures is then one higher, and else as it was.
-/// 2. `TooLong`: more than [`LONGEST_TEXT`] bytes were still to come. Just one byte more than these was then taken, and else at
-///    most so many.
+/// 2. `TooLong`: more than [`LONGEST_TEXT`] bytes were still to come. It then took one byte more than that, and otherwise at most
+///    that many.
 pub fn read_text<F: Feed>(alloc: Global, feed: &mut F) -> Result<Vec<u8>, TextFault>
     requires { F.failures feed.old < 2 ^ 64 - 1 }
     // The count rises exactly where the answer is `ReadFault`, and then by one.

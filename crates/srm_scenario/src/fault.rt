@@ -36,7 +36,7 @@ impl fmt::Display for Part {
     }
 }
 
-/// Why no scenario was read. Of several faults of a text the first in this order is told, and of several of one kind the one at the
+/// Why no scenario was read. A text may have several faults: the first in this order is told, and of one kind the one at the
 /// least place. Places are counted from 0 in the order of an array.
 #[derive(Clone, Copy, Debug, PartialEq, Eq, Error)]
 pub enum ScenarioFault {
@@ -49,7 +49,7 @@ pub enum ScenarioFault {
     /// The text is not UTF-8, or no TOML document.
     #[error("the scenario is no TOML document")]
     NotToml,
-    /// A table has an unknown key, lacks a key, or has at one a value of a wrong type or out of its range; or it is no table.
+    /// A table has an unknown key, lacks a key, or has a value of a wrong type or out of its range; or no table stands there.
     #[error("a key of {part} {place} is unknown, missing or wrong")]
     BadKey {
         /// The part of the file.

@@ -9,8 +9,7 @@ use std::io::Read;
 #[derive(Clone, Copy, Debug, PartialEq, Eq)]
 pub struct FeedFault;
 
-/// A device of bytes, which a contract sees as the bytes that it has still to give, where they are known, and how often
-/// it failed.
+/// A device of bytes. A contract sees the bytes that it has still to give, where they are known, and how often it failed.
 pub trait Feed {
     // The bytes still to come, where they are known.
     ghost remaining: { Self → Option (List ℕ) };

@@ -100,7 +100,7 @@ fn links_of(
     }
 }
 
-/// The scenario of a draft whose numbers are in range. What does not fit the rest is refused, the first of it.
+/// The scenario of a draft whose numbers are in range. The first element that does not fit the rest is refused.
 fn scenario_from(alloc: Global, draft: Draft) -> Result<Scenario, ScenarioFault>
     requires nodes { 1 ≤ draft.nodes }
     requires degree { HasDegree draft.topology }
@@ -192,7 +192,7 @@ pub fn scenario_of_text(alloc: Global, text: &[u8]) -> Result<Scenario, Scenario
     }
 }
 
-/// Reads a scenario from a feed, of which it takes at most one byte more than [`LONGEST_TEXT`].
+/// Reads a scenario from a feed. It takes at most one byte more than [`LONGEST_TEXT`].
 ///
 /// # Errors
 /// The first of these, but for `NoMemory`, which may come at any place:
@@ -202,8 +202,8 @@ pub fn scenario_of_text(alloc: Global, text: &[u8]) -> Result<Scenario, Scenario
 /// 3. `NotToml`: they are not UTF-8, or no TOML document.
 /// 4. Those of [`scenario_of`].
 ///
-/// Of the feed so much is taken as [`read_text`] takes. After each refusal from `NotToml` on but `NoMemory`, nothing is left to
-/// come where its bytes are known.
+/// As much is taken of the feed as [`read_text`] takes. Where the feed's bytes are known, nothing is left to come after a refusal
+/// from `NotToml` on, but for `NoMemory`.
 pub fn read_scenario<F: Feed>(alloc: Global, feed: &mut F) -> Result<Scenario, ScenarioFault>
     requires { F.failures feed.old < 2 ^ 64 - 1 }
     // The count rises exactly where the answer is `ReadFault`, and then by one.

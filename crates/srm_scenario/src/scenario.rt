@@ -17,8 +17,8 @@ use srm_net::role::Role;
 use std::alloc::{AllocError, Global};
 use std::marker::Model;
 
-/// What a run is given: a network, the members on it, what they draw and report, and which packets are dropped. Contracts see it as
-/// one plain record, and it is as every accepted scenario is.
+/// What a run is given: a network, the members on it, what they draw and report, and which packets are dropped. Contracts see it
+/// as one plain record. Every value of this type is an accepted scenario.
 #[derive(Drop)]
 pub struct Scenario {
     pub(crate) until: u64,

@@ -1,0 +1,114 @@
+"""Time and memory of srm_lab at three sizes, beside a plain program of the same model and beside the SRM agent of ns-2.
+
+usage: compare_sizes.py PROGRAM [--plain PATH] [--only NODES] [--repeat N]
+
+Each case is a tree of degree 4 with links of 5 ticks and a member on each of its nodes. The source, at the root, draws
+200 times, one draw each 1,000 ticks, and of its packets each tenth is dropped, each at another link. The constants are
+C1 = C2 = 2 and D1 = D2 = 1. PROGRAM and the plain program must write the same trace, or the status is 1. Then all run
+in turn, N times each (3 by default; ns-2 once, since a run of it takes long), and for each are printed the least
+processor time, from its start to its end, and the greatest peak of resident memory. ns-2 is given the same tree, draws,
+drops and constants. It has other random words, so that its run is not the same run. Where `ns` is missing it is left
+out.
+"""
+import argparse
+import os
+import select
+import shutil
+import subprocess
+import sys
+import tempfile
+from pathlib import Path
+
+from srm_lab import Scenario, tree
+from srm_lab.parts import Draw, Drop, Member
+
+from compare_ns2 import HERE, ns2_input
+
+SIZES = (64, 256, 1024)
+DRAWS, SPACING = 200, 1000
+DROPPED = 10  # of the source's packets, each of which so many is dropped
+DEGREE, DELAY = 4, 5
+END = 2_000_000
+
+
+def case(nodes: int) -> str:
+    """The scenario's text."""
+    members = tuple(Member(node, "receiver" if node else "sender", node) for node in range(nodes))
+    draws = tuple(Draw(0, 0, place, place * SPACING) for place in range(DRAWS))
+    drops = tuple(Drop(count % (nodes - 1), 0, count) for count in range(0, DRAWS, DROPPED))
+    made = tree.bounded_degree(nodes, DEGREE, DELAY)
+    return Scenario(made, members, END, 2000, 2000, 1000, 1000, draws, (), drops).text()
+
+
+def high_water(pid: int) -> int:
+    """The most resident memory of a process so far in KiB, or 0 where it has ended."""
+    try:
+        with open(f"/proc/{pid}/status") as status:
+            return next((int(line.split()[1]) for line in status if line.startswith("VmHWM:")), 0)
+    except FileNotFoundError:
+        return 0
+
+
+def cost(words: list[str], given: Path) -> tuple[float, int]:
+    """The processor time of a run in seconds, and its peak of resident memory in KiB."""
+    with open(given) as text:
+        child = subprocess.Popen(words, stdin=text, stdout=subprocess.PIPE, bufsize=0)
+    assert child.stdout is not None
+    peak = 0
+    while True:
+        ready, _, _ = select.select([child.stdout], [], [], 0.02)
+        if ready and not child.stdout.read(1 << 16):
+            break
+        peak = max(peak, high_water(child.pid))
+    child.stdout.close()
+    _, status, usage = os.wait4(child.pid, 0)
+    child.returncode = os.waitstatus_to_exitcode(status)
+    if child.returncode:
+        raise SystemExit(f"{' '.join(words)}: status {child.returncode}")
+    return usage.ru_utime + usage.ru_stime, peak
+
+
+def trace(program: str, given: Path) -> bytes:
+    """What a program writes."""
+    with open(given) as text:
+        return subprocess.run([program], stdin=text, stdout=subprocess.PIPE, check=True).stdout
+
+
+def said(name: str, costs: list[tuple[float, int]]) -> str:
+    seconds, peak = min(one for one, _ in costs), max(one for _, one in costs)
+    return f"{name} {seconds:.2f} s {peak / 1024:.1f} MB"
+
+
+def compare(nodes: int, programs: dict[str, str], repeat: int, folder: Path) -> bool:
+    """Prints a line for one size; whether all programs of this model wrote the same trace."""
+    given = folder / f"{nodes}.toml"
+    given.write_text(case(nodes))
+    traces = {name: trace(path, given) for name, path in programs.items()}
+    told = [said(name, [cost([path], given) for _ in range(repeat)]) for name, path in programs.items()]
+    if shutil.which("ns"):
+        for_ns2 = folder / f"{nodes}.txt"
+        for_ns2.write_text(ns2_input(given.read_text(), (), 1))
+        told.append(said("ns-2", [cost(["ns", str(HERE / "ns2/srm.tcl"), str(for_ns2)], for_ns2)]))
+    rows = traces["srm_lab"].count(b"\n") - 1
+    print(f"tree of {nodes} members, {rows} rows: " + "; ".join(told), flush=True)
+    return len(set(traces.values())) == 1
+
+
+def main() -> int:
+    words = argparse.ArgumentParser(description=__doc__, formatter_class=argparse.RawDescriptionHelpFormatter)
+    words.add_argument("program")
+    words.add_argument("--plain", help="the built program of bench/baseline")
+    words.add_argument("--only", type=int, choices=SIZES, help="one size alone")
+    words.add_argument("--repeat", type=int, default=3)
+    options = words.parse_args()
+    programs = {"srm_lab": options.program} | ({"plain": options.plain} if options.plain else {})
+    with tempfile.TemporaryDirectory() as folder:
+        same = [compare(nodes, programs, options.repeat, Path(folder))
+                for nodes in SIZES if options.only in (None, nodes)]
+    if not all(same):
+        print("the plain program writes another trace", file=sys.stderr)
+    return 0 if all(same) else 1
+
+
+if __name__ == "__main__":
+    sys.exit(main())
