@@ -26,7 +26,11 @@ import tempfile
 from collections.abc import Callable
 from typing import NamedTuple
 
-TOP = pathlib.Path(__file__).resolve().parent.parent
+sys.dont_write_bytecode = True
+sys.path.insert(0, str(pathlib.Path(__file__).resolve().parent.parent / "tests"))
+
+from program import TOP, Program
+
 SOURCES = TOP / "bench" / "baseline"
 BASELINE = TOP / "out" / "baseline"
 SIZES = [16, 64, 256, 1024]
@@ -44,13 +48,6 @@ class Scenario(NamedTuple):
     until: int
     drops: list[str]
     sessions: list[str]
-
-
-class Program(NamedTuple):
-    """A program under measurement, with its name in the tables."""
-
-    name: str
-    path: str | pathlib.Path
 
 
 # what is measured of each program: instructions, or seconds
@@ -110,23 +107,14 @@ def baseline() -> Program | None:
     if not BASELINE.exists() or any(BASELINE.stat().st_mtime < it.stat().st_mtime for it in SOURCES.glob("*.rs")):
         BASELINE.parent.mkdir(exist_ok=True)
         subprocess.run(["rustc", "-O", "--edition", "2021", "-o", BASELINE, SOURCES / "main.rs"], check=True)
-    return Program("baseline", BASELINE)
-
-
-def output(program: Program, words: list[str], text: bytes) -> bytes:
-    """What a program writes on standard output."""
-    done = subprocess.run([program.path, *words], input=text, capture_output=True)
-    if done.returncode != 0:
-        told = done.stderr.decode(errors="replace").strip()
-        sys.exit(f"{program.path} {' '.join(words)}: status {done.returncode}: {told}")
-    return done.stdout
+    return Program(BASELINE, "baseline")
 
 
 def compare(programs: list[Program], what: str, words: list[str], text: bytes) -> int:
     """The rows that all programs write; ends this script where two differ."""
-    first = output(programs[0], words, text)
+    first = programs[0].written(words, text)
     for other in programs[1:]:
-        second = output(other, words, text)
+        second = other.written(words, text)
         if first != second:
             ours, theirs = first.split(b"\n"), second.split(b"\n")
             both = zip(ours, theirs)
@@ -151,7 +139,7 @@ def compare_examples(programs: list[Program]) -> int:
 def processor_time(program: Program, path: pathlib.Path) -> float:
     """Seconds, of the user's and the system's processor time, that a program takes for a scenario's file."""
     with open(path, "rb") as text:
-        process = subprocess.Popen([program.path], stdin=text, stdout=subprocess.DEVNULL)
+        process = program.start(stdin=text, stdout=subprocess.DEVNULL)
     _, status, usage = os.wait4(process.pid, 0)
     process.returncode = os.waitstatus_to_exitcode(status)
     if process.returncode != 0:
@@ -171,7 +159,7 @@ def instructions(programs: list[Program], path: pathlib.Path, _: int) -> Figures
     """For each program the instructions that callgrind counts."""
     counted: Figures = []
     for program in programs:
-        command = ["valgrind", "--tool=callgrind", "--callgrind-out-file=/dev/null", str(program.path)]
+        command = ["valgrind", "--tool=callgrind", "--callgrind-out-file=/dev/null", program.path]
         with open(path, "rb") as text:
             done = subprocess.run(command, stdin=text, stdout=subprocess.DEVNULL, stderr=subprocess.PIPE, check=True)
         counted += [int(number) for number in re.findall(rb"Collected : (\d+)", done.stderr)]
@@ -243,7 +231,7 @@ def print_growth(programs: list[Program], by_row: ByRow, starts_by_row: ByRow) -
 
 def main() -> None:
     parser = argparse.ArgumentParser(description=__doc__, formatter_class=argparse.RawDescriptionHelpFormatter)
-    parser.add_argument("program")
+    parser.add_argument("program", type=Program)
     parser.add_argument("--repeat", type=int, default=3)
     parser.add_argument("--long", action="store_true")
     parser.add_argument("--only", default="")
@@ -251,7 +239,7 @@ def main() -> None:
     options = parser.parse_args()
     if options.instructions and shutil.which("valgrind") is None:
         sys.exit("valgrind is missing: it counts the instructions")
-    programs = [Program("program", os.path.abspath(options.program))]
+    programs = [options.program]
     plain = baseline()
     if plain is None:
         print("rustc is missing: no baseline, the program is timed alone")

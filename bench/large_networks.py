@@ -3,29 +3,31 @@
 
 usage: bench/large_networks.py [PROGRAM] [--repeat N] [--only TEXT] [--instructions]
 
-Each case is a tree of degree 4 with links of 5 ticks, in which member 0 draws once each 1,000 ticks, and of its packets each tenth is
-dropped, at one link after the other. Members are spread evenly over the nodes. Both programs must write the same trace; where they
-do not, the status is 1. Then both run in turn, N times each (1 by default), with standard output on /dev/null: printed are the rows,
-the least processor time of each in seconds, the peak of its resident memory in MB, and the ratio of the two times. It asserts
-nothing else. Networks of more than 1,024 nodes are scenarios of version 3 (README.md in this folder); a case that PROGRAM does not
-read is left out for it, and told. The baseline, whose tables grow with the square of the members, is left out where there are
-more than 10,000. Without PROGRAM it is measured alone.
+Each case is a tree of degree 4 with links of 5 ticks, in which member 0 draws once each 1,000 ticks, and of its packets each
+tenth is dropped, at one link after the other. Members are spread evenly over the nodes. Both programs must write the same
+trace; where they do not, the status is 1. Then both run in turn, N times each (1 by default), with standard output on
+/dev/null: printed are the rows, the least processor time of each in seconds, the peak of its resident memory in MB, and the
+ratio of the two times. It asserts nothing else. Networks of more than 1,024 nodes are scenarios of version 3 (README.md in
+this folder); a case that PROGRAM does not read is left out for it, and told. The baseline, whose tables grow with the square
+of the members, is left out where there are more than 10,000. Without PROGRAM it is measured alone.
 
 --only TEXT     only the cases whose name has TEXT in it
 --instructions  in place of time and memory: instructions a row that valgrind's callgrind counts
 """
 import argparse
 import itertools
-import os
 import pathlib
-import subprocess
 import sys
 import tempfile
 from collections.abc import Iterator
 from typing import Any, NamedTuple
 
-from events_per_second import Program, baseline, compare, instructions, times
+sys.dont_write_bytecode = True
+sys.path.insert(0, str(pathlib.Path(__file__).resolve().parent.parent / "tests"))
+
+from events_per_second import baseline, compare, instructions, times
 from peak_memory import measure
+from program import Program
 
 SPACING = 1000
 DROPPED = 10
@@ -85,12 +87,14 @@ def copies(element: Element) -> Iterator[Element]:
     """The elements that one stands for, as version 2 of the format needs them."""
     for number in range(element.get("times", 1)):
         steps = {"node": number * element.get("every", 0), "stream": number, "at": number * element.get("every", 0)}
-        yield {key: value + steps.get(key, 0) if key in steps else value for key, value in element.items() if key not in ("times", "every")}
+        own = {key: value for key, value in element.items() if key not in ("times", "every")}
+        yield {key: value + steps[key] if key in steps else value for key, value in own.items()}
 
 
 def line(element: Element) -> str:
     """An element as an inline table."""
-    return "{ " + ", ".join(f'{key} = "{value}"' if key == "role" else f"{key} = {value}" for key, value in element.items()) + " }"
+    written = (f'{key} = "{value}"' if key == "role" else f"{key} = {value}" for key, value in element.items())
+    return f"{{ {', '.join(written)} }}"
 
 
 def text_of(case: Case) -> bytes:
@@ -105,8 +109,8 @@ def text_of(case: Case) -> bytes:
 
 def refusal(program: Program, text: bytes) -> str | None:
     """Why a program does not read a scenario, or None where it does."""
-    done = subprocess.run([program.path, "--check"], input=text, capture_output=True)
-    return None if done.returncode == 0 else done.stderr.decode(errors="replace").strip()
+    end = program.run(["--check"], text, timeout=None)
+    return None if end.status == 0 else end.told.decode(errors="replace").strip()
 
 
 def able(programs: list[Program], case: Case, text: bytes) -> list[Program]:
@@ -125,7 +129,7 @@ def able(programs: list[Program], case: Case, text: bytes) -> list[Program]:
 
 
 def figures(programs: list[Program], text: bytes, options: argparse.Namespace) -> list[list[str]]:
-    """For each program what is told of it, and at last the ratio of the first one's time, or instructions, over the second one's."""
+    """For each program what is told of it, and at last the ratio of the first one's time, or instructions, to the second's."""
     with tempfile.TemporaryDirectory() as folder:
         path = pathlib.Path(folder) / "scenario.toml"
         path.write_bytes(text)
@@ -133,7 +137,7 @@ def figures(programs: list[Program], text: bytes, options: argparse.Namespace) -
             counted = instructions(programs, path, 1)
             return [[f"{it:,} instructions"] for it in counted] + ratio(counted)
         spent = times(programs, path, options.repeat)
-    peaks = [measure(str(program.path), [], text)[1] for program in programs]
+    peaks = [measure(program, [], text)[1] for program in programs]
     return [[f"{seconds:.3f} s", f"{peak / 1024:.1f} MB"] for seconds, peak in zip(spent, peaks)] + ratio(spent)
 
 
@@ -143,12 +147,12 @@ def ratio(found: list[float]) -> list[list[str]]:
 
 def main() -> None:
     parser = argparse.ArgumentParser(description=__doc__, formatter_class=argparse.RawDescriptionHelpFormatter)
-    parser.add_argument("program", nargs="?")
+    parser.add_argument("program", nargs="?", type=Program)
     parser.add_argument("--repeat", type=int, default=1)
     parser.add_argument("--only", default="")
     parser.add_argument("--instructions", action="store_true")
     options = parser.parse_args()
-    programs = [Program("program", os.path.abspath(options.program))] if options.program else []
+    programs = [options.program] if options.program else []
     plain = baseline()
     if plain is not None:
         programs.append(plain)

@@ -3,23 +3,34 @@
 
 usage: bench/peak_memory.py PROGRAM [--show TABLE]..
 
-Runs PROGRAM on a star of 17 nodes with 16 members. The source's own link drops the first packet of each of four pages, later ones tell
-the others of the loss, and the source leaves. All constants are 0, so that the others ask for what nobody can mend at every tick
-until the run ends, at tick 1,000, 4,000 or 16,000: some 400,000, 1,750,000 and 7,150,000 rows of one and the same scenario. Prints,
-for each table, engine and crew, the lines and the peak resident memory of each run, in KiB, and the greatest over the least. It asserts
-nothing. No table keeps rows: the memory of losses grows with the losses of the run alone, and that of the others does not grow.
+Runs PROGRAM on a star of 17 nodes with 16 members. The source's own link drops the first packet of each of four pages, later
+ones tell the others of the loss, and the source leaves. All constants are 0, so that the others ask for what nobody can mend
+at every tick until the run ends, at tick 1,000, 4,000 or 16,000: some 400,000, 1,750,000 and 7,150,000 rows of one and the
+same scenario. Prints, for each table, engine and crew, the lines and the peak resident memory of each run, in KiB, and the
+greatest over the least. It asserts nothing. No table keeps rows: the memory of losses grows with the losses of the run alone,
+and that of the others does not grow.
 """
 import argparse
+import pathlib
+import select
 import subprocess
 import sys
 import tempfile
+
+sys.dont_write_bytecode = True
+sys.path.insert(0, str(pathlib.Path(__file__).resolve().parent.parent / "tests"))
+
+from program import Program
 
 MEMBERS = 16
 PAGES = 4
 ENDS = [1000, 4000, 16000]
 TABLES = ["trace", "members", "losses", "links"]
 WINDOW = ["--engine", "window", "--workers", "2", "--crew"]
-ENGINES: list[tuple[str, list[str]]] = [("step", []), *((f"window, {crew}", [*WINDOW, crew]) for crew in ("plain", "pool", "bag"))]
+CREWS = ("plain", "pool", "bag")
+ENGINES: list[tuple[str, list[str]]] = [("step", []), *((f"window, {crew}", [*WINDOW, crew]) for crew in CREWS)]
+# seconds between two looks at the memory of a run that writes nothing meanwhile
+PERIOD = 0.001
 
 
 def scenario(until: int) -> bytes:
@@ -43,26 +54,28 @@ def high_water(pid: int) -> int:
         return next((int(line.split()[1]) for line in status if line.startswith("VmHWM:")), 0)
 
 
-def measure(program: str, words: list[str], text: bytes) -> tuple[int, int]:
-    """Lines of the table below its header, and the peak resident memory in KiB, looked at as each piece of the table comes."""
+def measure(program: Program, words: list[str], text: bytes) -> tuple[int, int]:
+    """Lines of the table below its header, and the peak resident memory in KiB, seen each millisecond and as each piece comes."""
     with tempfile.TemporaryFile() as given:
         given.write(text)
         given.seek(0)
-        child = subprocess.Popen([program, *words], stdin=given, stdout=subprocess.PIPE, bufsize=0)
+        child = program.start(words, stdin=given, stdout=subprocess.PIPE, bufsize=0)
         assert child.stdout is not None
-        lines, peak = -1, 0
-        while piece := child.stdout.read(1 << 16):
-            lines += piece.count(b"\n")
+        lines, peak, piece = -1, 0, b"-"
+        while piece:
             peak = max(peak, high_water(child.pid))
+            if select.select([child.stdout], [], [], PERIOD)[0]:
+                piece = child.stdout.read(1 << 16)
+                lines += piece.count(b"\n")
         child.stdout.close()
         if child.wait() != 0:
-            sys.exit(f"{program}: status {child.returncode}")
+            sys.exit(f"{program.path}: status {child.returncode}")
         return lines, peak
 
 
 def main() -> None:
     parser = argparse.ArgumentParser(description="peak memory of traces of three lengths")
-    parser.add_argument("program")
+    parser.add_argument("program", type=Program)
     parser.add_argument("--show", action="append", choices=TABLES, help="a table; all four where none is named")
     given = parser.parse_args()
     for table in given.show or TABLES:

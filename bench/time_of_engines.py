@@ -3,24 +3,29 @@
 
 usage: bench/time_of_engines.py PROGRAM [--nodes N] [--draws N] [--workers N] [--repeat N] [--only TEXT] [--cases]
 
-Runs PROGRAM on a chain, a tree and a star of N nodes (256 by default, at most 1,024) with a member on each node, a star's hub aside.
-Member 0 draws 4,096 times, one draw each 10 ticks, and of its packets one in forty is dropped, at one link after the other. Links take
-1,000 ticks (wide windows: many events each) or 1 tick (narrow ones: few). What is shown is the table of links, which is short, so that
-the time is the engine's.
-Windows are as wide as the least delay of a link, and a job has as many members as go evenly to four jobs for each worker.
+Runs PROGRAM on a chain, a tree and a star of N nodes (256 by default, at most 1,024) with a member on each node, a star's hub
+aside. Member 0 draws 4,096 times, one draw each 10 ticks, and of its packets one in forty is dropped, at one link after the
+other. Links take 1,000 ticks (wide windows: many events each) or 1 tick (narrow ones: few). What is shown is the table of
+links, which is short, so that the time is the engine's. Windows are as wide as the least delay of a link, and a job has as
+many members as go evenly to four jobs for each worker.
 
-All engines must write the same bytes; where one does not, nothing more is timed, and the status is 1. Prints the least wall time of N
-runs, and that time over the sequential engine's. It asserts nothing about speed.
+All engines must write the same bytes; where one does not, nothing more is timed, and the status is 1. Prints the least wall
+time of N runs, and that time over the sequential engine's. It asserts nothing about speed.
 
 --cases  in place of these the cases of CASES, larger ones, each with the table of links and with the trace. One that PROGRAM does
          not read is left out, and told: more than 1,024 nodes need version 3 of the format (README.md in this folder).
 """
 import argparse
-import subprocess
+import pathlib
 import sys
 import time
 from collections.abc import Iterator
 from typing import NamedTuple
+
+sys.dont_write_bytecode = True
+sys.path.insert(0, str(pathlib.Path(__file__).resolve().parent.parent / "tests"))
+
+from program import Program
 
 DRAWS = 4096
 SPACING = 10
@@ -76,14 +81,11 @@ def engines(nodes: int, workers: int) -> dict[str, list[str]]:
     return {"step": [], **{f"window, {crew}": [*window, "--crew", crew] for crew in ("plain", "pool", "bag")}}
 
 
-def timed(program: str, words: list[str], text: bytes) -> tuple[bytes, float]:
+def timed(program: Program, words: list[str], text: bytes) -> tuple[bytes, float]:
     """What a run writes, and its wall time in seconds."""
     begin = time.perf_counter()
-    done = subprocess.run([program, *words], input=text, capture_output=True)
-    spent = time.perf_counter() - begin
-    if done.returncode != 0:
-        sys.exit(f"{program}: status {done.returncode}: {done.stderr.decode(errors='replace').strip()}")
-    return done.stdout, spent
+    written = program.written(words, text)
+    return written, time.perf_counter() - begin
 
 
 def least_times(table: str, nodes: int, text: bytes, options: argparse.Namespace) -> dict[str, float]:
@@ -100,12 +102,12 @@ def least_times(table: str, nodes: int, text: bytes, options: argparse.Namespace
     return least
 
 
-def is_read(program: str, name: str, text: bytes) -> bool:
+def is_read(program: Program, name: str, text: bytes) -> bool:
     """Whether a program reads a scenario; tells why not."""
-    done = subprocess.run([program, "--check"], input=text, capture_output=True)
-    if done.returncode != 0:
-        print(f"{name:32} left out: {done.stderr.decode(errors='replace').strip()}", flush=True)
-    return done.returncode == 0
+    end = program.run(["--check"], text, timeout=None)
+    if end.status != 0:
+        print(f"{name:32} left out: {end.told.decode(errors='replace').strip()}", flush=True)
+    return end.status == 0
 
 
 def asked(options: argparse.Namespace) -> Iterator[Case]:
@@ -121,7 +123,7 @@ def asked(options: argparse.Namespace) -> Iterator[Case]:
 
 def main() -> None:
     parser = argparse.ArgumentParser(description=__doc__, formatter_class=argparse.RawDescriptionHelpFormatter)
-    parser.add_argument("program")
+    parser.add_argument("program", type=Program)
     parser.add_argument("--nodes", type=int, default=256)
     parser.add_argument("--draws", type=int, default=DRAWS)
     parser.add_argument("--workers", type=int, default=4)

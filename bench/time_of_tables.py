@@ -9,9 +9,14 @@ what differs is the table. Prints, for each table, its lines, the least wall tim
 It asserts nothing.
 """
 import argparse
-import subprocess
+import pathlib
 import sys
 import time
+
+sys.dont_write_bytecode = True
+sys.path.insert(0, str(pathlib.Path(__file__).resolve().parent.parent / "tests"))
+
+from program import Program
 
 NODES = 256
 DRAWS = 4096
@@ -44,23 +49,20 @@ def scenario(draws: int) -> bytes:
     return ("\n".join(lines) + "\n").encode()
 
 
-def measure(program: str, show: str, text: bytes, repeat: int) -> tuple[int, float]:
+def measure(program: Program, show: str, text: bytes, repeat: int) -> tuple[int, float]:
     """Lines of the table below its header, and the least wall time in seconds."""
     best, lines = float("inf"), 0
     for _ in range(repeat):
         begin = time.perf_counter()
-        done = subprocess.run([program, "--show", show], input=text, capture_output=True)
-        spent = time.perf_counter() - begin
-        if done.returncode != 0:
-            sys.exit(f"{program}: status {done.returncode}: {done.stderr.decode(errors='replace').strip()}")
-        lines = done.stdout.count(b"\n") - 1
-        best = min(best, spent)
+        written = program.written(["--show", show], text)
+        best = min(best, time.perf_counter() - begin)
+        lines = written.count(b"\n") - 1
     return lines, best
 
 
 def main() -> None:
     parser = argparse.ArgumentParser(description=__doc__, formatter_class=argparse.RawDescriptionHelpFormatter)
-    parser.add_argument("program")
+    parser.add_argument("program", type=Program)
     parser.add_argument("--draws", type=int, default=DRAWS)
     parser.add_argument("--repeat", type=int, default=3)
     options = parser.parse_args()

@@ -1,9 +1,9 @@
 # What of the Python package and the experiments needs the repository: their tests, and what is packed and installed.
 .PHONY: check-experiments
 
-check-experiments: $(SRM_LAB) ## runs a linter over all Python of the repository, a type checker over the package, the experiments and their tests, then the tests, and every command of the tutorial and the study
+check-experiments: $(SRM_LAB) ## runs a linter and a type checker over all Python of the repository, then the package's tests, and every command of the tutorial and the study
 	$(PYTHON) -m flake8 .
-	cd python && mypy && mypy --allow-untyped-defs tests
+	mypy && mypy --allow-untyped-defs python/tests
 	cd python && SRM_LAB=$(abspath $(SRM_LAB)) $(PYTHON) -m pytest -q -p no:cacheprovider
 	@$(MAKE) --no-print-directory check-tutorial
 

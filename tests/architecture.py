@@ -11,13 +11,17 @@ import argparse
 import pathlib
 import re
 import sys
+from collections.abc import Iterator
 
 TOP = pathlib.Path(__file__).resolve().parent.parent
 PAGE = TOP / "docs" / "ARCHITECTURE.md"
 BLOCK = re.compile(r"```mermaid\n.*?```\n", re.S)
 
+# each crate with the crates that it names
+Crates = dict[str, list[str]]
 
-def stands_on():
+
+def stands_on() -> Crates:
     """Each crate of crates.txt, with the crates of this repository that it names, in the order of the file."""
     named = {}
     for line in (TOP / "crates.txt").read_text(encoding="utf-8").splitlines():
@@ -27,7 +31,7 @@ def stands_on():
     return {crate: [it for it in libraries if it in named] for crate, libraries in named.items()}
 
 
-def below(lower, crate):
+def below(lower: Crates, crate: str) -> set[str]:
     """Every crate that a crate stands on, by whatever way."""
     found = set(lower[crate])
     for it in lower[crate]:
@@ -35,17 +39,17 @@ def below(lower, crate):
     return found
 
 
-def graph(lower):
+def graph(lower: Crates) -> str:
     """The picture: of the crates that a crate names, an arrow to each that stands below none of the others."""
     lines = ["```mermaid", "graph TD"]
     for crate, named in lower.items():
-        by_others = set().union(*(below(lower, it) for it in named)) if named else set()
+        by_others = {further for it in named for further in below(lower, it)}
         direct = [it for it in named if it not in by_others]
         lines += [f"    {crate} --> {it}" for it in direct] or [f"    {crate}"]
     return "\n".join([*lines, "```", ""])
 
 
-def faults(lower, text):
+def faults(lower: Crates, text: str) -> Iterator[str]:
     """What is wrong with the page."""
     found = BLOCK.findall(text)
     if len(found) != 1:
@@ -63,7 +67,7 @@ def faults(lower, text):
             yield from (f"its table has {crate} above {it}, on which it stands" for it in lower[crate] if it in rows[at:])
 
 
-def main():
+def main() -> None:
     parser = argparse.ArgumentParser(description=__doc__, formatter_class=argparse.RawDescriptionHelpFormatter)
     parser.add_argument("--write", action="store_true")
     options = parser.parse_args()

@@ -3,14 +3,15 @@
 
 usage: tests/calls.py [--write]
 
-A public call is a `pub fn` of a public module, a method of a public trait, or a copy (`clone`) of a type whose copy takes memory;
-of a program, whose modules are all its own, each `pub fn`. It can refuse where it answers a Result, and may wait where it is given
-a runtime that may wait or start threads, or a crew.
+A public call is a `pub fn` of a public module, a method of a public trait, or a copy (`clone`) of a type whose copy takes
+memory; of a program, whose modules are all its own, each `pub fn`. It can refuse where it answers a Result, and may wait
+where it is given a runtime that may wait or start threads, or a crew.
 
-With --write the tables of the page are written anew: for each crate a row for each call that can refuse, with what stands under
-`# Errors` in its documentation; calls of one text share a row. Without it the script ends with status 1 where a table of the page
-is another, where a call that can refuse says nothing of it, or names a refusal that its type has not, where a refusal of a type is
-named by no call, where a call that may wait is not listed, or where a call that is listed as not allocating is given an allocator.
+With --write the tables of the page are written anew: for each crate a row for each call that can refuse, with what stands
+under `# Errors` in its documentation; calls of one text share a row. Without it the script ends with status 1 where a table
+of the page is another, where a call that can refuse says nothing of it, or names a refusal that its type has not, where a
+refusal of a type is named by no call, where a call that may wait is not listed, or where a call that is listed as not
+allocating is given an allocator.
 """
 import argparse
 import dataclasses
@@ -18,6 +19,7 @@ import itertools
 import pathlib
 import re
 import sys
+from collections.abc import Iterator
 
 TOP = pathlib.Path(__file__).resolve().parent.parent
 PAGE = TOP / "docs" / "CALLS.md"
@@ -28,13 +30,15 @@ RUNTIMES = re.compile(r"\b(Wait|Threads)\b")
 OPENING, CLOSING = "<([{", ">)]}"
 ERRORS = "# Errors"
 COPIED = "`AllocError`."
+# of each type the names of the refusals that it has, and the types that it is made of
+Known = dict[str, tuple[list[str], list[str]]]
 HEAD = "| call | what it refuses, and what stands then |\n|---|---|\n"
 
 
 @dataclasses.dataclass(frozen=True)
 class Call:
-    """A public call: its crate, its name with that of its type or trait, its answer, what it takes with all bounds on it, and what its
-    documentation says of its refusals."""
+    """A public call: its crate, its name with that of its type or trait, its answer, what it takes with all bounds on it, and
+    what its documentation says of its refusals."""
 
     crate: str
     name: str
@@ -42,15 +46,15 @@ class Call:
     bounds: str
     errors: str
 
-    def refuses(self):
+    def refuses(self) -> bool:
         return self.answer.startswith("Result<")
 
-    def fault(self):
+    def fault(self) -> str:
         """The type of what it answers where it refuses."""
         return last_argument(self.answer)
 
 
-def closed(text, start):
+def closed(text: str, start: int) -> int:
     """Where the bracket that opens at `start` is closed. An arrow is no bracket."""
     depth = 0
     for place in range(start, len(text)):
@@ -63,7 +67,7 @@ def closed(text, start):
     raise ValueError(f"not closed: {text[start:start + 60]}")
 
 
-def last_argument(answer):
+def last_argument(answer: str) -> str:
     """The last argument of a type."""
     inner = answer[answer.index("<") + 1 : closed(answer, answer.index("<"))].rstrip(", ")
     depth, begin = 0, 0
@@ -74,7 +78,7 @@ def last_argument(answer):
     return inner[begin:].strip()
 
 
-def head(lines, start):
+def head(lines: list[str], start: int) -> str:
     """What stands of a function before its clauses and its body, on one line."""
     kept = []
     for line in lines[start:]:
@@ -87,10 +91,12 @@ def head(lines, start):
     return " ".join(kept)
 
 
-def parts(text):
+def parts(text: str) -> tuple[str, str]:
     """The generic parameters of a function and its answer, of its head."""
-    place = re.search(r"fn \w+", text).end()
-    generic = ""
+    named = re.search(r"fn \w+", text)
+    if named is None:
+        raise ValueError(f"no function: {text}")
+    generic, place = "", named.end()
     if text[place] == "<":
         end = closed(text, place)
         generic, place = text[place : end + 1], end + 1
@@ -98,13 +104,13 @@ def parts(text):
     return generic + text[place : end + 1], text[end + 1 :].partition("->")[2].strip()
 
 
-def plain(text):
+def plain(text: str) -> str:
     """A text of documentation as the page has it: links are their words, and a refusal goes by its own name."""
     text = re.sub(r"\[(`[^`]*`)\](\([^)]*\))?", r"\1", text)
     return re.sub(r"`\w+(?:Fault|Error)::(\w+)`", r"`\1`", text)
 
 
-def errors(lines, number):
+def errors(lines: list[str], number: int) -> str:
     """What the documentation above a line says of refusals."""
     first = number
     while re.match(r" *(///|#\[)", lines[first - 1]):
@@ -114,18 +120,18 @@ def errors(lines, number):
     return plain(" ".join(line for line in after if line))
 
 
-def block(line):
+def block(line: str) -> tuple[str | None, str | None]:
     """The trait and the type of an impl, the trait of a declaration, or neither."""
     if found := re.match(r"pub trait (\w+)", line):
         return found[1], None
     if line.startswith("impl"):
         rest = line[closed(line, 4) + 1 :] if line.startswith("impl<") else line[4:]
-        names = re.match(r"\s*(?:([\w:]+)(?:<.*?>)? for )?&?(\w+)", rest)
-        return names[1], names[2]
+        if names := re.match(r"\s*(?:([\w:]+)(?:<.*?>)? for )?&?(\w+)", rest):
+            return names[1], names[2]
     return None, None
 
 
-def modules(crate):
+def modules(crate: pathlib.Path) -> list[pathlib.Path]:
     """The files of a crate's public modules, or of all modules of a program but its tests."""
     library = crate / "src" / "lib.rt"
     root = library if library.is_file() else crate / "src" / "main.rt"
@@ -134,13 +140,13 @@ def modules(crate):
     return [crate / "src" / f"{name}.rt" for name in public]
 
 
-def copies(text):
+def copies(text: str) -> list[str]:
     """The types of a file whose copy is derived and takes memory."""
     found = re.findall(r"^#\[derive\((.*)\)\]\n(?:#.*\n)*pub (?:struct|enum) (\w+)", text, re.M)
     return [name for derived, name in found if "Clone" in derived and "Copy" not in derived]
 
 
-def calls_of_file(crate, text, traits):
+def calls_of_file(crate: str, text: str, traits: set[str]) -> Iterator[Call]:
     """The public calls of a file."""
     trait, kind, bounds = None, None, ""
     lines = text.splitlines()
@@ -159,18 +165,18 @@ def calls_of_file(crate, text, traits):
         yield Call(crate, f"{name}::clone", "Result<Self, AllocError>", "", COPIED)
 
 
-def public_calls():
+def public_calls() -> tuple[list[Call], set[str]]:
     """The public calls of all crates, and the traits of which one impl may wait."""
     files = [(crate.name, path.read_text(encoding="utf-8")) for crate in sorted((TOP / "crates").iterdir())
              if (crate / "src").is_dir() for path in modules(crate)]
     traits = {name for _, text in files for name in re.findall(r"^pub trait (\w+)", text, re.M)}
     waiting = {trait for _, text in files for line in text.splitlines() if line.startswith("impl") and RUNTIMES.search(line)
-               for trait, _ in [block(line)] if trait in traits}
+               for trait, _ in [block(line)] if trait is not None and trait in traits}
     return [call for crate, text in files for call in calls_of_file(crate, text, traits)], waiting
 
 
-def variants():
-    """The names that each public type of the crates has: an enum's variants, or else its own; and the types that it is made of."""
+def variants() -> Known:
+    """The names that each public type of the crates has, an enum's variants or else its own, and the types that it is made of."""
     found = {}
     for path in sorted((TOP / "crates").glob("*/src/**/*.rt")):
         text = path.read_text(encoding="utf-8")
@@ -181,9 +187,11 @@ def variants():
     return found
 
 
-def names_in(fault, known):
+def names_in(fault: str, known: Known) -> set[str]:
     """The names of the refusals that a type has."""
-    names, seen, left = {"AllocError"} if "AllocError" in fault else set(), set(), re.findall(r"\w+", fault)
+    names: set[str] = {"AllocError"} if "AllocError" in fault else set()
+    seen: set[str] = set()
+    left: list[str] = re.findall(r"\w+", fault)
     while left:
         kind = left.pop()
         if kind in known and kind not in seen:
@@ -193,19 +201,19 @@ def names_in(fault, known):
     return names
 
 
-def may_wait(call, waiting):
+def may_wait(call: Call, waiting: set[str]) -> bool:
     """Whether a call may wait, by its bounds. A constructor only keeps what it is given."""
     given = RUNTIMES.search(call.bounds) or any(re.search(rf": {trait}\b", call.bounds) for trait in waiting)
     return bool(given or call.name.split("::")[0] in waiting) and not call.name.endswith("::new")
 
 
-def sections(text):
+def sections(text: str) -> dict[str, str]:
     """The page's parts by their headings."""
     pieces = re.split(r"^## (.*)\n", text, flags=re.M)
     return dict(zip(pieces[1::2], pieces[2::2]))
 
 
-def table(crate, calls):
+def table(crate: str, calls: list[Call]) -> str:
     """The table of a crate: a row for each text that its calls' documentation has of refusals."""
     refusing = [call for call in calls if call.crate == crate and call.refuses()]
     texts = dict.fromkeys(call.errors for call in refusing)
@@ -213,14 +221,14 @@ def table(crate, calls):
     return HEAD + "".join(f"| {named[text]} | {text} |\n" for text in texts)
 
 
-def told_in(text):
+def told_in(text: str) -> tuple[list[list[str]], str]:
     """A part of the page without its table, and its table."""
     lines = text.splitlines(keepends=True)
     kept = [list(group) for is_row, group in itertools.groupby(lines, lambda line: line.startswith("|")) if not is_row]
     return kept, "".join(line for line in lines if line.startswith("|"))
 
 
-def written(text, calls):
+def written(text: str, calls: list[Call]) -> str:
     """The page with each table written anew."""
     pieces = re.split(r"^(## .*\n)", text, flags=re.M)
     for place in range(1, len(pieces), 2):
@@ -232,12 +240,12 @@ def written(text, calls):
     return "".join(pieces)
 
 
-def listed(page, part):
+def listed(page: dict[str, str], part: str) -> set[str]:
     """The calls that a part's list names before its colons."""
     return {name for line in re.findall(r"^- (.*?): ", page.get(part, ""), re.M) for name in re.findall(r"`([\w:]+)`", line)}
 
 
-def faults_of_calls(calls, known):
+def faults_of_calls(calls: list[Call], known: Known) -> Iterator[str]:
     """What is wrong with what the calls' documentation says of refusals."""
     refusing = [call for call in calls if call.refuses()]
     for call in refusing:
@@ -252,12 +260,12 @@ def faults_of_calls(calls, known):
             yield f"no call names the refusal {name} of {kind}"
 
 
-def names_told(call):
+def names_told(call: Call) -> list[str]:
     """The names of refusals in what is told of a call's."""
     return re.findall(r"`([A-Z]\w*[a-z]\w*)`", call.errors)
 
 
-def faults(text, calls, waiting):
+def faults(text: str, calls: list[Call], waiting: set[str]) -> Iterator[str]:
     """What is wrong with the page."""
     page = sections(text)
     for crate in sorted({call.crate for call in calls if call.refuses()} - page.keys()):
@@ -273,7 +281,7 @@ def faults(text, calls, waiting):
         yield f"{name} is named among the calls that do not allocate, and is none"
 
 
-def main():
+def main() -> None:
     reader = argparse.ArgumentParser(description=__doc__, formatter_class=argparse.RawDescriptionHelpFormatter)
     reader.add_argument("--write", action="store_true", help="write the tables of the page anew")
     asked = reader.parse_args()

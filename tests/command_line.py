@@ -9,33 +9,32 @@ for, which grows with the jobs of a window. That a trace is written as the run g
 its output takes nothing. Needs a C compiler, `cc`, for the libraries that count. What is refused is in
 compare_program.py and hostile.py too; here stand each option's words.
 """
+import functools
 import os
 import pathlib
-import resource
-import signal
 import subprocess
 import sys
 import tempfile
 import tomllib
 import unittest
+from collections.abc import Sequence
 
 sys.dont_write_bytecode = True
 
 import fuzz
 import fuzz_format
+from preloaded import Environment, Library
+from program import LONGEST, REFUSED_LINE, TOP, VERSION, End, refused
+from program_case import ProgramCase, main, narrow
 
-TOP = pathlib.Path(__file__).resolve().parent.parent
 EXAMPLES = TOP / "examples"
 CHAIN = (EXAMPLES / "chain-of-five-one-loss.toml").read_bytes()
 TRACE = (EXAMPLES / "chain-of-five-one-loss.trace.csv").read_bytes()
 DRAWN = (EXAMPLES / "drawn-timers.toml").read_bytes()
+NO_WORDS: list[str] = []
 WINDOW = ["--engine", "window"]
-VERSION = b"srm_lab 0.2.0\n"
-BAD_CUT, BAD_WIDTH = ((1, b"", f"refused: {line}\n".encode()) for line in ("bad-cut", "bad-width"))
-REFUSED = (2, b"", b"command line refused\n")
+BAD_CUT, BAD_WIDTH = refused("bad-cut"), refused("bad-width")
 FULL = "/dev/full"
-program = None
-libraries = {}
 
 # One window and one job: a network of one node has no least delay.
 LONE = b"""\
@@ -51,104 +50,98 @@ draw = [{ member = 0, page = 0, ink = 7, at = 0 }]
 """
 
 
-def ended(words, text=CHAIN):
-    """Status, standard output and standard error of a run on this text, and how much of the text was left unread."""
-    reader, writer = os.pipe()
-    os.write(writer, text)
-    os.close(writer)
-    done = subprocess.run([program, *words], stdin=reader, capture_output=True, timeout=60)
-    with os.fdopen(reader, "rb") as rest:
-        return (done.returncode, done.stdout, done.stderr), len(rest.read())
+@functools.cache
+def library(name: str) -> Library:
+    """The library of this name, built when it is first asked for, and removed after the last test."""
+    folder = tempfile.TemporaryDirectory()
+    unittest.addModuleCleanup(folder.cleanup)
+    return Library(name, folder.name)
 
 
-def counted(source, words, text, output=None, most=None):
-    """How often a run of the program does what a library counts. Its output may be closed once so many bytes were read of it."""
-    if source not in libraries:
-        libraries[source] = f"{libraries['folder']}/{source}.so"
-        built = ["cc", "-O2", "-shared", "-fPIC", "-o", libraries[source], TOP / "tests" / f"{source}.c", "-ldl"]
-        subprocess.run(built, check=True)
-    with tempfile.NamedTemporaryFile() as told:
-        environment = {"LD_PRELOAD": libraries[source], "TELL": told.name}
-        if most is not None:
-            run_and_close(words, text, most, environment)
-            return os.path.getsize(told.name)
-        with open(output or os.devnull, "wb") as taken:
-            subprocess.run([program, *words], input=text, stdout=taken, stderr=subprocess.PIPE, env=environment, timeout=60)
-        return os.path.getsize(told.name)
+class CommandLineCase(ProgramCase):
+    def ended(self, words: Sequence[str], text: bytes = CHAIN) -> tuple[End, int]:
+        """How a run on this text ends, and how much of the text was left unread."""
+        return self.program.run_on_pipe(words, text)
+
+    def counted(self, name: str, words: Sequence[str], text: bytes, output: str = os.devnull) -> int:
+        """How often a run does what a library counts."""
+
+        def run(environment: Environment) -> None:
+            with open(output, "wb") as taken:
+                self.program.run(words, text, stdout=taken, env=environment)
+
+        return library(name).counted(run)
+
+    def threads(self, words: Sequence[str], text: bytes = LONE) -> int:
+        """How many threads a run starts."""
+        return self.counted("count_threads", words, text)
+
+    def allocations(self, words: Sequence[str], text: bytes, output: str = os.devnull) -> int:
+        """How many allocations a run makes beside those for its words, which a refused text shows."""
+        return self.counted("refuse_allocation", words, text, output) - self.counted("refuse_allocation", words, b"[")
+
+    def allocations_until_closed(self, words: Sequence[str], text: bytes, most: int) -> int:
+        """How many allocations a run makes whose output is closed once so many bytes were read, beside those for its words."""
+        run = functools.partial(self.run_and_close, words, text, most)
+        return library("refuse_allocation").counted(run) - self.counted("refuse_allocation", words, b"[")
+
+    def run_and_close(self, words: Sequence[str], text: bytes, most: int, environment: Environment) -> None:
+        """Runs the program, reads so many bytes of its output, and closes that."""
+        with tempfile.TemporaryFile() as given:
+            given.write(text)
+            given.seek(0)
+            streams = {"stdin": given, "stdout": subprocess.PIPE, "stderr": subprocess.DEVNULL}
+            with self.program.start(words, **streams, env=environment) as child:
+                assert child.stdout is not None
+                child.stdout.read(most)
+                child.stdout.close()
+                child.wait(LONGEST)
+
+    def writes(self, words: Sequence[str], text: bytes) -> tuple[int, int]:
+        """How many bytes a run writes, and by how many calls that write, its line of errors included."""
+        with tempfile.TemporaryFile() as given, tempfile.TemporaryFile() as taken:
+            given.write(text)
+            given.seek(0)
+            child = self.program.start(words, stdin=given, stdout=taken)
+            os.waitid(os.P_PID, child.pid, os.WEXITED | os.WNOWAIT)
+            told = dict(line.split(": ") for line in pathlib.Path(f"/proc/{child.pid}/io").read_text().splitlines())
+            self.assertEqual(child.wait(), 0)
+            return int(told["wchar"]), int(told["syscw"])
 
 
-def run_and_close(words, text, most, environment):
-    """Runs the program, reads so many bytes of its output, and closes that."""
-    with tempfile.TemporaryFile() as given:
-        given.write(text)
-        given.seek(0)
-        streams = {"stdin": given, "stdout": subprocess.PIPE, "stderr": subprocess.DEVNULL}
-        with subprocess.Popen([program, *words], env=environment, **streams) as child:
-            child.stdout.read(most)
-            child.stdout.close()
-            child.wait(60)
+def member(node: int, role: str) -> str:
+    """A line of an array of members."""
+    return f'  {{ node = {node}, role = "{role}", stream = 0 }},\n'
 
 
-def writes(words, text):
-    """How many bytes a run writes, and by how many calls that write, its line of errors included."""
-    with tempfile.TemporaryFile() as given, tempfile.TemporaryFile() as taken:
-        given.write(text)
-        given.seek(0)
-        child = subprocess.Popen([program, *words], stdin=given, stdout=taken)
-        os.waitid(os.P_PID, child.pid, os.WEXITED | os.WNOWAIT)
-        told = dict(line.split(": ") for line in pathlib.Path(f"/proc/{child.pid}/io").read_text().splitlines())
-        if child.wait() != 0:
-            raise AssertionError(f"status {child.returncode}")
-        return int(told["wchar"]), int(told["syscw"])
-
-
-def threads(words, text=LONE):
-    """How many threads a run starts."""
-    return counted("count_threads", words, text)
-
-
-def allocations_with_full_output(words, text):
-    """How many allocations a run makes whose standard output takes nothing, beside those for its words."""
-    return counted("refuse_allocation", words, text, FULL) - counted("refuse_allocation", words, b"[")
-
-
-def allocations_until_closed(words, text, most):
-    """How many allocations a run makes whose output is closed once so many bytes were read, beside those for its words."""
-    return counted("refuse_allocation", words, text, most=most) - counted("refuse_allocation", words, b"[")
-
-
-def allocations(words, text):
-    """How many allocations a run makes beside those for its words, which a refused text shows."""
-    return counted("refuse_allocation", words, text) - counted("refuse_allocation", words, b"[")
-
-
-def chain(nodes, delay, apart=90):
+def chain(nodes: int, delay: int, apart: int = 90) -> bytes:
     """A chain with a listener on each node, but for a sender on the first, which draws at tick 0 and so many ticks apart."""
-    members = "".join(f'  {{ node = {node}, role = "{"listener" if node else "sender"}", stream = 0 }},\n' for node in range(nodes))
+    members = "".join(member(node, "listener" if node else "sender") for node in range(nodes))
     draws = "".join(f"  {{ member = 0, page = 0, ink = 7, at = {at} }},\n" for at in range(0, 91, apart))
     top = f'version = 1\nuntil = 100\nc1 = 0\nc2 = 0\nd1 = 0\nd2 = 0\ntopology = "chain"\nsize = {nodes}\ndelay = {delay}\n'
     return f"{top}member = [\n{members}]\ndraw = [\n{draws}]\n".encode()
 
 
-def star(members, draws):
+def star(members: int, draws: int) -> bytes:
     """A star of listeners round a node, but for a sender that draws so many times, every second tick: each hears each draw."""
-    roles = "".join(f'  {{ node = {node}, role = "{"sender" if node == 1 else "listener"}", stream = 0 }},\n' for node in range(1, members + 1))
+    roles = "".join(member(node, "sender" if node == 1 else "listener") for node in range(1, members + 1))
     drawn = "".join(f"  {{ member = 0, page = 0, ink = 7, at = {2 * at} }},\n" for at in range(draws))
-    top = f'version = 1\nuntil = {2 * draws + 10}\nc1 = 0\nc2 = 0\nd1 = 0\nd2 = 0\ntopology = "star"\nsize = {members + 1}\ndelay = 1\n'
+    top = f"version = 1\nuntil = {2 * draws + 10}\nc1 = 0\nc2 = 0\nd1 = 0\nd2 = 0\n"
+    top += f'topology = "star"\nsize = {members + 1}\ndelay = 1\n'
     return f"{top}member = [\n{roles}]\ndraw = [\n{drawn}]\n".encode()
 
 
-class Seeds(unittest.TestCase):
-    def check(self, words, seed):
+class Seeds(CommandLineCase):
+    def check(self, words: list[str], seed: int) -> bytes:
         """Holds the trace of a run whose timers are drawn to the model, with this seed."""
-        (status, trace, told), _ = ended(words, DRAWN)
+        (status, trace, told), _ = self.ended(words, DRAWN)
         self.assertEqual((status, told), (0, b""))
         fuzz.expected(fuzz_format.Scenario(tomllib.loads(DRAWN.decode())), seed, trace)
         return trace
 
-    def test_each_way_to_write_a_seed(self):
+    def test_each_way_to_write_a_seed(self) -> None:
         for words, seed in (
-            ([], 0),
+            (NO_WORDS, 0),
             (["--seed", "0"], 0),
             (["--seed", "42"], 42),
             (["--seed=42"], 42),
@@ -160,25 +153,25 @@ class Seeds(unittest.TestCase):
             with self.subTest(words=words):
                 self.check(words, seed)
 
-    def test_seeds_are_told_apart(self):
+    def test_seeds_are_told_apart(self) -> None:
         self.assertNotEqual(self.check(["--seed", "42"], 42), self.check([], 0))
         self.assertEqual(self.check(["--seed", "42"], 42), (EXAMPLES / "drawn-timers.seed-42.trace.csv").read_bytes())
 
 
-class Writes(unittest.TestCase):
-    def test_a_long_trace_is_written_in_large_pieces(self):
+class Writes(CommandLineCase):
+    def test_a_long_trace_is_written_in_large_pieces(self) -> None:
         """Some 160,000 rows are written by at most 2,000 calls, though they come 32 at a time."""
-        for words in ([], WINDOW):
+        for words in (NO_WORDS, WINDOW):
             with self.subTest(words=words):
-                size, calls = writes(words, star(255, 625))
+                size, calls = self.writes(words, star(255, 625))
                 self.assertGreater(size, 2_000_000)
                 self.assertLessEqual(calls, 2_000)
 
 
-class Tables(unittest.TestCase):
-    def test_each_table(self):
+class Tables(CommandLineCase):
+    def test_each_table(self) -> None:
         for words, show in (
-            ([], "trace"),
+            (NO_WORDS, "trace"),
             (["--show", "trace"], "trace"),
             (["--show", "members"], "members"),
             (["--show", "losses"], "losses"),
@@ -187,55 +180,55 @@ class Tables(unittest.TestCase):
         ):
             with self.subTest(words=words):
                 table = (EXAMPLES / f"chain-of-five-one-loss.{show}.csv").read_bytes()
-                self.assertEqual(ended(words)[0], (0, table, b""))
+                self.assertEqual(self.ended(words)[0], (0, table, b""))
 
 
-class Windows(unittest.TestCase):
-    def test_only_the_run_in_windows_refuses_a_cut_of_0(self):
+class Windows(CommandLineCase):
+    def test_only_the_run_in_windows_refuses_a_cut_of_0(self) -> None:
         for words, end in (
-            ([], (0, TRACE, b"")),
-            (["--engine", "step"], (0, TRACE, b"")),
+            (NO_WORDS, End(0, TRACE, b"")),
+            (["--engine", "step"], End(0, TRACE, b"")),
             (["--engine=window"], BAD_CUT),
             (["--engine", "window"], BAD_CUT),
         ):
             with self.subTest(words=words):
-                self.assertEqual(ended([*words, "--cut", "0"])[0], end)
+                self.assertEqual(self.ended([*words, "--cut", "0"])[0], end)
 
-    def test_a_width_is_the_least_delay_that_is_wide_enough(self):
+    def test_a_width_is_the_least_delay_that_is_wide_enough(self) -> None:
         for word, least in (("=1", 1), ("=0007", 7), (" 7", 7), (" 12", 12)):
             words = [*WINDOW, *f"--width{word}".split()]
             with self.subTest(words=words):
-                self.assertEqual(ended(words, chain(3, least))[0][0], 0)
+                self.assertEqual(self.ended(words, chain(3, least))[0][0], 0)
                 if least > 1:
-                    self.assertEqual(ended(words, chain(3, least - 1))[0], BAD_WIDTH)
+                    self.assertEqual(self.ended(words, chain(3, least - 1))[0], BAD_WIDTH)
 
-    def test_widths_that_no_network_with_a_link_allows(self):
+    def test_widths_that_no_network_with_a_link_allows(self) -> None:
         for width in ("0", "18446744073709551615"):
             with self.subTest(width=width):
-                self.assertEqual(ended([*WINDOW, "--width", width])[0], BAD_WIDTH)
+                self.assertEqual(self.ended([*WINDOW, "--width", width])[0], BAD_WIDTH)
 
-    def test_a_width_of_two_is_refused_where_a_link_takes_one_tick_in_either_direction(self):
+    def test_a_width_of_two_is_refused_where_a_link_takes_one_tick_in_either_direction(self) -> None:
         there_in_one = (EXAMPLES / "two-way-delays.toml").read_bytes()
         back_in_one = there_in_one.replace(b"delay = 1\nback = 3", b"delay = 3\nback = 1")
         self.assertNotEqual(back_in_one, there_in_one)
         for text in (there_in_one, back_in_one):
             with self.subTest(text=text):
-                self.assertEqual(ended([*WINDOW, "--width", "2"], text)[0], BAD_WIDTH)
-                self.assertEqual(ended([*WINDOW, "--width", "1"], text)[0][0], 0)
+                self.assertEqual(self.ended([*WINDOW, "--width", "2"], text)[0], BAD_WIDTH)
+                self.assertEqual(self.ended([*WINDOW, "--width", "1"], text)[0][0], 0)
 
-    def test_windows_are_as_wide_as_a_link_unless_another_width_is_asked_for(self):
+    def test_windows_are_as_wide_as_a_link_unless_another_width_is_asked_for(self) -> None:
         text = chain(3, 7, 3)
-        least = allocations(WINDOW, text)
-        self.assertEqual(allocations([*WINDOW, "--width", "least"], text), least)
-        self.assertEqual(allocations([*WINDOW, "--width", "7"], text), least)
+        least = self.allocations(WINDOW, text)
+        self.assertEqual(self.allocations([*WINDOW, "--width", "least"], text), least)
+        self.assertEqual(self.allocations([*WINDOW, "--width", "7"], text), least)
         # narrower windows are more, and those of promises fewer, since listeners send nothing
-        self.assertGreater(allocations([*WINDOW, "--width", "2"], text), least)
-        self.assertLess(allocations([*WINDOW, "--width", "promise"], text), least)
+        self.assertGreater(self.allocations([*WINDOW, "--width", "2"], text), least)
+        self.assertLess(self.allocations([*WINDOW, "--width", "promise"], text), least)
 
-    def test_more_members_in_a_job_are_fewer_jobs(self):
+    def test_more_members_in_a_job_are_fewer_jobs(self) -> None:
         text = chain(20, 1)
-        asked = {cut: allocations([*WINDOW, "--cut", cut], text) for cut in ("1", "2", "9", "10", "0010", "20", "1024")}
-        self.assertEqual(allocations(WINDOW, text), asked["1"])
+        asked = {cut: self.allocations([*WINDOW, "--cut", cut], text) for cut in ("1", "2", "9", "10", "0010", "20", "1024")}
+        self.assertEqual(self.allocations(WINDOW, text), asked["1"])
         self.assertEqual(asked["0010"], asked["10"])
         self.assertEqual(asked["20"], asked["1024"])
         # 20, 10, 3, 2 jobs and one
@@ -243,54 +236,56 @@ class Windows(unittest.TestCase):
         self.assertEqual(jobs, sorted(set(jobs), reverse=True))
 
 
-class Traces(unittest.TestCase):
-    def test_rows_are_written_before_the_run_ends(self):
+class Traces(CommandLineCase):
+    def test_rows_are_written_before_the_run_ends(self) -> None:
         text = chain(40, 1, 1)
-        for words in ([], WINDOW, [*WINDOW, "--width", "promise", "--cut", "7"], [*WINDOW, "--crew", "pool"], [*WINDOW, "--crew", "bag"]):
+        promised = [*WINDOW, "--width", "promise", "--cut", "7"]
+        for words in (NO_WORDS, WINDOW, promised, [*WINDOW, "--crew", "pool"], [*WINDOW, "--crew", "bag"]):
             with self.subTest(words=words):
-                self.assertLess(allocations_with_full_output(words, text), 3 / 4 * allocations(words, text))
+                self.assertLess(self.allocations(words, text, FULL), 3 / 4 * self.allocations(words, text))
 
-    def test_a_long_run_ends_soon_after_its_output_is_closed(self):
+    def test_a_long_run_ends_soon_after_its_output_is_closed(self) -> None:
         """Of some 160,000 rows, in over 2,000,000 bytes, 20,000 bytes are read; a pipe keeps 64 KiB more."""
         text = star(255, 625)
-        for words in ([], WINDOW):
+        for words in (NO_WORDS, WINDOW):
             with self.subTest(words=words):
                 # those before the first row
-                begun = allocations_with_full_output(words, text)
-                left = allocations_until_closed(words, text, 20_000) - begun
-                self.assertLess(left, 1 / 4 * (allocations(words, text) - begun))
+                begun = self.allocations(words, text, FULL)
+                left = self.allocations_until_closed(words, text, 20_000) - begun
+                self.assertLess(left, 1 / 4 * (self.allocations(words, text) - begun))
 
-    def test_other_tables_are_written_at_the_end(self):
+    def test_other_tables_are_written_at_the_end(self) -> None:
         text = chain(40, 1, 1)
         for table in ("members", "losses", "links"):
             words = ["--show", table]
             with self.subTest(words=words):
-                self.assertGreater(allocations_with_full_output(words, text), 9 / 10 * allocations(words, text))
+                self.assertGreater(self.allocations(words, text, FULL), 9 / 10 * self.allocations(words, text))
 
 
-class Crews(unittest.TestCase):
-    def test_workers_of_a_bag_are_threads_beside_the_first(self):
+class Crews(CommandLineCase):
+    def test_workers_of_a_bag_are_threads_beside_the_first(self) -> None:
         bag = [*WINDOW, "--crew", "bag"]
         for words, more in (
-            ([], 0),
+            (NO_WORDS, 0),
             (["--workers", "1"], 0),
             (["--workers", "2"], 1),
             (["--workers=7"], 6),
             (["--workers", "+64"], 63),
         ):
             with self.subTest(words=words):
-                self.assertEqual(threads([*bag, *words]), more)
+                self.assertEqual(self.threads([*bag, *words]), more)
 
-    def test_no_other_run_starts_a_thread_for_each_worker(self):
-        for words in ([], ["--crew", "bag"], ["--crew", "pool"], WINDOW, [*WINDOW, "--crew", "plain"], ["--engine", "step"]):
+    def test_no_other_run_starts_a_thread_for_each_worker(self) -> None:
+        others = (NO_WORDS, ["--crew", "bag"], ["--crew", "pool"], WINDOW, [*WINDOW, "--crew", "plain"], ["--engine", "step"])
+        for words in others:
             with self.subTest(words=words):
-                self.assertEqual(threads([*words, "--workers", "3"]), 0)
+                self.assertEqual(self.threads([*words, "--workers", "3"]), 0)
 
-    def test_a_pool_has_threads_of_its_own(self):
-        self.assertGreater(threads([*WINDOW, "--crew", "pool"], chain(20, 1)), 0)
-        self.assertEqual(threads([*WINDOW, "--crew", "plain"], chain(20, 1)), 0)
+    def test_a_pool_has_threads_of_its_own(self) -> None:
+        self.assertGreater(self.threads([*WINDOW, "--crew", "pool"], chain(20, 1)), 0)
+        self.assertEqual(self.threads([*WINDOW, "--crew", "plain"], chain(20, 1)), 0)
 
-    def test_a_pool_has_a_thread_for_each_processor(self):
+    def test_a_pool_has_a_thread_for_each_processor(self) -> None:
         """In a window of many jobs, where the processors are a power of two. The thread that calls is one of them."""
         processors = os.sched_getaffinity(0)
         self.addCleanup(os.sched_setaffinity, 0, processors)
@@ -298,68 +293,59 @@ class Crews(unittest.TestCase):
             if many <= len(processors):
                 os.sched_setaffinity(0, sorted(processors)[:many])
                 with self.subTest(processors=many):
-                    self.assertEqual(threads([*WINDOW, "--crew", "pool"], chain(64, 100)), many - 1)
+                    self.assertEqual(self.threads([*WINDOW, "--crew", "pool"], chain(64, 100)), many - 1)
 
-    def test_a_bag_is_asked_for_by_its_name_alone(self):
+    def test_a_bag_is_asked_for_by_its_name_alone(self) -> None:
         text = chain(20, 1)
-        plain, bag = (allocations([*WINDOW, "--crew", crew], text) for crew in ("plain", "bag"))
-        self.assertEqual(allocations(WINDOW, text), plain)
+        plain, bag = (self.allocations([*WINDOW, "--crew", crew], text) for crew in ("plain", "bag"))
+        self.assertEqual(self.allocations(WINDOW, text), plain)
         self.assertNotEqual(bag, plain)
-        self.assertNotEqual(*(threads([*WINDOW, "--crew", crew], text) for crew in ("bag", "pool")))
+        self.assertNotEqual(*(self.threads([*WINDOW, "--crew", crew], text) for crew in ("bag", "pool")))
         for crew in ("plain", "pool", "bag"):
-            self.assertEqual(allocations(["--engine", "step", "--crew", crew], text), allocations([], text))
+            self.assertEqual(self.allocations(["--engine", "step", "--crew", crew], text), self.allocations([], text))
 
-    def test_options_in_any_order(self):
+    def test_options_in_any_order(self) -> None:
         words = ["--width", "7", "--cut", "3", "--workers", "3", "--crew", "bag", "--engine", "window"]
-        self.assertEqual(threads(words, LONE), 2)
-        self.assertEqual(ended(words, chain(3, 7))[0][0], 0)
-        self.assertEqual(ended(words, chain(3, 6))[0], BAD_WIDTH)
+        self.assertEqual(self.threads(words, LONE), 2)
+        self.assertEqual(self.ended(words, chain(3, 7))[0][0], 0)
+        self.assertEqual(self.ended(words, chain(3, 6))[0], BAD_WIDTH)
 
 
-class Refused(unittest.TestCase):
-    def check(self, all_words):
+class Refused(CommandLineCase):
+    def check(self, all_words: list[list[str]]) -> None:
         for words in all_words:
             with self.subTest(words=words):
-                self.assertEqual(ended(words), (REFUSED, len(CHAIN)))
+                self.assertEqual(self.ended(words), (REFUSED_LINE, len(CHAIN)))
 
-    def test_numbers_that_do_not_fit(self):
+    def test_numbers_that_do_not_fit(self) -> None:
         self.check([
-            ["--seed", "9223372036854775808"], ["--seed", "18446744073709551616"], ["--seed", "-1"], ["--seed", "x"], ["--seed", ""],
+            ["--seed", "9223372036854775808"], ["--seed", "18446744073709551616"],
+            ["--seed", "-1"], ["--seed", "x"], ["--seed", ""],
             ["--workers", "65"], ["--workers", "0"], ["--workers", "two"],
             ["--cut", "+1"], ["--cut", ""], ["--cut", "4294967296"], ["--cut", "one"],
             ["--width", "+1"], ["--width", "18446744073709551616"],
         ])
 
-    def test_words_that_are_none_of_their_options(self):
+    def test_words_that_are_none_of_their_options(self) -> None:
         self.check([
             ["--show", "colors"], ["--show", "Trace"], ["--show", "trace "], ["--show", ""], ["--show=tracelinks"],
             ["--engine", "windows"], ["--engine", ""], ["--crew", "six"], ["--width", "Least"],
         ])
 
-    def test_options_that_are_none_or_lack_something_or_stand_twice(self):
+    def test_options_that_are_none_or_lack_something_or_stand_twice(self) -> None:
         self.check([
             ["--seed"], ["--show"], ["--seed", "1", "--seed", "2"], ["--show", "trace", "--show", "trace"],
             ["--cut", "1", "--cut", "1"], ["--see", "1"], ["-s"], ["scenario.toml"], ["--show", "colors", "--seed", "x"],
         ])
 
-    def test_a_mistake_before_help(self):
+    def test_a_mistake_before_help(self) -> None:
         self.check([["--seed", "x", "--help"], ["--colors", "--help"]])
 
-    def test_a_line_that_is_not_taken_changes_no_status(self):
+    def test_a_line_that_is_not_taken_changes_no_status(self) -> None:
         with tempfile.TemporaryFile() as errors:
-            done = narrow(["--show", "colors"], 7, stdout=subprocess.PIPE, stderr=errors)
+            end = self.program.run(["--show", "colors"], stderr=errors, **narrow(7))
             errors.seek(0)
-            self.assertEqual((done.returncode, done.stdout, errors.read()), (2, b"", b"command"))
-
-
-def narrow(words, most, **streams):
-    """A run whose files take at most so many bytes."""
-
-    def limit():
-        signal.signal(signal.SIGXFSZ, signal.SIG_IGN)
-        resource.setrlimit(resource.RLIMIT_FSIZE, (most, most))
-
-    return subprocess.run([program, *words], stdin=subprocess.DEVNULL, preexec_fn=limit, restore_signals=False, **streams)
+            self.assertEqual(end._replace(told=errors.read()), (2, b"", b"command"))
 
 
 # What help says, line by line: the options of README's table, and the exit statuses of docs/FORMATS.md.
@@ -407,26 +393,26 @@ With --explain a refusal says after its line what to mend.
 """.splitlines()
 
 
-class Checks(unittest.TestCase):
-    def test_a_scenario_that_is_accepted_is_not_run(self):
+class Checks(CommandLineCase):
+    def test_a_scenario_that_is_accepted_is_not_run(self) -> None:
         for words in (["--check"], ["--check", "--explain"], ["--check", *WINDOW, "--cut", "0"], ["--show", "links", "--check"]):
             with self.subTest(words=words):
-                self.assertEqual(ended(words), ((0, b"", b""), 0))
+                self.assertEqual(self.ended(words), ((0, b"", b""), 0))
 
-    def test_one_that_is_not_is_refused_as_ever(self):
+    def test_one_that_is_not_is_refused_as_ever(self) -> None:
         for text, line in ((b"", b"refused: bad-key top 0\n"), (b"[", b"refused: not-toml\n")):
-            self.assertEqual(ended(["--check"], text), ((1, b"", line), 0))
+            self.assertEqual(self.ended(["--check"], text), ((1, b"", line), 0))
 
 
-class Explanations(unittest.TestCase):
-    def check(self, words, *told):
-        (status, written, lines), unread = ended(["--explain", *words])
+class Explanations(CommandLineCase):
+    def check(self, words: list[str], *told: str) -> None:
+        (status, written, lines), unread = self.ended(["--explain", *words])
         self.assertEqual((status, written, unread), (2, b"", len(CHAIN)))
-        self.assertTrue(lines.startswith(REFUSED[2]))
+        self.assertTrue(lines.startswith(REFUSED_LINE.told))
         for it in told:
             self.assertIn(it, lines.decode())
 
-    def test_a_refused_word_is_named_and_what_may_stand_there(self):
+    def test_a_refused_word_is_named_and_what_may_stand_there(self) -> None:
         self.check(["--crew", "six"], "'six'", "--crew", "plain, pool, bag")
         self.check(["--shw", "links"], "'--shw'", "'--show'")
         self.check(["--workers", "65"], "'65'", "1..=64")
@@ -435,40 +421,37 @@ class Explanations(unittest.TestCase):
         self.check(["--seed", "1", "--seed", "2"], "--seed", "multiple times")
         self.check(["--seed"], "--seed", "value is required")
 
-    def test_a_run_that_is_not_refused_is_not_explained(self):
-        self.assertEqual(ended(["--explain"])[0], (0, TRACE, b""))
+    def test_a_run_that_is_not_refused_is_not_explained(self) -> None:
+        self.assertEqual(self.ended(["--explain"])[0], (0, TRACE, b""))
 
-    def test_a_closed_output_is_not_explained(self):
+    def test_a_closed_output_is_not_explained(self) -> None:
         with open(FULL, "wb") as full:
-            done = subprocess.run([program, "--explain"], input=CHAIN, stdout=full, stderr=subprocess.PIPE, timeout=60)
-        self.assertEqual((done.returncode, done.stderr), (1, b"refused: write-fault 0\n"))
+            self.assertEqual(self.program.run(["--explain"], CHAIN, stdout=full), refused("write-fault 0"))
 
 
-class Help(unittest.TestCase):
-    def test_help_tells_each_option_and_each_status(self):
-        (status, text, told), unread = ended(["--help"])
+class Help(CommandLineCase):
+    def test_help_tells_each_option_and_each_status(self) -> None:
+        (status, text, told), unread = self.ended(["--help"])
         self.assertEqual((status, told, unread), (0, b"", len(CHAIN)))
         self.assertEqual(text.decode().splitlines(), HELP)
 
-    def test_help_that_is_met_first_is_given(self):
-        must = ended(["--help"])
+    def test_help_that_is_met_first_is_given(self) -> None:
+        must = self.ended(["--help"])
         for words in (["-h"], ["--show", "colors", "--help"], ["--help", "--show", "colors"], ["--seed", "1", "-h", "--colors"]):
             with self.subTest(words=words):
-                self.assertEqual(ended(words), must)
+                self.assertEqual(self.ended(words), must)
 
-    def test_the_version_is_the_program_and_its_number(self):
+    def test_the_version_is_the_program_and_its_number(self) -> None:
         for words in (["--version"], ["-V"]):
             with self.subTest(words=words):
-                self.assertEqual(ended(words), ((0, VERSION, b""), len(CHAIN)))
+                self.assertEqual(self.ended(words), ((0, VERSION, b""), len(CHAIN)))
 
-    def test_a_version_that_is_not_taken_whole(self):
+    def test_a_version_that_is_not_taken_whole(self) -> None:
         with tempfile.TemporaryFile() as output:
-            done = narrow(["--version"], 10, stdout=output, stderr=subprocess.PIPE)
+            end = self.program.run(["--version"], stdout=output, **narrow(10))
             output.seek(0)
-            self.assertEqual((done.returncode, output.read(), done.stderr), (1, b"srm_lab 0.", b"refused: write-fault 10\n"))
+            self.assertEqual(end._replace(written=output.read()), (1, b"srm_lab 0.", b"refused: write-fault 10\n"))
 
 
 if __name__ == "__main__":
-    program = os.path.abspath(sys.argv[1])
-    with tempfile.TemporaryDirectory() as libraries["folder"]:
-        unittest.main(argv=sys.argv[:1] + sys.argv[2:])
+    main()

@@ -3,20 +3,22 @@
 
 usage: tests/compare_program.py PROGRAM FOLDER ..
 
-A folder has scenarios NAME.toml and tables NAME.TABLE.csv, or NAME.seed-N.TABLE.csv where the seed is not 0; the first is examples/.
-Each stored table is compared with what the sequential engine writes. Then each scenario is run in windows, for each of the four
-tables, with each crew, numbers of workers, cuts and widths that --help names, and has to give the sequential engine's bytes; so it has
-to with each seed for which a table is stored, and by the sequential engine with options that only windows look at. Last, command
-lines and texts that are refused have to end with their line and status.
-Prints a line for each difference, and ends with status 1 where there is one.
+A folder has scenarios NAME.toml and tables NAME.TABLE.csv, or NAME.seed-N.TABLE.csv where the seed is not 0; the first is
+examples/. Each stored table is compared with what the sequential engine writes. Then each scenario is run in windows, for
+each of the four tables, with each crew, numbers of workers, cuts and widths that --help names, and has to give the sequential
+engine's bytes; so it has to with each seed for which a table is stored, and by the sequential engine with options that only
+windows look at. Last, command lines and texts that are refused have to end with their line and status. Prints a line for each
+difference, and ends with status 1 where there is one.
 """
 import itertools
-import os
 import pathlib
-import subprocess
 import sys
+from collections.abc import Iterator, Sequence
 
-REFUSED = (2, b"", b"command line refused\n")
+sys.dont_write_bytecode = True
+
+from program import REFUSED_LINE, VERSION, End, Program, Word, refused
+
 SHOWS = ("trace", "members", "losses", "links")
 CREWS = ("plain", "pool", "bag")
 WORKERS = ("1", "2", "7")
@@ -24,108 +26,97 @@ CUTS = ("1", "3", "1024")
 WIDTHS = ("1", "least", "promise")
 
 
-def ended(program, words, text):
-    """Status, standard output and standard error of a run on this text, and how much of it was left unread."""
-    reader, writer = os.pipe()
-    os.write(writer, text)
-    os.close(writer)
-    done = subprocess.run([program, *words], stdin=reader, capture_output=True, timeout=60)
-    with os.fdopen(reader, "rb") as rest:
-        return (done.returncode, done.stdout, done.stderr), len(rest.read())
-
-
-def tables(program, examples):
+def tables(program: Program, examples: pathlib.Path) -> Iterator[str]:
     """A line for each table that is not what the program writes."""
     for table in sorted(examples.glob("*.csv")):
         name, *seed, show, _ = table.name.split(".")
         words = ["--show", show] + [word for part in seed for word in ("--seed", part.removeprefix("seed-"))]
         text = (examples / f"{name}.toml").read_bytes()
-        if ended(program, words, text)[0] != (0, table.read_bytes(), b""):
+        if program.run(words, text) != (0, table.read_bytes(), b""):
             yield f"{table.name}: not what the program writes with {' '.join(words)}"
 
 
-def seeds(examples, name):
+def seeds(examples: pathlib.Path, name: str) -> list[str]:
     """The seeds for which a table of this scenario is stored, and 0."""
     parts = [table.name.split(".")[1:-2] for table in examples.glob(f"{name}.*.csv")]
     return sorted({"0", *(seed.removeprefix("seed-") for part in parts for seed in part)})
 
 
-def engines(program):
+def engines(program: Program) -> Iterator[list[str]]:
     """The words that ask for the run in windows, in each way, and for the sequential one with what only windows look at."""
     yield ["--engine", "step", "--crew", "bag", "--workers", "7", "--cut", "0", "--width", "0"]
-    printed = ended(program, ["--help"], b"")[0][1].decode()
+    printed = program.run(["--help"]).written.decode()
     for crew, workers, cut, width in itertools.product(CREWS, WORKERS, CUTS, WIDTHS):
         if width != "promise" or width in printed:
             yield ["--engine", "window", "--crew", crew, "--workers", workers, "--cut", cut, "--width", width]
 
 
-def windows(program, examples, ways):
+def windows(program: Program, examples: pathlib.Path, ways: list[list[str]]) -> Iterator[str]:
     """A line for each run in one of these ways that writes other bytes than the sequential engine."""
     for scenario in sorted(examples.glob("*.toml")):
         text = scenario.read_bytes()
         for seed, show in itertools.product(seeds(examples, scenario.stem), SHOWS):
             words = ["--seed", seed, "--show", show]
-            must = ended(program, words, text)
+            must = program.run(words, text)
             for way in ways:
-                if must[0][0] != 0 or ended(program, words + way, text) != must:
+                if must.status != 0 or program.run(words + way, text) != must:
                     yield f"{scenario.name}: with {' '.join(words + way)} not what the sequential engine writes"
 
 
-def cuts_and_widths(program, examples):
+def cuts_and_widths(program: Program, examples: pathlib.Path) -> Iterator[str]:
     """A line for each cut and width that is not refused, or accepted, as it must be. The least delay of the chain is 1 tick."""
     chain, lone = ((examples / f"{name}.toml").read_bytes() for name in ("chain-of-five-one-loss", "no-member"))
-    accepted = ended(program, [], chain)[0]
-    refused = {line: (1, b"", f"refused: {line}\n".encode()) for line in ("bad-cut", "bad-width", "bad-key top 0")}
+    accepted = program.run([], chain)
     runs = [
-        (["--cut", "0"], chain, refused["bad-cut"]),
-        (["--cut", "1025"], chain, refused["bad-cut"]),
-        (["--cut", "4294967295"], chain, refused["bad-cut"]),
-        (["--cut", "0", "--width", "0"], chain, refused["bad-cut"]),
-        (["--width", "0"], chain, refused["bad-width"]),
-        (["--width", "2"], chain, refused["bad-width"]),
-        (["--width", "18446744073709551615"], chain, refused["bad-width"]),
-        (["--width", "0"], lone, refused["bad-width"]),
-        (["--width", "18446744073709551615"], lone, ended(program, [], lone)[0]),
-        (["--cut", "0"], b"version = 1\n", refused["bad-key top 0"]),
+        (["--cut", "0"], chain, refused("bad-cut")),
+        (["--cut", "1025"], chain, refused("bad-cut")),
+        (["--cut", "4294967295"], chain, refused("bad-cut")),
+        (["--cut", "0", "--width", "0"], chain, refused("bad-cut")),
+        (["--width", "0"], chain, refused("bad-width")),
+        (["--width", "2"], chain, refused("bad-width")),
+        (["--width", "18446744073709551615"], chain, refused("bad-width")),
+        (["--width", "0"], lone, refused("bad-width")),
+        (["--width", "18446744073709551615"], lone, program.run([], lone)),
+        (["--cut", "0"], b"version = 1\n", refused("bad-key top 0")),
         (["--cut", "0001024", "--width", "01", "--workers", "64", "--crew", "bag"], chain, accepted),
     ]
     for words, text, must in runs:
-        got = ended(program, ["--engine", "window", *words], text)[0]
+        got = program.run(["--engine", "window", *words], text)
         if got != must:
-            yield f"--engine window {' '.join(words)}: got {got}, and not {must}"
+            yield f"--engine window {' '.join(words)}: got {tuple(got)}, and not {tuple(must)}"
 
 
-def statuses(program):
+def statuses(program: Program) -> Iterator[str]:
     """A line for each command line or text that does not end as it must."""
     text = b"version = 1\n"
-    runs = [
-        (["--show", "colors"], REFUSED, len(text)),
-        (["--workers", "65"], REFUSED, len(text)),
-        (["--workers", "0"], REFUSED, len(text)),
-        (["--engine", "fast"], REFUSED, len(text)),
-        (["--crew", "six"], REFUSED, len(text)),
-        (["--cut", "+1"], REFUSED, len(text)),
-        (["--cut", "4294967296"], REFUSED, len(text)),
-        (["--width", "18446744073709551616"], REFUSED, len(text)),
-        (["--width", "most"], REFUSED, len(text)),
-        (["--seed", "-1"], REFUSED, len(text)),
-        (["--seed", "9223372036854775808"], REFUSED, len(text)),
-        (["--seed", b"\xff"], REFUSED, len(text)),
-        (["--show", "links", "--show", "links"], REFUSED, len(text)),
-        (["--version"], (0, b"srm_lab 0.2.0\n", b""), len(text)),
-        ([], (1, b"", b"refused: bad-key top 0\n"), 0),
+    runs: list[tuple[Sequence[Word], End, int]] = [
+        (["--show", "colors"], REFUSED_LINE, len(text)),
+        (["--workers", "65"], REFUSED_LINE, len(text)),
+        (["--workers", "0"], REFUSED_LINE, len(text)),
+        (["--engine", "fast"], REFUSED_LINE, len(text)),
+        (["--crew", "six"], REFUSED_LINE, len(text)),
+        (["--cut", "+1"], REFUSED_LINE, len(text)),
+        (["--cut", "4294967296"], REFUSED_LINE, len(text)),
+        (["--width", "18446744073709551616"], REFUSED_LINE, len(text)),
+        (["--width", "most"], REFUSED_LINE, len(text)),
+        (["--seed", "-1"], REFUSED_LINE, len(text)),
+        (["--seed", "9223372036854775808"], REFUSED_LINE, len(text)),
+        (["--seed", b"\xff"], REFUSED_LINE, len(text)),
+        (["--show", "links", "--show", "links"], REFUSED_LINE, len(text)),
+        (["--version"], End(0, VERSION, b""), len(text)),
+        ([], refused("bad-key top 0"), 0),
     ]
     for words, must, unread in runs:
-        got = ended(program, words, text)
+        got = program.run_on_pipe(words, text)
         if got != (must, unread):
             yield f"{words}: got {got}, and not {(must, unread)}"
-    status, printed, told = ended(program, ["--help"], text)[0]
+    status, printed, told = program.run(["--help"], text)
     if status != 0 or told or b"Exit status" not in printed:
         yield "--help: no help on standard output"
 
 
-def main():
-    program, folders = os.path.abspath(sys.argv[1]), [pathlib.Path(folder) for folder in sys.argv[2:]]
+def main() -> bool:
+    program, folders = Program(sys.argv[1]), [pathlib.Path(folder) for folder in sys.argv[2:]]
     ways = [*engines(program)]
     differences = [*cuts_and_widths(program, folders[0]), *statuses(program)]
     for folder in folders:

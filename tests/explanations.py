@@ -3,21 +3,21 @@
 
 usage: tests/explanations.py PROGRAM
 
-Each case of tests/explanations.txt must be told as it stands there. Each text of tests/refusals.txt that is refused must have the same
-line, status and standard output as without --explain, and after the line lines that begin with two spaces. Where they name a line and
-a column of the text, they show that line, with a mark below that column; they say more than what the fault is; and where three lines
-stand before the text, they name a line that is three further on, and tell all else as before. Of a text that is accepted nothing is told. Prints a line for each difference,
-and ends with status 1 where there is one.
+Each case of tests/explanations.txt must be told as it stands there. Each text of tests/refusals.txt that is refused must have
+the same line, status and standard output as without --explain, and after the line lines that begin with two spaces. Where
+they name a line and a column of the text, they show that line, with a mark below that column; they say more than what the
+fault is; and where three lines stand before the text, they name a line that is three further on, and tell all else as before.
+Of a text that is accepted nothing is told. Prints a line for each difference, and ends with status 1 where there is one.
 """
-import os
 import pathlib
 import re
-import subprocess
 import sys
+from collections.abc import Iterator, Sequence
 
 sys.dont_write_bytecode = True
 
 import refusals
+from program import Program
 
 CASES = pathlib.Path(__file__).with_name("explanations.txt")
 SHOWN = 100
@@ -36,13 +36,13 @@ GENERAL = (
 PLACE = re.compile(r"  --> standard input, line (\d+), column (\d+)\n +(\d+) \| (.*)\n +\| ( *)(\^+)\n")
 
 
-def ended(program, words, text):
+def ended(program: Program, words: Sequence[str], text: str) -> tuple[int, bool, str]:
     """Status, whether something stands on standard output, and standard error."""
-    done = subprocess.run([program, *words], input=text.encode(), capture_output=True, timeout=60)
-    return done.returncode, bool(done.stdout), done.stderr.decode(errors="replace")
+    end = program.run(words, text.encode())
+    return end.status, bool(end.written), end.told.decode(errors="replace")
 
 
-def stored():
+def stored() -> Iterator[tuple[str, list[str], str, str]]:
     """The name, the words, the text and what is told of each case of tests/explanations.txt."""
     for block in CASES.read_text(encoding="utf-8").split("\n=== ")[1:]:
         name, _, rest = block.partition("\n")
@@ -53,7 +53,7 @@ def stored():
         yield name, words.removeprefix("$").split(), refusals.repeated(text), told.rstrip("\n") + "\n"
 
 
-def faults_of_place(text, told):
+def faults_of_place(text: str, told: str) -> str | None:
     """What is wrong with the line and the column that are told."""
     found = PLACE.search(told)
     if not found:
@@ -68,18 +68,18 @@ def faults_of_place(text, told):
     return None
 
 
-def moved(told):
+def moved(told: str) -> str:
     """What is told where the text stands three lines further down, with the gaps in front of bars left out."""
     told = re.sub(r"line (\d+), column", lambda found: f"line {int(found[1]) + 3}, column", told)
     told = re.sub(r"(?m)^  (\d+) \|", lambda found: f"  {int(found[1]) + 3} |", told)
     return without_gaps(told)
 
 
-def without_gaps(told):
+def without_gaps(told: str) -> str:
     return re.sub(r"(?m)^ +\|", "|", told)
 
 
-def faults_of(program, text, answer):
+def faults_of(program: Program, text: str, answer: str) -> Iterator[str]:
     """What is wrong with what is told of a text with this answer."""
     status, written, told = ended(program, ["--explain"], text)
     if answer == "accepted":
@@ -101,8 +101,8 @@ def faults_of(program, text, answer):
         yield f"moved by three lines it is told as {again!r}, and before as {told!r}"
 
 
-def main():
-    program = os.path.abspath(sys.argv[1])
+def main() -> bool:
+    program = Program(sys.argv[1])
     tried, differences = 0, 0
     for name, words, text, must in stored():
         tried += 1

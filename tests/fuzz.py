@@ -20,8 +20,9 @@ has larger networks, as the plain simulator of bench/ reads it. Of each case thi
   where the words are not refused.
 - Each run ends within LONGEST seconds.
 
-A table, a width, or an option, that the program's --help does not name is left out. Prints each case that fails and writes its scenario to out/;
---case SEED runs one case again. Without --from the first seed is a random one. Ends with status 1 where a case failed.
+A table, a width, or an option, that the program's --help does not name is left out. Prints each case that fails and writes
+its scenario to out/; --case SEED runs one case again. Without --from the first seed is a random one. Ends with status 1 where
+a case failed.
 """
 import argparse
 import collections
@@ -45,13 +46,10 @@ import fuzz_windows
 from fuzz_format import VERSIONS, Scenario
 from fuzz_scenarios import Case
 from fuzz_tables import Wrong
+from program import BUILT, REFUSED_LINE, TOP, End, Program, refused
 
-# how a run ends: its status, what stands on standard output and what on standard error
-End = tuple[int, bytes, bytes]
 Run = Callable[[list[str], bytes], End]
 
-TOP = pathlib.Path(__file__).resolve().parent.parent
-PROGRAM = TOP / "crates" / "srm_lab" / "out" / "srm_lab"
 LONGEST = 20
 MEMORY = 2**30
 MOST_FAILURES = 10
@@ -59,18 +57,17 @@ REFUSAL = re.compile(
     rb"refused: (not-toml|too-long|not-tree|bad-key top 0"
     rb"|bad-(key )?(member|draw|session|drop|outage) (0|[1-9][0-9]*)|bad-key link (0|[1-9][0-9]*))\n"
 )
-NO_MEMORY = (1, b"", b"refused: no-memory\n")
+NO_MEMORY = refused("no-memory")
 
 
-def runner(program: pathlib.Path) -> Run:
-    """The program as a function of its words and its standard input: status, standard output and standard error."""
+def runner(program: Program) -> Run:
+    """The program as a function of its words and its standard input, which gives how the run ended."""
 
     def run(words: list[str], text: bytes) -> End:
         try:
-            done = subprocess.run([program, *words], input=text, capture_output=True, timeout=LONGEST)
+            return program.run(words, text, timeout=LONGEST)
         except subprocess.TimeoutExpired as late:
             raise Wrong(f"{words}: it runs for more than {LONGEST} seconds") from late
-        return done.returncode, done.stdout, done.stderr
 
     return run
 
@@ -85,10 +82,11 @@ def words_named(run: Run) -> set[str]:
 
 def is_same(what: object, got: End, must: End) -> None:
     """Refuses an end that is not as it must be: tells the first line that differs."""
-    if (got[0], got[2]) != (must[0], must[2]):
-        raise Wrong(f"{what}: status {got[0]}, {got[2][:200]!r} on standard error, and not status {must[0]}, {must[2][:200]!r}")
-    if got[1] != must[1]:
-        lines = itertools.zip_longest(got[1].split(b"\n"), must[1].split(b"\n"))
+    if (got.status, got.told) != (must.status, must.told):
+        told = f"status {got.status}, {got.told[:200]!r} on standard error"
+        raise Wrong(f"{what}: {told}, and not status {must.status}, {must.told[:200]!r}")
+    if got.written != must.written:
+        lines = itertools.zip_longest(got.written.split(b"\n"), must.written.split(b"\n"))
         number, pair = next((at, pair) for at, pair in enumerate(lines, 1) if pair[0] != pair[1])
         raise Wrong(f"{what}: line {number} is {pair[0]!r}, and not {pair[1]!r}")
 
@@ -118,23 +116,23 @@ def expected(scenario: Scenario, seed: int, trace: bytes) -> dict[str, bytes]:
 
 def ends(tables: list[str], case: Case, first: End) -> dict[str, End]:
     """How a run for each table must end, as far as it is known, from the end of a first one, which wrote the trace."""
-    if first[0] != 0 or isinstance(case.must, str):
-        return {"trace": first} if first[0] == 0 else dict.fromkeys(tables, first)
-    texts = expected(Scenario(case.must), case.seed, first[1])
-    return {table: (0, texts[table], b"") for table in tables}
+    if first.status != 0 or isinstance(case.must, str):
+        return {"trace": first} if first.status == 0 else dict.fromkeys(tables, first)
+    texts = expected(Scenario(case.must), case.seed, first.written)
+    return {table: End(0, texts[table], b"") for table in tables}
 
 
 def check_windows(run: Run, named: set[str], case: Case, must: dict[str, End]) -> None:
     """Runs an accepted case in windows, for each table, and once with a cut or a width that is refused."""
     rng = fuzz_windows.random_of(case)
     top = case.must if isinstance(case.must, dict) else None
-    rows = must["trace"][1].count(b"\n")
+    rows = must["trace"].written.count(b"\n")
     for table, end in must.items():
         words = fuzz_windows.windows(rng, top, rows, named)
         is_same(" ".join(["--show", table, *words]), run([f"--seed={case.seed}", *words, "--show", table], case.text), end)
     if top is not None:
         words, line = fuzz_windows.refused(rng, top)
-        end = (1, b"", f"refused: {line}\n".encode())
+        end = refused(line)
         is_same(" ".join(words), run(words, case.text), end)
         if "explain" in named:
             check_explained(run, words, case.text, end)
@@ -144,28 +142,27 @@ def check_explained(run: Run, words: list[str], text: bytes, end: End) -> None:
     """Sees that an explanation changes nothing of a refusal but what follows its line."""
     status, printed, told = run(["--explain", *words], text)
     line, _, more = told.partition(b"\n")
-    is_same("--explain", (status, printed, line + b"\n"), end)
+    is_same("--explain", End(status, printed, line + b"\n"), end)
     if not more.endswith(b"\n") or status == 1 and not all(it.startswith(b"  ") for it in more.splitlines()):
-        raise Wrong(f"--explain: {more[:200]} after the line")
+        raise Wrong(f"--explain: {more[:200]!r} after the line")
 
 
 def check(run: Run, named: set[str], case: Case) -> None:
     """Runs one case, and raises Wrong where the program does what it must not. Its help names these words."""
     if case.words is not None:
-        end = (2, b"", b"command line refused\n")
-        is_same(case.words, run(case.words, case.text), end)
+        is_same(case.words, run(case.words, case.text), REFUSED_LINE)
         if "explain" in named:
-            check_explained(run, case.words, case.text, end)
+            check_explained(run, case.words, case.text, REFUSED_LINE)
         return
     first = run(["--seed", str(case.seed)] if case.seed else [], case.text)
     is_in_form("trace", first)
     if case.must == fuzz_scenarios.UNKNOWN and first == NO_MEMORY:
         return
-    if isinstance(case.must, dict) and first[0] != 0:
-        raise Wrong(f"it must be accepted: {first[2]!r}")
+    if isinstance(case.must, dict) and first.status != 0:
+        raise Wrong(f"it must be accepted: {first.told!r}")
     if isinstance(case.must, str) and case.must != fuzz_scenarios.UNKNOWN:
-        is_same("refusal", first, (1, b"", f"refused: {case.must}\n".encode()))
-    if first[0] != 0 and "explain" in named:
+        is_same("refusal", first, refused(case.must))
+    if first.status != 0 and "explain" in named:
         check_explained(run, [], case.text, first)
     tables = [table for table in fuzz_tables.HEADERS if table in named]
     must = ends(tables, case, first)
@@ -175,7 +172,7 @@ def check(run: Run, named: set[str], case: Case) -> None:
         is_same(f"--show {table}", end, must.setdefault(table, end))
     if "window" not in named:
         return
-    if first[0] == 0:
+    if first.status == 0:
         check_windows(run, named, case, must)
     else:
         is_same("--engine window", run(["--engine", "window", "--cut", "0", "--width", "0"], case.text), first)
@@ -226,7 +223,7 @@ def versions_of(word: str) -> tuple[int, ...]:
 
 def main() -> int:
     parser = argparse.ArgumentParser(description=__doc__, formatter_class=argparse.RawDescriptionHelpFormatter)
-    parser.add_argument("program", nargs="?", type=pathlib.Path, default=PROGRAM)
+    parser.add_argument("program", nargs="?", type=pathlib.Path, default=BUILT)
     parser.add_argument("--seconds", type=float, default=60)
     parser.add_argument("--cases", type=int)
     parser.add_argument("--from", type=int, dest="first", metavar="SEED")
@@ -236,7 +233,7 @@ def main() -> int:
     options = parser.parse_args()
     fuzz_format.LARGER_NETWORKS = options.larger
     resource.setrlimit(resource.RLIMIT_AS, (MEMORY, resource.getrlimit(resource.RLIMIT_AS)[1]))
-    run = runner(options.program.absolute())
+    run = runner(Program(options.program))
     try:
         named = words_named(run)
     except (OSError, Wrong) as wrong:

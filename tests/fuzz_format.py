@@ -1,8 +1,8 @@
 """Scenarios as docs/FORMATS.md has them: the first refusal of one, and its network, from the text's plain data alone.
 
-The plain data is what a TOML reader makes of a text: a dict of numbers, words, lists and dicts. Nothing here is taken from the
-program: ranges, refusals and what becomes of a packet are written from the two documents, docs/FORMATS.md and docs/MODEL.md. What is
-new in version 3 is in bench/README.md.
+The plain data is what a TOML reader makes of a text: a dict of numbers, words, lists and dicts. Nothing here is taken from
+the program: ranges, refusals and what becomes of a packet are written from the two documents, docs/FORMATS.md and
+docs/MODEL.md. What is new in version 3 is in bench/README.md.
 """
 import collections
 import functools
@@ -227,7 +227,7 @@ def first_wrong(elements: Iterable[Any], is_right: Callable[[Any], bool]) -> int
 
 
 def refusal_of(top: Table, versions: tuple[int, ...] = VERSIONS) -> str | None:
-    """The words of the line that refuses a scenario, as `bad-key draw 1`, or None for one that is accepted, by a program that reads
+    """The words of the line that refuses a scenario, as `bad-key draw 1`, or None if it is accepted, by a program that reads
     these versions."""
     version = version_of(top)
     if version not in versions or not top_is_right(top):
@@ -373,7 +373,7 @@ def steps_to(node: int, steps: dict[int, Step | None]) -> list[Step]:
 
 
 class Ways(NamedTuple):
-    """The ways from one member: how long a packet takes to each node and from there back, and the steps of those to other members."""
+    """The ways from one member: how long a packet takes to each node and back, and the steps of those to other members."""
 
     steps: dict[int, Step | None]
     there: dict[int, int]
@@ -435,7 +435,7 @@ class Scenario:
         return [step.link for step in reversed(steps_to(self.members[b]["node"], self.ways(a).steps))]
 
     def distance(self, a: int, b: int) -> int:
-        """The sum of the delays on the path from one member to another, each in the direction in which the path takes the link."""
+        """The sum of the delays on the path from one member to another, each in the direction that the path takes the link in."""
         return self.ways(a).there[self.members[b]["node"]]
 
     def times(self, a: int, b: int, sent: int) -> list[int]:

@@ -200,7 +200,7 @@ class Member:
         return self.entries[page]
 
     def lose_up_to(self, name: Numbers, row: Row, begins: bool = True) -> list[Numbers]:
-        """The names up to this one that were not heard of, each missing from now on. A period begins with the first loss of an event."""
+        """The names up to this one that were not heard of, each missing from now on. An event's first loss begins a period."""
         page, last = name[:2], name[2]
         entry = self.entries[page]
         lost = [(*page, number) for number in range(entry.next, last + 1)]

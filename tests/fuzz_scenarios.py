@@ -123,7 +123,8 @@ def adaptive(rng: Random, top: Table) -> None:
         if rng.random() < 0.8:
             top[least] = rng.choice([0, 0, value // 2, rng.randint(0, value), value])
         if rng.random() < 0.8:
-            top[most] = rng.choice([value, value + 70, 2 * value, 10 * value + 1000, GREATEST_CONSTANT, rng.randint(value, GREATEST_CONSTANT)])
+            any_of_them = rng.randint(value, GREATEST_CONSTANT)
+            top[most] = rng.choice([value, value + 70, 2 * value, 10 * value + 1000, GREATEST_CONSTANT, any_of_them])
             top[most] = min(top[most], GREATEST_CONSTANT)
     if rng.random() < 0.8:
         top["backoff"] = rng.choice([2, 3, 3])
@@ -260,7 +261,7 @@ def has_slow_requests(top: Table) -> bool:
 
 
 def rounds(rng: Random, top: Table, network_of: Scenario, far: int) -> None:
-    """Rounds that lie apart: a sender draws twice, and a link on the way to some member is out as the first packet comes to it."""
+    """Rounds that lie apart: a sender draws twice, and a link on the way to some member is out as the first packet gets there."""
     members = top["member"]
     number = max(1, min(30, MOST_ROWS // len(members)**2))
     sender = rng.choice([number for number, it in enumerate(members) if it["role"] == "sender"])
@@ -437,7 +438,8 @@ def drop_key(rng: Random, top: Table, part: str, table: Table) -> None:
 
 
 def add_key(rng: Random, top: Table, part: str, table: Table) -> None:
-    keys = {"nodes", "link", "topology", "size", "delay", "degree", "pages", "join", "leave", "color", "back", "outage", "a", "at"}
+    keys = {"nodes", "link", "topology", "size", "delay", "degree"}
+    keys |= {"pages", "join", "leave", "color", "back", "outage", "a", "at"}
     keys |= {"parent", "delays", "backs", "c1_least", "d2_most", "backoff", *REPEATS}
     key = rng.choice(sorted(keys - set(table)) or ["color"])
     table[key] = rng.choice([0, 1, 2, [], "chain", "tree", "parents"])
@@ -497,7 +499,10 @@ def other_item(rng: Random, top: Table, part: str, table: Table) -> None:
     if arrays:
         array = rng.choice(arrays)
         place = rng.randrange(len(array))
-        array[place:place + 1] = rng.choice([[], [array[place]] * 2, [place], [place + 1], [rng.randrange(len(array) + 2)], [0], [65534], [65535]])
+        some_place = rng.randrange(len(array) + 2)
+        array[place:place + 1] = rng.choice(
+            [[], [array[place]] * 2, [place], [place + 1], [some_place], [0], [65534], [65535]]
+        )
 
 
 def array_of(top: Table, part: str) -> list[Table]:

@@ -1,5 +1,5 @@
-"""Reads a trace, and computes from its rows the other tables, as docs/FORMATS.md says what they have. The rows of losses and of timers
-are those that fuzz_replay.py finds."""
+"""Reads a trace, and computes from its rows the other tables, as docs/FORMATS.md says what they have. The rows of losses and
+of timers are those that fuzz_replay.py finds."""
 import collections
 import re
 from collections.abc import Iterable
@@ -145,7 +145,7 @@ def ref_text(row: Row) -> str | None:
 
 
 def timers_table(timers: list[tuple[Row, Timers]]) -> bytes:
-    """One line for each event after which a member's timers go by other constants, and for each join of a member that has timers."""
+    """One line for each event after which a member's timers go by other constants, and for each join of one that has timers."""
     return table("timers", [
         csv(row.time, row.member, row.cause, ref_text(row), *constants, *averages) for row, (constants, averages) in timers
     ])

@@ -19,6 +19,7 @@ import fuzz_tables
 import fuzz_windows
 import fuzz_worked
 from fuzz_format import Link, Table
+from program import End
 
 ALL_VERSIONS = (1, 2, 3)
 in_larger_networks = unittest.mock.patch.object(fuzz_format, "LARGER_NETWORKS", True)
@@ -67,7 +68,7 @@ def worked() -> dict[str, bytes]:
 
 def program(tables: dict[str, bytes]) -> fuzz.Run:
     """A program that writes these tables, whatever it reads."""
-    return lambda words, text: (0, tables[words[-1] if "--show" in words else "trace"], b"")
+    return lambda words, text: End(0, tables[words[-1] if "--show" in words else "trace"], b"")
 
 
 def told(tables: dict[str, bytes], must: Table | str = CHAIN_OF_FIVE) -> str | None:
@@ -112,9 +113,9 @@ class Tables(unittest.TestCase):
 class Endings(unittest.TestCase):
     def test_ends_of_another_form_are_refused(self) -> None:
         line = b"refused: bad-key top 0\n"
-        fuzz.is_in_form("trace", (1, b"", line))
-        ends = [(status, b"", line) for status in (2, 101)] + [(0, b"", b""), (-11, b"", b""), (0, b"x", line)]
-        for end in [*ends, (1, b"x", line), (1, b"", line + line), (1, b"", line[:-1])]:
+        fuzz.is_in_form("trace", End(1, b"", line))
+        ends = [End(status, b"", line) for status in (2, 101)] + [End(0, b"", b""), End(-11, b"", b""), End(0, b"x", line)]
+        for end in [*ends, End(1, b"x", line), End(1, b"", line + line), End(1, b"", line[:-1])]:
             with self.assertRaises(fuzz_tables.Wrong):
                 fuzz.is_in_form("trace", end)
 
@@ -125,10 +126,10 @@ class Endings(unittest.TestCase):
 class Windows(unittest.TestCase):
     def test_runs_for_short_tables_of_long_traces_start_few_threads(self) -> None:
         rows = 5000
-        must = {"trace": (0, b"\n" * rows, b""), "links": (0, b"\n" * 5, b"")}
+        must = {"trace": End(0, b"\n" * rows, b""), "links": End(0, b"\n" * 5, b"")}
         ran: list[list[str]] = []
 
-        def run(words: list[str], text: bytes) -> fuzz.End:
+        def run(words: list[str], text: bytes) -> End:
             ran.append(words)
             return must[words[-1]]
 
@@ -305,6 +306,7 @@ class RefusalsOfVersion3(unittest.TestCase):
     def test_repetition(self) -> None:
         member, draw, drop = CHAIN_OF_FIVE["member"], CHAIN_OF_FIVE["draw"], CHAIN_OF_FIVE["drop"]
         two = {"times": 2, "every": 1}
+        link = {"a": 0, "b": 1, "delay": 1, "times": 1}
         self.check([
             (None, top(version=3, member=[member[0], {**member[1], "times": 4}], draw=[{**draw[0], "times": 65535, "every": 0}])),
             ("bad-key draw 0", top(version=2, draw=[{**draw[0], "times": 2}])),
@@ -329,7 +331,7 @@ class RefusalsOfVersion3(unittest.TestCase):
             ("bad-key drop 0", top(version=3, drop=[{**drop[0], "count": 2**32 - 1, **two}])),
             ("bad-outage 2", top(version=3, outage=[{"link": 1, "from": 5, "to": 6, **two}, {"link": 1, "from": 6, "to": 6}])),
             ("bad-key outage 0", top(version=3, outage=[{"link": 1, "from": 0, "to": 2**40, **two}])),
-            ("bad-key link 0", top(version=3, topology=None, size=None, delay=None, nodes=2, link=[{"a": 0, "b": 1, "delay": 1, "times": 1}])),
+            ("bad-key link 0", top(version=3, topology=None, size=None, delay=None, nodes=2, link=[link])),
         ])
 
     @in_larger_networks
@@ -353,8 +355,10 @@ class AdaptiveTimers(unittest.TestCase):
     def test_constants_move_by_the_stated_steps(self) -> None:
         # duplicates and delay, averaged, in thousandths, and whether the member sent first: steps of start and width
         rows = [
-            ((1000, 0, False), (100, 500)), ((5000, 2000, False), (100, 500)), ((999, 0, False), (50, 0)), ((900, 2000, False), (50, 0)),
-            ((899, 1000, False), (0, 0)), ((899, 1001, False), (0, -100)), ((250, 1000, False), (0, 0)), ((249, 1000, False), (-50, 0)),
+            ((1000, 0, False), (100, 500)), ((5000, 2000, False), (100, 500)),
+            ((999, 0, False), (50, 0)), ((900, 2000, False), (50, 0)),
+            ((899, 1000, False), (0, 0)), ((899, 1001, False), (0, -100)),
+            ((250, 1000, False), (0, 0)), ((249, 1000, False), (-50, 0)),
             ((0, 1001, False), (-50, -100)), ((0, 1001, True), (0, -100)), ((5000, 0, True), (0, -100)),
         ]
         for seen, moved in rows:
@@ -404,7 +408,8 @@ class Model(unittest.TestCase):
     def test_an_outage_takes_what_comes_to_its_link_while_it_is_on(self) -> None:
         for (first, end), reached in (((5, 6), {1}), ((4, 5), {1, 2}), ((6, 7), {1, 2})):
             outage = {"link": 1, "from": first, "to": end}
-            network = fuzz_format.Scenario({**CHAIN_OF_FIVE, "size": 3, "delay": 5, "member": CHAIN_OF_FIVE["member"][:3], "outage": [outage]})
+            members = CHAIN_OF_FIVE["member"][:3]
+            network = fuzz_format.Scenario({**CHAIN_OF_FIVE, "size": 3, "delay": 5, "member": members, "outage": [outage]})
             self.assertEqual(network.fate(0, 9, 0).reached, reached)
             self.assertEqual(network.fate(0, 9, 10).reached, {1, 2})
 
@@ -422,7 +427,8 @@ class Model(unittest.TestCase):
 
     def test_ways_in_a_tree_of_parents(self) -> None:
         network = fuzz_format.Scenario(PARENTS)
-        self.assertEqual([network.distance(*it) for it in ((0, 1), (1, 0), (0, 2), (2, 0), (1, 2), (2, 1))], [15, 11, 15, 11, 10, 10])
+        pairs = ((0, 1), (1, 0), (0, 2), (2, 0), (1, 2), (2, 1))
+        self.assertEqual([network.distance(*it) for it in pairs], [15, 11, 15, 11, 10, 10])
         self.assertEqual([network.half_round_trip(*it) for it in ((0, 1), (2, 0), (1, 2))], [13, 13, 10])
         self.assertEqual((network.path(0, 2), network.times(0, 2, 50)), ([1, 0, 3], [50, 60, 63, 65]))
 

@@ -30,7 +30,7 @@ def asked(crew: str, workers: int, cut: int, width: int | str) -> list[str]:
 
 
 def windows(rng: random.Random, top: Table | None, rows: int, words: set[str]) -> list[str]:
-    """Words that each accepted scenario allows; top is None where its plain data is not known. The trace has so many rows, and --help
+    """Words that each accepted scenario allows; top is None where its plain data is not known. The trace has so many rows; --help
     names these words."""
     widths: list[int | str] = [1, "least", *(word for word in ["promise"] if word in words)]
     width = rng.choice(widths) if top is None or rng.random() < 0.7 else often_small(rng, widest(top))

@@ -1,8 +1,8 @@
 """Three sessions with adaptive timers that were worked by hand, for fuzz_tests.py: scenarios, traces and what timers go by."""
 from fuzz_format import Table
 
-# A chain of three members, 20 ticks a link. The second link loses operations 0 and 2 of the sender, and so member 2 learns of each
-# loss a tick after it. No duplicates are heard, and each request takes a round trip: C1 falls by 50 whenever member 2 asks.
+# A chain of three members, 20 ticks a link. The second link loses operations 0 and 2 of the sender, and so member 2 learns of
+# each loss a tick after it. No duplicates are heard, and each request takes a round trip: C1 falls by 50 whenever member 2 asks.
 ONE_LOSER: Table = {
     "version": 3, "until": 2000, "c1": 2000, "c1_least": 500, "c2": 0, "d1": 1000, "d2": 0, "backoff": 3,
     "topology": "chain", "size": 3, "delay": 20,
@@ -55,8 +55,9 @@ time,member,cause,ref,c1,c2,d1,d2,ave_dup_req,ave_req_delay,ave_dup_rep,ave_rep_
 1119,2,ask,0/0/2,1900,0,1000,0,0,993,-,-
 """
 
-# A star, in which the loser has the sender and another member equally near: both answer its request at once, and hear each other's
-# repair while the name rests, which is a duplicate. The farthest member hears two repairs, of which the first ends its own timer.
+# A star, in which the loser has the sender and another member equally near: both answer its request at once, and hear each
+# other's repair while the name rests, which is a duplicate. The farthest member hears two repairs, and the first ends its own
+# timer.
 TWO_REPAIRERS: Table = {
     "version": 3, "until": 2000, "c1": 1500, "c2": 0, "d1": 1500, "d1_least": 500, "d1_most": 2000, "d2": 0,
     "backoff": 3, "nodes": 5,

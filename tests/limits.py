@@ -3,16 +3,19 @@
 
 usage: tests/limits.py PROGRAM
 
-Each case has as much of one thing as a scenario may have: nodes and members in a chain, a star and a tree, links, draws, session
-messages, drops, outages, pages of a late member, ticks, delays, and bytes of its text. What has to be written is worked out here.
-Jobs have one member each, so that a window has 1,024 of them, or as many as they may have. Prints how many runs there were, and ends
-with status 1 where one differs.
+Each case has as much of one thing as a scenario may have: nodes and members in a chain, a star and a tree, links, draws,
+session messages, drops, outages, pages of a late member, ticks, delays, and bytes of its text. What has to be written is
+worked out here. Jobs have one member each, so that a window has 1,024 of them, or as many as they may have. Prints how many
+runs there were, and ends with status 1 where one differs.
 """
 import argparse
 import dataclasses
-import subprocess
 import sys
 from collections.abc import Callable, Iterator
+
+sys.dont_write_bytecode = True
+
+from program import Program
 
 NODES = 1_024
 ELEMENTS = 4_096
@@ -82,7 +85,7 @@ def joins(count: int) -> list[str]:
 
 
 def one_draw(kind: str, nodes: range, delay: int, links_to: Callable[[int], int]) -> Case:
-    """A member on each of these nodes of a topology, of which the first draws once: it comes to each other after the links to it."""
+    """A member on each of these nodes of a topology. The first draws once, which comes to each other after the links to it."""
     first, *others = joins(len(nodes))
     arrivals = sorted((delay * links_to(node), member) for member, node in enumerate(nodes) if member)
     return Case(
@@ -144,18 +147,18 @@ def cases() -> Iterator[Case]:
     yield Case("outages", of_two(draws(ELEMENTS), outages), "links", [f"0,0,0,0,0,{ELEMENTS}"])
 
 
-def faults(program: str, case: Case) -> Iterator[str]:
+def faults(program: Program, case: Case) -> Iterator[str]:
     """A line for each way to run a case that does not write what it has to."""
     for way in WAYS:
-        done = subprocess.run([program, *way, "--show", case.show], input=case.text.encode(), capture_output=True, timeout=60)
-        if (done.returncode, done.stdout, done.stderr) != (0, case.table(), b""):
-            told = done.stderr.decode().strip() or "another table"
-            yield f"{case.name}, {' '.join(way)}: status {done.returncode}, {told}"
+        end = program.run([*way, "--show", case.show], case.text.encode())
+        if end != (0, case.table(), b""):
+            told = end.told.decode().strip() or "another table"
+            yield f"{case.name}, {' '.join(way)}: status {end.status}, {told}"
 
 
 def main() -> None:
     parser = argparse.ArgumentParser(description=__doc__, formatter_class=argparse.RawDescriptionHelpFormatter)
-    parser.add_argument("program")
+    parser.add_argument("program", type=Program)
     options = parser.parse_args()
     tried = list(cases())
     wrong = [fault for case in tried for fault in faults(options.program, case)]

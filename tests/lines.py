@@ -3,12 +3,14 @@
 
 usage: tests/lines.py
 
-The program is proved to print what the definition says; some of its lines no run can reach. A refusal `ShareFull` has the line
-`refused: share-full`, with its number, if it has one, after a space. Ends with status 1 where the definition or the table differs.
+The program is proved to print what the definition says; some of its lines no run can reach. A refusal `ShareFull` has the
+line `refused: share-full`, with its number, if it has one, after a space. Ends with status 1 where the definition or the
+table differs.
 """
 import pathlib
 import re
 import sys
+from collections.abc import Iterator
 
 TOP = pathlib.Path(__file__).resolve().parent.parent
 DEFINITION = TOP / "crates" / "srm_program" / "specs" / "RefusalLines.antt"
@@ -21,12 +23,12 @@ NUMBERED = {
 PARTS = ["top", "link", "member", "draw", "session", "drop", "outage"]
 
 
-def in_words(name):
+def in_words(name: str) -> str:
     """The words of a name, with hyphens between them."""
     return "-".join(re.findall(r"[A-Z][a-z]*", name)).lower()
 
 
-def faults(definition, page):
+def faults(definition: str, page: str) -> Iterator[str]:
     """What is wrong with the definition, and with the page."""
     lines = re.findall(r"^(\w+)_line \(?\w+\.(\w+)[^=]*= codes \"([^\"]*)\"", definition, re.M)
     table = set(re.findall(r"`(refused: [^`]*|" + COMMAND_LINE + ")`", page))
@@ -45,7 +47,7 @@ def faults(definition, page):
         yield "the words of the parts differ"
 
 
-def main():
+def main() -> None:
     found = list(faults(DEFINITION.read_text(encoding="utf-8"), PAGE.read_text(encoding="utf-8")))
     for fault in found:
         print(f"lines: {fault}", file=sys.stderr)

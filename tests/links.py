@@ -20,23 +20,23 @@ LINK = re.compile(r"!?\[(?:[^\[\]]|\[[^\[\]]*\])*\]\(([^()\s]+)\)")
 HEADING = re.compile(r"^#{1,6} +(.+?) *#*$", re.M)
 
 
-def pages():
+def pages() -> list[pathlib.Path]:
     """Every Markdown page that git knows."""
     told = subprocess.run(["git", "ls-files", "-z", "--cached", "--others", "--exclude-standard", "*.md"], cwd=TOP,
                           capture_output=True, check=True)
     return [TOP / name for name in told.stdout.decode().split("\0") if name]
 
 
-def anchor(heading):
+def anchor(heading: str) -> str:
     """The name that GitHub gives a heading: its words in small letters, joined by hyphens."""
     text = re.sub(r"\[([^\]]*)\]\([^)]*\)", r"\1", heading)
     return re.sub(r"[^\w\- ]", "", text).strip().lower().replace(" ", "-")
 
 
 @functools.cache
-def anchors(page):
+def anchors(page: pathlib.Path) -> set[str]:
     """The names of a page's headings; one that stands again is numbered."""
-    found = {}
+    found: dict[str, int] = {}
     for heading in HEADING.findall(re.sub(r"^```.*?^```", "", page.read_text(encoding="utf-8"), flags=re.S | re.M)):
         name = anchor(heading)
         found[name] = found.get(name, -1) + 1
@@ -45,7 +45,7 @@ def anchors(page):
     return set(found)
 
 
-def fault(page, link):
+def fault(page: pathlib.Path, link: str) -> str | None:
     """What is wrong with a link of a page, or None."""
     target = urllib.parse.urlsplit(link)
     if target.scheme or target.netloc:
@@ -58,7 +58,7 @@ def fault(page, link):
     return None
 
 
-def main():
+def main() -> None:
     faults = [(page.relative_to(TOP), link, wrong)
               for page in pages() for link in LINK.findall(CODE.sub("", page.read_text(encoding="utf-8")))
               for wrong in [fault(page, link)] if wrong]

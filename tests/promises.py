@@ -9,21 +9,23 @@ can be applied: each text that it replaces stands once in its file. Ends with st
 import pathlib
 import re
 import sys
+from collections.abc import Iterator
 
 TOP = pathlib.Path(__file__).resolve().parent.parent
 PAGE = TOP / "docs" / "PROMISES.md"
 
 
-def named_in(text):
+def named_in(text: str) -> set[str]:
     """The edits that the tables of the page name."""
     rows = [line.strip("|").split(" | ") for line in text.splitlines() if line.startswith("|")]
     return {name for cells in rows if len(cells) > 3 for name in re.findall(r"`([a-z0-9_]+)`", cells[2])}
 
 
-def misfits(edit):
+def misfits(edit: pathlib.Path) -> Iterator[str]:
     """The texts that an edit replaces and that do not stand once in their file."""
-    source, old = None, None
-    texts = {}
+    source = edit
+    old: str | None = None
+    texts: dict[pathlib.Path, str] = {}
     for line in edit.read_text(encoding="utf-8").splitlines():
         key, _, value = line.partition(": ")
         if key == "file":
@@ -37,7 +39,7 @@ def misfits(edit):
             texts[source] = texts[source].replace(old, value)
 
 
-def faults(text, edits):
+def faults(text: str, edits: list[pathlib.Path]) -> Iterator[str]:
     """What is wrong with the page, and with the edits."""
     names = {edit.stem for edit in edits}
     for name in sorted(named_in(text) - names):
@@ -49,7 +51,7 @@ def faults(text, edits):
             yield f"{edit.relative_to(TOP)}: this does not stand once in its file: {old}"
 
 
-def main():
+def main() -> None:
     if len(sys.argv) > 1:
         print(__doc__)
         return

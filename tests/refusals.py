@@ -3,33 +3,36 @@
 
 usage: tests/refusals.py PROGRAM
 
-They are each end of each range of the format, each two neighbours in the order of its faults, and what does not fit. A text that is
-accepted must end with status 0 and a trace; one that is refused with status 1, its line on standard error and nothing written.
-Prints a line for each difference, and ends with status 1 where there is one.
+They are each end of each range of the format, each two neighbours in the order of its faults, and what does not fit. A text
+that is accepted must end with status 0 and a trace; one that is refused with status 1, its line on standard error and nothing
+written. Prints a line for each difference, and ends with status 1 where there is one.
 """
-import os
 import pathlib
 import re
-import subprocess
 import sys
+from collections.abc import Iterator
+
+sys.dont_write_bytecode = True
+
+from program import Program
 
 CASES = pathlib.Path(__file__).with_name("refusals.txt")
 HEADER = b"time,member,cause,ref,result,lost,sent\n"
 
 
-def repeated(text):
+def repeated(text: str) -> str:
     """The text with what is to stand in it several times standing so often, with commas between."""
     return re.sub(r"<(\d+) of ([^>]*)>", lambda found: ",".join([found[2]] * int(found[1])), text)
 
 
-def lines_of(text):
+def lines_of(text: str) -> list[str]:
     """The lines that stand with semicolons between them, with their elements repeated."""
     return [line.strip() for line in repeated(text).split(";")]
 
 
-def cases(text):
+def cases(text: str) -> Iterator[tuple[int, str, str]]:
     """The number of each case's line, its text and its answer."""
-    front = []
+    front: list[str] = []
     for number, line in enumerate(text.splitlines(), 1):
         answer, bar, rest = line.partition(" | ")
         if line.startswith("front:"):
@@ -40,19 +43,19 @@ def cases(text):
             raise ValueError(f"line {number} of {CASES.name} is no case")
 
 
-def answered(program, text):
+def answered(program: Program, text: str) -> str:
     """What the program answers: `accepted`, the rest of the line of its refusal, or how else it ended."""
-    done = subprocess.run([program], input=text.encode(), capture_output=True, timeout=60)
-    told = done.stderr.decode(errors="replace")
-    if done.returncode == 0 and not told and done.stdout.startswith(HEADER):
+    end = program.run([], text.encode())
+    told = end.told.decode(errors="replace")
+    if end.status == 0 and not told and end.written.startswith(HEADER):
         return "accepted"
-    if done.returncode == 1 and not done.stdout and re.fullmatch(r"refused: [^\n]*\n", told):
+    if end.status == 1 and not end.written and re.fullmatch(r"refused: [^\n]*\n", told):
         return told.removeprefix("refused: ").rstrip("\n")
-    return f"status {done.returncode}, {len(done.stdout)} bytes, {told!r}"
+    return f"status {end.status}, {len(end.written)} bytes, {told!r}"
 
 
-def main():
-    program = os.path.abspath(sys.argv[1])
+def main() -> bool:
+    program = Program(sys.argv[1])
     tried, differences = 0, 0
     for number, text, answer in cases(CASES.read_text(encoding="utf-8")):
         tried += 1

@@ -3,20 +3,23 @@
 
 usage: tests/same_bytes.py PROGRAM [--runs N]
 
-The scenario is a tree of 256 nodes with a member on each, of which member 0 draws, and some of whose packets are dropped; each run
-has 64 workers, which share a bag of jobs of 4 members each. Prints how many runs there were, and ends with status 1 at the first that
-differs.
+The scenario is a tree of 256 nodes with a member on each, of which member 0 draws, and some of whose packets are dropped;
+each run has 64 workers, which share a bag of jobs of 4 members each. Prints how many runs there were, and ends with status 1
+at the first that differs.
 """
 import argparse
-import subprocess
 import sys
+
+sys.dont_write_bytecode = True
+
+from program import LONGEST, Program
 
 NODES = 256
 DRAWS = 3
 WORDS = ["--engine", "window", "--crew", "bag", "--workers", "64", "--cut", "4"]
 
 
-def scenario():
+def scenario() -> bytes:
     """The text of the scenario. Timers have a random part."""
     lines = ["version = 1", "until = 4000", "c1 = 2000", "c2 = 2000", "d1 = 1000", "d2 = 1000"]
     lines += ['topology = "tree"', f"size = {NODES}", "delay = 20", "degree = 4"]
@@ -29,20 +32,15 @@ def scenario():
     return ("\n".join(lines) + "\n").encode()
 
 
-def written(program, words, text):
-    """What a run writes, which must succeed."""
-    return subprocess.run([program, *words], input=text, stdout=subprocess.PIPE, check=True, timeout=60).stdout
-
-
-def main():
+def main() -> None:
     parser = argparse.ArgumentParser(description=__doc__, formatter_class=argparse.RawDescriptionHelpFormatter)
-    parser.add_argument("program")
+    parser.add_argument("program", type=Program)
     parser.add_argument("--runs", type=int, default=1000)
     options = parser.parse_args()
     text = scenario()
-    must = written(options.program, [], text)
+    must = options.program.written([], text, timeout=LONGEST)
     for run in range(options.runs):
-        if written(options.program, WORDS, text) != must:
+        if options.program.written(WORDS, text, timeout=LONGEST) != must:
             sys.exit(f"run {run}: not the bytes of the sequential engine")
     rows = must.count(b"\n") - 1
     print(f"{options.runs} runs with 64 workers: the same {rows} rows")

@@ -3,11 +3,11 @@
 
 No proof is run.
 """
-import collections
 import pathlib
 import sys
 import tempfile
 import unittest
+from collections.abc import Iterable
 from unittest import mock
 
 sys.dont_write_bytecode = True
@@ -42,14 +42,18 @@ top: not run, since middle failed
 """
 
 
-def running(spent):
-    """What a watch saw: seconds by crate, part and folder."""
-    it = mock.Mock(spec=watch.Watch, spent=collections.Counter({watch.Sight(*sight): seconds for sight, seconds in spent}))
+# seconds by crate, part and folder
+Spent = Iterable[tuple[tuple[str, str, str], float]]
+
+
+def running(spent: Spent) -> mock.Mock:
+    """What a watch saw."""
+    it = mock.Mock(spec=watch.Watch, spent={watch.Sight(*sight): seconds for sight, seconds in spent})
     it.seconds = lambda crate, part: watch.Watch.seconds(it, crate, part)
     return it
 
 
-def report_on(text, spent=()):
+def report_on(text: str, spent: Spent = ()) -> tuple[prove.Report, list[str]]:
     """The report on what `rt all check` printed, and the lines that it said."""
     report = prove.Report(running(spent))
     with mock.patch.object(prove, "say") as say:
@@ -59,7 +63,7 @@ def report_on(text, spent=()):
 
 
 class Refusals(unittest.TestCase):
-    def test_lines_that_tell_what_failed_are_found(self):
+    def test_lines_that_tell_what_failed_are_found(self) -> None:
         found = [line for line in ONE_FAILS.splitlines() if gate.is_refusal(line)]
         self.assertEqual([line.partition(":")[0] for line in found], ["fn middle", "./proofs/Lib.antt"])
         for line in ("FAILED: low/a.edit", "low NOT PROVED", "low/a: NOT REFUSED: the crate is still proved with this edit"):
@@ -67,64 +71,65 @@ class Refusals(unittest.TestCase):
 
 
 class Proving(unittest.TestCase):
-    def test_each_crate_has_one_line_with_its_time(self):
+    def test_each_crate_has_one_line_with_its_time(self) -> None:
         _, said = report_on(ONE_FAILS, [(("low", "proof", "/low"), 75), (("middle", "proof", "/middle"), 3)])
         self.assertEqual(said, ["low            proved in 1:15", "middle         NOT PROVED in 0:03"])
 
-    def test_crates_that_failed_and_that_were_not_begun_are_told_apart(self):
+    def test_crates_that_failed_and_that_were_not_begun_are_told_apart(self) -> None:
         report, _ = report_on(ONE_FAILS)
         self.assertEqual((report.named("failed"), report.named("not run")), (["middle"], ["top"]))
 
-    def test_errors_are_those_of_the_crate_that_failed_and_no_hints(self):
+    def test_errors_are_those_of_the_crate_that_failed_and_no_hints(self) -> None:
         report, _ = report_on(ONE_FAILS)
         errors = report.errors(report.named("failed"))
         wrong = ("note: src/lib.rt", "fn middle::third", "./proofs/Lib.antt")
         self.assertEqual(errors, [line for line in ONE_FAILS.splitlines() if line.startswith(wrong)])
 
-    def test_errors_before_the_first_crate_are_told(self):
+    def test_errors_before_the_first_crate_are_told(self) -> None:
         report, said = report_on("src/main.rt:1:1: error[name]: no such item\nrt: mend these first: no library was built\n")
         self.assertEqual((len(report.errors([])), said), (2, []))
 
-    def test_a_crate_of_which_nothing_is_printed_was_proved_before(self):
+    def test_a_crate_of_which_nothing_is_printed_was_proved_before(self) -> None:
         _, said = report_on("== low\n== middle\nlogic=proved functions=2\n== summary\nlow: ok\nmiddle: ok\n2 of 2 crates ok\n")
         self.assertEqual(said, ["low            as it was proved before", "middle         proved in 0:00"])
 
-    def test_a_program_is_proved_crate_by_crate(self):
-        low = "rt: chose --jobs 4 for low\nfn low::half: proved\ncrate low: modules loaded=3 checked=4\nlogic=proved functions=1\n"
+    def test_a_program_is_proved_crate_by_crate(self) -> None:
+        low = "rt: chose --jobs 4 for low\nfn low::half: proved\ncrate low: modules loaded=3 checked=4\n"
+        low += "logic=proved functions=1\n"
         top = "rt: chose --jobs 2 for top\nsrc/main.rt:1:1: error[name]: no such item\n"
         report, said = report_on(low + top, [(("low", "proof", "/low"), 75)])
         self.assertEqual((said, report.crate), (["low            proved in 1:15"], "top"))
         self.assertEqual(report.errors(["top"]), ["src/main.rt:1:1: error[name]: no such item"])
 
-    def test_a_crate_that_breaks_off_is_not_proved(self):
+    def test_a_crate_that_breaks_off_is_not_proved(self) -> None:
         _, said = report_on("== low\nrattle: killed\n== summary\nlow: failed (-9)\n0 of 1 crates ok\n")
         self.assertEqual(said, ["low            NOT PROVED"])
 
 
 class Gate(unittest.TestCase):
-    def test_times_of_edits_are_named_in_the_order_in_which_they_are_tried(self):
+    def test_times_of_edits_are_named_in_the_order_in_which_they_are_tried(self) -> None:
         spent = [(("low", "edits", f"/tmp/rt-edit-{at}"), 10 - at) for at in range(3)]
         with mock.patch.object(gate, "edits_of", return_value=["first", "second"]):
             self.assertEqual(gate.times_of_edits(running(spent), "low"), {"first": 10, "second": 9})
 
-    def test_no_edit_is_named_where_one_was_not_seen(self):
+    def test_no_edit_is_named_where_one_was_not_seen(self) -> None:
         spent = [(("low", "edits", "/tmp/rt-edit-0"), 10)]
         with mock.patch.object(gate, "edits_of", return_value=["first", "second"]):
             self.assertEqual(gate.times_of_edits(running(spent), "low"), {})
 
-    def test_the_table_has_each_part_of_a_crate(self):
+    def test_the_table_has_each_part_of_a_crate(self) -> None:
         spent = [(("low", "proof", "/low"), 61), (("low", "tests", "/low"), 5), (("low", "edits", "/tmp/rt-edit-0"), 7)]
         with mock.patch.object(gate, "edits_of", return_value=["first"]):
             lines = gate.table(running(spent), 70)
         self.assertEqual(lines[2].split(), ["low", "1:01", "0:05", "0:07", "1"])
         self.assertEqual((lines[-2].split(), lines[-1]), (["0:07", "low/first"], "all of it took 1:10"))
 
-    def test_a_proof_for_each_processor_only_where_there_is_memory_for_them(self):
+    def test_a_proof_for_each_processor_only_where_there_is_memory_for_them(self) -> None:
         self.assertEqual(gate.side_by_side({"HOME": "/"}, 4, 20_000_000_000), {"HOME": "/", "RT_JOBS": "4"})
         self.assertEqual(gate.side_by_side({"HOME": "/"}, 4, 19_999_999_999), {"HOME": "/"})
         self.assertEqual(gate.side_by_side({"RT_JOBS": "2"}, 4, 20_000_000_000), {"RT_JOBS": "2"})
 
-    def test_free_memory_is_below_the_limit_of_the_control_group(self):
+    def test_free_memory_is_below_the_limit_of_the_control_group(self) -> None:
         with tempfile.TemporaryDirectory() as folder:
             system = pathlib.Path(folder)
             (system / "proc").mkdir()
@@ -138,20 +143,20 @@ class Gate(unittest.TestCase):
 
 
 class Architecture(unittest.TestCase):
-    LOWER = {"top": ["middle", "low"], "middle": ["low"], "low": []}
+    LOWER: architecture.Crates = {"top": ["middle", "low"], "middle": ["low"], "low": []}
     PAGE = "| `low` |\n| `middle` |\n| `top` |\n\n{}"
 
-    def faults(self, page):
+    def faults(self, page: str) -> list[str]:
         return list(architecture.faults(self.LOWER, page))
 
-    def test_arrows_to_which_others_lead_are_left_out(self):
+    def test_arrows_to_which_others_lead_are_left_out(self) -> None:
         lines = architecture.graph(self.LOWER).splitlines()
         self.assertEqual(lines[2:-1], ["    top --> middle", "    middle --> low", "    low"])
 
-    def test_a_page_that_is_true_has_no_fault(self):
+    def test_a_page_that_is_true_has_no_fault(self) -> None:
         self.assertEqual(self.faults(self.PAGE.format(architecture.graph(self.LOWER))), [])
 
-    def test_another_graph_a_missing_row_and_a_wrong_order_are_faults(self):
+    def test_another_graph_a_missing_row_and_a_wrong_order_are_faults(self) -> None:
         graph = architecture.graph(self.LOWER)
         another = self.PAGE.format(graph.replace("top -->", "low -->"))
         missing = f"| `low` |\n| `top` |\n{graph}"
@@ -208,7 +213,7 @@ impl Display for Shelf {
     fn show(&self) -> Result<(), Full> {}
 }
 """
-KNOWN = {"ShelfFault": (["Full", "Torn"], [])}
+KNOWN: calls.Known = {"ShelfFault": (["Full", "Torn"], [])}
 SHELF_PAGE = """\
 ## low
 
@@ -232,89 +237,118 @@ Of shelves.
 
 
 class Calls(unittest.TestCase):
-    def faults(self, page=SHELF_PAGE, source=SHELF):
+    def faults(self, page: str = SHELF_PAGE, source: str = SHELF) -> list[str]:
         found = list(calls.calls_of_file("low", source, {"Reader"}))
         with mock.patch.object(calls, "PREFIX", "low"):
             return list(calls.faults_of_calls(found, KNOWN)) + list(calls.faults(page, found, set()))
 
-    def test_public_calls_are_found_with_what_they_answer(self):
+    def test_public_calls_are_found_with_what_they_answer(self) -> None:
         found = {call.name: call.answer for call in calls.calls_of_file("low", SHELF, {"Reader"})}
         want = {"Reader::read": "Result<usize, ShelfFault>", "Shelf::put": "Result<(), (u8, ShelfFault)>", "Shelf::len": "usize"}
         self.assertEqual(found, {**want, "Shelf::show": "Result<(), Full>", "Shelf::clone": "Result<Self, AllocError>"})
 
-    def test_page_that_fits_has_no_fault(self):
+    def test_page_that_fits_has_no_fault(self) -> None:
         self.assertEqual(self.faults(), [])
 
-    def test_stale_table_is_told_and_written_anew(self):
+    def test_stale_table_is_told_and_written_anew(self) -> None:
         stale = SHELF_PAGE.replace("| `Full`. |", "| `Torn`. |")
         self.assertEqual(self.faults(stale), ["a table is not that of the sources: tests/calls.py --write writes it"])
         found = list(calls.calls_of_file("low", SHELF, {"Reader"}))
         with mock.patch.object(calls, "PREFIX", "low"):
             self.assertEqual(calls.written(stale, found), SHELF_PAGE)
 
-    def test_calls_of_one_text_share_a_row(self):
+    def test_calls_of_one_text_share_a_row(self) -> None:
         source = SHELF.replace("    /// Refused.", "    /// `Full`.")
         found = list(calls.calls_of_file("low", source, {"Reader"}))
         self.assertIn("| `Shelf::put`, `Shelf::show` | `Full`. |\n", calls.table("low", found))
 
-    def test_call_whose_documentation_tells_no_refusal_is_told(self):
+    def test_call_whose_documentation_tells_no_refusal_is_told(self) -> None:
         source = SHELF.replace("    /// # Errors\n    /// `Full`.\n", "")
         self.assertIn("low: Shelf::put can refuse, and its documentation has no `# Errors`", self.faults(source=source))
 
-    def test_refusal_that_the_type_has_not_is_told(self):
+    def test_refusal_that_the_type_has_not_is_told(self) -> None:
         source = SHELF.replace("    /// Refused.", "    /// `Lost`.")
         self.assertIn("low: Shelf::show has no refusal Lost", self.faults(source=source))
 
-    def test_refusal_that_no_call_names_is_told(self):
+    def test_refusal_that_no_call_names_is_told(self) -> None:
         source = SHELF.replace("    /// 2. `Torn`.\n", "")
         self.assertIn("no call names the refusal Torn of ShelfFault", self.faults(source=source))
 
-    def test_waiting_and_memory_are_told(self):
-        page = SHELF_PAGE.replace("- `Reader::read`", "- `Shelf::len`").replace("- `Shelf::len`: always", "- `Shelf::put`: always")
+    def test_waiting_and_memory_are_told(self) -> None:
+        page = SHELF_PAGE.replace("- `Reader::read`", "- `Shelf::len`")
+        page = page.replace("- `Shelf::len`: always", "- `Shelf::put`: always")
         told = ["Reader::read may wait, and is not named there", "Shelf::len is named among the calls that may wait, and is none"]
         self.assertEqual(self.faults(page), [*told, "Shelf::put is named among the calls that do not allocate, and is none"])
 
 
 class Links(unittest.TestCase):
-    def setUp(self):
+    def setUp(self) -> None:
         self.top = pathlib.Path(self.enterContext(tempfile.TemporaryDirectory())).resolve()
         self.page = self.top / "page.md"
         self.page.write_text("# One `word`, two\n\n## Again\n\n## Again\n\n```\n# no heading\n```\n", encoding="utf-8")
         self.enterContext(mock.patch.object(links, "TOP", self.top))
         links.anchors.cache_clear()
 
-    def test_links_that_lead_somewhere(self):
+    def test_links_that_lead_somewhere(self) -> None:
         for link in ("page.md", "#one-word-two", "page.md#again", "#again-1", "https://example.org/none.md"):
             self.assertIsNone(links.fault(self.page, link), link)
 
-    def test_links_that_lead_nowhere(self):
+    def test_links_that_lead_nowhere(self) -> None:
         for link in ("other.md", "#no-heading", "#again-2", "../page.md", "/page.md"):
             self.assertIsNotNone(links.fault(self.page, link), link)
 
-    def test_code_holds_no_link(self):
+    def test_code_holds_no_link(self) -> None:
         self.assertEqual(links.LINK.findall(links.CODE.sub("", "`[a](b)` [c](d) ![e [f]](g)")), ["d", "g"])
 
 
 class Versions(unittest.TestCase):
-    def faults(self, changelog, tags=()):
-        texts = {versions.PROGRAM: 'const VERSION: &str = "1.2.0";', "CITATION.cff": "version: 1.2.0\n",
-                 "python/pyproject.toml": 'version = "1.2.0"\n', "CHANGELOG.md": changelog}
+    RELEASED = "## [1.2.0] - 2026-01-01\n\n## [1.1.0] - 2025-01-01\n"
+    TO_COME = "## [Unreleased]\n\nTo be 1.2.0.\n\n## [1.1.0] - 2025-01-01\n"
+
+    def faults(self, changelog: str, merged: str = "", here: str = "", at_tag: str | None = None) -> list[str]:
+        """What is wrong where CHANGELOG.md says this, these tags are merged and here, and a tagged commit names this."""
+        texts = {versions.PROGRAM: 'const VERSION: &str = "1.2.0";', versions.CITATION: "version: 1.2.0\n",
+                 "python/pyproject.toml": 'version = "1.2.0"\n', versions.CHANGELOG: changelog}
+
+        def git(*words: str) -> str:
+            if words[0] == "show":
+                tag = words[1].removeprefix("v").partition(":")[0]
+                return f"version: {at_tag or tag}\n"
+            return here if "--points-at" in words else merged
+
         with tempfile.TemporaryDirectory() as top:
             for name, text in texts.items():
                 path = pathlib.Path(top) / name
                 path.parent.mkdir(parents=True, exist_ok=True)
                 path.write_text(text, encoding="utf-8")
-            with mock.patch.object(versions, "TOP", pathlib.Path(top)), mock.patch.object(versions, "tags", lambda: list(tags)):
+            with mock.patch.object(versions, "TOP", pathlib.Path(top)), mock.patch.object(versions, "git", git):
                 return list(versions.faults())
 
-    def test_versions_that_agree(self):
-        self.assertEqual(self.faults("## [Unreleased]\n\nTo be 1.2.0.\n\n## [1.1.0] - 2026-01-01\n", ["v1.2.0"]), [])
-        self.assertEqual(self.faults("## [1.2.0] - 2026-01-01\n\n## [1.1.0] - 2025-01-01\n"), [])
+    def test_versions_that_agree(self) -> None:
+        self.assertEqual(self.faults(self.TO_COME), [])
+        self.assertEqual(self.faults(self.TO_COME, "v1.1.0\n"), [])
+        self.assertEqual(self.faults(self.RELEASED), [])
+        self.assertEqual(self.faults(self.RELEASED, "v1.1.0\nv1.2.0\nvery-old\n", "v1.2.0\n"), [])
 
-    def test_versions_that_differ(self):
-        self.assertEqual(len(self.faults("## [1.1.0] - 2026-01-01\n")), 1)
-        self.assertEqual(len(self.faults("To be 1.2.0.\n", ["v1.1.0"])), 1)
-        self.assertEqual(len(self.faults("nothing\n")), 1)
+    def test_versions_that_differ(self) -> None:
+        self.assertEqual(self.faults("## [1.1.0] - 2026-01-01\n"), ["CHANGELOG.md names version 1.1.0, and the program is 1.2.0"])
+        self.assertEqual(self.faults("nothing\n"), ["CHANGELOG.md names no version"])
+
+    def test_releases_that_do_not_rise(self) -> None:
+        told = ["CHANGELOG.md has 1.2.0 above 1.10.0, and it is not later"]
+        self.assertEqual(self.faults("## [1.2.0] - 2026-01-01\n\n## [1.10.0] - 2025-01-01\n"), told)
+        told = ["CHANGELOG.md has 1.2.0 above 1.2.0, and it is not later"]
+        self.assertEqual(self.faults("To be 1.2.0.\n\n## [1.2.0] - 2026-01-01\n"), told)
+
+    def test_tags_that_disagree(self) -> None:
+        told = ["there is a tag v1.2.0, and CHANGELOG.md has no such release"]
+        self.assertEqual(self.faults(self.TO_COME, "v1.1.0\nv1.2.0\n"), told)
+        told = ["CHANGELOG.md has the release 1.1.0, and there is no tag v1.1.0"]
+        self.assertEqual(self.faults(self.RELEASED, "v1.2.0\n"), told)
+        told = ["this commit has the tag v1.1.0, and the program is 1.2.0"]
+        self.assertEqual(self.faults(self.TO_COME, "v1.1.0\n", "v1.1.0\n"), told)
+        told = ["at the tag v1.1.0, CITATION.cff names version 1.0.0"]
+        self.assertEqual(self.faults(self.TO_COME, "v1.1.0\n", at_tag="1.0.0"), told)
 
 
 if __name__ == "__main__":

@@ -8,13 +8,14 @@ usage: tests/widths.py
 import pathlib
 import re
 import sys
+from collections.abc import Iterator
 
 TOP = pathlib.Path(__file__).resolve().parent.parent
 MOST = {"specs": 120, "proofs": 140}
 ONE_NAME = re.compile(r"use [^ ]+\.\{[^ ]+\}")
 
 
-def too_long(folder, most):
+def too_long(folder: pathlib.Path, most: int) -> Iterator[str]:
     """The lines of a crate's folder, and of the folders below it, that have more characters."""
     for path in sorted(folder.rglob("*.antt")):
         for number, line in enumerate(path.read_text(encoding="utf-8").splitlines(), 1):
@@ -22,7 +23,7 @@ def too_long(folder, most):
                 yield f"{path.relative_to(TOP)}:{number}: {len(line)} characters, and not up to {most}"
 
 
-def main():
+def main() -> None:
     folders = [(crate / name, most) for crate in sorted((TOP / "crates").iterdir()) for name, most in MOST.items()]
     told = [line for folder, most in folders for line in too_long(folder, most)]
     for line in told:

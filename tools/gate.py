@@ -5,12 +5,13 @@ usage: tools/gate.py [--edits CRATE ..] [-- COMMAND ..]
 
 Hands on all that `rt ci` prints, and keeps it in out/gate.log too. The table of times, and each line that tells what failed once
 more, stand before its last line, which is 'N passed, M failed'. With --edits it runs `rt must-fail CRATE ..` in its place: the
-must-fail edits of these crates alone. Where nothing failed, it then runs the command, which may use the programs that `rt ci` built,
-before that last line. Ends with the first status that is not 0. The environment's RT is the command to call in place of `rt`.
+must-fail edits of these crates alone. Where nothing failed, it then runs the command, which may use the programs that `rt ci`
+built, before that last line. Ends with the first status that is not 0. The environment's RT is the command to call in place of
+`rt`.
 
-`rt ci` begins a proof only where the most memory that it may take is free, so that a long one may wait for others, and processors
-stand idle. Where 5 GB are free for each processor, RT_JOBS is set to the number of processors, if the environment has none: so many
-proofs are then run side by side.
+`rt ci` begins a proof only where the most memory that it may take is free, so that a long one may wait for others, and
+processors stand idle. Where 5 GB are free for each processor, RT_JOBS is set to the number of processors, if the environment
+has none: so many proofs are then run side by side.
 """
 import argparse
 import os
@@ -19,6 +20,8 @@ import re
 import subprocess
 import sys
 import time
+from collections.abc import Mapping
+from typing import Any
 
 import watch
 
@@ -27,31 +30,39 @@ RT = os.environ.get("RT", "rt").split()
 LONGEST = 10
 REFUSALS = 20
 MOST_OF_A_PROOF = 5_000_000_000
+HEAD = "how long the prover worked on each crate, its tests and its must-fail edits, beside other crates (minutes:seconds)"
 
 
-def free_memory(system=pathlib.Path("/")):
+def number_of(pattern: str, path: pathlib.Path) -> int:
+    """The number that a pattern finds in a file; ValueError where there is none."""
+    found = re.search(pattern, path.read_text(), re.M)
+    if found is None:
+        raise ValueError(f"{path}: no {pattern}")
+    return int(found[1])
+
+
+def free_memory(system: pathlib.Path = pathlib.Path("/")) -> int:
     """The free memory in bytes, under the limit of the control group too."""
-    free = 1024 * int(re.search(r"^MemAvailable:\s+(\d+)", (system / "proc/meminfo").read_text(), re.M)[1])
+    free = 1024 * number_of(r"^MemAvailable:\s+(\d+)", system / "proc/meminfo")
     group = system / "sys/fs/cgroup"
     try:
-        limit, held = (group / "memory.max").read_text(), re.search(r"^anon (\d+)", (group / "memory.stat").read_text(), re.M)
-        return min(free, int(limit) - int(held[1]))
-    except (OSError, ValueError, TypeError):
+        return min(free, int((group / "memory.max").read_text()) - number_of(r"^anon (\d+)", group / "memory.stat"))
+    except (OSError, ValueError):
         return free
 
 
-def side_by_side(environment, processors, memory):
+def side_by_side(environment: Mapping[str, str], processors: int, memory: int) -> dict[str, str]:
     """The environment of `rt ci`, with the number of proofs to run side by side where there is memory for them all."""
     jobs = {} if memory < processors * MOST_OF_A_PROOF else {"RT_JOBS": str(processors)}
     return {**jobs, **environment}
 
 
-def edits_of(crate):
+def edits_of(crate: str) -> list[str]:
     """The names of a crate's must-fail edits, in the order in which they are tried."""
     return sorted(it.stem for it in (TOP / "crates" / crate / "must-fail").glob("*.edit"))
 
 
-def times_of_edits(running, crate):
+def times_of_edits(running: watch.Watch, crate: str) -> dict[str, float]:
     """The seconds of each of a crate's edits by name, where each was seen in a folder of its own, and else none.
 
     The edits are tried in order, and after several of them the crate itself once more.
@@ -63,29 +74,29 @@ def times_of_edits(running, crate):
     return dict(zip(names, spent)) if len(spent) == looks else {}
 
 
-def table(running, passed):
+def table(running: watch.Watch, passed: float) -> list[str]:
     """The lines of the table of times."""
     crates = dict.fromkeys(sight.crate for sight in running.spent)
-    lines = ["how long the prover worked on each crate, its tests and its must-fail edits, beside other crates (minutes:seconds)"]
+    lines = [HEAD]
     lines += [f"{'crate':14} {'proof':>7} {'tests':>7} {'edits':>7} {'how many edits':>16}"]
-    edits = {}
+    edits: dict[str, float] = {}
     for crate in sorted(crates):
         times = [running.seconds(crate, part) for part in ("proof", "tests", "edits")]
         proof, tests, tried = (watch.clock(it) if it else "-" for it in times)
         lines.append(f"{crate:14} {proof:>7} {tests:>7} {tried:>7} {len(edits_of(crate)) if times[2] else '-':>16}")
         edits |= {f"{crate}/{name}": spent for name, spent in times_of_edits(running, crate).items()}
-    longest = sorted(edits, key=edits.get, reverse=True)[:LONGEST]
+    longest = sorted(edits, key=lambda edit: edits[edit], reverse=True)[:LONGEST]
     if longest:
         lines += ["the longest edits:", *(f"{watch.clock(edits[it]):>7} {it}" for it in longest)]
     return [*lines, f"all of it took {watch.clock(passed)}"]
 
 
-def is_refusal(line):
+def is_refusal(line: str) -> bool:
     """Whether a line of rt's tells what failed, or an error of the prover."""
     return re.search(r"^FAILED:|NOT PROVED|NOT REFUSED|(^|: )error(\[|:)|no proof:", line) is not None
 
 
-def main():
+def main() -> None:
     parser = argparse.ArgumentParser(description=__doc__, formatter_class=argparse.RawDescriptionHelpFormatter)
     parser.add_argument("--edits", nargs="+", metavar="CRATE")
     parser.add_argument("after", nargs="*", metavar="COMMAND")
@@ -95,17 +106,18 @@ def main():
     log.parent.mkdir(exist_ok=True)
     began = time.monotonic()
     environment = side_by_side(os.environ, len(os.sched_getaffinity(0)), free_memory())
-    streams = {"stdin": subprocess.DEVNULL, "stdout": subprocess.PIPE, "stderr": subprocess.STDOUT}
+    streams: dict[str, Any] = {"stdin": subprocess.DEVNULL, "stdout": subprocess.PIPE, "stderr": subprocess.STDOUT}
     running = watch.Watch(command, TOP, env=environment, **streams)
-    last, refusals = "", []
+    last = ""
+    refusals: list[str] = []
     with open(log, "w", encoding="utf-8") as kept:
 
-        def hand_on(line):
+        def hand_on(line: str) -> None:
             for to in (sys.stdout, kept):
                 to.write(line)
                 to.flush()
 
-        for line in running.process.stdout:
+        for line in running.lines():
             hand_on(last)
             last = line
             if is_refusal(line):

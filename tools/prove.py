@@ -19,6 +19,8 @@ import re
 import subprocess
 import sys
 import time
+from collections.abc import Iterable
+from typing import Any
 
 import watch
 
@@ -41,16 +43,16 @@ ERROR = re.compile(
 ERASE = "\r\033[K" if sys.stderr.isatty() else ""
 
 
-def say(text):
+def say(text: str) -> None:
     print(f"{ERASE}{text}", file=sys.stderr, flush=True)
 
 
-def show(sights):
+def show(sights: Iterable[watch.Sight]) -> None:
     if ERASE and sights:
         print(f"{ERASE}proving {', '.join(sorted({it.crate for it in sights}))} ..", end="", file=sys.stderr, flush=True)
 
 
-def jobs():
+def jobs() -> int:
     """How many crates are proved at a time: one a processor, as far as memory goes."""
     free = 0
     for line in pathlib.Path("/proc/meminfo").read_text().splitlines():
@@ -66,13 +68,13 @@ SECTION = re.compile(r"(?:== |rt: chose --jobs \d+ for |crate (?=\w+: ))(\w+)(?:
 class Report:
     """Reads what `rt all check` or `rt run` prints, a section for each crate, and says a line for each."""
 
-    def __init__(self, running):
+    def __init__(self, running: watch.Watch) -> None:
         self.running = running
-        self.crate = None
-        self.lines = {None: []}
-        self.told = set()
+        self.crate: str | None = None
+        self.lines: dict[str | None, list[str]] = {None: []}
+        self.told: set[str | None] = set()
 
-    def read(self, line):
+    def read(self, line: str) -> None:
         found = SECTION.fullmatch(line)
         if found and found[1] != self.crate:
             # a section with no verdict is of a crate that broke off, and one with no line of a crate that rt left as it was
@@ -81,48 +83,48 @@ class Report:
             self.lines.setdefault(self.crate, [])
             return
         self.lines[self.crate].append(line.rstrip("\n"))
-        if line.startswith("logic="):
+        if self.crate and line.startswith("logic="):
             verdict = "proved" if line.startswith("logic=proved") else "NOT PROVED"
             self.tell(f"{verdict} in {watch.clock(self.running.seconds(self.crate, 'proof'))}")
 
-    def tell(self, verdict):
+    def tell(self, verdict: str) -> None:
         """Says the line of the crate whose section is read, once."""
         if self.crate not in (None, "summary", *self.told):
             self.told.add(self.crate)
             say(f"{self.crate:14} {verdict}")
 
-    def named(self, word):
+    def named(self, word: str) -> list[str]:
         """The crates of which rt's summary says this word."""
         summary = self.lines.get("summary", [])
         return [line.partition(":")[0] for line in summary if re.match(rf"\w+: {word}\b", line)]
 
-    def errors(self, crates):
+    def errors(self, crates: Iterable[str | None]) -> list[str]:
         """What is wrong, in the sections of these crates, or before the first section."""
         sections = [name for name in crates if name in self.lines] or [None]
         return [line for name in sections for line in self.lines[name] if ERROR.search(line)]
 
 
-def show_errors(log, lines):
+def show_errors(log: pathlib.Path, lines: list[str]) -> None:
     for line in lines[:ERRORS_SHOWN]:
         say(f"  {line[:300]}")
     more = len(lines) - ERRORS_SHOWN
     say(f"The log {os.path.relpath(log)} has {f'{more} lines of errors more, and ' if more > 0 else ''}all that the prover said.")
 
 
-def follow(command, folder, log, given=subprocess.DEVNULL):
+def follow(command: list[str], folder: pathlib.Path, log: pathlib.Path, given: Any = subprocess.DEVNULL) -> tuple[int, Report]:
     """Runs a command of rt's over crates, says the line of each, and gives the command's status and the report."""
-    streams = {"stdin": given, "stdout": subprocess.PIPE, "stderr": subprocess.STDOUT}
+    streams: dict[str, Any] = {"stdin": given, "stdout": subprocess.PIPE, "stderr": subprocess.STDOUT}
     running = watch.Watch(command, folder, show, **streams)
     report = Report(running)
     with open(log, "w", encoding="utf-8") as kept:
-        for line in running.process.stdout:
+        for line in running.lines():
             kept.write(line)
             kept.flush()
             report.read(line)
     return running.wait(), report
 
 
-def prove(folder, at_once, log):
+def prove(folder: pathlib.Path, at_once: int, log: pathlib.Path) -> bool:
     """Proves the crates of a folder and those that they stand on, and tells whether all are proved."""
     status, report = follow([*RT, "all", "check", "--jobs", str(at_once)], folder, log)
     if status == 0:
@@ -135,7 +137,7 @@ def prove(folder, at_once, log):
     return False
 
 
-def build(folder, log):
+def build(folder: pathlib.Path, log: pathlib.Path) -> bool:
     """Proves and builds the program of a folder, which is run once on the folder's own file of standard input."""
     began = time.monotonic()
     given = folder / "stdin"
@@ -149,7 +151,7 @@ def build(folder, log):
     return False
 
 
-def main():
+def main() -> None:
     parser = argparse.ArgumentParser(description=__doc__, formatter_class=argparse.RawDescriptionHelpFormatter)
     parser.add_argument("folder", type=pathlib.Path)
     parser.add_argument("--program", action="store_true")
