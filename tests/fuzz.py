@@ -3,10 +3,10 @@
 
 usage: tests/fuzz.py [--seconds N | --cases N] [--from SEED] [--case SEED] [--versions LIST] [--larger] [PROGRAM]
 
-Each case is made from its number, its seed: a scenario of the format's grammar, one that is spoiled in one place, an example or a
-scenario with bytes or numbers changed, or a command line that must be refused. The scenarios are of the versions of the format that
---versions lists, as 1,2,3, and any other version must be refused; without it, of those that the program reads. With --larger version 3
-has larger networks, as the plain simulator of bench/ reads it. Of each case this is asserted:
+Each case is made from its number, its seed: a scenario of the format's grammar, one that is spoiled in one place, an example or
+a scenario with bytes or numbers changed, or a command line that must be refused. The scenarios are of the versions of the
+format that --versions lists, as 1,2,3, and any other version must be refused; without it, of those that the program reads. With
+--larger version 3 has larger networks, as the plain simulator of bench/ reads it. Of each case this is asserted:
 
 - Each row of the trace is of an event that was pending, and is what the model's tables say; nothing is passed over, and nothing
   left (fuzz_replay.py).
@@ -143,6 +143,9 @@ def check_explained(run: Run, words: list[str], text: bytes, end: End) -> None:
     status, printed, told = run(["--explain", *words], text)
     line, _, more = told.partition(b"\n")
     is_same("--explain", End(status, printed, line + b"\n"), end)
+    if any(isinstance(word, bytes) for word in words):
+        is_same("--explain, where a word is no text", End(status, printed, more), End(status, printed, b""))
+        return
     if not more.endswith(b"\n") or status == 1 and not all(it.startswith(b"  ") for it in more.splitlines()):
         raise Wrong(f"--explain: {more[:200]!r} after the line")
 

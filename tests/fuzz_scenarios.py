@@ -245,7 +245,8 @@ def act(rng: Random, top: Table) -> None:
     if version == 3:
         lengths = lengths_of(version)
         top["draw"] = in_runs(rng, "draw", top["draw"], lambda it: act_fits(top, it, ROLES[:1]), min(most, lengths["draw"]))
-        top["session"] = in_runs(rng, "session", top["session"], lambda it: act_fits(top, it, ROLES[:3]), min(most, lengths["session"]))
+        sessions = min(most, lengths["session"])
+        top["session"] = in_runs(rng, "session", top["session"], lambda it: act_fits(top, it, ROLES[:3]), sessions)
     top["drop"] = drops(rng, top, network_of, dropped)
     if version >= 2:
         top["outage"] = outages(rng, top, network_of, small(rng, 1, 3, 9, 60) if drawn <= FEW and rng.random() < 0.7 else 0)

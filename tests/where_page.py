@@ -1,12 +1,12 @@
 #!/usr/bin/env python3
-"""Holds docs/PROMISES.md to the sources, and makes docs/WHERE.md of it: where each call that a row cites has its contract, its body,
-the definitions that the contract cites, and its proof.
+"""Holds docs/PROMISES.md to the sources, and makes docs/WHERE.md of it: where each call that a row cites has its contract, its
+body, the definitions that the contract cites, and its proof.
 
 usage: tests/where_page.py [--write]
 
 A row's second column cites calls (`Net::build`, `laws::one_path`, `advance`), after a colon clauses of them, and in brackets
-definitions. Each has to be there, and so has each script and test that the fourth column names; a promise has at most 300 characters.
-With --write the page is written anew. Ends with status 1 where one of these is not so, or the page is another.
+definitions. Each has to be there, and so has each script and test that the fourth column names; a promise has at most 300
+characters. With --write the page is written anew. Ends with status 1 where one of these is not so, or the page is another.
 """
 import argparse
 import pathlib
@@ -22,7 +22,10 @@ LONGEST = 300
 NAME = re.compile(r"`([A-Za-z_][\w:]*)`")
 HEAD = """# Where each promise stands
 
-For each call that [PROMISES.md](PROMISES.md) cites: the file with its contract and its body, the definitions that the contract cites, and its proof; below these, the definitions, rules and types that its rows name. Search a file for `fn` and the call's name, or for the name. Where no folder is named, the checker proves the call from its body and the contracts of what that calls. `tests/where_page.py --write` writes this page, and `make check` refuses it where it is stale.
+For each call that [PROMISES.md](PROMISES.md) cites: the file with its contract and its body, the definitions that the \
+contract cites, and its proof; below these, the definitions, rules and types that its rows name. Search a file for `fn` and \
+the call's name, or for the name. Where no folder is named, the checker proves the call from its body and the contracts of \
+what that calls. `tests/where_page.py --write` writes this page, and `make check` refuses it where it is stale.
 """
 TABLE = "| call | contract and body | definitions | proof |\n|---|---|---|---|\n"
 NAMES = "\n| definition, rule or type | file |\n|---|---|\n"
@@ -249,7 +252,8 @@ def section(title: str, cells: list[str], crates: tuple[str, ...], found: Source
 def page(text: str, found: Sources) -> str:
     """The page."""
     claim = text.partition(f"## {CLAIM}\n")[2].partition("\n## ")[0]
-    told = HEAD + section(CLAIM, [cell for line in claim.splitlines() if line.startswith("|") for cell in line.split("|")[2:4]], CLAIMED, found)
+    cells = [cell for line in claim.splitlines() if line.startswith("|") for cell in line.split("|")[2:4]]
+    told = HEAD + section(CLAIM, cells, CLAIMED, found)
     of_crates: dict[str, list[str]] = {}
     for crate, cells in rows(text):
         of_crates.setdefault(crate, []).append(cells[1])

@@ -1,5 +1,6 @@
 #!/usr/bin/env python3
-"""Tests of where_page.py: which rows of docs/PROMISES.md it refuses, and what it finds of a call. The sources are those of the crates."""
+"""Tests of where_page.py: which rows of docs/PROMISES.md it refuses, and what it finds of a call. The sources are those of the
+crates."""
 import pathlib
 import sys
 import unittest
@@ -39,8 +40,8 @@ class Rows(unittest.TestCase):
 
     def test_a_call_has_its_definitions_and_its_proof(self) -> None:
         [build] = self.found.find("srm_net", "Net::build")
-        self.assertIn("`IsNetwork` in [Network](../crates/srm_net/specs/Network.antt)", where.row_of(build, "", self.found).replace(
-            "`plain_network`, `IsTree`, `HasDelays`, `AreHosts`, ", ""))
+        row = where.row_of(build, "", self.found).replace("`plain_network`, `IsTree`, `HasDelays`, `AreHosts`, ", "")
+        self.assertIn("`IsNetwork` in [Network](../crates/srm_net/specs/Network.antt)", row)
         self.assertIn("(../crates/srm_net/proofs/net/Net/build)", where.row_of(build, "", self.found))
 
     def test_a_method_of_a_trait_has_the_traits_contract(self) -> None:

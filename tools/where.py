@@ -3,11 +3,11 @@
 
 usage: tools/where.py NAME.. [--crate CRATE]
 
-NAME is a function, or one of a type, a trait or a module: step_run, Net::distance, laws::one_path. For each that is found there are
-printed its file and line; its contract, as it stands there; each definition of this repository that the contract names, with its file
-and line and the comment above it; the folder with what was written of its proof, or that there is none, since the checker found the
-proof alone; and the rows of docs/PROMISES.md that name it. NAME may be a definition too, which is then printed: TellsRefusedFor. Ends
-with status 1 where a name is found nowhere.
+NAME is a function, or one of a type, a trait or a module: step_run, Net::distance, laws::one_path. For each that is found there
+are printed its file and line; its contract, as it stands there; each definition of this repository that the contract names,
+with its file and line and the comment above it; the folder with what was written of its proof, or that there is none, since the
+checker found the proof alone; and the rows of docs/PROMISES.md that name it. NAME may be a definition too, which is then
+printed: TellsRefusedFor. Ends with status 1 where a name is found nowhere.
 """
 import argparse
 import pathlib
@@ -26,8 +26,8 @@ DEFINED = r"^\s*(?:(?:abbrev|unfoldable|pub|record|data|type) )*{}\b.* :"
 
 
 class Function(NamedTuple):
-    """A function of a source file: its type or trait, if it has one, with the trait that the type has it by; its name; and its line,
-    counted from 1."""
+    """A function of a source file: its type or trait, if it has one, with the trait that the type has it by; its name; and its
+    line, counted from 1."""
 
     path: pathlib.Path
     owner: str
@@ -73,7 +73,8 @@ def contract(function: Function) -> list[str]:
 
 def imports(function: Function) -> dict[str, tuple[str, str, str]]:
     """What each name of its file stands for: a crate, a module of its specs/, and the name there."""
-    found = {}
+    found: dict[str, tuple[str, str, str]] = {}
+    names: str
     for crate, module, names, alias in IMPORT.findall(function.path.read_text(encoding="utf-8")):
         for name in filter(None, (it.strip() for it in names.split(","))):
             original, _, other = name.partition(" as ")
@@ -84,7 +85,7 @@ def imports(function: Function) -> dict[str, tuple[str, str, str]]:
 
 
 def places(path: pathlib.Path, name: str) -> Iterator[tuple[int, list[str]]]:
-    """Where a file of specs/ defines a name: the line, counted from 1, and the lines from the comment above it to the next gap."""
+    """Where a file of specs/ defines a name: the line, counted from 1, and the lines from the comment above it to the gap."""
     lines = path.read_text(encoding="utf-8").splitlines()
     for number, line in enumerate(lines):
         if re.match(DEFINED.format(re.escape(name)), line):

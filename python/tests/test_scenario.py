@@ -1,5 +1,6 @@
 """Scenarios: read and written without loss, built by verbs, and refused as the format refuses them."""
 import importlib.util
+import sys
 import tomllib
 from dataclasses import replace
 from pathlib import Path
@@ -15,6 +16,7 @@ FILES = sorted([*(ROOT / "examples").glob("*.toml"), *(ROOT / "tests/scenarios")
 
 def refusals():
     """The texts of tests/refusals.txt, each with what the program answers."""
+    sys.path.insert(0, str(ROOT / "tests"))  # for the modules that it uses
     spec = importlib.util.spec_from_file_location("refusals", ROOT / "tests/refusals.py")
     assert spec is not None and spec.loader is not None
     module = importlib.util.module_from_spec(spec)
@@ -157,7 +159,11 @@ def test_one_seed_gives_one_scenario_and_verbs_choose_apart():
     (lambda: scenario.chain(3).lose(rate=1.5), "rate is 1.5, and has to be from 0 to 1"),
     (lambda: scenario.chain(900).lose(rate=1), "`drop` has 89900 elements, and may have 4096"),
     (lambda: scenario.chain(3).constants(c3=1), "c3: the constants are c1, c2, d1 and d2"),
-    (lambda: scenario.chain(3).constants(c1=65), "65 in thousandths is 65000"),
+    (lambda: scenario.chain(3).constants(c1=1025), "1025 in thousandths is 1025000"),
+    (lambda: scenario.chain(3).constants(c1=2, c1_least=3), "`c1_least` is 3000, and has to be 0 to 2000"),
+    (lambda: scenario.chain(3).constants(d2=2, d2_most=1), "`d2_most` is 1000, and has to be 2000 to 1024000"),
+    (lambda: replace(scenario.chain(3).constants(c2_most=9), version=2).check(), "`c2_most` is no key here before version 3"),
+    (lambda: replace(scenario.chain(3), backoff=4).check(), "`backoff` is 4, and has to be 2 to 3"),
     (lambda: scenario.chain(3).ends(4), "draw 0: `at`"),
     (lambda: replace(scenario.chain(3).back(7), version=1).check(), "`back` is no key here in version 1"),
     (lambda: scenario.star(3).back(7, most=9), "one delay back for all links of a star"),
@@ -170,3 +176,18 @@ def test_what_is_refused_has_a_sentence_with_the_key_and_the_rule(make, told):
     with pytest.raises(ScenarioError) as fault:
         make()
     assert told in str(fault.value)
+
+
+def test_adapted_constants_are_written_in_version_3_and_read_again():
+    made = replace(scenario.chain(3).constants(c1=2, c1_least=0.5, d2=1, d2_most=33), backoff=3)
+    table = tomllib.loads(made.text())
+    assert {key: table[key] for key in ("version", "c1", "c1_least", "d2", "d2_most", "backoff")} == {
+        "version": 3, "c1": 2000, "c1_least": 500, "d2": 1000, "d2_most": 33000, "backoff": 3}
+    again = read_scenario(made.text())
+    assert (again.least("c1"), again.greatest("c1"), again.least("d2"), again.greatest("d2")) == (500, 2000, 1000, 33000)
+    assert replace(again, version=None).text() == made.text()
+
+
+def test_fixed_timers_need_no_version_3():
+    made = scenario.chain(3).constants(c1=64)
+    assert (made.least_version, made.constants(c1=65).least_version) == (1, 3)

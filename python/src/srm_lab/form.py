@@ -5,7 +5,7 @@ from typing import Any
 
 from .errors import ScenarioError
 from .limits import VERSIONS, Limits
-from .parts import ROLES
+from .parts import CONSTANTS, LIMITS, ROLES
 
 Check = Callable[[object], str | None]
 PARTS = ("link", "member", "draw", "session", "drop", "outage")
@@ -72,7 +72,9 @@ def top(limits: Limits, table: dict[str, Any]) -> dict[str, Key]:
     """The keys of the top table, which depend on whether a topology is named."""
     constant = Key(number(0, limits.constant))
     keys = {"version": Key(number(min(VERSIONS), max(VERSIONS))), "until": Key(number(1, limits.time)),
-            "c1": constant, "c2": constant, "d1": constant, "d2": constant}
+            **dict.fromkeys(CONSTANTS, constant)}
+    if limits.adaptive:
+        keys |= adaptive(limits, table)
     if "topology" in table:
         delay = number(1, limits.delay)
         keys |= {"topology": Key(word("chain", "star", "tree")), "size": Key(number(1, limits.nodes)),
@@ -86,6 +88,17 @@ def top(limits: Limits, table: dict[str, Any]) -> dict[str, Key]:
     keys["member"] = Key(array(limits.members), False)
     for part in ("draw", "session", "drop", *(["outage"] if limits.outages else [])):
         keys[part] = Key(array(limits.elements), False)
+    return keys
+
+
+def adaptive(limits: Limits, table: dict[str, Any]) -> dict[str, Key]:
+    """The keys of adaptive timers: what a constant may become is told beside its first value."""
+    keys = {"backoff": Key(number(2, 3), False)}
+    for name in CONSTANTS:
+        first = table.get(name)
+        if isinstance(first, int):
+            keys[f"{name}_least"] = Key(number(0, first), False)
+            keys[f"{name}_most"] = Key(number(first, limits.constant), False)
     return keys
 
 
@@ -113,6 +126,8 @@ def _hint(key: str, table: dict[str, Any]) -> str:
         return " but for a tree"
     if key in ("back", "outage"):
         return " in version 1"
+    if key == "backoff" or key in LIMITS:
+        return " before version 3"
     return ""
 
 

@@ -6,12 +6,13 @@ from .errors import ScenarioError
 
 @dataclass(frozen=True)
 class Limits:
-    """What one version of the format has room for, and whether it has links with two delays, and outages."""
+    """What one version of the format has room for, and whether it has links with two delays, outages and adaptive timers."""
 
     nodes: int
     members: int
     two_way: bool
     outages: bool
+    adaptive: bool = False
     elements: int = 4096
     pages: int = 256
     page: int = 65_535
@@ -27,6 +28,7 @@ class Limits:
 VERSIONS = {
     1: Limits(nodes=256, members=256, two_way=False, outages=False),
     2: Limits(nodes=1024, members=1024, two_way=True, outages=True),
+    3: Limits(nodes=1024, members=1024, two_way=True, outages=True, adaptive=True, constant=1_024_000),
 }
 NEWEST = VERSIONS[max(VERSIONS)]
 MOST_NODES = NEWEST.nodes

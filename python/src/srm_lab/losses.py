@@ -89,7 +89,7 @@ def earliest_repair(given: "Scenario", link: int) -> int | None:
 
     def answered(node: int) -> int:
         half = trips[node] // 2
-        return trips[node] + max(1, given.c1 * half // 1000) + max(1, given.d1 * half // 1000)
+        return trips[node] + max(1, given.least("c1") * half // 1000) + max(1, given.least("d1") * half // 1000)
 
     return min(later) + min(map(answered, behind))
 

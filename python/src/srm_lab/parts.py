@@ -2,6 +2,9 @@
 from dataclasses import dataclass
 
 ROLES = ("sender", "receiver", "late", "listener")
+CONSTANTS = ("c1", "c2", "d1", "d2")
+# how far members adapt them
+LIMITS = tuple(f"{name}_{end}" for end in ("least", "most") for name in CONSTANTS)
 
 
 @dataclass(frozen=True)

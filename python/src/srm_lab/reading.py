@@ -8,7 +8,7 @@ from .errors import ScenarioError
 from .form import check_keys
 from .limits import NEWEST
 from .link import Link
-from .parts import Draw, Drop, Member, Outage, Session
+from .parts import CONSTANTS, LIMITS, Draw, Drop, Member, Outage, Session
 from .rules import check_rules
 from .scenario import Scenario
 from .toml_text import read_toml
@@ -55,7 +55,7 @@ def from_table(table: dict[str, Any], comments: list[str] | None = None) -> Scen
         members=tuple(Member(**{**one, **({"pages": tuple(one["pages"])} if "pages" in one else {})})
                       for one in table.get("member", [])),
         until=table["until"],
-        **{name: table[name] for name in ("c1", "c2", "d1", "d2")},
+        **{name: table[name] for name in (*CONSTANTS, *LIMITS, "backoff") if name in table},
         draws=tuple(Draw(**one) for one in table.get("draw", [])),
         sessions=tuple(Session(**one) for one in table.get("session", [])),
         drops=tuple(Drop(**one) for one in table.get("drop", [])),

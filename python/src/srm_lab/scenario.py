@@ -21,7 +21,7 @@ from .errors import ScenarioError
 from .form import check_keys
 from .graphs import Delays
 from .limits import MOST_TIME, NEWEST, VERSIONS, within
-from .parts import Draw, Drop, Member, Outage, Session
+from .parts import CONSTANTS, LIMITS, Draw, Drop, Member, Outage, Session
 from .rules import check_rules
 from .tree import Tree
 
@@ -31,7 +31,7 @@ Ticks = int | tuple[int, int]
 
 @dataclass(frozen=True)
 class Scenario:
-    """What a run is given. Constants are in thousandths.
+    """What a run is given. Constants are in thousandths; members adapt each from its least to its greatest value.
 
     Where `until` is None, the end leaves time for 64 rounds of asking and repairing after the last draw, session
     message or join. Where `version` is None, the first version of the format that has room is written.
@@ -52,6 +52,15 @@ class Scenario:
     version: int | None = None
     comments: tuple[str, ...] = ()
     seed: int = 0
+    c1_least: int | None = None
+    c2_least: int | None = None
+    d1_least: int | None = None
+    d2_least: int | None = None
+    c1_most: int | None = None
+    c2_most: int | None = None
+    d1_most: int | None = None
+    d2_most: int | None = None
+    backoff: int = 2
 
     # ---- what it says ----------------------------------------------------------
 
@@ -67,10 +76,26 @@ class Scenario:
         far = max(nodes, key=first.__getitem__)
         trips = self.tree.round_trips(far)
         farthest = max(trips[node] for node in nodes)
-        constants = self.c1 + self.c2 + self.d1 + self.d2
+        constants = sum(self.greatest(name) for name in CONSTANTS)
         last = max([*(draw.at for draw in self.draws), *(session.at for session in self.sessions),
                     *(member.join for member in self.members)], default=0)
         return min(MOST_TIME, last + farthest + 64 * (2 + constants // 1000 + 1) * max(1, farthest) + 1)
+
+    def least(self, name: str) -> int:
+        """The least value of a constant, such as `c1`, that a member adapts it to."""
+        value = getattr(self, f"{name}_least")
+        return int(getattr(self, name) if value is None else value)
+
+    def greatest(self, name: str) -> int:
+        """The greatest value of a constant that a member adapts it to."""
+        value = getattr(self, f"{name}_most")
+        return int(getattr(self, name) if value is None else value)
+
+    @property
+    def is_adaptive(self) -> bool:
+        """Whether only a version with adaptive timers has room for its constants."""
+        given = any(getattr(self, name) is not None for name in LIMITS) or self.backoff != 2
+        return given or max(self.c1, self.c2, self.d1, self.d2) > VERSIONS[2].constant
 
     @property
     def least_version(self) -> int:
@@ -78,7 +103,9 @@ class Scenario:
         for version, limits in VERSIONS.items():
             fits = max(self.tree.nodes, self.tree.shorthand.get("degree", 0) + 1) <= limits.nodes
             two_way = limits.two_way or self.tree.is_even and "back" not in self.tree.shorthand
-            if fits and two_way and len(self.members) <= limits.members and (limits.outages or not self.outages):
+            timers = limits.adaptive or not self.is_adaptive
+            outages = limits.outages or not self.outages
+            if fits and two_way and timers and outages and len(self.members) <= limits.members:
                 return version
         return max(VERSIONS)
 
@@ -149,8 +176,11 @@ class Scenario:
         return random.Random(f"{verb} {self.seed if seed is None else seed}")
 
     def constants(self, **values: float | str) -> "Scenario":
-        """Sets `c1`, `c2`, `d1` or `d2`: a number with at most three decimals, or `log10` or `sqrt` of the members."""
-        unknown = set(values) - {"c1", "c2", "d1", "d2"}
+        """Sets `c1`, `c2`, `d1` or `d2`: a number with at most three decimals, or `log10` or `sqrt` of the members.
+
+        `c1_least`, `c1_most` and so on say how far members adapt a constant.
+        """
+        unknown = set(values) - {*CONSTANTS, *LIMITS}
         if unknown:
             raise ScenarioError(f"{', '.join(sorted(unknown))}: the constants are c1, c2, d1 and d2")
         return self._with(**{name: thousandths(str(value), len(self.members)) for name, value in values.items()})

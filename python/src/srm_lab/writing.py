@@ -5,6 +5,7 @@ from typing import TYPE_CHECKING, Any
 
 from .errors import ScenarioError
 from .limits import VERSIONS
+from .parts import CONSTANTS, LIMITS
 
 if TYPE_CHECKING:
     from .scenario import Scenario
@@ -17,7 +18,9 @@ def table_of(given: "Scenario") -> dict[str, Any]:
     """The keys and values of a scenario's file."""
     top: dict[str, Any] = {"version": given.least_version if given.version is None else given.version,
                            "until": given.end}
-    top |= {name: getattr(given, name) for name in ("c1", "c2", "d1", "d2")}
+    top |= {name: getattr(given, name) for name in CONSTANTS}
+    top |= {name: value for name in LIMITS if (value := getattr(given, name)) is not None}
+    top |= {"backoff": given.backoff} if given.backoff != 2 else {}
     top |= given.tree.shorthand or {"nodes": given.tree.nodes}
     parts = {
         "link": [] if given.tree.shorthand else [
