@@ -1,7 +1,9 @@
 //! What an active member knows, and how it answers.
 ghost use Rattle.std.specs.Prelude.{◌≡◌, ◌+◌, ◌-◌, ◌<◌, ◌≤◌, ◌^◌, [], ◌∷◌, ◌++◌, IsTrue, IfOk, OnOk, Some, None};
 ghost use Rattle.srm_net.specs.Limits.{end_of_time, greatest_distance};
+ghost use Rattle.std.specs.FinMap.Entries.{find};
 ghost use Rattle.srm_net.specs.Names;
+ghost use Rattle.srm_net.specs.Names.{name_cmp};
 ghost use Rattle.srm_member.specs.Backoff.{span_by};
 ghost use Rattle.srm_member.specs.Intervals.{greatest_adapted};
 ghost use Rattle.srm_member.specs.declared.told.Told.TheVariants.{Sent};
@@ -352,16 +354,18 @@ impl MemberState {
         }
     }
 
-    // A repair was sent: the member does not answer for the name for a while, and a pending repair timer ends.
-    fn rest(&mut self, at: u64, name: Name, who: u16) -> Result<(), AllocError>
+    // A repair was sent: the member does not answer for the name for a while, and a pending repair timer ends. Gives the end of the
+    // name's rest before.
+    fn rest(&mut self, at: u64, name: Name, who: u16) -> Result<Option<u64>, AllocError>
         requires { at < end_of_time }
+        ensures before { IfOk result (λ t. t ≡ find name_cmp name self.old.rests) }
         ensures ok { OnOk result (self.new ≡ with_rest at name who self.old) }
         ensures fixed { self.new.fixed ≡ self.old.fixed }
     {
         let base = self.base(name, who);
-        self.rests.put(name, at + 3 * base)?;
+        let before = self.rests.replace(name, at + 3 * base)?;
         self.pending.forget_repair(name);
-        Ok(())
+        Ok(before)
     }
 
     // Whether a name's rest has not ended.
@@ -371,19 +375,26 @@ impl MemberState {
         at < self.rests.get(name).unwrap_or(0)
     }
 
-    // A repair of a name is heard: it ends the delay of a pending repair timer, and at rest is a duplicate.
-    fn see_repair(&mut self, at: u64, name: Name)
+    // A repair of a name by this member is heard: it ends the delay of a pending repair timer, and at rest is a duplicate. Then the
+    // member rests.
+    fn see_repair(&mut self, at: u64, name: Name, who: u16) -> Result<(), AllocError>
         requires { at < end_of_time }
-        ensures { self.new ≡ with_repair_seen at name self.old }
+        ensures ok { OnOk result (self.new ≡ with_rest at name who (with_repair_seen at name self.old)) }
+        ensures fixed { self.new.fixed ≡ self.old.fixed }
     {
         match self.pending.repair(name) {
-            Some(repair) => self.take_in_repair_delay(at, repair),
+            Some(repair) => {
+                self.take_in_repair_delay(at, repair);
+                self.rest(at, name, who)?;
+            }
             None => {
-                if self.is_at_rest(at, name) {
+                let before = self.rest(at, name, who)?;
+                if at < before.unwrap_or(0) {
                     self.repair_interval.hear_duplicate();
                 }
             }
         }
+        Ok(())
     }
 
     // Takes in a repair of a name, by this member.
@@ -403,8 +414,7 @@ impl MemberState {
         if matches!(react.told, Told::Skip) {
             return Ok(react);
         }
-        self.see_repair(at, name);
-        self.rest(at, name, who)?;
+        self.see_repair(at, name, who)?;
         Ok(react)
     }
 
