@@ -147,7 +147,7 @@ unfolding plain_of
 plain_made l links members drops m same = λ i. record {
   until = l.until;
   constants = l.constants;
-      room = l.room;
+  room = l.room;
   nodes = l.nodes;
   links = m.links_are i;
   members = m.members_are i;

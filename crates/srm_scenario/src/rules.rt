@@ -23,7 +23,11 @@ fn index_rule(key: Key, version: Version) -> Rule
 fn constant_rule(key: Key, version: Version) -> Rule
     ensures { result ≡ constant_rule key version }
 {
-    Rule::new(key, Kind::Whole(0, version.greatest_constant()), Need::Required)
+    Rule::new(
+        key,
+        Kind::Whole(0, version.greatest_constant()),
+        Need::Required,
+    )
 }
 
 /// A key that a version has or has not.

@@ -188,7 +188,10 @@ fn is_top(table: &Table) -> bool
     let version = Version::of(number(table, Key::Version));
     let shaped = has_key(table, Key::Topology);
     let tree = says(table, Key::Topology, "tree");
-    fits(table, &top_rules(version, constants_of(table), shaped, tree))
+    fits(
+        table,
+        &top_rules(version, constants_of(table), shaped, tree),
+    )
 }
 
 /// What the table holds, if it is as a top table must be.
