@@ -113,7 +113,7 @@ def test_file_of_edges(write, tmp_path):
     ("star --size 5 --delay-to 2000", "one delay for all links of a star"),
     ("chain --size 5 --delay 0", "delay of link 0 is 0"),
     ("chain --size 5 --delay 9 --delay-to 8", "greatest delay is 8"),
-    ("chain --size 5 --c1 65", "65 in thousandths is 65000"),
+    ("chain --size 5 --c1 1025", "1025 in thousandths is 1025000"),
     ("chain --size 5 --c1 -1", "-1 in thousandths is -1000"),
     ("chain --size 5 --c2 0.0005", "three decimals"),
     ("chain --size 5 --c2 many", "no number"),
