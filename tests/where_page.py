@@ -187,6 +187,16 @@ def faults_of_row(crate: str, cells: list[str], found: Sources) -> Iterator[str]
             yield f"there is no test {name}"
 
 
+def defining(file: pathlib.Path, name: str) -> pathlib.Path:
+    """The file that defines what this file of specs/ defines or passes on from another."""
+    text = file.read_text(encoding="utf-8")
+    for crate, module, names in re.findall(r"^pub use Rattle\.(srm_\w+)\.specs\.([\w.]+?)\.\{([^}]*)\}", text, re.M):
+        other = TOP / "crates" / crate / "specs" / (module.replace(".", "/") + ".antt")
+        if name in re.split(r"[,\s]+", names) and other.is_file():
+            return defining(other, name)
+    return file
+
+
 def definitions(call: Call) -> str:
     """Links to the files of the definitions that a contract cites."""
     text = call.path.read_text(encoding="utf-8")
@@ -199,9 +209,9 @@ def definitions(call: Call) -> str:
         file = TOP / "crates" / crate / "specs" / (module.replace(".", "/") + ".antt")
         if "declared" in module or not file.is_file():
             continue
-        if used := [it for it in kept if it in words]:
-            place = told.setdefault(f"../{file.relative_to(TOP)}", "")
-            told[f"../{file.relative_to(TOP)}"] = place + (", " if place else "") + ", ".join(f"`{it}`" for it in used)
+        for name in (it for it in kept if it in words):
+            link = f"../{defining(file, name).relative_to(TOP)}"
+            told[link] = f"{told[link]}, `{name}`" if link in told else f"`{name}`"
     return "; ".join(f"{names} in [{pathlib.Path(file).stem}]({file})" for file, names in told.items())
 
 

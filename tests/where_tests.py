@@ -86,7 +86,8 @@ class Where(unittest.TestCase):
         self.assertIn(["a", "}"], lines)
         self.assertIn(["sum_of", "crates/srm_sum/specs/Sums.antt:3  all numbers of an adder and one more"], lines)
         self.assertIn(["most", "crates/srm_sum/specs/Sums.antt:6"], lines)
-        self.assertIn(["proof", "no folder: the checker found it alone"], lines)
+        alone = "no folder: the checker proves it from its body and the contracts of what that calls; ask for those by name"
+        self.assertIn(["proof", alone], lines)
         self.assertIn(["promise", "docs/PROMISES.md:5  A sum is a sum."], lines)
 
     def test_method_of_a_trait_has_the_contract_of_the_trait_and_its_own_proof(self) -> None:

@@ -21,6 +21,8 @@ CRATES = TOP / "crates"
 FUNCTION = re.compile(r"^\s*(?:pub(?:\(crate\))? )?fn (\w+)")
 OWNER = re.compile(r"^(?:impl(?:<.*?>)? (?:([\w:]+)(?:<.*>)? for )?|(?:pub(?:\(crate\))? )?trait )(\w+)")
 IMPORT = re.compile(r"ghost use Rattle\.(\w+)\.specs\.([\w.]+?)(?:\.\{([^}]*)\}| as (\w+));")
+# a file of specs/ that passes on what another one defines
+PASSED_ON = re.compile(r"^pub use Rattle\.(\w+)\.specs\.([\w.]+?)\.\{([^}]*)\}", re.M)
 CLAUSE = re.compile(r"^\s*(?:requires|ensures|//)")
 DEFINED = r"^\s*(?:(?:abbrev|unfoldable|pub|record|data|type) )*{}\b.* :"
 
@@ -99,9 +101,14 @@ def places(path: pathlib.Path, name: str) -> Iterator[tuple[int, list[str]]]:
 def definition(crate: str, module: str, name: str) -> str | None:
     """Where a definition of a crate of this repository stands, with the comment above it."""
     path = CRATES / crate / "specs" / (module.replace(".", "/") + ".antt")
-    for number, lines in places(path, name) if path.exists() else ():
+    if not path.exists():
+        return None
+    for number, lines in places(path, name):
         said = " ".join(it.strip().lstrip("-").strip() for it in lines if it.strip().startswith("--"))
         return f"{path.relative_to(TOP)}:{number}  {said}".rstrip()
+    for other, further, names in PASSED_ON.findall(path.read_text(encoding="utf-8")):
+        if name in re.split(r"[,\s]+", names):
+            return definition(other, further, name)
     return None
 
 
@@ -121,7 +128,7 @@ def proof(function: Function) -> str:
     folder = function.crate / "proofs" / module
     found = folder.glob(f"{function.owner}*/{function.name}") if function.owner else folder.glob(function.name)
     told = ", ".join(f"{it.relative_to(TOP)}/" for it in sorted(found) if it.is_dir())
-    return told or "no folder: the checker found it alone"
+    return told or "no folder: the checker proves it from its body and the contracts of what that calls; ask for those by name"
 
 
 def promises(function: Function) -> Iterator[str]:
