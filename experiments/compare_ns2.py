@@ -4,142 +4,31 @@ usage: compare_ns2.py PROGRAM [--only FAMILY] [--jobs N] [--table FILE]
 
 Timers have no random part in the families of FAMILIES, so that each request and repair has its one tick in both
 programs. Where they differ, rules of srm_lab are put into ns-2's agent until they do not: the fewest that do so
-explain the difference. Each rule has a scenario in ns2/differences that shows it. Last, a star with random timers is
-compared by its mean number of requests, and run times stand side by side. Ends with status 1 if a difference stays
-unexplained.
+explain the difference. Families with adaptive timers follow (compare_adaptive.py), whose random words ns-2 is given.
+Each rule has a scenario in ns2/differences that shows it. Last, a star with random timers is compared by its mean
+number of requests, and run times stand side by side. Ends with status 1 if a difference stays unexplained.
 """
 import argparse
 import csv
 import os
 import random
-import resource
-import subprocess
 import sys
-import tempfile
-from collections.abc import Callable, Iterable, Sequence
+from collections import Counter
+from collections.abc import Callable, Sequence
 from concurrent.futures import ThreadPoolExecutor
-from dataclasses import dataclass
 from functools import partial
 from itertools import combinations
 from pathlib import Path
 from typing import Any
 
-from srm_lab import Scenario, read_scenario, tree
+from compare_adaptive import compare_adaptive
+from ns2_agent import ADAPTIVE, ALL, HERE, RULES, Programs, Result, children_seconds, counts, row_of, simultaneous, tell
+from srm_lab import Scenario, tree
 from srm_lab.cli import build, parser
 from srm_lab.link import Link
 from srm_lab.losses import links_in_use
 from srm_lab.parts import Draw, Drop, Member, Session
 from srm_lab.statistics import Interval, difference, interval
-from srm_lab.tables import read_trace
-
-HERE = Path(__file__).resolve().parent
-RULES = {
-    "arrivals-first": "of what happens at one tick, arrivals come before own timers; ns-2 takes the order of setting",
-    "hold-off-by-source": "the hold-off after a repair is three times the distance to the source (at the source itself "
-                          "to the requester or repairer), not to the requester",
-    "back-off-at-once": "a loss learnt from a request backs off at once; ns-2 sets a first timer",
-    "hold-off-when-held": "a repair heard by a member that holds the packet and has no timer starts a hold-off",
-    "hold-off-extended": "a further repair during a hold-off starts it anew",
-    "ten-doublings": "request timers double up to ten times, and not up to five",
-}
-
-
-@dataclass
-class Result:
-    """What a run did: (time, member, ask or answer, number) sent, and (member, number) lost with its two times."""
-
-    sent: list[tuple[float, int, str, int]]
-    losses: dict[tuple[int, int], tuple[float, float | None]]
-    seconds: float = 0.0  # of processor time, from the start of the program to its end
-    of_run: float = 0.0  # those of them that ns-2 took for the run, without its start and its setup
-
-    def same(self, other: "Result") -> bool:
-        return self.sent == other.sent and self.losses == other.losses
-
-
-class Programs:
-    """Both programs, each running one scenario's text."""
-
-    def __init__(self, program: str):
-        self.program = program
-
-    def ours(self, text: str, seed: int = 0) -> Result:
-        begin = children_seconds()
-        trace = self._srm_lab(text, seed, "trace")
-        spent = children_seconds() - begin
-        sent = [(row.time, row.member, row.cause, int(row.ref.split("/")[2])) for row in read_trace(trace.splitlines())
-                if row.cause in ("ask", "answer") and row.result == "sent"]
-        losses: dict[tuple[int, int], tuple[float, float | None]] = {}
-        for row in csv.DictReader(self._srm_lab(text, seed, "losses").splitlines()):
-            recovered = None if row["recovered"] == "-" else int(row["recovered"])
-            losses[int(row["member"]), int(row["number"])] = (int(row["detected"]), recovered)
-        return Result(sorted(sent), losses, spent)
-
-    def _srm_lab(self, text: str, seed: int, show: str) -> str:
-        done = subprocess.run([self.program, "--seed", str(seed), "--show", show], input=text.encode(),
-                              capture_output=True, check=False)
-        if done.returncode:
-            raise SystemExit(f"{self.program}: {done.stderr.decode().strip()}")
-        return done.stdout.decode()
-
-    def ns2(self, text: str, rules: Iterable[str] = (), seed: int = 1,
-            cycle: tuple[int, int] | None = None) -> Result:
-        with tempfile.NamedTemporaryFile("w", suffix=".txt") as given:
-            given.write(ns2_input(text, rules, seed, cycle))
-            given.flush()
-            begin = children_seconds()
-            done = subprocess.run(["ns", HERE / "ns2/srm.tcl", given.name], capture_output=True, text=True, check=False)
-            spent = children_seconds() - begin
-        if done.returncode or "cost" not in done.stdout:
-            raise SystemExit(f"ns: {done.stderr.strip() or done.stdout.strip()}")
-        result = Result([], {}, spent)
-        for line in done.stdout.splitlines():
-            words = line.split()
-            if words[0] == "event":
-                result.sent.append((whole(words[1]), int(words[2]), words[3], int(words[4])))
-            elif words[0] == "lost":
-                result.losses[int(words[1]), int(words[2])] = (whole(words[3]), None)
-            elif words[0] == "recovered":
-                key = int(words[1]), int(words[2])
-                result.losses[key] = (result.losses[key][0], whole(words[3]))
-            elif words[0] == "cost":
-                result.of_run = float(words[1])
-        result.sent.sort()
-        return result
-
-
-def children_seconds() -> float:
-    """The processor time of all programs that this one ran to their ends; other work of the machine does not count."""
-    usage = resource.getrusage(resource.RUSAGE_CHILDREN)
-    return usage.ru_utime + usage.ru_stime
-
-
-def whole(text: str) -> float:
-    """A time of ns-2: a whole number where timers have no random part."""
-    number = float(text)
-    return int(number) if number == int(number) else number
-
-
-def ns2_input(text: str, rules: Iterable[str], seed: int, cycle: tuple[int, int] | None = None) -> str:
-    """A scenario's text as ns2/srm.tcl reads it; `cycle` is (link, K) in place of the drops of every K-th draw."""
-    given = read_scenario(text)
-    draws = sorted(draw.at for draw in given.draws)
-    every = draws[1] - draws[0] if len(draws) > 1 else 1
-    assert draws == [place * every for place in range(len(draws))], "draws have to be equally far apart, from tick 0"
-    lines = ["constants " + " ".join(str(getattr(given, name) / 1000) for name in ("c1", "c2", "d1", "d2")),
-             f"seed {seed}", f"end {given.end}"]
-    assert given.tree.is_even, "ns-2 is given one delay for a link"
-    lines += [f"link {link.a} {link.b} {link.delay}" for link in given.tree.links]
-    lines += [f"member {member.node}" for member in given.members]
-    lines += [f"draws {len(draws)} {every}"]
-    lines += [f"session {session.at}" for session in given.sessions]
-    if cycle:
-        lines.append(f"cycle {cycle[0]} {cycle[1]}")
-    else:
-        links = [drop.link for drop in given.drops]
-        assert len(links) == len(set(links)), "ns-2 drops one packet at a link"
-        lines += [f"drop {drop.link} {drop.count}" for drop in given.drops]
-    return "\n".join([*lines, *(f"rule {rule}" for rule in rules), ""])
 
 
 # ---- families ------------------------------------------------------------------
@@ -231,21 +120,6 @@ def explain(programs: Programs, text: str, ours: Result) -> tuple[str, ...] | No
     return None
 
 
-def simultaneous(text: str, ours_trace: str) -> bool:
-    """Whether two packets about one name come to a member at one tick: then srm_lab takes them by sender."""
-    seen: set[tuple[int, int, str]] = set()
-    about: dict[str, str] = {}
-    for row in read_trace(ours_trace.splitlines()):
-        if row.sent != "-":
-            about[row.sent] = row.ref
-        if row.cause in ("request", "repair", "data"):
-            key = row.time, row.member, about[row.ref]
-            if key in seen:
-                return True
-            seen.add(key)
-    return False
-
-
 def compare_families(programs: Programs, only: str, rows: list[list[Any]]) -> int:
     """Runs every scenario of every family; how many differences stay unexplained."""
     open_ones = 0
@@ -253,7 +127,7 @@ def compare_families(programs: Programs, only: str, rows: list[list[Any]]) -> in
         if only not in make.__name__:
             continue
         rng = random.Random(make.__name__)
-        told: dict[str, int] = {}
+        told: Counter[str] = Counter()
         for place in range(count):
             text = make(rng)
             ours, theirs = programs.ours(text), programs.ns2(text)
@@ -262,23 +136,15 @@ def compare_families(programs: Programs, only: str, rows: list[list[Any]]) -> in
                 rules = explain(programs, text, ours)
                 if rules is not None:
                     why = " + ".join(rules)
-                elif simultaneous(text, programs._srm_lab(text, 0, "trace")):
+                elif simultaneous(programs.srm_lab(text, 0, "trace")):
                     why = "packets at one tick"
                 else:
                     why, open_ones = "unexplained", open_ones + 1
                     sys.stderr.write(f"{make.__name__} {place}:\n{text}\n")
-            told[why] = told.get(why, 0) + 1
-            rows.append([make.__name__, place, len(ours.losses), *counts(ours), *counts(theirs), why,
-                         f"{ours.seconds:.4f}", f"{theirs.seconds:.4f}", f"{theirs.of_run:.4f}"])
-        print(f"{make.__name__.replace('_', ' ')}: {count} scenarios; "
-              + ", ".join(f"{number} {why}" for why, number in sorted(told.items(), key=lambda one: -one[1])))
+            told[why] += 1
+            rows.append(row_of(make.__name__, place, ours, theirs, why))
+        tell(make.__name__, told)
     return open_ones
-
-
-def counts(result: Result) -> tuple[int, int]:
-    """How many requests and how many repairs were sent."""
-    asks = sum(1 for one in result.sent if one[2] == "ask")
-    return asks, len(result.sent) - asks
 
 
 def compare_differences(programs: Programs) -> int:
@@ -287,15 +153,16 @@ def compare_differences(programs: Programs) -> int:
     There both programs differ; with all rules of srm_lab ns-2 does the same; with all but this one it does not.
     """
     wrong = 0
-    for rule, told in RULES.items():
+    for rule, told in ALL.items():
         path = HERE / f"ns2/differences/{rule}.toml"
         text = path.read_text()
-        ours, theirs = programs.ours(text), programs.ns2(text)
-        others = [other for other in RULES if other != rule]
-        right = (not ours.same(theirs) and programs.ns2(text, RULES).same(ours)
-                 and not programs.ns2(text, others).same(ours))
+        rules, words = (ALL, 0) if rule in ADAPTIVE else (RULES, None)
+        ours, theirs = programs.ours(text), programs.ns2(text, words=words)
+        others = [other for other in rules if other != rule]
+        right = (not ours.same(theirs) and programs.ns2(text, rules, words=words).same(ours)
+                 and not programs.ns2(text, others, words=words).same(ours))
         wrong += not right
-        alone = " alone" if programs.ns2(text, [rule]).same(ours) else " and others"
+        alone = " alone" if programs.ns2(text, [rule], words=words).same(ours) else " and others"
         print(f"{rule}: {told}")
         print(f"    {path.name}: srm_lab sends {said(ours)}, ns-2 {said(theirs)}; "
               + (f"with this rule{alone} ns-2 does as srm_lab" if right else "NOT AS STATED"))
@@ -362,6 +229,7 @@ def main() -> int:
     programs = Programs(options.program)
     rows: list[list[Any]] = []
     wrong = compare_families(programs, options.only, rows)
+    wrong += compare_adaptive(programs, options.only, options.jobs, rows)
     if options.table:
         options.table.parent.mkdir(parents=True, exist_ok=True)
         with open(options.table, "w", newline="") as out:

@@ -22,7 +22,7 @@ from pathlib import Path
 from srm_lab import Scenario, tree
 from srm_lab.parts import Draw, Drop, Member
 
-from compare_ns2 import HERE, ns2_input
+from ns2_agent import HERE, ns2_input
 
 SIZES = (64, 256, 1024)
 DRAWS, SPACING = 200, 1000

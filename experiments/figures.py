@@ -20,6 +20,7 @@ matplotlib.rcParams["svg.hashsalt"] = "srm_lab"  # the same table gives the same
 matplotlib.rcParams["svg.fonttype"] = "none"  # letters stay letters
 matplotlib.rcParams["font.size"] = 10
 
+import adaptive_figures as rounds  # noqa: E402
 import matplotlib.pyplot as plot  # noqa: E402
 from matplotlib.axes import Axes  # noqa: E402
 from matplotlib.figure import Figure  # noqa: E402
@@ -292,12 +293,65 @@ def crossings(label: Annotation, offset: tuple[float, float], taken: list[Path],
             + sum(box.overlaps(other) for other in boxes))
 
 
+def over_rounds(tables: list[pandas.DataFrame], words: dict[str, str]) -> Figure:
+    """Requests, repairs and delay over rounds of loss, of fixed and adaptive timers; the second table is ns-2's."""
+    figure, grid = plot.subplots(3, 2, figsize=(10, 10.5), sharex=True, sharey="row")
+    several = [rounds.with_rounds(table) for table in tables]
+    looks = {("srm_lab", False): (BLUE, "o"), ("srm_lab", True): (ORANGE, "s"),
+             ("ns-2", False): (GREY, "v"), ("ns-2", True): (PURPLE, "^")}
+    for (left, right), column in zip(grid, rounds.MEASURES):
+        for place, ((program, adaptive), (colour, mark)) in enumerate(looks.items()):
+            if program == "ns-2" and len(several) < 2:
+                continue
+            table = several[program == "ns-2"]
+            one = table[table["adaptive"] == adaptive]
+            kind = "adaptive timers" if adaptive else "fixed timers"
+            if program == "srm_lab":
+                rounds.medians(left, one, column, colour, kind)
+            rounds.blocks(right, one, column, (colour, mark, f"{program}, {kind}"), 2.5 * (place - 1.5))
+        left.set_ylabel(label_of(column))
+        left.set_ylim(bottom=0)
+        for axes in (left, right):
+            axes.tick_params(labelbottom=True, labelleft=True)
+    for axes, told in zip(grid[2], ("round", f"round: means of {rounds.BLOCK} rounds")):
+        axes.set_xlabel(told)
+    name_ticks(grid[2][1].xaxis, range(0, int(several[0]["round"].max()) + 1, rounds.BLOCK))
+    finish(figure, list(grid.flat), tables, -0.2)
+    for axes in grid[:2].flat:
+        axes.get_legend().remove()  # that of the panels below is theirs too
+    return figure
+
+
+def adapted_over_size(tables: list[pandas.DataFrame], words: dict[str, str]) -> Figure:
+    """Requests, repairs and delay against what `over` names, of fixed and adaptive timers after some rounds."""
+    table = rounds.with_rounds(tables[0])
+    settled = table[table["round"] > rounds.SETTLED]
+    figure, parts = plot.subplots(3, 1, figsize=(6.4, 10.2), sharex=True)
+    over = words.get("over", "members")
+    for axes, column in zip(parts, rounds.MEASURES):
+        for adaptive, colour, mark in ((False, BLUE, "o"), (True, ORANGE, "s")):
+            one = settled[settled["adaptive"] == adaptive]
+            means(axes, one, over, column, (colour, mark, "adaptive timers" if adaptive else "fixed timers"))
+        axes.set_ylabel(label_of(column))
+        axes.set_ylim(bottom=0)
+        axes.tick_params(labelbottom=True)
+    name_ticks(parts[2].xaxis, sorted(table[over].unique()))
+    last = int(table["round"].max())
+    parts[2].set_xlabel(f"{label_of(over)}; rounds {rounds.SETTLED + 1} to {last}")
+    finish(figure, parts, tables, -0.25)
+    for axes in parts[:2]:
+        axes.get_legend().remove()
+    return figure
+
+
 DRAWS = {draw.__name__: draw for draw in (
-    over_session_size, lines, requests_in_a_star, chain_of_sure_timers, requests_against_delay)}
+    over_session_size, lines, requests_in_a_star, chain_of_sure_timers, requests_against_delay, over_rounds,
+    adapted_over_size)}
 NEEDS = {
     "over_session_size": Needs(1), "lines": Needs(4), "requests_in_a_star": Needs(2, ("size", "c1", "c2")),
     "chain_of_sure_timers": Needs(1, ("drop_link", "delay", "c1", "d1")),
     "requests_against_delay": Needs(2, ("size", "drop_link", "c1", "c2")),
+    "over_rounds": Needs(2, ("adaptive", "rounds")), "adapted_over_size": Needs(1, ("adaptive", "rounds", "members")),
 }
 
 

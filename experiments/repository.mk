@@ -64,5 +64,5 @@ dist: $(PROGRAM) ## packs program, man page, completions, the Python package, ex
 	@echo $(PACKED)/$(DIST).tar.gz
 
 .PHONY: experiments-figures
-experiments-figures: ## puts the figures of the last `make experiments` where docs/EXPERIMENTS.md shows them
-	install -D -m 644 -t docs/figures experiments/results/figures/*.svg
+experiments-figures: ## puts the figures of the last `make experiments`, also of CONFIG=adaptive.yaml, where docs/EXPERIMENTS.md shows them
+	install -D -m 644 -t docs/figures $(wildcard experiments/results/figures/*.svg experiments/results-adaptive/figures/*.svg)

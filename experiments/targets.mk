@@ -49,5 +49,5 @@ experiments-slurm: $(SRM_LAB) ## the same, its runs submitted to Slurm: make exp
 		--cluster "sbatch --parsable --cpus-per-task={threads} --output=$(abspath experiments)/.snakemake/slurm-%j.log"
 
 .PHONY: compare-ns2
-compare-ns2: $(SRM_LAB) ## runs 260 scenarios in srm_lab and in ns-2, and explains each difference
+compare-ns2: $(SRM_LAB) ## runs 320 scenarios in srm_lab and in ns-2, and explains each difference
 	cd experiments && PYTHONPATH=$(abspath python/src) $(PYTHON) -u compare_ns2.py $(abspath $(SRM_LAB)) --table results/compare-ns2.csv

@@ -14,13 +14,21 @@
 #   drop LINK NUMBER           that link drops that draw; one for a link
 #   cycle LINK K               that link drops draws 0, K, 2 K and so on
 #   rule NAME                  one of srm_lab's rules in place of ns-2's: see below
+#   adaptive G                 Agent/SRM/Adaptive, for a group of G members, with what adaptive.tcl adds to it
+#   limits C1 C1 C2 C2 ..      of it, least and most of each constant, in place of those for a group of G
+#   words MEMBER WORD ..       the member's random words, one for each timer, in place of ns-2's random numbers
 #
 # Distances are given (the sum of the delays), and no session message is sent but those listed. Printed are
 # `event TIME MEMBER ask|answer NUMBER` for each request and repair that is sent, `lost MEMBER NUMBER TIME` and
-# `recovered MEMBER NUMBER TIME`, and last `cost SECONDS`, the processor time of the run without its setup.
+# `recovered MEMBER NUMBER TIME`, and last `cost SECONDS`, the processor time of the run without its setup. With
+# adaptive timers also `constants TIME MEMBER C1 C2 D1 D2` where they may have changed.
 
-set links {}; set hosts {}; set sessions {}; set drops {}; set seed 1
-foreach rule {arrivals-first hold-off-by-source back-off-at-once hold-off-when-held hold-off-extended ten-doublings} {
+set links {}; set hosts {}; set sessions {}; set drops {}; set seed 1; set adaptive 0; set limits {}
+foreach rule {
+    arrivals-first hold-off-by-source back-off-at-once hold-off-when-held hold-off-extended ten-doublings
+    averaged-once half-step-first duplicates-at-rest duplicates-ignored every-recovery present-constants
+    sent-first-alone six-triplings whole-thousandths
+} {
     set rules($rule) 0
 }
 set input [open [lindex $argv 0]]
@@ -36,6 +44,9 @@ while {[gets $input words] >= 0} {
         drop { lappend drops [list [lindex $words 1] 1000000000 [lindex $words 2]] }
         cycle { lappend drops [list [lindex $words 1] [lindex $words 2] 0] }
         rule { set rules([lindex $words 1]) 1 }
+        adaptive { set adaptive [lindex $words 1] }
+        limits { set limits [lrange $words 1 end] }
+        words { set given([lindex $words 1]) [lrange $words 2 end] }
         default { error "what is $words?" }
     }
 }
@@ -78,7 +89,8 @@ proc arriving {kind node number} {         ;# the sender of a packet that arrive
 }
 
 # ---- the agents: logging and given distances; then the rules that were asked for
-Class SRM/request/Logged -superclass SRM/request
+set kind [expr {$adaptive ? "/Adaptive" : ""}]
+Class SRM/request/Logged -superclass SRM/request$kind
 SRM/request/Logged instproc set-params {sender number} {
     $self next $sender $number
     $self instvar nid_
@@ -113,9 +125,9 @@ SRM/request/Logged instproc hold-off base {
     set ignore_ [expr {[$ns_ now] + 3 * $base}]
     set clear_ [$ns_ at $ignore_ "$agent_ clear $self $sender_ $msgid_"]
 }
-Class SRM/repair/Logged -superclass SRM/repair
+Class SRM/repair/Logged -superclass SRM/repair$kind
 SRM/repair/Logged instproc send-repair {} {
-    global member rules
+    global member rules adaptive
     $self instvar nid_ msgid_ ns_ eventID_ waited_
     if {$rules(arrivals-first) && ![info exists waited_]} {
         set waited_ 1
@@ -124,6 +136,7 @@ SRM/repair/Logged instproc send-repair {} {
     }
     puts "event [tick [now]] $member($nid_) answer $msgid_"
     announce repair $nid_ $msgid_
+    if {$adaptive} { $self answers }
     $self next
 }
 SRM/repair/Logged instproc base {} {       ;# the distance that its hold-off is three times of
@@ -151,7 +164,7 @@ SRM/repair/Logged instproc rest-only {} {  ;# holds off without a timer
 Class SRM/session/Silent -superclass SRM/session
 SRM/session/Silent instproc schedule {} { return }
 
-Class Agent/SRM/Compared -superclass Agent/SRM
+Class Agent/SRM/Compared -superclass Agent/SRM$kind
 Agent/SRM/Compared instproc distance? node { $self instvar node_; global apart; return $apart([$node_ id],$node) }
 Agent/SRM/Compared instproc request {sender args} {
     global rules
@@ -161,18 +174,23 @@ Agent/SRM/Compared instproc request {sender args} {
     if {$rules(back-off-at-once) && [arriving request [$node_ id] $last] != ""} { $pending_($sender:$last) recv-request }
 }
 Agent/SRM/Compared instproc recv-repair {round sender number} {
-    global rules
-    $self instvar pending_ ns_ node_ repairFunction_
+    global rules adaptive
+    $self instvar pending_ ns_ node_ repairFunction_ resting_
+    if {$adaptive} { set round [$self hears-repair $round $number] }
     if {$rules(hold-off-when-held) && ![info exists pending_($sender:$number)]} {
+        set resting_ 1                     ;# no repair timer is set, and so no constant changes
         set rest [new $repairFunction_ $ns_ $self]
         $rest set requestor_ [arriving repair [$node_ id] $number]
         $rest set-params $sender $number
+        unset resting_
         set pending_($sender:$number) $rest
         $rest rest-only
         return
     }
     $self next $round $sender $number
 }
+
+if {$adaptive} { source [file join [file dirname [info script]] adaptive.tcl] }
 
 # ---- the network, the members, the draws ---------------------------------------
 ns-random $seed
@@ -196,12 +214,13 @@ foreach drop $drops {
     $loss drop-target [$ns set nullAgent_]
     $ns at 0.5 "$ns lossmodel $loss $node($a) $node($b)"
 }
+set backoffs [expr {$rules(six-triplings) ? 6 : $rules(ten-doublings) ? 10 : 5}]
 set number 0
 foreach host $hosts {
     set member($host) $number
     set agent [new Agent/SRM/Compared]
     foreach {key value} [list dst_addr_ $group dst_port_ 0 ttl_ 100000 fid_ [expr {$number + 1}] \
-        C1_ $c1 C2_ $c2 D1_ $d1 D2_ $d2 requestBackoffLimit_ [expr {$rules(ten-doublings) ? 10 : 5}] \
+        C1_ $c1 C2_ $c2 D1_ $d1 D2_ $d2 requestBackoffLimit_ $backoffs \
         requestFunction_ SRM/request/Logged repairFunction_ SRM/repair/Logged sessionFunction_ SRM/session/Silent] {
         $agent set $key $value
     }

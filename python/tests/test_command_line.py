@@ -170,3 +170,71 @@ def test_the_program_takes_what_is_written_and_everyone_recovers(srm_lab, capsys
         lines = srm_lab(capsys.readouterr().out, "--show", "losses").splitlines()
         assert len(lines) > 1, words
         assert all(not line.endswith("-") for line in lines), words
+
+
+def test_setting_of_floyd_et_al_for_33_members(write):
+    # log10 33 = 1.5185; the star's hub has no member
+    table = write("star --size 34 --adaptive")
+    assert {key: table[key] for key in table if key[:2] in ("c1", "c2", "d1", "d2", "ve", "ba")} == {
+        "version": 3, "backoff": 3, "c1": 2000, "c1_least": 500, "c2": 2000, "c2_least": 1000, "c2_most": 33000,
+        "d1": 1519, "d1_least": 500, "d2": 1519, "d2_least": 1000, "d2_most": 33000}
+
+
+@pytest.mark.parametrize("members, d1, d2, most", [
+    (1, 500, 1000, 2000),  # C2 does not have to fall
+    (3, 500, 1000, 3000),  # log10 3 = 0.477
+    (4, 602, 1000, 4000),  # log10 4 = 0.602
+    (9, 954, 1000, 9000),
+    (10, 1000, 1000, 10000),
+    (1000, 3000, 3000, 1000000),
+])
+def test_repair_timers_begin_with_their_least_value_at_least(write, members, d1, d2, most):
+    table = write(f"chain --size {members} --adaptive")
+    assert (table["d1"], table["d2"], table["c2_most"]) == (d1, d2, most)
+
+
+def test_first_values_that_are_given_have_limits_that_reach_to_them(write):
+    table = write("chain --size 10 --adaptive --c1 0.25 --c2 64 --d1 3 --d2 sqrt")
+    assert [table[f"{name}{end}"] for name in ("c1", "c2") for end in ("_least", "")] == [250, 250, 1000, 64000]
+    assert (table["c2_most"], table["d1"], table["d2"]) == (64000, 3000, 3162)
+    assert "c1_most" not in table  # the constant itself
+
+
+def test_version_3_only_where_timers_are_adaptive(write):
+    assert write("chain --size 4 --rounds 2 --drop-link 1")["version"] == 2
+    assert write("chain --size 4 --adaptive")["version"] == 3
+    assert write("chain --size 4")["version"] == 1
+
+
+def test_rounds_of_loss_are_outages_of_one_tick(write):
+    # 30 ticks to the near end of link 3; a round is of two draws
+    table = write("chain --size 6 --delay 10 --rounds 3 --drop-link 3 --every 700")
+    assert [draw["at"] for draw in table["draw"]] == [0, 700, 1400, 2100, 2800, 3500]
+    assert table["outage"] == [{"link": 3, "from": at, "to": at + 1} for at in (30, 1430, 2830)]
+    assert "drop" not in table and "session" not in table  # the last draw is not lost
+
+
+def test_rounds_go_by_the_delays_of_the_packets_direction(write):
+    # from node 3 to the far end of link 1: link 2 backwards takes 7
+    table = write("chain --size 4 --delay 10 --back 7 --source 3 --rounds 1 --drop-link 1 --every 5")
+    assert table["outage"] == [{"link": 1, "from": 7, "to": 8}]
+
+
+def test_rounds_lie_apart_as_far_as_64_recoveries_take(write):
+    # round trip 20; constants 2 + 2 + 1 + 1
+    table = write("chain --size 2 --delay 10 --rounds 2 --drop-link 0")
+    assert table["draw"][1]["at"] == 20 + 64 * (2 + 6 + 1) * 20 + 1
+    assert table["outage"][1]["from"] == 2 * table["draw"][1]["at"]
+
+
+@pytest.mark.parametrize("words, told", [
+    ("--rounds 2", "--rounds needs --drop-link"),
+    ("--rounds 2 --drop-link 0 --draws 4", "leave out --draws"),
+    ("--rounds 2 --drop-link 0 --drop-every 2", "leave out --drop-every"),
+    ("--rounds 2 --drop-link 0 --start 9", "leave out --start"),
+    ("--rounds 0 --drop-link 0", "--rounds is 0, and has to be 1 to 2048"),
+    ("--rounds 2 --drop-link 7", "there is no link 7"),
+])
+def test_rounds_that_are_refused(words, told, capsys):
+    assert main(["chain", "--size", "3", *words.split()]) == 1
+    assert told in capsys.readouterr().err

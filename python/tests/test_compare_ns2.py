@@ -1,5 +1,8 @@
 """What ns-2 is given, and how its rules are named. What both programs do is compared by `make compare-ns2`."""
-from compare_ns2 import HERE, RULES, from_words, ns2_input, whole
+import pytest
+
+from compare_ns2 import from_words
+from ns2_agent import ALL, HERE, changes, ns2_input, random_words, whole
 
 CHAIN = ("chain --size 3 --delay 10 --draws 2 --every 50 --drop-link 1 --session-after 7 --until 500 "
          "--c1 2 --c2 0 --d1 1.5 --d2 0")
@@ -21,6 +24,36 @@ def test_times_are_whole_where_they_can_be():
 
 
 def test_each_rule_has_its_scenario_and_stands_in_the_script():
-    script = (HERE / "ns2/srm.tcl").read_text()
-    assert sorted(path.stem for path in (HERE / "ns2/differences").iterdir()) == sorted(RULES)
-    assert [rule for rule in RULES if f"$rules({rule})" not in script] == []
+    script = "".join((HERE / f"ns2/{name}.tcl").read_text() for name in ("srm", "adaptive"))
+    assert sorted(path.stem for path in (HERE / "ns2/differences").iterdir()) == sorted(ALL)
+    assert [rule for rule in ALL if f"$rules({rule})" not in script] == []
+
+
+ROUNDS = "chain --size 3 --delay 10 --rounds 3 --drop-link 1 --every 5000 --until 40000 --adaptive"
+
+
+def test_adaptive_agent_is_told_the_group_and_rounds_are_a_cycle():
+    lines = ns2_input(from_words(ROUNDS), (), 4).splitlines()
+    assert lines[0] == "constants 2.0 2.0 0.5 1.0" and lines[-3:] == ["draws 6 5000", "adaptive 3", "cycle 1 2"]
+
+
+def test_limits_and_random_words_are_given():
+    lines = ns2_input(from_words(ROUNDS), (), 4, words=7).splitlines()
+    assert "limits 0.5 2.0 1.0 3.0 0.5 0.5 1.0 3.0" in lines
+    assert [line.split()[:2] for line in lines if line.startswith("words")] == [["words", str(one)] for one in range(3)]
+
+
+def test_outages_that_are_no_rounds_are_refused():
+    with pytest.raises(AssertionError, match="outages are no rounds"):
+        ns2_input(from_words("chain --size 3 --draws 4 --every 9 --outage 1:1000-1010"), (), 4)
+
+
+def test_random_words_are_those_of_the_generator():
+    # the demonstration of pcg32 by its author, seeded with 42 and 54
+    several = random_words(42, 54)
+    assert [next(several) for _ in range(6)] == [0xa15c02b7, 0x7b47f409, 0xba1d3330, 0x83d2f293, 0xbfa4784b, 0xcbed606e]
+
+
+def test_changes_of_one_tick_are_one_and_constants_that_stay_are_none():
+    told = [(0, 1, (5, 5)), (0, 2, (5, 5)), (9, 1, (6, 5)), (9, 1, (6, 7)), (12, 1, (6, 7)), (20, 2, (5, 5))]
+    assert changes(told) == {1: [(0, (5, 5)), (9, (6, 7))], 2: [(0, (5, 5))]}

@@ -5,17 +5,19 @@ import re
 import pandas
 import pytest
 
+import adaptive_figures
 import figures
 
-HEADER = ("kind,size,members,drop_link,delay,c1,d1,c2,seed,operation,losers,left,open,requests,repairs,"
+HEADER = ("kind,adaptive,size,members,drop_link,delay,c1,d1,c2,seed,operation,losers,left,open,requests,repairs,"
           "least_delay,greatest_delay,last_delay,last_round_trip\n")
 ROWS = "".join(
-    f"chain,{size},{size},hops:{hops},1000,2,1,{c2},{seed},0/0/0,3,0,0,{seed},1,{1000 * (hops + 3)},"
+    f"chain,{hops == 1},{size},{size},hops:{hops},1000,2,1,{c2},{seed},0/0/90,3,0,0,{seed},1,{1000 * (hops + 3)},"
     f"{1000 * (hops + 3)},6000,4000\n"
     for size in (10, 20) for hops in (1, 2) for c2 in (1, 2) for seed in (1, 2, 3))
 WORDS: dict[str, dict[str, str]] = {
     "over_session_size": {"over": "size"}, "requests_in_a_star": {}, "chain_of_sure_timers": {},
     "requests_against_delay": {}, "lines": {"x": "c2", "y": "ratio", "by": "drop_link"},
+    "over_rounds": {}, "adapted_over_size": {"over": "members"},
 }
 LABELS = {
     "over_session_size": ["requests for a loss", "repairs for a loss", "(round trips to the source)", "nodes",
@@ -27,10 +29,15 @@ LABELS = {
     "requests_against_delay": ["requests for a loss", "delay of the last member (round trips to the source)",
                                "first loser 2 links away, C1 = 2: means, 95% intervals over seeds",
                                "(a) chain of 10 members; at each mark its C2"],
+    "over_rounds": ["requests for a loss", "repairs for a loss", "round", "round: means of 20 rounds", "(a)", "(f)",
+                    "fixed timers: median of the seeds", "adaptive timers: quartiles of the seeds",
+                    "srm_lab, adaptive timers: mean, 95% interval over seeds"],
+    "adapted_over_size": ["requests for a loss", "session size (members); rounds 41 to 46",
+                          "adaptive timers: mean, 95% interval over seeds", "(a)", "(c)"],
     "lines": ["C2", "(round trips to the source)", "link that loses hops:2: mean, 95% interval over seeds"],
 }
 TABLES = {"over_session_size": 1, "requests_in_a_star": 2, "chain_of_sure_timers": 1, "requests_against_delay": 2,
-          "lines": 1}
+          "lines": 1, "over_rounds": 1, "adapted_over_size": 1}
 
 
 def test_mean_over_seeds_its_interval_and_quartiles_of_all_losses():
@@ -68,8 +75,8 @@ def test_label_of_an_axis_is_that_of_what_is_drawn(over, label, tmp_path):
 
 
 def test_what_is_left_out_is_counted_in_the_figure(tmp_path):
-    rows = ROWS + ("chain,10,10,hops:1,1000,2,1,1,1,0/0/2,3,1,2,9,1,,,,\n"  # two members lack it to the end
-                   "chain,10,10,hops:1,1000,2,1,1,1,0/0/4,2,2,0,9,1,,,,\n")  # both losers left
+    rows = ROWS + ("chain,True,10,10,hops:1,1000,2,1,1,1,0/0/2,3,1,2,9,1,,,,\n"  # two members lack it to the end
+                   "chain,True,10,10,hops:1,1000,2,1,1,1,0/0/4,2,2,0,9,1,,,,\n")  # both losers left
     texts = texts_of(drawn(tmp_path, "lines", WORDS["lines"], rows)[0])
     assert any("left out: 1 of 26 operations, which some member lacked to the end" in text for text in texts)
     assert any("left out: 1 of 26 operations, all of whose losers left" in text for text in texts)
@@ -97,7 +104,7 @@ def test_expected_requests_in_a_star(losers, c2, expected):
 def test_no_line_runs_through_a_label(tmp_path):
     path = tmp_path / "one.csv"
     path.write_text(HEADER + "".join(
-        f"chain,10,10,hops:{hops},1000,2,1,{c2},{seed},0/0/0,3,0,0,{hops + (c2 - 3)**2 + seed},1,"
+        f"chain,True,10,10,hops:{hops},1000,2,1,{c2},{seed},0/0/0,3,0,0,{hops + (c2 - 3)**2 + seed},1,"
         f"{delay},{delay},{delay},4000\n"
         for hops in (1, 2) for c2 in range(1, 7) for seed in (1, 2, 3) for delay in [1000 * (hops + c2) + 50 * seed]))
     figure = figures.requests_against_delay([figures.read(path)] * 2, {})
@@ -119,4 +126,25 @@ def test_no_legend_stands_over_data(tmp_path, monkeypatch):
         figure = function([figures.read(path) for _ in range(TABLES[draw])], WORDS[draw])
         figure.canvas.draw()
         for axes in figure.axes:
-            assert not axes.get_legend().get_window_extent().overlaps(axes.get_window_extent()), draw
+            legend = axes.get_legend()
+            assert legend is None or not legend.get_window_extent().overlaps(axes.get_window_extent()), draw
+
+
+def test_round_of_a_loss_and_means_of_blocks_of_rounds():
+    # draws 0, 2, 38 and 40 are lost in rounds 1, 2, 20 and 21; the two seeds' means are 2 and 6 in the first 20 rounds
+    table = adaptive_figures.with_rounds(pandas.DataFrame({
+        "operation": [f"0/0/{number}" for number in (0, 2, 38, 40, 0, 2, 38, 40)], "seed": [1] * 4 + [2] * 4,
+        "requests": [1, 2, 3, 9, 5, 6, 7, 9]}))
+    assert list(table["round"][:4]) == [1, 2, 20, 21]
+    points = adaptive_figures.block_means(table, "requests")
+    assert list(points.index) == [10.5, 30.5] and list(points["mean"]) == [4, 9]
+    assert points["low"][10.5] == pytest.approx(4 - 2 * 12.7062, abs=1e-3)  # Student's t for 2 seeds
+
+
+def test_ns2_stands_beside_srm_lab_where_there_is_a_second_table(tmp_path):
+    path = tmp_path / "one.csv"
+    path.write_text(HEADER + ROWS)
+    figure = figures.over_rounds([figures.read(path) for _ in range(2)], {})
+    texts = [text.get_text() for text in figure.axes[5].get_legend().get_texts()]
+    assert [text.split(":")[0] for text in texts] == [
+        "srm_lab, fixed timers", "srm_lab, adaptive timers", "ns-2, fixed timers", "ns-2, adaptive timers"]

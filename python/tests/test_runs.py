@@ -61,6 +61,21 @@ def test_losses_have_numbers_and_ends(program):
     assert [0, "repair", 130, 140, "stopped"] in timers
 
 
+def test_constants_that_members_adapt(program, tmp_path):
+    # worked by hand: 40 ticks from the source, member 2 waits 80 and then 78 of them, and takes 0.05 off C1 each time
+    given = scenario.load(ROOT / "examples/adaptive-request-timers.toml")
+    runs = run(given, tables=["losses", "constants"], program=program, cache=tmp_path)
+    table = runs.constants
+    assert list(table.columns) == ["seed", "time", "member", "cause", "ref", "c1", "c2", "d1", "d2", "ave_dup_req",
+                                   "ave_req_delay", "ave_dup_rep", "ave_rep_delay", "node"]
+    assert table[["time", "member", "cause", "ref", "c1"]].values.tolist() == [
+        [0, 0, "join", "-", 2000], [0, 1, "join", "-", 2000], [0, 2, "join", "-", 2000],
+        [121, 2, "ask", "0/0/0", 1950], [1119, 2, "ask", "0/0/2", 1900]]
+    assert list(table["ave_req_delay"].dropna()) == [1000, 993] and list(table["ave_dup_req"].dropna()) == [0]
+    again = run(given, tables=["constants"], program=program, cache=tmp_path).constants  # from the cache
+    pandas.testing.assert_frame_equal(again, table)
+
+
 def test_loss_of_a_member_that_leaves_is_no_open_one(program):
     given = scenario.chain(4, delay=10).constants(c2=0, d2=0).drawing(0).draw(0).draw(50).drop(1, 0)
     gone = run(given.leave([3], at=100), tables=["losses", "operations"], program=program, cache=None)

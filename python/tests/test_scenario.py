@@ -191,3 +191,26 @@ def test_adapted_constants_are_written_in_version_3_and_read_again():
 def test_fixed_timers_need_no_version_3():
     made = scenario.chain(3).constants(c1=64)
     assert (made.least_version, made.constants(c1=65).least_version) == (1, 3)
+
+
+def test_adaptive_timers_in_one_line():
+    made = scenario.star(34).adaptive()
+    assert made.adaptive(c1=2, c2=2) == made
+    assert (made.c1, made.c1_least, made.greatest("c1"), made.c2, made.least("c2"), made.c2_most, made.backoff) == (
+        2000, 500, 2000, 2000, 1000, 33000, 3)
+    assert made.adaptive(d1=1.5).d1 == 1500
+    with pytest.raises(ScenarioError, match="c3: the constants are c1, c2, d1 and d2"):
+        made.adaptive(c3=1)
+
+
+def test_rounds_take_the_place_of_a_senders_draws_only():
+    made = scenario.chain(4, delay=10).role([3], "sender").draw(5, member=3).session(40, member=1).rounds(2, 1, every=100)
+    assert [(draw.member, draw.at) for draw in made.draws] == [(3, 5), (0, 0), (0, 100), (0, 200), (0, 300)]
+    assert [(session.member, session.at) for session in made.sessions] == [(1, 40)]
+    assert [(outage.link, outage.first, outage.end) for outage in made.outages] == [(1, 10, 11), (1, 210, 211)]
+
+
+@pytest.mark.parametrize("link, expected", [(0, 0), (2, 20), ("adjacent", 0), ("hops:3", 20)])
+def test_link_of_rounds_is_chosen_as_that_of_losses(link, expected):
+    outage, = scenario.chain(4, delay=10).rounds(1, link, every=9).outages
+    assert outage.first == expected

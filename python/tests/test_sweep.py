@@ -36,6 +36,14 @@ def test_file_is_named_after_its_kind():
     assert one.words("path-b.gml", 1) == ["file", "b.gml", "--seed", "1"]
 
 
+def test_rounds_and_adaptive_timers_are_options():
+    one = Experiment("e", {"kind": "chain", "size": 3, "drop_link": 1, "rounds": 5, "adaptive": [True, False],
+                           "agent": "ns2", "seeds": [4]})
+    assert one.words("adaptive-True", 4) == ["chain", "--size", "3", "--drop-link", "1", "--rounds", "5", "--adaptive",
+                                             "--seed", "4"]
+    assert "--adaptive" not in one.words("adaptive-False", 4) and one.agent == "ns2"
+
+
 def test_value_twice_is_refused():
     with pytest.raises(ScenarioError, match="a list has a value twice"):
         Experiment("e", {"kind": "star", "size": [5, 5], "seeds": 1})
@@ -75,6 +83,10 @@ def test_keys_that_repeat_and_flags():
     ({"figures": {"f": {"draw": "requests_against_delay", "of": ["one"]}}}, "of one: there is no 'drop_link'"),
     ({"experiments": {"one": {"kind": "chain", "size": 3, "c1": 2, "drop_link": ["hops:1", "random"], "seeds": 1}},
       "figures": {"f": {"draw": "requests_against_delay", "of": ["one"]}}}, "needs links hops:H, and drop_link has"),
+    ({"experiments": {"one": {"kind": "chain", "size": 3, "agent": "ns3", "seeds": 1}}}, "there is no 'ns3': there are"),
+    ({"experiments": {"one": {"kind": "chain", "size": 3, "agent": "ns2", "seeds": 1}}}, "ns2 needs rounds"),
+    ({"experiments": {"one": {"kind": "chain", "size": 3, "rounds": 0, "drop_link": 1, "seeds": 1}}},
+     "--rounds is 0, and has to be 1 to 2048"),
     ({"experiments": {"one": 5}}, "kind and seeds have to be there"),
     ({"experiments": {"one": {"kind": "chain", "size": 3, "seeds": 0}}}, "seeds is 0, and has to be 1 to"),
     ({"experiments": {"one": {"kind": "chain", "size": 3, "seeds": "two"}}}, "seeds is 'two', and has to be a whole"),
@@ -113,7 +125,7 @@ def test_figure_of_a_metric_is_accepted(tmp_path):
 def test_each_configuration_of_the_repository_is_accepted():
     import figures
     import yaml
-    for name in ("config.yaml", "small.yaml"):
+    for name in ("config.yaml", "small.yaml", "adaptive.yaml", "adaptive-ns2.yaml"):
         check_config(yaml.safe_load((ROOT / "experiments" / name).read_text()), figures.NEEDS)
 
 

@@ -12,8 +12,9 @@ from .errors import ScenarioError
 from .graphs import Delays
 from .limits import MOST_TIME, NEWEST, within
 from .page import command as page_command
-from .parts import Draw, Drop, Member, Session
+from .parts import CONSTANTS, Draw, Drop, Member, Session
 from .scenario import Scenario, Ticks, from_router_map, place_members, thousandths
+from .setting import setting
 from .tree import Tree
 
 ABOUT = """Writes a scenario file of srm_lab to standard output.
@@ -24,6 +25,7 @@ ticks, constants are plain numbers (2 is written as 2000 thousandths). All rando
 `srm-scenarios page SCENARIO [TRACE]` writes a page that plays a run instead; see its --help.
 """
 DELAY = 1000
+FIXED = {"c1": "2", "c2": "2", "d1": "1", "d2": "1"}  # constants that are not given
 
 
 def network(options: argparse.Namespace, rng: random.Random) -> Tree:
@@ -134,24 +136,46 @@ def build(options: argparse.Namespace) -> Scenario:
     else:
         made = with_delays(network(options, rng), options, rng)
         nodes = members_of(options, made, rng)
-    within("--draws", options.draws, 0, NEWEST.elements)
-    within("--every", options.every, 1, MOST_TIME)
-    draws = [within("the tick of a draw", options.start + place * options.every, 0, MOST_TIME)
-             for place in range(options.draws)]
+    members = tuple(Member(node, "receiver" if place else "sender", place + 1) for place, node in enumerate(nodes))
+    scenario = replace(Scenario(made, members, options.until, seed=options.seed), **constants(options, len(nodes)))
+    lossy = in_rounds if options.rounds is not None else with_drops
+    return disturbed(lossy(scenario, options, rng), options).check()
+
+
+def constants(options: argparse.Namespace, members: int) -> dict[str, int]:
+    """The timer constants in thousandths, with `--adaptive` their limits and the factor of backoff besides."""
+    texts = {name: getattr(options, name) for name in CONSTANTS}
+    given = {name: thousandths(text, members) for name, text in texts.items() if text is not None}
+    if options.adaptive:
+        return setting(members, given)
+    return {name: thousandths(text, members) for name, text in FIXED.items()} | given
+
+
+def with_draws(scenario: Scenario, options: argparse.Namespace) -> Scenario:
+    """The scenario with the source's draws, and its session message after them."""
+    count = within("--draws", 2 if options.draws is None else options.draws, 0, NEWEST.elements)
+    every = within("--every", 1 if options.every is None else options.every, 1, MOST_TIME)
+    draws = [within("the tick of a draw", options.start + place * every, 0, MOST_TIME) for place in range(count)]
     after = [] if options.no_session or not draws else [draws[-1] + options.session_after]
-    c1, c2, d1, d2 = (thousandths(getattr(options, name), len(nodes)) for name in ("c1", "c2", "d1", "d2"))
-    scenario = Scenario(
-        tree=made,
-        members=tuple(Member(node, "receiver" if place else "sender", place + 1) for place, node in enumerate(nodes)),
-        draws=tuple(Draw(0, 0, number, at) for number, at in enumerate(draws)),
-        sessions=tuple(Session(0, at) for at in after),
-        until=options.until, c1=c1, c2=c2, d1=d1, d2=d2, seed=options.seed,
-    )
-    return disturbed(with_drops(scenario, options, rng), options).check()
+    return replace(scenario, draws=tuple(Draw(0, 0, number, at) for number, at in enumerate(draws)),
+                   sessions=tuple(Session(0, at) for at in after))
+
+
+def in_rounds(scenario: Scenario, options: argparse.Namespace, rng: random.Random) -> Scenario:
+    """The scenario with the rounds of loss that the command line asks for."""
+    if options.drop_link is None:
+        raise ScenarioError("--rounds needs --drop-link")
+    given = [name for name in ("draws", "drop_every", "drop_packet") if getattr(options, name)]
+    if given or options.start:
+        name = "--" + (given or ["start"])[0].replace("_", "-")
+        raise ScenarioError(f"--rounds says which packets are drawn and lost: leave out {name}")
+    link = losses.link_of(options.drop_link, scenario, rng)
+    return scenario.rounds(within("--rounds", options.rounds, 1, NEWEST.elements // 2), link, options.every)
 
 
 def with_drops(scenario: Scenario, options: argparse.Namespace, rng: random.Random) -> Scenario:
-    """The scenario with the packets that one link drops."""
+    """The scenario with the source's draws, and the packets of it that one link drops."""
+    scenario = with_draws(scenario, options)
     if options.drop_link is None:
         if options.drop_every is not None or options.drop_packet:
             raise ScenarioError("--drop-every and --drop-packet need --drop-link")
@@ -159,7 +183,7 @@ def with_drops(scenario: Scenario, options: argparse.Namespace, rng: random.Rand
     link = losses.link_of(options.drop_link, scenario, rng)
     counts: Sequence[int] = options.drop_packet or [0]
     if options.drop_every is not None:
-        counts = range(0, options.draws, within("--drop-every", options.drop_every, 1, NEWEST.elements))
+        counts = range(0, len(scenario.draws), within("--drop-every", options.drop_every, 1, NEWEST.elements))
     for count in counts:
         within("the number of a lost packet", count, 0, NEWEST.count)
     scenario = replace(scenario, drops=tuple(Drop(link, 0, count) for count in counts))
@@ -191,14 +215,20 @@ def common_options() -> argparse.ArgumentParser:
         "of a map also their names, parted by commas")
     add("--source", default="first", metavar="NODE", help="the source's node: number, name, first (default) or random")
     add("--seed", type=int, default=0, help="seed of all random choices (default 0)")
-    for name, default in (("c1", "2"), ("c2", "2"), ("d1", "1"), ("d2", "1")):
-        add(f"--{name}", default=default, metavar="X", help=f"number, log10 or sqrt of the members (default {default})")
-    add("--draws", type=int, default=2, help="how many draws (default 2)")
-    add("--every", type=int, default=1, help="ticks from a draw to the next (default 1)")
+    for name, default in FIXED.items():
+        add(f"--{name}", metavar="X", help=f"number, log10 or sqrt of the members (default {default})")
+    add("--adaptive", action="store_true", help="members adapt their timers, with the limits and the backoff of Floyd "
+        "et al. (1997) for so many members; C1 and C2 begin with 2, D1 and D2 with log10 of the members, where no "
+        "constant is given")
+    add("--draws", type=int, help="how many draws (default 2)")
+    add("--every", type=int, help="ticks from a draw to the next (default 1, in rounds as many as 64 rounds of requests "
+        "and repairs take)")
     add("--start", type=int, default=0, help="tick of the first draw (default 0)")
     add("--drop-link", metavar="LINK", help="a number, adjacent (to the source), random, or hops:H")
     add("--drop-packet", type=int, action="append", metavar="COUNT", help="lose this packet; repeatable (default 0)")
     add("--drop-every", type=int, metavar="K", help="lose packets 0, K, 2 K and so on")
+    add("--rounds", type=int, metavar="N", help="N losses on --drop-link that lie apart: the source draws twice in each "
+        "round, and an outage of one tick loses the first of the two")
     add("--any-packet", action="store_true", help="the lost packets may be repairs of the source")
     add("--loss", type=float, metavar="RATE", help="each link loses each of the source's first packets, as many as "
         "draws, with this probability")

@@ -52,6 +52,13 @@ def choose_link(choice: str, tree: Tree, source: int, nodes: list[int], rng: ran
     return rng.choice(wanted)
 
 
+def arrival(tree: Tree, source: int, link: int) -> int:
+    """How long a packet of a node's takes to come to a link."""
+    ways = tree.ways(source)
+    near = next(end for end in (tree.links[link].a, tree.links[link].b) if link not in ways[end])
+    return tree.distances(source)[near]
+
+
 def bernoulli(given: "Scenario", rate: float, link: int | None, rng: random.Random,
               packets: Callable[[int], int]) -> list[Drop]:
     """Each packet of each sender, dropped by each link on its ways (or by one link) with a probability."""

@@ -12,6 +12,7 @@ from pathlib import Path
 import pandas
 import tqdm
 
+from .constants import CONSTANTS_TABLE, constants_of
 from .errors import ScenarioError
 from .limits import MOST_SEED, within
 from .measures import TABLES, Measure, measure
@@ -21,6 +22,7 @@ from .traces import find_program, trace_of
 
 LAYOUT = 1  # of the tables; a cache of another layout is not read
 CACHE = "cache"
+COLUMNS = {**{name: table.columns for name, table in TABLES.items()}, "constants": CONSTANTS_TABLE}
 
 
 @dataclass(frozen=True)
@@ -57,9 +59,14 @@ def perform(job: Job) -> dict[str, pandas.DataFrame]:
     place = None if job.cache is None else job.cache / job.key()
     if place is not None and all((place / f"{name}.csv").exists() for name in job.tables):
         return {name: _read(place / f"{name}.csv", name) for name in job.tables}
-    with trace_of(job.given, job.seed, job.program, job.options) as rows:
-        measured = measure(job.given, rows, job.tables)
-    made = {name: frame_of(name, one) for name, one in measured.items()}
+    made: dict[str, pandas.DataFrame] = {}
+    traced = [name for name in job.tables if name in TABLES]
+    if traced:
+        with trace_of(job.given, job.seed, job.program, job.options) as rows:
+            measured = measure(job.given, rows, traced)
+        made |= {name: frame_of(name, one) for name, one in measured.items()}
+    if "constants" in job.tables:
+        made["constants"] = constants_of(job.given, job.seed, job.program, job.options)
     if place is not None:
         _keep(place, made)
     return made
@@ -78,7 +85,7 @@ def framed(given: Scenario, measured: list[tuple[int, dict[str, Measure]]]) -> d
 
 
 def _read(path: Path, name: str) -> pandas.DataFrame:
-    kinds = TABLES[name].columns
+    kinds = COLUMNS[name]
     return pandas.read_csv(path, dtype=kinds, keep_default_na=False, na_values={
         column: [""] for column, kind in kinds.items() if kind != "str"})
 
@@ -101,7 +108,7 @@ class Runs:
     tables: dict[str, pandas.DataFrame] = field(repr=False)
 
     def __getattr__(self, name: str) -> pandas.DataFrame:
-        if name.startswith("_") or name not in TABLES:
+        if name.startswith("_") or name not in COLUMNS:
             raise AttributeError(name)
         return self.table(name)
 
@@ -149,18 +156,19 @@ def run(given: Scenario, seeds: Iterable[int] = range(1), tables: Iterable[str] 
         progress: bool | None = None, options: Iterable[str] = ()) -> Runs:
     """Runs a scenario with each seed, and gives the tables of all runs.
 
-    The program is run once for each seed, on `workers` processors (by default on all); a bar shows the progress where
-    standard error is a terminal, or where `progress` says so. What a run gave is kept in the folder `cache` (by default
-    the user's, srm_lab in XDG_CACHE_HOME), and read from there where the scenario, the seed and the program are the
-    same; with None nothing is kept. The program is `program`, or SRM_LAB of the environment, or srm_lab on the path;
-    `options` are more words of its command line that leave the trace as it is, such as `--engine` and `window`.
+    The program is run once for each seed, and once more for the table `constants`, on `workers` processors (by default
+    on all); a bar shows the progress where standard error is a terminal, or where `progress` says so. What a run gave
+    is kept in the folder `cache` (by default the user's, srm_lab in XDG_CACHE_HOME), and read from there where the
+    scenario, the seed and the program are the same; with None nothing is kept. The program is `program`, or SRM_LAB of
+    the environment, or srm_lab on the path; `options` are more words of its command line that leave the trace as it is,
+    such as `--engine` and `window`.
 
     Raises RefusedError with the program's line where it refuses a run, and ScenarioError where no table has a name.
     """
     wanted = tuple(tables)
     for name in wanted:
-        if name not in TABLES:
-            raise ScenarioError(f"there is no table {name!r}: there are {', '.join(TABLES)}")
+        if name not in COLUMNS:
+            raise ScenarioError(f"there is no table {name!r}: there are {', '.join(COLUMNS)}")
     numbers = tuple(within("a seed", int(seed), 0, MOST_SEED) for seed in seeds)
     if len(set(numbers)) < len(numbers):
         raise ScenarioError("a seed is given twice")

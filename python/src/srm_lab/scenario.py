@@ -23,6 +23,7 @@ from .graphs import Delays
 from .limits import MOST_TIME, NEWEST, VERSIONS, within
 from .parts import CONSTANTS, LIMITS, Draw, Drop, Member, Outage, Session
 from .rules import check_rules
+from .setting import logarithm, setting
 from .tree import Tree
 
 DELAY = 100
@@ -71,15 +72,19 @@ class Scenario:
 
     def _room(self) -> int:
         """An end that leaves time for 64 rounds of asking and repairing after the last thing that is to happen."""
+        last = max([*(draw.at for draw in self.draws), *(session.at for session in self.sessions),
+                    *(member.join for member in self.members)], default=0)
+        return min(MOST_TIME, last + self._recovery())
+
+    def _recovery(self) -> int:
+        """Time for 64 rounds of asking and repairing, of members that are as far from each other as any are."""
         nodes = [member.node for member in self.members] or [0]
         first = self.tree.round_trips(nodes[0])
         far = max(nodes, key=first.__getitem__)
         trips = self.tree.round_trips(far)
         farthest = max(trips[node] for node in nodes)
         constants = sum(self.greatest(name) for name in CONSTANTS)
-        last = max([*(draw.at for draw in self.draws), *(session.at for session in self.sessions),
-                    *(member.join for member in self.members)], default=0)
-        return min(MOST_TIME, last + farthest + 64 * (2 + constants // 1000 + 1) * max(1, farthest) + 1)
+        return farthest + 64 * (2 + constants // 1000 + 1) * max(1, farthest) + 1
 
     def least(self, name: str) -> int:
         """The least value of a constant, such as `c1`, that a member adapts it to."""
@@ -185,6 +190,18 @@ class Scenario:
             raise ScenarioError(f"{', '.join(sorted(unknown))}: the constants are c1, c2, d1 and d2")
         return self._with(**{name: thousandths(str(value), len(self.members)) for name, value in values.items()})
 
+    def adaptive(self, **first: float | str) -> "Scenario":
+        """Lets members adapt their timers, with the limits and the backoff of Floyd et al. (1997) for so many members.
+
+        The constants begin as there too, but for those that `first` names (`c1=1.5`, `d2="sqrt"`); `setting` has which
+        numbers these are. Without it, or after `constants(...)` has set limits, timers are as the constants say.
+        """
+        unknown = set(first) - set(CONSTANTS)
+        if unknown:
+            raise ScenarioError(f"{', '.join(sorted(unknown))}: the constants are c1, c2, d1 and d2")
+        given = {name: thousandths(str(value), len(self.members)) for name, value in first.items()}
+        return self._with(**setting(len(self.members), given))
+
     def ends(self, until: int) -> "Scenario":
         """Handles events before this tick only."""
         return self._with(until=until)
@@ -253,6 +270,22 @@ class Scenario:
         return self._with(draws=(*(one for one in self.draws if one.member != member), *own),
                           sessions=(*(one for one in self.sessions if one.member != member), *told))
 
+    def rounds(self, count: int, link: int | str, every: int | None = None, seed: int | None = None,
+               sender: int = 0, page: int = 0) -> "Scenario":
+        """In place of all draws and session messages of a sender: so many losses on one link, each a round of its own.
+
+        The sender draws twice in a round. The link, which is chosen as by `lose`, is out for the one tick at which the
+        first of the two comes to it; the second is heard, and shows the loss. Draws are `every` ticks apart, by default
+        as many as 64 rounds of asking and repairing take, so that a round is over before the next begins.
+        """
+        number = losses.link_of(str(link), self, self._rng("rounds", seed), sender)
+        every = self._recovery() if every is None else within("every", every, 1, MOST_TIME)
+        made = self.drawing(2 * within("count", count, 0, NEWEST.elements // 2), every, 0, sender, page)
+        arrival = losses.arrival(made.tree, made.members[sender].node, number)
+        outages = tuple(Outage(number, at, at + 1) for at in range(arrival, arrival + 2 * count * every, 2 * every))
+        kept = tuple(session for session in made.sessions if session.member != sender)
+        return made._with(outages=(*made.outages, *outages), sessions=kept)
+
     def drop(self, link: int, count: int | Iterable[int], sender: int = 0) -> "Scenario":
         """Lets a link drop a packet of a sender, or several, by their numbers among all that it sends, from 0."""
         counts = [count] if isinstance(count, int) else list(count)
@@ -317,8 +350,7 @@ def _chosen(members: int | Iterable[int], free: list[int], rng: random.Random) -
 def thousandths(text: str, members: int) -> int:
     """A timer constant in thousandths: of a number with at most three decimals, or of log10 or sqrt of the members."""
     if text in ("log10", "sqrt"):
-        value = math.log10(max(1, members)) if text == "log10" else math.sqrt(members)
-        return round(1000 * value)
+        return logarithm(members) if text == "log10" else round(1000 * math.sqrt(members))
     try:
         number = Decimal(text) * 1000
     except InvalidOperation:

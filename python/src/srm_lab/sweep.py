@@ -10,11 +10,12 @@ from .limits import MOST_SEED, within
 from .measures import OperationsTable
 from .one_run import function_of
 
-OWN = ("kind", "losses", "seeds", "metrics", "path")
+OWN = ("kind", "losses", "seeds", "metrics", "agent", "path")
+AGENTS = ("srm_lab", "ns2")
 TOP = ("program", "python", "results", "experiments", "figures")
 FIGURE = ("draw", "of", "x", "y", "by", "over")
 LISTED = ("join", "leave", "outage", "drop_packet")
-FLAGS = ("any_packet", "no_session")
+FLAGS = ("adaptive", "any_packet", "no_session")
 NAME = ("source", "page", "number")
 COLUMNS = tuple(column for column in OperationsTable.columns if column not in NAME)
 
@@ -35,6 +36,7 @@ class Experiment:
             raise ScenarioError(f"experiment {name}: kind and seeds have to be there")
         self.config = dict(config)
         self.metrics: dict[str, str] = self.config.pop("metrics", {})
+        self.agent = self._agent(self.config.get("agent", AGENTS[0]))
         self.seeds = self._seeds(self.config["seeds"])
         lists = {key: value if isinstance(value, list) else [value]
                  for key, value in self.config.items() if key != "seeds"}
@@ -46,6 +48,13 @@ class Experiment:
             self.points[label] = point
         if len(self.points) != len(list(product(*lists.values()))):
             raise ScenarioError(f"experiment {name}: a list has a value twice")
+
+    def _agent(self, given: Any) -> str:
+        """Whose runs these are: srm_lab's, or those of the SRM agent of ns-2, which has rounds of loss only."""
+        known(f"experiment {self.name}, agent", [given], AGENTS)
+        if given != AGENTS[0] and (self.metrics or "rounds" not in self.config):
+            raise ScenarioError(f"experiment {self.name}: {given} needs rounds, and has no metrics")
+        return str(given)
 
     def _seeds(self, given: Any) -> list[int]:
         """The seeds: those listed, or 1 to the number given."""

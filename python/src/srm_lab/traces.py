@@ -29,6 +29,13 @@ def trace_of(given: Scenario, seed: int, program: Path, options: Sequence[str] =
 
     `options` are more words of the program's command line, which has to write the trace with them.
     """
+    with lines_of(given, seed, program, options) as lines:
+        yield read_trace(lines)
+
+
+@contextmanager
+def lines_of(given: Scenario, seed: int, program: Path, options: Sequence[str] = ()) -> Iterator[Iterator[str]]:
+    """The lines that the program writes of a run, while it writes them; after them RefusedError where it refuses it."""
     with tempfile.TemporaryFile() as scenario, tempfile.TemporaryFile() as told:
         scenario.write(given.text().encode())
         scenario.seek(0)
@@ -36,23 +43,15 @@ def trace_of(given: Scenario, seed: int, program: Path, options: Sequence[str] =
                               stdout=subprocess.PIPE, stderr=told, encoding="ascii") as running:
             assert running.stdout is not None
             try:
-                yield _rows(running.stdout, running, told)
+                yield _lines(running.stdout, running, told)
             finally:
                 running.kill()
 
 
-def _rows(lines: Iterable[str], running: subprocess.Popen, told: IO[bytes]) -> Iterator[Row]:
-    """The rows of a trace, and after them, or in place of a header, the program's refusal if it has one."""
-    several = iter(lines)
-    first = next(several, None)
-    if first is not None:
-        yield from read_trace(_again(first, several))
+def _lines(lines: Iterable[str], running: subprocess.Popen, told: IO[bytes]) -> Iterator[str]:
+    """The lines, and after them the program's refusal if it has one."""
+    yield from lines
     if running.wait():
         told.seek(0)
         line, _, explanation = told.read().decode(errors="replace").partition("\n")
         raise RefusedError(line.strip(), running.returncode, explanation.rstrip("\n"))
-
-
-def _again(first: str, others: Iterator[str]) -> Iterator[str]:
-    yield first
-    yield from others
