@@ -25,7 +25,7 @@ from program import Program
 MEMBERS = 16
 PAGES = 4
 ENDS = [1000, 4000, 16000]
-TABLES = ["trace", "members", "losses", "links"]
+TABLES = ["trace", "members", "losses", "links", "timers"]
 WINDOW = ["--engine", "window", "--workers", "2", "--crew"]
 CREWS = ("plain", "pool", "bag")
 ENGINES: list[tuple[str, list[str]]] = [("step", []), *((f"window, {crew}", [*WINDOW, crew]) for crew in CREWS)]
@@ -76,7 +76,7 @@ def measure(program: Program, words: list[str], text: bytes) -> tuple[int, int]:
 def main() -> None:
     parser = argparse.ArgumentParser(description="peak memory of traces of three lengths")
     parser.add_argument("program", type=Program)
-    parser.add_argument("--show", action="append", choices=TABLES, help="a table; all four where none is named")
+    parser.add_argument("--show", action="append", choices=TABLES, help="a table; all five where none is named")
     given = parser.parse_args()
     for table in given.show or TABLES:
         for name, words in ENGINES:

@@ -22,7 +22,7 @@ NODES = 256
 DRAWS = 4096
 SPACING = 1000
 LOST = 50
-TABLES = ["trace", "members", "losses", "links"]
+TABLES = ["trace", "members", "losses", "links", "timers"]
 
 
 def scenario(draws: int) -> bytes:

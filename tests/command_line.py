@@ -177,6 +177,7 @@ class Tables(CommandLineCase):
             (["--show", "losses"], "losses"),
             (["--show=links"], "links"),
             (["--show", "links", "--seed", "3"], "links"),
+            (["--show", "timers"], "timers"),
         ):
             with self.subTest(words=words):
                 table = (EXAMPLES / f"chain-of-five-one-loss.{show}.csv").read_bytes()
@@ -358,8 +359,8 @@ Usage: srm_lab [OPTIONS]
 Options:
       --seed <0..=9223372036854775807>
           The seed of the members' random words [default: 0]
-      --show <trace|members|losses|links>
-          The table: a row for each event, member, loss or link [default: trace]
+      --show <trace|members|losses|links|timers>
+          The table: a row for each event, member, loss, link or adapted timer [default: trace]
       --check
           Only read and check the scenario, and write nothing
       --explain

@@ -37,7 +37,7 @@ CREWS = {
     "window, pool": ["--engine", "window", "--crew", "pool"],
     "window, bag, 2 workers": ["--engine", "window", "--crew", "bag", "--workers", "2"],
 }
-TABLES = {table: ["--show", table] for table in ("members", "losses", "links")}
+TABLES = {table: ["--show", table] for table in ("members", "losses", "links", "timers")}
 
 
 class Run(NamedTuple):

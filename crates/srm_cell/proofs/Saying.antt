@@ -103,6 +103,14 @@ wanting e cause at (Active m) s holds caused h =
     subst HasWork (sym (ap (λ q. handle e q e.cause) holds ∙ ap (handle e (Active m)) caused))
     (sending_work e (react m e.key.time cause) (react m e.key.time cause).answer.body)
 
+pub working : (e : Event) (cause : Cause) (at : ℕ) (r s : Record) (a : React) → e.rest.holds ≡ r → e.cause ≡ Some cause
+    → Reacts r at cause (Ok a) s → HasWork (handle e e.rest.holds e.cause)
+unfolding handle
+working e cause at (Gone f) s a holds caused h = absurd h
+working e cause at (Active m) s a holds caused h =
+    subst HasWork (sym (ap (λ q. handle e q e.cause) holds ∙ ap (handle e (Active m)) caused))
+    (sending_work e (react m e.key.time cause) (react m e.key.time cause).answer.body)
+
 pub wanting_end : (e : Event) (r s : Record) → e.rest.holds ≡ r → e.cause ≡ None → Finishes r (Err member.NoMemory) s
     → HasWork (handle e e.rest.holds e.cause)
 unfolding handle

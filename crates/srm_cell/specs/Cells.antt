@@ -214,6 +214,7 @@ row_of e a sent = record {
   told = a.told;
   lost = a.lost;
   sent = sent;
+  adapted = a.adapted;
 }
 
 -- the member's next packet, with this body
@@ -236,7 +237,7 @@ sending_step e r (Some body) =
 
 -- what a leave tells
 abbrev pub parting : React
-parting = record { told = Parted; lost = []; body = None }
+parting = record { told = Parted; lost = []; body = None; adapted = None }
 
 -- the member handles the event. At its leave it ends; once it is gone it has no answer
 unfoldable pub handle : Event → Record → Option Cause → StepOutcome Stepped

@@ -97,11 +97,11 @@ module _ {X : Type 0} {H : X → Type 0} where
   abbrev pub Runs : (DynBox X Global H → Record) → ℕ → Cell X H → Result (List Row) CellFault → Cell X H → Type 0
   Runs f end old result new = (m : ℕ) (p : PlainCell) → IsCell f m old p → TellsRun f end m p result new
 
-  -- what own runs tell, one after the other
+  -- what own runs tell, one after the other, after which these are the cells
   abbrev pub TellsRuns : (DynBox X Global H → Record) → ℕ → List OwnCell
-      → Result (Vec (Cell X H) × Vec (List Row)) CellFault → Type 0
-  TellsRuns f end qs (Ok v) = RanEach f end qs v.1.items v.0.items
-  TellsRuns f end qs (Err e) = TellsFault end qs e
+      → Result (Vec (List Row)) CellFault → List (Cell X H) → Type 0
+  TellsRuns f end qs (Ok rows) after = RanEach f end qs rows.items after
+  TellsRuns f end qs (Err e) after = TellsFault end qs e
 
   -- this is done of a job: its cells' own runs, and the crossings of their rows
   pub record IsDone (f : DynBox X Global H → Record) (t : Traffic) (p : PlainJob) (d : job.Done X H) : Type 0 where

@@ -1,12 +1,13 @@
 -- What the model needs of a scenario, its network and a seed.
-use Rattle.std.specs.Prelude.{◌≡◌, ◌≢◌, ◌⊎◌, ℕ, ◌+◌, ◌/◌, ◌<◌, Bool, not, ◌&&◌, List, [], ◌∷◌, map, length}
+use Rattle.std.specs.Prelude.{◌≡◌, ◌≢◌, ◌⊎◌, ℕ, ◌+◌, ◌<◌, Bool, not, ◌&&◌, List, [], ◌∷◌, length}
 use Rattle.std.specs.Prelude.{Option, Some, None, unwrap_or, slice_get, nat_lt, ◌==◌, if◌then◌else◌}
-use Rattle.std.specs.List.{range_with_len}
 use Rattle.srm_net.specs.declared.packet.Packet.{Packet}
 use Rattle.srm_net.specs.declared.role.Role.TheVariants.{Receiver}
 use Rattle.srm_net.specs.Orders.{Ascends}
 use Rattle.srm_net.specs.Network.{Network}
 use Rattle.srm_net.specs.Paths as paths
+-- the distances that a member goes by: half the round trip to each member in turn, rounded down
+pub use Rattle.srm_net.specs.Paths.{half_rounds_from}
 use Rattle.srm_scenario.specs.declared.mark.Mark.{Mark}
 use Rattle.srm_scenario.specs.declared.parts.MemberSpec.{MemberSpec}
 use Rattle.srm_scenario.specs.Plain.{PlainScenario, mark_cmp, script_of}
@@ -47,10 +48,6 @@ no_member = record { node = 0; role = Receiver; stream = 0; join = 0; leave = No
 -- member m of a scenario
 abbrev pub member_at : PlainScenario → ℕ → MemberSpec
 member_at s m = unwrap_or (slice_get s.members m) no_member
-
--- half the round trip between a member and each member in turn, rounded down: the distances that a member goes by
-abbrev pub half_rounds_from : Network → ℕ → List ℕ
-half_rounds_from net m = map (λ b. paths.round net m b / 2) (range_with_len 0 (length net.hosts))
 
 -- the factor of backoffs that a scenario's number names
 abbrev pub factor_of : ℕ → BackoffFactor

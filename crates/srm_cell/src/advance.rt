@@ -27,8 +27,9 @@ pub fn advance(alloc: Global, scenario: &Scenario, net: &Net, job: Job) -> Resul
     ensures { Advances (λ b. plain b) scenario.now net.now job result }
 {
     let Job { place, till, cells } = job;
-    let (cells, rows) = match run_each(alloc, till, cells) {
-        Ok(ran) => ran,
+    let mut cells = cells;
+    let rows = match run_each(alloc, till, cells.as_mut_slice()) {
+        Ok(rows) => rows,
         Err(fault) => return Err(fault),
     };
     let Ok(crossings) = crossings_of(alloc, scenario, net, rows.as_slice()) else {
@@ -43,18 +44,14 @@ pub fn advance(alloc: Global, scenario: &Scenario, net: &Net, job: Job) -> Resul
 }
 
 // Each cell's own run, and its rows.
-fn run_each(
-    alloc: Global,
-    till: u64,
-    waiting: Vec<Cell>,
-) -> Result<(Vec<Cell>, Vec<Sequence<Row>>), CellFault>
+fn run_each(alloc: Global, till: u64, cells: &mut [Cell]) -> Result<Vec<Sequence<Row>>, CellFault>
     requires { till ≤ end_of_time }
-    ensures { (qs : List OwnCell) → AreCells (λ b. plain b) waiting.items qs → TellsRuns (λ b. plain b) till qs result }
+    ensures many { length cells.new ≡ length cells.old }
+    ensures runs { (qs : List OwnCell) → AreCells (λ b. plain b) cells.old qs
+        → TellsRuns (λ b. plain b) till qs result cells.new }
 {
-    let mut cells = Vec::new(alloc);
     let mut rows = Vec::new(alloc);
-    for cell in waiting {
-        let mut cell = cell;
+    for cell in cells.iter_mut() {
         let new = match cell.run(alloc, till) {
             Ok(new) => new,
             Err(fault) => return Err(fault),
@@ -62,11 +59,8 @@ fn run_each(
         if rows.push(new).is_err() {
             return Err(CellFault::NoMemory);
         }
-        if cells.push(cell).is_err() {
-            return Err(CellFault::NoMemory);
-        }
     }
-    Ok((cells, rows))
+    Ok(rows)
 }
 
 // The crossings of all these rows. Where nothing was sent they do not allocate.

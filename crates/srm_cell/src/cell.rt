@@ -16,6 +16,7 @@ use crate::inbox::Inbox;
 use crate::pending::{Pending, Source, sooner};
 use crate::rows::{about, cause_at, expiry, word};
 use crate::script::Script;
+use srm_member::adapted::Adapted;
 use srm_member::cause::Cause;
 use srm_member::due::Due;
 use srm_member::exit::Exit;
@@ -95,8 +96,8 @@ impl Cell {
         Ok(())
     }
 
-    /// Takes the cell's least pending event, if it is before tick `end`, and gives its row. At a leave the member is finished and its
-    /// box is dropped.
+    /// Takes the cell's least pending event, if it is before tick `end`, and gives its row. At a leave the member is
+    /// finished and its box is dropped.
     ///
     /// # Errors
     /// `Spent` only where there is an event and its member is gone; `CountFull` only where the member is to send a packet with
@@ -213,7 +214,15 @@ impl Cell {
             Err(MemberFault::NoMemory) => return Err(CellFault::NoMemory),
             Err(MemberFault::Spent) => return Err(CellFault::Spent),
         };
-        let React { told, lost, body } = reaction;
+        let React {
+            told,
+            lost,
+            body,
+            adapted,
+        } = reaction;
+        let Ok(adapted) = Adapted::of(alloc, adapted) else {
+            return Err(CellFault::NoMemory);
+        };
         let cause_word = word(&cause);
         let subject = about(cause, &body);
         self.member = Some(member);
@@ -225,6 +234,7 @@ impl Cell {
                 told,
                 lost,
                 sent: None,
+                adapted,
             });
         };
         if self.sent >= COUNT_LIMIT {
@@ -246,6 +256,7 @@ impl Cell {
                 sent: key.time,
                 body,
             }),
+            adapted,
         })
     }
 
@@ -271,6 +282,7 @@ impl Cell {
                     told: Told::Parted,
                     lost: Sequence::new(alloc),
                     sent: None,
+                    adapted: Adapted::nothing(),
                 })
             }
         }

@@ -199,6 +199,7 @@ impl Member for Reporter {
                 body: Some(Body::Session {
                     heard: Sequence::new(alloc),
                 }),
+                adapted: None,
             });
         }
         self.gone = true;

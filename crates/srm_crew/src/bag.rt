@@ -1,5 +1,6 @@
 //! A bag of items, each with a place of its own, from which threads take the oldest.
 ghost use Rattle.std.specs.Prelude.{◌≡◌, ◌<◌, ◌≤◌, ◌+◌, ◌++◌, ◌⊎◌, ◌↔◌, ℕ, Some, length, slice_get, vec_capacity, IfOk, MatchOption, MatchResult};
+ghost use Rattle.srm_net.specs.Limits.{most_nodes};
 ghost use Rattle.srm_crew.specs.Places.{EachOnce, AllBelow};
 ghost use Rattle.srm_crew.specs.Passes.{PassView, fresh_pass, with_put, with_taken, half_with_list, half_without, both_passes, TellsPut, TellsTake, TellsEmpty, TookEachAtMostOnce};
 
@@ -38,7 +39,7 @@ impl<T> Bag<T> {
     /// # Errors
     /// `NoMemory`.
     pub fn open(alloc: Global, room: usize) -> Result<(Bag<T>, Pass<T>), BagFault>
-        requires { (1 ≤ room) × (room ≤ 1024) }
+        requires { (1 ≤ room) × (room ≤ most_nodes) }
         ensures { IfOk result (λ r. (r.0.room ≡ room) × (r.1 ≡ fresh_pass r.0.name)) }
     {
         let Ok(taken) = Vec::with_capacity(alloc, room) else {

@@ -1,5 +1,6 @@
 //! A crew of threads of its own, which take jobs from a bag.
 ghost use Rattle.std.specs.Prelude.{◌≡◌, ◌≤◌, ℕ, List, length, All};
+ghost use Rattle.srm_net.specs.Limits.{most_nodes};
 ghost use denote.Param.Send.{IsSync};
 ghost use Rattle.srm_cell.specs.Jobs.{PlainJob, MayAdvance, Advances};
 ghost use Rattle.srm_crew.specs.Crews.{Maps};
@@ -43,7 +44,7 @@ fn advance_in_bag<R: Threads + Wait + Sync, G: Gate + Sync>(
 ) -> Result<(Vec<Done>, Seat), CrewFault>
     requires jobs { All (λ j. MayAdvance (λ b. (⟦<dyn Member as Member>⟧ b.vtable).plain b.value)
         (length net.now.hosts) j) jobs.items }
-    requires many { length jobs.items ≤ 1024 }
+    requires many { length jobs.items ≤ most_nodes }
     requires links { ledger.now.links ≡ length net.now.links }
     requires seat { seat.ledger ≡ ledger.now.name }
     ensures { Maps (λ b. (⟦<dyn Member as Member>⟧ b.vtable).plain b.value) scenario.now net.now seat
@@ -88,7 +89,7 @@ impl<R: Threads + Wait + Sync, G: Gate + Sync> BagCrew<R, G> {
     ) -> Result<(Vec<Done>, Seat), CrewFault>
         requires jobs { All (λ j. MayAdvance (λ b. (⟦<dyn Member as Member>⟧ b.vtable).plain b.value)
             (length net.now.hosts) j) jobs.items }
-        requires many { length jobs.items ≤ 1024 }
+        requires many { length jobs.items ≤ most_nodes }
         requires links { ledger.now.links ≡ length net.now.links }
         requires seat { seat.ledger ≡ ledger.now.name }
         ensures { Maps (λ b. (⟦<dyn Member as Member>⟧ b.vtable).plain b.value) scenario.now net.now seat

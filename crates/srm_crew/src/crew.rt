@@ -1,6 +1,7 @@
 //! What a crew is.
 ghost use Rattle.std.specs.Prelude.{◌≡◌, ◌≤◌, ◌∷◌, ◌++◌, [], ℕ, List, length, map, All, IfOk};
 ghost use Rattle.std.specs.List.{range_with_len};
+ghost use Rattle.srm_net.specs.Limits.{most_nodes};
 ghost use Rattle.srm_cell.specs.Jobs.{PlainJob, MayAdvance};
 ghost use Rattle.srm_crew.specs.Crews.{AreJobs, Maps};
 
@@ -23,10 +24,10 @@ pub trait Crew {
     /// For each job, in order of places, what `advance` gives. The seat's shares grow by the crossings of all their rows.
     ///
     /// # Errors
-    /// [`CrewFault::Spent`] only where a job meets an event of a member that is gone; [`CrewFault::CountFull`] only where one meets
-    /// a packet count that is used up; [`CrewFault::ShareFull`] only where the seat's share of a word, with the crossings of some of
-    /// the rows, is above [`SHARE_MOST`](srm_ledger::seat::SHARE_MOST); and [`CrewFault::NoMemory`]. Which of several comes is
-    /// open. After each the jobs and the seat are gone.
+    /// [`CrewFault::Spent`] only where a job meets an event of a member that is gone; [`CrewFault::CountFull`] only
+    /// where one meets a packet count that is used up; [`CrewFault::ShareFull`] only where the seat's share of a word,
+    /// with the crossings of some of the rows, is above [`SHARE_MOST`](srm_ledger::seat::SHARE_MOST); and
+    /// [`CrewFault::NoMemory`]. Which of several comes is open. After each the jobs and the seat are gone.
     fn map(
         &mut self,
         alloc: Global,
@@ -39,7 +40,7 @@ pub trait Crew {
         requires ready { ready self.old }
         requires jobs { All (λ j. MayAdvance (λ b. (⟦<dyn Member as Member>⟧ b.vtable).plain b.value)
             (length net.now.hosts) j) jobs.items }
-        requires many { length jobs.items ≤ 1024 }
+        requires many { length jobs.items ≤ most_nodes }
         requires places { map (λ j. j.place) jobs.items ≡ range_with_len 0 (length jobs.items) }
         requires links { ledger.now.links ≡ length net.now.links }
         requires seat { seat.ledger ≡ ledger.now.name }

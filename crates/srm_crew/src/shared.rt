@@ -1,5 +1,6 @@
 //! Work on each of some items, shared among workers.
 ghost use Rattle.std.specs.Prelude.{◌≡◌, ◌≤◌, ◌*◌, ℕ, List, [], length, All, Ok, IfOk};
+ghost use Rattle.srm_net.specs.Limits.{most_nodes};
 ghost use Rattle.srm_crew.specs.Places.{EachOnce};
 ghost use Rattle.srm_crew.specs.Passes.{fresh_pass};
 ghost use Rattle.srm_crew.specs.Shared.{TellsWork, TellsAll};
@@ -85,7 +86,7 @@ pub(crate) fn by_workers<
     seat: Seat,
     items: Vec<T>,
 ) -> Result<(Vec<D>, Seat), CrewFault>
-    requires many { length items.items ≤ 1024 }
+    requires many { length items.items ≤ most_nodes }
     requires seat { seat.ledger ≡ ledger.now.name }
     requires ready { All (λ x. F.pre work x) items.items }
     requires long { (x : T) (d : D) → F.pre work x → F.post work x (Ok d)

@@ -3,6 +3,7 @@ use Rattle.std.specs.Prelude.{◌≡◌, ◌≤◌, ℕ, List, length, map, All}
 use Rattle.std.specs.List.{range_with_len}
 use Rattle.std.specs.declared.dyn_box.DynBox.{DynBox}
 use Rattle.std.specs.Global.{Global}
+use Rattle.srm_net.specs.Limits.{most_nodes}
 use Rattle.srm_member.specs.Record.{Record}
 use Rattle.srm_cell.specs.declared.job.Job.{Job}
 use Rattle.srm_cell.specs.declared.cell.Cell.{Cell}
@@ -13,7 +14,7 @@ module _ {X : Type 0} {H : X → Type 0} where
   pub record MayMap (f : DynBox X Global H → Record) (members : ℕ) (js : List (Job X H)) : Type 0 where
     pub jobs : All (λ j. MayAdvance f members j) js
     pub places : map (λ j. j.place) js ≡ range_with_len 0 (length js)
-    pub few : length js ≤ 1024
+    pub few : length js ≤ most_nodes
 
   -- these are cells of so many members, and few
   pub record AreKnown (f : DynBox X Global H → Record) (members : ℕ) (cs : List (Cell X H)) : Type 0 where

@@ -1,4 +1,4 @@
-//! Two jobs that wait for each other at the gate.
+//! Jobs that wait for each other at the gate.
 ghost use Rattle.std.specs.Prelude.{◌≡◌, ◌≤◌, length, IfOk};
 ghost use denote.Param.Send.{IsSync};
 
@@ -7,6 +7,7 @@ use srm_crew::bag_crew::BagCrew;
 use srm_crew::fault::CrewFault;
 use srm_crew::gate::Gate;
 use srm_crew::pass::Pass;
+use srm_examples::meeting::Meeting;
 use srm_examples::scenarios::TWO_NODES;
 use srm_ledger::ledger::Ledger;
 use srm_ledger::seat::Seat;
@@ -15,46 +16,38 @@ use srm_scenario::scenario::Scenario;
 use std::alloc::{AllocError, Global};
 use std::marker::Sync;
 use std::process::Abort;
-use std::sync::atomic::{AtomicU64, Ordering};
-use std::sync::{Arc, Barrier, Wait};
+use std::sync::{Arc, Wait};
 use std::thread::Threads;
 
-/// A gate at which two wait for each other, and which counts those that entered by their places.
+/// A gate at which the jobs of two places wait for each other.
 #[derive(Drop)]
-struct Meeting {
-    both: Barrier,
-    first: Arc<AtomicU64>,
-    second: Arc<AtomicU64>,
+struct MeetingGate {
+    meeting: Arc<Meeting>,
 }
 
-impl Gate for Meeting {
-    fn enter<T, R: Wait>(&self, rt: &R, place: usize, _pass: &Pass<T>) {
-        let entered = if place == 0 {
-            &self.first
-        } else {
-            &self.second
-        };
-        entered.fetch_add(1, Ordering::SeqCst);
-        self.both.wait(rt);
+impl Gate for MeetingGate {
+    fn enter<T, R: Wait>(&self, _rt: &R, place: usize, _pass: &Pass<T>) {
+        self.meeting.come(place);
     }
 }
 
-// Hands two jobs to a crew with that gate.
+// Hands so many jobs to a crew with that gate.
 fn meet<R: Threads + Wait + Sync>(
     rt: &impl Abort,
     alloc: Global,
-    crew: &BagCrew<R, Meeting>,
+    crew: &BagCrew<R, MeetingGate>,
     scenario: &Scenario,
     net: &Net,
     ledger: &Ledger,
     seat: Seat,
+    count: usize,
 ) -> Result<Seat, AllocError>
     requires ready { IsSync R.row }
     requires links { ledger.now.links ≡ length net.now.links }
     requires seat { seat.ledger ≡ ledger.now.name }
     ensures { IfOk result (λ s. s.ledger ≡ ledger.now.name) }
 {
-    let jobs = idle_jobs(rt, alloc, net, 2)?;
+    let jobs = idle_jobs(rt, alloc, net, count)?;
     let (done, seat) = match crew.map_with_gate(alloc, scenario, net, ledger, seat, jobs) {
         Ok(mapped) => mapped,
         Err(fault) => {
@@ -62,38 +55,42 @@ fn meet<R: Threads + Wait + Sync>(
             return Err(AllocError);
         }
     };
-    assert_eq!(rt; done.len(), 2);
+    assert_eq!(rt; done.len(), count);
     Ok(seat)
 }
 
-// Hands two jobs to it so often.
+// How often jobs are handed to a crew.
+const TIMES: u64 = 100;
+
+// Hands so many jobs to it again and again.
 fn meet_again<R: Threads + Wait + Sync>(
     rt: &impl Abort,
     alloc: Global,
-    crew: &BagCrew<R, Meeting>,
+    crew: &BagCrew<R, MeetingGate>,
     scenario: &Scenario,
     net: &Net,
     ledger: &Ledger,
     seat: Seat,
-    times: u64,
+    count: usize,
 ) -> Result<(), AllocError>
     requires ready { IsSync R.row }
     requires links { ledger.now.links ≡ length net.now.links }
     requires seat { seat.ledger ≡ ledger.now.name }
 {
     let mut back = seat;
-    for _ in 0..times {
-        back = meet(rt, alloc, crew, scenario, net, ledger, back)?;
+    for _ in 0..TIMES {
+        back = meet(rt, alloc, crew, scenario, net, ledger, back, count)?;
     }
     Ok(())
 }
 
-// So often, with so many workers.
+// So many jobs, with so many workers, again and again. Each time the jobs of this place and of the next one are under way at once.
 fn meet_often<R: Abort + Threads + Wait + Sync>(
     rt: &R,
     alloc: Global,
     workers: u8,
-    times: u64,
+    count: usize,
+    place: usize,
 ) -> Result<(), AllocError>
     requires { (2 ≤ workers) × (workers ≤ 64) }
 {
@@ -103,26 +100,31 @@ fn meet_often<R: Abort + Threads + Wait + Sync>(
     let Ok((ledger, seat)) = Ledger::open(alloc, links) else {
         return Err(AllocError);
     };
-    let first = Arc::new(alloc, AtomicU64::new(0))?;
-    let second = Arc::new(alloc, AtomicU64::new(0))?;
-    let gate = Meeting {
-        both: Barrier::new(2),
-        first: Arc::try_clone(&first)?,
-        second: Arc::try_clone(&second)?,
+    let meeting = Meeting::new(alloc, place)?;
+    let gate = MeetingGate {
+        meeting: Arc::try_clone(&meeting)?,
     };
     let crew = BagCrew::new(rt, gate, workers);
-    meet_again(rt, alloc, &crew, &scenario, &net, &ledger, seat, times)?;
-    assert_eq!(rt; first.load(Ordering::SeqCst), times);
-    assert_eq!(rt; second.load(Ordering::SeqCst), times);
+    meet_again(rt, alloc, &crew, &scenario, &net, &ledger, seat, count)?;
+    let entries = meeting.entries();
+    assert_eq!(rt; entries.missed, 0);
+    assert_eq!(rt; entries.first, TIMES);
+    assert_eq!(rt; entries.second, TIMES);
     Ok(())
 }
 
 #[test]
 fn two_workers_meet_at_the_gate(rt: HostRuntime) -> Result<(), AllocError> {
-    meet_often(&rt, rt.alloc(), 2, 1000)
+    meet_often(&rt, rt.alloc(), 2, 2, 0)
 }
 
 #[test]
 fn two_of_64_workers_meet_at_the_gate(rt: HostRuntime) -> Result<(), AllocError> {
-    meet_often(&rt, rt.alloc(), 64, 1000)
+    meet_often(&rt, rt.alloc(), 64, 2, 0)
+}
+
+// Each worker has to take a job more than its first.
+#[test]
+fn two_workers_meet_at_the_gate_with_their_second_jobs(rt: HostRuntime) -> Result<(), AllocError> {
+    meet_often(&rt, rt.alloc(), 2, 4, 2)
 }

@@ -16,4 +16,4 @@ pub mod SoonLemmas
 pub mod SoonGroups
 pub mod Beginnings
 pub mod WindowLemmas
-pub mod KMerging
+pub mod Merging

@@ -10,6 +10,7 @@ use Rattle.srm_scenario.specs.Plain.{PlainScenario, network_of}
 use Rattle.srm_scenario.specs.Accepted.{IsAccepted}
 use Rattle.srm_scenario.specs.declared.parts.MemberSpec.{MemberSpec}
 use Rattle.srm_scenario.proofs.Members.{few_members}
+use Rattle.srm_net.specs.Limits.{most_nodes}
 use Rattle.srm_member.specs.declared.row.Row.{Row}
 use Rattle.srm_member.specs.Record.{Record}
 use Rattle.srm_ledger.specs.Seats.{LedgerView, SeatView, whole_seat, words_of}
@@ -79,7 +80,7 @@ ends_are_rules p net is accepted seed Promised may =
 pub record JobsTell {X : Type 0} {H : X → Type 0} (f : DynBox X Global H → Record) (e : WindowEngine X H) (seed end : ℕ) (w : World)
     (js : List (Job X H)) : Type 0 where
   pub may : All (λ (j : Job X H). cell.MayAdvance f (length e.net.now.hosts) j) js
-  pub few : length js ≤ 1024
+  pub few : length js ≤ most_nodes
   pub placed : map (λ (j : Job X H). j.place) js ≡ range_with_len 0 (length js)
   pub seen : AreJobs f js (handed_jobs 0 (jobs_of e.groups.cut end w))
   pub not_spent : AnyEnds Spent (handed_jobs 0 (jobs_of e.groups.cut end w)) → ⊥

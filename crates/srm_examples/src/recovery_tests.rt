@@ -12,6 +12,7 @@ use crate::stories::receiver::RECEIVER;
 use crate::stories::sender::SENDER;
 use crate::stories::story::Story;
 use srm_member::backoff::BackoffFactor;
+use srm_member::distances::Distances;
 use srm_member::fixed::Fixed;
 use srm_member::limits::Limits;
 use srm_member::member::Member;
@@ -44,7 +45,7 @@ fn lead(
         c2: Limits::without_room(c2),
         d1: Limits::without_room(1000),
         d2: Limits::without_room(0),
-        dist: Sequence::from_vec(dist.to_vec(alloc)?),
+        dist: Distances::from(Sequence::from_vec(dist.to_vec(alloc)?)),
         pages: Sequence::from_vec([1].to_vec(alloc)?),
         seed: 42,
         stream: 54,

@@ -104,7 +104,16 @@ fn fixed_part(rt: &impl Abort, alloc: Global) -> Result<(), AllocError> {
         ],
         [2000, 2000, 1000, 0]
     );
-    assert_eq!(rt; fixed.dist.as_slice(), [10, 5, 0, 5].as_slice());
+    assert_eq!(rt;
+        [
+            fixed.dist.get(0),
+            fixed.dist.get(1),
+            fixed.dist.get(2),
+            fixed.dist.get(3),
+            fixed.dist.get(4)
+        ],
+        [Some(10), Some(5), Some(0), Some(5), None]
+    );
     assert_eq!(rt; fixed.pages.as_slice(), [1].as_slice());
     assert_eq!(rt; (fixed.seed, fixed.stream), (42, 54));
     Ok(())

@@ -1,6 +1,6 @@
 -- Without room members whose records differ in intervals alone answer alike.
 use Rattle.std.proofs.Common.{◌≡◌, ℕ, zero, suc, ◌+◌, ◌-◌, ◌/◌, min, Bool, true, false, cond, ◌&&◌, List, [], ◌∷◌, ◌++◌, refl}
-use Rattle.std.proofs.Common.{Option, Some, None, nat_lt, nat_le, ap, sym, subst, ◌∙◌, arith}
+use Rattle.std.proofs.Common.{Option, Some, None, nat_lt, nat_le, ap, sym, subst, ◌∙◌, arith, eq-eqb, ◌==◌, ◌≢◌}
 use Rattle.std.specs.FinMap.Entries.{put, find}
 use Rattle.srm_net.specs.declared.packet.Name.{Name}
 use Rattle.srm_net.specs.declared.packet.PageId.{PageId}
@@ -14,9 +14,11 @@ use Rattle.srm_member.specs.declared.cause.Cause.{Cause}
 use Rattle.srm_member.specs.declared.cause.Cause.TheVariants.{Join, Arrival, Ask, Answer, Draw, Report}
 use Rattle.srm_member.specs.declared.fixed.Fixed.{Fixed}
 use Rattle.srm_member.specs.Backoff.{span_by}
-use Rattle.srm_member.specs.Intervals.{Interval, Limits}
+use Rattle.srm_member.specs.declared.intervals.Intervals.{Intervals}
+use Rattle.srm_member.specs.Intervals.{Interval, Limits, has_constants_of}
 use Rattle.srm_member.specs.IntervalLaws.{Change, changed, IsWithinLimits, HasNoRoom}
 use Rattle.srm_member.specs.AdaptingLaws.{HasFixedTimers, IsAdaptedWithin, FixedTimersIgnoreWhatIsSeen}
+use Rattle.srm_member.specs.AdaptingLaws.{DifferInAdapted, FixedTimersAreToldAtJoinsAlone, ListenersTellNoIntervals}
 use Rattle.srm_member.specs.Record.{MemberState, Missing, Repairing, Progress, timers_of}
 use Rattle.srm_member.specs.React.{Reaction, has_entry, distance_to, length_in, with_next_word, request_length, repair_length, back_off}
 use Rattle.srm_member.specs.React.{with_progress, with_request_delay, with_losses_begun, with_mending_seen, with_repair_seen}
@@ -27,7 +29,9 @@ use Rattle.srm_member.specs.React.{hear_request_by_entry, hear_request_of_held, 
 use Rattle.srm_member.specs.React.{after_entry}
 use Rattle.srm_member.specs.React.{lost_by_entry, hear_session, hear_body, expire_request_by_entry, expire_request, expire_repair_by_entry}
 use Rattle.srm_member.specs.React.{expire_repair, own_page, own_progress, draw_operation, is_skip, react_active, listen_data}
-use Rattle.srm_member.specs.React.{listen, react_listener, react}
+use Rattle.srm_member.specs.React.{listen, react_listener, react_telling, react, with_adapted, intervals_of, adapted_at, adapted_since}
+use Rattle.srm_member.specs.React.{telling_intervals}
+use Rattle.srm_member.proofs.LawProofs.{as_listener}
 use Rattle.srm_member.proofs.IntervalProofs.{changed_within, ordered_without_room, only_first}
 use Rattle.srm_member.proofs.IntervalChanges.{Adapts, adapts_delay, adapts_losses, adapts_mending, adapts_repair_seen, adapts_repairs_begun}
 use Rattle.srm_member.proofs.IntervalChanges.{adapts_duplicate, adapts_request_first, adapts_repair_first, adapts_same, adapts_back_off}
@@ -49,6 +53,25 @@ stays_first start width hs hw c i h =
 -- a record with other intervals
 abbrev swapped : Interval → Interval → MemberState → MemberState
 swapped a b m = record m { request_interval = a; repair_interval = b }
+
+-- a listener tells nothing of intervals
+quiet_if : (b : Bool) (x y : Reaction) → x.answer.adapted ≡ None → y.answer.adapted ≡ None → (cond b x y).answer.adapted ≡ None
+quiet_if true x y h g = h
+quiet_if false x y h g = g
+
+listener_tells_none : (m : MemberState) (cause : Cause) → (react_listener m cause).answer.adapted ≡ None
+listener_tells_none m Join = refl
+listener_tells_none m (Arrival p) = by_body p.body
+  where
+    by_body : (b : Body) → (listen b m).answer.adapted ≡ None
+    by_body (Drawop n ink) = quiet_if _ _ _ refl refl
+    by_body (Repair n ink) = quiet_if _ _ _ refl refl
+    by_body (Request n) = refl
+    by_body (Session hs) = refl
+listener_tells_none m (Ask n) = refl
+listener_tells_none m (Answer n) = refl
+listener_tells_none m (Draw page ink) = refl
+listener_tells_none m Report = refl
 
 module _ (f : Fixed) (roomless : HasFixedTimers f) where
   abbrev Asks : Interval → Type 0
@@ -396,15 +419,63 @@ module _ (f : Fixed) (roomless : HasFixedTimers f) where
   alike_listener (Draw page ink) a b m h = record { answer = refl; state = h }
   alike_listener Report a b m h = record { answer = refl; state = h }
 
+  -- the same but for what the answers tell of intervals
+  record AlikeTold (r s : Reaction) : Type 0 where
+    pub answer : DifferInAdapted r.answer s.answer
+    pub state : Alike r.state s.state
+
+  told_if : (b : Bool) (x y z w : Reaction) → AlikeTold x z → AlikeTold y w → AlikeTold (cond b x y) (cond b z w)
+  told_if true x y z w h g = h
+  told_if false x y z w h g = g
+
+  told_quiet : (r s : Reaction) → AlikeReaction r s → AlikeTold r s
+  told_quiet r s h = record { answer = ap (λ a. with_adapted s.answer.adapted a) h.answer; state = h.state }
+
+  told_alike : (cause : Cause) (i j : Intervals) (r s : Reaction) → AlikeReaction r s
+      → AlikeTold (telling_intervals cause i r) (telling_intervals cause j s)
+  told_alike cause i j r s h = record {
+    answer = ap (λ a. with_adapted (adapted_at cause j (intervals_of s.state)) a) h.answer;
+    state = h.state;
+  }
+
   react_alike : (at : ℕ) (cause : Cause) (a b : Interval) (m : MemberState) → Alike m (swapped a b m)
-      → AlikeReaction (react m at cause) (react (swapped a b m) at cause)
+      → AlikeTold (react m at cause) (react (swapped a b m) at cause)
   unfolding react
   react_alike at cause a b m h =
-      alike_if (is_listener m.fixed.role) _ _ _ _ (alike_listener cause a b m h) (alike_active at cause a b m h)
+      told_if (is_listener m.fixed.role) _ _ _ _ (told_quiet _ _ (alike_listener cause a b m h))
+      (told_alike cause _ _ _ _ (alike_active at cause a b m h))
 
-  alike_react : (at : ℕ) (cause : Cause) (m k : MemberState) → Alike m k → AlikeReaction (react m at cause) (react k at cause)
-  alike_react at cause m k h = by_swap (λ q. AlikeReaction (react m at cause) (react q at cause)) m k h
+  alike_react : (at : ℕ) (cause : Cause) (m k : MemberState) → Alike m k → AlikeTold (react m at cause) (react k at cause)
+  alike_react at cause m k h = by_swap (λ q. AlikeTold (react m at cause) (react q at cause)) m k h
       (λ a b fit. react_alike at cause a b m (swap a b m h.left fit))
+
+  -- ---- what is told of intervals
+
+  same_constants : (i j : Interval) → j.start ≡ i.start → j.width ≡ i.width → has_constants_of i j ≡ true
+  same_constants i j start width = λ x. eq-eqb j.start i.start start x && eq-eqb j.width i.width width x
+
+  none_told : (m k : MemberState) → Fit m → Fit k → adapted_since (intervals_of m) (intervals_of k) ≡ None
+  none_told m k h g =
+      let request = same_constants m.request_interval k.request_interval (g.requests.0 ∙ sym h.requests.0)
+      (g.requests.1 ∙ sym h.requests.1) in
+      let repair = same_constants m.repair_interval k.repair_interval (g.repairs.0 ∙ sym h.repairs.0) (g.repairs.1 ∙ sym h.repairs.1) in
+      λ x. cond (request x && repair x) None (Some (intervals_of k))
+
+  none_at : (cause : Cause) (m k : MemberState) → Fit m → Fit k → cause ≢ Join
+      → adapted_at cause (intervals_of m) (intervals_of k) ≡ None
+  none_at Join m k h g other = absurd (other refl)
+  none_at (Arrival p) m k h g other = none_told m k h g
+  none_at (Ask n) m k h g other = none_told m k h g
+  none_at (Answer n) m k h g other = none_told m k h g
+  none_at (Draw page ink) m k h g other = none_told m k h g
+  none_at Report m k h g other = none_told m k h g
+
+  react_tells_none : (at : ℕ) (cause : Cause) (m : MemberState) → Fit m → cause ≢ Join → (react m at cause).answer.adapted ≡ None
+  unfolding react
+  react_tells_none at cause m h other =
+      let after = alike_active at cause m.request_interval m.repair_interval m (swap m.request_interval m.repair_interval m h h) in
+      quiet_if (is_listener m.fixed.role) (react_listener m cause) (react_telling m at cause) (listener_tells_none m cause)
+      (none_at cause m (react_active m at cause).state h after.state.left other)
 
 -- a record within limits without room has the first constants
 first_of : (f : Fixed) (roomless : HasFixedTimers f) (m : MemberState) → m.fixed ≡ f → IsAdaptedWithin m → Fit f roomless m
@@ -429,3 +500,11 @@ fixed_timers_ignore_what_is_seen m k at cause roomless wm wk differ =
       same = differ;
     }) in
     (r.answer, ap timers_of r.state.same, r.state.same)
+
+pub fixed_timers_are_told_at_joins_alone : FixedTimersAreToldAtJoinsAlone
+fixed_timers_are_told_at_joins_alone m at cause roomless w other =
+    react_tells_none m.fixed roomless at cause m (first_of m.fixed roomless m refl w) other
+
+pub listeners_tell_no_intervals : ListenersTellNoIntervals
+listeners_tell_no_intervals m at cause role =
+    ap (λ (r : Reaction). r.answer.adapted) (as_listener m at cause (ap is_listener role)) ∙ listener_tells_none m cause

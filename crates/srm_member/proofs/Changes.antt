@@ -19,6 +19,8 @@ use Rattle.srm_member.specs.declared.told.Told.TheVariants.{Entered, Fresh, Fixe
 use Rattle.srm_member.specs.Record.{MemberState, Missing, Repairing, Progress}
 use Rattle.srm_net.specs.Roles.{is_late, is_sender, is_listener}
 use Rattle.srm_member.specs.React.{Reaction, quietly, send_body, without, has_entry, back_off, wants}
+use Rattle.srm_member.specs.React.{adapted_at, intervals_of, react_telling, with_adapted}
+use Rattle.srm_member.specs.declared.intervals.Intervals.{Intervals}
 use Rattle.srm_member.specs.React.{with_losses_begun, with_repair_seen, with_duplicate_request}
 use Rattle.srm_member.specs.React.{with_request_first, with_repair_first}
 use Rattle.srm_member.specs.React.{begins_at, with_progress, meet, lose_one, lose_from, names_from, lose_below, lost_below, with_held}
@@ -679,8 +681,63 @@ listener_effect m (Answer n) = inl (skips m Skip (λ e. cc) (λ e. cc))
 listener_effect m (Draw page ink) = inl (skips m Skip (λ e. cc) (λ e. cc))
 listener_effect m Report = inl (skips m Skip (λ e. cc) (λ e. cc))
 
+-- what it tells of intervals has no part in that
+told_quiet : (o : Option Intervals) (m : MemberState) (r : Reaction) → Quiet m r → Quiet m (record r { answer = with_adapted o r.answer })
+told_quiet o m r h = record { grows = h.grows; not_fresh = h.not_fresh; not_fixed = h.not_fixed; body = h.body }
+
+told_brought : (o : Option Intervals) (m : MemberState) (b : Body) (r : Reaction) → Brought m b r
+    → Brought m b (record r { answer = with_adapted o r.answer })
+told_brought o m b r h = record {
+  name = h.name;
+  ink = h.ink;
+  brings = h.brings;
+  mid = h.mid;
+  grows = h.grows;
+  fixed = h.fixed;
+  held = h.held;
+  mends = h.mends;
+  below = h.below;
+  plans = h.plans;
+  body = h.body;
+}
+
+told_drawn : (o : Option Intervals) (m : MemberState) (r : Reaction) → Drawn m r → Drawn m (record r { answer = with_adapted o r.answer })
+told_drawn o m r h = record {
+  name = h.name;
+  ink = h.ink;
+  source = h.source;
+  fixed = h.fixed;
+  held = h.held;
+  missing = h.missing;
+  repairs = h.repairs;
+  new = h.new;
+  heard = h.heard;
+  below = h.below;
+  told = h.told;
+  lost = h.lost;
+  body = h.body;
+}
+
+told_effect : (o : Option Intervals) (m : MemberState) (cause : Cause) (r : Reaction) → Effect m cause r
+    → Effect m cause (record r { answer = with_adapted o r.answer })
+told_effect o m cause r (inl h) = inl (told_quiet o m r h)
+told_effect o m (Arrival p) r (inr (inl h)) = inr (inl (told_brought o m p.body r h))
+told_effect o m (Draw page ink) r (inr (inr h)) = inr (inr (told_drawn o m r h))
+told_effect o m Join r (inr (inl h)) = absurd h
+told_effect o m Join r (inr (inr h)) = absurd h
+told_effect o m (Arrival p) r (inr (inr h)) = absurd h
+told_effect o m (Ask n) r (inr (inl h)) = absurd h
+told_effect o m (Ask n) r (inr (inr h)) = absurd h
+told_effect o m (Answer n) r (inr (inl h)) = absurd h
+told_effect o m (Answer n) r (inr (inr h)) = absurd h
+told_effect o m (Draw page ink) r (inr (inl h)) = absurd h
+told_effect o m Report r (inr (inl h)) = absurd h
+told_effect o m Report r (inr (inr h)) = absurd h
+
 -- what an event changes of the names that a member holds and lacks
 pub effect : (m : MemberState) (at : ℕ) (cause : Cause) → Effect m cause (react m at cause)
 unfolding react
-effect m at cause = if_either (Effect m cause) (is_listener m.fixed.role) (react_listener m cause) (react_active m at cause)
-    (λ l. listener_effect m cause) (λ l. active_effect m at cause)
+effect m at cause = if_either (Effect m cause) (is_listener m.fixed.role) (react_listener m cause) (react_telling m at cause)
+    (λ l. listener_effect m cause)
+    (λ l. told_effect (adapted_at cause (intervals_of m) (intervals_of (react_active m at cause).state)) m cause (react_active m at cause)
+    (active_effect m at cause))

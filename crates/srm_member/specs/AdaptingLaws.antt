@@ -1,14 +1,15 @@
 -- What holds of the intervals of every member's timers.
-use Rattle.std.specs.Prelude.{◌≡◌, ℕ, Bool, true, false, List}
+use Rattle.std.specs.Prelude.{◌≡◌, ◌≢◌, ℕ, Bool, true, false, List, None}
 use Rattle.srm_net.specs.declared.packet.Body.{Body}
 use Rattle.srm_net.specs.declared.packet.Body.TheVariants.{Drawop, Request, Repair, Session}
 use Rattle.srm_member.specs.declared.cause.Cause.{Cause}
 use Rattle.srm_member.specs.declared.cause.Cause.TheVariants.{Join, Arrival, Ask, Answer, Draw, Report}
+use Rattle.srm_member.specs.declared.react.React.{React}
 use Rattle.srm_member.specs.declared.fixed.Fixed.{Fixed}
 use Rattle.srm_net.specs.declared.role.Role.TheVariants.{Listener}
 use Rattle.srm_member.specs.IntervalLaws.{Change, after_changes, IsOrdered, IsWithinLimits, HasNoRoom}
 use Rattle.srm_member.specs.Record.{MemberState, opening_state, timers_of}
-use Rattle.srm_member.specs.React.{react}
+use Rattle.srm_member.specs.React.{react, with_adapted}
 
 -- an event changes intervals by their four changes alone
 abbrev pub IntervalsChangeAlone : Type 0
@@ -90,12 +91,28 @@ pub record HasFixedTimers (f : Fixed) : Type 0 where
 abbrev pub DifferInIntervals : MemberState → MemberState → Type 0
 DifferInIntervals m k = k ≡ record m { request_interval = k.request_interval; repair_interval = k.repair_interval }
 
+-- two answers that differ in what they tell of intervals alone
+abbrev pub DifferInAdapted : React → React → Type 0
+DifferInAdapted a b = b ≡ with_adapted b.adapted a
+
 -- without room averages, duplicates and who sent first make no difference: members whose records differ in intervals
--- alone give the same answers and have the same timers, and their records differ in intervals alone then
+-- alone give the same answers, but for what they tell of intervals, and have the same timers, and their records differ
+-- in intervals alone then
 abbrev pub FixedTimersIgnoreWhatIsSeen : Type 0
 FixedTimersIgnoreWhatIsSeen =
     (m k : MemberState) (at : ℕ) (cause : Cause) → HasFixedTimers m.fixed → IsAdaptedWithin m → IsAdaptedWithin k
     → DifferInIntervals m k
-    → ((react k at cause).answer ≡ (react m at cause).answer)
+    → DifferInAdapted (react m at cause).answer (react k at cause).answer
     × (timers_of (react k at cause).state ≡ timers_of (react m at cause).state)
     × DifferInIntervals (react m at cause).state (react k at cause).state
+
+-- without room no event but a join tells of intervals
+abbrev pub FixedTimersAreToldAtJoinsAlone : Type 0
+FixedTimersAreToldAtJoinsAlone =
+    (m : MemberState) (at : ℕ) (cause : Cause) → HasFixedTimers m.fixed → IsAdaptedWithin m → cause ≢ Join
+    → (react m at cause).answer.adapted ≡ None
+
+-- a listener tells nothing of intervals
+abbrev pub ListenersTellNoIntervals : Type 0
+ListenersTellNoIntervals =
+    (m : MemberState) (at : ℕ) (cause : Cause) → m.fixed.role ≡ Listener → (react m at cause).answer.adapted ≡ None

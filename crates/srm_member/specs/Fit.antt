@@ -8,7 +8,7 @@ use Rattle.srm_member.specs.Record.{MemberState, Record, Active, Gone, Progress}
 use Rattle.srm_member.specs.React.{Reaction}
 use Rattle.srm_net.specs.Limits.{greatest_distance}
 
--- distances are at most 1,023,000,000 ticks
+-- distances are at most 65,534,000,000 ticks
 abbrev pub IsBounded : Fixed → Type 0
 IsBounded f = All (λ d. d ≤ greatest_distance) f.dist
 

@@ -1,6 +1,6 @@
 -- The intervals that timers are drawn from, and how a member adapts them to the duplicates and the delays that it sees.
-use Rattle.std.specs.Prelude.{ℕ, ◌+◌, ◌-◌, ◌*◌, ◌/◌, min, max, Bool, true, false, Option, Some, None, nat_lt, nat_le}
-use Rattle.std.specs.Prelude.{if◌then◌else◌}
+use Rattle.std.specs.Prelude.{ℕ, ◌+◌, ◌-◌, ◌*◌, ◌/◌, min, max, Bool, true, false, ◌&&◌, Option, Some, None}
+use Rattle.std.specs.Prelude.{nat_lt, nat_le, ◌==◌, if◌then◌else◌}
 
 -- each constant of timers that is adapted, in thousandths, is at most this one
 abbrev pub greatest_adapted : ℕ
@@ -50,6 +50,10 @@ opening_interval start width = record {
   average_duplicates = None;
   average_delay = None;
 }
+
+-- start and width are those of another interval
+abbrev pub has_constants_of : Interval → Interval → Bool
+has_constants_of i j = (j.start == i.start) && (j.width == i.width)
 
 -- ---- a period begins
 

@@ -1,3 +1,4 @@
+pub mod Adapted
 pub mod Timers
 pub mod Record
 pub mod React
@@ -5,6 +6,7 @@ pub mod Reacts
 pub mod Examples
 pub mod Laws
 pub mod Pending
+pub mod Listing
 pub mod Fit
 pub mod Orderly
 pub mod Kinds

@@ -21,7 +21,9 @@ use Rattle.srm_member.specs.declared.told.Told.TheVariants.{Back, Sent, Heard as
 use Rattle.srm_member.specs.declared.react.React.{React}
 use Rattle.srm_member.specs.Timers.{timer_length}
 use Rattle.srm_member.specs.Backoff.{span_by}
-use Rattle.srm_member.specs.Intervals.{Interval, begin_period, take_in_delay, send_first, hear_duplicate}
+use Rattle.srm_member.specs.declared.intervals.Intervals.{Intervals}
+use Rattle.srm_member.specs.Intervals.{Interval, has_constants_of, begin_period, take_in_delay, send_first}
+use Rattle.srm_member.specs.Intervals.{hear_duplicate}
 use Rattle.srm_member.specs.Record.{Progress, Missing, Repairing, MemberState}
 use Rattle.srm_net.specs.Limits.{most_drawn}
 
@@ -32,11 +34,11 @@ pub record Reaction : Type 0 where
 
 -- an answer that sends nothing
 abbrev pub quietly : MemberState → Told → List Name → Reaction
-quietly m told lost = record { state = m; answer = record { told = told; lost = lost; body = None } }
+quietly m told lost = record { state = m; answer = record { told = told; lost = lost; body = None; adapted = None } }
 
 -- an answer that sends a packet
 abbrev pub send_body : MemberState → Body → Reaction
-send_body m body = record { state = m; answer = record { told = Sent; lost = []; body = Some body } }
+send_body m body = record { state = m; answer = record { told = Sent; lost = []; body = Some body; adapted = None } }
 
 -- the entries of all other names
 abbrev pub without : {V : Type 0} → Name → List (Name × V) → List (Name × V)
@@ -385,6 +387,39 @@ react_listener m _ = quietly m Skip []
 
 -- ---- both
 
+-- both intervals of a member
+abbrev pub intervals_of : MemberState → Intervals
+intervals_of m = record { request = m.request_interval; repair = m.repair_interval }
+
+-- what is told of the intervals after an event, before which they were others: them, where one of the four constants is
+-- another
+abbrev pub adapted_since : Intervals → Intervals → Option Intervals
+adapted_since before after =
+    if has_constants_of before.request after.request && has_constants_of before.repair after.repair then None
+    else Some after
+
+-- what an event tells of the intervals of a member that is no listener: at its join it tells them as they are
+abbrev pub adapted_at : Cause → Intervals → Intervals → Option Intervals
+adapted_at Join before after = Some after
+adapted_at (Arrival k) before after = adapted_since before after
+adapted_at (Ask n) before after = adapted_since before after
+adapted_at (Answer n) before after = adapted_since before after
+adapted_at (Draw page ink) before after = adapted_since before after
+adapted_at Report before after = adapted_since before after
+
+-- an answer that tells this of intervals
+abbrev pub with_adapted : Option Intervals → React → React
+with_adapted o a = record a { adapted = o }
+
+-- with what it tells of intervals, which were these before the event
+abbrev pub telling_intervals : Cause → Intervals → Reaction → Reaction
+telling_intervals cause before r =
+    record r { answer = with_adapted (adapted_at cause before (intervals_of r.state)) r.answer }
+
+-- what a member that is no listener answers, and what it knows then
+abbrev pub react_telling : MemberState → ℕ → Cause → Reaction
+react_telling m at cause = telling_intervals cause (intervals_of m) (react_active m at cause)
+
 -- what a member answers to a cause at a time, and what it knows then
 unfoldable pub react : MemberState → ℕ → Cause → Reaction
-react m at cause = if is_listener m.fixed.role then react_listener m cause else react_active m at cause
+react m at cause = if is_listener m.fixed.role then react_listener m cause else react_telling m at cause

@@ -1,5 +1,6 @@
 //! What never changes of a member.
 use crate::backoff::BackoffFactor;
+use crate::distances::Distances;
 use crate::limits::Limits;
 use srm_net::role::Role;
 use srm_net::sequence::Sequence;
@@ -22,9 +23,9 @@ pub struct Fixed {
     pub d1: Limits,
     /// By how much a repair timer may be longer, in thousandths (D2).
     pub d2: Limits,
-    /// The distance to each member that its timers and rests go by, in ticks: at most 1,023,000,000. Of a member of a scenario it is half
+    /// The distance to each member that its timers and rests go by, in ticks: at most 65,534,000,000. Of a member of a scenario it is half
     /// the round trip, rounded down.
-    pub dist: Sequence<u64>,
+    pub dist: Distances,
     /// Of a late member, the pages whose earlier operations it asks for.
     pub pages: Sequence<u16>,
     /// The seed of its generator.

@@ -2,7 +2,7 @@
 ghost use Rattle.std.specs.Prelude.{◌≡◌, ℕ, ◌+◌, ◌*◌, ◌<◌, ◌≤◌, ◌^◌, Some, unwrap_or};
 ghost use Rattle.srm_net.specs.Limits.{end_of_time};
 ghost use Rattle.srm_member.specs.Intervals;
-ghost use Rattle.srm_member.specs.Intervals.{greatest_adapted, opening_interval, adapted, adapt, begin_period, take_in_delay, send_first, hear_duplicate};
+ghost use Rattle.srm_member.specs.Intervals.{greatest_adapted, opening_interval, has_constants_of, adapted, adapt, begin_period, take_in_delay, send_first, hear_duplicate};
 
 use crate::average::Average;
 use crate::limits::Limits;
@@ -90,6 +90,14 @@ impl Interval {
         ensures bound { result ≤ greatest_adapted }
     {
         self.width
+    }
+
+    // Whether start and width are those of another.
+    #[inline]
+    pub(crate) fn has_constants_of(self, other: Interval) -> bool
+        ensures { result ≡ has_constants_of other self }
+    {
+        self.start == other.start && self.width == other.width
     }
 
     /// The average of duplicates in a period, in thousandths, if there is one. It does not allocate.

@@ -1,10 +1,12 @@
 //! Members of a session: what they know, what they answer, and their timers.
 #![tactic(auto)]
 
+pub mod adapted;
 pub mod adapting_laws;
 mod average;
 pub mod backoff;
 pub mod cause;
+pub mod distances;
 pub mod due;
 pub mod entries;
 pub mod exit;
@@ -15,6 +17,7 @@ pub mod held;
 mod index;
 pub mod interval;
 pub mod interval_laws;
+pub mod intervals;
 pub mod laws;
 pub mod limits;
 pub mod member;

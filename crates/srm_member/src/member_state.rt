@@ -9,7 +9,7 @@ ghost use Rattle.srm_member.specs.Intervals.{greatest_adapted};
 ghost use Rattle.srm_member.specs.declared.told.Told.TheVariants.{Sent};
 ghost use Rattle.srm_member.specs.Record.{opening_state, exit_of, earliest, timers_of};
 ghost use Rattle.srm_net.specs.Roles.{is_late};
-ghost use Rattle.srm_member.specs.React.{distance_to, length_in, with_next_word, request_length, repair_length, with_request_delay, back_off, wants, begins_at, meet, lose_one, lose_from, with_losses_begun, lose_below, names_from, lost_below, with_mending_seen, hear_data, base, with_rest, is_at_rest, after_repair_delay, with_repair_seen, hear_repair, with_repairs_begun, with_repair_timer, hear_request_of_missing, hear_request_of_held, hear_request, after_entry, lost_by_entry, hear_session, hear_body, with_request_first, expire_request, with_repair_first, expire_repair, own_progress, draw_operation, session_of, send_body};
+ghost use Rattle.srm_member.specs.React.{distance_to, length_in, with_next_word, request_length, repair_length, with_request_delay, back_off, wants, begins_at, meet, lose_one, lose_from, with_losses_begun, lose_below, names_from, lost_below, with_mending_seen, hear_data, base, with_rest, is_at_rest, after_repair_delay, with_repair_seen, hear_repair, with_repairs_begun, with_repair_timer, hear_request_of_missing, hear_request_of_held, hear_request, after_entry, lost_by_entry, hear_session, hear_body, with_request_first, expire_request, with_repair_first, expire_repair, own_progress, draw_operation, session_of, send_body, intervals_of, adapted_since, with_adapted};
 ghost use Rattle.srm_member.specs.Fit.{IsBounded, Gives};
 
 use crate::due::Due;
@@ -18,6 +18,7 @@ use crate::exit::Exit;
 use crate::fixed::Fixed;
 use crate::held::Held;
 use crate::interval::Interval;
+use crate::intervals::Intervals;
 use crate::named::Named;
 use crate::pages::Pages;
 use crate::pending::Pending;
@@ -103,12 +104,7 @@ impl MemberState {
         ensures value { result ≡ distance_to self.now who }
         ensures bound { result ≤ greatest_distance }
     {
-        self.fixed
-            .dist
-            .as_slice()
-            .get(usize::from(who))
-            .copied()
-            .unwrap_or(0)
+        self.fixed.dist.get(who).unwrap_or(0)
     }
 
     // The length of a new timer, in ticks, which takes one word of the generator.
@@ -670,6 +666,24 @@ impl MemberState {
         Ok(send_body(alloc, Body::Session { heard }))
     }
 
+    /// Both intervals.
+    pub fn intervals(&self) -> Intervals
+        ensures { result ≡ intervals_of self.now }
+    {
+        Intervals {
+            request: self.request_interval,
+            repair: self.repair_interval,
+        }
+    }
+
+    /// An answer to an event that is no join takes in what it tells of the intervals, which were these before the event.
+    #[inline]
+    pub fn tell(&self, before: Intervals, react: &mut React)
+        ensures { react.new ≡ with_adapted (adapted_since before (intervals_of self.now)) react.old }
+    {
+        react.adapted = self.intervals().since(before);
+    }
+
     /// What the member ends with.
     pub fn exit(&self, alloc: Global) -> Result<Exit, AllocError>
         ensures { IfOk result (λ e. e ≡ exit_of self.now) }
@@ -701,21 +715,23 @@ fn page_of(name: Name) -> PageId
 }
 
 fn quietly(told: Told, lost: Sequence<Name>) -> React
-    ensures { result ≡ record { told = told; lost = lost; body = None } }
+    ensures { result ≡ record { told = told; lost = lost; body = None; adapted = None } }
 {
     React {
         told,
         lost,
         body: None,
+        adapted: None,
     }
 }
 
 fn send_body(alloc: Global, body: Body) -> React
-    ensures { result ≡ record { told = Sent; lost = []; body = Some body } }
+    ensures { result ≡ record { told = Sent; lost = []; body = Some body; adapted = None } }
 {
     React {
         told: Told::Sent,
         lost: Sequence::new(alloc),
         body: Some(body),
+        adapted: None,
     }
 }

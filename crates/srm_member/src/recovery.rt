@@ -91,6 +91,7 @@ impl Recovery {
             told: Told::Entered,
             lost: Sequence::new(alloc),
             body: None,
+            adapted: Some(self.state.intervals()),
         })
     }
 
@@ -103,7 +104,9 @@ impl Recovery {
         ensures { Reacts self.old at (Arrival packet.now) result self.new }
     {
         begin(&mut self.gone)?;
-        let react = self.state.hear(alloc, at, packet)?;
+        let before = self.state.intervals();
+        let mut react = self.state.hear(alloc, at, packet)?;
+        self.state.tell(before, &mut react);
         self.gone = false;
         Ok(react)
     }
@@ -117,7 +120,9 @@ impl Recovery {
         ensures { Reacts self.old at (Ask name) result self.new }
     {
         begin(&mut self.gone)?;
-        let react = self.state.ask(alloc, at, name)?;
+        let before = self.state.intervals();
+        let mut react = self.state.ask(alloc, at, name)?;
+        self.state.tell(before, &mut react);
         self.gone = false;
         Ok(react)
     }
@@ -131,7 +136,9 @@ impl Recovery {
         ensures { Reacts self.old at (Answer name) result self.new }
     {
         begin(&mut self.gone)?;
-        let react = self.state.answer(alloc, at, name)?;
+        let before = self.state.intervals();
+        let mut react = self.state.answer(alloc, at, name)?;
+        self.state.tell(before, &mut react);
         self.gone = false;
         Ok(react)
     }
@@ -150,7 +157,9 @@ impl Recovery {
         ensures { Reacts self.old at (Draw page ink) result self.new }
     {
         begin(&mut self.gone)?;
-        let react = self.state.draw_op(alloc, page, ink)?;
+        let before = self.state.intervals();
+        let mut react = self.state.draw_op(alloc, page, ink)?;
+        self.state.tell(before, &mut react);
         self.gone = false;
         Ok(react)
     }
@@ -163,7 +172,9 @@ impl Recovery {
         ensures { (at : ℕ) → Reacts self.old at Report result self.new }
     {
         begin(&mut self.gone)?;
-        let react = self.state.report(alloc)?;
+        let before = self.state.intervals();
+        let mut react = self.state.report(alloc)?;
+        self.state.tell(before, &mut react);
         self.gone = false;
         Ok(react)
     }

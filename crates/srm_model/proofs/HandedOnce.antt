@@ -31,6 +31,7 @@ use Rattle.srm_model.specs.Handed.{SentIn, same_packet, is_arrival_of, handing_c
 use Rattle.srm_model.specs.Handed.{PacketsAreHandedOnce, HandedPacketsWereSent, PacketsAreTheirIdentities}
 use Rattle.srm_model.proofs.OneStep.{TakesFlight, NoArrival, Takes, Sends, Steps, StepFacts, step_facts, here_after}
 use Rattle.srm_model.proofs.OneStep.{there_after, each_after, length_after, length_opening, nothing_left, run_keeps, arrival_is}
+use Rattle.srm_model.proofs.OneStep.{hear_at_sent}
 use Rattle.srm_model.proofs.TraceRows.{contains_none, contains_cases, sent_more, sent_cases, sent_now, count_first}
 use Rattle.srm_model.proofs.TraceRows.{count_none, count_place, not_same, same_self, elsewhere, not_arrival, here, IsSplit, split_cases}
 
@@ -123,10 +124,6 @@ module _ (s : Setting) where
       member = ap (λ (k : Key). k.member) facts.does.key
 
       -- ---- packet counts
-
-      hear_at_sent : (p : Packet) (o : Option ℕ) (c : PlainCell) → (hear_at p o c).sent ≡ c.sent
-      hear_at_sent p None c = refl
-      hear_at_sent p (Some at) c = refl
 
       told_sent : (y : Option Packet) (j : ℕ) (o : Option PlainCell) → sent_by (option_map (told_to s.traffic y j) o) ≡ sent_by o
       unfolding hear

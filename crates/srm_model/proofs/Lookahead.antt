@@ -124,16 +124,16 @@ link_delays_are_safe p seed accepted w e width end reached least wide within =
 
 -- ---- promises
 
+pub least_with_le : (n : ℕ) (o : Option ℕ) → least_with n o ≤ n
+least_with_le n None = omega arith
+least_with_le n (Some k) = min-le_left n k
+
 module _ (s : Setting) where
   out_near : (m b : ℕ) → b < s.traffic.members → b ≢ m → (k : ℕ) × (out s m ≡ Some k) × (k ≤ s.traffic.distance m b)
   unfolding out
   out_near m b lt ne = least_in (s.traffic.distance m b) _
       (in_mapped (s.traffic.distance m) b _ (in_filtered (λ x. not (x == m)) b (is_other b m ne) _
       (in_range s.traffic.members 0 b (omega arith) (omega arith))))
-
-  least_with_le : (n : ℕ) (o : Option ℕ) → least_with n o ≤ n
-  least_with_le n None = omega arith
-  least_with_le n (Some k) = min-le_left n k
 
   least_with_in : (n k : ℕ) (o : Option ℕ) → o ≡ Some k → least_with n o ≤ k
   least_with_in n k None h = let y : ⊥ = cc in absurd y

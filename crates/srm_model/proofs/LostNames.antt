@@ -28,7 +28,8 @@ use Rattle.srm_member.specs.React.{hear_request_of_held, hear_request}
 use Rattle.srm_member.specs.React.{page_heard, after_entry, lost_by_entry, hear_session, hear_body, expire_request_by_entry, expire_request}
 use Rattle.srm_member.specs.React.{expire_repair_by_entry, expire_repair}
 use Rattle.srm_member.specs.React.{own_page, own_progress, draw_operation, is_skip, react_active, listen_data, listen, react_listener}
-use Rattle.srm_member.specs.React.{react}
+use Rattle.srm_member.specs.React.{react, react_telling, with_adapted}
+use Rattle.srm_member.specs.declared.intervals.Intervals.{Intervals}
 use Rattle.srm_member.proofs.AllIn.{AllIn, AllIn-append, AllIn-map}
 use Rattle.srm_member.proofs.Changes.{Below, Grows, Brings, from_page, effect, entry_effect}
 use Rattle.srm_model.proofs.TraceRows.{contains_none}
@@ -281,10 +282,14 @@ module _ (members : ℕ) where
   listener_known m (Draw page ink) g = plain m Skip g
   listener_known m Report g = plain m Skip g
 
+  -- what it tells of intervals has no part in that
+  told_known : (o : Option Intervals) (r : Reaction) → Known r → Known (record r { answer = with_adapted o r.answer })
+  told_known o r k = record { pages = k.pages; lost = k.lost; apart = k.apart; session = k.session }
+
   by_role : (m : MemberState) (at : ℕ) (cause : Cause) (b : Bool) → is_listener m.fixed.role ≡ b → m.fixed.member < members
-      → CauseOf cause → PagesOf m.progress → Known (cond b (react_listener m cause) (react_active m at cause))
+      → CauseOf cause → PagesOf m.progress → Known (cond b (react_listener m cause) (react_telling m at cause))
   by_role m at cause true q h c g = listener_known m cause g
-  by_role m at cause false q h c g = active_known m at cause q h c g
+  by_role m at cause false q h c g = told_known _ (react_active m at cause) (active_known m at cause q h c g)
 
   -- what a member answers, where it and all that it heard of are members
   pub known : (m : MemberState) (at : ℕ) (cause : Cause) → m.fixed.member < members → CauseOf cause → PagesOf m.progress

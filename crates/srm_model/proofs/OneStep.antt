@@ -16,6 +16,7 @@ use Rattle.srm_cell.specs.declared.flight.Flight.{Flight}
 use Rattle.srm_scenario.specs.Presence.{is_up_to}
 use Rattle.srm_cell.specs.Setting.{Setting, arrival_of, cause_of_mark}
 use Rattle.srm_cell.specs.Cells.{PlainCell, Event, first_arrival, first_mark, next_timer, next_event, before, StepOutcome, Idle, Full}
+use Rattle.srm_cell.specs.Cells.{hear_at}
 use Rattle.srm_cell.specs.Cells.{Spent, Done, Stepped, word_of, about_of, row_of, packet_of, sending_step, parting, handle, step_at}
 use Rattle.srm_cell.specs.OwnRuns.{told_to}
 use Rattle.srm_cell.proofs.Rising.{OnEvent, earlier_on, before_on, OnStep}
@@ -231,6 +232,11 @@ step_facts until cs e d h =
     }
 
 -- ---- the cells after a step
+
+-- who hears a packet has sent none more
+pub hear_at_sent : (p : Packet) (o : Option ℕ) (c : PlainCell) → (hear_at p o c).sent ≡ c.sent
+hear_at_sent p None c = refl
+hear_at_sent p (Some at) c = refl
 
 module _ (s : Setting) where
   -- the stepping member's cell is the step's

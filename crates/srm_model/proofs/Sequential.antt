@@ -16,7 +16,7 @@ use Rattle.srm_cell.specs.OwnRuns.{own_rows, told_to}
 use Rattle.srm_cell.specs.Setting.{IsFit, Setting, arrival_of}
 use Rattle.srm_model.proofs.RunLemmas.{Seq, least_from, next, rest}
 use Rattle.srm_model.proofs.ScheduleLemmas.{Safe}
-use Rattle.srm_model.proofs.OneStep.{run_begins}
+use Rattle.srm_model.proofs.OneStep.{length_opening, run_begins}
 use Rattle.srm_model.proofs.Settled.{each_after, length_after}
 use Rattle.srm_model.specs.Schedules.{AllSendLate, SendsLate}
 use Rattle.srm_model.specs.World.{World, least_event, opening, opening_cells, row_cmp, run, cells_after}
@@ -230,15 +230,10 @@ module _ (s : Setting) (fit : IsFit s) where
       (record { asks = tt; answers = tt; listener = λ l. (refl, refl) })
   opening_sound (suc n) i (suc j) c h = opening_sound n (suc i) j c h
 
-  pub length-opening : (n i : ℕ) → length (opening_cells s n i) ≡ n
-  unfolding opening_cells
-  length-opening zero i = refl
-  length-opening (suc n) i = ap suc (length-opening n (suc i))
-
   pub good_opening : Good (opening s).cells
   unfolding opening
   good_opening = record {
-    members = length-opening s.traffic.members 0;
+    members = length_opening s s.traffic.members 0;
     tidy =
         opening_tidy s.traffic.members 0 (zero-add s.traffic.members);
     sound = opening_sound s.traffic.members 0;

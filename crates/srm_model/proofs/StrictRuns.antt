@@ -16,6 +16,7 @@ use Rattle.srm_cell.specs.Flights.{flight_cmp, numbers_of_flight}
 use Rattle.srm_cell.specs.OwnRuns.{told_to}
 use Rattle.srm_cell.specs.Setting.{HasOwnRanks, IsFit, Setting, arrival_of}
 use Rattle.srm_cell.specs.declared.flight.Flight.{Flight}
+use Rattle.srm_model.proofs.OneStep.{hear_at_sent}
 use Rattle.srm_model.proofs.RunLemmas.{Seq, next, rest, seq_run}
 use Rattle.srm_model.proofs.Sequential.{EachCell, Good, StepFacts, above_after, above_all, above_step, good_opening, good_step}
 use Rattle.srm_model.proofs.Settled.{each_after}
@@ -87,10 +88,6 @@ module _ (s : Setting) (fit : IsFit s) where
   pub record Strict (cs : List PlainCell) : Type 0 where
     pub distinct : EachCell s fit (λ j c. IsDistinct c) cs
     pub fresh : EachCell s fit (λ j c. IsFresh cs c) cs
-
-  hear_at_sent : (p : Packet) (o : Option ℕ) (c : PlainCell) → (hear_at p o c).sent ≡ c.sent
-  hear_at_sent p None c = refl
-  hear_at_sent p (Some at) c = refl
 
   told_sent : (x : Option Packet) (m : ℕ) (c : PlainCell) → (told_to s.traffic x m c).sent ≡ c.sent
   unfolding hear

@@ -12,10 +12,10 @@ use Rattle.srm_cell.proofs.CellLemmas.{keep}
 use Rattle.srm_cell.proofs.CellSteps.{before_some, some_not_idle}
 use Rattle.srm_model.specs.World.{World, least_event}
 use Rattle.srm_model.specs.Schedules.{IsQuiet}
-use Rattle.srm_model.specs.Windows.{IsWidth, least_with, promise_of, least_promise}
+use Rattle.srm_model.specs.Windows.{IsWidth, promise_of, least_promise}
 use Rattle.srm_model.specs.WindowChains.{IsNext, start_of, IsEndRule, width_rule}
 use Rattle.srm_model.specs.WindowLaws.{WidthsAreRules, LeastIsARule, PromisesAreARule, StartsTell}
-use Rattle.srm_model.proofs.Lookahead.{link_delays_are_safe, promise_ends_are_safe}
+use Rattle.srm_model.proofs.Lookahead.{least_with_le, link_delays_are_safe, promise_ends_are_safe}
 use Rattle.srm_model.proofs.RunLemmas.{least_own}
 
 -- ---- beginnings
@@ -74,14 +74,10 @@ least_is_a_rule p seed accepted = elim (least_delay (network_of p)) as
           (λ k h. let x = same_Some d k (sym e ∙ h) in omega arith)
     ] refl
 
-with_no_more : (n : ℕ) (o : Option ℕ) → least_with n o ≤ n
-with_no_more n None = omega arith
-with_no_more n (Some k) = omega arith
-
 promise_within : (s : Setting) (i : ℕ) (cs : List PlainCell) → least_promise s i cs ≤ s.traffic.until
 promise_within s i [] = omega arith
-promise_within s i (c ∷ cs) = let a = with_no_more (least_promise s (i + 1) cs) (promise_of s i c) in let b = promise_within s (i + 1) cs in
-    omega arith
+promise_within s i (c ∷ cs) = let a = least_with_le (least_promise s (i + 1) cs) (promise_of s i c) in
+    let b = promise_within s (i + 1) cs in omega arith
 
 pub promises_are_a_rule : PromisesAreARule
 promises_are_a_rule s fit = record {

@@ -29,3 +29,4 @@ pub mod OutLemmas
 pub mod Firsts
 pub mod NodeOrder
 pub mod Arrivals
+pub mod HalfRoundLemmas

@@ -1,5 +1,5 @@
 -- The nodes of a tree in the order of their places.
-use Rattle.std.proofs.Common.{◌≡◌, ◌≢◌, ℕ, zero, suc, ◌+◌, ◌<◌, true, false, List, [], ◌∷◌, ◌++◌, length, Some, refl, sym, ap}
+use Rattle.std.proofs.Common.{◌≡◌, ◌≢◌, ℕ, zero, suc, ◌+◌, ◌<◌, true, List, [], ◌∷◌, ◌++◌, length, Some, refl, sym, ap}
 use Rattle.std.proofs.Common.{◌∙◌, subst, inl, inr, arith, eq-eqb, slice_get, reverse}
 use Rattle.std.proofs.lemmas.Bool.{ne_eqb, cases_eq, both_ways, false≢true}
 use Rattle.std.proofs.lemmas.List.{length-append, length-reverse, reverse-append}

@@ -12,19 +12,19 @@ use Rattle.srm_net.specs.Told.{IsTold}
 use Rattle.srm_net.proofs.Lists.{get_below, below_get, get_index, get_push_old, get_push_new}
 
 -- what the sides of a link tell
-pub sides_told : (n : Inside) → IsTold n → (l : ℕ) (k : LinkSpec) → slice_get n.tree.links l ≡ Some k → (s : Sides) → s
-    ≡ slice_index_or n.sides.items l s → (u : ℕ) → (b : Bool) → is_beyond n.tree l k u ≡ b
-    → cond b s.a s.b ≡ some_beyond n.tree l k u
+pub sides_told : (n : Inside) → IsTold n → (l : ℕ) (k : LinkSpec) → slice_get n.tree.value.links l ≡ Some k → (s : Sides) → s
+    ≡ slice_index_or n.sides.items l s → (u : ℕ) → (b : Bool) → is_beyond n.tree.value l k u ≡ b
+    → cond b s.a s.b ≡ some_beyond n.tree.value l k u
 sides_told n i l k g s r u b q =
     let told = i.sides l k g in
     let same : s ≡ told.0 = r ∙ get_index n.sides.items l told.0 s told.1 in
-    elim b as (λ t. is_beyond n.tree l k u ≡ t → cond t s.a s.b ≡ some_beyond n.tree l k u) [
+    elim b as (λ t. is_beyond n.tree.value l k u ≡ t → cond t s.a s.b ≡ some_beyond n.tree.value l k u) [
       | true ↦ λ h. rw h (ap (λ (x : Sides). x.a) same ∙ told.2.a)
       | false ↦ λ h. rw h (ap (λ (x : Sides). x.b) same ∙ told.2.b)
     ] q
 
-pub side_below : (n : Inside) → IsTold n → (l : ℕ) → l < length n.tree.links → l < length n.sides.items
-side_below n i l h = let k = below_get n.tree.links l h in let told = i.sides l k.0 k.1 in get_below n.sides.items l told.0 told.1
+pub side_below : (n : Inside) → IsTold n → (l : ℕ) → l < length n.tree.value.links → l < length n.sides.items
+side_below n i l h = let k = below_get n.tree.value.links l h in let told = i.sides l k.0 k.1 in get_below n.sides.items l told.0 told.1
 
 -- ---- at the network that callers see
 
@@ -40,11 +40,13 @@ module _ (w n : Network) (e : w ≡ n) (l u : ℕ) (spec : LinkSpec) (g : slice_
       ∙ ap (λ (v : Network). is_beyond v l k u) e in
       ap (λ (j : LinkSpec). cond b j.b j.a) spec_same ∙ ap (λ c. cond c k.b k.a) q
 
-pub any_seen : (i : Inside) → IsTold i → (n : Network) → i.tree ≡ n → (l u f : ℕ) (s : Sides) → f ≡ l → s ≡ slice_index_or i.sides.items f s
+pub any_seen : (i : Inside) → IsTold i → (n : Network) → i.tree.value ≡ n → (l u f : ℕ) (s : Sides) → f ≡ l
+    → s ≡ slice_index_or i.sides.items f s
     → (k : LinkSpec) → slice_get n.links l ≡ Some k
-    → (b : Bool) → ((j : LinkSpec) → slice_get i.tree.links l ≡ Some j → b ≡ is_beyond i.tree l j u) → cond b s.a s.b ≡ some_beyond n l k u
+    → (b : Bool) → ((j : LinkSpec) → slice_get i.tree.value.links l ≡ Some j → b ≡ is_beyond i.tree.value l j u)
+    → cond b s.a s.b ≡ some_beyond n l k u
 any_seen i t n e l u f s q r k h b y =
-    let g : slice_get i.tree.links l ≡ Some k = ap (λ (v : Network). slice_get v.links l) e ∙ h in
+    let g : slice_get i.tree.value.links l ≡ Some k = ap (λ (v : Network). slice_get v.links l) e ∙ h in
     sides_told i t l k g s (r ∙ ap (λ z. slice_index_or i.sides.items z s) q) u b (sym (y k g))
     ∙ ap (λ (v : Network). some_beyond v l k u) e
 

@@ -7,7 +7,7 @@ end_of_time = 2 ^ 40
 
 -- so many nodes may a network have, and so many members, since each is on a node of its own
 abbrev pub most_nodes : ℕ
-most_nodes = 1024
+most_nodes = 65535
 
 -- so many links, which are one fewer than the nodes
 abbrev pub most_links : ℕ
@@ -27,7 +27,7 @@ greatest_constant = 64000
 
 -- so many draws, session messages, drops and outages may a scenario list, of each kind
 abbrev pub most_listed : ℕ
-most_listed = 4096
+most_listed = 65535
 
 -- so many operations may be drawn on a page
 abbrev pub most_drawn : ℕ

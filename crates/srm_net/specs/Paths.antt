@@ -1,7 +1,7 @@
 -- Routes between nodes and between members, and what becomes of a packet on them.
-use Rattle.std.specs.Prelude.{ℕ, zero, suc, ◌+◌, Bool, true, false, not, ◌&&◌, ◌||◌, List, [], ◌∷◌, Option, Some, None}
-use Rattle.std.specs.Prelude.{unwrap_or, length, slice_get, slice_index, ◌==◌, if◌then◌else◌}
-use Rattle.std.specs.List.{list_any}
+use Rattle.std.specs.Prelude.{ℕ, zero, suc, ◌+◌, ◌/◌, Bool, true, false, not, ◌&&◌, ◌||◌, List, [], ◌∷◌, Option}
+use Rattle.std.specs.Prelude.{Some, None, map, unwrap_or, length, slice_get, slice_index, ◌==◌, if◌then◌else◌}
+use Rattle.std.specs.List.{list_any, range_with_len}
 use Rattle.std.specs.declared.cmp.Ordering.{Ordering}
 use Rattle.std.specs.Ordering.{nat_cmp}
 use Rattle.std.specs.Cmp.Lexicographic.{slice_cmp}
@@ -89,6 +89,10 @@ distance w a b = delay_along w.links (host w a) (member_route w a b)
 -- the round trip between two members: how long a packet takes there, and another one back
 abbrev pub round : Network → ℕ → ℕ → ℕ
 round w a b = distance w a b + distance w b a
+
+-- half the round trip between a member and each member in turn, rounded down
+abbrev pub half_rounds_from : Network → ℕ → List ℕ
+half_rounds_from w m = map (λ b. round w m b / 2) (range_with_len 0 (length w.hosts))
 
 -- ---- drops
 

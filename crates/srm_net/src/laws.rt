@@ -27,7 +27,7 @@ pub fn trees_have_one_path()
     ensures { TreesHaveOnePath }
 {}
 
-/// Distances are at least 1 between different members, and at most 1,023,000,000 ticks.
+/// Distances are at least 1 between different members, and at most 65,534,000,000 ticks.
 pub fn distances_fit()
     ensures { DistancesFit }
 {}

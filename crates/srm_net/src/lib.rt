@@ -7,6 +7,7 @@ pub mod drops;
 mod earlier;
 pub mod fate;
 pub mod fault;
+pub mod half_rounds;
 pub mod key;
 pub mod laws;
 pub mod limits;

@@ -2,7 +2,7 @@
 ghost use Rattle.std.specs.Prelude.{◌≡◌, ◌≢◌, ◌↔◌, ℕ, ◌<◌, ◌≤◌, ◌*◌, true, false, not, [], ◌∷◌, All, IfOk, IfErr, IfSome, IfNone, IsTrue, length, slice_get};
 ghost use Rattle.srm_net.specs.Limits.{end_of_time, greatest_distance};
 ghost use Rattle.srm_net.specs.Network.{plain_network, IsTree, HasDelays, AreHosts, IsNetwork};
-ghost use Rattle.srm_net.specs.Paths.{host, distance, round, stop, takes_out, reaches, crosses, drops_at};
+ghost use Rattle.srm_net.specs.Paths.{host, distance, round, half_rounds_from, stop, takes_out, reaches, crosses, drops_at};
 ghost use Rattle.srm_net.specs.Fates.{is_crossing, is_dropping, is_on_way};
 ghost use Rattle.srm_net.specs.declared.link.LinkSpec.{LinkSpec};
 ghost use Rattle.srm_net.specs.declared.packet.PacketId.{PacketId};
@@ -15,6 +15,7 @@ use crate::checks::{are_hosts, have_delays};
 use crate::drops::Drops;
 use crate::fate::Fate;
 use crate::fault::NetFault;
+use crate::half_rounds::HalfRounds;
 use crate::link::LinkSpec;
 use crate::order::attaching_order;
 use crate::packet::PacketId;
@@ -25,13 +26,14 @@ use crate::spread::Spread;
 use crate::tree::Tree;
 use std::alloc::{AllocError, Global};
 use std::marker::Model;
+use std::sync::Arc;
 
 /// A tree of nodes and links, with members on some nodes. Contracts see it as its plain network.
 ///
 /// Each member is on a node of its own. A packet takes each link's delay in the direction in which it crosses it, in ticks.
 #[derive(Drop)]
 pub struct Net {
-    tree: Tree,
+    tree: Arc<Tree>,
     sides: Vec<Sides>,
     outs: Vec<Option<u64>>,
     least: Option<u64>,
@@ -114,6 +116,9 @@ impl Net {
         let sides = tree.all_sides(alloc)?;
         let outs = tree.all_outs(alloc)?;
         let least = tree.least_delay();
+        let Ok(tree) = Arc::new(alloc, tree) else {
+            return Err(NetFault::NoMemory);
+        };
         Ok(Net {
             tree,
             sides,
@@ -147,7 +152,7 @@ impl Net {
         self.tree.host(m)
     }
 
-    /// How long a packet takes from member `a` to member `b`, in ticks: at most 1,023,000,000.
+    /// How long a packet takes from member `a` to member `b`, in ticks: at most 65,534,000,000.
     pub fn distance(&self, a: u16, b: u16) -> u64
         requires a { a < length self.now.hosts }
         requires b { b < length self.now.hosts }
@@ -160,7 +165,7 @@ impl Net {
     }
 
     /// The round trip between members `a` and `b`: how long a packet takes from `a` to `b`, and another one back, in ticks. It is at
-    /// most 2,046,000,000, and the same from either end.
+    /// most 131,068,000,000, and the same from either end.
     pub fn round(&self, a: u16, b: u16) -> u64
         requires a { a < length self.now.hosts }
         requires b { b < length self.now.hosts }
@@ -169,7 +174,20 @@ impl Net {
         ensures bounded { result ≤ 2 * greatest_distance }
         ensures network { IsNetwork self.now }
     {
-        self.distance(a, b) + self.distance(b, a)
+        self.tree.round(a, b)
+    }
+
+    /// Half the round trip between member `m` and each member in turn, rounded down, in ticks: at most 65,534,000,000 each. They are told
+    /// on demand, and share the network's tables, which stay as long as one of them is used.
+    ///
+    /// # Errors
+    /// [`AllocError`], only where more than 2^63 share the tables. No memory is asked for.
+    pub fn half_rounds(&self, m: u16) -> Result<HalfRounds, AllocError>
+        requires { m < length self.now.hosts }
+        ensures value { IfOk result (λ ds. ds ≡ half_rounds_from self.now m) }
+        ensures bounded { IfOk result (All (λ d. d ≤ greatest_distance)) }
+    {
+        HalfRounds::of(&self.tree, m)
     }
 
     /// The least delay of a link in either direction, in ticks, or none where there is no link.

@@ -6,7 +6,6 @@ ghost use Rattle.srm_net.specs.Growth.{Grows, IsInPreorder};
 use crate::adjacency::Adjacency;
 use crate::checks::are_within;
 use crate::fault::NetFault;
-use crate::limits::MOST_NODES;
 use crate::link::LinkSpec;
 use crate::step::Step;
 use std::alloc::Global;
@@ -14,7 +13,7 @@ use std::alloc::Global;
 /// The steps by which the tree of these links grows from node 0, one for each other node, in preorder. It takes a number of steps that
 /// grows as the number of links.
 ///
-/// [`NetFault::NotTree`] where it is no tree of 1 to [`MOST_NODES`] nodes.
+/// [`NetFault::NotTree`] where it is no tree of 1 to [`MOST_NODES`](crate::limits::MOST_NODES) nodes.
 pub(crate) fn attaching_order(
     alloc: Global,
     nodes: u16,
@@ -27,11 +26,7 @@ pub(crate) fn attaching_order(
     ensures fault { IfErr result (λ e. (e ≡ NetFault.NoMemory)
         ⊎ ((e ≡ NetFault.NotTree) × (¬ IsTree (plain_network nodes links.now [])))) }
 {
-    if nodes < 1
-        || nodes > MOST_NODES
-        || links.len() + 1 != usize::from(nodes)
-        || !are_within(nodes, links)
-    {
+    if nodes < 1 || links.len() + 1 != usize::from(nodes) || !are_within(nodes, links) {
         return Err(NetFault::NotTree);
     }
     let adjacency = Adjacency::of(alloc, nodes, links)?;

@@ -1,10 +1,10 @@
 //! A tree of nodes and links with members on some nodes, and the ways in it.
-ghost use Rattle.std.specs.Prelude.{◌≡◌, ◌≢◌, ◌<◌, ◌≤◌, not, ◌∷◌, Some, IfOk, length, slice_get};
+ghost use Rattle.std.specs.Prelude.{◌≡◌, ◌≢◌, ◌<◌, ◌≤◌, ◌*◌, not, ◌∷◌, Some, IfOk, length, slice_get};
 ghost use Rattle.std.specs.List.{list_any};
 ghost use Rattle.srm_net.specs.Limits.{end_of_time, greatest_distance};
 ghost use Rattle.srm_net.specs.declared.link.LinkSpec.{LinkSpec};
 ghost use Rattle.srm_net.specs.Network.{IsNetwork};
-ghost use Rattle.srm_net.specs.Paths.{host, route, end_of, delay_along, distance, stops, takes_out};
+ghost use Rattle.srm_net.specs.Paths.{host, route, end_of, delay_along, distance, round, stops, takes_out};
 ghost use Rattle.srm_net.specs.Listed.{is_listed_somewhere};
 ghost use Rattle.srm_net.specs.Spreads.{TellsComing};
 ghost use Rattle.srm_net.specs.Least.{least_delay};
@@ -93,6 +93,18 @@ impl Tree {
         ensures network { IsNetwork self.now }
     {
         self.delay(self.host(a), self.host(b))
+    }
+
+    /// The round trip between members `a` and `b`: how long a packet takes from `a` to `b`, and another one back, in ticks.
+    pub(crate) fn round(&self, a: u16, b: u16) -> u64
+        requires a { a < length self.now.hosts }
+        requires b { b < length self.now.hosts }
+        ensures value { result ≡ round self.now a b }
+        ensures apart { a ≢ b → 2 ≤ result }
+        ensures bounded { result ≤ 2 * greatest_distance }
+        ensures network { IsNetwork self.now }
+    {
+        self.distance(a, b) + self.distance(b, a)
     }
 
     /// How long a packet takes from one node to another, in ticks.

@@ -10,13 +10,14 @@ use Rattle.srm_model.specs.World.{World, IsReached, IsLast, RunMeetsFull}
 use Rattle.srm_report.specs.Links.{links_table}
 use Rattle.srm_report.specs.Losses.{losses_table}
 use Rattle.srm_report.specs.Members.{members_table}
+use Rattle.srm_report.specs.Timers.{timers_table}
 use Rattle.srm_report.specs.Trace.{trace_of_rows}
 use Rattle.srm_report.specs.Standings.{GrewBy}
 use Rattle.srm_program.specs.declared.fault.LabFault.{LabFault}
 use Rattle.srm_program.specs.declared.fault.LabFault.TheVariants.{BadCut, BadWidth, ShareFull, NoMemory, CountFull}
 use Rattle.srm_program.specs.declared.fault.LabFault.TheVariants.{WriteFault}
 use Rattle.srm_program.specs.declared.options.Show.{Show}
-use Rattle.srm_program.specs.declared.options.Show.TheVariants.{Trace, Members, Losses, Links}
+use Rattle.srm_program.specs.declared.options.Show.TheVariants.{Trace, Members, Losses, Links, Timers}
 
 -- what is shown of a run of a scenario on its network that left these rows and totals
 abbrev pub shown : Show → PlainScenario → Network → List Row → List ℕ → List ℕ
@@ -24,6 +25,7 @@ shown Trace p net rows totals = trace_of_rows rows
 shown Members p net rows totals = members_table p rows
 shown Losses p net rows totals = losses_table net rows
 shown Links p net rows totals = links_table totals
+shown Timers p net rows totals = timers_table rows
 
 -- the report of a run of a scenario on its network that ended in this world: its totals are the crossings of its
 -- packets
@@ -60,33 +62,37 @@ TellsTable p net seed show old new (Err (WriteFault written)) =
 TellsTable p net seed show old new (Err CountFull) = RunMeetsFull (setting_of p net seed) × Keeps old new
 TellsTable p net seed show old new (Err f) = Keeps old new
 
--- an outlet took these bytes, a front of the trace of a scenario's sequential run: of its rows up to some event
-abbrev pub TakesFront : PlainScenario → Network → ℕ → Option (List ℕ) → Option (List ℕ) → List ℕ → Type 0
-TakesFront p net seed old new out =
+-- an outlet took these bytes, a front of the table of a scenario's sequential run which lists its rows in this text: of
+-- its rows up to some event
+abbrev pub TakesFront :
+    (List Row → List ℕ) → PlainScenario → Network → ℕ → Option (List ℕ) → Option (List ℕ) → List ℕ → Type 0
+TakesFront text p net seed old new out =
     (w : World) × IsReached (setting_of p net seed) w
-    × ((rest : List ℕ) × (report_of Trace p net w ≡ out ++ rest)) × Appends old new out
+    × ((rest : List ℕ) × (text w.trace ≡ out ++ rest)) × Appends old new out
 
--- what an outlet took of the trace of a scenario's sequential run, which is written as the run goes: all of it, or a
--- front of it, of as many bytes as a fault of the outlet tells, up to 2^64 - 1; and nothing where the run was refused
--- before any work. CountFull says that the run meets a step for which the packet count is used up
-abbrev pub TellsTrace : {T : Type 0} → PlainScenario → Network → ℕ
+-- what an outlet took of a table of a scenario's sequential run which lists its rows in this text, and is written as
+-- the run goes: all of it, or a front of it, of as many bytes as a fault of the outlet tells, up to 2^64 - 1; and
+-- nothing where the run was refused before any work. CountFull says that the run meets a step for which the packet
+-- count is used up
+abbrev pub TellsListing : {T : Type 0} → (List Row → List ℕ) → PlainScenario → Network → ℕ
     → Option (List ℕ) → Option (List ℕ) → Result T LabFault → Type 0
-TellsTrace p net seed old new (Ok v) =
-    (w : World) × EndsIn p net seed w × Appends old new (report_of Trace p net w)
-TellsTrace p net seed old new (Err (WriteFault written)) =
-    (out : List ℕ) × TakesFront p net seed old new out × GrewBy 0 (length out) written
-TellsTrace p net seed old new (Err CountFull) =
-    RunMeetsFull (setting_of p net seed) × ((out : List ℕ) × TakesFront p net seed old new out)
-TellsTrace p net seed old new (Err ShareFull) = (out : List ℕ) × TakesFront p net seed old new out
-TellsTrace p net seed old new (Err NoMemory) = (out : List ℕ) × TakesFront p net seed old new out
-TellsTrace p net seed old new (Err BadCut) = Keeps old new
-TellsTrace p net seed old new (Err BadWidth) = Keeps old new
+TellsListing text p net seed old new (Ok v) =
+    (w : World) × EndsIn p net seed w × Appends old new (text w.trace)
+TellsListing text p net seed old new (Err (WriteFault written)) =
+    (out : List ℕ) × TakesFront text p net seed old new out × GrewBy 0 (length out) written
+TellsListing text p net seed old new (Err CountFull) =
+    RunMeetsFull (setting_of p net seed) × ((out : List ℕ) × TakesFront text p net seed old new out)
+TellsListing text p net seed old new (Err ShareFull) = (out : List ℕ) × TakesFront text p net seed old new out
+TellsListing text p net seed old new (Err NoMemory) = (out : List ℕ) × TakesFront text p net seed old new out
+TellsListing text p net seed old new (Err BadCut) = Keeps old new
+TellsListing text p net seed old new (Err BadWidth) = Keeps old new
 
--- what an outlet took of the report of a scenario's sequential run: of the trace after a refusal a front, and of
--- another table nothing but where the outlet failed
+-- what an outlet took of the report of a scenario's sequential run: of the trace and the table of timers after a
+-- refusal a front, and of another table nothing but where the outlet failed
 abbrev pub TellsReport : {T : Type 0} → PlainScenario → Network → ℕ → Show
     → Option (List ℕ) → Option (List ℕ) → Result T LabFault → Type 0
-TellsReport p net seed Trace old new r = TellsTrace p net seed old new r
+TellsReport p net seed Trace old new r = TellsListing trace_of_rows p net seed old new r
 TellsReport p net seed Members old new r = TellsTable p net seed Members old new r
 TellsReport p net seed Losses old new r = TellsTable p net seed Losses old new r
 TellsReport p net seed Links old new r = TellsTable p net seed Links old new r
+TellsReport p net seed Timers old new r = TellsListing timers_table p net seed old new r

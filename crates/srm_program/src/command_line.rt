@@ -118,11 +118,11 @@ const WIDTH: OptionLine = OptionLine {
 
 const SHOW: OptionLine = OptionLine {
     name: "show",
-    takes: "trace|members|losses|links",
+    takes: "trace|members|losses|links|timers",
     default: "trace",
-    about: "The table: a row for each event, member, loss or link",
+    about: "The table: a row for each event, member, loss, link or adapted timer",
     reader: Reader::Text,
-    words: &["trace", "members", "losses", "links"],
+    words: &["trace", "members", "losses", "links", "timers"],
 };
 
 /// An option that takes nothing.
@@ -170,11 +170,12 @@ const CREWS: [(&str, CrewKind); 3] = [
 const WIDTHS: [(&str, Width); 2] = [("least", Width::Least), ("promise", Width::Promise)];
 
 /// The words of `--show`.
-const SHOWS: [(&str, Show); 4] = [
+const SHOWS: [(&str, Show); 5] = [
     ("trace", Show::Trace),
     ("members", Show::Members),
     ("losses", Show::Losses),
     ("links", Show::Links),
+    ("timers", Show::Timers),
 ];
 
 /// The seed and the options that the words of a command line ask for. The first word is the program's name.

@@ -32,6 +32,8 @@ pub enum Show {
     Losses,
     /// A row for each link.
     Links,
+    /// A row for each join, and each event that adapts a member's timers.
+    Timers,
 }
 
 /// What the program is asked for.

@@ -4,8 +4,11 @@ ghost use Rattle.srm_scenario.specs.Plain.{network_of};
 ghost use Rattle.srm_scenario.specs.Accepted.{IsAccepted};
 ghost use Rattle.srm_engine.specs.Outcomes.{HoldOpeningRecords};
 ghost use Rattle.srm_engine.specs.declared.sink.Stage.{Stage};
-ghost use Rattle.srm_report.specs.TraceSinks.{stage_of, outlet_under, gathered_by, written_by, AreOverOne};
-ghost use Rattle.srm_program.specs.Reports.{failures_after, TellsTable, TellsTrace};
+ghost use Rattle.srm_report.specs.ListingSinks.{stage_of, outlet_under, gathered_by, written_by, AreOverOne};
+ghost use Rattle.srm_report.specs.Listings.{text_in};
+ghost use Rattle.srm_report.specs.Timers.{timers_form};
+ghost use Rattle.srm_report.specs.Trace.{trace_form};
+ghost use Rattle.srm_program.specs.Reports.{failures_after, TellsListing, TellsTable};
 ghost use Rattle.srm_program.specs.Runs.{MayShareBag, TellsRefusedFor, TellsRunFor};
 
 use crate::asked::Asked;
@@ -16,11 +19,14 @@ use crate::report::write_text;
 use srm_member::member::Member;
 use srm_net::net::Net;
 use srm_report::links::links_text;
+use srm_report::listing::Listing;
+use srm_report::listing_sink::ListingSink;
 use srm_report::losses_sink::LossesSink;
 use srm_report::members_sink::MembersSink;
 use srm_report::no_rows::NoRows;
 use srm_report::outlet::Outlet;
-use srm_report::trace_sink::TraceSink;
+use srm_report::timers::TimersListing;
+use srm_report::trace::TraceListing;
 use srm_report::writing::WriteFault;
 use srm_scenario::scenario::Scenario;
 use std::alloc::Global;
@@ -28,12 +34,12 @@ use std::marker::Sync;
 use std::sync::Wait;
 use std::thread::Threads;
 
-// How many bytes of a trace are gathered before they are written.
+// How many bytes of a table that lists rows are gathered before they are written.
 const GATHERED: usize = 8_192;
 
 /// Runs the members of a scenario with the engine that is asked for, and writes the report of the run. Both engines write the
-/// same bytes: the report is that of the sequential run, for every seed whose opening records the boxes hold. The trace is
-/// written as its rows come, some 8 KiB at a time (`GATHERED`), and each other table at the end.
+/// same bytes: the report is that of the sequential run, for every seed whose opening records the boxes hold. The trace and the table
+/// of timers are written as rows come, some 8 KiB at a time (`GATHERED`), and each other table at the end.
 ///
 /// There is one box for each member, in order of their numbers. Each holds its opening record for this scenario, all for one
 /// seed.
@@ -43,9 +49,9 @@ const GATHERED: usize = 8_192;
 /// 3. As met: `ShareFull`, only with that engine; `CountFull`, only where the sequential run meets it; and `NoMemory`.
 /// 4. `WriteFault`: exactly where the outlet failed in the call.
 ///
-/// The boxes are then gone. Of the trace the outlet took a prefix, and nothing after `BadCut` and `BadWidth`. Of another table it
-/// took nothing, unless it failed: then it took a prefix, fewer bytes than all. After `WriteFault` it took exactly as many bytes
-/// as the fault counts, up to 2^64 - 1, and its count of failures is one higher.
+/// The boxes are then gone. Of the trace and the table of timers the outlet took a prefix, and nothing after `BadCut` and
+/// `BadWidth`. Of another table it took nothing, unless it failed: then it took a prefix, fewer bytes than all. After `WriteFault`
+/// it took exactly as many bytes as the fault counts, up to 2^64 - 1, and its count of failures is one higher.
 pub fn run<R: Threads + Wait + Sync, O: Outlet>(
     rt: &R,
     alloc: Global,
@@ -76,6 +82,7 @@ pub fn run<R: Threads + Wait + Sync, O: Outlet>(
         Show::Members => write_members(rt, alloc, &asked, members, outlet),
         Show::Losses => write_losses(rt, alloc, &asked, members, outlet),
         Show::Links => write_links(rt, alloc, &asked, members, outlet),
+        Show::Timers => write_timers(rt, alloc, &asked, members, outlet),
     }
 }
 
@@ -93,11 +100,36 @@ fn write_trace<R: Threads + Wait + Sync, O: Outlet>(
     requires count { O.failures outlet.old < 2 ^ 64 - 1 }
     ensures failures { O.failures outlet.new ≡ failures_after result (O.failures outlet.old) }
     ensures trace { (seed : ℕ) → HoldOpeningRecords asked.now.scenario.now asked.now.net.now seed (map (λ b. plain b) members.items)
-        → TellsTrace asked.now.scenario.now asked.now.net.now seed (O.taken outlet.old) (O.taken outlet.new) result }
+        → TellsListing (text_in trace_form) asked.now.scenario.now asked.now.net.now seed (O.taken outlet.old) (O.taken outlet.new) result }
     ensures asked { (seed : ℕ) → HoldOpeningRecords asked.now.scenario.now asked.now.net.now seed (map (λ b. plain b) members.items)
         → TellsRefusedFor asked.now.scenario.now asked.now.net.now seed asked.now.options result }
 {
-    let mut sink = TraceSink::gathering(alloc, outlet, GATHERED);
+    let mut sink = ListingSink::gathering(alloc, TraceListing, outlet, GATHERED);
+    let answer = write_rows(rt, alloc, asked, members, &mut sink);
+    // By its contract, the outlet is then as the sink left it.
+    let _outlet = sink.into_outlet();
+    answer
+}
+
+// Writes the table of timers as its rows come.
+fn write_timers<R: Threads + Wait + Sync, O: Outlet>(
+    rt: &R,
+    alloc: Global,
+    asked: &Asked,
+    members: Vec<Box<dyn Member>>,
+    outlet: &mut O,
+) -> Result<(), LabFault>
+    requires network { asked.now.net.now ≡ network_of asked.now.scenario.now }
+    requires boxes { (seed : ℕ) × HoldOpeningRecords asked.now.scenario.now asked.now.net.now seed (map (λ b. plain b) members.items) }
+    requires workers { MayShareBag asked.now.options.workers }
+    requires count { O.failures outlet.old < 2 ^ 64 - 1 }
+    ensures failures { O.failures outlet.new ≡ failures_after result (O.failures outlet.old) }
+    ensures table { (seed : ℕ) → HoldOpeningRecords asked.now.scenario.now asked.now.net.now seed (map (λ b. plain b) members.items)
+        → TellsListing (text_in timers_form) asked.now.scenario.now asked.now.net.now seed (O.taken outlet.old) (O.taken outlet.new) result }
+    ensures asked { (seed : ℕ) → HoldOpeningRecords asked.now.scenario.now asked.now.net.now seed (map (λ b. plain b) members.items)
+        → TellsRefusedFor asked.now.scenario.now asked.now.net.now seed asked.now.options result }
+{
+    let mut sink = ListingSink::gathering(alloc, TimersListing, outlet, GATHERED);
     let answer = write_rows(rt, alloc, asked, members, &mut sink);
     // By its contract, the outlet is then as the sink left it.
     let _outlet = sink.into_outlet();
@@ -105,12 +137,12 @@ fn write_trace<R: Threads + Wait + Sync, O: Outlet>(
 }
 
 // Writes the rows through a new sink, as they come, and then what it gathered.
-fn write_rows<R: Threads + Wait + Sync, O: Outlet>(
+fn write_rows<R: Threads + Wait + Sync, L: Listing, O: Outlet>(
     rt: &R,
     alloc: Global,
     asked: &Asked,
     members: Vec<Box<dyn Member>>,
-    sink: &mut TraceSink<O>,
+    sink: &mut ListingSink<L, O>,
 ) -> Result<(), LabFault>
     requires network { asked.now.net.now ≡ network_of asked.now.scenario.now }
     requires boxes { (seed : ℕ) × HoldOpeningRecords asked.now.scenario.now asked.now.net.now seed (map (λ b. plain b) members.items) }
@@ -122,8 +154,8 @@ fn write_rows<R: Threads + Wait + Sync, O: Outlet>(
     ensures outlet { AreOverOne sink.old sink.new }
     ensures failures { O.failures (outlet_under sink.new)
         ≡ failures_after result (O.failures (outlet_under sink.old)) }
-    ensures trace { (seed : ℕ) → HoldOpeningRecords asked.now.scenario.now asked.now.net.now seed (map (λ b. plain b) members.items)
-        → TellsTrace asked.now.scenario.now asked.now.net.now seed (O.taken (outlet_under sink.old))
+    ensures listing { (seed : ℕ) → HoldOpeningRecords asked.now.scenario.now asked.now.net.now seed (map (λ b. plain b) members.items)
+        → TellsListing (text_in L.form) asked.now.scenario.now asked.now.net.now seed (O.taken (outlet_under sink.old))
         (O.taken (outlet_under sink.new)) result }
     ensures asked { (seed : ℕ) → HoldOpeningRecords asked.now.scenario.now asked.now.net.now seed (map (λ b. plain b) members.items)
         → TellsRefusedFor asked.now.scenario.now asked.now.net.now seed asked.now.options result }

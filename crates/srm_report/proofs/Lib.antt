@@ -4,8 +4,8 @@ pub mod CountLemmas
 pub mod CourseLemmas
 pub mod LineLemmas
 pub mod LinkLemmas
+pub mod ListingLemmas
 pub mod LossLemmas
 pub mod MemberLemmas
 pub mod SinkLemmas
 pub mod TableLemmas
-pub mod TraceLemmas

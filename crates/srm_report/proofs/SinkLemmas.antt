@@ -5,14 +5,15 @@ use Rattle.srm_member.specs.declared.row.Row.{Row}
 use Rattle.srm_engine.specs.declared.sink.SinkFault.{SinkFault}
 use Rattle.srm_engine.specs.declared.sink.SinkFault.TheVariants as fault
 use Rattle.srm_report.specs.declared.standing.Standing.{Standing}
-use Rattle.srm_report.specs.declared.trace_sink.TraceSink.{TraceSink}
+use Rattle.srm_report.specs.declared.listing_sink.ListingSink.{ListingSink}
+use Rattle.srm_report.specs.Listings.{Form}
 use Rattle.srm_report.specs.Standings.{text_next, IsText, after_answer, TakesText}
-use Rattle.srm_report.specs.TraceSinks.{outlet_under, gathered_by, written_by, Wrote, PutsAll}
-use Rattle.srm_report.specs.TraceSinks.{PutsText, PutsRows, PutsPart, WritesThrough}
+use Rattle.srm_report.specs.ListingSinks.{outlet_under, gathered_by, written_by, Wrote, PutsAll}
+use Rattle.srm_report.specs.ListingSinks.{PutsText, PutsRows, PutsPart, WritesThrough}
 use Rattle.srm_report.specs.SinkLaws.{all_more, front_more}
 
 -- after what was gathered is written, a text is
-pub written_after : {O A E : Type 0} (taken : O → Option (List ℕ)) (a b c : TraceSink O) (text : List ℕ) (r : Result A E)
+pub written_after : {L O A E : Type 0} (taken : O → Option (List ℕ)) (a b c : ListingSink L O) (text : List ℕ) (r : Result A E)
     → gathered_by b ≡ [] → gathered_by c ≡ gathered_by b → PutsAll taken a [] b
     → TakesText taken (outlet_under b) (written_by b) text r (outlet_under c) (written_by c) → WritesThrough taken a text r c
 written_after taken a b c text (Ok v) none same h k =
@@ -25,21 +26,21 @@ written_after taken a b c text (Err e) none same h k =
     front_more taken a b c [] text h (k.0, k.1, ap (λ (l : List ℕ). l ++ text) none ∙ k.2, record { bytes = k.3; counted = k.4 })
 
 -- where a sink stands, and whether it took rows, has no part in what it wrote
-stood : {O : Type 0} (taken : O → Option (List ℕ)) (a b : TraceSink O) (out : List ℕ) (begun : Bool) (s : Standing)
+stood : {L O : Type 0} (taken : O → Option (List ℕ)) (a b : ListingSink L O) (out : List ℕ) (begun : Bool) (s : Standing)
     (fits : length b.gathered.items ≤ b.room)
     → Wrote taken a out b → Wrote taken a out (record b { has_begun = begun; standing = s; within = fits })
 stood taken a b out begun s fits h = record { bytes = h.bytes; counted = h.counted }
 
 -- after the text of rows was put, and the sink stands as the answer says
-pub rows_put : {O A : Type 0} (taken : O → Option (List ℕ)) (a b : TraceSink O) (rows : List Row) (r : Result A SinkFault)
+pub rows_put : {L O A : Type 0} (taken : O → Option (List ℕ)) (f : Form) (a b : ListingSink L O) (rows : List Row) (r : Result A SinkFault)
     (begun : Bool) (s : Standing) (fits : length b.gathered.items ≤ b.room)
-    → PutsText taken a (text_next a.standing rows) r b → s ≡ after_answer r
-    → MatchResult r (λ (_ : A). PutsRows taken a rows (record b { has_begun = begun; standing = s; within = fits }))
-    (λ (_ : SinkFault). PutsPart taken a rows (record b { has_begun = begun; standing = s; within = fits }))
-rows_put taken a b rows (Ok v) begun s fits h e = (
-  text_next a.standing rows,
-  subst (λ (at : Standing). IsText a.standing at rows (text_next a.standing rows)) (sym e) refl,
+    → PutsText taken a (text_next f a.standing rows) r b → s ≡ after_answer r
+    → MatchResult r (λ (_ : A). PutsRows taken f a rows (record b { has_begun = begun; standing = s; within = fits }))
+    (λ (_ : SinkFault). PutsPart taken f a rows (record b { has_begun = begun; standing = s; within = fits }))
+rows_put taken f a b rows (Ok v) begun s fits h e = (
+  text_next f a.standing rows,
+  subst (λ (at : Standing). IsText f a.standing at rows (text_next f a.standing rows)) (sym e) refl,
   (h.0, h.1, stood taken a b h.0 begun s fits h.2),
 )
-rows_put taken a b rows (Err fault.NoMemory) begun s fits h e = (h.0, h.1, h.2, stood taken a b h.0 begun s fits h.3)
-rows_put taken a b rows (Err (fault.Stopped n)) begun s fits h e = (h.0.0, h.0.1, h.0.2, stood taken a b h.0.0 begun s fits h.0.3)
+rows_put taken f a b rows (Err fault.NoMemory) begun s fits h e = (h.0, h.1, h.2, stood taken a b h.0 begun s fits h.3)
+rows_put taken f a b rows (Err (fault.Stopped n)) begun s fits h e = (h.0.0, h.0.1, h.0.2, stood taken a b h.0.0 begun s fits h.0.3)

@@ -3,6 +3,8 @@ pub mod Courses
 pub mod Devices
 pub mod Lines
 pub mod Links
+pub mod ListingSinks
+pub mod Listings
 pub mod Losses
 pub mod LossesSinks
 pub mod Members
@@ -11,6 +13,6 @@ pub mod NoRows
 pub mod Rows
 pub mod Standings
 pub mod Tables
+pub mod Timers
 pub mod Trace
-pub mod TraceSinks
 pub mod SinkLaws

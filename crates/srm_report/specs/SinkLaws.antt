@@ -7,55 +7,53 @@ use Rattle.std.proofs.lemmas.Grind.{flat_map-append}
 use Rattle.srm_member.specs.declared.row.Row.{Row}
 use Rattle.srm_report.specs.declared.standing.Standing.{Standing}
 use Rattle.srm_report.specs.declared.standing.Standing.TheVariants.{Fresh, Live, NoMemory, Stopped}
-use Rattle.srm_report.specs.declared.trace_sink.TraceSink.{TraceSink}
-use Rattle.srm_report.specs.Trace.{trace_line, trace_lines}
+use Rattle.srm_report.specs.declared.listing_sink.ListingSink.{ListingSink}
+use Rattle.srm_report.specs.Listings.{Form, lines_in}
 use Rattle.srm_report.specs.Standings.{lead, text_next, IsText, GrewBy}
-use Rattle.srm_report.specs.TraceSinks.{outlet_under, gathered_by, written_by, Wrote}
-use Rattle.srm_report.specs.TraceSinks.{PutsAll, PutsFront, PutsRows, PutsPart, AreOverOne}
+use Rattle.srm_report.specs.ListingSinks.{outlet_under, gathered_by, written_by, Wrote}
+use Rattle.srm_report.specs.ListingSinks.{PutsAll, PutsFront, PutsRows, PutsPart, AreOverOne}
 
 -- ---- text
 
-pub no_lines : trace_lines [] ≡ []
-unfolding trace_lines
-no_lines = refl
+module _ (f : Form) where
+  pub more_lines : (xs ys : List Row) → lines_in f (xs ++ ys) ≡ lines_in f xs ++ lines_in f ys
+  more_lines xs ys = flat_map-append f.line xs ys
 
-pub more_lines : (xs ys : List Row) → trace_lines (xs ++ ys) ≡ trace_lines xs ++ trace_lines ys
-unfolding trace_lines
-more_lines xs ys = flat_map-append trace_line xs ys
+  -- the text of more rows is longer
+  pub next_more :
+      (at : Standing) (xs ys : List Row) → text_next f at (xs ++ ys) ≡ text_next f at xs ++ lines_in f ys
+  next_more at xs ys =
+      ap (λ (l : List ℕ). lead f at ++ l) (more_lines xs ys)
+      ∙ sym (append_assoc (lead f at) (lines_in f xs) (lines_in f ys))
 
--- the text of more rows is longer
-pub next_more : (at : Standing) (xs ys : List Row) → text_next at (xs ++ ys) ≡ text_next at xs ++ trace_lines ys
-next_more at xs ys =
-    ap (λ (l : List ℕ). lead at ++ l) (more_lines xs ys)
-    ∙ sym (append_assoc (lead at) (trace_lines xs) (trace_lines ys))
+  none_text : (at : Standing) → IsText f at at [] []
+  none_text Fresh = (refl, refl, refl)
+  none_text Live = refl
+  none_text NoMemory = refl
+  none_text Stopped = refl
 
-none_text : (at : Standing) → IsText at at [] []
-none_text Fresh = (refl, refl, refl)
-none_text Live = sym no_lines
-none_text NoMemory = sym no_lines
-none_text Stopped = sym no_lines
+  -- after these rows, those that come next have no header, or these were none
+  text_after :
+      (at mid : Standing) (xs ys : List Row) (t : List ℕ) → IsText f at mid xs t
+      → text_next f at (xs ++ ys) ≡ t ++ text_next f mid ys
+  text_after at Fresh xs ys t h =
+      ap (λ (s : Standing). text_next f s (xs ++ ys)) h.0 ∙ ap (λ (l : List Row). text_next f Fresh (l ++ ys)) h.1
+      ∙ ap (λ (l : List ℕ). l ++ text_next f Fresh ys) (sym h.2)
+  text_after at Live xs ys t h = next_more at xs ys ∙ ap (λ (l : List ℕ). l ++ lines_in f ys) (sym h)
+  text_after at NoMemory xs ys t h = next_more at xs ys ∙ ap (λ (l : List ℕ). l ++ lines_in f ys) (sym h)
+  text_after at Stopped xs ys t h = next_more at xs ys ∙ ap (λ (l : List ℕ). l ++ lines_in f ys) (sym h)
 
--- after these rows, those that come next have no header, or these were none
-text_after :
-    (at mid : Standing) (xs ys : List Row) (t : List ℕ) → IsText at mid xs t
-    → text_next at (xs ++ ys) ≡ t ++ text_next mid ys
-text_after at Fresh xs ys t h =
-    ap (λ (s : Standing). text_next s (xs ++ ys)) h.0 ∙ ap (λ (l : List Row). text_next Fresh (l ++ ys)) h.1
-    ∙ ap (λ (l : List ℕ). l ++ text_next Fresh ys) (sym h.2)
-text_after at Live xs ys t h = next_more at xs ys ∙ ap (λ (l : List ℕ). l ++ trace_lines ys) (sym h)
-text_after at NoMemory xs ys t h = next_more at xs ys ∙ ap (λ (l : List ℕ). l ++ trace_lines ys) (sym h)
-text_after at Stopped xs ys t h = next_more at xs ys ∙ ap (λ (l : List ℕ). l ++ trace_lines ys) (sym h)
-
-text_more : (at mid end : Standing) (xs ys : List Row) (t u : List ℕ) → IsText at mid xs t → IsText mid end ys u
-    → IsText at end (xs ++ ys) (t ++ u)
-text_more at mid Live xs ys t u h k = ap (λ (l : List ℕ). t ++ l) k ∙ sym (text_after at mid xs ys t h)
-text_more at mid NoMemory xs ys t u h k = ap (λ (l : List ℕ). t ++ l) k ∙ sym (text_after at mid xs ys t h)
-text_more at mid Stopped xs ys t u h k = ap (λ (l : List ℕ). t ++ l) k ∙ sym (text_after at mid xs ys t h)
-text_more at Fresh Fresh xs ys t u h k =
-    (h.0, ap (λ (l : List Row). l ++ ys) h.1 ∙ k.1, ap (λ (l : List ℕ). l ++ u) h.2 ∙ k.2)
-text_more at Live Fresh xs ys t u h k = cc
-text_more at NoMemory Fresh xs ys t u h k = cc
-text_more at Stopped Fresh xs ys t u h k = cc
+  text_more :
+      (at mid end : Standing) (xs ys : List Row) (t u : List ℕ) → IsText f at mid xs t → IsText f mid end ys u
+      → IsText f at end (xs ++ ys) (t ++ u)
+  text_more at mid Live xs ys t u h k = ap (λ (l : List ℕ). t ++ l) k ∙ sym (text_after at mid xs ys t h)
+  text_more at mid NoMemory xs ys t u h k = ap (λ (l : List ℕ). t ++ l) k ∙ sym (text_after at mid xs ys t h)
+  text_more at mid Stopped xs ys t u h k = ap (λ (l : List ℕ). t ++ l) k ∙ sym (text_after at mid xs ys t h)
+  text_more at Fresh Fresh xs ys t u h k =
+      (h.0, ap (λ (l : List Row). l ++ ys) h.1 ∙ k.1, ap (λ (l : List ℕ). l ++ u) h.2 ∙ k.2)
+  text_more at Live Fresh xs ys t u h k = cc
+  text_more at NoMemory Fresh xs ys t u h k = cc
+  text_more at Stopped Fresh xs ys t u h k = cc
 
 -- ---- counts
 
@@ -80,18 +78,18 @@ joins g t o b u p r h k =
     sym (append_assoc g t u) ∙ ap (λ (l : List ℕ). l ++ u) h ∙ append_assoc o b u ∙ ap (λ (l : List ℕ). o ++ l) k
     ∙ sym (append_assoc o p r)
 
-pub one_self : {O : Type 0} (a : TraceSink O) → AreOverOne a a
+pub one_self : {L O : Type 0} (a : ListingSink L O) → AreOverOne a a
 one_self a = (refl, refl)
 
-pub one_more : {O : Type 0} (a b c : TraceSink O) → AreOverOne a b → AreOverOne b c → AreOverOne a c
+pub one_more : {L O : Type 0} (a b c : ListingSink L O) → AreOverOne a b → AreOverOne b c → AreOverOne a c
 one_more a b c h k = (k.0 ∙ h.0, k.1 ∙ h.1)
 
-module _ {O : Type 0} (taken : O → Option (List ℕ)) where
-  pub wrote_none : (a : TraceSink O) → Wrote taken a [] a
+module _ {L O : Type 0} (taken : O → Option (List ℕ)) where
+  pub wrote_none : (a : ListingSink L O) → Wrote taken a [] a
   wrote_none a = record { bytes = Appends-nil (taken (outlet_under a)); counted = count_none (written_by a) }
 
   pub wrote_more :
-      (a b c : TraceSink O) (t u : List ℕ) → Wrote taken a t b → Wrote taken b u c → Wrote taken a (t ++ u) c
+      (a b c : ListingSink L O) (t u : List ℕ) → Wrote taken a t b → Wrote taken b u c → Wrote taken a (t ++ u) c
   wrote_more a b c t u h k = record {
     bytes =
         Appends-trans (taken (outlet_under a)) (taken (outlet_under b)) (taken (outlet_under c)) t u h.bytes k.bytes;
@@ -99,22 +97,22 @@ module _ {O : Type 0} (taken : O → Option (List ℕ)) where
         (count_more (written_by a) (length t) (written_by b) (length u) (written_by c) h.counted k.counted);
   }
 
-  pub all_none : (a : TraceSink O) → PutsAll taken a [] a
+  pub all_none : (a : ListingSink L O) → PutsAll taken a [] a
   all_none a = ([], append-nil (gathered_by a), wrote_none a)
 
   pub all_more :
-      (a b c : TraceSink O) (t u : List ℕ) → PutsAll taken a t b → PutsAll taken b u c → PutsAll taken a (t ++ u) c
+      (a b c : ListingSink L O) (t u : List ℕ) → PutsAll taken a t b → PutsAll taken b u c → PutsAll taken a (t ++ u) c
   all_more a b c t u h k = (
     h.0 ++ k.0,
     joins (gathered_by a) t h.0 (gathered_by b) u k.0 (gathered_by c) h.1 k.1,
     wrote_more a b c h.0 k.0 h.2 k.2,
   )
 
-  pub front_none : (a : TraceSink O) (t : List ℕ) → PutsFront taken a t a
+  pub front_none : (a : ListingSink L O) (t : List ℕ) → PutsFront taken a t a
   front_none a t = ([], gathered_by a ++ t, refl, wrote_none a)
 
   pub front_more :
-      (a b c : TraceSink O) (t u : List ℕ) → PutsAll taken a t b → PutsFront taken b u c
+      (a b c : ListingSink L O) (t u : List ℕ) → PutsAll taken a t b → PutsFront taken b u c
       → PutsFront taken a (t ++ u) c
   front_more a b c t u h k = (
     h.0 ++ k.0,
@@ -123,7 +121,7 @@ module _ {O : Type 0} (taken : O → Option (List ℕ)) where
     wrote_more a b c h.0 k.0 h.2 k.3,
   )
 
-  pub front_longer : (a b : TraceSink O) (t u : List ℕ) → PutsFront taken a t b → PutsFront taken a (t ++ u) b
+  pub front_longer : (a b : ListingSink L O) (t u : List ℕ) → PutsFront taken a t b → PutsFront taken a (t ++ u) b
   front_longer a b t u k = (
     k.0,
     k.1 ++ u,
@@ -131,26 +129,31 @@ module _ {O : Type 0} (taken : O → Option (List ℕ)) where
     k.3,
   )
 
-  pub rows_none : (a : TraceSink O) → PutsRows taken a [] a
-  rows_none a = ([], none_text a.standing, all_none a)
+  module _ (f : Form) where
+    pub rows_none : (a : ListingSink L O) → PutsRows taken f a [] a
+    rows_none a = ([], none_text f a.standing, all_none a)
 
-  pub rows_more :
-      (a b c : TraceSink O) (xs ys : List Row) → PutsRows taken a xs b → PutsRows taken b ys c
-      → PutsRows taken a (xs ++ ys) c
-  rows_more a b c xs ys h k =
-      (h.0 ++ k.0, text_more a.standing b.standing c.standing xs ys h.0 k.0 h.1 k.1, all_more a b c h.0 k.0 h.2 k.2)
+    pub rows_more :
+        (a b c : ListingSink L O) (xs ys : List Row) → PutsRows taken f a xs b → PutsRows taken f b ys c
+        → PutsRows taken f a (xs ++ ys) c
+    rows_more a b c xs ys h k = (
+      h.0 ++ k.0,
+      text_more f a.standing b.standing c.standing xs ys h.0 k.0 h.1 k.1,
+      all_more a b c h.0 k.0 h.2 k.2,
+    )
 
-  pub part_none : (a : TraceSink O) → PutsPart taken a [] a
-  part_none a = front_none a (text_next a.standing [])
+    pub part_none : (a : ListingSink L O) → PutsPart taken f a [] a
+    part_none a = front_none a (text_next f a.standing [])
 
-  pub part_more :
-      (a b c : TraceSink O) (xs ys : List Row) → PutsRows taken a xs b → PutsPart taken b ys c
-      → PutsPart taken a (xs ++ ys) c
-  part_more a b c xs ys h k =
-      subst (λ (l : List ℕ). PutsFront taken a l c) (sym (text_after a.standing b.standing xs ys h.0 h.1))
-      (front_more a b c h.0 (text_next b.standing ys) h.2 k)
+    pub part_more :
+        (a b c : ListingSink L O) (xs ys : List Row) → PutsRows taken f a xs b → PutsPart taken f b ys c
+        → PutsPart taken f a (xs ++ ys) c
+    part_more a b c xs ys h k =
+        subst (λ (l : List ℕ). PutsFront taken a l c) (sym (text_after f a.standing b.standing xs ys h.0 h.1))
+        (front_more a b c h.0 (text_next f b.standing ys) h.2 k)
 
-  pub part_longer : (a b : TraceSink O) (xs ys : List Row) → PutsPart taken a xs b → PutsPart taken a (xs ++ ys) b
-  part_longer a b xs ys k =
-      subst (λ (l : List ℕ). PutsFront taken a l b) (sym (next_more a.standing xs ys))
-      (front_longer a b (text_next a.standing xs) (trace_lines ys) k)
+    pub part_longer :
+        (a b : ListingSink L O) (xs ys : List Row) → PutsPart taken f a xs b → PutsPart taken f a (xs ++ ys) b
+    part_longer a b xs ys k =
+        subst (λ (l : List ℕ). PutsFront taken a l b) (sym (next_more f a.standing xs ys))
+        (front_longer a b (text_next f a.standing xs) (lines_in f ys) k)

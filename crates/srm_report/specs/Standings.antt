@@ -6,27 +6,27 @@ use Rattle.srm_engine.specs.declared.sink.SinkFault.{SinkFault}
 use Rattle.srm_engine.specs.declared.sink.SinkFault.TheVariants as fault
 use Rattle.srm_report.specs.declared.standing.Standing.{Standing}
 use Rattle.srm_report.specs.declared.standing.Standing.TheVariants.{Fresh, Live, NoMemory, Stopped}
-use Rattle.srm_report.specs.Trace.{trace_header, trace_lines}
+use Rattle.srm_report.specs.Listings.{Form, lines_in}
 
 -- ---- text
 
 -- what comes before the rows that a sink takes next: the header, where it took none yet
-abbrev pub lead : Standing → List ℕ
-lead Fresh = trace_header
-lead Live = []
-lead NoMemory = []
-lead Stopped = []
+abbrev pub lead : Form → Standing → List ℕ
+lead f Fresh = f.header
+lead f Live = []
+lead f NoMemory = []
+lead f Stopped = []
 
 -- the text of the rows that a sink takes next
-abbrev pub text_next : Standing → List Row → List ℕ
-text_next at rows = lead at ++ trace_lines rows
+abbrev pub text_next : Form → Standing → List Row → List ℕ
+text_next f at rows = lead f at ++ lines_in f rows
 
 -- this is the text of all rows that a sink took between these two standings: none where it is still fresh
-abbrev pub IsText : Standing → Standing → List Row → List ℕ → Type 0
-IsText old Fresh rows text = (old ≡ Fresh) × (rows ≡ []) × (text ≡ [])
-IsText old Live rows text = text ≡ text_next old rows
-IsText old NoMemory rows text = text ≡ text_next old rows
-IsText old Stopped rows text = text ≡ text_next old rows
+abbrev pub IsText : Form → Standing → Standing → List Row → List ℕ → Type 0
+IsText f old Fresh rows text = (old ≡ Fresh) × (rows ≡ []) × (text ≡ [])
+IsText f old Live rows text = text ≡ text_next f old rows
+IsText f old NoMemory rows text = text ≡ text_next f old rows
+IsText f old Stopped rows text = text ≡ text_next f old rows
 
 -- where a sink stands after this answer
 abbrev pub after_answer : {A : Type 0} → Result A SinkFault → Standing

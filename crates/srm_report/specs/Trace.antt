@@ -1,6 +1,5 @@
 -- The trace of a run as text: a header, and a line for each row.
 use Rattle.std.specs.Prelude.{ℕ, List, [], ◌∷◌, ◌++◌, length, Option, Some, None, codes, decimal}
-use Rattle.std.specs.List.{flat_map}
 use Rattle.csv.specs.Writing.{row_text, default_writer}
 use Rattle.srm_net.specs.declared.packet.PacketId.{PacketId}
 use Rattle.srm_net.specs.declared.packet.Packet.{Packet}
@@ -12,6 +11,7 @@ use Rattle.srm_member.specs.declared.row.Word.TheVariants as word
 use Rattle.srm_member.specs.declared.row.About.{About}
 use Rattle.srm_member.specs.declared.row.About.TheVariants.{Nothing, Of, Named}
 use Rattle.srm_member.specs.declared.row.Row.{Row}
+use Rattle.srm_report.specs.Listings.{Form, text_in}
 
 -- the word of an event's kind
 abbrev pub cause_word : Word → List ℕ
@@ -79,10 +79,10 @@ trace_header = row_text default_writer trace_columns
 unfoldable pub trace_line : Row → List ℕ
 trace_line r = row_text default_writer (trace_fields r)
 
--- the lines of these rows
-unfoldable pub trace_lines : List Row → List ℕ
-trace_lines rows = flat_map trace_line rows
+-- how a trace lists rows: a line for each
+abbrev pub trace_form : Form
+trace_form = record { header = trace_header; line = trace_line }
 
 -- the text of a trace: its header, and then a line for each row
 unfoldable pub trace_of_rows : List Row → List ℕ
-trace_of_rows rows = trace_header ++ trace_lines rows
+trace_of_rows rows = text_in trace_form rows

@@ -2,12 +2,14 @@
 ghost use Rattle.std.specs.Prelude.{◌≡◌, ◌+◌, ◌≤◌, [], ◌∷◌, ◌++◌, length, IfOk, OnOk};
 ghost use Rattle.csv.specs.Machine.{line_feed};
 ghost use Rattle.csv.specs.Writing.{comma, default_writer, row_text};
+ghost use Rattle.srm_report.specs.Listings.{lines_in};
 ghost use Rattle.srm_report.specs.Lines.{full_room, line_room, line_text, line_written};
-ghost use Rattle.srm_report.specs.Trace.{cause_word, told_word, ref_text, sent_text, trace_fields, trace_lines, trace_of_rows};
+ghost use Rattle.srm_report.specs.Trace.{cause_word, told_word, ref_text, sent_text, trace_fields, trace_form, trace_of_rows};
 
 use crate::fault::ReportFault;
 use crate::fields::{put_dash, put_name, put_number, put_packet, put_word};
 use crate::line::Line;
+use crate::listing::Listing;
 use srm_member::row::{About, Row, Word};
 use srm_member::told::Told;
 use srm_net::packet::Packet;
@@ -18,6 +20,24 @@ const HEADER: &[u8] = b"time,member,cause,ref,result,lost,sent\n";
 
 // How many bytes most lines of a run have at most, to make room for them at once.
 const USUAL_LINE: usize = 40;
+
+/// The trace, as a table that lists each row.
+#[derive(Clone, Copy, Debug)]
+pub struct TraceListing;
+
+impl Listing for TraceListing {
+    ghost use Rattle.srm_report.specs.Trace.{trace_form};
+
+    ghost form = { trace_form };
+
+    fn text(alloc: Global, rows: &[Row]) -> Result<Vec<u8>, ReportFault> {
+        trace_text(alloc, rows)
+    }
+
+    fn lines(alloc: Global, rows: &[Row]) -> Result<Vec<u8>, ReportFault> {
+        lines_text(alloc, rows)
+    }
+}
 
 /// The text of a trace, as CSV with line feeds: a header, and a line for each row.
 ///
@@ -46,7 +66,7 @@ pub fn trace_text(alloc: Global, rows: &[Row]) -> Result<Vec<u8>, ReportFault>
 /// # Errors
 /// `NoMemory`.
 pub fn lines_text(alloc: Global, rows: &[Row]) -> Result<Vec<u8>, ReportFault>
-    ensures { IfOk result (λ text. text.items ≡ trace_lines rows.now) }
+    ensures { IfOk result (λ text. text.items ≡ lines_in trace_form rows.now) }
 {
     let mut text = Vec::new(alloc);
     put_rows(&mut text, rows)?;
@@ -55,7 +75,7 @@ pub fn lines_text(alloc: Global, rows: &[Row]) -> Result<Vec<u8>, ReportFault>
 
 // Appends the lines of these rows.
 fn put_rows(text: &mut Vec<u8>, rows: &[Row]) -> Result<(), AllocError>
-    ensures { OnOk result (text.new.items ≡ text.old.items ++ trace_lines rows.now) }
+    ensures { OnOk result (text.new.items ≡ text.old.items ++ lines_in trace_form rows.now) }
 {
     text.reserve(rows.len().saturating_mul(USUAL_LINE))?;
     let mut line = Line::new();
@@ -83,7 +103,7 @@ fn put_row(line: &mut Line, row: &Row)
 }
 
 // Puts what an event is about.
-fn put_ref(line: &mut Line, about: &About)
+pub(crate) fn put_ref(line: &mut Line, about: &About)
     requires { 63 ≤ line_room line.old }
     ensures room { line_room line.old ≤ line_room line.new + 63 }
     ensures written { line_written line.new ≡ comma ∷ (ref_text about.now ++ line_written line.old) }
@@ -108,7 +128,7 @@ fn put_sent(line: &mut Line, sent: &Option<Packet>)
 }
 
 // The word of an event's kind.
-fn word_of_cause(cause: Word) -> &'static str
+pub(crate) fn word_of_cause(cause: Word) -> &'static str
     ensures word { result.now ≡ cause_word cause }
     ensures short { length result.now ≤ 7 }
 {

@@ -8,9 +8,9 @@ use srm_engine::stream_fault::StreamFault;
 use srm_engine::width::{Width, Windows};
 use srm_examples::scenarios::CHAIN_OF_FIVE_ONE_LOSS;
 use srm_report::fault::ReportFault;
+use srm_report::listing_sink::ListingSink;
 use srm_report::outlet::WriteOutlet;
-use srm_report::trace::trace_text;
-use srm_report::trace_sink::TraceSink;
+use srm_report::trace::{TraceListing, trace_text};
 use std::alloc::Global;
 use std::io;
 use std::io::Write;
@@ -112,7 +112,7 @@ fn rows_are_written_before_later_windows_are_run(rt: HostRuntime) -> Result<(), 
         noted: None,
     });
     let mut crew = Recording::new(alloc);
-    let mut sink = TraceSink::over(alloc, &mut outlet);
+    let mut sink = ListingSink::over(alloc, TraceListing, &mut outlet);
     let fault = stream_text(alloc, text, &reacts, &mut crew, TICKS, &mut sink)?;
     assert_eq!(rt; fault, None);
     drop(sink);
@@ -174,7 +174,7 @@ fn rows_are_written_before_later_events_are_handled(rt: HostRuntime) -> Result<(
         noted: None,
     });
     let mut crew = Recording::new(alloc);
-    let mut sink = TraceSink::over(alloc, &mut outlet);
+    let mut sink = ListingSink::over(alloc, TraceListing, &mut outlet);
     let fault = stream_text(alloc, TWENTY_DRAWS, &reacts, &mut crew, None, &mut sink)?;
     assert_eq!(rt; fault, None);
     drop(sink);

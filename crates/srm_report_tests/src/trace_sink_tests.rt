@@ -1,15 +1,16 @@
 //! A trace that is written as its rows come, to outlets that fail.
 ghost use Rattle.std.specs.Prelude.{◌<◌, ◌-◌, ◌^◌};
 ghost use Rattle.srm_engine.specs.Sinks.{IsOpen};
-ghost use Rattle.srm_report.specs.TraceSinks.{stage_of, outlet_under};
+ghost use Rattle.srm_report.specs.ListingSinks.{stage_of, outlet_under};
 
 use crate::trace_tests::{Narrow, Of, row_of};
 use srm_engine::sink::{RowSink, SinkFault};
 use srm_member::row::{Row, Word};
 use srm_member::told::Told;
 use srm_net::packet::PacketId;
+use srm_report::listing_sink::ListingSink;
 use srm_report::outlet::{Outlet, WriteOutlet};
-use srm_report::trace_sink::TraceSink;
+use srm_report::trace::TraceListing;
 use srm_report::writing::{WriteFault, write_out};
 use std::alloc::{AllocError, Global};
 use std::io;
@@ -60,7 +61,10 @@ fn one(alloc: Global, row: Row) -> Result<Vec<Row>, AllocError> {
 }
 
 // Hands a sink no rows, then one row, then another, and flushes it. What the first fault tells, if there is one.
-fn written<O: Outlet>(alloc: Global, sink: TraceSink<O>) -> Result<Option<u64>, AllocError>
+fn written<O: Outlet>(
+    alloc: Global,
+    sink: ListingSink<TraceListing, O>,
+) -> Result<Option<u64>, AllocError>
     requires open { IsOpen (stage_of sink) }
     requires failures { O.failures (outlet_under sink) < 2 ^ 64 - 1 }
 {
@@ -83,7 +87,10 @@ fn written<O: Outlet>(alloc: Global, sink: TraceSink<O>) -> Result<Option<u64>, 
 }
 
 // Hands a sink one row. What the fault tells, if there is one.
-fn written_at_once<O: Outlet>(alloc: Global, sink: TraceSink<O>) -> Result<Option<u64>, AllocError>
+fn written_at_once<O: Outlet>(
+    alloc: Global,
+    sink: ListingSink<TraceListing, O>,
+) -> Result<Option<u64>, AllocError>
     requires open { IsOpen (stage_of sink) }
     requires failures { O.failures (outlet_under sink) < 2 ^ 64 - 1 }
 {
@@ -99,7 +106,10 @@ fn written_to(
     gathers: usize,
 ) -> Result<(Vec<u8>, Option<u64>), AllocError> {
     let mut outlet = WriteOutlet::new(Narrow::new(alloc, takes, true));
-    let told = written(alloc, TraceSink::gathering(alloc, &mut outlet, gathers))?;
+    let told = written(
+        alloc,
+        ListingSink::gathering(alloc, TraceListing, &mut outlet, gathers),
+    )?;
     Ok((outlet.into_inner().taken, told))
 }
 
@@ -137,7 +147,7 @@ fn pieces_are_the_text_of_the_whole(rt: HostRuntime) -> Result<(), Fail> {
 fn a_sink_over_an_outlet_writes_each_piece_as_it_comes(rt: HostRuntime) -> Result<(), Fail> {
     let alloc = rt.alloc();
     let mut outlet = WriteOutlet::new(Narrow::new(alloc, 1_000, true));
-    let told = written_at_once(alloc, TraceSink::over(alloc, &mut outlet))?;
+    let told = written_at_once(alloc, ListingSink::over(alloc, TraceListing, &mut outlet))?;
     assert_eq!(rt; told, None);
     assert_eq!(rt; outlet.into_inner().taken.as_slice(), &TEXT[..57]);
     Ok(())
@@ -174,7 +184,7 @@ fn only_what_comes_after_the_first_rows_is_gathered(rt: HostRuntime) -> Result<(
     });
     let first = one(alloc, join(alloc)?)?;
     let second = one(alloc, arrival(alloc)?)?;
-    let mut sink = TraceSink::gathering(alloc, &mut outlet, 1_000);
+    let mut sink = ListingSink::gathering(alloc, TraceListing, &mut outlet, 1_000);
     if sink.rows(alloc, Vec::new(alloc)).is_err() {
         return Err(Fail::from("no memory"));
     }

@@ -1,4 +1,5 @@
 //! The text of a trace, over rows written by hand, and writing it.
+use srm_member::adapted::Adapted;
 use srm_member::row::{About, Row, Word};
 use srm_member::told::Told;
 use srm_net::key::Key;
@@ -112,6 +113,7 @@ pub(crate) fn row_of(
         told,
         lost: Sequence::from_vec(Vec::from_elem(alloc, FIRST, lost)?),
         sent: sent.map(|id| request(id, time)),
+        adapted: Adapted::nothing(),
     })
 }
 

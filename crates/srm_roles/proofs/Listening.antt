@@ -17,12 +17,13 @@ pub listener_gives : (r : Record) (gone : Bool) (f : Fixed) (held held2 : List (
     (lost : List Name)
     → record_of gone (listening f held) ≡ r → gone ≡ false → is_listener f.role ≡ true
     → ((m : MemberState) → m.held ≡ held → react_listener m cause ≡ quietly (record m { held = held2 }) told []) → lost ≡ []
-    → Reacts r at cause (Ok (record { told = told; lost = lost; body = None })) (Active (listening f held2))
+    → Reacts r at cause (Ok (record { told = told; lost = lost; body = None; adapted = None })) (Active (listening f held2))
 listener_gives r gone f held held2 at cause told lost view on role gives none =
     let m = listening f held in
     let e = as_listener m at cause role ∙ gives m refl in
-    subst (λ s. Reacts s at cause (Ok (record { told = told; lost = lost; body = None })) (Active (listening f held2)))
+    subst (λ s. Reacts s at cause (Ok (record { told = told; lost = lost; body = None; adapted = None })) (Active (listening f held2)))
     (sym (ap (λ b. record_of b m) on) ∙ view) (
-      ap (λ (l : List Name). let a : React = record { told = told; lost = l; body = None } in a) none ∙ sym (ap (λ x. x.answer) e),
+      ap (λ (l : List Name). let a : React = record { told = told; lost = l; body = None; adapted = None } in a) none
+          ∙ sym (ap (λ x. x.answer) e),
       sym (ap (λ x. Active x.state) e),
     )

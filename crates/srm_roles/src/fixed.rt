@@ -1,16 +1,15 @@
 //! The part of a member's record that never changes.
-ghost use Rattle.std.specs.Prelude.{◌≡◌, ◌<◌, ◌≤◌, length, All, IfOk};
-ghost use Rattle.srm_net.specs.Limits.{greatest_distance};
+ghost use Rattle.std.specs.Prelude.{◌≡◌, ◌<◌, length, IfOk};
 ghost use Rattle.srm_scenario.specs.Plain.{network_of};
 ghost use Rattle.srm_member.specs.Fit.{IsBounded};
 ghost use Rattle.srm_scenario.specs.Accepted.{HasRoom};
-ghost use Rattle.srm_roles.specs.Opening.{factor_of, limits_of, half_rounds_from, fixed_of};
+ghost use Rattle.srm_roles.specs.Opening.{factor_of, limits_of, fixed_of};
 
 use srm_member::backoff::BackoffFactor;
+use srm_member::distances::Distances;
 use srm_member::fixed::Fixed;
 use srm_member::limits::Limits;
 use srm_net::net::Net;
-use srm_net::sequence::Sequence;
 use srm_scenario::parts::Room;
 use srm_scenario::scenario::Scenario;
 use std::alloc::{AllocError, Global};
@@ -32,7 +31,7 @@ pub fn fixed_of(
     ensures value { IfOk result (λ f. f ≡ fixed_of scenario.now net.now seed m) }
     ensures fit { IfOk result IsBounded }
 {
-    let dist = half_rounds(alloc, net, m)?;
+    let dist = Distances::from(net.half_rounds(m)?);
     let member = scenario.member(m);
     let pages = member.pages.clone()?;
     let first = scenario.constants();
@@ -73,18 +72,4 @@ fn limits_of(first: u64, least: u64, most: u64) -> Limits
     ensures { result ≡ limits_of first least most }
 {
     Limits::new(first as u32, least as u32, most as u32)
-}
-
-// Half the round trip between a member and each member in turn, rounded down, in ticks.
-fn half_rounds(alloc: Global, net: &Net, m: u16) -> Result<Sequence<u64>, AllocError>
-    requires { m < length net.now.hosts }
-    ensures value { IfOk result (λ ds. ds ≡ half_rounds_from net.now m) }
-    ensures bounded { IfOk result (All (λ d. d ≤ greatest_distance)) }
-{
-    let members = net.members();
-    let mut dist = Sequence::with_capacity(alloc, usize::from(members))?;
-    for b in 0..members {
-        dist.push(net.round(m, b) / 2)?;
-    }
-    Ok(dist)
 }

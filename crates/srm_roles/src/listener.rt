@@ -92,6 +92,7 @@ impl Member for Listener {
             told,
             lost: Sequence::new(alloc),
             body: None,
+            adapted: None,
         })
     }
 

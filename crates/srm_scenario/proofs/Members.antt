@@ -9,6 +9,7 @@ use Rattle.std.specs.List.{list_any, AllByRecursion}
 use Rattle.srm_scenario.specs.declared.parts.MemberSpec.{MemberSpec}
 use Rattle.srm_scenario.specs.Plain.{PlainScenario}
 use Rattle.srm_scenario.specs.Accepted.{IsAccepted}
+use Rattle.srm_net.specs.Limits.{most_nodes}
 
 -- a number among numbers below n is below n
 pub below_from_any : (n q : ℕ) (xs : List ℕ) → AllByRecursion (λ x. x < n) xs → list_any (nat_eq q) xs ≡ true → q < n
@@ -19,7 +20,7 @@ below_from_any n q (x ∷ xs) h e =
       | inr other ↦ below_from_any n q xs h.1 (ap (λ b. b || list_any (nat_eq q) xs) (sym other) ∙ e)
     ]
 
-pub few_members : (s : PlainScenario) → IsAccepted s → length s.members ≤ 1024
+pub few_members : (s : PlainScenario) → IsAccepted s → length s.members ≤ most_nodes
 few_members s h =
     let hosts = map (λ (k : MemberSpec). k.node) s.members in
     let below = recursion_from_All (λ n. n < s.nodes) hosts h.network.hosts.0 in

@@ -19,7 +19,7 @@ use Rattle.srm_scenario.specs.declared.version.Version.TheVariants.{One, Two, Th
 use Rattle.srm_scenario.specs.Keys.{name_of}
 use Rattle.srm_scenario.specs.Accepted.{AreConstants, HasRoom}
 use Rattle.srm_scenario.specs.KeyLimits.{greatest_delay, greatest_limit}
-use Rattle.srm_scenario.specs.Rules.{rule, fits, is_met, is_text, meets, most_nodes_in, last_number, allows_back}
+use Rattle.srm_scenario.specs.Rules.{rule, fits, is_met, is_text, meets, most_nodes_in, last_number, most_listed_in, allows_back}
 use Rattle.srm_scenario.specs.Rules.{topology_rule, degree_rule, constant_rule, greatest_constant_in, allows_limits, rule_if}
 use Rattle.srm_scenario.specs.Rules.{back_rule, count_items}
 use Rattle.srm_scenario.specs.Described.{number, is_text_or, says, array_of, array_at, items_list, version_of, topology_of}
@@ -33,6 +33,11 @@ pub few_nodes : (v : Version) → (most_nodes_in v ≤ 1024) × (last_number v �
 few_nodes One = (omega arith, omega arith)
 few_nodes Two = (omega arith, omega arith)
 few_nodes Three = (omega arith, omega arith)
+
+few_in : (v : Version) → most_listed_in v ≤ most_listed
+few_in One = omega arith
+few_in Two = omega arith
+few_in Three = omega arith
 
 -- ---- the topology
 
@@ -195,7 +200,13 @@ module _ (ms : Members) (h : fits (rules_of_top ms) ms ≡ true) where
       (subst (λ t. is_met ms (back_rule (t && allows_back (version_of ms))) ≡ true) there b)
 
   pub draws_fit : length (array_at (codes "draw") ms) ≤ most_listed
-  draws_fit = few_listed key.Draw most_listed ms (met 23 (rule key.Draw (Elements most_listed) Optional) refl)
+  draws_fit =
+      let few = few_listed key.Draw (most_listed_in (version_of ms)) ms (met 23 _ refl) in
+      let most = few_in (version_of ms) in
+      omega arith
 
   pub sessions_fit : length (array_at (codes "session") ms) ≤ most_listed
-  sessions_fit = few_listed key.Session most_listed ms (met 24 (rule key.Session (Elements most_listed) Optional) refl)
+  sessions_fit =
+      let few = few_listed key.Session (most_listed_in (version_of ms)) ms (met 24 _ refl) in
+      let most = few_in (version_of ms) in
+      omega arith

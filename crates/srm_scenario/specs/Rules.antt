@@ -7,7 +7,7 @@ use Rattle.srm_scenario.specs.declared.version.Version.{Version}
 use Rattle.srm_scenario.specs.declared.version.Version.TheVariants.{One, Two, Three}
 use Rattle.toml.specs.Data.{Data, Items, Members, integer, string, array, table, no_items, item, no_members, member}
 use Rattle.toml.specs.Data.{get_member}
-use Rattle.srm_net.specs.Limits.{end_of_time, greatest_constant, most_listed}
+use Rattle.srm_net.specs.Limits.{end_of_time, greatest_constant}
 use Rattle.srm_scenario.specs.declared.parts.Constants.{Constants}
 use Rattle.srm_scenario.specs.declared.key.Key.{Key}
 use Rattle.srm_scenario.specs.declared.key.Key.TheVariants as key
@@ -42,6 +42,12 @@ most_nodes_in Three = 1024
 -- the last number that a node, a link or a member may have
 abbrev pub last_number : Version → ℕ
 last_number version = most_nodes_in version - 1
+
+-- how many draws there are at most, and how many session messages, drops and outages
+abbrev pub most_listed_in : Version → ℕ
+most_listed_in One = 4096
+most_listed_in Two = 4096
+most_listed_in Three = 4096
 
 -- whether links may have a second delay
 abbrev pub allows_back : Version → Bool
@@ -130,17 +136,17 @@ shape_rules version shaped tree =
     ∷ []
 
 -- the outages of links
-abbrev pub outage_rule : Bool → Rule
-outage_rule allowed = rule_if allowed key.Outage (Elements most_listed)
+abbrev pub outage_rule : Version → Rule
+outage_rule version = rule_if (allows_outages version) key.Outage (Elements (most_listed_in version))
 
 -- the other arrays of the top table
 abbrev pub array_rules : Version → List Rule
 array_rules version =
     rule key.Member (Elements (most_nodes_in version)) Optional
-    ∷ rule key.Draw (Elements most_listed) Optional
-    ∷ rule key.Session (Elements most_listed) Optional
-    ∷ rule key.Drop (Elements most_listed) Optional
-    ∷ outage_rule (allows_outages version)
+    ∷ rule key.Draw (Elements (most_listed_in version)) Optional
+    ∷ rule key.Session (Elements (most_listed_in version)) Optional
+    ∷ rule key.Drop (Elements (most_listed_in version)) Optional
+    ∷ outage_rule version
     ∷ []
 
 -- the top table, with these first values of the constants: `shaped` where it names a topology, `tree` where that is a

@@ -30,5 +30,5 @@ pub(crate) const LAST_COUNT: u64 = 4_294_967_295;
 /// At most so many pages does a late member ask for.
 pub(crate) const MOST_PAGES: u64 = 256;
 
-/// At most so many draws may a file list, and so many session messages, drops and outages.
+/// At most so many draws may a file of version 1, 2 or 3 list, and so many session messages, drops and outages.
 pub(crate) const MOST_LISTED: u64 = 4096;

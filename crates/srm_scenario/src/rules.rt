@@ -5,7 +5,7 @@ ghost use Rattle.srm_scenario.specs.Rules.{index_rule, back_rule, constant_rule,
 use crate::key::Key;
 use crate::limits::{
     GREATEST_DELAY, GREATEST_LIMIT, LAST_COUNT, LAST_INK, LAST_PAGE, LAST_STREAM, LAST_TICK,
-    LAST_VERSION, MOST_LISTED, MOST_PAGES,
+    LAST_VERSION, MOST_PAGES,
 };
 use crate::parts::Constants;
 use crate::rule::{Kind, Need, Rule, Words};
@@ -53,7 +53,7 @@ pub fn top_rules(version: Version, first: Constants, shaped: bool, tree: bool) -
     let last = u64::from(version.last_number());
     let limits = version.allows_limits();
     let delay = Kind::Whole(1, GREATEST_DELAY);
-    let listed = Kind::Elements(MOST_LISTED);
+    let listed = Kind::Elements(version.most_listed());
     let in_topology = Need::required_if(shaped);
     let in_tree = Need::required_if(tree);
     [

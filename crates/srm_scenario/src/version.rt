@@ -2,7 +2,7 @@
 ghost use Rattle.std.specs.Prelude.{◌≡◌, ◌≤◌, ◌==◌, if◌then◌else◌};
 ghost use Rattle.srm_scenario.specs.declared.version.Version.TheVariants.{One, Two, Three};
 
-use crate::limits::{GREATEST_CONSTANT, GREATEST_LIMIT};
+use crate::limits::{GREATEST_CONSTANT, GREATEST_LIMIT, MOST_LISTED};
 
 /// A version of the scenario format.
 #[derive(Clone, Copy, Debug, PartialEq, Eq)]
@@ -16,7 +16,7 @@ pub enum Version {
 }
 
 impl Version {
-    ghost use Rattle.srm_scenario.specs.Rules.{allows_back, allows_limits, allows_outages, greatest_constant_in, most_nodes_in, last_number};
+    ghost use Rattle.srm_scenario.specs.Rules.{allows_back, allows_limits, allows_outages, greatest_constant_in, most_nodes_in, last_number, most_listed_in};
 
     /// The version of this number. Where there is none of this number, it is the first.
     pub fn of(number: u64) -> Version
@@ -78,6 +78,15 @@ impl Version {
         match self {
             Version::One => 256,
             Version::Two | Version::Three => 1024,
+        }
+    }
+
+    /// How many draws there are at most, and how many session messages, drops and outages: 4,096.
+    pub fn most_listed(self) -> u64
+        ensures { result ≡ most_listed_in self }
+    {
+        match self {
+            Version::One | Version::Two | Version::Three => MOST_LISTED,
         }
     }
 

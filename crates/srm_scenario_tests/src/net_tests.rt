@@ -291,11 +291,11 @@ fn many_outages(rt: HostRuntime) -> Result<(), Fail> {
     Ok(())
 }
 
-// A path of 1,024 nodes is a network, and one node more is not.
+// A path of 65,535 nodes is a network: there are no more numbers of nodes.
 #[test]
 fn most_nodes(rt: HostRuntime) -> Result<(), Fail> {
     let mut links = Vec::new(rt.alloc());
-    for node in 0..1023 {
+    for node in 0..65_534 {
         links.push(LinkSpec {
             a: node,
             b: node + 1,
@@ -303,23 +303,23 @@ fn most_nodes(rt: HostRuntime) -> Result<(), Fail> {
             back: 1,
         })?;
     }
-    let net = Net::build(rt.alloc(), 1024, &links, &[0, 1023])?;
-    assert_eq!(rt; net.distance(0, 1), 1_023_000_000);
-    assert_eq!(rt; net.distance(1, 0), 1023);
+    let net = Net::build(rt.alloc(), 65_535, &links, &[0, 65_534])?;
+    assert_eq!(rt; net.distance(0, 1), 65_534_000_000);
+    assert_eq!(rt; net.distance(1, 0), 65_534);
     let drops = Drops::of(
         rt.alloc(),
         &[],
-        &[outage(1022, 1_022_000_000, 1_022_000_001)],
+        &[outage(65_533, 65_533_000_000, 65_533_000_001)],
     )?;
     let id = PacketId {
         sender: 0,
         count: 0,
     };
     assert!(rt; !net.reaches(&drops, id, 0, 1) && net.reaches(&drops, id, 1, 1));
-    links.push(short_link(1023, 1024))?;
+    links.push(short_link(65_534, 65_535))?;
     assert!(rt;
         matches!(
-            Net::build(rt.alloc(), 1025, &links, &[0]),
+            Net::build(rt.alloc(), 65_535, &links, &[0]),
             Err(NetFault::NotTree)
         )
     );

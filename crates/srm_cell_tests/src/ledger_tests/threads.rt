@@ -31,7 +31,7 @@ enum Work {
 
 // The number that is added to a kind of a link.
 fn number(link: usize, place: usize) -> u64
-    requires { (link < 1023) × (place < 5) }
+    requires { (link < 65534) × (place < 5) }
     ensures { result ≡ 5 * link + place + 1 }
 {
     (5 * link + place + 1) as u64
@@ -51,7 +51,7 @@ fn add_requests(ledger: &Ledger, seat: Seat, times: u32) -> Seat
 
 fn add_to_link(ledger: &Ledger, seat: Seat, link: usize) -> Seat
     requires ledger { seat.ledger ≡ ledger.now.name }
-    requires link { (link < ledger.now.links) × (ledger.now.links ≤ 1023) }
+    requires link { (link < ledger.now.links) × (ledger.now.links ≤ 65534) }
     ensures { result.ledger ≡ ledger.now.name }
 {
     let mut seat = seat;

@@ -26,6 +26,10 @@ pub(crate) struct Case {
     pub(crate) sent: u64,
     /// Whether each member has ended at the beginning.
     pub(crate) is_over: bool,
+    /// How many drawing operations the seat has counted at link 0 before.
+    pub(crate) counted: u64,
+    /// How often the seat is halved before: the crew is handed the first half of the first half, and so on.
+    pub(crate) splits: usize,
     /// The ends of the two windows, in ticks.
     pub(crate) ends: [u64; 2],
     /// What has to come of each window that is not refused.

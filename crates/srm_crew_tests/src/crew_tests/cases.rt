@@ -2,6 +2,7 @@
 use crate::crew_tests::case::{Case, Wanted};
 use srm_crew::fault::CrewFault;
 use srm_examples::scenarios::{STAR_LOSS_AT_THE_SOURCE, TWO_NODES};
+use srm_ledger::seat::SHARE_MOST;
 use srm_member::row::Word;
 use srm_member::told::Told;
 
@@ -10,6 +11,8 @@ pub(crate) const SENDER_AND_LISTENER: Case = Case {
     example: TWO_NODES,
     sent: 0,
     is_over: false,
+    counted: 0,
+    splits: 0,
     ends: [1, 5],
     windows: &[
         Wanted {
@@ -36,6 +39,8 @@ pub(crate) const FOUR_ROUND_A_NODE: Case = Case {
     example: STAR_LOSS_AT_THE_SOURCE,
     sent: 0,
     is_over: false,
+    counted: 0,
+    splits: 0,
     ends: [5, 105],
     windows: &[
         Wanted {
@@ -79,6 +84,8 @@ pub(crate) const LAST_PACKET: Case = Case {
     example: TWO_NODES,
     sent: 281_474_976_710_655,
     is_over: false,
+    counted: 0,
+    splits: 0,
     ends: [1, 6],
     windows: &[Wanted {
         rows: &[
@@ -98,8 +105,23 @@ pub(crate) const OVER: Case = Case {
     example: TWO_NODES,
     sent: 0,
     is_over: true,
+    counted: 0,
+    splits: 0,
     ends: [1, 5],
     windows: &[],
     fault: Some(CrewFault::Spent),
+    totals: &[],
+};
+
+/// The seat's share of what crosses the link is as large as it may be, and the sender's first packet crosses it.
+pub(crate) const FULL_SHARE: Case = Case {
+    example: TWO_NODES,
+    sent: 0,
+    is_over: false,
+    counted: SHARE_MOST,
+    splits: 0,
+    ends: [1, 5],
+    windows: &[],
+    fault: Some(CrewFault::ShareFull),
     totals: &[],
 };

@@ -4,8 +4,11 @@ ghost use Rattle.srm_scenario.specs.Plain.{network_of};
 ghost use Rattle.srm_crew_tests.specs.Handed.{MayMap};
 
 use crate::crew_tests::case::Case;
-use crate::crew_tests::cases::{FOUR_ROUND_A_NODE, LAST_PACKET, OVER, SENDER_AND_LISTENER};
+use crate::crew_tests::cases::{
+    FOUR_ROUND_A_NODE, FULL_SHARE, LAST_PACKET, OVER, SENDER_AND_LISTENER,
+};
 use crate::crew_tests::handing::{add_job, cell_of, map_window, opened};
+use crate::crew_tests::seats::{counted, halved, joined};
 use srm_cell::job::Job;
 use srm_crew::bag_crew::BagCrew;
 use srm_crew::crew::Crew;
@@ -139,7 +142,16 @@ fn map_members<C: Crew>(
     let Ok((ledger, seat)) = Ledger::open(alloc, links) else {
         return Err(AllocError);
     };
+    let Some(seat) = counted(&ledger, seat, case.counted) else {
+        assert!(rt; false, "too much was counted");
+        return Ok(());
+    };
+    let (seat, others) = halved(alloc, &ledger, seat, case.splits)?;
     if let Some(seat) = map_both(rt, alloc, crew, scenario, net, &ledger, seat, jobs, case)? {
+        let Some(seat) = joined(&ledger, seat, others) else {
+            assert!(rt; false, "not joined");
+            return Ok(());
+        };
         expect_end(rt, ledger, seat, case);
     }
     Ok(())
@@ -162,7 +174,13 @@ fn map_case<C: Crew>(
     answer
 }
 
-const CASES: [Case; 4] = [SENDER_AND_LISTENER, FOUR_ROUND_A_NODE, LAST_PACKET, OVER];
+const CASES: [Case; 5] = [
+    SENDER_AND_LISTENER,
+    FOUR_ROUND_A_NODE,
+    LAST_PACKET,
+    OVER,
+    FULL_SHARE,
+];
 
 // The same, of each case, and once more where memory was refused.
 fn map_cases<C: Crew>(rt: &impl Abort, alloc: Global, crew: &mut C) -> Result<(), AllocError>
@@ -189,4 +207,17 @@ fn a_crew_of_pool_threads_maps_two_windows(rt: HostRuntime) -> Result<(), AllocE
 #[test]
 fn a_crew_of_workers_maps_two_windows(rt: HostRuntime) -> Result<(), AllocError> {
     map_cases(&rt, rt.alloc(), &mut BagCrew::new(&rt, OpenGate, 3))
+}
+
+// Four workers have one seat then, which is not halved any more, and count what four seats count.
+#[test]
+fn a_seat_of_weight_1_comes_back_from_four_workers(rt: HostRuntime) -> Result<(), AllocError> {
+    let alloc = rt.alloc();
+    let mut case = FOUR_ROUND_A_NODE;
+    case.splits = 16;
+    let mut crew = BagCrew::new(&rt, OpenGate, 4);
+    if map_case(&rt, alloc, &mut crew, &case).is_err() {
+        map_case(&rt, alloc, &mut crew, &case)?;
+    }
+    Ok(())
 }

@@ -1,69 +1,58 @@
-//! A seat that cannot be shared out.
-ghost use Rattle.std.specs.Prelude.{◌≡◌, IfOk};
+//! Seats that have counted something, or are halved, before a crew is handed one, and joined again.
+ghost use Rattle.std.specs.Prelude.{◌≡◌, All, IfOk, IfSome};
+ghost use Rattle.srm_ledger.specs.Seats.{SeatView};
 
-use crate::crew_tests::handing::{idle_jobs, map_window, opened};
-use srm_crew::bag_crew::BagCrew;
-use srm_crew::fault::CrewFault;
-use srm_crew::gate::OpenGate;
-use srm_examples::scenarios::TWO_NODES;
-use srm_ledger::fault::SplitFault;
-use srm_ledger::ledger::Ledger;
-use srm_ledger::seat::Seat;
+use srm_ledger::kind::Kind;
+use srm_ledger::ledger::{Ledger, Seat};
 use std::alloc::{AllocError, Global};
-use std::process::Abort;
-use std::sync::Wait;
-use std::thread::Threads;
 
-// The first half of the first half and so on, after sixteen splits: a seat of weight 1.
-fn least_seat(alloc: Global, ledger: &Ledger, seat: Seat) -> Result<Seat, AllocError>
+/// The seat, after it counted so many drawing operations at link 0; none where there is no such link, or they are too many.
+pub(crate) fn counted(ledger: &Ledger, mut seat: Seat, count: u64) -> Option<Seat>
     requires { seat.ledger ≡ ledger.now.name }
-    ensures { IfOk result (λ s. s.ledger ≡ ledger.now.name) }
+    ensures { IfSome result (λ s. s.ledger ≡ ledger.now.name) }
 {
-    let mut least = seat;
-    for _ in 0..16 {
-        let Ok((first, _)) = ledger.split(alloc, least) else {
+    if ledger.links() == 0 {
+        return None;
+    }
+    ledger.add(&mut seat, 0, Kind::Drawop, count).ok()?;
+    Some(seat)
+}
+
+/// The first half of the first half and so on, after so many splits, and the second halves, the last one last.
+pub(crate) fn halved(
+    alloc: Global,
+    ledger: &Ledger,
+    seat: Seat,
+    splits: usize,
+) -> Result<(Seat, Vec<Seat>), AllocError>
+    requires { seat.ledger ≡ ledger.now.name }
+    ensures { IfOk result (λ r. (r.0.ledger ≡ ledger.now.name)
+        × All (λ (s : SeatView). s.ledger ≡ ledger.now.name) r.1.items) }
+{
+    let mut first = seat;
+    let mut others = Vec::new(alloc);
+    for _ in 0..splits {
+        let Ok((half, other)) = ledger.split(alloc, first) else {
             return Err(AllocError);
         };
-        least = first;
+        first = half;
+        others.push(other)?;
     }
-    Ok(least)
+    Ok((first, others))
 }
 
-// Hands four jobs and a seat of weight 1 to four workers.
-fn map_with_least_seat<R: Abort + Threads + Wait + Sync>(
-    rt: &R,
-    alloc: Global,
-) -> Result<(), AllocError> {
-    let (scenario, net) = opened(rt, alloc, TWO_NODES.scenario)?;
-    let links = net.links().len();
-    assert!(rt; links <= 255);
-    let Ok((ledger, seat)) = Ledger::open(alloc, links) else {
-        return Err(AllocError);
-    };
-    let seat = least_seat(alloc, &ledger, seat)?;
-    let jobs = idle_jobs(rt, alloc, &net, 4)?;
-    let mut crew = BagCrew::new(rt, OpenGate, 4);
-    let seat = match map_window(
-        rt, alloc, &mut crew, &scenario, &net, &ledger, seat, jobs, 0,
-    ) {
-        Ok((_jobs, seat, _window)) => seat,
-        Err(fault) => {
-            assert_eq!(rt; fault, CrewFault::NoMemory);
-            return Err(AllocError);
-        }
-    };
-    let Err((_, fault)) = ledger.split(alloc, seat) else {
-        assert!(rt; false, "a seat of more weight");
-        return Ok(());
-    };
-    assert_eq!(rt; fault, SplitFault::TooManySeats);
-    Ok(())
-}
-
-#[test]
-fn a_seat_of_weight_1_comes_back_from_four_workers(rt: HostRuntime) -> Result<(), AllocError> {
-    if map_with_least_seat(&rt, rt.alloc()).is_err() {
-        map_with_least_seat(&rt, rt.alloc())?;
+/// The seat, joined with all these, if no share is too large for that.
+pub(crate) fn joined(ledger: &Ledger, seat: Seat, others: Vec<Seat>) -> Option<Seat>
+    requires seat { seat.ledger ≡ ledger.now.name }
+    requires others { All (λ (s : SeatView). s.ledger ≡ ledger.now.name) others.items }
+    ensures { IfSome result (λ s. s.ledger ≡ ledger.now.name) }
+{
+    let mut whole = seat;
+    for other in others {
+        let Ok(both) = ledger.join(whole, other) else {
+            return None;
+        };
+        whole = both;
     }
-    Ok(())
+    Some(whole)
 }

@@ -1,66 +1,77 @@
-use Rattle.std.proofs.Common.{◌≡◌, ◌++◌, ◌∷◌, [], sym, ◌∙◌, arith}
-use Rattle.std.proofs.lemmas.Grind.{common_steps}
-use Rattle.std.specs.Vec.Iter.{into_iter_items}
+use Rattle.std.proofs.Common.{◌≡◌, ◌∙◌, ◌<◌, ◌+◌, ◌++◌, ◌∷◌, [], length, take, drop, get_or, refl, sym, subst, ap, arith}
+use Rattle.std.proofs.Math.Seq.{take-length}
+use Rattle.std.proofs.Math.ListN.{drop_of_length-le}
+use Rattle.std.proofs.lemmas.List.{drop_more, take_more_set, drop-set-lt, length-set}
+use Rattle.srm_cell.specs.Jobs.{RanEach}
 use Rattle.srm_cell.proofs.Pushes.{pushed_if}
 use Rattle.srm_cell.proofs.SoFar.{so_far_none, first_of, so_far_more, so_far_all, so_far_kept, so_far_fault}
 use Rattle.srm_cell.proofs.advance.run_each.Goals as goal
 
 pub loop-cell-init : goal.loop-cell-init
 loop-cell-init g c = (
-  tt,
-  tt,
-  λ qs h. rw (c.into_iter-cell-iterator.ensures.into_iter_gives.0, c.new-rows.ensures.items, c.new-cells.ensures.items)
-      (so_far_none (λ b. (goal.Member-dyn g (b.vtable, b.value)).plain b.value) c.args.till qs c.args.waiting.items h),
+  refl,
+  λ qs h. rw c.new-rows.ensures.items
+      (so_far_none (λ b. (goal.Member-dyn g (b.vtable, b.value)).plain b.value) c.args.till qs c.args.cells.now h),
 )
 
 pub loop-cell-preserved : goal.loop-cell-preserved
-loop-cell-preserved g c = (
-  tt,
-  tt,
-  λ qs h.
-      let s = c.loop-cell.invariant.2 qs h in
-      let r = first_of (λ b. (goal.Member-dyn g (b.vtable, b.value)).plain b.value) c.in-Some.cell (into_iter_items c.next.new.self) s.rest
-      (rw c.in-Some.ensures.steps.0 at s.seen) in
-      let rows = pushed_if c.push.result (c.loop-cell.rows.items ++ c.in-Ok.new ∷ []) c.loop-cell.rows.items c.push.new.self.items
-      (sym c.is_err.ensures.value ∙ c.if-is_err.false) c.push.ensures.items in
-      let cells = pushed_if c.push-in-loop-cell.result (c.loop-cell.cells.items ++ c.run.new.self ∷ []) c.loop-cell.cells.items
-      c.push-in-loop-cell.new.self.items (sym c.is_err-in-loop-cell.ensures.value ∙ c.if-is_err-2.false)
-      c.push-in-loop-cell.ensures.items in
-      rw (rows, cells) (so_far_more (λ b. (goal.Member-dyn g (b.vtable, b.value)).plain b.value) c.args.till qs c.loop-cell.rows.items
-      c.loop-cell.cells.items (into_iter_items c.loop-cell.cell-iterator) (into_iter_items c.next.new.self) c.in-Some.cell
-      c.run.new.self c.in-Ok.new s r (c.in-Ok.ensures r.own.member r.own.cell r.cell)),
-)
+loop-cell-preserved g c =
+    let i = c.loop-cell.cell-index in
+    let old = c.loop-cell.cells in
+    let cell = get_or old i c.cell-item.result in
+    let after = c.run.new.self in
+    let same = c.loop-cell.invariant.0 in
+    let test = c.loop-cell-test.true in
+    let within : i < length old = omega arith in (
+      length-set old i after ∙ c.loop-cell.invariant.0,
+      λ qs h.
+          let s = c.loop-cell.invariant.1 qs h in
+          let r = first_of (λ b. (goal.Member-dyn g (b.vtable, b.value)).plain b.value) cell (drop (i + 1) old) s.rest
+          (rw (drop_more old i c.cell-item.result within) at s.seen) in
+          let rows = pushed_if c.push.result (c.loop-cell.rows.items ++ c.in-Ok.new ∷ []) c.loop-cell.rows.items c.push.new.self.items
+          (sym c.is_err.ensures.value ∙ c.if-is_err.false) c.push.ensures.items in
+          rw (rows, take_more_set old i after within, drop-set-lt (i + 1) old i after (omega arith))
+          (so_far_more (λ b. (goal.Member-dyn g (b.vtable, b.value)).plain b.value) c.args.till qs c.loop-cell.rows.items
+          (take i old) (drop i old) (drop (i + 1) old) cell after c.in-Ok.new s r
+          (c.in-Ok.ensures r.own.member r.own.cell r.cell)),
+    )
 
-pub returns-in-Err : goal.returns-in-Err
-returns-in-Err g c = λ qs h.
-    let s = c.loop-cell.invariant.2 qs h in
-    let r = first_of (λ b. (goal.Member-dyn g (b.vtable, b.value)).plain b.value) c.in-Some.cell (into_iter_items c.next.new.self) s.rest
-    (rw c.in-Some.ensures.steps.0 at s.seen) in
-    so_far_fault (λ b. (goal.Member-dyn g (b.vtable, b.value)).plain b.value) c.args.till qs c.loop-cell.rows.items c.loop-cell.cells.items
-    (into_iter_items c.loop-cell.cell-iterator) (into_iter_items c.next.new.self) c.in-Some.cell c.run.new.self c.in-Err.fault s r
-    (c.in-Err.ensures r.own.member r.own.cell r.cell)
+pub returns-in-Err-clause-runs : goal.returns-in-Err-clause-runs
+returns-in-Err-clause-runs g c = λ qs h.
+    let i = c.loop-cell.cell-index in
+    let old = c.loop-cell.cells in
+    let cell = get_or old i c.cell-item.result in
+    let same = c.loop-cell.invariant.0 in
+    let test = c.loop-cell-test.true in
+    let within : i < length old = omega arith in
+    let s = c.loop-cell.invariant.1 qs h in
+    let r = first_of (λ b. (goal.Member-dyn g (b.vtable, b.value)).plain b.value) cell (drop (i + 1) old) s.rest
+    (rw (drop_more old i c.cell-item.result within) at s.seen) in
+    so_far_fault (λ b. (goal.Member-dyn g (b.vtable, b.value)).plain b.value) c.args.till qs c.loop-cell.rows.items (take i old)
+    (drop i old) (drop (i + 1) old) cell c.run.new.self c.in-Err.fault s r (c.in-Err.ensures r.own.member r.own.cell r.cell)
 
-pub returns-then-is_err : goal.returns-then-is_err
-returns-then-is_err g c = λ qs h.
-    let s = c.loop-cell.invariant.2 qs h in
-    let r = first_of (λ b. (goal.Member-dyn g (b.vtable, b.value)).plain b.value) c.in-Some.cell (into_iter_items c.next.new.self) s.rest
-    (rw c.in-Some.ensures.steps.0 at s.seen) in
-    so_far_kept (λ b. (goal.Member-dyn g (b.vtable, b.value)).plain b.value) c.args.till qs c.loop-cell.rows.items c.loop-cell.cells.items
-    (into_iter_items c.loop-cell.cell-iterator) (into_iter_items c.next.new.self) c.in-Some.cell c.run.new.self c.in-Ok.new s r
-    (c.in-Ok.ensures r.own.member r.own.cell r.cell)
+pub returns-then-is_err-clause-runs : goal.returns-then-is_err-clause-runs
+returns-then-is_err-clause-runs g c = λ qs h.
+    let i = c.loop-cell.cell-index in
+    let old = c.loop-cell.cells in
+    let cell = get_or old i c.cell-item.result in
+    let same = c.loop-cell.invariant.0 in
+    let test = c.loop-cell-test.true in
+    let within : i < length old = omega arith in
+    let s = c.loop-cell.invariant.1 qs h in
+    let r = first_of (λ b. (goal.Member-dyn g (b.vtable, b.value)).plain b.value) cell (drop (i + 1) old) s.rest
+    (rw (drop_more old i c.cell-item.result within) at s.seen) in
+    so_far_kept (λ b. (goal.Member-dyn g (b.vtable, b.value)).plain b.value) c.args.till qs c.loop-cell.rows.items (take i old)
+    (drop i old) (drop (i + 1) old) cell c.run.new.self c.in-Ok.new s r (c.in-Ok.ensures r.own.member r.own.cell r.cell)
 
-pub returns-then-is_err-2 : goal.returns-then-is_err-2
-returns-then-is_err-2 g c = λ qs h.
-    let s = c.loop-cell.invariant.2 qs h in
-    let r = first_of (λ b. (goal.Member-dyn g (b.vtable, b.value)).plain b.value) c.in-Some.cell (into_iter_items c.next.new.self) s.rest
-    (rw c.in-Some.ensures.steps.0 at s.seen) in
-    so_far_kept (λ b. (goal.Member-dyn g (b.vtable, b.value)).plain b.value) c.args.till qs c.loop-cell.rows.items c.loop-cell.cells.items
-    (into_iter_items c.loop-cell.cell-iterator) (into_iter_items c.next.new.self) c.in-Some.cell c.run.new.self c.in-Ok.new s r
-    (c.in-Ok.ensures r.own.member r.own.cell r.cell)
-
-pub returns : goal.returns
-returns g c = λ qs h.
-    let ok = c.loop-cell.cell-iterator.rest.ok in
-    let none : into_iter_items c.loop-cell.cell-iterator ≡ [] = grind (arith, common_steps) in
-    so_far_all (λ b. (goal.Member-dyn g (b.vtable, b.value)).plain b.value) c.args.till qs c.loop-cell.rows.items c.loop-cell.cells.items
-    (into_iter_items c.loop-cell.cell-iterator) (c.loop-cell.invariant.2 qs h) none
+pub returns-clause-runs : goal.returns-clause-runs
+returns-clause-runs g c = λ qs h.
+    let i = c.loop-cell.cell-index in
+    let old = c.loop-cell.cells in
+    let past = c.loop-cell-test.false in
+    let within = c.loop-cell.auto.cell-index-end in
+    let all : i ≡ length old = omega arith in
+    subst (λ cs. RanEach (λ b. (goal.Member-dyn g (b.vtable, b.value)).plain b.value) c.args.till qs c.loop-cell.rows.items cs)
+    (ap (λ n. take n old) all ∙ take-length old)
+    (so_far_all (λ b. (goal.Member-dyn g (b.vtable, b.value)).plain b.value) c.args.till qs c.loop-cell.rows.items (take i old) (drop i old)
+    (c.loop-cell.invariant.1 qs h) (drop_of_length-le old (omega arith)))

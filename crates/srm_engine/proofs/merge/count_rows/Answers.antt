@@ -1,5 +1,5 @@
 use Rattle.std.proofs.Common.{arith}
-use Rattle.srm_engine.proofs.KMerging.{rows_after, rows_end}
+use Rattle.srm_engine.proofs.Merging.{rows_after, rows_end}
 use Rattle.srm_engine.proofs.merge.count_rows.Goals as goal
 
 pub loop-rows-init : goal.loop-rows-init

@@ -1,5 +1,5 @@
 use Rattle.std.proofs.Common.{◌≡◌, ◌<◌, ◌+◌, ◌-◌, ◌^◌, min}
-use Rattle.srm_engine.proofs.KMerging.{rows_from}
+use Rattle.srm_engine.proofs.Merging.{rows_from}
 use Rattle.srm_engine.proofs.merge.count_rows.Given as goal
 
 abbrev pub invariant-loop-rows : goal.invariant-loop-rows

@@ -1,31 +1,31 @@
 use Rattle.std.proofs.Common.{ℕ, List, refl}
-use Rattle.srm_program.proofs.TraceTexts.{flushed_trace, refused_trace, unflushed_trace}
+use Rattle.srm_program.proofs.ListedTexts.{flushed_rows, refused_rows, unflushed_rows}
 use Rattle.srm_program.proofs.run.write_rows.Goals as goal
 
-pub returns-in-Ok-flush-clause-trace : goal.returns-in-Ok-flush-clause-trace
-returns-in-Ok-flush-clause-trace g c = λ seed h.
+pub returns-in-Ok-flush-clause-listing : goal.returns-in-Ok-flush-clause-listing
+returns-in-Ok-flush-clause-listing g c = λ seed h.
     let t = (c.in-Ok.ensures.rows seed h).0 in
     let f = c.in-Ok-flush.ensures.flushed in
-    flushed_trace g.O.Outlet.taken c.args.sink.now c.requires.fresh c.requires.gathered
+    flushed_rows g.O.Outlet.taken g.L.Listing.form c.args.sink.now c.requires.fresh c.requires.gathered
     c.args.asked.now.scenario.now c.args.asked.now.net.now seed
     c.requires.written c.args.sink.now.outlet.now refl (Unit {0}) tt c.hand_rows.new.sink c.flush.new.self c.flush.new.self.outlet.now
     t.2.world t.0 refl t.2.last t.2.trace_is
     c.in-Ok.ensures.stands t.3 f.0 f.1
 
-pub returns-in-Ok-clause-trace : goal.returns-in-Ok-clause-trace
-returns-in-Ok-clause-trace g c = λ seed h.
+pub returns-in-Ok-clause-listing : goal.returns-in-Ok-clause-listing
+returns-in-Ok-clause-listing g c = λ seed h.
     let t = (c.in-Ok.ensures.rows seed h).0 in
     let f = c.in-Err-flush.ensures.flushed in
-    unflushed_trace g.O.Outlet.taken c.args.sink.now c.requires.fresh c.requires.gathered
+    unflushed_rows g.O.Outlet.taken g.L.Listing.form c.args.sink.now c.requires.fresh c.requires.gathered
     c.args.asked.now.scenario.now c.args.asked.now.net.now seed
     c.requires.written c.args.sink.now.outlet.now refl (Unit {0}) c.hand_rows.new.sink c.flush.new.self c.flush.new.self.outlet.now
     t.2.world t.0 _ refl t.2.last.reached t.2.trace_is
     c.in-Ok.ensures.stands t.3 f.0 f.1
 
-pub returns-clause-trace : goal.returns-clause-trace
-returns-clause-trace g c = λ seed h.
+pub returns-clause-listing : goal.returns-clause-listing
+returns-clause-listing g c = λ seed h.
     let t = (c.in-Err.ensures.rows seed h).0 in
-    refused_trace g.O.Outlet.taken c.args.sink.now c.requires.fresh c.requires.gathered
+    refused_rows g.O.Outlet.taken g.L.Listing.form c.args.sink.now c.requires.fresh c.requires.gathered
     c.args.asked.now.scenario.now c.args.asked.now.net.now seed
     c.requires.written c.args.sink.now.outlet.now refl (List ℕ) (Unit {0}) c.hand_rows.new.sink c.hand_rows.new.sink.outlet.now
     c.in-Err.fault refl t c.in-Err.ensures.stands

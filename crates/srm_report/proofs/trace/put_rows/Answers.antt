@@ -1,18 +1,18 @@
 use Rattle.std.proofs.Common.{◌≡◌, ◌∙◌, length, sym, append-nil, arith}
-use Rattle.srm_report.specs.Trace.{trace_lines}
-use Rattle.srm_report.proofs.TraceLemmas.{text-all, text-more}
+use Rattle.srm_report.specs.Trace.{trace_form, trace_line}
+use Rattle.srm_report.proofs.ListingLemmas.{text-all, text-more}
 use Rattle.srm_report.proofs.trace.put_rows.Goals as goal
 
 pub loop-row-init : goal.loop-row-init
-unfolding trace_lines
 loop-row-init c = c.in_ok-reserve.ensures.items ∙ sym (append-nil c.args.text.now.items)
 
 pub loop-row-preserved : goal.loop-row-preserved
+unfolding trace_line
 loop-row-preserved c =
-    text-more _ c.args.rows.now c.loop-row.row-index c.row-item.result _ _ _ c.loop-row-test.true c.row-item.is c.loop-row.invariant
-    (c.text.ensures ∙ c.put_row.ensures) c.in_ok-extend_from_slice.ensures.items
+    text-more trace_form _ c.args.rows.now c.loop-row.row-index c.row-item.result _ _ _ c.loop-row-test.true c.row-item.is
+    c.loop-row.invariant (c.text.ensures ∙ c.put_row.ensures) c.in_ok-extend_from_slice.ensures.items
 
 pub returns : goal.returns
 returns c =
     let whole : c.loop-row.row-index ≡ length c.args.rows.now = omega arith in
-    text-all _ c.args.rows.now c.loop-row.row-index _ whole c.loop-row.invariant
+    text-all trace_form _ c.args.rows.now c.loop-row.row-index _ whole c.loop-row.invariant

@@ -39,6 +39,7 @@ returns g c = λ m e h k q.
         lost =
             sym c.new-in-Ok.ensures i;
         sent = None;
+        adapted = sym c.nothing.ensures i;
       }),
       record {
         number = h.number;

@@ -1,6 +1,6 @@
 use Rattle.std.proofs.Common.{◌≡◌, ap, sym, ◌∙◌, refl, ◌<◌, ◌≤◌, ◌+◌, arith, Some, None}
 use Rattle.srm_cell.specs.Cells.{handle, word_of, about_of}
-use Rattle.srm_cell.proofs.Saying.{wanting, gone_has_none, spent_is_gone, said_nothing, said, not_said, held, empty, holds_one}
+use Rattle.srm_cell.proofs.Saying.{wanting, working, gone_has_none, spent_is_gone, said_nothing, said, not_said, held, empty, holds_one}
 use Rattle.srm_cell.proofs.cell.Cell.say.Goals as goal
 use Rattle.srm_net.specs.Limits.{most_sent}
 
@@ -19,6 +19,11 @@ returns-in-Err-Spent g c = λ m e h k q.
     ap (λ x. handle e x e.cause) is ∙ (gone_has_none e _ e.cause
     (spent_is_gone _ _ c.args.key.time c.args.cause (rw c.in-Err-Spent.field-0-is at c.in-Err-Spent.ensures)))
 
+pub returns-in_default-of : goal.returns-in_default-of
+returns-in_default-of g c = λ m e h k q.
+    let is = held _ c.args.self.now.member e.rest.holds h.holds c.in-Some.member c.in-Some.ensures.value in
+    working e c.args.cause c.args.key.time _ _ c.in-Ok.reaction is q c.in-Ok.ensures
+
 pub returns-in_default-body : goal.returns-in_default-body
 returns-in_default-body g c = λ m e h k q.
     let is = held _ c.args.self.now.member e.rest.holds h.holds c.in-Some.member c.in-Some.ensures.value in
@@ -35,6 +40,7 @@ returns-in_default-body g c = λ m e h k q.
             c.in-Ok.reaction.told;
         lost = c.in-Ok.reaction.lost;
         sent = None;
+        adapted = sym c.in-Ok-of.ensures i;
       }),
       record {
         number = h.number;
@@ -74,6 +80,7 @@ returns g c = λ m e h k q.
         lost = c.in-Ok.reaction.lost;
         sent = Some
             (record { id = record { sender = (sym k i).member; count = same i }; sent = (sym k i).time; body = c.in-Some-body.body });
+        adapted = sym c.in-Ok-of.ensures i;
       }),
       record {
         number = h.number;

@@ -1,4 +1,4 @@
-use Rattle.std.proofs.Common.{◌≡◌, ℕ, Bool, true, false, [], List, Some, Ok, refl, sym, ap, ◌∙◌, subst}
+use Rattle.std.proofs.Common.{◌≡◌, ℕ, Bool, true, false, [], List, Some, None, Ok, refl, sym, ap, ◌∙◌, subst}
 use Rattle.srm_net.specs.declared.packet.Name.{Name}
 use Rattle.srm_net.specs.declared.packet.Heard.{Heard}
 use Rattle.srm_net.specs.declared.packet.Body.TheVariants.{Session}
@@ -12,7 +12,8 @@ use Rattle.srm_cell_tests.proofs.cell_tests.ReporterMember.react.Goals as goal
 
 reports : (m at : ℕ) (gone : Bool) (cause : Cause) (lost : List Name) (heard : List Heard) → gone ≡ false → cause ≡ Report → lost ≡ []
     → heard ≡ []
-    → Reacts (reporter_record m gone) at cause (Ok (record { told = Sent; lost = lost; body = Some (Session heard) }))
+    → Reacts (reporter_record m gone) at cause
+        (Ok (record { told = Sent; lost = lost; body = Some (Session heard); adapted = None }))
     (reporter_record m gone)
 unfolding react
 reports m at gone cause lost heard g c l h = rw (g, c, l, h) (refl, refl)

@@ -1,7 +1,9 @@
+use Rattle.std.proofs.Common.{refl}
 use Rattle.srm_member.specs.declared.cause.Cause.TheVariants.{Ask}
 use Rattle.srm_member.proofs.Calls.{call_gives}
 use Rattle.srm_member.proofs.recovery.Recovery.ask.Goals as goal
 
 pub returns : goal.returns
-returns c = call_gives c.args.self.now c.self.inside.gone c.self.inside.state c.ask.new.self c.args.at
-    (Ask c.args.name) c.in_ok-react.react c.self.view_is c.in_ok-begin.ensures.here c.self.invariant c.in_ok-react.ensures.ok
+returns c = call_gives c.args.self.now c.self.inside.gone c.self.inside.state c.ask.new.self c.args.at (Ask c.args.name)
+    c.in_ok-react.react c.tell.new.react _ c.self.view_is c.in_ok-begin.ensures.here c.self.invariant refl c.in_ok-react.ensures.ok
+    c.intervals-before.ensures c.tell.ensures

@@ -12,14 +12,15 @@ returns-then-is_clear-clause-crossed c =
     let f = takes_out c.args.drops.now c.args.id in
     let u = c.host-from.result in
     let v = c.beyond-near.result.0 in
-    let clear = sym (ap (λ (w : Network). not (list_any f (stops w.links u c.args.sent (route w u v)))) c.self.view_is)
+    let clear = sym (ap (λ (w : Network). not (list_any f (stops w.links u c.args.sent (route w u v)))) (c.deref.ensures ∙ c.self.view_is))
     ∙ sym c.is_clear.ensures ∙ c.if-is_clear.true in
     let there = comes_there c.args.self.now c.beyond-near.ensures.network c.args.link c.host-from.result c.beyond-near.result.0 c.args.sent
     c.beyond-near.result.1 c.args.drops.now c.args.id c.requires.link c.requires.sender c.host-from.ensures.value
     c.beyond-near.ensures.near c.beyond-near.ensures.any
     (ap (λ b. b && not (list_any f (stops c.args.self.now.links u c.args.sent (route c.args.self.now u v)))) c.if-is_any_beyond.true
     ∙ clear) in
-    let late = c.delay.ensures.value ∙ ap (λ (w : Network). delay_along w.links u (route w u v)) c.self.view_is in
+    let late = c.delay.ensures.value ∙ ap (λ (w : Network). delay_along w.links u (route w u v))
+    (c.deref-then-is_clear.ensures ∙ c.self.view_is) in
     there.0 ∙ ap (λ d. not (f (stop c.args.link (c.args.sent + d)))) (sym late)
 
 pub returns-then-is_clear-clause-dropped : goal.returns-then-is_clear-clause-dropped
@@ -27,14 +28,15 @@ returns-then-is_clear-clause-dropped c =
     let f = takes_out c.args.drops.now c.args.id in
     let u = c.host-from.result in
     let v = c.beyond-near.result.0 in
-    let clear = sym (ap (λ (w : Network). not (list_any f (stops w.links u c.args.sent (route w u v)))) c.self.view_is)
+    let clear = sym (ap (λ (w : Network). not (list_any f (stops w.links u c.args.sent (route w u v)))) (c.deref.ensures ∙ c.self.view_is))
     ∙ sym c.is_clear.ensures ∙ c.if-is_clear.true in
     let there = comes_there c.args.self.now c.beyond-near.ensures.network c.args.link c.host-from.result c.beyond-near.result.0 c.args.sent
     c.beyond-near.result.1 c.args.drops.now c.args.id c.requires.link c.requires.sender c.host-from.ensures.value
     c.beyond-near.ensures.near c.beyond-near.ensures.any
     (ap (λ b. b && not (list_any f (stops c.args.self.now.links u c.args.sent (route c.args.self.now u v)))) c.if-is_any_beyond.true
     ∙ clear) in
-    let late = c.delay.ensures.value ∙ ap (λ (w : Network). delay_along w.links u (route w u v)) c.self.view_is in
+    let late = c.delay.ensures.value ∙ ap (λ (w : Network). delay_along w.links u (route w u v))
+    (c.deref-then-is_clear.ensures ∙ c.self.view_is) in
     there.1 ∙ ap (λ d. f (stop c.args.link (c.args.sent + d))) (sym late)
 
 pub returns-else-is_any_beyond-clause-not_crossed : goal.returns-else-is_any_beyond-clause-not_crossed
@@ -46,7 +48,8 @@ returns-else-is_any_beyond-clause-not_crossed c =
     let none : (c.beyond-near.result.1 && clear) ≡ false = elim c.else-is_any_beyond.branch [
       | else-is_any_beyond-via-then-is_any_beyond+else-is_clear w ↦
           ap (λ b. b && clear) w.if-is_any_beyond.true
-          ∙ sym (ap (λ (w : Network). not (list_any f (stops w.links u c.args.sent (route w u v)))) c.self.view_is) ∙ sym w.is_clear.ensures
+          ∙ sym (ap (λ (w : Network). not (list_any f (stops w.links u c.args.sent (route w u v)))) (w.deref.ensures ∙ c.self.view_is))
+          ∙ sym w.is_clear.ensures
           ∙ w.if-is_clear.false
       | else-is_any_beyond-via-else-is_any_beyond w ↦ ap (λ b. b && clear) w.if-is_any_beyond.false
     ] in
@@ -63,7 +66,8 @@ returns-else-is_any_beyond-clause-not_dropped c =
     let none : (c.beyond-near.result.1 && clear) ≡ false = elim c.else-is_any_beyond.branch [
       | else-is_any_beyond-via-then-is_any_beyond+else-is_clear w ↦
           ap (λ b. b && clear) w.if-is_any_beyond.true
-          ∙ sym (ap (λ (w : Network). not (list_any f (stops w.links u c.args.sent (route w u v)))) c.self.view_is) ∙ sym w.is_clear.ensures
+          ∙ sym (ap (λ (w : Network). not (list_any f (stops w.links u c.args.sent (route w u v)))) (w.deref.ensures ∙ c.self.view_is))
+          ∙ sym w.is_clear.ensures
           ∙ w.if-is_clear.false
       | else-is_any_beyond-via-else-is_any_beyond w ↦ ap (λ b. b && clear) w.if-is_any_beyond.false
     ] in

@@ -32,8 +32,8 @@ pub returns-then-not-comes_to-clause-crosses : goal.returns-then-not-comes_to-cl
 returns-then-not-comes_to-clause-crosses c rules p sent is =
     let w = c.args.self.now in
     let b = c.beyond-near in
-    let seen = seen_from c.self.inside.tree w c.self.view_is c.args.link c.host.result b.result.0 c.far_from-far.result b.result.1
-    c.link.result c.requires.link c.link.ensures c.far_from-far.ensures b.ensures.near b.ensures.any in
+    let seen = seen_from c.deref.result.now w (c.deref.ensures ∙ c.self.view_is) c.args.link c.host.result b.result.0
+    c.far_from-far.result b.result.1 c.link.result c.requires.link c.link.ensures c.far_from-far.ensures b.ensures.near b.ensures.any in
     let from = c.host.ensures.value ∙ ap (host w) c.sender.ensures in
     let none : crosses w rules p sent c.args.link ≡ false = elim c.if-not-is_any_beyond.branch [
       | then-not-is_any_beyond v ↦ (not_beyond w b.ensures.network c.args.link c.host.result b.result.0 c.far_from-far.result b.result.1
@@ -48,8 +48,8 @@ pub returns-then-not-comes_to-clause-dropped : goal.returns-then-not-comes_to-cl
 returns-then-not-comes_to-clause-dropped c rules p sent is =
     let w = c.args.self.now in
     let b = c.beyond-near in
-    let seen = seen_from c.self.inside.tree w c.self.view_is c.args.link c.host.result b.result.0 c.far_from-far.result b.result.1
-    c.link.result c.requires.link c.link.ensures c.far_from-far.ensures b.ensures.near b.ensures.any in
+    let seen = seen_from c.deref.result.now w (c.deref.ensures ∙ c.self.view_is) c.args.link c.host.result b.result.0
+    c.far_from-far.result b.result.1 c.link.result c.requires.link c.link.ensures c.far_from-far.ensures b.ensures.near b.ensures.any in
     let from = c.host.ensures.value ∙ ap (host w) c.sender.ensures in
     let none : drops_at w rules p sent c.args.link ≡ false = elim c.if-not-is_any_beyond.branch [
       | then-not-is_any_beyond v ↦ (not_beyond w b.ensures.network c.args.link c.host.result b.result.0 c.far_from-far.result b.result.1
@@ -64,8 +64,8 @@ pub returns-then-comes_to-clause-crosses : goal.returns-then-comes_to-clause-cro
 returns-then-comes_to-clause-crosses c rules p sent is =
     let w = c.args.self.now in
     let b = c.beyond-near in
-    let seen = seen_from c.self.inside.tree w c.self.view_is c.args.link c.host.result b.result.0 c.far_from-far.result b.result.1
-    c.link.result c.requires.link c.link.ensures c.far_from-far.ensures b.ensures.near b.ensures.any in
+    let seen = seen_from c.deref.result.now w (c.deref.ensures ∙ c.self.view_is) c.args.link c.host.result b.result.0
+    c.far_from-far.result b.result.1 c.link.result c.requires.link c.link.ensures c.far_from-far.ensures b.ensures.near b.ensures.any in
     let from = c.host.ensures.value ∙ ap (host w) c.sender.ensures in
     let over : crosses w rules p sent c.args.link ≡ true = elim c.if-not-is_any_beyond.branch [
       | then-not-is_any_beyond v ↦ absurd (let e : true ≡ false = ap not (sym v.if-not-is_any_beyond.true) ∙ sym v.value-is
@@ -81,8 +81,8 @@ pub returns-then-comes_to-clause-dropped : goal.returns-then-comes_to-clause-dro
 returns-then-comes_to-clause-dropped c rules p sent is =
     let w = c.args.self.now in
     let b = c.beyond-near in
-    let seen = seen_from c.self.inside.tree w c.self.view_is c.args.link c.host.result b.result.0 c.far_from-far.result b.result.1
-    c.link.result c.requires.link c.link.ensures c.far_from-far.ensures b.ensures.near b.ensures.any in
+    let seen = seen_from c.deref.result.now w (c.deref.ensures ∙ c.self.view_is) c.args.link c.host.result b.result.0
+    c.far_from-far.result b.result.1 c.link.result c.requires.link c.link.ensures c.far_from-far.ensures b.ensures.near b.ensures.any in
     let from = c.host.ensures.value ∙ ap (host w) c.sender.ensures in
     let over : drops_at w rules p sent c.args.link ≡ not true = elim c.if-not-is_any_beyond.branch [
       | then-not-is_any_beyond v ↦ absurd (let e : true ≡ false = ap not (sym v.if-not-is_any_beyond.true) ∙ sym v.value-is
@@ -98,8 +98,8 @@ pub returns-else-comes_to-clause-crosses : goal.returns-else-comes_to-clause-cro
 returns-else-comes_to-clause-crosses c rules p sent is =
     let w = c.args.self.now in
     let b = c.beyond-near in
-    let seen = seen_from c.self.inside.tree w c.self.view_is c.args.link c.host.result b.result.0 c.far_from-far.result b.result.1
-    c.link.result c.requires.link c.link.ensures c.far_from-far.ensures b.ensures.near b.ensures.any in
+    let seen = seen_from c.deref.result.now w (c.deref.ensures ∙ c.self.view_is) c.args.link c.host.result b.result.0
+    c.far_from-far.result b.result.1 c.link.result c.requires.link c.link.ensures c.far_from-far.ensures b.ensures.near b.ensures.any in
     let from = c.host.ensures.value ∙ ap (host w) c.sender.ensures in
     let over : crosses w rules p sent c.args.link ≡ false = elim c.if-not-is_any_beyond.branch [
       | then-not-is_any_beyond v ↦ absurd (let e : true ≡ false = ap not (sym v.if-not-is_any_beyond.true) ∙ sym v.value-is
@@ -115,8 +115,8 @@ pub returns-else-comes_to-clause-dropped : goal.returns-else-comes_to-clause-dro
 returns-else-comes_to-clause-dropped c rules p sent is =
     let w = c.args.self.now in
     let b = c.beyond-near in
-    let seen = seen_from c.self.inside.tree w c.self.view_is c.args.link c.host.result b.result.0 c.far_from-far.result b.result.1
-    c.link.result c.requires.link c.link.ensures c.far_from-far.ensures b.ensures.near b.ensures.any in
+    let seen = seen_from c.deref.result.now w (c.deref.ensures ∙ c.self.view_is) c.args.link c.host.result b.result.0
+    c.far_from-far.result b.result.1 c.link.result c.requires.link c.link.ensures c.far_from-far.ensures b.ensures.near b.ensures.any in
     let from = c.host.ensures.value ∙ ap (host w) c.sender.ensures in
     let over : drops_at w rules p sent c.args.link ≡ not false = elim c.if-not-is_any_beyond.branch [
       | then-not-is_any_beyond v ↦ absurd (let e : true ≡ false = ap not (sym v.if-not-is_any_beyond.true) ∙ sym v.value-is

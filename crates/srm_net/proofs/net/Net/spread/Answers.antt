@@ -7,4 +7,5 @@ pub returns-then-not-may_drop-clause-spread : goal.returns-then-not-may_drop-cla
 returns-then-not-may_drop-clause-spread c =
     spread_everywhere c.args.self.now c.args.drops.now c.args.id c.args.sent c.nodes-nodes.result c.everywhere.result
     (sym c.may_drop.ensures ∙ c.if-not-may_drop.true)
-    (c.nodes-nodes.ensures ∙ ap (λ (w : Network). w.nodes) c.self.view_is) c.everywhere.ensures.sender c.everywhere.ensures.comes
+    (c.nodes-nodes.ensures ∙ ap (λ (w : Network). w.nodes) (c.deref.ensures ∙ c.self.view_is)) c.everywhere.ensures.sender
+    c.everywhere.ensures.comes

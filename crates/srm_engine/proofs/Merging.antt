@@ -1,0 +1,88 @@
+-- Rows of lists, brought into order.
+use Rattle.std.proofs.Common.{◌≡◌, ◌∙◌, ◌<◌, ◌≤◌, ◌+◌, ◌++◌, ◌↔◌, Bool, true, false, not, IsTrue, ℕ, List, [], ◌∷◌}
+use Rattle.std.proofs.Common.{Option, Some, None, Ordering, Less, Equal, Greater, All, IsSorted, is_lt, IsPermutation, length, drop}
+use Rattle.std.proofs.Common.{get_or, slice_index_or, append-nil, subst, sym, ap, map, refl, arith}
+use Rattle.std.specs.Ordering.{nat_cmp, ordering_then}
+use Rattle.srm_net.specs.declared.key.Key.{Key}
+use Rattle.srm_net.specs.Keys.{key_cmp}
+use Rattle.std.specs.Option.{unwrap_or, option_to_list}
+use Rattle.std.specs.List.{IsAllAdjacentAnswer}
+use Rattle.std.proofs.lemmas.List.Sorted.{IsPermutation-refl}
+use Rattle.std.proofs.lemmas.List.{drop_more, length-append}
+use Rattle.std.proofs.Math.ListN.{drop_of_length-le}
+use Rattle.std.proofs.lemmas.List.Elements.{recursion_from_All}
+use Rattle.std.specs.Global.{Vec}
+use Rattle.srm_member.specs.declared.row.Row.{Row}
+use Rattle.srm_model.specs.World.{row_cmp}
+use Rattle.srm_cell.specs.Crossings.{joined}
+
+is_not : (b : Bool) → true ≡ not b → b ≡ false
+is_not true e = cc
+is_not false e = refl
+
+is_so : (b : Bool) → false ≡ not b → b ≡ true
+is_so true e = refl
+is_so false e = cc
+
+-- each two neighbours are asked whether the second comes first
+pub adjacent : (rows : List Row) (r : Bool) → IsAllAdjacentAnswer (λ (row next : Row) b. b ≡ not (is_lt (row_cmp next row))) rows r
+    → (IsTrue r ↔ IsSorted row_cmp rows)
+adjacent rows true h = ((λ t k d low less. is_not _ (h k d less)), λ s. refl)
+adjacent [] false h = ((λ t. cc), λ s. let k = h.1 in absurd (omega arith))
+adjacent (row ∷ rows) false h = (
+  (λ t. cc),
+  λ s.
+      let before = s h.0 row (omega arith) h.1 in
+      let after = is_so _ (h.2 row) in
+      let clash : true ≡ false = sym after ∙ before in
+      cc,
+)
+
+-- keys as their numbers are compared one by one, without an end
+abbrev pub by_numbers : Key → Key → Ordering
+by_numbers k l =
+    ordering_then (nat_cmp k.time l.time) (ordering_then (nat_cmp k.member l.member) (ordering_then (nat_cmp k.rank l.rank)
+    (ordering_then (nat_cmp k.a l.a) (ordering_then (nat_cmp k.b l.b) (nat_cmp k.c l.c)))))
+
+then_equal : (o : Ordering) → ordering_then o Equal ≡ o
+then_equal Less = refl
+then_equal Equal = refl
+then_equal Greater = refl
+
+same_order : (k l : Key) → key_cmp k l ≡ by_numbers k l
+same_order k l =
+    ap (λ o. ordering_then (nat_cmp k.time l.time) (ordering_then (nat_cmp k.member l.member) (ordering_then (nat_cmp k.rank l.rank)
+    (ordering_then (nat_cmp k.a l.a) (ordering_then (nat_cmp k.b l.b) o))))) (then_equal (nat_cmp k.c l.c))
+
+pub sorted_by_keys : (rows : List Row) → IsSorted (λ (x y : Row). by_numbers x.key y.key) rows → IsSorted row_cmp rows
+sorted_by_keys rows h k d low less =
+    ap is_lt (same_order (get_or rows (k + 1) d).key (get_or rows k d).key) ∙ h k d low less
+
+-- of one list, or of none, nothing has to be merged
+pub last_alone : {A : Type 0} (cmp : A → A → Ordering) (vs us : List (Vec A)) (o : Option (Vec A)) (none : Vec A) → vs ≡ us
+    ++ option_to_list o → us ≡ [] → none.items ≡ []
+    → All (IsSorted cmp) (map (λ (v : Vec A). v.items) vs)
+    → IsPermutation (joined (map (λ (v : Vec A). v.items) vs)) (unwrap_or o none).items × IsSorted cmp (unwrap_or o none).items
+last_alone cmp vs us None none e nil empty all = (
+  rw (e, nil, empty) (IsPermutation-refl []),
+  rw empty (λ k d low less. absurd (omega arith)),
+)
+last_alone cmp vs us (Some v) none e nil empty all =
+    let is : vs ≡ v ∷ [] = e ∙ ap (λ (l : List (Vec _)). l ++ v ∷ []) nil in (
+      rw is (subst (λ l. IsPermutation l v.items) (sym (append-nil v.items)) (IsPermutation-refl v.items)),
+      (recursion_from_All (IsSorted cmp) (v.items ∷ []) (subst (λ l. All (IsSorted cmp) (map (λ (v : Vec _). v.items) l)) is all)).0,
+    )
+
+-- how many rows the lists have from the k-th on
+abbrev pub rows_from : {A : Type 0} → ℕ → List (Vec A) → ℕ
+rows_from k vs = length (joined (map (λ (v : Vec _). v.items) (drop k vs)))
+
+pub rows_after : {A : Type 0} (k : ℕ) (vs : List (Vec A)) (v : Vec A) → k < length vs → v ≡ slice_index_or vs k v → rows_from k vs
+    ≡ length v.items + rows_from (k + 1) vs
+rows_after k vs v lt is =
+    ap (λ l. length (joined (map (λ (v : Vec _). v.items) l))) (drop_more vs k v lt)
+    ∙ length-append (get_or vs k v).items (joined (map (λ (v : Vec _). v.items) (drop (k + 1) vs)))
+    ∙ ap (λ (w : Vec _). length w.items + rows_from (k + 1) vs) (sym is)
+
+pub rows_end : {A : Type 0} (k : ℕ) (vs : List (Vec A)) → length vs ≤ k → rows_from k vs ≡ 0
+rows_end k vs over = ap (λ l. length (joined (map (λ (v : Vec _). v.items) l))) (drop_of_length-le vs over)

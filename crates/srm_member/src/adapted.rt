@@ -1,0 +1,59 @@
+//! What a row tells of a member's intervals.
+ghost use Rattle.std.specs.Prelude.{◌≡◌, IfOk, None};
+
+use crate::intervals::Intervals;
+use std::alloc::{AllocError, Global};
+use std::marker::Model;
+
+/// The intervals of a row's member after the row's event, where the row tells of them, which contracts see as an option.
+///
+/// They are in a box: few rows have them, and each row has the room.
+#[derive(Debug, Drop)]
+pub struct Adapted {
+    intervals: Option<Box<Intervals>>,
+}
+
+impl Model for Adapted {
+    ghost use Rattle.std.specs.Prelude.{Option};
+    ghost use Rattle.srm_member.specs.declared.intervals.Intervals.{Intervals as Seen};
+    ghost use Rattle.srm_member.specs.Adapted.{in_box};
+
+    ghost Value = { Option Seen };
+
+    ghost view = { λ a. in_box a.intervals };
+}
+
+impl Adapted {
+    /// A row that tells nothing of intervals. It does not allocate.
+    pub fn nothing() -> Self
+        ensures { result ≡ None }
+    {
+        Adapted { intervals: None }
+    }
+
+    /// What a row tells of intervals. Where that is nothing it does not allocate.
+    ///
+    /// # Errors
+    /// [`AllocError`], where there are intervals.
+    pub fn of(alloc: Global, intervals: Option<Intervals>) -> Result<Self, AllocError>
+        ensures { IfOk result (λ a. a ≡ intervals) }
+    {
+        let Some(intervals) = intervals else {
+            return Ok(Adapted::nothing());
+        };
+        let intervals = Box::new(alloc, intervals)?;
+        Ok(Adapted {
+            intervals: Some(intervals),
+        })
+    }
+
+    /// The intervals, if the row tells of them. It does not allocate.
+    pub fn get(&self) -> Option<Intervals>
+        ensures { result ≡ self.now }
+    {
+        match &self.intervals {
+            None => None,
+            Some(intervals) => Some(**intervals),
+        }
+    }
+}

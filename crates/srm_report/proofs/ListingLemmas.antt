@@ -1,0 +1,31 @@
+-- Tables that list rows, row by row.
+use Rattle.std.proofs.Common.{◌≡◌, ◌∙◌, ℕ, ◌<◌, ◌+◌, List, [], ◌∷◌, ◌++◌, length, get_or, take, ap, sym, append-nil, append_assoc}
+use Rattle.std.proofs.Math.Seq.{take-length}
+use Rattle.std.proofs.lemmas.List.{take_more}
+use Rattle.std.proofs.lemmas.Grind.{flat_map-append}
+use Rattle.srm_member.specs.declared.row.Row.{Row}
+use Rattle.srm_report.specs.Listings.{Form, lines_in}
+
+-- the lines of one more row
+lines-more : (f : Form) (rows : List Row) (i : ℕ) (r : Row) → i < length rows → r ≡ get_or rows i r
+    → lines_in f (take (i + 1) rows) ≡ lines_in f (take i rows) ++ f.line r
+lines-more f rows i r h e =
+    ap (lines_in f) (take_more rows i r h)
+    ∙ flat_map-append f.line (take i rows) (get_or rows i r ∷ [])
+    ∙ ap (λ l. lines_in f (take i rows) ++ l) (append-nil (f.line (get_or rows i r)))
+    ∙ ap (λ q. lines_in f (take i rows) ++ f.line q) (sym e)
+
+-- a text that grows by the lines of the next row
+pub text-more : (f : Form) (front : List ℕ) (rows : List Row) (i : ℕ) (r : Row) (old new line : List ℕ) → i < length rows
+    → r ≡ get_or rows i r → old ≡ front ++ lines_in f (take i rows) → line ≡ f.line r → new ≡ old ++ line
+    → new ≡ front ++ lines_in f (take (i + 1) rows)
+text-more f front rows i r old new line h e before is grown =
+    grown ∙ ap (λ l. old ++ l) is ∙ ap (λ l. l ++ f.line r) before
+    ∙ append_assoc front (lines_in f (take i rows)) (f.line r)
+    ∙ ap (λ l. front ++ l) (sym (lines-more f rows i r h e))
+
+-- a text of all rows has their lines
+pub text-all : (f : Form) (front : List ℕ) (rows : List Row) (i : ℕ) (text : List ℕ) → i ≡ length rows
+    → text ≡ front ++ lines_in f (take i rows) → text ≡ front ++ lines_in f rows
+text-all f front rows i text whole is = is ∙ ap (λ n. front ++ lines_in f (take n rows)) whole
+    ∙ ap (λ l. front ++ lines_in f l) (take-length rows)

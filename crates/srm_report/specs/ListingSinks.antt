@@ -1,0 +1,100 @@
+-- A table that lists rows, written as they come.
+use Rattle.std.specs.Prelude.{◌≡◌, ℕ, List, [], ◌++◌, length, Option, Result, Ok, Err}
+use Rattle.std.specs.Io.KnownBytes.{Appends}
+use Rattle.srm_member.specs.declared.row.Row.{Row}
+use Rattle.srm_engine.specs.declared.sink.SinkFault.{SinkFault}
+use Rattle.srm_engine.specs.declared.sink.SinkFault.TheVariants as fault
+use Rattle.srm_engine.specs.declared.sink.Stage.{Stage}
+use Rattle.srm_engine.specs.declared.sink.Stage.TheVariants as stage
+use Rattle.srm_report.specs.declared.standing.Standing.{Standing}
+use Rattle.srm_report.specs.declared.standing.Standing.TheVariants.{Fresh, Live, NoMemory, Stopped}
+use Rattle.srm_report.specs.declared.listing_sink.ListingSink.{ListingSink}
+use Rattle.srm_report.specs.declared.writing.WriteFault.{WriteFault}
+use Rattle.srm_report.specs.Listings.{Form}
+use Rattle.srm_report.specs.Standings.{GrewBy, IsText, text_next}
+
+-- ---- sinks
+
+-- where a sink stands for its callers, which stands so and wrote so many bytes
+abbrev pub stage_at : Standing → ℕ → Stage
+stage_at Fresh n = stage.Fresh
+stage_at Live n = stage.Live
+stage_at NoMemory n = stage.Refused fault.NoMemory
+stage_at Stopped n = stage.Refused (fault.Stopped n)
+
+module _ {L O : Type 0} where
+  abbrev pub stage_of : ListingSink L O → Stage
+  stage_of s = stage_at s.standing s.written
+
+  abbrev pub standing_of : ListingSink L O → Standing
+  standing_of s = s.standing
+
+  -- the outlet
+  abbrev pub outlet_under : ListingSink L O → O
+  outlet_under s = s.outlet.now
+
+  -- what is still to be written
+  abbrev pub gathered_by : ListingSink L O → List ℕ
+  gathered_by s = s.gathered.items
+
+  -- how many bytes may be gathered
+  abbrev pub room_of : ListingSink L O → ℕ
+  room_of s = s.room
+
+  -- how many bytes the outlet took by the sink, up to 2^64 - 1
+  abbrev pub written_by : ListingSink L O → ℕ
+  written_by s = s.written
+
+  -- both write to one outlet, and may gather as much
+  abbrev pub AreOverOne : ListingSink L O → ListingSink L O → Type 0
+  AreOverOne a b = (b.outlet.ghost_name ≡ a.outlet.ghost_name) × (room_of b ≡ room_of a)
+
+  module _ (taken : O → Option (List ℕ)) where
+    -- between these two values the outlet took these bytes, and they were counted
+    pub record Wrote (a : ListingSink L O) (out : List ℕ) (b : ListingSink L O) : Type 0 where
+      pub bytes : Appends (taken (outlet_under a)) (taken (outlet_under b)) out
+      pub counted : GrewBy (written_by a) (length out) (written_by b)
+
+    -- this text was put between these two values: the outlet took what was gathered and the text, but for what is
+    -- gathered now
+    abbrev pub PutsAll : ListingSink L O → List ℕ → ListingSink L O → Type 0
+    PutsAll a text b = (out : List ℕ) × (gathered_by a ++ text ≡ out ++ gathered_by b) × Wrote a out b
+
+    -- no more than a front of what was gathered and this text was taken
+    abbrev pub PutsFront : ListingSink L O → List ℕ → ListingSink L O → Type 0
+    PutsFront a text b = (out rest : List ℕ) × (gathered_by a ++ text ≡ out ++ rest) × Wrote a out b
+
+    -- the text of exactly these rows was put
+    abbrev pub PutsRows : Form → ListingSink L O → List Row → ListingSink L O → Type 0
+    PutsRows f a rows b = (text : List ℕ) × IsText f a.standing b.standing rows text × PutsAll a text b
+
+    -- no more than a front of the text of these rows was taken
+    abbrev pub PutsPart : Form → ListingSink L O → List Row → ListingSink L O → Type 0
+    PutsPart f a rows b = PutsFront a (text_next f a.standing rows) b
+
+    -- what is gathered was written, or else a front of it
+    abbrev pub WritesGathered : {A E : Type 0} → ListingSink L O → Result A E → ListingSink L O → Type 0
+    WritesGathered a (Ok v) b = (gathered_by b ≡ []) × PutsAll a [] b
+    WritesGathered a (Err e) b = PutsFront a [] b
+
+    -- so was a text after it
+    abbrev pub WritesThrough : {A E : Type 0} → ListingSink L O → List ℕ → Result A E → ListingSink L O → Type 0
+    WritesThrough a text (Ok v) b = PutsAll a text b
+    WritesThrough a text (Err e) b = PutsFront a text b
+
+    -- a text was put, or else no more than a front of it; a fault of the outlet tells how many bytes it took in all
+    abbrev pub PutsText : {A : Type 0} → ListingSink L O → List ℕ → Result A SinkFault → ListingSink L O → Type 0
+    PutsText a text (Ok v) b = PutsAll a text b
+    PutsText a text (Err fault.NoMemory) b = PutsFront a text b
+    PutsText a text (Err (fault.Stopped n)) b = PutsFront a text b × (n ≡ written_by b)
+
+    -- nothing is left to be written; or a front was written, and the fault tells how many bytes the outlet took in all
+    abbrev pub Flushes : {A : Type 0} → ListingSink L O → Result A WriteFault → ListingSink L O → Type 0
+    Flushes a (Ok v) b = (gathered_by b ≡ []) × PutsAll a [] b × (standing_of b ≡ standing_of a)
+    Flushes a (Err e) b = PutsFront a [] b × (stage_of b ≡ stage.Refused (fault.Stopped e.written))
+
+  -- where memory was refused, the outlet is as it was, and no byte more is counted
+  abbrev pub LeavesOutlet : {A : Type 0} → ListingSink L O → Result A SinkFault → ListingSink L O → Type 0
+  LeavesOutlet a (Ok v) b = Unit {0}
+  LeavesOutlet a (Err fault.NoMemory) b = (outlet_under b ≡ outlet_under a) × (written_by b ≡ written_by a)
+  LeavesOutlet a (Err (fault.Stopped n)) b = Unit {0}

@@ -1,0 +1,45 @@
+-- The table of timers: how members' constants are adapted, row by row of the trace.
+use Rattle.std.specs.Prelude.{ℕ, List, [], ◌∷◌, Option, Some, None, codes, decimal}
+use Rattle.csv.specs.Writing.{row_text, default_writer}
+use Rattle.srm_member.specs.declared.intervals.Intervals.{Intervals}
+use Rattle.srm_member.specs.declared.row.Row.{Row}
+use Rattle.srm_report.specs.Listings.{Form, text_in}
+use Rattle.srm_report.specs.Trace.{cause_word, ref_text}
+use Rattle.srm_report.specs.Rows.{time_text as number_text}
+
+-- the columns of the table of timers
+abbrev pub timers_columns : List (List ℕ)
+timers_columns = codes "time" ∷ codes "member" ∷ codes "cause" ∷ codes "ref" ∷ codes "c1" ∷ codes "c2" ∷ codes "d1"
+    ∷ codes "d2" ∷ codes "ave_dup_req" ∷ codes "ave_req_delay" ∷ codes "ave_dup_rep" ∷ codes "ave_rep_delay" ∷ []
+
+-- the fields of a member's intervals after a row's event: its four constants, and four averages, `-` where there is
+-- none
+abbrev pub interval_fields : Intervals → List (List ℕ)
+interval_fields i = decimal i.request.start ∷ decimal i.request.width ∷ decimal i.repair.start ∷ decimal i.repair.width
+    ∷ number_text i.request.average_duplicates ∷ number_text i.request.average_delay
+    ∷ number_text i.repair.average_duplicates ∷ number_text i.repair.average_delay ∷ []
+
+-- the fields of a row that tells of intervals
+abbrev pub timers_fields : Row → Intervals → List (List ℕ)
+timers_fields r i =
+    decimal r.key.time ∷ decimal r.key.member ∷ cause_word r.cause ∷ ref_text r.about ∷ interval_fields i
+
+-- the line of a row of the trace, which has one where it tells of intervals
+abbrev pub timers_line_by : Row → Option Intervals → List ℕ
+timers_line_by r None = []
+timers_line_by r (Some i) = row_text default_writer (timers_fields r i)
+
+unfoldable pub timers_line : Row → List ℕ
+timers_line r = timers_line_by r r.adapted
+
+-- the line of the columns
+unfoldable pub timers_header : List ℕ
+timers_header = row_text default_writer timers_columns
+
+-- how the table of timers lists rows
+abbrev pub timers_form : Form
+timers_form = record { header = timers_header; line = timers_line }
+
+-- the table of timers of a trace
+unfoldable pub timers_table : List Row → List ℕ
+timers_table rows = text_in timers_form rows

@@ -1,0 +1,27 @@
+//! Tables that list rows.
+ghost use Rattle.std.specs.Prelude.{◌≡◌, IfOk};
+ghost use Rattle.srm_report.specs.Listings.{Form, lines_in, text_in};
+
+use crate::fault::ReportFault;
+use srm_member::row::Row;
+use std::alloc::Global;
+
+/// A table that lists rows in the order of the trace, each as it comes. A contract sees how.
+pub trait Listing: Drop {
+    // The line of the columns, and the lines of a row.
+    ghost form: { Form };
+
+    /// The table of these rows, as CSV with line feeds: a header, and the lines of the rows.
+    ///
+    /// # Errors
+    /// `NoMemory`.
+    fn text(alloc: Global, rows: &[Row]) -> Result<Vec<u8>, ReportFault>
+        ensures { IfOk result (λ text. text.items ≡ text_in form rows.now) };
+
+    /// The lines of these rows, as they stand in the table: without a header.
+    ///
+    /// # Errors
+    /// `NoMemory`.
+    fn lines(alloc: Global, rows: &[Row]) -> Result<Vec<u8>, ReportFault>
+        ensures { IfOk result (λ text. text.items ≡ lines_in form rows.now) };
+}

@@ -1,0 +1,277 @@
+//! A table that lists rows, written as they come.
+ghost use Rattle.std.specs.Prelude.{◌≡◌, ◌<◌, ◌+◌, ◌-◌, ◌^◌, ◌≤◌, [], is_ok, if◌then◌else◌, length, IfOk};
+ghost use Rattle.srm_report.specs.Standings.{text_next, after_answer, TakesText};
+
+use crate::fault::ReportFault;
+use crate::listing::Listing;
+use crate::outlet::{OutFault, Outlet};
+use crate::standing::Standing;
+use crate::writing::{WriteFault, write_out};
+use srm_engine::sink::{RowSink, SinkFault};
+use srm_member::row::Row;
+use std::alloc::Global;
+
+/// Writes a table that lists rows, such as a trace, to an outlet as the rows come, with the header before the first of them. The
+/// header and the first rows are written at once, so that a long run is seen to go. Short pieces after them may be gathered before
+/// they are written. `flush` writes what is left at the end.
+#[derive(Drop)]
+pub struct ListingSink<'a, L, O> {
+    // Which table.
+    listing: L,
+    outlet: &'a mut O,
+    // What is still to be written, and how long that may be.
+    gathered: Vec<u8>,
+    room: usize,
+    // Whether it took rows: the first of them are not gathered.
+    has_begun: bool,
+    // How many bytes the outlet took, up to 2^64 - 1.
+    written: u64,
+    standing: Standing,
+    // No more is gathered than there is room for.
+    pub ghost within: { length gathered.items ≤ room },
+}
+
+// The text of the rows that a sink takes next.
+fn text_of<L: Listing>(
+    alloc: Global,
+    standing: Standing,
+    rows: &[Row],
+) -> Result<Vec<u8>, ReportFault>
+    ensures { IfOk result (λ text. text.items ≡ text_next L.form standing rows.now) }
+{
+    match standing {
+        Standing::Fresh => L::text(alloc, rows),
+        Standing::Live | Standing::NoMemory | Standing::Stopped => L::lines(alloc, rows),
+    }
+}
+
+// Where a sink stands after this answer.
+fn standing_after(answer: &Result<(), SinkFault>) -> Standing
+    ensures { result ≡ after_answer answer.now }
+{
+    match answer {
+        Ok(()) => Standing::Live,
+        Err(SinkFault::NoMemory) => Standing::NoMemory,
+        Err(SinkFault::Stopped { .. }) => Standing::Stopped,
+    }
+}
+
+// Writes a text, and counts the bytes of it that were taken.
+fn write<O: Outlet>(outlet: &mut O, written: &mut u64, text: &[u8]) -> Result<(), OutFault>
+    requires { O.failures outlet.old < 2 ^ 64 - 1 }
+    ensures failures { O.failures outlet.new
+        ≡ (if is_ok result then O.failures outlet.old else O.failures outlet.old + 1) }
+    ensures taken { TakesText O.taken outlet.old written.old text.now result outlet.new written.new }
+{
+    match write_out(outlet, text) {
+        Ok(()) => {
+            *written = written.saturating_add(text.len() as u64);
+            Ok(())
+        }
+        Err(fault) => {
+            *written = written.saturating_add(fault.written);
+            Err(OutFault)
+        }
+    }
+}
+
+impl<'a, L: Listing, O: Outlet> ListingSink<'a, L, O> {
+    ghost use Rattle.srm_engine.specs.declared.sink.Stage.{Stage as AStage};
+    ghost use Rattle.srm_engine.specs.Sinks.{IsOpen, stops_in};
+    ghost use Rattle.srm_report.specs.ListingSinks.{stage_of, standing_of, outlet_under, gathered_by, room_of, written_by, AreOverOne, PutsText, LeavesOutlet, WritesGathered, WritesThrough, Flushes};
+
+    /// A sink of this table over this outlet, which took no rows yet. It writes each piece of the table as it comes. It does not
+    /// allocate.
+    pub fn over(alloc: Global, listing: L, outlet: &'a mut O) -> Self
+        ensures outlet { result.outlet.ghost_name ≡ outlet.entry.ghost_name }
+        ensures same { outlet_under result ≡ outlet.old }
+        ensures stage { stage_of result ≡ AStage.Fresh }
+        ensures gathered { gathered_by result ≡ [] }
+        ensures room { room_of result ≡ 0 }
+        ensures written { written_by result ≡ 0 }
+    {
+        ListingSink::gathering(alloc, listing, outlet, 0)
+    }
+
+    /// The same, but once the first rows are written up to so many bytes are gathered before they are written.
+    pub fn gathering(alloc: Global, listing: L, outlet: &'a mut O, room: usize) -> Self
+        ensures outlet { result.outlet.ghost_name ≡ outlet.entry.ghost_name }
+        ensures same { outlet_under result ≡ outlet.old }
+        ensures stage { stage_of result ≡ AStage.Fresh }
+        ensures gathered { gathered_by result ≡ [] }
+        ensures room { room_of result ≡ room }
+        ensures written { written_by result ≡ 0 }
+    {
+        ListingSink {
+            listing,
+            outlet,
+            gathered: Vec::new(alloc),
+            room,
+            has_begun: false,
+            written: 0,
+            standing: Standing::Fresh,
+        }
+    }
+
+    /// Writes what is gathered.
+    ///
+    /// # Errors
+    /// `WriteFault` exactly where the outlet failed in the call. The outlet has then taken a prefix of what was gathered, and its
+    /// count of failures is one higher. The fault says how many bytes it took by this sink in all, up to 2^64 - 1. The sink
+    /// stands refused, and may not be asked again.
+    pub fn flush(&mut self) -> Result<(), WriteFault>
+        requires open { IsOpen (stage_of self.old) }
+        requires failures { O.failures (outlet_under self.old) < 2 ^ 64 - 1 }
+        ensures outlet { AreOverOne self.old self.new }
+        ensures failures { O.failures (outlet_under self.new)
+            ≡ (if is_ok result then O.failures (outlet_under self.old) else O.failures (outlet_under self.old) + 1) }
+        ensures flushed { Flushes O.taken self.old result self.new }
+    {
+        match self.write_gathered() {
+            Ok(()) => Ok(()),
+            Err(OutFault) => {
+                self.standing = Standing::Stopped;
+                let written = self.written;
+                Err(WriteFault { written })
+            }
+        }
+    }
+
+    /// The outlet under the sink. What is still gathered is not written.
+    pub fn into_outlet(self) -> &'a mut O
+        ensures same_reference { result.ghost_name ≡ self.entry.outlet.ghost_name }
+        ensures outlet { result.now ≡ outlet_under self.entry }
+    {
+        let ListingSink { outlet, .. } = self;
+        outlet
+    }
+
+    // Writes what is gathered.
+    fn write_gathered(&mut self) -> Result<(), OutFault>
+        requires failures { O.failures (outlet_under self.old) < 2 ^ 64 - 1 }
+        ensures outlet { AreOverOne self.old self.new }
+        ensures standing { standing_of self.new ≡ standing_of self.old }
+        ensures failures { O.failures (outlet_under self.new)
+            ≡ (if is_ok result then O.failures (outlet_under self.old) else O.failures (outlet_under self.old) + 1) }
+        ensures written { WritesGathered O.taken self.old result self.new }
+    {
+        write(self.outlet, &mut self.written, self.gathered.as_slice())?;
+        self.gathered.clear();
+        Ok(())
+    }
+
+    // Puts the text of the rows that come next.
+    fn put_rows(&mut self, alloc: Global, rows: &[Row]) -> Result<(), SinkFault>
+        requires failures { O.failures (outlet_under self.old) < 2 ^ 64 - 1 }
+        ensures outlet { AreOverOne self.old self.new }
+        ensures standing { standing_of self.new ≡ standing_of self.old }
+        ensures failures { O.failures (outlet_under self.new) ≡ O.failures (outlet_under self.old) + stops_in result }
+        ensures text { PutsText O.taken self.old (text_next L.form (standing_of self.old) rows.now) result self.new }
+        ensures left { LeavesOutlet self.old result self.new }
+    {
+        match text_of::<L>(alloc, self.standing, rows) {
+            Ok(text) => self.put(text.as_slice()),
+            Err(ReportFault::NoMemory) => Err(SinkFault::NoMemory),
+        }
+    }
+
+    // Gathers a text, or writes it after what is gathered.
+    fn put(&mut self, text: &[u8]) -> Result<(), SinkFault>
+        requires failures { O.failures (outlet_under self.old) < 2 ^ 64 - 1 }
+        ensures outlet { AreOverOne self.old self.new }
+        ensures standing { standing_of self.new ≡ standing_of self.old }
+        ensures failures { O.failures (outlet_under self.new) ≡ O.failures (outlet_under self.old) + stops_in result }
+        ensures text { PutsText O.taken self.old text.now result self.new }
+        ensures left { LeavesOutlet self.old result self.new }
+    {
+        if self.has_begun && self.gathered.len() + text.len() <= self.room {
+            return match self.gathered.extend_from_slice(text) {
+                Ok(()) => Ok(()),
+                Err(_) => Err(SinkFault::NoMemory),
+            };
+        }
+        match self.write_through(text) {
+            Ok(()) => Ok(()),
+            Err(OutFault) => {
+                let written = self.written;
+                Err(SinkFault::Stopped { written })
+            }
+        }
+    }
+
+    // Writes what is gathered, and a text after it.
+    fn write_through(&mut self, text: &[u8]) -> Result<(), OutFault>
+        requires failures { O.failures (outlet_under self.old) < 2 ^ 64 - 1 }
+        ensures outlet { AreOverOne self.old self.new }
+        ensures standing { standing_of self.new ≡ standing_of self.old }
+        ensures failures { O.failures (outlet_under self.new)
+            ≡ (if is_ok result then O.failures (outlet_under self.old) else O.failures (outlet_under self.old) + 1) }
+        ensures text { WritesThrough O.taken self.old text.now result self.new }
+    {
+        match self.write_gathered() {
+            Ok(()) => write(self.outlet, &mut self.written, text),
+            Err(OutFault) => Err(OutFault),
+        }
+    }
+}
+
+impl<'a, L: Listing, O: Outlet> RowSink for ListingSink<'a, L, O> {
+    ghost use Rattle.std.specs.Prelude.{refl};
+    ghost use Rattle.std.proofs.Common.{◌∙◌};
+    ghost use Rattle.std.specs.Prelude.{MatchResult};
+    ghost use Rattle.srm_engine.specs.Sinks.{IsOpen, stage_after, stops_in};
+    ghost use Rattle.srm_report.specs.ListingSinks.{stage_of, outlet_under, AreOverOne, LeavesOutlet, PutsRows, PutsPart};
+    ghost use Rattle.srm_report.specs.SinkLaws.{one_self, one_more, rows_none, rows_more, part_none, part_more, part_longer};
+
+    ghost stage = { stage_of };
+
+    ghost failures = { λ s. O.failures (outlet_under s) };
+
+    ghost same = { AreOverOne };
+
+    ghost handed = { λ _ _ _. Unit {0} };
+
+    ghost took = { PutsRows O.taken L.form };
+
+    ghost part = { PutsPart O.taken L.form };
+
+    ghost same_self = { one_self };
+
+    ghost same_more = { one_more };
+
+    ghost handed_none = { λ a. tt };
+
+    ghost handed_more = { λ a b c xs ys p q. tt };
+
+    ghost took_none = { rows_none O.taken L.form };
+
+    ghost took_more = { rows_more O.taken L.form };
+
+    ghost part_none = { part_none O.taken L.form };
+
+    ghost part_more = { part_more O.taken L.form };
+
+    ghost part_longer = { part_longer O.taken L.form };
+
+    /// Writes the rows after those before, or gathers them. The first call puts the header before its rows, also where it has
+    /// none.
+    ///
+    /// # Errors
+    /// `Stopped` exactly where the outlet failed, with how many bytes it took by this sink in all, the header's too, up to 2^64 - 1.
+    /// `NoMemory`: then the outlet took nothing in this call.
+    fn rows(&mut self, alloc: Global, rows: Vec<Row>) -> Result<(), SinkFault>
+        requires open { IsOpen (stage_of self.old) }
+        requires failures { O.failures (outlet_under self.old) < 2 ^ 64 - 1 }
+        ensures same { AreOverOne self.old self.new }
+        ensures stage { stage_of self.new ≡ stage_after result }
+        ensures failures { O.failures (outlet_under self.new) ≡ O.failures (outlet_under self.old) + stops_in result }
+        ensures rows { MatchResult result (λ _. PutsRows O.taken L.form self.old rows.items self.new)
+            (λ _. PutsPart O.taken L.form self.old rows.items self.new) }
+        ensures left { LeavesOutlet self.old result self.new }
+    {
+        let answer = self.put_rows(alloc, rows.as_slice());
+        self.has_begun = self.has_begun || !rows.is_empty();
+        self.standing = standing_after(&answer);
+        answer
+    }
+}
