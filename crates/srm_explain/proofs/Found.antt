@@ -15,6 +15,7 @@ in_table rules d ms (finding.Unknown key near) is h = (ms, is, h)
 in_table rules d ms (finding.Missing r) is h = (ms, is, h)
 in_table rules d ms (finding.Wrong r) is h = (ms, is, h)
 in_table rules d ms (finding.Refused r) is h = (ms, is, h)
+in_table rules d ms (finding.Passed r copy) is h = (ms, is, h)
 
 pub found_in : {E : Type 0} (rules : List Rule) (d : Data) (ms : Members) (r : Result (Option Finding) E) → d ≡ table ms
     → IfOk r (λ o. IfSome o (IsFinding rules ms)) → IfOk r (λ o. IfSome o (FindsIn rules d))

@@ -1,5 +1,5 @@
 -- What is wrong with the keys of a table, and what is said of it.
-use Rattle.std.specs.Prelude.{◌≡◌, ◌⊎◌, ◌&&◌, not, ℕ, Bool, true, false}
+use Rattle.std.specs.Prelude.{◌≡◌, ◌⊎◌, ◌&&◌, ◌+◌, ◌*◌, not, nat_lt, ℕ, Bool, true, false}
 use Rattle.std.specs.Prelude.{List, [], ◌∷◌, ◌++◌, Option, Some, None, codes, decimal}
 use Rattle.std.specs.Prelude.{IsSome, IfSome, is_some, map, slice_get, string_bytes, if◌then◌else◌}
 use Rattle.std.specs.List.{list_any}
@@ -10,15 +10,15 @@ use Rattle.srm_scenario.specs.declared.fault.Part.TheVariants as part
 use Rattle.srm_scenario.specs.declared.key.Key.{Key}
 use Rattle.srm_scenario.specs.declared.key.Key.TheVariants as key
 use Rattle.srm_scenario.specs.declared.rule.Kind.{Kind}
-use Rattle.srm_scenario.specs.declared.rule.Kind.TheVariants.{Whole, Word, Numbers, Elements}
+use Rattle.srm_scenario.specs.declared.rule.Kind.TheVariants.{Whole, Word, Numbers, Each, Elements, Repeated}
 use Rattle.srm_scenario.specs.declared.rule.Need.{Need}
 use Rattle.srm_scenario.specs.declared.rule.Need.TheVariants.{Required, Refused}
 use Rattle.srm_scenario.specs.declared.rule.Rule.{Rule}
-use Rattle.srm_scenario.specs.declared.rule.Words.TheVariants.{Roles, Topologies}
+use Rattle.srm_scenario.specs.declared.rule.Words.TheVariants.{Roles, Topologies, TopologiesAndParents}
 use Rattle.srm_scenario.specs.Keys.{name_of}
 use Rattle.srm_scenario.specs.Rules.{is_kind, has_only, link_rules, member_rules, draw_rules, session_rules, drop_rules}
-use Rattle.srm_scenario.specs.Rules.{outage_rules, top_rules}
-use Rattle.srm_scenario.specs.Described.{array_at, constants_of, says, version_of}
+use Rattle.srm_scenario.specs.Rules.{outage_rules, times_of, top_rules}
+use Rattle.srm_scenario.specs.Described.{array_at, constants_of, every_of, form_of, names_parents, number, version_of}
 use Rattle.srm_scenario.specs.declared.version.Version.{Version}
 use Rattle.srm_scenario.specs.declared.version.Version.TheVariants.{Two, Three}
 use Rattle.srm_explain.specs.declared.finding.Finding.{Finding}
@@ -26,16 +26,13 @@ use Rattle.srm_explain.specs.declared.finding.Finding.TheVariants as finding
 
 -- ---- what is found
 
--- whether a top table names a topology, and whether that is a tree
+-- whether a top table names a topology
 abbrev pub is_shaped : Members → Bool
 is_shaped top = is_some (get_member (codes "topology") top)
 
-abbrev pub is_treelike : Members → Bool
-is_treelike top = says (codes "topology") (codes "tree") top
-
 -- the rules of a part of a file in a version of the format, where this is the top table
 abbrev pub rules_for : Version → Part → Members → List Rule
-rules_for version part.Top top = top_rules version (constants_of top) (is_shaped top) (is_treelike top)
+rules_for version part.Top top = top_rules version (constants_of top) (form_of top)
 rules_for version part.Link top = link_rules version
 rules_for version part.Member top = member_rules version
 rules_for version part.Draw top = draw_rules version
@@ -70,13 +67,32 @@ data_at p place top = element_of (array_key p) place top
 abbrev pub HasKey : List Rule → Key → Type 0
 HasKey rules key = (i : ℕ) × (r : Rule) × (slice_get rules i ≡ Some r) × (r.key ≡ key)
 
+-- by how much the number at a key rises from copy to copy of an element, if it rises, where copies are so far apart
+abbrev pub rise_of : Key → ℕ → Option ℕ
+rise_of key.Node every = Some every
+rise_of key.Stream every = Some 1
+rise_of key.At every = Some every
+rise_of key.Count every = Some every
+rise_of key.From every = Some every
+rise_of key.To every = Some every
+rise_of k every = None
+
+-- this is one of the copies for which a table stands, and in it the number at the rule's key passes the rule's range
+abbrev pub PassesRange : Rule → Members → ℕ → Type 0
+PassesRange r ms copy =
+    (rise : ℕ) × (rise_of r.key (every_of (table ms)) ≡ Some rise)
+    × (low : ℕ) × (last : ℕ) × (r.kind ≡ Whole low last)
+    × (nat_lt copy (times_of (table ms)) ≡ true)
+    × (nat_lt last (number (name_of r.key) ms + copy * rise) ≡ true)
+
 -- the rule is broken as is told: its key has to be there and is not, or must not be there and is, or what stands at it
--- is not of the rule's kind
+-- is not of the rule's kind, or passes its range in a copy
 abbrev pub IsBroken : Rule → Members → Finding → Type 0
 IsBroken r ms (finding.Missing s) = (s ≡ r) × (r.need ≡ Required) × (get_member (name_of r.key) ms ≡ None)
 IsBroken r ms (finding.Refused s) = (s ≡ r) × (r.need ≡ Refused) × IsSome (get_member (name_of r.key) ms)
 IsBroken r ms (finding.Wrong s) =
     (s ≡ r) × (d : Data) × (get_member (name_of r.key) ms ≡ Some d) × (is_kind r.kind d ≡ false)
+IsBroken r ms (finding.Passed s copy) = (s ≡ r) × PassesRange r ms copy
 IsBroken r ms f = ⊥
 
 -- this is wrong with a table beside these rules: a key of it is none of theirs, or one of them is broken
@@ -105,14 +121,26 @@ is_refused need = false
 abbrev pub allows : List Rule → Key → Bool
 allows rules key = list_any (λ r. bytes_eq (name_of r.key) (name_of key) && not (is_refused r.need)) rules
 
+-- why a key is not allowed in a table that names a topology
+abbrev pub IsTopologyReason : Members → List ℕ → Type 0
+IsTopologyReason top reason =
+    ((reason ≡ codes " unless topology is \"tree\"") × (is_shaped top ≡ true))
+    ⊎ ((reason ≡ codes " unless topology is \"parents\"") × (names_parents top ≡ false))
+    ⊎ ((reason ≡ codes " beside delays") × (is_some (get_member (codes "delays") top) ≡ true))
+    ⊎ ((reason ≡ codes " beside backs") × (is_some (get_member (codes "backs") top) ≡ true))
+    ⊎ ((reason ≡ codes " beside topology") × (is_shaped top ≡ true))
+
+-- why a key is not allowed, where these are the rules that versions 2 and 3 have for its part
+abbrev pub IsReasonAmong : List Rule → List Rule → Members → Key → List ℕ → Type 0
+IsReasonAmong second third top key reason =
+    ((reason ≡ codes " in version 1; version 2 has it") × (allows second key ≡ true))
+    ⊎ ((reason ≡ codes " in this version; version 3 has it") × (allows third key ≡ true))
+    ⊎ ((reason ≡ codes " without topology") × (is_shaped top ≡ false))
+    ⊎ IsTopologyReason top reason
+
 -- why a key of this part is not allowed
 abbrev pub IsReason : Part → Members → Key → List ℕ → Type 0
-IsReason p top key reason =
-    ((reason ≡ codes " in version 1; version 2 has it") × (allows (rules_for Two p top) key ≡ true))
-    ⊎ ((reason ≡ codes " in this version; version 3 has it") × (allows (rules_for Three p top) key ≡ true))
-    ⊎ ((reason ≡ codes " without topology") × (is_shaped top ≡ false))
-    ⊎ ((reason ≡ codes " unless topology is \"tree\"") × (is_shaped top ≡ true))
-    ⊎ ((reason ≡ codes " beside topology") × (is_shaped top ≡ true))
+IsReason p top key reason = IsReasonAmong (rules_for Two p top) (rules_for Three p top) top key reason
 
 -- what follows a sentence: of a key that is not allowed the reason
 abbrev pub FollowsSentence : Part → Members → Finding → List ℕ → Type 0
@@ -126,14 +154,25 @@ abbrev pub allowed : Kind → List ℕ
 allowed (Whole low high) = codes "a whole number from " ++ (decimal low ++ (codes " to " ++ decimal high))
 allowed (Word Roles) = codes "one of \"sender\", \"receiver\", \"late\", \"listener\""
 allowed (Word Topologies) = codes "one of \"chain\", \"star\", \"tree\""
+allowed (Word TopologiesAndParents) = codes "one of \"chain\", \"star\", \"tree\", \"parents\""
 allowed (Numbers most high) =
     codes "an array of at most " ++ (decimal most ++ (codes " whole numbers from 0 to " ++ decimal high))
+allowed (Each count low high) =
+    codes "an array with one number for each of "
+    ++ (decimal count ++ (codes " links, from " ++ (decimal low ++ (codes " to " ++ decimal high))))
 allowed (Elements most) = codes "an array of at most " ++ (decimal most ++ codes " tables")
+allowed (Repeated most) = codes "an array of tables that stand for at most " ++ decimal most
 
 -- the keys that rules allow, each with a space in front
 abbrev pub keys_of : List Rule → List ℕ
 keys_of [] = []
 keys_of (r ∷ rs) = if is_refused r.need then keys_of rs else (codes " " ++ name_of r.key) ++ keys_of rs
+
+-- what is said of a copy whose number passes the range of its key's rule
+abbrev pub passed_sentence : Rule → ℕ → List ℕ
+passed_sentence r copy =
+    name_of r.key
+    ++ (codes " is " ++ (allowed r.kind ++ (codes ", and copy " ++ (decimal copy ++ codes ", counted from 0, passes it"))))
 
 -- what is said of what is wrong with a table beside these rules
 abbrev pub sentence_of : List Rule → Finding → List ℕ
@@ -146,6 +185,7 @@ sentence_of rules (finding.Unknown key (Some near)) =
 sentence_of rules (finding.Missing r) = name_of r.key ++ (codes " is missing: it is " ++ allowed r.kind)
 sentence_of rules (finding.Wrong r) = name_of r.key ++ (codes " is " ++ allowed r.kind)
 sentence_of rules (finding.Refused r) = name_of r.key ++ codes " is not allowed"
+sentence_of rules (finding.Passed r copy) = passed_sentence r copy
 
 -- the lines below a picture: the sentence, and of a key that is not allowed the reason
 abbrev pub TellsNotes : List Rule → Part → Members → Finding → List ℕ → Type 0

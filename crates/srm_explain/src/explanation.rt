@@ -10,7 +10,7 @@ use crate::flaw::Flaw;
 use crate::flaw_sentence::flaw_notes;
 use crate::flaws::flaws_in;
 use crate::general::general_sentence;
-use crate::keys::{array_key, finding_at};
+use crate::keys::{array_key, finding_at, place_in_text};
 use crate::locate::{Target, locate};
 use crate::misfit_sentence::misfit_sentence;
 use crate::misfits::misfit_of;
@@ -130,7 +130,13 @@ fn explain_misfit(
     let Some(misfit) = misfit_of(&draft, fault) else {
         return general(alloc, fault);
     };
-    let picture = picture_of_value(alloc, text, part, place, misfit.key(part))?;
+    let picture = picture_of_value(
+        alloc,
+        text,
+        part,
+        place_in_text(&top, part, place),
+        misfit.key(part),
+    )?;
     let sentence = misfit_sentence(alloc, misfit)?;
     let told = format!(in alloc; "{picture}  {sentence}\n")?;
     Ok(told)
@@ -223,6 +229,7 @@ fn picture_of_finding(
         Finding::NoTable => "",
         Finding::Unknown { key, .. } => key.as_str(),
         Finding::Missing(rule) | Finding::Wrong(rule) | Finding::Refused(rule) => rule.key.name(),
+        Finding::Passed { rule, .. } => rule.key.name(),
     };
     let array = match array_key(part) {
         Some(array) => Some(array.name()),
@@ -233,7 +240,7 @@ fn picture_of_finding(
     let span = match finding {
         Finding::NoTable | Finding::Missing(_) => found.element,
         Finding::Unknown { .. } | Finding::Refused(_) => found.key,
-        Finding::Wrong(_) => found.value,
+        Finding::Wrong(_) | Finding::Passed { .. } => found.value,
     };
     match span {
         Some(span) => picture_of(alloc, text, span),

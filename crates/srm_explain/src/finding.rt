@@ -20,4 +20,11 @@ pub enum Finding {
     Wrong(Rule),
     /// The key of this rule is not allowed there.
     Refused(Rule),
+    /// The element stands for several, and the number at a key passes its range in one of them.
+    Passed {
+        /// The rule of the key.
+        rule: Rule,
+        /// The number of that copy, counted from 0.
+        copy: u64,
+    },
 }

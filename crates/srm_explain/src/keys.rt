@@ -5,16 +5,18 @@ ghost use Rattle.srm_explain.specs.Findings.{array_key, element_of, FindsAt, Fin
 
 use crate::finding::Finding;
 use crate::nearest::nearest;
+use crate::passing::passed_in;
 use srm_scenario::fault::Part;
 use srm_scenario::key::Key;
 use srm_scenario::rule::{Need, Rule};
-use srm_scenario::table::{array, has_only, is_kind, is_known};
+use srm_scenario::table::{array, has_only, is_kind, is_known, times_of};
 use std::alloc::{AllocError, Global};
 use toml::{Table, Value};
 
 /// What is wrong with the table at a place of a part, by the rules of that part. The first of these that applies is told: it is
 /// no table; a key of it is none of the part's; what stands at a key breaks its rule, by the first such rule; a key is missing,
-/// by the first such rule. Where none applies nothing is told.
+/// by the first such rule; it stands for several, and the number at a key passes its range in one of them, by the first such rule.
+/// Where none applies nothing is told.
 ///
 /// # Errors
 /// Memory ran out.
@@ -41,6 +43,22 @@ fn element_at(top: &Table, key: Key, place: usize) -> Option<&Value>
     ensures { option_map (λ v. view v.now) result ≡ element_of (Some key) place (table_view top.now) }
 {
     array(top, key).get(place)
+}
+
+/// The place in the text of the element that stands for the one of this place.
+pub(crate) fn place_in_text(top: &Table, part: Part, place: usize) -> usize {
+    let Some(key) = array_key(part) else {
+        return place;
+    };
+    let mut left = place as u64;
+    for (written, value) in array(top, key).iter().enumerate() {
+        let times = times_of(value);
+        if left < times {
+            return written;
+        }
+        left -= times;
+    }
+    place
 }
 
 // What is wrong with an element beside these rules, if something is.
@@ -79,7 +97,10 @@ fn finding_of(alloc: Global, table: &Table, rules: &[Rule]) -> Result<Option<Fin
     if has_only(table, rules) {
         return Ok(match wrong_in(table, rules) {
             Some(found) => Some(found),
-            None => missing_in(table, rules),
+            None => match missing_in(table, rules) {
+                Some(found) => Some(found),
+                None => passed_in(table, rules),
+            },
         });
     }
     for (key, _value) in table.iter() {

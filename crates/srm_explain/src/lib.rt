@@ -13,6 +13,7 @@ mod misfit;
 mod misfit_sentence;
 mod misfits;
 mod nearest;
+mod passing;
 mod picture;
 mod rules_in;
 mod sentence;

@@ -1,9 +1,9 @@
 //! The rules of a part of a file.
-ghost use Rattle.std.specs.Prelude.{◌≡◌, IfOk, is_some, codes};
+ghost use Rattle.std.specs.Prelude.{◌≡◌, true, IfOk, is_some, codes};
 ghost use Rattle.std.specs.List.{list_any};
 ghost use Rattle.toml.specs.Data.{get_member};
 ghost use Rattle.toml.specs.View.{table_view};
-ghost use Rattle.srm_explain.specs.Findings.{allows, rules_for, rules_in, FollowsSentence, IsReason};
+ghost use Rattle.srm_explain.specs.Findings.{allows, rules_for, rules_in, FollowsSentence, IsReason, IsReasonAmong, IsTopologyReason, is_shaped};
 
 use crate::finding::Finding;
 use srm_scenario::fault::Part;
@@ -13,7 +13,7 @@ use srm_scenario::rules::{
     draw_rules, drop_rules, link_rules, member_rules, outage_rules, session_rules, top_rules,
 };
 use srm_scenario::table::{has_key, number, says};
-use srm_scenario::top::constants_of;
+use srm_scenario::top::{constants_of, form_of};
 use srm_scenario::version::Version;
 use std::alloc::{AllocError, Global};
 use toml::Table;
@@ -39,9 +39,7 @@ fn rules_for(
 {
     match part {
         Part::Top => {
-            let shaped = has_key(top, Key::Topology);
-            let tree = says(top, Key::Topology, "tree");
-            Vec::from_slice(alloc, &top_rules(version, constants_of(top), shaped, tree))
+            Vec::from_slice(alloc, &top_rules(version, constants_of(top), form_of(top)))
         }
         Part::Link => Vec::from_slice(alloc, &link_rules(version)),
         Part::Member => Vec::from_slice(alloc, &member_rules(version)),
@@ -77,22 +75,49 @@ pub(crate) fn reason_after(
     }
 }
 
+// Whether a key says something of the parents of nodes, or of the links to them.
+fn is_for_parents(key: Key) -> bool {
+    matches!(key, Key::Parent | Key::Delays | Key::Backs)
+}
+
+// Why a key is not allowed in a table that names a topology.
+fn topology_reason(top: &Table, key: Key) -> &'static str
+    requires { is_shaped (table_view top.now) ≡ true }
+    ensures { IsTopologyReason (table_view top.now) result.now }
+{
+    if matches!(key, Key::Degree) {
+        " unless topology is \"tree\""
+    } else if is_for_parents(key) && !says(top, Key::Topology, "parents") {
+        " unless topology is \"parents\""
+    } else if matches!(key, Key::Delay) && has_key(top, Key::Delays) {
+        " beside delays"
+    } else if matches!(key, Key::Back) && has_key(top, Key::Backs) {
+        " beside backs"
+    } else {
+        " beside topology"
+    }
+}
+
+// Why a key is not allowed, where the rules of versions 2 and 3 for its part are these.
+fn reason_among(second: &[Rule], third: &[Rule], top: &Table, key: Key) -> &'static str
+    ensures { IsReasonAmong second.now third.now (table_view top.now) key result.now }
+{
+    if allows(second, key) {
+        " in version 1; version 2 has it"
+    } else if allows(third, key) {
+        " in this version; version 3 has it"
+    } else if !has_key(top, Key::Topology) {
+        " without topology"
+    } else {
+        topology_reason(top, key)
+    }
+}
+
 // Why a key of this part is not allowed, where its rule refuses it.
 fn reason_for(alloc: Global, part: Part, top: &Table, key: Key) -> Result<&'static str, AllocError>
     ensures { IfOk result (λ reason. IsReason part (table_view top.now) key reason.now) }
 {
     let second = rules_for(alloc, Version::Two, part, top)?;
     let third = rules_for(alloc, Version::Three, part, top)?;
-    let reason = if allows(&second, key) {
-        " in version 1; version 2 has it"
-    } else if allows(&third, key) {
-        " in this version; version 3 has it"
-    } else if !has_key(top, Key::Topology) {
-        " without topology"
-    } else if matches!(key, Key::Degree) {
-        " unless topology is \"tree\""
-    } else {
-        " beside topology"
-    };
-    Ok(reason)
+    Ok(reason_among(&second, &third, top, key))
 }

@@ -1,6 +1,6 @@
 //! What is said of what is wrong with the keys of a table.
 ghost use Rattle.std.specs.Prelude.{◌≡◌, IfOk, string_bytes};
-ghost use Rattle.srm_explain.specs.Findings.{allowed, keys_of, sentence_of};
+ghost use Rattle.srm_explain.specs.Findings.{allowed, keys_of, passed_sentence, sentence_of};
 
 use crate::finding::Finding;
 use srm_scenario::rule::{Kind, Need, Rule, Words};
@@ -49,7 +49,20 @@ pub(crate) fn sentence_of(
             let name = rule.key.name();
             format!(in alloc; "{name} is not allowed")
         }
+        Finding::Passed { rule, copy } => passed_sentence(alloc, *rule, *copy),
     }
+}
+
+// What is said of a copy whose number passes the range of its key's rule.
+fn passed_sentence(alloc: Global, rule: Rule, copy: u64) -> Result<String, AllocError>
+    ensures { IfOk result (λ s. string_bytes s ≡ passed_sentence rule copy) }
+{
+    let name = rule.key.name();
+    let allowed = allowed(alloc, rule.kind)?;
+    let told = format!(in alloc;
+        "{name} is {allowed}, and copy {copy}, counted from 0, passes it"
+    )?;
+    Ok(told)
 }
 
 // What a key may hold.
@@ -70,13 +83,25 @@ fn allowed(alloc: Global, kind: Kind) -> Result<String, AllocError>
         Kind::Word(Words::Topologies) => {
             String::from_str(alloc, "one of \"chain\", \"star\", \"tree\"")
         }
+        Kind::Word(Words::TopologiesAndParents) => {
+            String::from_str(alloc, "one of \"chain\", \"star\", \"tree\", \"parents\"")
+        }
         Kind::Numbers(most, high) => {
             let allowed = format!(in alloc;
                 "an array of at most {most} whole numbers from 0 to {high}"
             )?;
             Ok(allowed)
         }
+        Kind::Each(count, low, high) => {
+            let allowed = format!(in alloc;
+                "an array with one number for each of {count} links, from {low} to {high}"
+            )?;
+            Ok(allowed)
+        }
         Kind::Elements(most) => format!(in alloc; "an array of at most {most} tables"),
+        Kind::Repeated(most) => {
+            format!(in alloc; "an array of tables that stand for at most {most}")
+        }
     }
 }
 

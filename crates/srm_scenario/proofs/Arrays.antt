@@ -1,8 +1,10 @@
 -- Arrays at the keys of a table.
-use Rattle.std.proofs.Common.{◌≡◌, ℕ, suc, ◌≤◌, true, List, [], ◌∷◌, Option, Some, None, map, length}
+use Rattle.std.proofs.Common.{◌≡◌, ℕ, suc, ◌≤◌, true, List, [], ◌∷◌, Option, Some, None, map, flat_map, length, ◌++◌}
 use Rattle.std.proofs.Common.{nat_le, unwrap_or, refl, sym, ap, ◌∙◌, arith}
 use Rattle.std.specs.Prelude.{◌&&◌}
 use Rattle.std.specs.List.{list_all}
+use Rattle.std.proofs.Common.{pos, negsuc}
+use Rattle.std.proofs.lemmas.Bool.Decides.{nat_tests}
 use Rattle.std.proofs.lemmas.Bool.{and_parts, false≢true}
 use Rattle.std.proofs.lemmas.List.{length-map}
 use Rattle.toml.specs.Data.{Data, Items, Members, no_items, item, string, integer, float, boolean, datetime, array, table, get_member}
@@ -12,7 +14,6 @@ use Rattle.std.proofs.Common.{codes}
 use Rattle.srm_scenario.specs.KeyLimits.{last_page, most_pages}
 use Rattle.srm_scenario.specs.Rules.{count_items, all_whole, is_met, is_whole, meets, pages_rule}
 use Rattle.srm_scenario.specs.Described.{items_list, array_of, array_at, number_of, table_of}
-use Rattle.srm_net.specs.Limits.{most_listed}
 
 pub items_list-of : (ds : List Data) → items_list (items_of ds) ≡ ds
 items_list-of [] = refl
@@ -40,29 +41,32 @@ pub elements-read : {A : Type 0} (reading : Members → A) (vs : List Value) (ds
 elements-read reading vs ds xs same read =
     ap (map (λ d. reading (table_of d))) (sym same) ∙ map-view (λ d. reading (table_of d)) vs ∙ sym read
 
-pub few_read : {A : Type 0} (vs : List Value) (reading : Value → A) (xs : List A) → xs ≡ map reading vs → length (map view vs) ≤ most_listed
-    → length xs ≤ most_listed
-few_read vs reading xs read few =
-    let a : length xs ≡ length vs = ap length read ∙ length-map vs reading in
-    let b : length (map view vs) ≡ length vs = length-map vs view in
-    omega arith
+flat-view : {A : Type 0} (f : Data → List A) (vs : List Value) → flat_map f (map view vs) ≡ flat_map (λ v. f (view v)) vs
+flat-view f [] = refl
+flat-view f (v ∷ vs) = ap (λ (l : List _). f (view v) ++ l) (flat-view f vs)
 
--- each value is a whole number up to a limit
-pub all_whole-view : (high : ℕ) (vs : List Value) → list_all (λ v. is_whole 0 high (view v)) vs ≡ all_whole high (items_view vs)
-all_whole-view high [] = refl
-all_whole-view high (v ∷ vs) = ap (λ b. is_whole 0 high (view v) && b) (all_whole-view high vs)
+-- what values stand for is what the elements at their key stand for
+pub repeated-read : {A : Type 0} (f : Data → List A) (vs : List Value) (ds : List Data) (xs : List A) → map view vs ≡ ds
+    → xs ≡ flat_map (λ v. f (view v)) vs → flat_map f ds ≡ xs
+repeated-read f vs ds xs same read = ap (flat_map f) (sym same) ∙ flat-view f vs ∙ sym read
+
+-- each value is a whole number in a range
+pub all_whole-view : (low high : ℕ) (vs : List Value) → list_all (λ v. is_whole low high (view v)) vs
+    ≡ all_whole low high (items_view vs)
+all_whole-view low high [] = refl
+all_whole-view low high (v ∷ vs) = ap (λ b. is_whole low high (view v) && b) (all_whole-view low high vs)
 
 -- each page that a member's table lists is a whole number up to the last page
 pub pages_whole : (ms : Members) (vs : List Value) → is_met ms pages_rule ≡ true → map view vs ≡ array_at (codes "pages") ms
-    → all_whole last_page (items_view vs) ≡ true
+    → all_whole 0 last_page (items_view vs) ≡ true
 pages_whole ms vs h same = by (get_member (codes "pages") ms) h same
   where
     by : (o : Option Data) → meets pages_rule.need pages_rule.kind o ≡ true → map view vs ≡ array_of o
-        → all_whole last_page (items_view vs) ≡ true
-    by None met is = ap (λ l. all_whole last_page (items_of l)) is
+        → all_whole 0 last_page (items_view vs) ≡ true
+    by None met is = ap (λ l. all_whole 0 last_page (items_of l)) is
     by (Some (array ds)) met is =
-        ap (λ l. all_whole last_page (items_of l)) is ∙ ap (all_whole last_page) (items_of-list ds)
-        ∙ (and_parts (nat_le (count_items ds) most_pages) (all_whole last_page ds) met).1
+        ap (λ l. all_whole 0 last_page (items_of l)) is ∙ ap (all_whole 0 last_page) (items_of-list ds)
+        ∙ (and_parts (nat_le (count_items ds) most_pages) (all_whole 0 last_page ds) met).1
     by (Some (string t)) met is = absurd (false≢true met)
     by (Some (integer t)) met is = absurd (false≢true met)
     by (Some (float t)) met is = absurd (false≢true met)
@@ -75,3 +79,26 @@ pub numbers_read : (key : List ℕ) (ms : Members) (vs : List Value) → map vie
     → map (λ v. unwrap_or (number_of (view v)) 0) vs ≡ map (λ d. unwrap_or (number_of d) 0) (array_at key ms)
 numbers_read key ms vs same =
     sym (map-view (λ d. unwrap_or (number_of d) 0) vs) ∙ ap (map (λ d. unwrap_or (number_of d) 0)) same
+
+-- a whole number up to a limit is one up to a higher limit
+wider : (high most : ℕ) → high ≤ most → (d : Data) → is_whole 0 high d ≡ true → is_whole 0 most d ≡ true
+wider high most few (integer (pos n)) h =
+    let (p, q) = and_parts (nat_le 0 n) (nat_le n high) h in
+    let le : n ≤ high = grind (arith, nat_tests) in
+    let still : nat_le n most ≡ true = grind (arith, nat_tests) in
+    (λ i. p i && still i)
+wider high most few (integer (negsuc n)) h = absurd (false≢true h)
+wider high most few (string t) h = absurd (false≢true h)
+wider high most few (float t) h = absurd (false≢true h)
+wider high most few (boolean t) h = absurd (false≢true h)
+wider high most few (datetime t) h = absurd (false≢true h)
+wider high most few (array t) h = absurd (false≢true h)
+wider high most few (table t) h = absurd (false≢true h)
+
+-- so are all values of an array
+pub small_numbers : (high most : ℕ) → high ≤ most → (vs : List Value) → list_all (is_whole 0 high) (map view vs) ≡ true
+    → all_whole 0 most (items_view vs) ≡ true
+small_numbers high most few [] h = refl
+small_numbers high most few (v ∷ vs) h =
+    let (one, rest) = and_parts (is_whole 0 high (view v)) (list_all (is_whole 0 high) (map view vs)) h in
+    (λ i. wider high most few (view v) one i && small_numbers high most few vs rest i)

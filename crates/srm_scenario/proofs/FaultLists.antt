@@ -1,15 +1,15 @@
 -- The first fault of a list that is made of others.
 use Rattle.std.proofs.Common.{◌≡◌, ℕ, true, false, List, [], ◌∷◌, ◌++◌, Some, codes, refl, sym, ap, subst, ◌∙◌, inl, inr}
 use Rattle.toml.specs.Data.{Data, Members}
-use Rattle.srm_scenario.specs.declared.fault.Part.{Part}
 use Rattle.srm_scenario.specs.declared.fault.Part.TheVariants as part
 use Rattle.srm_scenario.specs.declared.version.Version.{Version}
 use Rattle.srm_scenario.specs.declared.fault.ScenarioFault.{ScenarioFault}
 use Rattle.srm_scenario.specs.declared.fault.ScenarioFault.TheVariants.{BadKey}
-use Rattle.srm_scenario.specs.declared.rule.Rule.{Rule}
-use Rattle.srm_scenario.specs.Rules.{fits, link_rules, member_rules, draw_rules, session_rules, drop_rules, outage_rules}
+use Rattle.srm_scenario.specs.Rules.{fits}
 use Rattle.srm_scenario.specs.Described.{array_at, version_of}
-use Rattle.srm_scenario.specs.Faults.{first, IsFault, fault_unless, rules_of_top, top_faults, element_faults, key_faults}
+use Rattle.srm_scenario.specs.Faults.{first, IsFault, fault_unless, rules_of_top, top_faults, key_faults}
+use Rattle.srm_scenario.specs.Faults.{faults_of_links, faults_of_members, faults_of_draws, faults_of_sessions, faults_of_drops}
+use Rattle.srm_scenario.specs.Faults.{faults_of_outages}
 
 pub first-left : (xs ys : List ScenarioFault) (e : ScenarioFault) → first xs ≡ Some e → first (xs ++ ys) ≡ Some e
 first-left [] ys e h = cc
@@ -29,36 +29,36 @@ pub no_faults : (fs rest : List ScenarioFault) → fs ≡ [] → rest ≡ [] →
 no_faults fs rest p q = (λ i. p i ++ q i)
 
 -- the faults of an array's elements, by the version and the values that were read
-pub faults_read : (p : Part) (rules : Version → List Rule) (key : List ℕ) (ms : Members) (version : Version) (ds : List Data)
+pub faults_read : (faults : Version → List Data → List ScenarioFault) (key : List ℕ) (ms : Members) (version : Version) (ds : List Data)
     → version_of ms ≡ version → ds ≡ array_at key ms
-    → element_faults p (rules (version_of ms)) (array_at key ms) ≡ element_faults p (rules version) ds
-faults_read p rules key ms version ds same is = λ i. element_faults p (rules (same i)) (sym is i)
+    → faults (version_of ms) (array_at key ms) ≡ faults version ds
+faults_read faults key ms version ds same is = λ i. faults (same i) (sym is i)
 
 -- so the first of them
-pub fault_read : (p : Part) (rules : Version → List Rule) (key : List ℕ) (ms : Members) (version : Version) (ds : List Data)
+pub fault_read : (faults : Version → List Data → List ScenarioFault) (key : List ℕ) (ms : Members) (version : Version) (ds : List Data)
     (e : ScenarioFault) → version_of ms ≡ version → ds ≡ array_at key ms
-    → IsFault e (element_faults p (rules version) ds) → IsFault e (element_faults p (rules (version_of ms)) (array_at key ms))
-fault_read p rules key ms version ds e same is = subst (λ (fs : List ScenarioFault). IsFault e fs)
-    (sym (faults_read p rules key ms version ds same is))
+    → IsFault e (faults version ds) → IsFault e (faults (version_of ms) (array_at key ms))
+fault_read faults key ms version ds e same is = subst (λ (fs : List ScenarioFault). IsFault e fs)
+    (sym (faults_read faults key ms version ds same is))
 
 module _ (ms : Members) where
   abbrev links : List ScenarioFault
-  links = element_faults part.Link (link_rules (version_of ms)) (array_at (codes "link") ms)
+  links = faults_of_links (version_of ms) (array_at (codes "link") ms)
 
   abbrev members : List ScenarioFault
-  members = element_faults part.Member (member_rules (version_of ms)) (array_at (codes "member") ms)
+  members = faults_of_members (version_of ms) (array_at (codes "member") ms)
 
   abbrev draws : List ScenarioFault
-  draws = element_faults part.Draw (draw_rules (version_of ms)) (array_at (codes "draw") ms)
+  draws = faults_of_draws (version_of ms) (array_at (codes "draw") ms)
 
   abbrev sessions : List ScenarioFault
-  sessions = element_faults part.Session (session_rules (version_of ms)) (array_at (codes "session") ms)
+  sessions = faults_of_sessions (version_of ms) (array_at (codes "session") ms)
 
   abbrev drops : List ScenarioFault
-  drops = element_faults part.Drop (drop_rules (version_of ms)) (array_at (codes "drop") ms)
+  drops = faults_of_drops (version_of ms) (array_at (codes "drop") ms)
 
   abbrev outages : List ScenarioFault
-  outages = element_faults part.Outage (outage_rules (version_of ms)) (array_at (codes "outage") ms)
+  outages = faults_of_outages (version_of ms) (array_at (codes "outage") ms)
 
   no_top_fault : fits (rules_of_top ms) ms ≡ true → top_faults ms ≡ []
   no_top_fault h = ap (λ b. fault_unless b (BadKey part.Top 0)) h

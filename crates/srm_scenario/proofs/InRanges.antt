@@ -1,36 +1,47 @@
 -- The ranges of a file's keys are those of the scenario.
 use Rattle.std.proofs.Common.{◌≡◌, ℕ, zero, suc, ◌+◌, ◌-◌, Bool, true, false, List, [], ◌∷◌, map, Option, Some}
-use Rattle.std.proofs.Common.{None, is_some, unwrap_or, codes, refl, sym, ap, ◌∙◌, subst, arith}
-use Rattle.std.proofs.lemmas.Bool.{false≢true}
+use Rattle.std.proofs.Common.{None, is_some, unwrap_or, codes, refl, sym, ap, ◌∙◌, subst, arith, length, slice_get, nat_le, cond}
+use Rattle.std.proofs.Common.{◌<◌, ◌≤◌}
+use Rattle.std.proofs.lemmas.Bool.{false≢true, and_parts}
+use Rattle.std.proofs.lemmas.Bool.Decides.{nat_tests}
+use Rattle.std.proofs.lemmas.List.{length-map}
 use Rattle.std.specs.List.{AllByRecursion}
-use Rattle.toml.specs.Data.{Data, Members, string, integer, float, boolean, datetime, array, table, get_member}
+use Rattle.std.specs.Option.{option_and_then}
+use Rattle.std.specs.Prelude.{◌==◌, if◌then◌else◌}
+use Rattle.toml.specs.Data.{Data, Items, Members, no_items, item, string, integer, float, boolean, datetime, array, table, get_member}
 use Rattle.srm_net.specs.declared.link.LinkSpec.{LinkSpec}
 use Rattle.srm_net.specs.Network.{IsLinkDelay, HasDelays}
 use Rattle.srm_scenario.specs.declared.entry.MemberEntry.{MemberEntry}
 use Rattle.srm_scenario.specs.declared.fault.Part.{Part}
 use Rattle.srm_scenario.specs.declared.fault.ScenarioFault.TheVariants.{BadKey}
 use Rattle.srm_scenario.specs.declared.draft.Draft.{Draft}
-use Rattle.srm_scenario.specs.declared.parts.MemberSpec.{MemberSpec}
 use Rattle.srm_scenario.specs.declared.delays.Delays.{Delays}
 use Rattle.srm_scenario.specs.declared.topology.Topology.{Topology}
 use Rattle.srm_scenario.specs.declared.version.Version.{Version}
 use Rattle.srm_scenario.specs.declared.key.Key.TheVariants as key
-use Rattle.srm_scenario.specs.declared.rule.Kind.TheVariants.{Whole}
-use Rattle.srm_scenario.specs.declared.rule.Need.TheVariants.{Optional}
+use Rattle.srm_scenario.specs.declared.key.Key.{Key}
+use Rattle.srm_scenario.specs.declared.rule.Kind.TheVariants.{Whole, Each}
+use Rattle.srm_scenario.specs.declared.rule.Need.TheVariants.{Optional, Refused}
 use Rattle.srm_scenario.specs.declared.rule.Rule.{Rule}
 use Rattle.srm_scenario.specs.KeyLimits.{greatest_delay, last_stream}
-use Rattle.srm_scenario.specs.Rules.{rule, allows_back, back_rule, is_met, fits, fits_element, link_rules, member_rules}
-use Rattle.srm_scenario.specs.Described.{version_of, back_at, delays_of, number_of, number, array_of, array_at, table_of}
+use Rattle.srm_scenario.specs.Rules.{rule, rule_if, allows_back, back_rule, is_met, meets, fits, fits_element, link_rules, member_rules}
+use Rattle.srm_scenario.specs.Rules.{all_whole, count_items, is_whole, optional_number}
+use Rattle.srm_scenario.specs.Keys.{name_of}
+use Rattle.srm_scenario.specs.Described.{version_of, delays_of, number_of, number, array_of, array_at, table_of}
 use Rattle.srm_scenario.specs.Described.{link_of, member_of, elements_at, links_to_parents, nodes_in, links_in, described_scenario}
-use Rattle.srm_scenario.specs.Described.{topology_of}
-use Rattle.srm_scenario.specs.Faults.{element_faults, entry_of, key_faults, top_faults}
+use Rattle.srm_scenario.specs.Described.{topology_of, items_list, names_parents, number_at, values_at, delay_at, back_delay_at, links_from}
+use Rattle.srm_scenario.specs.Described.{parents_in, given_links, repeated_at, member_copy}
+use Rattle.srm_scenario.specs.Faults.{element_faults, entry_of, entry_copy, entry_in_range, fits_repeated, key_faults, top_faults}
+use Rattle.srm_scenario.specs.Faults.{faults_of_links, faults_of_members, rules_of_top}
 use Rattle.srm_scenario.specs.LookUps.{AreDelays}
 use Rattle.srm_scenario.specs.Plain.{drop_rules_of}
 use Rattle.srm_scenario.specs.Drafts.{IsDraft, links_listed, plain_of}
 use Rattle.srm_scenario.specs.Ranges.{MemberInRange, HasItsPages, InRange}
-use Rattle.srm_scenario.proofs.Acceptance.{empty_parts, none_by}
-use Rattle.srm_scenario.proofs.KeyRanges.{number_fits, optional_bound, or_fits, rule_met}
-use Rattle.srm_net.specs.Limits.{end_of_time}
+use Rattle.srm_scenario.proofs.Acceptance.{empty_parts, none_by, unless_true}
+use Rattle.srm_scenario.proofs.Repetition.{stand_for_all, stand_for_members}
+use Rattle.srm_scenario.proofs.TopFits.{delays_met, backs_met, one_delay, one_back}
+use Rattle.srm_scenario.proofs.KeyRanges.{number_fits, optional_bound, rule_met, whole_number, back_fits}
+use Rattle.srm_net.specs.Limits.{end_of_time, most_links}
 
 -- ---- elements
 
@@ -55,11 +66,6 @@ read_elements : {A : Type 0} (P : A → Type 0) (p : Part) (reading : Members �
     → ((m : Members) → fits rules m ≡ true → P (reading m)) → (ds : List Data)
     → element_faults p rules ds ≡ [] → AllByRecursion P (map (λ d. reading (table_of d)) ds)
 read_elements P p reading rules f ds h = all_read P reading rules f ds (none_by (BadKey p) (fits_element rules) 0 ds h)
-
--- the second delay of a link is in range, where it is given or the first is in range
-pub back_fits : (m : Members) (allowed : Bool) → is_met m (back_rule allowed) ≡ true → IsLinkDelay (number (codes "delay") m)
-    → IsLinkDelay (back_at m)
-back_fits m allowed h delay = or_fits allowed key.Back 1 greatest_delay (number (codes "delay") m) m h delay.0 delay.1
 
 link_delay : (v : Version) (m : Members) → fits (link_rules v) m ≡ true → HasDelays (link_of m)
 link_delay v m h =
@@ -98,37 +104,114 @@ listed_delay : (o : Option Topology) (nodes : ℕ) (delays : Delays) (links : Li
 listed_delay None nodes delays links h all = all
 listed_delay (Some t) nodes delays links h all = parents_delay t delays 1 (nodes - 1) h
 
+-- ---- links to parents
+
+each_fits : (low high : ℕ) (ds : Items) (k : ℕ) → all_whole low high ds ≡ true → k < count_items ds
+    → (low ≤ unwrap_or (option_and_then number_of (slice_get (items_list ds) k)) 0)
+    × (unwrap_or (option_and_then number_of (slice_get (items_list ds) k)) 0 ≤ high)
+each_fits low high no_items k h lt = absurd (omega arith)
+each_fits low high (item d ds) zero h lt = whole_number low high 0 d (and_parts (is_whole low high d) (all_whole low high ds) h).0
+each_fits low high (item d ds) (suc k) h lt =
+    each_fits low high ds k (and_parts (is_whole low high d) (all_whole low high ds) h).1 (omega arith)
+
+-- the number at a place of a list that has one for each link, or else another delay
+delay_in : (allowed : Bool) (k : Key) (n : ℕ) (ms : Members) → is_met ms (rule_if allowed k (Each n 1 greatest_delay)) ≡ true
+    → (i other : ℕ) → i < n → (is_some (get_member (name_of k) ms) ≡ false → IsLinkDelay other)
+    → IsLinkDelay (number_at (values_at (name_of k) ms) i other)
+delay_in allowed k n ms h i other lt f = by (get_member (name_of k) ms) allowed h f
+  where
+    by : (o : Option Data) (b : Bool) → meets (cond b Optional Refused) (Each n 1 greatest_delay) o ≡ true
+        → (is_some o ≡ false → IsLinkDelay other)
+        → IsLinkDelay (number_at (if is_some o then Some (array_of o) else None) i other)
+    by None b e g = g refl
+    by (Some d) false e g = absurd (false≢true e)
+    by (Some (array ds)) true e g =
+        let (many, all) = and_parts (count_items ds == n) (all_whole 1 greatest_delay ds) e in
+        let is : count_items ds ≡ n = grind (arith, nat_tests) in
+        each_fits 1 greatest_delay ds i all (omega arith)
+    by (Some (string t)) true e g = absurd (false≢true e)
+    by (Some (integer t)) true e g = absurd (false≢true e)
+    by (Some (float t)) true e g = absurd (false≢true e)
+    by (Some (boolean t)) true e g = absurd (false≢true e)
+    by (Some (datetime t)) true e g = absurd (false≢true e)
+    by (Some (table t)) true e g = absurd (false≢true e)
+
+module _ (ms : Members) (h : fits (rules_of_top ms) ms ≡ true) (p : names_parents ms ≡ true) where
+  abbrev count : ℕ
+  count = length (array_at (codes "parent") ms)
+
+  there_fits : (k : ℕ) → k < count → IsLinkDelay (delay_at ms k)
+  there_fits k lt = delay_in (names_parents ms) key.Delays count ms (delays_met ms h) k (number (codes "delay") ms) lt (one_delay ms h p)
+
+  home_fits : (k : ℕ) → k < count → IsLinkDelay (back_delay_at ms k)
+  home_fits k lt =
+      delay_in (names_parents ms) key.Backs count ms (backs_met ms h) k (unwrap_or (optional_number (codes "back") ms) (delay_at ms k)) lt
+      (λ none. one_back ms h (delay_at ms k) (there_fits k lt))
+
+  parent_delays : (k : ℕ) (ps : List ℕ) → k + length ps ≤ count → AllByRecursion HasDelays (links_from ms k ps)
+  parent_delays k [] le = tt
+  parent_delays k (x ∷ ps) le =
+      ((there_fits k (omega arith), home_fits k (omega arith)), parent_delays (k + 1) ps (omega arith))
+
+given_delays : (ms : Members) → fits (rules_of_top ms) ms ≡ true → AllByRecursion HasDelays (elements_at (codes "link") link_of ms)
+    → AllByRecursion HasDelays (given_links ms)
+given_delays ms h listed = by (names_parents ms) refl
+  where
+    by : (b : Bool) → names_parents ms ≡ b
+        → AllByRecursion HasDelays (if b then links_from ms 0 (parents_in ms) else elements_at (codes "link") link_of ms)
+    by true e =
+        parent_delays ms h e 0 (parents_in ms)
+        (let same : length (parents_in ms) ≡ length (array_at (codes "parent") ms) =
+        length-map (array_at (codes "parent") ms) (λ d. unwrap_or (number_of d) 0) in omega arith)
+    by false e = listed
+
 -- ---- all together
 
-link_part : (ms : Members) → key_faults ms ≡ [] → element_faults Rattle.srm_scenario.specs.declared.fault.Part.TheVariants.Link
-    (link_rules (version_of ms)) (array_at (codes "link") ms) ≡ []
+top_part : (ms : Members) → key_faults ms ≡ [] → fits (rules_of_top ms) ms ≡ true
+unfolding key_faults
+top_part ms h = unless_true (fits (rules_of_top ms) ms) _ (empty_parts (top_faults ms) _ h).0
+
+link_part : (ms : Members) → key_faults ms ≡ [] → faults_of_links (version_of ms) (array_at (codes "link") ms) ≡ []
 unfolding key_faults
 link_part ms h =
     let p = empty_parts (top_faults ms) _ h in
-    let q = empty_parts (element_faults Rattle.srm_scenario.specs.declared.fault.Part.TheVariants.Link (link_rules (version_of ms))
-    (array_at (codes "link") ms)) _ p.1 in
-    q.0
+    (empty_parts (faults_of_links (version_of ms) (array_at (codes "link") ms)) _ p.1).0
 
-member_part : (ms : Members) → key_faults ms ≡ [] → element_faults Rattle.srm_scenario.specs.declared.fault.Part.TheVariants.Member
-    (member_rules (version_of ms)) (array_at (codes "member") ms) ≡ []
+member_part : (ms : Members) → key_faults ms ≡ [] → faults_of_members (version_of ms) (array_at (codes "member") ms) ≡ []
 unfolding key_faults
 member_part ms h =
     let p = empty_parts (top_faults ms) _ h in
-    let q = empty_parts (element_faults Rattle.srm_scenario.specs.declared.fault.Part.TheVariants.Link (link_rules (version_of ms))
-    (array_at (codes "link") ms)) _ p.1 in
-    let r = empty_parts (element_faults Rattle.srm_scenario.specs.declared.fault.Part.TheVariants.Member (member_rules (version_of ms))
-    (array_at (codes "member") ms)) _ q.1 in
-    r.0
+    let q = empty_parts (faults_of_links (version_of ms) (array_at (codes "link") ms)) _ p.1 in
+    (empty_parts (faults_of_members (version_of ms) (array_at (codes "member") ms)) _ q.1).0
+
+-- what holds of each copy in range of an entry holds of all members
+all_entries : (P : MemberEntry → Type 0) (ms : Members) → key_faults ms ≡ []
+    → ((d : Data) → fits_element (member_rules (version_of ms)) d ≡ true → (k every : ℕ)
+    → entry_in_range (entry_copy k every (entry_of (table_of d))) ≡ true → P (entry_copy k every (entry_of (table_of d))))
+    → AllByRecursion P (repeated_at (codes "member") entry_copy entry_of ms)
+all_entries P ms h each =
+    stand_for_all P (member_rules (version_of ms)) entry_of entry_copy entry_in_range each (array_at (codes "member") ms)
+    (none_by (BadKey Rattle.srm_scenario.specs.declared.fault.Part.TheVariants.Member)
+    (fits_repeated (member_rules (version_of ms)) entry_of entry_copy entry_in_range) 0 (array_at (codes "member") ms) (member_part ms h))
+
+copy_range : (v : Version) (d : Data) → fits_element (member_rules v) d ≡ true → (k every : ℕ)
+    → entry_in_range (entry_copy k every (entry_of (table_of d))) ≡ true → MemberInRange (entry_copy k every (entry_of (table_of d))).spec
+copy_range v d h k every range =
+    let base = one_read (λ e. MemberInRange e.spec) entry_of (member_rules v) (member_range v) d h in
+    let c = entry_copy k every (entry_of (table_of d)) in
+    let (node, stream) = and_parts (nat_le c.spec.node most_links) (nat_le c.spec.stream last_stream) range in
+    let le : c.spec.stream ≤ last_stream = grind (arith, nat_tests) in
+    record { stream = omega (arith, le); leave = base.leave }
 
 pub listed_range : (ms : Members) (l : Draft) → IsDraft ms l → InRange (plain_of l)
 unfolding plain_of
 listed_range ms l h =
     let links : AllByRecursion HasDelays l.links.items = subst (λ (ks : List LinkSpec). AllByRecursion HasDelays ks) h.links
-    (read_elements HasDelays _ link_of (link_rules (version_of ms)) (link_delay (version_of ms)) _ (link_part ms h.no_fault)) in
+    (given_delays ms (top_part ms h.no_fault)
+    (read_elements HasDelays _ link_of (link_rules (version_of ms)) (link_delay (version_of ms)) _ (link_part ms h.no_fault))) in
     let members : AllByRecursion (λ e. MemberInRange e.spec) l.members.items =
     subst (λ (es : List MemberEntry). AllByRecursion (λ e. MemberInRange e.spec) es) h.members
-    (read_elements (λ e. MemberInRange e.spec) _ entry_of (member_rules (version_of ms)) (member_range (version_of ms)) _
-    (member_part ms h.no_fault)) in
+    (all_entries (λ e. MemberInRange e.spec) ms h.no_fault (copy_range (version_of ms))) in
     record {
       some_ticks = h.some_ticks;
       few_ticks = h.few_ticks;
@@ -142,17 +225,14 @@ listed_range ms l h =
 pub listed_pages : (ms : Members) (l : Draft) → IsDraft ms l → AllByRecursion HasItsPages l.members.items
 listed_pages ms l h =
     subst (λ (es : List MemberEntry). AllByRecursion HasItsPages es) h.members
-    (read_elements HasItsPages _ entry_of (member_rules (version_of ms)) (pages_own (version_of ms)) _ (member_part ms h.no_fault))
+    (all_entries HasItsPages ms h.no_fault
+    (λ d fits k every range. one_read HasItsPages entry_of (member_rules (version_of ms)) (pages_own (version_of ms)) d fits))
 
 links_same : (ms : Members) (o : Option Topology) (nodes : ℕ) (delays : Delays) (links : List LinkSpec) → nodes_in o ms ≡ nodes
-    → delays_of ms ≡ delays → elements_at (codes "link") link_of ms ≡ links
+    → delays_of ms ≡ delays → given_links ms ≡ links
     → links_in o ms ≡ links_listed o nodes delays links
 links_same ms None nodes delays links n d k = k
 links_same ms (Some t) nodes delays links n d k = (λ i. links_to_parents t (d i) 1 (n i - 1))
-
-map_spec : (ds : List Data) → map (λ e. e.spec) (map (λ d. entry_of (table_of d)) ds) ≡ map (λ d. member_of (table_of d)) ds
-map_spec [] = refl
-map_spec (d ∷ ds) = ap (λ (l : List MemberSpec). member_of (table_of d) ∷ l) (map_spec ds)
 
 -- what the table describes is the scenario of what it lists
 pub described_is : (ms : Members) (l : Draft) → IsDraft ms l → described_scenario ms ≡ plain_of l
@@ -161,8 +241,8 @@ described_is ms l h =
     let nodes : nodes_in l.topology ms ≡ l.nodes = subst (λ o. nodes_in o ms ≡ l.nodes) h.topology h.nodes in
     let links : links_in (topology_of ms) ms ≡ links_listed l.topology l.nodes l.delays l.links.items =
     ap (λ o. links_in o ms) h.topology ∙ links_same ms l.topology l.nodes l.delays l.links.items nodes h.delays h.links in
-    let members : elements_at (codes "member") member_of ms ≡ map (λ e. e.spec) l.members.items =
-    sym (map_spec (array_at (codes "member") ms)) ∙ ap (map (λ e. e.spec)) h.members in
+    let members : repeated_at (codes "member") member_copy member_of ms ≡ map (λ e. e.spec) l.members.items =
+    sym (stand_for_members (array_at (codes "member") ms)) ∙ ap (map (λ e. e.spec)) h.members in
     λ i. record {
       until = h.until i;
       constants = h.constants i;

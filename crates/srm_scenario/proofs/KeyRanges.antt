@@ -1,6 +1,6 @@
 -- What a rule that is met says of the number at its key.
 use Rattle.std.proofs.Common.{◌≡◌, ℕ, zero, suc, ◌≤◌, Bool, true, false, cond, pos, negsuc, List, [], ◌∷◌, Option, Some, None}
-use Rattle.std.proofs.Common.{unwrap_or, nat_le, slice_get, subst, arith}
+use Rattle.std.proofs.Common.{unwrap_or, nat_le, slice_get, subst, arith, codes}
 use Rattle.std.proofs.lemmas.Bool.{and_parts, false≢true}
 use Rattle.std.proofs.lemmas.Bool.Decides.{nat_tests}
 use Rattle.std.specs.List.{list_all}
@@ -11,8 +11,11 @@ use Rattle.srm_scenario.specs.declared.rule.Kind.TheVariants.{Whole}
 use Rattle.srm_scenario.specs.declared.rule.Need.TheVariants.{Required, Optional, Refused}
 use Rattle.srm_scenario.specs.declared.rule.Rule.{Rule}
 use Rattle.srm_scenario.specs.Keys.{name_of}
-use Rattle.srm_scenario.specs.Rules.{rule, rule_if, meets, is_met, is_whole, has_only, fits}
-use Rattle.srm_scenario.specs.Described.{number_of, optional_number, number}
+use Rattle.srm_net.specs.Network.{IsLinkDelay}
+use Rattle.srm_scenario.specs.KeyLimits.{greatest_delay}
+use Rattle.srm_scenario.specs.declared.key.Key.TheVariants as key
+use Rattle.srm_scenario.specs.Rules.{rule, rule_if, back_rule, meets, is_met, is_whole, has_only, fits}
+use Rattle.srm_scenario.specs.Described.{number_of, optional_number, number, back_at}
 
 whole_range : (low high : ℕ) (d : Data) → is_whole low high d ≡ true → (n : ℕ) → number_of d ≡ Some n → (low ≤ n) × (n ≤ high)
 whole_range low high (integer (pos m)) h n e =
@@ -68,6 +71,11 @@ or_fits allowed key low high other ms h least most = by (get_member (name_of key
     by None b e = (least, most)
     by (Some d) true e = whole_number low high other d e
     by (Some d) false e = absurd (false≢true e)
+
+-- the second delay of a link is in range, where it is given or the first is in range
+pub back_fits : (m : Members) (allowed : Bool) → is_met m (back_rule allowed) ≡ true → IsLinkDelay (number (codes "delay") m)
+    → IsLinkDelay (back_at m)
+back_fits m allowed h delay = or_fits allowed key.Back 1 greatest_delay (number (codes "delay") m) m h delay.0 delay.1
 
 -- ---- the rules of a table
 

@@ -2,6 +2,7 @@ pub mod Marks
 pub mod KeyRanges
 pub mod Tables
 pub mod Placed
+pub mod Repetition
 pub mod ScriptLemmas
 pub mod Sorting
 pub mod Members

@@ -2,8 +2,8 @@
 use Rattle.std.proofs.Common.{◌≡◌, ℕ, Bool, List, [], ◌∷◌, Option, Some, None, map, option_map, is_some, ap, refl, sym, ◌∙◌}
 use Rattle.std.specs.List.{list_any, list_all}
 use Rattle.std.proofs.Common.{length, nat_le}
-use Rattle.srm_scenario.specs.declared.rule.Kind.TheVariants.{Numbers, Elements}
-use Rattle.std.specs.Prelude.{◌||◌, ◌&&◌}
+use Rattle.srm_scenario.specs.declared.rule.Kind.TheVariants.{Numbers, Each, Elements, Repeated}
+use Rattle.std.specs.Prelude.{◌||◌, ◌&&◌, ◌==◌}
 use Rattle.std.specs.Str.{bytes_eq}
 use Rattle.toml.specs.Data.{Data, Items, Members, member, string, integer, float, boolean, datetime, array, table, as_array, get_member}
 use Rattle.toml.specs.View.{view, items_view, members_view}
@@ -13,7 +13,7 @@ use Rattle.std.specs.Cmp.Lexicographic.{slice_cmp}
 use Rattle.std.specs.Map.{lookup}
 use Rattle.toml.proofs.Views.{Entry, table_get}
 use Rattle.toml.specs.declared.value.Value.{Value}
-use Rattle.srm_scenario.specs.Rules.{has_only, is_kind, is_whole, all_whole, count_items}
+use Rattle.srm_scenario.specs.Rules.{has_only, is_kind, is_whole, all_whole, count_items, count_made}
 use Rattle.srm_scenario.specs.Described.{array_of}
 use Rattle.srm_scenario.proofs.Arrays.{items_list-of, count-view, all_whole-view}
 
@@ -76,11 +76,38 @@ pub are_small : (most high : ℕ) (d : Data) (vs : List Value) → Some (items_v
     → (nat_le (length vs) most && list_all (λ v. is_whole 0 high (view v)) vs) ≡ is_kind (Numbers most high) d
 are_small most high (array ds) vs is =
     let same : items_view vs ≡ ds = cc in
-    (λ i. nat_le (sym (count-view vs) i) most && all_whole-view high vs i)
-    ∙ ap (λ (e : Items). nat_le (count_items e) most && all_whole high e) same
+    (λ i. nat_le (sym (count-view vs) i) most && all_whole-view 0 high vs i)
+    ∙ ap (λ (e : Items). nat_le (count_items e) most && all_whole 0 high e) same
 are_small most high (string t) vs is = cc
 are_small most high (integer t) vs is = cc
 are_small most high (float t) vs is = cc
 are_small most high (boolean t) vs is = cc
 are_small most high (datetime t) vs is = cc
 are_small most high (table t) vs is = cc
+
+-- whether an array has exactly so many values, each of which is a whole number in a range
+pub are_exactly : (count low high : ℕ) (d : Data) (vs : List Value) → Some (items_view vs) ≡ as_array d
+    → ((length vs == count) && list_all (λ v. is_whole low high (view v)) vs) ≡ is_kind (Each count low high) d
+are_exactly count low high (array ds) vs is =
+    let same : items_view vs ≡ ds = cc in
+    (λ i. (sym (count-view vs) i == count) && all_whole-view low high vs i)
+    ∙ ap (λ (e : Items). (count_items e == count) && all_whole low high e) same
+are_exactly count low high (string t) vs is = cc
+are_exactly count low high (integer t) vs is = cc
+are_exactly count low high (float t) vs is = cc
+are_exactly count low high (boolean t) vs is = cc
+are_exactly count low high (datetime t) vs is = cc
+are_exactly count low high (table t) vs is = cc
+
+-- whether the values of an array stand for few enough
+pub stand_for_few : (most : ℕ) (d : Data) (vs : List Value) → Some (items_view vs) ≡ as_array d
+    → nat_le (count_made (items_view vs)) most ≡ is_kind (Repeated most) d
+stand_for_few most (array ds) vs is =
+    let same : items_view vs ≡ ds = cc in
+    ap (λ (e : Items). nat_le (count_made e) most) same
+stand_for_few most (string t) vs is = cc
+stand_for_few most (integer t) vs is = cc
+stand_for_few most (float t) vs is = cc
+stand_for_few most (boolean t) vs is = cc
+stand_for_few most (datetime t) vs is = cc
+stand_for_few most (table t) vs is = cc

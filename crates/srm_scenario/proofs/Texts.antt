@@ -14,16 +14,14 @@ use Rattle.srm_scenario.specs.declared.fault.ScenarioFault.{ScenarioFault}
 use Rattle.srm_scenario.specs.declared.fault.ScenarioFault.TheVariants.{NoMemory, ReadFault, TooLong, NotToml, BadKey, NotTree, BadMember}
 use Rattle.srm_scenario.specs.declared.fault.ScenarioFault.TheVariants.{BadDraw, BadSession, BadDrop, BadOutage}
 use Rattle.srm_net.specs.declared.link.DropSpec.{DropSpec}
-use Rattle.srm_scenario.specs.declared.fault.Part.{Part}
 use Rattle.srm_scenario.specs.declared.fault.Part.TheVariants as part
-use Rattle.srm_scenario.specs.declared.version.Version.{Version}
 use Rattle.srm_scenario.specs.Described.{array_at, version_of, described_scenario}
-use Rattle.srm_scenario.specs.declared.rule.Rule.{Rule}
-use Rattle.srm_scenario.specs.Rules.{fits, fits_element, link_rules, member_rules, draw_rules, session_rules, drop_rules}
-use Rattle.srm_scenario.specs.Rules.{outage_rules}
+use Rattle.srm_scenario.specs.Rules.{fits}
 use Rattle.srm_scenario.specs.Trees.{is_tree}
 use Rattle.srm_scenario.specs.Faults.{fault_unless, faults_by, rules_of_top, top_faults, member_faults, fits_member, fits_draw}
-use Rattle.srm_scenario.specs.Faults.{fits_session, fits_drop, fits_outage, element_faults, key_faults, meaning_faults, faults_of, answer}
+use Rattle.srm_scenario.specs.Faults.{fits_session, fits_drop, fits_outage, key_faults, meaning_faults, faults_of, answer}
+use Rattle.srm_scenario.specs.Faults.{faults_of_links, faults_of_members, faults_of_draws, faults_of_sessions, faults_of_drops}
+use Rattle.srm_scenario.specs.Faults.{faults_of_outages}
 use Rattle.srm_scenario.specs.Faults.{scenario_of_table, scenario_of_document, scenario_of_text, failures_after, AnswersText}
 use Rattle.srm_scenario.specs.Plain.{PlainScenario, network_of}
 
@@ -111,16 +109,15 @@ of_members until nodes star earlier i (e ∷ es) =
 key_all : (ms : Members) → AllByRecursion IsOfText (key_faults ms)
 unfolding IsOfText key_faults
 key_all ms =
+    let v = version_of ms in
     all_append (top_faults ms) _ (of_unless (fits (rules_of_top ms) ms) (BadKey part.Top 0) tt)
-    (of_array part.Link link_rules (codes "link") _ (of_array part.Member member_rules (codes "member") _
-    (of_array part.Draw draw_rules (codes "draw") _ (of_array part.Session session_rules (codes "session") _
-    (of_array part.Drop drop_rules (codes "drop") _ (of_array part.Outage outage_rules (codes "outage") _ tt))))))
-  where
-    of_array : (p : Part) (rules : Version → List Rule) (key : List ℕ) (rest : List ScenarioFault) → AllByRecursion IsOfText rest
-        → AllByRecursion IsOfText (element_faults p (rules (version_of ms)) (array_at key ms) ++ rest)
-    of_array p rules key rest h =
-        all_append (faults_by (BadKey p) (fits_element (rules (version_of ms))) 0 (array_at key ms)) rest
-        (of_faults_by (BadKey p) (fits_element (rules (version_of ms))) 0 (array_at key ms) (λ i. tt)) h
+    (all_append (faults_of_links v (array_at (codes "link") ms)) _ (of_faults_by _ _ 0 (array_at (codes "link") ms) (λ i. tt))
+    (all_append (faults_of_members v (array_at (codes "member") ms)) _ (of_faults_by _ _ 0 (array_at (codes "member") ms) (λ i. tt))
+    (all_append (faults_of_draws v (array_at (codes "draw") ms)) _ (of_faults_by _ _ 0 (array_at (codes "draw") ms) (λ i. tt))
+    (all_append (faults_of_sessions v (array_at (codes "session") ms)) _ (of_faults_by _ _ 0 (array_at (codes "session") ms) (λ i. tt))
+    (all_append (faults_of_drops v (array_at (codes "drop") ms)) _ (of_faults_by _ _ 0 (array_at (codes "drop") ms) (λ i. tt))
+    (all_append (faults_of_outages v (array_at (codes "outage") ms)) _ (of_faults_by _ _ 0 (array_at (codes "outage") ms) (λ i. tt))
+    tt))))))
 
 meaning_all : (s : PlainScenario) (star : Bool) (entries : List MemberEntry) (listed : List DropSpec)
     → AllByRecursion IsOfText (meaning_faults s star entries listed)

@@ -1,17 +1,19 @@
 -- What a top table that fits its rules holds.
-use Rattle.std.proofs.Common.{slice_get, ◌≡◌, ℕ, suc, ◌+◌, ◌≤◌, Bool, true, false, length, Option, Some, None, is_some, codes, refl}
-use Rattle.std.proofs.Common.{ap, subst, arith}
-use Rattle.std.proofs.lemmas.Bool.{false≢true}
+use Rattle.std.proofs.Common.{slice_get, ◌≡◌, ℕ, suc, ◌+◌, ◌≤◌, Bool, true, false, not, length, Option, Some, None, is_some, codes, refl}
+use Rattle.std.proofs.Common.{ap, subst, sym, ◌∙◌, arith, sum_by, nat_le, unwrap_or, inl, inr}
+use Rattle.std.proofs.lemmas.Bool.{false≢true, and_parts, cases_Bool}
+use Rattle.std.proofs.lemmas.List.Sums.{sum_by-cons}
+use Rattle.std.specs.List.{list_all}
 use Rattle.std.proofs.lemmas.Bool.Decides.{nat_tests}
 use Rattle.std.specs.Prelude.{◌&&◌, ◌||◌, if◌then◌else◌}
 use Rattle.toml.specs.Data.{Data, Items, Members, no_items, item, string, integer, float, boolean, datetime, array, table, get_member}
-use Rattle.srm_net.specs.Limits.{end_of_time, most_listed}
+use Rattle.srm_net.specs.Limits.{end_of_time, most_links, most_listed, most_nodes}
+use Rattle.srm_net.specs.Network.{IsLinkDelay}
 use Rattle.srm_scenario.specs.declared.key.Key.{Key}
 use Rattle.srm_scenario.specs.declared.key.Key.TheVariants as key
-use Rattle.srm_scenario.specs.declared.rule.Kind.TheVariants.{Whole, Word, Elements}
+use Rattle.srm_scenario.specs.declared.rule.Kind.TheVariants.{Whole, Word, Numbers, Each, Elements, Repeated}
 use Rattle.srm_scenario.specs.declared.rule.Need.TheVariants.{Required, Optional, Refused}
 use Rattle.srm_scenario.specs.declared.rule.Rule.{Rule}
-use Rattle.srm_scenario.specs.declared.rule.Words.TheVariants.{Topologies}
 use Rattle.srm_scenario.specs.declared.topology.Topology.{Topology}
 use Rattle.srm_scenario.specs.declared.topology.Topology.TheVariants.{Chain, Star, Tree}
 use Rattle.srm_scenario.specs.declared.version.Version.{Version}
@@ -21,18 +23,23 @@ use Rattle.srm_scenario.specs.Accepted.{AreConstants, HasRoom}
 use Rattle.srm_scenario.specs.KeyLimits.{greatest_delay, greatest_limit}
 use Rattle.srm_scenario.specs.Rules.{rule, fits, is_met, is_text, meets, most_nodes_in, last_number, most_listed_in, allows_back}
 use Rattle.srm_scenario.specs.Rules.{topology_rule, degree_rule, constant_rule, greatest_constant_in, allows_limits, rule_if}
-use Rattle.srm_scenario.specs.Rules.{back_rule, count_items}
+use Rattle.srm_scenario.specs.Rules.{back_rule, count_items, count_made, times_of, rule_where, listed_in, topologies_in, is_kind, is_whole}
+use Rattle.srm_scenario.specs.Rules.{all_whole, optional_number}
 use Rattle.srm_scenario.specs.Described.{number, is_text_or, says, array_of, array_at, items_list, version_of, topology_of}
-use Rattle.srm_scenario.specs.Described.{nodes_in, delays_of, constants_of, number_or, room_of}
+use Rattle.srm_scenario.specs.Described.{nodes_in, delays_of, constants_of, number_or, room_of, form_of, given_nodes, names_parents}
 use Rattle.srm_scenario.specs.Faults.{rules_of_top}
-use Rattle.srm_scenario.specs.LookUps.{HasDegree, AreDelays}
-use Rattle.srm_scenario.proofs.InRanges.{back_fits}
-use Rattle.srm_scenario.proofs.KeyRanges.{number_fits, or_fits, required_number, rule_met}
+use Rattle.srm_scenario.specs.LookUps.{HasDegree, AreDelays, FewElements}
+use Rattle.srm_scenario.proofs.KeyRanges.{number_fits, or_fits, required_number, rule_met, back_fits}
 
-pub few_nodes : (v : Version) → (most_nodes_in v ≤ 1024) × (last_number v ≤ 1023)
-few_nodes One = (omega arith, omega arith)
-few_nodes Two = (omega arith, omega arith)
-few_nodes Three = (omega arith, omega arith)
+pub few_nodes : (v : Version) → (most_nodes_in v ≤ most_nodes) × (last_number v ≤ most_links) × (last_number v + 1 ≡ most_nodes_in v)
+few_nodes One = (omega arith, omega arith, refl)
+few_nodes Two = (omega arith, omega arith, refl)
+few_nodes Three = (omega arith, omega arith, refl)
+
+few_in : (v : Version) → most_listed_in v ≤ most_listed
+few_in One = omega arith
+few_in Two = omega arith
+few_in Three = omega arith
 
 few_in : (v : Version) → most_listed_in v ≤ most_listed
 few_in One = omega arith
@@ -41,21 +48,43 @@ few_in Three = omega arith
 
 -- ---- the topology
 
--- of a topology's word, which of the three it is says which topology it names
+-- of a topology's word, which of three it is says which topology it names
 abbrev named : Bool → Bool → Bool → ℕ → Option Topology
 named tree chain star degree = if tree then Some (Tree degree) else if chain then Some Chain else if star then Some Star else None
 
-named_one : (t c s : Bool) (n : ℕ) → (c || (s || (t || false))) ≡ true → true ≡ is_some (named t c s n)
-named_one true c s n h = refl
-named_one false true s n h = refl
-named_one false false true n h = refl
-named_one false false false n h = absurd (false≢true h)
+named_one : (t c s : Bool) (n : ℕ) → (t || (c || s)) ≡ is_some (named t c s n)
+named_one true c s n = refl
+named_one false true s n = refl
+named_one false false true n = refl
+named_one false false false n = refl
 
--- a topology is named where the key is there
-there_is_one : (o : Option Data) (n : ℕ) → meets Optional (Word Topologies) o ≡ true
-    → is_some o ≡ is_some (named (is_text_or (codes "tree") o) (is_text_or (codes "chain") o) (is_text_or (codes "star") o) n)
-there_is_one None n h = refl
-there_is_one (Some d) n h = named_one (is_text (codes "tree") d) (is_text (codes "chain") d) (is_text (codes "star") d) n h
+of_three : (t c s p : Bool) → (c || (s || (t || false))) ≡ true → ((t || (c || s)) || p) ≡ true
+of_three true c s p h = refl
+of_three false true s p h = refl
+of_three false false true p h = refl
+of_three false false false p h = absurd (false≢true h)
+
+of_four : (t c s p : Bool) → (c || (s || (t || (p || false)))) ≡ true → ((t || (c || s)) || p) ≡ true
+of_four true c s p h = refl
+of_four false true s p h = refl
+of_four false false true p h = refl
+of_four false false false true h = refl
+of_four false false false false h = absurd (false≢true h)
+
+-- a word that is there is one of a topology that is made of its size, or says that parents are given
+known_word : (v : Version) (d : Data) → is_kind (Word (topologies_in v)) d ≡ true
+    → ((is_text (codes "tree") d || (is_text (codes "chain") d || is_text (codes "star") d)) || is_text (codes "parents") d) ≡ true
+known_word One d h =
+    of_three (is_text (codes "tree") d) (is_text (codes "chain") d) (is_text (codes "star") d) (is_text (codes "parents") d) h
+known_word Two d h =
+    of_three (is_text (codes "tree") d) (is_text (codes "chain") d) (is_text (codes "star") d) (is_text (codes "parents") d) h
+known_word Three d h =
+    of_four (is_text (codes "tree") d) (is_text (codes "chain") d) (is_text (codes "star") d) (is_text (codes "parents") d) h
+
+shaped_known : (v : Version) (o : Option Data) → meets Optional (Word (topologies_in v)) o ≡ true → is_some o ≡ true
+    → ((is_text_or (codes "tree") o || (is_text_or (codes "chain") o || is_text_or (codes "star") o)) || is_text_or (codes "parents") o) ≡ true
+shaped_known v None h e = absurd (false≢true e)
+shaped_known v (Some d) h e = known_word v d h
 
 degree_by : (v : Version) (ms : Members) (t c s : Bool) → is_met ms (degree_rule v t) ≡ true
     → HasDegree (named t c s (number (codes "degree") ms))
@@ -69,18 +98,11 @@ degree_by v ms false false false h = tt
 
 -- ---- what a topology decides
 
-nodes_by : (m : ℕ) (ms : Members) (o : Option Topology)
-    → is_met ms (rule key.Nodes (Whole 1 m) (if is_some o then Refused else Required)) ≡ true
-    → is_met ms (rule key.Size (Whole 1 m) (if is_some o then Required else Refused)) ≡ true
-    → (1 ≤ nodes_in o ms) × (nodes_in o ms ≤ m)
-nodes_by m ms None n s = required_number key.Nodes 1 m ms n
-nodes_by m ms (Some t) n s = required_number key.Size 1 m ms s
-
-delays_by : (v : Version) (ms : Members) (o : Option Topology)
-    → is_met ms (rule key.Delay (Whole 1 greatest_delay) (if is_some o then Required else Refused)) ≡ true
-    → is_met ms (back_rule (is_some o && allows_back v)) ≡ true → AreDelays o (delays_of ms)
-delays_by v ms None d b = tt
-delays_by v ms (Some t) d b =
+delays_by : (v : Version) (ms : Members) (o : Option Topology) (others more : Bool)
+    → is_met ms (rule_where (is_some o || others) key.Delay (Whole 1 greatest_delay)) ≡ true
+    → is_met ms (back_rule ((is_some o || more) && allows_back v)) ≡ true → AreDelays o (delays_of ms)
+delays_by v ms None others more d b = tt
+delays_by v ms (Some t) others more d b =
     let there = required_number key.Delay 1 greatest_delay ms d in
     (there, back_fits ms (allows_back v) b there)
 
@@ -125,6 +147,67 @@ few_listed k most ms h = by (get_member (name_of k) ms) h
     by (Some (datetime t)) e = absurd (false≢true e)
     by (Some (table t)) e = absurd (false≢true e)
 
+count-made : (ds : Items) → count_made ds ≡ sum_by times_of (items_list ds)
+count-made no_items = refl
+count-made (item d ds) = ap (λ n. times_of d + n) (count-made ds) ∙ sym (sum_by-cons times_of d (items_list ds))
+
+few_repeated : (k : Key) (most : ℕ) (ms : Members) → is_met ms (rule k (Repeated most) Optional) ≡ true
+    → sum_by times_of (array_at (name_of k) ms) ≤ most
+few_repeated k most ms h = by (get_member (name_of k) ms) h
+  where
+    by : (o : Option Data) → meets Optional (Repeated most) o ≡ true → sum_by times_of (array_of o) ≤ most
+    by None e = omega arith
+    by (Some (array ds)) e =
+        let few : count_made ds ≤ most = grind (arith, nat_tests) in
+        subst (λ n. n ≤ most) (count-made ds) few
+    by (Some (string t)) e = absurd (false≢true e)
+    by (Some (integer t)) e = absurd (false≢true e)
+    by (Some (float t)) e = absurd (false≢true e)
+    by (Some (boolean t)) e = absurd (false≢true e)
+    by (Some (datetime t)) e = absurd (false≢true e)
+    by (Some (table t)) e = absurd (false≢true e)
+
+few_elements : (v : Version) (k : Key) (ms : Members) → is_met ms (rule k (listed_in v) Optional) ≡ true
+    → FewElements v (array_at (name_of k) ms)
+few_elements One k ms h = record {
+  stand_for = λ e. absurd (false≢true e);
+  are = λ e. (let few = few_listed k 4096 ms h in omega arith);
+}
+few_elements Two k ms h = record {
+  stand_for = λ e. absurd (false≢true e);
+  are = λ e. (let few = few_listed k 4096 ms h in omega arith);
+}
+few_elements Three k ms h = record {
+  stand_for = λ e. few_repeated k most_listed ms h;
+  are = λ e. absurd (false≢true (sym e));
+}
+
+-- parents that are given are few, and each of them is a node's number
+numbers_met : (here : Bool) (k : Key) (most high : ℕ) (ms : Members) → is_met ms (rule_where here k (Numbers most high)) ≡ true
+    → (length (array_at (name_of k) ms) ≤ most) × (list_all (is_whole 0 high) (array_at (name_of k) ms) ≡ true)
+numbers_met here k most high ms h = by here (get_member (name_of k) ms) h
+  where
+    whole : (ds : Items) → all_whole 0 high ds ≡ true → list_all (is_whole 0 high) (items_list ds) ≡ true
+    whole no_items e = refl
+    whole (item d ds) e =
+        let (one, rest) = and_parts (is_whole 0 high d) (all_whole 0 high ds) e in
+        (λ i. one i && whole ds rest i)
+
+    by : (b : Bool) (o : Option Data) → meets (if b then Required else Refused) (Numbers most high) o ≡ true
+        → (length (array_of o) ≤ most) × (list_all (is_whole 0 high) (array_of o) ≡ true)
+    by b None e = (omega arith, refl)
+    by false (Some d) e = absurd (false≢true e)
+    by true (Some (array ds)) e =
+        let (few, all) = and_parts (nat_le (count_items ds) most) (all_whole 0 high ds) e in
+        let le : count_items ds ≤ most = grind (arith, nat_tests) in
+        (subst (λ n. n ≤ most) (count-list ds) le, whole ds all)
+    by true (Some (string t)) e = absurd (false≢true e)
+    by true (Some (integer t)) e = absurd (false≢true e)
+    by true (Some (float t)) e = absurd (false≢true e)
+    by true (Some (boolean t)) e = absurd (false≢true e)
+    by true (Some (datetime t)) e = absurd (false≢true e)
+    by true (Some (table t)) e = absurd (false≢true e)
+
 -- ---- a table that fits
 
 module _ (ms : Members) (h : fits (rules_of_top ms) ms ≡ true) where
@@ -163,50 +246,111 @@ module _ (ms : Members) (h : fits (rules_of_top ms) ms ≡ true) where
     thrice = backoff_fits.1;
   }
 
-  topology_met : is_met ms topology_rule ≡ true
-  topology_met = met 16 topology_rule refl
+  topology_met : is_met ms (topology_rule (version_of ms)) ≡ true
+  topology_met = met 16 _ refl
 
   degree_met : is_met ms (degree_rule (version_of ms) (says (codes "topology") (codes "tree") ms)) ≡ true
   degree_met = met 20 _ refl
 
-  there : shaped ≡ is_some (topology_of ms)
-  there = there_is_one (get_member (codes "topology") ms) (number (codes "degree") ms) topology_met
+  sized : (form_of ms).sized ≡ is_some (topology_of ms)
+  sized = named_one (says (codes "topology") (codes "tree") ms) (says (codes "topology") (codes "chain") ms)
+      (says (codes "topology") (codes "star") ms) (number (codes "degree") ms)
 
   pub topology_fits : HasDegree (topology_of ms)
   topology_fits = degree_by (version_of ms) ms (says (codes "topology") (codes "tree") ms) (says (codes "topology") (codes "chain") ms)
       (says (codes "topology") (codes "star") ms) degree_met
 
-  pub tree_degree : says (codes "topology") (codes "tree") ms ≡ true → number (codes "degree") ms ≤ 1023
+  pub tree_degree : says (codes "topology") (codes "tree") ms ≡ true → number (codes "degree") ms ≤ most_links
   tree_degree e =
       let r = required_number key.Degree 2 (last_number (version_of ms)) ms
       (subst (λ b. is_met ms (degree_rule (version_of ms) b) ≡ true) e degree_met) in
       let few = few_nodes (version_of ms) in
       omega (arith, r.1, few.1)
 
+  parents_met : (length (array_at (codes "parent") ms) ≤ last_number (version_of ms))
+      × (list_all (is_whole 0 (last_number (version_of ms))) (array_at (codes "parent") ms) ≡ true)
+  parents_met = numbers_met (names_parents ms) key.Parent (last_number (version_of ms)) (last_number (version_of ms)) ms (met 27 _ refl)
+
+  pub few_parents : length (array_at (codes "parent") ms) ≤ most_links
+  few_parents =
+      let few = parents_met.0 in
+      let most = few_nodes (version_of ms) in
+      omega (arith, few, most.1)
+
+  pub whole_parents : list_all (is_whole 0 (last_number (version_of ms))) (array_at (codes "parent") ms) ≡ true
+  whole_parents = parents_met.1
+
+  -- where nothing is made of its size, as many nodes are given as may be there
+  given_fit : is_some (topology_of ms) ≡ false
+      → (1 ≤ given_nodes ms) × (given_nodes ms ≤ most_nodes_in (version_of ms))
+  given_fit none = by (names_parents ms) refl
+    where
+      by : (b : Bool) → names_parents ms ≡ b
+          → (1 ≤ (if b then length (array_at (codes "parent") ms) + 1 else number (codes "nodes") ms))
+          × ((if b then length (array_at (codes "parent") ms) + 1 else number (codes "nodes") ms) ≤ most_nodes_in (version_of ms))
+      by true e =
+          let few = parents_met.0 in
+          let most = few_nodes (version_of ms) in
+          (omega arith, omega (arith, few, most.2))
+      by false e =
+          let free : shaped ≡ false = elim (cases_Bool shaped) [
+            | inl there ↦ absurd (false≢true
+                (sym ((λ i. (sized ∙ none) i || e i)) ∙ shaped_known (version_of ms) (get_member (codes "topology") ms) topology_met there))
+            | inr free ↦ free
+          ] in
+          required_number key.Nodes 1 (most_nodes_in (version_of ms)) ms
+          (subst (λ b. is_met ms (rule_where (not b) key.Nodes (Whole 1 (most_nodes_in (version_of ms)))) ≡ true) free (met 15 _ refl))
+
   pub nodes_fit : (1 ≤ nodes_in (topology_of ms) ms) × (nodes_in (topology_of ms) ms ≤ most_nodes_in (version_of ms))
-  nodes_fit =
-      let n = met 15 (rule key.Nodes (Whole 1 (most_nodes_in (version_of ms))) (if shaped then Refused else Required)) refl in
-      let s = met 17 (rule key.Size (Whole 1 (most_nodes_in (version_of ms))) (if shaped then Required else Refused)) refl in
-      nodes_by (most_nodes_in (version_of ms)) ms (topology_of ms)
-      (subst (λ b. is_met ms (rule key.Nodes (Whole 1 (most_nodes_in (version_of ms))) (if b then Refused else Required)) ≡ true) there n)
-      (subst (λ b. is_met ms (rule key.Size (Whole 1 (most_nodes_in (version_of ms))) (if b then Required else Refused)) ≡ true) there s)
+  nodes_fit = by (topology_of ms) refl
+    where
+      by : (o : Option Topology) → topology_of ms ≡ o → (1 ≤ nodes_in o ms) × (nodes_in o ms ≤ most_nodes_in (version_of ms))
+      by None e = given_fit (ap is_some e)
+      by (Some t) e =
+          required_number key.Size 1 (most_nodes_in (version_of ms)) ms
+          (subst (λ b. is_met ms (rule_where b key.Size (Whole 1 (most_nodes_in (version_of ms)))) ≡ true) (sized ∙ ap is_some e)
+          (met 17 _ refl))
+
+  abbrev delays_listed : Bool
+  delays_listed = names_parents ms && not (is_some (get_member (codes "delays") ms))
+
+  abbrev backs_listed : Bool
+  backs_listed = names_parents ms && not (is_some (get_member (codes "backs") ms))
+
+  delay_met : is_met ms (rule_where (is_some (topology_of ms) || delays_listed) key.Delay (Whole 1 greatest_delay)) ≡ true
+  delay_met = subst (λ b. is_met ms (rule_where (b || delays_listed) key.Delay (Whole 1 greatest_delay)) ≡ true) sized (met 18 _ refl)
+
+  back_met : is_met ms (back_rule ((is_some (topology_of ms) || backs_listed) && allows_back (version_of ms))) ≡ true
+  back_met = subst (λ b. is_met ms (back_rule ((b || backs_listed) && allows_back (version_of ms))) ≡ true) sized (met 19 _ refl)
 
   pub delays_fit : AreDelays (topology_of ms) (delays_of ms)
-  delays_fit =
-      let d = met 18 (rule key.Delay (Whole 1 greatest_delay) (if shaped then Required else Refused)) refl in
-      let b = met 19 (back_rule (shaped && allows_back (version_of ms))) refl in
-      delays_by (version_of ms) ms (topology_of ms)
-      (subst (λ t. is_met ms (rule key.Delay (Whole 1 greatest_delay) (if t then Required else Refused)) ≡ true) there d)
-      (subst (λ t. is_met ms (back_rule (t && allows_back (version_of ms))) ≡ true) there b)
+  delays_fit = delays_by (version_of ms) ms (topology_of ms) delays_listed backs_listed delay_met back_met
 
-  pub draws_fit : length (array_at (codes "draw") ms) ≤ most_listed
-  draws_fit =
-      let few = few_listed key.Draw (most_listed_in (version_of ms)) ms (met 23 _ refl) in
-      let most = few_in (version_of ms) in
-      omega arith
+  pub delays_met : is_met ms (rule_if (names_parents ms) key.Delays (Each (length (array_at (codes "parent") ms)) 1 greatest_delay)) ≡ true
+  delays_met = met 28 _ refl
 
-  pub sessions_fit : length (array_at (codes "session") ms) ≤ most_listed
-  sessions_fit =
-      let few = few_listed key.Session (most_listed_in (version_of ms)) ms (met 24 _ refl) in
-      let most = few_in (version_of ms) in
-      omega arith
+  pub backs_met : is_met ms (rule_if (names_parents ms) key.Backs (Each (length (array_at (codes "parent") ms)) 1 greatest_delay)) ≡ true
+  backs_met = met 29 _ refl
+
+  -- where parents are given without delays of each link, one delay is given for all
+  pub one_delay : names_parents ms ≡ true → is_some (get_member (codes "delays") ms) ≡ false → IsLinkDelay (number (codes "delay") ms)
+  one_delay p none =
+      required_number key.Delay 1 greatest_delay ms
+      (subst (λ b. is_met ms (rule_where b key.Delay (Whole 1 greatest_delay)) ≡ true)
+      (ap (λ b. is_some (topology_of ms) || b) (λ i. p i && not (none i)) ∙ or-right (is_some (topology_of ms))) delay_met)
+    where
+      or-right : (b : Bool) → (b || true) ≡ true
+      or-right true = refl
+      or-right false = refl
+
+  -- and the way back is in range where the way there is
+  pub one_back : (other : ℕ) → IsLinkDelay other → IsLinkDelay (unwrap_or (optional_number (codes "back") ms) other)
+  one_back other fits =
+      or_fits ((is_some (topology_of ms) || backs_listed) && allows_back (version_of ms)) key.Back 1 greatest_delay other ms back_met
+      fits.0 fits.1
+
+  pub draws_fit : FewElements (version_of ms) (array_at (codes "draw") ms)
+  draws_fit = few_elements (version_of ms) key.Draw ms (met 23 _ refl)
+
+  pub sessions_fit : FewElements (version_of ms) (array_at (codes "session") ms)
+  sessions_fit = few_elements (version_of ms) key.Session ms (met 24 _ refl)

@@ -1,8 +1,9 @@
 -- The scenario that a table describes, wherever its keys are as the format asks.
-use Rattle.std.specs.Prelude.{ℕ, zero, suc, ◌+◌, ◌-◌, ◌/◌, pos, Bool, false, List, [], ◌∷◌, Option, Some, None}
-use Rattle.std.specs.Prelude.{unwrap_or, codes, map, nat_le, ◌==◌, if◌then◌else◌}
+use Rattle.std.specs.Prelude.{ℕ, zero, suc, ◌+◌, ◌-◌, ◌*◌, ◌/◌, Bool, false, ◌||◌, List, [], ◌∷◌, Option, Some, None}
+use Rattle.std.specs.Prelude.{unwrap_or, is_some, codes, map, flat_map, length, slice_get, nat_le, ◌==◌}
+use Rattle.std.specs.Prelude.{if◌then◌else◌}
 use Rattle.std.specs.Option.{option_and_then}
-use Rattle.toml.specs.Data.{Data, Items, Members, integer, array, table, no_items, item, no_members, get_member}
+use Rattle.toml.specs.Data.{Data, Items, Members, array, table, no_items, item, no_members, get_member}
 use Rattle.srm_net.specs.declared.role.Role.{Role}
 use Rattle.srm_net.specs.declared.role.Role.TheVariants.{Sender, Receiver, Late, Listener}
 use Rattle.srm_net.specs.declared.link.LinkSpec.{LinkSpec}
@@ -14,23 +15,16 @@ use Rattle.srm_scenario.specs.declared.parts.MemberSpec.{MemberSpec}
 use Rattle.srm_scenario.specs.declared.parts.DrawSpec.{DrawSpec}
 use Rattle.srm_scenario.specs.declared.parts.SessionSpec.{SessionSpec}
 use Rattle.srm_scenario.specs.declared.delays.Delays.{Delays}
+use Rattle.srm_scenario.specs.declared.form.Form.{Form}
 use Rattle.srm_scenario.specs.declared.version.Version.{Version}
 use Rattle.srm_scenario.specs.declared.version.Version.TheVariants.{One, Two, Three}
 use Rattle.srm_scenario.specs.declared.topology.Topology.{Topology}
 use Rattle.srm_scenario.specs.declared.topology.Topology.TheVariants.{Chain, Star, Tree}
 use Rattle.srm_scenario.specs.Plain.{PlainScenario, drop_rules_of}
-use Rattle.srm_scenario.specs.Rules.{is_text}
+pub use Rattle.srm_scenario.specs.Rules.{number_of, optional_number}
+use Rattle.srm_scenario.specs.Rules.{is_text, times_of}
 
 -- ---- values
-
--- the whole number that a value is
-abbrev pub number_of : Data → Option ℕ
-number_of (integer (pos n)) = Some n
-number_of d = None
-
--- the whole number at a key, if there is one
-abbrev pub optional_number : List ℕ → Members → Option ℕ
-optional_number key ms = option_and_then number_of (get_member key ms)
 
 -- the whole number at a key, or 0
 abbrev pub number : List ℕ → Members → ℕ
@@ -125,6 +119,51 @@ outage_of ms = record {
   to = number (codes "to") ms;
 }
 
+-- ---- repetition
+
+-- how far apart the elements are for which one stands
+abbrev pub every_of : Data → ℕ
+every_of d = unwrap_or (optional_number (codes "every") (table_of d)) 1
+
+-- so many copies of an element, from the k-th on
+abbrev pub copies : {A : Type 0} → (ℕ → A) → ℕ → ℕ → List A
+copies copy k zero = []
+copies copy k (suc n) = copy k ∷ copies copy (k + 1) n
+
+-- the elements for which one stands: its copies from the one of number 0 on, by their numbers and how far apart they are
+abbrev pub repeated : {A : Type 0} → (ℕ → ℕ → A → A) → (Members → A) → Data → List A
+repeated copy reading d = copies (λ k. copy k (every_of d) (reading (table_of d))) 0 (times_of d)
+
+-- the copies of an element by their numbers k, counted from 0, and how far apart they are
+abbrev pub member_copy : ℕ → ℕ → MemberSpec → MemberSpec
+member_copy k every m = record {
+  node = m.node + k * every;
+  role = m.role;
+  stream = m.stream + k;
+  join = m.join;
+  leave = m.leave;
+  pages = m.pages;
+}
+
+abbrev pub draw_copy : ℕ → ℕ → DrawSpec → DrawSpec
+draw_copy k every d = record { member = d.member; page = d.page; ink = d.ink; at = d.at + k * every }
+
+abbrev pub session_copy : ℕ → ℕ → SessionSpec → SessionSpec
+session_copy k every r = record { member = r.member; at = r.at + k * every }
+
+abbrev pub drop_copy : ℕ → ℕ → DropSpec → DropSpec
+drop_copy k every d = record {
+  link = d.link;
+  id = record { sender = d.id.sender; count = d.id.count + k * every };
+}
+
+abbrev pub outage_copy : ℕ → ℕ → OutageSpec → OutageSpec
+outage_copy k every o = record { link = o.link; from = o.from + k * every; to = o.to + k * every }
+
+-- what the elements at a key stand for, one after the other
+abbrev pub repeated_at : {A : Type 0} → List ℕ → (ℕ → ℕ → A → A) → (Members → A) → Members → List A
+repeated_at key copy reading ms = flat_map (repeated copy reading) (array_at key ms)
+
 -- what the elements at a key are read as
 abbrev pub elements_at : {A : Type 0} → List ℕ → (Members → A) → Members → List A
 elements_at key reading ms = map (λ d. reading (table_of d)) (array_at key ms)
@@ -156,23 +195,77 @@ links_to_parents t delays v (suc n) = record { a = parent_in t v; b = v; delay =
 abbrev pub delays_of : Members → Delays
 delays_of ms = record { delay = number (codes "delay") ms; back = back_at ms }
 
+-- whether the parents of nodes are given in place of links
+abbrev pub names_parents : Members → Bool
+names_parents ms = says (codes "topology") (codes "parents") ms
+
+-- the number at a place of a list that may be there, and this one where there is no list
+abbrev pub number_at : Option (List Data) → ℕ → ℕ → ℕ
+number_at None k other = other
+number_at (Some ds) k other = unwrap_or (option_and_then number_of (slice_get ds k)) 0
+
+-- the values of the array at a key, if the table has the key
+abbrev pub values_at : List ℕ → Members → Option (List Data)
+values_at key ms = if is_some (get_member key ms) then Some (array_at key ms) else None
+
+-- the delay of link k from the parent, and back, which takes as long where nothing is said of it
+abbrev pub delay_at : Members → ℕ → ℕ
+delay_at ms k = number_at (values_at (codes "delays") ms) k (number (codes "delay") ms)
+
+abbrev pub back_delay_at : Members → ℕ → ℕ
+back_delay_at ms k =
+    number_at (values_at (codes "backs") ms) k (unwrap_or (optional_number (codes "back") ms) (delay_at ms k))
+
+-- the links of nodes to these parents: link k, and those after it, joins node k + 1 to its parent
+abbrev pub links_from : Members → ℕ → List ℕ → List LinkSpec
+links_from ms k [] = []
+links_from ms k (p ∷ ps) = record { a = p; b = k + 1; delay = delay_at ms k; back = back_delay_at ms k }
+    ∷ links_from ms (k + 1) ps
+
+-- the parents of nodes 1, 2, ..
+abbrev pub parents_in : Members → List ℕ
+parents_in ms = map (λ d. unwrap_or (number_of d) 0) (array_at (codes "parent") ms)
+
+-- the links that a table gives without a size: to the parents of nodes, or as they are listed
+abbrev pub given_links : Members → List LinkSpec
+given_links ms = if names_parents ms then links_from ms 0 (parents_in ms) else elements_at (codes "link") link_of ms
+
+-- how many nodes there are without a size
+abbrev pub given_nodes : Members → ℕ
+given_nodes ms =
+    if names_parents ms then length (array_at (codes "parent") ms) + 1 else number (codes "nodes") ms
+
 abbrev pub nodes_in : Option Topology → Members → ℕ
-nodes_in None ms = number (codes "nodes") ms
+nodes_in None ms = given_nodes ms
 nodes_in (Some t) ms = number (codes "size") ms
 
 abbrev pub links_in : Option Topology → Members → List LinkSpec
-links_in None ms = elements_at (codes "link") link_of ms
+links_in None ms = given_links ms
 links_in (Some t) ms = links_to_parents t (delays_of ms) 1 (number (codes "size") ms - 1)
+
+-- what a table says of its network
+abbrev pub form_of : Members → Form
+form_of ms = record {
+  shaped = is_some (get_member (codes "topology") ms);
+  sized =
+      says (codes "topology") (codes "tree") ms
+      || (says (codes "topology") (codes "chain") ms || says (codes "topology") (codes "star") ms);
+  tree = says (codes "topology") (codes "tree") ms;
+  parents = names_parents ms;
+  listed = length (array_at (codes "parent") ms);
+  delays = is_some (get_member (codes "delays") ms);
+  backs = is_some (get_member (codes "backs") ms);
+}
 
 -- ---- the scenario
 
 -- the drops as they are listed
 abbrev pub listed_drops : Members → List DropSpec
-listed_drops ms = elements_at (codes "drop") drop_of ms
+listed_drops ms = repeated_at (codes "drop") drop_copy drop_of ms
 
 -- the outages, in the order in which they are listed
 abbrev pub outages_in : Members → List OutageSpec
-outages_in ms = elements_at (codes "outage") outage_of ms
+outages_in ms = repeated_at (codes "outage") outage_copy outage_of ms
 
 abbrev pub constants_of : Members → Constants
 constants_of ms = record {
@@ -214,8 +307,8 @@ described_scenario ms = record {
   room = room_of ms;
   nodes = nodes_in (topology_of ms) ms;
   links = links_in (topology_of ms) ms;
-  members = elements_at (codes "member") member_of ms;
-  draws = elements_at (codes "draw") draw_of ms;
-  sessions = elements_at (codes "session") session_of ms;
+  members = repeated_at (codes "member") member_copy member_of ms;
+  draws = repeated_at (codes "draw") draw_copy draw_of ms;
+  sessions = repeated_at (codes "session") session_copy session_of ms;
   drops = drop_rules_of (listed_drops ms) (outages_in ms);
 }

@@ -8,9 +8,10 @@ use Rattle.srm_scenario.specs.declared.delays.Delays.{Delays}
 use Rattle.srm_scenario.specs.declared.topology.Topology.{Topology}
 use Rattle.srm_scenario.specs.Accepted.{AreConstants}
 use Rattle.srm_scenario.specs.Plain.{PlainScenario, drop_rules_of}
-use Rattle.srm_scenario.specs.Described.{number, constants_of, room_of, topology_of, delays_of, nodes_in, elements_at}
-use Rattle.srm_scenario.specs.Described.{link_of, draw_of, session_of, listed_drops, outages_in, links_to_parents}
-use Rattle.srm_scenario.specs.Faults.{key_faults, meaning_faults, is_star, entry_of}
+use Rattle.srm_scenario.specs.Described.{number, constants_of, room_of, topology_of, delays_of, nodes_in, repeated_at}
+use Rattle.srm_scenario.specs.Described.{draw_of, draw_copy, session_of, session_copy, listed_drops, outages_in, given_links}
+use Rattle.srm_scenario.specs.Described.{links_to_parents}
+use Rattle.srm_scenario.specs.Faults.{key_faults, meaning_faults, is_star, entry_of, entry_copy}
 use Rattle.srm_scenario.specs.LookUps.{HasDegree, AreDelays}
 use Rattle.srm_net.specs.Limits.{end_of_time, most_listed}
 
@@ -29,10 +30,10 @@ pub record IsDraft (ms : Members) (l : Draft) : Type 0 where
   pub some_nodes : 1 ≤ l.nodes
   pub delays : delays_of ms ≡ l.delays
   pub delays_fit : AreDelays l.topology l.delays
-  pub links : elements_at (codes "link") link_of ms ≡ l.links.items
-  pub members : elements_at (codes "member") entry_of ms ≡ l.members.items
-  pub draws : elements_at (codes "draw") draw_of ms ≡ l.draws.items
-  pub sessions : elements_at (codes "session") session_of ms ≡ l.sessions.items
+  pub links : given_links ms ≡ l.links.items
+  pub members : repeated_at (codes "member") entry_copy entry_of ms ≡ l.members.items
+  pub draws : repeated_at (codes "draw") draw_copy draw_of ms ≡ l.draws.items
+  pub sessions : repeated_at (codes "session") session_copy session_of ms ≡ l.sessions.items
   pub drops : listed_drops ms ≡ l.drops.items
   pub outages : outages_in ms ≡ l.outages.items
   pub few_draws : length l.draws.items ≤ most_listed
@@ -40,7 +41,7 @@ pub record IsDraft (ms : Members) (l : Draft) : Type 0 where
 
 -- ---- the scenario of what is listed
 
--- the links of a topology with so many nodes, or else those listed
+-- the links of a topology with so many nodes, or else those given
 abbrev pub links_listed : Option Topology → ℕ → Delays → List LinkSpec → List LinkSpec
 links_listed None nodes delays links = links
 links_listed (Some t) nodes delays links = links_to_parents t delays 1 (nodes - 1)

@@ -1,8 +1,8 @@
 -- What is wrong with a table or a text that is to be a scenario, and the scenario where nothing is.
 use Rattle.std.specs.Prelude.{⊤, ◌≡◌, ◌⊎◌, ℕ, ◌+◌, Bool, true, false, not, ◌&&◌, ◌||◌, List, [], ◌∷◌, ◌++◌, Option}
-use Rattle.std.specs.Prelude.{Some, None, Result, Ok, Err, is_some, codes, length, slice_get, nat_lt, ◌==◌}
+use Rattle.std.specs.Prelude.{Some, None, Result, Ok, Err, is_some, codes, length, slice_get, nat_le, nat_lt, ◌==◌}
 use Rattle.std.specs.Prelude.{if◌then◌else◌}
-use Rattle.std.specs.List.{list_any}
+use Rattle.std.specs.List.{list_any, list_all}
 use Rattle.std.specs.Io.KnownBytes.{IsAtEnd}
 use Rattle.std.specs.Str.{is_utf8}
 use Rattle.toml.specs.Data.{Data, Members, get_member}
@@ -28,8 +28,13 @@ use Rattle.srm_scenario.specs.declared.rule.Rule.{Rule}
 use Rattle.srm_scenario.specs.Rules.{top_rules, link_rules, member_rules, draw_rules, session_rules, drop_rules}
 use Rattle.srm_scenario.specs.Rules.{outage_rules, fits, fits_element}
 use Rattle.srm_scenario.specs.Presence.{is_present}
-use Rattle.srm_scenario.specs.Described.{version_of, member_of, says, array_at, table_of, elements_at, topology_of}
-use Rattle.srm_scenario.specs.Described.{constants_of, listed_drops, described_scenario}
+use Rattle.srm_scenario.specs.Described.{version_of, member_of, array_at, table_of, repeated_at, topology_of, form_of}
+use Rattle.srm_scenario.specs.Described.{constants_of, listed_drops, described_scenario, repeated, member_copy}
+use Rattle.srm_scenario.specs.Described.{draw_of, draw_copy, session_of, session_copy, drop_of, drop_copy}
+use Rattle.srm_scenario.specs.Described.{outage_of, outage_copy}
+use Rattle.srm_scenario.specs.declared.version.Version.{Version}
+use Rattle.srm_scenario.specs.KeyLimits.{last_count, last_stream}
+use Rattle.srm_net.specs.Limits.{end_of_time, most_links}
 
 -- one fault for each element that fails a test, at its place, the first element being at place i
 abbrev pub faults_by : {A : Type 0} → (ℕ → ScenarioFault) → (A → Bool) → ℕ → List A → List ScenarioFault
@@ -60,16 +65,72 @@ accepted rules reading ms = if fits rules ms then Some (reading ms) else None
 abbrev pub accepted_element : {A : Type 0} → List Rule → (Members → A) → Data → Option A
 accepted_element rules reading d = if fits_element rules d then Some (reading (table_of d)) else None
 
--- the top table's rules, by its version, the first values of the constants, and the topology that it names
+-- the top table's rules, by its version, the first values of the constants, and what it says of its network
 abbrev pub rules_of_top : Members → List Rule
-rules_of_top ms = top_rules (version_of ms) (constants_of ms) (is_some (get_member (codes "topology") ms))
-    (says (codes "topology") (codes "tree") ms)
+rules_of_top ms = top_rules (version_of ms) (constants_of ms) (form_of ms)
 
 abbrev pub top_faults : Members → List ScenarioFault
 top_faults ms = fault_unless (fits (rules_of_top ms) ms) (BadKey part.Top 0)
 
 abbrev pub element_faults : Part → List Rule → List Data → List ScenarioFault
 element_faults p rules ds = faults_by (BadKey p) (fits_element rules) 0 ds
+
+-- ---- faults of elements that may stand for several
+
+-- a table that fits the rules, and each element for which it stands is in range
+abbrev pub fits_repeated : {A : Type 0} → List Rule → (Members → A) → (ℕ → ℕ → A → A) → (A → Bool) → Data → Bool
+fits_repeated rules reading copy in_range d = fits_element rules d && list_all in_range (repeated copy reading d)
+
+abbrev pub repeated_faults : {A : Type 0} → Part → List Rule → (Members → A) → (ℕ → ℕ → A → A) → (A → Bool) → List Data
+    → List ScenarioFault
+repeated_faults p rules reading copy in_range ds =
+    faults_by (BadKey p) (fits_repeated rules reading copy in_range) 0 ds
+
+-- a member, and whether pages are given for it
+abbrev pub entry_of : Members → MemberEntry
+entry_of ms = record { spec = member_of ms; has_pages = is_some (get_member (codes "pages") ms) }
+
+-- the copies of what is read of a member
+abbrev pub entry_copy : ℕ → ℕ → MemberEntry → MemberEntry
+entry_copy k every e = record { spec = member_copy k every e.spec; has_pages = e.has_pages }
+
+-- the numbers that rise from copy to copy do not pass the ranges of their keys
+abbrev pub entry_in_range : MemberEntry → Bool
+entry_in_range e = nat_le e.spec.node most_links && nat_le e.spec.stream last_stream
+
+abbrev pub draw_in_range : DrawSpec → Bool
+draw_in_range d = nat_le d.at end_of_time
+
+abbrev pub session_in_range : SessionSpec → Bool
+session_in_range r = nat_le r.at end_of_time
+
+abbrev pub drop_in_range : DropSpec → Bool
+drop_in_range d = nat_le d.id.count last_count
+
+abbrev pub outage_in_range : OutageSpec → Bool
+outage_in_range o = nat_le o.from end_of_time && nat_le o.to end_of_time
+
+-- the faults of the elements at a key, in this version
+abbrev pub faults_of_links : Version → List Data → List ScenarioFault
+faults_of_links version ds = element_faults part.Link (link_rules version) ds
+
+abbrev pub faults_of_members : Version → List Data → List ScenarioFault
+faults_of_members version ds =
+    repeated_faults part.Member (member_rules version) entry_of entry_copy entry_in_range ds
+
+abbrev pub faults_of_draws : Version → List Data → List ScenarioFault
+faults_of_draws version ds = repeated_faults part.Draw (draw_rules version) draw_of draw_copy draw_in_range ds
+
+abbrev pub faults_of_sessions : Version → List Data → List ScenarioFault
+faults_of_sessions version ds =
+    repeated_faults part.Session (session_rules version) session_of session_copy session_in_range ds
+
+abbrev pub faults_of_drops : Version → List Data → List ScenarioFault
+faults_of_drops version ds = repeated_faults part.Drop (drop_rules version) drop_of drop_copy drop_in_range ds
+
+abbrev pub faults_of_outages : Version → List Data → List ScenarioFault
+faults_of_outages version ds =
+    repeated_faults part.Outage (outage_rules version) outage_of outage_copy outage_in_range ds
 
 -- ---- faults of meaning
 
@@ -84,10 +145,6 @@ is_star t = false
 abbrev pub leaves_after : ℕ → Option ℕ → Bool
 leaves_after join None = true
 leaves_after join (Some end) = nat_lt join end
-
--- a member, and whether pages are given for it
-abbrev pub entry_of : Members → MemberEntry
-entry_of ms = record { spec = member_of ms; has_pages = is_some (get_member (codes "pages") ms) }
 
 -- whether one of these members is on the node
 abbrev pub is_taken : List MemberEntry → ℕ → Bool
@@ -145,12 +202,12 @@ unfoldable pub key_faults : Members → List ScenarioFault
 key_faults ms =
     all_of (
     top_faults ms
-    ∷ element_faults part.Link (link_rules (version_of ms)) (array_at (codes "link") ms)
-    ∷ element_faults part.Member (member_rules (version_of ms)) (array_at (codes "member") ms)
-    ∷ element_faults part.Draw (draw_rules (version_of ms)) (array_at (codes "draw") ms)
-    ∷ element_faults part.Session (session_rules (version_of ms)) (array_at (codes "session") ms)
-    ∷ element_faults part.Drop (drop_rules (version_of ms)) (array_at (codes "drop") ms)
-    ∷ element_faults part.Outage (outage_rules (version_of ms)) (array_at (codes "outage") ms)
+    ∷ faults_of_links (version_of ms) (array_at (codes "link") ms)
+    ∷ faults_of_members (version_of ms) (array_at (codes "member") ms)
+    ∷ faults_of_draws (version_of ms) (array_at (codes "draw") ms)
+    ∷ faults_of_sessions (version_of ms) (array_at (codes "session") ms)
+    ∷ faults_of_drops (version_of ms) (array_at (codes "drop") ms)
+    ∷ faults_of_outages (version_of ms) (array_at (codes "outage") ms)
     ∷ [])
 
 -- the faults of what a table describes: a scenario, whether its topology is a star, its members with whether pages are
@@ -170,7 +227,7 @@ meaning_faults s star entries listed =
 unfoldable pub faults_of : Members → List ScenarioFault
 faults_of ms =
     key_faults ms ++ meaning_faults (described_scenario ms) (is_star (topology_of ms))
-    (elements_at (codes "member") entry_of ms) (listed_drops ms)
+    (repeated_at (codes "member") entry_copy entry_of ms) (listed_drops ms)
 
 -- the scenario, or the first of the faults
 abbrev pub answer : List ScenarioFault → PlainScenario → Result PlainScenario ScenarioFault

@@ -23,6 +23,10 @@ last_count = 4294967295
 abbrev pub last_stream : ℕ
 last_stream = 9223372036854775807
 
+-- for how many elements one may stand
+abbrev pub most_times : ℕ
+most_times = 65535
+
 -- how many pages a late member asks for at most
 abbrev pub most_pages : ℕ
 most_pages = 256

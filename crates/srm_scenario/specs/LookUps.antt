@@ -1,5 +1,5 @@
 -- What the top table of a scenario file holds, where it fits its rules.
-use Rattle.std.specs.Prelude.{◌≡◌, ℕ, ◌≤◌, List, Option, Some, None, codes, length}
+use Rattle.std.specs.Prelude.{◌≡◌, ℕ, ◌≤◌, true, false, List, Option, Some, None, codes, length, sum_by}
 use Rattle.toml.specs.Data.{Data, Members}
 use Rattle.srm_net.specs.Network.{IsLinkDelay}
 use Rattle.srm_scenario.specs.declared.delays.Delays.{Delays}
@@ -11,11 +11,12 @@ use Rattle.srm_scenario.specs.declared.parts.Room.{Room}
 use Rattle.srm_scenario.specs.Accepted.{AreConstants}
 use Rattle.srm_scenario.specs.Described.{number, array_at, version_of, topology_of, delays_of, constants_of, nodes_in}
 use Rattle.srm_scenario.specs.Described.{room_of}
-use Rattle.srm_net.specs.Limits.{end_of_time, most_listed}
+use Rattle.srm_net.specs.Limits.{end_of_time, most_links, most_listed, most_nodes}
+use Rattle.srm_scenario.specs.Rules.{allows_repetition, times_of}
 
--- the degree of a tree is 2 to 1,023
+-- the degree of a tree is 2 to 65,534
 abbrev pub HasDegree : Option Topology → Type 0
-HasDegree (Some (Tree degree)) = (2 ≤ degree) × (degree ≤ 1023)
+HasDegree (Some (Tree degree)) = (2 ≤ degree) × (degree ≤ most_links)
 HasDegree t = Unit {0}
 
 -- the table's version, end of the run, constants and their room
@@ -41,17 +42,22 @@ pub record HasShape (ms : Members) (t : Option Topology) (nodes : ℕ) (delays :
     pub topology_fits : HasDegree t
     pub nodes_are : nodes_in (topology_of ms) ms ≡ nodes
     pub some_nodes : 1 ≤ nodes
-    pub few_nodes : nodes ≤ 1024
+    pub few_nodes : nodes ≤ most_nodes
     pub delays_are : delays_of ms ≡ delays
     pub delays_fit : AreDelays t delays
     pub links_are : links ≡ array_at (codes "link") ms
+
+-- these elements stand for at most as many as may be listed, or are as few where each stands for itself alone
+pub record FewElements (version : Version) (ds : List Data) : Type 0 where
+  pub stand_for : allows_repetition version ≡ true → sum_by times_of ds ≤ most_listed
+  pub are : allows_repetition version ≡ false → length ds ≤ most_listed
 
 -- the table's other arrays
 pub record HasArrays (ms : Members) (members draws sessions drops outages : List Data) : Type 0 where
   pub members_are : members ≡ array_at (codes "member") ms
   pub draws_are : draws ≡ array_at (codes "draw") ms
   pub sessions_are : sessions ≡ array_at (codes "session") ms
-  pub few_draws : length draws ≤ most_listed
-  pub few_sessions : length sessions ≤ most_listed
+  pub few_draws : FewElements (version_of ms) draws
+  pub few_sessions : FewElements (version_of ms) sessions
   pub drops_are : drops ≡ array_at (codes "drop") ms
   pub outages_are : outages ≡ array_at (codes "outage") ms

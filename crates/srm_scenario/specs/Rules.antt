@@ -1,7 +1,8 @@
 -- The keys of a scenario file: what each may hold, and whether it must be there, in each version of the format.
-use Rattle.std.specs.Prelude.{ℕ, suc, ◌-◌, pos, Bool, true, false, ◌&&◌, List, [], ◌∷◌, ◌++◌, Option, Some, None}
-use Rattle.std.specs.Prelude.{codes, map, nat_le, if◌then◌else◌}
+use Rattle.std.specs.Prelude.{ℕ, suc, ◌+◌, ◌-◌, pos, Bool, true, false, not, ◌&&◌, ◌||◌, List, [], ◌∷◌, ◌++◌, Option, Some}
+use Rattle.std.specs.Prelude.{None, codes, map, nat_le, ◌==◌, if◌then◌else◌}
 use Rattle.std.specs.List.{list_any, list_all}
+use Rattle.std.specs.Option.{option_and_then}
 use Rattle.std.specs.Str.{bytes_eq}
 use Rattle.srm_scenario.specs.declared.version.Version.{Version}
 use Rattle.srm_scenario.specs.declared.version.Version.TheVariants.{One, Two, Three}
@@ -9,23 +10,25 @@ use Rattle.toml.specs.Data.{Data, Items, Members, integer, string, array, table,
 use Rattle.toml.specs.Data.{get_member}
 use Rattle.srm_net.specs.Limits.{end_of_time, greatest_constant}
 use Rattle.srm_scenario.specs.declared.parts.Constants.{Constants}
+use Rattle.srm_scenario.specs.declared.form.Form.{Form}
 use Rattle.srm_scenario.specs.declared.key.Key.{Key}
 use Rattle.srm_scenario.specs.declared.key.Key.TheVariants as key
 use Rattle.srm_scenario.specs.declared.rule.Kind.{Kind}
-use Rattle.srm_scenario.specs.declared.rule.Kind.TheVariants.{Whole, Word, Numbers, Elements}
+use Rattle.srm_scenario.specs.declared.rule.Kind.TheVariants.{Whole, Word, Numbers, Each, Elements, Repeated}
 use Rattle.srm_scenario.specs.declared.rule.Need.{Need}
 use Rattle.srm_scenario.specs.declared.rule.Need.TheVariants.{Required, Optional, Refused}
 use Rattle.srm_scenario.specs.declared.rule.Rule.{Rule}
 use Rattle.srm_scenario.specs.declared.rule.Words.{Words}
-use Rattle.srm_scenario.specs.declared.rule.Words.TheVariants.{Roles, Topologies}
+use Rattle.srm_scenario.specs.declared.rule.Words.TheVariants.{Roles, Topologies, TopologiesAndParents}
 use Rattle.srm_scenario.specs.Keys.{name_of}
 use Rattle.srm_scenario.specs.KeyLimits.{greatest_delay, greatest_limit, last_count, last_ink, last_page, last_stream}
-use Rattle.srm_scenario.specs.KeyLimits.{most_pages}
+use Rattle.srm_scenario.specs.KeyLimits.{most_pages, most_times}
 
 -- the words of a set, one of which a key may hold
 abbrev pub spellings_of : Words → List (List ℕ)
 spellings_of Roles = codes "sender" ∷ codes "receiver" ∷ codes "late" ∷ codes "listener" ∷ []
 spellings_of Topologies = codes "chain" ∷ codes "star" ∷ codes "tree" ∷ []
+spellings_of TopologiesAndParents = codes "chain" ∷ codes "star" ∷ codes "tree" ∷ codes "parents" ∷ []
 
 -- what the format says of one key
 abbrev pub rule : Key → Kind → Need → Rule
@@ -37,17 +40,17 @@ rule key kind need = record { key = key; kind = kind; need = need }
 abbrev pub most_nodes_in : Version → ℕ
 most_nodes_in One = 256
 most_nodes_in Two = 1024
-most_nodes_in Three = 1024
+most_nodes_in Three = 65535
 
 -- the last number that a node, a link or a member may have
 abbrev pub last_number : Version → ℕ
 last_number version = most_nodes_in version - 1
 
--- how many draws there are at most, and how many session messages, drops and outages
+-- how many draws there are at most, and how many session messages, drops and outages, of each kind
 abbrev pub most_listed_in : Version → ℕ
 most_listed_in One = 4096
 most_listed_in Two = 4096
-most_listed_in Three = 4096
+most_listed_in Three = 65535
 
 -- whether links may have a second delay
 abbrev pub allows_back : Version → Bool
@@ -66,6 +69,18 @@ abbrev pub allows_limits : Version → Bool
 allows_limits One = false
 allows_limits Two = false
 allows_limits Three = true
+
+-- whether the parents of nodes may be given in place of links
+abbrev pub allows_parents : Version → Bool
+allows_parents One = false
+allows_parents Two = false
+allows_parents Three = true
+
+-- whether an element may stand for several
+abbrev pub allows_repetition : Version → Bool
+allows_repetition One = false
+allows_repetition Two = false
+allows_repetition Three = true
 
 -- the greatest first value of a constant of timers, in thousandths
 abbrev pub greatest_constant_in : Version → ℕ
@@ -113,8 +128,11 @@ limit_rules allowed first =
     ∷ []
 
 -- the topology that the top table names, and the degree of its tree
-abbrev pub topology_rule : Rule
-topology_rule = rule key.Topology (Word Topologies) Optional
+abbrev pub topologies_in : Version → Words
+topologies_in version = if allows_parents version then TopologiesAndParents else Topologies
+
+abbrev pub topology_rule : Version → Rule
+topology_rule version = rule key.Topology (Word (topologies_in version)) Optional
 
 abbrev pub degree_rule : Version → Bool → Rule
 degree_rule version tree = rule key.Degree (Whole 2 (last_number version)) (if tree then Required else Refused)
@@ -123,38 +141,54 @@ degree_rule version tree = rule key.Degree (Whole 2 (last_number version)) (if t
 abbrev pub back_rule : Bool → Rule
 back_rule allowed = rule_if allowed key.Back (Whole 1 greatest_delay)
 
--- nodes and links, in the top table: `shaped` where it names a topology, `tree` where that is a tree
-abbrev pub shape_rules : Version → Bool → Bool → List Rule
-shape_rules version shaped tree =
-    rule key.Nodes (Whole 1 (most_nodes_in version)) (if shaped then Refused else Required)
-    ∷ topology_rule
-    ∷ rule key.Size (Whole 1 (most_nodes_in version)) (if shaped then Required else Refused)
-    ∷ rule key.Delay (Whole 1 greatest_delay) (if shaped then Required else Refused)
-    ∷ back_rule (shaped && allows_back version)
-    ∷ degree_rule version tree
-    ∷ rule key.Link (Elements (last_number version)) (if shaped then Refused else Optional)
+-- a key that must be there in one case, and must not in the other
+abbrev pub rule_where : Bool → Key → Kind → Rule
+rule_where here k kind = rule k kind (if here then Required else Refused)
+
+-- nodes and links, in a top table of this form
+abbrev pub shape_rules : Version → Form → List Rule
+shape_rules version form =
+    rule_where (not form.shaped) key.Nodes (Whole 1 (most_nodes_in version))
+    ∷ topology_rule version
+    ∷ rule_where form.sized key.Size (Whole 1 (most_nodes_in version))
+    ∷ rule_where (form.sized || (form.parents && not form.delays)) key.Delay (Whole 1 greatest_delay)
+    ∷ back_rule ((form.sized || (form.parents && not form.backs)) && allows_back version)
+    ∷ degree_rule version form.tree
+    ∷ rule_if (not form.shaped) key.Link (Elements (last_number version))
     ∷ []
 
--- the outages of links
-abbrev pub outage_rule : Version → Rule
-outage_rule version = rule_if (allows_outages version) key.Outage (Elements (most_listed_in version))
+-- the parents of nodes 1, 2, .., and of the link to each the delays from the parent and back
+abbrev pub parent_rules : Version → Form → List Rule
+parent_rules version form =
+    rule_where form.parents key.Parent (Numbers (last_number version) (last_number version))
+    ∷ rule_if form.parents key.Delays (Each form.listed 1 greatest_delay)
+    ∷ rule_if form.parents key.Backs (Each form.listed 1 greatest_delay)
+    ∷ []
+
+-- at most so many elements, each of which may stand for several in some versions
+abbrev pub elements_in : Version → ℕ → Kind
+elements_in version most = if allows_repetition version then Repeated most else Elements most
+
+-- at most as many as may be listed
+abbrev pub listed_in : Version → Kind
+listed_in version = elements_in version (most_listed_in version)
 
 -- the other arrays of the top table
 abbrev pub array_rules : Version → List Rule
 array_rules version =
-    rule key.Member (Elements (most_nodes_in version)) Optional
-    ∷ rule key.Draw (Elements (most_listed_in version)) Optional
-    ∷ rule key.Session (Elements (most_listed_in version)) Optional
-    ∷ rule key.Drop (Elements (most_listed_in version)) Optional
-    ∷ outage_rule version
+    rule key.Member (elements_in version (most_nodes_in version)) Optional
+    ∷ rule key.Draw (listed_in version) Optional
+    ∷ rule key.Session (listed_in version) Optional
+    ∷ rule key.Drop (listed_in version) Optional
+    ∷ rule_if (allows_outages version) key.Outage (listed_in version)
     ∷ []
 
--- the top table, with these first values of the constants: `shaped` where it names a topology, `tree` where that is a
--- tree
-abbrev pub top_rules : Version → Constants → Bool → Bool → List Rule
-top_rules version first shaped tree =
+-- the top table, of this form and with these first values of the constants
+abbrev pub top_rules : Version → Constants → Form → List Rule
+top_rules version first form =
     number_rules version
-    ++ (limit_rules (allows_limits version) first ++ (shape_rules version shaped tree ++ array_rules version))
+    ++ (limit_rules (allows_limits version) first
+    ++ (shape_rules version form ++ (array_rules version ++ parent_rules version form)))
 
 abbrev pub link_rules : Version → List Rule
 link_rules version =
@@ -162,6 +196,13 @@ link_rules version =
     ∷ index_rule key.B version
     ∷ rule key.Delay (Whole 1 greatest_delay) Required
     ∷ back_rule (allows_back version)
+    ∷ []
+
+-- for how many elements one stands, and how far apart they are
+abbrev pub repeat_rules : Version → List Rule
+repeat_rules version =
+    rule_if (allows_repetition version) key.Times (Whole 1 most_times)
+    ∷ rule_if (allows_repetition version) key.Every (Whole 0 end_of_time)
     ∷ []
 
 -- the rules of two keys of a member
@@ -179,7 +220,7 @@ member_rules version =
     ∷ rule key.Join (Whole 0 end_of_time) Optional
     ∷ rule key.Leave (Whole 1 end_of_time) Optional
     ∷ pages_rule
-    ∷ []
+    ∷ repeat_rules version
 
 abbrev pub draw_rules : Version → List Rule
 draw_rules version =
@@ -187,27 +228,27 @@ draw_rules version =
     ∷ rule key.Page (Whole 0 last_page) Required
     ∷ rule key.Ink (Whole 0 last_ink) Required
     ∷ rule key.At (Whole 0 end_of_time) Required
-    ∷ []
+    ∷ repeat_rules version
 
 abbrev pub session_rules : Version → List Rule
 session_rules version =
     index_rule key.Member version
     ∷ rule key.At (Whole 0 end_of_time) Required
-    ∷ []
+    ∷ repeat_rules version
 
 abbrev pub drop_rules : Version → List Rule
 drop_rules version =
     index_rule key.Link version
     ∷ index_rule key.Sender version
     ∷ rule key.Count (Whole 0 last_count) Required
-    ∷ []
+    ∷ repeat_rules version
 
 abbrev pub outage_rules : Version → List Rule
 outage_rules version =
     index_rule key.Link version
     ∷ rule key.From (Whole 0 end_of_time) Required
     ∷ rule key.To (Whole 1 end_of_time) Required
-    ∷ []
+    ∷ repeat_rules version
 
 -- ---- whether a table meets rules
 
@@ -226,17 +267,43 @@ abbrev pub count_items : Items → ℕ
 count_items no_items = 0
 count_items (item d ds) = suc (count_items ds)
 
--- each item is a whole number up to high
-abbrev pub all_whole : ℕ → Items → Bool
-all_whole high no_items = true
-all_whole high (item d ds) = is_whole 0 high d && all_whole high ds
+-- each item is a whole number from low to high
+abbrev pub all_whole : ℕ → ℕ → Items → Bool
+all_whole low high no_items = true
+all_whole low high (item d ds) = is_whole low high d && all_whole low high ds
+
+-- the whole number that a value is
+abbrev pub number_of : Data → Option ℕ
+number_of (integer (pos n)) = Some n
+number_of d = None
+
+-- the whole number at a key, if there is one
+abbrev pub optional_number : List ℕ → Members → Option ℕ
+optional_number key ms = option_and_then number_of (get_member key ms)
+
+-- for how many elements one stands: for as many as its `times` says, and for itself alone where that does not say so
+-- rightly
+abbrev pub times_said : Option ℕ → ℕ
+times_said (Some n) = if nat_le 1 n && nat_le n most_times then n else 1
+times_said None = 1
+
+abbrev pub times_of : Data → ℕ
+times_of (table ms) = times_said (optional_number (codes "times") ms)
+times_of d = 1
+
+-- for how many elements these stand together
+abbrev pub count_made : Items → ℕ
+count_made no_items = 0
+count_made (item d ds) = times_of d + count_made ds
 
 -- the value is of this kind
 abbrev pub is_kind : Kind → Data → Bool
 is_kind (Whole low high) d = is_whole low high d
 is_kind (Word ws) d = list_any (λ w. is_text w d) (spellings_of ws)
-is_kind (Numbers most high) (array ds) = nat_le (count_items ds) most && all_whole high ds
+is_kind (Numbers most high) (array ds) = nat_le (count_items ds) most && all_whole 0 high ds
+is_kind (Each count low high) (array ds) = (count_items ds == count) && all_whole low high ds
 is_kind (Elements most) (array ds) = nat_le (count_items ds) most
+is_kind (Repeated most) (array ds) = nat_le (count_made ds) most
 is_kind k d = false
 
 -- what stands at a key, if anything, is as it must be

@@ -8,7 +8,9 @@ use crate::delays::Delays;
 use crate::element::read_elements;
 use crate::entry::MemberEntry;
 use crate::fault::{Part, ScenarioFault};
+use crate::parents::given_links;
 use crate::parts::{Constants, DrawSpec, Room, SessionSpec};
+use crate::repeated::read_repeated;
 use crate::top::top_of;
 use crate::topology::Topology;
 use srm_net::link::{DropSpec, LinkSpec, OutageSpec};
@@ -30,7 +32,7 @@ pub struct Draft {
     pub nodes: u16,
     /// The delays of each link of the topology, in ticks.
     pub delays: Delays,
-    /// The links that the table lists.
+    /// The links that the table lists, or those to the parents that it lists.
     pub links: Vec<LinkSpec>,
     /// The members.
     pub members: Vec<MemberEntry>,
@@ -60,12 +62,13 @@ impl Draft {
             });
         };
         let version = top.numbers.version;
-        let links = read_elements(alloc, Part::Link, version, top.shape.links)?;
-        let members = read_elements(alloc, Part::Member, version, top.arrays.members)?;
-        let draws = read_elements(alloc, Part::Draw, version, top.arrays.draws)?;
-        let sessions = read_elements(alloc, Part::Session, version, top.arrays.sessions)?;
-        let drops = read_elements(alloc, Part::Drop, version, top.arrays.drops)?;
-        let outages = read_elements(alloc, Part::Outage, version, top.arrays.outages)?;
+        let listed = read_elements(alloc, Part::Link, version, top.shape.links)?;
+        let members = read_repeated(alloc, Part::Member, version, top.arrays.members)?;
+        let draws = read_repeated(alloc, Part::Draw, version, top.arrays.draws)?;
+        let sessions = read_repeated(alloc, Part::Session, version, top.arrays.sessions)?;
+        let drops = read_repeated(alloc, Part::Drop, version, top.arrays.drops)?;
+        let outages = read_repeated(alloc, Part::Outage, version, top.arrays.outages)?;
+        let links = given_links(alloc, table, listed)?;
         Ok(Draft {
             until: top.numbers.until,
             constants: top.numbers.constants,

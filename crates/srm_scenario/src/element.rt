@@ -49,7 +49,7 @@ pub(crate) fn read_elements<E: Element>(
 }
 
 /// Reads one element, if it is a table that fits the rules.
-fn read_element<E: Element>(
+pub(crate) fn read_element<E: Element>(
     alloc: Global,
     version: Version,
     value: &Value,

@@ -7,7 +7,9 @@ ghost use Rattle.srm_scenario.specs.Faults.{accepted};
 
 use crate::element::Element;
 use crate::key::Key;
+use crate::limits::{LAST_COUNT, LAST_TICK};
 use crate::parts::{DrawSpec, SessionSpec};
+use crate::repeated::{Repeated, risen, step_of};
 use crate::rules::{draw_rules, drop_rules, link_rules, outage_rules, session_rules};
 use crate::table::{fits, number, optional_number};
 use crate::version::Version;
@@ -147,5 +149,91 @@ impl Element for OutageSpec {
 
     fn read(_alloc: Global, version: Version, table: &Table) -> Result<Option<Self>, AllocError> {
         Ok(outage_of(version, table))
+    }
+}
+
+impl Repeated for DrawSpec {
+    ghost use Rattle.srm_scenario.specs.Described.{draw_copy};
+    ghost use Rattle.srm_scenario.specs.Faults.{draw_in_range};
+
+    ghost copy = { draw_copy };
+
+    ghost in_range = { draw_in_range };
+
+    fn copied(&self, _alloc: Global, k: u64, every: u64) -> Result<Option<Self>, AllocError> {
+        let Some(at) = risen(self.at, step_of(k, every), LAST_TICK) else {
+            return Ok(None);
+        };
+        Ok(Some(DrawSpec {
+            member: self.member,
+            page: self.page,
+            ink: self.ink,
+            at,
+        }))
+    }
+}
+
+impl Repeated for SessionSpec {
+    ghost use Rattle.srm_scenario.specs.Described.{session_copy};
+    ghost use Rattle.srm_scenario.specs.Faults.{session_in_range};
+
+    ghost copy = { session_copy };
+
+    ghost in_range = { session_in_range };
+
+    fn copied(&self, _alloc: Global, k: u64, every: u64) -> Result<Option<Self>, AllocError> {
+        let Some(at) = risen(self.at, step_of(k, every), LAST_TICK) else {
+            return Ok(None);
+        };
+        Ok(Some(SessionSpec {
+            member: self.member,
+            at,
+        }))
+    }
+}
+
+impl Repeated for DropSpec {
+    ghost use Rattle.srm_scenario.specs.Described.{drop_copy};
+    ghost use Rattle.srm_scenario.specs.Faults.{drop_in_range};
+
+    ghost copy = { drop_copy };
+
+    ghost in_range = { drop_in_range };
+
+    fn copied(&self, _alloc: Global, k: u64, every: u64) -> Result<Option<Self>, AllocError> {
+        let Some(count) = risen(self.id.count, step_of(k, every), LAST_COUNT) else {
+            return Ok(None);
+        };
+        Ok(Some(DropSpec {
+            link: self.link,
+            id: PacketId {
+                sender: self.id.sender,
+                count,
+            },
+        }))
+    }
+}
+
+impl Repeated for OutageSpec {
+    ghost use Rattle.srm_scenario.specs.Described.{outage_copy};
+    ghost use Rattle.srm_scenario.specs.Faults.{outage_in_range};
+
+    ghost copy = { outage_copy };
+
+    ghost in_range = { outage_in_range };
+
+    fn copied(&self, _alloc: Global, k: u64, every: u64) -> Result<Option<Self>, AllocError> {
+        let step = step_of(k, every);
+        let Some(from) = risen(self.from, step, LAST_TICK) else {
+            return Ok(None);
+        };
+        let Some(to) = risen(self.to, step, LAST_TICK) else {
+            return Ok(None);
+        };
+        Ok(Some(OutageSpec {
+            link: self.link,
+            from,
+            to,
+        }))
     }
 }

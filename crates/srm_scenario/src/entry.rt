@@ -1,21 +1,22 @@
 //! What the elements of members hold.
-ghost use Rattle.std.specs.Prelude.{◌≡◌, true, IfOk, map, unwrap_or};
-ghost use Rattle.toml.specs.View.{view, table_view, items_view};
-ghost use Rattle.srm_scenario.specs.KeyLimits.{last_page};
-ghost use Rattle.srm_scenario.specs.Rules.{all_whole, member_rules};
-ghost use Rattle.srm_scenario.specs.Described.{number_of, role_of};
-ghost use Rattle.srm_scenario.specs.Faults.{accepted, entry_of};
+ghost use Rattle.std.specs.Prelude.{◌≡◌, Some, None, IfOk, if◌then◌else◌};
+ghost use Rattle.toml.specs.View.{table_view};
+ghost use Rattle.srm_scenario.specs.Rules.{member_rules};
+ghost use Rattle.srm_scenario.specs.Described.{role_of};
+ghost use Rattle.srm_scenario.specs.Faults.{accepted, entry_copy, entry_in_range, entry_of};
 
 use crate::element::Element;
 use crate::key::Key;
+use crate::limits::{LAST_NODE, LAST_STREAM};
+use crate::numbers::numbers_of;
 use crate::parts::MemberSpec;
+use crate::repeated::{Repeated, risen, step_of};
 use crate::rules::member_rules;
-use crate::table::{array, fits, has_key, number, number_of, optional_number, says};
+use crate::table::{array, fits, has_key, number, optional_number, says};
 use crate::version::Version;
 use srm_net::role::Role;
-use srm_net::sequence::Sequence;
 use std::alloc::{AllocError, Global};
-use toml::{Table, Value};
+use toml::Table;
 
 /// A member, and whether pages are given for it.
 #[derive(Debug, Drop)]
@@ -41,19 +42,6 @@ fn role(table: &Table) -> Role
     }
 }
 
-/// The pages that values are.
-fn pages_of(alloc: Global, values: &[Value]) -> Result<Sequence<u16>, AllocError>
-    requires { all_whole last_page (items_view values.now) ≡ true }
-    ensures { IfOk result (λ pages. pages ≡ map (λ v. unwrap_or (number_of (view v)) 0) values.now) }
-{
-    let mut pages = Sequence::new(alloc);
-    for value in values {
-        let page = number_of(value).unwrap_or(0);
-        pages.push(page as u16)?;
-    }
-    Ok(pages)
-}
-
 /// A member and whether pages are given for it, from its table.
 fn entry_of(
     alloc: Global,
@@ -65,7 +53,7 @@ fn entry_of(
     if !fits(table, &member_rules(version)) {
         return Ok(None);
     }
-    let pages = pages_of(alloc, array(table, Key::Pages))?;
+    let pages = numbers_of(alloc, array(table, Key::Pages))?;
     Ok(Some(MemberEntry {
         spec: MemberSpec {
             node: number(table, Key::Node) as u16,
@@ -76,6 +64,37 @@ fn entry_of(
             pages,
         },
         has_pages: has_key(table, Key::Pages),
+    }))
+}
+
+/// The copy of a member of a number, which has a node and a stream of its own, if these are in range.
+fn copy_of(
+    alloc: Global,
+    entry: &MemberEntry,
+    k: u64,
+    every: u64,
+) -> Result<Option<MemberEntry>, AllocError>
+    ensures { IfOk result (λ o. o ≡ (if entry_in_range (entry_copy k every entry.now)
+        then Some (entry_copy k every entry.now) else None)) }
+{
+    let member = &entry.spec;
+    let Some(node) = risen(u64::from(member.node), step_of(k, every), LAST_NODE) else {
+        return Ok(None);
+    };
+    let Some(stream) = risen(member.stream, u128::from(k), LAST_STREAM) else {
+        return Ok(None);
+    };
+    let pages = member.pages.clone()?;
+    Ok(Some(MemberEntry {
+        spec: MemberSpec {
+            node: node as u16,
+            role: member.role,
+            stream,
+            join: member.join,
+            leave: member.leave,
+            pages,
+        },
+        has_pages: entry.has_pages,
     }))
 }
 
@@ -92,5 +111,20 @@ impl Element for MemberEntry {
     /// [`AllocError`].
     fn read(alloc: Global, version: Version, table: &Table) -> Result<Option<Self>, AllocError> {
         entry_of(alloc, version, table)
+    }
+}
+
+impl Repeated for MemberEntry {
+    ghost use Rattle.srm_scenario.specs.Faults.{entry_copy, entry_in_range};
+
+    ghost copy = { entry_copy };
+
+    ghost in_range = { entry_in_range };
+
+    ///
+    /// # Errors
+    /// [`AllocError`].
+    fn copied(&self, alloc: Global, k: u64, every: u64) -> Result<Option<Self>, AllocError> {
+        copy_of(alloc, self, k, every)
     }
 }

@@ -89,6 +89,16 @@ pub enum Key {
     From,
     /// `to`.
     To,
+    /// `parent`.
+    Parent,
+    /// `delays`.
+    Delays,
+    /// `backs`.
+    Backs,
+    /// `times`.
+    Times,
+    /// `every`.
+    Every,
 }
 
 impl Key {
@@ -139,6 +149,11 @@ impl Key {
             Key::Count => "count",
             Key::From => "from",
             Key::To => "to",
+            Key::Parent => "parent",
+            Key::Delays => "delays",
+            Key::Backs => "backs",
+            Key::Times => "times",
+            Key::Every => "every",
         }
     }
 }

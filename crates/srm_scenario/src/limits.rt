@@ -30,5 +30,14 @@ pub(crate) const LAST_COUNT: u64 = 4_294_967_295;
 /// At most so many pages does a late member ask for.
 pub(crate) const MOST_PAGES: u64 = 256;
 
-/// At most so many draws may a file of version 1, 2 or 3 list, and so many session messages, drops and outages.
+/// At most so many draws may a file of version 1 or 2 list, and so many session messages, drops and outages.
 pub(crate) const MOST_LISTED: u64 = 4096;
+
+/// At most so many draws may the elements of a file of version 3 stand for, and so many session messages, drops and outages.
+pub(crate) const MOST_REPEATED: u64 = 65_535;
+
+/// For at most so many elements may one stand.
+pub(crate) const MOST_TIMES: u64 = 65_535;
+
+/// The last number of a node in version 3.
+pub(crate) const LAST_NODE: u64 = 65_534;

@@ -10,8 +10,10 @@ use crate::key::Key;
 pub enum Words {
     /// The roles of members.
     Roles,
-    /// The topologies.
+    /// The topologies that are made of their size.
     Topologies,
+    /// The same, and that the parents of nodes are given.
+    TopologiesAndParents,
 }
 
 /// What a key may hold.
@@ -23,8 +25,12 @@ pub enum Kind {
     Word(Words),
     /// An array of at most so many whole numbers, from 0 to the second.
     Numbers(u64, u64),
+    /// An array of exactly so many whole numbers, from the second to the third.
+    Each(u64, u64, u64),
     /// An array of at most so many elements, which are a part of their own.
     Elements(u64),
+    /// An array of elements, which are a part of their own and stand for at most so many.
+    Repeated(u64),
 }
 
 /// Whether a key must be there.

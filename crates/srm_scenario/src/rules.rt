@@ -1,11 +1,16 @@
 //! The table of the format: each key of each part, what it may hold and whether it must be there, in each version.
 ghost use Rattle.std.specs.Prelude.{◌≡◌};
-ghost use Rattle.srm_scenario.specs.Rules.{index_rule, back_rule, constant_rule, rule_if, top_rules, link_rules, member_rules, draw_rules, session_rules, drop_rules, outage_rules};
+ghost use Rattle.srm_net.specs.Limits.{end_of_time};
+ghost use Rattle.srm_scenario.specs.declared.key.Key.TheVariants.{Times, Every};
+ghost use Rattle.srm_scenario.specs.declared.rule.Kind.TheVariants.{Whole};
+ghost use Rattle.srm_scenario.specs.KeyLimits.{most_times};
+ghost use Rattle.srm_scenario.specs.Rules.{index_rule, back_rule, constant_rule, rule_if, rule_where, elements_in, topologies_in, allows_repetition, top_rules, link_rules, member_rules, draw_rules, session_rules, drop_rules, outage_rules};
 
+use crate::form::Form;
 use crate::key::Key;
 use crate::limits::{
     GREATEST_DELAY, GREATEST_LIMIT, LAST_COUNT, LAST_INK, LAST_PAGE, LAST_STREAM, LAST_TICK,
-    LAST_VERSION, MOST_PAGES,
+    LAST_VERSION, MOST_PAGES, MOST_TIMES,
 };
 use crate::parts::Constants;
 use crate::rule::{Kind, Need, Rule, Words};
@@ -44,18 +49,47 @@ fn back_rule(allowed: bool) -> Rule
     rule_if(allowed, Key::Back, Kind::Whole(1, GREATEST_DELAY))
 }
 
-/// The top table, with these first values of the constants of timers: `shaped` where it names a topology, `tree` where that is a
-/// tree.
-pub fn top_rules(version: Version, first: Constants, shaped: bool, tree: bool) -> [Rule; 27]
-    ensures { result ≡ top_rules version first shaped tree }
+/// A key that must be there in one case, and must not in the other.
+fn rule_where(here: bool, key: Key, kind: Kind) -> Rule
+    ensures { result ≡ rule_where here key kind }
+{
+    Rule::new(key, kind, Need::required_if(here))
+}
+
+/// At most so many elements, each of which may stand for several in some versions.
+fn elements_in(version: Version, most: u64) -> Kind
+    ensures { result ≡ elements_in version most }
+{
+    if version.allows_repetition() {
+        Kind::Repeated(most)
+    } else {
+        Kind::Elements(most)
+    }
+}
+
+/// The topologies that a version has.
+fn topologies_in(version: Version) -> Words
+    ensures { result ≡ topologies_in version }
+{
+    if version.allows_parents() {
+        Words::TopologiesAndParents
+    } else {
+        Words::Topologies
+    }
+}
+
+/// The top table, of this form and with these first values of the constants of timers.
+pub fn top_rules(version: Version, first: Constants, form: Form) -> [Rule; 30]
+    ensures { result ≡ top_rules version first form }
 {
     let most = u64::from(version.most_nodes());
     let last = u64::from(version.last_number());
     let limits = version.allows_limits();
     let delay = Kind::Whole(1, GREATEST_DELAY);
-    let listed = Kind::Elements(version.most_listed());
-    let in_topology = Need::required_if(shaped);
-    let in_tree = Need::required_if(tree);
+    let delays = Kind::Each(form.listed, 1, GREATEST_DELAY);
+    let listed = elements_in(version, version.most_listed());
+    let has_delay = form.sized || (form.parents && !form.delays);
+    let has_back = form.sized || (form.parents && !form.backs);
     [
         Rule::new(Key::Version, Kind::Whole(1, LAST_VERSION), Need::Required),
         Rule::new(Key::Until, Kind::Whole(1, LAST_TICK), Need::Required),
@@ -72,27 +106,48 @@ pub fn top_rules(version: Version, first: Constants, shaped: bool, tree: bool) -
         rule_if(limits, Key::D1Most, Kind::Whole(first.d1, GREATEST_LIMIT)),
         rule_if(limits, Key::D2Most, Kind::Whole(first.d2, GREATEST_LIMIT)),
         rule_if(limits, Key::Backoff, Kind::Whole(2, 3)),
+        rule_where(!form.shaped, Key::Nodes, Kind::Whole(1, most)),
         Rule::new(
-            Key::Nodes,
-            Kind::Whole(1, most),
-            Need::Required.unless(shaped),
+            Key::Topology,
+            Kind::Word(topologies_in(version)),
+            Need::Optional,
         ),
-        Rule::new(Key::Topology, Kind::Word(Words::Topologies), Need::Optional),
-        Rule::new(Key::Size, Kind::Whole(1, most), in_topology),
-        Rule::new(Key::Delay, delay, in_topology),
-        back_rule(shaped && version.allows_back()),
-        Rule::new(Key::Degree, Kind::Whole(2, last), in_tree),
-        Rule::new(
-            Key::Link,
-            Kind::Elements(last),
-            Need::Optional.unless(shaped),
-        ),
-        Rule::new(Key::Member, Kind::Elements(most), Need::Optional),
+        rule_where(form.sized, Key::Size, Kind::Whole(1, most)),
+        rule_where(has_delay, Key::Delay, delay),
+        back_rule(has_back && version.allows_back()),
+        rule_where(form.tree, Key::Degree, Kind::Whole(2, last)),
+        rule_if(!form.shaped, Key::Link, Kind::Elements(last)),
+        Rule::new(Key::Member, elements_in(version, most), Need::Optional),
         Rule::new(Key::Draw, listed, Need::Optional),
         Rule::new(Key::Session, listed, Need::Optional),
         Rule::new(Key::Drop, listed, Need::Optional),
         rule_if(version.allows_outages(), Key::Outage, listed),
+        rule_where(form.parents, Key::Parent, Kind::Numbers(last, last)),
+        rule_if(form.parents, Key::Delays, delays),
+        rule_if(form.parents, Key::Backs, delays),
     ]
+}
+
+/// For how many elements one stands.
+fn times_rule(version: Version) -> Rule
+    ensures { result ≡ rule_if (allows_repetition version) Times (Whole 1 most_times) }
+{
+    rule_if(
+        version.allows_repetition(),
+        Key::Times,
+        Kind::Whole(1, MOST_TIMES),
+    )
+}
+
+/// How far apart those are.
+fn every_rule(version: Version) -> Rule
+    ensures { result ≡ rule_if (allows_repetition version) Every (Whole 0 end_of_time) }
+{
+    rule_if(
+        version.allows_repetition(),
+        Key::Every,
+        Kind::Whole(0, LAST_TICK),
+    )
 }
 
 /// A link.
@@ -108,7 +163,7 @@ pub fn link_rules(version: Version) -> [Rule; 4]
 }
 
 /// A member.
-pub fn member_rules(version: Version) -> [Rule; 6]
+pub fn member_rules(version: Version) -> [Rule; 8]
     ensures { result ≡ member_rules version }
 {
     let pages = Kind::Numbers(MOST_PAGES, LAST_PAGE);
@@ -119,11 +174,13 @@ pub fn member_rules(version: Version) -> [Rule; 6]
         Rule::new(Key::Join, Kind::Whole(0, LAST_TICK), Need::Optional),
         Rule::new(Key::Leave, Kind::Whole(1, LAST_TICK), Need::Optional),
         Rule::new(Key::Pages, pages, Need::Optional),
+        times_rule(version),
+        every_rule(version),
     ]
 }
 
 /// A draw.
-pub fn draw_rules(version: Version) -> [Rule; 4]
+pub fn draw_rules(version: Version) -> [Rule; 6]
     ensures { result ≡ draw_rules version }
 {
     [
@@ -131,37 +188,45 @@ pub fn draw_rules(version: Version) -> [Rule; 4]
         Rule::new(Key::Page, Kind::Whole(0, LAST_PAGE), Need::Required),
         Rule::new(Key::Ink, Kind::Whole(0, LAST_INK), Need::Required),
         Rule::new(Key::At, Kind::Whole(0, LAST_TICK), Need::Required),
+        times_rule(version),
+        every_rule(version),
     ]
 }
 
 /// A session message.
-pub fn session_rules(version: Version) -> [Rule; 2]
+pub fn session_rules(version: Version) -> [Rule; 4]
     ensures { result ≡ session_rules version }
 {
     [
         index_rule(Key::Member, version),
         Rule::new(Key::At, Kind::Whole(0, LAST_TICK), Need::Required),
+        times_rule(version),
+        every_rule(version),
     ]
 }
 
 /// A drop.
-pub fn drop_rules(version: Version) -> [Rule; 3]
+pub fn drop_rules(version: Version) -> [Rule; 5]
     ensures { result ≡ drop_rules version }
 {
     [
         index_rule(Key::Link, version),
         index_rule(Key::Sender, version),
         Rule::new(Key::Count, Kind::Whole(0, LAST_COUNT), Need::Required),
+        times_rule(version),
+        every_rule(version),
     ]
 }
 
 /// An outage.
-pub fn outage_rules(version: Version) -> [Rule; 3]
+pub fn outage_rules(version: Version) -> [Rule; 5]
     ensures { result ≡ outage_rules version }
 {
     [
         index_rule(Key::Link, version),
         Rule::new(Key::From, Kind::Whole(0, LAST_TICK), Need::Required),
         Rule::new(Key::To, Kind::Whole(1, LAST_TICK), Need::Required),
+        times_rule(version),
+        every_rule(version),
     ]
 }

@@ -1,15 +1,18 @@
 //! Tables beside the rules of their keys, and the values at their keys.
-ghost use Rattle.std.specs.Prelude.{◌≡◌, Some, None, MatchOption, map, is_some};
+ghost use Rattle.std.specs.Prelude.{◌≡◌, ◌≤◌, Some, None, MatchOption, map, is_some, nat_le, unwrap_or};
 ghost use Rattle.std.specs.List.{list_any, list_all};
 ghost use Rattle.std.specs.Str.{bytes_eq};
 ghost use Rattle.toml.specs.Data.{as_array, get_member};
 ghost use Rattle.toml.specs.View.{view, items_view, table_view};
-ghost use Rattle.srm_scenario.specs.declared.rule.Kind.TheVariants.{Numbers, Elements};
+ghost use Rattle.srm_scenario.specs.declared.rule.Kind.TheVariants.{Numbers, Each, Elements, Repeated};
+ghost use Rattle.srm_scenario.specs.declared.key.Key.TheVariants.{Times, Every};
+ghost use Rattle.srm_scenario.specs.KeyLimits.{most_times};
 ghost use Rattle.srm_scenario.specs.Keys.{name_of};
-ghost use Rattle.srm_scenario.specs.Rules.{fits, has_only, is_met, is_kind, is_whole, is_text, spellings_of};
+ghost use Rattle.srm_scenario.specs.Rules.{fits, has_only, is_met, is_kind, is_whole, is_text, spellings_of, times_of, times_said, count_made};
 ghost use Rattle.srm_scenario.specs.Described.{number, number_of, number_or, optional_number, array_at, says};
 
 use crate::key::Key;
+use crate::limits::MOST_TIMES;
 use crate::rule::{Kind, Need, Rule, Words};
 use toml::{Table, Value};
 
@@ -70,7 +73,9 @@ pub fn is_kind(value: &Value, kind: Kind) -> bool
         Kind::Whole(low, high) => is_whole(value, low, high),
         Kind::Word(words) => is_word(value, words),
         Kind::Numbers(most, high) => are_numbers(value, most, high),
+        Kind::Each(count, low, high) => are_each(value, count, low, high),
         Kind::Elements(most) => are_elements(value, most),
+        Kind::Repeated(most) => are_repeated(value, most),
     }
 }
 
@@ -82,6 +87,63 @@ pub fn values_of(value: &Value) -> Option<&[Value]>
     match value.as_array() {
         Some(values) => Some(values.as_slice()),
         None => None,
+    }
+}
+
+/// For how many elements a value stands: for as many as its `times` says, and for itself alone where that does not say so rightly.
+pub fn times_of(value: &Value) -> u64
+    ensures times { result ≡ times_of (view value.now) }
+    ensures some { 1 ≤ result }
+    ensures few { result ≤ most_times }
+{
+    match value {
+        Value::Table(table) => times_in(table),
+        _ => 1,
+    }
+}
+
+/// For how many elements an element's table stands: for as many as its `times` says, and for itself alone where that does not say
+/// so rightly.
+pub fn times_in(table: &Table) -> u64
+    ensures times { result ≡ times_said (optional_number (name_of Times) (table_view table.now)) }
+    ensures some { 1 ≤ result }
+    ensures few { result ≤ most_times }
+{
+    match optional_number(table, Key::Times) {
+        Some(times) if times >= 1 && times <= MOST_TIMES => times,
+        _ => 1,
+    }
+}
+
+/// How far apart the elements are for which an element's table stands, as its `every` says: 1 where it does not.
+pub fn every_in(table: &Table) -> u64
+    ensures { result ≡ unwrap_or (optional_number (name_of Every) (table_view table.now)) 1 }
+{
+    optional_number(table, Key::Every).unwrap_or(1)
+}
+
+/// Whether values stand together for at most so many elements.
+fn make_at_most(values: &[Value], most: u64) -> bool
+    ensures { result ≡ nat_le (count_made (items_view values.now)) most }
+{
+    let mut left = most;
+    for value in values {
+        let times = times_of(value);
+        if times > left {
+            return false;
+        }
+        left -= times;
+    }
+    true
+}
+
+/// Whether a value is an array of elements that stand for at most so many.
+fn are_repeated(value: &Value, most: u64) -> bool
+    ensures { result ≡ is_kind (Repeated most) (view value.now) }
+{
+    match values_of(value) {
+        Some(values) => make_at_most(values, most),
+        None => false,
     }
 }
 
@@ -100,16 +162,26 @@ fn are_numbers(value: &Value, most: u64, high: u64) -> bool
     ensures { result ≡ is_kind (Numbers most high) (view value.now) }
 {
     match values_of(value) {
-        Some(values) => values.len() as u64 <= most && are_whole(values, high),
+        Some(values) => values.len() as u64 <= most && are_whole(values, 0, high),
         None => false,
     }
 }
 
-/// Whether each value is a whole number up to `high`.
-fn are_whole(values: &[Value], high: u64) -> bool
-    ensures { result ≡ list_all (λ v. is_whole 0 high (view v)) values.now }
+/// Whether a value is an array of exactly so many whole numbers from `low` to `high`.
+fn are_each(value: &Value, count: u64, low: u64, high: u64) -> bool
+    ensures { result ≡ is_kind (Each count low high) (view value.now) }
 {
-    values.iter().all(|value| is_whole(value, 0, high))
+    match values_of(value) {
+        Some(values) => values.len() as u64 == count && are_whole(values, low, high),
+        None => false,
+    }
+}
+
+/// Whether each value is a whole number from `low` to `high`.
+fn are_whole(values: &[Value], low: u64, high: u64) -> bool
+    ensures { result ≡ list_all (λ v. is_whole low high (view v)) values.now }
+{
+    values.iter().all(|value| is_whole(value, low, high))
 }
 
 /// Whether a value is a whole number from `low` to `high`.
@@ -145,6 +217,12 @@ fn is_word(value: &Value, words: Words) -> bool
         }
         Words::Topologies => {
             is_text(value, "chain") || is_text(value, "star") || is_text(value, "tree")
+        }
+        Words::TopologiesAndParents => {
+            is_text(value, "chain")
+                || is_text(value, "star")
+                || is_text(value, "tree")
+                || is_text(value, "parents")
         }
     }
 }

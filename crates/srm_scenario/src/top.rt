@@ -1,12 +1,14 @@
 //! What the top table of a scenario file holds.
-ghost use Rattle.std.specs.Prelude.{◌≡◌, ◌≤◌, true, false, codes, map, MatchOption};
+ghost use Rattle.std.specs.Prelude.{◌≡◌, ◌≤◌, true, false, codes, length, map, MatchOption};
 ghost use Rattle.toml.specs.View.{view, table_view};
+ghost use Rattle.srm_net.specs.Limits.{most_links};
 ghost use Rattle.srm_scenario.specs.Rules.{fits};
-ghost use Rattle.srm_scenario.specs.Described.{constants_of, least_of, most_of, number, room_of, says, topology_of};
+ghost use Rattle.srm_scenario.specs.Described.{array_at, constants_of, form_of, given_nodes, least_of, most_of, number, room_of, says, topology_of};
 ghost use Rattle.srm_scenario.specs.Faults.{rules_of_top};
 ghost use Rattle.srm_scenario.specs.LookUps.{HasNumbers, HasShape, HasArrays};
 
 use crate::delays::Delays;
+use crate::form::Form;
 use crate::key::Key;
 use crate::parts::{Constants, Room};
 use crate::rules::top_rules;
@@ -18,7 +20,7 @@ use toml::{Table, Value};
 /// The topology that the table names, if it names one.
 fn topology(table: &Table) -> Option<Topology>
     requires { says (codes "topology") (codes "tree") (table_view table.now) ≡ true
-        → number (codes "degree") (table_view table.now) ≤ 1023 }
+        → number (codes "degree") (table_view table.now) ≤ most_links }
     ensures { result ≡ topology_of (table_view table.now) }
 {
     if says(table, Key::Topology, "tree") {
@@ -119,6 +121,18 @@ pub(crate) struct Shape<'a> {
     pub(crate) links: &'a [Value],
 }
 
+/// How many nodes a table has that gives no size: one more than parents where it gives these.
+fn given_nodes(table: &Table) -> u64
+    requires { length (array_at (codes "parent") (table_view table.now)) ≤ most_links }
+    ensures { result ≡ given_nodes (table_view table.now) }
+{
+    if says(table, Key::Topology, "parents") {
+        array(table, Key::Parent).len() as u64 + 1
+    } else {
+        number(table, Key::Nodes)
+    }
+}
+
 /// The nodes and links of a table that fits its rules.
 fn shape_of(table: &Table) -> Shape<'_>
     requires { fits (rules_of_top (table_view table.now)) (table_view table.now) ≡ true }
@@ -127,7 +141,7 @@ fn shape_of(table: &Table) -> Shape<'_>
     let topology = topology(table);
     let nodes = match topology {
         Some(_) => number(table, Key::Size),
-        None => number(table, Key::Nodes),
+        None => given_nodes(table),
     };
     Shape {
         topology,
@@ -181,16 +195,30 @@ pub(crate) struct Top<'a> {
     pub(crate) arrays: Arrays<'a>,
 }
 
+/// What a table says of its network.
+pub fn form_of(table: &Table) -> Form
+    ensures { result ≡ form_of (table_view table.now) }
+{
+    let tree = says(table, Key::Topology, "tree");
+    Form {
+        shaped: has_key(table, Key::Topology),
+        sized: tree || says(table, Key::Topology, "chain") || says(table, Key::Topology, "star"),
+        tree,
+        parents: says(table, Key::Topology, "parents"),
+        listed: array(table, Key::Parent).len() as u64,
+        delays: has_key(table, Key::Delays),
+        backs: has_key(table, Key::Backs),
+    }
+}
+
 /// Whether the table fits the rules of its version and of the topology that it names.
 fn is_top(table: &Table) -> bool
     ensures { result ≡ fits (rules_of_top (table_view table.now)) (table_view table.now) }
 {
     let version = Version::of(number(table, Key::Version));
-    let shaped = has_key(table, Key::Topology);
-    let tree = says(table, Key::Topology, "tree");
     fits(
         table,
-        &top_rules(version, constants_of(table), shaped, tree),
+        &top_rules(version, constants_of(table), form_of(table)),
     )
 }
 

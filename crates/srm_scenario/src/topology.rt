@@ -16,7 +16,7 @@ pub enum Topology {
     Star,
     /// A tree numbered breadth first.
     Tree {
-        /// How many children the root has: 2 to 1,023. Every other inner node has one fewer.
+        /// How many children the root has: 2 to 65,534. Every other inner node has one fewer.
         degree: u16,
     },
 }

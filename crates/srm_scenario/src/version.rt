@@ -2,7 +2,7 @@
 ghost use Rattle.std.specs.Prelude.{◌≡◌, ◌≤◌, ◌==◌, if◌then◌else◌};
 ghost use Rattle.srm_scenario.specs.declared.version.Version.TheVariants.{One, Two, Three};
 
-use crate::limits::{GREATEST_CONSTANT, GREATEST_LIMIT, MOST_LISTED};
+use crate::limits::{GREATEST_CONSTANT, GREATEST_LIMIT, MOST_LISTED, MOST_REPEATED};
 
 /// A version of the scenario format.
 #[derive(Clone, Copy, Debug, PartialEq, Eq)]
@@ -11,12 +11,13 @@ pub enum Version {
     One,
     /// A link may have a second delay, `back`, and outages. There are at most 1,024 nodes.
     Two,
-    /// As version 2; and members may adapt the constants of their timers.
+    /// As version 2; and members may adapt the constants of their timers, an element may stand for several, and the parents of nodes
+    /// may be given in place of links. There are at most 65,535 nodes.
     Three,
 }
 
 impl Version {
-    ghost use Rattle.srm_scenario.specs.Rules.{allows_back, allows_limits, allows_outages, greatest_constant_in, most_nodes_in, last_number, most_listed_in};
+    ghost use Rattle.srm_scenario.specs.Rules.{allows_back, allows_limits, allows_outages, allows_parents, allows_repetition, greatest_constant_in, most_nodes_in, last_number, most_listed_in};
 
     /// The version of this number. Where there is none of this number, it is the first.
     pub fn of(number: u64) -> Version
@@ -59,6 +60,26 @@ impl Version {
         }
     }
 
+    /// Whether the parents of nodes may be given in place of links.
+    pub fn allows_parents(self) -> bool
+        ensures { result ≡ allows_parents self }
+    {
+        match self {
+            Version::One | Version::Two => false,
+            Version::Three => true,
+        }
+    }
+
+    /// Whether an element may stand for several.
+    pub fn allows_repetition(self) -> bool
+        ensures { result ≡ allows_repetition self }
+    {
+        match self {
+            Version::One | Version::Two => false,
+            Version::Three => true,
+        }
+    }
+
     /// The greatest first value of a constant of timers, in thousandths: 64,000 or 1,024,000.
     pub fn greatest_constant(self) -> u64
         ensures { result ≡ greatest_constant_in self }
@@ -69,31 +90,33 @@ impl Version {
         }
     }
 
-    /// How many nodes there are at most, and how many members: 256 or 1,024.
+    /// How many nodes there are at most, and how many members: 256, 1,024 or 65,535.
     pub fn most_nodes(self) -> u16
         ensures nodes { result ≡ most_nodes_in self }
         ensures some { 1 ≤ result }
-        ensures few { result ≤ 1024 }
     {
         match self {
             Version::One => 256,
-            Version::Two | Version::Three => 1024,
+            Version::Two => 1024,
+            Version::Three => 65_535,
         }
     }
 
-    /// How many draws there are at most, and how many session messages, drops and outages: 4,096.
+    /// How many draws there are at most, and how many session messages, drops and outages, of each kind: 4,096 or
+    /// 65,535.
     pub fn most_listed(self) -> u64
         ensures { result ≡ most_listed_in self }
     {
         match self {
-            Version::One | Version::Two | Version::Three => MOST_LISTED,
+            Version::One | Version::Two => MOST_LISTED,
+            Version::Three => MOST_REPEATED,
         }
     }
 
-    /// The last number that a node, a link or a member may have: 255 or 1,023.
+    /// The last number that a node, a link or a member may have: 255, 1,023 or 65,534.
     pub fn last_number(self) -> u16
         ensures number { result ≡ last_number self }
-        ensures few { result ≤ 1023 }
+        ensures few { result ≤ 65534 }
     {
         self.most_nodes() - 1
     }

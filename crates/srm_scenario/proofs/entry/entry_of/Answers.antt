@@ -9,8 +9,8 @@ use Rattle.srm_scenario.proofs.Arrays.{pages_whole, numbers_read}
 use Rattle.srm_scenario.proofs.KeyRanges.{rule_met}
 use Rattle.srm_scenario.proofs.entry.entry_of.Goals as goal
 
-pub pages_of-requires : goal.pages_of-requires
-pages_of-requires c =
+pub numbers_of-requires : goal.numbers_of-requires
+numbers_of-requires c =
     let ms = table_view c.args.table.now in
     let h : fits (member_rules c.args.version) ms ≡ true =
     sym (c.fits.ensures ∙ ap (λ (rs : List Rule). fits rs ms) c.member_rules.ensures) ∙ c.if-not-fits.false in

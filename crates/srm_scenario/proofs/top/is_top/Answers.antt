@@ -10,4 +10,4 @@ pub returns : goal.returns
 returns c =
     let version = c.of-version.ensures ∙ ap (λ n. if n == 3 then Three else if n == 2 then Two else One) c.number.ensures in
     c.fits.ensures ∙ ap (λ (rs : List Rule). fits rs (table_view c.args.table.now))
-    (c.top_rules.ensures ∙ (λ i. top_rules (version i) (c.constants_of.ensures i) (c.has_key-shaped.ensures i) (c.says-tree.ensures i)))
+    (c.top_rules.ensures ∙ (λ i. top_rules (version i) (c.constants_of.ensures i) (c.form_of.ensures i)))

@@ -4,12 +4,15 @@ use Rattle.srm_scenario.specs.declared.delays.Delays.{Delays}
 use Rattle.srm_scenario.specs.declared.topology.Topology.{Topology}
 use Rattle.srm_scenario.specs.Described.{version_of, topology_of, nodes_in, delays_of}
 use Rattle.srm_scenario.specs.LookUps.{HasDegree, AreDelays}
-use Rattle.srm_scenario.proofs.TopFits.{topology_fits, nodes_fit, delays_fit, few_nodes, tree_degree}
+use Rattle.srm_scenario.proofs.TopFits.{topology_fits, nodes_fit, delays_fit, few_nodes, few_parents, tree_degree}
 use Rattle.srm_scenario.proofs.top.shape_of.Goals as goal
 use Rattle.srm_scenario.proofs.top.shape_of.Goals.{in-Some, in-None}
 
 pub topology-topology-requires : goal.topology-topology-requires
 topology-topology-requires c = tree_degree (table_view c.args.table.now) c.requires
+
+pub given_nodes-nodes-requires : goal.given_nodes-nodes-requires
+given_nodes-nodes-requires c = few_parents (table_view c.args.table.now) c.requires
 
 pub overflow_cast-result : goal.overflow_cast-result
 overflow_cast-result c =
@@ -18,7 +21,7 @@ overflow_cast-result c =
     elim c.match-topology.branch [
       | in-Some w ↦ w.nodes-is ∙ w.number-nodes.ensures ∙ sym (ap (λ o. nodes_in o ms) (sym c.topology-topology.ensures ∙ w.in-Some.is))
       | in-None w ↦
-          w.nodes-is ∙ w.number-nodes-in-None.ensures ∙ sym (ap (λ o. nodes_in o ms) (sym c.topology-topology.ensures ∙ w.in-None.is))
+          w.nodes-is ∙ w.given_nodes-nodes.ensures ∙ sym (ap (λ o. nodes_in o ms) (sym c.topology-topology.ensures ∙ w.in-None.is))
     ] in
     let fits = nodes_fit ms c.requires in
     let few = few_nodes (version_of ms) in
@@ -31,7 +34,7 @@ returns c =
     elim c.match-topology.branch [
       | in-Some w ↦ w.nodes-is ∙ w.number-nodes.ensures ∙ sym (ap (λ o. nodes_in o ms) (sym c.topology-topology.ensures ∙ w.in-Some.is))
       | in-None w ↦
-          w.nodes-is ∙ w.number-nodes-in-None.ensures ∙ sym (ap (λ o. nodes_in o ms) (sym c.topology-topology.ensures ∙ w.in-None.is))
+          w.nodes-is ∙ w.given_nodes-nodes.ensures ∙ sym (ap (λ o. nodes_in o ms) (sym c.topology-topology.ensures ∙ w.in-None.is))
     ] in
     let fits = nodes_fit ms c.requires in
     let few = few_nodes (version_of ms) in
