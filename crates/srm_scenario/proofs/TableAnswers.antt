@@ -6,7 +6,8 @@ use Rattle.srm_scenario.specs.declared.fault.ScenarioFault.{ScenarioFault}
 use Rattle.srm_scenario.specs.declared.fault.ScenarioFault.TheVariants.{NoMemory}
 use Rattle.srm_scenario.specs.declared.draft.Draft.{Draft}
 use Rattle.srm_scenario.specs.Described.{repeated_at, listed_drops, described_scenario, topology_of}
-use Rattle.srm_scenario.specs.Faults.{first, IsFault, is_star, entry_of, entry_copy, key_faults, meaning_faults, faults_of, answer, scenario_of_table}
+use Rattle.srm_scenario.specs.Faults.{first, IsFault, is_star, entry_of, entry_copy, key_faults, meaning_faults, faults_of}
+use Rattle.srm_scenario.specs.Faults.{answer, scenario_of_table}
 use Rattle.srm_scenario.specs.Drafts.{IsDraft, plain_of, faults_in}
 use Rattle.srm_scenario.specs.Plain.{PlainScenario}
 use Rattle.srm_scenario.proofs.FaultLists.{first-left}
@@ -18,7 +19,8 @@ answer-first (f ∷ fs) s e h = let same : f ≡ e = cc in ap Err same
 
 -- the faults of meaning are those of what is listed
 faults_same : (ms : Members) (l : Draft) → IsDraft ms l
-    → meaning_faults (described_scenario ms) (is_star (topology_of ms)) (repeated_at (codes "member") entry_copy entry_of ms) (listed_drops ms)
+    → meaning_faults (described_scenario ms) (is_star (topology_of ms))
+    (repeated_at (codes "member") entry_copy entry_of ms) (listed_drops ms)
     ≡ faults_in l
 faults_same ms l h = λ i. meaning_faults (described_is ms l h i) (is_star (h.topology i)) (h.members i) (h.drops i)
 

@@ -82,7 +82,8 @@ known_word Three d h =
     of_four (is_text (codes "tree") d) (is_text (codes "chain") d) (is_text (codes "star") d) (is_text (codes "parents") d) h
 
 shaped_known : (v : Version) (o : Option Data) → meets Optional (Word (topologies_in v)) o ≡ true → is_some o ≡ true
-    → ((is_text_or (codes "tree") o || (is_text_or (codes "chain") o || is_text_or (codes "star") o)) || is_text_or (codes "parents") o) ≡ true
+    → ((is_text_or (codes "tree") o || (is_text_or (codes "chain") o || is_text_or (codes "star") o))
+    || is_text_or (codes "parents") o) ≡ true
 shaped_known v None h e = absurd (false≢true e)
 shaped_known v (Some d) h e = known_word v d h
 

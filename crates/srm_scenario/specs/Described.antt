@@ -130,7 +130,8 @@ abbrev pub copies : {A : Type 0} → (ℕ → A) → ℕ → ℕ → List A
 copies copy k zero = []
 copies copy k (suc n) = copy k ∷ copies copy (k + 1) n
 
--- the elements for which one stands: its copies from the one of number 0 on, by their numbers and how far apart they are
+-- the elements for which one stands: its copies from the one of number 0 on, by their numbers and how far apart they
+-- are
 abbrev pub repeated : {A : Type 0} → (ℕ → ℕ → A → A) → (Members → A) → Data → List A
 repeated copy reading d = copies (λ k. copy k (every_of d) (reading (table_of d))) 0 (times_of d)
 

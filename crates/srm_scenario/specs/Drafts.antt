@@ -9,8 +9,8 @@ use Rattle.srm_scenario.specs.declared.topology.Topology.{Topology}
 use Rattle.srm_scenario.specs.Accepted.{AreConstants}
 use Rattle.srm_scenario.specs.Plain.{PlainScenario, drop_rules_of}
 use Rattle.srm_scenario.specs.Described.{number, constants_of, room_of, topology_of, delays_of, nodes_in, repeated_at}
-use Rattle.srm_scenario.specs.Described.{draw_of, draw_copy, session_of, session_copy, listed_drops, outages_in, given_links}
-use Rattle.srm_scenario.specs.Described.{links_to_parents}
+use Rattle.srm_scenario.specs.Described.{draw_of, draw_copy, session_of, session_copy, listed_drops, outages_in}
+use Rattle.srm_scenario.specs.Described.{given_links, links_to_parents}
 use Rattle.srm_scenario.specs.Faults.{key_faults, meaning_faults, is_star, entry_of, entry_copy}
 use Rattle.srm_scenario.specs.LookUps.{HasDegree, AreDelays}
 use Rattle.srm_net.specs.Limits.{end_of_time, most_listed}

@@ -137,7 +137,8 @@ returns-clause-draft c =
       delays_fit = t.2.delays_fit;
       links = ap (λ (ks : List LinkSpec). if names_parents ms then links_from ms 0 (parents_in ms) else ks) listed
           ∙ sym c.in_ok-links.ensures;
-      members = repeated-read (repeated entry_copy entry_of) c.in-Some.top.arrays.members.now _ _ t.3.members_are c.in_ok-members.ensures.read;
+      members = repeated-read (repeated entry_copy entry_of) c.in-Some.top.arrays.members.now _ _ t.3.members_are
+          c.in_ok-members.ensures.read;
       draws = repeated-read (repeated draw_copy draw_of) c.in-Some.top.arrays.draws.now _ _ t.3.draws_are c.in_ok-draws.ensures.read;
       sessions = repeated-read (repeated session_copy session_of) c.in-Some.top.arrays.sessions.now _ _ t.3.sessions_are
           c.in_ok-sessions.ensures.read;
