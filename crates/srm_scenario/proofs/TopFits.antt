@@ -41,11 +41,6 @@ few_in One = omega arith
 few_in Two = omega arith
 few_in Three = omega arith
 
-few_in : (v : Version) → most_listed_in v ≤ most_listed
-few_in One = omega arith
-few_in Two = omega arith
-few_in Three = omega arith
-
 -- ---- the topology
 
 -- of a topology's word, which of three it is says which topology it names
