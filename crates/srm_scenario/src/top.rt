@@ -224,12 +224,11 @@ fn is_top(table: &Table) -> bool
 
 /// What the table holds, if it is as a top table must be.
 pub(crate) fn top_of(table: &Table) -> Option<Top<'_>>
-    ensures { MatchOption result
-        (fits (rules_of_top (table_view table.now)) (table_view table.now) ≡ false)
-        (λ t. (fits (rules_of_top (table_view table.now)) (table_view table.now) ≡ true)
-        × HasNumbers (table_view table.now) t.numbers.version t.numbers.until t.numbers.constants t.numbers.room
-        × HasShape (table_view table.now) t.shape.topology t.shape.nodes t.shape.delays (map view t.shape.links.now)
-        × HasArrays (table_view table.now) (map view t.arrays.members.now) (map view t.arrays.draws.now)
+    ensures { let ms = table_view table.now in MatchOption result (fits (rules_of_top ms) ms ≡ false)
+        (λ t. (fits (rules_of_top ms) ms ≡ true)
+        × HasNumbers ms t.numbers.version t.numbers.until t.numbers.constants t.numbers.room
+        × HasShape ms t.shape.topology t.shape.nodes t.shape.delays (map view t.shape.links.now)
+        × HasArrays ms (map view t.arrays.members.now) (map view t.arrays.draws.now)
         (map view t.arrays.sessions.now) (map view t.arrays.drops.now) (map view t.arrays.outages.now)) }
 {
     if !is_top(table) {
