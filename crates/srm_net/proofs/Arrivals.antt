@@ -7,7 +7,7 @@ use Rattle.srm_net.specs.declared.position.Position.{Position}
 use Rattle.srm_net.specs.Limits.{end_of_time, greatest_distance}
 use Rattle.srm_net.specs.Network.{Network, IsTree, IsNetwork}
 use Rattle.srm_net.specs.Paths.{route, delay_of, delay_along, Stop, stop}
-use Rattle.srm_net.specs.Rooting.{takes, at, IsRooted, IsFirst, IsHeld, IsInOrder}
+use Rattle.srm_net.specs.Rooting.{takes, at, IsRooted, IsFirstLink, IsHeld, IsInOrder}
 use Rattle.srm_net.specs.Spreads.{comes_to, arrival, past_link, TellsArrivals, TellsAbove}
 use Rattle.srm_net.proofs.Lists.{get_below, get_set_same, get_set_other}
 use Rattle.srm_net.proofs.RouteLemmas.{route_path}
@@ -47,7 +47,7 @@ pub record Comes (w : Network) (out : Stop → Bool) (u t y x l ticks : ℕ) : T
   pub takes_is : takes w u x ≡ takes w u y + ticks
   pub arrival_is : arrival w out u t x ≡ past_link out l ticks (arrival w out u t y)
 
-comes_over : (w : Network) → IsTree w → (out : Stop → Bool) (u t y x l ticks : ℕ) → u < w.nodes → x < w.nodes → IsFirst w x u l y
+comes_over : (w : Network) → IsTree w → (out : Stop → Bool) (u t y x l ticks : ℕ) → u < w.nodes → x < w.nodes → IsFirstLink w x u l y
     → takes w u x ≡ takes w u y + ticks → Comes w out u t y x l ticks
 comes_over w n out u t y x l ticks hu hx f e =
     let come = comes_to w out u t y && not (out (stop l (t + takes w u y))) in

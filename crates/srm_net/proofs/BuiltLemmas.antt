@@ -9,7 +9,7 @@ use Rattle.srm_net.specs.Network.{Network, IsWithin, IsNetwork}
 use Rattle.srm_net.specs.Paths.{route, host, delay_along, Stop, stop, stops, takes_out, crosses, drops_at}
 use Rattle.srm_net.specs.DropRules.{DropRules}
 use Rattle.srm_net.specs.Tables.{is_beyond, near_end, some_beyond}
-use Rattle.srm_net.specs.Built.{plain_of, IsBuilt}
+use Rattle.srm_net.specs.Built.{network_inside, IsBuilt}
 use Rattle.srm_net.specs.Rooting.{IsRooted, TellsPositions, TellsTree}
 use Rattle.srm_net.proofs.Lists.{below_get, all_get}
 use Rattle.srm_net.proofs.PathLaws.{near_stop, is_free, crosses_is, drops_is}
@@ -38,11 +38,11 @@ beyond_seen n m e l x j k g h =
     ap (λ (w : Network). is_beyond w l j x) e ∙ ap (λ (i : LinkSpec). is_beyond m l i x) same
 
 -- the positions of the nodes of a built tree are told
-pub rooted_in : (n : Inside) → IsBuilt n → IsRooted (plain_of n) n.rooted.positions.items
+pub rooted_in : (n : Inside) → IsBuilt n → IsRooted (network_inside n) n.rooted.positions.items
 unfolding TellsPositions
 rooted_in n i = i.rooted
 
-pub tree_in : (n : Inside) → IsBuilt n → TellsTree (plain_of n) n.rooted
+pub tree_in : (n : Inside) → IsBuilt n → TellsTree (network_inside n) n.rooted
 tree_in n i = record { rooted = rooted_in n i; order = i.order }
 
 pub position_there : (n : Inside) → IsBuilt n → (u : ℕ) → u < n.nodes → u < length n.rooted.positions.items

@@ -6,7 +6,7 @@ use Rattle.srm_net.specs.declared.link.LinkSpec.{LinkSpec}
 use Rattle.srm_net.specs.declared.position.Position.{Position}
 use Rattle.srm_net.specs.Network.{Network, Joins}
 use Rattle.srm_net.specs.Paths.{is_in, route, end_of, far_end}
-use Rattle.srm_net.specs.Rooting.{takes, at, IsRooted, IsFirst, IsHeld, IsChildAbove}
+use Rattle.srm_net.specs.Rooting.{takes, at, IsRooted, IsFirstLink, IsHeld, IsChildAbove}
 use Rattle.srm_net.specs.Tables.{is_beyond}
 use Rattle.srm_net.proofs.Lists.{below_get}
 use Rattle.srm_net.proofs.Numbers.{in_cases, in_append_cases, not_in}
@@ -138,7 +138,7 @@ module _ (w : Network) (ps : List Position) (r : IsRooted w ps) where
       (omega arith, omega arith)
 
   -- down to a child that is the other node or above it
-  pub first_down : (u v x : ℕ) → u < w.nodes → v < w.nodes → IsChildAbove w ps u v x → IsFirst w u v (at ps x).link x
+  pub first_down : (u v x : ℕ) → u < w.nodes → v < w.nodes → IsChildAbove w ps u v x → IsFirstLink w u v (at ps x).link x
   first_down u v x hu hv c =
       let l = (at ps x).link in
       let ex = place_of x c.node in
@@ -163,7 +163,8 @@ module _ (w : Network) (ps : List Position) (r : IsRooted w ps) where
       }
 
   -- and up to the parent, if the other node is not below
-  pub first_up : (u v : ℕ) → u < w.nodes → v < w.nodes → (IsHeld (at ps u) (at ps v) → ⊥) → IsFirst w u v (at ps u).link (at ps u).parent
+  pub first_up : (u v : ℕ) → u < w.nodes → v < w.nodes → (IsHeld (at ps u) (at ps v) → ⊥)
+      → IsFirstLink w u v (at ps u).link (at ps u).parent
   first_up u v hu hv n =
       let l = (at ps u).link in
       let eu = place_of u hu in

@@ -10,7 +10,7 @@ use Rattle.srm_net.specs.declared.occupied.Occupied.{Occupied}
 use Rattle.srm_net.specs.declared.position.Position.{Position}
 use Rattle.srm_net.specs.declared.sides.Sides.{Sides}
 use Rattle.srm_net.specs.Network.{Network}
-use Rattle.srm_net.specs.Occupancy.{places_of, IsNext, TellsNext, TellsAny, TellsOther, IsOccupied}
+use Rattle.srm_net.specs.Occupancy.{places_of, IsNextFree, TellsNext, TellsAny, TellsOther, IsOccupied}
 use Rattle.srm_net.specs.Paths.{is_in, host, some_below}
 use Rattle.srm_net.specs.Rooting.{at, IsRooted, IsHeld}
 use Rattle.srm_net.specs.Tables.{is_beyond, TellsSides}
@@ -43,7 +43,7 @@ other_after places size next q a b n t e u = record {
 
 -- ---- the first place from each on
 
-pub next_at_end : (places : List ℕ) (size n : ℕ) → n ≡ size → IsNext places size size n
+pub next_at_end : (places : List ℕ) (size n : ℕ) → n ≡ size → IsNextFree places size size n
 next_at_end places size n e = record {
   later = omega arith;
   most = omega arith;
@@ -53,7 +53,7 @@ next_at_end places size n e = record {
 
 -- one place earlier
 pub next_before : (places : List ℕ) (size i own later first : ℕ) → i < size → own ≡ cond (is_in places i) i size
-    → IsNext places size (i + 1) later → first ≡ min own later → IsNext places size i first
+    → IsNextFree places size (i + 1) later → first ≡ min own later → IsNextFree places size i first
 next_before places size i own later first lt e n f =
     let l0 : i + 1 ≤ later = n.later in
     let l1 : later ≤ size = n.most in

@@ -10,11 +10,11 @@ use Rattle.srm_net.specs.declared.nearest.Nearest.TheVariants.{Nobody, One, Two}
 use Rattle.srm_net.specs.declared.position.Position.{Position}
 use Rattle.srm_net.specs.Least.{out}
 use Rattle.srm_net.specs.Limits.{greatest_distance}
-use Rattle.srm_net.specs.Nearness.{second_ticks, IsOneOf, IsOrdered, Covers, Takes, nearest_of, IsByPlace, IsSound, TellsOwn}
+use Rattle.srm_net.specs.Nearness.{second_ticks, IsOneOf, IsNearestFirst, Covers, Takes, nearest_of, IsByPlace, IsSound, TellsOwn}
 use Rattle.srm_net.specs.Nearness.{TellsBelow, TellsNearest}
 use Rattle.srm_net.specs.Network.{Network, IsNetwork}
 use Rattle.srm_net.specs.Paths.{host, distance, route, delay_of, delay_along}
-use Rattle.srm_net.specs.Rooting.{takes, at, IsRooted, IsFirst, IsHeld, IsChildAbove}
+use Rattle.srm_net.specs.Rooting.{takes, at, IsRooted, IsFirstLink, IsHeld, IsChildAbove}
 use Rattle.srm_net.proofs.Firsts.{first_down, first_up, held_itself, held_later, held_by_parent, parent_held}
 use Rattle.srm_net.proofs.LawProofs.{out_fits, out_of_the_only_one}
 use Rattle.srm_net.proofs.Lists.{get_push_old, get_push_new}
@@ -32,7 +32,7 @@ to_itself : (w : Network) (m : ℕ) → distance w m m ≡ 0
 unfolding distance
 to_itself w m = takes_nothing w (host w m)
 
-out_from : (w : Network) → IsNetwork w → (m : ℕ) → m < length w.hosts → (p : Nearest) → IsOrdered p
+out_from : (w : Network) → IsNetwork w → (m : ℕ) → m < length w.hosts → (p : Nearest) → IsNearestFirst p
     → ((n : Near) → IsOneOf p n → n.member < length w.hosts) → ((n : Near) → IsOneOf p n → distance w m n.member ≤ n.ticks)
     → ((b : ℕ) → b < length w.hosts → Covers p b (distance w m b)) → (o : Option ℕ) → out w m ≡ o → second_ticks p ≡ o
 out_from w n m hm Nobody order member ticks all o e = absurd (all m hm)
@@ -128,7 +128,7 @@ module _ (w : Network) (n : IsNetwork w) (table : List Nearest) (s : IsSound w t
   pub step_sound : ((x : ℕ) → x < w.nodes → takes w to x ≤ takes w from x + d) → IsSound w (slice_set table to new)
   step_sound near = record {
     long = length-set table to new ∙ s.long;
-    ordered = at_each (λ u p. IsOrdered p) (t.ordered (s.ordered to ht)) s.ordered;
+    ordered = at_each (λ u p. IsNearestFirst p) (t.ordered (s.ordered to ht)) s.ordered;
     member = λ u k hu. at_each (λ u p. IsOneOf p k → k.member < length w.hosts) (λ i. elim (t.from k i) [
       | inl o ↦ s.member to k ht o
       | inr o ↦ subst (λ (j : Near). j.member < length w.hosts) (sym o.2) (s.member from o.0 hf o.1)
@@ -187,7 +187,7 @@ module _ (w : Network) (ps : List Position) (r : IsRooted w ps) where
   abbrev pub over_up : ℕ → ℕ
   over_up c = delay_of c (slice_get w.links (at ps c).link)
 
-  by_first : (u v l x : ℕ) → IsFirst w u v l x → takes w u v ≡ delay_of u (slice_get w.links l) + takes w x v
+  by_first : (u v l x : ℕ) → IsFirstLink w u v l x → takes w u v ≡ delay_of u (slice_get w.links l) + takes w x v
   by_first u v l x f =
       ap (delay_along w.links u) f.route
       ∙ ap (λ y. delay_of u (slice_get w.links l) + delay_along w.links y (route w x v)) f.leads
@@ -376,7 +376,7 @@ pub home_sound : (w : Network) (table : List Nearest) (i : ℕ) → length table
     → IsSound w table
 home_sound w table i long few alone = record {
   long = long;
-  ordered = λ u hu. elim (alone u) [ inl e ↦ subst IsOrdered (sym e) tt | inr e ↦ subst IsOrdered (sym e.3) tt ];
+  ordered = λ u hu. elim (alone u) [ inl e ↦ subst IsNearestFirst (sym e) tt | inr e ↦ subst IsNearestFirst (sym e.3) tt ];
   member = λ u k hu o. elim (alone u) [
     | inl e ↦ absurd (subst (λ p. IsOneOf p k) e o)
     | inr e ↦ (let is : k ≡ at_own e.0 = subst (λ p. IsOneOf p k) e.3 o in

@@ -8,7 +8,7 @@ use Rattle.srm_net.specs.declared.step.Step.{Step}
 use Rattle.srm_net.specs.Network.{plain_network, Joins, IsWithin, IsTree}
 use Rattle.srm_net.specs.Paths.{is_in}
 use Rattle.srm_net.specs.Growth.{Attaches, attached, Grows, beyond, IsAbove}
-use Rattle.srm_net.specs.Waiting.{targets, LeadsFrom, Wait, Adds}
+use Rattle.srm_net.specs.Waiting.{targets, LeadsFrom, Wait, AddsSteps}
 use Rattle.srm_net.specs.Known.{is_known}
 use Rattle.srm_net.proofs.Lists.{all_get}
 use Rattle.srm_net.proofs.Marks.{KnownAre}
@@ -124,7 +124,7 @@ covers_skip links ss ps s known c l k u x g j i =
 -- the neighbours of one node more
 covers_added : (nodes : ℕ) (links : List LinkSpec) (ss : List Step) (marks : List Bool) (old new : List Step) (y : ℕ)
     → All (IsWithin nodes) links
-    → KnownAre nodes ss marks → Adds links marks y old new
+    → KnownAre nodes ss marks → AddsSteps links marks y old new
     → (l : ℕ) (k : LinkSpec) (x : ℕ) → slice_get links l ≡ Some k → Joins k y x
     → (is_in (attached ss) x ≡ true) ⊎ (is_in (targets new) x ≡ true)
 covers_added nodes links ss marks old new y ends agree a l k x g j =
@@ -133,7 +133,7 @@ covers_added nodes links ss marks old new y ends agree a l k x g j =
 
 pub covers_new : (nodes : ℕ) (links : List LinkSpec) (s : Step) (ss : List Step) (marks : List Bool) (ps new : List Step)
     → All (IsWithin nodes) links
-    → KnownAre nodes (s ∷ ss) marks → Adds links marks s.node ps new → Covers links ss (ps ++ s ∷ []) → Covers links (s ∷ ss) new
+    → KnownAre nodes (s ∷ ss) marks → AddsSteps links marks s.node ps new → Covers links ss (ps ++ s ∷ []) → Covers links (s ∷ ss) new
 covers_new nodes links s ss marks ps new ends agree a c l k u x g j i =
     elim (in_cases s.node u (attached ss) i) [
       | inl e ↦ covers_added nodes links (s ∷ ss) marks ps new s.node ends agree a l k x g (subst (λ y. Joins k y x) (sym e) j)
@@ -147,7 +147,7 @@ covers_new nodes links s ss marks ps new ends agree a c l k u x g j i =
     ]
 
 pub covers_root : (nodes : ℕ) (links : List LinkSpec) (marks : List Bool) (new : List Step) → All (IsWithin nodes) links
-    → KnownAre nodes [] marks → Adds links marks 0 [] new → Covers links [] new
+    → KnownAre nodes [] marks → AddsSteps links marks 0 [] new → Covers links [] new
 covers_root nodes links marks new ends agree a l k u x g j i =
     elim (in_cases 0 u [] i) [
       | inl e ↦ covers_added nodes links [] marks [] new 0 ends agree a l k x g (subst (λ y. Joins k y x) (sym e) j)

@@ -31,10 +31,10 @@ IsOneOf (One a) n = n ≡ a
 IsOneOf (Two a b) n = (n ≡ a) ⊎ (n ≡ b)
 
 -- the second is another member than the first, and no nearer
-abbrev pub IsOrdered : Nearest → Type 0
-IsOrdered Nobody = Unit {0}
-IsOrdered (One a) = Unit {0}
-IsOrdered (Two a b) = (a.member ≢ b.member) × (a.ticks ≤ b.ticks)
+abbrev pub IsNearestFirst : Nearest → Type 0
+IsNearestFirst Nobody = Unit {0}
+IsNearestFirst (One a) = Unit {0}
+IsNearestFirst (Two a b) = (a.member ≢ b.member) × (a.ticks ≤ b.ticks)
 
 -- the nearest are so near that they may leave out member m at so many ticks: it is the first of them, and no further,
 -- or both are no further
@@ -45,16 +45,17 @@ Covers (Two a b) m ticks = ((a.member ≡ m) × (a.ticks ≤ ticks)) ⊎ (b.tick
 
 -- one member more is taken into account
 pub record Offers (old : Nearest) (n : Near) (new : Nearest) : Type 0 where
-  pub ordered : IsOrdered old → IsOrdered new
+  pub ordered : IsNearestFirst old → IsNearestFirst new
   pub covers : Covers new n.member n.ticks
-  pub keeps : IsOrdered old → (m ticks : ℕ) → Covers old m ticks → Covers new m ticks
+  pub keeps : IsNearestFirst old → (m ticks : ℕ) → Covers old m ticks → Covers new m ticks
   pub from : (k : Near) → IsOneOf new k → IsOneOf old k ⊎ (k ≡ n)
 
 -- others are taken into account that are seen from so many ticks away
 pub record Takes (old others : Nearest) (delay : ℕ) (new : Nearest) : Type 0 where
-  pub ordered : IsOrdered old → IsOrdered new
-  pub keeps : IsOrdered old → (m ticks : ℕ) → Covers old m ticks → Covers new m ticks
-  pub takes : IsOrdered old → IsOrdered others → (m ticks : ℕ) → Covers others m ticks → Covers new m (ticks + delay)
+  pub ordered : IsNearestFirst old → IsNearestFirst new
+  pub keeps : IsNearestFirst old → (m ticks : ℕ) → Covers old m ticks → Covers new m ticks
+  pub takes : IsNearestFirst old → IsNearestFirst others → (m ticks : ℕ) → Covers others m ticks
+      → Covers new m (ticks + delay)
   pub from : (k : Near) → IsOneOf new k → IsOneOf old k ⊎ ((n : Near) × IsOneOf others n × (k ≡ later n delay))
 
 -- the nearest members of node u
@@ -72,7 +73,7 @@ pub record IsByPlace (w : Network) (positions : List Position) (order : List ℕ
 -- for each node, ordered members to which a packet from there takes no longer than told
 pub record IsSound (w : Network) (table : List Nearest) : Type 0 where
   pub long : length table ≡ w.nodes
-  pub ordered : (u : ℕ) → u < w.nodes → IsOrdered (nearest_of table u)
+  pub ordered : (u : ℕ) → u < w.nodes → IsNearestFirst (nearest_of table u)
   pub member : (u : ℕ) (n : Near) → u < w.nodes → IsOneOf (nearest_of table u) n → n.member < length w.hosts
   pub ticks : (u : ℕ) (n : Near) → u < w.nodes → IsOneOf (nearest_of table u) n → takes w u (host w n.member) ≤ n.ticks
 

@@ -11,7 +11,7 @@ abbrev pub places_of : List Position → List ℕ → List ℕ
 places_of positions nodes = map (λ u. (at positions u).place) nodes
 
 -- n is the first of the places from place i on, or the end where there is none
-pub record IsNext (places : List ℕ) (size i n : ℕ) : Type 0 where
+pub record IsNextFree (places : List ℕ) (size i n : ℕ) : Type 0 where
   pub later : i ≤ n
   pub most : n ≤ size
   pub free : (p : ℕ) → is_in places p ≡ true → i ≤ p → p < n → ⊥
@@ -21,7 +21,7 @@ pub record IsNext (places : List ℕ) (size i n : ℕ) : Type 0 where
 pub record TellsNext (places : List ℕ) (size : ℕ) (next : List ℕ) : Type 0 where
   pub long : length next ≡ size + 1
   pub below : (p : ℕ) → is_in places p ≡ true → p < size
-  pub each : (i : ℕ) → i ≤ size → IsNext places size i (slice_index next i)
+  pub each : (i : ℕ) → i ≤ size → IsNextFree places size i (slice_index next i)
 
 -- whether one of the places stands from the first number up to below the second
 pub record TellsAny (places : List ℕ) (from to : ℕ) (any : Bool) : Type 0 where

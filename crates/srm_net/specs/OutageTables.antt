@@ -7,8 +7,8 @@ use Rattle.srm_net.specs.DropRules.{is_out, some_ends_after}
 use Rattle.srm_net.specs.Outages.{begins_by, last_lasts}
 
 -- the list that was given
-abbrev pub listed_in : Inside → List OutageSpec
-listed_in o = o.list.items
+abbrev pub outages_listed : Inside → List OutageSpec
+outages_listed o = o.list.items
 
 -- for each link and tick, the spans that have begun stand first, and the last of them tells whether the link is out;
 -- and the end is that of the last outage of all

@@ -76,7 +76,7 @@ pub record TellsTree (w : Network) (r : Rooted) : Type 0 where
   pub order : IsInOrder w r.positions.items r.order.items
 
 -- the way from node u to node v begins with link l, which leads to node x
-pub record IsFirst (w : Network) (u v l x : ℕ) : Type 0 where
+pub record IsFirstLink (w : Network) (u v l x : ℕ) : Type 0 where
   pub link : l < length w.links
   pub leads : end_of u (slice_get w.links l) ≡ x
   pub node : x < w.nodes

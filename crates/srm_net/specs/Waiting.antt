@@ -25,7 +25,7 @@ Wait links ss x [] = Unit {0}
 Wait links ss x (s ∷ rest) = LeadsFrom links ss s × IsAbove ss s.parent x × Wait links ss s.parent rest
 
 -- a step to each neighbour of a node that is not known was added to those that wait
-pub record Adds (links : List LinkSpec) (known : List Bool) (node : ℕ) (old new : List Step) : Type 0 where
+pub record AddsSteps (links : List LinkSpec) (known : List Bool) (node : ℕ) (old new : List Step) : Type 0 where
   pub few : length new ≤ length old + length links
   pub kept : (x : ℕ) → is_in (targets old) x ≡ true → is_in (targets new) x ≡ true
   pub each : (l : ℕ) (k : LinkSpec) (x : ℕ) → slice_get links l ≡ Some k → Joins k node x → is_known known x ≡ false

@@ -2,7 +2,7 @@
 ghost use Rattle.std.specs.Prelude.{◌≡◌, ◌<◌, All, IfOk, length};
 ghost use Rattle.srm_net.specs.Network.{IsWithin};
 ghost use Rattle.srm_net.specs.Adjacencies.{TellsLinks};
-ghost use Rattle.srm_net.specs.Waiting.{Adds};
+ghost use Rattle.srm_net.specs.Waiting.{AddsSteps};
 
 use crate::earlier::Earlier;
 use crate::link::LinkSpec;
@@ -54,7 +54,7 @@ impl Adjacency {
         requires ends { All (IsWithin (length known.now)) links.now }
         requires node { node < length known.now }
         requires told { TellsLinks (length known.now) links.now self.now }
-        ensures { IfOk result (λ _. Adds links.now known.now node pending.old.items pending.new.items) }
+        ensures { IfOk result (λ _. AddsSteps links.now known.now node pending.old.items pending.new.items) }
     {
         let mut next = self.last[usize::from(node)];
         while next > 0 {

@@ -24,9 +24,9 @@ impl Model for Outages {
 
     ghost Value = { List OutageSpec };
 
-    ghost use Rattle.srm_net.specs.OutageTables.{listed_in, FindsOutages};
+    ghost use Rattle.srm_net.specs.OutageTables.{outages_listed, FindsOutages};
 
-    ghost view = { listed_in };
+    ghost view = { outages_listed };
 
     ghost invariant = { FindsOutages };
 }

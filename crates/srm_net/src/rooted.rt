@@ -6,7 +6,7 @@ ghost use Rattle.srm_net.specs.Limits.{end_of_time};
 ghost use Rattle.srm_net.specs.Listed.{is_listed_somewhere};
 ghost use Rattle.srm_net.specs.Network.{Network, HasDelays, IsNetwork, IsTree, IsWithin, plain_network};
 ghost use Rattle.srm_net.specs.Paths.{takes_out};
-ghost use Rattle.srm_net.specs.Rooting.{takes, at, IsRooted, TellsTree, IsFirst, IsHeld, IsChildAbove};
+ghost use Rattle.srm_net.specs.Rooting.{takes, at, IsRooted, TellsTree, IsFirstLink, IsHeld, IsChildAbove};
 ghost use Rattle.srm_net.specs.Spreads.{TellsArrivals, TellsAbove};
 
 use crate::drops::Drops;
@@ -193,7 +193,7 @@ impl Rooted {
         requires rooted { (w : Network) × IsRooted w self.now.positions.items × (from < w.nodes) × (to < w.nodes) }
         requires apart { from ≢ to }
         ensures { (w : Network) → IsRooted w self.now.positions.items → from < w.nodes → to < w.nodes
-            → IsFirst w from to result.0 result.1 }
+            → IsFirstLink w from to result.0 result.1 }
     {
         let here = self.position(from);
         if here.holds(self.position(to).place) {

@@ -35,9 +35,9 @@ impl Model for Tree {
 
     ghost Value = { Network };
 
-    ghost use Rattle.srm_net.specs.Built.{plain_of, IsBuilt};
+    ghost use Rattle.srm_net.specs.Built.{network_inside, IsBuilt};
 
-    ghost view = { plain_of };
+    ghost view = { network_inside };
 
     ghost invariant = { IsBuilt };
 }

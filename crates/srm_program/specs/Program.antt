@@ -13,7 +13,7 @@ use Rattle.srm_program.specs.declared.request.Request.{Request}
 use Rattle.srm_program.specs.Explained.{Follows}
 use Rattle.srm_program.specs.RefusalLines.{line_of_fault}
 use Rattle.srm_program.specs.Runs.{MayShareBag}
-use Rattle.srm_program.specs.Sessions.{TellsFeed, ReadsToEnd, reading_failures, session_failures}
+use Rattle.srm_program.specs.Sessions.{TellsFeed, ReadsSessionToEnd, reading_failures, session_failures}
 
 -- what a command line may ask for: a seed below 2^63, and as many workers as may share a bag
 abbrev pub MayBeAsked : ℕ × Options → Type 0
@@ -53,7 +53,7 @@ WritesHelp help old new (Err f) = ⊥
 -- and nothing is written where the command line is refused
 abbrev pub CarriesOut : {T : Type 0} → Result (ℕ × Options) LineFault → List ℕ
     → Option (List ℕ) → Option (List ℕ) → Option (List ℕ) → Result T Fault → Type 0
-CarriesOut (Ok asked) text old new left r = TellsFeed asked.0 asked.1 text old new r × ReadsToEnd r left
+CarriesOut (Ok asked) text old new left r = TellsFeed asked.0 asked.1 text old new r × ReadsSessionToEnd r left
 CarriesOut (Err (line.Help help)) text old new left r = (text ≡ []) × WritesHelp (string_bytes help) old new r
 CarriesOut (Err f) text old new left r = (text ≡ []) × (r ≡ Err (fault.Line f)) × Keeps old new
 

@@ -34,9 +34,9 @@ report_of show p net w = shown show p net w.trace (crossings (traffic_of p net) 
 
 -- the count of an outlet's failures after a report was written to it: one more exactly where the answer is that it
 -- failed
-abbrev pub failures_after : {T : Type 0} → Result T LabFault → ℕ → ℕ
-failures_after (Err (WriteFault written)) n = n + 1
-failures_after r n = n
+abbrev pub failures_after_run : {T : Type 0} → Result T LabFault → ℕ → ℕ
+failures_after_run (Err (WriteFault written)) n = n + 1
+failures_after_run r n = n
 
 -- what an outlet took of a report: all of it, or as many bytes as the fault tells; and nothing where memory ran out
 abbrev pub Writes : {T : Type 0} → Option (List ℕ) → Option (List ℕ) → List ℕ → Result T LabFault → Type 0

@@ -10,13 +10,13 @@ use Rattle.srm_program.specs.declared.fault.LabFault.{LabFault}
 use Rattle.srm_program.specs.declared.fault.Fault.{Fault}
 use Rattle.srm_program.specs.declared.fault.Fault.TheVariants as fault
 use Rattle.srm_program.specs.declared.options.Options.{Options}
-use Rattle.srm_program.specs.Reports.{failures_after}
+use Rattle.srm_program.specs.Reports.{failures_after_run}
 use Rattle.srm_program.specs.Runs.{TellsRunFor}
 
 -- the count of an outlet's failures after a session: one more exactly where the answer is that it failed
 abbrev pub session_failures : {T : Type 0} → Result T Fault → ℕ → ℕ
 session_failures (Ok v) n = n
-session_failures {T} (Err (fault.Lab f)) n = let r : Result T LabFault = Err f in failures_after r n
+session_failures {T} (Err (fault.Lab f)) n = let r : Result T LabFault = Err f in failures_after_run r n
 session_failures (Err (fault.Line f)) n = n
 session_failures (Err (fault.Scenario f)) n = n
 session_failures (Err fault.NoMemory) n = n
@@ -72,7 +72,7 @@ TellsFeed seed o text old new r = TellsText seed o text old new r
 
 -- where a text was read whole, no byte is left to come: so it is after each run, and for each fault that is one of the
 -- text
-abbrev pub ReadsToEnd : {T : Type 0} → Result T Fault → Option (List ℕ) → Type 0
-ReadsToEnd (Err (fault.Scenario f)) left = faults.ReadsToEnd (Err f) left
-ReadsToEnd (Err fault.NoMemory) left = ⊤
-ReadsToEnd r left = IsAtEnd left
+abbrev pub ReadsSessionToEnd : {T : Type 0} → Result T Fault → Option (List ℕ) → Type 0
+ReadsSessionToEnd (Err (fault.Scenario f)) left = faults.ReadsToEnd (Err f) left
+ReadsSessionToEnd (Err fault.NoMemory) left = ⊤
+ReadsSessionToEnd r left = IsAtEnd left

@@ -3,7 +3,7 @@ ghost use Rattle.std.specs.Prelude.{◌≡◌, ◌<◌, ◌-◌, ◌^◌, ℕ, m
 ghost use Rattle.srm_scenario.specs.Plain.{network_of};
 ghost use Rattle.srm_engine.specs.Outcomes.{HoldOpeningRecords};
 ghost use Rattle.srm_engine.specs.Sinks.{IsOpen};
-ghost use Rattle.srm_program.specs.Reports.{failures_after};
+ghost use Rattle.srm_program.specs.Reports.{failures_after_run};
 ghost use Rattle.srm_program.specs.Runs.{fault_of_stream, MayShareBag, StandsAfter, TellsRows};
 
 use crate::asked::Asked;
@@ -42,7 +42,7 @@ pub(crate) fn hand_rows<R: Threads + Wait + Sync, S: RowSink>(
     requires failures { S.failures sink.old < 2 ^ 64 - 1 }
     ensures device { S.same sink.old sink.new }
     ensures stands { StandsAfter result (S.stage sink.new) }
-    ensures failures { S.failures sink.new ≡ failures_after result (S.failures sink.old) }
+    ensures failures { S.failures sink.new ≡ failures_after_run result (S.failures sink.old) }
     ensures rows { (seed : ℕ) → HoldOpeningRecords asked.now.scenario.now asked.now.net.now seed (map (λ b. plain b) members.items)
         → TellsRows S.took S.part asked.now.scenario.now asked.now.net.now seed asked.now.options sink.old result sink.new }
 {
@@ -79,7 +79,7 @@ fn in_steps<S: RowSink>(
     requires failures { S.failures sink.old < 2 ^ 64 - 1 }
     ensures device { S.same sink.old sink.new }
     ensures stands { StandsAfter result (S.stage sink.new) }
-    ensures failures { S.failures sink.new ≡ failures_after result (S.failures sink.old) }
+    ensures failures { S.failures sink.new ≡ failures_after_run result (S.failures sink.old) }
     ensures rows { (seed : ℕ) → HoldOpeningRecords asked.now.scenario.now asked.now.net.now seed (map (λ b. plain b) members.items)
         → TellsRows S.took S.part asked.now.scenario.now asked.now.net.now seed asked.now.options sink.old result sink.new }
 {
@@ -105,7 +105,7 @@ fn in_windows<C: Crew, S: RowSink>(
     requires failures { S.failures sink.old < 2 ^ 64 - 1 }
     ensures device { S.same sink.old sink.new }
     ensures stands { StandsAfter result (S.stage sink.new) }
-    ensures failures { S.failures sink.new ≡ failures_after result (S.failures sink.old) }
+    ensures failures { S.failures sink.new ≡ failures_after_run result (S.failures sink.old) }
     ensures rows { (seed : ℕ) → HoldOpeningRecords asked.now.scenario.now asked.now.net.now seed (map (λ b. plain b) members.items)
         → TellsRows S.took S.part asked.now.scenario.now asked.now.net.now seed asked.now.options sink.old result sink.new }
 {

@@ -1,6 +1,6 @@
 //! Writing the table of a run.
 ghost use Rattle.std.specs.Prelude.{◌≡◌, ◌<◌, ◌-◌, ◌^◌, ℕ, List, IfOk};
-ghost use Rattle.srm_program.specs.Reports.{failures_after, Writes};
+ghost use Rattle.srm_program.specs.Reports.{failures_after_run, Writes};
 
 use crate::fault::LabFault;
 use srm_report::fault::ReportFault;
@@ -17,7 +17,7 @@ pub(crate) fn write_text<O: Outlet>(
     outlet: &mut O,
 ) -> Result<(), LabFault>
     requires { O.failures outlet.old < 2 ^ 64 - 1 }
-    ensures failures { O.failures outlet.new ≡ failures_after result (O.failures outlet.old) }
+    ensures failures { O.failures outlet.new ≡ failures_after_run result (O.failures outlet.old) }
     ensures taken { (report : List ℕ) → IfOk text (λ t. t.items ≡ report)
         → Writes (O.taken outlet.old) (O.taken outlet.new) report result }
 {

@@ -8,7 +8,7 @@ ghost use Rattle.srm_report.specs.ListingSinks.{stage_of, outlet_under, gathered
 ghost use Rattle.srm_report.specs.Listings.{text_in};
 ghost use Rattle.srm_report.specs.Timers.{timers_form};
 ghost use Rattle.srm_report.specs.Trace.{trace_form};
-ghost use Rattle.srm_program.specs.Reports.{failures_after, TellsListing, TellsTable};
+ghost use Rattle.srm_program.specs.Reports.{failures_after_run, TellsListing, TellsTable};
 ghost use Rattle.srm_program.specs.Runs.{MayShareBag, TellsRefusedFor, TellsRunFor};
 
 use crate::asked::Asked;
@@ -66,7 +66,7 @@ pub fn run<R: Threads + Wait + Sync, O: Outlet>(
     requires workers { MayShareBag options.workers }
     requires count { O.failures outlet.old < 2 ^ 64 - 1 }
     // The count rises exactly where the answer is `WriteFault`, and then by one.
-    ensures failures { O.failures outlet.new ≡ failures_after result (O.failures outlet.old) }
+    ensures failures { O.failures outlet.new ≡ failures_after_run result (O.failures outlet.old) }
     ensures report { (seed : ℕ) → HoldOpeningRecords scenario.now net.now seed (map (λ b. plain b) members.items)
         → TellsRunFor scenario.now net.now seed options (O.taken outlet.old) (O.taken outlet.new) result }
 {
@@ -98,7 +98,7 @@ fn write_trace<R: Threads + Wait + Sync, O: Outlet>(
     requires boxes { (seed : ℕ) × HoldOpeningRecords asked.now.scenario.now asked.now.net.now seed (map (λ b. plain b) members.items) }
     requires workers { MayShareBag asked.now.options.workers }
     requires count { O.failures outlet.old < 2 ^ 64 - 1 }
-    ensures failures { O.failures outlet.new ≡ failures_after result (O.failures outlet.old) }
+    ensures failures { O.failures outlet.new ≡ failures_after_run result (O.failures outlet.old) }
     ensures trace { (seed : ℕ) → HoldOpeningRecords asked.now.scenario.now asked.now.net.now seed (map (λ b. plain b) members.items)
         → TellsListing (text_in trace_form) asked.now.scenario.now asked.now.net.now seed (O.taken outlet.old) (O.taken outlet.new) result }
     ensures asked { (seed : ℕ) → HoldOpeningRecords asked.now.scenario.now asked.now.net.now seed (map (λ b. plain b) members.items)
@@ -123,7 +123,7 @@ fn write_timers<R: Threads + Wait + Sync, O: Outlet>(
     requires boxes { (seed : ℕ) × HoldOpeningRecords asked.now.scenario.now asked.now.net.now seed (map (λ b. plain b) members.items) }
     requires workers { MayShareBag asked.now.options.workers }
     requires count { O.failures outlet.old < 2 ^ 64 - 1 }
-    ensures failures { O.failures outlet.new ≡ failures_after result (O.failures outlet.old) }
+    ensures failures { O.failures outlet.new ≡ failures_after_run result (O.failures outlet.old) }
     ensures table { (seed : ℕ) → HoldOpeningRecords asked.now.scenario.now asked.now.net.now seed (map (λ b. plain b) members.items)
         → TellsListing (text_in timers_form) asked.now.scenario.now asked.now.net.now seed (O.taken outlet.old) (O.taken outlet.new) result }
     ensures asked { (seed : ℕ) → HoldOpeningRecords asked.now.scenario.now asked.now.net.now seed (map (λ b. plain b) members.items)
@@ -153,7 +153,7 @@ fn write_rows<R: Threads + Wait + Sync, L: Listing, O: Outlet>(
     requires count { O.failures (outlet_under sink.old) < 2 ^ 64 - 1 }
     ensures outlet { AreOverOne sink.old sink.new }
     ensures failures { O.failures (outlet_under sink.new)
-        ≡ failures_after result (O.failures (outlet_under sink.old)) }
+        ≡ failures_after_run result (O.failures (outlet_under sink.old)) }
     ensures listing { (seed : ℕ) → HoldOpeningRecords asked.now.scenario.now asked.now.net.now seed (map (λ b. plain b) members.items)
         → TellsListing (text_in L.form) asked.now.scenario.now asked.now.net.now seed (O.taken (outlet_under sink.old))
         (O.taken (outlet_under sink.new)) result }
@@ -181,7 +181,7 @@ fn write_members<R: Threads + Wait + Sync, O: Outlet>(
     requires boxes { (seed : ℕ) × HoldOpeningRecords asked.now.scenario.now asked.now.net.now seed (map (λ b. plain b) members.items) }
     requires workers { MayShareBag asked.now.options.workers }
     requires count { O.failures outlet.old < 2 ^ 64 - 1 }
-    ensures failures { O.failures outlet.new ≡ failures_after result (O.failures outlet.old) }
+    ensures failures { O.failures outlet.new ≡ failures_after_run result (O.failures outlet.old) }
     ensures table { (seed : ℕ) → HoldOpeningRecords asked.now.scenario.now asked.now.net.now seed (map (λ b. plain b) members.items)
         → TellsTable asked.now.scenario.now asked.now.net.now seed Show.Members (O.taken outlet.old) (O.taken outlet.new) result }
     ensures asked { (seed : ℕ) → HoldOpeningRecords asked.now.scenario.now asked.now.net.now seed (map (λ b. plain b) members.items)
@@ -207,7 +207,7 @@ fn write_losses<R: Threads + Wait + Sync, O: Outlet>(
     requires boxes { (seed : ℕ) × HoldOpeningRecords asked.now.scenario.now asked.now.net.now seed (map (λ b. plain b) members.items) }
     requires workers { MayShareBag asked.now.options.workers }
     requires count { O.failures outlet.old < 2 ^ 64 - 1 }
-    ensures failures { O.failures outlet.new ≡ failures_after result (O.failures outlet.old) }
+    ensures failures { O.failures outlet.new ≡ failures_after_run result (O.failures outlet.old) }
     ensures table { (seed : ℕ) → HoldOpeningRecords asked.now.scenario.now asked.now.net.now seed (map (λ b. plain b) members.items)
         → TellsTable asked.now.scenario.now asked.now.net.now seed Show.Losses (O.taken outlet.old) (O.taken outlet.new) result }
     ensures asked { (seed : ℕ) → HoldOpeningRecords asked.now.scenario.now asked.now.net.now seed (map (λ b. plain b) members.items)
@@ -232,7 +232,7 @@ fn write_links<R: Threads + Wait + Sync, O: Outlet>(
     requires boxes { (seed : ℕ) × HoldOpeningRecords asked.now.scenario.now asked.now.net.now seed (map (λ b. plain b) members.items) }
     requires workers { MayShareBag asked.now.options.workers }
     requires count { O.failures outlet.old < 2 ^ 64 - 1 }
-    ensures failures { O.failures outlet.new ≡ failures_after result (O.failures outlet.old) }
+    ensures failures { O.failures outlet.new ≡ failures_after_run result (O.failures outlet.old) }
     ensures table { (seed : ℕ) → HoldOpeningRecords asked.now.scenario.now asked.now.net.now seed (map (λ b. plain b) members.items)
         → TellsTable asked.now.scenario.now asked.now.net.now seed Show.Links (O.taken outlet.old) (O.taken outlet.new) result }
     ensures asked { (seed : ℕ) → HoldOpeningRecords asked.now.scenario.now asked.now.net.now seed (map (λ b. plain b) members.items)

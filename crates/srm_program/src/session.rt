@@ -4,7 +4,7 @@ ghost use Rattle.std.specs.Io.KnownBytes.{Consumes};
 ghost use Rattle.srm_scenario.specs.declared.bytes.TheConstants.{LONGEST_TEXT};
 ghost use Rattle.srm_program.specs.Explained.{KeepsText};
 ghost use Rattle.srm_program.specs.Runs.{MayShareBag};
-ghost use Rattle.srm_program.specs.Sessions.{reading_failures, session_failures, ReadsToEnd, TellsFeed, TellsText};
+ghost use Rattle.srm_program.specs.Sessions.{reading_failures, session_failures, ReadsSessionToEnd, TellsFeed, TellsText};
 
 use crate::fault::Fault;
 use crate::members::run_members;
@@ -58,7 +58,7 @@ pub fn simulate<R: Threads + Wait + Sync, F: Feed, O: Outlet>(
     ensures read { F.failures feed.new ≡ reading_failures result.done (F.failures feed.old) }
     ensures failures { O.failures outlet.new ≡ session_failures result.done (O.failures outlet.old) }
     // A text that was read whole leaves nothing to come.
-    ensures end { ReadsToEnd result.done (F.remaining feed.new) }
+    ensures end { ReadsSessionToEnd result.done (F.remaining feed.new) }
     // From the bytes that the feed gave to the outlet's, also where nothing else is known of the feed.
     ensures taken { (given : List ℕ) × Consumes (F.remaining feed.old) (F.remaining feed.new) given
         × (length given ≤ LONGEST_TEXT + 1)

@@ -81,8 +81,8 @@ joins g t o b u p r h k =
 pub one_self : {L O : Type 0} (a : ListingSink L O) → AreOverOne a a
 one_self a = (refl, refl)
 
-pub one_more : {L O : Type 0} (a b c : ListingSink L O) → AreOverOne a b → AreOverOne b c → AreOverOne a c
-one_more a b c h k = (k.0 ∙ h.0, k.1 ∙ h.1)
+pub over_one_more : {L O : Type 0} (a b c : ListingSink L O) → AreOverOne a b → AreOverOne b c → AreOverOne a c
+over_one_more a b c h k = (k.0 ∙ h.0, k.1 ∙ h.1)
 
 module _ {L O : Type 0} (taken : O → Option (List ℕ)) where
   pub wrote_none : (a : ListingSink L O) → Wrote taken a [] a

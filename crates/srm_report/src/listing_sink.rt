@@ -221,7 +221,7 @@ impl<'a, L: Listing, O: Outlet> RowSink for ListingSink<'a, L, O> {
     ghost use Rattle.std.specs.Prelude.{MatchResult};
     ghost use Rattle.srm_engine.specs.Sinks.{IsOpen, stage_after, stops_in};
     ghost use Rattle.srm_report.specs.ListingSinks.{stage_of, outlet_under, AreOverOne, LeavesOutlet, PutsRows, PutsPart};
-    ghost use Rattle.srm_report.specs.SinkLaws.{one_self, one_more, rows_none, rows_more, part_none, part_more, part_longer};
+    ghost use Rattle.srm_report.specs.SinkLaws.{one_self, over_one_more, rows_none, rows_more, part_none, part_more, part_longer};
 
     ghost stage = { stage_of };
 
@@ -237,7 +237,7 @@ impl<'a, L: Listing, O: Outlet> RowSink for ListingSink<'a, L, O> {
 
     ghost same_self = { one_self };
 
-    ghost same_more = { one_more };
+    ghost same_more = { over_one_more };
 
     ghost handed_none = { λ a. tt };
 

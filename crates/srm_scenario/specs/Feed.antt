@@ -14,11 +14,11 @@ abbrev pub reader_failures : {R : Type 0} → ReadFeed R → ℕ
 reader_failures f = f.failures
 
 -- the count of a feed's failures after a text was read from it: one more exactly where the answer is that it failed
-abbrev pub failures_after : {T : Type 0} → Result T TextFault → ℕ → ℕ
-failures_after (Ok text) n = n
-failures_after (Err ReadFault) n = n + 1
-failures_after (Err TooLong) n = n
-failures_after (Err NoMemory) n = n
+abbrev pub failures_after_text : {T : Type 0} → Result T TextFault → ℕ → ℕ
+failures_after_text (Ok text) n = n
+failures_after_text (Err ReadFault) n = n + 1
+failures_after_text (Err TooLong) n = n
+failures_after_text (Err NoMemory) n = n
 
 -- the answer for a feed that had these bytes still to give: all of them, or that they are too many, unless it failed or
 -- memory ran out

@@ -1,7 +1,7 @@
 //! Reading a text from a device.
 ghost use Rattle.std.specs.Prelude.{◌≡◌, ℕ, List, ◌<◌, ◌≤◌, ◌+◌, ◌-◌, ◌^◌, length, IfSome, IfOk, OnOk};
 ghost use Rattle.std.specs.Io.KnownBytes.{Consumes, IsAtEnd};
-ghost use Rattle.srm_scenario.specs.Feed.{failures_after, TextOf, Took};
+ghost use Rattle.srm_scenario.specs.Feed.{failures_after_text, TextOf, Took};
 
 use crate::feed::{Feed, FeedFault};
 use std::alloc::Global;
@@ -34,7 +34,7 @@ pub enum TextFault {
 pub fn read_text<F: Feed>(alloc: Global, feed: &mut F) -> Result<Vec<u8>, TextFault>
     requires { F.failures feed.old < 2 ^ 64 - 1 }
     // The count rises exactly where the answer is `ReadFault`, and then by one.
-    ensures failures { F.failures feed.new ≡ failures_after result (F.failures feed.old) }
+    ensures failures { F.failures feed.new ≡ failures_after_text result (F.failures feed.old) }
     // What is known to be still to come decides between `TooLong` and the whole text.
     ensures text { IfSome (F.remaining feed.old) (TextOf result) }
     ensures end { OnOk result (IsAtEnd (F.remaining feed.new)) }

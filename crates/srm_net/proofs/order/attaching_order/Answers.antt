@@ -5,7 +5,7 @@ use Rattle.std.proofs.lemmas.List.{length-set, length-reverse, reverse-append, l
 use Rattle.srm_net.specs.Network.{IsWithin}
 use Rattle.srm_net.specs.Paths.{is_in}
 use Rattle.srm_net.specs.Growth.{attached, Grows, newest, IsInPreorder}
-use Rattle.srm_net.specs.Waiting.{Wait, Adds}
+use Rattle.srm_net.specs.Waiting.{Wait, AddsSteps}
 use Rattle.srm_net.specs.Known.{is_known}
 use Rattle.srm_net.proofs.Lists.{read_mark}
 use Rattle.srm_net.proofs.Marks.{KnownAre, known_more}
@@ -126,7 +126,7 @@ loop-step-preserved c =
     (known_more nodes ss s known size below inv.known) in
     let marks = c.as_slice-in-Some.result.now in
     let all = c.push_steps-in-Some.new.pending.items in
-    let adds : Adds links marks s.node ps all = c.in_ok-push_steps-2.ensures in
+    let adds : AddsSteps links marks s.node ps all = c.in_ok-push_steps-2.ensures in
     record {
       marks = length-set known c.from-in-Some-2.result true ∙ size;
       known = subst (λ ts. KnownAre nodes ts (slice_set known c.from-in-Some-2.result true)) (sym more) marked;

@@ -1,7 +1,7 @@
 use Rattle.std.proofs.Common.{◌≡◌, ◌∙◌, ◌+◌, ◌-◌, ◌<◌, ◌≤◌, cond, refl, sym, subst, inl, inr, arith, length, slice_index, slice_set}
 use Rattle.std.proofs.lemmas.Bool.{cases_eq}
 use Rattle.std.proofs.lemmas.List.{length-set, get_or-set_same, get_or-set_other}
-use Rattle.srm_net.specs.Occupancy.{places_of, IsNext, TellsNext}
+use Rattle.srm_net.specs.Occupancy.{places_of, IsNextFree, TellsNext}
 use Rattle.srm_net.specs.Paths.{is_in}
 use Rattle.srm_net.specs.Rooting.{at}
 use Rattle.srm_net.proofs.Lists.{read_at}
@@ -23,19 +23,20 @@ loop-index-preserved c =
     let long : length xs ≡ size + 1 = inv.long in
     let own : c.index.result.now ≡ cond (is_in places i) i size = read_at xs i i c.index.result.now refl (omega arith) c.index.ensures
     ∙ inv.marks i (omega arith) in
-    let later : IsNext places size (i + 1) c.index-in-loop-index.result.now =
-    subst (IsNext places size (i + 1)) (sym (read_at xs (i + 1) (i + 1) c.index-in-loop-index.result.now refl (omega arith)
+    let later : IsNextFree places size (i + 1) c.index-in-loop-index.result.now =
+    subst (IsNextFree places size (i + 1)) (sym (read_at xs (i + 1) (i + 1) c.index-in-loop-index.result.now refl (omega arith)
     c.index-in-loop-index.ensures)) (inv.told (i + 1) (omega arith) (omega arith)) in
-    let here : IsNext places size i first = next_before places size i c.index.result.now c.index-in-loop-index.result.now first lt own later
+    let here : IsNextFree places size i first =
+        next_before places size i c.index.result.now c.index-in-loop-index.result.now first lt own later
     c.min-first.ensures in
     record {
       size = inv.size;
       long = length-set xs i first ∙ long;
       marks = λ j h. get_or-set_other xs i j first 0 (omega arith) ∙ inv.marks j (omega arith);
       told = λ j a b. elim (cases_eq i j) [
-        | inl e ↦ subst (λ k. IsNext places size k (slice_index (slice_set xs i first) k)) e
-            (subst (IsNext places size i) (sym (get_or-set_same xs i first 0 (omega arith))) here)
-        | inr d ↦ subst (IsNext places size j) (sym (get_or-set_other xs i j first 0 (λ e. d (sym e))))
+        | inl e ↦ subst (λ k. IsNextFree places size k (slice_index (slice_set xs i first) k)) e
+            (subst (IsNextFree places size i) (sym (get_or-set_same xs i first 0 (omega arith))) here)
+        | inr d ↦ subst (IsNextFree places size j) (sym (get_or-set_other xs i j first 0 (λ e. d (sym e))))
             (inv.told j (omega arith) b)
       ];
     }

@@ -1,7 +1,7 @@
 use Rattle.std.proofs.Common.{◌≡◌, sym, subst, true, ◌<◌, ◌≤◌}
 use Rattle.std.proofs.lemmas.Bool.{both_ways}
 use Rattle.srm_net.specs.declared.position.Position.{Position}
-use Rattle.srm_net.specs.Rooting.{at, IsFirst}
+use Rattle.srm_net.specs.Rooting.{at, IsFirstLink}
 use Rattle.srm_net.proofs.Firsts.{first_down, first_up}
 use Rattle.srm_net.proofs.rooted.Rooted.first_step.Goals as goal
 
@@ -12,7 +12,7 @@ position-requires-then-holds c =
 
 pub returns-then-holds : goal.returns-then-holds
 returns-then-holds c w r hf ht =
-    subst (λ (p : Position). IsFirst w c.args.from c.args.to p.link c.child_above-child.result) (sym c.position-then-holds.ensures)
+    subst (λ (p : Position). IsFirstLink w c.args.from c.args.to p.link c.child_above-child.result) (sym c.position-then-holds.ensures)
     (first_down w c.args.self.now.positions.items r c.args.from c.args.to c.child_above-child.result hf ht
     (c.child_above-child.ensures w r hf ht))
 
@@ -25,5 +25,5 @@ returns-else-holds c w r hf ht =
     c.position-here.ensures
     (subst (λ (p : Position). c.position-here.result.place ≤ p.place → p.place < c.position-here.result.end → c.holds.result ≡ true)
     c.position.ensures c.holds.ensures.whole) in
-    subst (λ (p : Position). IsFirst w c.args.from c.args.to p.link p.parent) (sym c.position-here.ensures)
+    subst (λ (p : Position). IsFirstLink w c.args.from c.args.to p.link p.parent) (sym c.position-here.ensures)
     (first_up w ps r c.args.from c.args.to hf ht (λ z. both_ways _ c.if-holds.false (whole z.0 z.1)))

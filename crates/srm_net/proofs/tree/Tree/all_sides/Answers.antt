@@ -1,6 +1,6 @@
 use Rattle.std.proofs.Common.{◌∙◌, sym, ap, subst, arith, length, ◌+◌}
 use Rattle.std.proofs.lemmas.List.{length_push}
-use Rattle.srm_net.specs.Built.{plain_of}
+use Rattle.srm_net.specs.Built.{network_inside}
 use Rattle.srm_net.proofs.BuiltLemmas.{link_seen, rooted_in}
 use Rattle.srm_net.proofs.Lists.{get_below}
 use Rattle.srm_net.proofs.OccupiedLemmas.{sides_seen}
@@ -10,7 +10,7 @@ use Rattle.srm_net.proofs.tree.Tree.all_sides.Goals as goal
 pub of-requires : goal.of-requires
 of-requires c = record {
   rooted = (
-    plain_of c.self.inside,
+    network_inside c.self.inside,
     c.self.invariant.network,
     rooted_in c.self.inside c.self.invariant,
     sym c.as_slice.ensures.value,
@@ -19,17 +19,17 @@ of-requires c = record {
 
 pub sides-requires : goal.sides-requires
 sides-requires c = (
-  plain_of c.self.inside,
+  network_inside c.self.inside,
   c.loop-link.link,
-  c.in_ok-occupied.ensures (plain_of c.self.inside) c.self.invariant.network (rooted_in c.self.inside c.self.invariant)
+  c.in_ok-occupied.ensures (network_inside c.self.inside) c.self.invariant.network (rooted_in c.self.inside c.self.invariant)
       (sym c.as_slice.ensures.value),
-  link_seen (plain_of c.self.inside) c.args.self.now c.self.view_is c.loop-link.link c.link.result c.link.ensures,
+  link_seen (network_inside c.self.inside) c.args.self.now c.self.view_is c.loop-link.link c.link.result c.link.ensures,
 )
 
 pub loop-link-preserved : goal.loop-link-preserved
 loop-link-preserved c =
     let w = c.args.self.now in
-    let v = plain_of c.self.inside in
+    let v = network_inside c.self.inside in
     let inv = c.loop-link.invariant in
     let l = c.loop-link.link in
     let pushed = c.in_ok-push.ensures.items in

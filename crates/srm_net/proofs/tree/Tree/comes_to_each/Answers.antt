@@ -2,7 +2,7 @@ use Rattle.std.proofs.Common.{◌≡◌, ◌∙◌, ◌++◌, ◌∷◌, [], ◌
 use Rattle.std.proofs.Common.{slice_get, slice_index_or}
 use Rattle.std.proofs.lemmas.Bool.{cases_eq}
 use Rattle.std.proofs.lemmas.List.{length-append}
-use Rattle.srm_net.specs.Built.{plain_of}
+use Rattle.srm_net.specs.Built.{network_inside}
 use Rattle.srm_net.specs.Network.{Network}
 use Rattle.srm_net.specs.Paths.{takes_out}
 use Rattle.srm_net.specs.Spreads.{comes_to, TellsArrivals}
@@ -13,10 +13,10 @@ use Rattle.srm_net.proofs.tree.Tree.comes_to_each.Goals as goal
 
 pub arrivals-requires-clause-rooted : goal.arrivals-requires-clause-rooted
 arrivals-requires-clause-rooted c = (
-  plain_of c.self.inside,
+  network_inside c.self.inside,
   c.self.invariant.network,
   tree_in c.self.inside c.self.invariant,
-  seen_below (plain_of c.self.inside) c.args.self.now c.args.packet.from c.self.view_is c.requires.from,
+  seen_below (network_inside c.self.inside) c.args.self.now c.args.packet.from c.self.view_is c.requires.from,
 )
 
 pub loop-arrival-preserved : goal.loop-arrival-preserved
@@ -31,8 +31,8 @@ loop-arrival-preserved c =
     let b = c.is_some.result in
     let told : TellsArrivals w out u t c.in_ok-arrivals.arrivals.items =
     subst (λ (n : Network). TellsArrivals n out u t c.in_ok-arrivals.arrivals.items) c.self.view_is
-    (c.in_ok-arrivals.ensures (plain_of c.self.inside) (tree_in c.self.inside c.self.invariant)
-    (seen_below (plain_of c.self.inside) w u c.self.view_is c.requires.from)) in
+    (c.in_ok-arrivals.ensures (network_inside c.self.inside) (tree_in c.self.inside c.self.invariant)
+    (seen_below (network_inside c.self.inside) w u c.self.view_is c.requires.from)) in
     let read : slice_get c.in_ok-arrivals.arrivals.items i ≡ Some (slice_index_or items i None) =
     ap (λ es. slice_get es i) (sym c.deref-arrival-items.ensures.value) ∙ index_get items i None c.loop-arrival-test.true in
     let is : b ≡ comes_to w out u t i = c.is_some.ensures
@@ -58,8 +58,8 @@ returns c =
     let items = c.deref-arrival-items.result.now in
     let told : TellsArrivals w out u t c.in_ok-arrivals.arrivals.items =
     subst (λ (n : Network). TellsArrivals n out u t c.in_ok-arrivals.arrivals.items) c.self.view_is
-    (c.in_ok-arrivals.ensures (plain_of c.self.inside) (tree_in c.self.inside c.self.invariant)
-    (seen_below (plain_of c.self.inside) w u c.self.view_is c.requires.from)) in
+    (c.in_ok-arrivals.ensures (network_inside c.self.inside) (tree_in c.self.inside c.self.invariant)
+    (seen_below (network_inside c.self.inside) w u c.self.view_is c.requires.from)) in
     let all : length items ≡ w.nodes = ap length c.deref-arrival-items.ensures.value ∙ told.nodes in
     let long : length c.loop-arrival.comes.items ≡ c.loop-arrival.arrival-index = c.loop-arrival.invariant.long in
     let end : length items ≤ c.loop-arrival.arrival-index = c.loop-arrival-test.false in

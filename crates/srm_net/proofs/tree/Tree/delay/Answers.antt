@@ -2,7 +2,7 @@ use Rattle.std.proofs.Common.{◌≡◌, ◌∙◌, sym, ap, subst, ◌≤◌}
 use Rattle.srm_net.specs.Limits.{greatest_distance}
 use Rattle.srm_net.specs.Network.{Network, IsNetwork}
 use Rattle.srm_net.specs.Rooting.{takes}
-use Rattle.srm_net.specs.Built.{plain_of}
+use Rattle.srm_net.specs.Built.{network_inside}
 use Rattle.srm_net.proofs.BuiltLemmas.{seen_below, rooted_in}
 use Rattle.srm_net.proofs.PathLaws.{delay_bounded}
 use Rattle.srm_net.proofs.tree.Tree.delay.Goals as goal
@@ -10,19 +10,19 @@ use Rattle.srm_net.proofs.tree.Tree.delay.Goals as goal
 pub delay-requires : goal.delay-requires
 delay-requires c = record {
   rooted = (
-    plain_of c.self.inside,
+    network_inside c.self.inside,
     c.self.invariant.network,
     rooted_in c.self.inside c.self.invariant,
-    seen_below (plain_of c.self.inside) c.args.self.now c.args.from c.self.view_is c.requires.from,
-    seen_below (plain_of c.self.inside) c.args.self.now c.args.to c.self.view_is c.requires.to,
+    seen_below (network_inside c.self.inside) c.args.self.now c.args.from c.self.view_is c.requires.from,
+    seen_below (network_inside c.self.inside) c.args.self.now c.args.to c.self.view_is c.requires.to,
   );
 }
 
 value : (c : goal.After-delay) → c.delay.result ≡ takes c.args.self.now c.args.from c.args.to
 value c =
-    c.delay.ensures (plain_of c.self.inside) (rooted_in c.self.inside c.self.invariant)
-    (seen_below (plain_of c.self.inside) c.args.self.now c.args.from c.self.view_is c.requires.from)
-    (seen_below (plain_of c.self.inside) c.args.self.now c.args.to c.self.view_is c.requires.to)
+    c.delay.ensures (network_inside c.self.inside) (rooted_in c.self.inside c.self.invariant)
+    (seen_below (network_inside c.self.inside) c.args.self.now c.args.from c.self.view_is c.requires.from)
+    (seen_below (network_inside c.self.inside) c.args.self.now c.args.to c.self.view_is c.requires.to)
     ∙ ap (λ (w : Network). takes w c.args.from c.args.to) c.self.view_is
 
 pub returns-clause-value : goal.returns-clause-value

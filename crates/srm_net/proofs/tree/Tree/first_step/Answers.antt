@@ -1,24 +1,24 @@
 use Rattle.std.proofs.Common.{subst}
-use Rattle.srm_net.specs.Built.{plain_of}
+use Rattle.srm_net.specs.Built.{network_inside}
 use Rattle.srm_net.specs.Network.{Network}
-use Rattle.srm_net.specs.Rooting.{IsFirst}
+use Rattle.srm_net.specs.Rooting.{IsFirstLink}
 use Rattle.srm_net.proofs.BuiltLemmas.{seen_below, rooted_in}
 use Rattle.srm_net.proofs.tree.Tree.first_step.Goals as goal
 
 pub first_step-requires-clause-rooted : goal.first_step-requires-clause-rooted
 first_step-requires-clause-rooted c = (
-  plain_of c.self.inside,
+  network_inside c.self.inside,
   rooted_in c.self.inside c.self.invariant,
-  seen_below (plain_of c.self.inside) c.args.self.now c.args.from c.self.view_is c.requires.from,
-  seen_below (plain_of c.self.inside) c.args.self.now c.args.to c.self.view_is c.requires.to,
+  seen_below (network_inside c.self.inside) c.args.self.now c.args.from c.self.view_is c.requires.from,
+  seen_below (network_inside c.self.inside) c.args.self.now c.args.to c.self.view_is c.requires.to,
 )
 
-first : (c : goal.After-first_step) → IsFirst c.args.self.now c.args.from c.args.to c.first_step.result.0 c.first_step.result.1
+first : (c : goal.After-first_step) → IsFirstLink c.args.self.now c.args.from c.args.to c.first_step.result.0 c.first_step.result.1
 first c =
-    subst (λ (w : Network). IsFirst w c.args.from c.args.to c.first_step.result.0 c.first_step.result.1) c.self.view_is
-    (c.first_step.ensures (plain_of c.self.inside) (rooted_in c.self.inside c.self.invariant)
-    (seen_below (plain_of c.self.inside) c.args.self.now c.args.from c.self.view_is c.requires.from)
-    (seen_below (plain_of c.self.inside) c.args.self.now c.args.to c.self.view_is c.requires.to))
+    subst (λ (w : Network). IsFirstLink w c.args.from c.args.to c.first_step.result.0 c.first_step.result.1) c.self.view_is
+    (c.first_step.ensures (network_inside c.self.inside) (rooted_in c.self.inside c.self.invariant)
+    (seen_below (network_inside c.self.inside) c.args.self.now c.args.from c.self.view_is c.requires.from)
+    (seen_below (network_inside c.self.inside) c.args.self.now c.args.to c.self.view_is c.requires.to))
 
 pub returns-clause-route : goal.returns-clause-route
 returns-clause-route c = (first c).route
