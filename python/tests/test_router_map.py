@@ -183,11 +183,11 @@ def test_a_session_on_a_large_map_that_only_version_3_has_room_for(program, larg
 
 
 def test_a_map_of_the_internet_in_lists_of_edges(tmp_path, srm_lab):
-    graph = networkx.random_internet_as_graph(10_000, seed=1)
+    graph = networkx.random_internet_as_graph(3000, seed=1)
     path = tmp_path / "internet.edges"
     path.write_text("".join(f"AS{a} AS{b} {1 + (a + b) % 30}\n" for a, b in graph.edges))
-    made = scenario.from_router_map(path, members=4000, source="AS0", seed=2)
-    assert len(made.members) == 4000 and made.tree.name(made.members[0].node) == "AS0"
+    made = scenario.from_router_map(path, members=1500, source="AS0", seed=2)
+    assert len(made.members) == 1500 and made.tree.name(made.members[0].node) == "AS0"
     assert read_scenario(made.text()).tree == made.tree
     srm_lab(made.text(), "--check")
 
