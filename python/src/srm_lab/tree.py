@@ -171,12 +171,14 @@ class Tree:
 
 def _keys_of_parents(links: tuple[Link, ...]) -> dict[str, Any]:
     """The keys of a tree whose links stand by parents: one delay for all links where all are the same."""
-    keys: dict[str, Any] = {"topology": "parents", "parent": [link.a for link in links]}
     delays, backs = [link.delay for link in links], [link.back for link in links]
-    keys |= {"delay": delays[0]} if len(set(delays)) == 1 else {"delays": delays}
-    if backs != delays:
-        keys |= {"back": backs[0]} if len(set(backs)) == 1 else {"backs": backs}
-    return keys
+    return {"topology": "parents", "parent": [link.a for link in links], **_once("delay", delays),
+            **(_once("back", backs) if backs != delays else {})}
+
+
+def _once(key: str, ticks: list[int]) -> dict[str, Any]:
+    """The delays of all links: under the key where all are the same, and else, in its plural, each of them."""
+    return {key: ticks[0]} if len(set(ticks)) == 1 else {f"{key}s": ticks}
 
 
 def _even(ends: Iterable[tuple[int, int]], delay: int) -> tuple[Link, ...]:
