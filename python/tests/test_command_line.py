@@ -104,7 +104,8 @@ def test_file_of_edges(write, tmp_path):
 
 
 @pytest.mark.parametrize("words, told", [
-    ("chain --size 1025", "size is 1025"),
+    ("chain --size 65536", "size is 65536"),
+    ("chain --size 5 --draws 4097", "--draws is 4097, and has to be 0 to 4096"),
     ("chain --size 5 --members 6", "--members is 6"),
     ("chain --size 5 --members some", "say a number or all"),
     ("chain --size 5 --source 5", "no node that may host"),

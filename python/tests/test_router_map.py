@@ -7,6 +7,7 @@ import pytest
 
 from srm_lab import Delays, ScenarioError, read_scenario, run, scenario
 from srm_lab.cli import main
+from srm_lab.losses import losers
 
 
 def edges(made):
@@ -101,8 +102,8 @@ def test_negative_delay_is_refused_by_its_edge(town):
 
 
 def test_tree_of_more_nodes_than_the_format_has_room_for_is_refused():
-    with pytest.raises(ScenarioError, match="1025 members has 1025 nodes .* room for 1024: choose fewer"):
-        scenario.from_router_map(networkx.path_graph(2000), 1, members=1025, source=0)
+    with pytest.raises(ScenarioError, match="65536 members has 65536 nodes .* room for 65535: choose fewer"):
+        scenario.from_router_map(networkx.path_graph(66_000), 1, members=65_536, source=0)
 
 
 def test_number_of_members_is_chosen_by_the_seed(town):
@@ -156,6 +157,39 @@ def test_a_map_of_10000_routers(program, large):
         assert link.delay == round(sum(10 * large.edges[step]["ms"] for step in itertools.pairwise(route)))
     runs = run(made.drawing(4).drop(0, 0), tables=["losses"], program=program, cache=None)
     assert set(runs.losses["ended"]) == {"recovered"}
+
+
+def test_a_session_on_a_large_map_that_only_version_3_has_room_for(program, large):
+    made = scenario.from_router_map(large, Delays("ms", factor=10), members=2500, source=17, seed=3)
+    tree = made.tree
+    assert made.table()["version"] == 3 and tree.nodes > 2500 and made.table()["topology"] == "parents"
+    # link i leads to node i + 1 from its parent, and what stands in the file leads back to the map
+    assert [link.b for link in tree.links] == list(range(1, tree.nodes))
+    again = read_scenario(made.text())
+    assert again.tree == tree and again.members == made.members
+    must = networkx.single_source_dijkstra_path_length(large, 17, weight="ms")
+    found = tree.distances(made.members[0].node)
+    assert all(found[member.node] == round(10 * must[int(tree.name(member.node))]) for member in made.members)
+    for place, link in enumerate(tree.links):
+        route = [int(name) for name in tree.route(place)]
+        assert (tree.name(link.a), tree.name(link.b)) == (str(route[0]), str(route[-1]))
+        assert link.delay == link.back == round(sum(10 * large.edges[step]["ms"] for step in itertools.pairwise(route)))
+    # those that lose the first draw are the members behind the link, as the map has it
+    lossy = tree.link_between("17", next(tree.name(node) for node, _ in tree.neighbours()[tree.number("17")]))
+    behind = losers(tree, tree.number("17"), [member.node for member in made.members], lossy)
+    runs = run(made.drawing(2).drop(lossy, 0), tables=["losses"], program=program, cache=None)
+    assert sorted(runs.losses["node"]) == sorted(str(tree.name(node)) for node in behind)
+    assert set(runs.losses["ended"]) == {"recovered"}
+
+
+def test_a_map_of_the_internet_in_lists_of_edges(tmp_path, srm_lab):
+    graph = networkx.random_internet_as_graph(3000, seed=1)
+    path = tmp_path / "internet.edges"
+    path.write_text("".join(f"AS{a} AS{b} {1 + (a + b) % 30}\n" for a, b in graph.edges))
+    made = scenario.from_router_map(path, members=1500, source="AS0", seed=2)
+    assert len(made.members) == 1500 and made.tree.name(made.members[0].node) == "AS0"
+    assert read_scenario(made.text()).tree == made.tree
+    srm_lab(made.text(), "--check")
 
 
 def test_command_line_writes_the_tree_of_a_map(tmp_path, capsys, town):

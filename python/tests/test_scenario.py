@@ -9,6 +9,7 @@ import pytest
 
 from srm_lab import ScenarioError, read_scenario, scenario
 from srm_lab.parts import Drop, Outage
+from srm_lab.repetition import APART, expanded
 
 ROOT = Path(__file__).resolve().parents[2]
 FILES = sorted([*(ROOT / "examples").glob("*.toml"), *(ROOT / "tests/scenarios").glob("*.toml")])
@@ -44,8 +45,9 @@ def test_package_refuses_what_the_program_refuses_and_nothing_else(number, text,
 
 
 def defaults_left_out(table):
-    """A file's table without the keys that say what holds without them."""
+    """A file's table without the keys that say what holds without them, and with each of its elements."""
     table = {key: value for key, value in table.items() if value != []}
+    table |= {part: expanded(part, table[part]) for part in APART if part in table}
     for member in table.get("member", []):
         if member.get("join") == 0:
             del member["join"]
@@ -157,7 +159,7 @@ def test_one_seed_gives_one_scenario_and_verbs_choose_apart():
     (lambda: scenario.chain(3).lose(every=2), "every needs a link"),
     (lambda: scenario.chain(3).lose(rate=0.5, sender=3), "sender is 3, and has to be 0 to 2"),
     (lambda: scenario.chain(3).lose(rate=1.5), "rate is 1.5, and has to be from 0 to 1"),
-    (lambda: scenario.chain(900).lose(rate=1), "`drop` has 89900 elements, and may have 4096"),
+    (lambda: scenario.chain(900).lose(rate=1), "`drop` has 89900 elements, and may have 65535"),
     (lambda: scenario.chain(3).constants(c3=1), "c3: the constants are c1, c2, d1 and d2"),
     (lambda: scenario.chain(3).constants(c1=1025), "1025 in thousandths is 1025000"),
     (lambda: scenario.chain(3).constants(c1=2, c1_least=3), "`c1_least` is 3000, and has to be 0 to 2000"),

@@ -68,7 +68,7 @@ def test_keys_that_repeat_and_flags():
     ({"experiments": {"one": {"kind": "ring", "size": 3, "seeds": 1}}}, "there is no kind 'ring'"),
     ({"experiments": {"one": {"kind": "chain", "size": 3, "leave": "9:1-2", "seeds": 1}}}, "only: members is 9"),
     ({"experiments": {"one": {"kind": "chain", "size": 3, "outage": "2:1-2", "seeds": 1}}}, "there is no link 2"),
-    ({"experiments": {"one": {"kind": "chain", "size": [3, 2000], "seeds": 1}}}, "size-2000: size is 2000"),
+    ({"experiments": {"one": {"kind": "chain", "size": [3, 70000], "seeds": 1}}}, "size-70000: size is 70000"),
     ({"figures": {"f": {"draw": "line", "of": ["one"]}}}, "figure f, draw: there is no 'line'"),
     ({"figures": {"f": {"draw": "lines", "of": ["two"]}}}, "figure f, of: there is no 'two'"),
     ({"figures": {"f": {"draw": "lines", "of": ["one"], "x": "size"}}}, "lines need x and y"),

@@ -107,13 +107,18 @@ def test_list_of_edges(tmp_path):
     ("a b 1000001\n", "delay of link 0 is 1000001"),
     ("a b 1 2\n", "line 1 has 4 words"),
     ("", "number of nodes is 0"),
-    ("".join(f"0 {node}\n" for node in range(1, 1025)), "room for 1024"),
 ])
 def test_lists_of_edges_that_are_refused(tmp_path, text, told):
     path = tmp_path / "graph.edges"
     path.write_text(text)
     with pytest.raises(ScenarioError, match=told):
         graphs.from_file(path, Delays(default=1))
+
+
+def test_a_graph_of_more_nodes_than_the_format_has_room_for_is_refused():
+    import networkx
+    with pytest.raises(ScenarioError, match="the graph has 65536 nodes, and the format has room for 65535"):
+        graphs.from_graph(networkx.star_graph(65_535), Delays(default=1))
 
 
 @pytest.mark.parametrize("name, text, told", [
@@ -131,7 +136,8 @@ def test_files_that_are_refused(tmp_path, name, text, told):
 
 @pytest.mark.parametrize("made, version", [
     (tree.chain(256, 1), 1), (tree.chain(257, 1), 2), (tree.chain(1024, 1), 2),
-    (tree.bounded_degree(9, 255, 1), 1), (tree.bounded_degree(9, 256, 1), 2),
+    (tree.bounded_degree(9, 255, 1), 1), (tree.bounded_degree(9, 256, 1), 2), (tree.chain(1025, 1), 3),
+    (tree.bounded_degree(9, 1023, 1), 2), (tree.bounded_degree(9, 1024, 1), 3), (tree.chain(256, 1).by_parents(), 3),
 ])
 def test_a_scenario_names_the_first_version_that_has_room(made, version):
     made = Scenario(made, (Member(1, "sender", 1),))
@@ -140,15 +146,62 @@ def test_a_scenario_names_the_first_version_that_has_room(made, version):
 
 @pytest.mark.parametrize("make, told", [
     (lambda: tree.chain(0, 1), "size is 0"),
-    (lambda: tree.chain(1025, 1), "size is 1025"),
-    (lambda: tree.star(1300, 1), "size is 1300"),
+    (lambda: tree.chain(65_536, 1), "size is 65536"),
+    (lambda: tree.star(66_000, 1), "size is 66000"),
     (lambda: tree.chain(2, 0), "delay of link 0 is 0"),
     (lambda: tree.bounded_degree(9, 1, 1), "degree is 1"),
-    (lambda: tree.bounded_degree(9, 1024, 1), "degree is 1024"),
-    (lambda: tree.random_labelled(1025, 1, random.Random(0)), "size is 1025"),
+    (lambda: tree.bounded_degree(9, 65_535, 1), "degree is 65535"),
+    (lambda: tree.random_labelled(65_536, 1, random.Random(0)), "size is 65536"),
     (lambda: tree.Tree(3, (Link(0, 1, 1, 1), Link(1, 0, 1, 1))), "no tree"),
     (lambda: tree.Tree(2, (Link(0, 2, 1, 1),)), "end of link 0 is 2"),
 ])
 def test_networks_that_are_refused(make, told):
     with pytest.raises(ScenarioError, match=told):
         make()
+
+
+def test_a_tree_by_its_parents_is_seen_from_node_0():
+    # 0 - 2 is told from 2, and 3 - 1 hangs below: 1 is the child of 3, and 3 that of 2
+    made = tree.Tree(4, (Link(2, 0, 5, 6), Link(3, 1, 7, 8), Link(3, 2, 1, 2)), names=tuple("abcd"),
+                     routes=(("c", "x", "a"), ("d", "b"), ("d", "y", "z", "c"))).by_parents()
+    assert made.links == (Link(3, 1, 7, 8), Link(0, 2, 6, 5), Link(2, 3, 2, 1))
+    assert made.routes == (("d", "b"), ("a", "x", "c"), ("c", "z", "y", "d")) and made.names == tuple("abcd")
+    assert made.shorthand == {"topology": "parents", "parent": [3, 0, 2], "delays": [7, 6, 2], "backs": [8, 5, 1]}
+    assert made.by_parents() == made
+
+
+@pytest.mark.parametrize("links, keys", [
+    ((), {"delays": []}),
+    ((Link(0, 1, 4, 4), Link(1, 2, 4, 4)), {"delay": 4}),
+    ((Link(0, 1, 4, 4), Link(1, 2, 5, 5)), {"delays": [4, 5]}),
+    ((Link(0, 1, 4, 9), Link(1, 2, 5, 9)), {"delays": [4, 5], "back": 9}),
+    ((Link(0, 1, 4, 5), Link(1, 2, 4, 6)), {"delay": 4, "backs": [5, 6]}),
+])
+def test_a_delay_of_all_links_is_told_once(links, keys):
+    shorthand = tree.Tree(len(links) + 1, links).by_parents().shorthand
+    assert {key: value for key, value in shorthand.items() if key not in ("topology", "parent")} == keys
+
+
+def test_large_trees_without_a_name_stand_by_their_parents():
+    assert tree.random_labelled(1025, 3, random.Random(1)).shorthand["delay"] == 3
+    assert tree.random_labelled(1024, 3, random.Random(1)).shorthand == {}
+    large = tree.chain(1025, 3).with_delays(3, 4, random.Random(1))
+    assert large.shorthand["parent"] == list(range(1024)) and set(large.shorthand["delays"]) == {3, 4}
+    assert large.with_back(7).shorthand == {**large.shorthand, "back": 7}
+    both = large.with_back(iter(range(1, 1025)).__next__)
+    assert both.shorthand == {**large.shorthand, "backs": list(range(1, 1025))} and both.with_back(7) == large.with_back(7)
+
+
+@pytest.mark.parametrize("made, links, far", [
+    # below the root of degree 4 are 4, 12, 36, 108, 324 nodes, 485 with it; 515 of the 972 at the next depth are left
+    (tree.bounded_degree(1000, 4, 1), [(0, 1), (0, 4), (1, 5), (332, 999)], 6),
+    # and 972, 2916: 4,373 with the root; 627 of the next depth are left
+    (tree.bounded_degree(5000, 4, 1), [(0, 1), (0, 4), (1, 5), (1665, 4999)], 8),
+    (tree.bounded_degree(65_535, 4, 1), [(0, 1), (21843, 65_532), (21843, 65_533), (21844, 65_534)], 10),
+    (tree.chain(65_535, 1), [(0, 1), (4, 5), (65_533, 65_534)], 65_534),
+    (tree.star(65_535, 1), [(0, 1), (0, 5), (0, 65_534)], 1),
+])
+def test_large_trees_that_have_a_name(made, links, far):
+    assert [(made.links[child - 1].a, made.links[child - 1].b) for _, child in links] == links
+    assert max(made.distances(0).values()) == far
+    assert len(set(made.shorthand) & {"link", "parent"}) == 0

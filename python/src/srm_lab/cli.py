@@ -10,7 +10,7 @@ from dataclasses import replace
 from . import graphs, losses, tree
 from .errors import ScenarioError
 from .graphs import Delays
-from .limits import MOST_TIME, NEWEST, within
+from .limits import MOST_NUMBERS, MOST_TIME, NEWEST, within
 from .page import command as page_command
 from .parts import CONSTANTS, Draw, Drop, Member, Session
 from .scenario import Scenario, Ticks, from_router_map, place_members, thousandths
@@ -153,7 +153,7 @@ def constants(options: argparse.Namespace, members: int) -> dict[str, int]:
 
 def with_draws(scenario: Scenario, options: argparse.Namespace) -> Scenario:
     """The scenario with the source's draws, and its session message after them."""
-    count = within("--draws", 2 if options.draws is None else options.draws, 0, NEWEST.elements)
+    count = within("--draws", 2 if options.draws is None else options.draws, 0, MOST_NUMBERS)
     every = within("--every", 1 if options.every is None else options.every, 1, MOST_TIME)
     draws = [within("the tick of a draw", options.start + place * every, 0, MOST_TIME) for place in range(count)]
     after = [] if options.no_session or not draws else [draws[-1] + options.session_after]
@@ -170,7 +170,7 @@ def in_rounds(scenario: Scenario, options: argparse.Namespace, rng: random.Rando
         name = "--" + (given or ["start"])[0].replace("_", "-")
         raise ScenarioError(f"--rounds says which packets are drawn and lost: leave out {name}")
     link = losses.link_of(options.drop_link, scenario, rng)
-    return scenario.rounds(within("--rounds", options.rounds, 1, NEWEST.elements // 2), link, options.every)
+    return scenario.rounds(within("--rounds", options.rounds, 1, MOST_NUMBERS // 2), link, options.every)
 
 
 def with_drops(scenario: Scenario, options: argparse.Namespace, rng: random.Random) -> Scenario:
@@ -183,7 +183,7 @@ def with_drops(scenario: Scenario, options: argparse.Namespace, rng: random.Rand
     link = losses.link_of(options.drop_link, scenario, rng)
     counts: Sequence[int] = options.drop_packet or [0]
     if options.drop_every is not None:
-        counts = range(0, len(scenario.draws), within("--drop-every", options.drop_every, 1, NEWEST.elements))
+        counts = range(0, len(scenario.draws), within("--drop-every", options.drop_every, 1, MOST_NUMBERS))
     for count in counts:
         within("the number of a lost packet", count, 0, NEWEST.count)
     scenario = replace(scenario, drops=tuple(Drop(link, 0, count) for count in counts))

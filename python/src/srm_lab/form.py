@@ -6,6 +6,7 @@ from typing import Any
 from .errors import ScenarioError
 from .limits import VERSIONS, Limits
 from .parts import CONSTANTS, LIMITS, ROLES
+from .repetition import DEFAULTS, copy_of, times_of, total
 
 Check = Callable[[object], str | None]
 PARTS = ("link", "member", "draw", "session", "drop", "outage")
@@ -35,16 +36,29 @@ def word(*words: str) -> Check:
     return check
 
 
-def array(most: int, of: Check | None = None) -> Check:
+def array(most: int, of: Check | None = None, count: Callable[[list[Any]], int] = len) -> Check:
     """An array of at most so many elements, each of which passes a check."""
     def check(value: object) -> str | None:
         if not isinstance(value, list):
             return f"is {type(value).__name__}, and has to be an array"
-        if len(value) > most:
-            return f"has {len(value)} elements, and may have {most}"
+        if count(value) > most:
+            return f"has {count(value)} elements, and may have {most}"
         if of is None:
             return None
         return next((f"has an element that {told}" for told in map(of, value) if told), None)
+    return check
+
+
+def one_each(things: object, of: Check) -> Check:
+    """An array with one element for each of those of another array."""
+    most = len(things) if isinstance(things, list) else 0
+    whole = array(most, of)
+
+    def check(value: object) -> str | None:
+        told = whole(value)
+        if told is None and isinstance(value, list) and len(value) < most:
+            told = f"has {len(value)} elements, and has to have {most}"
+        return told
     return check
 
 
@@ -56,8 +70,7 @@ def elements(limits: Limits) -> dict[str, dict[str, Key]]:
     at = Key(number(0, limits.time))
     delay = number(1, limits.delay)
     back = {"back": Key(delay, False)} if limits.two_way else {}
-    return {
-        "link": {"a": node, "b": node, "delay": Key(delay), **back},
+    keys = {
         "member": {"node": node, "role": Key(word(*ROLES)), "stream": Key(number(0, limits.stream)),
                    "join": Key(number(0, limits.time), False), "leave": Key(number(1, limits.time), False),
                    "pages": Key(array(limits.pages, number(0, limits.page)), False)},
@@ -66,6 +79,9 @@ def elements(limits: Limits) -> dict[str, dict[str, Key]]:
         "drop": {"link": link, "sender": member, "count": Key(number(0, limits.count))},
         "outage": {"link": link, "from": at, "to": Key(number(1, limits.time))},
     }
+    repetition = {"times": Key(number(1, limits.elements), False), "every": Key(number(0, limits.time), False)}
+    return {"link": {"a": node, "b": node, "delay": Key(delay), **back},
+            **{part: own | (repetition if limits.large else {}) for part, own in keys.items()}}
 
 
 def top(limits: Limits, table: dict[str, Any]) -> dict[str, Key]:
@@ -76,19 +92,32 @@ def top(limits: Limits, table: dict[str, Any]) -> dict[str, Key]:
     if limits.adaptive:
         keys |= adaptive(limits, table)
     if "topology" in table:
+        keys["topology"] = Key(word("chain", "star", "tree", *(["parents"] if limits.large else [])))
+    if limits.large and table.get("topology") == "parents":
+        keys |= parents(limits, table)
+    elif "topology" in table:
         delay = number(1, limits.delay)
-        keys |= {"topology": Key(word("chain", "star", "tree")), "size": Key(number(1, limits.nodes)),
-                 "delay": Key(delay)}
+        keys |= {"size": Key(number(1, limits.nodes)), "delay": Key(delay)}
         if limits.two_way:
             keys["back"] = Key(delay, False)
         if table["topology"] == "tree":
             keys["degree"] = Key(number(2, limits.nodes - 1))
     else:
         keys |= {"nodes": Key(number(1, limits.nodes)), "link": Key(array(limits.nodes - 1), False)}
-    keys["member"] = Key(array(limits.members), False)
+    count = total if limits.large else len
+    keys["member"] = Key(array(limits.members, count=count), False)
     for part in ("draw", "session", "drop", *(["outage"] if limits.outages else [])):
-        keys[part] = Key(array(limits.elements), False)
+        keys[part] = Key(array(limits.elements, count=count), False)
     return keys
+
+
+def parents(limits: Limits, table: dict[str, Any]) -> dict[str, Key]:
+    """The keys of a network that is told by the parent of each node: of its delays either that of all links or each."""
+    delay = number(1, limits.delay)
+    each = one_each(table.get("parent"), delay)
+    return {"parent": Key(array(limits.nodes - 1, number(0, limits.nodes - 1))),
+            **({"delays": Key(each)} if "delays" in table else {"delay": Key(delay)}),
+            **({"backs": Key(each)} if "backs" in table else {"back": Key(delay, False)})}
 
 
 def adaptive(limits: Limits, table: dict[str, Any]) -> dict[str, Key]:
@@ -122,11 +151,15 @@ def _hint(key: str, table: dict[str, Any]) -> str:
         return " beside `topology`"
     if "version" in table and key in ("size", "delay", "back", "degree") and "topology" not in table:
         return " without `topology`"
+    if key in ("delay", "back") and table.get("topology") == "parents" and f"{key}s" in table:
+        return f" beside `{key}s`"
+    if key in ("parent", "delays", "backs"):
+        return " but for `topology = \"parents\"`, from version 3 on"
     if key == "degree":
         return " but for a tree"
     if key in ("back", "outage"):
         return " in version 1"
-    if key == "backoff" or key in LIMITS:
+    if key == "backoff" or key in LIMITS or key in DEFAULTS:
         return " before version 3"
     return ""
 
@@ -144,3 +177,6 @@ def check_keys(table: dict[str, Any]) -> None:
                 raise ScenarioError(f"{part} {place} is {element!r}, and has to be a table", part, place)
             for key, told in faults(element, keys[part]):
                 raise ScenarioError(f"{part} {place}: `{key}` {told}", part, place, key)
+            if times_of(element) > 1:
+                for key, told in faults(copy_of(part, element, times_of(element) - 1), keys[part]):
+                    raise ScenarioError(f"{part} {place}: `{key}` of its last copy {told}", part, place, key)

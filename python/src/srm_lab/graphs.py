@@ -63,7 +63,7 @@ def from_graph(graph: Any, delays: Delays = Delays(), spanning_tree: str | None 
         raise ScenarioError(f"{len(number)} nodes and {len(links)} edges are no tree: "
                             "say spanning_tree=\"shortest\" or \"minimum\"")
     made = tuple(Link(number[a], number[b], delay, back) for a, b, delay, back in links)
-    return Tree(len(number), made, names=tuple(str(node) for node in number))
+    return Tree(len(number), made, names=tuple(str(node) for node in number)).by_parents_if_large()
 
 
 def check_names(nodes: Iterable[Any]) -> None:

@@ -6,13 +6,17 @@ from .errors import ScenarioError
 
 @dataclass(frozen=True)
 class Limits:
-    """What one version of the format has room for, and whether it has links with two delays, outages and adaptive timers."""
+    """What one version of the format has room for, and what it has: links with two delays, outages, adaptive timers.
+
+    `large` says whether it has networks by parents, and elements that stand for several.
+    """
 
     nodes: int
     members: int
     two_way: bool
     outages: bool
     adaptive: bool = False
+    large: bool = False
     elements: int = 4096
     pages: int = 256
     page: int = 65_535
@@ -28,13 +32,16 @@ class Limits:
 VERSIONS = {
     1: Limits(nodes=256, members=256, two_way=False, outages=False),
     2: Limits(nodes=1024, members=1024, two_way=True, outages=True),
-    3: Limits(nodes=1024, members=1024, two_way=True, outages=True, adaptive=True, constant=1_024_000),
+    3: Limits(nodes=65_535, members=65_535, two_way=True, outages=True, adaptive=True, large=True, elements=65_535,
+              constant=1_024_000),
 }
 NEWEST = VERSIONS[max(VERSIONS)]
 MOST_NODES = NEWEST.nodes
 MOST_DELAY = NEWEST.delay
 MOST_TIME = NEWEST.time
 MOST_SEED = NEWEST.stream
+# operations that a sender can draw on one page
+MOST_NUMBERS = 4096
 
 
 def within(what: str, value: object, least: int, most: int) -> int:

@@ -13,11 +13,15 @@ if TYPE_CHECKING:
 
 def links_in_use(tree: Tree, source: int, nodes: Iterable[int]) -> dict[int, int]:
     """For each link on the way from the source to another member: how many links from the source its far end is."""
-    ways = tree.ways(source)
-    depth = {}
+    before = tree.parents(source)
+    hops: dict[int, int] = {}
+    for node, near in before.items():
+        hops[node] = 0 if near is None else hops[near[0]] + 1
+    depth: dict[int, int] = {}
     for node in nodes:
-        for place, link in enumerate(ways[node]):
-            depth[link] = place + 1
+        while (near := before[node]) is not None and near[1] not in depth:
+            depth[near[1]] = hops[node]
+            node = near[0]
     return depth
 
 
@@ -54,9 +58,8 @@ def choose_link(choice: str, tree: Tree, source: int, nodes: list[int], rng: ran
 
 def arrival(tree: Tree, source: int, link: int) -> int:
     """How long a packet of a node's takes to come to a link."""
-    ways = tree.ways(source)
-    near = next(end for end in (tree.links[link].a, tree.links[link].b) if link not in ways[end])
-    return tree.distances(source)[near]
+    before = next(near[0] for near in tree.parents(source).values() if near is not None and near[1] == link)
+    return tree.distances(source)[before]
 
 
 def bernoulli(given: "Scenario", rate: float, link: int | None, rng: random.Random,
@@ -74,8 +77,11 @@ def bernoulli(given: "Scenario", rate: float, link: int | None, rng: random.Rand
 
 def losers(tree: Tree, source: int, nodes: Iterable[int], link: int) -> list[int]:
     """The nodes among `nodes` that are behind the link, seen from the source."""
-    ways = tree.ways(source)
-    return [node for node in nodes if link in ways[node]]
+    behind: set[int] = set()
+    for node, near in tree.parents(source).items():
+        if near is not None and (near[1] == link or near[0] in behind):
+            behind.add(node)
+    return [node for node in nodes if node in behind]
 
 
 def earliest_repair(given: "Scenario", link: int) -> int | None:

@@ -1,5 +1,6 @@
 """Scenario files: reading them."""
 import json
+from dataclasses import replace
 from pathlib import Path
 from typing import Any
 
@@ -9,6 +10,7 @@ from .form import check_keys
 from .limits import NEWEST
 from .link import Link
 from .parts import CONSTANTS, LIMITS, Draw, Drop, Member, Outage, Session
+from .repetition import APART, expanded
 from .rules import check_rules
 from .scenario import Scenario
 from .toml_text import read_toml
@@ -43,23 +45,26 @@ def from_table(table: dict[str, Any], comments: list[str] | None = None) -> Scen
     """The scenario of a file's keys and values, and of the comments in front of them."""
     check_keys(table)
     comments = comments or []
-    names = {line: found for line in comments if (found := _names_in(line, table.get("nodes")))}
-    routes = {line: ways for line in comments if (ways := _routes_in(line, len(table.get("link", []))))}
+    links = len(table.get("parent", table.get("link", [])))
+    nodes = links + 1 if "parent" in table else table.get("nodes")
+    names = {line: found for line in comments if (found := _names_in(line, nodes))}
+    routes = {line: ways for line in comments if (ways := _routes_in(line, links))}
     told = next(iter(names), ""), next(iter(routes), "")
     try:
         network = tree_of(table, names.get(told[0], ()), routes.get(told[1], ()))
     except ScenarioError as fault:
         raise ScenarioError(f"the network: {fault}", "tree") from None
+    parts = {part: expanded(part, table.get(part, [])) for part in APART}
     given = Scenario(
         tree=network,
         members=tuple(Member(**{**one, **({"pages": tuple(one["pages"])} if "pages" in one else {})})
-                      for one in table.get("member", [])),
+                      for one in parts["member"]),
         until=table["until"],
         **{name: table[name] for name in (*CONSTANTS, *LIMITS, "backoff") if name in table},
-        draws=tuple(Draw(**one) for one in table.get("draw", [])),
-        sessions=tuple(Session(**one) for one in table.get("session", [])),
-        drops=tuple(Drop(**one) for one in table.get("drop", [])),
-        outages=tuple(Outage(one["link"], one["from"], one["to"]) for one in table.get("outage", [])),
+        draws=tuple(Draw(**one) for one in parts["draw"]),
+        sessions=tuple(Session(**one) for one in parts["session"]),
+        drops=tuple(Drop(**one) for one in parts["drop"]),
+        outages=tuple(Outage(one["link"], one["from"], one["to"]) for one in parts["outage"]),
         version=table["version"],
         comments=tuple(line for line in comments if line not in told or not line),
     )
@@ -74,6 +79,8 @@ def tree_of(table: dict[str, Any], names: tuple[str, ...] = (), routes: tuple[tu
         links = tuple(Link(one["a"], one["b"], one["delay"], one.get("back", one["delay"]))
                       for one in table.get("link", []))
         return Tree(table["nodes"], links, names=names, routes=routes)
+    if shape == "parents":
+        return replace(trees.of_parents(table), names=names, routes=routes)
     if shape == "tree":
         made = trees.bounded_degree(table["size"], table["degree"], table["delay"])
     else:

@@ -76,7 +76,7 @@ def reduced(graph: Any, source: Any, steps: dict[Any, Step], members: list[Any])
     number = {node: place for place, node in enumerate(kept)}
     joined = [_joined(node, steps, number) for node in kept if node != source]
     return Tree(len(kept), tuple(link for link, _ in joined), names=tuple(str(node) for node in kept),
-                routes=tuple(tuple(str(node) for node in route) for _, route in joined))
+                routes=tuple(tuple(str(node) for node in route) for _, route in joined)).by_parents_if_large()
 
 
 def _onward(source: Any, steps: dict[Any, Step], members: list[Any]) -> dict[Any, int]:

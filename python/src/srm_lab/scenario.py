@@ -20,7 +20,7 @@ from . import graphs, losses, router_map, tree as trees, writing
 from .errors import ScenarioError
 from .form import check_keys
 from .graphs import Delays
-from .limits import MOST_TIME, NEWEST, VERSIONS, within
+from .limits import MOST_NUMBERS, MOST_TIME, NEWEST, VERSIONS, Limits, within
 from .parts import CONSTANTS, LIMITS, Draw, Drop, Member, Outage, Session
 from .rules import check_rules
 from .setting import logarithm, setting
@@ -106,13 +106,24 @@ class Scenario:
     def least_version(self) -> int:
         """The first version of the format that has room for this scenario."""
         for version, limits in VERSIONS.items():
-            fits = max(self.tree.nodes, self.tree.shorthand.get("degree", 0) + 1) <= limits.nodes
+            fits = self._fits(limits) and (limits.large or "parent" not in self.tree.shorthand)
             two_way = limits.two_way or self.tree.is_even and "back" not in self.tree.shorthand
             timers = limits.adaptive or not self.is_adaptive
             outages = limits.outages or not self.outages
-            if fits and two_way and timers and outages and len(self.members) <= limits.members:
+            if fits and two_way and timers and outages:
                 return version
         return max(VERSIONS)
+
+    @property
+    def is_large(self) -> bool:
+        """Whether only a version with larger networks has room for so many nodes, members and other elements."""
+        return not self._fits(VERSIONS[2])
+
+    def _fits(self, limits: Limits) -> bool:
+        """Whether a version has room for so many nodes and elements."""
+        nodes = max(self.tree.nodes, self.tree.shorthand.get("degree", 0) + 1)
+        elements = max(map(len, (self.draws, self.sessions, self.drops, self.outages)))
+        return nodes <= limits.nodes and len(self.members) <= limits.members and elements <= limits.elements
 
     def source(self) -> int:
         """The member that draws first, or member 0."""
@@ -148,13 +159,13 @@ class Scenario:
 
     def round_trip(self, a: int, b: int) -> int:
         """The distance from one member to another and back, in ticks."""
-        return self.tree.round_trips(self.members[a].node)[self.members[b].node]
+        return self.tree.round_trips(self.members[b].node)[self.members[a].node]
 
     # ---- its text --------------------------------------------------------------
 
     def check(self) -> "Scenario":
         """This scenario, or ScenarioError with the first thing that the format refuses."""
-        check_keys(writing.table_of(self))
+        check_keys(writing.keys_of(self))
         check_rules(self)
         return self
 
@@ -263,7 +274,7 @@ class Scenario:
 
         A session message follows `every` ticks after the last of them, so that a loss of the last one is found too.
         """
-        within("count", count, 0, NEWEST.elements)
+        within("count", count, 0, MOST_NUMBERS)
         within("every", every, 1, MOST_TIME)
         own = tuple(Draw(member, page, number, start + number * every) for number in range(count))
         told = (Session(member, start + count * every),) if count else ()
@@ -280,7 +291,7 @@ class Scenario:
         """
         number = losses.link_of(str(link), self, self._rng("rounds", seed), sender)
         every = self._recovery() if every is None else within("every", every, 1, MOST_TIME)
-        made = self.drawing(2 * within("count", count, 0, NEWEST.elements // 2), every, 0, sender, page)
+        made = self.drawing(2 * within("count", count, 0, MOST_NUMBERS // 2), every, 0, sender, page)
         arrival = losses.arrival(made.tree, made.members[sender].node, number)
         outages = tuple(Outage(number, at, at + 1) for at in range(arrival, arrival + 2 * count * every, 2 * every))
         kept = tuple(session for session in made.sessions if session.member != sender)
@@ -412,7 +423,7 @@ def from_router_map(graph: Any, delays: Delays | int = Delays(), members: int | 
     `graph` is a networkx graph or the path of a file. `members` names their nodes, or says how many there are, the
     source among them, chosen at random among those that the source reaches, or `all`. Ways on which there is no member
     are left out, and routers that only hand on are joined into one link with those beside them; `tree.names` and
-    `tree.routes` lead back to the map. The tree may have 1,024 nodes. `srm_lab.router_map` has the rules.
+    `tree.routes` lead back to the map. The tree may have 65,535 nodes. `srm_lab.router_map` has the rules.
     """
     delays = Delays(default=delays) if isinstance(delays, int) else delays
     if isinstance(graph, (str, Path)):

@@ -3,10 +3,14 @@ import random
 from collections.abc import Callable, Iterable
 from dataclasses import dataclass, field, replace
 from functools import cached_property
+from typing import Any
 
 from .errors import ScenarioError
-from .limits import MOST_DELAY, MOST_NODES, within
+from .limits import MOST_DELAY, MOST_NODES, VERSIONS, within
 from .link import Link
+
+# roots whose distances a tree keeps
+MOST_ROOTS = 4
 
 
 @dataclass(frozen=True)
@@ -64,11 +68,15 @@ class Tree:
 
     def number(self, name: str | int) -> int:
         """The number of the node of this name, or with this number."""
-        if str(name) in self.names:
-            return self.names.index(str(name))
+        if str(name) in self._numbers:
+            return self._numbers[str(name)]
         if not self.names and isinstance(name, int) and 0 <= name < self.nodes:
             return name
         raise ScenarioError(f"there is no node {name!r}")
+
+    @cached_property
+    def _numbers(self) -> dict[str, int]:
+        return {name: node for node, name in enumerate(self.names)}
 
     def hosts(self) -> list[int]:
         """The nodes that may host a member, in rising order."""
@@ -106,32 +114,71 @@ class Tree:
 
     def distances(self, root: int) -> dict[int, int]:
         """For each node its distance from the root in ticks: the delays of the way there, each in its direction."""
-        distances: dict[int, int] = {}
-        for node, near in self.parents(root).items():
-            distances[node] = 0 if near is None else distances[near[0]] + self.links[near[1]].delay_from(near[0])
-        return distances
+        return self._sums("distances", root, lambda node, link: link.delay_from(node))
 
     def round_trips(self, root: int) -> dict[int, int]:
         """For each node the distance from the root to it and back, in ticks."""
-        trips: dict[int, int] = {}
-        for node, near in self.parents(root).items():
-            trips[node] = 0 if near is None else trips[near[0]] + sum(self.links[near[1]][2:])
-        return trips
+        return self._sums("round trips", root, lambda node, link: link.delay + link.back)
+
+    def _sums(self, what: str, root: int, ticks: Callable[[int, Link], int]) -> dict[int, int]:
+        """For each node the sum of the ticks of each link from the root to it; the last roots' sums are kept."""
+        kept = self._kept.setdefault(what, {})
+        if root not in kept:
+            sums: dict[int, int] = {}
+            for node, near in self.parents(root).items():
+                sums[node] = 0 if near is None else sums[near[0]] + ticks(near[0], self.links[near[1]])
+            if len(kept) == MOST_ROOTS:
+                del kept[next(iter(kept))]
+            kept[root] = sums
+        return kept[root]
+
+    @cached_property
+    def _kept(self) -> dict[str, dict[int, dict[int, int]]]:
+        return {}
 
     def with_delays(self, least: int, most: int, rng: random.Random) -> "Tree":
         """The same tree with a random delay from least to most at each link, the same in both directions."""
         within("the least delay", least, 1, MOST_DELAY)
         within("the greatest delay", most, least, MOST_DELAY)
         links = tuple(Link.both_ways(link.a, link.b, rng.randint(least, most)) for link in self.links)
-        return replace(self, links=links, shorthand={})
+        return replace(self, links=links, shorthand={}).by_parents_if_large()
 
     def with_back(self, back: int | Callable[[], int]) -> "Tree":
         """The same tree with this delay in the other direction of each link, or with what the function gives."""
         if callable(back) and self.hub is not None:
             raise ScenarioError("the format has one delay back for all links of a star")
-        shorthand = {**self.shorthand, "back": back} if self.shorthand and not callable(back) else {}
+        shorthand = {key: value for key, value in self.shorthand.items() if key != "backs"}
+        shorthand = {**shorthand, "back": back} if shorthand and not callable(back) else {}
         links = tuple(link._replace(back=back() if callable(back) else back) for link in self.links)
-        return replace(self, links=links, shorthand=shorthand)
+        return replace(self, links=links, shorthand=shorthand).by_parents_if_large()
+
+    def by_parents(self) -> "Tree":
+        """The same tree as a file tells it by its parents, seen from node 0: link i leads to node i + 1 from its parent.
+
+        Nodes keep their numbers and names, and links get others, but in a tree that stands so.
+        """
+        found = sorted((node, near) for node, near in self.parents(0).items() if near is not None)
+        links = tuple(Link(parent, node, self.links[place].delay_from(parent), self.links[place].delay_from(node))
+                      for node, (parent, place) in found)
+        routes = tuple(self.routes[place][::1 if self.links[place].a == parent else -1]
+                       for node, (parent, place) in found) if self.routes else ()
+        return replace(self, links=links, routes=routes, shorthand=_keys_of_parents(links))
+
+    def by_parents_if_large(self) -> "Tree":
+        """The same tree, by its parents if it has no other name and version 2 of the format has no room for it."""
+        return self.by_parents() if not self.shorthand and self.nodes > VERSIONS[2].nodes else self
+
+
+def _keys_of_parents(links: tuple[Link, ...]) -> dict[str, Any]:
+    """The keys of a tree whose links stand by parents: one delay for all links where all are the same."""
+    delays, backs = [link.delay for link in links], [link.back for link in links]
+    return {"topology": "parents", "parent": [link.a for link in links], **_once("delay", delays),
+            **(_once("back", backs) if backs != delays else {})}
+
+
+def _once(key: str, ticks: list[int]) -> dict[str, Any]:
+    """The delays of all links: under the key where all are the same, and else, in its plural, each of them."""
+    return {key: ticks[0]} if len(set(ticks)) == 1 else {f"{key}s": ticks}
 
 
 def _even(ends: Iterable[tuple[int, int]], delay: int) -> tuple[Link, ...]:
@@ -164,6 +211,16 @@ def bounded_degree(size: int, degree: int, delay: int) -> Tree:
     return Tree(size, links, {"topology": "tree", "size": size, "degree": degree, "delay": delay})
 
 
+def of_parents(keys: dict[str, Any]) -> Tree:
+    """The tree of a file's keys `parent`, `delay` or `delays`, and perhaps `back` or `backs`."""
+    parent = keys["parent"]
+    delays = keys["delays"] if "delays" in keys else [keys["delay"]] * len(parent)
+    backs = [keys["back"]] * len(parent) if "back" in keys else keys.get("backs", delays)
+    links = tuple(Link(near, node, *ticks) for node, (near, *ticks) in enumerate(zip(parent, delays, backs), 1))
+    shorthand = {key: keys[key] for key in ("topology", "parent", "delay", "delays", "back", "backs") if key in keys}
+    return Tree(len(parent) + 1, links, shorthand)
+
+
 def random_labelled(size: int, delay: int, rng: random.Random) -> Tree:
     """A tree that each labelled tree of this size is with one and the same chance: that of a random Pruefer code."""
     within("size", size, 1, MOST_NODES)
@@ -172,4 +229,4 @@ def random_labelled(size: int, delay: int, rng: random.Random) -> Tree:
     import networkx
 
     graph = networkx.from_prufer_sequence([rng.randrange(size) for _ in range(size - 2)])
-    return Tree(size, _even(((min(a, b), max(a, b)) for a, b in sorted(graph.edges)), delay))
+    return Tree(size, _even(((min(a, b), max(a, b)) for a, b in sorted(graph.edges)), delay)).by_parents_if_large()

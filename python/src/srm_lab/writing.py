@@ -1,21 +1,30 @@
 """Scenario files: writing them."""
 import json
-from dataclasses import asdict
 from typing import TYPE_CHECKING, Any
 
 from .errors import ScenarioError
-from .limits import VERSIONS
+from .limits import NEWEST
 from .parts import CONSTANTS, LIMITS
+from .repetition import APART, folded
 
 if TYPE_CHECKING:
     from .scenario import Scenario
 
 NAMES = "names of nodes: "
 ROUTES = "routes of links: "
+# arrays of a network by parents, and how many of their numbers stand in a line
+ARRAYS = ("parent", "delays", "backs")
+IN_LINE = 20
 
 
 def table_of(given: "Scenario") -> dict[str, Any]:
-    """The keys and values of a scenario's file."""
+    """The keys and values of a scenario's file; a large one tells its elements by few that stand for several."""
+    table = keys_of(given)
+    return table | {part: folded(part, table[part]) for part in APART if part in table} if given.is_large else table
+
+
+def keys_of(given: "Scenario") -> dict[str, Any]:
+    """The keys and values of a scenario, with each of its elements."""
     top: dict[str, Any] = {"version": given.least_version if given.version is None else given.version,
                            "until": given.end}
     top |= {name: getattr(given, name) for name in CONSTANTS}
@@ -26,10 +35,10 @@ def table_of(given: "Scenario") -> dict[str, Any]:
         "link": [] if given.tree.shorthand else [
             {"a": link.a, "b": link.b, "delay": link.delay, **({} if link.is_even else {"back": link.back})}
             for link in given.tree.links],
-        "member": [_member(asdict(member)) for member in given.members],
-        "draw": [asdict(draw) for draw in given.draws],
-        "session": [asdict(session) for session in given.sessions],
-        "drop": [asdict(drop) for drop in given.drops],
+        "member": [_member(dict(vars(member))) for member in given.members],
+        "draw": [dict(vars(draw)) for draw in given.draws],
+        "session": [dict(vars(session)) for session in given.sessions],
+        "drop": [dict(vars(drop)) for drop in given.drops],
         "outage": [{"link": one.link, "from": one.first, "to": one.end} for one in given.outages],
     }
     return top | {name: elements for name, elements in parts.items() if elements}
@@ -44,16 +53,33 @@ def _member(keys: dict[str, Any]) -> dict[str, Any]:
 
 def text_of(given: "Scenario") -> str:
     """A scenario's file: its comments, the names of nodes and the routes of links as comments, and its table."""
-    import tomli_w  # here, so that scenarios can be read, and traces followed, with no package at all
-
     comments = list(given.comments)
     if given.tree.names:
         comments.append(NAMES + json.dumps(given.tree.names))
     if given.tree.routes:
         comments.append(ROUTES + json.dumps(given.tree.routes))
     lines = "".join(f"# {line}".rstrip() + "\n" for comment in comments for line in comment.splitlines() or [""])
-    text = lines + tomli_w.dumps(table_of(given))
-    most = VERSIONS[max(VERSIONS)].bytes
-    if len(text.encode()) > most:
-        raise ScenarioError(f"the text has {len(text.encode())} bytes, and the format has room for {most}")
+    text = lines + _toml(table_of(given))
+    if len(text.encode()) > NEWEST.bytes:
+        told = f", {len(lines.encode())} of them comments, names and routes" if lines else ""
+        raise ScenarioError(f"the text has {len(text.encode())} bytes{told}, and the format has room for {NEWEST.bytes}")
     return text
+
+
+def _toml(table: dict[str, Any]) -> str:
+    """A table as TOML; long arrays of numbers stand between the other keys of the top table and the elements."""
+    import tomli_w  # here, so that scenarios can be read, and traces followed, with no package at all
+
+    arrays = {name: table[name] for name in ARRAYS if name in table}
+    if not arrays:
+        return str(tomli_w.dumps(table))
+    top = {key: value for key, value in table.items() if not isinstance(value, list)}
+    parts = {key: value for key, value in table.items() if key not in top and key not in arrays}
+    rows = (f"{name} = [{_numbers(numbers)}]\n" for name, numbers in arrays.items())
+    return f"{tomli_w.dumps(top)}{''.join(rows)}{tomli_w.dumps(parts)}"
+
+
+def _numbers(numbers: list[int]) -> str:
+    """The numbers of an array, in lines."""
+    lines = (numbers[place:place + IN_LINE] for place in range(0, len(numbers), IN_LINE))
+    return ",\n".join(",".join(map(str, line)) for line in lines)

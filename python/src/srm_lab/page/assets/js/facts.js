@@ -1,6 +1,7 @@
 // What the page says of the run as a whole, and of what it leaves out.
 
-const NETWORK_WORDS = { chain: "chain", star: "star", tree: "tree of bounded degree", links: "tree of listed links" };
+const NETWORK_WORDS = { chain: "chain", star: "star", tree: "tree of bounded degree", links: "tree of listed links",
+  parents: "tree of listed parents" };
 
 /** The run in figures. */
 function factsOf({ about, network, moments, trace, history }) {
