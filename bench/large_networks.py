@@ -7,8 +7,8 @@ Each case is a tree of degree 4 with links of 5 ticks, in which member 0 draws o
 tenth is dropped, at one link after the other. Members are spread evenly over the nodes. Both programs must write the same
 trace; where they do not, the status is 1. Then both run in turn, N times each (1 by default), with standard output on
 /dev/null: printed are the rows, the least processor time of each in seconds, the peak of its resident memory in MB, and the
-ratio of the two times. It asserts nothing else. Networks of more than 1,024 nodes are scenarios of version 3 (README.md in
-this folder); a case that PROGRAM does not read is left out for it, and told. The baseline, whose tables grow with the square
+ratio of the two times. It asserts nothing else. Networks of more than 1,024 nodes are scenarios of version 3
+(docs/FORMATS.md); a case that PROGRAM does not read is left out for it, and told. The baseline, whose tables grow with the square
 of the members, is left out where there are more than 10,000. Without PROGRAM it is measured alone.
 
 --only TEXT     only the cases whose name has TEXT in it

@@ -13,7 +13,7 @@ All engines must write the same bytes; where one does not, nothing more is timed
 time of N runs, and that time over the sequential engine's. It asserts nothing about speed.
 
 --cases  in place of these the cases of CASES, larger ones, each with the table of links and with the trace. One that PROGRAM does
-         not read is left out, and told: more than 1,024 nodes need version 3 of the format (README.md in this folder).
+         not read is left out, and told: more than 1,024 nodes need version 3 of the format (docs/FORMATS.md).
 """
 import argparse
 import pathlib

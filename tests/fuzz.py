@@ -1,12 +1,12 @@
 #!/usr/bin/env python3
 """Runs the program on scenarios made at random, and holds what it writes to a second computation from the documents.
 
-usage: tests/fuzz.py [--seconds N | --cases N] [--from SEED] [--case SEED] [--versions LIST] [--larger] [PROGRAM]
+usage: tests/fuzz.py [--seconds N | --cases N] [--from SEED] [--case SEED] [--versions LIST] [PROGRAM]
 
 Each case is made from its number, its seed: a scenario of the format's grammar, one that is spoiled in one place, an example or
 a scenario with bytes or numbers changed, or a command line that must be refused. The scenarios are of the versions of the
-format that --versions lists, as 1,2,3, and any other version must be refused; without it, of those that the program reads. With
---larger version 3 has larger networks, as the plain simulator of bench/ reads it. Of each case this is asserted:
+format that --versions lists, as 1,2,3, and any other version must be refused; without it, of those that the program reads. Of
+each case this is asserted:
 
 - Each row of the trace is of an event that was pending, and is what the model's tables say; nothing is passed over, and nothing
   left (fuzz_replay.py).
@@ -38,7 +38,6 @@ from collections.abc import Callable, Iterator
 
 sys.dont_write_bytecode = True
 
-import fuzz_format
 import fuzz_replay
 import fuzz_scenarios
 import fuzz_tables
@@ -232,9 +231,7 @@ def main() -> int:
     parser.add_argument("--from", type=int, dest="first", metavar="SEED")
     parser.add_argument("--case", type=int, metavar="SEED")
     parser.add_argument("--versions", type=versions_of, default=VERSIONS, metavar="LIST")
-    parser.add_argument("--larger", action="store_true")
     options = parser.parse_args()
-    fuzz_format.LARGER_NETWORKS = options.larger
     resource.setrlimit(resource.RLIMIT_AS, (MEMORY, resource.getrlimit(resource.RLIMIT_AS)[1]))
     run = runner(Program(options.program))
     try:

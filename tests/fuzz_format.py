@@ -2,7 +2,7 @@
 
 The plain data is what a TOML reader makes of a text: a dict of numbers, words, lists and dicts. Nothing here is taken from
 the program: ranges, refusals and what becomes of a packet are written from the two documents, docs/FORMATS.md and
-docs/MODEL.md. What is new in version 3 is in bench/README.md.
+docs/MODEL.md.
 """
 import collections
 import functools
@@ -35,8 +35,6 @@ REPEATS = {"times": (1, 65535), "every": (0, LATEST)}
 STEPPED = {"member": ("node",), "draw": ("at",), "session": ("at",), "drop": ("count",), "outage": ("from", "to")}
 # the versions that the program reads
 VERSIONS = (1, 2, 3)
-# whether version 3 has larger networks: more nodes, parents of nodes, and elements that stand for several
-LARGER_NETWORKS = False
 
 
 def numbers_with(nodes: int) -> dict[str, dict[str, Limits]]:
@@ -58,16 +56,10 @@ def numbers_with(nodes: int) -> dict[str, dict[str, Limits]]:
     }
 
 
-def adaptive_numbers_with(nodes: int) -> dict[str, dict[str, Limits]]:
-    """The same of version 3. Those of limits stand beside what their constants ask of them."""
+def numbers_of_version_3(nodes: int) -> dict[str, dict[str, Limits]]:
+    """The same of version 3. Limits of constants have to be within what the constants ask of them, too."""
     numbers = numbers_with(nodes)
     numbers["top"].update({name: (0, GREATEST_CONSTANT) for name in (*CONSTANTS, *LEASTS, *MOSTS)}, **BACKOFF)
-    return numbers
-
-
-def repeating_numbers_with(nodes: int) -> dict[str, dict[str, Limits]]:
-    """The same, where elements stand for several."""
-    numbers = adaptive_numbers_with(nodes)
     for part in STEPPED:
         numbers[part].update(REPEATS)
     return numbers
@@ -79,30 +71,12 @@ def lengths_with(nodes: int, elements: int) -> dict[str, int]:
 
 
 # by the version of the format, of which the first has no outages
-NUMBERS = {1: numbers_with(256), 2: numbers_with(1024), 3: adaptive_numbers_with(1024)}
+NUMBERS = {1: numbers_with(256), 2: numbers_with(1024), 3: numbers_of_version_3(65535)}
 LENGTHS = {
     1: lengths_with(256, 4096),
     2: {**lengths_with(1024, 4096), "outage": 4096},
-    3: {**lengths_with(1024, 4096), "outage": 4096},
+    3: {**lengths_with(65535, 65535), "outage": 65535},
 }
-# in larger networks
-LARGER_NUMBERS = repeating_numbers_with(65535)
-LARGER_LENGTHS = {**lengths_with(65535, 65535), "outage": 65535}
-
-
-def is_larger(version: int) -> bool:
-    """Whether a version has larger networks."""
-    return version == 3 and LARGER_NETWORKS
-
-
-def numbers_of(version: int) -> dict[str, dict[str, Limits]]:
-    """The ranges of a version's numbers."""
-    return LARGER_NUMBERS if is_larger(version) else NUMBERS[version]
-
-
-def lengths_of(version: int) -> dict[str, int]:
-    """The lengths of a version's arrays."""
-    return LARGER_LENGTHS if is_larger(version) else LENGTHS[version]
 
 
 def version_of(top: Table) -> int:
@@ -122,13 +96,13 @@ def is_number(value: object, limits: Limits) -> TypeGuard[int]:
 def top_keys(top: Table) -> tuple[set[str], set[str]]:
     """The keys that must stand in the top table, and those that may."""
     version = version_of(top)
-    arrays = set(lengths_of(version))
+    arrays = set(LENGTHS[version])
     adaptive = {*LEASTS, *MOSTS, *BACKOFF} if version == 3 else set()
     if "topology" not in top:
         needed = NEEDED | {"nodes"}
         return needed, needed | arrays | adaptive
     arrays -= {"link"}
-    if is_larger(version) and top["topology"] == "parents":
+    if version == 3 and top["topology"] == "parents":
         needed = NEEDED | {"topology", "parent", "delays" if "delays" in top else "delay"}
         return needed, needed | arrays | adaptive | {"backs" if "backs" in top else "back"}
     needed = NEEDED | {"topology", "size", "delay"} | ({"degree"} if top["topology"] == "tree" else set())
@@ -149,14 +123,14 @@ def top_is_right(top: Table) -> bool:
 def top_value_is_right(top: Table, key: str, value: object) -> bool:
     version = version_of(top)
     if key == "topology":
-        return value in TOPOLOGIES or is_larger(version) and value == "parents"
+        return value in TOPOLOGIES or version == 3 and value == "parents"
     if key in PARTS:
-        return isinstance(value, list) and count(version, key, value) <= lengths_of(version)[key]
+        return isinstance(value, list) and count(version, key, value) <= LENGTHS[version][key]
     if key == "parent":
-        return are_numbers(value, numbers_of(version)["link"]["a"]) and len(value) <= lengths_of(version)["link"]
+        return are_numbers(value, NUMBERS[version]["link"]["a"]) and len(value) <= LENGTHS[version]["link"]
     if key in ("delays", "backs"):
         return are_numbers(value, (1, LONGEST_DELAY)) and isinstance(top["parent"], list) and len(value) == len(top["parent"])
-    return is_number(value, numbers_of(version)["top"][key])
+    return is_number(value, NUMBERS[version]["top"][key])
 
 
 def are_numbers(value: object, limits: Limits) -> TypeGuard[list[int]]:
@@ -173,7 +147,7 @@ def element_is_right(version: int, part: str, element: object) -> bool:
     """Whether an element of an array has the keys of its part, and these what they must have, in each of its copies."""
     if not isinstance(element, dict):
         return False
-    allowed = set(numbers_of(version)[part]) - {"back"} | ({"role", "pages"} if part == "member" else set())
+    allowed = set(NUMBERS[version][part]) - {"back"} | ({"role", "pages"} if part == "member" else set())
     needed = allowed - {"join", "leave", "pages", *REPEATS}
     allowed |= back_key(version) if part == "link" else set()
     if not needed <= set(element) <= allowed:
@@ -186,7 +160,7 @@ def value_is_right(version: int, part: str, key: str, value: object) -> bool:
         return value in ROLES
     if key == "pages":
         return isinstance(value, list) and len(value) <= PAGES and are_numbers(value, PAGE)
-    return is_number(value, numbers_of(version)[part][key])
+    return is_number(value, NUMBERS[version][part][key])
 
 
 def is_tree(nodes: int, links: list[Link]) -> bool:
@@ -276,7 +250,7 @@ def last_copy(part: str, element: Table) -> Table:
 
 def count(version: int, part: str, elements: list[Any]) -> int:
     """How many elements an array makes. One that does not say rightly how many it stands for counts as one."""
-    if not is_larger(version) or part not in STEPPED:
+    if version != 3 or part not in STEPPED:
         return len(elements)
     times = [it.get("times", 1) if isinstance(it, dict) else 1 for it in elements]
     return sum(it if is_number(it, REPEATS["times"]) else 1 for it in times)

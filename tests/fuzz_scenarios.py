@@ -8,8 +8,8 @@ from random import Random
 from typing import Any, NamedTuple
 
 from fuzz_format import (
-    CONSTANTS, GREATEST_CONSTANT, LATEST, LONGEST_TEXT, PAGES, PARTS, REPEATS, ROLES, STEPPED, TOPOLOGIES, VERSIONS,
-    Scenario, Table, act_fits, copies, is_larger, lengths_of, links_of, nodes_of, numbers_of, refusal_of, repeated, version_of,
+    CONSTANTS, GREATEST_CONSTANT, LATEST, LENGTHS, LONGEST_TEXT, NUMBERS, PAGES, PARTS, REPEATS, ROLES, STEPPED, TOPOLOGIES,
+    VERSIONS, Scenario, Table, act_fits, copies, links_of, nodes_of, refusal_of, repeated, version_of,
 )
 
 MOST_ROWS = 20000
@@ -61,11 +61,11 @@ def small(rng: Random, *limits: int) -> int:
 
 def network(rng: Random, version: int) -> Table:
     """The keys of a network."""
-    most = min(numbers_of(version)["top"]["nodes"][1], MOST_NODES)
+    most = min(NUMBERS[version]["top"]["nodes"][1], MOST_NODES)
     nodes = small(rng, *sorted({2, 8, 24, 64, 256, most})) if rng.random() < 0.95 else 1
-    if is_larger(version) and rng.random() < 0.05:
+    if version == 3 and rng.random() < 0.05:
         nodes = rng.randint(MANY_NODES, MOST_NODES)
-    shape = rng.choice([*TOPOLOGIES, "links", "links", *(["parents"] * 5 if is_larger(version) else [])])
+    shape = rng.choice([*TOPOLOGIES, "links", "links", *(["parents"] * 5 if version == 3 else [])])
     delay = rng.choice([1, 1, rng.randint(2, 9), rng.randint(10, 1000), 1000000])
     if shape == "links":
         return explicit(rng, nodes, delay)
@@ -209,7 +209,7 @@ def scenario(rng: Random, versions: tuple[int, ...] = VERSIONS) -> Table:
     if version == 3:
         top["member"] = members_in_runs(rng, top)
     act(rng, top)
-    for part in STEPPED if is_larger(version) else ():
+    for part in STEPPED if version == 3 else ():
         top[part] = folded(rng, part, top[part])
     for part in PARTS:
         if part in top and not top[part] and rng.random() < 0.5:
@@ -243,7 +243,7 @@ def act(rng: Random, top: Table) -> None:
         meet_packets(rng, top, heard)
     top["session"] = [{"member": it, "at": at} for it, at in acts(rng, top, ROLES[:3], hour, told, heard)]
     if version == 3:
-        lengths = lengths_of(version)
+        lengths = LENGTHS[version]
         top["draw"] = in_runs(rng, "draw", top["draw"], lambda it: act_fits(top, it, ROLES[:1]), min(most, lengths["draw"]))
         sessions = min(most, lengths["session"])
         top["session"] = in_runs(rng, "session", top["session"], lambda it: act_fits(top, it, ROLES[:3]), sessions)
@@ -452,7 +452,7 @@ def rename_key(rng: Random, top: Table, part: str, table: Table) -> None:
 
 
 def at_an_edge(rng: Random, top: Table, part: str, table: Table) -> None:
-    ranges = numbers_of(version_of(top))[part]
+    ranges = NUMBERS[version_of(top)][part]
     keys = [key for key in table if key in ranges]
     if keys:
         key = rng.choice(keys)
@@ -467,7 +467,7 @@ def another_type(rng: Random, top: Table, part: str, table: Table) -> None:
 def doubled_element(rng: Random, top: Table, part: str, table: Table) -> None:
     if part != "top":
         place = rng.randrange(len(top[part]) + 1)
-        top[part][place:place] = [copy.deepcopy(table)] * rng.choice([1, 1, min(4096, lengths_of(version_of(top)).get(part, 1))])
+        top[part][place:place] = [copy.deepcopy(table)] * rng.choice([1, 1, min(4096, LENGTHS[version_of(top)].get(part, 1))])
 
 
 def odd_element(rng: Random, top: Table, part: str, table: Table) -> None:
@@ -476,7 +476,7 @@ def odd_element(rng: Random, top: Table, part: str, table: Table) -> None:
 
 
 def another_number(rng: Random, top: Table, part: str, table: Table) -> None:
-    keys = [key for key in table if key in numbers_of(3)[part] and type(table[key]) is int]
+    keys = [key for key in table if key in NUMBERS[3][part] and type(table[key]) is int]
     if keys:
         key = rng.choice(keys)
         table[key] = max(0, table[key] + rng.choice([-1, 1, 2, rng.randint(-9, 9)]))

@@ -5,7 +5,6 @@ import random
 import re
 import sys
 import unittest
-import unittest.mock
 
 sys.dont_write_bytecode = True
 TOP = pathlib.Path(__file__).resolve().parent.parent
@@ -22,7 +21,6 @@ from fuzz_format import Link, Table
 from program import End
 
 ALL_VERSIONS = (1, 2, 3)
-in_larger_networks = unittest.mock.patch.object(fuzz_format, "LARGER_NETWORKS", True)
 
 # what examples/chain-of-five-one-loss.toml says
 CHAIN_OF_FIVE: Table = {
@@ -220,10 +218,6 @@ class Repetition(unittest.TestCase):
                 self.assertIn(made["version"], versions)
                 self.assertIsNone(fuzz_format.refusal_of(made, versions), seed)
 
-    @in_larger_networks
-    def test_each_made_scenario_of_larger_networks_is_accepted(self) -> None:
-        self.test_each_made_scenario_is_accepted_in_its_version()
-
     def test_folding_changes_no_element(self) -> None:
         rng = random.Random(1)
         draws = [{"member": 0, "page": 0, "ink": 7, "at": at} for at in (0, 40, 80, 81, 82, 5, 5, 5, 4)]
@@ -258,20 +252,6 @@ class RefusalsOfVersion3(unittest.TestCase):
             ("bad-key top 0", top(version=4)),
         ])
 
-    def test_without_larger_networks_limits_are_those_of_version_2(self) -> None:
-        member, draw = CHAIN_OF_FIVE["member"], CHAIN_OF_FIVE["draw"]
-        self.check([
-            (None, top(version=3, size=1024)),
-            ("bad-key top 0", top(version=3, size=1025)),
-            ("bad-key member 0", top(version=3, size=1024, member=[{**member[0], "node": 1024}])),
-            ("bad-key top 0", top(version=3, draw=4097 * draw[:1])),
-            ("bad-key draw 0", top(version=3, draw=[{**draw[0], "times": 2}])),
-            ("bad-key member 1", top(version=3, member=[member[0], {**member[1], "every": 1}])),
-            ("bad-key top 0", PARENTS),
-            ("bad-key top 0", top(version=3, parent=[0])),
-        ])
-
-    @in_larger_networks
     def test_parents(self) -> None:
         bare = {key: value for key, value in PARENTS.items() if key not in ("delays", "backs")}
         self.check([
@@ -302,7 +282,6 @@ class RefusalsOfVersion3(unittest.TestCase):
             ("bad-member 1", {**bare, "parent": [], "delay": 1}),
         ])
 
-    @in_larger_networks
     def test_repetition(self) -> None:
         member, draw, drop = CHAIN_OF_FIVE["member"], CHAIN_OF_FIVE["draw"], CHAIN_OF_FIVE["drop"]
         two = {"times": 2, "every": 1}
@@ -334,7 +313,6 @@ class RefusalsOfVersion3(unittest.TestCase):
             ("bad-key link 0", top(version=3, topology=None, size=None, delay=None, nodes=2, link=[link])),
         ])
 
-    @in_larger_networks
     def test_larger_networks(self) -> None:
         self.check([
             (None, top(version=3, size=65535, member=[{"node": 65534, "role": "sender", "stream": 0}], draw=[], drop=[])),
