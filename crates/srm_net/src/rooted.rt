@@ -106,7 +106,7 @@ impl Rooted {
         (here.up + here.down) + (there.up + there.down) - 2 * (meeting.up + meeting.down)
     }
 
-    /// The position of the lowest node that is each of two nodes or above it: the ways between these lead up to it, and down from there.
+    /// The position of the node where the ways up from two nodes meet: the way from one to the other leads up to it, and down from there.
     fn meeting(&self, from: u16, to: u16) -> Position
         requires rooted { (w : Network) × IsRooted w self.now.positions.items × (from < w.nodes) × (to < w.nodes) }
         ensures { (w : Network) → IsRooted w self.now.positions.items → from < w.nodes → to < w.nodes

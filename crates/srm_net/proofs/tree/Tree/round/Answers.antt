@@ -1,5 +1,4 @@
-use Rattle.std.proofs.Common.{◌≡◌, ◌∙◌, ◌+◌, ◌*◌, ◌≤◌, sym, ap, subst, arith}
-use Rattle.srm_net.specs.Limits.{greatest_distance}
+use Rattle.std.proofs.Common.{◌≡◌, ◌∙◌, ◌+◌, sym, ap, subst, arith}
 use Rattle.srm_net.specs.Network.{Network, IsNetwork}
 use Rattle.srm_net.specs.Paths.{host, distance, round}
 use Rattle.srm_net.specs.Rooting.{takes}
