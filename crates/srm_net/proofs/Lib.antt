@@ -27,6 +27,7 @@ pub mod Beyond
 pub mod OccupiedLemmas
 pub mod OutLemmas
 pub mod Firsts
+pub mod Meetings
 pub mod NodeOrder
 pub mod Arrivals
 pub mod HalfRoundLemmas

@@ -75,6 +75,11 @@ pub record TellsTree (w : Network) (r : Rooted) : Type 0 where
   pub rooted : IsRooted w r.positions.items
   pub order : IsInOrder w r.positions.items r.order.items
 
+-- the ways between nodes u and v lead up to the node of this position, and down from there
+pub record IsMeeting (w : Network) (positions : List Position) (u v : ℕ) (q : Position) : Type 0 where
+  pub there : takes w u v + (q.up + q.down) ≡ (at positions u).up + (at positions v).down
+  pub back : takes w v u + (q.up + q.down) ≡ (at positions v).up + (at positions u).down
+
 -- the way from node u to node v begins with link l, which leads to node x
 pub record IsFirstLink (w : Network) (u v l x : ℕ) : Type 0 where
   pub link : l < length w.links

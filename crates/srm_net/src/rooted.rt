@@ -6,7 +6,7 @@ ghost use Rattle.srm_net.specs.Limits.{end_of_time};
 ghost use Rattle.srm_net.specs.Listed.{is_listed_somewhere};
 ghost use Rattle.srm_net.specs.Network.{Network, HasDelays, IsNetwork, IsTree, IsWithin, plain_network};
 ghost use Rattle.srm_net.specs.Paths.{takes_out};
-ghost use Rattle.srm_net.specs.Rooting.{takes, at, IsRooted, TellsTree, IsFirstLink, IsHeld, IsChildAbove};
+ghost use Rattle.srm_net.specs.Rooting.{takes, at, IsRooted, TellsTree, IsMeeting, IsFirstLink, IsHeld, IsChildAbove};
 ghost use Rattle.srm_net.specs.Spreads.{TellsArrivals, TellsAbove};
 
 use crate::drops::Drops;
@@ -81,7 +81,7 @@ impl Rooted {
     }
 
     /// How long a packet takes from one node to another, in ticks. It takes a number of steps that grows as the logarithm of the number
-    /// of nodes, and where one of the two nodes is below the other it takes no climb.
+    /// of nodes, and where one of the two nodes is below the other, or both are next below one node, it takes no climb.
     pub(crate) fn delay(&self, from: u16, to: u16) -> u64
         requires rooted { (w : Network) × IsNetwork w × IsRooted w self.now.positions.items × (from < w.nodes) × (to < w.nodes) }
         ensures { (w : Network) → IsRooted w self.now.positions.items → from < w.nodes → to < w.nodes
@@ -89,36 +89,60 @@ impl Rooted {
     {
         let here = self.position(from);
         let there = self.position(to);
+        let meeting = self.meeting(from, to);
+        here.up + there.down - (meeting.up + meeting.down)
+    }
+
+    /// How long a packet takes from one node to another, and another one back, in ticks. It takes as many steps as one
+    /// [`delay`](Rooted::delay).
+    pub(crate) fn round(&self, from: u16, to: u16) -> u64
+        requires rooted { (w : Network) × IsNetwork w × IsRooted w self.now.positions.items × (from < w.nodes) × (to < w.nodes) }
+        ensures { (w : Network) → IsRooted w self.now.positions.items → from < w.nodes → to < w.nodes
+            → result ≡ takes w from to + takes w to from }
+    {
+        let here = self.position(from);
+        let there = self.position(to);
+        let meeting = self.meeting(from, to);
+        (here.up + here.down) + (there.up + there.down) - 2 * (meeting.up + meeting.down)
+    }
+
+    /// The position of the node where the ways up from two nodes meet: the way from one to the other leads up to it, and down from there.
+    fn meeting(&self, from: u16, to: u16) -> Position
+        requires rooted { (w : Network) × IsRooted w self.now.positions.items × (from < w.nodes) × (to < w.nodes) }
+        ensures { (w : Network) → IsRooted w self.now.positions.items → from < w.nodes → to < w.nodes
+            → IsMeeting w self.now.positions.items from to result }
+    {
+        let here = self.position(from);
+        let there = self.position(to);
         if here.holds(there.place) {
-            there.down - here.down
+            here
         } else if there.holds(here.place) {
-            here.up - there.up
+            there
+        } else if here.parent == there.parent {
+            self.position(here.parent)
         } else {
-            self.delay_around(from, to)
+            self.climb(from, to)
         }
     }
 
     /// The same, told by a climb from both nodes until they meet.
-    fn delay_around(&self, from: u16, to: u16) -> u64
-        requires rooted { (w : Network) × IsNetwork w × IsRooted w self.now.positions.items × (from < w.nodes) × (to < w.nodes) }
+    fn climb(&self, from: u16, to: u16) -> Position
+        requires rooted { (w : Network) × IsRooted w self.now.positions.items × (from < w.nodes) × (to < w.nodes) }
         ensures { (w : Network) → IsRooted w self.now.positions.items → from < w.nodes → to < w.nodes
-            → result ≡ takes w from to }
+            → IsMeeting w self.now.positions.items from to result }
     {
         let mut near = from;
         let mut far = to;
-        let mut ticks = 0;
         while near != far {
             let here = self.position(near);
             let there = self.position(far);
             if here.place > there.place {
                 near = self.above(here, there.place);
-                ticks += here.up - self.position(near).up;
             } else {
                 far = self.above(there, here.place);
-                ticks += there.down - self.position(far).down;
             }
         }
-        ticks
+        self.position(near)
     }
 
     /// When a packet comes to each node, in ticks, or none where it does not come there. It takes a number of steps that grows as the

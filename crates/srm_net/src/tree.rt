@@ -104,7 +104,7 @@ impl Tree {
         ensures bounded { result ≤ 2 * greatest_distance }
         ensures network { IsNetwork self.now }
     {
-        self.distance(a, b) + self.distance(b, a)
+        self.rooted.round(self.host(a), self.host(b))
     }
 
     /// How long a packet takes from one node to another, in ticks.
