@@ -2,7 +2,7 @@ use Rattle.std.proofs.Common.{◌≡◌, ◌∙◌, ◌+◌, sym, ap, subst, ari
 use Rattle.srm_net.specs.Network.{Network, IsNetwork}
 use Rattle.srm_net.specs.Paths.{host, distance, round}
 use Rattle.srm_net.specs.Rooting.{takes}
-use Rattle.srm_net.specs.Built.{plain_of}
+use Rattle.srm_net.specs.Built.{network_inside}
 use Rattle.srm_net.proofs.BuiltLemmas.{seen_below, rooted_in}
 use Rattle.srm_net.proofs.PathLaws.{distance_bounded, distance_apart}
 use Rattle.srm_net.proofs.tree.Tree.round.Goals as goal
@@ -10,11 +10,11 @@ use Rattle.srm_net.proofs.tree.Tree.round.Goals as goal
 pub round-requires : goal.round-requires
 round-requires c = record {
   rooted = (
-    plain_of c.self.inside,
+    network_inside c.self.inside,
     c.self.invariant.network,
     rooted_in c.self.inside c.self.invariant,
-    seen_below (plain_of c.self.inside) c.args.self.now c.host.result c.self.view_is c.host.ensures.node,
-    seen_below (plain_of c.self.inside) c.args.self.now c.host-2.result c.self.view_is c.host-2.ensures.node,
+    seen_below (network_inside c.self.inside) c.args.self.now c.host.result c.self.view_is c.host.ensures.node,
+    seen_below (network_inside c.self.inside) c.args.self.now c.host-2.result c.self.view_is c.host-2.ensures.node,
   );
 }
 
@@ -23,9 +23,9 @@ unfolding distance
 value c =
     let there = c.host.ensures.value in
     let back = c.host-2.ensures.value in
-    c.round.ensures (plain_of c.self.inside) (rooted_in c.self.inside c.self.invariant)
-    (seen_below (plain_of c.self.inside) c.args.self.now c.host.result c.self.view_is c.host.ensures.node)
-    (seen_below (plain_of c.self.inside) c.args.self.now c.host-2.result c.self.view_is c.host-2.ensures.node)
+    c.round.ensures (network_inside c.self.inside) (rooted_in c.self.inside c.self.invariant)
+    (seen_below (network_inside c.self.inside) c.args.self.now c.host.result c.self.view_is c.host.ensures.node)
+    (seen_below (network_inside c.self.inside) c.args.self.now c.host-2.result c.self.view_is c.host-2.ensures.node)
     ∙ ap (λ (w : Network). takes w c.host.result c.host-2.result + takes w c.host-2.result c.host.result) c.self.view_is
     ∙ ap (λ u. takes c.args.self.now u c.host-2.result + takes c.args.self.now c.host-2.result u) there
     ∙ ap (λ v. takes c.args.self.now (host c.args.self.now c.args.a) v + takes c.args.self.now v (host c.args.self.now c.args.a)) back
