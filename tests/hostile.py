@@ -13,6 +13,7 @@ import fcntl
 import functools
 import os
 import re
+import resource
 import socket
 import subprocess
 import sys
@@ -20,7 +21,7 @@ import tempfile
 import termios
 import time
 import tomllib
-from collections.abc import Iterator, Sequence
+from collections.abc import Iterable, Iterator, Sequence
 
 sys.dont_write_bytecode = True
 
@@ -206,6 +207,47 @@ class Texts(HostileCase):
     def test_members_as_tables_before_the_draws(self) -> None:
         before, after = without_members()
         self.assertEqual(self.ended(before + member_tables() + after), refused("bad-key member 4"))
+
+
+class ShortTextsOfMuch(HostileCase):
+    """Elements that stand for as many as there may be, and for more; and parents as deep as a tree may be, or in a circle."""
+
+    NODES = 65535
+    MEMORY = 2**28
+    CHAIN = 'topology = "chain"\nsize = 65535\ndelay = 1\n'
+    ARRAYS = {
+        "member": f"node = 0, role = 'late', stream = 0, pages = [{', '.join(['7'] * 256)}]",
+        "session": "member = 0, at = 0, every = 0",
+        "drop": "link = 0, sender = 0, count = 0",
+        "outage": "link = 0, from = 0, to = 1",
+    }
+
+    def checked(self, network: str) -> End:
+        """How the check of a scenario of version 3 ends, in 256 MB of memory."""
+        limit = functools.partial(resource.setrlimit, resource.RLIMIT_AS, (self.MEMORY, self.MEMORY))
+        text = f"version = 3\nuntil = 9\nc1 = 0\nc2 = 0\nd1 = 0\nd2 = 0\n{network}\n"
+        return self.program.run(["--check"], text.encode(), preexec_fn=limit)
+
+    def with_parents(self, parents: Iterable[int]) -> str:
+        return f'topology = "parents"\ndelay = 1\nparent = [{",".join(map(str, parents))}]'
+
+    def test_as_many_of_each_as_there_may_be(self) -> None:
+        lists = [f"{part} = [{{ {fields}, times = 65535 }}]" for part, fields in self.ARRAYS.items()]
+        self.assertEqual(self.checked(self.CHAIN + "\n".join(lists)), (0, b"", b""))
+
+    def test_arrays_that_make_thousands_of_millions(self) -> None:
+        for part in self.ARRAYS:
+            array = ",".join(["{times=65535}"] * 60000)
+            self.assertEqual(self.checked(f"{self.CHAIN}{part} = [{array}]"), refused("bad-key top 0"))
+
+    def test_as_deep_as_a_tree_may_be(self) -> None:
+        upwards, downwards = [*range(2, self.NODES), 0], range(self.NODES - 1)
+        for parents in (upwards, downwards):
+            self.assertEqual(self.checked(self.with_parents(parents)), (0, b"", b""))
+
+    def test_parents_in_a_circle(self) -> None:
+        for last in (1, 2, self.NODES - 2):
+            self.assertEqual(self.checked(self.with_parents([*range(2, self.NODES), last])), refused("not-tree"))
 
 
 class Devices(HostileCase):

@@ -259,7 +259,8 @@ def draws_past_a_page() -> Case:
     rows = [f"{at},0,draw,0/0/{at},sent,0,0:{at}" if at < room else f"{at},0,draw,-,skip,0,-" for at in range(count)]
     arrivals = [f"{LONGEST_DELAY + at},1,data,0:{at},fresh,0,-" for at in range(room)]
     text = far_apart(array("draw", f"member = 0, page = 0, ink = 0, at = 0, times = {count}"))
-    return Case("numbers of a page", text, "trace", ["0,0,join,-,in,0,-", rows[0], "0,1,join,-,in,0,-", *rows[1:], *arrivals])
+    first, second = joins(2)
+    return Case("numbers of a page", text, "trace", [first, rows[0], second, *rows[1:], *arrivals])
 
 
 def cases_of_version_3() -> Iterator[Case]:
