@@ -10,6 +10,7 @@ from pathlib import Path
 
 import pytest
 
+from srm_lab import scenario as scenarios
 from srm_lab.page.command import main
 from srm_lab.page.html import library
 
@@ -97,6 +98,18 @@ def test_opens_plays_and_has_the_programs_tables(browser, make_page, srm_lab, na
     browser.execute_script("srmPage.player.setSpeed(1e9); srmPage.player.play()")
     wait_for(browser, "return !srmPage.player.isPlaying && srmPage.player.rows === srmPage.model.trace.length")
     browser.execute_script("srmPage.showView('sequence')")
+    assert errors(browser) == [] and requests(browser) == []
+
+
+def test_a_network_that_only_version_3_has_room_for(browser, make_page, srm_lab, tmp_path):
+    made = scenarios.random_tree(5000, members=50, seed=4).drawing(3).lose(every=3, link="adjacent", seed=1)
+    path = made.write(tmp_path / "large.toml")
+    show(browser, make_page(path))
+    for table in ("trace", "losses", "links"):
+        assert browser.execute_script(f"return srmPage.model.csv('{table}')") == srm_lab(path.read_text(), "--show", table)
+    browser.execute_script("srmPage.showView('sequence'); document.getElementById('about').click()")
+    text = browser.execute_script("return document.body.textContent")
+    assert "A tree of listed parents with 5,000 nodes and 50 members" in text
     assert errors(browser) == [] and requests(browser) == []
 
 
