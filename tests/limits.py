@@ -222,8 +222,8 @@ def by_parents() -> Case:
 def longest_way() -> Case:
     """Members at the two ends of the longest chain, at the greatest distance. The first of two draws is dropped.
 
-    The second tells of the loss after one distance, the timers of the request and of the repair take one, and so does each packet:
-    the repair is there after five. Before that the request is sent again, after two more.
+    The second tells of the loss after one distance; the timers of the request and of the repair take one each, and so does each
+    packet: the repair is there after five. Before that the request is sent again, two distances after the first.
     """
     way = LONGEST_DELAY * (THIRD.nodes - 1)
     last = THIRD.nodes - 1
