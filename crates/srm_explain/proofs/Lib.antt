@@ -1,3 +1,5 @@
+mod Climbs
 mod Closed
 mod Found
 mod Listed
+mod Values

@@ -1,11 +1,15 @@
 -- What is told of a fault after its line.
-use Rattle.std.specs.Prelude.{◌≡◌, ◌≢◌, ◌⊎◌, ℕ, List, [], ◌∷◌, ◌++◌, Some, codes}
+use Rattle.std.specs.Prelude.{◌≡◌, ◌≢◌, ◌⊎◌, ℕ, List, [], ◌∷◌, ◌++◌, Option, Some, None, IfSome, codes}
 use Rattle.std.specs.List.{AllByRecursion}
-use Rattle.toml.specs.Data.{Members}
+use Rattle.toml.specs.Data.{Data, Members}
 use Rattle.toml.specs.Parse.{parse_document}
 use Rattle.srm_scenario.specs.declared.fault.Part.{Part}
+use Rattle.srm_scenario.specs.declared.fault.Part.TheVariants as part
+use Rattle.srm_scenario.specs.Described.{names_parents}
+use Rattle.srm_explain.specs.declared.copies.Copied.{Copied}
+use Rattle.srm_explain.specs.Copies.{copy_sentence, IsCopied, TellsNumbers}
 use Rattle.srm_explain.specs.declared.finding.Finding.{Finding}
-use Rattle.srm_explain.specs.Findings.{rules_in, FindsAt, TellsNotes}
+use Rattle.srm_explain.specs.Findings.{array_key, elements_of, rules_in, FindsAt, TellsNotes}
 use Rattle.srm_explain.specs.declared.flaw.Flaw.{Flaw}
 use Rattle.srm_explain.specs.Flaws.{flaw_sentence, IsFlaw}
 use Rattle.srm_explain.specs.declared.misfit.Misfit.{Misfit}
@@ -49,17 +53,37 @@ TellsKey p place top told =
     × (notes : List ℕ) × TellsNotes (rules_in p top) p top found notes
     × (picture : List ℕ) × (told ≡ picture ++ notes)
 
--- lines tell, below some line of the text or none, which rule the element of this fault breaks, in the draft that a
--- document gives
-abbrev pub TellsMisfit : ScenarioFault → Members → List ℕ → Type 0
-TellsMisfit fault top told =
-    (l : Draft) × IsDraft top l × (m : Misfit) × Breaks l fault m
-    × (picture : List ℕ) × (told ≡ picture ++ note (misfit_sentence m))
+-- the elements of a part in a document
+abbrev pub written_in : Part → Members → List Data
+written_in p top = elements_of (array_key p) top
 
--- the same of a text, or what the fault is
-abbrev pub ExplainsMisfit : ScenarioFault → List ℕ → List ℕ → Type 0
-ExplainsMisfit fault text told =
-    ((top : Members) × (parse_document text ≡ Some top) × TellsMisfit fault top told)
+-- a line tells that the element of this fault is this copy, with its numbers; or nothing is told
+abbrev pub IsCopyNote : Draft → ScenarioFault → Option Copied → List ℕ → Type 0
+IsCopyNote l fault None told = told ≡ []
+IsCopyNote l fault (Some c) told =
+    ((numbers : List ℕ) × TellsNumbers l fault numbers × (told ≡ note (copy_sentence c numbers))) ⊎ (told ≡ [])
+
+-- a line tells which copy of which of these elements the element of this fault is, which stands at this place of the
+-- list that they make; or nothing is told
+abbrev pub TellsCopy : Draft → ScenarioFault → List Data → ℕ → List ℕ → Type 0
+TellsCopy l fault ds place told = (c : Option Copied) × IfSome c (IsCopied ds place) × IsCopyNote l fault c told
+
+-- lines tell, below some line of the text or none, which rule the element of this fault breaks, and which copy it is of
+-- these elements
+abbrev pub TellsBroken : Draft → ScenarioFault → List Data → ℕ → List ℕ → Type 0
+TellsBroken l fault ds place told =
+    (m : Misfit) × Breaks l fault m × (copy : List ℕ) × TellsCopy l fault ds place copy
+    × (picture : List ℕ) × (told ≡ picture ++ (note (misfit_sentence m) ++ copy))
+
+-- the same in the draft that a document gives
+abbrev pub TellsMisfit : ScenarioFault → Part → ℕ → Members → List ℕ → Type 0
+TellsMisfit fault p place top told =
+    (l : Draft) × IsDraft top l × TellsBroken l fault (written_in p top) place told
+
+-- the same of a text, or what the fault is; the element stands at this place of this part
+abbrev pub ExplainsMisfit : ScenarioFault → Part → ℕ → List ℕ → List ℕ → Type 0
+ExplainsMisfit fault p place text told =
+    ((top : Members) × (parse_document text ≡ Some top) × TellsMisfit fault p place top told)
     ⊎ (told ≡ note (general_sentence fault))
 
 -- lines tell these reasons, of which there is one, below some line of the text or none
@@ -70,7 +94,8 @@ TellsFlaws flaws told = (flaws ≢ []) × (picture : List ℕ) × (told ≡ pict
 abbrev pub TellsTree : Members → List ℕ → Type 0
 TellsTree top told =
     (l : Draft) × IsDraft top l
-    × (flaws : List Flaw) × AllByRecursion (IsFlaw l.nodes (links_of l)) flaws × TellsFlaws flaws told
+    × (flaws : List Flaw) × AllByRecursion (IsFlaw (names_parents top) l.nodes (links_of l)) flaws
+    × TellsFlaws flaws told
 
 -- these lines explain why a text is refused with this fault. What they say of a text that is no TOML are the words of
 -- the library that reads it
@@ -82,9 +107,9 @@ Explains (BadKey p place) text told =
 Explains NotTree text told =
     ((top : Members) × (parse_document text ≡ Some top) × TellsTree top told)
     ⊎ (told ≡ note (general_sentence NotTree))
-Explains (BadMember place) text told = ExplainsMisfit (BadMember place) text told
-Explains (BadDraw place) text told = ExplainsMisfit (BadDraw place) text told
-Explains (BadSession place) text told = ExplainsMisfit (BadSession place) text told
-Explains (BadDrop place) text told = ExplainsMisfit (BadDrop place) text told
-Explains (BadOutage place) text told = ExplainsMisfit (BadOutage place) text told
+Explains (BadMember place) text told = ExplainsMisfit (BadMember place) part.Member place text told
+Explains (BadDraw place) text told = ExplainsMisfit (BadDraw place) part.Draw place text told
+Explains (BadSession place) text told = ExplainsMisfit (BadSession place) part.Session place text told
+Explains (BadDrop place) text told = ExplainsMisfit (BadDrop place) part.Drop place text told
+Explains (BadOutage place) text told = ExplainsMisfit (BadOutage place) part.Outage place text told
 Explains fault text told = told ≡ note (general_sentence fault)

@@ -1,7 +1,7 @@
 -- What is wrong with the keys of a table, and what is said of it.
-use Rattle.std.specs.Prelude.{◌≡◌, ◌⊎◌, ◌&&◌, ◌+◌, ◌*◌, not, nat_lt, ℕ, Bool, true, false}
-use Rattle.std.specs.Prelude.{List, [], ◌∷◌, ◌++◌, Option, Some, None, codes, decimal}
-use Rattle.std.specs.Prelude.{IsSome, IfSome, is_some, map, slice_get, string_bytes, if◌then◌else◌}
+use Rattle.std.specs.Prelude.{◌≡◌, ◌⊎◌, ◌&&◌, ◌+◌, ◌*◌, ◌==◌, not, nat_le, nat_lt, ℕ, Bool}
+use Rattle.std.specs.Prelude.{true, false, List, [], ◌∷◌, ◌++◌, Option, Some, None, codes, decimal}
+use Rattle.std.specs.Prelude.{IsSome, IfSome, is_some, length, map, slice_get, sum_by, string_bytes, if◌then◌else◌}
 use Rattle.std.specs.List.{list_any}
 use Rattle.std.specs.Str.{bytes_eq}
 use Rattle.toml.specs.Data.{Data, Members, table, as_table, get_member}
@@ -16,9 +16,10 @@ use Rattle.srm_scenario.specs.declared.rule.Need.TheVariants.{Required, Refused}
 use Rattle.srm_scenario.specs.declared.rule.Rule.{Rule}
 use Rattle.srm_scenario.specs.declared.rule.Words.TheVariants.{Roles, Topologies, TopologiesAndParents}
 use Rattle.srm_scenario.specs.Keys.{name_of}
-use Rattle.srm_scenario.specs.Rules.{is_kind, has_only, link_rules, member_rules, draw_rules, session_rules, drop_rules}
-use Rattle.srm_scenario.specs.Rules.{outage_rules, times_of, top_rules}
-use Rattle.srm_scenario.specs.Described.{array_at, constants_of, every_of, form_of, names_parents, number, version_of}
+use Rattle.srm_scenario.specs.Rules.{is_kind, is_whole, has_only, link_rules, member_rules, draw_rules, session_rules}
+use Rattle.srm_scenario.specs.Rules.{drop_rules, outage_rules, times_of, top_rules}
+use Rattle.srm_scenario.specs.Described.{array_at, array_of, constants_of, every_of, form_of, names_parents, number}
+use Rattle.srm_scenario.specs.Described.{version_of}
 use Rattle.srm_scenario.specs.declared.version.Version.{Version}
 use Rattle.srm_scenario.specs.declared.version.Version.TheVariants.{Two, Three}
 use Rattle.srm_explain.specs.declared.finding.Finding.{Finding}
@@ -54,6 +55,11 @@ array_key part.Session = Some key.Session
 array_key part.Drop = Some key.Drop
 array_key part.Outage = Some key.Outage
 
+-- the elements of the array at a key; none where there is no key
+abbrev pub elements_of : Option Key → Members → List Data
+elements_of None top = []
+elements_of (Some k) top = array_at (name_of k) top
+
 -- the element at a place of the array at a key, and the top table itself where there is no key
 abbrev pub element_of : Option Key → ℕ → Members → Option Data
 element_of None place top = Some (table top)
@@ -77,23 +83,58 @@ rise_of key.From every = Some every
 rise_of key.To every = Some every
 rise_of k every = None
 
--- this is one of the copies for which a table stands, and in it the number at the rule's key passes the rule's range
-abbrev pub PassesRange : Rule → Members → ℕ → Type 0
-PassesRange r ms copy =
+-- this is one of the copies for which a table stands, and in it this number stands at the rule's key, and passes the
+-- rule's range
+abbrev pub PassesRange : Rule → Members → ℕ → ℕ → Type 0
+PassesRange r ms copy n =
     (rise : ℕ) × (rise_of r.key (every_of (table ms)) ≡ Some rise)
     × (low : ℕ) × (last : ℕ) × (r.kind ≡ Whole low last)
     × (nat_lt copy (times_of (table ms)) ≡ true)
-    × (nat_lt last (number (name_of r.key) ms + copy * rise) ≡ true)
+    × (n ≡ number (name_of r.key) ms + copy * rise) × (nat_lt last n ≡ true)
+
+-- how many elements these are; where a kind says for how many they stand, for how many they do
+abbrev pub length_by : Kind → List Data → ℕ
+length_by (Repeated most) ds = sum_by times_of ds
+length_by kind ds = length ds
+
+-- whether an array of this kind may have so many elements, or stand for so many
+abbrev pub is_length : Kind → ℕ → Bool
+is_length (Numbers most high) n = nat_le n most
+is_length (Each count low high) n = n == count
+is_length (Elements most) n = nat_le n most
+is_length (Repeated most) n = nat_le n most
+is_length kind n = true
+
+-- whether an array of this kind may have this element
+abbrev pub is_item : Kind → Data → Bool
+is_item (Numbers most high) d = is_whole 0 high d
+is_item (Each count low high) d = is_whole low high d
+is_item kind d = true
+
+-- the element at this place is none that an array of this kind may have
+abbrev pub IsBadItem : Kind → List Data → ℕ → Type 0
+IsBadItem kind ds i = (d : Data) × (slice_get ds i ≡ Some d) × (is_item kind d ≡ false)
+
+-- the elements break the rule's kind as is told: one of them does, or their number
+abbrev pub BreaksArray : Rule → List Data → Finding → Type 0
+BreaksArray r ds (finding.BadItem s i) = (s ≡ r) × IsBadItem r.kind ds i
+BreaksArray r ds (finding.BadLength s n) = (s ≡ r) × (n ≡ length_by r.kind ds) × (is_length r.kind n ≡ false)
+BreaksArray r ds f = ⊥
+
+-- the value breaks the rule's kind as is told
+abbrev pub BreaksKind : Rule → Data → Finding → Type 0
+BreaksKind r d (finding.Wrong s) = (s ≡ r) × (is_kind r.kind d ≡ false)
+BreaksKind r d f = BreaksArray r (array_of (Some d)) f
 
 -- the rule is broken as is told: its key has to be there and is not, or must not be there and is, or what stands at it
 -- is not of the rule's kind, or passes its range in a copy
 abbrev pub IsBroken : Rule → Members → Finding → Type 0
 IsBroken r ms (finding.Missing s) = (s ≡ r) × (r.need ≡ Required) × (get_member (name_of r.key) ms ≡ None)
 IsBroken r ms (finding.Refused s) = (s ≡ r) × (r.need ≡ Refused) × IsSome (get_member (name_of r.key) ms)
-IsBroken r ms (finding.Wrong s) =
-    (s ≡ r) × (d : Data) × (get_member (name_of r.key) ms ≡ Some d) × (is_kind r.kind d ≡ false)
-IsBroken r ms (finding.Passed s copy) = (s ≡ r) × PassesRange r ms copy
-IsBroken r ms f = ⊥
+IsBroken r ms (finding.Passed s copy n) = (s ≡ r) × PassesRange r ms copy n
+IsBroken r ms finding.NoTable = ⊥
+IsBroken r ms (finding.Unknown key near) = ⊥
+IsBroken r ms f = (d : Data) × (get_member (name_of r.key) ms ≡ Some d) × BreaksKind r d f
 
 -- this is wrong with a table beside these rules: a key of it is none of theirs, or one of them is broken
 abbrev pub IsFinding : List Rule → Members → Finding → Type 0
@@ -125,7 +166,7 @@ allows rules key = list_any (λ r. bytes_eq (name_of r.key) (name_of key) && not
 abbrev pub IsTopologyReason : Members → List ℕ → Type 0
 IsTopologyReason top reason =
     ((reason ≡ codes " unless topology is \"tree\"") × (is_shaped top ≡ true))
-    ⊎ ((reason ≡ codes " unless topology is \"parents\"") × (names_parents top ≡ false))
+    ⊎ ((reason ≡ codes " beside parent: there is one node more than parents") × (names_parents top ≡ true))
     ⊎ ((reason ≡ codes " beside delays") × (is_some (get_member (codes "delays") top) ≡ true))
     ⊎ ((reason ≡ codes " beside backs") × (is_some (get_member (codes "backs") top) ≡ true))
     ⊎ ((reason ≡ codes " beside topology") × (is_shaped top ≡ true))
@@ -135,6 +176,7 @@ abbrev pub IsReasonAmong : List Rule → List Rule → Members → Key → List 
 IsReasonAmong second third top key reason =
     ((reason ≡ codes " in version 1; version 2 has it") × (allows second key ≡ true))
     ⊎ ((reason ≡ codes " in this version; version 3 has it") × (allows third key ≡ true))
+    ⊎ ((reason ≡ codes " unless topology is \"parents\", which version 3 has") × (names_parents top ≡ false))
     ⊎ ((reason ≡ codes " without topology") × (is_shaped top ≡ false))
     ⊎ IsTopologyReason top reason
 
@@ -142,9 +184,16 @@ IsReasonAmong second third top key reason =
 abbrev pub IsReason : Part → Members → Key → List ℕ → Type 0
 IsReason p top key reason = IsReasonAmong (rules_for Two p top) (rules_for Three p top) top key reason
 
--- what follows a sentence: of a key that is not allowed the reason
+-- what is said besides of a value that is not of this kind: of a topology that a later version has, that it has it
+abbrev pub IsReasonOfKind : Members → Kind → List ℕ → Type 0
+IsReasonOfKind top kind reason =
+    ((reason ≡ codes "; version 3 has \"parents\" too") × (kind ≡ Word Topologies) × (names_parents top ≡ true))
+    ⊎ (reason ≡ [])
+
+-- what follows a sentence: of a key that is not allowed the reason, and of a value what is said besides of its kind
 abbrev pub FollowsSentence : Part → Members → Finding → List ℕ → Type 0
 FollowsSentence p top (finding.Refused r) reason = IsReason p top r.key reason
+FollowsSentence p top (finding.Wrong r) reason = IsReasonOfKind top r.kind reason
 FollowsSentence p top f reason = reason ≡ []
 
 -- ---- what is said of it
@@ -168,11 +217,23 @@ abbrev pub keys_of : List Rule → List ℕ
 keys_of [] = []
 keys_of (r ∷ rs) = if is_refused r.need then keys_of rs else (codes " " ++ name_of r.key) ++ keys_of rs
 
+-- what number a copy would have
+abbrev pub copy_has : ℕ → ℕ → List ℕ
+copy_has copy n = codes "; copy " ++ (decimal copy ++ (codes ", counted from 0, would have " ++ decimal n))
+
 -- what is said of a copy whose number passes the range of its key's rule
-abbrev pub passed_sentence : Rule → ℕ → List ℕ
-passed_sentence r copy =
-    name_of r.key
-    ++ (codes " is " ++ (allowed r.kind ++ (codes ", and copy " ++ (decimal copy ++ codes ", counted from 0, passes it"))))
+abbrev pub passed_sentence : Rule → ℕ → ℕ → List ℕ
+passed_sentence r copy n = name_of r.key ++ (codes " is " ++ (allowed r.kind ++ copy_has copy n))
+
+-- what is said of an element of an array, and of how many there are or for how many they stand
+abbrev pub item_is_none : ℕ → List ℕ
+item_is_none i = codes "; element " ++ (decimal i ++ codes " of it, counted from 0, is none")
+
+abbrev pub item_sentence : Rule → ℕ → List ℕ
+item_sentence r i = name_of r.key ++ (codes " is " ++ (allowed r.kind ++ item_is_none i))
+
+abbrev pub length_sentence : Rule → ℕ → List ℕ
+length_sentence r n = name_of r.key ++ (codes " is " ++ (allowed r.kind ++ (codes "; these are " ++ decimal n)))
 
 -- what is said of what is wrong with a table beside these rules
 abbrev pub sentence_of : List Rule → Finding → List ℕ
@@ -184,10 +245,12 @@ sentence_of rules (finding.Unknown key (Some near)) =
     ++ (name_of near ++ (codes "?\n  the keys here are" ++ keys_of rules))
 sentence_of rules (finding.Missing r) = name_of r.key ++ (codes " is missing: it is " ++ allowed r.kind)
 sentence_of rules (finding.Wrong r) = name_of r.key ++ (codes " is " ++ allowed r.kind)
+sentence_of rules (finding.BadItem r i) = item_sentence r i
+sentence_of rules (finding.BadLength r n) = length_sentence r n
 sentence_of rules (finding.Refused r) = name_of r.key ++ codes " is not allowed"
-sentence_of rules (finding.Passed r copy) = passed_sentence r copy
+sentence_of rules (finding.Passed r copy n) = passed_sentence r copy n
 
--- the lines below a picture: the sentence, and of a key that is not allowed the reason
+-- the lines below a picture: the sentence, and what follows it
 abbrev pub TellsNotes : List Rule → Part → Members → Finding → List ℕ → Type 0
 TellsNotes rules p top f told =
     (reason : List ℕ) × FollowsSentence p top f reason

@@ -1,6 +1,7 @@
 -- Why the links of a scenario make no tree of its nodes, and what is said of that.
-use Rattle.std.specs.Prelude.{◌≡◌, ◌≢◌, ℕ, ◌+◌, ◌<◌, ◌≤◌, Bool, false, not, ◌&&◌, ◌||◌, List, [], ◌∷◌, ◌++◌}
-use Rattle.std.specs.Prelude.{Some, length, unwrap_or, slice_get, codes, decimal}
+use Rattle.std.specs.Prelude.{◌≡◌, ◌≢◌, ℕ, ◌+◌, ◌-◌, ◌<◌, ◌≤◌, ◌==◌, Bool, true, false, not, ◌&&◌, ◌||◌, nat_le}
+use Rattle.std.specs.Prelude.{List, [], ◌∷◌, ◌++◌, Option, Some, None, length, take, unwrap_or, option_map, slice_get}
+use Rattle.std.specs.Prelude.{codes, decimal, if◌then◌else◌}
 use Rattle.std.specs.List.{list_all, AllByRecursion}
 use Rattle.srm_net.specs.declared.link.LinkSpec.{LinkSpec}
 use Rattle.srm_net.specs.Network.{plain_network}
@@ -21,12 +22,35 @@ end_at other k = k.b
 abbrev pub IsUnreached : ℕ → List LinkSpec → ℕ → Type 0
 IsUnreached nodes links v = (v < nodes) × (has_way (plain_network nodes links []) 0 v ≡ false)
 
--- for this reason these links make no tree of so many nodes
-abbrev pub IsFlaw : ℕ → List LinkSpec → Flaw → Type 0
-IsFlaw nodes links (flaw.NoEnd link key n) =
-    (k : LinkSpec) × (slice_get links link ≡ Some k) × (n ≡ nodes) × (nodes ≤ end_at key k)
-IsFlaw nodes links (flaw.LinkCount n m) = (n ≡ nodes) × (m ≡ length links) × (length links + 1 ≢ nodes)
-IsFlaw nodes links (flaw.Unreached vs) = AllByRecursion (IsUnreached nodes links) vs.items
+-- the parent of a node, where link k joins node k + 1 to its parent
+abbrev pub parent_of : List LinkSpec → ℕ → Option ℕ
+parent_of links v = if v == 0 then None else option_map (λ k. k.a) (slice_get links (v - 1))
+
+-- the first of some nodes, or this one
+abbrev pub first_or : ℕ → List ℕ → ℕ
+first_or end [] = end
+first_or end (v ∷ vs) = v
+
+-- each of these nodes is the child of the next one, and the last one is the child of this one
+abbrev pub Climbs : List LinkSpec → List ℕ → ℕ → Type 0
+Climbs links [] end = Unit {0}
+Climbs links (v ∷ vs) end = (parent_of links v ≡ Some (first_or end vs)) × Climbs links vs end
+
+-- each of these nodes is the child of the next one, and the last one is the child of the first
+abbrev pub IsCircle : List LinkSpec → List ℕ → Type 0
+IsCircle links [] = ⊥
+IsCircle links (v ∷ vs) = Climbs links (v ∷ vs) v
+
+-- for this reason these links make no tree of so many nodes, where they are those to parents or not
+abbrev pub IsFlaw : Bool → ℕ → List LinkSpec → Flaw → Type 0
+IsFlaw parents nodes links (flaw.NoEnd link key n) =
+    (parents ≡ false) × (k : LinkSpec) × (slice_get links link ≡ Some k) × (n ≡ nodes) × (nodes ≤ end_at key k)
+IsFlaw parents nodes links (flaw.NoParent v n) =
+    (parents ≡ true) × (link : ℕ) × (v ≡ link + 1) × (k : LinkSpec) × (slice_get links link ≡ Some k)
+    × (n ≡ nodes) × (nodes ≤ k.a)
+IsFlaw parents nodes links (flaw.Circle vs) = (parents ≡ true) × IsCircle links vs.items
+IsFlaw parents nodes links (flaw.LinkCount n m) = (n ≡ nodes) × (m ≡ length links) × (length links + 1 ≢ nodes)
+IsFlaw parents nodes links (flaw.Unreached vs) = AllByRecursion (IsUnreached nodes links) vs.items
 
 -- ---- what is said of it
 
@@ -34,6 +58,13 @@ IsFlaw nodes links (flaw.Unreached vs) = AllByRecursion (IsUnreached nodes links
 abbrev pub spaced : List ℕ → List ℕ
 spaced [] = []
 spaced (n ∷ ns) = (codes " " ++ decimal n) ++ spaced ns
+
+-- the same; of many the first 20, and how many more there are
+abbrev pub first_spaced : List ℕ → List ℕ
+first_spaced ns =
+    if nat_le (length ns) 20
+    then spaced ns
+    else spaced (take 20 ns) ++ (codes " and " ++ (decimal (length ns - 20) ++ codes " more"))
 
 -- what is said of a reason
 abbrev pub flaw_sentence : Flaw → List ℕ
@@ -43,7 +74,12 @@ flaw_sentence (flaw.NoEnd link key nodes) =
 flaw_sentence (flaw.LinkCount nodes links) =
     codes "nodes: "
     ++ (decimal nodes ++ (codes ", links: " ++ (decimal links ++ codes "; a tree has one link fewer than nodes")))
-flaw_sentence (flaw.Unreached nodes) = codes "not reached from node 0:" ++ spaced nodes.items
+flaw_sentence (flaw.NoParent node nodes) =
+    codes "the parent of node "
+    ++ (decimal node ++ (codes " is no node: " ++ (decimal nodes ++ codes " in all, numbered from 0")))
+flaw_sentence (flaw.Circle nodes) =
+    codes "these nodes make a circle, each a child of the next, the last of the first:" ++ first_spaced nodes.items
+flaw_sentence (flaw.Unreached nodes) = codes "not reached from node 0:" ++ first_spaced nodes.items
 
 -- ---- marks
 

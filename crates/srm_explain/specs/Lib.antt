@@ -1,3 +1,4 @@
+pub mod Copies
 pub mod Explanations
 pub mod Findings
 pub mod Flaws

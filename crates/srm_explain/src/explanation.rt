@@ -2,27 +2,29 @@
 ghost use Rattle.std.specs.Prelude.{◌≡◌, IfOk, IfSome, string_bytes};
 ghost use Rattle.srm_scenario.specs.declared.fault.ScenarioFault.TheVariants.{BadKey, NotToml, NotTree};
 ghost use Rattle.toml.specs.View.{table_view};
+ghost use Rattle.srm_explain.specs.Copies.{IsCopied};
 ghost use Rattle.srm_explain.specs.Findings.{TellsNotes};
-ghost use Rattle.srm_explain.specs.Explanations.{general_sentence, note, Explains, ExplainsMisfit, TellsFlaws};
+ghost use Rattle.srm_explain.specs.Explanations.{general_sentence, note, written_in, Explains, ExplainsMisfit, IsCopyNote, TellsBroken, TellsFlaws};
 
+use crate::copies::{Copied, copied_at, copy_sentence, risen_numbers};
 use crate::finding::Finding;
 use crate::flaw::Flaw;
 use crate::flaw_sentence::flaw_notes;
 use crate::flaws::flaws_in;
 use crate::general::general_sentence;
-use crate::keys::{array_key, finding_at, place_in_text};
-use crate::locate::{Target, locate};
+use crate::keys::{array_key, finding_at};
 use crate::misfit_sentence::misfit_sentence;
 use crate::misfits::misfit_of;
 use crate::picture::picture_of;
+use crate::places::{picture_of_finding, picture_of_flaw, picture_of_value};
 use crate::rules_in::{reason_after, rules_in};
 use crate::sentence::sentence_of;
 use crate::span::Span;
-use crate::token::tokens_of;
 use srm_scenario::draft::Draft;
 use srm_scenario::fault::{Part, ScenarioFault};
 use srm_scenario::key::Key;
 use srm_scenario::rule::Rule;
+use srm_scenario::table::{array, says};
 use std::alloc::{AllocError, Global};
 use toml::Table;
 
@@ -119,7 +121,7 @@ fn explain_misfit(
     place: usize,
     text: &[u8],
 ) -> Result<String, AllocError>
-    ensures { IfOk result (λ told. ExplainsMisfit fault text.now (string_bytes told)) }
+    ensures { IfOk result (λ told. ExplainsMisfit fault part place text.now (string_bytes told)) }
 {
     let Ok(top) = toml::table_from_slice(alloc, text) else {
         return general(alloc, fault);
@@ -127,18 +129,76 @@ fn explain_misfit(
     let Ok(draft) = Draft::read(alloc, &top) else {
         return general(alloc, fault);
     };
-    let Some(misfit) = misfit_of(&draft, fault) else {
+    let Some(told) = told_of_misfit(alloc, fault, part, place, text, &top, &draft)? else {
         return general(alloc, fault);
     };
-    let picture = picture_of_value(
-        alloc,
-        text,
-        part,
-        place_in_text(&top, part, place),
-        misfit.key(part),
-    )?;
+    Ok(told)
+}
+
+// The line in which the value stands that breaks a rule, which rule it is, and which copy of an element, if a rule is broken.
+fn told_of_misfit(
+    alloc: Global,
+    fault: ScenarioFault,
+    part: Part,
+    place: usize,
+    text: &[u8],
+    top: &Table,
+    draft: &Draft,
+) -> Result<Option<String>, AllocError>
+    ensures { IfOk result (λ told. IfSome told (λ t. TellsBroken draft.now fault (written_in part (table_view top.now))
+        place (string_bytes t))) }
+{
+    let Some(misfit) = misfit_of(draft, fault) else {
+        return Ok(None);
+    };
+    let copied = copied_in(top, part, place);
+    let written = place_in_text(copied, place);
+    let picture = picture_of_value(alloc, text, part, written, misfit.key(part))?;
     let sentence = misfit_sentence(alloc, misfit)?;
-    let told = format!(in alloc; "{picture}  {sentence}\n")?;
+    let note = format!(in alloc; "  {sentence}\n")?;
+    let copy = copy_note(alloc, draft, fault, copied)?;
+    let told = format!(in alloc; "{picture}{note}{copy}")?;
+    Ok(Some(told))
+}
+
+// Which copy of which element of the text the element at a place of a part is, if it is known.
+fn copied_in(top: &Table, part: Part, place: usize) -> Option<Copied>
+    ensures { IfSome result (IsCopied (written_in part (table_view top.now)) place) }
+{
+    match array_key(part) {
+        Some(key) => copied_at(array(top, key), place),
+        None => None,
+    }
+}
+
+// The place in the text of the element of a place, where it is this copy.
+fn place_in_text(copied: Option<Copied>, place: usize) -> usize {
+    match copied {
+        Some(copied) => copied.written,
+        None => place,
+    }
+}
+
+// The line that tells which copy the element of a fault is, where it is one of several.
+fn copy_note(
+    alloc: Global,
+    draft: &Draft,
+    fault: ScenarioFault,
+    copied: Option<Copied>,
+) -> Result<String, AllocError>
+    ensures { IfOk result (λ told. IsCopyNote draft.now fault copied (string_bytes told)) }
+{
+    let Some(copied) = copied else {
+        return Ok(String::new(alloc));
+    };
+    if copied.times == 1 {
+        return Ok(String::new(alloc));
+    }
+    let Some(numbers) = risen_numbers(alloc, draft, fault)? else {
+        return Ok(String::new(alloc));
+    };
+    let sentence = copy_sentence(alloc, copied, numbers.as_str())?;
+    let told = format!(in alloc; "  {sentence}\n")?;
     Ok(told)
 }
 
@@ -152,7 +212,8 @@ fn explain_tree(alloc: Global, text: &[u8]) -> Result<String, AllocError>
     let Ok(draft) = Draft::read(alloc, &top) else {
         return general(alloc, ScenarioFault::NotTree);
     };
-    let flaws = flaws_in(alloc, &draft)?;
+    let parents = says(&top, Key::Topology, "parents");
+    let flaws = flaws_in(alloc, &draft, parents)?;
     let Some(told) = told_of_flaws(alloc, text, &flaws)? else {
         return general(alloc, ScenarioFault::NotTree);
     };
@@ -172,35 +233,6 @@ fn told_of_flaws(alloc: Global, text: &[u8], flaws: &[Flaw]) -> Result<Option<St
     Ok(Some(told))
 }
 
-// The line in which the end of a link stands that is no node, or else the number of nodes.
-fn picture_of_flaw(alloc: Global, text: &[u8], flaw: &Flaw) -> Result<String, AllocError> {
-    match flaw {
-        Flaw::NoEnd { link, key, .. } => picture_of_value(alloc, text, Part::Link, *link, *key),
-        _ => picture_of_value(alloc, text, Part::Top, 0, Key::Nodes),
-    }
-}
-
-// The line in which the value at a key of an element stands, or the element itself, and nothing where neither is found.
-fn picture_of_value(
-    alloc: Global,
-    text: &[u8],
-    part: Part,
-    place: usize,
-    key: Key,
-) -> Result<String, AllocError> {
-    let array = match array_key(part) {
-        Some(array) => Some(array.name()),
-        None => None,
-    };
-    let tokens = tokens_of(alloc, text)?;
-    let key = key.name();
-    let found = locate(text, &tokens, Target { array, place, key });
-    match found.value.or(found.element) {
-        Some(span) => picture_of(alloc, text, span),
-        None => Ok(String::new(alloc)),
-    }
-}
-
 // The lines below the picture of a finding.
 fn notes_of(
     alloc: Global,
@@ -215,35 +247,4 @@ fn notes_of(
     let reason = reason_after(alloc, part, top, finding)?;
     let notes = format!(in alloc; "  {sentence}{reason}\n")?;
     Ok(notes)
-}
-
-// The line in which a finding stands, and nothing where it stands in none.
-fn picture_of_finding(
-    alloc: Global,
-    text: &[u8],
-    part: Part,
-    place: usize,
-    finding: &Finding,
-) -> Result<String, AllocError> {
-    let key = match finding {
-        Finding::NoTable => "",
-        Finding::Unknown { key, .. } => key.as_str(),
-        Finding::Missing(rule) | Finding::Wrong(rule) | Finding::Refused(rule) => rule.key.name(),
-        Finding::Passed { rule, .. } => rule.key.name(),
-    };
-    let array = match array_key(part) {
-        Some(array) => Some(array.name()),
-        None => None,
-    };
-    let tokens = tokens_of(alloc, text)?;
-    let found = locate(text, &tokens, Target { array, place, key });
-    let span = match finding {
-        Finding::NoTable | Finding::Missing(_) => found.element,
-        Finding::Unknown { .. } | Finding::Refused(_) => found.key,
-        Finding::Wrong(_) | Finding::Passed { .. } => found.value,
-    };
-    match span {
-        Some(span) => picture_of(alloc, text, span),
-        None => Ok(String::new(alloc)),
-    }
 }

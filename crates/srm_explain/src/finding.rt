@@ -18,6 +18,20 @@ pub enum Finding {
     Missing(Rule),
     /// What stands at the key of this rule is not what the rule asks for.
     Wrong(Rule),
+    /// An element of the array at the key of this rule is not what the rule asks for.
+    BadItem {
+        /// The rule.
+        rule: Rule,
+        /// The place of the element.
+        item: usize,
+    },
+    /// The array at the key of this rule has too many elements or too few, or its elements stand for too many.
+    BadLength {
+        /// The rule.
+        rule: Rule,
+        /// How many there are, or for how many they stand.
+        length: u64,
+    },
     /// The key of this rule is not allowed there.
     Refused(Rule),
     /// The element stands for several, and the number at a key passes its range in one of them.
@@ -26,5 +40,7 @@ pub enum Finding {
         rule: Rule,
         /// The number of that copy, counted from 0.
         copy: u64,
+        /// What stands at the key in that copy.
+        number: u128,
     },
 }

@@ -13,6 +13,18 @@ pub enum Flaw {
         /// How many nodes there are.
         nodes: u16,
     },
+    /// The parent of a node is no node.
+    NoParent {
+        /// The node.
+        node: usize,
+        /// How many nodes there are.
+        nodes: u16,
+    },
+    /// Some nodes make a circle.
+    Circle {
+        /// Those nodes, each the child of the next one, and the last one that of the first.
+        nodes: Vec<u16>,
+    },
     /// There is not one link fewer than nodes.
     LinkCount {
         /// How many nodes there are.

@@ -1,6 +1,6 @@
 //! What is said of what keeps links from making a tree of the nodes.
 ghost use Rattle.std.specs.Prelude.{◌≡◌, IfOk, string_bytes};
-ghost use Rattle.srm_explain.specs.Flaws.{flaw_sentence, spaced};
+ghost use Rattle.srm_explain.specs.Flaws.{first_spaced, flaw_sentence, spaced};
 ghost use Rattle.srm_explain.specs.Explanations.{flaw_notes};
 
 use crate::flaw::Flaw;
@@ -36,11 +36,36 @@ fn flaw_sentence(alloc: Global, flaw: &Flaw) -> Result<String, AllocError>
                 "nodes: {nodes}, links: {links}; a tree has one link fewer than nodes"
             )
         }
+        Flaw::NoParent { node, nodes } => format!(in alloc;
+            "the parent of node {node} is no node: {nodes} in all, numbered from 0"
+        ),
+        Flaw::Circle { nodes } => {
+            let numbers = first_spaced(alloc, nodes)?;
+            format!(in alloc;
+                "these nodes make a circle, each a child of the next, the last of the first:{numbers}"
+            )
+        }
         Flaw::Unreached { nodes } => {
-            let numbers = spaced(alloc, nodes)?;
+            let numbers = first_spaced(alloc, nodes)?;
             format!(in alloc; "not reached from node 0:{numbers}")
         }
     }
+}
+
+/// So many numbers are told at most.
+const MOST_TOLD: usize = 20;
+
+// Numbers, each with a space in front; of many the first, and how many more there are.
+fn first_spaced(alloc: Global, numbers: &[u16]) -> Result<String, AllocError>
+    ensures { IfOk result (λ s. string_bytes s ≡ first_spaced numbers.now) }
+{
+    if numbers.len() <= MOST_TOLD {
+        return spaced(alloc, numbers);
+    }
+    let first = spaced(alloc, &numbers[..MOST_TOLD])?;
+    let more = numbers.len() - MOST_TOLD;
+    let told = format!(in alloc; "{first} and {more} more")?;
+    Ok(told)
 }
 
 // Numbers, each with a space in front.

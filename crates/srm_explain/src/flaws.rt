@@ -1,33 +1,78 @@
 //! What keeps links from making a tree of the nodes.
-ghost use Rattle.std.specs.Prelude.{◌≡◌, ◌<◌, true, IfOk, IfSome};
+ghost use Rattle.std.specs.Prelude.{◌≡◌, ◌<◌, true, false, IfOk, IfSome};
 ghost use Rattle.std.specs.List.{list_all, AllByRecursion};
 ghost use Rattle.srm_explain.specs.Misfits.{links_of};
-ghost use Rattle.srm_explain.specs.Flaws.{is_closed, is_even, is_reached, IsFlaw, IsUnreached};
+ghost use Rattle.srm_explain.specs.Flaws.{is_closed, is_even, IsFlaw, IsUnreached};
 
+use crate::circles::circle_in;
 use crate::flaw::Flaw;
+use crate::reached::{is_reached, reached_from_0};
 use srm_net::link::LinkSpec;
 use srm_scenario::draft::Draft;
 use srm_scenario::key::Key;
 use std::alloc::{AllocError, Global};
 
-/// Why the links of a draft make no tree of its nodes. If an end of a link is no node, that is told alone. Else it is told how
-/// many links there are, where these are too many or too few, and which nodes are not reached from node 0. The links of a
+/// Why the links of a draft make no tree of its nodes, where they are those to the parents that its table lists, or else those that
+/// it lists. If an end of a link is no node, that is told alone. Else of parents it is told which nodes make a circle; and of other
+/// links how many there are, where these are too many or too few, and which nodes are not reached from node 0. The links of a
 /// topology make a tree.
 ///
 /// # Errors
 /// Memory ran out.
-pub(crate) fn flaws_in(alloc: Global, draft: &Draft) -> Result<Vec<Flaw>, AllocError>
-    ensures { IfOk result (λ flaws. AllByRecursion (IsFlaw draft.now.nodes (links_of draft.now)) flaws.items) }
+pub(crate) fn flaws_in(alloc: Global, draft: &Draft, parents: bool) -> Result<Vec<Flaw>, AllocError>
+    ensures { IfOk result (λ flaws. AllByRecursion (IsFlaw parents draft.now.nodes (links_of draft.now)) flaws.items) }
 {
     match draft.topology {
         Some(_) => Ok(Vec::new(alloc)),
-        None => flaws_of(alloc, draft.nodes, &draft.links),
+        None => flaws_of(alloc, parents, draft.nodes, &draft.links),
     }
 }
 
-// Why links make no tree of so many nodes.
-fn flaws_of(alloc: Global, nodes: u16, links: &[LinkSpec]) -> Result<Vec<Flaw>, AllocError>
-    ensures { IfOk result (λ flaws. AllByRecursion (IsFlaw nodes links.now) flaws.items) }
+// Why links make no tree of so many nodes, where they are those to parents or not.
+fn flaws_of(
+    alloc: Global,
+    parents: bool,
+    nodes: u16,
+    links: &[LinkSpec],
+) -> Result<Vec<Flaw>, AllocError>
+    ensures { IfOk result (λ flaws. AllByRecursion (IsFlaw parents nodes links.now) flaws.items) }
+{
+    if parents {
+        flaws_of_parents(alloc, nodes, links)
+    } else {
+        flaws_of_links(alloc, nodes, links)
+    }
+}
+
+// Why the links to parents make no tree of so many nodes.
+fn flaws_of_parents(alloc: Global, nodes: u16, links: &[LinkSpec]) -> Result<Vec<Flaw>, AllocError>
+    ensures { IfOk result (λ flaws. AllByRecursion (IsFlaw true nodes links.now) flaws.items) }
+{
+    let mut flaws = Vec::new(alloc);
+    if let Some(flaw) = parent_in(nodes, links) {
+        flaws.push(flaw)?;
+    } else if let Some(nodes) = circle_in(alloc, nodes, links)? {
+        flaws.push(Flaw::Circle { nodes })?;
+    }
+    Ok(flaws)
+}
+
+// The first parent that is no node, if there is one.
+fn parent_in(nodes: u16, links: &[LinkSpec]) -> Option<Flaw>
+    ensures { IfSome result (IsFlaw true nodes links.now) }
+{
+    for (link, spec) in links.iter().enumerate() {
+        if spec.a >= nodes {
+            let node = link + 1;
+            return Some(Flaw::NoParent { node, nodes });
+        }
+    }
+    None
+}
+
+// Why listed links make no tree of so many nodes.
+fn flaws_of_links(alloc: Global, nodes: u16, links: &[LinkSpec]) -> Result<Vec<Flaw>, AllocError>
+    ensures { IfOk result (λ flaws. AllByRecursion (IsFlaw false nodes links.now) flaws.items) }
 {
     let mut flaws = Vec::new(alloc);
     if let Some(flaw) = end_in(nodes, links) {
@@ -45,7 +90,7 @@ fn flaws_of(alloc: Global, nodes: u16, links: &[LinkSpec]) -> Result<Vec<Flaw>, 
 
 // The first end of a link that is no node, if there is one.
 fn end_in(nodes: u16, links: &[LinkSpec]) -> Option<Flaw>
-    ensures { IfSome result (IsFlaw nodes links.now) }
+    ensures { IfSome result (IsFlaw false nodes links.now) }
 {
     for (link, spec) in links.iter().enumerate() {
         if spec.a >= nodes {
@@ -68,7 +113,7 @@ fn end_in(nodes: u16, links: &[LinkSpec]) -> Option<Flaw>
 
 // That there is not one link fewer than nodes, if it is so.
 fn count_in(nodes: u16, links: &[LinkSpec]) -> Option<Flaw>
-    ensures { IfSome result (IsFlaw nodes links.now) }
+    ensures { IfSome result (IsFlaw false nodes links.now) }
 {
     if links.len().saturating_add(1) == usize::from(nodes) {
         None
@@ -80,7 +125,7 @@ fn count_in(nodes: u16, links: &[LinkSpec]) -> Option<Flaw>
 
 // Which nodes are not reached from node 0, if some are not.
 fn unreached_in(alloc: Global, nodes: u16, links: &[LinkSpec]) -> Result<Option<Flaw>, AllocError>
-    ensures { IfOk result (λ flaw. IfSome flaw (IsFlaw nodes links.now)) }
+    ensures { IfOk result (λ flaw. IfSome flaw (IsFlaw false nodes links.now)) }
 {
     let reached = reached_from_0(alloc, nodes, links)?;
     if !is_closed(&reached, links) {
@@ -117,16 +162,6 @@ fn with_unmarked(
     Ok(unreached)
 }
 
-// Whether a node is marked.
-fn is_reached(reached: &[bool], node: u16) -> bool
-    ensures { result ≡ is_reached reached.now node }
-{
-    match reached.get(usize::from(node)) {
-        Some(reached) => *reached,
-        None => false,
-    }
-}
-
 // Whether both ends of a link are marked, or neither.
 fn is_even(reached: &[bool], link: LinkSpec) -> bool
     ensures { result ≡ is_even reached.now link }
@@ -148,36 +183,4 @@ fn are_even(reached: &[bool], links: &[LinkSpec]) -> bool
     ensures { result ≡ list_all (is_even reached.now) links.now }
 {
     links.iter().all(|link| is_even(reached, *link))
-}
-
-// Marks of the nodes that are reached from node 0.
-fn reached_from_0(alloc: Global, nodes: u16, links: &[LinkSpec]) -> Result<Vec<bool>, AllocError> {
-    let mut reached = vec![in alloc; false; usize::from(nodes)]?;
-    mark(&mut reached, 0);
-    for _round in 0..nodes {
-        if !spread(&mut reached, links) {
-            return Ok(reached);
-        }
-    }
-    Ok(reached)
-}
-
-// Marks a node.
-fn mark(reached: &mut Vec<bool>, node: u16) {
-    if let Some(mark) = reached.get_mut(usize::from(node)) {
-        *mark = true;
-    }
-}
-
-// Of each link with one end marked marks the other, and answers whether there was such a link.
-fn spread(reached: &mut Vec<bool>, links: &[LinkSpec]) -> bool {
-    let mut grew = false;
-    for link in links {
-        if is_reached(reached, link.a) != is_reached(reached, link.b) {
-            mark(reached, link.a);
-            mark(reached, link.b);
-            grew = true;
-        }
-    }
-    grew
 }

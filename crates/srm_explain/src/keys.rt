@@ -1,15 +1,17 @@
 //! What is wrong with the keys of a table, beside the rules of its part.
-ghost use Rattle.std.specs.Prelude.{◌≡◌, Some, IfOk, IfSome, option_map};
+ghost use Rattle.std.specs.Prelude.{◌≡◌, false, Some, IfOk, IfSome, option_map};
 ghost use Rattle.toml.specs.View.{table_view, view};
-ghost use Rattle.srm_explain.specs.Findings.{array_key, element_of, FindsAt, FindsIn, IsBroken, IsFinding};
+ghost use Rattle.srm_scenario.specs.Rules.{is_kind};
+ghost use Rattle.srm_explain.specs.Findings.{array_key, element_of, BreaksKind, FindsAt, FindsIn, IsBroken, IsFinding};
 
+use crate::arrays::broken_array;
 use crate::finding::Finding;
 use crate::nearest::nearest;
 use crate::passing::passed_in;
 use srm_scenario::fault::Part;
 use srm_scenario::key::Key;
 use srm_scenario::rule::{Need, Rule};
-use srm_scenario::table::{array, has_only, is_kind, is_known, times_of};
+use srm_scenario::table::{array, has_only, is_kind, is_known, values_of};
 use std::alloc::{AllocError, Global};
 use toml::{Table, Value};
 
@@ -43,22 +45,6 @@ fn element_at(top: &Table, key: Key, place: usize) -> Option<&Value>
     ensures { option_map (λ v. view v.now) result ≡ element_of (Some key) place (table_view top.now) }
 {
     array(top, key).get(place)
-}
-
-/// The place in the text of the element that stands for the one of this place.
-pub(crate) fn place_in_text(top: &Table, part: Part, place: usize) -> usize {
-    let Some(key) = array_key(part) else {
-        return place;
-    };
-    let mut left = place as u64;
-    for (written, value) in array(top, key).iter().enumerate() {
-        let times = times_of(value);
-        if left < times {
-            return written;
-        }
-        left -= times;
-    }
-    place
 }
 
 // What is wrong with an element beside these rules, if something is.
@@ -138,11 +124,30 @@ fn wrong_at(table: &Table, rule: Rule) -> Option<Finding>
                 if is_kind(value, rule.kind) {
                     None
                 } else {
-                    Some(Finding::Wrong(rule))
+                    Some(broken_value(value, rule))
                 }
             }
         },
     }
+}
+
+// How a value breaks the kind of a rule.
+fn broken_value(value: &Value, rule: Rule) -> Finding
+    requires { is_kind rule.kind (view value.now) ≡ false }
+    ensures { BreaksKind rule (view value.now) result }
+{
+    match broken_elements(value, rule) {
+        Some(found) => found,
+        None => Finding::Wrong(rule),
+    }
+}
+
+// How the elements of an array break the kind of a rule, if a value is one and they do.
+fn broken_elements(value: &Value, rule: Rule) -> Option<Finding>
+    ensures { IfSome result (BreaksKind rule (view value.now)) }
+{
+    let values = values_of(value)?;
+    broken_array(values, rule)
 }
 
 // The first of these rules whose key the table lacks, if one is.

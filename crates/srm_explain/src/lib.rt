@@ -1,6 +1,9 @@
 //! Why a scenario is refused, told to the person who wrote it.
 #![tactic(auto)]
 
+mod arrays;
+mod circles;
+mod copies;
 pub mod explanation;
 mod finding;
 mod flaw;
@@ -15,6 +18,8 @@ mod misfits;
 mod nearest;
 mod passing;
 mod picture;
+mod places;
+mod reached;
 mod rules_in;
 mod sentence;
 mod span;

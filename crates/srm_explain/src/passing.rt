@@ -31,8 +31,10 @@ fn passed_at(table: &Table, rule: Rule) -> Option<Finding>
     let Kind::Whole(_, last) = rule.kind else {
         return None;
     };
-    let copy = copy_past(number(table, rule.key), rise, last, times_in(table))?;
-    Some(Finding::Passed { rule, copy })
+    let first = number(table, rule.key);
+    let copy = copy_past(first, rise, last, times_in(table))?;
+    let number = higher_by(first, step_of(copy, rise));
+    Some(Finding::Passed { rule, copy, number })
 }
 
 // By how much the number at a key rises from copy to copy, if it rises, where copies are so far apart.

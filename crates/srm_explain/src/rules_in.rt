@@ -3,12 +3,12 @@ ghost use Rattle.std.specs.Prelude.{◌≡◌, true, IfOk, is_some, codes};
 ghost use Rattle.std.specs.List.{list_any};
 ghost use Rattle.toml.specs.Data.{get_member};
 ghost use Rattle.toml.specs.View.{table_view};
-ghost use Rattle.srm_explain.specs.Findings.{allows, rules_for, rules_in, FollowsSentence, IsReason, IsReasonAmong, IsTopologyReason, is_shaped};
+ghost use Rattle.srm_explain.specs.Findings.{allows, rules_for, rules_in, FollowsSentence, IsReason, IsReasonAmong, IsReasonOfKind, IsTopologyReason, is_shaped};
 
 use crate::finding::Finding;
 use srm_scenario::fault::Part;
 use srm_scenario::key::Key;
-use srm_scenario::rule::{Need, Rule};
+use srm_scenario::rule::{Kind, Need, Rule, Words};
 use srm_scenario::rules::{
     draw_rules, drop_rules, link_rules, member_rules, outage_rules, session_rules, top_rules,
 };
@@ -71,7 +71,19 @@ pub(crate) fn reason_after(
 {
     match finding {
         Finding::Refused(rule) => reason_for(alloc, part, top, rule.key),
+        Finding::Wrong(rule) => Ok(reason_of_kind(top, rule.kind)),
         _ => Ok(""),
+    }
+}
+
+// What follows the sentence of a value that is not of its rule's kind: of a topology that a later version has, that it has it.
+fn reason_of_kind(top: &Table, kind: Kind) -> &'static str
+    ensures { IsReasonOfKind (table_view top.now) kind result.now }
+{
+    match kind {
+        Kind::Word(Words::Topologies) if says(top, Key::Topology, "parents") =>
+            "; version 3 has \"parents\" too",
+        _ => "",
     }
 }
 
@@ -87,8 +99,8 @@ fn topology_reason(top: &Table, key: Key) -> &'static str
 {
     if matches!(key, Key::Degree) {
         " unless topology is \"tree\""
-    } else if is_for_parents(key) && !says(top, Key::Topology, "parents") {
-        " unless topology is \"parents\""
+    } else if matches!(key, Key::Size) && says(top, Key::Topology, "parents") {
+        " beside parent: there is one node more than parents"
     } else if matches!(key, Key::Delay) && has_key(top, Key::Delays) {
         " beside delays"
     } else if matches!(key, Key::Back) && has_key(top, Key::Backs) {
@@ -106,6 +118,8 @@ fn reason_among(second: &[Rule], third: &[Rule], top: &Table, key: Key) -> &'sta
         " in version 1; version 2 has it"
     } else if allows(third, key) {
         " in this version; version 3 has it"
+    } else if is_for_parents(key) && !says(top, Key::Topology, "parents") {
+        " unless topology is \"parents\", which version 3 has"
     } else if !has_key(top, Key::Topology) {
         " without topology"
     } else {

@@ -1,6 +1,6 @@
 //! What is said of what is wrong with the keys of a table.
 ghost use Rattle.std.specs.Prelude.{◌≡◌, IfOk, string_bytes};
-ghost use Rattle.srm_explain.specs.Findings.{allowed, keys_of, passed_sentence, sentence_of};
+ghost use Rattle.srm_explain.specs.Findings.{allowed, item_sentence, keys_of, length_sentence, passed_sentence, sentence_of};
 
 use crate::finding::Finding;
 use srm_scenario::rule::{Kind, Need, Rule, Words};
@@ -45,23 +45,47 @@ pub(crate) fn sentence_of(
             let allowed = allowed(alloc, rule.kind)?;
             format!(in alloc; "{name} is {allowed}")
         }
+        Finding::BadItem { rule, item } => item_sentence(alloc, *rule, *item),
+        Finding::BadLength { rule, length } => length_sentence(alloc, *rule, *length),
         Finding::Refused(rule) => {
             let name = rule.key.name();
             format!(in alloc; "{name} is not allowed")
         }
-        Finding::Passed { rule, copy } => passed_sentence(alloc, *rule, *copy),
+        Finding::Passed { rule, copy, number } => passed_sentence(alloc, *rule, *copy, *number),
     }
 }
 
 // What is said of a copy whose number passes the range of its key's rule.
-fn passed_sentence(alloc: Global, rule: Rule, copy: u64) -> Result<String, AllocError>
-    ensures { IfOk result (λ s. string_bytes s ≡ passed_sentence rule copy) }
+fn passed_sentence(alloc: Global, rule: Rule, copy: u64, number: u128) -> Result<String, AllocError>
+    ensures { IfOk result (λ s. string_bytes s ≡ passed_sentence rule copy number) }
 {
     let name = rule.key.name();
     let allowed = allowed(alloc, rule.kind)?;
     let told = format!(in alloc;
-        "{name} is {allowed}, and copy {copy}, counted from 0, passes it"
+        "{name} is {allowed}; copy {copy}, counted from 0, would have {number}"
     )?;
+    Ok(told)
+}
+
+// What is said of an element of an array that its key may not hold.
+fn item_sentence(alloc: Global, rule: Rule, item: usize) -> Result<String, AllocError>
+    ensures { IfOk result (λ s. string_bytes s ≡ item_sentence rule item) }
+{
+    let name = rule.key.name();
+    let allowed = allowed(alloc, rule.kind)?;
+    let told = format!(in alloc;
+        "{name} is {allowed}; element {item} of it, counted from 0, is none"
+    )?;
+    Ok(told)
+}
+
+// What is said of how many elements an array has, or for how many they stand.
+fn length_sentence(alloc: Global, rule: Rule, length: u64) -> Result<String, AllocError>
+    ensures { IfOk result (λ s. string_bytes s ≡ length_sentence rule length) }
+{
+    let name = rule.key.name();
+    let allowed = allowed(alloc, rule.kind)?;
+    let told = format!(in alloc; "{name} is {allowed}; these are {length}")?;
     Ok(told)
 }
 

@@ -8,5 +8,6 @@ use Rattle.srm_explain.proofs.flaws.flaws_in.Goals as goal
 pub returns-in-None : goal.returns-in-None
 returns-in-None c =
     let l = c.args.draft.now in
-    subst (λ (ks : List LinkSpec). IfOk c.flaws_of.result (λ flaws. AllByRecursion (IsFlaw l.nodes ks) flaws.items))
+    let told = c.flaws_of.result in
+    subst (λ (ks : List LinkSpec). IfOk told (λ flaws. AllByRecursion (IsFlaw c.args.parents l.nodes ks) flaws.items))
     (c.deref.ensures.value ∙ sym (links_without_topology l c.in-None.is)) c.flaws_of.ensures

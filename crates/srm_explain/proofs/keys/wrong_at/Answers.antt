@@ -1,9 +1,10 @@
-use Rattle.std.proofs.Common.{◌∙◌, Option, refl, sym, subst}
+use Rattle.std.proofs.Common.{Option, refl, sym, subst}
 use Rattle.std.specs.Prelude.{IsSome}
 use Rattle.toml.specs.Data.{Data}
-use Rattle.toml.specs.View.{view}
+use Rattle.toml.specs.View.{view, table_view}
 use Rattle.srm_scenario.specs.Keys.{name_of}
 use Rattle.srm_scenario.proofs.Tables.{looked_up}
+use Rattle.srm_explain.proofs.Found.{broken_at}
 use Rattle.srm_explain.proofs.keys.wrong_at.Goals as goal
 
 pub returns-in-Refused : goal.returns-in-Refused
@@ -16,4 +17,5 @@ pub returns-else-is_kind : goal.returns-else-is_kind
 returns-else-is_kind c =
     let found = looked_up c.get.result c.name.result.now (name_of c.args.rule.key) c.args.table.now.entries c.name.ensures
     c.get.ensures.value in
-    (refl, view c.in-Some.value.now, sym (rw c.in-Some.is at found), sym c.is_kind.ensures ∙ c.if-is_kind.false)
+    broken_at c.args.rule (table_view c.args.table.now) (view c.in-Some.value.now) c.broken_value.result
+    (sym (rw c.in-Some.is at found)) c.broken_value.ensures

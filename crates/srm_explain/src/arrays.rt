@@ -1,0 +1,78 @@
+//! What is wrong with the elements of an array, or with their number.
+ghost use Rattle.std.specs.Prelude.{◌≡◌, IfSome, map, sum_by};
+ghost use Rattle.toml.specs.View.{view};
+ghost use Rattle.srm_scenario.specs.Rules.{times_of};
+ghost use Rattle.srm_explain.specs.Findings.{is_item, is_length, length_by, BreaksArray, IsBadItem};
+
+use crate::finding::Finding;
+use srm_scenario::rule::{Kind, Rule};
+use srm_scenario::table::{is_kind, times_of};
+use toml::Value;
+
+/// How the elements of an array break the kind of a rule, as far as their number tells it, or one of them.
+pub(crate) fn broken_array(values: &[Value], rule: Rule) -> Option<Finding>
+    ensures { IfSome result (BreaksArray rule (map view values.now)) }
+{
+    let length = length_by(values, rule.kind)?;
+    if !is_length(rule.kind, length) {
+        return Some(Finding::BadLength { rule, length });
+    }
+    let item = bad_item(values, rule.kind)?;
+    Some(Finding::BadItem { rule, item })
+}
+
+// How many values there are; where a kind says for how many they stand, for how many they do.
+fn length_by(values: &[Value], kind: Kind) -> Option<u64>
+    ensures { IfSome result (λ n. n ≡ length_by kind (map view values.now)) }
+{
+    match kind {
+        Kind::Repeated(_) => made_by(values),
+        _ => Some(values.len() as u64),
+    }
+}
+
+// For how many elements values stand together.
+fn made_by(values: &[Value]) -> Option<u64>
+    ensures { IfSome result (λ n. n ≡ sum_by times_of (map view values.now)) }
+{
+    let mut made: u64 = 0;
+    for value in values {
+        made = made.checked_add(times_of(value))?;
+    }
+    Some(made)
+}
+
+// Whether an array of a kind may have so many elements, or stand for so many.
+fn is_length(kind: Kind, length: u64) -> bool
+    ensures { result ≡ is_length kind length }
+{
+    match kind {
+        Kind::Each(count, _, _) => length == count,
+        Kind::Numbers(most, _) => length <= most,
+        Kind::Elements(most) | Kind::Repeated(most) => length <= most,
+        Kind::Whole(_, _) | Kind::Word(_) => true,
+    }
+}
+
+// Whether an array of a kind may have this element.
+fn is_item(kind: Kind, value: &Value) -> bool
+    ensures { result ≡ is_item kind (view value.now) }
+{
+    match kind {
+        Kind::Numbers(_, high) => is_kind(value, Kind::Whole(0, high)),
+        Kind::Each(_, low, high) => is_kind(value, Kind::Whole(low, high)),
+        _ => true,
+    }
+}
+
+// The place of the first element that an array of a kind may not have, if there is one.
+fn bad_item(values: &[Value], kind: Kind) -> Option<usize>
+    ensures { IfSome result (IsBadItem kind (map view values.now)) }
+{
+    for (item, value) in values.iter().enumerate() {
+        if !is_item(kind, value) {
+            return Some(item);
+        }
+    }
+    None
+}

@@ -1,0 +1,139 @@
+//! Which copies of the elements of a text the elements of a scenario are.
+ghost use Rattle.std.specs.Prelude.{◌≡◌, IfOk, IfSome, map, string_bytes};
+ghost use Rattle.toml.specs.View.{view};
+ghost use Rattle.srm_explain.specs.Copies.{copy_sentence, draw_numbers, drop_numbers, member_numbers, outage_numbers, session_numbers, IsCopied, TellsNumbers};
+
+use srm_net::link::{DropSpec, OutageSpec};
+use srm_scenario::draft::Draft;
+use srm_scenario::entry::MemberEntry;
+use srm_scenario::fault::ScenarioFault;
+use srm_scenario::parts::{DrawSpec, SessionSpec};
+use srm_scenario::table::times_of;
+use std::alloc::{AllocError, Global};
+use toml::Value;
+
+/// Which copy of an element of a text an element of the scenario is.
+#[derive(Clone, Copy, Debug, PartialEq, Eq)]
+pub struct Copied {
+    /// The place of the element in the text.
+    pub written: usize,
+    /// For how many it stands.
+    pub times: u64,
+    /// Which of those it is, counted from 0.
+    pub copy: u64,
+}
+
+/// Which copy of which of these elements stands at a place of the list that they make, if one does.
+pub(crate) fn copied_at(values: &[Value], place: usize) -> Option<Copied>
+    ensures { IfSome result (IsCopied (map view values.now) place) }
+{
+    let mut left = place as u64;
+    for (written, value) in values.iter().enumerate() {
+        let times = times_of(value);
+        if left < times {
+            return Some(Copied {
+                written,
+                times,
+                copy: left,
+            });
+        }
+        left -= times;
+    }
+    None
+}
+
+/// What is said of a copy that has these numbers.
+///
+/// # Errors
+/// Memory ran out.
+pub(crate) fn copy_sentence(
+    alloc: Global,
+    copied: Copied,
+    numbers: &str,
+) -> Result<String, AllocError>
+    ensures { IfOk result (λ s. string_bytes s ≡ copy_sentence copied numbers.now) }
+{
+    let Copied { written, copy, .. } = copied;
+    let told = format!(in alloc;
+        "this is copy {copy} of element {written}, both counted from 0: {numbers}"
+    )?;
+    Ok(told)
+}
+
+/// The numbers of the element of a fault that rise from copy to copy, if there is such an element.
+///
+/// # Errors
+/// Memory ran out.
+pub(crate) fn risen_numbers(
+    alloc: Global,
+    draft: &Draft,
+    fault: ScenarioFault,
+) -> Result<Option<String>, AllocError>
+    ensures { IfOk result (λ told. IfSome told (λ s. TellsNumbers draft.now fault (string_bytes s))) }
+{
+    match fault {
+        ScenarioFault::BadMember { place } => match draft.members.get(place) {
+            Some(entry) => Ok(Some(member_numbers(alloc, entry)?)),
+            None => Ok(None),
+        },
+        ScenarioFault::BadDraw { place } => match draft.draws.get(place) {
+            Some(draw) => Ok(Some(draw_numbers(alloc, draw)?)),
+            None => Ok(None),
+        },
+        ScenarioFault::BadSession { place } => match draft.sessions.get(place) {
+            Some(session) => Ok(Some(session_numbers(alloc, session)?)),
+            None => Ok(None),
+        },
+        ScenarioFault::BadDrop { place } => match draft.drops.get(place) {
+            Some(drop) => Ok(Some(drop_numbers(alloc, drop)?)),
+            None => Ok(None),
+        },
+        ScenarioFault::BadOutage { place } => match draft.outages.get(place) {
+            Some(outage) => Ok(Some(outage_numbers(alloc, outage)?)),
+            None => Ok(None),
+        },
+        _ => Ok(None),
+    }
+}
+
+// The numbers of a member that rise from copy to copy.
+fn member_numbers(alloc: Global, entry: &MemberEntry) -> Result<String, AllocError>
+    ensures { IfOk result (λ s. string_bytes s ≡ member_numbers entry.now) }
+{
+    let node = entry.spec.node;
+    let stream = entry.spec.stream;
+    format!(in alloc; "node {node}, stream {stream}")
+}
+
+// The number of a draw that rises from copy to copy.
+fn draw_numbers(alloc: Global, draw: &DrawSpec) -> Result<String, AllocError>
+    ensures { IfOk result (λ s. string_bytes s ≡ draw_numbers draw.now) }
+{
+    let at = draw.at;
+    format!(in alloc; "at {at}")
+}
+
+// The number of a session message that rises from copy to copy.
+fn session_numbers(alloc: Global, session: &SessionSpec) -> Result<String, AllocError>
+    ensures { IfOk result (λ s. string_bytes s ≡ session_numbers session.now) }
+{
+    let at = session.at;
+    format!(in alloc; "at {at}")
+}
+
+// The number of a drop that rises from copy to copy.
+fn drop_numbers(alloc: Global, drop: &DropSpec) -> Result<String, AllocError>
+    ensures { IfOk result (λ s. string_bytes s ≡ drop_numbers drop.now) }
+{
+    let count = drop.id.count;
+    format!(in alloc; "count {count}")
+}
+
+// The numbers of an outage that rise from copy to copy.
+fn outage_numbers(alloc: Global, outage: &OutageSpec) -> Result<String, AllocError>
+    ensures { IfOk result (λ s. string_bytes s ≡ outage_numbers outage.now) }
+{
+    let from = outage.from;
+    let to = outage.to;
+    format!(in alloc; "from {from}, to {to}")
+}
