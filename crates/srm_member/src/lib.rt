@@ -23,6 +23,7 @@ pub mod limits;
 pub mod member;
 mod member_state;
 pub mod named;
+mod outcome;
 mod pages;
 mod pending;
 mod progress;

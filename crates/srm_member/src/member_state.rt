@@ -6,7 +6,6 @@ ghost use Rattle.srm_net.specs.Names;
 ghost use Rattle.srm_net.specs.Names.{name_cmp};
 ghost use Rattle.srm_member.specs.Backoff.{span_by};
 ghost use Rattle.srm_member.specs.Intervals.{greatest_adapted};
-ghost use Rattle.srm_member.specs.declared.told.Told.TheVariants.{Sent};
 ghost use Rattle.srm_member.specs.Record.{opening_state, exit_of, earliest, timers_of};
 ghost use Rattle.srm_net.specs.Roles.{is_late};
 ghost use Rattle.srm_member.specs.React.{distance_to, length_in, with_next_word, request_length, repair_length, with_request_delay, back_off, wants, begins_at, meet, lose_one, lose_from, with_losses_begun, lose_below, names_from, lost_below, with_mending_seen, hear_data, base, with_rest, is_at_rest, after_repair_delay, with_repair_seen, hear_repair, with_repairs_begun, with_repair_timer, hear_request_of_missing, hear_request_of_held, hear_request, after_entry, lost_by_entry, hear_session, hear_body, with_request_first, expire_request, with_repair_first, expire_repair, own_progress, draw_operation, session_of, send_body, intervals_of, adapted_since, with_adapted};
@@ -20,6 +19,7 @@ use crate::held::Held;
 use crate::interval::Interval;
 use crate::intervals::Intervals;
 use crate::named::Named;
+use crate::outcome::Outcome;
 use crate::pages::Pages;
 use crate::pending::Pending;
 use crate::progress::Progress;
@@ -305,7 +305,7 @@ impl MemberState {
         name: Name,
         ink: u32,
         repaired: bool,
-    ) -> Result<React, AllocError>
+    ) -> Result<Outcome, AllocError>
         requires { at < end_of_time }
         ensures ok { IfOk result (λ a. Gives a self.new (hear_data at name ink repaired self.old)) }
         ensures fixed { self.new.fixed ≡ self.old.fixed }
@@ -315,13 +315,13 @@ impl MemberState {
         let progress = self.meet(page, number);
         if number < progress.floor() {
             self.progress.put(page, progress)?;
-            return Ok(quietly(Told::Skip, Sequence::new(alloc)));
+            return Ok(Outcome::quiet(Told::Skip, Sequence::new(alloc)));
         }
         if number >= progress.next() {
             let mut lost = Sequence::new(alloc);
             self.lose_below(at, page, number, number + 1, progress, &mut lost)?;
             self.held.put(name, ink)?;
-            return Ok(quietly(Told::Fresh, lost));
+            return Ok(Outcome::quiet(Told::Fresh, lost));
         }
         self.progress.put(page, progress)?;
         if let Some(missing) = self.pending.missing(name) {
@@ -330,9 +330,9 @@ impl MemberState {
             }
             self.held.put(name, ink)?;
             self.pending.forget_missing(name);
-            return Ok(quietly(Told::Fixed, Sequence::new(alloc)));
+            return Ok(Outcome::quiet(Told::Fixed, Sequence::new(alloc)));
         }
-        Ok(quietly(Told::Again, Sequence::new(alloc)))
+        Ok(Outcome::quiet(Told::Again, Sequence::new(alloc)))
     }
 
     // The distance on which a name's rest is based, in ticks: that to its source; at the source itself that to whoever set the
@@ -401,17 +401,17 @@ impl MemberState {
         name: Name,
         ink: u32,
         who: u16,
-    ) -> Result<React, AllocError>
+    ) -> Result<Outcome, AllocError>
         requires { at < end_of_time }
         ensures ok { IfOk result (λ a. Gives a self.new (hear_repair at name ink who self.old)) }
         ensures fixed { self.new.fixed ≡ self.old.fixed }
     {
-        let react = self.hear_data(alloc, at, name, ink, true)?;
-        if matches!(react.told, Told::Skip) {
-            return Ok(react);
+        let outcome = self.hear_data(alloc, at, name, ink, true)?;
+        if matches!(outcome.told(), Told::Skip) {
+            return Ok(outcome);
         }
         self.see_repair(at, name, who)?;
-        Ok(react)
+        Ok(outcome)
     }
 
     // A period of repair timers begins.
@@ -445,20 +445,20 @@ impl MemberState {
         at: u64,
         name: Name,
         lost: Sequence<Name>,
-    ) -> Result<React, AllocError>
+    ) -> Result<Outcome, AllocError>
         requires { at < end_of_time }
         ensures ok { IfOk result (λ a. Gives a self.new (hear_request_of_missing at name lost self.old)) }
         ensures fixed { self.new.fixed ≡ self.old.fixed }
     {
         match self.pending.missing(name) {
-            None => Ok(quietly(Told::Hold, lost)),
+            None => Ok(Outcome::quiet(Told::Hold, lost)),
             Some(missing) => {
                 if at < missing.ignore {
                     self.request_interval.hear_duplicate();
-                    return Ok(quietly(Told::Hold, lost));
+                    return Ok(Outcome::quiet(Told::Hold, lost));
                 }
                 self.back_off(at, name, missing)?;
-                Ok(quietly(Told::Back, lost))
+                Ok(Outcome::quiet(Told::Back, lost))
             }
         }
     }
@@ -470,19 +470,19 @@ impl MemberState {
         at: u64,
         name: Name,
         who: u16,
-    ) -> Result<React, AllocError>
+    ) -> Result<Outcome, AllocError>
         requires { at < end_of_time }
         ensures ok { IfOk result (λ a. Gives a self.new (hear_request_of_held at name who self.old)) }
         ensures fixed { self.new.fixed ≡ self.old.fixed }
     {
         if self.is_at_rest(at, name) {
-            return Ok(quietly(Told::Rest, Sequence::new(alloc)));
+            return Ok(Outcome::quiet(Told::Rest, Sequence::new(alloc)));
         }
         if self.pending.repair(name).is_some() {
-            return Ok(quietly(Told::Busy, Sequence::new(alloc)));
+            return Ok(Outcome::quiet(Told::Busy, Sequence::new(alloc)));
         }
         self.plan(at, name, who)?;
-        Ok(quietly(Told::Plan, Sequence::new(alloc)))
+        Ok(Outcome::quiet(Told::Plan, Sequence::new(alloc)))
     }
 
     // A request for a name, by this member.
@@ -493,7 +493,7 @@ impl MemberState {
         at: u64,
         name: Name,
         who: u16,
-    ) -> Result<React, AllocError>
+    ) -> Result<Outcome, AllocError>
         requires { at < end_of_time }
         ensures ok { IfOk result (λ a. Gives a self.new (hear_request at name who self.old)) }
         ensures fixed { self.new.fixed ≡ self.old.fixed }
@@ -503,7 +503,7 @@ impl MemberState {
         let progress = self.meet(page, number + 1);
         self.progress.put(page, progress)?;
         if number < progress.floor() {
-            return Ok(quietly(Told::Skip, Sequence::new(alloc)));
+            return Ok(Outcome::quiet(Told::Skip, Sequence::new(alloc)));
         }
         if self.held.get(name).is_some() {
             return self.hear_request_of_held(alloc, at, name, who);
@@ -543,7 +543,12 @@ impl MemberState {
     }
 
     // Takes in a session message.
-    fn hear_session(&mut self, alloc: Global, at: u64, heard: &[Heard]) -> Result<React, AllocError>
+    fn hear_session(
+        &mut self,
+        alloc: Global,
+        at: u64,
+        heard: &[Heard],
+    ) -> Result<Outcome, AllocError>
         requires { at < end_of_time }
         ensures ok { IfOk result (λ a. Gives a self.new (hear_session at heard.now self.old [])) }
         ensures fixed { self.new.fixed ≡ self.old.fixed }
@@ -552,11 +557,11 @@ impl MemberState {
         for entry in heard {
             self.after_entry(at, *entry, &mut lost)?;
         }
-        Ok(quietly(Told::Heard, lost))
+        Ok(Outcome::quiet(Told::Heard, lost))
     }
 
     /// Takes in a packet.
-    pub fn hear(&mut self, alloc: Global, at: u64, packet: &Packet) -> Result<React, AllocError>
+    pub fn hear(&mut self, alloc: Global, at: u64, packet: &Packet) -> Result<Outcome, AllocError>
         requires { at < end_of_time }
         ensures ok { IfOk result (λ a. Gives a self.new (hear_body at packet.now.id.sender packet.now.body self.old)) }
         ensures fixed { self.new.fixed ≡ self.old.fixed }
@@ -581,17 +586,17 @@ impl MemberState {
 
     /// The request timer of a name expires: the member asks for the name, and backs off.
     #[tactic(auto, unfolding(crate::specs::React::expire_request))]
-    pub fn ask(&mut self, alloc: Global, at: u64, name: Name) -> Result<React, AllocError>
+    pub fn ask(&mut self, alloc: Global, at: u64, name: Name) -> Result<Outcome, AllocError>
         requires { at < end_of_time }
         ensures ok { IfOk result (λ a. Gives a self.new (expire_request at name self.old)) }
         ensures fixed { self.new.fixed ≡ self.old.fixed }
     {
         match self.pending.missing(name) {
-            None => Ok(quietly(Told::Skip, Sequence::new(alloc))),
+            None => Ok(Outcome::quiet(Told::Skip, Sequence::new(alloc))),
             Some(missing) => {
                 self.ask_first(missing);
                 self.back_off(at, name, missing)?;
-                Ok(send_body(alloc, Body::Request { name }))
+                Ok(Outcome::sent(alloc, Body::Request { name }))
             }
         }
     }
@@ -607,19 +612,19 @@ impl MemberState {
 
     /// The repair timer of a name expires: the member sends what it holds.
     #[tactic(auto, unfolding(crate::specs::React::expire_repair))]
-    pub fn answer(&mut self, alloc: Global, at: u64, name: Name) -> Result<React, AllocError>
+    pub fn answer(&mut self, alloc: Global, at: u64, name: Name) -> Result<Outcome, AllocError>
         requires { at < end_of_time }
         ensures ok { IfOk result (λ a. Gives a self.new (expire_repair at name self.old)) }
         ensures fixed { self.new.fixed ≡ self.old.fixed }
     {
         match self.pending.repair(name) {
-            None => Ok(quietly(Told::Skip, Sequence::new(alloc))),
+            None => Ok(Outcome::quiet(Told::Skip, Sequence::new(alloc))),
             Some(repair) => {
                 self.answer_first(at, repair);
                 let ink = self.held.get(name).unwrap_or(0);
                 let own = self.fixed.member;
                 self.rest(at, name, own)?;
-                Ok(send_body(alloc, Body::Repair { name, ink }))
+                Ok(Outcome::sent(alloc, Body::Repair { name, ink }))
             }
         }
     }
@@ -636,7 +641,7 @@ impl MemberState {
 
     /// A sender draws, up to 4,096 (`MOST_DRAWN`) operations on a page.
     #[tactic(auto, unfolding(crate::specs::React::draw_operation))]
-    pub fn draw_op(&mut self, alloc: Global, page: u16, ink: u32) -> Result<React, AllocError>
+    pub fn draw_op(&mut self, alloc: Global, page: u16, ink: u32) -> Result<Outcome, AllocError>
         ensures ok { IfOk result (λ a. Gives a self.new (draw_operation page ink self.old)) }
         ensures fixed { self.new.fixed ≡ self.old.fixed }
     {
@@ -645,7 +650,7 @@ impl MemberState {
         let progress = self.own_progress(place);
         let next = progress.next();
         if !matches!(self.fixed.role, Role::Sender) || next >= MOST_DRAWN {
-            return Ok(quietly(Told::Skip, Sequence::new(alloc)));
+            return Ok(Outcome::quiet(Told::Skip, Sequence::new(alloc)));
         }
         let name = Name {
             source,
@@ -655,15 +660,15 @@ impl MemberState {
         self.progress
             .put(place, Progress::new(progress.floor(), next + 1))?;
         self.held.put(name, ink)?;
-        Ok(send_body(alloc, Body::Drawop { name, ink }))
+        Ok(Outcome::sent(alloc, Body::Drawop { name, ink }))
     }
 
     /// The session message that tells of every page that the member follows.
-    pub fn report(&self, alloc: Global) -> Result<React, AllocError>
+    pub fn report(&self, alloc: Global) -> Result<Outcome, AllocError>
         ensures { IfOk result (λ a. Gives a self.now (send_body self.now (session_of self.now))) }
     {
         let heard = self.progress.heard(alloc)?;
-        Ok(send_body(alloc, Body::Session { heard }))
+        Ok(Outcome::sent(alloc, Body::Session { heard }))
     }
 
     /// Both intervals.
@@ -676,12 +681,12 @@ impl MemberState {
         }
     }
 
-    /// An answer to an event that is no join takes in what it tells of the intervals, which were these before the event.
+    /// The answer to an event that is no join: its outcome, with what it tells of the intervals, which were these before the event.
     #[inline]
-    pub fn tell(&self, before: Intervals, react: &mut React)
-        ensures { react.new ≡ with_adapted (adapted_since before (intervals_of self.now)) react.old }
+    pub fn tell(&self, before: Intervals, outcome: Outcome) -> React
+        ensures { result ≡ with_adapted (adapted_since before (intervals_of self.now)) outcome }
     {
-        react.adapted = self.intervals().since(before);
+        outcome.telling(self.intervals().since(before))
     }
 
     /// What the member ends with.
@@ -711,27 +716,5 @@ fn page_of(name: Name) -> PageId
     PageId {
         source: name.source,
         page: name.page,
-    }
-}
-
-fn quietly(told: Told, lost: Sequence<Name>) -> React
-    ensures { result ≡ record { told = told; lost = lost; body = None; adapted = None } }
-{
-    React {
-        told,
-        lost,
-        body: None,
-        adapted: None,
-    }
-}
-
-fn send_body(alloc: Global, body: Body) -> React
-    ensures { result ≡ record { told = Sent; lost = []; body = Some body; adapted = None } }
-{
-    React {
-        told: Told::Sent,
-        lost: Sequence::new(alloc),
-        body: Some(body),
-        adapted: None,
     }
 }

@@ -105,10 +105,9 @@ impl Recovery {
     {
         begin(&mut self.gone)?;
         let before = self.state.intervals();
-        let mut react = self.state.hear(alloc, at, packet)?;
-        self.state.tell(before, &mut react);
+        let outcome = self.state.hear(alloc, at, packet)?;
         self.gone = false;
-        Ok(react)
+        Ok(self.state.tell(before, outcome))
     }
 
     /// The request timer of a name expires at a time, in ticks, below 2^40.
@@ -121,10 +120,9 @@ impl Recovery {
     {
         begin(&mut self.gone)?;
         let before = self.state.intervals();
-        let mut react = self.state.ask(alloc, at, name)?;
-        self.state.tell(before, &mut react);
+        let outcome = self.state.ask(alloc, at, name)?;
         self.gone = false;
-        Ok(react)
+        Ok(self.state.tell(before, outcome))
     }
 
     /// The repair timer of a name expires at a time, in ticks, below 2^40.
@@ -137,10 +135,9 @@ impl Recovery {
     {
         begin(&mut self.gone)?;
         let before = self.state.intervals();
-        let mut react = self.state.answer(alloc, at, name)?;
-        self.state.tell(before, &mut react);
+        let outcome = self.state.answer(alloc, at, name)?;
         self.gone = false;
-        Ok(react)
+        Ok(self.state.tell(before, outcome))
     }
 
     /// The member is to draw on a page at a time, in ticks.
@@ -158,10 +155,9 @@ impl Recovery {
     {
         begin(&mut self.gone)?;
         let before = self.state.intervals();
-        let mut react = self.state.draw_op(alloc, page, ink)?;
-        self.state.tell(before, &mut react);
+        let outcome = self.state.draw_op(alloc, page, ink)?;
         self.gone = false;
-        Ok(react)
+        Ok(self.state.tell(before, outcome))
     }
 
     /// The member is to send a session message.
@@ -173,10 +169,9 @@ impl Recovery {
     {
         begin(&mut self.gone)?;
         let before = self.state.intervals();
-        let mut react = self.state.report(alloc)?;
-        self.state.tell(before, &mut react);
+        let outcome = self.state.report(alloc)?;
         self.gone = false;
-        Ok(react)
+        Ok(self.state.tell(before, outcome))
     }
 
     /// Handles a cause at a time, in ticks, below 2^40.

@@ -14,4 +14,4 @@ pub returns-clause-ok : goal.returns-clause-ok
 returns-clause-ok c =
     let last = sym c.loop-entry.invariant.rest ∙ hear_session-end c.args.at c.args.heard.now c.loop-entry.entry-index c.loop-entry.self
     c.loop-entry.lost c.loop-entry-test.false in
-    (c.quietly.ensures ∙ sym (ap (λ r. r.answer) last), sym (ap (λ r. r.state) last))
+    (c.quiet.ensures ∙ sym (ap (λ r. r.answer) last), sym (ap (λ r. r.state) last))
