@@ -16,13 +16,14 @@ def with_rounds(table: pandas.DataFrame) -> pandas.DataFrame:
     return table.assign(round=numbers // 2 + 1)
 
 
-def medians(axes: Axes, table: pandas.DataFrame, column: str, colour: str, label: str) -> None:
-    """Of each round the median over seeds, and the quartiles over seeds as a band."""
+def medians(axes: Axes, table: pandas.DataFrame, column: str, look: tuple[str, str, str]) -> None:
+    """Of each round the median over seeds, and the quartiles over seeds as a band; `look` is colour, style, label."""
+    colour, style, label = look
     seeds = table.groupby("round")[column]
     middle, lower, upper = (seeds.quantile(part) for part in (0.5, 0.25, 0.75))
     axes.fill_between(middle.index, lower, upper, color=colour, alpha=0.2, linewidth=0, step="mid",
                       label=f"{label}: quartiles of the seeds")
-    axes.plot(middle.index, middle, color=colour, linewidth=1, drawstyle="steps-mid",
+    axes.plot(middle.index, middle, color=colour, linewidth=1.2, linestyle=style, drawstyle="steps-mid",
               label=f"{label}: median of the seeds")
 
 

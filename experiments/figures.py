@@ -23,6 +23,7 @@ matplotlib.rcParams["font.size"] = 10
 import adaptive_figures as rounds  # noqa: E402
 import matplotlib.pyplot as plot  # noqa: E402
 from matplotlib.axes import Axes  # noqa: E402
+from matplotlib.colors import to_rgba  # noqa: E402
 from matplotlib.figure import Figure  # noqa: E402
 from matplotlib.path import Path  # noqa: E402
 from matplotlib.text import Annotation  # noqa: E402
@@ -91,17 +92,23 @@ def points_of(table: pandas.DataFrame, over: str, column: str) -> pandas.DataFra
 
 
 def means(axes: Axes, table: pandas.DataFrame, over: str, column: str, look: tuple[str, str, str],
-          band: bool = True, joined: bool = True) -> pandas.DataFrame:
+          band: bool = True, joined: bool = True, shift: float = 0) -> pandas.DataFrame:
     """Means with intervals over seeds, and quartiles of all losses; `look` is colour, mark, label.
 
-    Means that are not `joined` leave a line of theory beside them to be seen.
+    Means that are not `joined` leave a line of theory beside them to be seen. Those of several tables do not stand over
+    each other where each has its own `shift` along the axis; their quartiles are bars, then.
     """
     colour, mark, label = look
     points = points_of(table, over, column)
+    points.index += shift
     spread = [(points["mean"] - points["low"]).fillna(0), (points["high"] - points["mean"]).fillna(0)]
     axes.errorbar(points.index, points["mean"], yerr=spread, color=colour, marker=mark, markersize=4, capsize=3,
                   linewidth=1.2, linestyle="-" if joined else "none", label=f"{label}: mean, 95% interval over seeds")
-    if band:
+    if band and shift:
+        axes.bar(points.index, points["upper"] - points["lower"], bottom=points["lower"], width=1.6 * abs(shift),
+                 color=to_rgba(colour, 0.15), edgecolor=to_rgba(colour, 0.6), linewidth=0.8,
+                 label=f"{label}: quartiles of all losses")
+    elif band:
         quartiles(axes, points, colour, label)
     return points
 
@@ -118,7 +125,7 @@ def quartiles(axes: Axes, points: pandas.DataFrame, colour: str, label: str) -> 
 
 def finish(figure: Figure, parts: Sequence[Axes], tables: Sequence[pandas.DataFrame], below: float = -0.2) -> Figure:
     """Letters of panels, grids, legends under the axes, and what is left out."""
-    for letter, axes in zip("abcdef", parts):
+    for letter, axes in zip("abcdefghi", parts):
         told = axes.get_title()
         axes.set_title("")
         axes.set_title(f"({letter}) {told}".strip() if len(parts) > 1 else told, loc="left", fontsize=10)
@@ -138,19 +145,27 @@ def name_ticks(axis: Any, values: Sequence[float]) -> None:
 
 
 def over_session_size(tables: list[pandas.DataFrame], words: dict[str, str]) -> Figure:
-    """Requests, repairs and delay of each loss against what `over` names: nodes or members."""
-    table, = tables
+    """Requests, repairs and delay of each loss against what `over` names: nodes or members; a column for each table."""
     over = words.get("over", "size")
-    figure, parts = plot.subplots(3, 1, figsize=(6.4, 9.6), sharex=True)
-    for axes, column, colour, mark in zip(parts, ("requests", "repairs", "ratio"), (ORANGE, GREEN, BLUE), "os^"):
-        points = means(axes, table, over, column, (colour, mark, column if column != "ratio" else "delay"))
-        axes.set_ylabel(label_of(column))
-        axes.set_ylim(0, 1.1 * points.to_numpy().max())
-        axes.tick_params(labelbottom=True)
-    name_ticks(parts[2].xaxis, sorted(table[over].unique()))
-    parts[2].set_xlabel(label_of(over))
-    finish(figure, parts, tables, -0.12)
-    parts[2].legend(fontsize=8, loc="upper center", bbox_to_anchor=(0.5, -0.25), frameon=False)
+    figure, grid = plot.subplots(3, len(tables), figsize=(1.2 + 5.2 * len(tables), 9.6), squeeze=False, sharex=True,
+                                 sharey="row")
+    looks = (("requests", ORANGE, "o"), ("repairs", GREEN, "s"), ("ratio", BLUE, "^"))
+    for row, (column, colour, mark) in zip(grid, looks):
+        look = colour, mark, column if column != "ratio" else "delay"
+        greatest = max(means(axes, table, over, column, look).to_numpy().max() for axes, table in zip(row, tables))
+        row[0].set_ylim(0, 1.1 * greatest)
+        row[0].set_ylabel(label_of(column))
+        for axes in row:
+            axes.tick_params(labelbottom=True, labelleft=True)
+    for axes, table in zip(grid[0], tables):
+        if len(tables) > 1:
+            axes.set_title(f"{int(table['size'].iloc[0]):,} nodes")
+    for axes in grid[2]:
+        name_ticks(axes.xaxis, sorted(tables[0][over].unique()))
+        axes.set_xlabel(label_of(over))
+    finish(figure, list(grid.flat), tables, -0.12)
+    for axes in grid[2]:
+        axes.legend(fontsize=8, loc="upper center", bbox_to_anchor=(0.5, -0.25), frameon=False)
     return figure
 
 
@@ -294,28 +309,32 @@ def crossings(label: Annotation, offset: tuple[float, float], taken: list[Path],
 
 
 def over_rounds(tables: list[pandas.DataFrame], words: dict[str, str]) -> Figure:
-    """Requests, repairs and delay over rounds of loss, of fixed and adaptive timers; the second table is ns-2's."""
-    figure, grid = plot.subplots(3, 2, figsize=(10, 10.5), sharex=True, sharey="row")
-    several = [rounds.with_rounds(table) for table in tables]
+    """Requests, repairs and delay over rounds of loss, of fixed and adaptive timers; the second table is ns-2's.
+
+    A column for each program, with the medians and the quartiles of each round, and one with the means of both.
+    """
+    programs = dict(zip(("srm_lab", "ns-2"), map(rounds.with_rounds, tables)))
+    figure, grid = plot.subplots(3, len(programs) + 1, figsize=(5 * len(programs) + 5, 10.5), sharex=True, sharey="row")
     looks = {("srm_lab", False): (BLUE, "o"), ("srm_lab", True): (ORANGE, "s"),
              ("ns-2", False): (GREY, "v"), ("ns-2", True): (PURPLE, "^")}
-    for (left, right), column in zip(grid, rounds.MEASURES):
-        for place, ((program, adaptive), (colour, mark)) in enumerate(looks.items()):
-            if program == "ns-2" and len(several) < 2:
-                continue
-            table = several[program == "ns-2"]
+    shown = [key for key in looks if key[0] in programs and (programs[key[0]]["adaptive"] == key[1]).any()]
+    for row, column in zip(grid, rounds.MEASURES):
+        for place, (program, adaptive) in enumerate(shown):
+            table, kind = programs[program], "adaptive timers" if adaptive else "fixed timers"
+            (colour, mark), told = looks[program, adaptive], f"{program}, {kind}"
             one = table[table["adaptive"] == adaptive]
-            kind = "adaptive timers" if adaptive else "fixed timers"
-            if program == "srm_lab":
-                rounds.medians(left, one, column, colour, kind)
-            rounds.blocks(right, one, column, (colour, mark, f"{program}, {kind}"), 2.5 * (place - 1.5))
-        left.set_ylabel(label_of(column))
-        left.set_ylim(bottom=0)
-        for axes in (left, right):
+            rounds.medians(row[list(programs).index(program)], one, column, (colour, "--" if adaptive else "-", told))
+            rounds.blocks(row[-1], one, column, (colour, mark, told), 3 * (place - (len(shown) - 1) / 2))
+        row[0].set_ylabel(label_of(column))
+        row[0].set_ylim(bottom=0)
+        for axes in row:
             axes.tick_params(labelbottom=True, labelleft=True)
-    for axes, told in zip(grid[2], ("round", f"round: means of {rounds.BLOCK} rounds")):
-        axes.set_xlabel(told)
-    name_ticks(grid[2][1].xaxis, range(0, int(several[0]["round"].max()) + 1, rounds.BLOCK))
+    for axes, program in zip(grid[0], programs):
+        axes.set_title(f"{program}, {programs[program]['seed'].nunique()} seeds: each round")
+    grid[0][-1].set_title(f"means of {rounds.BLOCK} rounds")
+    for axes in grid[2]:
+        axes.set_xlabel("round")
+        name_ticks(axes.xaxis, range(0, int(programs["srm_lab"]["round"].max()) + 1, rounds.BLOCK))
     finish(figure, list(grid.flat), tables, -0.2)
     for axes in grid[:2].flat:
         axes.get_legend().remove()  # that of the panels below is theirs too
@@ -329,9 +348,9 @@ def adapted_over_size(tables: list[pandas.DataFrame], words: dict[str, str]) -> 
     figure, parts = plot.subplots(3, 1, figsize=(6.4, 10.2), sharex=True)
     over = words.get("over", "members")
     for axes, column in zip(parts, rounds.MEASURES):
-        for adaptive, colour, mark in ((False, BLUE, "o"), (True, ORANGE, "s")):
-            one = settled[settled["adaptive"] == adaptive]
-            means(axes, one, over, column, (colour, mark, "adaptive timers" if adaptive else "fixed timers"))
+        for adaptive, colour, mark, shift in ((False, BLUE, "o", -1.2), (True, ORANGE, "s", 1.2)):
+            one, label = settled[settled["adaptive"] == adaptive], "adaptive timers" if adaptive else "fixed timers"
+            means(axes, one, over, column, (colour, mark, label), shift=shift)
         axes.set_ylabel(label_of(column))
         axes.set_ylim(bottom=0)
         axes.tick_params(labelbottom=True)
@@ -348,7 +367,7 @@ DRAWS = {draw.__name__: draw for draw in (
     over_session_size, lines, requests_in_a_star, chain_of_sure_timers, requests_against_delay, over_rounds,
     adapted_over_size)}
 NEEDS = {
-    "over_session_size": Needs(1), "lines": Needs(4), "requests_in_a_star": Needs(2, ("size", "c1", "c2")),
+    "over_session_size": Needs(2), "lines": Needs(4), "requests_in_a_star": Needs(2, ("size", "c1", "c2")),
     "chain_of_sure_timers": Needs(1, ("drop_link", "delay", "c1", "d1")),
     "requests_against_delay": Needs(2, ("size", "drop_link", "c1", "c2")),
     "over_rounds": Needs(2, ("adaptive", "rounds")), "adapted_over_size": Needs(1, ("adaptive", "rounds", "members")),

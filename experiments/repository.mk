@@ -22,7 +22,7 @@ $(PLAIN): $(wildcard bench/baseline/*.rs)
 	rustc -O --edition 2021 -o $@ bench/baseline/main.rs
 
 .PHONY: compare-sizes
-compare-sizes: $(SRM_LAB) $(PLAIN) ## prints time and memory at three sizes, of the program, of a plain program and, where it is there, of ns-2, which takes long
+compare-sizes: $(SRM_LAB) $(PLAIN) ## prints time and memory at four sizes, of the program, of a plain program and, where it is there, of ns-2, which takes long
 	cd experiments && PYTHONPATH=$(abspath python/src) $(PYTHON) -u compare_sizes.py $(abspath $(SRM_LAB)) --plain $(abspath $(PLAIN))
 
 # ---- a program that installs ---------------------------------------------------
@@ -64,5 +64,7 @@ dist: $(PROGRAM) ## packs program, man page, completions, the Python package, ex
 	@echo $(PACKED)/$(DIST).tar.gz
 
 .PHONY: experiments-figures
-experiments-figures: ## puts the figures of the last `make experiments`, also of CONFIG=adaptive.yaml, where docs/EXPERIMENTS.md shows them
-	install -D -m 644 -t docs/figures $(wildcard experiments/results/figures/*.svg experiments/results-adaptive/figures/*.svg)
+SHOWN = $(shell grep -o 'figures/[a-z0-9_]*\.svg' docs/EXPERIMENTS.md)
+experiments-figures: ## puts the figures of the last `make experiments`, with each CONFIG of the repository, where docs/EXPERIMENTS.md shows them
+	install -D -m 644 -t docs/figures \
+		$(foreach results,results results-sparse results-adaptive results-adaptive-ns2,$(wildcard $(SHOWN:%=experiments/$(results)/%)))

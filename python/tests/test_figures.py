@@ -4,9 +4,11 @@ import re
 
 import pandas
 import pytest
+from matplotlib.container import ErrorbarContainer
 
 import adaptive_figures
 import figures
+import rounds_table
 
 HEADER = ("kind,adaptive,size,members,drop_link,delay,c1,d1,c2,seed,operation,losers,left,open,requests,repairs,"
           "least_delay,greatest_delay,last_delay,last_round_trip\n")
@@ -29,8 +31,9 @@ LABELS = {
     "requests_against_delay": ["requests for a loss", "delay of the last member (round trips to the source)",
                                "first loser 2 links away, C1 = 2: means, 95% intervals over seeds",
                                "(a) chain of 10 members; at each mark its C2"],
-    "over_rounds": ["requests for a loss", "repairs for a loss", "round", "round: means of 20 rounds", "(a)", "(f)",
-                    "fixed timers: median of the seeds", "adaptive timers: quartiles of the seeds",
+    "over_rounds": ["requests for a loss", "repairs for a loss", "round", "(a) srm_lab, 3 seeds: each round",
+                    "(b) means of 20 rounds", "(f)", "srm_lab, fixed timers: median of the seeds",
+                    "srm_lab, adaptive timers: quartiles of the seeds",
                     "srm_lab, adaptive timers: mean, 95% interval over seeds"],
     "adapted_over_size": ["requests for a loss", "session size (members); rounds 41 to 46",
                           "adaptive timers: mean, 95% interval over seeds", "(a)", "(c)"],
@@ -141,10 +144,50 @@ def test_round_of_a_loss_and_means_of_blocks_of_rounds():
     assert points["low"][10.5] == pytest.approx(4 - 2 * 12.7062, abs=1e-3)  # Student's t for 2 seeds
 
 
+def test_table_of_rounds_has_a_line_for_each_kind_of_timers_in_each_block():
+    # both seeds have the same, so that each interval is one number: requests n, 2 n repairs, n / 2 round trips
+    rows = [{"operation": f"0/0/{number}", "adaptive": adaptive, "seed": seed, "requests": asked, "repairs": 2 * asked,
+             "ratio": asked / 2} for number, asked in ((0, 8), (38, 4), (40, 3), (198, 1)) for adaptive in (False, True)
+            for seed in (1, 2)]
+    table = adaptive_figures.with_rounds(pandas.DataFrame(rows))
+    assert list(rounds_table.lines(table)) == [
+        f"| {block} | {kind} | {told} |" for block, told in (
+            ("1 to 20", "6.00 [6.00, 6.00] | 12.00 [12.00, 12.00] | 3.00 [3.00, 3.00]"),
+            ("21 to 40", "3.00 [3.00, 3.00] | 6.00 [6.00, 6.00] | 1.50 [1.50, 1.50]"),
+            ("81 to 100", "1.00 [1.00, 1.00] | 2.00 [2.00, 2.00] | 0.50 [0.50, 0.50]"))
+        for kind in ("fixed", "adaptive")]
+
+
 def test_ns2_stands_beside_srm_lab_where_there_is_a_second_table(tmp_path):
     path = tmp_path / "one.csv"
     path.write_text(HEADER + ROWS)
     figure = figures.over_rounds([figures.read(path) for _ in range(2)], {})
-    texts = [text.get_text() for text in figure.axes[5].get_legend().get_texts()]
-    assert [text.split(":")[0] for text in texts] == [
-        "srm_lab, fixed timers", "srm_lab, adaptive timers", "ns-2, fixed timers", "ns-2, adaptive timers"]
+    assert [axes.get_title("left") for axes in figure.axes[:3]] == [
+        "(a) srm_lab, 3 seeds: each round", "(b) ns-2, 3 seeds: each round", "(c) means of 20 rounds"]
+    told = [[text.get_text().split(":")[0] for text in axes.get_legend().get_texts()] for axes in figure.axes[6:]]
+    ours, theirs = ([f"{program}, {kind} timers" for kind in ("fixed", "adaptive")] for program in ("srm_lab", "ns-2"))
+    assert [sorted({*labels}) for labels in told] == [sorted(ours), sorted(theirs), sorted(ours + theirs)]
+
+
+def test_large_and_larger_networks_stand_side_by_side_on_the_same_axes(tmp_path):
+    paths = [tmp_path / f"{size}.csv" for size in (1000, 5000)]
+    for size, path in zip((1000, 5000), paths):
+        path.write_text(HEADER + ROWS.replace("chain,False,10,10", f"chain,False,{size},10")
+                        .replace("chain,True,10,10", f"chain,True,{size},10")
+                        .replace(",20,20,", f",{size},20,"))
+    figure = figures.over_session_size([figures.read(path) for path in paths], {"over": "members"})
+    assert [axes.get_title("left") for axes in figure.axes] == [
+        "(a) 1,000 nodes", "(b) 5,000 nodes", "(c)", "(d)", "(e)", "(f)"]
+    for left, right in zip(figure.axes[::2], figure.axes[1::2]):
+        assert left.get_ylim() == right.get_ylim() and left.get_xlim() == right.get_xlim()
+        assert [tick.get_text() for tick in right.get_xticklabels()] == ["10", "20"]
+
+
+def test_two_kinds_of_timers_do_not_stand_over_each_other(tmp_path):
+    path = tmp_path / "one.csv"
+    path.write_text(HEADER + ROWS)
+    figure = figures.adapted_over_size([figures.read(path)], {})
+    for axes in figure.axes:
+        fixed, adaptive = ([round(x, 3) for x in lines.lines[0].get_xdata()] for lines in axes.containers
+                           if isinstance(lines, ErrorbarContainer))
+        assert fixed == [8.8, 18.8] and adaptive == [11.2, 21.2]
