@@ -27,6 +27,28 @@ def test_tree_with_a_random_choice_of_members(write):
     assert table["drop"][0]["link"] < 4  # the root's own links are the first four
 
 
+@pytest.mark.parametrize("words, links", [
+    ("tree --size 1000 --members 10", {"topology": "tree", "size": 1000, "degree": 4, "delay": 1000}),
+    ("tree --size 5000 --members 100", {"topology": "tree", "size": 5000, "degree": 4, "delay": 1000}),
+    ("chain --size 65535 --members 30 --delay 2 --back 3", {"topology": "chain", "size": 65_535, "delay": 2, "back": 3}),
+    ("star --size 65535 --members 99 --delay 2", {"topology": "star", "size": 65_535, "delay": 2}),
+])
+def test_networks_of_the_published_studies_and_larger_ones(write, words, links):
+    table = write(f"{words} --seed 3 --drop-link random")
+    assert {key: value for key, value in table.items() if key in links} == links and "link" not in table
+    assert table["version"] == (2 if links["size"] <= 1024 else 3)
+    nodes = [member["node"] + place * member.get("every", 0) for member in table["member"]
+             for place in range(member.get("times", 1))]
+    assert len(set(nodes)) == len(nodes) == int(words.split()[4]) and max(nodes) < links["size"]
+    assert [member["role"] for member in table["member"][1:]] == ["receiver"] * (len(table["member"]) - 1)
+
+
+def test_random_delays_of_a_large_tree_stand_by_its_parents(write):
+    table = write("tree --size 2000 --members 5 --delay 10 --delay-to 20 --back 4 --seed 3")
+    assert table["parent"][:8] == [0, 0, 0, 0, 1, 1, 1, 2] and len(table["parent"]) == 1999
+    assert len(table["delays"]) == 1999 and set(table["delays"]) == set(range(10, 21)) and table["back"] == 4
+
+
 def test_one_seed_gives_one_scenario(capsys):
     texts = []
     for seed in ("3", "3", "4"):
