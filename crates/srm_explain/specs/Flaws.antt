@@ -1,7 +1,7 @@
 -- Why the links of a scenario make no tree of its nodes, and what is said of that.
 use Rattle.std.specs.Prelude.{◌≡◌, ◌≢◌, ℕ, ◌+◌, ◌-◌, ◌<◌, ◌≤◌, ◌==◌, Bool, true, false, not, ◌&&◌, ◌||◌, nat_le}
 use Rattle.std.specs.Prelude.{List, [], ◌∷◌, ◌++◌, Option, Some, None, length, take, unwrap_or, option_map, slice_get}
-use Rattle.std.specs.Prelude.{codes, decimal, if◌then◌else◌}
+use Rattle.std.specs.Prelude.{get_or, codes, decimal, if◌then◌else◌}
 use Rattle.std.specs.List.{list_all, AllByRecursion}
 use Rattle.srm_net.specs.declared.link.LinkSpec.{LinkSpec}
 use Rattle.srm_net.specs.Network.{plain_network}
@@ -66,6 +66,13 @@ first_spaced ns =
     then spaced ns
     else spaced (take 20 ns) ++ (codes " and " ++ (decimal (length ns - 20) ++ codes " more"))
 
+-- what is said of nodes that make a circle
+abbrev pub circle_sentence : List ℕ → List ℕ
+circle_sentence ns =
+    if length ns == 1
+    then codes "node " ++ (decimal (get_or ns 0 0) ++ codes " is its own parent")
+    else codes "these nodes make a circle, each a child of the next, the last of the first:" ++ first_spaced ns
+
 -- what is said of a reason
 abbrev pub flaw_sentence : Flaw → List ℕ
 flaw_sentence (flaw.NoEnd link key nodes) =
@@ -77,8 +84,7 @@ flaw_sentence (flaw.LinkCount nodes links) =
 flaw_sentence (flaw.NoParent node nodes) =
     codes "the parent of node "
     ++ (decimal node ++ (codes " is no node: " ++ (decimal nodes ++ codes " in all, numbered from 0")))
-flaw_sentence (flaw.Circle nodes) =
-    codes "these nodes make a circle, each a child of the next, the last of the first:" ++ first_spaced nodes.items
+flaw_sentence (flaw.Circle nodes) = circle_sentence nodes.items
 flaw_sentence (flaw.Unreached nodes) = codes "not reached from node 0:" ++ first_spaced nodes.items
 
 -- ---- marks

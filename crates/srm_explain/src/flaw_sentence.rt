@@ -1,6 +1,6 @@
 //! What is said of what keeps links from making a tree of the nodes.
 ghost use Rattle.std.specs.Prelude.{◌≡◌, IfOk, string_bytes};
-ghost use Rattle.srm_explain.specs.Flaws.{first_spaced, flaw_sentence, spaced};
+ghost use Rattle.srm_explain.specs.Flaws.{circle_sentence, first_spaced, flaw_sentence, spaced};
 ghost use Rattle.srm_explain.specs.Explanations.{flaw_notes};
 
 use crate::flaw::Flaw;
@@ -39,17 +39,27 @@ fn flaw_sentence(alloc: Global, flaw: &Flaw) -> Result<String, AllocError>
         Flaw::NoParent { node, nodes } => format!(in alloc;
             "the parent of node {node} is no node: {nodes} in all, numbered from 0"
         ),
-        Flaw::Circle { nodes } => {
-            let numbers = first_spaced(alloc, nodes)?;
-            format!(in alloc;
-                "these nodes make a circle, each a child of the next, the last of the first:{numbers}"
-            )
-        }
+        Flaw::Circle { nodes } => circle_sentence(alloc, nodes),
         Flaw::Unreached { nodes } => {
             let numbers = first_spaced(alloc, nodes)?;
             format!(in alloc; "not reached from node 0:{numbers}")
         }
     }
+}
+
+// What is said of nodes that make a circle.
+fn circle_sentence(alloc: Global, nodes: &[u16]) -> Result<String, AllocError>
+    ensures { IfOk result (λ s. string_bytes s ≡ circle_sentence nodes.now) }
+{
+    if nodes.len() == 1 {
+        let node = nodes[0];
+        return format!(in alloc; "node {node} is its own parent");
+    }
+    let numbers = first_spaced(alloc, nodes)?;
+    let told = format!(in alloc;
+        "these nodes make a circle, each a child of the next, the last of the first:{numbers}"
+    )?;
+    Ok(told)
 }
 
 /// So many numbers are told at most.
