@@ -13,7 +13,7 @@ use Rattle.srm_cell_tests.proofs.cell_tests.ReporterMember.react.Goals as goal
 reports : (m at : ℕ) (gone : Bool) (cause : Cause) (lost : List Name) (heard : List Heard) → gone ≡ false → cause ≡ Report → lost ≡ []
     → heard ≡ []
     → Reacts (reporter_record m gone) at cause
-        (Ok (record { told = Sent; lost = lost; body = Some (Session heard); adapted = None }))
+    (Ok (record { told = Sent; lost = lost; body = Some (Session heard); adapted = None }))
     (reporter_record m gone)
 unfolding react
 reports m at gone cause lost heard g c l h = rw (g, c, l, h) (refl, refl)

@@ -27,7 +27,7 @@ loop-index-preserved c =
     subst (IsNextFree places size (i + 1)) (sym (read_at xs (i + 1) (i + 1) c.index-in-loop-index.result.now refl (omega arith)
     c.index-in-loop-index.ensures)) (inv.told (i + 1) (omega arith) (omega arith)) in
     let here : IsNextFree places size i first =
-        next_before places size i c.index.result.now c.index-in-loop-index.result.now first lt own later
+    next_before places size i c.index.result.now c.index-in-loop-index.result.now first lt own later
     c.min-first.ensures in
     record {
       size = inv.size;
