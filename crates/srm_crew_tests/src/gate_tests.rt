@@ -1,21 +1,29 @@
 //! Jobs that wait for each other at the gate.
 ghost use Rattle.std.specs.Prelude.{◌≡◌, ◌≤◌, length, IfOk};
 ghost use denote.Param.Send.{IsSync};
+ghost use Rattle.srm_scenario.specs.Plain.{network_of};
+ghost use Rattle.srm_crew_tests.specs.Handed.{MayMap};
 
-use crate::crew_tests::handing::{idle_jobs, opened};
+use crate::crew_tests::handing::{add_job, cell_of, idle_jobs, opened};
+use srm_cell::job::Job;
 use srm_crew::bag_crew::BagCrew;
 use srm_crew::fault::CrewFault;
 use srm_crew::gate::Gate;
 use srm_crew::pass::Pass;
+use srm_examples::counted::Counted;
 use srm_examples::meeting::Meeting;
 use srm_examples::scenarios::TWO_NODES;
 use srm_ledger::ledger::Ledger;
 use srm_ledger::seat::Seat;
+use srm_member::member::Member;
 use srm_net::net::Net;
+use srm_net::role::Role;
+use srm_roles::sender::Sender;
 use srm_scenario::scenario::Scenario;
 use std::alloc::{AllocError, Global};
 use std::marker::Sync;
 use std::process::Abort;
+use std::sync::atomic::{AtomicU64, Ordering};
 use std::sync::{Arc, Wait};
 use std::thread::Threads;
 
@@ -127,4 +135,83 @@ fn two_of_64_workers_meet_at_the_gate(rt: HostRuntime) -> Result<(), AllocError>
 #[test]
 fn two_workers_meet_at_the_gate_with_their_second_jobs(rt: HostRuntime) -> Result<(), AllocError> {
     meet_often(&rt, rt.alloc(), 2, 4, 2)
+}
+
+/// A gate that notes how many jobs entered it, and how often a member had reacted by then.
+#[derive(Drop)]
+struct EarlyGate {
+    reacts: Arc<AtomicU64>,
+    entered: Arc<AtomicU64>,
+    reacted: Arc<AtomicU64>,
+}
+
+impl Gate for EarlyGate {
+    fn enter<T, R: Wait>(&self, _rt: &R, _place: usize, _pass: &Pass<T>) {
+        let reacted = self.reacts.load(Ordering::SeqCst);
+        self.reacted.fetch_add(reacted, Ordering::SeqCst);
+        self.entered.fetch_add(1, Ordering::SeqCst);
+    }
+}
+
+// The job of a scenario's first member, a sender that counts how often it reacts, up to tick 1.
+fn counting_job(
+    rt: &impl Abort,
+    alloc: Global,
+    scenario: &Scenario,
+    net: &Net,
+    reacts: Arc<AtomicU64>,
+) -> Result<Vec<Job>, AllocError>
+    requires { net.now ≡ network_of scenario.now }
+    ensures { IfOk result (λ jobs. MayMap (λ b. (⟦<dyn Member as Member>⟧ b.vtable).plain b.value)
+        (length net.now.hosts) jobs.items) }
+{
+    if scenario.members() == 0 {
+        assert!(rt; false, "no member");
+        return Err(AllocError);
+    }
+    let Role::Sender = scenario.role(0) else {
+        assert!(rt; false, "no sender");
+        return Err(AllocError);
+    };
+    let Ok(inner) = Sender::new(alloc, scenario, net, 0, 0) else {
+        return Err(AllocError);
+    };
+    let member: Box<dyn Member> = Box::new(alloc, Counted { inner, reacts })?;
+    let Ok(script) = scenario.script(alloc, 0) else {
+        return Err(AllocError);
+    };
+    let cells = cell_of(rt, alloc, net, member, script, 0)?;
+    let mut jobs = Vec::new(alloc);
+    add_job(rt, net, &mut jobs, 1, cells)?;
+    Ok(jobs)
+}
+
+// The sender joins and draws at tick 0: it has reacted not once when its job enters, and twice when the job is done.
+#[test]
+fn a_job_enters_the_gate_before_its_events_are_handled(rt: HostRuntime) -> Result<(), AllocError> {
+    let alloc = rt.alloc();
+    let (scenario, net) = opened(&rt, alloc, TWO_NODES.scenario)?;
+    let links = net.links().len();
+    assert!(rt; links <= 255);
+    let Ok((ledger, seat)) = Ledger::open(alloc, links) else {
+        return Err(AllocError);
+    };
+    let reacts = Arc::new(alloc, AtomicU64::new(0))?;
+    let entered = Arc::new(alloc, AtomicU64::new(0))?;
+    let reacted = Arc::new(alloc, AtomicU64::new(0))?;
+    let jobs = counting_job(&rt, alloc, &scenario, &net, Arc::try_clone(&reacts)?)?;
+    let gate = EarlyGate {
+        reacts: Arc::try_clone(&reacts)?,
+        entered: Arc::try_clone(&entered)?,
+        reacted: Arc::try_clone(&reacted)?,
+    };
+    let crew = BagCrew::new(&rt, gate, 2);
+    if let Err(fault) = crew.map_with_gate(alloc, &scenario, &net, &ledger, seat, jobs) {
+        assert_eq!(rt; fault, CrewFault::NoMemory);
+        return Err(AllocError);
+    }
+    assert_eq!(rt; entered.load(Ordering::SeqCst), 1);
+    assert_eq!(rt; reacted.load(Ordering::SeqCst), 0);
+    assert_eq!(rt; reacts.load(Ordering::SeqCst), 2);
+    Ok(())
 }
