@@ -131,7 +131,7 @@ member_at ps (u ∷ us) p i =
 
 -- ---- some of the members
 
-some_found : (f : ℕ → Bool) (n m : ℕ) → m < n → f m ≡ true → some_below f n ≡ true
+pub some_found : (f : ℕ → Bool) (n m : ℕ) → m < n → f m ≡ true → some_below f n ≡ true
 some_found f zero m h e = absurd (omega arith)
 some_found f (suc n) m h e =
     elim (cases_eq m n) [

@@ -284,6 +284,25 @@ module _ (w : Network) (n : IsNetwork w) (l u near far : ℕ) (any : Bool) (seen
             ∙ ap (λ a. a && not (comes_to w (takes_out rules p) u sent far)) q ∙ ap not r,
       )
 
+-- where nobody is beyond a link from the sender's node, the packet does not cross it, and is not dropped there
+pub nobody_beyond : (w : Network) → IsNetwork w → (l : ℕ) → l < length w.links → (s : PlainSpread) → FitsIn w s
+    → ((k : LinkSpec) → slice_get w.links l ≡ Some k → some_beyond w l k (host w s.sender) ≡ false)
+    → (rules : DropRules) (p : PacketId) (sent : ℕ) → IsSpread w rules p sent s
+    → (crosses w rules p sent l ≡ false) × (drops_at w rules p sent l ≡ false)
+nobody_beyond w n l lt s fits none rules p sent is =
+    let k = below_get w.links l lt in
+    let u = host w s.sender in
+    let near = near_end w l k.0 u in
+    let only : (j : LinkSpec) → slice_get w.links l ≡ Some j → k.0 ≡ j = λ j g. (
+    let q : Some k.0 ≡ Some j = sym k.1 ∙ g in cc) in
+    let seen : SeenFrom w l u near (far_from k.0 near) false = record {
+      link = lt;
+      nears = λ j g. ap (λ (i : LinkSpec). near_end w l i u) (only j g);
+      fars = λ j g. ap (λ (i : LinkSpec). far_from i near) (only j g);
+      anys = λ j g. sym (none j g);
+    } in
+    not_beyond w n l u near (far_from k.0 near) false seen s fits refl rules p sent is refl
+
 -- what it tells of a member
 pub reached_there : (w : Network) (s : PlainSpread) (rules : DropRules) (p : PacketId) (sent : ℕ) → IsSpread w rules p sent s
     → (m x : ℕ) (b : Bool) → x ≡ host w m → x < w.nodes → slice_get s.comes x ≡ Some b

@@ -310,6 +310,22 @@ impl Net {
         ensures dropped { (rules : DropRules) (p : PacketId) (sent : ℕ) → IsSpread self.now rules p sent spread.now
             → is_dropping result ≡ drops_at self.now rules p sent link }
     {
+        if self.joins_members(link) {
+            self.fate_between(spread, link)
+        } else {
+            Fate::Neither
+        }
+    }
+
+    /// The same of a link that may have members on both sides.
+    fn fate_between(&self, spread: &Spread, link: u16) -> Fate
+        requires spread { FitsIn self.now spread.now }
+        requires link { link < length self.now.links }
+        ensures crosses { (rules : DropRules) (p : PacketId) (sent : ℕ) → IsSpread self.now rules p sent spread.now
+            → is_crossing result ≡ crosses self.now rules p sent link }
+        ensures dropped { (rules : DropRules) (p : PacketId) (sent : ℕ) → IsSpread self.now rules p sent spread.now
+            → is_dropping result ≡ drops_at self.now rules p sent link }
+    {
         let (near, is_any_beyond) = self.beyond(link, self.host(spread.sender()));
         let far = self.tree.link(link).far_from(near);
         if !is_any_beyond || !spread.comes_to(near) {
@@ -332,6 +348,17 @@ impl Net {
     {
         let (_, is_any_beyond) = self.beyond(link, self.host(m));
         is_any_beyond
+    }
+
+    /// Whether members are on both sides of a link. No way between members takes any other.
+    fn joins_members(&self, link: u16) -> bool
+        requires link { link < length self.now.links }
+        ensures alone { result ≡ false → (k : LinkSpec) → slice_get self.now.links link ≡ Some k
+            → (m : ℕ) → m < length self.now.hosts → some_beyond self.now link k (host self.now m) ≡ false }
+        ensures network { IsNetwork self.now }
+    {
+        let sides = self.sides[usize::from(link)];
+        sides.a && sides.b
     }
 
     /// The end of a link that is nearer to a node, and whether any member is beyond the link from there.
