@@ -49,7 +49,7 @@ from program import BUILT, REFUSED_LINE, TOP, End, Program, refused
 
 Run = Callable[[list[str], bytes], End]
 
-LONGEST = 20
+LONGEST = 60
 MEMORY = 2**30
 MOST_FAILURES = 10
 REFUSAL = re.compile(
