@@ -50,7 +50,7 @@ from program import BUILT, REFUSED_LINE, TOP, End, Program, refused
 Run = Callable[[list[str], bytes], End]
 
 LONGEST = 60
-MEMORY = 2**30
+MEMORY = 2**32
 MOST_FAILURES = 10
 REFUSAL = re.compile(
     rb"refused: (not-toml|too-long|not-tree|bad-key top 0"
