@@ -125,7 +125,7 @@ def test_figure_of_a_metric_is_accepted(tmp_path):
 def test_each_configuration_of_the_repository_is_accepted():
     import figures
     import yaml
-    for name in ("config.yaml", "small.yaml", "adaptive.yaml", "adaptive-ns2.yaml"):
+    for name in ("config.yaml", "small.yaml", "adaptive.yaml", "adaptive-ns2.yaml", "sparse.yaml"):
         check_config(yaml.safe_load((ROOT / "experiments" / name).read_text()), figures.NEEDS)
 
 
