@@ -1,7 +1,5 @@
 -- The first steps of an own run.
 use Rattle.std.proofs.Common.{◌≡◌, ℕ, suc, ◌+◌, List, [], ◌∷◌, ◌++◌, sym, ap, ◌∙◌, arith, append_assoc, append-nil, Err, refl, subst}
-use Rattle.std.specs.declared.dyn_box.DynBox.{DynBox}
-use Rattle.std.specs.Global.{Global}
 use Rattle.srm_member.specs.Record.{Record}
 use Rattle.srm_member.specs.declared.row.Row.{Row}
 use Rattle.srm_cell.specs.declared.cell.Cell.{Cell}
@@ -65,8 +63,8 @@ module _ (end m : ℕ) where
       by Spent e = subst HasWork (sym (leads_to p q rows (own_step end m q) l refl) ∙ spent_ends end m (l.steps + 0) p e) h
       by (Done d) e = tt
 
-  module _ {X : Type 0} {H : X → Type 0} where
-    pub leads_fault : (f : DynBox X Global H → Record) (p q : PlainCell) (rows : List Row) (x : CellFault) (after : Cell X H)
+  module _ {M : Type 0} where
+    pub leads_fault : (f : M → Record) (p q : PlainCell) (rows : List Row) (x : CellFault) (after : Cell M)
         → Leads end m p rows q → TellsStep f m q (own_step end m q) (Err x) after → TellsRun f end m p (Err x) after
     leads_fault f p q rows fault.NoMemory after l h = leads_work p q rows l h
     leads_fault f p q rows fault.Spent after l h = (l.steps + 0, leads_to p q rows Spent l h)

@@ -3,8 +3,6 @@ use Rattle.std.proofs.Common.{◌≡◌, ◌<◌, ◌≤◌, ℕ, zero, suc, ◌
 use Rattle.std.proofs.Common.{None, refl, sym, ap, ◌∙◌, subst, arith, nat_lt, ltb-true, length-append, All}
 use Rattle.std.specs.List.{cons_option}
 use Rattle.std.proofs.lemmas.List.Elements.{All-nil, All-cons}
-use Rattle.std.specs.declared.dyn_box.DynBox.{DynBox}
-use Rattle.std.specs.Global.{Global}
 use Rattle.srm_net.specs.declared.packet.Body.{Body}
 use Rattle.srm_net.specs.declared.packet.Packet.{Packet}
 use Rattle.srm_member.specs.declared.cause.Cause.{Cause}
@@ -121,8 +119,8 @@ module _ (end m : ℕ) where
 
 -- ---- of several cells
 
-module _ {X : Type 0} {H : X → Type 0} where
-  pub rows_few : (f : DynBox X Global H → Record) (end : ℕ) (qs : List OwnCell) (rows : List (List Row)) (cs : List (Cell X H))
+module _ {M : Type 0} where
+  pub rows_few : (f : M → Record) (end : ℕ) (qs : List OwnCell) (rows : List (List Row)) (cs : List (Cell M))
       → RanEach f end qs rows cs → length (packets_of (joined rows)) ≤ length cs * most_sent
   rows_few f end [] [] [] h = omega arith
   rows_few f end [] [] (c ∷ cs) h = absurd h
@@ -137,7 +135,7 @@ module _ {X : Type 0} {H : X → Type 0} where
       let e = ap length (packets_joined r rs) ∙ length-append (packets_of r) (packets_of (joined rs)) in
       omega (arith, one, more, e)
 
-  pub rows_below : (f : DynBox X Global H → Record) (end k : ℕ) (qs : List OwnCell) (rows : List (List Row)) (cs : List (Cell X H))
+  pub rows_below : (f : M → Record) (end k : ℕ) (qs : List OwnCell) (rows : List (List Row)) (cs : List (Cell M))
       → end ≤ end_of_time → AreMembers k qs → RanEach f end qs rows cs → All (λ rs. All (λ r. IsSentBelow k r.sent) rs) rows
   rows_below f end k [] [] [] le a h = All-nil (λ (rs : List Row). All (λ r. IsSentBelow k r.sent) rs)
   rows_below f end k [] [] (c ∷ cs) le a h = absurd h
@@ -150,7 +148,7 @@ module _ {X : Type 0} {H : X → Type 0} where
       (subst (All (λ r. IsSentBelow k r.sent)) (sym run.rows_are) (own_below end q.member k run.steps q.cell a.0 le))
       (rows_below f end k qs rs cs le a.1 h.1)
 
-  pub as_many : (f : DynBox X Global H → Record) (end : ℕ) (qs : List OwnCell) (rows : List (List Row)) (cs : List (Cell X H))
+  pub as_many : (f : M → Record) (end : ℕ) (qs : List OwnCell) (rows : List (List Row)) (cs : List (Cell M))
       → RanEach f end qs rows cs → length cs ≡ length qs
   as_many f end [] [] [] h = refl
   as_many f end [] [] (c ∷ cs) h = absurd h
@@ -159,7 +157,7 @@ module _ {X : Type 0} {H : X → Type 0} where
   as_many f end (q ∷ qs) (r ∷ rs) [] h = absurd h
   as_many f end (q ∷ qs) (r ∷ rs) (c ∷ cs) h = ap suc (as_many f end qs rs cs h.1)
 
-  pub as_many_seen : (f : DynBox X Global H → Record) (cs : List (Cell X H)) (qs : List OwnCell) → AreCells f cs qs → length cs ≡ length qs
+  pub as_many_seen : (f : M → Record) (cs : List (Cell M)) (qs : List OwnCell) → AreCells f cs qs → length cs ≡ length qs
   as_many_seen f [] [] h = refl
   as_many_seen f [] (q ∷ qs) h = absurd h
   as_many_seen f (c ∷ cs) [] h = absurd h

@@ -1,8 +1,6 @@
 -- Own runs of cells, taken one after the other: what is so after the first of them.
 use Rattle.std.proofs.Common.{◌≡◌, ℕ, List, [], ◌∷◌, ◌++◌, refl, sym, subst, inl, inr, append_assoc, append-nil, Err, ◌≢◌, ◌∙◌, ◌<◌, length}
 use Rattle.std.proofs.Common.{arith}
-use Rattle.std.specs.declared.dyn_box.DynBox.{DynBox}
-use Rattle.std.specs.Global.{Global}
 use Rattle.srm_member.specs.Record.{Record}
 use Rattle.srm_member.specs.declared.row.Row.{Row}
 use Rattle.srm_cell.specs.declared.cell.Cell.{Cell}
@@ -24,35 +22,35 @@ work_asks (Done d) h e = cc
 pub ran_asks : (end m : ℕ) (c : PlainCell) (rows : List Row) (d : PlainCell) → IsOwnRun end m c rows d → own_step end m c ≢ Spent
 ran_asks end m c rows d r e = let x : Idle ≡ Spent = sym r.ends ∙ spent_ends end m r.steps c e in cc
 
-module _ {X : Type 0} {H : X → Type 0} where
+module _ {M : Type 0} where
   -- where the cells that are left are seen as these, the runs of all are those so far and then theirs
-  pub record SoFar (f : DynBox X Global H → Record) (end : ℕ) (qs : List OwnCell) (rows : List (List Row)) (cells left : List (Cell X H)) :
+  pub record SoFar (f : M → Record) (end : ℕ) (qs : List OwnCell) (rows : List (List Row)) (cells left : List (Cell M)) :
       Type 0 where
     pub rest : List OwnCell
     pub seen : AreCells f left rest
-    pub ran : (more : List (List Row)) (cs : List (Cell X H)) → RanEach f end rest more cs → RanEach f end qs (rows ++ more) (cells ++ cs)
+    pub ran : (more : List (List Row)) (cs : List (Cell M)) → RanEach f end rest more cs → RanEach f end qs (rows ++ more) (cells ++ cs)
     pub ends : (o : StepOutcome Stepped) → FirstEnds o end rest → FirstEnds o end qs
     pub asks : AskMemory end rest → AskMemory end qs
 
-  pub so_far_none : (f : DynBox X Global H → Record) (end : ℕ) (qs : List OwnCell) (left : List (Cell X H)) → AreCells f left qs
+  pub so_far_none : (f : M → Record) (end : ℕ) (qs : List OwnCell) (left : List (Cell M)) → AreCells f left qs
       → SoFar f end qs [] [] left
   so_far_none f end qs left h = record { rest = qs; seen = h; ran = λ more cs r. r; ends = λ o r. r; asks = λ a. a }
 
   -- the first of the cells that are left
-  pub record First (f : DynBox X Global H → Record) (c : Cell X H) (cs : List (Cell X H)) (rest : List OwnCell) : Type 0 where
+  pub record First (f : M → Record) (c : Cell M) (cs : List (Cell M)) (rest : List OwnCell) : Type 0 where
     pub own : OwnCell
     pub others : List OwnCell
     pub is : rest ≡ own ∷ others
     pub cell : IsCell f own.member c own.cell
     pub cells : AreCells f cs others
 
-  pub first_of : (f : DynBox X Global H → Record) (c : Cell X H) (cs : List (Cell X H)) (rest : List OwnCell) → AreCells f (c ∷ cs) rest
+  pub first_of : (f : M → Record) (c : Cell M) (cs : List (Cell M)) (rest : List OwnCell) → AreCells f (c ∷ cs) rest
       → First f c cs rest
   first_of f c cs [] h = absurd h
   first_of f c cs (q ∷ qs) h = record { own = q; others = qs; is = refl; cell = h.0; cells = h.1 }
 
-  pub so_far_more : (f : DynBox X Global H → Record) (end : ℕ) (qs : List OwnCell) (rows : List (List Row))
-      (cells left cs : List (Cell X H)) (c after : Cell X H) (new : List Row)
+  pub so_far_more : (f : M → Record) (end : ℕ) (qs : List OwnCell) (rows : List (List Row))
+      (cells left cs : List (Cell M)) (c after : Cell M) (new : List Row)
       → (s : SoFar f end qs rows cells left) → (r : First f c cs s.rest) → RanAlone f end r.own.member r.own.cell new after
       → SoFar f end qs (rows ++ new ∷ []) (cells ++ after ∷ []) cs
   so_far_more f end qs rows cells left cs c after new s r ran = record {
@@ -67,7 +65,7 @@ module _ {X : Type 0} {H : X → Type 0} where
     asks = λ _. s.asks (subst (AskMemory end) (sym r.is) (ran_asks end r.own.member r.own.cell new ran.0 ran.1));
   }
 
-  pub so_far_all : (f : DynBox X Global H → Record) (end : ℕ) (qs : List OwnCell) (rows : List (List Row)) (cells left : List (Cell X H))
+  pub so_far_all : (f : M → Record) (end : ℕ) (qs : List OwnCell) (rows : List (List Row)) (cells left : List (Cell M))
       → SoFar f end qs rows cells left → left ≡ [] → RanEach f end qs rows cells
   so_far_all f end qs rows cells left s e =
       let none = no_more s.rest (subst (λ cs. AreCells f cs s.rest) e s.seen) in
@@ -79,15 +77,15 @@ module _ {X : Type 0} {H : X → Type 0} where
       no_more (q ∷ qs) h = absurd h
 
   -- what was run is kept in memory
-  pub so_far_kept : (f : DynBox X Global H → Record) (end : ℕ) (qs : List OwnCell) (rows : List (List Row))
-      (cells left cs : List (Cell X H)) (c after : Cell X H) (new : List Row)
+  pub so_far_kept : (f : M → Record) (end : ℕ) (qs : List OwnCell) (rows : List (List Row))
+      (cells left cs : List (Cell M)) (c after : Cell M) (new : List Row)
       → (s : SoFar f end qs rows cells left) → (r : First f c cs s.rest) → RanAlone f end r.own.member r.own.cell new after
       → AskMemory end qs
   so_far_kept f end qs rows cells left cs c after new s r ran = s.asks
       (subst (AskMemory end) (sym r.is) (ran_asks end r.own.member r.own.cell new ran.0 ran.1))
 
   -- where rows were kept there was a cell
-  pub each_asks : (f : DynBox X Global H → Record) (end : ℕ) (qs : List OwnCell) (rows : List (List Row)) (cells : List (Cell X H))
+  pub each_asks : (f : M → Record) (end : ℕ) (qs : List OwnCell) (rows : List (List Row)) (cells : List (Cell M))
       → RanEach f end qs rows cells → 0 < length rows → AskMemory end qs
   each_asks f end [] [] cells h lt = absurd (omega arith)
   each_asks f end [] (rs ∷ more) cells h lt = absurd h
@@ -95,8 +93,8 @@ module _ {X : Type 0} {H : X → Type 0} where
   each_asks f end (q ∷ qs) (rs ∷ more) [] h lt = absurd h
   each_asks f end (q ∷ qs) (rs ∷ more) (c ∷ cs) h lt = ran_asks end q.member q.cell rs h.0.0 h.0.1
 
-  pub so_far_fault : (f : DynBox X Global H → Record) (end : ℕ) (qs : List OwnCell) (rows : List (List Row))
-      (cells left cs : List (Cell X H)) (c after : Cell X H) (e : CellFault)
+  pub so_far_fault : (f : M → Record) (end : ℕ) (qs : List OwnCell) (rows : List (List Row))
+      (cells left cs : List (Cell M)) (c after : Cell M) (e : CellFault)
       → (s : SoFar f end qs rows cells left) → (r : First f c cs s.rest) → TellsRun f end r.own.member r.own.cell (Err e) after
       → TellsFault end qs e
   so_far_fault f end qs rows cells left cs c after fault.NoMemory s r h = s.asks (subst (AskMemory end) (sym r.is) (work_asks _ h))

@@ -1,7 +1,5 @@
 -- What a call tells, where the step is known by another name.
 use Rattle.std.proofs.Common.{◌≡◌, ℕ, Err, sym, ◌∙◌, subst}
-use Rattle.std.specs.declared.dyn_box.DynBox.{DynBox}
-use Rattle.std.specs.Global.{Global}
 use Rattle.srm_member.specs.Record.{Record}
 use Rattle.srm_cell.specs.declared.cell.Cell.{Cell}
 use Rattle.srm_cell.specs.declared.fault.CellFault.{CellFault}
@@ -9,10 +7,10 @@ use Rattle.srm_cell.specs.declared.fault.CellFault.TheVariants as fault
 use Rattle.srm_cell.specs.Cells.{PlainCell, StepOutcome, Stepped}
 use Rattle.srm_cell.specs.Views.{TellsOf, HasParts, TellsStep}
 
-module _ {X : Type 0} {H : X → Type 0} where
+module _ {M : Type 0} where
   -- a refusal tells the same, whatever is so of the cell
-  pub tells_fault : (f : DynBox X Global H → Record) (m : ℕ) (p : PlainCell) (o q : StepOutcome Stepped) (x : CellFault)
-      (c after : Cell X H)
+  pub tells_fault : (f : M → Record) (m : ℕ) (p : PlainCell) (o q : StepOutcome Stepped) (x : CellFault)
+      (c after : Cell M)
       → o ≡ q → TellsOf (λ d. HasParts f m c d) q (Err x) → TellsStep f m p o (Err x) after
   tells_fault f m p o q fault.NoMemory c after e t = subst (λ z. TellsStep f m p z (Err fault.NoMemory) after) (sym e) t
   tells_fault f m p o q fault.Spent c after e t = e ∙ t

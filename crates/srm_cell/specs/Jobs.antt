@@ -1,8 +1,7 @@
 -- Jobs: own runs of some cells, and what they tell.
 use Rattle.std.specs.Prelude.{◌≡◌, ◌≢◌, ◌⊎◌, ◌<◌, ◌≤◌, ℕ, length, List, [], ◌∷◌, Result, Ok, Err}
 use Rattle.std.specs.List.{AllZip}
-use Rattle.std.specs.declared.dyn_box.DynBox.{DynBox}
-use Rattle.std.specs.Global.{Global, Vec}
+use Rattle.std.specs.Global.{Vec}
 use Rattle.srm_net.specs.Network.{Network}
 use Rattle.srm_scenario.specs.Plain.{PlainScenario}
 use Rattle.srm_member.specs.declared.row.Row.{Row}
@@ -55,19 +54,19 @@ TellsFault end qs fault.NoMemory = AskMemory end qs
 TellsFault end qs fault.Spent = FirstEnds Spent end qs
 TellsFault end qs fault.CountFull = FirstEnds Full end qs
 
-module _ {X : Type 0} {H : X → Type 0} where
+module _ {M : Type 0} where
   -- the cells are seen as these, where f is what is seen of a box
-  abbrev pub AreCells : (DynBox X Global H → Record) → List (Cell X H) → List OwnCell → Type 0
+  abbrev pub AreCells : (M → Record) → List (Cell M) → List OwnCell → Type 0
   AreCells f cs qs = AllZip (λ c q. IsCell f q.member c q.cell) cs qs
 
   -- the job is seen as this one
-  pub record IsJob (f : DynBox X Global H → Record) (j : Job X H) (p : PlainJob) : Type 0 where
+  pub record IsJob (f : M → Record) (j : Job M) (p : PlainJob) : Type 0 where
     pub place : j.place ≡ p.place
     pub till : j.till ≡ p.till
     pub cells : AreCells f j.cells.items p.cells
 
   -- what the calls that advance a job ask of it: it is seen as some job with few cells, each that of a member
-  pub record MayAdvance (f : DynBox X Global H → Record) (members : ℕ) (j : Job X H) : Type 0 where
+  pub record MayAdvance (f : M → Record) (members : ℕ) (j : Job M) : Type 0 where
     pub plain_job : PlainJob
     pub is : IsJob f j plain_job
     pub till : plain_job.till ≤ end_of_time
@@ -75,46 +74,46 @@ module _ {X : Type 0} {H : X → Type 0} where
     pub of_members : AreMembers members plain_job.cells
 
   -- the cell of member m, seen as p, has these rows in its own run to an end, and is then this cell
-  abbrev pub RanAlone : (DynBox X Global H → Record) → ℕ → ℕ → PlainCell → List Row → Cell X H → Type 0
+  abbrev pub RanAlone : (M → Record) → ℕ → ℕ → PlainCell → List Row → Cell M → Type 0
   RanAlone f end m p rows after = (d : PlainCell) × IsOwnRun end m p rows d × IsCell f m after d
 
   -- so each of the cells
-  abbrev pub RanEach : (DynBox X Global H → Record) → ℕ → List OwnCell → List (List Row) → List (Cell X H) → Type 0
+  abbrev pub RanEach : (M → Record) → ℕ → List OwnCell → List (List Row) → List (Cell M) → Type 0
   RanEach f end [] [] [] = Unit {0}
   RanEach f end (q ∷ qs) (rows ∷ more) (c ∷ cs) = RanAlone f end q.member q.cell rows c × RanEach f end qs more cs
   RanEach f end qs more cs = ⊥
 
   -- what an own run tells. Memory is asked for only where its first step has work. After a refusal nothing is known of
   -- the cell
-  abbrev pub TellsRun : (DynBox X Global H → Record) → ℕ → ℕ → PlainCell
-      → Result (List Row) CellFault → Cell X H → Type 0
+  abbrev pub TellsRun : (M → Record) → ℕ → ℕ → PlainCell
+      → Result (List Row) CellFault → Cell M → Type 0
   TellsRun f end m p (Ok rows) after = RanAlone f end m p rows after
   TellsRun f end m p (Err fault.NoMemory) after = HasWork (own_step end m p)
   TellsRun f end m p (Err fault.Spent) after = MeetsSpent end m p
   TellsRun f end m p (Err fault.CountFull) after = MeetsFull end m p
 
   -- what an own run to an end tells, of each plain cell that the cell is seen as
-  abbrev pub Runs : (DynBox X Global H → Record) → ℕ → Cell X H → Result (List Row) CellFault → Cell X H → Type 0
+  abbrev pub Runs : (M → Record) → ℕ → Cell M → Result (List Row) CellFault → Cell M → Type 0
   Runs f end old result new = (m : ℕ) (p : PlainCell) → IsCell f m old p → TellsRun f end m p result new
 
   -- what own runs tell, one after the other, after which these are the cells
-  abbrev pub TellsRuns : (DynBox X Global H → Record) → ℕ → List OwnCell
-      → Result (Vec (List Row)) CellFault → List (Cell X H) → Type 0
+  abbrev pub TellsRuns : (M → Record) → ℕ → List OwnCell
+      → Result (Vec (List Row)) CellFault → List (Cell M) → Type 0
   TellsRuns f end qs (Ok rows) after = RanEach f end qs rows.items after
   TellsRuns f end qs (Err e) after = TellsFault end qs e
 
   -- this is done of a job: its cells' own runs, and the crossings of their rows
-  pub record IsDone (f : DynBox X Global H → Record) (t : Traffic) (p : PlainJob) (d : job.Done X H) : Type 0 where
+  pub record IsDone (f : M → Record) (t : Traffic) (p : PlainJob) (d : job.Done M) : Type 0 where
     pub place : d.place ≡ p.place
     pub runs : RanEach f p.till p.cells d.rows.items d.cells.items
     pub crossings_are : d.crossings ≡ crossings t (joined d.rows.items)
 
   -- what advancing a job tells
-  abbrev pub TellsDone : (DynBox X Global H → Record) → Traffic → PlainJob → Result (job.Done X H) CellFault → Type 0
+  abbrev pub TellsDone : (M → Record) → Traffic → PlainJob → Result (job.Done M) CellFault → Type 0
   TellsDone f t p (Ok d) = IsDone f t p d
   TellsDone f t p (Err e) = TellsFault p.till p.cells e
 
   -- what advancing a job tells, of every job that it may be seen as
-  pub record Advances (f : DynBox X Global H → Record) (k : PlainScenario) (net : Network) (j : Job X H)
-      (r : Result (job.Done X H) CellFault) : Type 0 where
+  pub record Advances (f : M → Record) (k : PlainScenario) (net : Network) (j : Job M)
+      (r : Result (job.Done M) CellFault) : Type 0 where
     pub tells : (p : PlainJob) → IsJob f j p → TellsDone f (traffic_of k net) p r

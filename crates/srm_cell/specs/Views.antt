@@ -1,7 +1,6 @@
 -- What is seen of a cell, and what its calls tell.
 use Rattle.std.specs.Prelude.{◌≡◌, ◌⊎◌, ℕ, List, Option, Some, None, Result, Ok, Err}
-use Rattle.std.specs.declared.dyn_box.DynBox.{DynBox}
-use Rattle.std.specs.Global.{Global, Box}
+use Rattle.std.specs.Global.{Box}
 use Rattle.srm_scenario.specs.declared.mark.Mark.{Mark}
 use Rattle.srm_member.specs.declared.due.Due.{Due}
 use Rattle.srm_member.specs.declared.exit.Exit.{Exit}
@@ -70,9 +69,9 @@ TellsOf P o (Err fault.NoMemory) = HasWork o
 TellsOf P o (Err fault.Spent) = o ≡ Spent
 TellsOf P o (Err fault.CountFull) = o ≡ Full
 
-module _ {X : Type 0} {H : X → Type 0} where
+module _ {M : Type 0} where
   -- the cell of member m has this plain cell's parts, where f is what is seen of its box
-  pub record HasParts (f : DynBox X Global H → Record) (m : ℕ) (c : Cell X H) (p : PlainCell) : Type 0 where
+  pub record HasParts (f : M → Record) (m : ℕ) (c : Cell M) (p : PlainCell) : Type 0 where
     pub number : c.number ≡ m
     pub holds : HoldsRecord (record_in f c.member) p.holds
     pub sent : p.sent ≡ c.sent
@@ -86,40 +85,40 @@ module _ {X : Type 0} {H : X → Type 0} where
   -- may be seen as several plain cells: its box was dropped, and with it the member's part that never changes, so its
   -- record may be gone with any such part. Nothing depends on which: a record that is gone has no timer and no answer,
   -- what the member ended with stands in the exit, and no definition looks at the part that a gone record keeps
-  pub record IsCell (f : DynBox X Global H → Record) (m : ℕ) (c : Cell X H) (p : PlainCell) : Type 0 where
+  pub record IsCell (f : M → Record) (m : ℕ) (c : Cell M) (p : PlainCell) : Type 0 where
     pub parts : HasParts f m c p
     -- what the cell keeps as its next event is that
     pub next : Stands m p c.next (next_event m p)
 
   -- the cell is that of a member with this record, at the beginning, with this script and packet count
-  abbrev pub IsNew : (DynBox X Global H → Record) → Record → List Mark → ℕ → Cell X H → Type 0
+  abbrev pub IsNew : (M → Record) → Record → List Mark → ℕ → Cell M → Type 0
   IsNew f r script sent c = IsCell f (fixed_part r).member c (new_cell r script sent)
 
   -- each plain cell that the first is seen as becomes, by h, one that the second is seen as
-  abbrev pub Becomes : (DynBox X Global H → Record) → (PlainCell → PlainCell) → Cell X H → Cell X H → Type 0
+  abbrev pub Becomes : (M → Record) → (PlainCell → PlainCell) → Cell M → Cell M → Type 0
   Becomes f h old new = (m : ℕ) (p : PlainCell) → IsCell f m old p → IsCell f m new (h p)
 
   -- a step of member m's cell with this outcome tells this, and leaves this cell
-  abbrev pub TellsRow : (DynBox X Global H → Record) → ℕ → StepOutcome Stepped
-      → Result Row CellFault → Cell X H → Type 0
+  abbrev pub TellsRow : (M → Record) → ℕ → StepOutcome Stepped
+      → Result Row CellFault → Cell M → Type 0
   TellsRow f m o result after = TellsOf (λ p. IsCell f m after p) o result
 
   -- the same of a cell that was this one before, where there may be nothing to do
-  abbrev pub TellsStep : (DynBox X Global H → Record) → ℕ → PlainCell → StepOutcome Stepped
-      → Result (Option Row) CellFault → Cell X H → Type 0
+  abbrev pub TellsStep : (M → Record) → ℕ → PlainCell → StepOutcome Stepped
+      → Result (Option Row) CellFault → Cell M → Type 0
   TellsStep f m p o (Ok None) after = (o ≡ Idle) × IsCell f m after p
   TellsStep f m p o (Ok (Some row)) after = TellsRow f m o (Ok row) after
   TellsStep f m p o (Err e) after = TellsRow f m o (Err e) after
 
   -- what the own step to an end tells, of each plain cell that the cell is seen as
-  abbrev pub Steps : (DynBox X Global H → Record) → ℕ → Cell X H → Result (Option Row) CellFault → Cell X H → Type 0
+  abbrev pub Steps : (M → Record) → ℕ → Cell M → Result (Option Row) CellFault → Cell M → Type 0
   Steps f end old result new =
       (m : ℕ) (p : PlainCell) → IsCell f m old p → TellsStep f m p (own_step end m p) result new
 
   -- the least time at which the cell has anything pending, of each plain cell that the cell is seen as
-  abbrev pub IsNextTime : (DynBox X Global H → Record) → Cell X H → Option ℕ → Type 0
+  abbrev pub IsNextTime : (M → Record) → Cell M → Option ℕ → Type 0
   IsNextTime f c time = (m : ℕ) (p : PlainCell) → IsCell f m c p → time ≡ time_of (next_event m p)
 
   -- what the cell's end tells, of each plain cell that the cell is seen as
-  abbrev pub Ends : (DynBox X Global H → Record) → Cell X H → Result Exit CellFault → Type 0
+  abbrev pub Ends : (M → Record) → Cell M → Result Exit CellFault → Type 0
   Ends f c result = (m : ℕ) (p : PlainCell) → IsCell f m c p → TellsExit p result

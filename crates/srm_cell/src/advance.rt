@@ -10,7 +10,7 @@ use crate::cell::Cell;
 use crate::crossings::Crossings;
 use crate::fault::CellFault;
 use crate::job::{Done, Job};
-use srm_member::member::Member;
+use srm_member::participant::Participant;
 use srm_member::row::Row;
 use srm_net::net::Net;
 use srm_net::sequence::Sequence;
@@ -22,9 +22,14 @@ use std::alloc::{AllocError, Global};
 /// # Errors
 /// `Spent` or `CountFull`, that of the first cell, one after the other, whose own run is refused; or `NoMemory`, but not where
 /// there is no cell, or where the first has an event and no member to answer it. The job, its cells and their boxes are gone.
-pub fn advance(alloc: Global, scenario: &Scenario, net: &Net, job: Job) -> Result<Done, CellFault>
-    requires { MayAdvance (λ b. plain b) (length net.now.hosts) job }
-    ensures { Advances (λ b. plain b) scenario.now net.now job result }
+pub fn advance<M: Participant>(
+    alloc: Global,
+    scenario: &Scenario,
+    net: &Net,
+    job: Job<M>,
+) -> Result<Done<M>, CellFault>
+    requires { MayAdvance M.plain (length net.now.hosts) job }
+    ensures { Advances M.plain scenario.now net.now job result }
 {
     let Job { place, till, cells } = job;
     let mut cells = cells;
@@ -44,11 +49,15 @@ pub fn advance(alloc: Global, scenario: &Scenario, net: &Net, job: Job) -> Resul
 }
 
 // Each cell's own run, and its rows.
-fn run_each(alloc: Global, till: u64, cells: &mut [Cell]) -> Result<Vec<Sequence<Row>>, CellFault>
+fn run_each<M: Participant>(
+    alloc: Global,
+    till: u64,
+    cells: &mut [Cell<M>],
+) -> Result<Vec<Sequence<Row>>, CellFault>
     requires { till ≤ end_of_time }
     ensures many { length cells.new ≡ length cells.old }
-    ensures runs { (qs : List OwnCell) → AreCells (λ b. plain b) cells.old qs
-        → TellsRuns (λ b. plain b) till qs result cells.new }
+    ensures runs { (qs : List OwnCell) → AreCells M.plain cells.old qs
+        → TellsRuns M.plain till qs result cells.new }
 {
     let mut rows = Vec::new(alloc);
     for cell in cells.iter_mut() {

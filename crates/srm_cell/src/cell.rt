@@ -22,6 +22,7 @@ use srm_member::due::Due;
 use srm_member::exit::Exit;
 use srm_member::fault::MemberFault;
 use srm_member::member::Member;
+use srm_member::participant::Participant;
 use srm_member::react::React;
 use srm_member::row::{About, Row, Word};
 use srm_member::told::Told;
@@ -37,23 +38,23 @@ const COUNT_LIMIT: u64 = 281_474_976_710_656;
 /// A member's cell: its box, the packets on their way to it, the rest of its script, its packet count, once it left what it ended
 /// with, and which of all that is pending is next.
 #[derive(Drop)]
-pub struct Cell {
+pub struct Cell<M = Box<dyn Member>> {
     number: u16,
     next: Option<Pending>,
     inbox: Inbox,
-    member: Option<Box<dyn Member>>,
+    member: Option<M>,
     script: Script,
     sent: u64,
     // in a box: it is not looked at before the end, and would stand between the parts of the next cell and those of this one
     exit: Option<Box<Exit>>,
 }
 
-impl Cell {
+impl<M: Participant> Cell<M> {
     /// A member's cell with this script. The member's next packet has count `sent`. It does not allocate.
-    pub fn new(alloc: Global, member: Box<dyn Member>, script: Vec<Mark>, sent: u64) -> Cell
+    pub fn new(alloc: Global, member: M, script: Vec<Mark>, sent: u64) -> Cell<M>
         requires sent { sent ≤ most_sent }
         requires script { Rises mark_cmp script.items }
-        ensures { IsNew (λ b. plain b) (plain member) script.items sent result }
+        ensures { IsNew M.plain (M.plain member) script.items sent result }
     {
         let number = member.number();
         let mut cell = Cell {
@@ -72,7 +73,7 @@ impl Cell {
     /// The least time of the cell's pending events, in ticks: of packets on their way, of the script and of timers, whenever the
     /// run ends. It does not allocate.
     pub fn next_time(&self) -> Option<u64>
-        ensures { IsNextTime (λ b. plain b) self.now result }
+        ensures { IsNextTime M.plain self.now result }
     {
         let next = self.next?;
         Some(next.key.time)
@@ -84,9 +85,9 @@ impl Cell {
     /// `NoMemory`: the cell is then as it was.
     pub fn accept(&mut self, packet: &Packet, arrival: u64) -> Result<(), CellFault>
         requires { BringsNone packet.now.id self.old.inbox }
-        ensures ok { OnOk result (Becomes (λ b. plain b) (λ p. hear_at packet.now (Some arrival) p) self.old self.new) }
+        ensures ok { OnOk result (Becomes M.plain (λ p. hear_at packet.now (Some arrival) p) self.old self.new) }
         ensures memory { IfErr result (λ e. e ≡ CellFault.NoMemory) }
-        ensures err { OnErr result (Becomes (λ b. plain b) (λ p. p) self.old self.new) }
+        ensures err { OnErr result (Becomes M.plain (λ p. p) self.old self.new) }
     {
         if self.inbox.accept(packet, arrival).is_err() {
             return Err(CellFault::NoMemory);
@@ -105,7 +106,7 @@ impl Cell {
     /// then, and it is of no more use.
     pub fn step(&mut self, alloc: Global, end: u64) -> Result<Option<Row>, CellFault>
         requires { end ≤ end_of_time }
-        ensures { Steps (λ b. plain b) end self.old result self.new }
+        ensures { Steps M.plain end self.old result self.new }
     {
         let Some(next) = self.next else {
             return Ok(None);
@@ -130,7 +131,7 @@ impl Cell {
     /// and a member to answer it. Nothing is known of the cell then, and it is of no more use.
     pub fn run(&mut self, alloc: Global, end: u64) -> Result<Sequence<Row>, CellFault>
         requires { end ≤ end_of_time }
-        ensures { Runs (λ b. plain b) end self.old result self.new }
+        ensures { Runs M.plain end self.old result self.new }
     {
         let mut rows = Vec::new(alloc);
         loop {
@@ -152,7 +153,7 @@ impl Cell {
     /// `Spent` only where the member is gone and left no exit; `NoMemory` only where it is there and left no exit. The cell and
     /// its box are gone.
     pub fn finish(self, alloc: Global) -> Result<Exit, CellFault>
-        ensures { Ends (λ b. plain b) self result }
+        ensures { Ends M.plain self result }
     {
         let Cell { member, exit, .. } = self;
         if let Some(exit) = exit {
@@ -170,7 +171,7 @@ impl Cell {
 
     // Takes the first event of a source, and gives its cause; at a leave there is none.
     fn take(&mut self, source: Source) -> Option<Cause>
-        ensures { Takes (λ b. plain b) source self.old result self.new }
+        ensures { Takes M.plain source self.old result self.new }
     {
         match source {
             Source::Inbox => {
@@ -193,7 +194,7 @@ impl Cell {
     // The member answers an event, or leaves where there is no cause.
     fn answer(&mut self, alloc: Global, key: Key, cause: Option<Cause>) -> Result<Row, CellFault>
         requires { key.time < end_of_time }
-        ensures { Answers (λ b. plain b) key cause self.old result self.new }
+        ensures { Answers M.plain key cause self.old result self.new }
     {
         match cause {
             Some(cause) => self.say(alloc, key, cause),
@@ -204,7 +205,7 @@ impl Cell {
     // The member reacts to a cause. After an error the cell holds no box.
     fn say(&mut self, alloc: Global, key: Key, cause: Cause) -> Result<Row, CellFault>
         requires { key.time < end_of_time }
-        ensures { Answers (λ b. plain b) key (Some cause) self.old result self.new }
+        ensures { Answers M.plain key (Some cause) self.old result self.new }
     {
         let Some(mut member) = self.member.take() else {
             return Err(CellFault::Spent);
@@ -262,7 +263,7 @@ impl Cell {
 
     // The member leaves: it ends, and its box is dropped.
     fn leave(&mut self, alloc: Global, key: Key) -> Result<Row, CellFault>
-        ensures { Answers (λ b. plain b) key None self.old result self.new }
+        ensures { Answers M.plain key None self.old result self.new }
     {
         let Some(mut member) = self.member.take() else {
             return Err(CellFault::Spent);
@@ -290,20 +291,20 @@ impl Cell {
 
     // The least event of the cell, looked for among all that it has.
     fn least(&self) -> Option<Pending>
-        ensures { StandsFor (λ b. plain b) (λ m p. next_event m p) self.now result }
+        ensures { StandsFor M.plain (λ m p. next_event m p) self.now result }
     {
         sooner(self.arrival(), sooner(self.mark(), self.timer()))
     }
 
     fn arrival(&self) -> Option<Pending>
-        ensures { StandsFor (λ b. plain b) (λ m p. first_arrival m p p.inbox) self.now result }
+        ensures { StandsFor M.plain (λ m p. first_arrival m p p.inbox) self.now result }
     {
         let (time, id) = self.inbox.first()?;
         Some(Pending::arriving(self.number, time, id))
     }
 
     fn mark(&self) -> Option<Pending>
-        ensures { StandsFor (λ b. plain b) (λ m p. first_mark m p p.script) self.now result }
+        ensures { StandsFor M.plain (λ m p. first_mark m p p.script) self.now result }
     {
         let mark = self.script.first()?;
         Some(Pending {
@@ -320,7 +321,7 @@ impl Cell {
     }
 
     fn timer(&self) -> Option<Pending>
-        ensures { StandsFor (λ b. plain b) (λ m p. next_timer m p (due_of p.holds)) self.now result }
+        ensures { StandsFor M.plain (λ m p. next_timer m p (due_of p.holds)) self.now result }
     {
         let due = self.due()?;
         Some(Pending {
@@ -337,7 +338,7 @@ impl Cell {
     }
 
     fn due(&self) -> Option<Due>
-        ensures { result ≡ due_in (record_in (λ b. plain b) self.now.member) }
+        ensures { result ≡ due_in (record_in M.plain self.now.member) }
     {
         match &self.member {
             None => None,

@@ -2,8 +2,7 @@
 use Rattle.std.proofs.Common.{◌≡◌, ◌<◌, ℕ, zero, suc, List, [], ◌∷◌, length, get_or, map, Result, Ok, Err, sym, subst, inl, inr, arith}
 use Rattle.std.specs.Prelude.{MatchResult}
 use Rattle.std.specs.List.{AllZip, Contains}
-use Rattle.std.specs.declared.dyn_box.DynBox.{DynBox}
-use Rattle.std.specs.Global.{Global, Vec}
+use Rattle.std.specs.Global.{Vec}
 use Rattle.srm_net.specs.Network.{Network}
 use Rattle.srm_scenario.specs.Plain.{PlainScenario}
 use Rattle.srm_member.specs.Record.{Record}
@@ -29,9 +28,9 @@ module _ {J D : Type 0} (R : J → Result D CellFault → Type 0) where
   gathered js rs (Err cell.Spent) z m = (rs, z, m)
   gathered js rs (Err cell.CountFull) z m = (rs, z, m)
 
-module _ {X : Type 0} {H : X → Type 0} where
-  pub all_done : (f : DynBox X Global H → Record) (k : PlainScenario) (net : Network) (js : List (Job X H)) (ps : List PlainJob)
-      (ds : List (job.Done X H))
+module _ {M : Type 0} where
+  pub all_done : (f : M → Record) (k : PlainScenario) (net : Network) (js : List (Job M)) (ps : List PlainJob)
+      (ds : List (job.Done M))
       → AllZip (λ j d. Advances f k net j (Ok d)) js ds → AreJobs f js ps → AllZip (λ p d. IsDone f (traffic_of k net) p d) ps ds
   all_done f k net [] [] [] z h = tt
   all_done f k net [] (p ∷ ps) ds z h = absurd h
@@ -40,8 +39,8 @@ module _ {X : Type 0} {H : X → Type 0} where
   all_done f k net (j ∷ js) (p ∷ ps) [] z h = absurd z
   all_done f k net (j ∷ js) (p ∷ ps) (d ∷ ds) z h = (z.0.tells p h.0, all_done f k net js ps ds z.1 h.1)
 
-  any_told : (f : DynBox X Global H → Record) (k : PlainScenario) (net : Network) (js : List (Job X H)) (ps : List PlainJob)
-      (rs : List (Result (job.Done X H) CellFault)) (e : CellFault) (Any : List PlainJob → Type 0)
+  any_told : (f : M → Record) (k : PlainScenario) (net : Network) (js : List (Job M)) (ps : List PlainJob)
+      (rs : List (Result (job.Done M) CellFault)) (e : CellFault) (Any : List PlainJob → Type 0)
       → ((p : PlainJob) (qs : List PlainJob) → TellsFault p.till p.cells e → Any (p ∷ qs))
       → ((p : PlainJob) (qs : List PlainJob) → Any qs → Any (p ∷ qs))
       → AllZip (λ j r. Advances f k net j r) js rs → AreJobs f js ps → (i : ℕ) → i < length rs → get_or rs i (Err e) ≡ Err e → Any ps
@@ -54,8 +53,8 @@ module _ {X : Type 0} {H : X → Type 0} where
   any_told f k net (j ∷ js) (p ∷ ps) (r ∷ rs) e Any here there z h (suc i) lt g =
       there p ps (any_told f k net js ps rs e Any here there z.1 h.1 i (omega arith) g)
 
-  pub each_advanced : (f : DynBox X Global H → Record) (k : PlainScenario)
-      (net : Network) (js : List (Job X H)) (r : Result (Vec (job.Done X H)) CellFault) → GathersEach (λ j r. Advances f k net j r) js r
+  pub each_advanced : (f : M → Record) (k : PlainScenario)
+      (net : Network) (js : List (Job M)) (r : Result (Vec (job.Done M)) CellFault) → GathersEach (λ j r. Advances f k net j r) js r
       → AdvanceEach f k net js r
   each_advanced f k net js (Ok v) g = record { tells = λ ps h. all_done f k net js ps v.items g h }
   each_advanced f k net js (Err cell.NoMemory) g = record { tells = λ ps h. tt }

@@ -1,8 +1,7 @@
 -- What workers tell of jobs, as a crew tells it.
 use Rattle.std.proofs.Common.{◌≡◌, ◌<◌, ◌≤◌, ◌^◌, ℕ, zero, suc, ◌+◌, ◌*◌, List, [], ◌∷◌, ◌++◌, length, slice_get, slice_index, Some, Result}
 use Rattle.std.proofs.Common.{Ok, Err, refl, sym, ap, ◌∙◌, subst, inl, inr, ⊎_elim, arith}
-use Rattle.std.specs.declared.dyn_box.DynBox.{DynBox}
-use Rattle.std.specs.Global.{Global, Vec}
+use Rattle.std.specs.Global.{Vec}
 use Rattle.srm_net.specs.Network.{Network}
 use Rattle.srm_scenario.specs.Plain.{PlainScenario}
 use Rattle.srm_member.specs.declared.row.Row.{Row}
@@ -25,17 +24,17 @@ use Rattle.srm_crew.proofs.Gathering.{all_done}
 use Rattle.srm_crew.proofs.Peeling.{lower, lower_times, peel}
 use Rattle.srm_crew.proofs.Sums.{crossings_long, none_crossed, word_of_added, rows_are, sum_is}
 
-module _ {X : Type 0} {H : X → Type 0} where
-  abbrev numbers : job.Done X H → List ℕ
+module _ {M : Type 0} where
+  abbrev numbers : job.Done M → List ℕ
   numbers d = d.crossings
 
-  sum_of_is : (k : ℕ) (ds : List (job.Done X H)) → sum_of numbers k ds ≡ sum_at k ds
+  sum_of_is : (k : ℕ) (ds : List (job.Done M)) → sum_of numbers k ds ≡ sum_at k ds
   sum_of_is k [] = refl
   sum_of_is k (d ∷ ds) = ap (λ n. counted_in d.crossings k + n) (sum_of_is k ds)
 
   -- rows of jobs that are done, each once at most, and their crossings
-  some_rows : (f : DynBox X Global H → Record) (k : PlainScenario) (net : Network) (js : List (Job X H)) (ps : List PlainJob)
-      (places : List ℕ) (ds : List (job.Done X H)) → AreJobs f js ps
+  some_rows : (f : M → Record) (k : PlainScenario) (net : Network) (js : List (Job M)) (ps : List PlainJob)
+      (places : List ℕ) (ds : List (job.Done M)) → AreJobs f js ps
       → ((p : ℕ) → times p places ≤ 1) → ComeOf (λ j r. Advances f k net j r) js places ds
       → (rows : List Row) × AreRowsOfSome ps rows × ((w : ℕ) → sum_of numbers w ds ≡ counted_in (crossings (traffic_of k net) rows) w)
   some_rows f k net [] [] [] [] h once z = ([], refl, λ w. sym (none_crossed (traffic_of k net) w))
@@ -43,7 +42,7 @@ module _ {X : Type 0} {H : X → Type 0} where
   some_rows f k net [] [] (p ∷ places) [] h once z = absurd z
   some_rows f k net [] [] (p ∷ places) (d ∷ ds) h once z = absurd (nothing_there p z.0.0 z.0.1)
     where
-      nothing_there : (p : ℕ) (j : Job X H) → slice_get [] p ≡ Some j → ⊥
+      nothing_there : (p : ℕ) (j : Job M) → slice_get [] p ≡ Some j → ⊥
       nothing_there p j e = cc
   some_rows f k net [] (p ∷ ps) places ds h once z = absurd h
   some_rows f k net (j ∷ js) [] places ds h once z = absurd h
@@ -55,7 +54,7 @@ module _ {X : Type 0} {H : X → Type 0} where
       ⊎_elim
       (λ (n : (times 0 places ≡ 0) × ((w : ℕ) → sum_of numbers w ds ≡ sum_of numbers w r.results)).
       (more.0, inl more.1, λ w. n.1 w ∙ more.2 w))
-      (λ (n : (times 0 places ≡ 1) × (d : job.Done X H) × Advances f k net j (Ok d)
+      (λ (n : (times 0 places ≡ 1) × (d : job.Done M) × Advances f k net j (Ok d)
       × ((w : ℕ) → sum_of numbers w ds ≡ counted_in (numbers d) w + sum_of numbers w r.results)).
       let done = n.2.tells p h.0 in
       let own = joined n.1.rows.items in (
@@ -69,14 +68,14 @@ module _ {X : Type 0} {H : X → Type 0} where
       ))
       r.first
 
-  one_told : (f : DynBox X Global H → Record) (k : PlainScenario) (net : Network) (js : List (Job X H)) (ps : List PlainJob) (e : CellFault)
+  one_told : (f : M → Record) (k : PlainScenario) (net : Network) (js : List (Job M)) (ps : List PlainJob) (e : CellFault)
       (Any : List PlainJob → Type 0)
       → ((p : PlainJob) (qs : List PlainJob) → TellsFault p.till p.cells e → Any (p ∷ qs))
       → ((p : PlainJob) (qs : List PlainJob) → Any qs → Any (p ∷ qs))
       → AreJobs f js ps → (place : ℕ) → HoldsAt (λ j. Advances f k net j (Err e)) js place → Any ps
   one_told f k net [] ps e Any here there h place z = absurd (nothing_there place z.0 z.1)
     where
-      nothing_there : (p : ℕ) (j : Job X H) → slice_get [] p ≡ Some j → ⊥
+      nothing_there : (p : ℕ) (j : Job M) → slice_get [] p ≡ Some j → ⊥
       nothing_there p j e = cc
   one_told f k net (j ∷ js) [] e Any here there h place z = absurd h
   one_told f k net (j ∷ js) (p ∷ ps) e Any here there h zero z =
@@ -84,7 +83,7 @@ module _ {X : Type 0} {H : X → Type 0} where
       here p ps ((subst (λ x. Advances f k net x (Err e)) same z.2).tells p h.0)
   one_told f k net (j ∷ js) (p ∷ ps) e Any here there h (suc place) z = there p ps (one_told f k net js ps e Any here there h.1 place z)
 
-  stops_told : (f : DynBox X Global H → Record) (k : PlainScenario) (net : Network) (seat : SeatView) (js : List (Job X H))
+  stops_told : (f : M → Record) (k : PlainScenario) (net : Network) (seat : SeatView) (js : List (Job M))
       (ps : List PlainJob) (e : CrewFault) → AreJobs f js ps
       → Stops (λ j r. Advances f k net j r) numbers js [] seat e → TellsMap f (traffic_of k net) seat ps (Err e)
   stops_told f k net seat js ps fault.NoMemory h s = tt
@@ -96,8 +95,8 @@ module _ {X : Type 0} {H : X → Type 0} where
       let rows = some_rows f k net js ps s.0 s.1 h s.2.0 s.3 in
       (rows.0, rows.1, (s.4.0, subst (λ n. 2 ^ 47 < slice_index seat.shares s.4.0 + n) (rows.2 s.4.0) s.4.1))
 
-  pub shared_maps : (f : DynBox X Global H → Record) (k : PlainScenario) (net : Network) (seat : SeatView) (js : List (Job X H))
-      (r : Result (Vec (job.Done X H) × SeatView) CrewFault)
+  pub shared_maps : (f : M → Record) (k : PlainScenario) (net : Network) (seat : SeatView) (js : List (Job M))
+      (r : Result (Vec (job.Done M) × SeatView) CrewFault)
       → TellsAll (λ j x. Advances f k net j x) numbers js seat r → Maps f k net seat js r
   shared_maps f k net seat js (Ok v) t = record {
     tells = λ ps h.
@@ -114,7 +113,7 @@ module _ {X : Type 0} {H : X → Type 0} where
   shared_maps f k net seat js (Err e) t = record { tells = λ ps h. stops_told f k net seat js ps e h t }
 
   -- a job that is done has five numbers for each link
-  pub done_long : (f : DynBox X Global H → Record) (k : PlainScenario) (net : Network) (n links : ℕ) (j : Job X H) (d : job.Done X H)
+  pub done_long : (f : M → Record) (k : PlainScenario) (net : Network) (n links : ℕ) (j : Job M) (d : job.Done M)
       → (traffic_of k net).links ≡ links → MayAdvance f n j → Advances f k net j (Ok d)
       → length d.crossings ≡ 5 * links
   done_long f k net n links j d e may a = let done = a.tells may.plain_job may.is in ap length done.crossings_are

@@ -1,8 +1,6 @@
 -- Jobs advanced one after the other: what is so after the first of them.
 use Rattle.std.proofs.Common.{◌≡◌, List, [], ◌∷◌, ◌++◌, refl, sym, subst, inl, inr, append_assoc, append-nil, Err}
 use Rattle.std.specs.List.{AllZip}
-use Rattle.std.specs.declared.dyn_box.DynBox.{DynBox}
-use Rattle.std.specs.Global.{Global}
 use Rattle.srm_member.specs.Record.{Record}
 use Rattle.srm_cell.specs.declared.job.Job.{Job}
 use Rattle.srm_cell.specs.declared.job.Done as job
@@ -13,34 +11,34 @@ use Rattle.srm_cell.specs.Cells.{StepOutcome, Stepped}
 use Rattle.srm_cell.specs.Jobs.{PlainJob, IsJob, IsDone, TellsDone}
 use Rattle.srm_crew.specs.Crews.{AreJobs, AnyEnds, TellsEach}
 
-module _ {X : Type 0} {H : X → Type 0} where
+module _ {M : Type 0} where
   -- where the jobs that are left are seen as these, what is done of all is what is done so far and then of them
-  pub record SoFar (f : DynBox X Global H → Record) (s : Traffic) (ps : List PlainJob) (all : List (job.Done X H))
-      (left : List (Job X H)) : Type 0 where
+  pub record SoFar (f : M → Record) (s : Traffic) (ps : List PlainJob) (all : List (job.Done M))
+      (left : List (Job M)) : Type 0 where
     pub rest : List PlainJob
     pub seen : AreJobs f left rest
-    pub done : (ds : List (job.Done X H)) → AllZip (λ p d. IsDone f s p d) rest ds → AllZip (λ p d. IsDone f s p d) ps (all ++ ds)
+    pub done : (ds : List (job.Done M)) → AllZip (λ p d. IsDone f s p d) rest ds → AllZip (λ p d. IsDone f s p d) ps (all ++ ds)
     pub ends : (o : StepOutcome Stepped) → AnyEnds o rest → AnyEnds o ps
 
-  pub so_far_none : (f : DynBox X Global H → Record) (s : Traffic) (ps : List PlainJob) (left : List (Job X H)) → AreJobs f left ps
+  pub so_far_none : (f : M → Record) (s : Traffic) (ps : List PlainJob) (left : List (Job M)) → AreJobs f left ps
       → SoFar f s ps [] left
   so_far_none f s ps left h = record { rest = ps; seen = h; done = λ ds z. z; ends = λ o e. e }
 
   -- the first of the jobs that are left
-  pub record First (f : DynBox X Global H → Record) (j : Job X H) (js : List (Job X H)) (rest : List PlainJob) : Type 0 where
+  pub record First (f : M → Record) (j : Job M) (js : List (Job M)) (rest : List PlainJob) : Type 0 where
     pub own : PlainJob
     pub others : List PlainJob
     pub is : rest ≡ own ∷ others
     pub job : IsJob f j own
     pub jobs : AreJobs f js others
 
-  pub first_of : (f : DynBox X Global H → Record) (j : Job X H) (js : List (Job X H)) (rest : List PlainJob) → AreJobs f (j ∷ js) rest
+  pub first_of : (f : M → Record) (j : Job M) (js : List (Job M)) (rest : List PlainJob) → AreJobs f (j ∷ js) rest
       → First f j js rest
   first_of f j js [] h = absurd h
   first_of f j js (p ∷ ps) h = record { own = p; others = ps; is = refl; job = h.0; jobs = h.1 }
 
-  pub so_far_more : (f : DynBox X Global H → Record) (s : Traffic) (ps : List PlainJob) (all : List (job.Done X H))
-      (left js : List (Job X H)) (j : Job X H) (d : job.Done X H)
+  pub so_far_more : (f : M → Record) (s : Traffic) (ps : List PlainJob) (all : List (job.Done M))
+      (left js : List (Job M)) (j : Job M) (d : job.Done M)
       → (h : SoFar f s ps all left) → (r : First f j js h.rest) → IsDone f s r.own d → SoFar f s ps (all ++ d ∷ []) js
   so_far_more f s ps all left js j d h r done = record {
     rest = r.others;
@@ -50,7 +48,7 @@ module _ {X : Type 0} {H : X → Type 0} where
     ends = λ o e. h.ends o (subst (AnyEnds o) (sym r.is) (inr e));
   }
 
-  pub so_far_all : (f : DynBox X Global H → Record) (s : Traffic) (ps : List PlainJob) (all : List (job.Done X H)) (left : List (Job X H))
+  pub so_far_all : (f : M → Record) (s : Traffic) (ps : List PlainJob) (all : List (job.Done M)) (left : List (Job M))
       → SoFar f s ps all left → left ≡ [] → AllZip (λ p d. IsDone f s p d) ps all
   so_far_all f s ps all left h e =
       let none = no_more h.rest (subst (λ js. AreJobs f js h.rest) e h.seen) in
@@ -62,8 +60,8 @@ module _ {X : Type 0} {H : X → Type 0} where
       no_more [] h = refl
       no_more (p ∷ ps) h = absurd h
 
-  pub so_far_fault : (f : DynBox X Global H → Record) (s : Traffic) (ps : List PlainJob) (all : List (job.Done X H))
-      (left js : List (Job X H)) (j : Job X H) (e : CellFault)
+  pub so_far_fault : (f : M → Record) (s : Traffic) (ps : List PlainJob) (all : List (job.Done M))
+      (left js : List (Job M)) (j : Job M) (e : CellFault)
       → (h : SoFar f s ps all left) → (r : First f j js h.rest) → TellsDone f s r.own (Err e) → TellsEach f s ps (Err e)
   so_far_fault f s ps all left js j cell.NoMemory h r t = tt
   so_far_fault f s ps all left js j cell.Spent h r t = h.ends _ (subst (AnyEnds _) (sym r.is) (inl t))

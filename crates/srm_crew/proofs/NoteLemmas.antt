@@ -2,8 +2,6 @@
 use Rattle.std.specs.Prelude.{IfOk}
 use Rattle.std.proofs.Common.{Result, Ok, Err, ◌≡◌, ◌<◌, ◌+◌, ℕ, List, [], ◌∷◌, ◌++◌, length, take, get_or, map, refl, sym, ap, ◌∙◌}
 use Rattle.std.proofs.lemmas.List.{take_more, map-append}
-use Rattle.std.specs.declared.dyn_box.DynBox.{DynBox}
-use Rattle.std.specs.Global.{Global}
 use Rattle.srm_member.specs.Record.{Record}
 use Rattle.srm_cell.specs.declared.job.Job.{Job}
 use Rattle.srm_cell.specs.Jobs.{PlainJob}
@@ -12,17 +10,17 @@ use Rattle.srm_crew.specs.declared.recording.Note.{Note}
 use Rattle.srm_crew.specs.Crews.{AreJobs}
 use Rattle.srm_crew.specs.Notes.{notes_of}
 
-module _ {X : Type 0} {H : X → Type 0} where
+module _ {M : Type 0} where
   -- the note of a job as it is
-  abbrev pub own_note : Job X H → Note
+  abbrev pub own_note : Job M → Note
   own_note j = record { place = j.place; till = j.till; cells = length j.cells.items }
 
-  pub notes_more : (js : List (Job X H)) (i : ℕ) (j : Job X H) → i < length js → j ≡ get_or js i j → map own_note (take i js)
+  pub notes_more : (js : List (Job M)) (i : ℕ) (j : Job M) → i < length js → j ≡ get_or js i j → map own_note (take i js)
       ++ own_note j ∷ [] ≡ map own_note (take (i + 1) js)
   notes_more js i j lt e = sym (ap (map own_note) (take_more js i j lt) ∙ map-append own_note (take i js) (get_or js i j ∷ [])
-      ∙ ap (λ (k : Job X H). map own_note (take i js) ++ own_note k ∷ []) (sym e))
+      ∙ ap (λ (k : Job M). map own_note (take i js) ++ own_note k ∷ []) (sym e))
 
-  pub notes_seen : (f : DynBox X Global H → Record) (js : List (Job X H)) (ps : List PlainJob) → AreJobs f js ps → map own_note js
+  pub notes_seen : (f : M → Record) (js : List (Job M)) (ps : List PlainJob) → AreJobs f js ps → map own_note js
       ≡ notes_of ps
   notes_seen f [] [] h = refl
   notes_seen f [] (p ∷ ps) h = absurd h

@@ -4,8 +4,6 @@ use Rattle.std.proofs.Common.{refl, sym, ap, ◌∙◌, arith, inr}
 use Rattle.std.specs.List.{AllZip, flat_map, range_with_len}
 use Rattle.std.proofs.lemmas.List.Elements.{All-nil, All-cons}
 use Rattle.std.proofs.lemmas.List.{take_more}
-use Rattle.std.specs.declared.dyn_box.DynBox.{DynBox}
-use Rattle.std.specs.Global.{Global}
 use Rattle.srm_net.specs.declared.packet.Packet.{Packet}
 use Rattle.srm_member.specs.declared.row.Row.{Row}
 use Rattle.srm_member.specs.Record.{Record}
@@ -50,33 +48,33 @@ none_crossed s (suc k) = ap (λ ns. slice_index ns k) (sym (nothing_counted s �
 
 -- ---- all that is done
 
-module _ {X : Type 0} {H : X → Type 0} where
-  sum_append : (k : ℕ) (xs ys : List (job.Done X H)) → sum_at k (xs ++ ys) ≡ sum_at k xs + sum_at k ys
+module _ {M : Type 0} where
+  sum_append : (k : ℕ) (xs ys : List (job.Done M)) → sum_at k (xs ++ ys) ≡ sum_at k xs + sum_at k ys
   sum_append k [] ys = omega arith
   sum_append k (x ∷ xs) ys = let e = sum_append k xs ys in omega (arith, e)
 
-  pub sum_more : (k : ℕ) (ds : List (job.Done X H)) (i : ℕ) (d : job.Done X H) → i < length ds → d ≡ get_or ds i d
+  pub sum_more : (k : ℕ) (ds : List (job.Done M)) (i : ℕ) (d : job.Done M) → i < length ds → d ≡ get_or ds i d
       → sum_at k (take (i + 1) ds) ≡ sum_at k (take i ds) + counted_in d.crossings k
   sum_more k ds i d lt e =
       ap (sum_at k) (take_more ds i d lt) ∙ sum_append k (take i ds) (get_or ds i d ∷ [])
-      ∙ ap (λ (x : job.Done X H). sum_at k (take i ds) + (counted_in x.crossings k + 0)) (sym e) ∙ (omega arith)
+      ∙ ap (λ (x : job.Done M). sum_at k (take i ds) + (counted_in x.crossings k + 0)) (sym e) ∙ (omega arith)
 
-  pub sum_some : (k : ℕ) (ds : List (job.Done X H)) (i : ℕ) (d : job.Done X H) → i < length ds → d ≡ get_or ds i d
+  pub sum_some : (k : ℕ) (ds : List (job.Done M)) (i : ℕ) (d : job.Done M) → i < length ds → d ≡ get_or ds i d
       → sum_at k (take i ds) + counted_in d.crossings k ≤ sum_at k ds
   sum_some k [] i d lt e = absurd (omega arith)
   sum_some k (x ∷ ds) zero d lt e = let same : counted_in d.crossings k ≡ counted_in x.crossings k =
-      ap (λ (y : job.Done X H). counted_in y.crossings k) e in omega (arith, same)
+      ap (λ (y : job.Done M). counted_in y.crossings k) e in omega (arith, same)
   sum_some k (x ∷ ds) (suc i) d lt e = let more = sum_some k ds i d (omega arith) e in omega (arith, more)
 
-  pub all_long : (f : DynBox X Global H → Record) (s : Traffic) (n : ℕ) (ps : List PlainJob) (ds : List (job.Done X H)) → s.links ≡ n
-      → AllZip (λ p d. IsDone f s p d) ps ds → All (λ (d : job.Done X H). length d.crossings ≡ 5 * n) ds
-  all_long f s n [] [] e z = All-nil (λ (d : job.Done X H). length d.crossings ≡ 5 * n)
+  pub all_long : (f : M → Record) (s : Traffic) (n : ℕ) (ps : List PlainJob) (ds : List (job.Done M)) → s.links ≡ n
+      → AllZip (λ p d. IsDone f s p d) ps ds → All (λ (d : job.Done M). length d.crossings ≡ 5 * n) ds
+  all_long f s n [] [] e z = All-nil (λ (d : job.Done M). length d.crossings ≡ 5 * n)
   all_long f s n [] (d ∷ ds) e z = absurd z
   all_long f s n (p ∷ ps) [] e z = absurd z
-  all_long f s n (p ∷ ps) (d ∷ ds) e z = All-cons (λ (d : job.Done X H). length d.crossings ≡ 5 * n) d ds
+  all_long f s n (p ∷ ps) (d ∷ ds) e z = All-cons (λ (d : job.Done M). length d.crossings ≡ 5 * n) d ds
       (ap length z.0.crossings_are ∙ crossings_long s (joined d.rows.items) ∙ ap (λ k. 5 * k) e) (all_long f s n ps ds e z.1)
 
-  pub sum_is : (f : DynBox X Global H → Record) (s : Traffic) (ps : List PlainJob) (ds : List (job.Done X H))
+  pub sum_is : (f : M → Record) (s : Traffic) (ps : List PlainJob) (ds : List (job.Done M))
       → AllZip (λ p d. IsDone f s p d) ps ds → (k : ℕ) → sum_at k ds ≡ counted_in (crossings s (rows_of ds)) k
   sum_is f s [] [] z k = sym (none_crossed s k)
   sum_is f s [] (d ∷ ds) z k = absurd z
@@ -89,7 +87,7 @@ module _ {X : Type 0} {H : X → Type 0} where
       ∙ word_of_added (crossings s own) (crossings s (rows_of ds)) (crossings_long s own ∙ sym (crossings_long s (rows_of ds))) k in
       omega (arith, one, more, both)
 
-  pub rows_are : (f : DynBox X Global H → Record) (end : ℕ) (qs : List OwnCell) (rows : List (List Row)) (cs : List (Cell X H))
+  pub rows_are : (f : M → Record) (end : ℕ) (qs : List OwnCell) (rows : List (List Row)) (cs : List (Cell M))
       → RanEach f end qs rows cs → AreRowsOf end qs (joined rows)
   rows_are f end [] [] [] h = refl
   rows_are f end [] [] (c ∷ cs) h = absurd h
@@ -98,7 +96,7 @@ module _ {X : Type 0} {H : X → Type 0} where
   rows_are f end (q ∷ qs) (r ∷ rs) [] h = absurd h
   rows_are f end (q ∷ qs) (r ∷ rs) (c ∷ cs) h = (r, joined rs, h.0.0, h.0.1, refl, rows_are f end qs rs cs h.1)
 
-  pub rows_of_all : (f : DynBox X Global H → Record) (s : Traffic) (ps : List PlainJob) (ds : List (job.Done X H))
+  pub rows_of_all : (f : M → Record) (s : Traffic) (ps : List PlainJob) (ds : List (job.Done M))
       → AllZip (λ p d. IsDone f s p d) ps ds → AreRowsOfSome ps (rows_of ds)
   rows_of_all f s [] [] z = refl
   rows_of_all f s [] (d ∷ ds) z = absurd z

@@ -1,8 +1,7 @@
 -- What crews are handed, and what they tell.
 use Rattle.std.specs.Prelude.{◌≡◌, ◌⊎◌, ◌<◌, ◌+◌, ◌^◌, ℕ, List, [], ◌∷◌, ◌++◌, slice_index, Result, Ok, Err}
 use Rattle.std.specs.List.{AllZip, Contains}
-use Rattle.std.specs.declared.dyn_box.DynBox.{DynBox}
-use Rattle.std.specs.Global.{Global, Vec}
+use Rattle.std.specs.Global.{Vec}
 use Rattle.srm_net.specs.Network.{Network}
 use Rattle.srm_scenario.specs.Plain.{PlainScenario}
 use Rattle.srm_member.specs.declared.row.Row.{Row}
@@ -66,38 +65,38 @@ AreRowsOfSome (p ∷ ps) rows =
     ⊎ ((own : List Row) × (more : List Row) × AreRowsOf p.till p.cells own × (rows ≡ own ++ more)
     × AreRowsOfSome ps more)
 
-module _ {X : Type 0} {H : X → Type 0} where
+module _ {M : Type 0} where
   -- the jobs are seen as these, where f is what is seen of a box
-  abbrev pub AreJobs : (DynBox X Global H → Record) → List (Job X H) → List PlainJob → Type 0
+  abbrev pub AreJobs : (M → Record) → List (Job M) → List PlainJob → Type 0
   AreJobs f js ps = AllZip (λ j p. IsJob f j p) js ps
 
   -- the rows of all that is done
-  abbrev pub rows_of : List (job.Done X H) → List Row
+  abbrev pub rows_of : List (job.Done M) → List Row
   rows_of [] = []
   rows_of (d ∷ ds) = joined d.rows.items ++ rows_of ds
 
   -- the numbers at a word of the crossings of all that is done, added up
-  abbrev pub sum_at : ℕ → List (job.Done X H) → ℕ
+  abbrev pub sum_at : ℕ → List (job.Done M) → ℕ
   sum_at k [] = 0
   sum_at k (d ∷ ds) = counted_in d.crossings k + sum_at k ds
 
   -- what advancing each job tells
-  abbrev pub TellsEach : (DynBox X Global H → Record) → Traffic → List PlainJob
-      → Result (Vec (job.Done X H)) CellFault → Type 0
+  abbrev pub TellsEach : (M → Record) → Traffic → List PlainJob
+      → Result (Vec (job.Done M)) CellFault → Type 0
   TellsEach f t ps (Ok v) = AllZip (λ p d. IsDone f t p d) ps v.items
   TellsEach f t ps (Err cell.NoMemory) = Unit {0}
   TellsEach f t ps (Err cell.Spent) = AnyEnds Spent ps
   TellsEach f t ps (Err cell.CountFull) = AnyEnds Full ps
 
   -- the same, of all jobs that they may be seen as
-  pub record AdvanceEach (f : DynBox X Global H → Record) (k : PlainScenario) (net : Network) (js : List (Job X H))
-      (r : Result (Vec (job.Done X H)) CellFault) : Type 0 where
+  pub record AdvanceEach (f : M → Record) (k : PlainScenario) (net : Network) (js : List (Job M))
+      (r : Result (Vec (job.Done M)) CellFault) : Type 0 where
     pub tells : (ps : List PlainJob) → AreJobs f js ps → TellsEach f (traffic_of k net) ps r
 
   -- what a crew's call tells: what is done of each job, and a seat grown by the crossings of all rows; or why not. A
   -- share is full where the crossings of some of the jobs' rows are too many for it
-  abbrev pub TellsMap : (DynBox X Global H → Record) → Traffic → SeatView → List PlainJob
-      → Result (Vec (job.Done X H) × SeatView) CrewFault → Type 0
+  abbrev pub TellsMap : (M → Record) → Traffic → SeatView → List PlainJob
+      → Result (Vec (job.Done M) × SeatView) CrewFault → Type 0
   TellsMap f t seat ps (Ok v) =
       AllZip (λ p d. IsDone f t p d) ps v.0.items × HasGrown (counted_in (crossings t (rows_of v.0.items))) seat v.1
   TellsMap f t seat ps (Err fault.NoMemory) = Unit {0}
@@ -107,6 +106,6 @@ module _ {X : Type 0} {H : X → Type 0} where
   TellsMap f t seat ps (Err fault.CountFull) = AnyEnds Full ps
 
   -- the same, of all jobs that they may be seen as
-  pub record Maps (f : DynBox X Global H → Record) (k : PlainScenario) (net : Network) (seat : SeatView) (js : List
-      (Job X H)) (r : Result (Vec (job.Done X H) × SeatView) CrewFault) : Type 0 where
+  pub record Maps (f : M → Record) (k : PlainScenario) (net : Network) (seat : SeatView) (js : List
+      (Job M)) (r : Result (Vec (job.Done M) × SeatView) CrewFault) : Type 0 where
     pub tells : (ps : List PlainJob) → AreJobs f js ps → TellsMap f (traffic_of k net) seat ps r

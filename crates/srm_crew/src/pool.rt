@@ -61,8 +61,8 @@ pub(crate) fn advance_in_pool(
         alloc,
         jobs,
         move |job: Job| -> Result<Done, CellFault>
-            requires { MayAdvance (λ b. plain (b.vtable, b.value)) (length net.now.hosts) job }
-            ensures { Advances (λ b. plain (b.vtable, b.value)) scenario.entry.now net.entry.now job result }
+            requires { MayAdvance (λ b. plain b) (length net.now.hosts) job }
+            ensures { Advances (λ b. plain b) scenario.entry.now net.entry.now job result }
         { advance(alloc, scenario, net, job) },
     )
 }

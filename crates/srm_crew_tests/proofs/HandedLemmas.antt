@@ -4,8 +4,7 @@ use Rattle.std.proofs.Common.{add-zero, zero-add, add-one, All, length-append}
 use Rattle.std.specs.List.{AllZip, range_with_len}
 use Rattle.std.proofs.lemmas.List.{map-append}
 use Rattle.std.proofs.lemmas.List.Elements.{All-nil, All-cons, All-head, All-tail, All-push}
-use Rattle.std.specs.declared.dyn_box.DynBox.{DynBox}
-use Rattle.std.specs.Global.{Global, Vec}
+use Rattle.std.specs.Global.{Vec}
 use Rattle.srm_net.specs.Network.{Network}
 use Rattle.srm_scenario.specs.Plain.{PlainScenario}
 use Rattle.srm_member.specs.declared.row.Row.{Row}
@@ -29,18 +28,18 @@ range_more a (suc n) =
     let shift : a + 1 + n ≡ a + suc n = omega arith in
     ap (λ l. a ∷ l) (range_more (a + 1) n ∙ ap (λ k. range_with_len (a + 1) n ++ k ∷ []) shift)
 
-module _ {X : Type 0} {H : X → Type 0} (f : DynBox X Global H → Record) (n : ℕ) where
+module _ {M : Type 0} (f : M → Record) (n : ℕ) where
   -- ---- jobs
 
-  pub none_handed : MayMap {X = X} {H = H} f n []
-  none_handed = record { jobs = All-nil (λ (j : Job X H). MayAdvance f n j); places = refl; few = omega arith }
+  pub none_handed : MayMap {M = M} f n []
+  none_handed = record { jobs = All-nil (λ (j : Job M). MayAdvance f n j); places = refl; few = omega arith }
 
-  pub one_more : (js : List (Job X H)) (j : Job X H) → MayMap f n js → j.place ≡ length js → length js < 1024 → MayAdvance f n j
+  pub one_more : (js : List (Job M)) (j : Job M) → MayMap f n js → j.place ≡ length js → length js < 1024 → MayAdvance f n j
       → MayMap f n (js ++ j ∷ [])
   one_more js j h at few may = record {
-    jobs = All-push (λ (j : Job X H). MayAdvance f n j) js j h.jobs may;
+    jobs = All-push (λ (j : Job M). MayAdvance f n j) js j h.jobs may;
     places =
-        map-append (λ (j : Job X H). j.place) js (j ∷ []) ∙ ap (λ l. l ++ j.place ∷ []) h.places
+        map-append (λ (j : Job M). j.place) js (j ∷ []) ∙ ap (λ l. l ++ j.place ∷ []) h.places
         ∙ ap (λ k. range_with_len 0 (length js) ++ k ∷ []) (at ∙ sym (zero-add (length js)))
         ∙ sym (ap (λ k. range_with_len 0 k) (length-append js (j ∷ []) ∙ add-one (length js)) ∙ range_more 0 (length js));
     few = (let long = length-append js (j ∷ []) in omega arith);
@@ -48,7 +47,7 @@ module _ {X : Type 0} {H : X → Type 0} (f : DynBox X Global H → Record) (n :
 
   -- ---- what is done
 
-  pub may_go_on : (j : Job X H) → AreKnown f n j.cells.items → j.till ≤ end_of_time → MayAdvance f n j
+  pub may_go_on : (j : Job M) → AreKnown f n j.cells.items → j.till ≤ end_of_time → MayAdvance f n j
   may_go_on j known soon = record {
     plain_job = record { place = j.place; till = j.till; cells = known.seen };
     is = record { place = refl; till = refl; cells = known.are };
@@ -57,11 +56,11 @@ module _ {X : Type 0} {H : X → Type 0} (f : DynBox X Global H → Record) (n :
     of_members = known.of_members;
   }
 
-  pub none_known : AreKnown {X = X} {H = H} f n []
+  pub none_known : AreKnown {M = M} f n []
   none_known = record { seen = []; are = tt; of_members = tt; few = omega arith }
 
   -- a new cell of a member, alone
-  pub new_known : (r : Record) (script : List Mark) (sent : ℕ) (c : Cell X H) (cs : List (Cell X H)) → cs ≡ c ∷ [] → IsNew f r script sent c
+  pub new_known : (r : Record) (script : List Mark) (sent : ℕ) (c : Cell M) (cs : List (Cell M)) → cs ≡ c ∷ [] → IsNew f r script sent c
       → (fixed_part r).member < n → AreKnown f n cs
   new_known r script sent c cs e new lt = record {
     seen = record { member = (fixed_part r).member; cell = new_cell r script sent } ∷ [];
@@ -70,7 +69,7 @@ module _ {X : Type 0} {H : X → Type 0} (f : DynBox X Global H → Record) (n :
     few = omega arith;
   }
 
-  ran_cells : (end : ℕ) (qs : List OwnCell) (rows : List (List Row)) (cs : List (Cell X H)) → RanEach f end qs rows cs → AreMembers n qs
+  ran_cells : (end : ℕ) (qs : List OwnCell) (rows : List (List Row)) (cs : List (Cell M)) → RanEach f end qs rows cs → AreMembers n qs
       → (rs : List OwnCell) × AreCells f cs rs × AreMembers n rs × (length rs ≡ length qs)
   ran_cells end [] [] [] h m = ([], tt, tt, refl)
   ran_cells end [] [] (c ∷ cs) h m = absurd h
@@ -86,33 +85,33 @@ module _ {X : Type 0} {H : X → Type 0} (f : DynBox X Global H → Record) (n :
   Fit [] = Unit {0}
   Fit (p ∷ ps) = ((length p.cells ≤ 1024) × AreMembers n p.cells) × Fit ps
 
-  fit_jobs : (js : List (Job X H)) → All (λ j. MayAdvance f n j) js → (ps : List PlainJob) × AreJobs f js ps × Fit ps
+  fit_jobs : (js : List (Job M)) → All (λ j. MayAdvance f n j) js → (ps : List PlainJob) × AreJobs f js ps × Fit ps
   fit_jobs [] h = ([], tt, tt)
   fit_jobs (j ∷ js) h =
       let one = All-head (λ j. MayAdvance f n j) j js h in
       let more = fit_jobs js (All-tail (λ j. MayAdvance f n j) j js h) in
       (one.plain_job ∷ more.0, (one.is, more.1), ((one.few, one.of_members), more.2))
 
-  known_cells : (t : Traffic) (ps : List PlainJob) (ds : List (job.Done X H)) → AllZip (λ p d. IsDone f t p d) ps ds → Fit ps
-      → All (λ (d : job.Done X H). AreKnown f n d.cells.items) ds
-  known_cells t [] [] z fit = All-nil (λ (d : job.Done X H). AreKnown f n d.cells.items)
+  known_cells : (t : Traffic) (ps : List PlainJob) (ds : List (job.Done M)) → AllZip (λ p d. IsDone f t p d) ps ds → Fit ps
+      → All (λ (d : job.Done M). AreKnown f n d.cells.items) ds
+  known_cells t [] [] z fit = All-nil (λ (d : job.Done M). AreKnown f n d.cells.items)
   known_cells t [] (d ∷ ds) z fit = absurd z
   known_cells t (p ∷ ps) [] z fit = absurd z
   known_cells t (p ∷ ps) (d ∷ ds) z fit =
       let one = ran_cells p.till p.cells d.rows.items d.cells.items z.0.runs fit.0.1 in
       let more = known_cells t ps ds z.1 fit.1 in
       let few : length one.0 ≤ 1024 = (let e = one.3 in let le = fit.0.0 in omega arith) in
-      All-cons (λ (d : job.Done X H). AreKnown f n d.cells.items) d ds (record { seen = one.0; are = one.1; of_members = one.2; few = few })
+      All-cons (λ (d : job.Done M). AreKnown f n d.cells.items) d ds (record { seen = one.0; are = one.1; of_members = one.2; few = few })
       more
 
   -- the cells of what a crew has done of such jobs are cells of members
-  pub known_done : (k : PlainScenario) (net : Network) (seat : SeatView) (js : List (Job X H)) (r : Vec (job.Done X H) × SeatView)
+  pub known_done : (k : PlainScenario) (net : Network) (seat : SeatView) (js : List (Job M)) (r : Vec (job.Done M) × SeatView)
       → MayMap f n js → Maps f k net seat js (Ok r)
-      → All (λ (d : job.Done X H). AreKnown f n d.cells.items) r.0.items
+      → All (λ (d : job.Done M). AreKnown f n d.cells.items) r.0.items
   known_done k net seat js r h m = let fit = fit_jobs js h.jobs in known_cells (traffic_of k net) fit.0 r.0.items
       (m.tells fit.0 fit.1).0 fit.2
 
   -- the seat is still one of its ledger
-  pub same_ledger : (k : PlainScenario) (net : Network) (seat : SeatView) (js : List (Job X H)) (r : Vec (job.Done X H) × SeatView)
+  pub same_ledger : (k : PlainScenario) (net : Network) (seat : SeatView) (js : List (Job M)) (r : Vec (job.Done M) × SeatView)
       → MayMap f n js → Maps f k net seat js (Ok r) → r.1.ledger ≡ seat.ledger
   same_ledger k net seat js r h m = let fit = fit_jobs js h.jobs in (m.tells fit.0 fit.1).1.ledger

@@ -1,23 +1,21 @@
 -- Jobs as crews may be handed them.
 use Rattle.std.specs.Prelude.{◌≡◌, ◌≤◌, ℕ, List, length, map, All}
 use Rattle.std.specs.List.{range_with_len}
-use Rattle.std.specs.declared.dyn_box.DynBox.{DynBox}
-use Rattle.std.specs.Global.{Global}
 use Rattle.srm_net.specs.Limits.{most_nodes}
 use Rattle.srm_member.specs.Record.{Record}
 use Rattle.srm_cell.specs.declared.job.Job.{Job}
 use Rattle.srm_cell.specs.declared.cell.Cell.{Cell}
 use Rattle.srm_cell.specs.Jobs.{OwnCell, AreMembers, AreCells, MayAdvance}
 
-module _ {X : Type 0} {H : X → Type 0} where
+module _ {M : Type 0} where
   -- a crew may be handed these jobs: each may be advanced, they stand in the order of their places, and are few
-  pub record MayMap (f : DynBox X Global H → Record) (members : ℕ) (js : List (Job X H)) : Type 0 where
+  pub record MayMap (f : M → Record) (members : ℕ) (js : List (Job M)) : Type 0 where
     pub jobs : All (λ j. MayAdvance f members j) js
     pub places : map (λ j. j.place) js ≡ range_with_len 0 (length js)
     pub few : length js ≤ most_nodes
 
   -- these are cells of so many members, and few
-  pub record AreKnown (f : DynBox X Global H → Record) (members : ℕ) (cs : List (Cell X H)) : Type 0 where
+  pub record AreKnown (f : M → Record) (members : ℕ) (cs : List (Cell M)) : Type 0 where
     pub seen : List OwnCell
     pub are : AreCells f cs seen
     pub of_members : AreMembers members seen

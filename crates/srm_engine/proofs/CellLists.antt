@@ -5,8 +5,7 @@ use Rattle.std.proofs.Common.{append_assoc}
 use Rattle.std.proofs.Math.Nat.{suc-mul}
 use Rattle.std.proofs.lemmas.List.{map-append}
 use native.Mathlib.Nat.{div-add-mod', mod-lt}
-use Rattle.std.specs.declared.dyn_box.DynBox.{DynBox}
-use Rattle.std.specs.Global.{Global, Vec}
+use Rattle.std.specs.Global.{Vec}
 use Rattle.srm_member.specs.Record.{Record}
 use Rattle.srm_cell.specs.declared.cell.Cell.{Cell}
 use Rattle.srm_cell.specs.Cells.{PlainCell}
@@ -17,13 +16,13 @@ use Rattle.srm_engine.specs.Groups.{numbered, AreCuts, AreFull, sizes, all_in}
 use Rattle.srm_model.proofs.RunLemmas.{shifted}
 use Rattle.srm_engine.proofs.SeenLemmas.{same_some}
 
-module _ {X : Type 0} {H : X → Type 0} (f : DynBox X Global H → Record) where
+module _ {M : Type 0} (f : M → Record) where
   -- the cells are those of member i and on
-  abbrev pub AreFrom : ℕ → List (Cell X H) → List PlainCell → Type 0
+  abbrev pub AreFrom : ℕ → List (Cell M) → List PlainCell → Type 0
   AreFrom i cs ps = cell.AreCells f cs (numbered i ps)
 
-  from_each : (i : ℕ) (cs : List (Cell X H)) (ps : List PlainCell) → length cs ≡ length ps
-      → ((j : ℕ) (c : Cell X H) (p : PlainCell) → slice_get cs j ≡ Some c → slice_get ps j ≡ Some p → IsCell f (i + j) c p)
+  from_each : (i : ℕ) (cs : List (Cell M)) (ps : List PlainCell) → length cs ≡ length ps
+      → ((j : ℕ) (c : Cell M) (p : PlainCell) → slice_get cs j ≡ Some c → slice_get ps j ≡ Some p → IsCell f (i + j) c p)
       → AreFrom i cs ps
   from_each i [] [] len each = tt
   from_each i [] (p ∷ ps) len each = absurd (omega arith)
@@ -32,13 +31,13 @@ module _ {X : Type 0} {H : X → Type 0} (f : DynBox X Global H → Record) wher
       let first : IsCell f i c p = rw add-zero at (each 0 c p refl refl) in
       (first, from_each (suc i) cs ps (omega arith) (λ j d q a b. subst (λ k. IsCell f k d q) (shifted i j) (each (suc j) d q a b)))
 
-  pub as_many_from : (i : ℕ) (cs : List (Cell X H)) (ps : List PlainCell) → AreFrom i cs ps → length cs ≡ length ps
+  pub as_many_from : (i : ℕ) (cs : List (Cell M)) (ps : List PlainCell) → AreFrom i cs ps → length cs ≡ length ps
   as_many_from i [] [] h = refl
   as_many_from i [] (p ∷ ps) h = absurd h
   as_many_from i (c ∷ cs) [] h = absurd h
   as_many_from i (c ∷ cs) (p ∷ ps) h = ap suc (as_many_from (suc i) cs ps h.1)
 
-  pub each_from : (i : ℕ) (cs : List (Cell X H)) (ps : List PlainCell) → AreFrom i cs ps → (j : ℕ) (c : Cell X H) (p : PlainCell)
+  pub each_from : (i : ℕ) (cs : List (Cell M)) (ps : List PlainCell) → AreFrom i cs ps → (j : ℕ) (c : Cell M) (p : PlainCell)
       → slice_get cs j ≡ Some c → slice_get ps j ≡ Some p → IsCell f (i + j) c p
   each_from i [] [] h j c p a b = cc
   each_from i [] (q ∷ ps) h j c p a b = absurd h
@@ -48,10 +47,10 @@ module _ {X : Type 0} {H : X → Type 0} (f : DynBox X Global H → Record) wher
       rw add-zero one
   each_from i (x ∷ cs) (q ∷ ps) h (suc j) c p a b = subst (λ k. IsCell f k c p) (sym (shifted i j)) (each_from (suc i) cs ps h.1 j c p a b)
 
-  pub from_seen : (cs : List (Cell X H)) (ps : List PlainCell) → AreCells f cs ps → AreFrom 0 cs ps
+  pub from_seen : (cs : List (Cell M)) (ps : List PlainCell) → AreCells f cs ps → AreFrom 0 cs ps
   from_seen cs ps h = from_each 0 cs ps h.as_many (λ j c p a b. subst (λ k. IsCell f k c p) (sym (zero-add j)) (h.each j c p a b))
 
-  pub seen_from : (cs : List (Cell X H)) (ps : List PlainCell) → AreFrom 0 cs ps → AreCells f cs ps
+  pub seen_from : (cs : List (Cell M)) (ps : List PlainCell) → AreFrom 0 cs ps → AreCells f cs ps
   seen_from cs ps h = record {
     as_many = as_many_from 0 cs ps h;
     each =
@@ -65,7 +64,7 @@ module _ {X : Type 0} {H : X → Type 0} (f : DynBox X Global H → Record) wher
 
   -- ---- some cells and others after them
 
-  pub split_from : (i : ℕ) (cs ds : List (Cell X H)) (ps : List PlainCell) → AreFrom i (cs ++ ds) ps → AreFrom i cs (take (length cs) ps)
+  pub split_from : (i : ℕ) (cs ds : List (Cell M)) (ps : List PlainCell) → AreFrom i (cs ++ ds) ps → AreFrom i cs (take (length cs) ps)
       × AreFrom (i + length cs) ds (drop (length cs) ps)
   split_from i [] ds ps h = (tt, rw add-zero h)
   split_from i (c ∷ cs) ds [] h = absurd h
@@ -73,7 +72,7 @@ module _ {X : Type 0} {H : X → Type 0} (f : DynBox X Global H → Record) wher
       let r = split_from (suc i) cs ds ps h.1 in
       ((h.0, r.0), subst (λ k. AreFrom k ds (drop (length cs) ps)) (sym (shifted i (length cs))) r.1)
 
-  pub join_from : (i : ℕ) (cs ds : List (Cell X H)) (ps qs : List PlainCell) → AreFrom i cs ps → AreFrom (i + length ps) ds qs
+  pub join_from : (i : ℕ) (cs ds : List (Cell M)) (ps qs : List PlainCell) → AreFrom i cs ps → AreFrom (i + length ps) ds qs
       → AreFrom i (cs ++ ds) (ps ++ qs)
   join_from i [] ds [] qs h g = rw add-zero at g
   join_from i [] ds (p ∷ ps) qs h g = absurd h

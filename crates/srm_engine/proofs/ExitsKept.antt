@@ -1,8 +1,6 @@
 -- A member that is gone has left its exit.
 use Rattle.std.proofs.Common.{◌≡◌, ℕ, zero, suc, ◌+◌, Bool, true, false, cond, List, [], ◌∷◌, ◌++◌, ◌==◌, length, Option, Some, None}
 use Rattle.std.proofs.Common.{Err, refl, sym, ap, ◌∙◌, subst, slice_get, nat_lt, le_refl, arith, zero-add}
-use Rattle.std.specs.declared.dyn_box.DynBox.{DynBox}
-use Rattle.std.specs.Global.{Global}
 use Rattle.srm_net.specs.declared.packet.Body.{Body}
 use Rattle.srm_net.specs.declared.packet.Packet.{Packet}
 use Rattle.srm_member.specs.declared.cause.Cause.{Cause}
@@ -109,9 +107,9 @@ module _ (s : Setting) where
 
 -- ---- the cells of the engine
 
-module _ {X : Type 0} {H : X → Type 0} (f : DynBox X Global H → Record) where
-  all_end_from : (i : ℕ) (cs : List (Cell X H)) (ps : List PlainCell) → length cs ≡ length ps
-      → ((j : ℕ) (c : Cell X H) (p : PlainCell) → slice_get cs j ≡ Some c → slice_get ps j ≡ Some p → IsCell f (i + j) c p) → AllIn Kept ps
+module _ {M : Type 0} (f : M → Record) where
+  all_end_from : (i : ℕ) (cs : List (Cell M)) (ps : List PlainCell) → length cs ≡ length ps
+      → ((j : ℕ) (c : Cell M) (p : PlainCell) → slice_get cs j ≡ Some c → slice_get ps j ≡ Some p → IsCell f (i + j) c p) → AllIn Kept ps
       → AllEnd f cs
   all_end_from i [] ps len each kept = tt
   all_end_from i (c ∷ cs) [] len each kept = absurd (omega arith)
@@ -124,7 +122,7 @@ module _ {X : Type 0} {H : X → Type 0} (f : DynBox X Global H → Record) wher
       shift i j = omega arith
 
   -- each cell of an engine in a reached world has a member, or the exit of one that left
-  pub all_end : (s : Setting) (cs : List (Cell X H)) (w : World) → IsReached s w → AreCells f cs w.cells → AllEnd f cs
+  pub all_end : (s : Setting) (cs : List (Cell M)) (w : World) → IsReached s w → AreCells f cs w.cells → AllEnd f cs
   all_end s cs w r h = all_end_from 0 cs w.cells h.as_many (λ j c p a b. subst (λ k. IsCell f k c p) (sym (zero-add j)) (h.each j c p a b))
       (kept_reached s w r)
 

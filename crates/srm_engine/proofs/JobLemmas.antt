@@ -5,8 +5,7 @@ use Rattle.std.proofs.Common.{IsPermutation}
 use Rattle.std.specs.List.{AllZip, range_with_len}
 use Rattle.std.proofs.lemmas.List.{map-append, take-append-drop}
 use Rattle.std.proofs.lemmas.List.Elements.{All-nil, All-cons, All-head, All-tail}
-use Rattle.std.specs.declared.dyn_box.DynBox.{DynBox}
-use Rattle.std.specs.Global.{Global, Vec}
+use Rattle.std.specs.Global.{Vec}
 use Rattle.srm_member.specs.declared.row.Row.{Row}
 use Rattle.srm_member.specs.Record.{Record}
 use Rattle.srm_ledger.specs.Seats.{LedgerView, SeatView}
@@ -124,10 +123,10 @@ any_cell o cut end cs h =
     let r = some_job o (length cs) cut end 0 0 cs h in
     (r.0, r.1, r.2, (r.3.0, ap (λ m. own_end end m r.3.0 r.1) (sym (zero-add r.0)) ∙ r.3.1))
 
-module _ {X : Type 0} {H : X → Type 0} (f : DynBox X Global H → Record) where
+module _ {M : Type 0} (f : M → Record) where
   -- ---- jobs of groups
 
-  pub are_jobs : (cut till place i : ℕ) (gs : List (Vec (Cell X H))) (ps : List PlainCell) → 0 < cut → AreCuts cut (sizes gs)
+  pub are_jobs : (cut till place i : ℕ) (gs : List (Vec (Cell M))) (ps : List PlainCell) → 0 < cut → AreCuts cut (sizes gs)
       → AreFrom f i (all_in gs) ps
       → AreJobs f (jobs_with till place gs) (handed_jobs i (jobs_from cut till place ps))
   are_jobs cut till place i [] [] pos cuts h = tt
@@ -164,27 +163,27 @@ module _ {X : Type 0} {H : X → Type 0} (f : DynBox X Global H → Record) wher
           let none : length (all_in gs) ≡ 0 = ap (λ l. length (all_in l)) (no_more_groups gs e) in
           inr (a.most, omega arith)
 
-  may_all : (n : ℕ) (js : List (Job X H)) (ps : List cell.PlainJob) → AreJobs f js ps → Fits n ps
-      → All (λ (j : Job X H). cell.MayAdvance f n j) js
-  may_all n [] [] h k = All-nil (λ (j : Job X H). cell.MayAdvance f n j)
+  may_all : (n : ℕ) (js : List (Job M)) (ps : List cell.PlainJob) → AreJobs f js ps → Fits n ps
+      → All (λ (j : Job M). cell.MayAdvance f n j) js
+  may_all n [] [] h k = All-nil (λ (j : Job M). cell.MayAdvance f n j)
   may_all n [] (p ∷ ps) h k = absurd h
   may_all n (j ∷ js) [] h k = absurd h
   may_all n (j ∷ js) (p ∷ ps) h k =
-      All-cons (λ (j : Job X H). cell.MayAdvance f n j) j js
+      All-cons (λ (j : Job M). cell.MayAdvance f n j) j js
       (record { plain_job = p; is = h.0; till = k.0.0; few = k.0.1; of_members = k.0.2 }) (may_all n js ps h.1 k.1)
 
-  pub may_advance : (cut till n : ℕ) (gs : List (Vec (Cell X H))) (ps : List PlainCell) → 0 < cut → cut ≤ 1024 → till ≤ end_of_time
+  pub may_advance : (cut till n : ℕ) (gs : List (Vec (Cell M))) (ps : List PlainCell) → 0 < cut → cut ≤ 1024 → till ≤ end_of_time
       → length ps ≤ n → AreCuts cut (sizes gs) → AreFrom f 0 (all_in gs) ps
-      → All (λ (j : Job X H). cell.MayAdvance f n j) (jobs_with till 0 gs)
+      → All (λ (j : Job M). cell.MayAdvance f n j) (jobs_with till 0 gs)
   may_advance cut till n gs ps pos few small le cuts h =
       may_all n (jobs_with till 0 gs) _ (are_jobs cut till 0 0 gs ps pos cuts h)
       (fits (length ps) cut till 0 0 n ps small few (omega arith))
 
-  pub as_many_jobs : (till place : ℕ) (gs : List (Vec (Cell X H))) → length (jobs_with till place gs) ≡ length gs
+  pub as_many_jobs : (till place : ℕ) (gs : List (Vec (Cell M))) → length (jobs_with till place gs) ≡ length gs
   as_many_jobs till place [] = refl
   as_many_jobs till place (g ∷ gs) = ap suc (as_many_jobs till (suc place) gs)
 
-  pub places_with : (till place : ℕ) (gs : List (Vec (Cell X H))) → map (λ (j : Job X H). j.place) (jobs_with till place gs)
+  pub places_with : (till place : ℕ) (gs : List (Vec (Cell M))) → map (λ (j : Job M). j.place) (jobs_with till place gs)
       ≡ range_with_len place (length gs)
   places_with till place [] = refl
   places_with till place (g ∷ gs) = ap (λ l. place ∷ l) (places_with till (suc place) gs
@@ -192,7 +191,7 @@ module _ {X : Type 0} {H : X → Type 0} (f : DynBox X Global H → Record) wher
 
   -- ---- what is done
 
-  own_results : (end i : ℕ) (cs : List PlainCell) (lists : List (List Row)) (after : List (Cell X H))
+  own_results : (end i : ℕ) (cs : List PlainCell) (lists : List (List Row)) (after : List (Cell M))
       → cell.RanEach f end (numbered i cs) lists after
       → (rs : List OwnResult) × AreOwnRuns end i cs rs × AreFrom f i after (cells_in rs) × (lists ≡ rows_in rs)
   own_results end i [] [] [] h = ([], tt, tt, refl)
@@ -204,7 +203,7 @@ module _ {X : Type 0} {H : X → Type 0} (f : DynBox X Global H → Record) wher
       let more = own_results end (suc i) cs lists after h.1 in
       (record { rows = r; cell = h.0.0 } ∷ more.0, (h.0.1, more.1), (h.0.2, more.2), ap (λ l. r ∷ l) more.3)
 
-  pub job_results : (t : Traffic) (i : ℕ) (js : List WindowJob) (ds : List (job.Done X H))
+  pub job_results : (t : Traffic) (i : ℕ) (js : List WindowJob) (ds : List (job.Done M))
       → AllZip (λ p d. cell.IsDone f t p d) (handed_jobs i js) ds
       → (rss : List (List OwnResult)) × AreJobRuns i js rss × AreFrom f i (all_in (groups_of ds)) (cells_in (joined rss))
       × (lists_of ds ≡ rows_in (joined rss))
@@ -228,7 +227,7 @@ module _ {X : Type 0} {H : X → Type 0} (f : DynBox X Global H → Record) wher
         ap (λ n. n ∷ sizes (groups_of ds)) size ∙ ap (λ l. length j.cells ∷ l) more.4,
       )
 
-  sizes_are : (till place i : ℕ) (gs : List (Vec (Cell X H))) (js : List WindowJob) → AreJobs f (jobs_with till place gs) (handed_jobs i js)
+  sizes_are : (till place i : ℕ) (gs : List (Vec (Cell M))) (js : List WindowJob) → AreJobs f (jobs_with till place gs) (handed_jobs i js)
       → sizes gs ≡ map (λ (j : WindowJob). length j.cells) js
   sizes_are till place i [] [] h = refl
   sizes_are till place i [] (j ∷ js) h = absurd h
@@ -238,12 +237,12 @@ module _ {X : Type 0} {H : X → Type 0} (f : DynBox X Global H → Record) wher
       ∙ ap (λ l. length j.cells ∷ l) (sizes_are till (suc place) (i + length j.cells) gs js h.1)
 
   -- the groups keep their sizes
-  pub cuts_kept : (cut till : ℕ) (gs : List (Vec (Cell X H))) (js : List WindowJob) (ds : List (job.Done X H)) → AreCuts cut (sizes gs)
+  pub cuts_kept : (cut till : ℕ) (gs : List (Vec (Cell M))) (js : List WindowJob) (ds : List (job.Done M)) → AreCuts cut (sizes gs)
       → AreJobs f (jobs_with till 0 gs) (handed_jobs 0 js)
       → sizes (groups_of ds) ≡ map (λ (j : WindowJob). length j.cells) js → AreCuts cut (sizes (groups_of ds))
   cuts_kept cut till gs js ds cuts h e = subst (AreCuts cut) (sizes_are till 0 0 gs js h ∙ sym e) cuts
 
-  pub rows_joined : (ds : List (job.Done X H)) → rows_of ds ≡ joined (lists_of ds)
+  pub rows_joined : (ds : List (job.Done M)) → rows_of ds ≡ joined (lists_of ds)
   rows_joined [] = refl
   rows_joined (d ∷ ds) = ap (λ l. joined d.rows.items ++ l) (rows_joined ds) ∙ sym (joined-append d.rows.items (lists_of ds))
 

@@ -2,8 +2,6 @@
 use Rattle.std.proofs.Common.{◌≡◌, ◌⊎◌, ℕ, zero, suc, ◌+◌, ◌*◌, ◌<◌, List, [], ◌∷◌, ◌++◌, length, replicate, Some, inl, inr, refl}
 use Rattle.std.proofs.Common.{sym, ap, ◌∙◌, subst, slice_get, arith, length-append, add-one}
 use Rattle.std.specs.List.{flat_map, range_with_len}
-use Rattle.std.specs.declared.dyn_box.DynBox.{DynBox}
-use Rattle.std.specs.Global.{Global}
 use Rattle.srm_net.specs.Network.{Network}
 use Rattle.srm_scenario.specs.declared.mark.Mark.{Mark}
 use Rattle.srm_scenario.specs.Plain.{PlainScenario, script_of}
@@ -41,8 +39,8 @@ get_short [] y j h = cc
 get_short (x ∷ xs) y zero h = omega arith
 get_short (x ∷ xs) y (suc j) h = let g = get_short xs y j h in omega arith
 
-module _ {X : Type 0} {H : X → Type 0} where
-  pub more_cells : (f : DynBox X Global H → Record) (cs : List (Cell X H)) (ps : List PlainCell) (c : Cell X H) (q : PlainCell)
+module _ {M : Type 0} where
+  pub more_cells : (f : M → Record) (cs : List (Cell M)) (ps : List PlainCell) (c : Cell M) (q : PlainCell)
       → AreCells f cs ps → IsCell f (length ps) c q → AreCells f (cs ++ c ∷ []) (ps ++ q ∷ [])
   more_cells f cs ps c q h is = record {
     as_many = length-append cs (c ∷ []) ∙ ap (λ n. n + 1) h.as_many ∙ sym (length-append ps (q ∷ []));
@@ -59,11 +57,11 @@ module _ {X : Type 0} {H : X → Type 0} where
     ];
   }
 
-  pub none_seen : (f : DynBox X Global H → Record) (s : Setting) → AreCells f [] (opening_cells s 0 0)
+  pub none_seen : (f : M → Record) (s : Setting) → AreCells f [] (opening_cells s 0 0)
   unfolding opening_cells
   none_seen f s = record { as_many = refl; each = λ j c p a g. cc }
 
-  pub opened_cell : (f : DynBox X Global H → Record) (p : PlainScenario) (net : Network) (seed k : ℕ) (c : Cell X H) (r : Record)
+  pub opened_cell : (f : M → Record) (p : PlainScenario) (net : Network) (seed k : ℕ) (c : Cell M) (r : Record)
       (marks : List Mark)
       → r ≡ opening_record (fixed_of p net seed k) → marks ≡ script_of p k → IsCell f (fixed_part r).member c (new_cell r marks 0)
       → IsCell f k c (opening_cell (setting_of p net seed) k)

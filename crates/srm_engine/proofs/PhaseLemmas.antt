@@ -1,8 +1,6 @@
 -- What the phases of a run tell.
 use Rattle.std.proofs.Common.{◌≡◌, ◌≢◌, ℕ, Option, le_refl, List, [], ◌∷◌, Some, None, Ok, Err, inl, inr, refl, sym}
 use Rattle.std.proofs.Common.{ap, ◌∙◌, suc, ◌+◌, length, map, slice_get, subst, arith, zero-add}
-use Rattle.std.specs.declared.dyn_box.DynBox.{DynBox}
-use Rattle.std.specs.Global.{Global}
 use Rattle.srm_member.specs.declared.exit.Exit.{Exit}
 use Rattle.srm_member.specs.Record.{Record, Active, Gone}
 use Rattle.srm_cell.specs.Setting.{Setting}
@@ -34,10 +32,10 @@ work_stays s w m Full h = tt
 work_stays s w m Spent h = h
 work_stays s w m (Done d) h = tt
 
-module _ {X : Type 0} {H : X → Type 0} where
+module _ {M : Type 0} where
   -- what a member's refused step tells of the step of the run
-  pub refused : (f : DynBox X Global H → Record) (s : Setting) (w : World) (m : ℕ) (ps : List PlainCell) (o : StepOutcome Stepped)
-      (x : CellFault) (cs : List (Cell X H)) (ts : List (Option ℕ))
+  pub refused : (f : M → Record) (s : Setting) (w : World) (m : ℕ) (ps : List PlainCell) (o : StepOutcome Stepped)
+      (x : CellFault) (cs : List (Cell M)) (ts : List (Option ℕ))
       → x ≢ cell.Spent → TellsOwnStep f m ps o (Err x) cs ts → step s w ≡ after_step s w m o
       → MayRefuseStep (step s w) (step_fault_of x)
   refused f s w m ps o cell.NoMemory cs ts ne h e = subst HasWork (sym e) (work_stays s w m o h)
@@ -45,9 +43,9 @@ module _ {X : Type 0} {H : X → Type 0} where
       ∙ after_full s s.traffic.until (le_refl s.traffic.until) w m
   refused f s w m ps o cell.Spent cs ts ne h e = absurd (ne refl)
 
-  ended_from : (f : DynBox X Global H → Record) (i : ℕ) (cs : List (Cell X H)) (ps : List PlainCell) (xs : List Exit) → length cs
+  ended_from : (f : M → Record) (i : ℕ) (cs : List (Cell M)) (ps : List PlainCell) (xs : List Exit) → length cs
       ≡ length ps
-      → ((j : ℕ) (c : Cell X H) (p : PlainCell) → slice_get cs j ≡ Some c → slice_get ps j ≡ Some p → IsCell f (i + j) c p) → EndAs f cs xs
+      → ((j : ℕ) (c : Cell M) (p : PlainCell) → slice_get cs j ≡ Some c → slice_get ps j ≡ Some p → IsCell f (i + j) c p) → EndAs f cs xs
       → xs ≡ map (λ (c : PlainCell). exit_at c.holds c.exit) ps
   ended_from f i [] [] [] len each h = refl
   ended_from f i [] [] (x ∷ xs) len each h = absurd h
@@ -63,7 +61,7 @@ module _ {X : Type 0} {H : X → Type 0} where
       shift : (i j : ℕ) → i + suc j ≡ suc i + j
       shift i j = omega arith
 
-  pub exits_are : (f : DynBox X Global H → Record) (cs : List (Cell X H)) (w : World) (xs : List Exit) → AreCells f cs w.cells
+  pub exits_are : (f : M → Record) (cs : List (Cell M)) (w : World) (xs : List Exit) → AreCells f cs w.cells
       → EndAs f cs xs → xs ≡ exits_of w
   exits_are f cs w xs h e = ended_from f 0 cs w.cells xs h.as_many
       (λ j c p a b. subst (λ k. IsCell f k c p) (sym (zero-add j)) (h.each j c p a b)) e

@@ -3,8 +3,6 @@ use Rattle.std.proofs.Common.{◌≡◌, ◌≢◌, ℕ, zero, suc, ◌<◌, tru
 use Rattle.std.proofs.Common.{◌∙◌, subst, slice_get, slice_set, ◌==◌, eqb-true, arith}
 use Rattle.std.proofs.lemmas.Bool.{eqb-false}
 use Rattle.std.proofs.Math.ListN.{length-set}
-use Rattle.std.specs.declared.dyn_box.DynBox.{DynBox}
-use Rattle.std.specs.Global.{Global}
 use Rattle.srm_member.specs.declared.row.Row.{Row}
 use Rattle.srm_member.specs.Record.{Record}
 use Rattle.srm_cell.specs.declared.cell.Cell.{Cell}
@@ -42,8 +40,8 @@ set_times ts ps m t q h lt e = record {
   ] refl;
 }
 
-module _ {X : Type 0} {H : X → Type 0} where
-  pub set_cells : (f : DynBox X Global H → Record) (cs : List (Cell X H)) (ps : List PlainCell) (m : ℕ) (c : Cell X H) (q : PlainCell)
+module _ {M : Type 0} where
+  pub set_cells : (f : M → Record) (cs : List (Cell M)) (ps : List PlainCell) (m : ℕ) (c : Cell M) (q : PlainCell)
       → AreCells f cs ps → m < length cs → IsCell f m c q → AreCells f (slice_set cs m c) (slice_set ps m q)
   set_cells f cs ps m c q h lt is = record {
     as_many = length-set cs m c ∙ h.as_many ∙ sym (length-set ps m q);
@@ -61,8 +59,8 @@ module _ {X : Type 0} {H : X → Type 0} where
     ] refl;
   }
 
-  pub set_seen : (f : DynBox X Global H → Record) (cs : List (Cell X H)) (ts ts1 : List (Option ℕ)) (ps : List PlainCell) (m : ℕ)
-      (c : Cell X H) (t : Option ℕ) (q : PlainCell)
+  pub set_seen : (f : M → Record) (cs : List (Cell M)) (ts ts1 : List (Option ℕ)) (ps : List PlainCell) (m : ℕ)
+      (c : Cell M) (t : Option ℕ) (q : PlainCell)
       → AreSeen f cs ts ps → m < length cs → m < length ts → IsCell f m c q → t ≡ time_of (next_event m q) → ts1 ≡ slice_set ts m t
       → AreSeen f (slice_set cs m c) ts1 (slice_set ps m q)
   set_seen f cs ts ts1 ps m c t q h lc lt is e u = record {
@@ -70,8 +68,8 @@ module _ {X : Type 0} {H : X → Type 0} where
     times = subst (λ us. AreTimes us (slice_set ps m q)) (sym u) (set_times ts ps m t q h.times lt e);
   }
 
-  pub taken : (f : DynBox X Global H → Record) (cs : List (Cell X H)) (ts ts1 : List (Option ℕ)) (ps : List PlainCell) (m : ℕ)
-      (p : PlainCell) (o : StepOutcome Stepped) (row : Option Row) (c : Cell X H) (t : Option ℕ)
+  pub taken : (f : M → Record) (cs : List (Cell M)) (ts ts1 : List (Option ℕ)) (ps : List PlainCell) (m : ℕ)
+      (p : PlainCell) (o : StepOutcome Stepped) (row : Option Row) (c : Cell M) (t : Option ℕ)
       → AreSeen f cs ts ps → slice_get ps m ≡ Some p → m < length cs → m < length ts → TellsStep f m p o (Ok row) c
       → ((q : PlainCell) → IsCell f m c q → t ≡ time_of (next_event m q)) → ts1 ≡ slice_set ts m t
       → TellsOwnStep f m ps o (Ok row) (slice_set cs m c) ts1
@@ -83,8 +81,8 @@ module _ {X : Type 0} {H : X → Type 0} where
   taken f cs ts ts1 ps m p o (Some row) c t h g lc lt tells e u =
       (tells.0, tells.1, tells.2, set_seen f cs ts ts1 ps m c t tells.0.cell h lc lt tells.3 (e tells.0.cell tells.3) u)
 
-  pub not_taken : (f : DynBox X Global H → Record) (m : ℕ) (p : PlainCell) (ps : List PlainCell) (o : StepOutcome Stepped) (x : CellFault)
-      (c : Cell X H) (cs : List (Cell X H)) (ts : List (Option ℕ))
+  pub not_taken : (f : M → Record) (m : ℕ) (p : PlainCell) (ps : List PlainCell) (o : StepOutcome Stepped) (x : CellFault)
+      (c : Cell M) (cs : List (Cell M)) (ts : List (Option ℕ))
       → TellsStep f m p o (Err x) c → TellsOwnStep f m ps o (Err x) cs ts
   not_taken f m p ps o fault.NoMemory c cs ts h = h
   not_taken f m p ps o fault.Spent c cs ts h = h

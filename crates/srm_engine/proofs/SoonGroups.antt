@@ -8,8 +8,7 @@ use Rattle.std.proofs.lemmas.Bool.Decides.{nat_tests}
 use Rattle.std.proofs.lemmas.Nat.{div-mul-add}
 use Rattle.std.proofs.lemmas.Option.{slice_get_within}
 use Rattle.std.specs.Ordering.{is_gt}
-use Rattle.std.specs.declared.dyn_box.DynBox.{DynBox}
-use Rattle.std.specs.Global.{Global, Vec}
+use Rattle.std.specs.Global.{Vec}
 use native.Mathlib.Nat.{div-add-mod'}
 use Rattle.srm_net.specs.declared.packet.Packet.{Packet}
 use Rattle.srm_net.specs.Keys.{key_cmp}
@@ -62,13 +61,13 @@ group_within cut (g ∷ gs) (suc k) d pos cuts lt =
     is_full (inl e) = e
     is_full (inr none) = let no : length gs ≡ 0 = ap length (no_more_groups gs none) in absurd (omega arith)
 
-module _ {X : Type 0} {H : X → Type 0} (f : DynBox X Global H → Record) (cut : ℕ) (gs : List (Vec (Cell X H))) (ps : List PlainCell)
+module _ {M : Type 0} (f : M → Record) (cut : ℕ) (gs : List (Vec (Cell M))) (ps : List PlainCell)
     (pos : 0 < cut) (h : AreGrouped f cut gs ps) where
   -- the cells of group k are those of its members
-  pub those_of_group : (k : ℕ) (g : Vec (Cell X H)) → k < length gs → g ≡ get_or gs k g → AreThose f (k * cut) g.items ps
+  pub those_of_group : (k : ℕ) (g : Vec (Cell M)) → k < length gs → g ≡ get_or gs k g → AreThose f (k * cut) g.items ps
   those_of_group k g lt is j c get =
       let at = group_within cut gs k g pos h.cuts lt in
-      let own : g.items ≡ (get_or gs k g).items = ap (λ (v : Vec (Cell X H)). v.items) is in
+      let own : g.items ≡ (get_or gs k g).items = ap (λ (v : Vec (Cell M)). v.items) is in
       let many : length g.items ≡ length (get_or gs k g).items = ap length own in
       let small = slice_get_within g.items j c get in
       let most = at.most in
@@ -80,12 +79,12 @@ module _ {X : Type 0} {H : X → Type 0} (f : DynBox X Global H → Record) (cut
       (p.0, p.1, h.cells.each (k * cut + j) c p.0 (here.get g ∙ ap (λ l. slice_get l j) (sym own) ∙ get) p.1)
 
   -- the members of group k are those with that quotient
-  pub soonest_of_group : (s : Setting) (k : ℕ) (g : Vec (Cell X H)) (x : Soonest) → k < length gs → g ≡ get_or gs k g
+  pub soonest_of_group : (s : Setting) (k : ℕ) (g : Vec (Cell M)) (x : Soonest) → k < length gs → g ≡ get_or gs k g
       → IsSoonest s (IsInRange (k * cut) (length g.items)) ps x
       → IsSoonest s (λ m. m / cut ≡ k) ps x
   soonest_of_group s k g x lt is soon =
       let at = group_within cut gs k g pos h.cuts lt in
-      let many : length g.items ≡ length (get_or gs k g).items = ap (λ (v : Vec (Cell X H)). length v.items) is in
+      let many : length g.items ≡ length (get_or gs k g).items = ap (λ (v : Vec (Cell M)). length v.items) is in
       let all = h.cells.as_many in
       soon_same_members s (IsInRange (k * cut) (length g.items)) (λ m. m / cut ≡ k) ps x
       (λ m in_all a. let le = a.0 in let less = a.1 in let most = at.most in let d = at_offset m le in
@@ -101,7 +100,7 @@ module _ {X : Type 0} {H : X → Type 0} (f : DynBox X Global H → Record) (cut
       at_offset m le = (m - k * cut, omega arith)
 
   -- what a look at the cells of group k tells is how soon something is due in the group
-  pub looked_at : (s : Setting) (k : ℕ) (g : Vec (Cell X H)) (own : List (Cell X H)) (x : Soonest) → k < length gs → g ≡ get_or gs k g → own
+  pub looked_at : (s : Setting) (k : ℕ) (g : Vec (Cell M)) (own : List (Cell M)) (x : Soonest) → k < length gs → g ≡ get_or gs k g → own
       ≡ g.items
       → (AreThose f (k * cut) own ps → IsSoonest s (IsInRange (k * cut) (length own)) ps x) → IsSoonest s (λ m. m / cut ≡ k) ps x
   looked_at s k g own x lt is same told =
@@ -241,7 +240,7 @@ module _ {A : Type 0} (N O : ℕ → A → Type 0) (xs : List A) (k : ℕ)
         ((λ lt. old.0 (omega arith)), (λ le. old.1 (omega arith)))
   ] refl
 
-module _ {X : Type 0} {H : X → Type 0} (f : DynBox X Global H → Record) (cut : ℕ) (gs : List (Vec (Cell X H))) (ps : List PlainCell)
+module _ {M : Type 0} (f : M → Record) (cut : ℕ) (gs : List (Vec (Cell M))) (ps : List PlainCell)
     (results : List OwnResult) (pos : 0 < cut) (end : ℕ) (alone : AreOwnRuns end 0 ps results) (h : AreGrouped f cut gs (cells_in results))
   where
     -- each group was looked through again, or has no cells

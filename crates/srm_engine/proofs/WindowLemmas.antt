@@ -3,8 +3,7 @@ use Rattle.std.proofs.Common.{◌≡◌, ℕ, zero, suc, ◌<◌, ◌≤◌, ◌
 use Rattle.std.proofs.Common.{All, IsSorted, IsPermutation, length, map, drop, slice_index, replicate, ◌*◌}
 use Rattle.std.proofs.lemmas.List.{map-append, length-map}
 use Rattle.std.specs.List.{AllZip, range_with_len}
-use Rattle.std.specs.declared.dyn_box.DynBox.{DynBox}
-use Rattle.std.specs.Global.{Global, Vec}
+use Rattle.std.specs.Global.{Vec}
 use Rattle.srm_net.specs.Network.{Network}
 use Rattle.srm_scenario.specs.Plain.{PlainScenario, network_of}
 use Rattle.srm_scenario.specs.Accepted.{IsAccepted}
@@ -77,11 +76,11 @@ ends_are_rules p net is accepted seed Promised may =
 -- ---- records
 
 -- what is known of the jobs of the window that ends so, before the crew's call and after it is refused
-pub record JobsTell {X : Type 0} {H : X → Type 0} (f : DynBox X Global H → Record) (e : WindowEngine X H) (seed end : ℕ) (w : World)
-    (js : List (Job X H)) : Type 0 where
-  pub may : All (λ (j : Job X H). cell.MayAdvance f (length e.net.now.hosts) j) js
+pub record JobsTell {M : Type 0} (f : M → Record) (e : WindowEngine M) (seed end : ℕ) (w : World)
+    (js : List (Job M)) : Type 0 where
+  pub may : All (λ (j : Job M). cell.MayAdvance f (length e.net.now.hosts) j) js
   pub few : length js ≤ most_nodes
-  pub placed : map (λ (j : Job X H). j.place) js ≡ range_with_len 0 (length js)
+  pub placed : map (λ (j : Job M). j.place) js ≡ range_with_len 0 (length js)
   pub seen : AreJobs f js (handed_jobs 0 (jobs_of e.groups.cut end w))
   pub not_spent : AnyEnds Spent (handed_jobs 0 (jobs_of e.groups.cut end w)) → ⊥
   pub full : AnyEnds Full (handed_jobs 0 (jobs_of e.groups.cut end w)) → RunMeetsFull (setting_by e seed)
@@ -91,8 +90,8 @@ pub record JobsTell {X : Type 0} {H : X → Type 0} (f : DynBox X Global H → R
   pub pending : MayCome (setting_by e seed) (rule_by e seed) e.groups.cut w window.NoMemory
 
 -- what a crew's refusal tells of the window
-pub map_refused : {X : Type 0} {H : X → Type 0} (f : DynBox X Global H → Record) (e : WindowEngine X H) (seed end : ℕ) (w : World)
-    (js : List (Job X H)) → JobsTell f e seed end w js → (x : CrewFault)
+pub map_refused : {M : Type 0} (f : M → Record) (e : WindowEngine M) (seed end : ℕ) (w : World)
+    (js : List (Job M)) → JobsTell f e seed end w js → (x : CrewFault)
     → TellsMap f (setting_by e seed).traffic e.seat (handed_jobs 0 (jobs_of e.groups.cut end w)) (Err x)
     → MayCome (setting_by e seed) (rule_by e seed) e.groups.cut w (window_fault_of x)
 map_refused f e seed end w js j crew.NoMemory h = j.pending
@@ -101,8 +100,8 @@ map_refused f e seed end w js j crew.CountFull h = j.full h
 map_refused f e seed end w js j crew.Spent h = j.pending
 
 -- what the crew did for the window that ends so
-pub record WindowRan {X : Type 0} {H : X → Type 0} (f : DynBox X Global H → Record) (e : WindowEngine X H) (seed end : ℕ) (w : World)
-    (ds : List (job.Done X H)) : Type 0 where
+pub record WindowRan {M : Type 0} (f : M → Record) (e : WindowEngine M) (seed end : ℕ) (w : World)
+    (ds : List (job.Done M)) : Type 0 where
   pub results : List OwnResult
   pub alone : AreOwnRuns end 0 w.cells results
   pub grouped : AreGrouped f e.groups.cut (groups_of ds) (cells_in results)
@@ -113,7 +112,7 @@ pub record WindowRan {X : Type 0} {H : X → Type 0} (f : DynBox X Global H → 
 
 -- ---- the next window
 
-module _ {X : Type 0} {H : X → Type 0} (f : DynBox X Global H → Record) (e : WindowEngine X H) (is : IsUnderWay f e) (seed : ℕ)
+module _ {M : Type 0} (f : M → Record) (e : WindowEngine M) (is : IsUnderWay f e) (seed : ℕ)
     (begins : List World) (w : World) (comes : ComesTo f seed e begins w) where
   abbrev s : Setting
   s = setting_by e seed
@@ -152,7 +151,7 @@ module _ {X : Type 0} {H : X → Type 0} (f : DynBox X Global H → Record) (e :
   -- ---- its jobs
 
   module _ (end : ℕ) (at : EndsNext f e end) where
-    abbrev gs : List (Vec (Cell X H))
+    abbrev gs : List (Vec (Cell M))
     gs = e.groups.groups.items
 
     abbrev cut : ℕ
@@ -186,7 +185,7 @@ module _ {X : Type 0} {H : X → Type 0} (f : DynBox X Global H → Record) (e :
     own_jobs = are_jobs f cut end 0 0 gs w.cells comes.kept.cut.0 grouped.cuts (from_seen f (all_in gs) w.cells grouped.cells)
 
     -- what is known of the jobs of a window, before and after the crew's call
-    pub jobs_tell : (js : List (Job X H)) → js ≡ jobs_with end 0 gs → JobsTell f e seed end w js
+    pub jobs_tell : (js : List (Job M)) → js ≡ jobs_with end 0 gs → JobsTell f e seed end w js
     jobs_tell js same =
         let a = ap length same ∙ as_many_jobs f end 0 gs in
         let many = members_are in record {
@@ -195,7 +194,7 @@ module _ {X : Type 0} {H : X → Type 0} (f : DynBox X Global H → Record) (e :
               let hosts = hosts_are in
               let cuts = comes.kept.cut in
               let b = within in
-              subst (All (λ (j : Job X H). cell.MayAdvance f (length e.net.now.hosts) j)) (sym same)
+              subst (All (λ (j : Job M). cell.MayAdvance f (length e.net.now.hosts) j)) (sym same)
               (may_advance f cut end (length e.net.now.hosts) gs w.cells cuts.0 cuts.1 (omega arith) (omega arith) grouped.cuts
               (from_seen f (all_in gs) w.cells grouped.cells));
           few =
@@ -203,7 +202,7 @@ module _ {X : Type 0} {H : X → Type 0} (f : DynBox X Global H → Record) (e :
               let c = grouped.cells.as_many in
               let most = few_members e.scenario.now is.accepted in
               omega (arith, a);
-          placed = ap (map (λ (j : Job X H). j.place)) same ∙ places_with f end 0 gs ∙ ap (range_with_len 0) (sym a);
+          placed = ap (map (λ (j : Job M). j.place)) same ∙ places_with f end 0 gs ∙ ap (range_with_len 0) (sym a);
           seen = subst (λ l. AreJobs f l upcoming) (sym same) own_jobs;
           not_spent = λ h.
               let r = any_cell Spent cut end w.cells h in
@@ -226,7 +225,7 @@ module _ {X : Type 0} {H : X → Type 0} (f : DynBox X Global H → Record) (e :
         }
 
     -- what the crew did
-    pub window_ran : (ds : List (job.Done X H)) → AllZip (λ p d. cell.IsDone f s.traffic p d) upcoming ds → WindowRan f e seed end w ds
+    pub window_ran : (ds : List (job.Done M)) → AllZip (λ p d. cell.IsDone f s.traffic p d) upcoming ds → WindowRan f e seed end w ds
     window_ran ds h =
         let r = job_results f s.traffic 0 (jobs_of cut end w) ds h in
         let alone = jobs_run_all w cut end r.0 comes.kept.cut.0 r.1 in record {
@@ -244,14 +243,14 @@ module _ {X : Type 0} {H : X → Type 0} (f : DynBox X Global H → Record) (e :
         }
 
     -- what a crew's answer tells of the window
-    pub mapped : (js : List (Job X H)) → js ≡ jobs_with end 0 gs → (r : Vec (job.Done X H) × SeatView)
+    pub mapped : (js : List (Job M)) → js ≡ jobs_with end 0 gs → (r : Vec (job.Done M) × SeatView)
         → Maps f e.scenario.now e.net.now e.seat js (Ok r)
         → WindowRan f e seed end w r.0.items × HasGrown (counted_in (crossings s.traffic (rows_of r.0.items))) e.seat r.1
     mapped js same r maps = let told = maps.tells upcoming (jobs_tell js same).seen in (window_ran r.0.items told.0, told.1)
 
     -- ---- its rows
 
-    module _ (ds : List (job.Done X H)) (ran : WindowRan f e seed end w ds) (rows : List Row)
+    module _ (ds : List (job.Done M)) (ran : WindowRan f e seed end w ds) (rows : List Row)
         (merged : IsPermutation (joined (some_of (lists_of ds))) rows × IsSorted row_cmp rows) where
       merge_is : IsMerge (rows_in ran.results) rows
       merge_is = record {
@@ -286,12 +285,12 @@ module _ {X : Type 0} {H : X → Type 0} (f : DynBox X Global H → Record) (e :
           (rows_joined f ds ∙ ap joined ran.rows))
 
 -- the same of the windows that a run under way came to
-module _ {X : Type 0} {H : X → Type 0} (f : DynBox X Global H → Record) (e : WindowEngine X H) (is : IsUnderWay f e) (end : ℕ)
-    (at : EndsNext f e end) (js : List (Job X H)) (same : js ≡ jobs_with end 0 e.groups.groups.items) where
+module _ {M : Type 0} (f : M → Record) (e : WindowEngine M) (is : IsUnderWay f e) (end : ℕ)
+    (at : EndsNext f e end) (js : List (Job M)) (same : js ≡ jobs_with end 0 e.groups.groups.items) where
   pub jobs_tell_now : JobsTell f e is.seed end is.world js
   jobs_tell_now = jobs_tell f e is is.seed is.begins is.world is.comes end at js same
 
-  pub ran_now : (r : Vec (job.Done X H) × SeatView) → Maps f e.scenario.now e.net.now e.seat js (Ok r)
+  pub ran_now : (r : Vec (job.Done M) × SeatView) → Maps f e.scenario.now e.net.now e.seat js (Ok r)
       → WindowRan f e is.seed end is.world r.0.items
   ran_now r maps = (mapped f e is is.seed is.begins is.world is.comes end at js same r maps).0
 
@@ -327,7 +326,7 @@ call_more rule cut begins w = ap (map (handed_jobs 0)) ((calls_follow rule cut).
 -- ---- what was asked for
 
 -- what holds of an engine's run holds of the run that was asked for
-pub as_asked : {X : Type 0} {H : X → Type 0} (Q : Setting → (World → ℕ) → ℕ → Type 0) (e : WindowEngine X H) (p : PlainScenario)
+pub as_asked : {M : Type 0} (Q : Setting → (World → ℕ) → ℕ → Type 0) (e : WindowEngine M) (p : PlainScenario)
     (net : Network) (c : Cutting) (asked : Windows) (seed : ℕ) → frame_of e ≡ (p, net, c.cut, c.ends) → TellsCutting p net asked (Ok c)
     → Q (setting_by e seed) (rule_by e seed) e.groups.cut
     → Q (setting_of p net seed) (rule_of (setting_of p net seed) net asked.width) asked.cut

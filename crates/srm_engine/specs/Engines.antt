@@ -1,7 +1,5 @@
 -- What is seen of the engine, and what its calls tell.
 use Rattle.std.specs.Prelude.{◌≡◌, ◌<◌, ◌+◌, ◌^◌, ℕ, List, [], ◌∷◌, ◌++◌, length, Option, Some, None, Result, Ok, Err}
-use Rattle.std.specs.declared.dyn_box.DynBox.{DynBox}
-use Rattle.std.specs.Global.{Global}
 use Rattle.srm_net.specs.declared.packet.Packet.{Packet}
 use Rattle.srm_net.specs.Network.{Network}
 use Rattle.srm_scenario.specs.Plain.{PlainScenario, network_of}
@@ -27,59 +25,59 @@ abbrev pub MayRefuseStep : StepOutcome World → StepFault → Type 0
 MayRefuseStep o fault.NoMemory = HasWork o
 MayRefuseStep o fault.CountFull = o ≡ Full
 
-module _ {X : Type 0} {H : X → Type 0} where
+module _ {M : Type 0} where
   -- the traffic of an engine's scenario and network
-  abbrev pub traffic_in : Engine X H → Traffic
+  abbrev pub traffic_in : Engine M → Traffic
   traffic_in e = traffic_of e.scenario.now e.net.now
 
   -- their setting with a seed
-  abbrev pub setting_in : Engine X H → ℕ → Setting
+  abbrev pub setting_in : Engine M → ℕ → Setting
   setting_in e seed = setting_of e.scenario.now e.net.now seed
 
   -- the network is the scenario's
-  abbrev pub IsSetUp : Engine X H → Type 0
+  abbrev pub IsSetUp : Engine M → Type 0
   IsSetUp e = e.net.now ≡ network_of e.scenario.now
 
   -- the second engine is of the scenario and network of the first
-  abbrev pub IsStillOf : Engine X H → Engine X H → Type 0
+  abbrev pub IsStillOf : Engine M → Engine M → Type 0
   IsStillOf old new = (new.scenario ≡ old.scenario) × (new.net ≡ old.net)
 
   -- the engine is seen as this world: its cells, and the totals of the trace's packets
-  pub record Shows (f : DynBox X Global H → Record) (e : Engine X H) (w : World) : Type 0 where
+  pub record Shows (f : M → Record) (e : Engine M) (w : World) : Type 0 where
     pub seen : ShowCells f e.cells w.cells
     pub totals : e.totals ≡ numbers_of (traffic_in e) (packets_of w.trace)
 
   -- a step may be taken: the engine is seen as a world of a run whose rows are few enough to be counted
-  abbrev pub MayStep : (DynBox X Global H → Record) → Engine X H → Type 0
+  abbrev pub MayStep : (M → Record) → Engine M → Type 0
   MayStep f e = (seed : ℕ) × (w : World) × IsReached (setting_in e seed) w × Shows f e w × (length w.trace + 3 < 2 ^ 64)
 
   -- what the step with this outcome tells: it is over, or the row that it adds; or why it is refused
-  abbrev pub TellsWorld : (DynBox X Global H → Record) → World → StepOutcome World → Result (Option Row) StepFault
-      → Engine X H → Type 0
+  abbrev pub TellsWorld : (M → Record) → World → StepOutcome World → Result (Option Row) StepFault
+      → Engine M → Type 0
   TellsWorld f w o (Ok None) after = (o ≡ Idle) × Shows f after w
   TellsWorld f w o (Ok (Some row)) after =
       (v : World) × (o ≡ Done v) × (v.trace ≡ w.trace ++ row ∷ []) × Shows f after v
   TellsWorld f w o (Err e) after = MayRefuseStep o e
 
   -- so of whatever world the engine is seen as, with every seed
-  abbrev pub StepsOn : (DynBox X Global H → Record) → Engine X H → Result (Option Row) StepFault → Engine X H → Type 0
+  abbrev pub StepsOn : (M → Record) → Engine M → Result (Option Row) StepFault → Engine M → Type 0
   StepsOn f old r new = (seed : ℕ) (w : World) → Shows f old w → TellsWorld f w (step (setting_in old seed) w) r new
 
   -- a packet, if any, may be sent: it is new to all cells, and the packets so far are few enough to be counted
-  abbrev pub MaySendNow : (DynBox X Global H → Record) → Engine X H → Option Packet → Type 0
+  abbrev pub MaySendNow : (M → Record) → Engine M → Option Packet → Type 0
   MaySendNow f e sent =
       (ps : List PlainCell) × (qs : List Packet) × ShowCells f e.cells ps × (e.totals ≡ numbers_of (traffic_in e) qs)
       × MaySend (length e.scenario.now.members) ps qs sent
 
   -- after a packet was sent, if any was: all cells have heard it, and it is counted
-  abbrev pub Sends : (DynBox X Global H → Record) → Option Packet → Engine X H → Engine X H → Type 0
+  abbrev pub Sends : (M → Record) → Option Packet → Engine M → Engine M → Type 0
   Sends f sent old new =
       (ps : List PlainCell) (qs : List Packet) → ShowCells f old.cells ps → old.totals ≡ numbers_of (traffic_in old) qs
       → ShowCells f new.cells (all_hear (traffic_in old) sent ps)
       × (new.totals ≡ numbers_of (traffic_in old) (and_sent sent qs))
 
   -- a packet may be handed out: members sent it before the latest end of all, and it is new to the cells of all members
-  pub record MayDeliver (f : DynBox X Global H → Record) (p : Packet) (e : Engine X H) : Type 0 where
+  pub record MayDeliver (f : M → Record) (p : Packet) (e : Engine M) : Type 0 where
     pub sent : p.sent < end_of_time
     pub sender : p.id.sender < length e.scenario.now.members
     pub members : length e.cells.cells.items ≡ length e.scenario.now.members
@@ -88,15 +86,15 @@ module _ {X : Type 0} {H : X → Type 0} where
     pub new : IsNew p.id cells
 
   -- after a packet was handed out: every cell has heard it
-  abbrev pub Delivers : (DynBox X Global H → Record) → Packet → Engine X H → Engine X H → Type 0
+  abbrev pub Delivers : (M → Record) → Packet → Engine M → Engine M → Type 0
   Delivers f p old new =
       (ps : List PlainCell) → ShowCells f old.cells ps
       → ShowCells f new.cells (heard_below (traffic_in old) p (length ps) 0 ps)
 
   -- the engine is seen as the opening world with a seed
-  abbrev pub IsOpened : (DynBox X Global H → Record) → ℕ → Engine X H → Type 0
+  abbrev pub IsOpened : (M → Record) → ℕ → Engine M → Type 0
   IsOpened f seed e = Shows f e (opening (setting_in e seed))
 
   -- so for every seed whose opening records the boxes hold
-  abbrev pub OpensFrom : (DynBox X Global H → Record) → PlainScenario → Network → List Record → Engine X H → Type 0
+  abbrev pub OpensFrom : (M → Record) → PlainScenario → Network → List Record → Engine M → Type 0
   OpensFrom f p net rs e = (seed : ℕ) → HoldOpeningRecords p net seed rs → IsOpened f seed e

@@ -1,8 +1,7 @@
 -- The cells of all members, those of each job together.
 use Rattle.std.specs.Prelude.{◌≡◌, ◌+◌, ◌/◌, ◌<◌, ◌≤◌, ℕ, suc, List, [], ◌∷◌, ◌++◌, length, map, slice_get, slice_set}
 use Rattle.std.specs.Prelude.{Some}
-use Rattle.std.specs.declared.dyn_box.DynBox.{DynBox}
-use Rattle.std.specs.Global.{Global, Vec}
+use Rattle.std.specs.Global.{Vec}
 use Rattle.srm_net.specs.declared.packet.Packet.{Packet}
 use Rattle.srm_net.specs.declared.packet.PacketId.{PacketId}
 use Rattle.srm_member.specs.declared.row.Row.{Row}
@@ -69,34 +68,34 @@ module _ {A : Type 0} where
   all_in [] = []
   all_in (g ∷ gs) = g.items ++ all_in gs
 
-module _ {X : Type 0} {H : X → Type 0} where
+module _ {M : Type 0} where
   -- the groups are those of all these plain cells, in runs of `cut`
-  pub record AreGrouped (f : DynBox X Global H → Record) (cut : ℕ) (gs : List (Vec (Cell X H)))
+  pub record AreGrouped (f : M → Record) (cut : ℕ) (gs : List (Vec (Cell M)))
       (ps : List PlainCell) : Type 0 where
     pub cells : AreCells f (all_in gs) ps
     pub cuts : AreCuts cut (sizes gs)
 
   -- the jobs that have these groups, from a place on
-  abbrev pub jobs_with : ℕ → ℕ → List (Vec (Cell X H)) → List (Job X H)
+  abbrev pub jobs_with : ℕ → ℕ → List (Vec (Cell M)) → List (Job M)
   jobs_with till place [] = []
   jobs_with till place (g ∷ gs) =
       record { place = place; till = till; cells = g } ∷ jobs_with till (suc place) gs
 
   -- the groups of what is done
-  abbrev pub groups_of : List (job.Done X H) → List (Vec (Cell X H))
-  groups_of ds = map (λ (d : job.Done X H). d.cells) ds
+  abbrev pub groups_of : List (job.Done M) → List (Vec (Cell M))
+  groups_of ds = map (λ (d : job.Done M). d.cells) ds
 
   -- the rows of each cell, in what is done
-  abbrev pub lists_of : List (job.Done X H) → List (List Row)
+  abbrev pub lists_of : List (job.Done M) → List (List Row)
   lists_of [] = []
   lists_of (d ∷ ds) = d.rows.items ++ lists_of ds
 
   -- member m has no such packet on its way
-  abbrev pub IsNewTo : ℕ → PacketId → List (Vec (Cell X H)) → Type 0
-  IsNewTo m id gs = (c : Cell X H) → slice_get (all_in gs) m ≡ Some c → BringsNone id c.inbox
+  abbrev pub IsNewTo : ℕ → PacketId → List (Vec (Cell M)) → Type 0
+  IsNewTo m id gs = (c : Cell M) → slice_get (all_in gs) m ≡ Some c → BringsNone id c.inbox
 
   -- the groups are those of all these plain cells, and what is kept of them is how soon something is due in each
-  pub record AreKept (f : DynBox X Global H → Record) (s : Setting) (e : Groups X H)
+  pub record AreKept (f : M → Record) (s : Setting) (e : Groups M)
       (ps : List PlainCell) : Type 0 where
     pub cut : IsCut e.cut
     pub grouped : AreGrouped f e.cut e.groups.items ps
@@ -104,7 +103,7 @@ module _ {X : Type 0} {H : X → Type 0} where
 
   -- groups may be looked through again in a run with n members: they are runs of `cut` cells, of no more members, and
   -- something is kept of each
-  pub record MayLookAgain (n : ℕ) (e : Groups X H) : Type 0 where
+  pub record MayLookAgain (n : ℕ) (e : Groups M) : Type 0 where
     pub cut : IsCut e.cut
     pub cuts : AreCuts e.cut (sizes e.groups.items)
     pub members : length (all_in e.groups.items) ≤ n
@@ -112,14 +111,14 @@ module _ {X : Type 0} {H : X → Type 0} where
 
   -- after groups were looked through again: where what was kept is how soon something was due before the own runs of
   -- all cells to a tick, what is kept is how soon something is due after them
-  abbrev pub LooksAgain : (DynBox X Global H → Record) → Setting → ℕ → Groups X H → Groups X H → Type 0
+  abbrev pub LooksAgain : (M → Record) → Setting → ℕ → Groups M → Groups M → Type 0
   LooksAgain f s end old new =
       (ps : List PlainCell) (results : List OwnResult) → AreOwnRuns end 0 ps results
       → AreGrouped f old.cut old.groups.items (cells_in results) → AreSoonest s old.cut old.soon.items ps
       → AreKept f s new (cells_in results)
 
   -- a packet may be handed to member m: there is such a member, and the packet is new to it
-  pub record MayHand (m : ℕ) (id : PacketId) (e : Groups X H) : Type 0 where
+  pub record MayHand (m : ℕ) (id : PacketId) (e : Groups M) : Type 0 where
     pub cut : 0 < e.cut
     pub cuts : AreCuts e.cut (sizes e.groups.items)
     pub member : m < length (all_in e.groups.items)
@@ -127,13 +126,13 @@ module _ {X : Type 0} {H : X → Type 0} where
     pub new : IsNewTo m id e.groups.items
 
   -- after member m was handed a packet, which arrives at a tick
-  abbrev pub HandsIn : (DynBox X Global H → Record) → Setting → ℕ → Packet → ℕ → Groups X H → Groups X H → Type 0
+  abbrev pub HandsIn : (M → Record) → Setting → ℕ → Packet → ℕ → Groups M → Groups M → Type 0
   HandsIn f s m p at old new =
       (ps : List PlainCell) (q : PlainCell) → AreKept f s old ps → slice_get ps m ≡ Some q
       → AreKept f s new (slice_set ps m (hear_at p (Some at) q))
 
   -- a packet may be handed out: a member sent it before the latest end of all, and it is new to the cells of all
-  pub record MayDeliverIn (f : DynBox X Global H → Record) (s : Setting) (p : Packet) (e : Groups X H) : Type 0 where
+  pub record MayDeliverIn (f : M → Record) (s : Setting) (p : Packet) (e : Groups M) : Type 0 where
     pub sent : p.sent < end_of_time
     pub sender : p.id.sender < s.traffic.members
     pub cells : List PlainCell
@@ -142,16 +141,16 @@ module _ {X : Type 0} {H : X → Type 0} where
     pub new : IsNew p.id cells
 
   -- after a packet was handed out: every cell has heard it
-  abbrev pub DeliversIn : (DynBox X Global H → Record) → Setting → Packet → Groups X H → Groups X H → Type 0
+  abbrev pub DeliversIn : (M → Record) → Setting → Packet → Groups M → Groups M → Type 0
   DeliversIn f s p old new =
       (ps : List PlainCell) → AreKept f s old ps → AreKept f s new (heard_below s.traffic p (length ps) 0 ps)
 
   -- the packets of rows may be handed out, one after the other
-  abbrev pub MayHear : (DynBox X Global H → Record) → Setting → List Row → Groups X H → Type 0
+  abbrev pub MayHear : (M → Record) → Setting → List Row → Groups M → Type 0
   MayHear f s rows e =
       (ps : List PlainCell) × AreKept f s e ps × (length ps ≡ s.traffic.members) × AreNewInTurn s.traffic rows ps
 
   -- after that every cell has heard them
-  abbrev pub Hears : (DynBox X Global H → Record) → Setting → List Row → Groups X H → Groups X H → Type 0
+  abbrev pub Hears : (M → Record) → Setting → List Row → Groups M → Groups M → Type 0
   Hears f s rows old new =
       (ps : List PlainCell) → AreKept f s old ps → AreKept f s new (each_hears s.traffic 0 rows ps)

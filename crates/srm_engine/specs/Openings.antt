@@ -1,7 +1,5 @@
 -- The boxes that a run is given, and the cells that it opens.
 use Rattle.std.specs.Prelude.{◌≡◌, ◌+◌, ℕ, zero, suc, List, [], ◌∷◌, length}
-use Rattle.std.specs.declared.dyn_box.DynBox.{DynBox}
-use Rattle.std.specs.Global.{Global}
 use Rattle.srm_net.specs.Network.{Network}
 use Rattle.srm_scenario.specs.Plain.{PlainScenario}
 use Rattle.srm_member.specs.Record.{Record, opening_record}
@@ -23,15 +21,15 @@ HoldOpeningRecords p net seed rs = rs ≡ records_from p net seed 0 (length p.me
 abbrev pub MayOpen : PlainScenario → List Record → Type 0
 MayOpen p rs = (net : Network) × (seed : ℕ) × HoldOpeningRecords p net seed rs
 
-module _ {X : Type 0} {H : X → Type 0} where
+module _ {M : Type 0} where
   -- the cells of all members at the beginning, with the network and the seed of which the records are
-  abbrev pub Opens : (DynBox X Global H → Record) → PlainScenario → List Record → List (Cell X H) → Type 0
+  abbrev pub Opens : (M → Record) → PlainScenario → List Record → List (Cell M) → Type 0
   Opens f p rs cs =
       (net : Network) (seed : ℕ) → HoldOpeningRecords p net seed rs
       → AreCells f cs (opening_cells (setting_of p net seed) (length p.members) 0)
 
   -- after the next member's cell was added to those of the members before it
-  abbrev pub AddsMember : (DynBox X Global H → Record) → PlainScenario → Record → List (Cell X H) → List (Cell X H)
+  abbrev pub AddsMember : (M → Record) → PlainScenario → Record → List (Cell M) → List (Cell M)
       → Type 0
   AddsMember f p r old new =
       (net : Network) (seed : ℕ) → let n = length old in

@@ -1,7 +1,5 @@
 -- What a run is given, and what it tells.
 use Rattle.std.specs.Prelude.{◌≡◌, ◌≢◌, ℕ, List, [], ◌∷◌, Option, None, Result, Ok, Err}
-use Rattle.std.specs.declared.dyn_box.DynBox.{DynBox}
-use Rattle.std.specs.Global.{Global}
 use Rattle.srm_net.specs.Network.{Network}
 use Rattle.srm_scenario.specs.Plain.{PlainScenario}
 use Rattle.srm_member.specs.declared.exit.Exit.{Exit}
@@ -34,14 +32,14 @@ abbrev pub HasEnd : Record → Option Exit → Type 0
 HasEnd (Active m) x = Unit {0}
 HasEnd (Gone f) x = x ≢ None
 
-module _ {X : Type 0} {H : X → Type 0} where
+module _ {M : Type 0} where
   -- each cell may be seen as one whose member is there, or has left its exit
-  abbrev pub AllEnd : (DynBox X Global H → Record) → List (Cell X H) → Type 0
+  abbrev pub AllEnd : (M → Record) → List (Cell M) → Type 0
   AllEnd f [] = Unit {0}
   AllEnd f (c ∷ cs) = ((m : ℕ) × (p : PlainCell) × IsCell f m c p × HasEnd p.holds p.exit) × AllEnd f cs
 
   -- each exit is what the cell's member ends with, as it left or as it is
-  abbrev pub EndAs : (DynBox X Global H → Record) → List (Cell X H) → List Exit → Type 0
+  abbrev pub EndAs : (M → Record) → List (Cell M) → List Exit → Type 0
   EndAs f [] [] = Unit {0}
   EndAs f (c ∷ cs) (x ∷ xs) = ((m : ℕ) (p : PlainCell) → IsCell f m c p → x ≡ exit_at p.holds p.exit) × EndAs f cs xs
   EndAs f cs xs = ⊥

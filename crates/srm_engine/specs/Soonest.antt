@@ -1,7 +1,5 @@
 -- How soon something is due in the cells of a group.
 use Rattle.std.specs.Prelude.{◌≡◌, ◌⊎◌, ◌+◌, ◌/◌, ◌<◌, ◌≤◌, ℕ, List, Option, Some, length, slice_get}
-use Rattle.std.specs.declared.dyn_box.DynBox.{DynBox}
-use Rattle.std.specs.Global.{Global}
 use Rattle.srm_member.specs.Record.{Record}
 use Rattle.srm_cell.specs.declared.cell.Cell.{Cell}
 use Rattle.srm_cell.specs.Setting.{Setting}
@@ -38,9 +36,9 @@ pub record AreSoonest (s : Setting) (cut : ℕ) (xs : List Soonest) (ps : List P
   pub many : (m : ℕ) → m < length ps → m / cut < length xs
   pub each : (k : ℕ) (x : Soonest) → slice_get xs k ≡ Some x → IsSoonest s (λ m. m / cut ≡ k) ps x
 
-module _ {X : Type 0} {H : X → Type 0} where
+module _ {M : Type 0} where
   -- the cells are those of the members from i on
-  abbrev pub AreThose : (DynBox X Global H → Record) → ℕ → List (Cell X H) → List PlainCell → Type 0
+  abbrev pub AreThose : (M → Record) → ℕ → List (Cell M) → List PlainCell → Type 0
   AreThose f i cs ps =
-      (j : ℕ) (c : Cell X H) → slice_get cs j ≡ Some c
+      (j : ℕ) (c : Cell M) → slice_get cs j ≡ Some c
       → (p : PlainCell) × (slice_get ps (i + j) ≡ Some p) × IsCell f (i + j) c p

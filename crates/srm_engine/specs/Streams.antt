@@ -1,7 +1,6 @@
 -- Runs that hand their rows on as they come, and what they tell.
 use Rattle.std.specs.Prelude.{◌≡◌, ◌⊎◌, ◌<◌, ◌≤◌, ◌^◌, ℕ, List, ◌++◌, length, Result, Ok, Err, MatchResult}
-use Rattle.std.specs.declared.dyn_box.DynBox.{DynBox}
-use Rattle.std.specs.Global.{Global, Vec}
+use Rattle.std.specs.Global.{Vec}
 use Rattle.srm_net.specs.Network.{Network}
 use Rattle.srm_scenario.specs.Plain.{PlainScenario}
 use Rattle.srm_member.specs.declared.row.Row.{Row}
@@ -101,22 +100,22 @@ RefusedFrom p net rs r = (seed : ℕ) → HoldOpeningRecords p net seed rs → M
 
 -- ---- pieces
 
-module _ {X : Type 0} {H : X → Type 0} where
+module _ {M : Type 0} where
   -- the engine is seen as a world of a run with few rows
-  abbrev pub MayTake : (DynBox X Global H → Record) → Engine X H → Type 0
+  abbrev pub MayTake : (M → Record) → Engine M → Type 0
   MayTake f e = (seed : ℕ) × (w : World) × IsReached (setting_in e seed) w × Shows f e w × (length w.trace ≤ 2 ^ 62)
 
   -- what steps from a world on tell, up to so many: the rows up to a later world, the last of the run where there are
   -- fewer; or why they are refused
-  abbrev pub TellsSteps : (DynBox X Global H → Record) → Setting → ℕ → World → Result (Vec Row) StepFault
-      → Engine X H → Type 0
+  abbrev pub TellsSteps : (M → Record) → Setting → ℕ → World → Result (Vec Row) StepFault
+      → Engine M → Type 0
   TellsSteps f s most w r after =
       MatchResult r (λ rows. (v : World) × IsReached s v × (v.trace ≡ w.trace ++ rows.items) × Shows f after v
       × (length rows.items < most → step s v ≡ Idle))
       (MayStop s w)
 
   -- so of whatever world of a run the engine is seen as, with every seed
-  abbrev pub TakesSteps : (DynBox X Global H → Record) → ℕ → Engine X H → Result (Vec Row) StepFault → Engine X H
+  abbrev pub TakesSteps : (M → Record) → ℕ → Engine M → Result (Vec Row) StepFault → Engine M
       → Type 0
   TakesSteps f most old r new =
       (seed : ℕ) (w : World) → IsReached (setting_in old seed) w → Shows f old w
@@ -125,14 +124,14 @@ module _ {X : Type 0} {H : X → Type 0} where
   module _ {S : Type 0} (took part : S → List Row → S → Type 0) where
     -- what the steps of a run tell, the rows of which are handed to a sink: the last world of the sequential run, of
     -- which the sink took the trace; or why not all were handed on
-    abbrev pub StepsToEnd : {A : Type 0} → (DynBox X Global H → Record) → Setting → S → Result A (Halt StepFault) → S
-        → Engine X H → Type 0
+    abbrev pub StepsToEnd : {A : Type 0} → (M → Record) → Setting → S → Result A (Halt StepFault) → S
+        → Engine M → Type 0
     StepsToEnd f s old r new after =
         MatchResult r (λ _. (w : World) × IsLast s w × took old w.trace new × Shows f after w)
         (λ x. TellsHalt took part (MayStop s) s old x new)
 
     -- so of an engine that is opened, with every seed
-    abbrev pub StreamsRows : {A : Type 0} → (DynBox X Global H → Record) → Engine X H → S → Result A (Halt StepFault)
-        → S → Engine X H → Type 0
+    abbrev pub StreamsRows : {A : Type 0} → (M → Record) → Engine M → S → Result A (Halt StepFault)
+        → S → Engine M → Type 0
     StreamsRows f e old r new after =
         (seed : ℕ) → IsOpened f seed e → StepsToEnd f (setting_in e seed) old r new after

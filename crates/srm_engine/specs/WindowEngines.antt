@@ -1,7 +1,6 @@
 -- What is seen of the engine in windows, and what its calls tell.
 use Rattle.std.specs.Prelude.{◌≡◌, ℕ, List, [], ◌∷◌, ◌++◌, length, min, Result, MatchResult}
-use Rattle.std.specs.declared.dyn_box.DynBox.{DynBox}
-use Rattle.std.specs.Global.{Global, Vec}
+use Rattle.std.specs.Global.{Vec}
 use Rattle.srm_net.specs.Network.{Network}
 use Rattle.srm_scenario.specs.Plain.{PlainScenario, network_of}
 use Rattle.srm_scenario.specs.Accepted.{IsAccepted}
@@ -24,22 +23,22 @@ use Rattle.srm_engine.specs.Groups.{AreKept, handed_jobs}
 use Rattle.srm_engine.specs.Streams.{TellsHalt}
 use Rattle.srm_engine.specs.Windowed.{IsCounted, MayCome, calls_for}
 
-module _ {X : Type 0} {H : X → Type 0} where
+module _ {M : Type 0} where
   -- what an engine's run is of: its scenario and network, how many cells a job has, and where windows end
-  abbrev pub frame_of : WindowEngine X H → PlainScenario × Network × ℕ × Ends
+  abbrev pub frame_of : WindowEngine M → PlainScenario × Network × ℕ × Ends
   frame_of e = (e.scenario.now, e.net.now, e.groups.cut, e.ends)
 
   -- the setting of its run with a seed
-  abbrev pub setting_by : WindowEngine X H → ℕ → Setting
+  abbrev pub setting_by : WindowEngine M → ℕ → Setting
   setting_by e seed = setting_of e.scenario.now e.net.now seed
 
   -- where the windows of that run end
-  abbrev pub rule_by : WindowEngine X H → ℕ → World → ℕ
+  abbrev pub rule_by : WindowEngine M → ℕ → World → ℕ
   rule_by e seed = ends_rule (setting_by e seed) e.ends
 
   -- the windows that begin in these worlds came to a last one, as which the engine is seen: its cells, how soon
   -- something is due in them, and what its seat counted
-  pub record ComesTo (f : DynBox X Global H → Record) (seed : ℕ) (e : WindowEngine X H) (begins : List World)
+  pub record ComesTo (f : M → Record) (seed : ℕ) (e : WindowEngine M) (begins : List World)
       (w : World) : Type 0 where
     pub windows : AreWindows (setting_by e seed) (rule_by e seed) begins w
     pub kept : AreKept f (setting_by e seed) e.groups w.cells
@@ -47,7 +46,7 @@ module _ {X : Type 0} {H : X → Type 0} where
 
   -- the run is under way: its scenario is accepted, the network is the scenario's, the ledger has the network's links,
   -- windows may end so, and some of them came to what the engine is seen as
-  pub record IsUnderWay (f : DynBox X Global H → Record) (e : WindowEngine X H) : Type 0 where
+  pub record IsUnderWay (f : M → Record) (e : WindowEngine M) : Type 0 where
     pub accepted : IsAccepted e.scenario.now
     pub network : e.net.now ≡ network_of e.scenario.now
     pub links : e.ledger.links ≡ length e.net.now.links
@@ -58,31 +57,31 @@ module _ {X : Type 0} {H : X → Type 0} where
     pub comes : ComesTo f seed e begins world
 
   -- the engine is seen as the opening world with a seed
-  abbrev pub OpensAt : (DynBox X Global H → Record) → ℕ → WindowEngine X H → Type 0
+  abbrev pub OpensAt : (M → Record) → ℕ → WindowEngine M → Type 0
   OpensAt f seed e = ComesTo f seed e [] (opening (setting_by e seed))
 
   -- the next window begins at this tick, if that is before the end of the run
-  abbrev pub BeginsNext : (DynBox X Global H → Record) → WindowEngine X H → ℕ → Type 0
+  abbrev pub BeginsNext : (M → Record) → WindowEngine M → ℕ → Type 0
   BeginsNext f e begin =
       (seed : ℕ) (begins : List World) (w : World) → ComesTo f seed e begins w
       → begin ≡ min e.scenario.now.until (start_of (setting_by e seed) w)
 
   -- something is pending, and the window in which it is handled ends at this tick
-  abbrev pub EndsNext : (DynBox X Global H → Record) → WindowEngine X H → ℕ → Type 0
+  abbrev pub EndsNext : (M → Record) → WindowEngine M → ℕ → Type 0
   EndsNext f e end =
       (seed : ℕ) (begins : List World) (w : World) → ComesTo f seed e begins w
       → ((v : Event) × IsNext (setting_by e seed) w v) × (end ≡ rule_by e seed w)
 
   -- exits and totals are those of the world as which the engine is seen
-  abbrev pub TellsEnd : (DynBox X Global H → Record) → WindowEngine X H → List Exit → List ℕ → Type 0
+  abbrev pub TellsEnd : (M → Record) → WindowEngine M → List Exit → List ℕ → Type 0
   TellsEnd f e exits totals =
       (seed : ℕ) (begins : List World) (w : World) → ComesTo f seed e begins w
       → (exits ≡ exits_of w) × (totals ≡ crossings (setting_by e seed).traffic w.trace)
 
-  module _ {C : Type 0} (handed : C → List (List cell.PlainJob) → C → Type 0) (f : DynBox X Global H → Record) where
+  module _ {C : Type 0} (handed : C → List (List cell.PlainJob) → C → Type 0) (f : M → Record) where
     -- what one window tells: its rows, and one window more, for which the crew was handed its jobs; or why it is
     -- refused
-    abbrev pub TellsWindow : WindowEngine X H → C → Result (WindowEngine X H × Vec Row) WindowFault → C → Type 0
+    abbrev pub TellsWindow : WindowEngine M → C → Result (WindowEngine M × Vec Row) WindowFault → C → Type 0
     TellsWindow e old r new =
         (seed : ℕ) (begins : List World) (w : World) → ComesTo f seed e begins w
         → MatchResult r (λ v. (u : World) × ComesTo f seed v.0 (begins ++ w ∷ []) u × (u.trace ≡ w.trace ++ v.1.items)
@@ -90,10 +89,10 @@ module _ {X : Type 0} {H : X → Type 0} where
         (MayCome (setting_by e seed) (rule_by e seed) e.groups.cut w)
 
   module _ {C S : Type 0} (handed : C → List (List cell.PlainJob) → C → Type 0) (took part : S → List Row → S → Type 0)
-      (f : DynBox X Global H → Record) where
+      (f : M → Record) where
     -- what all windows of a run tell: they come to its last world, of which the sink took the trace, and the crew was
     -- handed their jobs, window after window; or why not all rows were handed on
-    abbrev pub TellsWindows : WindowEngine X H → C → S → Result (WindowEngine X H) (Halt WindowFault) → S → C → Type 0
+    abbrev pub TellsWindows : WindowEngine M → C → S → Result (WindowEngine M) (Halt WindowFault) → S → C → Type 0
     TellsWindows e old from r to new =
         (seed : ℕ) → OpensAt f seed e
         → MatchResult r (λ v. (begins : List World) × (w : World) × ComesTo f seed v begins w

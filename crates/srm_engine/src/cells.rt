@@ -53,8 +53,8 @@ fn add(
 
 /// What each member ends with, as it left or as it is, in order of the cells.
 pub(crate) fn finish_cells(alloc: Global, cells: Vec<Cell>) -> Result<Vec<Exit>, AllocError>
-    requires { AllEnd (λ b. plain (b.vtable, b.value)) cells.items }
-    ensures { IfOk result (λ exits. EndAs (λ b. plain (b.vtable, b.value)) cells.items exits.items) }
+    requires { AllEnd (λ b. plain b) cells.items }
+    ensures { IfOk result (λ exits. EndAs (λ b. plain b) cells.items exits.items) }
 {
     let mut exits = Vec::with_capacity(alloc, cells.len())?;
     for cell in cells {
@@ -71,8 +71,8 @@ pub(crate) fn finish_cells(alloc: Global, cells: Vec<Cell>) -> Result<Vec<Exit>,
 
 /// The cells of all members in order of their numbers, and their next times.
 #[derive(Drop)]
-pub(crate) struct Cells {
-    pub(crate) cells: Vec<Cell>,
+pub(crate) struct Cells<M = Box<dyn Member>> {
+    pub(crate) cells: Vec<Cell<M>>,
     pub(crate) times: NextTimes,
 }
 
@@ -80,7 +80,7 @@ impl Cells {
     /// These cells, their next times found.
     pub(crate) fn of(alloc: Global, cells: Vec<Cell>) -> Result<Cells, AllocError>
         requires { length cells.items ≤ 65536 }
-        ensures { IfOk result (λ indexed. IsIndexOf (λ b. plain (b.vtable, b.value)) cells.items indexed) }
+        ensures { IfOk result (λ indexed. IsIndexOf (λ b. plain b) cells.items indexed) }
     {
         let times = NextTimes::of(alloc, next_times(alloc, cells.as_slice())?)?;
         Ok(Cells { cells, times })
@@ -96,7 +96,7 @@ impl Cells {
         requires until { until ≤ end_of_time }
         requires place { member < length self.old.cells.items }
         requires time { member < length self.old.times }
-        ensures { TakesStep (λ b. plain (b.vtable, b.value)) member until self.old result self.new }
+        ensures { TakesStep (λ b. plain b) member until self.old result self.new }
     {
         let cell = &mut self.cells[usize::from(member)];
         let row = match cell.step(alloc, until) {
@@ -113,7 +113,7 @@ impl Cells {
         requires place { member < length self.old.cells.items }
         requires time { member < length self.old.times }
         requires new { IsNewAt member packet.now.id self.old }
-        ensures { IfOk result (λ _. HandsTo (λ b. plain (b.vtable, b.value)) member packet.now at self.old self.new) }
+        ensures { IfOk result (λ _. HandsTo (λ b. plain b) member packet.now at self.old self.new) }
     {
         let cell = &mut self.cells[usize::from(member)];
         let Ok(()) = cell.accept(packet, at) else {
@@ -127,7 +127,7 @@ impl Cells {
 
 // The next time of each cell, in order.
 fn next_times(alloc: Global, cells: &[Cell]) -> Result<Vec<Option<u64>>, AllocError>
-    ensures { IfOk result (λ times. AreNextTimes (λ b. plain (b.vtable, b.value)) cells.now times.items) }
+    ensures { IfOk result (λ times. AreNextTimes (λ b. plain b) cells.now times.items) }
 {
     let mut times = Vec::with_capacity(alloc, cells.len())?;
     for cell in cells {

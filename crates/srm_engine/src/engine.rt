@@ -30,10 +30,10 @@ const MOST_PIECES: u64 = 144_115_188_075_855_872;
 
 /// A run of a scenario: the cells of all members, and the totals so far.
 #[derive(Drop)]
-pub(crate) struct Engine<'a> {
+pub(crate) struct Engine<'a, M = Box<dyn Member>> {
     pub(crate) scenario: &'a Scenario,
     pub(crate) net: &'a Net,
-    pub(crate) cells: Cells,
+    pub(crate) cells: Cells<M>,
     pub(crate) totals: Totals,
 }
 
@@ -69,7 +69,7 @@ impl<'a> Engine<'a> {
         sink: &mut S,
     ) -> Result<(), Halt<StepFault>>
         requires network { IsSetUp self.old }
-        requires opened { (seed : ℕ) × IsOpened (λ b. plain (b.vtable, b.value)) seed self.old }
+        requires opened { (seed : ℕ) × IsOpened (λ b. plain b) seed self.old }
         requires open { IsOpen (S.stage sink.old) }
         requires failures { S.failures sink.old < 2 ^ 64 - 1 }
         ensures same { IsStillOf self.old self.new }
@@ -77,7 +77,7 @@ impl<'a> Engine<'a> {
         ensures stage { S.stage sink.new ≡ stage_after (sink_in result) }
         ensures failures { S.failures sink.new ≡ S.failures sink.old + stops_in (sink_in result) }
         ensures pieces { HandsPieces S.handed sink.old sink.new }
-        ensures rows { StreamsRows S.took S.part (λ b. plain (b.vtable, b.value)) self.old sink.old result
+        ensures rows { StreamsRows S.took S.part (λ b. plain b) self.old sink.old result
             sink.new self.new }
     {
         if let Err(fault) = hand_none(alloc, sink) {
@@ -104,10 +104,10 @@ impl<'a> Engine<'a> {
     /// Steps, one after the other, until nothing is pending before the end of the run, or there are so many rows.
     pub(crate) fn steps(&mut self, alloc: Global, most: usize) -> Result<Vec<Row>, StepFault>
         requires network { IsSetUp self.old }
-        requires known { MayTake (λ b. plain (b.vtable, b.value)) self.old }
+        requires known { MayTake (λ b. plain b) self.old }
         ensures same { IsStillOf self.old self.new }
         ensures few { IfOk result (λ rows. length rows.items ≤ most) }
-        ensures steps { TakesSteps (λ b. plain (b.vtable, b.value)) most self.old result self.new }
+        ensures steps { TakesSteps (λ b. plain b) most self.old result self.new }
     {
         let mut rows = Vec::new(alloc);
         while rows.len() < most {
@@ -127,9 +127,9 @@ impl<'a> Engine<'a> {
     /// The step of the sequential run: the least pending event of all is taken, and its packet handed out.
     pub(crate) fn step(&mut self, alloc: Global) -> Result<Option<Row>, StepFault>
         requires network { IsSetUp self.old }
-        requires known { MayStep (λ b. plain (b.vtable, b.value)) self.old }
+        requires known { MayStep (λ b. plain b) self.old }
         ensures same { IsStillOf self.old self.new }
-        ensures step { StepsOn (λ b. plain (b.vtable, b.value)) self.old result self.new }
+        ensures step { StepsOn (λ b. plain b) self.old result self.new }
     {
         let until = self.scenario.until();
         let Some((time, member)) = self.cells.times.least() else {
@@ -150,9 +150,9 @@ impl<'a> Engine<'a> {
     // Counts and hands out the packet that a row sent, if any.
     fn send(&mut self, alloc: Global, row: &Row) -> Result<(), AllocError>
         requires network { IsSetUp self.old }
-        requires may { MaySendNow (λ b. plain (b.vtable, b.value)) self.old row.now.sent }
+        requires may { MaySendNow (λ b. plain b) self.old row.now.sent }
         ensures same { IsStillOf self.old self.new }
-        ensures sent { IfOk result (λ _. Sends (λ b. plain (b.vtable, b.value)) row.now.sent self.old self.new) }
+        ensures sent { IfOk result (λ _. Sends (λ b. plain b) row.now.sent self.old self.new) }
     {
         let Some(packet) = &row.sent else {
             return Ok(());
@@ -169,10 +169,10 @@ impl<'a> Engine<'a> {
     fn deliver(&mut self, packet: &Packet, spread: &Spread) -> Result<(), AllocError>
         requires network { IsSetUp self.old }
         requires spread { IsSpread self.old.net.now self.old.scenario.now.drops packet.now.id packet.now.sent spread.now }
-        requires may { MayDeliver (λ b. plain (b.vtable, b.value)) packet.now self.old }
+        requires may { MayDeliver (λ b. plain b) packet.now self.old }
         ensures same { IsStillOf self.old self.new }
         ensures totals { self.new.totals ≡ self.old.totals }
-        ensures heard { IfOk result (λ _. Delivers (λ b. plain (b.vtable, b.value)) packet.now self.old self.new) }
+        ensures heard { IfOk result (λ _. Delivers (λ b. plain b) packet.now self.old self.new) }
     {
         for member in 0..self.scenario.members() {
             if let Some(at) = arrival(self.scenario, self.net, packet, spread, member) {

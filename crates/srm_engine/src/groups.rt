@@ -25,10 +25,10 @@ use std::alloc::{AllocError, Global};
 
 /// The cells of all members, those of each job together, and how soon something is due in each of these groups.
 #[derive(Drop)]
-pub(crate) struct Groups {
+pub(crate) struct Groups<M = Box<dyn Member>> {
     /// How many cells a group has. The last one may have fewer.
     pub(crate) cut: usize,
-    pub(crate) groups: Vec<Vec<Cell>>,
+    pub(crate) groups: Vec<Vec<Cell<M>>>,
     pub(crate) soon: Vec<Soonest>,
 }
 
@@ -46,8 +46,8 @@ impl Groups {
         requires members { length cells.items ≤ length scenario.now.members }
         ensures cut { IfOk result (λ all. all.cut ≡ cut) }
         ensures kept { IfOk result (λ all. (seed : ℕ) (ps : List PlainCell)
-            → AreCells (λ b. plain (b.vtable, b.value)) cells.items ps
-            → AreKept (λ b. plain (b.vtable, b.value)) (setting_of scenario.now net.now seed) all ps) }
+            → AreCells (λ b. plain b) cells.items ps
+            → AreKept (λ b. plain b) (setting_of scenario.now net.now seed) all ps) }
     {
         let groups = group(alloc, cells, cut)?;
         let soon = soonest_of_each(alloc, scenario, net, groups.as_slice(), cut)?;
@@ -60,7 +60,7 @@ impl Groups {
         requires network { net.now ≡ network_of scenario.now }
         requires may { MayLookAgain (length scenario.now.members) self }
         ensures same { (result.cut ≡ self.cut) × (result.groups ≡ self.groups) }
-        ensures soon { (seed : ℕ) → LooksAgain (λ b. plain (b.vtable, b.value))
+        ensures soon { (seed : ℕ) → LooksAgain (λ b. plain b)
             (setting_of scenario.now net.now seed) end self result }
     {
         let until = scenario.until();
@@ -87,7 +87,7 @@ impl Groups {
         requires { MayHand member packet.now.id self.old }
         ensures cut { IfOk result (λ _. self.new.cut ≡ self.old.cut) }
         ensures heard { IfOk result (λ _. (s : Setting) → way ≡ way_of s member
-            → HandsIn (λ b. plain (b.vtable, b.value)) s member packet.now at self.old self.new) }
+            → HandsIn (λ b. plain b) s member packet.now at self.old self.new) }
     {
         let number = usize::from(member);
         let index = number / self.cut;
@@ -111,10 +111,10 @@ impl Groups {
         packet: &Packet,
     ) -> Result<(), AllocError>
         requires network { net.now ≡ network_of scenario.now }
-        requires may { (seed : ℕ) × MayDeliverIn (λ b. plain (b.vtable, b.value))
+        requires may { (seed : ℕ) × MayDeliverIn (λ b. plain b)
             (setting_of scenario.now net.now seed) packet.now self.old }
         ensures cut { IfOk result (λ _. self.new.cut ≡ self.old.cut) }
-        ensures heard { IfOk result (λ _. (seed : ℕ) → DeliversIn (λ b. plain (b.vtable, b.value))
+        ensures heard { IfOk result (λ _. (seed : ℕ) → DeliversIn (λ b. plain b)
             (setting_of scenario.now net.now seed) packet.now self.old self.new) }
     {
         let spread = net.spread(alloc, scenario.drops(), packet.id, packet.sent)?;
@@ -137,10 +137,10 @@ impl Groups {
     ) -> Result<(), AllocError>
         requires network { net.now ≡ network_of scenario.now }
         requires until { scenario.now.until ≤ end_of_time }
-        requires may { (seed : ℕ) × MayHear (λ b. plain (b.vtable, b.value))
+        requires may { (seed : ℕ) × MayHear (λ b. plain b)
             (setting_of scenario.now net.now seed) rows.now self.old }
         ensures cut { IfOk result (λ _. self.new.cut ≡ self.old.cut) }
-        ensures heard { IfOk result (λ _. (seed : ℕ) → Hears (λ b. plain (b.vtable, b.value))
+        ensures heard { IfOk result (λ _. (seed : ℕ) → Hears (λ b. plain b)
             (setting_of scenario.now net.now seed) rows.now self.old self.new) }
     {
         for row in rows {

@@ -72,7 +72,7 @@ pub(crate) fn soonest_in(
     requires members { first + length cells.now ≤ length scenario.now.members }
     requires few { length scenario.now.members < 65536 }
     ensures { (seed : ℕ) (ps : List PlainCell)
-        → AreThose (λ b. plain (b.vtable, b.value)) first cells.now ps
+        → AreThose (λ b. plain b) first cells.now ps
         → IsSoonest (setting_of scenario.now net.now seed) (IsInRange first (length cells.now)) ps result }
 {
     let mut soonest = Soonest {
@@ -99,7 +99,7 @@ pub(crate) fn soonest_of_each(
     requires cuts { AreCuts cut (sizes groups.now) }
     requires members { length (all_in groups.now) ≤ length scenario.now.members }
     ensures { IfOk result (λ xs. (seed : ℕ) (ps : List PlainCell)
-        → AreGrouped (λ b. plain (b.vtable, b.value)) cut groups.now ps
+        → AreGrouped (λ b. plain b) cut groups.now ps
         → AreSoonest (setting_of scenario.now net.now seed) cut xs.items ps) }
 {
     let until = scenario.until();

@@ -31,12 +31,12 @@ use std::alloc::{AllocError, Global};
 /// A run of a scenario in windows: the cells of all members in the groups of its jobs, the ledger with its whole seat, and where
 /// windows end.
 #[derive(Drop)]
-pub(crate) struct WindowEngine<'a> {
+pub(crate) struct WindowEngine<'a, M = Box<dyn Member>> {
     pub(crate) scenario: &'a Scenario,
     pub(crate) net: &'a Net,
     pub(crate) ledger: Ledger,
     pub(crate) seat: Seat,
-    pub(crate) groups: Groups,
+    pub(crate) groups: Groups<M>,
     pub(crate) ends: Ends,
 }
 
@@ -76,17 +76,17 @@ impl<'a> WindowEngine<'a> {
 
     // When the next window begins: at the least of the next times of all cells, or with the end of the run.
     fn begin(&self) -> u64
-        ensures { BeginsNext (λ b. plain (b.vtable, b.value)) self.now result }
+        ensures { BeginsNext (λ b. plain b) self.now result }
     {
         least(self.groups.soon.as_slice(), self.scenario.until())
     }
 
     // When the window ends that begins at this tick.
     fn end(&self, begin: u64) -> u64
-        requires stands { IsUnderWay (λ b. plain (b.vtable, b.value)) self.now }
-        requires begin { BeginsNext (λ b. plain (b.vtable, b.value)) self.now begin }
+        requires stands { IsUnderWay (λ b. plain b) self.now }
+        requires begin { BeginsNext (λ b. plain b) self.now begin }
         requires early { begin < self.now.scenario.now.until }
-        ensures { EndsNext (λ b. plain (b.vtable, b.value)) self.now result }
+        ensures { EndsNext (λ b. plain b) self.now result }
     {
         self.ends
             .end(self.groups.soon.as_slice(), begin, self.scenario.until())
@@ -100,15 +100,15 @@ impl<'a> WindowEngine<'a> {
         begin: u64,
     ) -> Result<(WindowEngine<'a>, Vec<Row>), WindowFault>
         requires ready { C.ready crew.old }
-        requires stands { IsUnderWay (λ b. plain (b.vtable, b.value)) self }
-        requires begin { BeginsNext (λ b. plain (b.vtable, b.value)) self begin }
+        requires stands { IsUnderWay (λ b. plain b) self }
+        requires begin { BeginsNext (λ b. plain b) self begin }
         requires early { begin < self.scenario.now.until }
         ensures ready { C.ready crew.new }
         ensures frame { IfOk result (λ ran. frame_of ran.0 ≡ frame_of self.entry) }
-        ensures stands { IfOk result (λ ran. IsUnderWay (λ b. plain (b.vtable, b.value)) ran.0) }
-        ensures later { IfOk result (λ ran. (next : ℕ) → BeginsNext (λ b. plain (b.vtable, b.value)) ran.0 next
+        ensures stands { IfOk result (λ ran. IsUnderWay (λ b. plain b) ran.0) }
+        ensures later { IfOk result (λ ran. (next : ℕ) → BeginsNext (λ b. plain b) ran.0 next
             → begin < next) }
-        ensures window { TellsWindow C.handed (λ b. plain (b.vtable, b.value)) self.entry crew.old result crew.new }
+        ensures window { TellsWindow C.handed (λ b. plain b) self.entry crew.old result crew.new }
     {
         let end = self.end(begin);
         let WindowEngine {
@@ -149,16 +149,16 @@ impl<'a> WindowEngine<'a> {
         sink: &mut S,
     ) -> Result<WindowEngine<'a>, Halt<WindowFault>>
         requires ready { C.ready crew.old }
-        requires stands { IsUnderWay (λ b. plain (b.vtable, b.value)) self }
+        requires stands { IsUnderWay (λ b. plain b) self }
         requires open { IsOpen (S.stage sink.old) }
         requires failures { S.failures sink.old < 2 ^ 64 - 1 }
         ensures ready { C.ready crew.new }
-        ensures stands { IfOk result (λ e. IsUnderWay (λ b. plain (b.vtable, b.value)) e) }
+        ensures stands { IfOk result (λ e. IsUnderWay (λ b. plain b) e) }
         ensures frame { IfOk result (λ e. frame_of e ≡ frame_of self.entry) }
         ensures device { S.same sink.old sink.new }
         ensures stage { S.stage sink.new ≡ stage_after (sink_in result) }
         ensures failures { S.failures sink.new ≡ S.failures sink.old + stops_in (sink_in result) }
-        ensures windows { TellsWindows C.handed S.took S.part (λ b. plain (b.vtable, b.value)) self.entry crew.old
+        ensures windows { TellsWindows C.handed S.took S.part (λ b. plain b) self.entry crew.old
             sink.old result sink.new crew.new }
     {
         if let Err(fault) = hand_none(alloc, sink) {
@@ -183,8 +183,8 @@ impl<'a> WindowEngine<'a> {
 
     /// What each member ends with, and what was counted.
     pub(crate) fn finish(self, alloc: Global) -> Result<(Vec<Exit>, Totals), AllocError>
-        requires stands { IsUnderWay (λ b. plain (b.vtable, b.value)) self }
-        ensures { IfOk result (λ ends. TellsEnd (λ b. plain (b.vtable, b.value)) self.entry ends.0.items ends.1) }
+        requires stands { IsUnderWay (λ b. plain b) self }
+        ensures { IfOk result (λ ends. TellsEnd (λ b. plain b) self.entry ends.0.items ends.1) }
     {
         let WindowEngine {
             ledger,

@@ -25,6 +25,7 @@ mod member_state;
 pub mod named;
 mod outcome;
 mod pages;
+pub mod participant;
 mod pending;
 mod progress;
 pub mod react;

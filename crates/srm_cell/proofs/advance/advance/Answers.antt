@@ -18,7 +18,7 @@ pub returns-in-Err : goal.returns-in-Err
 returns-in-Err g c = record {
   tells = λ p h.
       subst (λ t. TellsFault t p.cells c.in-Err.fault) h.till
-      (c.in-Err.ensures.runs p.cells (subst (λ cs. AreCells (λ b. (goal.Member-dyn g (b.vtable, b.value)).plain b.value) cs p.cells)
+      (c.in-Err.ensures.runs p.cells (subst (λ cs. AreCells g.M.Participant.plain cs p.cells)
       (sym c.as_mut_slice.ensures.value) h.cells));
 }
 
@@ -26,9 +26,9 @@ pub crossings_of-requires-clause-senders : goal.crossings_of-requires-clause-sen
 crossings_of-requires-clause-senders g c =
     let k = c.requires in
     let ran = c.in-Ok.ensures.runs k.plain_job.cells (subst
-    (λ cs. AreCells (λ b. (goal.Member-dyn g (b.vtable, b.value)).plain b.value) cs k.plain_job.cells)
+    (λ cs. AreCells g.M.Participant.plain cs k.plain_job.cells)
     (sym c.as_mut_slice.ensures.value) k.is.cells) in
-    let below = rows_below (λ b. (goal.Member-dyn g (b.vtable, b.value)).plain b.value) c.args.job.till (length c.args.net.now.hosts)
+    let below = rows_below g.M.Participant.plain c.args.job.till (length c.args.net.now.hosts)
     k.plain_job.cells c.in-Ok.rows.items c.run_each.new.cells (let same = k.is.till in let le = k.till in omega arith) k.of_members ran
     in
     subst (λ (ls : List (List Row)). All (λ rs. All (λ r. IsSentBelow (length c.args.net.now.hosts) r.sent) rs) ls)
@@ -38,13 +38,13 @@ pub crossings_of-requires-clause-few : goal.crossings_of-requires-clause-few
 crossings_of-requires-clause-few g c =
     let k = c.requires in
     let ran = c.in-Ok.ensures.runs k.plain_job.cells (subst
-    (λ cs. AreCells (λ b. (goal.Member-dyn g (b.vtable, b.value)).plain b.value) cs k.plain_job.cells)
+    (λ cs. AreCells g.M.Participant.plain cs k.plain_job.cells)
     (sym c.as_mut_slice.ensures.value) k.is.cells) in
-    let few = rows_few (λ b. (goal.Member-dyn g (b.vtable, b.value)).plain b.value) c.args.job.till k.plain_job.cells c.in-Ok.rows.items
+    let few = rows_few g.M.Participant.plain c.args.job.till k.plain_job.cells c.in-Ok.rows.items
     c.run_each.new.cells ran in
-    let after = as_many (λ b. (goal.Member-dyn g (b.vtable, b.value)).plain b.value) c.args.job.till k.plain_job.cells c.in-Ok.rows.items
+    let after = as_many g.M.Participant.plain c.args.job.till k.plain_job.cells c.in-Ok.rows.items
     c.run_each.new.cells ran in
-    let before = as_many_seen (λ b. (goal.Member-dyn g (b.vtable, b.value)).plain b.value) c.args.job.cells.items k.plain_job.cells
+    let before = as_many_seen g.M.Participant.plain c.args.job.cells.items k.plain_job.cells
     k.is.cells in
     let same : length (packets_of (joined c.as_slice.result.now)) ≡ length (packets_of (joined c.in-Ok.rows.items)) =
     ap (λ (ls : List (List Row)). length (packets_of (joined ls))) c.as_slice.ensures.value in
@@ -55,11 +55,11 @@ pub returns : goal.returns
 returns g c = record {
   tells = λ p h. record {
     place = h.place;
-    runs = subst (λ t. RanEach (λ b. (goal.Member-dyn g (b.vtable, b.value)).plain b.value) t p.cells c.in-Ok.rows.items
+    runs = subst (λ t. RanEach g.M.Participant.plain t p.cells c.in-Ok.rows.items
         (with_items c.args.job.cells c.run_each.new.cells).items) h.till
-        (subst (λ cs. RanEach (λ b. (goal.Member-dyn g (b.vtable, b.value)).plain b.value) c.args.job.till p.cells c.in-Ok.rows.items cs)
+        (subst (λ cs. RanEach g.M.Participant.plain c.args.job.till p.cells c.in-Ok.rows.items cs)
         (sym (with_items_is c.args.job.cells c.run_each.new.cells (c.run_each.ensures.many ∙ c.as_mut_slice.ensures.len)))
-        (c.in-Ok.ensures.runs p.cells (subst (λ cs. AreCells (λ b. (goal.Member-dyn g (b.vtable, b.value)).plain b.value) cs p.cells)
+        (c.in-Ok.ensures.runs p.cells (subst (λ cs. AreCells g.M.Participant.plain cs p.cells)
         (sym c.as_mut_slice.ensures.value) h.cells)));
     crossings_are = c.in-Ok-crossings_of.ensures.counted ∙
         ap (λ (ls : List (List Row)). crossings (traffic_of c.args.scenario.now c.args.net.now) (joined ls)) c.as_slice.ensures.value;
@@ -69,12 +69,12 @@ returns g c = record {
 pub returns-in_default : goal.returns-in_default
 returns-in_default g c = record {
   tells = λ p h.
-      let ran = subst (λ t. RanEach (λ b. (goal.Member-dyn g (b.vtable, b.value)).plain b.value) t p.cells c.in-Ok.rows.items
+      let ran = subst (λ t. RanEach g.M.Participant.plain t p.cells c.in-Ok.rows.items
       c.run_each.new.cells) h.till (c.in-Ok.ensures.runs p.cells
-      (subst (λ cs. AreCells (λ b. (goal.Member-dyn g (b.vtable, b.value)).plain b.value) cs p.cells)
+      (subst (λ cs. AreCells g.M.Participant.plain cs p.cells)
       (sym c.as_mut_slice.ensures.value) h.cells)) in
       let some = subst (λ (ls : List (List Row)). 0 < length (packets_of (joined ls))) c.as_slice.ensures.value c.in_default.ensures.asked
       in
-      each_asks (λ b. (goal.Member-dyn g (b.vtable, b.value)).plain b.value) p.till p.cells c.in-Ok.rows.items c.run_each.new.cells ran
+      each_asks g.M.Participant.plain p.till p.cells c.in-Ok.rows.items c.run_each.new.cells ran
       (some_list c.in-Ok.rows.items some);
 }

@@ -11,7 +11,7 @@ pub loop-cell-init : goal.loop-cell-init
 loop-cell-init g c = (
   refl,
   λ qs h. rw c.new-rows.ensures.items
-      (so_far_none (λ b. (goal.Member-dyn g (b.vtable, b.value)).plain b.value) c.args.till qs c.args.cells.now h),
+      (so_far_none g.M.Participant.plain c.args.till qs c.args.cells.now h),
 )
 
 pub loop-cell-preserved : goal.loop-cell-preserved
@@ -26,12 +26,12 @@ loop-cell-preserved g c =
       length-set old i after ∙ c.loop-cell.invariant.0,
       λ qs h.
           let s = c.loop-cell.invariant.1 qs h in
-          let r = first_of (λ b. (goal.Member-dyn g (b.vtable, b.value)).plain b.value) cell (drop (i + 1) old) s.rest
+          let r = first_of g.M.Participant.plain cell (drop (i + 1) old) s.rest
           (rw (drop_more old i c.cell-item.result within) at s.seen) in
           let rows = pushed_if c.push.result (c.loop-cell.rows.items ++ c.in-Ok.new ∷ []) c.loop-cell.rows.items c.push.new.self.items
           (sym c.is_err.ensures.value ∙ c.if-is_err.false) c.push.ensures.items in
           rw (rows, take_more_set old i after within, drop-set-lt (i + 1) old i after (omega arith))
-          (so_far_more (λ b. (goal.Member-dyn g (b.vtable, b.value)).plain b.value) c.args.till qs c.loop-cell.rows.items
+          (so_far_more g.M.Participant.plain c.args.till qs c.loop-cell.rows.items
           (take i old) (drop i old) (drop (i + 1) old) cell after c.in-Ok.new s r
           (c.in-Ok.ensures r.own.member r.own.cell r.cell)),
     )
@@ -45,9 +45,9 @@ returns-in-Err-clause-runs g c = λ qs h.
     let test = c.loop-cell-test.true in
     let within : i < length old = omega arith in
     let s = c.loop-cell.invariant.1 qs h in
-    let r = first_of (λ b. (goal.Member-dyn g (b.vtable, b.value)).plain b.value) cell (drop (i + 1) old) s.rest
+    let r = first_of g.M.Participant.plain cell (drop (i + 1) old) s.rest
     (rw (drop_more old i c.cell-item.result within) at s.seen) in
-    so_far_fault (λ b. (goal.Member-dyn g (b.vtable, b.value)).plain b.value) c.args.till qs c.loop-cell.rows.items (take i old)
+    so_far_fault g.M.Participant.plain c.args.till qs c.loop-cell.rows.items (take i old)
     (drop i old) (drop (i + 1) old) cell c.run.new.self c.in-Err.fault s r (c.in-Err.ensures r.own.member r.own.cell r.cell)
 
 pub returns-then-is_err-clause-runs : goal.returns-then-is_err-clause-runs
@@ -59,9 +59,9 @@ returns-then-is_err-clause-runs g c = λ qs h.
     let test = c.loop-cell-test.true in
     let within : i < length old = omega arith in
     let s = c.loop-cell.invariant.1 qs h in
-    let r = first_of (λ b. (goal.Member-dyn g (b.vtable, b.value)).plain b.value) cell (drop (i + 1) old) s.rest
+    let r = first_of g.M.Participant.plain cell (drop (i + 1) old) s.rest
     (rw (drop_more old i c.cell-item.result within) at s.seen) in
-    so_far_kept (λ b. (goal.Member-dyn g (b.vtable, b.value)).plain b.value) c.args.till qs c.loop-cell.rows.items (take i old)
+    so_far_kept g.M.Participant.plain c.args.till qs c.loop-cell.rows.items (take i old)
     (drop i old) (drop (i + 1) old) cell c.run.new.self c.in-Ok.new s r (c.in-Ok.ensures r.own.member r.own.cell r.cell)
 
 pub returns-clause-runs : goal.returns-clause-runs
@@ -71,7 +71,7 @@ returns-clause-runs g c = λ qs h.
     let past = c.loop-cell-test.false in
     let within = c.loop-cell.auto.cell-index-end in
     let all : i ≡ length old = omega arith in
-    subst (λ cs. RanEach (λ b. (goal.Member-dyn g (b.vtable, b.value)).plain b.value) c.args.till qs c.loop-cell.rows.items cs)
+    subst (λ cs. RanEach g.M.Participant.plain c.args.till qs c.loop-cell.rows.items cs)
     (ap (λ n. take n old) all ∙ take-length old)
-    (so_far_all (λ b. (goal.Member-dyn g (b.vtable, b.value)).plain b.value) c.args.till qs c.loop-cell.rows.items (take i old) (drop i old)
+    (so_far_all g.M.Participant.plain c.args.till qs c.loop-cell.rows.items (take i old) (drop i old)
     (c.loop-cell.invariant.1 qs h) (drop_of_length-le old (omega arith)))

@@ -7,6 +7,6 @@ use Rattle.srm_cell.proofs.advance.run_each.Given as goal
 abbrev pub invariant-loop-cell : goal.invariant-loop-cell
 invariant-loop-cell g l =
     (length l.cells ≡ length l.fn.cells)
-    × ((qs : List OwnCell) → AreCells (λ b. (goal.Member-dyn g (b.vtable, b.value)).plain b.value) l.fn.cells qs
-    → SoFar (λ b. (goal.Member-dyn g (b.vtable, b.value)).plain b.value) l.till qs l.rows.items (take l.cell-index l.cells)
+    × ((qs : List OwnCell) → AreCells g.M.Participant.plain l.fn.cells qs
+    → SoFar g.M.Participant.plain l.till qs l.rows.items (take l.cell-index l.cells)
     (drop l.cell-index l.cells))

@@ -43,5 +43,5 @@ returns-then-is_err g c = λ m p h.
 pub returns-in-Err : goal.returns-in-Err
 returns-in-Err g c = λ m p h.
     let i = c.loop-rows.invariant m p h in
-    leads_fault c.args.end m (λ b. (goal.Member-dyn g (b.vtable, b.value)).plain b.value) p i.0 c.loop-rows.rows.items c.in-Err.fault
+    leads_fault c.args.end m g.M.Participant.plain p i.0 c.loop-rows.rows.items c.in-Err.fault
     c.step.new.self i.1 (c.in-Err.ensures m i.0 i.2)

@@ -29,5 +29,5 @@ returns-in-Err g c = λ m p h.
     let s = subst (λ o. Stands m p o (next_event m p)) c.in-Some.is h.next in
     let t = c.take-cause.ensures m p s.0 h.parts s.3 in
     let a = c.in-Err.ensures m s.0 t.0 s.2 (sym t.1) in
-    tells_fault (λ b. (goal.Member-dyn g (b.vtable, b.value)).plain b.value) m p _ _ c.in-Err.fault c.answer.new.self c.answer.new.self
+    tells_fault g.M.Participant.plain m p _ _ c.in-Err.fault c.answer.new.self c.answer.new.self
     (takes c.args.end m p c.in-Some.next s c.if-next-end.false) a
