@@ -19,6 +19,10 @@ place_at l k = 5 * l + place_of k
 abbrev pub counted_at : List ℕ → ℕ → Kind → ℕ
 counted_at ns l k = slice_index ns (place_at l k)
 
+-- n more of a kind at link l
+abbrev pub more_by : ℕ → List ℕ → ℕ → Kind → List ℕ
+more_by n ns l k = slice_set ns (place_at l k) (counted_at ns l k + n)
+
 -- one more of a kind at link l
 abbrev pub one_more : List ℕ → ℕ → Kind → List ℕ
 one_more ns l k = slice_set ns (place_at l k) (counted_at ns l k + 1)

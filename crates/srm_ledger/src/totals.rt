@@ -1,7 +1,7 @@
 //! Counts of packets, link by link.
 ghost use Rattle.std.specs.Prelude.{◌≡◌, ◌<◌, ◌+◌, ◌*◌, ◌^◌, List, ℕ, length, drop, IfOk, All};
 ghost use Rattle.std.specs.List.{concat};
-ghost use Rattle.srm_ledger.specs.Counts.{counted_at, one_more, nothing_at};
+ghost use Rattle.srm_ledger.specs.Counts.{counted_at, more_by, one_more, nothing_at};
 ghost use Rattle.srm_ledger.specs.Seats.{words_of};
 
 use crate::kind::Kind;
@@ -57,6 +57,15 @@ impl Totals {
     {
         let word = word_of(usize::from(link), kind);
         self.words[word] += 1;
+    }
+
+    /// Counts `n` more packets of a kind at a link. It does not allocate.
+    pub fn add(&mut self, link: u16, kind: Kind, n: u64)
+        requires within { 5 * link + 4 < length self.old }
+        requires room { counted_at self.old link kind + n < 2 ^ 64 }
+        ensures { self.new ≡ more_by n self.old link kind }
+    {
+        self.words[word_of(usize::from(link), kind)] += n;
     }
 
     /// How many packets of a kind were counted at a link. It does not allocate.

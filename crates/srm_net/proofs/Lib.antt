@@ -31,3 +31,4 @@ pub mod Meetings
 pub mod NodeOrder
 pub mod Arrivals
 pub mod HalfRoundLemmas
+pub mod Joining

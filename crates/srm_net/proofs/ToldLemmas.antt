@@ -10,16 +10,7 @@ use Rattle.srm_net.specs.Paths.{host}
 use Rattle.srm_net.specs.Tables.{is_beyond, near_end, some_beyond, TellsSides}
 use Rattle.srm_net.specs.Least.{out}
 use Rattle.srm_net.specs.Told.{IsTold}
-use Rattle.srm_net.proofs.OccupiedLemmas.{some_found}
 use Rattle.srm_net.proofs.Lists.{get_below, below_get, get_index, get_push_old, get_push_new}
-
-left_false : (a b : Bool) → (a && b) ≡ false → b ≡ true → a ≡ false
-left_false true b h e = sym e ∙ h
-left_false false b h e = refl
-
-right_false : (a b : Bool) → (a && b) ≡ false → a ≡ true → b ≡ false
-right_false true b h e = h
-right_false false b h e = absurd cc
 
 -- what the sides of a link tell
 pub sides_told : (n : Inside) → IsTold n → (l : ℕ) (k : LinkSpec) → slice_get n.tree.value.links l ≡ Some k → (s : Sides) → s
@@ -32,26 +23,6 @@ sides_told n i l k g s r u b q =
       | true ↦ λ h. rw h (ap (λ (x : Sides). x.a) same ∙ told.2.a)
       | false ↦ λ h. rw h (ap (λ (x : Sides). x.b) same ∙ told.2.b)
     ] q
-
--- where the tables do not tell of members on both sides, none is beyond the link from any member's node
-pub none_beyond : (n : Inside) → IsTold n → (l : ℕ) (k : LinkSpec) → slice_get n.tree.value.links l ≡ Some k → (s : Sides) → s
-    ≡ slice_index_or n.sides.items l s → (s.a && s.b) ≡ false → (m : ℕ) → m < length n.tree.value.hosts
-    → some_beyond n.tree.value l k (host n.tree.value m) ≡ false
-none_beyond n i l k g s r one m lt =
-    let told = i.sides l k g in
-    let same : s ≡ told.0 = r ∙ get_index n.sides.items l told.0 s told.1 in
-    let w = n.tree.value in
-    let b = is_beyond w l k (host w m) in
-    elim b as (λ t. is_beyond w l k (host w m) ≡ t → some_beyond w l k (host w m) ≡ false) [
-      | true ↦ λ h. (
-          let there : s.b ≡ true = ap (λ (x : Sides). x.b) same ∙ told.2.b
-          ∙ some_found (λ j. is_beyond w l k (host w j)) (length w.hosts) m lt h in
-          sym (sides_told n i l k g s r (host w m) true h) ∙ left_false s.a s.b one there)
-      | false ↦ λ h. (
-          let here : s.a ≡ true = ap (λ (x : Sides). x.a) same ∙ told.2.a
-          ∙ some_found (λ j. not (is_beyond w l k (host w j))) (length w.hosts) m lt (ap not h) in
-          sym (sides_told n i l k g s r (host w m) false h) ∙ right_false s.a s.b one here)
-    ] refl
 
 pub side_below : (n : Inside) → IsTold n → (l : ℕ) → l < length n.tree.value.links → l < length n.sides.items
 side_below n i l h = let k = below_get n.tree.value.links l h in let told = i.sides l k.0 k.1 in get_below n.sides.items l told.0 told.1
@@ -79,13 +50,6 @@ any_seen i t n e l u f s q r k h b y =
     let g : slice_get i.tree.value.links l ≡ Some k = ap (λ (v : Network). slice_get v.links l) e ∙ h in
     sides_told i t l k g s (r ∙ ap (λ z. slice_index_or i.sides.items z s) q) u b (sym (y k g))
     ∙ ap (λ (v : Network). some_beyond v l k u) e
-
-pub none_seen : (i : Inside) → IsTold i → (n : Network) → i.tree.value ≡ n → (l f : ℕ) (s : Sides) → f ≡ l
-    → s ≡ slice_index_or i.sides.items f s → (s.a && s.b) ≡ false
-    → (k : LinkSpec) → slice_get n.links l ≡ Some k → (m : ℕ) → m < length n.hosts → some_beyond n l k (host n m) ≡ false
-none_seen i t n e l f s q r one k h m lt =
-    subst (λ v. some_beyond v l k (host v m) ≡ false) e (none_beyond i t l k (ap (λ (v : Network). slice_get v.links l) e ∙ h) s
-    (r ∙ ap (λ z. slice_index_or i.sides.items z s) q) one m (subst (λ (v : Network). m < length v.hosts) (sym e) lt))
 
 -- ---- making the tables
 

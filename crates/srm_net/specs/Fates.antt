@@ -20,3 +20,7 @@ is_dropping Neither = false
 -- whether link l is on the way from member a to some member, whether or not that member is present
 unfoldable pub is_on_way : Network → ℕ → ℕ → Bool
 is_on_way w a l = some_below (λ m. is_in (member_route w a m) l) (length w.hosts)
+
+-- whether link l is on the way between some two members, whether or not these are present
+unfoldable pub joins_members : Network → ℕ → Bool
+joins_members w l = some_below (λ a. is_on_way w a l) (length w.hosts)

@@ -13,7 +13,8 @@ use Rattle.srm_net.specs.declared.link.LinkSpec.{LinkSpec}
 use Rattle.srm_net.specs.Network.{Network, IsPath, IsTree, IsAlike, IsNetwork}
 use Rattle.srm_net.specs.Paths.{route, member_route, distance, round, drop_cmp, is_listed, reaches, crosses, drops_at}
 use Rattle.srm_net.specs.DropRules.{DropRules, is_out, may_drop}
-use Rattle.srm_net.specs.Fates.{is_on_way}
+use Rattle.srm_net.specs.Fates.{is_on_way, joins_members}
+use Rattle.srm_net.specs.Spreads.{PlainSpread, IsSpread, is_everywhere}
 use Rattle.srm_net.specs.Least.{least_delay, out}
 use Rattle.srm_net.specs.Limits.{most_nodes, greatest_distance}
 
@@ -102,6 +103,26 @@ abbrev pub UnlistedIsNowhereDropped : Type 0
 UnlistedIsNowhereDropped =
     (w : Network) (rules : DropRules) (p : PacketId) (sent : ℕ) → may_drop rules p sent ≡ false
     → (l : ℕ) → drops_at w rules p sent l ≡ false
+
+-- the links on the ways of a member are those on the ways between any two members: the same for every member
+abbrev pub WaysTakeTheSameLinks : Type 0
+WaysTakeTheSameLinks =
+    (w : Network) → IsNetwork w → (a l : ℕ) → a < length w.hosts → l < length w.links
+    → is_on_way w a l ≡ joins_members w l
+
+-- a packet that comes to every node crosses the links on the ways between members, and no other
+abbrev pub EverywhereCrossesTheSame : Type 0
+EverywhereCrossesTheSame =
+    (w : Network) → IsNetwork w → (rules : DropRules) (p : PacketId) (sent : ℕ) (s : PlainSpread)
+    → IsSpread w rules p sent s → is_everywhere s ≡ true → p.sender < length w.hosts
+    → (l : ℕ) → l < length w.links → crosses w rules p sent l ≡ joins_members w l
+
+-- and is dropped nowhere
+abbrev pub EverywhereIsNowhereDropped : Type 0
+EverywhereIsNowhereDropped =
+    (w : Network) → IsNetwork w → (rules : DropRules) (p : PacketId) (sent : ℕ) (s : PlainSpread)
+    → IsSpread w rules p sent s → is_everywhere s ≡ true → p.sender < length w.hosts
+    → (l : ℕ) → l < length w.links → drops_at w rules p sent l ≡ false
 
 -- lists with the same drops list the same
 abbrev pub SameDropsListed : Type 0

@@ -1,6 +1,6 @@
 -- To which nodes a packet comes.
 use Rattle.std.specs.Prelude.{◌≡◌, ℕ, ◌+◌, ◌<◌, Bool, not, List, Option, Some, None, length, slice_get, if◌then◌else◌}
-use Rattle.std.specs.List.{list_any}
+use Rattle.std.specs.List.{list_any, list_all}
 use Rattle.srm_net.specs.declared.packet.PacketId.{PacketId}
 use Rattle.srm_net.specs.Network.{Network}
 use Rattle.srm_net.specs.DropRules.{DropRules}
@@ -12,6 +12,10 @@ use Rattle.srm_net.specs.declared.position.Position.{Position}
 pub record PlainSpread : Type 0 where
   pub sender : ℕ
   pub comes : List Bool
+
+-- whether the packet comes to every node
+abbrev pub is_everywhere : PlainSpread → Bool
+is_everywhere s = list_all (λ b. b) s.comes
 
 -- whether a packet that is at node u at tick t comes to node x: no link of the way takes it out
 unfoldable pub comes_to : Network → (Stop → Bool) → ℕ → ℕ → ℕ → Bool

@@ -13,6 +13,7 @@ ghost use Rattle.srm_net.specs.Examples.{tree_of_eight, uneven_chain, lone_node}
 ghost use Rattle.srm_net.specs.Examples.{slow_chain, turned_chain, outage_of_link_1, packet_of_member_0};
 ghost use Rattle.srm_net.specs.Laws.{OnePath, TreesHaveOnePath, DistancesFit, AlikeBothWays, RoundsTurn, LeastDelayFits, NoLinkNoTwo, OutFits, OutOfTheOnlyOne};
 ghost use Rattle.srm_net.specs.Laws.{ReachesItsSender, UnlistedReachesAll, UnlistedCrossesItsWays, UnlistedIsNowhereDropped};
+ghost use Rattle.srm_net.specs.Laws.{WaysTakeTheSameLinks, EverywhereCrossesTheSame, EverywhereIsNowhereDropped};
 ghost use Rattle.srm_net.specs.Laws.{WithoutOutagesReaches, WithoutOutagesAtAnyTime};
 ghost use Rattle.srm_net.specs.Laws.{SameDropsListed, SameOutagesOut, OneListOfDrops, OrdersTotally};
 
@@ -65,6 +66,14 @@ pub fn unlisted_packets_go_everywhere()
     ensures reaches { UnlistedReachesAll }
     ensures crosses { UnlistedCrossesItsWays }
     ensures dropped { UnlistedIsNowhereDropped }
+{}
+
+/// The links on the ways of a member are the same for every member: those on the ways between any two. A packet that comes to every node
+/// crosses exactly these, whoever sends it, and is dropped nowhere.
+pub fn packets_cross_the_same_links()
+    ensures ways { WaysTakeTheSameLinks }
+    ensures crosses { EverywhereCrossesTheSame }
+    ensures dropped { EverywhereIsNowhereDropped }
 {}
 
 /// Without outages it is the listed drops alone that keep a packet from a member, and when the packet is sent makes no difference.

@@ -3,7 +3,7 @@ ghost use Rattle.std.specs.Prelude.{◌≡◌, ◌≢◌, ◌↔◌, ℕ, ◌<�
 ghost use Rattle.srm_net.specs.Limits.{end_of_time, greatest_distance};
 ghost use Rattle.srm_net.specs.Network.{plain_network, IsTree, HasDelays, AreHosts, IsNetwork};
 ghost use Rattle.srm_net.specs.Paths.{host, distance, round, half_rounds_from, stop, takes_out, reaches, crosses, drops_at};
-ghost use Rattle.srm_net.specs.Fates.{is_crossing, is_dropping, is_on_way};
+ghost use Rattle.srm_net.specs.Fates.{is_crossing, is_dropping, is_on_way, joins_members};
 ghost use Rattle.srm_net.specs.declared.link.LinkSpec.{LinkSpec};
 ghost use Rattle.srm_net.specs.declared.packet.PacketId.{PacketId};
 ghost use Rattle.srm_net.specs.DropRules.{DropRules, may_drop};
@@ -350,11 +350,13 @@ impl Net {
         is_any_beyond
     }
 
-    /// Whether members are on both sides of a link. No way between members takes any other.
-    fn joins_members(&self, link: u16) -> bool
+    /// Whether a link is on the way between some two members, present or not: members are on both its sides. It takes no walk.
+    ///
+    /// These links are on the ways of every member, and no others are: every packet that comes to all nodes crosses exactly them
+    /// ([`packets_cross_the_same_links`](crate::laws::packets_cross_the_same_links)).
+    pub fn joins_members(&self, link: u16) -> bool
         requires link { link < length self.now.links }
-        ensures alone { result ≡ false → (k : LinkSpec) → slice_get self.now.links link ≡ Some k
-            → (m : ℕ) → m < length self.now.hosts → some_beyond self.now link k (host self.now m) ≡ false }
+        ensures value { result ≡ joins_members self.now link }
         ensures network { IsNetwork self.now }
     {
         let sides = self.sides[usize::from(link)];

@@ -1,5 +1,7 @@
 //! What becomes of one packet on its ways to all nodes.
 ghost use Rattle.std.specs.Prelude.{◌≡◌, ◌<◌, Some, length, slice_get};
+ghost use Rattle.std.specs.List.{list_all};
+ghost use Rattle.srm_net.specs.Spreads.{is_everywhere};
 
 use crate::sequence::Sequence;
 use std::marker::Model;
@@ -59,6 +61,16 @@ impl Spread {
         self.sender
     }
 
+    /// Whether the packet comes to every node. It takes a look at each node only where the packet might have been dropped.
+    pub fn is_everywhere(&self) -> bool
+        ensures { result ≡ is_everywhere self.now }
+    {
+        let Some(comes) = &self.comes else {
+            return true;
+        };
+        all(comes.as_slice())
+    }
+
     /// Whether the packet comes to a node.
     pub fn comes_to(&self, node: u16) -> bool
         requires { node < length self.now.comes }
@@ -69,4 +81,11 @@ impl Spread {
             Some(comes) => comes.as_slice()[usize::from(node)],
         }
     }
+}
+
+// Whether all of these are true.
+fn all(values: &[bool]) -> bool
+    ensures { result ≡ list_all (λ b. b) values.now }
+{
+    values.iter().all(|value| *value)
 }
