@@ -1,5 +1,5 @@
 //! What a row tells of a member's intervals.
-ghost use Rattle.std.specs.Prelude.{◌≡◌, IfOk, None};
+ghost use Rattle.std.specs.Prelude.{◌≡◌, ◌≢◌, None, MatchResult};
 
 use crate::intervals::Intervals;
 use std::alloc::{AllocError, Global};
@@ -34,9 +34,9 @@ impl Adapted {
     /// What a row tells of intervals. Where that is nothing it does not allocate.
     ///
     /// # Errors
-    /// [`AllocError`], where there are intervals.
+    /// [`AllocError`], only where there are intervals.
     pub fn of(alloc: Global, intervals: Option<Intervals>) -> Result<Self, AllocError>
-        ensures { IfOk result (λ a. a ≡ intervals) }
+        ensures { MatchResult result (λ a. a ≡ intervals) (λ _. intervals ≢ None) }
     {
         let Some(intervals) = intervals else {
             return Ok(Adapted::nothing());
