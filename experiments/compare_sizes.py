@@ -91,7 +91,7 @@ def trace(program: str, given: Path) -> bytes:
 
 def said(name: str, costs: list[tuple[float, int]]) -> str:
     seconds, peak = min(one for one, _ in costs), max(one for _, one in costs)
-    return f"{name} {seconds:.2f} s {peak / 1024:.1f} MB"
+    return f"{name} {seconds:.3f} s {peak / 1024:.1f} MB"
 
 
 def compare(case: Case, programs: dict[str, str], repeat: int, folder: Path) -> bool:
