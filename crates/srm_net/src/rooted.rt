@@ -107,6 +107,7 @@ impl Rooted {
     }
 
     /// The position of the node where the ways up from two nodes meet: the way from one to the other leads up to it, and down from there.
+    #[inline(always)]
     fn meeting(&self, from: u16, to: u16) -> Position
         requires rooted { (w : Network) × IsRooted w self.now.positions.items × (from < w.nodes) × (to < w.nodes) }
         ensures { (w : Network) → IsRooted w self.now.positions.items → from < w.nodes → to < w.nodes
@@ -126,6 +127,7 @@ impl Rooted {
     }
 
     /// The same, told by a climb from both nodes until they meet.
+    #[inline(never)]
     fn climb(&self, from: u16, to: u16) -> Position
         requires rooted { (w : Network) × IsRooted w self.now.positions.items × (from < w.nodes) × (to < w.nodes) }
         ensures { (w : Network) → IsRooted w self.now.positions.items → from < w.nodes → to < w.nodes
