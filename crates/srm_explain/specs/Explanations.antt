@@ -46,7 +46,7 @@ general_sentence (BadDrop place) = codes "a drop is of a link and a member that 
 general_sentence (BadOutage place) = codes "an outage is of a link that there is, and ends after it begins"
 general_sentence NoMemory = codes "there was no memory left"
 
--- lines tell, below some line of the text or none, what is wrong at this place of a part of a document
+-- lines tell what is wrong at this place of a part of a document; of what stands above them nothing is said
 abbrev pub TellsKey : Part → ℕ → Members → List ℕ → Type 0
 TellsKey p place top told =
     (found : Finding) × FindsAt (rules_in p top) p place top found
@@ -68,8 +68,8 @@ IsCopyNote l fault (Some c) told =
 abbrev pub TellsCopy : Draft → ScenarioFault → List Data → ℕ → List ℕ → Type 0
 TellsCopy l fault ds place told = (c : Option Copied) × IfSome c (IsCopied ds place) × IsCopyNote l fault c told
 
--- lines tell, below some line of the text or none, which rule the element of this fault breaks, and which copy it is of
--- these elements
+-- lines tell which rule the element of this fault breaks, and which copy it is of these elements; of what stands above
+-- them nothing is said
 abbrev pub TellsBroken : Draft → ScenarioFault → List Data → ℕ → List ℕ → Type 0
 TellsBroken l fault ds place told =
     (m : Misfit) × Breaks l fault m × (copy : List ℕ) × TellsCopy l fault ds place copy
@@ -86,7 +86,7 @@ ExplainsMisfit fault p place text told =
     ((top : Members) × (parse_document text ≡ Some top) × TellsMisfit fault p place top told)
     ⊎ (told ≡ note (general_sentence fault))
 
--- lines tell these reasons, of which there is one, below some line of the text or none
+-- lines tell these reasons, of which there is one; of what stands above them nothing is said
 abbrev pub TellsFlaws : List Flaw → List ℕ → Type 0
 TellsFlaws flaws told = (flaws ≢ []) × (picture : List ℕ) × (told ≡ picture ++ flaw_notes flaws)
 

@@ -50,7 +50,8 @@ IsFlaw parents nodes links (flaw.NoParent v n) =
     × (n ≡ nodes) × (nodes ≤ k.a)
 IsFlaw parents nodes links (flaw.Circle vs) = (parents ≡ true) × IsCircle links vs.items
 IsFlaw parents nodes links (flaw.LinkCount n m) = (n ≡ nodes) × (m ≡ length links) × (length links + 1 ≢ nodes)
-IsFlaw parents nodes links (flaw.Unreached vs) = AllByRecursion (IsUnreached nodes links) vs.items
+IsFlaw parents nodes links (flaw.Unreached vs) =
+    (vs.items ≢ []) × AllByRecursion (IsUnreached nodes links) vs.items
 
 -- ---- what is said of it
 
