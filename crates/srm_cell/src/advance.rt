@@ -48,8 +48,13 @@ pub fn advance<M: Participant>(
     })
 }
 
-// Each cell's own run, and its rows.
-fn run_each<M: Participant>(
+/// The cells' own runs, one after the other: each handles its own events before tick `till`, in key order, and none of another cell.
+/// A list of rows for each cell.
+///
+/// # Errors
+/// `Spent` or `CountFull`, that of the first cell whose own run is refused; or `NoMemory`, but not where there is no cell, or where
+/// the first has an event and no member to answer it. Nothing is known of the cells then, and they are of no more use.
+pub fn run_each<M: Participant>(
     alloc: Global,
     till: u64,
     cells: &mut [Cell<M>],
@@ -72,8 +77,11 @@ fn run_each<M: Participant>(
     Ok(rows)
 }
 
-// The crossings of all these rows. Where nothing was sent they do not allocate.
-fn crossings_of(
+/// The crossings of all these rows. Where nothing was sent they do not allocate.
+///
+/// # Errors
+/// [`AllocError`].
+pub fn crossings_of(
     alloc: Global,
     scenario: &Scenario,
     net: &Net,

@@ -8,3 +8,4 @@ pub mod Peeling
 pub mod WorkedLemmas
 pub mod Ordering
 pub mod JobsShared
+pub mod Teaming

@@ -5,3 +5,4 @@ pub mod Places
 pub mod Passes
 pub mod Shared
 pub mod Recorded
+pub mod Teams

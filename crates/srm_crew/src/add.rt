@@ -13,7 +13,7 @@ use srm_cell::job::Done;
 use srm_ledger::kind::Kind;
 use srm_ledger::ledger::{Ledger, Seat, ShareFull};
 use srm_ledger::totals::Totals;
-use srm_member::member::Member;
+use srm_member::participant::Participant;
 
 // The kind at a place.
 fn kind_at(place: usize) -> Kind
@@ -65,7 +65,11 @@ pub(crate) fn add_crossings(
 }
 
 /// Adds the crossings of all that is done.
-pub(crate) fn add_each(ledger: &Ledger, seat: &mut Seat, all: &[Done]) -> Result<(), ShareFull>
+pub(crate) fn add_each<M: Participant>(
+    ledger: &Ledger,
+    seat: &mut Seat,
+    all: &[Done<M>],
+) -> Result<(), ShareFull>
     requires seat { seat.old.ledger ≡ ledger.now.name }
     requires long { All (λ d. length d.crossings ≡ 5 * ledger.now.links) all.now }
     ensures { MatchResult result (λ _. HasGrown (λ k. sum_at k all.now) seat.old seat.new)
@@ -84,19 +88,19 @@ pub(crate) fn add_each(ledger: &Ledger, seat: &mut Seat, all: &[Done]) -> Result
 ///
 /// # Errors
 /// The cells' refusal, where they were refused; and else `ShareFull` alone.
-pub(crate) fn settle(
+pub(crate) fn settle<M: Participant>(
     ledger: &Ledger,
     seat: Seat,
-    advanced: Result<Vec<Done>, CellFault>,
-) -> Result<(Vec<Done>, Seat), CrewFault>
+    advanced: Result<Vec<Done<M>>, CellFault>,
+) -> Result<(Vec<Done<M>>, Seat), CrewFault>
     requires seat { seat.ledger ≡ ledger.now.name }
     requires known { (s : Traffic) × (ps : List PlainJob) × (s.links ≡ ledger.now.links)
-        × TellsEach (λ b. (⟦<dyn Member as Member>⟧ b.vtable).plain b.value) s ps advanced }
+        × TellsEach M.plain s ps advanced }
     ensures refused { MatchResult advanced (λ _. IfErr result (λ e. e ≡ CrewFault.ShareFull))
         (λ e. result ≡ Err (crew_fault_of e)) }
     ensures told { (s : Traffic) (ps : List PlainJob) → s.links ≡ ledger.now.links
-        → TellsEach (λ b. (⟦<dyn Member as Member>⟧ b.vtable).plain b.value) s ps advanced
-        → TellsMap (λ b. (⟦<dyn Member as Member>⟧ b.vtable).plain b.value) s seat ps result }
+        → TellsEach M.plain s ps advanced
+        → TellsMap M.plain s seat ps result }
 {
     let all = match advanced {
         Ok(all) => all,

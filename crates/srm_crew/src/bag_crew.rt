@@ -1,9 +1,10 @@
 //! A crew of threads of its own, which take jobs from a bag.
-ghost use Rattle.std.specs.Prelude.{◌≡◌, ◌≤◌, ℕ, List, length, All};
+ghost use Rattle.std.specs.Prelude.{◌≡◌, ◌≤◌, ◌∷◌, ◌++◌, [], ℕ, List, length, map, All, IfOk};
+ghost use Rattle.std.specs.List.{range_with_len};
 ghost use Rattle.srm_net.specs.Limits.{most_nodes};
 ghost use denote.Param.Send.{IsSync};
 ghost use Rattle.srm_cell.specs.Jobs.{PlainJob, MayAdvance, Advances};
-ghost use Rattle.srm_crew.specs.Crews.{Maps};
+ghost use Rattle.srm_crew.specs.Crews.{AreJobs, Maps};
 
 use crate::crew::Crew;
 use crate::fault::CrewFault;
@@ -109,7 +110,7 @@ impl<R: Threads + Wait + Sync, G: Gate + Sync> BagCrew<R, G> {
     }
 }
 
-impl<R: Threads + Wait + Sync> Crew for BagCrew<R, OpenGate> {
+impl<R: Threads + Wait + Sync> Crew<Box<dyn Member>> for BagCrew<R, OpenGate> {
     ghost ready = { λ _. IsSync R.row };
 
     ghost handed = { λ _ _ _. Unit {0} };
@@ -126,7 +127,18 @@ impl<R: Threads + Wait + Sync> Crew for BagCrew<R, OpenGate> {
         ledger: &Ledger,
         seat: Seat,
         jobs: Vec<Job>,
-    ) -> Result<(Vec<Done>, Seat), CrewFault> {
+    ) -> Result<(Vec<Done>, Seat), CrewFault>
+        requires ready { IsSync R.row }
+        requires jobs { All (λ j. MayAdvance (λ b. (⟦<dyn Member as Member>⟧ b.vtable).plain b.value) (length net.now.hosts) j) jobs.items }
+        requires many { length jobs.items ≤ most_nodes }
+        requires places { map (λ j. j.place) jobs.items ≡ range_with_len 0 (length jobs.items) }
+        requires links { ledger.now.links ≡ length net.now.links }
+        requires seat { seat.ledger ≡ ledger.now.name }
+        ensures ready { IsSync R.row }
+        ensures done { Maps (λ b. (⟦<dyn Member as Member>⟧ b.vtable).plain b.value) scenario.now net.now seat jobs.items result }
+        ensures handed { IfOk result (λ _. (ps : List PlainJob) → AreJobs (λ b. (⟦<dyn Member as Member>⟧ b.vtable).plain b.value) jobs.items ps
+            → Unit {0}) }
+    {
         advance_in_bag(
             &self.rt,
             alloc,

@@ -8,13 +8,13 @@ ghost use Rattle.srm_crew.specs.Crews.{AreJobs, Maps};
 use crate::fault::CrewFault;
 use srm_cell::job::{Done, Job};
 use srm_ledger::ledger::{Ledger, Seat};
-use srm_member::member::Member;
+use srm_member::participant::Participant;
 use srm_net::net::Net;
 use srm_scenario::scenario::Scenario;
 use std::alloc::Global;
 
-/// Who advances jobs.
-pub trait Crew {
+/// Who advances jobs whose cells hold members of type `M`.
+pub trait Crew<M: Participant> {
     // It may be called.
     ghost ready: { Self → Type 0 };
 
@@ -35,20 +35,17 @@ pub trait Crew {
         net: &Net,
         ledger: &Ledger,
         seat: Seat,
-        jobs: Vec<Job>,
-    ) -> Result<(Vec<Done>, Seat), CrewFault>
+        jobs: Vec<Job<M>>,
+    ) -> Result<(Vec<Done<M>>, Seat), CrewFault>
         requires ready { ready self.old }
-        requires jobs { All (λ j. MayAdvance (λ b. (⟦<dyn Member as Member>⟧ b.vtable).plain b.value)
-            (length net.now.hosts) j) jobs.items }
+        requires jobs { All (λ j. MayAdvance M.plain (length net.now.hosts) j) jobs.items }
         requires many { length jobs.items ≤ most_nodes }
         requires places { map (λ j. j.place) jobs.items ≡ range_with_len 0 (length jobs.items) }
         requires links { ledger.now.links ≡ length net.now.links }
         requires seat { seat.ledger ≡ ledger.now.name }
         ensures ready { ready self.new }
-        ensures done { Maps (λ b. (⟦<dyn Member as Member>⟧ b.vtable).plain b.value) scenario.now net.now seat
-            jobs.items result }
-        ensures handed { IfOk result (λ _. (ps : List PlainJob)
-            → AreJobs (λ b. (⟦<dyn Member as Member>⟧ b.vtable).plain b.value) jobs.items ps
+        ensures done { Maps M.plain scenario.now net.now seat jobs.items result }
+        ensures handed { IfOk result (λ _. (ps : List PlainJob) → AreJobs M.plain jobs.items ps
             → handed self.old (ps ∷ []) self.new) };
 
     ghost handed_none: { (c : Self) → handed c [] c };

@@ -7,22 +7,20 @@ ghost use Rattle.srm_crew.specs.Crews.{AreJobs, AdvanceEach};
 use srm_cell::advance::advance;
 use srm_cell::fault::CellFault;
 use srm_cell::job::{Done, Job};
-use srm_member::member::Member;
+use srm_member::participant::Participant;
 use srm_net::net::Net;
 use srm_scenario::scenario::Scenario;
 use std::alloc::Global;
 
 /// Advances each job, one after the other.
-pub(crate) fn advance_each(
+pub(crate) fn advance_each<M: Participant>(
     alloc: Global,
     scenario: &Scenario,
     net: &Net,
-    jobs: Vec<Job>,
-) -> Result<Vec<Done>, CellFault>
-    requires { All (λ j. MayAdvance (λ b. (⟦<dyn Member as Member>⟧ b.vtable).plain b.value)
-        (length net.now.hosts) j) jobs.items }
-    ensures { AdvanceEach (λ b. (⟦<dyn Member as Member>⟧ b.vtable).plain b.value) scenario.now net.now
-        jobs.items result }
+    jobs: Vec<Job<M>>,
+) -> Result<Vec<Done<M>>, CellFault>
+    requires { All (λ j. MayAdvance M.plain (length net.now.hosts) j) jobs.items }
+    ensures { AdvanceEach M.plain scenario.now net.now jobs.items result }
 {
     let mut all = Vec::new(alloc);
     for job in jobs {

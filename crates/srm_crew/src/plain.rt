@@ -1,6 +1,9 @@
 //! A crew of one.
-ghost use Rattle.std.specs.Prelude.{ℕ, List};
-ghost use Rattle.srm_cell.specs.Jobs.{PlainJob};
+ghost use Rattle.std.specs.Prelude.{◌≡◌, ◌≤◌, ◌∷◌, ◌++◌, [], ℕ, List, length, map, All, IfOk};
+ghost use Rattle.std.specs.List.{range_with_len};
+ghost use Rattle.srm_net.specs.Limits.{most_nodes};
+ghost use Rattle.srm_cell.specs.Jobs.{PlainJob, MayAdvance};
+ghost use Rattle.srm_crew.specs.Crews.{AreJobs, Maps};
 
 use crate::add::settle;
 use crate::crew::Crew;
@@ -8,7 +11,7 @@ use crate::each::advance_each;
 use crate::fault::CrewFault;
 use srm_cell::job::{Done, Job};
 use srm_ledger::ledger::{Ledger, Seat};
-use srm_member::member::Member;
+use srm_member::participant::Participant;
 use srm_net::net::Net;
 use srm_scenario::scenario::Scenario;
 use std::alloc::Global;
@@ -19,14 +22,12 @@ pub struct PlainCrew {}
 
 impl PlainCrew {
     /// It does not allocate.
-    pub fn new() -> PlainCrew
-        ensures { ⟦<PlainCrew as Crew>⟧.ready result }
-    {
+    pub fn new() -> PlainCrew {
         PlainCrew {}
     }
 }
 
-impl Crew for PlainCrew {
+impl<M: Participant> Crew<M> for PlainCrew {
     ghost ready = { λ _. Unit {0} };
 
     ghost handed = { λ _ _ _. Unit {0} };
@@ -42,8 +43,19 @@ impl Crew for PlainCrew {
         net: &Net,
         ledger: &Ledger,
         seat: Seat,
-        jobs: Vec<Job>,
-    ) -> Result<(Vec<Done>, Seat), CrewFault> {
+        jobs: Vec<Job<M>>,
+    ) -> Result<(Vec<Done<M>>, Seat), CrewFault>
+        requires ready { Unit {0} }
+        requires jobs { All (λ j. MayAdvance M.plain (length net.now.hosts) j) jobs.items }
+        requires many { length jobs.items ≤ most_nodes }
+        requires places { map (λ j. j.place) jobs.items ≡ range_with_len 0 (length jobs.items) }
+        requires links { ledger.now.links ≡ length net.now.links }
+        requires seat { seat.ledger ≡ ledger.now.name }
+        ensures ready { Unit {0} }
+        ensures done { Maps M.plain scenario.now net.now seat jobs.items result }
+        ensures handed { IfOk result (λ _. (ps : List PlainJob) → AreJobs M.plain jobs.items ps
+            → Unit {0}) }
+    {
         let advanced = advance_each(alloc, scenario, net, jobs);
         settle(ledger, seat, advanced)
     }

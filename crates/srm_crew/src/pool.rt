@@ -1,8 +1,10 @@
 //! A crew of the threads that `rayon` runs.
-ghost use Rattle.std.specs.Prelude.{ℕ, List, length, All};
+ghost use Rattle.std.specs.Prelude.{◌≡◌, ◌≤◌, ◌∷◌, ◌++◌, [], ℕ, List, length, map, All, IfOk};
+ghost use Rattle.std.specs.List.{range_with_len};
+ghost use Rattle.srm_net.specs.Limits.{most_nodes};
 ghost use denote.Param.Send.{IsSync};
 ghost use Rattle.srm_cell.specs.Jobs.{PlainJob, MayAdvance, Advances};
-ghost use Rattle.srm_crew.specs.Crews.{AdvanceEach, GathersEach};
+ghost use Rattle.srm_crew.specs.Crews.{AdvanceEach, AreJobs, GathersEach, Maps};
 
 use crate::add::settle;
 use crate::crew::Crew;
@@ -76,13 +78,13 @@ pub struct PoolCrew<R> {
 impl<R: Threads + Sync> PoolCrew<R> {
     /// It does not allocate.
     pub fn new(rt: R) -> PoolCrew<R>
-        ensures { ⟦<PoolCrew<R> as Crew>⟧.ready result }
+        ensures { IsSync R.row }
     {
         PoolCrew { rt }
     }
 }
 
-impl<R: Threads + Sync> Crew for PoolCrew<R> {
+impl<R: Threads + Sync> Crew<Box<dyn Member>> for PoolCrew<R> {
     ghost ready = { λ _. IsSync R.row };
 
     ghost handed = { λ _ _ _. Unit {0} };
@@ -99,7 +101,18 @@ impl<R: Threads + Sync> Crew for PoolCrew<R> {
         ledger: &Ledger,
         seat: Seat,
         jobs: Vec<Job>,
-    ) -> Result<(Vec<Done>, Seat), CrewFault> {
+    ) -> Result<(Vec<Done>, Seat), CrewFault>
+        requires ready { IsSync R.row }
+        requires jobs { All (λ j. MayAdvance (λ b. (⟦<dyn Member as Member>⟧ b.vtable).plain b.value) (length net.now.hosts) j) jobs.items }
+        requires many { length jobs.items ≤ most_nodes }
+        requires places { map (λ j. j.place) jobs.items ≡ range_with_len 0 (length jobs.items) }
+        requires links { ledger.now.links ≡ length net.now.links }
+        requires seat { seat.ledger ≡ ledger.now.name }
+        ensures ready { IsSync R.row }
+        ensures done { Maps (λ b. (⟦<dyn Member as Member>⟧ b.vtable).plain b.value) scenario.now net.now seat jobs.items result }
+        ensures handed { IfOk result (λ _. (ps : List PlainJob) → AreJobs (λ b. (⟦<dyn Member as Member>⟧ b.vtable).plain b.value) jobs.items ps
+            → Unit {0}) }
+    {
         let advanced = advance_in_pool(&self.rt, alloc, scenario, net, jobs);
         settle(ledger, seat, advanced)
     }

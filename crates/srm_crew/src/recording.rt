@@ -1,7 +1,9 @@
 //! A crew that notes what it is handed.
-ghost use Rattle.std.specs.Prelude.{◌≡◌, ◌++◌, ◌∷◌, [], ℕ, List, map, IfOk};
-ghost use Rattle.srm_cell.specs.Jobs.{PlainJob};
-ghost use Rattle.srm_crew.specs.Crews.{AreJobs};
+ghost use Rattle.std.specs.Prelude.{◌≡◌, ◌≤◌, ◌∷◌, ◌++◌, [], ℕ, List, length, map, All, IfOk};
+ghost use Rattle.std.specs.List.{range_with_len};
+ghost use Rattle.srm_net.specs.Limits.{most_nodes};
+ghost use Rattle.srm_cell.specs.Jobs.{PlainJob, MayAdvance};
+ghost use Rattle.srm_crew.specs.Crews.{AreJobs, Maps};
 ghost use Rattle.srm_crew.specs.Notes.{notes_of, noted_none, noted_more};
 
 use crate::crew::Crew;
@@ -9,7 +11,7 @@ use crate::fault::CrewFault;
 use crate::plain::PlainCrew;
 use srm_cell::job::{Done, Job};
 use srm_ledger::ledger::{Ledger, Seat};
-use srm_member::member::Member;
+use srm_member::participant::Participant;
 use srm_net::net::Net;
 use srm_net::sequence::Sequence;
 use srm_scenario::scenario::Scenario;
@@ -56,9 +58,9 @@ impl Recording {
 }
 
 // A note of each job.
-fn notes(alloc: Global, jobs: &[Job]) -> Result<Sequence<Note>, AllocError>
+fn notes<M: Participant>(alloc: Global, jobs: &[Job<M>]) -> Result<Sequence<Note>, AllocError>
     ensures { IfOk result (λ v. (ps : List PlainJob)
-        → AreJobs (λ b. (⟦<dyn Member as Member>⟧ b.vtable).plain b.value) jobs.now ps → v ≡ notes_of ps) }
+        → AreJobs M.plain jobs.now ps → v ≡ notes_of ps) }
 {
     let mut all = Sequence::new(alloc);
     for job in jobs {
@@ -72,7 +74,7 @@ fn notes(alloc: Global, jobs: &[Job]) -> Result<Sequence<Note>, AllocError>
     Ok(all)
 }
 
-impl Crew for Recording {
+impl<M: Participant> Crew<M> for Recording {
     ghost ready = { λ _. Unit {0} };
 
     ghost handed = { λ a calls b. b.calls.items ≡ a.calls.items ++ map notes_of calls };
@@ -88,8 +90,19 @@ impl Crew for Recording {
         net: &Net,
         ledger: &Ledger,
         seat: Seat,
-        jobs: Vec<Job>,
-    ) -> Result<(Vec<Done>, Seat), CrewFault> {
+        jobs: Vec<Job<M>>,
+    ) -> Result<(Vec<Done<M>>, Seat), CrewFault>
+        requires ready { Unit {0} }
+        requires jobs { All (λ j. MayAdvance M.plain (length net.now.hosts) j) jobs.items }
+        requires many { length jobs.items ≤ most_nodes }
+        requires places { map (λ j. j.place) jobs.items ≡ range_with_len 0 (length jobs.items) }
+        requires links { ledger.now.links ≡ length net.now.links }
+        requires seat { seat.ledger ≡ ledger.now.name }
+        ensures ready { Unit {0} }
+        ensures done { Maps M.plain scenario.now net.now seat jobs.items result }
+        ensures handed { IfOk result (λ _. (ps : List PlainJob) → AreJobs M.plain jobs.items ps
+            → self.new.calls.items ≡ self.old.calls.items ++ map notes_of (ps ∷ [])) }
+    {
         let Ok(call) = notes(alloc, jobs.as_slice()) else {
             return Err(CrewFault::NoMemory);
         };

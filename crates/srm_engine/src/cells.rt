@@ -10,20 +10,21 @@ use srm_cell::cell::Cell;
 use srm_cell::fault::CellFault;
 use srm_member::exit::Exit;
 use srm_member::member::Member;
+use srm_member::participant::Participant;
 use srm_member::row::Row;
 use srm_net::packet::Packet;
 use srm_scenario::scenario::Scenario;
 use std::alloc::{AllocError, Global};
 
 /// The cells of all members at the beginning of a run, in order of the members' numbers.
-pub(crate) fn open_cells(
+pub(crate) fn open_cells<M: Participant>(
     alloc: Global,
     scenario: &Scenario,
-    members: Vec<Box<dyn Member>>,
-) -> Result<Vec<Cell>, AllocError>
-    requires { MayOpen scenario.now (map (λ b. plain b) members.items) }
+    members: Vec<M>,
+) -> Result<Vec<Cell<M>>, AllocError>
+    requires { MayOpen scenario.now (map M.plain members.items) }
     ensures few { IfOk result (λ cells. length cells.items < 65536) }
-    ensures opened { IfOk result (λ cells. Opens (λ b. plain b) scenario.now (map (λ b. plain b) members.items) cells.items) }
+    ensures opened { IfOk result (λ cells. Opens M.plain scenario.now (map M.plain members.items) cells.items) }
 {
     let mut cells = Vec::with_capacity(alloc, usize::from(scenario.members()))?;
     for member in members {
@@ -33,15 +34,15 @@ pub(crate) fn open_cells(
 }
 
 // Adds the cell of the next member, with its script.
-fn add(
+fn add<M: Participant>(
     alloc: Global,
     scenario: &Scenario,
-    member: Box<dyn Member>,
-    cells: &mut Vec<Cell>,
+    member: M,
+    cells: &mut Vec<Cell<M>>,
 ) -> Result<(), AllocError>
     requires few { length scenario.now.members < 65536 }
     requires number { length cells.old.items < length scenario.now.members }
-    ensures { IfOk result (λ _. AddsMember (λ b. plain b) scenario.now (plain member) cells.old.items cells.new.items) }
+    ensures { IfOk result (λ _. AddsMember M.plain scenario.now (M.plain member) cells.old.items cells.new.items) }
 {
     let number = cells.len() as u16;
     let Ok(script) = scenario.script(alloc, number) else {
@@ -52,9 +53,12 @@ fn add(
 }
 
 /// What each member ends with, as it left or as it is, in order of the cells.
-pub(crate) fn finish_cells(alloc: Global, cells: Vec<Cell>) -> Result<Vec<Exit>, AllocError>
-    requires { AllEnd (λ b. plain b) cells.items }
-    ensures { IfOk result (λ exits. EndAs (λ b. plain b) cells.items exits.items) }
+pub(crate) fn finish_cells<M: Participant>(
+    alloc: Global,
+    cells: Vec<Cell<M>>,
+) -> Result<Vec<Exit>, AllocError>
+    requires { AllEnd M.plain cells.items }
+    ensures { IfOk result (λ exits. EndAs M.plain cells.items exits.items) }
 {
     let mut exits = Vec::with_capacity(alloc, cells.len())?;
     for cell in cells {

@@ -16,6 +16,7 @@ use crate::soonest::{Soonest, soonest_in, soonest_of_each};
 use srm_cell::cell::Cell;
 use srm_cell::job::{Done, Job};
 use srm_member::member::Member;
+use srm_member::participant::Participant;
 use srm_member::row::Row;
 use srm_net::net::Net;
 use srm_net::packet::Packet;
@@ -32,22 +33,22 @@ pub(crate) struct Groups<M = Box<dyn Member>> {
     pub(crate) soon: Vec<Soonest>,
 }
 
-impl Groups {
+impl<M: Participant> Groups<M> {
     /// These cells in groups of `cut`.
     pub(crate) fn of(
         alloc: Global,
         scenario: &Scenario,
         net: &Net,
-        cells: Vec<Cell>,
+        cells: Vec<Cell<M>>,
         cut: usize,
-    ) -> Result<Groups, AllocError>
+    ) -> Result<Groups<M>, AllocError>
         requires network { net.now ≡ network_of scenario.now }
         requires cut { IsCut cut }
         requires members { length cells.items ≤ length scenario.now.members }
         ensures cut { IfOk result (λ all. all.cut ≡ cut) }
         ensures kept { IfOk result (λ all. (seed : ℕ) (ps : List PlainCell)
-            → AreCells (λ b. plain b) cells.items ps
-            → AreKept (λ b. plain b) (setting_of scenario.now net.now seed) all ps) }
+            → AreCells M.plain cells.items ps
+            → AreKept M.plain (setting_of scenario.now net.now seed) all ps) }
     {
         let groups = group(alloc, cells, cut)?;
         let soon = soonest_of_each(alloc, scenario, net, groups.as_slice(), cut)?;
@@ -56,11 +57,11 @@ impl Groups {
 
     /// Looks again for how soon something is due in each group in which something was due before tick `end`, after the own runs of all
     /// cells to it: where nothing was, no cell has changed.
-    pub(crate) fn look_again(self, scenario: &Scenario, net: &Net, end: u64) -> Groups
+    pub(crate) fn look_again(self, scenario: &Scenario, net: &Net, end: u64) -> Groups<M>
         requires network { net.now ≡ network_of scenario.now }
         requires may { MayLookAgain (length scenario.now.members) self }
         ensures same { (result.cut ≡ self.cut) × (result.groups ≡ self.groups) }
-        ensures soon { (seed : ℕ) → LooksAgain (λ b. plain b)
+        ensures soon { (seed : ℕ) → LooksAgain M.plain
             (setting_of scenario.now net.now seed) end self result }
     {
         let until = scenario.until();
@@ -87,7 +88,7 @@ impl Groups {
         requires { MayHand member packet.now.id self.old }
         ensures cut { IfOk result (λ _. self.new.cut ≡ self.old.cut) }
         ensures heard { IfOk result (λ _. (s : Setting) → way ≡ way_of s member
-            → HandsIn (λ b. plain b) s member packet.now at self.old self.new) }
+            → HandsIn M.plain s member packet.now at self.old self.new) }
     {
         let number = usize::from(member);
         let index = number / self.cut;
@@ -111,10 +112,10 @@ impl Groups {
         packet: &Packet,
     ) -> Result<(), AllocError>
         requires network { net.now ≡ network_of scenario.now }
-        requires may { (seed : ℕ) × MayDeliverIn (λ b. plain b)
+        requires may { (seed : ℕ) × MayDeliverIn M.plain
             (setting_of scenario.now net.now seed) packet.now self.old }
         ensures cut { IfOk result (λ _. self.new.cut ≡ self.old.cut) }
-        ensures heard { IfOk result (λ _. (seed : ℕ) → DeliversIn (λ b. plain b)
+        ensures heard { IfOk result (λ _. (seed : ℕ) → DeliversIn M.plain
             (setting_of scenario.now net.now seed) packet.now self.old self.new) }
     {
         let spread = net.spread(alloc, scenario.drops(), packet.id, packet.sent)?;
@@ -137,10 +138,10 @@ impl Groups {
     ) -> Result<(), AllocError>
         requires network { net.now ≡ network_of scenario.now }
         requires until { scenario.now.until ≤ end_of_time }
-        requires may { (seed : ℕ) × MayHear (λ b. plain b)
+        requires may { (seed : ℕ) × MayHear M.plain
             (setting_of scenario.now net.now seed) rows.now self.old }
         ensures cut { IfOk result (λ _. self.new.cut ≡ self.old.cut) }
-        ensures heard { IfOk result (λ _. (seed : ℕ) → Hears (λ b. plain b)
+        ensures heard { IfOk result (λ _. (seed : ℕ) → Hears M.plain
             (setting_of scenario.now net.now seed) rows.now self.old self.new) }
     {
         for row in rows {
@@ -152,7 +153,7 @@ impl Groups {
     }
 
     /// All cells in one vector, in order of the members' numbers.
-    pub(crate) fn into_cells(self, alloc: Global) -> Result<Vec<Cell>, AllocError>
+    pub(crate) fn into_cells(self, alloc: Global) -> Result<Vec<Cell<M>>, AllocError>
         ensures { IfOk result (λ cells. cells.items ≡ all_in self.groups.items) }
     {
         let mut cells = Vec::new(alloc);
@@ -165,7 +166,11 @@ impl Groups {
 }
 
 // The cells in groups of `cut`, the last of which may have fewer.
-fn group(alloc: Global, cells: Vec<Cell>, cut: usize) -> Result<Vec<Vec<Cell>>, AllocError>
+fn group<M: Participant>(
+    alloc: Global,
+    cells: Vec<Cell<M>>,
+    cut: usize,
+) -> Result<Vec<Vec<Cell<M>>>, AllocError>
     requires { 0 < cut }
     ensures same { IfOk result (λ groups. all_in groups.items ≡ cells.items) }
     ensures cuts { IfOk result (λ groups. AreCuts cut (sizes groups.items)) }
@@ -186,7 +191,11 @@ fn group(alloc: Global, cells: Vec<Cell>, cut: usize) -> Result<Vec<Vec<Cell>>, 
 }
 
 /// The jobs of a window, one for each group.
-pub(crate) fn jobs(alloc: Global, groups: Vec<Vec<Cell>>, till: u64) -> Result<Vec<Job>, AllocError>
+pub(crate) fn jobs<M: Participant>(
+    alloc: Global,
+    groups: Vec<Vec<Cell<M>>>,
+    till: u64,
+) -> Result<Vec<Job<M>>, AllocError>
     ensures { IfOk result (λ jobs. jobs.items ≡ jobs_with till 0 groups.items) }
 {
     let mut jobs = Vec::with_capacity(alloc, groups.len())?;
@@ -198,10 +207,10 @@ pub(crate) fn jobs(alloc: Global, groups: Vec<Vec<Cell>>, till: u64) -> Result<V
 }
 
 /// The groups of what is done, and the lists of rows that are not empty.
-pub(crate) fn apart(
+pub(crate) fn apart<M: Participant>(
     alloc: Global,
-    all: Vec<Done>,
-) -> Result<(Vec<Vec<Cell>>, Vec<Vec<Row>>), AllocError>
+    all: Vec<Done<M>>,
+) -> Result<(Vec<Vec<Cell<M>>>, Vec<Vec<Row>>), AllocError>
     ensures groups { IfOk result (λ r. r.0.items ≡ groups_of all.items) }
     ensures lists { IfOk result (λ r. map (λ v. v.items) r.1.items ≡ some_of (lists_of all.items)) }
 {

@@ -12,7 +12,7 @@ ghost use Rattle.srm_engine.specs.Soonest.{IsInRange, IsSoonest, AreSoonest, Are
 
 use crate::ends::way;
 use srm_cell::cell::Cell;
-use srm_member::member::Member;
+use srm_member::participant::Participant;
 use srm_net::net::Net;
 use srm_scenario::scenario::Scenario;
 use std::alloc::{AllocError, Global};
@@ -60,10 +60,10 @@ fn least_with_sum(time: u64, next: Option<u64>, way: Option<u64>) -> u64
 }
 
 /// How soon something is due in the cells of the members from `first` on, in a run that ends at tick `until`.
-pub(crate) fn soonest_in(
+pub(crate) fn soonest_in<M: Participant>(
     scenario: &Scenario,
     net: &Net,
-    cells: &[Cell],
+    cells: &[Cell<M>],
     first: usize,
     until: u64,
 ) -> Soonest
@@ -72,7 +72,7 @@ pub(crate) fn soonest_in(
     requires members { first + length cells.now ≤ length scenario.now.members }
     requires few { length scenario.now.members < 65536 }
     ensures { (seed : ℕ) (ps : List PlainCell)
-        → AreThose (λ b. plain b) first cells.now ps
+        → AreThose M.plain first cells.now ps
         → IsSoonest (setting_of scenario.now net.now seed) (IsInRange first (length cells.now)) ps result }
 {
     let mut soonest = Soonest {
@@ -87,11 +87,11 @@ pub(crate) fn soonest_in(
 }
 
 /// How soon something is due in each group of `cut` cells.
-pub(crate) fn soonest_of_each(
+pub(crate) fn soonest_of_each<M: Participant>(
     alloc: Global,
     scenario: &Scenario,
     net: &Net,
-    groups: &[Vec<Cell>],
+    groups: &[Vec<Cell<M>>],
     cut: usize,
 ) -> Result<Vec<Soonest>, AllocError>
     requires network { net.now ≡ network_of scenario.now }
@@ -99,7 +99,7 @@ pub(crate) fn soonest_of_each(
     requires cuts { AreCuts cut (sizes groups.now) }
     requires members { length (all_in groups.now) ≤ length scenario.now.members }
     ensures { IfOk result (λ xs. (seed : ℕ) (ps : List PlainCell)
-        → AreGrouped (λ b. plain b) cut groups.now ps
+        → AreGrouped M.plain cut groups.now ps
         → AreSoonest (setting_of scenario.now net.now seed) cut xs.items ps) }
 {
     let until = scenario.until();

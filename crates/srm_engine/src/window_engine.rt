@@ -23,6 +23,7 @@ use srm_ledger::ledger::{Ledger, Seat};
 use srm_ledger::totals::Totals;
 use srm_member::exit::Exit;
 use srm_member::member::Member;
+use srm_member::participant::Participant;
 use srm_member::row::Row;
 use srm_net::net::Net;
 use srm_scenario::scenario::Scenario;
@@ -40,22 +41,22 @@ pub(crate) struct WindowEngine<'a, M = Box<dyn Member>> {
     pub(crate) ends: Ends,
 }
 
-impl<'a> WindowEngine<'a> {
+impl<'a, M: Participant> WindowEngine<'a, M> {
     /// The cells of all members at the beginning, nothing counted.
     pub(crate) fn open(
         alloc: Global,
         scenario: &'a Scenario,
         net: &'a Net,
-        members: Vec<Box<dyn Member>>,
+        members: Vec<M>,
         cutting: Cutting,
-    ) -> Result<WindowEngine<'a>, AllocError>
+    ) -> Result<WindowEngine<'a, M>, AllocError>
         requires network { net.now ≡ network_of scenario.now }
         requires cutting { MayCut net.now cutting }
-        requires boxes { (seed : ℕ) × HoldOpeningRecords scenario.now net.now seed (map (λ b. plain b) members.items) }
+        requires boxes { (seed : ℕ) × HoldOpeningRecords scenario.now net.now seed (map M.plain members.items) }
         ensures frame { IfOk result (λ e. frame_of e ≡ (scenario.now, net.now, cutting.cut, cutting.ends)) }
-        ensures stands { IfOk result (λ e. IsUnderWay (λ b. plain b) e) }
+        ensures stands { IfOk result (λ e. IsUnderWay M.plain e) }
         ensures opened { IfOk result (λ e. (seed : ℕ) → HoldOpeningRecords scenario.now net.now seed
-            (map (λ b. plain b) members.items) → OpensAt (λ b. plain b) seed e) }
+            (map M.plain members.items) → OpensAt M.plain seed e) }
     {
         let _until = scenario.until();
         let Ok((ledger, seat)) = Ledger::open(alloc, net.links().len()) else {
@@ -76,39 +77,39 @@ impl<'a> WindowEngine<'a> {
 
     // When the next window begins: at the least of the next times of all cells, or with the end of the run.
     fn begin(&self) -> u64
-        ensures { BeginsNext (λ b. plain b) self.now result }
+        ensures { BeginsNext M.plain self.now result }
     {
         least(self.groups.soon.as_slice(), self.scenario.until())
     }
 
     // When the window ends that begins at this tick.
     fn end(&self, begin: u64) -> u64
-        requires stands { IsUnderWay (λ b. plain b) self.now }
-        requires begin { BeginsNext (λ b. plain b) self.now begin }
+        requires stands { IsUnderWay M.plain self.now }
+        requires begin { BeginsNext M.plain self.now begin }
         requires early { begin < self.now.scenario.now.until }
-        ensures { EndsNext (λ b. plain b) self.now result }
+        ensures { EndsNext M.plain self.now result }
     {
         self.ends
             .end(self.groups.soon.as_slice(), begin, self.scenario.until())
     }
 
     /// The window that begins at this tick: every cell runs alone to its end, the rows are merged, and every cell hears their packets.
-    fn window<C: Crew>(
+    fn window<C: Crew<M>>(
         self,
         alloc: Global,
         crew: &mut C,
         begin: u64,
-    ) -> Result<(WindowEngine<'a>, Vec<Row>), WindowFault>
+    ) -> Result<(WindowEngine<'a, M>, Vec<Row>), WindowFault>
         requires ready { C.ready crew.old }
-        requires stands { IsUnderWay (λ b. plain b) self }
-        requires begin { BeginsNext (λ b. plain b) self begin }
+        requires stands { IsUnderWay M.plain self }
+        requires begin { BeginsNext M.plain self begin }
         requires early { begin < self.scenario.now.until }
         ensures ready { C.ready crew.new }
         ensures frame { IfOk result (λ ran. frame_of ran.0 ≡ frame_of self.entry) }
-        ensures stands { IfOk result (λ ran. IsUnderWay (λ b. plain b) ran.0) }
-        ensures later { IfOk result (λ ran. (next : ℕ) → BeginsNext (λ b. plain b) ran.0 next
+        ensures stands { IfOk result (λ ran. IsUnderWay M.plain ran.0) }
+        ensures later { IfOk result (λ ran. (next : ℕ) → BeginsNext M.plain ran.0 next
             → begin < next) }
-        ensures window { TellsWindow C.handed (λ b. plain b) self.entry crew.old result crew.new }
+        ensures window { TellsWindow C.handed M.plain self.entry crew.old result crew.new }
     {
         let end = self.end(begin);
         let WindowEngine {
@@ -142,23 +143,23 @@ impl<'a> WindowEngine<'a> {
 
     /// Windows, one after the other, until nothing is pending before the end of the run. Their rows are handed to a sink: first none,
     /// and then those of each window as it ends.
-    pub(crate) fn stream<C: Crew, S: RowSink>(
+    pub(crate) fn stream<C: Crew<M>, S: RowSink>(
         self,
         alloc: Global,
         crew: &mut C,
         sink: &mut S,
-    ) -> Result<WindowEngine<'a>, Halt<WindowFault>>
+    ) -> Result<WindowEngine<'a, M>, Halt<WindowFault>>
         requires ready { C.ready crew.old }
-        requires stands { IsUnderWay (λ b. plain b) self }
+        requires stands { IsUnderWay M.plain self }
         requires open { IsOpen (S.stage sink.old) }
         requires failures { S.failures sink.old < 2 ^ 64 - 1 }
         ensures ready { C.ready crew.new }
-        ensures stands { IfOk result (λ e. IsUnderWay (λ b. plain b) e) }
+        ensures stands { IfOk result (λ e. IsUnderWay M.plain e) }
         ensures frame { IfOk result (λ e. frame_of e ≡ frame_of self.entry) }
         ensures device { S.same sink.old sink.new }
         ensures stage { S.stage sink.new ≡ stage_after (sink_in result) }
         ensures failures { S.failures sink.new ≡ S.failures sink.old + stops_in (sink_in result) }
-        ensures windows { TellsWindows C.handed S.took S.part (λ b. plain b) self.entry crew.old
+        ensures windows { TellsWindows C.handed S.took S.part M.plain self.entry crew.old
             sink.old result sink.new crew.new }
     {
         if let Err(fault) = hand_none(alloc, sink) {
@@ -183,8 +184,8 @@ impl<'a> WindowEngine<'a> {
 
     /// What each member ends with, and what was counted.
     pub(crate) fn finish(self, alloc: Global) -> Result<(Vec<Exit>, Totals), AllocError>
-        requires stands { IsUnderWay (λ b. plain b) self }
-        ensures { IfOk result (λ ends. TellsEnd (λ b. plain b) self.entry ends.0.items ends.1) }
+        requires stands { IsUnderWay M.plain self }
+        ensures { IfOk result (λ ends. TellsEnd M.plain self.entry ends.0.items ends.1) }
     {
         let WindowEngine {
             ledger,

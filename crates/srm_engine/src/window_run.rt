@@ -11,7 +11,7 @@ use crate::stream_fault::StreamFault;
 use crate::width::Windows;
 use crate::window_stream::window_stream;
 use srm_crew::crew::Crew;
-use srm_member::member::Member;
+use srm_member::participant::Participant;
 use srm_net::net::Net;
 use srm_scenario::scenario::Scenario;
 use std::alloc::Global;
@@ -19,8 +19,8 @@ use std::alloc::Global;
 /// The run of a scenario in windows of time: in each window every member handles its own events, those of a job on whatever thread
 /// the crew takes for it. The outcome is that of the sequential run.
 ///
-/// There is one box for each member, in order of their numbers, each holding its opening record for this scenario and one seed. After
-/// an error the boxes are gone.
+/// There is one member of type `M` for each number, in order, each holding its opening record for this scenario and one seed. After
+/// an error the members are gone.
 ///
 /// # Errors
 /// 1. `BadCut`: exactly where the cut is none of 1 to 1,024 members.
@@ -29,21 +29,21 @@ use std::alloc::Global;
 ///    at some link; `CountFull`, only where the sequential run answers it; and `NoMemory`.
 ///
 /// The first two come before any work and whatever the memory, and the crew is then as it was; after the others it may be called
-/// again. The boxes are gone.
-pub fn window_run<C: Crew>(
+/// again. The members are gone.
+pub fn window_run<M: Participant, C: Crew<M>>(
     alloc: Global,
     scenario: &Scenario,
     net: &Net,
-    members: Vec<Box<dyn Member>>,
+    members: Vec<M>,
     crew: &mut C,
     asked: Windows,
 ) -> Result<Outcome, RunFault>
     requires ready { C.ready crew.old }
     requires network { net.now ≡ network_of scenario.now }
-    requires boxes { (seed : ℕ) × HoldOpeningRecords scenario.now net.now seed (map (λ b. plain b) members.items) }
+    requires boxes { (seed : ℕ) × HoldOpeningRecords scenario.now net.now seed (map M.plain members.items) }
     ensures ready { C.ready crew.new }
     ensures asked { TellsRunAsked net.now asked result }
-    ensures run { RunsInWindows C.handed scenario.now net.now (map (λ b. plain b) members.items)
+    ensures run { RunsInWindows C.handed scenario.now net.now (map M.plain members.items)
         (λ s. rule_of s net.now asked.width) asked.cut crew.old result crew.new }
 {
     let mut kept = KeptRows::new(alloc);

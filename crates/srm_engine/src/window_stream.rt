@@ -15,7 +15,7 @@ use crate::window_engine::WindowEngine;
 use srm_crew::crew::Crew;
 use srm_ledger::totals::Totals;
 use srm_member::exit::Exit;
-use srm_member::member::Member;
+use srm_member::participant::Participant;
 use srm_net::net::Net;
 use srm_scenario::scenario::Scenario;
 use std::alloc::Global;
@@ -25,8 +25,8 @@ use std::alloc::Global;
 /// of the members, in order of their numbers, and the crossings and drops of the trace's packets: those of the sequential run, as the
 /// trace is.
 ///
-/// There is one box for each member, in order of their numbers, each holding its opening record for this scenario and one seed. After
-/// an error the boxes are gone, and the sink has taken no more than a front of the trace.
+/// There is one member of type `M` for each number, in order, each holding its opening record for this scenario and one seed. After
+/// an error the members are gone, and the sink has taken no more than a front of the trace.
 ///
 /// # Errors
 /// 1. `Run` with `BadCut`, and 2. `Run` with `BadWidth`, as of [`window_run`](crate::window_run::window_run): the sink and the
@@ -34,19 +34,19 @@ use std::alloc::Global;
 /// 3. As met: `Stopped`, exactly where the device under the sink failed, with the number that the sink told; `Run` with
 ///    `ShareFull`, `CountFull` or `NoMemory`, the last also where memory was refused to the sink.
 ///
-/// The boxes are then gone. The sink stands as after [`step_stream`](crate::step_stream::step_stream).
-pub fn window_stream<C: Crew, S: RowSink>(
+/// The members are then gone. The sink stands as after [`step_stream`](crate::step_stream::step_stream).
+pub fn window_stream<M: Participant, C: Crew<M>, S: RowSink>(
     alloc: Global,
     scenario: &Scenario,
     net: &Net,
-    members: Vec<Box<dyn Member>>,
+    members: Vec<M>,
     crew: &mut C,
     asked: Windows,
     sink: &mut S,
 ) -> Result<(Vec<Exit>, Totals), StreamFault>
     requires ready { C.ready crew.old }
     requires network { net.now ≡ network_of scenario.now }
-    requires boxes { (seed : ℕ) × HoldOpeningRecords scenario.now net.now seed (map (λ b. plain b) members.items) }
+    requires boxes { (seed : ℕ) × HoldOpeningRecords scenario.now net.now seed (map M.plain members.items) }
     requires open { IsOpen (S.stage sink.old) }
     requires failures { S.failures sink.old < 2 ^ 64 - 1 }
     ensures ready { C.ready crew.new }
@@ -55,9 +55,9 @@ pub fn window_stream<C: Crew, S: RowSink>(
     ensures failures { S.failures sink.new ≡ S.failures sink.old + stopped_in result }
     ensures asked { TellsStreamAsked net.now asked result }
     ensures left { IsLeft sink.old result sink.new }
-    ensures stream { StreamsFrom S.took S.part scenario.now net.now (map (λ b. plain b) members.items)
+    ensures stream { StreamsFrom S.took S.part scenario.now net.now (map M.plain members.items)
         sink.old result sink.new }
-    ensures windows { CallsInWindows C.handed scenario.now net.now (map (λ b. plain b) members.items)
+    ensures windows { CallsInWindows C.handed scenario.now net.now (map M.plain members.items)
         (λ s. rule_of s net.now asked.width) asked.cut crew.old result crew.new }
 {
     let cutting = match Cutting::of(scenario, net, asked) {

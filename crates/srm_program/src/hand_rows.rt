@@ -22,6 +22,7 @@ use srm_engine::width::Windows;
 use srm_engine::window_stream::window_stream;
 use srm_ledger::totals::Totals;
 use srm_member::member::Member;
+use srm_member::participant::Participant;
 use std::alloc::Global;
 use std::marker::Sync;
 use std::sync::Wait;
@@ -90,23 +91,23 @@ fn in_steps<S: RowSink>(
 }
 
 // The run in windows of time, with this crew.
-fn in_windows<C: Crew, S: RowSink>(
+fn in_windows<M: Participant, C: Crew<M>, S: RowSink>(
     alloc: Global,
     asked: &Asked,
-    members: Vec<Box<dyn Member>>,
+    members: Vec<M>,
     crew: &mut C,
     sink: &mut S,
 ) -> Result<Totals, LabFault>
     requires engine { asked.now.options.engine ≡ Engine.Window }
     requires network { asked.now.net.now ≡ network_of asked.now.scenario.now }
-    requires boxes { (seed : ℕ) × HoldOpeningRecords asked.now.scenario.now asked.now.net.now seed (map (λ b. plain b) members.items) }
+    requires boxes { (seed : ℕ) × HoldOpeningRecords asked.now.scenario.now asked.now.net.now seed (map M.plain members.items) }
     requires ready { C.ready crew.old }
     requires open { IsOpen (S.stage sink.old) }
     requires failures { S.failures sink.old < 2 ^ 64 - 1 }
     ensures device { S.same sink.old sink.new }
     ensures stands { StandsAfter result (S.stage sink.new) }
     ensures failures { S.failures sink.new ≡ failures_after_run result (S.failures sink.old) }
-    ensures rows { (seed : ℕ) → HoldOpeningRecords asked.now.scenario.now asked.now.net.now seed (map (λ b. plain b) members.items)
+    ensures rows { (seed : ℕ) → HoldOpeningRecords asked.now.scenario.now asked.now.net.now seed (map M.plain members.items)
         → TellsRows S.took S.part asked.now.scenario.now asked.now.net.now seed asked.now.options sink.old result sink.new }
 {
     let windows = Windows {

@@ -51,7 +51,7 @@ drop = [{ link = 0, sender = 0, count = 0 }]
 "#;
 
 // Runs the members of a scenario, each watched: in windows, or else in the sequential run.
-fn run_watched<C: Crew>(
+fn run_watched<C: Crew<Box<dyn Member>>>(
     rt: &impl Abort,
     alloc: Global,
     scenario: &Scenario,
@@ -108,7 +108,7 @@ fn run_watched<C: Crew>(
 }
 
 /// One run of a scenario. Whatever comes of it, each box that was made was dropped once when it has ended.
-pub(crate) fn run_once<C: Crew>(
+pub(crate) fn run_once<C: Crew<Box<dyn Member>>>(
     rt: &impl Abort,
     alloc: Global,
     text: &str,
@@ -134,7 +134,7 @@ pub(crate) fn run_once<C: Crew>(
 }
 
 // One run with a member of each role, and once more where memory was refused.
-fn run_to_the_end<C: Crew>(
+fn run_to_the_end<C: Crew<Box<dyn Member>>>(
     rt: &impl Abort,
     alloc: Global,
     crew: &mut C,

@@ -1,5 +1,9 @@
 //! A whole run with a crew that has a gate of its own.
-ghost use Rattle.std.specs.Prelude.{◌≤◌};
+ghost use Rattle.std.specs.Prelude.{◌≡◌, ◌≤◌, ◌∷◌, ◌++◌, [], ℕ, List, length, map, All, IfOk};
+ghost use Rattle.std.specs.List.{range_with_len};
+ghost use Rattle.srm_net.specs.Limits.{most_nodes};
+ghost use Rattle.srm_cell.specs.Jobs.{PlainJob, MayAdvance};
+ghost use Rattle.srm_crew.specs.Crews.{AreJobs, Maps};
 ghost use denote.Param.Send.{IsSync};
 
 use crate::drops_tests::run_once;
@@ -12,6 +16,7 @@ use srm_crew::pass::Pass;
 use srm_engine::width::{Width, Windows};
 use srm_examples::scenarios::CHAIN_OF_FIVE_ONE_LOSS;
 use srm_ledger::ledger::{Ledger, Seat};
+use srm_member::member::Member;
 use srm_net::net::Net;
 use srm_scenario::scenario::Scenario;
 use std::alloc::{AllocError, Global};
@@ -85,7 +90,7 @@ struct Gated<R> {
     workers: BagCrew<R, Counting>,
 }
 
-impl<R: Threads + Wait + Sync> Crew for Gated<R> {
+impl<R: Threads + Wait + Sync> Crew<Box<dyn Member>> for Gated<R> {
     ghost ready = { λ _. IsSync R.row };
 
     ghost handed = { λ _ _ _. Unit {0} };
@@ -102,7 +107,20 @@ impl<R: Threads + Wait + Sync> Crew for Gated<R> {
         ledger: &Ledger,
         seat: Seat,
         jobs: Vec<Job>,
-    ) -> Result<(Vec<Done>, Seat), CrewFault> {
+    ) -> Result<(Vec<Done>, Seat), CrewFault>
+        requires ready { IsSync R.row }
+        requires jobs { All (λ j. MayAdvance (λ b. (⟦<dyn Member as Member>⟧ b.vtable).plain b.value)
+            (length net.now.hosts) j) jobs.items }
+        requires many { length jobs.items ≤ most_nodes }
+        requires places { map (λ j. j.place) jobs.items ≡ range_with_len 0 (length jobs.items) }
+        requires links { ledger.now.links ≡ length net.now.links }
+        requires seat { seat.ledger ≡ ledger.now.name }
+        ensures ready { IsSync R.row }
+        ensures done { Maps (λ b. (⟦<dyn Member as Member>⟧ b.vtable).plain b.value) scenario.now net.now seat
+            jobs.items result }
+        ensures handed { IfOk result (λ _. (ps : List PlainJob)
+            → AreJobs (λ b. (⟦<dyn Member as Member>⟧ b.vtable).plain b.value) jobs.items ps → Unit {0}) }
+    {
         self.workers
             .map_with_gate(alloc, scenario, net, ledger, seat, jobs)
     }
@@ -154,7 +172,7 @@ struct OutOfMemory {
     calls: u32,
 }
 
-impl Crew for OutOfMemory {
+impl Crew<Box<dyn Member>> for OutOfMemory {
     ghost ready = { λ _. Unit {0} };
 
     ghost handed = { λ _ _ _. Unit {0} };
@@ -165,13 +183,26 @@ impl Crew for OutOfMemory {
 
     fn map(
         &mut self,
-        _alloc: Global,
-        _scenario: &Scenario,
-        _net: &Net,
-        _ledger: &Ledger,
-        _seat: Seat,
-        _jobs: Vec<Job>,
-    ) -> Result<(Vec<Done>, Seat), CrewFault> {
+        alloc: Global,
+        scenario: &Scenario,
+        net: &Net,
+        ledger: &Ledger,
+        seat: Seat,
+        jobs: Vec<Job>,
+    ) -> Result<(Vec<Done>, Seat), CrewFault>
+        requires ready { Unit {0} }
+        requires jobs { All (λ j. MayAdvance (λ b. (⟦<dyn Member as Member>⟧ b.vtable).plain b.value)
+            (length net.now.hosts) j) jobs.items }
+        requires many { length jobs.items ≤ most_nodes }
+        requires places { map (λ j. j.place) jobs.items ≡ range_with_len 0 (length jobs.items) }
+        requires links { ledger.now.links ≡ length net.now.links }
+        requires seat { seat.ledger ≡ ledger.now.name }
+        ensures ready { Unit {0} }
+        ensures done { Maps (λ b. (⟦<dyn Member as Member>⟧ b.vtable).plain b.value) scenario.now net.now seat
+            jobs.items result }
+        ensures handed { IfOk result (λ _. (ps : List PlainJob)
+            → AreJobs (λ b. (⟦<dyn Member as Member>⟧ b.vtable).plain b.value) jobs.items ps → Unit {0}) }
+    {
         self.calls = self.calls.saturating_add(1);
         Err(CrewFault::NoMemory)
     }

@@ -146,7 +146,7 @@ fn next_jobs(
 }
 
 /// Hands a window's jobs to a crew. Gives the same cells' jobs up to another end, the seat, and what was done.
-pub(crate) fn map_window<C: Crew>(
+pub(crate) fn map_window<C: Crew<Box<dyn Member>>>(
     rt: &impl Abort,
     alloc: Global,
     crew: &mut C,

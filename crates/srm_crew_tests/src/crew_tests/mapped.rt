@@ -43,7 +43,7 @@ fn expect_end(rt: &impl Abort, ledger: Ledger, seat: Seat, case: &Case)
 }
 
 // Hands the jobs of a case's two windows to a crew. Gives the seat where none is refused.
-fn map_both<C: Crew>(
+fn map_both<C: Crew<Box<dyn Member>>>(
     rt: &impl Abort,
     alloc: Global,
     crew: &mut C,
@@ -86,7 +86,7 @@ fn map_both<C: Crew>(
 }
 
 // Hands the jobs of a case's two windows to a crew, and asserts that what the case says comes of them.
-fn map_members<C: Crew>(
+fn map_members<C: Crew<Box<dyn Member>>>(
     rt: &impl Abort,
     alloc: Global,
     crew: &mut C,
@@ -158,7 +158,7 @@ fn map_members<C: Crew>(
 }
 
 // The same, of the case's scenario. Each box is dropped once, whatever comes of it.
-fn map_case<C: Crew>(
+fn map_case<C: Crew<Box<dyn Member>>>(
     rt: &impl Abort,
     alloc: Global,
     crew: &mut C,
@@ -183,7 +183,11 @@ const CASES: [Case; 5] = [
 ];
 
 // The same, of each case, and once more where memory was refused.
-fn map_cases<C: Crew>(rt: &impl Abort, alloc: Global, crew: &mut C) -> Result<(), AllocError>
+fn map_cases<C: Crew<Box<dyn Member>>>(
+    rt: &impl Abort,
+    alloc: Global,
+    crew: &mut C,
+) -> Result<(), AllocError>
     requires { C.ready crew.old }
 {
     for case in &CASES {

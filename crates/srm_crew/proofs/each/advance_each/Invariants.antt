@@ -10,8 +10,8 @@ abbrev pub invariant-loop-job : goal.invariant-loop-job
 invariant-loop-job g l =
     (goal.iterator-loop-job g).can_next l.job-iterator
     × (goal.iterator-loop-job g).is_finite l.job-iterator
-    × All (λ j. MayAdvance (λ b. (goal.Member-dyn g (b.vtable, b.value)).plain b.value) (length l.net.hosts) j)
+    × All (λ j. MayAdvance g.M.Participant.plain (length l.net.hosts) j)
     (into_iter_items l.job-iterator)
-    × ((ps : List PlainJob) → AreJobs (λ b. (goal.Member-dyn g (b.vtable, b.value)).plain b.value) l.fn.jobs.items ps
-    → SoFar (λ b. (goal.Member-dyn g (b.vtable, b.value)).plain b.value) (traffic_of l.scenario l.net) ps l.all.items
+    × ((ps : List PlainJob) → AreJobs g.M.Participant.plain l.fn.jobs.items ps
+    → SoFar g.M.Participant.plain (traffic_of l.scenario l.net) ps l.all.items
     (into_iter_items l.job-iterator))

@@ -18,4 +18,4 @@ returns g c = λ ps h.
     let within = c.loop-job.auto.job-index-end in
     let at : c.loop-job.job-index ≡ length c.args.jobs.now = omega arith in
     c.loop-job.invariant ∙ ap (λ i. map own_note (take i c.args.jobs.now)) at ∙ ap (map own_note) (take-length c.args.jobs.now)
-    ∙ notes_seen (λ b. (goal.Member-dyn g (b.vtable, b.value)).plain b.value) c.args.jobs.now ps h
+    ∙ notes_seen g.M.Participant.plain c.args.jobs.now ps h

@@ -16,11 +16,11 @@ returns g c = λ net seed e h.
     let q = opening_cell s k in
     let num : c.len-number.result ≡ k = c.len-number.ensures ∙ c.args.cells.now.ok.0 in
     let marks = c.in-Ok.ensures.script ∙ ap (script_of c.args.scenario.now) num in
-    let is = opened_cell (λ b. (goal.Member-dyn g (b.vtable, b.value)).plain b.value) c.args.scenario.now net seed k c.new.result _
+    let is = opened_cell g.M.Participant.plain c.args.scenario.now net seed k c.new.result _
     c.in-Ok.script.items e marks c.new.ensures in
-    let here = subst (λ m. IsCell (λ b. (goal.Member-dyn g (b.vtable, b.value)).plain b.value) m c.new.result q)
+    let here = subst (λ m. IsCell g.M.Participant.plain m c.new.result q)
     (sym (length_opening s k 0)) is in
-    subst (λ (qs : List PlainCell). AreCells (λ b. (goal.Member-dyn g (b.vtable, b.value)).plain b.value) c.push.new.self.items qs)
+    subst (λ (qs : List PlainCell). AreCells g.M.Participant.plain c.push.new.self.items qs)
     (sym (next_opening s k))
-    (subst (λ cs. AreCells (λ b. (goal.Member-dyn g (b.vtable, b.value)).plain b.value) cs (ps ++ q ∷ [])) (sym c.in_ok-push.ensures.items)
-    (more_cells (λ b. (goal.Member-dyn g (b.vtable, b.value)).plain b.value) c.args.cells.now.items ps c.new.result q h here))
+    (subst (λ cs. AreCells g.M.Participant.plain cs (ps ++ q ∷ [])) (sym c.in_ok-push.ensures.items)
+    (more_cells g.M.Participant.plain c.args.cells.now.items ps c.new.result q h here))

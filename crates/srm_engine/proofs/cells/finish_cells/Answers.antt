@@ -23,7 +23,7 @@ loop-cell-preserved g c = (
       let pushed = c.in_ok-push.ensures.items in
       let same : c.push.new.self.items ++ xs ≡ c.loop-cell.exits.items ++ (c.in-Ok.exit ∷ xs) = ap (λ (es : List Exit). es ++ xs) pushed
       ∙ append_assoc c.loop-cell.exits.items (c.in-Ok.exit ∷ []) xs in
-      subst (λ (es : List Exit). EndAs (λ b. (goal.Member-dyn g (b.vtable, b.value)).plain b.value) c.args.cells.items es) (sym same)
+      subst (λ (es : List Exit). EndAs g.M.Participant.plain c.args.cells.items es) (sym same)
       (c.loop-cell.invariant.2 (c.in-Ok.exit ∷ xs)
       (rw c.in-Some.ensures.steps.0 ((λ m p is. ended p c.in-Ok.exit (c.in-Ok.ensures m p is)), h))),
   (rw c.in-Some.ensures.steps.0 at c.loop-cell.invariant.3).1,
@@ -43,6 +43,6 @@ pub returns : goal.returns
 returns g c =
     let h = c.loop-cell.cell-iterator.rest.ok in
     let none : into_iter_items c.loop-cell.cell-iterator ≡ [] = grind (arith, common_steps) in
-    subst (λ (es : List Exit). EndAs (λ b. (goal.Member-dyn g (b.vtable, b.value)).plain b.value) c.args.cells.items es)
+    subst (λ (es : List Exit). EndAs g.M.Participant.plain c.args.cells.items es)
     (append-nil c.loop-cell.exits.items)
     (c.loop-cell.invariant.2 [] (rw none tt))

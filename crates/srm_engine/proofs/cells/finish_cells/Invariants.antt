@@ -8,6 +8,6 @@ abbrev pub invariant-loop-cell : goal.invariant-loop-cell
 invariant-loop-cell g l =
     (goal.iterator-loop-cell g).can_next l.cell-iterator
     × (goal.iterator-loop-cell g).is_finite l.cell-iterator
-    × ((xs : List Exit) → EndAs (λ b. (goal.Member-dyn g (b.vtable, b.value)).plain b.value) (into_iter_items l.cell-iterator) xs
-    → EndAs (λ b. (goal.Member-dyn g (b.vtable, b.value)).plain b.value) l.fn.cells.items (l.exits.items ++ xs))
-    × AllEnd (λ b. (goal.Member-dyn g (b.vtable, b.value)).plain b.value) (into_iter_items l.cell-iterator)
+    × ((xs : List Exit) → EndAs g.M.Participant.plain (into_iter_items l.cell-iterator) xs
+    → EndAs g.M.Participant.plain l.fn.cells.items (l.exits.items ++ xs))
+    × AllEnd g.M.Participant.plain (into_iter_items l.cell-iterator)

@@ -21,6 +21,16 @@ loop-member-init g c = let i = c.into_iter-member-iterator.ensures.into_iter_giv
       ),
 )
 
+pub add-requires-clause-number : goal.add-requires-clause-number
+add-requires-clause-number g c =
+    let k = length c.loop-member.cells.items in
+    let i = c.loop-member.invariant.2 c.requires.0 c.requires.1 c.requires.2 in
+    let f = record_first c.args.scenario.now c.requires.0 c.requires.1 k i.0 _ _
+    (sym (ap (map g.M.Participant.plain) c.in-Some.ensures.steps.0) ∙ i.2) in
+    let all : k + i.0 ≡ length c.args.scenario.now.members = i.1 in
+    let some : i.0 ≡ f.0 + 1 = f.1 ∙ sym (add-one f.0) in
+    omega arith
+
 pub loop-member-preserved : goal.loop-member-preserved
 loop-member-preserved g c = (
   tt,
@@ -30,7 +40,7 @@ loop-member-preserved g c = (
       let k = length c.loop-member.cells.items in
       let i = c.loop-member.invariant.2 net seed h in
       let f = record_first c.args.scenario.now net seed k i.0 _ _
-      (sym (ap (map (λ b. (goal.Member-dyn g (b.vtable, b.value)).plain b.value)) c.in-Some.ensures.steps.0) ∙ i.2) in
+      (sym (ap (map g.M.Participant.plain) c.in-Some.ensures.steps.0) ∙ i.2) in
       let added = c.in_ok-add.ensures net seed f.2 i.3 in
       let now : length c.add.new.cells.items ≡ k + 1 = added.as_many ∙ length_opening s (k + 1) 0 in
       let was = i.1 in
@@ -38,7 +48,7 @@ loop-member-preserved g c = (
         f.0,
         omega arith,
         f.3 ∙ ap (λ j. records_from c.args.scenario.now net seed j f.0) (sym (now ∙ add-one k)),
-        subst (λ j. AreCells (λ b. (goal.Member-dyn g (b.vtable, b.value)).plain b.value) c.add.new.cells.items (opening_cells s j 0))
+        subst (λ j. AreCells g.M.Participant.plain c.add.new.cells.items (opening_cells s j 0))
             (sym now) added,
       ),
 )
@@ -51,8 +61,8 @@ returns-clause-opened g c = λ net seed h.
     let ok = c.loop-member.member-iterator.rest.ok in
     let none : into_iter_items c.loop-member.member-iterator ≡ [] = grind (arith, common_steps) in
     let zero = none_left c.args.scenario.now net seed k i.0
-    (sym (ap (map (λ b. (goal.Member-dyn g (b.vtable, b.value)).plain b.value)) none) ∙ i.2) in
+    (sym (ap (map g.M.Participant.plain) none) ∙ i.2) in
     let was = i.1 in
     let all : k ≡ s.traffic.members = omega arith in
-    subst (λ j. AreCells (λ b. (goal.Member-dyn g (b.vtable, b.value)).plain b.value) c.loop-member.cells.items (opening_cells s j 0)) all
+    subst (λ j. AreCells g.M.Participant.plain c.loop-member.cells.items (opening_cells s j 0)) all
     i.3

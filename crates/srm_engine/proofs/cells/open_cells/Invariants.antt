@@ -12,9 +12,9 @@ invariant-loop-member g l =
     (goal.iterator-loop-member g).can_next l.member-iterator
     × (goal.iterator-loop-member g).is_finite l.member-iterator
     × ((net : Network) (seed : ℕ) → HoldOpeningRecords l.scenario net seed
-    (map (λ b. (goal.Member-dyn g (b.vtable, b.value)).plain b.value) l.fn.members.items)
+    (map g.M.Participant.plain l.fn.members.items)
     → (n : ℕ) × (length l.cells.items + n ≡ length l.scenario.members)
-    × (map (λ b. (goal.Member-dyn g (b.vtable, b.value)).plain b.value) (into_iter_items l.member-iterator)
+    × (map g.M.Participant.plain (into_iter_items l.member-iterator)
     ≡ records_from l.scenario net seed (length l.cells.items) n)
-    × AreCells (λ b. (goal.Member-dyn g (b.vtable, b.value)).plain b.value) l.cells.items
+    × AreCells g.M.Participant.plain l.cells.items
     (opening_cells (setting_of l.scenario net seed) (length l.cells.items) 0))

@@ -6,5 +6,5 @@ use Rattle.srm_engine.proofs.soonest.soonest_in.Given as goal
 
 abbrev pub invariant-loop-place : goal.invariant-loop-place
 invariant-loop-place g l =
-    (seed : ℕ) (ps : List PlainCell) → AreThose (λ b. (goal.Member-dyn g (b.vtable, b.value)).plain b.value) l.first l.cells ps
+    (seed : ℕ) (ps : List PlainCell) → AreThose g.M.Participant.plain l.first l.cells ps
     → IsSoonest (setting_of l.scenario l.net seed) (IsInRange l.first l.place) ps l.soonest

@@ -40,7 +40,7 @@ loop-place-preserved g c =
       ap length pushed ∙ length-append old (y ∷ []) ∙ ap (λ n. n + 1) i.0,
       λ seed ps h j x get.
           let s = setting_of c.args.scenario.now c.args.net.now seed in
-          let new = looked_at (λ b. (goal.Member-dyn g (b.vtable, b.value)).plain b.value) c.args.cut gs ps c.requires.cut h s k group
+          let new = looked_at g.M.Participant.plain c.args.cut gs ps c.requires.cut h s k group
           c.as_slice.result.now y c.loop-place-test.true c.index-groups-place.is c.as_slice.ensures.value
           (c.soonest_in.ensures seed ps) in
           pushed_each (λ n (z : Soonest). IsSoonest s (λ m. m / c.args.cut ≡ n) ps z) old y (i.1 seed ps h)
@@ -54,7 +54,7 @@ returns g c = λ seed ps h.
     let i = c.loop-place.invariant in
     let long = i.0 in
     record {
-      many = λ m lt. let below = group_below (λ b. (goal.Member-dyn g (b.vtable, b.value)).plain b.value) c.args.cut c.args.groups.now ps
+      many = λ m lt. let below = group_below g.M.Participant.plain c.args.cut c.args.groups.now ps
           c.requires.cut h m lt in omega arith;
       each = i.1 seed ps h;
     }

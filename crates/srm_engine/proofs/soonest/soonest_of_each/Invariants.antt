@@ -9,5 +9,5 @@ use Rattle.srm_engine.proofs.soonest.soonest_of_each.Given as goal
 abbrev pub invariant-loop-place : goal.invariant-loop-place
 invariant-loop-place g l =
     (length l.soonest.items ≡ l.place)
-    × ((seed : ℕ) (ps : List PlainCell) → AreGrouped (λ b. (goal.Member-dyn g (b.vtable, b.value)).plain b.value) l.cut l.groups ps
+    × ((seed : ℕ) (ps : List PlainCell) → AreGrouped g.M.Participant.plain l.cut l.groups ps
     → (j : ℕ) (x : Soonest) → slice_get l.soonest.items j ≡ Some x → IsSoonest (setting_of l.scenario l.net seed) (λ m. m / l.cut ≡ j) ps x)

@@ -4,7 +4,7 @@ use Rattle.srm_crew.proofs.JobsSeen.{some_told}
 use Rattle.srm_crew.proofs.plain.PlainCrewCrew.map.Goals as goal
 
 pub settle-requires-clause-known : goal.settle-requires-clause-known
-settle-requires-clause-known g c = some_told (λ b. (goal.Member-dyn g (b.vtable, b.value)).plain b.value) c.args.scenario.now c.args.net.now
+settle-requires-clause-known g c = some_told g.M.Participant.plain c.args.scenario.now c.args.net.now
     (length c.args.net.now.hosts) c.args.ledger.now.links c.args.jobs.items c.advance_each-advanced.result c.requires.jobs
     c.advance_each-advanced.ensures (sym c.requires.links)
 

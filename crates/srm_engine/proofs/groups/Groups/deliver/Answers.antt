@@ -13,7 +13,7 @@ pub loop-member-init : goal.loop-member-init
 loop-member-init g c = (
   refl,
   λ seed ps h.
-      subst (λ (qs : List PlainCell). AreKept (λ b. (goal.Member-dyn g (b.vtable, b.value)).plain b.value)
+      subst (λ (qs : List PlainCell). AreKept g.M.Participant.plain
       (setting_of c.args.scenario.now c.args.net.now seed) c.args.self.now qs)
       (sym (none_heard (traffic_of c.args.scenario.now c.args.net.now) c.args.packet.now 0 0 ps (le_refl 0))) h,
 )
@@ -55,7 +55,7 @@ loop-member-preserved g c =
             let within : m < length ps = omega arith in
             let q = there ps m within in
             let heard = heard_below t p m 0 ps in
-            subst (λ (qs : List PlainCell). AreKept (λ b. (goal.Member-dyn g (b.vtable, b.value)).plain b.value)
+            subst (λ (qs : List PlainCell). AreKept g.M.Participant.plain
             (setting_of c.args.scenario.now c.args.net.now seed) w.hand.new.self qs)
             (ap (slice_set heard m) (sym (hears_at t p m w.in-Some.at q.0 (flight ∙ w.in-Some.is))) ∙ heard_next t p m ps q.0 q.1)
             (w.in_ok-hand.ensures.heard (setting_of c.args.scenario.now c.args.net.now seed) (w.way-way.ensures seed) heard q.0
@@ -69,7 +69,7 @@ loop-member-preserved g c =
             let within : m < length ps = omega arith in
             let q = there ps m within in
             let heard = heard_below t p m 0 ps in
-            subst (λ (qs : List PlainCell). AreKept (λ b. (goal.Member-dyn g (b.vtable, b.value)).plain b.value)
+            subst (λ (qs : List PlainCell). AreKept g.M.Participant.plain
             (setting_of c.args.scenario.now c.args.net.now seed) c.loop-member.self qs)
             (sym (set_same heard m q.0 (get_next t p m ps ∙ q.1)) ∙ ap (slice_set heard m)
             (sym (hears_not t p m q.0 (flight ∙ w.in_default.is))) ∙ heard_next t p m ps q.0 q.1)
@@ -83,6 +83,6 @@ returns-clause-heard g c = λ seed ps h.
     let was = c.requires.may.1.seen.grouped.cells.as_many in
     let members = c.requires.may.1.many in
     let all : c.loop-member.member ≡ length ps = omega arith in
-    subst (λ n. AreKept (λ b. (goal.Member-dyn g (b.vtable, b.value)).plain b.value) (setting_of c.args.scenario.now c.args.net.now seed)
+    subst (λ n. AreKept g.M.Participant.plain (setting_of c.args.scenario.now c.args.net.now seed)
     c.loop-member.self (heard_below (traffic_of c.args.scenario.now c.args.net.now) c.args.packet.now n 0 ps)) all
     (c.loop-member.invariant.1 seed ps h)

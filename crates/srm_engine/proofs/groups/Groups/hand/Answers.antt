@@ -67,9 +67,9 @@ returns-clause-heard g c = λ s way ps q h k.
     record {
       cut = h.cut;
       grouped = record {
-        cells = subst (λ l. AreCells (λ b. (goal.Member-dyn g (b.vtable, b.value)).plain b.value) l (slice_set ps c.args.member r))
+        cells = subst (λ l. AreCells g.M.Participant.plain l (slice_set ps c.args.member r))
             (sym (a.set d new x same))
-            (set_cells (λ b. (goal.Member-dyn g (b.vtable, b.value)).plain b.value) (all_in gs) ps c.args.member x r h.grouped.cells
+            (set_cells g.M.Participant.plain (all_in gs) ps c.args.member x r h.grouped.cells
             c.requires.member now);
         cuts = subst (AreCuts c.args.self.now.cut) (sym (a.size d new long)) h.grouped.cuts;
       };

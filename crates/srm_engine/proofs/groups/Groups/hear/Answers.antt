@@ -14,7 +14,7 @@ pub loop-row-init : goal.loop-row-init
 loop-row-init g c = (
   refl,
   λ seed ps h.
-      subst (λ (qs : List PlainCell). AreKept (λ b. (goal.Member-dyn g (b.vtable, b.value)).plain b.value)
+      subst (λ (qs : List PlainCell). AreKept g.M.Participant.plain
       (setting_of c.args.scenario.now c.args.net.now seed) c.args.self.now qs)
       (sym (packets_are_heard_in_turn (setting_of c.args.scenario.now c.args.net.now 0) ps).0) h,
 )
@@ -56,7 +56,7 @@ loop-row-preserved g c =
         w.in_ok-deliver.ensures.cut ∙ c.loop-row.invariant.0,
         λ seed ps h.
             let cs = each_hears t 0 done ps in
-            subst (λ (qs : List PlainCell). AreKept (λ b. (goal.Member-dyn g (b.vtable, b.value)).plain b.value)
+            subst (λ (qs : List PlainCell). AreKept g.M.Participant.plain
             (setting_of c.args.scenario.now c.args.net.now seed) w.deliver.new.self qs)
             (ap (λ o. all_hear t o cs) (sym w.in-Some.is) ∙ sym ((packets_are_heard_in_turn s ps).1 done c.row-item.result)
             ∙ ap (λ rs. each_hears t 0 rs ps) (sym more))
@@ -66,7 +66,7 @@ loop-row-preserved g c =
         c.loop-row.invariant.0,
         λ seed ps h.
             let cs = each_hears t 0 done ps in
-            subst (λ (qs : List PlainCell). AreKept (λ b. (goal.Member-dyn g (b.vtable, b.value)).plain b.value)
+            subst (λ (qs : List PlainCell). AreKept g.M.Participant.plain
             (setting_of c.args.scenario.now c.args.net.now seed) c.loop-row.self qs)
             (ap (λ o. all_hear t o cs) (sym w.in_default.is) ∙ sym ((packets_are_heard_in_turn s ps).1 done c.row-item.result)
             ∙ ap (λ rs. each_hears t 0 rs ps) (sym more))
@@ -76,6 +76,6 @@ loop-row-preserved g c =
 
 pub returns-clause-heard : goal.returns-clause-heard
 returns-clause-heard g c = λ seed ps h.
-    subst (λ rs. AreKept (λ b. (goal.Member-dyn g (b.vtable, b.value)).plain b.value) (setting_of c.args.scenario.now c.args.net.now seed)
+    subst (λ rs. AreKept g.M.Participant.plain (setting_of c.args.scenario.now c.args.net.now seed)
     c.loop-row.self (each_hears (traffic_of c.args.scenario.now c.args.net.now) 0 rs ps))
     (take_all c.loop-row.row-index c.args.rows.now c.loop-row-test.false) (c.loop-row.invariant.1 seed ps h)

@@ -8,7 +8,7 @@ use Rattle.srm_engine.proofs.groups.Groups.hear.Given as goal
 abbrev pub invariant-loop-row : goal.invariant-loop-row
 invariant-loop-row g l =
     (l.self.cut ≡ l.fn.self.cut)
-    × ((seed : ℕ) (ps : List PlainCell) → AreKept (λ b. (goal.Member-dyn g (b.vtable, b.value)).plain b.value)
+    × ((seed : ℕ) (ps : List PlainCell) → AreKept g.M.Participant.plain
     (setting_of l.scenario l.net seed) l.fn.self ps
-    → AreKept (λ b. (goal.Member-dyn g (b.vtable, b.value)).plain b.value)
+    → AreKept g.M.Participant.plain
     (setting_of l.scenario l.net seed) l.self (each_hears (traffic_of l.scenario l.net) 0 (take l.row-index l.rows) ps))

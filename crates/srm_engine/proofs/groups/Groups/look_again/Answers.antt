@@ -82,7 +82,7 @@ loop-place-preserved g c =
           let s = setting_of c.args.scenario.now c.args.net.now seed in
           let qs = cells_in results in
           let y = w.soonest_in.result in
-          let new = looked_at (λ b. (goal.Member-dyn g (b.vtable, b.value)).plain b.value) c.args.self.cut gs qs may.cut.0 h s k group
+          let new = looked_at g.M.Participant.plain c.args.self.cut gs qs may.cut.0 h s k group
           w.as_slice.result.now y c.loop-place-test.true c.index-all-place.is w.as_slice.ensures.value
           (w.soonest_in.ensures seed qs) in
           one_set (λ n (z : Soonest). IsSoonest s (λ m. m / c.args.self.cut ≡ n) qs z)
@@ -110,7 +110,7 @@ returns-clause-soon g c = λ seed ps results alone h soon.
     let s = setting_of c.args.scenario.now c.args.net.now seed in
     let may = c.requires.may in
     let same = c.as_slice-all.ensures.value in
-    let grouped = subst (λ l. AreGrouped (λ b. (goal.Member-dyn g (b.vtable, b.value)).plain b.value) c.args.self.cut l (cells_in results))
+    let grouped = subst (λ l. AreGrouped g.M.Participant.plain c.args.self.cut l (cells_in results))
     (sym same) h in
     let began = subst (λ l. AreSoonest s c.args.self.cut l ps) (sym c.as_mut_slice-kept.ensures.value) soon in
     let many = may.many in
@@ -122,7 +122,7 @@ returns-clause-soon g c = λ seed ps results alone h soon.
       soon = subst (λ l. AreSoonest s c.args.self.cut l (cells_in results))
           (sym (written c.args.self.soon.len c.args.self.soon.items c.loop-place.kept c.args.self.soon.ok.0
           (c.loop-place.auto.kept ∙ kept)))
-          (all_looked (λ b. (goal.Member-dyn g (b.vtable, b.value)).plain b.value) c.args.self.cut c.as_slice-all.result.now ps results
+          (all_looked g.M.Participant.plain c.args.self.cut c.as_slice-all.result.now ps results
           may.cut.0 c.args.end alone grouped s c.as_mut_slice-kept.result.now c.loop-place.kept c.loop-place.place c.loop-place-test.false
           c.loop-place.auto.kept (omega arith) began (c.loop-place.invariant seed ps results alone grouped began));
     }

@@ -11,7 +11,7 @@ use Rattle.srm_engine.proofs.groups.Groups.look_again.Given as goal
 abbrev pub invariant-loop-place : goal.invariant-loop-place
 invariant-loop-place g l =
     (seed : ℕ) (ps : List PlainCell) (results : List OwnResult) → AreOwnRuns l.end 0 ps results
-    → AreGrouped (λ b. (goal.Member-dyn g (b.vtable, b.value)).plain b.value) l.cut l.all (cells_in results)
+    → AreGrouped g.M.Participant.plain l.cut l.all (cells_in results)
     → AreSoonest (setting_of l.scenario l.net seed) l.cut l.initial.kept ps
     → (j : ℕ) (x : Soonest) → slice_get l.kept j ≡ Some x
     → (j < l.place → IsSoonest (setting_of l.scenario l.net seed) (λ m. m / l.cut ≡ j) (cells_in results) x)

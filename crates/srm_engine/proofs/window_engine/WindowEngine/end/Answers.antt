@@ -8,9 +8,9 @@ pub returns : goal.returns
 returns g c = λ seed begins w comes.
     let e = c.args.self.now in
     let s = setting_by e seed in
-    let at = begins_at (λ b. (goal.Member-dyn g (b.vtable, b.value)).plain b.value) e c.requires.stands seed begins w comes c.args.begin
+    let at = begins_at g.M.Participant.plain e c.requires.stands seed begins w comes c.args.begin
     c.requires.begin c.requires.early in (
-      next (λ b. (goal.Member-dyn g (b.vtable, b.value)).plain b.value) e c.requires.stands seed begins w comes c.args.begin
+      next g.M.Participant.plain e c.requires.stands seed begins w comes c.args.begin
           c.requires.begin c.requires.early,
       c.end.ensures s w e.groups.cut
           (record {

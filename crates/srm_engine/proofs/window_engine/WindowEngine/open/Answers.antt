@@ -20,7 +20,7 @@ pub returns-clause-opened : goal.returns-clause-opened
 returns-clause-opened g c = λ seed h.
     let s = setting_of c.args.scenario.now c.args.net.now seed in record {
       windows = no_window;
-      kept = subst (λ (ps : List PlainCell). AreKept (λ b. (goal.Member-dyn g (b.vtable, b.value)).plain b.value) s c.in_ok-groups.groups
+      kept = subst (λ (ps : List PlainCell). AreKept g.M.Participant.plain s c.in_ok-groups.groups
           ps) (opening_is s)
           (c.in_ok-groups.ensures.kept seed (opening_cells s s.traffic.members 0) (c.in_ok-cells.ensures.opened c.args.net.now seed h));
       counted = opened_counted s c.in-Ok.ledger (length c.args.net.now.links) c.in-Ok.seat

@@ -54,7 +54,7 @@ returns-in-Err-window-clause-windows g c = λ seed h.
     let x = c.in-Err-window.fault in (
       i.1,
       subst (λ (k : PlainScenario × Network × ℕ × Ends). IsReached (setting_of k.0 k.1 seed) i.1) v.frame
-          (reached (λ b. (goal.Member-dyn g (b.vtable, b.value)).plain b.value) c.loop-begin.engine v.stands seed i.0 i.1 i.2),
+          (reached g.M.Participant.plain c.loop-begin.engine v.stands seed i.0 i.1 i.2),
       i.3,
       subst (λ (k : PlainScenario × Network × ℕ × Ends). MayCome (setting_of k.0 k.1 seed) (ends_rule (setting_of k.0 k.1 seed) k.3) k.2
           i.1 x) v.frame (c.in-Err-window.ensures.window seed i.0 i.1 i.2),
@@ -67,7 +67,7 @@ returns-in-Err-rows-clause-windows g c = λ seed h.
     let told = c.in-Ok.ensures.window seed i.0 i.1 i.2 in (
       told.0,
       subst (λ (k : PlainScenario × Network × ℕ × Ends). IsReached (setting_of k.0 k.1 seed) told.0) (c.in-Ok.ensures.frame ∙ v.frame)
-          (reached (λ b. (goal.Member-dyn g (b.vtable, b.value)).plain b.value) c.in-Ok.ran.0 c.in-Ok.ensures.stands seed (i.0 ++ i.1 ∷
+          (reached g.M.Participant.plain c.in-Ok.ran.0 c.in-Ok.ensures.stands seed (i.0 ++ i.1 ∷
           []) told.0 told.1),
       subst (λ (l : List Row). g.S.RowSink.part c.args.sink.now l c.rows.new.self) (sym told.2)
           (g.met.S.RowSink.part_more c.args.sink.now c.loop-begin.sink c.rows.new.self i.1.trace c.in-Ok.ran.1.items i.3
@@ -116,7 +116,7 @@ returns-clause-windows g c = λ seed h.
     let same = ap (λ (k : PlainScenario × Network × ℕ × Ends). k.0.until) v.frame in
     let until = c.until-until.ensures.until in
     let no = c.loop-begin-test.false in
-    let last = is_last (λ b. (goal.Member-dyn g (b.vtable, b.value)).plain b.value) c.loop-begin.engine v.stands seed i.0 i.1 i.2
+    let last = is_last g.M.Participant.plain c.loop-begin.engine v.stands seed i.0 i.1 i.2
     c.loop-begin.begin v.next (omega (arith, same)) in (
       i.0,
       i.1,

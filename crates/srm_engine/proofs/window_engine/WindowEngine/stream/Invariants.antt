@@ -9,14 +9,14 @@ use Rattle.srm_engine.proofs.window_engine.WindowEngine.stream.Given as goal
 abbrev pub invariant-loop-begin : goal.invariant-loop-begin
 invariant-loop-begin g l = record {
   ready : g.C.Crew.ready l.crew;
-  stands : IsUnderWay (λ b. (goal.Member-dyn g (b.vtable, b.value)).plain b.value) l.engine;
+  stands : IsUnderWay g.M.Participant.plain l.engine;
   frame : frame_of l.engine ≡ frame_of l.fn.self;
-  next : BeginsNext (λ b. (goal.Member-dyn g (b.vtable, b.value)).plain b.value) l.engine l.begin;
+  next : BeginsNext g.M.Participant.plain l.engine l.begin;
   device : g.S.RowSink.same l.fn.sink l.sink;
   live : g.S.RowSink.stage l.sink ≡ Live;
   unfailed : g.S.RowSink.failures l.sink ≡ g.S.RowSink.failures l.fn.sink;
-  windows : (seed : ℕ) → OpensAt (λ b. (goal.Member-dyn g (b.vtable, b.value)).plain b.value) seed l.fn.self
-      → (begins : List World) × (w : World) × ComesTo (λ b. (goal.Member-dyn g (b.vtable, b.value)).plain b.value) seed l.engine begins w
+  windows : (seed : ℕ) → OpensAt g.M.Participant.plain seed l.fn.self
+      → (begins : List World) × (w : World) × ComesTo g.M.Participant.plain seed l.engine begins w
       × g.S.RowSink.took l.fn.sink w.trace l.sink
       × g.C.Crew.handed l.fn.crew (calls_for (rule_by l.engine seed) l.engine.groups.cut begins) l.crew;
 }

@@ -11,17 +11,17 @@ use Rattle.srm_engine.proofs.window_engine.WindowEngine.window.Goals as goal
 
 pub map-requires-clause-jobs : goal.map-requires-clause-jobs
 map-requires-clause-jobs g c =
-    (jobs_tell_now (λ b. (goal.Member-dyn g (b.vtable, b.value)).plain b.value) c.args.self c.requires.stands c.end-end.result
+    (jobs_tell_now g.M.Participant.plain c.args.self c.requires.stands c.end-end.result
     c.end-end.ensures c.in_ok-jobs.jobs.items c.in_ok-jobs.ensures).may
 
 pub map-requires-clause-many : goal.map-requires-clause-many
 map-requires-clause-many g c =
-    (jobs_tell_now (λ b. (goal.Member-dyn g (b.vtable, b.value)).plain b.value) c.args.self c.requires.stands c.end-end.result
+    (jobs_tell_now g.M.Participant.plain c.args.self c.requires.stands c.end-end.result
     c.end-end.ensures c.in_ok-jobs.jobs.items c.in_ok-jobs.ensures).few
 
 pub map-requires-clause-places : goal.map-requires-clause-places
 map-requires-clause-places g c =
-    (jobs_tell_now (λ b. (goal.Member-dyn g (b.vtable, b.value)).plain b.value) c.args.self c.requires.stands c.end-end.result
+    (jobs_tell_now g.M.Participant.plain c.args.self c.requires.stands c.end-end.result
     c.end-end.ensures c.in_ok-jobs.jobs.items c.in_ok-jobs.ensures).placed
 
 pub map-requires-clause-seat : goal.map-requires-clause-seat
@@ -30,22 +30,22 @@ map-requires-clause-seat g c = c.requires.stands.comes.counted.ledger
 pub window_fault-requires : goal.window_fault-requires
 window_fault-requires g c = λ spent.
     let w = c.requires.stands.world in
-    let j = jobs_tell_now (λ b. (goal.Member-dyn g (b.vtable, b.value)).plain b.value) c.args.self c.requires.stands c.end-end.result
+    let j = jobs_tell_now g.M.Participant.plain c.args.self c.requires.stands c.end-end.result
     c.end-end.ensures c.in_ok-jobs.jobs.items c.in_ok-jobs.ensures in
     j.not_spent (rw spent at c.in-Err.ensures.done.tells (handed_jobs 0 (jobs_of c.args.self.groups.cut c.end-end.result w)) j.seen)
 
 pub returns-in-Err-clause-window : goal.returns-in-Err-clause-window
 returns-in-Err-clause-window g c = λ seed begins w comes.
-    let j = jobs_tell (λ b. (goal.Member-dyn g (b.vtable, b.value)).plain b.value) c.args.self c.requires.stands seed begins w comes
+    let j = jobs_tell g.M.Participant.plain c.args.self c.requires.stands seed begins w comes
     c.end-end.result c.end-end.ensures c.in_ok-jobs.jobs.items c.in_ok-jobs.ensures in
     let told = c.in-Err.ensures.done.tells (handed_jobs 0 (jobs_of c.args.self.groups.cut c.end-end.result w)) j.seen in
-    rw c.window_fault.ensures (map_refused (λ b. (goal.Member-dyn g (b.vtable, b.value)).plain b.value) c.args.self seed c.end-end.result
+    rw c.window_fault.ensures (map_refused g.M.Participant.plain c.args.self seed c.end-end.result
     w c.in_ok-jobs.jobs.items j c.in-Err.fault told)
 
 pub look_again-groups-requires-clause-may : goal.look_again-groups-requires-clause-may
 look_again-groups-requires-clause-may g c =
     let k = c.requires.stands in
-    let ran = ran_now (λ b. (goal.Member-dyn g (b.vtable, b.value)).plain b.value) c.args.self c.requires.stands c.end-end.result
+    let ran = ran_now g.M.Participant.plain c.args.self c.requires.stands c.end-end.result
     c.end-end.ensures c.in_ok-jobs.jobs.items c.in_ok-jobs.ensures c.in-Ok.done c.in-Ok.ensures.done in
     let same = c.in_ok-groups.ensures.groups in
     let all = ap (λ l. length (all_in l)) same in
@@ -61,7 +61,7 @@ look_again-groups-requires-clause-may g c =
 
 pub merge-requires : goal.merge-requires
 merge-requires g c =
-    let ran = ran_now (λ b. (goal.Member-dyn g (b.vtable, b.value)).plain b.value) c.args.self c.requires.stands c.end-end.result
+    let ran = ran_now g.M.Participant.plain c.args.self c.requires.stands c.end-end.result
     c.end-end.ensures c.in_ok-jobs.jobs.items c.in_ok-jobs.ensures c.in-Ok.done c.in-Ok.ensures.done in
     record { sorted = subst (All (IsSorted row_cmp)) (sym (c.in_ok-groups.ensures.lists ∙ ap some_of ran.rows)) ran.sorted }
 
@@ -73,11 +73,11 @@ hear-requires-clause-may g c =
     let k = c.requires.stands in
     let w = k.world in
     let ds = c.in-Ok.done.0.items in
-    let ran = ran_now (λ b. (goal.Member-dyn g (b.vtable, b.value)).plain b.value) c.args.self c.requires.stands c.end-end.result
+    let ran = ran_now g.M.Participant.plain c.args.self c.requires.stands c.end-end.result
     c.end-end.ensures c.in_ok-jobs.jobs.items c.in_ok-jobs.ensures c.in-Ok.done c.in-Ok.ensures.done in
     let s = setting_by c.args.self k.seed in
     let cut = c.args.self.groups.cut in
-    let grouped = subst (λ l. AreGrouped (λ b. (goal.Member-dyn g (b.vtable, b.value)).plain b.value) cut l (cells_in ran.results))
+    let grouped = subst (λ l. AreGrouped g.M.Participant.plain cut l (cells_in ran.results))
     (sym c.in_ok-groups.ensures.groups) ran.grouped in
     let rows = c.in_ok-rows.rows.items in
     let merged = subst (λ l. IsPermutation (joined l) rows × IsSorted row_cmp rows) c.in_ok-groups.ensures.lists c.in_ok-rows.ensures in (
@@ -87,7 +87,7 @@ hear-requires-clause-may g c =
         c.look_again-groups.ensures.soon k.seed w.cells ran.results ran.alone grouped k.comes.kept.soon,
         ran.members,
         subst (λ l. AreNewInTurn s.traffic l (cells_in ran.results)) (sym c.as_slice.ensures.value)
-            (new_in_turn (λ b. (goal.Member-dyn g (b.vtable, b.value)).plain b.value) c.args.self k k.seed k.begins w k.comes
+            (new_in_turn g.M.Participant.plain c.args.self k k.seed k.begins w k.comes
             c.end-end.result c.end-end.ensures ds ran rows merged),
       ),
     )
@@ -95,28 +95,28 @@ hear-requires-clause-may g c =
 pub returns-clause-window : goal.returns-clause-window
 returns-clause-window g c = λ seed begins w comes.
     let k = c.requires.stands in
-    let j = jobs_tell (λ b. (goal.Member-dyn g (b.vtable, b.value)).plain b.value) c.args.self k seed begins w comes c.end-end.result
+    let j = jobs_tell g.M.Participant.plain c.args.self k seed begins w comes c.end-end.result
     c.end-end.ensures c.in_ok-jobs.jobs.items c.in_ok-jobs.ensures in
-    let told = mapped (λ b. (goal.Member-dyn g (b.vtable, b.value)).plain b.value) c.args.self k seed begins w comes c.end-end.result
+    let told = mapped g.M.Participant.plain c.args.self k seed begins w comes c.end-end.result
     c.end-end.ensures c.in_ok-jobs.jobs.items c.in_ok-jobs.ensures c.in-Ok.done c.in-Ok.ensures.done in
     let ds = c.in-Ok.done.0.items in
     let ran = told.0 in
     let cut = c.args.self.groups.cut in
-    let grouped = subst (λ l. AreGrouped (λ b. (goal.Member-dyn g (b.vtable, b.value)).plain b.value) cut l (cells_in ran.results))
+    let grouped = subst (λ l. AreGrouped g.M.Participant.plain cut l (cells_in ran.results))
     (sym c.in_ok-groups.ensures.groups) ran.grouped in
     let rows = c.in_ok-rows.rows.items in
     let merged = subst (λ l. IsPermutation (joined l) rows × IsSorted row_cmp rows) c.in_ok-groups.ensures.lists c.in_ok-rows.ensures in
-    let end_at = end_is (λ b. (goal.Member-dyn g (b.vtable, b.value)).plain b.value) c.args.self k seed begins w comes c.end-end.result
+    let end_at = end_is g.M.Participant.plain c.args.self k seed begins w comes c.end-end.result
     c.end-end.ensures in
     let heard = c.in_ok-hear.ensures.heard seed (cells_in ran.results)
     (c.look_again-groups.ensures.soon seed w.cells ran.results ran.alone grouped comes.kept.soon) in (
-      after (λ b. (goal.Member-dyn g (b.vtable, b.value)).plain b.value) c.args.self k seed begins w comes c.end-end.result
+      after g.M.Participant.plain c.args.self k seed begins w comes c.end-end.result
           c.end-end.ensures ds ran rows merged,
       record {
-        windows = (one_more (λ b. (goal.Member-dyn g (b.vtable, b.value)).plain b.value) c.args.self k seed begins w comes
+        windows = (one_more g.M.Participant.plain c.args.self k seed begins w comes
             c.end-end.result c.end-end.ensures ds ran rows merged).0;
         kept = rw c.as_slice.ensures.value at heard;
-        counted = counted_after (λ b. (goal.Member-dyn g (b.vtable, b.value)).plain b.value) c.args.self k seed begins w comes
+        counted = counted_after g.M.Participant.plain c.args.self k seed begins w comes
             c.end-end.result c.end-end.ensures ds ran rows merged c.in-Ok.done.1 told.1;
       },
       refl,
@@ -143,11 +143,11 @@ unfolding returns-clause-window
 returns-clause-later g c = λ next at.
     let k = c.requires.stands in
     let ds = c.in-Ok.done.0.items in
-    let ran = (mapped (λ b. (goal.Member-dyn g (b.vtable, b.value)).plain b.value) c.args.self k k.seed k.begins k.world k.comes
+    let ran = (mapped g.M.Participant.plain c.args.self k k.seed k.begins k.world k.comes
     c.end-end.result c.end-end.ensures c.in_ok-jobs.jobs.items c.in_ok-jobs.ensures c.in-Ok.done c.in-Ok.ensures.done).0 in
     let rows = c.in_ok-rows.rows.items in
     let merged = subst (λ l. IsPermutation (joined l) rows × IsSorted row_cmp rows) c.in_ok-groups.ensures.lists c.in_ok-rows.ensures in
     let told_window = returns-clause-window g c k.seed k.begins k.world k.comes in
-    later (λ b. (goal.Member-dyn g (b.vtable, b.value)).plain b.value) c.args.self k k.seed k.begins k.world k.comes c.end-end.result
+    later g.M.Participant.plain c.args.self k k.seed k.begins k.world k.comes c.end-end.result
     c.end-end.ensures ds ran rows merged c.args.begin next c.requires.begin c.requires.early
     (at k.seed (k.begins ++ k.world ∷ []) told_window.0 told_window.1)

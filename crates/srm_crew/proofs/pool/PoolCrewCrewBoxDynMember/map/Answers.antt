@@ -1,7 +1,7 @@
 use Rattle.std.proofs.Common.{length, sym}
 use Rattle.srm_cell.specs.Setting.{traffic_of}
 use Rattle.srm_crew.proofs.JobsSeen.{some_told}
-use Rattle.srm_crew.proofs.pool.PoolCrewCrew.map.Goals as goal
+use Rattle.srm_crew.proofs.pool.PoolCrewCrewBoxDynMember.map.Goals as goal
 
 pub settle-requires-clause-known : goal.settle-requires-clause-known
 settle-requires-clause-known g c = some_told (λ b. (goal.Member-dyn g (b.vtable, b.value)).plain b.value) c.args.scenario.now c.args.net.now

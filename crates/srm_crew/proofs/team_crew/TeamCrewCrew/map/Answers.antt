@@ -1,0 +1,15 @@
+use Rattle.std.proofs.Common.{length, sym}
+use Rattle.srm_cell.specs.Setting.{traffic_of}
+use Rattle.srm_crew.proofs.JobsSeen.{some_told}
+use Rattle.srm_crew.proofs.team_crew.TeamCrewCrew.map.Goals as goal
+
+pub settle-requires-clause-known : goal.settle-requires-clause-known
+settle-requires-clause-known g c = some_told g.M.Participant.plain c.args.scenario.now c.args.net.now
+    (length c.args.net.now.hosts) c.args.ledger.now.links c.args.jobs.items c.advance_in_team-advanced.result c.requires.jobs
+    c.advance_in_team-advanced.ensures (sym c.requires.links)
+
+pub returns-clause-done : goal.returns-clause-done
+returns-clause-done g c = record {
+  tells = λ ps h. c.settle.ensures.told (traffic_of c.args.scenario.now c.args.net.now) ps
+      (sym c.requires.links) (c.advance_in_team-advanced.ensures.tells ps h);
+}
