@@ -18,6 +18,7 @@ pub mod FitSettings
 pub mod CellKeys
 pub mod CrossingLemmas
 pub mod Counting
+pub mod Tallying
 pub mod RowPackets
 pub mod SoFar
 pub mod SentRows

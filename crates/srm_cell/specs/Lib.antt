@@ -13,3 +13,4 @@ pub mod Jobs
 pub mod Crossings
 pub mod Laws
 pub mod Totalled
+pub mod Tallies
