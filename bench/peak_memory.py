@@ -27,7 +27,7 @@ PAGES = 4
 ENDS = [1000, 4000, 16000]
 TABLES = ["trace", "members", "losses", "links", "timers"]
 WINDOW = ["--engine", "window", "--workers", "2", "--crew"]
-CREWS = ("plain", "pool", "bag")
+CREWS = ("plain", "pool", "bag", "team")
 ENGINES: list[tuple[str, list[str]]] = [("step", []), *((f"window, {crew}", [*WINDOW, crew]) for crew in CREWS)]
 # seconds between two looks at the memory of a run that writes nothing meanwhile
 PERIOD = 0.001

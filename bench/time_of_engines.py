@@ -78,7 +78,7 @@ def engines(nodes: int, workers: int) -> dict[str, list[str]]:
     """The options of each engine, by its name."""
     cut = min(MOST_CUT, max(1, nodes // (4 * workers)))
     window = ["--engine", "window", "--width", "least", "--workers", str(workers), "--cut", str(cut)]
-    return {"step": [], **{f"window, {crew}": [*window, "--crew", crew] for crew in ("plain", "pool", "bag")}}
+    return {"step": [], **{f"window, {crew}": [*window, "--crew", crew] for crew in ("plain", "pool", "bag", "team")}}
 
 
 def timed(program: Program, words: list[str], text: bytes) -> tuple[bytes, float]:

@@ -5,7 +5,7 @@ _srm_lab() {
     case $before in
         --show) mapfile -t COMPREPLY < <(compgen -W "trace members losses links timers" -- "$word") ;;
         --engine) mapfile -t COMPREPLY < <(compgen -W "step window" -- "$word") ;;
-        --crew) mapfile -t COMPREPLY < <(compgen -W "plain pool bag" -- "$word") ;;
+        --crew) mapfile -t COMPREPLY < <(compgen -W "plain pool bag team" -- "$word") ;;
         --width) mapfile -t COMPREPLY < <(compgen -W "least promise" -- "$word") ;;
         --seed | --workers | --cut) ;;
         *) mapfile -t COMPREPLY < <(compgen -W "--seed --engine --crew --workers --cut --width --show --check --explain --help --version" -- "$word") ;;

@@ -10,6 +10,7 @@ its output takes nothing. Needs a C compiler, `cc`, for the libraries that count
 compare_program.py and hostile.py too; here stand each option's words.
 """
 import functools
+import itertools
 import os
 import pathlib
 import subprocess
@@ -241,7 +242,7 @@ class Traces(CommandLineCase):
     def test_rows_are_written_before_the_run_ends(self) -> None:
         text = chain(40, 1, 1)
         promised = [*WINDOW, "--width", "promise", "--cut", "7"]
-        for words in (NO_WORDS, WINDOW, promised, [*WINDOW, "--crew", "pool"], [*WINDOW, "--crew", "bag"]):
+        for words in (NO_WORDS, WINDOW, promised, *([*WINDOW, "--crew", crew] for crew in ("pool", "bag", "team"))):
             with self.subTest(words=words):
                 self.assertLess(self.allocations(words, text, FULL), 3 / 4 * self.allocations(words, text))
 
@@ -264,20 +265,17 @@ class Traces(CommandLineCase):
 
 
 class Crews(CommandLineCase):
-    def test_workers_of_a_bag_are_threads_beside_the_first(self) -> None:
-        bag = [*WINDOW, "--crew", "bag"]
-        for words, more in (
-            (NO_WORDS, 0),
-            (["--workers", "1"], 0),
-            (["--workers", "2"], 1),
-            (["--workers=7"], 6),
-            (["--workers", "+64"], 63),
-        ):
-            with self.subTest(words=words):
-                self.assertEqual(self.threads([*bag, *words]), more)
+    def test_workers_of_a_bag_and_of_a_team_are_threads_beside_the_first(self) -> None:
+        given = ((NO_WORDS, 0), (["--workers", "1"], 0), (["--workers", "2"], 1), (["--workers=7"], 6), (["--workers", "+64"], 63))
+        for crew, (words, more) in itertools.product(("bag", "team"), given):
+            with self.subTest(crew=crew, words=words):
+                self.assertEqual(self.threads([*WINDOW, "--crew", crew, *words]), more)
+
+    def test_a_team_starts_its_threads_once(self) -> None:
+        self.assertEqual(self.threads([*WINDOW, "--crew", "team", "--workers", "3"], chain(20, 1)), 2)
 
     def test_no_other_run_starts_a_thread_for_each_worker(self) -> None:
-        others = (NO_WORDS, ["--crew", "bag"], ["--crew", "pool"], WINDOW, [*WINDOW, "--crew", "plain"], ["--engine", "step"])
+        others = (NO_WORDS, ["--engine", "step"], WINDOW, [*WINDOW, "--crew", "plain"], *(["--crew", crew] for crew in ("bag", "team", "pool")))
         for words in others:
             with self.subTest(words=words):
                 self.assertEqual(self.threads([*words, "--workers", "3"]), 0)
@@ -302,7 +300,7 @@ class Crews(CommandLineCase):
         self.assertEqual(self.allocations(WINDOW, text), plain)
         self.assertNotEqual(bag, plain)
         self.assertNotEqual(*(self.threads([*WINDOW, "--crew", crew], text) for crew in ("bag", "pool")))
-        for crew in ("plain", "pool", "bag"):
+        for crew in ("plain", "pool", "bag", "team"):
             self.assertEqual(self.allocations(["--engine", "step", "--crew", crew], text), self.allocations([], text))
 
     def test_options_in_any_order(self) -> None:
@@ -373,10 +371,10 @@ Options:
 Windows (advanced: how a run is worked out, the table is the same):
       --engine <step|window>
           One event at a time, or windows of time [default: step]
-      --crew <plain|pool|bag>
-          Who works in a window: one thread, a pool of threads, or workers that share a bag of jobs [default: plain]
+      --crew <plain|pool|bag|team>
+          Who works in a window: one thread, a pool of threads, workers that share a bag, or a team that lasts [default: plain]
       --workers <1..=64>
-          How many workers share the bag [default: 1]
+          How many workers share the bag, or are the team [default: 1]
       --cut <N>
           How many members a job of a window has, 1 to 1024 [default: 1]
       --width <least|promise|N>
@@ -414,7 +412,7 @@ class Explanations(CommandLineCase):
             self.assertIn(it, lines.decode())
 
     def test_a_refused_word_is_named_and_what_may_stand_there(self) -> None:
-        self.check(["--crew", "six"], "'six'", "--crew", "plain, pool, bag")
+        self.check(["--crew", "six"], "'six'", "--crew", "plain, pool, bag, team")
         self.check(["--shw", "links"], "'--shw'", "'--show'")
         self.check(["--workers", "65"], "'65'", "1..=64")
         self.check(["--cut", "+1"], "'+1'", "--cut <N>", "1 to 1024")

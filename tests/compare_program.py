@@ -20,7 +20,7 @@ sys.dont_write_bytecode = True
 from program import REFUSED_LINE, VERSION, End, Program, Word, refused
 
 SHOWS = ("trace", "members", "losses", "links", "timers")
-CREWS = ("plain", "pool", "bag")
+CREWS = ("plain", "pool", "bag", "team")
 WORKERS = ("1", "2", "7")
 CUTS = ("1", "3", "1024")
 WIDTHS = ("1", "least", "promise")

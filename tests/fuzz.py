@@ -14,8 +14,8 @@ each case this is asserted:
   fuzz_format.py).
 - A refusal is the one that comes first by docs/FORMATS.md, as one line on standard error, with nothing on standard output and
   status 1. Where Python cannot read the text as TOML, any refusal of a scenario may come. A refused command line has status 2.
-- The run in windows, with a crew, workers, a cut and a width at random, gives the sequential engine's bytes; and where the cut or
-  the width is none that the scenario allows, their refusal (fuzz_windows.py).
+- The run in windows, with a crew, workers, a cut and a width at random, and besides with a team of 1, 2, 4, 7 or 64 workers, gives
+  the sequential engine's bytes; and where the cut or the width is none that the scenario allows, their refusal (fuzz_windows.py).
 - With --explain a refusal has the same line, status and standard output, and lines after that line, which begin with two spaces
   where the words are not refused.
 - Each run ends within LONGEST seconds.
@@ -122,13 +122,16 @@ def ends(tables: list[str], case: Case, first: End) -> dict[str, End]:
 
 
 def check_windows(run: Run, named: set[str], case: Case, must: dict[str, End]) -> None:
-    """Runs an accepted case in windows, for each table, and once with a cut or a width that is refused."""
+    """Runs an accepted case in windows, for each table, with a team too, and once with a cut or a width that is refused."""
     rng = fuzz_windows.random_of(case)
     top = case.must if isinstance(case.must, dict) else None
     rows = must["trace"].written.count(b"\n")
     for table, end in must.items():
-        words = fuzz_windows.windows(rng, top, rows, named)
-        is_same(" ".join(["--show", table, *words]), run([f"--seed={case.seed}", *words, "--show", table], case.text), end)
+        ways = [fuzz_windows.windows(rng, top, rows, named)]
+        if "team" in named:
+            ways.append(fuzz_windows.team(rng, top, named))
+        for words in ways:
+            is_same(" ".join(["--show", table, *words]), run([f"--seed={case.seed}", *words, "--show", table], case.text), end)
     if top is not None:
         words, line = fuzz_windows.refused(rng, top)
         end = refused(line)

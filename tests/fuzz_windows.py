@@ -7,6 +7,8 @@ from fuzz_scenarios import Case
 
 CREWS = ("plain", "pool", "bag")
 MOST_WORKERS = 64
+# the workers that a team is tried with, of which the first leads it
+TEAMS = (1, 2, 4, 7, MOST_WORKERS)
 MOST_CUT = 1024
 GREATEST_CUT = 2**32 - 1
 GREATEST_WIDTH = 2**64 - 1
@@ -29,13 +31,22 @@ def asked(crew: str, workers: int, cut: int, width: int | str) -> list[str]:
     return [word for name, value in words.items() for word in (f"--{name}", str(value))]
 
 
-def windows(rng: random.Random, top: Table | None, rows: int, words: set[str]) -> list[str]:
-    """Words that each accepted scenario allows; top is None where its plain data is not known. The trace has so many rows; --help
-    names these words."""
+def some_width(rng: random.Random, top: Table | None, words: set[str]) -> int | str:
+    """A width that each accepted scenario allows; top is None where its plain data is not known, and --help names these words."""
     widths: list[int | str] = [1, "least", *(word for word in ["promise"] if word in words)]
-    width = rng.choice(widths) if top is None or rng.random() < 0.7 else often_small(rng, widest(top))
+    return rng.choice(widths) if top is None or rng.random() < 0.7 else often_small(rng, widest(top))
+
+
+def windows(rng: random.Random, top: Table | None, rows: int, words: set[str]) -> list[str]:
+    """Words that each accepted scenario allows, of a crew that starts its threads in each window. The trace has so many rows."""
+    width = some_width(rng, top, words)
     workers = often_small(rng, max(1, min(MOST_WORKERS, THREADS // max(rows, 1))))
     return asked(rng.choice(CREWS), workers, often_small(rng, MOST_CUT), width)
+
+
+def team(rng: random.Random, top: Table | None, words: set[str]) -> list[str]:
+    """Words that each accepted scenario allows, of a team."""
+    return asked("team", rng.choice(TEAMS), often_small(rng, MOST_CUT), some_width(rng, top, words))
 
 
 def refused(rng: random.Random, top: Table) -> tuple[list[str], str]:

@@ -46,7 +46,7 @@ draw = [{ member = 0, page = 0, ink = 7, at = 0 }, { member = 0, page = 0, ink =
 """
 NO_WORDS: list[str] = []
 WINDOW = ["--engine", "window"]
-ENGINES = [NO_WORDS, *([*WINDOW, "--crew", crew, "--workers", "2"] for crew in ("plain", "pool", "bag"))]
+ENGINES = [NO_WORDS, *([*WINDOW, "--crew", crew, "--workers", "2"] for crew in ("plain", "pool", "bag", "team"))]
 PIECE = 50
 
 

@@ -32,8 +32,9 @@ STEP = ("--engine", "step")
 PLAIN = (*WINDOW, "1")
 POOL = (*WINDOW, "1", "--crew", "pool")
 BAG = (*WINDOW, "1", "--crew", "bag", "--workers", "2")
+TEAM = (*WINDOW, "1", "--crew", "team", "--workers", "2")
 PROMISE = (*WINDOW, "1024", "--width", "promise")
-WAYS = (STEP, PLAIN, POOL, BAG, PROMISE)
+WAYS = (STEP, PLAIN, POOL, BAG, TEAM, PROMISE)
 # nodes, and members, of the session that is run in windows
 MANY = 5_000
 # each with the table that is compared
@@ -41,10 +42,12 @@ WAYS_OF_MANY = (
     ("trace", (*WINDOW, "1")),
     ("trace", (*WINDOW, "1", "--crew", "bag", "--workers", "2", "--width", "promise")),
     ("trace", (*WINDOW, "64", "--crew", "bag", "--workers", "7")),
+    ("trace", (*WINDOW, "1000", "--crew", "team", "--workers", "4")),
     ("trace", (*WINDOW, "7", "--crew", "pool", "--width", "3")),
     ("losses", (*WINDOW, "1024", "--crew", "pool", "--width", "promise")),
     ("members", (*WINDOW, "100", "--crew", "bag", "--workers", "4", "--width", "3")),
     ("links", (*WINDOW, "9", "--width", "promise")),
+    ("links", (*WINDOW, "300", "--crew", "team", "--workers", "7", "--width", "promise")),
     ("timers", (*WINDOW, "500", "--crew", "bag", "--workers", "3", "--width", "promise")),
 )
 

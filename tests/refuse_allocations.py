@@ -35,7 +35,7 @@ NO_END = End(-1, b"", b"")
 ENGINES = {"step": ["--engine", "step"], "window": ["--engine", "window"]}
 CREWS = {
     "window, pool": ["--engine", "window", "--crew", "pool"],
-    "window, bag, 2 workers": ["--engine", "window", "--crew", "bag", "--workers", "2"],
+    **{f"window, {crew}, 2 workers": ["--engine", "window", "--crew", crew, "--workers", "2"] for crew in ("bag", "team")},
 }
 TABLES = {table: ["--show", table] for table in ("members", "losses", "links", "timers")}
 

@@ -4,8 +4,8 @@
 usage: tests/same_bytes.py PROGRAM [--runs N]
 
 The scenario is a tree of 256 nodes with a member on each, of which member 0 draws, and some of whose packets are dropped;
-each run has 64 workers, which share a bag of jobs of 4 members each. Prints how many runs there were, and ends with status 1
-at the first that differs.
+each run has 64 workers, which in turn share a bag of jobs of 4 members each and are a team with such jobs. Prints how many
+runs there were, and ends with status 1 at the first that differs.
 """
 import argparse
 import sys
@@ -16,7 +16,8 @@ from program import LONGEST, Program
 
 NODES = 256
 DRAWS = 3
-WORDS = ["--engine", "window", "--crew", "bag", "--workers", "64", "--cut", "4"]
+WORDS = ["--engine", "window", "--workers", "64", "--cut", "4", "--crew"]
+CREWS = ("bag", "team")
 
 
 def scenario() -> bytes:
@@ -40,7 +41,8 @@ def main() -> None:
     text = scenario()
     must = options.program.written([], text, timeout=LONGEST)
     for run in range(options.runs):
-        if options.program.written(WORDS, text, timeout=LONGEST) != must:
+        words = [*WORDS, CREWS[run % len(CREWS)]]
+        if options.program.written(words, text, timeout=LONGEST) != must:
             sys.exit(f"run {run}: not the bytes of the sequential engine")
     rows = must.count(b"\n") - 1
     print(f"{options.runs} runs with 64 workers: the same {rows} rows")

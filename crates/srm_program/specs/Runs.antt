@@ -1,9 +1,10 @@
 -- What a run is asked for, and what comes of it.
 use Rattle.std.specs.Prelude.{◌≡◌, ℕ, ◌≤◌, List, Option, Result, Ok, Err}
 use Rattle.srm_net.specs.Network.{Network}
-use Rattle.srm_scenario.specs.Plain.{PlainScenario}
+use Rattle.srm_scenario.specs.Plain.{PlainScenario, network_of}
 use Rattle.srm_cell.specs.Setting.{Setting, setting_of}
 use Rattle.srm_member.specs.declared.row.Row.{Row}
+use Rattle.srm_member.specs.Record.{Record}
 use Rattle.srm_member.specs.declared.exit.Exit.{Exit}
 use Rattle.srm_engine.specs.declared.fault.RunFault.TheVariants as fault
 use Rattle.srm_engine.specs.declared.stream_fault.StreamFault.{StreamFault}
@@ -16,13 +17,14 @@ use Rattle.srm_model.specs.World.{World, IsOutcome, RunMeetsFull}
 use Rattle.srm_model.specs.WindowChains.{AreWindows}
 use Rattle.srm_model.specs.WindowRuns.{jobs_of}
 use Rattle.srm_engine.specs.Groups.{handed_jobs}
+use Rattle.srm_engine.specs.Outcomes.{HoldOpeningRecords}
 use Rattle.srm_engine.specs.Windowed.{IsCut, MayBeWide, PassesShare, rule_of}
 use Rattle.srm_program.specs.declared.fault.LabFault.{LabFault}
 use Rattle.srm_program.specs.declared.fault.LabFault.TheVariants.{BadCut, BadWidth, ShareFull, NoMemory, CountFull}
 use Rattle.srm_program.specs.declared.fault.LabFault.TheVariants.{WriteFault}
 use Rattle.srm_program.specs.declared.options.Engine.TheVariants.{Window}
 use Rattle.srm_program.specs.declared.options.Options.{Options}
-use Rattle.srm_program.specs.Reports.{TellsReport}
+use Rattle.srm_program.specs.Reports.{TellsReport, failures_after_run}
 
 -- so many workers may share a bag
 abbrev pub MayShareBag : ℕ → Type 0
@@ -88,3 +90,16 @@ module _ {S : Type 0} (took part : S → List Row → S → Type 0) where
   -- what the engine that is asked for hands on, and refuses
   abbrev pub TellsRows : PlainScenario → Network → ℕ → Options → S → Result (List ℕ) LabFault → S → Type 0
   TellsRows p net seed o old r new = HandsRows (setting_of p net seed) old r new × TellsRefusedFor p net seed o r
+
+-- members with these records may be run in windows
+abbrev pub MayRunInWindows : PlainScenario → Network → Options → List Record → Type 0
+MayRunInWindows p net o records =
+    (o.engine ≡ Window) × (net ≡ network_of p) × ((seed : ℕ) × HoldOpeningRecords p net seed records)
+
+module _ {S : Type 0} (stage : S → Stage) (failures : S → ℕ) (same : S → S → Type 0)
+    (took part : S → List Row → S → Type 0) where
+  -- what their run tells, whoever works in it: how the sink stands, and its rows for every seed
+  abbrev pub HandsOn : PlainScenario → Network → Options → List Record → S → Result (List ℕ) LabFault → S → Type 0
+  HandsOn p net o records old r new =
+      same old new × StandsAfter r (stage new) × (failures new ≡ failures_after_run r (failures old))
+      × ((seed : ℕ) → HoldOpeningRecords p net seed records → TellsRows took part p net seed o old r new)

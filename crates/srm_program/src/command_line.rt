@@ -82,18 +82,18 @@ const ENGINE: OptionLine = OptionLine {
 
 const CREW: OptionLine = OptionLine {
     name: "crew",
-    takes: "plain|pool|bag",
+    takes: "plain|pool|bag|team",
     default: "plain",
-    about: "Who works in a window: one thread, a pool of threads, or workers that share a bag of jobs",
+    about: "Who works in a window: one thread, a pool of threads, workers that share a bag, or a team that lasts",
     reader: Reader::Text,
-    words: &["plain", "pool", "bag"],
+    words: &["plain", "pool", "bag", "team"],
 };
 
 const WORKERS: OptionLine = OptionLine {
     name: "workers",
     takes: "1..=64",
     default: "1",
-    about: "How many workers share the bag",
+    about: "How many workers share the bag, or are the team",
     reader: Reader::Number { least: 1, most: 64 },
     words: &[],
 };
@@ -160,10 +160,11 @@ const WINDOWS_HEADING: &str = "Windows (advanced: how a run is worked out, the t
 const ENGINES: [(&str, Engine); 2] = [("step", Engine::Step), ("window", Engine::Window)];
 
 /// The words of `--crew`.
-const CREWS: [(&str, CrewKind); 3] = [
+const CREWS: [(&str, CrewKind); 4] = [
     ("plain", CrewKind::Plain),
     ("pool", CrewKind::Pool),
     ("bag", CrewKind::Bag),
+    ("team", CrewKind::Team),
 ];
 
 /// The words of `--width`, which takes a number besides.

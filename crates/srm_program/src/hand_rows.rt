@@ -8,6 +8,7 @@ ghost use Rattle.srm_program.specs.Runs.{fault_of_stream, MayShareBag, StandsAft
 
 use crate::asked::Asked;
 use crate::fault::LabFault;
+use crate::in_team::in_team;
 use crate::options::{CrewKind, Engine};
 use srm_crew::bag_crew::BagCrew;
 use srm_crew::crew::Crew;
@@ -62,6 +63,7 @@ pub(crate) fn hand_rows<R: Threads + Wait + Sync, S: RowSink>(
                 let mut crew = BagCrew::new(rt, OpenGate, asked.options.workers);
                 in_windows(alloc, asked, members, &mut crew, sink)
             }
+            CrewKind::Team => in_team(rt, alloc, asked, members, sink),
         },
     }
 }
@@ -90,8 +92,8 @@ fn in_steps<S: RowSink>(
     }
 }
 
-// The run in windows of time, with this crew.
-fn in_windows<M: Participant, C: Crew<M>, S: RowSink>(
+/// The run in windows of time, with this crew.
+pub(crate) fn in_windows<M: Participant, C: Crew<M>, S: RowSink>(
     alloc: Global,
     asked: &Asked,
     members: Vec<M>,

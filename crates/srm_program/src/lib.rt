@@ -6,6 +6,7 @@ pub mod command_line;
 mod explained;
 pub mod fault;
 mod hand_rows;
+mod in_team;
 pub mod line;
 mod made;
 mod members;

@@ -19,6 +19,8 @@ pub enum CrewKind {
     Pool,
     /// Workers that take jobs from a bag.
     Bag,
+    /// Workers that live as long as the run.
+    Team,
 }
 
 /// What is shown of a run.
@@ -43,7 +45,7 @@ pub struct Options {
     pub engine: Engine,
     /// Who works in a window. The sequential engine does not look at it.
     pub crew: CrewKind,
-    /// How many workers share a bag, 1 to 64. No other crew looks at it.
+    /// How many workers share a bag or are a team, 1 to 64. No other crew looks at it.
     pub workers: u8,
     /// How many members a job of a window has, 1 to 1,024. The sequential engine does not look at it.
     pub cut: u32,

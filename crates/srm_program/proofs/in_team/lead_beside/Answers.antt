@@ -1,0 +1,21 @@
+use Rattle.std.proofs.Common.{rules, ◌≡◌, refl}
+use Rattle.srm_program.proofs.in_team.lead_beside.Goals as goal
+
+pub join_mut-answer-requires-after_bounds : goal.join_mut-answer-requires-after_bounds
+join_mut-answer-requires-after_bounds g c κs within = (
+  search,
+  (
+    (c.args.crew, c.args.members),
+    refl,
+    c.requires.ready,
+    c.requires.run,
+    c.requires.open,
+    c.requires.failures,
+  ),
+)
+
+pub returns : goal.returns
+returns g c =
+    let told = c.join_mut-answer.ensures.1.met.1 (c.args.crew, c.args.members) refl in
+    let same : c.join_mut-answer.new.g.3.now ≡ c.sink-1.given.0 = search rules in
+    rw same at told
