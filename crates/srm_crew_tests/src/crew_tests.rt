@@ -1,4 +1,5 @@
 //! Crews on jobs, worked by hand.
+pub(crate) mod boxed;
 mod case;
 mod cases;
 pub(crate) mod handing;

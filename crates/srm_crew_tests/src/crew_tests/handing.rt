@@ -6,10 +6,10 @@ ghost use Rattle.srm_scenario.specs.Plain.{mark_cmp, network_of};
 ghost use Rattle.srm_member.specs.Record.{fixed_part};
 ghost use Rattle.srm_crew_tests.specs.Handed.{MayMap, AreKnown};
 
+use crate::crew_tests::boxed::BoxCrew;
 use crate::crew_tests::seen::Window;
 use srm_cell::cell::Cell;
 use srm_cell::job::{Done, Job};
-use srm_crew::crew::Crew;
 use srm_crew::fault::CrewFault;
 use srm_ledger::ledger::{Ledger, Seat};
 use srm_member::member::Member;
@@ -146,7 +146,7 @@ fn next_jobs(
 }
 
 /// Hands a window's jobs to a crew. Gives the same cells' jobs up to another end, the seat, and what was done.
-pub(crate) fn map_window<C: Crew<Box<dyn Member>>>(
+pub(crate) fn map_window<C: BoxCrew>(
     rt: &impl Abort,
     alloc: Global,
     crew: &mut C,
@@ -167,7 +167,7 @@ pub(crate) fn map_window<C: Crew<Box<dyn Member>>>(
         (length net.now.hosts) r.0.items) }
     ensures seat { IfOk result (λ r. r.1.ledger ≡ ledger.now.name) }
 {
-    let (all, seat) = match crew.map(alloc, scenario, net, ledger, seat, jobs) {
+    let (all, seat) = match crew.map_boxes(alloc, scenario, net, ledger, seat, jobs) {
         Ok(mapped) => mapped,
         Err(fault) => return Err(fault),
     };

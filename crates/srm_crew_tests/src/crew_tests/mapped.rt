@@ -3,6 +3,7 @@ ghost use Rattle.std.specs.Prelude.{◌≡◌, length, IfOk, IfSome};
 ghost use Rattle.srm_scenario.specs.Plain.{network_of};
 ghost use Rattle.srm_crew_tests.specs.Handed.{MayMap};
 
+use crate::crew_tests::boxed::BoxCrew;
 use crate::crew_tests::case::Case;
 use crate::crew_tests::cases::{
     FOUR_ROUND_A_NODE, FULL_SHARE, LAST_PACKET, OVER, SENDER_AND_LISTENER,
@@ -11,7 +12,6 @@ use crate::crew_tests::handing::{add_job, cell_of, map_window, opened};
 use crate::crew_tests::seats::{counted, halved, joined};
 use srm_cell::job::Job;
 use srm_crew::bag_crew::BagCrew;
-use srm_crew::crew::Crew;
 use srm_crew::gate::OpenGate;
 use srm_crew::plain::PlainCrew;
 use srm_crew::pool::PoolCrew;
@@ -43,7 +43,7 @@ fn expect_end(rt: &impl Abort, ledger: Ledger, seat: Seat, case: &Case)
 }
 
 // Hands the jobs of a case's two windows to a crew. Gives the seat where none is refused.
-fn map_both<C: Crew<Box<dyn Member>>>(
+fn map_both<C: BoxCrew>(
     rt: &impl Abort,
     alloc: Global,
     crew: &mut C,
@@ -86,7 +86,7 @@ fn map_both<C: Crew<Box<dyn Member>>>(
 }
 
 // Hands the jobs of a case's two windows to a crew, and asserts that what the case says comes of them.
-fn map_members<C: Crew<Box<dyn Member>>>(
+fn map_members<C: BoxCrew>(
     rt: &impl Abort,
     alloc: Global,
     crew: &mut C,
@@ -158,7 +158,7 @@ fn map_members<C: Crew<Box<dyn Member>>>(
 }
 
 // The same, of the case's scenario. Each box is dropped once, whatever comes of it.
-fn map_case<C: Crew<Box<dyn Member>>>(
+fn map_case<C: BoxCrew>(
     rt: &impl Abort,
     alloc: Global,
     crew: &mut C,
@@ -183,11 +183,7 @@ const CASES: [Case; 5] = [
 ];
 
 // The same, of each case, and once more where memory was refused.
-fn map_cases<C: Crew<Box<dyn Member>>>(
-    rt: &impl Abort,
-    alloc: Global,
-    crew: &mut C,
-) -> Result<(), AllocError>
+fn map_cases<C: BoxCrew>(rt: &impl Abort, alloc: Global, crew: &mut C) -> Result<(), AllocError>
     requires { C.ready crew.old }
 {
     for case in &CASES {

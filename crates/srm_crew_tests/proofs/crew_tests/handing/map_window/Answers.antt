@@ -2,14 +2,14 @@ use Rattle.std.proofs.Common.{◌∙◌, length}
 use Rattle.srm_crew_tests.proofs.HandedLemmas.{known_done, same_ledger}
 use Rattle.srm_crew_tests.proofs.crew_tests.handing.map_window.Goals as goal
 
-pub map-requires-clause-jobs : goal.map-requires-clause-jobs
-map-requires-clause-jobs g c = c.requires.jobs.jobs
+pub map_boxes-requires-clause-jobs : goal.map_boxes-requires-clause-jobs
+map_boxes-requires-clause-jobs g c = c.requires.jobs.jobs
 
-pub map-requires-clause-many : goal.map-requires-clause-many
-map-requires-clause-many g c = c.requires.jobs.few
+pub map_boxes-requires-clause-many : goal.map_boxes-requires-clause-many
+map_boxes-requires-clause-many g c = c.requires.jobs.few
 
-pub map-requires-clause-places : goal.map-requires-clause-places
-map-requires-clause-places g c = c.requires.jobs.places
+pub map_boxes-requires-clause-places : goal.map_boxes-requires-clause-places
+map_boxes-requires-clause-places g c = c.requires.jobs.places
 
 pub next_jobs-requires-clause-known : goal.next_jobs-requires-clause-known
 next_jobs-requires-clause-known g c =
