@@ -1,15 +1,13 @@
 -- The cells at the beginning of a run.
-use Rattle.std.proofs.Common.{◌≡◌, ◌⊎◌, ℕ, zero, suc, ◌+◌, ◌*◌, ◌<◌, List, [], ◌∷◌, ◌++◌, length, replicate, Some, inl, inr, refl}
+use Rattle.std.proofs.Common.{◌≡◌, ◌⊎◌, ℕ, zero, suc, ◌+◌, ◌<◌, List, [], ◌∷◌, ◌++◌, length, Some, inl, inr, refl}
 use Rattle.std.proofs.Common.{sym, ap, ◌∙◌, subst, slice_get, arith, length-append, add-one}
-use Rattle.std.specs.List.{flat_map, range_with_len}
 use Rattle.srm_net.specs.Network.{Network}
 use Rattle.srm_scenario.specs.declared.mark.Mark.{Mark}
 use Rattle.srm_scenario.specs.Plain.{PlainScenario, script_of}
 use Rattle.srm_member.specs.Record.{Record, opening_record, fixed_part}
-use Rattle.srm_ledger.specs.Counts.{nothing_at}
 use Rattle.srm_cell.specs.declared.cell.Cell.{Cell}
 use Rattle.srm_cell.specs.Setting.{Setting, setting_of, fixed_of}
-use Rattle.srm_cell.specs.Crossings.{packets_of, crossings_at, crossings}
+use Rattle.srm_cell.specs.Crossings.{packets_of, crossings}
 use Rattle.srm_cell.specs.Cells.{PlainCell, new_cell, opening_cell}
 use Rattle.srm_cell.specs.Views.{IsCell}
 use Rattle.srm_model.specs.World.{World, opening, opening_cells}
@@ -88,17 +86,9 @@ pub opening_is : (s : Setting) → opening_cells s s.traffic.members 0 ≡ (open
 unfolding opening
 opening_is s = refl
 
--- ---- nothing is counted yet
-
-nothing_from : (s : Setting) (l n : ℕ) → replicate (5 * n) 0 ≡ flat_map (crossings_at s.traffic []) (range_with_len l n)
-nothing_from s l zero = refl
-nothing_from s l (suc n) =
-    let e : 5 * suc n ≡ suc (suc (suc (suc (suc (5 * n))))) = omega arith in
-    ap (λ k. replicate k 0) e ∙ ap (λ t. 0 ∷ 0 ∷ 0 ∷ 0 ∷ 0 ∷ t) (nothing_from s (l + 1) n)
-
-pub nothing_counted : (s : Setting) → nothing_at s.traffic.links ≡ numbers_of s.traffic (packets_of (opening s).trace)
-unfolding numbers_of opening
-nothing_counted s = nothing_from s 0 s.traffic.links
+pub nothing_sent : (s : Setting) → [] ≡ packets_of (opening s).trace
+unfolding opening
+nothing_sent s = refl
 
 pub totals_are : (s : Setting) (w : World) → numbers_of s.traffic (packets_of w.trace) ≡ crossings s.traffic w.trace
 unfolding numbers_of crossings

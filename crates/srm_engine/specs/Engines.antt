@@ -8,7 +8,7 @@ use Rattle.srm_member.specs.Record.{Record}
 use Rattle.srm_cell.specs.Setting.{Traffic, Setting, traffic_of, setting_of}
 use Rattle.srm_cell.specs.Crossings.{packets_of}
 use Rattle.srm_cell.specs.Cells.{PlainCell, StepOutcome, Idle, Full, Done}
-use Rattle.srm_cell.specs.Totalled.{numbers_of}
+use Rattle.srm_cell.specs.Tallies.{Tallies}
 use Rattle.srm_cell.specs.Views.{HasWork}
 use Rattle.srm_engine.specs.declared.engine.Engine.{Engine}
 use Rattle.srm_engine.specs.declared.step_fault.StepFault.{StepFault}
@@ -42,10 +42,14 @@ module _ {M : Type 0} where
   abbrev pub IsStillOf : Engine M → Engine M → Type 0
   IsStillOf old new = (new.scenario ≡ old.scenario) × (new.net ≡ old.net)
 
-  -- the engine is seen as this world: its cells, and the totals of the trace's packets
+  -- the engine has counted these packets
+  abbrev pub HasCounted : Engine M → List Packet → Type 0
+  HasCounted e ps = Tallies e.scenario.now e.net.now ps e.tally
+
+  -- the engine is seen as this world: its cells, and the count of the trace's packets
   pub record Shows (f : M → Record) (e : Engine M) (w : World) : Type 0 where
     pub seen : ShowCells f e.cells w.cells
-    pub totals : e.totals ≡ numbers_of (traffic_in e) (packets_of w.trace)
+    pub counted : HasCounted e (packets_of w.trace)
 
   -- a step may be taken: the engine is seen as a world of a run whose rows are few enough to be counted
   abbrev pub MayStep : (M → Record) → Engine M → Type 0
@@ -66,15 +70,14 @@ module _ {M : Type 0} where
   -- a packet, if any, may be sent: it is new to all cells, and the packets so far are few enough to be counted
   abbrev pub MaySendNow : (M → Record) → Engine M → Option Packet → Type 0
   MaySendNow f e sent =
-      (ps : List PlainCell) × (qs : List Packet) × ShowCells f e.cells ps × (e.totals ≡ numbers_of (traffic_in e) qs)
+      (ps : List PlainCell) × (qs : List Packet) × ShowCells f e.cells ps × HasCounted e qs
       × MaySend (length e.scenario.now.members) ps qs sent
 
   -- after a packet was sent, if any was: all cells have heard it, and it is counted
   abbrev pub Sends : (M → Record) → Option Packet → Engine M → Engine M → Type 0
   Sends f sent old new =
-      (ps : List PlainCell) (qs : List Packet) → ShowCells f old.cells ps → old.totals ≡ numbers_of (traffic_in old) qs
-      → ShowCells f new.cells (all_hear (traffic_in old) sent ps)
-      × (new.totals ≡ numbers_of (traffic_in old) (and_sent sent qs))
+      (ps : List PlainCell) (qs : List Packet) → ShowCells f old.cells ps → HasCounted old qs
+      → ShowCells f new.cells (all_hear (traffic_in old) sent ps) × HasCounted new (and_sent sent qs)
 
   -- a packet may be handed out: members sent it before the latest end of all, and it is new to the cells of all members
   pub record MayDeliver (f : M → Record) (p : Packet) (e : Engine M) : Type 0 where

@@ -12,8 +12,7 @@ use crate::cells::{Cells, open_cells};
 use crate::halt::Halt;
 use crate::sink::{RowSink, hand_none};
 use crate::step_fault::{StepFault, step_fault};
-use srm_cell::count::count;
-use srm_ledger::totals::Totals;
+use srm_cell::tally::Tally;
 use srm_member::member::Member;
 use srm_member::row::Row;
 use srm_net::net::Net;
@@ -34,7 +33,7 @@ pub(crate) struct Engine<'a, M = Box<dyn Member>> {
     pub(crate) scenario: &'a Scenario,
     pub(crate) net: &'a Net,
     pub(crate) cells: Cells<M>,
-    pub(crate) totals: Totals,
+    pub(crate) tally: Tally,
 }
 
 impl<'a> Engine<'a> {
@@ -51,13 +50,13 @@ impl<'a> Engine<'a> {
         ensures opened { IfOk result (λ e. OpensFrom (λ b. plain b) scenario.now net.now
             (map (λ b. plain b) members.items) e) }
     {
-        let totals = Totals::new(alloc, net.links().len() as u16)?;
+        let tally = Tally::new(alloc, net.links().len() as u16)?;
         let cells = Cells::of(alloc, open_cells(alloc, scenario, members)?)?;
         Ok(Engine {
             scenario,
             net,
             cells,
-            totals,
+            tally,
         })
     }
 
@@ -160,7 +159,7 @@ impl<'a> Engine<'a> {
         let spread = self
             .net
             .spread(alloc, self.scenario.drops(), packet.id, packet.sent)?;
-        count(&mut self.totals, self.net, &spread, packet);
+        self.tally.count(self.net, &spread, packet);
         self.deliver(packet, &spread)?;
         Ok(())
     }
@@ -171,7 +170,7 @@ impl<'a> Engine<'a> {
         requires spread { IsSpread self.old.net.now self.old.scenario.now.drops packet.now.id packet.now.sent spread.now }
         requires may { MayDeliver (λ b. plain b) packet.now self.old }
         ensures same { IsStillOf self.old self.new }
-        ensures totals { self.new.totals ≡ self.old.totals }
+        ensures tally { self.new.tally ≡ self.old.tally }
         ensures heard { IfOk result (λ _. Delivers (λ b. plain b) packet.now self.old self.new) }
     {
         for member in 0..self.scenario.members() {

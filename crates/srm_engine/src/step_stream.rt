@@ -55,9 +55,14 @@ pub fn step_stream<S: RowSink>(
     if let Err(halt) = engine.stream(alloc, sink) {
         return Err(halt.into());
     }
-    let Engine { cells, totals, .. } = engine;
+    let Engine {
+        net,
+        cells,
+        tally,
+        ..
+    } = engine;
     match finish_cells(alloc, cells.cells) {
-        Ok(exits) => Ok((exits, totals)),
+        Ok(exits) => Ok((exits, tally.into_totals(net))),
         Err(error) => Err(error.into()),
     }
 }

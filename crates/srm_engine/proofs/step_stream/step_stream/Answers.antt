@@ -22,6 +22,12 @@ finish_cells-requires g c =
     let t = c.in_default.ensures.rows seed (c.in-Ok.ensures.opened seed c.requires.boxes.1) in
     all_end _ (setting_in c.in-Ok.engine seed) c.stream.new.self.cells.cells.items t.0 t.1.reached t.3.seen.cells
 
+pub into_totals-requires : goal.into_totals-requires
+into_totals-requires g c =
+    let seed = c.requires.boxes.0 in
+    let t = c.in_default.ensures.rows seed (c.in-Ok.ensures.opened seed c.requires.boxes.1) in
+    (c.stream.new.self.scenario.now, packets_of t.0.trace, t.3.counted)
+
 pub returns-in-Err-clause-stream : goal.returns-in-Err-clause-stream
 returns-in-Err-clause-stream g c = λ seed h.
     let s = setting_of c.args.scenario.now c.args.net.now seed in (
@@ -81,7 +87,7 @@ returns-in-Ok-finish_cells-clause-stream g c = λ seed h.
         last = subst (λ (x : Setting). IsLast x t.0) here t.1;
         trace_is = refl;
         exits_are = exits_are _ _ t.0 c.in-Ok-finish_cells.exits.items t.3.seen.cells c.in-Ok-finish_cells.ensures;
-        totals_are = t.3.totals ∙ kept ∙ its ∙ totals_are s t.0;
+        totals_are = c.into_totals.ensures ∙ t.3.counted.numbers ∙ kept ∙ its ∙ totals_are s t.0;
       },
       t.2,
     )

@@ -7,7 +7,7 @@ use Rattle.srm_engine.proofs.engine.Engine.deliver.Given as goal
 
 abbrev pub invariant-loop-member : goal.invariant-loop-member
 invariant-loop-member g l =
-    IsStillOf l.fn.self l.self × (l.self.totals ≡ l.fn.self.totals)
+    IsStillOf l.fn.self l.self × (l.self.tally ≡ l.fn.self.tally)
     × ((ps : List PlainCell) → ShowCells (λ b. (goal.Member-dyn g (b.vtable, b.value)).plain b.value) l.fn.self.cells ps
     → ShowCells (λ b. (goal.Member-dyn g (b.vtable, b.value)).plain b.value) l.self.cells
     (heard_below (traffic_in l.fn.self) l.packet l.member 0 ps))

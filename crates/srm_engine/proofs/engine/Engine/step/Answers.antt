@@ -2,17 +2,16 @@ use Rattle.std.proofs.Common.{◌≡◌, ◌<◌, ◌≤◌, ◌++◌, ◌∷◌
 use Rattle.std.proofs.lemmas.Result.{err_from_is_err_and}
 use Rattle.srm_net.specs.Network.{Network}
 use Rattle.srm_member.specs.declared.row.Row.{Row}
-use Rattle.srm_cell.specs.Setting.{setting_of, traffic_of, IsFit}
+use Rattle.srm_cell.specs.Setting.{setting_of, IsFit}
 use Rattle.srm_cell.specs.Crossings.{packets_of}
 use Rattle.srm_cell.specs.Cells.{PlainCell, Done, step_at, own_step}
 use Rattle.srm_cell.specs.Views.{HasWork}
 use Rattle.srm_cell.proofs.FitSettings.{settings_are_fit}
 use Rattle.srm_cell.proofs.CellSteps.{SentBy}
 use Rattle.srm_model.specs.World.{after_step, cells_after, step}
-use Rattle.srm_engine.specs.Engines.{setting_in}
+use Rattle.srm_engine.specs.Engines.{setting_in, HasCounted}
 use Rattle.srm_model.specs.Hearing.{all_hear}
 use Rattle.srm_engine.specs.Seen.{AreSeen}
-use Rattle.srm_cell.specs.Totalled.{numbers_of}
 use Rattle.srm_model.specs.Totalled.{MaySend, and_sent}
 use Rattle.srm_engine.proofs.PhaseLemmas.{refused}
 use Rattle.srm_model.proofs.RunLemmas.{after_spent}
@@ -70,7 +69,7 @@ returns-in-Ok-None-clause-step g c = λ seed w h.
       step_by s w c.args.self.now.cells.times h.seen.times c.in-Some.time c.in-Some.member c.in-Some.ensures early p.0 p.1
           ∙ ap (λ u. after_step s w c.in-Some.member (own_step u c.in-Some.member p.0)) (sym c.until-until.ensures.until)
           ∙ ap (after_step s w c.in-Some.member) t.0 ∙ after_idle s w c.in-Some.member,
-      record { seen = t.1; totals = h.totals },
+      record { seen = t.1; counted = h.counted },
     )
 
 pub step_fault-requires : goal.step_fault-requires
@@ -122,7 +121,7 @@ send-requires-clause-may g c =
       slice_set k.1.cells c.in-Some.member t.0.cell,
       packets_of k.1.trace,
       t.3,
-      k.3.totals,
+      k.3.counted,
       subst (λ (r : Row). MaySend s.traffic.members (slice_set k.1.cells c.in-Some.member t.0.cell) (packets_of k.1.trace) r.sent) t.2
           (subst (λ m. MaySend s.traffic.members (slice_set k.1.cells m t.0.cell) (packets_of k.1.trace) t.0.row.sent) of may),
     )
@@ -141,8 +140,7 @@ returns-clause-step g c = λ seed w h.
     sym (own_is s w c.args.self.now.cells.times h.seen.times c.in-Some.time c.in-Some.member c.in-Some.ensures early p.0 p.1)
     ∙ ap (λ u. own_step u c.in-Some.member p.0) (sym c.until-until.ensures.until) ∙ t.1 in
     let by = subst (λ m. SentBy m t.0.row.sent) of (sent_by_member e t.0 done) in
-    let same = c.send.ensures.same in
-    let sent = c.in_ok-send.ensures.sent (slice_set w.cells c.in-Some.member t.0.cell) (packets_of w.trace) t.3 h.totals in
+    let sent = c.in_ok-send.ensures.sent (slice_set w.cells c.in-Some.member t.0.cell) (packets_of w.trace) t.3 h.counted in
     let cells = settled_is s c.in-Some.member t.0 w.cells (get_below w.cells c.in-Some.member p.0 p.1) by
     ∙ ap (λ (r : Row). all_hear s.traffic r.sent (slice_set w.cells c.in-Some.member t.0.cell)) t.2 in (
       record { cells = cells_after s c.in-Some.member t.0 0 w.cells; trace = w.trace ++ t.0.row ∷ [] },
@@ -153,9 +151,8 @@ returns-clause-step g c = λ seed w h.
       record {
         seen = subst (λ (qs : List PlainCell). AreSeen (λ b. (goal.Member-dyn g (b.vtable, b.value)).plain b.value)
             c.send.new.self.cells.cells.items c.send.new.self.cells.times qs) (sym cells) sent.0;
-        totals = sent.1 ∙ ap (numbers_of s.traffic) (ap (λ (r : Row). and_sent r.sent (packets_of w.trace)) (sym t.2)
-            ∙ sym (packets_more w.trace t.0.row))
-            ∙ sym (λ k. numbers_of (traffic_of (same.0 k).now (same.1 k).now) (packets_of (w.trace ++ t.0.row ∷ [])));
+        counted = subst (HasCounted c.send.new.self) (ap (λ (r : Row). and_sent r.sent (packets_of w.trace)) (sym t.2)
+            ∙ sym (packets_more w.trace t.0.row)) sent.1;
       },
     )
 
