@@ -83,6 +83,7 @@ impl<M: Participant> Cell<M> {
     ///
     /// # Errors
     /// `NoMemory`: the cell is then as it was.
+    #[inline(always)]
     pub fn accept(&mut self, packet: &Packet, arrival: u64) -> Result<(), CellFault>
         requires { BringsNone packet.now.id self.old.inbox }
         ensures ok { OnOk result (Becomes M.plain (λ p. hear_at packet.now (Some arrival) p) self.old self.new) }
@@ -290,6 +291,7 @@ impl<M: Participant> Cell<M> {
     }
 
     // The least event of the cell, looked for among all that it has.
+    #[inline(always)]
     fn least(&self) -> Option<Pending>
         ensures { StandsFor M.plain (λ m p. next_event m p) self.now result }
     {

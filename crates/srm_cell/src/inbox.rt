@@ -81,6 +81,7 @@ impl Inbox {
     }
 
     /// Takes the first packet out.
+    #[inline(always)]
     pub fn pop_first(&mut self) -> Option<Flight>
         ensures { MatchOption result ((self.old ≡ []) × (self.new ≡ [])) (λ f. self.old ≡ f ∷ self.new) }
     {
