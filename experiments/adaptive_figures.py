@@ -6,6 +6,7 @@ from matplotlib.axes import Axes
 from srm_lab.statistics import interval
 
 MEASURES = ("requests", "repairs", "ratio")
+DRAWS = 2  # of the source in a round, the first of which is lost
 BLOCK = 20  # rounds of which one mean is taken
 SETTLED = 40  # rounds after which timers count as adapted
 
@@ -13,7 +14,7 @@ SETTLED = 40  # rounds after which timers count as adapted
 def with_rounds(table: pandas.DataFrame) -> pandas.DataFrame:
     """A table with the round of each loss, from 1: the source draws twice in a round, and the first is lost."""
     numbers = table["operation"].str.rpartition("/")[2].astype(int)
-    return table.assign(round=numbers // 2 + 1)
+    return table.assign(round=numbers // DRAWS + 1)
 
 
 def medians(axes: Axes, table: pandas.DataFrame, column: str, look: tuple[str, str, str]) -> None:

@@ -363,14 +363,47 @@ def adapted_over_size(tables: list[pandas.DataFrame], words: dict[str, str]) -> 
     return figure
 
 
+def over_spacing(tables: list[pandas.DataFrame], words: dict[str, str]) -> Figure:
+    """Requests, repairs and delay against how far apart losses lie, of fixed and adaptive timers; a column for each table.
+
+    The spacings stand equally far from each other, whatever they are.
+    """
+    figure, grid = plot.subplots(3, len(tables), figsize=(1.2 + 5.2 * len(tables), 9.6), squeeze=False, sharey="row")
+    for row, measure in zip(grid, rounds.MEASURES):
+        greatest = max(both_timers(axes, table, measure) for axes, table in zip(row, tables))
+        row[0].set_ylim(0, 1.1 * greatest)
+        row[0].set_ylabel(label_of(measure))
+        for axes in row:
+            axes.tick_params(labelleft=True)
+    for axes, table in zip(grid[0], tables):
+        axes.set_title(f"{table['kind'].iloc[0]} of {int(table['size'].iloc[0]):,} nodes")
+    for axes in grid[2]:
+        axes.set_xlabel("ticks from a loss to the next")
+    finish(figure, list(grid.flat), tables, -0.25)
+    for axes in grid[:2].flat:
+        axes.get_legend().remove()
+    return figure
+
+
+def both_timers(axes: Axes, table: pandas.DataFrame, measure: str) -> float:
+    """One panel of `over_spacing`; the greatest value in it."""
+    spacings = sorted(table["every"].unique())
+    placed = table.assign(place=table["every"].map(spacings.index))
+    axes.set_xticks(range(len(spacings)), [f"{rounds.DRAWS * every:,}" for every in spacings])
+    looks = ((False, (BLUE, "o", "fixed timers"), -0.12), (True, (ORANGE, "s", "adaptive timers"), 0.12))
+    return max(means(axes, placed[placed["adaptive"] == adaptive], "place", measure, look, shift=shift).to_numpy().max()
+               for adaptive, look, shift in looks)
+
+
 DRAWS = {draw.__name__: draw for draw in (
     over_session_size, lines, requests_in_a_star, chain_of_sure_timers, requests_against_delay, over_rounds,
-    adapted_over_size)}
+    adapted_over_size, over_spacing)}
 NEEDS = {
     "over_session_size": Needs(2), "lines": Needs(4), "requests_in_a_star": Needs(2, ("size", "c1", "c2")),
     "chain_of_sure_timers": Needs(1, ("drop_link", "delay", "c1", "d1")),
     "requests_against_delay": Needs(2, ("size", "drop_link", "c1", "c2")),
     "over_rounds": Needs(2, ("adaptive", "rounds")), "adapted_over_size": Needs(1, ("adaptive", "rounds", "members")),
+    "over_spacing": Needs(2, ("size", "adaptive", "rounds", "every")),
 }
 
 

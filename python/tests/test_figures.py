@@ -11,15 +11,15 @@ import figures
 import rounds_table
 
 HEADER = ("kind,adaptive,size,members,drop_link,delay,c1,d1,c2,seed,operation,losers,left,open,requests,repairs,"
-          "least_delay,greatest_delay,last_delay,last_round_trip\n")
+          "least_delay,greatest_delay,last_delay,last_round_trip,every\n")
 ROWS = "".join(
     f"chain,{hops == 1},{size},{size},hops:{hops},1000,2,1,{c2},{seed},0/0/90,3,0,0,{seed},1,{1000 * (hops + 3)},"
-    f"{1000 * (hops + 3)},6000,4000\n"
+    f"{1000 * (hops + 3)},6000,4000,{500 * c2}\n"
     for size in (10, 20) for hops in (1, 2) for c2 in (1, 2) for seed in (1, 2, 3))
 WORDS: dict[str, dict[str, str]] = {
     "over_session_size": {"over": "size"}, "requests_in_a_star": {}, "chain_of_sure_timers": {},
     "requests_against_delay": {}, "lines": {"x": "c2", "y": "ratio", "by": "drop_link"},
-    "over_rounds": {}, "adapted_over_size": {"over": "members"},
+    "over_rounds": {}, "adapted_over_size": {"over": "members"}, "over_spacing": {},
 }
 LABELS = {
     "over_session_size": ["requests for a loss", "repairs for a loss", "(round trips to the source)", "nodes",
@@ -37,10 +37,12 @@ LABELS = {
                     "srm_lab, adaptive timers: mean, 95% interval over seeds"],
     "adapted_over_size": ["requests for a loss", "session size (members); rounds 41 to 46",
                           "adaptive timers: mean, 95% interval over seeds", "(a)", "(c)"],
+    "over_spacing": ["requests for a loss", "repairs for a loss", "ticks from a loss to the next", "1,000", "2,000",
+                     "adaptive timers: mean, 95% interval over seeds", "(a) chain of 10 nodes", "(f)"],
     "lines": ["C2", "(round trips to the source)", "link that loses hops:2: mean, 95% interval over seeds"],
 }
 TABLES = {"over_session_size": 1, "requests_in_a_star": 2, "chain_of_sure_timers": 1, "requests_against_delay": 2,
-          "lines": 1, "over_rounds": 1, "adapted_over_size": 1}
+          "lines": 1, "over_rounds": 1, "adapted_over_size": 1, "over_spacing": 2}
 
 
 def test_mean_over_seeds_its_interval_and_quartiles_of_all_losses():
@@ -186,8 +188,10 @@ def test_large_and_larger_networks_stand_side_by_side_on_the_same_axes(tmp_path)
 def test_two_kinds_of_timers_do_not_stand_over_each_other(tmp_path):
     path = tmp_path / "one.csv"
     path.write_text(HEADER + ROWS)
-    figure = figures.adapted_over_size([figures.read(path)], {})
-    for axes in figure.axes:
-        fixed, adaptive = ([round(x, 3) for x in lines.lines[0].get_xdata()] for lines in axes.containers
-                           if isinstance(lines, ErrorbarContainer))
-        assert fixed == [8.8, 18.8] and adaptive == [11.2, 21.2]
+    for draw, places in (("adapted_over_size", ([8.8, 18.8], [11.2, 21.2])),
+                         ("over_spacing", ([-0.12, 0.88], [0.12, 1.12]))):
+        figure = figures.DRAWS[draw]([figures.read(path) for _ in range(TABLES[draw])], {})
+        for axes in figure.axes:
+            fixed, adaptive = ([round(x, 3) for x in lines.lines[0].get_xdata()] for lines in axes.containers
+                               if isinstance(lines, ErrorbarContainer))
+            assert (fixed, adaptive) == places
