@@ -3,15 +3,14 @@
 ghost use Rattle.std.specs.Prelude.{◌≡◌};
 ghost use Rattle.srm_scenario.specs.Plain.{network_of};
 
+use crate::boxed::BoxCrew;
 use srm_crew::bag_crew::BagCrew;
-use srm_crew::crew::Crew;
 use srm_crew::gate::OpenGate;
 use srm_crew::plain::PlainCrew;
 use srm_crew::pool::PoolCrew;
 use srm_engine::fault::RunFault;
 use srm_engine::step_run::step_run;
 use srm_engine::width::{Width, Windows};
-use srm_engine::window_run::window_run;
 use srm_examples::watched::Watch;
 use srm_member::member::Member;
 use srm_net::net::Net;
@@ -51,7 +50,7 @@ drop = [{ link = 0, sender = 0, count = 0 }]
 "#;
 
 // Runs the members of a scenario, each watched: in windows, or else in the sequential run.
-fn run_watched<C: Crew<Box<dyn Member>>>(
+fn run_watched<C: BoxCrew>(
     rt: &impl Abort,
     alloc: Global,
     scenario: &Scenario,
@@ -95,7 +94,7 @@ fn run_watched<C: Crew<Box<dyn Member>>>(
         members.push(member)?;
     }
     let fault = match asked {
-        Some(windows) => window_run(alloc, scenario, net, members, crew, windows).err(),
+        Some(windows) => crew.run_boxes(alloc, scenario, net, members, windows),
         None => step_run(alloc, scenario, net, members).err(),
     };
     match fault {
@@ -108,7 +107,7 @@ fn run_watched<C: Crew<Box<dyn Member>>>(
 }
 
 /// One run of a scenario. Whatever comes of it, each box that was made was dropped once when it has ended.
-pub(crate) fn run_once<C: Crew<Box<dyn Member>>>(
+pub(crate) fn run_once<C: BoxCrew>(
     rt: &impl Abort,
     alloc: Global,
     text: &str,
@@ -134,7 +133,7 @@ pub(crate) fn run_once<C: Crew<Box<dyn Member>>>(
 }
 
 // One run with a member of each role, and once more where memory was refused.
-fn run_to_the_end<C: Crew<Box<dyn Member>>>(
+fn run_to_the_end<C: BoxCrew>(
     rt: &impl Abort,
     alloc: Global,
     crew: &mut C,

@@ -6,6 +6,7 @@ ghost use Rattle.srm_cell.specs.Jobs.{PlainJob, MayAdvance};
 ghost use Rattle.srm_crew.specs.Crews.{AreJobs, Maps};
 ghost use denote.Param.Send.{IsSync};
 
+use crate::boxed::BoxCrew;
 use crate::drops_tests::run_once;
 use srm_cell::job::{Done, Job};
 use srm_crew::bag_crew::BagCrew;
@@ -13,7 +14,9 @@ use srm_crew::crew::Crew;
 use srm_crew::fault::CrewFault;
 use srm_crew::gate::Gate;
 use srm_crew::pass::Pass;
+use srm_engine::fault::RunFault;
 use srm_engine::width::{Width, Windows};
+use srm_engine::window_run::window_run;
 use srm_examples::scenarios::CHAIN_OF_FIVE_ONE_LOSS;
 use srm_ledger::ledger::{Ledger, Seat};
 use srm_member::member::Member;
@@ -126,6 +129,21 @@ impl<R: Threads + Wait + Sync> Crew<Box<dyn Member>> for Gated<R> {
     }
 }
 
+impl<R: Threads + Wait + Sync> BoxCrew for Gated<R> {
+    ghost ready = { λ _. IsSync R.row };
+
+    fn run_boxes(
+        &mut self,
+        alloc: Global,
+        scenario: &Scenario,
+        net: &Net,
+        members: Vec<Box<dyn Member>>,
+        asked: Windows,
+    ) -> Option<RunFault> {
+        window_run(alloc, scenario, net, members, self, asked).err()
+    }
+}
+
 // Windows of one tick, the least delay of a link, with a job for each member.
 const ALONE: Option<Windows> = Some(Windows {
     cut: 1,
@@ -205,6 +223,21 @@ impl Crew<Box<dyn Member>> for OutOfMemory {
     {
         self.calls = self.calls.saturating_add(1);
         Err(CrewFault::NoMemory)
+    }
+}
+
+impl BoxCrew for OutOfMemory {
+    ghost ready = { λ _. Unit {0} };
+
+    fn run_boxes(
+        &mut self,
+        alloc: Global,
+        scenario: &Scenario,
+        net: &Net,
+        members: Vec<Box<dyn Member>>,
+        asked: Windows,
+    ) -> Option<RunFault> {
+        window_run(alloc, scenario, net, members, self, asked).err()
     }
 }
 

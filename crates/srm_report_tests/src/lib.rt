@@ -2,6 +2,8 @@
 #![tactic(auto)]
 
 #[cfg(test)]
+mod boxed;
+#[cfg(test)]
 mod drops_tests;
 pub mod failing;
 #[cfg(test)]
