@@ -21,7 +21,8 @@ def test_constants_at_the_end_of_a_round():
 
 
 def test_constants_of_ns2_are_a_row_for_each_change(monkeypatch):
-    told = {1: [(0, (2000, 2000, 500, 1000)), (40.5, (1900, 2500, 500, 1000))], 2: [(0, (2000, 2000, 500, 1000))]}
+    told: dict[int, list[tuple[float, tuple[int, ...]]]] = {
+        1: [(0, (2000, 2000, 500, 1000)), (40.5, (1900, 2500, 500, 1000))], 2: [(0, (2000, 2000, 500, 1000))]}
     monkeypatch.setattr(constants, "ns2", lambda text, seed: Result([], {}, told))
     table = constants.of_ns2(scenario.chain(3).adaptive().rounds(1, 1), 1)
     assert list(table.columns) == ["time", "member", "c1", "c2", "d1", "d2"]
