@@ -1,13 +1,15 @@
 """How C1 and C2 of members near to a loss and far from it move over rounds of loss: a figure.
 
-usage: constants.py PROGRAM SVG PNG
+usage: constants.py PROGRAM SVG PNG [COUNT]
 
 50 members are on random nodes of a tree of degree 4 with 1,000 nodes, and a link at a random source loses, round after
 round. Of its losers the nearest to the source and the farthest from it are taken, for 20 seeds, each of a session of its
-own. PROGRAM tells of each event that changes a constant; drawn is what constants are at the end of a round.
+own. PROGRAM tells of each event that changes a constant; drawn is what constants are at the end of a round. With COUNT
+ns-2's adaptive agents go through the first so many of these sessions as well, some ten seconds of a processor for each.
 """
 import sys
-from collections.abc import Iterable
+from collections.abc import Callable, Iterable
+from functools import partial
 
 import matplotlib
 import pandas
@@ -18,11 +20,15 @@ matplotlib.rcParams["svg.fonttype"] = "none"
 matplotlib.rcParams["font.size"] = 10
 
 import matplotlib.pyplot as plot  # noqa: E402
+from matplotlib.axes import Axes  # noqa: E402
+from ns2_agent import ns2  # noqa: E402
 from srm_lab import Scenario, run, scenario  # noqa: E402
 from srm_lab.losses import losers  # noqa: E402
+from srm_lab.parts import CONSTANTS  # noqa: E402
 
 ROUNDS, SEEDS = 100, range(1, 21)
-LOOKS = {"nearest": ("#0072b2", "nearest loser"), "farthest": ("#d55e00", "farthest loser")}
+LOOKS = {("srm_lab", "nearest"): ("#0072b2", "-"), ("srm_lab", "farthest"): ("#d55e00", "-"),
+         ("ns-2", "nearest"): ("#666666", "--"), ("ns-2", "farthest"): ("#cc79a7", "--")}
 
 
 def session(seed: int) -> Scenario:
@@ -50,30 +56,53 @@ def after_rounds(table: pandas.DataFrame, starts: list[int], member: int) -> pan
     return pandas.DataFrame(rows)
 
 
-def moves(program: str, seeds: Iterable[int]) -> pandas.DataFrame:
+def of_program(program: str, given: Scenario, seed: int) -> pandas.DataFrame:
+    """The constants that members' timers go by in PROGRAM: a row for each event that changes one."""
+    return run(given, [seed], ["constants"], program, cache=None, progress=False).constants
+
+
+def of_ns2(given: Scenario, seed: int) -> pandas.DataFrame:
+    """The same of ns-2's adaptive agents, with random numbers of their own."""
+    told = ns2(given.text(), seed=seed).constants
+    rows = [(time, member, *values) for member, changes in told.items() for time, values in changes]
+    return pandas.DataFrame(rows, columns=["time", "member", *CONSTANTS])
+
+
+def moves(table_of: Callable[[Scenario, int], pandas.DataFrame], seeds: Iterable[int]) -> pandas.DataFrame:
     """For each seed, end and round: C1 and C2."""
     found = []
     for seed in seeds:
         given = session(seed)
-        table = run(given, [seed], ["constants"], program, cache=None, progress=False).constants
+        table = table_of(given, seed)
         starts = [draw.at for draw in given.draws][::2]
         for end, member in ends(given).items():
             found.append(after_rounds(table, starts, member).assign(seed=seed, end=end))
     return pandas.concat(found, ignore_index=True)
 
 
-def main(program: str, svg: str, png: str) -> None:
+def panel(axes: Axes, tables: dict[str, pandas.DataFrame], constant: str) -> None:
+    """One constant of both losers, in each program."""
+    for (program, end), (colour, style) in LOOKS.items():
+        if program not in tables:
+            continue
+        table = tables[program]
+        seeds = table[table["end"] == end].groupby("round")[constant]
+        middle, lower, upper = (seeds.quantile(part) for part in (0.5, 0.25, 0.75))
+        label = f"{program}, {end} loser"
+        axes.fill_between(middle.index, lower, upper, color=colour, alpha=0.2, linewidth=0, step="mid",
+                          label=f"{label}: quartiles of the {table['seed'].nunique()} seeds")
+        axes.plot(middle.index, middle, color=colour, linewidth=1.2, linestyle=style, drawstyle="steps-mid",
+                  label=f"{label}: median of the seeds")
+
+
+def main(program: str, svg: str, png: str, count: str = "0") -> None:
     """Draws the figure."""
-    table = moves(program, SEEDS)
+    tables = {"srm_lab": moves(partial(of_program, program), SEEDS)}
+    if int(count):
+        tables["ns-2"] = moves(of_ns2, SEEDS[:int(count)])
     figure, parts = plot.subplots(1, 2, figsize=(10, 4.8))
     for letter, axes, constant in zip("ab", parts, ("C1", "C2")):
-        for end, (colour, label) in LOOKS.items():
-            seeds = table[table["end"] == end].groupby("round")[constant]
-            middle, lower, upper = (seeds.quantile(part) for part in (0.5, 0.25, 0.75))
-            axes.fill_between(middle.index, lower, upper, color=colour, alpha=0.2, linewidth=0, step="mid",
-                              label=f"{label}: quartiles of the seeds")
-            axes.plot(middle.index, middle, color=colour, linewidth=1.2, drawstyle="steps-mid",
-                      label=f"{label}: median of the seeds")
+        panel(axes, tables, constant)
         axes.set_xlabel("round")
         axes.set_ylabel(constant)
         axes.set_ylim(bottom=0)

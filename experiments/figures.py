@@ -92,20 +92,21 @@ def points_of(table: pandas.DataFrame, over: str, column: str) -> pandas.DataFra
 
 
 def means(axes: Axes, table: pandas.DataFrame, over: str, column: str, look: tuple[str, str, str],
-          band: bool = True, joined: bool = True, shift: float = 0) -> pandas.DataFrame:
+          band: bool = True, joined: bool = True, beside: tuple[float, float] | None = None) -> pandas.DataFrame:
     """Means with intervals over seeds, and quartiles of all losses; `look` is colour, mark, label.
 
     Means that are not `joined` leave a line of theory beside them to be seen. Those of several tables do not stand over
-    each other where each has its own `shift` along the axis; their quartiles are bars, then.
+    each other where they stand `beside` their place: so far along the axis, their quartiles as bars of such a width.
     """
     colour, mark, label = look
+    shift, width = beside or (0, 0)
     points = points_of(table, over, column)
     points.index += shift
     spread = [(points["mean"] - points["low"]).fillna(0), (points["high"] - points["mean"]).fillna(0)]
     axes.errorbar(points.index, points["mean"], yerr=spread, color=colour, marker=mark, markersize=4, capsize=3,
                   linewidth=1.2, linestyle="-" if joined else "none", label=f"{label}: mean, 95% interval over seeds")
-    if band and shift:
-        axes.bar(points.index, points["upper"] - points["lower"], bottom=points["lower"], width=1.6 * abs(shift),
+    if band and width:
+        axes.bar(points.index, points["upper"] - points["lower"], bottom=points["lower"], width=width,
                  color=to_rgba(colour, 0.15), edgecolor=to_rgba(colour, 0.6), linewidth=0.8,
                  label=f"{label}: quartiles of all losses")
     elif band:
@@ -308,33 +309,46 @@ def crossings(label: Annotation, offset: tuple[float, float], taken: list[Path],
             + sum(box.overlaps(other) for other in boxes))
 
 
+LOOKS = {("srm_lab", False): (BLUE, "o"), ("srm_lab", True): (ORANGE, "s"),
+         ("ns-2", False): (GREY, "v"), ("ns-2", True): (PURPLE, "^")}
+
+
+def runs_of(tables: list[pandas.DataFrame]) -> dict[tuple[str, bool], pandas.DataFrame]:
+    """The losses of each program and kind of timers, with their rounds; the second table is ns-2's."""
+    programs = dict(zip(("srm_lab", "ns-2"), map(rounds.with_rounds, tables)))
+    found = {(program, adaptive): programs[program][programs[program]["adaptive"] == adaptive]
+             for program, adaptive in LOOKS if program in programs}
+    return {key: table for key, table in found.items() if len(table)}
+
+
+def name_of(program: str, adaptive: bool) -> str:
+    """A program and its timers, in words."""
+    return f"{program}, {'adaptive' if adaptive else 'fixed'} timers"
+
+
 def over_rounds(tables: list[pandas.DataFrame], words: dict[str, str]) -> Figure:
     """Requests, repairs and delay over rounds of loss, of fixed and adaptive timers; the second table is ns-2's.
 
     A column for each program, with the medians and the quartiles of each round, and one with the means of both.
     """
-    programs = dict(zip(("srm_lab", "ns-2"), map(rounds.with_rounds, tables)))
+    shown = runs_of(tables)
+    programs = list(dict.fromkeys(program for program, _ in shown))
     figure, grid = plot.subplots(3, len(programs) + 1, figsize=(5 * len(programs) + 5, 10.5), sharex=True, sharey="row")
-    looks = {("srm_lab", False): (BLUE, "o"), ("srm_lab", True): (ORANGE, "s"),
-             ("ns-2", False): (GREY, "v"), ("ns-2", True): (PURPLE, "^")}
-    shown = [key for key in looks if key[0] in programs and (programs[key[0]]["adaptive"] == key[1]).any()]
     for row, column in zip(grid, rounds.MEASURES):
-        for place, (program, adaptive) in enumerate(shown):
-            table, kind = programs[program], "adaptive timers" if adaptive else "fixed timers"
-            (colour, mark), told = looks[program, adaptive], f"{program}, {kind}"
-            one = table[table["adaptive"] == adaptive]
-            rounds.medians(row[list(programs).index(program)], one, column, (colour, "--" if adaptive else "-", told))
+        for place, ((program, adaptive), one) in enumerate(shown.items()):
+            (colour, mark), told = LOOKS[program, adaptive], name_of(program, adaptive)
+            rounds.medians(row[programs.index(program)], one, column, (colour, "--" if adaptive else "-", told))
             rounds.blocks(row[-1], one, column, (colour, mark, told), 3 * (place - (len(shown) - 1) / 2))
         row[0].set_ylabel(label_of(column))
         row[0].set_ylim(bottom=0)
         for axes in row:
             axes.tick_params(labelbottom=True, labelleft=True)
-    for axes, program in zip(grid[0], programs):
-        axes.set_title(f"{program}, {programs[program]['seed'].nunique()} seeds: each round")
+    for axes, program, table in zip(grid[0], programs, tables):
+        axes.set_title(f"{program}, {table['seed'].nunique()} seeds: each round")
     grid[0][-1].set_title(f"means of {rounds.BLOCK} rounds")
     for axes in grid[2]:
         axes.set_xlabel("round")
-        name_ticks(axes.xaxis, range(0, int(programs["srm_lab"]["round"].max()) + 1, rounds.BLOCK))
+        name_ticks(axes.xaxis, range(0, max(int(one["round"].max()) for one in shown.values()) + 1, rounds.BLOCK))
     finish(figure, list(grid.flat), tables, -0.2)
     for axes in grid[:2].flat:
         axes.get_legend().remove()  # that of the panels below is theirs too
@@ -342,20 +356,23 @@ def over_rounds(tables: list[pandas.DataFrame], words: dict[str, str]) -> Figure
 
 
 def adapted_over_size(tables: list[pandas.DataFrame], words: dict[str, str]) -> Figure:
-    """Requests, repairs and delay against what `over` names, of fixed and adaptive timers after some rounds."""
-    table = rounds.with_rounds(tables[0])
-    settled = table[table["round"] > rounds.SETTLED]
+    """Requests, repairs and delay against what `over` names, of fixed and adaptive timers after some rounds.
+
+    The second table is ns-2's.
+    """
+    shown = {key: table[table["round"] > rounds.SETTLED] for key, table in runs_of(tables).items()}
     figure, parts = plot.subplots(3, 1, figsize=(6.4, 10.2), sharex=True)
     over = words.get("over", "members")
     for axes, column in zip(parts, rounds.MEASURES):
-        for adaptive, colour, mark, shift in ((False, BLUE, "o", -1.2), (True, ORANGE, "s", 1.2)):
-            one, label = settled[settled["adaptive"] == adaptive], "adaptive timers" if adaptive else "fixed timers"
-            means(axes, one, over, column, (colour, mark, label), shift=shift)
+        for place, ((program, adaptive), one) in enumerate(shown.items()):
+            (colour, mark), told = LOOKS[program, adaptive], f"{name_of(program, adaptive)}, {one['seed'].nunique()} seeds"
+            shift = 2.4 * (place - (len(shown) - 1) / 2)
+            means(axes, one, over, column, (colour, mark, told), beside=(shift, 1.92))
         axes.set_ylabel(label_of(column))
         axes.set_ylim(bottom=0)
         axes.tick_params(labelbottom=True)
-    name_ticks(parts[2].xaxis, sorted(table[over].unique()))
-    last = int(table["round"].max())
+    name_ticks(parts[2].xaxis, sorted(tables[0][over].unique()))
+    last = max(int(one["round"].max()) for one in shown.values())
     parts[2].set_xlabel(f"{label_of(over)}; rounds {rounds.SETTLED + 1} to {last}")
     finish(figure, parts, tables, -0.25)
     for axes in parts[:2]:
@@ -391,7 +408,7 @@ def both_timers(axes: Axes, table: pandas.DataFrame, measure: str) -> float:
     placed = table.assign(place=table["every"].map(spacings.index))
     axes.set_xticks(range(len(spacings)), [f"{rounds.DRAWS * every:,}" for every in spacings])
     looks = ((False, (BLUE, "o", "fixed timers"), -0.12), (True, (ORANGE, "s", "adaptive timers"), 0.12))
-    return max(means(axes, placed[placed["adaptive"] == adaptive], "place", measure, look, shift=shift).to_numpy().max()
+    return max(means(axes, placed[placed["adaptive"] == adaptive], "place", measure, look, beside=(shift, 0.192)).to_numpy().max()
                for adaptive, look, shift in looks)
 
 
@@ -402,7 +419,7 @@ NEEDS = {
     "over_session_size": Needs(2), "lines": Needs(4), "requests_in_a_star": Needs(2, ("size", "c1", "c2")),
     "chain_of_sure_timers": Needs(1, ("drop_link", "delay", "c1", "d1")),
     "requests_against_delay": Needs(2, ("size", "drop_link", "c1", "c2")),
-    "over_rounds": Needs(2, ("adaptive", "rounds")), "adapted_over_size": Needs(1, ("adaptive", "rounds", "members")),
+    "over_rounds": Needs(2, ("adaptive", "rounds")), "adapted_over_size": Needs(2, ("adaptive", "rounds", "members")),
     "over_spacing": Needs(2, ("size", "adaptive", "rounds", "every")),
 }
 

@@ -134,7 +134,7 @@ def ns2(text: str, rules: Iterable[str] = (), seed: int = 1,
         elif parts[0] == "cost":
             result.of_run = float(parts[1])
     result.sent.sort()
-    if words is not None:
+    if given.is_adaptive:
         first = tuple(getattr(given, name) for name in CONSTANTS)
         result.constants = changes([*((0, member, first) for member in range(len(given.members))), *told])
     return result

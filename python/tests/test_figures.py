@@ -36,7 +36,7 @@ LABELS = {
                     "srm_lab, adaptive timers: quartiles of the seeds",
                     "srm_lab, adaptive timers: mean, 95% interval over seeds"],
     "adapted_over_size": ["requests for a loss", "session size (members); rounds 41 to 46",
-                          "adaptive timers: mean, 95% interval over seeds", "(a)", "(c)"],
+                          "srm_lab, adaptive timers, 3 seeds: mean, 95% interval over seeds", "(a)", "(c)"],
     "over_spacing": ["requests for a loss", "repairs for a loss", "ticks from a loss to the next", "1,000", "2,000",
                      "adaptive timers: mean, 95% interval over seeds", "(a) chain of 10 nodes", "(f)"],
     "lines": ["C2", "(round trips to the source)", "link that loses hops:2: mean, 95% interval over seeds"],
@@ -169,6 +169,19 @@ def test_ns2_stands_beside_srm_lab_where_there_is_a_second_table(tmp_path):
     told = [[text.get_text().split(":")[0] for text in axes.get_legend().get_texts()] for axes in figure.axes[6:]]
     ours, theirs = ([f"{program}, {kind} timers" for kind in ("fixed", "adaptive")] for program in ("srm_lab", "ns-2"))
     assert [sorted({*labels}) for labels in told] == [sorted(ours), sorted(theirs), sorted(ours + theirs)]
+
+
+def test_ns2_stands_beside_srm_lab_at_each_size(tmp_path):
+    ours, theirs = tmp_path / "ours.csv", tmp_path / "theirs.csv"
+    ours.write_text(HEADER + ROWS)
+    # of ns-2 there are adaptive timers alone, sessions of 10, and two seeds
+    theirs.write_text(HEADER + "".join(
+        row for row in ROWS.splitlines(keepends=True) if row.startswith("chain,True,10,") and ",3,0/0/" not in row))
+    figure = figures.adapted_over_size([figures.read(str(path)) for path in (ours, theirs)], {})
+    found = {lines.get_label().split(":")[0]: lines.lines[0].get_xdata().tolist() for lines in figure.axes[0].containers
+             if isinstance(lines, ErrorbarContainer)}
+    assert found == {"srm_lab, fixed timers, 3 seeds": [7.6, 17.6], "srm_lab, adaptive timers, 3 seeds": [10, 20],
+                     "ns-2, adaptive timers, 2 seeds": [12.4]}
 
 
 def test_large_and_larger_networks_stand_side_by_side_on_the_same_axes(tmp_path):
