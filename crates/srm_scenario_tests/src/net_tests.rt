@@ -156,23 +156,49 @@ fn one_drop(rt: HostRuntime) -> Result<(), Fail> {
     };
     let entry = DropSpec { link: 1, id: first };
     let drops = Drops::of(rt.alloc(), &[entry, entry], &[])?;
-    assert!(rt; drops.lists(1, first) && !drops.lists(0, first) && !drops.lists(1, second));
-    assert!(rt; drops.may_drop(first, 0) && !drops.may_drop(second, 0));
-    assert!(rt; drops.takes_out(first, 1, 0) && !drops.takes_out(second, 1, 0));
-    assert!(rt; net.reaches(&drops, first, 0, 0) && net.reaches(&drops, first, 0, 1));
-    assert!(rt; !net.reaches(&drops, first, 0, 2) && net.reaches(&drops, second, 0, 2));
-    assert!(rt; net.crosses(&drops, first, 0, 0) && net.crosses(&drops, second, 0, 2));
-    assert!(rt; !net.crosses(&drops, first, 0, 1) && !net.crosses(&drops, first, 0, 2));
-    assert!(rt; net.drops_at(&drops, first, 0, 1));
-    assert!(rt;
-        !net.drops_at(&drops, first, 0, 0)
-            && !net.drops_at(&drops, first, 0, 2)
-            && !net.drops_at(&drops, second, 0, 1)
+    let listed = [
+        drops.lists(1, first),
+        drops.lists(0, first),
+        drops.lists(1, second),
+    ];
+    assert_eq!(rt; listed, [true, false, false]);
+    assert_eq!(rt;
+        [drops.may_drop(first, 0), drops.may_drop(second, 0)],
+        [true, false]
     );
-    assert_eq!(rt; net.fate(&drops, first, 0, 0), Fate::Crosses);
-    assert_eq!(rt; net.fate(&drops, first, 0, 1), Fate::Dropped);
-    assert_eq!(rt; net.fate(&drops, first, 0, 2), Fate::Neither);
-    assert_eq!(rt; net.fate(&drops, second, 0, 2), Fate::Crosses);
+    let taken_out = [drops.takes_out(first, 1, 0), drops.takes_out(second, 1, 0)];
+    assert_eq!(rt; taken_out, [true, false]);
+    let reached = [
+        net.reaches(&drops, first, 0, 0),
+        net.reaches(&drops, first, 0, 1),
+        net.reaches(&drops, first, 0, 2),
+        net.reaches(&drops, second, 0, 2),
+    ];
+    assert_eq!(rt; reached, [true, true, false, true]);
+    let crossed = [
+        net.crosses(&drops, first, 0, 0),
+        net.crosses(&drops, first, 0, 1),
+        net.crosses(&drops, first, 0, 2),
+        net.crosses(&drops, second, 0, 2),
+    ];
+    assert_eq!(rt; crossed, [true, false, false, true]);
+    let dropped = [
+        net.drops_at(&drops, first, 0, 0),
+        net.drops_at(&drops, first, 0, 1),
+        net.drops_at(&drops, first, 0, 2),
+        net.drops_at(&drops, second, 0, 1),
+    ];
+    assert_eq!(rt; dropped, [false, true, false, false]);
+    let fates = [
+        net.fate(&drops, first, 0, 0),
+        net.fate(&drops, first, 0, 1),
+        net.fate(&drops, first, 0, 2),
+        net.fate(&drops, second, 0, 2),
+    ];
+    assert_eq!(rt;
+        fates,
+        [Fate::Crosses, Fate::Dropped, Fate::Neither, Fate::Crosses]
+    );
     Ok(())
 }
 
@@ -209,21 +235,45 @@ fn outages_of_one_tick(rt: HostRuntime) -> Result<(), Fail> {
 
     // the first packet comes to link 1 at tick 5, the second at tick 15
     let drops = Drops::of(rt.alloc(), &[], &[outage(1, 5, 6)])?;
-    assert!(rt; drops.may_drop(first, 0) && drops.may_drop(first, 5));
-    assert!(rt; !drops.may_drop(first, 6) && !drops.may_drop(second, 10));
-    assert!(rt; net.reaches(&drops, first, 0, 1) && !net.reaches(&drops, first, 0, 2));
-    assert!(rt; net.reaches(&drops, second, 10, 1) && net.reaches(&drops, second, 10, 2));
-    assert!(rt; net.crosses(&drops, first, 0, 0) && !net.crosses(&drops, first, 0, 1));
-    assert!(rt; net.crosses(&drops, second, 10, 0) && net.crosses(&drops, second, 10, 1));
-    assert!(rt; net.drops_at(&drops, first, 0, 1) && !net.drops_at(&drops, first, 0, 0));
-    assert!(rt; !net.drops_at(&drops, second, 10, 1));
+    let may_drop = [
+        drops.may_drop(first, 0),
+        drops.may_drop(first, 5),
+        drops.may_drop(first, 6),
+        drops.may_drop(second, 10),
+    ];
+    assert_eq!(rt; may_drop, [true, true, false, false]);
+    let reached = [
+        net.reaches(&drops, first, 0, 1),
+        net.reaches(&drops, first, 0, 2),
+        net.reaches(&drops, second, 10, 1),
+        net.reaches(&drops, second, 10, 2),
+    ];
+    assert_eq!(rt; reached, [true, false, true, true]);
+    let crossed = [
+        net.crosses(&drops, first, 0, 0),
+        net.crosses(&drops, first, 0, 1),
+        net.crosses(&drops, second, 10, 0),
+        net.crosses(&drops, second, 10, 1),
+    ];
+    assert_eq!(rt; crossed, [true, false, true, true]);
+    let dropped = [
+        net.drops_at(&drops, first, 0, 0),
+        net.drops_at(&drops, first, 0, 1),
+        net.drops_at(&drops, second, 10, 1),
+    ];
+    assert_eq!(rt; dropped, [false, true, false]);
     assert_eq!(rt; net.fate(&drops, first, 0, 1), Fate::Dropped);
 
     // one tick earlier and one tick later it drops neither
     for (from, to) in [(4, 5), (6, 7)] {
         let drops = Drops::of(rt.alloc(), &[], &[outage(1, from, to)])?;
-        assert!(rt; net.reaches(&drops, first, 0, 2) && net.reaches(&drops, second, 10, 2));
-        assert!(rt; net.crosses(&drops, first, 0, 1) && !net.drops_at(&drops, first, 0, 1));
+        let passed = [
+            net.reaches(&drops, first, 0, 2),
+            net.reaches(&drops, second, 10, 2),
+            net.crosses(&drops, first, 0, 1),
+            net.drops_at(&drops, first, 0, 1),
+        ];
+        assert_eq!(rt; passed, [true, true, true, false]);
     }
 
     // nor where it has no tick
@@ -246,12 +296,20 @@ fn outages_in_either_direction(rt: HostRuntime) -> Result<(), Fail> {
         count: 0,
     };
     let drops = Drops::of(rt.alloc(), &[], &[outage(1, 3, 4)])?;
-    assert!(rt; net.drops_at(&drops, there, 0, 1) && !net.reaches(&drops, there, 0, 2));
-    assert!(rt; net.crosses(&drops, back, 2, 1) && net.drops_at(&drops, back, 3, 1));
+    let dropped = [
+        net.drops_at(&drops, there, 0, 1),
+        net.drops_at(&drops, back, 2, 1),
+        net.drops_at(&drops, back, 3, 1),
+    ];
+    assert_eq!(rt; dropped, [true, false, true]);
+    assert!(rt; !net.reaches(&drops, there, 0, 2));
+    assert!(rt; net.crosses(&drops, back, 2, 1));
     let drops = Drops::of(rt.alloc(), &[], &[outage(1, 1, 2)])?;
-    assert!(rt; net.crosses(&drops, there, 0, 1) && net.reaches(&drops, there, 0, 2));
+    assert!(rt; net.crosses(&drops, there, 0, 1));
+    assert!(rt; net.reaches(&drops, there, 0, 2));
     let drops = Drops::of(rt.alloc(), &[], &[outage(0, 3, 4)])?;
-    assert!(rt; net.drops_at(&drops, back, 0, 0) && net.crosses(&drops, back, 0, 1));
+    assert!(rt; net.drops_at(&drops, back, 0, 0));
+    assert!(rt; net.crosses(&drops, back, 0, 1));
     Ok(())
 }
 
@@ -286,8 +344,13 @@ fn many_outages(rt: HostRuntime) -> Result<(), Fail> {
     ] {
         assert_eq!(rt; drops.takes_out(id, 1, tick), is_out);
     }
-    assert!(rt; drops.takes_out(id, 0, 0) && drops.takes_out(id, 2, 0));
-    assert!(rt; !drops.takes_out(id, 2, 90) && !drops.takes_out(id, 3, 50));
+    let taken_out = [
+        drops.takes_out(id, 0, 0),
+        drops.takes_out(id, 2, 0),
+        drops.takes_out(id, 2, 90),
+        drops.takes_out(id, 3, 50),
+    ];
+    assert_eq!(rt; taken_out, [true, true, false, false]);
     Ok(())
 }
 
@@ -315,7 +378,8 @@ fn most_nodes(rt: HostRuntime) -> Result<(), Fail> {
         sender: 0,
         count: 0,
     };
-    assert!(rt; !net.reaches(&drops, id, 0, 1) && net.reaches(&drops, id, 1, 1));
+    let reached = [net.reaches(&drops, id, 0, 1), net.reaches(&drops, id, 1, 1)];
+    assert_eq!(rt; reached, [false, true]);
     links.push(short_link(65_534, 65_535))?;
     assert!(rt;
         matches!(
@@ -336,8 +400,8 @@ fn link_to_nobody(rt: HostRuntime) -> Result<(), Fail> {
         sender: 1,
         count: 0,
     };
-    assert!(rt; net.is_on_way(0, 0) && net.is_on_way(1, 0));
-    assert!(rt; !net.is_on_way(0, 1) && !net.is_on_way(1, 1));
+    assert_eq!(rt; [net.is_on_way(0, 0), net.is_on_way(1, 0)], [true, true]);
+    assert_eq!(rt; [net.is_on_way(0, 1), net.is_on_way(1, 1)], [false, false]);
     assert_eq!(rt; net.fate(&drops, id, 0, 0), Fate::Crosses);
     assert_eq!(rt; net.fate(&drops, id, 0, 1), Fate::Neither);
     Ok(())
