@@ -205,7 +205,7 @@ module _ (s : Setting) (w : World) (end : ℕ) (fit : IsFit s) (reached : IsReac
   all = ordered row_cmp lists
 
   merge : IsMerge (rows_in results) all
-  merge = some_merge s (rows_in results)
+  merge = some_merge (rows_in results)
 
   abbrev v : World
   v = after_window s w results all
