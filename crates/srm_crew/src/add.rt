@@ -40,7 +40,8 @@ fn add_totals(ledger: &Ledger, seat: &mut Seat, totals: &Totals) -> Result<(), S
         let link = i / 5;
         let kind = kind_at(i % 5);
         let number = totals.number(link as u16, kind);
-        if ledger.add(seat, link, kind, number).is_err() {
+        // most numbers are 0: few links have packets of each kind in one window
+        if number > 0 && ledger.add(seat, link, kind, number).is_err() {
             return Err(ShareFull);
         }
     }

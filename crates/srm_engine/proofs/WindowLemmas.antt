@@ -2,6 +2,7 @@
 use Rattle.std.proofs.Common.{◌≡◌, ℕ, zero, suc, ◌<◌, ◌≤◌, ◌+◌, ◌^◌, min, List, [], ◌∷◌, ◌++◌, Ok, Err, refl, sym, ap, ◌∙◌, subst, arith}
 use Rattle.std.proofs.Common.{All, IsSorted, IsPermutation, length, map, drop, slice_index, replicate, ◌*◌}
 use Rattle.std.proofs.lemmas.List.{map-append, length-map}
+use Rattle.std.proofs.lemmas.List.Sorted.{IsPermutation-refl}
 use Rattle.std.specs.List.{AllZip, range_with_len}
 use Rattle.std.specs.Global.{Vec}
 use Rattle.srm_net.specs.Network.{Network}
@@ -36,7 +37,7 @@ use Rattle.srm_engine.specs.declared.sink.SinkFault.TheVariants as sink
 use Rattle.srm_model.specs.World.{World, row_cmp, IsReached, IsLast, RunMeetsFull, opening}
 use Rattle.srm_model.specs.Schedules.{IsSafe, HasNoResult}
 use Rattle.srm_model.specs.Windows.{IsWidth}
-use Rattle.srm_model.specs.WindowRuns.{OwnResult, AreOwnRuns, rows_in, cells_in, IsMerge, AreNewInTurn}
+use Rattle.srm_model.specs.WindowRuns.{OwnResult, AreOwnRuns, rows_in, cells_in, IsMerge, AreNewInTurn, each_hears}
 use Rattle.srm_model.specs.WindowRuns.{IsWindow, after_window, jobs_of}
 use Rattle.srm_model.specs.WindowChains.{IsNext, start_of, IsEndRule, width_rule, AreWindows, window_jobs}
 use Rattle.srm_engine.specs.Groups.{handed_jobs, AreGrouped, all_in, jobs_with, groups_of, lists_of, some_of}
@@ -57,7 +58,7 @@ use Rattle.srm_model.proofs.Sequential.{good_reached}
 use Rattle.srm_engine.proofs.Stepping.{opening_trace}
 use Rattle.srm_model.proofs.WindowJobs.{jobs_run_all}
 use Rattle.srm_model.proofs.WindowRows.{own_rows_are_sorted}
-use Rattle.srm_model.proofs.WindowPackets.{window_packets_are_new}
+use Rattle.srm_model.proofs.AnyOrder.{packets_are_heard_in_any_order}
 use Rattle.srm_model.proofs.WindowEnds.{widths_are_rules, promises_are_a_rule, starts_tell}
 use Rattle.srm_model.proofs.WindowChain.{windows_are_reached, windows_follow, refused_windows_meet_full, calls_follow}
 
@@ -250,6 +251,28 @@ module _ {M : Type 0} (f : M → Record) (e : WindowEngine M) (is : IsUnderWay f
 
     -- ---- its rows
 
+    -- all rows, one list after the other
+    module _ (ds : List (job.Done M)) (ran : WindowRan f e seed end w ds) where
+      abbrev pub listed : List Row
+      listed = joined (some_of (lists_of ds))
+
+      listed_is : listed ≡ joined (rows_in ran.results)
+      listed_is = ap (λ l. joined (some_of l)) ran.rows ∙ joined_some (rows_in ran.results)
+
+      in_any_order : AreNewInTurn s.traffic listed (cells_in ran.results)
+          × ((others : List Row) → IsPermutation (joined (rows_in ran.results)) others
+          → each_hears s.traffic 0 listed (cells_in ran.results) ≡ each_hears s.traffic 0 others (cells_in ran.results))
+      in_any_order = packets_are_heard_in_any_order s w end fit reached within safe ran.results listed ran.alone
+          (subst (IsPermutation (joined (rows_in ran.results))) (sym listed_is) (IsPermutation-refl (joined (rows_in ran.results))))
+
+      pub new_in_turn : AreNewInTurn s.traffic listed (cells_in ran.results)
+      new_in_turn = in_any_order.0
+
+      -- heard so, they are heard as any merge of the lists
+      pub heard_as : (rows : List Row) → IsPermutation listed rows
+          → each_hears s.traffic 0 listed (cells_in ran.results) ≡ each_hears s.traffic 0 rows (cells_in ran.results)
+      heard_as rows h = in_any_order.1 rows (subst (λ l. IsPermutation l rows) listed_is h)
+
     module _ (ds : List (job.Done M)) (ran : WindowRan f e seed end w ds) (rows : List Row)
         (merged : IsPermutation (joined (some_of (lists_of ds))) rows × IsSorted row_cmp rows) where
       merge_is : IsMerge (rows_in ran.results) rows
@@ -257,9 +280,6 @@ module _ {M : Type 0} (f : M → Record) (e : WindowEngine M) (is : IsUnderWay f
         all = subst (λ l. IsPermutation l rows) (ap (λ l. joined (some_of l)) ran.rows ∙ joined_some (rows_in ran.results)) merged.0;
         in_order = merged.1;
       }
-
-      pub new_in_turn : AreNewInTurn s.traffic rows (cells_in ran.results)
-      new_in_turn = window_packets_are_new s w end fit reached within safe ran.results rows ran.alone merge_is
 
       abbrev pub after : World
       after = after_window s w ran.results rows

@@ -1,5 +1,5 @@
 -- Who takes the rows of a run as they come.
-use Rattle.std.specs.Prelude.{◌≡◌, ◌⊎◌, ◌≤◌, ℕ, List, [], ◌∷◌, length, All, Result, Ok, Err, MatchResult}
+use Rattle.std.specs.Prelude.{◌≡◌, ◌⊎◌, ◌≤◌, ℕ, List, [], ◌∷◌, length, All, IsPermutation, Result, Ok, Err, MatchResult}
 use Rattle.srm_member.specs.declared.row.Row.{Row}
 use Rattle.srm_engine.specs.declared.sink.SinkFault.{SinkFault}
 use Rattle.srm_engine.specs.declared.sink.SinkFault.TheVariants.{NoMemory, Stopped}
@@ -22,6 +22,14 @@ abbrev pub stops_in : {A : Type 0} → Result A SinkFault → ℕ
 stops_in (Ok v) = 0
 stops_in (Err NoMemory) = 0
 stops_in (Err (Stopped n)) = 1
+
+-- ---- order
+
+-- the order of rows is of no matter: what was taken of some rows, or of a front of them, was taken of the same rows in
+-- any other order
+abbrev pub IsInAnyOrder : {S : Type 0} → (S → List Row → S → Type 0) → (S → List Row → S → Type 0) → Type 0
+IsInAnyOrder took part =
+    (a b : _) (xs ys : List Row) → IsPermutation xs ys → (took a xs b → took a ys b) × (part a xs b → part a ys b)
 
 -- ---- pieces
 

@@ -4,6 +4,7 @@ ghost use Rattle.srm_net.specs.Limits.{end_of_time};
 ghost use Rattle.srm_scenario.specs.Plain.{network_of};
 ghost use Rattle.srm_cell.specs.Cells.{PlainCell};
 ghost use Rattle.srm_cell.specs.Setting.{Setting, setting_of};
+ghost use Rattle.srm_cell.specs.Crossings.{joined};
 ghost use Rattle.srm_model.specs.Windows.{way_of};
 ghost use Rattle.srm_engine.specs.Seen.{AreCells};
 ghost use Rattle.srm_engine.specs.Groups.{AreCuts, sizes, all_in, jobs_with, groups_of, lists_of, some_of};
@@ -128,8 +129,8 @@ impl<M: Participant> Groups<M> {
         Ok(())
     }
 
-    /// Every member hears the packets of the rows, one after the other.
-    pub(crate) fn hear(
+    // Every member hears the packets of the rows, one after the other.
+    fn hear(
         &mut self,
         alloc: Global,
         scenario: &Scenario,
@@ -148,6 +149,28 @@ impl<M: Participant> Groups<M> {
             if let Some(packet) = &row.sent {
                 self.deliver(alloc, scenario, net, packet)?;
             }
+        }
+        Ok(())
+    }
+
+    /// Every member hears the packets of all rows, list after list.
+    pub(crate) fn hear_each(
+        &mut self,
+        alloc: Global,
+        scenario: &Scenario,
+        net: &Net,
+        lists: &[Vec<Row>],
+    ) -> Result<(), AllocError>
+        requires network { net.now ≡ network_of scenario.now }
+        requires until { scenario.now.until ≤ end_of_time }
+        requires may { (seed : ℕ) × MayHear M.plain
+            (setting_of scenario.now net.now seed) (joined (map (λ v. v.items) lists.now)) self.old }
+        ensures cut { IfOk result (λ _. self.new.cut ≡ self.old.cut) }
+        ensures heard { IfOk result (λ _. (seed : ℕ) → Hears M.plain
+            (setting_of scenario.now net.now seed) (joined (map (λ v. v.items) lists.now)) self.old self.new) }
+    {
+        for rows in lists {
+            self.hear(alloc, scenario, net, rows.as_slice())?;
         }
         Ok(())
     }

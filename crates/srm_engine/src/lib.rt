@@ -9,6 +9,7 @@ mod engine;
 pub mod fault;
 mod groups;
 mod halt;
+mod handing;
 pub mod kept_rows;
 mod merge;
 pub mod next_times;

@@ -1,8 +1,8 @@
 //! Who takes the rows of a run as they come.
-ghost use Rattle.std.specs.Prelude.{◌≡◌, ◌<◌, ◌+◌, ◌-◌, ◌^◌, ◌∷◌, ◌++◌, [], ℕ, List, MatchResult};
+ghost use Rattle.std.specs.Prelude.{◌≡◌, ◌<◌, ◌+◌, ◌-◌, ◌^◌, ◌∷◌, ◌++◌, [], ℕ, List, MatchResult, IsTrue};
 ghost use Rattle.srm_member.specs.declared.row.Row.{Row as OneRow};
 ghost use Rattle.srm_engine.specs.declared.sink.Stage.{Stage as AStage};
-ghost use Rattle.srm_engine.specs.Sinks.{IsOpen, stage_after, stops_in};
+ghost use Rattle.srm_engine.specs.Sinks.{IsOpen, stage_after, stops_in, IsInAnyOrder};
 
 use srm_member::row::Row;
 use std::alloc::Global;
@@ -69,6 +69,14 @@ pub trait RowSink {
         ensures handed { handed self.old (rows.items ∷ []) self.new }
         ensures rows { MatchResult result (λ _. took self.old rows.items self.new)
             (λ _. part self.old rows.items self.new) };
+
+    /// Whether the order of rows is of no matter to it: what it takes of some rows, it takes of the same rows in any other order. It
+    /// does not allocate.
+    fn takes_any_order(&self) -> bool
+        ensures { IsTrue result → IsInAnyOrder took part }
+    {
+        false
+    }
 
     ghost same_self: { (a : Self) → same a a };
 

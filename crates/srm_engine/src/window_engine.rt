@@ -1,20 +1,20 @@
 //! The engine in windows.
-ghost use Rattle.std.specs.Prelude.{◌≡◌, ◌<◌, ◌+◌, ◌-◌, ◌^◌, ℕ, List, IfOk, map};
+ghost use Rattle.std.specs.Prelude.{◌≡◌, ◌<◌, ◌+◌, ◌-◌, ◌^◌, ℕ, List, IfOk, All, IsSorted, map};
 ghost use Rattle.srm_scenario.specs.Plain.{network_of};
-ghost use Rattle.srm_model.specs.World.{World};
+ghost use Rattle.srm_model.specs.World.{World, row_cmp};
 ghost use Rattle.srm_engine.specs.Openings.{HoldOpeningRecords};
 ghost use Rattle.srm_engine.specs.Ends.{MayCut};
 ghost use Rattle.srm_engine.specs.Sinks.{IsOpen, stage_after, stops_in};
 ghost use Rattle.srm_engine.specs.Streams.{sink_in};
 ghost use Rattle.srm_engine.specs.WindowEngines.{IsUnderWay, frame_of, OpensAt, BeginsNext, EndsNext, TellsWindow, TellsWindows};
-ghost use Rattle.srm_engine.specs.WindowEngines.{TellsEnd};
+ghost use Rattle.srm_engine.specs.WindowEngines.{TellsEnd, lists_in};
 
 use crate::cells::{finish_cells, open_cells};
 use crate::cutting::Cutting;
 use crate::ends::Ends;
 use crate::groups::{Groups, apart, jobs};
 use crate::halt::Halt;
-use crate::merge::merge;
+use crate::handing::hand_lists;
 use crate::sink::{RowSink, hand_none};
 use crate::soonest::least;
 use crate::window_fault::{WindowFault, window_fault};
@@ -93,13 +93,14 @@ impl<'a, M: Participant> WindowEngine<'a, M> {
             .end(self.groups.soon.as_slice(), begin, self.scenario.until())
     }
 
-    /// The window that begins at this tick: every cell runs alone to its end, the rows are merged, and every cell hears their packets.
+    /// The window that begins at this tick: every cell runs alone to its end, and then hears the packets of all rows. Gives the lists of
+    /// rows that are not empty, each in order of their keys.
     fn window<C: Crew<M>>(
         self,
         alloc: Global,
         crew: &mut C,
         begin: u64,
-    ) -> Result<(WindowEngine<'a, M>, Vec<Row>), WindowFault>
+    ) -> Result<(WindowEngine<'a, M>, Vec<Vec<Row>>), WindowFault>
         requires ready { C.ready crew.old }
         requires stands { IsUnderWay M.plain self }
         requires begin { BeginsNext M.plain self begin }
@@ -109,6 +110,7 @@ impl<'a, M: Participant> WindowEngine<'a, M> {
         ensures stands { IfOk result (λ ran. IsUnderWay M.plain ran.0) }
         ensures later { IfOk result (λ ran. (next : ℕ) → BeginsNext M.plain ran.0 next
             → begin < next) }
+        ensures sorted { IfOk result (λ ran. All (IsSorted row_cmp) (lists_in ran.1)) }
         ensures window { TellsWindow C.handed M.plain self.entry crew.old result crew.new }
     {
         let end = self.end(begin);
@@ -128,8 +130,7 @@ impl<'a, M: Participant> WindowEngine<'a, M> {
         };
         let (groups, lists) = apart(alloc, all)?;
         let mut groups = Groups { cut, groups, soon }.look_again(scenario, net, end);
-        let rows = merge(alloc, lists)?;
-        groups.hear(alloc, scenario, net, rows.as_slice())?;
+        groups.hear_each(alloc, scenario, net, lists.as_slice())?;
         let engine = WindowEngine {
             scenario,
             net,
@@ -138,7 +139,7 @@ impl<'a, M: Participant> WindowEngine<'a, M> {
             groups,
             ends,
         };
-        Ok((engine, rows))
+        Ok((engine, lists))
     }
 
     /// Windows, one after the other, until nothing is pending before the end of the run. Their rows are handed to a sink: first none,
@@ -169,12 +170,12 @@ impl<'a, M: Participant> WindowEngine<'a, M> {
         let mut engine = self;
         let mut begin = engine.begin();
         while begin < until {
-            let (next, rows) = match engine.window(alloc, crew, begin) {
+            let (next, lists) = match engine.window(alloc, crew, begin) {
                 Ok(ran) => ran,
                 Err(fault) => return Err(Halt::Run(fault)),
             };
-            if let Err(fault) = sink.rows(alloc, rows) {
-                return Err(Halt::Sink(fault));
+            if let Err(halt) = hand_lists(alloc, sink, lists) {
+                return Err(halt);
             }
             begin = next.begin();
             engine = next;

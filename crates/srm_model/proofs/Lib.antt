@@ -1,4 +1,5 @@
 pub mod AllSchedules
+pub mod AnyOrder
 pub mod Departed
 pub mod HandedOnce
 pub mod LawProofs

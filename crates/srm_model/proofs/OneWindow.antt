@@ -19,13 +19,12 @@ use Rattle.srm_model.specs.Schedules.{IsSafe, HasResult}
 use Rattle.srm_model.specs.Windows.{IsFirstQuiet}
 use Rattle.srm_cell.specs.Crossings.{joined}
 use Rattle.srm_model.specs.Laws.{by_member, new_rows}
-use Rattle.srm_model.specs.WindowRuns.{OwnResult, AreOwnRuns, rows_in, cells_in, each_hears, after_window}
+use Rattle.srm_model.specs.WindowRuns.{OwnResult, AreOwnRuns, rows_in, cells_in, IsMerge, each_hears, after_window}
 use Rattle.srm_model.specs.WindowLaws.{WindowsAgree, WindowsAreThere}
 use Rattle.srm_model.proofs.LawProofs.{Alone, cells_run_alone, run_on, schedules_agree}
 use Rattle.srm_model.proofs.Merge.{merges_agree}
 use Rattle.srm_model.proofs.RunLemmas.{Seq, seq_run, shifted}
-use Rattle.srm_model.proofs.ScheduleLemmas.{row_total}
-use Rattle.srm_model.proofs.SortedRows.{rows_rise, rows_are_sorted}
+use Rattle.srm_model.proofs.SortedRows.{rows_rise, rows_are_sorted, rows_total}
 use Rattle.srm_model.proofs.Sequential.{good_reached, run_seq}
 
 -- ---- results
@@ -157,18 +156,16 @@ module _ {A : Type 0} (cmp : A → A → Ordering) where
   ordered_rises o [] = tt
   ordered_rises o (x ∷ xs) = rises_place cmp o x (ordered cmp xs) (ordered_rises o xs)
 
+-- lists of rows have a merge
+pub some_merge : (lists : List (List Row)) → IsMerge lists (ordered row_cmp (joined lists))
+some_merge lists =
+    let all = joined lists in
+    record { all = ordered_moves row_cmp all; in_order = rows_are_sorted (ordered row_cmp all) (ordered_rises row_cmp rows_total all) }
+
 pub windows_are_there : WindowsAreThere
 windows_are_there s w end results =
     let rs = collected end 0 w.cells (λ j c g. rw (zero-add j) (results j c g)) in
-    let all = joined (rows_in rs.0) in
-    let rows = ordered row_cmp all in (
+    let rows = ordered row_cmp (joined (rows_in rs.0)) in (
       after_window s w rs.0 rows,
-      record {
-        results = rs.0;
-        rows = rows;
-        alone = rs.1;
-        merged = record
-            { all = ordered_moves row_cmp all; in_order = rows_are_sorted rows (ordered_rises row_cmp (row_total s 0) all) };
-        is = refl;
-      },
+      record { results = rs.0; rows = rows; alone = rs.1; merged = some_merge (rows_in rs.0); is = refl },
     )

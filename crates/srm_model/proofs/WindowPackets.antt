@@ -23,7 +23,8 @@ use Rattle.srm_cell.proofs.OwnRunLemmas.{after_by, after_first}
 use Rattle.srm_cell.proofs.Rising.{OnEvent, OnStep, before_on}
 use Rattle.srm_model.specs.World.{World, least_event, IsReached}
 use Rattle.srm_model.specs.Handed.{SentIn, is_sending, sending_count}
-use Rattle.srm_model.specs.WindowRuns.{OwnResult, AreOwnRuns, cells_in, after_window, IsWindow}
+use Rattle.srm_model.specs.Hearing.{IsNew}
+use Rattle.srm_model.specs.WindowRuns.{OwnResult, AreOwnRuns, cells_in, each_hears, after_window, IsWindow}
 use Rattle.srm_model.specs.WindowLaws.{WindowPacketsAreNew}
 use Rattle.srm_model.proofs.HandedOnce.{handed_reached, packets_are_numbered, IsFlight}
 use Rattle.srm_model.proofs.TraceRows.{contains_none, count_first, sent_more}
@@ -157,6 +158,23 @@ mapped : {A B : Type 0} (f : A → B) (o : Option A) (y : B) → option_map f o 
 mapped f None y h = cc
 mapped f (Some x) y h = (x, refl, same_Some _ _ h)
 
+-- where every packet that was sent before is another, it is new to every cell that has heard those of the rows
+pub new_after : (s : Setting) (w : World) (end : ℕ) (results : List OwnResult) (rows : List Row) (p : Packet) → IsReached s w
+    → AreOwnRuns end 0 w.cells results → ((q : Packet) → SentIn q (w.trace ++ rows) → q.id ≢ p.id)
+    → IsNew p.id (each_hears s.traffic 0 rows (cells_in results))
+new_after s w end results rows p reached alone other = λ j q g.
+    let Q = λ (f : Flight). f.packet.id ≢ p.id in
+    let d = mapped (hear_rows s.traffic (0 + j) rows) (slice_get (cells_in results) j) q
+    (sym (get_heard s 0 j rows (cells_in results)) ∙ g) in
+    let c = get_cell end 0 w.cells results alone j d.0 d.1 in
+    let flights = (handed_reached s w reached).flights j c.0 c.2 in
+    let was : AllIn Q c.0.inbox = AllIn-weaker (IsFlight s w.trace j) Q (λ f h. other f.packet (sent_more f.packet w.trace rows h.0))
+    c.0.inbox flights in
+    let ran : AllIn Q d.0.inbox = subst (λ (b : PlainCell). AllIn Q b.inbox) (sym c.3) (run_keeps Q end (0 + j) c.1 c.0 was) in
+    let heard : AllIn Q (hear_rows s.traffic (0 + j) rows d.0).inbox =
+    hear_keeps Q s (0 + j) rows d.0 (λ x t at. other x (t.0, Contains-append_right w.trace rows t.0 t.1, t.2)) ran in
+    brings_none p.id q.inbox (subst (λ (b : PlainCell). AllIn Q b.inbox) d.2 heard)
+
 pub window_packets_are_new : WindowPacketsAreNew
 window_packets_are_new s w end fit reached within safe results all alone merge rows after r p split sent =
     let v = after_window s w results all in
@@ -170,19 +188,8 @@ window_packets_are_new s w end fit reached within safe results all alone merge r
     let here : IsWithin s fit r = all_at (IsWithin s fit) rows r after
     (subst (AllIn (IsWithin s fit)) new (rows_within s fit part.1 (good_reached s fit reached.0 w reached.1))) in
     let number = packets_are_numbered s v agree.1 (w.trace ++ rows) after r p whole sent in
-    let other = later_is_new s v agree.1 (w.trace ++ rows) after r p whole sent in
-    let Q = λ (f : Flight). f.packet.id ≢ p.id in (
-      λ j q g.
-          let d = mapped (hear_rows s.traffic (0 + j) rows) (slice_get (cells_in results) j) q
-          (sym (get_heard s 0 j rows (cells_in results)) ∙ g) in
-          let c = get_cell end 0 w.cells results alone j d.0 d.1 in
-          let flights = (handed_reached s w reached).flights j c.0 c.2 in
-          let was : AllIn Q c.0.inbox = AllIn-weaker (IsFlight s w.trace j) Q (λ f h. other f.packet (sent_more f.packet w.trace rows h.0))
-          c.0.inbox flights in
-          let ran : AllIn Q d.0.inbox = subst (λ (b : PlainCell). AllIn Q b.inbox) (sym c.3) (run_keeps Q end (0 + j) c.1 c.0 was) in
-          let heard : AllIn Q (hear_rows s.traffic (0 + j) rows d.0).inbox =
-          hear_keeps Q s (0 + j) rows d.0 (λ x t at. other x (t.0, Contains-append_right w.trace rows t.0 t.1, t.2)) ran in
-          brings_none p.id q.inbox (subst (λ (b : PlainCell). AllIn Q b.inbox) d.2 heard),
+    let other = later_is_new s v agree.1 (w.trace ++ rows) after r p whole sent in (
+      new_after s w end results rows p reached alone other,
       subst (λ n. n < s.traffic.members) (sym number.0) here.0,
       subst (λ n. n < s.traffic.until) (sym number.2) here.1,
     )

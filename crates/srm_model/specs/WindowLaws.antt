@@ -51,6 +51,17 @@ WindowPacketsAreNew =
     → (results : List OwnResult) (rows : List Row) → AreOwnRuns end 0 w.cells results → IsMerge (rows_in results) rows
     → AreNewInTurn s.traffic rows (cells_in results)
 
+-- the packets of the rows of all own runs may be heard in any order: each is then new to every cell, and the cells come
+-- out the same
+abbrev pub PacketsAreHeardInAnyOrder : Type 0
+PacketsAreHeardInAnyOrder =
+    (s : Setting) (w : World) (end : ℕ) → IsFit s → IsReached s w → end ≤ s.traffic.until → IsSafe s end w
+    → (results : List OwnResult) (rows : List Row) → AreOwnRuns end 0 w.cells results
+    → IsPermutation (joined (rows_in results)) rows
+    → AreNewInTurn s.traffic rows (cells_in results)
+    × ((others : List Row) → IsPermutation (joined (rows_in results)) others
+    → each_hears s.traffic 0 rows (cells_in results) ≡ each_hears s.traffic 0 others (cells_in results))
+
 -- ---- jobs
 
 -- the jobs of some cells are a first one, of the first `cut` of them, and those of the rest

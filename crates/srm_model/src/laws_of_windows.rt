@@ -1,5 +1,5 @@
 //! The laws of windows, over the definitions alone.
-ghost use Rattle.srm_model.specs.WindowLaws.{WindowsAgree, WindowsAreThere, OwnRowsAreSorted, PacketsAreHeardInTurn, WindowPacketsAreNew, JobsAreRuns, JobsAreInPlace, JobsRunAll, JobsRefuse, CrossingsKeep, CrossingsAreTotals, WidthsAreRules, LeastIsARule, PromisesAreARule, StartsTell, WindowsAreReached, WindowsFollow, CallsFollow, RefusedWindowsMeetFull, WindowTracesArePrefixes, WindowsAreOne, WindowsEnd};
+ghost use Rattle.srm_model.specs.WindowLaws.{WindowsAgree, WindowsAreThere, OwnRowsAreSorted, PacketsAreHeardInTurn, WindowPacketsAreNew, PacketsAreHeardInAnyOrder, JobsAreRuns, JobsAreInPlace, JobsRunAll, JobsRefuse, CrossingsKeep, CrossingsAreTotals, WidthsAreRules, LeastIsARule, PromisesAreARule, StartsTell, WindowsAreReached, WindowsFollow, CallsFollow, RefusedWindowsMeetFull, WindowTracesArePrefixes, WindowsAreOne, WindowsEnd};
 
 /// A window to a safe end leaves the first world of the sequential run with no event before the end pending.
 pub fn windows_agree()
@@ -24,6 +24,11 @@ pub fn packets_are_heard_in_turn()
 /// Each packet of a window is new to every cell that hears it after the packets before it.
 pub fn window_packets_are_new()
     ensures { WindowPacketsAreNew }
+{}
+
+/// The packets of a window's rows may be heard in any order.
+pub fn packets_are_heard_in_any_order()
+    ensures { PacketsAreHeardInAnyOrder }
 {}
 
 /// The jobs of some cells are a first one and those of the rest.

@@ -1,4 +1,4 @@
-use Rattle.std.proofs.Common.{◌∙◌, ◌<◌, ℕ, List, sym, ◌++◌, ◌∷◌, [], add-zero, arith, ap, subst, refl}
+use Rattle.std.proofs.Common.{◌≡◌, ◌∙◌, ◌<◌, ℕ, List, Err, sym, ◌++◌, ◌∷◌, [], add-zero, arith, ap, subst, refl}
 use Rattle.srm_net.specs.Network.{Network}
 use Rattle.srm_scenario.specs.Plain.{PlainScenario}
 use Rattle.srm_member.specs.declared.row.Row.{Row}
@@ -7,9 +7,17 @@ use Rattle.srm_model.specs.World.{opening, IsReached, IsLast}
 use Rattle.srm_engine.specs.declared.ends.Ends.{Ends}
 use Rattle.srm_engine.specs.Ends.{ends_rule}
 use Rattle.srm_engine.specs.Windowed.{MayCome, calls_for}
-use Rattle.srm_engine.specs.WindowEngines.{setting_by, rule_by}
+use Rattle.srm_engine.specs.WindowEngines.{HandsLists, setting_by, rule_by, lists_in}
+use Rattle.srm_engine.specs.declared.halt.Halt.{Halt}
+use Rattle.srm_engine.specs.declared.halt.Halt.TheVariants as halt
+use Rattle.srm_engine.specs.declared.window_fault.WindowFault.{WindowFault}
+use Rattle.srm_engine.specs.declared.window_fault.WindowFault.TheVariants.{NoMemory}
+use Rattle.srm_engine.specs.Streams.{TellsHalt}
+use Rattle.srm_cell.specs.Setting.{Setting}
+use Rattle.srm_model.specs.World.{World}
+use Rattle.srm_model.specs.WindowRuns.{IsMerge}
 use Rattle.srm_engine.proofs.Stepping.{opening_reached, opening_trace}
-use Rattle.srm_engine.proofs.WindowLemmas.{reached, is_last, call_more}
+use Rattle.srm_engine.proofs.WindowLemmas.{reached, next, is_last, call_more}
 use Rattle.srm_engine.proofs.window_engine.WindowEngine.stream.Goals as goal
 
 pub returns-in-Err-clause-windows : goal.returns-in-Err-clause-windows
@@ -60,19 +68,44 @@ returns-in-Err-window-clause-windows g c = λ seed h.
           i.1 x) v.frame (c.in-Err-window.ensures.window seed i.0 i.1 i.2),
     )
 
-pub returns-in-Err-rows-clause-windows : goal.returns-in-Err-rows-clause-windows
-returns-in-Err-rows-clause-windows g c = λ seed h.
+-- why not all rows of a window were handed on
+halted : {S : Type 0} (took part : S → List Row → S → Type 0)
+    → ((a b c : S) (xs ys : List Row) → took a xs b → part b ys c → part a (xs ++ ys) c)
+    → (s : Setting) (may : World → WindowFault → Type 0) (lists : List (List Row)) (from sink to : S) (w : World)
+    → IsReached s w → may w NoMemory → took from w.trace sink
+    → ((rows : List Row) → IsMerge lists rows → (u : World) × IsReached s u × (u.trace ≡ w.trace ++ rows))
+    → (x : Halt WindowFault) → HandsLists took part {A = Unit {0}} lists sink (Err x) to → TellsHalt took part may s from x to
+halted took part more s may lists from sink to w comes none so_far told (halt.Run e) h =
+    (w, comes, subst (took from w.trace) (sym h.1) so_far, subst (may w) (sym h.0) none)
+halted took part more s may lists from sink to w comes none so_far told (halt.Sink e) h =
+    let u = told h.0 h.1 in
+    (u.0, u.1, subst (λ (l : List Row). part from l to) (sym u.2) (more from sink to w.trace h.0 so_far h.2))
+
+pub returns-in-Err-hand_lists-clause-windows : goal.returns-in-Err-hand_lists-clause-windows
+returns-in-Err-hand_lists-clause-windows g c = λ seed h.
     let v = c.loop-begin.invariant in
     let i = v.windows seed h in
-    let told = c.in-Ok.ensures.window seed i.0 i.1 i.2 in (
-      told.0,
-      subst (λ (k : PlainScenario × Network × ℕ × Ends). IsReached (setting_of k.0 k.1 seed) told.0) (c.in-Ok.ensures.frame ∙ v.frame)
-          (reached g.M.Participant.plain c.in-Ok.ran.0 c.in-Ok.ensures.stands seed (i.0 ++ i.1 ∷
-          []) told.0 told.1),
-      subst (λ (l : List Row). g.S.RowSink.part c.args.sink.now l c.rows.new.self) (sym told.2)
-          (g.met.S.RowSink.part_more c.args.sink.now c.loop-begin.sink c.rows.new.self i.1.trace c.in-Ok.ran.1.items i.3
-          c.in-Err-rows.ensures.rows),
-    )
+    let e = c.loop-begin.engine in
+    let both = c.in-Ok.ensures.window seed i.0 i.1 i.2 in
+    let same = ap (λ (k : PlainScenario × Network × ℕ × Ends). k.0.until) v.frame in
+    let until = c.until-until.ensures.until in
+    let test : c.loop-begin.begin < c.until-until.result = c.loop-begin-test.true in
+    let pending = next g.M.Participant.plain e v.stands seed i.0 i.1 i.2 c.loop-begin.begin v.next (omega (arith, same)) in
+    let x = c.in-Err-hand_lists.halt in
+    subst (λ (k : PlainScenario × Network × ℕ × Ends). TellsHalt g.S.RowSink.took g.S.RowSink.part
+    (MayCome (setting_of k.0 k.1 seed) (ends_rule (setting_of k.0 k.1 seed) k.3) k.2) (setting_of k.0 k.1 seed)
+    c.args.sink.now x c.hand_lists.new.sink) v.frame
+    (halted g.S.RowSink.took g.S.RowSink.part g.met.S.RowSink.part_more (setting_by e seed)
+    (MayCome (setting_by e seed) (rule_by e seed) e.groups.cut) (lists_in c.in-Ok.ran.1) c.args.sink.now c.loop-begin.sink
+    c.hand_lists.new.sink i.1 (reached g.M.Participant.plain e v.stands seed i.0 i.1 i.2) pending i.3
+    (λ rows merge.
+    let u = both.0 rows merge in (
+      u.0,
+      subst (λ (k : PlainScenario × Network × ℕ × Ends). IsReached (setting_of k.0 k.1 seed) u.0) c.in-Ok.ensures.frame
+          (reached g.M.Participant.plain c.in-Ok.ran.0 c.in-Ok.ensures.stands seed (i.0 ++ i.1 ∷ []) u.0 u.1),
+      u.2,
+    ))
+    x c.in-Err-hand_lists.ensures.rows)
 
 pub loop-begin-smaller : goal.loop-begin-smaller
 loop-begin-smaller g c =
@@ -86,23 +119,24 @@ loop-begin-preserved g c = record {
   stands = c.in-Ok.ensures.stands;
   frame = c.in-Ok.ensures.frame ∙ c.loop-begin.invariant.frame;
   next = c.begin-begin-in-loop-begin.ensures;
-  device = g.met.S.RowSink.same_more c.args.sink.now c.loop-begin.sink c.rows.new.self c.loop-begin.invariant.device
-      c.in_default-rows.ensures.same;
-  live = c.in_default-rows.ensures.stage;
-  unfailed = c.in_default-rows.ensures.failures ∙ add-zero _ ∙ c.loop-begin.invariant.unfailed;
+  device = g.met.S.RowSink.same_more c.args.sink.now c.loop-begin.sink c.hand_lists.new.sink c.loop-begin.invariant.device
+      c.in_default-hand_lists.ensures.device;
+  live = c.in_default-hand_lists.ensures.stage;
+  unfailed = c.in_default-hand_lists.ensures.failures ∙ add-zero _ ∙ c.loop-begin.invariant.unfailed;
   windows = λ seed h.
       let i = c.loop-begin.invariant.windows seed h in
       let e = c.loop-begin.engine in
-      let told = c.in-Ok.ensures.window seed i.0 i.1 i.2 in
+      let given = c.in_default-hand_lists.ensures.rows in
+      let both = c.in-Ok.ensures.window seed i.0 i.1 i.2 in
+      let told = both.0 given.0 given.1 in
       let rule = rule_by e seed in
       let calls = subst (λ l. g.C.Crew.handed c.args.crew.now l c.window.new.crew) (sym (call_more rule e.groups.cut i.0 i.1))
-      (g.met.C.Crew.handed_more _ _ _ _ _ i.4 told.3) in (
+      (g.met.C.Crew.handed_more _ _ _ _ _ i.4 both.1) in (
         i.0 ++ i.1 ∷ [],
         told.0,
         told.1,
-        subst (λ (l : List Row). g.S.RowSink.took c.args.sink.now l c.rows.new.self) (sym told.2)
-            (g.met.S.RowSink.took_more c.args.sink.now c.loop-begin.sink c.rows.new.self i.1.trace c.in-Ok.ran.1.items i.3
-            c.in_default-rows.ensures.rows),
+        subst (λ (l : List Row). g.S.RowSink.took c.args.sink.now l c.hand_lists.new.sink) (sym told.2)
+            (g.met.S.RowSink.took_more c.args.sink.now c.loop-begin.sink c.hand_lists.new.sink i.1.trace given.0 i.3 given.2),
         subst (λ (k : PlainScenario × Network × ℕ × Ends). g.C.Crew.handed c.args.crew.now
             (calls_for (ends_rule (setting_of k.0 k.1 seed) k.3) k.2 (i.0 ++ i.1 ∷ [])) c.window.new.crew) (sym c.in-Ok.ensures.frame)
             calls,
@@ -127,6 +161,6 @@ returns-clause-windows g c = λ seed h.
           (calls_for (ends_rule (setting_of k.0 k.1 seed) k.3) k.2 i.0) c.loop-begin.crew) v.frame i.4,
     )
 
-pub returns-in-Err-rows-clause-device : goal.returns-in-Err-rows-clause-device
-returns-in-Err-rows-clause-device g c = g.met.S.RowSink.same_more c.args.sink.now c.loop-begin.sink c.rows.new.self
-    c.loop-begin.invariant.device c.in-Err-rows.ensures.same
+pub returns-in-Err-hand_lists-clause-device : goal.returns-in-Err-hand_lists-clause-device
+returns-in-Err-hand_lists-clause-device g c = g.met.S.RowSink.same_more c.args.sink.now c.loop-begin.sink c.hand_lists.new.sink
+    c.loop-begin.invariant.device c.in-Err-hand_lists.ensures.device

@@ -1,12 +1,16 @@
-use Rattle.std.proofs.Common.{◌∙◌, ◌++◌, ◌∷◌, [], sym, ap, subst, refl, arith, length, All, IsSorted, IsPermutation}
+use Rattle.std.proofs.Common.{◌≡◌, ◌∙◌, ◌++◌, ◌∷◌, [], sym, ap, subst, refl, arith, length, map, All, IsSorted, IsPermutation}
 use Rattle.srm_cell.specs.Crossings.{joined}
 use Rattle.srm_model.specs.World.{row_cmp}
-use Rattle.srm_model.specs.WindowRuns.{cells_in, AreNewInTurn, jobs_of}
-use Rattle.srm_engine.specs.Groups.{handed_jobs, all_in, sizes, some_of, AreCuts, AreGrouped}
-use Rattle.srm_engine.specs.WindowEngines.{setting_by}
+use Rattle.srm_model.specs.WindowRuns.{cells_in, AreNewInTurn, jobs_of, each_hears}
+use Rattle.srm_model.proofs.OneWindow.{some_merge}
+use Rattle.srm_net.specs.Orders.{ordered}
+use Rattle.srm_member.specs.declared.row.Row.{Row}
+use Rattle.std.specs.Global.{Vec}
+use Rattle.srm_engine.specs.Groups.{handed_jobs, all_in, sizes, lists_of, some_of, AreCuts, AreGrouped, AreKept}
+use Rattle.srm_engine.specs.WindowEngines.{setting_by, lists_in}
 use Rattle.srm_engine.proofs.SoonGroups.{as_many_kept}
 use Rattle.srm_engine.proofs.WindowLemmas.{jobs_tell, jobs_tell_now, mapped, ran_now, map_refused, end_is}
-use Rattle.srm_engine.proofs.WindowLemmas.{new_in_turn, after, one_more, counted_after, later}
+use Rattle.srm_engine.proofs.WindowLemmas.{new_in_turn, heard_as, after, one_more, counted_after, later}
 use Rattle.srm_engine.proofs.window_engine.WindowEngine.window.Goals as goal
 
 pub map-requires-clause-jobs : goal.map-requires-clause-jobs
@@ -59,17 +63,11 @@ look_again-groups-requires-clause-may g c =
           k.comes.kept.soon;
     }
 
-pub merge-requires : goal.merge-requires
-merge-requires g c =
-    let ran = ran_now g.M.Participant.plain c.args.self c.requires.stands c.end-end.result
-    c.end-end.ensures c.in_ok-jobs.jobs.items c.in_ok-jobs.ensures c.in-Ok.done c.in-Ok.ensures.done in
-    record { sorted = subst (All (IsSorted row_cmp)) (sym (c.in_ok-groups.ensures.lists ∙ ap some_of ran.rows)) ran.sorted }
+pub hear_each-requires-clause-until : goal.hear_each-requires-clause-until
+hear_each-requires-clause-until g c = let few = c.requires.stands.accepted.few_ticks in omega arith
 
-pub hear-requires-clause-until : goal.hear-requires-clause-until
-hear-requires-clause-until g c = let few = c.requires.stands.accepted.few_ticks in omega arith
-
-pub hear-requires-clause-may : goal.hear-requires-clause-may
-hear-requires-clause-may g c =
+pub hear_each-requires-clause-may : goal.hear_each-requires-clause-may
+hear_each-requires-clause-may g c =
     let k = c.requires.stands in
     let w = k.world in
     let ds = c.in-Ok.done.0.items in
@@ -79,18 +77,23 @@ hear-requires-clause-may g c =
     let cut = c.args.self.groups.cut in
     let grouped = subst (λ l. AreGrouped g.M.Participant.plain cut l (cells_in ran.results))
     (sym c.in_ok-groups.ensures.groups) ran.grouped in
-    let rows = c.in_ok-rows.rows.items in
-    let merged = subst (λ l. IsPermutation (joined l) rows × IsSorted row_cmp rows) c.in_ok-groups.ensures.lists c.in_ok-rows.ensures in (
+    let listed : joined (map (λ (v : Vec Row). v.items) c.as_slice.result.now) ≡ joined (some_of (lists_of ds)) =
+    ap (λ l. joined (map (λ (v : Vec Row). v.items) l)) c.as_slice.ensures.value ∙ ap joined c.in_ok-groups.ensures.lists in (
       k.seed,
       (
         cells_in ran.results,
         c.look_again-groups.ensures.soon k.seed w.cells ran.results ran.alone grouped k.comes.kept.soon,
         ran.members,
-        subst (λ l. AreNewInTurn s.traffic l (cells_in ran.results)) (sym c.as_slice.ensures.value)
-            (new_in_turn g.M.Participant.plain c.args.self k k.seed k.begins w k.comes
-            c.end-end.result c.end-end.ensures ds ran rows merged),
+        subst (λ l. AreNewInTurn s.traffic l (cells_in ran.results)) (sym listed)
+            (new_in_turn g.M.Participant.plain c.args.self k k.seed k.begins w k.comes c.end-end.result c.end-end.ensures ds ran),
       ),
     )
+
+pub returns-clause-sorted : goal.returns-clause-sorted
+returns-clause-sorted g c =
+    let ran = ran_now g.M.Participant.plain c.args.self c.requires.stands c.end-end.result
+    c.end-end.ensures c.in_ok-jobs.jobs.items c.in_ok-jobs.ensures c.in-Ok.done c.in-Ok.ensures.done in
+    subst (All (IsSorted row_cmp)) (sym (c.in_ok-groups.ensures.lists ∙ ap some_of ran.rows)) ran.sorted
 
 pub returns-clause-window : goal.returns-clause-window
 returns-clause-window g c = λ seed begins w comes.
@@ -101,25 +104,32 @@ returns-clause-window g c = λ seed begins w comes.
     c.end-end.ensures c.in_ok-jobs.jobs.items c.in_ok-jobs.ensures c.in-Ok.done c.in-Ok.ensures.done in
     let ds = c.in-Ok.done.0.items in
     let ran = told.0 in
+    let s = setting_by c.args.self seed in
     let cut = c.args.self.groups.cut in
-    let grouped = subst (λ l. AreGrouped g.M.Participant.plain cut l (cells_in ran.results))
-    (sym c.in_ok-groups.ensures.groups) ran.grouped in
-    let rows = c.in_ok-rows.rows.items in
-    let merged = subst (λ l. IsPermutation (joined l) rows × IsSorted row_cmp rows) c.in_ok-groups.ensures.lists c.in_ok-rows.ensures in
+    let cells = cells_in ran.results in
+    let grouped = subst (λ l. AreGrouped g.M.Participant.plain cut l cells) (sym c.in_ok-groups.ensures.groups) ran.grouped in
+    let listed : joined (map (λ (v : Vec Row). v.items) c.as_slice.result.now) ≡ joined (some_of (lists_of ds)) =
+    ap (λ l. joined (map (λ (v : Vec Row). v.items) l)) c.as_slice.ensures.value ∙ ap joined c.in_ok-groups.ensures.lists in
     let end_at = end_is g.M.Participant.plain c.args.self k seed begins w comes c.end-end.result
     c.end-end.ensures in
-    let heard = c.in_ok-hear.ensures.heard seed (cells_in ran.results)
+    let heard = c.in_ok-hear_each.ensures.heard seed cells
     (c.look_again-groups.ensures.soon seed w.cells ran.results ran.alone grouped comes.kept.soon) in (
-      after g.M.Participant.plain c.args.self k seed begins w comes c.end-end.result
-          c.end-end.ensures ds ran rows merged,
-      record {
-        windows = (one_more g.M.Participant.plain c.args.self k seed begins w comes
-            c.end-end.result c.end-end.ensures ds ran rows merged).0;
-        kept = rw c.as_slice.ensures.value at heard;
-        counted = counted_after g.M.Participant.plain c.args.self k seed begins w comes
-            c.end-end.result c.end-end.ensures ds ran rows merged c.in-Ok.done.1 told.1;
-      },
-      refl,
+      λ rows merge.
+          let merged = subst (λ l. IsPermutation (joined l) rows × IsSorted row_cmp rows) c.in_ok-groups.ensures.lists
+          (merge.all, merge.in_order) in (
+            after g.M.Participant.plain c.args.self k seed begins w comes c.end-end.result
+                c.end-end.ensures ds ran rows merged,
+            record {
+              windows = (one_more g.M.Participant.plain c.args.self k seed begins w comes
+                  c.end-end.result c.end-end.ensures ds ran rows merged).0;
+              kept = subst (λ qs. AreKept g.M.Participant.plain s c.hear_each.new.self qs)
+                  (ap (λ l. each_hears s.traffic 0 l cells) listed ∙ heard_as g.M.Participant.plain c.args.self k seed begins w comes
+                  c.end-end.result c.end-end.ensures ds ran rows merged.0) heard;
+              counted = counted_after g.M.Participant.plain c.args.self k seed begins w comes
+                  c.end-end.result c.end-end.ensures ds ran rows merged c.in-Ok.done.1 told.1;
+            },
+            refl,
+          ),
       subst (λ n. g.C.Crew.handed c.args.crew.now (handed_jobs 0 (jobs_of cut n w) ∷ []) c.map.new.self) end_at
           (c.in-Ok.ensures.handed (handed_jobs 0 (jobs_of cut c.end-end.result w)) j.seen),
     )
@@ -127,7 +137,9 @@ returns-clause-window g c = λ seed begins w comes.
 pub returns-clause-stands : goal.returns-clause-stands
 returns-clause-stands g c =
     let k = c.requires.stands in
-    let told = returns-clause-window g c k.seed k.begins k.world k.comes in record {
+    let lists = lists_in c.in_ok-groups.lists in
+    let told = (returns-clause-window g c k.seed k.begins k.world k.comes).0 (ordered row_cmp (joined lists))
+    (some_merge lists) in record {
       accepted = k.accepted;
       network = k.network;
       links = k.links;
@@ -145,9 +157,12 @@ returns-clause-later g c = λ next at.
     let ds = c.in-Ok.done.0.items in
     let ran = (mapped g.M.Participant.plain c.args.self k k.seed k.begins k.world k.comes
     c.end-end.result c.end-end.ensures c.in_ok-jobs.jobs.items c.in_ok-jobs.ensures c.in-Ok.done c.in-Ok.ensures.done).0 in
-    let rows = c.in_ok-rows.rows.items in
-    let merged = subst (λ l. IsPermutation (joined l) rows × IsSorted row_cmp rows) c.in_ok-groups.ensures.lists c.in_ok-rows.ensures in
-    let told_window = returns-clause-window g c k.seed k.begins k.world k.comes in
+    let lists = lists_in c.in_ok-groups.lists in
+    let rows = ordered row_cmp (joined lists) in
+    let merge = some_merge lists in
+    let merged = subst (λ l. IsPermutation (joined l) rows × IsSorted row_cmp rows) c.in_ok-groups.ensures.lists
+    (merge.all, merge.in_order) in
+    let told_window = (returns-clause-window g c k.seed k.begins k.world k.comes).0 rows merge in
     later g.M.Participant.plain c.args.self k k.seed k.begins k.world k.comes c.end-end.result
     c.end-end.ensures ds ran rows merged c.args.begin next c.requires.begin c.requires.early
     (at k.seed (k.begins ++ k.world ∷ []) told_window.0 told_window.1)

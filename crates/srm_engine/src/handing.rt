@@ -1,0 +1,63 @@
+//! The rows of a window, handed to a sink.
+ghost use Rattle.std.specs.Prelude.{◌≡◌, ◌<◌, ◌+◌, ◌-◌, ◌^◌, All, IsSorted, MatchResult};
+ghost use Rattle.srm_cell.specs.Crossings.{joined};
+ghost use Rattle.srm_model.specs.World.{row_cmp};
+ghost use Rattle.srm_engine.specs.declared.sink.Stage.{Stage as AStage};
+ghost use Rattle.srm_engine.specs.Sinks.{stage_after, stops_in};
+ghost use Rattle.srm_engine.specs.Streams.{sink_in};
+ghost use Rattle.srm_engine.specs.WindowEngines.{HandsLists, lists_in};
+
+use crate::halt::Halt;
+use crate::merge::merge;
+use crate::sink::{RowSink, SinkFault, Stage};
+use crate::window_fault::WindowFault;
+use srm_member::row::Row;
+use std::alloc::Global;
+
+/// Hands a sink the rows of all lists, each of which is in order: all of them in order of their keys, or list after list where their
+/// order is of no matter to it.
+pub(crate) fn hand_lists<S: RowSink>(
+    alloc: Global,
+    sink: &mut S,
+    lists: Vec<Vec<Row>>,
+) -> Result<(), Halt<WindowFault>>
+    requires live { S.stage sink.old ≡ Stage.Live }
+    requires failures { S.failures sink.old < 2 ^ 64 - 1 }
+    requires sorted { All (IsSorted row_cmp) (lists_in lists) }
+    ensures device { S.same sink.old sink.new }
+    ensures stage { S.stage sink.new ≡ stage_after (sink_in result) }
+    ensures failures { S.failures sink.new ≡ S.failures sink.old + stops_in (sink_in result) }
+    ensures rows { HandsLists S.took S.part (lists_in lists) sink.old result sink.new }
+{
+    if sink.takes_any_order() {
+        return match hand_each(alloc, sink, lists) {
+            Ok(()) => Ok(()),
+            Err(fault) => Err(Halt::Sink(fault)),
+        };
+    }
+    let Ok(rows) = merge(alloc, lists) else {
+        return Err(Halt::Run(WindowFault::NoMemory));
+    };
+    match sink.rows(alloc, rows) {
+        Ok(()) => Ok(()),
+        Err(fault) => Err(Halt::Sink(fault)),
+    }
+}
+
+// Hands a sink the rows of each list.
+fn hand_each<S: RowSink>(alloc: Global, sink: &mut S, lists: Vec<Vec<Row>>) -> Result<(), SinkFault>
+    requires live { S.stage sink.old ≡ Stage.Live }
+    requires failures { S.failures sink.old < 2 ^ 64 - 1 }
+    ensures device { S.same sink.old sink.new }
+    ensures stage { S.stage sink.new ≡ stage_after result }
+    ensures failures { S.failures sink.new ≡ S.failures sink.old + stops_in result }
+    ensures rows { MatchResult result (λ _. S.took sink.old (joined (lists_in lists)) sink.new)
+        (λ _. S.part sink.old (joined (lists_in lists)) sink.new) }
+{
+    for rows in lists {
+        if let Err(fault) = sink.rows(alloc, rows) {
+            return Err(fault);
+        }
+    }
+    Ok(())
+}
