@@ -5,6 +5,7 @@ pub mod Telling
 pub mod Saying
 pub mod OwnRunLemmas
 pub mod Pushes
+pub mod Putting
 pub mod Leading
 pub mod CellLemmas
 pub mod CellSteps

@@ -8,6 +8,7 @@ pub mod Pending
 pub mod Probes
 pub mod Views
 pub mod InnerSteps
+pub mod PutRows
 pub mod OwnRuns
 pub mod Jobs
 pub mod Crossings

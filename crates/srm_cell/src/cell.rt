@@ -1,5 +1,5 @@
 //! A member's cell.
-ghost use Rattle.std.specs.Prelude.{◌≡◌, ◌≤◌, ◌<◌, Some, None, OnOk, OnErr, IfErr};
+ghost use Rattle.std.specs.Prelude.{◌≡◌, ◌≤◌, ◌<◌, ◌∷◌, ◌++◌, [], Some, None, OnOk, OnErr, IfErr};
 ghost use Rattle.srm_net.specs.Limits.{end_of_time, most_sent};
 ghost use Rattle.srm_net.specs.Orders.{Rises};
 ghost use Rattle.srm_scenario.specs.Plain.{mark_cmp};
@@ -8,6 +8,7 @@ ghost use Rattle.srm_cell.specs.Flights.{BringsNone};
 ghost use Rattle.srm_cell.specs.Cells.{hear_at, next_event, first_arrival, first_mark, next_timer};
 ghost use Rattle.srm_cell.specs.Views.{IsNew, Becomes, Steps, Ends, IsNextTime, record_in, due_in};
 ghost use Rattle.srm_cell.specs.InnerSteps.{StandsFor, Takes, Answers};
+ghost use Rattle.srm_cell.specs.PutRows.{PutsRow, PutsStep};
 ghost use Rattle.srm_cell.specs.Jobs.{Runs};
 
 use crate::boxes::{finish, react};
@@ -109,17 +110,39 @@ impl<M: Participant> Cell<M> {
         requires { end ≤ end_of_time }
         ensures { Steps M.plain end self.old result self.new }
     {
+        let mut rows = Vec::new(alloc);
+        match self.step_onto(alloc, end, &mut rows) {
+            Ok(true) => Ok(rows.pop()),
+            Ok(false) => Ok(None),
+            Err(fault) => Err(fault),
+        }
+    }
+
+    /// As [`Cell::step`], where the row is put behind others: a row is large, and so is made once where it is to stand. Tells whether
+    /// there was an event.
+    ///
+    /// # Errors
+    /// As of [`Cell::step`]. Nothing is known of the rows then.
+    pub fn step_onto(
+        &mut self,
+        alloc: Global,
+        end: u64,
+        rows: &mut Vec<Row>,
+    ) -> Result<bool, CellFault>
+        requires { end ≤ end_of_time }
+        ensures { PutsStep (λ r. Steps M.plain end self.old r self.new) rows.old.items result rows.new.items }
+    {
         let Some(next) = self.next else {
-            return Ok(None);
+            return Ok(false);
         };
         if next.key.time >= end {
-            return Ok(None);
+            return Ok(false);
         }
         let cause = self.take(next.source);
-        match self.answer(alloc, next.key, cause) {
-            Ok(row) => {
+        match self.answer(alloc, next.key, cause, rows) {
+            Ok(()) => {
                 self.next = self.least();
-                Ok(Some(row))
+                Ok(true)
             }
             Err(fault) => Err(fault),
         }
@@ -136,13 +159,9 @@ impl<M: Participant> Cell<M> {
     {
         let mut rows = Vec::new(alloc);
         loop {
-            match self.step(alloc, end) {
-                Ok(None) => return Ok(Sequence::from_vec(rows)),
-                Ok(Some(row)) => {
-                    if rows.push(row).is_err() {
-                        return Err(CellFault::NoMemory);
-                    }
-                }
+            match self.step_onto(alloc, end, &mut rows) {
+                Ok(true) => {}
+                Ok(false) => return Ok(Sequence::from_vec(rows)),
                 Err(fault) => return Err(fault),
             }
         }
@@ -192,21 +211,33 @@ impl<M: Participant> Cell<M> {
         }
     }
 
-    // The member answers an event, or leaves where there is no cause.
-    fn answer(&mut self, alloc: Global, key: Key, cause: Option<Cause>) -> Result<Row, CellFault>
+    // The member answers an event, or leaves where there is no cause. The row is put behind others.
+    fn answer(
+        &mut self,
+        alloc: Global,
+        key: Key,
+        cause: Option<Cause>,
+        rows: &mut Vec<Row>,
+    ) -> Result<(), CellFault>
         requires { key.time < end_of_time }
-        ensures { Answers M.plain key cause self.old result self.new }
+        ensures { PutsRow (λ r. Answers M.plain key cause self.old r self.new) rows.old.items result rows.new.items }
     {
         match cause {
-            Some(cause) => self.say(alloc, key, cause),
-            None => self.leave(alloc, key),
+            Some(cause) => self.say(alloc, key, cause, rows),
+            None => self.leave(alloc, key, rows),
         }
     }
 
     // The member reacts to a cause. After an error the cell holds no box.
-    fn say(&mut self, alloc: Global, key: Key, cause: Cause) -> Result<Row, CellFault>
+    fn say(
+        &mut self,
+        alloc: Global,
+        key: Key,
+        cause: Cause,
+        rows: &mut Vec<Row>,
+    ) -> Result<(), CellFault>
         requires { key.time < end_of_time }
-        ensures { Answers M.plain key (Some cause) self.old result self.new }
+        ensures { PutsRow (λ r. Answers M.plain key (Some cause) self.old r self.new) rows.old.items result rows.new.items }
     {
         let Some(mut member) = self.member.take() else {
             return Err(CellFault::Spent);
@@ -229,7 +260,7 @@ impl<M: Participant> Cell<M> {
         let subject = about(cause, &body);
         self.member = Some(member);
         let Some(body) = body else {
-            return Ok(Row {
+            let row = Row {
                 key,
                 cause: cause_word,
                 about: subject,
@@ -237,7 +268,8 @@ impl<M: Participant> Cell<M> {
                 lost,
                 sent: None,
                 adapted,
-            });
+            };
+            return put(rows, row);
         };
         if self.sent >= COUNT_LIMIT {
             return Err(CellFault::CountFull);
@@ -247,7 +279,7 @@ impl<M: Participant> Cell<M> {
             count: self.sent,
         };
         self.sent += 1;
-        Ok(Row {
+        let row = Row {
             key,
             cause: cause_word,
             about: subject,
@@ -259,12 +291,13 @@ impl<M: Participant> Cell<M> {
                 body,
             }),
             adapted,
-        })
+        };
+        put(rows, row)
     }
 
     // The member leaves: it ends, and its box is dropped.
-    fn leave(&mut self, alloc: Global, key: Key) -> Result<Row, CellFault>
-        ensures { Answers M.plain key None self.old result self.new }
+    fn leave(&mut self, alloc: Global, key: Key, rows: &mut Vec<Row>) -> Result<(), CellFault>
+        ensures { PutsRow (λ r. Answers M.plain key None self.old r self.new) rows.old.items result rows.new.items }
     {
         let Some(mut member) = self.member.take() else {
             return Err(CellFault::Spent);
@@ -277,7 +310,7 @@ impl<M: Participant> Cell<M> {
                     return Err(CellFault::NoMemory);
                 };
                 self.exit = Some(exit);
-                Ok(Row {
+                let row = Row {
                     key,
                     cause: Word::Leave,
                     about: About::Nothing,
@@ -285,7 +318,8 @@ impl<M: Participant> Cell<M> {
                     lost: Sequence::new(alloc),
                     sent: None,
                     adapted: Adapted::nothing(),
-                })
+                };
+                put(rows, row)
             }
         }
     }
@@ -347,4 +381,15 @@ impl<M: Participant> Cell<M> {
             Some(member) => member.due(),
         }
     }
+}
+
+// Puts a row behind others.
+fn put(rows: &mut Vec<Row>, row: Row) -> Result<(), CellFault>
+    ensures row { OnOk result (rows.new.items ≡ rows.old.items ++ row ∷ []) }
+    ensures memory { IfErr result (λ e. e ≡ CellFault.NoMemory) }
+{
+    if rows.push(row).is_err() {
+        return Err(CellFault::NoMemory);
+    }
+    Ok(())
 }

@@ -8,6 +8,7 @@ pub mod PhaseLemmas
 pub mod StreamLemmas
 pub mod SeenLemmas
 pub mod Stepping
+pub mod PutLemmas
 pub mod CellLists
 pub mod JobLemmas
 pub mod FixedParts

@@ -1,6 +1,7 @@
 //! The cells of all members.
 ghost use Rattle.std.specs.Prelude.{◌≡◌, ◌<◌, ◌≤◌, IfOk, length, map};
 ghost use Rattle.srm_net.specs.Limits.{end_of_time};
+ghost use Rattle.srm_cell.specs.PutRows.{PutsStep};
 ghost use Rattle.srm_engine.specs.Seen.{AreNextTimes, HandsTo, TakesStep, IsIndexOf, IsNewAt};
 ghost use Rattle.srm_engine.specs.Openings.{MayOpen, Opens, AddsMember};
 ghost use Rattle.srm_engine.specs.Outcomes.{AllEnd, EndAs};
@@ -90,26 +91,27 @@ impl Cells {
         Ok(Cells { cells, times })
     }
 
-    /// A member's own step to tick `until`.
+    /// A member's own step to tick `until`, where the row is put behind others. Tells whether there was an event.
     pub(crate) fn step(
         &mut self,
         alloc: Global,
         member: u16,
         until: u64,
-    ) -> Result<Option<Row>, CellFault>
+        rows: &mut Vec<Row>,
+    ) -> Result<bool, CellFault>
         requires until { until ≤ end_of_time }
         requires place { member < length self.old.cells.items }
         requires time { member < length self.old.times }
-        ensures { TakesStep (λ b. plain b) member until self.old result self.new }
+        ensures { PutsStep (λ r. TakesStep (λ b. plain b) member until self.old r self.new) rows.old.items result rows.new.items }
     {
         let cell = &mut self.cells[usize::from(member)];
-        let row = match cell.step(alloc, until) {
-            Ok(row) => row,
+        let is_event = match cell.step_onto(alloc, until, rows) {
+            Ok(is_event) => is_event,
             Err(fault) => return Err(fault),
         };
         let next = cell.next_time();
         self.times.set(member, next);
-        Ok(row)
+        Ok(is_event)
     }
 
     /// A member is handed a packet, which arrives at tick `at`.

@@ -2,6 +2,7 @@
 ghost use Rattle.std.specs.Prelude.{◌≡◌, ◌<◌, ◌≤◌, ◌+◌, ◌-◌, ◌^◌, ℕ, IfOk, length, map};
 ghost use Rattle.srm_net.specs.Spreads.{IsSpread};
 ghost use Rattle.srm_scenario.specs.Plain.{network_of};
+ghost use Rattle.srm_cell.specs.PutRows.{PutsStep};
 ghost use Rattle.srm_engine.specs.Openings.{HoldOpeningRecords};
 ghost use Rattle.srm_engine.specs.Engines.{IsSetUp, IsStillOf, MayStep, StepsOn, MaySendNow, Sends, MayDeliver, Delivers, IsOpened, OpensFrom};
 ghost use Rattle.srm_engine.specs.Sinks.{IsOpen, stage_after, stops_in, HandsPieces};
@@ -110,40 +111,40 @@ impl<'a> Engine<'a> {
     {
         let mut rows = Vec::new(alloc);
         while rows.len() < most {
-            match self.step(alloc) {
-                Ok(None) => return Ok(rows),
-                Ok(Some(row)) => {
-                    if rows.push(row).is_err() {
-                        return Err(StepFault::NoMemory);
-                    }
-                }
+            match self.step(alloc, &mut rows) {
+                Ok(true) => {}
+                Ok(false) => return Ok(rows),
                 Err(fault) => return Err(fault),
             }
         }
         Ok(rows)
     }
 
-    /// The step of the sequential run: the least pending event of all is taken, and its packet handed out.
-    pub(crate) fn step(&mut self, alloc: Global) -> Result<Option<Row>, StepFault>
+    /// The step of the sequential run: the least pending event of all is taken, its row put behind others, and its packet handed out.
+    /// Tells whether there was an event.
+    pub(crate) fn step(&mut self, alloc: Global, rows: &mut Vec<Row>) -> Result<bool, StepFault>
         requires network { IsSetUp self.old }
         requires known { MayStep (λ b. plain b) self.old }
         ensures same { IsStillOf self.old self.new }
-        ensures step { StepsOn (λ b. plain b) self.old result self.new }
+        ensures step { PutsStep (λ r. StepsOn (λ b. plain b) self.old r self.new) rows.old.items result rows.new.items }
     {
         let until = self.scenario.until();
         let Some((time, member)) = self.cells.times.least() else {
-            return Ok(None);
+            return Ok(false);
         };
         if time >= until {
-            return Ok(None);
+            return Ok(false);
         }
-        let row = match self.cells.step(alloc, member, until) {
-            Ok(Some(row)) => row,
-            Ok(None) => return Ok(None),
+        match self.cells.step(alloc, member, until, rows) {
+            Ok(true) => {}
+            Ok(false) => return Ok(false),
             Err(fault) => return Err(step_fault(fault)),
+        }
+        let Some(row) = rows.last() else {
+            unreachable!();
         };
-        self.send(alloc, &row)?;
-        Ok(Some(row))
+        self.send(alloc, row)?;
+        Ok(true)
     }
 
     // Counts and hands out the packet that a row sent, if any.

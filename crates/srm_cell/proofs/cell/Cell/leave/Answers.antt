@@ -1,7 +1,9 @@
 use Rattle.std.proofs.Common.{ap, sym, subst, ◌∙◌, None, Some}
 use Rattle.srm_member.specs.declared.told.Told.TheVariants.{Parted}
 use Rattle.srm_cell.specs.Cells.{handle, word_of, about_of}
+use Rattle.srm_cell.specs.InnerSteps.{Answers}
 use Rattle.srm_cell.specs.Views.{HasWork}
+use Rattle.srm_cell.proofs.Putting.{row_is_put}
 use Rattle.srm_cell.proofs.Saying.{wanting_end, gone_has_none, ended_is_gone, left, held, empty, now_empty, no_record}
 use Rattle.srm_cell.proofs.cell.Cell.leave.Goals as goal
 
@@ -26,7 +28,12 @@ returns-in_default-new g c = λ m e h k q.
     subst HasWork (sym (left e _ _ c.in-Ok.exit is q c.in-Ok.ensures).1) tt
 
 pub returns : goal.returns
-returns g c = λ m e h k q.
+returns g c =
+    row_is_put
+    (λ r. Answers g.M.Participant.plain c.args.key None c.args.self.now r
+    (record c.args.self.now { member = c.take.new.self; exit = Some c.in-Ok-new.exit }))
+    _ _ _ c.put.result c.put.ensures.row c.put.ensures.memory
+    (λ m e h k q.
     let is = held _ c.args.self.now.member e.rest.holds h.holds c.in-Some.member c.in-Some.ensures.value in
     let done = left e _ _ c.in-Ok.exit is q c.in-Ok.ensures in (
       _,
@@ -51,4 +58,7 @@ returns g c = λ m e h k q.
         script = h.script;
         exit = ap Some (sym c.in-Ok-new.ensures.ok);
       },
-    )
+    ))
+    (λ m e h k q.
+    let is = held _ c.args.self.now.member e.rest.holds h.holds c.in-Some.member c.in-Some.ensures.value in
+    subst HasWork (sym (left e _ _ c.in-Ok.exit is q c.in-Ok.ensures).1) tt)

@@ -1,5 +1,7 @@
 use Rattle.std.proofs.Common.{◌≡◌, ap, sym, ◌∙◌, refl, ◌<◌, ◌≤◌, ◌+◌, arith, Some, None}
 use Rattle.srm_cell.specs.Cells.{handle, word_of, about_of}
+use Rattle.srm_cell.specs.InnerSteps.{Answers}
+use Rattle.srm_cell.proofs.Putting.{row_is_put}
 use Rattle.srm_cell.proofs.Saying.{wanting, working, gone_has_none, spent_is_gone, said_nothing, said, not_said, held, empty, holds_one}
 use Rattle.srm_cell.proofs.cell.Cell.say.Goals as goal
 use Rattle.srm_net.specs.Limits.{most_sent}
@@ -25,13 +27,17 @@ returns-in_default-of g c = λ m e h k q.
     working e c.args.cause c.args.key.time _ _ c.in-Ok.reaction is q c.in-Ok.ensures
 
 pub returns-in_default-body : goal.returns-in_default-body
-returns-in_default-body g c = λ m e h k q.
-    let is = held _ c.args.self.now.member e.rest.holds h.holds c.in-Some.member c.in-Some.ensures.value in
-    let body = c.in_default-body.is in
+returns-in_default-body g c =
+    row_is_put
+    (λ r. Answers g.M.Participant.plain c.args.key (Some c.args.cause) c.args.self.now r
+    (record c.args.self.now { member = Some c.react.new.member }))
+    _ _ _ c.put.result c.put.ensures.row c.put.ensures.memory
+    (λ m e h k q.
     let about : about_of e.cause c.in-Ok.reaction.body ≡ c.about-subject.result = ap (λ x. about_of x c.in-Ok.reaction.body) q
-    ∙ sym c.about-subject.ensures in (
+    ∙ sym c.about-subject.ensures in
+    let is = held _ c.args.self.now.member e.rest.holds h.holds c.in-Some.member c.in-Some.ensures.value in (
       _,
-      said_nothing e c.args.key c.args.cause k q _ _ c.in-Ok.reaction is c.in-Ok.ensures body,
+      said_nothing e c.args.key c.args.cause k q _ _ c.in-Ok.reaction is c.in-Ok.ensures c.in_default-body.is,
       (λ i. record {
         key = sym k i;
         cause = (ap word_of q ∙ sym c.word-cause_word.ensures) i;
@@ -53,7 +59,10 @@ returns-in_default-body g c = λ m e h k q.
         script = h.script;
         exit = h.exit;
       },
-    )
+    ))
+    (λ m e h k q.
+    let is = held _ c.args.self.now.member e.rest.holds h.holds c.in-Some.member c.in-Some.ensures.value in
+    working e c.args.cause c.args.key.time _ _ c.in-Ok.reaction is q c.in-Ok.ensures)
 
 pub returns-then-self-ge-COUNT_LIMIT : goal.returns-then-self-ge-COUNT_LIMIT
 returns-then-self-ge-COUNT_LIMIT g c = λ m e h k q.
@@ -63,7 +72,12 @@ returns-then-self-ge-COUNT_LIMIT g c = λ m e h k q.
     not_said e c.args.key c.args.cause k q _ _ c.in-Ok.reaction c.in-Some-body.body is c.in-Ok.ensures c.in-Some-body.is le
 
 pub returns : goal.returns
-returns g c = λ m e h k q.
+returns g c =
+    row_is_put
+    (λ r. Answers g.M.Participant.plain c.args.key (Some c.args.cause) c.args.self.now r
+    (record c.args.self.now { member = Some c.react.new.member; sent = c.args.self.now.sent + 1 }))
+    _ _ _ c.put-2.result c.put-2.ensures.row c.put-2.ensures.memory
+    (λ m e h k q.
     let is = held _ c.args.self.now.member e.rest.holds h.holds c.in-Some.member c.in-Some.ensures.value in
     let same = h.sent in
     let lt : e.rest.sent < most_sent = (let ge = c.if-self-ge-COUNT_LIMIT.false in omega arith) in
@@ -93,4 +107,7 @@ returns g c = λ m e h k q.
         script = h.script;
         exit = h.exit;
       },
-    )
+    ))
+    (λ m e h k q.
+    let is = held _ c.args.self.now.member e.rest.holds h.holds c.in-Some.member c.in-Some.ensures.value in
+    working e c.args.cause c.args.key.time _ _ c.in-Ok.reaction is q c.in-Ok.ensures)

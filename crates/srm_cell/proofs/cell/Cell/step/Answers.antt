@@ -1,33 +1,13 @@
-use Rattle.std.proofs.Common.{sym, ◌∙◌, subst}
-use Rattle.srm_cell.specs.Cells.{next_event}
-use Rattle.srm_cell.specs.Pending.{Stands}
-use Rattle.srm_cell.proofs.Nexts.{none_pending, none_before, takes}
-use Rattle.srm_cell.proofs.Parts.{same_parts}
-use Rattle.srm_cell.proofs.Telling.{tells_fault}
+use Rattle.std.proofs.Common.{◌++◌, ◌∷◌, [], List, ◌∙◌, ap, arith}
+use Rattle.srm_member.specs.declared.row.Row.{Row}
+use Rattle.srm_cell.proofs.Putting.{last_is}
 use Rattle.srm_cell.proofs.cell.Cell.step.Goals as goal
 
-pub returns-in_default : goal.returns-in_default
-returns-in_default g c = λ m p h. (none_pending c.args.end m p (subst (λ o. Stands m p o (next_event m p)) c.in_default.is h.next), h)
+pub returns-in-Ok-true : goal.returns-in-Ok-true
+returns-in-Ok-true g c =
+    let put = rw c.in-Ok-true.field-0-test at c.in-Ok-true.ensures in
+    let one = put.2 ∙ ap (λ (l : List Row). l ++ put.0 ∷ []) c.new-rows.ensures.items in
+    rw (last_is _ _ put.0 c.pop.result one (omega (arith, c.step_onto.new.rows.ok.0)) (c.pop.ensures.value put.0)) put.1
 
-pub returns-then-next-end : goal.returns-then-next-end
-returns-then-next-end g c = λ m p h.
-    (none_before c.args.end m p c.in-Some.next (subst (λ o. Stands m p o (next_event m p)) c.in-Some.is h.next) c.if-next-end.true, h)
-
-pub returns-in-Ok : goal.returns-in-Ok
-returns-in-Ok g c = λ m p h.
-    let s = subst (λ o. Stands m p o (next_event m p)) c.in-Some.is h.next in
-    let t = c.take-cause.ensures m p s.0 h.parts s.3 in
-    let a = c.in-Ok.ensures m s.0 t.0 s.2 (sym t.1) in (
-      a.0,
-      takes c.args.end m p c.in-Some.next s c.if-next-end.false ∙ a.1,
-      a.2,
-      record { parts = same_parts _ m _ a.0.cell c.least-self.result a.3; next = c.least-self.ensures m a.0.cell a.3 },
-    )
-
-pub returns-in-Err : goal.returns-in-Err
-returns-in-Err g c = λ m p h.
-    let s = subst (λ o. Stands m p o (next_event m p)) c.in-Some.is h.next in
-    let t = c.take-cause.ensures m p s.0 h.parts s.3 in
-    let a = c.in-Err.ensures m s.0 t.0 s.2 (sym t.1) in
-    tells_fault g.M.Participant.plain m p _ _ c.in-Err.fault c.answer.new.self c.answer.new.self
-    (takes c.args.end m p c.in-Some.next s c.if-next-end.false) a
+pub returns-in-Ok-false : goal.returns-in-Ok-false
+returns-in-Ok-false g c = (rw c.in-Ok-false.field-0-test at c.in-Ok-false.ensures).0

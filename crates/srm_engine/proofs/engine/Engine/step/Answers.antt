@@ -1,4 +1,4 @@
-use Rattle.std.proofs.Common.{◌≡◌, ◌<◌, ◌≤◌, ◌++◌, ◌∷◌, [], List, Some, sym, ◌∙◌, ap, subst, slice_set, arith, le_refl}
+use Rattle.std.proofs.Common.{◌≡◌, ◌<◌, ◌≤◌, ◌++◌, ◌∷◌, [], List, Some, sym, ◌∙◌, ap, subst, slice_set, arith, le_refl, refl}
 use Rattle.std.proofs.lemmas.Result.{err_from_is_err_and}
 use Rattle.srm_net.specs.Network.{Network}
 use Rattle.srm_member.specs.declared.row.Row.{Row}
@@ -14,6 +14,8 @@ use Rattle.srm_model.specs.Hearing.{all_hear}
 use Rattle.srm_engine.specs.Seen.{AreSeen}
 use Rattle.srm_model.specs.Totalled.{MaySend, and_sent}
 use Rattle.srm_engine.proofs.PhaseLemmas.{refused}
+use Rattle.srm_engine.proofs.PutLemmas.{last_is_put}
+use Rattle.srm_engine.proofs.SeenLemmas.{same_some}
 use Rattle.srm_model.proofs.RunLemmas.{after_spent}
 use Rattle.srm_model.proofs.Sequential.{get_below}
 use Rattle.srm_engine.proofs.Stepping.{is_over, is_late, step_by, cell_there, event, member_is, is_least, own_is, after_idle, after_done}
@@ -21,20 +23,26 @@ use Rattle.srm_engine.proofs.Stepping.{settled_is, may_send, not_spent, sent_by_
 use Rattle.srm_engine.proofs.engine.Engine.step.Goals as goal
 
 pub returns-in_default-clause-step : goal.returns-in_default-clause-step
-returns-in_default-clause-step g c = λ seed w h. (
-  is_over (setting_in c.args.self.now seed) w c.args.self.now.cells.times h.seen.times
-      c.in_default.ensures,
-  h,
+returns-in_default-clause-step g c = (
+  λ seed w h. (
+    is_over (setting_in c.args.self.now seed) w c.args.self.now.cells.times h.seen.times
+        c.in_default.ensures,
+    h,
+  ),
+  refl,
 )
 
 pub returns-then-time-until-clause-step : goal.returns-then-time-until-clause-step
-returns-then-time-until-clause-step g c = λ seed w h.
-    let late : c.args.self.now.scenario.now.until ≤ c.in-Some.time =
-    (let le = c.if-time-until.true in let u = c.until-until.ensures.until in omega arith) in (
-      is_late (setting_in c.args.self.now seed) w c.args.self.now.cells.times h.seen.times c.in-Some.time c.in-Some.member c.in-Some.ensures
-          late,
-      h,
-    )
+returns-then-time-until-clause-step g c = (
+  λ seed w h.
+      let late : c.args.self.now.scenario.now.until ≤ c.in-Some.time =
+      (let le = c.if-time-until.true in let u = c.until-until.ensures.until in omega arith) in (
+        is_late (setting_in c.args.self.now seed) w c.args.self.now.cells.times h.seen.times c.in-Some.time c.in-Some.member c.in-Some.ensures
+            late,
+        h,
+      ),
+  refl,
+)
 
 pub step-requires-clause-place : goal.step-requires-clause-place
 step-requires-clause-place g c =
@@ -58,18 +66,21 @@ step-requires-clause-time g c =
     let many = k.3.seen.times.as_many in
     omega arith
 
-pub returns-in-Ok-None-clause-step : goal.returns-in-Ok-None-clause-step
-returns-in-Ok-None-clause-step g c = λ seed w h.
-    let s = setting_in c.args.self.now seed in
-    let early : c.in-Some.time < c.args.self.now.scenario.now.until =
-    (let lt = c.if-time-until.false in let u = c.until-until.ensures.until in omega arith) in
-    let p = cell_there s w c.args.self.now.cells.times h.seen.times c.in-Some.time c.in-Some.member c.in-Some.ensures early in
-    let told = rw c.in-Ok-None.field-0-is at c.in-Ok-None.ensures in
-    let t = told w.cells p.0 h.seen p.1 in (
-      step_by s w c.args.self.now.cells.times h.seen.times c.in-Some.time c.in-Some.member c.in-Some.ensures early p.0 p.1
-          ∙ ap (λ u. after_step s w c.in-Some.member (own_step u c.in-Some.member p.0)) (sym c.until-until.ensures.until)
-          ∙ ap (after_step s w c.in-Some.member) t.0 ∙ after_idle s w c.in-Some.member,
-      record { seen = t.1; counted = h.counted },
+pub returns-in-Ok-false-clause-step : goal.returns-in-Ok-false-clause-step
+returns-in-Ok-false-clause-step g c =
+    let put = rw c.in-Ok-false.field-0-test at c.in-Ok-false.ensures in (
+      λ seed w h.
+          let s = setting_in c.args.self.now seed in
+          let early : c.in-Some.time < c.args.self.now.scenario.now.until =
+          (let lt = c.if-time-until.false in let u = c.until-until.ensures.until in omega arith) in
+          let p = cell_there s w c.args.self.now.cells.times h.seen.times c.in-Some.time c.in-Some.member c.in-Some.ensures early in
+          let t = put.0 w.cells p.0 h.seen p.1 in (
+            step_by s w c.args.self.now.cells.times h.seen.times c.in-Some.time c.in-Some.member c.in-Some.ensures early p.0 p.1
+                ∙ ap (λ u. after_step s w c.in-Some.member (own_step u c.in-Some.member p.0)) (sym c.until-until.ensures.until)
+                ∙ ap (after_step s w c.in-Some.member) t.0 ∙ after_idle s w c.in-Some.member,
+            record { seen = t.1; counted = h.counted },
+          ),
+      put.1,
     )
 
 pub step_fault-requires : goal.step_fault-requires
@@ -109,8 +120,9 @@ send-requires-clause-may g c =
     let early : c.in-Some.time < c.args.self.now.scenario.now.until =
     (let lt = c.if-time-until.false in let u = c.until-until.ensures.until in omega arith) in
     let p = cell_there s k.1 c.args.self.now.cells.times k.3.seen.times c.in-Some.time c.in-Some.member c.in-Some.ensures early in
-    let told = rw c.in-Ok-Some.field-0-is at c.in-Ok-Some.ensures in
-    let t = told k.1.cells p.0 k.3.seen p.1 in
+    let put = rw c.in-Ok-true.field-0-test at c.in-Ok-true.ensures in
+    let t = put.1 k.1.cells p.0 k.3.seen p.1 in
+    let same : put.0 ≡ c.in-Some-last.row.now = same_some put.0 _ (sym (last_is_put c.deref.result.now _ put.0 (c.deref.ensures.value ∙ put.2)) ∙ sym c.in-Some-last.ensures.value) in
     let e = event s k.1 c.args.self.now.cells.times k.3.seen.times c.in-Some.time c.in-Some.member c.in-Some.ensures early in
     let of = member_is s k.1 c.args.self.now.cells.times k.3.seen.times c.in-Some.time c.in-Some.member c.in-Some.ensures early in
     let least = is_least s k.1 c.args.self.now.cells.times k.3.seen.times c.in-Some.time c.in-Some.member c.in-Some.ensures early in
@@ -122,51 +134,57 @@ send-requires-clause-may g c =
       packets_of k.1.trace,
       t.3,
       k.3.counted,
-      subst (λ (r : Row). MaySend s.traffic.members (slice_set k.1.cells c.in-Some.member t.0.cell) (packets_of k.1.trace) r.sent) t.2
+      subst (λ (r : Row). MaySend s.traffic.members (slice_set k.1.cells c.in-Some.member t.0.cell) (packets_of k.1.trace) r.sent) (t.2 ∙ same)
           (subst (λ m. MaySend s.traffic.members (slice_set k.1.cells m t.0.cell) (packets_of k.1.trace) t.0.row.sent) of may),
     )
 
 pub returns-clause-step : goal.returns-clause-step
-returns-clause-step g c = λ seed w h.
-    let s = setting_in c.args.self.now seed in
-    let early : c.in-Some.time < c.args.self.now.scenario.now.until =
-    (let lt = c.if-time-until.false in let u = c.until-until.ensures.until in omega arith) in
-    let p = cell_there s w c.args.self.now.cells.times h.seen.times c.in-Some.time c.in-Some.member c.in-Some.ensures early in
-    let told = rw c.in-Ok-Some.field-0-is at c.in-Ok-Some.ensures in
-    let t = told w.cells p.0 h.seen p.1 in
-    let e = event s w c.args.self.now.cells.times h.seen.times c.in-Some.time c.in-Some.member c.in-Some.ensures early in
-    let of = member_is s w c.args.self.now.cells.times h.seen.times c.in-Some.time c.in-Some.member c.in-Some.ensures early in
-    let done : step_at (Some e) ≡ Done t.0 =
-    sym (own_is s w c.args.self.now.cells.times h.seen.times c.in-Some.time c.in-Some.member c.in-Some.ensures early p.0 p.1)
-    ∙ ap (λ u. own_step u c.in-Some.member p.0) (sym c.until-until.ensures.until) ∙ t.1 in
-    let by = subst (λ m. SentBy m t.0.row.sent) of (sent_by_member e t.0 done) in
-    let sent = c.in_ok-send.ensures.sent (slice_set w.cells c.in-Some.member t.0.cell) (packets_of w.trace) t.3 h.counted in
-    let cells = settled_is s c.in-Some.member t.0 w.cells (get_below w.cells c.in-Some.member p.0 p.1) by
-    ∙ ap (λ (r : Row). all_hear s.traffic r.sent (slice_set w.cells c.in-Some.member t.0.cell)) t.2 in (
-      record { cells = cells_after s c.in-Some.member t.0 0 w.cells; trace = w.trace ++ t.0.row ∷ [] },
-      step_by s w c.args.self.now.cells.times h.seen.times c.in-Some.time c.in-Some.member c.in-Some.ensures early p.0 p.1
-          ∙ ap (λ u. after_step s w c.in-Some.member (own_step u c.in-Some.member p.0)) (sym c.until-until.ensures.until)
-          ∙ ap (after_step s w c.in-Some.member) t.1 ∙ after_done s w c.in-Some.member t.0,
-      ap (λ (r : Row). w.trace ++ r ∷ []) t.2,
-      record {
-        seen = subst (λ (qs : List PlainCell). AreSeen (λ b. (goal.Member-dyn g (b.vtable, b.value)).plain b.value)
-            c.send.new.self.cells.cells.items c.send.new.self.cells.times qs) (sym cells) sent.0;
-        counted = subst (HasCounted c.send.new.self) (ap (λ (r : Row). and_sent r.sent (packets_of w.trace)) (sym t.2)
-            ∙ sym (packets_more w.trace t.0.row)) sent.1;
-      },
+returns-clause-step g c =
+    let put = rw c.in-Ok-true.field-0-test at c.in-Ok-true.ensures in
+    let same : put.0 ≡ c.in-Some-last.row.now = same_some put.0 _ (sym (last_is_put c.deref.result.now _ put.0 (c.deref.ensures.value ∙ put.2)) ∙ sym c.in-Some-last.ensures.value) in (
+      put.0,
+      λ seed w h.
+          let s = setting_in c.args.self.now seed in
+          let early : c.in-Some.time < c.args.self.now.scenario.now.until =
+          (let lt = c.if-time-until.false in let u = c.until-until.ensures.until in omega arith) in
+          let p = cell_there s w c.args.self.now.cells.times h.seen.times c.in-Some.time c.in-Some.member c.in-Some.ensures early in
+          let t = put.1 w.cells p.0 h.seen p.1 in
+          let e = event s w c.args.self.now.cells.times h.seen.times c.in-Some.time c.in-Some.member c.in-Some.ensures early in
+          let of = member_is s w c.args.self.now.cells.times h.seen.times c.in-Some.time c.in-Some.member c.in-Some.ensures early in
+          let done : step_at (Some e) ≡ Done t.0 =
+          sym (own_is s w c.args.self.now.cells.times h.seen.times c.in-Some.time c.in-Some.member c.in-Some.ensures early p.0 p.1)
+          ∙ ap (λ u. own_step u c.in-Some.member p.0) (sym c.until-until.ensures.until) ∙ t.1 in
+          let by = subst (λ m. SentBy m t.0.row.sent) of (sent_by_member e t.0 done) in
+          let sent = c.in_ok-send.ensures.sent (slice_set w.cells c.in-Some.member t.0.cell) (packets_of w.trace) t.3 h.counted in
+          let cells = settled_is s c.in-Some.member t.0 w.cells (get_below w.cells c.in-Some.member p.0 p.1) by
+          ∙ ap (λ (r : Row). all_hear s.traffic r.sent (slice_set w.cells c.in-Some.member t.0.cell)) (t.2 ∙ same) in (
+            record { cells = cells_after s c.in-Some.member t.0 0 w.cells; trace = w.trace ++ t.0.row ∷ [] },
+            step_by s w c.args.self.now.cells.times h.seen.times c.in-Some.time c.in-Some.member c.in-Some.ensures early p.0 p.1
+                ∙ ap (λ u. after_step s w c.in-Some.member (own_step u c.in-Some.member p.0)) (sym c.until-until.ensures.until)
+                ∙ ap (after_step s w c.in-Some.member) t.1 ∙ after_done s w c.in-Some.member t.0,
+            ap (λ (r : Row). w.trace ++ r ∷ []) t.2,
+            record {
+              seen = subst (λ (qs : List PlainCell). AreSeen (λ b. (goal.Member-dyn g (b.vtable, b.value)).plain b.value)
+                  c.send.new.self.cells.cells.items c.send.new.self.cells.times qs) (sym cells) sent.0;
+              counted = subst (HasCounted c.send.new.self) (ap (λ (r : Row). and_sent r.sent (packets_of w.trace)) (sym (t.2 ∙ same))
+                  ∙ sym (packets_more w.trace t.0.row)) sent.1;
+            },
+          ),
+      put.2,
     )
 
 pub returns-in_err-send-clause-step : goal.returns-in_err-send-clause-step
-returns-in_err-send-clause-step g c = λ seed w h.
+returns-in_err-send-clause-step g c =
+    let told_err = err_from_is_err_and c.from_residual.result c.from_residual.ensures.1 in
+    let put = rw c.in-Ok-true.field-0-test at c.in-Ok-true.ensures in
+    rw (told_err.1, told_err.2) (λ seed w h.
     let s = setting_in c.args.self.now seed in
     let early : c.in-Some.time < c.args.self.now.scenario.now.until =
     (let lt = c.if-time-until.false in let u = c.until-until.ensures.until in omega arith) in
     let p = cell_there s w c.args.self.now.cells.times h.seen.times c.in-Some.time c.in-Some.member c.in-Some.ensures early in
-    let told = rw c.in-Ok-Some.field-0-is at c.in-Ok-Some.ensures in
-    let t = told w.cells p.0 h.seen p.1 in
+    let t = put.1 w.cells p.0 h.seen p.1 in
     let done : step s w ≡ Done (record { cells = cells_after s c.in-Some.member t.0 0 w.cells; trace = w.trace ++ t.0.row ∷ [] }) =
     step_by s w c.args.self.now.cells.times h.seen.times c.in-Some.time c.in-Some.member c.in-Some.ensures early p.0 p.1
     ∙ ap (λ u. after_step s w c.in-Some.member (own_step u c.in-Some.member p.0)) (sym c.until-until.ensures.until)
     ∙ ap (after_step s w c.in-Some.member) t.1 ∙ after_done s w c.in-Some.member t.0 in
-    let told_err = err_from_is_err_and c.from_residual.result c.from_residual.ensures.1 in
-    rw (told_err.1, told_err.2) (subst HasWork (sym done) tt)
+    subst HasWork (sym done) tt)

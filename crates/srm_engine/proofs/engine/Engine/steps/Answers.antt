@@ -4,7 +4,6 @@ use Rattle.srm_member.specs.declared.row.Row.{Row}
 use Rattle.srm_cell.specs.Setting.{Setting, setting_of}
 use Rattle.srm_model.specs.World.{step, IsReached}
 use Rattle.srm_engine.specs.Engines.{setting_in, MayRefuseStep}
-use Rattle.srm_cell.proofs.Pushes.{pushed_if}
 use Rattle.srm_engine.proofs.StreamLemmas.{countable, not_stepped, stepped_from}
 use Rattle.srm_engine.proofs.Stepping.{reached_more}
 use Rattle.srm_engine.proofs.engine.Engine.steps.Goals as goal
@@ -34,24 +33,22 @@ pub loop-alloc-preserved : goal.loop-alloc-preserved
 loop-alloc-preserved g c =
     let is = c.loop-alloc.invariant.0 in
     let same = c.step.ensures.same in
-    let pushed = pushed_if c.push.result (c.loop-alloc.rows.items ++ c.in-Ok-Some.row ∷ []) c.loop-alloc.rows.items c.push.new.self.items
-    (sym c.is_err.ensures.value ∙ c.if-is_err.false) c.push.ensures.items in (
+    let put = rw c.in-Ok-true.field-0-test at c.in-Ok-true.ensures.step in (
       (same.0 ∙ is.0, same.1 ∙ is.1),
       λ seed w r h.
           let s = setting_in c.args.self.now seed in
           let i = c.loop-alloc.invariant.1 seed w r h in
-          let told = rw c.in-Ok-Some.field-0-is at c.in-Ok-Some.ensures.step in
-          let t = told seed i.0 i.3 in
+          let t = put.1 seed i.0 i.3 in
           let here : step (setting_in c.loop-alloc.self seed) i.0 ≡ step s i.0 =
           λ k. step (setting_of (is.0 k).now (is.1 k).now seed) i.0 in (
             t.0,
             reached_more s i.0 t.0 i.1 (sym here ∙ t.1),
-            t.2 ∙ ap (λ (l : List Row). l ++ c.in-Ok-Some.row ∷ []) i.2 ∙
-                append_assoc w.trace c.loop-alloc.rows.items (c.in-Ok-Some.row ∷ []) ∙ ap (λ (l : List Row). w.trace ++ l) (sym pushed),
+            t.2 ∙ ap (λ (l : List Row). l ++ put.0 ∷ []) i.2 ∙
+                append_assoc w.trace c.loop-alloc.rows.items (put.0 ∷ []) ∙ ap (λ (l : List Row). w.trace ++ l) (sym put.2),
             t.3,
             inr (stepped_from s w i.0 t.0 (sym here ∙ t.1) i.4),
           ),
-      (let more = ap length pushed ∙ length-append c.loop-alloc.rows.items (c.in-Ok-Some.row ∷ []) in omega arith),
+      (let more = ap length put.2 ∙ length-append c.loop-alloc.rows.items (put.0 ∷ []) in omega arith),
     )
 
 pub returns-in-Err-clause-steps : goal.returns-in-Err-clause-steps
@@ -62,27 +59,30 @@ returns-in-Err-clause-steps g c = λ seed w r h.
     let here : step (setting_in c.loop-alloc.self seed) i.0 ≡ step s i.0 = λ k. step (setting_of (is.0 k).now (is.1 k).now seed) i.0 in
     not_stepped s w i.0 c.in-Err.fault i.1 i.4 (subst (λ o. MayRefuseStep o c.in-Err.fault) here (c.in-Err.ensures.step seed i.0 i.3))
 
-pub returns-in-Ok-None-clause-steps : goal.returns-in-Ok-None-clause-steps
-returns-in-Ok-None-clause-steps g c = λ seed w r h.
+pub returns-in-Ok-false-clause-steps : goal.returns-in-Ok-false-clause-steps
+returns-in-Ok-false-clause-steps g c = λ seed w r h.
     let s = setting_in c.args.self.now seed in
     let is = c.loop-alloc.invariant.0 in
     let i = c.loop-alloc.invariant.1 seed w r h in
-    let told = rw c.in-Ok-None.field-0-is at c.in-Ok-None.ensures.step in
-    let t = told seed i.0 i.3 in
+    let put = rw c.in-Ok-false.field-0-test at c.in-Ok-false.ensures.step in
+    let t = put.0 seed i.0 i.3 in
     let here : step (setting_in c.loop-alloc.self seed) i.0 ≡ step s i.0 = λ k. step (setting_of (is.0 k).now (is.1 k).now seed) i.0 in
-    (i.0, i.1, i.2, t.1, λ _. sym here ∙ t.0)
+    (i.0, i.1, i.2 ∙ ap (λ (l : List Row). w.trace ++ l) (sym put.1), t.1, λ _. sym here ∙ t.0)
+
+pub returns-in-Ok-false-clause-few : goal.returns-in-Ok-false-clause-few
+returns-in-Ok-false-clause-few g c =
+    let put = rw c.in-Ok-false.field-0-test at c.in-Ok-false.ensures.step in
+    let same = ap length put.1 in
+    let few = c.loop-alloc.invariant.2 in
+    omega arith
+
+pub loop-alloc-smaller : goal.loop-alloc-smaller
+loop-alloc-smaller g c =
+    let put = rw c.in-Ok-true.field-0-test at c.in-Ok-true.ensures.step in
+    let more = ap length put.2 ∙ length-append c.loop-alloc.rows.items (put.0 ∷ []) in
+    omega arith
 
 pub returns-clause-steps : goal.returns-clause-steps
 returns-clause-steps g c = λ seed w r h.
     let i = c.loop-alloc.invariant.1 seed w r h in
     (i.0, i.1, i.2, i.3, λ lt. absurd (omega (arith, lt)))
-
-pub returns-then-is_err-clause-steps : goal.returns-then-is_err-clause-steps
-returns-then-is_err-clause-steps g c = λ seed w r h.
-    let s = setting_in c.args.self.now seed in
-    let is = c.loop-alloc.invariant.0 in
-    let i = c.loop-alloc.invariant.1 seed w r h in
-    let told = rw c.in-Ok-Some.field-0-is at c.in-Ok-Some.ensures.step in
-    let t = told seed i.0 i.3 in
-    let here : step (setting_in c.loop-alloc.self seed) i.0 ≡ step s i.0 = λ k. step (setting_of (is.0 k).now (is.1 k).now seed) i.0 in
-    inl (stepped_from s w i.0 t.0 (sym here ∙ t.1) i.4)
