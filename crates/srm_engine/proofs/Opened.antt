@@ -1,9 +1,13 @@
 -- The cells at the beginning of a run.
 use Rattle.std.proofs.Common.{◌≡◌, ◌⊎◌, ℕ, zero, suc, ◌+◌, ◌<◌, List, [], ◌∷◌, ◌++◌, length, Some, inl, inr, refl}
-use Rattle.std.proofs.Common.{sym, ap, ◌∙◌, subst, slice_get, arith, length-append, add-one}
+use Rattle.std.proofs.Common.{sym, ap, ◌∙◌, subst, map, slice_get, arith, length-append, add-one, zero-add, Vec, Global}
+use Rattle.std.specs.List.{range_with_len}
+use Rattle.srm_net.specs.Orders.{Rises}
 use Rattle.srm_net.specs.Network.{Network}
 use Rattle.srm_scenario.specs.declared.mark.Mark.{Mark}
-use Rattle.srm_scenario.specs.Plain.{PlainScenario, script_of}
+use Rattle.srm_scenario.specs.Plain.{PlainScenario, mark_cmp, script_of}
+use Rattle.srm_scenario.specs.ScriptLists.{scripts_of}
+use Rattle.srm_scenario.proofs.Marks.{scripts_rise}
 use Rattle.srm_member.specs.Record.{Record, opening_record, fixed_part}
 use Rattle.srm_cell.specs.declared.cell.Cell.{Cell}
 use Rattle.srm_cell.specs.Setting.{Setting, setting_of, fixed_of}
@@ -104,3 +108,103 @@ record_first p net seed k (suc m) r rs h = (m, refl, cc, cc)
 pub none_left : (p : PlainScenario) (net : Network) (seed k n : ℕ) → [] ≡ records_from p net seed k n → n ≡ 0
 none_left p net seed k zero h = refl
 none_left p net seed k (suc m) h = cc
+
+-- ---- cells that open one after the other
+
+-- of no script none is to come
+no_script : (p : PlainScenario) (k n : ℕ) → [] ≡ map (script_of p) (range_with_len k n) → n ≡ 0
+no_script p k zero h = refl
+no_script p k (suc n) h = cc
+
+-- the first of the scripts to come, and the others
+first_script : (p : PlainScenario) (k n : ℕ) (marks : List Mark) (lists : List (List Mark))
+    → marks ∷ lists ≡ map (script_of p) (range_with_len k (suc n))
+    → (marks ≡ script_of p k) × (lists ≡ map (script_of p) (range_with_len (k + 1) n))
+first_script p k n marks lists h = (cc, cc)
+
+module _ {M : Type 0} (f : M → Record) (p : PlainScenario) (net : Network) (seed : ℕ) where
+  -- the cells so far are those of the first members, and the members and scripts that are left are those of the others
+  pub record OpenSoFar (ms : List M) (vs : List (Vec Mark Global)) (cs : List (Cell M)) : Type 0 where
+    pub left : ℕ
+    pub all : length cs + left ≡ length p.members
+    pub records : map f ms ≡ records_from p net seed (length cs) left
+    pub scripts : map (λ marks. marks.items) vs ≡ map (script_of p) (range_with_len (length cs) left)
+    pub cells : AreCells f cs (opening_cells (setting_of p net seed) (length cs) 0)
+
+  pub open_none : (ms : List M) (vs : List (Vec Mark Global)) → map f ms ≡ records_from p net seed 0 (length p.members)
+      → map (λ marks. marks.items) vs ≡ scripts_of p → OpenSoFar ms vs []
+  open_none ms vs h e = record {
+    left = length p.members;
+    all = zero-add _;
+    records = h;
+    scripts = e;
+    cells = none_seen f (setting_of p net seed);
+  }
+
+  -- the next member and its script, and those after it
+  record IsNext (m : M) (ms : List M) (v : Vec Mark Global) (vs : List (Vec Mark Global)) (k left : ℕ) : Type 0 where
+    rest : ℕ
+    one : left ≡ suc rest
+    opening : f m ≡ opening_record (fixed_of p net seed k)
+    records : map f ms ≡ records_from p net seed (suc k) rest
+    script : v.items ≡ script_of p k
+    scripts : map (λ marks. marks.items) vs ≡ map (script_of p) (range_with_len (k + 1) rest)
+
+  next_is : (m : M) (ms : List M) (v : Vec Mark Global) (vs : List (Vec Mark Global)) (cs : List (Cell M))
+      → (o : OpenSoFar (m ∷ ms) (v ∷ vs) cs) → IsNext m ms v vs (length cs) o.left
+  next_is m ms v vs cs o =
+      let k = length cs in
+      let r = record_first p net seed k o.left (f m) (map f ms) o.records in
+      let s = first_script p k r.0 v.items (map (λ (w : Vec Mark Global). w.items) vs)
+      (o.scripts ∙ ap (λ (n : ℕ). map (script_of p) (range_with_len k n)) r.1) in
+      record { rest = r.0; one = r.1; opening = r.2; records = r.3; script = s.0; scripts = s.1 }
+
+  -- the same of lists that begin so
+  begins : (m : M) (ms ns : List M) (v : Vec Mark Global) (vs ws : List (Vec Mark Global)) (cs : List (Cell M)) → ns ≡ m ∷ ms → ws ≡ v ∷ vs
+      → OpenSoFar ns ws cs → OpenSoFar (m ∷ ms) (v ∷ vs) cs
+  begins m ms ns v vs ws cs e d o =
+      subst (λ (l : List (Vec Mark Global)). OpenSoFar (m ∷ ms) l cs) d (subst (λ (l : List M). OpenSoFar l ws cs) e o)
+
+  -- the next script rises
+  pub next_rises : (m : M) (ms ns : List M) (v : Vec Mark Global) (vs ws : List (Vec Mark Global)) (cs : List (Cell M)) → ns ≡ m ∷ ms
+      → ws ≡ v ∷ vs → OpenSoFar ns ws cs → Rises mark_cmp v.items
+  next_rises m ms ns v vs ws cs e d o =
+      let i = next_is m ms v vs cs (begins m ms ns v vs ws cs e d o) in
+      subst (λ (marks : List Mark). Rises mark_cmp marks) (sym i.script) (scripts_rise p (length cs))
+
+  -- the cell of the next member is opened
+  pub open_next : (m : M) (ms ns : List M) (v : Vec Mark Global) (vs ws : List (Vec Mark Global)) (cs : List (Cell M)) (c : Cell M)
+      → ns ≡ m ∷ ms → ws ≡ v ∷ vs → OpenSoFar ns ws cs → IsCell f (fixed_part (f m)).member c (new_cell (f m) v.items 0)
+      → OpenSoFar ms vs (cs ++ c ∷ [])
+  open_next m ms ns v vs ws cs c e d before is =
+      let k = length cs in
+      let s = setting_of p net seed in
+      let o = begins m ms ns v vs ws cs e d before in
+      let i = next_is m ms v vs cs o in
+      let q = opening_cell s k in
+      let here = subst (λ j. IsCell f j c q) (sym (length_opening s k 0))
+      (opened_cell f p net seed k c (f m) v.items i.opening i.script is) in
+      let now : length (cs ++ c ∷ []) ≡ k + 1 = length-append cs (c ∷ []) in
+      let was = o.all in
+      let one = i.one in
+      record {
+        left = i.rest;
+        all = omega arith;
+        records = i.records ∙ ap (λ j. records_from p net seed j i.rest) (sym (now ∙ add-one k));
+        scripts = i.scripts ∙ ap (λ j. map (script_of p) (range_with_len j i.rest)) (sym now);
+        cells = subst (λ j. AreCells f (cs ++ c ∷ []) (opening_cells s j 0)) (sym now)
+            (subst (λ (qs : List PlainCell). AreCells f (cs ++ c ∷ []) qs) (sym (next_opening s k))
+            (more_cells f cs (opening_cells s k 0) c q o.cells here));
+      }
+
+  -- where no member or no script is left, all cells are open
+  pub open_all : (ms : List M) (vs : List (Vec Mark Global)) (cs : List (Cell M)) → OpenSoFar ms vs cs → (ms ≡ []) ⊎ (vs ≡ [])
+      → AreCells f cs (opening_cells (setting_of p net seed) (length p.members) 0)
+  open_all ms vs cs o none =
+      let zero : o.left ≡ 0 = elim none [
+        | inl e ↦ none_left p net seed (length cs) o.left (sym (ap (map f) e) ∙ o.records)
+        | inr e ↦ no_script p (length cs) o.left (sym (ap (map (λ (w : Vec Mark Global). w.items)) e) ∙ o.scripts)
+      ] in
+      let was = o.all in
+      let all : length cs ≡ length p.members = omega arith in
+      subst (λ j. AreCells f cs (opening_cells (setting_of p net seed) j 0)) all o.cells

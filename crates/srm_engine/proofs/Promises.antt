@@ -7,7 +7,7 @@ use Rattle.srm_net.specs.declared.role.Role.{Role}
 use Rattle.srm_net.specs.declared.role.Role.TheVariants.{Sender, Receiver, Late, Listener}
 use Rattle.srm_net.specs.Network.{Network}
 use Rattle.srm_net.specs.Paths.{distance}
-use Rattle.srm_net.specs.Least.{least, out as net_out}
+use Rattle.srm_net.specs.Least.{least, out}
 use Rattle.srm_scenario.specs.declared.parts.MemberSpec.{MemberSpec}
 use Rattle.srm_scenario.specs.Plain.{PlainScenario, network_of}
 use Rattle.srm_member.specs.Record.{fixed_part}
@@ -15,7 +15,7 @@ use Rattle.srm_net.specs.Roles.{is_listener}
 use Rattle.srm_member.specs.declared.fixed.Fixed.{Fixed as FixedPart}
 use Rattle.srm_cell.specs.Setting.{Setting, setting_of, member_at, no_member}
 use Rattle.srm_cell.specs.Cells.{PlainCell, time_of, next_event}
-use Rattle.srm_model.specs.Windows.{out, promise_by, promise_of, least_promise, way_of}
+use Rattle.srm_model.specs.Windows.{least_distance, promise_by, promise_of, least_promise, way_of}
 use Rattle.srm_engine.specs.Ends.{KeepFixed}
 use Rattle.srm_engine.specs.Soonest.{IsLeast, promised}
 use Rattle.srm_engine.proofs.SoonLemmas.{Any, with_le, with_in, with_one}
@@ -35,8 +35,8 @@ module _ (s : Setting) where
   pub promise_is : (m : ℕ) (c : PlainCell) → fixed_part c.holds ≡ s.fixed m
       → promise_of s m c ≡ promised s m c
   promise_is m c e =
-      ap (λ (f : FixedPart). cond (is_listener f.role) None (promise_by (time_of (next_event m c)) (out s m))) e
-      ∙ promise_if (is_listener (s.fixed m).role) (time_of (next_event m c)) (out s m)
+      ap (λ (f : FixedPart). cond (is_listener f.role) None (promise_by (time_of (next_event m c)) (least_distance s m))) e
+      ∙ promise_if (is_listener (s.fixed m).role) (time_of (next_event m c)) (least_distance s m)
 
   -- ---- the least promise of all
 
@@ -96,8 +96,8 @@ module _ (s : Setting) where
 
 -- ---- ways
 
-out_of : (p : PlainScenario) (net : Network) (seed m : ℕ) → net ≡ network_of p → net_out net m ≡ out (setting_of p net seed) m
-unfolding net_out out
+out_of : (p : PlainScenario) (net : Network) (seed m : ℕ) → net ≡ network_of p → out net m ≡ least_distance (setting_of p net seed) m
+unfolding out least_distance
 out_of p net seed m is =
     let hosts : length net.hosts ≡ length p.members = ap (λ (n : Network). length n.hosts) is
     ∙ length-map p.members (λ (k : MemberSpec). k.node) in
@@ -119,7 +119,7 @@ not_listener Listener ne = absurd (ne refl)
 
 pub way_of_other : (p : PlainScenario) (net : Network) (seed m : ℕ) (r : Role) → net ≡ network_of p
     → option_map (λ (k : MemberSpec). k.role) (slice_get p.members m) ≡ Some r → r ≢ Listener
-    → net_out net m ≡ way_of (setting_of p net seed) m
+    → out net m ≡ way_of (setting_of p net seed) m
 way_of_other p net seed m r is h ne =
-    out_of p net seed m is ∙ sym (ap (λ b. cond b None (out (setting_of p net seed) m))
+    out_of p net seed m is ∙ sym (ap (λ b. cond b None (least_distance (setting_of p net seed) m))
     (ap is_listener (role_at p m r h) ∙ not_listener r ne))

@@ -1,5 +1,5 @@
 -- The boxes that a run is given, and the cells that it opens.
-use Rattle.std.specs.Prelude.{◌≡◌, ◌+◌, ℕ, zero, suc, List, [], ◌∷◌, length}
+use Rattle.std.specs.Prelude.{◌≡◌, ℕ, zero, suc, List, [], ◌∷◌, length}
 use Rattle.srm_net.specs.Network.{Network}
 use Rattle.srm_scenario.specs.Plain.{PlainScenario}
 use Rattle.srm_member.specs.Record.{Record, opening_record}
@@ -27,11 +27,3 @@ module _ {M : Type 0} where
   Opens f p rs cs =
       (net : Network) (seed : ℕ) → HoldOpeningRecords p net seed rs
       → AreCells f cs (opening_cells (setting_of p net seed) (length p.members) 0)
-
-  -- after the next member's cell was added to those of the members before it
-  abbrev pub AddsMember : (M → Record) → PlainScenario → Record → List (Cell M) → List (Cell M)
-      → Type 0
-  AddsMember f p r old new =
-      (net : Network) (seed : ℕ) → let n = length old in
-      r ≡ opening_record (fixed_of p net seed n) → AreCells f old (opening_cells (setting_of p net seed) n 0)
-      → AreCells f new (opening_cells (setting_of p net seed) (n + 1) 0)

@@ -3,7 +3,7 @@ ghost use Rattle.std.specs.Prelude.{◌≡◌, ◌<◌, ◌≤◌, IfOk, length,
 ghost use Rattle.srm_net.specs.Limits.{end_of_time};
 ghost use Rattle.srm_cell.specs.PutRows.{PutsStep};
 ghost use Rattle.srm_engine.specs.Seen.{AreNextTimes, HandsTo, TakesStep, IsIndexOf, IsNewAt};
-ghost use Rattle.srm_engine.specs.Openings.{MayOpen, Opens, AddsMember};
+ghost use Rattle.srm_engine.specs.Openings.{MayOpen, Opens};
 ghost use Rattle.srm_engine.specs.Outcomes.{AllEnd, EndAs};
 
 use crate::next_times::NextTimes;
@@ -27,30 +27,14 @@ pub(crate) fn open_cells<M: Participant>(
     ensures few { IfOk result (λ cells. length cells.items < 65536) }
     ensures opened { IfOk result (λ cells. Opens M.plain scenario.now (map M.plain members.items) cells.items) }
 {
-    let mut cells = Vec::with_capacity(alloc, usize::from(scenario.members()))?;
-    for member in members {
-        add(alloc, scenario, member, &mut cells)?;
-    }
-    Ok(cells)
-}
-
-// Adds the cell of the next member, with its script.
-fn add<M: Participant>(
-    alloc: Global,
-    scenario: &Scenario,
-    member: M,
-    cells: &mut Vec<Cell<M>>,
-) -> Result<(), AllocError>
-    requires few { length scenario.now.members < 65536 }
-    requires number { length cells.old.items < length scenario.now.members }
-    ensures { IfOk result (λ _. AddsMember M.plain scenario.now (M.plain member) cells.old.items cells.new.items) }
-{
-    let number = cells.len() as u16;
-    let Ok(script) = scenario.script(alloc, number) else {
+    let Ok(scripts) = scenario.scripts(alloc) else {
         return Err(AllocError);
     };
-    cells.push(Cell::new(alloc, member, script, 0))?;
-    Ok(())
+    let mut cells = Vec::with_capacity(alloc, usize::from(scenario.members()))?;
+    for (member, script) in members.into_iter().zip(scripts) {
+        cells.push(Cell::new(alloc, member, script, 0))?;
+    }
+    Ok(cells)
 }
 
 /// What each member ends with, as it left or as it is, in order of the cells.

@@ -9,14 +9,14 @@ use Rattle.srm_scenario.specs.declared.parts.DrawSpec.{DrawSpec}
 use Rattle.srm_scenario.specs.declared.parts.SessionSpec.{SessionSpec}
 use Rattle.srm_scenario.specs.declared.fault.ScenarioFault.{ScenarioFault}
 use Rattle.srm_scenario.specs.declared.fault.ScenarioFault.TheVariants as fault
-use Rattle.srm_scenario.specs.Rules.{times_of}
+use Rattle.srm_scenario.specs.Rules.{times_repeated}
 use Rattle.srm_explain.specs.declared.copies.Copied.{Copied}
 
 -- this copy of one of these elements stands at a place of the list that they make: those before it stand for the others
 abbrev pub IsCopied : List Data → ℕ → Copied → Type 0
 IsCopied ds place c =
-    (d : Data) × (slice_get ds c.written ≡ Some d) × (c.times ≡ times_of d) × (c.copy < c.times)
-    × (place ≡ sum_by times_of (take c.written ds) + c.copy)
+    (d : Data) × (slice_get ds c.written ≡ Some d) × (c.times ≡ times_repeated d) × (c.copy < c.times)
+    × (place ≡ sum_by times_repeated (take c.written ds) + c.copy)
 
 -- the numbers of an element that rise from copy to copy
 abbrev pub member_numbers : MemberEntry → List ℕ

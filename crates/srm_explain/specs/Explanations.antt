@@ -91,8 +91,8 @@ abbrev pub TellsFlaws : List Flaw → List ℕ → Type 0
 TellsFlaws flaws told = (flaws ≢ []) × (picture : List ℕ) × (told ≡ picture ++ flaw_notes flaws)
 
 -- lines tell why the links make no tree of the nodes, in the draft that a document gives
-abbrev pub TellsTree : Members → List ℕ → Type 0
-TellsTree top told =
+abbrev pub TellsNoTree : Members → List ℕ → Type 0
+TellsNoTree top told =
     (l : Draft) × IsDraft top l
     × (flaws : List Flaw) × AllByRecursion (IsFlaw (names_parents top) l.nodes (links_of l)) flaws
     × TellsFlaws flaws told
@@ -105,7 +105,7 @@ Explains (BadKey p place) text told =
     ((top : Members) × (parse_document text ≡ Some top) × TellsKey p place top told)
     ⊎ (told ≡ note (general_sentence (BadKey p place)))
 Explains NotTree text told =
-    ((top : Members) × (parse_document text ≡ Some top) × TellsTree top told)
+    ((top : Members) × (parse_document text ≡ Some top) × TellsNoTree top told)
     ⊎ (told ≡ note (general_sentence NotTree))
 Explains (BadMember place) text told = ExplainsMisfit (BadMember place) part.Member place text told
 Explains (BadDraw place) text told = ExplainsMisfit (BadDraw place) part.Draw place text told

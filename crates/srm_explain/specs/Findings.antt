@@ -17,7 +17,7 @@ use Rattle.srm_scenario.specs.declared.rule.Rule.{Rule}
 use Rattle.srm_scenario.specs.declared.rule.Words.TheVariants.{Roles, Topologies, TopologiesAndParents}
 use Rattle.srm_scenario.specs.Keys.{name_of}
 use Rattle.srm_scenario.specs.Rules.{is_kind, is_whole, has_only, link_rules, member_rules, draw_rules, session_rules}
-use Rattle.srm_scenario.specs.Rules.{drop_rules, outage_rules, times_of, top_rules}
+use Rattle.srm_scenario.specs.Rules.{drop_rules, outage_rules, times_repeated, top_rules}
 use Rattle.srm_scenario.specs.Described.{array_at, array_of, constants_of, every_of, form_of, names_parents, number}
 use Rattle.srm_scenario.specs.Described.{version_of}
 use Rattle.srm_scenario.specs.declared.version.Version.{Version}
@@ -89,12 +89,12 @@ abbrev pub PassesRange : Rule → Members → ℕ → ℕ → Type 0
 PassesRange r ms copy n =
     (rise : ℕ) × (rise_of r.key (every_of (table ms)) ≡ Some rise)
     × (low : ℕ) × (last : ℕ) × (r.kind ≡ Whole low last)
-    × (nat_lt copy (times_of (table ms)) ≡ true)
+    × (nat_lt copy (times_repeated (table ms)) ≡ true)
     × (n ≡ number (name_of r.key) ms + copy * rise) × (nat_lt last n ≡ true)
 
 -- how many elements these are; where a kind says for how many they stand, for how many they do
 abbrev pub length_by : Kind → List Data → ℕ
-length_by (Repeated most) ds = sum_by times_of ds
+length_by (Repeated most) ds = sum_by times_repeated ds
 length_by kind ds = length ds
 
 -- whether an array of this kind may have so many elements, or stand for so many

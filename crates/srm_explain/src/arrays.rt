@@ -1,12 +1,12 @@
 //! What is wrong with the elements of an array, or with their number.
 ghost use Rattle.std.specs.Prelude.{◌≡◌, IfSome, map, sum_by};
 ghost use Rattle.toml.specs.View.{view};
-ghost use Rattle.srm_scenario.specs.Rules.{times_of};
+ghost use Rattle.srm_scenario.specs.Rules.{times_repeated};
 ghost use Rattle.srm_explain.specs.Findings.{is_item, is_length, length_by, BreaksArray, IsBadItem};
 
 use crate::finding::Finding;
 use srm_scenario::rule::{Kind, Rule};
-use srm_scenario::table::{is_kind, times_of};
+use srm_scenario::table::{is_kind, times_repeated};
 use toml::Value;
 
 /// How the elements of an array break the kind of a rule, as far as their number tells it, or one of them.
@@ -33,11 +33,11 @@ fn length_by(values: &[Value], kind: Kind) -> Option<u64>
 
 // For how many elements values stand together.
 fn made_by(values: &[Value]) -> Option<u64>
-    ensures { IfSome result (λ n. n ≡ sum_by times_of (map view values.now)) }
+    ensures { IfSome result (λ n. n ≡ sum_by times_repeated (map view values.now)) }
 {
     let mut made: u64 = 0;
     for value in values {
-        made = made.checked_add(times_of(value))?;
+        made = made.checked_add(times_repeated(value))?;
     }
     Some(made)
 }

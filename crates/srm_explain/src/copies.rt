@@ -8,7 +8,7 @@ use srm_scenario::draft::Draft;
 use srm_scenario::entry::MemberEntry;
 use srm_scenario::fault::ScenarioFault;
 use srm_scenario::parts::{DrawSpec, SessionSpec};
-use srm_scenario::table::times_of;
+use srm_scenario::table::times_repeated;
 use std::alloc::{AllocError, Global};
 use toml::Value;
 
@@ -29,7 +29,7 @@ pub(crate) fn copied_at(values: &[Value], place: usize) -> Option<Copied>
 {
     let mut left = place as u64;
     for (written, value) in values.iter().enumerate() {
-        let times = times_of(value);
+        let times = times_repeated(value);
         if left < times {
             return Some(Copied {
                 written,

@@ -29,7 +29,7 @@ use Rattle.srm_cell.proofs.FitSettings.{settings_are_fit}
 use Rattle.srm_net.specs.Keys.{key_cmp}
 use Rattle.srm_net.proofs.TotalOrders.{key_total}
 use Rattle.srm_model.specs.World.{World, least_event}
-use Rattle.srm_model.specs.Windows.{IsWidth, least_with, out, promise_by, promise_of, least_promise, promise_end}
+use Rattle.srm_model.specs.Windows.{IsWidth, least_distance, least_with, promise_by, promise_of, least_promise, promise_end}
 use Rattle.srm_model.specs.Laws.{LinkDelaysAreSafe, PromiseEndsAreSafe}
 use Rattle.srm_model.proofs.LawProofs.{windows_are_safe, promises_are_safe}
 use Rattle.srm_model.proofs.Sequential.{good_reached, least_of_all}
@@ -129,8 +129,8 @@ least_with_le n None = omega arith
 least_with_le n (Some k) = min-le_left n k
 
 module _ (s : Setting) where
-  out_near : (m b : ℕ) → b < s.traffic.members → b ≢ m → (k : ℕ) × (out s m ≡ Some k) × (k ≤ s.traffic.distance m b)
-  unfolding out
+  out_near : (m b : ℕ) → b < s.traffic.members → b ≢ m → (k : ℕ) × (least_distance s m ≡ Some k) × (k ≤ s.traffic.distance m b)
+  unfolding least_distance
   out_near m b lt ne = least_in (s.traffic.distance m b) _
       (in_mapped (s.traffic.distance m) b _ (in_filtered (λ x. not (x == m)) b (is_other b m ne) _
       (in_range s.traffic.members 0 b (omega arith) (omega arith))))
@@ -157,9 +157,9 @@ module _ (s : Setting) where
   silent_listener (Gone f) h = tt
 
   promise_is : (m : ℕ) (c : PlainCell) (e : Event) (k : ℕ) → is_listener (fixed_part c.holds).role ≡ false → next_event m c ≡ Some e
-      → out s m ≡ Some k → promise_of s m c ≡ Some (e.key.time + k)
+      → least_distance s m ≡ Some k → promise_of s m c ≡ Some (e.key.time + k)
   promise_is m c e k role next way =
-      ap (λ b. cond b None (promise_by (time_of (next_event m c)) (out s m))) role ∙ (λ i. promise_by (time_of (next i)) (way i))
+      ap (λ b. cond b None (promise_by (time_of (next_event m c)) (least_distance s m))) role ∙ (λ i. promise_by (time_of (next i)) (way i))
 
   promised : (w : World) (m : ℕ) (c : PlainCell) (e : Event) → slice_get w.cells m ≡ Some c → next_event m c ≡ Some e → Silent c.holds
       ⊎ ((b : ℕ) → b < s.traffic.members → b ≢ m → promise_end s w ≤ e.key.time + s.traffic.distance m b)
@@ -187,8 +187,8 @@ module _ (s : Setting) where
         | false ↦ λ e. rw e (away a (omega arith) (eqb-false _ _ e), all_away m away n (a + 1) (omega arith))
       ] refl
 
-  out_pos : (m k : ℕ) → ((b : ℕ) → b < s.traffic.members → b ≢ m → 0 < s.traffic.distance m b) → out s m ≡ Some k → 0 < k
-  unfolding out
+  out_pos : (m k : ℕ) → ((b : ℕ) → b < s.traffic.members → b ≢ m → 0 < s.traffic.distance m b) → least_distance s m ≡ Some k → 0 < k
+  unfolding least_distance
   out_pos m k away h = least_pos _ k h (all_away m away s.traffic.members 0 (omega arith))
 
   with_later : (t n : ℕ) (o : Option ℕ) → t < n → ((k : ℕ) → o ≡ Some k → t < k) → t < least_with n o
@@ -212,14 +212,14 @@ module _ (s : Setting) where
 
   all_later : (t : ℕ) → t < s.traffic.until → (i : ℕ) (cs : List PlainCell)
       → ((j : ℕ) (c : PlainCell) (e : Event) → slice_get cs j ≡ Some c → next_event (i + j) c ≡ Some e → t ≤ e.key.time)
-      → ((m : ℕ) → i ≤ m → m < i + length cs → (k : ℕ) → out s m ≡ Some k → 0 < k) → t < least_promise s i cs
+      → ((m : ℕ) → i ≤ m → m < i + length cs → (k : ℕ) → least_distance s m ≡ Some k → 0 < k) → t < least_promise s i cs
   all_later t lt i [] from away = lt
   all_later t lt i (c ∷ cs) from away =
       let rest = all_later t lt (i + 1) cs (λ j b e g h. from (suc j) b e
       g (let k : (i + 1) + j ≡ i + suc j = omega arith in subst (λ n. next_event n b ≡ Some e) k h))
       (λ m le l k h. away m (omega arith) (omega arith) k h) in
       with_later t (least_promise s (i + 1) cs) (promise_of s i c) rest
-      (λ k h. later_by t (time_of (next_event i c)) (out s i) k (from_cond (is_listener (fixed_part c.holds).role) _ k h)
+      (λ k h. later_by t (time_of (next_event i c)) (least_distance s i) k (from_cond (is_listener (fixed_part c.holds).role) _ k h)
       (time_from t i c (next_event i c) (λ e q. from 0 c e refl (rw add-zero q)))
       (λ b q. away i (omega arith) (omega arith) b q))
 

@@ -17,8 +17,9 @@ least_with n None = n
 least_with n (Some k) = min n k
 
 -- the least distance from a member to another, if there is another
-unfoldable pub out : Setting → ℕ → Option ℕ
-out s m = least (map (s.traffic.distance m) (filter (λ b. not (b == m)) (range_with_len 0 s.traffic.members)))
+unfoldable pub least_distance : Setting → ℕ → Option ℕ
+least_distance s m =
+    least (map (s.traffic.distance m) (filter (λ b. not (b == m)) (range_with_len 0 s.traffic.members)))
 
 -- the least pending time of all
 abbrev pub least_time : World → Option ℕ
@@ -43,12 +44,12 @@ promise_by _ _ = None
 -- another member
 abbrev pub promise_of : Setting → ℕ → PlainCell → Option ℕ
 promise_of s m c =
-    if is_listener (fixed_part c.holds).role then None else promise_by (time_of (next_event m c)) (out s m)
+    if is_listener (fixed_part c.holds).role then None else promise_by (time_of (next_event m c)) (least_distance s m)
 
 -- the least way that member m's packets have before them: that to the nearest other member, if m may send any and there
 -- is one
 abbrev pub way_of : Setting → ℕ → Option ℕ
-way_of s m = if is_listener (s.fixed m).role then None else out s m
+way_of s m = if is_listener (s.fixed m).role then None else least_distance s m
 
 -- the least of `until` and of the promises of the members from i on
 abbrev pub least_promise : Setting → ℕ → List PlainCell → ℕ

@@ -13,7 +13,7 @@ use Rattle.toml.specs.declared.value.Value.{Value}
 use Rattle.std.proofs.Common.{codes}
 use Rattle.srm_scenario.specs.KeyLimits.{last_page, most_pages}
 use Rattle.srm_scenario.specs.Rules.{count_items, all_whole, is_met, is_whole, meets, pages_rule}
-use Rattle.srm_scenario.specs.Described.{items_list, array_of, array_at, number_of, table_of}
+use Rattle.srm_scenario.specs.Described.{items_list, array_of, array_at, whole_number_of, table_of}
 
 pub items_list-of : (ds : List Data) → items_list (items_of ds) ≡ ds
 items_list-of [] = refl
@@ -76,9 +76,9 @@ pages_whole ms vs h same = by (get_member (codes "pages") ms) h same
 
 -- the numbers of an array's values are those of the array at its key
 pub numbers_read : (key : List ℕ) (ms : Members) (vs : List Value) → map view vs ≡ array_at key ms
-    → map (λ v. unwrap_or (number_of (view v)) 0) vs ≡ map (λ d. unwrap_or (number_of d) 0) (array_at key ms)
+    → map (λ v. unwrap_or (whole_number_of (view v)) 0) vs ≡ map (λ d. unwrap_or (whole_number_of d) 0) (array_at key ms)
 numbers_read key ms vs same =
-    sym (map-view (λ d. unwrap_or (number_of d) 0) vs) ∙ ap (map (λ d. unwrap_or (number_of d) 0)) same
+    sym (map-view (λ d. unwrap_or (whole_number_of d) 0) vs) ∙ ap (map (λ d. unwrap_or (whole_number_of d) 0)) same
 
 -- a whole number up to a limit is one up to a higher limit
 wider : (high most : ℕ) → high ≤ most → (d : Data) → is_whole 0 high d ≡ true → is_whole 0 most d ≡ true

@@ -5,7 +5,7 @@ use Rattle.srm_scenario.specs.declared.fault.Part.TheVariants as part
 use Rattle.srm_scenario.specs.declared.version.Version.{Version}
 use Rattle.srm_scenario.specs.declared.fault.ScenarioFault.{ScenarioFault}
 use Rattle.srm_scenario.specs.declared.fault.ScenarioFault.TheVariants.{BadKey}
-use Rattle.srm_scenario.specs.Rules.{fits}
+use Rattle.srm_scenario.specs.Rules.{fits_rules}
 use Rattle.srm_scenario.specs.Described.{array_at, version_of}
 use Rattle.srm_scenario.specs.Faults.{first, IsFault, fault_unless, rules_of_top, top_faults, key_faults}
 use Rattle.srm_scenario.specs.Faults.{faults_of_links, faults_of_members, faults_of_draws, faults_of_sessions, faults_of_drops}
@@ -60,48 +60,49 @@ module _ (ms : Members) where
   abbrev outages : List ScenarioFault
   outages = faults_of_outages (version_of ms) (array_at (codes "outage") ms)
 
-  no_top_fault : fits (rules_of_top ms) ms ≡ true → top_faults ms ≡ []
+  no_top_fault : fits_rules (rules_of_top ms) ms ≡ true → top_faults ms ≡ []
   no_top_fault h = ap (λ b. fault_unless b (BadKey part.Top 0)) h
 
-  pub top_fault : fits (rules_of_top ms) ms ≡ false → first (key_faults ms) ≡ Some (BadKey part.Top 0)
+  pub top_fault : fits_rules (rules_of_top ms) ms ≡ false → first (key_faults ms) ≡ Some (BadKey part.Top 0)
   unfolding key_faults
   top_fault h = first-left (top_faults ms) _ (BadKey part.Top 0) (ap (λ b. first (fault_unless b (BadKey part.Top 0))) h)
 
-  pub link_fault : (e : ScenarioFault) → fits (rules_of_top ms) ms ≡ true → IsFault e links → IsFault e (key_faults ms)
+  pub link_fault : (e : ScenarioFault) → fits_rules (rules_of_top ms) ms ≡ true → IsFault e links → IsFault e (key_faults ms)
   unfolding key_faults
   link_fault e top h = later (top_faults ms) _ e (no_top_fault top) (here links _ e h)
 
-  pub member_fault : (e : ScenarioFault) → fits (rules_of_top ms) ms ≡ true → links ≡ [] → IsFault e members → IsFault e (key_faults ms)
+  pub member_fault : (e : ScenarioFault) → fits_rules (rules_of_top ms) ms ≡ true → links ≡ [] → IsFault e members
+      → IsFault e (key_faults ms)
   unfolding key_faults
   member_fault e top l h = later (top_faults ms) _ e (no_top_fault top) (later links _ e l (here members _ e h))
 
-  pub draw_fault : (e : ScenarioFault) → fits (rules_of_top ms) ms ≡ true → links ≡ [] → members ≡ [] → IsFault e draws
+  pub draw_fault : (e : ScenarioFault) → fits_rules (rules_of_top ms) ms ≡ true → links ≡ [] → members ≡ [] → IsFault e draws
       → IsFault e (key_faults ms)
   unfolding key_faults
   draw_fault e top l m h = later (top_faults ms) _ e (no_top_fault top) (later links _ e l (later members _ e m (here draws _ e h)))
 
-  pub session_fault : (e : ScenarioFault) → fits (rules_of_top ms) ms ≡ true → links ≡ [] → members ≡ [] → draws ≡ [] → IsFault e sessions
-      → IsFault e (key_faults ms)
+  pub session_fault : (e : ScenarioFault) → fits_rules (rules_of_top ms) ms ≡ true → links ≡ [] → members ≡ [] → draws ≡ []
+      → IsFault e sessions → IsFault e (key_faults ms)
   unfolding key_faults
   session_fault e top l m d h =
       later (top_faults ms) _ e (no_top_fault top) (later links _ e l (later members _ e m (later draws _ e d (here sessions _ e h))))
 
-  pub drop_fault : (e : ScenarioFault) → fits (rules_of_top ms) ms ≡ true → links ≡ [] → members ≡ [] → draws ≡ [] → sessions ≡ []
+  pub drop_fault : (e : ScenarioFault) → fits_rules (rules_of_top ms) ms ≡ true → links ≡ [] → members ≡ [] → draws ≡ [] → sessions ≡ []
       → IsFault e drops → IsFault e (key_faults ms)
   unfolding key_faults
   drop_fault e top l m d s h =
       later (top_faults ms) _ e (no_top_fault top)
       (later links _ e l (later members _ e m (later draws _ e d (later sessions _ e s (here drops _ e h)))))
 
-  pub outage_fault : (e : ScenarioFault) → fits (rules_of_top ms) ms ≡ true → links ≡ [] → members ≡ [] → draws ≡ [] → sessions ≡ [] → drops
-      ≡ [] → IsFault e outages → IsFault e (key_faults ms)
+  pub outage_fault : (e : ScenarioFault) → fits_rules (rules_of_top ms) ms ≡ true → links ≡ [] → members ≡ [] → draws ≡ [] → sessions ≡ []
+      → drops ≡ [] → IsFault e outages → IsFault e (key_faults ms)
   unfolding key_faults
   outage_fault e top l m d s p h =
       later (top_faults ms) _ e (no_top_fault top)
       (later links _ e l (later members _ e m (later draws _ e d (later sessions _ e s (later drops _ e p (here outages _ e h))))))
 
-  pub no_key_fault : fits (rules_of_top ms) ms ≡ true → links ≡ [] → members ≡ [] → draws ≡ [] → sessions ≡ [] → drops ≡ [] → outages ≡ []
-      → key_faults ms ≡ []
+  pub no_key_fault : fits_rules (rules_of_top ms) ms ≡ true → links ≡ [] → members ≡ [] → draws ≡ [] → sessions ≡ [] → drops ≡ []
+      → outages ≡ [] → key_faults ms ≡ []
   unfolding key_faults
   no_key_fault top l m d s p o =
       no_faults (top_faults ms) _ (no_top_fault top)

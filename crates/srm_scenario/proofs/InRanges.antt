@@ -24,10 +24,10 @@ use Rattle.srm_scenario.specs.declared.rule.Kind.TheVariants.{Whole, Each}
 use Rattle.srm_scenario.specs.declared.rule.Need.TheVariants.{Optional, Refused}
 use Rattle.srm_scenario.specs.declared.rule.Rule.{Rule}
 use Rattle.srm_scenario.specs.KeyLimits.{greatest_delay, last_stream}
-use Rattle.srm_scenario.specs.Rules.{rule, rule_if, allows_back, back_rule, is_met, meets, fits, fits_element, link_rules, member_rules}
-use Rattle.srm_scenario.specs.Rules.{all_whole, count_items, is_whole, optional_number}
+use Rattle.srm_scenario.specs.Rules.{rule, rule_if, allows_back, back_rule, is_met, meets, fits_rules, fits_element, link_rules}
+use Rattle.srm_scenario.specs.Rules.{member_rules, all_whole, count_items, is_whole, optional_number}
 use Rattle.srm_scenario.specs.Keys.{name_of}
-use Rattle.srm_scenario.specs.Described.{version_of, delays_of, number_of, number, array_of, array_at, table_of}
+use Rattle.srm_scenario.specs.Described.{version_of, delays_of, whole_number_of, number, array_of, array_at, table_of}
 use Rattle.srm_scenario.specs.Described.{link_of, member_of, elements_at, links_to_parents, nodes_in, links_in, described_scenario}
 use Rattle.srm_scenario.specs.Described.{topology_of, items_list, names_parents, number_at, values_at, delay_at, back_delay_at, links_from}
 use Rattle.srm_scenario.specs.Described.{parents_in, given_links, repeated_at, member_copy}
@@ -45,8 +45,8 @@ use Rattle.srm_net.specs.Limits.{end_of_time, most_links}
 
 -- ---- elements
 
-one_read : {A : Type 0} (P : A → Type 0) (reading : Members → A) (rules : List Rule) → ((m : Members) → fits rules m ≡ true → P (reading m))
-    → (d : Data) → fits_element rules d ≡ true → P (reading (table_of d))
+one_read : {A : Type 0} (P : A → Type 0) (reading : Members → A) (rules : List Rule)
+    → ((m : Members) → fits_rules rules m ≡ true → P (reading m)) → (d : Data) → fits_element rules d ≡ true → P (reading (table_of d))
 one_read P reading rules f (table m) h = f m h
 one_read P reading rules f (integer t) h = absurd (false≢true h)
 one_read P reading rules f (string t) h = absurd (false≢true h)
@@ -55,24 +55,24 @@ one_read P reading rules f (boolean t) h = absurd (false≢true h)
 one_read P reading rules f (datetime t) h = absurd (false≢true h)
 one_read P reading rules f (array t) h = absurd (false≢true h)
 
-all_read : {A : Type 0} (P : A → Type 0) (reading : Members → A) (rules : List Rule) → ((m : Members) → fits rules m ≡ true → P (reading m))
-    → (ds : List Data)
+all_read : {A : Type 0} (P : A → Type 0) (reading : Members → A) (rules : List Rule)
+    → ((m : Members) → fits_rules rules m ≡ true → P (reading m)) → (ds : List Data)
     → AllByRecursion (λ d. fits_element rules d ≡ true) ds → AllByRecursion P (map (λ d. reading (table_of d)) ds)
 all_read P reading rules f [] h = tt
 all_read P reading rules f (d ∷ ds) h = (one_read P reading rules f d h.0, all_read P reading rules f ds h.1)
 
 -- what holds of each table that fits the rules holds of what elements without a fault are read as
 read_elements : {A : Type 0} (P : A → Type 0) (p : Part) (reading : Members → A) (rules : List Rule)
-    → ((m : Members) → fits rules m ≡ true → P (reading m)) → (ds : List Data)
+    → ((m : Members) → fits_rules rules m ≡ true → P (reading m)) → (ds : List Data)
     → element_faults p rules ds ≡ [] → AllByRecursion P (map (λ d. reading (table_of d)) ds)
 read_elements P p reading rules f ds h = all_read P reading rules f ds (none_by (BadKey p) (fits_element rules) 0 ds h)
 
-link_delay : (v : Version) (m : Members) → fits (link_rules v) m ≡ true → HasDelays (link_of m)
+link_delay : (v : Version) (m : Members) → fits_rules (link_rules v) m ≡ true → HasDelays (link_of m)
 link_delay v m h =
     let there = number_fits (link_rules v) m h 2 key.Delay 1 greatest_delay refl in
     (there, back_fits m (allows_back v) (rule_met (link_rules v) m h 3 (back_rule (allows_back v)) refl) there)
 
-member_range : (v : Version) (m : Members) → fits (member_rules v) m ≡ true → MemberInRange (entry_of m).spec
+member_range : (v : Version) (m : Members) → fits_rules (member_rules v) m ≡ true → MemberInRange (entry_of m).spec
 member_range v m h =
     let few = number_fits (member_rules v) m h 2 key.Stream 0 last_stream refl in
     record {
@@ -81,10 +81,10 @@ member_range v m h =
           (rule_met (member_rules v) m h 4 (rule key.Leave (Whole 1 end_of_time) Optional) refl);
     }
 
-pages_own : (v : Version) (m : Members) → fits (member_rules v) m ≡ true → HasItsPages (entry_of m)
+pages_own : (v : Version) (m : Members) → fits_rules (member_rules v) m ≡ true → HasItsPages (entry_of m)
 pages_own v m h none = by (get_member (codes "pages") m) none
   where
-    by : (o : Option Data) → is_some o ≡ false → map (λ d. unwrap_or (number_of d) 0) (array_of o) ≡ []
+    by : (o : Option Data) → is_some o ≡ false → map (λ d. unwrap_or (whole_number_of d) 0) (array_of o) ≡ []
     by None e = refl
     by (Some d) e = absurd (false≢true (sym e))
 
@@ -107,8 +107,8 @@ listed_delay (Some t) nodes delays links h all = parents_delay t delays 1 (nodes
 -- ---- links to parents
 
 each_fits : (low high : ℕ) (ds : Items) (k : ℕ) → all_whole low high ds ≡ true → k < count_items ds
-    → (low ≤ unwrap_or (option_and_then number_of (slice_get (items_list ds) k)) 0)
-    × (unwrap_or (option_and_then number_of (slice_get (items_list ds) k)) 0 ≤ high)
+    → (low ≤ unwrap_or (option_and_then whole_number_of (slice_get (items_list ds) k)) 0)
+    × (unwrap_or (option_and_then whole_number_of (slice_get (items_list ds) k)) 0 ≤ high)
 each_fits low high no_items k h lt = absurd (omega arith)
 each_fits low high (item d ds) zero h lt = whole_number low high 0 d (and_parts (is_whole low high d) (all_whole low high ds) h).0
 each_fits low high (item d ds) (suc k) h lt =
@@ -136,7 +136,7 @@ delay_in allowed k n ms h i other lt f = by (get_member (name_of k) ms) allowed 
     by (Some (datetime t)) true e g = absurd (false≢true e)
     by (Some (table t)) true e g = absurd (false≢true e)
 
-module _ (ms : Members) (h : fits (rules_of_top ms) ms ≡ true) (p : names_parents ms ≡ true) where
+module _ (ms : Members) (h : fits_rules (rules_of_top ms) ms ≡ true) (p : names_parents ms ≡ true) where
   abbrev count : ℕ
   count = length (array_at (codes "parent") ms)
 
@@ -153,7 +153,7 @@ module _ (ms : Members) (h : fits (rules_of_top ms) ms ≡ true) (p : names_pare
   parent_delays k (x ∷ ps) le =
       ((there_fits k (omega arith), home_fits k (omega arith)), parent_delays (k + 1) ps (omega arith))
 
-given_delays : (ms : Members) → fits (rules_of_top ms) ms ≡ true → AllByRecursion HasDelays (elements_at (codes "link") link_of ms)
+given_delays : (ms : Members) → fits_rules (rules_of_top ms) ms ≡ true → AllByRecursion HasDelays (elements_at (codes "link") link_of ms)
     → AllByRecursion HasDelays (given_links ms)
 given_delays ms h listed = by (names_parents ms) refl
   where
@@ -162,14 +162,14 @@ given_delays ms h listed = by (names_parents ms) refl
     by true e =
         parent_delays ms h e 0 (parents_in ms)
         (let same : length (parents_in ms) ≡ length (array_at (codes "parent") ms) =
-        length-map (array_at (codes "parent") ms) (λ d. unwrap_or (number_of d) 0) in omega arith)
+        length-map (array_at (codes "parent") ms) (λ d. unwrap_or (whole_number_of d) 0) in omega arith)
     by false e = listed
 
 -- ---- all together
 
-top_part : (ms : Members) → key_faults ms ≡ [] → fits (rules_of_top ms) ms ≡ true
+top_part : (ms : Members) → key_faults ms ≡ [] → fits_rules (rules_of_top ms) ms ≡ true
 unfolding key_faults
-top_part ms h = unless_true (fits (rules_of_top ms) ms) _ (empty_parts (top_faults ms) _ h).0
+top_part ms h = unless_true (fits_rules (rules_of_top ms) ms) _ (empty_parts (top_faults ms) _ h).0
 
 link_part : (ms : Members) → key_faults ms ≡ [] → faults_of_links (version_of ms) (array_at (codes "link") ms) ≡ []
 unfolding key_faults

@@ -14,10 +14,10 @@ use Rattle.srm_scenario.specs.Keys.{name_of}
 use Rattle.srm_net.specs.Network.{IsLinkDelay}
 use Rattle.srm_scenario.specs.KeyLimits.{greatest_delay}
 use Rattle.srm_scenario.specs.declared.key.Key.TheVariants as key
-use Rattle.srm_scenario.specs.Rules.{rule, rule_if, back_rule, meets, is_met, is_whole, has_only, fits}
-use Rattle.srm_scenario.specs.Described.{number_of, optional_number, number, back_at}
+use Rattle.srm_scenario.specs.Rules.{rule, rule_if, back_rule, meets, is_met, is_whole, has_only, fits_rules}
+use Rattle.srm_scenario.specs.Described.{whole_number_of, optional_number, number, back_at}
 
-whole_range : (low high : ℕ) (d : Data) → is_whole low high d ≡ true → (n : ℕ) → number_of d ≡ Some n → (low ≤ n) × (n ≤ high)
+whole_range : (low high : ℕ) (d : Data) → is_whole low high d ≡ true → (n : ℕ) → whole_number_of d ≡ Some n → (low ≤ n) × (n ≤ high)
 whole_range low high (integer (pos m)) h n e =
     let same : m ≡ n = cc in
     let (p, q) = and_parts (nat_le low m) (nat_le m high) h in
@@ -30,8 +30,8 @@ whole_range low high (datetime t) h n e = absurd (false≢true h)
 whole_range low high (array t) h n e = absurd (false≢true h)
 whole_range low high (table t) h n e = absurd (false≢true h)
 
-pub whole_number : (low high other : ℕ) (d : Data) → is_whole low high d ≡ true → (low ≤ unwrap_or (number_of d) other)
-    × (unwrap_or (number_of d) other ≤ high)
+pub whole_number : (low high other : ℕ) (d : Data) → is_whole low high d ≡ true → (low ≤ unwrap_or (whole_number_of d) other)
+    × (unwrap_or (whole_number_of d) other ≤ high)
 whole_number low high other (integer (pos m)) h =
     let (p, q) = and_parts (nat_le low m) (nat_le m high) h in
     (grind (arith, nat_tests), grind (arith, nat_tests))
@@ -47,8 +47,8 @@ pub required_number : (key : Key) (low high : ℕ) (ms : Members) → is_met ms 
     → (low ≤ number (name_of key) ms) × (number (name_of key) ms ≤ high)
 required_number key low high ms h = by (get_member (name_of key) ms) h
   where
-    by : (o : Option Data) → meets Required (Whole low high) o ≡ true → (low ≤ unwrap_or (option_and_then number_of o) 0)
-        × (unwrap_or (option_and_then number_of o) 0 ≤ high)
+    by : (o : Option Data) → meets Required (Whole low high) o ≡ true → (low ≤ unwrap_or (option_and_then whole_number_of o) 0)
+        × (unwrap_or (option_and_then whole_number_of o) 0 ≤ high)
     by None e = absurd (false≢true e)
     by (Some d) e = whole_number low high 0 d e
 
@@ -56,7 +56,7 @@ pub optional_bound : (key : Key) (low high : ℕ) (ms : Members) → is_met ms (
     → optional_number (name_of key) ms ≡ Some n → n ≤ high
 optional_bound key low high ms h = by (get_member (name_of key) ms) h
   where
-    by : (o : Option Data) → meets Optional (Whole low high) o ≡ true → (n : ℕ) → option_and_then number_of o ≡ Some n → n ≤ high
+    by : (o : Option Data) → meets Optional (Whole low high) o ≡ true → (n : ℕ) → option_and_then whole_number_of o ≡ Some n → n ≤ high
     by None e n f = cc
     by (Some d) e n f = let r = whole_range low high d e n f in r.1
 
@@ -67,7 +67,7 @@ pub or_fits : (allowed : Bool) (key : Key) (low high other : ℕ) (ms : Members)
 or_fits allowed key low high other ms h least most = by (get_member (name_of key) ms) allowed h
   where
     by : (o : Option Data) (b : Bool) → meets (cond b Optional Refused) (Whole low high) o ≡ true
-        → (low ≤ unwrap_or (option_and_then number_of o) other) × (unwrap_or (option_and_then number_of o) other ≤ high)
+        → (low ≤ unwrap_or (option_and_then whole_number_of o) other) × (unwrap_or (option_and_then whole_number_of o) other ≤ high)
     by None b e = (least, most)
     by (Some d) true e = whole_number low high other d e
     by (Some d) false e = absurd (false≢true e)
@@ -87,12 +87,12 @@ all_at p (y ∷ ys) zero x h e =
 all_at p (y ∷ ys) (suc n) x h e = all_at p ys n x (and_parts (p y) (list_all p ys) h).1 e
 
 -- a table that fits rules meets each of them
-pub rule_met : (rules : List Rule) (ms : Members) → fits rules ms ≡ true → (n : ℕ) (r : Rule) → slice_get rules n ≡ Some r
+pub rule_met : (rules : List Rule) (ms : Members) → fits_rules rules ms ≡ true → (n : ℕ) (r : Rule) → slice_get rules n ≡ Some r
     → is_met ms r ≡ true
 rule_met rules ms h n r e = all_at (is_met ms) rules n r (and_parts (has_only _ ms) (list_all (is_met ms) rules) h).1 e
 
 -- so the number at the key of one is in its range
-pub number_fits : (rules : List Rule) (ms : Members) → fits rules ms ≡ true → (n : ℕ) (key : Key) (low high : ℕ)
+pub number_fits : (rules : List Rule) (ms : Members) → fits_rules rules ms ≡ true → (n : ℕ) (key : Key) (low high : ℕ)
     → slice_get rules n ≡ Some (rule key (Whole low high) Required)
     → (low ≤ number (name_of key) ms) × (number (name_of key) ms ≤ high)
 number_fits rules ms h n key low high e = required_number key low high ms (rule_met rules ms h n (rule key (Whole low high) Required) e)

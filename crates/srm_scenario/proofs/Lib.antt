@@ -4,6 +4,7 @@ pub mod Tables
 pub mod Placed
 pub mod Repetition
 pub mod ScriptLemmas
+pub mod ScriptLists
 pub mod Sorting
 pub mod Members
 pub mod Arrays

@@ -24,9 +24,9 @@ use Rattle.srm_scenario.specs.declared.rule.Rule.{Rule}
 use Rattle.srm_scenario.specs.declared.version.Version.{Version}
 use Rattle.srm_scenario.specs.declared.version.Version.TheVariants.{One, Two, Three}
 use Rattle.srm_scenario.specs.KeyLimits.{most_times}
-use Rattle.srm_scenario.specs.Rules.{rule_if, meets, number_of, times_of, times_said, fits_element, draw_rules, session_rules}
-use Rattle.srm_scenario.specs.Described.{copies, repeated, every_of, table_of, draw_of, draw_copy, session_of, session_copy, member_of}
-use Rattle.srm_scenario.specs.Described.{member_copy}
+use Rattle.srm_scenario.specs.Rules.{rule_if, meets, whole_number_of, times_repeated, times_said, fits_element, draw_rules, session_rules}
+use Rattle.srm_scenario.specs.Described.{copies, repeated, every_of, table_of, draw_of, draw_copy, session_message_of, session_copy}
+use Rattle.srm_scenario.specs.Described.{member_of, member_copy}
 use Rattle.srm_scenario.specs.Faults.{fits_repeated, faults_of_draws, faults_of_sessions, draw_in_range, session_in_range, entry_of}
 use Rattle.srm_scenario.specs.Faults.{entry_copy, faults_by, first}
 use Rattle.srm_scenario.specs.LookUps.{FewElements}
@@ -97,19 +97,19 @@ module _ (vs : List Value) (i : ℕ) (v : Value) (lt : i < length vs) (is : v �
 
 -- elements stand for as many as their counts say
 stood : {A : Type 0} (copy : ℕ → ℕ → A → A) (reading : Members → A) (ds : List Data) → length (flat_map (repeated copy reading) ds)
-    ≡ sum_by times_of ds
+    ≡ sum_by times_repeated ds
 stood copy reading [] = refl
 stood copy reading (d ∷ ds) =
     length-append (repeated copy reading d) (flat_map (repeated copy reading) ds)
-    ∙ (λ i. copies-length (λ k. copy k (every_of d) (reading (table_of d))) 0 (times_of d) i + stood copy reading ds i)
-    ∙ sym (sum_by-cons times_of d ds)
+    ∙ (λ i. copies-length (λ k. copy k (every_of d) (reading (table_of d))) 0 (times_repeated d) i + stood copy reading ds i)
+    ∙ sym (sum_by-cons times_repeated d ds)
 
 -- an element stands for itself alone where its rules refuse that it says otherwise
 alone : (rules : List Rule) (n : ℕ) → slice_get rules n ≡ Some (rule_if false key.Times (Whole 1 most_times)) → (d : Data)
-    → fits_element rules d ≡ true → times_of d ≡ 1
+    → fits_element rules d ≡ true → times_repeated d ≡ 1
 alone rules n e (table m) h = by (get_member (codes "times") m) (rule_met rules m h n (rule_if false key.Times (Whole 1 most_times)) e)
   where
-    by : (o : Option Data) → meets Refused (Whole 1 most_times) o ≡ true → times_said (option_and_then number_of o) ≡ 1
+    by : (o : Option Data) → meets Refused (Whole 1 most_times) o ≡ true → times_said (option_and_then whole_number_of o) ≡ 1
     by None r = refl
     by (Some x) r = absurd (false≢true r)
 alone rules n e (integer t) h = absurd (false≢true h)
@@ -121,11 +121,11 @@ alone rules n e (array t) h = absurd (false≢true h)
 
 all_alone : {A : Type 0} (rules : List Rule) (n : ℕ) (reading : Members → A) (copy : ℕ → ℕ → A → A) (in_range : A → Bool)
     → slice_get rules n ≡ Some (rule_if false key.Times (Whole 1 most_times)) → (ds : List Data)
-    → AllByRecursion (λ d. fits_repeated rules reading copy in_range d ≡ true) ds → sum_by times_of ds ≡ length ds
+    → AllByRecursion (λ d. fits_repeated rules reading copy in_range d ≡ true) ds → sum_by times_repeated ds ≡ length ds
 all_alone rules n reading copy in_range e [] h = refl
 all_alone rules n reading copy in_range e (d ∷ ds) h =
     let fits = (and_parts (fits_element rules d) (list_all in_range (repeated copy reading d)) h.0).0 in
-    sum_by-cons times_of d ds ∙ (λ i. alone rules n e d fits i + all_alone rules n reading copy in_range e ds h.1 i)
+    sum_by-cons times_repeated d ds ∙ (λ i. alone rules n e d fits i + all_alone rules n reading copy in_range e ds h.1 i)
     ∙ (let one : 1 + length ds ≡ suc (length ds) = omega arith in one)
 
 few_alone : {A : Type 0} (rules : List Rule) (n : ℕ) (reading : Members → A) (copy : ℕ → ℕ → A → A) (in_range : A → Bool)
@@ -135,7 +135,7 @@ few_alone : {A : Type 0} (rules : List Rule) (n : ℕ) (reading : Members → A)
 few_alone rules n reading copy in_range e ds h few =
     subst (λ k. k ≤ most_listed) (sym (stood copy reading ds ∙ all_alone rules n reading copy in_range e ds h)) few
 
-few_together : {A : Type 0} (reading : Members → A) (copy : ℕ → ℕ → A → A) (ds : List Data) → sum_by times_of ds ≤ most_listed
+few_together : {A : Type 0} (reading : Members → A) (copy : ℕ → ℕ → A → A) (ds : List Data) → sum_by times_repeated ds ≤ most_listed
     → length (flat_map (repeated copy reading) ds) ≤ most_listed
 few_together reading copy ds few = subst (λ k. k ≤ most_listed) (sym (stood copy reading ds)) few
 
@@ -150,14 +150,14 @@ few_draws Three ds few none = few_together draw_of draw_copy ds (few.stand_for r
 
 -- and session messages
 pub few_sessions : (v : Version) (ds : List Data) → FewElements v ds → faults_of_sessions v ds ≡ []
-    → length (flat_map (repeated session_copy session_of) ds) ≤ most_listed
+    → length (flat_map (repeated session_copy session_message_of) ds) ≤ most_listed
 few_sessions One ds few none =
-    few_alone (session_rules One) 2 session_of session_copy session_in_range refl ds (none_by (BadKey part.Session) _ 0 ds none)
+    few_alone (session_rules One) 2 session_message_of session_copy session_in_range refl ds (none_by (BadKey part.Session) _ 0 ds none)
     (few.are refl)
 few_sessions Two ds few none =
-    few_alone (session_rules Two) 2 session_of session_copy session_in_range refl ds (none_by (BadKey part.Session) _ 0 ds none)
+    few_alone (session_rules Two) 2 session_message_of session_copy session_in_range refl ds (none_by (BadKey part.Session) _ 0 ds none)
     (few.are refl)
-few_sessions Three ds few none = few_together session_of session_copy ds (few.stand_for refl)
+few_sessions Three ds few none = few_together session_message_of session_copy ds (few.stand_for refl)
 
 -- ---- what holds of each copy
 
@@ -181,8 +181,8 @@ stand_for_all P rules reading copy in_range each [] h = tt
 stand_for_all P rules reading copy in_range each (d ∷ ds) h =
     let (fits, range) = and_parts (fits_element rules d) (list_all in_range (repeated copy reading d)) h.0 in
     all_join P (repeated copy reading d) (flat_map (repeated copy reading) ds)
-    (copies_all P (λ k. copy k (every_of d) (reading (table_of d))) in_range (λ k r. each d fits k (every_of d) r) 0 (times_of d) range)
-    (stand_for_all P rules reading copy in_range each ds h.1)
+    (copies_all P (λ k. copy k (every_of d) (reading (table_of d))) in_range (λ k r. each d fits k (every_of d) r) 0 (times_repeated d)
+    range) (stand_for_all P rules reading copy in_range each ds h.1)
 
 -- ---- members
 
@@ -201,4 +201,4 @@ pub stand_for_members : (ds : List Data) → map (λ e. e.spec) (flat_map (repea
 stand_for_members [] = refl
 stand_for_members (d ∷ ds) =
     map_join (λ e. e.spec) (repeated entry_copy entry_of d) (flat_map (repeated entry_copy entry_of) ds)
-    ∙ (λ i. copies_spec (every_of d) (entry_of (table_of d)) 0 (times_of d) i ++ stand_for_members ds i)
+    ∙ (λ i. copies_spec (every_of d) (entry_of (table_of d)) 0 (times_repeated d) i ++ stand_for_members ds i)

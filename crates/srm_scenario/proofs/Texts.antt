@@ -16,7 +16,7 @@ use Rattle.srm_scenario.specs.declared.fault.ScenarioFault.TheVariants.{BadDraw,
 use Rattle.srm_net.specs.declared.link.DropSpec.{DropSpec}
 use Rattle.srm_scenario.specs.declared.fault.Part.TheVariants as part
 use Rattle.srm_scenario.specs.Described.{array_at, version_of, described_scenario}
-use Rattle.srm_scenario.specs.Rules.{fits}
+use Rattle.srm_scenario.specs.Rules.{fits_rules}
 use Rattle.srm_scenario.specs.Trees.{is_tree}
 use Rattle.srm_scenario.specs.Faults.{fault_unless, faults_by, rules_of_top, top_faults, member_faults, fits_member, fits_draw}
 use Rattle.srm_scenario.specs.Faults.{fits_session, fits_drop, fits_outage, key_faults, meaning_faults, faults_of, answer}
@@ -110,7 +110,7 @@ key_all : (ms : Members) → AllByRecursion IsOfText (key_faults ms)
 unfolding IsOfText key_faults
 key_all ms =
     let v = version_of ms in
-    all_append (top_faults ms) _ (of_unless (fits (rules_of_top ms) ms) (BadKey part.Top 0) tt)
+    all_append (top_faults ms) _ (of_unless (fits_rules (rules_of_top ms) ms) (BadKey part.Top 0) tt)
     (all_append (faults_of_links v (array_at (codes "link") ms)) _ (of_faults_by _ _ 0 (array_at (codes "link") ms) (λ i. tt))
     (all_append (faults_of_members v (array_at (codes "member") ms)) _ (of_faults_by _ _ 0 (array_at (codes "member") ms) (λ i. tt))
     (all_append (faults_of_draws v (array_at (codes "draw") ms)) _ (of_faults_by _ _ 0 (array_at (codes "draw") ms) (λ i. tt))

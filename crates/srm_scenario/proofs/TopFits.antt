@@ -21,10 +21,10 @@ use Rattle.srm_scenario.specs.declared.version.Version.TheVariants.{One, Two, Th
 use Rattle.srm_scenario.specs.Keys.{name_of}
 use Rattle.srm_scenario.specs.Accepted.{AreConstants, HasRoom}
 use Rattle.srm_scenario.specs.KeyLimits.{greatest_delay, greatest_limit}
-use Rattle.srm_scenario.specs.Rules.{rule, fits, is_met, is_text, meets, most_nodes_in, last_number, most_listed_in, allows_back}
+use Rattle.srm_scenario.specs.Rules.{rule, fits_rules, is_met, is_text, meets, most_nodes_in, last_number, most_listed_in, allows_back}
 use Rattle.srm_scenario.specs.Rules.{topology_rule, degree_rule, constant_rule, greatest_constant_in, allows_limits, rule_if}
-use Rattle.srm_scenario.specs.Rules.{back_rule, count_items, count_made, times_of, rule_where, listed_in, topologies_in, is_kind, is_whole}
-use Rattle.srm_scenario.specs.Rules.{all_whole, optional_number}
+use Rattle.srm_scenario.specs.Rules.{back_rule, count_items, count_made, times_repeated, rule_where, listed_in, topologies_in, is_kind}
+use Rattle.srm_scenario.specs.Rules.{is_whole, all_whole, optional_number}
 use Rattle.srm_scenario.specs.Described.{number, is_text_or, says, array_of, array_at, items_list, version_of, topology_of}
 use Rattle.srm_scenario.specs.Described.{nodes_in, delays_of, constants_of, number_or, room_of, form_of, given_nodes, names_parents}
 use Rattle.srm_scenario.specs.Faults.{rules_of_top}
@@ -143,15 +143,15 @@ few_listed k most ms h = by (get_member (name_of k) ms) h
     by (Some (datetime t)) e = absurd (false≢true e)
     by (Some (table t)) e = absurd (false≢true e)
 
-count-made : (ds : Items) → count_made ds ≡ sum_by times_of (items_list ds)
+count-made : (ds : Items) → count_made ds ≡ sum_by times_repeated (items_list ds)
 count-made no_items = refl
-count-made (item d ds) = ap (λ n. times_of d + n) (count-made ds) ∙ sym (sum_by-cons times_of d (items_list ds))
+count-made (item d ds) = ap (λ n. times_repeated d + n) (count-made ds) ∙ sym (sum_by-cons times_repeated d (items_list ds))
 
 few_repeated : (k : Key) (most : ℕ) (ms : Members) → is_met ms (rule k (Repeated most) Optional) ≡ true
-    → sum_by times_of (array_at (name_of k) ms) ≤ most
+    → sum_by times_repeated (array_at (name_of k) ms) ≤ most
 few_repeated k most ms h = by (get_member (name_of k) ms) h
   where
-    by : (o : Option Data) → meets Optional (Repeated most) o ≡ true → sum_by times_of (array_of o) ≤ most
+    by : (o : Option Data) → meets Optional (Repeated most) o ≡ true → sum_by times_repeated (array_of o) ≤ most
     by None e = omega arith
     by (Some (array ds)) e =
         let few : count_made ds ≤ most = grind (arith, nat_tests) in
@@ -206,7 +206,7 @@ numbers_met here k most high ms h = by here (get_member (name_of k) ms) h
 
 -- ---- a table that fits
 
-module _ (ms : Members) (h : fits (rules_of_top ms) ms ≡ true) where
+module _ (ms : Members) (h : fits_rules (rules_of_top ms) ms ≡ true) where
   abbrev shaped : Bool
   shaped = is_some (get_member (codes "topology") ms)
 

@@ -21,8 +21,8 @@ use Rattle.srm_scenario.specs.declared.version.Version.TheVariants.{One, Two, Th
 use Rattle.srm_scenario.specs.declared.topology.Topology.{Topology}
 use Rattle.srm_scenario.specs.declared.topology.Topology.TheVariants.{Chain, Star, Tree}
 use Rattle.srm_scenario.specs.Plain.{PlainScenario, drop_rules_of}
-pub use Rattle.srm_scenario.specs.Rules.{number_of, optional_number}
-use Rattle.srm_scenario.specs.Rules.{is_text, times_of}
+pub use Rattle.srm_scenario.specs.Rules.{whole_number_of, optional_number}
+use Rattle.srm_scenario.specs.Rules.{is_text, times_repeated}
 
 -- ---- values
 
@@ -92,7 +92,7 @@ member_of ms = record {
   stream = number (codes "stream") ms;
   join = number (codes "join") ms;
   leave = optional_number (codes "leave") ms;
-  pages = map (λ d. unwrap_or (number_of d) 0) (array_at (codes "pages") ms);
+  pages = map (λ d. unwrap_or (whole_number_of d) 0) (array_at (codes "pages") ms);
 }
 
 abbrev pub draw_of : Members → DrawSpec
@@ -103,8 +103,8 @@ draw_of ms = record {
   at = number (codes "at") ms;
 }
 
-abbrev pub session_of : Members → SessionSpec
-session_of ms = record { member = number (codes "member") ms; at = number (codes "at") ms }
+abbrev pub session_message_of : Members → SessionSpec
+session_message_of ms = record { member = number (codes "member") ms; at = number (codes "at") ms }
 
 abbrev pub drop_of : Members → DropSpec
 drop_of ms = record {
@@ -133,7 +133,7 @@ copies copy k (suc n) = copy k ∷ copies copy (k + 1) n
 -- the elements for which one stands: its copies from the one of number 0 on, by their numbers and how far apart they
 -- are
 abbrev pub repeated : {A : Type 0} → (ℕ → ℕ → A → A) → (Members → A) → Data → List A
-repeated copy reading d = copies (λ k. copy k (every_of d) (reading (table_of d))) 0 (times_of d)
+repeated copy reading d = copies (λ k. copy k (every_of d) (reading (table_of d))) 0 (times_repeated d)
 
 -- the copies of an element by their numbers k, counted from 0, and how far apart they are
 abbrev pub member_copy : ℕ → ℕ → MemberSpec → MemberSpec
@@ -203,7 +203,7 @@ names_parents ms = says (codes "topology") (codes "parents") ms
 -- the number at a place of a list that may be there, and this one where there is no list
 abbrev pub number_at : Option (List Data) → ℕ → ℕ → ℕ
 number_at None k other = other
-number_at (Some ds) k other = unwrap_or (option_and_then number_of (slice_get ds k)) 0
+number_at (Some ds) k other = unwrap_or (option_and_then whole_number_of (slice_get ds k)) 0
 
 -- the values of the array at a key, if the table has the key
 abbrev pub values_at : List ℕ → Members → Option (List Data)
@@ -225,7 +225,7 @@ links_from ms k (p ∷ ps) = record { a = p; b = k + 1; delay = delay_at ms k; b
 
 -- the parents of nodes 1, 2, ..
 abbrev pub parents_in : Members → List ℕ
-parents_in ms = map (λ d. unwrap_or (number_of d) 0) (array_at (codes "parent") ms)
+parents_in ms = map (λ d. unwrap_or (whole_number_of d) 0) (array_at (codes "parent") ms)
 
 -- the links that a table gives without a size: to the parents of nodes, or as they are listed
 abbrev pub given_links : Members → List LinkSpec
@@ -310,6 +310,6 @@ described_scenario ms = record {
   links = links_in (topology_of ms) ms;
   members = repeated_at (codes "member") member_copy member_of ms;
   draws = repeated_at (codes "draw") draw_copy draw_of ms;
-  sessions = repeated_at (codes "session") session_copy session_of ms;
+  sessions = repeated_at (codes "session") session_copy session_message_of ms;
   drops = drop_rules_of (listed_drops ms) (outages_in ms);
 }

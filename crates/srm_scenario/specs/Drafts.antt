@@ -9,7 +9,7 @@ use Rattle.srm_scenario.specs.declared.topology.Topology.{Topology}
 use Rattle.srm_scenario.specs.Accepted.{AreConstants}
 use Rattle.srm_scenario.specs.Plain.{PlainScenario, drop_rules_of}
 use Rattle.srm_scenario.specs.Described.{number, constants_of, room_of, topology_of, delays_of, nodes_in, repeated_at}
-use Rattle.srm_scenario.specs.Described.{draw_of, draw_copy, session_of, session_copy, listed_drops, outages_in}
+use Rattle.srm_scenario.specs.Described.{draw_of, draw_copy, session_message_of, session_copy, listed_drops, outages_in}
 use Rattle.srm_scenario.specs.Described.{given_links, links_to_parents}
 use Rattle.srm_scenario.specs.Faults.{key_faults, meaning_faults, is_star, entry_of, entry_copy}
 use Rattle.srm_scenario.specs.LookUps.{HasDegree, AreDelays}
@@ -33,7 +33,7 @@ pub record IsDraft (ms : Members) (l : Draft) : Type 0 where
   pub links : given_links ms ≡ l.links.items
   pub members : repeated_at (codes "member") entry_copy entry_of ms ≡ l.members.items
   pub draws : repeated_at (codes "draw") draw_copy draw_of ms ≡ l.draws.items
-  pub sessions : repeated_at (codes "session") session_copy session_of ms ≡ l.sessions.items
+  pub sessions : repeated_at (codes "session") session_copy session_message_of ms ≡ l.sessions.items
   pub drops : listed_drops ms ≡ l.drops.items
   pub outages : outages_in ms ≡ l.outages.items
   pub few_draws : length l.draws.items ≤ most_listed

@@ -26,11 +26,11 @@ use Rattle.srm_scenario.specs.Plain.{PlainScenario, network_of}
 use Rattle.srm_scenario.specs.Trees.{is_tree}
 use Rattle.srm_scenario.specs.declared.rule.Rule.{Rule}
 use Rattle.srm_scenario.specs.Rules.{top_rules, link_rules, member_rules, draw_rules, session_rules, drop_rules}
-use Rattle.srm_scenario.specs.Rules.{outage_rules, fits, fits_element}
+use Rattle.srm_scenario.specs.Rules.{outage_rules, fits_rules, fits_element}
 use Rattle.srm_scenario.specs.Presence.{is_present}
 use Rattle.srm_scenario.specs.Described.{version_of, member_of, array_at, table_of, repeated_at, topology_of, form_of}
 use Rattle.srm_scenario.specs.Described.{constants_of, listed_drops, described_scenario, repeated, member_copy}
-use Rattle.srm_scenario.specs.Described.{draw_of, draw_copy, session_of, session_copy, drop_of, drop_copy}
+use Rattle.srm_scenario.specs.Described.{draw_of, draw_copy, session_message_of, session_copy, drop_of, drop_copy}
 use Rattle.srm_scenario.specs.Described.{outage_of, outage_copy}
 use Rattle.srm_scenario.specs.declared.version.Version.{Version}
 use Rattle.srm_scenario.specs.KeyLimits.{last_count, last_stream}
@@ -59,7 +59,7 @@ IsFault e faults = (e ≡ NoMemory) ⊎ (first faults ≡ Some e)
 
 -- what a table that fits rules is read as
 abbrev pub accepted : {A : Type 0} → List Rule → (Members → A) → Members → Option A
-accepted rules reading ms = if fits rules ms then Some (reading ms) else None
+accepted rules reading ms = if fits_rules rules ms then Some (reading ms) else None
 
 -- what a table that fits rules is read as, where the value is one
 abbrev pub accepted_element : {A : Type 0} → List Rule → (Members → A) → Data → Option A
@@ -70,7 +70,7 @@ abbrev pub rules_of_top : Members → List Rule
 rules_of_top ms = top_rules (version_of ms) (constants_of ms) (form_of ms)
 
 abbrev pub top_faults : Members → List ScenarioFault
-top_faults ms = fault_unless (fits (rules_of_top ms) ms) (BadKey part.Top 0)
+top_faults ms = fault_unless (fits_rules (rules_of_top ms) ms) (BadKey part.Top 0)
 
 abbrev pub element_faults : Part → List Rule → List Data → List ScenarioFault
 element_faults p rules ds = faults_by (BadKey p) (fits_element rules) 0 ds
@@ -123,7 +123,7 @@ faults_of_draws version ds = repeated_faults part.Draw (draw_rules version) draw
 
 abbrev pub faults_of_sessions : Version → List Data → List ScenarioFault
 faults_of_sessions version ds =
-    repeated_faults part.Session (session_rules version) session_of session_copy session_in_range ds
+    repeated_faults part.Session (session_rules version) session_message_of session_copy session_in_range ds
 
 abbrev pub faults_of_drops : Version → List Data → List ScenarioFault
 faults_of_drops version ds = repeated_faults part.Drop (drop_rules version) drop_of drop_copy drop_in_range ds

@@ -12,7 +12,7 @@ use Rattle.srm_scenario.specs.Accepted.{AreConstants}
 use Rattle.srm_scenario.specs.Described.{number, array_at, version_of, topology_of, delays_of, constants_of, nodes_in}
 use Rattle.srm_scenario.specs.Described.{room_of}
 use Rattle.srm_net.specs.Limits.{end_of_time, most_links, most_listed, most_nodes}
-use Rattle.srm_scenario.specs.Rules.{allows_repetition, times_of}
+use Rattle.srm_scenario.specs.Rules.{allows_repetition, times_repeated}
 
 -- the degree of a tree is 2 to 65,534
 abbrev pub HasDegree : Option Topology → Type 0
@@ -49,7 +49,7 @@ pub record HasShape (ms : Members) (t : Option Topology) (nodes : ℕ) (delays :
 
 -- these elements stand for at most as many as may be listed, or are as few where each stands for itself alone
 pub record FewElements (version : Version) (ds : List Data) : Type 0 where
-  pub stand_for : allows_repetition version ≡ true → sum_by times_of ds ≤ most_listed
+  pub stand_for : allows_repetition version ≡ true → sum_by times_repeated ds ≤ most_listed
   pub are : allows_repetition version ≡ false → length ds ≤ most_listed
 
 -- the table's other arrays

@@ -273,13 +273,13 @@ all_whole low high no_items = true
 all_whole low high (item d ds) = is_whole low high d && all_whole low high ds
 
 -- the whole number that a value is
-abbrev pub number_of : Data → Option ℕ
-number_of (integer (pos n)) = Some n
-number_of d = None
+abbrev pub whole_number_of : Data → Option ℕ
+whole_number_of (integer (pos n)) = Some n
+whole_number_of d = None
 
 -- the whole number at a key, if there is one
 abbrev pub optional_number : List ℕ → Members → Option ℕ
-optional_number key ms = option_and_then number_of (get_member key ms)
+optional_number key ms = option_and_then whole_number_of (get_member key ms)
 
 -- for how many elements one stands: for as many as its `times` says, and for itself alone where that does not say so
 -- rightly
@@ -287,14 +287,14 @@ abbrev pub times_said : Option ℕ → ℕ
 times_said (Some n) = if nat_le 1 n && nat_le n most_times then n else 1
 times_said None = 1
 
-abbrev pub times_of : Data → ℕ
-times_of (table ms) = times_said (optional_number (codes "times") ms)
-times_of d = 1
+abbrev pub times_repeated : Data → ℕ
+times_repeated (table ms) = times_said (optional_number (codes "times") ms)
+times_repeated d = 1
 
 -- for how many elements these stand together
 abbrev pub count_made : Items → ℕ
 count_made no_items = 0
-count_made (item d ds) = times_of d + count_made ds
+count_made (item d ds) = times_repeated d + count_made ds
 
 -- the value is of this kind
 abbrev pub is_kind : Kind → Data → Bool
@@ -324,10 +324,10 @@ has_only keys no_members = true
 has_only keys (member k d ms) = list_any (λ key. bytes_eq key k) keys && has_only keys ms
 
 -- the table has no unknown key, and each rule is met
-abbrev pub fits : List Rule → Members → Bool
-fits rules ms = has_only (map (λ r. name_of r.key) rules) ms && list_all (is_met ms) rules
+abbrev pub fits_rules : List Rule → Members → Bool
+fits_rules rules ms = has_only (map (λ r. name_of r.key) rules) ms && list_all (is_met ms) rules
 
 -- the value is a table that fits the rules
 abbrev pub fits_element : List Rule → Data → Bool
-fits_element rules (table ms) = fits rules ms
+fits_element rules (table ms) = fits_rules rules ms
 fits_element rules d = false

@@ -2,7 +2,7 @@
 ghost use Rattle.std.specs.Prelude.{◌≡◌};
 ghost use Rattle.toml.specs.View.{table_view};
 ghost use Rattle.srm_scenario.specs.Rules.{link_rules, draw_rules, session_rules, drop_rules, outage_rules};
-ghost use Rattle.srm_scenario.specs.Described.{link_of, draw_of, session_of, drop_of, outage_of};
+ghost use Rattle.srm_scenario.specs.Described.{link_of, draw_of, session_message_of, drop_of, outage_of};
 ghost use Rattle.srm_scenario.specs.Faults.{accepted};
 
 use crate::element::Element;
@@ -11,7 +11,7 @@ use crate::limits::{LAST_COUNT, LAST_TICK};
 use crate::parts::{DrawSpec, SessionSpec};
 use crate::repeated::{Repeated, risen, step_of};
 use crate::rules::{draw_rules, drop_rules, link_rules, outage_rules, session_rules};
-use crate::table::{fits, number, optional_number};
+use crate::table::{fits_rules, number, optional_number};
 use crate::version::Version;
 use srm_net::link::{DropSpec, LinkSpec, OutageSpec};
 use srm_net::packet::PacketId;
@@ -21,7 +21,7 @@ use toml::Table;
 fn link_of(version: Version, table: &Table) -> Option<LinkSpec>
     ensures { result ≡ accepted (link_rules version) link_of (table_view table.now) }
 {
-    if !fits(table, &link_rules(version)) {
+    if !fits_rules(table, &link_rules(version)) {
         return None;
     }
     let delay = number(table, Key::Delay);
@@ -36,7 +36,7 @@ fn link_of(version: Version, table: &Table) -> Option<LinkSpec>
 fn draw_of(version: Version, table: &Table) -> Option<DrawSpec>
     ensures { result ≡ accepted (draw_rules version) draw_of (table_view table.now) }
 {
-    if !fits(table, &draw_rules(version)) {
+    if !fits_rules(table, &draw_rules(version)) {
         return None;
     }
     Some(DrawSpec {
@@ -47,10 +47,10 @@ fn draw_of(version: Version, table: &Table) -> Option<DrawSpec>
     })
 }
 
-fn session_of(version: Version, table: &Table) -> Option<SessionSpec>
-    ensures { result ≡ accepted (session_rules version) session_of (table_view table.now) }
+fn session_message_of(version: Version, table: &Table) -> Option<SessionSpec>
+    ensures { result ≡ accepted (session_rules version) session_message_of (table_view table.now) }
 {
-    if !fits(table, &session_rules(version)) {
+    if !fits_rules(table, &session_rules(version)) {
         return None;
     }
     Some(SessionSpec {
@@ -62,7 +62,7 @@ fn session_of(version: Version, table: &Table) -> Option<SessionSpec>
 fn drop_of(version: Version, table: &Table) -> Option<DropSpec>
     ensures { result ≡ accepted (drop_rules version) drop_of (table_view table.now) }
 {
-    if !fits(table, &drop_rules(version)) {
+    if !fits_rules(table, &drop_rules(version)) {
         return None;
     }
     Some(DropSpec {
@@ -77,7 +77,7 @@ fn drop_of(version: Version, table: &Table) -> Option<DropSpec>
 fn outage_of(version: Version, table: &Table) -> Option<OutageSpec>
     ensures { result ≡ accepted (outage_rules version) outage_of (table_view table.now) }
 {
-    if !fits(table, &outage_rules(version)) {
+    if !fits_rules(table, &outage_rules(version)) {
         return None;
     }
     Some(OutageSpec {
@@ -115,14 +115,14 @@ impl Element for DrawSpec {
 
 impl Element for SessionSpec {
     ghost use Rattle.srm_scenario.specs.Rules.{session_rules};
-    ghost use Rattle.srm_scenario.specs.Described.{session_of};
+    ghost use Rattle.srm_scenario.specs.Described.{session_message_of};
 
     ghost rules = { session_rules };
 
-    ghost reading = { session_of };
+    ghost reading = { session_message_of };
 
     fn read(_alloc: Global, version: Version, table: &Table) -> Result<Option<Self>, AllocError> {
-        Ok(session_of(version, table))
+        Ok(session_message_of(version, table))
     }
 }
 

@@ -12,7 +12,7 @@ use crate::numbers::numbers_of;
 use crate::parts::MemberSpec;
 use crate::repeated::{Repeated, risen, step_of};
 use crate::rules::member_rules;
-use crate::table::{array, fits, has_key, number, optional_number, says};
+use crate::table::{array, fits_rules, has_key, number, optional_number, says};
 use crate::version::Version;
 use srm_net::role::Role;
 use std::alloc::{AllocError, Global};
@@ -50,7 +50,7 @@ fn entry_of(
 ) -> Result<Option<MemberEntry>, AllocError>
     ensures { IfOk result (λ o. o ≡ accepted (member_rules version) entry_of (table_view table.now)) }
 {
-    if !fits(table, &member_rules(version)) {
+    if !fits_rules(table, &member_rules(version)) {
         return Ok(None);
     }
     let pages = numbers_of(alloc, array(table, Key::Pages))?;

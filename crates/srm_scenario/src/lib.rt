@@ -24,6 +24,7 @@ pub mod rule;
 pub mod rules;
 pub mod scenario;
 pub mod script;
+mod scripts;
 pub mod table;
 pub mod top;
 pub mod topology;

@@ -3,13 +3,13 @@ ghost use Rattle.std.specs.Prelude.{◌≡◌, ◌≤◌, true, IfOk, length, ma
 ghost use Rattle.toml.specs.View.{view, table_view};
 ghost use Rattle.srm_net.specs.Limits.{most_links};
 ghost use Rattle.srm_scenario.specs.Keys.{name_of};
-ghost use Rattle.srm_scenario.specs.Rules.{fits};
+ghost use Rattle.srm_scenario.specs.Rules.{fits_rules};
 ghost use Rattle.srm_scenario.specs.Described.{links_from, names_parents, number_at, parents_in, values_at};
 ghost use Rattle.srm_scenario.specs.Faults.{rules_of_top};
 
 use crate::key::Key;
 use crate::numbers::numbers_of;
-use crate::table::{array, has_key, number, number_of, optional_number, says};
+use crate::table::{array, has_key, number, optional_number, says, whole_number_of};
 use srm_net::link::LinkSpec;
 use std::alloc::{AllocError, Global};
 use toml::{Table, Value};
@@ -32,7 +32,7 @@ fn number_at(values: Option<&[Value]>, k: usize, other: u64) -> u64
     match values {
         None => other,
         Some(values) => match values.get(k) {
-            Some(value) => number_of(value).unwrap_or(0),
+            Some(value) => whole_number_of(value).unwrap_or(0),
             None => 0,
         },
     }
@@ -68,7 +68,7 @@ pub(crate) fn given_links(
     table: &Table,
     listed: Vec<LinkSpec>,
 ) -> Result<Vec<LinkSpec>, AllocError>
-    requires { fits (rules_of_top (table_view table.now)) (table_view table.now) ≡ true }
+    requires { fits_rules (rules_of_top (table_view table.now)) (table_view table.now) ≡ true }
     ensures { IfOk result (λ links. links.items ≡ (if names_parents (table_view table.now)
         then links_from (table_view table.now) 0 (parents_in (table_view table.now)) else listed.items)) }
 {

@@ -7,7 +7,7 @@ ghost use Rattle.srm_scenario.specs.Faults.{repeated_faults, IsFault};
 
 use crate::element::{Element, read_element};
 use crate::fault::{Part, ScenarioFault};
-use crate::table::{every_in, times_of};
+use crate::table::{every_in, times_repeated};
 use crate::version::Version;
 use std::alloc::{AllocError, Global};
 use toml::Value;
@@ -103,7 +103,7 @@ pub(crate) fn read_repeated<E: Repeated>(
             alloc,
             &mut elements,
             &element,
-            times_of(value),
+            times_repeated(value),
             every_of(value),
         )?;
         if !fit {

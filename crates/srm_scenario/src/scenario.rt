@@ -1,14 +1,16 @@
 //! Scenarios.
-ghost use Rattle.std.specs.Prelude.{◌≡◌, ◌<◌, Some, length, map, slice_get, option_map, MatchResult, IfOk, IfErr};
+ghost use Rattle.std.specs.Prelude.{◌≡◌, ◌<◌, Some, length, map, slice_get, option_map, MatchResult, IfOk, IfErr, All};
 ghost use Rattle.srm_net.specs.Orders.{Rises};
 ghost use Rattle.srm_scenario.specs.Accepted.{IsAccepted};
 ghost use Rattle.srm_scenario.specs.Plain.{network_of, script_of, mark_cmp};
+ghost use Rattle.srm_scenario.specs.ScriptLists.{scripts_of};
 ghost use Rattle.srm_scenario.specs.Pages.{wants_page};
 
 use crate::fault::ScenarioFault;
 use crate::mark::Mark;
 use crate::parts::{Constants, DrawSpec, MemberSpec, Room, SessionSpec};
 use crate::script::script_of;
+use crate::scripts::scripts_of;
 use srm_net::drops::Drops;
 use srm_net::fault::NetFault;
 use srm_net::link::LinkSpec;
@@ -197,6 +199,20 @@ impl Scenario {
             &self.sessions,
         )?;
         Ok(marks)
+    }
+
+    /// The scripts of all members, in order of their numbers: one for each, as [`Scenario::script`] gives it. Draws and session
+    /// messages are gone over once for all of them.
+    ///
+    /// # Errors
+    /// `NoMemory`.
+    pub fn scripts(&self, alloc: Global) -> Result<Vec<Vec<Mark>>, ScenarioFault>
+        ensures scripts { IfOk result (λ scripts. map (λ marks. marks.items) scripts.items ≡ scripts_of self.now) }
+        ensures rise { IfOk result (λ scripts. All (λ marks. Rises mark_cmp marks.items) scripts.items) }
+        ensures fault { IfErr result (λ e. e ≡ ScenarioFault.NoMemory) }
+    {
+        let scripts = scripts_of(alloc, &self.members, &self.draws, &self.sessions)?;
+        Ok(scripts)
     }
 }
 

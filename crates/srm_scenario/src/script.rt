@@ -1,5 +1,5 @@
 //! The script of a member.
-ghost use Rattle.std.specs.Prelude.{◌≡◌, ◌++◌, ◌∷◌, length, ◌≤◌, ◌<◌, IfOk};
+ghost use Rattle.std.specs.Prelude.{◌≡◌, ◌++◌, ◌∷◌, [], length, ◌≤◌, ◌<◌, IfOk};
 ghost use Rattle.srm_net.specs.Limits.{most_listed};
 ghost use Rattle.srm_net.specs.Orders.{ordered};
 ghost use Rattle.srm_scenario.specs.Plain.{mark_cmp, plain_mark, draw_marks, report_marks, leave_marks};
@@ -8,6 +8,39 @@ use crate::mark::Mark;
 use crate::parts::{DrawSpec, SessionSpec};
 use srm_net::rank;
 use std::alloc::{AllocError, Global};
+
+/// A mark that draws nothing.
+fn plain_mark(at: u64, rank: u8, place: u16) -> Mark
+    ensures { result ≡ plain_mark at rank place }
+{
+    Mark {
+        at,
+        rank,
+        place,
+        page: 0,
+        ink: 0,
+    }
+}
+
+/// The mark of a draw, the scenario's draw `place`.
+pub(crate) fn draw_mark(place: u16, draw: &DrawSpec) -> Mark
+    ensures { result ≡ record { at = draw.now.at; rank = 4; place = place; page = draw.now.page; ink = draw.now.ink } }
+{
+    Mark {
+        at: draw.at,
+        rank: rank::DRAW,
+        place,
+        page: draw.page,
+        ink: draw.ink,
+    }
+}
+
+/// The mark of a session message, the scenario's session `place`.
+pub(crate) fn report_mark(place: u16, session: &SessionSpec) -> Mark
+    ensures { result ≡ plain_mark session.now.at 5 place }
+{
+    plain_mark(session.at, rank::REPORT, place)
+}
 
 /// Appends the marks of a member's draws.
 pub(crate) fn push_draws(
@@ -20,13 +53,7 @@ pub(crate) fn push_draws(
 {
     for (i, draw) in draws.iter().enumerate() {
         if draw.member == m {
-            marks.push(Mark {
-                at: draw.at,
-                rank: rank::DRAW,
-                place: i as u16,
-                page: draw.page,
-                ink: draw.ink,
-            })?;
+            marks.push(draw_mark(i as u16, draw))?;
         }
     }
     Ok(())
@@ -43,13 +70,7 @@ pub(crate) fn push_reports(
 {
     for (i, session) in sessions.iter().enumerate() {
         if session.member == m {
-            marks.push(Mark {
-                at: session.at,
-                rank: rank::REPORT,
-                place: i as u16,
-                page: 0,
-                ink: 0,
-            })?;
+            marks.push(report_mark(i as u16, session))?;
         }
     }
     Ok(())
@@ -60,6 +81,25 @@ pub(crate) fn sort_marks(marks: &mut Vec<Mark>) -> Result<(), AllocError>
     ensures { IfOk result (λ _. marks.new.items ≡ ordered mark_cmp marks.old.items) }
 {
     marks.sort_by_key(|mark| (mark.at, mark.rank, mark.place))
+}
+
+/// The marks of a member of which only its join is known yet.
+pub(crate) fn joined(alloc: Global, at: u64) -> Result<Vec<Mark>, AllocError>
+    ensures { IfOk result (λ marks. marks.items ≡ plain_mark at 0 0 ∷ []) }
+{
+    let mut marks = Vec::new(alloc);
+    marks.push(plain_mark(at, rank::JOIN, 0))?;
+    Ok(marks)
+}
+
+/// Adds the leave of a member to its marks, if there is one, and puts them in the order of their keys.
+pub(crate) fn close(marks: &mut Vec<Mark>, leave: Option<u64>) -> Result<(), AllocError>
+    ensures { IfOk result (λ _. marks.new.items ≡ ordered mark_cmp (marks.old.items ++ leave_marks leave)) }
+{
+    if let Some(at) = leave {
+        marks.push(plain_mark(at, rank::LEAVE, 0))?;
+    }
+    sort_marks(marks)
 }
 
 /// The script of member m, which joins and leaves at these times.
@@ -76,25 +116,9 @@ pub(crate) fn script_of(
     ensures { IfOk result (λ marks. marks.items ≡ ordered mark_cmp
         (plain_mark join 0 0 ∷ draw_marks m 0 draws.now ++ report_marks m 0 sessions.now ++ leave_marks leave)) }
 {
-    let mut marks = Vec::new(alloc);
-    marks.push(Mark {
-        at: join,
-        rank: rank::JOIN,
-        place: 0,
-        page: 0,
-        ink: 0,
-    })?;
+    let mut marks = joined(alloc, join)?;
     push_draws(&mut marks, m, draws)?;
     push_reports(&mut marks, m, sessions)?;
-    if let Some(at) = leave {
-        marks.push(Mark {
-            at,
-            rank: rank::LEAVE,
-            place: 0,
-            page: 0,
-            ink: 0,
-        })?;
-    }
-    sort_marks(&mut marks)?;
+    close(&mut marks, leave)?;
     Ok(marks)
 }

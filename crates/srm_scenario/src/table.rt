@@ -8,8 +8,8 @@ ghost use Rattle.srm_scenario.specs.declared.rule.Kind.TheVariants.{Numbers, Eac
 ghost use Rattle.srm_scenario.specs.declared.key.Key.TheVariants.{Times, Every};
 ghost use Rattle.srm_scenario.specs.KeyLimits.{most_times};
 ghost use Rattle.srm_scenario.specs.Keys.{name_of};
-ghost use Rattle.srm_scenario.specs.Rules.{fits, has_only, is_met, is_kind, is_whole, is_text, spellings_of, times_of, times_said, count_made};
-ghost use Rattle.srm_scenario.specs.Described.{number, number_of, number_or, optional_number, array_at, says};
+ghost use Rattle.srm_scenario.specs.Rules.{fits_rules, has_only, is_met, is_kind, is_whole, is_text, spellings_of, times_repeated, times_said, count_made};
+ghost use Rattle.srm_scenario.specs.Described.{number, whole_number_of, number_or, optional_number, array_at, says};
 
 use crate::key::Key;
 use crate::limits::MOST_TIMES;
@@ -17,8 +17,8 @@ use crate::rule::{Kind, Need, Rule, Words};
 use toml::{Table, Value};
 
 /// Whether the table has no unknown key, and each rule is met.
-pub(crate) fn fits(table: &Table, rules: &[Rule]) -> bool
-    ensures { result ≡ fits rules.now (table_view table.now) }
+pub(crate) fn fits_rules(table: &Table, rules: &[Rule]) -> bool
+    ensures { result ≡ fits_rules rules.now (table_view table.now) }
 {
     has_only(table, rules) && are_met(table, rules)
 }
@@ -91,8 +91,8 @@ pub fn values_of(value: &Value) -> Option<&[Value]>
 }
 
 /// For how many elements a value stands: for as many as its `times` says, and for itself alone where that does not say so rightly.
-pub fn times_of(value: &Value) -> u64
-    ensures times { result ≡ times_of (view value.now) }
+pub fn times_repeated(value: &Value) -> u64
+    ensures times { result ≡ times_repeated (view value.now) }
     ensures some { 1 ≤ result }
     ensures few { result ≤ most_times }
 {
@@ -128,7 +128,7 @@ fn make_at_most(values: &[Value], most: u64) -> bool
 {
     let mut left = most;
     for value in values {
-        let times = times_of(value);
+        let times = times_repeated(value);
         if times > left {
             return false;
         }
@@ -188,7 +188,7 @@ fn are_whole(values: &[Value], low: u64, high: u64) -> bool
 fn is_whole(value: &Value, low: u64, high: u64) -> bool
     ensures { result ≡ is_whole low high (view value.now) }
 {
-    match number_of(value) {
+    match whole_number_of(value) {
         Some(number) => low <= number && number <= high,
         None => false,
     }
@@ -228,8 +228,8 @@ fn is_word(value: &Value, words: Words) -> bool
 }
 
 /// The whole number that a value is, if it is one.
-pub fn number_of(value: &Value) -> Option<u64>
-    ensures { result ≡ number_of (view value.now) }
+pub fn whole_number_of(value: &Value) -> Option<u64>
+    ensures { result ≡ whole_number_of (view value.now) }
 {
     match value {
         Value::Integer(number) if *number >= 0 => Some(*number as u64),
@@ -242,7 +242,7 @@ pub(crate) fn optional_number(table: &Table, key: Key) -> Option<u64>
     ensures { result ≡ optional_number (name_of key) (table_view table.now) }
 {
     match table.get(key.name()) {
-        Some(value) => number_of(value),
+        Some(value) => whole_number_of(value),
         None => None,
     }
 }

@@ -2,7 +2,7 @@
 ghost use Rattle.std.specs.Prelude.{◌≡◌, ◌≤◌, true, false, codes, length, map, MatchOption};
 ghost use Rattle.toml.specs.View.{view, table_view};
 ghost use Rattle.srm_net.specs.Limits.{most_links};
-ghost use Rattle.srm_scenario.specs.Rules.{fits};
+ghost use Rattle.srm_scenario.specs.Rules.{fits_rules};
 ghost use Rattle.srm_scenario.specs.Described.{array_at, constants_of, form_of, given_nodes, least_of, most_of, number, room_of, says, topology_of};
 ghost use Rattle.srm_scenario.specs.Faults.{rules_of_top};
 ghost use Rattle.srm_scenario.specs.LookUps.{HasNumbers, HasShape, HasArrays};
@@ -12,7 +12,7 @@ use crate::form::Form;
 use crate::key::Key;
 use crate::parts::{Constants, Room};
 use crate::rules::top_rules;
-use crate::table::{array, fits, has_key, number, number_or, optional_number, says};
+use crate::table::{array, fits_rules, has_key, number, number_or, optional_number, says};
 use crate::topology::Topology;
 use crate::version::Version;
 use toml::{Table, Value};
@@ -97,7 +97,7 @@ fn room_of(table: &Table) -> Room
 
 /// The numbers of a table that fits its rules.
 fn numbers_of(table: &Table) -> Numbers
-    requires { fits (rules_of_top (table_view table.now)) (table_view table.now) ≡ true }
+    requires { fits_rules (rules_of_top (table_view table.now)) (table_view table.now) ≡ true }
     ensures { HasNumbers (table_view table.now) result.version result.until result.constants result.room }
 {
     Numbers {
@@ -135,7 +135,7 @@ fn given_nodes(table: &Table) -> u64
 
 /// The nodes and links of a table that fits its rules.
 fn shape_of(table: &Table) -> Shape<'_>
-    requires { fits (rules_of_top (table_view table.now)) (table_view table.now) ≡ true }
+    requires { fits_rules (rules_of_top (table_view table.now)) (table_view table.now) ≡ true }
     ensures { HasShape (table_view table.now) result.topology result.nodes result.delays (map view result.links.now) }
 {
     let topology = topology(table);
@@ -171,7 +171,7 @@ pub(crate) struct Arrays<'a> {
 
 /// The other arrays of a table that fits its rules.
 fn arrays_of(table: &Table) -> Arrays<'_>
-    requires { fits (rules_of_top (table_view table.now)) (table_view table.now) ≡ true }
+    requires { fits_rules (rules_of_top (table_view table.now)) (table_view table.now) ≡ true }
     ensures { HasArrays (table_view table.now) (map view result.members.now) (map view result.draws.now)
         (map view result.sessions.now) (map view result.drops.now) (map view result.outages.now) }
 {
@@ -213,10 +213,10 @@ pub fn form_of(table: &Table) -> Form
 
 /// Whether the table fits the rules of its version and of the topology that it names.
 fn is_top(table: &Table) -> bool
-    ensures { result ≡ fits (rules_of_top (table_view table.now)) (table_view table.now) }
+    ensures { result ≡ fits_rules (rules_of_top (table_view table.now)) (table_view table.now) }
 {
     let version = Version::of(number(table, Key::Version));
-    fits(
+    fits_rules(
         table,
         &top_rules(version, constants_of(table), form_of(table)),
     )
@@ -224,8 +224,8 @@ fn is_top(table: &Table) -> bool
 
 /// What the table holds, if it is as a top table must be.
 pub(crate) fn top_of(table: &Table) -> Option<Top<'_>>
-    ensures { let ms = table_view table.now in MatchOption result (fits (rules_of_top ms) ms ≡ false)
-        (λ t. (fits (rules_of_top ms) ms ≡ true)
+    ensures { let ms = table_view table.now in MatchOption result (fits_rules (rules_of_top ms) ms ≡ false)
+        (λ t. (fits_rules (rules_of_top ms) ms ≡ true)
         × HasNumbers ms t.numbers.version t.numbers.until t.numbers.constants t.numbers.room
         × HasShape ms t.shape.topology t.shape.nodes t.shape.delays (map view t.shape.links.now)
         × HasArrays ms (map view t.arrays.members.now) (map view t.arrays.draws.now)

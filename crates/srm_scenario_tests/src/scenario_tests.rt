@@ -130,6 +130,26 @@ fn network_and_script_of_a_scenario(rt: HostRuntime) -> Result<(), Fail> {
     Ok(())
 }
 
+// The join at tick 0 where none is given, the leave at 60, and draws and session messages by time, rank and place.
+#[test]
+fn each_member_has_its_own_script(rt: HostRuntime) -> Result<(), Fail> {
+    let s = scenario(rt.alloc(), SAMPLE)?;
+    let scripts = s.scripts(rt.alloc())?;
+    assert_eq!(rt; scripts.len(), 3);
+    let sender = [
+        mark(0, 0, 0, 0, 0),
+        mark(3, 4, 1, 6, 8),
+        mark(3, 5, 0, 0, 0),
+        mark(9, 4, 0, 5, 7),
+        mark(60, 6, 0, 0, 0),
+    ];
+    assert_eq!(rt; scripts[0].as_slice(), sender.as_slice());
+    let late = [mark(20, 0, 0, 0, 0), mark(70, 5, 1, 0, 0)];
+    assert_eq!(rt; scripts[1].as_slice(), late.as_slice());
+    assert_eq!(rt; scripts[2].as_slice(), [mark(0, 0, 0, 0, 0)].as_slice());
+    Ok(())
+}
+
 const fn link(a: u16, b: u16) -> LinkSpec {
     LinkSpec {
         a,

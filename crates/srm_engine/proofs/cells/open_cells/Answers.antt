@@ -1,68 +1,53 @@
-use Rattle.std.proofs.Common.{◌≡◌, ◌+◌, [], sym, ◌∙◌, ap, subst, length, map, arith, add-one, zero-add}
+use Rattle.std.proofs.Common.{◌≡◌, inl, inr, [], sym, ◌∙◌, ap, subst, map, arith}
 use Rattle.std.proofs.lemmas.Grind.{common_steps}
-use Rattle.std.specs.Vec.Iter.{into_iter_items}
-use Rattle.srm_cell.specs.Setting.{setting_of}
-use Rattle.srm_model.specs.World.{opening_cells}
-use Rattle.srm_engine.specs.Seen.{AreCells}
-use Rattle.srm_engine.specs.Openings.{records_from}
-use Rattle.srm_engine.proofs.Opened.{none_seen, length_opening, record_first, none_left}
+use Rattle.std.specs.declared.vec.IntoIter.{IntoIter}
+use Rattle.std.specs.Vec.Iter.{into_iter_items, into_iter_len}
+use Rattle.std.specs.Iterator.Adapters.{zip_first, zip_second}
+use Rattle.srm_engine.proofs.Opened.{OpenSoFar, open_none, open_next, open_all}
 use Rattle.srm_engine.proofs.cells.open_cells.Goals as goal
 
-pub loop-member-init : goal.loop-member-init
-loop-member-init g c = let i = c.into_iter-member-iterator.ensures.into_iter_gives.0 in (
-  tt,
-  tt,
-  λ net seed h.
-      rw (i, c.in_ok-cells.ensures.items) (
-        length c.args.scenario.now.members,
-        zero-add _,
-        h,
-        none_seen _ (setting_of c.args.scenario.now net seed),
-      ),
-)
+no_items : {X Z : Type 0} (it : IntoIter X Z) → into_iter_len it ≡ 0 → into_iter_items it ≡ []
+no_items it h = let ok = it.rest.ok in grind (arith, common_steps)
 
-pub add-requires-clause-number : goal.add-requires-clause-number
-add-requires-clause-number g c =
-    let k = length c.loop-member.cells.items in
-    let i = c.loop-member.invariant.2 c.requires.0 c.requires.1 c.requires.2 in
-    let f = record_first c.args.scenario.now c.requires.0 c.requires.1 k i.0 _ _
-    (sym (ap (map g.M.Participant.plain) c.in-Some.ensures.steps.0) ∙ i.2) in
-    let all : k + i.0 ≡ length c.args.scenario.now.members = i.1 in
-    let some : i.0 ≡ f.0 + 1 = f.1 ∙ sym (add-one f.0) in
-    omega arith
+pub loop-member-init : goal.loop-member-init
+loop-member-init g c =
+    let plain = g.M.Participant.plain in
+    let same = c.into_iter-member-iterator.ensures.into_iter_gives in
+    let first = ap (λ it. into_iter_items (zip_first it)) same ∙ ap into_iter_items c.zip-member-items.ensures.first
+    ∙ c.into_iter.ensures.rest in
+    let second = ap (λ it. into_iter_items (zip_second it)) same ∙ c.zip-member-items.ensures.second.0 in (
+      (tt, tt),
+      tt,
+      λ net seed h.
+          subst (λ cs. OpenSoFar plain c.args.scenario.now net seed (into_iter_items (zip_first c.into_iter-member-iterator.result))
+          (into_iter_items (zip_second c.into_iter-member-iterator.result)) cs) (sym c.in_ok-cells.ensures.items)
+          (open_none plain c.args.scenario.now net seed _ _ (ap (map plain) first ∙ h)
+          (ap (map (λ marks. marks.items)) second ∙ c.in-Ok.ensures.scripts)),
+    )
 
 pub loop-member-preserved : goal.loop-member-preserved
 loop-member-preserved g c = (
-  tt,
+  (tt, tt),
   tt,
   λ net seed h.
-      let s = setting_of c.args.scenario.now net seed in
-      let k = length c.loop-member.cells.items in
-      let i = c.loop-member.invariant.2 net seed h in
-      let f = record_first c.args.scenario.now net seed k i.0 _ _
-      (sym (ap (map g.M.Participant.plain) c.in-Some.ensures.steps.0) ∙ i.2) in
-      let added = c.in_ok-add.ensures net seed f.2 i.3 in
-      let now : length c.add.new.cells.items ≡ k + 1 = added.as_many ∙ length_opening s (k + 1) 0 in
-      let was = i.1 in
-      let more = f.1 in (
-        f.0,
-        omega arith,
-        f.3 ∙ ap (λ j. records_from c.args.scenario.now net seed j f.0) (sym (now ∙ add-one k)),
-        subst (λ j. AreCells g.M.Participant.plain c.add.new.cells.items (opening_cells s j 0))
-            (sym now) added,
-      ),
+      subst (λ cs. OpenSoFar g.M.Participant.plain c.args.scenario.now net seed (into_iter_items (zip_first c.next.new.self))
+      (into_iter_items (zip_second c.next.new.self)) cs) (sym c.in_ok-push.ensures.items)
+      (open_next g.M.Participant.plain c.args.scenario.now net seed c.in-Some.member _ _ c.in-Some.script _ _ c.loop-member.cells.items
+      c.new.result c.in-Some.ensures.steps.0.0 c.in-Some.ensures.steps.1.0 (c.loop-member.invariant.2 net seed h) c.new.ensures),
 )
+
+pub returns-clause-few : goal.returns-clause-few
+returns-clause-few g c =
+    let o = c.loop-member.invariant.2 c.requires.0 c.requires.1 c.requires.2 in
+    let all = o.all in
+    omega (arith, c.members.ensures, all)
 
 pub returns-clause-opened : goal.returns-clause-opened
 returns-clause-opened g c = λ net seed h.
-    let s = setting_of c.args.scenario.now net seed in
-    let k = length c.loop-member.cells.items in
-    let i = c.loop-member.invariant.2 net seed h in
-    let ok = c.loop-member.member-iterator.rest.ok in
-    let none : into_iter_items c.loop-member.member-iterator ≡ [] = grind (arith, common_steps) in
-    let zero = none_left c.args.scenario.now net seed k i.0
-    (sym (ap (map g.M.Participant.plain) none) ∙ i.2) in
-    let was = i.1 in
-    let all : k ≡ s.traffic.members = omega arith in
-    subst (λ j. AreCells g.M.Participant.plain c.loop-member.cells.items (opening_cells s j 0)) all
-    i.3
+    let it = c.loop-member.member-iterator in
+    open_all g.M.Participant.plain c.args.scenario.now net seed (into_iter_items (zip_first it)) (into_iter_items (zip_second it))
+    c.loop-member.cells.items (c.loop-member.invariant.2 net seed h)
+    (elim c.in-None.ensures.steps [
+      | inl w ↦ inl (no_items (zip_first it) w.1.0)
+      | inr w ↦ inr (no_items (zip_second it) w.1.0)
+    ])

@@ -9,7 +9,7 @@ returns-then-left-times c =
     let v = c.index-values-written.result in
     let at : slice_get (map view vs) c.loop-written.written ≡ Some (view v) =
     value_at vs c.loop-written.written v c.loop-written-test.true c.index-values-written.is in
-    (view v, at, c.times_of-times.ensures.times, c.if-left-times.true, c.loop-written.invariant)
+    (view v, at, c.times_repeated-times.ensures.times, c.if-left-times.true, c.loop-written.invariant)
 
 pub loop-written-preserved : goal.loop-written-preserved
 loop-written-preserved c =
@@ -17,4 +17,4 @@ loop-written-preserved c =
     let i = c.loop-written.written in
     let v = c.index-values-written.result in
     let more = made_more vs i v c.loop-written-test.true c.index-values-written.is in
-    omega (arith, more, c.times_of-times.ensures.times)
+    omega (arith, more, c.times_repeated-times.ensures.times)

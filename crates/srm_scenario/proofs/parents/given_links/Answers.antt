@@ -4,7 +4,7 @@ use Rattle.std.specs.List.{list_all}
 use Rattle.std.specs.Prelude.{IfOk, if◌then◌else◌}
 use Rattle.toml.specs.View.{view, table_view}
 use Rattle.srm_net.specs.declared.link.LinkSpec.{LinkSpec}
-use Rattle.srm_scenario.specs.Rules.{is_whole, last_number, number_of}
+use Rattle.srm_scenario.specs.Rules.{is_whole, last_number, whole_number_of}
 use Rattle.srm_scenario.specs.Described.{links_from, names_parents, parents_in, array_at, version_of}
 use Rattle.srm_scenario.proofs.Arrays.{numbers_read, small_numbers}
 use Rattle.srm_scenario.proofs.TopFits.{few_parents, whole_parents, few_nodes}
@@ -24,7 +24,7 @@ links_from-requires c =
     let vs = c.array.result.now in
     let few = few_parents ms c.requires in
     let many : length c.as_slice.result.now ≡ length (array_at (codes "parent") ms) =
-    ap length (c.as_slice.ensures ∙ c.in_ok-parents.ensures) ∙ length-map vs (λ v. unwrap_or (number_of (view v)) 0)
+    ap length (c.as_slice.ensures ∙ c.in_ok-parents.ensures) ∙ length-map vs (λ v. unwrap_or (whole_number_of (view v)) 0)
     ∙ sym (length-map vs view) ∙ ap length c.array.ensures in
     omega (arith, few, many)
 

@@ -16,9 +16,9 @@ returns-then-not-fit-clause-fault g c =
     let rules = g.E.Element.rules c.args.version in
     let read = kept (fits_element rules d) (g.E.Element.reading (table_of d)) c.in-Some.element c.in_ok-element.field-0
     c.in_ok-element.ensures c.in-Some.is in
-    let all : copies (λ (k : ℕ). g.E.Repeated.copy k c.every_of.result c.in-Some.element) 0 c.times_of.result
+    let all : copies (λ (k : ℕ). g.E.Repeated.copy k c.every_of.result c.in-Some.element) 0 c.times_repeated.result
     ≡ repeated g.E.Repeated.copy g.E.Element.reading d =
-    (λ i. copies (λ (k : ℕ). g.E.Repeated.copy k (c.every_of.ensures i) (read.1 i)) 0 (c.times_of.ensures.times i)) in
+    (λ i. copies (λ (k : ℕ). g.E.Repeated.copy k (c.every_of.ensures i) (read.1 i)) 0 (c.times_repeated.ensures.times i)) in
     let no : list_all g.E.Repeated.in_range (repeated g.E.Repeated.copy g.E.Element.reading d) ≡ false =
     sym (ap (list_all g.E.Repeated.in_range) all) ∙ sym c.in_ok-fit.ensures.fit ∙ c.if-not-fit.true in
     let test : fits_repeated rules g.E.Element.reading g.E.Repeated.copy g.E.Repeated.in_range d ≡ false = (λ i. read.0 i && no i) in
@@ -32,9 +32,9 @@ loop-place-preserved g c =
     let rules = g.E.Element.rules c.args.version in
     let read = kept (fits_element rules d) (g.E.Element.reading (table_of d)) c.in-Some.element c.in_ok-element.field-0
     c.in_ok-element.ensures c.in-Some.is in
-    let all : copies (λ (k : ℕ). g.E.Repeated.copy k c.every_of.result c.in-Some.element) 0 c.times_of.result
+    let all : copies (λ (k : ℕ). g.E.Repeated.copy k c.every_of.result c.in-Some.element) 0 c.times_repeated.result
     ≡ repeated g.E.Repeated.copy g.E.Element.reading d =
-    (λ i. copies (λ (k : ℕ). g.E.Repeated.copy k (c.every_of.ensures i) (read.1 i)) 0 (c.times_of.ensures.times i)) in
+    (λ i. copies (λ (k : ℕ). g.E.Repeated.copy k (c.every_of.ensures i) (read.1 i)) 0 (c.times_repeated.ensures.times i)) in
     let yes : list_all g.E.Repeated.in_range (repeated g.E.Repeated.copy g.E.Element.reading d) ≡ true =
     sym (ap (list_all g.E.Repeated.in_range) all) ∙ sym c.in_ok-fit.ensures.fit ∙ c.if-not-fit.false in
     let test : fits_repeated rules g.E.Element.reading g.E.Repeated.copy g.E.Repeated.in_range d ≡ true = (λ i. read.0 i && yes i) in

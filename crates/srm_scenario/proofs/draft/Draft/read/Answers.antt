@@ -6,7 +6,7 @@ use Rattle.srm_net.specs.declared.link.LinkSpec.{LinkSpec}
 use Rattle.srm_net.specs.Limits.{most_listed}
 use Rattle.srm_scenario.specs.declared.parts.DrawSpec.{DrawSpec}
 use Rattle.srm_scenario.specs.declared.parts.SessionSpec.{SessionSpec}
-use Rattle.srm_scenario.specs.Described.{link_of, draw_of, session_of, drop_of, outage_of, draw_copy, session_copy, drop_copy}
+use Rattle.srm_scenario.specs.Described.{link_of, draw_of, session_message_of, drop_of, outage_of, draw_copy, session_copy, drop_copy}
 use Rattle.srm_scenario.specs.Described.{outage_copy, repeated, names_parents, links_from, parents_in, version_of, array_at}
 use Rattle.srm_scenario.specs.Faults.{entry_of, entry_copy, faults_of_links, faults_of_members, faults_of_draws, faults_of_sessions}
 use Rattle.srm_scenario.specs.Faults.{faults_of_drops, faults_of_outages}
@@ -140,7 +140,7 @@ returns-clause-draft c =
       members = repeated-read (repeated entry_copy entry_of) c.in-Some.top.arrays.members.now _ _ t.3.members_are
           c.in_ok-members.ensures.read;
       draws = repeated-read (repeated draw_copy draw_of) c.in-Some.top.arrays.draws.now _ _ t.3.draws_are c.in_ok-draws.ensures.read;
-      sessions = repeated-read (repeated session_copy session_of) c.in-Some.top.arrays.sessions.now _ _ t.3.sessions_are
+      sessions = repeated-read (repeated session_copy session_message_of) c.in-Some.top.arrays.sessions.now _ _ t.3.sessions_are
           c.in_ok-sessions.ensures.read;
       drops = repeated-read (repeated drop_copy drop_of) c.in-Some.top.arrays.drops.now _ _ t.3.drops_are c.in_ok-drops.ensures.read;
       outages = repeated-read (repeated outage_copy outage_of) c.in-Some.top.arrays.outages.now _ _ t.3.outages_are
@@ -149,7 +149,7 @@ returns-clause-draft c =
           (repeated-read (repeated draw_copy draw_of) c.in-Some.top.arrays.draws.now _ _ t.3.draws_are c.in_ok-draws.ensures.read)
           (few_draws (version_of ms) (array_at (codes "draw") ms) (subst (FewElements (version_of ms)) t.3.draws_are t.3.few_draws) draws);
       few_sessions = subst (λ (rs : List SessionSpec). length rs ≤ most_listed)
-          (repeated-read (repeated session_copy session_of) c.in-Some.top.arrays.sessions.now _ _ t.3.sessions_are
+          (repeated-read (repeated session_copy session_message_of) c.in-Some.top.arrays.sessions.now _ _ t.3.sessions_are
           c.in_ok-sessions.ensures.read)
           (few_sessions (version_of ms) (array_at (codes "session") ms)
           (subst (FewElements (version_of ms)) t.3.sessions_are t.3.few_sessions) sessions);
