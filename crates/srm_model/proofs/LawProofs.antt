@@ -22,7 +22,7 @@ use Rattle.srm_model.proofs.Sequential.{good_reached, promise_safe, seq_ordered,
 use Rattle.srm_model.proofs.Settled.{at_member, get_after}
 use Rattle.srm_model.specs.Laws.{CellsRunAlone, NeverSpent, OwnRunsEnd, PromisesAreSafe, RefusalsAreMet, RunEnds, SchedulesAgree}
 use Rattle.srm_model.specs.Laws.{WindowsAreSafe, new_rows}
-use Rattle.srm_model.specs.Schedules.{own_of, rows_of, scheduled}
+use Rattle.srm_model.specs.Schedules.{own_of, rows_of_member, scheduled}
 use Rattle.srm_model.specs.World.{World, after_step, least_event, opening, row_cmp, run, cells_after, step_of, step_to}
 use Rattle.srm_member.specs.declared.row.Row.{Row}
 use Rattle.srm_net.specs.Orders.{ordered}
@@ -117,7 +117,7 @@ module _ (s : Setting) (end : ℕ) where
   from_idle f (Done d) h = cc
 
   abbrev pub Alone : ℕ → List Row → PlainCell → Option PlainCell → Type 0
-  Alone m rows c o = (n : ℕ) × (own_end end m n c ≡ Idle) × (rows_of m rows ≡ own_rows end m n c)
+  Alone m rows c o = (n : ℕ) × (own_end end m n c ≡ Idle) × (rows_of_member m rows ≡ own_rows end m n c)
       × (o ≡ Some (hear_rows s.traffic m rows (own_after end m n c)))
 
   alone : {cs ds : List PlainCell} {ms : List ℕ} {rows : List Row} → Sched s end cs ms rows ds → Quiet end ds → Safe s end cs

@@ -19,7 +19,7 @@ use Rattle.srm_model.proofs.Sequential.{Good, good_reached, good_step, member_be
 use Rattle.srm_model.proofs.StrictRuns.{keys_rise}
 use Rattle.srm_cell.specs.Crossings.{joined}
 use Rattle.srm_model.specs.Laws.{MergesAgree, by_member, new_rows}
-use Rattle.srm_model.specs.Schedules.{rows_of}
+use Rattle.srm_model.specs.Schedules.{rows_of_member}
 use Rattle.srm_model.specs.World.{World, opening, row_cmp, run}
 use Rattle.srm_member.proofs.AllIn.{AllIn}
 use Rattle.srm_member.proofs.FewerTimers.{In, in_append, count-append}
@@ -159,7 +159,7 @@ module _ (p : Row → Bool) where
   unfolding in_range
   count-by_member zero i rows = none_counted rows
   count-by_member (suc n) i rows =
-      let a = count-append p (rows_of i rows) (joined (by_member (suc i) n rows)) in
+      let a = count-append p (rows_of_member i rows) (joined (by_member (suc i) n rows)) in
       let b = count-filter p (λ r. r.key.member == i) rows in
       let c = count-by_member n (suc i) rows in
       let d = both_ranges i n rows in
@@ -185,7 +185,7 @@ in_filter q z (x ∷ xs) h = in_cond z x xs (filter q xs) (λ g. in_filter q z x
 
 in_joined : (z : Row) (n i : ℕ) (rows : List Row) → In z (joined (by_member i n rows)) → In z rows
 in_joined z zero i rows h = absurd h
-in_joined z (suc n) i rows h = elim (in_append z (rows_of i rows) (joined (by_member (suc i) n rows)) h) [
+in_joined z (suc n) i rows h = elim (in_append z (rows_of_member i rows) (joined (by_member (suc i) n rows)) h) [
   | inl g ↦ in_filter (λ r. r.key.member == i) z rows g
   | inr g ↦ in_joined z n (suc i) rows g
 ]

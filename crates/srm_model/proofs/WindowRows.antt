@@ -12,7 +12,7 @@ use Rattle.srm_cell.specs.Setting.{Setting}
 use Rattle.srm_cell.specs.Cells.{PlainCell, hear}
 use Rattle.srm_cell.specs.OwnRuns.{hear_rows, told_to}
 use Rattle.srm_model.specs.World.{row_cmp}
-use Rattle.srm_model.specs.Schedules.{rows_of}
+use Rattle.srm_model.specs.Schedules.{rows_of_member}
 use Rattle.srm_model.specs.Hearing.{all_hear, heard_below}
 use Rattle.srm_model.specs.Laws.{by_member, new_rows}
 use Rattle.srm_model.specs.WindowRuns.{rows_in, each_hears}
@@ -46,10 +46,11 @@ module _ {A : Type 0} (cmp : A → A → Ordering) where
     ascends_filter [] h = tt
     ascends_filter (x ∷ xs) h = ascends_cond x (filter q xs) (q x) (after_filter x xs h.0) (ascends_filter xs h.1)
 
-member_rows : (n i : ℕ) (rows : List Row) (j : ℕ) (l : List Row) → slice_get (by_member i n rows) j ≡ Some l → l ≡ rows_of (i + j) rows
+member_rows : (n i : ℕ) (rows : List Row) (j : ℕ) (l : List Row) → slice_get (by_member i n rows) j ≡ Some l
+    → l ≡ rows_of_member (i + j) rows
 member_rows zero i rows j l h = cc
-member_rows (suc n) i rows zero l h = same_Some _ _ (sym h) ∙ ap (λ k. rows_of k rows) (sym (add-zero i))
-member_rows (suc n) i rows (suc j) l h = member_rows n (suc i) rows j l h ∙ ap (λ k. rows_of k rows) (sym (shifted i j))
+member_rows (suc n) i rows zero l h = same_Some _ _ (sym h) ∙ ap (λ k. rows_of_member k rows) (sym (add-zero i))
+member_rows (suc n) i rows (suc j) l h = member_rows n (suc i) rows j l h ∙ ap (λ k. rows_of_member k rows) (sym (shifted i j))
 
 each_listed : {A : Type 0} (Q : A → Type 0) (xs : List A) → ((m : ℕ) (x : A) → slice_get xs m ≡ Some x → Q x) → AllByRecursion Q xs
 each_listed Q [] h = tt
@@ -64,7 +65,7 @@ own_rows_are_sorted s w end fit reached within safe results runs =
     (keys_rise s part.0 fit p.reached) in
     let each : (m : ℕ) (l : List Row) → slice_get (rows_in results) m ≡ Some l → IsSorted row_cmp l = λ m l g.
     let is = member_rows s.traffic.members 0 new m l (ap (λ x. slice_get x m) (sym p.rows) ∙ g) in
-    subst (IsSorted row_cmp) (sym is) (ascends_sorted (rows_of (0 + m) new)
+    subst (IsSorted row_cmp) (sym is) (ascends_sorted (rows_of_member (0 + m) new)
     (ascends_filter row_cmp (λ q. q.key.member == 0 + m) new (ascends_second row_cmp w.trace new all))) in
     All-from_recursion (IsSorted row_cmp) (rows_in results) (each_listed (IsSorted row_cmp) (rows_in results) each)
 

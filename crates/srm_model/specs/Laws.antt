@@ -13,7 +13,7 @@ use Rattle.srm_cell.specs.Cells.{Idle, Full, Spent, Done}
 use Rattle.srm_cell.specs.Crossings.{joined}
 use Rattle.srm_cell.specs.OwnRuns.{own_end, own_rows, own_after, hear_rows}
 use Rattle.srm_model.specs.World.{World, row_cmp, least_event, step, run, opening, IsReached, IsLast, RunMeetsFull}
-use Rattle.srm_model.specs.Schedules.{scheduled, IsQuiet, rows_of, HasResult, HasNoResult, IsSafe}
+use Rattle.srm_model.specs.Schedules.{scheduled, IsQuiet, rows_of_member, HasResult, HasNoResult, IsSafe}
 use Rattle.srm_model.specs.Windows.{IsWidth, promise_end, IsFirstQuiet}
 
 -- the rows of v after those of w
@@ -133,7 +133,7 @@ CellsRunAlone =
     → (ms : List ℕ) (u : World) → scheduled s end ms w ≡ Done u → IsQuiet end u
     → (m : ℕ) (c : PlainCell) → slice_get w.cells m ≡ Some c
     → (n : ℕ) × (own_end end m n c ≡ Idle)
-    × (rows_of m (new_rows w u) ≡ own_rows end m n c)
+    × (rows_of_member m (new_rows w u) ≡ own_rows end m n c)
     × (slice_get u.cells m ≡ Some (hear_rows s.traffic m (new_rows w u) (own_after end m n c)))
 
 -- ---- windows
@@ -176,7 +176,7 @@ PromiseEndsAreSafe =
 -- the rows of member i, of member i + 1, and so on, for n members
 abbrev pub by_member : ℕ → ℕ → List Row → List (List Row)
 by_member i zero rows = []
-by_member i (suc n) rows = rows_of i rows ∷ by_member (suc i) n rows
+by_member i (suc n) rows = rows_of_member i rows ∷ by_member (suc i) n rows
 
 -- the members' rows of a part of the sequential run, merged in order of their keys, are the rows of that part
 abbrev pub MergesAgree : Type 0

@@ -51,5 +51,5 @@ IsSafe s end w =
     (m : ℕ) (c : PlainCell) → slice_get w.cells m ≡ Some c → (n : ℕ) → AllSendLate s end (own_rows end m n c)
 
 -- member m's rows
-abbrev pub rows_of : ℕ → List Row → List Row
-rows_of m rows = filter (λ r. r.key.member == m) rows
+abbrev pub rows_of_member : ℕ → List Row → List Row
+rows_of_member m rows = filter (λ r. r.key.member == m) rows

@@ -8,7 +8,7 @@ use Rattle.std.proofs.lemmas.List.Sums.{sum_by_push}
 use Rattle.std.proofs.lemmas.List.Folds.{find-append}
 use Rattle.std.proofs.lemmas.List.{get_or_read, get_or-set_other, length-set}
 use Rattle.std.proofs.lemmas.Grind.{get_or-set_at}
-use Rattle.srm_model.specs.Schedules.{rows_of}
+use Rattle.srm_model.specs.Schedules.{rows_of_member}
 use Rattle.srm_member.specs.declared.row.Word.{Word}
 use Rattle.srm_member.specs.declared.row.Row.{Row}
 use Rattle.srm_member.specs.Kinds.{is_join, is_leave, is_draw, is_ask, is_answer, is_report, is_arrival, is_sent, is_fixed}
@@ -82,12 +82,14 @@ counts_more rows r c joined left drawn heard lost fixed requests repairs session
 
 -- ---- members
 
-rows_push : (m : ℕ) (rows : List Row) (r : Row) → rows_of m (rows ++ r ∷ [])
-    ≡ cond (r.key.member == m) (rows_of m rows ++ r ∷ []) (rows_of m rows)
+rows_push : (m : ℕ) (rows : List Row) (r : Row) → rows_of_member m (rows ++ r ∷ [])
+    ≡ cond (r.key.member == m) (rows_of_member m rows ++ r ∷ []) (rows_of_member m rows)
 rows_push m [] r = elim (r.key.member == m) as (λ b. cond b (r ∷ []) [] ≡ cond b (r ∷ []) []) [ true ↦ refl | false ↦ refl ]
-rows_push m (q ∷ rows) r = elim (q.key.member == m) as (λ b. cond b (q ∷ rows_of m (rows ++ r ∷ [])) (rows_of m (rows ++ r ∷ []))
-    ≡ cond (r.key.member == m) (cond b (q ∷ rows_of m rows) (rows_of m rows) ++ r ∷ []) (cond b (q ∷ rows_of m rows) (rows_of m rows))) [
-      | true ↦ ap (λ l. q ∷ l) (rows_push m rows r) ∙ under (r.key.member == m) q (rows_of m rows ++ r ∷ []) (rows_of m rows)
+rows_push m (q ∷ rows) r = elim (q.key.member == m)
+    as (λ b. cond b (q ∷ rows_of_member m (rows ++ r ∷ [])) (rows_of_member m (rows ++ r ∷ []))
+    ≡ cond (r.key.member == m) (cond b (q ∷ rows_of_member m rows) (rows_of_member m rows) ++ r ∷ [])
+    (cond b (q ∷ rows_of_member m rows) (rows_of_member m rows))) [
+      | true ↦ ap (λ l. q ∷ l) (rows_push m rows r) ∙ under (r.key.member == m) q (rows_of_member m rows ++ r ∷ []) (rows_of_member m rows)
       | false ↦ rows_push m rows r
     ]
   where
@@ -97,9 +99,10 @@ rows_push m (q ∷ rows) r = elim (q.key.member == m) as (λ b. cond b (q ∷ ro
 
 -- the rows of one member more
 pub member_rows-more : (rows : List Row) (m : ℕ) (ks : List MemberSpec) (k : MemberSpec) (n : ℕ) → m + length ks ≡ n
-    → member_rows rows m (ks ++ k ∷ []) ≡ member_rows rows m ks ++ member_fields n k (counts_of (rows_of n rows)) ∷ []
-member_rows-more rows m [] k n e = let same : m ≡ n = omega arith in ap (λ j. member_fields j k (counts_of (rows_of j rows)) ∷ []) same
-member_rows-more rows m (q ∷ ks) k n e = ap (λ l. member_fields m q (counts_of (rows_of m rows)) ∷ l)
+    → member_rows rows m (ks ++ k ∷ []) ≡ member_rows rows m ks ++ member_fields n k (counts_of (rows_of_member n rows)) ∷ []
+member_rows-more rows m [] k n e =
+    let same : m ≡ n = omega arith in ap (λ j. member_fields j k (counts_of (rows_of_member j rows)) ∷ []) same
+member_rows-more rows m (q ∷ ks) k n e = ap (λ l. member_fields m q (counts_of (rows_of_member m rows)) ∷ l)
     (member_rows-more rows (m + 1) ks k n (omega arith))
 
 -- ---- how great counts are
@@ -141,18 +144,19 @@ not_eqb a b ne = elim (a == b) as (λ t. (a == b) ≡ t → t ≡ false) [
 
 -- one row more, of the member whose counts are these
 module _ (rows : List Row) (r : Row) (cs : List Counts) (was : AreCounts rows cs) where
-  rows_at : (m : ℕ) (b : Bool) → (r.key.member == m) ≡ b → rows_of m (rows ++ r ∷ []) ≡ cond b (rows_of m rows ++ r ∷ []) (rows_of m rows)
-  rows_at m b e = rows_push m rows r ∙ ap (λ t. cond t (rows_of m rows ++ r ∷ []) (rows_of m rows)) e
+  rows_at : (m : ℕ) (b : Bool) → (r.key.member == m) ≡ b
+      → rows_of_member m (rows ++ r ∷ []) ≡ cond b (rows_of_member m rows ++ r ∷ []) (rows_of_member m rows)
+  rows_at m b e = rows_push m rows r ∙ ap (λ t. cond t (rows_of_member m rows ++ r ∷ []) (rows_of_member m rows)) e
 
   pub counted : (k : ℕ) (old new : Counts) → k ≡ r.key.member → k < length cs → old ≡ get_or cs k old
       → ((rs : List Row) → old ≡ counts_of rs → new ≡ counts_of (rs ++ r ∷ []))
       → AreCounts (rows ++ r ∷ []) (slice_set cs k new)
   counted k old new e within here adds = λ m.
-      elim (m == k) as (λ b. (m == k) ≡ b → get_or (slice_set cs k new) m (counts_of []) ≡ counts_of (rows_of m (rows ++ r ∷ []))) [
+      elim (m == k) as (λ b. (m == k) ≡ b → get_or (slice_set cs k new) m (counts_of []) ≡ counts_of (rows_of_member m (rows ++ r ∷ []))) [
         | true ↦ λ q.
             let same : m ≡ k = eqb-true m k q in
             get_or-set_at cs k m new (counts_of []) same within
-            ∙ adds (rows_of m rows)
+            ∙ adds (rows_of_member m rows)
             (get_or_read cs k old within here (counts_of []) ∙ ap (λ j. get_or cs j (counts_of [])) (sym same) ∙ was m)
             ∙ ap counts_of (sym (rows_at m true (eq-eqb _ _ (sym e ∙ sym same))))
         | false ↦ λ q.

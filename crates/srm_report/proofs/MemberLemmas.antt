@@ -3,7 +3,7 @@ use Rattle.std.proofs.Common.{◌≡◌, ◌∙◌, ℕ, ◌+◌, List, [], ◌�
 use Rattle.std.proofs.Math.Seq.{take-length}
 use Rattle.std.proofs.lemmas.List.{take_more, length-take-le}
 use Rattle.std.proofs.lemmas.Option.{get_or_from_slice_get, slice_get_within}
-use Rattle.srm_model.specs.Schedules.{rows_of}
+use Rattle.srm_model.specs.Schedules.{rows_of_member}
 use Rattle.csv.specs.Writing.{default_writer, row_text}
 use Rattle.srm_scenario.specs.declared.parts.MemberSpec.{MemberSpec}
 use Rattle.srm_scenario.specs.Plain.{PlainScenario}
@@ -21,11 +21,11 @@ module _ (rows : List Row) (ks : List MemberSpec) (cs : List Counts) (counts : A
       → new ≡ old ++ line → new ≡ table_lines member_columns (member_rows rows 0 (take (m + 1) ks))
   text_more m k n old new line here is before f grown =
       let lt = slice_get_within ks m k here in
-      let own : n ≡ counts_of (rows_of m rows) = is ∙ counts m in
+      let own : n ≡ counts_of (rows_of_member m rows) = is ∙ counts m in
       let long = length-take-le m ks (omega arith) in
       let one : take (m + 1) ks ≡ take m ks ++ k ∷ [] = take_more ks m k lt
       ∙ ap (λ q. take m ks ++ q ∷ []) (get_or_from_slice_get ks m k k here) in
-      table_more member_columns (member_rows rows 0 (take m ks)) (member_fields m k (counts_of (rows_of m rows))) old new line before
+      table_more member_columns (member_rows rows 0 (take m ks)) (member_fields m k (counts_of (rows_of_member m rows))) old new line before
       (f ∙ ap (λ q. row_text default_writer (member_fields m k q)) own) grown
       ∙ ap (table_lines member_columns) (sym (member_rows-more rows 0 (take m ks) k m (omega arith)) ∙ ap (member_rows rows 0) (sym one))
 

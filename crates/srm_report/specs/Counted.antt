@@ -1,7 +1,7 @@
 -- Counting rows one by one.
 use Rattle.std.specs.Prelude.{◌≡◌, ℕ, ◌*◌, ◌^◌, ◌≤◌, Bool, List, [], Option, Some, None, cond}
 use Rattle.std.specs.Prelude.{slice_index_or}
-use Rattle.srm_model.specs.Schedules.{rows_of}
+use Rattle.srm_model.specs.Schedules.{rows_of_member}
 use Rattle.srm_member.specs.declared.row.Row.{Row}
 use Rattle.srm_report.specs.declared.counts.Counts.{Counts}
 use Rattle.srm_report.specs.Members.{counts_of}
@@ -27,4 +27,4 @@ counts_at cs m = slice_index_or cs m (counts_of [])
 
 -- of each member, what its rows say
 abbrev pub AreCounts : List Row → List Counts → Type 0
-AreCounts rows cs = (m : ℕ) → counts_at cs m ≡ counts_of (rows_of m rows)
+AreCounts rows cs = (m : ℕ) → counts_at cs m ≡ counts_of (rows_of_member m rows)

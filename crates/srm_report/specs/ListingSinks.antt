@@ -38,8 +38,8 @@ module _ {L O : Type 0} where
   gathered_by s = s.gathered.items
 
   -- how many bytes may be gathered
-  abbrev pub room_of : ListingSink L O → ℕ
-  room_of s = s.room
+  abbrev pub gathering_room : ListingSink L O → ℕ
+  gathering_room s = s.room
 
   -- how many bytes the outlet took by the sink, up to 2^64 - 1
   abbrev pub written_by : ListingSink L O → ℕ
@@ -47,7 +47,7 @@ module _ {L O : Type 0} where
 
   -- both write to one outlet, and may gather as much
   abbrev pub AreOverOne : ListingSink L O → ListingSink L O → Type 0
-  AreOverOne a b = (b.outlet.ghost_name ≡ a.outlet.ghost_name) × (room_of b ≡ room_of a)
+  AreOverOne a b = (b.outlet.ghost_name ≡ a.outlet.ghost_name) × (gathering_room b ≡ gathering_room a)
 
   module _ (taken : O → Option (List ℕ)) where
     -- between these two values the outlet took these bytes, and they were counted

@@ -1,7 +1,7 @@
 -- The table of members: of each, what its rows say.
 use Rattle.std.specs.Prelude.{ℕ, ◌+◌, ◌-◌, List, [], ◌∷◌, length, codes, decimal}
 use Rattle.std.specs.List.{count_by, sum_by}
-use Rattle.srm_model.specs.Schedules.{rows_of}
+use Rattle.srm_model.specs.Schedules.{rows_of_member}
 use Rattle.srm_net.specs.declared.role.Role.{Role}
 use Rattle.srm_net.specs.declared.role.Role.TheVariants.{Sender, Receiver, Late, Listener}
 use Rattle.srm_scenario.specs.declared.parts.MemberSpec.{MemberSpec}
@@ -50,7 +50,7 @@ member_fields m k c =
 -- the rows of these members, the first of which is member m
 abbrev pub member_rows : List Row → ℕ → List MemberSpec → List (List (List ℕ))
 member_rows rows m [] = []
-member_rows rows m (k ∷ ks) = member_fields m k (counts_of (rows_of m rows)) ∷ member_rows rows (m + 1) ks
+member_rows rows m (k ∷ ks) = member_fields m k (counts_of (rows_of_member m rows)) ∷ member_rows rows (m + 1) ks
 
 -- the table of a scenario's members that left these rows
 unfoldable pub members_table : PlainScenario → List Row → List ℕ

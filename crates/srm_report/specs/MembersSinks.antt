@@ -16,19 +16,19 @@ abbrev pub counts_in : MembersSink → List Counts
 counts_in s = s.counts.items
 
 -- the sink has counted exactly these rows
-abbrev pub HasCounted : List Row → MembersSink → Type 0
-HasCounted rows s = AreCounts rows (counts_in s)
+abbrev pub HasCountedRows : List Row → MembersSink → Type 0
+HasCountedRows rows s = AreCounts rows (counts_in s)
 
 -- between these two values exactly these rows were counted, after those before
 abbrev pub CountsRows : MembersSink → List Row → MembersSink → Type 0
-CountsRows a rows b = (before : List Row) → HasCounted before a → HasCounted (before ++ rows) b
+CountsRows a rows b = (before : List Row) → HasCountedRows before a → HasCountedRows (before ++ rows) b
 
 -- ---- how counts compose over calls
 
 pub counts_none : (a : MembersSink) → CountsRows a [] a
-counts_none a before h = subst (λ (l : List Row). HasCounted l a) (sym (append-nil before)) h
+counts_none a before h = subst (λ (l : List Row). HasCountedRows l a) (sym (append-nil before)) h
 
 pub counts_more :
     (a b c : MembersSink) (xs ys : List Row) → CountsRows a xs b → CountsRows b ys c → CountsRows a (xs ++ ys) c
 counts_more a b c xs ys h k before counted =
-    subst (λ (l : List Row). HasCounted l c) (append_assoc before xs ys) (k (before ++ xs) (h before counted))
+    subst (λ (l : List Row). HasCountedRows l c) (append_assoc before xs ys) (k (before ++ xs) (h before counted))

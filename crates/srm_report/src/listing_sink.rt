@@ -78,7 +78,7 @@ fn write<O: Outlet>(outlet: &mut O, written: &mut u64, text: &[u8]) -> Result<()
 impl<'a, L: Listing, O: Outlet> ListingSink<'a, L, O> {
     ghost use Rattle.srm_engine.specs.declared.sink.Stage.{Stage as AStage};
     ghost use Rattle.srm_engine.specs.Sinks.{IsOpen, stops_in};
-    ghost use Rattle.srm_report.specs.ListingSinks.{stage_of, standing_of, outlet_under, gathered_by, room_of, written_by, AreOverOne, PutsText, LeavesOutlet, WritesGathered, WritesThrough, Flushes};
+    ghost use Rattle.srm_report.specs.ListingSinks.{stage_of, standing_of, outlet_under, gathered_by, gathering_room, written_by, AreOverOne, PutsText, LeavesOutlet, WritesGathered, WritesThrough, Flushes};
 
     /// A sink of this table over this outlet, which took no rows yet. It writes each piece of the table as it comes. It does not
     /// allocate.
@@ -87,7 +87,7 @@ impl<'a, L: Listing, O: Outlet> ListingSink<'a, L, O> {
         ensures same { outlet_under result ≡ outlet.old }
         ensures stage { stage_of result ≡ AStage.Fresh }
         ensures gathered { gathered_by result ≡ [] }
-        ensures room { room_of result ≡ 0 }
+        ensures room { gathering_room result ≡ 0 }
         ensures written { written_by result ≡ 0 }
     {
         ListingSink::gathering(alloc, listing, outlet, 0)
@@ -99,7 +99,7 @@ impl<'a, L: Listing, O: Outlet> ListingSink<'a, L, O> {
         ensures same { outlet_under result ≡ outlet.old }
         ensures stage { stage_of result ≡ AStage.Fresh }
         ensures gathered { gathered_by result ≡ [] }
-        ensures room { room_of result ≡ room }
+        ensures room { gathering_room result ≡ room }
         ensures written { written_by result ≡ 0 }
     {
         ListingSink {

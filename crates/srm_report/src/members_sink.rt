@@ -30,11 +30,11 @@ impl MembersSink {
     ghost use Rattle.srm_member.specs.declared.row.Row.{Row as R};
     ghost use Rattle.srm_engine.specs.declared.sink.Stage.{Stage as AStage};
     ghost use Rattle.srm_report.specs.Members.{members_table};
-    ghost use Rattle.srm_report.specs.MembersSinks.{stage_of_members, counts_in, HasCounted, CountsRows};
+    ghost use Rattle.srm_report.specs.MembersSinks.{stage_of_members, counts_in, HasCountedRows, CountsRows};
 
     /// It has counted no row yet. It does not allocate.
     pub fn new(alloc: Global) -> Self
-        ensures counted { HasCounted [] result }
+        ensures counted { HasCountedRows [] result }
         ensures stage { stage_of_members result ≡ Stage.Fresh }
     {
         MembersSink {
@@ -49,7 +49,7 @@ impl MembersSink {
     /// # Errors
     /// `NoMemory`: the sink is as it was.
     pub fn text(&self, alloc: Global, scenario: &Scenario) -> Result<Vec<u8>, ReportFault>
-        ensures { (rows : List R) → HasCounted rows self.now
+        ensures { (rows : List R) → HasCountedRows rows self.now
             → IfOk result (λ text. text.items ≡ members_table scenario.now rows) }
     {
         table_text(alloc, scenario, self.counts.as_slice())
@@ -83,7 +83,7 @@ impl MembersSink {
     fn reach(&mut self, member: usize) -> Result<(), AllocError>
         ensures room { OnOk result (member < length (counts_in self.new)) }
         ensures taken { self.new.taken ≡ self.old.taken }
-        ensures counts { (rows : List R) → HasCounted rows self.old → HasCounted rows self.new }
+        ensures counts { (rows : List R) → HasCountedRows rows self.old → HasCountedRows rows self.new }
     {
         while self.counts.len() <= member {
             self.counts.push(Counts::new())?;
