@@ -1,13 +1,15 @@
 -- Rows of lists, brought into order.
 use Rattle.std.proofs.Common.{◌≡◌, ◌∙◌, ◌<◌, ◌≤◌, ◌+◌, ◌++◌, ◌↔◌, Bool, true, false, not, IsTrue, ℕ, List, [], ◌∷◌}
 use Rattle.std.proofs.Common.{Option, Some, None, Ordering, Less, Equal, Greater, All, IsSorted, is_lt, IsPermutation, length, drop}
-use Rattle.std.proofs.Common.{get_or, slice_index_or, append-nil, subst, sym, ap, map, refl, arith}
+use Rattle.std.proofs.Common.{get_or, slice_index_or, slice_get, slice_set, zero, suc, append-nil, append_assoc, subst, sym, ap, map}
+use Rattle.std.proofs.Common.{refl, arith}
 use Rattle.std.specs.Ordering.{nat_cmp, ordering_then}
 use Rattle.srm_net.specs.declared.key.Key.{Key}
 use Rattle.srm_net.specs.Keys.{key_cmp}
 use Rattle.std.specs.Option.{unwrap_or, option_to_list}
 use Rattle.std.specs.List.{IsAllAdjacentAnswer}
-use Rattle.std.proofs.lemmas.List.Sorted.{IsPermutation-refl}
+use Rattle.std.proofs.lemmas.Option.{same_Some}
+use Rattle.std.proofs.lemmas.List.Sorted.{IsPermutation-refl, IsPermutation-trans, IsPermutation-append_right, IsPermutation-middle}
 use Rattle.std.proofs.lemmas.List.{drop_more, length-append}
 use Rattle.std.proofs.Math.ListN.{drop_of_length-le}
 use Rattle.std.proofs.lemmas.List.Elements.{recursion_from_All}
@@ -72,6 +74,30 @@ last_alone cmp vs us (Some v) none e nil empty all =
       rw is (subst (λ l. IsPermutation l v.items) (sym (append-nil v.items)) (IsPermutation-refl v.items)),
       (recursion_from_All (IsSorted cmp) (v.items ∷ []) (subst (λ l. All (IsSorted cmp) (map (λ (v : Vec _). v.items) l)) is all)).0,
     )
+
+-- one of what goes over lists gives its first element
+pub gives_first : {I A : Type 0} (f : I → List A) (is : List I) (k : ℕ) (i j : I) (x : A) → slice_get is k ≡ Some i → f i ≡ x ∷ f j
+    → IsPermutation (joined (map f is)) (x ∷ joined (map f (slice_set is k j)))
+gives_first f [] k i j x at e = cc
+gives_first f (h ∷ is) zero i j x at e =
+    let rest = joined (map f is) in
+    subst (λ l. IsPermutation (l ++ rest) (x ∷ (f j ++ rest))) (sym (ap f (same_Some _ _ at) ∙ e)) (IsPermutation-refl (x ∷ (f j ++ rest)))
+gives_first f (h ∷ is) (suc k) i j x at e =
+    let rest = joined (map f (slice_set is k j)) in
+    IsPermutation-trans _ _ _ (IsPermutation-append_right (f h) _ _ (gives_first f is k i j x at e)) (IsPermutation-middle (f h) x rest)
+
+-- after what was taken before
+pub one_taken : {A : Type 0} (done all rest : List A) (x : A) → IsPermutation all (x ∷ rest)
+    → IsPermutation (done ++ all) ((done ++ x ∷ []) ++ rest)
+one_taken done all rest x h = subst (IsPermutation (done ++ all)) (sym (append_assoc done (x ∷ []) rest))
+    (IsPermutation-append_right done _ _ h)
+
+-- one that has none gives none
+pub gives_none : {I A : Type 0} (f : I → List A) (is : List I) (k : ℕ) (i j : I) → slice_get is k ≡ Some i → f i ≡ f j
+    → joined (map f is) ≡ joined (map f (slice_set is k j))
+gives_none f [] k i j at e = cc
+gives_none f (h ∷ is) zero i j at e = ap (λ l. l ++ joined (map f is)) (ap f (same_Some _ _ at) ∙ e)
+gives_none f (h ∷ is) (suc k) i j at e = ap (λ l. f h ++ l) (gives_none f is k i j at e)
 
 -- how many rows the lists have from the k-th on
 abbrev pub rows_from : {A : Type 0} → ℕ → List (Vec A) → ℕ

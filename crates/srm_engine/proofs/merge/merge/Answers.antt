@@ -19,15 +19,13 @@ returns-then-len-lt2 c =
 
 pub returns-then-are_in_order : goal.returns-then-are_in_order
 returns-then-are_in_order c = (
-  subst (λ xs. IsPermutation xs c.sort_by_cached_key.new.self.items) c.in_ok-all.ensures
-      c.in_ok-sort_by_cached_key.ensures.permutation,
-  subst (IsSorted row_cmp) c.as_slice.ensures.value (c.are_in_order.ensures.0 c.if-are_in_order.true),
+  c.in_ok-all.ensures,
+  subst (IsSorted row_cmp) c.as_slice-3.ensures.value (c.are_in_order.ensures.0 c.if-are_in_order.true),
 )
 
 pub returns : goal.returns
 returns c = (
-  subst (λ xs. IsPermutation xs c.sort_by_cached_key-2.new.self.items) c.in_ok-all.ensures
-      (IsPermutation-trans _ _ _ c.in_ok-sort_by_cached_key.ensures.permutation c.in_ok-sort_by_cached_key-2.ensures.permutation),
-  sorted_by_keys c.sort_by_cached_key-2.new.self.items (c.in_ok-sort_by_cached_key-2.ensures.sorted (λ (row : Row). row.key)
+  IsPermutation-trans _ _ _ c.in_ok-all.ensures c.in_ok-sort_by_cached_key.ensures.permutation,
+  sorted_by_keys c.sort_by_cached_key.new.self.items (c.in_ok-sort_by_cached_key.ensures.sorted (λ (row : Row). row.key)
       (answers_always _ _ _ (λ f a r f' k. search rules))),
 )
