@@ -16,6 +16,7 @@ import pathlib
 import subprocess
 import sys
 import tempfile
+import time
 import tomllib
 import unittest
 from collections.abc import Sequence
@@ -108,6 +109,20 @@ class CommandLineCase(ProgramCase):
             told = dict(line.split(": ") for line in pathlib.Path(f"/proc/{child.pid}/io").read_text().splitlines())
             self.assertEqual(child.wait(), 0)
             return int(told["wchar"]), int(told["syscw"])
+
+
+def busy_threads(process: int) -> set[str]:
+    """The threads of a process that took processor time so far."""
+    busy = set()
+    for thread in pathlib.Path(f"/proc/{process}/task").glob("*"):
+        try:
+            # what stands after the name of the thread; its time and the system's for it are fields 14 and 15 of all
+            fields = (thread / "stat").read_text().rpartition(")")[2].split()
+        except OSError:
+            continue
+        if int(fields[11]) + int(fields[12]) > 0:
+            busy.add(thread.name)
+    return busy
 
 
 def member(node: int, role: str) -> str:
@@ -269,10 +284,34 @@ class Crews(CommandLineCase):
         given = ((NO_WORDS, 0), (["--workers", "1"], 0), (["--workers", "2"], 1), (["--workers=7"], 6), (["--workers", "+64"], 63))
         for crew, (words, more) in itertools.product(("bag", "team"), given):
             with self.subTest(crew=crew, words=words):
-                self.assertEqual(self.threads([*WINDOW, "--crew", crew, *words]), more)
+                if (crew, words) != ("team", NO_WORDS):
+                    self.assertEqual(self.threads([*WINDOW, "--crew", crew, *words]), more)
+
+    def test_a_team_has_a_worker_for_each_processor(self) -> None:
+        processors = os.sched_getaffinity(0)
+        self.addCleanup(os.sched_setaffinity, 0, processors)
+        for count in range(1, min(4, len(processors)) + 1):
+            with self.subTest(count=count):
+                os.sched_setaffinity(0, sorted(processors)[:count])
+                self.assertEqual(self.threads([*WINDOW, "--crew", "team"]), count - 1)
+                self.assertEqual(self.threads([*WINDOW, "--crew", "bag"]), 0)
 
     def test_a_team_starts_its_threads_once(self) -> None:
         self.assertEqual(self.threads([*WINDOW, "--crew", "team", "--workers", "3"], chain(20, 1)), 2)
+
+    def test_each_worker_of_a_team_works(self) -> None:
+        """By the processor time of each thread, of which one that is handed nothing takes none."""
+        words = [*WINDOW, "--crew", "team", "--workers", "3"]
+        worked: set[str] = set()
+        with tempfile.TemporaryFile() as given:
+            given.write(star(255, 625))
+            given.seek(0)
+            with self.program.start(words, stdin=given, stdout=subprocess.DEVNULL) as child:
+                while len(worked) < 3 and child.poll() is None:
+                    worked |= busy_threads(child.pid)
+                    time.sleep(0.01)
+                child.wait(LONGEST)
+        self.assertEqual(len(worked), 3)
 
     def test_no_other_run_starts_a_thread_for_each_worker(self) -> None:
         others = (NO_WORDS, ["--engine", "step"], WINDOW, [*WINDOW, "--crew", "plain"], *(["--crew", crew] for crew in ("bag", "team", "pool")))
@@ -374,7 +413,7 @@ Windows (advanced: how a run is worked out, the table is the same):
       --crew <plain|pool|bag|team>
           Who works in a window: one thread, a pool of threads, workers that share a bag, or a team that lasts [default: plain]
       --workers <1..=64>
-          How many workers share the bag, or are the team [default: 1]
+          How many workers share the bag, or are the team, which has else one for each processor [default: 1]
       --cut <N>
           How many members a job of a window has, 1 to 1024 [default: 1]
       --width <least|promise|N>

@@ -8,4 +8,4 @@ pub mod Peeling
 pub mod WorkedLemmas
 pub mod Ordering
 pub mod JobsShared
-pub mod Teaming
+pub mod JobPieces

@@ -2,21 +2,20 @@
 #![tactic(auto)]
 
 mod add;
+pub mod advancing;
 pub mod bag;
 pub mod bag_crew;
 pub mod bag_fault;
-mod count_runs;
 mod counted;
 pub mod crew;
 mod each;
 pub mod fault;
 pub mod gate;
 mod order;
-pub mod own_runs;
 pub mod pass;
+mod pieces;
 pub mod plain;
 pub mod pool;
-pub mod ran;
 pub mod recording;
 pub mod rule;
 mod shared;

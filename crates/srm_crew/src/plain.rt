@@ -30,6 +30,8 @@ impl PlainCrew {
 impl<M: Participant> Crew<M> for PlainCrew {
     ghost ready = { λ _. Unit {0} };
 
+    ghost serves = { λ _ _ _. Unit {0} };
+
     ghost handed = { λ _ _ _. Unit {0} };
 
     ghost handed_none = { λ c. tt };
@@ -46,12 +48,14 @@ impl<M: Participant> Crew<M> for PlainCrew {
         jobs: Vec<Job<M>>,
     ) -> Result<(Vec<Done<M>>, Seat), CrewFault>
         requires ready { Unit {0} }
+        requires serves { Unit {0} }
         requires jobs { All (λ j. MayAdvance M.plain (length net.now.hosts) j) jobs.items }
         requires many { length jobs.items ≤ most_nodes }
         requires places { map (λ j. j.place) jobs.items ≡ range_with_len 0 (length jobs.items) }
         requires links { ledger.now.links ≡ length net.now.links }
         requires seat { seat.ledger ≡ ledger.now.name }
         ensures ready { Unit {0} }
+        ensures serves { Unit {0} }
         ensures done { Maps M.plain scenario.now net.now seat jobs.items result }
         ensures handed { IfOk result (λ _. (ps : List PlainJob) → AreJobs M.plain jobs.items ps
             → Unit {0}) }

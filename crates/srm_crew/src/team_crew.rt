@@ -4,14 +4,14 @@ ghost use Rattle.std.specs.List.{range_with_len};
 ghost use Rattle.srm_net.specs.Limits.{most_nodes};
 ghost use Rattle.srm_cell.specs.Jobs.{PlainJob, MayAdvance};
 ghost use Rattle.srm_crew.specs.Crews.{AdvanceEach, AreJobs, Maps};
+ghost use Rattle.srm_crew.specs.Teams.{IsWorkOn};
 
 use crate::add::settle;
-use crate::count_runs::count_each;
+use crate::advancing::Advancing;
 use crate::crew::Crew;
 use crate::each::advance_each;
 use crate::fault::CrewFault;
-use crate::own_runs::OwnRuns;
-use crate::ran::Ran;
+use crate::pieces::{due_in_all, pieces_of, put_together};
 use srm_cell::fault::CellFault;
 use srm_cell::job::{Done, Job};
 use srm_ledger::ledger::{Ledger, Seat};
@@ -23,53 +23,65 @@ use srm_team::team::Team;
 use std::alloc::Global;
 use std::sync::Wait;
 
-/// Does the own runs of jobs on the threads of a team, which stay for the next call. The crossings are counted on the thread that
-/// calls. Where more jobs come at once than the team has room for, that thread does all of them.
+/// Advances jobs on the threads of a team, which stay for the next call. It serves runs of one scenario, which it keeps with its
+/// network. The jobs of a call are handed to the team in as many pieces as it has room for. Where something is due in few cells, the
+/// thread that calls does all the work: to wake the others would take longer.
 #[derive(Drop)]
-pub struct TeamCrew<R: Wait, M: Participant, J: Naming> {
+pub struct TeamCrew<'a, R: Wait, M: Participant, J: Naming> {
     rt: R,
-    team: Team<OwnRuns, Job<M>, Result<Ran<M>, CellFault>, J>,
-    room: usize,
+    team: Team<Advancing<'a>, Vec<Job<M>>, Result<Vec<Done<M>>, CellFault>, J>,
+    work: Advancing<'a>,
+    few: usize,
 }
 
-// Advances each job: its own runs on the threads of a team, and the counting here; or all of it here, where there are more jobs
-// than room.
-fn advance_in_team<R: Wait, M: Participant, J: Naming>(
+// Advances each job, in pieces that a team works on. Something is due in so many of their cells.
+fn advance_in_team<'a, R: Wait, M: Participant, J: Naming>(
     rt: &R,
     alloc: Global,
-    team: &mut Team<OwnRuns, Job<M>, Result<Ran<M>, CellFault>, J>,
-    room: usize,
-    scenario: &Scenario,
-    net: &Net,
+    team: &mut Team<Advancing<'a>, Vec<Job<M>>, Result<Vec<Done<M>>, CellFault>, J>,
+    work: Advancing<'a>,
     jobs: Vec<Job<M>>,
+    due: usize,
 ) -> Result<Vec<Done<M>>, CellFault>
-    requires { All (λ j. MayAdvance M.plain (length net.now.hosts) j) jobs.items }
-    ensures { AdvanceEach M.plain scenario.now net.now jobs.items result }
+    requires { All (λ j. MayAdvance M.plain (length work.net.now.hosts) j) jobs.items }
+    ensures { AdvanceEach M.plain work.entry.scenario.now work.entry.net.now jobs.items result }
 {
-    if jobs.len() > room {
-        return advance_each(alloc, scenario, net, jobs);
-    }
-    match team.map(rt, alloc, OwnRuns { alloc }, jobs) {
-        Ok(all) => count_each(alloc, scenario, net, all),
+    let room = team.room().max(1);
+    let Ok(pieces) = pieces_of(alloc, jobs, due / room, room - 1) else {
+        return Err(CellFault::NoMemory);
+    };
+    match team.map(rt, alloc, work, pieces) {
+        Ok(all) => put_together(alloc, all),
         Err(_) => Err(CellFault::NoMemory),
     }
 }
 
-impl<R: Wait, M: Participant, J: Naming> TeamCrew<R, M, J> {
-    /// A crew that has this team, which has room for so many jobs at once. It does not allocate.
+impl<'a, R: Wait, M: Participant, J: Naming> TeamCrew<'a, R, M, J> {
+    /// A crew that has this team, and does this work. The thread that calls does it where something is due in fewer than `few` cells,
+    /// or where the team has room for no item. It does not allocate.
     ///
     /// A call of it is refused with `NoMemory` also after 2^62 calls of the team.
     pub fn new(
         rt: R,
-        team: Team<OwnRuns, Job<M>, Result<Ran<M>, CellFault>, J>,
-        room: usize,
-    ) -> TeamCrew<R, M, J> {
-        TeamCrew { rt, team, room }
+        team: Team<Advancing<'a>, Vec<Job<M>>, Result<Vec<Done<M>>, CellFault>, J>,
+        work: Advancing<'a>,
+        few: usize,
+    ) -> TeamCrew<'a, R, M, J>
+        ensures { result.work ≡ work.entry }
+    {
+        TeamCrew {
+            rt,
+            team,
+            work,
+            few,
+        }
     }
 }
 
-impl<R: Wait, M: Participant, J: Naming> Crew<M> for TeamCrew<R, M, J> {
+impl<'a, R: Wait, M: Participant, J: Naming> Crew<M> for TeamCrew<'a, R, M, J> {
     ghost ready = { λ _. Unit {0} };
+
+    ghost serves = { λ c k net. IsWorkOn c.work k net };
 
     ghost handed = { λ _ _ _. Unit {0} };
 
@@ -87,24 +99,23 @@ impl<R: Wait, M: Participant, J: Naming> Crew<M> for TeamCrew<R, M, J> {
         jobs: Vec<Job<M>>,
     ) -> Result<(Vec<Done<M>>, Seat), CrewFault>
         requires ready { Unit {0} }
+        requires serves { IsWorkOn self.old.work scenario.now net.now }
         requires jobs { All (λ j. MayAdvance M.plain (length net.now.hosts) j) jobs.items }
         requires many { length jobs.items ≤ most_nodes }
         requires places { map (λ j. j.place) jobs.items ≡ range_with_len 0 (length jobs.items) }
         requires links { ledger.now.links ≡ length net.now.links }
         requires seat { seat.ledger ≡ ledger.now.name }
         ensures ready { Unit {0} }
+        ensures serves { IsWorkOn self.new.work scenario.now net.now }
         ensures done { Maps M.plain scenario.now net.now seat jobs.items result }
         ensures handed { IfOk result (λ _. (ps : List PlainJob) → AreJobs M.plain jobs.items ps → Unit {0}) }
     {
-        let advanced = advance_in_team(
-            &self.rt,
-            alloc,
-            &mut self.team,
-            self.room,
-            scenario,
-            net,
-            jobs,
-        );
+        let due = due_in_all(jobs.as_slice());
+        let advanced = if due < self.few || self.team.room() == 0 {
+            advance_each(alloc, scenario, net, jobs)
+        } else {
+            advance_in_team(&self.rt, alloc, &mut self.team, self.work, jobs, due)
+        };
         settle(ledger, seat, advanced)
     }
 }

@@ -102,10 +102,12 @@ impl<'a, M: Participant> WindowEngine<'a, M> {
         begin: u64,
     ) -> Result<(WindowEngine<'a, M>, Vec<Vec<Row>>), WindowFault>
         requires ready { C.ready crew.old }
+        requires serves { C.serves crew.old self.scenario.now self.net.now }
         requires stands { IsUnderWay M.plain self }
         requires begin { BeginsNext M.plain self begin }
         requires early { begin < self.scenario.now.until }
         ensures ready { C.ready crew.new }
+        ensures serves { C.serves crew.new self.entry.scenario.now self.entry.net.now }
         ensures frame { IfOk result (λ ran. frame_of ran.0 ≡ frame_of self.entry) }
         ensures stands { IfOk result (λ ran. IsUnderWay M.plain ran.0) }
         ensures later { IfOk result (λ ran. (next : ℕ) → BeginsNext M.plain ran.0 next
@@ -151,10 +153,12 @@ impl<'a, M: Participant> WindowEngine<'a, M> {
         sink: &mut S,
     ) -> Result<WindowEngine<'a, M>, Halt<WindowFault>>
         requires ready { C.ready crew.old }
+        requires serves { C.serves crew.old self.scenario.now self.net.now }
         requires stands { IsUnderWay M.plain self }
         requires open { IsOpen (S.stage sink.old) }
         requires failures { S.failures sink.old < 2 ^ 64 - 1 }
         ensures ready { C.ready crew.new }
+        ensures serves { C.serves crew.new self.entry.scenario.now self.entry.net.now }
         ensures stands { IfOk result (λ e. IsUnderWay M.plain e) }
         ensures frame { IfOk result (λ e. frame_of e ≡ frame_of self.entry) }
         ensures device { S.same sink.old sink.new }

@@ -39,9 +39,11 @@ pub fn window_run<M: Participant, C: Crew<M>>(
     asked: Windows,
 ) -> Result<Outcome, RunFault>
     requires ready { C.ready crew.old }
+    requires serves { C.serves crew.old scenario.now net.now }
     requires network { net.now ≡ network_of scenario.now }
     requires boxes { (seed : ℕ) × HoldOpeningRecords scenario.now net.now seed (map M.plain members.items) }
     ensures ready { C.ready crew.new }
+    ensures serves { C.serves crew.new scenario.now net.now }
     ensures asked { TellsRunAsked net.now asked result }
     ensures run { RunsInWindows C.handed scenario.now net.now (map M.plain members.items)
         (λ s. rule_of s net.now asked.width) asked.cut crew.old result crew.new }

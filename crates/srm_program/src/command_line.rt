@@ -3,15 +3,18 @@ ghost use Rattle.std.specs.Prelude.{IfOk};
 ghost use Rattle.clap.specs.Words.{kind_of};
 ghost use Rattle.srm_program.specs.CommandLine.{TakesNumber, TellsKind};
 ghost use Rattle.srm_program.specs.Program.{MayBeAsked};
+ghost use Rattle.srm_program.specs.Runs.{MayShareBag};
 
 use crate::fault::LineFault;
 use crate::options::{CrewKind, Engine, Options, Show};
 use clap::builder::ValueParser;
 use clap::error::ErrorKind;
+use clap::parser::ValueSource;
 use clap::{Arg, ArgAction, ArgMatches, Command, Error};
 use srm_engine::width::Width;
 use std::alloc::{AllocError, Global};
 use std::convert::AsStr;
+use std::thread::{Threads, available_parallelism};
 
 /// The version of the program.
 const VERSION: &str = "0.2.0";
@@ -93,7 +96,7 @@ const WORKERS: OptionLine = OptionLine {
     name: "workers",
     takes: "1..=64",
     default: "1",
-    about: "How many workers share the bag, or are the team",
+    about: "How many workers share the bag, or are the team, which has else one for each processor",
     reader: Reader::Number { least: 1, most: 64 },
     words: &[],
 };
@@ -189,6 +192,47 @@ const SHOWS: [(&str, Show); 5] = [
 pub fn options_of<S: AsStr>(alloc: Global, words: &[S]) -> Result<(u64, Options), LineFault>
     ensures { IfOk result MayBeAsked }
 {
+    match read_words(alloc, words) {
+        Ok((seed, options, _)) => Ok((seed, options)),
+        Err(fault) => Err(fault),
+    }
+}
+
+/// The same on this machine: a team of which the words do not say how many workers it has, has one for each processor, up to 64.
+///
+/// # Errors
+/// As of [`options_of`].
+pub(crate) fn options_here<S: AsStr>(
+    rt: &impl Threads,
+    alloc: Global,
+    words: &[S],
+) -> Result<(u64, Options), LineFault>
+    ensures { IfOk result MayBeAsked }
+{
+    let (seed, mut options, told) = match read_words(alloc, words) {
+        Ok(read) => read,
+        Err(fault) => return Err(fault),
+    };
+    if options.crew == CrewKind::Team && !told {
+        options.workers = processors(rt);
+    }
+    Ok((seed, options))
+}
+
+// How many processors there are, up to 64; or one, where that cannot be told.
+fn processors(rt: &impl Threads) -> u8
+    ensures { MayShareBag result }
+{
+    match available_parallelism(rt) {
+        Ok(count) => count.get().min(64) as u8,
+        Err(_) => 1,
+    }
+}
+
+// What the words ask for, and whether they say how many workers.
+fn read_words<S: AsStr>(alloc: Global, words: &[S]) -> Result<(u64, Options, bool), LineFault>
+    ensures { IfOk result (λ read. MayBeAsked (read.0, read.1)) }
+{
     let matches = match command(alloc, Wording::Any)?.try_get_matches_from(words) {
         Ok(matches) => matches,
         Err(error) => return Err(fault_of(alloc, &error)),
@@ -205,7 +249,8 @@ pub fn options_of<S: AsStr>(alloc: Global, words: &[S]) -> Result<(u64, Options)
         check: matches.get_flag(CHECK.name),
         explain: matches.get_flag(EXPLAIN.name),
     };
-    Ok((seed, options))
+    let told = matches.value_source(WORKERS.name) == Some(ValueSource::CommandLine);
+    Ok((seed, options, told))
 }
 
 /// What is told of refused words after their line: `clap`'s message, which names the word and what may stand in its place. It is

@@ -104,6 +104,7 @@ pub(crate) fn in_windows<M: Participant, C: Crew<M>, S: RowSink>(
     requires network { asked.now.net.now ≡ network_of asked.now.scenario.now }
     requires boxes { (seed : ℕ) × HoldOpeningRecords asked.now.scenario.now asked.now.net.now seed (map M.plain members.items) }
     requires ready { C.ready crew.old }
+    requires serves { C.serves crew.old asked.now.scenario.now asked.now.net.now }
     requires open { IsOpen (S.stage sink.old) }
     requires failures { S.failures sink.old < 2 ^ 64 - 1 }
     ensures device { S.same sink.old sink.new }

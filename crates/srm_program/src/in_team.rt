@@ -11,11 +11,10 @@ use crate::fault::LabFault;
 use crate::hand_rows::in_windows;
 use crate::options::Engine;
 use srm_cell::fault::CellFault;
-use srm_cell::job::Job;
+use srm_cell::job::{Done, Job};
+use srm_crew::advancing::Advancing;
 use srm_crew::crew::Crew;
-use srm_crew::own_runs::OwnRuns;
 use srm_crew::plain::PlainCrew;
-use srm_crew::ran::Ran;
 use srm_crew::team_crew::TeamCrew;
 use srm_engine::sink::RowSink;
 use srm_ledger::totals::Totals;
@@ -30,6 +29,12 @@ use std::marker::{Brand, Send, Sync};
 use std::sync::Wait;
 use std::thread::{Threads, join_mut};
 
+// How many pieces a worker has of the jobs of a window. Workers take them as they come free.
+const PIECES: usize = 4;
+
+// In how many cells something is due at least in a window in which the workers are woken.
+const ENOUGH: usize = 16;
+
 // The run led by the crew that waits with its members.
 fn lead<M: Participant, C: Crew<M> + Drop, S: RowSink>(
     alloc: Global,
@@ -38,6 +43,7 @@ fn lead<M: Participant, C: Crew<M> + Drop, S: RowSink>(
     sink: &mut S,
 ) -> Result<Totals, LabFault>
     requires waiting { (l : _) × (waiting.old ≡ Some l) × C.ready l.0
+        × C.serves l.0 asked.now.scenario.now asked.now.net.now
         × MayRunInWindows asked.now.scenario.now asked.now.net.now asked.now.options (map M.plain l.1.items) }
     requires open { IsOpen (S.stage sink.old) }
     requires failures { S.failures sink.old < 2 ^ 64 - 1 }
@@ -53,6 +59,7 @@ fn lead<M: Participant, C: Crew<M> + Drop, S: RowSink>(
 
 // The same beside so many threads, of which there may be none. They serve at the bench until the crew is gone.
 fn lead_beside<
+    'a,
     J: Naming + Send + Sync,
     R: Threads + Wait + Sync,
     M: Participant + Send,
@@ -62,7 +69,7 @@ fn lead_beside<
     rt: &R,
     alloc: Global,
     threads: usize,
-    bench: &Bench<OwnRuns, Job<M>, Result<Ran<M>, CellFault>, J>,
+    bench: &Bench<Advancing<'a>, Vec<Job<M>>, Result<Vec<Done<M>>, CellFault>, J>,
     asked: &Asked,
     members: Vec<M>,
     crew: C,
@@ -70,6 +77,7 @@ fn lead_beside<
 ) -> Result<Totals, LabFault>
     requires run { MayRunInWindows asked.now.scenario.now asked.now.net.now asked.now.options (map M.plain members.items) }
     requires ready { C.ready crew }
+    requires serves { C.serves crew asked.now.scenario.now asked.now.net.now }
     requires open { IsOpen (S.stage sink.old) }
     requires failures { S.failures sink.old < 2 ^ 64 - 1 }
     ensures { HandsOn S.stage S.failures S.same S.took S.part asked.now.scenario.now asked.now.net.now asked.now.options
@@ -87,6 +95,7 @@ fn lead_beside<
         &mut || serve_all(rt, alloc, threads, bench),
         &mut ||
             requires { (l : _) × (waiting ≡ Some l) × C.ready l.0
+                × C.serves l.0 asked.now.scenario.now asked.now.net.now
                 × MayRunInWindows asked.now.scenario.now asked.now.net.now asked.now.options (map M.plain l.1.items)
                 × IsOpen (S.stage sink.now) × (S.failures sink.now < 2 ^ 64 - 1) }
             ensures { (l : _) → waiting.entry ≡ Some l
@@ -98,11 +107,17 @@ fn lead_beside<
 }
 
 // The run by a team that has this history. Where memory for a team is refused, one thread does all the work.
-fn by_team<J: Naming + Send + Sync, R: Threads + Wait + Sync, M: Participant + Send, S: RowSink>(
+fn by_team<
+    'a,
+    J: Naming + Send + Sync,
+    R: Threads + Wait + Sync,
+    M: Participant + Send,
+    S: RowSink,
+>(
     rt: &R,
     alloc: Global,
-    opened: Opened<OwnRuns, Job<M>>,
-    asked: &Asked,
+    opened: Opened<Advancing<'a>, Vec<Job<M>>>,
+    asked: &Asked<'a>,
     members: Vec<M>,
     sink: &mut S,
 ) -> Result<Totals, LabFault>
@@ -114,12 +129,20 @@ fn by_team<J: Naming + Send + Sync, R: Threads + Wait + Sync, M: Participant + S
     ensures { HandsOn S.stage S.failures S.same S.took S.part asked.now.scenario.now asked.now.net.now asked.now.options
         (map M.plain members.items) sink.old result sink.new }
 {
-    let room = members.len();
-    match open_team::<OwnRuns, Job<M>, Result<Ran<M>, CellFault>, J>(alloc, opened, room) {
+    let workers = usize::from(asked.options.workers);
+    let work = Advancing {
+        alloc,
+        scenario: asked.scenario,
+        net: asked.net,
+    };
+    match open_team::<Advancing, Vec<Job<M>>, Result<Vec<Done<M>>, CellFault>, J>(
+        alloc,
+        opened,
+        PIECES * workers,
+    ) {
         Ok((team, bench)) => {
-            let threads = usize::from(asked.options.workers) - 1;
-            let crew = TeamCrew::new(rt, team, room);
-            lead_beside(rt, alloc, threads, &bench, asked, members, crew, sink)
+            let crew = TeamCrew::new(rt, team, work, ENOUGH);
+            lead_beside(rt, alloc, workers - 1, &bench, asked, members, crew, sink)
         }
         Err(_) => in_windows(alloc, asked, members, &mut PlainCrew::new(), sink),
     }

@@ -8,7 +8,7 @@ ghost use Rattle.srm_program.specs.RefusalLines.{line_of_fault};
 ghost use Rattle.srm_program.specs.Program.{device, full_line, status_of_fault, Answers, CarriesOut, MayBeAsked, TakesEither, TakesFaultLine, TakesLine};
 ghost use Rattle.srm_program.specs.Sessions.{reading_failures, session_failures};
 
-use crate::command_line::{message_of, options_of};
+use crate::command_line::{message_of, options_here};
 use crate::explained::{asks_explanation, following};
 use crate::fault::{Fault, LabFault, LineFault};
 use crate::line::{NoMemory, line_of};
@@ -51,16 +51,23 @@ pub fn program<R: Threads + Wait + Sync, F: Feed, O: Outlet, E: Outlet>(
         (device (E.taken errors.old) (E.taken errors.new) (E.failures errors.old) (E.failures errors.new))
         result }
 {
-    answer(rt, alloc, request_of(alloc, words), feed, outlet, errors)
+    answer(
+        rt,
+        alloc,
+        request_of(rt, alloc, words),
+        feed,
+        outlet,
+        errors,
+    )
 }
 
 // What the words ask for. A word that is no text is refused.
-fn request_of(alloc: Global, words: io::Result<Args>) -> Request
+fn request_of(rt: &impl Threads, alloc: Global, words: io::Result<Args>) -> Request
     ensures { IfOk result.asked MayBeAsked }
 {
     let fault = match words {
         Ok(words) => match words.collect(alloc) {
-            Ok(words) => return understood(alloc, &words),
+            Ok(words) => return understood(rt, alloc, &words),
             Err(_) => LineFault::NoMemory,
         },
         Err(error) if error.kind() == io::ErrorKind::OutOfMemory => LineFault::NoMemory,
@@ -73,10 +80,10 @@ fn request_of(alloc: Global, words: io::Result<Args>) -> Request
 }
 
 // What words of text ask for. Where they are refused, and there is no memory to say why, nothing more is told.
-fn understood(alloc: Global, words: &Vec<String>) -> Request
+fn understood(rt: &impl Threads, alloc: Global, words: &Vec<String>) -> Request
     ensures { IfOk result.asked MayBeAsked }
 {
-    let asked = options_of(alloc, words.as_slice());
+    let asked = options_here(rt, alloc, words.as_slice());
     let message = match &asked {
         Err(LineFault::Line | LineFault::BadWord) => message_of(alloc, words.as_slice()),
         _ => Ok(String::new(alloc)),

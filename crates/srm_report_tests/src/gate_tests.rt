@@ -96,6 +96,8 @@ struct Gated<R> {
 impl<R: Threads + Wait + Sync> Crew<Box<dyn Member>> for Gated<R> {
     ghost ready = { λ _. IsSync R.row };
 
+    ghost serves = { λ _ _ _. Unit {0} };
+
     ghost handed = { λ _ _ _. Unit {0} };
 
     ghost handed_none = { λ c. tt };
@@ -112,6 +114,7 @@ impl<R: Threads + Wait + Sync> Crew<Box<dyn Member>> for Gated<R> {
         jobs: Vec<Job>,
     ) -> Result<(Vec<Done>, Seat), CrewFault>
         requires ready { IsSync R.row }
+        requires serves { Unit {0} }
         requires jobs { All (λ j. MayAdvance (λ b. (⟦<dyn Member as Member>⟧ b.vtable).plain b.value)
             (length net.now.hosts) j) jobs.items }
         requires many { length jobs.items ≤ most_nodes }
@@ -119,6 +122,7 @@ impl<R: Threads + Wait + Sync> Crew<Box<dyn Member>> for Gated<R> {
         requires links { ledger.now.links ≡ length net.now.links }
         requires seat { seat.ledger ≡ ledger.now.name }
         ensures ready { IsSync R.row }
+        ensures serves { Unit {0} }
         ensures done { Maps (λ b. (⟦<dyn Member as Member>⟧ b.vtable).plain b.value) scenario.now net.now seat
             jobs.items result }
         ensures handed { IfOk result (λ _. (ps : List PlainJob)
@@ -193,6 +197,8 @@ struct OutOfMemory {
 impl Crew<Box<dyn Member>> for OutOfMemory {
     ghost ready = { λ _. Unit {0} };
 
+    ghost serves = { λ _ _ _. Unit {0} };
+
     ghost handed = { λ _ _ _. Unit {0} };
 
     ghost handed_none = { λ c. tt };
@@ -209,6 +215,7 @@ impl Crew<Box<dyn Member>> for OutOfMemory {
         jobs: Vec<Job>,
     ) -> Result<(Vec<Done>, Seat), CrewFault>
         requires ready { Unit {0} }
+        requires serves { Unit {0} }
         requires jobs { All (λ j. MayAdvance (λ b. (⟦<dyn Member as Member>⟧ b.vtable).plain b.value)
             (length net.now.hosts) j) jobs.items }
         requires many { length jobs.items ≤ most_nodes }
@@ -216,6 +223,7 @@ impl Crew<Box<dyn Member>> for OutOfMemory {
         requires links { ledger.now.links ≡ length net.now.links }
         requires seat { seat.ledger ≡ ledger.now.name }
         ensures ready { Unit {0} }
+        ensures serves { Unit {0} }
         ensures done { Maps (λ b. (⟦<dyn Member as Member>⟧ b.vtable).plain b.value) scenario.now net.now seat
             jobs.items result }
         ensures handed { IfOk result (λ _. (ps : List PlainJob)

@@ -58,6 +58,13 @@ pub fn open_team<W: Work<T, D> + Copy, T: Drop, D: Drop, J: Naming>(
 }
 
 impl<W: Work<T, D> + Copy, T: Drop, D: Drop, J: Naming> Team<W, T, D, J> {
+    /// How many items a list may have.
+    pub fn room(&self) -> usize
+        ensures { result ≡ self.now.room }
+    {
+        self.room
+    }
+
     /// What comes of each item, in order of places. The workers and the leader's own thread take items as they come free, so any of
     /// them may work on any item. It returns when the last result is back.
     ///

@@ -8,6 +8,7 @@ join_mut-answer-requires-after_bounds g c κs within = (
     (c.args.crew, c.args.members),
     refl,
     c.requires.ready,
+    c.requires.serves,
     c.requires.run,
     c.requires.open,
     c.requires.failures,

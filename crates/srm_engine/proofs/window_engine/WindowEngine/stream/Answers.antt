@@ -31,6 +31,7 @@ returns-in-Err-clause-windows g c = λ seed h.
 pub loop-begin-init : goal.loop-begin-init
 loop-begin-init g c = record {
   ready = c.requires.ready;
+  serves = c.requires.serves;
   stands = c.requires.stands;
   frame = refl;
   next = c.begin-begin.ensures;
@@ -47,6 +48,16 @@ loop-begin-init g c = record {
         g.met.C.Crew.handed_none c.args.crew.now,
       );
 }
+
+pub window-requires-clause-serves : goal.window-requires-clause-serves
+window-requires-clause-serves g c =
+    subst (λ (k : PlainScenario × Network × ℕ × Ends). g.C.Crew.serves c.loop-begin.crew k.0 k.1)
+    (sym c.loop-begin.invariant.frame) c.loop-begin.invariant.serves
+
+pub returns-in-Err-window-clause-serves : goal.returns-in-Err-window-clause-serves
+returns-in-Err-window-clause-serves g c =
+    subst (λ (k : PlainScenario × Network × ℕ × Ends). g.C.Crew.serves c.window.new.crew k.0 k.1)
+    c.loop-begin.invariant.frame c.in-Err-window.ensures.serves
 
 pub window-requires-clause-early : goal.window-requires-clause-early
 window-requires-clause-early g c =
@@ -116,6 +127,8 @@ loop-begin-smaller g c =
 pub loop-begin-preserved : goal.loop-begin-preserved
 loop-begin-preserved g c = record {
   ready = c.in-Ok.ensures.ready;
+  serves = subst (λ (k : PlainScenario × Network × ℕ × Ends). g.C.Crew.serves c.window.new.crew k.0 k.1)
+      c.loop-begin.invariant.frame c.in-Ok.ensures.serves;
   stands = c.in-Ok.ensures.stands;
   frame = c.in-Ok.ensures.frame ∙ c.loop-begin.invariant.frame;
   next = c.begin-begin-in-loop-begin.ensures;

@@ -1,0 +1,188 @@
+-- Jobs that were advanced in pieces.
+use Rattle.std.proofs.Common.{◌≡◌, ◌<◌, ℕ, zero, suc, List, [], ◌∷◌, ◌++◌, map, All, length, get_or, Result, Ok, Err}
+use Rattle.std.proofs.Common.{refl, sym, ap, ◌∙◌, subst, inl, inr, append_assoc, append-nil, arith}
+use Rattle.std.proofs.lemmas.List.{map-append}
+use Rattle.std.proofs.lemmas.List.Elements.{All-nil, All-cons, All-head, All-tail, Contains-append_right, Contains-get_or}
+use Rattle.std.specs.List.{AllZip, Contains}
+use Rattle.std.specs.Global.{Vec}
+use Rattle.srm_net.specs.Network.{Network}
+use Rattle.srm_scenario.specs.Plain.{PlainScenario}
+use Rattle.srm_member.specs.Record.{Record}
+use Rattle.srm_cell.specs.declared.job.Job.{Job}
+use Rattle.srm_cell.specs.declared.job.Done as job
+use Rattle.srm_cell.specs.declared.fault.CellFault.{CellFault}
+use Rattle.srm_cell.specs.declared.fault.CellFault.TheVariants as cell
+use Rattle.srm_cell.specs.Cells.{StepOutcome, Stepped, Spent, Full}
+use Rattle.srm_cell.specs.Setting.{traffic_of}
+use Rattle.srm_cell.specs.Crossings.{joined}
+use Rattle.srm_cell.specs.Jobs.{PlainJob, IsDone}
+use Rattle.srm_crew.specs.Crews.{AreJobs, AnyEnds, AdvanceEach, TellsEach}
+use Rattle.srm_crew.specs.Teams.{PutTogether}
+
+-- all that is in the pieces, in order
+abbrev pub all_in : {A : Type 0} → List (Vec A) → List A
+all_in {A} ps = joined (map (λ (p : Vec A). p.items) ps)
+
+module _ {A B : Type 0} (R : A → B → Type 0) where
+  zip_append : (xs : List A) (ys : List B) (vs : List A) (ws : List B) → AllZip R xs ys → AllZip R vs ws
+      → AllZip R (xs ++ vs) (ys ++ ws)
+  zip_append [] [] vs ws z w = w
+  zip_append [] (y ∷ ys) vs ws z w = absurd z
+  zip_append (x ∷ xs) [] vs ws z w = absurd z
+  zip_append (x ∷ xs) (y ∷ ys) vs ws z w = (z.0, zip_append xs ys vs ws z.1 w)
+
+module _ {A : Type 0} (P : A → Type 0) where
+  all_first : (xs ys : List A) → All P (xs ++ ys) → All P xs
+  all_first [] ys h = All-nil P
+  all_first (x ∷ xs) ys h = All-cons P x xs (All-head P x (xs ++ ys) h) (all_first xs ys (All-tail P x (xs ++ ys) h))
+
+  all_last : (xs ys : List A) → All P (xs ++ ys) → All P ys
+  all_last [] ys h = h
+  all_last (x ∷ xs) ys h = all_last xs ys (All-tail P x (xs ++ ys) h)
+
+  -- what holds of all that is in pieces holds of each piece
+  pub all_each : (ps : List (Vec A)) → All P (all_in ps) → All (λ (p : Vec A). All P p.items) ps
+  all_each [] h = All-nil (λ (p : Vec A). All P p.items)
+  all_each (p ∷ ps) h =
+      All-cons (λ (p : Vec A). All P p.items) p ps (all_first p.items (all_in ps) h) (all_each ps (all_last p.items (all_in ps) h))
+
+any_first : (o : StepOutcome Stepped) (ps qs : List PlainJob) → AnyEnds o ps → AnyEnds o (ps ++ qs)
+any_first o [] qs h = absurd h
+any_first o (p ∷ ps) qs (inl a) = inl a
+any_first o (p ∷ ps) qs (inr a) = inr (any_first o ps qs a)
+
+any_last : (o : StepOutcome Stepped) (ps qs : List PlainJob) → AnyEnds o qs → AnyEnds o (ps ++ qs)
+any_last o [] qs h = h
+any_last o (p ∷ ps) qs h = inr (any_last o ps qs h)
+
+module _ {M : Type 0} (f : M → Record) where
+  -- where jobs are seen as these, the first of them are seen as the first of these, and the others as the others
+  record Parted (xs ys : List (Job M)) (ps : List PlainJob) : Type 0 where
+    pub first : List PlainJob
+    pub others : List PlainJob
+    pub whole : ps ≡ first ++ others
+    pub one : AreJobs f xs first
+    pub more : AreJobs f ys others
+
+  parted : (xs ys : List (Job M)) (ps : List PlainJob) → AreJobs f (xs ++ ys) ps → Parted xs ys ps
+  parted [] ys ps h = record { first = []; others = ps; whole = refl; one = tt; more = h }
+  parted (x ∷ xs) ys [] h = absurd h
+  parted (x ∷ xs) ys (p ∷ ps) h =
+      let r = parted xs ys ps h.1 in
+      record { first = p ∷ r.first; others = r.others; whole = ap (λ l. p ∷ l) r.whole; one = (h.0, r.one); more = r.more }
+
+  module _ (k : PlainScenario) (net : Network) where
+    -- what each piece gave
+    abbrev pub Gave : List (Vec (Job M)) → List (Result (Vec (job.Done M)) CellFault) → Type 0
+    Gave pieces rs = AllZip (λ (js : Vec (Job M)) r. AdvanceEach f k net js.items r) pieces rs
+
+    all_done : (pieces : List (Vec (Job M))) (ds : List (Vec (job.Done M))) (ps : List PlainJob) → Gave pieces (map Ok ds)
+        → AreJobs f (all_in pieces) ps → AllZip (λ p d. IsDone f (traffic_of k net) p d) ps (all_in ds)
+    all_done [] [] [] z h = tt
+    all_done [] [] (p ∷ ps) z h = absurd h
+    all_done [] (d ∷ ds) ps z h = absurd z
+    all_done (j ∷ js) [] ps z h = absurd z
+    all_done (j ∷ js) (d ∷ ds) ps z h =
+        let r = parted j.items (all_in js) ps h in
+        subst (λ l. AllZip (λ p d. IsDone f (traffic_of k net) p d) l (all_in (d ∷ ds))) (sym r.whole)
+        (zip_append (λ p d. IsDone f (traffic_of k net) p d) r.first d.items r.others (all_in ds) (z.0.tells r.first r.one)
+        (all_done js ds r.others z.1 r.more))
+
+    any_told : (o : StepOutcome Stepped) (e : CellFault)
+        → ((ps : List PlainJob) → TellsEach f (traffic_of k net) ps (Err e) → AnyEnds o ps)
+        → (pieces : List (Vec (Job M))) (rs : List (Result (Vec (job.Done M)) CellFault)) (ps : List PlainJob)
+        → Gave pieces rs → AreJobs f (all_in pieces) ps → (i : ℕ) → i < length rs → get_or rs i (Err e) ≡ Err e → AnyEnds o ps
+    any_told o e tells pieces [] ps z h i lt at = absurd (omega arith)
+    any_told o e tells [] (r ∷ rs) ps z h i lt at = absurd z
+    any_told o e tells (j ∷ js) (r ∷ rs) ps z h zero lt at =
+        let c = parted j.items (all_in js) ps h in
+        subst (AnyEnds o) (sym c.whole) (any_first o c.first c.others
+        (tells c.first (subst (TellsEach f (traffic_of k net) c.first) at (z.0.tells c.first c.one))))
+    any_told o e tells (j ∷ js) (r ∷ rs) ps z h (suc i) lt at =
+        let c = parted j.items (all_in js) ps h in
+        subst (AnyEnds o) (sym c.whole) (any_last o c.first c.others
+        (any_told o e tells js rs c.others z.1 c.more i (omega arith) at))
+
+    -- jobs whose pieces were advanced, and then put together, were advanced
+    pub pieces_advanced : (pieces : List (Vec (Job M))) (rs : List (Result (Vec (job.Done M)) CellFault))
+        (r : Result (Vec (job.Done M)) CellFault)
+        → Gave pieces rs → PutTogether rs r → AdvanceEach f k net (all_in pieces) r
+    pieces_advanced pieces rs (Ok v) z h = record {
+      tells = λ ps a. subst (AllZip (λ p d. IsDone f (traffic_of k net) p d) ps) (sym h.2)
+          (all_done pieces h.0 ps (subst (Gave pieces) h.1 z) a);
+    }
+    pieces_advanced pieces rs (Err cell.NoMemory) z h = record { tells = λ ps a. tt }
+    pieces_advanced pieces rs (Err cell.Spent) z h = record {
+      tells = λ ps a. any_told Spent cell.Spent (λ qs t. t) pieces rs ps z a h.0 h.1 h.2;
+    }
+    pieces_advanced pieces rs (Err cell.CountFull) z h = record {
+      tells = λ ps a. any_told Full cell.CountFull (λ qs t. t) pieces rs ps z a h.0 h.1 h.2;
+    }
+
+module _ {D : Type 0} where
+  -- what was put together of these pieces, and what is left of them
+  abbrev pub TogetherSoFar : List D → List (Result (Vec D) CellFault) → List (Result (Vec D) CellFault) → Type 0
+  TogetherSoFar all left rs = (ds : List (Vec D)) × (map Ok ds ++ left ≡ rs) × (all ≡ all_in ds)
+
+  all_in_more : (ds : List (Vec D)) (d : Vec D) → all_in (ds ++ d ∷ []) ≡ all_in ds ++ d.items
+  all_in_more [] d = append-nil d.items
+  all_in_more (x ∷ ds) d = ap (λ l. x.items ++ l) (all_in_more ds d) ∙ sym (append_assoc x.items (all_in ds) d.items)
+
+  pub together_none : (rs : List (Result (Vec D) CellFault)) → TogetherSoFar [] rs rs
+  together_none rs = ([], refl, refl)
+
+  pub together_more : (all : List D) (r : Result (Vec D) CellFault) (left rs : List (Result (Vec D) CellFault)) (d : Vec D)
+      → TogetherSoFar all (r ∷ left) rs → r ≡ Ok d → TogetherSoFar (all ++ d.items) left rs
+  together_more all r left rs d h is = (
+    h.0 ++ d ∷ [],
+    ap (λ xs. xs ++ left) (map-append Ok h.0 (d ∷ [])) ∙ append_assoc (map Ok h.0) (Ok d ∷ []) left
+        ∙ ap (λ x. map Ok h.0 ++ x ∷ left) (sym is) ∙ h.1,
+    ap (λ l. l ++ d.items) h.2 ∙ sym (all_in_more h.0 d),
+  )
+
+  pub together_all : (v : Vec D) (left rs : List (Result (Vec D) CellFault)) → TogetherSoFar v.items left rs → left ≡ []
+      → PutTogether rs (Ok v)
+  together_all v left rs h none =
+      (h.0, sym h.1 ∙ ap (λ l. map Ok h.0 ++ l) none ∙ append-nil (map Ok h.0), h.2)
+
+  refusal_stands : (all : List D) (r : Result (Vec D) CellFault) (left rs : List (Result (Vec D) CellFault)) (e : CellFault)
+      → TogetherSoFar all (r ∷ left) rs → r ≡ Err e → Contains rs (Err e)
+  refusal_stands all r left rs e h is =
+      subst (λ xs. Contains xs (Err e)) h.1
+      (Contains-append_right (map Ok h.0) (r ∷ left) (Err e)
+      (subst (λ x. Contains (x ∷ left) (Err e)) (sym is) (Contains-get_or (Err e ∷ left) 0 (Err e) (omega arith))))
+
+  pub together_fault : (all : List D) (r : Result (Vec D) CellFault) (left rs : List (Result (Vec D) CellFault)) (e : CellFault)
+      → TogetherSoFar all (r ∷ left) rs → r ≡ Err e → PutTogether rs (Err e)
+  together_fault all r left rs cell.NoMemory h is = tt
+  together_fault all r left rs cell.Spent h is = refusal_stands all r left rs cell.Spent h is
+  together_fault all r left rs cell.CountFull h is = refusal_stands all r left rs cell.CountFull h is
+
+module _ {A : Type 0} where
+  -- one item more goes to the piece that has not ended
+  pub piece_longer : (front : List A) (own new : Vec A) (x : A) (left whole : List A) → new.items ≡ own.items ++ x ∷ []
+      → (front ++ own.items) ++ x ∷ left ≡ whole → (front ++ new.items) ++ left ≡ whole
+  piece_longer front own new x left whole is h =
+      ap (λ l. (front ++ l) ++ left) is ∙ ap (λ l. l ++ left) (sym (append_assoc front own.items (x ∷ [])))
+      ∙ append_assoc (front ++ own.items) (x ∷ []) left ∙ h
+
+  -- a piece ends, and an empty one begins
+  pub piece_ends : (ps more : List (Vec A)) (own empty : Vec A) → more ≡ ps ++ own ∷ [] → empty.items ≡ []
+      → all_in more ++ empty.items ≡ all_in ps ++ own.items
+  piece_ends ps more own empty is none =
+      ap (λ l. all_in l ++ empty.items) is ∙ ap (λ l. all_in (ps ++ own ∷ []) ++ l) none
+      ∙ append-nil (all_in (ps ++ own ∷ [])) ∙ all_in_more ps own
+
+  -- the last piece ends, and nothing is left
+  pub last_piece : (ps more : List (Vec A)) (own : Vec A) (left whole : List A) → more ≡ ps ++ own ∷ [] → left ≡ []
+      → (all_in ps ++ own.items) ++ left ≡ whole → all_in more ≡ whole
+  last_piece ps more own left whole is none h =
+      ap all_in is ∙ all_in_more ps own ∙ sym (append-nil (all_in ps ++ own.items))
+      ∙ ap (λ l. (all_in ps ++ own.items) ++ l) (sym none) ∙ h
+
+-- what advancing jobs tells of one scenario and network it tells of the same under other names
+pub as_given : {M : Type 0} (f : M → Record) (own given : PlainScenario) (own_net net : Network) (js : List (Job M))
+    (r : Result (Vec (job.Done M)) CellFault)
+    → own ≡ given → own_net ≡ net → AdvanceEach f own own_net js r → AdvanceEach f given net js r
+as_given f own given own_net net js r p q a =
+    subst (λ k. AdvanceEach f k net js r) p (subst (λ n. AdvanceEach f own n js r) q a)
