@@ -1,5 +1,6 @@
 -- Rows that are put behind others.
-use Rattle.std.proofs.Common.{◌≡◌, ◌∷◌, ◌++◌, [], ℕ, ◌-◌, ◌<◌, List, Option, Some, Result, Ok, Err, sym, ap, subst, ◌∙◌, length, slice_index_or, arith}
+use Rattle.std.proofs.Common.{◌≡◌, ◌∷◌, ◌++◌, [], ℕ, ◌-◌, ◌<◌, List, Option, Some, Result, Ok, Err}
+use Rattle.std.proofs.Common.{sym, ap, subst, ◌∙◌, length, slice_index_or, arith}
 use Rattle.std.specs.Result.{OnOk, IfErr}
 use Rattle.srm_member.specs.declared.row.Row.{Row}
 use Rattle.srm_cell.specs.declared.fault.CellFault.{CellFault}

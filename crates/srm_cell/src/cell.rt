@@ -384,6 +384,7 @@ impl<M: Participant> Cell<M> {
 }
 
 // Puts a row behind others.
+#[inline(always)]
 fn put(rows: &mut Vec<Row>, row: Row) -> Result<(), CellFault>
     ensures row { OnOk result (rows.new.items ≡ rows.old.items ++ row ∷ []) }
     ensures memory { IfErr result (λ e. e ≡ CellFault.NoMemory) }

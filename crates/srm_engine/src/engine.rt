@@ -112,7 +112,7 @@ impl<'a> Engine<'a> {
         let mut rows = Vec::new(alloc);
         while rows.len() < most {
             match self.step(alloc, &mut rows) {
-                Ok(true) => {}
+                Ok(true) => make_room(&mut rows, most)?,
                 Ok(false) => return Ok(rows),
                 Err(fault) => return Err(fault),
             }
@@ -181,4 +181,14 @@ impl<'a> Engine<'a> {
         }
         Ok(())
     }
+}
+
+// Makes room for the most rows that there may be, once there is one: mostly there are as many, and none is moved again.
+fn make_room(rows: &mut Vec<Row>, most: usize) -> Result<(), AllocError>
+    ensures { rows.new.items ≡ rows.old.items }
+{
+    if rows.len() == 1 {
+        rows.reserve(most.saturating_sub(1))?;
+    }
+    Ok(())
 }

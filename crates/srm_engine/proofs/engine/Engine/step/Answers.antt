@@ -14,8 +14,7 @@ use Rattle.srm_model.specs.Hearing.{all_hear}
 use Rattle.srm_engine.specs.Seen.{AreSeen}
 use Rattle.srm_model.specs.Totalled.{MaySend, and_sent}
 use Rattle.srm_engine.proofs.PhaseLemmas.{refused}
-use Rattle.srm_engine.proofs.PutLemmas.{last_is_put}
-use Rattle.srm_engine.proofs.SeenLemmas.{same_some}
+use Rattle.srm_engine.proofs.PutLemmas.{last_read}
 use Rattle.srm_model.proofs.RunLemmas.{after_spent}
 use Rattle.srm_model.proofs.Sequential.{get_below}
 use Rattle.srm_engine.proofs.Stepping.{is_over, is_late, step_by, cell_there, event, member_is, is_least, own_is, after_idle, after_done}
@@ -37,8 +36,8 @@ returns-then-time-until-clause-step g c = (
   λ seed w h.
       let late : c.args.self.now.scenario.now.until ≤ c.in-Some.time =
       (let le = c.if-time-until.true in let u = c.until-until.ensures.until in omega arith) in (
-        is_late (setting_in c.args.self.now seed) w c.args.self.now.cells.times h.seen.times c.in-Some.time c.in-Some.member c.in-Some.ensures
-            late,
+        is_late (setting_in c.args.self.now seed) w c.args.self.now.cells.times h.seen.times c.in-Some.time c.in-Some.member
+            c.in-Some.ensures late,
         h,
       ),
   refl,
@@ -122,7 +121,8 @@ send-requires-clause-may g c =
     let p = cell_there s k.1 c.args.self.now.cells.times k.3.seen.times c.in-Some.time c.in-Some.member c.in-Some.ensures early in
     let put = rw c.in-Ok-true.field-0-test at c.in-Ok-true.ensures in
     let t = put.1 k.1.cells p.0 k.3.seen p.1 in
-    let same : put.0 ≡ c.in-Some-last.row.now = same_some put.0 _ (sym (last_is_put c.deref.result.now _ put.0 (c.deref.ensures.value ∙ put.2)) ∙ sym c.in-Some-last.ensures.value) in
+    let same : put.0 ≡ c.in-Some-last.row.now =
+    last_read c.deref.result.now _ put.0 _ (c.deref.ensures.value ∙ put.2) c.in-Some-last.ensures.value in
     let e = event s k.1 c.args.self.now.cells.times k.3.seen.times c.in-Some.time c.in-Some.member c.in-Some.ensures early in
     let of = member_is s k.1 c.args.self.now.cells.times k.3.seen.times c.in-Some.time c.in-Some.member c.in-Some.ensures early in
     let least = is_least s k.1 c.args.self.now.cells.times k.3.seen.times c.in-Some.time c.in-Some.member c.in-Some.ensures early in
@@ -134,14 +134,16 @@ send-requires-clause-may g c =
       packets_of k.1.trace,
       t.3,
       k.3.counted,
-      subst (λ (r : Row). MaySend s.traffic.members (slice_set k.1.cells c.in-Some.member t.0.cell) (packets_of k.1.trace) r.sent) (t.2 ∙ same)
+      subst (λ (r : Row). MaySend s.traffic.members (slice_set k.1.cells c.in-Some.member t.0.cell) (packets_of k.1.trace) r.sent)
+          (t.2 ∙ same)
           (subst (λ m. MaySend s.traffic.members (slice_set k.1.cells m t.0.cell) (packets_of k.1.trace) t.0.row.sent) of may),
     )
 
 pub returns-clause-step : goal.returns-clause-step
 returns-clause-step g c =
     let put = rw c.in-Ok-true.field-0-test at c.in-Ok-true.ensures in
-    let same : put.0 ≡ c.in-Some-last.row.now = same_some put.0 _ (sym (last_is_put c.deref.result.now _ put.0 (c.deref.ensures.value ∙ put.2)) ∙ sym c.in-Some-last.ensures.value) in (
+    let same : put.0 ≡ c.in-Some-last.row.now =
+    last_read c.deref.result.now _ put.0 _ (c.deref.ensures.value ∙ put.2) c.in-Some-last.ensures.value in (
       put.0,
       λ seed w h.
           let s = setting_in c.args.self.now seed in

@@ -1,5 +1,6 @@
 use Rattle.std.proofs.Common.{◌≡◌, ◌<◌, ◌^◌, List, [], ◌∷◌, ◌++◌, inl, inr, refl, sym, ◌∙◌, ap, subst, append-nil, append_assoc, length}
 use Rattle.std.proofs.Common.{length-append, arith}
+use Rattle.std.proofs.lemmas.Result.{err_from_is_err_and}
 use Rattle.srm_member.specs.declared.row.Row.{Row}
 use Rattle.srm_cell.specs.Setting.{Setting, setting_of}
 use Rattle.srm_model.specs.World.{step, IsReached}
@@ -33,7 +34,8 @@ pub loop-alloc-preserved : goal.loop-alloc-preserved
 loop-alloc-preserved g c =
     let is = c.loop-alloc.invariant.0 in
     let same = c.step.ensures.same in
-    let put = rw c.in-Ok-true.field-0-test at c.in-Ok-true.ensures.step in (
+    let put = rw c.in-Ok-true.field-0-test at c.in-Ok-true.ensures.step in
+    let more = c.make_room.ensures ∙ put.2 in (
       (same.0 ∙ is.0, same.1 ∙ is.1),
       λ seed w r h.
           let s = setting_in c.args.self.now seed in
@@ -44,11 +46,11 @@ loop-alloc-preserved g c =
             t.0,
             reached_more s i.0 t.0 i.1 (sym here ∙ t.1),
             t.2 ∙ ap (λ (l : List Row). l ++ put.0 ∷ []) i.2 ∙
-                append_assoc w.trace c.loop-alloc.rows.items (put.0 ∷ []) ∙ ap (λ (l : List Row). w.trace ++ l) (sym put.2),
+                append_assoc w.trace c.loop-alloc.rows.items (put.0 ∷ []) ∙ ap (λ (l : List Row). w.trace ++ l) (sym more),
             t.3,
             inr (stepped_from s w i.0 t.0 (sym here ∙ t.1) i.4),
           ),
-      (let more = ap length put.2 ∙ length-append c.loop-alloc.rows.items (put.0 ∷ []) in omega arith),
+      (let many = ap length more ∙ length-append c.loop-alloc.rows.items (put.0 ∷ []) in omega arith),
     )
 
 pub returns-in-Err-clause-steps : goal.returns-in-Err-clause-steps
@@ -79,10 +81,22 @@ returns-in-Ok-false-clause-few g c =
 pub loop-alloc-smaller : goal.loop-alloc-smaller
 loop-alloc-smaller g c =
     let put = rw c.in-Ok-true.field-0-test at c.in-Ok-true.ensures.step in
-    let more = ap length put.2 ∙ length-append c.loop-alloc.rows.items (put.0 ∷ []) in
+    let more = ap length (c.make_room.ensures ∙ put.2) ∙ length-append c.loop-alloc.rows.items (put.0 ∷ []) in
     omega arith
 
 pub returns-clause-steps : goal.returns-clause-steps
 returns-clause-steps g c = λ seed w r h.
     let i = c.loop-alloc.invariant.1 seed w r h in
     (i.0, i.1, i.2, i.3, λ lt. absurd (omega (arith, lt)))
+
+pub returns-in_err-make_room-in-Ok-true-clause-steps : goal.returns-in_err-make_room-in-Ok-true-clause-steps
+returns-in_err-make_room-in-Ok-true-clause-steps g c =
+    let told_err = err_from_is_err_and c.from_residual.result c.from_residual.ensures.1 in
+    let put = rw c.in-Ok-true.field-0-test at c.in-Ok-true.ensures.step in
+    rw (told_err.1, told_err.2) (λ seed w r h.
+    let s = setting_in c.args.self.now seed in
+    let is = c.loop-alloc.invariant.0 in
+    let i = c.loop-alloc.invariant.1 seed w r h in
+    let t = put.1 seed i.0 i.3 in
+    let here : step (setting_in c.loop-alloc.self seed) i.0 ≡ step s i.0 = λ k. step (setting_of (is.0 k).now (is.1 k).now seed) i.0 in
+    inl (stepped_from s w i.0 t.0 (sym here ∙ t.1) i.4))
