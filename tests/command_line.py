@@ -281,7 +281,8 @@ class Traces(CommandLineCase):
 
 class Crews(CommandLineCase):
     def test_workers_of_a_bag_and_of_a_team_are_threads_beside_the_first(self) -> None:
-        given = ((NO_WORDS, 0), (["--workers", "1"], 0), (["--workers", "2"], 1), (["--workers=7"], 6), (["--workers", "+64"], 63))
+        numbers = ((["--workers", "1"], 0), (["--workers", "2"], 1), (["--workers=7"], 6), (["--workers", "+64"], 63))
+        given = ((NO_WORDS, 0), *numbers)
         for crew, (words, more) in itertools.product(("bag", "team"), given):
             with self.subTest(crew=crew, words=words):
                 if (crew, words) != ("team", NO_WORDS):
@@ -314,7 +315,8 @@ class Crews(CommandLineCase):
         self.assertEqual(len(worked), 3)
 
     def test_no_other_run_starts_a_thread_for_each_worker(self) -> None:
-        others = (NO_WORDS, ["--engine", "step"], WINDOW, [*WINDOW, "--crew", "plain"], *(["--crew", crew] for crew in ("bag", "team", "pool")))
+        of_steps = (["--crew", crew] for crew in ("bag", "team", "pool"))
+        others = (NO_WORDS, ["--engine", "step"], WINDOW, [*WINDOW, "--crew", "plain"], *of_steps)
         for words in others:
             with self.subTest(words=words):
                 self.assertEqual(self.threads([*words, "--workers", "3"]), 0)

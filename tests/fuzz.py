@@ -14,8 +14,9 @@ each case this is asserted:
   fuzz_format.py).
 - A refusal is the one that comes first by docs/FORMATS.md, as one line on standard error, with nothing on standard output and
   status 1. Where Python cannot read the text as TOML, any refusal of a scenario may come. A refused command line has status 2.
-- The run in windows, with a crew, workers, a cut and a width at random, and besides with a team of 1, 2, 4, 7 or 64 workers, gives
-  the sequential engine's bytes; and where the cut or the width is none that the scenario allows, their refusal (fuzz_windows.py).
+- The run in windows, with a crew, workers, a cut and a width at random, and besides with a team of 1, 2, 4, 7 or 64 workers,
+  gives the sequential engine's bytes; and where the cut or the width is none that the scenario allows, their refusal
+  (fuzz_windows.py).
 - With --explain a refusal has the same line, status and standard output, and lines after that line, which begin with two spaces
   where the words are not refused.
 - Each run ends within LONGEST seconds.
