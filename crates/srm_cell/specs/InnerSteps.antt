@@ -19,14 +19,14 @@ module _ {M : Type 0} where
   StandsFor f event c o = (m : ℕ) (p : PlainCell) → HasParts f m c p → Stands m p o (event m p)
 
   -- the first event of a source is taken out of the cell, and this is its cause
-  abbrev pub Takes : (M → Record) → Source → Cell M → Option Cause → Cell M → Type 0
-  Takes f source old cause new =
+  abbrev pub TakesFirst : (M → Record) → Source → Cell M → Option Cause → Cell M → Type 0
+  TakesFirst f source old cause new =
       (m : ℕ) (p : PlainCell) (e : Event) → HasParts f m old p → first_of source m p ≡ Some e
       → HasParts f m new e.rest × (cause ≡ e.cause)
 
   -- what the member's answer tells, to an event with this key and cause that was taken out of the cell
-  abbrev pub Answers : (M → Record) → Key → Option Cause
+  abbrev pub AnswersEvent : (M → Record) → Key → Option Cause
       → Cell M → Result Row CellFault → Cell M → Type 0
-  Answers f key cause old result new =
+  AnswersEvent f key cause old result new =
       (m : ℕ) (e : Event) → HasParts f m old e.rest → key ≡ e.key → e.cause ≡ cause
       → TellsOf (λ p. HasParts f m new p) (handle e e.rest.holds e.cause) result

@@ -7,7 +7,7 @@ ghost use Rattle.srm_member.specs.Record.{due_of};
 ghost use Rattle.srm_cell.specs.Flights.{BringsNone};
 ghost use Rattle.srm_cell.specs.Cells.{hear_at, next_event, first_arrival, first_mark, next_timer};
 ghost use Rattle.srm_cell.specs.Views.{IsNew, Becomes, Steps, Ends, IsNextTime, record_in, due_in};
-ghost use Rattle.srm_cell.specs.InnerSteps.{StandsFor, Takes, Answers};
+ghost use Rattle.srm_cell.specs.InnerSteps.{StandsFor, TakesFirst, AnswersEvent};
 ghost use Rattle.srm_cell.specs.PutRows.{PutsRow, PutsStep};
 ghost use Rattle.srm_cell.specs.Jobs.{Runs};
 
@@ -191,7 +191,7 @@ impl<M: Participant> Cell<M> {
 
     // Takes the first event of a source, and gives its cause; at a leave there is none.
     fn take(&mut self, source: Source) -> Option<Cause>
-        ensures { Takes M.plain source self.old result self.new }
+        ensures { TakesFirst M.plain source self.old result self.new }
     {
         match source {
             Source::Inbox => {
@@ -220,7 +220,7 @@ impl<M: Participant> Cell<M> {
         rows: &mut Vec<Row>,
     ) -> Result<(), CellFault>
         requires { key.time < end_of_time }
-        ensures { PutsRow (λ r. Answers M.plain key cause self.old r self.new) rows.old.items result rows.new.items }
+        ensures { PutsRow (λ r. AnswersEvent M.plain key cause self.old r self.new) rows.old.items result rows.new.items }
     {
         match cause {
             Some(cause) => self.say(alloc, key, cause, rows),
@@ -237,7 +237,7 @@ impl<M: Participant> Cell<M> {
         rows: &mut Vec<Row>,
     ) -> Result<(), CellFault>
         requires { key.time < end_of_time }
-        ensures { PutsRow (λ r. Answers M.plain key (Some cause) self.old r self.new) rows.old.items result rows.new.items }
+        ensures { PutsRow (λ r. AnswersEvent M.plain key (Some cause) self.old r self.new) rows.old.items result rows.new.items }
     {
         let Some(mut member) = self.member.take() else {
             return Err(CellFault::Spent);
@@ -297,7 +297,7 @@ impl<M: Participant> Cell<M> {
 
     // The member leaves: it ends, and its box is dropped.
     fn leave(&mut self, alloc: Global, key: Key, rows: &mut Vec<Row>) -> Result<(), CellFault>
-        ensures { PutsRow (λ r. Answers M.plain key None self.old r self.new) rows.old.items result rows.new.items }
+        ensures { PutsRow (λ r. AnswersEvent M.plain key None self.old r self.new) rows.old.items result rows.new.items }
     {
         let Some(mut member) = self.member.take() else {
             return Err(CellFault::Spent);

@@ -12,8 +12,9 @@ use Rattle.srm_crew.specs.declared.rule.Hold.{Hold}
 use Rattle.srm_crew.specs.declared.rule.Spot.{Spot}
 use Rattle.srm_ledger.specs.Tally.{total}
 use Rattle.srm_ledger.proofs.SumsOver.{total_set, total_snoc, total_part, total_none}
-use Rattle.srm_crew.specs.Places.{hold_of, spent, times, AllBelow, weight_of, count_of, times_of, PassOk, Kept, puts, takes, short}
-use Rattle.srm_crew.specs.Places.{rests, fits, first_half, second_half, both_holds}
+use Rattle.srm_crew.specs.Places.{hold_of, spent_hold, times, AllBelow, hold_weight, count_of, times_of, PassOk, Kept}
+use Rattle.srm_crew.specs.Places.{puts, takes_spot, short}
+use Rattle.srm_crew.specs.Places.{rests, fits, first_hold, second_hold, both_holds}
 
 pub times_append : (p : ℕ) (xs ys : List ℕ) → times p (xs ++ ys) ≡ times p xs + times p ys
 times_append p [] ys = omega arith
@@ -56,7 +57,7 @@ module _ {A : Type 0} where
       (last_or_before xs a j b e)
 
 module _ {T : Type 0} where
-  pub takes_keep : (id : ℕ) (v : Hold T) → 1 ≤ v.weight → Pops (Kept {T = T}) id v (takes v)
+  pub takes_keep : (id : ℕ) (v : Hold T) → 1 ≤ v.weight → Pops (Kept {T = T}) id v (takes_spot v)
   takes_keep id v alive x items views h at =
       let ok = h.passes id v at in
       let here = h.queued 0 x refl in
@@ -75,7 +76,7 @@ module _ {T : Type 0} where
           behind = omega arith;
           queued = λ j y e. let g = h.queued (suc j) y e in
               (omega arith, let same : h.popped + suc j ≡ h.popped + 1 + j = omega arith in ap (slice_get h.put) (sym same) ∙ g.1);
-          whole = (let t = total_set weight_of views id v w at in let e = h.whole in omega arith);
+          whole = (let t = total_set hold_weight views id v w at in let e = h.whole in omega arith);
           counted = (let t = total_set count_of views id v w at in omega arith);
           once = λ p lt. let t = total_set (times_of p) views id v w at in let a = times_append p v.taken (x.place ∷ []) in
               dite (ℕ_discrete p h.popped)
@@ -125,12 +126,12 @@ module _ {T : Type 0} where
   -- beside the whole pass all others are spent
   pub others_spent : (items : List (Spot T)) (views : List (Hold T)) (id : ℕ) (v : Hold T) (h : Kept items views) → get_elem? views id
       ≡ some v → v.weight ≡ 65536
-      → (j : ℕ) (u : Hold T) → j ≢ id → get_elem? views j ≡ some u → u ≡ spent
+      → (j : ℕ) (u : Hold T) → j ≢ id → get_elem? views j ≡ some u → u ≡ spent_hold
   others_spent items views id v h at heavy j u apart e =
-      let s : Hold T = spent in
-      let t = total_set weight_of views id v s at in
+      let s : Hold T = spent_hold in
+      let t = total_set hold_weight views id v s at in
       let there : get_elem? (set views id s) j ≡ some u = set_else views id j s apart ∙ e in
-      let few = total_part weight_of (set views id s) j u there in
+      let few = total_part hold_weight (set views id s) j u there in
       let w = h.whole in
       (h.passes j u e).spent_is (omega arith)
 
@@ -158,7 +159,7 @@ module _ {T : Type 0} where
                     ∙ ap (λ (s : Spot T). Some s.item) new.1,
               ))
               (last_or_before items x j y e);
-          whole = (let t = total_set weight_of views id v w at in let e = h.whole in omega arith);
+          whole = (let t = total_set hold_weight views id v w at in let e = h.whole in omega arith);
           counted = (let t = total_set count_of views id v w at in let e = h.counted in omega arith);
           once = λ p lt. let t = total_set (times_of p) views id v w at in let e = h.once p lt in omega arith;
           never = λ p le. let t = total_set (times_of p) views id v w at in let e = h.never p le in omega arith;
@@ -182,7 +183,7 @@ module _ {T : Type 0} where
       let k = (h.passes id v at).knows alive in
       let l : length v.put ≡ length h.put = ap length k in
       let b = h.behind in
-      let w = total_part weight_of views id v at in
+      let w = total_part hold_weight views id v at in
       let t = total_part count_of views id v at in
       let e = h.whole in
       let c = h.counted in (
@@ -201,7 +202,7 @@ module _ {T : Type 0} where
       let k = (h.passes id v at).knows (omega arith) in
       let l : length v.put ≡ length h.put = ap length k in
       let b = h.behind in
-      let s : Hold T = spent in
+      let s : Hold T = spent_hold in
       let vs = set views id s in
       let gone : (j : ℕ) (u : Hold T) → get_elem? vs j ≡ some u → u ≡ s = λ j u e. ⊎_elim
       (λ (t : (j ≡ id) × (s ≡ u)). sym t.1)
@@ -219,10 +220,10 @@ module _ {T : Type 0} where
         ),
       )
 
-  pub split_keeps : (id : ℕ) (v : Hold T) → 2 ≤ v.weight → Forks (Kept {T = T}) id v (first_half v) (second_half v)
+  pub split_keeps : (id : ℕ) (v : Hold T) → 2 ≤ v.weight → Forks (Kept {T = T}) id v (first_hold v) (second_hold v)
   split_keeps id v two items views h at =
-      let l = first_half v in
-      let r = second_half v in
+      let l = first_hold v in
+      let r = second_hold v in
       let ok = h.passes id v at in
       let halves : v.weight / 2 * 2 ≤ v.weight = omega arith in
       let up : 1 ≤ v.weight / 2 = omega arith in
@@ -231,7 +232,7 @@ module _ {T : Type 0} where
         popped = h.popped;
         behind = h.behind;
         queued = h.queued;
-        whole = (let a = total_set weight_of views id v l at in let b = total_snoc weight_of (set views id l) r in let e = h.whole in
+        whole = (let a = total_set hold_weight views id v l at in let b = total_snoc hold_weight (set views id l) r in let e = h.whole in
             omega arith);
         counted = (let a = total_set count_of views id v l at in let b = total_snoc count_of (set views id l) r in let e = h.counted in
             omega arith);
@@ -250,10 +251,11 @@ module _ {T : Type 0} where
             (at_snoc (set views id l) r u j e);
       }
 
-  pub join_keeps : (id : ℕ) (v : Hold T) (other : ℕ) (w : Hold T) → 1 ≤ v.weight → Merges (Kept {T = T}) id v other w (both_holds v w) spent
+  pub join_keeps : (id : ℕ) (v : Hold T) (other : ℕ) (w : Hold T) → 1 ≤ v.weight
+      → Merges (Kept {T = T}) id v other w (both_holds v w) spent_hold
   join_keeps id v other w alive items views h at two at' =
       let b : Hold T = both_holds v w in
-      let s : Hold T = spent in
+      let s : Hold T = spent_hold in
       let vs = set views id b in
       let was : get_elem? views other ≡ some w = ⊎_elim (λ (t : (other ≡ id) × (b ≡ w)). absurd (two t.0))
       (λ (t : (other ≢ id) × (get_elem? views other ≡ some w)). t.1) (at_set views id other b w at') in
@@ -265,7 +267,7 @@ module _ {T : Type 0} where
         popped = h.popped;
         behind = h.behind;
         queued = h.queued;
-        whole = (let x = total_set weight_of views id v b at in let y = total_set weight_of vs other w s at' in let e = h.whole in
+        whole = (let x = total_set hold_weight views id v b at in let y = total_set hold_weight vs other w s at' in let e = h.whole in
             omega arith);
         counted = (let x = total_set count_of views id v b at in let y = total_set count_of vs other w s at' in let e = h.counted in
             omega arith);

@@ -15,7 +15,7 @@ use Rattle.srm_cell.specs.declared.fault.CellFault.TheVariants as cell
 use Rattle.srm_crew.specs.declared.fault.CrewFault.{CrewFault}
 use Rattle.srm_crew.specs.declared.fault.CrewFault.TheVariants as fault
 use Rattle.srm_crew.specs.Places.{EachAtMostOnce}
-use Rattle.srm_crew.specs.Passes.{PassView, half_with_list, half_without, both_passes, TellsTake}
+use Rattle.srm_crew.specs.Passes.{PassView, half_with_list, half_without_list, both_passes, TellsTake}
 use Rattle.srm_crew.specs.Shared.{HoldsAt, sum_of, with_list, ComeOf, Stops, Worked, TellsWork, TellsItem, TellsBoth}
 
 pub zip_append : {A B : Type 0} (R : A → B → Type 0) (xs us : List A) (ys vs : List B) → AllZip R xs ys → AllZip R us vs
@@ -150,7 +150,7 @@ module _ {T D : Type 0} (R : T → Result D CellFault → Type 0) (numbers : D �
 
   both_worked : (P p q m : PassView T) (S s t n : SeatView) (u v w : List D)
       → Worked R numbers (half_with_list P) (half_with_shares S) [] p s u
-      → Worked R numbers (half_without P) (seats.half_without S) [] q t v
+      → Worked R numbers (half_without_list P) (seats.half_without S) [] q t v
       → m ≡ both_passes p q → n ≡ both_seats s t → w ≡ u ++ v → Worked R numbers P S [] m n w
   both_worked P p q m S s t n u v w a b passes seats' results = record {
     places = a.places ++ b.places;
@@ -172,7 +172,8 @@ module _ {T D : Type 0} (R : T → Result D CellFault → Type 0) (numbers : D �
   }
 
   pub halves_tell : (P : PassView T) (S : SeatView) (a b r : Result (PassView T × SeatView × Vec D) CrewFault) → P.taken ≡ []
-      → TellsWork R numbers (half_with_list P) (half_with_shares S) [] a → TellsWork R numbers (half_without P) (seats.half_without S) [] b
+      → TellsWork R numbers (half_with_list P) (half_with_shares S) [] a
+      → TellsWork R numbers (half_without_list P) (seats.half_without S) [] b
       → TellsBoth a b r → TellsWork R numbers P S [] r
   halves_tell P S (Err e) b r none x y h = subst (TellsWork R numbers P S []) (sym h) (first_stops P S e x)
   halves_tell P S (Ok a) (Err e) r none x y h = subst (TellsWork R numbers P S []) (sym h) (second_stops P S e none y)
@@ -204,11 +205,11 @@ module _ {T D : Type 0} (R : T → Result D CellFault → Type 0) (numbers : D �
       subst (λ l. TellsWork R numbers P S l x) z (subst (λ q. TellsWork R numbers P q u x) b (subst (λ q. TellsWork R numbers q s u x) a h))
 
   pub halves_told : (P p q : PassView T) (S s t : SeatView) (a b r : Result (PassView T × SeatView × Vec D) CrewFault) → P.taken ≡ []
-      → p ≡ half_with_list P → s ≡ half_with_shares S → q ≡ half_without P → t ≡ seats.half_without S
+      → p ≡ half_with_list P → s ≡ half_with_shares S → q ≡ half_without_list P → t ≡ seats.half_without S
       → TellsWork R numbers p s [] a → TellsWork R numbers q t [] b → TellsBoth a b r → TellsWork R numbers P S [] r
   halves_told P p q S s t a b r none ps ss qs ts x y h =
       halves_tell P S a b r none (tells_same (half_with_list P) p (half_with_shares S) s [] a ps ss refl x)
-      (tells_same (half_without P) q (seats.half_without S) t [] b qs ts refl y) h
+      (tells_same (half_without_list P) q (seats.half_without S) t [] b qs ts refl y) h
 
   -- why workers stop, of these items
   pub stops_of : (items : List T) (p : PassView T) (S : SeatView) (e : CrewFault) → p.put ≡ items → p.taken ≡ []

@@ -35,15 +35,15 @@ module _ {T : Type 0} where
   abbrev pub half_with_list : PassView T → PassView T
   half_with_list p = record { bag = p.bag; weight = p.weight - p.weight / 2; put = p.put; taken = p.taken }
 
-  abbrev pub half_without : PassView T → PassView T
-  half_without p = record { bag = p.bag; weight = p.weight / 2; put = p.put; taken = [] }
+  abbrev pub half_without_list : PassView T → PassView T
+  half_without_list p = record { bag = p.bag; weight = p.weight / 2; put = p.put; taken = [] }
 
   abbrev pub both_passes : PassView T → PassView T → PassView T
   both_passes p q = record { bag = p.bag; weight = p.weight + q.weight; put = p.put; taken = p.taken ++ q.taken }
 
   -- the list of the pass ends with this place
-  abbrev pub IsLast : ℕ → PassView T → Type 0
-  IsLast place p = (before : List ℕ) × (p.taken ≡ before ++ place ∷ [])
+  abbrev pub IsLastTaken : ℕ → PassView T → Type 0
+  IsLastTaken place p = (before : List ℕ) × (p.taken ≡ before ++ place ∷ [])
 
   -- the pass took no place twice, and none at which nothing was put
   abbrev pub TookEachAtMostOnce : PassView T → Type 0

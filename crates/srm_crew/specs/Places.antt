@@ -12,8 +12,8 @@ module _ {T : Type 0} where
   hold_of w put taken = record { weight = w; put = put; taken = taken }
 
   -- a pass that was joined to another
-  abbrev pub spent : Hold T
-  spent = hold_of 0 [] []
+  abbrev pub spent_hold : Hold T
+  spent_hold = hold_of 0 [] []
 
   abbrev pub first_whole : Hold T
   first_whole = hold_of 65536 [] []
@@ -35,8 +35,8 @@ abbrev pub AllBelow : List ℕ → ℕ → Type 0
 AllBelow ps n = (k : ℕ) → k < length ps → slice_index ps k < n
 
 module _ {T : Type 0} where
-  abbrev pub weight_of : Hold T → ℕ
-  weight_of v = v.weight
+  abbrev pub hold_weight : Hold T → ℕ
+  hold_weight v = v.weight
 
   abbrev pub count_of : Hold T → ℕ
   count_of v = length v.taken
@@ -47,7 +47,7 @@ module _ {T : Type 0} where
 -- what is so of a pass: joined away it has nothing; else it knows what was put. Its places are below the oldest in the
 -- queue
 pub record PassOk {T : Type 0} (put : List T) (popped : ℕ) (v : Hold T) : Type 0 where
-  pub spent_is : v.weight ≡ 0 → v ≡ spent
+  pub spent_is : v.weight ≡ 0 → v ≡ spent_hold
   pub knows : 1 ≤ v.weight → v.put ≡ put
   pub below : AllBelow v.taken popped
 
@@ -59,7 +59,7 @@ pub record Kept {T : Type 0} (items : List (Spot T)) (views : List (Hold T)) : T
   pub behind : popped + length items ≡ length put
   pub queued : (k : ℕ) (x : Spot T) → get_elem? items k ≡ some x → (x.place ≡ popped + k)
       × (slice_get put (popped + k) ≡ Some x.item)
-  pub whole : total weight_of views ≡ 65536
+  pub whole : total hold_weight views ≡ 65536
   pub counted : total count_of views ≡ popped
   pub once : (p : ℕ) → p < popped → total (times_of p) views ≡ 1
   pub never : (p : ℕ) → popped ≤ p → total (times_of p) views ≡ 0
@@ -70,8 +70,8 @@ module _ {T : Type 0} where
   abbrev pub puts : Hold T → Spot T → Hold T → Type 0
   puts v x w = w ≡ hold_of v.weight (v.put ++ x.item ∷ []) v.taken
 
-  abbrev pub takes : Hold T → Spot T → Hold T → Type 0
-  takes v x w = (w ≡ hold_of v.weight v.put (v.taken ++ x.place ∷ [])) × (slice_get v.put x.place ≡ Some x.item)
+  abbrev pub takes_spot : Hold T → Spot T → Hold T → Type 0
+  takes_spot v x w = (w ≡ hold_of v.weight v.put (v.taken ++ x.place ∷ [])) × (slice_get v.put x.place ≡ Some x.item)
       × AllBelow v.taken x.place × (length v.taken < length v.put)
       × EachAtMostOnce (v.taken ++ x.place ∷ []) (length v.put)
 
@@ -90,11 +90,11 @@ module _ {T : Type 0} where
   fits v items = (v.weight ≤ 65536) × (length v.taken ≤ length v.put) × EachAtMostOnce v.taken (length v.put)
 
 module _ {T : Type 0} where
-  abbrev pub first_half : Hold T → Hold T
-  first_half v = hold_of (v.weight - v.weight / 2) v.put v.taken
+  abbrev pub first_hold : Hold T → Hold T
+  first_hold v = hold_of (v.weight - v.weight / 2) v.put v.taken
 
-  abbrev pub second_half : Hold T → Hold T
-  second_half v = hold_of (v.weight / 2) v.put []
+  abbrev pub second_hold : Hold T → Hold T
+  second_hold v = hold_of (v.weight / 2) v.put []
 
   abbrev pub both_holds : Hold T → Hold T → Hold T
   both_holds v w = hold_of (v.weight + w.weight) v.put (v.taken ++ w.taken)

@@ -2,7 +2,7 @@
 ghost use Rattle.std.specs.Prelude.{◌≡◌, ◌<◌, ◌≤◌, ◌+◌, ◌++◌, ◌⊎◌, ◌↔◌, ℕ, Some, length, slice_get, vec_capacity, IfOk, MatchOption, MatchResult};
 ghost use Rattle.srm_net.specs.Limits.{most_nodes};
 ghost use Rattle.srm_crew.specs.Places.{EachOnce, AllBelow};
-ghost use Rattle.srm_crew.specs.Passes.{PassView, fresh_pass, with_put, with_taken, half_with_list, half_without, both_passes, TellsPut, TellsTake, TellsEmpty, TookEachAtMostOnce};
+ghost use Rattle.srm_crew.specs.Passes.{PassView, fresh_pass, with_put, with_taken, half_with_list, half_without_list, both_passes, TellsPut, TellsTake, TellsEmpty, TookEachAtMostOnce};
 
 use crate::bag_fault::{BagFault, EmptyFault, PutFault, SplitFault};
 use crate::pass::{Pass, WHOLE};
@@ -109,7 +109,7 @@ impl<T> Bag<T> {
     ) -> Result<(Pass<T>, Pass<T>), (Pass<T>, SplitFault)>
         requires { pass.bag ≡ self.now.name }
         ensures { MatchResult result (λ h. (2 ≤ pass.weight) × (h.0 ≡ half_with_list pass)
-            × (h.1 ≡ half_without pass)) (λ e. (e.0 ≡ pass) × (e.1 ≡ SplitFault.TooManySeats ↔ pass.weight ≡ 1)) }
+            × (h.1 ≡ half_without_list pass)) (λ e. (e.0 ≡ pass) × (e.1 ≡ SplitFault.TooManySeats ↔ pass.weight ≡ 1)) }
     {
         if pass.weight < 2 {
             return Err((pass, SplitFault::TooManySeats));

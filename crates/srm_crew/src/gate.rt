@@ -1,5 +1,5 @@
 //! What a worker passes with each item that it has taken.
-ghost use Rattle.srm_crew.specs.Passes.{IsLast};
+ghost use Rattle.srm_crew.specs.Passes.{IsLastTaken};
 
 use crate::pass::Pass;
 use std::sync::Wait;
@@ -8,7 +8,7 @@ use std::sync::Wait;
 pub trait Gate {
     /// Called with the place of the item and the pass that took it, last of all.
     fn enter<T, R: Wait>(&self, rt: &R, place: usize, pass: &Pass<T>)
-        requires { IsLast place pass.now };
+        requires { IsLastTaken place pass.now };
 }
 
 /// A gate that lets each item pass.

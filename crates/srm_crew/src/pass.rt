@@ -1,6 +1,6 @@
 //! Passes: leave to take from a bag, and with the whole of them to put into it.
 ghost use Rattle.std.specs.Prelude.{◌≡◌, [], MatchOption};
-ghost use Rattle.srm_crew.specs.Passes.{IsLast};
+ghost use Rattle.srm_crew.specs.Passes.{IsLastTaken};
 
 use crate::rule::{Hold, Spot};
 use std::marker::Model;
@@ -41,7 +41,7 @@ impl<T> Model for Pass<T> {
 impl<T> Pass<T> {
     /// The place that it took last, if it took any.
     pub fn last(&self) -> Option<usize>
-        ensures { MatchOption result (self.now.taken ≡ []) (λ place. IsLast place self.now) }
+        ensures { MatchOption result (self.now.taken ≡ []) (λ place. IsLastTaken place self.now) }
     {
         if self.taken.is_empty() {
             return None;

@@ -52,9 +52,9 @@ impl<T> Lesson<Spot<T>, Hold<T>> for Puts {
 pub(crate) struct Takes;
 
 impl<T> Outcome<Spot<T>, Hold<T>> for Takes {
-    ghost use Rattle.srm_crew.specs.Places.{takes};
+    ghost use Rattle.srm_crew.specs.Places.{takes_spot};
 
-    ghost then = { takes };
+    ghost then = { takes_spot };
 }
 
 impl<T> Lesson<Spot<T>, Hold<T>> for Takes {
@@ -76,20 +76,20 @@ impl<T> Lesson<Spot<T>, Hold<T>> for Fits {
 pub(crate) struct Halves;
 
 impl<T> Split<Hold<T>> for Halves {
-    ghost use Rattle.srm_crew.specs.Places.{first_half, second_half};
+    ghost use Rattle.srm_crew.specs.Places.{first_hold, second_hold};
 
-    ghost left = { first_half };
+    ghost left = { first_hold };
 
-    ghost right = { second_half };
+    ghost right = { second_hold };
 }
 
 // Two passes in one, by `join`.
 pub(crate) struct Both;
 
 impl<T> Join<Hold<T>> for Both {
-    ghost use Rattle.srm_crew.specs.Places.{both_holds, spent};
+    ghost use Rattle.srm_crew.specs.Places.{both_holds, spent_hold};
 
     ghost both = { both_holds };
 
-    ghost spent = { spent };
+    ghost spent = { spent_hold };
 }

@@ -3,7 +3,7 @@ ghost use Rattle.std.specs.Prelude.{◌≡◌, ◌≤◌, ◌*◌, ℕ, List, []
 ghost use denote.Param.Send.{IsSend, IsSync};
 ghost use Rattle.srm_ledger.specs.Seats.{half_with_shares};
 ghost use Rattle.srm_ledger.specs.Seats as seats;
-ghost use Rattle.srm_crew.specs.Passes.{half_with_list, half_without};
+ghost use Rattle.srm_crew.specs.Passes.{half_with_list, half_without_list};
 ghost use Rattle.srm_crew.specs.Shared.{TellsWork, TellsBoth, MayNotHalve};
 
 use crate::bag::Bag;
@@ -32,7 +32,7 @@ fn halves<T>(
     requires bag { pass.bag ≡ bag.now.name }
     requires seat { seat.ledger ≡ ledger.now.name }
     ensures { MatchResult result (λ h. (h.0.0 ≡ half_with_list pass) × (h.0.1 ≡ half_with_shares seat)
-        × (h.1.0 ≡ half_without pass) × (h.1.1 ≡ seats.half_without seat))
+        × (h.1.0 ≡ half_without_list pass) × (h.1.1 ≡ seats.half_without seat))
         (λ e. (e.0 ≡ pass) × (e.1 ≡ seat) × MayNotHalve pass.weight seat.weight e.2) }
 {
     let (mine, theirs) = match bag.split(alloc, pass) {

@@ -11,7 +11,7 @@ use Rattle.srm_cell.specs.declared.cell.Cell.{Cell}
 use Rattle.srm_cell.specs.Cells.{PlainCell}
 use Rattle.srm_cell.specs.Views.{IsCell}
 use Rattle.srm_cell.specs.Jobs as cell
-use Rattle.srm_engine.specs.Seen.{AreCells}
+use Rattle.srm_engine.specs.Seen.{AreCellsInOrder}
 use Rattle.srm_engine.specs.Groups.{numbered, AreCuts, AreFull, sizes, all_in}
 use Rattle.srm_model.proofs.RunLemmas.{shifted}
 use Rattle.srm_engine.proofs.SeenLemmas.{same_some}
@@ -47,10 +47,10 @@ module _ {M : Type 0} (f : M → Record) where
       rw add-zero one
   each_from i (x ∷ cs) (q ∷ ps) h (suc j) c p a b = subst (λ k. IsCell f k c p) (sym (shifted i j)) (each_from (suc i) cs ps h.1 j c p a b)
 
-  pub from_seen : (cs : List (Cell M)) (ps : List PlainCell) → AreCells f cs ps → AreFrom 0 cs ps
+  pub from_seen : (cs : List (Cell M)) (ps : List PlainCell) → AreCellsInOrder f cs ps → AreFrom 0 cs ps
   from_seen cs ps h = from_each 0 cs ps h.as_many (λ j c p a b. subst (λ k. IsCell f k c p) (sym (zero-add j)) (h.each j c p a b))
 
-  pub seen_from : (cs : List (Cell M)) (ps : List PlainCell) → AreFrom 0 cs ps → AreCells f cs ps
+  pub seen_from : (cs : List (Cell M)) (ps : List PlainCell) → AreFrom 0 cs ps → AreCellsInOrder f cs ps
   seen_from cs ps h = record {
     as_many = as_many_from 0 cs ps h;
     each =

@@ -19,7 +19,7 @@ use Rattle.srm_cell.proofs.Rising.{OnStep}
 use Rattle.srm_model.specs.World.{World, IsReached, after_step, least_event, opening, opening_cells, run, cells_after, step, step_of}
 use Rattle.srm_model.specs.World.{step_to}
 use Rattle.srm_engine.specs.Outcomes.{HasEnd, AllEnd}
-use Rattle.srm_engine.specs.Seen.{AreCells}
+use Rattle.srm_engine.specs.Seen.{AreCellsInOrder}
 use Rattle.srm_model.proofs.RunLemmas.{run_by, run_first}
 use Rattle.srm_net.specs.Limits.{most_sent}
 
@@ -122,7 +122,7 @@ module _ {M : Type 0} (f : M → Record) where
       shift i j = omega arith
 
   -- each cell of an engine in a reached world has a member, or the exit of one that left
-  pub all_end : (s : Setting) (cs : List (Cell M)) (w : World) → IsReached s w → AreCells f cs w.cells → AllEnd f cs
+  pub all_end : (s : Setting) (cs : List (Cell M)) (w : World) → IsReached s w → AreCellsInOrder f cs w.cells → AllEnd f cs
   all_end s cs w r h = all_end_from 0 cs w.cells h.as_many (λ j c p a b. subst (λ k. IsCell f k c p) (sym (zero-add j)) (h.each j c p a b))
       (kept_reached s w r)
 

@@ -13,7 +13,7 @@ use Rattle.srm_cell.proofs.CellSteps.{SentBy}
 use Rattle.srm_cell.proofs.Clear.{CountAfter, StepOf, step_is_of, RestOf, next_rest, all_tail}
 use Rattle.srm_member.proofs.AllIn.{AllIn}
 use Rattle.srm_model.specs.World.{World, least_event, run, opening}
-use Rattle.srm_model.specs.Hearing.{IsNew}
+use Rattle.srm_model.specs.Hearing.{IsUnheard}
 use Rattle.srm_model.proofs.RunLemmas.{Seq, rest, next}
 use Rattle.srm_model.proofs.Sequential.{Good, step_facts, good_step, good_opening, run_seq, get_below}
 use Rattle.srm_model.proofs.StrictRuns.{Strict, strict_step, strict_opening, sent_of, sent_here}
@@ -47,7 +47,7 @@ module _ (s : Setting) (fit : IsFit s) where
 
   module _ (end : ℕ) (cs : List PlainCell) (e : Event) (d : Stepped) (good : Good s fit cs) (strict : Strict s fit cs)
       (h : before end (least_event 0 cs) ≡ Some e) (x : step_at (Some e) ≡ Done d) where
-    pub is_new : (p : Packet) → d.row.sent ≡ Some p → IsNew p.id (slice_set cs e.key.member d.cell)
+    pub is_new : (p : Packet) → d.row.sent ≡ Some p → IsUnheard p.id (slice_set cs e.key.member d.cell)
     is_new p sent j q g =
         let m = e.key.member in
         let f = step_facts s fit end cs e d h x in

@@ -15,7 +15,7 @@ use Rattle.srm_cell.specs.Crossings.{packets_of, crossings}
 use Rattle.srm_cell.specs.Cells.{PlainCell, new_cell, opening_cell}
 use Rattle.srm_cell.specs.Views.{IsCell}
 use Rattle.srm_model.specs.World.{World, opening, opening_cells}
-use Rattle.srm_engine.specs.Seen.{AreCells}
+use Rattle.srm_engine.specs.Seen.{AreCellsInOrder}
 use Rattle.srm_cell.specs.Totalled.{numbers_of}
 use Rattle.srm_engine.specs.Openings.{records_from}
 use Rattle.srm_engine.proofs.SeenLemmas.{same_some}
@@ -43,7 +43,7 @@ get_short (x ∷ xs) y (suc j) h = let g = get_short xs y j h in omega arith
 
 module _ {M : Type 0} where
   pub more_cells : (f : M → Record) (cs : List (Cell M)) (ps : List PlainCell) (c : Cell M) (q : PlainCell)
-      → AreCells f cs ps → IsCell f (length ps) c q → AreCells f (cs ++ c ∷ []) (ps ++ q ∷ [])
+      → AreCellsInOrder f cs ps → IsCell f (length ps) c q → AreCellsInOrder f (cs ++ c ∷ []) (ps ++ q ∷ [])
   more_cells f cs ps c q h is = record {
     as_many = length-append cs (c ∷ []) ∙ ap (λ n. n + 1) h.as_many ∙ sym (length-append ps (q ∷ []));
     each = λ j x p a g. elim (get_last ps q p j g) [
@@ -59,7 +59,7 @@ module _ {M : Type 0} where
     ];
   }
 
-  pub none_seen : (f : M → Record) (s : Setting) → AreCells f [] (opening_cells s 0 0)
+  pub none_seen : (f : M → Record) (s : Setting) → AreCellsInOrder f [] (opening_cells s 0 0)
   unfolding opening_cells
   none_seen f s = record { as_many = refl; each = λ j c p a g. cc }
 
@@ -129,7 +129,7 @@ module _ {M : Type 0} (f : M → Record) (p : PlainScenario) (net : Network) (se
     pub all : length cs + left ≡ length p.members
     pub records : map f ms ≡ records_from p net seed (length cs) left
     pub scripts : map (λ marks. marks.items) vs ≡ map (script_of p) (range_with_len (length cs) left)
-    pub cells : AreCells f cs (opening_cells (setting_of p net seed) (length cs) 0)
+    pub cells : AreCellsInOrder f cs (opening_cells (setting_of p net seed) (length cs) 0)
 
   pub open_none : (ms : List M) (vs : List (Vec Mark Global)) → map f ms ≡ records_from p net seed 0 (length p.members)
       → map (λ marks. marks.items) vs ≡ scripts_of p → OpenSoFar ms vs []
@@ -192,14 +192,14 @@ module _ {M : Type 0} (f : M → Record) (p : PlainScenario) (net : Network) (se
         all = omega arith;
         records = i.records ∙ ap (λ j. records_from p net seed j i.rest) (sym (now ∙ add-one k));
         scripts = i.scripts ∙ ap (λ j. map (script_of p) (range_with_len j i.rest)) (sym now);
-        cells = subst (λ j. AreCells f (cs ++ c ∷ []) (opening_cells s j 0)) (sym now)
-            (subst (λ (qs : List PlainCell). AreCells f (cs ++ c ∷ []) qs) (sym (next_opening s k))
+        cells = subst (λ j. AreCellsInOrder f (cs ++ c ∷ []) (opening_cells s j 0)) (sym now)
+            (subst (λ (qs : List PlainCell). AreCellsInOrder f (cs ++ c ∷ []) qs) (sym (next_opening s k))
             (more_cells f cs (opening_cells s k 0) c q o.cells here));
       }
 
   -- where no member or no script is left, all cells are open
   pub open_all : (ms : List M) (vs : List (Vec Mark Global)) (cs : List (Cell M)) → OpenSoFar ms vs cs → (ms ≡ []) ⊎ (vs ≡ [])
-      → AreCells f cs (opening_cells (setting_of p net seed) (length p.members) 0)
+      → AreCellsInOrder f cs (opening_cells (setting_of p net seed) (length p.members) 0)
   open_all ms vs cs o none =
       let zero : o.left ≡ 0 = elim none [
         | inl e ↦ none_left p net seed (length cs) o.left (sym (ap (map f) e) ∙ o.records)
@@ -207,4 +207,4 @@ module _ {M : Type 0} (f : M → Record) (p : PlainScenario) (net : Network) (se
       ] in
       let was = o.all in
       let all : length cs ≡ length p.members = omega arith in
-      subst (λ j. AreCells f cs (opening_cells (setting_of p net seed) j 0)) all o.cells
+      subst (λ j. AreCellsInOrder f cs (opening_cells (setting_of p net seed) j 0)) all o.cells

@@ -12,7 +12,7 @@ use Rattle.srm_model.specs.World.{World, step, after_step, exit_at, exits_of}
 use Rattle.srm_engine.specs.Faults.{step_fault_of}
 use Rattle.srm_engine.specs.Engines.{MayRefuseStep}
 use Rattle.srm_engine.specs.Outcomes.{EndAs}
-use Rattle.srm_engine.specs.Seen.{AreCells, TellsOwnStep}
+use Rattle.srm_engine.specs.Seen.{AreCellsInOrder, TellsOwnStep}
 use Rattle.srm_cell.specs.declared.cell.Cell.{Cell}
 use Rattle.srm_model.proofs.RunLemmas.{after_full}
 
@@ -61,7 +61,7 @@ module _ {M : Type 0} where
       shift : (i j : ℕ) → i + suc j ≡ suc i + j
       shift i j = omega arith
 
-  pub exits_are : (f : M → Record) (cs : List (Cell M)) (w : World) (xs : List Exit) → AreCells f cs w.cells
+  pub exits_are : (f : M → Record) (cs : List (Cell M)) (w : World) (xs : List Exit) → AreCellsInOrder f cs w.cells
       → EndAs f cs xs → xs ≡ exits_of w
   exits_are f cs w xs h e = ended_from f 0 cs w.cells xs h.as_many
       (λ j c p a b. subst (λ k. IsCell f k c p) (sym (zero-add j)) (h.each j c p a b)) e

@@ -10,7 +10,7 @@ use Rattle.srm_cell.specs.declared.fault.CellFault.{CellFault}
 use Rattle.srm_cell.specs.declared.fault.CellFault.TheVariants as fault
 use Rattle.srm_cell.specs.Cells.{PlainCell, next_event, time_of, StepOutcome, Stepped}
 use Rattle.srm_cell.specs.Views.{IsCell, TellsStep}
-use Rattle.srm_engine.specs.Seen.{AreTimes, AreCells, AreSeen, TellsOwnStep}
+use Rattle.srm_engine.specs.Seen.{AreTimes, AreCellsInOrder, AreSeen, TellsOwnStep}
 use Rattle.srm_engine.proofs.Index.{get_set_same, get_set_other}
 
 pub same_some : {A : Type 0} (x y : A) → Some x ≡ Some y → x ≡ y
@@ -42,7 +42,7 @@ set_times ts ps m t q h lt e = record {
 
 module _ {M : Type 0} where
   pub set_cells : (f : M → Record) (cs : List (Cell M)) (ps : List PlainCell) (m : ℕ) (c : Cell M) (q : PlainCell)
-      → AreCells f cs ps → m < length cs → IsCell f m c q → AreCells f (slice_set cs m c) (slice_set ps m q)
+      → AreCellsInOrder f cs ps → m < length cs → IsCell f m c q → AreCellsInOrder f (slice_set cs m c) (slice_set ps m q)
   set_cells f cs ps m c q h lt is = record {
     as_many = length-set cs m c ∙ h.as_many ∙ sym (length-set ps m q);
     each = λ j x p a g. elim (m == j) as (λ b. (m == j) ≡ b → IsCell f j x p) [

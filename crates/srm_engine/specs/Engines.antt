@@ -15,7 +15,7 @@ use Rattle.srm_engine.specs.declared.step_fault.StepFault.{StepFault}
 use Rattle.srm_engine.specs.declared.step_fault.StepFault.TheVariants as fault
 use Rattle.srm_model.specs.World.{World, IsReached, step, opening}
 use Rattle.srm_engine.specs.Openings.{HoldOpeningRecords}
-use Rattle.srm_model.specs.Hearing.{IsNew, all_hear, heard_below}
+use Rattle.srm_model.specs.Hearing.{IsUnheard, all_hear, heard_below}
 use Rattle.srm_engine.specs.Seen.{ShowCells}
 use Rattle.srm_model.specs.Totalled.{and_sent, MaySend}
 use Rattle.srm_net.specs.Limits.{end_of_time}
@@ -86,7 +86,7 @@ module _ {M : Type 0} where
     pub members : length e.cells.cells.items ≡ length e.scenario.now.members
     pub cells : List PlainCell
     pub seen : ShowCells f e.cells cells
-    pub new : IsNew p.id cells
+    pub new : IsUnheard p.id cells
 
   -- after a packet was handed out: every cell has heard it
   abbrev pub Delivers : (M → Record) → Packet → Engine M → Engine M → Type 0

@@ -13,8 +13,8 @@ use Rattle.srm_cell.specs.Flights.{BringsNone}
 use Rattle.srm_cell.specs.Setting.{Setting}
 use Rattle.srm_cell.specs.Cells.{PlainCell, hear_at}
 use Rattle.srm_cell.specs.Jobs as cell
-use Rattle.srm_model.specs.Hearing.{IsNew, heard_below}
-use Rattle.srm_engine.specs.Seen.{AreCells}
+use Rattle.srm_model.specs.Hearing.{IsUnheard, heard_below}
+use Rattle.srm_engine.specs.Seen.{AreCellsInOrder}
 use Rattle.srm_engine.specs.declared.groups.Groups.{Groups}
 use Rattle.srm_engine.specs.Soonest.{AreSoonest}
 use Rattle.srm_model.specs.WindowRuns.{WindowJob, OwnResult, AreOwnRuns, cells_in, AreNewInTurn, each_hears}
@@ -72,7 +72,7 @@ module _ {M : Type 0} where
   -- the groups are those of all these plain cells, in runs of `cut`
   pub record AreGrouped (f : M → Record) (cut : ℕ) (gs : List (Vec (Cell M)))
       (ps : List PlainCell) : Type 0 where
-    pub cells : AreCells f (all_in gs) ps
+    pub cells : AreCellsInOrder f (all_in gs) ps
     pub cuts : AreCuts cut (sizes gs)
 
   -- the jobs that have these groups, from a place on
@@ -138,7 +138,7 @@ module _ {M : Type 0} where
     pub cells : List PlainCell
     pub many : length cells ≡ s.traffic.members
     pub seen : AreKept f s e cells
-    pub new : IsNew p.id cells
+    pub new : IsUnheard p.id cells
 
   -- after a packet was handed out: every cell has heard it
   abbrev pub DeliversIn : (M → Record) → Setting → Packet → Groups M → Groups M → Type 0

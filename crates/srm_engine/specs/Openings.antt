@@ -6,7 +6,7 @@ use Rattle.srm_member.specs.Record.{Record, opening_record}
 use Rattle.srm_cell.specs.declared.cell.Cell.{Cell}
 use Rattle.srm_cell.specs.Setting.{setting_of, fixed_of}
 use Rattle.srm_model.specs.World.{opening_cells}
-use Rattle.srm_engine.specs.Seen.{AreCells}
+use Rattle.srm_engine.specs.Seen.{AreCellsInOrder}
 
 -- the opening records of n members from i on, for a scenario, its network and a seed
 abbrev pub records_from : PlainScenario → Network → ℕ → ℕ → ℕ → List Record
@@ -26,4 +26,4 @@ module _ {M : Type 0} where
   abbrev pub Opens : (M → Record) → PlainScenario → List Record → List (Cell M) → Type 0
   Opens f p rs cs =
       (net : Network) (seed : ℕ) → HoldOpeningRecords p net seed rs
-      → AreCells f cs (opening_cells (setting_of p net seed) (length p.members) 0)
+      → AreCellsInOrder f cs (opening_cells (setting_of p net seed) (length p.members) 0)

@@ -20,7 +20,7 @@ pub record AreTimes (ts : List (Option ℕ)) (ps : List PlainCell) : Type 0 wher
 
 module _ {M : Type 0} where
   -- the cells are seen as these plain cells, where f is what is seen of a box
-  pub record AreCells (f : M → Record) (cs : List (Cell M)) (ps : List PlainCell) : Type 0 where
+  pub record AreCellsInOrder (f : M → Record) (cs : List (Cell M)) (ps : List PlainCell) : Type 0 where
     pub as_many : length cs ≡ length ps
     pub each : (j : ℕ) (c : Cell M) (p : PlainCell) → slice_get cs j ≡ Some c → slice_get ps j ≡ Some p
         → IsCell f j c p
@@ -28,7 +28,7 @@ module _ {M : Type 0} where
   -- the cells and their next times are seen as these plain cells
   pub record AreSeen (f : M → Record) (cs : List (Cell M)) (ts : List (Option ℕ))
       (ps : List PlainCell) : Type 0 where
-    pub cells : AreCells f cs ps
+    pub cells : AreCellsInOrder f cs ps
     pub times : AreTimes ts ps
 
   -- the cells of all members are seen as these plain cells
@@ -38,11 +38,11 @@ module _ {M : Type 0} where
   -- the times are the next times of the cells, in order, of whatever the cells are seen as
   abbrev pub AreNextTimes : (M → Record) → List (Cell M) → List (Option ℕ) → Type 0
   AreNextTimes f cs ts =
-      (length ts ≡ length cs) × ((ps : List PlainCell) → AreCells f cs ps → AreTimes ts ps)
+      (length ts ≡ length cs) × ((ps : List PlainCell) → AreCellsInOrder f cs ps → AreTimes ts ps)
 
   -- of whatever these cells are seen as, they are seen so with their next times
   abbrev pub IsIndexOf : (M → Record) → List (Cell M) → Cells M → Type 0
-  IsIndexOf f cs indexed = (ps : List PlainCell) → AreCells f cs ps → ShowCells f indexed ps
+  IsIndexOf f cs indexed = (ps : List PlainCell) → AreCellsInOrder f cs ps → ShowCells f indexed ps
 
   -- what a member's own step tells, where its cell was p among ps, and what it leaves
   abbrev pub TellsOwnStep : (M → Record) → ℕ → List PlainCell → StepOutcome Stepped

@@ -6,7 +6,7 @@ ghost use Rattle.srm_cell.specs.Cells.{PlainCell};
 ghost use Rattle.srm_cell.specs.Setting.{Setting, setting_of};
 ghost use Rattle.srm_cell.specs.Crossings.{joined};
 ghost use Rattle.srm_model.specs.Windows.{way_of};
-ghost use Rattle.srm_engine.specs.Seen.{AreCells};
+ghost use Rattle.srm_engine.specs.Seen.{AreCellsInOrder};
 ghost use Rattle.srm_engine.specs.Groups.{AreCuts, sizes, all_in, jobs_with, groups_of, lists_of, some_of};
 ghost use Rattle.srm_engine.specs.Groups.{IsCut, AreKept, MayLookAgain, LooksAgain};
 ghost use Rattle.srm_engine.specs.Groups.{MayHand, HandsIn, MayDeliverIn, DeliversIn, MayHear, Hears};
@@ -48,7 +48,7 @@ impl<M: Participant> Groups<M> {
         requires members { length cells.items ≤ length scenario.now.members }
         ensures cut { IfOk result (λ all. all.cut ≡ cut) }
         ensures kept { IfOk result (λ all. (seed : ℕ) (ps : List PlainCell)
-            → AreCells M.plain cells.items ps
+            → AreCellsInOrder M.plain cells.items ps
             → AreKept M.plain (setting_of scenario.now net.now seed) all ps) }
     {
         let groups = group(alloc, cells, cut)?;

@@ -23,7 +23,7 @@ use Rattle.srm_cell.proofs.OwnRunLemmas.{after_by, after_first}
 use Rattle.srm_cell.proofs.Rising.{OnEvent, OnStep, before_on}
 use Rattle.srm_model.specs.World.{World, least_event, IsReached}
 use Rattle.srm_model.specs.Handed.{SentIn, is_sending, sending_count}
-use Rattle.srm_model.specs.Hearing.{IsNew}
+use Rattle.srm_model.specs.Hearing.{IsUnheard}
 use Rattle.srm_model.specs.WindowRuns.{OwnResult, AreOwnRuns, cells_in, each_hears, after_window, IsWindow}
 use Rattle.srm_model.specs.WindowLaws.{WindowPacketsAreNew}
 use Rattle.srm_model.proofs.HandedOnce.{handed_reached, packets_are_numbered, IsFlight}
@@ -161,7 +161,7 @@ mapped f (Some x) y h = (x, refl, same_Some _ _ h)
 -- where every packet that was sent before is another, it is new to every cell that has heard those of the rows
 pub new_after : (s : Setting) (w : World) (end : ℕ) (results : List OwnResult) (rows : List Row) (p : Packet) → IsReached s w
     → AreOwnRuns end 0 w.cells results → ((q : Packet) → SentIn q (w.trace ++ rows) → q.id ≢ p.id)
-    → IsNew p.id (each_hears s.traffic 0 rows (cells_in results))
+    → IsUnheard p.id (each_hears s.traffic 0 rows (cells_in results))
 new_after s w end results rows p reached alone other = λ j q g.
     let Q = λ (f : Flight). f.packet.id ≢ p.id in
     let d = mapped (hear_rows s.traffic (0 + j) rows) (slice_get (cells_in results) j) q

@@ -7,8 +7,8 @@ use Rattle.srm_cell.specs.Flights.{BringsNone}
 use Rattle.srm_cell.specs.Cells.{PlainCell, hear}
 
 -- no cell hears this packet yet
-abbrev pub IsNew : PacketId → List PlainCell → Type 0
-IsNew id ps = (j : ℕ) (p : PlainCell) → slice_get ps j ≡ Some p → BringsNone id p.inbox
+abbrev pub IsUnheard : PacketId → List PlainCell → Type 0
+IsUnheard id ps = (j : ℕ) (p : PlainCell) → slice_get ps j ≡ Some p → BringsNone id p.inbox
 
 -- the cells of members i and on, of which those below member k have heard the packet
 abbrev pub heard_below : Traffic → Packet → ℕ → ℕ → List PlainCell → List PlainCell

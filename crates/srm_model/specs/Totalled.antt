@@ -2,7 +2,7 @@
 use Rattle.std.specs.Prelude.{◌≡◌, ℕ, ◌+◌, ◌<◌, ◌^◌, List, [], ◌∷◌, ◌++◌, Option, Some, None, length}
 use Rattle.srm_net.specs.declared.packet.Packet.{Packet}
 use Rattle.srm_cell.specs.Cells.{PlainCell}
-use Rattle.srm_model.specs.Hearing.{IsNew}
+use Rattle.srm_model.specs.Hearing.{IsUnheard}
 use Rattle.srm_net.specs.Limits.{end_of_time}
 
 -- the packets, with the one that was sent, if any was
@@ -15,4 +15,5 @@ and_sent (Some p) ps = ps ++ p ∷ []
 abbrev pub MaySend : ℕ → List PlainCell → List Packet → Option Packet → Type 0
 MaySend members cs ps None = Unit {0}
 MaySend members cs ps (Some p) =
-    (length cs ≡ members) × (length ps + 3 < 2 ^ 64) × (p.id.sender < members) × (p.sent < end_of_time) × IsNew p.id cs
+    (length cs ≡ members) × (length ps + 3 < 2 ^ 64) × (p.id.sender < members) × (p.sent < end_of_time)
+    × IsUnheard p.id cs

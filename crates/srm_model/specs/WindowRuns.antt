@@ -8,7 +8,7 @@ use Rattle.srm_cell.specs.Cells.{PlainCell}
 use Rattle.srm_cell.specs.OwnRuns.{IsOwnRun, MeetsFull, hear_rows}
 use Rattle.srm_cell.specs.Crossings.{crossings, added_each}
 use Rattle.srm_model.specs.World.{World, row_cmp}
-use Rattle.srm_model.specs.Hearing.{IsNew}
+use Rattle.srm_model.specs.Hearing.{IsUnheard}
 use Rattle.srm_cell.specs.Crossings.{joined}
 
 -- what a cell's own run gives: its rows, and the cell that it leaves
@@ -46,7 +46,7 @@ each_hears t i rows (c ∷ cs) = hear_rows t i rows c ∷ each_hears t (suc i) r
 abbrev pub AreNewInTurn : Traffic → List Row → List PlainCell → Type 0
 AreNewInTurn t rows cs =
     (before after : List Row) (r : Row) (p : Packet) → rows ≡ before ++ r ∷ after → r.sent ≡ Some p
-    → IsNew p.id (each_hears t 0 before cs) × (p.id.sender < t.members) × (p.sent < t.until)
+    → IsUnheard p.id (each_hears t 0 before cs) × (p.id.sender < t.members) × (p.sent < t.until)
 
 -- a world after a window with these results, whose rows are merged to these
 abbrev pub after_window : Setting → World → List OwnResult → List Row → World

@@ -156,7 +156,7 @@ module _ (w : Network) (n : IsNetwork w) (table : List Nearest) (s : IsSound w t
   pub step_takes : (m ticks : ℕ) → Covers (nearest_of table from) m ticks
       → Covers (nearest_of (slice_set table to new) to) m (ticks + d)
   step_takes m ticks c =
-      subst (λ p. Covers p m (ticks + d)) (sym at_new) (t.takes (s.ordered to ht) (s.ordered from hf) m ticks c)
+      subst (λ p. Covers p m (ticks + d)) (sym at_new) (t.brings (s.ordered to ht) (s.ordered from hf) m ticks c)
 
 -- ---- a node and its parent
 

@@ -54,7 +54,7 @@ pub record Offers (old : Nearest) (n : Near) (new : Nearest) : Type 0 where
 pub record Takes (old others : Nearest) (delay : ℕ) (new : Nearest) : Type 0 where
   pub ordered : IsNearestFirst old → IsNearestFirst new
   pub keeps : IsNearestFirst old → (m ticks : ℕ) → Covers old m ticks → Covers new m ticks
-  pub takes : IsNearestFirst old → IsNearestFirst others → (m ticks : ℕ) → Covers others m ticks
+  pub brings : IsNearestFirst old → IsNearestFirst others → (m ticks : ℕ) → Covers others m ticks
       → Covers new m (ticks + delay)
   pub from : (k : Near) → IsOneOf new k → IsOneOf old k ⊎ ((n : Near) × IsOneOf others n × (k ≡ later n delay))
 

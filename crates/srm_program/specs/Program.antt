@@ -87,8 +87,8 @@ exit_status (Err f) = status_of_fault f
 
 -- what the program does for what the command line asks for, over the devices that it reads from, writes to and tells
 -- refusals on: something comes of it, as the exit status and the outlet for errors tell
-abbrev pub Answers : Request → Device → Device → Device → ℕ → Type 0
-Answers request feed outlet errors status =
+abbrev pub AnswersRequest : Request → Device → Device → Device → ℕ → Type 0
+AnswersRequest request feed outlet errors status =
     (done : Result (Unit {0}) Fault) × (given : List ℕ)
     × Consumes feed.old feed.new given × (length given ≤ LONGEST_TEXT + 1)
     × CarriesOut request.asked given outlet.old outlet.new feed.new done

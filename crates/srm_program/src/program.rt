@@ -5,7 +5,7 @@ ghost use Rattle.srm_scenario.specs.declared.bytes.TheConstants.{LONGEST_TEXT};
 ghost use Rattle.srm_program.specs.declared.request.Request.{Request};
 ghost use Rattle.srm_program.specs.Explained.{KeepsText};
 ghost use Rattle.srm_program.specs.RefusalLines.{line_of_fault};
-ghost use Rattle.srm_program.specs.Program.{device, full_line, status_of_fault, Answers, CarriesOut, MayBeAsked, TakesEither, TakesFaultLine, TakesLine};
+ghost use Rattle.srm_program.specs.Program.{device, full_line, status_of_fault, AnswersRequest, CarriesOut, MayBeAsked, TakesEither, TakesFaultLine, TakesLine};
 ghost use Rattle.srm_program.specs.Sessions.{reading_failures, session_failures};
 
 use crate::command_line::{message_of, options_here};
@@ -45,7 +45,7 @@ pub fn program<R: Threads + Wait + Sync, F: Feed, O: Outlet, E: Outlet>(
     requires outlet { O.failures outlet.old < 2 ^ 64 - 1 }
     requires errors { E.failures errors.old < 2 ^ 64 - 1 }
     ensures { (request : Request) × IfOk request.asked MayBeAsked
-        × Answers request
+        × AnswersRequest request
         (device (F.remaining feed.old) (F.remaining feed.new) (F.failures feed.old) (F.failures feed.new))
         (device (O.taken outlet.old) (O.taken outlet.new) (O.failures outlet.old) (O.failures outlet.new))
         (device (E.taken errors.old) (E.taken errors.new) (E.failures errors.old) (E.failures errors.new))
@@ -109,7 +109,7 @@ pub fn answer<R: Threads + Wait + Sync, F: Feed, O: Outlet, E: Outlet>(
     requires feed { F.failures feed.old < 2 ^ 64 - 1 }
     requires outlet { O.failures outlet.old < 2 ^ 64 - 1 }
     requires errors { E.failures errors.old < 2 ^ 64 - 1 }
-    ensures { Answers request
+    ensures { AnswersRequest request
         (device (F.remaining feed.old) (F.remaining feed.new) (F.failures feed.old) (F.failures feed.new))
         (device (O.taken outlet.old) (O.taken outlet.new) (O.failures outlet.old) (O.failures outlet.new))
         (device (E.taken errors.old) (E.taken errors.new) (E.failures errors.old) (E.failures errors.new))

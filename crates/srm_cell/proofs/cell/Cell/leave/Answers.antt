@@ -1,7 +1,7 @@
 use Rattle.std.proofs.Common.{ap, sym, subst, ◌∙◌, None, Some}
 use Rattle.srm_member.specs.declared.told.Told.TheVariants.{Parted}
 use Rattle.srm_cell.specs.Cells.{handle, word_of, about_of}
-use Rattle.srm_cell.specs.InnerSteps.{Answers}
+use Rattle.srm_cell.specs.InnerSteps.{AnswersEvent}
 use Rattle.srm_cell.specs.Views.{HasWork}
 use Rattle.srm_cell.proofs.Putting.{row_is_put}
 use Rattle.srm_cell.proofs.Saying.{wanting_end, gone_has_none, ended_is_gone, left, held, empty, now_empty, no_record}
@@ -30,7 +30,7 @@ returns-in_default-new g c = λ m e h k q.
 pub returns : goal.returns
 returns g c =
     row_is_put
-    (λ r. Answers g.M.Participant.plain c.args.key None c.args.self.now r
+    (λ r. AnswersEvent g.M.Participant.plain c.args.key None c.args.self.now r
     (record c.args.self.now { member = c.take.new.self; exit = Some c.in-Ok-new.exit }))
     _ _ _ c.put.result c.put.ensures.row c.put.ensures.memory
     (λ m e h k q.

@@ -1,6 +1,6 @@
 use Rattle.std.proofs.Common.{◌≡◌, ap, sym, ◌∙◌, refl, ◌<◌, ◌≤◌, ◌+◌, arith, Some, None}
 use Rattle.srm_cell.specs.Cells.{handle, word_of, about_of}
-use Rattle.srm_cell.specs.InnerSteps.{Answers}
+use Rattle.srm_cell.specs.InnerSteps.{AnswersEvent}
 use Rattle.srm_cell.proofs.Putting.{row_is_put}
 use Rattle.srm_cell.proofs.Saying.{wanting, working, gone_has_none, spent_is_gone, said_nothing, said, not_said, held, empty, holds_one}
 use Rattle.srm_cell.proofs.cell.Cell.say.Goals as goal
@@ -29,7 +29,7 @@ returns-in_default-of g c = λ m e h k q.
 pub returns-in_default-body : goal.returns-in_default-body
 returns-in_default-body g c =
     row_is_put
-    (λ r. Answers g.M.Participant.plain c.args.key (Some c.args.cause) c.args.self.now r
+    (λ r. AnswersEvent g.M.Participant.plain c.args.key (Some c.args.cause) c.args.self.now r
     (record c.args.self.now { member = Some c.react.new.member }))
     _ _ _ c.put.result c.put.ensures.row c.put.ensures.memory
     (λ m e h k q.
@@ -74,7 +74,7 @@ returns-then-self-ge-COUNT_LIMIT g c = λ m e h k q.
 pub returns : goal.returns
 returns g c =
     row_is_put
-    (λ r. Answers g.M.Participant.plain c.args.key (Some c.args.cause) c.args.self.now r
+    (λ r. AnswersEvent g.M.Participant.plain c.args.key (Some c.args.cause) c.args.self.now r
     (record c.args.self.now { member = Some c.react.new.member; sent = c.args.self.now.sent + 1 }))
     _ _ _ c.put-2.result c.put-2.ensures.row c.put-2.ensures.memory
     (λ m e h k q.

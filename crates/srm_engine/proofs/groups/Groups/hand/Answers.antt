@@ -2,7 +2,7 @@ use Rattle.std.proofs.Common.{◌≡◌, ◌∙◌, ◌<◌, ◌/◌, ◌%◌, S
 use Rattle.std.proofs.Math.ListN.{length-set}
 use Rattle.std.specs.Vec.{with_item}
 use Rattle.srm_cell.specs.Cells.{hear_at}
-use Rattle.srm_engine.specs.Seen.{AreCells}
+use Rattle.srm_engine.specs.Seen.{AreCellsInOrder}
 use Rattle.srm_engine.proofs.SeenLemmas.{set_cells}
 use Rattle.std.proofs.lemmas.Option.{slice_get-get_or}
 use Rattle.srm_engine.specs.Groups.{all_in, AreCuts}
@@ -67,7 +67,7 @@ returns-clause-heard g c = λ s way ps q h k.
     record {
       cut = h.cut;
       grouped = record {
-        cells = subst (λ l. AreCells g.M.Participant.plain l (slice_set ps c.args.member r))
+        cells = subst (λ l. AreCellsInOrder g.M.Participant.plain l (slice_set ps c.args.member r))
             (sym (a.set d new x same))
             (set_cells g.M.Participant.plain (all_in gs) ps c.args.member x r h.grouped.cells
             c.requires.member now);

@@ -9,7 +9,7 @@ use Rattle.srm_cell.specs.Cells.{PlainCell}
 use Rattle.srm_cell.specs.OwnRuns.{hear_rows, told_to}
 use Rattle.srm_cell.specs.Crossings.{joined}
 use Rattle.srm_cell.proofs.RowPackets.{joined-append}
-use Rattle.srm_model.specs.Hearing.{IsNew}
+use Rattle.srm_model.specs.Hearing.{IsUnheard}
 use Rattle.srm_model.specs.WindowRuns.{each_hears}
 use Rattle.srm_model.proofs.WindowRows.{packets_are_heard_in_turn, length-each_hears}
 use Rattle.srm_engine.specs.Groups.{AreKept}
@@ -68,7 +68,7 @@ hear-requires-clause-may g c =
             let whole : rows_in all ≡ (done ++ before) ++ r ∷ (after ++ left) = parts ∙ ap (λ l. done ++ (l ++ left)) here
             ∙ ap (λ l. done ++ l) (append_assoc before (r ∷ after) left) ∙ sym (append_assoc done before (r ∷ (after ++ left))) in
             let new = n.3 (done ++ before) (after ++ left) r p whole sent in
-            (subst (λ cs. IsNew p.id cs) (hears_both t 0 done before n.0) new.0, new.1, new.2),
+            (subst (λ cs. IsUnheard p.id cs) (hears_both t 0 done before n.0) new.0, new.1, new.2),
       ),
     )
 
