@@ -3,7 +3,7 @@
 
 usage: tests/versions.py
 
-The program's version stands in crates/srm_program/src/command_line.rt. CITATION.cff and python/pyproject.toml have the same
+The program's version stands in crates/srm_command_line/src/command_line.rt. CITATION.cff and python/pyproject.toml have the same
 one, and CHANGELOG.md either names it as the one to come, which is later than each release, or has it as its newest release. A
 tag such as v1.2.0, of the commit that is checked out or of one before it, is of a release that CHANGELOG.md has, and of a
 commit whose CITATION.cff, if it has one, names that version; a tag of the commit that is checked out is of the program's
@@ -16,7 +16,7 @@ import sys
 from collections.abc import Iterator
 
 TOP = pathlib.Path(__file__).resolve().parent.parent
-PROGRAM = "crates/srm_program/src/command_line.rt"
+PROGRAM = "crates/srm_command_line/src/command_line.rt"
 CITATION = "CITATION.cff"
 CHANGELOG = "CHANGELOG.md"
 TO_COME = r"^To be (\d\S*)\.$"

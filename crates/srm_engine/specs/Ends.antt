@@ -5,7 +5,7 @@ use Rattle.srm_scenario.specs.Plain.{PlainScenario}
 use Rattle.srm_member.specs.Record.{fixed_part}
 use Rattle.srm_cell.specs.Setting.{Setting, IsFit, setting_of}
 use Rattle.srm_cell.specs.Cells.{PlainCell}
-use Rattle.srm_engine.specs.declared.width.Width.{Width}
+use Rattle.srm_options.specs.declared.width.Width.{Width}
 use Rattle.srm_engine.specs.declared.width.Windows.{Windows}
 use Rattle.srm_engine.specs.declared.cutting.Cutting.{Cutting}
 use Rattle.srm_engine.specs.declared.cutting.CuttingFault.{CuttingFault}

@@ -1,6 +1,6 @@
 -- The line of a command line that is refused.
 use Rattle.std.proofs.Common.{◌≡◌, refl, codes, arith}
-use Rattle.srm_program.specs.declared.fault.LineFault.TheVariants as line
+use Rattle.srm_command_line.specs.declared.line_fault.LineFault.TheVariants as line
 use Rattle.srm_program.specs.declared.fault.Fault.{Fault}
 use Rattle.srm_program.specs.declared.fault.Fault.TheVariants as fault
 use Rattle.srm_program.specs.RefusalLines.{line_of_fault}

@@ -24,8 +24,8 @@ use Rattle.srm_program.specs.declared.fault.LabFault.{LabFault}
 use Rattle.srm_program.specs.declared.fault.LabFault.TheVariants.{BadCut, BadWidth, ShareFull, NoMemory, CountFull, WriteFault}
 use Rattle.srm_program.specs.Reports.{TakesFront, TellsListing, TellsReport}
 use Rattle.srm_program.specs.Runs.{StandsAfter, HandsRows, TellsRefusedFor, TellsRunFor}
-use Rattle.srm_program.specs.declared.options.Options.{Options}
-use Rattle.srm_program.specs.declared.options.Show.TheVariants.{Trace, Timers}
+use Rattle.srm_options.specs.declared.options.Options.{Options}
+use Rattle.srm_options.specs.declared.options.Show.TheVariants.{Trace, Timers}
 use Rattle.srm_program.proofs.Texts.{keeps-itself}
 
 -- ---- where a sink stands

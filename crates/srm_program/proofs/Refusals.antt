@@ -6,7 +6,7 @@ use Rattle.srm_net.specs.Network.{Network}
 use Rattle.srm_scenario.specs.Plain.{PlainScenario}
 use Rattle.srm_program.specs.declared.fault.Fault.{Fault}
 use Rattle.srm_program.specs.declared.fault.Fault.TheVariants.{NoMemory}
-use Rattle.srm_program.specs.declared.options.Options.{Options}
+use Rattle.srm_options.specs.declared.options.Options.{Options}
 use Rattle.srm_program.specs.Sessions.{TellsSession}
 use Rattle.srm_program.proofs.Texts.{keeps-itself}
 

@@ -9,9 +9,9 @@ use Rattle.srm_cell.specs.Setting.{setting_of}
 use Rattle.srm_model.specs.World.{IsOutcome}
 use Rattle.srm_program.specs.declared.fault.LabFault.{LabFault}
 use Rattle.srm_program.specs.declared.fault.LabFault.TheVariants.{BadCut, BadWidth, ShareFull, NoMemory, CountFull, WriteFault}
-use Rattle.srm_program.specs.declared.options.Show.{Show}
-use Rattle.srm_program.specs.declared.options.Engine.TheVariants.{Window}
-use Rattle.srm_program.specs.declared.options.Options.{Options}
+use Rattle.srm_options.specs.declared.options.Show.{Show}
+use Rattle.srm_options.specs.declared.options.Engine.TheVariants.{Window}
+use Rattle.srm_options.specs.declared.options.Options.{Options}
 use Rattle.srm_program.specs.Reports.{shown, report_of, Writes, TellsTable}
 use Rattle.srm_program.specs.Runs.{MayBeCut, TellsRefusedFor}
 

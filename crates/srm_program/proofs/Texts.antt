@@ -9,7 +9,7 @@ use Rattle.srm_scenario.specs.Faults.{scenario_of_text, AnswersText, RefusesText
 use Rattle.srm_scenario.proofs.Texts.{count_stays}
 use Rattle.srm_program.specs.declared.fault.Fault.{Fault}
 use Rattle.srm_program.specs.declared.fault.Fault.TheVariants.{Line, Scenario, Lab, NoMemory}
-use Rattle.srm_program.specs.declared.options.Options.{Options}
+use Rattle.srm_options.specs.declared.options.Options.{Options}
 use Rattle.srm_program.specs.declared.fault.LabFault.{LabFault}
 use Rattle.srm_program.specs.Sessions.{TellsSession, TellsTask, TellsText, reading_failures}
 

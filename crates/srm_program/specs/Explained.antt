@@ -8,11 +8,11 @@ use Rattle.srm_scenario.specs.declared.fault.ScenarioFault.TheVariants.{ReadFaul
 use Rattle.srm_explain.specs.Explanations.{note, Explains}
 use Rattle.srm_program.specs.declared.fault.LabFault.{LabFault}
 use Rattle.srm_program.specs.declared.fault.LabFault.TheVariants as lab
-use Rattle.srm_program.specs.declared.fault.LineFault.{LineFault}
+use Rattle.srm_command_line.specs.declared.line_fault.LineFault.{LineFault}
 use Rattle.srm_program.specs.declared.fault.Fault.{Fault}
 use Rattle.srm_program.specs.declared.fault.Fault.TheVariants as fault
-use Rattle.srm_program.specs.declared.options.Options.{Options}
-use Rattle.srm_program.specs.declared.request.Request.{Request}
+use Rattle.srm_options.specs.declared.options.Options.{Options}
+use Rattle.srm_command_line.specs.declared.request.Request.{Request}
 
 -- whether words ask for explanations of what is refused of a session
 abbrev pub asks_explanation : Result (ℕ × Options) LineFault → Bool

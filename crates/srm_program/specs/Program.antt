@@ -1,23 +1,19 @@
 -- What the program does, as its devices see it: what it reads, what it writes, and its exit status.
-use Rattle.std.specs.Prelude.{◌≡◌, ◌≢◌, ◌⊎◌, ℕ, ◌+◌, ◌^◌, ◌<◌, ◌≤◌, List, [], ◌∷◌, ◌++◌, length, take, codes, Option}
+use Rattle.std.specs.Prelude.{◌≡◌, ◌≢◌, ◌⊎◌, ℕ, ◌+◌, ◌<◌, ◌≤◌, List, [], ◌∷◌, ◌++◌, length, take, codes, Option}
 use Rattle.std.specs.Prelude.{Result, Ok, Err, string_bytes}
 use Rattle.std.specs.Io.KnownBytes.{Appends, Consumes, Keeps}
 use Rattle.srm_scenario.specs.declared.bytes.TheConstants.{LONGEST_TEXT}
 use Rattle.srm_program.specs.declared.fault.LabFault.TheVariants.{WriteFault}
-use Rattle.srm_program.specs.declared.fault.LineFault.{LineFault}
-use Rattle.srm_program.specs.declared.fault.LineFault.TheVariants as line
+use Rattle.srm_command_line.specs.declared.line_fault.LineFault.{LineFault}
+use Rattle.srm_command_line.specs.declared.line_fault.LineFault.TheVariants as line
 use Rattle.srm_program.specs.declared.fault.Fault.{Fault}
 use Rattle.srm_program.specs.declared.fault.Fault.TheVariants as fault
-use Rattle.srm_program.specs.declared.options.Options.{Options}
-use Rattle.srm_program.specs.declared.request.Request.{Request}
+use Rattle.srm_options.specs.declared.options.Options.{Options}
+use Rattle.srm_command_line.specs.declared.request.Request.{Request}
 use Rattle.srm_program.specs.Explained.{Follows}
 use Rattle.srm_program.specs.RefusalLines.{line_of_fault}
-use Rattle.srm_program.specs.Runs.{MayShareBag}
+pub use Rattle.srm_options.specs.Asked.{MayBeAsked}
 use Rattle.srm_program.specs.Sessions.{TellsFeed, ReadsSessionToEnd, reading_failures, session_failures}
-
--- what a command line may ask for: a seed below 2^63, and as many workers as may share a bag
-abbrev pub MayBeAsked : ℕ × Options → Type 0
-MayBeAsked asked = (asked.0 < 2 ^ 63) × MayShareBag asked.1.workers
 
 -- a device before and after: its bytes, where they are known, and how often it failed. The bytes of a feed are those
 -- still to come, those of an outlet what it has taken

@@ -6,8 +6,8 @@ use Rattle.srm_scenario.specs.declared.fault.ScenarioFault.{ScenarioFault}
 use Rattle.srm_scenario.specs.declared.fault.ScenarioFault.TheVariants as scenario
 use Rattle.srm_program.specs.declared.fault.LabFault.{LabFault}
 use Rattle.srm_program.specs.declared.fault.LabFault.TheVariants as lab
-use Rattle.srm_program.specs.declared.fault.LineFault.{LineFault}
-use Rattle.srm_program.specs.declared.fault.LineFault.TheVariants as line
+use Rattle.srm_command_line.specs.declared.line_fault.LineFault.{LineFault}
+use Rattle.srm_command_line.specs.declared.line_fault.LineFault.TheVariants as line
 use Rattle.srm_program.specs.declared.fault.Fault.{Fault}
 use Rattle.srm_program.specs.declared.fault.Fault.TheVariants as fault
 

@@ -16,8 +16,8 @@ use Rattle.srm_report.specs.Standings.{GrewBy}
 use Rattle.srm_program.specs.declared.fault.LabFault.{LabFault}
 use Rattle.srm_program.specs.declared.fault.LabFault.TheVariants.{BadCut, BadWidth, ShareFull, NoMemory, CountFull}
 use Rattle.srm_program.specs.declared.fault.LabFault.TheVariants.{WriteFault}
-use Rattle.srm_program.specs.declared.options.Show.{Show}
-use Rattle.srm_program.specs.declared.options.Show.TheVariants.{Trace, Members, Losses, Links, Timers}
+use Rattle.srm_options.specs.declared.options.Show.{Show}
+use Rattle.srm_options.specs.declared.options.Show.TheVariants.{Trace, Members, Losses, Links, Timers}
 
 -- what is shown of a run of a scenario on its network that left these rows and totals
 abbrev pub shown : Show → PlainScenario → Network → List Row → List ℕ → List ℕ

@@ -1,5 +1,5 @@
 -- What a run is asked for, and what comes of it.
-use Rattle.std.specs.Prelude.{◌≡◌, ℕ, ◌≤◌, List, Option, Result, Ok, Err}
+use Rattle.std.specs.Prelude.{◌≡◌, ℕ, List, Option, Result, Ok, Err}
 use Rattle.srm_net.specs.Network.{Network}
 use Rattle.srm_scenario.specs.Plain.{PlainScenario, network_of}
 use Rattle.srm_cell.specs.Setting.{Setting, setting_of}
@@ -22,13 +22,10 @@ use Rattle.srm_engine.specs.Windowed.{IsCut, MayBeWide, PassesShare, rule_of}
 use Rattle.srm_program.specs.declared.fault.LabFault.{LabFault}
 use Rattle.srm_program.specs.declared.fault.LabFault.TheVariants.{BadCut, BadWidth, ShareFull, NoMemory, CountFull}
 use Rattle.srm_program.specs.declared.fault.LabFault.TheVariants.{WriteFault}
-use Rattle.srm_program.specs.declared.options.Engine.TheVariants.{Window}
-use Rattle.srm_program.specs.declared.options.Options.{Options}
+use Rattle.srm_options.specs.declared.options.Engine.TheVariants.{Window}
+use Rattle.srm_options.specs.declared.options.Options.{Options}
 use Rattle.srm_program.specs.Reports.{TellsReport, failures_after_run}
-
--- so many workers may share a bag
-abbrev pub MayShareBag : ℕ → Type 0
-MayShareBag n = (1 ≤ n) × (n ≤ 64)
+pub use Rattle.srm_options.specs.Asked.{MayShareBag}
 
 -- the run may be cut into windows and jobs as is asked for
 abbrev pub MayBeCut : Network → Options → Type 0

@@ -9,7 +9,7 @@ use Rattle.srm_scenario.specs.Faults as faults
 use Rattle.srm_program.specs.declared.fault.LabFault.{LabFault}
 use Rattle.srm_program.specs.declared.fault.Fault.{Fault}
 use Rattle.srm_program.specs.declared.fault.Fault.TheVariants as fault
-use Rattle.srm_program.specs.declared.options.Options.{Options}
+use Rattle.srm_options.specs.declared.options.Options.{Options}
 use Rattle.srm_program.specs.Reports.{failures_after_run}
 use Rattle.srm_program.specs.Runs.{TellsRunFor}
 

@@ -1,7 +1,7 @@
 //! What is told of a fault after its line.
 ghost use Rattle.std.specs.Prelude.{◌≡◌, IfOk, string_bytes};
 ghost use Rattle.srm_program.specs.Explained.{asks_explanation, lab_sentence, width_sentence, ExplainsFault, ExplainsWidth, FollowsLine, MayFollow};
-ghost use Rattle.srm_program.specs.declared.options.Options.{Options};
+ghost use Rattle.srm_options.specs.declared.options.Options.{Options};
 
 use crate::fault::{Fault, LabFault, LineFault};
 use crate::options::Options;

@@ -1,4 +1,5 @@
 //! Why the program refuses.
+pub use srm_command_line::line_fault::LineFault;
 use srm_member::fault::MemberFault;
 use srm_scenario::fault::ScenarioFault;
 use std::alloc::{AllocError, AllocFailed};
@@ -29,33 +30,6 @@ pub enum LabFault {
         /// How many bytes of the report it had taken.
         written: u64,
     },
-}
-
-/// Why nothing is run for a command line.
-#[derive(Debug, PartialEq, Eq, Drop)]
-pub enum LineFault {
-    /// An option is unknown, stands twice or lacks its value, or a number is out of its range.
-    Line,
-    /// A text is none of the words that its option takes.
-    BadWord,
-    /// Help, or the version, is asked for.
-    Help {
-        /// What is to be printed.
-        text: String,
-    },
-    /// Memory ran out.
-    NoMemory,
-}
-
-impl From<AllocError> for LineFault {
-    ghost use Rattle.std.specs.Prelude.{◌≡◌};
-    ghost use Rattle.srm_program.specs.declared.fault.LineFault.TheVariants.{NoMemory};
-
-    ghost from_gives = { λ _ e. e ≡ NoMemory };
-
-    fn from(_fault: AllocError) -> LineFault {
-        LineFault::NoMemory
-    }
 }
 
 /// Why the program refuses.

@@ -2,7 +2,6 @@
 #![tactic(auto)]
 
 mod asked;
-pub mod command_line;
 mod explained;
 pub mod fault;
 mod hand_rows;
@@ -10,9 +9,10 @@ mod in_team;
 pub mod line;
 mod made;
 mod members;
-pub mod options;
 pub mod program;
 mod report;
-pub mod request;
 pub mod run;
 pub mod session;
+
+pub use srm_command_line::{command_line, request};
+pub use srm_options::options;

@@ -2,18 +2,17 @@
 ghost use Rattle.std.specs.Prelude.{◌≡◌, ◌≤◌, ◌<◌, ◌+◌, ◌-◌, ◌^◌, ℕ, List, length, IfErr, IfOk, string_bytes};
 ghost use Rattle.std.specs.Io.KnownBytes.{Consumes};
 ghost use Rattle.srm_scenario.specs.declared.bytes.TheConstants.{LONGEST_TEXT};
-ghost use Rattle.srm_program.specs.declared.request.Request.{Request};
+ghost use Rattle.srm_command_line.specs.declared.request.Request.{Request};
 ghost use Rattle.srm_program.specs.Explained.{KeepsText};
 ghost use Rattle.srm_program.specs.RefusalLines.{line_of_fault};
 ghost use Rattle.srm_program.specs.Program.{device, full_line, status_of_fault, AnswersRequest, CarriesOut, MayBeAsked, TakesEither, TakesFaultLine, TakesLine};
 ghost use Rattle.srm_program.specs.Sessions.{reading_failures, session_failures};
 
-use crate::command_line::{message_of, options_here};
 use crate::explained::{asks_explanation, following};
 use crate::fault::{Fault, LabFault, LineFault};
 use crate::line::{NoMemory, line_of};
 use crate::options::Options;
-use crate::request::Request;
+use crate::request::{Request, request_of};
 use crate::session::{Session, simulate};
 use srm_report::outlet::Outlet;
 use srm_report::writing::{WriteFault, write_out};
@@ -59,39 +58,6 @@ pub fn program<R: Threads + Wait + Sync, F: Feed, O: Outlet, E: Outlet>(
         outlet,
         errors,
     )
-}
-
-// What the words ask for. A word that is no text is refused.
-fn request_of(rt: &impl Threads, alloc: Global, words: io::Result<Args>) -> Request
-    ensures { IfOk result.asked MayBeAsked }
-{
-    let fault = match words {
-        Ok(words) => match words.collect(alloc) {
-            Ok(words) => return understood(rt, alloc, &words),
-            Err(_) => LineFault::NoMemory,
-        },
-        Err(error) if error.kind() == io::ErrorKind::OutOfMemory => LineFault::NoMemory,
-        Err(_) => LineFault::Line,
-    };
-    Request {
-        asked: Err(fault),
-        message: String::new(alloc),
-    }
-}
-
-// What words of text ask for. Where they are refused, and there is no memory to say why, nothing more is told.
-fn understood(rt: &impl Threads, alloc: Global, words: &Vec<String>) -> Request
-    ensures { IfOk result.asked MayBeAsked }
-{
-    let asked = options_here(rt, alloc, words.as_slice());
-    let message = match &asked {
-        Err(LineFault::Line | LineFault::BadWord) => message_of(alloc, words.as_slice()),
-        _ => Ok(String::new(alloc)),
-    };
-    Request {
-        asked,
-        message: message.unwrap_or(String::new(alloc)),
-    }
 }
 
 /// Does what is asked for, and answers the exit status: 0 where all was written, 1 after a refusal, and 2 where the command line

@@ -1,5 +1,5 @@
 use Rattle.srm_report.specs.Links.{links_table}
-use Rattle.srm_program.specs.declared.options.Show.TheVariants.{Links}
+use Rattle.srm_options.specs.declared.options.Show.TheVariants.{Links}
 use Rattle.srm_program.proofs.TableTexts.{asked_told, table_told}
 use Rattle.srm_program.proofs.run.write_links.Goals as goal
 

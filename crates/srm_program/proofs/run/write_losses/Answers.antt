@@ -1,7 +1,7 @@
 use Rattle.std.proofs.Common.{[], length, sym, subst, append-nil}
 use Rattle.srm_member.specs.Orderly.{IsOrderly}
 use Rattle.srm_report.specs.Losses.{losses_table}
-use Rattle.srm_program.specs.declared.options.Show.TheVariants.{Losses}
+use Rattle.srm_options.specs.declared.options.Show.TheVariants.{Losses}
 use Rattle.srm_program.proofs.OrderlyRows.{orderly_rows}
 use Rattle.srm_program.proofs.TableTexts.{asked_told, table_told}
 use Rattle.srm_program.proofs.run.write_losses.Goals as goal

@@ -1,6 +1,6 @@
 use Rattle.std.proofs.Common.{[]}
 use Rattle.srm_report.specs.Members.{members_table}
-use Rattle.srm_program.specs.declared.options.Show.TheVariants.{Members}
+use Rattle.srm_options.specs.declared.options.Show.TheVariants.{Members}
 use Rattle.srm_program.proofs.TableTexts.{asked_told, table_told}
 use Rattle.srm_program.proofs.run.write_members.Goals as goal
 

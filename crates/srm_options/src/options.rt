@@ -1,5 +1,5 @@
 //! What the program is asked for.
-use srm_engine::width::Width;
+use crate::width::Width;
 
 /// Which engine runs a scenario. The table is the same.
 #[derive(Clone, Copy, Debug, PartialEq, Eq)]

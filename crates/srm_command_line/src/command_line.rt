@@ -1,17 +1,16 @@
 //! What the words of the command line ask for.
-ghost use Rattle.std.specs.Prelude.{IfOk};
+ghost use Rattle.std.specs.Prelude.{◌≡◌, IfOk, IfSome};
 ghost use Rattle.clap.specs.Words.{kind_of};
-ghost use Rattle.srm_program.specs.CommandLine.{TakesNumber, TellsKind};
-ghost use Rattle.srm_program.specs.Program.{MayBeAsked};
-ghost use Rattle.srm_program.specs.Runs.{MayShareBag};
+ghost use Rattle.srm_command_line.specs.CommandLine.{TakesNumber, TellsKind};
+ghost use Rattle.srm_options.specs.Asked.{MayBeAsked, MayShareBag};
 
-use crate::fault::LineFault;
-use crate::options::{CrewKind, Engine, Options, Show};
+use crate::line_fault::LineFault;
 use clap::builder::ValueParser;
 use clap::error::ErrorKind;
 use clap::parser::ValueSource;
 use clap::{Arg, ArgAction, ArgMatches, Command, Error};
-use srm_engine::width::Width;
+use srm_options::options::{CrewKind, Engine, Options, Show};
+use srm_options::width::Width;
 use std::alloc::{AllocError, Global};
 use std::convert::AsStr;
 use std::thread::{Threads, available_parallelism};
@@ -62,20 +61,42 @@ pub(crate) struct OptionLine {
     words: &'static [&'static str],
 }
 
-const SEED: OptionLine = OptionLine {
-    name: "seed",
+const SEED: &str = "seed";
+
+const ENGINE: &str = "engine";
+
+const CREW: &str = "crew";
+
+const WORKERS: &str = "workers";
+
+const CUT: &str = "cut";
+
+const WIDTH: &str = "width";
+
+const SHOW: &str = "show";
+
+const CHECK: &str = "check";
+
+const EXPLAIN: &str = "explain";
+
+const SEEDS: Reader = Reader::Number {
+    least: 0,
+    most: 9_223_372_036_854_775_807,
+};
+
+const COUNTS_OF_WORKERS: Reader = Reader::Number { least: 1, most: 64 };
+
+const SEED_LINE: OptionLine = OptionLine {
+    name: SEED,
     takes: "0..=9223372036854775807",
     default: "0",
     about: "The seed of the members' random words",
-    reader: Reader::Number {
-        least: 0,
-        most: 9_223_372_036_854_775_807,
-    },
+    reader: SEEDS,
     words: &[],
 };
 
-const ENGINE: OptionLine = OptionLine {
-    name: "engine",
+const ENGINE_LINE: OptionLine = OptionLine {
+    name: ENGINE,
     takes: "step|window",
     default: "step",
     about: "One event at a time, or windows of time",
@@ -83,8 +104,8 @@ const ENGINE: OptionLine = OptionLine {
     words: &["step", "window"],
 };
 
-const CREW: OptionLine = OptionLine {
-    name: "crew",
+const CREW_LINE: OptionLine = OptionLine {
+    name: CREW,
     takes: "plain|pool|bag|team",
     default: "plain",
     about: "Who works in a window: one thread, a pool of threads, workers that share a bag, or a team that lasts",
@@ -92,17 +113,17 @@ const CREW: OptionLine = OptionLine {
     words: &["plain", "pool", "bag", "team"],
 };
 
-const WORKERS: OptionLine = OptionLine {
-    name: "workers",
+const WORKERS_LINE: OptionLine = OptionLine {
+    name: WORKERS,
     takes: "1..=64",
     default: "1",
     about: "How many workers share the bag, or are the team, which has else one for each processor",
-    reader: Reader::Number { least: 1, most: 64 },
+    reader: COUNTS_OF_WORKERS,
     words: &[],
 };
 
-const CUT: OptionLine = OptionLine {
-    name: "cut",
+const CUT_LINE: OptionLine = OptionLine {
+    name: CUT,
     takes: "N",
     default: "1",
     about: "How many members a job of a window has, 1 to 1024",
@@ -110,8 +131,8 @@ const CUT: OptionLine = OptionLine {
     words: &[],
 };
 
-const WIDTH: OptionLine = OptionLine {
-    name: "width",
+const WIDTH_LINE: OptionLine = OptionLine {
+    name: WIDTH,
     takes: "least|promise|N",
     default: "least",
     about: "How wide windows are: the least delay of a link, as members promise, or ticks, from 1 to that delay",
@@ -119,8 +140,8 @@ const WIDTH: OptionLine = OptionLine {
     words: &[],
 };
 
-const SHOW: OptionLine = OptionLine {
-    name: "show",
+const SHOW_LINE: OptionLine = OptionLine {
+    name: SHOW,
     takes: "trace|members|losses|links|timers",
     default: "trace",
     about: "The table: a row for each event, member, loss, link or adapted timer",
@@ -137,24 +158,24 @@ struct Flag {
     about: &'static str,
 }
 
-const CHECK: Flag = Flag {
-    name: "check",
+const CHECK_FLAG: Flag = Flag {
+    name: CHECK,
     about: "Only read and check the scenario, and write nothing",
 };
 
-const EXPLAIN: Flag = Flag {
-    name: "explain",
+const EXPLAIN_FLAG: Flag = Flag {
+    name: EXPLAIN,
     about: "After the line of a refusal say what to mend",
 };
 
 /// The options that take nothing, in the order in which help lists them, after the others.
-const FLAGS: [Flag; 2] = [CHECK, EXPLAIN];
+static FLAGS: [Flag; 2] = [CHECK_FLAG, EXPLAIN_FLAG];
 
 /// The options of every day, in the order in which help lists them.
-const EVERYDAY: [OptionLine; 2] = [SEED, SHOW];
+static EVERYDAY: [OptionLine; 2] = [SEED_LINE, SHOW_LINE];
 
 /// The options of the run in windows, in the order in which help lists them, after all others.
-const WINDOWS: [OptionLine; 5] = [ENGINE, CREW, WORKERS, CUT, WIDTH];
+static WINDOWS: [OptionLine; 5] = [ENGINE_LINE, CREW_LINE, WORKERS_LINE, CUT_LINE, WIDTH_LINE];
 
 /// What stands over the options of the run in windows.
 const WINDOWS_HEADING: &str = "Windows (advanced: how a run is worked out, the table is the same)";
@@ -233,24 +254,39 @@ fn processors(rt: &impl Threads) -> u8
 fn read_words<S: AsStr>(alloc: Global, words: &[S]) -> Result<(u64, Options, bool), LineFault>
     ensures { IfOk result (λ read. MayBeAsked (read.0, read.1)) }
 {
-    let matches = match command(alloc, Wording::Any)?.try_get_matches_from(words) {
-        Ok(matches) => matches,
-        Err(error) => return Err(fault_of(alloc, &error)),
+    match command(alloc, Wording::Any)?.try_get_matches_from(words) {
+        Ok(matches) => read_matches(&matches),
+        Err(error) => Err(fault_of(alloc, &error)),
+    }
+}
+
+// The same, of words that `clap` has read.
+fn read_matches(matches: &ArgMatches<'_>) -> Result<(u64, Options, bool), LineFault>
+    ensures { IfOk result (λ read. MayBeAsked (read.0, read.1)) }
+{
+    let seed = number(matches, SEED, SEEDS)?;
+    let workers = number(matches, WORKERS, COUNTS_OF_WORKERS)?;
+    let Some(options) = options_among(matches, workers as u8) else {
+        return Err(LineFault::BadWord);
     };
-    let seed = number(&matches, SEED)?;
-    let workers = number(&matches, WORKERS)?;
-    let options = Options {
-        engine: word(&matches, ENGINE, &ENGINES)?,
-        crew: word(&matches, CREW, &CREWS)?,
-        workers: workers as u8,
-        cut: cut(&matches)?,
-        width: width(&matches)?,
-        show: word(&matches, SHOW, &SHOWS)?,
-        check: matches.get_flag(CHECK.name),
-        explain: matches.get_flag(EXPLAIN.name),
-    };
-    let told = matches.value_source(WORKERS.name) == Some(ValueSource::CommandLine);
+    let told = matches.value_source(WORKERS) == Some(ValueSource::CommandLine);
     Ok((seed, options, told))
+}
+
+// The options of words that `clap` has read, with so many workers; none where a text is none that its option takes.
+fn options_among(matches: &ArgMatches<'_>, workers: u8) -> Option<Options>
+    ensures { IfSome result (λ o. o.workers ≡ workers) }
+{
+    Some(Options {
+        engine: word(matches, ENGINE, &ENGINES)?,
+        crew: word(matches, CREW, &CREWS)?,
+        workers,
+        cut: cut(matches)?,
+        width: width(matches)?,
+        show: word(matches, SHOW, &SHOWS)?,
+        check: matches.get_flag(CHECK),
+        explain: matches.get_flag(EXPLAIN),
+    })
 }
 
 /// What is told of refused words after their line: `clap`'s message, which names the word and what may stand in its place. It is
@@ -270,7 +306,18 @@ pub fn message_of<S: AsStr>(alloc: Global, words: &[S]) -> Result<String, AllocE
 
 // What is told of words whose options take other text besides, and not this one.
 fn message_of_numbers(alloc: Global, matches: &ArgMatches<'_>) -> Result<String, AllocError> {
-    let option = if cut(matches).is_err() { CUT } else { WIDTH };
+    if cut(matches).is_none() {
+        return message_of_number(alloc, matches, &CUT_LINE);
+    }
+    message_of_number(alloc, matches, &WIDTH_LINE)
+}
+
+// The same, of one option.
+fn message_of_number(
+    alloc: Global,
+    matches: &ArgMatches<'_>,
+    option: &OptionLine,
+) -> Result<String, AllocError> {
     let name = option.name;
     let takes = option.takes;
     let about = option.about;
@@ -291,19 +338,68 @@ enum Wording {
 
 // The command that `clap` reads, made of the table.
 fn command<'a>(alloc: Global, wording: Wording) -> Result<Command<'a>, AllocError> {
-    let mut command = Command::new(alloc, "srm_lab")
+    let command = with_options(alloc, bare_command(alloc), everyday(), wording)?;
+    let command = with_flags(alloc, command, flags())?;
+    with_windows(alloc, command, windows(), wording)
+}
+
+// The command with no option yet.
+fn bare_command<'a>(alloc: Global) -> Command<'a> {
+    Command::new(alloc, "srm_lab")
         .version(VERSION)
         .about(ABOUT)
         .after_help(AFTER_HELP)
-        .next_line_help(true);
-    for option in EVERYDAY {
-        command = command.arg(arg_of(alloc, option, wording))?;
+        .next_line_help(true)
+}
+
+// (a proof that calls these does not go over the bytes of the table)
+fn everyday() -> &'static [OptionLine] {
+    &EVERYDAY
+}
+
+fn flags() -> &'static [Flag] {
+    &FLAGS
+}
+
+fn windows() -> &'static [OptionLine] {
+    &WINDOWS
+}
+
+// A command with these options.
+fn with_options<'a>(
+    alloc: Global,
+    mut command: Command<'a>,
+    options: &[OptionLine],
+    wording: Wording,
+) -> Result<Command<'a>, AllocError> {
+    for option in options {
+        command = command.arg(arg_of(alloc, *option, wording))?;
     }
-    for flag in FLAGS {
-        command = command.arg(arg_of_flag(alloc, flag))?;
+    Ok(command)
+}
+
+// A command with these options, under the heading of windows.
+fn with_windows<'a>(
+    alloc: Global,
+    mut command: Command<'a>,
+    options: &[OptionLine],
+    wording: Wording,
+) -> Result<Command<'a>, AllocError> {
+    for option in options {
+        let arg = arg_of(alloc, *option, wording);
+        command = command.arg(arg.help_heading(WINDOWS_HEADING))?;
     }
-    for option in WINDOWS {
-        command = command.arg(arg_of(alloc, option, wording).help_heading(WINDOWS_HEADING))?;
+    Ok(command)
+}
+
+// A command with these options that take nothing.
+fn with_flags<'a>(
+    alloc: Global,
+    mut command: Command<'a>,
+    flags: &[Flag],
+) -> Result<Command<'a>, AllocError> {
+    for flag in flags {
+        command = command.arg(arg_of_flag(alloc, *flag))?;
     }
     Ok(command)
 }
@@ -348,20 +444,15 @@ fn fault_of(alloc: Global, error: &Error) -> LineFault
 }
 
 // The number of an option, which `clap` has looked at.
-fn number(matches: &ArgMatches<'_>, option: OptionLine) -> Result<u64, LineFault>
-    ensures { IfOk result (TakesNumber option.reader) }
+fn number(matches: &ArgMatches<'_>, name: &str, reader: Reader) -> Result<u64, LineFault>
+    ensures { IfOk result (TakesNumber reader) }
 {
-    match (matches.get_one::<u64>(option.name), option.reader) {
+    match (matches.get_one::<u64>(name), reader) {
         (Some(number), Reader::Number { least, most }) if least <= number && number <= most => {
             Ok(number)
         }
         _ => Err(LineFault::Line),
     }
-}
-
-// The text of an option.
-fn text<'a>(matches: &ArgMatches<'a>, option: OptionLine) -> Result<&'a str, LineFault> {
-    matches.get_str(option.name).ok_or(LineFault::BadWord)
 }
 
 // What a text stands for among these words, if it is one of them.
@@ -375,41 +466,28 @@ fn meaning<T: Copy>(text: &str, words: &[(&'static str, T)]) -> Option<T> {
 }
 
 // What the word of an option stands for.
-fn word<T: Copy>(
-    matches: &ArgMatches<'_>,
-    option: OptionLine,
-    words: &[(&'static str, T)],
-) -> Result<T, LineFault> {
-    match meaning(text(matches, option)?, words) {
-        Some(meaning) => Ok(meaning),
-        None => Err(LineFault::BadWord),
-    }
+fn word<T: Copy>(matches: &ArgMatches<'_>, name: &str, words: &[(&'static str, T)]) -> Option<T> {
+    meaning(matches.get_str(name)?, words)
 }
 
 // The number that a text of digits writes, if it is below 2^64.
-fn digits(text: &str) -> Result<u64, LineFault> {
+fn digits(text: &str) -> Option<u64> {
     if !text.bytes().all(|byte| byte.is_ascii_digit()) {
-        return Err(LineFault::BadWord);
+        return None;
     }
-    match text.parse::<u64>() {
-        Ok(number) => Ok(number),
-        Err(_) => Err(LineFault::BadWord),
-    }
+    text.parse::<u64>().ok()
 }
 
 // How many members a job is to have.
-fn cut(matches: &ArgMatches<'_>) -> Result<u32, LineFault> {
-    match u32::try_from(digits(text(matches, CUT)?)?) {
-        Ok(cut) => Ok(cut),
-        Err(_) => Err(LineFault::BadWord),
-    }
+fn cut(matches: &ArgMatches<'_>) -> Option<u32> {
+    u32::try_from(digits(matches.get_str(CUT)?)?).ok()
 }
 
 // How wide windows are to be.
-fn width(matches: &ArgMatches<'_>) -> Result<Width, LineFault> {
-    let text = text(matches, WIDTH)?;
+fn width(matches: &ArgMatches<'_>) -> Option<Width> {
+    let text = matches.get_str(WIDTH)?;
     match meaning(text, &WIDTHS) {
-        Some(width) => Ok(width),
-        None => Ok(Width::Ticks(digits(text)?)),
+        Some(width) => Some(width),
+        None => Some(Width::Ticks(digits(text)?)),
     }
 }

@@ -2,10 +2,10 @@
 use Rattle.std.specs.Prelude.{◌≡◌, ℕ, ◌≤◌}
 use Rattle.clap.specs.declared.error.kind.ErrorKind.{ErrorKind}
 use Rattle.clap.specs.declared.error.kind.ErrorKind.TheVariants.{OutOfMemory, DisplayHelp, DisplayVersion}
-use Rattle.srm_program.specs.declared.command_line.Reader.{Reader}
-use Rattle.srm_program.specs.declared.command_line.Reader.TheVariants.{Number, Text}
-use Rattle.srm_program.specs.declared.fault.LineFault.{LineFault}
-use Rattle.srm_program.specs.declared.fault.LineFault.TheVariants.{Line, BadWord, Help, NoMemory}
+use Rattle.srm_command_line.specs.declared.command_line.Reader.{Reader}
+use Rattle.srm_command_line.specs.declared.command_line.Reader.TheVariants.{Number, Text}
+use Rattle.srm_command_line.specs.declared.line_fault.LineFault.{LineFault}
+use Rattle.srm_command_line.specs.declared.line_fault.LineFault.TheVariants.{Line, BadWord, Help, NoMemory}
 
 -- an option that is read in this way takes this number
 abbrev pub TakesNumber : Reader → ℕ → Type 0
