@@ -25,4 +25,5 @@ pub mod SoFar
 pub mod SentRows
 pub mod LeastEvents
 pub mod Heard
+pub mod Hearings
 pub mod Parts

@@ -10,6 +10,7 @@ pub mod Views
 pub mod InnerSteps
 pub mod PutRows
 pub mod OwnRuns
+pub mod Hearing
 pub mod Jobs
 pub mod Crossings
 pub mod Laws

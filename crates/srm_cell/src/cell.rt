@@ -1,8 +1,8 @@
 //! A member's cell.
-ghost use Rattle.std.specs.Prelude.{◌≡◌, ◌≤◌, ◌<◌, ◌∷◌, ◌++◌, [], Some, None, OnOk, OnErr, IfErr};
+ghost use Rattle.std.specs.Prelude.{◌≡◌, ◌≤◌, ◌<◌, ◌∷◌, ◌++◌, [], Some, None, OnOk, OnErr, IfOk, IfErr, All};
 ghost use Rattle.srm_net.specs.Limits.{end_of_time, most_sent};
 ghost use Rattle.srm_net.specs.Orders.{Rises};
-ghost use Rattle.srm_scenario.specs.Plain.{mark_cmp};
+ghost use Rattle.srm_scenario.specs.Plain.{mark_cmp, network_of};
 ghost use Rattle.srm_member.specs.Record.{due_of};
 ghost use Rattle.srm_cell.specs.Flights.{BringsNone};
 ghost use Rattle.srm_cell.specs.Cells.{hear_at, next_event, first_arrival, first_mark, next_timer};
@@ -10,13 +10,17 @@ ghost use Rattle.srm_cell.specs.Views.{IsNew, Becomes, Steps, Ends, IsNextTime, 
 ghost use Rattle.srm_cell.specs.InnerSteps.{StandsFor, TakesFirst, AnswersEvent};
 ghost use Rattle.srm_cell.specs.PutRows.{PutsRow, PutsStep};
 ghost use Rattle.srm_cell.specs.Jobs.{Runs};
+ghost use Rattle.srm_cell.specs.Setting.{traffic_of};
+ghost use Rattle.srm_cell.specs.Hearing.{IsSent, packets_in, MayHearAll, HearsAll};
 
+use crate::arrival::arrival;
 use crate::boxes::{finish, react};
 use crate::fault::CellFault;
 use crate::inbox::Inbox;
 use crate::pending::{Pending, Source, sooner};
 use crate::rows::{about, cause_at, expiry, word};
 use crate::script::Script;
+use crate::sent::Sent;
 use srm_member::adapted::Adapted;
 use srm_member::cause::Cause;
 use srm_member::due::Due;
@@ -28,10 +32,12 @@ use srm_member::react::React;
 use srm_member::row::{About, Row, Word};
 use srm_member::told::Told;
 use srm_net::key::Key;
+use srm_net::net::Net;
 use srm_net::packet::{Packet, PacketId};
 use srm_net::sequence::Sequence;
 use srm_scenario::mark::Mark;
-use std::alloc::Global;
+use srm_scenario::scenario::Scenario;
+use std::alloc::{AllocError, Global};
 
 // A member sends at most this many packets.
 const COUNT_LIMIT: u64 = 281_474_976_710_656;
@@ -96,6 +102,27 @@ impl<M: Participant> Cell<M> {
         }
         let arriving = Pending::arriving(self.number, arrival, packet.id);
         self.next = sooner(Some(arriving), self.next);
+        Ok(())
+    }
+
+    /// Hears what was sent, one packet after the other: each that has a flight to the cell's member is added.
+    ///
+    /// # Errors
+    /// [`AllocError`]. Nothing is known of the cell then.
+    pub fn hear(&mut self, scenario: &Scenario, net: &Net, sent: &[Sent]) -> Result<(), AllocError>
+        requires network { net.now ≡ network_of scenario.now }
+        requires sent { All (λ x. IsSent scenario.now net.now x) sent.now }
+        requires new { MayHearAll M.plain (traffic_of scenario.now net.now) (packets_in sent.now) self.old }
+        ensures { IfOk result (λ _. HearsAll M.plain (traffic_of scenario.now net.now) (packets_in sent.now)
+            self.old self.new) }
+    {
+        for one in sent {
+            if let Some(at) = arrival(scenario, net, &one.packet, &one.spread, self.number) {
+                let Ok(()) = self.accept(&one.packet, at) else {
+                    return Err(AllocError);
+                };
+            }
+        }
         Ok(())
     }
 

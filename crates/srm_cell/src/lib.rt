@@ -2,6 +2,7 @@
 #![tactic(auto)]
 
 pub mod advance;
+pub mod arrival;
 mod boxes;
 pub mod cell;
 mod compact_body;
@@ -11,11 +12,13 @@ pub mod crossings;
 pub mod everywhere;
 pub mod fault;
 pub mod flight;
+pub mod hearing;
 pub mod inbox;
 pub mod job;
 pub mod laws;
 mod pending;
 mod rows;
 pub mod script;
+pub mod sent;
 mod strays;
 pub mod tally;

@@ -18,18 +18,11 @@ use Rattle.srm_cell.specs.Crossings.{joined}
 use Rattle.srm_cell.specs.Jobs.{PlainJob, IsDone}
 use Rattle.srm_crew.specs.Crews.{AreJobs, AnyEnds, AdvanceEach, TellsEach}
 use Rattle.srm_crew.specs.Teams.{PutTogether}
+use Rattle.srm_crew.proofs.Zips.{zip_append}
 
 -- all that is in the pieces, in order
 abbrev pub all_in : {A : Type 0} → List (Vec A) → List A
 all_in {A} ps = joined (map (λ (p : Vec A). p.items) ps)
-
-module _ {A B : Type 0} (R : A → B → Type 0) where
-  zip_append : (xs : List A) (ys : List B) (vs : List A) (ws : List B) → AllZip R xs ys → AllZip R vs ws
-      → AllZip R (xs ++ vs) (ys ++ ws)
-  zip_append [] [] vs ws z w = w
-  zip_append [] (y ∷ ys) vs ws z w = absurd z
-  zip_append (x ∷ xs) [] vs ws z w = absurd z
-  zip_append (x ∷ xs) (y ∷ ys) vs ws z w = (z.0, zip_append xs ys vs ws z.1 w)
 
 module _ {A : Type 0} (P : A → Type 0) where
   all_first : (xs ys : List A) → All P (xs ++ ys) → All P xs
@@ -124,7 +117,7 @@ module _ {D : Type 0} where
   abbrev pub TogetherSoFar : List D → List (Result (Vec D) CellFault) → List (Result (Vec D) CellFault) → Type 0
   TogetherSoFar all left rs = (ds : List (Vec D)) × (map Ok ds ++ left ≡ rs) × (all ≡ all_in ds)
 
-  all_in_more : (ds : List (Vec D)) (d : Vec D) → all_in (ds ++ d ∷ []) ≡ all_in ds ++ d.items
+  pub all_in_more : (ds : List (Vec D)) (d : Vec D) → all_in (ds ++ d ∷ []) ≡ all_in ds ++ d.items
   all_in_more [] d = append-nil d.items
   all_in_more (x ∷ ds) d = ap (λ l. x.items ++ l) (all_in_more ds d) ∙ sym (append_assoc x.items (all_in ds) d.items)
 

@@ -8,4 +8,6 @@ pub mod Peeling
 pub mod WorkedLemmas
 pub mod Ordering
 pub mod JobsShared
+pub mod Zips
 pub mod JobPieces
+pub mod Hearers

@@ -1,5 +1,7 @@
 pub mod Faults
 pub mod Crews
+pub mod Hearers
+pub mod Pieces
 pub mod Notes
 pub mod Places
 pub mod Passes

@@ -1,14 +1,15 @@
-//! Jobs, advanced by a team's worker.
+//! What a team's worker does.
 use crate::each::advance_each;
-use srm_cell::fault::CellFault;
-use srm_cell::job::{Done, Job};
+use crate::hearing::hear_groups;
+use crate::piece::Piece;
+use crate::worked::Worked;
 use srm_member::participant::Participant;
 use srm_net::net::Net;
 use srm_scenario::scenario::Scenario;
 use srm_team::work::Work;
 use std::alloc::Global;
 
-/// The advance of some jobs, one after the other, in runs of one scenario on its network.
+/// Work on pieces, in runs of one scenario on its network: jobs advance, and cells hear what was sent, one after the other.
 #[derive(Clone, Copy)]
 pub struct Advancing<'a> {
     /// The memory that workers take.
@@ -19,16 +20,21 @@ pub struct Advancing<'a> {
     pub net: &'a Net,
 }
 
-impl<'a, M: Participant> Work<Vec<Job<M>>, Result<Vec<Done<M>>, CellFault>> for Advancing<'a> {
-    ghost use Rattle.std.specs.Prelude.{length, All};
-    ghost use Rattle.srm_cell.specs.Jobs.{MayAdvance};
-    ghost use Rattle.srm_crew.specs.Crews.{AdvanceEach};
+impl<'a, M: Participant> Work<Piece<M>, Worked<M>> for Advancing<'a> {
+    ghost use Rattle.srm_crew.specs.Pieces.{MayWork, Gives};
 
-    ghost ready = { λ w js. All (λ j. MayAdvance M.plain (length w.net.now.hosts) j) js.items };
+    ghost ready = { λ w p. MayWork M.plain w.scenario.now w.net.now p };
 
-    ghost gives = { λ w js r. AdvanceEach M.plain w.scenario.now w.net.now js.items r };
+    ghost gives = { λ w p r. Gives M.plain w.scenario.now w.net.now p r };
 
-    fn work(&self, jobs: Vec<Job<M>>) -> Result<Vec<Done<M>>, CellFault> {
-        advance_each(self.alloc, self.scenario, self.net, jobs)
+    fn work(&self, piece: Piece<M>) -> Worked<M> {
+        match piece {
+            Piece::Jobs { jobs } => Worked::Advanced {
+                done: advance_each(self.alloc, self.scenario, self.net, jobs),
+            },
+            Piece::Hearers { sent, groups } => Worked::Heard {
+                groups: hear_groups(self.alloc, self.scenario, self.net, sent.as_slice(), groups),
+            },
+        }
     }
 }

@@ -1,13 +1,19 @@
-//! Jobs in pieces.
-ghost use Rattle.std.specs.Prelude.{◌≡◌, IfOk, map};
+//! The work of a call in pieces, and what comes of them.
+ghost use Rattle.std.specs.Prelude.{◌≡◌, IfOk, map, All};
+ghost use Rattle.std.specs.List.{AllZip};
 ghost use Rattle.srm_cell.specs.Crossings.{joined};
+ghost use Rattle.srm_crew.specs.Pieces.{IsJobsOf, AreHearersOf, IsAdvanced, IsHeard, IsAdvancedAs, HeardTogether};
 ghost use Rattle.srm_crew.specs.Teams.{PutTogether};
 
+use crate::piece::Piece;
+use crate::worked::Worked;
 use srm_cell::cell::Cell;
 use srm_cell::fault::CellFault;
 use srm_cell::job::{Done, Job};
+use srm_cell::sent::Sent;
 use srm_member::participant::Participant;
 use std::alloc::{AllocError, Global};
+use std::sync::Arc;
 
 // In how many cells of the job something is due before its end.
 fn due_in<M: Participant>(job: &Job<M>) -> usize {
@@ -58,6 +64,76 @@ pub(crate) fn pieces_of<M: Participant>(
     Ok(pieces)
 }
 
+/// The groups in pieces of `size` groups, in order. The last piece may have fewer.
+pub(crate) fn even_pieces<M: Participant>(
+    alloc: Global,
+    groups: Vec<Vec<Cell<M>>>,
+    size: usize,
+) -> Result<Vec<Vec<Vec<Cell<M>>>>, AllocError>
+    ensures { IfOk result (λ pieces. joined (map (λ p. p.items) pieces.items) ≡ groups.items) }
+{
+    let mut pieces = Vec::new(alloc);
+    let mut piece = Vec::new(alloc);
+    for group in groups {
+        if piece.len() >= size {
+            pieces.push(piece)?;
+            piece = Vec::new(alloc);
+        }
+        piece.push(group)?;
+    }
+    pieces.push(piece)?;
+    Ok(pieces)
+}
+
+/// The jobs of each piece, to be advanced.
+pub(crate) fn to_advance<M: Participant>(
+    alloc: Global,
+    pieces: Vec<Vec<Job<M>>>,
+) -> Result<Vec<Piece<M>>, AllocError>
+    ensures { IfOk result (λ all. AllZip (λ js p. IsJobsOf js p) pieces.items all.items) }
+{
+    let mut all = Vec::new(alloc);
+    for jobs in pieces {
+        all.push(Piece::Jobs { jobs })?;
+    }
+    Ok(all)
+}
+
+/// The groups of each piece, to hear what was sent.
+pub(crate) fn to_hear<M: Participant>(
+    alloc: Global,
+    sent: Vec<Sent>,
+    pieces: Vec<Vec<Vec<Cell<M>>>>,
+) -> Result<Vec<Piece<M>>, AllocError>
+    ensures { IfOk result (λ all. AllZip (λ gs p. AreHearersOf sent.items gs p) pieces.items all.items) }
+{
+    let shared = Arc::new(alloc, sent)?;
+    let mut all = Vec::new(alloc);
+    for groups in pieces {
+        let sent = Arc::try_clone(&shared)?;
+        all.push(Piece::Hearers { sent, groups })?;
+    }
+    Ok(all)
+}
+
+/// What came of the jobs of each piece.
+pub(crate) fn advanced_of<M: Participant>(
+    alloc: Global,
+    all: Vec<Worked<M>>,
+) -> Result<Vec<Result<Vec<Done<M>>, CellFault>>, AllocError>
+    requires { All (λ w. IsAdvanced w) all.items }
+    ensures { IfOk result (λ rs. AllZip (λ w r. IsAdvancedAs r w) all.items rs.items) }
+{
+    let mut results = Vec::new(alloc);
+    for worked in all {
+        match worked {
+            Worked::Advanced { done } => results.push(done)?,
+            Worked::Heard { .. } => unreachable!(),
+        }
+    }
+    Ok(results)
+}
+
 /// What is done of all pieces, in order.
 ///
 /// # Errors
@@ -79,4 +155,25 @@ pub(crate) fn put_together<M: Participant>(
         }
     }
     Ok(all)
+}
+
+/// The groups of all pieces that heard, in order.
+pub(crate) fn heard_of<M: Participant>(
+    alloc: Global,
+    all: Vec<Worked<M>>,
+) -> Result<Vec<Vec<Cell<M>>>, AllocError>
+    requires { All (λ w. IsHeard w) all.items }
+    ensures { IfOk result (λ heard. HeardTogether all.items heard.items) }
+{
+    let mut heard = Vec::new(alloc);
+    for worked in all {
+        match worked {
+            Worked::Heard { groups } => {
+                let mut groups = groups?;
+                heard.append(&mut groups)?;
+            }
+            Worked::Advanced { .. } => unreachable!(),
+        }
+    }
+    Ok(heard)
 }

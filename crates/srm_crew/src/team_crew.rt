@@ -2,8 +2,12 @@
 ghost use Rattle.std.specs.Prelude.{◌≡◌, ◌≤◌, ◌∷◌, ◌++◌, [], ℕ, List, length, map, All, IfOk};
 ghost use Rattle.std.specs.List.{range_with_len};
 ghost use Rattle.srm_net.specs.Limits.{most_nodes};
+ghost use Rattle.srm_scenario.specs.Plain.{network_of};
+ghost use Rattle.srm_cell.specs.Setting.{traffic_of};
 ghost use Rattle.srm_cell.specs.Jobs.{PlainJob, MayAdvance};
+ghost use Rattle.srm_cell.specs.Hearing.{IsSent, packets_in};
 ghost use Rattle.srm_crew.specs.Crews.{AdvanceEach, AreJobs, Maps};
+ghost use Rattle.srm_crew.specs.Hearers.{GroupsMayHear, TellsHeard};
 ghost use Rattle.srm_crew.specs.Teams.{IsWorkOn};
 
 use crate::add::settle;
@@ -11,16 +15,23 @@ use crate::advancing::Advancing;
 use crate::crew::Crew;
 use crate::each::advance_each;
 use crate::fault::CrewFault;
-use crate::pieces::{due_in_all, pieces_of, put_together};
+use crate::hearing::hear_groups;
+use crate::piece::Piece;
+use crate::pieces::{
+    advanced_of, due_in_all, even_pieces, heard_of, pieces_of, put_together, to_advance, to_hear,
+};
+use crate::worked::Worked;
+use srm_cell::cell::Cell;
 use srm_cell::fault::CellFault;
 use srm_cell::job::{Done, Job};
+use srm_cell::sent::Sent;
 use srm_ledger::ledger::{Ledger, Seat};
 use srm_member::participant::Participant;
 use srm_net::net::Net;
 use srm_scenario::scenario::Scenario;
 use srm_team::naming::Naming;
 use srm_team::team::Team;
-use std::alloc::Global;
+use std::alloc::{AllocError, Global};
 use std::sync::Wait;
 
 /// Advances jobs on the threads of a team, which stay for the next call. It serves runs of one scenario, which it keeps with its
@@ -29,7 +40,7 @@ use std::sync::Wait;
 #[derive(Drop)]
 pub struct TeamCrew<'a, R: Wait, M: Participant, J: Naming> {
     rt: R,
-    team: Team<Advancing<'a>, Vec<Job<M>>, Result<Vec<Done<M>>, CellFault>, J>,
+    team: Team<Advancing<'a>, Piece<M>, Worked<M>, J>,
     work: Advancing<'a>,
     few: usize,
 }
@@ -38,7 +49,7 @@ pub struct TeamCrew<'a, R: Wait, M: Participant, J: Naming> {
 fn advance_in_team<'a, R: Wait, M: Participant, J: Naming>(
     rt: &R,
     alloc: Global,
-    team: &mut Team<Advancing<'a>, Vec<Job<M>>, Result<Vec<Done<M>>, CellFault>, J>,
+    team: &mut Team<Advancing<'a>, Piece<M>, Worked<M>, J>,
     work: Advancing<'a>,
     jobs: Vec<Job<M>>,
     due: usize,
@@ -50,10 +61,40 @@ fn advance_in_team<'a, R: Wait, M: Participant, J: Naming>(
     let Ok(pieces) = pieces_of(alloc, jobs, due / room, room - 1) else {
         return Err(CellFault::NoMemory);
     };
-    match team.map(rt, alloc, work, pieces) {
-        Ok(all) => put_together(alloc, all),
-        Err(_) => Err(CellFault::NoMemory),
-    }
+    let Ok(given) = to_advance(alloc, pieces) else {
+        return Err(CellFault::NoMemory);
+    };
+    let Ok(all) = team.map(rt, alloc, work, given) else {
+        return Err(CellFault::NoMemory);
+    };
+    let Ok(results) = advanced_of(alloc, all) else {
+        return Err(CellFault::NoMemory);
+    };
+    put_together(alloc, results)
+}
+
+// The groups after each of their cells heard what was sent, in pieces that a team works on.
+fn hear_in_team<'a, R: Wait, M: Participant, J: Naming>(
+    rt: &R,
+    alloc: Global,
+    team: &mut Team<Advancing<'a>, Piece<M>, Worked<M>, J>,
+    work: Advancing<'a>,
+    sent: Vec<Sent>,
+    groups: Vec<Vec<Cell<M>>>,
+) -> Result<Vec<Vec<Cell<M>>>, AllocError>
+    requires network { work.net.now ≡ network_of work.scenario.now }
+    requires sent { All (λ x. IsSent work.scenario.now work.net.now x) sent.items }
+    requires groups { GroupsMayHear M.plain (traffic_of work.scenario.now work.net.now) (packets_in sent.items) groups.items }
+    ensures { TellsHeard M.plain (traffic_of work.entry.scenario.now work.entry.net.now) (packets_in sent.items)
+        groups.items result }
+{
+    let size = groups.len() / team.room().max(1) + 1;
+    let pieces = even_pieces(alloc, groups, size)?;
+    let given = to_hear(alloc, sent, pieces)?;
+    let Ok(all) = team.map(rt, alloc, work, given) else {
+        return Err(AllocError);
+    };
+    heard_of(alloc, all)
 }
 
 impl<'a, R: Wait, M: Participant, J: Naming> TeamCrew<'a, R, M, J> {
@@ -63,7 +104,7 @@ impl<'a, R: Wait, M: Participant, J: Naming> TeamCrew<'a, R, M, J> {
     /// A call of it is refused with `NoMemory` also after 2^62 calls of the team.
     pub fn new(
         rt: R,
-        team: Team<Advancing<'a>, Vec<Job<M>>, Result<Vec<Done<M>>, CellFault>, J>,
+        team: Team<Advancing<'a>, Piece<M>, Worked<M>, J>,
         work: Advancing<'a>,
         few: usize,
     ) -> TeamCrew<'a, R, M, J>
@@ -117,5 +158,31 @@ impl<'a, R: Wait, M: Participant, J: Naming> Crew<M> for TeamCrew<'a, R, M, J> {
             advance_in_team(&self.rt, alloc, &mut self.team, self.work, jobs, due)
         };
         settle(ledger, seat, advanced)
+    }
+
+    fn hear(
+        &mut self,
+        alloc: Global,
+        scenario: &Scenario,
+        net: &Net,
+        sent: Vec<Sent>,
+        groups: Vec<Vec<Cell<M>>>,
+    ) -> Result<Vec<Vec<Cell<M>>>, AllocError>
+        requires ready { Unit {0} }
+        requires serves { IsWorkOn self.old.work scenario.now net.now }
+        requires network { net.now ≡ network_of scenario.now }
+        requires sent { All (λ x. IsSent scenario.now net.now x) sent.items }
+        requires groups { GroupsMayHear M.plain (traffic_of scenario.now net.now)
+            (packets_in sent.items) groups.items }
+        ensures ready { Unit {0} }
+        ensures serves { IsWorkOn self.new.work scenario.now net.now }
+        ensures heard { TellsHeard M.plain (traffic_of scenario.now net.now)
+            (packets_in sent.items) groups.items result }
+        ensures handed { Unit {0} }
+    {
+        if self.team.room() == 0 {
+            return hear_groups(alloc, scenario, net, sent.as_slice(), groups);
+        }
+        hear_in_team(&self.rt, alloc, &mut self.team, self.work, sent, groups)
     }
 }

@@ -2,20 +2,12 @@
 use Rattle.std.proofs.Common.{◌≡◌, ℕ, zero, suc, ◌+◌, ◌≤◌, true, cond, List, [], ◌∷◌, length, Option, Some, None, option_map, refl, sym, ap}
 use Rattle.std.proofs.Common.{◌∙◌, slice_get, slice_set, nat_lt, lt-ltb, le-ltb, arith, zero-add}
 use Rattle.srm_net.specs.declared.packet.Packet.{Packet}
-use Rattle.srm_cell.specs.Setting.{Traffic, arrival_of}
-use Rattle.srm_cell.specs.Cells.{PlainCell, hear, hear_at}
+use Rattle.srm_cell.specs.Setting.{Traffic}
+use Rattle.srm_cell.specs.Cells.{PlainCell, hear}
 use Rattle.srm_model.specs.Hearing.{heard_below}
 use Rattle.srm_engine.proofs.SeenLemmas.{same_some}
 
 module _ (s : Traffic) (p : Packet) where
-  pub hears_not : (m : ℕ) (c : PlainCell) → arrival_of s p m ≡ None → hear s p m c ≡ c
-  unfolding hear
-  hears_not m c h = ap (λ o. hear_at p o c) h
-
-  pub hears_at : (m at : ℕ) (c : PlainCell) → arrival_of s p m ≡ Some at → hear s p m c ≡ hear_at p (Some at) c
-  unfolding hear
-  hears_at m at c h = ap (λ o. hear_at p o c) h
-
   pub none_heard : (k i : ℕ) (cs : List PlainCell) → k ≤ i → heard_below s p k i cs ≡ cs
   none_heard k i [] le = refl
   none_heard k i (c ∷ cs) le = ap (λ b. cond b (hear s p i c) c ∷ heard_below s p k (suc i) cs) (le-ltb i k le)

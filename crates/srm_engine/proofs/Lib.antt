@@ -2,6 +2,7 @@ pub mod ExitsKept
 pub mod Index
 pub mod NewPackets
 pub mod Hearing
+pub mod HeardRows
 pub mod Opened
 pub mod Openings
 pub mod PhaseLemmas

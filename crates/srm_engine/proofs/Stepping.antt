@@ -21,6 +21,7 @@ use Rattle.srm_cell.specs.Cells.{own_step, hear}
 use Rattle.srm_cell.specs.OwnRuns.{told_to}
 use Rattle.srm_cell.proofs.CellSteps.{IsOf, IsStepOf, next_event_of, step_at_of, SentBy, before_some, some_not_idle}
 use Rattle.srm_cell.proofs.Rising.{SentAt}
+use Rattle.srm_cell.proofs.Hearings.{hears_not}
 use Rattle.srm_model.specs.World.{World, cells_after, after_step, least_event, step, run, opening, IsReached, RunMeetsFull}
 use Rattle.srm_model.specs.Schedules.{own_of}
 use Rattle.srm_engine.specs.NextTimes.{sooner_time, least_of_times}
@@ -29,7 +30,7 @@ use Rattle.srm_engine.specs.Seen.{AreTimes}
 use Rattle.srm_model.specs.Totalled.{MaySend, and_sent}
 use Rattle.srm_engine.proofs.Index.{get_set_same, get_set_other}
 use Rattle.srm_engine.proofs.SeenLemmas.{same_some, there}
-use Rattle.srm_engine.proofs.Hearing.{hears_not, get_heard, if_below}
+use Rattle.srm_engine.proofs.Hearing.{get_heard, if_below}
 use Rattle.srm_model.proofs.RunLemmas.{least_own, run_by, run_first, step_none, step_is, after_stepped}
 use Rattle.srm_model.proofs.Settled.{at_member, get_after}
 use Rattle.srm_model.proofs.OneStep.{arrival_is}

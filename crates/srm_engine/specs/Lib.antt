@@ -1,5 +1,6 @@
 pub mod NextTimes
 pub mod Seen
+pub mod SentRows
 pub mod Faults
 pub mod Openings
 pub mod Engines

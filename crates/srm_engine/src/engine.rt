@@ -8,11 +8,11 @@ ghost use Rattle.srm_engine.specs.Engines.{IsSetUp, IsStillOf, MayStep, StepsOn,
 ghost use Rattle.srm_engine.specs.Sinks.{IsOpen, stage_after, stops_in, HandsPieces};
 ghost use Rattle.srm_engine.specs.Streams.{sink_in, MayTake, TakesSteps, StreamsRows};
 
-use crate::arrival::arrival;
 use crate::cells::{Cells, open_cells};
 use crate::halt::Halt;
 use crate::sink::{RowSink, hand_none};
 use crate::step_fault::{StepFault, step_fault};
+use srm_cell::arrival::arrival;
 use srm_cell::tally::Tally;
 use srm_member::member::Member;
 use srm_member::row::Row;

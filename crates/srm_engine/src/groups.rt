@@ -1,5 +1,5 @@
 //! The cells of all members, those of each job together.
-ghost use Rattle.std.specs.Prelude.{◌≡◌, ◌<◌, ◌≤◌, ◌++◌, ℕ, List, IfOk, length, map};
+ghost use Rattle.std.specs.Prelude.{◌≡◌, ◌<◌, ◌≤◌, ◌++◌, [], ℕ, List, IfOk, length, map};
 ghost use Rattle.srm_net.specs.Limits.{end_of_time};
 ghost use Rattle.srm_scenario.specs.Plain.{network_of};
 ghost use Rattle.srm_cell.specs.Cells.{PlainCell};
@@ -11,11 +11,13 @@ ghost use Rattle.srm_engine.specs.Groups.{AreCuts, sizes, all_in, jobs_with, gro
 ghost use Rattle.srm_engine.specs.Groups.{IsCut, AreKept, MayLookAgain, LooksAgain};
 ghost use Rattle.srm_engine.specs.Groups.{MayHand, HandsIn, MayDeliverIn, DeliversIn, MayHear, Hears};
 
-use crate::arrival::arrival;
 use crate::ends::way;
+use crate::sent::{are_enough, sent_in};
 use crate::soonest::{Soonest, soonest_in, soonest_of_each};
+use srm_cell::arrival::arrival;
 use srm_cell::cell::Cell;
 use srm_cell::job::{Done, Job};
+use srm_crew::crew::Crew;
 use srm_member::member::Member;
 use srm_member::participant::Participant;
 use srm_member::row::Row;
@@ -173,6 +175,41 @@ impl<M: Participant> Groups<M> {
             self.hear(alloc, scenario, net, rows.as_slice())?;
         }
         Ok(())
+    }
+
+    /// The groups after every member heard the packets of the lists' rows, one list after the other. A crew shares them where there is
+    /// enough to hear.
+    pub(crate) fn heard_by<C: Crew<M>>(
+        self,
+        alloc: Global,
+        scenario: &Scenario,
+        net: &Net,
+        crew: &mut C,
+        lists: &[Vec<Row>],
+    ) -> Result<Groups<M>, AllocError>
+        requires ready { C.ready crew.old }
+        requires serves { C.serves crew.old scenario.now net.now }
+        requires network { net.now ≡ network_of scenario.now }
+        requires until { scenario.now.until ≤ end_of_time }
+        requires may { (seed : ℕ) × MayHear M.plain
+            (setting_of scenario.now net.now seed) (joined (map (λ v. v.items) lists.now)) self }
+        ensures ready { C.ready crew.new }
+        ensures serves { C.serves crew.new scenario.now net.now }
+        ensures handed { C.handed crew.old [] crew.new }
+        ensures cut { IfOk result (λ heard. heard.cut ≡ self.cut) }
+        ensures heard { IfOk result (λ heard. (seed : ℕ) → Hears M.plain
+            (setting_of scenario.now net.now seed) (joined (map (λ v. v.items) lists.now)) self heard) }
+    {
+        if !are_enough(lists, scenario.members()) {
+            let mut groups = self;
+            groups.hear_each(alloc, scenario, net, lists)?;
+            return Ok(groups);
+        }
+        let Groups { cut, groups, .. } = self;
+        let sent = sent_in(alloc, scenario, net, lists)?;
+        let groups = crew.hear(alloc, scenario, net, sent, groups)?;
+        let soon = soonest_of_each(alloc, scenario, net, groups.as_slice(), cut)?;
+        Ok(Groups { cut, groups, soon })
     }
 
     /// All cells in one vector, in order of the members' numbers.

@@ -1,7 +1,6 @@
 //! Engines: the sequential run of all members, and the run in windows of time.
 #![tactic(auto)]
 
-pub mod arrival;
 mod cells;
 mod cutting;
 mod ends;
@@ -14,6 +13,7 @@ pub mod kept_rows;
 mod merge;
 pub mod next_times;
 pub mod outcome;
+mod sent;
 pub mod sink;
 mod soonest;
 pub mod step_fault;

@@ -131,8 +131,8 @@ impl<'a, M: Participant> WindowEngine<'a, M> {
             Err(fault) => return Err(window_fault(fault)),
         };
         let (groups, lists) = apart(alloc, all)?;
-        let mut groups = Groups { cut, groups, soon }.look_again(scenario, net, end);
-        groups.hear_each(alloc, scenario, net, lists.as_slice())?;
+        let groups = Groups { cut, groups, soon }.look_again(scenario, net, end);
+        let groups = groups.heard_by(alloc, scenario, net, crew, lists.as_slice())?;
         let engine = WindowEngine {
             scenario,
             net,

@@ -10,12 +10,12 @@ use crate::asked::Asked;
 use crate::fault::LabFault;
 use crate::hand_rows::in_windows;
 use crate::options::Engine;
-use srm_cell::fault::CellFault;
-use srm_cell::job::{Done, Job};
 use srm_crew::advancing::Advancing;
 use srm_crew::crew::Crew;
+use srm_crew::piece::Piece;
 use srm_crew::plain::PlainCrew;
 use srm_crew::team_crew::TeamCrew;
+use srm_crew::worked::Worked;
 use srm_engine::sink::RowSink;
 use srm_ledger::totals::Totals;
 use srm_member::member::Member;
@@ -69,7 +69,7 @@ fn lead_beside<
     rt: &R,
     alloc: Global,
     threads: usize,
-    bench: &Bench<Advancing<'a>, Vec<Job<M>>, Result<Vec<Done<M>>, CellFault>, J>,
+    bench: &Bench<Advancing<'a>, Piece<M>, Worked<M>, J>,
     asked: &Asked,
     members: Vec<M>,
     crew: C,
@@ -116,7 +116,7 @@ fn by_team<
 >(
     rt: &R,
     alloc: Global,
-    opened: Opened<Advancing<'a>, Vec<Job<M>>>,
+    opened: Opened<Advancing<'a>, Piece<M>>,
     asked: &Asked<'a>,
     members: Vec<M>,
     sink: &mut S,
@@ -135,11 +135,7 @@ fn by_team<
         scenario: asked.scenario,
         net: asked.net,
     };
-    match open_team::<Advancing, Vec<Job<M>>, Result<Vec<Done<M>>, CellFault>, J>(
-        alloc,
-        opened,
-        PIECES * workers,
-    ) {
+    match open_team::<Advancing, Piece<M>, Worked<M>, J>(alloc, opened, PIECES * workers) {
         Ok((team, bench)) => {
             let crew = TeamCrew::new(rt, team, work, ENOUGH);
             lead_beside(rt, alloc, workers - 1, &bench, asked, members, crew, sink)

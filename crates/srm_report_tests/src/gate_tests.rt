@@ -2,17 +2,24 @@
 ghost use Rattle.std.specs.Prelude.{◌≡◌, ◌≤◌, ◌∷◌, ◌++◌, [], ℕ, List, length, map, All, IfOk};
 ghost use Rattle.std.specs.List.{range_with_len};
 ghost use Rattle.srm_net.specs.Limits.{most_nodes};
+ghost use Rattle.srm_scenario.specs.Plain.{network_of};
+ghost use Rattle.srm_cell.specs.Setting.{traffic_of};
 ghost use Rattle.srm_cell.specs.Jobs.{PlainJob, MayAdvance};
+ghost use Rattle.srm_cell.specs.Hearing.{IsSent, packets_in};
 ghost use Rattle.srm_crew.specs.Crews.{AreJobs, Maps};
+ghost use Rattle.srm_crew.specs.Hearers.{GroupsMayHear, TellsHeard};
 ghost use denote.Param.Send.{IsSync};
 
 use crate::boxed::BoxCrew;
 use crate::drops_tests::run_once;
+use srm_cell::cell::Cell;
 use srm_cell::job::{Done, Job};
+use srm_cell::sent::Sent;
 use srm_crew::bag_crew::BagCrew;
 use srm_crew::crew::Crew;
 use srm_crew::fault::CrewFault;
 use srm_crew::gate::Gate;
+use srm_crew::hearing::hear_groups;
 use srm_crew::pass::Pass;
 use srm_engine::fault::RunFault;
 use srm_engine::width::{Width, Windows};
@@ -131,6 +138,29 @@ impl<R: Threads + Wait + Sync> Crew<Box<dyn Member>> for Gated<R> {
         self.workers
             .map_with_gate(alloc, scenario, net, ledger, seat, jobs)
     }
+
+    fn hear(
+        &mut self,
+        alloc: Global,
+        scenario: &Scenario,
+        net: &Net,
+        sent: Vec<Sent>,
+        groups: Vec<Vec<Cell>>,
+    ) -> Result<Vec<Vec<Cell>>, AllocError>
+        requires ready { IsSync R.row }
+        requires serves { Unit {0} }
+        requires network { net.now ≡ network_of scenario.now }
+        requires sent { All (λ x. IsSent scenario.now net.now x) sent.items }
+        requires groups { GroupsMayHear (λ b. (⟦<dyn Member as Member>⟧ b.vtable).plain b.value)
+            (traffic_of scenario.now net.now) (packets_in sent.items) groups.items }
+        ensures ready { IsSync R.row }
+        ensures serves { Unit {0} }
+        ensures heard { TellsHeard (λ b. (⟦<dyn Member as Member>⟧ b.vtable).plain b.value)
+            (traffic_of scenario.now net.now) (packets_in sent.items) groups.items result }
+        ensures handed { Unit {0} }
+    {
+        hear_groups(alloc, scenario, net, sent.as_slice(), groups)
+    }
 }
 
 impl<R: Threads + Wait + Sync> BoxCrew for Gated<R> {
@@ -231,6 +261,29 @@ impl Crew<Box<dyn Member>> for OutOfMemory {
     {
         self.calls = self.calls.saturating_add(1);
         Err(CrewFault::NoMemory)
+    }
+
+    fn hear(
+        &mut self,
+        alloc: Global,
+        scenario: &Scenario,
+        net: &Net,
+        sent: Vec<Sent>,
+        groups: Vec<Vec<Cell>>,
+    ) -> Result<Vec<Vec<Cell>>, AllocError>
+        requires ready { Unit {0} }
+        requires serves { Unit {0} }
+        requires network { net.now ≡ network_of scenario.now }
+        requires sent { All (λ x. IsSent scenario.now net.now x) sent.items }
+        requires groups { GroupsMayHear (λ b. (⟦<dyn Member as Member>⟧ b.vtable).plain b.value)
+            (traffic_of scenario.now net.now) (packets_in sent.items) groups.items }
+        ensures ready { Unit {0} }
+        ensures serves { Unit {0} }
+        ensures heard { TellsHeard (λ b. (⟦<dyn Member as Member>⟧ b.vtable).plain b.value)
+            (traffic_of scenario.now net.now) (packets_in sent.items) groups.items result }
+        ensures handed { Unit {0} }
+    {
+        Err(AllocError)
     }
 }
 

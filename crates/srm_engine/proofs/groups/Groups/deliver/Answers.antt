@@ -2,9 +2,10 @@ use Rattle.std.proofs.Common.{refl, ◌≡◌, ◌<◌, sym, ◌∙◌, ap, subs
 use Rattle.srm_cell.specs.Setting.{arrival_of, setting_of, traffic_of}
 use Rattle.srm_cell.specs.Cells.{PlainCell}
 use Rattle.srm_cell.specs.Flights.{BringsNone}
+use Rattle.srm_cell.proofs.Hearings.{hears_not, hears_at}
 use Rattle.srm_model.specs.Hearing.{heard_below}
 use Rattle.srm_engine.specs.Groups.{AreKept}
-use Rattle.srm_engine.proofs.Hearing.{none_heard, length_heard, get_next, heard_next, hears_not, hears_at}
+use Rattle.srm_engine.proofs.Hearing.{none_heard, length_heard, get_next, heard_next}
 use Rattle.srm_engine.proofs.SeenLemmas.{there, set_same}
 use Rattle.srm_engine.proofs.groups.Groups.deliver.Goals.{in-Some+in_ok-hand, in_default}
 use Rattle.srm_engine.proofs.groups.Groups.deliver.Goals as goal

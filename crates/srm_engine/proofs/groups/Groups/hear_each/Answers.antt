@@ -6,27 +6,14 @@ use Rattle.std.specs.Global.{Vec}
 use Rattle.srm_member.specs.declared.row.Row.{Row}
 use Rattle.srm_cell.specs.Setting.{Traffic, setting_of, traffic_of}
 use Rattle.srm_cell.specs.Cells.{PlainCell}
-use Rattle.srm_cell.specs.OwnRuns.{hear_rows, told_to}
 use Rattle.srm_cell.specs.Crossings.{joined}
 use Rattle.srm_cell.proofs.RowPackets.{joined-append}
 use Rattle.srm_model.specs.Hearing.{IsUnheard}
 use Rattle.srm_model.specs.WindowRuns.{each_hears}
 use Rattle.srm_model.proofs.WindowRows.{packets_are_heard_in_turn, length-each_hears}
 use Rattle.srm_engine.specs.Groups.{AreKept}
+use Rattle.srm_engine.proofs.HeardRows.{hears_both}
 use Rattle.srm_engine.proofs.groups.Groups.hear_each.Goals as goal
-
-one_hears : (t : Traffic) (m : ℕ) (xs ys : List Row) (c : PlainCell) → hear_rows t m (xs ++ ys) c ≡ hear_rows t m ys (hear_rows t m xs c)
-one_hears t m [] ys c = refl
-one_hears t m (x ∷ xs) ys c = one_hears t m xs ys (told_to t x.sent m c)
-
--- some rows are heard, and then others
-hears_both : (t : Traffic) (i : ℕ) (xs ys : List Row) (cs : List PlainCell) → each_hears t i (xs ++ ys) cs
-    ≡ each_hears t i ys (each_hears t i xs cs)
-hears_both t i xs ys [] = refl
-hears_both t i xs ys (c ∷ cs) =
-    let first = one_hears t i xs ys c in
-    let more = hears_both t (suc i) xs ys cs in
-    λ j. first j ∷ more j
 
 abbrev rows_in : List (Vec Row) → List Row
 rows_in vs = joined (map (λ (v : Vec Row). v.items) vs)

@@ -63,11 +63,11 @@ look_again-groups-requires-clause-may g c =
           k.comes.kept.soon;
     }
 
-pub hear_each-requires-clause-until : goal.hear_each-requires-clause-until
-hear_each-requires-clause-until g c = let few = c.requires.stands.accepted.few_ticks in omega arith
+pub heard_by-requires-clause-until : goal.heard_by-requires-clause-until
+heard_by-requires-clause-until g c = let few = c.requires.stands.accepted.few_ticks in omega arith
 
-pub hear_each-requires-clause-may : goal.hear_each-requires-clause-may
-hear_each-requires-clause-may g c =
+pub heard_by-requires-clause-may : goal.heard_by-requires-clause-may
+heard_by-requires-clause-may g c =
     let k = c.requires.stands in
     let w = k.world in
     let ds = c.in-Ok.done.0.items in
@@ -112,7 +112,7 @@ returns-clause-window g c = λ seed begins w comes.
     ap (λ l. joined (map (λ (v : Vec Row). v.items) l)) c.as_slice.ensures.value ∙ ap joined c.in_ok-groups.ensures.lists in
     let end_at = end_is g.M.Participant.plain c.args.self k seed begins w comes c.end-end.result
     c.end-end.ensures in
-    let heard = c.in_ok-hear_each.ensures.heard seed cells
+    let heard = c.in_ok-groups-2.ensures.heard seed cells
     (c.look_again-groups.ensures.soon seed w.cells ran.results ran.alone grouped comes.kept.soon) in (
       λ rows merge.
           let merged = subst (λ l. IsPermutation (joined l) rows × IsSorted row_cmp rows) c.in_ok-groups.ensures.lists
@@ -122,7 +122,7 @@ returns-clause-window g c = λ seed begins w comes.
             record {
               windows = (one_more g.M.Participant.plain c.args.self k seed begins w comes
                   c.end-end.result c.end-end.ensures ds ran rows merged).0;
-              kept = subst (λ qs. AreKept g.M.Participant.plain s c.hear_each.new.self qs)
+              kept = subst (λ qs. AreKept g.M.Participant.plain s c.in_ok-groups-2.groups qs)
                   (ap (λ l. each_hears s.traffic 0 l cells) listed ∙ heard_as g.M.Participant.plain c.args.self k seed begins w comes
                   c.end-end.result c.end-end.ensures ds ran rows merged.0) heard;
               counted = counted_after g.M.Participant.plain c.args.self k seed begins w comes
@@ -130,8 +130,10 @@ returns-clause-window g c = λ seed begins w comes.
             },
             refl,
           ),
-      subst (λ n. g.C.Crew.handed c.args.crew.now (handed_jobs 0 (jobs_of cut n w) ∷ []) c.map.new.self) end_at
-          (c.in-Ok.ensures.handed (handed_jobs 0 (jobs_of cut c.end-end.result w)) j.seen),
+      subst (λ n. g.C.Crew.handed c.args.crew.now (handed_jobs 0 (jobs_of cut n w) ∷ []) c.heard_by.new.crew) end_at
+          (g.met.C.Crew.handed_more c.args.crew.now c.map.new.self c.heard_by.new.crew
+          (handed_jobs 0 (jobs_of cut c.end-end.result w) ∷ []) [] (c.in-Ok.ensures.handed (handed_jobs 0
+          (jobs_of cut c.end-end.result w)) j.seen) c.heard_by.ensures.handed),
     )
 
 pub returns-clause-stands : goal.returns-clause-stands

@@ -1,0 +1,46 @@
+//! What was sent.
+ghost use Rattle.std.specs.Prelude.{◌≡◌, ◌<◌, length, IfOk};
+ghost use Rattle.srm_net.specs.Limits.{end_of_time};
+ghost use Rattle.srm_scenario.specs.Plain.{network_of};
+
+use srm_net::net::Net;
+use srm_net::packet::Packet;
+use srm_net::spread::Spread;
+use srm_scenario::scenario::Scenario;
+use std::alloc::{AllocError, Global};
+
+/// A packet that was sent, with its spread, which is found once for all that hear the packet.
+#[derive(Drop)]
+pub struct Sent {
+    /// The packet.
+    pub packet: Packet,
+    /// What becomes of it on its ways to all nodes.
+    pub spread: Spread,
+}
+
+impl Sent {
+    ghost use Rattle.srm_cell.specs.Hearing.{IsSent};
+
+    /// A packet, with its spread.
+    ///
+    /// # Errors
+    /// [`AllocError`].
+    pub fn of(
+        alloc: Global,
+        scenario: &Scenario,
+        net: &Net,
+        packet: &Packet,
+    ) -> Result<Sent, AllocError>
+        requires network { net.now ≡ network_of scenario.now }
+        requires sent { packet.now.sent < end_of_time }
+        requires sender { packet.now.id.sender < length scenario.now.members }
+        ensures packet { IfOk result (λ x. x.packet ≡ packet.now) }
+        ensures sent { IfOk result (λ x. IsSent scenario.now net.now x) }
+    {
+        let spread = net.spread(alloc, scenario.drops(), packet.id, packet.sent)?;
+        Ok(Sent {
+            packet: packet.clone()?,
+            spread,
+        })
+    }
+}

@@ -1,0 +1,39 @@
+//! Groups of cells that hear what was sent.
+ghost use Rattle.std.specs.Prelude.{◌≡◌, All, length};
+ghost use Rattle.srm_scenario.specs.Plain.{network_of};
+ghost use Rattle.srm_cell.specs.Setting.{traffic_of};
+ghost use Rattle.srm_cell.specs.Hearing.{IsSent, packets_in};
+ghost use Rattle.srm_crew.specs.Hearers.{GroupsMayHear, TellsHeard};
+
+use srm_cell::cell::Cell;
+use srm_cell::hearing::hear_each;
+use srm_cell::sent::Sent;
+use srm_member::participant::Participant;
+use srm_net::net::Net;
+use srm_scenario::scenario::Scenario;
+use std::alloc::{AllocError, Global};
+
+/// The groups after each of their cells heard what was sent, one group after the other.
+///
+/// # Errors
+/// [`AllocError`]: the cells are gone.
+pub fn hear_groups<M: Participant>(
+    alloc: Global,
+    scenario: &Scenario,
+    net: &Net,
+    sent: &[Sent],
+    groups: Vec<Vec<Cell<M>>>,
+) -> Result<Vec<Vec<Cell<M>>>, AllocError>
+    requires network { net.now ≡ network_of scenario.now }
+    requires sent { All (λ x. IsSent scenario.now net.now x) sent.now }
+    requires groups { GroupsMayHear M.plain (traffic_of scenario.now net.now) (packets_in sent.now) groups.items }
+    ensures { TellsHeard M.plain (traffic_of scenario.now net.now) (packets_in sent.now) groups.items result }
+{
+    let mut heard = Vec::new(alloc);
+    for group in groups {
+        let mut group = group;
+        hear_each(scenario, net, sent, group.as_mut_slice())?;
+        heard.push(group)?;
+    }
+    Ok(heard)
+}

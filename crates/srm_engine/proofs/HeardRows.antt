@@ -1,0 +1,182 @@
+-- Cells that hear the packets of rows, as cells that hear packets.
+use Rattle.std.proofs.Common.{◌≡◌, ℕ, zero, suc, ◌+◌, ◌<◌, ◌≤◌, List, [], ◌∷◌, ◌++◌, All, length, map, get_or, take, drop}
+use Rattle.std.proofs.Common.{Option, Some, None, option_map, refl, sym, ap, ◌∙◌, subst, arith, slice_get, zero-add, append_assoc}
+use Rattle.std.proofs.Math.Seq.{split_at}
+use Rattle.std.proofs.lemmas.List.Elements.{length_all_zip}
+use Rattle.std.proofs.lemmas.Option.{slice_get-get_or}
+use Rattle.std.specs.List.{AllZip, cons_option}
+use Rattle.std.specs.Global.{Vec}
+use Rattle.srm_net.specs.declared.packet.Packet.{Packet}
+use Rattle.srm_net.specs.Limits.{end_of_time}
+use Rattle.srm_scenario.specs.Plain.{PlainScenario}
+use Rattle.srm_member.specs.declared.row.Row.{Row}
+use Rattle.srm_member.specs.Record.{Record}
+use Rattle.srm_cell.specs.declared.cell.Cell.{Cell}
+use Rattle.srm_cell.specs.Setting.{Traffic, Setting}
+use Rattle.srm_cell.specs.Cells.{PlainCell, hear}
+use Rattle.srm_cell.specs.Flights.{BringsNone}
+use Rattle.srm_cell.specs.OwnRuns.{hear_rows, told_to}
+use Rattle.srm_cell.specs.Crossings.{packets_of, joined}
+use Rattle.srm_cell.specs.Views.{IsCell}
+use Rattle.srm_cell.specs.Hearing.{hear_all, AreNewTo, MayHearAll, HearsAll, AllMayHear, EachHearsAll}
+use Rattle.srm_model.specs.Hearing.{IsUnheard}
+use Rattle.srm_model.specs.WindowRuns.{each_hears, AreNewInTurn}
+use Rattle.srm_model.proofs.WindowRows.{packets_are_heard_in_turn, length-each_hears, get_heard}
+use Rattle.srm_crew.specs.Hearers.{GroupsMayHear, GroupsHear}
+use Rattle.srm_crew.proofs.JobPieces.{all_each}
+use Rattle.srm_crew.proofs.Zips.{zip_append}
+use Rattle.srm_engine.specs.Seen.{AreCellsInOrder}
+use Rattle.srm_engine.specs.Groups.{all_in, sizes}
+use Rattle.srm_engine.specs.SentRows.{MayBeSent}
+use Rattle.srm_engine.proofs.SeenLemmas.{same_some, there}
+
+one_hears : (t : Traffic) (m : ℕ) (xs ys : List Row) (c : PlainCell) → hear_rows t m (xs ++ ys) c ≡ hear_rows t m ys (hear_rows t m xs c)
+one_hears t m [] ys c = refl
+one_hears t m (x ∷ xs) ys c = one_hears t m xs ys (told_to t x.sent m c)
+
+-- some rows are heard, and then others
+pub hears_both : (t : Traffic) (i : ℕ) (xs ys : List Row) (cs : List PlainCell) → each_hears t i (xs ++ ys) cs
+    ≡ each_hears t i ys (each_hears t i xs cs)
+hears_both t i xs ys [] = refl
+hears_both t i xs ys (c ∷ cs) =
+    let first = one_hears t i xs ys c in
+    let more = hears_both t (suc i) xs ys cs in
+    λ j. first j ∷ more j
+
+-- ---- the packets of rows
+
+-- a cell that hears rows hears their packets
+rows_heard : (t : Traffic) (m : ℕ) (rows : List Row) (c : PlainCell) → hear_rows t m rows c ≡ hear_all t m (packets_of rows) c
+rows_heard t m [] c = refl
+rows_heard t m (r ∷ rows) c = by r.sent (λ d. rows_heard t m rows d)
+  where
+    by : (o : Option Packet) → ((d : PlainCell) → hear_rows t m rows d ≡ hear_all t m (packets_of rows) d)
+        → hear_rows t m rows (told_to t o m c) ≡ hear_all t m (cons_option o (packets_of rows)) c
+    by None h = h c
+    by (Some p) h = h (hear t p m c)
+
+module _ (s : Setting) where
+  -- after the first row the others are new in turn
+  others_new : (r : Row) (rows : List Row) (cs : List PlainCell) → AreNewInTurn s.traffic (r ∷ rows) cs
+      → AreNewInTurn s.traffic rows (each_hears s.traffic 0 (r ∷ []) cs)
+  others_new r rows cs h = λ before after q p e sent.
+      let n = h (r ∷ before) after q p (ap (λ l. r ∷ l) e) sent in
+      (subst (λ ds. IsUnheard p.id ds) (hears_both s.traffic 0 (r ∷ []) before cs) n.0, n.1, n.2)
+
+  -- so packets that are new in turn are new to each member
+  new_to : (rows : List Row) (cs : List PlainCell) → AreNewInTurn s.traffic rows cs → (m : ℕ) (c : PlainCell) → slice_get cs m ≡ Some c
+      → AreNewTo s.traffic m (packets_of rows) c
+  new_to [] cs h m c at = tt
+  new_to (r ∷ rows) cs h m c at =
+      let next : slice_get (each_hears s.traffic 0 (r ∷ []) cs) m ≡ Some (told_to s.traffic r.sent m c) =
+      get_heard s 0 m (r ∷ []) cs ∙ ap (option_map (hear_rows s.traffic (0 + m) (r ∷ []))) at
+      ∙ ap (λ k. Some (told_to s.traffic r.sent k c)) (zero-add m) in
+      by r.sent refl (new_to rows (each_hears s.traffic 0 (r ∷ []) cs) (others_new r rows cs h) m (told_to s.traffic r.sent m c) next)
+    where
+      by : (o : Option Packet) → r.sent ≡ o → AreNewTo s.traffic m (packets_of rows) (told_to s.traffic r.sent m c)
+          → AreNewTo s.traffic m (cons_option o (packets_of rows)) c
+      by None e rest = subst (λ o. AreNewTo s.traffic m (packets_of rows) (told_to s.traffic o m c)) e rest
+      by (Some p) e rest =
+          let new = (h [] rows r p refl e).0 in (
+            subst (λ ds. IsUnheard p.id ds) (packets_are_heard_in_turn s cs).0 new m c at,
+            subst (λ o. AreNewTo s.traffic m (packets_of rows) (told_to s.traffic o m c)) e rest,
+          )
+
+  -- members sent them
+  pub may_be_sent : (k : PlainScenario) (rows : List Row) (cs : List PlainCell) → AreNewInTurn s.traffic rows cs
+      → s.traffic.members ≡ length k.members → s.traffic.until ≤ end_of_time → All (λ (r : Row). MayBeSent k r.sent) rows
+  may_be_sent k rows cs h same early = λ i d lt. by i d lt (get_or rows i d).sent refl
+    where
+      by : (i : ℕ) (d : Row) → i < length rows → (o : Option Packet) → (get_or rows i d).sent ≡ o → MayBeSent k o
+      by i d lt None e = tt
+      by i d lt (Some p) e =
+          let n = h (take i rows) (drop (suc i) rows) (get_or rows i d) p (split_at rows i d lt) e in
+          let sender = n.1 in
+          let sent = n.2 in
+          (omega (arith, same), omega (arith, early))
+
+-- ---- cells
+
+zip_get : {A B : Type 0} (R : A → B → Type 0) (xs : List A) (ys : List B) → AllZip R xs ys → (j : ℕ) (y : B) → slice_get ys j ≡ Some y
+    → (x : A) × (slice_get xs j ≡ Some x) × R x y
+zip_get R [] [] z j y at = cc
+zip_get R [] (b ∷ ys) z j y at = absurd z
+zip_get R (a ∷ xs) [] z j y at = absurd z
+zip_get R (a ∷ xs) (b ∷ ys) z zero y at = (a, refl, subst (R a) (same_some b y at) z.0)
+zip_get R (a ∷ xs) (b ∷ ys) z (suc j) y at = zip_get R xs ys z.1 j y at
+
+zip_long : {A B : Type 0} (R : A → B → Type 0) (xs : List A) (ys : List B) → AllZip R xs ys → length xs ≡ length ys
+zip_long R [] [] z = refl
+zip_long R [] (b ∷ ys) z = absurd z
+zip_long R (a ∷ xs) [] z = absurd z
+zip_long R (a ∷ xs) (b ∷ ys) z = ap suc (zip_long R xs ys z.1)
+
+module _ {M : Type 0} (f : M → Record) where
+  -- the cells of all members may hear packets that are new in turn
+  cells_may : (s : Setting) (rows : List Row) (cs : List (Cell M)) (ps : List PlainCell) → AreCellsInOrder f cs ps
+      → length ps ≡ s.traffic.members → AreNewInTurn s.traffic rows ps → AllMayHear f s.traffic (packets_of rows) cs
+  cells_may s rows cs ps h many new = λ j d lt.
+      let as_many = h.as_many in
+      let p = there ps j (omega (arith, as_many)) in (
+        j,
+        p.0,
+        h.each j (get_or cs j d) p.0 (slice_get-get_or cs j d lt) p.1,
+        omega (arith, as_many, many),
+        new_to s rows ps new j p.0 p.1,
+      )
+
+  -- cells that heard the packets of rows are those of members that did
+  cells_heard : (s : Setting) (rows : List Row) (cs ds : List (Cell M)) (ps : List PlainCell)
+      → EachHearsAll f s.traffic (packets_of rows) cs ds → AreCellsInOrder f cs ps → AreCellsInOrder f ds (each_hears s.traffic 0 rows ps)
+  cells_heard s rows cs ds ps z h = record {
+    as_many = sym (zip_long (λ c d. HearsAll f s.traffic (packets_of rows) c d) cs ds z) ∙ h.as_many
+        ∙ sym (length-each_hears s 0 rows ps);
+    each = λ j d q at got.
+        let c = zip_get (λ c d. HearsAll f s.traffic (packets_of rows) c d) cs ds z j d at in
+        by j d q got (slice_get ps j) refl c.0 c.1 c.2;
+  }
+    where
+      by : (j : ℕ) (d : Cell M) (q : PlainCell) → slice_get (each_hears s.traffic 0 rows ps) j ≡ Some q → (o : Option PlainCell)
+          → slice_get ps j ≡ o → (c : Cell M) → slice_get cs j ≡ Some c → HearsAll f s.traffic (packets_of rows) c d → IsCell f j d q
+      by j d q got None e c at hears =
+          let no : None ≡ Some q = sym (get_heard s 0 j rows ps ∙ ap (option_map (hear_rows s.traffic (0 + j) rows)) e) ∙ got in cc
+      by j d q got (Some p) e c at hears =
+          let is : Some (hear_rows s.traffic (0 + j) rows p) ≡ Some q =
+          sym (get_heard s 0 j rows ps ∙ ap (option_map (hear_rows s.traffic (0 + j) rows)) e) ∙ got in
+          subst (λ x. IsCell f j d x)
+          (sym (rows_heard s.traffic j rows p) ∙ ap (λ m. hear_rows s.traffic m rows p) (sym (zero-add j)) ∙ same_some _ q is)
+          (hears j p (h.each j c p at e))
+
+  -- ---- groups
+
+  all_joined : (gs : List (Vec (Cell M))) → all_in gs ≡ joined (map (λ (g : Vec (Cell M)). g.items) gs)
+  all_joined [] = refl
+  all_joined (g ∷ gs) = ap (λ l. g.items ++ l) (all_joined gs)
+
+  pub groups_may : (s : Setting) (rows : List Row) (gs : List (Vec (Cell M))) (ps : List PlainCell) → AreCellsInOrder f (all_in gs) ps
+      → length ps ≡ s.traffic.members → AreNewInTurn s.traffic rows ps → GroupsMayHear f s.traffic (packets_of rows) gs
+  groups_may s rows gs ps h many new =
+      all_each (λ c. MayHearAll f s.traffic (packets_of rows) c) gs
+      (subst (AllMayHear f s.traffic (packets_of rows)) (all_joined gs) (cells_may s rows (all_in gs) ps h many new))
+
+  pub groups_long : (t : Traffic) (ps : List Packet) (gs hs : List (Vec (Cell M))) → GroupsHear f t ps gs hs → sizes gs ≡ sizes hs
+  groups_long t ps [] [] z = refl
+  groups_long t ps [] (h ∷ hs) z = absurd z
+  groups_long t ps (g ∷ gs) [] z = absurd z
+  groups_long t ps (g ∷ gs) (h ∷ hs) z =
+      let first = zip_long (λ c d. HearsAll f t ps c d) g.items h.items z.0 in
+      let more = groups_long t ps gs hs z.1 in
+      λ i. first i ∷ more i
+
+  all_hear : (t : Traffic) (ps : List Packet) (gs hs : List (Vec (Cell M))) → GroupsHear f t ps gs hs
+      → EachHearsAll f t ps (all_in gs) (all_in hs)
+  all_hear t ps [] [] z = tt
+  all_hear t ps [] (h ∷ hs) z = absurd z
+  all_hear t ps (g ∷ gs) [] z = absurd z
+  all_hear t ps (g ∷ gs) (h ∷ hs) z =
+      zip_append (λ c d. HearsAll f t ps c d) g.items h.items (all_in gs) (all_in hs) z.0 (all_hear t ps gs hs z.1)
+
+  pub groups_heard : (s : Setting) (rows : List Row) (gs hs : List (Vec (Cell M))) (ps : List PlainCell)
+      → GroupsHear f s.traffic (packets_of rows) gs hs → AreCellsInOrder f (all_in gs) ps
+      → AreCellsInOrder f (all_in hs) (each_hears s.traffic 0 rows ps)
+  groups_heard s rows gs hs ps z h = cells_heard s rows (all_in gs) (all_in hs) ps (all_hear s.traffic (packets_of rows) gs hs z) h
