@@ -108,7 +108,9 @@ impl<'a, R: Wait, M: Participant, J: Naming> TeamCrew<'a, R, M, J> {
         work: Advancing<'a>,
         few: usize,
     ) -> TeamCrew<'a, R, M, J>
-        ensures { result.work ≡ work.entry }
+        ensures work { result.work ≡ work.entry }
+        ensures team { result.team ≡ team.entry }
+        ensures few { result.few ≡ few }
     {
         TeamCrew {
             rt,
