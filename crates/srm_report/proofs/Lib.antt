@@ -7,5 +7,6 @@ pub mod LinkLemmas
 pub mod ListingLemmas
 pub mod LossLemmas
 pub mod MemberLemmas
+pub mod PieceLemmas
 pub mod SinkLemmas
 pub mod TableLemmas

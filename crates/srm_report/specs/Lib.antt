@@ -10,9 +10,11 @@ pub mod LossesSinks
 pub mod Members
 pub mod MembersSinks
 pub mod NoRows
+pub mod Pieces
 pub mod Rows
 pub mod Standings
 pub mod Tables
+pub mod Texts
 pub mod Timers
 pub mod Trace
 pub mod SinkLaws

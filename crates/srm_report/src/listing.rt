@@ -1,8 +1,10 @@
 //! Tables that list rows.
 ghost use Rattle.std.specs.Prelude.{◌≡◌, IfOk};
 ghost use Rattle.srm_report.specs.Listings.{Form, lines_in, text_in};
+ghost use Rattle.srm_report.specs.Texts.{bytes_of};
 
 use crate::fault::ReportFault;
+use crate::text::Text;
 use srm_member::row::Row;
 use std::alloc::Global;
 
@@ -24,4 +26,17 @@ pub trait Listing: Drop {
     /// `NoMemory`.
     fn lines(alloc: Global, rows: &[Row]) -> Result<Vec<u8>, ReportFault>
         ensures { IfOk result (λ text. text.items ≡ lines_in form rows.now) };
+
+    /// The same of rows that are then gone. The thread that calls makes the text, unless the table has others for that.
+    ///
+    /// # Errors
+    /// `NoMemory`.
+    fn lines_of(&mut self, alloc: Global, rows: Vec<Row>) -> Result<Text, ReportFault>
+        ensures { IfOk result (λ text. bytes_of text ≡ lines_in form rows.items) }
+    {
+        match Self::lines(alloc, rows.as_slice()) {
+            Ok(text) => Ok(Text::Whole(text)),
+            Err(fault) => Err(fault),
+        }
+    }
 }

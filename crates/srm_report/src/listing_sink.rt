@@ -1,11 +1,14 @@
 //! A table that lists rows, written as they come.
 ghost use Rattle.std.specs.Prelude.{◌≡◌, ◌<◌, ◌+◌, ◌-◌, ◌^◌, ◌≤◌, [], is_ok, if◌then◌else◌, length, IfOk};
 ghost use Rattle.srm_report.specs.Standings.{text_next, after_answer, TakesText};
+ghost use Rattle.srm_report.specs.Pieces.{joined_pieces};
+ghost use Rattle.srm_report.specs.Texts.{bytes_of};
 
 use crate::fault::ReportFault;
 use crate::listing::Listing;
 use crate::outlet::{OutFault, Outlet};
 use crate::standing::Standing;
+use crate::text::Text;
 use crate::writing::{WriteFault, write_out};
 use srm_engine::sink::{RowSink, SinkFault};
 use srm_member::row::Row;
@@ -34,14 +37,18 @@ pub struct ListingSink<'a, L, O> {
 // The text of the rows that a sink takes next.
 fn text_of<L: Listing>(
     alloc: Global,
+    listing: &mut L,
     standing: Standing,
-    rows: &[Row],
-) -> Result<Vec<u8>, ReportFault>
-    ensures { IfOk result (λ text. text.items ≡ text_next L.form standing rows.now) }
+    rows: Vec<Row>,
+) -> Result<Text, ReportFault>
+    ensures { IfOk result (λ text. bytes_of text ≡ text_next L.form standing rows.items) }
 {
     match standing {
-        Standing::Fresh => L::text(alloc, rows),
-        Standing::Live | Standing::NoMemory | Standing::Stopped => L::lines(alloc, rows),
+        Standing::Fresh => match L::text(alloc, rows.as_slice()) {
+            Ok(text) => Ok(Text::Whole(text)),
+            Err(fault) => Err(fault),
+        },
+        Standing::Live | Standing::NoMemory | Standing::Stopped => listing.lines_of(alloc, rows),
     }
 }
 
@@ -73,6 +80,26 @@ fn write<O: Outlet>(outlet: &mut O, written: &mut u64, text: &[u8]) -> Result<()
             Err(OutFault)
         }
     }
+}
+
+// Writes the pieces of a text, and counts the bytes of it that were taken.
+fn write_each<O: Outlet>(
+    outlet: &mut O,
+    written: &mut u64,
+    pieces: &[Vec<u8>],
+) -> Result<(), OutFault>
+    requires { O.failures outlet.old < 2 ^ 64 - 1 }
+    ensures failures { O.failures outlet.new
+        ≡ (if is_ok result then O.failures outlet.old else O.failures outlet.old + 1) }
+    ensures taken { TakesText O.taken outlet.old written.old (joined_pieces pieces.now) result outlet.new written.new }
+{
+    for piece in pieces {
+        match write(outlet, written, piece.as_slice()) {
+            Ok(()) => {}
+            Err(OutFault) => return Err(OutFault),
+        }
+    }
+    Ok(())
 }
 
 impl<'a, L: Listing, O: Outlet> ListingSink<'a, L, O> {
@@ -161,16 +188,17 @@ impl<'a, L: Listing, O: Outlet> ListingSink<'a, L, O> {
     }
 
     // Puts the text of the rows that come next.
-    fn put_rows(&mut self, alloc: Global, rows: &[Row]) -> Result<(), SinkFault>
+    fn put_rows(&mut self, alloc: Global, rows: Vec<Row>) -> Result<(), SinkFault>
         requires failures { O.failures (outlet_under self.old) < 2 ^ 64 - 1 }
         ensures outlet { AreOverOne self.old self.new }
         ensures standing { standing_of self.new ≡ standing_of self.old }
         ensures failures { O.failures (outlet_under self.new) ≡ O.failures (outlet_under self.old) + stops_in result }
-        ensures text { PutsText O.taken self.old (text_next L.form (standing_of self.old) rows.now) result self.new }
+        ensures text { PutsText O.taken self.old (text_next L.form (standing_of self.old) rows.items) result self.new }
         ensures left { LeavesOutlet self.old result self.new }
     {
-        match text_of::<L>(alloc, self.standing, rows) {
-            Ok(text) => self.put(text.as_slice()),
+        match text_of(alloc, &mut self.listing, self.standing, rows) {
+            Ok(Text::Whole(text)) => self.put(text.as_slice()),
+            Ok(Text::Pieces(pieces)) => self.put_pieces(pieces.as_slice()),
             Err(ReportFault::NoMemory) => Err(SinkFault::NoMemory),
         }
     }
@@ -196,6 +224,39 @@ impl<'a, L: Listing, O: Outlet> ListingSink<'a, L, O> {
                 let written = self.written;
                 Err(SinkFault::Stopped { written })
             }
+        }
+    }
+
+    // Writes a text in pieces after what is gathered.
+    fn put_pieces(&mut self, pieces: &[Vec<u8>]) -> Result<(), SinkFault>
+        requires failures { O.failures (outlet_under self.old) < 2 ^ 64 - 1 }
+        ensures outlet { AreOverOne self.old self.new }
+        ensures standing { standing_of self.new ≡ standing_of self.old }
+        ensures failures { O.failures (outlet_under self.new) ≡ O.failures (outlet_under self.old) + stops_in result }
+        ensures text { PutsText O.taken self.old (joined_pieces pieces.now) result self.new }
+        ensures left { LeavesOutlet self.old result self.new }
+    {
+        match self.write_pieces(pieces) {
+            Ok(()) => Ok(()),
+            Err(OutFault) => {
+                let written = self.written;
+                Err(SinkFault::Stopped { written })
+            }
+        }
+    }
+
+    // Writes what is gathered, and the pieces of a text after it.
+    fn write_pieces(&mut self, pieces: &[Vec<u8>]) -> Result<(), OutFault>
+        requires failures { O.failures (outlet_under self.old) < 2 ^ 64 - 1 }
+        ensures outlet { AreOverOne self.old self.new }
+        ensures standing { standing_of self.new ≡ standing_of self.old }
+        ensures failures { O.failures (outlet_under self.new)
+            ≡ (if is_ok result then O.failures (outlet_under self.old) else O.failures (outlet_under self.old) + 1) }
+        ensures text { WritesThrough O.taken self.old (joined_pieces pieces.now) result self.new }
+    {
+        match self.write_gathered() {
+            Ok(()) => write_each(self.outlet, &mut self.written, pieces),
+            Err(OutFault) => Err(OutFault),
         }
     }
 
@@ -269,8 +330,9 @@ impl<'a, L: Listing, O: Outlet> RowSink for ListingSink<'a, L, O> {
             (λ _. PutsPart O.taken L.form self.old rows.items self.new) }
         ensures left { LeavesOutlet self.old result self.new }
     {
-        let answer = self.put_rows(alloc, rows.as_slice());
-        self.has_begun = self.has_begun || !rows.is_empty();
+        let has_rows = !rows.is_empty();
+        let answer = self.put_rows(alloc, rows);
+        self.has_begun = self.has_begun || has_rows;
         self.standing = standing_after(&answer);
         answer
     }
