@@ -35,6 +35,7 @@ TRACE = (EXAMPLES / "chain-of-five-one-loss.trace.csv").read_bytes()
 DRAWN = (EXAMPLES / "drawn-timers.toml").read_bytes()
 NO_WORDS: list[str] = []
 WINDOW = ["--engine", "window"]
+LINKS = ["--show", "links"]
 BAD_CUT, BAD_WIDTH = refused("bad-cut"), refused("bad-width")
 FULL = "/dev/full"
 
@@ -98,6 +99,19 @@ class CommandLineCase(ProgramCase):
                 child.stdout.read(most)
                 child.stdout.close()
                 child.wait(LONGEST)
+
+    def busy(self, words: Sequence[str], text: bytes, most: int) -> set[str]:
+        """The threads of a run that take processor time: all, or so many."""
+        worked: set[str] = set()
+        with tempfile.TemporaryFile() as given:
+            given.write(text)
+            given.seek(0)
+            with self.program.start(words, stdin=given, stdout=subprocess.DEVNULL) as child:
+                while len(worked) < most and child.poll() is None:
+                    worked |= busy_threads(child.pid)
+                    time.sleep(0.01)
+                child.wait(LONGEST)
+        return worked
 
     def writes(self, words: Sequence[str], text: bytes) -> tuple[int, int]:
         """How many bytes a run writes, and by how many calls that write, its line of errors included."""
@@ -286,7 +300,14 @@ class Crews(CommandLineCase):
         for crew, (words, more) in itertools.product(("bag", "team"), given):
             with self.subTest(crew=crew, words=words):
                 if (crew, words) != ("team", NO_WORDS):
-                    self.assertEqual(self.threads([*WINDOW, "--crew", crew, *words]), more)
+                    self.assertEqual(self.threads([*WINDOW, *LINKS, "--crew", crew, *words]), more)
+
+    def test_a_team_has_as_many_threads_again_for_the_text_of_rows(self) -> None:
+        for table, workers in itertools.product(("trace", "timers"), (1, 2, 7, 64)):
+            words = [*WINDOW, "--show", table, "--workers", str(workers), "--crew"]
+            with self.subTest(words=words):
+                self.assertEqual(self.threads([*words, "team"]), 2 * (workers - 1))
+                self.assertEqual(self.threads([*words, "bag"]), workers - 1)
 
     def test_a_team_has_a_worker_for_each_processor(self) -> None:
         processors = os.sched_getaffinity(0)
@@ -294,25 +315,23 @@ class Crews(CommandLineCase):
         for count in range(1, min(4, len(processors)) + 1):
             with self.subTest(count=count):
                 os.sched_setaffinity(0, sorted(processors)[:count])
-                self.assertEqual(self.threads([*WINDOW, "--crew", "team"]), count - 1)
+                self.assertEqual(self.threads([*WINDOW, *LINKS, "--crew", "team"]), count - 1)
                 self.assertEqual(self.threads([*WINDOW, "--crew", "bag"]), 0)
 
     def test_a_team_starts_its_threads_once(self) -> None:
-        self.assertEqual(self.threads([*WINDOW, "--crew", "team", "--workers", "3"], chain(20, 1)), 2)
+        words = [*WINDOW, "--crew", "team", "--workers", "3"]
+        self.assertEqual(self.threads([*words, *LINKS], chain(20, 1)), 2)
+        self.assertEqual(self.threads(words, chain(20, 1)), 4)
 
     def test_each_worker_of_a_team_works(self) -> None:
         """By the processor time of each thread, of which one that is handed nothing takes none."""
+        words = [*WINDOW, *LINKS, "--crew", "team", "--workers", "3"]
+        self.assertEqual(len(self.busy(words, star(255, 625), 3)), 3)
+
+    def test_each_worker_of_a_team_makes_text(self) -> None:
+        """Besides those that work for the members, and the thread that leads."""
         words = [*WINDOW, "--crew", "team", "--workers", "3"]
-        worked: set[str] = set()
-        with tempfile.TemporaryFile() as given:
-            given.write(star(255, 625))
-            given.seek(0)
-            with self.program.start(words, stdin=given, stdout=subprocess.DEVNULL) as child:
-                while len(worked) < 3 and child.poll() is None:
-                    worked |= busy_threads(child.pid)
-                    time.sleep(0.01)
-                child.wait(LONGEST)
-        self.assertEqual(len(worked), 3)
+        self.assertEqual(len(self.busy(words, star(255, 2500), 5)), 5)
 
     def test_no_other_run_starts_a_thread_for_each_worker(self) -> None:
         of_steps = (["--crew", crew] for crew in ("bag", "team", "pool"))

@@ -19,12 +19,13 @@ use Rattle.srm_model.specs.WindowRuns.{jobs_of}
 use Rattle.srm_engine.specs.Groups.{handed_jobs}
 use Rattle.srm_engine.specs.Outcomes.{HoldOpeningRecords}
 use Rattle.srm_engine.specs.Windowed.{IsCut, MayBeWide, PassesShare, rule_of}
+use Rattle.srm_report.specs.Listings.{Form, text_in}
 use Rattle.srm_program.specs.declared.fault.LabFault.{LabFault}
 use Rattle.srm_program.specs.declared.fault.LabFault.TheVariants.{BadCut, BadWidth, ShareFull, NoMemory, CountFull}
 use Rattle.srm_program.specs.declared.fault.LabFault.TheVariants.{WriteFault}
 use Rattle.srm_options.specs.declared.options.Engine.TheVariants.{Window}
 use Rattle.srm_options.specs.declared.options.Options.{Options}
-use Rattle.srm_program.specs.Reports.{TellsReport, failures_after_run}
+use Rattle.srm_program.specs.Reports.{TellsListing, TellsReport, failures_after_run}
 pub use Rattle.srm_options.specs.Asked.{MayShareBag}
 
 -- the run may be cut into windows and jobs as is asked for
@@ -100,3 +101,19 @@ module _ {S : Type 0} (stage : S → Stage) (failures : S → ℕ) (same : S →
   HandsOn p net o records old r new =
       same old new × StandsAfter r (stage new) × (failures new ≡ failures_after_run r (failures old))
       × ((seed : ℕ) → HoldOpeningRecords p net seed records → TellsRows took part p net seed o old r new)
+
+-- ---- tables that list rows
+
+-- members with these records may be run, and their rows listed
+abbrev pub MayBeListed : PlainScenario → Network → Options → List Record → Type 0
+MayBeListed p net o records =
+    (net ≡ network_of p) × ((seed : ℕ) × HoldOpeningRecords p net seed records) × MayShareBag o.workers
+
+module _ {O : Type 0} (form : Form) (failures : O → ℕ) (taken : O → Option (List ℕ)) where
+  -- what comes of that: how often the outlet failed, and for every seed what it took of the table, and the refusals
+  abbrev pub IsListed : {T : Type 0} → PlainScenario → Network → Options → List Record
+      → O → Result T LabFault → O → Type 0
+  IsListed p net o records old r new =
+      (failures new ≡ failures_after_run r (failures old))
+      × ((seed : ℕ) → HoldOpeningRecords p net seed records
+      → TellsListing (text_in form) p net seed (taken old) (taken new) r × TellsRefusedFor p net seed o r)

@@ -29,8 +29,8 @@ use std::marker::{Brand, Send, Sync};
 use std::sync::Wait;
 use std::thread::{Threads, join_mut};
 
-// How many pieces a worker has of the jobs of a window. Workers take them as they come free.
-const PIECES: usize = 4;
+/// How many pieces a worker has of the jobs, or the rows, of a window. Workers take them as they come free.
+pub(crate) const PIECES: usize = 4;
 
 // In how many cells something is due at least in a window in which the workers are woken.
 const ENOUGH: usize = 16;

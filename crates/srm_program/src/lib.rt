@@ -7,6 +7,7 @@ pub mod fault;
 mod hand_rows;
 mod in_team;
 pub mod line;
+mod listed;
 mod made;
 mod members;
 pub mod program;

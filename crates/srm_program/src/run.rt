@@ -1,41 +1,31 @@
 //! One run of a scenario, and its report.
-ghost use Rattle.std.specs.Prelude.{◌≡◌, ◌<◌, ◌-◌, ◌^◌, ℕ, [], map};
+ghost use Rattle.std.specs.Prelude.{◌≡◌, ◌<◌, ◌-◌, ◌^◌, ℕ, map};
 ghost use Rattle.srm_scenario.specs.Plain.{network_of};
 ghost use Rattle.srm_scenario.specs.Accepted.{IsAccepted};
 ghost use Rattle.srm_engine.specs.Outcomes.{HoldOpeningRecords};
-ghost use Rattle.srm_engine.specs.declared.sink.Stage.{Stage};
-ghost use Rattle.srm_report.specs.ListingSinks.{stage_of, outlet_under, gathered_by, written_by, AreOverOne};
-ghost use Rattle.srm_report.specs.Listings.{text_in};
-ghost use Rattle.srm_report.specs.Timers.{timers_form};
-ghost use Rattle.srm_report.specs.Trace.{trace_form};
-ghost use Rattle.srm_program.specs.Reports.{failures_after_run, TellsListing, TellsTable};
+ghost use Rattle.srm_program.specs.Reports.{failures_after_run, TellsTable};
 ghost use Rattle.srm_program.specs.Runs.{MayShareBag, TellsRefusedFor, TellsRunFor};
 
 use crate::asked::Asked;
 use crate::fault::LabFault;
 use crate::hand_rows::hand_rows;
+use crate::listed::write_listing;
 use crate::options::{Options, Show};
 use crate::report::write_text;
 use srm_member::member::Member;
 use srm_net::net::Net;
 use srm_report::links::links_text;
-use srm_report::listing::Listing;
-use srm_report::listing_sink::ListingSink;
 use srm_report::losses_sink::LossesSink;
 use srm_report::members_sink::MembersSink;
 use srm_report::no_rows::NoRows;
 use srm_report::outlet::Outlet;
 use srm_report::timers::TimersListing;
 use srm_report::trace::TraceListing;
-use srm_report::writing::WriteFault;
 use srm_scenario::scenario::Scenario;
 use std::alloc::Global;
 use std::marker::Sync;
 use std::sync::Wait;
 use std::thread::Threads;
-
-// How many bytes of a table that lists rows are gathered before they are written.
-const GATHERED: usize = 8_192;
 
 /// Runs the members of a scenario with the engine that is asked for, and writes the report of the run. Both engines write the
 /// same bytes: the report is that of the sequential run, for every seed whose opening records the boxes hold. The trace and the table
@@ -78,94 +68,11 @@ pub fn run<R: Threads + Wait + Sync, O: Outlet>(
         options,
     };
     match options.show {
-        Show::Trace => write_trace(rt, alloc, &asked, members, outlet),
+        Show::Trace => write_listing(rt, alloc, &asked, TraceListing, members, outlet),
         Show::Members => write_members(rt, alloc, &asked, members, outlet),
         Show::Losses => write_losses(rt, alloc, &asked, members, outlet),
         Show::Links => write_links(rt, alloc, &asked, members, outlet),
-        Show::Timers => write_timers(rt, alloc, &asked, members, outlet),
-    }
-}
-
-// Writes the trace as its rows come.
-fn write_trace<R: Threads + Wait + Sync, O: Outlet>(
-    rt: &R,
-    alloc: Global,
-    asked: &Asked,
-    members: Vec<Box<dyn Member>>,
-    outlet: &mut O,
-) -> Result<(), LabFault>
-    requires network { asked.now.net.now ≡ network_of asked.now.scenario.now }
-    requires boxes { (seed : ℕ) × HoldOpeningRecords asked.now.scenario.now asked.now.net.now seed (map (λ b. plain b) members.items) }
-    requires workers { MayShareBag asked.now.options.workers }
-    requires count { O.failures outlet.old < 2 ^ 64 - 1 }
-    ensures failures { O.failures outlet.new ≡ failures_after_run result (O.failures outlet.old) }
-    ensures trace { (seed : ℕ) → HoldOpeningRecords asked.now.scenario.now asked.now.net.now seed (map (λ b. plain b) members.items)
-        → TellsListing (text_in trace_form) asked.now.scenario.now asked.now.net.now seed (O.taken outlet.old) (O.taken outlet.new) result }
-    ensures asked { (seed : ℕ) → HoldOpeningRecords asked.now.scenario.now asked.now.net.now seed (map (λ b. plain b) members.items)
-        → TellsRefusedFor asked.now.scenario.now asked.now.net.now seed asked.now.options result }
-{
-    let mut sink = ListingSink::gathering(alloc, TraceListing, outlet, GATHERED);
-    let answer = write_rows(rt, alloc, asked, members, &mut sink);
-    // By its contract, the outlet is then as the sink left it.
-    let _outlet = sink.into_outlet();
-    answer
-}
-
-// Writes the table of timers as its rows come.
-fn write_timers<R: Threads + Wait + Sync, O: Outlet>(
-    rt: &R,
-    alloc: Global,
-    asked: &Asked,
-    members: Vec<Box<dyn Member>>,
-    outlet: &mut O,
-) -> Result<(), LabFault>
-    requires network { asked.now.net.now ≡ network_of asked.now.scenario.now }
-    requires boxes { (seed : ℕ) × HoldOpeningRecords asked.now.scenario.now asked.now.net.now seed (map (λ b. plain b) members.items) }
-    requires workers { MayShareBag asked.now.options.workers }
-    requires count { O.failures outlet.old < 2 ^ 64 - 1 }
-    ensures failures { O.failures outlet.new ≡ failures_after_run result (O.failures outlet.old) }
-    ensures table { (seed : ℕ) → HoldOpeningRecords asked.now.scenario.now asked.now.net.now seed (map (λ b. plain b) members.items)
-        → TellsListing (text_in timers_form) asked.now.scenario.now asked.now.net.now seed (O.taken outlet.old) (O.taken outlet.new) result }
-    ensures asked { (seed : ℕ) → HoldOpeningRecords asked.now.scenario.now asked.now.net.now seed (map (λ b. plain b) members.items)
-        → TellsRefusedFor asked.now.scenario.now asked.now.net.now seed asked.now.options result }
-{
-    let mut sink = ListingSink::gathering(alloc, TimersListing, outlet, GATHERED);
-    let answer = write_rows(rt, alloc, asked, members, &mut sink);
-    // By its contract, the outlet is then as the sink left it.
-    let _outlet = sink.into_outlet();
-    answer
-}
-
-// Writes the rows through a new sink, as they come, and then what it gathered.
-fn write_rows<R: Threads + Wait + Sync, L: Listing, O: Outlet>(
-    rt: &R,
-    alloc: Global,
-    asked: &Asked,
-    members: Vec<Box<dyn Member>>,
-    sink: &mut ListingSink<L, O>,
-) -> Result<(), LabFault>
-    requires network { asked.now.net.now ≡ network_of asked.now.scenario.now }
-    requires boxes { (seed : ℕ) × HoldOpeningRecords asked.now.scenario.now asked.now.net.now seed (map (λ b. plain b) members.items) }
-    requires workers { MayShareBag asked.now.options.workers }
-    requires fresh { stage_of sink.old ≡ Stage.Fresh }
-    requires gathered { gathered_by sink.old ≡ [] }
-    requires written { written_by sink.old ≡ 0 }
-    requires count { O.failures (outlet_under sink.old) < 2 ^ 64 - 1 }
-    ensures outlet { AreOverOne sink.old sink.new }
-    ensures failures { O.failures (outlet_under sink.new)
-        ≡ failures_after_run result (O.failures (outlet_under sink.old)) }
-    ensures listing { (seed : ℕ) → HoldOpeningRecords asked.now.scenario.now asked.now.net.now seed (map (λ b. plain b) members.items)
-        → TellsListing (text_in L.form) asked.now.scenario.now asked.now.net.now seed (O.taken (outlet_under sink.old))
-        (O.taken (outlet_under sink.new)) result }
-    ensures asked { (seed : ℕ) → HoldOpeningRecords asked.now.scenario.now asked.now.net.now seed (map (λ b. plain b) members.items)
-        → TellsRefusedFor asked.now.scenario.now asked.now.net.now seed asked.now.options result }
-{
-    match hand_rows(rt, alloc, asked, members, sink) {
-        Ok(_) => match sink.flush() {
-            Ok(()) => Ok(()),
-            Err(WriteFault { written }) => Err(LabFault::WriteFault { written }),
-        },
-        Err(fault) => Err(fault),
+        Show::Timers => write_listing(rt, alloc, &asked, TimersListing, members, outlet),
     }
 }
 

@@ -1,6 +1,6 @@
 use Rattle.std.proofs.Common.{ℕ, List, refl}
 use Rattle.srm_program.proofs.ListedTexts.{flushed_rows, refused_rows, unflushed_rows}
-use Rattle.srm_program.proofs.run.write_rows.Goals as goal
+use Rattle.srm_program.proofs.listed.write_rows.Goals as goal
 
 pub returns-in-Ok-flush-clause-listing : goal.returns-in-Ok-flush-clause-listing
 returns-in-Ok-flush-clause-listing g c = λ seed h.

@@ -1,0 +1,219 @@
+//! Tables that list rows, written as the rows of a run come.
+ghost use Rattle.std.specs.Prelude.{◌≡◌, ◌<◌, ◌-◌, ◌^◌, ℕ, Some, [], map};
+ghost use Rattle.srm_scenario.specs.Plain.{network_of};
+ghost use Rattle.srm_engine.specs.Outcomes.{HoldOpeningRecords};
+ghost use Rattle.srm_engine.specs.declared.sink.Stage.{Stage};
+ghost use Rattle.srm_report.specs.ListingSinks.{stage_of, outlet_under, gathered_by, written_by, AreOverOne};
+ghost use Rattle.srm_report.specs.Listings.{text_in};
+ghost use Rattle.srm_program.specs.Reports.{failures_after_run, TellsListing};
+ghost use Rattle.srm_program.specs.Runs.{MayShareBag, TellsRefusedFor, MayBeListed, IsListed};
+
+use crate::asked::Asked;
+use crate::fault::LabFault;
+use crate::hand_rows::hand_rows;
+use crate::in_team::PIECES;
+use crate::options::{CrewKind, Engine};
+use srm_member::member::Member;
+use srm_member::row::Row;
+use srm_report::fault::ReportFault;
+use srm_report::lining::Lining;
+use srm_report::listing::Listing;
+use srm_report::listing_sink::ListingSink;
+use srm_report::outlet::Outlet;
+use srm_report::team_listing::TeamListing;
+use srm_report::writing::WriteFault;
+use srm_team::bench::{Bench, serve_all};
+use srm_team::naming::Naming;
+use srm_team::opened::Opened;
+use srm_team::team::open_team;
+use std::alloc::Global;
+use std::marker::{Brand, Copy, Send, Sync};
+use std::sync::Wait;
+use std::thread::{Threads, join_mut};
+
+// How many bytes of a table that lists rows are gathered before they are written.
+const GATHERED: usize = 8_192;
+
+// How many rows a window has at least whose text the workers make.
+const MANY_ROWS: usize = 200;
+
+// Writes the rows through a new sink, as they come, and then what it gathered.
+fn write_rows<R: Threads + Wait + Sync, L: Listing, O: Outlet>(
+    rt: &R,
+    alloc: Global,
+    asked: &Asked,
+    members: Vec<Box<dyn Member>>,
+    sink: &mut ListingSink<L, O>,
+) -> Result<(), LabFault>
+    requires network { asked.now.net.now ≡ network_of asked.now.scenario.now }
+    requires boxes { (seed : ℕ) × HoldOpeningRecords asked.now.scenario.now asked.now.net.now seed (map (λ b. plain b) members.items) }
+    requires workers { MayShareBag asked.now.options.workers }
+    requires fresh { stage_of sink.old ≡ Stage.Fresh }
+    requires gathered { gathered_by sink.old ≡ [] }
+    requires written { written_by sink.old ≡ 0 }
+    requires count { O.failures (outlet_under sink.old) < 2 ^ 64 - 1 }
+    ensures outlet { AreOverOne sink.old sink.new }
+    ensures failures { O.failures (outlet_under sink.new)
+        ≡ failures_after_run result (O.failures (outlet_under sink.old)) }
+    ensures listing { (seed : ℕ) → HoldOpeningRecords asked.now.scenario.now asked.now.net.now seed (map (λ b. plain b) members.items)
+        → TellsListing (text_in L.form) asked.now.scenario.now asked.now.net.now seed (O.taken (outlet_under sink.old))
+        (O.taken (outlet_under sink.new)) result }
+    ensures asked { (seed : ℕ) → HoldOpeningRecords asked.now.scenario.now asked.now.net.now seed (map (λ b. plain b) members.items)
+        → TellsRefusedFor asked.now.scenario.now asked.now.net.now seed asked.now.options result }
+{
+    match hand_rows(rt, alloc, asked, members, sink) {
+        Ok(_) => match sink.flush() {
+            Ok(()) => Ok(()),
+            Err(WriteFault { written }) => Err(LabFault::WriteFault { written }),
+        },
+        Err(fault) => Err(fault),
+    }
+}
+
+// Writes a table as its rows come, through a sink of its own.
+fn write_table<R: Threads + Wait + Sync, L: Listing, O: Outlet>(
+    rt: &R,
+    alloc: Global,
+    asked: &Asked,
+    listing: L,
+    members: Vec<Box<dyn Member>>,
+    outlet: &mut O,
+) -> Result<(), LabFault>
+    requires run { MayBeListed asked.now.scenario.now asked.now.net.now asked.now.options (map (λ b. plain b) members.items) }
+    requires count { O.failures outlet.old < 2 ^ 64 - 1 }
+    ensures { IsListed L.form O.failures O.taken asked.now.scenario.now asked.now.net.now asked.now.options
+        (map (λ b. plain b) members.items) outlet.old result outlet.new }
+{
+    let mut sink = ListingSink::gathering(alloc, listing, outlet, GATHERED);
+    let answer = write_rows(rt, alloc, asked, members, &mut sink);
+    // By its contract, the outlet is then as the sink left it.
+    let _outlet = sink.into_outlet();
+    answer
+}
+
+// The same of a table and members that wait.
+fn write_waiting<R: Threads + Wait + Sync, L: Listing, O: Outlet>(
+    rt: &R,
+    alloc: Global,
+    asked: &Asked,
+    waiting: &mut Option<(L, Vec<Box<dyn Member>>)>,
+    outlet: &mut O,
+) -> Result<(), LabFault>
+    requires waiting { (l : _) × (waiting.old ≡ Some l)
+        × MayBeListed asked.now.scenario.now asked.now.net.now asked.now.options (map (λ b. plain b) l.1.items) }
+    requires count { O.failures outlet.old < 2 ^ 64 - 1 }
+    ensures { (l : _) → waiting.old ≡ Some l
+        → IsListed L.form O.failures O.taken asked.now.scenario.now asked.now.net.now asked.now.options
+        (map (λ b. plain b) l.1.items) outlet.old result outlet.new }
+{
+    match waiting.take() {
+        Some((listing, members)) => write_table(rt, alloc, asked, listing, members, outlet),
+        None => unreachable!(),
+    }
+}
+
+// The same beside so many threads, of which there may be none. They serve at the bench until the table is written.
+fn write_beside<
+    J: Naming + Send + Sync,
+    R: Threads + Wait + Sync,
+    L: Listing + Copy + Send + Sync,
+    T: Listing,
+    O: Outlet,
+>(
+    rt: &R,
+    alloc: Global,
+    bench: &Bench<Lining<L>, Vec<Row>, Result<Vec<u8>, ReportFault>, J>,
+    asked: &Asked,
+    listing: T,
+    members: Vec<Box<dyn Member>>,
+    outlet: &mut O,
+) -> Result<(), LabFault>
+    requires run { MayBeListed asked.now.scenario.now asked.now.net.now asked.now.options (map (λ b. plain b) members.items) }
+    requires count { O.failures outlet.old < 2 ^ 64 - 1 }
+    ensures { IsListed T.form O.failures O.taken asked.now.scenario.now asked.now.net.now asked.now.options
+        (map (λ b. plain b) members.items) outlet.old result outlet.new }
+{
+    let threads = usize::from(asked.options.workers) - 1;
+    let mut waiting = Some((listing, members));
+    // The first closure borrows the other ones.
+    let own = alloc;
+    let own_rt = rt;
+    let ((), answer) = join_mut(
+        rt,
+        &mut || serve_all(rt, alloc, threads, bench),
+        &mut ||
+            requires { (l : _) × (waiting ≡ Some l)
+                × MayBeListed asked.now.scenario.now asked.now.net.now asked.now.options (map (λ b. plain b) l.1.items)
+                × (O.failures outlet.now < 2 ^ 64 - 1) }
+            ensures { (l : _) → waiting.entry ≡ Some l
+                → IsListed T.form O.failures O.taken asked.entry.now.scenario.now asked.entry.now.net.now asked.entry.now.options
+                (map (λ b. plain b) l.1.items) outlet.entry.now result outlet.exit.now }
+        { write_waiting(own_rt, own, asked, &mut waiting, outlet) },
+    );
+    answer
+}
+
+// Writes a table whose text a team makes that has this history. Where memory for the team is refused, the thread that leads the run
+// makes the text.
+fn write_by_team<
+    J: Naming + Send + Sync,
+    R: Threads + Wait + Sync,
+    L: Listing + Copy + Send + Sync,
+    O: Outlet,
+>(
+    rt: &R,
+    alloc: Global,
+    opened: Opened<Lining<L>, Vec<Row>>,
+    asked: &Asked,
+    listing: L,
+    members: Vec<Box<dyn Member>>,
+    outlet: &mut O,
+) -> Result<(), LabFault>
+    requires history { opened ≡ J.book }
+    requires run { MayBeListed asked.now.scenario.now asked.now.net.now asked.now.options (map (λ b. plain b) members.items) }
+    requires count { O.failures outlet.old < 2 ^ 64 - 1 }
+    ensures { IsListed L.form O.failures O.taken asked.now.scenario.now asked.now.net.now asked.now.options
+        (map (λ b. plain b) members.items) outlet.old result outlet.new }
+{
+    match open_team::<Lining<L>, Vec<Row>, Result<Vec<u8>, ReportFault>, J>(
+        alloc,
+        opened,
+        PIECES * usize::from(asked.options.workers),
+    ) {
+        Ok((team, bench)) => {
+            let listing = TeamListing::new(rt, team, listing, MANY_ROWS);
+            write_beside(rt, alloc, &bench, asked, listing, members, outlet)
+        }
+        Err(_) => write_table(rt, alloc, asked, listing, members, outlet),
+    }
+}
+
+/// Writes a table that lists rows, as the rows of the run come. Where a team of several workers runs the scenario, as many make the
+/// text of windows with many rows.
+pub(crate) fn write_listing<R: Threads + Wait + Sync, L: Listing + Copy + Send + Sync, O: Outlet>(
+    rt: &R,
+    alloc: Global,
+    asked: &Asked,
+    listing: L,
+    members: Vec<Box<dyn Member>>,
+    outlet: &mut O,
+) -> Result<(), LabFault>
+    requires run { MayBeListed asked.now.scenario.now asked.now.net.now asked.now.options (map (λ b. plain b) members.items) }
+    requires count { O.failures outlet.old < 2 ^ 64 - 1 }
+    ensures { IsListed L.form O.failures O.taken asked.now.scenario.now asked.now.net.now asked.now.options
+        (map (λ b. plain b) members.items) outlet.old result outlet.new }
+{
+    let o = &asked.options;
+    if o.engine == Engine::Window && o.crew == CrewKind::Team && o.workers > 1 {
+        return write_by_team::<Brand, R, L, O>(
+            rt,
+            alloc,
+            Opened::new(),
+            asked,
+            listing,
+            members,
+            outlet,
+        );
+    }
+    write_table(rt, alloc, asked, listing, members, outlet)
+}
