@@ -77,7 +77,7 @@ class CommandLineCase(ProgramCase):
 
     def threads(self, words: Sequence[str], text: bytes = LONE) -> int:
         """How many threads a run starts."""
-        return self.counted("count_threads", words, text)
+        return self.counted("refuse_threads", words, text)
 
     def allocations(self, words: Sequence[str], text: bytes, output: str = os.devnull) -> int:
         """How many allocations a run makes beside those for its words, which a refused text shows."""
@@ -332,6 +332,17 @@ class Crews(CommandLineCase):
         """Besides those that work for the members, and the thread that leads."""
         words = [*WINDOW, "--crew", "team", "--workers", "3"]
         self.assertEqual(len(self.busy(words, star(255, 2500), 5)), 5)
+
+    def test_the_threads_that_there_are_do_the_work_of_those_that_are_refused(self) -> None:
+        """By the bytes, which are those of one event after the other, whichever thread is the first that is refused."""
+        text = star(64, 50)
+        tables = (([], 6), (LINKS, 3))
+        for (table, of_team), crew in itertools.product(tables, ("team", "bag", "pool")):
+            wanted = End(0, self.program.written(table, text), b"")
+            words = [*WINDOW, *table, "--crew", crew, "--workers", "4"]
+            for first in range(1, (of_team if crew == "team" else 3) + 1):
+                with self.subTest(words=words, first=first):
+                    self.assertEqual(self.program.run(words, text, env=library("refuse_threads").refusing(first)), wanted)
 
     def test_no_other_run_starts_a_thread_for_each_worker(self) -> None:
         of_steps = (["--crew", crew] for crew in ("bag", "team", "pool"))
