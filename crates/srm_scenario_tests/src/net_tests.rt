@@ -1,4 +1,6 @@
 //! The calls on small networks.
+ghost use Rattle.std.specs.Prelude.{◌≡◌};
+
 use srm_net::drops::Drops;
 use srm_net::fate::Fate;
 use srm_net::fault::NetFault;
@@ -38,15 +40,15 @@ fn tree_of_eight(rt: HostRuntime) -> Result<(), Fail> {
         short_link(7, 2),
     ];
     let net = Net::build(rt.alloc(), 8, &links, &[0, 1, 2, 3, 4, 5, 6, 7])?;
-    assert_eq!(rt; net.members(), 8);
-    assert_eq!(rt; net.links().len(), 7);
-    assert_eq!(rt; net.host(5), 5);
-    assert_eq!(rt; net.distance(4, 7), 8);
-    assert_eq!(rt; net.distance(4, 5), 4);
-    assert_eq!(rt; net.distance(6, 6), 0);
-    assert_eq!(rt; net.round(4, 7), 16);
-    assert_eq!(rt; net.out(3), Some(2));
-    assert_eq!(rt; net.least_delay(), Some(2));
+    assert_eq!(rt; (net.members(), net.links().len(), net.host(5)), (8, 7, 5));
+    let ticks = [
+        net.distance(4, 7),
+        net.distance(4, 5),
+        net.distance(6, 6),
+        net.round(4, 7),
+    ];
+    assert_eq!(rt; ticks, [8, 4, 0, 16]);
+    assert_eq!(rt; [net.out(3), net.least_delay()], [Some(2), Some(2)]);
     Ok(())
 }
 
@@ -141,59 +143,97 @@ fn refusals(rt: HostRuntime) {
     );
 }
 
-// A chain of nodes 0 to 3 with a member on each but node 2; link 1 drops the first packet of member 0.
+// The packet of member 0 with this count.
+const fn packet(count: u64) -> PacketId
+    ensures { result.sender ≡ 0 }
+{
+    PacketId { sender: 0, count }
+}
+
+// Link 1 drops the first packet of member 0.
+fn listed_drop() -> DropSpec {
+    DropSpec {
+        link: 1,
+        id: packet(0),
+    }
+}
+
+// The links of a chain of nodes 0 to 3.
+fn chain_of_four() -> [LinkSpec; 3] {
+    [short_link(0, 1), short_link(2, 1), short_link(2, 3)]
+}
+
 #[test]
-fn one_drop(rt: HostRuntime) -> Result<(), Fail> {
-    let links = [short_link(0, 1), short_link(2, 1), short_link(2, 3)];
-    let net = Net::build(rt.alloc(), 4, &links, &[0, 1, 3])?;
-    let first = PacketId {
-        sender: 0,
-        count: 0,
-    };
-    let second = PacketId {
-        sender: 0,
-        count: 1,
-    };
-    let entry = DropSpec { link: 1, id: first };
-    let drops = Drops::of(rt.alloc(), &[entry, entry], &[])?;
+fn a_drop_that_is_listed_twice(rt: HostRuntime) -> Result<(), Fail> {
+    let drops = Drops::of(rt.alloc(), &[listed_drop(), listed_drop()], &[])?;
     let listed = [
-        drops.lists(1, first),
-        drops.lists(0, first),
-        drops.lists(1, second),
+        drops.lists(1, packet(0)),
+        drops.lists(0, packet(0)),
+        drops.lists(1, packet(1)),
     ];
     assert_eq!(rt; listed, [true, false, false]);
-    assert_eq!(rt;
-        [drops.may_drop(first, 0), drops.may_drop(second, 0)],
-        [true, false]
-    );
-    let taken_out = [drops.takes_out(first, 1, 0), drops.takes_out(second, 1, 0)];
+    let may_drop = [drops.may_drop(packet(0), 0), drops.may_drop(packet(1), 0)];
+    assert_eq!(rt; may_drop, [true, false]);
+    let taken_out = [
+        drops.takes_out(packet(0), 1, 0),
+        drops.takes_out(packet(1), 1, 0),
+    ];
     assert_eq!(rt; taken_out, [true, false]);
+    Ok(())
+}
+
+// A member on each node of the chain but node 2.
+#[test]
+fn members_behind_a_drop(rt: HostRuntime) -> Result<(), Fail> {
+    let net = Net::build(rt.alloc(), 4, &chain_of_four(), &[0, 1, 3])?;
+    let drops = Drops::of(rt.alloc(), &[listed_drop()], &[])?;
     let reached = [
-        net.reaches(&drops, first, 0, 0),
-        net.reaches(&drops, first, 0, 1),
-        net.reaches(&drops, first, 0, 2),
-        net.reaches(&drops, second, 0, 2),
+        net.reaches(&drops, packet(0), 0, 0),
+        net.reaches(&drops, packet(0), 0, 1),
+        net.reaches(&drops, packet(0), 0, 2),
+        net.reaches(&drops, packet(1), 0, 2),
     ];
     assert_eq!(rt; reached, [true, true, false, true]);
+    Ok(())
+}
+
+#[test]
+fn links_before_and_behind_a_drop(rt: HostRuntime) -> Result<(), Fail> {
+    let net = Net::build(rt.alloc(), 4, &chain_of_four(), &[0, 1, 3])?;
+    let drops = Drops::of(rt.alloc(), &[listed_drop()], &[])?;
     let crossed = [
-        net.crosses(&drops, first, 0, 0),
-        net.crosses(&drops, first, 0, 1),
-        net.crosses(&drops, first, 0, 2),
-        net.crosses(&drops, second, 0, 2),
+        net.crosses(&drops, packet(0), 0, 0),
+        net.crosses(&drops, packet(0), 0, 1),
+        net.crosses(&drops, packet(0), 0, 2),
+        net.crosses(&drops, packet(1), 0, 2),
     ];
     assert_eq!(rt; crossed, [true, false, false, true]);
+    Ok(())
+}
+
+#[test]
+fn a_drop_at_one_link(rt: HostRuntime) -> Result<(), Fail> {
+    let net = Net::build(rt.alloc(), 4, &chain_of_four(), &[0, 1, 3])?;
+    let drops = Drops::of(rt.alloc(), &[listed_drop()], &[])?;
     let dropped = [
-        net.drops_at(&drops, first, 0, 0),
-        net.drops_at(&drops, first, 0, 1),
-        net.drops_at(&drops, first, 0, 2),
-        net.drops_at(&drops, second, 0, 1),
+        net.drops_at(&drops, packet(0), 0, 0),
+        net.drops_at(&drops, packet(0), 0, 1),
+        net.drops_at(&drops, packet(0), 0, 2),
+        net.drops_at(&drops, packet(1), 0, 1),
     ];
     assert_eq!(rt; dropped, [false, true, false, false]);
+    Ok(())
+}
+
+#[test]
+fn fates_at_links_round_a_drop(rt: HostRuntime) -> Result<(), Fail> {
+    let net = Net::build(rt.alloc(), 4, &chain_of_four(), &[0, 1, 3])?;
+    let drops = Drops::of(rt.alloc(), &[listed_drop()], &[])?;
     let fates = [
-        net.fate(&drops, first, 0, 0),
-        net.fate(&drops, first, 0, 1),
-        net.fate(&drops, first, 0, 2),
-        net.fate(&drops, second, 0, 2),
+        net.fate(&drops, packet(0), 0, 0),
+        net.fate(&drops, packet(0), 0, 1),
+        net.fate(&drops, packet(0), 0, 2),
+        net.fate(&drops, packet(1), 0, 2),
     ];
     assert_eq!(rt;
         fates,
@@ -215,101 +255,134 @@ const fn outage(link: u16, from: u64, to: u64) -> OutageSpec {
     OutageSpec { link, from, to }
 }
 
-// A chain of nodes 0 to 2 with a member on each; each link takes 5 ticks. Member 0 sends at ticks 0 and 10.
-#[test]
-fn outages_of_one_tick(rt: HostRuntime) -> Result<(), Fail> {
-    let net = Net::build(
-        rt.alloc(),
-        3,
-        &[slow_link(0, 1), slow_link(1, 2)],
-        &[0, 1, 2],
-    )?;
-    let first = PacketId {
-        sender: 0,
-        count: 0,
-    };
-    let second = PacketId {
-        sender: 0,
-        count: 1,
-    };
+// The links of a chain of nodes 0 to 2 with a member on each. Where member 0 sends at ticks 0 and 10, its packets come to link 1 at
+// ticks 5 and 15.
+fn slow_chain() -> [LinkSpec; 2] {
+    [slow_link(0, 1), slow_link(1, 2)]
+}
 
-    // the first packet comes to link 1 at tick 5, the second at tick 15
+#[test]
+fn packets_that_an_outage_may_drop(rt: HostRuntime) -> Result<(), Fail> {
     let drops = Drops::of(rt.alloc(), &[], &[outage(1, 5, 6)])?;
     let may_drop = [
-        drops.may_drop(first, 0),
-        drops.may_drop(first, 5),
-        drops.may_drop(first, 6),
-        drops.may_drop(second, 10),
+        drops.may_drop(packet(0), 0),
+        drops.may_drop(packet(0), 5),
+        drops.may_drop(packet(0), 6),
+        drops.may_drop(packet(1), 10),
     ];
     assert_eq!(rt; may_drop, [true, true, false, false]);
-    let reached = [
-        net.reaches(&drops, first, 0, 1),
-        net.reaches(&drops, first, 0, 2),
-        net.reaches(&drops, second, 10, 1),
-        net.reaches(&drops, second, 10, 2),
-    ];
-    assert_eq!(rt; reached, [true, false, true, true]);
-    let crossed = [
-        net.crosses(&drops, first, 0, 0),
-        net.crosses(&drops, first, 0, 1),
-        net.crosses(&drops, second, 10, 0),
-        net.crosses(&drops, second, 10, 1),
-    ];
-    assert_eq!(rt; crossed, [true, false, true, true]);
-    let dropped = [
-        net.drops_at(&drops, first, 0, 0),
-        net.drops_at(&drops, first, 0, 1),
-        net.drops_at(&drops, second, 10, 1),
-    ];
-    assert_eq!(rt; dropped, [false, true, false]);
-    assert_eq!(rt; net.fate(&drops, first, 0, 1), Fate::Dropped);
-
-    // one tick earlier and one tick later it drops neither
-    for (from, to) in [(4, 5), (6, 7)] {
-        let drops = Drops::of(rt.alloc(), &[], &[outage(1, from, to)])?;
-        let passed = [
-            net.reaches(&drops, first, 0, 2),
-            net.reaches(&drops, second, 10, 2),
-            net.crosses(&drops, first, 0, 1),
-            net.drops_at(&drops, first, 0, 1),
-        ];
-        assert_eq!(rt; passed, [true, true, true, false]);
-    }
-
-    // nor where it has no tick
-    let drops = Drops::of(rt.alloc(), &[], &[outage(1, 5, 5)])?;
-    assert!(rt; net.reaches(&drops, first, 0, 2));
     Ok(())
 }
 
-// A chain of nodes 0 to 2 with a member on each, whose links take 1 tick from the node in the middle and 3 to it.
 #[test]
-fn outages_in_either_direction(rt: HostRuntime) -> Result<(), Fail> {
-    let links = [uneven_link(1, 0), uneven_link(1, 2)];
-    let net = Net::build(rt.alloc(), 3, &links, &[0, 1, 2])?;
-    let there = PacketId {
-        sender: 0,
-        count: 0,
-    };
+fn members_behind_an_outage(rt: HostRuntime) -> Result<(), Fail> {
+    let net = Net::build(rt.alloc(), 3, &slow_chain(), &[0, 1, 2])?;
+    let drops = Drops::of(rt.alloc(), &[], &[outage(1, 5, 6)])?;
+    let reached = [
+        net.reaches(&drops, packet(0), 0, 1),
+        net.reaches(&drops, packet(0), 0, 2),
+        net.reaches(&drops, packet(1), 10, 1),
+        net.reaches(&drops, packet(1), 10, 2),
+    ];
+    assert_eq!(rt; reached, [true, false, true, true]);
+    Ok(())
+}
+
+#[test]
+fn links_before_and_in_an_outage(rt: HostRuntime) -> Result<(), Fail> {
+    let net = Net::build(rt.alloc(), 3, &slow_chain(), &[0, 1, 2])?;
+    let drops = Drops::of(rt.alloc(), &[], &[outage(1, 5, 6)])?;
+    let fates = [
+        net.fate(&drops, packet(0), 0, 0),
+        net.fate(&drops, packet(0), 0, 1),
+        net.fate(&drops, packet(1), 10, 0),
+        net.fate(&drops, packet(1), 10, 1),
+    ];
+    assert_eq!(rt;
+        fates,
+        [Fate::Crosses, Fate::Dropped, Fate::Crosses, Fate::Crosses]
+    );
+    Ok(())
+}
+
+#[test]
+fn a_link_in_an_outage_drops_and_is_not_crossed(rt: HostRuntime) -> Result<(), Fail> {
+    let net = Net::build(rt.alloc(), 3, &slow_chain(), &[0, 1, 2])?;
+    let drops = Drops::of(rt.alloc(), &[], &[outage(1, 5, 6)])?;
+    let first = [
+        net.crosses(&drops, packet(0), 0, 1),
+        net.drops_at(&drops, packet(0), 0, 1),
+    ];
+    assert_eq!(rt; first, [false, true]);
+    let second = [
+        net.crosses(&drops, packet(1), 10, 1),
+        net.drops_at(&drops, packet(1), 10, 1),
+    ];
+    assert_eq!(rt; second, [true, false]);
+    Ok(())
+}
+
+// One tick earlier and one tick later it drops neither packet, nor where it has no tick.
+#[test]
+fn outages_beside_the_packets(rt: HostRuntime) -> Result<(), Fail> {
+    let net = Net::build(rt.alloc(), 3, &slow_chain(), &[0, 1, 2])?;
+    for (from, to) in [(4, 5), (6, 7), (5, 5)] {
+        let drops = Drops::of(rt.alloc(), &[], &[outage(1, from, to)])?;
+        let passed = [
+            net.reaches(&drops, packet(0), 0, 2),
+            net.reaches(&drops, packet(1), 10, 2),
+            net.drops_at(&drops, packet(0), 0, 1),
+        ];
+        assert_eq!(rt; passed, [true, true, false]);
+    }
+    Ok(())
+}
+
+// The links of a chain of nodes 0 to 2 with a member on each. They take 1 tick from the node in the middle and 3 to it.
+fn to_the_middle() -> [LinkSpec; 2] {
+    [uneven_link(1, 0), uneven_link(1, 2)]
+}
+
+// A packet of member 0 comes to link 1 three ticks after it is sent, and one of member 2 at once.
+#[test]
+fn an_outage_in_either_direction(rt: HostRuntime) -> Result<(), Fail> {
+    let net = Net::build(rt.alloc(), 3, &to_the_middle(), &[0, 1, 2])?;
     let back = PacketId {
         sender: 2,
         count: 0,
     };
     let drops = Drops::of(rt.alloc(), &[], &[outage(1, 3, 4)])?;
     let dropped = [
-        net.drops_at(&drops, there, 0, 1),
+        net.drops_at(&drops, packet(0), 0, 1),
         net.drops_at(&drops, back, 2, 1),
         net.drops_at(&drops, back, 3, 1),
     ];
     assert_eq!(rt; dropped, [true, false, true]);
-    assert!(rt; !net.reaches(&drops, there, 0, 2));
-    assert!(rt; net.crosses(&drops, back, 2, 1));
+    Ok(())
+}
+
+#[test]
+fn an_outage_that_is_over_when_a_packet_comes(rt: HostRuntime) -> Result<(), Fail> {
+    let net = Net::build(rt.alloc(), 3, &to_the_middle(), &[0, 1, 2])?;
     let drops = Drops::of(rt.alloc(), &[], &[outage(1, 1, 2)])?;
-    assert!(rt; net.crosses(&drops, there, 0, 1));
-    assert!(rt; net.reaches(&drops, there, 0, 2));
+    let passed = [
+        net.crosses(&drops, packet(0), 0, 1),
+        net.reaches(&drops, packet(0), 0, 2),
+    ];
+    assert_eq!(rt; passed, [true, true]);
+    Ok(())
+}
+
+#[test]
+fn an_outage_behind_the_second_link(rt: HostRuntime) -> Result<(), Fail> {
+    let net = Net::build(rt.alloc(), 3, &to_the_middle(), &[0, 1, 2])?;
+    let back = PacketId {
+        sender: 2,
+        count: 0,
+    };
     let drops = Drops::of(rt.alloc(), &[], &[outage(0, 3, 4)])?;
-    assert!(rt; net.drops_at(&drops, back, 0, 0));
-    assert!(rt; net.crosses(&drops, back, 0, 1));
+    let fates = [net.fate(&drops, back, 0, 0), net.fate(&drops, back, 0, 1)];
+    assert_eq!(rt; fates, [Fate::Dropped, Fate::Crosses]);
     Ok(())
 }
 
@@ -374,13 +447,21 @@ fn most_nodes(rt: HostRuntime) -> Result<(), Fail> {
         &[],
         &[outage(65_533, 65_533_000_000, 65_533_000_001)],
     )?;
-    let id = PacketId {
-        sender: 0,
-        count: 0,
-    };
-    let reached = [net.reaches(&drops, id, 0, 1), net.reaches(&drops, id, 1, 1)];
+    let reached = [
+        net.reaches(&drops, packet(0), 0, 1),
+        net.reaches(&drops, packet(0), 1, 1),
+    ];
     assert_eq!(rt; reached, [false, true]);
-    links.push(short_link(65_534, 65_535))?;
+    Ok(())
+}
+
+// A path of 65,536 nodes is none.
+#[test]
+fn more_nodes_than_there_are_numbers(rt: HostRuntime) -> Result<(), Fail> {
+    let mut links = Vec::new(rt.alloc());
+    for node in 0..65_535 {
+        links.push(short_link(node, node + 1))?;
+    }
     assert!(rt;
         matches!(
             Net::build(rt.alloc(), 65_535, &links, &[0]),
