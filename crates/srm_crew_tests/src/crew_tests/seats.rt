@@ -14,8 +14,10 @@ pub(crate) fn counted(ledger: &Ledger, mut seat: Seat, count: u64) -> Option<Sea
     if ledger.links() == 0 {
         return None;
     }
-    ledger.add(&mut seat, 0, Kind::Drawop, count).ok()?;
-    Some(seat)
+    match ledger.add(&mut seat, 0, Kind::Drawop, count) {
+        Ok(()) => Some(seat),
+        Err(_) => None,
+    }
 }
 
 /// The first half of the first half and so on, after so many splits, and the second halves, the last one last.
