@@ -1,8 +1,8 @@
 -- Cells that hear the packets of rows, as cells that hear packets.
-use Rattle.std.proofs.Common.{◌≡◌, ℕ, zero, suc, ◌+◌, ◌<◌, ◌≤◌, List, [], ◌∷◌, ◌++◌, All, length, map, get_or, take, drop}
-use Rattle.std.proofs.Common.{Option, Some, None, option_map, refl, sym, ap, ◌∙◌, subst, arith, slice_get, zero-add, append_assoc}
+use Rattle.std.proofs.Common.{◌≡◌, ℕ, zero, suc, ◌+◌, ◌<◌, ◌≤◌, List, [], ◌∷◌, ◌++◌, All, length, map, get_or, take, drop, IsPermutation}
+use Rattle.std.proofs.Common.{Option, Some, None, option_map, refl, sym, ap, ◌∙◌, subst, arith, slice_get, zero-add}
 use Rattle.std.proofs.Math.Seq.{split_at}
-use Rattle.std.proofs.lemmas.List.Elements.{length_all_zip}
+use Rattle.std.proofs.lemmas.List.Sorted.{IsPermutation-refl, length_permutation}
 use Rattle.std.proofs.lemmas.Option.{slice_get-get_or}
 use Rattle.std.specs.List.{AllZip, cons_option}
 use Rattle.std.specs.Global.{Vec}
@@ -14,7 +14,6 @@ use Rattle.srm_member.specs.Record.{Record}
 use Rattle.srm_cell.specs.declared.cell.Cell.{Cell}
 use Rattle.srm_cell.specs.Setting.{Traffic, Setting}
 use Rattle.srm_cell.specs.Cells.{PlainCell, hear}
-use Rattle.srm_cell.specs.Flights.{BringsNone}
 use Rattle.srm_cell.specs.OwnRuns.{hear_rows, told_to}
 use Rattle.srm_cell.specs.Crossings.{packets_of, joined}
 use Rattle.srm_cell.specs.Views.{IsCell}
@@ -94,6 +93,31 @@ module _ (s : Setting) where
           let sender = n.1 in
           let sent = n.2 in
           (omega (arith, same), omega (arith, early))
+
+-- ---- packets in another order
+
+-- rows that send these packets, in all else like one row
+abbrev sending_rows : Row → List Packet → List Row
+sending_rows r ps = map (λ (p : Packet). record r { sent = Some p }) ps
+
+their_packets : (r : Row) (ps : List Packet) → packets_of (sending_rows r ps) ≡ ps
+their_packets r [] = refl
+their_packets r (p ∷ ps) = ap (λ l. p ∷ l) (their_packets r ps)
+
+no_packets : (ps : List Packet) → length ps ≡ 0 → [] ≡ ps
+no_packets [] e = refl
+no_packets (p ∷ ps) e = absurd (omega arith)
+
+-- where packets are those of rows in another order, there are rows that send them so
+pub rows_that_send : (rows : List Row) (ps : List Packet) → IsPermutation (packets_of rows) ps
+    → (others : List Row) × IsPermutation (packets_of rows) (packets_of others) × (packets_of others ≡ ps)
+rows_that_send [] ps h = let none = no_packets ps (length_permutation [] ps h) in ([], IsPermutation-refl [], none)
+rows_that_send (r ∷ rows) ps h =
+    let is = their_packets r ps in (
+      sending_rows r ps,
+      subst (IsPermutation (packets_of (r ∷ rows))) (sym is) h,
+      is,
+    )
 
 -- ---- cells
 

@@ -20,7 +20,7 @@ use Rattle.srm_cell.specs.declared.job.Job.{Job}
 use Rattle.srm_cell.specs.declared.job.Done as job
 use Rattle.srm_cell.specs.Setting.{Traffic, Setting, IsFit, setting_of}
 use Rattle.srm_cell.specs.Cells.{Event, Full, Spent}
-use Rattle.srm_cell.specs.Crossings.{joined, crossings}
+use Rattle.srm_cell.specs.Crossings.{joined, packets_of, crossings}
 use Rattle.srm_cell.specs.Jobs as cell
 use Rattle.srm_cell.proofs.FitSettings.{settings_are_fit}
 use Rattle.srm_crew.specs.declared.fault.CrewFault.{CrewFault}
@@ -58,7 +58,7 @@ use Rattle.srm_model.proofs.Sequential.{good_reached}
 use Rattle.srm_engine.proofs.Stepping.{opening_trace}
 use Rattle.srm_model.proofs.WindowJobs.{jobs_run_all}
 use Rattle.srm_model.proofs.WindowRows.{own_rows_are_sorted}
-use Rattle.srm_model.proofs.AnyOrder.{packets_are_heard_in_any_order}
+use Rattle.srm_model.proofs.AnyOrder.{packets_are_heard_in_any_order, heard_by_packets}
 use Rattle.srm_model.proofs.WindowEnds.{widths_are_rules, promises_are_a_rule, starts_tell}
 use Rattle.srm_model.proofs.WindowChain.{windows_are_reached, windows_follow, refused_windows_meet_full, calls_follow}
 
@@ -259,19 +259,21 @@ module _ {M : Type 0} (f : M → Record) (e : WindowEngine M) (is : IsUnderWay f
       listed_is : listed ≡ joined (rows_in ran.results)
       listed_is = ap (λ l. joined (some_of l)) ran.rows ∙ joined_some (rows_in ran.results)
 
-      in_any_order : AreNewInTurn s.traffic listed (cells_in ran.results)
-          × ((others : List Row) → IsPermutation (joined (rows_in ran.results)) others
-          → each_hears s.traffic 0 listed (cells_in ran.results) ≡ each_hears s.traffic 0 others (cells_in ran.results))
-      in_any_order = packets_are_heard_in_any_order s w end fit reached within safe ran.results listed ran.alone
-          (subst (IsPermutation (joined (rows_in ran.results))) (sym listed_is) (IsPermutation-refl (joined (rows_in ran.results))))
-
-      pub new_in_turn : AreNewInTurn s.traffic listed (cells_in ran.results)
-      new_in_turn = in_any_order.0
+      -- the packets of the lists' rows may be heard in any order, and are heard so as in the lists' own
+      pub heard_in_order : (others : List Row) → IsPermutation (packets_of listed) (packets_of others)
+          → AreNewInTurn s.traffic others (cells_in ran.results)
+          × (each_hears s.traffic 0 others (cells_in ran.results) ≡ each_hears s.traffic 0 listed (cells_in ran.results))
+      heard_in_order others h =
+          let told = heard_by_packets s w end fit reached within safe ran.results ran.alone others
+          (subst (λ l. IsPermutation (packets_of l) (packets_of others)) listed_is h) in
+          (told.0, told.1 ∙ ap (λ l. each_hears s.traffic 0 l (cells_in ran.results)) (sym listed_is))
 
       -- heard so, they are heard as any merge of the lists
       pub heard_as : (rows : List Row) → IsPermutation listed rows
           → each_hears s.traffic 0 listed (cells_in ran.results) ≡ each_hears s.traffic 0 rows (cells_in ran.results)
-      heard_as rows h = in_any_order.1 rows (subst (λ l. IsPermutation l rows) listed_is h)
+      heard_as rows h = (packets_are_heard_in_any_order s w end fit reached within safe ran.results listed ran.alone
+          (subst (IsPermutation (joined (rows_in ran.results))) (sym listed_is) (IsPermutation-refl (joined (rows_in ran.results))))).1
+          rows (subst (λ l. IsPermutation l rows) listed_is h)
 
     module _ (ds : List (job.Done M)) (ran : WindowRan f e seed end w ds) (rows : List Row)
         (merged : IsPermutation (joined (some_of (lists_of ds))) rows × IsSorted row_cmp rows) where

@@ -1,6 +1,6 @@
 -- The cells of all members, those of each job together.
 use Rattle.std.specs.Prelude.{◌≡◌, ◌+◌, ◌/◌, ◌<◌, ◌≤◌, ℕ, suc, List, [], ◌∷◌, ◌++◌, length, map, slice_get, slice_set}
-use Rattle.std.specs.Prelude.{Some}
+use Rattle.std.specs.Prelude.{Some, IsPermutation}
 use Rattle.std.specs.Global.{Vec}
 use Rattle.srm_net.specs.declared.packet.Packet.{Packet}
 use Rattle.srm_net.specs.declared.packet.PacketId.{PacketId}
@@ -13,6 +13,7 @@ use Rattle.srm_cell.specs.Flights.{BringsNone}
 use Rattle.srm_cell.specs.Setting.{Setting}
 use Rattle.srm_cell.specs.Cells.{PlainCell, hear_at}
 use Rattle.srm_cell.specs.Jobs as cell
+use Rattle.srm_cell.specs.Crossings.{packets_of}
 use Rattle.srm_model.specs.Hearing.{IsUnheard, heard_below}
 use Rattle.srm_engine.specs.Seen.{AreCellsInOrder}
 use Rattle.srm_engine.specs.declared.groups.Groups.{Groups}
@@ -154,3 +155,14 @@ module _ {M : Type 0} where
   abbrev pub Hears : (M → Record) → Setting → List Row → Groups M → Groups M → Type 0
   Hears f s rows old new =
       (ps : List PlainCell) → AreKept f s old ps → AreKept f s new (each_hears s.traffic 0 rows ps)
+
+  -- the packets of rows may be handed out in any order
+  abbrev pub MayHearInAnyOrder : (M → Record) → Setting → List Row → Groups M → Type 0
+  MayHearInAnyOrder f s rows e =
+      (ps : List PlainCell) × AreKept f s e ps × (length ps ≡ s.traffic.members)
+      × ((others : List Row) → IsPermutation (packets_of rows) (packets_of others) → AreNewInTurn s.traffic others ps)
+
+  -- after that every cell has heard them in some order
+  abbrev pub HearsInSomeOrder : (M → Record) → Setting → List Row → Groups M → Groups M → Type 0
+  HearsInSomeOrder f s rows old new =
+      (others : List Row) × IsPermutation (packets_of rows) (packets_of others) × Hears f s others old new

@@ -10,9 +10,10 @@ ghost use Rattle.srm_engine.specs.Seen.{AreCellsInOrder};
 ghost use Rattle.srm_engine.specs.Groups.{AreCuts, sizes, all_in, jobs_with, groups_of, lists_of, some_of};
 ghost use Rattle.srm_engine.specs.Groups.{IsCut, AreKept, MayLookAgain, LooksAgain};
 ghost use Rattle.srm_engine.specs.Groups.{MayHand, HandsIn, MayDeliverIn, DeliversIn, MayHear, Hears};
+ghost use Rattle.srm_engine.specs.Groups.{MayHearInAnyOrder, HearsInSomeOrder};
 
 use crate::ends::way;
-use crate::sent::{are_enough, sent_in};
+use crate::sent::{are_enough, in_order_of_sending, sent_in};
 use crate::soonest::{Soonest, soonest_in, soonest_of_each};
 use srm_cell::arrival::arrival;
 use srm_cell::cell::Cell;
@@ -177,8 +178,8 @@ impl<M: Participant> Groups<M> {
         Ok(())
     }
 
-    /// The groups after every member heard the packets of the lists' rows, one list after the other. A crew shares them where there is
-    /// enough to hear.
+    /// The groups after every member heard the packets of the lists' rows, in some order. A crew shares them where there is enough to
+    /// hear.
     pub(crate) fn heard_by<C: Crew<M>>(
         self,
         alloc: Global,
@@ -191,13 +192,13 @@ impl<M: Participant> Groups<M> {
         requires serves { C.serves crew.old scenario.now net.now }
         requires network { net.now ≡ network_of scenario.now }
         requires until { scenario.now.until ≤ end_of_time }
-        requires may { (seed : ℕ) × MayHear M.plain
+        requires may { (seed : ℕ) × MayHearInAnyOrder M.plain
             (setting_of scenario.now net.now seed) (joined (map (λ v. v.items) lists.now)) self }
         ensures ready { C.ready crew.new }
         ensures serves { C.serves crew.new scenario.now net.now }
         ensures handed { C.handed crew.old [] crew.new }
         ensures cut { IfOk result (λ heard. heard.cut ≡ self.cut) }
-        ensures heard { IfOk result (λ heard. (seed : ℕ) → Hears M.plain
+        ensures heard { IfOk result (λ heard. (seed : ℕ) → HearsInSomeOrder M.plain
             (setting_of scenario.now net.now seed) (joined (map (λ v. v.items) lists.now)) self heard) }
     {
         if !are_enough(lists, scenario.members()) {
@@ -206,7 +207,8 @@ impl<M: Participant> Groups<M> {
             return Ok(groups);
         }
         let Groups { cut, groups, .. } = self;
-        let sent = sent_in(alloc, scenario, net, lists)?;
+        let listed = sent_in(alloc, scenario, net, lists)?;
+        let sent = in_order_of_sending(listed)?;
         let groups = crew.hear(alloc, scenario, net, sent, groups)?;
         let soon = soonest_of_each(alloc, scenario, net, groups.as_slice(), cut)?;
         Ok(Groups { cut, groups, soon })

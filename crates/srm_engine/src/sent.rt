@@ -1,5 +1,5 @@
 //! What was sent in rows.
-ghost use Rattle.std.specs.Prelude.{◌≡◌, ◌++◌, IfOk, All, map};
+ghost use Rattle.std.specs.Prelude.{◌≡◌, ◌++◌, IfOk, All, IsPermutation, map};
 ghost use Rattle.srm_scenario.specs.Plain.{network_of};
 ghost use Rattle.srm_cell.specs.Crossings.{joined, packets_of};
 ghost use Rattle.srm_cell.specs.Hearing.{IsSent, packets_in};
@@ -68,4 +68,16 @@ fn add_sent(
         }
     }
     Ok(())
+}
+
+/// What was sent, by the time of sending, and then by sender and count.
+///
+/// So most packets come to each member in order of their arrivals, which an inbox takes at the end of its line. No promise stands on
+/// the order.
+pub(crate) fn in_order_of_sending(sent: Vec<Sent>) -> Result<Vec<Sent>, AllocError>
+    ensures { IfOk result (λ all. IsPermutation sent.items all.items) }
+{
+    let mut sent = sent;
+    sent.sort_by_key(|one| (one.packet.sent, one.packet.id))?;
+    Ok(sent)
 }

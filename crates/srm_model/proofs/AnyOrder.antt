@@ -1,11 +1,12 @@
 -- The packets of a window's rows, heard in any order.
 use Rattle.std.proofs.Common.{◌≡◌, ◌≢◌, ℕ, suc, ◌<◌, ◌≤◌, ◌+◌, true, false, List, [], ◌∷◌, ◌++◌, refl, sym, ap, ◌∙◌, subst, arith}
-use Rattle.std.proofs.Common.{Option, Some, None, Bool, inl, inr, append_assoc, Equal}
+use Rattle.std.proofs.Common.{Option, Some, None, Bool, inl, inr, append_assoc, zero-add, Equal}
 use Rattle.srm_net.specs.Orders.{ordered}
-use Rattle.std.specs.List.{Contains, count_by}
+use Rattle.std.specs.List.{Contains, count_by, cons_option}
 use Rattle.std.specs.List.Sorted.{IsPermutation}
-use Rattle.std.proofs.lemmas.List.Elements.{Contains-append_left, Contains-append_right, Contains-append_cases}
-use Rattle.std.proofs.lemmas.List.Sorted.{sum_by-IsPermutation, Contains-permutation, IsPermutation-sym}
+use Rattle.std.proofs.lemmas.List.Elements.{Contains-append_left, Contains-append_right, Contains-append_cases, Contains-push_cases}
+use Rattle.std.proofs.lemmas.List.Elements.{filter_map-append}
+use Rattle.std.proofs.lemmas.List.Sorted.{sum_by-IsPermutation, Contains-permutation, IsPermutation-refl, IsPermutation-sym}
 use Rattle.std.proofs.lemmas.List.Sums.{sum_by-append}
 use Rattle.srm_net.specs.declared.packet.PacketId.{PacketId}
 use Rattle.srm_net.specs.declared.packet.Packet.{Packet}
@@ -17,7 +18,7 @@ use Rattle.srm_cell.specs.Flights.{flight_cmp, numbers_of_flight}
 use Rattle.srm_cell.specs.Setting.{Traffic, Setting, IsFit, arrival_of}
 use Rattle.srm_cell.specs.Cells.{PlainCell, hear, hear_at}
 use Rattle.srm_cell.specs.OwnRuns.{hear_rows, told_to}
-use Rattle.srm_cell.specs.Crossings.{joined}
+use Rattle.srm_cell.specs.Crossings.{joined, packets_of}
 use Rattle.srm_cell.proofs.CellSteps.{flight_total}
 use Rattle.srm_model.specs.World.{World, row_cmp, IsReached}
 use Rattle.srm_model.specs.Handed.{SentIn, same_packet}
@@ -25,7 +26,7 @@ use Rattle.srm_model.specs.Schedules.{IsSafe}
 use Rattle.srm_model.specs.WindowRuns.{OwnResult, AreOwnRuns, rows_in, cells_in, each_hears, AreNewInTurn, IsMerge, after_window}
 use Rattle.srm_model.specs.WindowLaws.{PacketsAreHeardInAnyOrder}
 use Rattle.srm_model.proofs.HandedOnce.{packets_are_their_identities}
-use Rattle.srm_model.proofs.TraceRows.{count_first, count_none, sent_more, is_same, not_same, same_self}
+use Rattle.srm_model.proofs.TraceRows.{count_first, count_none, contains_none, sent_more, is_same, not_same, same_self}
 use Rattle.srm_model.proofs.OneWindow.{windows_agree, some_merge}
 use Rattle.srm_model.proofs.WindowPackets.{window_packets_are_new, later_is_new, split_at, new_after}
 
@@ -196,6 +197,63 @@ none_sends k rows h = count_none (λ (r : Row). is_packet k r.sent) rows (λ r a
     by r at None e = ap (is_packet k) e
     by r at (Some p) e = ap (is_packet k) e ∙ not_same k p.id (λ s. h p (r, at, e) (sym s))
 
+-- ---- rows that send the same packets
+
+in_packets : (p : Packet) (rows : List Row) → SentIn p rows → Contains (packets_of rows) p
+in_packets p rows h =
+    let cut = split_at rows h.0 h.1 in
+    let here : packets_of (h.0 ∷ cut.1) ≡ p ∷ packets_of cut.1 = ap (λ o. cons_option o (packets_of cut.1)) h.2 in
+    let whole : packets_of rows ≡ packets_of cut.0 ++ p ∷ packets_of cut.1 = ap packets_of cut.2
+    ∙ filter_map-append (λ (r : Row). r.sent) cut.0 (h.0 ∷ cut.1) ∙ ap (λ l. packets_of cut.0 ++ l) here in
+    subst (λ l. Contains l p) (sym whole) (Contains-append_right (packets_of cut.0) (p ∷ packets_of cut.1) p
+    (Contains-append_left (p ∷ []) (packets_of cut.1) p (0, omega arith, refl)))
+
+from_packets : (p : Packet) (rows : List Row) → Contains (packets_of rows) p → SentIn p rows
+from_packets p [] h = absurd (contains_none p h)
+from_packets p (r ∷ rows) h = by r.sent refl (λ g. from_packets p rows g) h
+  where
+    by : (o : Option Packet) → r.sent ≡ o → (Contains (packets_of rows) p → SentIn p rows) → Contains (cons_option o (packets_of rows)) p
+        → SentIn p (r ∷ rows)
+    by None e more h = sent_later p r rows (more h)
+    by (Some q) e more h = elim (Contains-append_cases (q ∷ []) (packets_of rows) p h) [
+      | inl g ↦ elim (Contains-push_cases [] q p g) [
+        | inl none ↦ absurd (contains_none p none)
+        | inr is ↦ sent_first p r rows (e ∙ ap Some is)
+      ]
+      | inr g ↦ sent_later p r rows (more g)
+    ]
+
+sendings_of_packets : (k : PacketId) (rows : List Row)
+    → sendings k rows ≡ count_by (λ (p : Packet). same_packet k p.id) (packets_of rows)
+sendings_of_packets k [] = refl
+sendings_of_packets k (r ∷ rows) = sendings_first k r rows ∙ by r.sent (sendings_of_packets k rows)
+  where
+    by : (o : Option Packet) → sendings k rows ≡ count_by (λ (p : Packet). same_packet k p.id) (packets_of rows)
+        → one_if (is_packet k o) + sendings k rows ≡ count_by (λ (p : Packet). same_packet k p.id) (cons_option o (packets_of rows))
+    by None more = zero-add (sendings k rows) ∙ more
+    by (Some p) more = ap (λ n. one_if (same_packet k p.id) + n) more
+        ∙ sym (count_first (λ (q : Packet). same_packet k q.id) p (packets_of rows))
+
+-- what the second rows send the first do, and each identity as often
+record SendAlike (xs ys : List Row) : Type 0 where
+  sent : (p : Packet) → SentIn p ys → SentIn p xs
+  as_often : (k : PacketId) → sendings k ys ≡ sendings k xs
+
+alike_by_rows : (xs ys : List Row) → IsPermutation xs ys → SendAlike xs ys
+alike_by_rows xs ys h = record {
+  sent = λ p s. (s.0, Contains-permutation ys xs s.0 (IsPermutation-sym xs ys h) s.1, s.2);
+  as_often = λ k. sendings_keep k xs ys h;
+}
+
+alike_by_packets : (xs ys : List Row) → IsPermutation (packets_of xs) (packets_of ys) → SendAlike xs ys
+alike_by_packets xs ys h = record {
+  sent = λ p s. from_packets p xs
+      (Contains-permutation (packets_of ys) (packets_of xs) p (IsPermutation-sym (packets_of xs) (packets_of ys) h) (in_packets p ys s));
+  as_often = λ k. sendings_of_packets k ys
+      ∙ sum_by-IsPermutation (λ (p : Packet). one_if (same_packet k p.id)) (packets_of xs) (packets_of ys) h
+      ∙ sym (sendings_of_packets k xs);
+}
+
 module _ (s : Setting) (w : World) (end : ℕ) (fit : IsFit s) (reached : IsReached s w) (within : end ≤ s.traffic.until)
     (safe : IsSafe s end w) (results : List OwnResult) (alone : AreOwnRuns end 0 w.cells results) where
   abbrev lists : List Row
@@ -214,37 +272,39 @@ module _ (s : Setting) (w : World) (end : ℕ) (fit : IsFit s) (reached : IsReac
   there = (windows_agree s w v end fit reached within safe
       (record { results = results; rows = all; alone = alone; merged = merge; is = refl })).1
 
-  module _ (rows : List Row) (perm : IsPermutation lists rows) where
-    all_of : (r : Row) → Contains rows r → Contains all r
-    all_of r at = Contains-permutation lists all r merge.all (Contains-permutation rows lists r (IsPermutation-sym lists rows perm) at)
+  module _ (rows : List Row) (alike : SendAlike lists rows) where
+    in_all : (p : Packet) → SentIn p rows → SentIn p all
+    in_all p h = let row = alike.sent p h in (row.0, Contains-permutation lists all row.0 merge.all row.1, row.2)
 
     known : (p : Packet) → SentIn p rows → SentIn p v.trace
-    known p h = (h.0, Contains-append_right w.trace all h.0 (all_of h.0 h.1), h.2)
+    known p h = let row = in_all p h in (row.0, Contains-append_right w.trace all row.0 row.1, row.2)
 
     new_in_turn : AreNewInTurn s.traffic rows (cells_in results)
     new_in_turn before after r p split sent =
         let at : Contains rows r = subst (λ l. Contains l r) (sym split) (Contains-append_right before (r ∷ after) r
         (Contains-append_left (r ∷ []) after r (0, omega arith, refl))) in
-        let cut = split_at all r (all_of r at) in
-        let told = window_packets_are_new s w end fit reached within safe results all alone merge cut.0 cut.1 r p cut.2 sent in
-        let whole : v.trace ≡ (w.trace ++ cut.0) ++ r ∷ cut.1 = ap (λ l. w.trace ++ l) cut.2
-        ∙ sym (append_assoc w.trace cut.0 (r ∷ cut.1)) in
-        let earlier = later_is_new s v there (w.trace ++ cut.0) cut.1 r p whole sent in
+        let row = in_all p (r, at, sent) in
+        let x = row.0 in
+        let cut = split_at all x row.1 in
+        let told = window_packets_are_new s w end fit reached within safe results all alone merge cut.0 cut.1 x p cut.2 row.2 in
+        let whole : v.trace ≡ (w.trace ++ cut.0) ++ x ∷ cut.1 = ap (λ l. w.trace ++ l) cut.2
+        ∙ sym (append_assoc w.trace cut.0 (x ∷ cut.1)) in
+        let earlier = later_is_new s v there (w.trace ++ cut.0) cut.1 x p whole row.2 in
         let later : (q : Packet) → SentIn q cut.1 → q.id ≢ p.id = λ q h.
         let on = split_at cut.1 h.0 h.1 in
-        let further : v.trace ≡ ((w.trace ++ cut.0) ++ r ∷ on.0) ++ h.0 ∷ on.1 = whole
-        ∙ ap (λ l. (w.trace ++ cut.0) ++ r ∷ l) on.2 ∙ sym (append_assoc (w.trace ++ cut.0) (r ∷ on.0) (h.0 ∷ on.1)) in
-        let other = later_is_new s v there ((w.trace ++ cut.0) ++ r ∷ on.0) on.1 h.0 q further h.2 p
-        (r, Contains-append_right (w.trace ++ cut.0) (r ∷ on.0) r (Contains-append_left (r ∷ []) on.0 r (0, omega arith, refl)), sent) in
+        let further : v.trace ≡ ((w.trace ++ cut.0) ++ x ∷ on.0) ++ h.0 ∷ on.1 = whole
+        ∙ ap (λ l. (w.trace ++ cut.0) ++ x ∷ l) on.2 ∙ sym (append_assoc (w.trace ++ cut.0) (x ∷ on.0) (h.0 ∷ on.1)) in
+        let other = later_is_new s v there ((w.trace ++ cut.0) ++ x ∷ on.0) on.1 h.0 q further h.2 p
+        (x, Contains-append_right (w.trace ++ cut.0) (x ∷ on.0) x (Contains-append_left (x ∷ []) on.0 x (0, omega arith, refl)), row.2) in
         λ e. other (sym e) in
         let a = none_sends p.id cut.0 (λ q h. earlier q (h.0, Contains-append_right w.trace cut.0 h.0 h.1, h.2)) in
         let b = none_sends p.id cut.1 later in
         let c : sendings p.id all ≡ one_if (is_packet p.id r.sent) + sendings p.id (cut.0 ++ cut.1) =
-        ap (sendings p.id) cut.2 ∙ sendings_around p.id cut.0 r cut.1 in
+        ap (sendings p.id) cut.2 ∙ sendings_around p.id cut.0 x cut.1
+        ∙ ap (λ o. one_if (is_packet p.id o) + sendings p.id (cut.0 ++ cut.1)) (row.2 ∙ sym sent) in
         let d : sendings p.id (cut.0 ++ cut.1) ≡ sendings p.id cut.0 + sendings p.id cut.1 =
         sum_by-append (λ (q : Row). one_if (is_packet p.id q.sent)) cut.0 cut.1 in
-        let f : sendings p.id rows ≡ sendings p.id all = sendings_keep p.id lists rows perm
-        ∙ sym (sendings_keep p.id lists all merge.all) in
+        let f : sendings p.id rows ≡ sendings p.id all = alike.as_often p.id ∙ sym (sendings_keep p.id lists all merge.all) in
         let g : sendings p.id rows ≡ one_if (is_packet p.id r.sent) + sendings p.id (before ++ after) =
         ap (sendings p.id) split ∙ sendings_around p.id before r after in
         let i : sendings p.id (before ++ after) ≡ sendings p.id before + sendings p.id after =
@@ -263,14 +323,26 @@ module _ (s : Setting) (w : World) (end : ℕ) (fit : IsFit s) (reached : IsReac
         ] in
         (new_after s w end results before p reached alone other, told.1, told.2)
 
+  -- rows that send the packets of the window are heard alike, in whatever order they do
+  module _ (xs ys : List Row) (first : SendAlike lists xs) (second : SendAlike lists ys) where
+    heard_alike : AreNewInTurn s.traffic xs (cells_in results)
+        × (each_hears s.traffic 0 xs (cells_in results) ≡ each_hears s.traffic 0 ys (cells_in results))
+    heard_alike = (
+      new_in_turn xs first,
+      each_in_any_order s.traffic (λ p. SentIn p v.trace) (packets_are_their_identities s v there) xs ys
+          (λ k. first.as_often k ∙ sym (second.as_often k)) (known xs first) (known ys second) 0 (cells_in results),
+    )
+
+  -- the packets alone tell what is heard
+  pub heard_by_packets : (rows : List Row) → IsPermutation (packets_of lists) (packets_of rows)
+      → AreNewInTurn s.traffic rows (cells_in results)
+      × (each_hears s.traffic 0 rows (cells_in results) ≡ each_hears s.traffic 0 lists (cells_in results))
+  heard_by_packets rows h =
+      heard_alike rows lists (alike_by_packets lists rows h) (alike_by_rows lists lists (IsPermutation-refl lists))
+
 pub packets_are_heard_in_any_order : PacketsAreHeardInAnyOrder
 packets_are_heard_in_any_order s w end fit reached within safe results rows alone perm =
-    let g = λ (xs : List Row) (h : IsPermutation (joined (rows_in results)) xs).
-    known s w end fit reached within safe results alone xs h in
-    let u = v s w end fit reached within safe results alone in (
-      new_in_turn s w end fit reached within safe results alone rows perm,
-      λ others h. each_in_any_order s.traffic (λ p. SentIn p u.trace)
-          (packets_are_their_identities s u (there s w end fit reached within safe results alone)) rows others
-          (λ k. sendings_keep k (joined (rows_in results)) rows perm ∙ sym (sendings_keep k (joined (rows_in results)) others h))
-          (g rows perm) (g others h) 0 (cells_in results),
+    let alike = alike_by_rows (joined (rows_in results)) in (
+      new_in_turn s w end fit reached within safe results alone rows (alike rows perm),
+      λ others h. (heard_alike s w end fit reached within safe results alone rows others (alike rows perm) (alike others h)).1,
     )

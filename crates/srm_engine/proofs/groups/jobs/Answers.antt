@@ -1,4 +1,4 @@
-use Rattle.std.proofs.Common.{◌≡◌, ◌++◌, ◌∷◌, [], ◌∙◌, sym, ap, length, append_assoc, length-append, add-one}
+use Rattle.std.proofs.Common.{◌++◌, ◌∷◌, [], ◌∙◌, sym, ap, length, append_assoc, length-append, add-one}
 use Rattle.std.specs.Vec.Iter.{into_iter_items}
 use Rattle.srm_engine.specs.Groups.{jobs_with}
 use Rattle.srm_engine.proofs.groups.jobs.Goals as goal

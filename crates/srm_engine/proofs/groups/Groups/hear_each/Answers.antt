@@ -1,10 +1,10 @@
-use Rattle.std.proofs.Common.{refl, ◌≡◌, ◌∙◌, ℕ, List, sym, ap, subst, take, drop, map, ◌∷◌, ◌++◌, [], suc, ◌+◌, add-one}
+use Rattle.std.proofs.Common.{refl, ◌≡◌, ◌∙◌, List, sym, ap, subst, take, drop, map, ◌∷◌, ◌++◌, [], suc, ◌+◌, add-one}
 use Rattle.std.proofs.Common.{append_assoc, append-nil}
 use Rattle.std.proofs.Math.Seq.{split_at, take-suc}
 use Rattle.std.proofs.lemmas.List.{take_all, map-append}
 use Rattle.std.specs.Global.{Vec}
 use Rattle.srm_member.specs.declared.row.Row.{Row}
-use Rattle.srm_cell.specs.Setting.{Traffic, setting_of, traffic_of}
+use Rattle.srm_cell.specs.Setting.{setting_of, traffic_of}
 use Rattle.srm_cell.specs.Cells.{PlainCell}
 use Rattle.srm_cell.specs.Crossings.{joined}
 use Rattle.srm_cell.proofs.RowPackets.{joined-append}

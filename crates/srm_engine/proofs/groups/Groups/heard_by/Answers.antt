@@ -1,34 +1,57 @@
-use Rattle.std.proofs.Common.{◌≡◌, ◌∙◌, ◌≤◌, List, All, refl, sym, ap, subst, length, map, arith}
+use Rattle.std.proofs.Common.{◌≡◌, List, refl, sym, ap, subst, length, map, arith, IsPermutation}
+use Rattle.std.proofs.lemmas.List.Sorted.{IsPermutation-refl, IsPermutation-map, All-permutation}
 use Rattle.std.specs.Global.{Vec}
 use Rattle.srm_net.specs.declared.packet.Packet.{Packet}
 use Rattle.srm_member.specs.declared.row.Row.{Row}
+use Rattle.srm_cell.specs.declared.sent.Sent.{Sent}
 use Rattle.srm_cell.specs.Setting.{setting_of, traffic_of}
 use Rattle.srm_cell.specs.Crossings.{joined, packets_of}
-use Rattle.srm_cell.specs.Hearing.{packets_in}
+use Rattle.srm_cell.specs.Hearing.{IsSent, packets_in}
 use Rattle.srm_crew.specs.Hearers.{GroupsMayHear, GroupsHear}
 use Rattle.srm_crew.proofs.JobPieces.{all_each}
 use Rattle.srm_model.specs.WindowRuns.{each_hears}
 use Rattle.srm_model.proofs.WindowRows.{length-each_hears}
-use Rattle.srm_engine.specs.Groups.{AreCuts, AreGrouped, AreKept, sizes, all_in}
+use Rattle.srm_engine.specs.Groups.{AreCuts, AreGrouped, sizes, all_in}
 use Rattle.srm_engine.specs.SentRows.{MayBeSent}
-use Rattle.srm_engine.specs.Soonest.{AreSoonest}
-use Rattle.srm_engine.proofs.HeardRows.{may_be_sent, groups_may, groups_long, groups_heard}
+use Rattle.srm_engine.proofs.HeardRows.{may_be_sent, rows_that_send, groups_may, groups_long, groups_heard}
 use Rattle.srm_engine.proofs.groups.Groups.heard_by.Goals as goal
+
+-- the packets of the lists' rows, in the order of sending, are those of the rows in some order
+in_order : (lists : List (Vec Row)) (listed sent : List Sent)
+    → packets_in listed ≡ packets_of (joined (map (λ (v : Vec Row). v.items) lists)) → IsPermutation listed sent
+    → (others : List Row) × IsPermutation (packets_of (joined (map (λ (v : Vec Row). v.items) lists))) (packets_of others)
+    × (packets_of others ≡ packets_in sent)
+in_order lists listed sent is h =
+    rows_that_send (joined (map (λ (v : Vec Row). v.items) lists)) (packets_in sent)
+    (subst (λ l. IsPermutation l (packets_in sent)) is (IsPermutation-map (λ (x : Sent). x.packet) listed sent h))
+
+pub hear_each-requires-clause-may : goal.hear_each-requires-clause-may
+hear_each-requires-clause-may g c =
+    let n = c.requires.may.1 in
+    let rows = joined (map (λ (v : Vec Row). v.items) c.args.lists.now) in
+    (c.requires.may.0, (n.0, n.1, n.2, n.3 rows (IsPermutation-refl (packets_of rows))))
 
 pub sent_in-requires-clause-sent : goal.sent_in-requires-clause-sent
 sent_in-requires-clause-sent g c =
     let n = c.requires.may.1 in
     let s = setting_of c.args.scenario.now c.args.net.now c.requires.may.0 in
+    let rows = joined (map (λ (v : Vec Row). v.items) c.args.lists.now) in
     all_each (λ (r : Row). MayBeSent c.args.scenario.now r.sent) c.args.lists.now
-    (may_be_sent s c.args.scenario.now (joined (map (λ (v : Vec Row). v.items) c.args.lists.now)) n.0 n.3 refl c.requires.until)
+    (may_be_sent s c.args.scenario.now rows n.0 (n.3 rows (IsPermutation-refl (packets_of rows))) refl c.requires.until)
+
+pub hear-requires-clause-sent : goal.hear-requires-clause-sent
+hear-requires-clause-sent g c =
+    All-permutation (λ (x : Sent). IsSent c.args.scenario.now c.args.net.now x) c.in_ok-listed.listed.items c.in_ok-sent.sent.items
+    c.in_ok-sent.ensures c.in_ok-listed.ensures.sent
 
 pub hear-requires-clause-groups : goal.hear-requires-clause-groups
 hear-requires-clause-groups g c =
     let n = c.requires.may.1 in
     let s = setting_of c.args.scenario.now c.args.net.now c.requires.may.0 in
-    let rows = joined (map (λ (v : Vec Row). v.items) c.args.lists.now) in
-    subst (λ ps. GroupsMayHear g.M.Participant.plain s.traffic ps c.args.self.groups.items) (sym c.in_ok-sent.ensures.packets)
-    (groups_may g.M.Participant.plain s rows c.args.self.groups.items n.0 n.1.grouped.cells n.2 n.3)
+    let others = in_order c.args.lists.now c.in_ok-listed.listed.items c.in_ok-sent.sent.items c.in_ok-listed.ensures.packets
+    c.in_ok-sent.ensures in
+    subst (λ ps. GroupsMayHear g.M.Participant.plain s.traffic ps c.args.self.groups.items) others.2
+    (groups_may g.M.Participant.plain s others.0 c.args.self.groups.items n.0 n.1.grouped.cells n.2 (n.3 others.0 others.1))
 
 pub soonest_of_each-requires-clause-cut : goal.soonest_of_each-requires-clause-cut
 soonest_of_each-requires-clause-cut g c = c.requires.may.1.1.cut.0
@@ -46,33 +69,46 @@ pub soonest_of_each-requires-clause-members : goal.soonest_of_each-requires-clau
 soonest_of_each-requires-clause-members g c =
     let n = c.requires.may.1 in
     let s = setting_of c.args.scenario.now c.args.net.now c.requires.may.0 in
-    let rows = joined (map (λ (v : Vec Row). v.items) c.args.lists.now) in
+    let others = in_order c.args.lists.now c.in_ok-listed.listed.items c.in_ok-sent.sent.items c.in_ok-listed.ensures.packets
+    c.in_ok-sent.ensures in
     let heard = subst (λ (ps : List Packet). GroupsHear g.M.Participant.plain s.traffic ps c.args.self.groups.items
-    c.in_ok-groups.groups.items) c.in_ok-sent.ensures.packets c.in_ok-groups.ensures.heard in
-    let cells = groups_heard g.M.Participant.plain s rows c.args.self.groups.items c.in_ok-groups.groups.items n.0 heard
+    c.in_ok-groups.groups.items) (sym others.2) c.in_ok-groups.ensures.heard in
+    let cells = groups_heard g.M.Participant.plain s others.0 c.args.self.groups.items c.in_ok-groups.groups.items n.0 heard
     n.1.grouped.cells in
     let as_many = cells.as_many in
-    let long = length-each_hears s 0 rows n.0 in
+    let long = length-each_hears s 0 others.0 n.0 in
     let many = n.2 in
     let all = ap (λ l. length (all_in l)) c.as_slice.ensures.value in
     omega (arith, all, as_many, long, many)
 
-pub returns-clause-heard : goal.returns-clause-heard
-returns-clause-heard g c = λ seed ps h.
-    let s = setting_of c.args.scenario.now c.args.net.now seed in
+pub returns-then-not-are_enough-clause-heard : goal.returns-then-not-are_enough-clause-heard
+returns-then-not-are_enough-clause-heard g c = λ seed.
     let rows = joined (map (λ (v : Vec Row). v.items) c.args.lists.now) in
+    (rows, IsPermutation-refl (packets_of rows), c.in_ok-hear_each.ensures.heard seed)
+
+pub returns-clause-heard : goal.returns-clause-heard
+returns-clause-heard g c = λ seed.
+    let s = setting_of c.args.scenario.now c.args.net.now seed in
     let gs = c.args.self.groups.items in
     let hs = c.in_ok-groups.groups.items in
-    let heard = subst (λ (ps : List Packet). GroupsHear g.M.Participant.plain s.traffic ps gs hs) c.in_ok-sent.ensures.packets
-    c.in_ok-groups.ensures.heard in
-    let grouped : AreGrouped g.M.Participant.plain c.args.self.cut hs (each_hears s.traffic 0 rows ps) = record {
-      cells = groups_heard g.M.Participant.plain s rows gs hs ps heard h.grouped.cells;
-      cuts = subst (AreCuts c.args.self.cut) (groups_long g.M.Participant.plain s.traffic (packets_of rows) gs hs heard) h.grouped.cuts;
-    } in
-    record {
-      cut = h.cut;
-      grouped = grouped;
-      soon = c.in_ok-soon.ensures seed (each_hears s.traffic 0 rows ps)
-          (subst (λ l. AreGrouped g.M.Participant.plain c.args.self.cut l (each_hears s.traffic 0 rows ps))
-          (sym c.as_slice.ensures.value) grouped);
-    }
+    let others = in_order c.args.lists.now c.in_ok-listed.listed.items c.in_ok-sent.sent.items c.in_ok-listed.ensures.packets
+    c.in_ok-sent.ensures in
+    let rows = others.0 in
+    let heard = subst (λ (ps : List Packet). GroupsHear g.M.Participant.plain s.traffic ps gs hs) (sym others.2)
+    c.in_ok-groups.ensures.heard in (
+      rows,
+      others.1,
+      λ ps h.
+          let grouped : AreGrouped g.M.Participant.plain c.args.self.cut hs (each_hears s.traffic 0 rows ps) = record {
+            cells = groups_heard g.M.Participant.plain s rows gs hs ps heard h.grouped.cells;
+            cuts = subst (AreCuts c.args.self.cut) (groups_long g.M.Participant.plain s.traffic (packets_of rows) gs hs heard)
+                h.grouped.cuts;
+          } in
+          record {
+            cut = h.cut;
+            grouped = grouped;
+            soon = c.in_ok-soon.ensures seed (each_hears s.traffic 0 rows ps)
+                (subst (λ l. AreGrouped g.M.Participant.plain c.args.self.cut l (each_hears s.traffic 0 rows ps))
+                (sym c.as_slice.ensures.value) grouped);
+          },
+    )

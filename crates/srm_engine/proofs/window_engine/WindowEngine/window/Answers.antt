@@ -1,7 +1,7 @@
 use Rattle.std.proofs.Common.{◌≡◌, ◌∙◌, ◌++◌, ◌∷◌, [], sym, ap, subst, refl, arith, length, map, All, IsSorted, IsPermutation}
-use Rattle.srm_cell.specs.Crossings.{joined}
+use Rattle.srm_cell.specs.Crossings.{joined, packets_of}
 use Rattle.srm_model.specs.World.{row_cmp}
-use Rattle.srm_model.specs.WindowRuns.{cells_in, AreNewInTurn, jobs_of, each_hears}
+use Rattle.srm_model.specs.WindowRuns.{cells_in, jobs_of}
 use Rattle.srm_model.proofs.OneWindow.{some_merge}
 use Rattle.srm_net.specs.Orders.{ordered}
 use Rattle.srm_member.specs.declared.row.Row.{Row}
@@ -10,7 +10,7 @@ use Rattle.srm_engine.specs.Groups.{handed_jobs, all_in, sizes, lists_of, some_o
 use Rattle.srm_engine.specs.WindowEngines.{setting_by, lists_in}
 use Rattle.srm_engine.proofs.SoonGroups.{as_many_kept}
 use Rattle.srm_engine.proofs.WindowLemmas.{jobs_tell, jobs_tell_now, mapped, ran_now, map_refused, end_is}
-use Rattle.srm_engine.proofs.WindowLemmas.{new_in_turn, heard_as, after, one_more, counted_after, later}
+use Rattle.srm_engine.proofs.WindowLemmas.{heard_in_order, heard_as, after, one_more, counted_after, later}
 use Rattle.srm_engine.proofs.window_engine.WindowEngine.window.Goals as goal
 
 pub map-requires-clause-jobs : goal.map-requires-clause-jobs
@@ -84,8 +84,8 @@ heard_by-requires-clause-may g c =
         cells_in ran.results,
         c.look_again-groups.ensures.soon k.seed w.cells ran.results ran.alone grouped k.comes.kept.soon,
         ran.members,
-        subst (λ l. AreNewInTurn s.traffic l (cells_in ran.results)) (sym listed)
-            (new_in_turn g.M.Participant.plain c.args.self k k.seed k.begins w k.comes c.end-end.result c.end-end.ensures ds ran),
+        λ others h. (heard_in_order g.M.Participant.plain c.args.self k k.seed k.begins w k.comes c.end-end.result c.end-end.ensures
+            ds ran others (subst (λ l. IsPermutation (packets_of l) (packets_of others)) listed h)).0,
       ),
     )
 
@@ -112,8 +112,10 @@ returns-clause-window g c = λ seed begins w comes.
     ap (λ l. joined (map (λ (v : Vec Row). v.items) l)) c.as_slice.ensures.value ∙ ap joined c.in_ok-groups.ensures.lists in
     let end_at = end_is g.M.Participant.plain c.args.self k seed begins w comes c.end-end.result
     c.end-end.ensures in
-    let heard = c.in_ok-groups-2.ensures.heard seed cells
-    (c.look_again-groups.ensures.soon seed w.cells ran.results ran.alone grouped comes.kept.soon) in (
+    let others = c.in_ok-groups-2.ensures.heard seed in
+    let heard = others.2 cells (c.look_again-groups.ensures.soon seed w.cells ran.results ran.alone grouped comes.kept.soon) in
+    let in_order = (heard_in_order g.M.Participant.plain c.args.self k seed begins w comes c.end-end.result c.end-end.ensures
+    ds ran others.0 (subst (λ l. IsPermutation (packets_of l) (packets_of others.0)) listed others.1)).1 in (
       λ rows merge.
           let merged = subst (λ l. IsPermutation (joined l) rows × IsSorted row_cmp rows) c.in_ok-groups.ensures.lists
           (merge.all, merge.in_order) in (
@@ -123,8 +125,8 @@ returns-clause-window g c = λ seed begins w comes.
               windows = (one_more g.M.Participant.plain c.args.self k seed begins w comes
                   c.end-end.result c.end-end.ensures ds ran rows merged).0;
               kept = subst (λ qs. AreKept g.M.Participant.plain s c.in_ok-groups-2.groups qs)
-                  (ap (λ l. each_hears s.traffic 0 l cells) listed ∙ heard_as g.M.Participant.plain c.args.self k seed begins w comes
-                  c.end-end.result c.end-end.ensures ds ran rows merged.0) heard;
+                  (in_order ∙ heard_as g.M.Participant.plain c.args.self k seed begins w comes c.end-end.result c.end-end.ensures ds
+                  ran rows merged.0) heard;
               counted = counted_after g.M.Participant.plain c.args.self k seed begins w comes
                   c.end-end.result c.end-end.ensures ds ran rows merged c.in-Ok.done.1 told.1;
             },
