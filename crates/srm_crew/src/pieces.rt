@@ -12,6 +12,8 @@ use srm_cell::fault::CellFault;
 use srm_cell::job::{Done, Job};
 use srm_cell::sent::Sent;
 use srm_member::participant::Participant;
+use srm_member::row::Row;
+use srm_net::sequence::Sequence;
 use std::alloc::{AllocError, Global};
 use std::sync::Arc;
 
@@ -36,6 +38,27 @@ pub(crate) fn due_in_all<M: Participant>(jobs: &[Job<M>]) -> usize {
         due = due.saturating_add(due_in(job));
     }
     due
+}
+
+/// How many rows a call gave; none where it was refused.
+pub(crate) fn rows_given<M: Participant>(advanced: &Result<Vec<Done<M>>, CellFault>) -> usize {
+    let Ok(all) = advanced else {
+        return 0;
+    };
+    let mut rows: usize = 0;
+    for done in all {
+        rows = rows.saturating_add(rows_in(done.rows.as_slice()));
+    }
+    rows
+}
+
+// How many rows there are in the lists.
+fn rows_in(lists: &[Sequence<Row>]) -> usize {
+    let mut rows: usize = 0;
+    for list in lists {
+        rows = rows.saturating_add(list.len());
+    }
+    rows
 }
 
 /// The jobs in pieces, in order. A piece ends once something is due in `share` of its cells; but the one after so many `cuts` has all

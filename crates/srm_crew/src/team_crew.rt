@@ -18,7 +18,8 @@ use crate::fault::CrewFault;
 use crate::hearing::hear_groups;
 use crate::piece::Piece;
 use crate::pieces::{
-    advanced_of, due_in_all, even_pieces, heard_of, pieces_of, put_together, to_advance, to_hear,
+    advanced_of, due_in_all, even_pieces, heard_of, pieces_of, put_together, rows_given,
+    to_advance, to_hear,
 };
 use crate::worked::Worked;
 use srm_cell::cell::Cell;
@@ -35,7 +36,7 @@ use std::alloc::{AllocError, Global};
 use std::sync::Wait;
 
 /// Advances jobs on the threads of a team, which stay for the next call. It serves runs of one scenario, which it keeps with its
-/// network. The jobs of a call are handed to the team in as many pieces as it has room for. Where something is due in few cells, the
+/// network. The jobs of a call are handed to the team in as many pieces as it has room for. Where the call before gave few rows, the
 /// thread that calls does all the work: to wake the others would take longer.
 #[derive(Drop)]
 pub struct TeamCrew<'a, R: Wait, M: Participant, J: Naming> {
@@ -43,6 +44,7 @@ pub struct TeamCrew<'a, R: Wait, M: Participant, J: Naming> {
     team: Team<Advancing<'a>, Piece<M>, Worked<M>, J>,
     work: Advancing<'a>,
     few: usize,
+    rows: usize,
 }
 
 // Advances each job, in pieces that a team works on. Something is due in so many of their cells.
@@ -98,7 +100,7 @@ fn hear_in_team<'a, R: Wait, M: Participant, J: Naming>(
 }
 
 impl<'a, R: Wait, M: Participant, J: Naming> TeamCrew<'a, R, M, J> {
-    /// A crew that has this team, and does this work. The thread that calls does it where something is due in fewer than `few` cells,
+    /// A crew that has this team, and does this work. The thread that calls does it where the call before gave fewer than `few` rows,
     /// or where the team has room for no item. It does not allocate.
     ///
     /// A call of it is refused with `NoMemory` also after 2^62 calls of the team.
@@ -117,6 +119,7 @@ impl<'a, R: Wait, M: Participant, J: Naming> TeamCrew<'a, R, M, J> {
             team,
             work,
             few,
+            rows: 0,
         }
     }
 }
@@ -153,12 +156,13 @@ impl<'a, R: Wait, M: Participant, J: Naming> Crew<M> for TeamCrew<'a, R, M, J> {
         ensures done { Maps M.plain scenario.now net.now seat jobs.items result }
         ensures handed { IfOk result (λ _. (ps : List PlainJob) → AreJobs M.plain jobs.items ps → Unit {0}) }
     {
-        let due = due_in_all(jobs.as_slice());
-        let advanced = if due < self.few || self.team.room() == 0 {
+        let advanced = if self.rows < self.few || self.team.room() == 0 {
             advance_each(alloc, scenario, net, jobs)
         } else {
+            let due = due_in_all(jobs.as_slice());
             advance_in_team(&self.rt, alloc, &mut self.team, self.work, jobs, due)
         };
+        self.rows = rows_given(&advanced);
         settle(ledger, seat, advanced)
     }
 

@@ -32,8 +32,8 @@ use std::thread::{Threads, join_mut};
 /// How many pieces a worker has of the jobs, or the rows, of a window. Workers take them as they come free.
 pub(crate) const PIECES: usize = 4;
 
-// In how many cells something is due at least in a window in which the workers are woken.
-const ENOUGH: usize = 16;
+// How many rows the window before has at least where the workers are woken.
+const ENOUGH: usize = 512;
 
 // The run led by the crew that waits with its members.
 fn lead<M: Participant, C: Crew<M> + Drop, S: RowSink>(
