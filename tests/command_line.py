@@ -156,7 +156,8 @@ def star(members: int, draws: int) -> bytes:
     """A star of listeners round a node, but for a sender that draws so many times, every second tick: each hears each draw."""
     roles = "".join(member(node, "sender" if node == 1 else "listener") for node in range(1, members + 1))
     drawn = "".join(f"  {{ member = 0, page = 0, ink = 7, at = {2 * at} }},\n" for at in range(draws))
-    top = f"version = 1\nuntil = {2 * draws + 10}\nc1 = 0\nc2 = 0\nd1 = 0\nd2 = 0\n"
+    version = 1 if members < 256 else 2
+    top = f"version = {version}\nuntil = {2 * draws + 10}\nc1 = 0\nc2 = 0\nd1 = 0\nd2 = 0\n"
     top += f'topology = "star"\nsize = {members + 1}\ndelay = 1\n'
     return f"{top}member = [\n{roles}]\ndraw = [\n{drawn}]\n".encode()
 
@@ -326,16 +327,16 @@ class Crews(CommandLineCase):
     def test_each_worker_of_a_team_works(self) -> None:
         """By the processor time of each thread, of which one that is handed nothing takes none."""
         words = [*WINDOW, *LINKS, "--crew", "team", "--workers", "3"]
-        self.assertEqual(len(self.busy(words, star(255, 625), 3)), 3)
+        self.assertEqual(len(self.busy(words, star(1023, 625), 3)), 3)
 
     def test_each_worker_of_a_team_makes_text(self) -> None:
         """Besides those that work for the members, and the thread that leads."""
         words = [*WINDOW, "--crew", "team", "--workers", "3"]
-        self.assertEqual(len(self.busy(words, star(255, 2500), 5)), 5)
+        self.assertEqual(len(self.busy(words, star(1023, 625), 5)), 5)
 
     def test_the_threads_that_there_are_do_the_work_of_those_that_are_refused(self) -> None:
         """By the bytes, which are those of one event after the other, whichever thread is the first that is refused."""
-        text = star(64, 50)
+        text = star(1023, 20)
         tables = (([], 6), (LINKS, 3))
         for (table, of_team), crew in itertools.product(tables, ("team", "bag", "pool")):
             wanted = End(0, self.program.written(table, text), b"")

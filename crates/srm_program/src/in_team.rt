@@ -33,7 +33,7 @@ use std::thread::{Threads, join_mut};
 pub(crate) const PIECES: usize = 4;
 
 // How many rows the window before has at least where the workers are woken.
-const ENOUGH: usize = 2_048;
+const ENOUGH: usize = 1_000;
 
 // The run led by the crew that waits with its members.
 fn lead<M: Participant, C: Crew<M> + Drop, S: RowSink>(
