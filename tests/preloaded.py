@@ -24,6 +24,5 @@ class Library:
             return os.path.getsize(told.name)
 
     def refusing(self, number: int) -> Environment:
-        """The environment of a run to which the library refuses what has this number, or for threads this and each later one; 0 is of
-        none."""
+        """The environment of a run to which the library refuses what has this number, and each thread after it; 0 is of none."""
         return {"LD_PRELOAD": str(self.path), "REFUSE": str(number)}
