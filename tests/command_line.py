@@ -337,7 +337,7 @@ class Crews(CommandLineCase):
     def test_the_threads_that_there_are_do_the_work_of_those_that_are_refused(self) -> None:
         """By the bytes, which are those of one event after the other, whichever thread is the first that is refused."""
         text = star(1023, 20)
-        tables = (([], 6), (LINKS, 3))
+        tables = ((NO_WORDS, 6), (LINKS, 3))
         for (table, of_team), crew in itertools.product(tables, ("team", "bag", "pool")):
             wanted = End(0, self.program.written(table, text), b"")
             words = [*WINDOW, *table, "--crew", crew, "--workers", "4"]
