@@ -20,6 +20,11 @@ FEW_CASES := 100
 FEW_SCENARIOS := two-nodes chain-of-five-one-loss star-loss-at-the-source
 export RT
 
+# the scripts of `make test-program` and `make test-memory`, which with -j run side by side: those that take long begin first
+OF_PROGRAM := $(addprefix test-,compare hostile fuzz limits same-bytes command-line explanations refusals)
+OF_MEMORY := $(addprefix test-memory-,of-tests of-examples explained of-more)
+
+.PHONY: $(OF_PROGRAM) $(OF_MEMORY)
 .PHONY: build run try check test test-program test-memory fuzz bench install fmt clean help
 
 build: $(PROGRAM) ## proves and builds the program, if a source is newer than it (the first time some 25 minutes on 4 processors)
@@ -62,21 +67,48 @@ test: ## the merge gate: proves everything from nothing, with tests and must-fai
 	@tests/widths.py
 	@tests/links.py
 	@tests/versions.py
-	@tools/gate.py -- make --no-print-directory test-program test-memory
+	@tools/gate.py -- make --no-print-directory --keep-going --jobs=$(JOBS) --output-sync=target test-program test-memory
 
-test-program: $(PROGRAM) ## compares what the program prints with each file of examples/, and its refusals, and tries it at the format's limits and on some random scenarios
-	@tests/compare_program.py $(PROGRAM) examples tests/scenarios
-	@tests/refusals.py $(PROGRAM)
-	@tests/explanations.py $(PROGRAM)
-	@tests/hostile.py $(PROGRAM) -q
-	@tests/command_line.py $(PROGRAM) -q
-	@tests/limits.py $(PROGRAM)
-	@tests/same_bytes.py --runs $(FEW_CASES) $(PROGRAM)
+test-program: $(OF_PROGRAM) ## compares what the program prints with each file of examples/, and its refusals, and tries it at the format's limits and on some random scenarios
+
+test-memory: $(OF_MEMORY) ## refuses each allocation in turn, of the program on each example with each engine, on three with each table and each crew that takes threads, on each scenario whose explanation is stored, and of each test of members, roles, the ledger, crews and the drops of whole runs' boxes
+
+$(OF_PROGRAM) $(OF_MEMORY): $(PROGRAM)
+
+test-fuzz:
 	@tests/fuzz.py --from 1 --cases $(FEW_CASES) $(PROGRAM)
 
-test-memory: $(PROGRAM) $(TEST_PROGRAMS) ## refuses each allocation in turn, of the program on each example with each engine, on three with each table and each crew that takes threads, on each scenario whose explanation is stored, and of each test of members, roles, the ledger, crews and the drops of whole runs' boxes
-	@tests/refuse_allocations.py --program $(PROGRAM) examples/*.toml --tests $(TESTS_OF_MEMORY)
+test-hostile:
+	@tests/hostile.py $(PROGRAM) -q
+
+test-limits:
+	@tests/limits.py $(PROGRAM)
+
+test-command-line:
+	@tests/command_line.py $(PROGRAM) -q
+
+test-same-bytes:
+	@tests/same_bytes.py --runs $(FEW_CASES) $(PROGRAM)
+
+test-explanations:
+	@tests/explanations.py $(PROGRAM)
+
+test-refusals:
+	@tests/refusals.py $(PROGRAM)
+
+test-compare:
+	@tests/compare_program.py $(PROGRAM) examples tests/scenarios
+
+test-memory-of-tests: $(TEST_PROGRAMS)
+	@tests/refuse_allocations.py --tests $(TESTS_OF_MEMORY)
+
+test-memory-of-examples:
+	@tests/refuse_allocations.py --program $(PROGRAM) examples/*.toml
+
+test-memory-explained:
 	@tests/refuse_allocations.py --explained $(PROGRAM)
+
+test-memory-of-more:
 	@tests/refuse_allocations.py --more $(PROGRAM) $(FEW_SCENARIOS:%=examples/%.toml)
 
 $(TEST_PROGRAMS): $(SOURCES)

@@ -10,6 +10,7 @@ engine's bytes; so it has to with each seed for which a table is stored, and by 
 windows look at. Last, command lines and texts that are refused have to end with their line and status. Prints a line for each
 difference, and ends with status 1 where there is one.
 """
+import functools
 import itertools
 import pathlib
 import sys
@@ -17,7 +18,7 @@ from collections.abc import Iterator, Sequence
 
 sys.dont_write_bytecode = True
 
-from program import REFUSED_LINE, VERSION, End, Program, Word, refused
+from program import REFUSED_LINE, VERSION, End, Program, Word, refused, side_by_side
 
 SHOWS = ("trace", "members", "losses", "links", "timers")
 CREWS = ("plain", "pool", "bag", "team")
@@ -51,16 +52,20 @@ def engines(program: Program) -> Iterator[list[str]]:
             yield ["--engine", "window", "--crew", crew, "--workers", workers, "--cut", cut, "--width", width]
 
 
-def windows(program: Program, examples: pathlib.Path, ways: list[list[str]]) -> Iterator[str]:
-    """A line for each run in one of these ways that writes other bytes than the sequential engine."""
+def each_run(examples: pathlib.Path) -> Iterator[tuple[pathlib.Path, list[str]]]:
+    """Each scenario, with the words for each seed and each table of it."""
     for scenario in sorted(examples.glob("*.toml")):
-        text = scenario.read_bytes()
         for seed, show in itertools.product(seeds(examples, scenario.stem), SHOWS):
-            words = ["--seed", seed, "--show", show]
-            must = program.run(words, text)
-            for way in ways:
-                if must.status != 0 or program.run(words + way, text) != must:
-                    yield f"{scenario.name}: with {' '.join(words + way)} not what the sequential engine writes"
+            yield scenario, ["--seed", seed, "--show", show]
+
+
+def windows(program: Program, ways: list[list[str]], run: tuple[pathlib.Path, list[str]]) -> list[str]:
+    """A line for each of these ways in which a run writes other bytes than the sequential engine."""
+    scenario, words = run
+    text = scenario.read_bytes()
+    must = program.run(words, text)
+    wrong = [way for way in ways if must.status != 0 or program.run(words + way, text) != must]
+    return [f"{scenario.name}: with {' '.join(words + way)} not what the sequential engine writes" for way in wrong]
 
 
 def cuts_and_widths(program: Program, examples: pathlib.Path) -> Iterator[str]:
@@ -120,7 +125,8 @@ def main() -> bool:
     ways = [*engines(program)]
     differences = [*cuts_and_widths(program, folders[0]), *statuses(program)]
     for folder in folders:
-        differences += [*tables(program, folder), *windows(program, folder, ways)]
+        found = side_by_side(functools.partial(windows, program, ways), each_run(folder))
+        differences += [*tables(program, folder), *itertools.chain.from_iterable(found)]
     for line in differences:
         print(line)
     stored = sum(len(list(folder.glob("*.csv"))) for folder in folders)

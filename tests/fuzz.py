@@ -46,7 +46,7 @@ import fuzz_windows
 from fuzz_format import VERSIONS, Scenario
 from fuzz_scenarios import Case
 from fuzz_tables import Wrong
-from program import BUILT, REFUSED_LINE, TOP, End, Program, refused
+from program import BUILT, REFUSED_LINE, TOP, End, Program, refused, side_by_side
 
 Run = Callable[[list[str], bytes], End]
 
@@ -127,12 +127,14 @@ def check_windows(run: Run, named: set[str], case: Case, must: dict[str, End]) -
     rng = fuzz_windows.random_of(case)
     top = case.must if isinstance(case.must, dict) else None
     rows = must["trace"].written.count(b"\n")
-    for table, end in must.items():
-        ways = [fuzz_windows.windows(rng, top, rows, named)]
+    ways: list[tuple[str, list[str]]] = []
+    for table in must:
+        ways.append((table, fuzz_windows.windows(rng, top, rows, named)))
         if "team" in named:
-            ways.append(fuzz_windows.team(rng, top, named))
-        for words in ways:
-            is_same(" ".join(["--show", table, *words]), run([f"--seed={case.seed}", *words, "--show", table], case.text), end)
+            ways.append((table, fuzz_windows.team(rng, top, named)))
+    ends = side_by_side(lambda way: run([f"--seed={case.seed}", *way[1], "--show", way[0]], case.text), ways)
+    for (table, words), end in zip(ways, ends):
+        is_same(" ".join(["--show", table, *words]), end, must[table])
     if top is not None:
         words, line = fuzz_windows.refused(rng, top)
         end = refused(line)

@@ -1,4 +1,5 @@
-"""Runs the built program, and tells how a run ended. What starts it in tests/ and bench/ does so by this module.
+"""Runs the built program, several runs side by side where that is asked for, and tells how a run ended. What starts it in tests/
+and bench/ does so by this module.
 
 Nothing but Python is needed, and nothing here is of the Python package.
 """
@@ -6,8 +7,9 @@ import os
 import pathlib
 import subprocess
 import sys
-from collections.abc import Sequence
-from typing import Any, NamedTuple
+from collections.abc import Callable, Iterable, Iterator, Sequence
+from concurrent.futures import ThreadPoolExecutor
+from typing import Any, NamedTuple, TypeVar
 
 import versions
 
@@ -17,6 +19,8 @@ BUILT = TOP / "crates" / "srm_lab" / "out" / "srm_lab"
 LONGEST = 60
 
 Word = str | bytes
+Item = TypeVar("Item")
+Got = TypeVar("Got")
 
 
 class End(NamedTuple):
@@ -34,6 +38,16 @@ REFUSED_LINE = End(2, b"", b"command line refused\n")
 def refused(line: str) -> End:
     """The end of a run that is refused: one line on standard error, and nothing written."""
     return End(1, b"", f"refused: {line}\n".encode())
+
+
+def side_by_side(call: Callable[[Item], Got], items: Iterable[Item]) -> Iterator[Got]:
+    """What a call gives for each item, in the order of the items, with as many calls at a time as there are processors.
+
+    Each call is made by a thread, so this is of use where a call waits for a run of the program. The exception of a call comes
+    out in its place, and of the calls that were not begun by then none is made.
+    """
+    with ThreadPoolExecutor(len(os.sched_getaffinity(0))) as threads:
+        yield from threads.map(call, items)
 
 
 class Program:

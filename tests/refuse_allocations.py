@@ -15,19 +15,19 @@ out, and after the line its explanation, or what the fault is, or nothing.
 Needs a C compiler, `cc`. Prints a line for each scenario and test, and ends with status 1 where one of them failed.
 """
 import argparse
-import functools
+import itertools
 import pathlib
 import subprocess
 import sys
 import tempfile
-from collections.abc import Callable, Iterable, Mapping, Sequence
+from collections.abc import Callable, Iterable, Iterator, Mapping, Sequence
 from typing import NamedTuple
 
 sys.dont_write_bytecode = True
 
 import explanations
 from preloaded import Library
-from program import End, Program, refused
+from program import End, Program, refused, side_by_side
 
 NO_MEMORY = refused("no-memory")
 # of a run that does not end
@@ -43,25 +43,39 @@ TABLES = {table: ["--show", table] for table in ("members", "losses", "links", "
 class Run(NamedTuple):
     """A run with these words on a text, with the library that refuses an allocation."""
 
+    name: str
+    # whether one that was refused an allocation ended as it must, from its end and the end with ample memory
+    may_be: Callable[[End, End], bool]
     library: Library
     program: Program
     words: Sequence[str]
     text: bytes = b""
 
+    def allocations(self) -> int:
+        """How many allocations it makes."""
+        return self.library.counted(lambda environment: self.program.run(self.words, self.text, env=environment, timeout=None))
+
     def ended(self, number: int) -> End:
-        """How it ends where the allocation of this number is refused."""
+        """How it ends where the allocation of this number is refused; 0 is of none."""
         try:
             return self.program.run(self.words, self.text, env=self.library.refusing(number))
         except subprocess.TimeoutExpired:
             return NO_END
 
-    def each_refused(self, name: str, may_be: Callable[[End], bool]) -> bool:
-        """Refuses each allocation in turn, and tells whether each run ended as it must."""
-        total = self.library.counted(lambda environment: self.program.run(self.words, self.text, env=environment, timeout=None))
-        wrong = [number for number in range(1, total + 1) if not may_be(self.ended(number))]
+
+def each_refused(runs: Sequence[Run]) -> bool:
+    """Refuses each allocation of each of these runs in turn, and tells whether each ended as it must."""
+    totals = [*side_by_side(Run.allocations, runs)]
+    tried = [(run, number) for run, total in zip(runs, totals) for number in range(total + 1)]
+    ends = side_by_side(lambda it: it[0].ended(it[1]), tried)
+    right = True
+    for run, total in zip(runs, totals):
+        ample, *refused_one = itertools.islice(ends, total + 1)
+        wrong = [number for number, end in enumerate(refused_one, 1) if not run.may_be(end, ample)]
         verdict = f"wrong where these are refused: {wrong}" if wrong else "ok"
-        print(f"{name}: {total} allocations, each refused in turn: {verdict}")
-        return not wrong
+        print(f"{run.name}: {total} allocations, each refused in turn: {verdict}")
+        right &= not wrong
+    return right
 
 
 def is_right(end: End, ample: End) -> bool:
@@ -69,15 +83,12 @@ def is_right(end: End, ample: End) -> bool:
     return end == ample or (end._replace(written=b"") == NO_MEMORY and ample.written.startswith(end.written))
 
 
-def each_way(library: Library, program: Program, ways: Mapping[str, list[str]], scenarios: Iterable[str]) -> bool:
-    """Whether the program ends as it must on each scenario in each of these ways, whichever of its allocations is refused."""
-    right = True
+def each_way(library: Library, program: Program, ways: Mapping[str, list[str]], scenarios: Iterable[str]) -> Iterator[Run]:
+    """The program's runs on each scenario in each of these ways."""
     for scenario in scenarios:
         text = pathlib.Path(scenario).read_bytes()
         for name, words in ways.items():
-            run = Run(library, program, words, text)
-            right &= run.each_refused(f"{scenario}, {name}", functools.partial(is_right, ample=run.ended(0)))
-    return right
+            yield Run(f"{scenario}, {name}", is_right, library, program, words, text)
 
 
 def is_explained(end: End, ample: End) -> bool:
@@ -89,14 +100,16 @@ def is_explained(end: End, ample: End) -> bool:
     return end == ample or (status, written) == (1, b"") and (same and less or line + b"\n" == NO_MEMORY.told)
 
 
-def each_explained(library: Library, program: Program) -> bool:
-    """Whether each stored refusal of a scenario is told as it must be, whichever of the program's allocations is refused."""
-    right = True
+def each_explained(library: Library, program: Program) -> Iterator[Run]:
+    """The program's runs with --explain on each stored refusal of a scenario."""
     for name, words, text, told in explanations.stored():
         if told.startswith("refused: "):
-            run = Run(library, program, ["--explain", *words], text.encode())
-            right &= run.each_refused(name, functools.partial(is_explained, ample=run.ended(0)))
-    return right
+            yield Run(name, is_explained, library, program, ["--explain", *words], text.encode())
+
+
+def passes(end: End, _: End) -> bool:
+    """Whether a test of a test program passed."""
+    return end.status == 0
 
 
 def tests_of(program: Program, module: str) -> list[str]:
@@ -106,6 +119,14 @@ def tests_of(program: Program, module: str) -> list[str]:
     return [name for name in names if not module or name.startswith(f"{module}::")]
 
 
+def each_test(library: Library, named: str) -> Iterator[Run]:
+    """The runs of each test of a test program, or of one of its modules, as PROGRAM:MODULE."""
+    path, _, module = named.partition(":")
+    program = Program(path)
+    for test in tests_of(program, module):
+        yield Run(test, passes, library, program, [test])
+
+
 def main() -> None:
     parser = argparse.ArgumentParser(description=__doc__, formatter_class=argparse.RawDescriptionHelpFormatter)
     parser.add_argument("--program", nargs="+", default=[], metavar=("PROGRAM", "SCENARIO"))
@@ -113,18 +134,17 @@ def main() -> None:
     parser.add_argument("--explained", metavar="PROGRAM")
     parser.add_argument("--tests", nargs="+", default=[], metavar="PROGRAM[:MODULE]")
     options = parser.parse_args()
-    right = True
+    runs: list[Run] = []
     with tempfile.TemporaryDirectory() as folder:
         library = Library("refuse_allocation", folder)
         given = [(ENGINES, options.program), ({**CREWS, **TABLES}, options.more)]
         for ways, (path, *scenarios) in ((ways, named) for ways, named in given if named):
-            right &= each_way(library, Program(path), ways, scenarios)
+            runs += each_way(library, Program(path), ways, scenarios)
         if options.explained:
-            right &= each_explained(library, Program(options.explained))
-        for path, _, module in (named.partition(":") for named in options.tests):
-            program = Program(path)
-            for test in tests_of(program, module):
-                right &= Run(library, program, [test]).each_refused(test, lambda end: end.status == 0)
+            runs += each_explained(library, Program(options.explained))
+        for named in options.tests:
+            runs += each_test(library, named)
+        right = each_refused(runs)
     sys.exit(0 if right else 1)
 
 

@@ -8,11 +8,12 @@ each run has 64 workers, which in turn share a bag of jobs of 4 members each and
 runs there were, and ends with status 1 at the first that differs.
 """
 import argparse
+import itertools
 import sys
 
 sys.dont_write_bytecode = True
 
-from program import LONGEST, Program
+from program import LONGEST, Program, side_by_side
 
 NODES = 256
 DRAWS = 3
@@ -40,9 +41,9 @@ def main() -> None:
     options = parser.parse_args()
     text = scenario()
     must = options.program.written([], text, timeout=LONGEST)
-    for run in range(options.runs):
-        words = [*WORDS, CREWS[run % len(CREWS)]]
-        if options.program.written(words, text, timeout=LONGEST) != must:
+    crews = itertools.islice(itertools.cycle(CREWS), options.runs)
+    for run, written in enumerate(side_by_side(lambda crew: options.program.written([*WORDS, crew], text, LONGEST), crews)):
+        if written != must:
             sys.exit(f"run {run}: not the bytes of the sequential engine")
     rows = must.count(b"\n") - 1
     print(f"{options.runs} runs with 64 workers: the same {rows} rows")

@@ -1,11 +1,12 @@
 #!/usr/bin/env python3
-"""Tests of the scripts in tools/, and of architecture.py, calls.py, links.py and versions.py in tests/, on small texts.
+"""Tests of the scripts in tools/, and of architecture.py, calls.py, links.py, program.py and versions.py in tests/.
 
-No proof is run.
+They are made on small texts; no proof is run, and the program is not.
 """
 import pathlib
 import sys
 import tempfile
+import threading
 import unittest
 from collections.abc import Iterable
 from unittest import mock
@@ -18,6 +19,7 @@ import architecture
 import calls
 import gate
 import links
+import program
 import prove
 import versions
 import watch
@@ -140,6 +142,40 @@ class Gate(unittest.TestCase):
             for limit, free in (("max", 9216), ("5000", 4000), ("99999", 9216)):
                 (system / "sys/fs/cgroup/memory.max").write_text(f"{limit}\n")
                 self.assertEqual(gate.free_memory(system), free)
+
+
+class SideBySide(unittest.TestCase):
+    def setUp(self) -> None:
+        self.enterContext(mock.patch.object(program.os, "sched_getaffinity", return_value={0, 1}))
+
+    def test_results_come_in_order_whichever_call_ends_first(self) -> None:
+        """And two calls are made at a time: the first waits for the second."""
+        second = threading.Event()
+
+        def call(item: int) -> int:
+            if item == 1:
+                second.set()
+            elif not second.wait(60):
+                raise TimeoutError
+            return 10 * item
+
+        self.assertEqual([*program.side_by_side(call, iter(range(5)))], [0, 10, 20, 30, 40])
+
+    def test_what_a_call_raises_comes_out_in_its_place(self) -> None:
+        for raised in (ValueError("told"), SystemExit("told")):
+
+            def call(item: int, wrong: BaseException = raised) -> int:
+                if item:
+                    raise wrong
+                return item
+
+            results = program.side_by_side(call, range(3))
+            self.assertEqual(next(results), 0)
+            with self.assertRaisesRegex(type(raised), "told"):
+                next(results)
+
+    def test_no_item_has_no_result(self) -> None:
+        self.assertEqual([*program.side_by_side(str, [])], [])
 
 
 class Architecture(unittest.TestCase):
