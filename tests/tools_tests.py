@@ -17,8 +17,10 @@ sys.path[:0] = [str(TOP / "tools"), str(TOP / "tests")]
 
 import architecture
 import calls
+import edits
 import gate
 import links
+import must_fail
 import program
 import prove
 import versions
@@ -109,22 +111,25 @@ class Proving(unittest.TestCase):
 
 
 class Gate(unittest.TestCase):
-    def test_times_of_edits_are_named_in_the_order_in_which_they_are_tried(self) -> None:
-        spent = [(("low", "edits", f"/tmp/rt-edit-{at}"), 10 - at) for at in range(3)]
-        with mock.patch.object(gate, "edits_of", return_value=["first", "second"]):
-            self.assertEqual(gate.times_of_edits(running(spent), "low"), {"first": 10, "second": 9})
-
-    def test_no_edit_is_named_where_one_was_not_seen(self) -> None:
-        spent = [(("low", "edits", "/tmp/rt-edit-0"), 10)]
-        with mock.patch.object(gate, "edits_of", return_value=["first", "second"]):
-            self.assertEqual(gate.times_of_edits(running(spent), "low"), {})
-
     def test_the_table_has_each_part_of_a_crate(self) -> None:
-        spent = [(("low", "proof", "/low"), 61), (("low", "tests", "/low"), 5), (("low", "edits", "/tmp/rt-edit-0"), 7)]
-        with mock.patch.object(gate, "edits_of", return_value=["first"]):
-            lines = gate.table(running(spent), 70)
-        self.assertEqual(lines[2].split(), ["low", "1:01", "0:05", "0:07", "1"])
-        self.assertEqual((lines[-2].split(), lines[-1]), (["0:07", "low/first"], "all of it took 1:10"))
+        spent = [(("low", "proof", "/low"), 61), (("low", "tests", "/low"), 5), (("top", "proof", "/top"), 9)]
+        tried = [must_fail.Tried("low", {"first": (True, "refused"), "second": (False, "NOT REFUSED")}, 1, 7)]
+        lines = gate.table(running(spent), tried, 70)
+        rows = [["low", "1:01", "0:05", "0:07", "2"], ["top", "0:09", "-", "-", "-"]]
+        self.assertEqual([it.split() for it in lines[2:4]], rows)
+        self.assertEqual(lines[-1], "all of it took 1:10")
+
+    def test_edits_are_begun_once_their_crate_is_proved_and_the_counts_are_read(self) -> None:
+        said = ["rt: low proved\n", "rt: low: its tests are proved\n", "rt: top NOT PROVED\n", "1 passed, 1 failed\n"]
+        log = mock.Mock(spec=gate.Log)
+        begun: list[str] = []
+        counts = gate.proofs(mock.Mock(spec=watch.Watch, lines=lambda: iter(said)), log, begun.append)
+        self.assertEqual((counts, begun), ((1, 1), ["low"]))
+        self.assertEqual([call.args[0] for call in log.say.call_args_list], said[:3])
+
+    def test_a_gate_that_tells_no_counts_has_failed(self) -> None:
+        counts = gate.proofs(mock.Mock(spec=watch.Watch, lines=lambda: iter(["killed\n"])), mock.Mock(spec=gate.Log), print)
+        self.assertEqual(counts, (0, 1))
 
     def test_a_proof_for_each_processor_only_where_there_is_memory_for_them(self) -> None:
         self.assertEqual(gate.side_by_side({"HOME": "/"}, 4, 20_000_000_000), {"HOME": "/", "RT_JOBS": "4"})
@@ -176,6 +181,93 @@ class SideBySide(unittest.TestCase):
 
     def test_no_item_has_no_result(self) -> None:
         self.assertEqual([*program.side_by_side(str, [])], [])
+
+
+SOURCE = """\
+/// Half of a number.
+pub fn half(number: u64) -> u64
+    ensures { result ≡ number / 2 }
+{
+    number / 2
+}
+
+impl<T: Copy> Pair<T> {
+    pub const fn first(&self) -> &T {
+        &self.first
+    }
+}
+
+impl<T> Clone for Pair<T>
+where
+    T: Copy,
+{
+    fn clone(&self) -> Self {
+        let copies = [self.first; 2];
+        Pair::of(copies)
+    }
+}
+"""
+HALF, FIRST, CLONE = [
+    edits.Edit("half_is_the_whole", [edits.Change("src/pair.rt", "    number / 2", "    number")]),
+    edits.Edit("first_is_the_second", [edits.Change("src/pair.rt", "&self.first", "&self.second")]),
+    edits.Edit("clone_of_the_second", [edits.Change("src/pair.rt", "[self.first; 2]", "[self.second; 2]")]),
+]
+
+
+class Edits(unittest.TestCase):
+    def functions(self, edit: edits.Edit) -> list[tuple[str, str]]:
+        return [(it.owner, it.name) for it in edit.functions({"src/pair.rt": SOURCE})]
+
+    def test_the_function_of_a_change_is_the_one_in_whose_lines_it_stands(self) -> None:
+        found = [self.functions(it) for it in (HALF, FIRST, CLONE)]
+        self.assertEqual(found, [[("", "half")], [("Pair", "first")], [("Pair", "clone")]])
+
+    def test_a_change_outside_of_each_function_has_none(self) -> None:
+        self.assertEqual(self.functions(edits.Edit("longer", [edits.Change("src/pair.rt", "/// Half", "/// Nearly half")])), [])
+
+    def test_an_edit_is_applied_where_its_old_text_stands_once(self) -> None:
+        texts = {"src/pair.rt": SOURCE}
+        self.assertIsNone(edits.Edit("first", [edits.Change("src/pair.rt", "first", "second")]).applied(texts))
+        self.assertEqual(CLONE.applied(texts), {"src/pair.rt": SOURCE.replace("[self.first; 2]", "[self.second; 2]")})
+
+    def test_a_function_is_told_by_its_type_and_its_trait_and_closures_by_their_function(self) -> None:
+        texts = {"src/pair.rt": SOURCE}
+        (first,), (clone,) = FIRST.functions(texts), CLONE.functions(texts)
+        self.assertTrue(first.is_told_as("pair::Pair::first"))
+        self.assertTrue(clone.is_told_as("pair::PairClone::clone"))
+        self.assertTrue(clone.is_told_as("pair::fn::PairClone::clone::map+FnMut::call_mut"))
+        self.assertFalse(first.is_told_as("pair::PairClone::clone"))
+        self.assertFalse(first.is_told_as("pairs::Pair::first"))
+
+
+class MustFail(unittest.TestCase):
+    def refusals(self, *lines: str) -> list[bool]:
+        """Of two edits in two functions, whether a check that tells these lines refuses each for itself."""
+        found = [must_fail.VERDICT.match(it) for it in lines]
+        told = must_fail.Told(1, [*lines], {it[2]: it[3] for it in found if it})
+        texts = {"src/pair.rt": SOURCE}
+        return [told.refusal_of(it) is not None for edit in (FIRST, CLONE) for it in edit.functions(texts)]
+
+    def test_a_function_is_refused_by_a_goal_in_its_lines_or_an_error_in_its_proof(self) -> None:
+        unproved = ["fn low::pair::Pair::first: no proof: expected answers", "fn low::pair::PairClone::clone: not proved"]
+        goal = "note: src/pair.rt:9:5: it is not proved that what the function ensures holds when it returns (`returns`)"
+        error = "./proofs/pair/PairClone/clone/Answers.antt:3:9: error: `returns`: the goal does not follow"
+        self.assertEqual(self.refusals(*unproved, goal), [True, False])
+        self.assertEqual(self.refusals(*unproved, goal, error), [True, True])
+
+    def test_a_function_is_not_refused_for_what_it_calls_or_for_a_name(self) -> None:
+        called = "fn low::pair::PairClone::clone: no proof: it calls `low::pair::Pair::first`, which is not proved"
+        goal = "note: src/pair.rt:18:5: it is not proved that what the function ensures holds when it returns (`returns`)"
+        self.assertEqual(self.refusals(called, goal), [False, False])
+        name = "./proofs/pair/Pair/first/Answers.antt:3:9: error: `returns`: record `View` has no field `first`"
+        self.assertEqual(self.refusals("fn low::pair::Pair::first: not proved", name), [False, False])
+
+    def test_libraries_of_the_repository_and_of_the_kit_are_told_apart(self) -> None:
+        with tempfile.TemporaryDirectory() as folder:
+            pathlib.Path(folder, "crates.txt").write_text("# each crate\nlow: toml\nmiddle may_wait=2: low\ntop: middle low\n")
+            crates = must_fail.crates_in(pathlib.Path(folder))
+        self.assertEqual(crates["low"], must_fail.Crate("low", [], ["std", "toml"]))
+        self.assertEqual((crates["top"].own, must_fail.below(crates, "top")), (["middle", "low"], ["low", "middle"]))
 
 
 class Architecture(unittest.TestCase):

@@ -1,34 +1,42 @@
 #!/usr/bin/env python3
-"""Runs the merge gate, `rt ci`, and tells at its end how long the prover worked on each crate and on its must-fail edits.
+"""Runs the merge gate, and tells at its end how long the prover worked on each crate and on its must-fail edits.
 
-usage: tools/gate.py [--edits CRATE ..] [-- COMMAND ..]
+usage: tools/gate.py [-- COMMAND ..]
 
-Hands on all that `rt ci` prints, and keeps it in out/gate.log too. The table of times, and each line that tells what failed once
-more, stand before its last line, which is 'N passed, M failed'. With --edits it runs `rt must-fail CRATE ..` in its place: the
-must-fail edits of these crates alone. Where nothing failed, it then runs the command, which may use the programs that `rt ci`
-built, before that last line. Ends with the first status that is not 0. The environment's RT is the command to call in place of
-`rt`.
+Runs `rt ci` on a copy of the repository that has no must-fail edits, so every proof, each test and each program from nothing.
+Once a crate is proved there, its edits are tried beside the proofs of others, many in one check (tools/must_fail.py), with less
+right to the processors. Hands on all that `rt ci` prints, and keeps it in out/gate.log too. Then come a line for each edit, the
+table of times, and each line that tells what failed once more. Where nothing failed, the programs that `rt ci` built are copied
+to crates/NAME/out/, and the command is run, which may use them. The last line is 'N passed, M failed', of crates and edits. Ends
+with the first status that is not 0. The environment's RT is the command to call in place of `rt`.
 
 `rt ci` begins a proof only where the most memory that it may take is free, so that a long one may wait for others, and
 processors stand idle. Where 5 GB are free for each processor, RT_JOBS is set to the number of processors, if the environment
-has none: so many proofs are then run side by side.
+has none: so many proofs are then run side by side. The edits of half as many crates are tried at a time.
 """
 import argparse
 import os
 import pathlib
 import re
+import shutil
 import subprocess
 import sys
+import tempfile
 import time
-from collections.abc import Mapping
+from collections.abc import Callable, Iterable, Mapping
+from concurrent.futures import Future, ThreadPoolExecutor
 from typing import Any
 
+import must_fail
 import watch
 
 TOP = pathlib.Path(__file__).resolve().parent.parent
 RT = os.environ.get("RT", "rt").split()
-LONGEST = 10
 REFUSALS = 20
+# folders that the copy of the repository has not
+LEFT_OUT = (".git", "out", "must-fail", "__pycache__")
+PROVED = re.compile(r"rt: (\w+) proved\n?")
+COUNTS = re.compile(r"(\d+) passed, (\d+) failed\n?")
 MOST_OF_A_PROOF = 5_000_000_000
 HEAD = "how long the prover worked on each crate, its tests and its must-fail edits, beside other crates (minutes:seconds)"
 
@@ -57,37 +65,15 @@ def side_by_side(environment: Mapping[str, str], processors: int, memory: int) -
     return {**jobs, **environment}
 
 
-def edits_of(crate: str) -> list[str]:
-    """The names of a crate's must-fail edits, in the order in which they are tried."""
-    return sorted(it.stem for it in (TOP / "crates" / crate / "must-fail").glob("*.edit"))
-
-
-def times_of_edits(running: watch.Watch, crate: str) -> dict[str, float]:
-    """The seconds of each of a crate's edits by name, where each was seen in a folder of its own, and else none.
-
-    The edits are tried in order, and after several of them the crate itself once more.
-    """
-    # (folders stand in the order in which they were first seen)
-    spent = [it for sight, it in running.spent.items() if (sight.crate, sight.part) == (crate, "edits")]
-    names = edits_of(crate)
-    looks = len(names) + (len(names) > 1)
-    return dict(zip(names, spent)) if len(spent) == looks else {}
-
-
-def table(running: watch.Watch, passed: float) -> list[str]:
+def table(running: watch.Watch, tried: Iterable[must_fail.Tried], passed: float) -> list[str]:
     """The lines of the table of times."""
-    crates = dict.fromkeys(sight.crate for sight in running.spent)
-    lines = [HEAD]
-    lines += [f"{'crate':14} {'proof':>7} {'tests':>7} {'edits':>7} {'how many edits':>16}"]
-    edits: dict[str, float] = {}
-    for crate in sorted(crates):
-        times = [running.seconds(crate, part) for part in ("proof", "tests", "edits")]
-        proof, tests, tried = (watch.clock(it) if it else "-" for it in times)
-        lines.append(f"{crate:14} {proof:>7} {tests:>7} {tried:>7} {len(edits_of(crate)) if times[2] else '-':>16}")
-        edits |= {f"{crate}/{name}": spent for name, spent in times_of_edits(running, crate).items()}
-    longest = sorted(edits, key=lambda edit: edits[edit], reverse=True)[:LONGEST]
-    if longest:
-        lines += ["the longest edits:", *(f"{watch.clock(edits[it]):>7} {it}" for it in longest)]
+    edits = {it.crate: it for it in tried}
+    lines = [HEAD, f"{'crate':20} {'proof':>7} {'tests':>7} {'edits':>7} {'how many edits':>16}"]
+    for crate in sorted({*edits, *(sight.crate for sight in running.spent)}):
+        spent = [running.seconds(crate, part) for part in ("proof", "tests")]
+        spent += [edits[crate].seconds if crate in edits else 0]
+        proof, tests, of_edits = (watch.clock(it) if it else "-" for it in spent)
+        lines.append(f"{crate:20} {proof:>7} {tests:>7} {of_edits:>7} {len(edits[crate].edits) if crate in edits else '-':>16}")
     return [*lines, f"all of it took {watch.clock(passed)}"]
 
 
@@ -96,40 +82,95 @@ def is_refusal(line: str) -> bool:
     return re.search(r"^FAILED:|NOT PROVED|NOT REFUSED|(^|: )error(\[|:)|no proof:", line) is not None
 
 
+def copied(folder: str) -> pathlib.Path:
+    """A copy of the repository in a folder, without its must-fail edits and what was built."""
+    return pathlib.Path(shutil.copytree(TOP, f"{folder}/copy", symlinks=True, ignore=shutil.ignore_patterns(*LEFT_OUT)))
+
+
+def hand_back(tree: pathlib.Path) -> None:
+    """Copies the programs and test programs that were built in a copy of the repository to their places in the repository."""
+    for crate in (tree / "crates").iterdir():
+        for built in (crate / "out" / crate.name, crate / "out" / f"{crate.name}_tests"):
+            if built.is_file():
+                to = TOP / built.relative_to(tree)
+                to.parent.mkdir(exist_ok=True)
+                shutil.copy(built, to)
+
+
+class Log:
+    """What the gate says, on standard output and in out/gate.log, with the lines that tell what failed."""
+
+    def __init__(self, path: pathlib.Path) -> None:
+        path.parent.mkdir(exist_ok=True)
+        self.kept = open(path, "w", encoding="utf-8")
+        self.refusals: list[str] = []
+
+    def say(self, line: str) -> None:
+        """Says a line."""
+        for to in (sys.stdout, self.kept):
+            to.write(line.rstrip("\n") + "\n")
+            to.flush()
+        if is_refusal(line):
+            self.refusals.append(line)
+
+
+def proofs(running: watch.Watch, log: Log, begin: Callable[[str], None]) -> tuple[int, int]:
+    """Hands on what `rt ci` says, begins what follows each proof of a crate, and gives its counts of what passed and failed."""
+    counts = (0, 1)
+    for line in running.lines():
+        proved, counted = PROVED.fullmatch(line), COUNTS.fullmatch(line)
+        if counted:
+            counts = (int(counted[1]), int(counted[2]))
+            continue
+        log.say(line)
+        if proved:
+            begin(proved[1])
+    return counts
+
+
+def gate(tree: pathlib.Path, log: Log) -> tuple[int, int]:
+    """Proves the copy of the repository and tries the edits, and gives how many crates and edits passed and failed."""
+    began = time.monotonic()
+    processors = len(os.sched_getaffinity(0))
+    environment = side_by_side(os.environ, processors, free_memory())
+    streams: dict[str, Any] = {"stdin": subprocess.DEVNULL, "stdout": subprocess.PIPE, "stderr": subprocess.STDOUT}
+    running = watch.Watch([*RT, "ci"], tree, env=environment, **streams)
+    left = must_fail.with_edits(must_fail.crates_in(TOP))
+    begun: dict[str, Future[must_fail.Tried]] = {}
+    with ThreadPoolExecutor(max(1, processors // 2)) as pool:
+
+        def begin(crate: str) -> None:
+            if crate in left:
+                begun[crate] = pool.submit(must_fail.try_crate, tree, crate)
+
+        passed, failed = proofs(running, log, begin)
+        status = running.wait()
+        tried = [begun[crate].result() for crate in left if crate in begun]
+    for line in [line for it in tried for line in it.lines()]:
+        log.say(line)
+    for line in table(running, tried, time.monotonic() - began):
+        log.say(line)
+    refused = sum(it.refused() for it in tried)
+    every = sum(len(must_fail.edits_of(TOP / "crates" / it)) for it in left)
+    return passed + refused, failed + every - refused + (status != 0 and failed == 0)
+
+
 def main() -> None:
     parser = argparse.ArgumentParser(description=__doc__, formatter_class=argparse.RawDescriptionHelpFormatter)
-    parser.add_argument("--edits", nargs="+", metavar="CRATE")
     parser.add_argument("after", nargs="*", metavar="COMMAND")
     options = parser.parse_args()
-    command = [*RT, "must-fail", *options.edits] if options.edits else [*RT, "ci"]
-    log = TOP / "out" / "gate.log"
-    log.parent.mkdir(exist_ok=True)
-    began = time.monotonic()
-    environment = side_by_side(os.environ, len(os.sched_getaffinity(0)), free_memory())
-    streams: dict[str, Any] = {"stdin": subprocess.DEVNULL, "stdout": subprocess.PIPE, "stderr": subprocess.STDOUT}
-    running = watch.Watch(command, TOP, env=environment, **streams)
-    last = ""
-    refusals: list[str] = []
-    with open(log, "w", encoding="utf-8") as kept:
-
-        def hand_on(line: str) -> None:
-            for to in (sys.stdout, kept):
-                to.write(line)
-                to.flush()
-
-        for line in running.lines():
-            hand_on(last)
-            last = line
-            if is_refusal(line):
-                refusals.append(line)
-        status = running.wait()
-        for line in table(running, time.monotonic() - began):
-            hand_on(f"{line}\n")
-        for line in refusals[-REFUSALS:] if status else []:
-            hand_on(line)
-        if options.after and not status:
-            status = subprocess.call(options.after, cwd=TOP)
-        hand_on(last)
+    log = Log(TOP / "out" / "gate.log")
+    with tempfile.TemporaryDirectory(prefix="srm-gate-") as folder:
+        tree = copied(folder)
+        passed, failed = gate(tree, log)
+        if not failed:
+            hand_back(tree)
+    for line in log.refusals[-REFUSALS:] if failed else []:
+        log.say(line)
+    status = 1 if failed else 0
+    if options.after and not failed:
+        status = subprocess.call(options.after, cwd=TOP)
+    log.say(f"{passed} passed, {failed} failed")
     sys.exit(status)
 
 

@@ -1,0 +1,123 @@
+"""The must-fail edits of a crate: wrong bodies that the prover has to refuse, and the functions that they change.
+
+An edit stands in crates/NAME/must-fail/NAME.edit, in lines 'file: PATH', 'old: TEXT' and 'new: TEXT', each text one line. The
+old text stands once in its file, and further pairs apply to what the earlier ones made.
+"""
+import pathlib
+import re
+from collections.abc import Iterator, Mapping
+from typing import NamedTuple
+
+FUNCTION = re.compile(r"( *)(?:pub(?:\([\w: ]+\))? )?(?:(?:const|final|unsafe) )*fn (\w+)")
+IMPL = re.compile(r"impl\b(.*)")
+ARGUMENTS = re.compile(r"<[^<>]*>")
+
+
+class Function(NamedTuple):
+    """A function of a crate: its file below the crate, its type or "", its name, and its first and last line, from 1."""
+
+    file: str
+    owner: str
+    name: str
+    first: int
+    last: int
+
+    @property
+    def module(self) -> str:
+        """The path of its module below the crate."""
+        return self.file.removeprefix("src/").removesuffix(".rt").replace("/", "::")
+
+    def holds(self, file: str, line: int) -> bool:
+        """Whether a line of a file is one of its lines."""
+        return file == self.file and self.first <= line <= self.last
+
+    def is_told_as(self, path: str) -> bool:
+        """Whether the prover's path of a function below the crate is of this one or of a closure in it.
+
+        A method of an impl of a trait stands under its type's name and that of the trait in one word.
+        """
+        module, found, rest = path.partition(f"{self.module}::")
+        if module or not found:
+            return False
+        owner, *names = [part for part in re.split(r"::|\+", rest) if part != "fn"]
+        return owner.startswith(self.owner) and names[:1] == [self.name] if self.owner else owner == self.name
+
+
+class Change(NamedTuple):
+    """A text of a file that stands once, and what stands in its place."""
+
+    file: str
+    old: str
+    new: str
+
+
+class Edit(NamedTuple):
+    """An edit by its name, with what it changes in turn."""
+
+    name: str
+    changes: list[Change]
+
+    def applied(self, texts: Mapping[str, str]) -> dict[str, str] | None:
+        """The texts of files with this edit, or None where an old text does not stand once."""
+        made = dict(texts)
+        for file, old, new in self.changes:
+            if made.get(file, "").count(old) != 1:
+                return None
+            made[file] = made[file].replace(old, new)
+        return made
+
+    def functions(self, texts: Mapping[str, str]) -> list[Function]:
+        """The functions that the edit changes, or none where a change stands outside of each function."""
+        found = [function_round(change, texts.get(change.file, "")) for change in self.changes]
+        return [it for it in dict.fromkeys(found) if it] if all(found) else []
+
+
+def type_of(head: str) -> str:
+    """The type's name in what follows the word impl."""
+    while ARGUMENTS.search(head):
+        head = ARGUMENTS.sub("", head)
+    named = head.partition(" where")[0].rpartition(" for ")[2]
+    words = re.findall(r"\w+", named)
+    return words[-1] if words else ""
+
+
+def functions_in(file: str, text: str) -> Iterator[Function]:
+    """The functions of a file that is laid out: a body ends at the first brace that is as far in as its head."""
+    lines = text.split("\n")
+    owner = ""
+    for at, line in enumerate(lines):
+        head = IMPL.match(line)
+        if head:
+            owner = type_of(head[1])
+        elif line == "}":
+            owner = ""
+        found = FUNCTION.match(line)
+        if found:
+            ends = (it for it in range(at, len(lines)) if lines[it] == f"{found[1]}}}" or it == at and line.endswith("}"))
+            yield Function(file, owner if found[1] else "", found[2], at + 1, next(ends, at) + 1)
+
+
+def function_round(change: Change, text: str) -> Function | None:
+    """The innermost function in whose lines the old text stands, or None."""
+    line = text[: text.find(change.old)].count("\n") + 1
+    return next((it for it in reversed([*functions_in(change.file, text)]) if it.first <= line <= it.last), None)
+
+
+def read(path: pathlib.Path) -> Edit:
+    """The edit of a file."""
+    file, old = "", ""
+    changes = []
+    for line in path.read_text(encoding="utf-8").splitlines():
+        key, _, value = line.partition(": ")
+        if key == "file":
+            file = value.strip()
+        elif key == "old":
+            old = value
+        elif key.rstrip(":") == "new":
+            changes.append(Change(file, old, value))
+    return Edit(path.stem, changes)
+
+
+def edits_of(crate: pathlib.Path) -> list[Edit]:
+    """The edits of a crate's folder, by their names."""
+    return [read(it) for it in sorted((crate / "must-fail").glob("*.edit"))]

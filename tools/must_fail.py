@@ -1,0 +1,293 @@
+#!/usr/bin/env python3
+"""Tries the must-fail edits of crates, many of them in one check.
+
+usage: tools/must_fail.py [--tree FOLDER] [--jobs N] [CRATE ..]
+
+A function is proved against the contracts of what it calls, and never against their bodies. So wrong bodies of several functions
+can be planted in one copy of a crate: each is refused, or not, as if it were alone. The check says of a function that calls an
+unproved one just that, and such an edit is tried again, without those that were refused. So is one that the check refuses for
+nothing but a name that a proof file misses, one that changes no function, and one that the prover cannot read: these are tried
+alone, as `rt ci` tries each.
+
+The libraries below a crate have to be proved: their rlibs stand in FOLDER/crates/NAME/out/rlib, by default of this repository,
+where `make check` or `rt ci` leaves them. N crates are tried at a time, by default as many as there are processors. Prints a line
+for each edit, and how many checks and minutes each crate took. Ends with status 1 where an edit was not refused, or could not be
+tried. The environment's RT is the command to call in place of `rt`.
+"""
+import argparse
+import os
+import pathlib
+import re
+import shutil
+import subprocess
+import sys
+import tempfile
+import time
+from collections.abc import Iterable, Mapping
+from concurrent.futures import ThreadPoolExecutor
+from typing import Any, NamedTuple
+
+import watch
+from edits import Edit, Function, edits_of
+
+TOP = pathlib.Path(__file__).resolve().parent.parent
+RT = os.environ.get("RT", "rt").split()
+PARTS = ("src", "specs", "proofs")
+# what a check says of a function that is not proved, and of one that calls such a one
+VERDICT = re.compile(r"fn (\w+)::(\S+): (not proved|no proof: .*|could not tell.*)")
+CALLS = "no proof: it calls "
+# a place in a file, and what is told of it
+TOLD = re.compile(r"(?:note: )?(?:\./)?((?:src|specs|proofs)/[^:]+):(\d+):\d+: (.*)")
+# what is told where an edit takes a name away that a proof file has
+OF_NAMES = re.compile(r"has no field|is not in scope|has no `|was not admitted")
+# what is told of a text that cannot be read, and not of what it says
+UNREADABLE = re.compile(r"error(\[[\w-]+\])?:")
+# most characters of what is told of an edit
+SHOWN = 160
+
+
+class Crate(NamedTuple):
+    """A crate of the repository, with its libraries: those of the repository, and those of the kit."""
+
+    name: str
+    own: list[str]
+    kit: list[str]
+
+
+def crates_in(tree: pathlib.Path) -> dict[str, Crate]:
+    """The crates that crates.txt lists, by their names."""
+    found = re.findall(r"^(\w+)[^:#\n]*:([^#\n]*)", (tree / "crates.txt").read_text(encoding="utf-8"), re.M)
+    names = {name for name, _ in found}
+    libraries = {name: text.split() for name, text in found}
+    return {
+        name: Crate(name, [it for it in uses if it in names], ["std", *[it for it in uses if it not in names]])
+        for name, uses in libraries.items()
+    }
+
+
+def below(crates: Mapping[str, Crate], name: str) -> list[str]:
+    """The names of the repository's crates below a crate, each once."""
+    found: dict[str, None] = {}
+    for used in crates[name].own:
+        found |= dict.fromkeys([*below(crates, used), used])
+    return [*found]
+
+
+def with_edits(crates: Iterable[str]) -> list[str]:
+    """Those of the crates that have must-fail edits."""
+    return [it for it in crates if edits_of(TOP / "crates" / it)]
+
+
+def kit() -> pathlib.Path:
+    """The folder of the toolchain."""
+    page = subprocess.run([*RT, "doc"], capture_output=True, text=True, check=True).stdout.strip()
+    return pathlib.Path(page).parent
+
+
+def rlib(tree: pathlib.Path, name: str) -> pathlib.Path:
+    """Where the proved library of a crate stands."""
+    return tree / "crates" / name / "out" / "rlib" / f"{name}.rlib"
+
+
+def command_of(tree: pathlib.Path, name: str) -> list[str]:
+    """The command that checks the crate of the folder that it runs in, and gives way to proofs that run beside it."""
+    at, crates = kit(), crates_in(TOP)
+    crate = crates[name]
+    libraries = {it: at / "rlibs" / f"{it}.rlib" for it in crate.kit} | {it: rlib(tree, it) for it in crate.own}
+    folders = [at / "rlibs", *[rlib(tree, it).parent for it in below(crates, name)]]
+    logic = ["--antt-project", at / "rattle/logic/antt-project.json", "--logic-built", at / "logic_built"]
+    words = ["nice", "-n", "19", at / "bin/rattle", "check", "--crate-name", name, "src/lib.rt"]
+    words += [*logic, "--links", f"{name}=", "--jobs", "1"]
+    words += [word for it, path in libraries.items() for word in ("--extern", f"{it}={path}")]
+    words += [word for it in folders for word in ("-L", f"dependency={it}")]
+    return [str(it) for it in words]
+
+
+class Place(NamedTuple):
+    """What a check told of a line of a file, and the whole line in which it told it."""
+
+    file: str
+    line: int
+    text: str
+    whole: str
+
+
+def is_no_name(place: Place) -> bool:
+    """Whether more is told of a place than that a name is missing there."""
+    return not OF_NAMES.search(place.text)
+
+
+class Told(NamedTuple):
+    """What a check told: its status, its lines, and the verdicts of unproved functions, by their paths below the crate."""
+
+    status: int
+    lines: list[str]
+    verdicts: dict[str, str]
+
+    def has_ended(self) -> bool:
+        """Whether the check reached its end, and so told of each function that it was asked for."""
+        return self.status in (0, 1) and any(line.startswith(("logic=", "only=")) for line in self.lines)
+
+    def places(self) -> list[Place]:
+        """The places of errors, and of what is not proved."""
+        found = [(TOLD.match(line), line) for line in self.lines]
+        places = [Place(it[1], int(it[2]), it[3], line) for it, line in found if it]
+        return [it for it in places if it.text.startswith(("it is not proved", "error"))]
+
+    def first_place(self) -> str:
+        """The first line that tells of a place for more than a name, or of any, or nothing."""
+        places = self.places()
+        return next((it.whole for it in [*filter(is_no_name, places), *places]), "")
+
+    def refusal_of(self, function: Function) -> str | None:
+        """The first line that refuses a function for itself; None where there is none, or where only a name is missed."""
+        paths = [it for it, verdict in self.verdicts.items() if function.is_told_as(it) and not verdict.startswith(CALLS)]
+        folders = tuple(f"proofs/{it.replace('::', '/')}/" for it in paths)
+        for place in filter(is_no_name, self.places()):
+            if paths and (function.holds(place.file, place.line) or place.file.startswith(folders)):
+                return place.whole
+        return None
+
+
+class Trial:
+    """The edits of one crate that are tried, over what earlier checks of them proved."""
+
+    def __init__(self, crate: str, command: list[str]) -> None:
+        self.folder = TOP / "crates" / crate
+        self.crate = crate
+        self.command = command
+        files = (self.folder / "src").rglob("*.rt")
+        self.texts = {str(it.relative_to(self.folder)): it.read_text(encoding="utf-8") for it in files}
+        self.checks = 0
+
+    def told(self, texts: Mapping[str, str], only: Iterable[str]) -> Told:
+        """What a check of the crate tells with these texts, of the modules that are named, or of all where none is."""
+        self.checks += 1
+        with tempfile.TemporaryDirectory(prefix="srm-edit-") as room:
+            for part in PARTS:
+                if (self.folder / part).is_dir():
+                    shutil.copytree(self.folder / part, f"{room}/{part}")
+            for path, text in texts.items():
+                pathlib.Path(room, path).write_text(text, encoding="utf-8")
+            words = [*self.command, *[word for it in only for word in ("--only", it)]]
+            how: dict[str, Any] = {"stdin": subprocess.DEVNULL, "stdout": subprocess.PIPE, "stderr": subprocess.STDOUT}
+            ran = subprocess.run(words, cwd=room, text=True, errors="replace", check=False, **how)
+        lines = ran.stdout.splitlines()
+        found = [VERDICT.match(it) for it in lines]
+        return Told(ran.returncode, lines, {it[2]: it[3] for it in found if it and it[1] == self.crate})
+
+    def set_of(self, edits: Iterable[Edit]) -> list[Edit]:
+        """Edits that can be planted together: no two are in one function, and none takes away another's old text."""
+        texts: Mapping[str, str] = self.texts
+        taken: set[Function] = set()
+        planted = []
+        for edit in edits:
+            functions = edit.functions(self.texts)
+            applied = None if taken.intersection(functions) else edit.applied(texts)
+            if applied is not None:
+                texts = applied
+                taken.update(functions)
+                planted.append(edit)
+        return planted
+
+    def refused_together(self, edits: list[Edit]) -> dict[str, str]:
+        """Of edits that can be planted together, what refuses each that a check of all refuses for itself.
+
+        Where the prover cannot read the text with all of them, it is given half of them at a time.
+        """
+        texts = dict(self.texts)
+        for edit in edits:
+            texts = edit.applied(texts) or texts
+        functions = {edit.name: edit.functions(self.texts) for edit in edits}
+        told = self.told(texts, sorted({it.module for found in functions.values() for it in found}))
+        if not told.has_ended() and len(edits) > 1:
+            half = len(edits) // 2
+            return self.refused_together(edits[:half]) | self.refused_together(edits[half:])
+        refusals = {name: [told.refusal_of(it) for it in found] for name, found in functions.items()}
+        return {name: next(it for it in found if it) for name, found in refusals.items() if any(found)}
+
+    def alone(self, edit: Edit) -> tuple[bool, str]:
+        """Whether the prover refuses the crate with this edit alone, and what to say."""
+        texts = edit.applied(self.texts)
+        if texts is None:
+            return False, "BAD EDIT: an old text does not stand once in its file"
+        told = self.told(texts, sorted({it.module for it in edit.functions(self.texts)}))
+        if told.status == 0:
+            # (what else the edit changes may be refused)
+            told = self.told(texts, [])
+        first = told.first_place()[:SHOWN]
+        if not told.has_ended():
+            why = next(filter(UNREADABLE.search, told.lines), "")[:SHOWN]
+            return False, f"BAD EDIT: the prover cannot read the edited text: {why}"
+        if told.status == 0:
+            return False, "NOT REFUSED: the crate is still proved with this edit"
+        if first and OF_NAMES.search(first):
+            return True, f"refused, as it must be (only because a proof file names what the edit took away): {first}"
+        return True, f"refused, as it must be: {first}"
+
+    def all(self) -> dict[str, tuple[bool, str]]:
+        """Whether each edit is refused, and what to say."""
+        edits = {it.name: it for it in edits_of(self.folder)}
+        left = [it for it in edits.values() if it.functions(self.texts) and it.applied(self.texts)]
+        tried: dict[str, tuple[bool, str]] = {}
+        while left:
+            refused = self.refused_together(self.set_of(left))
+            if not refused:
+                break
+            tried |= {name: (True, f"refused, as it must be: {why[:SHOWN]}") for name, why in refused.items()}
+            left = [it for it in left if it.name not in refused]
+        return tried | {name: self.alone(edit) for name, edit in edits.items() if name not in tried}
+
+
+class Tried(NamedTuple):
+    """What came of a crate's edits: of each whether it is refused and what to say; how many checks, and seconds, it took."""
+
+    crate: str
+    edits: dict[str, tuple[bool, str]]
+    checks: int
+    seconds: float
+
+    def refused(self) -> int:
+        """How many edits are refused."""
+        return sum(well for well, _ in self.edits.values())
+
+    def lines(self) -> list[str]:
+        """A line for each edit, and one for all."""
+        lines = [f"must-fail {self.crate}/{edit}.edit: {said}" for edit, (_, said) in sorted(self.edits.items())]
+        took = f"{self.checks} checks, {watch.clock(self.seconds)}"
+        return [*lines, f"{self.crate}: {self.refused()} of {len(self.edits)} edits refused, in {took}"]
+
+
+def try_crate(tree: pathlib.Path, name: str) -> Tried:
+    """Tries the edits of a crate, over the libraries that are proved in a folder."""
+    began = time.monotonic()
+    with tempfile.TemporaryDirectory(prefix="srm-edits-") as kept:
+        trial = Trial(name, [*command_of(tree, name), "--incremental", kept])
+        edits = trial.all()
+    return Tried(name, edits, trial.checks, time.monotonic() - began)
+
+
+def main() -> None:
+    parser = argparse.ArgumentParser(description=__doc__, formatter_class=argparse.RawDescriptionHelpFormatter)
+    parser.add_argument("--tree", type=pathlib.Path, default=TOP)
+    parser.add_argument("--jobs", type=int, default=len(os.sched_getaffinity(0)))
+    parser.add_argument("crates", nargs="*", metavar="CRATE")
+    options = parser.parse_args()
+    tree = options.tree.resolve()
+    crates = crates_in(TOP)
+    names = options.crates or with_edits(crates)
+    lacking = sorted({low for it in names for low in below(crates, it) if not rlib(tree, low).exists()})
+    if lacking:
+        sys.exit(f"Not proved yet: {', '.join(lacking)}. `make check` proves what edits stand on.")
+    refused = failed = 0
+    with ThreadPoolExecutor(options.jobs) as pool:
+        for tried in pool.map(lambda it: try_crate(tree, it), names):
+            print("\n".join(tried.lines()), flush=True)
+            refused += tried.refused()
+            failed += len(tried.edits) - tried.refused()
+    print(f"{refused} edits refused, {failed} not")
+    sys.exit(1 if failed else 0)
+
+
+if __name__ == "__main__":
+    main()
