@@ -12,7 +12,7 @@ with the first status that is not 0. The environment's RT is the command to call
 
 `rt ci` begins a proof only where the most memory that it may take is free, so that a long one may wait for others, and
 processors stand idle. Where 5 GB are free for each processor, RT_JOBS is set to the number of processors, if the environment
-has none: so many proofs are then run side by side. The edits of half as many crates are tried at a time.
+has none: so many proofs are then run side by side. Edits are tried of one crate fewer at a time.
 """
 import argparse
 import os
@@ -137,7 +137,7 @@ def gate(tree: pathlib.Path, log: Log) -> tuple[int, int]:
     running = watch.Watch([*RT, "ci"], tree, env=environment, **streams)
     left = must_fail.with_edits(must_fail.crates_in(TOP))
     begun: dict[str, Future[must_fail.Tried]] = {}
-    with ThreadPoolExecutor(max(1, processors // 2)) as pool:
+    with ThreadPoolExecutor(max(1, processors - 1)) as pool:
 
         def begin(crate: str) -> None:
             if crate in left:
