@@ -61,8 +61,8 @@ fn rows_in(lists: &[Sequence<Row>]) -> usize {
     rows
 }
 
-/// The jobs in pieces, in order. A piece ends once something is due in `share` of its cells; but the one after so many `cuts` has all
-/// that are left.
+/// The jobs in pieces, in order. A piece ends once something is due in `share` of its cells; but the one after so many `cuts` has
+/// all that are left.
 pub(crate) fn pieces_of<M: Participant>(
     alloc: Global,
     jobs: Vec<Job<M>>,

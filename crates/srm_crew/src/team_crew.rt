@@ -36,8 +36,8 @@ use std::alloc::{AllocError, Global};
 use std::sync::Wait;
 
 /// Advances jobs on the threads of a team, which stay for the next call. It serves runs of one scenario, which it keeps with its
-/// network. The jobs of a call are handed to the team in as many pieces as it has room for. Where the call before gave few rows, the
-/// thread that calls does all the work: to wake the others would take longer.
+/// network. The jobs of a call are handed to the team in as many pieces as it has room for. Where the call before gave few rows,
+/// the thread that calls does all the work: to wake the others would take longer.
 #[derive(Drop)]
 pub struct TeamCrew<'a, R: Wait, M: Participant, J: Naming> {
     rt: R,
@@ -100,8 +100,8 @@ fn hear_in_team<'a, R: Wait, M: Participant, J: Naming>(
 }
 
 impl<'a, R: Wait, M: Participant, J: Naming> TeamCrew<'a, R, M, J> {
-    /// A crew that has this team, and does this work. The thread that calls does it where the call before gave fewer than `few` rows,
-    /// or where the team has room for no item. It does not allocate.
+    /// A crew that has this team, and does this work. The thread that calls does it where the call before gave fewer than `few`
+    /// rows, or where the team has room for no item. It does not allocate.
     ///
     /// A call of it is refused with `NoMemory` also after 2^62 calls of the team.
     pub fn new(

@@ -59,8 +59,8 @@ impl<M: Participant> Groups<M> {
         Ok(Groups { cut, groups, soon })
     }
 
-    /// Looks again for how soon something is due in each group in which something was due before tick `end`, after the own runs of all
-    /// cells to it: where nothing was, no cell has changed.
+    /// Looks again for how soon something is due in each group in which something was due before tick `end`, after the own runs of
+    /// all cells to it: where nothing was, no cell has changed.
     pub(crate) fn look_again(self, scenario: &Scenario, net: &Net, end: u64) -> Groups<M>
         requires network { net.now ≡ network_of scenario.now }
         requires may { MayLookAgain (length scenario.now.members) self }
@@ -178,8 +178,8 @@ impl<M: Participant> Groups<M> {
         Ok(())
     }
 
-    /// The groups after every member heard the packets of the lists' rows, in some order. A crew shares them where there is enough to
-    /// hear.
+    /// The groups after every member heard the packets of the lists' rows, in some order. A crew shares them where there is enough
+    /// to hear.
     pub(crate) fn heard_by<C: Crew<M>>(
         self,
         alloc: Global,
