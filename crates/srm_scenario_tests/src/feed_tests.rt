@@ -1,5 +1,6 @@
 //! That a feed of a reader fails exactly where its reader does.
 use srm_scenario::feed::{Feed, FeedFault, ReadFeed};
+use std::alloc::{AllocError, Global};
 use std::io;
 use std::io::{ErrorKind, Read};
 use std::test::Fail;
@@ -27,37 +28,45 @@ impl Read for FailsOnce {
     }
 }
 
-// What four calls give of a reader of seven bytes that fails at no call.
-const PIECES: [&str; 4] = ["ver", "sio", "n", ""];
+// What five calls give of a reader of seven bytes, with a bar between them: a call's bytes, or an exclamation mark where it fails.
+fn pieces(alloc: Global, kind: ErrorKind, fails_at: usize) -> Result<Vec<u8>, AllocError> {
+    let mut feed = ReadFeed::new(FailsOnce {
+        left: b"version",
+        call: 0,
+        fails_at,
+        kind,
+    });
+    let mut pieces = Vec::new(alloc);
+    for call in 0..5_usize {
+        if call > 0 {
+            pieces.push(b'|')?;
+        }
+        let mut buf = [0; 8];
+        match feed.feed(&mut buf) {
+            Ok(count) => pieces.extend_from_slice(&buf[..count])?,
+            Err(FeedFault) => pieces.push(b'!')?,
+        }
+    }
+    Ok(pieces)
+}
 
 #[test]
 fn a_feed_fails_where_its_reader_does_and_nowhere_else(rt: HostRuntime) -> Result<(), Fail> {
     for kind in [ErrorKind::Other, ErrorKind::Interrupted] {
-        for fails_at in 0..6 {
-            let mut feed = ReadFeed::new(FailsOnce {
-                left: b"version",
-                call: 0,
-                fails_at,
-                kind,
-            });
-            let mut pieces = PIECES.iter();
-            for call in 0..5 {
-                let mut buf = [0; 8];
-                let given = feed.feed(&mut buf);
-                if call == fails_at {
-                    assert_eq!(rt; given, Err(FeedFault), "failing at call {fails_at}");
-                    continue;
-                }
-                let Some(piece) = pieces.next() else {
-                    continue;
-                };
-                assert_eq!(rt; given, Ok(piece.len()), "failing at call {fails_at}");
-                assert_eq!(rt;
-                    &buf[..piece.len()],
-                    piece.as_bytes(),
-                    "failing at call {fails_at}"
-                );
-            }
+        for (fails_at, want) in [
+            (0, "!|ver|sio|n|"),
+            (1, "ver|!|sio|n|"),
+            (2, "ver|sio|!|n|"),
+            (3, "ver|sio|n|!|"),
+            (4, "ver|sio|n||!"),
+            (5, "ver|sio|n||"),
+        ] {
+            let told = pieces(rt.alloc(), kind, fails_at)?;
+            assert_eq!(rt;
+                told.as_slice(),
+                want.as_bytes(),
+                "failing at call {fails_at}"
+            );
         }
     }
     Ok(())

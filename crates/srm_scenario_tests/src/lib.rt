@@ -2,9 +2,13 @@
 #![tactic(auto)]
 
 #[cfg(test)]
+mod drop_tests;
+#[cfg(test)]
 mod feed_tests;
 #[cfg(test)]
 mod net_tests;
+#[cfg(test)]
+mod networks;
 #[cfg(test)]
 mod scenario_tests;
 #[cfg(test)]

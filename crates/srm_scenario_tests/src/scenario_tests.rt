@@ -1,7 +1,7 @@
 //! What is told of texts that are not read, and what a scenario that was read answers. The faults, one of each kind, each end of
 //! each range and each two neighbours in their order, stand in tests/refusals.txt: the built program is run on them.
+use crate::networks::{links_between, packet, ticks_between};
 use srm_net::link::LinkSpec;
-use srm_net::packet::PacketId;
 use srm_net::role::Role;
 use srm_scenario::fault::{Part, ScenarioFault};
 use srm_scenario::feed::ReadFeed;
@@ -36,30 +36,42 @@ impl std::io::Read for Broken {
 }
 
 #[test]
-fn texts_that_are_not_read(rt: HostRuntime) -> Result<(), Fail> {
-    let alloc = rt.alloc();
-    let broken = read_scenario(alloc, &mut ReadFeed::new(Broken)).err();
-    assert_eq!(rt; broken, Some(ScenarioFault::ReadFault));
-    // Too long, and brackets that are no TOML.
+fn a_feed_that_fails(rt: HostRuntime) {
+    let fault = read_scenario(rt.alloc(), &mut ReadFeed::new(Broken)).err();
+    assert_eq!(rt; fault, Some(ScenarioFault::ReadFault));
+}
+
+// Why no scenario is read from a text.
+fn fault_of(alloc: Global, text: &[u8]) -> Option<ScenarioFault> {
+    read_scenario(alloc, &mut ReadFeed::new(text)).err()
+}
+
+// Too long, and brackets that are no TOML.
+#[test]
+fn texts_that_are_too_long(rt: HostRuntime) -> Result<(), Fail> {
     for byte in [b' ', b'['] {
-        let long = vec![in alloc; byte; 1_048_577]?;
-        let fault = read_scenario(alloc, &mut ReadFeed::new(long.as_slice())).err();
+        let long = vec![in rt.alloc(); byte; 1_048_577]?;
+        let fault = fault_of(rt.alloc(), long.as_slice());
         assert_eq!(rt; fault, Some(ScenarioFault::TooLong));
     }
+    Ok(())
+}
+
+#[test]
+fn texts_that_are_not_toml(rt: HostRuntime) {
+    let not_toml = Some(ScenarioFault::NotToml);
+    assert_eq!(rt; fault_of(rt.alloc(), b"version = 1\n[[member"), not_toml);
+    // Not UTF-8, with an unknown key.
+    assert_eq!(rt; fault_of(rt.alloc(), b"color = 1 # \xff\n"), not_toml);
+}
+
+#[test]
+fn the_empty_text(rt: HostRuntime) {
     let nothing = ScenarioFault::BadKey {
         part: Part::Top,
         place: 0,
     };
-    for (text, want) in [
-        (&b"version = 1\n[[member"[..], ScenarioFault::NotToml),
-        // Not UTF-8, with an unknown key.
-        (&b"color = 1 # \xff\n"[..], ScenarioFault::NotToml),
-        (&b""[..], nothing),
-    ] {
-        let fault = read_scenario(alloc, &mut ReadFeed::new(text)).err();
-        assert_eq!(rt; fault, Some(want));
-    }
-    Ok(())
+    assert_eq!(rt; fault_of(rt.alloc(), b""), Some(nothing));
 }
 
 // The scenario of lines below the numbers of the top table.
@@ -83,20 +95,68 @@ session = [{ member = 0, at = 3 }, { member = 1, at = 70 }]
 drop = [{ link = 1, sender = 0, count = 4 }, { link = 1, sender = 0, count = 4 }]
 ";
 
+// The scenario of that text.
+fn sample(alloc: Global) -> Result<Scenario, Fail> {
+    scenario(alloc, SAMPLE)
+}
+
 #[test]
-fn a_scenario_answers_its_fields(rt: HostRuntime) -> Result<(), Fail> {
-    let s = scenario(rt.alloc(), SAMPLE)?;
-    assert_eq!(rt; s.until(), 100);
-    assert_eq!(rt; (s.constants().c1, s.constants().d2), (1000, 0));
-    assert_eq!(rt; s.members(), 3);
-    assert_eq!(rt; (s.role(1), s.node(1), s.stream(1)), (Role::Late, 1, 2));
-    assert_eq!(rt; (s.join(1), s.leave(1)), (20, None));
-    assert_eq!(rt; (s.wants(1, 65535), s.wants(1, 2)), (true, false));
-    let id = PacketId {
-        sender: 0,
-        count: 4,
-    };
+fn a_scenario_answers_its_numbers(rt: HostRuntime) -> Result<(), Fail> {
+    let s = sample(rt.alloc())?;
+    assert_eq!(rt; (s.until(), s.members()), (100, 3));
+    let constants = s.constants();
+    assert_eq!(rt; (constants.c1, constants.d2), (1000, 0));
+    Ok(())
+}
+
+// What a scenario answers of a member, if it has it: its role, node, stream, join and leave.
+fn fields_of(s: &Scenario, m: u16) -> Option<(Role, u16, u64, u64, Option<u64>)> {
+    if m < s.members() {
+        Some((s.role(m), s.node(m), s.stream(m), s.join(m), s.leave(m)))
+    } else {
+        None
+    }
+}
+
+#[test]
+fn a_scenario_answers_the_fields_of_a_member(rt: HostRuntime) -> Result<(), Fail> {
+    let s = sample(rt.alloc())?;
+    assert_eq!(rt; fields_of(&s, 1), Some((Role::Late, 1, 2, 20, None)));
+    Ok(())
+}
+
+// Whether a member, if there is one, wants a page.
+fn wants(s: &Scenario, m: u16, page: u16) -> Option<bool> {
+    if m < s.members() {
+        Some(s.wants(m, page))
+    } else {
+        None
+    }
+}
+
+#[test]
+fn a_scenario_answers_the_pages_of_a_member(rt: HostRuntime) -> Result<(), Fail> {
+    let s = sample(rt.alloc())?;
+    assert_eq!(rt;
+        (wants(&s, 1, 65535), wants(&s, 1, 2)),
+        (Some(true), Some(false))
+    );
+    Ok(())
+}
+
+#[test]
+fn a_scenario_lists_its_drops(rt: HostRuntime) -> Result<(), Fail> {
+    let s = sample(rt.alloc())?;
+    let id = packet(0, 4);
     assert!(rt; s.drops().lists(1, id) && !s.drops().lists(0, id));
+    Ok(())
+}
+
+#[test]
+fn network_of_a_scenario(rt: HostRuntime) -> Result<(), Fail> {
+    let s = sample(rt.alloc())?;
+    assert_eq!(rt; s.net(rt.alloc()).map(|net| net.members()), Ok(3));
+    assert_eq!(rt; ticks_between(s.net(rt.alloc()), 0, 2), Some((2, 2, 4)));
     Ok(())
 }
 
@@ -110,77 +170,66 @@ const fn mark(at: u64, rank: u8, place: u16, page: u16, ink: u32) -> Mark {
     }
 }
 
-#[test]
-fn network_and_script_of_a_scenario(rt: HostRuntime) -> Result<(), Fail> {
-    let s = scenario(rt.alloc(), SAMPLE)?;
-    let net = s.net(rt.alloc())?;
-    assert_eq!(rt; net.members(), 3);
-    assert_eq!(rt; net.distance(0, 2), 2);
-    assert_eq!(rt; s.members(), 3);
-    let join = mark(0, 0, 0, 0, 0);
-    let leave = mark(60, 6, 0, 0, 0);
-    let marks = [
-        join,
-        mark(3, 4, 1, 6, 8),
-        mark(3, 5, 0, 0, 0),
-        mark(9, 4, 0, 5, 7),
-        leave,
-    ];
-    assert_eq!(rt; s.script(rt.alloc(), 0)?.as_slice(), marks.as_slice());
-    Ok(())
-}
-
 // The join at tick 0 where none is given, the leave at 60, and draws and session messages by time, rank and place.
-#[test]
-fn each_member_has_its_own_script(rt: HostRuntime) -> Result<(), Fail> {
-    let s = scenario(rt.alloc(), SAMPLE)?;
-    let scripts = s.scripts(rt.alloc())?;
-    assert_eq!(rt; scripts.len(), 3);
-    let sender = [
+fn script_of_the_sender() -> [Mark; 5] {
+    [
         mark(0, 0, 0, 0, 0),
         mark(3, 4, 1, 6, 8),
         mark(3, 5, 0, 0, 0),
         mark(9, 4, 0, 5, 7),
         mark(60, 6, 0, 0, 0),
-    ];
-    assert_eq!(rt; scripts[0].as_slice(), sender.as_slice());
+    ]
+}
+
+#[test]
+fn script_of_a_member(rt: HostRuntime) -> Result<(), Fail> {
+    let s = sample(rt.alloc())?;
+    assert_eq!(rt; s.members(), 3);
+    let script = s.script(rt.alloc(), 0)?;
+    assert_eq!(rt; script.as_slice(), script_of_the_sender().as_slice());
+    Ok(())
+}
+
+// The scripts of all members of the sample.
+fn scripts(alloc: Global) -> Result<Vec<Vec<Mark>>, Fail> {
+    Ok(sample(alloc)?.scripts(alloc)?)
+}
+
+#[test]
+fn each_member_has_its_own_script(rt: HostRuntime) -> Result<(), Fail> {
+    let scripts = scripts(rt.alloc())?;
+    assert_eq!(rt; scripts.len(), 3);
+    assert_eq!(rt; scripts[0].as_slice(), script_of_the_sender().as_slice());
     let late = [mark(20, 0, 0, 0, 0), mark(70, 5, 1, 0, 0)];
     assert_eq!(rt; scripts[1].as_slice(), late.as_slice());
     assert_eq!(rt; scripts[2].as_slice(), [mark(0, 0, 0, 0, 0)].as_slice());
     Ok(())
 }
 
-const fn link(a: u16, b: u16) -> LinkSpec {
-    LinkSpec {
-        a,
-        b,
-        delay: 1,
-        back: 1,
-    }
+// The links of five nodes in a topology.
+fn links_of(alloc: Global, topology: &str) -> Result<Vec<LinkSpec>, Fail> {
+    let lines = format!(in alloc; "size = 5\ndelay = 1\n{topology}\n")?;
+    let s = scenario(alloc, lines.as_str())?;
+    Ok(s.links().to_vec(alloc)?)
 }
 
 #[test]
 fn links_of_topologies(rt: HostRuntime) -> Result<(), Fail> {
-    for (lines, links) in [
+    for (topology, pairs) in [
+        ("topology = \"chain\"", [(0, 1), (1, 2), (2, 3), (3, 4)]),
+        ("topology = \"star\"", [(0, 1), (0, 2), (0, 3), (0, 4)]),
         (
-            "topology = \"chain\"\nsize = 5\ndelay = 1\n",
-            [link(0, 1), link(1, 2), link(2, 3), link(3, 4)],
+            "topology = \"tree\"\ndegree = 2",
+            [(0, 1), (0, 2), (1, 3), (2, 4)],
         ),
         (
-            "topology = \"star\"\nsize = 5\ndelay = 1\n",
-            [link(0, 1), link(0, 2), link(0, 3), link(0, 4)],
-        ),
-        (
-            "topology = \"tree\"\nsize = 5\ndelay = 1\ndegree = 2\n",
-            [link(0, 1), link(0, 2), link(1, 3), link(2, 4)],
-        ),
-        (
-            "topology = \"tree\"\nsize = 5\ndelay = 1\ndegree = 3\n",
-            [link(0, 1), link(0, 2), link(0, 3), link(1, 4)],
+            "topology = \"tree\"\ndegree = 3",
+            [(0, 1), (0, 2), (0, 3), (1, 4)],
         ),
     ] {
-        let s = scenario(rt.alloc(), lines)?;
-        assert_eq!(rt; s.links(), links.as_slice(), "{lines}");
+        let links = links_of(rt.alloc(), topology)?;
+        let want = links_between(rt.alloc(), pairs.as_slice(), 1, 1)?;
+        assert_eq!(rt; links.as_slice(), want.as_slice(), "{topology}");
     }
     Ok(())
 }

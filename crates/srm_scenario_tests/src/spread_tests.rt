@@ -1,95 +1,138 @@
 //! The spread of a packet on small networks.
 ghost use Rattle.std.specs.Prelude.{◌≡◌};
 
+use crate::networks::{END_OF_TIME, LossyNet, links_between, path};
 use srm_net::drops::Drops;
 use srm_net::fate::Fate;
-use srm_net::link::{DropSpec, LinkSpec, OutageSpec};
+use srm_net::fault::NetFault;
+use srm_net::link::{DropSpec, OutageSpec};
 use srm_net::net::Net;
 use srm_net::packet::PacketId;
+use std::alloc::Global;
 use std::test::Fail;
 
-// A link that takes a tick from its first end to its second, and three the other way.
-const fn uneven_link(a: u16, b: u16) -> LinkSpec {
-    LinkSpec {
-        a,
-        b,
-        delay: 1,
-        back: 3,
-    }
-}
-
-// The first packet of a member.
-const fn first_of(sender: u16) -> PacketId
-    ensures { result.sender ≡ sender }
+// The first packet of member 0.
+const fn first_packet() -> PacketId
+    ensures { result.sender ≡ 0 }
 {
-    PacketId { sender, count: 0 }
-}
-
-// Link 1 is out in tick 3.
-const OUTAGE: OutageSpec = OutageSpec {
-    link: 1,
-    from: 3,
-    to: 4,
-};
-
-// The two links of a chain of nodes 0 to 2, which take 1 tick from the node in the middle and 3 to it.
-fn uneven_chain() -> [LinkSpec; 2] {
-    [uneven_link(1, 0), uneven_link(1, 2)]
-}
-
-// From node 0 a packet comes to link 1 three ticks after it is sent.
-#[test]
-fn outage_at_the_second_link(rt: HostRuntime) -> Result<(), Fail> {
-    let net = Net::build(rt.alloc(), 3, &uneven_chain(), &[0, 1, 2])?;
-    let drops = Drops::of(rt.alloc(), &[], &[OUTAGE])?;
-    let spread = net.spread(rt.alloc(), &drops, first_of(0), 0)?;
-    assert!(rt; net.is_reached(&spread, 1));
-    assert!(rt; !net.is_reached(&spread, 2));
-    assert_eq!(rt; net.fate_in(&spread, 0), Fate::Crosses);
-    assert_eq!(rt; net.fate_in(&spread, 1), Fate::Dropped);
-    Ok(())
-}
-
-// A star of links from node 0, which hosts nobody, to nodes 1 to 4, of which node 4 hosts nobody either. Link 1, to member 1, drops a
-// packet of member 0.
-#[test]
-fn star(rt: HostRuntime) -> Result<(), Fail> {
-    let links = [
-        uneven_link(0, 1),
-        uneven_link(2, 0),
-        uneven_link(0, 3),
-        uneven_link(0, 4),
-    ];
-    let net = Net::build(rt.alloc(), 5, &links, &[1, 2, 3])?;
-    let entry = DropSpec {
-        link: 1,
-        id: first_of(0),
-    };
-    let drops = Drops::of(rt.alloc(), &[entry], &[])?;
-    let spread = net.spread(rt.alloc(), &drops, first_of(0), 7)?;
-    assert!(rt; net.is_reached(&spread, 0));
-    assert!(rt; !net.is_reached(&spread, 1));
-    assert_eq!(rt; net.fate_in(&spread, 1), Fate::Dropped);
-    assert_eq!(rt; net.fate_in(&spread, 3), Fate::Neither);
-    Ok(())
-}
-
-// A path of 1,024 nodes with members on its ends and in the middle. The last link drops a packet of the first member.
-#[test]
-fn drop_at_the_end_of_the_longest_chain(rt: HostRuntime) -> Result<(), Fail> {
-    let mut links = Vec::new(rt.alloc());
-    for node in 0..1023 {
-        links.push(uneven_link(node, node + 1))?;
+    PacketId {
+        sender: 0,
+        count: 0,
     }
-    let net = Net::build(rt.alloc(), 1024, &links, &[0, 512, 1023])?;
-    let entry = DropSpec {
-        link: 1022,
-        id: first_of(0),
+}
+
+// Whether the spread of that packet reaches a member. There is no answer where there is no network, or it has no such member.
+fn is_reached(alloc: Global, on: Result<LossyNet, NetFault>, sent: u64, m: u16) -> Option<bool> {
+    let LossyNet { net, drops } = on.ok()?;
+    if sent >= END_OF_TIME || m >= net.members() {
+        return None;
+    }
+    let Ok(spread) = net.spread(alloc, &drops, first_packet(), sent) else {
+        return None;
     };
-    let drops = Drops::of(rt.alloc(), &[entry], &[])?;
-    let spread = net.spread(rt.alloc(), &drops, first_of(0), 0)?;
-    assert!(rt; net.is_reached(&spread, 1));
-    assert!(rt; !net.is_reached(&spread, 2));
+    Some(net.is_reached(&spread, m))
+}
+
+// What the same spread tells of a link. There is no answer where there is no network, or it has no member or no such link.
+fn fate(alloc: Global, on: Result<LossyNet, NetFault>, sent: u64, link: u16) -> Option<Fate> {
+    let LossyNet { net, drops } = on.ok()?;
+    if sent >= END_OF_TIME || net.members() == 0 || usize::from(link) >= net.links().len() {
+        return None;
+    }
+    let Ok(spread) = net.spread(alloc, &drops, first_packet(), sent) else {
+        return None;
+    };
+    Some(net.fate_in(&spread, link))
+}
+
+// Two links of a chain of nodes 0 to 2, which take 1 tick from the node in the middle and 3 to it. From node 0 a packet comes to
+// link 1 three ticks after it is sent: if it is sent at tick 0, in the link's outage.
+fn chain_with_an_outage(alloc: Global) -> Result<LossyNet, NetFault> {
+    let outage = OutageSpec {
+        link: 1,
+        from: 3,
+        to: 4,
+    };
+    let links = links_between(alloc, &[(1, 0), (1, 2)], 1, 3)?;
+    LossyNet::build(alloc, &links, &[0, 1, 2], &[], &[outage])
+}
+
+#[test]
+fn members_behind_an_outage(rt: HostRuntime) {
+    let alloc = rt.alloc();
+    for (m, want) in [(1, true), (2, false)] {
+        let told = is_reached(alloc, chain_with_an_outage(alloc), 0, m);
+        assert_eq!(rt; told, Some(want), "member {m}");
+    }
+}
+
+#[test]
+fn outage_at_the_second_link(rt: HostRuntime) {
+    let alloc = rt.alloc();
+    for (link, want) in [(0, Fate::Crosses), (1, Fate::Dropped)] {
+        let told = fate(alloc, chain_with_an_outage(alloc), 0, link);
+        assert_eq!(rt; told, Some(want), "link {link}");
+    }
+}
+
+// A star of links from node 0, which hosts nobody, to nodes 1 to 4, of which node 4 hosts nobody either. Link 1, to member 1, drops
+// a packet of member 0.
+fn star_with_a_drop(alloc: Global) -> Result<LossyNet, NetFault> {
+    let drop = DropSpec {
+        link: 1,
+        id: first_packet(),
+    };
+    let links = links_between(alloc, &[(0, 1), (2, 0), (0, 3), (0, 4)], 1, 3)?;
+    LossyNet::build(alloc, &links, &[1, 2, 3], &[drop], &[])
+}
+
+#[test]
+fn members_of_a_star(rt: HostRuntime) {
+    let alloc = rt.alloc();
+    for (m, want) in [(0, true), (1, false)] {
+        let told = is_reached(alloc, star_with_a_drop(alloc), 7, m);
+        assert_eq!(rt; told, Some(want), "member {m}");
+    }
+}
+
+#[test]
+fn links_of_a_star(rt: HostRuntime) {
+    let alloc = rt.alloc();
+    for (link, want) in [(1, Fate::Dropped), (3, Fate::Neither)] {
+        let told = fate(alloc, star_with_a_drop(alloc), 7, link);
+        assert_eq!(rt; told, Some(want), "link {link}");
+    }
+}
+
+// The last link of a path of 1,024 nodes drops a packet of the member on its first node.
+fn drop_at_the_end() -> DropSpec {
+    DropSpec {
+        link: 1022,
+        id: first_packet(),
+    }
+}
+
+// A path of 1,024 nodes with members on its ends and in the middle.
+fn longest_chain(alloc: Global) -> Result<LossyNet, NetFault> {
+    let links = path(alloc, 1023, 1, 3)?;
+    LossyNet::build(alloc, &links, &[0, 512, 1023], &[drop_at_the_end()], &[])
+}
+
+#[test]
+fn members_before_and_behind_a_drop_at_the_end_of_the_longest_chain(rt: HostRuntime) {
+    let alloc = rt.alloc();
+    for (m, want) in [(1, true), (2, false)] {
+        let told = is_reached(alloc, longest_chain(alloc), 0, m);
+        assert_eq!(rt; told, Some(want), "member {m}");
+    }
+}
+
+#[test]
+fn the_node_before_a_drop_at_the_end_of_the_longest_chain(rt: HostRuntime) -> Result<(), Fail> {
+    let links = path(rt.alloc(), 1023, 1, 3)?;
+    let net = Net::build(rt.alloc(), 1024, &links, &[0, 512, 1023])?;
+    let drops = Drops::of(rt.alloc(), &[drop_at_the_end()], &[])?;
+    let spread = net.spread(rt.alloc(), &drops, first_packet(), 0)?;
     assert!(rt; spread.comes_to(1022));
     Ok(())
 }
