@@ -17,6 +17,7 @@ use srm_net::packet::{Body, Name, Packet, PacketId};
 use srm_net::sequence::Sequence;
 use srm_scenario::mark::Mark;
 use std::alloc::{AllocError, Global};
+use std::process::Abort;
 use std::sync::Arc;
 use std::sync::atomic::{AtomicU64, Ordering};
 use std::test::Fail;
@@ -107,61 +108,105 @@ fn cell_of(alloc: Global, drops: &Arc<AtomicU64>, script: Vec<Mark>) -> Result<C
     Ok(Cell::new(alloc, Box::new(alloc, probe)?, script, 0))
 }
 
+// What came of an event, and which packet was sent.
+type Outcome = (Told, Option<PacketId>);
+
+// What came of the cell's next event, if it has one before this tick.
+fn step_before(alloc: Global, cell: &mut Cell, end: u32) -> Result<Option<Outcome>, CellFault> {
+    let Some(row) = cell.step(alloc, u64::from(end))? else {
+        return Ok(None);
+    };
+    let sent = match &row.sent {
+        Some(packet) => Some(packet.id),
+        None => None,
+    };
+    Ok(Some((row.told, sent)))
+}
+
+// The number in what the cell's member ends with.
+fn ended_number(alloc: Global, cell: Cell) -> Result<u16, CellFault> {
+    let exit = cell.finish(alloc)?;
+    Ok(exit.member)
+}
+
+// When a cell's next event is, what came of it, and how often the box was dropped after it.
+type Step = (Option<u64>, Result<Option<Outcome>, CellFault>, u64);
+
+// Asserts what comes of steps of a cell, each before a tick.
+fn expect_steps(
+    rt: &impl Abort,
+    alloc: Global,
+    cell: &mut Cell,
+    drops: &AtomicU64,
+    steps: &[(u32, Step)],
+) {
+    for (end, expected) in steps {
+        let next_time = cell.next_time();
+        let outcome = step_before(alloc, cell, *end);
+        let step = (next_time, outcome, drops.load(Ordering::SeqCst));
+        assert_eq!(rt; step, *expected, "before tick {end}");
+    }
+}
+
+const LEAVE_AND_REPORT: [(u32, Step); 3] = [
+    (3, (Some(3), Ok(None), 0)),
+    (4, (Some(3), Ok(Some((Told::Parted, None))), 1)),
+    (5, (Some(4), Err(CellFault::Spent), 1)),
+];
+
 #[test]
 fn a_box_is_dropped_before_the_row_after_its_leave(rt: HostRuntime) -> Result<(), Fail> {
     let alloc = rt.alloc();
     let drops = Arc::new(alloc, AtomicU64::new(0))?;
-    let mut cell = cell_of(
-        alloc,
-        &drops,
-        Vec::from_array(alloc, [leave(3), report(4)])?,
-    )?;
-    assert_eq!(rt; cell.next_time(), Some(3));
-    assert!(rt; cell.step(alloc, 3).ok().expect(&rt, "a step").is_none());
-    assert_eq!(rt; drops.load(Ordering::SeqCst), 0);
-    let row = cell
-        .step(alloc, 4)
-        .ok()
-        .expect(&rt, "a step")
-        .expect(&rt, "a row");
-    assert_eq!(rt; row.told, Told::Parted);
-    assert_eq!(rt; drops.load(Ordering::SeqCst), 1);
-    assert_eq!(rt; cell.next_time(), Some(4));
-    assert!(rt; matches!(&cell.step(alloc, 5), Err(CellFault::Spent)));
-    let exit = cell.finish(alloc).ok().expect(&rt, "an exit");
-    assert_eq!(rt; exit.member, 7);
-    assert_eq!(rt; drops.load(Ordering::SeqCst), 1);
+    let script = Vec::from_array(alloc, [leave(3), report(4)])?;
+    let mut cell = cell_of(alloc, &drops, script)?;
+    expect_steps(&rt, alloc, &mut cell, &drops, &LEAVE_AND_REPORT);
+    let number = ended_number(alloc, cell);
+    assert_eq!(rt; (number, drops.load(Ordering::SeqCst)), (Ok(7), 1));
+    Ok(())
+}
+
+// A cell whose member leaves at tick 9.
+fn staying_cell(alloc: Global, drops: &Arc<AtomicU64>) -> Result<Cell, Fail>
+    ensures { IfOk result (λ c. [] ≡ c.inbox) }
+{
+    let script = Vec::from_array(alloc, [leave(9), report(10)])?;
+    cell_of(alloc, drops, script)
+}
+
+// A request of member 1, its first packet.
+const REQUEST: Packet = Packet {
+    id: PacketId {
+        sender: 1,
+        count: 0,
+    },
+    sent: 1,
+    body: Body::Request {
+        name: Name {
+            source: 1,
+            page: 0,
+            number: 0,
+        },
+    },
+};
+
+#[test]
+fn a_box_that_stays_is_dropped_as_its_cell_ends(rt: HostRuntime) -> Result<(), Fail> {
+    let alloc = rt.alloc();
+    let drops = Arc::new(alloc, AtomicU64::new(0))?;
+    let mut cell = staying_cell(alloc, &drops)?;
+    let accepted = cell.accept(&REQUEST, 2);
+    assert_eq!(rt; (accepted, cell.next_time()), (Ok(()), Some(2)));
+    let number = ended_number(alloc, cell);
+    assert_eq!(rt; (number, drops.load(Ordering::SeqCst)), (Ok(7), 1));
     Ok(())
 }
 
 #[test]
 fn a_box_that_stays_is_dropped_with_its_cell(rt: HostRuntime) -> Result<(), Fail> {
-    let alloc = rt.alloc();
-    let drops = Arc::new(alloc, AtomicU64::new(0))?;
-    let script = Vec::from_array(alloc, [leave(9), report(10)])?;
-    let mut cell = cell_of(alloc, &drops, script)?;
-    let packet = Packet {
-        id: PacketId {
-            sender: 1,
-            count: 0,
-        },
-        sent: 1,
-        body: Body::Request {
-            name: Name {
-                source: 1,
-                page: 0,
-                number: 0,
-            },
-        },
-    };
-    assert_eq!(rt; cell.accept(&packet, 2), Ok(()));
-    assert_eq!(rt; cell.next_time(), Some(2));
-    let exit = cell.finish(alloc).ok().expect(&rt, "an exit");
-    assert_eq!(rt; exit.member, 7);
+    let drops = Arc::new(rt.alloc(), AtomicU64::new(0))?;
+    drop(staying_cell(rt.alloc(), &drops)?);
     assert_eq!(rt; drops.load(Ordering::SeqCst), 1);
-    let script = Vec::from_array(alloc, [leave(9), report(10)])?;
-    drop(cell_of(alloc, &drops, script)?);
-    assert_eq!(rt; drops.load(Ordering::SeqCst), 2);
     Ok(())
 }
 
@@ -232,18 +277,14 @@ fn last_packet(alloc: Global) -> Result<Cell, AllocError> {
 
 #[test]
 fn a_cell_sends_its_last_packet_and_then_answers_count_full(rt: HostRuntime) -> Result<(), Fail> {
-    let alloc = rt.alloc();
-    let mut cell = last_packet(alloc)?;
-    let row = cell
-        .step(alloc, 20)
-        .ok()
-        .expect(&rt, "a step")
-        .expect(&rt, "a row");
+    let mut cell = last_packet(rt.alloc())?;
     let last = PacketId {
         sender: 1,
         count: 281_474_976_710_655,
     };
-    assert_eq!(rt; row.sent.as_ref().expect(&rt, "a packet").id, last);
-    assert!(rt; matches!(&cell.step(alloc, 20), Err(CellFault::CountFull)));
+    let sent = Ok(Some((Told::Sent, Some(last))));
+    for outcome in [sent, Err(CellFault::CountFull)] {
+        assert_eq!(rt; step_before(rt.alloc(), &mut cell, 20), outcome);
+    }
     Ok(())
 }

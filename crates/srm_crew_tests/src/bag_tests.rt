@@ -1,154 +1,175 @@
 //! A bag of numbers: calls in a row, and the refusals between them.
-ghost use Rattle.std.specs.Prelude.{◌≡◌, IfSome};
+ghost use Rattle.std.specs.Prelude.{◌≡◌, ◌≤◌};
 
 use srm_crew::bag::Bag;
 use srm_crew::bag_fault::{EmptyFault, PutFault, SplitFault};
 use srm_crew::pass::Pass;
 use std::alloc::Global;
+use std::process::Abort;
 use std::sync::Wait;
-use std::test::Fail;
+
+// A bag with room for so many numbers after these were put into it, and its whole pass.
+fn bag_of<R: Abort + Wait>(
+    rt: &R,
+    alloc: Global,
+    room: usize,
+    numbers: &[u32],
+) -> (Bag<u32>, Pass<u32>)
+    requires { (1 ≤ room) × (room ≤ 1024) }
+    ensures { result.1.bag ≡ result.0.name }
+{
+    let Ok((bag, mut pass)) = Bag::open(alloc, room) else {
+        panic!(rt; "no bag");
+    };
+    for number in numbers {
+        assert_eq!(rt; bag.put(rt, &mut pass, *number), Ok(()));
+    }
+    (bag, pass)
+}
+
+// The two halves of a pass.
+fn halves(rt: &impl Abort, alloc: Global, bag: &Bag<u32>, pass: Pass<u32>) -> (Pass<u32>, Pass<u32>)
+    requires { pass.bag ≡ bag.now.name }
+    ensures { (result.0.bag ≡ bag.now.name) × (result.1.bag ≡ bag.now.name) }
+{
+    let Ok(both) = bag.split(alloc, pass) else {
+        panic!(rt; "no halves");
+    };
+    both
+}
+
+// What each of two passes takes, the first one first.
+fn taken_in_turn<R: Wait>(
+    rt: &R,
+    bag: &Bag<u32>,
+    first: &mut Pass<u32>,
+    second: &mut Pass<u32>,
+) -> [Option<u32>; 2]
+    requires { (first.old.bag ≡ bag.now.name) × (second.old.bag ≡ bag.now.name) }
+    ensures { (first.new.bag ≡ bag.now.name) × (second.new.bag ≡ bag.now.name) }
+{
+    [bag.take(rt, first), bag.take(rt, second)]
+}
+
+// Asserts that the bag is not emptied by this pass, for this reason. Both come back.
+fn expect_not_emptied(
+    rt: &impl Abort,
+    bag: Bag<u32>,
+    pass: Pass<u32>,
+    reason: EmptyFault,
+) -> (Bag<u32>, Pass<u32>)
+    requires { pass.bag ≡ bag.name }
+    ensures { result.1.bag ≡ result.0.name }
+{
+    let Err((bag, pass, fault)) = bag.empty(pass) else {
+        panic!(rt; "emptied");
+    };
+    assert_eq!(rt; fault, reason);
+    (bag, pass)
+}
 
 #[test]
 fn numbers_are_put_until_the_bag_is_full(rt: HostRuntime) {
-    let opened: Result<(Bag<u32>, Pass<u32>), _> = Bag::open(rt.alloc(), 2);
-    let Ok((bag, mut pass)) = opened else {
-        assert!(rt; false, "no bag");
-        return;
-    };
-    assert_eq!(rt; bag.put(&rt, &mut pass, 10), Ok(()));
-    assert_eq!(rt; bag.put(&rt, &mut pass, 11), Ok(()));
+    let (bag, mut pass) = bag_of(&rt, rt.alloc(), 2, &[10, 11]);
     assert_eq!(rt; bag.put(&rt, &mut pass, 12), Err((12, PutFault::Full)));
 }
 
 #[test]
 fn each_number_is_taken_once_by_two_passes(rt: HostRuntime) {
-    let alloc = rt.alloc();
-    let opened: Result<(Bag<u32>, Pass<u32>), _> = Bag::open(alloc, 3);
-    let Ok((bag, mut pass)) = opened else {
-        assert!(rt; false, "no bag");
-        return;
-    };
-    assert_eq!(rt; bag.put(&rt, &mut pass, 10), Ok(()));
-    assert_eq!(rt; bag.put(&rt, &mut pass, 11), Ok(()));
-    let Ok((mut first, mut second)) = bag.split(alloc, pass) else {
-        assert!(rt; false, "no halves");
-        return;
-    };
+    let (bag, pass) = bag_of(&rt, rt.alloc(), 3, &[10, 11]);
+    let (mut first, mut second) = halves(&rt, rt.alloc(), &bag, pass);
     assert_eq!(rt; bag.put(&rt, &mut first, 13), Err((13, PutFault::NotWhole)));
-    assert_eq!(rt; bag.take(&rt, &mut first), Some(10));
-    assert_eq!(rt; bag.take(&rt, &mut second), Some(11));
-    assert_eq!(rt; bag.take(&rt, &mut first), None);
-    assert_eq!(rt; bag.take(&rt, &mut second), None);
+    let taken = [
+        taken_in_turn(&rt, &bag, &mut first, &mut second),
+        taken_in_turn(&rt, &bag, &mut first, &mut second),
+    ];
+    assert_eq!(rt; taken, [[Some(10), Some(11)], [None, None]]);
 }
 
 #[test]
 fn a_bag_is_emptied_by_a_whole_pass_alone(rt: HostRuntime) {
-    let alloc = rt.alloc();
-    let opened: Result<(Bag<u32>, Pass<u32>), _> = Bag::open(alloc, 1);
-    let Ok((bag, mut pass)) = opened else {
-        assert!(rt; false, "no bag");
-        return;
-    };
-    assert_eq!(rt; bag.put(&rt, &mut pass, 10), Ok(()));
-    let Err((bag, pass, fault)) = bag.empty(pass) else {
-        assert!(rt; false, "emptied with an item in it");
-        return;
-    };
-    assert_eq!(rt; fault, EmptyFault::NotEmpty);
-    let Ok((mut first, _)) = bag.split(alloc, pass) else {
-        assert!(rt; false, "no halves");
-        return;
-    };
+    let (bag, pass) = bag_of(&rt, rt.alloc(), 1, &[10]);
+    let (bag, pass) = expect_not_emptied(&rt, bag, pass, EmptyFault::NotEmpty);
+    let (mut first, _) = halves(&rt, rt.alloc(), &bag, pass);
     assert_eq!(rt; bag.take(&rt, &mut first), Some(10));
-    let Err((_, _, fault)) = bag.empty(first) else {
-        assert!(rt; false, "emptied by a half");
-        return;
-    };
-    assert_eq!(rt; fault, EmptyFault::NotWhole);
+    expect_not_emptied(&rt, bag, first, EmptyFault::NotWhole);
+}
+
+// The pass after its first half took 10 and its second half 11.
+fn taken_by_halves<R: Abort + Wait>(
+    rt: &R,
+    alloc: Global,
+    bag: &Bag<u32>,
+    pass: Pass<u32>,
+) -> Pass<u32>
+    requires { pass.bag ≡ bag.now.name }
+    ensures { result.bag ≡ bag.now.name }
+{
+    let (mut first, mut second) = halves(rt, alloc, bag, pass);
+    let taken = taken_in_turn(rt, bag, &mut first, &mut second);
+    assert_eq!(rt; taken, [Some(10), Some(11)]);
+    bag.join(first, second)
+}
+
+// The pass after its first half took 12.
+fn taken_by_first_half<R: Abort + Wait>(
+    rt: &R,
+    alloc: Global,
+    bag: &Bag<u32>,
+    pass: Pass<u32>,
+) -> Pass<u32>
+    requires { pass.bag ≡ bag.now.name }
+    ensures { result.bag ≡ bag.now.name }
+{
+    let (mut first, second) = halves(rt, alloc, bag, pass);
+    assert_eq!(rt; bag.take(rt, &mut first), Some(12));
+    bag.join(first, second)
+}
+
+// Asserts that the bag is emptied by this pass, which took these places.
+fn expect_places(rt: &impl Abort, bag: Bag<u32>, pass: Pass<u32>, places: &[usize])
+    requires { pass.bag ≡ bag.name }
+{
+    match bag.empty(pass) {
+        Ok(taken) => assert_eq!(rt; taken.places.as_slice(), places),
+        Err(_) => panic!(rt; "not emptied"),
+    }
 }
 
 // The first pass takes 0, and after the join with the second, which takes 1, its first half takes 2.
 #[test]
 fn a_join_puts_the_places_of_the_first_pass_first(rt: HostRuntime) {
-    let alloc = rt.alloc();
-    let opened: Result<(Bag<u32>, Pass<u32>), _> = Bag::open(alloc, 3);
-    let Ok((bag, mut pass)) = opened else {
-        assert!(rt; false, "no bag");
-        return;
-    };
-    assert!(rt; bag.put(&rt, &mut pass, 10).is_ok());
-    assert!(rt; bag.put(&rt, &mut pass, 11).is_ok());
-    assert!(rt; bag.put(&rt, &mut pass, 12).is_ok());
-    let Some(pass) = taken_by_halves(&rt, alloc, &bag, pass) else {
-        assert!(rt; false, "not taken");
-        return;
-    };
-    let Ok(taken) = bag.empty(pass) else {
-        assert!(rt; false, "not emptied");
-        return;
-    };
-    assert_eq!(rt; taken.places.as_slice(), [0, 1, 2].as_slice());
-}
-
-// A pass after its first half and its second half took a number each, in turn, and the first half of both together another.
-fn taken_by_halves<R: Wait>(
-    rt: &R,
-    alloc: Global,
-    bag: &Bag<u32>,
-    pass: Pass<u32>,
-) -> Option<Pass<u32>>
-    requires { pass.bag ≡ bag.now.name }
-    ensures { IfSome result (λ p. p.bag ≡ bag.now.name) }
-{
-    let Ok((mut first, mut second)) = bag.split(alloc, pass) else {
-        return None;
-    };
-    let _first = bag.take(rt, &mut first)?;
-    let _second = bag.take(rt, &mut second)?;
-    let pass = bag.join(first, second);
-    let Ok((mut first, second)) = bag.split(alloc, pass) else {
-        return None;
-    };
-    let _third = bag.take(rt, &mut first)?;
-    Some(bag.join(first, second))
-}
-
-#[test]
-fn a_pass_is_split_sixteen_times_and_no_more(rt: HostRuntime) -> Result<(), Fail> {
-    let alloc = rt.alloc();
-    let opened: Result<(Bag<u32>, Pass<u32>), _> = Bag::open(alloc, 1);
-    let Ok((bag, pass)) = opened else {
-        assert!(rt; false, "no bag");
-        return Ok(());
-    };
-    let Some(least) = first_half_of_each(alloc, &bag, pass, 16) else {
-        assert!(rt; false, "refused too soon");
-        return Ok(());
-    };
-    let Err((_, fault)) = bag.split(alloc, least) else {
-        assert!(rt; false, "split once more");
-        return Ok(());
-    };
-    assert_eq!(rt; fault, SplitFault::TooManySeats);
-    Ok(())
+    let (bag, pass) = bag_of(&rt, rt.alloc(), 3, &[10, 11, 12]);
+    let pass = taken_by_halves(&rt, rt.alloc(), &bag, pass);
+    let pass = taken_by_first_half(&rt, rt.alloc(), &bag, pass);
+    expect_places(&rt, bag, pass, &[0, 1, 2]);
 }
 
 // The first half of the first half and so on, after so many splits.
 fn first_half_of_each(
+    rt: &impl Abort,
     alloc: Global,
     bag: &Bag<u32>,
     pass: Pass<u32>,
     splits: usize,
-) -> Option<Pass<u32>>
+) -> Pass<u32>
     requires { pass.bag ≡ bag.now.name }
-    ensures { IfSome result (λ p. p.bag ≡ bag.now.name) }
+    ensures { result.bag ≡ bag.now.name }
 {
     let mut left = pass;
     for _ in 0..splits {
-        let Ok((first, _)) = bag.split(alloc, left) else {
-            return None;
-        };
+        let (first, _) = halves(rt, alloc, bag, left);
         left = first;
     }
-    Some(left)
+    left
+}
+
+#[test]
+fn a_pass_is_split_sixteen_times_and_no_more(rt: HostRuntime) {
+    let (bag, pass) = bag_of(&rt, rt.alloc(), 1, &[]);
+    let least = first_half_of_each(&rt, rt.alloc(), &bag, pass, 16);
+    let Err((_, fault)) = bag.split(rt.alloc(), least) else {
+        panic!(rt; "split once more");
+    };
+    assert_eq!(rt; fault, SplitFault::TooManySeats);
 }

@@ -4,5 +4,5 @@ mod case;
 mod cases;
 pub(crate) mod handing;
 mod mapped;
-mod seats;
+pub(crate) mod seats;
 mod seen;

@@ -1,11 +1,12 @@
 //! Jobs that wait for each other at the gate.
-ghost use Rattle.std.specs.Prelude.{◌≡◌, ◌≤◌, length, IfOk};
+ghost use Rattle.std.specs.Prelude.{◌≡◌, ◌<◌, ◌≤◌, length, IfOk};
 ghost use denote.Param.Send.{IsSync};
 ghost use Rattle.srm_scenario.specs.Plain.{network_of};
 ghost use Rattle.srm_crew_tests.specs.Handed.{MayMap};
 
-use crate::crew_tests::handing::{add_job, cell_of, idle_jobs, opened};
-use srm_cell::job::Job;
+use crate::crew_tests::handing::{add_member, idle_jobs, opened};
+use crate::crew_tests::seats::ledger_of;
+use srm_cell::job::{Done, Job};
 use srm_crew::bag_crew::BagCrew;
 use srm_crew::fault::CrewFault;
 use srm_crew::gate::Gate;
@@ -26,6 +27,33 @@ use std::process::Abort;
 use std::sync::atomic::{AtomicU64, Ordering};
 use std::sync::{Arc, Wait};
 use std::thread::Threads;
+
+// Hands jobs to a crew with a gate of its own.
+fn map_jobs<R: Threads + Wait + Sync, G: Gate + Sync>(
+    rt: &impl Abort,
+    alloc: Global,
+    crew: &BagCrew<R, G>,
+    scenario: &Scenario,
+    net: &Net,
+    ledger: &Ledger,
+    seat: Seat,
+    jobs: Vec<Job>,
+) -> Result<(Vec<Done>, Seat), AllocError>
+    requires ready { IsSync R.row }
+    requires links { ledger.now.links ≡ length net.now.links }
+    requires seat { seat.ledger ≡ ledger.now.name }
+    requires jobs { MayMap (λ b. (⟦<dyn Member as Member>⟧ b.vtable).plain b.value)
+        (length net.now.hosts) jobs.items }
+    ensures { IfOk result (λ r. r.1.ledger ≡ ledger.now.name) }
+{
+    match crew.map_with_gate(alloc, scenario, net, ledger, seat, jobs) {
+        Ok(mapped) => Ok(mapped),
+        Err(fault) => {
+            assert_eq!(rt; fault, CrewFault::NoMemory);
+            Err(AllocError)
+        }
+    }
+}
 
 /// A gate at which the jobs of two places wait for each other.
 #[derive(Drop)]
@@ -56,13 +84,7 @@ fn meet<R: Threads + Wait + Sync>(
     ensures { IfOk result (λ s. s.ledger ≡ ledger.now.name) }
 {
     let jobs = idle_jobs(rt, alloc, net, count)?;
-    let (done, seat) = match crew.map_with_gate(alloc, scenario, net, ledger, seat, jobs) {
-        Ok(mapped) => mapped,
-        Err(fault) => {
-            assert_eq!(rt; fault, CrewFault::NoMemory);
-            return Err(AllocError);
-        }
-    };
+    let (done, seat) = map_jobs(rt, alloc, crew, scenario, net, ledger, seat, jobs)?;
     assert_eq!(rt; done.len(), count);
     Ok(seat)
 }
@@ -92,6 +114,20 @@ fn meet_again<R: Threads + Wait + Sync>(
     Ok(())
 }
 
+// The same, with a ledger of its own.
+fn meet_on_two_nodes<R: Threads + Wait + Sync>(
+    rt: &impl Abort,
+    alloc: Global,
+    crew: &BagCrew<R, MeetingGate>,
+    count: usize,
+) -> Result<(), AllocError>
+    requires { IsSync R.row }
+{
+    let (scenario, net) = opened(rt, alloc, TWO_NODES.scenario)?;
+    let (ledger, seat) = ledger_of(rt, alloc, &net)?;
+    meet_again(rt, alloc, crew, &scenario, &net, &ledger, seat, count)
+}
+
 // So many jobs, with so many workers, again and again. Each time the jobs of this place and of the next one are under way at once.
 fn meet_often<R: Abort + Threads + Wait + Sync>(
     rt: &R,
@@ -102,22 +138,14 @@ fn meet_often<R: Abort + Threads + Wait + Sync>(
 ) -> Result<(), AllocError>
     requires { (2 ≤ workers) × (workers ≤ 64) }
 {
-    let (scenario, net) = opened(rt, alloc, TWO_NODES.scenario)?;
-    let links = net.links().len();
-    assert!(rt; links <= 255);
-    let Ok((ledger, seat)) = Ledger::open(alloc, links) else {
-        return Err(AllocError);
-    };
     let meeting = Meeting::new(alloc, place)?;
     let gate = MeetingGate {
         meeting: Arc::try_clone(&meeting)?,
     };
-    let crew = BagCrew::new(rt, gate, workers);
-    meet_again(rt, alloc, &crew, &scenario, &net, &ledger, seat, count)?;
+    meet_on_two_nodes(rt, alloc, &BagCrew::new(rt, gate, workers), count)?;
     let entries = meeting.entries();
-    assert_eq!(rt; entries.missed, 0);
-    assert_eq!(rt; entries.first, TIMES);
-    assert_eq!(rt; entries.second, TIMES);
+    let counts = [entries.missed, entries.first, entries.second];
+    assert_eq!(rt; counts, [0, TIMES, TIMES]);
     Ok(())
 }
 
@@ -137,81 +165,102 @@ fn two_workers_meet_at_the_gate_with_their_second_jobs(rt: HostRuntime) -> Resul
     meet_often(&rt, rt.alloc(), 2, 4, 2)
 }
 
+/// What is counted of a member and of a gate.
+#[derive(Drop)]
+struct Counts {
+    /// How often the member has reacted.
+    reacts: Arc<AtomicU64>,
+    /// How many jobs have entered the gate.
+    entered: AtomicU64,
+    /// How often the member had reacted when they entered.
+    reacted: AtomicU64,
+}
+
+impl Counts {
+    fn new(alloc: Global) -> Result<Arc<Counts>, AllocError> {
+        let reacts = Arc::new(alloc, AtomicU64::new(0))?;
+        Ok(Arc::new(
+            alloc,
+            Counts {
+                reacts,
+                entered: AtomicU64::new(0),
+                reacted: AtomicU64::new(0),
+            },
+        )?)
+    }
+
+    // The jobs that entered, the reactions by then, and all of them.
+    fn numbers(&self) -> [u64; 3] {
+        [
+            self.entered.load(Ordering::SeqCst),
+            self.reacted.load(Ordering::SeqCst),
+            self.reacts.load(Ordering::SeqCst),
+        ]
+    }
+}
+
 /// A gate that notes how many jobs entered it, and how often a member had reacted by then.
 #[derive(Drop)]
 struct EarlyGate {
-    reacts: Arc<AtomicU64>,
-    entered: Arc<AtomicU64>,
-    reacted: Arc<AtomicU64>,
+    counts: Arc<Counts>,
 }
 
 impl Gate for EarlyGate {
     fn enter<T, R: Wait>(&self, _rt: &R, _place: usize, _pass: &Pass<T>) {
-        let reacted = self.reacts.load(Ordering::SeqCst);
-        self.reacted.fetch_add(reacted, Ordering::SeqCst);
-        self.entered.fetch_add(1, Ordering::SeqCst);
+        let reacted = self.counts.reacts.load(Ordering::SeqCst);
+        self.counts.reacted.fetch_add(reacted, Ordering::SeqCst);
+        self.counts.entered.fetch_add(1, Ordering::SeqCst);
     }
 }
 
-// The job of a scenario's first member, a sender that counts how often it reacts, up to tick 1.
-fn counting_job(
+// A scenario's first member, a sender, that counts how often it reacts.
+fn counting_sender(
     rt: &impl Abort,
     alloc: Global,
     scenario: &Scenario,
     net: &Net,
     reacts: Arc<AtomicU64>,
-) -> Result<Vec<Job>, AllocError>
-    requires { net.now ≡ network_of scenario.now }
-    ensures { IfOk result (λ jobs. MayMap (λ b. (⟦<dyn Member as Member>⟧ b.vtable).plain b.value)
-        (length net.now.hosts) jobs.items) }
+) -> Result<Box<dyn Member>, AllocError>
+    requires network { net.now ≡ network_of scenario.now }
+    requires member { 0 < length scenario.now.members }
 {
-    if scenario.members() == 0 {
-        assert!(rt; false, "no member");
-        return Err(AllocError);
-    }
     let Role::Sender = scenario.role(0) else {
-        assert!(rt; false, "no sender");
-        return Err(AllocError);
+        panic!(rt; "no sender");
     };
-    let Ok(inner) = Sender::new(alloc, scenario, net, 0, 0) else {
-        return Err(AllocError);
-    };
-    let member: Box<dyn Member> = Box::new(alloc, Counted { inner, reacts })?;
-    let Ok(script) = scenario.script(alloc, 0) else {
-        return Err(AllocError);
-    };
-    let cells = cell_of(rt, alloc, net, member, script, 0)?;
+    match Sender::new(alloc, scenario, net, 0, 0) {
+        Ok(inner) => Ok(Box::new(alloc, Counted { inner, reacts })?),
+        Err(_) => Err(AllocError),
+    }
+}
+
+// Hands a crew the job of a scenario's first member up to tick 1.
+fn map_sender<R: Threads + Wait + Sync>(
+    rt: &impl Abort,
+    alloc: Global,
+    crew: &BagCrew<R, EarlyGate>,
+    reacts: Arc<AtomicU64>,
+) -> Result<(), AllocError>
+    requires { IsSync R.row }
+{
+    let (scenario, net) = opened(rt, alloc, TWO_NODES.scenario)?;
+    assert!(rt; scenario.members() > 0);
+    let sender = counting_sender(rt, alloc, &scenario, &net, reacts)?;
     let mut jobs = Vec::new(alloc);
-    add_job(rt, net, &mut jobs, 1, cells)?;
-    Ok(jobs)
+    add_member(rt, alloc, &scenario, &net, &mut jobs, 1, sender, 0, 0)?;
+    let (ledger, seat) = ledger_of(rt, alloc, &net)?;
+    map_jobs(rt, alloc, crew, &scenario, &net, &ledger, seat, jobs)?;
+    Ok(())
 }
 
 // The sender joins and draws at tick 0: it has reacted not once when its job enters, and twice when the job is done.
 #[test]
 fn a_job_enters_the_gate_before_its_events_are_handled(rt: HostRuntime) -> Result<(), AllocError> {
-    let alloc = rt.alloc();
-    let (scenario, net) = opened(&rt, alloc, TWO_NODES.scenario)?;
-    let links = net.links().len();
-    assert!(rt; links <= 255);
-    let Ok((ledger, seat)) = Ledger::open(alloc, links) else {
-        return Err(AllocError);
-    };
-    let reacts = Arc::new(alloc, AtomicU64::new(0))?;
-    let entered = Arc::new(alloc, AtomicU64::new(0))?;
-    let reacted = Arc::new(alloc, AtomicU64::new(0))?;
-    let jobs = counting_job(&rt, alloc, &scenario, &net, Arc::try_clone(&reacts)?)?;
+    let counts = Counts::new(rt.alloc())?;
     let gate = EarlyGate {
-        reacts: Arc::try_clone(&reacts)?,
-        entered: Arc::try_clone(&entered)?,
-        reacted: Arc::try_clone(&reacted)?,
+        counts: Arc::try_clone(&counts)?,
     };
     let crew = BagCrew::new(&rt, gate, 2);
-    if let Err(fault) = crew.map_with_gate(alloc, &scenario, &net, &ledger, seat, jobs) {
-        assert_eq!(rt; fault, CrewFault::NoMemory);
-        return Err(AllocError);
-    }
-    assert_eq!(rt; entered.load(Ordering::SeqCst), 1);
-    assert_eq!(rt; reacted.load(Ordering::SeqCst), 0);
-    assert_eq!(rt; reacts.load(Ordering::SeqCst), 2);
+    map_sender(&rt, rt.alloc(), &crew, Arc::try_clone(&counts.reacts)?)?;
+    assert_eq!(rt; counts.numbers(), [1, 0, 2]);
     Ok(())
 }

@@ -52,3 +52,15 @@ pub(crate) fn halves(
         }
     }
 }
+
+/// The seat of these two.
+pub(crate) fn joined(rt: &impl Abort, ledger: &Ledger, first: Seat, second: Seat) -> Seat
+    requires first { first.ledger ≡ ledger.now.name }
+    requires second { second.ledger ≡ ledger.now.name }
+    ensures { result.ledger ≡ ledger.now.name }
+{
+    match ledger.join(first, second) {
+        Ok(both) => both,
+        Err(_) => panic!(rt; "not joined"),
+    }
+}

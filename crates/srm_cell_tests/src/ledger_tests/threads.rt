@@ -2,7 +2,7 @@
 ghost use Rattle.std.specs.Prelude.{◌≡◌, ◌<◌, ◌≤◌, ◌+◌, ◌*◌, length, IfOk};
 ghost use denote.Param.Send.{IsSync};
 
-use crate::ledger_tests::stories::{attempt_twice, halves, open};
+use crate::ledger_tests::stories::{attempt_twice, halves, joined, open};
 use srm_ledger::kind::Kind;
 use srm_ledger::ledger::Ledger;
 use srm_ledger::seat::Seat;
@@ -83,6 +83,17 @@ fn add_everywhere(ledger: &Ledger, seat: Seat, times: u32) -> Seat
     seat
 }
 
+fn add_work(ledger: &Ledger, seat: Seat, work: Work) -> Seat
+    requires ledger { seat.ledger ≡ ledger.now.name }
+    requires link { 0 < ledger.now.links }
+    ensures { result.ledger ≡ ledger.now.name }
+{
+    match work {
+        Work::Requests { times } => add_requests(ledger, seat, times),
+        Work::Everywhere { times } => add_everywhere(ledger, seat, times),
+    }
+}
+
 // So many threads, each with a seat of its own, and all seats in one again.
 fn add_in_threads<R: Abort + Threads + Sync>(
     rt: &R,
@@ -97,10 +108,7 @@ fn add_in_threads<R: Abort + Threads + Sync>(
     ensures { IfOk result (λ s. s.ledger ≡ ledger.now.name) }
 {
     if threads <= 1 {
-        return Ok(match work {
-            Work::Requests { times } => add_requests(ledger, seat, times),
-            Work::Everywhere { times } => add_everywhere(ledger, seat, times),
-        });
+        return Ok(add_work(ledger, seat, work));
     }
     let (seat, other) = halves(rt, alloc, ledger, seat)?;
     let less = threads / 2;
@@ -116,11 +124,7 @@ fn add_in_threads<R: Abort + Threads + Sync>(
             ensures { IfOk result (λ s. s.ledger ≡ ledger.entry.now.name) }
         { add_in_threads(rt, alloc, ledger, other, less, work) },
     );
-    let Ok(both) = ledger.join(first?, second?) else {
-        assert!(rt; false, "not joined");
-        return Err(AllocError);
-    };
-    Ok(both)
+    Ok(joined(rt, ledger, first?, second?))
 }
 
 // What a ledger closes at after threads have added.
@@ -136,11 +140,10 @@ fn totals_of_threads<R: Abort + Threads + Sync>(
 {
     let (ledger, seat) = open(alloc, links)?;
     let seat = add_in_threads(rt, alloc, &ledger, seat, threads, work)?;
-    let Ok(totals) = ledger.close(seat) else {
-        assert!(rt; false, "not closed");
-        return Err(AllocError);
-    };
-    Ok(totals)
+    match ledger.close(seat) {
+        Ok(totals) => Ok(totals),
+        Err(_) => panic!(rt; "not closed"),
+    }
 }
 
 fn add_from_two<R: Abort + Threads + Sync>(rt: &R, alloc: Global) -> Result<(), AllocError> {
@@ -155,14 +158,22 @@ fn two_threads_add_a_thousand_each(rt: HostRuntime) -> Result<(), AllocError> {
     attempt_twice(&rt, || add_from_two(&rt, rt.alloc()))
 }
 
+// Asserts that a link has so many times what is added to its kinds once.
+fn expect_times(rt: &impl Abort, totals: &Totals, link: u16, times: u64)
+    requires link { (link < 255) × (5 * link + 4 < length totals.now) }
+    requires times { times ≤ 160 }
+{
+    for place in 0..5 {
+        let total = totals.number(link, KINDS[place]);
+        assert_eq!(rt; total, times * number(usize::from(link), place));
+    }
+}
+
 fn add_from_eight<R: Abort + Threads + Sync>(rt: &R, alloc: Global) -> Result<(), AllocError> {
     let work = Work::Everywhere { times: 20 };
     let totals = totals_of_threads(rt, alloc, 255, 8, work)?;
     for link in 0..255 {
-        for place in 0..5 {
-            let total = totals.number(link, KINDS[place]);
-            assert_eq!(rt; total, 160 * number(usize::from(link), place));
-        }
+        expect_times(rt, &totals, link, 160);
     }
     Ok(())
 }

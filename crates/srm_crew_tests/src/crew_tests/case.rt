@@ -47,20 +47,16 @@ impl Case {
             assert!(rt; false, "window {place} is not refused");
             return;
         };
-        assert_eq!(rt;
+        let seen = (
             window.rows.as_slice(),
-            wanted.rows,
-            "rows of window {place}"
-        );
-        assert_eq!(rt;
             window.crossings.as_slice(),
-            wanted.crossings,
-            "crossings of window {place}"
-        );
-        assert_eq!(rt;
             window.next_times.as_slice(),
-            wanted.next_times,
-            "next times after window {place}"
+        );
+        let expected = (wanted.rows, wanted.crossings, wanted.next_times);
+        assert_eq!(rt;
+            seen,
+            expected,
+            "rows, crossings and next times of window {place}"
         );
     }
 

@@ -6,8 +6,8 @@ use srm_ledger::seat::SHARE_MOST;
 use srm_member::row::Word;
 use srm_member::told::Told;
 
-/// The sender draws at ticks 0 and 5; the first packet crosses the link.
-pub(crate) const SENDER_AND_LISTENER: Case = Case {
+// The sender draws at ticks 0 and 5; the first packet crosses the link.
+const SENDER_AND_LISTENER: Case = Case {
     example: TWO_NODES,
     sent: 0,
     is_over: false,
@@ -34,8 +34,8 @@ pub(crate) const SENDER_AND_LISTENER: Case = Case {
     totals: &[[1, 0, 0, 0, 0]],
 };
 
-/// The first packet is dropped at once, and the second crosses all links.
-pub(crate) const FOUR_ROUND_A_NODE: Case = Case {
+// The first packet is dropped at once, and the second crosses all links.
+const FOUR_ROUND_A_NODE: Case = Case {
     example: STAR_LOSS_AT_THE_SOURCE,
     sent: 0,
     is_over: false,
@@ -79,8 +79,8 @@ pub(crate) const FOUR_ROUND_A_NODE: Case = Case {
     ],
 };
 
-/// The sender has one packet left, and is to send two.
-pub(crate) const LAST_PACKET: Case = Case {
+// The sender has one packet left, and is to send two.
+const LAST_PACKET: Case = Case {
     example: TWO_NODES,
     sent: 281_474_976_710_655,
     is_over: false,
@@ -100,8 +100,8 @@ pub(crate) const LAST_PACKET: Case = Case {
     totals: &[],
 };
 
-/// Both members have ended before they join.
-pub(crate) const OVER: Case = Case {
+// Both members have ended before they join.
+const OVER: Case = Case {
     example: TWO_NODES,
     sent: 0,
     is_over: true,
@@ -113,8 +113,8 @@ pub(crate) const OVER: Case = Case {
     totals: &[],
 };
 
-/// The seat's share of what crosses the link is as large as it may be, and the sender's first packet crosses it.
-pub(crate) const FULL_SHARE: Case = Case {
+// The seat's share of what crosses the link is as large as it may be, and the sender's first packet crosses it.
+const FULL_SHARE: Case = Case {
     example: TWO_NODES,
     sent: 0,
     is_over: false,
@@ -124,4 +124,19 @@ pub(crate) const FULL_SHARE: Case = Case {
     windows: &[],
     fault: Some(CrewFault::ShareFull),
     totals: &[],
+};
+
+/// Each of these cases.
+pub(crate) static CASES: [Case; 5] = [
+    SENDER_AND_LISTENER,
+    FOUR_ROUND_A_NODE,
+    LAST_PACKET,
+    OVER,
+    FULL_SHARE,
+];
+
+/// As four round a node, with a seat of weight 1.
+pub(crate) static LEAST_SEAT: Case = Case {
+    splits: 16,
+    ..FOUR_ROUND_A_NODE
 };

@@ -1,5 +1,5 @@
 //! Jobs of single cells, as crews are handed them.
-ghost use Rattle.std.specs.Prelude.{◌≡◌, ◌≤◌, length, map, All, IfOk};
+ghost use Rattle.std.specs.Prelude.{◌≡◌, ◌≤◌, ◌<◌, length, map, All, IfOk};
 ghost use Rattle.srm_net.specs.Limits.{end_of_time, most_sent};
 ghost use Rattle.srm_net.specs.Orders.{Rises};
 ghost use Rattle.srm_scenario.specs.Plain.{mark_cmp, network_of};
@@ -22,6 +22,18 @@ use srm_scenario::scenario::Scenario;
 use std::alloc::{AllocError, Global};
 use std::process::Abort;
 
+// A scenario that is accepted.
+fn accepted(rt: &impl Abort, alloc: Global, text: &str) -> Result<Scenario, AllocError> {
+    let mut feed = ReadFeed::new(text.as_bytes());
+    match read_scenario(alloc, &mut feed) {
+        Ok(scenario) => Ok(scenario),
+        Err(fault) => {
+            assert_eq!(rt; fault, ScenarioFault::NoMemory);
+            Err(AllocError)
+        }
+    }
+}
+
 /// A scenario that is accepted, and its network.
 pub(crate) fn opened(
     rt: &impl Abort,
@@ -30,18 +42,11 @@ pub(crate) fn opened(
 ) -> Result<(Scenario, Net), AllocError>
     ensures { IfOk result (λ r. r.1 ≡ network_of r.0) }
 {
-    let mut feed = ReadFeed::new(text.as_bytes());
-    let scenario = match read_scenario(alloc, &mut feed) {
-        Ok(scenario) => scenario,
-        Err(fault) => {
-            assert_eq!(rt; fault, ScenarioFault::NoMemory);
-            return Err(AllocError);
-        }
-    };
-    let Ok(net) = scenario.net(alloc) else {
-        return Err(AllocError);
-    };
-    Ok((scenario, net))
+    let scenario = accepted(rt, alloc, text)?;
+    match scenario.net(alloc) {
+        Ok(net) => Ok((scenario, net)),
+        Err(_) => Err(AllocError),
+    }
 }
 
 // As many jobs as a crew is handed at most.
@@ -54,8 +59,8 @@ fn number_of(member: &Box<dyn Member>) -> u16
     member.number()
 }
 
-/// The cell of a member, alone.
-pub(crate) fn cell_of(
+// The cell of a member, alone.
+fn cell_of(
     rt: &impl Abort,
     alloc: Global,
     net: &Net,
@@ -79,8 +84,8 @@ pub(crate) fn cell_of(
     Ok(cells)
 }
 
-/// Adds a job of these cells, of which there may be none.
-pub(crate) fn add_job(
+// Adds a job of these cells, of which there may be none.
+fn add_job(
     rt: &impl Abort,
     net: &Net,
     jobs: &mut Vec<Job>,
@@ -102,6 +107,33 @@ pub(crate) fn add_job(
     }
     jobs.push(Job { place, till, cells })?;
     Ok(())
+}
+
+/// Adds the job of the cell of member m, alone, with its script.
+pub(crate) fn add_member(
+    rt: &impl Abort,
+    alloc: Global,
+    scenario: &Scenario,
+    net: &Net,
+    jobs: &mut Vec<Job>,
+    till: u64,
+    member: Box<dyn Member>,
+    m: u16,
+    sent: u64,
+) -> Result<(), AllocError>
+    requires jobs { MayMap (λ b. (⟦<dyn Member as Member>⟧ b.vtable).plain b.value)
+        (length net.now.hosts) jobs.old.items }
+    requires till { till ≤ end_of_time }
+    requires member { m < length scenario.now.members }
+    requires sent { sent ≤ most_sent }
+    ensures { IfOk result (λ _. MayMap (λ b. (⟦<dyn Member as Member>⟧ b.vtable).plain b.value)
+        (length net.now.hosts) jobs.new.items) }
+{
+    let Ok(script) = scenario.script(alloc, m) else {
+        return Err(AllocError);
+    };
+    let cells = cell_of(rt, alloc, net, member, script, sent)?;
+    add_job(rt, net, jobs, till, cells)
 }
 
 /// Jobs that have no cells.
@@ -138,8 +170,7 @@ fn next_jobs(
     let mut window = Window::new(alloc);
     let mut jobs = Vec::new(alloc);
     for done in all {
-        window.add(&done)?;
-        let Done { cells, .. } = done;
+        let cells = window.add(done)?;
         add_job(rt, net, &mut jobs, till, cells)?;
     }
     Ok((jobs, window))

@@ -1,22 +1,22 @@
 //! What each crew gives for two windows.
-ghost use Rattle.std.specs.Prelude.{◌≡◌, length, IfOk, IfSome};
+ghost use Rattle.std.specs.Prelude.{◌≡◌, ◌<◌, length, All, IfOk, IfSome};
 ghost use Rattle.srm_scenario.specs.Plain.{network_of};
+ghost use Rattle.srm_ledger.specs.Seats.{SeatView};
 ghost use Rattle.srm_crew_tests.specs.Handed.{MayMap};
 
 use crate::crew_tests::boxed::BoxCrew;
 use crate::crew_tests::case::Case;
-use crate::crew_tests::cases::{
-    FOUR_ROUND_A_NODE, FULL_SHARE, LAST_PACKET, OVER, SENDER_AND_LISTENER,
-};
-use crate::crew_tests::handing::{add_job, cell_of, map_window, opened};
-use crate::crew_tests::seats::{counted, halved, joined};
+use crate::crew_tests::cases::{CASES, LEAST_SEAT};
+use crate::crew_tests::handing::{add_member, map_window, opened};
+use crate::crew_tests::seats::{counted, halved, joined, ledger_of};
 use srm_cell::job::Job;
 use srm_crew::bag_crew::BagCrew;
 use srm_crew::gate::OpenGate;
 use srm_crew::plain::PlainCrew;
 use srm_crew::pool::PoolCrew;
-use srm_examples::watched::Watch;
+use srm_examples::watched::{Watch, Watched};
 use srm_ledger::ledger::{Ledger, Seat};
+use srm_member::fault::MemberFault;
 use srm_member::member::Member;
 use srm_net::net::Net;
 use srm_net::role::Role;
@@ -32,13 +32,128 @@ const LAST_END: u64 = 1_099_511_627_776;
 
 const MOST_PACKETS: u64 = 281_474_976_710_656;
 
-// Asserts that the seat can close its ledger, and that the case's totals were counted.
-fn expect_end(rt: &impl Abort, ledger: Ledger, seat: Seat, case: &Case)
-    requires { seat.ledger ≡ ledger.name }
+// A member that is watched from now on.
+fn watched<M: Member>(
+    alloc: Global,
+    watch: &mut Watch,
+    member: Result<M, MemberFault>,
+) -> Result<Watched<M>, AllocError> {
+    match member {
+        Ok(member) => watch.over(alloc, member),
+        Err(_) => Err(AllocError),
+    }
+}
+
+// Member m of a scenario, watched.
+fn member_of(
+    rt: &impl Abort,
+    alloc: Global,
+    scenario: &Scenario,
+    net: &Net,
+    m: u16,
+    watch: &mut Watch,
+) -> Result<Box<dyn Member>, AllocError>
+    requires member { m < length scenario.now.members }
+    requires network { net.now ≡ network_of scenario.now }
 {
-    match ledger.close(seat) {
-        Ok(totals) => case.expect_totals(rt, &totals),
-        Err(_) => assert!(rt; false, "not closed"),
+    let member: Box<dyn Member> = match scenario.role(m) {
+        Role::Sender => {
+            let sender = Sender::new(alloc, scenario, net, 0, m);
+            Box::new(alloc, watched(alloc, watch, sender)?)?
+        }
+        Role::Receiver => {
+            let receiver = Receiver::new(alloc, scenario, net, 0, m);
+            Box::new(alloc, watched(alloc, watch, receiver)?)?
+        }
+        Role::Listener => {
+            let listener = Listener::new(alloc, scenario, net, 0, m);
+            Box::new(alloc, watched(alloc, watch, listener)?)?
+        }
+        Role::Late => panic!(rt; "a late joiner"),
+    };
+    Ok(member)
+}
+
+// Member m as it is at a case's beginning.
+fn first_member(
+    rt: &impl Abort,
+    alloc: Global,
+    scenario: &Scenario,
+    net: &Net,
+    m: u16,
+    case: &Case,
+    watch: &mut Watch,
+) -> Result<Box<dyn Member>, AllocError>
+    requires member { m < length scenario.now.members }
+    requires network { net.now ≡ network_of scenario.now }
+{
+    let mut member = member_of(rt, alloc, scenario, net, m, watch)?;
+    if case.is_over && member.finish(alloc).is_err() {
+        return Err(AllocError);
+    }
+    Ok(member)
+}
+
+// The jobs of a case's first window: the cell of each member, alone.
+fn first_jobs(
+    rt: &impl Abort,
+    alloc: Global,
+    scenario: &Scenario,
+    net: &Net,
+    case: &Case,
+    watch: &mut Watch,
+) -> Result<Vec<Job>, AllocError>
+    requires { net.now ≡ network_of scenario.now }
+    ensures { IfOk result (λ jobs. MayMap (λ b. (⟦<dyn Member as Member>⟧ b.vtable).plain b.value)
+        (length net.now.hosts) jobs.items) }
+{
+    let [till, _] = case.ends;
+    assert!(rt; till <= LAST_END);
+    assert!(rt; case.sent <= MOST_PACKETS);
+    let mut jobs = Vec::new(alloc);
+    for m in 0..scenario.members() {
+        let member = first_member(rt, alloc, scenario, net, m, case, watch)?;
+        add_member(
+            rt, alloc, scenario, net, &mut jobs, till, member, m, case.sent,
+        )?;
+    }
+    Ok(jobs)
+}
+
+// Hands a window's jobs to a crew, and asserts that what the case says comes of them. Gives the next window's jobs and the seat
+// where it is not refused.
+fn map_next<C: BoxCrew>(
+    rt: &impl Abort,
+    alloc: Global,
+    crew: &mut C,
+    scenario: &Scenario,
+    net: &Net,
+    ledger: &Ledger,
+    seat: Seat,
+    jobs: Vec<Job>,
+    case: &Case,
+    place: usize,
+) -> Result<Option<(Vec<Job>, Seat)>, AllocError>
+    requires ready { C.ready crew.old }
+    requires jobs { MayMap (λ b. (⟦<dyn Member as Member>⟧ b.vtable).plain b.value) (length net.now.hosts) jobs.items }
+    requires links { ledger.now.links ≡ length net.now.links }
+    requires seat { seat.ledger ≡ ledger.now.name }
+    ensures ready { C.ready crew.new }
+    ensures jobs { IfOk result (λ left. IfSome left (λ r. MayMap (λ b. (⟦<dyn Member as Member>⟧ b.vtable).plain b.value)
+        (length net.now.hosts) r.0.items)) }
+    ensures seat { IfOk result (λ left. IfSome left (λ r. r.1.ledger ≡ ledger.now.name)) }
+{
+    let [_, end] = case.ends;
+    assert!(rt; end <= LAST_END);
+    match map_window(rt, alloc, crew, scenario, net, ledger, seat, jobs, end) {
+        Ok((jobs, seat, window)) => {
+            case.expect(rt, place, &window);
+            Ok(Some((jobs, seat)))
+        }
+        Err(fault) => {
+            case.expect_fault(rt, place, fault)?;
+            Ok(None)
+        }
     }
 }
 
@@ -61,27 +176,26 @@ fn map_both<C: BoxCrew>(
     ensures ready { C.ready crew.new }
     ensures seat { IfOk result (λ left. IfSome left (λ s. s.ledger ≡ ledger.now.name)) }
 {
-    let [_, end] = case.ends;
-    assert!(rt; end <= LAST_END);
-    let (jobs, seat) = match map_window(rt, alloc, crew, scenario, net, ledger, seat, jobs, end) {
-        Ok((jobs, seat, window)) => {
-            case.expect(rt, 0, &window);
-            (jobs, seat)
-        }
-        Err(fault) => {
-            case.expect_fault(rt, 0, fault)?;
-            return Ok(None);
-        }
+    let first = map_next(rt, alloc, crew, scenario, net, ledger, seat, jobs, case, 0)?;
+    let Some((jobs, seat)) = first else {
+        return Ok(None);
     };
-    match map_window(rt, alloc, crew, scenario, net, ledger, seat, jobs, end) {
-        Ok((_jobs, seat, window)) => {
-            case.expect(rt, 1, &window);
-            Ok(Some(seat))
-        }
-        Err(fault) => {
-            case.expect_fault(rt, 1, fault)?;
-            Ok(None)
-        }
+    let second = map_next(rt, alloc, crew, scenario, net, ledger, seat, jobs, case, 1)?;
+    let Some((_jobs, seat)) = second else {
+        return Ok(None);
+    };
+    Ok(Some(seat))
+}
+
+// Asserts that the seat, joined with the others, can close its ledger, and that the case's totals were counted.
+fn expect_end(rt: &impl Abort, ledger: Ledger, seat: Seat, others: Vec<Seat>, case: &Case)
+    requires seat { seat.ledger ≡ ledger.name }
+    requires others { All (λ (s : SeatView). s.ledger ≡ ledger.name) others.items }
+{
+    let seat = joined(rt, &ledger, seat, others);
+    match ledger.close(seat) {
+        Ok(totals) => case.expect_totals(rt, &totals),
+        Err(_) => panic!(rt; "not closed"),
     }
 }
 
@@ -99,66 +213,18 @@ fn map_members<C: BoxCrew>(
     requires network { net.now ≡ network_of scenario.now }
     ensures { C.ready crew.new }
 {
-    let [till, _] = case.ends;
-    assert!(rt; till <= LAST_END);
-    assert!(rt; case.sent <= MOST_PACKETS);
-    let mut jobs = Vec::new(alloc);
-    for m in 0..scenario.members() {
-        let mut member: Box<dyn Member> = match scenario.role(m) {
-            Role::Sender => {
-                let Ok(sender) = Sender::new(alloc, scenario, net, 0, m) else {
-                    return Err(AllocError);
-                };
-                Box::new(alloc, watch.over(alloc, sender)?)?
-            }
-            Role::Receiver => {
-                let Ok(receiver) = Receiver::new(alloc, scenario, net, 0, m) else {
-                    return Err(AllocError);
-                };
-                Box::new(alloc, watch.over(alloc, receiver)?)?
-            }
-            Role::Listener => {
-                let Ok(listener) = Listener::new(alloc, scenario, net, 0, m) else {
-                    return Err(AllocError);
-                };
-                Box::new(alloc, watch.over(alloc, listener)?)?
-            }
-            Role::Late => {
-                assert!(rt; false, "a late joiner");
-                return Ok(());
-            }
-        };
-        if case.is_over && member.finish(alloc).is_err() {
-            return Err(AllocError);
-        }
-        let Ok(script) = scenario.script(alloc, m) else {
-            return Err(AllocError);
-        };
-        let cells = cell_of(rt, alloc, net, member, script, case.sent)?;
-        add_job(rt, net, &mut jobs, till, cells)?;
-    }
-    let links = net.links().len();
-    assert!(rt; links <= 255);
-    let Ok((ledger, seat)) = Ledger::open(alloc, links) else {
-        return Err(AllocError);
-    };
-    let Some(seat) = counted(&ledger, seat, case.counted) else {
-        assert!(rt; false, "too much was counted");
-        return Ok(());
-    };
+    let jobs = first_jobs(rt, alloc, scenario, net, case, watch)?;
+    let (ledger, seat) = ledger_of(rt, alloc, net)?;
+    let seat = counted(rt, &ledger, seat, case.counted);
     let (seat, others) = halved(alloc, &ledger, seat, case.splits)?;
     if let Some(seat) = map_both(rt, alloc, crew, scenario, net, &ledger, seat, jobs, case)? {
-        let Some(seat) = joined(&ledger, seat, others) else {
-            assert!(rt; false, "not joined");
-            return Ok(());
-        };
-        expect_end(rt, ledger, seat, case);
+        expect_end(rt, ledger, seat, others, case);
     }
     Ok(())
 }
 
 // The same, of the case's scenario. Each box is dropped once, whatever comes of it.
-fn map_case<C: BoxCrew>(
+fn map_once<C: BoxCrew>(
     rt: &impl Abort,
     alloc: Global,
     crew: &mut C,
@@ -174,22 +240,28 @@ fn map_case<C: BoxCrew>(
     answer
 }
 
-const CASES: [Case; 5] = [
-    SENDER_AND_LISTENER,
-    FOUR_ROUND_A_NODE,
-    LAST_PACKET,
-    OVER,
-    FULL_SHARE,
-];
+// The same, and once more where memory was refused.
+fn map_case<C: BoxCrew>(
+    rt: &impl Abort,
+    alloc: Global,
+    crew: &mut C,
+    case: &Case,
+) -> Result<(), AllocError>
+    requires { C.ready crew.old }
+    ensures { C.ready crew.new }
+{
+    match map_once(rt, alloc, crew, case) {
+        Ok(()) => Ok(()),
+        Err(_) => map_once(rt, alloc, crew, case),
+    }
+}
 
-// The same, of each case, and once more where memory was refused.
+// The same, of each case.
 fn map_cases<C: BoxCrew>(rt: &impl Abort, alloc: Global, crew: &mut C) -> Result<(), AllocError>
     requires { C.ready crew.old }
 {
     for case in &CASES {
-        if map_case(rt, alloc, crew, case).is_err() {
-            map_case(rt, alloc, crew, case)?;
-        }
+        map_case(rt, alloc, crew, case)?;
     }
     Ok(())
 }
@@ -212,12 +284,6 @@ fn a_crew_of_workers_maps_two_windows(rt: HostRuntime) -> Result<(), AllocError>
 // Four workers have one seat then, which is not halved any more, and count what four seats count.
 #[test]
 fn a_seat_of_weight_1_comes_back_from_four_workers(rt: HostRuntime) -> Result<(), AllocError> {
-    let alloc = rt.alloc();
-    let mut case = FOUR_ROUND_A_NODE;
-    case.splits = 16;
     let mut crew = BagCrew::new(&rt, OpenGate, 4);
-    if map_case(&rt, alloc, &mut crew, &case).is_err() {
-        map_case(&rt, alloc, &mut crew, &case)?;
-    }
-    Ok(())
+    map_case(&rt, rt.alloc(), &mut crew, &LEAST_SEAT)
 }

@@ -1,4 +1,6 @@
 //! What tests look at of what is done of jobs.
+ghost use Rattle.std.specs.Prelude.{◌≡◌, IfOk};
+
 use srm_cell::cell::Cell;
 use srm_cell::crossings::Crossings;
 use srm_cell::job::Done;
@@ -40,11 +42,20 @@ impl Window {
         }
     }
 
-    /// Adds what is done of a job.
-    pub(crate) fn add(&mut self, done: &Done) -> Result<(), AllocError> {
-        self.add_lists(done.rows.as_slice())?;
-        self.add_crossings(done.place, &done.crossings)?;
-        self.add_next_times(done.cells.as_slice())
+    /// Adds what is done of a job. Gives the job's cells.
+    pub(crate) fn add(&mut self, done: Done) -> Result<Vec<Cell>, AllocError>
+        ensures { IfOk result (λ cells. cells ≡ done.cells) }
+    {
+        let Done {
+            place,
+            rows,
+            crossings,
+            cells,
+        } = done;
+        self.add_lists(rows.as_slice())?;
+        self.add_crossings(place, &crossings)?;
+        self.add_next_times(cells.as_slice())?;
+        Ok(cells)
     }
 
     fn add_lists(&mut self, lists: &[Sequence<Row>]) -> Result<(), AllocError> {

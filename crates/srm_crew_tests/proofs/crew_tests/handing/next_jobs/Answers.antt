@@ -15,21 +15,12 @@ loop-done-init g c = (
 pub add_job-requires-clause-known : goal.add_job-requires-clause-known
 add_job-requires-clause-known g c =
     let steps = c.in-Some.ensures.steps.0 in
-    All-head (λ d. AreKnown (λ b. (goal.Member-dyn g (b.vtable, b.value)).plain b.value) (length c.args.net.now.hosts) d.cells.items) _ _
-    (rw steps at c.loop-done.invariant.3)
+    rw c.in_ok-cells.ensures
+    (All-head (λ d. AreKnown (λ b. (goal.Member-dyn g (b.vtable, b.value)).plain b.value) (length c.args.net.now.hosts) d.cells.items) _ _
+    (rw steps at c.loop-done.invariant.3))
 
 pub loop-done-preserved : goal.loop-done-preserved
 loop-done-preserved g c =
-    let steps = c.in-Some.ensures.steps.0 in (
-      tt,
-      tt,
-      c.in_ok-add_job.ensures,
-      All-tail (λ d. AreKnown (λ b. (goal.Member-dyn g (b.vtable, b.value)).plain b.value) (length c.args.net.now.hosts) d.cells.items) _ _
-          (rw steps at c.loop-done.invariant.3),
-    )
-
-pub loop-done-preserved-in_ok-add_job : goal.loop-done-preserved-in_ok-add_job
-loop-done-preserved-in_ok-add_job g c =
     let steps = c.in-Some.ensures.steps.0 in (
       tt,
       tt,

@@ -4,7 +4,7 @@ use Rattle.srm_ledger.specs.Seats.{SeatView}
 use Rattle.srm_crew_tests.proofs.crew_tests.seats.joined.Goals as goal
 
 pub loop-other-preserved : goal.loop-other-preserved
-loop-other-preserved c =
+loop-other-preserved g c =
     let i = c.loop-other.invariant in
     let steps = c.in-Some.ensures.steps.0 in (
       tt,

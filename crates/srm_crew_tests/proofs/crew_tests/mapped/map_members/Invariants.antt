@@ -1,8 +1,0 @@
-use Rattle.std.proofs.Common.{length}
-use Rattle.srm_crew_tests.specs.Handed.{MayMap}
-use Rattle.srm_crew_tests.proofs.crew_tests.mapped.map_members.OwnLists.{own-1}
-use Rattle.srm_crew_tests.proofs.crew_tests.mapped.map_members.Given as goal
-
--- a crew may be handed the jobs so far
-abbrev pub invariant-loop-m : goal.invariant-loop-m
-invariant-loop-m g l = MayMap (λ b. (own-1.entry b.vtable).1.plain b.value) (length l.net.hosts) l.jobs.items
