@@ -24,15 +24,31 @@ fn name(number: u32) -> Name {
     }
 }
 
+// What is held of each of these names.
+fn inks(held: &Held) -> [Option<u32>; 20] {
+    NUMBERS.map(|number| held.get(name(number)))
+}
+
 // Holds a name, and asserts that all is as it was where memory is refused.
 fn hold(rt: &impl Abort, held: &mut Held, key: Name, ink: u32) -> Result<(), AllocError> {
-    let before = NUMBERS.map(|number| held.get(name(number)));
+    let before = inks(held);
     if held.put(key, ink).is_err() {
-        assert_eq!(rt; NUMBERS.map(|number| held.get(name(number))), before);
+        assert_eq!(rt; inks(held), before);
         return Err(AllocError);
     }
     assert_eq!(rt; held.get(key), Some(ink));
     Ok(())
+}
+
+// Asserts that these are the names, in order, each with the second ink that was put in for it.
+fn expect_second_inks(rt: &impl Abort, entries: &[(Name, u32)]) {
+    assert_eq!(rt; entries.len(), 20);
+    for number in 0..20 {
+        // The second ink of the name: 7 * 3 is one more than 20.
+        let ink = 20 + 3 * number % 20;
+        let entry = entries.get(number as usize);
+        assert_eq!(rt; entry.copied(), Some((name(number), ink)));
+    }
 }
 
 // Holds each name twice, in no order.
@@ -42,13 +58,7 @@ fn hold_all(rt: &impl Abort, alloc: Global) -> Result<(), AllocError> {
         hold(rt, &mut held, name(7 * ink % 20), ink)?;
     }
     let entries = held.entries(alloc)?;
-    assert_eq!(rt; entries.len(), 20);
-    for number in 0..20 {
-        // The second ink of the name: 7 * 3 is one more than 20.
-        let ink = 20 + 3 * number % 20;
-        let entry = entries.as_slice().get(number as usize);
-        assert_eq!(rt; entry.copied(), Some((name(number), ink)));
-    }
+    expect_second_inks(rt, entries.as_slice());
     Ok(())
 }
 
@@ -57,18 +67,25 @@ fn names_are_held_in_order_each_with_its_last_ink(rt: HostRuntime) -> Result<(),
     attempt_twice(&rt, || hold_all(&rt, rt.alloc()))
 }
 
-// Puts two values in for each name, in no order, and takes one out.
-fn take_one(rt: &impl Abort, alloc: Global) -> Result<(), AllocError> {
+// A map with two values put in for each name, in no order.
+fn filled(alloc: Global) -> Result<Named<u32>, AllocError> {
     let mut map = Named::new(alloc);
     for value in 0..40u32 {
         map.put(name(7 * value % 20), value)?;
     }
-    assert_eq!(rt; map.get(name(0)), Some(20));
-    assert_eq!(rt; map.take(name(0)), Some(20));
-    assert_eq!(rt; map.take(name(0)), None);
+    Ok(map)
+}
+
+// Takes the first name out of a map with each name.
+fn take_one(rt: &impl Abort, alloc: Global) -> Result<(), AllocError> {
+    let mut map = filled(alloc)?;
+    let before = map.get(name(0));
+    let taken = map.take(name(0));
+    let after = map.take(name(0));
+    assert_eq!(rt; (before, taken, after), (Some(20), Some(20), None));
     let names = map.names(alloc)?;
-    assert_eq!(rt; names.len(), 19);
-    assert_eq!(rt; names.as_slice().first().copied(), Some(name(1)));
+    let first = names.as_slice().first().copied();
+    assert_eq!(rt; (names.len(), first), (19, Some(name(1))));
     Ok(())
 }
 
@@ -86,12 +103,18 @@ fn copy(rt: &impl Abort, alloc: Global) -> Result<(), AllocError> {
             highest: 3,
         }],
     };
-    let event = Event::Arrival { sender: 4, carried };
-    let copy = event.cause(alloc)?.clone()?;
-    assert!(rt;
-        matches!(&copy, Cause::Arrival { packet } if packet.id.sender == 4 && carried.is_in(&packet.body))
-    );
+    let cause = Event::Arrival { sender: 4, carried }.cause(alloc)?;
+    let copy = cause.clone()?;
+    assert!(rt; is_arrival(&copy, 4, carried));
     Ok(())
+}
+
+// Whether a cause is the arrival of a packet of this sender that carries this.
+fn is_arrival(cause: &Cause, sender: u16, carried: Carried) -> bool {
+    match cause {
+        Cause::Arrival { packet } => packet.id.sender == sender && carried.is_in(&packet.body),
+        _ => false,
+    }
 }
 
 #[test]
@@ -99,15 +122,15 @@ fn the_copy_of_a_cause_is_that_cause(rt: HostRuntime) -> Result<(), AllocError> 
     attempt_twice(&rt, || copy(&rt, rt.alloc()))
 }
 
-// The words are the first two of seed 42 and stream 54, the distance is 10 ticks.
+// Where the length of a request timer after so many backoffs lies, and its length drawn with a word. The distance is 10 ticks.
+fn request_timer(backoffs: u32, word: u32) -> (u64, u64, u64) {
+    let (lo, hi) = BackoffFactor::Two.span(backoffs, 2000, 2000, 10);
+    (lo, hi, draw(word, lo, hi))
+}
+
+// The words are the first two of seed 42 and stream 54.
 #[test]
 fn lengths_of_timers(rt: HostRuntime) {
-    for (backoffs, word, ends, length) in [
-        (0, 0xa15c_02b7, (20, 40), 33),
-        (1, 0x7b47_f409, (40, 80), 59),
-    ] {
-        let (lo, hi) = BackoffFactor::Two.span(backoffs, 2000, 2000, 10);
-        assert_eq!(rt; (lo, hi), ends);
-        assert_eq!(rt; draw(word, lo, hi), length);
-    }
+    assert_eq!(rt; request_timer(0, 0xa15c_02b7), (20, 40, 33));
+    assert_eq!(rt; request_timer(1, 0x7b47_f409), (40, 80, 59));
 }

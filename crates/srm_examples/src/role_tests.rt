@@ -1,5 +1,5 @@
 //! The four roles as boxed members.
-ghost use Rattle.std.specs.Prelude.{◌≡◌, ◌<◌, length};
+ghost use Rattle.std.specs.Prelude.{◌≡◌, ◌<◌, length, IfOk};
 ghost use Rattle.srm_scenario.specs.Plain.{network_of};
 
 use crate::stories::following::{attempt_twice, follow};
@@ -8,6 +8,8 @@ use crate::stories::listener::LISTENER;
 use crate::stories::receiver::RECEIVER;
 use crate::stories::sender::SENDER;
 use crate::stories::story::Story;
+use srm_member::fault::MemberFault;
+use srm_member::fixed::Fixed;
 use srm_member::member::Member;
 use srm_net::net::Net;
 use srm_net::role::Role;
@@ -39,7 +41,15 @@ member = [
 ]
 "#;
 
-// Leads a member of the scenario, in a box, through its story.
+// A member that was made, unless memory was refused.
+fn made<M: Member>(answer: Result<M, MemberFault>) -> Result<M, AllocError> {
+    match answer {
+        Ok(member) => Ok(member),
+        Err(_) => Err(AllocError),
+    }
+}
+
+// Leads the member of a story, of whichever role, through it in a box.
 fn lead(
     rt: &impl Abort,
     alloc: Global,
@@ -51,71 +61,59 @@ fn lead(
     requires network { net.now ≡ network_of scenario.now }
 {
     let m = story.member;
-    match scenario.role(m) {
-        Role::Sender => {
-            let Ok(sender) = Sender::new(alloc, scenario, net, 42, m) else {
-                return Err(AllocError);
-            };
-            let mut member: Box<dyn Member> = Box::new(alloc, sender)?;
-            follow(rt, alloc, &mut member, story)
-        }
-        Role::Receiver => {
-            let Ok(receiver) = Receiver::new(alloc, scenario, net, 42, m) else {
-                return Err(AllocError);
-            };
-            let mut member: Box<dyn Member> = Box::new(alloc, receiver)?;
-            follow(rt, alloc, &mut member, story)
-        }
-        Role::Late => {
-            let Ok(late) = Late::new(alloc, scenario, net, 42, m) else {
-                return Err(AllocError);
-            };
-            let mut member: Box<dyn Member> = Box::new(alloc, late)?;
-            follow(rt, alloc, &mut member, story)
-        }
-        Role::Listener => {
-            let Ok(listener) = Listener::new(alloc, scenario, net, 42, m) else {
-                return Err(AllocError);
-            };
-            let mut member: Box<dyn Member> = Box::new(alloc, listener)?;
-            follow(rt, alloc, &mut member, story)
-        }
+    let mut member: Box<dyn Member> = match scenario.role(m) {
+        Role::Sender => Box::new(alloc, made(Sender::new(alloc, scenario, net, 42, m))?)?,
+        Role::Receiver => Box::new(alloc, made(Receiver::new(alloc, scenario, net, 42, m))?)?,
+        Role::Late => Box::new(alloc, made(Late::new(alloc, scenario, net, 42, m))?)?,
+        Role::Listener => Box::new(alloc, made(Listener::new(alloc, scenario, net, 42, m))?)?,
+    };
+    follow(rt, alloc, &mut member, story)
+}
+
+// The scenario, and its network.
+fn opened(alloc: Global) -> Result<(Scenario, Net), AllocError>
+    ensures { IfOk result (λ r. r.1 ≡ network_of r.0) }
+{
+    let mut feed = ReadFeed::new(SCENARIO.as_bytes());
+    let Ok(scenario) = read_scenario(alloc, &mut feed) else {
+        return Err(AllocError);
+    };
+    match scenario.net(alloc) {
+        Ok(net) => Ok((scenario, net)),
+        Err(_) => Err(AllocError),
+    }
+}
+
+// Asserts that a fixed part is that of member 2.
+fn expect_member_two(rt: &impl Abort, fixed: &Fixed) {
+    assert_eq!(rt; (fixed.member, fixed.role), (2, Role::Late));
+    assert_eq!(rt; fixed.pages.as_slice(), [1].as_slice());
+    assert_eq!(rt; (fixed.seed, fixed.stream), (42, 54));
+    for (constant, first) in [
+        (fixed.c1, 2000),
+        (fixed.c2, 2000),
+        (fixed.d1, 1000),
+        (fixed.d2, 0),
+    ] {
+        assert_eq!(rt; constant.first(), first, "{constant:?}");
+    }
+    for (member, distance) in [
+        (0, Some(10)),
+        (1, Some(5)),
+        (2, Some(0)),
+        (3, Some(5)),
+        (4, None),
+    ] {
+        assert_eq!(rt; fixed.dist.get(member), distance, "to member {member}");
     }
 }
 
 // The fixed part of member 2.
 fn fixed_part(rt: &impl Abort, alloc: Global) -> Result<(), AllocError> {
-    let mut feed = ReadFeed::new(SCENARIO.as_bytes());
-    let Ok(scenario) = read_scenario(alloc, &mut feed) else {
-        return Err(AllocError);
-    };
-    let Ok(net) = scenario.net(alloc) else {
-        return Err(AllocError);
-    };
+    let (scenario, net) = opened(alloc)?;
     assert!(rt; 2 < scenario.members());
     let fixed = fixed_of(alloc, &scenario, &net, 42, 2)?;
-    assert_eq!(rt; (fixed.member, fixed.role), (2, Role::Late));
-    assert_eq!(rt;
-        [
-            fixed.c1.first(),
-            fixed.c2.first(),
-            fixed.d1.first(),
-            fixed.d2.first()
-        ],
-        [2000, 2000, 1000, 0]
-    );
-    assert_eq!(rt;
-        [
-            fixed.dist.get(0),
-            fixed.dist.get(1),
-            fixed.dist.get(2),
-            fixed.dist.get(3),
-            fixed.dist.get(4)
-        ],
-        [Some(10), Some(5), Some(0), Some(5), None]
-    );
-    assert_eq!(rt; fixed.pages.as_slice(), [1].as_slice());
-    assert_eq!(rt; (fixed.seed, fixed.stream), (42, 54));
+    expect_member_two(rt, &fixed);
     Ok(())
 }
 
@@ -126,33 +124,32 @@ fn the_fixed_part_is_that_of_the_scenario(rt: HostRuntime) -> Result<(), AllocEr
 
 // Leads a member of the scenario through its story.
 fn attempt(rt: &impl Abort, alloc: Global, story: &Story) -> Result<(), AllocError> {
-    let mut feed = ReadFeed::new(SCENARIO.as_bytes());
-    let Ok(scenario) = read_scenario(alloc, &mut feed) else {
-        return Err(AllocError);
-    };
-    let Ok(net) = scenario.net(alloc) else {
-        return Err(AllocError);
-    };
+    let (scenario, net) = opened(alloc)?;
     assert!(rt; story.member < scenario.members());
     lead(rt, alloc, &scenario, &net, story)
 }
 
+// Attempts it, and once more where memory is refused.
+fn tell<R: Abort + Eprint>(rt: &R, alloc: Global, story: &Story) -> Result<(), AllocError> {
+    attempt_twice(rt, || attempt(rt, alloc, story))
+}
+
 #[test]
 fn a_sender_answers_by_its_table(rt: HostRuntime) -> Result<(), AllocError> {
-    attempt_twice(&rt, || attempt(&rt, rt.alloc(), &SENDER))
+    tell(&rt, rt.alloc(), &SENDER)
 }
 
 #[test]
 fn a_receiver_answers_by_its_table(rt: HostRuntime) -> Result<(), AllocError> {
-    attempt_twice(&rt, || attempt(&rt, rt.alloc(), &RECEIVER))
+    tell(&rt, rt.alloc(), &RECEIVER)
 }
 
 #[test]
 fn a_late_joiner_answers_by_its_table(rt: HostRuntime) -> Result<(), AllocError> {
-    attempt_twice(&rt, || attempt(&rt, rt.alloc(), &LATE))
+    tell(&rt, rt.alloc(), &LATE)
 }
 
 #[test]
 fn a_listener_answers_by_its_table(rt: HostRuntime) -> Result<(), AllocError> {
-    attempt_twice(&rt, || attempt(&rt, rt.alloc(), &LISTENER))
+    tell(&rt, rt.alloc(), &LISTENER)
 }

@@ -4,6 +4,7 @@ ghost use Rattle.std.specs.Prelude.{◌≡◌};
 ghost use Rattle.srm_scenario.specs.Plain.{network_of};
 
 use crate::boxed::BoxCrew;
+use crate::opening::opened;
 use srm_crew::bag_crew::BagCrew;
 use srm_crew::gate::OpenGate;
 use srm_crew::plain::PlainCrew;
@@ -19,8 +20,6 @@ use srm_roles::late::Late;
 use srm_roles::listener::Listener;
 use srm_roles::receiver::Receiver;
 use srm_roles::sender::Sender;
-use srm_scenario::feed::ReadFeed;
-use srm_scenario::reading::read_scenario;
 use srm_scenario::scenario::Scenario;
 use std::alloc::{AllocError, Global};
 use std::process::Abort;
@@ -117,19 +116,14 @@ pub(crate) fn run_once<C: BoxCrew>(
     requires { C.ready crew.old }
     ensures { C.ready crew.new }
 {
-    let mut feed = ReadFeed::new(text.as_bytes());
-    let Ok(scenario) = read_scenario(alloc, &mut feed) else {
-        return Err(AllocError);
-    };
-    let Ok(net) = scenario.net(alloc) else {
-        return Err(AllocError);
-    };
+    let (scenario, net) = opened(rt, alloc, text)?;
     let mut watch = Watch::new(alloc);
     let answer = run_watched(rt, alloc, &scenario, &net, crew, asked, &mut watch);
     assert!(rt; watch.saw_each_dropped_once());
-    answer?;
-    assert_eq!(rt; watch.members(), scenario.members() as usize);
-    Ok(())
+    if answer.is_ok() {
+        assert_eq!(rt; watch.members(), scenario.members() as usize);
+    }
+    answer
 }
 
 // One run with a member of each role, and once more where memory was refused.

@@ -5,8 +5,15 @@ use srm_engine::step_fault::{StepFault, step_fault};
 
 #[test]
 fn a_used_up_packet_count_ends_a_run(rt: HostRuntime) {
-    assert_eq!(rt; step_fault(CellFault::CountFull), StepFault::CountFull);
-    assert_eq!(rt; step_fault(CellFault::NoMemory), StepFault::NoMemory);
-    assert_eq!(rt; RunFault::from(StepFault::CountFull), RunFault::CountFull);
-    assert_eq!(rt; RunFault::from(StepFault::NoMemory), RunFault::NoMemory);
+    for (of_a_cell, of_a_step, of_a_run) in [
+        (
+            CellFault::CountFull,
+            StepFault::CountFull,
+            RunFault::CountFull,
+        ),
+        (CellFault::NoMemory, StepFault::NoMemory, RunFault::NoMemory),
+    ] {
+        assert_eq!(rt; step_fault(of_a_cell), of_a_step);
+        assert_eq!(rt; RunFault::from(of_a_step), of_a_run);
+    }
 }

@@ -24,6 +24,7 @@ use srm_crew::pass::Pass;
 use srm_engine::fault::RunFault;
 use srm_engine::width::{Width, Windows};
 use srm_engine::window_run::window_run;
+use srm_examples::meeting::{Entries, Meeting};
 use srm_examples::scenarios::CHAIN_OF_FIVE_ONE_LOSS;
 use srm_ledger::ledger::{Ledger, Seat};
 use srm_member::member::Member;
@@ -32,72 +33,25 @@ use srm_scenario::scenario::Scenario;
 use std::alloc::{AllocError, Global};
 use std::marker::Sync;
 use std::process::Abort;
-use std::sync::atomic::{AtomicU64, Ordering};
 use std::sync::{Arc, Wait};
-use std::thread::{Threads, yield_now};
+use std::thread::Threads;
 
-// How often a job looks whether the other has come, and lets other threads run: some seconds.
-const LOOKS: u32 = 5_000_000;
-
-/// How often the first job of a window entered a gate, the second and any other, and how often one of the first two waited in vain.
+/// A gate at which the first two jobs of each window wait for each other.
 #[derive(Drop)]
-struct Entries {
-    first: AtomicU64,
-    second: AtomicU64,
-    others: AtomicU64,
-    missed: AtomicU64,
+struct MeetingGate {
+    meeting: Arc<Meeting>,
 }
 
-impl Entries {
-    // None entered yet.
-    fn new(alloc: Global) -> Result<Arc<Self>, AllocError> {
-        Ok(Arc::new(
-            alloc,
-            Entries {
-                first: AtomicU64::new(0),
-                second: AtomicU64::new(0),
-                others: AtomicU64::new(0),
-                missed: AtomicU64::new(0),
-            },
-        )?)
-    }
-
-    // Enters as `own`, and waits until `other` has come as often, or until one has waited in vain.
-    fn meet(&self, own: &AtomicU64, other: &AtomicU64) {
-        let before = own.fetch_add(1, Ordering::SeqCst);
-        for _ in 0..LOOKS {
-            if other.load(Ordering::SeqCst) > before || self.missed.load(Ordering::SeqCst) > 0 {
-                return;
-            }
-            yield_now();
-        }
-        self.missed.fetch_add(1, Ordering::SeqCst);
-    }
-}
-
-/// A gate that counts who enters, and at which the first two jobs of each window wait for each other.
-#[derive(Drop)]
-struct Counting {
-    entries: Arc<Entries>,
-}
-
-impl Gate for Counting {
+impl Gate for MeetingGate {
     fn enter<T, R: Wait>(&self, _rt: &R, place: usize, _pass: &Pass<T>) {
-        let Entries { first, second, .. } = &*self.entries;
-        match place {
-            0 => self.entries.meet(first, second),
-            1 => self.entries.meet(second, first),
-            _ => {
-                self.entries.others.fetch_add(1, Ordering::SeqCst);
-            }
-        }
+        self.meeting.come(place);
     }
 }
 
 /// Workers that share a bag, and pass that gate with each job.
 #[derive(Drop)]
 struct Gated<R> {
-    workers: BagCrew<R, Counting>,
+    workers: BagCrew<R, MeetingGate>,
 }
 
 impl<R: Threads + Wait + Sync> Crew<Box<dyn Member>> for Gated<R> {
@@ -193,18 +147,21 @@ fn pass_the_gate<R: Abort + Threads + Wait + Sync>(
 ) -> Result<(), AllocError>
     requires { (2 ≤ workers) × (workers ≤ 64) }
 {
-    let entries = Entries::new(alloc)?;
-    let gate = Counting {
-        entries: Arc::try_clone(&entries)?,
+    let meeting = Meeting::new(alloc, 0)?;
+    let gate = MeetingGate {
+        meeting: Arc::try_clone(&meeting)?,
     };
     let mut crew = Gated {
         workers: BagCrew::new(rt, gate, workers),
     };
     run_once(rt, alloc, CHAIN_OF_FIVE_ONE_LOSS.scenario, &mut crew, ALONE)?;
-    assert_eq!(rt; entries.missed.load(Ordering::SeqCst), 0);
-    assert_eq!(rt; entries.first.load(Ordering::SeqCst), 12);
-    assert_eq!(rt; entries.second.load(Ordering::SeqCst), 12);
-    assert_eq!(rt; entries.others.load(Ordering::SeqCst), 36);
+    let want = Entries {
+        first: 12,
+        second: 12,
+        others: 36,
+        missed: 0,
+    };
+    assert_eq!(rt; meeting.entries(), want);
     Ok(())
 }
 

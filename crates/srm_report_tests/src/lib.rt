@@ -11,6 +11,8 @@ mod fault_tests;
 #[cfg(test)]
 mod gate_tests;
 #[cfg(test)]
+mod opening;
+#[cfg(test)]
 mod outlet_tests;
 #[cfg(test)]
 mod stream_tests;

@@ -3,7 +3,7 @@ use srm_report::outlet::{OutFault, Outlet, WriteOutlet};
 use std::alloc::Global;
 use std::io;
 use std::io::{ErrorKind, Write};
-use std::test::Fail;
+use std::process::Abort;
 
 // What a writer does at the call at which it takes nothing.
 #[derive(Clone, Copy, Debug)]
@@ -54,38 +54,44 @@ impl Write for RefusesOnce {
 
 const TEXT: &[u8] = b"time,member,cause";
 
-#[test]
-fn an_outlet_fails_where_its_writer_does_and_nowhere_else(rt: HostRuntime) -> Result<(), Fail> {
-    for refusal in [
-        Refusal::Error(ErrorKind::Other),
-        Refusal::Error(ErrorKind::Interrupted),
-        Refusal::TakesNothing,
-    ] {
-        for refuses_at in 0..5 {
-            let mut outlet = WriteOutlet::new(RefusesOnce::new(rt.alloc(), refuses_at, refusal));
-            let mut taken = 0;
-            for call in 0..4 {
-                let put = outlet.put(&TEXT[taken..]);
-                if call == refuses_at {
-                    assert_eq!(rt; put, Err(OutFault), "{refusal:?} at call {refuses_at}");
-                } else {
-                    assert_eq!(rt; put, Ok(3), "{refusal:?} at call {refuses_at}");
-                    taken += 3;
-                }
-            }
-            assert_eq!(rt;
-                outlet.into_inner().taken.as_slice(),
-                &TEXT[..taken],
-                "{refusal:?} at call {refuses_at}"
-            );
+// Puts what is left of the text at an outlet of such a writer, four times, and asserts that just the call fails at which the writer
+// refuses.
+fn expect_failure_at(rt: &impl Abort, alloc: Global, refuses_at: usize, refusal: Refusal) {
+    let mut outlet = WriteOutlet::new(RefusesOnce::new(alloc, refuses_at, refusal));
+    let mut taken = 0;
+    for call in 0..4 {
+        let put = outlet.put(&TEXT[taken..]);
+        if call == refuses_at {
+            assert_eq!(rt; put, Err(OutFault), "{refusal:?} at call {refuses_at}");
+        } else {
+            assert_eq!(rt; put, Ok(3), "{refusal:?} at call {refuses_at}");
+            taken += 3;
         }
     }
-    Ok(())
+    assert_eq!(rt;
+        outlet.into_inner().taken.as_slice(),
+        &TEXT[..taken],
+        "{refusal:?} at call {refuses_at}"
+    );
+}
+
+#[test]
+fn an_outlet_fails_where_its_writer_does_and_nowhere_else(rt: HostRuntime) {
+    for refuses_at in 0..5 {
+        for refusal in [
+            Refusal::Error(ErrorKind::Other),
+            Refusal::Error(ErrorKind::Interrupted),
+            Refusal::TakesNothing,
+        ] {
+            expect_failure_at(&rt, rt.alloc(), refuses_at, refusal);
+        }
+    }
 }
 
 #[test]
 fn taking_nothing_of_an_empty_piece_is_no_failure(rt: HostRuntime) {
     let mut outlet = WriteOutlet::new(RefusesOnce::new(rt.alloc(), 0, Refusal::TakesNothing));
-    assert_eq!(rt; outlet.put(b""), Ok(0));
-    assert_eq!(rt; outlet.put(TEXT), Ok(3));
+    let of_an_empty_piece = outlet.put(b"");
+    let of_the_text = outlet.put(TEXT);
+    assert_eq!(rt; (of_an_empty_piece, of_the_text), (Ok(0), Ok(3)));
 }

@@ -1,8 +1,8 @@
 //! Runs whose rows are taken as they come: how far such a run is when they are.
 
 use crate::failing::Failing;
-use crate::streaming::stream_text;
-use srm_crew::recording::{Note, Recording};
+use crate::streaming::{expect_windows, stream_text};
+use srm_crew::recording::Recording;
 use srm_engine::sink::Stage;
 use srm_engine::stream_fault::StreamFault;
 use srm_engine::width::{Width, Windows};
@@ -11,13 +11,12 @@ use srm_report::fault::ReportFault;
 use srm_report::listing_sink::ListingSink;
 use srm_report::outlet::WriteOutlet;
 use srm_report::trace::{TraceListing, trace_text};
-use std::alloc::Global;
+use std::alloc::{AllocError, Global};
 use std::io;
 use std::io::Write;
 use std::process::Abort;
 use std::sync::Arc;
 use std::sync::atomic::{AtomicU64, Ordering};
-use std::test::Fail;
 
 // Windows of one tick, in which one job has the cells of all members.
 const TICKS: Option<Windows> = Some(Windows {
@@ -25,19 +24,12 @@ const TICKS: Option<Windows> = Some(Windows {
     width: Width::Ticks(1),
 });
 
-// The job of all five members, up to the end of a window.
-const fn all_five(till: u64) -> Note {
-    Note {
-        place: 0,
-        till,
-        cells: 5,
-    }
-}
-
 // The sink is called with no rows, with those of the first window, and after the second, when its device fails: the
-// crew was handed two windows, and is handed no third.
+// crew was handed two windows, those of ticks 0 and 1, and is handed no third.
 #[test]
-fn a_run_ends_with_the_window_after_which_its_sink_fails(rt: HostRuntime) -> Result<(), Fail> {
+fn a_run_ends_with_the_window_after_which_its_sink_fails(
+    rt: HostRuntime,
+) -> Result<(), AllocError> {
     let alloc = rt.alloc();
     let text = CHAIN_OF_FIVE_ONE_LOSS.scenario;
     let reacts = Arc::new(alloc, AtomicU64::new(0))?;
@@ -48,22 +40,14 @@ fn a_run_ends_with_the_window_after_which_its_sink_fails(rt: HostRuntime) -> Res
         calls_left: 2,
         failures: 0,
     };
-    let fault = stream_text(alloc, text, &reacts, &mut crew, TICKS, &mut sink)?;
+    let fault = stream_text(&rt, alloc, text, &reacts, &mut crew, TICKS, &mut sink)?;
     assert_eq!(rt; fault, Some(StreamFault::Stopped { written: 6 }));
-    expect_two_windows(&rt, &crew);
+    expect_windows(&rt, &crew, 5, &[1, 2]);
     expect_front(&rt, alloc, &sink)
 }
 
-// Asserts that the crew was handed the windows of ticks 0 and 1, and no other.
-fn expect_two_windows(rt: &impl Abort, crew: &Recording) {
-    assert_eq!(rt; crew.calls().len(), 2);
-    for (till, call) in [1, 2].into_iter().zip(crew.calls()) {
-        assert_eq!(rt; call.as_slice(), [all_five(till)].as_slice());
-    }
-}
-
 // Asserts that the sink holds the rows of tick 0, with which the trace begins.
-fn expect_front(rt: &impl Abort, alloc: Global, sink: &Failing) -> Result<(), Fail> {
+fn expect_front(rt: &impl Abort, alloc: Global, sink: &Failing) -> Result<(), AllocError> {
     assert_eq!(rt; sink.rows.len(), 6);
     match trace_text(alloc, sink.rows.as_slice()) {
         Ok(text) => {
@@ -71,7 +55,7 @@ fn expect_front(rt: &impl Abort, alloc: Global, sink: &Failing) -> Result<(), Fa
             assert!(rt; trace.starts_with(text.as_slice()));
             Ok(())
         }
-        Err(ReportFault::NoMemory) => Err(Fail::from("no memory")),
+        Err(ReportFault::NoMemory) => Err(AllocError),
     }
 }
 
@@ -99,12 +83,13 @@ impl Write for Noting {
 
 const HEADER: &str = "time,member,cause,ref,result,lost,sent\n";
 
-// The sender joins and draws at tick 0; later it draws once more, hears a request, and hears the repair. When the first
-// row is written it has met the two events of the first window alone.
-#[test]
-fn rows_are_written_before_later_windows_are_run(rt: HostRuntime) -> Result<(), Fail> {
-    let alloc = rt.alloc();
-    let text = CHAIN_OF_FIVE_ONE_LOSS.scenario;
+// How often senders had been asked to react when the first row of a run's trace was written, and when the run had ended.
+fn reacts_of_run(
+    rt: &impl Abort,
+    alloc: Global,
+    text: &str,
+    asked: Option<Windows>,
+) -> Result<(Option<u64>, u64), AllocError> {
     let reacts = Arc::new(alloc, AtomicU64::new(0))?;
     let mut outlet = WriteOutlet::new(Noting {
         number: Arc::try_clone(&reacts)?,
@@ -113,11 +98,18 @@ fn rows_are_written_before_later_windows_are_run(rt: HostRuntime) -> Result<(), 
     });
     let mut crew = Recording::new(alloc);
     let mut sink = ListingSink::over(alloc, TraceListing, &mut outlet);
-    let fault = stream_text(alloc, text, &reacts, &mut crew, TICKS, &mut sink)?;
+    let fault = stream_text(rt, alloc, text, &reacts, &mut crew, asked, &mut sink)?;
     assert_eq!(rt; fault, None);
     drop(sink);
-    assert_eq!(rt; outlet.into_inner().noted, Some(2));
-    assert_eq!(rt; reacts.load(Ordering::SeqCst), 5);
+    Ok((outlet.into_inner().noted, reacts.load(Ordering::SeqCst)))
+}
+
+// The sender joins and draws at tick 0; later it draws once more, hears a request, and hears the repair. When the first
+// row is written it has met the two events of the first window alone.
+#[test]
+fn rows_are_written_before_later_windows_are_run(rt: HostRuntime) -> Result<(), AllocError> {
+    let reacts = reacts_of_run(&rt, rt.alloc(), CHAIN_OF_FIVE_ONE_LOSS.scenario, TICKS)?;
+    assert_eq!(rt; reacts, (Some(2), 5));
     Ok(())
 }
 
@@ -165,20 +157,8 @@ draw = [
 // The sender joins and draws twenty times. When the first row is written it has drawn eleven times: the first 32 rows are three
 // joins, eleven draws, and the arrivals of nine packets at two members.
 #[test]
-fn rows_are_written_before_later_events_are_handled(rt: HostRuntime) -> Result<(), Fail> {
-    let alloc = rt.alloc();
-    let reacts = Arc::new(alloc, AtomicU64::new(0))?;
-    let mut outlet = WriteOutlet::new(Noting {
-        number: Arc::try_clone(&reacts)?,
-        left: HEADER.len(),
-        noted: None,
-    });
-    let mut crew = Recording::new(alloc);
-    let mut sink = ListingSink::over(alloc, TraceListing, &mut outlet);
-    let fault = stream_text(alloc, TWENTY_DRAWS, &reacts, &mut crew, None, &mut sink)?;
-    assert_eq!(rt; fault, None);
-    drop(sink);
-    assert_eq!(rt; outlet.into_inner().noted, Some(12));
-    assert_eq!(rt; reacts.load(Ordering::SeqCst), 21);
+fn rows_are_written_before_later_events_are_handled(rt: HostRuntime) -> Result<(), AllocError> {
+    let reacts = reacts_of_run(&rt, rt.alloc(), TWENTY_DRAWS, None)?;
+    assert_eq!(rt; reacts, (Some(12), 21));
     Ok(())
 }

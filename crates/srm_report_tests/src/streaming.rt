@@ -3,7 +3,8 @@ ghost use Rattle.std.specs.Prelude.{◌≡◌, ◌<◌, ◌-◌, ◌^◌};
 ghost use Rattle.srm_scenario.specs.Plain.{network_of};
 ghost use Rattle.srm_engine.specs.Sinks.{IsOpen};
 
-use srm_crew::recording::Recording;
+use crate::opening::opened;
+use srm_crew::recording::{Note, Recording};
 use srm_engine::sink::RowSink;
 use srm_engine::step_stream::step_stream;
 use srm_engine::stream_fault::StreamFault;
@@ -17,13 +18,11 @@ use srm_roles::late::Late;
 use srm_roles::listener::Listener;
 use srm_roles::receiver::Receiver;
 use srm_roles::sender::Sender;
-use srm_scenario::feed::ReadFeed;
-use srm_scenario::reading::read_scenario;
 use srm_scenario::scenario::Scenario;
-use std::alloc::Global;
+use std::alloc::{AllocError, Global};
+use std::process::Abort;
 use std::sync::Arc;
 use std::sync::atomic::AtomicU64;
-use std::test::Fail;
 
 // Runs the members of a scenario, made by their roles with random words of seed 0, in windows or else in the sequential
 // run; the senders count how often they react. Why the run was refused, if it was.
@@ -35,7 +34,7 @@ fn stream_members<S: RowSink>(
     crew: &mut Recording,
     asked: Option<Windows>,
     sink: &mut S,
-) -> Result<Option<StreamFault>, Fail>
+) -> Result<Option<StreamFault>, AllocError>
     requires network { net.now ≡ network_of scenario.now }
     requires open { IsOpen (S.stage sink.old) }
     requires failures { S.failures sink.old < 2 ^ 64 - 1 }
@@ -44,13 +43,30 @@ fn stream_members<S: RowSink>(
     for m in 0..scenario.members() {
         let member: Box<dyn Member> = match scenario.role(m) {
             Role::Sender => {
-                let inner = Sender::new(alloc, scenario, net, 0, m)?;
+                let Ok(inner) = Sender::new(alloc, scenario, net, 0, m) else {
+                    return Err(AllocError);
+                };
                 let reacts = Arc::try_clone(reacts)?;
                 Box::new(alloc, Counted { inner, reacts })?
             }
-            Role::Receiver => Box::new(alloc, Receiver::new(alloc, scenario, net, 0, m)?)?,
-            Role::Late => Box::new(alloc, Late::new(alloc, scenario, net, 0, m)?)?,
-            Role::Listener => Box::new(alloc, Listener::new(alloc, scenario, net, 0, m)?)?,
+            Role::Receiver => {
+                let Ok(receiver) = Receiver::new(alloc, scenario, net, 0, m) else {
+                    return Err(AllocError);
+                };
+                Box::new(alloc, receiver)?
+            }
+            Role::Late => {
+                let Ok(late) = Late::new(alloc, scenario, net, 0, m) else {
+                    return Err(AllocError);
+                };
+                Box::new(alloc, late)?
+            }
+            Role::Listener => {
+                let Ok(listener) = Listener::new(alloc, scenario, net, 0, m) else {
+                    return Err(AllocError);
+                };
+                Box::new(alloc, listener)?
+            }
         };
         members.push(member)?;
     }
@@ -65,18 +81,30 @@ fn stream_members<S: RowSink>(
 /// Runs the members of a scenario's text, made by their roles with random words of seed 0, in windows or else in the
 /// sequential run; the senders count how often they react. Why the run was refused, if it was.
 pub(crate) fn stream_text<S: RowSink>(
+    rt: &impl Abort,
     alloc: Global,
     text: &str,
     reacts: &Arc<AtomicU64>,
     crew: &mut Recording,
     asked: Option<Windows>,
     sink: &mut S,
-) -> Result<Option<StreamFault>, Fail>
+) -> Result<Option<StreamFault>, AllocError>
     requires open { IsOpen (S.stage sink.old) }
     requires failures { S.failures sink.old < 2 ^ 64 - 1 }
 {
-    let mut feed = ReadFeed::new(text.as_bytes());
-    let scenario = read_scenario(alloc, &mut feed)?;
-    let net = scenario.net(alloc)?;
+    let (scenario, net) = opened(rt, alloc, text)?;
     stream_members(alloc, &scenario, &net, reacts, crew, asked, sink)
+}
+
+/// Asserts that a crew was handed windows up to these ticks and no other, each with one job of so many cells.
+pub(crate) fn expect_windows(rt: &impl Abort, crew: &Recording, cells: usize, ends: &[u64]) {
+    assert_eq!(rt; crew.calls().len(), ends.len());
+    for (till, call) in ends.iter().zip(crew.calls()) {
+        let job = Note {
+            place: 0,
+            till: *till,
+            cells,
+        };
+        assert_eq!(rt; call.as_slice(), [job].as_slice());
+    }
 }

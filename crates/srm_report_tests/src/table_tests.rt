@@ -1,16 +1,15 @@
 //! The tables, over rows written by hand.
+use crate::opening::opened;
 use crate::trace_tests::{Of, row_of};
 use srm_ledger::kind::Kind;
 use srm_ledger::totals::Totals;
-use srm_member::row::Word;
+use srm_member::row::{Row, Word};
 use srm_member::told::Told;
 use srm_report::fault::ReportFault;
 use srm_report::links::links_text;
 use srm_report::members::members_text;
-use srm_scenario::feed::ReadFeed;
-use srm_scenario::reading::read_scenario;
-use std::alloc::Global;
-use std::test::Fail;
+use std::alloc::{AllocError, Global};
+use std::process::Abort;
 
 // A chain of five: a sender and four receivers.
 const CHAIN_OF_FIVE: &str = "version = 1
@@ -51,33 +50,44 @@ const MEMBERS_WITH_ONE_THAT_LEAVES: &str =
 4,receiver,4,-,-,0,0,0,0,0,0,0,0
 ";
 
-// The table of the members of the chain of five that left these events.
-fn members_after(alloc: Global, events: &[(u64, u16, Word, Told, usize)]) -> Result<Vec<u8>, Fail> {
-    let mut feed = ReadFeed::new(CHAIN_OF_FIVE.as_bytes());
-    let Ok(scenario) = read_scenario(alloc, &mut feed) else {
-        return Err(Fail::from("the scenario is refused"));
-    };
+// The rows of these events.
+fn rows_of(
+    alloc: Global,
+    events: &[(u64, u16, Word, Told, usize)],
+) -> Result<Vec<Row>, AllocError> {
     let mut rows = Vec::new(alloc);
     for (time, member, cause, told, lost) in events {
         let event = (*time, *member, *cause, Of::Nothing, *told);
         rows.push(row_of(alloc, event, *lost, None)?)?;
     }
-    match members_text(alloc, &scenario, rows.as_slice()) {
+    Ok(rows)
+}
+
+// The table of the members of the chain of five that left these rows.
+fn members_after(rt: &impl Abort, alloc: Global, rows: &[Row]) -> Result<Vec<u8>, AllocError> {
+    let (scenario, _net) = opened(rt, alloc, CHAIN_OF_FIVE)?;
+    match members_text(alloc, &scenario, rows) {
         Ok(text) => Ok(text),
-        Err(ReportFault::NoMemory) => Err(Fail::from("no memory")),
+        Err(ReportFault::NoMemory) => Err(AllocError),
     }
 }
 
 // A loss that is recovered, and one that is open when its member leaves.
 #[test]
-fn members_after_these_events(rt: HostRuntime) -> Result<(), Fail> {
-    let text = members_after(rt.alloc(), &EVENTS_OF_A_MEMBER_THAT_LEAVES)?;
+fn members_after_these_events(rt: HostRuntime) -> Result<(), AllocError> {
+    let rows = rows_of(rt.alloc(), &EVENTS_OF_A_MEMBER_THAT_LEAVES)?;
+    let text = members_after(&rt, rt.alloc(), rows.as_slice())?;
     assert_eq!(rt; text.as_slice(), MEMBERS_WITH_ONE_THAT_LEAVES.as_bytes());
     Ok(())
 }
 
+const LINKS: &str = "link,data,requests,repairs,sessions,dropped
+0,2,0,0,0,0
+1,1,0,1,0,1
+";
+
 #[test]
-fn links_of_a_chain_that_drops_a_packet(rt: HostRuntime) -> Result<(), Fail> {
+fn links_of_a_chain_that_drops_a_packet(rt: HostRuntime) -> Result<(), AllocError> {
     let mut totals = Totals::new(rt.alloc(), 2)?;
     totals.count(0, Kind::Drawop);
     totals.count(0, Kind::Drawop);
@@ -85,11 +95,8 @@ fn links_of_a_chain_that_drops_a_packet(rt: HostRuntime) -> Result<(), Fail> {
     totals.count(1, Kind::Dropped);
     totals.count(1, Kind::Repair);
     match links_text(rt.alloc(), &totals) {
-        Ok(text) => {
-            let want = "link,data,requests,repairs,sessions,dropped\n0,2,0,0,0,0\n1,1,0,1,0,1\n";
-            assert_eq!(rt; text.as_slice(), want.as_bytes());
-        }
-        Err(ReportFault::NoMemory) => return Err(Fail::from("no memory")),
+        Ok(text) => assert_eq!(rt; text.as_slice(), LINKS.as_bytes()),
+        Err(ReportFault::NoMemory) => return Err(AllocError),
     }
     Ok(())
 }

@@ -15,9 +15,7 @@ use srm_report::writing::{WriteFault, write_out};
 use std::alloc::{AllocError, Global};
 use std::io;
 use std::io::Write;
-use std::sync::Arc;
-use std::sync::atomic::{AtomicU64, Ordering};
-use std::test::Fail;
+use std::process::Abort;
 
 const TEXT: &[u8] =
     b"time,member,cause,ref,result,lost,sent\n0,0,join,-,in,0,-\n3,1,data,0:0,fresh,0,-\n";
@@ -44,59 +42,43 @@ fn arrival(alloc: Global) -> Result<Row, AllocError> {
     )
 }
 
-// How a call ended: with the number of bytes that its fault tells.
-fn told(answer: Result<(), SinkFault>) -> Result<Option<u64>, AllocError> {
-    match answer {
-        Ok(()) => Ok(None),
-        Err(SinkFault::NoMemory) => Err(AllocError),
-        Err(SinkFault::Stopped { written }) => Ok(Some(written)),
-    }
+// A list of one item.
+fn one<T: Drop>(alloc: Global, item: T) -> Result<Vec<T>, AllocError> {
+    let mut items = Vec::new(alloc);
+    items.push(item)?;
+    Ok(items)
 }
 
-// A list of one row.
-fn one(alloc: Global, row: Row) -> Result<Vec<Row>, AllocError> {
-    let mut rows = Vec::new(alloc);
-    rows.push(row)?;
-    Ok(rows)
+// What a sink is handed, call by call: no rows, one row, and another.
+fn calls(alloc: Global) -> Result<Vec<Vec<Row>>, AllocError> {
+    let mut calls = one(alloc, Vec::new(alloc))?;
+    calls.push(one(alloc, join(alloc)?)?)?;
+    calls.push(one(alloc, arrival(alloc)?)?)?;
+    Ok(calls)
 }
 
-// Hands a sink no rows, then one row, then another, and flushes it. What the first fault tells, if there is one.
+// Hands a sink the rows of these calls, and may flush it. What the first fault tells, if there is one.
 fn written<O: Outlet>(
     alloc: Global,
     sink: ListingSink<TraceListing, O>,
+    calls: Vec<Vec<Row>>,
+    flushes: bool,
 ) -> Result<Option<u64>, AllocError>
     requires open { IsOpen (stage_of sink) }
     requires failures { O.failures (outlet_under sink) < 2 ^ 64 - 1 }
 {
     let mut sink = sink;
-    let first = one(alloc, join(alloc)?)?;
-    let second = one(alloc, arrival(alloc)?)?;
-    if let Err(fault) = sink.rows(alloc, Vec::new(alloc)) {
-        return told(Err(fault));
+    for rows in calls {
+        match sink.rows(alloc, rows) {
+            Ok(()) => {}
+            Err(SinkFault::NoMemory) => return Err(AllocError),
+            Err(SinkFault::Stopped { written }) => return Ok(Some(written)),
+        }
     }
-    if let Err(fault) = sink.rows(alloc, first) {
-        return told(Err(fault));
+    if flushes && let Err(WriteFault { written }) = sink.flush() {
+        return Ok(Some(written));
     }
-    if let Err(fault) = sink.rows(alloc, second) {
-        return told(Err(fault));
-    }
-    match sink.flush() {
-        Ok(()) => Ok(None),
-        Err(WriteFault { written }) => Ok(Some(written)),
-    }
-}
-
-// Hands a sink one row. What the fault tells, if there is one.
-fn written_at_once<O: Outlet>(
-    alloc: Global,
-    sink: ListingSink<TraceListing, O>,
-) -> Result<Option<u64>, AllocError>
-    requires open { IsOpen (stage_of sink) }
-    requires failures { O.failures (outlet_under sink) < 2 ^ 64 - 1 }
-{
-    let mut sink = sink;
-    let rows = one(alloc, join(alloc)?)?;
-    told(sink.rows(alloc, rows))
+    Ok(None)
 }
 
 // What an outlet that takes so many bytes took, and what the first fault told, where so many bytes may be gathered.
@@ -104,66 +86,97 @@ fn written_to(
     alloc: Global,
     takes: usize,
     gathers: usize,
+    calls: Vec<Vec<Row>>,
+    flushes: bool,
 ) -> Result<(Vec<u8>, Option<u64>), AllocError> {
     let mut outlet = WriteOutlet::new(Narrow::new(alloc, takes, true));
-    let told = written(
-        alloc,
-        ListingSink::gathering(alloc, TraceListing, &mut outlet, gathers),
-    )?;
+    let sink = ListingSink::gathering(alloc, TraceListing, &mut outlet, gathers);
+    let told = written(alloc, sink, calls, flushes)?;
     Ok((outlet.into_inner().taken, told))
 }
 
+// Asserts what an outlet that takes so many bytes took of the text, and what the first fault told.
+fn expect_front(
+    rt: &impl Abort,
+    alloc: Global,
+    takes: usize,
+    gathers: usize,
+    told_of: Option<u64>,
+) -> Result<(), AllocError> {
+    let (taken, told) = written_to(alloc, takes, gathers, calls(alloc)?, true)?;
+    assert_eq!(rt; told, told_of, "{takes} bytes, {gathers} gathered");
+    let front = TEXT.get(..takes).unwrap_or(TEXT);
+    assert_eq!(rt;
+        taken.as_slice(),
+        front,
+        "{takes} bytes, {gathers} gathered"
+    );
+    Ok(())
+}
+
 #[test]
-fn an_outlet_that_fails_has_the_front_that_is_told(rt: HostRuntime) -> Result<(), Fail> {
+fn an_outlet_that_fails_has_the_front_that_is_told(rt: HostRuntime) -> Result<(), AllocError> {
     for gathers in [0, 1, 40, 60, 1_000] {
         for takes in 0..TEXT.len() {
-            let (taken, told) = written_to(rt.alloc(), takes, gathers)?;
-            assert_eq!(rt;
-                told,
-                Some(takes as u64),
-                "{takes} bytes, {gathers} gathered"
-            );
-            assert_eq!(rt;
-                taken.as_slice(),
-                &TEXT[..takes],
-                "{takes} bytes, {gathers} gathered"
-            );
+            expect_front(&rt, rt.alloc(), takes, gathers, Some(takes as u64))?;
         }
     }
     Ok(())
 }
 
 #[test]
-fn pieces_are_the_text_of_the_whole(rt: HostRuntime) -> Result<(), Fail> {
+fn pieces_are_the_text_of_the_whole(rt: HostRuntime) -> Result<(), AllocError> {
     for gathers in [0, 1, 40, 60, 1_000] {
-        let (taken, told) = written_to(rt.alloc(), 1_000, gathers)?;
-        assert_eq!(rt; told, None, "{gathers} gathered");
-        assert_eq!(rt; taken.as_slice(), TEXT, "{gathers} gathered");
+        expect_front(&rt, rt.alloc(), 1_000, gathers, None)?;
     }
     Ok(())
 }
 
-#[test]
-fn a_sink_over_an_outlet_writes_each_piece_as_it_comes(rt: HostRuntime) -> Result<(), Fail> {
-    let alloc = rt.alloc();
+// What an outlet that takes 1,000 bytes took of a sink that was handed one row, and what the first fault told.
+fn written_of_one_row(alloc: Global) -> Result<(Vec<u8>, Option<u64>), AllocError> {
+    let rows = one(alloc, join(alloc)?)?;
     let mut outlet = WriteOutlet::new(Narrow::new(alloc, 1_000, true));
-    let told = written_at_once(alloc, ListingSink::over(alloc, TraceListing, &mut outlet))?;
+    let sink = ListingSink::over(alloc, TraceListing, &mut outlet);
+    let told = written(alloc, sink, one(alloc, rows)?, false)?;
+    Ok((outlet.into_inner().taken, told))
+}
+
+#[test]
+fn a_sink_over_an_outlet_writes_each_piece_as_it_comes(rt: HostRuntime) -> Result<(), AllocError> {
+    let (taken, told) = written_of_one_row(rt.alloc())?;
     assert_eq!(rt; told, None);
-    assert_eq!(rt; outlet.into_inner().taken.as_slice(), &TEXT[..57]);
+    assert_eq!(rt; taken.as_slice(), &TEXT[..57]);
     Ok(())
 }
 
-/// Takes all bytes, and counts the writes and the bytes for others to see.
+// The header and the first rows are written at once, so that a run is seen to go; then up to 1,000 bytes are gathered.
+#[test]
+fn only_what_comes_after_the_first_rows_is_gathered(rt: HostRuntime) -> Result<(), AllocError> {
+    for (handed, flushes, bytes) in [
+        (1, false, 39),
+        (2, false, 57),
+        (3, false, 57),
+        (3, true, TEXT.len()),
+    ] {
+        let mut calls = calls(rt.alloc())?;
+        calls.truncate(handed);
+        let (taken, told) = written_to(rt.alloc(), 1_000, 1_000, calls, flushes)?;
+        assert_eq!(rt; (taken.len(), told), (bytes, None), "after {handed} calls");
+    }
+    Ok(())
+}
+
+// Takes all bytes, and counts the writes and the bytes.
 #[derive(Drop)]
 struct Counting {
-    writes: Arc<AtomicU64>,
-    bytes: Arc<AtomicU64>,
+    writes: u64,
+    bytes: usize,
 }
 
 impl Write for Counting {
     fn write(&mut self, piece: &[u8]) -> io::Result<usize> {
-        self.writes.fetch_add(1, Ordering::SeqCst);
-        self.bytes.fetch_add(piece.len() as u64, Ordering::SeqCst);
+        self.writes = self.writes.saturating_add(1);
+        self.bytes = self.bytes.saturating_add(piece.len());
         Ok(piece.len())
     }
 
@@ -172,48 +185,14 @@ impl Write for Counting {
     }
 }
 
-// The header and the first rows are written at once, so that a run is seen to go; then up to 1,000 bytes are gathered.
-#[test]
-fn only_what_comes_after_the_first_rows_is_gathered(rt: HostRuntime) -> Result<(), Fail> {
-    let alloc = rt.alloc();
-    let writes = Arc::new(alloc, AtomicU64::new(0))?;
-    let bytes = Arc::new(alloc, AtomicU64::new(0))?;
-    let mut outlet = WriteOutlet::new(Counting {
-        writes: Arc::try_clone(&writes)?,
-        bytes: Arc::try_clone(&bytes)?,
-    });
-    let first = one(alloc, join(alloc)?)?;
-    let second = one(alloc, arrival(alloc)?)?;
-    let mut sink = ListingSink::gathering(alloc, TraceListing, &mut outlet, 1_000);
-    if sink.rows(alloc, Vec::new(alloc)).is_err() {
-        return Err(Fail::from("no memory"));
-    }
-    assert_eq!(rt; bytes.load(Ordering::SeqCst), 39);
-    if sink.rows(alloc, first).is_err() {
-        return Err(Fail::from("no memory"));
-    }
-    assert_eq!(rt; bytes.load(Ordering::SeqCst), 57);
-    if sink.rows(alloc, second).is_err() {
-        return Err(Fail::from("no memory"));
-    }
-    assert_eq!(rt; bytes.load(Ordering::SeqCst), 57);
-    assert_eq!(rt; sink.flush(), Ok(()));
-    assert_eq!(rt; bytes.load(Ordering::SeqCst), TEXT.len() as u64);
-    Ok(())
-}
-
 // A writer that takes all that it is given is asked once.
 #[test]
-fn a_text_is_written_at_once(rt: HostRuntime) -> Result<(), Fail> {
-    let alloc = rt.alloc();
-    let writes = Arc::new(alloc, AtomicU64::new(0))?;
-    let bytes = Arc::new(alloc, AtomicU64::new(0))?;
+fn a_text_is_written_at_once(rt: HostRuntime) {
     let mut outlet = WriteOutlet::new(Counting {
-        writes: Arc::try_clone(&writes)?,
-        bytes: Arc::try_clone(&bytes)?,
+        writes: 0,
+        bytes: 0,
     });
     assert_eq!(rt; write_out(&mut outlet, TEXT), Ok(()));
-    assert_eq!(rt; writes.load(Ordering::SeqCst), 1);
-    assert_eq!(rt; bytes.load(Ordering::SeqCst), TEXT.len() as u64);
-    Ok(())
+    let Counting { writes, bytes } = outlet.into_inner();
+    assert_eq!(rt; (writes, bytes), (1, TEXT.len()));
 }

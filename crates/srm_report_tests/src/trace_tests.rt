@@ -12,7 +12,7 @@ use srm_report::writing::{WriteFault, write_out};
 use std::alloc::{AllocError, Global};
 use std::io;
 use std::io::{ErrorKind, Write};
-use std::test::Fail;
+use std::process::Abort;
 
 // What a row is about.
 #[derive(Clone, Copy)]
@@ -38,28 +38,29 @@ const GREATEST: Name = Name {
     number: 4095,
 };
 
-// An event, how many names were lost, the packet that was sent, and the line; the last has the greatest numbers. Every
-// word stands in a trace of examples/ or tests/scenarios/, with which the built program's is compared.
-const LINES: [(Event, usize, Option<PacketId>, &str); 3] = [
-    (
-        (0, 0, Word::Join, Of::Nothing, Told::Entered),
-        0,
-        None,
-        "0,0,join,-,in,0,-",
-    ),
+// An event, how many names were lost, and the packet that was sent; the last has the greatest numbers. Every word stands in a trace
+// of examples/ or tests/scenarios/, with which the built program's is compared.
+const EVENTS: [(Event, usize, Option<PacketId>); 3] = [
+    ((0, 0, Word::Join, Of::Nothing, Told::Entered), 0, None),
     (
         (12, 2, Word::Data, Of::Packet(SECOND), Told::Fresh),
         1,
         None,
-        "12,2,data,0:1,fresh,1,-",
     ),
     (
         (LAST_TICK, 255, Word::Ask, Of::Name(GREATEST), Told::Sent),
         12,
         Some(LAST),
-        "1099511627775,255,ask,255/65535/4095,sent,12,255:281474976710655",
     ),
 ];
+
+const TRACE_OF_NOTHING: &str = "time,member,cause,ref,result,lost,sent\n";
+
+const TRACE_OF_EVENTS: &str = "time,member,cause,ref,result,lost,sent
+0,0,join,-,in,0,-
+12,2,data,0:1,fresh,1,-
+1099511627775,255,ask,255/65535/4095,sent,12,255:281474976710655
+";
 
 // The last tick at which an event can happen.
 const LAST_TICK: u64 = 1_099_511_627_775;
@@ -117,21 +118,32 @@ pub(crate) fn row_of(
     })
 }
 
+// The trace of these events.
+fn trace_of(
+    alloc: Global,
+    events: &[(Event, usize, Option<PacketId>)],
+) -> Result<Vec<u8>, AllocError> {
+    let mut rows = Vec::new(alloc);
+    for (event, lost, sent) in events {
+        rows.push(row_of(alloc, *event, *lost, *sent)?)?;
+    }
+    match trace_text(alloc, rows.as_slice()) {
+        Ok(text) => Ok(text),
+        Err(ReportFault::NoMemory) => Err(AllocError),
+    }
+}
+
 #[test]
-fn a_trace_has_its_header_and_a_line_for_each_row(rt: HostRuntime) -> Result<(), Fail> {
-    let mut rows = Vec::new(rt.alloc());
-    let mut want = String::from_str(rt.alloc(), "time,member,cause,ref,result,lost,sent\n")?;
-    let header = trace_text(rt.alloc(), rows.as_slice()).map_err(|_| "no header")?;
-    assert_eq!(rt; header.as_slice(), want.as_bytes());
-    for (event, lost, sent, line) in LINES {
-        rows.push(row_of(rt.alloc(), event, lost, sent)?)?;
-        want.push_str(line)?;
-        want.push_str("\n")?;
-    }
-    match trace_text(rt.alloc(), rows.as_slice()) {
-        Ok(text) => assert_eq!(rt; text.as_slice(), want.as_bytes()),
-        Err(ReportFault::NoMemory) => return Err(Fail::from("no memory")),
-    }
+fn a_trace_of_nothing_is_its_header(rt: HostRuntime) -> Result<(), AllocError> {
+    let text = trace_of(rt.alloc(), &[])?;
+    assert_eq!(rt; text.as_slice(), TRACE_OF_NOTHING.as_bytes());
+    Ok(())
+}
+
+#[test]
+fn a_trace_has_its_header_and_a_line_for_each_row(rt: HostRuntime) -> Result<(), AllocError> {
+    let text = trace_of(rt.alloc(), &EVENTS)?;
+    assert_eq!(rt; text.as_slice(), TRACE_OF_EVENTS.as_bytes());
     Ok(())
 }
 
@@ -169,25 +181,38 @@ impl Write for Narrow {
     }
 }
 
+const TEXT: &[u8] = b"time,member,cause";
+
+// Writes the text to a writer with so much room, which then fails or takes nothing. Asserts how many bytes it takes, and the answer.
+fn expect_written(
+    rt: &impl Abort,
+    alloc: Global,
+    room: usize,
+    fails: bool,
+    taken: usize,
+    told: Result<(), WriteFault>,
+) {
+    let mut outlet = WriteOutlet::new(Narrow::new(alloc, room, fails));
+    assert_eq!(rt; write_out(&mut outlet, TEXT), told, "with room for {room}");
+    let writer = outlet.into_inner();
+    assert_eq!(rt;
+        Some(writer.taken.as_slice()),
+        TEXT.get(..taken),
+        "with room for {room}"
+    );
+}
+
 #[test]
-fn writing_stops_where_the_writer_does(rt: HostRuntime) -> Result<(), Fail> {
-    let text = b"time,member,cause";
-    for (room, fails, taken, want) in [
-        (10, true, &text[..10], Err(WriteFault { written: 10 })),
-        (10, false, &text[..10], Err(WriteFault { written: 10 })),
-        (0, true, &text[..0], Err(WriteFault { written: 0 })),
-        (17, true, &text[..], Ok(())),
-        (99, false, &text[..], Ok(())),
+fn writing_stops_where_the_writer_does(rt: HostRuntime) {
+    for (room, fails, taken, told) in [
+        (10, true, 10, Err(WriteFault { written: 10 })),
+        (10, false, 10, Err(WriteFault { written: 10 })),
+        (0, true, 0, Err(WriteFault { written: 0 })),
+        (17, true, 17, Ok(())),
+        (99, false, 17, Ok(())),
     ] {
-        let mut outlet = WriteOutlet::new(Narrow::new(rt.alloc(), room, fails));
-        assert_eq!(rt; write_out(&mut outlet, text), want, "with room for {room}");
-        assert_eq!(rt;
-            outlet.into_inner().taken.as_slice(),
-            taken,
-            "with room for {room}"
-        );
+        expect_written(&rt, rt.alloc(), room, fails, taken, told);
     }
-    Ok(())
 }
 
 #[test]

@@ -3,6 +3,7 @@ use crate::stories::carried::Carried;
 use crate::stories::event::Event;
 use crate::stories::step::Step;
 use crate::stories::story::Story;
+use srm_member::cause::Cause;
 use srm_member::fault::MemberFault;
 use srm_member::member::Member;
 use srm_net::packet::Name;
@@ -38,8 +39,8 @@ pub(crate) fn follow(
     member: &mut Box<dyn Member>,
     story: &Story,
 ) -> Result<(), AllocError> {
-    assert_eq!(rt; member.number(), story.member);
-    assert_eq!(rt; member.due(), None);
+    let opening = (member.number(), member.due());
+    assert_eq!(rt; opening, (story.member, None));
     for step in story.steps {
         live(rt, alloc, member, step)?;
     }
@@ -57,15 +58,14 @@ fn live(
     let cause = step.event.cause(alloc)?;
     match member.react(alloc, at, &cause) {
         Ok(react) => {
-            assert!(rt; step.expects(&react), "{react:?} at {step:?}");
-            assert_eq!(rt; member.due(), step.due, "at {step:?}");
+            let due = member.due();
+            assert!(rt;
+                step.expects(&react, due),
+                "{react:?} and {due:?} at {step:?}"
+            );
             Ok(())
         }
-        Err(fault) => {
-            assert_eq!(rt; fault, MemberFault::NoMemory, "at {step:?}");
-            stay_gone(rt, alloc, member)?;
-            Err(AllocError)
-        }
+        Err(fault) => end_for_want(rt, alloc, member, fault),
     }
 }
 
@@ -78,16 +78,24 @@ fn end(
 ) -> Result<(), AllocError> {
     match member.finish(alloc) {
         Ok(exit) => {
-            assert!(rt; story.expects(&exit), "{exit:?}");
-            assert_eq!(rt; member.number(), story.member);
+            let number = member.number();
+            assert!(rt; story.expects(&exit, number), "{exit:?} of member {number}");
             stay_gone(rt, alloc, member)
         }
-        Err(fault) => {
-            assert_eq!(rt; fault, MemberFault::NoMemory);
-            stay_gone(rt, alloc, member)?;
-            Err(AllocError)
-        }
+        Err(fault) => end_for_want(rt, alloc, member, fault),
     }
+}
+
+// The end of a member that answered with a fault: memory was refused to it, and it is gone.
+fn end_for_want(
+    rt: &impl Abort,
+    alloc: Global,
+    member: &mut Box<dyn Member>,
+    fault: MemberFault,
+) -> Result<(), AllocError> {
+    assert_eq!(rt; fault, MemberFault::NoMemory);
+    stay_gone(rt, alloc, member)?;
+    Err(AllocError)
 }
 
 // A member that is gone has no timer, and answers nothing.
@@ -97,12 +105,25 @@ fn stay_gone(
     member: &mut Box<dyn Member>,
 ) -> Result<(), AllocError> {
     for event in EVENTS {
-        assert_eq!(rt; member.due(), None);
         let cause = event.cause(alloc)?;
-        assert!(rt; matches!(member.react(alloc, 1, &cause), Err(MemberFault::Spent)));
-        assert!(rt; matches!(member.finish(alloc), Err(MemberFault::Spent)));
+        assert!(rt; is_gone(alloc, member, &cause), "at {event:?}");
     }
     Ok(())
+}
+
+// Whether a member has no timer, and answers neither a cause nor its end.
+fn is_gone(alloc: Global, member: &mut Box<dyn Member>, cause: &Cause) -> bool {
+    member.due().is_none() && !reacts(alloc, member, cause) && !ends(alloc, member)
+}
+
+// Whether a member answers a cause in any way but as one that is gone.
+fn reacts(alloc: Global, member: &mut Box<dyn Member>, cause: &Cause) -> bool {
+    !matches!(member.react(alloc, 1, cause), Err(MemberFault::Spent))
+}
+
+// Whether a member answers its end in any way but as one that is gone.
+fn ends(alloc: Global, member: &mut Box<dyn Member>) -> bool {
+    !matches!(member.finish(alloc), Err(MemberFault::Spent))
 }
 
 /// Makes an attempt, and another one where the first is refused memory, which is then told on standard error.

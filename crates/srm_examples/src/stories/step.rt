@@ -24,9 +24,12 @@ pub struct Step {
 }
 
 impl Step {
-    /// Whether an answer is what must come of the event.
-    pub(crate) fn expects(&self, react: &React) -> bool {
-        react.told == self.told && react.lost.as_slice() == self.lost && self.sends(&react.body)
+    /// Whether an answer, and the next timer after it, are what must come of the event.
+    pub(crate) fn expects(&self, react: &React, due: Option<Due>) -> bool {
+        react.told == self.told
+            && react.lost.as_slice() == self.lost
+            && due == self.due
+            && self.sends(&react.body)
     }
 
     // Whether this is what must be sent, if anything must.

@@ -17,9 +17,10 @@ pub struct Story {
 }
 
 impl Story {
-    /// Whether a member that lived through the story ends with this.
-    pub(crate) fn expects(&self, exit: &Exit) -> bool {
+    /// Whether a member that lived through the story ends with this, and then has this number.
+    pub(crate) fn expects(&self, exit: &Exit, number: u16) -> bool {
         exit.member == self.member
+            && number == self.member
             && exit.held.as_slice() == self.held
             && exit.missing.as_slice() == self.missing
     }

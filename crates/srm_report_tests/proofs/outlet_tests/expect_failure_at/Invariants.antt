@@ -1,5 +1,5 @@
 use Rattle.std.proofs.Common.{◌≤◌, ◌*◌}
-use Rattle.srm_report_tests.proofs.outlet_tests.an_outlet_fails_where_its_writer_does_and_nowhere_else.Given as goal
+use Rattle.srm_report_tests.proofs.outlet_tests.expect_failure_at.Given as goal
 
 -- the outlet failed at most once in each call, and took at most three bytes
 abbrev pub invariant-loop-call : goal.invariant-loop-call
