@@ -127,6 +127,15 @@ class Gate(unittest.TestCase):
         self.assertEqual((counts, begun), ((1, 1), ["low"]))
         self.assertEqual([call.args[0] for call in log.say.call_args_list], said[:3])
 
+    def test_the_copy_has_no_edits_and_nothing_built_and_each_proof(self) -> None:
+        kept = ["crates/low/proofs/pair/out/Answers.antt", "crates/low/src/lib.rt", "docs/out/page.md"]
+        with tempfile.TemporaryDirectory() as folder:
+            for name in (*kept, ".git/HEAD", "out/gate.log", "crates/low/must-fail/a.edit", "crates/low/out/low"):
+                pathlib.Path(folder, "top", name).parent.mkdir(parents=True, exist_ok=True)
+                pathlib.Path(folder, "top", name).write_text(name)
+            tree = gate.copied(pathlib.Path(folder, "top"), folder)
+            self.assertEqual(sorted(str(it.relative_to(tree)) for it in tree.rglob("*") if it.is_file()), kept)
+
     def test_a_gate_that_tells_no_counts_has_failed(self) -> None:
         counts = gate.proofs(mock.Mock(spec=watch.Watch, lines=lambda: iter(["killed\n"])), mock.Mock(spec=gate.Log), print)
         self.assertEqual(counts, (0, 1))

@@ -15,6 +15,7 @@ processors stand idle. Where 5 GB are free for each processor, RT_JOBS is set to
 has none: so many proofs are then run side by side. Edits are tried of one crate fewer at a time.
 """
 import argparse
+import functools
 import os
 import pathlib
 import re
@@ -33,8 +34,6 @@ import watch
 TOP = pathlib.Path(__file__).resolve().parent.parent
 RT = os.environ.get("RT", "rt").split()
 REFUSALS = 20
-# folders that the copy of the repository has not
-LEFT_OUT = (".git", "out", "must-fail", "__pycache__")
 PROVED = re.compile(r"rt: (\w+) proved\n?")
 COUNTS = re.compile(r"(\d+) passed, (\d+) failed\n?")
 MOST_OF_A_PROOF = 5_000_000_000
@@ -82,9 +81,17 @@ def is_refusal(line: str) -> bool:
     return re.search(r"^FAILED:|NOT PROVED|NOT REFUSED|(^|: )error(\[|:)|no proof:", line) is not None
 
 
-def copied(folder: str) -> pathlib.Path:
+def left_out(top: pathlib.Path, folder: str, names: Iterable[str]) -> set[str]:
+    """Those of the names in a folder of the repository that its copy has not: must-fail edits, and what was built."""
+    is_crate = pathlib.Path(folder).parent == top / "crates"
+    built = {"out"} if is_crate or pathlib.Path(folder) == top else set()
+    return {*names} & {".git", "__pycache__", *built, *(["must-fail"] if is_crate else [])}
+
+
+def copied(top: pathlib.Path, folder: str) -> pathlib.Path:
     """A copy of the repository in a folder, without its must-fail edits and what was built."""
-    return pathlib.Path(shutil.copytree(TOP, f"{folder}/copy", symlinks=True, ignore=shutil.ignore_patterns(*LEFT_OUT)))
+    ignored = functools.partial(left_out, top)
+    return pathlib.Path(shutil.copytree(top, f"{folder}/copy", symlinks=True, ignore=ignored))
 
 
 def hand_back(tree: pathlib.Path) -> None:
@@ -161,7 +168,7 @@ def main() -> None:
     options = parser.parse_args()
     log = Log(TOP / "out" / "gate.log")
     with tempfile.TemporaryDirectory(prefix="srm-gate-") as folder:
-        tree = copied(folder)
+        tree = copied(TOP, folder)
         passed, failed = gate(tree, log)
         if not failed:
             hand_back(tree)
