@@ -271,6 +271,14 @@ class MustFail(unittest.TestCase):
         name = "./proofs/pair/Pair/first/Answers.antt:3:9: error: `returns`: record `View` has no field `first`"
         self.assertEqual(self.refusals("fn low::pair::Pair::first: not proved", name), [False, False])
 
+    def test_a_text_that_cannot_be_read_is_no_refusal(self) -> None:
+        unread = "src/pair.rt:9:5: error: `returns`: `third` is not in scope"
+        self.assertEqual(self.refusals("fn low::pair::Pair::first: not proved", unread), [False, False])
+        for status, lines in ((1, [unread, "only=1 proved=0"]), (1, ["src/pair.rt:9:5: error[type]: no"]), (-9, ["killed"])):
+            self.assertIsNotNone(must_fail.Told(status, lines, {}).unread())
+        read = ["src/pair.rt:9:5: error: `returns`: the two types differ", "only=1 proved=0"]
+        self.assertIsNone(must_fail.Told(1, read, {}).unread())
+
     def test_libraries_of_the_repository_and_of_the_kit_are_told_apart(self) -> None:
         with tempfile.TemporaryDirectory() as folder:
             pathlib.Path(folder, "crates.txt").write_text("# each crate\nlow: toml\nmiddle may_wait=2: low\ntop: middle low\n")

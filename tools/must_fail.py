@@ -40,7 +40,9 @@ CALLS = "no proof: it calls "
 TOLD = re.compile(r"(?:note: )?(?:\./)?((?:src|specs|proofs)/[^:]+):(\d+):\d+: (.*)")
 # what is told where an edit takes a name away that a proof file has
 OF_NAMES = re.compile(r"has no field|is not in scope|has no `|was not admitted")
-# what is told of a text that cannot be read, and not of what it says
+# what is told of a clause that cannot be read, and not of what it says
+OF_READING = re.compile(r"is not in scope|has no field|is no name|operand is missing|expected the end|cannot continue")
+# what is told of code that cannot be read
 UNREADABLE = re.compile(r"error(\[[\w-]+\])?:")
 # most characters of what is told of an edit
 SHOWN = 160
@@ -111,10 +113,16 @@ class Place(NamedTuple):
     text: str
     whole: str
 
+    def is_unread(self) -> bool:
+        """Whether the prover could not read a text of the crate, where a wrong one that can be read has goals that fail."""
+        error = re.match(r"error: (`[^`]*`: )?(.*)", self.text)
+        if not error or self.file.startswith("proofs/"):
+            return False
+        return not error[1] or OF_READING.search(re.sub(r"`[^`]*`", "", error[2])) is not None
 
-def is_no_name(place: Place) -> bool:
-    """Whether more is told of a place than that a name is missing there."""
-    return not OF_NAMES.search(place.text)
+    def is_refusal(self) -> bool:
+        """Whether it tells more than that a name is missing there, or that a text cannot be read."""
+        return not OF_NAMES.search(self.text) and not self.is_unread()
 
 
 class Told(NamedTuple):
@@ -137,13 +145,18 @@ class Told(NamedTuple):
     def first_place(self) -> str:
         """The first line that tells of a place for more than a name, or of any, or nothing."""
         places = self.places()
-        return next((it.whole for it in [*filter(is_no_name, places), *places]), "")
+        return next((it.whole for it in [*filter(Place.is_refusal, places), *places]), "")
+
+    def unread(self) -> str | None:
+        """The first line that tells of a text that the prover cannot read, or None where it read all."""
+        unread = (it.whole for it in self.places() if it.is_unread())
+        return next(unread, None if self.has_ended() else next(filter(UNREADABLE.search, self.lines), ""))
 
     def refusal_of(self, function: Function) -> str | None:
         """The first line that refuses a function for itself; None where there is none, or where only a name is missed."""
         paths = [it for it, verdict in self.verdicts.items() if function.is_told_as(it) and not verdict.startswith(CALLS)]
         folders = tuple(f"proofs/{it.replace('::', '/')}/" for it in paths)
-        for place in filter(is_no_name, self.places()):
+        for place in filter(Place.is_refusal, self.places()):
             if paths and (function.holds(place.file, place.line) or place.file.startswith(folders)):
                 return place.whole
         return None
@@ -215,10 +228,9 @@ class Trial:
         if told.status == 0:
             # (what else the edit changes may be refused)
             told = self.told(texts, [])
-        first = told.first_place()[:SHOWN]
-        if not told.has_ended():
-            why = next(filter(UNREADABLE.search, told.lines), "")[:SHOWN]
-            return False, f"BAD EDIT: the prover cannot read the edited text: {why}"
+        first, unread = told.first_place()[:SHOWN], told.unread()
+        if unread is not None:
+            return False, f"BAD EDIT: the prover cannot read the edited text: {unread[:SHOWN]}"
         if told.status == 0:
             return False, "NOT REFUSED: the crate is still proved with this edit"
         if first and OF_NAMES.search(first):
