@@ -80,6 +80,8 @@ def each_refused(runs: Sequence[Run]) -> bool:
 
 def is_right(end: End, ample: End) -> bool:
     """Whether a run ended as it does with ample memory, or for want of it after a front of its table."""
+    if end == NO_END:
+        return False
     return end == ample or (end._replace(written=b"") == NO_MEMORY and ample.written.startswith(end.written))
 
 
@@ -97,6 +99,8 @@ def is_explained(end: End, ample: End) -> bool:
     line, _, more = told.partition(b"\n")
     same = line == ample.told.partition(b"\n")[0]
     less = not more or more.decode().strip() in explanations.GENERAL
+    if end == NO_END:
+        return False
     return end == ample or (status, written) == (1, b"") and (same and less or line + b"\n" == NO_MEMORY.told)
 
 

@@ -7,8 +7,8 @@ Runs `rt ci` on a copy of the repository that has no must-fail edits, so every p
 Once a crate is proved there, its edits are tried beside the proofs of others, many in one check (tools/must_fail.py), with less
 right to the processors. Hands on all that `rt ci` prints, and keeps it in out/gate.log too. Then come a line for each edit, the
 table of times, and each line that tells what failed once more. Where nothing failed, the programs that `rt ci` built are copied
-to crates/NAME/out/, and the command is run, which may use them. The last line is 'N passed, M failed', of crates and edits. Ends
-with the first status that is not 0. The environment's RT is the command to call in place of `rt`.
+to crates/NAME/out/, and the command is run, which may use them. The last line is 'N passed, M failed', of crates and edits, and a
+command that fails. Ends with the first status that is not 0. The environment's RT is the command to call in place of `rt`.
 
 `rt ci` begins a proof only where the most memory that it may take is free, so that a long one may wait for others, and
 processors stand idle. Where 5 GB are free for each processor, RT_JOBS is set to the number of processors, if the environment
@@ -177,6 +177,7 @@ def main() -> None:
     status = 1 if failed else 0
     if options.after and not failed:
         status = subprocess.call(options.after, cwd=TOP)
+        failed += status != 0
     log.say(f"{passed} passed, {failed} failed")
     sys.exit(status)
 
