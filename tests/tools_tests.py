@@ -120,12 +120,13 @@ class Gate(unittest.TestCase):
         self.assertEqual(lines[-1], "all of it took 1:10")
 
     def test_edits_are_begun_once_their_crate_is_proved_and_the_counts_are_read(self) -> None:
-        said = ["rt: low proved\n", "rt: low: its tests are proved\n", "rt: top NOT PROVED\n", "1 passed, 1 failed\n"]
+        said = ["rt: low proved\n", "rt: low: its tests are proved\n", "rt: middle proved before\n", "rt: top NOT PROVED\n"]
         log = mock.Mock(spec=gate.Log)
         begun: list[str] = []
-        counts = gate.proofs(mock.Mock(spec=watch.Watch, lines=lambda: iter(said)), log, begun.append)
-        self.assertEqual((counts, begun), ((1, 1), ["low"]))
-        self.assertEqual([call.args[0] for call in log.say.call_args_list], said[:3])
+        lines = [*said, "2 passed, 1 failed\n"]
+        counts = gate.proofs(mock.Mock(spec=watch.Watch, lines=lambda: iter(lines)), log, begun.append)
+        self.assertEqual((counts, begun), ((2, 1), ["low", "middle"]))
+        self.assertEqual([call.args[0] for call in log.say.call_args_list], said)
 
     def test_the_copy_has_no_edits_and_nothing_built_and_each_proof(self) -> None:
         kept = ["crates/low/proofs/pair/out/Answers.antt", "crates/low/src/lib.rt", "docs/out/page.md"]

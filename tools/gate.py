@@ -34,7 +34,7 @@ import watch
 TOP = pathlib.Path(__file__).resolve().parent.parent
 RT = os.environ.get("RT", "rt").split()
 REFUSALS = 20
-PROVED = re.compile(r"rt: (\w+) proved\n?")
+PROVED = re.compile(r"rt: (\w+) proved\b.*\n?")
 COUNTS = re.compile(r"(\d+) passed, (\d+) failed\n?")
 MOST_OF_A_PROOF = 5_000_000_000
 HEAD = "how long the prover worked on each crate, its tests and its must-fail edits, beside other crates (minutes:seconds)"
@@ -147,11 +147,13 @@ def gate(tree: pathlib.Path, log: Log) -> tuple[int, int]:
     with ThreadPoolExecutor(max(1, processors - 1)) as pool:
 
         def begin(crate: str) -> None:
-            if crate in left:
+            if crate in left and crate not in begun:
                 begun[crate] = pool.submit(must_fail.try_crate, tree, crate)
 
         passed, failed = proofs(running, log, begin)
         status = running.wait()
+        for crate in [] if status else left:
+            begin(crate)
         tried = [begun[crate].result() for crate in left if crate in begun]
     for line in [line for it in tried for line in it.lines()]:
         log.say(line)
