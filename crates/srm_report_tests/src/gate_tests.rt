@@ -138,8 +138,8 @@ const ALONE: Option<Windows> = Some(Windows {
     width: Width::Least,
 });
 
-// Events are handled at 12 different ticks, so there are 12 windows, each with a job for each of the five members. In each the jobs of
-// the first two members are under way at once.
+// Events are handled at 12 different ticks, so there are 12 windows, each with a job for each of the five members. In each the jobs
+// of the first two members are under way at once.
 fn pass_the_gate<R: Abort + Threads + Wait + Sync>(
     rt: &R,
     alloc: Global,

@@ -183,7 +183,7 @@ impl Write for Narrow {
 
 const TEXT: &[u8] = b"time,member,cause";
 
-// Writes the text to a writer with so much room, which then fails or takes nothing. Asserts how many bytes it takes, and the answer.
+// Writes the text to a writer with so much room, which then fails or takes nothing. Asserts the bytes that it takes, and the answer.
 fn expect_written(
     rt: &impl Abort,
     alloc: Global,
