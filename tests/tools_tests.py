@@ -17,10 +17,12 @@ sys.path[:0] = [str(TOP / "tools"), str(TOP / "tests")]
 
 import architecture
 import calls
+import crates
 import edits
 import gate
 import links
 import must_fail
+import order
 import program
 import prove
 import versions
@@ -280,12 +282,79 @@ class MustFail(unittest.TestCase):
         read = ["src/pair.rt:9:5: error: `returns`: the two types differ", "only=1 proved=0"]
         self.assertIsNone(must_fail.Told(1, read, {}).unread())
 
+
+class CratesTxt(unittest.TestCase):
     def test_libraries_of_the_repository_and_of_the_kit_are_told_apart(self) -> None:
         with tempfile.TemporaryDirectory() as folder:
             pathlib.Path(folder, "crates.txt").write_text("# each crate\nlow: toml\nmiddle may_wait=2: low\ntop: middle low\n")
-            crates = must_fail.crates_in(pathlib.Path(folder))
-        self.assertEqual(crates["low"], must_fail.Crate("low", [], ["std", "toml"]))
-        self.assertEqual((crates["top"].own, must_fail.below(crates, "top")), (["middle", "low"], ["low", "middle"]))
+            found = crates.crates_in(pathlib.Path(folder))
+        self.assertEqual(found["low"], crates.Crate("low", [], ["std", "toml"]))
+        self.assertEqual((found["top"].own, crates.below(found, "top")), (["middle", "low"], ["low", "middle"]))
+
+
+# two crates on one base: the longer one is what the program waits for
+USES: dict[str, list[str]] = {"low": [], "long": ["low"], "short": ["low"], "top": ["short", "long"], "beside": ["low"]}
+DIAMOND = {name: crates.Crate(name, own, []) for name, own in USES.items()}
+
+
+class Ordered(unittest.TestCase):
+    def setUp(self) -> None:
+        self.order = order.Order(DIAMOND, "top", {"low": 10, "long": 100, "short": 20, "top": 5, "beside": 900})
+
+    def test_what_stands_in_the_longest_chain_is_waited_for(self) -> None:
+        self.assertEqual([it for it in DIAMOND if it in self.order.crates and self.order.is_waited_for(it)], ["low", "long"])
+
+    def test_a_crate_is_ready_once_those_below_it_are_proved_and_the_longest_chain_comes_first(self) -> None:
+        self.assertEqual(self.order.ready(set(), set()), ["low"])
+        self.assertEqual(self.order.ready({"low"}, set()), [])
+        self.assertEqual(self.order.ready({"low"}, {"low"}), ["long", "short"])
+
+    def test_each_library_of_the_program_is_proved_once_and_after_those_below_it(self) -> None:
+        for at_once in (1, 2, 4):
+            proved: list[str] = []
+
+            def proves(name: str, told: list[str] = proved) -> bool:
+                self.assertTrue(set(DIAMOND[name].own) <= set(told))
+                told.append(name)
+                return True
+
+            self.assertTrue(self.order.follow(at_once, proves))
+            self.assertEqual(sorted(proved), ["long", "low", "short"])
+
+    def test_crates_on_one_base_are_proved_at_a_time(self) -> None:
+        both = threading.Barrier(2, timeout=60)
+
+        def proves(name: str) -> bool:
+            return name == "low" or both.wait() >= 0
+
+        self.assertTrue(self.order.follow(2, proves))
+
+    def test_nothing_is_begun_after_a_crate_that_is_not_proved(self) -> None:
+        begun: list[str] = []
+
+        def proves(name: str) -> bool:
+            begun.append(name)
+            return name != "low"
+
+        self.assertFalse(self.order.follow(4, proves))
+        self.assertEqual(begun, ["low"])
+
+    def test_a_tree_has_all_sources_and_the_libraries_below_and_what_was_built_in_it_stays(self) -> None:
+        with tempfile.TemporaryDirectory() as folder:
+            top = pathlib.Path(folder)
+            texts = ["crates.txt", "HANDLES", "crates/low/src/lib.rt", "crates/long/proofs/out/Answers.antt"]
+            built = ["crates/low/out/rlib/low.rlib/format", "crates/long/out/incremental/kept"]
+            for name in (*texts, *built, "crates/low/out/stdout", "out/build.log"):
+                (top / name).parent.mkdir(parents=True, exist_ok=True)
+                (top / name).write_text(name)
+            with order.tree_of(top, "long", ["low"]) as inside:
+                tree = inside.parent.parent
+                self.assertEqual(inside, tree / "crates/long")
+                files = [str(it.relative_to(tree)) for it in tree.rglob("*") if it.is_file()]
+                self.assertEqual(sorted(files), sorted(texts + built))
+                (inside / "out/rlib").mkdir()
+            self.assertFalse(tree.exists())
+            self.assertEqual(sorted(it.name for it in (top / "crates/long/out").iterdir()), ["incremental", "rlib"])
 
 
 class Architecture(unittest.TestCase):

@@ -30,6 +30,7 @@ from typing import Any
 
 import must_fail
 import watch
+from crates import crates_in
 
 TOP = pathlib.Path(__file__).resolve().parent.parent
 RT = os.environ.get("RT", "rt").split()
@@ -142,7 +143,7 @@ def gate(tree: pathlib.Path, log: Log) -> tuple[int, int]:
     environment = side_by_side(os.environ, processors, free_memory())
     streams: dict[str, Any] = {"stdin": subprocess.DEVNULL, "stdout": subprocess.PIPE, "stderr": subprocess.STDOUT}
     running = watch.Watch([*RT, "ci"], tree, env=environment, **streams)
-    left = must_fail.with_edits(must_fail.crates_in(TOP))
+    left = must_fail.with_edits(crates_in(TOP))
     begun: dict[str, Future[must_fail.Tried]] = {}
     with ThreadPoolExecutor(max(1, processors - 1)) as pool:
 

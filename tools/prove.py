@@ -1,18 +1,19 @@
 #!/usr/bin/env python3
 """Proves crates side by side, and tells of each crate in one line how long its proof took.
 
-usage: tools/prove.py [--program | --jobs N] FOLDER
+usage: tools/prove.py [--program] [--jobs N] FOLDER
 
 Proves each crate in FOLDER and below it, and each crate that these stand on, over what earlier runs proved. With
---program FOLDER is the crate of a program: what it stands on is proved crate by crate, and it is built. Everything that
-the prover says goes to a log in out/; the lines for people go to standard error. Ends with status 1 where a crate is not
-proved, and then shows its errors.
+--program FOLDER is the crate of a program: what it stands on is proved, and it is built. Everything that the prover says
+goes to logs in out/; the lines for people go to standard error. Ends with status 1 where a crate is not proved, and then
+shows its errors.
 
 N crates are proved at a time; without --jobs as many as there are processors, with 4 GB of free memory for each. With
---program one crate is proved at a time, by as many provers as the machine has room for: the crates of the program are one
-long chain, so this is the faster. The environment's RT is the command to call in place of `rt`.
+--program the crates in the longest chain below the program have a prover for each processor, and the others give way to
+them, since the program is proved when that chain is. The environment's RT is the command to call in place of `rt`.
 """
 import argparse
+import functools
 import os
 import pathlib
 import re
@@ -23,9 +24,12 @@ from collections.abc import Iterable
 from typing import Any
 
 import watch
+from crates import below, crates_in
+from order import Order, lines_of, tree_of
 
 TOP = pathlib.Path(__file__).resolve().parent.parent
 RT = os.environ.get("RT", "rt").split()
+PROCESSORS = len(os.sched_getaffinity(0))
 MEMORY_OF_A_CRATE = 4_000_000_000
 ERRORS_SHOWN = 20
 
@@ -47,9 +51,15 @@ def say(text: str) -> None:
     print(f"{ERASE}{text}", file=sys.stderr, flush=True)
 
 
-def show(sights: Iterable[watch.Sight]) -> None:
-    if ERASE and sights:
-        print(f"{ERASE}proving {', '.join(sorted({it.crate for it in sights}))} ..", end="", file=sys.stderr, flush=True)
+# The crates that each command proves just now, by the folder that it was started in.
+PROVING: dict[pathlib.Path, set[str]] = {}
+
+
+def show(folder: pathlib.Path, sights: Iterable[watch.Sight]) -> None:
+    PROVING[folder] = {it.crate for it in sights}
+    crates = set().union(*PROVING.copy().values())
+    if ERASE and crates:
+        print(f"{ERASE}proving {', '.join(sorted(crates))} ..", end="", file=sys.stderr, flush=True)
 
 
 def jobs() -> int:
@@ -58,7 +68,7 @@ def jobs() -> int:
     for line in pathlib.Path("/proc/meminfo").read_text().splitlines():
         if line.startswith("MemAvailable:"):
             free = 1024 * int(line.split()[1])
-    return max(1, min(len(os.sched_getaffinity(0)), free // MEMORY_OF_A_CRATE))
+    return max(1, min(PROCESSORS, free // MEMORY_OF_A_CRATE))
 
 
 # Lines that begin what rt says of a crate: in `rt all check`, which says it once the crate has ended, and in `rt run`.
@@ -114,14 +124,16 @@ def show_errors(log: pathlib.Path, lines: list[str]) -> None:
 def follow(command: list[str], folder: pathlib.Path, log: pathlib.Path, given: Any = subprocess.DEVNULL) -> tuple[int, Report]:
     """Runs a command of rt's over crates, says the line of each, and gives the command's status and the report."""
     streams: dict[str, Any] = {"stdin": given, "stdout": subprocess.PIPE, "stderr": subprocess.STDOUT}
-    running = watch.Watch(command, folder, show, **streams)
+    running = watch.Watch(command, folder, functools.partial(show, folder), **streams)
     report = Report(running)
     with open(log, "w", encoding="utf-8") as kept:
         for line in running.lines():
             kept.write(line)
             kept.flush()
             report.read(line)
-    return running.wait(), report
+    status = running.wait()
+    PROVING.pop(folder, None)
+    return status, report
 
 
 def prove(folder: pathlib.Path, at_once: int, log: pathlib.Path) -> bool:
@@ -137,9 +149,27 @@ def prove(folder: pathlib.Path, at_once: int, log: pathlib.Path) -> bool:
     return False
 
 
-def build(folder: pathlib.Path, log: pathlib.Path) -> bool:
+def prove_library(order: Order, libraries: list[str], name: str) -> bool:
+    """Proves and builds a library of the program, and tells whether it is proved."""
+    is_waited_for = order.is_waited_for(name)
+    provers = PROCESSORS if is_waited_for else max(1, PROCESSORS // 2)
+    give_way = [] if is_waited_for else ["nice", "-n", "19"]
+    log = TOP / "out" / f"build-{name}.log"
+    with tree_of(TOP, name, libraries) as folder:
+        status, report = follow([*give_way, *RT, "lib", "--jobs", str(provers)], folder, log)
+    if status:
+        say(f"NOT BUILT: {name}: `rt lib` ended with status {status}")
+        show_errors(log, report.errors([None, name]))
+    return status == 0
+
+
+def build(folder: pathlib.Path, at_once: int, log: pathlib.Path) -> bool:
     """Proves and builds the program of a folder, which is run once on the folder's own file of standard input."""
     began = time.monotonic()
+    crates = crates_in(TOP)
+    order = Order(crates, folder.name, {it: lines_of(TOP, it) for it in crates})
+    if not order.follow(at_once, lambda it: prove_library(order, below(crates, it), it)):
+        return False
     given = folder / "stdin"
     with open(given if given.exists() else os.devnull, "rb") as text:
         status, report = follow([*RT, "run"], folder, log, given=text)
@@ -162,9 +192,8 @@ def main() -> None:
     log.parent.mkdir(exist_ok=True)
     if options.program and not any(TOP.glob("crates/*/out/rlib/stamp")):
         say(FIRST_BUILD)
-    at_once = "one crate" if options.program else f"{options.jobs} crates"
-    say(f"Proving, {at_once} at a time; what the prover says goes to {os.path.relpath(log)}.")
-    done = build(folder, log) if options.program else prove(folder, options.jobs, log)
+    say(f"Proving, {options.jobs} crates at a time; what the prover says goes to {os.path.relpath(log.parent)}/.")
+    done = build(folder, options.jobs, log) if options.program else prove(folder, options.jobs, log)
     sys.exit(0 if done else 1)
 
 
