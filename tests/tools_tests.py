@@ -234,6 +234,12 @@ class Edits(unittest.TestCase):
         found = [self.functions(it) for it in (HALF, FIRST, CLONE)]
         self.assertEqual(found, [[("", "half")], [("Pair", "first")], [("Pair", "clone")]])
 
+    def test_a_check_is_asked_for_the_function_or_for_the_module_where_a_trait_has_it(self) -> None:
+        texts = {"src/pair.rt": SOURCE + "\npub trait Half {\n    fn half(&self) -> u64 {\n        1\n    }\n}\n"}
+        of_trait = edits.Edit("two_for_one", [edits.Change("src/pair.rt", "        1", "        2")])
+        found = [function.asked_for for edit in (HALF, FIRST, CLONE, of_trait) for function in edit.functions(texts)]
+        self.assertEqual(found, ["pair::half", "pair::Pair::first", "pair", "pair"])
+
     def test_a_change_outside_of_each_function_has_none(self) -> None:
         self.assertEqual(self.functions(edits.Edit("longer", [edits.Change("src/pair.rt", "/// Half", "/// Nearly half")])), [])
 

@@ -14,18 +14,26 @@ ARGUMENTS = re.compile(r"<[^<>]*>")
 
 
 class Function(NamedTuple):
-    """A function of a crate: its file below the crate, its type or "", its name, and its first and last line, from 1."""
+    """A function of a crate: its file below the crate, its type or "", its name, its first and last line, from 1, and whether it
+    is of a trait or of a trait's impl."""
 
     file: str
     owner: str
     name: str
     first: int
     last: int
+    is_of_trait: bool = False
 
     @property
     def module(self) -> str:
         """The path of its module below the crate."""
         return self.file.removeprefix("src/").removesuffix(".rt").replace("/", "::")
+
+    @property
+    def asked_for(self) -> str:
+        """What a check is to be asked for, below the crate, so that it tells of this function: its path, or where that has a
+        trait's name in it, that of its module."""
+        return self.module if self.is_of_trait else "::".join(filter(None, [self.module, self.owner, self.name]))
 
     def holds(self, file: str, line: int) -> bool:
         """Whether a line of a file is one of its lines."""
@@ -84,17 +92,19 @@ def type_of(head: str) -> str:
 def functions_in(file: str, text: str) -> Iterator[Function]:
     """The functions of a file that is laid out: a body ends at the first brace that is as far in as its head."""
     lines = text.split("\n")
-    owner = ""
+    owner, is_of_trait = "", False
     for at, line in enumerate(lines):
         head = IMPL.match(line)
         if head:
-            owner = type_of(head[1])
+            owner, is_of_trait = type_of(head[1]), " for " in line
         elif line == "}":
             owner = ""
         found = FUNCTION.match(line)
         if found:
             ends = (it for it in range(at, len(lines)) if lines[it] == f"{found[1]}}}" or it == at and line.endswith("}"))
-            yield Function(file, owner if found[1] else "", found[2], at + 1, next(ends, at) + 1)
+            is_method = found[1] != ""
+            last = next(ends, at) + 1
+            yield Function(file, owner if is_method else "", found[2], at + 1, last, is_method and (is_of_trait or not owner))
 
 
 def function_round(change: Change, text: str) -> Function | None:

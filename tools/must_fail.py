@@ -148,7 +148,7 @@ class Trial:
         self.checks = 0
 
     def told(self, texts: Mapping[str, str], only: Iterable[str]) -> Told:
-        """What a check of the crate tells with these texts, of the modules that are named, or of all where none is."""
+        """What a check of the crate tells with these texts, of the functions and modules named, or of all where none is."""
         self.checks += 1
         with tempfile.TemporaryDirectory(prefix="srm-edit-") as room:
             for part in PARTS:
@@ -186,7 +186,7 @@ class Trial:
         for edit in edits:
             texts = edit.applied(texts) or texts
         functions = {edit.name: edit.functions(self.texts) for edit in edits}
-        told = self.told(texts, sorted({it.module for found in functions.values() for it in found}))
+        told = self.told(texts, sorted({it.asked_for for found in functions.values() for it in found}))
         if not told.has_ended() and len(edits) > 1:
             half = len(edits) // 2
             return self.refused_together(edits[:half]) | self.refused_together(edits[half:])
@@ -198,7 +198,7 @@ class Trial:
         texts = edit.applied(self.texts)
         if texts is None:
             return False, "BAD EDIT: an old text does not stand once in its file"
-        told = self.told(texts, sorted({it.module for it in edit.functions(self.texts)}))
+        told = self.told(texts, sorted({it.asked_for for it in edit.functions(self.texts)}))
         if told.status == 0:
             # (what else the edit changes may be refused)
             told = self.told(texts, [])
