@@ -215,6 +215,15 @@ end_fits w ps o i u hu q e =
 pub place_within : (w : Network) (ps : List Position) → IsRooted w ps → (u : ℕ) → u < w.nodes → (at ps u).place < (at ps 0).end
 place_within w ps r u hu = subst (λ p. p < (at ps 0).end) (sym (r.each u hu).place_is) (r.whole u hu)
 
+pub place_fits : (w : Network) (ps : List Position) (o : Occupied) → IsOccupied w ps o → (u : ℕ) → u < w.nodes → (q : Position)
+    → q ≡ at ps u → (q.place ≤ o.size) × (q.place < length o.next.items)
+place_fits w ps o i u hu q e =
+    let least : (at ps u).place < (at ps 0).end = place_within w ps i.rooted u hu in
+    let is : q.place ≡ (at ps u).place = ap (λ (p : Position). p.place) e in
+    let size : o.size ≡ (at ps 0).end = i.size in
+    let long : length o.next.items ≡ o.size + 1 = i.told.long in
+    (omega arith, omega arith)
+
 -- ---- the sides of a link
 
 module _ (w : Network) (ps : List Position) (o : Occupied) (i : IsOccupied w ps o) (l : ℕ) (k : LinkSpec)

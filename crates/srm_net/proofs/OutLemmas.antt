@@ -308,6 +308,12 @@ delay_up w ps r c hc one q above e f =
     let sum : q.up ≡ over_up w ps r c + above.up = a ∙ k ∙ ap (λ d. over_up w ps r c + d) (sym b) in
     (sum, omega arith)
 
+pub parent_within : (w : Network) (ps : List Position) (r : IsRooted w ps) (c : ℕ) → c < w.nodes → (q : Position) → q ≡ at ps c
+    → q.place ≢ 0 → q.parent < w.nodes
+parent_within w ps r c hc q e d =
+    subst (λ (p : Position). p.parent < w.nodes) (sym e)
+    (parent_there_below w ps r c hc (subst (λ (p : Position). 1 ≤ p.place) e (omega arith)))
+
 -- ---- the order of places
 
 pub below_set : (n : ℕ) (xs : List ℕ) (i x : ℕ) → x < n → All (λ u. u < n) xs → All (λ u. u < n) (slice_set xs i x)

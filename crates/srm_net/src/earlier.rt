@@ -4,7 +4,7 @@ ghost use Rattle.std.specs.Prelude.{◌≡◌, ◌==◌, if◌then◌else◌};
 use crate::link::LinkSpec;
 
 /// For each end of a link, one more than the number of the last earlier link that meets the node there, or 0 where there is none.
-#[derive(Clone, Copy, Debug, PartialEq, Eq)]
+#[derive(Clone, Copy)]
 pub(crate) struct Earlier {
     /// At the link's end `a`.
     pub(crate) a: u16,

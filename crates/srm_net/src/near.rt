@@ -1,7 +1,7 @@
 //! A member, and how far it is.
 
 /// A member, and how long a packet takes to it.
-#[derive(Clone, Copy, Debug, PartialEq, Eq)]
+#[derive(Clone, Copy)]
 pub(crate) struct Near {
     /// The member.
     pub(crate) member: u16,

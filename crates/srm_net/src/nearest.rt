@@ -6,7 +6,7 @@ ghost use Rattle.srm_net.specs.Nearness.{Offers, Takes, second_ticks};
 use crate::near::Near;
 
 /// The nearest two of some members, as they are seen from a node, or as many as there are.
-#[derive(Clone, Copy, Debug, PartialEq, Eq)]
+#[derive(Clone, Copy)]
 pub(crate) enum Nearest {
     /// There is none.
     Nobody,

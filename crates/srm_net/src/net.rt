@@ -19,7 +19,6 @@ use crate::half_rounds::HalfRounds;
 use crate::link::LinkSpec;
 use crate::order::attaching_order;
 use crate::packet::PacketId;
-use crate::rooted::Rooted;
 use crate::sending::Sending;
 use crate::sides::Sides;
 use crate::spread::Spread;
@@ -107,17 +106,19 @@ impl Net {
         if !are_fit {
             return Err(NetFault::BadHost);
         }
-        let tree = Tree {
-            nodes,
-            links: links.to_vec(alloc)?,
-            hosts: hosts.to_vec(alloc)?,
-            rooted: Rooted::of(alloc, nodes, links, steps.as_slice())?,
-        };
+        let tree = Tree::of(alloc, nodes, links, hosts, steps.as_slice())?;
+        Ok(Net::of_tree(alloc, tree)?)
+    }
+
+    /// The network of a tree, with the tables that it tells from.
+    fn of_tree(alloc: Global, tree: Tree) -> Result<Net, AllocError>
+        ensures { IfOk result (λ net. net ≡ tree) }
+    {
         let sides = tree.all_sides(alloc)?;
         let outs = tree.all_outs(alloc)?;
         let least = tree.least_delay();
         let Ok(tree) = Arc::new(alloc, tree) else {
-            return Err(NetFault::NoMemory);
+            return Err(AllocError);
         };
         Ok(Net {
             tree,

@@ -2,7 +2,7 @@
 ghost use Rattle.std.specs.Prelude.{◌≡◌, ◌≤◌, ◌<◌, true};
 
 /// The position of a node in a tree that is rooted at node 0. The root is above every node, and itself counts as its own parent.
-#[derive(Clone, Copy, Debug, PartialEq, Eq)]
+#[derive(Clone, Copy)]
 pub(crate) struct Position {
     /// The node's place in the order in which the nodes are attached, from 0 for the root.
     pub(crate) place: u16,

@@ -8,7 +8,7 @@ use crate::drops::Drops;
 use crate::packet::PacketId;
 
 /// A packet that is sent to all members.
-#[derive(Clone, Copy, Debug, PartialEq, Eq)]
+#[derive(Clone, Copy)]
 pub(crate) struct Sending {
     /// The packet's identity.
     pub(crate) id: PacketId,

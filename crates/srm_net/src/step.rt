@@ -1,7 +1,7 @@
 //! A step in the growth of a tree.
 
 /// The attaching of one node by a link to a node that is attached already.
-#[derive(Clone, Copy, Debug, PartialEq, Eq)]
+#[derive(Clone, Copy)]
 pub(crate) struct Step {
     /// The node that is attached.
     pub(crate) node: u16,

@@ -1,9 +1,10 @@
 //! A tree of nodes and links with members on some nodes, and the ways in it.
-ghost use Rattle.std.specs.Prelude.{◌≡◌, ◌≢◌, ◌<◌, ◌≤◌, ◌*◌, not, ◌∷◌, Some, IfOk, length, slice_get};
+ghost use Rattle.std.specs.Prelude.{◌≡◌, ◌≢◌, ◌+◌, ◌<◌, ◌≤◌, ◌*◌, not, [], ◌∷◌, All, Some, IfOk, length, reverse, slice_get};
 ghost use Rattle.std.specs.List.{list_any};
 ghost use Rattle.srm_net.specs.Limits.{end_of_time, greatest_distance};
 ghost use Rattle.srm_net.specs.declared.link.LinkSpec.{LinkSpec};
-ghost use Rattle.srm_net.specs.Network.{IsNetwork};
+ghost use Rattle.srm_net.specs.Growth.{Grows, IsInPreorder};
+ghost use Rattle.srm_net.specs.Network.{plain_network, IsNetwork, IsTree, HasDelays, AreHosts};
 ghost use Rattle.srm_net.specs.Paths.{host, route, end_of, delay_along, distance, round, stops, takes_out};
 ghost use Rattle.srm_net.specs.Listed.{is_listed_somewhere};
 ghost use Rattle.srm_net.specs.Spreads.{TellsComing};
@@ -18,6 +19,7 @@ use crate::packet::PacketId;
 use crate::rooted::Rooted;
 use crate::sending::Sending;
 use crate::sides::Sides;
+use crate::step::Step;
 use std::alloc::{AllocError, Global};
 use std::marker::Model;
 
@@ -43,6 +45,30 @@ impl Model for Tree {
 }
 
 impl Tree {
+    /// The tree that grows by these steps, whose links and hosts were checked.
+    pub(crate) fn of(
+        alloc: Global,
+        nodes: u16,
+        links: &[LinkSpec],
+        hosts: &[u16],
+        steps: &[Step],
+    ) -> Result<Tree, AllocError>
+        requires tree { IsTree (plain_network nodes links.now []) }
+        requires delays { All HasDelays links.now }
+        requires placed { AreHosts nodes hosts.now }
+        requires grows { Grows links.now (reverse steps.now) }
+        requires preorder { IsInPreorder (reverse steps.now) }
+        requires all { length steps.now + 1 ≡ nodes }
+        ensures { IfOk result (λ tree. tree ≡ plain_network nodes links.now hosts.now) }
+    {
+        Ok(Tree {
+            nodes,
+            links: links.to_vec(alloc)?,
+            hosts: hosts.to_vec(alloc)?,
+            rooted: Rooted::of(alloc, nodes, links, steps)?,
+        })
+    }
+
     /// How many members there are: at most [`MOST_NODES`](crate::limits::MOST_NODES).
     pub(crate) fn members(&self) -> u16
         ensures members { result ≡ length self.now.hosts }

@@ -7,6 +7,17 @@ use Rattle.srm_net.proofs.OccupiedLemmas.{MarksAt, mark_place, places_more, plac
 use Rattle.srm_net.proofs.PathLaws.{host_below}
 use Rattle.srm_net.proofs.occupied.marked.Goals as goal
 
+pub position-size-requires : goal.position-size-requires
+position-size-requires c = let (w, n, r, same) = c.requires.rooted in subst (λ k. 0 < k) (sym r.long) r.tree.some_nodes
+
+pub position-place-requires : goal.position-place-requires
+position-place-requires c =
+    let (w, n, r, same) = c.requires.rooted in
+    let hosts = c.args.hosts.now in
+    let i = c.loop-host.host-index in
+    subst (λ k. slice_index hosts i < k) (sym r.long) (subst (λ hs. slice_index hs i < w.nodes) same
+    (host_below w n i (subst (λ hs. i < length hs) (sym same) c.loop-host-test.true)))
+
 pub loop-host-preserved : goal.loop-host-preserved
 loop-host-preserved c =
     let (w, n, r, same) = c.requires.rooted in

@@ -2,6 +2,7 @@ use Rattle.std.proofs.Common.{◌≡◌, ◌∙◌, sym, ap, subst, inr, refl, a
 use Rattle.std.proofs.Common.{true, false}
 use Rattle.std.proofs.Common.{slice_set}
 use Rattle.std.proofs.lemmas.List.{length-set, length-reverse, reverse-append, length_push}
+use Rattle.srm_net.specs.Adjacencies.{TellsLinks}
 use Rattle.srm_net.specs.Network.{IsWithin}
 use Rattle.srm_net.specs.Paths.{is_in}
 use Rattle.srm_net.specs.Growth.{attached, Grows, newest, IsInPreorder}
@@ -73,6 +74,18 @@ push_steps-requires-in-Some-clause-node c =
     let size : length c.as_slice-in-Some.result.now ≡ c.args.nodes = ap length c.as_slice-in-Some.ensures.value
     ∙ length-set c.loop-step.known.items c.from-in-Some-2.result true ∙ inv.marks in
     subst (λ n. s.node < n) (sym size) (leads_below c.args.nodes links ss s ends w.0)
+
+pub push_steps-requires-in-Some-clause-told : goal.push_steps-requires-in-Some-clause-told
+push_steps-requires-in-Some-clause-told c =
+    let size : length c.as_slice-in-Some.result.now ≡ c.args.nodes = ap length c.as_slice-in-Some.ensures.value
+    ∙ length-set c.loop-step.known.items c.from-in-Some-2.result true ∙ c.loop-step.invariant.marks in
+    subst (λ n. TellsLinks n c.args.links.now c.in_ok-adjacency.adjacency) (sym size) c.in_ok-adjacency.ensures
+
+pub push_steps-requires-in-Some-clause-ends : goal.push_steps-requires-in-Some-clause-ends
+push_steps-requires-in-Some-clause-ends c =
+    let size : length c.as_slice-in-Some.result.now ≡ c.args.nodes = ap length c.as_slice-in-Some.ensures.value
+    ∙ length-set c.loop-step.known.items c.from-in-Some-2.result true ∙ c.loop-step.invariant.marks in
+    subst (λ n. All (IsWithin n) c.args.links.now) (sym size) (c.are_within.ensures.0 c.if-not-are_within.false)
 
 pub loop-step-smaller : goal.loop-step-smaller
 loop-step-smaller c =

@@ -14,6 +14,17 @@ overflow_cast-own c =
     let lt : c.loop-member.member < length c.args.hosts.now = c.loop-member-test.true in
     omega arith
 
+pub index_mut-requires : goal.index_mut-requires
+index_mut-requires c =
+    let (w, n, r, same) = c.requires in
+    let hosts = c.args.hosts.now in
+    let i = c.loop-member.member in
+    let below : slice_index hosts i < w.nodes = subst (λ hs. slice_index hs i < w.nodes) same
+    (host_below w n i (subst (λ hs. i < length hs) (sym same) c.loop-member-test.true)) in
+    let size : length c.loop-member.table.items ≡ length c.args.rooted.now.positions.items = c.loop-member.invariant.long in
+    let long : length c.args.rooted.now.positions.items ≡ w.nodes = r.long in
+    omega (arith, c.loop-member.table.ok.0)
+
 pub loop-member-preserved : goal.loop-member-preserved
 loop-member-preserved c =
     let (w, n, r, same) = c.requires in

@@ -2,7 +2,7 @@ use Rattle.std.proofs.Common.{◌≡◌, ◌≢◌, ◌∙◌, ℕ, ◌+◌, ◌
 use Rattle.srm_net.specs.declared.position.Position.{Position}
 use Rattle.srm_net.specs.Nearness.{Takes, nearest_of, IsSound}
 use Rattle.srm_net.specs.Rooting.{at}
-use Rattle.srm_net.proofs.OutLemmas.{UpTo, delay_down, node_at, up_skip, up_sound, up_step, up_done}
+use Rattle.srm_net.proofs.OutLemmas.{UpTo, delay_down, parent_within, node_at, up_skip, up_sound, up_step, up_done}
 use Rattle.srm_net.proofs.outs.offer_up.Goals as goal
 
 pub loop-index-preserved-then-here-eq0 : goal.loop-index-preserved-then-here-eq0
@@ -23,6 +23,46 @@ loop-index-preserved-then-here-eq0 c =
 
 one_here : (p q n : ℕ) → p ≢ 0 → p ≡ q → 1 ≤ q
 one_here p q n d e = omega arith
+
+pub position-here-requires : goal.position-here-requires
+position-here-requires c =
+    let (w, b, s) = c.requires in
+    let ps = c.args.rooted.now.positions.items in
+    let order = c.args.order.now in
+    let i = c.loop-index.index - 1 in
+    let lt : i < length order = omega (arith, c.loop-index.auto.index, c.loop-index-test.true) in
+    subst (λ n. slice_index order i < n) (sym b.rooted.long) (node_at w ps order b c.loop-index.table i lt)
+
+pub position-requires : goal.position-requires
+position-requires c =
+    let (w, b, s) = c.requires in
+    let ps = c.args.rooted.now.positions.items in
+    let order = c.args.order.now in
+    let i = c.loop-index.index - 1 in
+    let lt : i < length order = omega (arith, c.loop-index.auto.index, c.loop-index-test.true) in
+    subst (λ n. c.position-here.result.parent < n) (sym b.rooted.long)
+    (parent_within w ps b.rooted (slice_index order i) (node_at w ps order b c.loop-index.table i lt) c.position-here.result
+    c.position-here.ensures c.if-here-eq0.false)
+
+pub offer-requires-clause-from : goal.offer-requires-clause-from
+offer-requires-clause-from c =
+    let (w, b, s) = c.requires in
+    let ps = c.args.rooted.now.positions.items in
+    let order = c.args.order.now in
+    let i = c.loop-index.index - 1 in
+    let lt : i < length order = omega (arith, c.loop-index.auto.index, c.loop-index-test.true) in
+    subst (λ n. slice_index order i < n) (sym (c.loop-index.invariant.sound w b s).long) (node_at w ps order b c.loop-index.table i lt)
+
+pub offer-requires-clause-to : goal.offer-requires-clause-to
+offer-requires-clause-to c =
+    let (w, b, s) = c.requires in
+    let ps = c.args.rooted.now.positions.items in
+    let order = c.args.order.now in
+    let i = c.loop-index.index - 1 in
+    let lt : i < length order = omega (arith, c.loop-index.auto.index, c.loop-index-test.true) in
+    subst (λ n. c.position-here.result.parent < n) (sym (c.loop-index.invariant.sound w b s).long)
+    (parent_within w ps b.rooted (slice_index order i) (node_at w ps order b c.loop-index.table i lt) c.position-here.result
+    c.position-here.ensures c.if-here-eq0.false)
 
 pub overflow_sub-delay : goal.overflow_sub-delay
 overflow_sub-delay c =

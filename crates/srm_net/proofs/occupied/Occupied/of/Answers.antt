@@ -9,6 +9,9 @@ use Rattle.srm_net.proofs.OccupiedLemmas.{next_before, member_at, place_within}
 use Rattle.srm_net.proofs.PathLaws.{host_below}
 use Rattle.srm_net.proofs.occupied.Occupied.of.Goals as goal
 
+pub position-size-requires : goal.position-size-requires
+position-size-requires c = let (w, n, r, same) = c.requires.rooted in subst (λ k. 0 < k) (sym r.long) r.tree.some_nodes
+
 pub loop-index-preserved : goal.loop-index-preserved
 loop-index-preserved c =
     let places = places_of c.args.rooted.now.positions.items c.args.hosts.now in

@@ -1,5 +1,5 @@
 use Rattle.std.proofs.Common.{◌<◌, sym, subst}
-use Rattle.srm_net.proofs.OccupiedLemmas.{ends_there, end_fits, b_lower, a_lower}
+use Rattle.srm_net.proofs.OccupiedLemmas.{ends_there, end_fits, place_fits, b_lower, a_lower}
 use Rattle.srm_net.proofs.occupied.Occupied.sides.Goals as goal
 
 pub position-a-requires : goal.position-a-requires
@@ -39,6 +39,34 @@ any_outside-requires-else-a-b-clause-end c =
     let ps = c.args.rooted.now.positions.items in
     (end_fits w ps c.args.self.now i c.args.link.a (ends_there w ps c.args.self.now i l c.args.link g).0 c.position-a.result
     c.position-a.ensures).1
+
+pub any_outside-requires-clause-place : goal.any_outside-requires-clause-place
+any_outside-requires-clause-place c =
+    let (w, l, i, g) = c.requires in
+    let ps = c.args.rooted.now.positions.items in
+    (place_fits w ps c.args.self.now i c.args.link.b (ends_there w ps c.args.self.now i l c.args.link g).1 c.position-b.result
+    c.position-b.ensures).0
+
+pub any_within-requires-clause-from : goal.any_within-requires-clause-from
+any_within-requires-clause-from c =
+    let (w, l, i, g) = c.requires in
+    let ps = c.args.rooted.now.positions.items in
+    (place_fits w ps c.args.self.now i c.args.link.b (ends_there w ps c.args.self.now i l c.args.link g).1 c.position-b.result
+    c.position-b.ensures).1
+
+pub any_within-requires-else-a-b-clause-from : goal.any_within-requires-else-a-b-clause-from
+any_within-requires-else-a-b-clause-from c =
+    let (w, l, i, g) = c.requires in
+    let ps = c.args.rooted.now.positions.items in
+    (place_fits w ps c.args.self.now i c.args.link.a (ends_there w ps c.args.self.now i l c.args.link g).0 c.position-a.result
+    c.position-a.ensures).1
+
+pub any_outside-requires-else-a-b-clause-place : goal.any_outside-requires-else-a-b-clause-place
+any_outside-requires-else-a-b-clause-place c =
+    let (w, l, i, g) = c.requires in
+    let ps = c.args.rooted.now.positions.items in
+    (place_fits w ps c.args.self.now i c.args.link.a (ends_there w ps c.args.self.now i l c.args.link g).0 c.position-a.result
+    c.position-a.ensures).0
 
 pub returns-then-a-b : goal.returns-then-a-b
 returns-then-a-b c w l i g =

@@ -1,10 +1,15 @@
-use Rattle.std.proofs.Common.{◌+◌, ◌<◌, subst, sym, arith}
+use Rattle.std.proofs.Common.{◌≡◌, ℕ, ◌+◌, ◌<◌, List, length, subst, sym, arith}
 use Rattle.srm_net.specs.declared.position.Position.{Position}
 use Rattle.srm_net.specs.Network.{Network}
 use Rattle.srm_net.specs.Rooting.{at, IsRooted, IsMeeting}
 use Rattle.srm_net.proofs.Meetings.{meeting_back, meeting_itself, meeting_hop}
 use Rattle.srm_net.proofs.Rootings.{Hop, hop_read, strictly}
 use Rattle.srm_net.proofs.rooted.Rooted.climb.Goals as goal
+
+jump_below : (w : Network) (ps : List Position) (r : IsRooted w ps) (u : ℕ) → u < w.nodes → (q : Position) → q ≡ at ps u
+    → q.jump < length ps
+jump_below w ps r u hu q e = subst (λ (p : Position). p.jump < length ps) (sym e)
+    (subst (λ n. (at ps u).jump < n) (sym r.long) (r.each u hu).jump.node)
 
 -- the hop of the far end, where it has the later place
 far_hop : (c : goal.After-above-far) (w : Network) → IsRooted w c.args.self.now.positions.items → c.args.from < w.nodes
@@ -32,6 +37,18 @@ pub position-requires : goal.position-requires
 position-requires c =
     let q = c.requires.rooted in
     subst (λ n. c.loop-near.near < n) (sym q.1.long) (c.loop-near.invariant q.0 q.1 q.2 q.3).0
+
+pub above-near-requires : goal.above-near-requires
+above-near-requires c =
+    let (w, r, hf, ht) = c.requires.rooted in
+    jump_below w c.args.self.now.positions.items r c.loop-near.near (c.loop-near.invariant w r hf ht).0 c.position-here.result
+    c.position-here.ensures
+
+pub above-far-requires : goal.above-far-requires
+above-far-requires c =
+    let (w, r, hf, ht) = c.requires.rooted in
+    jump_below w c.args.self.now.positions.items r c.loop-near.far (c.loop-near.invariant w r hf ht).1 c.position-there.result
+    c.position-there.ensures
 
 pub loop-near-preserved-then-here-there : goal.loop-near-preserved-then-here-there
 loop-near-preserved-then-here-there c w r hf ht =
