@@ -10,10 +10,7 @@ use Rattle.srm_scenario.specs.declared.topology.Topology.{Topology}
 use Rattle.srm_scenario.specs.Described.{links_to_parents}
 use Rattle.srm_scenario.specs.Drafts.{links_listed}
 use Rattle.srm_explain.specs.Misfits.{links_of}
-
-links_length : (t : Topology) (delays : Delays) (v n : ℕ) → length (links_to_parents t delays v n) ≡ n
-links_length t delays v zero = refl
-links_length t delays v (suc n) = ap suc (links_length t delays (v + 1) n)
+use Rattle.srm_scenario.proofs.TopologyTrees.{links_length}
 
 -- a topology has one link fewer than nodes
 pub links_of_topology : (l : Draft) (t : Topology) → l.topology ≡ Some t → length (links_of l) ≡ l.nodes - 1

@@ -12,11 +12,7 @@ use Rattle.srm_net.proofs.Numbers.{not_in_cons}
 use Rattle.srm_net.proofs.RouteLemmas.{route_only}
 use Rattle.srm_net.proofs.PathLaws.{LinkOf, ends_below, on_route, route_nowhere}
 use Rattle.srm_net.proofs.OnePaths.{joins_others}
-
-same_truth : (a b : Bool) → (a ≡ true → b ≡ true) → (b ≡ true → a ≡ true) → a ≡ b
-same_truth true b f g = sym (f refl)
-same_truth false true f g = g refl
-same_truth false false f g = refl
+use Rattle.srm_net.proofs.Basics.{same_tests}
 
 not_twice : (b : Bool) → not (not b) ≡ b
 not_twice true = refl
@@ -68,7 +64,7 @@ module _ (w : Network) (ps : List Position) (r : IsRooted w ps) (l : ℕ) (k : L
   held u hu sub x hx h f b =
       let eu = place_of u hu in
       let ex = place_of x hx in
-      same_truth h (is_in (route w 0 x) l)
+      same_tests h (is_in (route w 0 x) l)
       (λ t. let p = f t in
       let p0 : (at ps u).place ≤ (at ps x).place = p.0 in
       let p1 : (at ps x).place < (at ps u).end = p.1 in

@@ -20,7 +20,7 @@ use Rattle.srm_net.proofs.PathLaws.{LinkOf, ends_below, on_route, route_begins, 
 use Rattle.srm_net.proofs.TreeWays.{walk_push}
 use Rattle.srm_net.proofs.DropLemmas.{any_push}
 use Rattle.srm_net.proofs.OnePaths.{joins_others, link_path}
-use Rattle.srm_net.proofs.BuiltLemmas.{told_crossed, told_dropped}
+use Rattle.srm_net.proofs.BuiltLemmas.{told_crossed, told_dropped, and_false}
 use Rattle.srm_net.proofs.FateLemmas.{spared, none_stops}
 
 -- ---- a walk the other way round
@@ -231,10 +231,6 @@ module _ (w : Network) (n : IsNetwork w) (l u near far : ℕ) (any : Bool) (seen
       (comes_to w (takes_out rules p) u sent near)
       ∙ ap (λ b. any && (comes_to w (takes_out rules p) u sent near && not b)) (sym over)
 
-and_never : (b : Bool) → (b && false) ≡ false
-and_never true = refl
-and_never false = refl
-
 -- what a spread tells of a link
 module _ (w : Network) (n : IsNetwork w) (l u near far : ℕ) (any : Bool) (seen : SeenFrom w l u near far any) (s : PlainSpread)
     (fits : FitsIn w s) (e : u ≡ host w s.sender)
@@ -267,8 +263,8 @@ module _ (w : Network) (n : IsNetwork w) (l u near far : ℕ) (any : Bool) (seen
       let r = read near false ends.near_in g in
       let c = crossed_in w n l u near far any seen rules p sent below home in
       let d = dropped_in w n l u near far any seen rules p sent below home in (
-        c ∙ ap (λ b. any && (b && comes_to w (takes_out rules p) u sent far)) r ∙ and_never any,
-        d ∙ ap (λ b. any && (b && not (comes_to w (takes_out rules p) u sent far))) r ∙ and_never any,
+        c ∙ ap (λ b. any && (b && comes_to w (takes_out rules p) u sent far)) r ∙ and_false any,
+        d ∙ ap (λ b. any && (b && not (comes_to w (takes_out rules p) u sent far))) r ∙ and_false any,
       )
 
   pub come_over : (b : Bool) → any ≡ true → slice_get s.comes near ≡ Some true → slice_get s.comes far ≡ Some b

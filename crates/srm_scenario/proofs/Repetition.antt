@@ -32,6 +32,7 @@ use Rattle.srm_scenario.specs.Faults.{entry_copy, faults_by, first}
 use Rattle.srm_scenario.specs.LookUps.{FewElements}
 use Rattle.srm_scenario.proofs.Acceptance.{none_by}
 use Rattle.srm_scenario.proofs.KeyRanges.{rule_met}
+use Rattle.srm_scenario.proofs.Placed.{all_append}
 
 copies-length : {A : Type 0} (f : ℕ → A) (k n : ℕ) → length (copies f k n) ≡ n
 copies-length f k zero = refl
@@ -161,10 +162,6 @@ few_sessions Three ds few none = few_together session_message_of session_copy ds
 
 -- ---- what holds of each copy
 
-all_join : {A : Type 0} (P : A → Type 0) (xs ys : List A) → AllByRecursion P xs → AllByRecursion P ys → AllByRecursion P (xs ++ ys)
-all_join P [] ys p q = q
-all_join P (x ∷ xs) ys p q = (p.0, all_join P xs ys p.1 q)
-
 copies_all : {A : Type 0} (P : A → Type 0) (f : ℕ → A) (test : A → Bool) → ((k : ℕ) → test (f k) ≡ true → P (f k)) → (k n : ℕ)
     → list_all test (copies f k n) ≡ true → AllByRecursion P (copies f k n)
 copies_all P f test each k zero h = tt
@@ -180,7 +177,7 @@ pub stand_for_all : {A : Type 0} (P : A → Type 0) (rules : List Rule) (reading
 stand_for_all P rules reading copy in_range each [] h = tt
 stand_for_all P rules reading copy in_range each (d ∷ ds) h =
     let (fits, range) = and_parts (fits_element rules d) (list_all in_range (repeated copy reading d)) h.0 in
-    all_join P (repeated copy reading d) (flat_map (repeated copy reading) ds)
+    all_append P (repeated copy reading d) (flat_map (repeated copy reading) ds)
     (copies_all P (λ k. copy k (every_of d) (reading (table_of d))) in_range (λ k r. each d fits k (every_of d) r) 0 (times_repeated d)
     range) (stand_for_all P rules reading copy in_range each ds h.1)
 

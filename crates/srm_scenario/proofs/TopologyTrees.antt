@@ -34,7 +34,7 @@ parent_below (Tree degree) v h some =
 link_at : Topology → Delays → ℕ → LinkSpec
 link_at t delays v = record { a = parent_in t v; b = v; delay = delays.delay; back = delays.back }
 
-links_length : (t : Topology) (delays : Delays) (v n : ℕ) → length (links_to_parents t delays v n) ≡ n
+pub links_length : (t : Topology) (delays : Delays) (v n : ℕ) → length (links_to_parents t delays v n) ≡ n
 links_length t delays v zero = refl
 links_length t delays v (suc n) = ap suc (links_length t delays (v + 1) n)
 
