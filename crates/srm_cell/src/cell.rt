@@ -5,8 +5,8 @@ ghost use Rattle.srm_net.specs.Orders.{Rises};
 ghost use Rattle.srm_scenario.specs.Plain.{mark_cmp, network_of};
 ghost use Rattle.srm_member.specs.Record.{due_of};
 ghost use Rattle.srm_cell.specs.Flights.{BringsNone};
-ghost use Rattle.srm_cell.specs.Cells.{hear_at, next_event, first_arrival, first_mark, next_timer};
-ghost use Rattle.srm_cell.specs.Views.{IsNew, Becomes, Steps, Ends, IsNextTime, record_in, due_in};
+ghost use Rattle.srm_cell.specs.Cells.{PlainCell, hear_at, next_event, first_arrival, first_mark, next_timer};
+ghost use Rattle.srm_cell.specs.Views.{IsNew, Becomes, Steps, Ends, IsNextTime, HoldsRecord, TellsExit, record_in, due_in};
 ghost use Rattle.srm_cell.specs.InnerSteps.{StandsFor, TakesFirst, AnswersEvent};
 ghost use Rattle.srm_cell.specs.PutRows.{PutsRow, PutsStep};
 ghost use Rattle.srm_cell.specs.Jobs.{Runs};
@@ -206,14 +206,7 @@ impl<M: Participant> Cell<M> {
         if let Some(exit) = exit {
             return Ok(Box::into_inner(exit));
         }
-        let Some(mut member) = member else {
-            return Err(CellFault::Spent);
-        };
-        match finish(alloc, &mut member) {
-            Ok(exit) => Ok(exit),
-            Err(MemberFault::NoMemory) => Err(CellFault::NoMemory),
-            Err(MemberFault::Spent) => Err(CellFault::Spent),
-        }
+        ended(alloc, member)
     }
 
     // Takes the first event of a source, and gives its cause; at a leave there is none.
@@ -407,6 +400,20 @@ impl<M: Participant> Cell<M> {
             None => None,
             Some(member) => member.due(),
         }
+    }
+}
+
+// What a member ends with, if it is there.
+fn ended<M: Participant>(alloc: Global, member: Option<M>) -> Result<Exit, CellFault>
+    ensures { (p : PlainCell) → p.exit ≡ None → HoldsRecord (record_in M.plain member) p.holds → TellsExit p result }
+{
+    let Some(mut member) = member else {
+        return Err(CellFault::Spent);
+    };
+    match finish(alloc, &mut member) {
+        Ok(exit) => Ok(exit),
+        Err(MemberFault::NoMemory) => Err(CellFault::NoMemory),
+        Err(MemberFault::Spent) => Err(CellFault::Spent),
     }
 }
 

@@ -32,7 +32,7 @@ Example:
 With --explain a refusal says after its line what to mend.";
 
 /// How the value of an option is read.
-#[derive(Clone, Copy, Debug)]
+#[derive(Clone, Copy)]
 pub(crate) enum Reader {
     /// As a number, by `clap`, which refuses what is out of this range.
     Number {
@@ -46,7 +46,7 @@ pub(crate) enum Reader {
 }
 
 /// An option: a line of the table.
-#[derive(Clone, Copy, Debug)]
+#[derive(Clone, Copy)]
 pub(crate) struct OptionLine {
     /// Its name, after two dashes.
     name: &'static str,
@@ -150,7 +150,7 @@ const SHOW_LINE: OptionLine = OptionLine {
 };
 
 /// An option that takes nothing.
-#[derive(Clone, Copy, Debug)]
+#[derive(Clone, Copy)]
 struct Flag {
     /// Its name, after two dashes.
     name: &'static str,
@@ -328,7 +328,7 @@ fn message_of_number(
 }
 
 /// How `clap` is to look at the texts of options.
-#[derive(Clone, Copy, Debug)]
+#[derive(Clone, Copy)]
 enum Wording {
     /// Any text is taken, so that what the program refuses comes after all that `clap` does.
     Any,
@@ -338,9 +338,9 @@ enum Wording {
 
 // The command that `clap` reads, made of the table.
 fn command<'a>(alloc: Global, wording: Wording) -> Result<Command<'a>, AllocError> {
-    let command = with_options(alloc, bare_command(alloc), everyday(), wording)?;
+    let command = with_options(alloc, bare_command(alloc), everyday(), None, wording)?;
     let command = with_flags(alloc, command, flags())?;
-    with_windows(alloc, command, windows(), wording)
+    with_options(alloc, command, windows(), Some(WINDOWS_HEADING), wording)
 }
 
 // The command with no option yet.
@@ -365,29 +365,21 @@ fn windows() -> &'static [OptionLine] {
     &WINDOWS
 }
 
-// A command with these options.
+// A command with these options, which stand under a heading if there is one.
 fn with_options<'a>(
     alloc: Global,
     mut command: Command<'a>,
     options: &[OptionLine],
-    wording: Wording,
-) -> Result<Command<'a>, AllocError> {
-    for option in options {
-        command = command.arg(arg_of(alloc, *option, wording))?;
-    }
-    Ok(command)
-}
-
-// A command with these options, under the heading of windows.
-fn with_windows<'a>(
-    alloc: Global,
-    mut command: Command<'a>,
-    options: &[OptionLine],
+    heading: Option<&'static str>,
     wording: Wording,
 ) -> Result<Command<'a>, AllocError> {
     for option in options {
         let arg = arg_of(alloc, *option, wording);
-        command = command.arg(arg.help_heading(WINDOWS_HEADING))?;
+        let arg = match heading {
+            None => arg,
+            Some(heading) => arg.help_heading(heading),
+        };
+        command = command.arg(arg)?;
     }
     Ok(command)
 }

@@ -36,6 +36,15 @@ loop-cell-preserved g c =
           (c.in-Ok.ensures r.own.member r.own.cell r.cell)),
     )
 
+pub returns-in-Err-clause-many : goal.returns-in-Err-clause-many
+returns-in-Err-clause-many g c = length-set c.loop-cell.cells c.loop-cell.cell-index c.run.new.self ∙ c.loop-cell.invariant.0
+
+pub returns-then-is_err-clause-many : goal.returns-then-is_err-clause-many
+returns-then-is_err-clause-many g c = length-set c.loop-cell.cells c.loop-cell.cell-index c.run.new.self ∙ c.loop-cell.invariant.0
+
+pub returns-clause-many : goal.returns-clause-many
+returns-clause-many g c = c.loop-cell.invariant.0
+
 pub returns-in-Err-clause-runs : goal.returns-in-Err-clause-runs
 returns-in-Err-clause-runs g c = λ qs h.
     let i = c.loop-cell.cell-index in

@@ -21,6 +21,12 @@ after_front xs ys i d lt less h =
 pub loop-cell-init : goal.loop-cell-init
 loop-cell-init g c = (refl, refl, tt)
 
+pub hear-requires-clause-network : goal.hear-requires-clause-network
+hear-requires-clause-network g c = c.requires.network
+
+pub hear-requires-clause-sent : goal.hear-requires-clause-sent
+hear-requires-clause-sent g c = c.requires.sent
+
 pub hear-requires-clause-new : goal.hear-requires-clause-new
 hear-requires-clause-new g c =
     let i = c.loop-cell.cell-index in
