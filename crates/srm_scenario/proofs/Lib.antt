@@ -19,4 +19,3 @@ pub mod TopFits
 pub mod TableAnswers
 pub mod Texts
 pub mod TopologyTrees
-pub mod TakenNodes

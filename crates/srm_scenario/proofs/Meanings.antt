@@ -1,5 +1,5 @@
 -- The faults of what is listed, one check after the other.
-use Rattle.std.proofs.Common.{◌≡◌, ◌⊎◌, Bool, true, false, List, [], ◌++◌, length, map, Some, refl, sym, ap, ◌∙◌, subst, inl, inr}
+use Rattle.std.proofs.Common.{◌≡◌, ◌⊎◌, Bool, true, false, List, [], ◌++◌, length, map, Some, refl, sym, ap, ◌∙◌, subst, inl, inr, append_assoc}
 use Rattle.srm_net.specs.declared.link.LinkSpec.{LinkSpec}
 use Rattle.srm_net.specs.Network.{plain_network}
 use Rattle.srm_net.specs.DropRules.{DropRules}
@@ -84,38 +84,24 @@ module _ (l : Draft) (links : List LinkSpec) (e : ScenarioFault) (same : links �
     made : Made l links members
     made = record { links_are = same; members_are = members_are }
 
-    pub draw_fault : first (Drawn l members) ≡ Some e → IsFault e (faults_in l)
+    pub sent_fault : first (Drawn l members ++ Told l members) ≡ Some e → IsFault e (faults_in l)
     unfolding all_faults made
-    draw_fault h =
+    sent_fault h =
+        let rest : List ScenarioFault = Dropped l links members ++ (Out l links ++ []) in
+        let sent : IsFault e (Drawn l members ++ (Told l members ++ rest)) = subst (λ (fs : List ScenarioFault). IsFault e fs)
+        (append_assoc (Drawn l members) (Told l members) rest) (here (Drawn l members ++ Told l members) rest e (inr h)) in
         let f : IsFault e (all_faults l links members) = later (Tree l) _ e (no_tree_fault l links same tree)
-        (later (Placed l) _ e placed (here (Drawn l members) _ e (inr h))) in
+        (later (Placed l) _ e placed sent) in
         subst (λ (fs : List ScenarioFault). IsFault e fs) (are_all l links members made) f
 
-    pub session_fault : Drawn l members ≡ [] → first (Told l members) ≡ Some e → IsFault e (faults_in l)
-    unfolding all_faults made
-    session_fault drawn h =
-        let f : IsFault e (all_faults l links members) =
-        later (Tree l) _ e (no_tree_fault l links same tree)
-        (later (Placed l) _ e placed (later (Drawn l members) _ e drawn (here (Told l members) _ e (inr h)))) in
-        subst (λ (fs : List ScenarioFault). IsFault e fs) (are_all l links members made) f
-
-    pub drop_fault : Drawn l members ≡ [] → Told l members ≡ [] → first (Dropped l links members) ≡ Some e → IsFault e (faults_in l)
-    unfolding all_faults made
-    drop_fault drawn told h =
-        let f : IsFault e (all_faults l links members) =
-        later (Tree l) _ e (no_tree_fault l links same tree)
-        (later (Placed l) _ e placed (later (Drawn l members) _ e drawn
-        (later (Told l members) _ e told (here (Dropped l links members) _ e (inr h))))) in
-        subst (λ (fs : List ScenarioFault). IsFault e fs) (are_all l links members made) f
-
-    pub outage_fault : Drawn l members ≡ [] → Told l members ≡ [] → Dropped l links members ≡ [] → first (Out l links) ≡ Some e
+    pub drops_fault : Drawn l members ≡ [] → Told l members ≡ [] → IsFault e (Dropped l links members ++ Out l links)
         → IsFault e (faults_in l)
     unfolding all_faults made
-    outage_fault drawn told dropped h =
-        let f : IsFault e (all_faults l links members) =
-        later (Tree l) _ e (no_tree_fault l links same tree)
-        (later (Placed l) _ e placed (later (Drawn l members) _ e drawn
-        (later (Told l members) _ e told (later (Dropped l links members) _ e dropped (here (Out l links) _ e (inr h)))))) in
+    drops_fault drawn told h =
+        let lost : IsFault e (Dropped l links members ++ (Out l links ++ [])) = subst (λ (fs : List ScenarioFault). IsFault e fs)
+        (append_assoc (Dropped l links members) (Out l links) []) (here (Dropped l links members ++ Out l links) [] e h) in
+        let f : IsFault e (all_faults l links members) = later (Tree l) _ e (no_tree_fault l links same tree)
+        (later (Placed l) _ e placed (later (Drawn l members) _ e drawn (later (Told l members) _ e told lost))) in
         subst (λ (fs : List ScenarioFault). IsFault e fs) (are_all l links members made) f
 
 pub no_fault : (l : Draft) (links : List LinkSpec) (members : List MemberSpec) → Made l links members

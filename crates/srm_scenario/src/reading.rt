@@ -1,11 +1,12 @@
 //! Reading scenarios.
-ghost use Rattle.std.specs.Prelude.{◌≡◌, ◌⊎◌, ◌≤◌, ◌<◌, true, false, [], Ok, Err, length, map, IfOk, IfErr, IfSome, MatchResult, List, ℕ, ◌+◌, ◌-◌, ◌^◌};
+ghost use Rattle.std.specs.Prelude.{◌≡◌, ◌⊎◌, ◌≤◌, ◌<◌, true, false, [], ◌++◌, Some, Ok, Err, length, map, IfOk, IfErr, IfSome, MatchResult, List, ℕ, ◌+◌, ◌-◌, ◌^◌};
 ghost use Rattle.std.specs.Io.KnownBytes.{Consumes};
 ghost use Rattle.std.specs.List.{AllByRecursion};
 ghost use Rattle.toml.specs.View.{table_view};
 ghost use Rattle.srm_net.specs.Network.{plain_network};
 ghost use Rattle.srm_scenario.specs.Accepted.{IsAccepted};
-ghost use Rattle.srm_scenario.specs.Faults.{IsFault, is_star, scenario_of_table, scenario_of_text, failures_after, AnswersText, ReadsToEnd, RefusesText};
+ghost use Rattle.srm_scenario.specs.declared.fault.ScenarioFault.TheVariants.{BadDraw, BadSession, BadDrop, BadOutage};
+ghost use Rattle.srm_scenario.specs.Faults.{IsFault, first, faults_by, fits_draw, fits_session, fits_drop, fits_outage, is_star, scenario_of_table, scenario_of_text, failures_after, AnswersText, ReadsToEnd, RefusesText};
 ghost use Rattle.srm_scenario.specs.LookUps.{HasDegree};
 ghost use Rattle.srm_scenario.specs.Drafts.{links_listed, plain_of, faults_in};
 ghost use Rattle.srm_scenario.specs.Plain.{drop_rules_of};
@@ -19,7 +20,7 @@ use crate::draft::Draft;
 use crate::entry::MemberEntry;
 use crate::fault::ScenarioFault;
 use crate::feed::Feed;
-use crate::parts::MemberSpec;
+use crate::parts::{DrawSpec, MemberSpec, SessionSpec};
 use crate::scenario::Scenario;
 use crate::topology::Topology;
 use srm_net::drops::Drops;
@@ -70,6 +71,45 @@ fn drops_of(
         Ok(rules) => return Ok(rules),
         Err(_) => return Err(ScenarioFault::NoMemory),
     }
+}
+
+/// The first draw, or else the first session message, that does not fit the members is a fault.
+fn check_sent(
+    until: u64,
+    members: &[MemberSpec],
+    draws: &[DrawSpec],
+    sessions: &[SessionSpec],
+) -> Result<(), ScenarioFault>
+    ensures { MatchResult result
+        (λ _. (faults_by BadDraw (fits_draw until members.now) 0 draws.now ≡ [])
+        × (faults_by BadSession (fits_session until members.now) 0 sessions.now ≡ []))
+        (λ e. first (faults_by BadDraw (fits_draw until members.now) 0 draws.now
+        ++ faults_by BadSession (fits_session until members.now) 0 sessions.now) ≡ Some e) }
+{
+    check_draws(until, members, draws)?;
+    check_sessions(until, members, sessions)?;
+    Ok(())
+}
+
+/// The rules by which links drop packets. The first drop, or else the first outage, that does not fit the rest is a fault.
+fn checked_drops(
+    alloc: Global,
+    links: &[LinkSpec],
+    members: &[MemberSpec],
+    drops: &[DropSpec],
+    outages: &[OutageSpec],
+) -> Result<Drops, ScenarioFault>
+    ensures { MatchResult result
+        (λ rules. (rules ≡ drop_rules_of drops.now outages.now)
+        × (faults_by BadDrop (fits_drop (length links.now) (length members.now)) 0 drops.now ≡ [])
+        × (faults_by BadOutage (fits_outage (length links.now)) 0 outages.now ≡ []))
+        (λ e. IsFault e (faults_by BadDrop (fits_drop (length links.now) (length members.now)) 0 drops.now
+        ++ faults_by BadOutage (fits_outage (length links.now)) 0 outages.now)) }
+{
+    check_drops(links, members, drops)?;
+    check_outages(links, outages)?;
+    let rules = drops_of(alloc, drops, outages)?;
+    Ok(rules)
 }
 
 /// Whether the topology is a star, whose hub hosts nobody.
@@ -125,11 +165,8 @@ fn scenario_from(alloc: Global, draft: Draft) -> Result<Scenario, ScenarioFault>
     check_tree(alloc, nodes, &links)?;
     check_members(alloc, until, nodes, is_star(topology), &entries)?;
     let members = members_of(alloc, entries)?;
-    check_draws(until, &members, &draws)?;
-    check_sessions(until, &members, &sessions)?;
-    check_drops(&links, &members, &drops)?;
-    check_outages(&links, &outages)?;
-    let drops = drops_of(alloc, &drops, &outages)?;
+    check_sent(until, &members, &draws, &sessions)?;
+    let drops = checked_drops(alloc, &links, &members, &drops, &outages)?;
     Ok(Scenario {
         until,
         constants,

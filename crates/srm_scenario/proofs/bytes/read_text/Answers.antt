@@ -1,4 +1,5 @@
 use Rattle.std.proofs.Common.{◌++◌, take, arith, length-append}
+use Rattle.std.proofs.lemmas.Grind.{common_steps}
 use Rattle.std.proofs.lemmas.List.{length-take}
 use Rattle.std.proofs.KnownBytes.{Consumes-trans}
 use Rattle.srm_scenario.proofs.bytes.read_text.Goals as goal
@@ -21,3 +22,6 @@ returns-then-is_err-clause-taken g c =
         c.len-in-loop-piece.ensures,
       ),
     )
+
+pub loop-piece-preserved : goal.loop-piece-preserved
+loop-piece-preserved g c = grind (arith, common_steps)

@@ -7,8 +7,20 @@ use Rattle.srm_scenario.specs.declared.fault.ScenarioFault.TheVariants.{BadKey}
 use Rattle.srm_scenario.specs.Rules.{fits_element}
 use Rattle.srm_scenario.specs.Described.{copies, repeated, table_of}
 use Rattle.srm_scenario.specs.Faults.{fits_repeated, first}
-use Rattle.srm_scenario.proofs.Repetition.{kept, next_fails, next_passes, next_made}
+use Rattle.srm_scenario.proofs.Repetition.{kept, left_out, next_fails, next_passes, next_made}
 use Rattle.srm_scenario.proofs.repeated.read_repeated.Goals as goal
+
+pub returns-in_default-clause-fault : goal.returns-in_default-clause-fault
+returns-in_default-clause-fault g c =
+    let d = view c.index-values-place.result in
+    let rules = g.E.Element.rules c.args.version in
+    let no = left_out (fits_element rules d) (g.E.Element.reading (table_of d)) c.in_ok-element.field-0 c.in_ok-element.ensures
+    c.in_default.is in
+    let test : fits_repeated rules g.E.Element.reading g.E.Repeated.copy g.E.Repeated.in_range d ≡ false =
+    ap (λ b. b && list_all g.E.Repeated.in_range (repeated g.E.Repeated.copy g.E.Element.reading d)) no in
+    inr (sym (ap first c.loop-place.invariant.faults)
+    ∙ next_fails c.args.values.now c.loop-place.place c.index-values-place.result c.loop-place-test.true c.index-values-place.is
+    (BadKey c.args.part) (fits_repeated rules g.E.Element.reading g.E.Repeated.copy g.E.Repeated.in_range) test)
 
 pub returns-then-not-fit-clause-fault : goal.returns-then-not-fit-clause-fault
 returns-then-not-fit-clause-fault g c =
