@@ -73,7 +73,7 @@ fn member_at(draft: &Draft, member: u16) -> Option<&MemberSpec>
 fn of_member(draft: &Draft, place: usize) -> Option<Misfit>
     ensures { IfSome result (Breaks draft.now (BadMember place)) }
 {
-    match element(&draft.members, place) {
+    match draft.members.get(place) {
         Some(member) => {
             let star = matches!(draft.topology, Some(Topology::Star));
             of_entry(
