@@ -10,4 +10,5 @@ returns-then-member-node c =
     let member = c.index-members-place.result in
     let at : slice_get members place ≡ Some member =
     slice_get_read members (length members) place member refl c.loop-place-test.true c.index-members-place.is in
-    (any_at _ members place member at (eq-eqb member.spec.node c.args.node c.if-member-node.true), member, at, c.if-member-node.true)
+    let node = c.if-member-node.true in
+    (any_at _ members place member at (eq-eqb member.spec.node c.args.node node), member, at, node)

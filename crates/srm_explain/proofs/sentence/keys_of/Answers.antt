@@ -1,6 +1,0 @@
-use Rattle.std.proofs.Common.{arith}
-use Rattle.std.proofs.lemmas.Grind.{common_steps}
-use Rattle.srm_explain.proofs.sentence.keys_of.Goals as goal
-
-pub loop-rule-preserved : goal.loop-rule-preserved
-loop-rule-preserved c = grind (arith, common_steps)
