@@ -2,6 +2,7 @@
 ghost use Rattle.std.specs.Prelude.{◌≡◌, IfOk, IfSome};
 ghost use Rattle.srm_explain.specs.Flaws.{parent_of, IsCircle};
 
+use crate::element::element;
 use crate::reached::{is_reached, reached_from_0};
 use srm_net::link::LinkSpec;
 use std::alloc::{AllocError, Global};
@@ -13,7 +14,7 @@ fn parent_of(links: &[LinkSpec], node: u16) -> Option<u16>
     if node == 0 {
         return None;
     }
-    match links.get(usize::from(node - 1)) {
+    match element(links, usize::from(node - 1)) {
         Some(link) => Some(link.a),
         None => None,
     }

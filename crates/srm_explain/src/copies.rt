@@ -1,8 +1,10 @@
 //! Which copies of the elements of a text the elements of a scenario are.
 ghost use Rattle.std.specs.Prelude.{◌≡◌, IfOk, IfSome, map, string_bytes};
 ghost use Rattle.toml.specs.View.{view};
+ghost use Rattle.srm_scenario.specs.declared.fault.ScenarioFault.TheVariants.{BadMember, BadDraw, BadSession, BadDrop, BadOutage};
 ghost use Rattle.srm_explain.specs.Copies.{copy_sentence, draw_numbers, drop_numbers, member_numbers, outage_numbers, session_numbers, IsCopied, TellsNumbers};
 
+use crate::element::element;
 use srm_net::link::{DropSpec, OutageSpec};
 use srm_scenario::draft::Draft;
 use srm_scenario::entry::MemberEntry;
@@ -72,28 +74,68 @@ pub(crate) fn risen_numbers(
     ensures { IfOk result (λ told. IfSome told (λ s. TellsNumbers draft.now fault (string_bytes s))) }
 {
     match fault {
-        ScenarioFault::BadMember { place } => match draft.members.get(place) {
-            Some(entry) => Ok(Some(member_numbers(alloc, entry)?)),
-            None => Ok(None),
-        },
-        ScenarioFault::BadDraw { place } => match draft.draws.get(place) {
-            Some(draw) => Ok(Some(draw_numbers(alloc, draw)?)),
-            None => Ok(None),
-        },
-        ScenarioFault::BadSession { place } => match draft.sessions.get(place) {
-            Some(session) => Ok(Some(session_numbers(alloc, session)?)),
-            None => Ok(None),
-        },
-        ScenarioFault::BadDrop { place } => match draft.drops.get(place) {
-            Some(drop) => Ok(Some(drop_numbers(alloc, drop)?)),
-            None => Ok(None),
-        },
-        ScenarioFault::BadOutage { place } => match draft.outages.get(place) {
-            Some(outage) => Ok(Some(outage_numbers(alloc, outage)?)),
-            None => Ok(None),
-        },
+        ScenarioFault::BadMember { place } => told_of_member(alloc, draft, place),
+        ScenarioFault::BadDraw { place } => told_of_draw(alloc, draft, place),
+        ScenarioFault::BadSession { place } => told_of_session(alloc, draft, place),
+        ScenarioFault::BadDrop { place } => told_of_drop(alloc, draft, place),
+        ScenarioFault::BadOutage { place } => told_of_outage(alloc, draft, place),
         _ => Ok(None),
     }
+}
+
+// The numbers of the member at a place that rise from copy to copy, if there is one.
+fn told_of_member(alloc: Global, draft: &Draft, place: usize) -> Result<Option<String>, AllocError>
+    ensures { IfOk result (λ told. IfSome told (λ s. TellsNumbers draft.now (BadMember place) (string_bytes s))) }
+{
+    let Some(entry) = element(&draft.members, place) else {
+        return Ok(None);
+    };
+    let told = member_numbers(alloc, entry)?;
+    Ok(Some(told))
+}
+
+// The numbers of the draw at a place that rise from copy to copy, if there is one.
+fn told_of_draw(alloc: Global, draft: &Draft, place: usize) -> Result<Option<String>, AllocError>
+    ensures { IfOk result (λ told. IfSome told (λ s. TellsNumbers draft.now (BadDraw place) (string_bytes s))) }
+{
+    let Some(draw) = element(&draft.draws, place) else {
+        return Ok(None);
+    };
+    let told = draw_numbers(alloc, draw)?;
+    Ok(Some(told))
+}
+
+// The numbers of the session message at a place that rise from copy to copy, if there is one.
+fn told_of_session(alloc: Global, draft: &Draft, place: usize) -> Result<Option<String>, AllocError>
+    ensures { IfOk result (λ told. IfSome told (λ s. TellsNumbers draft.now (BadSession place) (string_bytes s))) }
+{
+    let Some(session) = element(&draft.sessions, place) else {
+        return Ok(None);
+    };
+    let told = session_numbers(alloc, session)?;
+    Ok(Some(told))
+}
+
+// The numbers of the drop at a place that rise from copy to copy, if there is one.
+fn told_of_drop(alloc: Global, draft: &Draft, place: usize) -> Result<Option<String>, AllocError>
+    ensures { IfOk result (λ told. IfSome told (λ s. TellsNumbers draft.now (BadDrop place) (string_bytes s))) }
+{
+    let Some(drop) = element(&draft.drops, place) else {
+        return Ok(None);
+    };
+    let told = drop_numbers(alloc, drop)?;
+    Ok(Some(told))
+}
+
+// The numbers of the outage at a place that rise from copy to copy, if there is one.
+fn told_of_outage(alloc: Global, draft: &Draft, place: usize) -> Result<Option<String>, AllocError>
+    ensures { IfOk result (λ told. IfSome told (λ s. TellsNumbers draft.now (BadOutage place) (string_bytes s))) }
+{
+    let Some(outage) = element(&draft.outages, place) else {
+        return Ok(None);
+    };
+    let told = outage_numbers(alloc, outage)?;
+    Ok(Some(told))
 }
 
 // The numbers of a member that rise from copy to copy.

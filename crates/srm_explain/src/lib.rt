@@ -4,6 +4,7 @@
 mod arrays;
 mod circles;
 mod copies;
+mod element;
 pub mod explanation;
 mod finding;
 mod flaw;

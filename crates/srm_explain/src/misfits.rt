@@ -6,6 +6,7 @@ ghost use Rattle.srm_scenario.specs.Faults.{fits_draw, fits_drop, fits_member, f
 ghost use Rattle.srm_explain.specs.Misfits.{links_of, members_of, Breaks, BreaksDraw, BreaksDrop, BreaksMember, BreaksOutage, BreaksSession, IsAway};
 ghost use Rattle.srm_scenario.specs.Presence.{is_present};
 
+use crate::element::element;
 use crate::misfit::Misfit;
 use srm_net::link::{DropSpec, OutageSpec};
 use srm_net::role::Role;
@@ -21,19 +22,19 @@ pub(crate) fn misfit_of(draft: &Draft, fault: ScenarioFault) -> Option<Misfit>
 {
     match fault {
         ScenarioFault::BadMember { place } => of_member(draft, place),
-        ScenarioFault::BadDraw { place } => match draft.draws.get(place) {
+        ScenarioFault::BadDraw { place } => match element(&draft.draws, place) {
             Some(draw) => of_draw(draft, draw),
             None => None,
         },
-        ScenarioFault::BadSession { place } => match draft.sessions.get(place) {
+        ScenarioFault::BadSession { place } => match element(&draft.sessions, place) {
             Some(session) => of_session(draft, session),
             None => None,
         },
-        ScenarioFault::BadDrop { place } => match draft.drops.get(place) {
+        ScenarioFault::BadDrop { place } => match element(&draft.drops, place) {
             Some(drop) => of_drop(links_of(draft), count_of_members(draft), drop),
             None => None,
         },
-        ScenarioFault::BadOutage { place } => match draft.outages.get(place) {
+        ScenarioFault::BadOutage { place } => match element(&draft.outages, place) {
             Some(outage) => of_outage(links_of(draft), outage),
             None => None,
         },
@@ -62,7 +63,7 @@ fn count_of_members(draft: &Draft) -> usize
 fn member_at(draft: &Draft, member: u16) -> Option<&MemberSpec>
     ensures { option_map (λ k. k.now) result ≡ slice_get (members_of draft.now) member }
 {
-    match draft.members.get(usize::from(member)) {
+    match element(&draft.members, usize::from(member)) {
         Some(entry) => Some(&entry.spec),
         None => None,
     }

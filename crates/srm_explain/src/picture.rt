@@ -55,7 +55,7 @@ fn line_at(text: &[u8], place: usize) -> (usize, usize) {
     let mut begin = 0usize;
     for (at, byte) in text.iter().enumerate() {
         if at >= place {
-            break;
+            return (number, begin);
         }
         if *byte == b'\n' {
             number = number.saturating_add(1);

@@ -2,6 +2,7 @@
 ghost use Rattle.std.specs.Prelude.{◌≡◌};
 ghost use Rattle.srm_explain.specs.Flaws.{is_reached};
 
+use crate::element::element;
 use srm_net::link::LinkSpec;
 use std::alloc::{AllocError, Global};
 
@@ -9,7 +10,7 @@ use std::alloc::{AllocError, Global};
 pub(crate) fn is_reached(reached: &[bool], node: u16) -> bool
     ensures { result ≡ is_reached reached.now node }
 {
-    match reached.get(usize::from(node)) {
+    match element(reached, usize::from(node)) {
         Some(reached) => *reached,
         None => false,
     }

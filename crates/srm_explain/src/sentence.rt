@@ -1,5 +1,6 @@
 //! What is said of what is wrong with the keys of a table.
 ghost use Rattle.std.specs.Prelude.{◌≡◌, IfOk, string_bytes};
+ghost use Rattle.srm_scenario.specs.declared.rule.Kind.TheVariants.{Word};
 ghost use Rattle.srm_explain.specs.Findings.{allowed, item_sentence, keys_of, length_sentence, passed_sentence, sentence_of};
 
 use crate::finding::Finding;
@@ -98,17 +99,9 @@ fn allowed(alloc: Global, kind: Kind) -> Result<String, AllocError>
             let allowed = format!(in alloc; "a whole number from {low} to {high}")?;
             Ok(allowed)
         }
-        Kind::Word(Words::Roles) => {
-            String::from_str(
-                alloc,
-                "one of \"sender\", \"receiver\", \"late\", \"listener\"",
-            )
-        }
-        Kind::Word(Words::Topologies) => {
-            String::from_str(alloc, "one of \"chain\", \"star\", \"tree\"")
-        }
-        Kind::Word(Words::TopologiesAndParents) => {
-            String::from_str(alloc, "one of \"chain\", \"star\", \"tree\", \"parents\"")
+        Kind::Word(words) => {
+            let allowed = String::from_str(alloc, allowed_words(words))?;
+            Ok(allowed)
         }
         Kind::Numbers(most, high) => {
             let allowed = format!(in alloc;
@@ -122,10 +115,25 @@ fn allowed(alloc: Global, kind: Kind) -> Result<String, AllocError>
             )?;
             Ok(allowed)
         }
-        Kind::Elements(most) => format!(in alloc; "an array of at most {most} tables"),
-        Kind::Repeated(most) => {
-            format!(in alloc; "an array of tables that stand for at most {most}")
+        Kind::Elements(most) => {
+            let allowed = format!(in alloc; "an array of at most {most} tables")?;
+            Ok(allowed)
         }
+        Kind::Repeated(most) => {
+            let allowed = format!(in alloc; "an array of tables that stand for at most {most}")?;
+            Ok(allowed)
+        }
+    }
+}
+
+// The words that a key may hold.
+fn allowed_words(words: Words) -> &'static str
+    ensures { result.now ≡ allowed (Word words) }
+{
+    match words {
+        Words::Roles => "one of \"sender\", \"receiver\", \"late\", \"listener\"",
+        Words::Topologies => "one of \"chain\", \"star\", \"tree\"",
+        Words::TopologiesAndParents => "one of \"chain\", \"star\", \"tree\", \"parents\"",
     }
 }
 

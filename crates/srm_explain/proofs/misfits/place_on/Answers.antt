@@ -1,4 +1,4 @@
-use Rattle.std.proofs.Common.{rules, ◌≡◌, ◌<◌, Some, length, get_or, slice_get, refl, eq-eqb}
+use Rattle.std.proofs.Common.{◌≡◌, Some, length, slice_get, refl, eq-eqb}
 use Rattle.std.proofs.lemmas.Option.{slice_get_read}
 use Rattle.srm_explain.proofs.Listed.{any_at}
 use Rattle.srm_explain.proofs.misfits.place_on.Goals as goal
@@ -8,8 +8,7 @@ returns-then-member-node c =
     let members = c.args.members.now in
     let place = c.loop-place.place in
     let member = c.index-members-place.result in
-    let within : place < length members = search rules in
-    let read : member ≡ get_or members place member = search rules in
-    let node : member.spec.node ≡ c.args.node = search rules in
-    let at : slice_get members place ≡ Some member = slice_get_read members (length members) place member refl within read in
+    let at : slice_get members place ≡ Some member =
+    slice_get_read members (length members) place member refl c.loop-place-test.true c.index-members-place.is in
+    let node = c.if-member-node.true in
     (any_at _ members place member at (eq-eqb member.spec.node c.args.node node), member, at, node)
