@@ -1,7 +1,10 @@
 //! Members of whole runs: each box is dropped exactly once, in both engines and with each crew, whatever comes of the
 //! run.
-ghost use Rattle.std.specs.Prelude.{◌≡◌};
+ghost use Rattle.std.specs.Prelude.{◌≡◌, ◌<◌, length, map, IfOk};
 ghost use Rattle.srm_scenario.specs.Plain.{network_of};
+ghost use Rattle.srm_member.specs.Record.{opening_record};
+ghost use Rattle.srm_cell.specs.Setting.{fixed_of};
+ghost use Rattle.srm_engine.specs.Openings.{HoldOpeningRecords};
 
 use crate::boxed::BoxCrew;
 use crate::opening::opened;
@@ -48,6 +51,65 @@ draw = [
 drop = [{ link = 0, sender = 0, count = 0 }]
 "#;
 
+// Member m of a scenario, made by its role with random words of seed 0, and watched.
+fn member_of(
+    alloc: Global,
+    scenario: &Scenario,
+    net: &Net,
+    m: u16,
+    watch: &mut Watch,
+) -> Result<Box<dyn Member>, AllocError>
+    requires member { m < length scenario.now.members }
+    requires network { net.now ≡ network_of scenario.now }
+    ensures { IfOk result (λ b. (⟦<dyn Member as Member>⟧ b.vtable).plain b.value
+        ≡ opening_record (fixed_of scenario.now net.now 0 m)) }
+{
+    match scenario.role(m) {
+        Role::Sender => {
+            let Ok(sender) = Sender::new(alloc, scenario, net, 0, m) else {
+                return Err(AllocError);
+            };
+            Ok(Box::new(alloc, watch.over(alloc, sender)?)?)
+        }
+        Role::Receiver => {
+            let Ok(receiver) = Receiver::new(alloc, scenario, net, 0, m) else {
+                return Err(AllocError);
+            };
+            Ok(Box::new(alloc, watch.over(alloc, receiver)?)?)
+        }
+        Role::Late => {
+            let Ok(late) = Late::new(alloc, scenario, net, 0, m) else {
+                return Err(AllocError);
+            };
+            Ok(Box::new(alloc, watch.over(alloc, late)?)?)
+        }
+        Role::Listener => {
+            let Ok(listener) = Listener::new(alloc, scenario, net, 0, m) else {
+                return Err(AllocError);
+            };
+            Ok(Box::new(alloc, watch.over(alloc, listener)?)?)
+        }
+    }
+}
+
+// All of them.
+fn members_of(
+    alloc: Global,
+    scenario: &Scenario,
+    net: &Net,
+    watch: &mut Watch,
+) -> Result<Vec<Box<dyn Member>>, AllocError>
+    requires { net.now ≡ network_of scenario.now }
+    ensures { IfOk result (λ members. HoldOpeningRecords scenario.now net.now 0
+        (map (λ b. (⟦<dyn Member as Member>⟧ b.vtable).plain b.value) members.items)) }
+{
+    let mut members = Vec::new(alloc);
+    for m in 0..scenario.members() {
+        members.push(member_of(alloc, scenario, net, m, watch)?)?;
+    }
+    Ok(members)
+}
+
 // Runs the members of a scenario, each watched: in windows, or else in the sequential run.
 fn run_watched<C: BoxCrew>(
     rt: &impl Abort,
@@ -62,36 +124,7 @@ fn run_watched<C: BoxCrew>(
     requires network { net.now ≡ network_of scenario.now }
     ensures { C.ready crew.new }
 {
-    let mut members: Vec<Box<dyn Member>> = Vec::new(alloc);
-    for m in 0..scenario.members() {
-        let member: Box<dyn Member> = match scenario.role(m) {
-            Role::Sender => {
-                let Ok(sender) = Sender::new(alloc, scenario, net, 0, m) else {
-                    return Err(AllocError);
-                };
-                Box::new(alloc, watch.over(alloc, sender)?)?
-            }
-            Role::Receiver => {
-                let Ok(receiver) = Receiver::new(alloc, scenario, net, 0, m) else {
-                    return Err(AllocError);
-                };
-                Box::new(alloc, watch.over(alloc, receiver)?)?
-            }
-            Role::Late => {
-                let Ok(late) = Late::new(alloc, scenario, net, 0, m) else {
-                    return Err(AllocError);
-                };
-                Box::new(alloc, watch.over(alloc, late)?)?
-            }
-            Role::Listener => {
-                let Ok(listener) = Listener::new(alloc, scenario, net, 0, m) else {
-                    return Err(AllocError);
-                };
-                Box::new(alloc, watch.over(alloc, listener)?)?
-            }
-        };
-        members.push(member)?;
-    }
+    let members = members_of(alloc, scenario, net, watch)?;
     let fault = match asked {
         Some(windows) => crew.run_boxes(alloc, scenario, net, members, windows),
         None => step_run(alloc, scenario, net, members).err(),

@@ -1,6 +1,9 @@
 //! A run whose rows a sink takes, in windows or one event at a time.
-ghost use Rattle.std.specs.Prelude.{◌≡◌, ◌<◌, ◌-◌, ◌^◌};
+ghost use Rattle.std.specs.Prelude.{◌≡◌, ◌<◌, ◌-◌, ◌^◌, length, map, IfOk};
 ghost use Rattle.srm_scenario.specs.Plain.{network_of};
+ghost use Rattle.srm_member.specs.Record.{opening_record};
+ghost use Rattle.srm_cell.specs.Setting.{fixed_of};
+ghost use Rattle.srm_engine.specs.Openings.{HoldOpeningRecords};
 ghost use Rattle.srm_engine.specs.Sinks.{IsOpen};
 
 use crate::opening::opened;
@@ -24,58 +27,64 @@ use std::process::Abort;
 use std::sync::Arc;
 use std::sync::atomic::AtomicU64;
 
-// Runs the members of a scenario, made by their roles with random words of seed 0, in windows or else in the sequential
-// run; the senders count how often they react. Why the run was refused, if it was.
-fn stream_members<S: RowSink>(
+// Member m of a scenario, made by its role with random words of seed 0; a sender counts how often it reacts.
+fn member_of(
+    alloc: Global,
+    scenario: &Scenario,
+    net: &Net,
+    m: u16,
+    reacts: &Arc<AtomicU64>,
+) -> Result<Box<dyn Member>, AllocError>
+    requires member { m < length scenario.now.members }
+    requires network { net.now ≡ network_of scenario.now }
+    ensures { IfOk result (λ b. (⟦<dyn Member as Member>⟧ b.vtable).plain b.value
+        ≡ opening_record (fixed_of scenario.now net.now 0 m)) }
+{
+    match scenario.role(m) {
+        Role::Sender => {
+            let Ok(inner) = Sender::new(alloc, scenario, net, 0, m) else {
+                return Err(AllocError);
+            };
+            let reacts = Arc::try_clone(reacts)?;
+            Ok(Box::new(alloc, Counted { inner, reacts })?)
+        }
+        Role::Receiver => {
+            let Ok(receiver) = Receiver::new(alloc, scenario, net, 0, m) else {
+                return Err(AllocError);
+            };
+            Ok(Box::new(alloc, receiver)?)
+        }
+        Role::Late => {
+            let Ok(late) = Late::new(alloc, scenario, net, 0, m) else {
+                return Err(AllocError);
+            };
+            Ok(Box::new(alloc, late)?)
+        }
+        Role::Listener => {
+            let Ok(listener) = Listener::new(alloc, scenario, net, 0, m) else {
+                return Err(AllocError);
+            };
+            Ok(Box::new(alloc, listener)?)
+        }
+    }
+}
+
+// All of them.
+fn members_of(
     alloc: Global,
     scenario: &Scenario,
     net: &Net,
     reacts: &Arc<AtomicU64>,
-    crew: &mut Recording,
-    asked: Option<Windows>,
-    sink: &mut S,
-) -> Result<Option<StreamFault>, AllocError>
-    requires network { net.now ≡ network_of scenario.now }
-    requires open { IsOpen (S.stage sink.old) }
-    requires failures { S.failures sink.old < 2 ^ 64 - 1 }
+) -> Result<Vec<Box<dyn Member>>, AllocError>
+    requires { net.now ≡ network_of scenario.now }
+    ensures { IfOk result (λ members. HoldOpeningRecords scenario.now net.now 0
+        (map (λ b. (⟦<dyn Member as Member>⟧ b.vtable).plain b.value) members.items)) }
 {
-    let mut members: Vec<Box<dyn Member>> = Vec::new(alloc);
+    let mut members = Vec::new(alloc);
     for m in 0..scenario.members() {
-        let member: Box<dyn Member> = match scenario.role(m) {
-            Role::Sender => {
-                let Ok(inner) = Sender::new(alloc, scenario, net, 0, m) else {
-                    return Err(AllocError);
-                };
-                let reacts = Arc::try_clone(reacts)?;
-                Box::new(alloc, Counted { inner, reacts })?
-            }
-            Role::Receiver => {
-                let Ok(receiver) = Receiver::new(alloc, scenario, net, 0, m) else {
-                    return Err(AllocError);
-                };
-                Box::new(alloc, receiver)?
-            }
-            Role::Late => {
-                let Ok(late) = Late::new(alloc, scenario, net, 0, m) else {
-                    return Err(AllocError);
-                };
-                Box::new(alloc, late)?
-            }
-            Role::Listener => {
-                let Ok(listener) = Listener::new(alloc, scenario, net, 0, m) else {
-                    return Err(AllocError);
-                };
-                Box::new(alloc, listener)?
-            }
-        };
-        members.push(member)?;
+        members.push(member_of(alloc, scenario, net, m, reacts)?)?;
     }
-    match asked {
-        Some(windows) => {
-            Ok(window_stream(alloc, scenario, net, members, crew, windows, sink).err())
-        }
-        None => Ok(step_stream(alloc, scenario, net, members, sink).err()),
-    }
+    Ok(members)
 }
 
 /// Runs the members of a scenario's text, made by their roles with random words of seed 0, in windows or else in the
@@ -93,7 +102,12 @@ pub(crate) fn stream_text<S: RowSink>(
     requires failures { S.failures sink.old < 2 ^ 64 - 1 }
 {
     let (scenario, net) = opened(rt, alloc, text)?;
-    stream_members(alloc, &scenario, &net, reacts, crew, asked, sink)
+    let members = members_of(alloc, &scenario, &net, reacts)?;
+    let fault = match asked {
+        Some(windows) => window_stream(alloc, &scenario, &net, members, crew, windows, sink).err(),
+        None => step_stream(alloc, &scenario, &net, members, sink).err(),
+    };
+    Ok(fault)
 }
 
 /// Asserts that a crew was handed windows up to these ticks and no other, each with one job of so many cells.

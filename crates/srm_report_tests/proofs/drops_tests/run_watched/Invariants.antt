@@ -1,8 +1,0 @@
-use Rattle.std.proofs.Common.{◌≡◌, map}
-use Rattle.srm_engine.specs.Outcomes.{records_from}
-use Rattle.srm_report_tests.proofs.drops_tests.run_watched.OwnLists.{own-1}
-use Rattle.srm_report_tests.proofs.drops_tests.run_watched.Given as goal
-
--- the members so far hold their opening records
-abbrev pub invariant-loop-m : goal.invariant-loop-m
-invariant-loop-m g l = map (λ b. (own-1.entry b.vtable).1.plain b.value) l.members.items ≡ records_from l.scenario l.net 0 0 l.m
