@@ -2,12 +2,10 @@
 use Rattle.std.proofs.Common.{◌≡◌, ◌⊎◌, ℕ, zero, suc, ◌+◌, ◌<◌, List, [], ◌∷◌, ◌++◌, length, Some, inl, inr, refl}
 use Rattle.std.proofs.Common.{sym, ap, ◌∙◌, subst, map, slice_get, arith, length-append, add-one, zero-add, Vec, Global}
 use Rattle.std.specs.List.{range_with_len}
-use Rattle.srm_net.specs.Orders.{Rises}
 use Rattle.srm_net.specs.Network.{Network}
 use Rattle.srm_scenario.specs.declared.mark.Mark.{Mark}
-use Rattle.srm_scenario.specs.Plain.{PlainScenario, mark_cmp, script_of}
+use Rattle.srm_scenario.specs.Plain.{PlainScenario, script_of}
 use Rattle.srm_scenario.specs.ScriptLists.{scripts_of}
-use Rattle.srm_scenario.proofs.Marks.{scripts_rise}
 use Rattle.srm_member.specs.Record.{Record, opening_record, fixed_part}
 use Rattle.srm_cell.specs.declared.cell.Cell.{Cell}
 use Rattle.srm_cell.specs.Setting.{Setting, setting_of, fixed_of}
@@ -164,13 +162,6 @@ module _ {M : Type 0} (f : M → Record) (p : PlainScenario) (net : Network) (se
       → OpenSoFar ns ws cs → OpenSoFar (m ∷ ms) (v ∷ vs) cs
   begins m ms ns v vs ws cs e d o =
       subst (λ (l : List (Vec Mark Global)). OpenSoFar (m ∷ ms) l cs) d (subst (λ (l : List M). OpenSoFar l ws cs) e o)
-
-  -- the next script rises
-  pub next_rises : (m : M) (ms ns : List M) (v : Vec Mark Global) (vs ws : List (Vec Mark Global)) (cs : List (Cell M)) → ns ≡ m ∷ ms
-      → ws ≡ v ∷ vs → OpenSoFar ns ws cs → Rises mark_cmp v.items
-  next_rises m ms ns v vs ws cs e d o =
-      let i = next_is m ms v vs cs (begins m ms ns v vs ws cs e d o) in
-      subst (λ (marks : List Mark). Rises mark_cmp marks) (sym i.script) (scripts_rise p (length cs))
 
   -- the cell of the next member is opened
   pub open_next : (m : M) (ms ns : List M) (v : Vec Mark Global) (vs ws : List (Vec Mark Global)) (cs : List (Cell M)) (c : Cell M)

@@ -2,7 +2,10 @@
 use Rattle.std.proofs.Common.{◌≡◌, ◌≢◌, ℕ, zero, suc, ◌<◌, true, false, List, [], ◌∷◌, length, Option, Some, None, Ok, Err, refl, sym, ap}
 use Rattle.std.proofs.Common.{◌∙◌, subst, slice_get, slice_set, ◌==◌, eqb-true, arith}
 use Rattle.std.proofs.lemmas.Bool.{eqb-false}
+use Rattle.std.proofs.lemmas.Grind.{common_steps}
 use Rattle.std.proofs.Math.ListN.{length-set}
+use Rattle.std.specs.declared.vec.IntoIter.{IntoIter}
+use Rattle.std.specs.Vec.Iter.{into_iter_items, into_iter_len}
 use Rattle.srm_member.specs.declared.row.Row.{Row}
 use Rattle.srm_member.specs.Record.{Record}
 use Rattle.srm_cell.specs.declared.cell.Cell.{Cell}
@@ -12,6 +15,10 @@ use Rattle.srm_cell.specs.Cells.{PlainCell, next_event, time_of, StepOutcome, St
 use Rattle.srm_cell.specs.Views.{IsCell, TellsStep}
 use Rattle.srm_engine.specs.Seen.{AreTimes, AreCellsInOrder, AreSeen, TellsOwnStep}
 use Rattle.srm_engine.proofs.Index.{get_set_same, get_set_other}
+
+-- an iterator with nothing left
+pub no_items : {X Z : Type 0} (it : IntoIter X Z) → into_iter_len it ≡ 0 → into_iter_items it ≡ []
+no_items it h = let ok = it.rest.ok in grind (arith, common_steps)
 
 pub same_some : {A : Type 0} (x y : A) → Some x ≡ Some y → x ≡ y
 same_some x y h = cc

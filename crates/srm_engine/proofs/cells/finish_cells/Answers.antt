@@ -1,10 +1,9 @@
-use Rattle.std.proofs.Common.{◌≡◌, List, [], ◌∷◌, ◌++◌, sym, ◌∙◌, ap, subst, append_assoc, append-nil, arith}
-use Rattle.std.proofs.lemmas.Grind.{common_steps}
-use Rattle.std.specs.Vec.Iter.{into_iter_items}
+use Rattle.std.proofs.Common.{◌≡◌, List, [], ◌∷◌, ◌++◌, sym, ◌∙◌, ap, subst, append_assoc, append-nil}
 use Rattle.srm_member.specs.declared.exit.Exit.{Exit}
 use Rattle.srm_engine.specs.Outcomes.{EndAs}
 use Rattle.srm_engine.proofs.ExitsKept.{never_spent}
 use Rattle.srm_engine.proofs.PhaseLemmas.{ended}
+use Rattle.srm_engine.proofs.SeenLemmas.{no_items}
 use Rattle.srm_engine.proofs.cells.finish_cells.Goals as goal
 
 pub loop-cell-init : goal.loop-cell-init
@@ -41,8 +40,7 @@ unreachable-requires-in-Err-CountFull g c =
 
 pub returns : goal.returns
 returns g c =
-    let h = c.loop-cell.cell-iterator.rest.ok in
-    let none : into_iter_items c.loop-cell.cell-iterator ≡ [] = grind (arith, common_steps) in
+    let none = no_items c.loop-cell.cell-iterator c.in-None.ensures.steps.0 in
     subst (λ (es : List Exit). EndAs g.M.Participant.plain c.args.cells.items es)
     (append-nil c.loop-cell.exits.items)
     (c.loop-cell.invariant.2 [] (rw none tt))

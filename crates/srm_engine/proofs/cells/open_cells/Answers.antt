@@ -1,13 +1,9 @@
-use Rattle.std.proofs.Common.{◌≡◌, inl, inr, [], sym, ◌∙◌, ap, subst, map, arith}
-use Rattle.std.proofs.lemmas.Grind.{common_steps}
-use Rattle.std.specs.declared.vec.IntoIter.{IntoIter}
-use Rattle.std.specs.Vec.Iter.{into_iter_items, into_iter_len}
+use Rattle.std.proofs.Common.{inl, inr, sym, ◌∙◌, ap, subst, map, arith}
+use Rattle.std.specs.Vec.Iter.{into_iter_items}
 use Rattle.std.specs.Iterator.Adapters.{zip_first, zip_second}
 use Rattle.srm_engine.proofs.Opened.{OpenSoFar, open_none, open_next, open_all}
+use Rattle.srm_engine.proofs.SeenLemmas.{no_items}
 use Rattle.srm_engine.proofs.cells.open_cells.Goals as goal
-
-no_items : {X Z : Type 0} (it : IntoIter X Z) → into_iter_len it ≡ 0 → into_iter_items it ≡ []
-no_items it h = let ok = it.rest.ok in grind (arith, common_steps)
 
 pub loop-member-init : goal.loop-member-init
 loop-member-init g c =
