@@ -83,8 +83,8 @@ module _ {M : Type 0} where
 
   -- the cell of member m is seen as this plain cell, where f is what is seen of its box. A cell whose member is gone
   -- may be seen as several plain cells: its box was dropped, and with it the member's part that never changes, so its
-  -- record may be gone with any such part. Nothing depends on which: a record that is gone has no timer and no answer,
-  -- what the member ended with stands in the exit, and no definition looks at the part that a gone record keeps
+  -- record may be gone with any such part. No step, promise or end depends on which: a record that is gone has no timer
+  -- and no answer, and what the member ended with stands in the exit
   pub record IsCell (f : M → Record) (m : ℕ) (c : Cell M) (p : PlainCell) : Type 0 where
     pub parts : HasParts f m c p
     -- what the cell keeps as its next event is that

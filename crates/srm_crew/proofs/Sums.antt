@@ -15,6 +15,7 @@ use Rattle.srm_cell.specs.Jobs.{OwnCell, PlainJob, IsDone, RanEach}
 use Rattle.srm_cell.proofs.CrossingLemmas.{crossings_add}
 use Rattle.srm_cell.proofs.RowPackets.{nothing_counted, numbers_are}
 use Rattle.srm_crew.specs.Crews.{counted_in, sum_at, rows_of, AreRowsOf, AreRowsOfSome}
+use Rattle.srm_ledger.proofs.Keeps.{replicate_zero}
 
 -- ---- numbers
 
@@ -29,11 +30,6 @@ pub word_of_added : (xs ys : List ℕ) → length xs ≡ length ys → (k : ℕ)
 word_of_added xs ys e zero = omega arith
 word_of_added xs ys e (suc k) = word_added xs ys e k
 
-zeros : (n k : ℕ) → slice_index (replicate n 0) k ≡ 0
-zeros zero k = refl
-zeros (suc n) zero = refl
-zeros (suc n) (suc k) = zeros n k
-
 five_each : (s : Traffic) (ps : List Packet) (l n : ℕ) → length (flat_map (crossings_at s ps) (range_with_len l n)) ≡ 5 * n
 five_each s ps l zero = refl
 five_each s ps l (suc n) = let e = five_each s ps (l + 1) n in omega (arith, e)
@@ -44,7 +40,7 @@ crossings_long s rows = five_each s (packets_of rows) 0 s.links
 
 pub none_crossed : (s : Traffic) (k : ℕ) → counted_in (crossings s []) k ≡ 0
 none_crossed s zero = refl
-none_crossed s (suc k) = ap (λ ns. slice_index ns k) (sym (nothing_counted s ∙ numbers_are s [])) ∙ zeros (5 * s.links) k
+none_crossed s (suc k) = ap (λ ns. slice_index ns k) (sym (nothing_counted s ∙ numbers_are s [])) ∙ replicate_zero (5 * s.links) k
 
 -- ---- all that is done
 

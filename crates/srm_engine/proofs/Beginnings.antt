@@ -10,9 +10,10 @@ use Rattle.srm_engine.specs.Seen.{AreTimes}
 use Rattle.srm_model.specs.Windows.{least_with}
 use Rattle.srm_model.specs.WindowChains.{start_of}
 use Rattle.srm_engine.specs.Soonest.{IsLeast, due}
-use Rattle.srm_engine.proofs.SoonLemmas.{Any, with_le, with_in, with_one, least_is_one}
+use Rattle.srm_engine.proofs.SoonLemmas.{Any, with_in, with_one, least_is_one}
 use Rattle.srm_engine.proofs.Stepping.{time_and_member, least_is_event}
 use Rattle.srm_engine.proofs.SeenLemmas.{same_some}
+use Rattle.srm_model.proofs.Lookahead.{least_with_le}
 
 abbrev least_among : ℕ → ℕ → List PlainCell → ℕ
 least_among n i [] = n
@@ -68,7 +69,7 @@ of_event n (Some e) = refl
 
 among_most : (n i : ℕ) (cs : List PlainCell) → least_among n i cs ≤ n
 among_most n i [] = omega arith
-among_most n i (c ∷ cs) = let more = among_most (least_with n (due i c)) (suc i) cs in let le = with_le n (due i c) in omega arith
+among_most n i (c ∷ cs) = let more = among_most (least_with n (due i c)) (suc i) cs in let le = least_with_le n (due i c) in omega arith
 
 among_none_less : (n i : ℕ) (cs : List PlainCell) (j : ℕ) (c : PlainCell) (u : ℕ) → slice_get cs j ≡ Some c → due (i + j) c ≡ Some u
     → least_among n i cs ≤ u

@@ -27,7 +27,8 @@ use Rattle.srm_crew.proofs.Zips.{zip_append}
 use Rattle.srm_engine.specs.Seen.{AreCellsInOrder}
 use Rattle.srm_engine.specs.Groups.{all_in, sizes}
 use Rattle.srm_engine.specs.SentRows.{MayBeSent}
-use Rattle.srm_engine.proofs.SeenLemmas.{same_some, there}
+use Rattle.srm_engine.proofs.SeenLemmas.{same_some}
+use Rattle.srm_net.proofs.Lists.{below_get}
 
 one_hears : (t : Traffic) (m : ℕ) (xs ys : List Row) (c : PlainCell) → hear_rows t m (xs ++ ys) c ≡ hear_rows t m ys (hear_rows t m xs c)
 one_hears t m [] ys c = refl
@@ -141,7 +142,7 @@ module _ {M : Type 0} (f : M → Record) where
       → length ps ≡ s.traffic.members → AreNewInTurn s.traffic rows ps → AllMayHear f s.traffic (packets_of rows) cs
   cells_may s rows cs ps h many new = λ j d lt.
       let as_many = h.as_many in
-      let p = there ps j (omega (arith, as_many)) in (
+      let p = below_get ps j (omega (arith, as_many)) in (
         j,
         p.0,
         h.each j (get_or cs j d) p.0 (slice_get-get_or cs j d lt) p.1,

@@ -20,7 +20,7 @@ use Rattle.srm_cell.specs.Jobs as cell
 use Rattle.srm_cell.proofs.CrossingLemmas.{crossings_add}
 use Rattle.srm_cell.proofs.RowPackets.{joined-append}
 use Rattle.srm_crew.specs.Crews.{AreJobs, AnyEnds, HasGrown, counted_in, rows_of}
-use Rattle.srm_crew.proofs.Sums.{crossings_long}
+use Rattle.srm_crew.proofs.Sums.{crossings_long, word_of_added}
 use Rattle.srm_model.specs.WindowRuns.{OwnResult, AreOwnRuns, rows_in, cells_in, WindowJob, jobs_within, jobs_from, AreJobRuns}
 use Rattle.srm_engine.specs.Groups.{numbered, handed_jobs, AreCuts, sizes, all_in, jobs_with, groups_of, lists_of, some_of}
 use Rattle.srm_engine.specs.Windowed.{IsCounted}
@@ -264,17 +264,6 @@ all_some P ([] ∷ ls) h = all_some P ls (All-tail P [] ls h)
 all_some P ((x ∷ xs) ∷ ls) h = All-cons P (x ∷ xs) (some_of ls) (All-head P (x ∷ xs) ls h) (all_some P ls (All-tail P (x ∷ xs) ls h))
 
 -- ---- crossings
-
-word_added : (xs ys : List ℕ) → length xs ≡ length ys → (k : ℕ) → slice_index (added_each xs ys) k ≡ slice_index xs k + slice_index ys k
-word_added [] [] e k = omega arith
-word_added [] (y ∷ ys) e k = absurd (omega arith)
-word_added (x ∷ xs) [] e k = absurd (omega arith)
-word_added (x ∷ xs) (y ∷ ys) e zero = refl
-word_added (x ∷ xs) (y ∷ ys) e (suc k) = word_added xs ys (omega arith) k
-
-word_of_added : (xs ys : List ℕ) → length xs ≡ length ys → (k : ℕ) → counted_in (added_each xs ys) k ≡ counted_in xs k + counted_in ys k
-word_of_added xs ys e zero = omega arith
-word_of_added xs ys e (suc k) = word_added xs ys e k
 
 word_joined : (t : Traffic) (qs rs : List Row) (k : ℕ) → counted_in (crossings t (qs ++ rs)) k
     ≡ counted_in (crossings t qs) k + counted_in (crossings t rs) k

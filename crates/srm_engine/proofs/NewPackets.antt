@@ -17,8 +17,8 @@ use Rattle.srm_model.specs.Hearing.{IsUnheard}
 use Rattle.srm_model.proofs.RunLemmas.{Seq, rest, next}
 use Rattle.srm_model.proofs.Sequential.{Good, step_facts, good_step, good_opening, run_seq, get_below}
 use Rattle.srm_model.proofs.StrictRuns.{Strict, strict_step, strict_opening, sent_of, sent_here}
-use Rattle.srm_engine.proofs.Index.{get_set_same, get_set_other}
 use Rattle.srm_engine.proofs.SeenLemmas.{same_some}
+use Rattle.srm_net.proofs.Lists.{get_set_same, get_set_other}
 
 abbrev WereSent : List PlainCell → List Flight → Type 0
 WereSent cs fs = AllIn (λ f. f.packet.id.count < sent_of cs f.packet.id.sender) fs

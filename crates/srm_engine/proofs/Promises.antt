@@ -18,8 +18,9 @@ use Rattle.srm_cell.specs.Cells.{PlainCell, time_of, next_event}
 use Rattle.srm_model.specs.Windows.{least_distance, promise_by, promise_of, least_promise, way_of}
 use Rattle.srm_engine.specs.Ends.{KeepFixed}
 use Rattle.srm_engine.specs.Soonest.{IsLeast, promised}
-use Rattle.srm_engine.proofs.SoonLemmas.{Any, with_le, with_in, with_one}
+use Rattle.srm_engine.proofs.SoonLemmas.{Any, with_in, with_one}
 use Rattle.srm_engine.proofs.SeenLemmas.{same_some}
+use Rattle.srm_model.proofs.Lookahead.{least_with_le}
 
 -- no promise without a way
 no_promise : (x : Option ℕ) → promise_by x None ≡ None
@@ -42,7 +43,7 @@ module _ (s : Setting) where
 
   promise_most : (i : ℕ) (cs : List PlainCell) → least_promise s i cs ≤ s.traffic.until
   promise_most i [] = omega arith
-  promise_most i (c ∷ cs) = let more = promise_most (i + 1) cs in let le = with_le (least_promise s (i + 1) cs) (promise_of s i c) in
+  promise_most i (c ∷ cs) = let more = promise_most (i + 1) cs in let le = least_with_le (least_promise s (i + 1) cs) (promise_of s i c) in
       omega arith
 
   promise_none_less : (i : ℕ) (cs : List PlainCell) (j : ℕ) (c : PlainCell) (u : ℕ) → slice_get cs j ≡ Some c → promise_of s (i + j) c
@@ -56,7 +57,7 @@ module _ (s : Setting) where
   promise_none_less i (x ∷ cs) (suc j) c u h e =
       let at : (i + 1) + j ≡ i + suc j = omega arith in
       let more = promise_none_less (i + 1) cs j c u h (ap (λ m. promise_of s m c) at ∙ e) in
-      let le = with_le (least_promise s (i + 1) cs) (promise_of s i x) in
+      let le = least_with_le (least_promise s (i + 1) cs) (promise_of s i x) in
       omega arith
 
   abbrev Some_promise : ℕ → List PlainCell → ℕ → Type 0

@@ -14,7 +14,7 @@ use Rattle.srm_cell.specs.declared.fault.CellFault.TheVariants as fault
 use Rattle.srm_cell.specs.Cells.{PlainCell, next_event, time_of, StepOutcome, Stepped}
 use Rattle.srm_cell.specs.Views.{IsCell, TellsStep}
 use Rattle.srm_engine.specs.Seen.{AreTimes, AreCellsInOrder, AreSeen, TellsOwnStep}
-use Rattle.srm_engine.proofs.Index.{get_set_same, get_set_other}
+use Rattle.srm_net.proofs.Lists.{get_set_same, get_set_other, below_get}
 
 -- an iterator with nothing left
 pub no_items : {X Z : Type 0} (it : IntoIter X Z) → into_iter_len it ≡ 0 → into_iter_items it ≡ []
@@ -95,7 +95,3 @@ module _ {M : Type 0} where
   not_taken f m p ps o fault.Spent c cs ts h = h
   not_taken f m p ps o fault.CountFull c cs ts h = h
 
-pub there : {A : Type 0} (xs : List A) (i : ℕ) → i < length xs → (x : A) × (slice_get xs i ≡ Some x)
-there [] i h = absurd (omega arith)
-there (x ∷ xs) zero h = (x, refl)
-there (x ∷ xs) (suc i) h = there xs i (omega arith)

@@ -27,12 +27,12 @@ use Rattle.srm_engine.specs.Groups.{AreCuts, AreGrouped, sizes, all_in}
 use Rattle.srm_model.specs.WindowRuns.{OwnResult, AreOwnRuns, cells_in}
 use Rattle.srm_engine.specs.Soonest.{IsSoonest, AreSoonest, AreThose, IsInRange, due}
 use Rattle.srm_engine.proofs.CellLists.{first_cut, no_more_groups, in_group, at_place}
-use Rattle.srm_engine.proofs.Index.{get_set_same, get_set_other}
 use Rattle.srm_model.proofs.OneWindow.{as_many_results}
 use Rattle.srm_model.proofs.RunLemmas.{shifted}
-use Rattle.srm_engine.proofs.SeenLemmas.{same_some, there}
+use Rattle.srm_engine.proofs.SeenLemmas.{same_some}
 use Rattle.srm_model.proofs.Sequential.{get_below}
 use Rattle.srm_engine.proofs.SoonLemmas.{NoLater, soon_same_cells, soon_same_members}
+use Rattle.srm_net.proofs.Lists.{get_set_same, get_set_other, below_get}
 
 -- ---- the members of a group
 
@@ -74,7 +74,7 @@ module _ {M : Type 0} (f : M → Record) (cut : ℕ) (gs : List (Vec (Cell M))) 
       let within = at.within in
       let inside : k * cut + j < length (all_in gs) = omega arith in
       let all = h.cells.as_many in
-      let p = there ps (k * cut + j) (omega arith) in
+      let p = below_get ps (k * cut + j) (omega arith) in
       let here = in_group cut gs (k * cut + j) k j pos h.cuts refl (omega arith) inside in
       (p.0, p.1, h.cells.each (k * cut + j) c p.0 (here.get g ∙ ap (λ l. slice_get l j) (sym own) ∙ get) p.1)
 
@@ -119,7 +119,7 @@ as_many_kept s cut gs xs ps pos cuts all soon = elim (nat_lt (length xs) (length
       | true ↦ λ e.
           let k = length xs in
           let lt : k < length gs = grind (arith, nat_tests) in
-          let d = there gs k lt in
+          let d = below_get gs k lt in
           let at = group_within cut gs k d.0 pos cuts lt in
           let some = at.some in
           let within = at.within in
@@ -168,7 +168,7 @@ soonest_idle s cut k end ps rs x alone late h =
     (λ m c p get.
     let many = as_many_results end 0 ps rs alone in
     let below = get_below (cells_in rs) m c get in
-    let q = there ps m (omega arith) in
+    let q = below_get ps m (omega arith) in
     q.1 ∙ sym (stays m q.0 p q.1) ∙ get)
     h
   where

@@ -5,7 +5,6 @@ use Rattle.std.proofs.lemmas.Bool.{eqb-false}
 use Rattle.std.proofs.lemmas.Bool.Decides.{nat_tests}
 use Rattle.std.proofs.lemmas.Option.{slice_get_within}
 use Rattle.std.proofs.Math.ListN.{length-set}
-use Rattle.srm_engine.proofs.Index.{get_set_same, get_set_other}
 use Rattle.srm_engine.proofs.SeenLemmas.{same_some}
 use Rattle.srm_model.proofs.Sequential.{get_below}
 use Rattle.srm_cell.specs.Setting.{Setting}
@@ -13,14 +12,12 @@ use Rattle.srm_cell.specs.Cells.{PlainCell}
 use Rattle.srm_engine.specs.declared.soonest.Soonest.{Soonest}
 use Rattle.srm_model.specs.Windows.{least_with, promise_by, way_of}
 use Rattle.srm_engine.specs.Soonest.{IsLeast, IsSoonest, AreSoonest, IsInRange, due, promised}
+use Rattle.srm_net.proofs.Lists.{get_set_same, get_set_other}
+use Rattle.srm_model.proofs.Lookahead.{least_with_le}
 
 -- where the second is there at all, and is no later
 abbrev pub NoLater : Option ℕ → Option ℕ → Type 0
 NoLater x y = (u : ℕ) → x ≡ Some u → (v : ℕ) × (y ≡ Some v) × (v ≤ u)
-
-pub with_le : (n : ℕ) (o : Option ℕ) → least_with n o ≤ n
-with_le n None = omega arith
-with_le n (Some k) = omega arith
 
 pub with_in : (n u : ℕ) (o : Option ℕ) → o ≡ Some u → least_with n o ≤ u
 with_in n u None h = cc
@@ -50,7 +47,7 @@ module _ (g : ℕ → PlainCell → Option ℕ) (n : ℕ) where
   pub one_more : (i k : ℕ) (ps : List PlainCell) (t : ℕ) (p : PlainCell) → slice_get ps (i + k) ≡ Some p → IsLeast g (IsInRange i k) n ps t
       → IsLeast g (IsInRange i (k + 1)) n ps (least_with t (g (i + k) p))
   one_more i k ps t p at h = record {
-    most = let a = with_le t (g (i + k) p) in let b = h.most in omega arith;
+    most = let a = least_with_le t (g (i + k) p) in let b = h.most in omega arith;
     none_less = λ m c u q get e. elim (m == i + k) as (λ b. (m == i + k) ≡ b → least_with t (g (i + k) p) ≤ u) [
       | true ↦ λ r.
           let here : m ≡ i + k = eqb-true m (i + k) r in
@@ -61,7 +58,7 @@ module _ (g : ℕ → PlainCell → Option ℕ) (n : ℕ) where
           let a = q.0 in
           let b = q.1 in
           let old = h.none_less m c u (a, omega arith) get e in
-          let le = with_le t (g (i + k) p) in
+          let le = least_with_le t (g (i + k) p) in
           omega arith
     ] refl;
     one = by (with_one t (g (i + k) p)) h.one;
@@ -81,7 +78,7 @@ module _ (g : ℕ → PlainCell → Option ℕ) (n : ℕ) where
         → IsLeast g P n ps t
         → IsLeast g P n (slice_set ps m r) (least_with t (g m r))
     sooner_at ps t m q r p at early h = record {
-      most = let a = with_le t (g m r) in let b = h.most in omega arith;
+      most = let a = least_with_le t (g m r) in let b = h.most in omega arith;
       none_less = λ j c u pj get e. elim (m == j) as (λ b. (m == j) ≡ b → least_with t (g m r) ≤ u) [
         | true ↦ λ x.
             let here : m ≡ j = eqb-true m j x in
@@ -91,7 +88,7 @@ module _ (g : ℕ → PlainCell → Option ℕ) (n : ℕ) where
         | false ↦ λ x.
             let ne = eqb-false m j x in
             let old = h.none_less j c u pj (sym (get_set_other ps m j r ne) ∙ get) e in
-            let le = with_le t (g m r) in
+            let le = least_with_le t (g m r) in
             omega arith
       ] refl;
       one = by (with_one t (g m r)) h.one;

@@ -28,8 +28,7 @@ use Rattle.srm_engine.specs.NextTimes.{sooner_time, least_of_times}
 use Rattle.srm_model.specs.Hearing.{heard_below, all_hear}
 use Rattle.srm_engine.specs.Seen.{AreTimes}
 use Rattle.srm_model.specs.Totalled.{MaySend, and_sent}
-use Rattle.srm_engine.proofs.Index.{get_set_same, get_set_other}
-use Rattle.srm_engine.proofs.SeenLemmas.{same_some, there}
+use Rattle.srm_engine.proofs.SeenLemmas.{same_some}
 use Rattle.srm_engine.proofs.Hearing.{get_heard, if_below}
 use Rattle.srm_model.proofs.RunLemmas.{least_own, run_by, run_first, step_none, step_is, after_stepped}
 use Rattle.srm_model.proofs.Settled.{at_member, get_after}
@@ -38,6 +37,7 @@ use Rattle.srm_model.proofs.Sequential.{good_reached, step_facts, get_below}
 use Rattle.srm_engine.proofs.NewPackets.{strict_reached, is_new}
 use Rattle.srm_model.proofs.LawProofs.{never_spent, run_on}
 use Rattle.srm_net.specs.Limits.{end_of_time}
+use Rattle.srm_net.proofs.Lists.{get_set_same, get_set_other, below_get}
 
 -- ---- the least event of all has the least of the next times
 
@@ -228,7 +228,7 @@ module _ (s : Setting) (m : ℕ) (d : Stepped) (cs : List PlainCell) (lt : m < l
 
   here : (j : ℕ) (f : PlainCell → PlainCell) → m ≡ j → f d.cell ≡ d.cell → Placed j f
   here j f e same =
-      let c = there cs m lt in
+      let c = below_get cs m lt in
       let at : slice_get cs j ≡ Some c.0 = ap (slice_get cs) (sym e) ∙ c.1 in
       let now : slice_get (slice_set cs m d.cell) j ≡ Some d.cell = ap (slice_get (slice_set cs m d.cell)) (sym e)
       ∙ get_set_same cs m d.cell lt in

@@ -61,6 +61,7 @@ use Rattle.srm_model.proofs.WindowRows.{own_rows_are_sorted}
 use Rattle.srm_model.proofs.AnyOrder.{packets_are_heard_in_any_order, heard_by_packets}
 use Rattle.srm_model.proofs.WindowEnds.{widths_are_rules, promises_are_a_rule, starts_tell}
 use Rattle.srm_model.proofs.WindowChain.{windows_are_reached, windows_follow, refused_windows_meet_full, calls_follow}
+use Rattle.srm_ledger.proofs.Keeps.{replicate_zero}
 
 -- ---- windows
 
@@ -318,14 +319,9 @@ module _ {M : Type 0} (f : M → Record) (e : WindowEngine M) (is : IsUnderWay f
 
 -- ---- the beginning of a run
 
-zeros : (n k : ℕ) → slice_index (replicate n 0) k ≡ 0
-zeros zero k = refl
-zeros (suc n) zero = refl
-zeros (suc n) (suc k) = zeros n k
-
 none_crossed : (t : Traffic) (k : ℕ) → counted_in (crossings t []) k ≡ 0
 none_crossed t zero = refl
-none_crossed t (suc k) = ap (λ ns. slice_index ns k) (sym (nothing_counted t ∙ numbers_are t [])) ∙ zeros (5 * t.links) k
+none_crossed t (suc k) = ap (λ ns. slice_index ns k) (sym (nothing_counted t ∙ numbers_are t [])) ∙ replicate_zero (5 * t.links) k
 
 -- a whole seat at the beginning counts the rows of the opening world
 pub opened_counted : (s : Setting) (l : LedgerView) (links : ℕ) (seat : SeatView) → seat ≡ whole_seat l.name links
@@ -333,7 +329,7 @@ pub opened_counted : (s : Setting) (l : LedgerView) (links : ℕ) (seat : SeatVi
 opened_counted s l links seat whole = record {
   ledger = ap (λ (v : SeatView). v.ledger) whole;
   weight = ap (λ (v : SeatView). v.weight) whole;
-  shares = λ k. ap (λ (v : SeatView). slice_index v.shares k) whole ∙ zeros (words_of links) k ∙ sym (none_crossed s.traffic k)
+  shares = λ k. ap (λ (v : SeatView). slice_index v.shares k) whole ∙ replicate_zero (words_of links) k ∙ sym (none_crossed s.traffic k)
       ∙ ap (λ rows. counted_in (crossings s.traffic rows) k) (sym (opening_trace s));
 }
 

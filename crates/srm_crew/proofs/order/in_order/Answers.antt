@@ -1,10 +1,7 @@
 use Rattle.std.proofs.Common.{Result, Ok, Err, IfOk, arith}
 use Rattle.srm_crew.proofs.Ordering.{all_full, ordered}
 use Rattle.srm_crew.proofs.order.in_order.Goals as goal
-
-if_ok : {A E : Type 0} (P Q : A → Type 0) (r : Result A E) → IfOk r P → ((a : A) → P a → Q a) → IfOk r Q
-if_ok P Q (Ok a) h f = f a h
-if_ok P Q (Err e) h f = tt
+use Rattle.srm_team.proofs.Filling.{if_ok}
 
 pub collect-requires : goal.collect-requires
 collect-requires g c = λ p lt.

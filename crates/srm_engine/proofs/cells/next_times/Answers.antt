@@ -6,9 +6,10 @@ use Rattle.srm_cell.specs.declared.cell.Cell.{Cell}
 use Rattle.srm_cell.specs.Cells.{PlainCell}
 use Rattle.srm_cell.specs.Views.{IsNextTime}
 use Rattle.srm_engine.specs.Seen.{AreCellsInOrder, AreTimes}
-use Rattle.srm_engine.proofs.SeenLemmas.{same_some, there}
+use Rattle.srm_engine.proofs.SeenLemmas.{same_some}
 use Rattle.srm_engine.proofs.SoonGroups.{pushed_each}
 use Rattle.srm_engine.proofs.cells.next_times.Goals as goal
+use Rattle.srm_net.proofs.Lists.{below_get}
 
 -- the next time of each cell is that of what the cell is seen as
 times_of : {M : Type 0} (f : M → Record) (cs : List (Cell M)) (ps : List PlainCell) (ts : List (Option ℕ)) → AreCellsInOrder f cs ps
@@ -20,8 +21,8 @@ times_of f cs ps ts h long told = record {
   each = λ j p g.
       let many = h.as_many in
       let lt = slice_get_within ps j p g in
-      let t = there ts j (omega arith) in
-      let c = there cs j (omega arith) in
+      let t = below_get ts j (omega arith) in
+      let c = below_get cs j (omega arith) in
       t.1 ∙ ap Some (told j t.0 t.1 c.0 c.1 j p (h.each j c.0 p c.1 g));
 }
 

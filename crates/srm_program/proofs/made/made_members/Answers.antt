@@ -1,7 +1,7 @@
 use Rattle.std.proofs.Common.{◌≡◌, ◌∙◌, length, map, ap, arith}
 use Rattle.srm_engine.specs.Openings.{records_from}
 use Rattle.srm_program.specs.Unboxed.{record_made}
-use Rattle.srm_program.proofs.Openings.{opening-push}
+use Rattle.srm_engine.proofs.Openings.{opening-push}
 use Rattle.srm_program.proofs.made.made_members.Goals as goal
 
 pub loop-m-preserved : goal.loop-m-preserved

@@ -1,5 +1,5 @@
 use Rattle.std.proofs.Common.{◌∙◌, map, ap}
-use Rattle.srm_report_tests.proofs.Openings.{opening-push}
+use Rattle.srm_engine.proofs.Openings.{opening-push}
 use Rattle.srm_report_tests.proofs.drops_tests.members_of.Goals as goal
 
 pub loop-m-preserved : goal.loop-m-preserved

@@ -7,9 +7,10 @@ use Rattle.srm_model.specs.Hearing.{heard_below}
 use Rattle.srm_engine.specs.Seen.{ShowCells}
 use Rattle.srm_engine.specs.Engines.{traffic_in}
 use Rattle.srm_engine.proofs.Hearing.{none_heard, length_heard, get_next, heard_next}
-use Rattle.srm_engine.proofs.SeenLemmas.{there, set_same}
+use Rattle.srm_engine.proofs.SeenLemmas.{set_same}
 use Rattle.srm_engine.proofs.engine.Engine.deliver.Goals.{in-Some+in_ok-hand, in_default}
 use Rattle.srm_engine.proofs.engine.Engine.deliver.Goals as goal
+use Rattle.srm_net.proofs.Lists.{below_get}
 
 pub loop-member-init : goal.loop-member-init
 loop-member-init g c = (
@@ -48,7 +49,7 @@ hand-requires-clause-new g c = λ cell e.
     let old = n.seen.cells.as_many in
     let members = n.members in
     let within : c.loop-member.member < length n.cells = omega arith in
-    let p = there n.cells c.loop-member.member within in
+    let p = below_get n.cells c.loop-member.member within in
     let is = seen.cells.each c.loop-member.member cell p.0 e (get_next t c.args.packet.now c.loop-member.member n.cells ∙ p.1) in
     subst (BringsNone c.args.packet.now.id) is.parts.inbox (n.new c.loop-member.member p.0 p.1)
 
@@ -68,7 +69,7 @@ loop-member-preserved g c =
             let old = h.cells.as_many in
             let members = c.requires.may.members in
             let within : m < length ps = omega arith in
-            let q = there ps m within in
+            let q = below_get ps m within in
             let heard = heard_below t p m 0 ps in
             subst (λ (qs : List PlainCell). ShowCells (λ b. (goal.Member-dyn g (b.vtable, b.value)).plain b.value) w.hand.new.self qs)
             (ap (slice_set heard m) (sym (hears_at t p m w.in-Some.at q.0 (flight ∙ w.in-Some.is))) ∙ heard_next t p m ps q.0 q.1)
@@ -81,7 +82,7 @@ loop-member-preserved g c =
             let old = h.cells.as_many in
             let members = c.requires.may.members in
             let within : m < length ps = omega arith in
-            let q = there ps m within in
+            let q = below_get ps m within in
             let heard = heard_below t p m 0 ps in
             subst (λ (qs : List PlainCell). ShowCells (λ b. (goal.Member-dyn g (b.vtable, b.value)).plain b.value) c.loop-member.self.cells
             qs)

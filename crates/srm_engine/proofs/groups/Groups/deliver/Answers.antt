@@ -6,9 +6,10 @@ use Rattle.srm_cell.proofs.Hearings.{hears_not, hears_at}
 use Rattle.srm_model.specs.Hearing.{heard_below}
 use Rattle.srm_engine.specs.Groups.{AreKept}
 use Rattle.srm_engine.proofs.Hearing.{none_heard, length_heard, get_next, heard_next}
-use Rattle.srm_engine.proofs.SeenLemmas.{there, set_same}
+use Rattle.srm_engine.proofs.SeenLemmas.{set_same}
 use Rattle.srm_engine.proofs.groups.Groups.deliver.Goals.{in-Some+in_ok-hand, in_default}
 use Rattle.srm_engine.proofs.groups.Groups.deliver.Goals as goal
+use Rattle.srm_net.proofs.Lists.{below_get}
 
 pub loop-member-init : goal.loop-member-init
 loop-member-init g c = (
@@ -28,7 +29,7 @@ hand-requires g c =
     let same = length_heard t c.args.packet.now c.loop-member.member 0 n.cells in
     let members = n.many in
     let within : c.loop-member.member < length n.cells = omega arith in
-    let p = there n.cells c.loop-member.member within in record {
+    let p = below_get n.cells c.loop-member.member within in record {
       cut = kept.cut.0;
       cuts = kept.grouped.cuts;
       member = omega arith;
@@ -54,7 +55,7 @@ loop-member-preserved g c =
             let old = h.grouped.cells.as_many in
             let was = c.requires.may.1.seen.grouped.cells.as_many in
             let within : m < length ps = omega arith in
-            let q = there ps m within in
+            let q = below_get ps m within in
             let heard = heard_below t p m 0 ps in
             subst (λ (qs : List PlainCell). AreKept g.M.Participant.plain
             (setting_of c.args.scenario.now c.args.net.now seed) w.hand.new.self qs)
@@ -68,7 +69,7 @@ loop-member-preserved g c =
             let old = h.grouped.cells.as_many in
             let was = c.requires.may.1.seen.grouped.cells.as_many in
             let within : m < length ps = omega arith in
-            let q = there ps m within in
+            let q = below_get ps m within in
             let heard = heard_below t p m 0 ps in
             subst (λ (qs : List PlainCell). AreKept g.M.Participant.plain
             (setting_of c.args.scenario.now c.args.net.now seed) c.loop-member.self qs)
