@@ -26,8 +26,10 @@ loop-place-preserved g c =
     record {
       faults = next_passes c.args.values.now c.loop-place.place c.index-values-place.result c.loop-place-test.true c.index-values-place.is
           (BadKey c.args.part) (fits_element rules) read.0 ∙ c.loop-place.invariant.faults;
-      elements = ap (λ (l : List g.row.E.Denot). l ++ map (λ v. g.E.Element.reading (table_of (view v))) (drop (c.loop-place.place + 1) c.args.values.now))
+      elements = ap (λ (l : List g.row.E.Denot).
+          l ++ map (λ v. g.E.Element.reading (table_of (view v))) (drop (c.loop-place.place + 1) c.args.values.now))
           c.in_ok-push.ensures.items
           ∙ next_read c.args.values.now c.loop-place.place c.index-values-place.result c.loop-place-test.true c.index-values-place.is
-          (λ v. g.E.Element.reading (table_of (view v))) c.loop-place.elements.items c.in-Some.element read.1 ∙ c.loop-place.invariant.elements;
+          (λ v. g.E.Element.reading (table_of (view v))) c.loop-place.elements.items c.in-Some.element read.1
+          ∙ c.loop-place.invariant.elements;
     }
