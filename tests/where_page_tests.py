@@ -39,10 +39,10 @@ class Rows(unittest.TestCase):
         self.assertEqual(self.faults("", promise="x" * 301), ["its promise has more than 300 characters"])
 
     def test_a_call_has_its_definitions_and_its_proof(self) -> None:
-        [build] = self.found.find("srm_net", "Net::build")
-        row = where.row_of(build, "", self.found).replace("`plain_network`, `IsTree`, `HasDelays`, `AreHosts`, ", "")
-        self.assertIn("`IsNetwork` in [Network](../crates/srm_net/specs/Network.antt)", row)
-        self.assertIn("(../crates/srm_net/proofs/net/Net/build)", where.row_of(build, "", self.found))
+        [law] = self.found.find("srm_net", "laws::one_path")
+        row = where.row_of(law, "", self.found)
+        self.assertIn("`OnePath` in [Laws](../crates/srm_net/specs/Laws.antt)", row)
+        self.assertIn("(../crates/srm_net/proofs/laws/one_path)", row)
 
     def test_a_method_of_a_trait_has_the_traits_contract(self) -> None:
         [react] = self.found.find("srm_roles", "Sender::react")
