@@ -94,4 +94,3 @@ module _ {M : Type 0} where
   not_taken f m p ps o fault.NoMemory c cs ts h = h
   not_taken f m p ps o fault.Spent c cs ts h = h
   not_taken f m p ps o fault.CountFull c cs ts h = h
-
