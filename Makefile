@@ -50,6 +50,7 @@ check: ## what an edit needs: proves each crate that changed, or CRATE=srm_net w
 	@tests/calls.py
 	@tests/lines.py
 	@tests/widths.py
+	@tests/layout.py
 	@tests/links.py
 	@tests/versions.py
 	@tools/prove.py $(if $(CRATE),crates/$(CRATE),crates)
@@ -65,6 +66,7 @@ test: ## the merge gate: proves everything from nothing, with tests and must-fai
 	@tests/calls.py
 	@tests/lines.py
 	@tests/widths.py
+	@tests/layout.py
 	@tests/links.py
 	@tests/versions.py
 	@tools/gate.py -- make --no-print-directory --keep-going --jobs=$(JOBS) --output-sync=target test-program test-memory
