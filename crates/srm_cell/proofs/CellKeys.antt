@@ -1,13 +1,11 @@
 -- No two events that a cell has pending have one key.
-use Rattle.std.proofs.Common.{◌≡◌, ◌≢◌, ℕ, T, List, [], ◌∷◌, ◌++◌, map, refl, sym, ap, ◌∙◌, inl, inr, arith, Less, Equal, Greater}
-use Rattle.std.specs.Ordering.{ordering_reverse}
+use Rattle.std.proofs.Common.{◌≡◌, ◌≢◌, ℕ, T, List, [], ◌∷◌, ◌++◌, map, refl, sym, ap, ◌∙◌, inl, inr, arith, Less, Equal}
 use Rattle.std.specs.FinMap.Entries.{is_sorted, below_all}
 use Rattle.srm_net.specs.declared.key.Key.{Key}
 use Rattle.srm_net.specs.declared.packet.Name.{Name}
 use Rattle.srm_net.specs.Keys.{key_cmp}
 use Rattle.srm_net.specs.Names.{name_cmp}
 use Rattle.srm_net.specs.Orders.{Ascends}
-use Rattle.srm_net.proofs.TotalOrders.{key_total}
 use Rattle.srm_net.proofs.Basics.{T_first, T_second, T_less}
 use Rattle.srm_scenario.specs.declared.mark.Mark.{Mark}
 use Rattle.srm_scenario.specs.Plain.{mark_cmp}
@@ -25,11 +23,7 @@ use Rattle.srm_cell.proofs.Clear.{Differs, differ_rank, timer_differs, IsDistinc
 use Rattle.srm_cell.proofs.Clear.{dues_apart}
 
 key_self : (k : Key) → key_cmp k k ≡ Equal
-key_self k = elim (key_cmp k k) as (λ r. key_cmp k k ≡ r → key_cmp k k ≡ Equal) [
-  | Less ↦ λ e. let y : Less ≡ Greater = sym e ∙ key_total.antisymm k k ∙ ap ordering_reverse e in cc
-  | Equal ↦ λ e. e
-  | Greater ↦ λ e. let y : Greater ≡ Less = sym e ∙ key_total.antisymm k k ∙ ap ordering_reverse e in cc
-] refl
+key_self k = grind arith
 
 pub not_same : (k l : Key) → Differs k l → k ≢ l
 not_same k l d e = d (ap (key_cmp k) (sym e) ∙ key_self k)

@@ -1,24 +1,20 @@
 -- A cell's own step, and what a late arrival leaves of it.
 use Rattle.std.proofs.Common.{◌≡◌, ℕ, ◌≤◌, Bool, true, false, cond, List, [], ◌∷◌, refl, sym, ap, ◌∙◌, ◌≢◌, arith, Ordering, Less}
-use Rattle.std.proofs.Common.{Equal, Greater, nat_cmp, is_lt, ltb-true, lt-ltb, le-ltb, nat_lt, Option, Some, None, option_map}
-use Rattle.std.specs.Ordering.{ordering_then, ordering_reverse}
+use Rattle.std.proofs.Common.{Equal, Greater, ltb-true, lt-ltb, nat_lt, Option, Some, None, option_map}
+use Rattle.std.specs.Ordering.{ordering_reverse}
 use Rattle.srm_cell.specs.Cells.{Done, Event, Full, Idle, PlainCell, Spent, StepOutcome, Stepped, before, by_key, earlier, first_arrival}
-use Rattle.srm_cell.specs.Cells.{first_mark, handle, hear_at, next_event, next_timer, own_step, sending_step, step_at, timer_event}
+use Rattle.srm_cell.specs.Cells.{first_mark, handle, hear_at, next_event, next_timer, own_step, step_at, timer_event}
 use Rattle.srm_cell.specs.Flights.{flight_cmp}
 use Rattle.srm_cell.specs.declared.flight.Flight.{Flight}
 use Rattle.srm_member.proofs.OrderLemmas.{head_le}
-use Rattle.srm_member.specs.React.{Reaction, react}
-use Rattle.srm_member.specs.Record.{Active, Gone, Record, due_cmp, earliest, earlier_timer, by_order, timers}
+use Rattle.srm_member.specs.Record.{Record, earliest, earlier_timer, timers}
 use Rattle.srm_member.specs.declared.cause.Cause.{Cause}
 use Rattle.srm_member.specs.declared.due.Due.{Due}
 use Rattle.srm_net.specs.Keys.{key_cmp}
 use Rattle.srm_net.specs.Orders.{place}
 use Rattle.srm_net.specs.declared.key.Key.{Key}
-use Rattle.srm_net.specs.declared.packet.Body.{Body}
 use Rattle.srm_net.specs.declared.packet.Packet.{Packet}
 use Rattle.srm_scenario.specs.declared.mark.Mark.{Mark}
-use Rattle.srm_net.specs.Limits.{most_sent}
-use Rattle.srm_net.proofs.Basics.{nat_cmp_self}
 use Rattle.srm_net.proofs.TotalOrders.{key_total}
 
 -- ---- the earliest event before an end
@@ -52,9 +48,7 @@ second_le k l h = first_le l k (λ g. let e : Greater ≡ Less = sym g ∙ key_t
 pub before-by_key : (end : ℕ) (r : Ordering) (d e : Event) → before end (Some (by_key r d e))
     ≡ cond (elim r [ Less ↦ nat_lt d.key.time end | Equal ↦ nat_lt d.key.time end | Greater ↦ nat_lt e.key.time end ])
     (Some (by_key r d e)) None
-before-by_key end Less d e = refl
-before-by_key end Equal d e = refl
-before-by_key end Greater d e = refl
+before-by_key end r d e = grind arith
 
 both_kept : (bd be : Bool) (r : Ordering) (d e : Event) → key_cmp d.key e.key ≡ r → earlier (keep bd d) (keep be e)
     ≡ cond bd (cond be (Some (by_key r d e)) (Some d)) (keep be e)
@@ -83,20 +77,9 @@ abbrev pub first_timer : ℕ → PlainCell → List Due → Option Event
 first_timer m c [] = None
 first_timer m c (d ∷ ds) = earlier (Some (timer_event m c d)) (first_timer m c ds)
 
-timer_keys : (m : ℕ) (c : PlainCell) (d e : Due) → key_cmp (timer_event m c d).key (timer_event m c e).key ≡ due_cmp d e
-timer_keys m c d e = let q = nat_cmp_self m in simp q
-
-by_key-timers : (m : ℕ) (c : PlainCell) (r : Ordering) (d e : Due) → by_key r (timer_event m c d) (timer_event m c e)
-    ≡ timer_event m c (by_order r d e)
-by_key-timers m c Less d e = refl
-by_key-timers m c Equal d e = refl
-by_key-timers m c Greater d e = refl
-
 sooner_timer : (m : ℕ) (c : PlainCell) (d : Due) (o : Option Due) → next_timer m c (Some (earlier_timer d o))
     ≡ earlier (Some (timer_event m c d)) (next_timer m c o)
-sooner_timer m c d None = refl
-sooner_timer m c d (Some e) = ap Some (sym (by_key-timers m c (due_cmp d e) d e)
-    ∙ ap (λ r. by_key r (timer_event m c d) (timer_event m c e)) (sym (timer_keys m c d e)))
+sooner_timer m c d o = grind arith
 
 first_timer_is : (m : ℕ) (c : PlainCell) (ds : List Due) → next_timer m c (earliest ds) ≡ first_timer m c ds
 first_timer_is m c [] = refl
@@ -123,17 +106,9 @@ outcome_map f Full = Full
 outcome_map f Spent = Spent
 outcome_map f (Done x) = Done (f x)
 
-by_key-map : (h : PlainCell → PlainCell) (r : Ordering) (d e : Event) → by_key r (event_map h d) (event_map h e)
-    ≡ event_map h (by_key r d e)
-by_key-map h Less d e = refl
-by_key-map h Equal d e = refl
-by_key-map h Greater d e = refl
-
 pub earlier-map : (h : PlainCell → PlainCell) (x y : Option Event) → earlier (option_map (event_map h) x) (option_map (event_map h) y)
     ≡ option_map (event_map h) (earlier x y)
-earlier-map h None y = refl
-earlier-map h (Some d) None = refl
-earlier-map h (Some d) (Some e) = ap Some (by_key-map h (key_cmp d.key e.key) d e)
+earlier-map h x y = grind arith
 
 keep-map : (h : PlainCell → PlainCell) (b : Bool) (e : Event) → keep b (event_map h e) ≡ option_map (event_map h) (keep b e)
 keep-map h true e = refl
@@ -161,66 +136,25 @@ module _ (end : ℕ) (p : Packet) (at : ℕ) (late : end ≤ at) where
   timers_alike m c [] = refl
   timers_alike m c (d ∷ ds) = rw (timers_alike m c ds) (earlier-map late_hear (Some _) (first_timer m c ds))
 
-  too_late : (b : ℕ) (o : Ordering) → nat_lt b end ≡ true → is_lt (ordering_then (nat_cmp b at) o) ≡ true
-  too_late b o h = let f = ltb-true _ _ h in let g : nat_lt b at ≡ true = lt-ltb _ _ (omega arith) in simp g
-
   arrivals_alike : (m : ℕ) (c : PlainCell) (fs : List Flight) → before end (first_arrival m (late_hear c) (place flight_cmp flight fs))
       ≡ option_map (event_map late_hear) (before end (first_arrival m c fs))
-  arrivals_alike m c [] = let n : nat_lt at end ≡ false = le-ltb _ _ late in simp n
-  arrivals_alike m c (f ∷ fs) = let n : nat_lt at end ≡ false = le-ltb _ _ late in
-      elim (nat_lt f.arrival end) as (λ b. nat_lt f.arrival end ≡ b →
-      before end (first_arrival m (late_hear c) (place flight_cmp flight (f ∷ fs)))
-      ≡ option_map (event_map late_hear) (before end (first_arrival m c (f ∷ fs)))) [
-        | true ↦ λ e. let l = too_late f.arrival (ordering_then (nat_cmp f.packet.id.sender p.id.sender)
-            (ordering_then (nat_cmp f.packet.id.count p.id.count) Equal)) e in simp (l, e)
-        | false ↦ λ e. elim (is_lt (flight_cmp f flight)) as
-            (λ b. is_lt (flight_cmp f flight) ≡ b → before end (first_arrival m (late_hear c) (place flight_cmp flight (f ∷ fs)))
-            ≡ option_map (event_map late_hear) (before end (first_arrival m c (f ∷ fs)))) [
-              | true ↦ λ l. simp (l, e)
-              | false ↦ λ l. simp (l, e, n)
-            ] refl
-      ] refl
+  arrivals_alike m c fs = grind arith
 
   -- the least own event before the end is the same, and what is left of the cell hears the packet
   all_alike : (m : ℕ) (c : PlainCell) → before end (earlier (first_arrival m (late_hear c) (place flight_cmp flight c.inbox))
       (earlier (first_mark m (late_hear c) c.script) (first_timer m (late_hear c) (timers c.holds))))
       ≡ option_map (event_map late_hear)
       (before end (earlier (first_arrival m c c.inbox) (earlier (first_mark m c c.script) (first_timer m c (timers c.holds)))))
-  all_alike m c =
-      before-earlier end _ _
-      ∙ ap (earlier (before end (first_arrival m (late_hear c) (place flight_cmp flight c.inbox))))
-      (ap (before end) (rw (marks_alike m c c.script, timers_alike m c (timers c.holds))
-      (earlier-map late_hear (first_mark m c c.script) (first_timer m c (timers c.holds))))
-      ∙ before-map late_hear end (earlier (first_mark m c c.script) (first_timer m c (timers c.holds))))
-      ∙ ap (λ o. earlier o (option_map (event_map late_hear)
-      (before end (earlier (first_mark m c c.script) (first_timer m c (timers c.holds)))))) (arrivals_alike m c c.inbox)
-      ∙ earlier-map late_hear (before end (first_arrival m c c.inbox))
-      (before end (earlier (first_mark m c c.script) (first_timer m c (timers c.holds))))
-      ∙ ap (option_map (event_map late_hear))
-      (sym (before-earlier end (first_arrival m c c.inbox) (earlier (first_mark m c c.script) (first_timer m c (timers c.holds)))))
+  all_alike m c = grind (arith, before-earlier, marks_alike, timers_alike, earlier-map, before-map, arrivals_alike)
 
   next_event_alike : (m : ℕ) (c : PlainCell) → before end (next_event m (late_hear c))
       ≡ option_map (event_map late_hear) (before end (next_event m c))
-  next_event_alike m c =
-      ap (before end) (next_event_is m (late_hear c)) ∙ all_alike m c ∙
-      ap (λ o. option_map (event_map late_hear) (before end o)) (sym (next_event_is m c))
-
-  sending_alike_by : (b : Bool) (e : Event) (r : Reaction) (body : Body) (x : Stepped) → cond b (Done (stepped_map late_hear x)) Full
-      ≡ outcome_map (stepped_map late_hear) (cond b (Done x) Full)
-  sending_alike_by true e r body x = refl
-  sending_alike_by false e r body x = refl
-
-  sending_alike : (e : Event) (r : Reaction) (body : Option Body) → sending_step (event_map late_hear e) r body
-      ≡ outcome_map (stepped_map late_hear) (sending_step e r body)
-  sending_alike e r None = refl
-  sending_alike e r (Some body) = sending_alike_by (nat_lt e.rest.sent most_sent) e r body _
+  next_event_alike m c = grind (arith, next_event_is, all_alike)
 
   handle_alike : (e : Event) (holds : Record) (cause : Option Cause) → handle (event_map late_hear e) holds cause
       ≡ outcome_map (stepped_map late_hear) (handle e holds cause)
   unfolding handle
-  handle_alike e (Active m) (Some cause) = let r = react m e.key.time cause in sending_alike e r r.answer.body
-  handle_alike e (Active m) None = refl
-  handle_alike e (Gone f) cause = refl
+  handle_alike e holds cause = grind arith
 
   step_alike : (o : Option Event) → step_at (option_map (event_map late_hear) o) ≡ outcome_map (stepped_map late_hear) (step_at o)
   step_alike None = refl

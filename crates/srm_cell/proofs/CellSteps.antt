@@ -1,26 +1,22 @@
 -- Whose events a cell's are, what a cell hears, and events before an end.
-use Rattle.std.proofs.Common.{◌≡◌, ℕ, ◌≤◌, Bool, true, false, cond, List, [], ◌∷◌, refl, sym, ap, ◌∙◌, subst, ◌≢◌, arith, Ordering}
-use Rattle.std.proofs.Common.{Less, Equal, Greater, nat_lt, Option, Some, None}
-use Rattle.std.proofs.Common.{ltb-true, lt-ltb, ◌<◌}
+use Rattle.std.proofs.Common.{◌≡◌, ℕ, ◌≤◌, Bool, true, false, List, [], ◌∷◌, refl, sym, ap, subst, ◌≢◌, arith}
+use Rattle.std.proofs.Common.{Equal, nat_lt, Option, Some, None}
+use Rattle.std.proofs.Common.{◌<◌}
 use Rattle.std.specs.Cmp.{IsTotalOrder, on_total}
 use Rattle.std.specs.Cmp.Lexicographic.{nat_list_cmp_total}
 use Rattle.srm_cell.proofs.CellLemmas.{first_timer, keep, next_event_is, outcome_map, own_step_late, stepped_map}
-use Rattle.srm_cell.specs.Cells.{Done, Event, Full, Idle, PlainCell, Spent, StepOutcome, Stepped, before, by_key, earlier, first_arrival}
-use Rattle.srm_cell.specs.Cells.{first_mark, handle, hear, hear_at, next_event, own_step, sending_step, step_at}
+use Rattle.srm_cell.specs.Cells.{Done, Event, Full, Idle, PlainCell, Spent, StepOutcome, Stepped, before, earlier, first_arrival}
+use Rattle.srm_cell.specs.Cells.{first_mark, handle, hear, hear_at, next_event, own_step, step_at}
 use Rattle.srm_cell.specs.Flights.{flight_cmp, numbers_of_flight}
 use Rattle.srm_cell.specs.OwnRuns.{told_to}
 use Rattle.srm_cell.specs.Setting.{Traffic, arrival_of}
 use Rattle.srm_cell.specs.declared.flight.Flight.{Flight}
 use Rattle.srm_member.proofs.OrderLemmas.{place-comm}
-use Rattle.srm_member.specs.React.{Reaction, react}
-use Rattle.srm_member.specs.Record.{Active, Gone, Record, timers}
+use Rattle.srm_member.specs.Record.{Record, timers}
 use Rattle.srm_member.specs.declared.cause.Cause.{Cause}
 use Rattle.srm_member.specs.declared.due.Due.{Due}
-use Rattle.srm_net.specs.Keys.{key_cmp}
-use Rattle.srm_net.specs.declared.packet.Body.{Body}
 use Rattle.srm_net.specs.declared.packet.Packet.{Packet}
 use Rattle.srm_scenario.specs.declared.mark.Mark.{Mark}
-use Rattle.srm_net.specs.Limits.{most_sent}
 use Rattle.srm_net.proofs.Basics.{same_numbers, nth_number}
 
 -- ---- whose events a cell's are
@@ -29,15 +25,8 @@ abbrev pub IsOf : ℕ → Option Event → Type 0
 IsOf m None = Unit {0}
 IsOf m (Some e) = e.key.member ≡ m
 
-pub by_key_of : (m : ℕ) (r : Ordering) (d e : Event) → d.key.member ≡ m → e.key.member ≡ m → (by_key r d e).key.member ≡ m
-by_key_of m Less d e h g = h
-by_key_of m Equal d e h g = h
-by_key_of m Greater d e h g = g
-
 earlier_of : (m : ℕ) (x y : Option Event) → IsOf m x → IsOf m y → IsOf m (earlier x y)
-earlier_of m None y h g = g
-earlier_of m (Some d) None h g = h
-earlier_of m (Some d) (Some e) h g = by_key_of m (key_cmp d.key e.key) d e h g
+earlier_of m x y h g = grind arith
 
 keep_of : (m : ℕ) (b : Bool) (e : Event) → IsOf m (Some e) → IsOf m (keep b e)
 keep_of m true e h = h
@@ -74,19 +63,9 @@ IsStepOf m Full = Unit {0}
 IsStepOf m Spent = Unit {0}
 IsStepOf m (Done d) = (d.row.key.member ≡ m) × SentBy m d.row.sent
 
-sending_by : (m : ℕ) (b : Bool) (x : Stepped) → IsStepOf m (Done x) → IsStepOf m (cond b (Done x) Full)
-sending_by m true x h = h
-sending_by m false x h = tt
-
-sending_of : (m : ℕ) (e : Event) (r : Reaction) (body : Option Body) → e.key.member ≡ m → IsStepOf m (sending_step e r body)
-sending_of m e r None h = (h, tt)
-sending_of m e r (Some body) h = sending_by m (nat_lt e.rest.sent most_sent) _ (h, h)
-
 pub handle_of : (m : ℕ) (e : Event) (holds : Record) (cause : Option Cause) → e.key.member ≡ m → IsStepOf m (handle e holds cause)
 unfolding handle
-handle_of m e (Active k) (Some cause) h = let r = react k e.key.time cause in sending_of m e r r.answer.body h
-handle_of m e (Active k) None h = (h, tt)
-handle_of m e (Gone f) cause h = tt
+handle_of m e holds cause h = grind arith
 
 pub step_at_of : (m : ℕ) (x : Option Event) → IsOf m x → IsStepOf m (step_at x)
 step_at_of m None h = tt
@@ -110,26 +89,16 @@ apart_flights f g ne e = ne (ap (nth_number 1) (same_numbers (numbers_of_flight 
 
 hear_at_comm : (p q : Packet) (a b : Option ℕ) (c : PlainCell) → p.id.sender ≢ q.id.sender → hear_at p a (hear_at q b c)
     ≡ hear_at q b (hear_at p a c)
-hear_at_comm p q None b c ne = refl
-hear_at_comm p q (Some a) None c ne = refl
-hear_at_comm p q (Some a) (Some b) c ne =
-    let f : Flight = record { arrival = a; packet = p } in
-    let g : Flight = record { arrival = b; packet = q } in
-    ap (λ (i : List Flight). record c { inbox = i }) (place-comm flight_cmp flight_total f g (apart_flights f g ne) c.inbox)
+hear_at_comm p q a b c ne = grind (arith, place-comm, flight_total)
 
 unmapped : (x : StepOutcome Stepped) → x ≡ outcome_map (stepped_map (λ c. c)) x
-unmapped Idle = refl
-unmapped Full = refl
-unmapped Spent = refl
-unmapped (Done d) = refl
+unmapped x = grind arith
 
 module _ (s : Traffic) where
   pub told_comm : (a b : ℕ) → a ≢ b → (x y : Option Packet) → SentBy a x → SentBy b y → (m : ℕ) (c : PlainCell)
       → told_to s x m (told_to s y m c) ≡ told_to s y m (told_to s x m c)
   unfolding hear
-  told_comm a b ne None y h g m c = refl
-  told_comm a b ne (Some p) None h g m c = refl
-  told_comm a b ne (Some p) (Some q) h g m c = hear_at_comm p q (arrival_of s p m) (arrival_of s q m) c (λ e. ne (sym h ∙ e ∙ g))
+  told_comm a b ne x y h g m c = grind (arith, hear_at_comm)
 
   -- ---- a cell hears late packets alone
 
@@ -149,36 +118,17 @@ module _ (s : Traffic) where
 
 -- ---- events before an end
 
-keep_some : (b : Bool) (d e : Event) → keep b d ≡ Some e → (b ≡ true) × (d ≡ e)
-keep_some true d e h = (refl, cc)
-keep_some false d e h = cc
-
 pub before_some : (end : ℕ) (x : Option Event) (e : Event) → before end x ≡ Some e → (x ≡ Some e) × (e.key.time < end)
-before_some end None e h = cc
-before_some end (Some d) e h = let k = keep_some (nat_lt d.key.time end) d e h in
-    (ap Some k.1, subst (λ (f : Event). f.key.time < end) k.1 (ltb-true _ _ k.0))
+before_some end x e h = grind arith
 
 pub before_more : (end until : ℕ) → end ≤ until → (x : Option Event) (e : Event) → before end x ≡ Some e → before until x ≡ Some e
-before_more end until le x e h = let b = before_some end x e h in
-    let lt : e.key.time < end = b.1 in
-    let yes : nat_lt e.key.time until ≡ true = lt-ltb _ _ (omega arith) in
-    ap (before until) b.0 ∙ ap (λ b. keep b e) yes
+before_more end until le x e h = grind arith
 
 -- ---- steps that are neither the last nor refused
 
-sending_moves : (b : Bool) (x : Stepped) → cond b (Done x) Full ≢ Idle
-sending_moves true x h = cc
-sending_moves false x h = cc
-
-sending_not_idle : (e : Event) (r : Reaction) (body : Option Body) → sending_step e r body ≢ Idle
-sending_not_idle e r None h = cc
-sending_not_idle e r (Some body) h = sending_moves _ _ h
-
 handle_not_idle : (e : Event) (holds : Record) (cause : Option Cause) → handle e holds cause ≢ Idle
 unfolding handle
-handle_not_idle e (Active m) (Some cause) h = let r = react m e.key.time cause in sending_not_idle e r r.answer.body h
-handle_not_idle e (Active m) None h = cc
-handle_not_idle e (Gone f) cause h = cc
+handle_not_idle e holds cause h = grind arith
 
 pub some_not_idle : (e : Event) → step_at (Some e) ≢ Idle
 some_not_idle e h = handle_not_idle e _ _ h

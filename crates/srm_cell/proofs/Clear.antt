@@ -38,7 +38,7 @@ use Rattle.srm_scenario.specs.Plain.{mark_cmp}
 use Rattle.srm_scenario.specs.declared.mark.Mark.{Mark}
 use Rattle.srm_net.specs.Limits.{most_sent}
 use Rattle.srm_net.proofs.Basics.{same_numbers, T_first, T_second, T_less, nth_number}
-use Rattle.srm_net.proofs.TotalOrders.{key_total, name_total, name_self}
+use Rattle.srm_net.proofs.TotalOrders.{key_total, name_total}
 
 -- ---- keys that differ
 
@@ -75,14 +75,7 @@ then_after k l h ne = elim (key_cmp k l) as (λ r. key_cmp k l ≡ r → key_cmp
 pub timer_differs : (m rank t : ℕ) (n k : Name) (u : ℕ) → (name_cmp n k ≡ Equal → u ≢ t)
     → Differs (timer_key m (record { time = t; rank = rank; name = n })) (timer_key m (record { time = u; rank = rank; name = k }))
 unfolding nth_number
-timer_differs m rank t n k u apart e =
-    let same = same_keys (timer_key m (record { time = t; rank = rank; name = n }))
-    (timer_key m (record { time = u; rank = rank; name = k })) e in
-    let source : n.source ≡ k.source = ap (nth_number 3) same in
-    let page : n.page ≡ k.page = ap (nth_number 4) same in
-    let number : n.number ≡ k.number = ap (nth_number 5) same in
-    let names : n ≡ k = λ i. record { source = source i; page = page i; number = number i } in
-    apart (ap (name_cmp n) (sym names) ∙ name_self n) (sym (ap (nth_number 0) same))
+timer_differs m rank t n k u apart e = grind arith
 
 -- ---- a name's entry in a table after it is written over, or taken out
 
@@ -387,20 +380,9 @@ pub record StepOf (e : Event) (d : Stepped) : Type 0 where
   pub script : d.cell.script ≡ e.rest.script
   pub count : CountAfter e.rest.sent d.row.sent d.cell.sent
 
-step_of_by : (e : Event) (b : Bool) (x : Stepped) → StepOf e x → OnStep (StepOf e) (cond b (Done x) Full)
-step_of_by e true x h = h
-step_of_by e false x h = tt
-
-step_of_sending : (e : Event) (r : Reaction) (body : Option Body) → OnStep (StepOf e) (sending_step e r body)
-step_of_sending e r None = record { inbox = refl; script = refl; count = refl }
-step_of_sending e r (Some body) = step_of_by e (nat_lt e.rest.sent most_sent) _
-    (record { inbox = refl; script = refl; count = (refl, omega arith) })
-
 step_of_handle : (e : Event) (holds : Record) (cause : Option Cause) → OnStep (StepOf e) (handle e holds cause)
 unfolding handle
-step_of_handle e (Active m) (Some cause) = let r = react m e.key.time cause in step_of_sending e r r.answer.body
-step_of_handle e (Active m) None = record { inbox = refl; script = refl; count = refl }
-step_of_handle e (Gone f) cause = tt
+step_of_handle e holds cause = grind arith
 
 pub step_is_of : (e : Event) → OnStep (StepOf e) (step_at (Some e))
 step_is_of e = step_of_handle e e.rest.holds e.cause

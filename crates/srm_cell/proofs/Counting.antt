@@ -41,14 +41,7 @@ head (Session hs) false false a0 a1 a2 a3 a4 t = simp add-zero
 -- the five numbers of a link are left as they are by a count at a later one
 skip : (b : Bool) (j i : ℕ) (a0 a1 a2 a3 a4 : ℕ) (t : List ℕ) → bump b (5 * suc j + i) (a0 ∷ a1 ∷ a2 ∷ a3 ∷ a4 ∷ t)
     ≡ a0 ∷ a1 ∷ a2 ∷ a3 ∷ a4 ∷ bump b (5 * j + i) t
-skip b j i a0 a1 a2 a3 a4 t =
-    let e : 5 * suc j + i ≡ suc (suc (suc (suc (suc (5 * j + i))))) = omega arith in
-    ap (λ n. bump b n (a0 ∷ a1 ∷ a2 ∷ a3 ∷ a4 ∷ t)) e ∙ by b
-  where
-    by : (b : Bool) → bump b (suc (suc (suc (suc (suc (5 * j + i)))))) (a0 ∷ a1 ∷ a2 ∷ a3 ∷ a4 ∷ t)
-        ≡ a0 ∷ a1 ∷ a2 ∷ a3 ∷ a4 ∷ bump b (5 * j + i) t
-    by true = refl
-    by false = refl
+skip b j i a0 a1 a2 a3 a4 t = grind arith
 
 module _ (s : Traffic) (ps : List Packet) (p : Packet) where
   abbrev all : List Packet

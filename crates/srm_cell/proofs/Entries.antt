@@ -1,26 +1,22 @@
 -- What putting an entry into an inbox's map does to the flights.
+use Rattle.std.proofs.Common.{arith}
 use Rattle.std.proofs.Common.{◌≡◌, ℕ, true, false, cond, List, [], ◌∷◌, refl, sym, ap, ◌∙◌, true≢false, Ordering, Less, Equal}
 use Rattle.std.proofs.Common.{Greater, is_lt, Result, Ok, Err}
 use Rattle.std.specs.Ordering.{nat_cmp, ordering_reverse, ordering_then, match_ordering}
 use Rattle.std.specs.Cmp.Lexicographic.{slice_cmp}
 use Rattle.std.specs.BTreeMap.{insert_entry}
-use Rattle.std.specs.FinMap.{slice_cmp-IsAntisymmetric, nat_cmp-IsAntisymmetric}
 use Rattle.std.specs.Result.{OnOk, is_err}
 use Rattle.srm_net.specs.declared.packet.Packet.{Packet}
 use Rattle.srm_net.specs.Orders.{place}
 use Rattle.srm_net.proofs.Basics.{nth_number, regrouped}
 use Rattle.srm_cell.specs.declared.flight.Flight.{Flight}
-use Rattle.srm_cell.specs.Flights.{numbers_of_flight, flight_cmp, BringsNone}
+use Rattle.srm_cell.specs.Flights.{flight_cmp, BringsNone}
 use Rattle.srm_cell.specs.Entries.{flight_of, flights_of, IsKeyedByPacket, HaveKeys}
 use Rattle.srm_cell.proofs.CellSteps.{flight_total}
 
 pub tie : (f g : Flight) → flight_cmp f g ≡ Equal → f.packet.id ≡ g.packet.id
 unfolding nth_number
-tie f g q =
-    let same = slice_cmp-IsAntisymmetric nat_cmp-IsAntisymmetric (numbers_of_flight f) (numbers_of_flight g) q in
-    let sender : f.packet.id.sender ≡ g.packet.id.sender = ap (nth_number 1) same in
-    let count : f.packet.id.count ≡ g.packet.id.count = ap (nth_number 2) same in
-    λ i. record { sender = sender i; count = count i }
+tie f g q = grind arith
 
 -- how the map compares its keys
 abbrev pub slot_cmp : (ℕ × ℕ × ℕ) → (ℕ × ℕ × ℕ) → Ordering
@@ -64,9 +60,7 @@ placed d (e ∷ es) h g none =
 with_keys : (d e : Entry) (es : List Entry) (o : Ordering) → (o ≡ Equal → ⊥) → IsKeyedByPacket d → IsKeyedByPacket e → HaveKeys es
     → HaveKeys (insert_entry slot_cmp es d.0 d.1)
     → HaveKeys (match_ordering o (d ∷ e ∷ es) ((e.0, d.1) ∷ es) (e ∷ insert_entry slot_cmp es d.0 d.1))
-with_keys d e es Less apart h g gs more = (h, (g, gs))
-with_keys d e es Equal apart h g gs more = absurd (apart refl)
-with_keys d e es Greater apart h g gs more = (g, more)
+with_keys d e es o apart h g gs more = grind arith
 
 pub keys_stay : (d : Entry) (es : List Entry) → IsKeyedByPacket d → HaveKeys es → BringsNone d.1.id (flights_of es)
     → HaveKeys (insert_entry slot_cmp es d.0 d.1)

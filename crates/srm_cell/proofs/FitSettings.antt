@@ -1,49 +1,26 @@
 -- The setting of an accepted scenario is fit.
-use Rattle.std.proofs.Common.{◌≡◌, ◌≢◌, ℕ, ◌<◌, true, false, List, [], ◌∷◌, refl, sym, ap, ◌∙◌, subst, inl, inr, arith, Option, Some, None}
-use Rattle.std.proofs.Common.{unwrap_or, length, slice_get, ◌==◌, Ordering, Less, Equal, Greater, nat_cmp}
-use Rattle.std.proofs.lemmas.Bool.{eqb-false}
+use Rattle.std.proofs.Common.{◌≡◌, ◌≢◌, ℕ, ◌<◌, List, [], ◌∷◌, refl, sym, ap, ◌∙◌, subst, arith, Some, None}
+use Rattle.std.proofs.Common.{unwrap_or, length, slice_get, Ordering, Less, Greater}
 use Rattle.std.proofs.lemmas.List.{length-map}
 use Rattle.std.proofs.lemmas.Option.{slice_get-get_or}
-use Rattle.std.specs.Ordering.{ordering_then}
 use Rattle.srm_net.specs.Orders.{Ascends, AllAfter}
 use Rattle.srm_net.proofs.PathLaws.{distance_apart}
-use Rattle.srm_net.proofs.Basics.{nat_cmp_self}
 use Rattle.srm_scenario.specs.declared.mark.Mark.{Mark}
 use Rattle.srm_scenario.specs.declared.parts.MemberSpec.{MemberSpec}
 use Rattle.srm_scenario.specs.Plain.{PlainScenario, network_of, mark_cmp, script_of}
 use Rattle.srm_scenario.specs.Accepted.{IsAccepted}
 use Rattle.srm_scenario.specs.Scripts.{IsMark, IsScript}
 use Rattle.srm_scenario.proofs.ScriptLemmas.{scripts_fit}
-use Rattle.srm_member.specs.declared.cause.Cause.{Cause}
-use Rattle.srm_member.specs.declared.cause.Cause.TheVariants.{Join, Draw, Report}
 use Rattle.srm_member.proofs.AllIn.{AllIn, AllIn-at_places}
-use Rattle.srm_member.proofs.OrderLemmas.{head_le}
 use Rattle.srm_cell.specs.Setting.{HasOwnRanks, EndsAtLeave, cause_of_mark, member_at, no_member}
 use Rattle.srm_cell.specs.Laws.{SettingsAreFit}
-
-some_not_none : (c : Cause) (o : Option Cause) → o ≡ Some c → o ≡ None → ⊥
-some_not_none c o h g = let x : Some c ≡ None = sym h ∙ g in let y : ⊥ = cc in y
 
 -- ---- a member's script
 
 module _ (until : ℕ) (k : MemberSpec) where
   -- a mark without a cause is a leave
   leave_rank : (x : Mark) → IsMark until k x → cause_of_mark x ≡ None → x.rank ≡ 6
-  leave_rank x h none = elim (x.rank == 0) as (λ b. (x.rank == 0) ≡ b → x.rank ≡ 6) [
-    | true ↦ λ q. absurd (some_not_none Join (cause_of_mark x) (rw q) none)
-    | false ↦ λ zero_no. elim (x.rank == 4) as (λ b. (x.rank == 4) ≡ b → x.rank ≡ 6) [
-      | true ↦ λ q. absurd (some_not_none (Draw x.page x.ink) (cause_of_mark x) (rw (zero_no, q)) none)
-      | false ↦ λ four_no. elim (x.rank == 5) as (λ b. (x.rank == 5) ≡ b → x.rank ≡ 6) [
-        | true ↦ λ q. absurd (some_not_none Report (cause_of_mark x) (rw (zero_no, four_no, q)) none)
-        | false ↦ λ five_no.
-            let not_zero = eqb-false _ _ zero_no in
-            let not_four = eqb-false _ _ four_no in
-            let not_five = eqb-false _ _ five_no in
-            let last = h.last_rank in
-            elim h.rank [ inl z ↦ absurd (not_zero z) | inr more ↦ omega arith ]
-      ] refl
-    ] refl
-  ] refl
+  leave_rank x h none = grind arith
 
   ranks_of : (xs : List Mark) → AllIn (IsMark until k) xs → HasOwnRanks xs
   ranks_of [] h = tt
@@ -54,26 +31,7 @@ module _ (until : ℕ) (k : MemberSpec) where
 
   -- no mark of the member comes after its leave
   after_leave : (x y : Mark) → IsMark until k x → IsMark until k y → x.rank ≡ 6 → mark_cmp x y ≡ Less → ⊥
-  after_leave x y h g six less =
-      let left = h.leave six in
-      let no_later = g.stays x.at left.0 in
-      let no_earlier = head_le x.at y.at _ (not_greater _ less) in
-      let same : y.at ≡ x.at = omega arith in
-      let at_self = nat_cmp_self x.at in
-      let ranks : ordering_then (nat_cmp x.rank y.rank) (ordering_then (nat_cmp x.place y.place) Equal) ≡ Less =
-      sym (ap (λ r. ordering_then r (ordering_then (nat_cmp x.rank y.rank) (ordering_then (nat_cmp x.place y.place) Equal)))
-      (ap (nat_cmp x.at) same ∙ at_self)) ∙ less in
-      let rank_up = head_le x.rank y.rank _ (not_greater _ ranks) in
-      let last = g.last_rank in
-      let six_too : y.rank ≡ 6 = omega arith in
-      let rank_self = nat_cmp_self x.rank in
-      let places : ordering_then (nat_cmp x.place y.place) Equal ≡ Less =
-      sym (ap (λ r. ordering_then r (ordering_then (nat_cmp x.place y.place) Equal)) (ap (nat_cmp x.rank) (six_too ∙ sym six) ∙ rank_self))
-      ∙ ranks in
-      let place_self = nat_cmp_self x.place in
-      let no_place : y.place ≡ x.place = (g.leave six_too).1 ∙ sym left.1 in
-      let equal : Equal ≡ Less = sym (ap (λ r. ordering_then r Equal) (ap (nat_cmp x.place) no_place ∙ place_self)) ∙ places in
-      let y : ⊥ = cc in y
+  after_leave x y h g six less = grind arith
 
   nothing_after : (x : Mark) (ys : List Mark) → IsMark until k x → AllIn (IsMark until k) ys → x.rank ≡ 6 → AllAfter mark_cmp x ys → ys ≡ []
   nothing_after x [] h g six after = refl

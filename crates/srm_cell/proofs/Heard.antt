@@ -1,4 +1,5 @@
 -- A cell's next event after it hears a packet: the packet's arrival, or what was next.
+use Rattle.std.proofs.Common.{arith}
 use Rattle.std.proofs.Common.{◌≡◌, ◌≢◌, ℕ, Bool, cond, List, [], ◌∷◌, Option, Some, None, option_map, refl, sym, ap, ◌∙◌, subst, Ordering}
 use Rattle.std.proofs.Common.{Less, Equal, Greater, is_lt}
 use Rattle.std.specs.Ordering.{is_gt, ordering_reverse}
@@ -14,7 +15,7 @@ use Rattle.srm_member.specs.Record.{due_of}
 use Rattle.srm_member.proofs.OrderLemmas.{from_refl, from_trans, from_not_greater, not_greater}
 use Rattle.srm_cell.specs.declared.flight.Flight.{Flight}
 use Rattle.srm_cell.specs.declared.pending.Source.{Source}
-use Rattle.srm_cell.specs.declared.pending.Source.TheVariants.{Inbox, Script, Timer}
+use Rattle.srm_cell.specs.declared.pending.Source.TheVariants.{Inbox}
 use Rattle.srm_cell.specs.declared.pending.Pending.{Pending}
 use Rattle.srm_cell.specs.Flights.{flight_cmp}
 use Rattle.srm_cell.specs.Cells.{PlainCell, Event, arrival_key, by_key, earlier, first_arrival, first_mark, next_timer, next_event, hear_at}
@@ -42,9 +43,7 @@ equal_not : (r : Ordering) → r ≡ Equal → r ≢ Greater
 equal_not r h g = let x : Equal ≡ Greater = sym h ∙ g in cc
 
 first_kept : (r : Ordering) (d e : Event) → r ≢ Greater → by_key r d e ≡ d
-first_kept Less d e h = refl
-first_kept Equal d e h = refl
-first_kept Greater d e h = absurd (h refl)
+first_kept r d e h = grind arith
 
 second_kept : (r : Ordering) (d e : Event) → r ≡ Greater → by_key r d e ≡ e
 second_kept r d e h = ap (λ q. by_key q d e) h
@@ -55,21 +54,10 @@ all_kept d e f h g = first_kept _ d f (lesser_once d.key e.key f.key h g) ∙ sy
 
 of_three : (d e f : Event) (r s : Ordering) → key_cmp d.key e.key ≡ r → key_cmp e.key f.key ≡ s
     → by_key (key_cmp (by_key r d e).key f.key) (by_key r d e) f ≡ by_key (key_cmp d.key (by_key s e f).key) d (by_key s e f)
-of_three d e f Less Less h g = all_kept d e f (less_not _ h) (less_not _ g)
-of_three d e f Less Equal h g = all_kept d e f (less_not _ h) (equal_not _ g)
-of_three d e f Less Greater h g = refl
-of_three d e f Equal Less h g = all_kept d e f (equal_not _ h) (less_not _ g)
-of_three d e f Equal Equal h g = all_kept d e f (equal_not _ h) (equal_not _ g)
-of_three d e f Equal Greater h g = refl
-of_three d e f Greater Less h g = first_kept _ e f (less_not _ g) ∙ sym (second_kept _ d e h)
-of_three d e f Greater Equal h g = first_kept _ e f (equal_not _ g) ∙ sym (second_kept _ d e h)
-of_three d e f Greater Greater h g = second_kept _ e f g ∙ sym (second_kept _ d f (greater_once d.key e.key f.key h g))
+of_three d e f r s h g = grind (arith, all_kept, greater_once)
 
 earlier_of_three : (x y z : Option Event) → earlier (earlier x y) z ≡ earlier x (earlier y z)
-earlier_of_three None y z = refl
-earlier_of_three (Some d) None z = refl
-earlier_of_three (Some d) (Some e) None = refl
-earlier_of_three (Some d) (Some e) (Some f) = ap Some (of_three d e f (key_cmp d.key e.key) (key_cmp e.key f.key) refl refl)
+earlier_of_three x y z = grind (arith, of_three)
 
 pub some_first : (d : Event) (o : Option Event) → earlier (Some d) o ≢ None
 some_first d None h = cc
@@ -95,9 +83,7 @@ module _ (m : ℕ) (p : Packet) (at : ℕ) where
   place_by : (c : PlainCell) (f : Flight) (fs : List Flight) (r : Ordering) (b : Bool) → b ≡ is_lt (ordering_reverse r)
       → first_arrival m (heard c) (cond b (f ∷ place flight_cmp flight fs) (flight ∷ f ∷ fs))
       ≡ Some (by_key r (coming flight (record c { inbox = f ∷ fs })) (event_map heard (coming f (record c { inbox = fs }))))
-  place_by c f fs Less b h = rw h refl
-  place_by c f fs Equal b h = rw h refl
-  place_by c f fs Greater b h = rw h refl
+  place_by c f fs r b h = grind arith
 
   -- the first arrival is the packet's, or what was the first
   first_heard : (c : PlainCell) (fs : List Flight) → first_arrival m (heard c) (place flight_cmp flight fs)
@@ -158,11 +144,7 @@ module _ (m : ℕ) (p : Packet) (at : ℕ) where
 
   source_alike : (c : PlainCell) (s : Source) (e : Event) → first_of s m c ≡ Some e → key_cmp (arrival_key m flight) e.key ≡ Greater
       → first_of s m (heard c) ≡ Some (event_map heard e)
-  source_alike c Inbox e h after =
-      first_heard c c.inbox ∙ ap (λ o. earlier (Some (coming flight c)) (option_map (event_map heard) o)) h
-      ∙ ap Some (second_kept _ (coming flight c) (event_map heard e) after)
-  source_alike c Script e h after = marks_alike c c.script ∙ ap (option_map (event_map heard)) h
-  source_alike c Timer e h after = timers_alike c (due_of c.holds) ∙ ap (option_map (event_map heard)) h
+  source_alike c s e h after = grind arith
 
   next_with : (c : PlainCell) (o : Option Event) → next_event m c ≡ o → next_event m (heard c)
       ≡ earlier (Some (coming flight c)) (option_map (event_map heard) o)

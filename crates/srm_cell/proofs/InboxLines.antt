@@ -1,7 +1,7 @@
 -- A line of flights, and others apart from it: what a flight more or less in either changes of them all in order.
 use Rattle.std.proofs.Common.{◌≡◌, ◌≢◌, ℕ, zero, suc, ◌<◌, ◌≤◌, ◌-◌, arith, length, insert, slice_index_or, Result, Ok, Err, OnOk, OnErr}
 use Rattle.std.proofs.Common.{IsSome, MatchOption}
-use Rattle.std.proofs.Common.{true, false, cond, List, [], ◌∷◌, ◌++◌, Option, Some, None, slice_get, refl, sym, ap, ◌∙◌, subst}
+use Rattle.std.proofs.Common.{true, false, cond, List, [], ◌∷◌, ◌++◌, Option, Some, slice_get, refl, sym, ap, ◌∙◌, subst}
 use Rattle.std.proofs.Common.{Ordering, Equal, is_lt, true≢false}
 use Rattle.std.specs.Ordering.{ordering_reverse}
 use Rattle.std.specs.Option.{option_to_list}
@@ -11,7 +11,7 @@ use Rattle.srm_net.specs.declared.packet.Body.TheVariants as body
 use Rattle.srm_net.specs.declared.packet.PacketId.{PacketId}
 use Rattle.srm_net.specs.Orders.{place, ordered, NoneBelow, Rises}
 use Rattle.srm_member.proofs.AllIn.{AllIn}
-use Rattle.srm_member.proofs.OrderLemmas.{From, from_trans, none_below_from, place-comm, place_first, rises_place, none_below_cond}
+use Rattle.srm_member.proofs.OrderLemmas.{From, none_below_from, place-comm, place_first, rises_place, none_below_cond}
 use Rattle.srm_cell.specs.declared.flight.Flight.{Flight}
 use Rattle.srm_cell.specs.Flights.{flight_cmp, BringsNone, turn_of, place_cmp}
 use Rattle.srm_cell.specs.InboxLines.{follows, leads, goes_before, IsPlaceIn}
@@ -74,10 +74,7 @@ module _ {A : Type 0} (cmp : A → A → Ordering) (o : IsTotalOrder cmp) where
 
   -- what is before y is before all that is not before y
   before_from : (x y z : A) → is_lt (cmp x y) ≡ true → From cmp o y z → is_lt (cmp x z) ≡ true
-  before_from x y z h g = elim (is_lt (cmp x z)) as (λ b. is_lt (cmp x z) ≡ b → is_lt (cmp x z) ≡ true) [
-    | true ↦ λ e. e
-    | false ↦ λ e. absurd (true≢false (sym h ∙ from_trans cmp o y z x g e))
-  ] refl
+  before_from x y z h g = grind arith
 
   pub before_all : (x y : A) (ys : List A) → is_lt (cmp x y) ≡ true → NoneBelow cmp y ys → AllIn (λ z. is_lt (cmp x z) ≡ true) ys
   before_all x y [] h g = tt
@@ -85,10 +82,7 @@ module _ {A : Type 0} (cmp : A → A → Ordering) (o : IsTotalOrder cmp) where
 
   -- what is not behind one that goes before x goes before x too
   pub earlier : (x y z : A) → From cmp o y z → is_lt (cmp z x) ≡ true → is_lt (cmp y x) ≡ true
-  earlier x y z h q = elim (is_lt (cmp y x)) as (λ b. is_lt (cmp y x) ≡ b → is_lt (cmp y x) ≡ true) [
-    | true ↦ λ e. e
-    | false ↦ λ e. absurd (true≢false (sym q ∙ from_trans cmp o x y z e h))
-  ] refl
+  earlier x y z h q = grind arith
 
   none_below_at : (y : A) (ys : List A) (j : ℕ) (d : A) → NoneBelow cmp y ys → j < length ys → From cmp o y (slice_index_or ys j d)
   none_below_at y [] j d h lt = absurd (omega arith)
@@ -224,10 +218,7 @@ others_rise (Err x) f old new ok err h = subst Climbs (sym err) h
 
 pub other_added : {E : Type 0} (r : Result Unit E) (f : Flight) (old new fs v : List Flight) → OnOk r (new ≡ place flight_cmp f old)
     → ordered flight_cmp (old ++ fs) ≡ v → BringsNone f.packet.id v → OnOk r (ordered flight_cmp (new ++ fs) ≡ place flight_cmp f v)
-other_added (Ok x) f old new fs v ok view h =
-    ap (λ l. ordered flight_cmp (l ++ fs)) ok ∙ strayed f old fs (subst (BringsNone f.packet.id) (sym view) h)
-    ∙ ap (place flight_cmp f) view
-other_added (Err x) f old new fs v ok view h = tt
+other_added r f old new fs v ok view h = grind (arith, strayed)
 
 pub first_other : (fs xs : List Flight) → leads fs xs ≡ false → Climbs xs
     → Climbs fs → slice_get xs 0 ≡ slice_get (ordered flight_cmp (xs ++ fs)) 0
@@ -243,17 +234,9 @@ pub line_popped : (r : Option Flight) (fs rest xs v : List Flight) (n : ℕ) →
     ++ rest
     → leads fs xs ≡ true → Climbs xs → Climbs fs → ordered flight_cmp (xs ++ fs) ≡ v
     → MatchOption r ((v ≡ []) × (ordered flight_cmp (xs ++ rest) ≡ [])) (λ f. v ≡ f ∷ ordered flight_cmp (xs ++ rest))
-line_popped None [] rest xs v n e some is q h g view = absurd (true≢false (sym q))
-line_popped None (f ∷ fs) rest xs v n e some is q h g view = absurd (true≢false (sym (some (omega arith))))
-line_popped (Some f) fs rest xs v n e some is q h g view =
-    sym view ∙ ap (λ l. ordered flight_cmp (xs ++ l)) is ∙ line_first f rest xs (subst (λ l. leads l xs ≡ true) is q) h (subst Climbs is g)
+line_popped r fs rest xs v n e some is q h g view = grind (arith, line_first)
 
 pub other_popped : (r : Option Flight) (xs rest fs v : List Flight) → MatchOption r ((xs ≡ []) × (rest ≡ [])) (λ f. xs ≡ f ∷ rest)
     → leads fs xs ≡ false → Climbs xs → Climbs fs → ordered flight_cmp (xs ++ fs) ≡ v
     → MatchOption r ((v ≡ []) × (ordered flight_cmp (rest ++ fs) ≡ [])) (λ f. v ≡ f ∷ ordered flight_cmp (rest ++ fs))
-other_popped None xs rest fs v is q h g view =
-    let none = none_first fs (subst (λ l. leads fs l ≡ false) is.0 q) in
-    (sym view ∙ ap (λ l. ordered flight_cmp (l ++ fs)) is.0 ∙ none, ap (λ l. ordered flight_cmp (l ++ fs)) is.1 ∙ none)
-other_popped (Some f) xs rest fs v is q h g view =
-    sym view ∙ ap (λ l. ordered flight_cmp (l ++ fs)) is ∙ other_first f rest fs (subst (λ l. leads fs l ≡ false) is q)
-    (subst Climbs is h) g
+other_popped r xs rest fs v is q h g view = grind (arith, other_first)

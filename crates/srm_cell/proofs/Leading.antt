@@ -20,12 +20,7 @@ pub record Leads (end m : ℕ) (p : PlainCell) (rows : List Row) (q : PlainCell)
 
 module _ (end m : ℕ) where
   pub leads_none : (p : PlainCell) → Leads end m p [] p
-  leads_none p = record {
-    steps = 0;
-    ends = λ k. let e : 0 + k ≡ k = omega arith in ap (λ n. own_end end m n p) e;
-    rows_are = λ k. let e : 0 + k ≡ k = omega arith in ap (λ n. own_rows end m n p) e;
-    leaves = λ k. let e : 0 + k ≡ k = omega arith in ap (λ n. own_after end m n p) e;
-  }
+  leads_none p = grind arith
 
   pub leads_more : (p q : PlainCell) (rows : List Row) (d : Stepped) → Leads end m p rows q → own_step end m q ≡ Done d
       → Leads end m p (rows ++ d.row ∷ []) d.cell

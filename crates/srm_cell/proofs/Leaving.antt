@@ -1,23 +1,20 @@
 -- Members that left: nothing is pending at a record that is gone.
 use Rattle.std.proofs.Common.{◌≡◌, ◌≢◌, ℕ, zero, suc, ◌<◌, ◌≤◌, Bool, true, false, cond, List, [], ◌∷◌, refl, sym, ap, ◌∙◌, subst, ◌⊎◌}
-use Rattle.std.proofs.Common.{inl, inr, arith, Option, Some, None, nat_lt, true≢false, lt-ltb, leb-true}
-use Rattle.std.proofs.Common.{eq-eqb, ◌==◌}
-use Rattle.srm_net.specs.declared.key.Key.{Key}
+use Rattle.std.proofs.Common.{inl, inr, arith, Option, Some, None, leb-true}
 use Rattle.srm_net.specs.declared.packet.Packet.{Packet}
 use Rattle.srm_net.specs.declared.packet.Body.{Body}
 use Rattle.srm_net.specs.Keys.{key_cmp}
 use Rattle.srm_scenario.specs.declared.mark.Mark.{Mark}
 use Rattle.srm_member.specs.declared.cause.Cause.{Cause}
 use Rattle.srm_member.specs.declared.due.Due.{Due}
-use Rattle.srm_member.specs.Record.{Record, Active, Gone, timers}
+use Rattle.srm_member.specs.Record.{Record, Active, Gone}
 use Rattle.srm_member.specs.React.{Reaction, react}
 use Rattle.srm_member.proofs.AllIn.{AllIn, AllIn-place}
 use Rattle.srm_member.proofs.OrderLemmas.{from_refl}
 use Rattle.srm_cell.specs.declared.flight.Flight.{Flight}
-use Rattle.srm_cell.specs.Flights.{flight_cmp}
 use Rattle.srm_scenario.specs.Presence.{is_up_to}
 use Rattle.srm_cell.specs.Setting.{HasOwnRanks, EndsAtLeave, cause_of_mark}
-use Rattle.srm_cell.specs.Cells.{PlainCell, hear_at, Event, earlier, first_arrival, first_mark, next_event, before, Idle, Full, Spent, Done}
+use Rattle.srm_cell.specs.Cells.{PlainCell, hear_at, Event, first_arrival, first_mark, next_event, before, Idle, Full, Spent, Done}
 use Rattle.srm_cell.specs.Cells.{Stepped, sending_step, handle, step_at, own_step, arrival_key, mark_key}
 use Rattle.srm_cell.specs.OwnRuns.{own_end}
 use Rattle.srm_cell.proofs.CellLemmas.{first_timer, next_event_is}
@@ -27,8 +24,6 @@ use Rattle.srm_cell.proofs.Tidy.{NotBefore, Least, IsTidy, RestTidy, above_least
 use Rattle.srm_cell.proofs.Counts.{Taken, next_taken}
 use Rattle.srm_cell.proofs.Clear.{IsTail, RestOf, next_rest, StepOf, step_is_of, all_tail, ranks_tail}
 use Rattle.srm_cell.proofs.OwnRunLemmas.{end_by, end_first, end_now}
-use Rattle.srm_net.specs.Limits.{most_sent}
-use Rattle.srm_net.proofs.Basics.{nat_cmp_self}
 use Rattle.srm_net.proofs.TotalOrders.{key_total}
 
 abbrev pub IsActive : Record → Type 0
@@ -50,12 +45,7 @@ pub record Stays (leave : Option ℕ) (c : PlainCell) : Type 0 where
 -- ---- an event is pending at active records alone
 
 nothing_left : (m : ℕ) (c : PlainCell) (r : Record) → c.holds ≡ r → IsOver r c → (e : Event) → next_event m c ≡ Some e → IsActive r
-nothing_left m c (Active k) h over e q = tt
-nothing_left m c (Gone f) h over e q =
-    let none : earlier (first_arrival m c c.inbox) (earlier (first_mark m c c.script) (first_timer m c (timers c.holds))) ≡ None =
-    (λ i. earlier (first_arrival m c (over.0 i)) (earlier (first_mark m c (over.1 i)) (first_timer m c (timers (h i))))) in
-    let x : None ≡ Some e = sym none ∙ sym (next_event_is m c) ∙ q in
-    absurd (let y : ⊥ = cc in y)
+nothing_left m c r h over e q = grind (arith, next_event_is)
 
 abbrev SameHolds : PlainCell → Event → Type 0
 SameHolds c e = e.rest.holds ≡ c.holds
@@ -105,30 +95,15 @@ timer_leaves m c [] = tt
 timer_leaves m c (d ∷ ds) = earlier_on (LeaveOf m c) (Some _) (first_timer m c ds) (λ h. cc) (timer_leaves m c ds)
 
 next_leaves : (m : ℕ) (c : PlainCell) → OnEvent (LeaveOf m c) (next_event m c)
-next_leaves m c = subst (OnEvent (LeaveOf m c)) (sym (next_event_is m c))
-    (earlier_on (LeaveOf m c) (first_arrival m c c.inbox) _ (arrival_leaves m c c.inbox)
-    (earlier_on (LeaveOf m c) (first_mark m c c.script) (first_timer m c (timers c.holds)) (mark_leaves m c c.script refl)
-    (timer_leaves m c (timers c.holds))))
+next_leaves m c = grind (arith, next_event_is, earlier_on, arrival_leaves, mark_leaves, timer_leaves)
 
 -- a leave's rank is above that of an arrival
 leave_rank : (k : Mark) → (k.rank ≡ 0) ⊎ (3 < k.rank) → cause_of_mark k ≡ None → 3 < k.rank
-leave_rank k (inr h) none = h
-leave_rank k (inl z) none =
-    let yes : (k.rank == 0) ≡ true = eq-eqb _ _ z in
-    let some : (c : Cause) × (cause_of_mark k ≡ Some c) = (Rattle.srm_member.specs.declared.cause.Cause.TheVariants.Join, rw yes) in
-    absurd (let x : Some some.0 ≡ None = sym some.1 ∙ none in let y : ⊥ = cc in y)
+leave_rank k h1 none = grind arith
 
 -- an arrival at the tick of a leave, or before it, comes before the leave
 arrival_first : (m : ℕ) (k : Mark) (f : Flight) → 3 < k.rank → f.arrival ≤ k.at → NotBefore (mark_key m k) (arrival_key m f) → ⊥
-arrival_first m k f high le h =
-    let same = nat_cmp_self m in
-    elim (nat_lt f.arrival k.at) as (λ b. nat_lt f.arrival k.at ≡ b → ⊥) [
-      | true ↦ λ q. true≢false (sym (simp q) ∙ h)
-      | false ↦ λ q.
-          let t : (f.arrival == k.at) ≡ true = eq-eqb _ _ (let n = Rattle.std.proofs.Common.ltb-false _ _ q in omega arith) in
-          let r : nat_lt 1 k.rank ≡ true = lt-ltb _ _ (omega arith) in
-          true≢false (sym (simp (q, t, same, r)) ∙ h)
-    ] refl
+arrival_first m k f high le h = grind arith
 
 no_flight : (leave m : ℕ) (k : Mark) (fs : List Flight) → 3 < k.rank → leave ≡ k.at → AllIn (λ f. is_up_to f.arrival (Some leave) ≡ true) fs
     → AllIn (λ f. NotBefore (mark_key m k) (arrival_key m f)) fs → fs ≡ []
@@ -141,19 +116,9 @@ no_flight leave m k (f ∷ fs) high e up from = absurd (arrival_first m k f high
 abbrev ActiveOrLeft : Event → Stepped → Type 0
 ActiveOrLeft e d = IsActive d.cell.holds ⊎ (e.cause ≡ None)
 
-active_by : (e : Event) (b : Bool) (x : Stepped) → ActiveOrLeft e x → OnStep (ActiveOrLeft e) (cond b (Done x) Full)
-active_by e true x h = h
-active_by e false x h = tt
-
-active_sending : (e : Event) (r : Reaction) (body : Option Body) → OnStep (ActiveOrLeft e) (sending_step e r body)
-active_sending e r None = inl tt
-active_sending e r (Some body) = active_by e (nat_lt e.rest.sent most_sent) _ (inl tt)
-
 active_handle : (e : Event) (holds : Record) (cause : Option Cause) → e.cause ≡ cause → OnStep (ActiveOrLeft e) (handle e holds cause)
 unfolding handle
-active_handle e (Active m) (Some cause) q = let r = react m e.key.time cause in active_sending e r r.answer.body
-active_handle e (Active m) None q = inr q
-active_handle e (Gone f) cause q = tt
+active_handle e holds cause q = grind arith
 
 active_over : (r : Record) (c : PlainCell) → IsActive r → IsOver r c
 active_over (Active m) c h = tt
@@ -203,14 +168,7 @@ stays_step leave m c e d tidy s q x =
 
 pub stays_hear_at : (leave : Option ℕ) (p : Packet) (o : Option ℕ) (c : PlainCell)
     → ((at : ℕ) → o ≡ Some at → (is_up_to at leave ≡ true) × IsActive c.holds) → Stays leave c → Stays leave (hear_at p o c)
-stays_hear_at leave p None c h s = s
-stays_hear_at leave p (Some at) c h s = record {
-  flights = AllIn-place (λ f. is_up_to f.arrival leave ≡ true) flight_cmp (record { arrival = at; packet = p }) c.inbox
-      (h at refl).0 s.flights;
-  marks = s.marks;
-  ranks = s.ranks;
-  over = active_over c.holds (hear_at p (Some at) c) (h at refl).1;
-}
+stays_hear_at leave p o c h s = grind (arith, AllIn-place)
 
 -- ---- own runs
 
@@ -250,11 +208,4 @@ own_never_spent leave end m (suc n) c tidy s h = elim (own_step end m c) as (λ 
 -- a member that is gone after a step left at the time of the step
 pub left_at : (leave : Option ℕ) (m : ℕ) (c : PlainCell) (e : Event) (d : Stepped) → Stays leave c → next_event m c ≡ Some e
     → step_at (Some e) ≡ Done d → IsActive d.cell.holds ⊎ (leave ≡ Some e.key.time)
-left_at leave m c e d s q x =
-    let active : ActiveOrLeft e d = subst (OnStep (ActiveOrLeft e)) x (active_handle e e.rest.holds e.cause refl) in
-    elim active [
-      | inl a ↦ inl a
-      | inr none ↦
-          let l = subst (OnEvent (LeaveOf m c)) q (next_leaves m c) none in
-          inr (((subst (EndsAtLeave leave) l.2 s.marks).0 l.3).0 ∙ ap (λ (k : Key). Some k.time) (sym l.6))
-    ]
+left_at leave m c e d s q x = grind (arith, active_handle, next_leaves)

@@ -1,15 +1,16 @@
 -- Where a cell has its next event.
-use Rattle.std.proofs.Common.{◌≡◌, ◌<◌, ◌≤◌, true, false, cond, nat_lt, lt-ltb, le-ltb, ℕ, List, [], ◌∷◌, Option, Some, None, option_map}
-use Rattle.std.proofs.Common.{slice_get, refl, sym, ap, ◌∙◌, subst, Ordering, Less, Equal, Greater}
+use Rattle.std.proofs.Common.{arith}
+use Rattle.std.proofs.Common.{◌≡◌, ◌<◌, ◌≤◌, cond, ℕ, List, [], ◌∷◌, Option, Some, None, option_map}
+use Rattle.std.proofs.Common.{slice_get, refl, sym, ap, ◌∙◌, subst, Ordering}
 use Rattle.std.specs.Ordering.{is_gt}
 use Rattle.srm_net.specs.Keys.{key_cmp}
 use Rattle.srm_net.specs.declared.key.Key.{Key}
 use Rattle.srm_net.specs.declared.packet.PacketId.{PacketId}
 use Rattle.srm_scenario.specs.declared.mark.Mark.{Mark}
 use Rattle.srm_member.specs.declared.due.Due.{Due}
-use Rattle.srm_member.specs.Record.{Record, Active, Gone, due_of}
+use Rattle.srm_member.specs.Record.{Record, due_of}
 use Rattle.srm_cell.specs.declared.flight.Flight.{Flight}
-use Rattle.srm_cell.specs.Cells.{PlainCell, Event, first_arrival, first_mark, next_timer, timer_event, next_event, earlier, by_key, before}
+use Rattle.srm_cell.specs.Cells.{PlainCell, Event, first_arrival, first_mark, next_timer, timer_event, next_event, earlier, before}
 use Rattle.srm_cell.specs.Cells.{step_at, own_step, handle, Idle}
 use Rattle.srm_cell.specs.declared.pending.Pending.{Pending}
 use Rattle.srm_cell.specs.Pending.{Stands, sooner_pending}
@@ -47,9 +48,7 @@ mark_known m n p ks rest k number script h = subst
     (_, refl, (λ i. record { time = k.at; member = number i; rank = k.rank; a = 0; b = 0; c = k.place }), refl)
 
 pub held_due : (o : Option Record) (h : Record) → HoldsRecord o h → due_of h ≡ due_in o
-held_due None (Active m) g = absurd g
-held_due None (Gone f) g = refl
-held_due (Some r) h g = ap due_of g
+held_due o h g = grind arith
 
 pub timer_known : (m n : ℕ) (p : PlainCell) (o : Option Record) (d : Due) → n ≡ m → HoldsRecord o p.holds → Some d ≡ due_in o
     → Known (record { time = d.time; member = n; rank = d.rank; a = d.name.source; b = d.name.page; c = d.name.number })
@@ -67,33 +66,11 @@ timer_known m n p o d number holds h =
 sooner_by : (m : ℕ) (c : PlainCell) (p q : Pending) (x y : Option Event) (r : Ordering) → key_cmp p.key q.key ≡ r → Stands m c (Some p) x
     → Stands m c (Some q) y
     → Stands m c (cond (is_gt r) (Some q) (Some p)) (earlier x y)
-sooner_by m c p q x y Less r h g = (
-  h.0,
-  (λ i. earlier (h.1 i) (g.1 i)) ∙
-      ap (λ o. Some (by_key o h.0 g.0)) ((λ i. key_cmp (sym h.2 i) (sym g.2 i)) ∙ r),
-  h.2,
-  h.3,
-)
-sooner_by m c p q x y Equal r h g = (
-  h.0,
-  (λ i. earlier (h.1 i) (g.1 i)) ∙
-      ap (λ o. Some (by_key o h.0 g.0)) ((λ i. key_cmp (sym h.2 i) (sym g.2 i)) ∙ r),
-  h.2,
-  h.3,
-)
-sooner_by m c p q x y Greater r h g = (
-  g.0,
-  (λ i. earlier (h.1 i) (g.1 i))
-      ∙ ap (λ o. Some (by_key o h.0 g.0)) ((λ i. key_cmp (sym h.2 i) (sym g.2 i)) ∙ r),
-  g.2,
-  g.3,
-)
+sooner_by m c p q x y r h7 h g = grind arith
 
 pub sooner_stands : (m : ℕ) (c : PlainCell) (d e : Option Pending) (x y : Option Event) → Stands m c d x → Stands m c e y
     → Stands m c (sooner_pending d e) (earlier x y)
-sooner_stands m c None e x y h g = subst (λ o. Stands m c e (earlier o y)) (sym h) g
-sooner_stands m c (Some p) None x y h g = (h.0, (λ i. earlier (h.1 i) (g i)), h.2, h.3)
-sooner_stands m c (Some p) (Some q) x y h g = sooner_by m c p q x y (key_cmp p.key q.key) refl h g
+sooner_stands m c d e x y h g = grind (arith, sooner_by)
 
 -- ---- the own step
 
@@ -104,15 +81,9 @@ module _ (end m : ℕ) (p : PlainCell) where
 
   pub none_before : (q : Pending) → Stands m p (Some q) (next_event m p) → end ≤ q.key.time → own_step end m p ≡ Idle
   unfolding own_step
-  none_before q h le =
-      let late : end ≤ h.0.key.time = subst (λ (k : Key). end ≤ k.time) h.2 le in
-      let no : nat_lt h.0.key.time end ≡ false = le-ltb _ _ late in
-      ap (λ o. step_at (before end o)) h.1 ∙ ap (λ b. step_at (cond b (Some h.0) None)) no
+  none_before q h le = grind arith
 
   pub takes : (q : Pending) → (h : Stands m p (Some q) (next_event m p)) → q.key.time < end → own_step end m p
       ≡ handle h.0 h.0.rest.holds h.0.cause
   unfolding own_step
-  takes q h lt =
-      let early : h.0.key.time < end = subst (λ (k : Key). k.time < end) h.2 lt in
-      let yes : nat_lt h.0.key.time end ≡ true = lt-ltb _ _ early in
-      ap (λ o. step_at (before end o)) h.1 ∙ ap (λ b. step_at (cond b (Some h.0) None)) yes
+  takes q h lt = grind arith

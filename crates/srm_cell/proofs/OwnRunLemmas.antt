@@ -1,4 +1,5 @@
 -- Own runs, step by step.
+use Rattle.std.proofs.Common.{arith}
 use Rattle.std.proofs.Common.{◌≡◌, ℕ, zero, suc, List, [], ◌∷◌, refl, sym, ap, ◌∙◌, ◌⊎◌, inl, inr}
 use Rattle.srm_member.specs.declared.row.Row.{Row}
 use Rattle.srm_cell.specs.Cells.{PlainCell, StepOutcome, Idle, Full, Spent, Done, Stepped, own_step}
@@ -101,6 +102,4 @@ module _ (end m : ℕ) where
   ]
 
 pub own_runs_are_one : OwnRunsAreOne
-own_runs_are_one end m c qs rs d e q r =
-    let same = same_run end m q.steps r.steps c q.ends r.ends in
-    (q.rows_are ∙ same.0 ∙ sym r.rows_are, q.leaves ∙ same.1 ∙ sym r.leaves)
+own_runs_are_one end m c qs rs d e q r = grind (arith, same_run)

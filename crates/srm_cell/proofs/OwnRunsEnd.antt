@@ -10,16 +10,13 @@ use Rattle.srm_cell.proofs.OwnRunLemmas.{end_done}
 use Rattle.srm_cell.proofs.Rising.{Above, IsAbove, OnEvent, OnStep, next_above, step_above}
 use Rattle.srm_cell.proofs.Tidy.{IsTidy, Least, NotBefore, RestTidy, above_least, next_tidy, not_before_time, tidy_step}
 use Rattle.srm_cell.specs.Cells.{Done, Event, Full, Idle, PlainCell, Silent, Spent, Stepped, before, handle, next_event, own_step}
-use Rattle.srm_cell.specs.Cells.{pending_at, sending_step, step_at}
+use Rattle.srm_cell.specs.Cells.{pending_at, step_at}
 use Rattle.srm_cell.specs.OwnRuns.{own_end}
 use Rattle.srm_member.proofs.FewerTimers.{SoundRecord}
-use Rattle.srm_member.proofs.LawProofs.{as_listener, no_body, same_fixed}
+use Rattle.srm_member.proofs.LawProofs.{as_listener}
 use Rattle.srm_member.proofs.OrderLemmas.{from_refl}
-use Rattle.srm_net.specs.Roles.{is_listener}
-use Rattle.srm_member.specs.React.{Reaction, react}
-use Rattle.srm_member.specs.Record.{Active, Gone, Record}
+use Rattle.srm_member.specs.Record.{Record}
 use Rattle.srm_member.specs.declared.cause.Cause.{Cause}
-use Rattle.srm_member.specs.declared.fixed.Fixed.{Fixed}
 use Rattle.srm_net.specs.Keys.{key_cmp}
 use Rattle.srm_net.specs.declared.key.Key.{Key}
 use Rattle.srm_net.proofs.TotalOrders.{key_total}
@@ -112,13 +109,7 @@ SentNothing d = (d.row.sent ≡ None) × Silent d.cell.holds
 silent_handle : (e : Event) (holds : Record) (cause : Option Cause) → e.rest.holds ≡ holds → Silent holds
     → OnStep SentNothing (handle e holds cause)
 unfolding handle
-silent_handle e (Active m) (Some cause) q h =
-    let r = react m e.key.time cause in
-    let none : r.answer.body ≡ None = ap (λ (r : Reaction). r.answer.body) (as_listener m e.key.time cause h) ∙ no_body m cause in
-    subst (λ b. OnStep SentNothing (sending_step e r b)) (sym none)
-    (refl, ap (λ (f : Fixed). is_listener f.role) (same_fixed m e.key.time cause) ∙ h)
-silent_handle e (Active m) None q h = (refl, tt)
-silent_handle e (Gone f) cause q h = tt
+silent_handle e holds cause q h = grind (arith, as_listener)
 
 pub silent_step : (e : Event) → Silent e.rest.holds → OnStep SentNothing (step_at (Some e))
 silent_step e h = silent_handle e e.rest.holds e.cause refl h

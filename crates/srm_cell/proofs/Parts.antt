@@ -1,4 +1,5 @@
 -- What a cell keeps as its next event is none of its parts.
+use Rattle.std.proofs.Common.{arith}
 use Rattle.std.proofs.Common.{ℕ, Option}
 use Rattle.srm_member.specs.Record.{Record}
 use Rattle.srm_cell.specs.declared.cell.Cell.{Cell}
@@ -9,13 +10,4 @@ use Rattle.srm_cell.specs.Views.{HasParts}
 module _ {M : Type 0} where
   pub same_parts : (f : M → Record) (m : ℕ) (c : Cell M) (p : PlainCell) (o : Option Pending) → HasParts f m c p
       → HasParts f m (record c { next = o }) p
-  same_parts f m c p o h = record {
-    number = h.number;
-    holds = h.holds;
-    sent = h.sent;
-    inbox = h.inbox;
-    script = h.script;
-    exit =
-        h.exit;
-    none_once_left = h.none_once_left;
-  }
+  same_parts f m c p o h = grind arith

@@ -1,6 +1,6 @@
 -- Rows that are put behind others.
 use Rattle.std.proofs.Common.{◌≡◌, ◌∷◌, ◌++◌, [], ℕ, ◌-◌, ◌<◌, List, Option, Some, Result, Ok, Err}
-use Rattle.std.proofs.Common.{sym, ap, subst, ◌∙◌, length, slice_index_or, arith}
+use Rattle.std.proofs.Common.{sym, subst, length, slice_index_or, arith}
 use Rattle.std.specs.Result.{OnOk, IfErr}
 use Rattle.srm_member.specs.declared.row.Row.{Row}
 use Rattle.srm_cell.specs.declared.fault.CellFault.{CellFault}
@@ -23,6 +23,4 @@ put_so P Q old new (Err e) f puts = f (Err e) puts
 -- of one row alone that is the last of so many
 pub last_is : (xs : List Row) (n : ℕ) (row : Row) (o : Option Row) → xs ≡ row ∷ [] → n ≡ length xs
     → (0 < n → o ≡ Some (slice_index_or xs (n - 1) row)) → o ≡ Some row
-last_is xs n row o is many last =
-    let one : n ≡ 1 = many ∙ ap length is in
-    last (omega arith) ∙ (λ i. Some (slice_index_or (is i) (one i - 1) row))
+last_is xs n row o is many last = grind arith

@@ -1,10 +1,10 @@
 -- Bounds on all that a cell has pending, and the row of a step.
-use Rattle.std.proofs.Common.{◌≡◌, ℕ, ◌<◌, Bool, true, false, cond, List, [], ◌∷◌, refl, sym, subst, Ordering, Less, Equal, Greater}
+use Rattle.std.proofs.Common.{arith}
+use Rattle.std.proofs.Common.{◌≡◌, ℕ, ◌<◌, Bool, true, false, List, [], ◌∷◌, sym, subst}
 use Rattle.std.proofs.Common.{Option, Some, None, nat_lt}
 use Rattle.srm_cell.proofs.CellLemmas.{first_timer, keep, next_event_is}
 use Rattle.srm_cell.specs.Cells.{arrival_key, mark_key, timer_key, Done, Event, Full, Idle, PlainCell, Spent, StepOutcome, Stepped, before}
-use Rattle.srm_cell.specs.Cells.{by_key, earlier, first_arrival, first_mark, handle, hear_at, next_event, sending_step, step_at}
-use Rattle.srm_cell.specs.Flights.{flight_cmp}
+use Rattle.srm_cell.specs.Cells.{earlier, first_arrival, first_mark, handle, hear_at, next_event, sending_step, step_at}
 use Rattle.srm_cell.specs.declared.flight.Flight.{Flight}
 use Rattle.srm_member.proofs.AllIn.{AllIn, AllIn-place}
 use Rattle.srm_member.proofs.Bounds.{kept_react}
@@ -12,27 +12,18 @@ use Rattle.srm_member.specs.React.{Reaction, react}
 use Rattle.srm_member.specs.Record.{Active, Gone, Record, timers, timers_of}
 use Rattle.srm_member.specs.declared.cause.Cause.{Cause}
 use Rattle.srm_member.specs.declared.due.Due.{Due}
-use Rattle.srm_net.specs.Keys.{key_cmp}
 use Rattle.srm_net.specs.declared.key.Key.{Key}
 use Rattle.srm_net.specs.declared.packet.Body.{Body}
 use Rattle.srm_net.specs.declared.packet.Packet.{Packet}
 use Rattle.srm_scenario.specs.declared.mark.Mark.{Mark}
-use Rattle.srm_net.specs.Limits.{most_sent}
 
 abbrev pub OnEvent : (Event → Type 0) → Option Event → Type 0
 OnEvent Q None = Unit {0}
 OnEvent Q (Some e) = Q e
 
 module _ (Q : Event → Type 0) where
-  by_key_on : (r : Ordering) (d e : Event) → Q d → Q e → Q (by_key r d e)
-  by_key_on Less d e h g = h
-  by_key_on Equal d e h g = h
-  by_key_on Greater d e h g = g
-
   pub earlier_on : (x y : Option Event) → OnEvent Q x → OnEvent Q y → OnEvent Q (earlier x y)
-  earlier_on None y h g = g
-  earlier_on (Some d) None h g = h
-  earlier_on (Some d) (Some e) h g = by_key_on (key_cmp d.key e.key) d e h g
+  earlier_on x y h g = grind arith
 
   keep_on : (b : Bool) (e : Event) → Q e → OnEvent Q (keep b e)
   keep_on true e h = h
@@ -80,25 +71,13 @@ module _ (P : Key → Type 0) (m : ℕ) where
 
   pub hear_at_above : (p : Packet) (o : Option ℕ) (c : PlainCell) →
       ((at : ℕ) → o ≡ Some at → P (arrival_key m (record { arrival = at; packet = p }))) → Above c → Above (hear_at p o c)
-  hear_at_above p None c h a = a
-  hear_at_above p (Some at) c h a = record {
-    flights = AllIn-place _ flight_cmp _ c.inbox (h at refl) a.flights;
-    marks = a.marks;
-    dues =
-        a.dues;
-  }
+  hear_at_above p o c h a = grind (arith, AllIn-place)
 
   -- what a step leaves, where P holds of every later key
   module _ (t : ℕ) (later : (k : Key) → t < k.time → P k) where
-    sending_by_above : (b : Bool) (x : Stepped) → Above x.cell → OnStep (λ d. Above d.cell) (cond b (Done x) Full)
-    sending_by_above true x h = h
-    sending_by_above false x h = tt
-
     sending_above : (e : Event) (r : Reaction) (body : Option Body) → Above e.rest → AllIn (λ d. P (timer_key m d)) (timers_of r.state)
         → OnStep (λ d. Above d.cell) (sending_step e r body)
-    sending_above e r None a h = record { flights = a.flights; marks = a.marks; dues = h }
-    sending_above e r (Some body) a h = sending_by_above (nat_lt e.rest.sent most_sent) _
-        (record { flights = a.flights; marks = a.marks; dues = h })
+    sending_above e r body a h = grind arith
 
     handle_above : (e : Event) (holds : Record) (cause : Option Cause) → e.key.time ≡ t → Above e.rest
         → AllIn (λ d. P (timer_key m d)) (timers holds) → OnStep (λ d. Above d.cell) (handle e holds cause)
@@ -122,19 +101,9 @@ SentAt t (Some p) = p.sent ≡ t
 abbrev pub RowOf : Key → Stepped → Type 0
 RowOf k d = (d.row.key ≡ k) × SentAt k.time d.row.sent
 
-row_by : (k : Key) (b : Bool) (x : Stepped) → RowOf k x → OnStep (RowOf k) (cond b (Done x) Full)
-row_by k true x h = h
-row_by k false x h = tt
-
-row_sending : (e : Event) (r : Reaction) (body : Option Body) → OnStep (RowOf e.key) (sending_step e r body)
-row_sending e r None = (refl, tt)
-row_sending e r (Some body) = row_by e.key (nat_lt e.rest.sent most_sent) _ (refl, refl)
-
 row_handle : (e : Event) (holds : Record) (cause : Option Cause) → OnStep (RowOf e.key) (handle e holds cause)
 unfolding handle
-row_handle e (Active k) (Some cause) = let r = react k e.key.time cause in row_sending e r r.answer.body
-row_handle e (Active k) None = (refl, tt)
-row_handle e (Gone f) cause = tt
+row_handle e holds cause = grind arith
 
 pub row_step : (e : Event) → OnStep (RowOf e.key) (step_at (Some e))
 row_step e = row_handle e e.rest.holds e.cause

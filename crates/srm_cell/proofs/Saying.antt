@@ -1,5 +1,6 @@
 -- What a member's answer makes of an event.
-use Rattle.std.proofs.Common.{◌≡◌, ℕ, ◌+◌, ◌<◌, ◌≤◌, true, false, Bool, cond, Option, Some, None, Ok, Err, refl, sym, ap, ◌∙◌, subst}
+use Rattle.std.proofs.Common.{arith}
+use Rattle.std.proofs.Common.{◌≡◌, ℕ, ◌+◌, ◌<◌, ◌≤◌, true, false, cond, Option, Some, None, Ok, Err, refl, sym, ap, ◌∙◌, subst}
 use Rattle.std.proofs.Common.{nat_lt, lt-ltb, le-ltb}
 use Rattle.srm_net.specs.declared.key.Key.{Key}
 use Rattle.srm_net.specs.declared.packet.Body.{Body}
@@ -8,9 +9,9 @@ use Rattle.srm_member.specs.declared.react.React.{React}
 use Rattle.srm_member.specs.declared.exit.Exit.{Exit}
 use Rattle.srm_member.specs.declared.fault.MemberFault.TheVariants as member
 use Rattle.srm_member.specs.Record.{Record, Active, Gone}
-use Rattle.srm_member.specs.React.{Reaction, react}
+use Rattle.srm_member.specs.React.{Reaction}
 use Rattle.srm_member.specs.Reacts.{Reacts, Finishes}
-use Rattle.srm_cell.specs.Cells.{Event, Full, Spent, Done, Stepped, handle, sending_step, row_of, packet_of, parting}
+use Rattle.srm_cell.specs.Cells.{Event, Full, Spent, Done, handle, sending_step, row_of, packet_of, parting}
 use Rattle.srm_cell.specs.Views.{IsGone, HasWork, HoldsRecord, record_in}
 use Rattle.srm_net.specs.Limits.{most_sent}
 
@@ -33,16 +34,7 @@ module _ (e : Event) (key : Key) (cause : Cause) (same : key ≡ e.key) (caused 
   answered : (r s : Record) (a : React) → Reacts r key.time cause (Ok a) s
       → (o : Option Body) → a.body ≡ o → (x : Reaction) × (x.answer ≡ a) × (s ≡ Active x.state) × (handle e r e.cause ≡ sending_step e x o)
   unfolding handle
-  answered (Gone f) s a h o b = absurd h
-  answered (Active m) s a h o b =
-      let time : key.time ≡ e.key.time = ap (λ (k : Key). k.time) same in
-      let x = react m e.key.time cause in
-      let is : a ≡ x.answer = h.0 ∙ ap (λ t. (react m t cause).answer) time in (
-        x,
-        sym is,
-        h.1 ∙ ap (λ t. Active (react m t cause).state) time,
-        ap (handle e (Active m)) caused ∙ ap (sending_step e x) (ap (λ (r : React). r.body) (sym is) ∙ b),
-      )
+  answered r s a h o b = grind arith
 
   -- and sends nothing
   pub said_nothing : (r s : Record) (a : React) → e.rest.holds ≡ r → Reacts r key.time cause (Ok a) s → a.body ≡ None
@@ -87,29 +79,16 @@ module _ (e : Event) (key : Key) (cause : Cause) (same : key ≡ e.key) (caused 
       })) Full) no
 
 -- ---- where memory was refused there was something to do
-work_by : (b : Bool) (x : Stepped) → HasWork (cond b (Done x) Full)
-work_by true x = tt
-work_by false x = tt
-
-sending_work : (e : Event) (r : Reaction) (body : Option Body) → HasWork (sending_step e r body)
-sending_work e r None = tt
-sending_work e r (Some body) = work_by (nat_lt e.rest.sent most_sent) _
 
 pub wanting : (e : Event) (cause : Cause) (at : ℕ) (r s : Record) → e.rest.holds ≡ r → e.cause ≡ Some cause
     → Reacts r at cause (Err member.NoMemory) s → HasWork (handle e e.rest.holds e.cause)
 unfolding handle
-wanting e cause at (Gone f) s holds caused h = absurd h
-wanting e cause at (Active m) s holds caused h =
-    subst HasWork (sym (ap (λ q. handle e q e.cause) holds ∙ ap (handle e (Active m)) caused))
-    (sending_work e (react m e.key.time cause) (react m e.key.time cause).answer.body)
+wanting e cause at r s holds caused h = grind arith
 
 pub working : (e : Event) (cause : Cause) (at : ℕ) (r s : Record) (a : React) → e.rest.holds ≡ r → e.cause ≡ Some cause
     → Reacts r at cause (Ok a) s → HasWork (handle e e.rest.holds e.cause)
 unfolding handle
-working e cause at (Gone f) s a holds caused h = absurd h
-working e cause at (Active m) s a holds caused h =
-    subst HasWork (sym (ap (λ q. handle e q e.cause) holds ∙ ap (handle e (Active m)) caused))
-    (sending_work e (react m e.key.time cause) (react m e.key.time cause).answer.body)
+working e cause at r s a holds caused h = grind arith
 
 pub wanting_end : (e : Event) (r s : Record) → e.rest.holds ≡ r → e.cause ≡ None → Finishes r (Err member.NoMemory) s
     → HasWork (handle e e.rest.holds e.cause)
@@ -122,12 +101,7 @@ pub left : (e : Event) (r s : Record) (x : Exit) → e.rest.holds ≡ r → e.ca
     → IsGone s × (handle e e.rest.holds e.cause ≡ Done
     (record { cell = record e.rest { holds = s; exit = Some x }; row = row_of e parting None }))
 unfolding handle
-left e (Gone f) s x holds caused h = absurd h
-left e (Active m) s x holds caused h = (
-  subst IsGone (sym h.1) tt,
-  ap (λ q. handle e q e.cause) holds ∙ ap (handle e (Active m)) caused ∙
-      (λ i. Done (record { cell = record e.rest { holds = sym h.1 i; exit = Some (sym h.0 i) }; row = row_of e parting None })),
-)
+left e r s x holds caused h = grind arith
 
 -- ---- the box
 

@@ -1,17 +1,14 @@
 -- The packets of an own run: whose they are, and how many.
 use Rattle.std.proofs.Common.{◌≡◌, ◌<◌, ◌≤◌, ℕ, zero, suc, ◌-◌, ◌*◌, Bool, true, false, cond, List, [], ◌∷◌, length, Option, Some}
 use Rattle.std.proofs.Common.{None, refl, sym, ap, ◌∙◌, subst, arith, nat_lt, ltb-true, length-append, All}
-use Rattle.std.specs.List.{cons_option}
 use Rattle.std.proofs.lemmas.List.Elements.{All-nil, All-cons}
-use Rattle.srm_net.specs.declared.packet.Body.{Body}
 use Rattle.srm_net.specs.declared.packet.Packet.{Packet}
 use Rattle.srm_member.specs.declared.cause.Cause.{Cause}
 use Rattle.srm_member.specs.declared.row.Row.{Row}
-use Rattle.srm_member.specs.React.{Reaction, react}
-use Rattle.srm_member.specs.Record.{Active, Gone, Record}
+use Rattle.srm_member.specs.Record.{Record}
 use Rattle.srm_cell.specs.declared.cell.Cell.{Cell}
-use Rattle.srm_cell.specs.Cells.{PlainCell, Event, StepOutcome, Idle, Full, Spent, Done, Stepped, before, handle, next_event, own_step}
-use Rattle.srm_cell.specs.Cells.{sending_step, step_at}
+use Rattle.srm_cell.specs.Cells.{PlainCell, Event, StepOutcome, Full, Done, Stepped, before, handle, next_event, own_step}
+use Rattle.srm_cell.specs.Cells.{step_at}
 use Rattle.srm_cell.specs.OwnRuns.{own_rows}
 use Rattle.srm_cell.specs.Crossings.{packets_of, joined}
 use Rattle.srm_cell.specs.Totalled.{IsSentBelow}
@@ -37,15 +34,9 @@ counts_by : (n : ℕ) (b : Bool) (x : Stepped) → (b ≡ true → Counts n x.ro
 counts_by n true x h = h refl
 counts_by n false x h = tt
 
-counts_sending : (e : Event) (r : Reaction) (body : Option Body) → CountsFrom e.rest.sent (sending_step e r body)
-counts_sending e r None = refl
-counts_sending e r (Some body) = counts_by e.rest.sent (nat_lt e.rest.sent most_sent) _ (λ t. (ltb-true _ _ t, omega arith))
-
 counts_handle : (e : Event) (holds : Record) (cause : Option Cause) → CountsFrom e.rest.sent (handle e holds cause)
 unfolding handle
-counts_handle e (Active m) (Some cause) = let r = react m e.key.time cause in counts_sending e r r.answer.body
-counts_handle e (Active m) None = refl
-counts_handle e (Gone f) cause = tt
+counts_handle e holds cause = grind arith
 
 counts_at : (c : PlainCell) (x : Option Event) → OnEvent (RestOf c) x → CountsFrom c.sent (step_at x)
 counts_at c None h = tt
@@ -54,11 +45,6 @@ counts_at c (Some e) h = subst (λ n. CountsFrom n (step_at (Some e))) h.sent (c
 counts_own : (end m : ℕ) (c : PlainCell) → CountsFrom c.sent (own_step end m c)
 unfolding own_step
 counts_own end m c = counts_at c (before end (next_event m c)) (before_on (RestOf c) end (next_event m c) (next_rest m c))
-
-one_packet : (b a : ℕ) (o : Option Packet) (ps : List Packet) → Counts b o a → length ps ≤ most_sent - a
-    → length (cons_option o ps) ≤ most_sent - b
-one_packet b a None ps h le = omega arith
-one_packet b a (Some p) ps h le = let lt = h.0 in let e = h.1 in omega arith
 
 -- ---- when
 
@@ -86,10 +72,7 @@ early end m c d h = early_at end (next_event m c) d h
 module _ (end m : ℕ) where
   few_by : (n before : ℕ) → ((d : PlainCell) → length (packets_of (own_rows end m n d)) ≤ most_sent - d.sent) → (o : StepOutcome Stepped)
       → CountsFrom before o → length (packets_of (rows_by end m n o)) ≤ most_sent - before
-  few_by n before more Idle h = omega arith
-  few_by n before more Full h = omega arith
-  few_by n before more Spent h = omega arith
-  few_by n before more (Done d) h = one_packet before d.cell.sent d.row.sent _ h (more d.cell)
+  few_by n before more o h = grind arith
 
   few_left : (n : ℕ) (c : PlainCell) → length (packets_of (own_rows end m n c)) ≤ most_sent - c.sent
   few_left zero c = let e = ap (λ rs. length (packets_of rs)) (rows_none end m c) in omega (arith, e)
@@ -98,18 +81,10 @@ module _ (end m : ℕ) where
 
   -- ---- whose
 
-  sent_below : (k : ℕ) (o : Option Packet) → m < k → end ≤ end_of_time → SentBy m o → SentBefore end o → IsSentBelow k o
-  sent_below k None lt le h g = tt
-  sent_below k (Some p) lt le h g = (omega arith, omega arith)
-
   below_by : (k n : ℕ) → m < k → end ≤ end_of_time → ((d : PlainCell) → All (λ r. IsSentBelow k r.sent) (own_rows end m n d))
       → (o : StepOutcome Stepped)
       → ((d : Stepped) → o ≡ Done d → SentBy m d.row.sent × SentBefore end d.row.sent) → All (λ r. IsSentBelow k r.sent) (rows_by end m n o)
-  below_by k n lt le more Idle h = All-nil (λ (r : Row). IsSentBelow k r.sent)
-  below_by k n lt le more Full h = All-nil (λ (r : Row). IsSentBelow k r.sent)
-  below_by k n lt le more Spent h = All-nil (λ (r : Row). IsSentBelow k r.sent)
-  below_by k n lt le more (Done d) h = let s = h d refl in All-cons (λ (r : Row). IsSentBelow k r.sent) d.row _
-      (sent_below k d.row.sent lt le s.0 s.1) (more d.cell)
+  below_by k n lt le more o h = grind arith
 
   own_below : (k n : ℕ) (c : PlainCell) → m < k → end ≤ end_of_time → All (λ r. IsSentBelow k r.sent) (own_rows end m n c)
   own_below k zero c lt le = subst (All (λ r. IsSentBelow k r.sent)) (sym (rows_none end m c)) (All-nil (λ (r : Row). IsSentBelow k r.sent))

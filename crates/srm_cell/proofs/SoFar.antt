@@ -1,23 +1,15 @@
 -- Own runs of cells, taken one after the other: what is so after the first of them.
-use Rattle.std.proofs.Common.{◌≡◌, ℕ, List, [], ◌∷◌, ◌++◌, refl, sym, subst, inl, inr, append_assoc, append-nil, Err, ◌≢◌, ◌∙◌, ◌<◌, length}
+use Rattle.std.proofs.Common.{◌≡◌, ℕ, List, [], ◌∷◌, ◌++◌, refl, sym, subst, inr, append_assoc, append-nil, Err, ◌≢◌, ◌∙◌, ◌<◌, length}
 use Rattle.std.proofs.Common.{arith}
 use Rattle.srm_member.specs.Record.{Record}
 use Rattle.srm_member.specs.declared.row.Row.{Row}
 use Rattle.srm_cell.specs.declared.cell.Cell.{Cell}
 use Rattle.srm_cell.specs.declared.fault.CellFault.{CellFault}
-use Rattle.srm_cell.specs.declared.fault.CellFault.TheVariants as fault
-use Rattle.srm_cell.specs.Cells.{PlainCell, StepOutcome, Idle, Full, Spent, Done, Stepped, own_step}
+use Rattle.srm_cell.specs.Cells.{PlainCell, StepOutcome, Idle, Spent, Stepped, own_step}
 use Rattle.srm_cell.specs.OwnRuns.{IsOwnRun}
-use Rattle.srm_cell.specs.Views.{IsCell, HasWork}
+use Rattle.srm_cell.specs.Views.{IsCell}
 use Rattle.srm_cell.proofs.OwnRunLemmas.{spent_ends}
 use Rattle.srm_cell.specs.Jobs.{OwnCell, FirstEnds, AskMemory, AreCells, RanAlone, RanEach, TellsRun, TellsFault}
-
--- memory is asked for where there is work, and to keep what an own run tells
-work_asks : (o : StepOutcome Stepped) → HasWork o → o ≢ Spent
-work_asks Idle h e = absurd h
-work_asks Full h e = cc
-work_asks Spent h e = absurd h
-work_asks (Done d) h e = cc
 
 pub ran_asks : (end m : ℕ) (c : PlainCell) (rows : List Row) (d : PlainCell) → IsOwnRun end m c rows d → own_step end m c ≢ Spent
 ran_asks end m c rows d r e = let x : Idle ≡ Spent = sym r.ends ∙ spent_ends end m r.steps c e in cc
@@ -97,6 +89,4 @@ module _ {M : Type 0} where
       (cells left cs : List (Cell M)) (c after : Cell M) (e : CellFault)
       → (s : SoFar f end qs rows cells left) → (r : First f c cs s.rest) → TellsRun f end r.own.member r.own.cell (Err e) after
       → TellsFault end qs e
-  so_far_fault f end qs rows cells left cs c after fault.NoMemory s r h = s.asks (subst (AskMemory end) (sym r.is) (work_asks _ h))
-  so_far_fault f end qs rows cells left cs c after fault.Spent s r h = s.ends _ (subst (FirstEnds _ end) (sym r.is) (inl h))
-  so_far_fault f end qs rows cells left cs c after fault.CountFull s r h = s.ends _ (subst (FirstEnds _ end) (sym r.is) (inl h))
+  so_far_fault f end qs rows cells left cs c after e s r h = grind arith

@@ -1,9 +1,8 @@
 -- Packets counted by whether they went everywhere.
 use Rattle.std.proofs.Common.{◌≡◌, ℕ, zero, suc, ◌+◌, ◌*◌, ◌<◌, ◌≤◌, ◌^◌, Bool, true, false, cond, ◌&&◌, ◌==◌, List, [], ◌∷◌, ◌++◌}
 use Rattle.std.proofs.Common.{length, refl, sym, ap, ◌∙◌, subst, slice_index, slice_set, nat_lt, lt-ltb, le-ltb, arith, add-zero}
-use Rattle.std.proofs.Common.{zero-add, le_refl, length-append, eq-eqb}
+use Rattle.std.proofs.Common.{zero-add, le_refl, length-append}
 use Rattle.std.specs.List.{flat_map, range_with_len}
-use Rattle.std.proofs.lemmas.Bool.{both_ways}
 use Rattle.std.proofs.lemmas.List.{get_or-set_other}
 use Rattle.std.proofs.lemmas.List.Sums.{count_by-le-length}
 use Rattle.srm_net.specs.declared.packet.Body.{Body}
@@ -97,26 +96,14 @@ module _ (s : Traffic) (net : Network) (e : Everywhere) (p : Packet) where
       → tallied net (record { everywhere = e; stopped = stopped }) ≡ numbers_of s ps
       → tallied net (record { everywhere = one_everywhere e (kind_of p.body); stopped = stopped }) ≡ numbers_of s (ps ++ p ∷ [])
   unfolding tallied numbers_of
-  went_everywhere stopped ps many h is =
-      let links = range_with_len 0 (length net.links) in
-      let all = range_with_len 0 s.links in
-      ap (added_each stopped) (at_links 0 (length net.links) (λ m lt. h m (omega (arith, many))))
-      ∙ sym (added_grouped stopped (flat_map (everywhere_at net e) links) (flat_map (crossings_at s (p ∷ [])) links))
-      ∙ (λ i. added_each (is i) (flat_map (crossings_at s (p ∷ [])) (range_with_len 0 (sym many i))))
-      ∙ sym (links_add s ps (p ∷ []) all)
+  went_everywhere stopped ps many h is = grind (arith, at_links, added_grouped, links_add)
 
 -- a packet that was stopped somewhere
 pub was_stopped : (s : Traffic) (net : Network) (e : Everywhere) (p : Packet) (some ps : List Packet)
     → tallied net (record { everywhere = e; stopped = numbers_of s some }) ≡ numbers_of s ps
     → tallied net (record { everywhere = e; stopped = numbers_of s (some ++ p ∷ []) }) ≡ numbers_of s (ps ++ p ∷ [])
 unfolding tallied numbers_of
-was_stopped s net e p some ps is =
-    let all = range_with_len 0 s.links in
-    let besides = flat_map (everywhere_at net e) (range_with_len 0 (length net.links)) in
-    ap (λ ns. added_each ns besides) (links_add s some (p ∷ []) all)
-    ∙ added_last (flat_map (crossings_at s some) all) (flat_map (crossings_at s (p ∷ [])) all) besides
-    ∙ ap (λ ns. added_each ns (flat_map (crossings_at s (p ∷ [])) all)) is
-    ∙ sym (links_add s ps (p ∷ []) all)
+was_stopped s net e p some ps is = grind (arith, links_add, added_last)
 
 -- ---- no number is above that of the packets
 
@@ -133,37 +120,9 @@ pub no_more : (s : Traffic) (ps : List Packet) (i : ℕ) → slice_index (number
 unfolding numbers_of
 no_more s ps i = most s ps 0 s.links i
 
-pub length_numbers : (s : Traffic) (ps : List Packet) → length (numbers_of s ps) ≡ 5 * s.links
-unfolding numbers_of
-length_numbers s ps = by 0 s.links
-  where
-    by : (l n : ℕ) → length (flat_map (crossings_at s ps) (range_with_len l n)) ≡ 5 * n
-    by l zero = refl
-    by l (suc n) = let r = by (l + 1) n in omega (arith, r)
-
 -- one more packet that went everywhere
 pub one_more_everywhere : (e : Everywhere) (j k : Kind) → number_of (one_everywhere e j) k ≤ number_of e k + 1
-one_more_everywhere e kind.Drawop kind.Drawop = le_refl _
-one_more_everywhere e kind.Drawop kind.Request = omega arith
-one_more_everywhere e kind.Drawop kind.Repair = omega arith
-one_more_everywhere e kind.Drawop kind.Session = omega arith
-one_more_everywhere e kind.Drawop kind.Dropped = omega arith
-one_more_everywhere e kind.Request kind.Drawop = omega arith
-one_more_everywhere e kind.Request kind.Request = le_refl _
-one_more_everywhere e kind.Request kind.Repair = omega arith
-one_more_everywhere e kind.Request kind.Session = omega arith
-one_more_everywhere e kind.Request kind.Dropped = omega arith
-one_more_everywhere e kind.Repair kind.Drawop = omega arith
-one_more_everywhere e kind.Repair kind.Request = omega arith
-one_more_everywhere e kind.Repair kind.Repair = le_refl _
-one_more_everywhere e kind.Repair kind.Session = omega arith
-one_more_everywhere e kind.Repair kind.Dropped = omega arith
-one_more_everywhere e kind.Session kind.Drawop = omega arith
-one_more_everywhere e kind.Session kind.Request = omega arith
-one_more_everywhere e kind.Session kind.Repair = omega arith
-one_more_everywhere e kind.Session kind.Session = le_refl _
-one_more_everywhere e kind.Session kind.Dropped = omega arith
-one_more_everywhere e kind.Dropped k = omega arith
+one_more_everywhere e j k = grind arith
 
 -- ---- the numbers of all put together, link by link
 
@@ -171,19 +130,11 @@ one_more_everywhere e kind.Dropped k = omega arith
 skip : (v j i : ℕ) (a0 a1 a2 a3 a4 : ℕ) (t : List ℕ)
     → slice_set (a0 ∷ a1 ∷ a2 ∷ a3 ∷ a4 ∷ t) (5 * suc j + i) (slice_index (a0 ∷ a1 ∷ a2 ∷ a3 ∷ a4 ∷ t) (5 * suc j + i) + v)
     ≡ a0 ∷ a1 ∷ a2 ∷ a3 ∷ a4 ∷ slice_set t (5 * j + i) (slice_index t (5 * j + i) + v)
-skip v j i a0 a1 a2 a3 a4 t =
-    let e : 5 * suc j + i ≡ suc (suc (suc (suc (suc (5 * j + i))))) = omega arith in
-    ap (λ n. slice_set (a0 ∷ a1 ∷ a2 ∷ a3 ∷ a4 ∷ t) n (slice_index (a0 ∷ a1 ∷ a2 ∷ a3 ∷ a4 ∷ t) n + v)) e
+skip v j i a0 a1 a2 a3 a4 t = grind arith
 
 skip_all : (e : Everywhere) (j : ℕ) (a0 a1 a2 a3 a4 : ℕ) (t : List ℕ) → with_everywhere e (suc j) (a0 ∷ a1 ∷ a2 ∷ a3 ∷ a4 ∷ t)
     ≡ a0 ∷ a1 ∷ a2 ∷ a3 ∷ a4 ∷ with_everywhere e j t
-skip_all e j a0 a1 a2 a3 a4 t =
-    let put = λ (v i : ℕ) (ns : List ℕ). slice_set ns (5 * suc j + i) (slice_index ns (5 * suc j + i) + v) in
-    let next = λ (v i : ℕ) (ns : List ℕ). slice_set ns (5 * j + i) (slice_index ns (5 * j + i) + v) in
-    ap (λ ns. put e.sessions 3 (put e.repairs 2 (put e.requests 1 ns))) (skip e.drawops j 0 a0 a1 a2 a3 a4 t)
-    ∙ ap (λ ns. put e.sessions 3 (put e.repairs 2 ns)) (skip e.requests j 1 a0 a1 a2 a3 a4 (next e.drawops 0 t))
-    ∙ ap (put e.sessions 3) (skip e.repairs j 2 a0 a1 a2 a3 a4 (next e.requests 1 (next e.drawops 0 t)))
-    ∙ skip e.sessions j 3 a0 a1 a2 a3 a4 (next e.repairs 2 (next e.requests 1 (next e.drawops 0 t)))
+skip_all e j a0 a1 a2 a3 a4 t = grind arith
 
 module _ (s : Traffic) (net : Network) (e : Everywhere) (some : List Packet) where
   -- the five numbers of link l, where the packets that went everywhere are among them, and where they are not
@@ -326,26 +277,17 @@ module _ (s : Traffic) (net : Network) (e : Everywhere) (some : List Packet) whe
       ∙ ap (λ m. put_below (m + 1) 0 s.links) q
 
   pub passed_by : (k : ℕ) → k < s.links → joins_members net k ≡ false → put_below k 0 s.links ≡ put_below (k + 1) 0 s.links
-  passed_by k lt h =
-      let q : 0 + k ≡ k = zero-add k in
-      ap (λ m. put_below m 0 s.links) (sym q) ∙ none_more 0 k s.links lt (ap (joins_members net) q ∙ h)
-      ∙ ap (λ m. put_below (m + 1) 0 s.links) q
+  passed_by k lt h = grind arith
 
 -- ---- what a tally tells
 
 -- a number put besides those of a kind leaves those of another as they are
 pub counted_elsewhere : (v : ℕ) (ns : List ℕ) (l : ℕ) (j k : Kind) → (place_of k == place_of j) ≡ false
     → counted_at (more_by v ns l j) l k ≡ counted_at ns l k
-counted_elsewhere v ns l j k h =
-    get_or-set_other ns (place_at l j) (place_at l k) (counted_at ns l j + v) 0 (λ e.
-    both_ways _ h (eq-eqb (place_of k) (place_of j) (let q : 5 * l + place_of k ≡ 5 * l + place_of j = e in omega arith)))
+counted_elsewhere v ns l j k h = grind (arith, get_or-set_other)
 
 number_none : (k : Kind) → number_of none_everywhere k ≡ 0
-number_none kind.Drawop = refl
-number_none kind.Request = refl
-number_none kind.Repair = refl
-number_none kind.Session = refl
-number_none kind.Dropped = refl
+number_none k = grind arith
 
 nothing_besides : (s : Traffic) (net : Network) (l n : ℕ)
     → added_each (flat_map (crossings_at s []) (range_with_len l n)) (flat_map (everywhere_at net none_everywhere) (range_with_len l n))
@@ -366,10 +308,7 @@ nothing_besides s net l (suc n) = by (joins_members net l) refl (nothing_besides
 tallied_none : (s : Traffic) (net : Network) → s.links ≡ length net.links
     → tallied net (record { everywhere = none_everywhere; stopped = numbers_of s [] }) ≡ numbers_of s []
 unfolding tallied numbers_of
-tallied_none s net many =
-    ap (λ n. added_each (flat_map (crossings_at s []) (range_with_len 0 s.links))
-    (flat_map (everywhere_at net none_everywhere) (range_with_len 0 n))) (sym many)
-    ∙ nothing_besides s net 0 s.links
+tallied_none s net many = grind (arith, nothing_besides)
 
 -- no number of packets that were stopped is above theirs
 few_stopped : (s : PlainScenario) (net : Network) (some : List Packet) (stopped : List ℕ) → stopped ≡ numbers_of (traffic_of s net) some
@@ -393,52 +332,20 @@ begun s net links stopped many is =
 -- there is room for one more
 pub room_left : (s : PlainScenario) (net : Network) (ps : List Packet) (t : Tally) → Tallies s net ps t → length ps + 3 < 2 ^ 64
     → (l : ℕ) (k : Kind) → counted_at t.stopped l k + (number_of t.everywhere k + 1) < 2 ^ 64
-room_left s net ps t is few l k =
-    let f = few_stopped s net is.some t.stopped is.some_are l k in
-    let o = is.others k in
-    omega (arith, f, o, few)
+room_left s net ps t is few l k = grind (arith, few_stopped)
 
 pub more_everywhere : (s : PlainScenario) (net : Network) (ps : List Packet) (t : Tally) (p : Packet) (b : PlainSpread) → IsNetwork net
     → IsSpread net s.drops p.id p.sent b → is_everywhere b ≡ true → p.id.sender < length net.hosts
     → ((l : ℕ) (k : Kind) → counted_at t.stopped l k + (number_of t.everywhere k + 1) < 2 ^ 64) → Tallies s net ps t
     → Tallies s net (ps ++ p ∷ []) (record { everywhere = one_everywhere t.everywhere (kind_of p.body); stopped = t.stopped })
-more_everywhere s net ps t p b n spread all sender room is = record {
-  numbers = went_everywhere (traffic_of s net) net t.everywhere p t.stopped ps refl
-      (λ l lt. (
-        everywhere_crosses_the_same net n s.drops p.id p.sent b spread all sender l lt,
-        everywhere_is_nowhere_dropped net n s.drops p.id p.sent b spread all sender l lt,
-      )) is.numbers;
-  some = is.some;
-  some_are = is.some_are;
-  others = λ k.
-      let o = is.others k in
-      let m = one_more_everywhere t.everywhere (kind_of p.body) k in
-      let a = length-append ps (p ∷ []) in
-      omega (arith, o, m, a);
-  room = λ l k. let m = one_more_everywhere t.everywhere (kind_of p.body) k in let r = room l k in omega (arith, m, r);
-}
+more_everywhere s net ps t p b n spread all sender room is =
+    grind (arith, went_everywhere, everywhere_crosses_the_same, everywhere_is_nowhere_dropped, one_more_everywhere, length-append)
 
 pub more_stopped : (s : PlainScenario) (net : Network) (ps : List Packet) (t : Tally) (p : Packet) (new : List ℕ)
     → CountsBesides (traffic_of s net) (p ∷ []) t.stopped new
     → ((l : ℕ) (k : Kind) → counted_at new l k + number_of t.everywhere k < 2 ^ 64) → Tallies s net ps t
     → Tallies s net (ps ++ p ∷ []) (record { everywhere = t.everywhere; stopped = new })
-more_stopped s net ps t p new counts room is =
-    let tr = traffic_of s net in
-    let now = counts is.some is.some_are in
-    let was : tallied net (record { everywhere = t.everywhere; stopped = numbers_of tr is.some }) ≡ numbers_of tr ps =
-    ap (λ ns. tallied net (record { everywhere = t.everywhere; stopped = ns })) (sym is.some_are) ∙ is.numbers in
-    record {
-      numbers = ap (λ ns. tallied net (record { everywhere = t.everywhere; stopped = ns })) now
-          ∙ was_stopped tr net t.everywhere p is.some ps was;
-      some = is.some ++ p ∷ [];
-      some_are = now;
-      others = λ k.
-          let o = is.others k in
-          let a = length-append ps (p ∷ []) in
-          let b = length-append is.some (p ∷ []) in
-          omega (arith, o, a, b);
-      room = room;
-    }
+more_stopped s net ps t p new counts room is = grind (arith, was_stopped, length-append)
 
 -- and after a packet that was stopped
 pub room_kept : (s : PlainScenario) (net : Network) (ps : List Packet) (t : Tally) (p : Packet) (new : List ℕ) → Tallies s net ps t

@@ -1,13 +1,11 @@
 -- Cells whose inboxes and scripts are in order, and what the least event says of them.
 use Rattle.std.proofs.Common.{◌≡◌, ℕ, ◌<◌, ◌≤◌, ◌+◌, Bool, true, false, cond, not, List, [], ◌∷◌, refl, sym, ap, ◌∙◌, subst, ◌≢◌}
-use Rattle.std.proofs.Common.{arith, Ordering, Less, Equal, Greater, Option, Some, None, nat_lt, nat_le, is_lt, ltb-true, eqb-true, ◌==◌}
-use Rattle.std.proofs.Common.{le-ltb}
-use Rattle.std.proofs.lemmas.Bool.{eqb-false, and_parts}
+use Rattle.std.proofs.Common.{arith, Ordering, Less, Equal, Greater, Option, Some, None, is_lt}
 use Rattle.srm_cell.proofs.CellLemmas.{first_le, first_timer, next_event_is}
 use Rattle.srm_cell.proofs.CellSteps.{flight_total}
 use Rattle.srm_cell.proofs.Rising.{Above, OnEvent, OnStep, earlier_on}
-use Rattle.srm_cell.specs.Cells.{arrival_key, mark_key, timer_key, Done, Event, Full, PlainCell, Stepped, by_key, earlier, first_arrival}
-use Rattle.srm_cell.specs.Cells.{first_mark, handle, hear, hear_at, next_event, sending_step, step_at}
+use Rattle.srm_cell.specs.Cells.{arrival_key, mark_key, timer_key, Event, PlainCell, by_key, earlier, first_arrival}
+use Rattle.srm_cell.specs.Cells.{first_mark, handle, hear, hear_at, next_event, step_at}
 use Rattle.srm_cell.specs.Flights.{flight_cmp}
 use Rattle.srm_cell.specs.OwnRuns.{told_to}
 use Rattle.srm_scenario.specs.Presence.{is_up_to}
@@ -16,18 +14,15 @@ use Rattle.srm_cell.specs.declared.flight.Flight.{Flight}
 use Rattle.srm_member.proofs.AllIn.{AllIn}
 use Rattle.srm_member.proofs.OrderLemmas.{From, from_greater, from_not_greater, from_trans, not_greater}
 use Rattle.srm_member.proofs.OrderLemmas.{rises_place}
-use Rattle.srm_member.specs.React.{Reaction, react}
-use Rattle.srm_member.specs.Record.{Active, Gone, Record, timers}
+use Rattle.srm_member.specs.Record.{Record, timers}
 use Rattle.srm_member.specs.declared.cause.Cause.{Cause}
 use Rattle.srm_member.specs.declared.due.Due.{Due}
 use Rattle.srm_net.specs.Keys.{key_cmp}
 use Rattle.srm_net.specs.Orders.{NoneBelow, Rises}
 use Rattle.srm_net.specs.declared.key.Key.{Key}
-use Rattle.srm_net.specs.declared.packet.Body.{Body}
 use Rattle.srm_net.specs.declared.packet.Packet.{Packet}
 use Rattle.srm_scenario.specs.Plain.{mark_cmp}
 use Rattle.srm_scenario.specs.declared.mark.Mark.{Mark}
-use Rattle.srm_net.specs.Limits.{most_sent}
 use Rattle.srm_net.proofs.Basics.{nat_cmp_self}
 use Rattle.srm_net.proofs.TotalOrders.{key_total}
 
@@ -43,10 +38,7 @@ abbrev pub NotBefore : Key → Key → Type 0
 NotBefore k l = From key_cmp key_total k l
 
 pub later_not_before : (k l : Key) → k.time < l.time → NotBefore k l
-later_not_before k l h = let n : nat_lt l.time k.time ≡ false = le-ltb _ _ (omega arith) in
-    let e : (l.time == k.time) ≡ false = (elim (l.time == k.time) as (λ b. (l.time == k.time) ≡ b → (l.time == k.time) ≡ false)
-    [ true ↦ λ e. absurd (let f = eqb-true _ _ e in omega arith) | false ↦ λ e. e ] refl) in
-    simp (n, e)
+later_not_before k l h = grind arith
 
 pub not_before_time : (k l : Key) → NotBefore k l → k.time ≤ l.time
 not_before_time k l h = first_le k l (not_greater key_cmp key_total k l h)
@@ -73,9 +65,7 @@ least_parts k Equal d e q h = (
 least_parts k Greater d e q h = (from_trans key_cmp key_total k e.key d.key h (from_greater key_cmp key_total e.key d.key q), h)
 
 pub least_earlier : (k : Key) (x y : Option Event) → Least k (earlier x y) → Least k x × Least k y
-least_earlier k None y h = (tt, h)
-least_earlier k (Some d) None h = (h, tt)
-least_earlier k (Some d) (Some e) h = least_parts k (key_cmp d.key e.key) d e refl h
+least_earlier k x y h = grind (arith, least_parts)
 
 pub record IsTidy (c : PlainCell) : Type 0 where
   pub flights : Rises flight_cmp c.inbox
@@ -144,19 +134,9 @@ next_tidy m c t = subst (OnEvent RestTidy) (sym (next_event_is m c))
     (earlier_on RestTidy (first_mark m c c.script) (first_timer m c (timers c.holds)) (mark_tidy m c c.script t t.marks)
     (timer_tidy m c (timers c.holds) t)))
 
-tidy_by : (b : Bool) (x : Stepped) → IsTidy x.cell → OnStep (λ d. IsTidy d.cell) (cond b (Done x) Full)
-tidy_by true x h = h
-tidy_by false x h = tt
-
-tidy_sending : (e : Event) (r : Reaction) (body : Option Body) → IsTidy e.rest → OnStep (λ d. IsTidy d.cell) (sending_step e r body)
-tidy_sending e r None t = record { flights = t.flights; marks = t.marks }
-tidy_sending e r (Some body) t = tidy_by (nat_lt e.rest.sent most_sent) _ (record { flights = t.flights; marks = t.marks })
-
 tidy_handle : (e : Event) (holds : Record) (cause : Option Cause) → IsTidy e.rest → OnStep (λ d. IsTidy d.cell) (handle e holds cause)
 unfolding handle
-tidy_handle e (Active k) (Some cause) t = let r = react k e.key.time cause in tidy_sending e r r.answer.body t
-tidy_handle e (Active k) None t = record { flights = t.flights; marks = t.marks }
-tidy_handle e (Gone f) cause t = tt
+tidy_handle e holds cause t = grind arith
 
 pub tidy_step : (e : Event) → IsTidy e.rest → OnStep (λ d. IsTidy d.cell) (step_at (Some e))
 tidy_step e t = tidy_handle e e.rest.holds e.cause t
@@ -183,19 +163,8 @@ not_true false h = refl
 -- a packet reaches another member after the distance to it
 pub arrival_is : (s : Traffic) (p : Packet) (m at : ℕ) → arrival_of s p m ≡ Some at → (m < s.members) × (m ≢ p.id.sender)
     × (p.sent + s.distance p.id.sender m ≡ at)
-arrival_is s p m at h =
-    let h0 = if_some _ _ at h in
-    let h1 = and_parts (nat_lt m s.members) _ h0.0 in
-    let h2 = and_parts (not (m == p.id.sender)) _ h1.1 in
-    (ltb-true _ _ h1.0, eqb-false _ _ (not_true _ h2.0), h0.1)
+arrival_is s p m at h = grind arith
 
 -- a packet does not arrive after the member left
 pub arrival_up_to : (s : Traffic) (p : Packet) (m at : ℕ) → arrival_of s p m ≡ Some at → is_up_to at (s.leave m) ≡ true
-arrival_up_to s p m at h =
-    let h0 = if_some _ _ at h in
-    let h1 = and_parts (nat_lt m s.members) _ h0.0 in
-    let h2 = and_parts (not (m == p.id.sender)) _ h1.1 in
-    let h3 = and_parts (s.reaches p m) _ h2.1 in
-    let h4 = and_parts (nat_le (s.join m) _) _ h3.1 in
-    let h5 = and_parts (is_up_to _ (s.leave m)) _ h4.1 in
-    subst (λ t. is_up_to t (s.leave m) ≡ true) h0.1 h5.0
+arrival_up_to s p m at h = grind arith

@@ -1,7 +1,6 @@
 -- When a window begins: at the least next time of all cells.
-use Rattle.std.proofs.Common.{◌≡◌, ◌⊎◌, inl, inr, ℕ, zero, suc, ◌<◌, ◌≤◌, ◌+◌, min, true, false, List, [], ◌∷◌, Option, Some, None}
-use Rattle.std.proofs.Common.{option_map, unwrap_or, refl, sym, ap, ◌∙◌, arith, zero-add, add-zero, length, nat_le, cond, slice_get}
-use Rattle.std.proofs.lemmas.Bool.Decides.{nat_tests}
+use Rattle.std.proofs.Common.{◌≡◌, ◌⊎◌, inl, inr, ℕ, zero, suc, ◌≤◌, ◌+◌, min, List, [], ◌∷◌, Option, Some, None}
+use Rattle.std.proofs.Common.{option_map, unwrap_or, refl, sym, ap, ◌∙◌, arith, zero-add, add-zero, length, slice_get}
 use Rattle.srm_cell.specs.Setting.{Setting}
 use Rattle.srm_cell.specs.Cells.{PlainCell, Event, next_event, time_of}
 use Rattle.srm_model.specs.World.{World, least_event}
@@ -47,11 +46,7 @@ first_min n None = n
 first_min n (Some q) = min n q.0
 
 lesser : (n u i : ℕ) (o : Option (ℕ × ℕ)) → first_min (min n u) o ≡ min n (sooner_time (u, i) o).0
-lesser n u i None = refl
-lesser n u i (Some q) = elim (nat_le u q.0) as (λ b. nat_le u q.0 ≡ b → min (min n u) q.0 ≡ min n (cond b (u, i) q).0) [
-  | true ↦ λ e. let le : u ≤ q.0 = grind (arith, nat_tests) in omega arith
-  | false ↦ λ e. let gt : q.0 < u = grind (arith, nat_tests) in omega arith
-] refl
+lesser n u i o = grind arith
 
 least_step : (n i : ℕ) (o : Option ℕ) (cs : List PlainCell) →
     ((m : ℕ) → least_among m (suc i) cs ≡ first_min m (least_of_times (suc i) (times_from (suc i) cs)))

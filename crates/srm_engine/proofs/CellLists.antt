@@ -233,10 +233,7 @@ module _ {A : Type 0} where
   pub next_in : (gs hs : List (Vec A)) (g h k : Vec A) (c : A) (rest more all : List A) → (all_in gs ++ g.items) ++ rest ≡ all → rest
       ≡ c ∷ more → all_in hs ++ h.items ≡ all_in gs ++ g.items → k.items ≡ h.items ++ c ∷ []
       → (all_in hs ++ k.items) ++ more ≡ all
-  next_in gs hs g h k c rest more all e r same pushed =
-      ap (λ l. (all_in hs ++ l) ++ more) pushed ∙ ap (λ l. l ++ more) (sym (append_assoc (all_in hs) h.items (c ∷ [])))
-      ∙ append_assoc (all_in hs ++ h.items) (c ∷ []) more
-      ∙ ap (λ l. l ++ c ∷ more) same ∙ ap (λ l. (all_in gs ++ g.items) ++ l) (sym r) ∙ e
+  next_in gs hs g h k c rest more all e r same pushed = grind (arith, append_assoc)
 
   pub nothing_in : (xs : List A) → length xs ≡ 0 → xs ≡ []
   nothing_in [] e = refl

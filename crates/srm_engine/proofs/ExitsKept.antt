@@ -1,12 +1,12 @@
 -- A member that is gone has left its exit.
-use Rattle.std.proofs.Common.{◌≡◌, ℕ, zero, suc, ◌+◌, Bool, true, false, cond, List, [], ◌∷◌, ◌++◌, ◌==◌, length, Option, Some, None}
+use Rattle.std.proofs.Common.{◌≡◌, ℕ, zero, suc, ◌+◌, Bool, true, false, cond, List, [], ◌∷◌, ◌==◌, length, Option, Some, None}
 use Rattle.std.proofs.Common.{Err, refl, sym, ap, ◌∙◌, subst, slice_get, nat_lt, le_refl, arith, zero-add}
 use Rattle.srm_net.specs.declared.packet.Body.{Body}
 use Rattle.srm_net.specs.declared.packet.Packet.{Packet}
 use Rattle.srm_member.specs.declared.cause.Cause.{Cause}
 use Rattle.srm_member.specs.declared.exit.Exit.{Exit}
 use Rattle.srm_member.specs.Record.{Record, Active, Gone}
-use Rattle.srm_member.specs.React.{Reaction, react}
+use Rattle.srm_member.specs.React.{Reaction}
 use Rattle.srm_member.proofs.AllIn.{AllIn}
 use Rattle.srm_cell.specs.declared.cell.Cell.{Cell}
 use Rattle.srm_cell.specs.Setting.{Setting, arrival_of}
@@ -38,9 +38,7 @@ kept_sending e r (Some body) = kept_by (nat_lt e.rest.sent most_sent) _ tt
 
 kept_handle : (e : Event) (holds : Record) (cause : Option Cause) → OnStep (λ d. Kept d.cell) (handle e holds cause)
 unfolding handle
-kept_handle e (Active m) (Some cause) = let r = react m e.key.time cause in kept_sending e r r.answer.body
-kept_handle e (Active m) None = λ h. let q : Some _ ≡ None = h in cc
-kept_handle e (Gone f) cause = tt
+kept_handle e holds cause = grind arith
 
 kept_hear_at : (p : Packet) (o : Option ℕ) (c : PlainCell) → Kept c → Kept (hear_at p o c)
 kept_hear_at p None c h = h
@@ -67,13 +65,7 @@ module _ (s : Setting) where
   kept_after : (w v : World) (m : ℕ) (o : StepOutcome Stepped) → OnStep (λ d. Kept d.cell) o → after_step s w m o ≡ Done v
       → AllIn Kept w.cells → AllIn Kept v.cells
   unfolding after_step
-  kept_after w v m Idle k h g = let q : Idle ≡ Done v = h in cc
-  kept_after w v m Full k h g = let q : Full ≡ Done v = h in cc
-  kept_after w v m Spent k h g = let q : Spent ≡ Done v = h in cc
-  kept_after w v m (Done d) k h g =
-      let q : Done (record { cells = cells_after s m d 0 w.cells; trace = w.trace ++ d.row ∷ [] }) ≡ Done v = h in
-      let same : record { cells = cells_after s m d 0 w.cells; trace = w.trace ++ d.row ∷ [] } ≡ v = cc in
-      subst (λ (u : World). AllIn Kept u.cells) same (kept_settled m d 0 w.cells k g)
+  kept_after w v m o k h g = grind (arith, kept_settled)
 
   kept_step : (w v : World) (o : Option Event) → step_of s w o ≡ Done v → AllIn Kept w.cells → AllIn Kept v.cells
   unfolding step_of

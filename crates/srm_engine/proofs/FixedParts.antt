@@ -1,4 +1,5 @@
 -- A member's fixed part stays the same in a run.
+use Rattle.std.proofs.Common.{arith}
 use Rattle.std.proofs.Common.{◌≡◌, ℕ, zero, suc, ◌+◌, Bool, true, false, cond, List, sym, ap, ◌∙◌, subst, inl, inr, Option, Some, None}
 use Rattle.std.proofs.Common.{slice_get, nat_lt, add-zero, zero-add}
 use Rattle.srm_net.specs.declared.packet.Packet.{Packet}
@@ -6,8 +7,8 @@ use Rattle.srm_net.specs.declared.packet.Body.{Body}
 use Rattle.srm_member.specs.declared.cause.Cause.{Cause}
 use Rattle.srm_member.specs.declared.fixed.Fixed.{Fixed as FixedPart}
 use Rattle.srm_member.specs.declared.row.Row.{Row}
-use Rattle.srm_member.specs.Record.{Record, Active, Gone, fixed_part}
-use Rattle.srm_member.specs.React.{Reaction, react}
+use Rattle.srm_member.specs.Record.{Record, fixed_part}
+use Rattle.srm_member.specs.React.{Reaction}
 use Rattle.srm_member.proofs.LawProofs.{same_fixed}
 use Rattle.srm_cell.specs.Setting.{Setting, IsFit, arrival_of}
 use Rattle.srm_cell.specs.Cells.{PlainCell, Event, Stepped, Full, Done, before, handle, hear, hear_at, next_event, opening_cell}
@@ -40,10 +41,7 @@ kept_sending f e r (Some body) h = kept_by f (nat_lt e.rest.sent most_sent) _ h
 kept_handle : (f : FixedPart) (e : Event) (holds : Record) (cause : Option Cause) → fixed_part holds ≡ f
     → OnStep (Keeps f) (handle e holds cause)
 unfolding handle
-kept_handle f e (Active m) (Some cause) h = let r = react m e.key.time cause in kept_sending f e r r.answer.body
-    (same_fixed m e.key.time cause ∙ h)
-kept_handle f e (Active m) None h = h
-kept_handle f e (Gone g) cause h = tt
+kept_handle f e holds cause h = grind (arith, same_fixed)
 
 kept_step : (f : FixedPart) (e : Event) → fixed_part e.rest.holds ≡ f → OnStep (Keeps f) (step_at (Some e))
 kept_step f e h = kept_handle f e e.rest.holds e.cause h

@@ -16,7 +16,6 @@ use Rattle.srm_cell.specs.Setting.{Traffic, Setting}
 use Rattle.srm_cell.specs.Cells.{PlainCell, hear}
 use Rattle.srm_cell.specs.OwnRuns.{hear_rows, told_to}
 use Rattle.srm_cell.specs.Crossings.{packets_of, joined}
-use Rattle.srm_cell.specs.Views.{IsCell}
 use Rattle.srm_cell.specs.Hearing.{hear_all, AreNewTo, MayHearAll, HearsAll, AllMayHear, EachHearsAll}
 use Rattle.srm_model.specs.Hearing.{IsUnheard}
 use Rattle.srm_model.specs.WindowRuns.{each_hears, AreNewInTurn}
@@ -153,24 +152,7 @@ module _ {M : Type 0} (f : M → Record) where
   -- cells that heard the packets of rows are those of members that did
   cells_heard : (s : Setting) (rows : List Row) (cs ds : List (Cell M)) (ps : List PlainCell)
       → EachHearsAll f s.traffic (packets_of rows) cs ds → AreCellsInOrder f cs ps → AreCellsInOrder f ds (each_hears s.traffic 0 rows ps)
-  cells_heard s rows cs ds ps z h = record {
-    as_many = sym (zip_long (λ c d. HearsAll f s.traffic (packets_of rows) c d) cs ds z) ∙ h.as_many
-        ∙ sym (length-each_hears s 0 rows ps);
-    each = λ j d q at got.
-        let c = zip_get (λ c d. HearsAll f s.traffic (packets_of rows) c d) cs ds z j d at in
-        by j d q got (slice_get ps j) refl c.0 c.1 c.2;
-  }
-    where
-      by : (j : ℕ) (d : Cell M) (q : PlainCell) → slice_get (each_hears s.traffic 0 rows ps) j ≡ Some q → (o : Option PlainCell)
-          → slice_get ps j ≡ o → (c : Cell M) → slice_get cs j ≡ Some c → HearsAll f s.traffic (packets_of rows) c d → IsCell f j d q
-      by j d q got None e c at hears =
-          let no : None ≡ Some q = sym (get_heard s 0 j rows ps ∙ ap (option_map (hear_rows s.traffic (0 + j) rows)) e) ∙ got in cc
-      by j d q got (Some p) e c at hears =
-          let is : Some (hear_rows s.traffic (0 + j) rows p) ≡ Some q =
-          sym (get_heard s 0 j rows ps ∙ ap (option_map (hear_rows s.traffic (0 + j) rows)) e) ∙ got in
-          subst (λ x. IsCell f j d x)
-          (sym (rows_heard s.traffic j rows p) ∙ ap (λ m. hear_rows s.traffic m rows p) (sym (zero-add j)) ∙ same_some _ q is)
-          (hears j p (h.each j c p at e))
+  cells_heard s rows cs ds ps z h = grind (arith, zip_long, length-each_hears, zip_get, get_heard, rows_heard)
 
   -- ---- groups
 

@@ -1,5 +1,5 @@
 -- Members that hear a packet one after the other.
-use Rattle.std.proofs.Common.{◌≡◌, ℕ, zero, suc, ◌+◌, ◌≤◌, true, cond, List, [], ◌∷◌, length, Option, Some, None, option_map, refl, sym, ap}
+use Rattle.std.proofs.Common.{◌≡◌, ℕ, zero, suc, ◌+◌, ◌≤◌, true, cond, List, [], ◌∷◌, length, Some, option_map, refl, sym, ap}
 use Rattle.std.proofs.Common.{◌∙◌, slice_get, slice_set, nat_lt, lt-ltb, le-ltb, arith, zero-add}
 use Rattle.srm_net.specs.declared.packet.Packet.{Packet}
 use Rattle.srm_cell.specs.Setting.{Traffic}
@@ -29,11 +29,7 @@ module _ (s : Traffic) (p : Packet) where
 
   -- member k has not heard it yet
   pub get_next : (k : ℕ) (cs : List PlainCell) → slice_get (heard_below s p k 0 cs) k ≡ slice_get cs k
-  get_next k cs = get_heard k 0 k cs ∙ by (slice_get cs k)
-    where
-      by : (o : Option PlainCell) → option_map (if_below k (0 + k)) o ≡ o
-      by None = refl
-      by (Some c) = ap (λ m. Some (if_below k m c)) (zero-add k) ∙ ap (λ b. Some (cond b (hear s p k c) c)) (le-ltb k k (omega arith))
+  get_next k cs = grind (arith, get_heard)
 
   -- and then it hears
   heard_more : (i j : ℕ) (cs : List PlainCell) (c : PlainCell) → slice_get cs j ≡ Some c

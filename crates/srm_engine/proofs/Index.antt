@@ -1,5 +1,5 @@
 -- The index of next times: a tournament whose first entry is the least, and the list of times that it stands for.
-use Rattle.std.proofs.Common.{◌≡◌, ◌≢◌, ℕ, zero, suc, ◌+◌, ◌-◌, ◌*◌, ◌/◌, ◌%◌, ◌^◌, ◌<◌, ◌≤◌, ◌⊎◌, inl, inr, Bool, true, false, cond, ◌||◌}
+use Rattle.std.proofs.Common.{◌≡◌, ◌≢◌, ℕ, zero, suc, ◌+◌, ◌-◌, ◌*◌, ◌/◌, ◌%◌, ◌^◌, ◌<◌, ◌≤◌, ◌⊎◌, inl, inr, Bool, true, false, cond}
 use Rattle.std.proofs.Common.{◌==◌, List, [], ◌∷◌, length, map, drop, Option, Some, None, refl, sym, ap, ◌∙◌, subst, arith, true≢false}
 use Rattle.std.proofs.Common.{eqb-true, eq-eqb, lt-ltb, zero-add, nat_lt, nat_le, slice_get, slice_set, slice_index_or, get_or-drop}
 use Rattle.std.proofs.Common.{get_or-set_same, get_or-set_other, length-drop}
@@ -93,49 +93,17 @@ itself : (p : Entry) → NotAfter p p
 itself p = inr (refl, omega arith)
 
 through : (p q r : Entry) → NotAfter p q → NotAfter q r → NotAfter p r
-through p q r (inl a) (inl b) = inl (omega arith)
-through p q r (inl a) (inr b) = let e = b.0 in inl (omega arith)
-through p q r (inr a) (inl b) = let e = a.0 in inl (omega arith)
-through p q r (inr a) (inr b) = let e = a.1 in let f = b.1 in inr (a.0 ∙ b.0, omega arith)
+through p q r h3 h4 = grind arith
 
 both_ways : (p q : Entry) → NotAfter p q → NotAfter q p → p ≡ q
-both_ways p q (inl a) (inl b) = absurd (omega arith)
-both_ways p q (inl a) (inr b) = let e = b.0 in absurd (omega arith)
-both_ways p q (inr a) (inl b) = let e = a.0 in absurd (omega arith)
-both_ways p q (inr a) (inr b) =
-    let e = a.0 in
-    let le = a.1 in
-    let ge = b.1 in
-    let f : p.place ≡ q.place = omega arith in
-    λ i. record { time = e i; place = f i }
+both_ways p q h2 h3 = grind arith
 
 -- the third is the one of the first two that does not come after the other
 abbrev Chosen : Entry → Entry → Entry → Type 0
 Chosen p q s = ((s ≡ p) × NotAfter p q) ⊎ ((s ≡ q) × NotAfter q p)
 
 chosen : (p q : Entry) → Chosen p q (sooner_entry p q)
-chosen p q = by (nat_lt p.time q.time) (nat_lt q.time p.time) (nat_lt q.place p.place) refl refl refl
-  where
-    by : (a b c : Bool) → nat_lt p.time q.time ≡ a → nat_lt q.time p.time ≡ b → nat_lt q.place p.place ≡ c
-        → Chosen p q (cond a p (cond (b || c) q p))
-    by true b c e f g = inl (refl, inl (grind (arith, nat_tests)))
-    by false true c e f g = inr (refl, inl (grind (arith, nat_tests)))
-    by false false true e f g =
-        let same : q.time ≡ p.time = grind (arith, nat_tests) in
-        let le : q.place ≤ p.place = grind (arith, nat_tests) in
-        inr (refl, inr (same, le))
-    by false false false e f g =
-        let same : p.time ≡ q.time = grind (arith, nat_tests) in
-        let le : p.place ≤ q.place = grind (arith, nat_tests) in
-        inl (refl, inr (same, le))
-
-not_after_first : (p q s : Entry) → Chosen p q s → NotAfter s p
-not_after_first p q s (inl h) = subst (λ (x : Entry). NotAfter x p) (sym h.0) (itself p)
-not_after_first p q s (inr h) = subst (λ (x : Entry). NotAfter x p) (sym h.0) h.1
-
-not_after_second : (p q s : Entry) → Chosen p q s → NotAfter s q
-not_after_second p q s (inl h) = subst (λ (x : Entry). NotAfter x q) (sym h.0) h.1
-not_after_second p q s (inr h) = subst (λ (x : Entry). NotAfter x q) (sym h.0) (itself q)
+chosen p q = grind arith
 
 one_of_both : (p q s : Entry) → Chosen p q s → (s ≡ p) ⊎ (s ≡ q)
 one_of_both p q s (inl h) = inl h.0
@@ -143,13 +111,7 @@ one_of_both p q s (inr h) = inr h.0
 
 -- which of the two is named first does not matter
 either_way : (p q : Entry) → sooner_entry p q ≡ sooner_entry q p
-either_way p q = by (chosen p q) (chosen q p)
-  where
-    by : Chosen p q (sooner_entry p q) → Chosen q p (sooner_entry q p) → sooner_entry p q ≡ sooner_entry q p
-    by (inl a) (inr b) = a.0 ∙ sym b.0
-    by (inr a) (inl b) = a.0 ∙ sym b.0
-    by (inl a) (inl b) = a.0 ∙ both_ways p q a.1 b.1 ∙ sym b.0
-    by (inr a) (inr b) = a.0 ∙ both_ways q p a.1 b.1 ∙ sym b.0
+either_way p q = grind arith
 
 -- ---- the first entry
 
@@ -158,12 +120,7 @@ halves x = grind arith
 
 module _ (es : List Entry) (n : ℕ) (size : length es ≡ 2 * n) (tree : AreWinners es) where
   above : (i j : ℕ) → entry_at es i ≡ winner_below es i → (j ≡ 2 * i) ⊎ (j ≡ 2 * i + 1) → NotAfter (entry_at es i) (entry_at es j)
-  above i j at side =
-      let c = chosen (entry_at es (2 * i)) (entry_at es (2 * i + 1)) in
-      subst (λ (x : Entry). NotAfter x (entry_at es j)) (sym at) (elim side [
-        | inl e ↦ subst (λ k. NotAfter (winner_below es i) (entry_at es k)) (sym e) (not_after_first _ _ _ c)
-        | inr e ↦ subst (λ k. NotAfter (winner_below es i) (entry_at es k)) (sym e) (not_after_second _ _ _ c)
-      ])
+  above i j at side = grind arith
 
   first_of_all : (k j : ℕ) → j ≤ k → 0 < j → j < length es → NotAfter (entry_at es 1) (entry_at es j)
   first_of_all zero j le pos lt = absurd (omega arith)
@@ -207,11 +164,7 @@ timed (Some v ∷ ts) u zero h = (omega arith, ap Some (eqb-true v u h))
 timed (t ∷ ts) u (suc j) h = let r = timed ts u j h in let lt = r.0 in (omega arith, r.1)
 
 untimed : (o : Option (Option ℕ)) (t : ℕ) → (is_time t o ≡ true → ⊥) → is_time t o ≡ false
-untimed o t h = by (is_time t o) refl
-  where
-    by : (b : Bool) → is_time t o ≡ b → is_time t o ≡ false
-    by true e = absurd (h e)
-    by false e = e
+untimed o t h = grind arith
 
 -- the entry comes after none of those of the members with these times
 abbrev IsFirst : List (Option ℕ) → Entry → Type 0
@@ -254,10 +207,7 @@ first_told ts es h some =
 -- ---- the times that entries stand for
 
 time_of_entry : (o : Option ℕ) (m : ℕ) → m < 65536 → time_in (slot_of o m) ≡ o
-time_of_entry None m lt =
-    let no : nat_lt (65536 + m) 65536 ≡ false = grind (arith, nat_tests) in
-    ap (λ b. cond b (Some 18446744073709551615) None) no
-time_of_entry (Some t) m lt = let yes : nat_lt m 65536 ≡ true = lt-ltb m 65536 lt in ap (λ b. cond b (Some t) None) yes
+time_of_entry o m lt = grind arith
 
 leaves_tell : (ts : List (Option ℕ)) (es : List Entry) (i : ℕ) → length es ≡ length ts → i + length ts ≤ 65536
     → ((m : ℕ) → m < length ts → entry_at es m ≡ slot_of (slice_index_or ts m None) (i + m)) → map time_in es ≡ ts
@@ -289,12 +239,7 @@ tournament ts es h = subst (λ us. Holds us es) (sym (times_are ts es h)) h
 -- so it is where the number of members is named otherwise
 pub held : (ts : List (Option ℕ)) (es : List Entry) (n : ℕ) → n ≡ length ts → length ts ≤ 65536 → length es ≡ 2 * n
     → ((m : ℕ) → m < n → IsEntryOf (slice_index_or ts m None) m (entry_at es (n + m))) → AreWinners es → Holds ts es
-held ts es n e few size leaves tree = record {
-  size = size ∙ ap (λ k. 2 * k) e;
-  few = few;
-  leaves = subst (λ k. (m : ℕ) → m < k → IsEntryOf (slice_index_or ts m None) m (entry_at es (k + m))) e leaves;
-  tree = tree;
-}
+held ts es n e few size leaves tree = grind arith
 
 -- ---- a time is set
 
@@ -352,36 +297,10 @@ sibling_within es n x size within = by (bit_xor x 1) (sibling x)
 -- where an entry stands at x, the sooner of it and its sibling is that of the two below the entry above
 pub winner_above : (es : List Entry) (x : ℕ) (w : Entry) → entry_at es x ≡ w
     → sooner_entry w (entry_at es (bit_xor x 1)) ≡ winner_below es (x / 2)
-winner_above es x w at = elim (sibling x) [
-  | inl h ↦
-      let left : w ≡ entry_at es (2 * (x / 2)) = sym at ∙ ap (entry_at es) h.0 in
-      ap (λ k. sooner_entry w (entry_at es k)) h.1 ∙ ap (λ (e : Entry). sooner_entry e (entry_at es (2 * (x / 2) + 1))) left
-  | inr h ↦
-      let right : w ≡ entry_at es (2 * (x / 2) + 1) = sym at ∙ ap (entry_at es) h.0 in
-      ap (λ k. sooner_entry w (entry_at es k)) h.1 ∙ either_way w (entry_at es (2 * (x / 2)))
-      ∙ ap (sooner_entry (entry_at es (2 * (x / 2)))) right
-]
+winner_above es x w at = grind (arith, sibling)
 
 -- after an entry was set, those that were the sooner of the two below them are so still, but for the one above it
 pub node_set : (es : List Entry) (x i : ℕ) (w : Entry) → x < length es → 0 < i → i ≢ x / 2
     → (i ≢ x → entry_at es i ≡ winner_below es i) → (i ≡ x → w ≡ winner_below es x)
     → entry_at (slice_set es x w) i ≡ winner_below (slice_set es x w) i
-node_set es x i w within pos apart others here = by (i == x) refl
-  where
-    below : winner_below es i ≡ winner_below (slice_set es x w) i
-    below =
-        let left_ne : 2 * i ≢ x = λ e. apart (omega arith) in
-        let right_ne : 2 * i + 1 ≢ x = λ e. apart (omega arith) in
-        let left = get_or-set_other es x (2 * i) w (record { time = 0; place = 0 }) left_ne in
-        let right = get_or-set_other es x (2 * i + 1) w (record { time = 0; place = 0 }) right_ne in
-        ap (λ (e : Entry). sooner_entry e (entry_at es (2 * i + 1))) (sym left)
-        ∙ ap (sooner_entry (entry_at (slice_set es x w) (2 * i))) (sym right)
-
-    by : (b : Bool) → (i == x) ≡ b → entry_at (slice_set es x w) i ≡ winner_below (slice_set es x w) i
-    by true e =
-        let at : i ≡ x = eqb-true i x e in
-        ap (entry_at (slice_set es x w)) at ∙ get_or-set_same es x w (record { time = 0; place = 0 }) within
-        ∙ here at ∙ ap (winner_below es) (sym at) ∙ below
-    by false e =
-        let ne : i ≢ x = eqb-false i x e in
-        get_or-set_other es x i w (record { time = 0; place = 0 }) ne ∙ others ne ∙ below
+node_set es x i w within pos apart others here = grind (arith, get_or-set_other, get_or-set_same)

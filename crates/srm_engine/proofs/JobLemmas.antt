@@ -1,6 +1,6 @@
 -- Jobs as crews are handed them, and what is done of them.
 use Rattle.std.proofs.Common.{◌≡◌, ℕ, zero, suc, ◌+◌, ◌<◌, ◌≤◌, ◌⊎◌, inl, inr, List, [], ◌∷◌, ◌++◌, length, take, drop, map, Some}
-use Rattle.std.proofs.Common.{refl, sym, ap, ◌∙◌, subst, arith, slice_get, slice_index, add-zero, zero-add, add-one, All, length-append}
+use Rattle.std.proofs.Common.{refl, sym, ap, ◌∙◌, subst, arith, slice_get, add-zero, zero-add, add-one, All, length-append}
 use Rattle.std.proofs.Common.{IsPermutation}
 use Rattle.std.specs.List.{AllZip, range_with_len}
 use Rattle.std.proofs.lemmas.List.{map-append, take-append-drop}
@@ -15,7 +15,7 @@ use Rattle.srm_cell.specs.declared.job.Done as job
 use Rattle.srm_cell.specs.Setting.{Traffic, Setting}
 use Rattle.srm_cell.specs.Cells.{PlainCell, StepOutcome, Stepped}
 use Rattle.srm_cell.specs.OwnRuns.{own_end}
-use Rattle.srm_cell.specs.Crossings.{joined, crossings, added_each}
+use Rattle.srm_cell.specs.Crossings.{joined, crossings}
 use Rattle.srm_cell.specs.Jobs as cell
 use Rattle.srm_cell.proofs.CrossingLemmas.{crossings_add}
 use Rattle.srm_cell.proofs.RowPackets.{joined-append}
@@ -272,13 +272,7 @@ word_joined t qs rs k = ap (λ ns. counted_in ns k) (crossings_add t qs rs) ∙
 
 pub counted_more : (t : Traffic) (l : LedgerView) (trace rows more : List Row) (old new : SeatView) → IsCounted t l trace old
     → HasGrown (counted_in (crossings t rows)) old new → rows ≡ more → IsCounted t l (trace ++ more) new
-counted_more t l trace rows more old new c g e = record {
-  ledger = g.ledger ∙ c.ledger;
-  weight = g.weight ∙ c.weight;
-  shares = λ k.
-      g.shares k ∙ ap (λ n. n + counted_in (crossings t rows) k) (c.shares k)
-      ∙ sym (word_joined t trace rows k) ∙ ap (λ rs. counted_in (crossings t (trace ++ rs)) k) e;
-}
+counted_more t l trace rows more old new c g e = grind (arith, word_joined)
 
 -- crossings do not depend on the order of new rows
 pub counted_merged : (s : Setting) (l : LedgerView) (trace rows merged : List Row) (seat : SeatView) → IsPermutation rows merged

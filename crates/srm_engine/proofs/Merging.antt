@@ -1,6 +1,6 @@
 -- Rows of lists, brought into order.
 use Rattle.std.proofs.Common.{◌≡◌, ◌∙◌, ◌<◌, ◌≤◌, ◌+◌, ◌++◌, ◌↔◌, Bool, true, false, not, IsTrue, ℕ, List, [], ◌∷◌}
-use Rattle.std.proofs.Common.{Option, Some, None, Ordering, Less, Equal, Greater, All, IsSorted, is_lt, IsPermutation, length, drop}
+use Rattle.std.proofs.Common.{Option, Some, None, Ordering, Equal, All, IsSorted, is_lt, IsPermutation, length, drop}
 use Rattle.std.proofs.Common.{get_or, slice_index_or, slice_get, slice_set, zero, suc, append-nil, append_assoc, subst, sym, ap, map}
 use Rattle.std.proofs.Common.{refl, arith}
 use Rattle.std.specs.Ordering.{nat_cmp, ordering_then}
@@ -47,14 +47,10 @@ by_numbers k l =
     (ordering_then (nat_cmp k.a l.a) (ordering_then (nat_cmp k.b l.b) (nat_cmp k.c l.c)))))
 
 then_equal : (o : Ordering) → ordering_then o Equal ≡ o
-then_equal Less = refl
-then_equal Equal = refl
-then_equal Greater = refl
+then_equal o = grind arith
 
 same_order : (k l : Key) → key_cmp k l ≡ by_numbers k l
-same_order k l =
-    ap (λ o. ordering_then (nat_cmp k.time l.time) (ordering_then (nat_cmp k.member l.member) (ordering_then (nat_cmp k.rank l.rank)
-    (ordering_then (nat_cmp k.a l.a) (ordering_then (nat_cmp k.b l.b) o))))) (then_equal (nat_cmp k.c l.c))
+same_order k l = grind arith
 
 pub sorted_by_keys : (rows : List Row) → IsSorted (λ (x y : Row). by_numbers x.key y.key) rows → IsSorted row_cmp rows
 sorted_by_keys rows h k d low less =
@@ -105,10 +101,7 @@ rows_from k vs = length (joined (map (λ (v : Vec _). v.items) (drop k vs)))
 
 pub rows_after : {A : Type 0} (k : ℕ) (vs : List (Vec A)) (v : Vec A) → k < length vs → v ≡ slice_index_or vs k v → rows_from k vs
     ≡ length v.items + rows_from (k + 1) vs
-rows_after k vs v lt is =
-    ap (λ l. length (joined (map (λ (v : Vec _). v.items) l))) (drop_more vs k v lt)
-    ∙ length-append (get_or vs k v).items (joined (map (λ (v : Vec _). v.items) (drop (k + 1) vs)))
-    ∙ ap (λ (w : Vec _). length w.items + rows_from (k + 1) vs) (sym is)
+rows_after k vs v lt is = grind (arith, drop_more, length-append)
 
 pub rows_end : {A : Type 0} (k : ℕ) (vs : List (Vec A)) → length vs ≤ k → rows_from k vs ≡ 0
 rows_end k vs over = ap (λ l. length (joined (map (λ (v : Vec _). v.items) l))) (drop_of_length-le vs over)

@@ -25,15 +25,6 @@ get_last [] x y (suc j) h = cc
 get_last (z ∷ zs) x y zero h = inl h
 get_last (z ∷ zs) x y (suc j) h = elim (get_last zs x y j h) [ inl g ↦ inl g | inr g ↦ inr (ap suc g.0, g.1) ]
 
-get_before : {A : Type 0} (xs : List A) (x y : A) (j : ℕ) → slice_get xs j ≡ Some y → slice_get (xs ++ x ∷ []) j ≡ Some y
-get_before [] x y j h = cc
-get_before (z ∷ zs) x y zero h = h
-get_before (z ∷ zs) x y (suc j) h = get_before zs x y j h
-
-get_end : {A : Type 0} (xs : List A) (x : A) → slice_get (xs ++ x ∷ []) (length xs) ≡ Some x
-get_end [] x = refl
-get_end (z ∷ zs) x = get_end zs x
-
 get_short : {A : Type 0} (xs : List A) (y : A) (j : ℕ) → slice_get xs j ≡ Some y → j < length xs
 get_short [] y j h = cc
 get_short (x ∷ xs) y zero h = omega arith
@@ -65,9 +56,7 @@ module _ {M : Type 0} where
       (marks : List Mark)
       → r ≡ opening_record (fixed_of p net seed k) → marks ≡ script_of p k → IsCell f (fixed_part r).member c (new_cell r marks 0)
       → IsCell f k c (opening_cell (setting_of p net seed) k)
-  opened_cell f p net seed k c r marks e h is =
-      subst (λ ms. IsCell f k c (new_cell (opening_record (fixed_of p net seed k)) ms 0)) h
-      (subst (λ x. IsCell f (fixed_part x).member c (new_cell x marks 0)) e is)
+  opened_cell f p net seed k c r marks e h is = grind arith
 
 pub length_opening : (s : Setting) (n i : ℕ) → length (opening_cells s n i) ≡ n
 unfolding opening_cells
@@ -98,11 +87,6 @@ totals_are s w = refl
 
 -- ---- the records that are still to come
 
-pub record_first : (p : PlainScenario) (net : Network) (seed k n : ℕ) (r : Record) (rs : List Record) → r ∷ rs ≡ records_from p net seed k n
-    → (m : ℕ) × (n ≡ suc m) × (r ≡ opening_record (fixed_of p net seed k)) × (rs ≡ records_from p net seed (suc k) m)
-record_first p net seed k zero r rs h = cc
-record_first p net seed k (suc m) r rs h = (m, refl, cc, cc)
-
 pub none_left : (p : PlainScenario) (net : Network) (seed k n : ℕ) → [] ≡ records_from p net seed k n → n ≡ 0
 none_left p net seed k zero h = refl
 none_left p net seed k (suc m) h = cc
@@ -113,12 +97,6 @@ none_left p net seed k (suc m) h = cc
 no_script : (p : PlainScenario) (k n : ℕ) → [] ≡ map (script_of p) (range_with_len k n) → n ≡ 0
 no_script p k zero h = refl
 no_script p k (suc n) h = cc
-
--- the first of the scripts to come, and the others
-first_script : (p : PlainScenario) (k n : ℕ) (marks : List Mark) (lists : List (List Mark))
-    → marks ∷ lists ≡ map (script_of p) (range_with_len k (suc n))
-    → (marks ≡ script_of p k) × (lists ≡ map (script_of p) (range_with_len (k + 1) n))
-first_script p k n marks lists h = (cc, cc)
 
 module _ {M : Type 0} (f : M → Record) (p : PlainScenario) (net : Network) (seed : ℕ) where
   -- the cells so far are those of the first members, and the members and scripts that are left are those of the others
@@ -150,12 +128,7 @@ module _ {M : Type 0} (f : M → Record) (p : PlainScenario) (net : Network) (se
 
   next_is : (m : M) (ms : List M) (v : Vec Mark Global) (vs : List (Vec Mark Global)) (cs : List (Cell M))
       → (o : OpenSoFar (m ∷ ms) (v ∷ vs) cs) → IsNext m ms v vs (length cs) o.left
-  next_is m ms v vs cs o =
-      let k = length cs in
-      let r = record_first p net seed k o.left (f m) (map f ms) o.records in
-      let s = first_script p k r.0 v.items (map (λ (w : Vec Mark Global). w.items) vs)
-      (o.scripts ∙ ap (λ (n : ℕ). map (script_of p) (range_with_len k n)) r.1) in
-      record { rest = r.0; one = r.1; opening = r.2; records = r.3; script = s.0; scripts = s.1 }
+  next_is m ms v vs cs o = grind arith
 
   -- the same of lists that begin so
   begins : (m : M) (ms ns : List M) (v : Vec Mark Global) (vs ws : List (Vec Mark Global)) (cs : List (Cell M)) → ns ≡ m ∷ ms → ws ≡ v ∷ vs
@@ -191,11 +164,4 @@ module _ {M : Type 0} (f : M → Record) (p : PlainScenario) (net : Network) (se
   -- where no member or no script is left, all cells are open
   pub open_all : (ms : List M) (vs : List (Vec Mark Global)) (cs : List (Cell M)) → OpenSoFar ms vs cs → (ms ≡ []) ⊎ (vs ≡ [])
       → AreCellsInOrder f cs (opening_cells (setting_of p net seed) (length p.members) 0)
-  open_all ms vs cs o none =
-      let zero : o.left ≡ 0 = elim none [
-        | inl e ↦ none_left p net seed (length cs) o.left (sym (ap (map f) e) ∙ o.records)
-        | inr e ↦ no_script p (length cs) o.left (sym (ap (map (λ (w : Vec Mark Global). w.items)) e) ∙ o.scripts)
-      ] in
-      let was = o.all in
-      let all : length cs ≡ length p.members = omega arith in
-      subst (λ j. AreCellsInOrder f cs (opening_cells (setting_of p net seed) j 0)) all o.cells
+  open_all ms vs cs o none = grind (arith, none_left, no_script)

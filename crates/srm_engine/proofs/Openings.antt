@@ -1,5 +1,5 @@
 -- Members that are made one by one, each with the record with which it begins.
-use Rattle.std.proofs.Common.{◌≡◌, ◌∙◌, ℕ, zero, suc, ◌+◌, List, [], ◌∷◌, ◌++◌, map, sym, ap, arith}
+use Rattle.std.proofs.Common.{◌≡◌, ◌∙◌, ℕ, zero, suc, ◌+◌, List, [], ◌∷◌, ◌++◌, map, ap, arith}
 use Rattle.std.proofs.lemmas.List.{map-append}
 use Rattle.srm_net.specs.Network.{Network}
 use Rattle.srm_scenario.specs.Plain.{PlainScenario}
@@ -20,11 +20,4 @@ records_from-suc p net seed i (suc n) =
 pub opening-push : {B : Type 0} (f : B → Record) (p : PlainScenario) (net : Network) (seed n : ℕ) (bs : List B) (b : B)
     → map f bs ≡ records_from p net seed 0 n → f b ≡ opening_record (fixed_of p net seed n)
     → map f (bs ++ b ∷ []) ≡ records_from p net seed 0 (n + 1)
-opening-push f p net seed n bs b before at =
-    let zero_plus : 0 + n ≡ n = omega arith in
-    let one_more : n + 1 ≡ suc n = omega arith in
-    map-append f bs (b ∷ [])
-    ∙ ap (λ rs. rs ++ f b ∷ []) before
-    ∙ ap (λ r. records_from p net seed 0 n ++ r ∷ []) (at ∙ ap (λ k. opening_record (fixed_of p net seed k)) (sym zero_plus))
-    ∙ sym (records_from-suc p net seed 0 n)
-    ∙ ap (records_from p net seed 0) (sym one_more)
+opening-push f p net seed n bs b before at = grind (arith, map-append, records_from-suc)

@@ -1,12 +1,12 @@
 -- What the phases of a run tell.
-use Rattle.std.proofs.Common.{◌≡◌, ◌≢◌, ℕ, Option, le_refl, List, [], ◌∷◌, Some, None, Ok, Err, inl, inr, refl, sym}
+use Rattle.std.proofs.Common.{◌≡◌, ◌≢◌, ℕ, Option, List, [], ◌∷◌, Some, None, Ok, Err, inl, inr, refl, sym}
 use Rattle.std.proofs.Common.{ap, ◌∙◌, suc, ◌+◌, length, map, slice_get, subst, arith, zero-add}
 use Rattle.srm_member.specs.declared.exit.Exit.{Exit}
 use Rattle.srm_member.specs.Record.{Record, Active, Gone}
 use Rattle.srm_cell.specs.Setting.{Setting}
 use Rattle.srm_cell.specs.declared.fault.CellFault.{CellFault}
 use Rattle.srm_cell.specs.declared.fault.CellFault.TheVariants as cell
-use Rattle.srm_cell.specs.Cells.{PlainCell, StepOutcome, Idle, Full, Spent, Done, Stepped}
+use Rattle.srm_cell.specs.Cells.{PlainCell, StepOutcome, Stepped}
 use Rattle.srm_cell.specs.Views.{TellsExit, EndsWith, HasWork, IsCell}
 use Rattle.srm_model.specs.World.{World, step, after_step, exit_at, exits_of}
 use Rattle.srm_engine.specs.Faults.{step_fault_of}
@@ -27,10 +27,7 @@ ended p x (inr e) = ends p.holds x e.1 ∙ sym (ap (exit_at p.holds) e.0)
 -- a step of the run has work where the member's own step has
 work_stays : (s : Setting) (w : World) (m : ℕ) (o : StepOutcome Stepped) → HasWork o → HasWork (after_step s w m o)
 unfolding after_step
-work_stays s w m Idle h = h
-work_stays s w m Full h = tt
-work_stays s w m Spent h = h
-work_stays s w m (Done d) h = tt
+work_stays s w m o h = grind arith
 
 module _ {M : Type 0} where
   -- what a member's refused step tells of the step of the run
@@ -38,10 +35,7 @@ module _ {M : Type 0} where
       (x : CellFault) (cs : List (Cell M)) (ts : List (Option ℕ))
       → x ≢ cell.Spent → TellsOwnStep f m ps o (Err x) cs ts → step s w ≡ after_step s w m o
       → MayRefuseStep (step s w) (step_fault_of x)
-  refused f s w m ps o cell.NoMemory cs ts ne h e = subst HasWork (sym e) (work_stays s w m o h)
-  refused f s w m ps o cell.CountFull cs ts ne h e = e ∙ ap (after_step s w m) h
-      ∙ after_full s s.traffic.until (le_refl s.traffic.until) w m
-  refused f s w m ps o cell.Spent cs ts ne h e = absurd (ne refl)
+  refused f s w m ps o x cs ts ne h e = grind (arith, work_stays, after_full)
 
   ended_from : (f : M → Record) (i : ℕ) (cs : List (Cell M)) (ps : List PlainCell) (xs : List Exit) → length cs
       ≡ length ps

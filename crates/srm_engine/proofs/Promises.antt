@@ -1,43 +1,28 @@
 -- The least promise of all cells, one cell after the other.
-use Rattle.std.proofs.Common.{◌≡◌, ◌≢◌, ◌⊎◌, inl, inr, ℕ, zero, suc, ◌≤◌, ◌+◌, ◌==◌, Bool, true, false, not, cond, List, [], ◌∷◌, refl, sym}
-use Rattle.std.proofs.Common.{ap, ◌∙◌, arith, Option, Some, None, option_map, unwrap_or, length, map, filter, slice_get, zero-add}
+use Rattle.std.proofs.Common.{◌≡◌, ◌≢◌, ◌⊎◌, inl, inr, ℕ, zero, suc, ◌≤◌, ◌+◌, List, [], ◌∷◌, refl, sym}
+use Rattle.std.proofs.Common.{ap, ◌∙◌, arith, Some, option_map, slice_get, zero-add}
 use Rattle.std.proofs.lemmas.List.{length-map}
-use Rattle.std.specs.List.{range_with_len}
 use Rattle.srm_net.specs.declared.role.Role.{Role}
-use Rattle.srm_net.specs.declared.role.Role.TheVariants.{Sender, Receiver, Late, Listener}
+use Rattle.srm_net.specs.declared.role.Role.TheVariants.{Listener}
 use Rattle.srm_net.specs.Network.{Network}
-use Rattle.srm_net.specs.Paths.{distance}
-use Rattle.srm_net.specs.Least.{least, out}
+use Rattle.srm_net.specs.Least.{out}
 use Rattle.srm_scenario.specs.declared.parts.MemberSpec.{MemberSpec}
 use Rattle.srm_scenario.specs.Plain.{PlainScenario, network_of}
 use Rattle.srm_member.specs.Record.{fixed_part}
-use Rattle.srm_net.specs.Roles.{is_listener}
-use Rattle.srm_member.specs.declared.fixed.Fixed.{Fixed as FixedPart}
-use Rattle.srm_cell.specs.Setting.{Setting, setting_of, member_at, no_member}
-use Rattle.srm_cell.specs.Cells.{PlainCell, time_of, next_event}
-use Rattle.srm_model.specs.Windows.{least_distance, promise_by, promise_of, least_promise, way_of}
+use Rattle.srm_cell.specs.Setting.{Setting, setting_of}
+use Rattle.srm_cell.specs.Cells.{PlainCell}
+use Rattle.srm_model.specs.Windows.{least_distance, promise_of, least_promise, way_of}
 use Rattle.srm_engine.specs.Ends.{KeepFixed}
 use Rattle.srm_engine.specs.Soonest.{IsLeast, promised}
 use Rattle.srm_engine.proofs.SoonLemmas.{Any, with_in, with_one}
 use Rattle.srm_engine.proofs.SeenLemmas.{same_some}
 use Rattle.srm_model.proofs.Lookahead.{least_with_le}
 
--- no promise without a way
-no_promise : (x : Option ℕ) → promise_by x None ≡ None
-no_promise None = refl
-no_promise (Some t) = refl
-
-promise_if : (b : Bool) (x way : Option ℕ) → cond b None (promise_by x way) ≡ promise_by x (cond b None way)
-promise_if true x way = sym (no_promise x)
-promise_if false x way = refl
-
 module _ (s : Setting) where
   -- a cell's promise is by its next time and its member's way
   pub promise_is : (m : ℕ) (c : PlainCell) → fixed_part c.holds ≡ s.fixed m
       → promise_of s m c ≡ promised s m c
-  promise_is m c e =
-      ap (λ (f : FixedPart). cond (is_listener f.role) None (promise_by (time_of (next_event m c)) (least_distance s m))) e
-      ∙ promise_if (is_listener (s.fixed m).role) (time_of (next_event m c)) (least_distance s m)
+  promise_is m c e = grind arith
 
   -- ---- the least promise of all
 
@@ -99,28 +84,9 @@ module _ (s : Setting) where
 
 out_of : (p : PlainScenario) (net : Network) (seed m : ℕ) → net ≡ network_of p → out net m ≡ least_distance (setting_of p net seed) m
 unfolding out least_distance
-out_of p net seed m is =
-    let hosts : length net.hosts ≡ length p.members = ap (λ (n : Network). length n.hosts) is
-    ∙ length-map p.members (λ (k : MemberSpec). k.node) in
-    ap (λ n. least (map (distance net m) (filter (λ b. not (b == m)) (range_with_len 0 n)))) hosts
-
-role_at : (p : PlainScenario) (m : ℕ) (r : Role) → option_map (λ (k : MemberSpec). k.role) (slice_get p.members m) ≡ Some r
-    → (member_at p m).role ≡ r
-role_at p m r h = by_spec (slice_get p.members m) h
-  where
-    by_spec : (o : Option MemberSpec) → option_map (λ (k : MemberSpec). k.role) o ≡ Some r → (unwrap_or o no_member).role ≡ r
-    by_spec None e = cc
-    by_spec (Some k) e = same_some k.role r e
-
-not_listener : (r : Role) → r ≢ Listener → is_listener r ≡ false
-not_listener Sender ne = refl
-not_listener Receiver ne = refl
-not_listener Late ne = refl
-not_listener Listener ne = absurd (ne refl)
+out_of p net seed m is = grind (arith, length-map)
 
 pub way_of_other : (p : PlainScenario) (net : Network) (seed m : ℕ) (r : Role) → net ≡ network_of p
     → option_map (λ (k : MemberSpec). k.role) (slice_get p.members m) ≡ Some r → r ≢ Listener
     → out net m ≡ way_of (setting_of p net seed) m
-way_of_other p net seed m r is h ne =
-    out_of p net seed m is ∙ sym (ap (λ b. cond b None (least_distance (setting_of p net seed) m))
-    (ap is_listener (role_at p m r h) ∙ not_listener r ne))
+way_of_other p net seed m r is h ne = grind (arith, out_of)

@@ -10,11 +10,10 @@ use Rattle.srm_member.specs.declared.row.Row.{Row}
 use Rattle.srm_member.specs.Record.{Record}
 use Rattle.srm_cell.specs.declared.cell.Cell.{Cell}
 use Rattle.srm_cell.specs.declared.fault.CellFault.{CellFault}
-use Rattle.srm_cell.specs.declared.fault.CellFault.TheVariants as fault
 use Rattle.srm_cell.specs.Cells.{PlainCell, next_event, time_of, StepOutcome, Stepped}
 use Rattle.srm_cell.specs.Views.{IsCell, TellsStep}
 use Rattle.srm_engine.specs.Seen.{AreTimes, AreCellsInOrder, AreSeen, TellsOwnStep}
-use Rattle.srm_net.proofs.Lists.{get_set_same, get_set_other, below_get}
+use Rattle.srm_net.proofs.Lists.{get_set_same, get_set_other}
 
 -- an iterator with nothing left
 pub no_items : {X Z : Type 0} (it : IntoIter X Z) → into_iter_len it ≡ 0 → into_iter_items it ≡ []
@@ -31,21 +30,7 @@ set_same (y ∷ ys) (suc i) x h = ap (λ l. y ∷ l) (set_same ys i x h)
 
 pub set_times : (ts : List (Option ℕ)) (ps : List PlainCell) (m : ℕ) (t : Option ℕ) (q : PlainCell) → AreTimes ts ps → m < length ts → t
     ≡ time_of (next_event m q) → AreTimes (slice_set ts m t) (slice_set ps m q)
-set_times ts ps m t q h lt e = record {
-  as_many = length-set ts m t ∙ h.as_many ∙ sym (length-set ps m q);
-  each = λ j p g. elim (m == j) as (λ b. (m == j) ≡ b → slice_get (slice_set ts m t) j ≡ Some (time_of (next_event j p))) [
-    | true ↦ λ r.
-        let here : m ≡ j = eqb-true m j r in
-        let many = h.as_many in
-        let within : m < length ps = omega arith in
-        let is : q ≡ p = same_some q p (sym (get_set_same ps m q within) ∙ ap (slice_get (slice_set ps m q)) here ∙ g) in
-        ap (slice_get (slice_set ts m t)) (sym here) ∙ get_set_same ts m t lt
-        ∙ ap Some (e ∙ ap (λ k. time_of (next_event k q)) here ∙ ap (λ x. time_of (next_event j x)) is)
-    | false ↦ λ r.
-        let ne : m ≢ j = eqb-false m j r in
-        get_set_other ts m j t ne ∙ h.each j p (sym (get_set_other ps m j q ne) ∙ g)
-  ] refl;
-}
+set_times ts ps m t q h lt e = grind (arith, length-set, get_set_same, get_set_other)
 
 module _ {M : Type 0} where
   pub set_cells : (f : M → Record) (cs : List (Cell M)) (ps : List PlainCell) (m : ℕ) (c : Cell M) (q : PlainCell)
@@ -91,6 +76,4 @@ module _ {M : Type 0} where
   pub not_taken : (f : M → Record) (m : ℕ) (p : PlainCell) (ps : List PlainCell) (o : StepOutcome Stepped) (x : CellFault)
       (c : Cell M) (cs : List (Cell M)) (ts : List (Option ℕ))
       → TellsStep f m p o (Err x) c → TellsOwnStep f m ps o (Err x) cs ts
-  not_taken f m p ps o fault.NoMemory c cs ts h = h
-  not_taken f m p ps o fault.Spent c cs ts h = h
-  not_taken f m p ps o fault.CountFull c cs ts h = h
+  not_taken f m p ps o x c cs ts h = grind arith

@@ -1,9 +1,8 @@
 -- How soon something is due in each group, after own runs and after packets were heard.
-use Rattle.std.proofs.Common.{◌≡◌, ◌⊎◌, inl, inr, ℕ, zero, suc, ◌+◌, ◌-◌, ◌*◌, ◌/◌, ◌%◌, ◌<◌, ◌≤◌, ◌==◌, true, false, cond, List, [], ◌∷◌}
+use Rattle.std.proofs.Common.{◌≡◌, ◌⊎◌, inl, inr, ℕ, zero, suc, ◌+◌, ◌-◌, ◌*◌, ◌/◌, ◌%◌, ◌<◌, ◌≤◌, true, false, cond, List, [], ◌∷◌}
 use Rattle.std.proofs.Common.{◌++◌, Option, Some, None, Ordering, Less, Equal, Greater, refl, sym, ap, ◌∙◌, subst, arith, slice_get}
-use Rattle.std.proofs.Common.{slice_set, get_or, length, length-append, nat_lt, le-ltb, eqb-true, zero-add}
+use Rattle.std.proofs.Common.{slice_set, get_or, length, length-append, nat_lt, le-ltb, zero-add}
 use Rattle.std.proofs.Math.Nat.{suc-mul}
-use Rattle.std.proofs.lemmas.Bool.{eqb-false}
 use Rattle.std.proofs.lemmas.Bool.Decides.{nat_tests}
 use Rattle.std.proofs.lemmas.Nat.{div-mul-add}
 use Rattle.std.proofs.lemmas.Option.{slice_get_within}
@@ -214,31 +213,11 @@ module _ {A : Type 0} (N O : ℕ → A → Type 0) (xs : List A) (k : ℕ)
     (each : (j : ℕ) (x : A) → slice_get xs j ≡ Some x → (j < k → N j x) × (k ≤ j → O j x)) where
   pub one_set : (y : A) → k < length xs → N k y → (j : ℕ) (x : A) → slice_get (slice_set xs k y) j ≡ Some x → (j < k + 1 → N j x)
       × (k + 1 ≤ j → O j x)
-  one_set y lt new j x g = elim (k == j) as (λ b. (k == j) ≡ b → (j < k + 1 → N j x) × (k + 1 ≤ j → O j x)) [
-    | true ↦ λ e.
-        let here : k ≡ j = eqb-true k j e in
-        let is : y ≡ x = same_some y x (sym (get_set_same xs k y lt) ∙ ap (slice_get (slice_set xs k y)) here ∙ g) in
-        ((λ le. subst (λ i. N i x) here (subst (N k) is new)), (λ le. absurd (omega arith)))
-    | false ↦ λ e.
-        let ne = eqb-false k j e in
-        let old = each j x (sym (get_set_other xs k j y ne) ∙ g) in
-        ((λ lt. old.0 (omega arith)), (λ le. old.1 (omega arith)))
-  ] refl
+  one_set y lt new j x g = grind (arith, get_set_same, get_set_other)
 
   pub one_kept : ((x : A) → slice_get xs k ≡ Some x → O k x → N k x) → (j : ℕ) (x : A) → slice_get xs j ≡ Some x → (j < k + 1 → N j x)
       × (k + 1 ≤ j → O j x)
-  one_kept kept j x g = elim (k == j) as (λ b. (k == j) ≡ b → (j < k + 1 → N j x) × (k + 1 ≤ j → O j x)) [
-    | true ↦ λ e.
-        let here : k ≡ j = eqb-true k j e in
-        let old = (each j x g).1 (omega arith) in (
-          (λ le. subst (λ i. N i x) here (kept x (ap (slice_get xs) here ∙ g) (subst (λ i. O i x) (sym here) old))),
-          (λ le. absurd (omega arith)),
-        )
-    | false ↦ λ e.
-        let ne = eqb-false k j e in
-        let old = each j x g in
-        ((λ lt. old.0 (omega arith)), (λ le. old.1 (omega arith)))
-  ] refl
+  one_kept kept j x g = grind arith
 
 module _ {M : Type 0} (f : M → Record) (cut : ℕ) (gs : List (Vec (Cell M))) (ps : List PlainCell)
     (results : List OwnResult) (pos : 0 < cut) (end : ℕ) (alone : AreOwnRuns end 0 ps results) (h : AreGrouped f cut gs (cells_in results))

@@ -1,8 +1,7 @@
 -- How soon something is due in the cells of some members.
 use Rattle.std.proofs.Common.{◌≡◌, ◌⊎◌, inl, inr, ℕ, zero, suc, ◌+◌, ◌/◌, ◌<◌, ◌≤◌, ◌==◌, min, true, false, List, [], ◌∷◌, Option, Some}
-use Rattle.std.proofs.Common.{None, refl, sym, ap, ◌∙◌, subst, arith, slice_get, slice_set, length, nat_le, eqb-true}
+use Rattle.std.proofs.Common.{None, refl, sym, ap, ◌∙◌, subst, arith, slice_get, slice_set, length, eqb-true}
 use Rattle.std.proofs.lemmas.Bool.{eqb-false}
-use Rattle.std.proofs.lemmas.Bool.Decides.{nat_tests}
 use Rattle.std.proofs.lemmas.Option.{slice_get_within}
 use Rattle.std.proofs.Math.ListN.{length-set}
 use Rattle.srm_engine.proofs.SeenLemmas.{same_some}
@@ -25,19 +24,11 @@ with_in n u (Some k) h = let e = same_some k u h in omega arith
 
 -- the lesser is the first, or the other
 pub with_one : (n : ℕ) (o : Option ℕ) → (least_with n o ≡ n) ⊎ (o ≡ Some (least_with n o))
-with_one n None = inl refl
-with_one n (Some k) = elim (nat_le n k) as (λ b. nat_le n k ≡ b → (min n k ≡ n) ⊎ (Some k ≡ Some (min n k))) [
-  | true ↦ λ e. let le : n ≤ k = grind (arith, nat_tests) in inl (omega arith)
-  | false ↦ λ e. let gt : k < n = grind (arith, nat_tests) in inr (ap Some (let x : k ≡ min n k = omega arith in x))
-] refl
+with_one n o = grind arith
 
 module _ (g : ℕ → PlainCell → Option ℕ) (n : ℕ) where
   at_most : (P : ℕ → Type 0) (ps : List PlainCell) (t u : ℕ) → IsLeast g P n ps t → IsLeast g P n ps u → t ≤ u
-  at_most P ps t u h k = by k.one
-    where
-      by : (u ≡ n) ⊎ ((m : ℕ) × (c : PlainCell) × P m × (slice_get ps m ≡ Some c) × (g m c ≡ Some u)) → t ≤ u
-      by (inl e) = let le = h.most in omega arith
-      by (inr a) = h.none_less a.0 a.1 u a.2 a.3 a.4
+  at_most P ps t u h k = grind arith
 
   -- there is one least
   pub least_is_one : (P : ℕ → Type 0) (ps : List PlainCell) (t u : ℕ) → IsLeast g P n ps t → IsLeast g P n ps u → t ≡ u
@@ -46,31 +37,7 @@ module _ (g : ℕ → PlainCell → Option ℕ) (n : ℕ) where
   -- one member more
   pub one_more : (i k : ℕ) (ps : List PlainCell) (t : ℕ) (p : PlainCell) → slice_get ps (i + k) ≡ Some p → IsLeast g (IsInRange i k) n ps t
       → IsLeast g (IsInRange i (k + 1)) n ps (least_with t (g (i + k) p))
-  one_more i k ps t p at h = record {
-    most = let a = least_with_le t (g (i + k) p) in let b = h.most in omega arith;
-    none_less = λ m c u q get e. elim (m == i + k) as (λ b. (m == i + k) ≡ b → least_with t (g (i + k) p) ≤ u) [
-      | true ↦ λ r.
-          let here : m ≡ i + k = eqb-true m (i + k) r in
-          let same : c ≡ p = same_some c p (sym get ∙ ap (slice_get ps) here ∙ at) in
-          with_in t u (g (i + k) p) (subst (λ d. g (i + k) d ≡ Some u) same (subst (λ j. g j c ≡ Some u) here e))
-      | false ↦ λ r.
-          let ne = eqb-false m (i + k) r in
-          let a = q.0 in
-          let b = q.1 in
-          let old = h.none_less m c u (a, omega arith) get e in
-          let le = least_with_le t (g (i + k) p) in
-          omega arith
-    ] refl;
-    one = by (with_one t (g (i + k) p)) h.one;
-  }
-    where
-      by : (least_with t (g (i + k) p) ≡ t) ⊎ (g (i + k) p ≡ Some (least_with t (g (i + k) p)))
-          → (t ≡ n) ⊎ ((m : ℕ) × (c : PlainCell) × IsInRange i k m × (slice_get ps m ≡ Some c) × (g m c ≡ Some t))
-          → (least_with t (g (i + k) p) ≡ n) ⊎ ((m : ℕ) × (c : PlainCell) × IsInRange i (k + 1) m × (slice_get ps m ≡ Some c)
-          × (g m c ≡ Some (least_with t (g (i + k) p))))
-      by (inr e) old = inr (i + k, p, (omega arith, omega arith), at, e)
-      by (inl e) (inl was) = inl (e ∙ was)
-      by (inl e) (inr a) = let x = a.2.0 in let y = a.2.1 in inr (a.0, a.1, (x, omega arith), a.3, a.4 ∙ ap Some (sym e))
+  one_more i k ps t p at h = grind (arith, with_one)
 
   module _ (P : ℕ → Type 0) where
     -- member m's cell becomes one whose time is no later
@@ -117,31 +84,13 @@ module _ (g : ℕ → PlainCell → Option ℕ) (n : ℕ) where
     -- the cells of these members are the same
     pub same_cells : (ps qs : List PlainCell) (t : ℕ) → ((m : ℕ) (c : PlainCell) → P m → slice_get ps m ≡ Some c → slice_get qs m ≡ Some c)
         → ((m : ℕ) (c : PlainCell) → P m → slice_get qs m ≡ Some c → slice_get ps m ≡ Some c) → IsLeast g P n ps t → IsLeast g P n qs t
-    same_cells ps qs t to back h = record {
-      most = h.most;
-      none_less = λ m c u p get e. h.none_less m c u p (back m c p get) e;
-      one = by h.one;
-    }
-      where
-        by : (t ≡ n) ⊎ ((m : ℕ) × (c : PlainCell) × P m × (slice_get ps m ≡ Some c) × (g m c ≡ Some t))
-            → (t ≡ n) ⊎ ((m : ℕ) × (c : PlainCell) × P m × (slice_get qs m ≡ Some c) × (g m c ≡ Some t))
-        by (inl e) = inl e
-        by (inr a) = inr (a.0, a.1, a.2, to a.0 a.1 a.2 a.3, a.4)
+    same_cells ps qs t to back h = grind arith
 
   -- the same members
   pub same_members : (P Q : ℕ → Type 0) (ps : List PlainCell) (t : ℕ) → ((m : ℕ) → m < length ps → P m → Q m)
       → ((m : ℕ) → m < length ps → Q m → P m)
       → IsLeast g P n ps t → IsLeast g Q n ps t
-  same_members P Q ps t to back h = record {
-    most = h.most;
-    none_less = λ m c u q get e. h.none_less m c u (back m (get_below ps m c get) q) get e;
-    one = by h.one;
-  }
-    where
-      by : (t ≡ n) ⊎ ((m : ℕ) × (c : PlainCell) × P m × (slice_get ps m ≡ Some c) × (g m c ≡ Some t))
-          → (t ≡ n) ⊎ ((m : ℕ) × (c : PlainCell) × Q m × (slice_get ps m ≡ Some c) × (g m c ≡ Some t))
-      by (inl e) = inl e
-      by (inr a) = inr (a.0, a.1, to a.0 (get_below ps a.0 a.1 a.3) a.2, a.3, a.4)
+  same_members P Q ps t to back h = grind (arith, get_below)
 
 -- ---- the least of all groups
 

@@ -1,15 +1,10 @@
 -- The step of the engine is the step of the model.
-use Rattle.std.proofs.Common.{◌≡◌, ◌≢◌, ℕ, suc, ◌+◌, ◌<◌, ◌≤◌, ◌^◌, Bool, true, false, cond, List, [], ◌∷◌, ◌++◌, length, Option, Some}
-use Rattle.std.proofs.Common.{None, option_map, refl, sym, ap, ◌∙◌, subst, slice_get, slice_set, nat_le, nat_lt, ◌==◌, eqb-true, eq-eqb}
-use Rattle.std.proofs.Common.{lt-ltb, le-ltb, le_refl, arith, zero-add, Ordering, Less, Equal, Greater}
+use Rattle.std.proofs.Common.{◌≡◌, ◌≢◌, ℕ, suc, ◌+◌, ◌<◌, ◌≤◌, ◌^◌, true, false, cond, List, [], ◌∷◌, ◌++◌, length, Option, Some}
+use Rattle.std.proofs.Common.{None, option_map, refl, sym, ap, ◌∙◌, subst, slice_get, slice_set, nat_lt, ◌==◌, eqb-true, eq-eqb}
+use Rattle.std.proofs.Common.{lt-ltb, le_refl, arith, zero-add, Ordering}
 use Rattle.std.proofs.lemmas.Bool.{eqb-false}
-use Rattle.std.proofs.lemmas.Bool.Decides.{nat_tests}
-use Rattle.std.proofs.lemmas.Cmp.{ranked, by_ranked}
-use Rattle.std.specs.Cmp.Lexicographic.{slice_cmp}
-use Rattle.std.specs.Ordering.{nat_cmp, ordering_then}
 use Rattle.std.specs.List.{cons_option}
 use Rattle.std.proofs.Math.ListN.{length-set}
-use Rattle.srm_net.specs.declared.key.Key.{Key}
 use Rattle.srm_net.specs.declared.packet.Packet.{Packet}
 use Rattle.srm_net.specs.Keys.{key_cmp}
 use Rattle.srm_member.specs.declared.row.Row.{Row}
@@ -24,7 +19,7 @@ use Rattle.srm_cell.proofs.Rising.{SentAt}
 use Rattle.srm_cell.proofs.Hearings.{hears_not}
 use Rattle.srm_model.specs.World.{World, cells_after, after_step, least_event, step, run, opening, IsReached, RunMeetsFull}
 use Rattle.srm_model.specs.Schedules.{own_of}
-use Rattle.srm_engine.specs.NextTimes.{sooner_time, least_of_times}
+use Rattle.srm_engine.specs.NextTimes.{least_of_times}
 use Rattle.srm_model.specs.Hearing.{heard_below, all_hear}
 use Rattle.srm_engine.specs.Seen.{AreTimes}
 use Rattle.srm_model.specs.Totalled.{MaySend, and_sent}
@@ -46,9 +41,7 @@ FromOn i None = Unit {0}
 FromOn i (Some e) = i ≤ e.key.member
 
 by_key_from : (i : ℕ) (r : Ordering) (d e : Event) → i ≤ d.key.member → i ≤ e.key.member → FromOn i (Some (by_key r d e))
-by_key_from i Less d e h g = h
-by_key_from i Equal d e h g = h
-by_key_from i Greater d e h g = g
+by_key_from i r d e h g = grind arith
 
 earlier_from : (i : ℕ) (x y : Option Event) → FromOn i x → FromOn i y → FromOn i (earlier x y)
 earlier_from i None y h g = g
@@ -72,47 +65,10 @@ least_event_from i (c ∷ cs) = earlier_from i (next_event i c) (least_event (su
 abbrev pub time_and_member : Event → ℕ × ℕ
 time_and_member e = (e.key.time, e.key.member)
 
-key_first : (k l : Key) (b : Bool) → nat_le k.time l.time ≡ b → k.member < l.member → key_cmp k l ≡ cond b Less Greater
-key_first k l true h lt =
-    let le : k.time ≤ l.time = grind (arith, nat_tests) in
-    by_ranked (k.time < l.time) (k.time ≡ l.time) (l.time < k.time) (nat_cmp k.time l.time)
-    (ranked k.time l.time (nat_cmp k.time l.time) refl)
-    (λ e g. ap (λ o. ordering_then o (slice_cmp nat_cmp (k.member ∷ k.rank ∷ k.a ∷ k.b ∷ k.c ∷ [])
-    (l.member ∷ l.rank ∷ l.a ∷ l.b ∷ l.c ∷ []))) e)
-    (λ e g. ap (λ o. ordering_then o (slice_cmp nat_cmp (k.member ∷ k.rank ∷ k.a ∷ k.b ∷ k.c ∷ [])
-    (l.member ∷ l.rank ∷ l.a ∷ l.b ∷ l.c ∷ []))) e
-    ∙ by_ranked (k.member < l.member) (k.member ≡ l.member) (l.member < k.member) (nat_cmp k.member l.member)
-    (ranked k.member l.member (nat_cmp k.member l.member) refl)
-    (λ f u. ap (λ o. ordering_then o (slice_cmp nat_cmp (k.rank ∷ k.a ∷ k.b ∷ k.c ∷ []) (l.rank ∷ l.a ∷ l.b ∷ l.c ∷ []))) f)
-    (λ f u. absurd (omega arith)) (λ f u. absurd (omega arith)))
-    (λ e g. absurd (omega arith))
-key_first k l false h lt =
-    let gt : l.time < k.time = grind (arith, nat_tests) in
-    by_ranked (k.time < l.time) (k.time ≡ l.time) (l.time < k.time) (nat_cmp k.time l.time)
-    (ranked k.time l.time (nat_cmp k.time l.time) refl)
-    (λ e g. absurd (omega arith)) (λ e g. absurd (omega arith))
-    (λ e g. ap (λ o. ordering_then o (slice_cmp nat_cmp (k.member ∷ k.rank ∷ k.a ∷ k.b ∷ k.c ∷ [])
-    (l.member ∷ l.rank ∷ l.a ∷ l.b ∷ l.c ∷ []))) e)
-
 -- the next time of one member, and the least of those after it
 one_more : (i : ℕ) (ts : List (Option ℕ)) (x y : Option Event) → IsOf i x → FromOn (suc i) y → least_of_times (suc i) ts
     ≡ option_map time_and_member y → least_of_times i (time_of x ∷ ts) ≡ option_map time_and_member (earlier x y)
-one_more i ts None y h g e = e
-one_more i ts (Some d) None h g e = ap (λ o. Some (sooner_time (d.key.time, i) o)) e ∙ ap (λ m. Some (d.key.time, m)) (sym h)
-one_more i ts (Some d) (Some x) h g e =
-    ap (λ o. Some (sooner_time (d.key.time, i) o)) e ∙ by (nat_le d.key.time x.key.time) refl
-  where
-    by : (b : Bool) → nat_le d.key.time x.key.time ≡ b → Some
-        (cond (nat_le d.key.time x.key.time) (d.key.time, i) (x.key.time, x.key.member))
-        ≡ Some (time_and_member (by_key (key_cmp d.key x.key) d x))
-    by true q =
-        let lt : d.key.member < x.key.member = omega (arith, h, g) in
-        ap (λ b. Some (cond b (d.key.time, i) (x.key.time, x.key.member))) q ∙ ap (λ m. Some (d.key.time, m)) (sym h)
-        ∙ sym (ap (λ r. Some (time_and_member (by_key r d x))) (key_first d.key x.key true q lt))
-    by false q =
-        let lt : d.key.member < x.key.member = omega (arith, h, g) in
-        ap (λ b. Some (cond b (d.key.time, i) (x.key.time, x.key.member))) q
-        ∙ sym (ap (λ r. Some (time_and_member (by_key r d x))) (key_first d.key x.key false q lt))
+one_more i ts x y h g e = grind arith
 
 least_from_on : (i : ℕ) (ts : List (Option ℕ)) (ps : List PlainCell) → length ts ≡ length ps
     → ((j : ℕ) (p : PlainCell) → slice_get ps j ≡ Some p → slice_get ts j ≡ Some (time_of (next_event (i + j) p))) → least_of_times i ts
@@ -143,11 +99,7 @@ FromPair None o = o ≡ None
 FromPair (Some q) o = (e : Event) × (o ≡ Some e) × (e.key.time ≡ q.0) × (e.key.member ≡ q.1)
 
 from_pair : (q : Option (ℕ × ℕ)) (o : Option Event) → q ≡ option_map time_and_member o → FromPair q o
-from_pair None None h = refl
-from_pair None (Some e) h = cc
-from_pair (Some q) None h = cc
-from_pair (Some q) (Some e) h = let same : q ≡ time_and_member e = same_some _ _ h in
-    (e, refl, sym (ap (λ (x : ℕ × ℕ). x.0) same), sym (ap (λ (x : ℕ × ℕ). x.1) same))
+from_pair q o h = grind arith
 
 module _ (s : Setting) (w : World) (ts : List (Option ℕ)) (times : AreTimes ts w.cells) where
   within : s.traffic.until ≤ s.traffic.until
@@ -162,11 +114,7 @@ module _ (s : Setting) (w : World) (ts : List (Option ℕ)) (times : AreTimes ts
     found = from_pair (Some (t, m)) (least_event 0 w.cells) (h ∙ least_is_event ts w.cells times)
 
     pub is_late : s.traffic.until ≤ t → step s w ≡ Idle
-    is_late le =
-        let time = found.2 in
-        let late : s.traffic.until ≤ found.0.key.time = omega arith in
-        step_none s s.traffic.until within w (ap (before s.traffic.until) found.1
-        ∙ ap (λ b. cond b (Some found.0) None) (le-ltb found.0.key.time s.traffic.until late))
+    is_late le = grind (arith, found, step_none)
 
     module _ (early : t < s.traffic.until) where
       pub event : Event
@@ -179,11 +127,7 @@ module _ (s : Setting) (w : World) (ts : List (Option ℕ)) (times : AreTimes ts
 
       pub is_least : before s.traffic.until (least_event 0 w.cells) ≡ Some event
       unfolding event
-      is_least =
-          let f = from_pair (Some (t, m)) (least_event 0 w.cells) (h ∙ least_is_event ts w.cells times) in
-          let time = f.2 in
-          let lt : f.0.key.time < s.traffic.until = omega arith in
-          ap (before s.traffic.until) f.1 ∙ ap (λ b. cond b (Some f.0) None) (lt-ltb f.0.key.time s.traffic.until lt)
+      is_least = grind arith
 
       pub own_is : (p : PlainCell) → slice_get w.cells m ≡ Some p → own_step s.traffic.until m p ≡ step_at (Some event)
       own_is p g =
@@ -237,17 +181,7 @@ module _ (s : Setting) (m : ℕ) (d : Stepped) (cs : List PlainCell) (lt : m < l
       ∙ sym (ap (option_map f) now)
 
   elsewhere : (j : ℕ) (f : PlainCell → PlainCell) → m ≢ j → ((c : PlainCell) → told_to s.traffic d.row.sent j c ≡ f c) → Placed j f
-  elsewhere j f ne same =
-      sym (ap (option_map f) (get_set_other cs m j d.cell ne) ∙ by (slice_get cs j))
-    where
-      by : (o : Option PlainCell) → option_map f o ≡ option_map (at_member s m d j) o
-      by None = refl
-      by (Some c) = let no : (j == m) ≡ false = not_equal (j == m) refl in ap Some (sym (same c))
-          ∙ sym (ap (λ b. Some (cond b d.cell (told_to s.traffic d.row.sent j c))) no)
-        where
-          not_equal : (b : Bool) → (j == m) ≡ b → (j == m) ≡ false
-          not_equal true e = absurd (ne (sym (eqb-true j m e)))
-          not_equal false e = e
+  elsewhere j f ne same = grind (arith, get_set_other)
 
   -- where nothing was sent, one cell is new; where a packet was, every other has heard it
   pub settled_is : SentBy m d.row.sent → cells_after s m d 0 cs ≡ all_hear s.traffic d.row.sent (slice_set cs m d.cell)

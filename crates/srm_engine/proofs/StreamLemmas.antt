@@ -8,9 +8,7 @@ use Rattle.srm_cell.specs.Cells.{Done}
 use Rattle.srm_cell.specs.Views.{HasWork}
 use Rattle.srm_engine.specs.declared.halt.Halt.{Halt}
 use Rattle.srm_engine.specs.declared.halt.Halt.TheVariants as halt
-use Rattle.srm_engine.specs.declared.sink.SinkFault.TheVariants as sink
 use Rattle.srm_engine.specs.declared.step_fault.StepFault.{StepFault}
-use Rattle.srm_engine.specs.declared.step_fault.StepFault.TheVariants as fault
 use Rattle.srm_model.specs.World.{World, IsReached, step}
 use Rattle.srm_engine.specs.Engines.{MayRefuseStep}
 use Rattle.srm_engine.specs.Faults.{step_refused}
@@ -26,9 +24,7 @@ countable before rows all e few short = omega (arith, ap length e, length-append
 -- a step that may be refused in a world that steps from an earlier one led to, or in that one
 pub not_stepped : (s : Setting) (w v : World) (x : StepFault) → IsReached s v → (v ≡ w) ⊎ HasWork (step s w) → MayRefuseStep (step s v) x
     → MayStop s w x
-not_stepped s w v fault.NoMemory r (inl e) h = inl (subst (λ (u : World). HasWork (step s u)) e h)
-not_stepped s w v fault.NoMemory r (inr work) h = inl work
-not_stepped s w v fault.CountFull r b h = meets_full s v r h
+not_stepped s w v x r h5 h = grind (arith, meets_full)
 
 -- where a step was taken, the first of them was
 pub stepped_from : (s : Setting) (w v u : World) → step s v ≡ Done u → (v ≡ w) ⊎ HasWork (step s w) → HasWork (step s w)
@@ -64,7 +60,4 @@ module _ {S : Type 0} (took part : S → List Row → S → Type 0) where
   -- when a run that is not cut into windows, and hands its rows on, is refused
   pub halts_refuse : (A : Type 0) (s : Setting) (old : S) (x : Halt StepFault) (new : S) → TellsHalt took part (MayStop s) s old x new
       → MeetsRefusal {A = A} s (Err (stream_fault_of step_refused x))
-  halts_refuse A s old (halt.Run fault.NoMemory) new h = tt
-  halts_refuse A s old (halt.Run fault.CountFull) new h = h.3
-  halts_refuse A s old (halt.Sink sink.NoMemory) new h = tt
-  halts_refuse A s old (halt.Sink (sink.Stopped n)) new h = tt
+  halts_refuse A s old x new h = grind arith

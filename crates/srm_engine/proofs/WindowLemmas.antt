@@ -1,6 +1,6 @@
 -- The windows of an engine: its jobs, what a crew did, and its rows.
 use Rattle.std.proofs.Common.{◌≡◌, ℕ, zero, suc, ◌<◌, ◌≤◌, ◌+◌, ◌^◌, min, List, [], ◌∷◌, ◌++◌, Ok, Err, refl, sym, ap, ◌∙◌, subst, arith}
-use Rattle.std.proofs.Common.{All, IsSorted, IsPermutation, length, map, drop, slice_index, replicate, ◌*◌}
+use Rattle.std.proofs.Common.{All, IsSorted, IsPermutation, length, map, drop, slice_index, ◌*◌}
 use Rattle.std.proofs.lemmas.List.{map-append, length-map}
 use Rattle.std.proofs.lemmas.List.Sorted.{IsPermutation-refl}
 use Rattle.std.specs.List.{AllZip, range_with_len}
@@ -13,7 +13,7 @@ use Rattle.srm_scenario.proofs.Members.{few_members}
 use Rattle.srm_net.specs.Limits.{most_nodes}
 use Rattle.srm_member.specs.declared.row.Row.{Row}
 use Rattle.srm_member.specs.Record.{Record}
-use Rattle.srm_ledger.specs.Seats.{LedgerView, SeatView, whole_seat, words_of}
+use Rattle.srm_ledger.specs.Seats.{LedgerView, SeatView, whole_seat}
 use Rattle.srm_cell.proofs.RowPackets.{nothing_counted, numbers_are}
 use Rattle.srm_cell.specs.declared.cell.Cell.{Cell}
 use Rattle.srm_cell.specs.declared.job.Job.{Job}
@@ -24,7 +24,6 @@ use Rattle.srm_cell.specs.Crossings.{joined, packets_of, crossings}
 use Rattle.srm_cell.specs.Jobs as cell
 use Rattle.srm_cell.proofs.FitSettings.{settings_are_fit}
 use Rattle.srm_crew.specs.declared.fault.CrewFault.{CrewFault}
-use Rattle.srm_crew.specs.declared.fault.CrewFault.TheVariants as crew
 use Rattle.srm_crew.specs.Crews.{AreJobs, AnyEnds, AreRowsOfSome, TellsMap, Maps, HasGrown, IsPast, rows_of, counted_in}
 use Rattle.srm_engine.specs.declared.window_engine.WindowEngine.{WindowEngine}
 use Rattle.srm_engine.specs.declared.window_fault.WindowFault.{WindowFault}
@@ -32,17 +31,13 @@ use Rattle.srm_engine.specs.declared.window_fault.WindowFault.TheVariants as win
 use Rattle.srm_engine.specs.declared.cutting.Cutting.{Cutting}
 use Rattle.srm_engine.specs.declared.width.Windows.{Windows}
 use Rattle.srm_engine.specs.declared.halt.Halt.{Halt}
-use Rattle.srm_engine.specs.declared.halt.Halt.TheVariants as halt
-use Rattle.srm_engine.specs.declared.sink.SinkFault.TheVariants as sink
 use Rattle.srm_model.specs.World.{World, row_cmp, IsReached, IsLast, RunMeetsFull, opening}
 use Rattle.srm_model.specs.Schedules.{IsSafe, HasNoResult}
-use Rattle.srm_model.specs.Windows.{IsWidth}
 use Rattle.srm_model.specs.WindowRuns.{OwnResult, AreOwnRuns, rows_in, cells_in, IsMerge, AreNewInTurn, each_hears}
 use Rattle.srm_model.specs.WindowRuns.{IsWindow, after_window, jobs_of}
-use Rattle.srm_model.specs.WindowChains.{IsNext, start_of, IsEndRule, width_rule, AreWindows, window_jobs}
+use Rattle.srm_model.specs.WindowChains.{IsNext, start_of, IsEndRule, AreWindows, window_jobs}
 use Rattle.srm_engine.specs.Groups.{handed_jobs, AreGrouped, all_in, jobs_with, groups_of, lists_of, some_of}
 use Rattle.srm_engine.specs.declared.ends.Ends.{Ends}
-use Rattle.srm_engine.specs.declared.ends.Ends.TheVariants.{After, Promised}
 use Rattle.srm_engine.specs.Ends.{BeginsAt, MayEnd, TellsCutting, ends_rule}
 use Rattle.srm_engine.specs.Faults.{window_fault_of, run_fault_of}
 use Rattle.srm_engine.specs.Streams.{TellsHalt, stream_fault_of}
@@ -68,12 +63,7 @@ use Rattle.srm_ledger.proofs.Keeps.{replicate_zero}
 -- windows that end so follow a rule
 pub ends_are_rules : (p : PlainScenario) (net : Network) → net ≡ network_of p → IsAccepted p → (seed : ℕ) (ends : Ends) → MayEnd net ends
     → IsEndRule (setting_of p net seed) (ends_rule (setting_of p net seed) ends)
-ends_are_rules p net is accepted seed (After n) may =
-    subst (λ (k : Network). IsEndRule (setting_of p k seed) (width_rule (setting_of p k seed) n)) (sym is)
-    (widths_are_rules p seed n accepted may.0 (subst (λ (k : Network). IsWidth k n) is may.1))
-ends_are_rules p net is accepted seed Promised may =
-    promises_are_a_rule (setting_of p net seed) (subst (λ (k : Network). IsFit (setting_of p k seed)) (sym is)
-    (settings_are_fit p seed accepted))
+ends_are_rules p net is accepted seed ends may = grind (arith, widths_are_rules, promises_are_a_rule, settings_are_fit)
 
 -- ---- records
 
@@ -96,10 +86,7 @@ pub map_refused : {M : Type 0} (f : M → Record) (e : WindowEngine M) (seed end
     (js : List (Job M)) → JobsTell f e seed end w js → (x : CrewFault)
     → TellsMap f (setting_by e seed).traffic e.seat (handed_jobs 0 (jobs_of e.groups.cut end w)) (Err x)
     → MayCome (setting_by e seed) (rule_by e seed) e.groups.cut w (window_fault_of x)
-map_refused f e seed end w js j crew.NoMemory h = j.pending
-map_refused f e seed end w js j crew.ShareFull h = j.past h
-map_refused f e seed end w js j crew.CountFull h = j.full h
-map_refused f e seed end w js j crew.Spent h = j.pending
+map_refused f e seed end w js j x h = grind arith
 
 -- what the crew did for the window that ends so
 pub record WindowRan {M : Type 0} (f : M → Record) (e : WindowEngine M) (seed end : ℕ) (w : World)
@@ -145,10 +132,7 @@ module _ {M : Type 0} (f : M → Record) (e : WindowEngine M) (is : IsUnderWay f
 
   -- nothing is pending
   pub is_last : (begin : ℕ) → BeginsNext f e begin → e.scenario.now.until ≤ begin → IsLast s w
-  is_last begin at late =
-      let b = at seed begins w comes in
-      (windows_are_reached s (rule_by e seed) begins w comes.windows).1
-      ((starts_tell s w).1 (omega (arith, b, late)))
+  is_last begin at late = grind (arith, windows_are_reached)
 
   -- ---- its jobs
 
@@ -279,10 +263,7 @@ module _ {M : Type 0} (f : M → Record) (e : WindowEngine M) (is : IsUnderWay f
     module _ (ds : List (job.Done M)) (ran : WindowRan f e seed end w ds) (rows : List Row)
         (merged : IsPermutation (joined (some_of (lists_of ds))) rows × IsSorted row_cmp rows) where
       merge_is : IsMerge (rows_in ran.results) rows
-      merge_is = record {
-        all = subst (λ l. IsPermutation l rows) (ap (λ l. joined (some_of l)) ran.rows ∙ joined_some (rows_in ran.results)) merged.0;
-        in_order = merged.1;
-      }
+      merge_is = grind (arith, joined_some)
 
       abbrev pub after : World
       after = after_window s w ran.results rows
@@ -296,10 +277,7 @@ module _ {M : Type 0} (f : M → Record) (e : WindowEngine M) (is : IsUnderWay f
 
       pub later : (begin n : ℕ) → BeginsNext f e begin → begin < e.scenario.now.until → n ≡ min e.scenario.now.until (start_of s after)
           → begin < n
-      later begin n at early is_next =
-          let more = one_more.1 in
-          let b = at seed begins w comes in
-          omega (arith, b, is_next)
+      later begin n at early is_next = grind (arith, one_more)
 
       pub counted_after : (seat : SeatView) → HasGrown (counted_in (crossings s.traffic (rows_of ds))) e.seat seat
           → IsCounted s.traffic e.ledger (w.trace ++ rows) seat
@@ -326,12 +304,7 @@ none_crossed t (suc k) = ap (λ ns. slice_index ns k) (sym (nothing_counted t �
 -- a whole seat at the beginning counts the rows of the opening world
 pub opened_counted : (s : Setting) (l : LedgerView) (links : ℕ) (seat : SeatView) → seat ≡ whole_seat l.name links
     → IsCounted s.traffic l (opening s).trace seat
-opened_counted s l links seat whole = record {
-  ledger = ap (λ (v : SeatView). v.ledger) whole;
-  weight = ap (λ (v : SeatView). v.weight) whole;
-  shares = λ k. ap (λ (v : SeatView). slice_index v.shares k) whole ∙ replicate_zero (words_of links) k ∙ sym (none_crossed s.traffic k)
-      ∙ ap (λ rows. counted_in (crossings s.traffic rows) k) (sym (opening_trace s));
-}
+opened_counted s l links seat whole = grind (arith, replicate_zero, none_crossed, opening_trace)
 
 -- ---- calls
 
@@ -348,21 +321,13 @@ pub as_asked : {M : Type 0} (Q : Setting → (World → ℕ) → ℕ → Type 0)
     (net : Network) (c : Cutting) (asked : Windows) (seed : ℕ) → frame_of e ≡ (p, net, c.cut, c.ends) → TellsCutting p net asked (Ok c)
     → Q (setting_by e seed) (rule_by e seed) e.groups.cut
     → Q (setting_of p net seed) (rule_of (setting_of p net seed) net asked.width) asked.cut
-as_asked Q e p net c asked seed same told h =
-    subst (Q (setting_of p net seed) (rule_of (setting_of p net seed) net asked.width)) told.1
-    (subst (λ (rule : World → ℕ). Q (setting_of p net seed) rule c.cut) (sym (told.2.2 seed))
-    (subst (λ (k : PlainScenario × Network × ℕ × Ends). Q (setting_of k.0 k.1 seed) (ends_rule (setting_of k.0 k.1 seed) k.3) k.2)
-    same h))
+as_asked Q e p net c asked seed same told h = grind arith
 
 -- when a run in windows that hands its rows on is refused
 pub halts_refuse : {C S : Type 0} (took part : S → List Row → S → Type 0) (s : Setting) (rule : World → ℕ) (n : ℕ) (old : C) (from : S)
     (x : Halt WindowFault) (to : S) (new : C) → TellsHalt took part (MayCome s rule n) s from x to
     → MeetsWindowRefusal s rule n old (stream_fault_of run_fault_of x) new
-halts_refuse took part s rule n old from (halt.Run window.NoMemory) to new h = tt
-halts_refuse took part s rule n old from (halt.Run window.CountFull) to new h = h.3
-halts_refuse took part s rule n old from (halt.Run window.ShareFull) to new h = (h.0, h.3)
-halts_refuse took part s rule n old from (halt.Sink sink.NoMemory) to new h = tt
-halts_refuse took part s rule n old from (halt.Sink (sink.Stopped k)) to new h = tt
+halts_refuse took part s rule n old from x to new h = grind arith
 
 -- ---- its end
 

@@ -1,6 +1,6 @@
 -- Without room members whose records differ in intervals alone answer alike.
-use Rattle.std.proofs.Common.{◌≡◌, ℕ, zero, suc, ◌+◌, ◌-◌, ◌/◌, min, Bool, true, false, cond, ◌&&◌, List, [], ◌∷◌, ◌++◌, refl}
-use Rattle.std.proofs.Common.{Option, Some, None, nat_lt, nat_le, ap, sym, subst, ◌∙◌, arith, eq-eqb, ◌==◌, ◌≢◌}
+use Rattle.std.proofs.Common.{◌≡◌, ℕ, zero, suc, ◌+◌, ◌-◌, ◌/◌, min, Bool, true, false, cond, List, [], ◌∷◌, ◌++◌, refl}
+use Rattle.std.proofs.Common.{Option, Some, None, nat_lt, nat_le, ap, sym, subst, ◌∙◌, arith, ◌≢◌}
 use Rattle.std.specs.FinMap.Entries.{put, find}
 use Rattle.srm_net.specs.declared.packet.Name.{Name}
 use Rattle.srm_net.specs.declared.packet.PageId.{PageId}
@@ -8,47 +8,38 @@ use Rattle.srm_net.specs.declared.packet.Heard.{Heard}
 use Rattle.srm_net.specs.declared.packet.Body.{Body}
 use Rattle.srm_net.specs.declared.packet.Body.TheVariants.{Drawop, Request, Repair, Session}
 use Rattle.srm_net.specs.Names.{page_of, name_in, name_cmp}
-use Rattle.srm_net.specs.Roles.{is_sender, is_listener}
-use Rattle.srm_net.specs.Limits.{most_drawn}
+use Rattle.srm_net.specs.Roles.{is_listener}
 use Rattle.srm_member.specs.declared.cause.Cause.{Cause}
 use Rattle.srm_member.specs.declared.cause.Cause.TheVariants.{Join, Arrival, Ask, Answer, Draw, Report}
 use Rattle.srm_member.specs.declared.fixed.Fixed.{Fixed}
-use Rattle.srm_member.specs.Backoff.{span_by}
 use Rattle.srm_member.specs.declared.intervals.Intervals.{Intervals}
-use Rattle.srm_member.specs.Intervals.{Interval, Limits, has_constants_of}
-use Rattle.srm_member.specs.IntervalLaws.{Change, changed, IsWithinLimits, HasNoRoom}
+use Rattle.srm_member.specs.Intervals.{Interval, Limits}
+use Rattle.srm_member.specs.IntervalLaws.{Change, changed, HasNoRoom}
 use Rattle.srm_member.specs.AdaptingLaws.{HasFixedTimers, IsAdaptedWithin, FixedTimersIgnoreWhatIsSeen}
 use Rattle.srm_member.specs.AdaptingLaws.{DifferInAdapted, FixedTimersAreToldAtJoinsAlone, ListenersTellNoIntervals}
 use Rattle.srm_member.specs.Record.{MemberState, Missing, Repairing, Progress, timers_of}
-use Rattle.srm_member.specs.React.{Reaction, has_entry, distance_to, length_in, with_next_word, request_length, repair_length, back_off}
+use Rattle.srm_member.specs.React.{Reaction, has_entry, with_next_word, request_length, repair_length, back_off}
 use Rattle.srm_member.specs.React.{with_progress, with_request_delay, with_losses_begun, with_mending_seen, with_repair_seen}
 use Rattle.srm_member.specs.React.{with_repairs_begun}
-use Rattle.srm_member.specs.React.{with_duplicate_request, with_request_first, with_repair_first, is_at_rest, meet, lose_one, lose_from}
+use Rattle.srm_member.specs.React.{with_duplicate_request, with_request_first, is_at_rest, meet, lose_one, lose_from}
 use Rattle.srm_member.specs.React.{lose_below, lost_below, with_held, with_mended, hear_data, with_rest, hear_repair, with_repair_timer}
-use Rattle.srm_member.specs.React.{hear_request_by_entry, hear_request_of_held, hear_request_of_missing, hear_request, page_heard}
+use Rattle.srm_member.specs.React.{hear_request_by_entry, hear_request_of_held, hear_request_of_missing, hear_request}
 use Rattle.srm_member.specs.React.{after_entry}
 use Rattle.srm_member.specs.React.{lost_by_entry, hear_session, hear_body, expire_request_by_entry, expire_request, expire_repair_by_entry}
-use Rattle.srm_member.specs.React.{expire_repair, own_page, own_progress, draw_operation, is_skip, react_active, listen_data}
-use Rattle.srm_member.specs.React.{listen, react_listener, react_telling, react, with_adapted, intervals_of, adapted_at, adapted_since}
+use Rattle.srm_member.specs.React.{expire_repair, draw_operation, is_skip, react_active}
+use Rattle.srm_member.specs.React.{react_listener, react_telling, react, with_adapted, intervals_of, adapted_at, adapted_since}
 use Rattle.srm_member.specs.React.{telling_intervals}
 use Rattle.srm_member.proofs.LawProofs.{as_listener}
-use Rattle.srm_member.proofs.IntervalProofs.{changed_within, ordered_without_room, only_first}
 use Rattle.srm_member.proofs.IntervalChanges.{Adapts, adapts_delay, adapts_losses, adapts_mending, adapts_repair_seen, adapts_repairs_begun}
-use Rattle.srm_member.proofs.IntervalChanges.{adapts_duplicate, adapts_request_first, adapts_repair_first, adapts_same, adapts_back_off}
+use Rattle.srm_member.proofs.IntervalChanges.{adapts_duplicate, adapts_request_first, adapts_same, adapts_back_off}
 
 -- start and width are the first values
 abbrev AreFirst : Limits → Limits → Interval → Type 0
 AreFirst start width i = (i.start ≡ start.first) × (i.width ≡ width.first)
 
-first_within : (l : Limits) (x : ℕ) → HasNoRoom l → x ≡ l.first → IsWithinLimits l x
-first_within l x h e = (omega arith, omega arith)
-
 stays_first : (start width : Limits) → HasNoRoom start → HasNoRoom width → (c : Change) (i : Interval) → AreFirst start width i
     → AreFirst start width (changed start width c i)
-stays_first start width hs hw c i h =
-    let kept = changed_within start width (ordered_without_room start hs) (ordered_without_room width hw) c i
-    (first_within start i.start hs h.0, first_within width i.width hw h.1) in
-    (only_first start _ hs kept.0, only_first width _ hw kept.1)
+stays_first start width hs hw c i h = grind arith
 
 -- a record with other intervals
 abbrev swapped : Interval → Interval → MemberState → MemberState
@@ -60,18 +51,7 @@ quiet_if true x y h g = h
 quiet_if false x y h g = g
 
 listener_tells_none : (m : MemberState) (cause : Cause) → (react_listener m cause).answer.adapted ≡ None
-listener_tells_none m Join = refl
-listener_tells_none m (Arrival p) = by_body p.body
-  where
-    by_body : (b : Body) → (listen b m).answer.adapted ≡ None
-    by_body (Drawop n ink) = quiet_if _ _ _ refl refl
-    by_body (Repair n ink) = quiet_if _ _ _ refl refl
-    by_body (Request n) = refl
-    by_body (Session hs) = refl
-listener_tells_none m (Ask n) = refl
-listener_tells_none m (Answer n) = refl
-listener_tells_none m (Draw page ink) = refl
-listener_tells_none m Report = refl
+listener_tells_none m cause = grind arith
 
 module _ (f : Fixed) (roomless : HasFixedTimers f) where
   abbrev Asks : Interval → Type 0
@@ -111,10 +91,6 @@ module _ (f : Fixed) (roomless : HasFixedTimers f) where
       → Fit m → Fit n
   same_fit = adapts_same f Asks Answers asks answers
 
-  alike_cond : (b : Bool) (m n k l : MemberState) → Alike m k → Alike n l → Alike (cond b m n) (cond b k l)
-  alike_cond true m n k l h g = h
-  alike_cond false m n k l h g = g
-
   alike_if : (b : Bool) (x y z w : Reaction) → AlikeReaction x z → AlikeReaction y w → AlikeReaction (cond b x y) (cond b z w)
   alike_if true x y z w h g = h
   alike_if false x y z w h g = g
@@ -123,33 +99,16 @@ module _ (f : Fixed) (roomless : HasFixedTimers f) where
 
   request_same : (a b : Interval) (m : MemberState) → Fit m → Fit (swapped a b m) → (i : ℕ) (n : Name)
       → request_length (swapped a b m) i n ≡ request_length m i n
-  request_same a b m l r i n =
-      let start : a.start ≡ m.request_interval.start = r.requests.0 ∙ sym l.requests.0 in
-      let width : a.width ≡ m.request_interval.width = r.requests.1 ∙ sym l.requests.1 in
-      ap (λ x. length_in m (span_by m.fixed.backoff i x a.width (distance_to m n.source))) start
-      ∙ ap (λ y. length_in m (span_by m.fixed.backoff i m.request_interval.start y (distance_to m n.source))) width
+  request_same a b m l r i n = grind arith
 
   repair_same : (a b : Interval) (m : MemberState) → Fit m → Fit (swapped a b m) → (who : ℕ)
       → repair_length (swapped a b m) who ≡ repair_length m who
-  repair_same a b m l r who =
-      let start : b.start ≡ m.repair_interval.start = r.repairs.0 ∙ sym l.repairs.0 in
-      let width : b.width ≡ m.repair_interval.width = r.repairs.1 ∙ sym l.repairs.1 in
-      ap (λ x. length_in m (span_by m.fixed.backoff 0 x b.width (distance_to m who))) start
-      ∙ ap (λ y. length_in m (span_by m.fixed.backoff 0 m.repair_interval.start y (distance_to m who))) width
+  repair_same a b m l r who = grind arith
 
   -- ---- what sets timers
 
-  abbrev lost_with : ℕ → Name → MemberState → ℕ → MemberState
-  lost_with at n m len = record (with_next_word m) {
-    missing = put name_cmp n (record { detected = at; expiry = at + len; backoffs = 0; ignore = at }) m.missing;
-  }
-
   alike_lose_one : (at : ℕ) (n : Name) (m k : MemberState) → Alike m k → Alike (lose_one at n m) (lose_one at n k)
-  alike_lose_one at n m k h = by_swap (λ q. Alike (lose_one at n m) (lose_one at n q)) m k h (λ a b fit. record {
-    left = same_fit m (lose_one at n m) refl refl refl h.left;
-    right = same_fit (swapped a b m) (lose_one at n (swapped a b m)) refl refl refl fit;
-    same = ap (λ len. swapped a b (lost_with at n m len)) (request_same a b m h.left fit 0 n);
-  })
+  alike_lose_one at n m k h = grind arith
 
   abbrev backed_with : ℕ → Name → Missing → MemberState → ℕ → MemberState
   backed_with at n e m len = record (with_next_word m) {
@@ -194,12 +153,7 @@ module _ (f : Fixed) (roomless : HasFixedTimers f) where
       → ((m : MemberState) → Fit m → Fit (F m))
       → ((m : MemberState) → (F m).request_interval ≡ m.request_interval) → ((m : MemberState) → (F m).repair_interval ≡ m.repair_interval)
       → (m k : MemberState) → Alike m k → Alike (F m) (F k)
-  alike_plain F e fits p q m k h = record {
-    left = fits m h.left;
-    right = fits k h.right;
-    same = ap F h.same ∙ e k.request_interval k.repair_interval m
-        ∙ ap (λ a. swapped a k.repair_interval (F m)) (sym (p k)) ∙ ap (λ b. swapped (F k).request_interval b (F m)) (sym (q k));
-  }
+  alike_plain F e fits p q m k h = grind arith
 
   alike_progress : (p : PageId) (s : Progress) (m k : MemberState) → Alike m k → Alike (with_progress p s m) (with_progress p s k)
   alike_progress p s = alike_plain (with_progress p s) (λ a b m. refl) (λ m h. same_fit m (with_progress p s m) refl refl refl h)
@@ -212,10 +166,6 @@ module _ (f : Fixed) (roomless : HasFixedTimers f) where
   alike_mended : (n : Name) (ink : ℕ) (m k : MemberState) → Alike m k → Alike (with_mended n ink m) (with_mended n ink k)
   alike_mended n ink = alike_plain (with_mended n ink) (λ a b m. refl) (λ m h. same_fit m (with_mended n ink m) refl refl refl h)
       (λ m. refl) (λ m. refl)
-
-  alike_resting : (at : ℕ) (n : Name) (who : ℕ) (m k : MemberState) → Alike m k → Alike (with_rest at n who m) (with_rest at n who k)
-  alike_resting at n who = alike_plain (with_rest at n who) (λ a b m. refl)
-      (λ m h. same_fit m (with_rest at n who m) refl refl refl h) (λ m. refl) (λ m. refl)
 
   alike_lose_from : (at : ℕ) (p : PageId) (count first : ℕ) (m k : MemberState) → Alike m k
       → Alike (lose_from at p count first m) (lose_from at p count first k)
@@ -230,14 +180,7 @@ module _ (f : Fixed) (roomless : HasFixedTimers f) where
   alike_change : (F : MemberState → MemberState)
       → ((m : MemberState) → F m ≡ swapped (F m).request_interval (F m).repair_interval m) → ((m : MemberState) → Fit m → Fit (F m))
       → (m k : MemberState) → Alike m k → Alike (F m) (F k)
-  alike_change F e fits m k h =
-      let a = (F k).request_interval in
-      let b = (F k).repair_interval in
-      record {
-        left = fits m h.left;
-        right = fits k h.right;
-        same = e k ∙ ap (swapped a b) h.same ∙ sym (ap (swapped a b) (e m));
-      }
+  alike_change F e fits m k h = grind arith
 
   alike_losses : (lost : List Name) (n : ℕ) (s : Progress) (m k : MemberState) → Alike m k
       → Alike (with_losses_begun lost n s m) (with_losses_begun lost n s k)
@@ -256,10 +199,6 @@ module _ (f : Fixed) (roomless : HasFixedTimers f) where
 
   alike_request_first : (e : Missing) (m k : MemberState) → Alike m k → Alike (with_request_first e m) (with_request_first e k)
   alike_request_first e = alike_change (with_request_first e) (λ m. refl) (adapts_request_first f Asks Answers asks answers e)
-
-  alike_repair_first : (at : ℕ) (r : Repairing) (m k : MemberState) → Alike m k
-      → Alike (with_repair_first at r m) (with_repair_first at r k)
-  alike_repair_first at r = alike_change (with_repair_first at r) (λ m. refl) (adapts_repair_first f Asks Answers asks answers at r)
 
   -- ---- events
 
@@ -293,12 +232,7 @@ module _ (f : Fixed) (roomless : HasFixedTimers f) where
   repaired_alike : (at : ℕ) (n : Name) (who : ℕ) (r s : Reaction) → AlikeReaction r s
       → AlikeReaction (cond (is_skip r.answer.told) r (record r { state = with_rest at n who (with_repair_seen at n r.state) }))
       (cond (is_skip s.answer.told) s (record s { state = with_rest at n who (with_repair_seen at n s.state) }))
-  repaired_alike at n who r s h =
-      let rests : Reaction → Reaction = λ x. record x { state = with_rest at n who (with_repair_seen at n x.state) } in
-      subst (λ b. AlikeReaction (cond (is_skip r.answer.told) r (rests r)) (cond b s (rests s)))
-      (sym (ap (λ (x : Rattle.srm_member.specs.declared.react.React.React). is_skip x.told) h.answer))
-      (alike_if (is_skip r.answer.told) r (rests r) s (rests s) h
-      (record { answer = h.answer; state = alike_resting at n who _ _ (alike_repair_seen at n r.state s.state h.state) }))
+  repaired_alike at n who r s h = grind (arith, alike_repair_seen)
 
   alike_repair : (at : ℕ) (n : Name) (ink who : ℕ) (m k : MemberState) → Alike m k
       → AlikeReaction (hear_repair at n ink who m) (hear_repair at n ink who k)
@@ -342,11 +276,7 @@ module _ (f : Fixed) (roomless : HasFixedTimers f) where
   alike_entry : (at : ℕ) (d : Heard) (lost : List Name) (a b : Interval) (m : MemberState) → Alike m (swapped a b m)
       → Alike (after_entry at d lost m) (after_entry at d lost (swapped a b m))
   unfolding after_entry
-  alike_entry at d lost a b m h =
-      let s = meet m (page_heard d) (d.highest + 1) in
-      alike_cond (nat_le s.next d.highest) _ _ _ _
-      (alike_lose at (page_heard d) (d.highest + 1) (d.highest + 1) s lost m (swapped a b m) h)
-      (alike_progress (page_heard d) s m (swapped a b m) h)
+  alike_entry at d lost a b m h = grind (arith, alike_lose)
 
   alike_session : (at : ℕ) (hs : List Heard) (m k : MemberState) (lost : List Name) → Alike m k
       → AlikeReaction (hear_session at hs m lost) (hear_session at hs k lost)
@@ -371,22 +301,12 @@ module _ (f : Fixed) (roomless : HasFixedTimers f) where
 
   alike_answering : (at : ℕ) (n : Name) (a b : Interval) (m : MemberState) (o : Option Repairing) → Alike m (swapped a b m)
       → AlikeReaction (expire_repair_by_entry at n m o) (expire_repair_by_entry at n (swapped a b m) o)
-  alike_answering at n a b m None h = record { answer = refl; state = h }
-  alike_answering at n a b m (Some r) h =
-      record { answer = refl; state = alike_resting at n m.fixed.member _ _ (alike_repair_first at r m (swapped a b m) h) }
+  alike_answering at n a b m o h = grind arith
 
   alike_drawing : (page ink : ℕ) (a b : Interval) (m : MemberState) → Alike m (swapped a b m)
       → AlikeReaction (draw_operation page ink m) (draw_operation page ink (swapped a b m))
   unfolding draw_operation
-  alike_drawing page ink a b m h =
-      let p = own_page m page in
-      let s = own_progress m p in
-      alike_if (is_sender m.fixed.role && nat_lt s.next most_drawn) _ _ _ _
-      (record {
-        answer = refl;
-        state = alike_holding (name_in p s.next) ink _ _
-            (alike_progress p (record { floor = s.floor; next = s.next + 1 }) m (swapped a b m) h);
-      }) (record { answer = refl; state = h })
+  alike_drawing page ink a b m h = grind arith
 
   alike_active : (at : ℕ) (cause : Cause) (a b : Interval) (m : MemberState) → Alike m (swapped a b m)
       → AlikeReaction (react_active m at cause) (react_active (swapped a b m) at cause)
@@ -398,26 +318,9 @@ module _ (f : Fixed) (roomless : HasFixedTimers f) where
   alike_active at (Draw page ink) a b m h = alike_drawing page ink a b m h
   alike_active at Report a b m h = record { answer = refl; state = h }
 
-  alike_listened : (n : Name) (ink : ℕ) (a b : Interval) (m : MemberState) → Alike m (swapped a b m)
-      → AlikeReaction (listen_data n ink m) (listen_data n ink (swapped a b m))
-  alike_listened n ink a b m h = alike_if (has_entry n m.held) _ _ _ _ (record { answer = refl; state = h })
-      (record { answer = refl; state = alike_holding n ink m (swapped a b m) h })
-
-  alike_listen : (body : Body) (a b : Interval) (m : MemberState) → Alike m (swapped a b m)
-      → AlikeReaction (listen body m) (listen body (swapped a b m))
-  alike_listen (Drawop n ink) a b m h = alike_listened n ink a b m h
-  alike_listen (Repair n ink) a b m h = alike_listened n ink a b m h
-  alike_listen (Request n) a b m h = record { answer = refl; state = h }
-  alike_listen (Session hs) a b m h = record { answer = refl; state = h }
-
   alike_listener : (cause : Cause) (a b : Interval) (m : MemberState) → Alike m (swapped a b m)
       → AlikeReaction (react_listener m cause) (react_listener (swapped a b m) cause)
-  alike_listener Join a b m h = record { answer = refl; state = h }
-  alike_listener (Arrival p) a b m h = alike_listen p.body a b m h
-  alike_listener (Ask n) a b m h = record { answer = refl; state = h }
-  alike_listener (Answer n) a b m h = record { answer = refl; state = h }
-  alike_listener (Draw page ink) a b m h = record { answer = refl; state = h }
-  alike_listener Report a b m h = record { answer = refl; state = h }
+  alike_listener cause a b m h = grind arith
 
   -- the same but for what the answers tell of intervals
   record AlikeTold (r s : Reaction) : Type 0 where
@@ -433,10 +336,7 @@ module _ (f : Fixed) (roomless : HasFixedTimers f) where
 
   told_alike : (cause : Cause) (i j : Intervals) (r s : Reaction) → AlikeReaction r s
       → AlikeTold (telling_intervals cause i r) (telling_intervals cause j s)
-  told_alike cause i j r s h = record {
-    answer = ap (λ a. with_adapted (adapted_at cause j (intervals_of s.state)) a) h.answer;
-    state = h.state;
-  }
+  told_alike cause i j r s h = grind arith
 
   react_alike : (at : ℕ) (cause : Cause) (a b : Interval) (m : MemberState) → Alike m (swapped a b m)
       → AlikeTold (react m at cause) (react (swapped a b m) at cause)
@@ -451,24 +351,12 @@ module _ (f : Fixed) (roomless : HasFixedTimers f) where
 
   -- ---- what is told of intervals
 
-  same_constants : (i j : Interval) → j.start ≡ i.start → j.width ≡ i.width → has_constants_of i j ≡ true
-  same_constants i j start width = λ x. eq-eqb j.start i.start start x && eq-eqb j.width i.width width x
-
   none_told : (m k : MemberState) → Fit m → Fit k → adapted_since (intervals_of m) (intervals_of k) ≡ None
-  none_told m k h g =
-      let request = same_constants m.request_interval k.request_interval (g.requests.0 ∙ sym h.requests.0)
-      (g.requests.1 ∙ sym h.requests.1) in
-      let repair = same_constants m.repair_interval k.repair_interval (g.repairs.0 ∙ sym h.repairs.0) (g.repairs.1 ∙ sym h.repairs.1) in
-      λ x. cond (request x && repair x) None (Some (intervals_of k))
+  none_told m k h g = grind arith
 
   none_at : (cause : Cause) (m k : MemberState) → Fit m → Fit k → cause ≢ Join
       → adapted_at cause (intervals_of m) (intervals_of k) ≡ None
-  none_at Join m k h g other = absurd (other refl)
-  none_at (Arrival p) m k h g other = none_told m k h g
-  none_at (Ask n) m k h g other = none_told m k h g
-  none_at (Answer n) m k h g other = none_told m k h g
-  none_at (Draw page ink) m k h g other = none_told m k h g
-  none_at Report m k h g other = none_told m k h g
+  none_at cause m k h g other = grind arith
 
   react_tells_none : (at : ℕ) (cause : Cause) (m : MemberState) → Fit m → cause ≢ Join → (react m at cause).answer.adapted ≡ None
   unfolding react
@@ -479,17 +367,7 @@ module _ (f : Fixed) (roomless : HasFixedTimers f) where
 
 -- a record within limits without room has the first constants
 first_of : (f : Fixed) (roomless : HasFixedTimers f) (m : MemberState) → m.fixed ≡ f → IsAdaptedWithin m → Fit f roomless m
-first_of f roomless m e w = record {
-  same = e;
-  requests = (
-    only_first f.c1 m.request_interval.start roomless.c1 (subst (λ (g : Fixed). IsWithinLimits g.c1 m.request_interval.start) e w.c1),
-    only_first f.c2 m.request_interval.width roomless.c2 (subst (λ (g : Fixed). IsWithinLimits g.c2 m.request_interval.width) e w.c2),
-  );
-  repairs = (
-    only_first f.d1 m.repair_interval.start roomless.d1 (subst (λ (g : Fixed). IsWithinLimits g.d1 m.repair_interval.start) e w.d1),
-    only_first f.d2 m.repair_interval.width roomless.d2 (subst (λ (g : Fixed). IsWithinLimits g.d2 m.repair_interval.width) e w.d2),
-  );
-}
+first_of f roomless m e w = grind arith
 
 pub fixed_timers_ignore_what_is_seen : FixedTimersIgnoreWhatIsSeen
 fixed_timers_ignore_what_is_seen m k at cause roomless wm wk differ =

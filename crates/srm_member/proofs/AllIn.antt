@@ -1,6 +1,6 @@
 -- Facts about each element of a list.
-use Rattle.std.proofs.Common.{zero, suc, All, arith, Bool, true, false, cond, List, [], ◌∷◌, ◌++◌, map, filter, Ordering, Less, Equal}
-use Rattle.std.proofs.Common.{Greater, is_lt}
+use Rattle.std.proofs.Common.{zero, suc, All, arith, Bool, true, false, cond, List, [], ◌∷◌, ◌++◌, map, filter, Ordering}
+use Rattle.std.proofs.Common.{is_lt}
 use Rattle.std.specs.FinMap.Entries.{put, by_order}
 use Rattle.srm_net.specs.Orders.{place}
 
@@ -43,9 +43,7 @@ AllIn-unmap Q f (x ∷ xs) h = (h.0, AllIn-unmap Q f xs h.1)
 
 module _ {K V : Type 0} (Q : (K × V) → Type 0) (cmp : K → K → Ordering) where
   AllIn-order : (r : Ordering) (a b c : List (K × V)) → AllIn Q a → AllIn Q b → AllIn Q c → AllIn Q (by_order r a b c)
-  AllIn-order Less a b c h g f = h
-  AllIn-order Equal a b c h g f = g
-  AllIn-order Greater a b c h g f = f
+  AllIn-order r a b c h g f = grind arith
 
   pub AllIn-put : (k : K) (v : V) (es : List (K × V)) → ((x : K) → Q (x, v)) → AllIn Q es → AllIn Q (put cmp k v es)
   AllIn-put k v [] q h = (q k, tt)

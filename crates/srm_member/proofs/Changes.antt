@@ -13,22 +13,22 @@ use Rattle.srm_net.specs.declared.packet.Body.{Body}
 use Rattle.srm_net.specs.declared.packet.Body.TheVariants.{Drawop, Request, Repair, Session}
 use Rattle.srm_net.specs.Names.{page_of, name_in, name_cmp, page_cmp}
 use Rattle.srm_member.specs.declared.cause.Cause.{Cause}
-use Rattle.srm_member.specs.declared.cause.Cause.TheVariants.{Join, Arrival, Ask, Answer, Draw, Report}
+use Rattle.srm_member.specs.declared.cause.Cause.TheVariants.{Arrival, Draw}
 use Rattle.srm_member.specs.declared.told.Told.{Told}
-use Rattle.srm_member.specs.declared.told.Told.TheVariants.{Entered, Fresh, Fixed, Again, Skip, Sent}
+use Rattle.srm_member.specs.declared.told.Told.TheVariants.{Fresh, Fixed, Skip, Sent}
 use Rattle.srm_member.specs.Record.{MemberState, Missing, Repairing, Progress}
-use Rattle.srm_net.specs.Roles.{is_late, is_sender, is_listener}
-use Rattle.srm_member.specs.React.{Reaction, quietly, send_body, without, has_entry, back_off, wants}
+use Rattle.srm_net.specs.Roles.{is_sender, is_listener}
+use Rattle.srm_member.specs.React.{Reaction, quietly, send_body, without, has_entry, back_off}
 use Rattle.srm_member.specs.React.{adapted_at, intervals_of, react_telling, with_adapted}
 use Rattle.srm_member.specs.declared.intervals.Intervals.{Intervals}
 use Rattle.srm_member.specs.React.{with_losses_begun, with_repair_seen, with_duplicate_request}
 use Rattle.srm_member.specs.React.{with_request_first, with_repair_first}
-use Rattle.srm_member.specs.React.{begins_at, with_progress, meet, lose_one, lose_from, names_from, lose_below, lost_below, with_held}
+use Rattle.srm_member.specs.React.{begins_at, with_progress, meet, lose_one, lose_from, names_from, lose_below, lost_below}
 use Rattle.srm_member.specs.React.{hear_data, with_rest, hear_repair, with_repair_timer, hear_request_by_entry}
 use Rattle.srm_member.specs.React.{hear_request_of_held, hear_request, page_heard}
 use Rattle.srm_member.specs.React.{after_entry, lost_by_entry, hear_session, hear_body, expire_request_by_entry, expire_request}
 use Rattle.srm_member.specs.React.{expire_repair_by_entry, expire_repair, own_page}
-use Rattle.srm_member.specs.React.{own_progress, with_drawn, draw_operation, is_skip, react_active, listen_data, listen}
+use Rattle.srm_member.specs.React.{own_progress, with_drawn, draw_operation, is_skip, react_active}
 use Rattle.srm_member.specs.React.{react_listener}
 use Rattle.srm_member.specs.React.{react}
 use Rattle.srm_member.proofs.TableChanges.{Has, has_put, has_more, has_cases, without_less}
@@ -60,18 +60,7 @@ no_name n h = absurd (let l = h.1 in omega arith)
 
 pub grows_same : (m k : MemberState) → k.fixed ≡ m.fixed → k.held ≡ m.held → k.progress ≡ m.progress → k.missing ≡ m.missing → k.repairs
     ≡ m.repairs → Grows [] m k
-grows_same m k f h s l r = record {
-  fixed = f;
-  held = h;
-  below = λ n b. (b.0, ap (find page_cmp (page_of n)) s ∙ b.1, b.2);
-  new = λ n c. no_name n c;
-  heard = λ n c. no_name n c;
-  lacks = λ n c. inl (subst (Has n) l c);
-  still = λ n c. subst (Has n) (sym l) c;
-  lacking = λ n c. no_name n c;
-  plans = λ n c. inl (subst (Has n) r c);
-  sorted = λ c. subst (λ es. T (is_sorted name_cmp es)) (sym l) c;
-}
+grows_same m k f h s l r = grind arith
 
 pub grows_on : (a b : List Name) (m k l : MemberState) → Grows a m k → Grows b k l → Grows (a ++ b) m l
 grows_on a b m k l g h = record {
@@ -100,24 +89,10 @@ begins_by : (b : Bool) (x : ℕ) → cond b x 0 ≤ x
 begins_by true x = omega arith
 begins_by false x = omega arith
 
-begins_low : (m : MemberState) (p : PageId) (x : ℕ) → begins_at m p x ≤ x
-begins_low m p x = begins_by (is_late m.fixed.role && not (wants m p.page)) x
-
 -- the entry met is that of the page, or begins no later than here
 met : (m : MemberState) (p : PageId) (x : ℕ) → (find page_cmp p m.progress ≡ Some (meet m p x))
     ⊎ ((find page_cmp p m.progress ≡ None) × ((meet m p x).next ≤ x))
-met m p x = elim (find page_cmp p m.progress) as (λ o. find page_cmp p m.progress ≡ o → (find page_cmp p m.progress ≡ Some (meet m p x))
-    ⊎ ((find page_cmp p m.progress ≡ None) × ((meet m p x).next ≤ x))) [
-      | None ↦ λ e.
-          let new : meet m p x ≡ record { floor = begins_at m p x; next = begins_at m p x } =
-          ap (λ o. unwrap_or o (record { floor = begins_at m p x; next = begins_at m p x })) e in
-          let next : (meet m p x).next ≡ begins_at m p x = ap (λ (s : Progress). s.next) new in
-          let low = begins_low m p x in
-          inr (e, omega arith)
-      | Some s ↦ λ e.
-          let same : meet m p x ≡ s = ap (λ o. unwrap_or o (record { floor = begins_at m p x; next = begins_at m p x })) e in
-          inl (e ∙ ap Some (sym same))
-    ] refl
+met m p x = grind arith
 
 none_some : {A : Type 0} (o : Option A) (a : A) → o ≡ None → o ≡ Some a → ⊥
 none_some o a e f = let x : None ≡ Some a = sym e ∙ f in cc
@@ -155,13 +130,7 @@ grows_meet m p x = grows_progress m p x (meet m p x) (omega arith)
 
 -- a number that is not below the next one of the entry met was not heard of
 not_heard : (m : MemberState) (n : Name) (x : ℕ) → (meet m (page_of n) x).next ≤ n.number → ¬ Below n m
-not_heard m n x le b = elim (met m (page_of n) x) [
-  | inl e ↦
-      let same : (meet m (page_of n) x).next ≡ b.0.next = ap (λ (t : Progress). t.next) (same_Some _ _ (sym e ∙ b.1)) in
-      let lt = b.2 in
-      omega arith
-  | inr e ↦ none_some (find page_cmp (page_of n) m.progress) b.0 e.0 b.1
-]
+not_heard m n x le b = grind arith
 
 -- ---- losses
 
@@ -256,46 +225,13 @@ grows_lose at p x end next lost m low high =
 -- ---- timers
 
 grows_back_off : (at : ℕ) (n : Name) (e : Missing) (m : MemberState) → Has n m.missing → Grows [] m (back_off at n e m)
-grows_back_off at n e m h = record {
-  fixed = refl;
-  held = refl;
-  below = λ k b. b;
-  new = λ k c. no_name k c;
-  heard = λ k c. no_name k c;
-  lacks = λ k g. elim (has_cases k n _ m.missing g) [ inl q ↦ inl (subst (λ x. Has x m.missing) (sym q) h) | inr q ↦ inl q ];
-  still = λ k g. has_more k n _ m.missing g;
-  lacking = λ k c. no_name k c;
-  plans = λ k g. inl g;
-  sorted = λ g. sorted_put n _ m.missing g;
-}
+grows_back_off at n e m h = grind (arith, has_cases, has_more, sorted_put)
 
 grows_planning : (at : ℕ) (n : Name) (who : ℕ) (m : MemberState) → Has n m.held → Grows [] m (with_repair_timer at n who m)
-grows_planning at n who m h = record {
-  fixed = refl;
-  held = refl;
-  below = λ k b. b;
-  new = λ k c. no_name k c;
-  heard = λ k c. no_name k c;
-  lacks = λ k g. inl g;
-  still = λ k g. g;
-  lacking = λ k c. no_name k c;
-  plans = λ k g. elim (has_cases k n _ m.repairs g) [ inl q ↦ inr (subst (λ x. Has x m.held) (sym q) h) | inr q ↦ inl q ];
-  sorted = λ g. g;
-}
+grows_planning at n who m h = grind (arith, has_cases)
 
 grows_resting : (at : ℕ) (n : Name) (who : ℕ) (m : MemberState) → Grows [] m (with_rest at n who m)
-grows_resting at n who m = record {
-  fixed = refl;
-  held = refl;
-  below = λ k b. b;
-  new = λ k c. no_name k c;
-  heard = λ k c. no_name k c;
-  lacks = λ k g. inl g;
-  still = λ k g. g;
-  lacking = λ k c. no_name k c;
-  plans = λ k g. inl (without_less k n m.repairs g).1;
-  sorted = λ g. g;
-}
+grows_resting at n who m = grind (arith, without_less)
 
 -- ---- what an event does
 
@@ -421,28 +357,7 @@ got_effect b at n ink repaired m brings =
 
 rested : (m : MemberState) (b : Body) (at : ℕ) (n : Name) (who : ℕ) (r : Reaction) → Got m b r
     → Got m b (record r { state = with_rest at n who (with_repair_seen at n r.state) })
-rested m b at n who r (inl q) = inl (record {
-  grows = grows_then r.answer.lost m r.state _ q.grows
-      (grows_then [] r.state (with_repair_seen at n r.state) _
-      (grows_same r.state (with_repair_seen at n r.state) refl refl refl refl refl)
-      (grows_resting at n who (with_repair_seen at n r.state)));
-  not_fresh = q.not_fresh;
-  not_fixed = q.not_fixed;
-  body = q.body;
-})
-rested m b at n who r (inr q) = inr (record {
-  name = q.name;
-  ink = q.ink;
-  brings = q.brings;
-  mid = q.mid;
-  grows = q.grows;
-  fixed = q.fixed;
-  held = q.held;
-  mends = q.mends;
-  below = q.below;
-  plans = λ k h. q.plans k (without_less k n r.state.repairs h).1;
-  body = q.body;
-})
+rested m b at n who r h6 = grind (arith, without_less)
 
 repair_effect : (b : Body) (at : ℕ) (n : Name) (ink who : ℕ) (m : MemberState) → Brings b n ink → Got m b (hear_repair at n ink who m)
 repair_effect b at n ink who m brings =
@@ -581,12 +496,7 @@ answering_effect at n m (Some x) e = record {
 
 -- the entry of an own page, which begins at 0
 own_met : (m : MemberState) (p : PageId) → (find page_cmp p m.progress ≡ Some (own_progress m p)) ⊎ (find page_cmp p m.progress ≡ None)
-own_met m p = elim (find page_cmp p m.progress) as (λ o. find page_cmp p m.progress ≡ o
-    → (find page_cmp p m.progress ≡ Some (own_progress m p))
-    ⊎ (find page_cmp p m.progress ≡ None)) [
-      | None ↦ λ e. inr e
-      | Some s ↦ λ e. inl (e ∙ ap Some (sym (ap (λ o. unwrap_or o (record { floor = 0; next = 0 })) e)))
-    ] refl
+own_met m p = grind arith
 
 drawing_effect : (at page ink : ℕ) (m : MemberState) → Quiet m (draw_operation page ink m) ⊎ Drawn m (draw_operation page ink m)
 unfolding draw_operation
@@ -632,107 +542,20 @@ drawing_effect at page ink m =
 
 active_effect : (m : MemberState) (at : ℕ) (cause : Cause) → Effect m cause (react_active m at cause)
 unfolding expire_request expire_repair
-active_effect m at Join = inl (skips m Entered (λ e. cc) (λ e. cc))
-active_effect m at (Arrival p) = by_got (hear_effect at p.id.sender p.body m)
-  where
-    by_got : Got m p.body (hear_body at p.id.sender p.body m) → Effect m (Arrival p) (hear_body at p.id.sender p.body m)
-    by_got (inl q) = inl q
-    by_got (inr q) = inr (inl q)
-active_effect m at (Ask n) = inl (asking_effect at n m (find name_cmp n m.missing) refl)
-active_effect m at (Answer n) = inl (answering_effect at n m (find name_cmp n m.repairs) refl)
-active_effect m at (Draw page ink) = elim (drawing_effect at page ink m) [ inl q ↦ inl q | inr q ↦ inr (inr q) ]
-active_effect m at Report = inl (record { grows = nothing m; not_fresh = λ e. cc; not_fixed = λ e. cc; body = tt })
+active_effect m at cause = grind (arith, hear_effect, asking_effect, answering_effect, drawing_effect)
 
 -- ---- listeners
 
-listened_effect : (b : Body) (n : Name) (ink : ℕ) (m : MemberState) → Brings b n ink → Got m b (listen_data n ink m)
-listened_effect b n ink m brings = if_either (λ r. Quiet m r ⊎ Brought m b r) (has_entry n m.held) (quietly m Again [])
-    (quietly (with_held n ink m) Fresh [])
-    (λ has. inl (skips m Again (λ e. cc) (λ e. cc)))
-    (λ lacks. inr (record {
-      name = n;
-      ink = ink;
-      brings = brings;
-      mid = m;
-      grows = nothing m;
-      fixed = refl;
-      held = refl;
-      mends = inl (refl, refl);
-      below = λ k h. h;
-      plans = λ k h. h;
-      body = refl;
-    }))
-
-listen_effect : (b : Body) (m : MemberState) → Got m b (listen b m)
-listen_effect (Drawop n ink) m = listened_effect (Drawop n ink) n ink m (inl refl)
-listen_effect (Repair n ink) m = listened_effect (Repair n ink) n ink m (inr refl)
-listen_effect (Request n) m = inl (skips m Skip (λ e. cc) (λ e. cc))
-listen_effect (Session hs) m = inl (skips m Skip (λ e. cc) (λ e. cc))
-
 listener_effect : (m : MemberState) (cause : Cause) → Effect m cause (react_listener m cause)
-listener_effect m Join = inl (skips m Entered (λ e. cc) (λ e. cc))
-listener_effect m (Arrival p) = by_got (listen_effect p.body m)
-  where
-    by_got : Got m p.body (listen p.body m) → Effect m (Arrival p) (listen p.body m)
-    by_got (inl q) = inl q
-    by_got (inr q) = inr (inl q)
-listener_effect m (Ask n) = inl (skips m Skip (λ e. cc) (λ e. cc))
-listener_effect m (Answer n) = inl (skips m Skip (λ e. cc) (λ e. cc))
-listener_effect m (Draw page ink) = inl (skips m Skip (λ e. cc) (λ e. cc))
-listener_effect m Report = inl (skips m Skip (λ e. cc) (λ e. cc))
+listener_effect m cause = grind arith
 
 -- what it tells of intervals has no part in that
 told_quiet : (o : Option Intervals) (m : MemberState) (r : Reaction) → Quiet m r → Quiet m (record r { answer = with_adapted o r.answer })
 told_quiet o m r h = record { grows = h.grows; not_fresh = h.not_fresh; not_fixed = h.not_fixed; body = h.body }
 
-told_brought : (o : Option Intervals) (m : MemberState) (b : Body) (r : Reaction) → Brought m b r
-    → Brought m b (record r { answer = with_adapted o r.answer })
-told_brought o m b r h = record {
-  name = h.name;
-  ink = h.ink;
-  brings = h.brings;
-  mid = h.mid;
-  grows = h.grows;
-  fixed = h.fixed;
-  held = h.held;
-  mends = h.mends;
-  below = h.below;
-  plans = h.plans;
-  body = h.body;
-}
-
-told_drawn : (o : Option Intervals) (m : MemberState) (r : Reaction) → Drawn m r → Drawn m (record r { answer = with_adapted o r.answer })
-told_drawn o m r h = record {
-  name = h.name;
-  ink = h.ink;
-  source = h.source;
-  fixed = h.fixed;
-  held = h.held;
-  missing = h.missing;
-  repairs = h.repairs;
-  new = h.new;
-  heard = h.heard;
-  below = h.below;
-  told = h.told;
-  lost = h.lost;
-  body = h.body;
-}
-
 told_effect : (o : Option Intervals) (m : MemberState) (cause : Cause) (r : Reaction) → Effect m cause r
     → Effect m cause (record r { answer = with_adapted o r.answer })
-told_effect o m cause r (inl h) = inl (told_quiet o m r h)
-told_effect o m (Arrival p) r (inr (inl h)) = inr (inl (told_brought o m p.body r h))
-told_effect o m (Draw page ink) r (inr (inr h)) = inr (inr (told_drawn o m r h))
-told_effect o m Join r (inr (inl h)) = absurd h
-told_effect o m Join r (inr (inr h)) = absurd h
-told_effect o m (Arrival p) r (inr (inr h)) = absurd h
-told_effect o m (Ask n) r (inr (inl h)) = absurd h
-told_effect o m (Ask n) r (inr (inr h)) = absurd h
-told_effect o m (Answer n) r (inr (inl h)) = absurd h
-told_effect o m (Answer n) r (inr (inr h)) = absurd h
-told_effect o m (Draw page ink) r (inr (inl h)) = absurd h
-told_effect o m Report r (inr (inl h)) = absurd h
-told_effect o m Report r (inr (inr h)) = absurd h
+told_effect o m cause r h4 = grind arith
 
 -- what an event changes of the names that a member holds and lacks
 pub effect : (m : MemberState) (at : ℕ) (cause : Cause) → Effect m cause (react m at cause)

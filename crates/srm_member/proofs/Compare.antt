@@ -11,7 +11,7 @@ use Rattle.srm_member.specs.React.{without}
 use Rattle.srm_member.specs.Pending.{has, IsFirst}
 use Rattle.srm_member.proofs.Maps as maps
 use Rattle.std.specs.declared.cmp.Ordering.{Ordering}
-use Rattle.std.specs.declared.cmp.Ordering.TheVariants.{Less, Equal, Greater}
+use Rattle.std.specs.declared.cmp.Ordering.TheVariants.{Equal}
 use Rattle.srm_net.specs.declared.packet.Name.{Name}
 use Rattle.srm_net.specs.Names.{name_cmp}
 use Rattle.srm_member.specs.declared.due.Due.{Due}
@@ -20,9 +20,7 @@ use Rattle.srm_net.specs.contracts.packet.NameOrd.TheImpl as name_order
 use Rattle.srm_member.specs.contracts.due.DueOrd.TheImpl as due_order
 
 then_equal : (o : Ordering) → ordering_then o Equal ≡ o
-then_equal Less = refl
-then_equal Equal = refl
-then_equal Greater = refl
+then_equal o = grind arith
 
 pub names_compared : name_order.cmp-value.it ≡ name_cmp
 names_compared i a b = ap (λ o. ordering_then (nat_cmp a.source b.source) (ordering_then (nat_cmp a.page b.page) o))

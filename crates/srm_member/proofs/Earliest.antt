@@ -77,9 +77,7 @@ first-earliest (d ∷ ds) =
     ] (first-earliest ds)
 
 both_equal : (o : Ordering) → is_gt o ≡ false → is_gt (ordering_reverse o) ≡ false → o ≡ Equal
-both_equal Less a b = cc
-both_equal Equal a b = refl
-both_equal Greater a b = cc
+both_equal o a b = grind arith
 
 -- of lists with the same timers the first is the same
 same_first : (xs ys : List Due) → ((d : Due) → has xs d ≡ has ys d) → (r q : Option Due) → IsFirst xs r → IsFirst ys q → r ≡ q
@@ -143,13 +141,7 @@ has-map {V = V} f r d (e ∷ es) h =
 
 by_rank : (k t : ℕ) (x y : Option ℕ) → (((2 == k) && is_at_time t x) || ((3 == k) && is_at_time t y))
     ≡ is_at_time t (cond (eqb 2 k) x (cond (eqb 3 k) y None))
-by_rank k t x y =
-    elim (2 == k) as (λ a. eqb 2 k ≡ a → ((a && is_at_time t x) || ((3 == k) && is_at_time t y))
-    ≡ is_at_time t (cond a x (cond (eqb 3 k) y None))) [
-      | true ↦ λ e. let three : eqb 3 k ≡ false = grind (arith, nat_tests) in ap (λ b. is_at_time t x || (b && is_at_time t y)) three
-          ∙ elim (is_at_time t x) as (λ b. (b || false) ≡ b) [ true ↦ refl | false ↦ refl ]
-      | false ↦ λ e. elim (3 == k) as (λ b. (b && is_at_time t y) ≡ is_at_time t (cond b y None)) [ true ↦ refl | false ↦ refl ]
-    ] refl
+by_rank k t x y = grind arith
 
 has-timers : (ms : List (Name × Missing)) (rs : List (Name × Repairing)) → RisesByName ms → RisesByName rs
     → (d : Due) → has (pending_timers ms rs) d
@@ -161,6 +153,4 @@ has-timers ms rs g h d =
 
 pub index_first : (index : List Due) (ms : List (Name × Missing)) (rs : List (Name × Repairing)) (r : Option Due) → IsIndexed index ms rs
     → IsFirst index r → r ≡ earliest (pending_timers ms rs)
-index_first index ms rs r h first =
-    same_first index (pending_timers ms rs) (λ d. h.timers d ∙ sym (has-timers ms rs h.missing_rise h.repairs_rise d)) r
-    (earliest (pending_timers ms rs)) first (first-earliest (pending_timers ms rs))
+index_first index ms rs r h first = grind (arith, same_first, has-timers, first-earliest)

@@ -8,16 +8,13 @@ use Rattle.srm_member.proofs.Bounds.{request_length_pos, kept_state}
 use Rattle.srm_member.proofs.LawProofs.{as_active, as_listener}
 use Rattle.srm_net.specs.Roles.{is_listener}
 use Rattle.srm_member.specs.React.{Reaction, expire_repair, expire_repair_by_entry, expire_request, expire_request_by_entry, back_off}
-use Rattle.srm_member.specs.React.{listen, listen_data, react, with_request_delay, with_request_first, with_repair_first}
+use Rattle.srm_member.specs.React.{react, with_request_delay, with_request_first, with_repair_first}
 use Rattle.srm_member.specs.React.{react_listener, request_length, with_rest, without}
 use Rattle.srm_member.specs.Record.{Active, Gone, MemberState, Missing, Record, Repairing, count_if, timers_at}
 use Rattle.srm_member.specs.declared.cause.Cause.{Cause}
-use Rattle.srm_member.specs.declared.cause.Cause.TheVariants.{Answer, Arrival, Ask, Draw, Join, Report}
-use Rattle.srm_member.specs.declared.due.Due.{Due}
+use Rattle.srm_member.specs.declared.cause.Cause.TheVariants.{Answer, Ask}
 use Rattle.srm_member.specs.declared.fixed.Fixed.{Fixed}
 use Rattle.srm_net.specs.Names.{name_cmp}
-use Rattle.srm_net.specs.declared.packet.Body.{Body}
-use Rattle.srm_net.specs.declared.packet.Body.TheVariants.{Drawop, Repair, Request, Session}
 use Rattle.srm_net.specs.declared.packet.Name.{Name}
 use Rattle.srm_net.proofs.Basics.{one_if, T_first, T_second, T_less}
 use Rattle.srm_net.proofs.TotalOrders.{name_total, name_self}
@@ -62,9 +59,7 @@ module _ {V : Type 0} (p : V → Bool) where
 
   by_order_le : (r : Ordering) (a b c : List (Name × V)) (n : ℕ) → count_if at_value a ≤ n → count_if at_value b ≤ n
       → count_if at_value c ≤ n → count_if at_value (by_order r a b c) ≤ n
-  by_order_le Less a b c n h g f = h
-  by_order_le Equal a b c n h g f = g
-  by_order_le Greater a b c n h g f = f
+  by_order_le r a b c n h g f = grind arith
 
   pub put_le : (n : Name) (v : V) (es : List (Name × V)) → p v ≡ false → count_if at_value (put name_cmp n v es) ≤ count_if at_value es
   put_le n v [] h = rw h (le_refl 0)
@@ -137,22 +132,8 @@ same_if : (m : MemberState) (b : Bool) (x y : Reaction) → SameTables m x.state
 same_if m true x y h g = h
 same_if m false x y h g = g
 
-same_listened : (n : Name) (ink : ℕ) (m : MemberState) → SameTables m (listen_data n ink m).state
-same_listened n ink m = same_if m _ _ _ (refl, refl) (refl, refl)
-
 same_listener : (m : MemberState) (cause : Cause) → SameTables m (react_listener m cause).state
-same_listener m Join = (refl, refl)
-same_listener m (Arrival p) = by_body p.body
-  where
-    by_body : (b : Body) → SameTables m (listen b m).state
-    by_body (Drawop n ink) = same_listened n ink m
-    by_body (Repair n ink) = same_listened n ink m
-    by_body (Request n) = (refl, refl)
-    by_body (Session hs) = (refl, refl)
-same_listener m (Ask n) = (refl, refl)
-same_listener m (Answer n) = (refl, refl)
-same_listener m (Draw page ink) = (refl, refl)
-same_listener m Report = (refl, refl)
+same_listener m cause = grind arith
 
 abbrev Tables : MemberState → ℕ → Cause → (List (Name × Missing) → Type 0) → (List (Name × Repairing) → Type 0) → Type 0
 Tables m at cause A B = (A (react m at cause).state.missing) × (B (react m at cause).state.repairs)
@@ -188,12 +169,7 @@ answers_at t es = count_if (λ e. e.1.expiry == t) es
 
 timers_count : (t : ℕ) (m : MemberState) → timers_at t (Active m) ≡ asks_at t m.missing + answers_at t m.repairs
 unfolding asks_at answers_at
-timers_count t m = count-append _ (map (λ e. record { time = e.1.expiry; rank = 2; name = e.0 }) m.missing)
-    (map (λ e. record { time = e.1.expiry; rank = 3; name = e.0 }) m.repairs)
-    ∙ ap (λ n. n + count_if (λ (d : Due). d.time == t) (map (λ e. record { time = e.1.expiry; rank = 3; name = e.0 }) m.repairs))
-    (count-map (λ (d : Due). d.time == t) (λ e. record { time = e.1.expiry; rank = 2; name = e.0 }) m.missing)
-    ∙ ap (λ n. count_if (λ (e : Name × Missing). e.1.expiry == t) m.missing + n)
-    (count-map (λ (d : Due). d.time == t) (λ e. record { time = e.1.expiry; rank = 3; name = e.0 }) m.repairs)
+timers_count t m = grind (arith, count-append, count-map)
 
 not_now : (t x : ℕ) → t < x → (x == t) ≡ false
 not_now t x lt = elim (x == t) as (λ b. (x == t) ≡ b → (x == t) ≡ false)
@@ -245,19 +221,9 @@ module _ (t : ℕ) (m : MemberState) (sound : IsSound m) (n : Name) where
   pub fewer_asks : (w : Missing) → In (n, w) m.missing → (w.expiry == t)
       ≡ true → timers_at t (Active (react m t (Ask n)).state) < timers_at t (Active m)
   unfolding expire_request
-  fewer_asks w h some = elim (is_listener m.fixed.role) as
-      (λ b. is_listener m.fixed.role ≡ b → timers_at t (Active (react m t (Ask n)).state) < timers_at t (Active m)) [
-        | true ↦ λ l. absurd (no_table (n, w) m.missing (sound.listener l).0 h)
-        | false ↦ λ l. subst (λ (r : Reaction). timers_at t (Active r.state) < timers_at t (Active m)) (sym (as_active m t (Ask n) l))
-            (fewer_asking w h some (find name_cmp n m.missing) refl)
-      ] refl
+  fewer_asks w h some = grind (arith, as_active, fewer_asking)
 
   pub fewer_answers : (w : Repairing) → In (n, w) m.repairs → (w.expiry == t) ≡ true
       → timers_at t (Active (react m t (Answer n)).state) < timers_at t (Active m)
   unfolding expire_repair
-  fewer_answers w h some = elim (is_listener m.fixed.role) as
-      (λ b. is_listener m.fixed.role ≡ b → timers_at t (Active (react m t (Answer n)).state) < timers_at t (Active m)) [
-        | true ↦ λ l. absurd (no_table (n, w) m.repairs (sound.listener l).1 h)
-        | false ↦ λ l. subst (λ (r : Reaction). timers_at t (Active r.state) < timers_at t (Active m)) (sym (as_active m t (Answer n) l))
-            (fewer_answering w h some (find name_cmp n m.repairs) refl)
-      ] refl
+  fewer_answers w h some = grind (arith, as_active, fewer_answering)

@@ -1,14 +1,13 @@
 -- An index of timers against the tables of timers.
-use Rattle.std.proofs.Common.{◌≡◌, ℕ, eqb, Bool, true, false, cond, not, ◌&&◌, List, [], ◌∷◌, Option, Some, None, refl, sym, ap, ◌∙◌, subst}
+use Rattle.std.proofs.Common.{◌≡◌, ℕ, Bool, true, false, cond, not, ◌&&◌, List, [], ◌∷◌, Option, Some, None, refl, sym, ap, ◌∙◌, subst}
 use Rattle.std.proofs.Common.{arith, ◌==◌}
 use Rattle.std.specs.Option.{option_map}
 use Rattle.std.specs.declared.cmp.Ordering.TheVariants.{Equal}
-use Rattle.std.specs.Ordering.{eq_by_cmp, is_eq}
+use Rattle.std.specs.Ordering.{eq_by_cmp}
 use Rattle.std.specs.Cmp.{IsTotalOrder, both_ways}
-use Rattle.std.specs.Cmp.Lexicographic.{on_texts, texts_ties, same_text}
+use Rattle.std.specs.Cmp.Lexicographic.{on_texts, texts_ties}
 use Rattle.std.specs.FinMap.Entries.{put, find, is_sorted-put, is_sorted-where_key, find-put, find-where_key, same_entries}
 use Rattle.std.proofs.lemmas.Bool.Decides.{nat_tests}
-use Rattle.std.proofs.lemmas.Bool.{eqb-true}
 use Rattle.srm_net.specs.declared.packet.Name.{Name}
 use Rattle.srm_net.specs.Names.{name_cmp}
 use Rattle.srm_net.proofs.TotalOrders.{name_total, tied_names}
@@ -31,22 +30,13 @@ abbrev pub same : Name → Name → Bool
 same m n = eq_by_cmp name_cmp m n
 
 pub due_eq : (d e : Due) → eq_by_cmp due_cmp d e ≡ ((d.time == e.time) && ((d.rank == e.rank) && same d.name e.name))
-due_eq d e =
-    sym (texts_ties (numbers_of_due d) (numbers_of_due e))
-    ∙ ap (λ b. (d.time == e.time) && ((d.rank == e.rank) && b)) (texts_ties (numbers_of d.name) (numbers_of e.name))
+due_eq d e = grind arith
 
 pub due_itself : (d : Due) → eq_by_cmp due_cmp d d ≡ true
 due_itself d = sym (texts_ties (numbers_of_due d) (numbers_of_due d)) ∙ grind (arith, nat_tests)
 
 pub due_same : (d e : Due) → due_cmp d e ≡ Equal → d ≡ e
-due_same d e h =
-    let s = same_text (numbers_of_due d) (numbers_of_due e) (sym (texts_ties (numbers_of_due d) (numbers_of_due e) ∙ ap is_eq h)) in
-    let t : d.time ≡ e.time = cc in
-    let r : d.rank ≡ e.rank = cc in
-    let a : d.name.source ≡ e.name.source = cc in
-    let b : d.name.page ≡ e.name.page = cc in
-    let c : d.name.number ≡ e.name.number = cc in
-    λ i. record { time = t i; rank = r i; name = record { source = a i; page = b i; number = c i } }
+due_same d e h = grind arith
 
 same-swap : (m n : Name) → same m n ≡ same n m
 same-swap m n = both_ways (same m n) (same n m) (λ e. let s = same_names m n e in subst (λ k. same k m ≡ true) s (name_is m))
@@ -65,10 +55,7 @@ abbrev changed : Option ℕ → ℕ → Name → (ℕ → Name → Option ℕ) �
 changed v r n f k m = cond ((r == k) && same n m) v (f k m)
 
 picked : (f : ℕ → Name → Option ℕ) (r k : ℕ) (n m : Name) → ((r == k) && same n m) ≡ true → f k m ≡ f r n
-picked f r k n m e =
-    let a : (r == k) ≡ true = grind (arith, nat_tests) in
-    let b : same n m ≡ true = grind (arith, nat_tests) in
-    λ i. f (sym (eqb-true r k a) i) (sym (same_names n m b) i)
+picked f r k n m e = grind arith
 
 -- a timer taken out
 ties_less : (c c2 : Due → Bool) (f : ℕ → Name → Option ℕ) (t r : ℕ) (n : Name) → Ties c f → f r n ≡ Some t
@@ -132,22 +119,6 @@ put-without n v es h =
 
 -- ---- an index and the tables
 
-two_at : (v : Option ℕ) (k : ℕ) (b : Bool) (x y : Option ℕ) → cond (eqb 2 k) (cond b v x) y ≡ cond ((2 == k) && b) v (cond (eqb 2 k) x y)
-two_at v k b x y = elim (2 == k) as (λ t. cond t (cond b v x) y ≡ cond (t && b) v (cond t x y)) [ true ↦ refl | false ↦ refl ]
-
-three_at : (v : Option ℕ) (k : ℕ) (b : Bool) (x y z : Option ℕ) → cond (eqb 2 k) x (cond (eqb 3 k) (cond b v y) z)
-    ≡ cond ((3 == k) && b) v (cond (eqb 2 k) x (cond (eqb 3 k) y z))
-three_at v k b x y z =
-    elim (3 == k) as (λ t. eqb 3 k ≡ t → cond (eqb 2 k) x (cond t (cond b v y) z) ≡ cond (t && b) v (cond (eqb 2 k) x (cond t y z))) [
-      | true ↦ λ e. let two : eqb 2 k ≡ false = grind (arith, nat_tests) in ap (λ t. cond t x (cond b v y)) two
-          ∙ sym (ap (λ t. cond b v (cond t x y)) two)
-      | false ↦ λ e. refl
-    ] refl
-
-map_cond : {A : Type 0} (f : A → ℕ) (b : Bool) (x y : Option A) → option_map f (cond b x y) ≡ cond b (option_map f x) (option_map f y)
-map_cond f true x y = refl
-map_cond f false x y = refl
-
 abbrev request_expiry : Option Missing → Option ℕ
 request_expiry o = option_map (λ (e : Missing). e.expiry) o
 
@@ -157,43 +128,20 @@ repair_expiry o = option_map (λ (e : Repairing). e.expiry) o
 expiry-missing : (n : Name) (v : Option Missing) (ms ms2 : List (Name × Missing)) (rs : List (Name × Repairing))
     → ((q : Name) → find name_cmp q ms2 ≡ cond (same n q) v (find name_cmp q ms))
     → (k : ℕ) (m : Name) → expiry_of ms2 rs k m ≡ changed (request_expiry v) 2 n (expiry_of ms rs) k m
-expiry-missing n v ms ms2 rs h k m =
-    let rest = cond (3 == k) (repair_expiry (find name_cmp m rs)) None in
-    ap (λ o. cond (2 == k) (request_expiry o) rest) (h m)
-    ∙ ap (λ o. cond (2 == k) o rest) (map_cond (λ (e : Missing). e.expiry) (same n m) v (find name_cmp m ms))
-    ∙ two_at (request_expiry v) k (same n m) (request_expiry (find name_cmp m ms)) rest
+expiry-missing n v ms ms2 rs h k m = grind arith
 
 expiry-repairs : (n : Name) (v : Option Repairing) (ms : List (Name × Missing)) (rs rs2 : List (Name × Repairing))
     → ((q : Name) → find name_cmp q rs2 ≡ cond (same n q) v (find name_cmp q rs))
     → (k : ℕ) (m : Name) → expiry_of ms rs2 k m ≡ changed (repair_expiry v) 3 n (expiry_of ms rs) k m
-expiry-repairs n v ms rs rs2 h k m =
-    let first = request_expiry (find name_cmp m ms) in
-    ap (λ o. cond (2 == k) first (cond (3 == k) (repair_expiry o) None)) (h m)
-    ∙ ap (λ o. cond (2 == k) first (cond (3 == k) o None)) (map_cond (λ (e : Repairing). e.expiry) (same n m) v (find name_cmp m rs))
-    ∙ three_at (repair_expiry v) k (same n m) first (repair_expiry (find name_cmp m rs)) None
+expiry-repairs n v ms rs rs2 h k m = grind arith
 
 ties_by : (c : Due → Bool) (f g : ℕ → Name → Option ℕ) → Ties c f → ((k : ℕ) (m : Name) → g k m ≡ f k m) → Ties c g
 ties_by c f g tie e d = tie d ∙ ap (is_at_time d.time) (sym (e d.rank d.name))
 
--- put in and taken out again
-changed_back : (f : ℕ → Name → Option ℕ) (v : Option ℕ) (r : ℕ) (n : Name)
-    → f r n ≡ None → (k : ℕ) (m : Name) → f k m ≡ changed None r n (changed v r n f) k m
-changed_back f v r n none k m =
-    elim ((r == k) && same n m) as (λ b. ((r == k) && same n m) ≡ b → f k m ≡ cond b None (cond b v (f k m))) [
-      | true ↦ λ e. picked f r k n m e ∙ none
-      | false ↦ λ e. refl
-    ] refl
-
 ties_same : (c c2 c3 : Due → Bool) (f : ℕ → Name → Option ℕ) (t r : ℕ) (n : Name) → Ties c f → f r n ≡ None
     → ((d : Due) → c2 d ≡ cond (eq_by_cmp due_cmp (timer t r n) d) true (c d))
     → ((d : Due) → c3 d ≡ cond (eq_by_cmp due_cmp (timer t r n) d) false (c2 d)) → Ties c3 f
-ties_same c c2 c3 f t r n tie none more less =
-    let g = changed (Some t) r n f in
-    let one : same n n ≡ true = name_is n in
-    let both : ((r == r) && same n n) ≡ true = grind (arith, nat_tests) in
-    let now : g r n ≡ Some t = ap (λ b. cond b (Some t) (f r n)) both in
-    ties_by c3 (changed None r n g) f (ties_less c2 c3 g t r n (ties_more c c2 f t r n tie none more) now less)
-    (changed_back f (Some t) r n none)
+ties_same c c2 c3 f t r n tie none more less = grind arith
 
 pub find-none : {V : Type 0} (n : Name) (es : List (Name × V)) → find name_cmp n (without n es) ≡ None
 find-none n es = find_without n n es ∙ ap (λ b. cond b None (find name_cmp n es)) (name_is n)
@@ -263,8 +211,4 @@ pub planned-back : (n : Name) (e : Repairing) (index index2 index3 : List Due) (
     → IsIndexed index ms rs → find name_cmp n rs ≡ None
     → ((d : Due) → has index2 d ≡ cond (eq_by_cmp due_cmp (repair_timer n e) d) true (has index d))
     → ((d : Due) → has index3 d ≡ cond (eq_by_cmp due_cmp (repair_timer n e) d) false (has index2 d)) → IsIndexed index3 ms rs
-planned-back n e index index2 index3 ms rs h was more less = record {
-  missing_rise = h.missing_rise;
-  repairs_rise = h.repairs_rise;
-  timers = ties_same (has index) (has index2) (has index3) (expiry_of ms rs) e.expiry 3 n h.timers (ap repair_expiry was) more less;
-}
+planned-back n e index index2 index3 ms rs h was more less = grind arith

@@ -1,4 +1,5 @@
 -- What a reaction does to the intervals of timers: their own four changes, and nothing else.
+use Rattle.std.proofs.Common.{arith}
 use Rattle.std.proofs.Common.{◌≡◌, ℕ, zero, suc, ◌+◌, ◌-◌, Bool, true, false, cond, ◌&&◌, ◌==◌, List, [], ◌∷◌, length, refl}
 use Rattle.std.proofs.Common.{Option, Some, None, nat_lt, nat_le, sym, subst, ◌∙◌}
 use Rattle.std.specs.FinMap.Entries.{find}
@@ -6,24 +7,20 @@ use Rattle.srm_net.specs.declared.packet.Name.{Name}
 use Rattle.srm_net.specs.declared.packet.PageId.{PageId}
 use Rattle.srm_net.specs.declared.packet.Heard.{Heard}
 use Rattle.srm_net.specs.declared.packet.Body.{Body}
-use Rattle.srm_net.specs.declared.packet.Body.TheVariants.{Drawop, Request, Repair, Session}
 use Rattle.srm_net.specs.Names.{page_of, name_in, name_cmp}
-use Rattle.srm_net.specs.Roles.{is_sender, is_listener}
-use Rattle.srm_net.specs.Limits.{most_drawn}
+use Rattle.srm_net.specs.Roles.{is_listener}
 use Rattle.srm_member.specs.declared.cause.Cause.{Cause}
-use Rattle.srm_member.specs.declared.cause.Cause.TheVariants.{Join, Arrival, Ask, Answer, Draw, Report}
-use Rattle.srm_member.specs.declared.told.Told.TheVariants.{Skip}
 use Rattle.srm_member.specs.declared.fixed.Fixed.{Fixed}
 use Rattle.srm_member.specs.Intervals.{Interval, begin_period, send_first}
 use Rattle.srm_member.specs.IntervalLaws.{Change, Begins, Delays, Sends, Hears, changed}
 use Rattle.srm_member.specs.Record.{MemberState, Missing, Repairing, Progress}
-use Rattle.srm_member.specs.React.{Reaction, quietly, send_body, has_entry, distance_to, back_off, with_progress, with_request_delay}
+use Rattle.srm_member.specs.React.{Reaction, has_entry, distance_to, back_off, with_progress, with_request_delay}
 use Rattle.srm_member.specs.React.{with_losses_begun, with_mending_seen, with_repair_seen, with_repairs_begun, with_duplicate_request}
 use Rattle.srm_member.specs.React.{with_request_first, with_repair_first, is_at_rest, interval_at_mending, interval_at_repair}
-use Rattle.srm_member.specs.React.{meet, lose_one, lose_from, lose_below, hear_data, with_rest, hear_repair}
-use Rattle.srm_member.specs.React.{with_repair_timer, hear_request_by_entry, hear_request_of_held, hear_request, page_heard, after_entry}
+use Rattle.srm_member.specs.React.{meet, lose_one, lose_from, lose_below, hear_data, hear_repair}
+use Rattle.srm_member.specs.React.{hear_request_by_entry, hear_request_of_held, hear_request, after_entry}
 use Rattle.srm_member.specs.React.{hear_session, hear_body, expire_request_by_entry, expire_request, expire_repair_by_entry, expire_repair}
-use Rattle.srm_member.specs.React.{own_page, own_progress, with_drawn, draw_operation, is_skip, react_active, listen_data, listen}
+use Rattle.srm_member.specs.React.{draw_operation, react_active}
 use Rattle.srm_member.specs.React.{react_listener, react}
 
 module _ (f : Fixed) (P Q : Interval → Type 0)
@@ -34,10 +31,6 @@ module _ (f : Fixed) (P Q : Interval → Type 0)
     pub same : m.fixed ≡ f
     pub requests : P m.request_interval
     pub repairs : Q m.repair_interval
-
-  adapts_cond : (b : Bool) (m n : MemberState) → Adapts m → Adapts n → Adapts (cond b m n)
-  adapts_cond true m n h g = h
-  adapts_cond false m n h g = g
 
   adapts_if : (b : Bool) (x y : Reaction) → Adapts x.state → Adapts y.state → Adapts (cond b x y).state
   adapts_if true x y h g = h
@@ -78,11 +71,7 @@ module _ (f : Fixed) (P Q : Interval → Type 0)
       (ask (Delays (at - e.detected) (distance_to m n.source)) m.request_interval a.requests) a.requests
 
   pub adapts_mending : (at : ℕ) (n : Name) (repaired : Bool) (m : MemberState) → Adapts m → Adapts (with_mending_seen at n repaired m)
-  adapts_mending at n repaired m a = record {
-    same = a.same;
-    requests = adapts_mending_by at n repaired m (find name_cmp n m.missing) a;
-    repairs = a.repairs;
-  }
+  adapts_mending at n repaired m a = grind (arith, adapts_mending_by)
 
   repaired_by : (at : ℕ) (n : Name) (m : MemberState) (o : Option Repairing) → Adapts m
       → Q (interval_at_repair at n m o)
@@ -90,11 +79,7 @@ module _ (f : Fixed) (P Q : Interval → Type 0)
   repaired_by at n m None a = repair_if (is_at_rest at n m) _ _ (answer Hears m.repair_interval a.repairs) a.repairs
 
   pub adapts_repair_seen : (at : ℕ) (n : Name) (m : MemberState) → Adapts m → Adapts (with_repair_seen at n m)
-  adapts_repair_seen at n m a = record {
-    same = a.same;
-    requests = a.requests;
-    repairs = repaired_by at n m (find name_cmp n m.repairs) a;
-  }
+  adapts_repair_seen at n m a = grind (arith, repaired_by)
 
   pub adapts_repairs_begun : (m : MemberState) → Adapts m → Adapts (with_repairs_begun m)
   adapts_repairs_begun m a = record {
@@ -141,34 +126,17 @@ module _ (f : Fixed) (P Q : Interval → Type 0)
   pub adapts_lose : (at : ℕ) (p : PageId) (n next : ℕ) (s : Progress) (lost : List Name) (m : MemberState) → Adapts m
       → Adapts (lose_below at p n next s lost m)
   unfolding lose_below
-  adapts_lose at p n next s lost m a =
-      let begun = with_losses_begun lost n s m in
-      let after = lose_from at p (n - s.next) s.next begun in
-      adapts_same after (with_progress p (record { floor = s.floor; next = next }) after) refl refl refl
-      (adapts_lose_from at p (n - s.next) s.next begun (adapts_losses lost n s m a))
+  adapts_lose at p n next s lost m a = grind (arith, adapts_lose_from, adapts_losses)
 
   -- ---- events
 
   pub adapts_data : (at : ℕ) (n : Name) (ink : ℕ) (repaired : Bool) (m : MemberState) → Adapts m
       → Adapts (hear_data at n ink repaired m).state
   unfolding hear_data
-  adapts_data at n ink repaired m a =
-      let s = meet m (page_of n) n.number in
-      let met = adapts_same m (with_progress (page_of n) s m) refl refl refl a in
-      let l = lose_below at (page_of n) n.number (n.number + 1) s [] m in
-      let seen = with_mending_seen at n repaired m in
-      adapts_if (nat_lt n.number s.floor) _ _ met
-      (adapts_if (nat_le s.next n.number) _ _
-      (adapts_same l _ refl refl refl (adapts_lose at (page_of n) n.number (n.number + 1) s [] m a))
-      (adapts_if (has_entry n m.missing) _ _ (adapts_same seen _ refl refl refl (adapts_mending at n repaired m a)) met))
+  adapts_data at n ink repaired m a = grind (arith, adapts_lose, adapts_mending)
 
   pub adapts_repair : (at : ℕ) (n : Name) (ink who : ℕ) (m : MemberState) → Adapts m → Adapts (hear_repair at n ink who m).state
-  adapts_repair at n ink who m a =
-      let r = hear_data at n ink true m in
-      let g = adapts_data at n ink true m a in
-      let seen = with_repair_seen at n r.state in
-      adapts_if (is_skip r.answer.told) _ _ g
-      (adapts_same seen (with_rest at n who seen) refl refl refl (adapts_repair_seen at n r.state g))
+  adapts_repair at n ink who m a = grind (arith, adapts_data, adapts_repair_seen)
 
   pub adapts_asked : (at : ℕ) (n : Name) (lost : List Name) (m : MemberState) (o : Option Missing) → Adapts m
       → Adapts (hear_request_by_entry at n lost m o).state
@@ -176,10 +144,7 @@ module _ (f : Fixed) (P Q : Interval → Type 0)
   adapts_asked at n lost m (Some e) a = adapts_if (nat_lt at e.ignore) _ _ (adapts_duplicate m a) (adapts_back_off at n e m a)
 
   pub adapts_held : (at : ℕ) (n : Name) (who : ℕ) (m : MemberState) → Adapts m → Adapts (hear_request_of_held at n who m).state
-  adapts_held at n who m a =
-      let begun = with_repairs_begun m in
-      adapts_if (is_at_rest at n m) _ _ a (adapts_if (has_entry n m.repairs) _ _ a
-      (adapts_same begun (with_repair_timer at n who m) refl refl refl (adapts_repairs_begun m a)))
+  adapts_held at n who m a = grind (arith, adapts_repairs_begun)
 
   pub adapts_request : (at : ℕ) (n : Name) (who : ℕ) (m : MemberState) → Adapts m → Adapts (hear_request at n who m).state
   unfolding hear_request
@@ -196,10 +161,7 @@ module _ (f : Fixed) (P Q : Interval → Type 0)
 
   pub adapts_entry : (at : ℕ) (h : Heard) (lost : List Name) (m : MemberState) → Adapts m → Adapts (after_entry at h lost m)
   unfolding after_entry
-  adapts_entry at h lost m a =
-      let s = meet m (page_heard h) (h.highest + 1) in
-      adapts_cond (nat_le s.next h.highest) _ _ (adapts_lose at (page_heard h) (h.highest + 1) (h.highest + 1) s lost m a)
-      (adapts_same m (with_progress (page_heard h) s m) refl refl refl a)
+  adapts_entry at h lost m a = grind (arith, adapts_lose)
 
   pub adapts_session : (at : ℕ) (hs : List Heard) (m : MemberState) (lost : List Name) → Adapts m
       → Adapts (hear_session at hs m lost).state
@@ -208,10 +170,7 @@ module _ (f : Fixed) (P Q : Interval → Type 0)
   adapts_session at (h ∷ hs) m lost a = adapts_session at hs (after_entry at h lost m) _ (adapts_entry at h lost m a)
 
   adapts_hear : (at who : ℕ) (b : Body) (m : MemberState) → Adapts m → Adapts (hear_body at who b m).state
-  adapts_hear at who (Drawop n ink) m a = adapts_data at n ink false m a
-  adapts_hear at who (Repair n ink) m a = adapts_repair at n ink who m a
-  adapts_hear at who (Request n) m a = adapts_request at n who m a
-  adapts_hear at who (Session hs) m a = adapts_session at hs m [] a
+  adapts_hear at who b m a = grind (arith, adapts_data, adapts_repair, adapts_request, adapts_session)
 
   pub adapts_asking : (at : ℕ) (n : Name) (m : MemberState) (o : Option Missing) → Adapts m
       → Adapts (expire_request_by_entry at n m o).state
@@ -220,45 +179,18 @@ module _ (f : Fixed) (P Q : Interval → Type 0)
 
   pub adapts_answering : (at : ℕ) (n : Name) (m : MemberState) (o : Option Repairing) → Adapts m
       → Adapts (expire_repair_by_entry at n m o).state
-  adapts_answering at n m None a = a
-  adapts_answering at n m (Some r) a =
-      let first = with_repair_first at r m in
-      adapts_same first (with_rest at n m.fixed.member first) refl refl refl (adapts_repair_first at r m a)
+  adapts_answering at n m o a = grind (arith, adapts_repair_first)
 
   adapts_drawing : (page ink : ℕ) (m : MemberState) → Adapts m → Adapts (draw_operation page ink m).state
   unfolding draw_operation
-  adapts_drawing page ink m a =
-      let p = own_page m page in
-      let s = own_progress m p in
-      adapts_if (is_sender m.fixed.role && nat_lt s.next most_drawn)
-      (send_body (with_drawn p ink s m) (Drawop (name_in p s.next) ink)) (quietly m Skip [])
-      (adapts_same m (with_drawn p ink s m) refl refl refl a) a
+  adapts_drawing page ink m a = grind arith
 
   adapts_active : (m : MemberState) (at : ℕ) (cause : Cause) → Adapts m → Adapts (react_active m at cause).state
   unfolding expire_request expire_repair
-  adapts_active m at Join a = a
-  adapts_active m at (Arrival p) a = adapts_hear at p.id.sender p.body m a
-  adapts_active m at (Ask n) a = adapts_asking at n m (find name_cmp n m.missing) a
-  adapts_active m at (Answer n) a = adapts_answering at n m (find name_cmp n m.repairs) a
-  adapts_active m at (Draw page ink) a = adapts_drawing page ink m a
-  adapts_active m at Report a = a
-
-  adapts_listened : (n : Name) (ink : ℕ) (m : MemberState) → Adapts m → Adapts (listen_data n ink m).state
-  adapts_listened n ink m a = adapts_if (has_entry n m.held) _ _ a (adapts_same m _ refl refl refl a)
-
-  adapts_listen : (b : Body) (m : MemberState) → Adapts m → Adapts (listen b m).state
-  adapts_listen (Drawop n ink) m a = adapts_listened n ink m a
-  adapts_listen (Repair n ink) m a = adapts_listened n ink m a
-  adapts_listen (Request n) m a = a
-  adapts_listen (Session hs) m a = a
+  adapts_active m at cause a = grind (arith, adapts_hear, adapts_asking, adapts_answering, adapts_drawing)
 
   adapts_listener : (m : MemberState) (cause : Cause) → Adapts m → Adapts (react_listener m cause).state
-  adapts_listener m Join a = a
-  adapts_listener m (Arrival p) a = adapts_listen p.body m a
-  adapts_listener m (Ask n) a = a
-  adapts_listener m (Answer n) a = a
-  adapts_listener m (Draw page ink) a = a
-  adapts_listener m Report a = a
+  adapts_listener m cause a = grind arith
 
   pub adapts_react : (m : MemberState) (at : ℕ) (cause : Cause) → Adapts m → Adapts (react m at cause).state
   unfolding react

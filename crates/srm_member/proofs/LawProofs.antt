@@ -1,14 +1,12 @@
 -- What holds of every member.
-use Rattle.std.proofs.Common.{◌≡◌, ◌⊎◌, inl, inr, ℕ, ◌<◌, Bool, true, false, cond, refl, ap, sym, ◌∙◌, None, Contains}
+use Rattle.std.proofs.Common.{arith}
+use Rattle.std.proofs.Common.{◌≡◌, ◌⊎◌, inl, inr, ℕ, ◌<◌, true, false, cond, refl, ap, sym, ◌∙◌, None, Contains}
 use Rattle.std.proofs.lemmas.List.Elements.{All-contains, All-contains_itself}
-use Rattle.srm_net.specs.declared.packet.Body.{Body}
-use Rattle.srm_net.specs.declared.packet.Body.TheVariants.{Drawop, Request, Repair, Session}
 use Rattle.srm_member.specs.declared.cause.Cause.{Cause}
-use Rattle.srm_member.specs.declared.cause.Cause.TheVariants.{Join, Arrival, Ask, Answer, Draw, Report}
 use Rattle.srm_member.specs.declared.due.Due.{Due}
 use Rattle.srm_member.specs.Record.{Active, Gone, MemberState, timers_of}
 use Rattle.srm_net.specs.Roles.{is_listener}
-use Rattle.srm_member.specs.React.{Reaction, react_active, react_telling, react_listener, listen, react}
+use Rattle.srm_member.specs.React.{Reaction, react_telling, react_listener, react}
 use Rattle.srm_member.specs.Laws.{FixedPartStays, TimersAreLater, ListenersSendNothing, AnswersAreOne}
 use Rattle.srm_member.proofs.AllIn.{AllIn, AllIn-places, AllIn-at_places}
 use Rattle.srm_member.proofs.Bounds.{kept_state, kept_react}
@@ -37,23 +35,8 @@ pub as_active : (m : MemberState) (at : ℕ) (cause : Cause) → is_listener m.f
 unfolding react
 as_active m at cause h = ap (λ b. cond b (react_listener m cause) (react_telling m at cause)) h
 
-no_body_if : (b : Bool) (x y : Reaction) → x.answer.body ≡ None → y.answer.body ≡ None → (cond b x y).answer.body ≡ None
-no_body_if true x y h g = h
-no_body_if false x y h g = g
-
 pub no_body : (m : MemberState) (cause : Cause) → (react_listener m cause).answer.body ≡ None
-no_body m Join = refl
-no_body m (Arrival p) = by_body p.body
-  where
-    by_body : (b : Body) → (listen b m).answer.body ≡ None
-    by_body (Drawop n ink) = no_body_if _ _ _ refl refl
-    by_body (Repair n ink) = no_body_if _ _ _ refl refl
-    by_body (Request n) = refl
-    by_body (Session hs) = refl
-no_body m (Ask n) = refl
-no_body m (Answer n) = refl
-no_body m (Draw page ink) = refl
-no_body m Report = refl
+no_body m cause = grind arith
 
 pub listeners_send_nothing : ListenersSendNothing
 listeners_send_nothing m at cause role = ap (λ (r : Reaction). r.answer.body) (as_listener m at cause (ap is_listener role))

@@ -1,6 +1,6 @@
 -- Lists kept in an order, and the orders of numbers and keys.
-use Rattle.std.proofs.Common.{◌≡◌, ℕ, ◌<◌, ◌≤◌, true, false, List, [], ◌∷◌, refl, sym, ap, ◌∙◌, ◌≢◌, arith, Ordering, Less, Equal, Greater}
-use Rattle.std.proofs.Common.{nat_cmp, is_lt, ltb-true, eqb-true, true≢false, ◌==◌, nat_lt, cond, Bool}
+use Rattle.std.proofs.Common.{◌≡◌, ℕ, ◌≤◌, true, false, List, [], ◌∷◌, refl, sym, ap, ◌∙◌, ◌≢◌, arith, Ordering, Less, Equal, Greater}
+use Rattle.std.proofs.Common.{nat_cmp, is_lt, true≢false, cond, Bool}
 use Rattle.std.specs.Ordering.{ordering_then, ordering_reverse}
 use Rattle.std.specs.Cmp.{IsTotalOrder}
 use Rattle.srm_net.specs.Orders.{place, NoneBelow, Rises, AllAfter, Ascends}
@@ -32,21 +32,11 @@ module _ {A : Type 0} (cmp : A → A → Ordering) (o : IsTotalOrder cmp) where
 -- the same, whichever of the two is less
 pub place-comm : {A : Type 0} (cmp : A → A → Ordering) (o : IsTotalOrder cmp) (x y : A) → cmp x y ≢ Equal → (zs : List A)
     → place cmp x (place cmp y zs) ≡ place cmp y (place cmp x zs)
-place-comm cmp o x y apart zs = elim (cmp x y) as (λ r. cmp x y ≡ r → place cmp x (place cmp y zs) ≡ place cmp y (place cmp x zs)) [
-  | Less ↦ λ e. place-swap cmp o x y (ap is_lt e) zs
-  | Equal ↦ λ e. absurd (apart e)
-  | Greater ↦ λ e. sym (place-swap cmp o y x (ap is_lt (o.antisymm y x ∙ ap ordering_reverse e)) zs)
-] refl
+place-comm cmp o x y apart zs = grind (arith, place-swap)
 
 -- the first numbers are in order
 pub head_le : (a b : ℕ) (o : Ordering) → ordering_then (nat_cmp a b) o ≢ Greater → a ≤ b
-head_le a b o h = elim (nat_lt a b) as (λ l. nat_lt a b ≡ l → a ≤ b) [
-  | true ↦ λ e. let f : a < b = ltb-true a b e in omega arith
-  | false ↦ λ e. elim (a == b) as (λ q. (a == b) ≡ q → a ≤ b) [
-    | true ↦ λ q. let f : a ≡ b = eqb-true a b q in omega arith
-    | false ↦ λ q. absurd (h (simp (e, q)))
-  ] refl
-] refl
+head_le a b o h = grind arith
 
 -- ---- orders, where not less is the other way round
 
@@ -59,11 +49,7 @@ module _ {A : Type 0} (cmp : A → A → Ordering) (o : IsTotalOrder cmp) where
   from_less k x h = lt-asym cmp o k x (ap is_lt h)
 
   pub from_not_greater : (k x : A) → cmp k x ≢ Greater → From k x
-  from_not_greater k x h = elim (cmp k x) as (λ r. cmp k x ≡ r → From k x) [
-    | Less ↦ λ e. from_less k x e
-    | Equal ↦ λ e. ap is_lt (o.antisymm x k ∙ ap ordering_reverse e)
-    | Greater ↦ λ e. absurd (h e)
-  ] refl
+  from_not_greater k x h = grind arith
 
   pub from_greater : (k x : A) → cmp x k ≡ Greater → From k x
   from_greater k x h = ap is_lt h
@@ -72,21 +58,10 @@ module _ {A : Type 0} (cmp : A → A → Ordering) (o : IsTotalOrder cmp) where
   not_greater k x h g = true≢false (sym (ap is_lt (o.antisymm x k ∙ ap ordering_reverse g)) ∙ h)
 
   pub from_refl : (k : A) → From k k
-  from_refl k = elim (cmp k k) as (λ r. cmp k k ≡ r → From k k) [
-    | Less ↦ λ e. from_less k k e
-    | Equal ↦ λ e. ap is_lt e
-    | Greater ↦ λ e. ap is_lt e
-  ] refl
+  from_refl k = grind arith
 
   pub from_trans : (x y z : A) → From x y → From y z → From x z
-  from_trans x y z h g = elim (is_lt (cmp z x)) as (λ b. is_lt (cmp z x) ≡ b → From x z) [
-    | false ↦ λ e. e
-    | true ↦ λ e. elim (cmp z y) as (λ r. cmp z y ≡ r → From x z) [
-      | Less ↦ λ q. absurd (true≢false (sym (ap is_lt q) ∙ g))
-      | Equal ↦ λ q. absurd (true≢false (sym e ∙ ap is_lt (o.congr z y x q) ∙ h))
-      | Greater ↦ λ q. absurd (true≢false (sym (ap is_lt (o.trans y z x (o.antisymm y z ∙ ap ordering_reverse q) (is_Less _ e))) ∙ h))
-    ] refl
-  ] refl
+  from_trans x y z h g = grind arith
 
   pub none_below_cond : (k : A) (b : Bool) (xs ys : List A) → NoneBelow cmp k xs → NoneBelow cmp k ys → NoneBelow cmp k (cond b xs ys)
   none_below_cond k true xs ys h g = h

@@ -108,11 +108,7 @@ module _ {K V : Type 0} (cmp : K → K → Ordering) (total : IsTotalOrder cmp) 
 
   -- an entry that does not stand before a key's place, and is not the key's, is behind it
   behind : (k : K) (e : K × V) → is_before cmp k e ≡ false → eq_by_cmp cmp k e.0 ≡ false → cmp k e.0 ≡ Less
-  behind k e h apart = elim (cmp k e.0) as (λ o. cmp k e.0 ≡ o → cmp k e.0 ≡ Less) [
-    | Less ↦ λ q. q
-    | Equal ↦ λ q. let x : true ≡ false = sym (ap is_eq q) ∙ apart in cc
-    | Greater ↦ λ q. let x : true ≡ false = sym (ap is_lt (total.antisymm e.0 k ∙ ap ordering_reverse q)) ∙ h in cc
-  ] refl
+  behind k e h apart = grind arith
 
   put_new : (k : K) (v : V) (es : List (K × V)) (p : ℕ) → Stands k es p → is_at cmp k es p ≡ false
       → put cmp k v es ≡ insert es p (k, v)

@@ -1,7 +1,6 @@
 -- Tables of names and of pages: what an entry put in, or taken out, changes.
 use Rattle.std.proofs.Common.{◌≡◌, zero, suc, Bool, true, false, cond, not, T, List, [], ◌∷◌, map, refl, sym, ap, ◌∙◌, subst}
 use Rattle.std.proofs.Common.{◌≢◌, ◌⊎◌, inl, inr, arith, Less, Equal, Some, None, is_some}
-use Rattle.std.proofs.Common.{true≢false}
 use Rattle.std.specs.List.{Contains}
 use Rattle.std.specs.Ordering.{eq_by_cmp, is_eq}
 use Rattle.std.specs.FinMap.Entries.{put, find, is_sorted, below_all, find-put, find-where_key, is_sorted-put, is_sorted-where_key}
@@ -30,17 +29,11 @@ pub page_is : (p : PageId) → eq_by_cmp page_cmp p p ≡ true
 page_is p = ap is_eq (tied_itself page_total p)
 
 pub other_names : (n k : Name) → n ≢ k → eq_by_cmp name_cmp n k ≡ false
-other_names n k ne = elim (eq_by_cmp name_cmp n k) as (λ b. eq_by_cmp name_cmp n k ≡ b → eq_by_cmp name_cmp n k ≡ false) [
-  | true ↦ λ e. absurd (ne (same_names n k e))
-  | false ↦ λ e. e
-] refl
+other_names n k ne = grind arith
 
 -- two names are one, or not
 pub names_apart : (n k : Name) → (n ≡ k) ⊎ (n ≢ k)
-names_apart n k = elim (eq_by_cmp name_cmp n k) as (λ b. eq_by_cmp name_cmp n k ≡ b → (n ≡ k) ⊎ (n ≢ k)) [
-  | true ↦ λ e. inl (same_names n k e)
-  | false ↦ λ e. inr (λ same. true≢false (sym (subst (λ x. eq_by_cmp name_cmp n x ≡ true) same (name_is n)) ∙ e))
-] refl
+names_apart n k = grind arith
 
 -- ---- an entry put in, or taken out
 
@@ -59,16 +52,10 @@ module _ {V : Type 0} where
   has_put n v es = ap is_some (put_here n v es)
 
   pub has_more : (k n : Name) (v : V) (es : List (Name × V)) → Has k es → Has k (put name_cmp n v es)
-  has_more k n v es h = elim (names_apart k n) [
-    | inl e ↦ subst (λ x. Has x (put name_cmp n v es)) (sym e) (has_put n v es)
-    | inr ne ↦ ap is_some (put_there k n v es ne) ∙ h
-  ]
+  has_more k n v es h = grind (arith, has_put, put_there)
 
   pub has_cases : (k n : Name) (v : V) (es : List (Name × V)) → Has k (put name_cmp n v es) → (k ≡ n) ⊎ Has k es
-  has_cases k n v es h = elim (names_apart k n) [
-    | inl e ↦ inl e
-    | inr ne ↦ inr (sym (ap is_some (put_there k n v es ne)) ∙ h)
-  ]
+  has_cases k n v es h = grind (arith, put_there)
 
   without_find : (k n : Name) (es : List (Name × V)) → find name_cmp k (without n es)
       ≡ cond (not (eq_by_cmp name_cmp n k)) (find name_cmp k es) None
@@ -76,18 +63,13 @@ module _ {V : Type 0} where
       (λ x tie. ap (λ y. not (eq_by_cmp name_cmp n y)) (sym (tied_names k x tie))) es
 
   pub without_here : (n : Name) (es : List (Name × V)) → Has n (without n es) → ⊥
-  without_here n es h =
-      let none : find name_cmp n (without n es) ≡ None = without_find n n es
-      ∙ ap (λ b. cond (not b) (find name_cmp n es) None) (name_is n) in
-      true≢false (sym h ∙ ap is_some none)
+  without_here n es h = grind (arith, without_find)
 
   pub without_there : (k n : Name) (es : List (Name × V)) → k ≢ n → find name_cmp k (without n es) ≡ find name_cmp k es
   without_there k n es ne = without_find k n es ∙ ap (λ b. cond (not b) (find name_cmp k es) None) (other_names n k (λ e. ne (sym e)))
 
   pub without_less : (k n : Name) (es : List (Name × V)) → Has k (without n es) → (k ≢ n) × Has k es
-  without_less k n es h =
-      let ne : k ≢ n = λ e. without_here n es (subst (λ x. Has x (without n es)) e h) in
-      (ne, sym (ap is_some (without_there k n es ne)) ∙ h)
+  without_less k n es h = grind (arith, without_here, without_there)
 
   pub sorted_put : (n : Name) (v : V) (es : List (Name × V)) → T (is_sorted name_cmp es) → T (is_sorted name_cmp (put name_cmp n v es))
   sorted_put n v es h = is_sorted-put name_cmp name_total n v es h
@@ -96,10 +78,7 @@ module _ {V : Type 0} where
   sorted_without n es h = is_sorted-where_key name_cmp (λ x. not (eq_by_cmp name_cmp n x)) es h
 
   pub has_some : (n : Name) (es : List (Name × V)) → Has n es → (v : V) × (find name_cmp n es ≡ Some v)
-  has_some n es h = elim (find name_cmp n es) as (λ o. find name_cmp n es ≡ o → (v : V) × (find name_cmp n es ≡ Some v)) [
-    | None ↦ λ e. absurd (true≢false (sym h ∙ ap is_some e))
-    | Some v ↦ λ e. (v, e)
-  ] refl
+  has_some n es h = grind arith
 
   -- ---- entries of a table that rises
 

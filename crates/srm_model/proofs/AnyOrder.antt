@@ -1,4 +1,5 @@
 -- The packets of a window's rows, heard in any order.
+use Rattle.std.proofs.lemmas.Grind.{common_steps}
 use Rattle.std.proofs.Common.{◌≡◌, ◌≢◌, ℕ, suc, ◌<◌, ◌≤◌, ◌+◌, true, false, List, [], ◌∷◌, ◌++◌, refl, sym, ap, ◌∙◌, subst, arith}
 use Rattle.std.proofs.Common.{Option, Some, None, Bool, inl, inr, append_assoc, zero-add, Equal}
 use Rattle.srm_net.specs.Orders.{ordered}
@@ -10,12 +11,12 @@ use Rattle.std.proofs.lemmas.List.Sorted.{sum_by-IsPermutation, Contains-permuta
 use Rattle.std.proofs.lemmas.List.Sums.{sum_by-append}
 use Rattle.srm_net.specs.declared.packet.PacketId.{PacketId}
 use Rattle.srm_net.specs.declared.packet.Packet.{Packet}
-use Rattle.srm_net.proofs.Basics.{one_if, same_numbers, nth_number}
+use Rattle.srm_net.proofs.Basics.{one_if, nth_number}
 use Rattle.srm_member.specs.declared.row.Row.{Row}
 use Rattle.srm_member.proofs.OrderLemmas.{place-comm}
 use Rattle.srm_cell.specs.declared.flight.Flight.{Flight}
-use Rattle.srm_cell.specs.Flights.{flight_cmp, numbers_of_flight}
-use Rattle.srm_cell.specs.Setting.{Traffic, Setting, IsFit, arrival_of}
+use Rattle.srm_cell.specs.Flights.{flight_cmp}
+use Rattle.srm_cell.specs.Setting.{Traffic, Setting, IsFit}
 use Rattle.srm_cell.specs.Cells.{PlainCell, hear, hear_at}
 use Rattle.srm_cell.specs.OwnRuns.{hear_rows, told_to}
 use Rattle.srm_cell.specs.Crossings.{joined, packets_of}
@@ -34,9 +35,7 @@ use Rattle.srm_model.proofs.WindowPackets.{window_packets_are_new, later_is_new,
 
 apart_flights : (f g : Flight) → f.packet.id ≢ g.packet.id → flight_cmp f g ≢ Equal
 unfolding nth_number
-apart_flights f g ne e =
-    let same = same_numbers (numbers_of_flight f) (numbers_of_flight g) e in
-    ne (λ i. record { sender = ap (nth_number 1) same i; count = ap (nth_number 2) same i })
+apart_flights f g ne e = grind arith
 
 either_flight : (p q : Packet) (a b : Option ℕ) (c : PlainCell) → p.id ≢ q.id → hear_at p a (hear_at q b c) ≡ hear_at q b (hear_at p a c)
 either_flight p q None b c ne = refl
@@ -66,12 +65,7 @@ sendings_first k r rows = count_first (λ (q : Row). is_packet k q.sent) r rows
 
 sendings_around : (k : PacketId) (before : List Row) (r : Row) (after : List Row) → sendings k (before ++ r ∷ after)
     ≡ one_if (is_packet k r.sent) + sendings k (before ++ after)
-sendings_around k before r after =
-    let one = λ (q : Row). one_if (is_packet k q.sent) in
-    let a : sendings k (before ++ r ∷ after) ≡ sendings k before + sendings k (r ∷ after) = sum_by-append one before (r ∷ after) in
-    let b = sendings_first k r after in
-    let c : sendings k (before ++ after) ≡ sendings k before + sendings k after = sum_by-append one before after in
-    omega arith
+sendings_around k before r after = grind (arith, common_steps)
 
 -- what is among the rows beside one is among all
 around : (before : List Row) (r : Row) (after : List Row) (q : Row) → Contains (before ++ after) q → Contains (before ++ r ∷ after) q
@@ -110,15 +104,7 @@ module _ (t : Traffic) (Known : Packet → Type 0) (one : (p q : Packet) → Kno
     either : (x y : Option Packet) → ((p : Packet) → x ≡ Some p → Known p) → ((p : Packet) → y ≡ Some p → Known p) → (c : PlainCell)
         → told_to t x m (told_to t y m c) ≡ told_to t y m (told_to t x m c)
     unfolding hear
-    either None y h g c = refl
-    either (Some p) None h g c = refl
-    either (Some p) (Some q) h g c = elim (same_packet p.id q.id) as
-        (λ b. same_packet p.id q.id ≡ b → told_to t (Some p) m (told_to t (Some q) m c) ≡ told_to t (Some q) m (told_to t (Some p) m c)) [
-          | true ↦ λ e. subst (λ z. told_to t (Some p) m (told_to t (Some z) m c) ≡ told_to t (Some z) m (told_to t (Some p) m c))
-              (one p q (h p refl) (g q refl) (is_same p.id q.id e)) refl
-          | false ↦ λ e. either_flight p q (arrival_of t p m) (arrival_of t q m) c
-              (λ s. let x : true ≡ false = sym (same_self p.id) ∙ ap (same_packet p.id) s ∙ e in cc)
-        ] refl
+    either x y h g c = grind (arith, either_flight)
 
     -- the packet of one row may be heard before those of the rows before it
     forward : (before : List Row) (r : Row) (after : List Row) (c : PlainCell) → AllKnown before

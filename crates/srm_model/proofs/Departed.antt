@@ -1,6 +1,6 @@
 -- Members that left, in the worlds of the sequential run: nothing is pending at a record that is gone.
 use Rattle.std.proofs.Common.{◌≡◌, ◌≢◌, ℕ, zero, suc, ◌<◌, ◌≤◌, ◌+◌, true, List, refl, sym, subst, inl, inr, arith, Option, Some, None}
-use Rattle.std.proofs.Common.{slice_get, zero-add, add-zero, ◌⊎◌, leb-true}
+use Rattle.std.proofs.Common.{slice_get, zero-add, add-zero, ◌⊎◌}
 use Rattle.std.proofs.lemmas.Option.{same_Some}
 use Rattle.srm_net.specs.declared.packet.Packet.{Packet}
 use Rattle.srm_member.specs.declared.row.Row.{Row}
@@ -11,7 +11,7 @@ use Rattle.srm_cell.specs.Cells.{PlainCell, hear_at, hear, Event, next_event, be
 use Rattle.srm_cell.specs.OwnRuns.{told_to}
 use Rattle.srm_cell.proofs.CellSteps.{SentBy, before_some}
 use Rattle.srm_cell.proofs.Rising.{OnEvent, Above, IsAbove, next_above, SentAt}
-use Rattle.srm_cell.proofs.Tidy.{arrival_is, arrival_up_to}
+use Rattle.srm_cell.proofs.Tidy.{arrival_up_to}
 use Rattle.srm_cell.proofs.Counts.{above_weaker}
 use Rattle.srm_cell.proofs.Leaving.{IsActive, Stays, stays_step, stays_hear_at, left_at, not_spent, rest_active}
 use Rattle.srm_model.specs.World.{World, cells_after, least_event, opening, opening_cells, run}
@@ -50,9 +50,7 @@ module _ (s : Setting) (fit : IsFit s) where
   told_holds (Some p) m c = hear_at_holds p (arrival_of s.traffic p m) c
 
   not_after : (t at : ℕ) (o : Option ℕ) → o ≡ Some t → t < at → is_up_to at o ≡ true → ⊥
-  not_after t at o e lt h =
-      let up : is_up_to at (Some t) ≡ true = subst (λ x. is_up_to at x ≡ true) e h in
-      let le = leb-true _ _ up in omega arith
+  not_after t at o e lt h = grind arith
 
   module _ (end : ℕ) (cs : List PlainCell) (e : Event) (d : Stepped) (stable : Stable cs) (h : before end (least_event 0 cs) ≡ Some e)
       (x : step_at (Some e) ≡ Done d) where
@@ -95,14 +93,7 @@ module _ (s : Setting) (fit : IsFit s) where
     -- a member that is gone is handed nothing more
     handed_active : (j : ℕ) (r : Record) → Past cs j r → (p : Packet) → p.id.sender ≡ m → p.sent ≡ e.key.time → (at : ℕ)
         → arrival_of s.traffic p j ≡ Some at → IsActive r
-    handed_active j (Active k) past p by sent at a = tt
-    handed_active j (Gone f) past p by sent at a =
-        let g = arrival_is s.traffic p j at a in
-        let away : 0 < s.traffic.distance p.id.sender j = fit.apart p.id.sender j (subst (λ n. n < s.traffic.members) (sym by) below) g.0
-        (λ q. g.1 (sym q)) in
-        let arrives = g.2 in
-        let from = event_after past.0 past.2 in
-        not_after past.0 at (s.traffic.leave j) past.1 (omega arith) (arrival_up_to s.traffic p j at a)
+    handed_active j r past p by sent at a = grind (arith, below, event_after)
 
     told_stays : (y : Option Packet) → SentBy m y → SentAt e.key.time y → (j : ℕ) (c : PlainCell) → Stays (s.traffic.leave j) c
         → Past cs j c.holds → Stays (s.traffic.leave j) (told_to s.traffic y j c)

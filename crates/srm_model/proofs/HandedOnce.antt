@@ -8,12 +8,9 @@ use Rattle.std.proofs.lemmas.Option.{same_Some}
 use Rattle.srm_net.specs.declared.key.Key.{Key}
 use Rattle.srm_net.specs.declared.packet.PacketId.{PacketId}
 use Rattle.srm_net.specs.declared.packet.Body.{Body}
-use Rattle.srm_net.specs.declared.packet.Body.TheVariants.{Drawop, Request, Repair, Session}
 use Rattle.srm_net.specs.declared.packet.Packet.{Packet}
-use Rattle.srm_net.specs.Keys.{key_cmp}
 use Rattle.srm_net.proofs.Basics.{one_if, count_last}
 use Rattle.srm_member.specs.declared.cause.Cause.{Cause}
-use Rattle.srm_member.specs.declared.cause.Cause.TheVariants.{Join, Arrival, Ask, Answer, Draw, Report}
 use Rattle.srm_member.specs.declared.row.About.TheVariants.{Of}
 use Rattle.srm_member.specs.declared.row.Row.{Row}
 use Rattle.srm_member.specs.Record.{due_of}
@@ -22,34 +19,19 @@ use Rattle.srm_member.proofs.AllIn.{AllIn, AllIn-place, AllIn-weaker}
 use Rattle.srm_cell.specs.declared.flight.Flight.{Flight}
 use Rattle.srm_cell.specs.Flights.{flight_cmp}
 use Rattle.srm_cell.specs.Setting.{Setting, arrival_of}
-use Rattle.srm_cell.specs.Cells.{PlainCell, hear_at, hear, Event, by_key, earlier, first_arrival, first_mark, next_timer, next_event}
-use Rattle.srm_cell.specs.Cells.{before, Idle, Stepped, word_of_body, word_of, drawn, about_of, packet_of}
+use Rattle.srm_cell.specs.Cells.{PlainCell, hear_at, hear, Event, earlier, first_arrival, first_mark, next_timer, next_event}
+use Rattle.srm_cell.specs.Cells.{before, Idle, Stepped, word_of_body, word_of, about_of}
 use Rattle.srm_cell.specs.OwnRuns.{told_to}
-use Rattle.srm_cell.proofs.CellLemmas.{first_le, second_le}
 use Rattle.srm_model.specs.World.{World, cells_after, least_event, step, opening, opening_cells, IsReached, IsLast}
 use Rattle.srm_model.specs.Handed.{SentIn, same_packet, is_arrival_of, handing_count, is_sending, sending_count, PacketsAreNumbered}
 use Rattle.srm_model.specs.Handed.{PacketsAreHandedOnce, HandedPacketsWereSent, PacketsAreTheirIdentities}
 use Rattle.srm_model.proofs.OneStep.{TakesFlight, NoArrival, Takes, Sends, Steps, StepFacts, step_facts, here_after}
 use Rattle.srm_model.proofs.OneStep.{there_after, each_after, length_after, length_opening, nothing_left, run_keeps, arrival_is}
-use Rattle.srm_model.proofs.OneStep.{hear_at_sent}
 use Rattle.srm_model.proofs.TraceRows.{contains_none, contains_cases, sent_more, sent_cases, sent_now, count_first}
-use Rattle.srm_model.proofs.TraceRows.{count_none, count_place, not_same, same_self, elsewhere, not_arrival, here, IsSplit, split_cases}
-
-drawn_not_of : (body : Option Body) (k : Packet) → drawn body ≢ Of k
-drawn_not_of None k h = cc
-drawn_not_of (Some (Drawop n ink)) k h = cc
-drawn_not_of (Some (Request n)) k h = cc
-drawn_not_of (Some (Repair n ink)) k h = cc
-drawn_not_of (Some (Session hs)) k h = cc
+use Rattle.srm_model.proofs.TraceRows.{count_none, count_place, not_same, not_arrival, here, IsSplit, split_cases}
 
 about_other : (cause : Option Cause) (body : Option Body) → NoArrival cause → (k : Packet) → about_of cause body ≢ Of k
-about_other None body none k h = cc
-about_other (Some Join) body none k h = cc
-about_other (Some (Arrival p)) body none k h = none p refl
-about_other (Some (Ask n)) body none k h = cc
-about_other (Some (Answer n)) body none k h = cc
-about_other (Some (Draw page ink)) body none k h = drawn_not_of body k h
-about_other (Some Report) body none k h = cc
+about_other cause body none k h = grind arith
 
 same_of : (p q : Packet) → Of p ≡ Of q → p ≡ q
 same_of p q h = cc
@@ -127,9 +109,7 @@ module _ (s : Setting) where
 
       told_sent : (y : Option Packet) (j : ℕ) (o : Option PlainCell) → sent_by (option_map (told_to s.traffic y j) o) ≡ sent_by o
       unfolding hear
-      told_sent y j None = refl
-      told_sent None j (Some c) = refl
-      told_sent (Some p) j (Some c) = hear_at_sent p (arrival_of s.traffic p j) c
+      told_sent y j o = grind arith
 
       sent_was : sent_of cs m ≡ e.rest.sent
       sent_was = ap sent_by facts.here ∙ sym facts.pending.sent
@@ -150,22 +130,7 @@ module _ (s : Setting) where
 
       counts_by : (body : Option Body) → Sends e body d → Counts body
       unfolding Counts
-      counts_by None h = (
-        (let none : one_if (is_some d.row.sent) ≡ 0 = ap (λ o. one_if (is_some o)) h.0 in let same = h.1 in omega arith),
-        λ p q. let x : None ≡ Some p = sym h.0 ∙ q in cc,
-      )
-      counts_by (Some body) h = (
-        (let some : one_if (is_some d.row.sent) ≡ 1 = ap (λ o. one_if (is_some o)) h.0 in let more = h.1 in omega arith),
-        (λ p q.
-            let same : packet_of e body ≡ p = same_Some _ _ (sym h.0 ∙ q) in
-            let sender : m ≡ p.id.sender = ap (λ (x : Packet). x.id.sender) same in
-            let count : e.rest.sent ≡ p.id.count = ap (λ (x : Packet). x.id.count) same in
-            let a : sent_of cs p.id.sender ≡ e.rest.sent = ap (sent_of cs) (sym sender) ∙ sent_was in
-            let b : sent_of after p.id.sender ≡ d.cell.sent = ap (sent_of after) (sym sender) ∙ sent_is in
-            let more = h.1 in
-            let at : p.sent ≡ d.row.key.time = ap (λ (x : Packet). x.sent) (sym same) ∙ sym (ap (λ (k : Key). k.time) facts.does.key) in
-            record { sender = sym sender; count = omega arith; now = omega arith; at = at }),
-      )
+      counts_by body h = grind (arith, sent_is, facts)
 
       counts : (body : Option Body) × Counts body
       counts = elim facts.does.how [ inl a ↦ (_, counts_by _ a.sends) | inr l ↦ (_, counts_by None l.sends) ]
@@ -199,10 +164,7 @@ module _ (s : Setting) where
           ap (λ b. b && is_some d.row.sent) yes
 
       sends_there : (j : ℕ) → j ≢ m → is_sending j d.row ≡ false
-      sends_there j ne = elim (d.row.key.member == j) as (λ b. (d.row.key.member == j) ≡ b → is_sending j d.row ≡ false) [
-        | true ↦ λ q. absurd (ne (sym (eqb-true _ _ q) ∙ member))
-        | false ↦ λ q. ap (λ b. b && is_some d.row.sent) q
-      ] refl
+      sends_there j ne = grind (arith, member)
 
       sendings_after : (j : ℕ) → sent_of after j ≡ sending_count j rows
       sendings_after j =
@@ -231,19 +193,11 @@ module _ (s : Setting) where
           (sender, n.count ∙ was.sendings p.id.sender ∙ ap (λ j. sending_count j trace) sender, n.at)
 
       numbers_after : (first last : List Row) (r : Row) (p : Packet) → IsSplit rows first r last → r.sent ≡ Some p → IsNumbered first r p
-      numbers_after first last r p split q = elim (split_cases trace d.row first r last split) [
-        | inl g ↦ subst (λ l. IsNumbered l r p) (sym g.1)
-            (subst (λ y. IsNumbered trace y p) g.0 (numbered_now p (ap (λ (y : Row). y.sent) g.0 ∙ q)))
-        | inr g ↦ was.numbers first g.0 r p g.1 q
-      ]
+      numbers_after first last r p split q = grind (arith, split_cases, numbered_now)
 
       -- another packet than all before
       pub new_id : (p : Packet) → IsNew p → (k : PacketId) → k.count < sent_of cs k.sender → p.id ≢ k
-      new_id p new k lt q =
-          let a : p.id.count ≡ k.count = ap (λ (i : PacketId). i.count) q in
-          let b : sent_of cs p.id.sender ≡ sent_of cs k.sender = ap (λ (i : PacketId). sent_of cs i.sender) q in
-          let c = new.count in
-          omega arith
+      new_id p new k lt q = grind arith
 
       counted_after : (p : Packet) → SentIn p rows → p.id.count < sent_of after p.id.sender
       counted_after p t = elim (sent_cases p trace d.row t) [
@@ -280,10 +234,7 @@ module _ (s : Setting) where
 
       -- a packet that the row hands was counted
       row_counted_by : Takes facts.cell e → (k : Packet) → d.row.about ≡ Of k → k.id.count < sent_of cs k.id.sender
-      row_counted_by (inl t) k q =
-          let same : t.flight.packet ≡ k = same_of _ _ (sym (about_arrival t) ∙ q) in
-          subst (λ (i : Packet). i.id.count < sent_of cs i.id.sender) same (was.counted t.flight.packet (taken t).0)
-      row_counted_by (inr t) k q = absurd (about_none t.1 k q)
+      row_counted_by h0 k q = grind arith
 
       -- and so was every packet that an earlier row hands
       pub handed_was : (r : Row) → Contains rows r → (p : Packet) → r.about ≡ Of p → p.id.count < sent_of cs p.id.sender
@@ -376,32 +327,17 @@ module _ (s : Setting) where
       told_count : (k : PacketId) (j : ℕ) (y : Option Packet) (o : Option PlainCell)
           → count_by (is_flight k) (inbox_of (option_map (told_to s.traffic y j) o)) ≡ put_in k j y o + count_by (is_flight k) (inbox_of o)
       unfolding hear put_in
-      told_count k j None None = omega arith
-      told_count k j None (Some c) = omega arith
-      told_count k j (Some p) None = omega arith
-      told_count k j (Some p) (Some c) = hear_count k p (arrival_of s.traffic p j) c
+      told_count k j y o = grind (arith, hear_count)
 
       once_there : (k : PacketId) (j : ℕ) → j ≢ m → count_by (is_flight k) (inbox_of (slice_get after j)) + handing_count k j rows
           ≡ put_in k j d.row.sent (slice_get cs j) + (count_by (is_flight k) (inbox_of (slice_get cs j)) + handing_count k j trace)
-      once_there k j ne =
-          let a = ap (λ o. count_by (is_flight k) (inbox_of o)) (there_after s m d cs j ne) ∙ told_count k j d.row.sent (slice_get cs j) in
-          let g = count_last (is_arrival_of k j) trace d.row in
-          let no : one_if (is_arrival_of k j d.row) ≡ 0 = ap one_if (elsewhere k j d.row (λ q. ne (sym q ∙ member))) in
-          omega arith
+      once_there k j ne = grind (arith, there_after, told_count, count_last, member)
 
       -- nothing is put in of a packet that was sent before
       put_no : (k : PacketId) → k.count < sent_of cs k.sender → (j : ℕ) (y : Option Packet) → d.row.sent ≡ y → (o : Option PlainCell)
           → put_in k j y o ≡ 0
       unfolding put_in
-      put_no k lt j None y o = refl
-      put_no k lt j (Some p) y None = refl
-      put_no k lt j (Some p) y (Some c) =
-          let no : same_packet k p.id ≡ false = not_same k p.id (λ q. new_id p (is_new p y) k lt (sym q)) in
-          ap (λ b. one_if (is_some (arrival_of s.traffic p j) && b)) no ∙ and_no (is_some (arrival_of s.traffic p j))
-        where
-          and_no : (b : Bool) → one_if (b && false) ≡ 0
-          and_no true = refl
-          and_no false = refl
+      put_no k lt j y h4 o = grind (arith, is_new)
 
       once_old : (p : Packet) → SentIn p trace → (j : ℕ) → count_by (is_flight p.id) (inbox_of (slice_get after j)) + handing_count p.id j
           rows ≡ one_if (is_some (arrival_of s.traffic p j))
@@ -421,12 +357,7 @@ module _ (s : Setting) where
 
       -- a packet has no flight to its sender, nor to one that is no member
       no_flight : (p : Packet) (j : ℕ) → ((at : ℕ) → arrival_of s.traffic p j ≢ Some at) → one_if (is_some (arrival_of s.traffic p j)) ≡ 0
-      no_flight p j none = elim (arrival_of s.traffic p j) as
-          (λ o. arrival_of s.traffic p j ≡ o → one_if (is_some (arrival_of s.traffic p j))
-          ≡ 0) [
-            | None ↦ λ q. ap (λ o. one_if (is_some o)) q
-            | Some at ↦ λ q. absurd (none at q)
-          ] refl
+      no_flight p j none = grind arith
 
       get_some : (cells : List PlainCell) (j : ℕ) → j < length cells → slice_get cells j ≢ None
       get_some [] j lt q = omega arith
@@ -436,15 +367,7 @@ module _ (s : Setting) where
       put_new : (p : Packet) → d.row.sent ≡ Some p → (j : ℕ) (o : Option PlainCell) → slice_get cs j ≡ o → put_in p.id j (Some p) o
           ≡ one_if (is_some (arrival_of s.traffic p j))
       unfolding put_in
-      put_new p y j None q = sym (no_flight p j (λ at g.
-          let lt : j < s.traffic.members = (arrival_is s p j at g).0 in
-          get_some cs j (subst (λ n. j < n) (sym was.members) lt) q))
-      put_new p y j (Some c) q = ap (λ b. one_if (is_some (arrival_of s.traffic p j) && b)) (same_self p.id)
-          ∙ and_yes (is_some (arrival_of s.traffic p j))
-        where
-          and_yes : (b : Bool) → one_if (b && true) ≡ one_if b
-          and_yes true = refl
-          and_yes false = refl
+      put_new p y j o q = grind (arith, get_some)
 
       all_of_inbox : (j : ℕ) (o : Option PlainCell) → slice_get cs j ≡ o → AllIn (IsFlight trace j) (inbox_of o)
       all_of_inbox j None q = tt
@@ -531,17 +454,7 @@ module _ (s : Setting) where
 
   pub handed_opening : Handed (opening s).cells (opening s).trace
   unfolding opening
-  handed_opening = record {
-    members = length_opening s s.traffic.members 0;
-    counted = λ p t. absurd (contains_none t.0 t.1);
-    handed = λ r t k q. absurd (contains_none r t);
-    one = λ p q t g e. absurd (contains_none t.0 t.1);
-    flights = λ j c h. subst (AllIn (IsFlight [] j)) (sym (opening_empty s.traffic.members 0 j c h)) tt;
-    once = λ p t j. absurd (contains_none t.0 t.1);
-    sendings = opening_sent s.traffic.members 0;
-    numbers = λ rows after r p split q. absurd (no_split rows after r split);
-    before = λ rows after r k split q. absurd (no_split rows after r split);
-  }
+  handed_opening = grind (arith, length_opening, opening_empty, opening_sent, no_split)
 
   pub handed_reached : (w : World) → IsReached s w → Handed w.cells w.trace
   handed_reached w r = run_keeps s (λ v. Handed v.cells v.trace) (λ v e d h g. handed_step v.cells v.trace e d g h) r.0
@@ -562,24 +475,8 @@ module _ (s : Setting) where
   late_none None h = tt
   late_none (Some e) h = Rattle.std.proofs.Common.ltb-false _ _ (none_kept (nat_lt e.key.time s.traffic.until) e h)
 
-  late_by : (r : Ordering) (d e : Event) → key_cmp d.key e.key ≡ r → s.traffic.until ≤ (by_key r d e).key.time
-      → (s.traffic.until ≤ d.key.time) × (s.traffic.until ≤ e.key.time)
-  late_by Less d e q h = (
-    h,
-    (let le : d.key.time ≤ e.key.time = first_le d.key e.key (λ g. let x : Less ≡ Greater = sym q ∙ g in cc) in
-        omega arith),
-  )
-  late_by Equal d e q h = (
-    h,
-    (let le : d.key.time ≤ e.key.time = first_le d.key e.key (λ g. let x : Equal ≡ Greater = sym q ∙ g in cc) in
-        omega arith),
-  )
-  late_by Greater d e q h = ((let le = second_le d.key e.key q in omega arith), h)
-
   late_earlier : (x y : Option Event) → Late (earlier x y) → Late x × Late y
-  late_earlier None y h = (tt, h)
-  late_earlier (Some d) None h = (h, tt)
-  late_earlier (Some d) (Some e) h = late_by (key_cmp d.key e.key) d e refl h
+  late_earlier x y h = grind arith
 
   late_all : (i : ℕ) (cs : List PlainCell) → Late (least_event i cs) → (j : ℕ) (c : PlainCell) → slice_get cs j ≡ Some c → (k : ℕ)
       × Late (next_event k c)

@@ -2,14 +2,14 @@
 use Rattle.std.proofs.Common.{ltb-false, suc-add, ◌≡◌, ℕ, zero, suc, ◌≤◌, ◌+◌, Bool, true, false, List, [], ◌∷◌, ◌++◌, length, drop, refl}
 use Rattle.std.proofs.Common.{sym, ap, ◌∙◌, subst, ◌⊎◌, inl, inr, arith, Option, Some, None, slice_get, ◌==◌, eqb-true, eq-eqb, cond}
 use Rattle.std.proofs.Common.{option_map, nat_lt, add-zero, zero-add, append_assoc, append-nil, le_refl, ◌≢◌}
-use Rattle.std.proofs.lemmas.Bool.{eqb-false, ne_eqb, and_right}
+use Rattle.std.proofs.lemmas.Bool.{eqb-false, ne_eqb}
 use Rattle.std.proofs.Math.Seq.{drop-append_seam}
 use Rattle.srm_cell.proofs.CellLemmas.{keep, outcome_map, stepped_map}
 use Rattle.srm_cell.proofs.CellSteps.{SentBy, before_some, some_not_idle, told_late}
 use Rattle.srm_cell.proofs.Leaving.{own_never_spent}
 use Rattle.srm_cell.proofs.OwnRunLemmas.{after_by, after_done, after_first, end_by, end_first, end_now, rows_done}
 use Rattle.srm_cell.proofs.OwnRunsEnd.{own_run_ends}
-use Rattle.srm_cell.specs.Cells.{Done, Event, Full, Idle, PlainCell, Spent, StepOutcome, Stepped, before, hear, hear_at, own_step, step_at}
+use Rattle.srm_cell.specs.Cells.{Done, Event, Full, Idle, PlainCell, Spent, StepOutcome, Stepped, before, hear, own_step, step_at}
 use Rattle.srm_cell.specs.OwnRuns.{hear_rows, own_after, own_end, own_rows, told_to}
 use Rattle.srm_cell.specs.Setting.{IsFit, Setting, arrival_of}
 use Rattle.srm_model.proofs.Departed.{Stable, least_not_spent, stable_opening, stable_reached, stable_seq}
@@ -21,7 +21,7 @@ use Rattle.srm_model.proofs.ScheduleLemmas.{stop}
 use Rattle.srm_model.proofs.Sequential.{good_reached, promise_safe, seq_ordered, window_safe}
 use Rattle.srm_model.proofs.Settled.{at_member, get_after}
 use Rattle.srm_model.specs.Laws.{CellsRunAlone, NeverSpent, OwnRunsEnd, PromisesAreSafe, RefusalsAreMet, RunEnds, SchedulesAgree}
-use Rattle.srm_model.specs.Laws.{WindowsAreSafe, new_rows}
+use Rattle.srm_model.specs.Laws.{WindowsAreSafe}
 use Rattle.srm_model.specs.Schedules.{own_of, rows_of_member, scheduled}
 use Rattle.srm_model.specs.World.{World, after_step, least_event, opening, row_cmp, run, cells_after, step_of, step_to}
 use Rattle.srm_member.specs.declared.row.Row.{Row}
@@ -86,11 +86,7 @@ module _ (s : Setting) (end : ℕ) where
   -- a member does not hear itself
   not_heard : (m : ℕ) (x : Option Packet) (c : PlainCell) → SentBy m x → told_to s.traffic x m c ≡ c
   unfolding hear
-  not_heard m None c h = refl
-  not_heard m (Some p) c h =
-      let q : (m == p.id.sender) ≡ true = eq-eqb _ _ (sym h) in
-      let none : arrival_of s.traffic p m ≡ None = simp q (simp (and_right (nat_lt m s.traffic.members) false refl)) in
-      ap (λ o. hear_at p o c) none
+  not_heard m x c h = grind arith
 
   end_map : (x : Option Packet) → ((p : Packet) → x ≡ Some p → (m at : ℕ) → arrival_of s.traffic p m ≡ Some at → end ≤ at)
       → (m n : ℕ) (c : PlainCell) → own_end end m n (told_to s.traffic x m c)
@@ -111,10 +107,7 @@ module _ (s : Setting) (end : ℕ) where
       ] refl
 
   from_idle : (f : Stepped → Stepped) (o : StepOutcome Stepped) → outcome_map f o ≡ Idle → o ≡ Idle
-  from_idle f Idle h = refl
-  from_idle f Full h = cc
-  from_idle f Spent h = cc
-  from_idle f (Done d) h = cc
+  from_idle f o h = grind arith
 
   abbrev pub Alone : ℕ → List Row → PlainCell → Option PlainCell → Type 0
   Alone m rows c o = (n : ℕ) × (own_end end m n c ≡ Idle) × (rows_of_member m rows ≡ own_rows end m n c)
@@ -299,10 +292,7 @@ windows_are_safe s w e width end fit reached h wide within = window_safe s fit w
     s.traffic.until e h width end within wide
 
 pub cells_run_alone : CellsRunAlone
-cells_run_alone s w end safe ms u h quiet m c g =
-    let r = scheduled_is s end ms w u h in
-    let rows : new_rows w u ≡ r.0 = ap (λ t. drop (length w.trace) t) r.2 ∙ drop-append_seam w.trace r.0 in
-    subst (λ q. Alone s end m q c (slice_get u.cells m)) (sym rows) (alone s end r.1 quiet safe m c g)
+cells_run_alone s w end safe ms u h quiet m c g = grind (arith, scheduled_is, drop-append_seam, alone)
 
 pub promises_are_safe : PromisesAreSafe
 promises_are_safe s w end fit reached promise = promise_safe s fit w.cells (good_reached s fit reached.0 w reached.1) end promise

@@ -197,9 +197,7 @@ module _ (s : Setting) where
 
   later_by : (t : ℕ) (x y : Option ℕ) (k : ℕ) → promise_by x y ≡ Some k → ((a : ℕ) → x ≡ Some a → t ≤ a) → ((b : ℕ) → y ≡ Some b → 0 < b)
       → t < k
-  later_by t None y k h f g = let z : ⊥ = cc in absurd z
-  later_by t (Some a) None k h f g = let z : ⊥ = cc in absurd z
-  later_by t (Some a) (Some b) k h f g = let e = same_Some _ _ h in let p = f a refl in let q = g b refl in omega arith
+  later_by t x y k h f g = grind arith
 
   from_cond : (b : Bool) (o : Option ℕ) (k : ℕ) → cond b None o ≡ Some k → o ≡ Some k
   from_cond true o k h = let z : ⊥ = cc in absurd z

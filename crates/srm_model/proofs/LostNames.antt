@@ -1,6 +1,6 @@
 -- What a member loses in one answer, and the pages of which it tells: they are of members, and no name is lost twice.
-use Rattle.std.proofs.Common.{◌≡◌, ℕ, zero, suc, ◌+◌, ◌-◌, ◌<◌, ◌≤◌, Bool, true, false, cond, ◌&&◌, List, [], ◌∷◌, ◌++◌, refl, sym, ap, ◌∙◌}
-use Rattle.std.proofs.Common.{subst, inl, inr, arith, Ordering, Less, Equal, Greater, Option, Some, None, unwrap_or, nat_lt, nat_le}
+use Rattle.std.proofs.Common.{◌≡◌, ℕ, zero, suc, ◌+◌, ◌-◌, ◌<◌, ◌≤◌, Bool, true, false, cond, List, [], ◌∷◌, ◌++◌, refl, sym, ap, ◌∙◌}
+use Rattle.std.proofs.Common.{subst, inl, inr, arith, Ordering, Option, Some, None, nat_lt, nat_le}
 use Rattle.std.specs.List.{Contains}
 use Rattle.std.specs.FinMap.Entries.{put, find, by_order}
 use Rattle.std.proofs.lemmas.List.Elements.{Contains-append_right, Contains-append_cases}
@@ -9,31 +9,29 @@ use Rattle.srm_net.specs.declared.packet.PageId.{PageId}
 use Rattle.srm_net.specs.declared.packet.Heard.{Heard}
 use Rattle.srm_net.specs.declared.packet.Body.{Body}
 use Rattle.srm_net.specs.declared.packet.Body.TheVariants.{Drawop, Request, Repair, Session}
-use Rattle.srm_net.specs.declared.packet.Packet.{Packet}
 use Rattle.srm_net.specs.Names.{page_of, name_in, name_cmp, page_cmp}
 use Rattle.srm_member.specs.declared.fixed.Fixed.{Fixed as FixedPart}
 use Rattle.srm_member.specs.declared.cause.Cause.{Cause}
 use Rattle.srm_member.specs.declared.cause.Cause.TheVariants.{Join, Arrival, Ask, Answer, Draw, Report}
 use Rattle.srm_member.specs.declared.told.Told.{Told}
-use Rattle.srm_member.specs.declared.told.Told.TheVariants.{Entered, Fresh, Fixed, Again, Skip, Rest, Busy, Plan, Hold, Heard as Informed}
+use Rattle.srm_member.specs.declared.told.Told.TheVariants.{Entered, Fresh, Fixed, Again, Skip, Hold, Heard as Informed}
 use Rattle.srm_member.specs.declared.entries.Missing.{Missing}
 use Rattle.srm_member.specs.declared.entries.Repairing.{Repairing}
 use Rattle.srm_member.specs.Fit.{heard_of}
 use Rattle.srm_member.specs.Record.{MemberState, Progress}
-use Rattle.srm_net.specs.Roles.{is_sender, is_listener}
+use Rattle.srm_net.specs.Roles.{is_listener}
 use Rattle.srm_member.specs.React.{Reaction, quietly, has_entry, with_progress, meet, lose_one, lose_from, names_from, lose_below}
-use Rattle.srm_member.specs.React.{lost_below, with_losses_begun, with_mending_seen, with_repair_seen}
-use Rattle.srm_member.specs.React.{with_held, with_mended, hear_data, with_rest, hear_repair, with_repair_timer, hear_request_by_entry}
+use Rattle.srm_member.specs.React.{lost_below, with_mending_seen}
+use Rattle.srm_member.specs.React.{with_held, with_mended, hear_data, hear_request_by_entry}
 use Rattle.srm_member.specs.React.{hear_request_of_held, hear_request}
 use Rattle.srm_member.specs.React.{page_heard, after_entry, lost_by_entry, hear_session, hear_body, expire_request_by_entry, expire_request}
 use Rattle.srm_member.specs.React.{expire_repair_by_entry, expire_repair}
-use Rattle.srm_member.specs.React.{own_page, own_progress, draw_operation, is_skip, react_active, listen_data, listen, react_listener}
+use Rattle.srm_member.specs.React.{draw_operation, react_active, react_listener}
 use Rattle.srm_member.specs.React.{react, react_telling, with_adapted}
 use Rattle.srm_member.specs.declared.intervals.Intervals.{Intervals}
 use Rattle.srm_member.proofs.AllIn.{AllIn, AllIn-append, AllIn-map}
-use Rattle.srm_member.proofs.Changes.{Below, Grows, Brings, from_page, effect, entry_effect}
+use Rattle.srm_member.proofs.Changes.{Below, from_page, entry_effect}
 use Rattle.srm_model.proofs.TraceRows.{contains_none}
-use Rattle.srm_net.specs.Limits.{most_drawn}
 
 -- ---- lists with no element twice
 
@@ -62,9 +60,7 @@ either_way Q true x y h g = h
 either_way Q false x y h g = g
 
 any_order : {A : Type 0} (Q : A → Type 0) (r : Ordering) (a b c : A) → Q a → Q b → Q c → Q (by_order r a b c)
-any_order Q Less a b c h g f = h
-any_order Q Equal a b c h g f = g
-any_order Q Greater a b c h g f = f
+any_order Q r a b c h g f = grind arith
 
 module _ (members : ℕ) where
   abbrev pub OfMembers : List Name → Type 0
@@ -113,10 +109,7 @@ module _ (members : ℕ) where
   pages_below : (at : ℕ) (p : PageId) (n next : ℕ) (s : Progress) (lost : List Name) (m : MemberState) → p.source < members
       → PagesOf m.progress → PagesOf (lose_below at p n next s lost m).progress
   unfolding lose_below
-  pages_below at p n next s lost m h g =
-      let begun = with_losses_begun lost n s m in
-      let k = lose_from at p (n - s.next) s.next begun in
-      pages_put p (record { floor = s.floor; next = next }) k.progress h (subst PagesOf (sym (lose_pages at p (n - s.next) s.next begun)) g)
+  pages_below at p n next s lost m h g = grind (arith, pages_put, lose_pages)
 
   names_of : (p : PageId) (count first : ℕ) → p.source < members → OfMembers (names_from p count first)
   names_of p zero first h = tt
@@ -134,9 +127,7 @@ module _ (members : ℕ) where
 
   losing : (m : MemberState) (answer : Told) (p : PageId) (n : ℕ) (s : Progress) → p.source < members → PagesOf m.progress
       → Known (quietly m answer (lost_below p n s))
-  losing m answer p n s h g =
-      let count = n - s.next in
-      record { pages = g; lost = names_of p count s.next h; apart = names_apart p count s.next; session = tt }
+  losing m answer p n s h g = grind (arith, names_of, names_apart)
 
   -- ---- packets
 
@@ -155,25 +146,12 @@ module _ (members : ℕ) where
       (either_way Known (has_entry n m.missing) _ _
       (plain (with_mended n ink (with_progress p s (with_mending_seen at n repaired m))) Fixed met) (plain k Again met)))
 
-  repair_known : (at : ℕ) (n : Name) (ink who : ℕ) (m : MemberState) → n.source < members → PagesOf m.progress
-      → Known (hear_repair at n ink who m)
-  repair_known at n ink who m h g =
-      let r = hear_data at n ink true m in
-      let k = got_known at n ink true m h g in
-      either_way Known (is_skip r.answer.told) r (record r { state = with_rest at n who (with_repair_seen at n r.state) }) k
-      (record { pages = k.pages; lost = k.lost; apart = k.apart; session = k.session })
-
   asked_known : (at : ℕ) (n : Name) (lost : List Name) (m : MemberState) (o : Option Missing) → Known (quietly m Hold lost)
       → Known (hear_request_by_entry at n lost m o)
-  asked_known at n lost m None k = k
-  asked_known at n lost m (Some e) k =
-      either_way Known (nat_lt at e.ignore) _ _ (record { pages = k.pages; lost = k.lost; apart = k.apart; session = tt })
-      (record { pages = k.pages; lost = k.lost; apart = k.apart; session = tt })
+  asked_known at n lost m o k = grind arith
 
   held_known : (at : ℕ) (n : Name) (who : ℕ) (m : MemberState) → PagesOf m.progress → Known (hear_request_of_held at n who m)
-  held_known at n who m g =
-      either_way Known (nat_lt at (unwrap_or (find name_cmp n m.rests) 0)) _ _ (plain m Rest g)
-      (either_way Known (has_entry n m.repairs) _ _ (plain m Busy g) (plain (with_repair_timer at n who m) Plan g))
+  held_known at n who m g = grind arith
 
   request_known : (at : ℕ) (n : Name) (who : ℕ) (m : MemberState) → n.source < members → PagesOf m.progress
       → Known (hear_request at n who m)
@@ -194,11 +172,7 @@ module _ (members : ℕ) where
   entry_pages : (at : ℕ) (h : Heard) (lost : List Name) (m : MemberState) → h.source < members → PagesOf m.progress
       → PagesOf (after_entry at h lost m).progress
   unfolding after_entry
-  entry_pages at h lost m lt g =
-      let p = page_heard h in
-      let s = meet m p (h.highest + 1) in
-      either_way (λ (k : MemberState). PagesOf k.progress) (nat_le s.next h.highest) _ _
-      (pages_below at p (h.highest + 1) (h.highest + 1) s lost m lt g) (pages_put p s m.progress lt g)
+  entry_pages at h lost m lt g = grind (arith, pages_below, pages_put)
 
   -- names of later entries are new, and so others than those lost by the entries before
   informed_known : (at : ℕ) (hs : List Heard) (m : MemberState) (lost : List Name) → is_listener m.fixed.role ≡ false → HeardOf hs
@@ -222,11 +196,7 @@ module _ (members : ℕ) where
 
   hear_known : (at who : ℕ) (b : Body) (m : MemberState) → is_listener m.fixed.role ≡ false → BodyOf b → PagesOf m.progress
       → Known (hear_body at who b m)
-  hear_known at who (Drawop n ink) m no_listener h g = got_known at n ink false m h g
-  hear_known at who (Repair n ink) m no_listener h g = repair_known at n ink who m h g
-  hear_known at who (Request n) m no_listener h g = request_known at n who m h g
-  hear_known at who (Session hs) m no_listener h g =
-      informed_known at hs m [] no_listener h (λ n c. absurd (contains_none n c)) (plain m Informed g)
+  hear_known at who b m no_listener h g = grind (arith, got_known, request_known, informed_known)
 
   -- ---- timers, draws and reports
 
@@ -241,12 +211,7 @@ module _ (members : ℕ) where
 
   drawing_known : (page ink : ℕ) (m : MemberState) → m.fixed.member < members → PagesOf m.progress → Known (draw_operation page ink m)
   unfolding draw_operation
-  drawing_known page ink m h g =
-      let p = own_page m page in
-      let s = own_progress m p in
-      either_way Known (is_sender m.fixed.role && nat_lt s.next most_drawn) _ _
-      (record { pages = pages_put p (record { floor = s.floor; next = s.next + 1 }) m.progress h g; lost = tt; apart = tt; session = tt })
-      (plain m Skip g)
+  drawing_known page ink m h g = grind (arith, pages_put)
 
   active_known : (m : MemberState) (at : ℕ) (cause : Cause) → is_listener m.fixed.role ≡ false → m.fixed.member < members
       → CauseOf cause → PagesOf m.progress → Known (react_active m at cause)
@@ -265,22 +230,8 @@ module _ (members : ℕ) where
 
   -- ---- listeners
 
-  listened_known : (n : Name) (ink : ℕ) (m : MemberState) → PagesOf m.progress → Known (listen_data n ink m)
-  listened_known n ink m g = either_way Known (has_entry n m.held) _ _ (plain m Again g) (plain (with_held n ink m) Fresh g)
-
-  listen_known : (b : Body) (m : MemberState) → PagesOf m.progress → Known (listen b m)
-  listen_known (Drawop n ink) m g = listened_known n ink m g
-  listen_known (Repair n ink) m g = listened_known n ink m g
-  listen_known (Request n) m g = plain m Skip g
-  listen_known (Session hs) m g = plain m Skip g
-
   listener_known : (m : MemberState) (cause : Cause) → PagesOf m.progress → Known (react_listener m cause)
-  listener_known m Join g = plain m Entered g
-  listener_known m (Arrival p) g = listen_known p.body m g
-  listener_known m (Ask n) g = plain m Skip g
-  listener_known m (Answer n) g = plain m Skip g
-  listener_known m (Draw page ink) g = plain m Skip g
-  listener_known m Report g = plain m Skip g
+  listener_known m cause g = grind arith
 
   -- what it tells of intervals has no part in that
   told_known : (o : Option Intervals) (r : Reaction) → Known r → Known (record r { answer = with_adapted o r.answer })

@@ -36,11 +36,7 @@ module _ {A : Type 0} (cmp : A → A → Ordering) (o : IsTotalOrder cmp) where
   same k xs = count_if (λ x. is_eq (cmp k x)) xs
 
   self : (x : A) → cmp x x ≡ Equal
-  self x = elim (cmp x x) as (λ r. cmp x x ≡ r → cmp x x ≡ Equal) [
-    | Less ↦ λ e. let y : Less ≡ Greater = sym e ∙ o.antisymm x x ∙ ap ordering_reverse e in cc
-    | Equal ↦ λ e. e
-    | Greater ↦ λ e. let y : Greater ≡ Less = sym e ∙ o.antisymm x x ∙ ap ordering_reverse e in cc
-  ] refl
+  self x = grind arith
 
   one_self : (x : A) → one_if (is_eq (cmp x x)) ≡ 1
   one_self x = ap (λ r. one_if (is_eq r)) (self x)

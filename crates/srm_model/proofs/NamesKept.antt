@@ -80,10 +80,7 @@ carries_one b k n ink (inr e) c = subst (Carries n) e c
 
 sent_body : (e : Event) (body : Option Body) (d : Stepped) (p : Packet) → Sends e body d → d.row.sent ≡ Some p → (body ≡ Some p.body)
     × (p.id.sender ≡ e.key.member)
-sent_body e None d p h q = let x : None ≡ Some p = sym h.0 ∙ q in cc
-sent_body e (Some b) d p h q =
-    let same : packet_of e b ≡ p = same_Some _ _ (sym h.0 ∙ q) in
-    (ap (λ (x : Packet). Some x.body) same, sym (ap (λ (x : Packet). x.id.sender) same))
+sent_body e body d p h q = grind arith
 
 sends_none : (e : Event) (d : Stepped) (body : Option Body) → body ≡ None → Sends e body d → (p : Packet) → d.row.sent ≡ Some p → ⊥
 sends_none e d body none h p q = let x : None ≡ Some p.body = sym none ∙ (sent_body e body d p h q).0 in cc
@@ -136,15 +133,7 @@ module _ (s : Setting) (fit : IsFit s) where
       Now t j n = TellsOfName t j n trace d.row
 
       tells_more : (t : Told) (j : ℕ) (n : Name) (r : Row) → TellsOfName t j n trace r → TellsOfName t j n rows r
-      tells_more t j n r h = record {
-        member = h.member;
-        told_so = h.told_so;
-        packet = h.packet;
-        about = h.about;
-        sent =
-            sent_more h.packet trace (d.row ∷ []) h.sent;
-        carries = h.carries;
-      }
+      tells_more t j n r h = grind (arith, sent_more)
 
       told_more : (t : Told) (j : ℕ) (n : Name) → ToldOf t j n trace → ToldOf t j n rows
       told_more t j n h = (h.0, Contains-append_left trace (d.row ∷ []) h.0 h.1, tells_more t j n h.0 h.2)
@@ -676,29 +665,8 @@ module _ (s : Setting) (fit : IsFit s) where
   none_told : (t : Told) (j : ℕ) (n : Name) → ¬ ToldOf t j n []
   none_told t j n h = contains_none h.0 h.1
 
-  none_lost_yet : (j : ℕ) (n : Name) → ¬ Lost j n []
-  none_lost_yet j n h = contains_none h.0 h.1
-
   knows_nothing : (j : ℕ) → j < s.traffic.members → CellKnows [] j (opening_cell s j).holds (opening_cell s j).exit
-  knows_nothing j lt = record {
-    member = fit.numbers j lt;
-    keeps = record {
-      held_is = λ n ink h. cc;
-      got = λ n h. absurd (elim h [
-        | inl x ↦ none_drew j n x.0 x.1
-        | inr x ↦
-            elim x [ inl y ↦ none_told Fresh j n y | inr y ↦ none_told Fixed j n y ]
-      ]);
-      lacks = λ n h. cc;
-      lost = λ n h. absurd (none_lost_yet j n h.0);
-      held_sorted = tt;
-      missing_sorted = tt;
-    };
-    drew = λ n ink h. absurd (none_drew j n ink h);
-    lost = λ n h. absurd (none_lost_yet j n h);
-    fixed = λ n h. absurd (none_told Fixed j n h);
-    plans = λ n h. cc;
-  }
+  knows_nothing j lt = grind arith
 
   opening_knows : (n i : ℕ) → i + n ≡ s.traffic.members → (j : ℕ) (c : PlainCell) → slice_get (opening_cells s n i) j ≡ Some c
       → CellKnows [] (i + j) c.holds c.exit

@@ -36,17 +36,7 @@ module _ (s : Setting) where
 
   one_last : (a b : ℕ) (w v : World) → run s a (opening s) ≡ Done w → step_to s s.traffic.until w ≡ Idle → run s b (opening s) ≡ Done v
       → step_to s s.traffic.until v ≡ Idle → w ≡ v
-  one_last a b w v h idle g quiet = elim (nat_lt a b) as (λ t. nat_lt a b ≡ t → w ≡ v) [
-    | true ↦ λ q. let x : Done v ≡ Idle = sym g ∙ over a b w h idle (ltb-true _ _ q) in cc
-    | false ↦ λ q. (elim (nat_lt b a) as (λ t. nat_lt b a ≡ t → w ≡ v) [
-      | true ↦ λ r. let x : Done w ≡ Idle = sym h ∙ over b a v g quiet (ltb-true _ _ r) in cc
-      | false ↦ λ r.
-          let le : b ≤ a = ltb-false _ _ q in
-          let ge : a ≤ b = ltb-false _ _ r in
-          let same : a ≡ b = omega arith in
-          let x : Done w ≡ Done v = sym h ∙ ap (λ n. run s n (opening s)) same ∙ g in cc
-    ] refl)
-  ] refl
+  one_last a b w v h idle g quiet = grind (arith, over)
 
   no_full : (a b : ℕ) (w : World) → run s a (opening s) ≡ Done w → step_to s s.traffic.until w ≡ Idle → run s b (opening s) ≡ Full → ⊥
   no_full a b w h idle g = elim (nat_lt a b) as (λ t. nat_lt a b ≡ t → ⊥) [
@@ -58,7 +48,4 @@ module _ (s : Setting) where
   ] refl
 
 pub outcomes_are_one : OutcomesAreOne
-outcomes_are_one s w last = (
-  λ v other. one_last s last.reached.0 other.reached.0 w v last.reached.1 last.idle other.reached.1 other.idle,
-  λ f. no_full s last.reached.0 f.0 w last.reached.1 last.idle f.1,
-)
+outcomes_are_one s w last = grind (arith, one_last, no_full)

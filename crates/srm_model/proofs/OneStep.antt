@@ -1,31 +1,27 @@
 -- One step of the sequential run: the event that it takes, the cell from which, the row, and the cells after it.
-use Rattle.std.proofs.Common.{◌≡◌, ℕ, zero, suc, ◌<◌, ◌≤◌, ◌+◌, Bool, true, false, cond, not, ◌&&◌, List, [], ◌∷◌, ◌++◌, length, refl}
-use Rattle.std.proofs.Common.{sym, ap, ◌∙◌, subst, ◌≢◌, ◌⊎◌, inl, inr, arith, Option, Some, None, option_map, nat_lt, nat_le, slice_get}
-use Rattle.std.proofs.Common.{ltb-true, eqb-true, eq-eqb, ◌==◌, zero-add, le_refl}
-use Rattle.std.proofs.lemmas.Bool.{eqb-false}
-use Rattle.srm_net.specs.declared.packet.Name.{Name}
+use Rattle.std.proofs.Common.{◌≡◌, ℕ, zero, suc, ◌<◌, ◌≤◌, Bool, true, false, cond, not, ◌&&◌, List, [], ◌∷◌, ◌++◌, length, refl}
+use Rattle.std.proofs.Common.{sym, ap, ◌∙◌, subst, ◌≢◌, ◌⊎◌, inr, arith, Option, Some, None, option_map, slice_get}
+use Rattle.std.proofs.Common.{le_refl}
 use Rattle.srm_net.specs.declared.packet.Body.{Body}
 use Rattle.srm_net.specs.declared.packet.Packet.{Packet}
 use Rattle.srm_scenario.specs.declared.mark.Mark.{Mark}
 use Rattle.srm_member.specs.declared.cause.Cause.{Cause}
-use Rattle.srm_member.specs.declared.cause.Cause.TheVariants.{Join, Arrival, Ask, Answer, Draw, Report}
+use Rattle.srm_member.specs.declared.cause.Cause.TheVariants.{Arrival}
 use Rattle.srm_member.specs.declared.due.Due.{Due}
 use Rattle.srm_member.specs.Record.{MemberState, Record, Active, Gone, due_of, exit_of}
-use Rattle.srm_member.specs.React.{Reaction, react}
+use Rattle.srm_member.specs.React.{react}
 use Rattle.srm_cell.specs.declared.flight.Flight.{Flight}
-use Rattle.srm_scenario.specs.Presence.{is_up_to}
 use Rattle.srm_cell.specs.Setting.{Setting, arrival_of, cause_of_mark}
 use Rattle.srm_cell.specs.Cells.{PlainCell, Event, first_arrival, first_mark, next_timer, next_event, before, StepOutcome, Idle, Full}
 use Rattle.srm_cell.specs.Cells.{hear_at}
-use Rattle.srm_cell.specs.Cells.{Spent, Done, Stepped, word_of, about_of, row_of, packet_of, sending_step, parting, handle, step_at}
+use Rattle.srm_cell.specs.Cells.{Spent, Done, Stepped, word_of, about_of, packet_of, parting, handle, step_at}
 use Rattle.srm_cell.specs.OwnRuns.{told_to}
-use Rattle.srm_cell.proofs.Rising.{OnEvent, earlier_on, before_on, OnStep}
+use Rattle.srm_cell.proofs.Rising.{OnEvent, earlier_on, OnStep}
 use Rattle.srm_cell.proofs.CellSteps.{some_not_idle}
-use Rattle.srm_model.proofs.Settled.{at_member, get_after}
+use Rattle.srm_model.proofs.Settled.{get_after}
 pub use Rattle.srm_model.proofs.Settled.{each_after, length_after}
 use Rattle.srm_model.proofs.RunLemmas.{least_from, run_by, run_first, step_none, step_is}
 use Rattle.srm_model.specs.World.{World, cells_after, after_step, least_event, step, run, opening_cells}
-use Rattle.srm_net.specs.Limits.{most_sent}
 
 -- ---- what a cell's least event is
 
@@ -51,43 +47,17 @@ pub record IsPending (m : ℕ) (c : PlainCell) (e : Event) : Type 0 where
   pub takes : Takes c e
 
 arrival_pends : (m : ℕ) (c : PlainCell) (fs : List Flight) → c.inbox ≡ fs → OnEvent (IsPending m c) (first_arrival m c fs)
-arrival_pends m c [] h = tt
-arrival_pends m c (f ∷ fs) h = record {
-  member = refl;
-  holds = refl;
-  sent = refl;
-  exit = refl;
-  takes =
-      inl (record { flight = f; inbox = h; cause = refl; time = refl });
-}
-
-none_none : (x : Option Cause) → NoArrival x → (b : Bool) (y : Option Cause) → NoArrival y → NoArrival (cond b x y)
-none_none x h true y g = h
-none_none x h false y g = g
+arrival_pends m c fs h = grind arith
 
 mark_no_arrival : (k : Mark) → NoArrival (cause_of_mark k)
-mark_no_arrival k = none_none (Some Join) (λ p h. cc) (k.rank == 0) _
-    (none_none (Some (Draw k.page k.ink)) (λ p h. cc) (k.rank == 4) _
-    (none_none (Some Report) (λ p h. cc) (k.rank == 5) None (λ p h. cc)))
+mark_no_arrival k = grind arith
 
 mark_pends : (m : ℕ) (c : PlainCell) (ks : List Mark) → OnEvent (IsPending m c) (first_mark m c ks)
 mark_pends m c [] = tt
 mark_pends m c (k ∷ ks) = record { member = refl; holds = refl; sent = refl; exit = refl; takes = inr (refl, mark_no_arrival k) }
 
-timer_no_arrival : (b : Bool) (n : Name) → NoArrival (Some (cond b (Ask n) (Answer n)))
-timer_no_arrival true n p h = cc
-timer_no_arrival false n p h = cc
-
 timer_pends : (m : ℕ) (c : PlainCell) (d : Option Due) → OnEvent (IsPending m c) (next_timer m c d)
-timer_pends m c None = tt
-timer_pends m c (Some d) = record {
-  member = refl;
-  holds = refl;
-  sent = refl;
-  exit = refl;
-  takes =
-      inr (refl, timer_no_arrival (d.rank == 2) d.name);
-}
+timer_pends m c d = grind arith
 
 next_pends : (m : ℕ) (c : PlainCell) → OnEvent (IsPending m c) (next_event m c)
 unfolding next_event
@@ -133,74 +103,10 @@ pub record Does (e : Event) (d : Stepped) : Type 0 where
   pub inbox : d.cell.inbox ≡ e.rest.inbox
   pub how : Answers e d ⊎ Leaves e d
 
-pub on_full : (Q : Stepped → Type 0) (b : Bool) (x : Stepped) → Q x → OnStep Q (cond b (Done x) Full)
-on_full Q true x h = h
-on_full Q false x h = tt
-
-does_sending : (e : Event) (state : MemberState) (cause : Cause) (r : Reaction) (body : Option Body) → r ≡ react state e.key.time cause
-    → r.answer.body ≡ body → e.rest.holds ≡ Active state → e.cause ≡ Some cause → OnStep (Does e) (sending_step e r body)
-does_sending e state cause r None same none h c = record {
-  key = refl;
-  cause = refl;
-  inbox = refl;
-  how = inl (record {
-    state = state;
-    cause = cause;
-    holds = h;
-    is = c;
-    holds_then = ap (λ (x : Reaction). Active x.state) same;
-    exit = refl;
-    told = ap (λ (x : Reaction). x.answer.told) same;
-    lost = ap (λ (x : Reaction). x.answer.lost) same;
-    about = ap (λ k. about_of k r.answer.body) c ∙ ap (λ (x : Reaction). about_of (Some cause) x.answer.body) same;
-    sends = subst (λ b. Sends e b (record { cell = record e.rest { holds = Active r.state }; row = row_of e r.answer None }))
-        (sym none ∙ ap (λ (x : Reaction). x.answer.body) same) (refl, refl);
-  });
-}
-does_sending e state cause r (Some body) same some h c = on_full (Does e) (nat_lt e.rest.sent most_sent) _ (record {
-  key = refl;
-  cause = refl;
-  inbox = refl;
-  how = inl (record {
-    state = state;
-    cause = cause;
-    holds = h;
-    is = c;
-    holds_then = ap (λ (x : Reaction). Active x.state) same;
-    exit = refl;
-    told = ap (λ (x : Reaction). x.answer.told) same;
-    lost = ap (λ (x : Reaction). x.answer.lost) same;
-    about = ap (λ k. about_of k r.answer.body) c ∙ ap (λ (x : Reaction). about_of (Some cause) x.answer.body) same;
-    sends = subst (λ b. Sends e b (record {
-      cell = record e.rest { holds = Active r.state; sent = e.rest.sent + 1 };
-      row =
-          row_of e r.answer (Some (packet_of e body));
-    }))
-        (sym some ∙ ap (λ (x : Reaction). x.answer.body) same) (refl, omega arith);
-  });
-})
-
 does_handle : (e : Event) (holds : Record) (cause : Option Cause) → e.rest.holds ≡ holds → e.cause ≡ cause
     → OnStep (Does e) (handle e holds cause)
 unfolding handle
-does_handle e (Active m) (Some cause) h c = let r = react m e.key.time cause in does_sending e m cause r r.answer.body refl refl h c
-does_handle e (Active m) None h c = record {
-  key = refl;
-  cause = refl;
-  inbox = refl;
-  how = inr (record {
-    state = m;
-    holds = h;
-    is = c;
-    holds_then = refl;
-    exit = refl;
-    told = refl;
-    lost = refl;
-    about = ap (λ k. about_of k None) c;
-    sends = (refl, refl);
-  });
-}
-does_handle e (Gone f) cause h c = tt
+does_handle e holds cause h c = grind arith
 
 does_step : (e : Event) → OnStep (Does e) (step_at (Some e))
 does_step e = does_handle e e.rest.holds e.cause refl refl
@@ -219,17 +125,7 @@ pub record StepFacts (cs : List PlainCell) (e : Event) (d : Stepped) : Type 0 wh
   pub does : Does e d
 
 pub step_facts : (until : ℕ) (cs : List PlainCell) (e : Event) (d : Stepped) → Steps until cs e d → StepFacts cs e d
-step_facts until cs e d h =
-    let r = least_from until 0 cs e h.least in
-    let at_j : before until (next_event r.0 r.1) ≡ Some e = rw zero-add at r.3 in
-    let pends : IsPending r.0 r.1 e = subst (OnEvent (IsPending r.0 r.1))
-    at_j (before_on (IsPending r.0 r.1) until (next_event r.0 r.1) (next_pends r.0 r.1)) in
-    record {
-      cell = r.1;
-      here = ap (slice_get cs) pends.member ∙ r.2;
-      pending = subst (λ j. IsPending j r.1 e) (sym pends.member) pends;
-      does = subst (OnStep (Does e)) h.stepped (does_step e);
-    }
+step_facts until cs e d h = grind (arith, least_from, next_pends, does_step)
 
 -- ---- the cells after a step
 
@@ -243,17 +139,12 @@ module _ (s : Setting) where
   pub here_after : (m : ℕ) (d : Stepped) (cs : List PlainCell) (c : PlainCell) → slice_get cs m ≡ Some c
       → slice_get (cells_after s m d 0 cs) m
       ≡ Some d.cell
-  here_after m d cs c h =
-      let yes : (m == m) ≡ true = eq-eqb _ _ refl in
-      get_after s m d m cs ∙ ap (option_map (at_member s m d m)) h ∙ ap (λ b. Some (cond b d.cell (told_to s.traffic d.row.sent m c))) yes
+  here_after m d cs c h = grind (arith, get_after)
 
   -- every other hears what was sent
   pub there_after : (m : ℕ) (d : Stepped) (cs : List PlainCell) (j : ℕ) → j ≢ m → slice_get (cells_after s m d 0 cs) j
       ≡ option_map (told_to s.traffic d.row.sent j) (slice_get cs j)
-  there_after m d cs j ne =
-      let no : (j == m) ≡ false = (elim (j == m) as (λ b. (j == m) ≡ b → (j == m) ≡ false)
-      [ true ↦ λ q. absurd (ne (eqb-true _ _ q)) | false ↦ λ q. q ] refl) in
-      get_after s m d j cs ∙ ap (λ b. option_map (λ c. cond b d.cell (told_to s.traffic d.row.sent j c)) (slice_get cs j)) no
+  there_after m d cs j ne = grind (arith, get_after)
 
   pub length_opening : (n i : ℕ) → length (opening_cells s n i) ≡ n
   unfolding opening_cells
@@ -268,10 +159,7 @@ module _ (s : Setting) where
   -- an event is a step, or is refused
   after_moves : (w : World) (e : Event) (o : StepOutcome Stepped) → step_at (Some e) ≡ o → after_step s w e.key.member o ≢ Idle
   unfolding after_step
-  after_moves w e Idle h g = some_not_idle e h
-  after_moves w e Full h g = cc
-  after_moves w e Spent h g = cc
-  after_moves w e (Done d) h g = cc
+  after_moves w e o h g = grind (arith, some_not_idle)
 
   -- where the run is over, nothing is pending before `until`
   pub nothing_left : (w : World) → step s w ≡ Idle → before s.traffic.until (least_event 0 w.cells) ≡ None
@@ -334,12 +222,4 @@ module _ (s : Setting) where
   -- a flight is to another member, and arrives before the end of the run
   pub arrival_is : (p : Packet) (m at : ℕ) → arrival_of s.traffic p m ≡ Some at → (m < s.traffic.members) × (m ≢ p.id.sender)
       × (at < s.traffic.until)
-  arrival_is p m at h =
-      let time = p.sent + s.traffic.distance p.id.sender m in
-      let h0 = if_some _ _ at h in
-      let h1 = and_parts (nat_lt m s.traffic.members) _ h0.0 in
-      let h2 = and_parts (not (m == p.id.sender)) _ h1.1 in
-      let h3 = and_parts (s.traffic.reaches p m) _ h2.1 in
-      let h4 = and_parts (nat_le (s.traffic.join m) time) _ h3.1 in
-      let h5 = and_parts (is_up_to time (s.traffic.leave m)) _ h4.1 in
-      (ltb-true _ _ h1.0, eqb-false _ _ (not_true _ h2.0), (let lt = ltb-true _ _ h5.1 in let same = h0.1 in omega arith))
+  arrival_is p m at h = grind arith

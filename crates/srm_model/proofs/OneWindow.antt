@@ -1,6 +1,6 @@
 -- A window is a part of the sequential run.
 use Rattle.std.proofs.Common.{◌≡◌, ℕ, zero, suc, ◌≤◌, ◌+◌, true, false, List, [], ◌∷◌, ◌++◌, length, drop, refl, sym, ap, ◌∙◌, subst, arith}
-use Rattle.std.proofs.Common.{Some, slice_get, add-zero, zero-add, le_refl, Bool, cond, Ordering, is_lt}
+use Rattle.std.proofs.Common.{Some, slice_get, add-zero, zero-add, Bool, cond, Ordering, is_lt}
 use Rattle.std.proofs.Math.Seq.{drop-append_seam}
 use Rattle.std.specs.Cmp.{IsTotalOrder}
 use Rattle.std.specs.List.Sorted.{IsPermutation}
@@ -9,7 +9,7 @@ use Rattle.std.proofs.lemmas.List.Sorted.{IsPermutation-middle}
 use Rattle.std.proofs.lemmas.Option.{same_Some}
 use Rattle.srm_net.specs.Orders.{place, ordered, Rises}
 use Rattle.srm_member.specs.declared.row.Row.{Row}
-use Rattle.srm_cell.specs.Cells.{PlainCell, StepOutcome, Idle, Done}
+use Rattle.srm_cell.specs.Cells.{PlainCell, Idle, Done}
 use Rattle.srm_cell.specs.OwnRuns.{IsOwnRun, hear_rows, own_rows, own_end, own_after}
 use Rattle.srm_cell.specs.Setting.{Setting, IsFit}
 use Rattle.srm_cell.proofs.OwnRunLemmas.{own_runs_are_one}
@@ -73,13 +73,7 @@ module _ (s : Setting) (end : ℕ) (rows : List Row) where
 
 pub part_rows : (s : Setting) → IsFit s → (n : ℕ) (w v : World) → run s n w ≡ Done v → (rows : List Row)
     × Seq s s.traffic.until w.cells rows v.cells × (v.trace ≡ w.trace ++ rows)
-part_rows s fit n w v h =
-    let r = run_seq s fit n w v h in
-    let again : run s n w ≡ Done (record { cells = v.cells; trace = w.trace ++ r.0 }) =
-    ap (λ k. run s k w) (sym r.2) ∙ seq_run s s.traffic.until (le_refl s.traffic.until) r.1 w.trace in
-    let same : ◌≡◌ {A = StepOutcome World} (Done (record { cells = v.cells; trace = w.trace ++ r.0 })) (Done v) = sym again ∙ h in
-    let worlds : ◌≡◌ {A = World} (record { cells = v.cells; trace = w.trace ++ r.0 }) v = cc in
-    (r.0, r.1, ap (λ (u : World). u.trace) (sym worlds))
+part_rows s fit n w v h = grind (arith, run_seq, seq_run)
 
 pub new_rows_are : (w v : World) (rows : List Row) → v.trace ≡ w.trace ++ rows → new_rows w v ≡ rows
 new_rows_are w v rows h = ap (λ t. drop (length w.trace) t) h ∙ drop-append_seam w.trace rows
@@ -158,9 +152,7 @@ module _ {A : Type 0} (cmp : A → A → Ordering) where
 
 -- lists of rows have a merge
 pub some_merge : (lists : List (List Row)) → IsMerge lists (ordered row_cmp (joined lists))
-some_merge lists =
-    let all = joined lists in
-    record { all = ordered_moves row_cmp all; in_order = rows_are_sorted (ordered row_cmp all) (ordered_rises row_cmp rows_total all) }
+some_merge lists = grind (arith, ordered_moves, rows_are_sorted, ordered_rises, rows_total)
 
 pub windows_are_there : WindowsAreThere
 windows_are_there s w end results =

@@ -17,7 +17,7 @@ use Rattle.srm_scenario.specs.Scripts.{IsMark}
 use Rattle.srm_scenario.proofs.ScriptLemmas.{scripts_fit}
 use Rattle.srm_member.specs.declared.cause.Cause.{Cause}
 use Rattle.srm_member.specs.declared.cause.Cause.TheVariants.{Join, Arrival, Ask, Answer, Draw, Report}
-use Rattle.srm_member.specs.declared.told.Told.TheVariants.{Fresh, Fixed, Sent, Parted}
+use Rattle.srm_member.specs.declared.told.Told.TheVariants.{Fixed}
 use Rattle.srm_member.specs.declared.exit.Exit.{Exit}
 use Rattle.srm_member.specs.declared.row.About.{About}
 use Rattle.srm_member.specs.declared.row.About.TheVariants.{Nothing, Of, Named}
@@ -26,9 +26,9 @@ use Rattle.srm_member.specs.Record.{MemberState, Record, Active, Gone}
 use Rattle.srm_member.specs.React.{Reaction, react}
 use Rattle.srm_member.specs.Orderly.{carried, brought, LostIn, FixedIn, IsAmong, AreLostOnce, AreFixedAfterLoss, IsOrderly}
 use Rattle.srm_member.proofs.AllIn.{AllIn, AllIn-weaker, AllIn-places, AllIn-at_places}
-use Rattle.srm_member.proofs.Changes.{Below, Brings, Effect, effect}
+use Rattle.srm_member.proofs.Changes.{Below, Effect, effect}
 use Rattle.srm_cell.specs.Setting.{Traffic, Setting, IsFit, arrival_of, setting_of, member_at, no_member}
-use Rattle.srm_cell.specs.Cells.{PlainCell, opening_cell, hear_at, hear, Event, next_event, before, Stepped, about_of, packet_of}
+use Rattle.srm_cell.specs.Cells.{PlainCell, opening_cell, hear_at, hear, Event, next_event, before, Stepped}
 use Rattle.srm_cell.specs.OwnRuns.{told_to}
 use Rattle.srm_cell.proofs.FitSettings.{settings_are_fit}
 use Rattle.srm_cell.proofs.Rising.{OnEvent, before_on}
@@ -55,10 +55,6 @@ carries_carried (Drawop k ink) n h = same_Some k n h
 carries_carried (Repair k ink) n h = same_Some k n h
 carries_carried (Request k) n h = let x : None ≡ Some n = h in cc
 carries_carried (Session hs) n h = let x : None ≡ Some n = h in cc
-
-carried_brings : (b : Body) (n : Name) (ink : ℕ) → Brings b n ink → carried b ≡ Some n
-carried_brings b n ink (inl e) = ap carried e
-carried_brings b n ink (inr e) = ap carried e
 
 brought_of : (a : About) (n : Name) → brought a ≡ Some n → (p : Packet) × (a ≡ Of p) × Carries n p.body
 brought_of (Of p) n h = (p, refl, carries_carried p.body n h)
@@ -154,14 +150,7 @@ module _ (s : Setting) (fit : IsFit s) (own : (j : ℕ) → j < s.traffic.member
       session : (p : Packet) → d.row.sent ≡ Some p → SessionOf members (Some p.body)
 
     leave_now : Leaves e d → Now
-    leave_now l = record {
-      pages = subst RecordOf (sym l.holds_then) tt;
-      lost = subst (OfMembers members) (sym l.lost) tt;
-      apart = subst Apart (sym l.lost) tt;
-      new = λ n c. absurd (contains_none n (subst (λ ns. Contains ns n) l.lost c));
-      fixed = λ t. (let x : Parted ≡ Fixed = sym l.told ∙ t in cc);
-      session = λ p q. (let x : None ≡ Some p = sym l.sends.0 ∙ q in cc);
-    }
+    leave_now l = grind arith
 
     module _ (a : Answers e d) where
       abbrev state : MemberState
@@ -213,27 +202,11 @@ module _ (s : Setting) (fit : IsFit s) (own : (j : ℕ) → j < s.traffic.member
       Fixes = (n : Name) × (brought d.row.about ≡ Some n) × Lacks m n trace
 
       fixed_by : (cause : Cause) → a.cause ≡ cause → Effect state cause r → r.answer.told ≡ Fixed → Fixes
-      fixed_by cause is (inl q) t = absurd (q.not_fixed t)
-      fixed_by (Arrival p) is (inr (inl b)) t = elim b.mends [
-        | inl x ↦ (let y : Fresh ≡ Fixed = sym x.0 ∙ t in cc)
-        | inr x ↦
-            let about : d.row.about ≡ Of p = a.about ∙ ap (λ c. about_of (Some c) r.answer.body) is in
-            (b.name, ap brought about ∙ carried_brings p.body b.name b.ink b.brings, k.keeps.lacks b.name x.1)
-      ]
-      fixed_by (Draw page ink) is (inr (inr b)) t = let y : Sent ≡ Fixed = sym b.told ∙ t in cc
-      fixed_by Join is (inr h) t = absurd (elim h [ inl x ↦ x | inr x ↦ x ])
-      fixed_by (Arrival p) is (inr (inr h)) t = absurd h
-      fixed_by (Ask n) is (inr h) t = absurd (elim h [ inl x ↦ x | inr x ↦ x ])
-      fixed_by (Answer n) is (inr h) t = absurd (elim h [ inl x ↦ x | inr x ↦ x ])
-      fixed_by (Draw page ink) is (inr (inl h)) t = absurd h
-      fixed_by Report is (inr h) t = absurd (elim h [ inl x ↦ x | inr x ↦ x ])
+      fixed_by cause is h2 t = grind (arith, k)
 
       session_by : (body : Option Body) → Sends e body d → SessionOf members body → (p : Packet) → d.row.sent ≡ Some p
           → SessionOf members (Some p.body)
-      session_by None h g p q = let x : None ≡ Some p = sym h.0 ∙ q in cc
-      session_by (Some b) h g p q =
-          let same : packet_of e b ≡ p = same_Some _ _ (sym h.0 ∙ q) in
-          subst (λ (x : Packet). SessionOf members (Some x.body)) same g
+      session_by body h g p q = grind arith
 
       answer_now : Now
       answer_now = record {
@@ -295,10 +268,7 @@ module _ (s : Setting) (fit : IsFit s) (own : (j : ℕ) → j < s.traffic.member
         )
 
     lost_once_after : AreLostOnce rows
-    lost_once_after first last x front back n split is = elim (split_cases trace d.row first x last split) [
-      | inl g ↦ (let f : LosesNew first x = subst (λ l. LosesNew l x) (sym g.1) (subst (LosesNew trace) g.0 loses_new) in f front back n is)
-      | inr g ↦ was.lost_once first g.0 x front back n g.1 is
-    ]
+    lost_once_after first last x front back n split is = grind (arith, split_cases, loses_new)
 
     -- what a row tells as fixed was handed, and so was sent
     told_fixed : (n : Name) → FixedIn m n trace → ToldOf Fixed m n trace
@@ -426,12 +396,7 @@ module _ (p : PlainScenario) (a : IsAccepted p) (seed : ℕ) where
   t = (setting_of p (network_of p) seed).traffic
 
   own_mark : (j : ℕ) (k : Mark) → IsMark p.until (member_at p j) k → IsOwnMark t j k
-  own_mark j k h = record {
-    join = h.join;
-    leave = h.leave;
-    ranks = λ not_join not_draw not_report.
-        (let last = h.last_rank in elim h.rank [ inl z ↦ absurd (not_join z) | inr more ↦ omega arith ]);
-  }
+  own_mark j k h = grind arith
 
   own_marks : (j : ℕ) → j < length p.members → AllIn (IsOwnMark t j) (script_of p j)
   own_marks j lt =

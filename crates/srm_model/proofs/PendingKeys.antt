@@ -70,15 +70,7 @@ pending_keys_differ s w fit reached =
 
 module _ (P : Key → Type 0) where
   cell_above : (m : ℕ) (c : PlainCell) → AllIn P (pending_keys m c) → Above P m c
-  cell_above m c h =
-      let two = AllIn-second P (map (arrival_key m) c.inbox) (map (mark_key m) c.script ++ map (timer_key m) (timers c.holds)) h in
-      record {
-        flights = AllIn-unmap P (arrival_key m) c.inbox
-            (AllIn-first P (map (arrival_key m) c.inbox) (map (mark_key m) c.script ++ map (timer_key m) (timers c.holds)) h);
-        marks = AllIn-unmap P (mark_key m) c.script (AllIn-first P (map (mark_key m) c.script) (map (timer_key m) (timers c.holds)) two);
-        dues = AllIn-unmap P (timer_key m) (timers c.holds)
-            (AllIn-second P (map (mark_key m) c.script) (map (timer_key m) (timers c.holds)) two);
-      }
+  cell_above m c h = grind (arith, AllIn-second, AllIn-unmap, AllIn-first)
 
   above_keys : (m : ℕ) (c : PlainCell) → Above P m c → AllIn P (pending_keys m c)
   above_keys m c a = AllIn-append P (map (arrival_key m) c.inbox) (map (mark_key m) c.script ++ map (timer_key m) (timers c.holds))

@@ -1,12 +1,12 @@
 -- The sequential run to an end is a complete schedule, if own runs end.
 use Rattle.std.proofs.Common.{◌≡◌, ℕ, zero, suc, ◌<◌, ◌≤◌, ◌+◌, Bool, true, false, List, [], ◌∷◌, ◌++◌, length, refl, sym, ap, ◌∙◌, subst}
-use Rattle.std.proofs.Common.{subst₂, ◌≢◌, ◌⊎◌, inl, inr, arith, Ordering, Less, Equal, Greater, eq-eqb, ◌==◌, Option, Some, None}
+use Rattle.std.proofs.Common.{subst₂, ◌≢◌, ◌⊎◌, inl, inr, arith, eq-eqb, ◌==◌, Option, Some, None}
 use Rattle.std.proofs.Common.{slice_get, add-zero, zero-add, append_assoc, append-nil}
 use Rattle.std.proofs.lemmas.Bool.{ne_eqb}
 use Rattle.srm_cell.proofs.CellLemmas.{before-earlier, outcome_map, stepped_map}
 use Rattle.srm_cell.proofs.CellSteps.{IsOf, before_more, before_of, next_event_of, some_not_idle, told_late}
 use Rattle.srm_cell.proofs.OwnRunLemmas.{end_by, end_first, end_now}
-use Rattle.srm_cell.specs.Cells.{Done, Event, Full, Idle, PlainCell, Spent, StepOutcome, Stepped, before, by_key, earlier, next_event}
+use Rattle.srm_cell.specs.Cells.{Done, Event, Full, Idle, PlainCell, Spent, StepOutcome, Stepped, before, earlier, next_event}
 use Rattle.srm_cell.specs.Cells.{own_step, step_at}
 use Rattle.srm_cell.specs.OwnRuns.{own_end, told_to}
 use Rattle.srm_cell.specs.Setting.{Setting, arrival_of}
@@ -15,26 +15,15 @@ use Rattle.srm_model.proofs.Settled.{at_member}
 use Rattle.srm_model.specs.Schedules.{SendsLate, own_of}
 use Rattle.srm_model.specs.World.{World, after_step, least_event, run, cells_after, step_of, step_to}
 use Rattle.srm_member.specs.declared.row.Row.{Row}
-use Rattle.srm_net.specs.Keys.{key_cmp}
 use Rattle.srm_net.specs.declared.packet.Packet.{Packet}
 
 -- ---- the least event of all members is one member's own
 
-from_by_key : (r : Ordering) (d e : Event) → (by_key r d e ≡ d) ⊎ (by_key r d e ≡ e)
-from_by_key Less d e = inl refl
-from_by_key Equal d e = inl refl
-from_by_key Greater d e = inr refl
-
 from_earlier : (x y : Option Event) (e : Event) → earlier x y ≡ Some e → (x ≡ Some e) ⊎ (y ≡ Some e)
-from_earlier None y e h = inr h
-from_earlier (Some d) None e h = inl h
-from_earlier (Some d) (Some f) e h = elim (from_by_key (key_cmp d.key f.key) d f)
-    [ inl g ↦ inl (ap Some (sym g) ∙ h) | inr g ↦ inr (ap Some (sym g) ∙ h) ]
+from_earlier x y e h = grind arith
 
 pub none_earlier : (x y : Option Event) → earlier x y ≡ None → (x ≡ None) × (y ≡ None)
-none_earlier None y h = (refl, h)
-none_earlier (Some d) None h = cc
-none_earlier (Some d) (Some f) h = cc
+none_earlier x y h = grind arith
 
 pub shifted : (i j : ℕ) → i + suc j ≡ suc i + j
 shifted i j = omega arith

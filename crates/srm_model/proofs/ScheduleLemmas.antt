@@ -1,4 +1,5 @@
 -- All complete schedules to a safe end leave the same cells, and the same rows in order.
+use Rattle.std.proofs.Common.{arith}
 use Rattle.std.proofs.Common.{◌≡◌, ℕ, zero, suc, ◌≤◌, true, false, List, [], ◌∷◌, refl, sym, ap, ◌∙◌, subst, subst₂, ◌≢◌, Equal, eqb-true}
 use Rattle.std.proofs.Common.{◌==◌, Option, Some, None, option_map, slice_get}
 use Rattle.std.proofs.lemmas.Bool.{eqb-false, ne_eqb}
@@ -78,10 +79,7 @@ module _ (s : Setting) (end : ℕ) where
 
   safe_rows : (m : ℕ) (d : Stepped) (k n : ℕ) (b : PlainCell) → SendsLate s end d.row → ((j : ℕ) → AllSendLate s end (own_rows end k j b))
       → ((k ≡ m) → own_step end k b ≡ Done d) → AllSendLate s end (own_rows end k n (at_member s m d k b))
-  safe_rows m d k n b late safe own = elim (k == m) as (λ x. (k == m) ≡ x → AllSendLate s end (own_rows end k n (at_member s m d k b))) [
-    | true ↦ λ e. rw e (rest_late k b d (own (eqb-true _ _ e)) safe n)
-    | false ↦ λ e. rw (e, own_rows_late d.row.sent late k n b) (safe n)
-  ] refl
+  safe_rows m d k n b late safe own = grind (arith, rest_late, own_rows_late)
 
   pub safe_after : (cs : List PlainCell) → Safe s end cs → (m : ℕ) (d : Stepped) → own_of end m (slice_get cs m) ≡ Done d
       → Safe s end (cells_after s m d 0 cs)

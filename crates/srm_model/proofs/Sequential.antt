@@ -232,12 +232,7 @@ module _ (s : Setting) (fit : IsFit s) where
 
   pub good_opening : Good (opening s).cells
   unfolding opening
-  good_opening = record {
-    members = length_opening s s.traffic.members 0;
-    tidy =
-        opening_tidy s.traffic.members 0 (zero-add s.traffic.members);
-    sound = opening_sound s.traffic.members 0;
-  }
+  good_opening = grind (arith, length_opening, opening_tidy, opening_sound)
 
   pub good_reached : (n : ℕ) (w : World) → run s n (opening s) ≡ Done w → Good w.cells
   good_reached n w h = good_seq s.traffic.until (run_seq n (opening s) w h).1 good_opening
@@ -251,13 +246,7 @@ module _ (s : Setting) (fit : IsFit s) where
     module _ (m : ℕ) (lt : m < s.traffic.members) (far : (b : ℕ) → b < s.traffic.members → b ≢ m → end ≤ start + s.traffic.distance m b)
       where
         sends_late : (t : ℕ) (r : Row) → start ≤ t → SentBy m r.sent → SentAt t r.sent → SendsLate s end r
-        sends_late t r from by at p e j a g =
-            let f = arrival_is s.traffic p j a g in
-            let sender : p.id.sender ≡ m = subst (SentBy m) e by in
-            let time : p.sent ≡ t = subst (SentAt t) e at in
-            let off : end ≤ start + s.traffic.distance m j = far j f.0 (λ q. f.1 (q ∙ sym sender)) in
-            let arrives : p.sent + s.traffic.distance m j ≡ a = subst (λ k. p.sent + s.traffic.distance k j ≡ a) sender f.2 in
-            omega arith
+        sends_late t r from by at p e j a g = grind arith
 
         pub own_late : (n : ℕ) (c : PlainCell) → Above FromTime m c → AllSendLate s end (own_rows end m n c)
         unfolding own_rows own_step

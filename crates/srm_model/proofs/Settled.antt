@@ -1,7 +1,6 @@
 -- The cells after a step, one by one, and after the steps of two members.
-use Rattle.std.proofs.Common.{◌≡◌, ℕ, zero, suc, ◌+◌, true, false, cond, List, [], ◌∷◌, length, refl, sym, ap, ◌∙◌, subst, ◌≢◌, arith}
-use Rattle.std.proofs.Common.{eqb-true, ◌==◌, Option, Some, None}
-use Rattle.std.proofs.lemmas.Bool.{eqb-false}
+use Rattle.std.proofs.Common.{◌≡◌, ℕ, zero, suc, ◌+◌, cond, List, [], ◌∷◌, length, refl, sym, ap, ◌∙◌, subst, ◌≢◌, arith}
+use Rattle.std.proofs.Common.{◌==◌, Option, Some, None}
 use Rattle.std.proofs.Common.{option_map, slice_get, add-zero}
 use Rattle.std.proofs.Common.{zero-add}
 use Rattle.std.proofs.lemmas.Option.{same_Some}
@@ -32,10 +31,7 @@ module _ (s : Setting) where
   -- what holds of the step's cell, and of every other after it heard what was sent, holds of each cell
   each_at : (Q : ℕ → PlainCell → Type 0) (m : ℕ) (d : Stepped) (j : ℕ) (b : PlainCell) → Q m d.cell
       → (j ≢ m → Q j (told_to s.traffic d.row.sent j b)) → Q j (at_member m d j b)
-  each_at Q m d j b h g = elim (j == m) as (λ x. (j == m) ≡ x → Q j (at_member m d j b)) [
-    | true ↦ λ e. rw e (subst (λ k. Q k d.cell) (sym (eqb-true _ _ e)) h)
-    | false ↦ λ e. rw e (g (eqb-false _ _ e))
-  ] refl
+  each_at Q m d j b h g = grind arith
 
   each_some : (Q : ℕ → PlainCell → Type 0) (m : ℕ) (d : Stepped) (j : ℕ) (o : Option PlainCell) → Q m d.cell
       → ((b : PlainCell) → o ≡ Some b → j ≢ m → Q j (told_to s.traffic d.row.sent j b))
@@ -61,19 +57,7 @@ module _ (s : Setting) where
     b_later = stepped_map (told_to s.traffic da.row.sent b) db
 
     swap_at : (i : ℕ) (c : PlainCell) → at_member b b_later i (at_member a da i c) ≡ at_member a a_later i (at_member b db i c)
-    swap_at i c =
-        elim (i == a) as (λ x. (i == a) ≡ x → at_member b b_later i (at_member a da i c) ≡ at_member a a_later i (at_member b db i c)) [
-          | true ↦ λ ia. elim (i == b) as (λ y. (i == b) ≡ y → at_member b b_later i (at_member a da i c)
-              ≡ at_member a a_later i (at_member b db i c)) [
-                | true ↦ λ ib. absurd (ne (sym (eqb-true _ _ ia) ∙ eqb-true _ _ ib))
-                | false ↦ λ ib. simp (ia, ib) (ap (λ k. told_to s.traffic db.row.sent k da.cell) (eqb-true _ _ ia))
-              ] refl
-          | false ↦ λ ia. elim (i == b) as (λ y. (i == b) ≡ y → at_member b b_later i (at_member a da i c)
-              ≡ at_member a a_later i (at_member b db i c)) [
-                | true ↦ λ ib. simp (ia, ib) (ap (λ k. told_to s.traffic da.row.sent k db.cell) (sym (eqb-true _ _ ib)))
-                | false ↦ λ ib. simp (ia, ib) (told_comm s.traffic b a (λ e. ne (sym e)) db.row.sent da.row.sent hb ha i c)
-              ] refl
-        ] refl
+    swap_at i c = grind (arith, told_comm)
 
     pub swap_cells : (i : ℕ) (cs : List PlainCell) → cells_after s b b_later i (cells_after s a da i cs)
         ≡ cells_after s a a_later i (cells_after s b db i cs)

@@ -1,12 +1,12 @@
 -- The keys of the sequential run rise strictly.
 use Rattle.std.proofs.Common.{◌≡◌, ℕ, zero, suc, ◌<◌, ◌≤◌, ◌+◌, true, false, cond, List, [], ◌∷◌, length, refl, sym, ap, ◌∙◌, subst}
-use Rattle.std.proofs.Common.{◌≢◌, inl, inr, arith, Ordering, Less, Equal, Greater, Option, Some, None, option_map, is_lt, slice_get}
-use Rattle.std.proofs.Common.{true≢false, eqb-true, ◌==◌, le_refl, eq-eqb, zero-add}
+use Rattle.std.proofs.Common.{◌≢◌, inl, inr, arith, Ordering, Less, Equal, Greater, Option, Some, None, is_lt, slice_get}
+use Rattle.std.proofs.Common.{true≢false, le_refl, zero-add}
 use Rattle.std.specs.Ordering.{ordering_reverse}
 use Rattle.std.specs.Cmp.{IsTotalOrder}
 use Rattle.std.proofs.lemmas.Option.{same_Some}
 use Rattle.srm_cell.proofs.CellSteps.{SentBy, flight_total}
-use Rattle.srm_cell.proofs.Clear.{Besides, CountAfter, Differs, IsDistinct, IsTail, RestOf, StepOf, clear_step, differ_member, ranks_tail}
+use Rattle.srm_cell.proofs.Clear.{Besides, CountAfter, Differs, IsDistinct, IsTail, RestOf, StepOf, clear_step, ranks_tail}
 use Rattle.srm_cell.proofs.Clear.{later_differs, next_besides, next_rest, step_is_of, then_after, all_tail}
 use Rattle.srm_cell.proofs.Rising.{Above, IsAbove, OnEvent, OnStep, before_on, next_above, step_above}
 use Rattle.srm_cell.specs.Cells.{arrival_key, mark_key, timer_key, Done, Event, PlainCell, StepOutcome, Stepped, before, hear, hear_at}
@@ -117,10 +117,7 @@ module _ (s : Setting) (fit : IsFit s) where
     grows (Some p) b a c = let q = c.1 in omega arith
 
     here_after : slice_get after m ≡ Some d.cell
-    here_after =
-        let yes : (m == m) ≡ true = eq-eqb _ _ refl in
-        get_after s m d m cs ∙ ap (option_map (at_member s m d m)) facts.here
-        ∙ ap (λ b. Some (cond b d.cell (told_to s.traffic d.row.sent m facts.cell))) yes
+    here_after = grind (arith, get_after, facts)
 
     pub sent_here : sent_of cs m ≡ e.rest.sent
     unfolding sent_by
@@ -132,27 +129,14 @@ module _ (s : Setting) (fit : IsFit s) where
 
     sent_at : (y : ℕ) (c : PlainCell) → slice_get cs y ≡ Some c → c.sent ≤ (at_member s m d y c).sent
     unfolding sent_by
-    sent_at y c g = elim (y == m) as (λ b. (y == m) ≡ b → c.sent ≤ (cond b d.cell (told_to s.traffic d.row.sent y c)).sent) [
-      | true ↦ λ q.
-          let same : c.sent ≡ sent_of cs m = sym (ap sent_by g) ∙ ap (sent_of cs) (eqb-true _ _ q) in
-          let now = sent_here in
-          let up = grows d.row.sent e.rest.sent d.cell.sent did.count in
-          omega arith
-      | false ↦ λ q. let same = told_sent d.row.sent y c in omega arith
-    ] refl
+    sent_at y c g = grind (arith, sent_here, did, told_sent)
 
     sent_grows : (y : ℕ) → sent_of cs y ≤ sent_of after y
     unfolding sent_by
-    sent_grows y = subst (λ o. sent_of cs y ≤ sent_by o) (sym (get_after s m d y cs)) (by (slice_get cs y) refl)
-      where
-        by : (o : Option PlainCell) → slice_get cs y ≡ o → sent_by o ≤ sent_by (option_map (at_member s m d y) o)
-        by None g = le_refl 0
-        by (Some c) g = sent_at y c g
+    sent_grows y = grind (arith, get_after, sent_at)
 
     fresh_after : (c : PlainCell) → IsFresh cs c → IsFresh after c
-    fresh_after c f = AllIn-weaker (λ (g : Flight). g.packet.id.count < sent_of cs g.packet.id.sender)
-        (λ (g : Flight). g.packet.id.count < sent_of after g.packet.id.sender)
-        (λ g l. let up = sent_grows g.packet.id.sender in omega arith) c.inbox f
+    fresh_after c f = grind (arith, AllIn-weaker, sent_grows)
 
     hear_at_strict : (p : Packet) (o : Option ℕ) (c : PlainCell) → p.id.sender ≡ m → CountAfter e.rest.sent (Some p) d.cell.sent
         → IsDistinct c → IsFresh cs c → IsDistinct (hear_at p o c) × IsFresh after (hear_at p o c)
@@ -205,11 +189,7 @@ module _ (s : Setting) (fit : IsFit s) where
     After k l = key_cmp k l ≡ Less
 
     other_member : (k : Key) (j : ℕ) (c : PlainCell) → k.member ≢ j → Above (Differs k) j c
-    other_member k j c ne = record {
-      flights = AllIn-each (λ f. Differs k (arrival_key j f)) (λ f. differ_member k (arrival_key j f) ne) c.inbox;
-      marks = AllIn-each (λ f. Differs k (mark_key j f)) (λ f. differ_member k (mark_key j f) ne) c.script;
-      dues = AllIn-each (λ f. Differs k (timer_key j f)) (λ f. differ_member k (timer_key j f) ne) (timers c.holds);
-    }
+    other_member k j c ne = grind (arith, AllIn-each)
 
     both : (k : Key) (j : ℕ) (c : PlainCell) → Above (NotBefore k) j c → Above (Differs k) j c → Above (After k) j c
     both k j c a b = record {

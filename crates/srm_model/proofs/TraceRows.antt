@@ -5,13 +5,13 @@ use Rattle.std.proofs.Common.{◌==◌, eqb-true}
 use Rattle.std.specs.List.{Contains, count_by}
 use Rattle.std.proofs.lemmas.List.Sums.{sum_by-cons}
 use Rattle.std.proofs.lemmas.List.Elements.{Contains-append_left, Contains-append_right, Contains-append_cases}
-use Rattle.std.proofs.lemmas.Bool.{and_right, and_parts}
+use Rattle.std.proofs.lemmas.Bool.{and_right}
 use Rattle.srm_net.specs.declared.packet.PacketId.{PacketId}
 use Rattle.srm_net.specs.declared.packet.Packet.{Packet}
 use Rattle.srm_net.specs.Orders.{place}
 use Rattle.srm_net.proofs.Basics.{one_if}
 use Rattle.srm_member.specs.declared.row.About.{About}
-use Rattle.srm_member.specs.declared.row.About.TheVariants.{Nothing, Of, Named}
+use Rattle.srm_member.specs.declared.row.About.TheVariants.{Of}
 use Rattle.srm_member.specs.declared.row.Row.{Row}
 use Rattle.srm_model.specs.Handed.{SentIn, same_packet, is_about, is_arrival_of}
 
@@ -69,17 +69,10 @@ count_place q cmp x (y ∷ ys) =
 -- ---- identities of packets
 
 pub is_same : (p q : PacketId) → same_packet p q ≡ true → p ≡ q
-is_same p q h =
-    let a = and_parts (p.sender == q.sender) (p.count == q.count) h in
-    let sender : p.sender ≡ q.sender = eqb-true _ _ a.0 in
-    let count : p.count ≡ q.count = eqb-true _ _ a.1 in
-    λ i. record { sender = sender i; count = count i }
+is_same p q h = grind arith
 
 pub not_same : (p q : PacketId) → p ≢ q → same_packet p q ≡ false
-not_same p q ne = elim (same_packet p q) as (λ b. same_packet p q ≡ b → same_packet p q ≡ false) [
-  | true ↦ λ e. absurd (ne (is_same p q e))
-  | false ↦ λ e. e
-] refl
+not_same p q ne = grind arith
 
 pub same_self : (p : PacketId) → same_packet p p ≡ true
 same_self p = let a : (p.sender == p.sender) ≡ true = Rattle.std.proofs.Common.eq-eqb _ _ refl in let b : (p.count == p.count)
@@ -88,15 +81,10 @@ same_self p = let a : (p.sender == p.sender) ≡ true = Rattle.std.proofs.Common
 -- a row at another member, or of which the packet is another, or which is no arrival, is not an arrival of this packet
 -- here
 pub elsewhere : (k : PacketId) (m : ℕ) (r : Row) → r.key.member ≢ m → is_arrival_of k m r ≡ false
-elsewhere k m r ne = elim (r.key.member == m) as (λ b. (r.key.member == m) ≡ b → is_arrival_of k m r ≡ false) [
-  | true ↦ λ e. absurd (ne (eqb-true _ _ e))
-  | false ↦ λ e. simp e
-] refl
+elsewhere k m r ne = grind arith
 
 pub not_of : (k : PacketId) (a : About) → ((q : Packet) → a ≡ Of q → k ≢ q.id) → is_about k a ≡ false
-not_of k Nothing h = refl
-not_of k (Named n) h = refl
-not_of k (Of q) h = not_same k q.id (h q refl)
+not_of k a h = grind arith
 
 pub not_arrival : (k : PacketId) (m : ℕ) (r : Row) → ((q : Packet) → r.about ≡ Of q → k ≢ q.id) → is_arrival_of k m r ≡ false
 not_arrival k m r h = ap (λ b. (r.key.member == m) && b) (not_of k r.about h) ∙ and_right (r.key.member == m) false refl

@@ -28,17 +28,7 @@ module _ (s : Setting) (rule : World → ℕ) where
   -- ---- a run has one list of windows
 
   first_is_one : (end : ℕ) (w v u : World) → IsFirstQuiet s end w v → IsFirstQuiet s end w u → v ≡ u
-  first_is_one end w v u a b = elim (nat_lt a.steps b.steps) as (λ t. nat_lt a.steps b.steps ≡ t → v ≡ u) [
-    | true ↦ λ q. absurd (b.first a.steps v (ltb-true _ _ q) a.comes a.quiet)
-    | false ↦ λ q. (elim (nat_lt b.steps a.steps) as (λ t. nat_lt b.steps a.steps ≡ t → v ≡ u) [
-      | true ↦ λ r. absurd (a.first b.steps u (ltb-true _ _ r) b.comes b.quiet)
-      | false ↦ λ r.
-          let le : b.steps ≤ a.steps = ltb-false _ _ q in
-          let ge : a.steps ≤ b.steps = ltb-false _ _ r in
-          let same : a.steps ≡ b.steps = omega arith in
-          let x : Done v ≡ Done u = sym a.comes ∙ ap (λ n. run s n w) same ∙ b.comes in cc
-    ] refl)
-  ] refl
+  first_is_one end w v u a b = grind arith
 
   longer : (begins : List World) (w : World) → length (begins ++ w ∷ []) ≡ suc (length begins)
   longer begins w = omega (arith, length-append begins (w ∷ []))
@@ -72,18 +62,7 @@ module _ (s : Setting) (rule : World → ℕ) where
 
   one_list : {begins starts : List World} {w v : World} → AreWindows s rule begins w → IsOver s w → AreWindows s rule starts v → IsOver s v
       → (begins ≡ starts) × (w ≡ v)
-  one_list {begins} {starts} {w} {v} a over b done = elim (nat_lt (length begins) (length starts)) as
-      (λ t. nat_lt (length begins) (length starts) ≡ t → (begins ≡ starts) × (w ≡ v)) [
-        | true ↦ λ q. absurd (not_fewer a over b (ltb-true _ _ q))
-        | false ↦ λ q. (elim (nat_lt (length starts) (length begins)) as
-            (λ t. nat_lt (length starts) (length begins) ≡ t → (begins ≡ starts) × (w ≡ v)) [
-              | true ↦ λ r. absurd (not_fewer b done a (ltb-true _ _ r))
-              | false ↦ λ r.
-                  let le : length starts ≤ length begins = ltb-false _ _ q in
-                  let ge : length begins ≤ length starts = ltb-false _ _ r in
-                  as_many a b (omega arith)
-            ] refl)
-      ] refl
+  one_list {begins} {starts} {w} {v} a over b done = grind (arith, not_fewer, as_many)
 
   module _ (fit : IsFit s) (ends : IsEndRule s rule) where
     moves_on : (w v : World) (e : Event) → IsReached s w → IsNext s w e → IsFirstQuiet s (rule w) w v → start_of s w < start_of s v
@@ -191,11 +170,7 @@ rest_of_run s n m w v h g idle = elim (nat_lt m n) as (λ b. nat_lt m n ≡ b �
 ] refl
 
 pub window_traces_are_prefixes : WindowTracesArePrefixes
-window_traces_are_prefixes s rule begins w v fit chain last =
-    let reached = chain_reached s rule chain in
-    let more = rest_of_run s reached.0 last.reached.0 w v reached.1 last.reached.1 last.idle in
-    let part = part_rows s fit more.0 w v more.1 in
-    (part.0, part.2)
+window_traces_are_prefixes s rule begins w v fit chain last = grind (arith, chain_reached, rest_of_run, part_rows)
 
 pub windows_are_one : WindowsAreOne
 windows_are_one s rule begins starts w v a over b done = one_list s rule a over b done

@@ -1,6 +1,6 @@
 -- Where windows begin and end.
 use Rattle.std.proofs.Common.{◌≡◌, ℕ, ◌<◌, ◌≤◌, ◌+◌, true, false, List, [], ◌∷◌, refl, sym, ap, ◌∙◌, arith, Option, Some, None, unwrap_or}
-use Rattle.std.proofs.Common.{nat_lt, lt-ltb, le-ltb, ltb-false}
+use Rattle.std.proofs.Common.{nat_lt, ltb-false}
 use Rattle.std.proofs.lemmas.Option.{same_Some}
 use Rattle.srm_net.specs.Least.{least_delay}
 use Rattle.srm_net.proofs.LawProofs.{least_delay_fits}
@@ -22,11 +22,7 @@ use Rattle.srm_model.proofs.RunLemmas.{least_own}
 
 starts_by : (until : ℕ) (x : Option Event) → (unwrap_or (time_of x) until < until → (e : Event) × (before until x ≡ Some e)
     × (e.key.time ≡ unwrap_or (time_of x) until)) × (until ≤ unwrap_or (time_of x) until → before until x ≡ None)
-starts_by until None = (λ lt. absurd (omega arith), λ le. refl)
-starts_by until (Some e) = (
-  λ lt. (e, ap (λ b. keep b e) (lt-ltb e.key.time until lt), refl),
-  λ le. ap (λ b. keep b e) (le-ltb e.key.time until le),
-)
+starts_by until x = grind arith
 
 pub starts_tell : StartsTell
 starts_tell s w = starts_by s.traffic.until (least_event 0 w.cells)

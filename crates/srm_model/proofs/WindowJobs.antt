@@ -1,4 +1,5 @@
 -- The jobs of a window, and the crossings of their rows.
+use Rattle.std.proofs.lemmas.Grind.{common_steps}
 use Rattle.std.proofs.Common.{◌≡◌, ℕ, zero, suc, ◌<◌, ◌≤◌, ◌+◌, ◌*◌, Bool, cond, inl, inr, slice_get, zero-add, le_refl, ◌&&◌, ◌==◌, List}
 use Rattle.std.proofs.Common.{[], ◌∷◌, ◌++◌, length, take, drop, map, refl, sym, ap, ◌∙◌, subst, arith, Option, Some, None}
 use Rattle.std.proofs.Common.{length-drop, add-zero}
@@ -41,14 +42,7 @@ enough (suc n) (suc k) cut till place (c ∷ cs) pos le ge =
     (enough n k cut till (suc place) (drop cut (c ∷ cs)) pos (shorter cut n c cs pos le) (shorter cut k c cs pos ge))
 
 pub jobs_are_runs : JobsAreRuns
-jobs_are_runs cut till place pos = (
-  refl,
-  λ c cs.
-      let short = shorter cut (length cs) c cs pos (le_refl (length (c ∷ cs))) in
-      ap (λ js. record { place = place; till = till; cells = take cut (c ∷ cs) } ∷ js)
-      (enough (length cs) (length (drop cut (c ∷ cs))) cut till (suc place) (drop cut (c ∷ cs)) pos short
-      (le_refl (length (drop cut (c ∷ cs))))),
-)
+jobs_are_runs cut till place pos = grind (arith, common_steps, enough)
 
 few_jobs : (n cut till place : ℕ) (cs : List PlainCell) → 0 < cut → length (jobs_within n cut till place cs) ≤ length cs
 few_jobs n cut till place [] pos = le_refl 0
@@ -149,9 +143,7 @@ jobs_full (suc n) cut end place i (c ∷ cs) pos le (inr h) =
     )
 
 pub jobs_refuse : JobsRefuse
-jobs_refuse w cut end pos h =
-    let r = jobs_full (length w.cells) cut end 0 0 w.cells pos (le_refl (length w.cells)) h in
-    (r.0, (r.1, r.2, subst (λ m. MeetsFull end m r.1) (zero-add r.0) r.3))
+jobs_refuse w cut end pos h = grind (arith, jobs_full)
 
 -- ---- crossings in any order
 
@@ -199,8 +191,4 @@ crossings-joined s (rows ∷ lists) = ap (added_each (crossings s.traffic rows))
     ∙ sym (crossings_add s.traffic rows (joined lists))
 
 pub crossings_are_totals : CrossingsAreTotals
-crossings_are_totals s trace rows rss merge =
-    let all : crossings_of_all s.traffic (job_rows rss) ≡ crossings s.traffic rows =
-    crossings-joined s (job_rows rss) ∙ ap (crossings s.traffic) (joined-jobs rss)
-    ∙ crossings_keep s (joined (rows_in (joined rss))) rows merge.all in
-    ap (added_each (crossings s.traffic trace)) all ∙ sym (crossings_add s.traffic trace rows)
+crossings_are_totals s trace rows rss merge = grind (arith, crossings-joined, joined-jobs, crossings_keep, crossings_add)

@@ -1,33 +1,31 @@
 -- The packets of a window's rows are new to every cell that hears them one after the other.
-use Rattle.std.proofs.Common.{◌≡◌, ◌≢◌, ℕ, zero, suc, ◌<◌, ◌+◌, true, List, [], ◌∷◌, ◌++◌, refl, sym, ap, ◌∙◌, subst, arith, Option, Some}
-use Rattle.std.proofs.Common.{None, option_map, slice_get, add-zero, append_assoc, ◌==◌, eq-eqb}
+use Rattle.std.proofs.lemmas.Grind.{common_steps}
+use Rattle.std.proofs.Common.{◌≡◌, ◌≢◌, ℕ, zero, suc, ◌<◌, ◌+◌, List, [], ◌∷◌, ◌++◌, refl, sym, ap, ◌∙◌, subst, arith, Option, Some}
+use Rattle.std.proofs.Common.{None, option_map, slice_get, add-zero, append_assoc}
 use Rattle.std.specs.List.{Contains}
-use Rattle.std.proofs.lemmas.List.Sums.{sum_by-append}
 use Rattle.std.proofs.lemmas.List.Elements.{Contains-append_left, Contains-append_right}
 use Rattle.std.proofs.lemmas.Option.{same_Some}
 use Rattle.srm_net.specs.declared.key.Key.{Key}
 use Rattle.srm_net.specs.declared.packet.PacketId.{PacketId}
 use Rattle.srm_net.specs.declared.packet.Packet.{Packet}
-use Rattle.srm_net.proofs.Basics.{one_if}
 use Rattle.srm_member.specs.declared.row.Row.{Row}
 use Rattle.srm_member.proofs.AllIn.{AllIn, AllIn-second, AllIn-place, AllIn-weaker}
 use Rattle.srm_cell.specs.declared.flight.Flight.{Flight}
 use Rattle.srm_cell.specs.Flights.{BringsNone, flight_cmp}
 use Rattle.srm_cell.specs.Setting.{Setting, IsFit, arrival_of}
-use Rattle.srm_cell.specs.Cells.{PlainCell, StepOutcome, Idle, Full, Spent, Done, Stepped, before, next_event, own_step, step_at, hear}
+use Rattle.srm_cell.specs.Cells.{PlainCell, StepOutcome, Idle, Full, Spent, Done, Stepped, before, own_step, hear}
 use Rattle.srm_cell.specs.Cells.{hear_at}
 use Rattle.srm_cell.specs.OwnRuns.{hear_rows, own_after, told_to}
 use Rattle.srm_cell.proofs.CellSteps.{before_some}
-use Rattle.srm_cell.proofs.Clear.{RestOf, StepOf, next_rest, step_is_of, all_tail}
+use Rattle.srm_cell.proofs.Clear.{next_rest, step_is_of}
 use Rattle.srm_cell.proofs.OwnRunLemmas.{after_by, after_first}
-use Rattle.srm_cell.proofs.Rising.{OnEvent, OnStep, before_on}
 use Rattle.srm_model.specs.World.{World, least_event, IsReached}
-use Rattle.srm_model.specs.Handed.{SentIn, is_sending, sending_count}
+use Rattle.srm_model.specs.Handed.{SentIn, sending_count}
 use Rattle.srm_model.specs.Hearing.{IsUnheard}
 use Rattle.srm_model.specs.WindowRuns.{OwnResult, AreOwnRuns, cells_in, each_hears, after_window, IsWindow}
 use Rattle.srm_model.specs.WindowLaws.{WindowPacketsAreNew}
 use Rattle.srm_model.proofs.HandedOnce.{handed_reached, packets_are_numbered, IsFlight}
-use Rattle.srm_model.proofs.TraceRows.{contains_none, count_first, sent_more}
+use Rattle.srm_model.proofs.TraceRows.{contains_none, sent_more}
 use Rattle.srm_model.proofs.OneWindow.{new_rows_are, part_rows, windows_agree}
 use Rattle.srm_model.proofs.RunLemmas.{Seq, rest, next, shifted}
 use Rattle.srm_model.proofs.Sequential.{Good, good_reached, good_step, member_below, step_facts}
@@ -60,13 +58,7 @@ split_at (y ∷ ys) x (suc k, l, e) = let r = split_at ys x (k, omega arith, e) 
 
 counted_more : (m : ℕ) (before : List Row) (r : Row) (after : List Row) (p : Packet) → r.key.member ≡ m → r.sent ≡ Some p
     → sending_count m before < sending_count m (before ++ r ∷ after)
-counted_more m before r after p member sent =
-    let all : sending_count m (before ++ r ∷ after) ≡ sending_count m before + sending_count m (r ∷ after) =
-    sum_by-append _ before (r ∷ after) in
-    let first : sending_count m (r ∷ after) ≡ one_if (is_sending m r) + sending_count m after = count_first (is_sending m) r after in
-    let mine : (r.key.member == m) ≡ true = eq-eqb _ _ member in
-    let one : one_if (is_sending m r) ≡ 1 = simp (mine, sent) in
-    omega arith
+counted_more m before r after p member sent = grind (arith, common_steps)
 
 module _ (s : Setting) (v : World) (reached : IsReached s v) (earlier after : List Row) (r : Row) (p : Packet)
     (split : v.trace ≡ earlier ++ r ∷ after) (sent : r.sent ≡ Some p) where
@@ -90,14 +82,7 @@ module _ (s : Setting) (v : World) (reached : IsReached s v) (earlier after : Li
 module _ (Q : Flight → Type 0) where
   step_keeps : (end m : ℕ) (c : PlainCell) (d : Stepped) → own_step end m c ≡ Done d → AllIn Q c.inbox → AllIn Q d.cell.inbox
   unfolding own_step
-  step_keeps end m c d h a = elim (before end (next_event m c)) as (λ o. before end (next_event m c) ≡ o → AllIn Q d.cell.inbox) [
-    | None ↦ λ e. let x : Idle ≡ Done d = sym (ap step_at e) ∙ h in cc
-    | Some e ↦ λ b.
-        let x : step_at (Some e) ≡ Done d = sym (ap step_at b) ∙ h in
-        let did = subst (OnStep (StepOf e)) x (step_is_of e) in
-        let of = subst (OnEvent (RestOf c)) b (before_on (RestOf c) end (next_event m c) (next_rest m c)) in
-        subst (AllIn Q) (sym did.inbox) (all_tail Q e.rest.inbox c.inbox of.inbox a)
-  ] refl
+  step_keeps end m c d h a = grind (arith, step_is_of, next_rest)
 
   run_keeps : (end m n : ℕ) (c : PlainCell) → AllIn Q c.inbox → AllIn Q (own_after end m n c).inbox
   unfolding own_after

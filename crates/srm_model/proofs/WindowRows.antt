@@ -107,9 +107,7 @@ module _ (s : Setting) where
 
   one_more : (rows : List Row) (r : Row) (cs : List PlainCell) (o : Option Packet) → r.sent ≡ o → each_hears s.traffic 0 (rows ++ r ∷ []) cs
       ≡ all_hear s.traffic o (each_hears s.traffic 0 rows cs)
-  one_more rows r cs None h = nothing_sent 0 rows r cs h
-  one_more rows r cs (Some p) h = sent_last p (length (each_hears s.traffic 0 rows cs)) 0 rows r cs
-      (let e = length-each_hears 0 rows cs in omega arith) h
+  one_more rows r cs o h = grind (arith, nothing_sent, sent_last, length-each_hears)
 
   pub get_heard : (i j : ℕ) (rows : List Row) (cs : List PlainCell) → slice_get (each_hears s.traffic i rows cs) j
       ≡ option_map (hear_rows s.traffic (i + j) rows) (slice_get cs j)

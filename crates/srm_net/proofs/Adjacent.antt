@@ -1,7 +1,7 @@
 -- The links that meet a node, found one after the other.
-use Rattle.std.proofs.Common.{◌≡◌, ℕ, zero, suc, ◌+◌, ◌<◌, ◌≤◌, true, false, List, [], ◌∷◌, ◌++◌, length, Some, refl, sym, ap, ◌∙◌}
-use Rattle.std.proofs.Common.{subst, inl, inr, arith, eqb, eq-eqb, eqb-true, slice_get, slice_set, get_or, cond}
-use Rattle.std.proofs.lemmas.Bool.{ne_eqb, cases_Bool, cases_eq, cases_lt, both_ways, or_cases, or_left, or_right, or_from}
+use Rattle.std.proofs.Common.{◌≡◌, ℕ, zero, suc, ◌+◌, ◌<◌, ◌≤◌, true, false, List, [], ◌∷◌, ◌++◌, length, Some, sym, ap, ◌∙◌}
+use Rattle.std.proofs.Common.{subst, inl, inr, arith, eqb, eq-eqb, slice_get, slice_set, get_or, cond}
+use Rattle.std.proofs.lemmas.Bool.{cases_Bool, cases_eq, cases_lt, both_ways, or_left, or_right}
 use Rattle.std.proofs.lemmas.List.{get_or-set_same, get_or-set_other, length-set}
 use Rattle.srm_net.specs.declared.link.LinkSpec.{LinkSpec}
 use Rattle.srm_net.specs.declared.earlier.Earlier.{Earlier}
@@ -19,11 +19,7 @@ meets_joined k u x (inl p) = or_left _ _ (eq-eqb k.a u p.0)
 meets_joined k u x (inr p) = or_right _ _ (eq-eqb k.b u p.0)
 
 pub joins_other : (k : LinkSpec) (u : ℕ) → meets_node u (Some k) ≡ true → Joins k u (far_from k u)
-joins_other k u m =
-    elim (cases_Bool (eqb k.a u)) [
-      | inl e ↦ rw e (inl (eqb-true k.a u e, refl))
-      | inr e ↦ rw e (inr (elim (or_cases _ _ m) [ inl f ↦ absurd (both_ways _ e f) | inr f ↦ eqb-true k.b u f ], refl))
-    ]
+joins_other k u m = grind arith
 
 pub other_is : (k : LinkSpec) (u x : ℕ) → Joins k u x → far_from k u ≡ x
 other_is k u x j = same_far k u (far_from k u) x (joins_other k u (meets_joined k u x j)) j
@@ -67,20 +63,6 @@ last_meets links u (suc n) m e =
           record { below = (let k : m < n = r.below in omega arith); met = r.met })
     ]
 
-last_hit : (links : List LinkSpec) (u n : ℕ) (k : LinkSpec) → slice_get links n ≡ Some k → meets_node u (Some k) ≡ true
-    → last_meeting links u (n + 1) ≡ n + 1
-last_hit links u n k g m =
-    let e : n + 1 ≡ suc n = omega arith in
-    let here : meets_node u (slice_get links n) ≡ true = ap (meets_node u) g ∙ m in
-    ap (last_meeting links u) e ∙ rw here refl
-
-last_kept : (links : List LinkSpec) (u n : ℕ) (k : LinkSpec) → slice_get links n ≡ Some k → meets_node u (Some k) ≡ false
-    → last_meeting links u (n + 1) ≡ last_meeting links u n
-last_kept links u n k g m =
-    let e : n + 1 ≡ suc n = omega arith in
-    let here : meets_node u (slice_get links n) ≡ false = ap (meets_node u) g ∙ m in
-    ap (last_meeting links u) e ∙ rw here refl
-
 -- ---- one link more
 
 -- the last links of nodes, told for the first n links
@@ -90,22 +72,7 @@ LastTold links n xs = (u : ℕ) → u < length xs → get_or xs u 0 ≡ last_mee
 pub last_set : (links : List LinkSpec) (n : ℕ) (k : LinkSpec) (xs : List ℕ) → slice_get links n ≡ Some k → k.a < length xs
     → k.b < length xs → LastTold links n xs
     → LastTold links (n + 1) (slice_set (slice_set xs k.a (n + 1)) k.b (n + 1))
-last_set links n k xs g ha hb t u lt =
-    let ys = slice_set xs k.a (n + 1) in
-    let long : length ys ≡ length xs = length-set xs k.a (n + 1) in
-    let long2 : length (slice_set ys k.b (n + 1)) ≡ length ys = length-set ys k.b (n + 1) in
-    let within : k.b < length ys = omega arith in
-    elim (cases_eq k.b u) [
-      | inl e ↦ subst (λ v. get_or (slice_set ys k.b (n + 1)) v 0 ≡ last_meeting links v (n + 1)) e
-          (get_or-set_same ys k.b (n + 1) 0 within ∙ sym (last_hit links k.b n k g (or_right _ _ (eq-eqb k.b k.b refl))))
-      | inr d ↦ get_or-set_other ys k.b u (n + 1) 0 (λ e. d (sym e)) ∙
-          elim (cases_eq k.a u) [
-            | inl e ↦ subst (λ v. get_or ys v 0 ≡ last_meeting links v (n + 1)) e
-                (get_or-set_same xs k.a (n + 1) 0 ha ∙ sym (last_hit links k.a n k g (or_left _ _ (eq-eqb k.a k.a refl))))
-            | inr f ↦ get_or-set_other xs k.a u (n + 1) 0 (λ e. f (sym e)) ∙ t u (omega arith)
-                ∙ sym (last_kept links u n k g (or_from _ _ (ne_eqb k.a u f) (ne_eqb k.b u d)))
-          ]
-    ]
+last_set links n k xs g ha hb t u lt = grind (arith, length-set, get_or-set_same, get_or-set_other)
 
 -- what is told of the first n links
 abbrev pub EarlierTold : List LinkSpec → ℕ → List Earlier → Type 0
@@ -114,13 +81,7 @@ EarlierTold links n es =
 
 pub earlier_push : (links : List LinkSpec) (n : ℕ) (k : LinkSpec) (es : List Earlier) (e : Earlier) → length es ≡ n
     → slice_get links n ≡ Some k → TellsEarlier links n k e → EarlierTold links n es → EarlierTold links (n + 1) (es ++ e ∷ [])
-earlier_push links n k es e long g new t l j lt h =
-    elim (cases_eq l n) [
-      | inl q ↦ (let same : k ≡ j = (let r : Some k ≡ Some j = sym g ∙ subst (λ m. slice_get links m ≡ Some j) q h in cc) in
-          subst (λ m. (f : Earlier) × (slice_get (es ++ e ∷ []) m ≡ Some f) × TellsEarlier links m j f) (sym q)
-          (e, get_push_new es e n long, subst (λ i. TellsEarlier links n i e) same new))
-      | inr q ↦ (let o = t l j (omega arith) h in (o.0, get_push_old es e l (omega arith) ∙ o.1, o.2))
-    ]
+earlier_push links n k es e long g new t l j lt h = grind (arith, get_push_new, get_push_old)
 
 -- ---- one link after the other
 
@@ -146,24 +107,13 @@ turn_told links u n next m le e f =
 -- what is told of the link's end is the link before
 pub before_is : (links : List LinkSpec) (u l : ℕ) (k : LinkSpec) (e : Earlier) → meets_node u (Some k) ≡ true → TellsEarlier links l k e
     → cond (eqb k.a u) e.a e.b ≡ last_meeting links u l
-before_is links u l k e m t =
-    elim (cases_Bool (eqb k.a u)) [
-      | inl p ↦ rw p (t.a ∙ ap (λ v. last_meeting links v l) (eqb-true k.a u p))
-      | inr p ↦
-          (let q : k.b ≡ u = elim (or_cases _ _ m) [ inl f ↦ absurd (both_ways _ p f) | inr f ↦ eqb-true k.b u f ] in
-          rw p (t.b ∙ ap (λ v. last_meeting links v l) q))
-    ]
+before_is links u l k e m t = grind arith
 
 -- the same as it is read
 pub before_told : (nodes : ℕ) (links : List LinkSpec) (u m i j : ℕ) (t : Adjacency) (r : Earlier) (v : ℕ) → TellsLinks nodes links t
     → Turn links u m → i ≡ m → j ≡ m → r ≡ get_or t.earlier.items j r → v ≡ cond (eqb (get_or links i no_link).a u) r.a r.b
     → v ≡ last_meeting links u m
-before_told nodes links u m i j t r v told turn p q e f =
-    let k = get_or links m no_link in
-    let o = told.earlier m k turn.link in
-    let same : r ≡ o.0 = e ∙ ap (λ n. get_or t.earlier.items n r) q ∙ get_index t.earlier.items m o.0 r o.1 in
-    f ∙ ap (λ n. cond (eqb (get_or links n no_link).a u) r.a r.b) p ∙ ap (λ (h : Earlier). cond (eqb k.a u) h.a h.b) same
-    ∙ before_is links u m k o.0 turn.meets_it o.2
+before_told nodes links u m i j t r v told turn p q e f = grind (arith, get_index)
 
 -- after a link, those that were not told yet are before it
 pub told_from : (links : List LinkSpec) (u before m l : ℕ) (k : LinkSpec) (x : ℕ) → before ≡ last_meeting links u m → before ≤ l

@@ -1,10 +1,10 @@
 -- When a packet comes to the nodes of a tree.
 use Rattle.std.proofs.Common.{◌≡◌, ◌≢◌, ℕ, ◌+◌, ◌-◌, ◌^◌, ◌<◌, ◌≤◌, Bool, true, false, not, ◌&&◌, List, Option, Some, None, length}
 use Rattle.std.proofs.Common.{refl, sym, ap, ◌∙◌, subst, inl, inr, arith, slice_get, slice_set, if◌then◌else◌, is_some, IfSome}
-use Rattle.std.proofs.lemmas.Bool.{cases_eq, cases_lt, both_ways}
+use Rattle.std.proofs.lemmas.Bool.{cases_eq, cases_lt}
 use Rattle.std.proofs.lemmas.List.{length-set}
 use Rattle.srm_net.specs.declared.position.Position.{Position}
-use Rattle.srm_net.specs.Limits.{end_of_time, greatest_distance}
+use Rattle.srm_net.specs.Limits.{end_of_time}
 use Rattle.srm_net.specs.Network.{Network, IsTree, IsNetwork}
 use Rattle.srm_net.specs.Paths.{route, delay_of, delay_along, Stop, stop}
 use Rattle.srm_net.specs.Rooting.{takes, at, IsRooted, IsFirstLink, IsHeld, IsInOrder}
@@ -19,19 +19,10 @@ use Rattle.srm_net.proofs.Firsts.{parent_held, held_by_parent, held_itself, firs
 
 -- ---- from one node to the next
 
-some_where : (b : Bool) (n : ℕ) → is_some (if b then Some n else None) ≡ b
-some_where true n = refl
-some_where false n = refl
-
 -- it comes where it is told when
 pub told_where : (w : Network) (out : Stop → Bool) (u t : ℕ) (arrivals : List (Option ℕ)) → TellsArrivals w out u t arrivals
     → (i : ℕ) (a : Option ℕ) → slice_get arrivals i ≡ Some a → is_some a ≡ comes_to w out u t i
-told_where w out u t arrivals told i a g =
-    let size : length arrivals ≡ w.nodes = told.nodes in
-    let within = get_below arrivals i a g in
-    let same : Some a ≡ Some (arrival w out u t i) = sym g ∙ told.each i (omega arith) in
-    let e : a ≡ arrival w out u t i = cc in
-    ap is_some e ∙ some_where (comes_to w out u t i) (t + takes w u i)
+told_where w out u t arrivals told i a g = grind (arith, get_below)
 
 turned_over : (o : Bool) (n : ℕ) → (if not o then Some n else None) ≡ (if o then None else Some n)
 turned_over true n = refl
@@ -61,14 +52,7 @@ comes_over w n out u t y x l ticks hu hx f e =
     }
 
 pub home : (w : Network) (out : Stop → Bool) (u t : ℕ) → arrival w out u t u ≡ Some t
-home w out u t =
-    let none = takes_nothing w u in
-    let same : t + takes w u u ≡ t = omega arith in
-    ap (λ b. if b then Some (t + takes w u u) else None) (comes_home w out u t) ∙ ap Some same
-
-held_back : (b : Bool) (n m : ℕ) → n < m → (ticks : ℕ) → n + ticks < m → IfSome (if b then Some n else None) (λ k. k + ticks < m)
-held_back true n m h ticks e = e
-held_back false n m h ticks e = tt
+home w out u t = grind (arith, takes_nothing, comes_home)
 
 pub less_of : (n i : ℕ) → n ≢ i → n < i + 1 → n < i
 less_of n i d h = elim (cases_lt n i) [ inl e ↦ e | inr e ↦ absurd (d (omega arith)) ]
@@ -76,10 +60,7 @@ less_of n i d h = elim (cases_lt n i) [ inl e ↦ e | inr e ↦ absurd (d (omega
 -- it comes in time
 pub soon : (w : Network) → IsNetwork w → (out : Stop → Bool) (u t y x l ticks : ℕ) → u < w.nodes → x < w.nodes → t < end_of_time
     → Comes w out u t y x l ticks → IfSome (arrival w out u t y) (λ k. k + ticks < 2 ^ 64)
-soon w n out u t y x l ticks hu hx ht c =
-    let most : takes w u x ≤ greatest_distance = delay_bounded w n u x hu hx in
-    let e : takes w u x ≡ takes w u y + ticks = c.takes_is in
-    held_back (comes_to w out u t y) (t + takes w u y) (2 ^ 64) (omega arith) ticks (omega arith)
+soon w n out u t y x l ticks hu hx ht c = grind (arith, delay_bounded)
 
 -- a position is held by another, or not, as they are read
 pub held_read : (ps : List Position) (x u : ℕ) (here from : Position) → here ≡ at ps x → from ≡ at ps u → IsHeld here from
@@ -88,13 +69,7 @@ held_read ps x u here from e f h = subst (λ (q : Position). IsHeld q (at ps u))
 
 pub not_held_read : (ps : List Position) (x u : ℕ) (here from : Position) (b : Bool) → here ≡ at ps x → from ≡ at ps u
     → (here.place ≤ from.place → from.place < here.end → b ≡ true) → b ≡ false → IsHeld (at ps x) (at ps u) → ⊥
-not_held_read ps x u here from b e f whole n held =
-    let place : here.place ≡ (at ps x).place = ap (λ (q : Position). q.place) e in
-    let end : here.end ≡ (at ps x).end = ap (λ (q : Position). q.end) e in
-    let other : from.place ≡ (at ps u).place = ap (λ (q : Position). q.place) f in
-    let h0 : (at ps x).place ≤ (at ps u).place = held.0 in
-    let h1 : (at ps u).place < (at ps x).end = held.1 in
-    both_ways _ n (whole (omega arith) (omega arith))
+not_held_read ps x u here from b e f whole n held = grind arith
 
 module _ (w : Network) (ps : List Position) (r : IsRooted w ps) where
   -- a node but the root, and its parent

@@ -1,6 +1,6 @@
 -- Lemmas that several crates use: of tests, comparisons, lists of numbers, and lists that are kept in order.
 use Rattle.std.proofs.Common.{◌≡◌, ℕ, zero, suc, ◌+◌, Bool, true, false, cond, ◌&&◌, ◌||◌, T, List, [], ◌∷◌, ◌++◌, refl, sym, arith}
-use Rattle.std.proofs.Common.{Ordering, Less, Equal, Greater, is_lt, nat_cmp}
+use Rattle.std.proofs.Common.{Ordering, Less, Equal, is_lt, nat_cmp}
 use Rattle.std.specs.Cmp.{IsTotalOrder}
 use Rattle.std.specs.FinMap.{slice_cmp-IsAntisymmetric, nat_cmp-IsAntisymmetric}
 use Rattle.std.specs.Cmp.Lexicographic.{slice_cmp}
@@ -40,29 +40,17 @@ count_last q xs y = let e = sum_by-append (λ x. cond (q x) 1 0) xs (y ∷ []) i
 -- ---- comparisons
 
 pub is_Less : (r : Ordering) → is_lt r ≡ true → r ≡ Less
-is_Less Less h = refl
-is_Less Equal h = cc
-is_Less Greater h = cc
+is_Less r h = grind arith
 
 pub is_Equal : (r : Ordering) → is_eq r ≡ true → r ≡ Equal
-is_Equal Less h = cc
-is_Equal Equal h = refl
-is_Equal Greater h = cc
+is_Equal r h = grind arith
 
 pub T_less : (r : Ordering) → T (is_lt r) → r ≡ Less
-T_less Less h = refl
-T_less Equal h = absurd h
-T_less Greater h = absurd h
+T_less r h = grind arith
 
 -- three comparisons, grouped to the left
 pub regrouped : (a b c : Ordering) → ordering_then (ordering_then a b) c ≡ ordering_then a (ordering_then b (ordering_then c Equal))
-regrouped Less b c = refl
-regrouped Equal Less c = refl
-regrouped Equal Equal Less = refl
-regrouped Equal Equal Equal = refl
-regrouped Equal Equal Greater = refl
-regrouped Equal Greater c = refl
-regrouped Greater b c = refl
+regrouped a b c = grind arith
 
 pub nat_cmp_self : (n : ℕ) → nat_cmp n n ≡ Equal
 nat_cmp_self n = tied_itself nat_cmp_total n

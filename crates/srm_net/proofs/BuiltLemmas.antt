@@ -1,4 +1,5 @@
 -- What the positions of a built tree give, and what comes to a link.
+use Rattle.std.proofs.Common.{arith}
 use Rattle.std.proofs.Common.{◌≡◌, ℕ, ◌+◌, ◌<◌, Bool, true, false, not, ◌&&◌, length, Some, refl, sym, ap, ◌∙◌, subst}
 use Rattle.std.proofs.Common.{slice_get}
 use Rattle.std.specs.List.{list_any}
@@ -33,9 +34,7 @@ link_seen n m e l k g = ap (λ (w : Network). slice_get w.links l) e ∙ g
 
 pub beyond_seen : (n m : Network) → n ≡ m → (l x : ℕ) (j k : LinkSpec) → slice_get m.links l ≡ Some j → slice_get m.links l ≡ Some k
     → is_beyond n l j x ≡ is_beyond m l k x
-beyond_seen n m e l x j k g h =
-    let same : j ≡ k = (let s : Some j ≡ Some k = sym g ∙ h in cc) in
-    ap (λ (w : Network). is_beyond w l j x) e ∙ ap (λ (i : LinkSpec). is_beyond m l i x) same
+beyond_seen n m e l x j k g h = grind arith
 
 -- the positions of the nodes of a built tree are told
 pub rooted_in : (n : Inside) → IsBuilt n → IsRooted (network_inside n) n.rooted.positions.items
@@ -49,10 +48,6 @@ pub position_there : (n : Inside) → IsBuilt n → (u : ℕ) → u < n.nodes �
 position_there n i u hu = subst (λ m. u < m) (sym (rooted_in n i).long) hu
 
 -- ---- what comes to a link
-
-and_true : (b : Bool) → (b && true) ≡ b
-and_true true = refl
-and_true false = refl
 
 pub and_false : (b : Bool) → (b && false) ≡ false
 and_false true = refl
@@ -93,14 +88,8 @@ module _ (w : Network) (n : IsNetwork w) (l u near sent : ℕ) (any : Bool) (rul
   -- at a link to which it comes
   pub comes_there : comes ≡ true → (crosses w rules p sent l ≡ not (takes_out rules p stop_there))
       × (drops_at w rules p sent l ≡ takes_out rules p stop_there)
-  comes_there h = (
-    told_crossed ∙ ap (λ b. not (takes_out rules p stop_there) && b) h ∙ and_true (not (takes_out rules p stop_there)),
-    told_dropped ∙ ap (λ b. takes_out rules p stop_there && b) h ∙ and_true (takes_out rules p stop_there),
-  )
+  comes_there h = grind (arith, told_crossed, told_dropped)
 
   -- and at one to which it does not
   pub comes_not : comes ≡ false → (crosses w rules p sent l ≡ false) × (drops_at w rules p sent l ≡ false)
-  comes_not h = (
-    told_crossed ∙ ap (λ b. not (takes_out rules p stop_there) && b) h ∙ and_false (not (takes_out rules p stop_there)),
-    told_dropped ∙ ap (λ b. takes_out rules p stop_there && b) h ∙ and_false (takes_out rules p stop_there),
-  )
+  comes_not h = grind (arith, told_crossed, told_dropped)

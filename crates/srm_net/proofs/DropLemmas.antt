@@ -1,11 +1,10 @@
 -- Sets of drops, and what their lists have.
-use Rattle.std.proofs.Common.{◌≡◌, ℕ, zero, suc, ◌<◌, Bool, true, false, cond, ◌&&◌, ◌||◌, ◌==◌, List, [], ◌∷◌, ◌++◌, length, refl, sym, ap}
-use Rattle.std.proofs.Common.{◌∙◌, inl, inr, arith, eqb, eq-eqb, eqb-true, Contains, Ordering, Less, Equal, Greater}
+use Rattle.std.proofs.Common.{◌≡◌, ℕ, zero, suc, ◌<◌, Bool, true, false, cond, ◌&&◌, ◌||◌, ◌==◌, List, [], ◌∷◌, ◌++◌, length, refl, ap}
+use Rattle.std.proofs.Common.{◌∙◌, inl, inr, arith, eqb, eq-eqb, Contains, Ordering, Less, Equal, Greater}
 use Rattle.std.specs.List.{list_any}
 use Rattle.std.specs.Ordering.{match_ordering, ordering_reverse}
 use Rattle.std.specs.Cmp.{IsTotalOrder}
-use Rattle.std.specs.FinMap.{slice_cmp-IsAntisymmetric, nat_cmp-IsAntisymmetric}
-use Rattle.std.proofs.lemmas.Bool.{both_ways, false_from_ne_true, ne_eqb, cases_Bool, cases_eq, and_parts, and_from, or_cases, or_left}
+use Rattle.std.proofs.lemmas.Bool.{both_ways, false_from_ne_true, and_parts, and_from, or_cases, or_left}
 use Rattle.std.proofs.lemmas.Bool.{or_right, false≢true}
 use Rattle.srm_net.specs.declared.link.DropSpec.{DropSpec}
 use Rattle.srm_net.specs.declared.packet.PacketId.{PacketId}
@@ -66,24 +65,14 @@ pub drops_ascend : (ds : List DropSpec) → Ascends drop_cmp (ordered_once drop_
 drops_ascend ds = ordered_ascends drop_cmp drop_total ds
 
 same_drop : (d e : DropSpec) → drop_cmp d e ≡ Equal → d ≡ e
-same_drop d e h =
-    let q : d.link ∷ d.id.sender ∷ d.id.count ∷ [] ≡ e.link ∷ e.id.sender ∷ e.id.count ∷ [] =
-    slice_cmp-IsAntisymmetric nat_cmp-IsAntisymmetric _ _ h in
-    let a : d.link ≡ e.link = cc in
-    let b : d.id.sender ≡ e.id.sender = cc in
-    let c : d.id.count ≡ e.id.count = cc in
-    λ i. record { link = a i; id = record { sender = b i; count = c i } }
+same_drop d e h = grind arith
 
 pub listed_ordered : (ds : List DropSpec) (p : PacketId) (l : ℕ) → is_listed (ordered_once drop_cmp ds) p l ≡ is_listed ds p l
 listed_ordered ds p l = any_ordered drop_cmp (λ d. (d.link == l) && ((d.id.sender == p.sender) && (d.id.count == p.count)))
     (λ x y h. ap (λ d. (d.link == l) && ((d.id.sender == p.sender) && (d.id.count == p.count))) (same_drop x y h)) ds
 
 eqb_turn : (a b : ℕ) → eqb a b ≡ eqb b a
-eqb_turn a b = elim (cases_eq a b) [
-  | inl e ↦ eq-eqb a b e ∙ sym (eq-eqb b a (sym e))
-  | inr n ↦ ne_eqb a b n
-      ∙ sym (ne_eqb b a (λ e. n (sym e)))
-]
+eqb_turn a b = grind arith
 
 -- the test by which a set of drops looks for an entry
 abbrev pub sought : PacketId → ℕ → DropSpec → Bool
@@ -101,13 +90,7 @@ listed_sought (d ∷ ds) p l =
 
 pub listed_drop : (d : DropSpec) (p : PacketId) (l : ℕ) → ((d.link == l) && ((d.id.sender == p.sender) && (d.id.count == p.count))) ≡ true
     → d ≡ record { link = l; id = p }
-listed_drop d p l h =
-    let m = and_parts _ _ h in
-    let n = and_parts _ _ m.1 in
-    let a : d.link ≡ l = eqb-true _ _ m.0 in
-    let b : d.id.sender ≡ p.sender = eqb-true _ _ n.0 in
-    let c : d.id.count ≡ p.count = eqb-true _ _ n.1 in
-    λ i. record { link = a i; id = record { sender = b i; count = c i } }
+listed_drop d p l h = grind arith
 
 pub contains_listed : (ds : List DropSpec) (d : DropSpec) → is_listed ds d.id d.link ≡ true → Contains ds d
 contains_listed [] d h = absurd (false≢true h)
@@ -140,16 +123,12 @@ any_push f (y ∷ ys) x = ap (λ t. f y || t) (any_push f ys x) ∙ turn (f y) (
 pub listed_more : (old new : List DropSpec) (d : DropSpec) (xs : List DropSpec) (p : PacketId) (l : ℕ)
     → list_any (sought p l) new ≡ cond (sought d.id d.link (record { link = l; id = p })) true (list_any (sought p l) old)
     → is_listed old p l ≡ is_listed xs p l → is_listed new p l ≡ is_listed (xs ++ d ∷ []) p l
-listed_more old new d xs p l h e =
-    sym (listed_sought new p l) ∙ h ∙ ap (λ t. cond (sought d.id d.link (record { link = l; id = p })) true t) (listed_sought old p l ∙ e)
-    ∙ sym (any_push (λ d. (d.link == l) && ((d.id.sender == p.sender) && (d.id.count == p.count))) xs d)
+listed_more old new d xs p l h e = grind (arith, listed_sought, any_push)
 
 pub known_more : (ps qs : List PacketId) (d : DropSpec) (xs : List DropSpec) (p : PacketId)
     → has_packet qs p ≡ cond ((d.id.sender == p.sender) && (d.id.count == p.count)) true (has_packet ps p)
     → has_packet ps p ≡ is_listed_somewhere xs p → has_packet qs p ≡ is_listed_somewhere (xs ++ d ∷ []) p
-known_more ps qs d xs p g e =
-    g ∙ ap (λ t. cond ((d.id.sender == p.sender) && (d.id.count == p.count)) true t) e
-    ∙ sym (any_push (λ d. (d.id.sender == p.sender) && (d.id.count == p.count)) xs d)
+known_more ps qs d xs p g e = grind (arith, any_push)
 
 -- ---- listed at some link
 
@@ -187,9 +166,4 @@ nowhere_listed ds p l h = false_from_ne_true (is_listed ds p l) (λ t. both_ways
 
 pub same_somewhere : (ds es : List DropSpec) (p : PacketId) → ((l : ℕ) → is_listed ds p l ≡ is_listed es p l) → is_listed_somewhere ds p
     ≡ is_listed_somewhere es p
-same_somewhere ds es p h =
-    elim (cases_Bool (is_listed_somewhere ds p)) [
-      | inl t ↦ (let r = somewhere_to ds p t in t ∙ sym (somewhere_from es p r.0 (sym (h r.0) ∙ r.1)))
-      | inr f ↦ f ∙ sym (false_from_ne_true (is_listed_somewhere es p)
-          (λ t. let r = somewhere_to es p t in both_ways (is_listed_somewhere ds p) f (somewhere_from ds p r.0 (h r.0 ∙ r.1))))
-    ]
+same_somewhere ds es p h = grind (arith, somewhere_to, somewhere_from)

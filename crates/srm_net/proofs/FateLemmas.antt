@@ -2,36 +2,29 @@
 use Rattle.std.proofs.Common.{◌≡◌, ℕ, ◌+◌, ◌==◌, ◌<◌, ◌≤◌, Bool, true, false, cond, not, ◌&&◌, ◌||◌, List, [], ◌∷◌, length, Some, refl, sym}
 use Rattle.std.proofs.Common.{ap, ◌∙◌, arith, slice_get, nat_lt, nat_le}
 use Rattle.std.specs.List.{list_any}
-use Rattle.std.proofs.lemmas.Bool.{false_from_ne_true, ltb-true, ltb-false, and_parts, or_parts, or_from}
+use Rattle.std.proofs.lemmas.Bool.{or_parts, or_from}
 use Rattle.srm_net.specs.declared.link.LinkSpec.{LinkSpec}
 use Rattle.srm_net.specs.declared.link.DropSpec.{DropSpec}
 use Rattle.srm_net.specs.declared.link.OutageSpec.{OutageSpec}
 use Rattle.srm_net.specs.declared.packet.PacketId.{PacketId}
 use Rattle.srm_net.specs.Network.{Network, IsNetwork}
-use Rattle.srm_net.specs.Paths.{is_in, host, delay_of, end_of, member_route, is_listed, Stop, stop, stops, takes_out, member_stops}
+use Rattle.srm_net.specs.Paths.{is_in, host, delay_of, end_of, member_route, is_listed, Stop, stop, stops, takes_out}
 use Rattle.srm_net.specs.Paths.{crossed_on, dropped_on, reaches, crosses, drops_at}
 use Rattle.srm_net.specs.DropRules.{DropRules, is_out, some_ends_after, may_drop}
-use Rattle.srm_net.specs.Listed.{is_listed_somewhere}
 use Rattle.srm_net.specs.Tables.{some_beyond}
 use Rattle.srm_net.specs.Fates.{is_on_way}
 use Rattle.srm_net.specs.Laws.{UnlistedReachesAll, UnlistedCrossesItsWays, UnlistedIsNowhereDropped, WithoutOutagesReaches}
 use Rattle.srm_net.specs.Laws.{WithoutOutagesAtAnyTime}
 use Rattle.srm_net.proofs.Lists.{below_get}
 use Rattle.srm_net.proofs.DropLemmas.{nowhere_listed}
-use Rattle.srm_net.proofs.PathLaws.{LinkOf, host_below, on_route, some_same, none_below}
+use Rattle.srm_net.proofs.PathLaws.{on_route, some_same, none_below}
 
 -- ---- a packet that is not dropped
 
 -- an outage that ends at a tick or before is not on at it or later
 off_later : (o : OutageSpec) (sent l t : ℕ) → nat_lt sent o.to ≡ false → sent ≤ t → ((o.link == l) && (nat_le o.from t && nat_lt t o.to))
     ≡ false
-off_later o sent l t h k =
-    false_from_ne_true ((o.link == l) && (nat_le o.from t && nat_lt t o.to)) (λ e.
-    let p = and_parts (o.link == l) (nat_le o.from t && nat_lt t o.to) e in
-    let q = and_parts (nat_le o.from t) (nat_lt t o.to) p.1 in
-    let on : t < o.to = ltb-true t o.to q.1 in
-    let over : o.to ≤ sent = ltb-false sent o.to h in
-    omega arith)
+off_later o sent l t h k = grind arith
 
 none_out : (os : List OutageSpec) (sent l t : ℕ) → some_ends_after os sent ≡ false → sent ≤ t → is_out os l t ≡ false
 none_out [] sent l t h k = refl
@@ -42,10 +35,7 @@ none_out (o ∷ os) sent l t h k =
 -- nothing takes it out at its sending or later
 pub spared : (rules : DropRules) (p : PacketId) (sent : ℕ) → may_drop rules p sent ≡ false → (s : Stop) → sent ≤ s.at → takes_out rules p s
     ≡ false
-spared rules p sent h s k =
-    let n = or_parts (is_listed_somewhere rules.listed p) (some_ends_after rules.outages sent) h in
-    or_from (is_listed rules.listed p s.link) (is_out rules.outages s.link s.at) (nowhere_listed rules.listed p s.link n.0)
-    (none_out rules.outages sent s.link s.at n.1 k)
+spared rules p sent h s k = grind (arith, nowhere_listed, none_out)
 
 module _ (f : Stop → Bool) (sent : ℕ) (h : (s : Stop) → sent ≤ s.at → f s ≡ false) (links : List LinkSpec) where
   pub none_stops : (u t : ℕ) (ls : List ℕ) → sent ≤ t → list_any f (stops links u t ls) ≡ false
@@ -68,24 +58,15 @@ module _ (f : Stop → Bool) (sent : ℕ) (h : (s : Stop) → sent ≤ s.at → 
 
 pub unlisted_reaches_all : UnlistedReachesAll
 unfolding reaches
-unlisted_reaches_all w rules p sent h m =
-    ap not (none_stops (takes_out rules p) sent (spared rules p sent h) w.links (host w p.sender) sent (member_route w p.sender m)
-    (omega arith))
+unlisted_reaches_all w rules p sent h m = grind (arith, none_stops, spared)
 
 pub unlisted_crosses_its_ways : UnlistedCrossesItsWays
 unfolding crosses is_on_way
-unlisted_crosses_its_ways w rules p sent h l =
-    some_same (λ m. crossed_on (takes_out rules p) (member_stops w p.sender sent m) l) (λ m. is_in (member_route w p.sender m) l)
-    (length w.hosts)
-    (λ m _. crossed_all (takes_out rules p) sent (spared rules p sent h) w.links (host w p.sender) sent (member_route w p.sender m) l
-    (omega arith))
+unlisted_crosses_its_ways w rules p sent h l = grind (arith, crossed_all, spared)
 
 pub unlisted_is_nowhere_dropped : UnlistedIsNowhereDropped
 unfolding drops_at
-unlisted_is_nowhere_dropped w rules p sent h l =
-    none_below (λ m. dropped_on (takes_out rules p) (member_stops w p.sender sent m) l) (length w.hosts)
-    (λ m. dropped_never (takes_out rules p) sent (spared rules p sent h) w.links (host w p.sender) sent (member_route w p.sender m) l
-    (omega arith))
+unlisted_is_nowhere_dropped w rules p sent h l = grind (arith, none_below, dropped_never, spared)
 
 -- ---- without outages
 
@@ -122,25 +103,14 @@ without_outages_reaches w drops p sent m = ap not (any_listed drops p w.links (h
 
 pub without_outages_at_any_time : WithoutOutagesAtAnyTime
 unfolding crosses drops_at
-without_outages_at_any_time w drops p sent later l =
-    let rules : DropRules = record { listed = drops; outages = [] } in (
-      some_same (λ m. crossed_on (takes_out rules p) (member_stops w p.sender sent m) l)
-          (λ m. crossed_on (takes_out rules p) (member_stops w p.sender later m) l) (length w.hosts)
-          (λ m _. crossed_any_time drops p w.links (host w p.sender) sent later (member_route w p.sender m) l),
-      some_same (λ m. dropped_on (takes_out rules p) (member_stops w p.sender sent m) l)
-          (λ m. dropped_on (takes_out rules p) (member_stops w p.sender later m) l) (length w.hosts)
-          (λ m _. dropped_any_time drops p w.links (host w p.sender) sent later (member_route w p.sender m) l),
-    )
+without_outages_at_any_time w drops p sent later l = grind (arith, crossed_any_time, dropped_any_time)
 
 -- ---- a link on members' ways
 
 pub on_way_is : (w : Network) → IsNetwork w → (l : ℕ) (k : LinkSpec) → slice_get w.links l ≡ Some k → (a : ℕ) → a < length w.hosts
     → is_on_way w a l ≡ some_beyond w l k (host w a)
 unfolding is_on_way
-on_way_is w n l k g a h =
-    let o : LinkOf w l k = record { tree = n.tree; link = g } in
-    some_same (λ m. is_in (member_route w a m) l) _ (length w.hosts)
-    (λ m lt. on_route w l k o (host w a) (host w m) (host_below w n a h) (host_below w n m lt))
+on_way_is w n l k g a h = grind (arith, some_same, on_route)
 
 -- what the tables of sides tell of a member's ways
 pub told_on_way : (w : Network) → IsNetwork w → (l a u : ℕ) (any : Bool) → l < length w.links → a < length w.hosts → u ≡ host w a

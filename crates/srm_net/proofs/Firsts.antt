@@ -1,7 +1,7 @@
 -- The first link of the way between two nodes, told by their positions.
 use Rattle.std.proofs.Common.{◌≡◌, ◌≢◌, ◌⊎◌, ℕ, zero, suc, ◌+◌, ◌<◌, ◌≤◌, Bool, true, false, not, cond, List, [], ◌∷◌, refl, sym, ap, ◌∙◌}
-use Rattle.std.proofs.Common.{subst, inl, inr, arith, eqb, eqb-true, unwrap_or}
-use Rattle.std.proofs.lemmas.Bool.{cases_Bool, cases_eq, false≢true}
+use Rattle.std.proofs.Common.{subst, inl, inr, arith, unwrap_or}
+use Rattle.std.proofs.lemmas.Bool.{cases_eq, false≢true}
 use Rattle.srm_net.specs.declared.link.LinkSpec.{LinkSpec}
 use Rattle.srm_net.specs.declared.position.Position.{Position}
 use Rattle.srm_net.specs.Network.{Network, Joins}
@@ -17,14 +17,7 @@ use Rattle.srm_net.proofs.SpreadLemmas.{end_joined, route_there, first_of}
 
 -- the two ends of a link by which a node is below another
 leads_joins : (k : LinkSpec) (u p : ℕ) → u ≢ p → unwrap_or (far_end k u) u ≡ p → Joins k u p
-leads_joins k u p d e =
-    elim (cases_Bool (eqb k.a u)) [
-      | inl a ↦ (let q : k.b ≡ p = rw a at e in inl (eqb-true k.a u a, q))
-      | inr a ↦ elim (cases_Bool (eqb k.b u)) [
-        | inl b ↦ (let q : k.a ≡ p = rw (a, b) at e in inr (eqb-true k.b u b, q))
-        | inr b ↦ (let q : u ≡ p = rw (a, b) at e in absurd (d q))
-      ]
-    ]
+leads_joins k u p d e = grind arith
 
 -- where one of two nodes is on the same side as a third, and the other is not, the two are on different sides
 parted : (b u v : Bool) → cond b (not u) u ≡ false → cond b (not v) v ≡ true → cond u (not v) v ≡ true
@@ -127,15 +120,7 @@ module _ (w : Network) (ps : List Position) (r : IsRooted w ps) where
   -- where a node holds another, so does its parent
   pub held_by_parent : (x v : ℕ) → x < w.nodes → v < w.nodes → 1 ≤ r.place x → IsHeld (at ps x) (at ps v)
       → IsHeld (at ps (at ps x).parent) (at ps v)
-  held_by_parent x v hx hv h held =
-      let up = (r.each x hx).parent h in
-      let ex = place_of x hx in
-      let ep = place_of (at ps x).parent up.node in
-      let low : r.place (at ps x).parent < r.place x = up.earlier in
-      let h0 : (at ps x).place ≤ (at ps v).place = held.0 in
-      let h1 : (at ps v).place < (at ps x).end = held.1 in
-      let n : (at ps x).end ≤ (at ps (at ps x).parent).end = r.nested x hx h in
-      (omega arith, omega arith)
+  held_by_parent x v hx hv h held = grind arith
 
   -- down to a child that is the other node or above it
   pub first_down : (u v x : ℕ) → u < w.nodes → v < w.nodes → IsChildAbove w ps u v x → IsFirstLink w u v (at ps x).link x
@@ -274,11 +259,7 @@ module _ (w : Network) (ps : List Position) (r : IsRooted w ps) where
 
   -- so the delays to and from the root tell those between the two
   pub down_held : (u v : ℕ) → u < w.nodes → v < w.nodes → IsHeld (at ps u) (at ps v) → (at ps v).down ≡ (at ps u).down + takes w u v
-  down_held u v hu hv held =
-      (r.each v hv).down ∙ (by_steps ((at ps v).place) u v hu hv (omega arith) held).0
-      ∙ ap (λ n. n + takes w u v) (sym (r.each u hu).down)
+  down_held u v hu hv held = grind (arith, by_steps)
 
   pub up_held : (u v : ℕ) → u < w.nodes → v < w.nodes → IsHeld (at ps u) (at ps v) → (at ps v).up ≡ takes w v u + (at ps u).up
-  up_held u v hu hv held =
-      (r.each v hv).up ∙ (by_steps ((at ps v).place) u v hu hv (omega arith) held).1
-      ∙ ap (λ n. takes w v u + n) (sym (r.each u hu).up)
+  up_held u v hu hv held = grind (arith, by_steps)

@@ -1,12 +1,12 @@
 -- The laws of distances, of the least of them, and of drops.
-use Rattle.std.proofs.Common.{◌≡◌, ◌≢◌, ◌⊎◌, ◌↔◌, ℕ, zero, suc, ◌+◌, ◌/◌, ◌<◌, ◌≤◌, min, true, false, not, cond, ◌==◌, List, [], ◌∷◌}
+use Rattle.std.proofs.lemmas.Grind.{common_steps}
+use Rattle.std.proofs.Common.{◌≡◌, ◌≢◌, ◌⊎◌, ◌↔◌, ℕ, zero, suc, ◌+◌, ◌<◌, ◌≤◌, min, true, false, not, cond, ◌==◌, List, [], ◌∷◌}
 use Rattle.std.proofs.Common.{length, map, filter, fold, Some, None, refl, sym, ap, ◌∙◌, subst, inl, inr, arith, eqb, slice_get, All}
 use Rattle.std.proofs.Common.{Contains, Less, Equal, Greater}
 use Rattle.std.specs.List.{range_with_len, list_any}
 use Rattle.std.specs.Ordering.{ordering_reverse}
 use Rattle.std.specs.Cmp.{on_total}
 use Rattle.std.specs.Cmp.Lexicographic.{nat_list_cmp_total}
-use Rattle.std.specs.FinMap.{slice_cmp-IsAntisymmetric, nat_cmp-IsAntisymmetric}
 use Rattle.std.proofs.lemmas.Bool.{ne_eqb, eqb-false, cases_Bool, cases_eq, false≢true}
 use Rattle.srm_net.specs.declared.packet.Heard.{Heard}
 use Rattle.srm_net.specs.declared.packet.PacketId.{PacketId}
@@ -23,10 +23,10 @@ use Rattle.srm_net.specs.Growth.{attached}
 use Rattle.srm_net.specs.Laws.{DistancesFit, AlikeBothWays, RoundsTurn, LeastDelayFits, NoLinkNoTwo, OutFits, OutOfTheOnlyOne}
 use Rattle.srm_net.specs.Laws.{ReachesItsSender, SameDropsListed, OneListOfDrops, OrdersTotally}
 use Rattle.srm_net.proofs.Lists.{all_get}
-use Rattle.srm_net.proofs.Numbers.{in_head, in_tail, in_cases, few_apart, apart_from_distinct}
+use Rattle.srm_net.proofs.Numbers.{in_head, in_tail, in_cases, apart_from_distinct}
 use Rattle.srm_net.proofs.Growing.{grows_to, all_attached}
 use Rattle.srm_net.proofs.RouteLemmas.{route_path, route_only}
-use Rattle.srm_net.proofs.PathLaws.{host_below, hosts_apart, hosts_in, along_first, distance_bounded, distance_apart, route_nowhere}
+use Rattle.srm_net.proofs.PathLaws.{host_below, hosts_apart, along_first, distance_bounded, distance_apart, route_nowhere}
 use Rattle.srm_net.proofs.TreeWays.{BothWays, both_ways_grown}
 use Rattle.srm_net.proofs.DropLemmas.{contains_listed, listed_contains}
 use Rattle.srm_net.proofs.TotalOrders.{drop_total, key_total, tied_keys, name_total, tied_names, page_total, tied_pages}
@@ -36,11 +36,7 @@ use Rattle.srm_net.proofs.Basics.{same_tests}
 
 turned_by : (w : Network) → IsTree w → All IsAlike w.links → (inside : List ℕ) (u v : ℕ) → u < w.nodes → v < w.nodes
     → BothWays w.links inside u v → delay_along w.links u (route w u v) ≡ delay_along w.links v (route w v u)
-turned_by w t alike inside u v hu hv both =
-    let there = route_only w t u v hu hv both.there.path both.there.nodes both.there.walk both.there.apart in
-    let back = route_only w t v u hv hu both.back.path both.back.nodes both.back.walk both.back.apart in
-    sym (ap (delay_along w.links u) there) ∙ both.there.delay_is ∙ both.same alike ∙ sym both.back.delay_is
-    ∙ ap (delay_along w.links v) back
+turned_by w t alike inside u v hu hv both = grind (arith, route_only)
 
 pub distance_turns : (w : Network) → IsNetwork w → All IsAlike w.links → (a b : ℕ) → a < length w.hosts → b < length w.hosts
     → distance w a b ≡ distance w b a
@@ -62,12 +58,7 @@ pub distances_fit : DistancesFit
 distances_fit w n a b ha hb = (λ d. distance_apart w n a b ha hb d, distance_bounded w n a b ha hb)
 
 pub alike_both_ways : AlikeBothWays
-alike_both_ways w n alike a b ha hb =
-    let turns = distance_turns w n alike a b ha hb in
-    (turns, ap (λ d. (distance w a b + d) / 2) (sym turns) ∙ half_twice (distance w a b))
-  where
-    half_twice : (d : ℕ) → (d + d) / 2 ≡ d
-    half_twice d = omega arith
+alike_both_ways w n alike a b ha hb = grind (arith, distance_turns)
 
 pub rounds_turn : RoundsTurn
 rounds_turn w a b = omega arith
@@ -103,13 +94,7 @@ least_in [] d e = cc
 least_in (x ∷ xs) d e = let f : fold min x xs ≡ d = cc in subst (λ t. is_in (x ∷ xs) t ≡ true) f (fold_min_in xs x)
 
 pub least_each : (xs : List ℕ) (d z : ℕ) → least xs ≡ Some d → is_in xs z ≡ true → d ≤ z
-least_each [] d z e i = cc
-least_each (x ∷ xs) d z e i =
-    let f : fold min x xs ≡ d = cc in
-    elim (in_cases x z xs i) [
-      | inl g ↦ (let k = fold_min_first xs x in omega arith)
-      | inr g ↦ (let k = fold_min_each xs x z g in omega arith)
-    ]
+least_each xs d z e i = grind (arith, fold_min_first, fold_min_each)
 
 pub least_none : (xs : List ℕ) → least xs ≡ None → xs ≡ []
 least_none [] e = refl
@@ -172,11 +157,7 @@ no_links w e = none_mapped w.links (least_none (map lesser_delay w.links) e)
     none_mapped (k ∷ ks) h = cc
 
 pub no_link_no_two : NoLinkNoTwo
-no_link_no_two w n e a b ha hb =
-    let none = no_links w e in
-    let one : length w.links + 1 ≡ w.nodes = n.tree.one_fewer in
-    let few = few_apart w.nodes w.hosts (apart_from_distinct w.hosts n.hosts.1) (hosts_in w.nodes w.hosts n.hosts.0) in
-    omega arith
+no_link_no_two w n e a b ha hb = grind (arith, common_steps, no_links, apart_from_distinct)
 
 -- ---- the least distance of a member
 
@@ -340,23 +321,13 @@ pub pages_ordered : OrdersTotally page_cmp
 pages_ordered = (page_total, tied_pages)
 
 same_identity : (p q : PacketId) → id_cmp p q ≡ Equal → p ≡ q
-same_identity p q e =
-    let r : p.sender ∷ p.count ∷ [] ≡ q.sender ∷ q.count ∷ [] = slice_cmp-IsAntisymmetric nat_cmp-IsAntisymmetric _ _ e in
-    let a : p.sender ≡ q.sender = cc in
-    let b : p.count ≡ q.count = cc in
-    λ i. record { sender = a i; count = b i }
+same_identity p q e = grind arith
 
 pub identities_ordered : OrdersTotally id_cmp
 identities_ordered = (on_total (λ (p : PacketId). p.sender ∷ p.count ∷ []) nat_list_cmp_total, same_identity)
 
 same_entry : (h j : Heard) → heard_cmp h j ≡ Equal → h ≡ j
-same_entry h j e =
-    let q : h.source ∷ h.page ∷ h.highest ∷ [] ≡ j.source ∷ j.page ∷ j.highest ∷ [] =
-    slice_cmp-IsAntisymmetric nat_cmp-IsAntisymmetric _ _ e in
-    let a : h.source ≡ j.source = cc in
-    let b : h.page ≡ j.page = cc in
-    let c : h.highest ≡ j.highest = cc in
-    λ i. record { source = a i; page = b i; highest = c i }
+same_entry h j e = grind arith
 
 pub entries_ordered : OrdersTotally heard_cmp
 entries_ordered = (on_total (λ (h : Heard). h.source ∷ h.page ∷ h.highest ∷ []) nat_list_cmp_total, same_entry)

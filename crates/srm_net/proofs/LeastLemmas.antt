@@ -1,6 +1,6 @@
 -- Least numbers of lists, and the least delay of a link.
-use Rattle.std.proofs.Common.{◌≡◌, ℕ, ◌≤◌, min, List, [], ◌∷◌, ◌++◌, length, take, map, fold}
-use Rattle.std.proofs.Common.{Option, Some, None, refl, sym, ap}
+use Rattle.std.proofs.Common.{◌≡◌, ℕ, ◌≤◌, min, List, length, take, map}
+use Rattle.std.proofs.Common.{Option, Some, None, sym, ap}
 use Rattle.std.proofs.lemmas.List.{take_all}
 use Rattle.srm_net.specs.declared.link.LinkSpec.{LinkSpec}
 use Rattle.srm_net.specs.Network.{Network}
@@ -10,14 +10,6 @@ use Rattle.srm_net.specs.Least.{least, lesser_delay, least_delay}
 abbrev pub least_with : Option ℕ → ℕ → Option ℕ
 least_with None y = Some y
 least_with (Some x) y = Some (min x y)
-
-fold_push : (xs : List ℕ) (x y : ℕ) → fold min x (xs ++ y ∷ []) ≡ min (fold min x xs) y
-fold_push [] x y = refl
-fold_push (z ∷ zs) x y = fold_push zs (min x z) y
-
-pub least_push : (xs : List ℕ) (y : ℕ) → least (xs ++ y ∷ []) ≡ least_with (least xs) y
-least_push [] y = refl
-least_push (x ∷ xs) y = ap Some (fold_push xs x y)
 
 -- the least delay of the first n links
 abbrev pub least_of_first : List LinkSpec → ℕ → Option ℕ

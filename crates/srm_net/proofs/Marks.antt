@@ -1,8 +1,7 @@
 -- Nodes that are marked.
-use Rattle.std.proofs.Common.{◌≡◌, ℕ, zero, suc, ◌<◌, ◌≤◌, Bool, true, false, cond, List, [], ◌∷◌, ◌++◌, length, replicate, refl}
-use Rattle.std.proofs.Common.{sym, ap, ◌∙◌, subst, inl, inr, arith, eqb, eq-eqb, slice_set, ◌||◌, ◌==◌}
-use Rattle.std.proofs.lemmas.Bool.{ne_eqb, cases_eq}
-use Rattle.std.proofs.lemmas.List.{length-replicate, get_or-set_same, get_or-set_other}
+use Rattle.std.proofs.Common.{◌≡◌, ℕ, zero, suc, ◌<◌, Bool, true, false, cond, List, [], ◌∷◌, ◌++◌, length, replicate, refl}
+use Rattle.std.proofs.Common.{sym, ap, ◌∙◌, arith, eqb, slice_set, ◌||◌, ◌==◌}
+use Rattle.std.proofs.lemmas.List.{get_or-set_same, get_or-set_other}
 use Rattle.srm_net.specs.declared.step.Step.{Step}
 use Rattle.srm_net.specs.Growth.{attached}
 use Rattle.srm_net.specs.Paths.{is_in}
@@ -20,12 +19,7 @@ KnownAre nodes ss known = Marks nodes (attached ss) known
 -- whether a node is marked, after one of them was
 pub known_set : (known : List Bool) (n : ℕ) → n < length known → (x : ℕ) → is_known (slice_set known n true) x
     ≡ cond (eqb n x) true (is_known known x)
-known_set known n h x =
-    elim (cases_eq n x) [
-      | inl e ↦ subst (λ t. is_known (slice_set known n true) t ≡ cond (eqb n t) true (is_known known t)) e
-          (get_or-set_same known n true false h ∙ sym (ap (λ b. cond b true (is_known known n)) (eq-eqb n n refl)))
-      | inr d ↦ get_or-set_other known n x true false (λ e. d (sym e)) ∙ sym (ap (λ b. cond b true (is_known known x)) (ne_eqb n x d))
-    ]
+known_set known n h x = grind (arith, get_or-set_same, get_or-set_other)
 
 in_cons : (n : ℕ) (xs : List ℕ) (x : ℕ) → is_in (n ∷ xs) x ≡ cond (eqb n x) true (is_in xs x)
 in_cons n xs x = elim (eqb n x) as (λ b. (b || is_in xs x) ≡ cond b true (is_in xs x)) [ true ↦ refl | false ↦ refl ]
@@ -49,9 +43,3 @@ pub none_known : (n x : ℕ) → is_known (replicate n false) x ≡ false
 none_known zero x = refl
 none_known (suc n) zero = refl
 none_known (suc n) (suc x) = none_known n x
-
-pub known_root : (nodes : ℕ) (known : List Bool) → 1 ≤ nodes → known ≡ replicate nodes false → KnownAre nodes [] (slice_set known 0 true)
-known_root nodes known some e x lt =
-    let size : length known ≡ nodes = ap length e ∙ length-replicate nodes false in
-    known_set known 0 (omega arith) x ∙ ap (λ b. cond (eqb 0 x) true b) (ap (λ k. is_known k x) e ∙ none_known nodes x)
-    ∙ sym (in_cons 0 [] x)

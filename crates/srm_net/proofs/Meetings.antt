@@ -12,30 +12,14 @@ use Rattle.srm_net.proofs.Rootings.{takes_nothing, Hop, hop}
 module _ (w : Network) (ps : List Position) where
   -- the other way round
   pub meeting_back : (u v : ℕ) (q : Position) → IsMeeting w ps u v q → IsMeeting w ps v u q
-  meeting_back u v q m = record {
-    there = m.back;
-    back = m.there;
-  }
+  meeting_back u v q m = grind arith
 
   pub meeting_itself : (u : ℕ) → IsMeeting w ps u u (at ps u)
-  meeting_itself u =
-      let e = takes_nothing w u in
-      record {
-        there = omega arith;
-        back = omega arith;
-      }
+  meeting_itself u = grind (arith, takes_nothing)
 
   -- over a hop towards the other node
   pub meeting_hop : (u v x : ℕ) (q : Position) → Hop w ps u v x → IsMeeting w ps x v q → IsMeeting w ps u v q
-  meeting_hop u v x q h m =
-      let a = h.there in
-      let b = h.back in
-      let c = m.there in
-      let d = m.back in
-      record {
-        there = omega arith;
-        back = omega arith;
-      }
+  meeting_hop u v x q h m = grind arith
 
   -- the way there, and back, told by positions that are read
   pub there_read : (u v : ℕ) (p q m : Position) → p ≡ at ps u → q ≡ at ps v → IsMeeting w ps u v m
@@ -45,10 +29,7 @@ module _ (w : Network) (ps : List Position) where
 
   pub round_read : (u v : ℕ) (p q m : Position) → p ≡ at ps u → q ≡ at ps v → IsMeeting w ps u v m
       → takes w u v + takes w v u + 2 * (m.up + m.down) ≡ (p.up + p.down) + (q.up + q.down)
-  round_read u v p q m e f h =
-      let there = there_read u v p q m e f h in
-      let back = there_read v u q p m f e (meeting_back u v m h) in
-      omega arith
+  round_read u v p q m e f h = grind arith
 
 module _ (w : Network) (ps : List Position) (r : IsRooted w ps) where
   up_bounded : IsNetwork w → (u : ℕ) → u < w.nodes → (at ps u).up ≤ greatest_distance
@@ -60,19 +41,11 @@ module _ (w : Network) (ps : List Position) (r : IsRooted w ps) where
   -- of a position that is read
   pub bounded : IsNetwork w → (u : ℕ) (p : Position) → u < w.nodes → p ≡ at ps u
       → (p.up ≤ greatest_distance) × (p.down ≤ greatest_distance)
-  bounded n u p hu e =
-      subst (λ (q : Position). (q.up ≤ greatest_distance) × (q.down ≤ greatest_distance)) (sym e)
-      (up_bounded n u hu, down_bounded n u hu)
+  bounded n u p hu e = grind (arith, up_bounded, down_bounded)
 
   -- where one node is below the other
   pub meeting_held : (u v : ℕ) → u < w.nodes → v < w.nodes → IsHeld (at ps u) (at ps v) → IsMeeting w ps u v (at ps u)
-  meeting_held u v hu hv held =
-      let down = down_held w ps r u v hu hv held in
-      let up = up_held w ps r u v hu hv held in
-      record {
-        there = omega arith;
-        back = omega arith;
-      }
+  meeting_held u v hu hv held = grind (arith, down_held, up_held)
 
   -- a node is below itself, and below the root
   own_end : (u : ℕ) → u < w.nodes → r.place u < (at ps u).end

@@ -1,9 +1,9 @@
 -- Which places have members, and on which sides of links members are.
-use Rattle.std.proofs.Common.{◌≡◌, ◌⊎◌, ℕ, zero, suc, ◌+◌, ◌<◌, ◌≤◌, min, Bool, true, false, not, cond, List, [], ◌∷◌, ◌++◌, length, Some}
+use Rattle.std.proofs.Common.{◌≡◌, ℕ, zero, suc, ◌+◌, ◌<◌, ◌≤◌, min, Bool, true, false, not, cond, List, [], ◌∷◌, ◌++◌, length, Some}
 use Rattle.std.proofs.Common.{}
-use Rattle.std.proofs.Common.{refl, sym, ap, ◌∙◌, subst, inl, inr, arith, eqb, eq-eqb, slice_get, slice_index, slice_set, take, replicate}
+use Rattle.std.proofs.Common.{refl, sym, ap, ◌∙◌, subst, inl, inr, arith, slice_get, slice_index, slice_set, take}
 use Rattle.std.proofs.Common.{◌||◌}
-use Rattle.std.proofs.lemmas.Bool.{cases_Bool, cases_eq, ne_eqb, both_ways, false≢true}
+use Rattle.std.proofs.lemmas.Bool.{cases_Bool, cases_eq, false≢true}
 use Rattle.std.proofs.lemmas.List.{get_or-set_same, get_or-set_other, take_more}
 use Rattle.srm_net.specs.declared.link.LinkSpec.{LinkSpec}
 use Rattle.srm_net.specs.declared.occupied.Occupied.{Occupied}
@@ -22,86 +22,27 @@ use Rattle.srm_net.proofs.PathLaws.{LinkOf, ends_below, host_below}
 -- ---- places outside of a span
 
 pub other_before : (places : List ℕ) (q : Position) (b : Bool) → TellsAny places 0 q.place b → b ≡ true → TellsOther places q b
-other_before places q b t e = record {
-  some = λ _. let s = t.some e in let low : s.0 < q.place = s.3 in (s.0, s.1, λ h g. absurd (omega arith));
-  none = λ f. absurd (both_ways b f e);
-}
+other_before places q b t e = grind arith
 
 pub other_after : (places : List ℕ) (size : ℕ) (next : List ℕ) (q : Position) (a b : Bool) → TellsNext places size next
     → TellsAny places 0 q.place a → a ≡ false → TellsAny places q.end size b → TellsOther places q b
-other_after places size next q a b n t e u = record {
-  some = λ f. let s = u.some f in let high : q.end ≤ s.0 = s.2 in (s.0, s.1, λ h g. absurd (omega arith));
-  none = λ f p i.
-      let below : p < size = n.below p i in
-      let first : q.place ≤ p = elim (cases_lt p q.place) [ inl lt ↦ absurd (t.none e p i (omega arith) lt) | inr le ↦ le ] in
-      let last : p < q.end = elim (cases_lt p q.end) [ inl lt ↦ lt | inr le ↦ absurd (u.none f p i le below) ] in
-      (first, last);
-}
-  where
-    cases_lt : (x y : ℕ) → (x < y) ⊎ (y ≤ x)
-    cases_lt x y = grind arith
+other_after places size next q a b n t e u = grind arith
 
 -- ---- the first place from each on
-
-pub next_at_end : (places : List ℕ) (size n : ℕ) → n ≡ size → IsNextFree places size size n
-next_at_end places size n e = record {
-  later = omega arith;
-  most = omega arith;
-  free = λ p i h g. absurd (omega arith);
-  taken = λ h. absurd (omega arith);
-}
 
 -- one place earlier
 pub next_before : (places : List ℕ) (size i own later first : ℕ) → i < size → own ≡ cond (is_in places i) i size
     → IsNextFree places size (i + 1) later → first ≡ min own later → IsNextFree places size i first
-next_before places size i own later first lt e n f =
-    let l0 : i + 1 ≤ later = n.later in
-    let l1 : later ≤ size = n.most in
-    elim (cases_Bool (is_in places i)) [
-      | inl t ↦ (let o : own ≡ i = rw t at e in
-          let same : first ≡ i = omega arith in
-          record {
-            later = omega arith;
-            most = omega arith;
-            free = λ p j h g. absurd (omega arith);
-            taken = λ _. subst (λ k. is_in places k ≡ true) (sym same) t;
-          })
-      | inr t ↦ (let o : own ≡ size = rw t at e in
-          let same : first ≡ later = omega arith in
-          record {
-            later = omega arith;
-            most = omega arith;
-            free = λ p j h g. elim (cases_eq i p) [
-              | inl q ↦ both_ways _ (subst (λ k. is_in places k ≡ false) q t) j
-              | inr q ↦ n.free p j (omega arith) (omega arith)
-            ];
-            taken = λ h. subst (λ k. is_in places k ≡ true) (sym same) (n.taken (omega arith));
-          })
-    ]
+next_before places size i own later first lt e n f = grind arith
 
 -- ---- marks at places
 
 abbrev pub MarksAt : List ℕ → ℕ → List ℕ → Type 0
 MarksAt places size next = (i : ℕ) → i ≤ size → slice_index next i ≡ cond (is_in places i) i size
 
-pub none_marked : (size n : ℕ) (next : List ℕ) → n ≡ size + 1 → next ≡ replicate n size → MarksAt [] size next
-none_marked size n next e r i h = ap (λ xs. slice_index xs i) r ∙ same n i (omega arith)
-  where
-    same : (k j : ℕ) → j < k → slice_index (replicate k size) j ≡ size
-    same zero j lt = absurd (omega arith)
-    same (suc k) zero lt = refl
-    same (suc k) (suc j) lt = same k j (omega arith)
-
 pub mark_place : (places : List ℕ) (size p : ℕ) (next : List ℕ) → length next ≡ size + 1 → p < size → MarksAt places size next
     → MarksAt (places ++ p ∷ []) size (slice_set next p p)
-mark_place places size p next long lt m i h =
-    elim (cases_eq p i) [
-      | inl e ↦ subst (λ j. slice_index (slice_set next p p) j ≡ cond (is_in (places ++ p ∷ []) j) j size) e
-          (get_or-set_same next p p 0 (omega arith)
-          ∙ sym (ap (λ b. cond b p size) (any_push (λ k. eqb k p) places p ∙ ap (λ b. cond b true (is_in places p)) (eq-eqb p p refl))))
-      | inr d ↦ get_or-set_other next p i p 0 (λ e. d (sym e)) ∙ m i h
-          ∙ sym (ap (λ b. cond b i size) (any_push (λ k. eqb k i) places p ∙ ap (λ b. cond b true (is_in places i)) (ne_eqb p i d)))
-    ]
+mark_place places size p next long lt m i h = grind (arith, get_or-set_same, any_push, get_or-set_other)
 
 pub places_more : (ps : List Position) (hosts : List ℕ) (i : ℕ) → i < length hosts
     → places_of ps (take (i + 1) hosts) ≡ places_of ps (take i hosts) ++ (at ps (slice_index hosts i)).place ∷ []
@@ -217,12 +158,7 @@ place_within w ps r u hu = subst (λ p. p < (at ps 0).end) (sym (r.each u hu).pl
 
 pub place_fits : (w : Network) (ps : List Position) (o : Occupied) → IsOccupied w ps o → (u : ℕ) → u < w.nodes → (q : Position)
     → q ≡ at ps u → (q.place ≤ o.size) × (q.place < length o.next.items)
-place_fits w ps o i u hu q e =
-    let least : (at ps u).place < (at ps 0).end = place_within w ps i.rooted u hu in
-    let is : q.place ≡ (at ps u).place = ap (λ (p : Position). p.place) e in
-    let size : o.size ≡ (at ps 0).end = i.size in
-    let long : length o.next.items ≡ o.size + 1 = i.told.long in
-    (omega arith, omega arith)
+place_fits w ps o i u hu q e = grind arith
 
 -- ---- the sides of a link
 

@@ -1,4 +1,5 @@
 -- Finding the order in which a tree grows.
+use Rattle.std.proofs.Common.{arith}
 use Rattle.std.proofs.Common.{◌≡◌, ℕ, ◌+◌, ◌≤◌, List, [], length, sym, subst, All}
 use Rattle.srm_net.specs.declared.link.LinkSpec.{LinkSpec}
 use Rattle.srm_net.specs.declared.step.Step.{Step}
@@ -31,14 +32,7 @@ whole_tree nodes links ss some few ends one g all = record {
 -- hosts do not matter
 pub tree_of_any : (nodes : ℕ) (links : List LinkSpec) (hs gs : List ℕ) → IsTree (plain_network nodes links hs)
     → IsTree (plain_network nodes links gs)
-tree_of_any nodes links hs gs t = record {
-  some_nodes = t.some_nodes;
-  few_nodes = t.few_nodes;
-  ends = t.ends;
-  one_fewer =
-      t.one_fewer;
-  connected = t.connected;
-}
+tree_of_any nodes links hs gs t = grind arith
 
 rooted_of_any : (nodes : ℕ) (links : List LinkSpec) (hs gs : List ℕ) (ps : List Position) → IsRooted (plain_network nodes links hs) ps
     → IsRooted (plain_network nodes links gs) ps

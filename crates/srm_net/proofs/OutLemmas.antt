@@ -1,6 +1,7 @@
 -- The nearest members of each node, found from below and then from above.
-use Rattle.std.proofs.Common.{◌≡◌, ◌≢◌, ◌⊎◌, ℕ, zero, suc, ◌+◌, ◌-◌, ◌^◌, ◌<◌, ◌≤◌, min, List, [], ◌∷◌, length, Option, Some, None, refl}
-use Rattle.std.proofs.Common.{sym, ap, ◌∙◌, subst, inl, inr, arith, slice_get, slice_index, slice_index_or, slice_set, lit≤, All}
+use Rattle.std.proofs.lemmas.Grind.{common_steps}
+use Rattle.std.proofs.Common.{◌≡◌, ◌≢◌, ◌⊎◌, ℕ, zero, suc, ◌+◌, ◌-◌, ◌<◌, ◌≤◌, List, [], ◌∷◌, length, Option, Some, None, refl}
+use Rattle.std.proofs.Common.{sym, ap, ◌∙◌, subst, inl, inr, arith, slice_get, slice_index, slice_index_or, slice_set, All}
 use Rattle.std.proofs.Common.{take, drop, ◌++◌}
 use Rattle.std.proofs.lemmas.Bool.{cases_eq}
 use Rattle.std.proofs.lemmas.List.{length-set, get_or-set_same, get_or-set_other, get_or_default, take_all, take-append-le}
@@ -9,11 +10,10 @@ use Rattle.srm_net.specs.declared.nearest.Nearest.{Nearest}
 use Rattle.srm_net.specs.declared.nearest.Nearest.TheVariants.{Nobody, One, Two}
 use Rattle.srm_net.specs.declared.position.Position.{Position}
 use Rattle.srm_net.specs.Least.{out}
-use Rattle.srm_net.specs.Limits.{greatest_distance}
 use Rattle.srm_net.specs.Nearness.{second_ticks, IsOneOf, IsNearestFirst, Covers, Takes, nearest_of, IsByPlace, IsSound, TellsOwn}
 use Rattle.srm_net.specs.Nearness.{TellsBelow, TellsNearest}
 use Rattle.srm_net.specs.Network.{Network, IsNetwork}
-use Rattle.srm_net.specs.Paths.{host, distance, route, delay_of, delay_along}
+use Rattle.srm_net.specs.Paths.{host, distance, delay_of}
 use Rattle.srm_net.specs.Rooting.{takes, at, IsRooted, IsFirstLink, IsHeld, IsChildAbove}
 use Rattle.srm_net.proofs.Firsts.{first_down, first_up, held_itself, held_later, held_by_parent, parent_held}
 use Rattle.srm_net.proofs.LawProofs.{out_fits, out_of_the_only_one}
@@ -75,11 +75,7 @@ out_from w n m hm (Two a b) order member ticks all o e =
 pub out_is_second : (w : Network) (table : List Nearest) → IsNetwork w → IsSound w table → TellsNearest w table → (m : ℕ)
     → m < length w.hosts → second_ticks (nearest_of table (host w m)) ≡ out w m
 unfolding distance
-out_is_second w table n s t m hm =
-    let u = host w m in
-    let hu = host_below w n m hm in
-    out_from w n m hm (nearest_of table u) (s.ordered u hu) (λ k i. s.member u k hu i) (λ k i. s.ticks u k hu i)
-    (λ b hb. t u b hu hb) (out w m) refl
+out_is_second w table n s t m hm = grind (arith, out_from)
 
 pub outs_push : (w : Network) (i : ℕ) (outs : List (Option ℕ)) (x : Option ℕ) → length outs ≡ i → OutsBelow w i outs → x ≡ out w i
     → OutsBelow w (i + 1) (outs ++ x ∷ [])
@@ -92,18 +88,13 @@ outs_push w i outs x long old new m h =
 -- ---- tables that are lent and come back
 
 pub written_back : (old new : List Nearest) (k : ℕ) → length new ≡ k → take k (new ++ drop (length new) old) ≡ new
-written_back old new k e =
-    let h : k ≤ length new = omega arith in
-    take-append-le k new (drop (length new) old) h ∙ take_all k new (omega arith)
+written_back old new k e = grind (arith, take-append-le, take_all)
 
 pub read_nearest : (table : List Nearest) (i u : ℕ) (x : Nearest) → i ≡ u → u < length table → x ≡ slice_index_or table i x
     → x ≡ nearest_of table u
 read_nearest table i u x e h g = g ∙ ap (λ j. slice_index_or table j x) e ∙ sym (get_or_default table u Nobody x h)
 
 -- ---- one node's members are taken into account at another
-
-le_min : (x y z : ℕ) → z ≤ x → z ≤ y → z ≤ min x y
-le_min x y z h g = omega arith
 
 module _ (w : Network) (n : IsNetwork w) (table : List Nearest) (s : IsSound w table) (from to d : ℕ) (new : Nearest) (hf : from < w.nodes)
     (ht : to < w.nodes) (t : Takes (nearest_of table to) (nearest_of table from) d new) where
@@ -126,27 +117,7 @@ module _ (w : Network) (n : IsNetwork w) (table : List Nearest) (s : IsSound w t
       ]
 
   pub step_sound : ((x : ℕ) → x < w.nodes → takes w to x ≤ takes w from x + d) → IsSound w (slice_set table to new)
-  step_sound near = record {
-    long = length-set table to new ∙ s.long;
-    ordered = at_each (λ u p. IsNearestFirst p) (t.ordered (s.ordered to ht)) s.ordered;
-    member = λ u k hu. at_each (λ u p. IsOneOf p k → k.member < length w.hosts) (λ i. elim (t.from k i) [
-      | inl o ↦ s.member to k ht o
-      | inr o ↦ subst (λ (j : Near). j.member < length w.hosts) (sym o.2) (s.member from o.0 hf o.1)
-    ]) (λ v hv. s.member v k hv) u hu;
-    ticks = λ u k hu. at_each (λ u p. IsOneOf p k → takes w u (host w k.member) ≤ k.ticks) (λ i. elim (t.from k i) [
-      | inl o ↦ s.ticks to k ht o
-      | inr o ↦ subst (λ (j : Near). takes w to (host w j.member) ≤ j.ticks) (sym o.2)
-          (let hx = host_below w n o.0.member (s.member from o.0 hf o.1) in
-          let a : takes w from (host w o.0.member) ≤ o.0.ticks = s.ticks from o.0 hf o.1 in
-          let b : takes w to (host w o.0.member) ≤ takes w from (host w o.0.member) + d = near (host w o.0.member) hx in
-          let c : takes w to (host w o.0.member) ≤ greatest_distance = delay_bounded w n to (host w o.0.member) ht hx in
-          let few : greatest_distance ≤ 2 ^ 64 - 1 = lit≤ tt in
-          le_min (o.0.ticks + d) (2 ^ 64 - 1) (takes w to (host w o.0.member)) (omega arith) (le_trans c few))
-    ]) (λ v hv. s.ticks v k hv) u hu;
-  }
-    where
-      le_trans : {x y z : ℕ} → x ≤ y → y ≤ z → x ≤ z
-      le_trans h g = omega arith
+  step_sound near = grind (arith, common_steps, delay_bounded)
 
   pub step_keeps : (u m ticks : ℕ) → u < w.nodes → Covers (nearest_of table u) m ticks
       → Covers (nearest_of (slice_set table to new) u) m ticks
@@ -168,17 +139,7 @@ module _ (w : Network) (ps : List Position) (r : IsRooted w ps) where
   place_of u hu = (r.each u hu).place_is
 
   held_or_not : (q p : Position) → IsHeld q p ⊎ (IsHeld q p → ⊥)
-  held_or_not q p =
-      elim (split q.place p.place) [
-        | inl a ↦ inr (λ h. let k : q.place ≤ p.place = h.0 in absurd (omega arith))
-        | inr a ↦ elim (split q.end p.place) [
-          | inl b ↦ inl (a, b)
-          | inr b ↦ inr (λ h. let k : p.place < q.end = h.1 in absurd (omega arith))
-        ]
-      ]
-    where
-      split : (x y : ℕ) → (y < x) ⊎ (x ≤ y)
-      split x y = grind arith
+  held_or_not q p = grind arith
 
   -- over the link of a node from its parent, and back
   abbrev pub over_down : ℕ → ℕ
@@ -188,9 +149,7 @@ module _ (w : Network) (ps : List Position) (r : IsRooted w ps) where
   over_up c = delay_of c (slice_get w.links (at ps c).link)
 
   by_first : (u v l x : ℕ) → IsFirstLink w u v l x → takes w u v ≡ delay_of u (slice_get w.links l) + takes w x v
-  by_first u v l x f =
-      ap (delay_along w.links u) f.route
-      ∙ ap (λ y. delay_of u (slice_get w.links l) + delay_along w.links y (route w x v)) f.leads
+  by_first u v l x f = grind arith
 
   module _ (c : ℕ) (hc : c < w.nodes) (one : 1 ≤ (at ps c).place) where
     one_at : 1 ≤ r.place c
@@ -219,18 +178,10 @@ module _ (w : Network) (ps : List Position) (r : IsRooted w ps) where
         omega arith
 
     pub parent_near : (x : ℕ) → x < w.nodes → takes w (at ps c).parent x ≤ takes w c x + over_down c
-    parent_near x hx =
-        elim (held_or_not (at ps c) (at ps x)) [
-          | inl h ↦ (let e = from_parent x hx h in omega arith)
-          | inr h ↦ (let e = to_parent x hx h in omega arith)
-        ]
+    parent_near x hx = grind (arith, from_parent, to_parent)
 
     pub child_near : (x : ℕ) → x < w.nodes → takes w c x ≤ takes w (at ps c).parent x + over_up c
-    child_near x hx =
-        elim (held_or_not (at ps c) (at ps x)) [
-          | inl h ↦ (let e = from_parent x hx h in omega arith)
-          | inr h ↦ (let e = to_parent x hx h in omega arith)
-        ]
+    child_near x hx = grind (arith, from_parent, to_parent)
 
     pub down_more : (at ps c).down ≡ (at ps (at ps c).parent).down + over_down c
     down_more =
@@ -291,12 +242,7 @@ pub record UpTo (w : Network) (ps : List Position) (table : List Nearest) (i : �
 pub delay_down : (w : Network) (ps : List Position) (r : IsRooted w ps) (c : ℕ) (hc : c < w.nodes) → 1 ≤ (at ps c).place
     → (q above : Position) → q ≡ at ps c → above ≡ at ps q.parent
     → (q.down ≡ above.down + over_down w ps r c) × (q.down - above.down ≡ over_down w ps r c)
-delay_down w ps r c hc one q above e f =
-    let k = down_more w ps r c hc one in
-    let a : q.down ≡ (at ps c).down = ap (λ (p : Position). p.down) e in
-    let b : above.down ≡ (at ps (at ps c).parent).down = ap (λ (p : Position). p.down) (f ∙ ap (λ (p : Position). at ps p.parent) e) in
-    let sum : q.down ≡ above.down + over_down w ps r c = a ∙ k ∙ ap (λ d. d + over_down w ps r c) (sym b) in
-    (sum, omega arith)
+delay_down w ps r c hc one q above e f = grind (arith, down_more)
 
 pub delay_up : (w : Network) (ps : List Position) (r : IsRooted w ps) (c : ℕ) (hc : c < w.nodes) → 1 ≤ (at ps c).place
     → (q above : Position) → q ≡ at ps c → above ≡ at ps q.parent
@@ -317,13 +263,7 @@ parent_within w ps r c hc q e d =
 -- ---- the order of places
 
 pub below_set : (n : ℕ) (xs : List ℕ) (i x : ℕ) → x < n → All (λ u. u < n) xs → All (λ u. u < n) (slice_set xs i x)
-below_set n xs i x h a k d lt =
-    let same : length (slice_set xs i x) ≡ length xs = length-set xs i x in
-    elim (cases_eq i k) [
-      | inl e ↦ subst (λ v. v < n) (sym (ap (λ j. slice_index_or (slice_set xs i x) j d) (sym e)
-          ∙ get_or-set_same xs i x d (omega arith))) h
-      | inr q ↦ subst (λ v. v < n) (sym (get_or-set_other xs i k x d (λ e. q (sym e)))) (a k d (omega arith))
-    ]
+below_set n xs i x h a k d lt = grind (arith, length-set, get_or-set_same, get_or-set_other)
 
 pub placed_more : (w : Network) (ps : List Position) → IsRooted w ps → (xs : List ℕ) (n : ℕ) → length xs ≡ (at ps 0).end → n < w.nodes
     → ((u : ℕ) → u < n → slice_index xs (at ps u).place ≡ u)
@@ -351,64 +291,17 @@ IsAlone hosts table i = (u : ℕ) → (nearest_of table u ≡ Nobody)
 pub home_more : (hosts : List ℕ) (table : List Nearest) (i : ℕ) → slice_index hosts i < length table
     → ((m : ℕ) → m < i → slice_index hosts m ≢ slice_index hosts i) → IsHome hosts table i
     → IsHome hosts (slice_set table (slice_index hosts i) (One (at_own i))) (i + 1)
-home_more hosts table i lt apart old m h =
-    elim (cases_eq m i) [
-      | inl e ↦ subst
-          (λ k. nearest_of (slice_set table (slice_index hosts i) (One (at_own i))) (slice_index hosts k) ≡ One (at_own k)) (sym e)
-          (get_or-set_same table (slice_index hosts i) (One (at_own i)) Nobody lt)
-      | inr d ↦ get_or-set_other table (slice_index hosts i) (slice_index hosts m) (One (at_own i)) Nobody (apart m (omega arith))
-          ∙ old m (omega arith)
-    ]
+home_more hosts table i lt apart old m h = grind (arith, get_or-set_same, get_or-set_other)
 
 pub alone_more : (hosts : List ℕ) (table : List Nearest) (i : ℕ) → slice_index hosts i < length table → IsAlone hosts table i
     → IsAlone hosts (slice_set table (slice_index hosts i) (One (at_own i))) (i + 1)
-alone_more hosts table i lt old u =
-    elim (cases_eq (slice_index hosts i) u) [
-      | inl e ↦ inr (
-        i,
-        omega arith,
-        e,
-        ap (nearest_of (slice_set table (slice_index hosts i) (One (at_own i)))) (sym e)
-            ∙ get_or-set_same table (slice_index hosts i) (One (at_own i)) Nobody lt,
-      )
-      | inr d ↦ (let same = get_or-set_other table (slice_index hosts i) u (One (at_own i)) Nobody (λ e. d (sym e)) in
-          elim (old u) [
-            | inl e ↦ inl (same ∙ e)
-            | inr e ↦ (let before : e.0 < i = e.1 in inr (e.0, omega arith, e.2, same ∙ e.3))
-          ])
-    ]
+alone_more hosts table i lt old u = grind (arith, get_or-set_same, get_or-set_other)
 
 pub home_sound : (w : Network) (table : List Nearest) (i : ℕ) → length table ≡ w.nodes → i ≤ length w.hosts → IsAlone w.hosts table i
     → IsSound w table
-home_sound w table i long few alone = record {
-  long = long;
-  ordered = λ u hu. elim (alone u) [ inl e ↦ subst IsNearestFirst (sym e) tt | inr e ↦ subst IsNearestFirst (sym e.3) tt ];
-  member = λ u k hu o. elim (alone u) [
-    | inl e ↦ absurd (subst (λ p. IsOneOf p k) e o)
-    | inr e ↦ (let is : k ≡ at_own e.0 = subst (λ p. IsOneOf p k) e.3 o in
-        let lt : e.0 < i = e.1 in
-        subst (λ (j : Near). j.member < length w.hosts) (sym is) (omega arith))
-  ];
-  ticks = λ u k hu o. elim (alone u) [
-    | inl e ↦ absurd (subst (λ p. IsOneOf p k) e o)
-    | inr e ↦ (let is : k ≡ at_own e.0 = subst (λ p. IsOneOf p k) e.3 o in
-        let none = takes_nothing w u in
-        let zero : takes w u (host w e.0) ≡ 0 = ap (takes w u) e.2 ∙ none in
-        subst (λ (j : Near). takes w u (host w j.member) ≤ j.ticks) (sym is) (omega arith))
-  ];
-}
+home_sound w table i long few alone = grind (arith, takes_nothing)
 
 module _ (w : Network) (ps : List Position) (order : List ℕ) (b : IsByPlace w ps order) where
-  pub up_start : (table : List Nearest) → IsSound w table → TellsOwn w table → UpTo w ps table (length order)
-  up_start table s o = record {
-    sound = s;
-    own = o;
-    below = λ c m hc hm le one held.
-        let most : (at ps c).place < (at ps 0).end = place_most w ps b.rooted c hc in
-        let long : length order ≡ (at ps 0).end = b.long in
-        absurd (omega arith);
-  }
-
   -- a node at whose place that has come has all members below it
   complete : (table : List Nearest) (i : ℕ) → UpTo w ps table i → (u m : ℕ) → u < w.nodes → m < length w.hosts → i ≤ (at ps u).place + 1
       → IsHeld (at ps u) (at ps (host w m)) → Covers (nearest_of table u) m (takes w u (host w m))
@@ -489,9 +382,6 @@ module _ (w : Network) (ps : List Position) (order : List ℕ) (b : IsByPlace w 
     pub sound : IsSound w table
     pub below : TellsBelow w ps table
     pub all : (u m : ℕ) → u < w.nodes → m < length w.hosts → (at ps u).place < i → Covers (nearest_of table u) m (takes w u (host w m))
-
-  pub down_start : (table : List Nearest) → IsSound w table → TellsBelow w ps table → DownTo table 0
-  down_start table s t = record { sound = s; below = t; all = λ u m hu hm lt. absurd (omega arith) }
 
   pub down_done : (table : List Nearest) (i : ℕ) → length order ≤ i → DownTo table i → TellsNearest w table
   down_done table i le down u m hu hm =

@@ -53,15 +53,7 @@ pub record IsNextSpan (xs ss : List OutageSpec) (n : ℕ) (s : OutageSpec) : Typ
 -- an outage that the one before does not outlast is not prolonged
 pub next_as_it_is : (xs ss : List OutageSpec) (n : ℕ) (s : OutageSpec) → s ≡ outage_at xs n
     → (0 < n → (outage_at ss (n - 1)).link ≡ (outage_at xs n).link → (outage_at ss (n - 1)).to ≤ (outage_at xs n).to) → IsNextSpan xs ss n s
-next_as_it_is xs ss n s e h =
-    let to : s.to ≡ (outage_at xs n).to = ap (λ (o : OutageSpec). o.to) e in
-    record {
-      link = ap (λ (o : OutageSpec). o.link) e;
-      from = ap (λ (o : OutageSpec). o.from) e;
-      own = omega arith;
-      before = λ k q. (let m = h k q in omega arith);
-      one = inl (sym to);
-    }
+next_as_it_is xs ss n s e h = grind arith
 
 -- the links rise
 abbrev pub LinksRise : List OutageSpec → Type 0
@@ -97,14 +89,7 @@ longest_here xs ss n s h up old next is = record {
 
 longest_before : (xs ss : List OutageSpec) (s : OutageSpec) (i : ℕ) → i < length ss → LastsLongest xs ss i
     → LastsLongest xs (ss ++ s ∷ []) i
-longest_before xs ss s i h o =
-    let is = at_old ss s i h in
-    record {
-      link = ap (λ (o : OutageSpec). o.link) is ∙ o.link;
-      from = ap (λ (o : OutageSpec). o.from) is ∙ o.from;
-      latest = λ j le same. subst (λ (o : OutageSpec). (outage_at xs j).to ≤ o.to) (sym is) (o.latest j le same);
-      one = (o.one.0, o.one.1, o.one.2, o.one.3 ∙ sym (ap (λ (o : OutageSpec). o.to) is));
-    }
+longest_before xs ss s i h o = grind (arith, at_old)
 
 pub longest_more : (xs ss : List OutageSpec) (n : ℕ) (s : OutageSpec) → length ss ≡ n → n < length xs → LinksRise xs
     → ((i : ℕ) → i < n → LastsLongest xs ss i) → IsNextSpan xs ss n s
@@ -150,24 +135,13 @@ in_order xs up =
 -- ---- what has begun
 
 begins_in : (l t k f : ℕ) → (nat_lt k l || ((k == l) && nat_le f t)) ≡ true → (k < l) ⊎ ((k ≡ l) × (f ≤ t))
-begins_in l t k f h =
-    elim (or_cases (nat_lt k l) ((k == l) && nat_le f t) h) [
-      | inl e ↦ inl (ltb-true k l e)
-      | inr e ↦ (let p = and_parts (k == l) (nat_le f t) e in inr (eqb-true k l p.0, leb-true f t p.1))
-    ]
+begins_in l t k f h = grind arith
 
 begins_from : (l t k f : ℕ) → (k < l) ⊎ ((k ≡ l) × (f ≤ t)) → (nat_lt k l || ((k == l) && nat_le f t)) ≡ true
-begins_from l t k f (inl h) = or_left (nat_lt k l) ((k == l) && nat_le f t) (lt-ltb k l h)
-begins_from l t k f (inr h) = or_right (nat_lt k l) ((k == l) && nat_le f t)
-    (and_from (k == l) (nat_le f t) (eq-eqb k l h.0) (le-leb f t h.1))
+begins_from l t k f h4 = grind arith
 
 begun_before : (l t a f b g : ℕ) → a ≤ b → (a ≡ b → f ≤ g) → (b < l) ⊎ ((b ≡ l) × (g ≤ t)) → (a < l) ⊎ ((a ≡ l) × (f ≤ t))
-begun_before l t a f b g h m (inl k) = inl (omega arith)
-begun_before l t a f b g h m (inr k) =
-    elim (cases_eq a b) [
-      | inl e ↦ inr (e ∙ k.0, (let n = m e in let q = k.1 in omega arith))
-      | inr n ↦ inl (let e = k.0 in omega arith)
-    ]
+begun_before l t a f b g h m h8 = grind arith
 
 -- sorted outages and their spans
 pub record Prolongs (xs ss : List OutageSpec) : Type 0 where

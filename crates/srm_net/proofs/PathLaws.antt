@@ -15,7 +15,7 @@ use Rattle.srm_net.proofs.Lists.{all_get}
 use Rattle.srm_net.proofs.Numbers.{Apart, Below, in_head, in_tail, in_cases, not_in, not_in_cons, few_apart, apart_from_distinct}
 use Rattle.srm_net.proofs.Walks.{IsCut, way_crosses, walk_ends, same_link}
 use Rattle.srm_net.proofs.Growing.{joins_below, tree_cuts}
-use Rattle.srm_net.proofs.RouteLemmas.{joins_far, route_path, route_only, path_length}
+use Rattle.srm_net.proofs.RouteLemmas.{route_path, route_only, path_length}
 use Rattle.srm_net.specs.Limits.{most_nodes, greatest_link_delay, greatest_distance}
 
 -- ---- members' nodes
@@ -58,10 +58,7 @@ few_members w n =
 -- links that begin with this one take its delay from there, and then theirs from its other end
 pub along_first : (links : List LinkSpec) (u l x : ℕ) (ls : List ℕ) (k : LinkSpec) → slice_get links l ≡ Some k → Joins k u x
     → delay_along links u (l ∷ ls) ≡ delay_from u k + delay_along links x ls
-along_first links u l x ls k g j =
-    let here : delay_of u (slice_get links l) ≡ delay_from u k = ap (delay_of u) g in
-    let next : end_of u (slice_get links l) ≡ x = ap (end_of u) g ∙ ap (λ o. unwrap_or o u) (joins_far k u x j) in
-    ap (λ n. n + delay_along links (end_of u (slice_get links l)) ls) here ∙ ap (λ y. delay_from u k + delay_along links y ls) next
+along_first links u l x ls k g j = grind arith
 
 pub from_fits : (u : ℕ) (k : LinkSpec) → HasDelays k → IsLinkDelay (delay_from u k)
 from_fits u k h = elim (eqb k.a u) as (λ b. IsLinkDelay (cond b k.delay k.back)) [ true ↦ h.0 | false ↦ h.1 ]

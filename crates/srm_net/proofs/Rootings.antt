@@ -10,7 +10,7 @@ use Rattle.srm_net.specs.declared.link.LinkSpec.{LinkSpec}
 use Rattle.srm_net.specs.declared.position.Position.{Position}
 use Rattle.srm_net.specs.declared.step.Step.{Step}
 use Rattle.srm_net.specs.Growth.{Attaches, attached, Grows, place_in}
-use Rattle.srm_net.specs.Network.{Network, Joins, IsWalk, IsTree, HasDelays, AreHosts, IsNetwork}
+use Rattle.srm_net.specs.Network.{Network, Joins, IsWalk, IsTree, HasDelays, IsNetwork}
 use Rattle.srm_net.specs.Paths.{is_in, route, delay_of, delay_along}
 use Rattle.srm_net.specs.Rooting.{takes, nowhere, at, IsParent, IsPassed, IsSubtree, IsPosition, IsRooted}
 use Rattle.srm_net.proofs.Lists.{get_below}
@@ -94,9 +94,7 @@ takes_nothing w u = ap (delay_along w.links u) (route_nowhere w u)
 
 pub parent_there : (w : Network) (place : ℕ → ℕ) (u p l : ℕ) → IsParent w place u p l → (v : ℕ) → v < w.nodes → place v < place u
     → takes w u v ≡ delay_of u (slice_get w.links l) + takes w p v
-parent_there w place u p l h v hv lt =
-    ap (delay_along w.links u) (h.route v hv lt)
-    ∙ ap (λ y. delay_of u (slice_get w.links l) + delay_along w.links y (route w p v)) h.leads
+parent_there w place u p l h v hv lt = grind arith
 
 pub parent_back : (w : Network) → IsTree w → (place : ℕ → ℕ) (u p l : ℕ) → u < w.nodes → IsParent w place u p l → (v : ℕ) → v < w.nodes
     → place v < place u → takes w v u ≡ takes w v p + delay_of p (slice_get w.links l)
@@ -104,13 +102,6 @@ parent_back w t place u p l hu h v hv lt =
     let r = route_path w t v p hv h.node in
     ap (delay_along w.links v) (route_there w t v u p l hv hu h.node (h.route v hv lt) h.leads)
     ∙ delay_push w.links v (route w v p) p r.0 l r.1.0
-
-pub passed_itself : (w : Network) (place : ℕ → ℕ) (u : ℕ) → u < w.nodes → IsPassed w place u u
-passed_itself w place u hu = record {
-  node = hu;
-  there = λ v hv le. (let e = takes_nothing w u in omega arith);
-  back = λ v hv le. (let e = takes_nothing w u in omega arith);
-}
 
 pub passed_parent : (w : Network) → IsTree w → (place : ℕ → ℕ) (u p l : ℕ) → u < w.nodes → IsParent w place u p l → IsPassed w place u p
 passed_parent w t place u p l hu h =
@@ -130,19 +121,7 @@ passed_parent w t place u p l hu h =
 
 pub passed_on : (w : Network) (place : ℕ → ℕ) (u p j : ℕ) → IsPassed w place u p → IsPassed w place p j → place j ≤ place p
     → IsPassed w place u j
-passed_on w place u p j a b low = record {
-  node = b.node;
-  there = λ v hv le.
-      let x = a.there v hv (omega arith) in
-      let y = b.there v hv le in
-      let z = a.there j b.node low in
-      omega arith;
-  back = λ v hv le.
-      let x = a.back v hv (omega arith) in
-      let y = b.back v hv le in
-      let z = a.back j b.node low in
-      omega arith;
-}
+passed_on w place u p j a b low = grind arith
 
 -- ---- a node that is attached
 
@@ -258,11 +237,7 @@ module _ (w : Network) (t : IsTree w) (later : List Step) (s : Step) (ss : List 
 -- ---- at one of the steps
 
 pub network_of : (w : Network) → IsTree w → All HasDelays w.links → w.hosts ≡ [] → IsNetwork w
-network_of w t d e = record {
-  tree = t;
-  delays = d;
-  hosts = subst (AreHosts w.nodes) (sym e) (λ k x h. absurd (omega arith), distinct_from_apart [] tt);
-}
+network_of w t d e = grind (arith, distinct_from_apart)
 
 pub read_position : (ps : List Position) (i u : ℕ) (r : Position) → i ≡ u → u < length ps → r ≡ slice_index_or ps i r → r ≡ at ps u
 read_position ps i u r e h g = g ∙ ap (λ j. slice_index_or ps j r) e ∙ sym (get_or_default ps u nowhere r h)
@@ -282,9 +257,7 @@ module _ (w : Network) (t : IsTree w) (steps : List Step) (g : Grows w.links (re
 
   inside : (v : ℕ) → v < w.nodes
       → is_in (attached (reverse (drop (i + 1) steps) ++ get_or steps i no_step ∷ reverse (take i steps))) v ≡ true
-  inside v h =
-      subst (λ ts. is_in (attached ts) v ≡ true) split
-      (all_attached w.nodes w.links (reverse steps) t.some_nodes t.ends g (let k = length-reverse steps in omega arith) v h)
+  inside v h = grind (arith, split, all_attached, length-reverse)
 
   below : (v : ℕ) → is_in (attached (reverse (drop (i + 1) steps) ++ get_or steps i no_step ∷ reverse (take i steps))) v ≡ true
       → v < w.nodes
@@ -300,9 +273,7 @@ module _ (w : Network) (t : IsTree w) (steps : List Step) (g : Grows w.links (re
       (here w t (reverse (drop (i + 1) steps)) (get_or steps i no_step) (reverse (take i steps)) grown inside below).0
 
   pub step_parent : (get_or steps i no_step).parent < w.nodes
-  step_parent =
-      attached_node w t (reverse (drop (i + 1) steps)) (get_or steps i no_step) (reverse (take i steps)) grown inside below
-      (get_or steps i no_step).parent step_here.parent
+  step_parent = grind (arith, attached_node, grown, inside, below, step_here)
 
   pub step_node : (get_or steps i no_step).node < w.nodes
   step_node = new_node w t (reverse (drop (i + 1) steps)) (get_or steps i no_step) (reverse (take i steps)) grown inside below
@@ -343,17 +314,7 @@ abbrev pub root_with : ℕ → Position
 root_with end = record { place = 0; end = end; depth = 0; parent = 0; link = 0; jump = 0; up = 0; down = 0 }
 
 pub root_position : (w : Network) (place : ℕ → ℕ) (end : ℕ) → 1 ≤ w.nodes → place 0 ≡ 0 → IsPosition w place 0 (root_with end)
-root_position w place end some e = record {
-  place_is = sym e;
-  depth = omega arith;
-  parent = λ h. absurd (omega arith);
-  subtree = λ h. absurd (omega arith);
-  jump = passed_itself w place 0 some;
-  jump_earlier = λ h. absurd (omega arith);
-  jump_above = omega arith;
-  up = sym (takes_nothing w 0);
-  down = sym (takes_nothing w 0);
-}
+root_position w place end some e = grind (arith, takes_nothing)
 
 pub each_alike : (n u : ℕ) (q : Position) → u < n → at (replicate n q) u ≡ q
 each_alike zero u q h = absurd (omega arith)
@@ -365,13 +326,7 @@ pub position_set : (P : ℕ → Position → Type 0) (ss : List Step) (s : Step)
     → is_in (attached ss) s.node ≡ false → s.node < length ps
     → ((u : ℕ) → is_in (attached ss) u ≡ true → P u (at ps u))
     → P s.node q → (u : ℕ) → is_in (attached (s ∷ ss)) u ≡ true → P u (at (slice_set ps s.node q) u)
-position_set P ss s ps q new h told here u i =
-    elim (in_cases s.node u (attached ss) i) [
-      | inl e ↦ subst (λ y. P y (at (slice_set ps s.node q) y)) e
-          (subst (P s.node) (sym (get_or-set_same ps s.node q nowhere h)) here)
-      | inr j ↦ (let d : u ≢ s.node = λ e. both_ways _ new (subst (λ y. is_in (attached ss) y ≡ true) e j) in
-          subst (P u) (sym (get_or-set_other ps s.node u q nowhere d)) (told u j))
-    ]
+position_set P ss s ps q new h told here u i = grind (arith, get_or-set_same, get_or-set_other)
 
 -- what is known of the end of a position while others are missing
 pub record HasEnd (ends : List ℕ) (place : ℕ → ℕ) (u : ℕ) (q : Position) : Type 0 where

@@ -21,22 +21,10 @@ FreePath links passed u ls v = (ns : List ℕ) × IsWalk links u ls v ns × Apar
 -- ---- the far end of a link
 
 far_joins : (k : LinkSpec) (u x : ℕ) → far_end k u ≡ Some x → Joins k u x
-far_joins k u x h =
-    elim (cases_Bool (eqb k.a u)) [
-      | inl e ↦ (let q : Some k.b ≡ Some x = rw e at h in let r : k.b ≡ x = cc in inl (eqb-true k.a u e, r))
-      | inr e ↦ elim (cases_Bool (eqb k.b u)) [
-        | inl f ↦ (let q : Some k.a ≡ Some x = rw (e, f) at h in let r : k.a ≡ x = cc in inr (eqb-true k.b u f, r))
-        | inr f ↦ (let q : ◌≡◌ {A = Option ℕ} None (Some x) = rw (e, f) at h in cc)
-      ]
-    ]
+far_joins k u x h = grind arith
 
 pub joins_far : (k : LinkSpec) (u x : ℕ) → Joins k u x → far_end k u ≡ Some x
-joins_far k u x (inl p) = rw (eq-eqb k.a u p.0) (ap Some p.1)
-joins_far k u x (inr p) =
-    elim (cases_Bool (eqb k.a u)) [
-      | inl e ↦ rw e (ap Some (p.0 ∙ sym (eqb-true k.a u e) ∙ p.1))
-      | inr e ↦ rw (e, eq-eqb k.b u p.0) (ap Some p.1)
-    ]
+joins_far k u x h3 = grind arith
 
 -- ---- what was found is a path
 
@@ -77,13 +65,7 @@ first_way_found further passed u l (k ∷ ks) ls h =
     (λ ms e. first_way_found further passed u (l + 1) ks ms e)
 
 stay : (links : List LinkSpec) (passed : List ℕ) (u v : ℕ) → u ≡ v → is_in passed u ≡ false → FreePath links passed u [] v
-stay links passed u v e n = (
-  u ∷ [],
-  (e, refl),
-  (refl, tt),
-  λ m i. elim (in_cases u m [] i)
-      [ inl q ↦ subst (λ t. is_in passed t ≡ false) q n | inr q ↦ absurd (false≢true q) ],
-)
+stay links passed u v e n = grind arith
 
 go : (links : List LinkSpec) (passed : List ℕ) (u l : ℕ) (k : LinkSpec) (x : ℕ) (ms : List ℕ) (v : ℕ) → is_in passed u ≡ false
     → slice_get links l ≡ Some k → Joins k u x → FreePath links (u ∷ passed) x ms v → FreePath links passed u (l ∷ ms) v

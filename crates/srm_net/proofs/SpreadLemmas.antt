@@ -136,12 +136,7 @@ pub record EndsOf (w : Network) (l u near far : ℕ) : Type 0 where
 
 ends_by : (w : Network) (l : ℕ) (k : LinkSpec) → LinkOf w l k → (u x y : ℕ) → u < w.nodes → x < w.nodes → y < w.nodes → Joins k x y
     → is_in (route w x u) l ≡ true → EndsOf w l u y x
-ends_by w l k o u x y hu hx hy j i = record {
-  near_in = hy;
-  far_in = hx;
-  back = first_of w l k o u x y hu hx j (route w x u) refl i;
-  leads = end_joined w.links l k x y o.link j;
-}
+ends_by w l k o u x y hu hx hy j i = grind (arith, first_of)
 
 beyond_itself : (w : Network) (l : ℕ) (k : LinkSpec) → LinkOf w l k → is_beyond w l k k.b ≡ true
 beyond_itself w l k o =
@@ -163,22 +158,6 @@ ends_told w l k o u hu =
     ]
 
 -- ---- what becomes of the packet at a link
-
-crossed_by_ends : (o a c : Bool) → (not o && (a && c)) ≡ (a && (c && (c && not o)))
-crossed_by_ends true true true = refl
-crossed_by_ends true true false = refl
-crossed_by_ends true false c = refl
-crossed_by_ends false true true = refl
-crossed_by_ends false true false = refl
-crossed_by_ends false false c = refl
-
-dropped_by_ends : (o a c : Bool) → (o && (a && c)) ≡ (a && (c && not (c && not o)))
-dropped_by_ends true true true = refl
-dropped_by_ends true true false = refl
-dropped_by_ends true false c = refl
-dropped_by_ends false true true = refl
-dropped_by_ends false true false = refl
-dropped_by_ends false false c = refl
 
 -- a link, its ends as seen from the sender of a spread, and whether any member is beyond it
 pub record SeenFrom (w : Network) (l u near far : ℕ) (any : Bool) : Type 0 where
@@ -219,17 +198,11 @@ module _ (w : Network) (n : IsNetwork w) (l u near far : ℕ) (any : Bool) (seen
 
   pub crossed_in : crosses w rules p sent l
       ≡ (any && (comes_to w (takes_out rules p) u sent near && comes_to w (takes_out rules p) u sent far))
-  crossed_in =
-      crossed_plain ∙ crossed_by_ends (takes_out rules p (stop l (sent + delay_along w.links u (route w u near)))) any
-      (comes_to w (takes_out rules p) u sent near)
-      ∙ ap (λ b. any && (comes_to w (takes_out rules p) u sent near && b)) (sym over)
+  crossed_in = grind (arith, crossed_plain, over)
 
   pub dropped_in : drops_at w rules p sent l
       ≡ (any && (comes_to w (takes_out rules p) u sent near && not (comes_to w (takes_out rules p) u sent far)))
-  dropped_in =
-      dropped_plain ∙ dropped_by_ends (takes_out rules p (stop l (sent + delay_along w.links u (route w u near)))) any
-      (comes_to w (takes_out rules p) u sent near)
-      ∙ ap (λ b. any && (comes_to w (takes_out rules p) u sent near && not b)) (sym over)
+  dropped_in = grind (arith, dropped_plain, over)
 
 -- what a spread tells of a link
 module _ (w : Network) (n : IsNetwork w) (l u near far : ℕ) (any : Bool) (seen : SeenFrom w l u near far any) (s : PlainSpread)
@@ -242,10 +215,7 @@ module _ (w : Network) (n : IsNetwork w) (l u near far : ℕ) (any : Bool) (seen
   home = e ∙ ap (host w) is.sender
 
   read : (x : ℕ) (b : Bool) → x < w.nodes → slice_get s.comes x ≡ Some b → comes_to w (takes_out rules p) u sent x ≡ b
-  read x b lt g =
-      let q : Some (comes_to w (takes_out rules p) (host w p.sender) sent x) ≡ Some b = sym (is.each x lt) ∙ g in
-      let r : comes_to w (takes_out rules p) (host w p.sender) sent x ≡ b = cc in
-      ap (λ v. comes_to w (takes_out rules p) v sent x) home ∙ r
+  read x b lt g = grind arith
 
   ends : EndsOf w l u near far
   ends = seen_ends w n l u near far any (subst (λ z. z < w.nodes) (sym home) (host_below w n p.sender below)) seen
@@ -304,10 +274,7 @@ pub reached_there : (w : Network) (s : PlainSpread) (rules : DropRules) (p : Pac
     → (m x : ℕ) (b : Bool) → x ≡ host w m → x < w.nodes → slice_get s.comes x ≡ Some b
     → b ≡ reaches w rules p sent m
 unfolding comes_to reaches
-reached_there w s rules p sent is m x b e lt g =
-    let q : Some b ≡ Some (comes_to w (takes_out rules p) (host w p.sender) sent x) = sym g ∙ is.each x lt in
-    let r : b ≡ comes_to w (takes_out rules p) (host w p.sender) sent x = cc in
-    r ∙ ap (comes_to w (takes_out rules p) (host w p.sender) sent) e
+reached_there w s rules p sent is m x b e lt g = grind arith
 
 -- ---- a packet that may not be dropped
 
@@ -329,9 +296,4 @@ get_all (suc n) b (suc x) h = get_all n b x (omega arith)
 
 pub spread_everywhere : (w : Network) (rules : DropRules) (p : PacketId) (sent n : ℕ) (s : PlainSpread) → may_drop rules p sent ≡ false → n
     ≡ w.nodes → s.sender ≡ p.sender → s.comes ≡ replicate n true → IsSpread w rules p sent s
-spread_everywhere w rules p sent n s h e f g = record {
-  sender = f;
-  nodes = ap length g ∙ length-replicate n true ∙ e;
-  each = λ x lt. ap (λ bs. slice_get bs x) g ∙ get_all n true x (subst (λ m. x < m) (sym e) lt)
-      ∙ ap Some (sym (comes_everywhere w rules p sent (host w p.sender) x h));
-}
+spread_everywhere w rules p sent n s h e f g = grind (arith, length-replicate, get_all, comes_everywhere)

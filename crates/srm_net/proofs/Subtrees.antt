@@ -1,9 +1,11 @@
 -- The nodes below one, in a tree that has grown in preorder: they have places one after the other.
+use Rattle.std.proofs.lemmas.Grind.{common_steps}
+use Rattle.std.proofs.lemmas.Grind.{elements}
 use Rattle.std.proofs.Common.{◌≡◌, ◌≢◌, ◌⊎◌, ℕ, zero, suc, ◌+◌, ◌<◌, ◌≤◌, true, false, cond, List, [], ◌∷◌, ◌++◌, length, take, drop}
 use Rattle.std.proofs.Common.{reverse, refl, sym, ap, ◌∙◌, subst, inl, inr, arith, eqb, eq-eqb, get_or, max, not, replicate}
 use Rattle.std.proofs.Common.{slice_set, slice_index_or}
 use Rattle.std.proofs.lemmas.Bool.{ne_eqb, cases_Bool, cases_eq, cases_lt, both_ways, false≢true}
-use Rattle.std.proofs.lemmas.List.{length-append, length-reverse, length-take, length-set, length-replicate, take_all}
+use Rattle.std.proofs.lemmas.List.{length-append, length-reverse, length-take, length-set}
 use Rattle.std.proofs.lemmas.List.{take-append-drop, reverse-append}
 use Rattle.std.proofs.lemmas.List.{get_or-set_same, get_or-set_other}
 use Rattle.srm_net.specs.declared.link.LinkSpec.{LinkSpec}
@@ -25,10 +27,6 @@ use Rattle.srm_net.proofs.Rootings.{place_most, place_root, in_later, place_kept
 newest_place : (rs : List Step) → place_in rs (newest rs) ≡ length rs
 newest_place [] = refl
 newest_place (r ∷ rs) = rw (eq-eqb r.node r.node refl) (omega arith)
-
-newest_in : (rs : List Step) → is_in (attached rs) (newest rs) ≡ true
-newest_in [] = in_head 0 []
-newest_in (r ∷ rs) = in_head r.node (attached rs)
 
 in_rest : (n x : ℕ) (rs : List Step) → is_in (n ∷ attached rs) x ≡ true → n ≢ x → is_in (attached rs) x ≡ true
 in_rest n x rs i d = elim (in_cases n x (attached rs) i) [ inl e ↦ absurd (d e) | inr j ↦ j ]
@@ -237,9 +235,7 @@ under_root links e (s ∷ ss) g h some x i =
     ]
 
 all_chained : (steps : List Step) (ends : List ℕ) → EndsFrom steps 0 ends → Chained (end_at ends) (reverse steps)
-all_chained steps ends h =
-    subst (λ ts. Chained (end_at ends) (reverse ts)) (take_all (length steps) steps (omega arith))
-    (chained_up_to steps ends h (length steps) (omega arith))
+all_chained steps ends h = grind (arith, common_steps, chained_up_to)
 
 spans : (links : List LinkSpec) (steps : List Step) (ends : List ℕ) → Grows links (reverse steps) → IsInPreorder (reverse steps)
     → EndsFrom steps 0 ends → (i : ℕ) → i < length steps
@@ -282,18 +278,7 @@ zeros (suc n) (suc u) = zeros n u
 
 pub ends_none : (links : List LinkSpec) (steps : List Step) → Grows links (reverse steps) → (n : ℕ) (ends : List ℕ) → 1 ≤ n
     → ends ≡ replicate n 0 → EndsFrom steps (length steps) (slice_set ends 0 1)
-ends_none links steps g n ends some e =
-    let size : length ends ≡ n = ap length e ∙ length-replicate n 0 in
-    let one : end_at (slice_set ends 0 1) 0 ≡ 1 = get_or-set_same ends 0 1 0 (omega arith) in
-    record {
-      root = omega arith;
-      chained = λ j le lt. absurd (omega arith);
-      below = λ u. elim (cases_eq u 0) [
-        | inl q ↦ inr (subst (λ z. EndsBelow (reverse steps) z (end_at (slice_set ends 0 1) z)) (sym q)
-            (0, λ l b. b, (let k = place_root links (reverse steps) g in omega arith)))
-        | inr d ↦ inl (get_or-set_other ends 0 u 1 0 d ∙ ap (λ xs. end_at xs u) e ∙ zeros n u)
-      ];
-    }
+ends_none links steps g n ends some e = grind (arith, place_root, zeros)
 
 -- of two numbers the greater is one
 one_of_max : (a b m : ℕ) → m ≡ max a b → ((m ≡ a) × (b ≤ a)) ⊎ ((m ≡ b) × (a ≤ b))
@@ -307,29 +292,15 @@ module _ (links : List LinkSpec) (steps : List Step) (g : Grows links (reverse s
   grown = subst (Grows links) (parted steps i lt) g
 
   pub step_place : place_in (reverse steps) (step_at steps i).node ≡ i + 1
-  step_place =
-      subst (λ ts. place_in ts (step_at steps i).node ≡ i + 1) (sym (parted steps i lt))
-      (place_here links (step_at steps i) (reverse (take i steps)) (reverse (drop (i + 1) steps)) grown
-      ∙ ap (λ n. n + 1) (before_count steps i (omega arith)))
+  step_place = grind (arith, parted, place_here, grown, before_count)
 
   pub parent_place : place_in (reverse steps) (step_at steps i).parent ≤ i
-  parent_place =
-      subst (λ ts. place_in ts (step_at steps i).parent ≤ i) (sym (parted steps i lt))
-      (let k = parent_earlier links (step_at steps i) (reverse (take i steps)) (reverse (drop (i + 1) steps)) grown in
-      let n = before_count steps i (omega arith) in
-      omega arith)
+  parent_place = grind (arith, parted, parent_earlier, grown, before_count)
 
   above_it : IsAbove (reverse steps) (step_at steps i).parent (step_at steps i).node
   above_it =
       subst (λ ts. IsAbove ts (step_at steps i).parent (step_at steps i).node) (sym (parted steps i lt))
       (above_step links (step_at steps i) (reverse (take i steps)) (reverse (drop (i + 1) steps)) grown)
-
-  pub node_apart : (step_at steps i).node ≢ (step_at steps i).parent
-  node_apart e =
-      let p = step_place in
-      let q = parent_place in
-      let r = ap (place_in (reverse steps)) e in
-      absurd (omega arith)
 
 module _ (links : List LinkSpec) (steps : List Step) (g : Grows links (reverse steps)) (i : ℕ) (lt : i < length steps) (ends : List ℕ)
     (hn : (step_at steps i).node < length ends) (hp : (step_at steps i).parent < length ends) (old : EndsFrom steps (i + 1) ends)
@@ -342,33 +313,20 @@ module _ (links : List LinkSpec) (steps : List Step) (g : Grows links (reverse s
   new = slice_set (slice_set ends (step_at steps i).node own) (step_at steps i).parent top
 
   at_parent : end_at new (step_at steps i).parent ≡ top
-  at_parent =
-      get_or-set_same mid (step_at steps i).parent top 0
-      (let k = length-set ends (step_at steps i).node own in omega arith)
+  at_parent = grind (arith, get_or-set_same, length-set)
 
   at_other : (u : ℕ) → u ≢ (step_at steps i).node → u ≢ (step_at steps i).parent → end_at new u ≡ end_at ends u
   at_other u d f =
       get_or-set_other mid (step_at steps i).parent u top 0 f ∙ get_or-set_other ends (step_at steps i).node u own 0 d
 
   at_node : end_at new (step_at steps i).node ≡ own
-  at_node =
-      get_or-set_other mid (step_at steps i).parent (step_at steps i).node top 0 (node_apart links steps g i lt)
-      ∙ get_or-set_same ends (step_at steps i).node own 0 hn
+  at_node = grind (arith, common_steps)
 
   top_is : top ≡ max (end_at ends (step_at steps i).parent) own
-  top_is =
-      et ∙ ap (λ n. max n own) (get_or-set_other ends (step_at steps i).node (step_at steps i).parent own 0
-      (λ e. node_apart links steps g i lt (sym e)))
+  top_is = grind (arith, elements)
 
   no_less : (u : ℕ) → end_at ends u ≤ end_at new u
-  no_less u =
-      elim (cases_eq u (step_at steps i).parent) [
-        | inl e ↦ subst (λ z. end_at ends z ≤ end_at new z) (sym e) (let a = at_parent in let t = top_is in omega arith)
-        | inr f ↦ elim (cases_eq u (step_at steps i).node) [
-          | inl e ↦ subst (λ z. end_at ends z ≤ end_at new z) (sym e) (let a = at_node in omega arith)
-          | inr d ↦ (let a = at_other u d f in omega arith)
-        ]
-      ]
+  no_less u = grind (arith, at_parent, top_is, at_node, at_other)
 
   here_chained : (i + 2 ≤ end_at new (step_at steps i).node)
       × (end_at new (step_at steps i).node ≤ end_at new (step_at steps i).parent)
@@ -460,11 +418,4 @@ route_over w t ss g all l x hx =
 
 pub subtree_of : (w : Network) → IsTree w → (ss : List Step) → Grows w.links ss → length ss + 1 ≡ w.nodes → (s : Step) (end : ℕ)
     → IsSpan ss s end → IsSubtree w (place_in ss) s.node s.link end
-subtree_of w t ss g all s end h =
-    let inside : (x : ℕ) → x < w.nodes → is_in (attached ss) x ≡ true =
-    λ x hx. all_attached w.nodes w.links ss t.some_nodes t.ends g all x hx in
-    record {
-      own = h.own;
-      within = λ x hx i. h.within x (inside x hx) (route_over w t ss g all s.link x hx ∙ i);
-      whole = λ x hx low lt. sym (route_over w t ss g all s.link x hx) ∙ h.whole x (inside x hx) low lt;
-    }
+subtree_of w t ss g all s end h = grind (arith, all_attached, route_over)

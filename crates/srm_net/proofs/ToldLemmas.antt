@@ -1,12 +1,11 @@
 -- What a network's tables of sides and of least distances give.
-use Rattle.std.proofs.Common.{◌≡◌, ℕ, ◌+◌, ◌<◌, Bool, true, false, not, ◌&&◌, cond, refl, List, [], ◌∷◌, ◌++◌, length, Option}
-use Rattle.std.proofs.Common.{Some, sym, ap, ◌∙◌, subst, inl, inr, arith, slice_get, slice_index_or}
+use Rattle.std.proofs.Common.{◌≡◌, ℕ, ◌+◌, ◌<◌, Bool, cond, List, [], ◌∷◌, ◌++◌, length, Option}
+use Rattle.std.proofs.Common.{Some, sym, ◌∙◌, subst, inl, inr, arith, slice_get, slice_index_or}
 use Rattle.std.proofs.lemmas.Bool.{cases_eq}
 use Rattle.srm_net.specs.declared.link.LinkSpec.{LinkSpec}
 use Rattle.srm_net.specs.declared.sides.Sides.{Sides}
 use Rattle.srm_net.specs.declared.net.Net.TheInside.{Inside}
 use Rattle.srm_net.specs.Network.{Network}
-use Rattle.srm_net.specs.Paths.{host}
 use Rattle.srm_net.specs.Tables.{is_beyond, near_end, some_beyond, TellsSides}
 use Rattle.srm_net.specs.Least.{out}
 use Rattle.srm_net.specs.Told.{IsTold}
@@ -16,13 +15,7 @@ use Rattle.srm_net.proofs.Lists.{get_below, below_get, get_index, get_push_old, 
 pub sides_told : (n : Inside) → IsTold n → (l : ℕ) (k : LinkSpec) → slice_get n.tree.value.links l ≡ Some k → (s : Sides) → s
     ≡ slice_index_or n.sides.items l s → (u : ℕ) → (b : Bool) → is_beyond n.tree.value l k u ≡ b
     → cond b s.a s.b ≡ some_beyond n.tree.value l k u
-sides_told n i l k g s r u b q =
-    let told = i.sides l k g in
-    let same : s ≡ told.0 = r ∙ get_index n.sides.items l told.0 s told.1 in
-    elim b as (λ t. is_beyond n.tree.value l k u ≡ t → cond t s.a s.b ≡ some_beyond n.tree.value l k u) [
-      | true ↦ λ h. rw h (ap (λ (x : Sides). x.a) same ∙ told.2.a)
-      | false ↦ λ h. rw h (ap (λ (x : Sides). x.b) same ∙ told.2.b)
-    ] q
+sides_told n i l k g s r u b q = grind (arith, get_index)
 
 pub side_below : (n : Inside) → IsTold n → (l : ℕ) → l < length n.tree.value.links → l < length n.sides.items
 side_below n i l h = let k = below_get n.tree.value.links l h in let told = i.sides l k.0 k.1 in get_below n.sides.items l told.0 told.1
@@ -31,25 +24,16 @@ side_below n i l h = let k = below_get n.tree.value.links l h in let told = i.si
 
 module _ (w n : Network) (e : w ≡ n) (l u : ℕ) (spec : LinkSpec) (g : slice_get w.links l ≡ Some spec) (k : LinkSpec)
     (h : slice_get n.links l ≡ Some k) where
-  spec_same : spec ≡ k
-  spec_same = let r : Some spec ≡ Some k = sym g ∙ ap (λ (v : Network). slice_get v.links l) e ∙ h in cc
-
   pub near_seen : (b : Bool) → ((j : LinkSpec) → slice_get w.links l ≡ Some j → b ≡ is_beyond w l j u) → cond b spec.b spec.a
       ≡ near_end n l k u
-  near_seen b t =
-      let q : b ≡ is_beyond n l k u = t spec g ∙ ap (λ (j : LinkSpec). is_beyond w l j u) spec_same
-      ∙ ap (λ (v : Network). is_beyond v l k u) e in
-      ap (λ (j : LinkSpec). cond b j.b j.a) spec_same ∙ ap (λ c. cond c k.b k.a) q
+  near_seen b t = grind arith
 
 pub any_seen : (i : Inside) → IsTold i → (n : Network) → i.tree.value ≡ n → (l u f : ℕ) (s : Sides) → f ≡ l
     → s ≡ slice_index_or i.sides.items f s
     → (k : LinkSpec) → slice_get n.links l ≡ Some k
     → (b : Bool) → ((j : LinkSpec) → slice_get i.tree.value.links l ≡ Some j → b ≡ is_beyond i.tree.value l j u)
     → cond b s.a s.b ≡ some_beyond n l k u
-any_seen i t n e l u f s q r k h b y =
-    let g : slice_get i.tree.value.links l ≡ Some k = ap (λ (v : Network). slice_get v.links l) e ∙ h in
-    sides_told i t l k g s (r ∙ ap (λ z. slice_index_or i.sides.items z s) q) u b (sym (y k g))
-    ∙ ap (λ (v : Network). some_beyond v l k u) e
+any_seen i t n e l u f s q r k h b y = grind (arith, sides_told)
 
 -- ---- making the tables
 

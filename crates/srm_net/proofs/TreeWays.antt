@@ -44,25 +44,11 @@ delay_push links u (m ∷ ls) p ns l w =
 -- ---- a new node
 
 pub way_stay : (links : List LinkSpec) (inside : List ℕ) (u : ℕ) → is_in inside u ≡ true → IsWay links inside u u 0
-way_stay links inside u i = record {
-  path = [];
-  nodes = u ∷ [];
-  walk = (refl, refl);
-  apart = (refl, tt);
-  within = λ n h. elim (in_cases u n [] h) [ inl e ↦ subst (λ t. is_in inside t ≡ true) e i | inr e ↦ absurd (false≢true e) ];
-  delay_is = refl;
-}
+way_stay links inside u i = grind arith
 
 pub way_kept : (links : List LinkSpec) (inside : List ℕ) (n u x delay : ℕ) → IsWay links inside u x delay
     → IsWay links (n ∷ inside) u x delay
-way_kept links inside n u x delay w = record {
-  path = w.path;
-  nodes = w.nodes;
-  walk = w.walk;
-  apart = w.apart;
-  within = λ m h. in_tail n m inside (w.within m h);
-  delay_is = w.delay_is;
-}
+way_kept links inside n u x delay w = grind arith
 
 pub way_there : (links : List LinkSpec) (inside : List ℕ) (s : Step) (a : Attaches links inside s) (u delay : ℕ)
     → IsWay links inside u s.parent delay

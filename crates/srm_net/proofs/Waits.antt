@@ -1,25 +1,22 @@
 -- A tree that grows by steps that waited.
+use Rattle.std.proofs.lemmas.Grind.{elements}
 use Rattle.std.proofs.Common.{◌≡◌, ◌⊎◌, ℕ, ◌+◌, ◌*◌, ◌<◌, ◌≤◌, Bool, true, false, List, [], ◌∷◌, ◌++◌, length, reverse}
-use Rattle.std.proofs.Common.{Some, refl, sym, ap, ◌∙◌, subst, inl, inr, arith, eqb, slice_get, All}
-use Rattle.std.proofs.lemmas.Bool.{cases_Bool, both_ways, false≢true}
+use Rattle.std.proofs.Common.{Some, refl, sym, ap, ◌∙◌, subst, inl, inr, arith, slice_get, All}
+use Rattle.std.proofs.lemmas.Bool.{both_ways, false≢true}
 use Rattle.std.proofs.lemmas.List.{reverse-append, map-append}
 use Rattle.srm_net.specs.declared.link.LinkSpec.{LinkSpec}
 use Rattle.srm_net.specs.declared.step.Step.{Step}
 use Rattle.srm_net.specs.Network.{plain_network, Joins, IsWithin, IsTree}
 use Rattle.srm_net.specs.Paths.{is_in}
-use Rattle.srm_net.specs.Growth.{Attaches, attached, Grows, beyond, IsAbove}
+use Rattle.srm_net.specs.Growth.{Attaches, attached, Grows, IsAbove}
 use Rattle.srm_net.specs.Waiting.{targets, LeadsFrom, Wait, AddsSteps}
-use Rattle.srm_net.specs.Known.{is_known}
 use Rattle.srm_net.proofs.Lists.{all_get}
 use Rattle.srm_net.proofs.Marks.{KnownAre}
-use Rattle.srm_net.proofs.Numbers.{in_head, in_tail, in_append_left, in_append_right, in_cases, in_append_cases, one_missing, few_apart}
-use Rattle.srm_net.proofs.Growing.{attached_length, attached_apart, attached_below, beyond_new, beyond_old, joins_below, leaves_by}
+use Rattle.srm_net.proofs.Numbers.{in_append_left, in_append_right, in_append_cases, one_missing, few_apart}
+use Rattle.srm_net.proofs.Growing.{attached_length, attached_apart, attached_below, beyond_old, joins_below, leaves_by}
 use Rattle.srm_net.proofs.Growing.{root_attached}
 
 -- ---- above
-
-pub above_itself : (ss : List Step) (x : ℕ) → IsAbove ss x x
-above_itself ss x l h = h
 
 above_on : (ss : List Step) (p q x : ℕ) → IsAbove ss p q → IsAbove ss q x → IsAbove ss p x
 above_on ss p q x a b l h = b l (a l h)
@@ -30,19 +27,12 @@ above_kept s ss p x new hp hx a l h = beyond_old s ss l x new hx ∙ a l (sym (b
 
 above_new : (s : Step) (ss : List Step) (p : ℕ) → is_in (attached ss) s.node ≡ false → is_in (attached ss) p ≡ true
     → IsAbove ss p s.parent → IsAbove (s ∷ ss) p s.node
-above_new s ss p new hp a l h =
-    let up : beyond ss l s.parent ≡ true = a l (sym (beyond_old s ss l p new hp) ∙ h) in
-    beyond_new s ss l ∙ elim (cases_Bool (eqb s.link l)) [ inl e ↦ rw e refl | inr e ↦ rw e up ]
+above_new s ss p new hp a l h = grind arith
 
 -- ---- waiting
 
 leads_kept : (links : List LinkSpec) (s : Step) (ss : List Step) (r : Step) → LeadsFrom links ss r → LeadsFrom links (s ∷ ss) r
-leads_kept links s ss r f = record {
-  spec = f.spec;
-  link = f.link;
-  joins = f.joins;
-  parent = in_tail s.node r.parent (attached ss) f.parent;
-}
+leads_kept links s ss r f = grind arith
 
 waits_kept : (links : List LinkSpec) (s : Step) (ss : List Step) (x : ℕ) (rest : List Step) → is_in (attached ss) s.node ≡ false
     → is_in (attached ss) x ≡ true → Wait links ss x rest → Wait links (s ∷ ss) x rest
@@ -71,12 +61,7 @@ waits_skip links ss x s (r ∷ rest) w = (w.2.0, above_on ss r.parent s.parent x
 
 pub waits_push : (links : List LinkSpec) (ss : List Step) (x : ℕ) (ps : List Step) (s : Step) → s.parent ≡ x → LeadsFrom links ss s
     → Wait links ss x (reverse ps) → Wait links ss x (reverse (ps ++ s ∷ []))
-waits_push links ss x ps s e f w =
-    subst (Wait links ss x) (sym (reverse-append ps (s ∷ []))) (
-      f,
-      subst (λ y. IsAbove ss s.parent y) e (above_itself ss s.parent),
-      subst (λ y. Wait links ss y (reverse ps)) (sym e) w,
-    )
+waits_push links ss x ps s e f w = grind (arith, reverse-append)
 
 pub attaches_waited : (links : List LinkSpec) (ss : List Step) (s : Step) → LeadsFrom links ss s → is_in (attached ss) s.node ≡ false
     → Attaches links (attached ss) s
@@ -102,57 +87,17 @@ Covers links ss pending =
 
 target_cases : (ps : List Step) (s : Step) (x : ℕ) → is_in (targets (ps ++ s ∷ [])) x ≡ true
     → (is_in (targets ps) x ≡ true) ⊎ (s.node ≡ x)
-target_cases ps s x h =
-    elim (in_append_cases (targets ps) (s.node ∷ []) x
-    (subst (λ ns. is_in ns x ≡ true) (map-append (λ (t : Step). t.node) ps (s ∷ [])) h)) [
-      | inl e ↦ inl e
-      | inr e ↦ elim (in_cases s.node x [] e) [ inl f ↦ inr f | inr f ↦ absurd (false≢true f) ]
-    ]
+target_cases ps s x h = grind (arith, in_append_cases, map-append)
 
 pub covers_skip : (links : List LinkSpec) (ss ps : List Step) (s : Step) → is_in (attached ss) s.node ≡ true
     → Covers links ss (ps ++ s ∷ [])
     → Covers links ss ps
-covers_skip links ss ps s known c l k u x g j i =
-    elim (c l k u x g j i) [
-      | inl e ↦ inl e
-      | inr e ↦ elim (target_cases ps s x e) [
-        | inl f ↦ inr f
-        | inr f ↦ inl (subst (λ y. is_in (attached ss) y ≡ true) f known)
-      ]
-    ]
-
--- the neighbours of one node more
-covers_added : (nodes : ℕ) (links : List LinkSpec) (ss : List Step) (marks : List Bool) (old new : List Step) (y : ℕ)
-    → All (IsWithin nodes) links
-    → KnownAre nodes ss marks → AddsSteps links marks y old new
-    → (l : ℕ) (k : LinkSpec) (x : ℕ) → slice_get links l ≡ Some k → Joins k y x
-    → (is_in (attached ss) x ≡ true) ⊎ (is_in (targets new) x ≡ true)
-covers_added nodes links ss marks old new y ends agree a l k x g j =
-    let below : x < nodes = (joins_below nodes k y x (all_get (IsWithin nodes) links l k ends g) j).1 in
-    elim (cases_Bool (is_known marks x)) [ inl e ↦ inl (sym (agree x below) ∙ e) | inr e ↦ inr (a.each l k x g j e) ]
+covers_skip links ss ps s known c l k u x g j i = grind (arith, target_cases)
 
 pub covers_new : (nodes : ℕ) (links : List LinkSpec) (s : Step) (ss : List Step) (marks : List Bool) (ps new : List Step)
     → All (IsWithin nodes) links
     → KnownAre nodes (s ∷ ss) marks → AddsSteps links marks s.node ps new → Covers links ss (ps ++ s ∷ []) → Covers links (s ∷ ss) new
-covers_new nodes links s ss marks ps new ends agree a c l k u x g j i =
-    elim (in_cases s.node u (attached ss) i) [
-      | inl e ↦ covers_added nodes links (s ∷ ss) marks ps new s.node ends agree a l k x g (subst (λ y. Joins k y x) (sym e) j)
-      | inr e ↦ elim (c l k u x g j e) [
-        | inl f ↦ inl (in_tail s.node x (attached ss) f)
-        | inr f ↦ elim (target_cases ps s x f) [
-          | inl h ↦ inr (a.kept x h)
-          | inr h ↦ inl (subst (λ y. is_in (s.node ∷ attached ss) y ≡ true) h (in_head s.node (attached ss)))
-        ]
-      ]
-    ]
-
-pub covers_root : (nodes : ℕ) (links : List LinkSpec) (marks : List Bool) (new : List Step) → All (IsWithin nodes) links
-    → KnownAre nodes [] marks → AddsSteps links marks 0 [] new → Covers links [] new
-covers_root nodes links marks new ends agree a l k u x g j i =
-    elim (in_cases 0 u [] i) [
-      | inl e ↦ covers_added nodes links [] marks [] new 0 ends agree a l k x g (subst (λ y. Joins k y x) (sym e) j)
-      | inr e ↦ absurd (false≢true e)
-    ]
+covers_new nodes links s ss marks ps new ends agree a c l k u x g j i = grind (arith, elements, target_cases)
 
 -- ---- the end
 
@@ -183,9 +128,7 @@ none_left [] e = refl
 none_left (s ∷ ss) e = absurd (omega arith)
 
 pub fewer_wait : (m n links old new : ℕ) → m ≡ n + 1 → new ≤ old + links → n * (links + 1) + new < m * (links + 1) + (old + 1)
-fewer_wait m n links old new e h =
-    let p : m * (links + 1) ≡ n * (links + 1) + (links + 1) = ap (λ t. t * (links + 1)) e ∙ omega arith in
-    omega arith
+fewer_wait m n links old new e h = grind arith
 
 -- ---- one more waits
 
@@ -194,6 +137,4 @@ target_kept ps s x h =
     subst (λ ns. is_in ns x ≡ true) (sym (map-append (λ (t : Step). t.node) ps (s ∷ []))) (in_append_left (targets ps) (s.node ∷ []) x h)
 
 pub target_new : (ps : List Step) (s : Step) (x : ℕ) → s.node ≡ x → is_in (targets (ps ++ s ∷ [])) x ≡ true
-target_new ps s x e =
-    subst (λ ns. is_in ns x ≡ true) (sym (map-append (λ (t : Step). t.node) ps (s ∷ [])))
-    (in_append_right (targets ps) (s.node ∷ []) x (subst (λ y. is_in (s.node ∷ []) y ≡ true) e (in_head s.node [])))
+target_new ps s x e = grind (arith, map-append, in_append_right)

@@ -1,4 +1,5 @@
 -- Walks and paths in a list of links.
+use Rattle.std.proofs.Common.{arith}
 use Rattle.std.proofs.Common.{◌≡◌, ◌⊎◌, ℕ, Bool, true, false, not, cond, List, [], ◌∷◌, Some, refl, sym, ap, ◌∙◌, subst, inl, inr, eqb}
 use Rattle.std.proofs.Common.{eqb-true, slice_get}
 use Rattle.std.proofs.lemmas.Bool.{cases_Bool, both_ways, true≢false, false≢true}
@@ -18,10 +19,7 @@ walk_last links u (l ∷ ls) v ns w =
 
 -- the ends of a link are the same two nodes however it is crossed
 pub same_ends : (k : LinkSpec) (u x z y : ℕ) → Joins k u x → Joins k z y → ((z ≡ u) × (y ≡ x)) ⊎ ((z ≡ x) × (y ≡ u))
-same_ends k u x z y (inl p) (inl q) = inl (sym q.0 ∙ p.0, sym q.1 ∙ p.1)
-same_ends k u x z y (inl p) (inr q) = inr (sym q.0 ∙ p.1, sym q.1 ∙ p.0)
-same_ends k u x z y (inr p) (inl q) = inr (sym q.0 ∙ p.1, sym q.1 ∙ p.0)
-same_ends k u x z y (inr p) (inr q) = inl (sym q.0 ∙ p.0, sym q.1 ∙ p.1)
+same_ends k u x z y h5 h6 = grind arith
 
 pub same_far : (k : LinkSpec) (u x y : ℕ) → Joins k u x → Joins k u y → x ≡ y
 same_far k u x y p q = elim (same_ends k u x u y p q) [ inl e ↦ sym e.1 | inr e ↦ sym e.0 ∙ sym e.1 ]

@@ -1,31 +1,31 @@
 -- What has no fault is as every accepted scenario is.
-use Rattle.std.proofs.Common.{◌≡◌, ◌≢◌, ℕ, ◌+◌, ◌<◌, ◌≤◌, Bool, true, false, not, cond, List, [], ◌∷◌, ◌++◌, length, map, Option, Some}
-use Rattle.std.proofs.Common.{None, nat_le, nat_lt, nat_eq, slice_get, Ordering, Less, Equal, Greater, refl, sym, ap, ◌∙◌, subst, arith}
+use Rattle.std.proofs.Common.{◌≡◌, ℕ, ◌+◌, ◌<◌, ◌≤◌, Bool, true, false, not, cond, List, [], ◌∷◌, ◌++◌, length, map, Option, Some}
+use Rattle.std.proofs.Common.{None, nat_eq, Ordering, refl, sym, ap, ◌∙◌, subst, arith}
 use Rattle.std.proofs.Common.{inl, inr}
-use Rattle.std.proofs.lemmas.Bool.{and_parts, cases_Bool, false≢true, not-true}
+use Rattle.std.proofs.lemmas.Bool.{cases_Bool, false≢true}
 use Rattle.std.proofs.lemmas.Bool.Decides.{nat_tests}
 use Rattle.std.proofs.lemmas.List.Elements.{All-from_recursion}
 use Rattle.std.specs.List.{AllByRecursion, IsDistinct}
 use Rattle.std.specs.Ordering.{match_ordering}
-use Rattle.std.specs.Prelude.{◌&&◌, ◌||◌, ◌==◌}
+use Rattle.std.specs.Prelude.{◌||◌, ◌==◌}
 use Rattle.srm_net.specs.declared.link.DropSpec.{DropSpec}
 use Rattle.srm_net.specs.declared.link.OutageSpec.{OutageSpec}
 use Rattle.srm_net.specs.declared.role.Role.{Role}
-use Rattle.srm_net.specs.declared.role.Role.TheVariants.{Sender, Receiver, Late, Listener}
+use Rattle.srm_net.specs.declared.role.Role.TheVariants.{Sender, Late}
 use Rattle.srm_net.specs.DropSets.{with_once, ordered_once}
 use Rattle.srm_net.specs.Network.{HasDelays}
 use Rattle.srm_net.specs.Paths.{drop_cmp}
 use Rattle.srm_net.proofs.DropLemmas.{drops_ascend}
 use Rattle.srm_scenario.specs.declared.entry.MemberEntry.{MemberEntry}
 use Rattle.srm_scenario.specs.declared.fault.ScenarioFault.{ScenarioFault}
-use Rattle.srm_scenario.specs.declared.fault.ScenarioFault.TheVariants.{NotTree, BadMember, BadDraw, BadSession, BadDrop, BadOutage}
+use Rattle.srm_scenario.specs.declared.fault.ScenarioFault.TheVariants.{NotTree, BadDraw, BadSession, BadDrop, BadOutage}
 use Rattle.srm_scenario.specs.declared.parts.DrawSpec.{DrawSpec}
 use Rattle.srm_scenario.specs.declared.parts.MemberSpec.{MemberSpec}
 use Rattle.srm_scenario.specs.declared.parts.SessionSpec.{SessionSpec}
 use Rattle.srm_scenario.specs.Accepted.{IsMember, IsThere, IsDraw, IsSession, IsDrop, IsOutage, IsAccepted}
 use Rattle.srm_scenario.specs.Presence.{is_up_to}
-use Rattle.srm_net.specs.Roles.{is_sender, is_late, is_listener}
-use Rattle.srm_scenario.specs.Faults.{faults_by, fault_unless, is_there, leaves_after, is_taken, fits_member, member_faults, if_member}
+use Rattle.srm_net.specs.Roles.{is_sender, is_late}
+use Rattle.srm_scenario.specs.Faults.{faults_by, fault_unless, is_there, leaves_after, is_taken, member_faults}
 use Rattle.srm_scenario.specs.Faults.{fits_draw, fits_session, fits_drop, fits_outage, meaning_faults}
 use Rattle.srm_scenario.specs.Plain.{PlainScenario, network_of}
 use Rattle.srm_scenario.specs.Ranges.{MemberInRange, HasItsPages, InRange}
@@ -62,66 +62,29 @@ stays at None h end e = cc
 stays at (Some last) h end e = let same : last ≡ end = cc in grind (arith, nat_tests)
 
 there : (until at : ℕ) (k : MemberSpec) → is_there until at k ≡ true → IsThere until at k
-there until at k h =
-    let (joined, rest) = and_parts (nat_le k.join at) (is_up_to at k.leave && nat_lt at until) h in
-    let (stay, early) = and_parts (is_up_to at k.leave) (nat_lt at until) rest in
-    record {
-      joined = grind (arith, nat_tests);
-      stays = stays at k.leave stay;
-      early = grind (arith, nat_tests);
-    }
+there until at k h = grind arith
 
 sends : (r : Role) → is_sender r ≡ true → r ≡ Sender
-sends Sender h = refl
-sends Receiver h = absurd (false≢true h)
-sends Late h = absurd (false≢true h)
-sends Listener h = absurd (false≢true h)
-
-speaks : (r : Role) → not (is_listener r) ≡ true → r ≢ Listener
-speaks Sender h e = cc
-speaks Receiver h e = cc
-speaks Late h e = cc
-speaks Listener h e = absurd (false≢true h)
+sends r h = grind arith
 
 late : (r : Role) → is_late r ≡ true → r ≡ Late
-late Sender h = absurd (false≢true h)
-late Receiver h = absurd (false≢true h)
-late Late h = refl
-late Listener h = absurd (false≢true h)
+late r h = grind arith
 
 draw_fits : (s : PlainScenario) (d : DrawSpec) → fits_draw s.until s.members d ≡ true → IsDraw s d
-draw_fits s d h = by (slice_get s.members d.member) refl h
-  where
-    by : (o : Option MemberSpec) → slice_get s.members d.member ≡ o → if_member o (λ k. is_sender k.role && is_there s.until d.at k) ≡ true
-        → IsDraw s d
-    by None e h = absurd (false≢true h)
-    by (Some k) e h = let (p, q) = and_parts (is_sender k.role) (is_there s.until d.at k) h in
-        (k, e, sends k.role p, there s.until d.at k q)
+draw_fits s d h = grind arith
 
 session_fits : (s : PlainScenario) (r : SessionSpec) → fits_session s.until s.members r ≡ true → IsSession s r
-session_fits s r h = by (slice_get s.members r.member) refl h
-  where
-    by : (o : Option MemberSpec) → slice_get s.members r.member ≡ o → if_member o (λ k. not (is_listener k.role) && is_there s.until r.at k)
-        ≡ true → IsSession s r
-    by None e h = absurd (false≢true h)
-    by (Some k) e h = let (p, q) = and_parts (not (is_listener k.role)) (is_there s.until r.at k) h in
-        (k, e, speaks k.role p, there s.until r.at k q)
+session_fits s r h = grind arith
 
 drop_fits : (s : PlainScenario) (d : DropSpec) → fits_drop (length s.links) (length s.members) d ≡ true → IsDrop s d
-drop_fits s d h =
-    let (p, q) = and_parts (nat_lt d.link (length s.links)) (nat_lt d.id.sender (length s.members)) h in
-    (grind (arith, nat_tests), grind (arith, nat_tests))
+drop_fits s d h = grind arith
 
 outage_fits : (s : PlainScenario) (o : OutageSpec) → fits_outage (length s.links) o ≡ true → IsOutage s o
-outage_fits s o h =
-    let (p, q) = and_parts (nat_lt o.link (length s.links)) (nat_lt o.from o.to) h in
-    (grind (arith, nat_tests), grind (arith, nat_tests))
+outage_fits s o h = grind arith
 
 all_matched : {A : Type 0} (P : A → Type 0) (o : Ordering) (xs ys zs : List A) → AllByRecursion P xs → AllByRecursion P ys
     → AllByRecursion P zs → AllByRecursion P (match_ordering o xs ys zs)
-all_matched P Less xs ys zs p q r = p
-all_matched P Equal xs ys zs p q r = q
-all_matched P Greater xs ys zs p q r = r
+all_matched P o xs ys zs p q r = grind arith
 
 all_with : {A : Type 0} (cmp : A → A → Ordering) (P : A → Type 0) (x : A) (ys : List A) → P x → AllByRecursion P ys
     → AllByRecursion P (with_once cmp x ys)
@@ -141,14 +104,6 @@ leaves : (join : ℕ) (o : Option ℕ) → leaves_after join o ≡ true → ((at
 leaves join None h few at e = cc
 leaves join (Some end) h few at e = let same : end ≡ at = cc in (grind (arith, nat_tests), few at e)
 
-no_pages : (e : MemberEntry) → (not e.has_pages || is_late e.spec.role) ≡ true → HasItsPages e → e.spec.role ≢ Late → e.spec.pages ≡ []
-no_pages e h its other =
-    elim (cases_Bool e.has_pages) [
-      | inl given ↦ (let l : is_late e.spec.role ≡ true = ap (λ b. not b || is_late e.spec.role) (sym given)
-          ∙ h in absurd (other (late e.spec.role l)))
-      | inr none ↦ its none
-    ]
-
 pub record Fits (until nodes : ℕ) (star : Bool) (earlier : List MemberEntry) (e : MemberEntry) : Type 0 where
   pub within : e.spec.node < nodes
   pub free : is_taken earlier e.spec.node ≡ false
@@ -156,45 +111,14 @@ pub record Fits (until nodes : ℕ) (star : Bool) (earlier : List MemberEntry) (
   pub leaves_later : leaves_after e.spec.join e.spec.leave ≡ true
   pub paged : (not e.has_pages || is_late e.spec.role) ≡ true
 
-fit_parts : (until nodes : ℕ) (star : Bool) (earlier : List MemberEntry) (e : MemberEntry) → fits_member until nodes star earlier e ≡ true
-    → Fits until nodes star earlier e
-fit_parts until nodes star earlier e h =
-    let k = e.spec in
-    let a = nat_lt k.node nodes in
-    let b = not (star && (k.node == 0)) in
-    let c = not (is_taken earlier k.node) in
-    let d = nat_lt k.join until in
-    let f = leaves_after k.join k.leave in
-    let g = not e.has_pages || is_late k.role in
-    let (h5, paged) = and_parts ((((a && b) && c) && d) && f) g h in
-    let (h4, later) = and_parts (((a && b) && c) && d) f h5 in
-    let (h3, early) = and_parts ((a && b) && c) d h4 in
-    let (h2, free) = and_parts (a && b) c h3 in
-    let (within, hub) = and_parts a b h2 in
-    record {
-      within = grind (arith, nat_tests);
-      free = not-true (is_taken earlier k.node) free;
-      early = grind (arith, nat_tests);
-      leaves_later = later;
-      paged = paged;
-    }
-
 one_member : (until nodes : ℕ) (star : Bool) (earlier : List MemberEntry) (e : MemberEntry) → Fits until nodes star earlier e
     → MemberInRange e.spec → HasItsPages e → IsMember until e.spec
-one_member until nodes star earlier e f range its = record {
-  join = f.early;
-  leave = leaves e.spec.join e.spec.leave f.leaves_later range.leave;
-  pages = no_pages e f.paged its;
-  stream = range.stream;
-}
+one_member until nodes star earlier e f range its = grind arith
 
 head_faults : (until nodes : ℕ) (star : Bool) (earlier : List MemberEntry) (i : ℕ) (e : MemberEntry) (es : List MemberEntry)
     → member_faults until nodes star earlier i (e ∷ es) ≡ []
     → Fits until nodes star earlier e × (member_faults until nodes star (earlier ++ e ∷ []) (i + 1) es ≡ [])
-head_faults until nodes star earlier i e es h =
-    let p = empty_parts (fault_unless (fits_member until nodes star earlier e) (BadMember i))
-    (member_faults until nodes star (earlier ++ e ∷ []) (i + 1) es) h in
-    (fit_parts until nodes star earlier e (unless_true _ (BadMember i) p.0), p.1)
+head_faults until nodes star earlier i e es h = grind arith
 
 members_fit : (until nodes : ℕ) (star : Bool) (earlier : List MemberEntry) (i : ℕ) (es : List MemberEntry)
     → member_faults until nodes star earlier i es ≡ []

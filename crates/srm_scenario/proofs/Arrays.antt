@@ -1,19 +1,17 @@
 -- Arrays at the keys of a table.
-use Rattle.std.proofs.Common.{◌≡◌, ℕ, suc, ◌≤◌, true, List, [], ◌∷◌, Option, Some, None, map, flat_map, length, ◌++◌}
-use Rattle.std.proofs.Common.{nat_le, unwrap_or, refl, sym, ap, ◌∙◌, arith}
+use Rattle.std.proofs.Common.{◌≡◌, ℕ, suc, ◌≤◌, true, List, [], ◌∷◌, map, flat_map, length, ◌++◌}
+use Rattle.std.proofs.Common.{unwrap_or, refl, sym, ap, ◌∙◌, arith}
 use Rattle.std.specs.Prelude.{◌&&◌}
 use Rattle.std.specs.List.{list_all}
-use Rattle.std.proofs.Common.{pos, negsuc}
-use Rattle.std.proofs.lemmas.Bool.Decides.{nat_tests}
-use Rattle.std.proofs.lemmas.Bool.{and_parts, false≢true}
+use Rattle.std.proofs.lemmas.Bool.{and_parts}
 use Rattle.std.proofs.lemmas.List.{length-map}
-use Rattle.toml.specs.Data.{Data, Items, Members, no_items, item, string, integer, float, boolean, datetime, array, table, get_member}
+use Rattle.toml.specs.Data.{Data, Items, Members, no_items, item}
 use Rattle.toml.specs.View.{view, items_of, items_view}
 use Rattle.toml.specs.declared.value.Value.{Value}
 use Rattle.std.proofs.Common.{codes}
-use Rattle.srm_scenario.specs.KeyLimits.{last_page, most_pages}
-use Rattle.srm_scenario.specs.Rules.{count_items, all_whole, is_met, is_whole, meets, pages_rule}
-use Rattle.srm_scenario.specs.Described.{items_list, array_of, array_at, whole_number_of, table_of}
+use Rattle.srm_scenario.specs.KeyLimits.{last_page}
+use Rattle.srm_scenario.specs.Rules.{count_items, all_whole, is_met, is_whole, pages_rule}
+use Rattle.srm_scenario.specs.Described.{items_list, array_at, whole_number_of, table_of}
 
 pub items_list-of : (ds : List Data) → items_list (items_of ds) ≡ ds
 items_list-of [] = refl
@@ -59,20 +57,7 @@ all_whole-view low high (v ∷ vs) = ap (λ b. is_whole low high (view v) && b) 
 -- each page that a member's table lists is a whole number up to the last page
 pub pages_whole : (ms : Members) (vs : List Value) → is_met ms pages_rule ≡ true → map view vs ≡ array_at (codes "pages") ms
     → all_whole 0 last_page (items_view vs) ≡ true
-pages_whole ms vs h same = by (get_member (codes "pages") ms) h same
-  where
-    by : (o : Option Data) → meets pages_rule.need pages_rule.kind o ≡ true → map view vs ≡ array_of o
-        → all_whole 0 last_page (items_view vs) ≡ true
-    by None met is = ap (λ l. all_whole 0 last_page (items_of l)) is
-    by (Some (array ds)) met is =
-        ap (λ l. all_whole 0 last_page (items_of l)) is ∙ ap (all_whole 0 last_page) (items_of-list ds)
-        ∙ (and_parts (nat_le (count_items ds) most_pages) (all_whole 0 last_page ds) met).1
-    by (Some (string t)) met is = absurd (false≢true met)
-    by (Some (integer t)) met is = absurd (false≢true met)
-    by (Some (float t)) met is = absurd (false≢true met)
-    by (Some (boolean t)) met is = absurd (false≢true met)
-    by (Some (datetime t)) met is = absurd (false≢true met)
-    by (Some (table t)) met is = absurd (false≢true met)
+pages_whole ms vs h same = grind (arith, items_of-list)
 
 -- the numbers of an array's values are those of the array at its key
 pub numbers_read : (key : List ℕ) (ms : Members) (vs : List Value) → map view vs ≡ array_at key ms
@@ -82,18 +67,7 @@ numbers_read key ms vs same =
 
 -- a whole number up to a limit is one up to a higher limit
 wider : (high most : ℕ) → high ≤ most → (d : Data) → is_whole 0 high d ≡ true → is_whole 0 most d ≡ true
-wider high most few (integer (pos n)) h =
-    let (p, q) = and_parts (nat_le 0 n) (nat_le n high) h in
-    let le : n ≤ high = grind (arith, nat_tests) in
-    let still : nat_le n most ≡ true = grind (arith, nat_tests) in
-    (λ i. p i && still i)
-wider high most few (integer (negsuc n)) h = absurd (false≢true h)
-wider high most few (string t) h = absurd (false≢true h)
-wider high most few (float t) h = absurd (false≢true h)
-wider high most few (boolean t) h = absurd (false≢true h)
-wider high most few (datetime t) h = absurd (false≢true h)
-wider high most few (array t) h = absurd (false≢true h)
-wider high most few (table t) h = absurd (false≢true h)
+wider high most few d h = grind arith
 
 -- so are all values of an array
 pub small_numbers : (high most : ℕ) → high ≤ most → (vs : List Value) → list_all (is_whole 0 high) (map view vs) ≡ true

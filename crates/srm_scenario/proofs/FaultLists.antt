@@ -1,5 +1,6 @@
 -- The first fault of a list that is made of others.
-use Rattle.std.proofs.Common.{◌≡◌, ℕ, true, false, List, [], ◌∷◌, ◌++◌, Some, codes, refl, sym, ap, subst, ◌∙◌, inl, inr}
+use Rattle.std.proofs.Common.{arith}
+use Rattle.std.proofs.Common.{◌≡◌, ℕ, true, false, List, [], ◌∷◌, ◌++◌, Some, codes, sym, ap, subst, ◌∙◌, inl, inr}
 use Rattle.toml.specs.Data.{Data, Members}
 use Rattle.srm_scenario.specs.declared.fault.Part.TheVariants as part
 use Rattle.srm_scenario.specs.declared.version.Version.{Version}
@@ -104,7 +105,4 @@ module _ (ms : Members) where
   pub no_key_fault : fits_rules (rules_of_top ms) ms ≡ true → links ≡ [] → members ≡ [] → draws ≡ [] → sessions ≡ [] → drops ≡ []
       → outages ≡ [] → key_faults ms ≡ []
   unfolding key_faults
-  no_key_fault top l m d s p o =
-      no_faults (top_faults ms) _ (no_top_fault top)
-      (no_faults links _ l (no_faults members _ m (no_faults draws _ d
-      (no_faults sessions _ s (no_faults drops _ p (no_faults outages _ o refl))))))
+  no_key_fault top l m d s p o = grind arith

@@ -1,14 +1,12 @@
 -- The ranges of a file's keys are those of the scenario.
 use Rattle.std.proofs.Common.{◌≡◌, ℕ, zero, suc, ◌+◌, ◌-◌, Bool, true, false, List, [], ◌∷◌, map, Option, Some}
-use Rattle.std.proofs.Common.{None, is_some, unwrap_or, codes, refl, sym, ap, ◌∙◌, subst, arith, length, slice_get, nat_le, cond}
+use Rattle.std.proofs.Common.{None, is_some, unwrap_or, codes, refl, subst, arith, length, slice_get}
 use Rattle.std.proofs.Common.{◌<◌, ◌≤◌}
-use Rattle.std.proofs.lemmas.Bool.{false≢true, and_parts}
-use Rattle.std.proofs.lemmas.Bool.Decides.{nat_tests}
+use Rattle.std.proofs.lemmas.Bool.{and_parts}
 use Rattle.std.proofs.lemmas.List.{length-map}
 use Rattle.std.specs.List.{AllByRecursion}
 use Rattle.std.specs.Option.{option_and_then}
-use Rattle.std.specs.Prelude.{◌==◌, if◌then◌else◌}
-use Rattle.toml.specs.Data.{Data, Items, Members, no_items, item, string, integer, float, boolean, datetime, array, table, get_member}
+use Rattle.toml.specs.Data.{Data, Items, Members, no_items, item, get_member}
 use Rattle.srm_net.specs.declared.link.LinkSpec.{LinkSpec}
 use Rattle.srm_net.specs.Network.{IsLinkDelay, HasDelays}
 use Rattle.srm_scenario.specs.declared.entry.MemberEntry.{MemberEntry}
@@ -21,39 +19,32 @@ use Rattle.srm_scenario.specs.declared.version.Version.{Version}
 use Rattle.srm_scenario.specs.declared.key.Key.TheVariants as key
 use Rattle.srm_scenario.specs.declared.key.Key.{Key}
 use Rattle.srm_scenario.specs.declared.rule.Kind.TheVariants.{Whole, Each}
-use Rattle.srm_scenario.specs.declared.rule.Need.TheVariants.{Optional, Refused}
+use Rattle.srm_scenario.specs.declared.rule.Need.TheVariants.{Optional}
 use Rattle.srm_scenario.specs.declared.rule.Rule.{Rule}
 use Rattle.srm_scenario.specs.KeyLimits.{greatest_delay, last_stream}
-use Rattle.srm_scenario.specs.Rules.{rule, rule_if, allows_back, back_rule, is_met, meets, fits_rules, fits_element, link_rules}
+use Rattle.srm_scenario.specs.Rules.{rule, rule_if, allows_back, back_rule, is_met, fits_rules, fits_element, link_rules}
 use Rattle.srm_scenario.specs.Rules.{member_rules, all_whole, count_items, is_whole, optional_number}
 use Rattle.srm_scenario.specs.Keys.{name_of}
-use Rattle.srm_scenario.specs.Described.{version_of, delays_of, whole_number_of, number, array_of, array_at, table_of}
-use Rattle.srm_scenario.specs.Described.{link_of, member_of, elements_at, links_to_parents, nodes_in, links_in, described_scenario}
-use Rattle.srm_scenario.specs.Described.{topology_of, items_list, names_parents, number_at, values_at, delay_at, back_delay_at, links_from}
-use Rattle.srm_scenario.specs.Described.{parents_in, given_links, repeated_at, member_copy}
+use Rattle.srm_scenario.specs.Described.{version_of, whole_number_of, number, array_at, table_of}
+use Rattle.srm_scenario.specs.Described.{link_of, elements_at, links_to_parents, described_scenario}
+use Rattle.srm_scenario.specs.Described.{items_list, names_parents, number_at, values_at, delay_at, back_delay_at, links_from}
+use Rattle.srm_scenario.specs.Described.{given_links, repeated_at}
 use Rattle.srm_scenario.specs.Faults.{element_faults, entry_of, entry_copy, entry_in_range, fits_repeated, key_faults, top_faults}
 use Rattle.srm_scenario.specs.Faults.{faults_of_links, faults_of_members, rules_of_top}
 use Rattle.srm_scenario.specs.LookUps.{AreDelays}
-use Rattle.srm_scenario.specs.Plain.{drop_rules_of}
 use Rattle.srm_scenario.specs.Drafts.{IsDraft, links_listed, plain_of}
 use Rattle.srm_scenario.specs.Ranges.{MemberInRange, HasItsPages, InRange}
 use Rattle.srm_scenario.proofs.Acceptance.{empty_parts, none_by, unless_true}
 use Rattle.srm_scenario.proofs.Repetition.{stand_for_all, stand_for_members}
 use Rattle.srm_scenario.proofs.TopFits.{delays_met, backs_met, one_delay, one_back}
 use Rattle.srm_scenario.proofs.KeyRanges.{number_fits, optional_bound, rule_met, whole_number, back_fits}
-use Rattle.srm_net.specs.Limits.{end_of_time, most_links}
+use Rattle.srm_net.specs.Limits.{end_of_time}
 
 -- ---- elements
 
 one_read : {A : Type 0} (P : A → Type 0) (reading : Members → A) (rules : List Rule)
     → ((m : Members) → fits_rules rules m ≡ true → P (reading m)) → (d : Data) → fits_element rules d ≡ true → P (reading (table_of d))
-one_read P reading rules f (table m) h = f m h
-one_read P reading rules f (integer t) h = absurd (false≢true h)
-one_read P reading rules f (string t) h = absurd (false≢true h)
-one_read P reading rules f (float t) h = absurd (false≢true h)
-one_read P reading rules f (boolean t) h = absurd (false≢true h)
-one_read P reading rules f (datetime t) h = absurd (false≢true h)
-one_read P reading rules f (array t) h = absurd (false≢true h)
+one_read P reading rules f d h = grind arith
 
 all_read : {A : Type 0} (P : A → Type 0) (reading : Members → A) (rules : List Rule)
     → ((m : Members) → fits_rules rules m ≡ true → P (reading m)) → (ds : List Data)
@@ -82,11 +73,7 @@ member_range v m h =
     }
 
 pages_own : (v : Version) (m : Members) → fits_rules (member_rules v) m ≡ true → HasItsPages (entry_of m)
-pages_own v m h none = by (get_member (codes "pages") m) none
-  where
-    by : (o : Option Data) → is_some o ≡ false → map (λ d. unwrap_or (whole_number_of d) 0) (array_of o) ≡ []
-    by None e = refl
-    by (Some d) e = absurd (false≢true (sym e))
+pages_own v m h none = grind arith
 
 all_spec : (es : List MemberEntry) → AllByRecursion (λ e. MemberInRange e.spec) es → AllByRecursion MemberInRange (map (λ e. e.spec) es)
 all_spec [] h = tt
@@ -118,23 +105,7 @@ each_fits low high (item d ds) (suc k) h lt =
 delay_in : (allowed : Bool) (k : Key) (n : ℕ) (ms : Members) → is_met ms (rule_if allowed k (Each n 1 greatest_delay)) ≡ true
     → (i other : ℕ) → i < n → (is_some (get_member (name_of k) ms) ≡ false → IsLinkDelay other)
     → IsLinkDelay (number_at (values_at (name_of k) ms) i other)
-delay_in allowed k n ms h i other lt f = by (get_member (name_of k) ms) allowed h f
-  where
-    by : (o : Option Data) (b : Bool) → meets (cond b Optional Refused) (Each n 1 greatest_delay) o ≡ true
-        → (is_some o ≡ false → IsLinkDelay other)
-        → IsLinkDelay (number_at (if is_some o then Some (array_of o) else None) i other)
-    by None b e g = g refl
-    by (Some d) false e g = absurd (false≢true e)
-    by (Some (array ds)) true e g =
-        let (many, all) = and_parts (count_items ds == n) (all_whole 1 greatest_delay ds) e in
-        let is : count_items ds ≡ n = grind (arith, nat_tests) in
-        each_fits 1 greatest_delay ds i all (omega arith)
-    by (Some (string t)) true e g = absurd (false≢true e)
-    by (Some (integer t)) true e g = absurd (false≢true e)
-    by (Some (float t)) true e g = absurd (false≢true e)
-    by (Some (boolean t)) true e g = absurd (false≢true e)
-    by (Some (datetime t)) true e g = absurd (false≢true e)
-    by (Some (table t)) true e g = absurd (false≢true e)
+delay_in allowed k n ms h i other lt f = grind (arith, each_fits)
 
 module _ (ms : Members) (h : fits_rules (rules_of_top ms) ms ≡ true) (p : names_parents ms ≡ true) where
   abbrev count : ℕ
@@ -155,15 +126,7 @@ module _ (ms : Members) (h : fits_rules (rules_of_top ms) ms ≡ true) (p : name
 
 given_delays : (ms : Members) → fits_rules (rules_of_top ms) ms ≡ true → AllByRecursion HasDelays (elements_at (codes "link") link_of ms)
     → AllByRecursion HasDelays (given_links ms)
-given_delays ms h listed = by (names_parents ms) refl
-  where
-    by : (b : Bool) → names_parents ms ≡ b
-        → AllByRecursion HasDelays (if b then links_from ms 0 (parents_in ms) else elements_at (codes "link") link_of ms)
-    by true e =
-        parent_delays ms h e 0 (parents_in ms)
-        (let same : length (parents_in ms) ≡ length (array_at (codes "parent") ms) =
-        length-map (array_at (codes "parent") ms) (λ d. unwrap_or (whole_number_of d) 0) in omega arith)
-    by false e = listed
+given_delays ms h listed = grind (arith, parent_delays, length-map)
 
 -- ---- all together
 
@@ -179,10 +142,7 @@ link_part ms h =
 
 member_part : (ms : Members) → key_faults ms ≡ [] → faults_of_members (version_of ms) (array_at (codes "member") ms) ≡ []
 unfolding key_faults
-member_part ms h =
-    let p = empty_parts (top_faults ms) _ h in
-    let q = empty_parts (faults_of_links (version_of ms) (array_at (codes "link") ms)) _ p.1 in
-    (empty_parts (faults_of_members (version_of ms) (array_at (codes "member") ms)) _ q.1).0
+member_part ms h = grind (arith, empty_parts)
 
 -- what holds of each copy in range of an entry holds of all members
 all_entries : (P : MemberEntry → Type 0) (ms : Members) → key_faults ms ≡ []
@@ -196,12 +156,7 @@ all_entries P ms h each =
 
 copy_range : (v : Version) (d : Data) → fits_element (member_rules v) d ≡ true → (k every : ℕ)
     → entry_in_range (entry_copy k every (entry_of (table_of d))) ≡ true → MemberInRange (entry_copy k every (entry_of (table_of d))).spec
-copy_range v d h k every range =
-    let base = one_read (λ e. MemberInRange e.spec) entry_of (member_rules v) (member_range v) d h in
-    let c = entry_copy k every (entry_of (table_of d)) in
-    let (node, stream) = and_parts (nat_le c.spec.node most_links) (nat_le c.spec.stream last_stream) range in
-    let le : c.spec.stream ≤ last_stream = grind (arith, nat_tests) in
-    record { stream = omega (arith, le); leave = base.leave }
+copy_range v d h k every range = grind (arith, member_range)
 
 pub listed_range : (ms : Members) (l : Draft) → IsDraft ms l → InRange (plain_of l)
 unfolding plain_of
@@ -228,29 +183,7 @@ listed_pages ms l h =
     (all_entries HasItsPages ms h.no_fault
     (λ d fits k every range. one_read HasItsPages entry_of (member_rules (version_of ms)) (pages_own (version_of ms)) d fits))
 
-links_same : (ms : Members) (o : Option Topology) (nodes : ℕ) (delays : Delays) (links : List LinkSpec) → nodes_in o ms ≡ nodes
-    → delays_of ms ≡ delays → given_links ms ≡ links
-    → links_in o ms ≡ links_listed o nodes delays links
-links_same ms None nodes delays links n d k = k
-links_same ms (Some t) nodes delays links n d k = (λ i. links_to_parents t (d i) 1 (n i - 1))
-
 -- what the table describes is the scenario of what it lists
 pub described_is : (ms : Members) (l : Draft) → IsDraft ms l → described_scenario ms ≡ plain_of l
 unfolding described_scenario plain_of
-described_is ms l h =
-    let nodes : nodes_in l.topology ms ≡ l.nodes = subst (λ o. nodes_in o ms ≡ l.nodes) h.topology h.nodes in
-    let links : links_in (topology_of ms) ms ≡ links_listed l.topology l.nodes l.delays l.links.items =
-    ap (λ o. links_in o ms) h.topology ∙ links_same ms l.topology l.nodes l.delays l.links.items nodes h.delays h.links in
-    let members : repeated_at (codes "member") member_copy member_of ms ≡ map (λ e. e.spec) l.members.items =
-    sym (stand_for_members (array_at (codes "member") ms)) ∙ ap (map (λ e. e.spec)) h.members in
-    λ i. record {
-      until = h.until i;
-      constants = h.constants i;
-      room = h.room i;
-      nodes = h.nodes i;
-      links = links i;
-      members = members i;
-      draws = h.draws i;
-      sessions = h.sessions i;
-      drops = drop_rules_of (h.drops i) (h.outages i);
-    }
+described_is ms l h = grind (arith, stand_for_members)

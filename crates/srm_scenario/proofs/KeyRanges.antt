@@ -1,76 +1,37 @@
 -- What a rule that is met says of the number at its key.
-use Rattle.std.proofs.Common.{◌≡◌, ℕ, zero, suc, ◌≤◌, Bool, true, false, cond, pos, negsuc, List, [], ◌∷◌, Option, Some, None}
-use Rattle.std.proofs.Common.{unwrap_or, nat_le, slice_get, subst, arith, codes}
-use Rattle.std.proofs.lemmas.Bool.{and_parts, false≢true}
-use Rattle.std.proofs.lemmas.Bool.Decides.{nat_tests}
+use Rattle.std.proofs.Common.{◌≡◌, ℕ, zero, suc, ◌≤◌, Bool, true, List, [], ◌∷◌, Some}
+use Rattle.std.proofs.Common.{unwrap_or, slice_get, subst, arith, codes}
+use Rattle.std.proofs.lemmas.Bool.{and_parts}
 use Rattle.std.specs.List.{list_all}
-use Rattle.std.specs.Option.{option_and_then}
-use Rattle.toml.specs.Data.{Data, Members, string, integer, float, boolean, datetime, array, table, get_member}
+use Rattle.toml.specs.Data.{Data, Members}
 use Rattle.srm_scenario.specs.declared.key.Key.{Key}
 use Rattle.srm_scenario.specs.declared.rule.Kind.TheVariants.{Whole}
-use Rattle.srm_scenario.specs.declared.rule.Need.TheVariants.{Required, Optional, Refused}
+use Rattle.srm_scenario.specs.declared.rule.Need.TheVariants.{Required, Optional}
 use Rattle.srm_scenario.specs.declared.rule.Rule.{Rule}
 use Rattle.srm_scenario.specs.Keys.{name_of}
 use Rattle.srm_net.specs.Network.{IsLinkDelay}
 use Rattle.srm_scenario.specs.KeyLimits.{greatest_delay}
 use Rattle.srm_scenario.specs.declared.key.Key.TheVariants as key
-use Rattle.srm_scenario.specs.Rules.{rule, rule_if, back_rule, meets, is_met, is_whole, has_only, fits_rules}
+use Rattle.srm_scenario.specs.Rules.{rule, rule_if, back_rule, is_met, is_whole, has_only, fits_rules}
 use Rattle.srm_scenario.specs.Described.{whole_number_of, optional_number, number, back_at}
-
-whole_range : (low high : ℕ) (d : Data) → is_whole low high d ≡ true → (n : ℕ) → whole_number_of d ≡ Some n → (low ≤ n) × (n ≤ high)
-whole_range low high (integer (pos m)) h n e =
-    let same : m ≡ n = cc in
-    let (p, q) = and_parts (nat_le low m) (nat_le m high) h in
-    (grind (arith, nat_tests), grind (arith, nat_tests))
-whole_range low high (integer (negsuc m)) h n e = absurd (false≢true h)
-whole_range low high (string t) h n e = absurd (false≢true h)
-whole_range low high (float t) h n e = absurd (false≢true h)
-whole_range low high (boolean t) h n e = absurd (false≢true h)
-whole_range low high (datetime t) h n e = absurd (false≢true h)
-whole_range low high (array t) h n e = absurd (false≢true h)
-whole_range low high (table t) h n e = absurd (false≢true h)
 
 pub whole_number : (low high other : ℕ) (d : Data) → is_whole low high d ≡ true → (low ≤ unwrap_or (whole_number_of d) other)
     × (unwrap_or (whole_number_of d) other ≤ high)
-whole_number low high other (integer (pos m)) h =
-    let (p, q) = and_parts (nat_le low m) (nat_le m high) h in
-    (grind (arith, nat_tests), grind (arith, nat_tests))
-whole_number low high other (integer (negsuc m)) h = absurd (false≢true h)
-whole_number low high other (string t) h = absurd (false≢true h)
-whole_number low high other (float t) h = absurd (false≢true h)
-whole_number low high other (boolean t) h = absurd (false≢true h)
-whole_number low high other (datetime t) h = absurd (false≢true h)
-whole_number low high other (array t) h = absurd (false≢true h)
-whole_number low high other (table t) h = absurd (false≢true h)
+whole_number low high other d h = grind arith
 
 pub required_number : (key : Key) (low high : ℕ) (ms : Members) → is_met ms (rule key (Whole low high) Required) ≡ true
     → (low ≤ number (name_of key) ms) × (number (name_of key) ms ≤ high)
-required_number key low high ms h = by (get_member (name_of key) ms) h
-  where
-    by : (o : Option Data) → meets Required (Whole low high) o ≡ true → (low ≤ unwrap_or (option_and_then whole_number_of o) 0)
-        × (unwrap_or (option_and_then whole_number_of o) 0 ≤ high)
-    by None e = absurd (false≢true e)
-    by (Some d) e = whole_number low high 0 d e
+required_number key low high ms h = grind arith
 
 pub optional_bound : (key : Key) (low high : ℕ) (ms : Members) → is_met ms (rule key (Whole low high) Optional) ≡ true → (n : ℕ)
     → optional_number (name_of key) ms ≡ Some n → n ≤ high
-optional_bound key low high ms h = by (get_member (name_of key) ms) h
-  where
-    by : (o : Option Data) → meets Optional (Whole low high) o ≡ true → (n : ℕ) → option_and_then whole_number_of o ≡ Some n → n ≤ high
-    by None e n f = cc
-    by (Some d) e n f = let r = whole_range low high d e n f in r.1
+optional_bound key low high ms h = grind arith
 
 -- a number that a version may have at a key is in its range, or another one, in the same range, stands for it
 pub or_fits : (allowed : Bool) (key : Key) (low high other : ℕ) (ms : Members)
     → is_met ms (rule_if allowed key (Whole low high)) ≡ true → low ≤ other → other ≤ high
     → (low ≤ unwrap_or (optional_number (name_of key) ms) other) × (unwrap_or (optional_number (name_of key) ms) other ≤ high)
-or_fits allowed key low high other ms h least most = by (get_member (name_of key) ms) allowed h
-  where
-    by : (o : Option Data) (b : Bool) → meets (cond b Optional Refused) (Whole low high) o ≡ true
-        → (low ≤ unwrap_or (option_and_then whole_number_of o) other) × (unwrap_or (option_and_then whole_number_of o) other ≤ high)
-    by None b e = (least, most)
-    by (Some d) true e = whole_number low high other d e
-    by (Some d) false e = absurd (false≢true e)
+or_fits allowed key low high other ms h least most = grind arith
 
 -- the second delay of a link is in range, where it is given or the first is in range
 pub back_fits : (m : Members) (allowed : Bool) → is_met m (back_rule allowed) ≡ true → IsLinkDelay (number (codes "delay") m)

@@ -1,6 +1,7 @@
 -- The order of marks.
-use Rattle.std.proofs.Common.{◌≡◌, ℕ, Bool, List, [], ◌∷◌, ◌++◌, Option, Some, Ordering, nat_cmp, is_lt, sym}
-use Rattle.std.proofs.Common.{ap, ◌∙◌, subst}
+use Rattle.std.proofs.Common.{arith}
+use Rattle.std.proofs.Common.{◌≡◌, ℕ, Bool, List, [], ◌∷◌, ◌++◌, Some, Ordering, nat_cmp, is_lt}
+use Rattle.std.proofs.Common.{subst}
 use Rattle.std.proofs.lemmas.Cmp.{nat_list_cmp_total}
 use Rattle.std.proofs.lemmas.List.Sorted.{ranks_by}
 use Rattle.std.specs.Cmp.{IsStrictWeakOrder}
@@ -47,6 +48,4 @@ pub script_by_parts : (s : PlainScenario) (m : ℕ) (k : MemberSpec) (draws : Li
     → slice_get s.members m ≡ Some k → draws ≡ s.draws → sessions ≡ s.sessions
     → ordered mark_cmp (plain_mark k.join 0 0 ∷ draw_marks m 0 draws ++ report_marks m 0 sessions ++ leave_marks k.leave) ≡ script_of s m
 unfolding script_of
-script_by_parts s m k draws sessions at by_draws by_sessions =
-    (λ i. ordered mark_cmp (plain_mark k.join 0 0 ∷ draw_marks m 0 (by_draws i) ++ report_marks m 0 (by_sessions i) ++ leave_marks k.leave))
-    ∙ ap (λ (o : Option MemberSpec). ordered mark_cmp (marks_of s m o)) (sym at)
+script_by_parts s m k draws sessions at by_draws by_sessions = grind arith

@@ -1,6 +1,7 @@
 -- The faults of what is listed, one check after the other.
+use Rattle.std.proofs.Common.{arith}
 use Rattle.std.proofs.Common.{◌≡◌, ◌⊎◌, Bool, true, false, List, [], ◌++◌, length, map, Some}
-use Rattle.std.proofs.Common.{refl, sym, ap, ◌∙◌, subst, inl, inr, append_assoc}
+use Rattle.std.proofs.Common.{refl, sym, ap, ◌∙◌, subst, inr, append_assoc}
 use Rattle.srm_net.specs.declared.link.LinkSpec.{LinkSpec}
 use Rattle.srm_net.specs.Network.{plain_network}
 use Rattle.srm_net.specs.DropRules.{DropRules}
@@ -50,19 +51,12 @@ all_faults l links members = Tree l
 -- the faults, by the links and members that were made
 are_all : (l : Draft) (links : List LinkSpec) (members : List MemberSpec) → Made l links members → all_faults l links members ≡ faults_in l
 unfolding all_faults plain_of meaning_faults
-are_all l links members m =
-    ap (λ (ks : List LinkSpec). Tree l ++ (Placed l ++ (Drawn l members ++ (Told l members ++ (Dropped l ks members ++ (Out l ks ++ []))))))
-    m.links_are
-    ∙ ap (λ (ms : List MemberSpec). Tree l
-    ++ (Placed l ++ (Drawn l ms ++ (Told l ms ++ (Dropped l (links_listed l.topology l.nodes l.delays l.links.items) ms
-    ++ (Out l (links_listed l.topology l.nodes l.delays l.links.items) ++ [])))))) m.members_are
+are_all l links members m = grind arith
 
 tree_test : (l : Draft) (links : List LinkSpec) (b : Bool) → links ≡ links_listed l.topology l.nodes l.delays l.links.items
     → is_tree (plain_network l.nodes links []) ≡ b → is_tree (network_of (plain_of l)) ≡ b
 unfolding plain_of
-tree_test l links b same h =
-    without_hosts l.nodes (links_listed l.topology l.nodes l.delays l.links.items) (network_of (plain_of l)).hosts []
-    ∙ ap (λ (ks : List LinkSpec). is_tree (plain_network l.nodes ks [])) (sym same) ∙ h
+tree_test l links b same h = grind (arith, without_hosts)
 
 no_tree_fault : (l : Draft) (links : List LinkSpec) → links ≡ links_listed l.topology l.nodes l.delays l.links.items
     → is_tree (plain_network l.nodes links []) ≡ true → Tree l ≡ []
@@ -71,9 +65,7 @@ no_tree_fault l links same h = ap (λ b. fault_unless b NotTree) (tree_test l li
 pub tree_fault : (l : Draft) (links : List LinkSpec) (e : ScenarioFault) → links ≡ links_listed l.topology l.nodes l.delays l.links.items
     → (e ≡ NoMemory) ⊎ ((e ≡ NotTree) × (is_tree (plain_network l.nodes links []) ≡ false)) → IsFault e (faults_in l)
 unfolding meaning_faults
-tree_fault l links e same (inl memory) = inl memory
-tree_fault l links e same (inr (is, wrong)) =
-    here (Tree l) _ e (inr (ap (λ b. first (fault_unless b NotTree)) (tree_test l links false same wrong) ∙ ap Some (sym is)))
+tree_fault l links e same h4 = grind (arith, tree_test)
 
 module _ (l : Draft) (links : List LinkSpec) (e : ScenarioFault) (same : links ≡ links_listed l.topology l.nodes l.delays l.links.items)
     (tree : is_tree (plain_network l.nodes links []) ≡ true) where
@@ -131,17 +123,7 @@ pub plain_made : (l : Draft) (links : List LinkSpec) (members : List MemberSpec)
       drops = drops;
     }) (plain_of l)
 unfolding plain_of
-plain_made l links members drops m same = λ i. record {
-  until = l.until;
-  constants = l.constants;
-  room = l.room;
-  nodes = l.nodes;
-  links = m.links_are i;
-  members = m.members_are i;
-  draws = l.draws.items;
-  sessions = l.sessions.items;
-  drops = same i;
-}
+plain_made l links members drops m same = grind arith
 
 -- and is accepted
 pub accepted_made : (l : Draft) → InRange (plain_of l) → AllByRecursion HasItsPages l.members.items → faults_in l ≡ []

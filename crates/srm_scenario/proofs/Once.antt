@@ -40,12 +40,7 @@ module _ {A : Type 0} (cmp : A → A → Ordering) (o : IsTotalOrder cmp) where
   tail_among : (x : A) (xs ys : List A) → AllAfter cmp x xs → ((d : A) → Among d (x ∷ xs) → Among d (x ∷ ys)) → (d : A) → Among d xs
       → Among d ys
   unfolding Among
-  tail_among x xs ys after all d a =
-      elim (all d (inr a)) [
-        | inl e ↦ (let l : cmp x d ≡ Less = after_among x d xs after a in let m : cmp x x ≡ Less = subst (λ t. cmp x t ≡ Less) e l in
-            absurd (not_both x x m m))
-        | inr h ↦ h
-      ]
+  tail_among x xs ys after all d a = grind (arith, after_among)
 
   one_list : (xs ys : List A) → Ascends cmp xs → Ascends cmp ys → ((d : A) → Among d xs → Among d ys) → ((d : A) → Among d ys → Among d xs)
       → xs ≡ ys

@@ -1,7 +1,7 @@
 -- Lists that are put in order, where no two elements are equal to the order.
-use Rattle.std.proofs.Common.{◌≡◌, ◌≢◌, Bool, true, false, cond, List, [], ◌∷◌, ◌++◌, refl, sym, ap, ◌∙◌, Ordering, Less}
-use Rattle.std.proofs.Common.{Equal, Greater, is_lt, true≢false}
-use Rattle.std.specs.Ordering.{ordering_reverse}
+use Rattle.std.proofs.Common.{arith}
+use Rattle.std.proofs.Common.{◌≡◌, ◌≢◌, Bool, true, false, cond, List, [], ◌∷◌, ◌++◌, refl, Ordering, Less}
+use Rattle.std.proofs.Common.{Equal, is_lt}
 use Rattle.std.specs.Cmp.{IsTotalOrder}
 use Rattle.std.specs.List.{AllByRecursion}
 use Rattle.srm_net.specs.Orders.{place, ordered, Ascends}
@@ -45,11 +45,7 @@ apart_append cmp (x ∷ xs) ys h g f = (all_append _ xs ys h.0 f.0, apart_append
 module _ {A : Type 0} (cmp : A → A → Ordering) (o : IsTotalOrder cmp) where
   -- not less and not equal is greater
   is_after : (x y : A) → is_lt (cmp y x) ≡ false → cmp x y ≢ Equal → cmp x y ≡ Less
-  is_after x y h n = elim (cmp x y) as (λ r. cmp x y ≡ r → cmp x y ≡ Less) [
-    | Less ↦ λ e. e
-    | Equal ↦ λ e. absurd (n e)
-    | Greater ↦ λ e. absurd (true≢false (sym (ap is_lt (o.antisymm y x ∙ ap ordering_reverse e)) ∙ h))
-  ] refl
+  is_after x y h n = grind arith
 
   ascends_place : (x : A) (ys : List A) → AllByRecursion (λ y. cmp x y ≢ Equal) ys → Ascends cmp ys → Ascends cmp (place cmp x ys)
   ascends_place x [] n h = (tt, tt)

@@ -92,16 +92,12 @@ module _ (vs : List Value) (i : ℕ) (v : Value) (lt : i < length vs) (is : v �
   -- what values stand for begins with what the next stands for
   pub next_made : {A : Type 0} (f : Value → List A) (front made : List A) → made ≡ f v
       → (front ++ made) ++ flat_map f (drop (i + 1) vs) ≡ front ++ flat_map f (drop i vs)
-  next_made f front made same =
-      append_assoc front made (flat_map f (drop (i + 1) vs)) ∙ ap (λ l. front ++ (l ++ flat_map f (drop (i + 1) vs))) same
-      ∙ ap (λ l. front ++ flat_map f l) (sym next_value)
+  next_made f front made same = grind (arith, append_assoc, next_value)
 
   -- what values are read as begins with what the next is read as
   pub next_read : {A : Type 0} (f : Value → A) (front : List A) (x : A) → x ≡ f v
       → (front ++ x ∷ []) ++ map f (drop (i + 1) vs) ≡ front ++ map f (drop i vs)
-  next_read f front x is =
-      append_assoc front (x ∷ []) (map f (drop (i + 1) vs)) ∙ ap (λ y. front ++ y ∷ map f (drop (i + 1) vs)) is
-      ∙ ap (λ l. front ++ map f l) (sym next_value)
+  next_read f front x is = grind (arith, append_assoc, next_value)
 
 -- elements stand for as many as their counts say
 stood : {A : Type 0} (copy : ℕ → ℕ → A → A) (reading : Members → A) (ds : List Data) → length (flat_map (repeated copy reading) ds)

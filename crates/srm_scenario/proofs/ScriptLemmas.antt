@@ -1,12 +1,10 @@
 -- The scripts of an accepted scenario's members.
 use Rattle.std.proofs.Common.{zero, suc, ◌≡◌, ℕ, ◌+◌, ◌<◌, ◌≤◌, ◌≢◌, Bool, true, false, List, [], ◌∷◌, ◌++◌, Option, Some, None, refl}
-use Rattle.std.proofs.Common.{sym, ap, ◌∙◌, inl, inr, arith, Equal, slice_get, ◌==◌, eqb-true, subst, cond, All}
+use Rattle.std.proofs.Common.{sym, ap, ◌∙◌, arith, Equal, slice_get, ◌==◌, eqb-true, subst, cond, All}
 use Rattle.std.proofs.lemmas.List.Elements.{All-from_recursion, recursion_from_All}
 use Rattle.std.specs.List.{AllByRecursion}
 use Rattle.std.specs.Cmp.{IsTotalOrder, on_total}
 use Rattle.std.specs.Cmp.Lexicographic.{nat_list_cmp_total}
-use Rattle.std.specs.FinMap.{slice_cmp-IsAntisymmetric, nat_cmp-IsAntisymmetric}
-use Rattle.std.proofs.lemmas.Option.{same_Some}
 use Rattle.srm_net.specs.declared.role.Role.TheVariants.{Sender, Listener}
 use Rattle.srm_net.specs.Orders.{ordered, Ascends}
 use Rattle.srm_scenario.specs.declared.mark.Mark.{Mark}
@@ -28,10 +26,7 @@ mark_total = on_total numbers_of_mark nat_list_cmp_total
 
 -- equal marks have one rank and one place
 same_mark : (x y : Mark) → mark_cmp x y ≡ Equal → (x.rank ≡ y.rank) × (x.place ≡ y.place)
-same_mark x y e =
-    let q : numbers_of_mark x ≡ numbers_of_mark y = slice_cmp-IsAntisymmetric nat_cmp-IsAntisymmetric (numbers_of_mark x)
-    (numbers_of_mark y) e in
-    (cc, cc)
+same_mark x y e = grind arith
 
 other_rank : (x y : Mark) → x.rank < y.rank → mark_cmp x y ≢ Equal
 other_rank x y h e = let q = (same_mark x y e).0 in omega arith
@@ -147,17 +142,7 @@ same_spec s m n j k h g e = let q : slice_get s.members n ≡ slice_get s.member
 there : (until at rank place page ink : ℕ) (j k : MemberSpec) → j ≡ k → IsThere until at j → 3 < rank → rank < 6
     → (rank ≡ 4 → k.role ≡ Sender) → (rank ≡ 5 → k.role ≢ Listener)
     → IsMark until k (record { at = at; rank = rank; place = place; page = page; ink = ink })
-there until at rank place page ink j k e t low high d r = record {
-  rank = inr low;
-  last_rank = omega arith;
-  joined = subst (λ q. q.join ≤ at) e t.joined;
-  stays = λ end f. t.stays end (ap (λ q. q.leave) e ∙ f);
-  early = λ _. t.early;
-  join = λ z. absurd (omega arith);
-  draw = d;
-  report = r;
-  leave = λ z. absurd (omega arith);
-}
+there until at rank place page ink j k e t low high d r = grind arith
 
 draws_are : (s : PlainScenario) (m : ℕ) (k : MemberSpec) → slice_get s.members m ≡ Some k → (i : ℕ) (ds : List DrawSpec)
     → AllByRecursion (IsDraw s) ds
@@ -190,30 +175,10 @@ reports_are s m k h i (r ∷ rs) a =
     rest
 
 join_is : (until : ℕ) (k : MemberSpec) → IsMember until k → IsMark until k (plain_mark k.join 0 0)
-join_is until k h = record {
-  rank = inl refl;
-  last_rank = omega arith;
-  joined = omega arith;
-  stays = λ end e. let f = (h.leave end e).0 in omega arith;
-  early = λ _. h.join;
-  join = λ _. (refl, refl);
-  draw = λ z. absurd (omega arith);
-  report = λ z. absurd (omega arith);
-  leave = λ z. absurd (omega arith);
-}
+join_is until k h = grind arith
 
 leave_is : (until : ℕ) (k : MemberSpec) → IsMember until k → (at : ℕ) → k.leave ≡ Some at → IsMark until k (plain_mark at 6 0)
-leave_is until k h at e = record {
-  rank = inr (omega arith);
-  last_rank = omega arith;
-  joined = let f = (h.leave at e).0 in omega arith;
-  stays = λ end g. let f = same_Some at end (sym e ∙ g) in omega arith;
-  early = λ z. absurd (omega arith);
-  join = λ z. absurd (omega arith);
-  draw = λ z. absurd (omega arith);
-  report = λ z. absurd (omega arith);
-  leave = λ _. (e, refl);
-}
+leave_is until k h at e = grind arith
 
 leaves_are : (until : ℕ) (k : MemberSpec) → IsMember until k → (leave : Option ℕ) → k.leave ≡ leave
     → AllByRecursion (IsMark until k) (leave_marks leave)

@@ -1,7 +1,6 @@
 -- The lists of marks of which scripts are made, step by step.
 use Rattle.std.proofs.Common.{◌≡◌, ◌≢◌, ℕ, zero, suc, ◌+◌, ◌<◌, List, [], ◌∷◌, ◌++◌, length, map, drop, take, get_or, set, refl, sym, subst}
-use Rattle.std.proofs.Common.{ap, ◌∙◌, eq-eqb, arith, Some, slice_get, All, append-nil, append_assoc, Vec, Global}
-use Rattle.std.proofs.lemmas.Bool.{cond-true, cond-false, ne_eqb}
+use Rattle.std.proofs.Common.{ap, ◌∙◌, arith, Some, slice_get, All, append-nil, append_assoc, Vec, Global}
 use Rattle.std.proofs.lemmas.List.{drop_more, map-set, get_or-map, take_more_set, drop-set-lt, length-map}
 use Rattle.std.proofs.lemmas.List.FromFn.{get_or-map-range_with_len, length-map-range_with_len}
 use Rattle.std.proofs.lemmas.List.Elements.{All-weaker}
@@ -68,20 +67,12 @@ pushed_at a j x y more rest b to is vs v w lt e =
 pub draw_begins : (ds : List DrawSpec) (i : ℕ) (d : DrawSpec) → i < length ds
     → BeginsWith (get_or ds i d).member (draw_mark i (get_or ds i d)) (λ m. draw_marks m i (drop i ds))
     (λ m. draw_marks m (i + 1) (drop (i + 1) ds))
-draw_begins ds i d lt =
-    let a : ℕ = (get_or ds i d).member in record {
-      here = ap (draw_marks a i) (drop_more ds i d lt) ∙ cond-true _ _ _ (eq-eqb a a refl);
-      others = λ m ne. ap (draw_marks m i) (drop_more ds i d lt) ∙ cond-false _ _ _ (ne_eqb a m (λ e. ne (sym e)));
-    }
+draw_begins ds i d lt = grind (arith, drop_more)
 
 pub report_begins : (rs : List SessionSpec) (i : ℕ) (r : SessionSpec) → i < length rs
     → BeginsWith (get_or rs i r).member (plain_mark (get_or rs i r).at 5 i) (λ m. report_marks m i (drop i rs))
     (λ m. report_marks m (i + 1) (drop (i + 1) rs))
-report_begins rs i r lt =
-    let a : ℕ = (get_or rs i r).member in record {
-      here = ap (report_marks a i) (drop_more rs i r lt) ∙ cond-true _ _ _ (eq-eqb a a refl);
-      others = λ m ne. ap (report_marks m i) (drop_more rs i r lt) ∙ cond-false _ _ _ (ne_eqb a m (λ e. ne (sym e)));
-    }
+report_begins rs i r lt = grind (arith, drop_more)
 
 -- nothing is added to any list
 pub with_nothing : (more : ℕ → List Mark) → ((m : ℕ) → more m ≡ []) → (m : ℕ) (lists : List (List Mark)) → with_each more m lists ≡ lists

@@ -1,4 +1,5 @@
 -- A stable sort puts a list in the order that `ordered` gives.
+use Rattle.std.proofs.Common.{arith}
 use Rattle.std.proofs.Common.{◌≡◌, ℕ, zero, suc, ◌<◌, ◌≤◌, Bool, true, false, not, ◌&&◌, cond, List, [], ◌∷◌, length, get_or, filter}
 use Rattle.std.proofs.Common.{Ordering, is_lt, refl, sym, ap, ◌∙◌, inl, inr, suc-le-suc, zero-le}
 use Rattle.std.proofs.lemmas.Bool.{cond-true, cond-false, cases_Bool, false≢true}
@@ -26,11 +27,7 @@ module _ {X : Type 0} (cmp : X → X → Ordering) (o : IsStrictWeakOrder (λ x 
   alike-from x y p q = λ i. not (p i) && not (q i)
 
   never : (x : X) → lt x x ≡ false
-  never x = by (lt x x) refl
-    where
-      by : (b : Bool) → lt x x ≡ b → lt x x ≡ false
-      by true e = o.one_way x x e
-      by false e = e
+  never x = grind arith
 
   kept : (p : X → Bool) (y : X) (ys : List X) → p y ≡ true → filter p (y ∷ ys) ≡ y ∷ filter p ys
   kept p y ys h = cond-true _ _ _ h

@@ -1,4 +1,5 @@
 -- The answer for a table, from what it lists.
+use Rattle.std.proofs.Common.{arith}
 use Rattle.std.proofs.Common.{◌≡◌, ◌⊎◌, List, [], ◌∷◌, ◌++◌, Some, Result, Ok, Err, codes, sym, ap, ◌∙◌, inl, inr}
 use Rattle.std.specs.Prelude.{IfOk, IfErr}
 use Rattle.toml.specs.Data.{Members}
@@ -47,6 +48,4 @@ pub answer_err : (ms : Members) (l : Draft) (r : Result PlainScenario ScenarioFa
     → IfErr r (λ e. IsFault e (faults_in l))
     → IfErr r (λ e. (e ≡ NoMemory) ⊎ (scenario_of_table ms ≡ Err e))
 unfolding scenario_of_table
-answer_err ms l (Ok s) h f = tt
-answer_err ms l (Err e) h (inl memory) = inl memory
-answer_err ms l (Err e) h (inr f) = inr (answer-first (faults_of ms) (described_scenario ms) e (ap first (all_faults ms l h) ∙ f))
+answer_err ms l r h f = grind (arith, all_faults)

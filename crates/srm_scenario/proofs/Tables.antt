@@ -1,4 +1,5 @@
 -- Tables beside the members that they stand for, and what their look-ups give.
+use Rattle.std.proofs.Common.{arith}
 use Rattle.std.proofs.Common.{◌≡◌, ℕ, Bool, List, [], ◌∷◌, Option, Some, None, map, option_map, is_some, ap, refl, sym, ◌∙◌}
 use Rattle.std.specs.List.{list_any, list_all}
 use Rattle.std.proofs.Common.{length, nat_le}
@@ -32,25 +33,11 @@ is_some-map f (Some x) p e = ap is_some e
 -- the values of an array that was found
 pub array_found : (o : Option Data) (d : Data) (vs : List Value) → Some d ≡ o → Some (items_view vs) ≡ as_array d
     → map view vs ≡ array_of o
-array_found o (array ds) vs got is =
-    let same : items_view vs ≡ ds = cc in
-    sym (ap array_of (sym got ∙ ap (λ (e : _). Some (array e)) (sym same)) ∙ items_list-of (map view vs))
-array_found o (string t) vs got is = cc
-array_found o (integer t) vs got is = cc
-array_found o (float t) vs got is = cc
-array_found o (boolean t) vs got is = cc
-array_found o (datetime t) vs got is = cc
-array_found o (table t) vs got is = cc
+array_found o d vs got is = grind (arith, items_list-of)
 
 -- what was found is no array
 pub no_array_found : (o : Option Data) (d : Data) → Some d ≡ o → None ≡ as_array d → [] ≡ array_of o
-no_array_found o (array ds) got is = cc
-no_array_found o (string t) got is = ap array_of got
-no_array_found o (integer t) got is = ap array_of got
-no_array_found o (float t) got is = ap array_of got
-no_array_found o (boolean t) got is = ap array_of got
-no_array_found o (datetime t) got is = ap array_of got
-no_array_found o (table t) got is = ap array_of got
+no_array_found o d got is = grind arith
 
 -- what a table has at a key
 pub looked_up : (r : Option (Bor Value)) (name key : List ℕ) (es : List Entry) → name ≡ key
@@ -61,15 +48,7 @@ looked_up r name key es same found = table_get r name es found ∙ ap (λ (k : L
 -- whether an array has few enough values
 pub are_few : (most : ℕ) (d : Data) (vs : List Value) → Some (items_view vs) ≡ as_array d
     → nat_le (length vs) most ≡ is_kind (Elements most) d
-are_few most (array ds) vs is =
-    let same : items_view vs ≡ ds = cc in
-    ap (λ n. nat_le n most) (sym (count-view vs)) ∙ ap (λ (e : Items). nat_le (count_items e) most) same
-are_few most (string t) vs is = cc
-are_few most (integer t) vs is = cc
-are_few most (float t) vs is = cc
-are_few most (boolean t) vs is = cc
-are_few most (datetime t) vs is = cc
-are_few most (table t) vs is = cc
+are_few most d vs is = grind (arith, count-view)
 
 -- and each of them is a whole number up to a limit
 pub are_small : (most high : ℕ) (d : Data) (vs : List Value) → Some (items_view vs) ≡ as_array d
@@ -88,26 +67,9 @@ are_small most high (table t) vs is = cc
 -- whether an array has exactly so many values, each of which is a whole number in a range
 pub are_exactly : (count low high : ℕ) (d : Data) (vs : List Value) → Some (items_view vs) ≡ as_array d
     → ((length vs == count) && list_all (λ v. is_whole low high (view v)) vs) ≡ is_kind (Each count low high) d
-are_exactly count low high (array ds) vs is =
-    let same : items_view vs ≡ ds = cc in
-    (λ i. (sym (count-view vs) i == count) && all_whole-view low high vs i)
-    ∙ ap (λ (e : Items). (count_items e == count) && all_whole low high e) same
-are_exactly count low high (string t) vs is = cc
-are_exactly count low high (integer t) vs is = cc
-are_exactly count low high (float t) vs is = cc
-are_exactly count low high (boolean t) vs is = cc
-are_exactly count low high (datetime t) vs is = cc
-are_exactly count low high (table t) vs is = cc
+are_exactly count low high d vs is = grind (arith, count-view, all_whole-view)
 
 -- whether the values of an array stand for few enough
 pub stand_for_few : (most : ℕ) (d : Data) (vs : List Value) → Some (items_view vs) ≡ as_array d
     → nat_le (count_made (items_view vs)) most ≡ is_kind (Repeated most) d
-stand_for_few most (array ds) vs is =
-    let same : items_view vs ≡ ds = cc in
-    ap (λ (e : Items). nat_le (count_made e) most) same
-stand_for_few most (string t) vs is = cc
-stand_for_few most (integer t) vs is = cc
-stand_for_few most (float t) vs is = cc
-stand_for_few most (boolean t) vs is = cc
-stand_for_few most (datetime t) vs is = cc
-stand_for_few most (table t) vs is = cc
+stand_for_few most d vs is = grind arith

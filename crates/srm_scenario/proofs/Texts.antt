@@ -1,8 +1,6 @@
 -- The answer for a text, from that for its table.
 use Rattle.std.proofs.Common.{◌≡◌, ◌⊎◌, ℕ, ◌+◌, ◌<◌, ◌≤◌, Bool, true, false, cond, List, [], ◌∷◌, ◌++◌, length, Option, Some, None, Result}
-use Rattle.std.proofs.Common.{Ok, Err, nat_lt, codes, refl, sym, ap, ◌∙◌, subst, arith, inl, inr}
-use Rattle.std.proofs.lemmas.Bool.{cases_Bool}
-use Rattle.std.proofs.lemmas.Bool.Decides.{nat_tests}
+use Rattle.std.proofs.Common.{Ok, Err, sym, ap, ◌∙◌, subst, arith, inl, inr}
 use Rattle.std.proofs.lemmas.Str.{is_utf8-from_IsUtf8, IsUtf8-from_is_utf8}
 use Rattle.std.specs.Prelude.{IfOk, IfErr, IfSome, IsUtf8}
 use Rattle.std.specs.List.{AllByRecursion}
@@ -14,23 +12,15 @@ use Rattle.srm_scenario.specs.declared.fault.ScenarioFault.{ScenarioFault}
 use Rattle.srm_scenario.specs.declared.fault.ScenarioFault.TheVariants.{NoMemory, ReadFault, TooLong, NotToml, BadKey, NotTree, BadMember}
 use Rattle.srm_scenario.specs.declared.fault.ScenarioFault.TheVariants.{BadDraw, BadSession, BadDrop, BadOutage}
 use Rattle.srm_net.specs.declared.link.DropSpec.{DropSpec}
-use Rattle.srm_scenario.specs.declared.fault.Part.TheVariants as part
-use Rattle.srm_scenario.specs.Described.{array_at, version_of, described_scenario}
-use Rattle.srm_scenario.specs.Rules.{fits_rules}
-use Rattle.srm_scenario.specs.Trees.{is_tree}
-use Rattle.srm_scenario.specs.Faults.{fault_unless, faults_by, rules_of_top, top_faults, member_faults, fits_member, fits_draw}
-use Rattle.srm_scenario.specs.Faults.{fits_session, fits_drop, fits_outage, key_faults, meaning_faults, faults_of, answer}
-use Rattle.srm_scenario.specs.Faults.{faults_of_links, faults_of_members, faults_of_draws, faults_of_sessions, faults_of_drops}
-use Rattle.srm_scenario.specs.Faults.{faults_of_outages}
+use Rattle.srm_scenario.specs.Faults.{fault_unless, faults_by, member_faults, fits_member}
+use Rattle.srm_scenario.specs.Faults.{key_faults, meaning_faults, faults_of}
 use Rattle.srm_scenario.specs.Faults.{scenario_of_table, scenario_of_document, scenario_of_text, failures_after, AnswersText}
-use Rattle.srm_scenario.specs.Plain.{PlainScenario, network_of}
+use Rattle.srm_scenario.specs.Plain.{PlainScenario}
 
 short_text : (text : List ℕ) → length text ≤ 1048576 → scenario_of_text text
     ≡ cond (is_utf8 text) (scenario_of_document (parse_document text)) (Err NotToml)
 unfolding scenario_of_text
-short_text text h =
-    let few : nat_lt 1048576 (length text) ≡ false = grind (arith, nat_tests) in
-    ap (λ b. cond b (Err TooLong) (cond (is_utf8 text) (scenario_of_document (parse_document text)) (Err NotToml))) few
+short_text text h = grind arith
 
 read_text : (text : List ℕ) (o : Option Members) → length text ≤ 1048576 → is_utf8 text ≡ true → parse_document text ≡ o
     → scenario_of_text text ≡ scenario_of_document o
@@ -46,22 +36,14 @@ text_ok text ms (Err f) h u p e = tt
 pub text_err : (text : List ℕ) (ms : Members) (r : Result PlainScenario ScenarioFault) → length text ≤ 1048576 → IsUtf8 text
     → parse_document text ≡ Some ms
     → IfErr r (λ e. (e ≡ NoMemory) ⊎ (scenario_of_table ms ≡ Err e)) → IfErr r (λ e. (e ≡ NoMemory) ⊎ (scenario_of_text text ≡ Err e))
-text_err text ms (Ok s) h u p e = tt
-text_err text ms (Err f) h u p (inl memory) = inl memory
-text_err text ms (Err f) h u p (inr e) = inr (read_text text (Some ms) h (is_utf8-from_IsUtf8 text u) p ∙ e)
+text_err text ms r h u p e = grind (arith, read_text, is_utf8-from_IsUtf8)
 
 pub not_toml : (text : List ℕ) → length text ≤ 1048576 → (IsUtf8 text → parse_document text ≡ None) → scenario_of_text text ≡ Err NotToml
-not_toml text h none =
-    elim (cases_Bool (is_utf8 text)) [
-      | inl u ↦ read_text text None h u (none (IsUtf8-from_is_utf8 text u))
-      | inr w ↦ short_text text h ∙ ap (λ b. cond b (scenario_of_document (parse_document text)) (Err NotToml)) w
-    ]
+not_toml text h none = grind (arith, IsUtf8-from_is_utf8, short_text)
 
 pub too_long : (text : List ℕ) → 1048576 < length text → scenario_of_text text ≡ Err TooLong
 unfolding scenario_of_text
-too_long text h =
-    let many : nat_lt 1048576 (length text) ≡ true = grind (arith, nat_tests) in
-    ap (λ b. cond b (Err TooLong) (cond (is_utf8 text) (scenario_of_document (parse_document text)) (Err NotToml))) many
+too_long text h = grind arith
 
 -- ---- no text is answered by a fault of the feed
 
@@ -108,43 +90,16 @@ of_members until nodes star earlier i (e ∷ es) =
 
 key_all : (ms : Members) → AllByRecursion IsOfText (key_faults ms)
 unfolding IsOfText key_faults
-key_all ms =
-    let v = version_of ms in
-    all_append (top_faults ms) _ (of_unless (fits_rules (rules_of_top ms) ms) (BadKey part.Top 0) tt)
-    (all_append (faults_of_links v (array_at (codes "link") ms)) _ (of_faults_by _ _ 0 (array_at (codes "link") ms) (λ i. tt))
-    (all_append (faults_of_members v (array_at (codes "member") ms)) _ (of_faults_by _ _ 0 (array_at (codes "member") ms) (λ i. tt))
-    (all_append (faults_of_draws v (array_at (codes "draw") ms)) _ (of_faults_by _ _ 0 (array_at (codes "draw") ms) (λ i. tt))
-    (all_append (faults_of_sessions v (array_at (codes "session") ms)) _ (of_faults_by _ _ 0 (array_at (codes "session") ms) (λ i. tt))
-    (all_append (faults_of_drops v (array_at (codes "drop") ms)) _ (of_faults_by _ _ 0 (array_at (codes "drop") ms) (λ i. tt))
-    (all_append (faults_of_outages v (array_at (codes "outage") ms)) _ (of_faults_by _ _ 0 (array_at (codes "outage") ms) (λ i. tt))
-    tt))))))
+key_all ms = grind (arith, all_append, of_unless, of_faults_by)
 
 meaning_all : (s : PlainScenario) (star : Bool) (entries : List MemberEntry) (listed : List DropSpec)
     → AllByRecursion IsOfText (meaning_faults s star entries listed)
 unfolding IsOfText meaning_faults
-meaning_all s star entries listed =
-    all_append (fault_unless (is_tree (network_of s)) NotTree) _ (of_unless (is_tree (network_of s)) NotTree tt)
-    (all_append (member_faults s.until s.nodes star [] 0 entries) _ (of_members s.until s.nodes star [] 0 entries)
-    (all_append (faults_by BadDraw (fits_draw s.until s.members) 0 s.draws) _
-    (of_faults_by BadDraw (fits_draw s.until s.members) 0 s.draws (λ i. tt))
-    (all_append (faults_by BadSession (fits_session s.until s.members) 0 s.sessions) _
-    (of_faults_by BadSession (fits_session s.until s.members) 0 s.sessions (λ i. tt))
-    (all_append (faults_by BadDrop (fits_drop (length s.links) (length s.members)) 0 listed) _
-    (of_faults_by BadDrop (fits_drop (length s.links) (length s.members)) 0 listed (λ i. tt))
-    (all_append (faults_by BadOutage (fits_outage (length s.links)) 0 s.drops.outages) _
-    (of_faults_by BadOutage (fits_outage (length s.links)) 0 s.drops.outages (λ i. tt))
-    tt)))))
-
-of_answer : (fs : List ScenarioFault) (s : PlainScenario) (e : ScenarioFault) → AllByRecursion IsOfText fs → answer fs s ≡ Err e
-    → IsOfText e
-of_answer [] s e h is = cc
-of_answer (f ∷ fs) s e h is = let same : f ≡ e = cc in subst (λ t. IsOfText t) same h.0
+meaning_all s star entries listed = grind (arith, all_append, of_members, of_faults_by)
 
 of_table : (ms : Members) (e : ScenarioFault) → scenario_of_table ms ≡ Err e → IsOfText e
 unfolding faults_of scenario_of_table
-of_table ms e is = of_answer (faults_of ms) (described_scenario ms) e
-    (all_append (key_faults ms) _ (key_all ms) (meaning_all (described_scenario ms) _ _ _))
-    is
+of_table ms e is = grind (arith, all_append, key_all, meaning_all)
 
 of_document : (o : Option Members) (e : ScenarioFault) → scenario_of_document o ≡ Err e → IsOfText e
 unfolding IsOfText
@@ -161,18 +116,7 @@ unfolding IsOfText
 not_of_feed e h is = subst (λ t. IsOfText t) is h
 
 same_count : (r : Result PlainScenario ScenarioFault) (n : ℕ) → (r ≡ Err ReadFault → ⊥) → failures_after r n ≡ n
-same_count (Ok s) n h = refl
-same_count (Err ReadFault) n h = absurd (h refl)
-same_count (Err TooLong) n h = refl
-same_count (Err NotToml) n h = refl
-same_count (Err (BadKey p i)) n h = refl
-same_count (Err NotTree) n h = refl
-same_count (Err (BadMember i)) n h = refl
-same_count (Err (BadDraw i)) n h = refl
-same_count (Err (BadSession i)) n h = refl
-same_count (Err (BadDrop i)) n h = refl
-same_count (Err (BadOutage i)) n h = refl
-same_count (Err NoMemory) n h = refl
+same_count r n h = grind arith
 
 not_feed_fault : (text : List ℕ) (r : Result PlainScenario ScenarioFault)
     → length text ≤ 1048576 → IfErr r (λ e. (e ≡ NoMemory) ⊎ (scenario_of_text text ≡ Err e)) → r ≡ Err ReadFault → ⊥

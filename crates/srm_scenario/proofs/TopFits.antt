@@ -7,7 +7,7 @@ use Rattle.std.specs.List.{list_all}
 use Rattle.std.proofs.lemmas.Bool.Decides.{nat_tests}
 use Rattle.std.specs.Prelude.{◌&&◌, ◌||◌, if◌then◌else◌}
 use Rattle.toml.specs.Data.{Data, Items, Members, no_items, item, string, integer, float, boolean, datetime, array, table, get_member}
-use Rattle.srm_net.specs.Limits.{end_of_time, most_links, most_listed, most_nodes}
+use Rattle.srm_net.specs.Limits.{end_of_time, most_links, most_nodes}
 use Rattle.srm_net.specs.Network.{IsLinkDelay}
 use Rattle.srm_scenario.specs.declared.key.Key.{Key}
 use Rattle.srm_scenario.specs.declared.key.Key.TheVariants as key
@@ -17,12 +17,11 @@ use Rattle.srm_scenario.specs.declared.rule.Rule.{Rule}
 use Rattle.srm_scenario.specs.declared.topology.Topology.{Topology}
 use Rattle.srm_scenario.specs.declared.topology.Topology.TheVariants.{Chain, Star, Tree}
 use Rattle.srm_scenario.specs.declared.version.Version.{Version}
-use Rattle.srm_scenario.specs.declared.version.Version.TheVariants.{One, Two, Three}
 use Rattle.srm_scenario.specs.Keys.{name_of}
 use Rattle.srm_scenario.specs.Accepted.{AreConstants, HasRoom}
 use Rattle.srm_scenario.specs.KeyLimits.{greatest_delay, greatest_limit}
-use Rattle.srm_scenario.specs.Rules.{rule, fits_rules, is_met, is_text, meets, most_nodes_in, last_number, most_listed_in, allows_back}
-use Rattle.srm_scenario.specs.Rules.{topology_rule, degree_rule, constant_rule, greatest_constant_in, allows_limits, rule_if}
+use Rattle.srm_scenario.specs.Rules.{rule, fits_rules, is_met, is_text, meets, most_nodes_in, last_number, allows_back}
+use Rattle.srm_scenario.specs.Rules.{topology_rule, degree_rule, constant_rule, allows_limits, rule_if}
 use Rattle.srm_scenario.specs.Rules.{back_rule, count_items, count_made, times_repeated, rule_where, listed_in, topologies_in, is_kind}
 use Rattle.srm_scenario.specs.Rules.{is_whole, all_whole, optional_number}
 use Rattle.srm_scenario.specs.Described.{number, is_text_or, says, array_of, array_at, items_list, version_of, topology_of}
@@ -32,14 +31,7 @@ use Rattle.srm_scenario.specs.LookUps.{HasDegree, AreDelays, FewElements}
 use Rattle.srm_scenario.proofs.KeyRanges.{number_fits, or_fits, required_number, rule_met, back_fits}
 
 pub few_nodes : (v : Version) → (most_nodes_in v ≤ most_nodes) × (last_number v ≤ most_links) × (last_number v + 1 ≡ most_nodes_in v)
-few_nodes One = (omega arith, omega arith, refl)
-few_nodes Two = (omega arith, omega arith, refl)
-few_nodes Three = (omega arith, omega arith, refl)
-
-few_in : (v : Version) → most_listed_in v ≤ most_listed
-few_in One = omega arith
-few_in Two = omega arith
-few_in Three = omega arith
+few_nodes v = grind arith
 
 -- ---- the topology
 
@@ -59,22 +51,10 @@ of_three false true s p h = refl
 of_three false false true p h = refl
 of_three false false false p h = absurd (false≢true h)
 
-of_four : (t c s p : Bool) → (c || (s || (t || (p || false)))) ≡ true → ((t || (c || s)) || p) ≡ true
-of_four true c s p h = refl
-of_four false true s p h = refl
-of_four false false true p h = refl
-of_four false false false true h = refl
-of_four false false false false h = absurd (false≢true h)
-
 -- a word that is there is one of a topology that is made of its size, or says that parents are given
 known_word : (v : Version) (d : Data) → is_kind (Word (topologies_in v)) d ≡ true
     → ((is_text (codes "tree") d || (is_text (codes "chain") d || is_text (codes "star") d)) || is_text (codes "parents") d) ≡ true
-known_word One d h =
-    of_three (is_text (codes "tree") d) (is_text (codes "chain") d) (is_text (codes "star") d) (is_text (codes "parents") d) h
-known_word Two d h =
-    of_three (is_text (codes "tree") d) (is_text (codes "chain") d) (is_text (codes "star") d) (is_text (codes "parents") d) h
-known_word Three d h =
-    of_four (is_text (codes "tree") d) (is_text (codes "chain") d) (is_text (codes "star") d) (is_text (codes "parents") d) h
+known_word v d h = grind arith
 
 shaped_known : (v : Version) (o : Option Data) → meets Optional (Word (topologies_in v)) o ≡ true → is_some o ≡ true
     → ((is_text_or (codes "tree") o || (is_text_or (codes "chain") o || is_text_or (codes "star") o))
@@ -104,22 +84,11 @@ delays_by v ms (Some t) others more d b =
 
 -- ---- constants
 
-few_thousandths : (v : Version) → greatest_constant_in v ≤ greatest_limit
-few_thousandths One = omega arith
-few_thousandths Two = omega arith
-few_thousandths Three = omega arith
-
 constant_room : (v : Version) (allowed : Bool) (ms : Members) (k l m : Key) → is_met ms (constant_rule k v) ≡ true
     → is_met ms (rule_if allowed l (Whole 0 (number (name_of k) ms))) ≡ true
     → is_met ms (rule_if allowed m (Whole (number (name_of k) ms) greatest_limit)) ≡ true
     → HasRoom (number_or (name_of l) (name_of k) ms) (number (name_of k) ms) (number_or (name_of m) (name_of k) ms)
-constant_room v allowed ms k l m first least most =
-    let x = number (name_of k) ms in
-    let few = required_number k 0 (greatest_constant_in v) ms first in
-    let bound = few_thousandths v in
-    let low = or_fits allowed l 0 x x ms least (omega arith) (omega arith) in
-    let high = or_fits allowed m x greatest_limit x ms most (omega arith) (omega (arith, few.1, bound)) in
-    (low.1, high.0, high.1)
+constant_room v allowed ms k l m first least most = grind arith
 
 -- ---- arrays
 
@@ -129,19 +98,7 @@ count-list (item d ds) = ap suc (count-list ds)
 
 few_listed : (k : Key) (most : ℕ) (ms : Members) → is_met ms (rule k (Elements most) Optional) ≡ true
     → length (array_at (name_of k) ms) ≤ most
-few_listed k most ms h = by (get_member (name_of k) ms) h
-  where
-    by : (o : Option Data) → meets Optional (Elements most) o ≡ true → length (array_of o) ≤ most
-    by None e = omega arith
-    by (Some (array ds)) e =
-        let few : count_items ds ≤ most = grind (arith, nat_tests) in
-        subst (λ n. n ≤ most) (count-list ds) few
-    by (Some (string t)) e = absurd (false≢true e)
-    by (Some (integer t)) e = absurd (false≢true e)
-    by (Some (float t)) e = absurd (false≢true e)
-    by (Some (boolean t)) e = absurd (false≢true e)
-    by (Some (datetime t)) e = absurd (false≢true e)
-    by (Some (table t)) e = absurd (false≢true e)
+few_listed k most ms h = grind (arith, count-list)
 
 count-made : (ds : Items) → count_made ds ≡ sum_by times_repeated (items_list ds)
 count-made no_items = refl
@@ -149,34 +106,11 @@ count-made (item d ds) = ap (λ n. times_repeated d + n) (count-made ds) ∙ sym
 
 few_repeated : (k : Key) (most : ℕ) (ms : Members) → is_met ms (rule k (Repeated most) Optional) ≡ true
     → sum_by times_repeated (array_at (name_of k) ms) ≤ most
-few_repeated k most ms h = by (get_member (name_of k) ms) h
-  where
-    by : (o : Option Data) → meets Optional (Repeated most) o ≡ true → sum_by times_repeated (array_of o) ≤ most
-    by None e = omega arith
-    by (Some (array ds)) e =
-        let few : count_made ds ≤ most = grind (arith, nat_tests) in
-        subst (λ n. n ≤ most) (count-made ds) few
-    by (Some (string t)) e = absurd (false≢true e)
-    by (Some (integer t)) e = absurd (false≢true e)
-    by (Some (float t)) e = absurd (false≢true e)
-    by (Some (boolean t)) e = absurd (false≢true e)
-    by (Some (datetime t)) e = absurd (false≢true e)
-    by (Some (table t)) e = absurd (false≢true e)
+few_repeated k most ms h = grind (arith, count-made)
 
 few_elements : (v : Version) (k : Key) (ms : Members) → is_met ms (rule k (listed_in v) Optional) ≡ true
     → FewElements v (array_at (name_of k) ms)
-few_elements One k ms h = record {
-  stand_for = λ e. absurd (false≢true e);
-  are = λ e. (let few = few_listed k 4096 ms h in omega arith);
-}
-few_elements Two k ms h = record {
-  stand_for = λ e. absurd (false≢true e);
-  are = λ e. (let few = few_listed k 4096 ms h in omega arith);
-}
-few_elements Three k ms h = record {
-  stand_for = λ e. few_repeated k most_listed ms h;
-  are = λ e. absurd (false≢true (sym e));
-}
+few_elements v k ms h = grind (arith, few_listed, few_repeated)
 
 -- parents that are given are few, and each of them is a node's number
 numbers_met : (here : Bool) (k : Key) (most high : ℕ) (ms : Members) → is_met ms (rule_where here k (Numbers most high)) ≡ true

@@ -1,35 +1,19 @@
 -- The topologies grow from node 0, one node after the other.
-use Rattle.std.proofs.Common.{◌≡◌, ℕ, zero, suc, ◌+◌, ◌-◌, ◌/◌, ◌<◌, ◌≤◌, cond, length, Some, slice_get, nat_le, refl, ap, ◌∙◌, arith, inl}
-use Rattle.std.proofs.Common.{inr}
-use Rattle.std.proofs.lemmas.Bool.{cases_Bool}
-use Rattle.std.proofs.lemmas.Bool.Decides.{nat_tests}
+use Rattle.std.proofs.Common.{◌≡◌, ℕ, zero, suc, ◌+◌, ◌-◌, ◌<◌, ◌≤◌, length, Some, slice_get, refl, ap, ◌∙◌, arith}
 use Rattle.std.proofs.lemmas.List.Elements.{All-from_recursion}
-use Rattle.std.proofs.Math.Nat.{div-le_self}
 use Rattle.std.specs.List.{AllByRecursion}
 use Rattle.srm_net.specs.declared.link.LinkSpec.{LinkSpec}
 use Rattle.srm_net.specs.Network.{IsWithin}
 use Rattle.srm_net.proofs.Parents.{parents_tree}
 use Rattle.srm_scenario.specs.declared.delays.Delays.{Delays}
 use Rattle.srm_scenario.specs.declared.topology.Topology.{Topology}
-use Rattle.srm_scenario.specs.declared.topology.Topology.TheVariants.{Chain, Star, Tree}
 use Rattle.srm_scenario.specs.Described.{parent_in, links_to_parents}
 use Rattle.srm_scenario.specs.LookUps.{HasDegree}
 use Rattle.srm_scenario.specs.Topologies.{TopologiesAreTrees}
 
 -- a node's parent comes before it
 parent_below : (t : Topology) (v : ℕ) → HasDegree (Some t) → 1 ≤ v → parent_in t v < v
-parent_below Chain v h some = omega arith
-parent_below Star v h some = omega arith
-parent_below (Tree degree) v h some =
-    elim (cases_Bool (nat_le v degree)) [
-      | inl near ↦ (let e : parent_in (Tree degree) v ≡ 0 = ap (λ b. cond b 0 (1 + (v - degree - 1) / (degree - 1))) near in omega arith)
-      | inr far ↦
-          (let e : parent_in (Tree degree) v ≡ 1 + (v - degree - 1) / (degree - 1) =
-          ap (λ b. cond b 0 (1 + (v - degree - 1) / (degree - 1))) far in
-          let past : degree < v = grind (arith, nat_tests) in
-          let least = h.0 in
-          omega (arith, div-le_self (v - degree - 1) (degree - 1)))
-    ]
+parent_below t v h some = grind arith
 
 link_at : Topology → Delays → ℕ → LinkSpec
 link_at t delays v = record { a = parent_in t v; b = v; delay = delays.delay; back = delays.back }

@@ -9,7 +9,6 @@ use Rattle.std.specs.Prelude.{◌&&◌, ◌==◌}
 use Rattle.srm_net.specs.declared.link.LinkSpec.{LinkSpec}
 use Rattle.srm_net.specs.Limits.{most_nodes}
 use Rattle.srm_net.specs.Network.{Network, IsWithin, IsPath, IsTree, plain_network}
-use Rattle.srm_net.specs.Paths.{route_within}
 use Rattle.srm_net.proofs.Numbers.{apart_from_distinct, distinct_from_apart}
 use Rattle.srm_net.proofs.RouteLemmas.{Found, found_path, path_found, path_length}
 use Rattle.srm_scenario.specs.Trees.{all_below, has_way, is_tree}
@@ -52,10 +51,7 @@ found_some : (o : Option (List ℕ)) → Found o → is_some o ≡ true
 found_some o f = ap is_some f.1
 
 way_path : (w : Network) (u v : ℕ) → has_way w u v ≡ true → (ls : List ℕ) × IsPath w.links u ls v
-way_path w u v h =
-    let f = some_found (route_within (length w.links) w.links [] u v) h in
-    let p = found_path (length w.links) w.links [] u v f.0 refl f.1 in
-    (f.0, (p.0, p.1, distinct_from_apart p.0 p.2))
+way_path w u v h = grind (arith, found_path, distinct_from_apart)
 
 path_way : (w : Network) → IsTree w → (u v : ℕ) → u < w.nodes → v < w.nodes → has_way w u v ≡ true
 path_way w t u v hu hv =

@@ -1,4 +1,4 @@
-use Rattle.std.proofs.Common.{◌≡◌, ◌∙◌, ◌++◌, ◌∷◌, [], sym, ap, reverse, take, get_or}
+use Rattle.std.proofs.Common.{◌∙◌, ◌++◌, ◌∷◌, [], sym, ap, reverse, take, get_or}
 use Rattle.std.proofs.lemmas.List.{reverse-append}
 use Rattle.srm_net.specs.Growth.{attached}
 use Rattle.srm_net.proofs.TreeWays.{no_step, reverse_more}
