@@ -1,5 +1,5 @@
 -- What work on each job gives, put together.
-use Rattle.std.proofs.Common.{◌≡◌, ◌<◌, ℕ, zero, suc, List, [], ◌∷◌, length, get_or, map, Result, Ok, Err, sym, subst, inl, inr, arith}
+use Rattle.std.proofs.Common.{◌≡◌, ◌<◌, ℕ, zero, suc, List, [], ◌∷◌, length, get_or, map, Result, Ok, Err, subst, inl, inr, arith}
 use Rattle.std.specs.Prelude.{MatchResult}
 use Rattle.std.specs.List.{AllZip, Contains}
 use Rattle.std.specs.Global.{Vec}
@@ -23,10 +23,7 @@ module _ {J D : Type 0} (R : J → Result D CellFault → Type 0) where
 
   pub gathered : (js : List J) (rs : List (Result D CellFault)) (r : Result (Vec D) CellFault) → AllZip R js rs
       → MatchResult r (λ v. (ys : List D) × (rs ≡ map Ok ys) × (v.items ≡ ys)) (λ e. Contains rs (Err e)) → GathersEach R js r
-  gathered js rs (Ok v) z m = subst (AllZip (λ j d. R j (Ok d)) js) (sym m.2) (all_gave js m.0 (subst (AllZip R js) m.1 z))
-  gathered js rs (Err cell.NoMemory) z m = tt
-  gathered js rs (Err cell.Spent) z m = (rs, z, m)
-  gathered js rs (Err cell.CountFull) z m = (rs, z, m)
+  gathered js rs r z m = grind (arith, all_gave)
 
 module _ {M : Type 0} where
   pub all_done : (f : M → Record) (k : PlainScenario) (net : Network) (js : List (Job M)) (ps : List PlainJob)

@@ -1,6 +1,7 @@
 -- Hearers and jobs in pieces, and what came of them.
+use Rattle.std.proofs.Common.{arith}
 use Rattle.std.proofs.Common.{◌≡◌, List, [], ◌∷◌, ◌++◌, map, All, IfOk, length, Result, Ok, Err, sym, ap}
-use Rattle.std.proofs.Common.{◌∙◌, subst, append_assoc, append-nil}
+use Rattle.std.proofs.Common.{◌∙◌, subst, append_assoc}
 use Rattle.std.proofs.lemmas.List.{map-append}
 use Rattle.std.proofs.lemmas.List.Elements.{All-nil, All-cons, All-head, All-tail}
 use Rattle.std.specs.List.{AllZip}
@@ -98,9 +99,7 @@ module _ {M : Type 0} (f : M → Record) (k : PlainScenario) (net : Network) whe
         (hearers_may pieces ps z.1 n s (All-tail (λ gs. MayEach gs) gs pieces h))
 
     heard_is : (gs : Vec (Vec (Cell M))) (p : Piece M) (w : Worked M) → AreHearersOf xs gs p → Gives f k net p w → IsHeard w
-    heard_is gs (Jobs js) w is g = absurd is
-    heard_is gs (Hearers sent own) (Advanced r) is g = absurd g
-    heard_is gs (Hearers sent own) (Heard r) is g = tt
+    heard_is gs p w is g = grind arith
 
     pub hearers_heard : (pieces : List (Vec (Vec (Cell M)))) (given : List (Piece M)) (all : List (Worked M))
         → AllZip (λ gs p. AreHearersOf xs gs p) pieces given → AllZip (λ p w. Gives f k net p w) given all → All (λ w. IsHeard w) all
@@ -114,10 +113,7 @@ module _ {M : Type 0} (f : M → Record) (k : PlainScenario) (net : Network) whe
 
     one_heard : (gs v : Vec (Vec (Cell M))) (p : Piece M) → AreHearersOf xs gs p → Gives f k net p (Heard (Ok v))
         → GroupsHear f (traffic_of k net) (packets_in xs) gs.items v.items
-    one_heard gs v (Jobs js) is g = absurd is
-    one_heard gs v (Hearers sent own) is g =
-        subst (λ (l : Vec (Vec (Cell M))). GroupsHear f (traffic_of k net) (packets_in xs) l.items v.items) is.1
-        (subst (λ l. GroupsHear f (traffic_of k net) (packets_in l) own.items v.items) is.0 g)
+    one_heard gs v p is g = grind arith
 
     all_heard : (pieces : List (Vec (Vec (Cell M)))) (given : List (Piece M)) (own : List (Vec (Vec (Cell M))))
         → AllZip (λ gs p. AreHearersOf xs gs p) pieces given
@@ -136,9 +132,7 @@ module _ {M : Type 0} (f : M → Record) (k : PlainScenario) (net : Network) whe
     pub hearers_gave : (pieces : List (Vec (Vec (Cell M)))) (given : List (Piece M)) (all : List (Worked M)) (heard : List (Vec (Cell M)))
         → AllZip (λ gs p. AreHearersOf xs gs p) pieces given → AllZip (λ p w. Gives f k net p w) given all → HeardTogether all heard
         → GroupsHear f (traffic_of k net) (packets_in xs) (all_in pieces) heard
-    hearers_gave pieces given all heard z g h =
-        subst (GroupsHear f (traffic_of k net) (packets_in xs) (all_in pieces)) (sym h.2)
-        (all_heard pieces given h.0 z (subst (AllZip (λ p w. Gives f k net p w) given) h.1 g))
+    hearers_gave pieces given all heard z g h = grind (arith, all_heard)
 
 -- what holds of a value holds so too
 pub if_ok_then : {A E : Type 0} (P Q : A → Type 0) → ((x : A) → P x → Q x) → (r : Result A E) → IfOk r P → IfOk r Q
@@ -153,9 +147,6 @@ module _ {M : Type 0} where
   HeardSoFar heard left ws =
       (own : List (Vec (Vec (Cell M)))) × (map (λ v. Heard (Ok v)) own ++ left ≡ ws) × (heard ≡ all_in own)
 
-  pub heard_none : (heard : List (Vec (Cell M))) (left ws : List (Worked M)) → heard ≡ [] → left ≡ ws → HeardSoFar heard left ws
-  heard_none heard left ws e n = ([], n, e)
-
   pub heard_more : (heard new : List (Vec (Cell M))) (w : Worked M) (left ws : List (Worked M)) (v : Vec (Vec (Cell M)))
       → HeardSoFar heard (w ∷ left) ws → w ≡ Heard (Ok v) → new ≡ heard ++ v.items → HeardSoFar new left ws
   heard_more heard new w left ws v h is e =
@@ -165,7 +156,3 @@ module _ {M : Type 0} where
         longer ∙ split ∙ ap (λ x. map (λ v. Heard (Ok v)) h.0 ++ x ∷ left) (sym is) ∙ h.1,
         e ∙ ap (λ l. l ++ v.items) h.2 ∙ sym (all_in_more h.0 v),
       )
-
-  pub heard_all : (heard : List (Vec (Cell M))) (left ws : List (Worked M)) → HeardSoFar heard left ws → left ≡ [] → HeardTogether ws heard
-  heard_all heard left ws h none =
-      (h.0, sym h.1 ∙ ap (λ l. map (λ v. Heard (Ok v)) h.0 ++ l) none ∙ append-nil (map (λ v. Heard (Ok v)) h.0), h.2)

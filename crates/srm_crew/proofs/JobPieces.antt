@@ -12,7 +12,7 @@ use Rattle.srm_cell.specs.declared.job.Job.{Job}
 use Rattle.srm_cell.specs.declared.job.Done as job
 use Rattle.srm_cell.specs.declared.fault.CellFault.{CellFault}
 use Rattle.srm_cell.specs.declared.fault.CellFault.TheVariants as cell
-use Rattle.srm_cell.specs.Cells.{StepOutcome, Stepped, Spent, Full}
+use Rattle.srm_cell.specs.Cells.{StepOutcome, Stepped}
 use Rattle.srm_cell.specs.Setting.{traffic_of}
 use Rattle.srm_cell.specs.Crossings.{joined}
 use Rattle.srm_cell.specs.Jobs.{PlainJob, IsDone}
@@ -100,17 +100,7 @@ module _ {M : Type 0} (f : M → Record) where
     pub pieces_advanced : (pieces : List (Vec (Job M))) (rs : List (Result (Vec (job.Done M)) CellFault))
         (r : Result (Vec (job.Done M)) CellFault)
         → Gave pieces rs → PutTogether rs r → AdvanceEach f k net (all_in pieces) r
-    pieces_advanced pieces rs (Ok v) z h = record {
-      tells = λ ps a. subst (AllZip (λ p d. IsDone f (traffic_of k net) p d) ps) (sym h.2)
-          (all_done pieces h.0 ps (subst (Gave pieces) h.1 z) a);
-    }
-    pieces_advanced pieces rs (Err cell.NoMemory) z h = record { tells = λ ps a. tt }
-    pieces_advanced pieces rs (Err cell.Spent) z h = record {
-      tells = λ ps a. any_told Spent cell.Spent (λ qs t. t) pieces rs ps z a h.0 h.1 h.2;
-    }
-    pieces_advanced pieces rs (Err cell.CountFull) z h = record {
-      tells = λ ps a. any_told Full cell.CountFull (λ qs t. t) pieces rs ps z a h.0 h.1 h.2;
-    }
+    pieces_advanced pieces rs r z h = grind (arith, all_done, any_told)
 
 module _ {D : Type 0} where
   -- what was put together of these pieces, and what is left of them
@@ -155,23 +145,17 @@ module _ {A : Type 0} where
   -- one item more goes to the piece that has not ended
   pub piece_longer : (front : List A) (own new : Vec A) (x : A) (left whole : List A) → new.items ≡ own.items ++ x ∷ []
       → (front ++ own.items) ++ x ∷ left ≡ whole → (front ++ new.items) ++ left ≡ whole
-  piece_longer front own new x left whole is h =
-      ap (λ l. (front ++ l) ++ left) is ∙ ap (λ l. l ++ left) (sym (append_assoc front own.items (x ∷ [])))
-      ∙ append_assoc (front ++ own.items) (x ∷ []) left ∙ h
+  piece_longer front own new x left whole is h = grind (arith, append_assoc)
 
   -- a piece ends, and an empty one begins
   pub piece_ends : (ps more : List (Vec A)) (own empty : Vec A) → more ≡ ps ++ own ∷ [] → empty.items ≡ []
       → all_in more ++ empty.items ≡ all_in ps ++ own.items
-  piece_ends ps more own empty is none =
-      ap (λ l. all_in l ++ empty.items) is ∙ ap (λ l. all_in (ps ++ own ∷ []) ++ l) none
-      ∙ append-nil (all_in (ps ++ own ∷ [])) ∙ all_in_more ps own
+  piece_ends ps more own empty is none = grind (arith, append-nil, all_in_more)
 
   -- the last piece ends, and nothing is left
   pub last_piece : (ps more : List (Vec A)) (own : Vec A) (left whole : List A) → more ≡ ps ++ own ∷ [] → left ≡ []
       → (all_in ps ++ own.items) ++ left ≡ whole → all_in more ≡ whole
-  last_piece ps more own left whole is none h =
-      ap all_in is ∙ all_in_more ps own ∙ sym (append-nil (all_in ps ++ own.items))
-      ∙ ap (λ l. (all_in ps ++ own.items) ++ l) (sym none) ∙ h
+  last_piece ps more own left whole is none h = grind (arith, all_in_more, append-nil)
 
 -- what advancing jobs tells of one scenario and network it tells of the same under other names
 pub as_given : {M : Type 0} (f : M → Record) (own given : PlainScenario) (own_net net : Network) (js : List (Job M))

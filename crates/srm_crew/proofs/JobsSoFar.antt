@@ -1,11 +1,11 @@
 -- Jobs advanced one after the other: what is so after the first of them.
-use Rattle.std.proofs.Common.{◌≡◌, List, [], ◌∷◌, ◌++◌, refl, sym, subst, inl, inr, append_assoc, append-nil, Err}
+use Rattle.std.proofs.Common.{arith}
+use Rattle.std.proofs.Common.{◌≡◌, List, [], ◌∷◌, ◌++◌, refl, sym, subst, append_assoc, append-nil, Err}
 use Rattle.std.specs.List.{AllZip}
 use Rattle.srm_member.specs.Record.{Record}
 use Rattle.srm_cell.specs.declared.job.Job.{Job}
 use Rattle.srm_cell.specs.declared.job.Done as job
 use Rattle.srm_cell.specs.declared.fault.CellFault.{CellFault}
-use Rattle.srm_cell.specs.declared.fault.CellFault.TheVariants as cell
 use Rattle.srm_cell.specs.Setting.{Traffic}
 use Rattle.srm_cell.specs.Cells.{StepOutcome, Stepped}
 use Rattle.srm_cell.specs.Jobs.{PlainJob, IsJob, IsDone, TellsDone}
@@ -40,13 +40,7 @@ module _ {M : Type 0} where
   pub so_far_more : (f : M → Record) (s : Traffic) (ps : List PlainJob) (all : List (job.Done M))
       (left js : List (Job M)) (j : Job M) (d : job.Done M)
       → (h : SoFar f s ps all left) → (r : First f j js h.rest) → IsDone f s r.own d → SoFar f s ps (all ++ d ∷ []) js
-  so_far_more f s ps all left js j d h r done = record {
-    rest = r.others;
-    seen = r.jobs;
-    done = λ ds z. subst (AllZip (λ p d. IsDone f s p d) ps) (sym (append_assoc all (d ∷ []) ds))
-        (h.done (d ∷ ds) (subst (λ xs. AllZip (λ p d. IsDone f s p d) xs (d ∷ ds)) (sym r.is) (done, z)));
-    ends = λ o e. h.ends o (subst (AnyEnds o) (sym r.is) (inr e));
-  }
+  so_far_more f s ps all left js j d h r done = grind (arith, append_assoc)
 
   pub so_far_all : (f : M → Record) (s : Traffic) (ps : List PlainJob) (all : List (job.Done M)) (left : List (Job M))
       → SoFar f s ps all left → left ≡ [] → AllZip (λ p d. IsDone f s p d) ps all
@@ -63,6 +57,4 @@ module _ {M : Type 0} where
   pub so_far_fault : (f : M → Record) (s : Traffic) (ps : List PlainJob) (all : List (job.Done M))
       (left js : List (Job M)) (j : Job M) (e : CellFault)
       → (h : SoFar f s ps all left) → (r : First f j js h.rest) → TellsDone f s r.own (Err e) → TellsEach f s ps (Err e)
-  so_far_fault f s ps all left js j cell.NoMemory h r t = tt
-  so_far_fault f s ps all left js j cell.Spent h r t = h.ends _ (subst (AnyEnds _) (sym r.is) (inl t))
-  so_far_fault f s ps all left js j cell.CountFull h r t = h.ends _ (subst (AnyEnds _) (sym r.is) (inl t))
+  so_far_fault f s ps all left js j e h r t = grind arith

@@ -1,5 +1,5 @@
 -- Each step of a pass keeps the rule of the bag.
-use Rattle.std.proofs.Common.{◌≡◌, ◌≢◌, ℕ, zero, suc, ◌+◌, ◌*◌, ◌/◌, ◌<◌, ◌≤◌, ◌⊎◌, List, [], ◌∷◌, ◌++◌, length, slice_get, Some, set, sym}
+use Rattle.std.proofs.Common.{◌≡◌, ◌≢◌, ℕ, zero, suc, ◌+◌, ◌<◌, ◌≤◌, ◌⊎◌, List, [], ◌∷◌, ◌++◌, length, slice_get, Some, set, sym}
 use Rattle.std.proofs.Common.{refl, ap, ◌∙◌, subst, ⊎_elim, inl, inr, arith, eq-eqb, ne_eqb, lt_of_not-le}
 use Rattle.std.proofs.lemmas.List.{length-append}
 use mathlib.Core.Logic.{dite}
@@ -10,7 +10,6 @@ use Rattle.atomic_table.proofs.Lists.{at_set, at_snoc, set_else}
 use Rattle.crossbeam_queue.specs.Fifo.{Pushes, Pops, Forks, Merges, Learns}
 use Rattle.srm_crew.specs.declared.rule.Hold.{Hold}
 use Rattle.srm_crew.specs.declared.rule.Spot.{Spot}
-use Rattle.srm_ledger.specs.Tally.{total}
 use Rattle.srm_ledger.proofs.SumsOver.{total_set, total_snoc, total_part, total_none}
 use Rattle.srm_crew.specs.Places.{hold_of, spent_hold, times, AllBelow, hold_weight, count_of, times_of, PassOk, Kept}
 use Rattle.srm_crew.specs.Places.{puts, takes_spot, short}
@@ -221,35 +220,7 @@ module _ {T : Type 0} where
       )
 
   pub split_keeps : (id : ℕ) (v : Hold T) → 2 ≤ v.weight → Forks (Kept {T = T}) id v (first_hold v) (second_hold v)
-  split_keeps id v two items views h at =
-      let l = first_hold v in
-      let r = second_hold v in
-      let ok = h.passes id v at in
-      let halves : v.weight / 2 * 2 ≤ v.weight = omega arith in
-      let up : 1 ≤ v.weight / 2 = omega arith in
-      record {
-        put = h.put;
-        popped = h.popped;
-        behind = h.behind;
-        queued = h.queued;
-        whole = (let a = total_set hold_weight views id v l at in let b = total_snoc hold_weight (set views id l) r in let e = h.whole in
-            omega arith);
-        counted = (let a = total_set count_of views id v l at in let b = total_snoc count_of (set views id l) r in let e = h.counted in
-            omega arith);
-        once = λ p lt. let a = total_set (times_of p) views id v l at in let b = total_snoc (times_of p) (set views id l) r in let e =
-            h.once p lt in omega arith;
-        never = λ p le. let a = total_set (times_of p) views id v l at in let b = total_snoc (times_of p) (set views id l) r in let e =
-            h.never p le in omega arith;
-        passes = λ j u e. ⊎_elim
-            (λ x. ⊎_elim
-            (λ (t : (j ≡ id) × (l ≡ u)). subst (PassOk h.put h.popped) t.1
-            record { spent_is = λ z. absurd (omega arith); knows = λ _. ok.knows (omega arith); below = ok.below })
-            (λ (t : (j ≢ id) × (get_elem? views j ≡ some u)). h.passes j u t.1)
-            (at_set views id j l u x))
-            (λ (is : r ≡ u). subst (PassOk h.put h.popped) is record
-            { spent_is = λ z. absurd (omega arith); knows = λ _. ok.knows (omega arith); below = λ i z. absurd (omega arith) })
-            (at_snoc (set views id l) r u j e);
-      }
+  split_keeps id v two items views h at = grind (arith, total_set, total_snoc, at_set, at_snoc)
 
   pub join_keeps : (id : ℕ) (v : Hold T) (other : ℕ) (w : Hold T) → 1 ≤ v.weight
       → Merges (Kept {T = T}) id v other w (both_holds v w) spent_hold

@@ -197,12 +197,7 @@ module _ {D : Type 0} where
 
   pub ordered : (places : List ℕ) (all v : List D) (slots : List (Option D)) → length places ≡ length all → length slots ≡ length all
       → FilledFrom places all 0 slots → map (λ (x : D). Some x) v ≡ slots → InOrder places all v
-  ordered places all v slots many long filled same = (
-    sym (map_long v) ∙ ap length same ∙ long,
-    zip_places (λ p d. slice_get v p ≡ Some d) places all many (λ k d g lt.
-        get_some v (slice_index places k) d (ap (λ l. slice_get l (slice_index places k)) same
-        ∙ filled k (omega arith) (omega (arith, lt, many)) ∙ ap (λ o. Some o) g)),
-  )
+  ordered places all v slots many long filled same = grind (arith, map_long, zip_places, get_some)
 
 -- ---- all items
 

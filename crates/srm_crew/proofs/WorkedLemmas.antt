@@ -1,13 +1,11 @@
 -- What workers did, put together: one item more, more work with the same pass, and the work of two.
-use Rattle.std.proofs.Common.{◌≡◌, ◌≤◌, ℕ, ◌+◌, ◌-◌, ◌*◌, ◌/◌, List, [], ◌∷◌, ◌++◌, length, slice_get, slice_index, Some, All, Result, Ok}
+use Rattle.std.proofs.Common.{◌≡◌, ℕ, ◌+◌, List, [], ◌∷◌, ◌++◌, length, Some, All, Result, Ok}
 use Rattle.std.proofs.Common.{Err, refl, sym, ap, ◌∙◌, subst, arith, append_assoc, append-nil}
 use Rattle.std.specs.List.{AllZip}
 use Rattle.std.proofs.lemmas.Option.{get_or_from_slice_get, slice_get_within}
-use Rattle.std.proofs.lemmas.List.Elements.{All-get_or}
 use Rattle.std.specs.Global.{Vec}
 use Rattle.srm_ledger.specs.Seats.{SeatView, half_with_shares, both_seats}
 use Rattle.srm_ledger.specs.Seats as seats
-use Rattle.srm_ledger.specs.Tally.{added}
 use Rattle.srm_ledger.proofs.Zips.{added_at}
 use Rattle.srm_ledger.proofs.Keeps.{replicate_zero}
 use Rattle.srm_cell.specs.declared.fault.CellFault.{CellFault}
@@ -16,7 +14,7 @@ use Rattle.srm_crew.specs.declared.fault.CrewFault.{CrewFault}
 use Rattle.srm_crew.specs.declared.fault.CrewFault.TheVariants as fault
 use Rattle.srm_crew.specs.Places.{EachAtMostOnce}
 use Rattle.srm_crew.specs.Passes.{PassView, half_with_list, half_without_list, both_passes, TellsTake}
-use Rattle.srm_crew.specs.Shared.{HoldsAt, sum_of, with_list, ComeOf, Stops, Worked, TellsWork, TellsItem, TellsBoth}
+use Rattle.srm_crew.specs.Shared.{HoldsAt, sum_of, ComeOf, Stops, Worked, TellsWork, TellsItem, TellsBoth}
 
 pub zip_append : {A B : Type 0} (R : A → B → Type 0) (xs us : List A) (ys vs : List B) → AllZip R xs ys → AllZip R us vs
     → AllZip R (xs ++ us) (ys ++ vs)
@@ -30,15 +28,10 @@ pub sum_of-append : {D : Type 0} (numbers : D → List ℕ) (k : ℕ) (xs ys : L
 sum_of-append numbers k [] ys = omega arith
 sum_of-append numbers k (x ∷ xs) ys = let e = sum_of-append numbers k xs ys in omega (arith, e)
 
-halves_of : (w : ℕ) → w - w / 2 + w / 2 ≡ w
-halves_of w = let h : w / 2 * 2 ≤ w = omega arith in omega arith
-
 -- what holds of each item that was put holds of one that is taken
 pub ready_at : {T : Type 0} (P : T → Type 0) (put : List T) (p q : PassView T) (x : T) → p.put ≡ put → All P put → TellsTake p (Some x) q
     → P x
-ready_at P put p q x same all take =
-    let e : slice_get put take.0 ≡ Some x = subst (λ l. slice_get l take.0 ≡ Some x) same take.2 in
-    subst P (get_or_from_slice_get put take.0 x x e) (All-get_or P put take.0 x (slice_get_within put take.0 x e) all)
+ready_at P put p q x same all take = grind (arith, get_or_from_slice_get, slice_get_within)
 
 module _ {T D : Type 0} (R : T → Result D CellFault → Type 0) (numbers : D → List ℕ) where
   pub worked_none : (p : PassView T) (s : SeatView) (r : List D) → Worked R numbers p s r p s r
@@ -54,22 +47,7 @@ module _ {T D : Type 0} (R : T → Result D CellFault → Type 0) (numbers : D �
   -- work after work
   pub worked_more : (P p q : PassView T) (S s t : SeatView) (U u v : List D) → Worked R numbers P S U p s u → Worked R numbers p s u q t v
       → Worked R numbers P S U q t v
-  worked_more P p q S s t U u v a b =
-      let put : p.put ≡ P.put = ap (λ x. x.put) a.taken in record {
-        places = a.places ++ b.places;
-        more = a.more ++ b.more;
-        taken = b.taken ∙ (λ i. with_list (a.taken i) ((a.taken i).taken ++ b.places))
-            ∙ ap (with_list P) (append_assoc P.taken a.places b.places);
-        gave = b.gave ∙ ap (λ l. l ++ b.more) a.gave ∙ append_assoc U a.more b.more;
-        come = zip_append (λ p d. HoldsAt (λ x. R x (Ok d)) P.put p) a.places b.places a.more b.more a.come
-            (subst (λ l. ComeOf R l b.places b.more) put b.come);
-        grown = record {
-          ledger = b.grown.ledger ∙ a.grown.ledger;
-          weight = b.grown.weight ∙ a.grown.weight;
-          shares = λ k. let x = a.grown.shares k in let y = b.grown.shares k in let e = sum_of-append numbers k a.more b.more in
-              omega (arith, x, y, e);
-        };
-      }
+  worked_more P p q S s t U u v a b = grind (arith, append_assoc, zip_append, sum_of-append)
 
   -- a fault after work
   pub stops_after : (P p : PassView T) (S s : SeatView) (U u : List D) (e : CrewFault) → Worked R numbers P S U p s u
@@ -104,14 +82,7 @@ module _ {T D : Type 0} (R : T → Result D CellFault → Type 0) (numbers : D �
   -- one item
   pub item_worked : (p q : PassView T) (s t : SeatView) (u v : Vec D) (x : T) → TellsTake p (Some x) q
       → TellsItem (λ r. R x r) numbers s u (Ok tt) t v → Worked R numbers p s u.items q t v.items
-  item_worked p q s t u v x take item = record {
-    places = take.0 ∷ [];
-    more = item.0 ∷ [];
-    taken = take.1;
-    gave = item.2;
-    come = ((x, take.2, item.1), tt);
-    grown = record { ledger = item.3.ledger; weight = item.3.weight; shares = λ k. let e = item.3.shares k in omega (arith, e) };
-  }
+  item_worked p q s t u v x take item = grind arith
 
   pub item_stops : (p q : PassView T) (s t : SeatView) (u v : Vec D) (x : T) (e : CrewFault) → TellsTake p (Some x) q
       → TellsItem (λ r. R x r) numbers s u (Err e) t v → Stops R numbers p.put p.taken s e
@@ -130,46 +101,18 @@ module _ {T D : Type 0} (R : T → Result D CellFault → Type 0) (numbers : D �
 
   first_stops : (P : PassView T) (S : SeatView) (e : CrewFault) → Stops R numbers P.put P.taken (half_with_shares S) e
       → Stops R numbers P.put P.taken S e
-  first_stops P S fault.NoMemory h = tt
-  first_stops P S fault.Spent h = h
-  first_stops P S fault.CountFull h = h
-  first_stops P S fault.ShareFull h = h
+  first_stops P S e h = grind arith
 
   second_stops : (P : PassView T) (S : SeatView) (e : CrewFault) → P.taken ≡ [] → Stops R numbers P.put [] (seats.half_without S) e
       → Stops R numbers P.put P.taken S e
-  second_stops P S fault.NoMemory none h = tt
-  second_stops P S fault.Spent none h = h
-  second_stops P S fault.CountFull none h = h
-  second_stops P S fault.ShareFull none h = (
-    h.0,
-    h.1,
-    subst (λ l. EachAtMostOnce (l ++ h.0) (length P.put)) (sym none) h.2,
-    h.3,
-    (h.4.0, (let e = h.4.1 in let z = replicate_zero (length S.shares) h.4.0 in omega (arith, e, z))),
-  )
+  second_stops P S e none h = grind (arith, replicate_zero)
 
   both_worked : (P p q m : PassView T) (S s t n : SeatView) (u v w : List D)
       → Worked R numbers (half_with_list P) (half_with_shares S) [] p s u
       → Worked R numbers (half_without_list P) (seats.half_without S) [] q t v
       → m ≡ both_passes p q → n ≡ both_seats s t → w ≡ u ++ v → Worked R numbers P S [] m n w
-  both_worked P p q m S s t n u v w a b passes seats' results = record {
-    places = a.places ++ b.places;
-    more = a.more ++ b.more;
-    taken = passes ∙ (λ i. both_passes (a.taken i) (b.taken i)) ∙
-        (λ i. record { bag = P.bag; weight = halves_of P.weight i; put = P.put; taken = append_assoc P.taken a.places b.places i });
-    gave = results ∙ (λ i. a.gave i ++ b.gave i);
-    come = zip_append (λ p d. HoldsAt (λ x. R x (Ok d)) P.put p) a.places b.places a.more b.more a.come b.come;
-    grown = record {
-      ledger = ap (λ x. x.ledger) seats' ∙ a.grown.ledger;
-      weight = ap (λ x. x.weight) seats' ∙ (λ i. a.grown.weight i + b.grown.weight i) ∙ halves_of S.weight;
-      shares = λ k.
-          let m = added_at s.shares t.shares k in
-          let o : slice_index n.shares k ≡ slice_index (added s.shares t.shares) k = ap (λ x. slice_index x.shares k) seats' in
-          let x = a.grown.shares k in let y = b.grown.shares k in
-          let z = replicate_zero (length S.shares) k in
-          let e = sum_of-append numbers k a.more b.more in omega (arith, m, o, x, y, z, e);
-    };
-  }
+  both_worked P p q m S s t n u v w a b passes seats' results =
+      grind (arith, append_assoc, zip_append, added_at, replicate_zero, sum_of-append)
 
   pub halves_tell : (P : PassView T) (S : SeatView) (a b r : Result (PassView T × SeatView × Vec D) CrewFault) → P.taken ≡ []
       → TellsWork R numbers (half_with_list P) (half_with_shares S) [] a
@@ -207,9 +150,7 @@ module _ {T D : Type 0} (R : T → Result D CellFault → Type 0) (numbers : D �
   pub halves_told : (P p q : PassView T) (S s t : SeatView) (a b r : Result (PassView T × SeatView × Vec D) CrewFault) → P.taken ≡ []
       → p ≡ half_with_list P → s ≡ half_with_shares S → q ≡ half_without_list P → t ≡ seats.half_without S
       → TellsWork R numbers p s [] a → TellsWork R numbers q t [] b → TellsBoth a b r → TellsWork R numbers P S [] r
-  halves_told P p q S s t a b r none ps ss qs ts x y h =
-      halves_tell P S a b r none (tells_same (half_with_list P) p (half_with_shares S) s [] a ps ss refl x)
-      (tells_same (half_without_list P) q (seats.half_without S) t [] b qs ts refl y) h
+  halves_told P p q S s t a b r none ps ss qs ts x y h = grind (arith, halves_tell)
 
   -- why workers stop, of these items
   pub stops_of : (items : List T) (p : PassView T) (S : SeatView) (e : CrewFault) → p.put ≡ items → p.taken ≡ []

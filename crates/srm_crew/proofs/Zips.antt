@@ -1,4 +1,5 @@
 -- Two lists, item by item.
+use Rattle.std.proofs.Common.{arith}
 use Rattle.std.proofs.Common.{◌≡◌, List, [], ◌∷◌, ◌++◌, sym, ap, ◌∙◌, subst, append_assoc, append-nil}
 use Rattle.std.specs.List.{AllZip}
 
@@ -27,11 +28,7 @@ module _ {A B : Type 0} (R : A → B → Type 0) where
 
   pub zip_more : (whole left : List A) (done new : List B) (x : A) (y : B) → ZipSoFar whole (x ∷ left) done → R x y
       → new ≡ done ++ y ∷ [] → ZipSoFar whole left new
-  zip_more whole left done new x y z r e = record {
-    front = z.front ++ x ∷ [];
-    is = append_assoc z.front (x ∷ []) left ∙ z.is;
-    zipped = subst (AllZip R (z.front ++ x ∷ [])) (sym e) (zip_push z.front done x y z.zipped r);
-  }
+  zip_more whole left done new x y z r e = grind (arith, append_assoc, zip_push)
 
   pub zip_all : (whole left : List A) (done : List B) → ZipSoFar whole left done → left ≡ [] → AllZip R whole done
   zip_all whole left done z e =

@@ -25,12 +25,6 @@ in_table rules d ms (finding.BadItem r i) is h = (ms, is, h)
 in_table rules d ms (finding.BadLength r n) is h = (ms, is, h)
 in_table rules d ms (finding.Passed r copy n) is h = (ms, is, h)
 
-pub found_in : {E : Type 0} (rules : List Rule) (d : Data) (ms : Members) (r : Result (Option Finding) E) → d ≡ table ms
-    → IfOk r (λ o. IfSome o (IsFinding rules ms)) → IfOk r (λ o. IfSome o (FindsIn rules d))
-found_in rules d ms (Ok (Some f)) is h = in_table rules d ms f is h
-found_in rules d ms (Ok None) is h = h
-found_in rules d ms (Err e) is h = h
-
 -- the same of the top table
 pub found_at_top : {E : Type 0} (rules : List Rule) (p : Part) (place : ℕ) (top : Members) (r : Result (Option Finding) E)
     → array_key p ≡ None → IfOk r (λ o. IfSome o (IsFinding rules top)) → IfOk r (λ o. IfSome o (FindsAt rules p place top))

@@ -1,13 +1,11 @@
 -- The links of a draft, and elements of lists.
-use Rattle.std.proofs.Common.{◌≡◌, ◌≢◌, ◌∙◌, ℕ, zero, suc, ◌+◌, ◌-◌, Bool, true, false, List, [], ◌∷◌}
+use Rattle.std.proofs.Common.{◌≡◌, ◌≢◌, ◌∙◌, ℕ, zero, suc, ◌-◌, Bool, true, false, List, [], ◌∷◌}
 use Rattle.std.proofs.Common.{length, slice_get, Option, Some, None, ap, refl, subst, arith, ◌<◌}
 use Rattle.std.proofs.lemmas.Bool.{false≢true}
 use Rattle.std.specs.List.{list_any}
 use Rattle.std.specs.Prelude.{◌||◌}
-use Rattle.srm_scenario.specs.declared.delays.Delays.{Delays}
 use Rattle.srm_scenario.specs.declared.draft.Draft.{Draft}
 use Rattle.srm_scenario.specs.declared.topology.Topology.{Topology}
-use Rattle.srm_scenario.specs.Described.{links_to_parents}
 use Rattle.srm_scenario.specs.Drafts.{links_listed}
 use Rattle.srm_explain.specs.Misfits.{links_of}
 use Rattle.srm_scenario.proofs.TopologyTrees.{links_length}

@@ -1,5 +1,5 @@
 -- Each step of a seat keeps the rule of the ledger.
-use Rattle.std.proofs.Common.{◌≡◌, ◌≢◌, ℕ, zero, suc, ◌+◌, ◌*◌, ◌/◌, ◌%◌, ◌^◌, ◌<◌, ◌≤◌, List, [], ◌∷◌, ◌++◌, length, replicate}
+use Rattle.std.proofs.Common.{◌≡◌, ◌≢◌, ℕ, ◌+◌, ◌*◌, ◌/◌, ◌%◌, ◌^◌, ◌<◌, ◌≤◌, List, length, replicate}
 use Rattle.std.proofs.Common.{slice_index, set, sym, refl, ap, ◌∙◌, subst, ⊎_elim, arith, length-set}
 use Rattle.std.proofs.Math.Nat.{mod-eq_of_lt}
 use Rattle.std.proofs.lemmas.List.{get_or-set_same, get_or-set_other, get_or-replicate, get_or_past, length-replicate, set-get_or}
@@ -18,9 +18,7 @@ use Rattle.srm_ledger.specs.Tally.{second_half, joined_holding, AllFit, AreWords
 
 -- an empty seat adds nothing
 at_most : (words : List ℕ) (v : Holding) (k : ℕ) → SeatOk words v → share_at k v ≤ v.weight * (2 ^ 47)
-at_most words v k ok = dite (ℕ_discrete v.weight 0)
-    (λ z. let is : share_at k v ≡ share_at k spent = ap (share_at k) (ok.spent_is z) in omega arith)
-    (λ nz. let c = ok.capped k in omega arith)
+at_most words v k ok = grind arith
 
 pub word_most : {S : Type 0} (n : ℕ) (s : State S Holding) (k : ℕ) → Tallied n s → slice_index s.words k ≤ 2 ^ 63
 word_most n s k h = let m = total_most (share_at k) weight_of s.views (2 ^ 47) (λ j v e. at_most s.words v k (h.seats j v e)) in
@@ -29,10 +27,7 @@ word_most n s k h = let m = total_most (share_at k) weight_of s.views (2 ^ 47) (
 
 grows : (words : List ℕ) (i x : ℕ) → slice_index words i ≤ x → i < length words → (k : ℕ)
     → slice_index words k ≤ slice_index (set words i x) k
-grows words i x le lt k = dite (ℕ_discrete k i)
-    (λ e. let P : ℕ → Type 0 = λ j. slice_index words j ≤ slice_index (set words i x) j in
-    subst P (sym e) (let is = get_or-set_same words i x 0 lt in omega arith))
-    (λ n. let is = get_or-set_other words i k x 0 n in omega arith)
+grows words i x le lt k = grind (arith, get_or-set_same, get_or-set_other)
 
 -- a step that adds d to the word i and to the seat's share of it
 pub step_keeps : {S : Type 0} (n id i x d : ℕ) (v w : Holding) (s : State S Holding) (hs : List (mathlib.Core.Option.Option S))

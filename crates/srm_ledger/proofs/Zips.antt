@@ -1,6 +1,6 @@
 -- Two lists of numbers put together place by place.
 use Rattle.std.proofs.Common.{◌≡◌, ℕ, zero, suc, ◌+◌, ◌<◌, max, drop, List, [], ◌∷◌, length, slice_index, sym, refl, ap, ◌∙◌, arith}
-use Rattle.std.proofs.lemmas.Grind.{same_number_lists, get_or_after_one}
+use Rattle.std.proofs.lemmas.Grind.{same_number_lists}
 use Rattle.srm_ledger.specs.Tally.{added, larger}
 
 pub added_at : (xs ys : List ℕ) (k : ℕ) → slice_index (added xs ys) k ≡ slice_index xs k + slice_index ys k
@@ -37,7 +37,4 @@ is_larger zs xs ys same long h = let l = larger_length xs ys same in same_number
 
 -- a number behind the first
 pub behind_at : (xs : List ℕ) (k : ℕ) → slice_index (drop 1 xs) k ≡ slice_index xs (k + 1)
-behind_at xs k = get_or_after_one xs k 0 ∙ ap (slice_index xs) (next k)
-  where
-    next : (k : ℕ) → 1 + k ≡ k + 1
-    next k = omega arith
+behind_at xs k = grind arith

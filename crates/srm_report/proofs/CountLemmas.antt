@@ -1,9 +1,8 @@
 -- Counts of rows, row by row.
 use Rattle.std.proofs.Common.{◌≡◌, ◌∙◌, ℕ, ◌+◌, ◌<◌, ◌≤◌, ◌≢◌, All, Bool, true, false, cond, ◌&&◌, List, [], ◌∷◌, ◌++◌}
-use Rattle.std.proofs.Common.{length, Option, Some, None}
-use Rattle.std.proofs.Common.{refl, ap, sym, subst, get_or, slice_set, ◌==◌, eqb-true, eq-eqb, true≢false, arith}
-use Rattle.std.specs.List.{find, count_by}
-use Rattle.std.specs.Option.{option_or}
+use Rattle.std.proofs.Common.{length, Option}
+use Rattle.std.proofs.Common.{refl, ap, sym, get_or, slice_set, ◌==◌, eqb-true, eq-eqb, true≢false, arith}
+use Rattle.std.specs.List.{count_by}
 use Rattle.std.proofs.lemmas.List.Sums.{sum_by_push}
 use Rattle.std.proofs.lemmas.List.Folds.{find-append}
 use Rattle.std.proofs.lemmas.List.{get_or_read, get_or-set_other, length-set}
@@ -16,21 +15,13 @@ use Rattle.srm_scenario.specs.declared.parts.MemberSpec.{MemberSpec}
 use Rattle.srm_report.specs.declared.counts.Counts.{Counts}
 use Rattle.srm_report.specs.Counted.{first_known, IsAtMost, AreCounts}
 use Rattle.srm_report.specs.Members.{counts_of, member_fields, member_rows}
-use Rattle.srm_report.specs.Rows.{row_time}
 use Rattle.srm_report.specs.Rows.{time_of_kind}
 
 -- ---- one row more
 
-time_or : (o : Option Row) (b : Bool) (r : Row) → first_known (row_time o) r.key.time b ≡ row_time (option_or o (cond b (Some r) None))
-time_or (Some q) b r = refl
-time_or None true r = refl
-time_or None false r = refl
-
 time_more : (kind : Word → Bool) (rows : List Row) (r : Row) → first_known (time_of_kind kind rows) r.key.time (kind r.cause)
     ≡ time_of_kind kind (rows ++ r ∷ [])
-time_more kind rows r =
-    time_or (find (λ (q : Row). kind q.cause) rows) (kind r.cause) r
-    ∙ ap row_time (sym (find-append (λ (q : Row). kind q.cause) rows (r ∷ [])))
+time_more kind rows r = grind (arith, find-append)
 
 count_more : (p : Row → Bool) (rows : List Row) (r : Row) → count_by p rows + cond (p r) 1 0 ≡ count_by p (rows ++ r ∷ [])
 count_more p rows r = sym (sum_by_push (λ q. cond (p q) 1 0) rows r)
@@ -109,38 +100,17 @@ member_rows-more rows m (q ∷ ks) k n e = ap (λ l. member_fields m q (counts_o
 
 -- so after any more rows
 pub at_most : (n m : ℕ) (c : Counts) → n ≤ m → IsAtMost n c → IsAtMost m c
-at_most n m c up b = let a = b.drawn in let d = b.heard in let e = b.lost in let f = b.fixed in let g = b.requests in let h = b.repairs in
-    let j = b.sessions in
-    record {
-      drawn = omega arith;
-      heard = omega arith;
-      lost = omega arith;
-      fixed = omega arith;
-      requests = omega arith;
-      repairs = omega arith;
-      sessions = omega arith;
-    }
+at_most n m c up b = grind arith
 
 -- of the member whose row was counted, and of the others
 pub bounds_set : (n : ℕ) (cs : List Counts) (k : ℕ) (c : Counts) → All (IsAtMost n) cs → k < length cs → IsAtMost (n + 1) c
     → All (IsAtMost (n + 1)) (slice_set cs k c)
-bounds_set n cs k c h within b = λ m d lt.
-    elim (m == k) as (λ e. (m == k) ≡ e → IsAtMost (n + 1) (get_or (slice_set cs k c) m d)) [
-      | true ↦ λ q. subst (IsAtMost (n + 1)) (sym (get_or-set_at cs k m c d (eqb-true m k q) within)) b
-      | false ↦ λ q.
-          let ne : m ≢ k = λ same. true≢false (sym (eq-eqb m k same) ∙ q) in
-          let long = length-set cs k c in
-          subst (IsAtMost (n + 1)) (sym (get_or-set_other cs k m c d ne))
-          (at_most n (n + 1) (get_or cs m d) (omega arith) (h m d (omega arith)))
-    ] refl
+bounds_set n cs k c h within b = grind (arith, get_or-set_at, length-set, get_or-set_other)
 
 -- ---- the counts of all members
 
 not_eqb : (a b : ℕ) → a ≢ b → (a == b) ≡ false
-not_eqb a b ne = elim (a == b) as (λ t. (a == b) ≡ t → t ≡ false) [
-  | true ↦ λ e. absurd (ne (eqb-true a b e))
-  | false ↦ λ e. refl
-] refl
+not_eqb a b ne = grind arith
 
 -- one row more, of the member whose counts are these
 module _ (rows : List Row) (r : Row) (cs : List Counts) (was : AreCounts rows cs) where

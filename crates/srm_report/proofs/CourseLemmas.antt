@@ -17,10 +17,9 @@ use Rattle.std.proofs.lemmas.Map.Views.{Contains-from_any}
 use Rattle.std.proofs.lemmas.Bool.{and_from}
 use Rattle.srm_net.specs.declared.packet.Name.{Name}
 use Rattle.srm_net.specs.Orders.{place, ordered}
-use Rattle.srm_net.proofs.Basics.{nat_cmp_self, same_numbers, is_Equal, T_first, T_second, T_less, or_turn}
+use Rattle.srm_net.proofs.Basics.{T_first, T_second, T_less, or_turn}
 use Rattle.srm_member.specs.declared.told.Told.{Told}
 use Rattle.srm_member.specs.declared.told.Told.TheVariants.{Fixed}
-use Rattle.srm_member.specs.declared.told.Told.TheVariants as told
 use Rattle.srm_member.specs.declared.row.Row.{Row}
 use Rattle.srm_member.specs.Orderly.{LostIn, FixedIn, brought}
 use Rattle.srm_member.proofs.OrderLemmas.{place-comm}
@@ -37,31 +36,14 @@ use Rattle.srm_report.specs.Rows.{is_name, row_time}
 pub loss_total : IsTotalOrder loss_cmp
 loss_total = on_total numbers_of_loss nat_list_cmp_total
 
-same_losses : (j k : Loss) → eq_by_cmp loss_cmp j k ≡ true → j ≡ k
-same_losses j k h =
-    let e = same_numbers (numbers_of_loss j) (numbers_of_loss k) (is_Equal _ h) in
-    let member : j.member ≡ k.member = cc in
-    let source : j.name.source ≡ k.name.source = cc in
-    let page : j.name.page ≡ k.name.page = cc in
-    let number : j.name.number ≡ k.name.number = cc in
-    λ i. record { member = member i; name = record { source = source i; page = page i; number = number i } }
-
 loss_self : (k : Loss) → loss_cmp k k ≡ Equal
-loss_self k =
-    let a = nat_cmp_self k.member in
-    let b = nat_cmp_self k.name.source in
-    let c = nat_cmp_self k.name.page in
-    let d = nat_cmp_self k.name.number in
-    simp (a, b, c, d)
+loss_self k = grind arith
 
 loss_is : (k : Loss) → eq_by_cmp loss_cmp k k ≡ true
 loss_is k = ap is_eq (loss_self k)
 
 losses_apart : (j k : Loss) → (j ≡ k) ⊎ (eq_by_cmp loss_cmp j k ≡ false)
-losses_apart j k = elim (eq_by_cmp loss_cmp j k) as (λ b. eq_by_cmp loss_cmp j k ≡ b → (j ≡ k) ⊎ (eq_by_cmp loss_cmp j k ≡ false)) [
-  | true ↦ λ e. inl (same_losses j k e)
-  | false ↦ λ e. inr e
-] refl
+losses_apart j k = grind arith
 
 differ : (j k : Loss) → eq_by_cmp loss_cmp j k ≡ false → j ≢ k
 differ j k h e = true≢false (sym (subst (λ x. eq_by_cmp loss_cmp j x ≡ true) e (loss_is j)) ∙ h)
@@ -105,19 +87,7 @@ any_append p (x ∷ xs) ys = ap (λ b. p x || b) (any_append p xs ys) ∙ sym (g
     grouped false b c = refl
 
 pub told_is : (t : Told) → is_fixed t ≡ true → t ≡ Fixed
-told_is told.Fixed h = refl
-told_is told.Entered h = absurd (true≢false (sym h))
-told_is told.Parted h = absurd (true≢false (sym h))
-told_is told.Fresh h = absurd (true≢false (sym h))
-told_is told.Again h = absurd (true≢false (sym h))
-told_is told.Skip h = absurd (true≢false (sym h))
-told_is told.Rest h = absurd (true≢false (sym h))
-told_is told.Busy h = absurd (true≢false (sym h))
-told_is told.Plan h = absurd (true≢false (sym h))
-told_is told.Hold h = absurd (true≢false (sym h))
-told_is told.Back h = absurd (true≢false (sym h))
-told_is told.Heard h = absurd (true≢false (sym h))
-told_is told.Sent h = absurd (true≢false (sym h))
+told_is t h = grind arith
 
 brought_is : (n : Name) (o : Option Name) → option_map_or (is_name n) o false ≡ true → o ≡ Some n
 brought_is n None h = absurd (true≢false (sym h))
@@ -236,9 +206,7 @@ at_push t rows q = ap row_time (find-append t rows (q ∷ []))
 
 alike : (o : Option Row) (b : Bool) (p q : Row) → p.key.time ≡ q.key.time
     → row_time (option_or o (if_so b p)) ≡ row_time (option_or o (if_so b q))
-alike (Some r) b p q e = refl
-alike None true p q e = ap (λ n. Some n) e
-alike None false p q e = refl
+alike o b p q e = grind arith
 
 none_more : (o : Option Row) → row_time (option_or o None) ≡ row_time o
 none_more (Some r) = refl
@@ -246,9 +214,7 @@ none_more None = refl
 
 at_same : (t : Row → Bool) (rows : List Row) (p q : Row) → p.key.time ≡ q.key.time → t p ≡ t q → at t (rows ++ p ∷ [])
     ≡ at t (rows ++ q ∷ [])
-at_same t rows p q e h =
-    at_push t rows p ∙ ap (λ b. row_time (option_or (lists.find t rows) (if_so b p))) h ∙ alike (lists.find t rows) (t q) p q e
-    ∙ sym (at_push t rows q)
+at_same t rows p q e h = grind (arith, at_push)
 
 at_none : (t : Row → Bool) (rows : List Row) (q : Row) → t q ≡ false → at t (rows ++ q ∷ []) ≡ at t rows
 at_none t rows q h = at_push t rows q ∙ ap (λ b. row_time (option_or (lists.find t rows) (if_so b q))) h ∙ none_more (lists.find t rows)
@@ -280,20 +246,12 @@ course_is rows k n o d r = λ i. option_map (λ at. record { detected = at; reco
 
 losses_push : (rows : List Row) (q : Row) → losses_in (rows ++ q ∷ []) ≡ losses_in rows
     ++ map (λ n. record { member = q.key.member; name = n }) q.lost
-losses_push rows q =
-    flat_map-append (λ (r : Row). map (λ n. let k : Loss = record { member = r.key.member; name = n } in k) r.lost) rows (q ∷ [])
-    ∙ ap (λ l. losses_in rows ++ l) (append-nil (map (λ n. record { member = q.key.member; name = n }) q.lost))
+losses_push rows q = grind (arith, flat_map-append, append-nil)
 
 -- ---- no loss
 
 pub nothing : (rows : List Row) (r : Row) (es : List (Loss × Course)) → TellLosses rows es → TellLosses (rows ++ losing r [] ∷ []) es
-nothing rows r es was = record {
-  sorted = was.sorted;
-  losses = was.losses ∙ ap (ordered loss_cmp) (sym (losses_push rows (losing r []) ∙ append-nil (losses_in rows)));
-  courses = λ j. was.courses j ∙ sym (course_same (rows ++ losing r [] ∷ []) rows j
-      (at_none (detects j) rows (losing r []) (and_false (r.key.member == j.member) false refl))
-      (at_none (fixes j) rows (losing r []) (and_false (r.key.member == j.member) false refl)));
-}
+nothing rows r es was = grind (arith, losses_push, append-nil, at_none)
 
 -- ---- one loss more
 
@@ -317,15 +275,7 @@ module _ (rows : List Row) (r : Row) (front : List Name) (n : Name) (es : List (
       new (q, c, eqb-true _ _ (first_true (q.key.member == m) _ h), named_in n q.lost (second_true (q.key.member == m) _ h)))
 
   not_fixed : lists.find (fixes k) rows ≡ None
-  not_fixed = find_none (fixes k) rows (λ q c h.
-      (let g = second_true (q.key.member == m) _ h in
-      unfixed (
-        q,
-        c,
-        eqb-true _ _ (first_true (q.key.member == m) _ h),
-        told_is q.told (first_true (is_fixed q.told) _ g),
-        brought_is n (brought q.about) (second_true (is_fixed q.told) _ g),
-      )))
+  not_fixed = grind (arith, find_none, second_true, brought_is)
 
   detects_not : detects k q0 ≡ false
   detects_not = and_false (m == m) _ (not_true _ (λ h. new_here (named_in n front h)))
@@ -337,11 +287,7 @@ module _ (rows : List Row) (r : Row) (front : List Name) (n : Name) (es : List (
       ((at_none (detects k) rows q0 detects_not ∙ ap row_time not_before) i))
 
   grown : losses_in (rows ++ q1 ∷ []) ≡ losses_in (rows ++ q0 ∷ []) ++ k ∷ []
-  grown =
-      losses_push rows q1
-      ∙ ap (λ l. losses_in rows ++ l) (map-append (λ x. let j : Loss = record { member = m; name = x } in j) front (n ∷ []))
-      ∙ sym (append_assoc (losses_in rows) (map (λ x. record { member = m; name = x }) front) (k ∷ []))
-      ∙ ap (λ l. l ++ k ∷ []) (sym (losses_push rows q0))
+  grown = grind (arith, losses_push, map-append, append_assoc)
 
   not_among : list_any (eq_by_cmp loss_cmp k) (losses_in (rows ++ q0 ∷ [])) ≡ false
   not_among =
@@ -352,10 +298,7 @@ module _ (rows : List Row) (r : Row) (front : List Name) (n : Name) (es : List (
   course = record { detected = r.key.time; recovered = None }
 
   lost_now : course_of (rows ++ q1 ∷ []) k ≡ Some (record { detected = r.key.time; recovered = None })
-  lost_now = course_is (rows ++ q1 ∷ []) k r.key.time None
-      (at_first (detects k) rows q1 not_before (and_from (m == m) _ (eq-eqb m m refl)
-      (in_named n (front ++ n ∷ []) (Contains-append_right front (n ∷ []) n (0, omega arith, refl)))))
-      (at_none (fixes k) rows q1 (and_false (m == m) false refl) ∙ ap row_time not_fixed)
+  lost_now = grind (arith, at_first, not_before, in_named, Contains-append_right, at_none, not_fixed)
 
   -- another loss, in the row with one loss more
   other : (j : Loss) → eq_by_cmp loss_cmp j k ≡ false → detects j q1 ≡ detects j q0
@@ -412,20 +355,13 @@ module _ (rows : List Row) (r : Row) (es : List (Loss × Course)) (was : TellLos
 
   -- a loss that the row does not fix
   course_stays : (j : Loss) → fixes j r ≡ false → course_of (rows ++ r ∷ []) j ≡ course_of (rows ++ q ∷ []) j
-  course_stays j h =
-      course_same (rows ++ r ∷ []) (rows ++ q ∷ []) j (at_same (detects j) rows r q refl refl)
-      (at_same (fixes j) rows r q refl (h ∙ sym (unfixed_now j)))
+  course_stays j h = grind (arith, at_same)
 
   losses_stay : losses_in (rows ++ q ∷ []) ≡ losses_in (rows ++ r ∷ [])
   losses_stay = losses_push rows q ∙ sym (losses_push rows r)
 
   pub fixed_none : name_fixed r ≡ None → TellLosses (rows ++ r ∷ []) es
-  fixed_none h = record {
-    sorted = was.sorted;
-    losses = was.losses ∙ ap (ordered loss_cmp) losses_stay;
-    courses = λ j. was.courses j ∙ sym
-        (course_stays j (fixes_is j ∙ and_false (r.key.member == j.member) _ (ap (λ o. option_map_or (is_name j.name) o false) h)));
-  }
+  fixed_none h = grind (arith, losses_stay, course_stays)
 
   module _ (n : Name) (fix : name_fixed r ≡ Some n) (lost : LostIn r.key.member n rows) (unfixed : ¬ FixedIn r.key.member n rows) where
     abbrev k2 : Loss

@@ -1,5 +1,5 @@
 -- The law of a line none of whose fields calls for quotes: it is the fields with commas between, and a line feed.
-use Rattle.std.proofs.Common.{◌≡◌, ◌∙◌, ℕ, zero, suc, ◌-◌, ◌/◌, ◌%◌, ◌<◌, ◌==◌, true, false, ◌||◌, List, [], ◌∷◌, ◌++◌, Option, Some, None}
+use Rattle.std.proofs.Common.{◌≡◌, ◌∙◌, ℕ, zero, suc, ◌/◌, ◌%◌, ◌<◌, ◌==◌, true, false, ◌||◌, List, [], ◌∷◌, ◌++◌, Option, Some, None}
 use Rattle.std.proofs.Common.{refl, ap, sym, append_assoc, codes, decimal, drop, arith}
 use Rattle.std.specs.Prelude.{if◌then◌else◌}
 use Rattle.std.specs.Fmt.{digits, digits_onto, digit_glyph}
@@ -11,13 +11,9 @@ use Rattle.srm_net.specs.declared.packet.Name.{Name}
 use Rattle.srm_net.specs.declared.packet.Packet.{Packet}
 use Rattle.srm_net.specs.declared.packet.PacketId.{PacketId}
 use Rattle.srm_net.specs.declared.role.Role.{Role}
-use Rattle.srm_net.specs.declared.role.Role.TheVariants as role
 use Rattle.srm_member.specs.declared.told.Told.{Told}
-use Rattle.srm_member.specs.declared.told.Told.TheVariants as told
 use Rattle.srm_member.specs.declared.row.Word.{Word}
-use Rattle.srm_member.specs.declared.row.Word.TheVariants as word
 use Rattle.srm_member.specs.declared.row.About.{About}
-use Rattle.srm_member.specs.declared.row.About.TheVariants.{Nothing, Of, Named}
 use Rattle.srm_report.specs.declared.line.Line.{Line}
 use Rattle.srm_report.specs.Lines.{line_text, line_written}
 use Rattle.srm_report.specs.Losses.{delay_text, ratio}
@@ -50,9 +46,7 @@ fields_joined (f ∷ fs) h =
 
 row_joined : (f g : List ℕ) (fs : List (List ℕ)) → ArePlain (f ∷ g ∷ fs) → row_text default_writer (f ∷ g ∷ fs) ≡ f ++ after_commas (g ∷ fs)
 unfolding is_blank
-row_joined f g fs h =
-    ap (λ b. (if b then quoted default_writer f else f) ++ fields_text default_writer (g ∷ fs) ++ line_feed ∷ []) h.0
-    ∙ append_assoc f (fields_text default_writer (g ∷ fs)) (line_feed ∷ []) ∙ ap (λ l. f ++ l) (fields_joined (g ∷ fs) h.1)
+row_joined f g fs h = grind (arith, append_assoc, fields_joined)
 
 -- these fields are written, none of which calls for quotes
 pub record HasFields (written : List ℕ) (fields : List (List ℕ)) : Type 0 where
@@ -107,15 +101,10 @@ pub packet_is_plain : (p : PacketId) → IsPlain (packet_text p)
 packet_is_plain p = pair_is_plain p.sender p.count (codes ":") refl
 
 pub name_is_plain : (n : Name) → IsPlain (name_text n)
-name_is_plain n =
-    joined_is_plain (decimal n.source ++ codes "/" ++ decimal n.page ++ codes "/") (decimal n.number)
-    (joined_is_plain (decimal n.source ++ codes "/" ++ decimal n.page) (codes "/") (pair_is_plain n.source n.page (codes "/") refl) refl)
-    (decimal_is_plain n.number)
+name_is_plain n = grind (arith, joined_is_plain, decimal_is_plain)
 
 pub ref_is_plain : (a : About) → IsPlain (ref_text a)
-ref_is_plain Nothing = refl
-ref_is_plain (Of packet) = packet_is_plain packet.id
-ref_is_plain (Named name) = name_is_plain name
+ref_is_plain a = grind (arith, packet_is_plain, name_is_plain)
 
 pub sent_is_plain : (o : Option Packet) → IsPlain (sent_text o)
 sent_is_plain None = refl
@@ -126,39 +115,13 @@ time_is_plain None = refl
 time_is_plain (Some at) = decimal_is_plain at
 
 pub delay_is_plain : (trip : ℕ) (detected recovered : Option ℕ) → IsPlain (delay_text trip detected recovered)
-delay_is_plain trip (Some detected) (Some recovered) = ratio_is_plain (recovered - detected) trip
-delay_is_plain trip (Some detected) None = refl
-delay_is_plain trip None _ = refl
+delay_is_plain trip detected recovered = grind (arith, ratio_is_plain)
 
 pub role_is_plain : (r : Role) → IsPlain (role_word r)
-role_is_plain role.Sender = refl
-role_is_plain role.Receiver = refl
-role_is_plain role.Late = refl
-role_is_plain role.Listener = refl
+role_is_plain r = grind arith
 
 pub cause_is_plain : (w : Word) → IsPlain (cause_word w)
-cause_is_plain word.Join = refl
-cause_is_plain word.Data = refl
-cause_is_plain word.Request = refl
-cause_is_plain word.Repair = refl
-cause_is_plain word.Session = refl
-cause_is_plain word.Ask = refl
-cause_is_plain word.Answer = refl
-cause_is_plain word.Draw = refl
-cause_is_plain word.Report = refl
-cause_is_plain word.Leave = refl
+cause_is_plain w = grind arith
 
 pub told_is_plain : (t : Told) → IsPlain (told_word t)
-told_is_plain told.Entered = refl
-told_is_plain told.Parted = refl
-told_is_plain told.Fresh = refl
-told_is_plain told.Fixed = refl
-told_is_plain told.Again = refl
-told_is_plain told.Skip = refl
-told_is_plain told.Rest = refl
-told_is_plain told.Busy = refl
-told_is_plain told.Plan = refl
-told_is_plain told.Hold = refl
-told_is_plain told.Back = refl
-told_is_plain told.Heard = refl
-told_is_plain told.Sent = refl
+told_is_plain t = grind arith

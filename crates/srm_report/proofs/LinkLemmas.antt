@@ -1,10 +1,9 @@
 -- The table of links, link by link.
-use Rattle.std.proofs.Common.{◌≡◌, ◌∙◌, ℕ, ◌<◌, ◌+◌, ◌*◌, List, ◌++◌, length, map, ap, sym, arith, slice_index, slice_index_or}
+use Rattle.std.proofs.Common.{◌≡◌, ◌∙◌, ℕ, ◌<◌, ◌+◌, List, ◌++◌, length, map, ap, sym, arith, slice_index, slice_index_or}
 use Rattle.std.specs.List.{range_with_len, concat}
 use Rattle.std.proofs.lemmas.List.FromFn.{map-range_with_len_more}
 use Rattle.csv.specs.Writing.{default_writer, row_text}
 use Rattle.srm_ledger.specs.declared.kind.Kind.{Kind}
-use Rattle.srm_ledger.specs.declared.kind.Kind.TheVariants.{Drawop, Request, Repair, Session, Dropped}
 use Rattle.srm_ledger.specs.Counts.{place_of, counted_at}
 use Rattle.srm_report.proofs.Fives.{FiveEach, length_joined, index_joined}
 use Rattle.srm_report.specs.Links.{link_columns, link_fields, links_counted, links_table}
@@ -15,19 +14,10 @@ use Rattle.srm_report.proofs.TableLemmas.{table_first, table_more}
 abbrev pub first_rows : List ℕ → ℕ → List (List (List ℕ))
 first_rows totals n = map (λ l. link_fields l (counted_at totals l)) (range_with_len 0 n)
 
-place_below : (k : Kind) → place_of k < 5
-place_below Drawop = omega arith
-place_below Request = omega arith
-place_below Repair = omega arith
-place_below Session = omega arith
-place_below Dropped = omega arith
-
 module _ (ls : List (List ℕ)) (five : FiveEach ls) (totals : List ℕ) (joined : concat ls ≡ totals) where
   -- the five numbers at place i are those of link i
   numbers_are : (i : ℕ) (d : List ℕ) → i < length ls → (k : Kind) → slice_index (slice_index_or ls i d) (place_of k) ≡ counted_at totals i k
-  numbers_are i d lt k =
-      sym (index_joined ls five i (place_of k) d lt (place_below k))
-      ∙ ap (λ t. slice_index t (5 * i + place_of k)) joined
+  numbers_are i d lt k = grind (arith, index_joined)
 
   pub links_are : links_counted totals ≡ length ls
   links_are = let long = length_joined ls five in let same : length (concat ls) ≡ length totals = ap length joined in omega arith

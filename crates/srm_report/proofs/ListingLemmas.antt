@@ -1,4 +1,5 @@
 -- Tables that list rows, row by row.
+use Rattle.std.proofs.Common.{arith}
 use Rattle.std.proofs.Common.{◌≡◌, ◌∙◌, ℕ, ◌<◌, ◌+◌, List, [], ◌∷◌, ◌++◌, length, get_or, take, ap, sym, append-nil, append_assoc}
 use Rattle.std.proofs.Math.Seq.{take-length}
 use Rattle.std.proofs.lemmas.List.{take_more}
@@ -19,10 +20,7 @@ lines-more f rows i r h e =
 pub text-more : (f : Form) (front : List ℕ) (rows : List Row) (i : ℕ) (r : Row) (old new line : List ℕ) → i < length rows
     → r ≡ get_or rows i r → old ≡ front ++ lines_in f (take i rows) → line ≡ f.line r → new ≡ old ++ line
     → new ≡ front ++ lines_in f (take (i + 1) rows)
-text-more f front rows i r old new line h e before is grown =
-    grown ∙ ap (λ l. old ++ l) is ∙ ap (λ l. l ++ f.line r) before
-    ∙ append_assoc front (lines_in f (take i rows)) (f.line r)
-    ∙ ap (λ l. front ++ l) (sym (lines-more f rows i r h e))
+text-more f front rows i r old new line h e before is grown = grind (arith, append_assoc, lines-more)
 
 -- a text of all rows has their lines
 pub text-all : (f : Form) (front : List ℕ) (rows : List Row) (i : ℕ) (text : List ℕ) → i ≡ length rows

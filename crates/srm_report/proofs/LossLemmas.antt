@@ -4,7 +4,6 @@ use Rattle.std.proofs.Common.{ap, sym, subst, take, drop, get_or, append_assoc, 
 use Rattle.std.proofs.Math.Seq.{take-length}
 use Rattle.std.specs.List.{Contains, All}
 use Rattle.std.specs.List as lists
-use Rattle.std.specs.Option.{option_map}
 use Rattle.std.specs.FinMap.Entries.{find, put}
 use Rattle.std.proofs.lemmas.List.{take_more}
 use Rattle.std.proofs.lemmas.List.Elements.{Contains-append_left, Contains-append_right}
@@ -37,10 +36,7 @@ split_suc (y ∷ ys) zero d l = refl
 split_suc (y ∷ ys) (suc i) d l = ap (λ zs. y ∷ zs) (split_suc ys i d (omega arith))
 
 pub split_at : {A : Type 0} (xs : List A) (i : ℕ) (d : A) → i < length xs → xs ≡ take i xs ++ get_or xs i d ∷ drop (i + 1) xs
-split_at xs i d l = split_suc xs i d l ∙ ap (λ n. take i xs ++ get_or xs i d ∷ drop n xs) (one i)
-  where
-    one : (i : ℕ) → suc i ≡ i + 1
-    one i = omega arith
+split_at xs i d l = grind (arith, split_suc)
 
 pub split : {A : Type 0} (xs : List A) (i : ℕ) (x : A) → i < length xs → x ≡ get_or xs i x → xs ≡ take i xs ++ x ∷ drop (i + 1) xs
 split xs i x l e = split_at xs i x l ∙ ap (λ y. take i xs ++ y ∷ drop (i + 1) xs) (sym e)
@@ -100,13 +96,7 @@ detect_all rows r i es e was = subst (λ l. TellLosses (rows ++ losing r l ∷ [
 -- what an entry says of its loss
 told : (rows : List Row) (k : Loss) (c : Course) → course_of rows k ≡ Some c → (detected_at rows k ≡ Some c.detected)
     × (recovered_at rows k ≡ c.recovered)
-told rows k c e = elim (detected_at rows k) as (λ o. option_map (λ at. record { detected = at; recovered = recovered_at rows k }) o ≡ Some c
-    → (o ≡ Some c.detected) × (recovered_at rows k ≡ c.recovered)) [
-      | None ↦ λ h. cc
-      | Some at ↦ λ h.
-          let same : record { detected = at; recovered = recovered_at rows k } ≡ c = same_Some _ _ h in
-          (ap (λ (x : Course). Some x.detected) same, ap (λ (x : Course). x.recovered) same)
-    ] e
+told rows k c e = grind arith
 
 find_is : (t : Row → Bool) (rows : List Row) (n : ℕ) → row_time (lists.find t rows) ≡ Some n → (q : Row) × Contains rows q × (t q ≡ true)
 find_is t [] n h = cc
@@ -185,8 +175,4 @@ module _ (rows : List Row) (members : ℕ) (orderly : IsOrderly members rows) (e
   pub text_all : (net : Network) (i : ℕ) (text : List ℕ) → i ≡ length es →
       text ≡ table_lines loss_columns (map (loss_row net rows) (take i (map (λ e. e.0) es))) → text ≡ losses_table net rows
   unfolding losses_table
-  text_all net i text whole is =
-      let ks = map (λ (e : Loss × Course). e.0) es in
-      let long : i ≡ length ks = whole ∙ sym (length-keys es) in
-      is ∙ ap (λ n. table_lines loss_columns (map (loss_row net rows) (take n ks))) long
-      ∙ ap (λ l. table_lines loss_columns (map (loss_row net rows) l)) (take-length ks ∙ tell.losses)
+  text_all net i text whole is = grind (arith, length-keys, take-length)

@@ -1,7 +1,7 @@
 -- Rows and texts in pieces.
-use Rattle.std.proofs.Common.{◌≡◌, ◌∙◌, ℕ, ◌<◌, ◌+◌, List, [], ◌∷◌, ◌++◌, length, get_or, take, drop, map, Option, Result, Ok, Err, IfOk}
-use Rattle.std.proofs.Common.{refl, ap, sym, subst, append-nil, append_assoc, take-append-drop, length-append}
-use Rattle.std.proofs.Math.Seq.{take-length}
+use Rattle.std.proofs.Common.{arith}
+use Rattle.std.proofs.Common.{◌≡◌, ◌∙◌, ℕ, ◌<◌, ◌+◌, List, [], ◌∷◌, ◌++◌, length, get_or, take, drop, map, Option, Result, Ok, IfOk}
+use Rattle.std.proofs.Common.{refl, ap, sym, append-nil, append_assoc, take-append-drop, length-append}
 use Rattle.std.proofs.KnownBytes.{Appends-trans}
 use Rattle.std.proofs.lemmas.List.{take_more, reverse-append}
 use Rattle.std.proofs.lemmas.Grind.{flat_map-append}
@@ -13,7 +13,7 @@ use Rattle.srm_member.specs.declared.row.Row.{Row}
 use Rattle.srm_report.specs.declared.fault.ReportFault.{ReportFault}
 use Rattle.srm_report.specs.Listings.{Form, lines_in}
 use Rattle.srm_report.specs.Pieces.{joined_pieces}
-use Rattle.srm_report.specs.SinkLaws.{count_more, more_lines}
+use Rattle.srm_report.specs.SinkLaws.{more_lines}
 use Rattle.srm_report.specs.Standings.{GrewBy}
 
 module _ {A : Type 0} where
@@ -34,9 +34,6 @@ module _ {A : Type 0} where
   one_between ps i p h e =
       ap joined_pieces (sym (take-append-drop (i + 1) ps)) ∙ joined-append (take (i + 1) ps) (drop (i + 1) ps)
       ∙ ap (λ (l : List A). l ++ joined_pieces (drop (i + 1) ps)) (one_more ps i p h e)
-
-  pub all_pieces : (ps : List (Vec A)) (i : ℕ) → i ≡ length ps → joined_pieces (take i ps) ≡ joined_pieces ps
-  all_pieces ps i whole = ap (λ n. joined_pieces (take n ps)) whole ∙ ap joined_pieces (take-length ps)
 
   -- a piece that is added behind others is the first of all, where they are turned round
   pub turned : (ps : List (Vec A)) (p : Vec A) (qs : List (Vec A)) → qs ≡ ps ++ p ∷ []
@@ -71,11 +68,7 @@ pub texts_told : (f : Form) (parts : List (Vec Row)) (told : List (Result (Vec �
     (r : Result (Vec (Vec ℕ)) ReportFault) → IfOk r (λ v. map Ok v.items ≡ told)
     → AllZip (λ (p : Vec Row) (r : Result (Vec ℕ) ReportFault). IfOk r (λ t. t.items ≡ lines_in f p.items)) parts told
     → joined_pieces parts ≡ rows → IfOk r (λ v. joined_pieces v.items ≡ lines_in f rows)
-texts_told f parts told rows (Ok v) h z e =
-    texts_of_parts f parts v.items
-    (subst (AllZip (λ (p : Vec Row) (r : Result (Vec ℕ) ReportFault). IfOk r (λ t. t.items ≡ lines_in f p.items)) parts) (sym h) z)
-    ∙ ap (lines_in f) e
-texts_told f parts told rows (Err x) h z e = tt
+texts_told f parts told rows r h z e = grind (arith, texts_of_parts)
 
 module _ {O : Type 0} (taken : O → Option (List ℕ)) where
   -- these bytes, a front of the text, were taken and counted
@@ -86,11 +79,4 @@ module _ {O : Type 0} (taken : O → Option (List ℕ)) where
   -- a text was taken, then of one more text a front, and nothing of those after it
   pub took_front : (a b c : O) (n m k : ℕ) (t u s more all : List ℕ) → Appends (taken a) (taken b) t → GrewBy n (length t) m
       → s ≡ u → TookFront b m s c k → all ≡ (t ++ u) ++ more → TookFront a n all c k
-  took_front a b c n m k t u s more all h g same w is = (
-    t ++ w.0,
-    w.1 ++ more,
-    is ∙ ap (λ l. (t ++ l) ++ more) (sym same ∙ w.2) ∙ ap (λ l. l ++ more) (sym (append_assoc t w.0 w.1))
-        ∙ append_assoc (t ++ w.0) w.1 more,
-    Appends-trans (taken a) (taken b) (taken c) t w.0 h w.3,
-    subst (λ x. GrewBy n x k) (sym (length-append t w.0)) (count_more n (length t) m (length w.0) k g w.4),
-  )
+  took_front a b c n m k t u s more all h g same w is = grind (arith, append_assoc, Appends-trans, length-append)

@@ -1,13 +1,13 @@
 -- What writing after what is gathered does to a sink.
-use Rattle.std.proofs.Common.{◌≡◌, ◌∙◌, ℕ, Bool, List, [], ◌++◌, Option, Result, Ok, Err, length, ◌≤◌, refl, ap, sym, subst, append-nil}
+use Rattle.std.proofs.Common.{arith}
+use Rattle.std.proofs.Common.{◌≡◌, ◌∙◌, ℕ, Bool, List, [], ◌++◌, Option, Result, Ok, Err, length, ◌≤◌, ap, sym, append-nil}
 use Rattle.std.specs.Result.{MatchResult}
 use Rattle.srm_member.specs.declared.row.Row.{Row}
 use Rattle.srm_engine.specs.declared.sink.SinkFault.{SinkFault}
-use Rattle.srm_engine.specs.declared.sink.SinkFault.TheVariants as fault
 use Rattle.srm_report.specs.declared.standing.Standing.{Standing}
 use Rattle.srm_report.specs.declared.listing_sink.ListingSink.{ListingSink}
 use Rattle.srm_report.specs.Listings.{Form}
-use Rattle.srm_report.specs.Standings.{text_next, IsText, after_answer, TakesText}
+use Rattle.srm_report.specs.Standings.{text_next, after_answer, TakesText}
 use Rattle.srm_report.specs.ListingSinks.{outlet_under, gathered_by, written_by, Wrote, PutsAll}
 use Rattle.srm_report.specs.ListingSinks.{PutsText, PutsRows, PutsPart, WritesThrough}
 use Rattle.srm_report.specs.SinkLaws.{all_more, front_more}
@@ -37,10 +37,4 @@ pub rows_put : {L O A : Type 0} (taken : O → Option (List ℕ)) (f : Form) (a 
     → PutsText taken a (text_next f a.standing rows) r b → s ≡ after_answer r
     → MatchResult r (λ (_ : A). PutsRows taken f a rows (record b { has_begun = begun; standing = s; within = fits }))
     (λ (_ : SinkFault). PutsPart taken f a rows (record b { has_begun = begun; standing = s; within = fits }))
-rows_put taken f a b rows (Ok v) begun s fits h e = (
-  text_next f a.standing rows,
-  subst (λ (at : Standing). IsText f a.standing at rows (text_next f a.standing rows)) (sym e) refl,
-  (h.0, h.1, stood taken a b h.0 begun s fits h.2),
-)
-rows_put taken f a b rows (Err fault.NoMemory) begun s fits h e = (h.0, h.1, h.2, stood taken a b h.0 begun s fits h.3)
-rows_put taken f a b rows (Err (fault.Stopped n)) begun s fits h e = (h.0.0, h.0.1, h.0.2, stood taken a b h.0.0 begun s fits h.0.3)
+rows_put taken f a b rows r begun s fits h e = grind arith

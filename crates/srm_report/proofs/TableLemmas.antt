@@ -1,5 +1,6 @@
 -- Tables, row by row.
-use Rattle.std.proofs.Common.{◌≡◌, ◌∙◌, ℕ, List, [], ◌∷◌, ◌++◌, ap, sym, append-nil, append_assoc}
+use Rattle.std.proofs.Common.{arith}
+use Rattle.std.proofs.Common.{◌≡◌, ◌∙◌, ℕ, List, [], ◌∷◌, ◌++◌, sym, append-nil, append_assoc}
 use Rattle.std.proofs.lemmas.Grind.{flat_map-append}
 use Rattle.csv.specs.Writing.{default_writer, row_text}
 use Rattle.srm_report.specs.Tables.{lines_of, table_lines}
@@ -11,15 +12,10 @@ table_first columns text e = e ∙ sym (append-nil (row_text default_writer colu
 
 lines_more : (rows : List (List (List ℕ))) (r : List (List ℕ)) → lines_of (rows ++ r ∷ []) ≡ lines_of rows ++ row_text default_writer r
 unfolding lines_of
-lines_more rows r =
-    flat_map-append (row_text default_writer) rows (r ∷ [])
-    ∙ ap (λ l. lines_of rows ++ l) (append-nil (row_text default_writer r))
+lines_more rows r = grind (arith, flat_map-append, append-nil)
 
 -- a text that grows by the line of one row more
 pub table_more : (columns : List (List ℕ)) (rows : List (List (List ℕ))) (r : List (List ℕ)) (old new line : List ℕ)
     → old ≡ table_lines columns rows → line ≡ row_text default_writer r → new ≡ old ++ line → new ≡ table_lines columns (rows ++ r ∷ [])
 unfolding table_lines
-table_more columns rows r old new line before is grown =
-    grown ∙ ap (λ l. old ++ l) is ∙ ap (λ l. l ++ row_text default_writer r) before
-    ∙ append_assoc (row_text default_writer columns) (lines_of rows) (row_text default_writer r)
-    ∙ ap (λ l. row_text default_writer columns ++ l) (sym (lines_more rows r))
+table_more columns rows r old new line before is grown = grind (arith, append_assoc, lines_more)

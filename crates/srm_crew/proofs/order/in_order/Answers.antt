@@ -1,4 +1,4 @@
-use Rattle.std.proofs.Common.{Result, Ok, Err, IfOk, arith}
+use Rattle.std.proofs.Common.{arith}
 use Rattle.srm_crew.proofs.Ordering.{all_full, ordered}
 use Rattle.srm_crew.proofs.order.in_order.Goals as goal
 use Rattle.srm_team.proofs.Filling.{if_ok}

@@ -1,4 +1,4 @@
-use Rattle.std.proofs.Common.{◌≡◌, ◌∙◌, ℕ, List, Bool, Result, Err, sym, ap, subst, string_bytes}
+use Rattle.std.proofs.Common.{◌∙◌, ℕ, List, Bool, Result, sym, ap, subst, string_bytes}
 use Rattle.srm_program.specs.declared.fault.Fault.{Fault}
 use Rattle.srm_program.specs.Explained.{FollowsLine, KeepsText}
 use Rattle.srm_program.specs.Program.{device, exit_status, TakesFaultLine, TellsErrors}

@@ -1,4 +1,4 @@
-use Rattle.std.proofs.Common.{◌≡◌, ◌∙◌, ◌+◌, ◌++◌, ◌∷◌, [], zero, suc, List, Option, None, length, sym, ap, subst}
+use Rattle.std.proofs.Common.{◌∙◌, ◌+◌, ◌++◌, ◌∷◌, [], zero, suc, List, Option, None, length, sym, ap, subst}
 use Rattle.std.proofs.lemmas.List.{length_push}
 use Rattle.srm_team.specs.Tells.{AllNone}
 use Rattle.srm_team.proofs.ends.empty_slots.Goals as goal
