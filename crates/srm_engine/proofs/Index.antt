@@ -14,8 +14,6 @@ use Rattle.srm_engine.specs.NextTimes.{sooner_time, least_of_times, is_time, slo
 use Rattle.srm_engine.specs.NextTimes.{AreWinners}
 use Rattle.srm_engine.specs.NextTimes.{SetsLeaf, IsEntryOf, Holds, times_in, IsTournament}
 
--- ---- a list with one place written
-
 -- ---- the least
 
 abbrev Found : ℕ × ℕ → List (Option ℕ) → Type 0
