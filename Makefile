@@ -50,6 +50,7 @@ check: ## what an edit needs: proves each crate that changed, or CRATE=srm_net w
 	@tests/calls.py
 	@tests/lines.py
 	@tests/widths.py
+	@tests/lemmas.py
 	@tests/layout.py
 	@tests/links.py
 	@tests/versions.py
@@ -66,6 +67,7 @@ test: ## the merge gate: proves everything from nothing, with tests and must-fai
 	@tests/calls.py
 	@tests/lines.py
 	@tests/widths.py
+	@tests/lemmas.py
 	@tests/layout.py
 	@tests/links.py
 	@tests/versions.py

@@ -20,6 +20,7 @@ import calls
 import crates
 import edits
 import gate
+import lemmas
 import links
 import must_fail
 import order
@@ -361,6 +362,33 @@ class Ordered(unittest.TestCase):
                 (inside / "out/rlib").mkdir()
             self.assertFalse(tree.exists())
             self.assertEqual(sorted(it.name for it in (top / "crates/long/out").iterdir()), ["incremental", "rlib"])
+
+
+class Lemmas(unittest.TestCase):
+    FOLDER = "crates/low/proofs/"
+    NEXT = "-- the one after\nabbrev pub next : ℕ → ℕ\nnext n = n + 1\n"
+    LATER = "pub later : (n : ℕ)\n    → n < next n\nunfolding next\nlater n = grind (\n  arith\n)\n"
+
+    def unnamed(self, lemmas_of_low: str, **others: str) -> list[str]:
+        """What nothing names in a file of lemmas, beside other files of its folder."""
+        texts = {f"{name}.antt": text for name, text in others.items()}
+        return [*lemmas.unnamed({self.FOLDER + name: text for name, text in {"Lemmas.antt": lemmas_of_low, **texts}.items()})]
+
+    def test_what_is_only_brought_in_is_named_by_nothing(self) -> None:
+        told = self.unnamed(self.NEXT + "\n" + self.LATER, Others="use Rattle.low.proofs.Lemmas.{later}\n")
+        self.assertEqual(told, [self.FOLDER + "Lemmas.antt:5: nothing names later"])
+
+    def test_what_an_answer_a_clause_or_another_lemma_names_is_kept(self) -> None:
+        for user in ("pub returns : goal.returns\nreturns c = later c.args.n\n", "ensures { low.later n }\n"):
+            self.assertEqual(self.unnamed(self.NEXT + "\n" + self.LATER, Answers=user), [])
+
+    def test_a_name_in_its_own_clauses_is_none(self) -> None:
+        own = "sum : List ℕ → ℕ\nsum [] = 0\nsum (x ∷ xs) = x + sum xs\n\nzero_is : sum [] ≡ 0\nzero_is = refl\n"
+        self.assertEqual(self.unnamed(own), [self.FOLDER + "Lemmas.antt:5: nothing names zero_is"])
+        self.assertEqual(self.unnamed(own.partition("\n\n")[0]), [self.FOLDER + "Lemmas.antt:1: nothing names sum"])
+
+    def test_fields_of_a_record_are_no_lemmas(self) -> None:
+        self.assertEqual(self.unnamed("record pub Both : Type 0 where\n  field\n    first : ℕ\n    second : ℕ\n"), [])
 
 
 class Architecture(unittest.TestCase):
