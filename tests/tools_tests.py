@@ -364,6 +364,16 @@ class Ordered(unittest.TestCase):
             self.assertEqual(sorted(it.name for it in (top / "crates/long/out").iterdir()), ["incremental", "rlib"])
 
 
+class Parts(unittest.TestCase):
+    def test_parts_of_a_crates_edits_are_told_as_one_that_took_as_long_as_the_longest(self) -> None:
+        one = must_fail.Tried("low", {"a": (True, "refused"), "c": (False, "NOT REFUSED")}, 2, 60.0)
+        other = must_fail.Tried("low", {"b": (True, "refused")}, 1, 90.0)
+        none = must_fail.Tried("low", {}, 0, 0.0)
+        both = must_fail.of_parts([one, other, none])
+        self.assertEqual(both, must_fail.Tried("low", {**one.edits, **other.edits}, 3, 90.0))
+        self.assertEqual((both.refused(), len(both.edits)), (2, 3))
+
+
 class Lemmas(unittest.TestCase):
     FOLDER = "crates/low/proofs/"
     NEXT = "-- the one after\nabbrev pub next : ℕ → ℕ\nnext n = n + 1\n"

@@ -12,7 +12,8 @@ command that fails. Ends with the first status that is not 0. The environment's 
 
 `rt ci` begins a proof only where the most memory that it may take is free, so that a long one may wait for others, and
 processors stand idle. Where 5 GB are free for each processor, RT_JOBS is set to the number of processors, if the environment
-has none: so many proofs are then run side by side. Edits are tried of one crate fewer at a time.
+has none: so many proofs are then run side by side. Edits are tried of one crate fewer at a time. Those that are begun last are
+waited for alone, and are tried in so many parts.
 """
 import argparse
 import functools
@@ -144,18 +145,20 @@ def gate(tree: pathlib.Path, log: Log) -> tuple[int, int]:
     streams: dict[str, Any] = {"stdin": subprocess.DEVNULL, "stdout": subprocess.PIPE, "stderr": subprocess.STDOUT}
     running = watch.Watch([*RT, "ci"], tree, env=environment, **streams)
     left = must_fail.with_edits(crates_in(TOP))
-    begun: dict[str, Future[must_fail.Tried]] = {}
-    with ThreadPoolExecutor(max(1, processors - 1)) as pool:
+    begun: dict[str, list[Future[must_fail.Tried]]] = {}
+    at_once = max(1, processors - 1)
+    with ThreadPoolExecutor(at_once) as pool:
 
         def begin(crate: str) -> None:
             if crate in left and crate not in begun:
-                begun[crate] = pool.submit(must_fail.try_crate, tree, crate)
+                parts = at_once if len(begun) + 1 == len(left) else 1
+                begun[crate] = [pool.submit(must_fail.try_crate, tree, crate, part, parts) for part in range(parts)]
 
         passed, failed = proofs(running, log, begin)
         status = running.wait()
         for crate in [] if status else left:
             begin(crate)
-        tried = [begun[crate].result() for crate in left if crate in begun]
+        tried = [must_fail.of_parts([it.result() for it in begun[crate]]) for crate in left if crate in begun]
     for line in [line for it in tried for line in it.lines()]:
         log.say(line)
     for line in table(running, tried, time.monotonic() - began):

@@ -23,7 +23,7 @@ import subprocess
 import sys
 import tempfile
 import time
-from collections.abc import Iterable, Mapping
+from collections.abc import Iterable, Mapping, Sequence
 from concurrent.futures import ThreadPoolExecutor
 from typing import Any, NamedTuple
 
@@ -211,9 +211,9 @@ class Trial:
             return True, f"refused, as it must be (only because a proof file names what the edit took away): {first}"
         return True, f"refused, as it must be: {first}"
 
-    def all(self) -> dict[str, tuple[bool, str]]:
-        """Whether each edit is refused, and what to say."""
-        edits = {it.name: it for it in edits_of(self.folder)}
+    def all(self, tried_here: Iterable[Edit]) -> dict[str, tuple[bool, str]]:
+        """Whether each of the edits is refused, and what to say."""
+        edits = {it.name: it for it in tried_here}
         left = [it for it in edits.values() if it.functions(self.texts) and it.applied(self.texts)]
         tried: dict[str, tuple[bool, str]] = {}
         while left:
@@ -244,13 +244,19 @@ class Tried(NamedTuple):
         return [*lines, f"{self.crate}: {self.refused()} of {len(self.edits)} edits refused, in {took}"]
 
 
-def try_crate(tree: pathlib.Path, name: str) -> Tried:
-    """Tries the edits of a crate, over the libraries that are proved in a folder."""
+def try_crate(tree: pathlib.Path, name: str, part: int = 0, parts: int = 1) -> Tried:
+    """Tries a part of so many, from 0, of the edits of a crate, over the libraries that are proved in a folder."""
     began = time.monotonic()
     with tempfile.TemporaryDirectory(prefix="srm-edits-") as kept:
         trial = Trial(name, [*command_of(tree, name), "--incremental", kept])
-        edits = trial.all()
+        edits = trial.all(edits_of(trial.folder)[part::parts])
     return Tried(name, edits, trial.checks, time.monotonic() - began)
+
+
+def of_parts(parts: Sequence[Tried]) -> Tried:
+    """What came of a crate's edits that were tried in parts, side by side: the longest tells the time."""
+    edits = {name: said for it in parts for name, said in it.edits.items()}
+    return Tried(parts[0].crate, edits, sum(it.checks for it in parts), max(it.seconds for it in parts))
 
 
 def main() -> None:
